@@ -1,0 +1,4 @@
+pub mod GatherLaws
+pub mod LongLaws
+pub mod PartLaws
+pub mod PutLaws

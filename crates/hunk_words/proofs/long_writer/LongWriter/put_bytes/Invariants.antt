@@ -1,0 +1,11 @@
+use Rattle.std.proofs.Common.{◌≡◌, length, false}
+use Rattle.hunk_words.proofs.PutLaws.{PutsBefore}
+use Rattle.hunk_words.proofs.long_writer.LongWriter.put_bytes.Given as goal
+
+abbrev pub invariant-loop-rest : goal.invariant-loop-rest
+invariant-loop-rest g l =
+    (l.self-inside.stopped ≡ false)
+    × PutsBefore (g.W.Sink.taken l.fn.self.sink) (g.W.Sink.taken l.self-inside.sink) l.fn.self.written l.self-inside.written l.bytes l.rest
+
+abbrev pub decreases-loop-rest : goal.decreases-loop-rest
+decreases-loop-rest g l = length l.rest

@@ -1,0 +1,65 @@
+-- The bit fields of size words and block words.
+use Rattle.std.specs.Prelude.{ℕ, ◌/◌, ◌%◌, ◌^◌, ◌==◌, Bool, if◌then◌else◌}
+use Rattle.hunk_words.specs.declared.block_word.Kind.{Kind}
+use Rattle.hunk_words.specs.declared.block_word.Kind.TheVariants as kinds
+use Rattle.hunk_words.specs.declared.size_word.Memory.{Memory}
+use Rattle.hunk_words.specs.declared.size_word.Memory.TheVariants as memories
+
+-- ---- size words
+
+-- the number of longwords, in the low 30 bits
+abbrev pub size_longs : ℕ → ℕ
+size_longs word = word % 2 ^ 30
+
+-- Bits 30 and 31 are both set: in a header's table one more longword follows, and no block word may have them.
+abbrev pub has_both_bits : ℕ → Bool
+has_both_bits word = word / 2 ^ 30 == 3
+
+-- the memory that bits 30 and 31 ask for, with the longword that follows where both are set
+abbrev pub memory_of : ℕ → ℕ → Memory
+memory_of word extra =
+    if word / 2 ^ 30 == 0 then memories.Any
+    else if word / 2 ^ 30 == 1 then memories.Chip
+    else if word / 2 ^ 30 == 2 then memories.Fast
+    else memories.Attributes extra
+
+-- ---- block words
+
+-- the top three bits
+abbrev pub flags : ℕ → ℕ
+flags word = word / 2 ^ 29
+
+-- the advisory flag, bit 29
+abbrev pub is_advisory : ℕ → Bool
+is_advisory word = word / 2 ^ 29 % 2 == 1
+
+abbrev pub kind_of_number : ℕ → Kind
+kind_of_number n =
+    if n == 0x3E7 then kinds.Unit
+    else if n == 0x3E8 then kinds.Name
+    else if n == 0x3E9 then kinds.Code
+    else if n == 0x3EA then kinds.Data
+    else if n == 0x3EB then kinds.Bss
+    else if n == 0x3EC then kinds.Reloc32
+    else if n == 0x3ED then kinds.Reloc16
+    else if n == 0x3EE then kinds.Reloc8
+    else if n == 0x3EF then kinds.Ext
+    else if n == 0x3F0 then kinds.Symbol
+    else if n == 0x3F1 then kinds.Debug
+    else if n == 0x3F2 then kinds.End
+    else if n == 0x3F3 then kinds.Header
+    else if n == 0x3F5 then kinds.Overlay
+    else if n == 0x3F6 then kinds.Break
+    else if n == 0x3F7 then kinds.Drel32
+    else if n == 0x3F8 then kinds.Drel16
+    else if n == 0x3F9 then kinds.Drel8
+    else if n == 0x3FA then kinds.Lib
+    else if n == 0x3FB then kinds.Index
+    else if n == 0x3FC then kinds.Reloc32Short
+    else if n == 0x3FD then kinds.RelReloc32
+    else if n == 0x3FE then kinds.AbsReloc16
+    else kinds.Unknown n
+
+-- the kind of a block, by the low 29 bits of its word
+unfoldable pub kind : ℕ → Kind
+kind word = kind_of_number (word % 2 ^ 29)

@@ -1,0 +1,111 @@
+//! Block words.
+ghost use Rattle.std.specs.Prelude.{◌≡◌, ◌^◌, ◌<◌};
+ghost use Rattle.hunk_words.specs.Bits.{flags, kind};
+
+use std::marker::Model;
+
+/// The type of a block, with the names of `dos/doshunks.h`.
+#[derive(Clone, Copy, Debug, PartialEq, Eq)]
+pub enum Kind {
+    Unit,
+    Name,
+    Code,
+    Data,
+    Bss,
+    Reloc32,
+    Reloc16,
+    Reloc8,
+    Ext,
+    Symbol,
+    Debug,
+    End,
+    Header,
+    Overlay,
+    Break,
+    /// Number 1015, in a load file the short relocations of V37's LoadSeg.
+    Drel32,
+    Drel16,
+    Drel8,
+    Lib,
+    Index,
+    Reloc32Short,
+    RelReloc32,
+    AbsReloc16,
+    /// A number that `dos/doshunks.h` gives no name, 1012 among them.
+    Unknown(u32),
+}
+
+/// The first longword of a block: three flags and a type. Contracts see it as the longword.
+#[derive(Clone, Copy, Debug, PartialEq, Eq)]
+pub struct BlockWord {
+    word: u32,
+}
+
+impl Model for BlockWord {
+    ghost use Rattle.std.specs.Prelude.{ℕ};
+
+    ghost Value = { ℕ };
+
+    ghost view = { λ s. s.word };
+
+    ghost inverse = { λ word. record { word = word } };
+}
+
+impl BlockWord {
+    const TYPE: u32 = 0x1FFF_FFFF;
+
+    /// The block word that this longword is.
+    pub fn of(word: u32) -> BlockWord
+        ensures { result ≡ word }
+    {
+        BlockWord { word }
+    }
+
+    /// The longword.
+    pub fn word(self) -> u32
+        ensures { result ≡ self }
+    {
+        self.word
+    }
+
+    /// The top three bits, from 0 to 7: 1 is advisory, 2 chip memory and 4 fast memory.
+    pub fn flags(self) -> u8
+        ensures value { result ≡ flags self }
+        ensures bound { result < 8 }
+    {
+        (self.word >> 29) as u8
+    }
+
+    /// The type, by the low 29 bits.
+    #[tactic(auto, unfolding(crate::specs::Bits::kind))]
+    pub fn kind(self) -> Kind
+        ensures { result ≡ kind self }
+    {
+        match self.word & Self::TYPE {
+            0x3E7 => Kind::Unit,
+            0x3E8 => Kind::Name,
+            0x3E9 => Kind::Code,
+            0x3EA => Kind::Data,
+            0x3EB => Kind::Bss,
+            0x3EC => Kind::Reloc32,
+            0x3ED => Kind::Reloc16,
+            0x3EE => Kind::Reloc8,
+            0x3EF => Kind::Ext,
+            0x3F0 => Kind::Symbol,
+            0x3F1 => Kind::Debug,
+            0x3F2 => Kind::End,
+            0x3F3 => Kind::Header,
+            0x3F5 => Kind::Overlay,
+            0x3F6 => Kind::Break,
+            0x3F7 => Kind::Drel32,
+            0x3F8 => Kind::Drel16,
+            0x3F9 => Kind::Drel8,
+            0x3FA => Kind::Lib,
+            0x3FB => Kind::Index,
+            0x3FC => Kind::Reloc32Short,
+            0x3FD => Kind::RelReloc32,
+            0x3FE => Kind::AbsReloc16,
+            other => Kind::Unknown(other),
+        }
+    }
+}

@@ -1,0 +1,23 @@
+//! Where an input is refused, and why.
+
+use crate::reason::Reason;
+
+/// A refusal.
+///
+/// `place` is the byte, counted from the start of the input, of the longword that is refused. For
+/// `Truncated` it is 4 times the number of whole longwords, for `FileLimit` the limit, for `Read`
+/// the number of bytes that came before, and for `NoBase` the length of the header.
+#[derive(Clone, Copy, Debug, PartialEq, Eq)]
+pub struct Fault {
+    pub place: u64,
+    pub reason: Reason,
+}
+
+/// A refusal of a single block. The place counts from the block's first byte.
+pub type BlockFault = Fault;
+
+/// A refusal of a whole file.
+pub type FileFault = Fault;
+
+/// A refusal of a file that is loaded as it comes.
+pub type LoadFault = Fault;

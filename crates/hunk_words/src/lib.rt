@@ -1,0 +1,24 @@
+//! Longwords, size words, block words, reasons of refusals, and what bytes come from and go to.
+//!
+//! Nothing here takes memory.
+#![tactic(auto)]
+
+mod assembler;
+mod block_word;
+mod fault;
+mod long_writer;
+mod longword;
+mod reason;
+mod sink;
+mod size_word;
+mod source;
+
+pub use crate::assembler::Assembler;
+pub use crate::block_word::{BlockWord, Kind};
+pub use crate::fault::{BlockFault, Fault, FileFault, LoadFault};
+pub use crate::long_writer::{LongWriter, WriteFault};
+pub use crate::longword::word_at;
+pub use crate::reason::Reason;
+pub use crate::sink::{FromWrite, Sink};
+pub use crate::size_word::{Memory, SizeWord};
+pub use crate::source::{Failed, FromRead, FromSlice, Source};

@@ -1,0 +1,120 @@
+//! The writer of longwords.
+ghost use Rattle.std.specs.Prelude.{◌≡◌, ◌+◌, ◌^◌, ◌<◌, [], ◌∷◌, true, false, length, is_err, OnOk, IfErr, OnErr, IsErr};
+ghost use Rattle.hunk_words.specs.Puts.{Puts};
+ghost use Rattle.hunk_words.specs.Longs.{bytes_of};
+
+use crate::sink::Sink;
+use std::marker::Model;
+
+/// Says that a put failed, and how many bytes have gone out since the writer was made.
+#[derive(Clone, Copy, Debug, PartialEq, Eq)]
+pub struct WriteFault {
+    pub written: u64,
+}
+
+/// A writer of longwords over a sink, which counts the bytes that have gone out.
+///
+/// A failure is not retried: after a put that failed, each later put writes nothing and answers the
+/// same fault.
+#[derive(Drop)]
+pub struct LongWriter<W: Sink> {
+    sink: W,
+    written: u64,
+    stopped: bool,
+}
+
+impl<W: Sink> Model for LongWriter<W> {
+    ghost use Rattle.std.specs.Prelude.{◌≡◌, true};
+    ghost use Rattle.hunk_words.specs.Carriers.{Writing};
+
+    ghost Value = { Writing W };
+
+    ghost view = { λ s. record { sink = s.sink; written = s.written; stopped = s.stopped } };
+
+    ghost invariant = { λ s. s.stopped ≡ true → W.failed s.sink ≡ true };
+}
+
+impl<W: Sink> LongWriter<W> {
+    /// A writer that has written nothing yet.
+    pub fn new(sink: W) -> LongWriter<W>
+        ensures holds { result.sink ≡ sink }
+        ensures none { result.written ≡ 0 }
+        ensures open { result.stopped ≡ false }
+    {
+        LongWriter {
+            sink,
+            written: 0,
+            stopped: false,
+        }
+    }
+
+    /// How many bytes have gone out since the writer was made.
+    pub fn written(&self) -> u64
+        ensures { result ≡ self.now.written }
+    {
+        self.written
+    }
+
+    /// Hands the sink back, as the puts have left it.
+    pub fn into_inner(self) -> W
+        ensures { result ≡ self.sink }
+    {
+        let LongWriter {
+            sink,
+            written: _,
+            stopped: _,
+        } = self;
+        sink
+    }
+
+    /// Writes the bytes.
+    ///
+    /// At a `WriteFault` the sink failed, now or before, and just the first `written` bytes of all
+    /// that was ever put have gone out.
+    #[tactic(auto, using(crate::proofs::PutLaws::puts_none, crate::proofs::PutLaws::puts_front))]
+    pub fn put_bytes(&mut self, bytes: &[u8]) -> Result<(), WriteFault>
+        requires { self.old.written + length bytes.now < 2 ^ 64 }
+        ensures puts { Puts (W.taken self.old.sink) (W.taken self.new.sink) self.old.written self.new.written bytes.now }
+        ensures whole { OnOk result (self.new.written ≡ self.old.written + length bytes.now) }
+        ensures told { IfErr result (λ fault. fault.written ≡ self.new.written) }
+        ensures failed { OnErr result (W.failed self.new.sink ≡ true) }
+        ensures stops { self.new.stopped ≡ is_err result }
+        ensures stays { self.old.stopped ≡ true → IsErr result × (self.new ≡ self.old) }
+    {
+        if self.stopped {
+            return Err(WriteFault {
+                written: self.written,
+            });
+        }
+        let mut rest = bytes;
+        while !rest.is_empty() {
+            match self.sink.push(rest) {
+                Ok(n) => {
+                    self.written += n as u64;
+                    rest = &rest[n..];
+                }
+                Err(_) => {
+                    self.stopped = true;
+                    return Err(WriteFault {
+                        written: self.written,
+                    });
+                }
+            }
+        }
+        Ok(())
+    }
+
+    /// Writes the longword, high byte first. A `WriteFault` is as in `put_bytes`.
+    #[tactic(auto, unfolding(crate::specs::Longs::bytes_of))]
+    pub fn put_long(&mut self, word: u32) -> Result<(), WriteFault>
+        requires { self.old.written + 4 < 2 ^ 64 }
+        ensures puts { Puts (W.taken self.old.sink) (W.taken self.new.sink) self.old.written self.new.written (bytes_of (word ∷ [])) }
+        ensures whole { OnOk result (self.new.written ≡ self.old.written + 4) }
+        ensures told { IfErr result (λ fault. fault.written ≡ self.new.written) }
+        ensures failed { OnErr result (W.failed self.new.sink ≡ true) }
+        ensures stops { self.new.stopped ≡ is_err result }
+        ensures stays { self.old.stopped ≡ true → IsErr result × (self.new ≡ self.old) }
+    {
+        self.put_bytes(word.to_be_bytes().as_slice())
+    }
+}

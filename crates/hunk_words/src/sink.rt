@@ -1,0 +1,93 @@
+//! What bytes are pushed to.
+ghost use Rattle.std.specs.Prelude.{◌≡◌, ℕ, ◌<◌, ◌≤◌, List, Option, Bool, false, ◌||◌, length, is_err, IfOk};
+ghost use Rattle.std.specs.Io.KnownBytes.{WriteAppends};
+
+use crate::source::Failed;
+use std::io::Write;
+use std::marker::Model;
+
+/// What bytes are pushed to.
+///
+/// `taken` is the bytes that pushes have put there so far, where they are told. `failed` says whether
+/// a push has failed: an `Err` sets it, and nothing else does, for good.
+pub trait Sink {
+    ghost taken: { Self → Option (List ℕ) };
+
+    ghost failed: { Self → Bool };
+
+    /// Takes a first part of the bytes and gives the number of its bytes.
+    ///
+    /// Of a non-empty slice it is at least 1. An `Err` takes nothing.
+    fn push(&mut self, bytes: &[u8]) -> Result<usize, Failed>
+        ensures fits { IfOk result (λ n. n ≤ length bytes.now) }
+        ensures some { 0 < length bytes.now → IfOk result (λ n. 0 < n) }
+        ensures bytes { WriteAppends (taken self.old) (taken self.new) result bytes.now }
+        ensures fails { failed self.new ≡ (failed self.old || is_err result) };
+}
+
+/// A sink over any writer. Each error of the writer, and a write that takes none of a non-empty
+/// slice, is `Failed`.
+#[derive(Drop)]
+pub struct FromWrite<W> {
+    writer: W,
+    failed: bool,
+}
+
+impl<W> Model for FromWrite<W> {
+    ghost use Rattle.hunk_words.specs.Carriers.{Carrying};
+
+    ghost Value = { Carrying W };
+
+    ghost view = { λ s. record { writer = s.writer; failed = s.failed } };
+}
+
+impl<W: Write> FromWrite<W> {
+    /// A sink over this writer that has not failed.
+    pub fn new(writer: W) -> FromWrite<W>
+        ensures holds { result.writer ≡ writer }
+        ensures fresh { result.failed ≡ false }
+    {
+        FromWrite {
+            writer,
+            failed: false,
+        }
+    }
+
+    /// Hands the writer back, as the pushes have left it.
+    pub fn into_inner(self) -> W
+        ensures { result ≡ self.writer }
+    {
+        let FromWrite { writer, failed: _ } = self;
+        writer
+    }
+}
+
+impl<W: Write> Sink for FromWrite<W> {
+    ghost taken = { λ s. W.contents s.writer };
+
+    ghost failed = { λ s. s.failed };
+
+    fn push(&mut self, bytes: &[u8]) -> Result<usize, Failed> {
+        match self.writer.write(bytes) {
+            Ok(0) if !bytes.is_empty() => {
+                self.failed = true;
+                Err(Failed)
+            }
+            Ok(n) => Ok(n),
+            Err(_) => {
+                self.failed = true;
+                Err(Failed)
+            }
+        }
+    }
+}
+
+impl<S: Sink> Sink for &mut S {
+    ghost taken = { λ s. S.taken s.now };
+
+    ghost failed = { λ s. S.failed s.now };
+
+    fn push(&mut self, bytes: &[u8]) -> Result<usize, Failed> {
+        (**self).push(bytes)
+    }
+}

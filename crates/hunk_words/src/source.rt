@@ -1,0 +1,128 @@
+//! What bytes are pulled from.
+ghost use Rattle.std.specs.Prelude.{◌≡◌, ℕ, List, Option, Bool, false, ◌||◌, Some, is_err};
+ghost use Rattle.std.specs.Io.KnownBytes.{ReadConsumes};
+ghost use Rattle.std.specs.Io.{ReadsAtMost};
+
+use std::io::Read;
+use std::marker::Model;
+
+/// Says that a pull or a push failed.
+#[derive(Clone, Copy, Debug, PartialEq, Eq)]
+pub struct Failed;
+
+/// What bytes are pulled from.
+///
+/// `left` is the bytes that pulls will give from here on, where they are told. `failed` says whether
+/// a pull has failed: an `Err` sets it, and nothing else does, for good.
+pub trait Source {
+    ghost left: { Self → Option (List ℕ) };
+
+    ghost failed: { Self → Bool };
+
+    /// Fills a first part of the buffer and gives the number of its bytes.
+    ///
+    /// It is 0 only where none is left or the buffer is empty. An `Err` consumes nothing.
+    fn pull(&mut self, buf: &mut [u8]) -> Result<usize, Failed>
+        ensures fits { ReadsAtMost result buf.new }
+        ensures bytes { ReadConsumes (left self.old) (left self.new) result buf.new }
+        ensures fails { failed self.new ≡ (failed self.old || is_err result) };
+}
+
+/// A source over any reader. Each error of the reader, `Interrupted` too, is `Failed`.
+#[derive(Drop)]
+pub struct FromRead<R> {
+    reader: R,
+    failed: bool,
+}
+
+impl<R> Model for FromRead<R> {
+    ghost use Rattle.hunk_words.specs.Carriers.{Reading};
+
+    ghost Value = { Reading R };
+
+    ghost view = { λ s. record { reader = s.reader; failed = s.failed } };
+}
+
+impl<R: Read> FromRead<R> {
+    /// A source over this reader that has not failed.
+    pub fn new(reader: R) -> FromRead<R>
+        ensures holds { result.reader ≡ reader }
+        ensures fresh { result.failed ≡ false }
+    {
+        FromRead {
+            reader,
+            failed: false,
+        }
+    }
+
+    /// Hands the reader back, as the pulls have left it.
+    pub fn into_inner(self) -> R
+        ensures { result ≡ self.reader }
+    {
+        let FromRead { reader, failed: _ } = self;
+        reader
+    }
+}
+
+impl<R: Read> Source for FromRead<R> {
+    ghost left = { λ s. R.remaining s.reader };
+
+    ghost failed = { λ s. s.failed };
+
+    fn pull(&mut self, buf: &mut [u8]) -> Result<usize, Failed> {
+        match self.reader.read(buf) {
+            Ok(n) => Ok(n),
+            Err(_) => {
+                self.failed = true;
+                Err(Failed)
+            }
+        }
+    }
+}
+
+/// A source over bytes at hand, which never fails. Contracts see it as the bytes that are left.
+#[derive(Drop)]
+pub struct FromSlice<'a> {
+    rest: &'a [u8],
+}
+
+impl<'a> Model for FromSlice<'a> {
+    ghost use Rattle.std.specs.Prelude.{ℕ, List};
+
+    ghost Value = { List ℕ };
+
+    ghost view = { λ s. s.rest.now };
+}
+
+impl<'a> FromSlice<'a> {
+    /// A source of just these bytes.
+    pub fn new(bytes: &'a [u8]) -> FromSlice<'a>
+        ensures { result ≡ bytes.entry.now }
+    {
+        FromSlice { rest: bytes }
+    }
+}
+
+impl Source for FromSlice<'_> {
+    ghost left = { λ s. Some s };
+
+    ghost failed = { λ _. false };
+
+    fn pull(&mut self, buf: &mut [u8]) -> Result<usize, Failed> {
+        let count = buf.len().min(self.rest.len());
+        let (front, rest) = self.rest.split_at(count);
+        buf[..count].copy_from_slice(front);
+        self.rest = rest;
+        Ok(count)
+    }
+}
+
+impl<S: Source> Source for &mut S {
+    ghost left = { λ s. S.left s.now };
+
+    ghost failed = { λ s. S.failed s.now };
+
+    fn pull(&mut self, buf: &mut [u8]) -> Result<usize, Failed> {
+        (**self).pull(buf)
+    }
+}
