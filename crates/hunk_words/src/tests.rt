@@ -1,0 +1,5 @@
+//! What no clause says: generic types at concrete ones, and a sink that stops.
+
+mod carriers;
+mod fields;
+mod writing;

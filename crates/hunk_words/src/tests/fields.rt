@@ -1,0 +1,88 @@
+//! Fields of longwords, by values from the table of block types and the examples of size words.
+
+use crate::{Assembler, BlockWord, Kind, Memory, Reason, SizeWord, word_at};
+use std::test::Fail;
+
+#[test]
+fn size_words(rt: HostRuntime) -> Result<(), Fail> {
+    let table = [
+        (0x0000_0002, 0, 8, Memory::Any),
+        (0x4000_0001, 0, 4, Memory::Chip),
+        (0x8000_0003, 0, 12, Memory::Fast),
+        (0xC000_0002, 0x10004, 8, Memory::Attributes(0x10004)),
+        (0x3FFF_FFFF, 0, 4_294_967_292, Memory::Any),
+    ];
+    for (word, extra, bytes, memory) in table {
+        let size = SizeWord { word, extra };
+        assert_eq!(rt; size.bytes(), bytes);
+        assert_eq!(rt; size.memory(), memory);
+        assert_eq!(rt; SizeWord::has_extra(word), word == 0xC000_0002);
+    }
+    Ok(())
+}
+
+#[test]
+fn block_words(rt: HostRuntime) -> Result<(), Fail> {
+    let table = [
+        (0x0000_03E9, 0, Kind::Code),
+        (0x2000_03F2, 1, Kind::End),
+        (0x4000_03F2, 2, Kind::End),
+        (0x6000_04D2, 3, Kind::Unknown(1234)),
+        (0x8000_03F4, 4, Kind::Unknown(1012)),
+        (0x0000_03F7, 0, Kind::Drel32),
+        (0xFFFF_FFFF, 7, Kind::Unknown(0x1FFF_FFFF)),
+    ];
+    for (word, flags, kind) in table {
+        let block = BlockWord::of(word);
+        assert_eq!(rt; block.word(), word);
+        assert_eq!(rt; block.flags(), flags);
+        assert_eq!(rt; block.kind(), kind);
+    }
+    Ok(())
+}
+
+#[test]
+fn reasons(rt: HostRuntime) -> Result<(), Fail> {
+    let table = [
+        (Reason::NotLoadFile, 1, "NotLoadFile"),
+        (Reason::Advisory, 10, "Advisory"),
+        (Reason::BadOffset, 24, "BadOffset"),
+        (Reason::NoBase(7), 29, "NoBase"),
+        (Reason::OutOfMemory, 31, "OutOfMemory"),
+    ];
+    for (reason, number, name) in table {
+        assert_eq!(rt; reason.number(), number);
+        assert_eq!(rt; reason.name(), name);
+    }
+    Ok(())
+}
+
+#[test]
+fn longwords(rt: HostRuntime) -> Result<(), Fail> {
+    let bytes = [0, 0, 3, 0xF3, 0x4E, 0x75, 0x4E, 0x71, 9];
+    assert_eq!(rt; word_at(bytes.as_slice(), 0), 0x3F3);
+    assert_eq!(rt; word_at(bytes.as_slice(), 1), 0x4E75_4E71);
+    // However the nine bytes are cut in two, the longwords are the same and one byte is pending.
+    for cut in 0..10usize {
+        let (front, back) = bytes.as_slice().split_at(cut);
+        let mut assembler = Assembler::new();
+        let mut words = [0u32; 2];
+        let mut count = 0;
+        for piece in [front, back] {
+            for byte in piece {
+                if let Some(word) = assembler.push(*byte) {
+                    assert!(rt; count < 2);
+                    words[count] = word;
+                    count += 1;
+                }
+            }
+        }
+        assert_eq!(rt; words, [0x3F3, 0x4E75_4E71]);
+        assert_eq!(rt; assembler.pending(), 1);
+    }
+    let mut assembler = Assembler::new();
+    assert_eq!(rt; assembler.take([0, 0, 3].as_slice()), (3, None));
+    assert_eq!(rt; assembler.take([0xE9, 1, 2].as_slice()), (1, Some(0x3E9)));
+    assert_eq!(rt; assembler.pending(), 0);
+    Ok(())
+}
