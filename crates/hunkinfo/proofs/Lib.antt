@@ -1,0 +1,6 @@
+mod Consumed
+mod Literals
+mod Numbers
+mod OneHunkLaws
+mod RowLaws
+mod Telling

@@ -1,0 +1,40 @@
+-- The command that clap reads the words by.
+use Rattle.std.specs.Prelude.{true, [], Some, codes}
+use Rattle.clap.specs.Words.{App, Rule, Text, new_app, new_rule, with_rule, with_subcommand}
+use Rattle.clap.specs.Simple.{new_shape}
+use Rattle.clap.specs.declared.builder.ArgAction.TheVariants.{SetTrue}
+
+-- `--name`
+abbrev pub flag : Text → Rule
+flag name = record (new_rule name) { long = Some name; action = Some SetTrue }
+
+-- `--name VALUE`
+abbrev pub option : Text → Rule
+option name = record (new_rule name) { long = Some name; value_names = 1 }
+
+-- the argument, which has to be there
+abbrev pub mandatory : Rule → Rule
+mandatory rule = record rule { required = true }
+
+-- show [--hex] [FILE], and validate
+abbrev pub listing : Text → App
+listing name = with_rule (with_rule (new_app name) (flag (codes "hex"))) (new_rule (codes "FILE"))
+
+-- relocate [--hex] --base HEX [--budget N] [FILE]
+abbrev pub relocate : App
+relocate = with_rule (with_rule (with_rule (with_rule (new_app (codes "relocate"))
+    (flag (codes "hex"))) (mandatory (option (codes "base")))) (option (codes "budget"))) (new_rule (codes "FILE"))
+
+-- rewrite [--strip] IN OUT
+abbrev pub rewrite : App
+rewrite = with_rule (with_rule (with_rule (new_app (codes "rewrite")) (flag (codes "strip")))
+    (mandatory (new_rule (codes "IN")))) (mandatory (new_rule (codes "OUT")))
+
+-- the program, of which one subcommand has to be named
+abbrev pub program : App
+program = record { top = record (new_shape (codes "hunkinfo")) { subcommand_required = true }; subs = [] }
+
+-- the program with its subcommands
+abbrev pub hunkinfo : App
+hunkinfo = with_subcommand (with_subcommand (with_subcommand (with_subcommand program
+    (listing (codes "show")).top) (listing (codes "validate")).top) relocate.top) rewrite.top

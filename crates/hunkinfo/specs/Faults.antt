@@ -1,0 +1,53 @@
+-- The status and the line of each fault.
+use Rattle.std.specs.Prelude.{◌⊎◌, ℕ, List, [], ◌++◌, ⊤, codes}
+use Rattle.std.specs.Fmt.{decimal}
+use Rattle.hunk_words.specs.declared.reason.Reason.{Reason}
+use Rattle.hunk_words.specs.declared.reason.Reason.TheVariants as reasons
+use Rattle.hunk_words.specs.Reasons.{name_of, number_of}
+use Rattle.hunkinfo.specs.declared.fault.RunFault.{RunFault}
+use Rattle.hunkinfo.specs.declared.fault.RunFault.TheVariants.{HexText, Memory, Read, Refused, Write}
+
+-- the exit status
+abbrev pub status_of : RunFault → ℕ
+status_of (Refused fault) = 1
+status_of HexText = 1
+status_of (Read place) = 3
+status_of (Write written) = 3
+status_of Memory = 4
+
+-- the hunk that has no base, where that is the reason
+abbrev pub hunk_of : Reason → List ℕ
+hunk_of (reasons.NoBase hunk) = codes " hunk " ++ decimal hunk
+hunk_of _ = []
+
+-- the line, without its end
+abbrev pub line_of : RunFault → List ℕ
+line_of (Refused fault) = codes "refused at byte " ++ decimal fault.place ++ codes ": " ++ name_of fault.reason
+    ++ codes " (" ++ decimal (number_of fault.reason) ++ codes ")" ++ hunk_of fault.reason
+line_of HexText = codes "hex text refused"
+line_of (Read place) = codes "reading failed at byte " ++ decimal place
+line_of (Write written) = codes "writing failed after " ++ decimal written ++ codes " bytes"
+line_of Memory = codes "out of memory"
+
+-- the output failed
+abbrev pub IsWrite : RunFault → Type 0
+IsWrite (Write written) = ⊤
+IsWrite _ = ⊥
+
+-- a reason that the longwords of a file give, and not the run: no limit, no base, no reading and no memory
+abbrev pub IsFileReason : Reason → Type 0
+IsFileReason reasons.Budget = ⊥
+IsFileReason reasons.FileLimit = ⊥
+IsFileReason (reasons.NoBase hunk) = ⊥
+IsFileReason reasons.Read = ⊥
+IsFileReason reasons.OutOfMemory = ⊥
+IsFileReason _ = ⊤
+
+abbrev pub IsNoBase : Reason → Type 0
+IsNoBase (reasons.NoBase hunk) = ⊤
+IsNoBase _ = ⊥
+
+-- The input is refused for its longwords, or since a hunk has no base.
+abbrev pub IsRefusalOfFile : RunFault → Type 0
+IsRefusalOfFile (Refused fault) = IsFileReason fault.reason ⊎ IsNoBase fault.reason
+IsRefusalOfFile _ = ⊥

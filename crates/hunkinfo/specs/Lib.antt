@@ -1,0 +1,10 @@
+pub mod Command
+pub mod Engine
+pub mod Faults
+pub mod HexText
+pub mod Inputs
+pub mod Line
+pub mod Listing
+pub mod OneHunk
+pub mod Output
+pub mod Relocating

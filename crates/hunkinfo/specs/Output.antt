@@ -1,0 +1,33 @@
+-- What a run does to its output, a writer that is old before it and new after it. `taken` tells the bytes that a sink has taken, and `failed` whether it has failed.
+use Rattle.std.specs.Prelude.{◌≡◌, ◌⊎◌, ℕ, Bool, true, List, [], ◌∷◌, ◌++◌, Option, codes}
+use Rattle.std.specs.Io.KnownBytes.{Appends}
+use Rattle.hunk_words.specs.Carriers.{Writing}
+use Rattle.hunkinfo.specs.declared.fault.RunFault.{RunFault}
+use Rattle.hunkinfo.specs.Faults.{IsWrite, line_of, status_of}
+
+-- the line with its end, LF
+abbrev pub ended : List ℕ → List ℕ
+ended line = line ++ 10 ∷ []
+
+-- the output has taken this text, and nothing else
+abbrev pub Takes : {W : Type 0} → (W → Option (List ℕ)) → Writing W → Writing W → List ℕ → Type 0
+Takes taken old new text = Appends (taken old.sink) (taken new.sink) text
+
+-- the output has taken this text and the status is this one, or the output failed and the status is 3
+abbrev pub Prints : {W : Type 0} → (W → Option (List ℕ)) → (W → Bool) → Writing W → Writing W → List ℕ → ℕ → ℕ → Type 0
+Prints taken failed old new text status result =
+    ((result ≡ status) × Takes taken old new text) ⊎ ((result ≡ 3) × (failed new.sink ≡ true))
+
+-- where the fault is one of writing, the output failed; at any other fault it has taken nothing
+pub record StopsOutput {W : Type 0} (taken : W → Option (List ℕ)) (failed : W → Bool) (old new : Writing W) (fault : RunFault) : Type 0 where
+  pub broken : IsWrite fault → failed new.sink ≡ true
+  pub unwritten : ¬ IsWrite fault → new.written ≡ 0
+  pub untouched : ¬ IsWrite fault → Takes taken old new []
+
+-- the status is 0, or the output has taken one line that says why it is not, or the output failed
+abbrev pub TellsStatus : {W : Type 0} → (W → Option (List ℕ)) → (W → Bool) → Writing W → Writing W → ℕ → Type 0
+TellsStatus taken failed old new status =
+    (status ≡ 0)
+    ⊎ ((status ≡ 2) × Takes taken old new (ended (codes "command line refused")))
+    ⊎ ((fault : RunFault) × (status ≡ status_of fault) × Takes taken old new (ended (line_of fault)))
+    ⊎ ((status ≡ 3) × (failed new.sink ≡ true))

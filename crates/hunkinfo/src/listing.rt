@@ -1,0 +1,83 @@
+//! The lines that `relocate` prints of its segments.
+ghost use Rattle.std.specs.Prelude.{◌≡◌, ◌≤◌, ◌++◌, length, codes, decimal, OnOk};
+ghost use Rattle.hex.specs.Hex.{encode_lower};
+ghost use Rattle.hunkinfo.specs.Listing.{dump, heading, hexadecimal, row, segment_lines};
+
+use itoa::{Buffer, Integer};
+use std::alloc::AllocError;
+
+/// How many bytes of a segment a row shows.
+const ROW: usize = 16;
+
+/// Appends the lines of one segment: its number, its base and its bytes.
+///
+/// Room for the lines is asked for once. After an `Err` the text may have some of them.
+pub(crate) fn push_segment(
+    text: &mut Vec<u8>,
+    number: u32,
+    base: u32,
+    bytes: &[u8],
+) -> Result<(), AllocError>
+    ensures { OnOk result (text.new.items ≡ text.old.items ++ segment_lines number (record { base = base; bytes = bytes.now })) }
+{
+    text.reserve(room_for(bytes.len()))?;
+    push_heading(text, number, base, bytes.len())?;
+    push_dump(text, bytes)
+}
+
+// The heading has at most 64 bytes, and a row three beside its digits.
+fn room_for(len: usize) -> usize {
+    len.div_ceil(ROW)
+        .saturating_mul(2 * ROW + 3)
+        .saturating_add(64)
+}
+
+#[tactic(auto, unfolding(crate::specs::Listing::heading))]
+fn push_heading(text: &mut Vec<u8>, number: u32, base: u32, len: usize) -> Result<(), AllocError>
+    ensures { OnOk result (text.new.items ≡ text.old.items ++ heading number base len) }
+{
+    text.extend_from_slice(b"hunk ")?;
+    push_decimal(text, number)?;
+    text.extend_from_slice(b" base 0x")?;
+    push_digits(text, &base.to_be_bytes())?;
+    text.extend_from_slice(b" ")?;
+    push_decimal(text, len)?;
+    text.extend_from_slice(b" bytes\n")
+}
+
+fn push_dump(text: &mut Vec<u8>, bytes: &[u8]) -> Result<(), AllocError>
+    ensures { OnOk result (text.new.items ≡ text.old.items ++ dump bytes.now) }
+{
+    for part in bytes.chunks(ROW) {
+        push_row(text, part)?;
+    }
+    Ok(())
+}
+
+#[tactic(auto, unfolding(crate::specs::Listing::row))]
+fn push_row(text: &mut Vec<u8>, bytes: &[u8]) -> Result<(), AllocError>
+    requires { length bytes.now ≤ ROW }
+    ensures { OnOk result (text.new.items ≡ text.old.items ++ row bytes.now) }
+{
+    text.extend_from_slice(b"  ")?;
+    push_digits(text, bytes)?;
+    text.extend_from_slice(b"\n")
+}
+
+fn push_decimal<N: Integer>(text: &mut Vec<u8>, number: N) -> Result<(), AllocError>
+    ensures { OnOk result (text.new.items ≡ text.old.items ++ N.text number) }
+{
+    text.extend_from_slice(Buffer::new().format(number).as_bytes())
+}
+
+// Two digits a byte.
+fn push_digits(text: &mut Vec<u8>, bytes: &[u8]) -> Result<(), AllocError>
+    requires { length bytes.now ≤ ROW }
+    ensures { OnOk result (text.new.items ≡ text.old.items ++ encode_lower bytes.now) }
+{
+    let mut digits = [0; 2 * ROW];
+    let digits = &mut digits[..2 * bytes.len()];
+    // The room is just that of the digits, so this cannot fail.
+    let _ = hex::encode_to_slice(bytes, digits);
+    text.extend_from_slice(digits)
+}

@@ -1,0 +1,40 @@
+//! The program hunkinfo: lists, checks, relocates and rewrites AmigaDOS hunk files.
+#![tactic(auto)]
+
+mod asked;
+mod fault;
+mod line;
+mod listing;
+mod one_hunk;
+mod relocate;
+mod run;
+mod unhex;
+mod whole;
+
+use crate::asked::OrderFault;
+use hunk_words::{FromWrite, LongWriter};
+use std::process::ExitCode;
+use std::{env, io};
+
+// The words of the command line, which have to be text.
+fn words_of(rt: &HostRuntime) -> Result<Vec<String>, OrderFault> {
+    match env::args(rt) {
+        Ok(words) => Ok(words.collect(rt.alloc())?),
+        Err(error) => match error.kind() {
+            io::ErrorKind::OutOfMemory => Err(OrderFault::Memory),
+            _ => Err(OrderFault::Line),
+        },
+    }
+}
+
+fn main(rt: HostRuntime) -> ExitCode {
+    let mut out = LongWriter::new(FromWrite::new(io::writer(&rt)));
+    let status = match words_of(&rt) {
+        Ok(words) => run::run(&rt, rt.alloc(), words.as_slice(), &mut out),
+        Err(fault) => run::refuse(&fault, &mut out),
+    };
+    ExitCode::from(status)
+}
+
+#[cfg(test)]
+mod tests;

@@ -1,0 +1,192 @@
+//! A runtime and a sink that are made up.
+ghost use Rattle.std.specs.Prelude.{◌≡◌, ◌≤◌, None, length, IsErr};
+
+use hunk_words::{Failed, Sink};
+use std::alloc::{Allocator, Global};
+use std::fs::{Metadata, OpenFile, OpenOptions};
+use std::io;
+use std::io::{BufRead, Empty, Lines, Read, Seek, SeekFrom, Write};
+use std::rt::Files;
+
+/// A runtime whose standard input and whose files all give the same bytes, and where `fails` is set
+/// fail once those are given. The file `missing` can't be opened.
+#[derive(Drop)]
+pub(super) struct Made<'a> {
+    pub bytes: &'a [u8],
+    pub fails: bool,
+}
+
+/// What a `Made` reads from.
+#[derive(Drop)]
+pub(super) struct Tape<'a> {
+    rest: &'a [u8],
+    fails: bool,
+}
+
+fn unsupported<T: Drop>() -> io::Result<T>
+    ensures { IsErr result }
+{
+    Err(io::Error::from(io::ErrorKind::Unsupported))
+}
+
+impl Read for Tape<'_> {
+    fn read(&mut self, buf: &mut [u8]) -> io::Result<usize> {
+        if self.fails && self.rest.is_empty() {
+            return unsupported();
+        }
+        let count = buf.len().min(self.rest.len());
+        let (front, rest) = self.rest.split_at(count);
+        buf[..count].copy_from_slice(front);
+        self.rest = rest;
+        Ok(count)
+    }
+}
+
+impl BufRead for Tape<'_> {
+    fn fill_buf(&mut self) -> io::Result<&[u8]> {
+        Ok(self.rest)
+    }
+
+    fn consume(&mut self, amount: usize) {
+        let (_, rest) = self.rest.split_at(amount.min(self.rest.len()));
+        self.rest = rest;
+    }
+}
+
+impl Write for Tape<'_> {
+    fn write(&mut self, _buf: &[u8]) -> io::Result<usize> {
+        unsupported()
+    }
+
+    fn flush(&mut self) -> io::Result<()> {
+        Ok(())
+    }
+}
+
+impl Seek for Tape<'_> {
+    fn seek(&mut self, _to: SeekFrom) -> io::Result<u64> {
+        unsupported()
+    }
+}
+
+impl OpenFile for Tape<'_> {
+    fn metadata(&self) -> io::Result<Metadata> {
+        unsupported()
+    }
+
+    fn set_len(&self, _size: u64) -> io::Result<()> {
+        unsupported()
+    }
+
+    fn sync_all(&self) -> io::Result<()> {
+        unsupported()
+    }
+
+    fn sync_data(&self) -> io::Result<()> {
+        unsupported()
+    }
+}
+
+impl<'a> Files for Made<'a> {
+    type File = Tape<'a>;
+
+    type Dir = Empty;
+
+    fn open_file(&self, how: &OpenOptions, path: &str) -> io::Result<Tape<'a>> {
+        how.check()?;
+        if path == "missing" {
+            return unsupported();
+        }
+        Ok(self.reader())
+    }
+
+    fn open_dir(&self, _path: &str) -> io::Result<Empty> {
+        unsupported()
+    }
+
+    fn metadata(&self, _path: &str) -> io::Result<Metadata> {
+        unsupported()
+    }
+
+    fn symlink_metadata(&self, _path: &str) -> io::Result<Metadata> {
+        unsupported()
+    }
+
+    fn copy(&self, _from: &str, _to: &str) -> io::Result<u64> {
+        unsupported()
+    }
+
+    fn rename(&self, _from: &str, _to: &str) -> io::Result<()> {
+        unsupported()
+    }
+
+    fn remove_file(&self, _path: &str) -> io::Result<()> {
+        unsupported()
+    }
+
+    fn create_dir(&self, _path: &str) -> io::Result<()> {
+        unsupported()
+    }
+
+    fn remove_dir(&self, _path: &str) -> io::Result<()> {
+        unsupported()
+    }
+
+    fn remove_dir_all<B: Allocator>(&self, _alloc: B, _path: &str) -> io::Result<()> {
+        unsupported()
+    }
+}
+
+impl<'a> Input for Made<'a> {
+    type Reader = Tape<'a>;
+
+    fn read_line<A: Allocator + Clone>(&self, buf: &mut String<A>) -> io::Result<usize> {
+        self.reader().read_line(buf)
+    }
+
+    fn lines<A: Allocator>(&self, alloc: A) -> Lines<Tape<'a>, A> {
+        self.reader().lines(alloc)
+    }
+
+    fn reader(&self) -> Tape<'a> {
+        Tape {
+            rest: self.bytes,
+            fails: self.fails,
+        }
+    }
+}
+
+/// A sink that keeps what it takes, and fails once it has taken `room` bytes.
+#[derive(Drop)]
+pub(super) struct Kept {
+    pub bytes: Vec<u8>,
+    room: usize,
+    failed: bool,
+}
+
+impl Kept {
+    pub(super) fn new(alloc: Global, room: usize) -> Kept {
+        Kept {
+            bytes: Vec::new(alloc),
+            room,
+            failed: false,
+        }
+    }
+}
+
+impl Sink for Kept {
+    ghost taken = { λ _. None };
+
+    ghost failed = { λ s. s.failed };
+
+    fn push(&mut self, bytes: &[u8]) -> Result<usize, Failed> {
+        let count = bytes.len().min(self.room);
+        let refused = count < bytes.len() && count == 0;
+        if refused || self.bytes.extend_from_slice(&bytes[..count]).is_err() {
+            self.failed = true;
+            return Err(Failed);
+        }
+        self.room -= count;
+        Ok(count)
+    }
+}
