@@ -1,5 +1,5 @@
 -- Bytes that come one after another make longwords, however they were cut.
-use Rattle.std.proofs.Common.{◌≡◌, ℕ, ◌<◌, List, [], ◌∷◌, ◌++◌, Some, None, length, refl, sym, ap, ◌∙◌, append_assoc, append-nil}
+use Rattle.std.proofs.Common.{◌≡◌, ℕ, ◌<◌, List, [], ◌∷◌, ◌++◌, Some, None, length, ap, ◌∙◌, append_assoc, append-nil}
 use Rattle.hunk_words.specs.Longs.{longs, bytes_of, AreLongs, Gathers}
 use Rattle.hunk_words.proofs.LongLaws.{bytes_of-append, longs-bytes_of, longs-few}
 

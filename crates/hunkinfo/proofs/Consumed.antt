@@ -1,5 +1,5 @@
 -- What a source gave, where its bytes are known.
-use Rattle.std.proofs.Common.{◌≡◌, ℕ, List, [], ◌++◌, Option, Some, None, sym, ap, subst, ◌∙◌, append-nil}
+use Rattle.std.proofs.Common.{◌≡◌, ℕ, List, ◌++◌, Option, Some, None, ap, subst, ◌∙◌, append-nil}
 use Rattle.std.specs.Io.KnownBytes.{Consumes, IsAtEnd}
 
 consumed : (input : List ℕ) (b : Option (List ℕ)) (bytes : List ℕ) → Consumes (Some input) b bytes → IsAtEnd b → input ≡ bytes

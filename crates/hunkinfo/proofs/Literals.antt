@@ -1,8 +1,8 @@
 -- The words that stand for none, and others, are orders.
-use Rattle.std.proofs.Common.{◌≡◌, ◌+◌, List, Some, None, true, refl, codes, [], ◌∷◌}
+use Rattle.std.proofs.Common.{◌≡◌, Some, None, true, refl, codes, [], ◌∷◌}
 use Rattle.clap.specs.Words.{takes}
 use Rattle.clap.proofs.OnLiterals.{clap_on_literals}
-use Rattle.hunkinfo.specs.declared.asked.Order.TheVariants.{Relocate, Rewrite, Show}
+use Rattle.hunkinfo.specs.declared.asked.Order.TheVariants.{Relocate, Rewrite}
 use Rattle.hunkinfo.specs.Command.{hunkinfo}
 use Rattle.hunkinfo.specs.Line.{order_of, taken}
 

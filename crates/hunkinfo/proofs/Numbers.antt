@@ -1,5 +1,5 @@
 -- What the readers of HEX and N rest on.
-use Rattle.std.proofs.Common.{rules, ◌≡◌, ◌==◌, ◌&&◌, ◌<◌, ◌∙◌, ◌^◌, ℕ, Bool, List, [], ◌∷◌, length, slice_index, drop, cond, true, false, nat_lt, arith, Result, Ok, Err, Option, Some, None, ap, sym, subst, refl, true≢false, eqb-true, ne_eqb, ◌≤◌}
+use Rattle.std.proofs.Common.{◌≡◌, ◌==◌, ◌&&◌, ◌<◌, ◌∙◌, ◌^◌, ℕ, Bool, List, [], ◌∷◌, length, slice_index, cond, true, false, nat_lt, arith, Result, Ok, Err, Some, None, ap, sym, subst, refl, true≢false, eqb-true, ne_eqb, ◌≤◌}
 use Rattle.std.specs.Result.{result_ok}
 use Rattle.std.specs.Str.Parse.{AllDigits, IsNumeral, ParsesUnsigned, digits_value, without_leading_plus}
 use Rattle.std.specs.Char.{digit_value}

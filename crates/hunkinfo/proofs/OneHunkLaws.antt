@@ -1,12 +1,11 @@
 -- What stands in the bytes of a file of one hunk, and when bytes are such a file.
-use Rattle.std.proofs.Common.{◌≡◌, ℕ, zero, suc, ◌+◌, ◌-◌, ◌*◌, ◌/◌, ◌^◌, ◌<◌, ◌≤◌, List, [], ◌∷◌, ◌++◌, length, take, drop, get_or, refl, sym, ap, ap₂, subst, ◌∙◌, arith, append_assoc, length-append, append-nil, Result, Ok, Err, lit<}
+use Rattle.std.proofs.Common.{◌≡◌, ℕ, zero, suc, ◌+◌, ◌*◌, ◌<◌, ◌≤◌, List, [], ◌∷◌, ◌++◌, length, take, drop, get_or, refl, sym, ap, ◌∙◌, arith, append_assoc, length-append, append-nil, Result, Ok, Err}
 use Rattle.std.specs.Prelude.{OnErr, IsFalse}
-use Rattle.std.specs.List.{AllByRecursion}
 use Rattle.std.proofs.lemmas.List.{length-take, length-drop, take-append-drop, drop_more, get_or-drop}
 use Rattle.std.proofs.Math.Seq.{get_or-append_seam}
 use Rattle.hunk_words.specs.Longs.{longs, bytes_of, IsBytes, IsLong, AreLongs}
 use Rattle.hunk_words.specs.Bits.{has_both_bits, size_longs}
-use Rattle.hunk_words.proofs.LongLaws.{longs-bytes_of, length-bytes_of, bytes_of-append, bytes_of-nil, length-longs, spelled, longs_fit}
+use Rattle.hunk_words.proofs.LongLaws.{longs-bytes_of, length-bytes_of, bytes_of-append, length-longs, spelled, longs_fit}
 use Rattle.hunk_words.proofs.PartLaws.{longs-take, longs-drop}
 use Rattle.hunkinfo.specs.OneHunk.{OneHunk, IsOneHunk, BeginsWith, IsFileOf, text}
 

@@ -1,5 +1,5 @@
 -- A load file of one CODE hunk.
-use Rattle.std.specs.Prelude.{◌≡◌, ℕ, ◌+◌, ◌-◌, ◌*◌, ◌^◌, ◌≤◌, List, [], ◌∷◌, ◌++◌, length, replicate, IsFalse}
+use Rattle.std.specs.Prelude.{◌≡◌, ℕ, ◌-◌, ◌*◌, ◌≤◌, List, [], ◌∷◌, ◌++◌, length, replicate, IsFalse}
 use Rattle.hunk_words.specs.Longs.{AreLongs, IsLong, bytes_of}
 use Rattle.hunk_words.specs.Bits.{has_both_bits, size_longs}
 use Rattle.hunkinfo.specs.declared.one_hunk.Role.{Role}

@@ -1,6 +1,5 @@
 use Rattle.std.proofs.Common.{◌∙◌, ap, map, inl}
 use Rattle.clap.specs.Words.{App, takes}
-use Rattle.hunkinfo.specs.Command as spec
 use Rattle.hunkinfo.proofs.line.order_in.Goals as goal
 
 pub returns-in-Err-clause-err : goal.returns-in-Err-clause-err

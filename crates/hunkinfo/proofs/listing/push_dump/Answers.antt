@@ -1,4 +1,4 @@
-use Rattle.std.proofs.Common.{◌≡◌, ◌++◌, List, ℕ, refl, sym, ap, ◌∙◌, arith, append-nil, append_assoc}
+use Rattle.std.proofs.Common.{◌++◌, List, ℕ, sym, ap, ◌∙◌, arith, append-nil, append_assoc}
 use Rattle.std.specs.Slice.Iter.{chunks_rest}
 use Rattle.hunkinfo.specs.Listing.{dump, row}
 use Rattle.hunkinfo.proofs.RowLaws.{dump-nil, dump-append}

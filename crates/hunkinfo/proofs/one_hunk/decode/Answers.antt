@@ -1,5 +1,4 @@
-use Rattle.std.proofs.Common.{◌≡◌, ◌+◌, ◌∙◌, ℕ, sym, ap, arith, get_or, length}
-use Rattle.hunk_words.specs.Longs.{longs}
+use Rattle.std.proofs.Common.{◌≡◌, ◌+◌, ◌∙◌, ℕ, sym, ap, arith, length}
 use Rattle.hunk_words.specs.Bits.{has_both_bits, size_longs}
 use Rattle.hunk_words.proofs.LongLaws.{length-longs}
 use Rattle.hunkinfo.proofs.OneHunkLaws.{refuses, stands, word_there, end_there, file_of}

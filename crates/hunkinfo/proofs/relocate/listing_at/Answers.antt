@@ -1,7 +1,6 @@
-use Rattle.std.proofs.Common.{◌≡◌, ◌⊎◌, ◌+◌, ◌-◌, ◌*◌, ◌++◌, ℕ, List, inl, inr, ap, ap₂, sym, refl, ◌∙◌, arith, length, replicate, append-nil, Result, Ok, Err, []}
+use Rattle.std.proofs.Common.{◌≡◌, ◌⊎◌, ◌*◌, ◌++◌, ℕ, List, inr, ap, ap₂, sym, ◌∙◌, arith, length, replicate, append-nil, Result, Ok, Err}
 use Rattle.std.specs.Prelude.{IfErr}
 use Rattle.hunk_words.specs.Bits.{size_longs}
-use Rattle.hunk_words.specs.Longs.{bytes_of}
 use Rattle.hunk_words.proofs.LongLaws.{length-bytes_of}
 use Rattle.hunkinfo.specs.declared.fault.RunFault.{RunFault}
 use Rattle.hunkinfo.specs.declared.fault.RunFault.TheVariants.{Memory}

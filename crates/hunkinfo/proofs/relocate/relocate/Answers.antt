@@ -1,4 +1,4 @@
-use Rattle.std.proofs.Common.{◌≡◌, ◌⊎◌, ℕ, List, inl, inr, ap, sym, subst, refl, ◌∙◌, arith, length}
+use Rattle.std.proofs.Common.{◌≡◌, ℕ, List, inl, inr, ap, sym, subst, ◌∙◌, arith, length}
 use Rattle.std.proofs.lemmas.Result.{err_from_is_err_and}
 use Rattle.hunk_words.specs.Puts.{Puts}
 use Rattle.hunkinfo.specs.declared.fault.RunFault.TheVariants.{Memory}

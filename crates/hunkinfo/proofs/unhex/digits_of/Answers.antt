@@ -1,5 +1,4 @@
-use Rattle.std.proofs.Common.{rules, arith, ◌≡◌, ◌∙◌, not, ap, List, ℕ}
-use Rattle.std.proofs.lemmas.Grind.{common_steps}
+use Rattle.std.proofs.Common.{rules, ◌≡◌, ◌∙◌, not, ap}
 use Rattle.std.proofs.lemmas.List.Elements.{filter_from_retain}
 use Rattle.hunkinfo.specs.HexText.{is_blank, without_blanks}
 use Rattle.hunkinfo.proofs.unhex.digits_of.Goals as goal

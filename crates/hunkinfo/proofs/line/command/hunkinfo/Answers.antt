@@ -1,6 +1,6 @@
 use Rattle.std.proofs.Common.{ap, ap₂, codes, ◌∙◌, ◌≡◌}
 use Rattle.std.proofs.lemmas.Result.{IfOk-weaker}
-use Rattle.clap.specs.Words.{App, Shape, app_of, shape_of, with_subcommand}
+use Rattle.clap.specs.Words.{App, Shape, app_of, with_subcommand}
 use Rattle.hunkinfo.specs.Command as spec
 use Rattle.hunkinfo.proofs.line.command.hunkinfo.Goals as goal
 
