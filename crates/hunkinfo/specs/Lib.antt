@@ -8,3 +8,4 @@ pub mod Listing
 pub mod OneHunk
 pub mod Output
 pub mod Relocating
+pub mod Runs

@@ -1,5 +1,5 @@
 //! Why a run failed: the status that it ends with and the line that it prints.
-ghost use Rattle.std.specs.Prelude.{◌≡◌, Some};
+ghost use Rattle.std.specs.Prelude.{◌≡◌, ◌<◌, ◌≤◌, Some};
 ghost use Rattle.hunkinfo.specs.Faults.{line_of, status_of};
 ghost use Rattle.hunkinfo.specs.declared.fault.RunFault.TheVariants.{Memory, Refused, Write};
 
@@ -29,7 +29,8 @@ impl RunFault {
     /// The exit status: 1 where the input is refused, 3 where reading or writing failed, 4 where
     /// memory was wanting.
     pub fn status(&self) -> u8
-        ensures { result ≡ status_of self.now }
+        ensures value { result ≡ status_of self.now }
+        ensures known { (0 < result) × (result ≤ 4) }
     {
         match self {
             RunFault::Refused(_) | RunFault::HexText => 1,

@@ -4,7 +4,7 @@ ghost use Rattle.std.specs.String.{string_bytes};
 ghost use Rattle.clap.specs.Words.{found_of, kind_of, rows_of, subcommand_of, takes};
 ghost use Rattle.hunkinfo.specs.Command as spec;
 ghost use Rattle.hunkinfo.specs.Line.{entered_order, order_of, relocate_order, rewrite_order, show_order, taken, validate_order};
-ghost use Rattle.hunkinfo.specs.declared.asked.OrderFault.TheVariants.{Memory};
+ghost use Rattle.hunkinfo.specs.declared.asked.OrderFault.TheVariants.{Line, Memory};
 
 mod command;
 mod matches;
@@ -47,7 +47,7 @@ fn validate_order(alloc: Global, found: &ArgMatches<'_>) -> Result<Order, OrderF
 
 fn relocate_order(alloc: Global, found: &ArgMatches<'_>) -> Result<Order, OrderFault>
     ensures ok { IfOk result (λ order. relocate_order (rows_of (found_of found.now)) ≡ Some order) }
-    ensures err { IfErr result (λ fault. (fault ≡ Memory) ⊎ (relocate_order (rows_of (found_of found.now)) ≡ None)) }
+    ensures err { IfErr result (λ fault. (fault ≡ Memory) ⊎ ((fault ≡ Line) × (relocate_order (rows_of (found_of found.now)) ≡ None))) }
 {
     let base = match text_of(found, "base") {
         Some(text) => base_of(text).ok_or(OrderFault::Line)?,
@@ -67,7 +67,7 @@ fn relocate_order(alloc: Global, found: &ArgMatches<'_>) -> Result<Order, OrderF
 
 fn rewrite_order(alloc: Global, found: &ArgMatches<'_>) -> Result<Order, OrderFault>
     ensures ok { IfOk result (λ order. rewrite_order (rows_of (found_of found.now)) ≡ Some order) }
-    ensures err { IfErr result (λ fault. (fault ≡ Memory) ⊎ (rewrite_order (rows_of (found_of found.now)) ≡ None)) }
+    ensures err { IfErr result (λ fault. (fault ≡ Memory) ⊎ ((fault ≡ Line) × (rewrite_order (rows_of (found_of found.now)) ≡ None))) }
 {
     let Some(input) = name_of(alloc, found, "IN")? else {
         return Err(OrderFault::Line);
@@ -99,7 +99,7 @@ fn fault_of(alloc: Global, error: &Error) -> OrderFault
 fn order_in<S: AsStr>(alloc: Global, words: &[S]) -> Result<Order, OrderFault>
     ensures ok { IfOk result (λ order. entered_order (subcommand_of spec.hunkinfo (map S.text words.now)) ≡ Some order) }
     ensures err { IfErr result (λ fault. takes spec.hunkinfo (map S.text words.now) ≡ true
-        → (fault ≡ Memory) ⊎ (entered_order (subcommand_of spec.hunkinfo (map S.text words.now)) ≡ None)) }
+        → (fault ≡ Memory) ⊎ ((fault ≡ Line) × (entered_order (subcommand_of spec.hunkinfo (map S.text words.now)) ≡ None))) }
 {
     let matches = match hunkinfo(alloc)?.try_get_matches_from(words) {
         Ok(matches) => matches,
@@ -126,7 +126,7 @@ fn order_in<S: AsStr>(alloc: Global, words: &[S]) -> Result<Order, OrderFault>
 pub fn order(alloc: Global, words: &[String]) -> Result<Order, OrderFault>
     ensures ok { IfOk result (λ order. order_of (map string_bytes words.now) ≡ Some order) }
     ensures err { IfErr result (λ fault. takes spec.hunkinfo (taken (map string_bytes words.now)) ≡ true
-        → (fault ≡ Memory) ⊎ (order_of (map string_bytes words.now) ≡ None)) }
+        → (fault ≡ Memory) ⊎ ((fault ≡ Line) × (order_of (map string_bytes words.now) ≡ None))) }
 {
     if words.len() < 2 {
         order_in(alloc, STORED.as_slice())

@@ -1,7 +1,12 @@
 //! A run: the words are read, what they ask for is done, and one text is printed, once.
-ghost use Rattle.std.specs.Prelude.{◌≡◌, ◌≤◌, IfErr};
-ghost use Rattle.hunkinfo.specs.Faults.{IsWrite};
+ghost use Rattle.std.specs.Prelude.{◌≡◌, ◌<◌, ◌≤◌, IfErr, IfOk, OnOk, length, map, true};
+ghost use Rattle.std.specs.Io.KnownBytes.{Consumes, IsAtEnd};
+ghost use Rattle.std.specs.String.{string_bytes};
+ghost use Rattle.clap.specs.Words.{takes};
 ghost use Rattle.hunkinfo.specs.Output.{Prints, StopsOutput, TellsStatus};
+ghost use Rattle.hunkinfo.specs.Command.{hunkinfo};
+ghost use Rattle.hunkinfo.specs.Line.{order_of, taken};
+ghost use Rattle.hunkinfo.specs.Runs.{IsDone, Lists, ListsSource, PrintsNoHelp, PrintsRefusal, ReadsNoText};
 
 use crate::asked::{FileName, Order, OrderFault};
 use crate::fault::{OUT_OF_MEMORY, RunFault};
@@ -18,6 +23,12 @@ use std::rt::Files;
 /// The bytes of an input at which it is refused, and the most that hexadecimal text may have.
 const FILE_BYTES: u64 = 67_108_864;
 
+/// The exit status where all is done, and after help.
+const DONE: u8 = 0;
+
+/// The exit status where the command line is refused.
+const LINE_REFUSED: u8 = 2;
+
 /// Does what the words ask for, of which the first is the program's name, and gives the exit
 /// status.
 ///
@@ -33,6 +44,12 @@ pub fn run<T: Files + Input, W: Sink>(
     requires { out.old.written ≡ 0 }
     ensures known { result ≤ 4 }
     ensures told { TellsStatus W.taken W.failed out.old out.new result }
+
+    // Where clap takes the words: they are an order, which is done where the status is 0, or they are refused.
+    ensures done { (order : Order) → takes hunkinfo (taken (map string_bytes words.now)) ≡ true
+        → order_of (map string_bytes words.now) ≡ Some order → result ≡ 0 → IsDone W.taken out.old out.new order }
+    ensures refused { takes hunkinfo (taken (map string_bytes words.now)) ≡ true
+        → order_of (map string_bytes words.now) ≡ None → PrintsNoHelp W.taken W.failed out.old out.new result }
 {
     match order(alloc, words) {
         Ok(order) => obey(rt, alloc, &order, out),
@@ -44,11 +61,12 @@ pub fn run<T: Files + Input, W: Sink>(
 pub(crate) fn refuse<W: Sink>(fault: &OrderFault, out: &mut LongWriter<W>) -> u8
     requires { out.old.written ≡ 0 }
     ensures known { result ≤ 4 }
+    ensures printed { PrintsRefusal W.taken W.failed out.old out.new fault.now result }
     ensures told { TellsStatus W.taken W.failed out.old out.new result }
 {
     match fault {
-        OrderFault::Line => print("command line refused\n", 2, out),
-        OrderFault::Help(text) => print(text.as_str(), 0, out),
+        OrderFault::Line => print("command line refused\n", LINE_REFUSED, out),
+        OrderFault::Help(text) => print(text.as_str(), DONE, out),
         OrderFault::Memory => print(OUT_OF_MEMORY, RunFault::Memory.status(), out),
     }
 }
@@ -61,6 +79,7 @@ fn obey<T: Files + Input, W: Sink>(
 ) -> u8
     requires { out.old.written ≡ 0 }
     ensures known { result ≤ 4 }
+    ensures done { result ≡ 0 → IsDone W.taken out.old out.new order.now }
     ensures told { TellsStatus W.taken W.failed out.old out.new result }
 {
     match order {
@@ -70,9 +89,9 @@ fn obey<T: Files + Input, W: Sink>(
             budget: _,
             file,
         } => match relocate_file(rt, alloc, file.as_ref(), *hex, *base, out) {
-            Ok(()) => 0,
+            Ok(()) => DONE,
             // The output failed, so nothing more is written.
-            Err(RunFault::Write { .. }) => 3,
+            Err(fault @ RunFault::Write { .. }) => fault.status(),
             Err(fault) => report(alloc, fault, out),
         },
         Order::Show { .. } | Order::Validate { .. } | Order::Rewrite { .. } => {
@@ -92,6 +111,7 @@ fn relocate_file<T: Files + Input, W: Sink>(
     out: &mut LongWriter<W>,
 ) -> Result<(), RunFault>
     requires { out.old.written ≡ 0 }
+    ensures ok { OnOk result (Lists W.taken out.old out.new base) }
     ensures fails { IfErr result (StopsOutput W.taken W.failed out.old out.new) }
 {
     let Some(name) = file else {
@@ -115,12 +135,13 @@ fn relocate_source<R: Source, W: Sink>(
     out: &mut LongWriter<W>,
 ) -> Result<(), RunFault>
     requires { out.old.written ≡ 0 }
+    ensures ok { OnOk result (ListsSource hex base (R.left source.old) (R.left source.new) W.taken out.old out.new) }
     ensures fails { IfErr result (StopsOutput W.taken W.failed out.old out.new) }
 {
     if !hex {
         return relocate(alloc, source, out, FILE_BYTES, base);
     }
-    let text = text_of(alloc, source)?;
+    let text = hex_text(alloc, source)?;
     let bytes = unhex(alloc, text.as_slice())?;
     relocate(
         alloc,
@@ -132,8 +153,11 @@ fn relocate_source<R: Source, W: Sink>(
 }
 
 // All of the source's text, which may have `FILE_BYTES` bytes and no more.
-fn text_of<R: Source>(alloc: Global, source: &mut R) -> Result<Vec<u8>, RunFault>
-    ensures reads { IfErr result (λ fault. ¬ IsWrite fault) }
+fn hex_text<R: Source>(alloc: Global, source: &mut R) -> Result<Vec<u8>, RunFault>
+    ensures given { IfOk result (λ text. Consumes (R.left source.old) (R.left source.new) text.items) }
+    ensures ended { OnOk result (IsAtEnd (R.left source.new)) }
+    ensures bound { IfOk result (λ text. length text.items ≤ FILE_BYTES) }
+    ensures err { IfErr result (λ fault. ReadsNoText fault (R.left source.old) (R.left source.new) FILE_BYTES (R.failed source.new)) }
 {
     match whole(alloc, source, FILE_BYTES + 1) {
         Err(RunFault::Refused(Fault { place: _, reason })) => Err(RunFault::Refused(Fault {
@@ -147,7 +171,7 @@ fn text_of<R: Source>(alloc: Global, source: &mut R) -> Result<Vec<u8>, RunFault
 // Prints the fault's line, and gives the fault's status.
 fn report<W: Sink>(alloc: Global, fault: RunFault, out: &mut LongWriter<W>) -> u8
     requires { out.old.written ≡ 0 }
-    ensures known { result ≤ 4 }
+    ensures known { (0 < result) × (result ≤ 4) }
     ensures told { TellsStatus W.taken W.failed out.old out.new result }
 {
     match format!(in alloc; "{fault}\n") {

@@ -4,7 +4,7 @@ use Rattle.std.proofs.lemmas.Bool.{le-ltb, lt-ltb}
 use Rattle.std.proofs.lemmas.List.{length-map}
 use Rattle.std.proofs.lemmas.Result.{IfErr-weaker, IfOk-weaker}
 use Rattle.clap.specs.Words.{subcommand_of, takes, Text}
-use Rattle.hunkinfo.specs.declared.asked.OrderFault.TheVariants.{Memory}
+use Rattle.hunkinfo.specs.declared.asked.OrderFault.TheVariants.{Line, Memory}
 use Rattle.hunkinfo.specs.Command.{hunkinfo}
 use Rattle.hunkinfo.specs.Line as spec
 use Rattle.hunkinfo.proofs.line.order.Goals as goal
@@ -21,7 +21,7 @@ returns-then-words-lt2 c =
           (λ order h. subst (λ (words : List Text). spec.entered_order (subcommand_of hunkinfo words) ≡ Some order) same h)
           c.order_in.ensures.ok;
       err = IfErr-weaker c.order_in.result _ _
-          (λ fault h. subst (λ (words : List Text). takes hunkinfo words ≡ true → (fault ≡ Memory) ⊎ (spec.entered_order (subcommand_of hunkinfo words) ≡ None)) same h)
+          (λ fault h. subst (λ (words : List Text). takes hunkinfo words ≡ true → (fault ≡ Memory) ⊎ ((fault ≡ Line) × (spec.entered_order (subcommand_of hunkinfo words) ≡ None))) same h)
           c.order_in.ensures.err;
     }
 
@@ -32,5 +32,5 @@ pub returns-else-words-lt2-clause-err : goal.returns-else-words-lt2-clause-err
 returns-else-words-lt2-clause-err c =
     let same = sym (taken_long (map string_bytes c.args.words.now) (simp length-map (omega arith))) in
     IfErr-weaker c.order_in-else-words-lt2.result _ _
-    (λ fault h. subst (λ (words : List Text). takes hunkinfo words ≡ true → (fault ≡ Memory) ⊎ (spec.entered_order (subcommand_of hunkinfo words) ≡ None)) same h)
+    (λ fault h. subst (λ (words : List Text). takes hunkinfo words ≡ true → (fault ≡ Memory) ⊎ ((fault ≡ Line) × (spec.entered_order (subcommand_of hunkinfo words) ≡ None))) same h)
     c.order_in-else-words-lt2.ensures.err

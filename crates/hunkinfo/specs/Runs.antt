@@ -1,0 +1,63 @@
+-- What a run has done: its output is a writer that is old before it and new after it. `taken` tells the bytes that a sink has taken, and `failed` whether it has failed.
+use Rattle.std.specs.Prelude.{◌≡◌, ◌⊎◌, ◌+◌, ⊤, ℕ, Bool, true, false, List, Option, codes, string_bytes}
+use Rattle.std.specs.Io.KnownBytes.{Consumes, IsAtEnd}
+use Rattle.hunk_words.specs.Carriers.{Writing}
+use Rattle.hunk_words.specs.declared.reason.Reason.TheVariants as reasons
+use Rattle.hunkinfo.specs.declared.asked.Order.{Order}
+use Rattle.hunkinfo.specs.declared.asked.Order.TheVariants.{Relocate}
+use Rattle.hunkinfo.specs.declared.asked.OrderFault.{OrderFault}
+use Rattle.hunkinfo.specs.declared.asked.OrderFault.TheVariants.{Help, Line, Memory}
+use Rattle.hunkinfo.specs.declared.fault.RunFault.{RunFault}
+use Rattle.hunkinfo.specs.declared.fault.RunFault.TheVariants as faults
+use Rattle.hunkinfo.specs.Faults.{line_of}
+use Rattle.hunkinfo.specs.HexText.{Spells}
+use Rattle.hunkinfo.specs.Inputs.{Gave}
+use Rattle.hunkinfo.specs.Output.{Prints, Takes, ended}
+use Rattle.hunkinfo.specs.Relocating.{IsListingAt}
+
+-- what is printed where the words are no order, and the status
+abbrev pub PrintsRefusal : {W : Type 0} → (W → Option (List ℕ)) → (W → Bool) → Writing W → Writing W → OrderFault → ℕ → Type 0
+PrintsRefusal taken failed old new Line status = Prints taken failed old new (ended (codes "command line refused")) 2 status
+PrintsRefusal taken failed old new (Help text) status = Prints taken failed old new (string_bytes text) 0 status
+PrintsRefusal taken failed old new Memory status = Prints taken failed old new (ended (line_of faults.Memory)) 4 status
+
+-- the output has taken the listing of some input's load file at this base, and nothing else
+pub record Lists {W : Type 0} (taken : W → Option (List ℕ)) (old new : Writing W) (base : ℕ) : Type 0 where
+  pub input : List ℕ
+  pub text : List ℕ
+  pub is_listing : IsListingAt base input text
+  pub takes : Takes taken old new text
+
+-- what the order asks for is done
+abbrev pub IsDone : {W : Type 0} → (W → Option (List ℕ)) → Writing W → Writing W → Order → Type 0
+IsDone taken old new (Relocate hex base budget file) = Lists taken old new base
+IsDone taken old new _ = ⊥
+
+-- the words are no order, or memory was wanting; no help is printed
+abbrev pub PrintsNoHelp : {W : Type 0} → (W → Option (List ℕ)) → (W → Bool) → Writing W → Writing W → ℕ → Type 0
+PrintsNoHelp taken failed old new status =
+    PrintsRefusal taken failed old new Line status ⊎ PrintsRefusal taken failed old new Memory status
+
+-- the bytes of the input, which what was given is, or where `hex` is set spells
+abbrev pub IsInput : Bool → List ℕ → List ℕ → Type 0
+IsInput true given input = Spells given input
+IsInput false given input = input ≡ given
+
+-- The source, of which a was left before and b is left now, was read to its end, and the output has taken the listing of the input.
+pub record ListsSource {W : Type 0} (hex : Bool) (base : ℕ) (a b : Option (List ℕ)) (taken : W → Option (List ℕ)) (old new : Writing W) : Type 0 where
+  pub given : List ℕ
+  pub consumed : Consumes a b given
+  pub at_end : IsAtEnd b
+  pub input : List ℕ
+  pub is_input : IsInput hex given input
+  pub text : List ℕ
+  pub is_listing : IsListingAt base input text
+  pub takes : Takes taken old new text
+
+-- why no text of at most so many bytes was read; `failed` is whether the source failed
+abbrev pub ReadsNoText : RunFault → Option (List ℕ) → Option (List ℕ) → ℕ → Bool → Type 0
+ReadsNoText (faults.Refused refusal) a b most failed = (refusal.reason ≡ reasons.FileLimit) × (refusal.place ≡ most) × Gave a b (most + 1)
+ReadsNoText (faults.Read place) a b most failed = (failed ≡ true) × Gave a b place
+ReadsNoText faults.Memory a b most failed = ⊤
+ReadsNoText (faults.Write written) a b most failed = ⊥
+ReadsNoText faults.HexText a b most failed = ⊥
