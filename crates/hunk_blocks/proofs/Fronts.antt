@@ -1,0 +1,31 @@
+-- Longwords in front of a list of bytes.
+use Rattle.std.proofs.Common.{◌≡◌, ℕ, ◌+◌, ◌*◌, List, [], ◌∷◌, ◌++◌, length, take, drop, refl, sym, ap₂, subst, ◌∙◌, arith}
+use Rattle.std.specs.List.{AllByRecursion}
+use Rattle.std.proofs.lemmas.List.{take-append-drop}
+use Rattle.hunk_words.specs.Longs.{longs, AreLongs, IsLong}
+use Rattle.hunk_blocks.specs.Reading.{Reads}
+use Rattle.hunk_words.proofs.PartLaws.{longs-take, longs-drop}
+
+pub All-left : {A : Type 0} (P : A → Type 0) (xs ys : List A) → AllByRecursion P (xs ++ ys) → AllByRecursion P xs
+All-left P [] ys h = tt
+All-left P (x ∷ xs) ys h = (h.0, All-left P xs ys h.1)
+
+pub All-right : {A : Type 0} (P : A → Type 0) (xs ys : List A) → AllByRecursion P (xs ++ ys) → AllByRecursion P ys
+All-right P [] ys h = h
+All-right P (x ∷ xs) ys h = All-right P xs ys h.1
+
+-- bytes cut behind so many longwords
+pub longs-cut : (bytes front rest : List ℕ) (count : ℕ) → front ≡ take (4 * count) bytes → rest ≡ drop (4 * count) bytes → longs bytes ≡ longs front ++ longs rest
+longs-cut bytes front rest count f r =
+    sym (take-append-drop count (longs bytes)) ∙ ap₂ (λ xs ys. xs ++ ys) (sym (longs-take bytes count (4 * count) refl)) (sym (longs-drop bytes count (4 * count) refl)) ∙ ap₂ (λ xs ys. longs xs ++ longs ys) (sym f) (sym r)
+
+-- a first part fits, and what is left
+pub longs_fit_left : (xs ys zs : List ℕ) → zs ≡ xs ++ ys → AreLongs zs → AreLongs xs
+longs_fit_left xs ys zs e h = All-left IsLong xs ys (subst AreLongs e h)
+
+pub longs_fit_right : (xs ys zs : List ℕ) → zs ≡ xs ++ ys → AreLongs zs → AreLongs ys
+longs_fit_right xs ys zs e h = All-right IsLong xs ys (subst AreLongs e h)
+
+pub reads_front : (bytes front rest : List ℕ) (place next count : ℕ) → longs bytes ≡ longs front ++ longs rest → length (longs front) ≡ count → next ≡ place + 4 * count →
+    Reads (record { rest = longs bytes; place = place }) (record { rest = longs rest; place = next }) (longs front)
+reads_front bytes front rest place next count e n p = record { front = e; further = omega (arith, p, n) }

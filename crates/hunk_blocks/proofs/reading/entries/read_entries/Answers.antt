@@ -1,0 +1,11 @@
+use Rattle.std.proofs.Common.{map}
+use Rattle.hunk_blocks.specs.Values.{IsExtEntry}
+use Rattle.hunk_blocks.specs.Parts.{ext_text}
+use Rattle.hunk_blocks.specs.Views.{entry_of}
+use Rattle.hunk_blocks.proofs.EntryReading.{entries_end}
+use Rattle.hunk_blocks.proofs.ListReading.{if_err, list_none}
+use Rattle.hunk_blocks.proofs.reading.entries.read_entries.Goals as goal
+
+pub returns-in_err-entry-clause-none : goal.returns-in_err-entry-clause-none
+returns-in_err-entry-clause-none c =
+    if_err c.from_residual.result _ (λ fault ne. list_none IsExtEntry ext_text entries_end c.args.reader.now c.entries.reader (map entry_of c.entries.entries.items) c.entries.invariant.are c.entries.invariant.reads c.in_err-entry.ensures.none)

@@ -1,0 +1,22 @@
+use Rattle.std.proofs.Common.{ℕ, ◌^◌, List, subst, sym, refl, arith}
+use Rattle.hunk_words.specs.Longs.{longs}
+use Rattle.hunk_blocks.specs.declared.ext_shape.ExtShape.TheVariants.{Refers}
+use Rattle.hunk_blocks.specs.Values.{IsPayload}
+use Rattle.hunk_blocks.specs.Parts.{counted_text}
+use Rattle.hunk_blocks.specs.Reading.{Reads}
+use Rattle.hunk_blocks.proofs.ListReading.{on_err}
+use Rattle.hunk_blocks.proofs.EntryReading.{entry_read, entry_is, reference_missing}
+use Rattle.hunk_blocks.proofs.reading.entries.reference.Goals as goal
+
+pub returns-in_err-read_counted-clause-none : goal.returns-in_err-read_counted-clause-none
+returns-in_err-read_counted-clause-none c = on_err c.from_residual-in_err-read_counted.result (λ before h.
+    reference_missing before c.args.reader.now c.read_entry_name.new.reader c.args.word (longs c.in_ok-name.name) c.requires.shape c.requires.goes_on c.in_ok-name.ensures.count.0 h c.in_ok-name.ensures.read c.in_err-read_counted.ensures.none)
+
+pub returns-clause-read : goal.returns-clause-read
+returns-clause-read c = (
+  entry_is Refers c.args.word 0 (longs c.in_ok-name.name) c.of-offsets.result c.requires.shape refl (omega arith) c.requires.goes_on c.in_ok-name.ensures.count.0 c.in_ok-name.ensures.count.1 (omega arith)
+      (subst (IsPayload (2 ^ 32)) (sym c.of-offsets.ensures) c.in_ok-read_counted.ensures.read.0),
+  λ before h.
+      entry_read Refers before c.args.reader.now c.read_entry_name.new.reader c.read_counted.new.reader c.args.word 0 (longs c.in_ok-name.name) c.of-offsets.result c.requires.shape c.in_ok-name.ensures.read
+      (subst (λ (os : List ℕ). Reads c.read_entry_name.new.reader c.read_counted.new.reader (counted_text os)) (sym c.of-offsets.ensures) c.in_ok-read_counted.ensures.read.1) h,
+)

@@ -1,0 +1,30 @@
+use Rattle.std.proofs.Common.{◌≡◌, ◌+◌, ◌*◌, ◌++◌, length, ap, subst, ◌∙◌, refl, arith}
+use Rattle.hunk_words.specs.Longs.{longs}
+use Rattle.hunk_words.proofs.LongLaws.{length-longs}
+use Rattle.hunk_blocks.specs.Reading.{Unread, Reads}
+use Rattle.hunk_blocks.proofs.Fronts.{longs-cut, reads_front, longs_fit_left, longs_fit_right}
+use Rattle.hunk_blocks.proofs.reading.long_reader.LongReader.payload.Goals as goal
+
+pub returns-then-self-length-clause-short : goal.returns-then-self-length-clause-short
+returns-then-self-length-clause-short c = omega (arith, ap (λ u. length u.rest) c.self.view_is, length-longs c.self.inside.rest.now)
+
+-- the cut in two
+module _ (c : goal.After-of) where
+  parts : longs c.self.inside.rest.now ≡ longs c.of.result ++ longs c.split_at.result.1.now
+  parts = longs-cut c.self.inside.rest.now c.of.result c.split_at.result.1.now c.args.count (c.of.ensures ∙ c.split_at.ensures.front) c.split_at.ensures.back
+
+  many : length (longs c.of.result) ≡ c.args.count
+  many = omega (arith, length-longs c.of.result, ap length c.of.ensures, c.split_at.ensures.front_len)
+
+pub invariant_of-self : goal.invariant_of-self
+invariant_of-self c =
+    (omega (arith, c.self.invariant.0, c.split_at.ensures.back_len), longs_fit_right (longs c.of.result) (longs c.split_at.result.1.now) (longs c.self.inside.rest.now) (parts c) c.self.invariant.1)
+
+pub returns-clause-read : goal.returns-clause-read
+returns-clause-read c =
+    subst (λ (u : Unread). Reads u (record { rest = longs c.split_at.result.1.now; place = c.self.inside.place + 4 * c.args.count }) (longs c.of.result)) c.self.view_is
+    (reads_front c.self.inside.rest.now c.of.result c.split_at.result.1.now c.self.inside.place (c.self.inside.place + 4 * c.args.count) c.args.count (parts c) (many c) refl)
+
+pub returns-clause-count : goal.returns-clause-count
+returns-clause-count c =
+    (many c, longs_fit_left (longs c.of.result) (longs c.split_at.result.1.now) (longs c.self.inside.rest.now) (parts c) c.self.invariant.1)

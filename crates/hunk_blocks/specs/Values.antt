@@ -1,0 +1,132 @@
+-- Block values, and which of them are blocks.
+use Rattle.std.specs.Prelude.{◌≡◌, ◌≢◌, ℕ, ◌%◌, ◌/◌, ◌^◌, ◌<◌, Bool, true, false, ◌||◌, List, [], length, ⊤, ◌==◌, nat_lt, if◌then◌else◌, IsTrue, IsFalse}
+use Rattle.std.specs.Int.{is_in_range}
+use Rattle.std.specs.List.{AllByRecursion}
+use Rattle.hunk_words.specs.declared.block_word.Kind.{Kind}
+use Rattle.hunk_words.specs.declared.block_word.Kind.TheVariants as kinds
+use Rattle.hunk_words.specs.Longs.{IsLong, AreLongs}
+use Rattle.hunk_words.specs.Bits.{has_both_bits, is_advisory, kind}
+use Rattle.hunk_blocks.specs.declared.ext_shape.ExtShape.{ExtShape}
+use Rattle.hunk_blocks.specs.declared.ext_shape.ExtShape.TheVariants.{Defines, Refers, Shares, Refused}
+
+-- ---- values
+
+-- the longs at these byte offsets are increased by the base of the target hunk
+pub record RelocGroup : Type 0 where
+  pub target : ℕ
+  pub offsets : List ℕ
+
+-- the word has the type in its top byte and the number of name longwords below
+pub record ExtEntry : Type 0 where
+  pub word : ℕ
+  pub name : List ℕ
+  pub value : ℕ
+  pub offsets : List ℕ
+
+pub record SymbolEntry : Type 0 where
+  pub word : ℕ
+  pub name : List ℕ
+  pub value : ℕ
+
+-- Payloads and names are lists of longwords. The top of a size word is its top two bits.
+pub data BlockBody : Type 0 where
+  Name : List ℕ → BlockBody
+  Code : ℕ → List ℕ → BlockBody
+  Data : ℕ → List ℕ → BlockBody
+  Bss : ℕ → BlockBody
+  Reloc : List RelocGroup → BlockBody
+  Ext : List ExtEntry → BlockBody
+  Symbol : List SymbolEntry → BlockBody
+  Debug : List ℕ → BlockBody
+  Advisory : List ℕ → BlockBody
+  End : BlockBody
+
+pub record BlockValue : Type 0 where
+  pub word : ℕ
+  pub body : BlockBody
+
+-- ---- the types of EXT entries
+
+abbrev pub ext_type : ExtEntry → ℕ
+ext_type e = e.word / 2 ^ 24
+
+-- By the number of the type: SYMB, DEF and ABS are 0 to 2, COMMON and RELCOMMON 130 and 137.
+abbrev pub ext_shape : ℕ → ExtShape
+ext_shape n =
+    if nat_lt n 3 then Defines
+    else if n == 130 || n == 137 then Shares
+    else if is_in_range 129 139 n then Refers
+    else Refused
+
+-- ---- which values are blocks
+
+-- fewer than the limit, so that the count fits its field
+abbrev pub IsPayload : ℕ → List ℕ → Type 0
+IsPayload limit words = (length words < limit) × AreLongs words
+
+-- the top two bits of a size word, and a payload whose count fits the others
+abbrev pub IsSized : (ℕ × List ℕ) → Type 0
+IsSized s = (s.0 < 4) × IsPayload (2 ^ 30) s.1
+
+pub record IsGroup (g : RelocGroup) : Type 0 where
+  pub some : g.offsets ≢ []
+  pub target : IsLong g.target
+  pub offsets : IsPayload (2 ^ 32) g.offsets
+
+-- a word with this name, that does not end the list
+pub record IsEntryWord (word : ℕ) (name : List ℕ) : Type 0 where
+  pub fits : IsLong word
+  pub goes_on : word ≢ 0
+  pub count : length name ≡ word % 2 ^ 24
+  pub longs : AreLongs name
+
+pub record IsSymbolEntry (s : SymbolEntry) : Type 0 where
+  pub named : IsEntryWord s.word s.name
+  pub value : IsLong s.value
+
+-- An entry without a value has the value 0, one without references no offsets.
+abbrev pub FitsShape : ExtShape → ExtEntry → Type 0
+FitsShape Defines e = e.offsets ≡ []
+FitsShape Refers e = e.value ≡ 0
+FitsShape Shares e = ⊤
+FitsShape Refused e = ⊥
+
+pub record IsExtEntry (e : ExtEntry) : Type 0 where
+  pub named : IsEntryWord e.word e.name
+  pub value : IsLong e.value
+  pub offsets : IsPayload (2 ^ 32) e.offsets
+  pub shape : FitsShape (ext_shape (ext_type e)) e
+
+-- the relocation kinds of object files
+abbrev pub is_relocation : Kind → Bool
+is_relocation kinds.Reloc32 = true
+is_relocation kinds.Reloc16 = true
+is_relocation kinds.Reloc8 = true
+is_relocation kinds.Drel32 = true
+is_relocation kinds.Drel16 = true
+is_relocation kinds.Drel8 = true
+is_relocation kinds.RelReloc32 = true
+is_relocation kinds.AbsReloc16 = true
+is_relocation _ = false
+
+abbrev pub is_unknown : Kind → Bool
+is_unknown (kinds.Unknown n) = true
+is_unknown _ = false
+
+-- The body is one that a block of this word can have.
+abbrev pub FitsWord : ℕ → BlockBody → Type 0
+FitsWord word (Name words) = (kind word ≡ kinds.Name) × IsPayload (2 ^ 24) words
+FitsWord word (Code top words) = (kind word ≡ kinds.Code) × (top < 4) × IsPayload (2 ^ 30) words
+FitsWord word (Data top words) = (kind word ≡ kinds.Data) × (top < 4) × IsPayload (2 ^ 30) words
+FitsWord word (Bss size) = (kind word ≡ kinds.Bss) × IsLong size
+FitsWord word (Reloc groups) = IsTrue (is_relocation (kind word)) × AllByRecursion IsGroup groups
+FitsWord word (Ext entries) = (kind word ≡ kinds.Ext) × AllByRecursion IsExtEntry entries
+FitsWord word (Symbol entries) = (kind word ≡ kinds.Symbol) × AllByRecursion IsSymbolEntry entries
+FitsWord word (Debug words) = (kind word ≡ kinds.Debug) × IsPayload (2 ^ 32) words
+FitsWord word (Advisory words) = IsTrue (is_unknown (kind word)) × IsTrue (is_advisory word) × IsPayload (2 ^ 32) words
+FitsWord word End = kind word ≡ kinds.End
+
+pub record IsBlock (b : BlockValue) : Type 0 where
+  pub word : IsLong b.word
+  pub bits : IsFalse (has_both_bits b.word)
+  pub body : FitsWord b.word b.body

@@ -1,0 +1,127 @@
+//! Blocks.
+ghost use Rattle.std.specs.Prelude.{◌≡◌, ◌≢◌, ◌+◌, ◌*◌, ◌^◌, ◌<◌, ◌≤◌, true, Err, IfErr, IfOk, IsErr, IsTrue, OnErr, OnOk, Some, is_err, length};
+ghost use Rattle.hunk_words.specs.declared.reason.Reason.{Reason};
+ghost use Rattle.hunk_words.specs.declared.reason.Reason.TheVariants as reasons;
+ghost use Rattle.hunk_words.specs.Longs.{bytes_of, longs};
+ghost use Rattle.hunk_words.specs.Puts.{Puts};
+ghost use Rattle.hunk_words.specs.Bits.{kind};
+ghost use Rattle.hunk_blocks.specs.declared.mode.Mode.TheVariants as modes;
+ghost use Rattle.hunk_blocks.specs.Values.{IsBlock};
+ghost use Rattle.hunk_blocks.specs.Parts.{block_text};
+ghost use Rattle.hunk_blocks.specs.Modes.{is_block_refusal, refuse_alone_word, takes_memory};
+ghost use Rattle.hunk_blocks.specs.Begins.{BeginsWithBlock, BeginsWithNoBlock, first_long};
+ghost use Rattle.hunk_blocks.specs.Views.{body_of};
+
+use crate::body::Body;
+use crate::mode::Mode;
+use crate::reading::{LongReader, read_body};
+use crate::writing::put_body;
+use hunk_words::{BlockFault, BlockWord, LongWriter, Sink, WriteFault};
+use std::alloc::Global;
+use std::marker::Model;
+
+/// A block of the input, made by `decode` alone. Contracts see it as its block value.
+#[derive(Debug, Drop)]
+pub struct Block<'a> {
+    word: BlockWord,
+    body: Body<'a>,
+    len: u64,
+}
+
+impl<'a> Model for Block<'a> {
+    ghost use Rattle.std.specs.Prelude.{◌≡◌, length};
+    ghost use Rattle.hunk_words.specs.Longs.{bytes_of};
+    ghost use Rattle.hunk_blocks.specs.Values.{BlockValue, IsBlock};
+    ghost use Rattle.hunk_blocks.specs.Parts.{block_text};
+    ghost use Rattle.hunk_blocks.specs.Views.{body_of};
+
+    ghost Value = { BlockValue };
+
+    ghost view = { λ s. record { word = s.word; body = body_of s.body } };
+
+    ghost invariant = { λ s.
+        let b : BlockValue = record { word = s.word; body = body_of s.body } in
+        IsBlock b × (s.len ≡ length (bytes_of (block_text b))) };
+}
+
+impl<'a> Block<'a> {
+    /// The block that the bytes begin with, and the number of its bytes.
+    ///
+    /// What needs the declared size, the number of hunks or the place in a hunk is not tested. The
+    /// longwords are tested in file order, each when it is whole: a block word that is refused is
+    /// refused at 0, a NAME count with a top byte (`NameWord`) and an EXT type that is not accepted
+    /// (`ExtKind`) at their own byte, and where the bytes end inside the block the answer is
+    /// `Truncated` at 4 times the number of whole longwords. Only the groups and entries of a
+    /// relocation kind, EXT or SYMBOL take memory, each when it was read whole.
+    ///
+    /// Source: The AmigaDOS Manual, 3rd edition, Amiga binary file structure, and `dos/doshunks.h`.
+    pub fn decode(
+        alloc: Global,
+        bytes: &'a [u8],
+        mode: Mode,
+    ) -> Result<(Block<'a>, usize), BlockFault>
+        ensures block { IfOk result (λ r. BeginsWithBlock mode bytes.entry.now r.0 r.1) }
+        ensures none { IfErr result (λ fault.
+            fault.reason ≢ reasons.OutOfMemory → BeginsWithNoBlock mode bytes.entry.now) }
+        ensures own { IfErr result (λ fault. IsTrue (is_block_refusal fault.reason)) }
+        ensures object { mode ≡ modes.Object → IfErr result (λ fault. fault.reason ≢ reasons.NotInLoadFile) }
+        ensures memory { IfErr result (λ fault. fault.reason ≡ reasons.OutOfMemory →
+            IsTrue (takes_memory (kind (first_long bytes.entry.now)))) }
+        ensures truncated { IfErr result (λ fault. fault.reason ≡ reasons.Truncated →
+            fault.place ≡ 4 * length (longs bytes.entry.now)) }
+        ensures word { (reason : Reason) → 4 ≤ length bytes.entry.now →
+            refuse_alone_word mode (first_long bytes.entry.now) ≡ Some reason →
+            result ≡ Err (record { place = 0; reason = reason }) }
+    {
+        let mut reader = LongReader::new(bytes);
+        let word = BlockWord::of(reader.long()?);
+        if let Some(reason) = mode.refusal(word) {
+            return Err(BlockFault { place: 0, reason });
+        }
+        let body = read_body(alloc, &mut reader, mode, word)?;
+        let len = reader.place();
+        Ok((Block { word, body, len }, len as usize))
+    }
+
+    /// The block's first longword: its flags and its type.
+    pub fn word(&self) -> BlockWord
+        ensures value { result ≡ self.now.word }
+        ensures block { IsBlock self.now }
+    {
+        self.word
+    }
+
+    /// What follows the block's word.
+    pub fn body(&self) -> &Body<'a>
+        ensures value { body_of result.now ≡ self.now.body }
+        ensures block { IsBlock self.now }
+    {
+        &self.body
+    }
+    /// The length of the block's text in bytes.
+    pub fn encoded_len(&self) -> u64
+        ensures { result ≡ length (bytes_of (block_text self.now)) }
+    {
+        self.len
+    }
+
+    /// Writes the block's text, which the writer's count has room for.
+    ///
+    /// It takes no memory. At a `WriteFault` the writer's sink failed, now or before, and just the
+    /// first `written` bytes of all that was ever put have gone out; later puts write nothing and
+    /// answer the same.
+    pub fn encode<W: Sink>(&self, writer: &mut LongWriter<W>) -> Result<(), WriteFault>
+        requires { writer.old.written + length (bytes_of (block_text self.now)) < 2 ^ 64 }
+        ensures puts { Puts (W.taken writer.old.sink) (W.taken writer.new.sink)
+            writer.old.written writer.new.written (bytes_of (block_text self.now)) }
+        ensures whole { OnOk result (writer.new.written ≡ writer.old.written
+            + length (bytes_of (block_text self.now))) }
+        ensures told { IfErr result (λ fault. fault.written ≡ writer.new.written) }
+        ensures failed { OnErr result (W.failed writer.new.sink ≡ true) }
+        ensures stops { writer.new.stopped ≡ is_err result }
+        ensures stays { writer.old.stopped ≡ true → IsErr result × (writer.new ≡ writer.old) }
+    {
+        writer.put_long(self.word.word())?;
+        put_body(writer, self.word, &self.body)
+    }
+}

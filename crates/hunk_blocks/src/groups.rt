@@ -1,0 +1,60 @@
+//! The groups of a relocation block.
+ghost use Rattle.std.specs.Prelude.{◌≡◌, ◌<◌, Some, length, slice_get};
+
+use crate::payload::Longs;
+use std::marker::Model;
+
+/// Relocations to one target: the longs at these offsets are increased by its base.
+///
+/// The target is a hunk's number, and offsets are in bytes from the start of the hunk.
+#[derive(Debug, Drop)]
+pub struct Group<'a> {
+    pub target: u32,
+    pub offsets: Longs<'a>,
+}
+
+/// The groups of a relocation block, in file order. Contracts see them as a list.
+#[derive(Debug, Drop)]
+pub struct Groups<'a> {
+    groups: Vec<Group<'a>>,
+}
+
+impl<'a> Model for Groups<'a> {
+    ghost use Rattle.std.specs.Prelude.{List};
+    ghost use Rattle.hunk_blocks.specs.declared.groups.Group.{Group};
+
+    ghost Value = { List Group };
+
+    ghost view = { λ s. s.groups.items };
+}
+
+impl<'a> Groups<'a> {
+    /// These groups.
+    pub(crate) fn of(groups: Vec<Group<'a>>) -> Groups<'a>
+        ensures { result ≡ groups.entry.items }
+    {
+        Groups { groups }
+    }
+
+    /// How many groups there are.
+    pub fn len(&self) -> usize
+        ensures { result ≡ length self.now }
+    {
+        self.groups.len()
+    }
+
+    /// The group number `i`, counted from 0.
+    pub fn at(&self, i: usize) -> &Group<'a>
+        requires { i < length self.now }
+        ensures { slice_get self.now i ≡ Some result.now }
+    {
+        &self.groups[i]
+    }
+
+    /// All groups.
+    pub(crate) fn as_slice(&self) -> &[Group<'a>]
+        ensures { result.now ≡ self.now }
+    {
+        self.groups.as_slice()
+    }
+}

@@ -1,0 +1,25 @@
+//! Blocks of AmigaDOS hunk files, read from bytes and written to them.
+#![tactic(auto)]
+
+mod block;
+mod body;
+mod entries;
+mod ext_shape;
+mod groups;
+pub mod laws;
+mod mode;
+mod payload;
+mod reading;
+mod symbols;
+mod writing;
+
+pub use crate::block::Block;
+pub use crate::body::Body;
+pub use crate::entries::{Entries, Entry};
+pub use crate::groups::{Group, Groups};
+pub use crate::mode::Mode;
+pub use crate::payload::{Longs, Payload};
+pub use crate::symbols::{Named, Symbols};
+
+#[cfg(test)]
+mod tests;

@@ -1,0 +1,51 @@
+//! The files that a block may stand in, and the block words that they refuse.
+ghost use Rattle.std.specs.Prelude.{◌≡◌};
+ghost use Rattle.hunk_blocks.specs.Modes.{refuse_alone_kind, refuse_alone_word};
+
+use hunk_words::{BlockWord, Kind, Reason};
+
+/// The files that a block may stand in.
+#[derive(Clone, Copy, Debug, PartialEq, Eq)]
+pub enum Mode {
+    /// Load files: RELOC32 alone relocates, and nothing is external.
+    Load,
+    /// Object files.
+    Object,
+}
+
+impl Mode {
+    /// Why this block word is refused, wherever the block stands.
+    pub(crate) fn refusal(self, word: BlockWord) -> Option<Reason>
+        ensures { result ≡ refuse_alone_word self word }
+    {
+        if word.word() >> 30 == 3 {
+            return Some(Reason::BothBits);
+        }
+        self.refusal_of_kind(word.flags() & 1 == 1, word.kind())
+    }
+
+    /// Why a block of this kind is refused.
+    fn refusal_of_kind(self, advisory: bool, kind: Kind) -> Option<Reason>
+        ensures { result ≡ refuse_alone_kind self advisory kind }
+    {
+        match (self, kind) {
+            (_, Kind::Overlay) => Some(Reason::Overlay),
+            (_, Kind::Break) => Some(Reason::Break),
+            (_, Kind::Reloc32Short) | (Mode::Load, Kind::Drel32) => Some(Reason::ShortReloc),
+            (_, Kind::Lib | Kind::Index) => Some(Reason::Library),
+            (_, Kind::Header | Kind::Unit) => Some(Reason::Misplaced),
+            (_, Kind::Unknown(_)) if !advisory => Some(Reason::UnknownBlock),
+            (
+                Mode::Load,
+                Kind::Reloc16
+                | Kind::Reloc8
+                | Kind::Ext
+                | Kind::Drel16
+                | Kind::Drel8
+                | Kind::RelReloc32
+                | Kind::AbsReloc16,
+            ) => Some(Reason::NotInLoadFile),
+            _ => None,
+        }
+    }
+}

@@ -1,0 +1,126 @@
+//! Reading the entries of an EXT block.
+ghost use Rattle.std.specs.Prelude.{◌≡◌, ◌≢◌, ◌/◌, ◌^◌, [], ◌∷◌, IfErr, IfOk, OnErr, map, ◌⊎◌};
+ghost use Rattle.std.specs.List.{AllByRecursion};
+ghost use Rattle.std.specs.Option.{option_map};
+ghost use Rattle.hunk_words.specs.declared.reason.Reason.TheVariants as reasons;
+ghost use Rattle.hunk_blocks.specs.declared.ext_shape.ExtShape.TheVariants as shapes;
+ghost use Rattle.hunk_blocks.specs.Values.{IsExtEntry, ext_shape};
+ghost use Rattle.hunk_blocks.specs.Parts.{ext_text, list_text};
+ghost use Rattle.hunk_blocks.specs.Reading.{BeginsWithNo, BeginsWithNoItem, Reads, ReadsItem, Unread, cut};
+ghost use Rattle.hunk_blocks.specs.Views.{entry_of};
+
+use crate::entries::{Entries, Entry};
+use crate::ext_shape::{ExtShape, shape_of};
+use crate::payload::Longs;
+use crate::reading::long_reader::LongReader;
+use crate::reading::payloads::{read_counted, read_entry_name};
+use hunk_words::{BlockFault, Reason};
+use std::alloc::Global;
+
+/// The name and the value behind this word.
+fn definition<'a>(reader: &mut LongReader<'a>, word: u32) -> Result<Entry<'a>, BlockFault>
+    requires goes_on { word ≢ 0 }
+    requires shape { ext_shape (word / 2 ^ 24) ≡ shapes.Defines }
+    ensures read { IfOk result (λ e. IsExtEntry (entry_of e) × ((before : Unread) →
+        Reads before reader.old (word ∷ []) → Reads before reader.new (ext_text (entry_of e)))) }
+    ensures none { OnErr result ((before : Unread) →
+        Reads before reader.old (word ∷ []) → BeginsWithNoItem IsExtEntry ext_text before.rest) }
+    ensures fault { IfErr result (λ fault. fault ≡ cut reader.old) }
+{
+    let name = read_entry_name(reader, word)?;
+    let value = reader.long()?;
+    Ok(Entry {
+        word,
+        name,
+        value,
+        offsets: Longs::none(),
+    })
+}
+
+/// The name, the count and the offsets behind this word.
+fn reference<'a>(reader: &mut LongReader<'a>, word: u32) -> Result<Entry<'a>, BlockFault>
+    requires goes_on { word ≢ 0 }
+    requires shape { ext_shape (word / 2 ^ 24) ≡ shapes.Refers }
+    ensures read { IfOk result (λ e. IsExtEntry (entry_of e) × ((before : Unread) →
+        Reads before reader.old (word ∷ []) → Reads before reader.new (ext_text (entry_of e)))) }
+    ensures none { OnErr result ((before : Unread) →
+        Reads before reader.old (word ∷ []) → BeginsWithNoItem IsExtEntry ext_text before.rest) }
+    ensures fault { IfErr result (λ fault. fault ≡ cut reader.old) }
+{
+    let name = read_entry_name(reader, word)?;
+    let offsets = Longs::of(read_counted(reader)?);
+    Ok(Entry {
+        word,
+        name,
+        value: 0,
+        offsets,
+    })
+}
+
+/// The name, the size, the count and the offsets behind this word.
+fn common<'a>(reader: &mut LongReader<'a>, word: u32) -> Result<Entry<'a>, BlockFault>
+    requires goes_on { word ≢ 0 }
+    requires shape { ext_shape (word / 2 ^ 24) ≡ shapes.Shares }
+    ensures read { IfOk result (λ e. IsExtEntry (entry_of e) × ((before : Unread) →
+        Reads before reader.old (word ∷ []) → Reads before reader.new (ext_text (entry_of e)))) }
+    ensures none { OnErr result ((before : Unread) →
+        Reads before reader.old (word ∷ []) → BeginsWithNoItem IsExtEntry ext_text before.rest) }
+    ensures fault { IfErr result (λ fault. fault ≡ cut reader.old) }
+{
+    let name = read_entry_name(reader, word)?;
+    let value = reader.long()?;
+    let offsets = Longs::of(read_counted(reader)?);
+    Ok(Entry {
+        word,
+        name,
+        value,
+        offsets,
+    })
+}
+
+/// The next entry, or `None` behind the zero that ends the block.
+fn next_entry<'a>(reader: &mut LongReader<'a>) -> Result<Option<Entry<'a>>, BlockFault>
+    ensures read { IfOk result (λ found.
+        ReadsItem IsExtEntry ext_text reader.old reader.new (option_map entry_of found)) }
+    ensures none { OnErr result (BeginsWithNoItem IsExtEntry ext_text reader.old.rest) }
+    ensures fault { IfErr result (λ fault.
+        (fault ≡ cut reader.old) ⊎ (fault.reason ≡ reasons.ExtKind)) }
+{
+    let place = reader.place();
+    let word = reader.long()?;
+    if word == 0 {
+        return Ok(None);
+    }
+    match shape_of(word) {
+        ExtShape::Defines => Ok(Some(definition(reader, word)?)),
+        ExtShape::Refers => Ok(Some(reference(reader, word)?)),
+        ExtShape::Shares => Ok(Some(common(reader, word)?)),
+        ExtShape::Refused => Err(BlockFault {
+            place,
+            reason: Reason::ExtKind,
+        }),
+    }
+}
+
+/// The entries of an EXT block.
+pub(crate) fn read_entries<'a>(
+    alloc: Global,
+    reader: &mut LongReader<'a>,
+) -> Result<Entries<'a>, BlockFault>
+    ensures read { IfOk result (λ entries.
+        AllByRecursion IsExtEntry (map entry_of entries) ×
+        Reads reader.old reader.new (list_text ext_text (map entry_of entries))) }
+    ensures none { IfErr result (λ fault. fault.reason ≢ reasons.OutOfMemory →
+        BeginsWithNo (AllByRecursion IsExtEntry) (list_text ext_text) reader.old.rest) }
+    ensures fault { IfErr result (λ fault.
+        (fault ≡ cut reader.old) ⊎ (fault.reason ≡ reasons.ExtKind) ⊎
+        (fault.reason ≡ reasons.OutOfMemory)) }
+{
+    let mut entries = Vec::new(alloc);
+    'entries: while let Some(entry) = next_entry(reader)? {
+        if entries.push(entry).is_err() {
+            return Err(reader.out_of_memory());
+        }
+    }
+    Ok(Entries::of(entries))
+}

@@ -1,0 +1,53 @@
+//! Reading the groups of a relocation block.
+ghost use Rattle.std.specs.Prelude.{◌≡◌, ◌≢◌, IfErr, IfOk, OnErr, map, ◌⊎◌};
+ghost use Rattle.std.specs.List.{AllByRecursion};
+ghost use Rattle.std.specs.Option.{option_map};
+ghost use Rattle.hunk_words.specs.declared.reason.Reason.TheVariants as reasons;
+ghost use Rattle.hunk_blocks.specs.Values.{IsGroup};
+ghost use Rattle.hunk_blocks.specs.Parts.{group_text, list_text};
+ghost use Rattle.hunk_blocks.specs.Reading.{BeginsWithNo, BeginsWithNoItem, Reads, ReadsItem, cut};
+ghost use Rattle.hunk_blocks.specs.Views.{group_of};
+
+use crate::groups::{Group, Groups};
+use crate::payload::Longs;
+use crate::reading::long_reader::LongReader;
+use hunk_words::BlockFault;
+use std::alloc::Global;
+
+/// The next group, or `None` behind the count 0 that ends the block.
+fn next_group<'a>(reader: &mut LongReader<'a>) -> Result<Option<Group<'a>>, BlockFault>
+    ensures read { IfOk result (λ found.
+        ReadsItem IsGroup group_text reader.old reader.new (option_map group_of found)) }
+    ensures none { OnErr result (BeginsWithNoItem IsGroup group_text reader.old.rest) }
+    ensures fault { IfErr result (λ fault. fault ≡ cut reader.old) }
+{
+    let count = reader.long()?;
+    if count == 0 {
+        return Ok(None);
+    }
+    let target = reader.long()?;
+    let offsets = Longs::of(reader.payload(count)?);
+    Ok(Some(Group { target, offsets }))
+}
+
+/// The groups of a relocation block.
+pub(crate) fn read_groups<'a>(
+    alloc: Global,
+    reader: &mut LongReader<'a>,
+) -> Result<Groups<'a>, BlockFault>
+    ensures read { IfOk result (λ groups.
+        AllByRecursion IsGroup (map group_of groups) ×
+        Reads reader.old reader.new (list_text group_text (map group_of groups))) }
+    ensures none { IfErr result (λ fault. fault.reason ≢ reasons.OutOfMemory →
+        BeginsWithNo (AllByRecursion IsGroup) (list_text group_text) reader.old.rest) }
+    ensures fault { IfErr result (λ fault.
+        (fault ≡ cut reader.old) ⊎ (fault.reason ≡ reasons.OutOfMemory)) }
+{
+    let mut groups = Vec::new(alloc);
+    'groups: while let Some(group) = next_group(reader)? {
+        if groups.push(group).is_err() {
+            return Err(reader.out_of_memory());
+        }
+    }
+    Ok(Groups::of(groups))
+}

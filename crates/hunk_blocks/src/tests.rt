@@ -1,0 +1,35 @@
+//! What no clause says: places and reasons, values and texts from outside, refused memory, a sink
+//! that stops.
+
+mod answers;
+mod memory;
+mod texts;
+mod values;
+mod writing;
+
+use hunk_words::{BlockFault, Reason};
+use std::alloc::{AllocError, Global};
+
+/// Longwords with the number of bytes of their block, or with the place and the reason of a refusal.
+type Row = (&'static [u32], u64, Option<Reason>);
+
+fn wanted(number: u64, reason: Option<Reason>) -> Result<usize, BlockFault> {
+    match reason {
+        None => Ok(number as usize),
+        Some(reason) => Err(BlockFault {
+            place: number,
+            reason,
+        }),
+    }
+}
+
+/// The bytes of the longwords.
+fn spelled(alloc: Global, longs: &[u32]) -> Result<Vec<u8>, AllocError> {
+    let mut bytes = Vec::new(alloc);
+    for long in longs {
+        for byte in long.to_be_bytes() {
+            bytes.push(byte)?;
+        }
+    }
+    Ok(bytes)
+}

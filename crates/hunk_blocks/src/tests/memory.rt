@@ -1,0 +1,76 @@
+//! Blocks while no growth is granted.
+
+use crate::tests::{Row, spelled, wanted};
+use crate::{Block, Mode};
+use hunk_words::{BlockFault, Reason};
+use std::alloc::{AllocError, Global};
+use std::test::Fail;
+
+/// All the memory that the allocator gives, in ever smaller pieces: while they are held, the next
+/// growth is refused.
+fn all_memory(alloc: Global) -> Result<Vec<Vec<u8>>, AllocError> {
+    let mut pieces = Vec::with_capacity(alloc, 60_000)?;
+    let mut size = 1usize << 46;
+    for _ in 0..44u64 {
+        for _ in 0..10_000u64 {
+            match Vec::<u8>::with_capacity(alloc, size) {
+                Ok(piece) => pieces.push(piece)?,
+                Err(_) => break,
+            }
+        }
+        size /= 2;
+    }
+    Ok(pieces)
+}
+
+/// What is answered for the longwords with the first growth refused.
+fn starved(alloc: Global, longs: &[u32]) -> Result<Result<usize, BlockFault>, AllocError> {
+    let bytes = spelled(alloc, longs)?;
+    let pieces = all_memory(alloc)?;
+    let result = match Block::decode(alloc, bytes.as_slice(), Mode::Object) {
+        Ok((_, count)) => Ok(count),
+        Err(fault) => Err(fault),
+    };
+    drop(pieces);
+    Ok(result)
+}
+
+/// Only groups and entries that stand in the input take memory, and no count does.
+const WITHOUT_MEMORY: [Row; 12] = [
+    (&[0x3E8, 1, 0x6100_0000], 12, None),
+    (&[0x3E9, 1, 0x4E75_4E71], 12, None),
+    (&[0x3EA, 1, 0x4E75_4E71], 12, None),
+    (&[0x3EB, 1], 8, None),
+    (&[0x3F1, 1, 7], 12, None),
+    (&[0x3F2], 4, None),
+    (&[0x2000_04D2, 1, 7], 12, None),
+    (&[0x3EC, 0], 8, None),
+    (&[0x3EC, 0xFFFF_FFFF, 0, 1, 2], 20, Some(Reason::Truncated)),
+    (&[0x3F0, 0x00FF_FFFF, 0, 1, 2], 20, Some(Reason::Truncated)),
+    (&[0x3EF, 0x81FF_FFFF, 0, 1, 2], 20, Some(Reason::Truncated)),
+    (
+        &[0x3EF, 0x8100_0000, 0xFFFF_FFFF, 1, 2],
+        20,
+        Some(Reason::Truncated),
+    ),
+];
+
+#[test]
+fn refused_at_the_first_growth(rt: HostRuntime) -> Result<(), Fail> {
+    for (longs, number, reason) in WITHOUT_MEMORY {
+        let want = wanted(number, reason);
+        assert_eq!(rt; starved(rt.alloc(), longs)?, want, "{longs:?}");
+    }
+    let lists = [
+        [0x3EC, 1, 0, 0, 0].as_slice(),
+        [0x3F0, 1, 0x5F6D_0000, 0, 0].as_slice(),
+        [0x3EF, 0x8100_0000, 1, 4, 0].as_slice(),
+    ];
+    for longs in lists {
+        match starved(rt.alloc(), longs)? {
+            Ok(_) => panic!(&rt; "a list without memory"),
+            Err(fault) => assert_eq!(rt; fault.reason, Reason::OutOfMemory),
+        }
+    }
+    Ok(())
+}

@@ -1,0 +1,110 @@
+//! What a block that was read tells.
+
+use crate::tests::spelled;
+use crate::{Block, Body, Mode, Payload};
+use std::test::Fail;
+
+#[test]
+fn of_words_and_sizes(rt: HostRuntime) -> Result<(), Fail> {
+    let rows = [
+        (0x3F2, 0),
+        (0x2000_03F2, 1),
+        (0x4000_03F2, 2),
+        (0x8000_03F2, 4),
+    ];
+    for (word, flags) in rows {
+        let bytes = spelled(rt.alloc(), [word].as_slice())?;
+        let (block, _) = Block::decode(rt.alloc(), bytes.as_slice(), Mode::Load)?;
+        assert_eq!(rt; block.word().flags(), flags);
+        assert_eq!(rt; block.word().word(), word);
+        assert!(rt; matches!(block.body(), Body::End));
+    }
+    let bytes = spelled(rt.alloc(), [0x3EB, 0x8000_0002].as_slice())?;
+    let (block, _) = Block::decode(rt.alloc(), bytes.as_slice(), Mode::Object)?;
+    assert!(rt; matches!(block.body(), Body::Bss { size: 0x8000_0002 }));
+    Ok(())
+}
+
+#[test]
+fn of_payloads(rt: HostRuntime) -> Result<(), Fail> {
+    let bytes = spelled(rt.alloc(), [0x3EA, 0x8000_0001, 0x1234_5678].as_slice())?;
+    let (block, _) = Block::decode(rt.alloc(), bytes.as_slice(), Mode::Load)?;
+    match block.body() {
+        Body::Data { top, payload } => {
+            assert_eq!(rt; *top, 2);
+            assert_eq!(rt; payload.bytes(), [0x12, 0x34, 0x56, 0x78].as_slice());
+        }
+        _ => panic!(&rt; "DATA"),
+    }
+    let payload = Payload::of(b"name".as_slice());
+    assert_eq!(rt; payload.bytes(), b"name".as_slice());
+    Ok(())
+}
+
+#[test]
+fn of_groups_and_symbols(rt: HostRuntime) -> Result<(), Fail> {
+    let bytes = spelled(rt.alloc(), [0x3EC, 2, 1, 8, 4, 1, 0, 12, 0].as_slice())?;
+    let (block, _) = Block::decode(rt.alloc(), bytes.as_slice(), Mode::Load)?;
+    match block.body() {
+        Body::Reloc(groups) => {
+            assert_eq!(rt; groups.len(), 2);
+            let (first, second) = (groups.at(0), groups.at(1));
+            assert_eq!(rt; (first.target, first.offsets.len()), (1, 2));
+            assert_eq!(rt; (first.offsets.at(0), first.offsets.at(1)), (8, 4));
+            assert_eq!(rt; (second.target, second.offsets.len()), (0, 1));
+            assert_eq!(rt; second.offsets.at(0), 12);
+        }
+        _ => panic!(&rt; "RELOC32"),
+    }
+    let bytes = spelled(
+        rt.alloc(),
+        [0x3F0, 0x0500_0001, 0x5F6D_0000, 9, 0].as_slice(),
+    )?;
+    let (block, _) = Block::decode(rt.alloc(), bytes.as_slice(), Mode::Load)?;
+    match block.body() {
+        Body::Symbol(symbols) => {
+            assert_eq!(rt; symbols.len(), 1);
+            let symbol = symbols.at(0);
+            assert_eq!(rt; (symbol.word, symbol.value), (0x0500_0001, 9));
+            assert_eq!(rt; symbol.name.bytes(), b"_m\0\0".as_slice());
+        }
+        _ => panic!(&rt; "SYMBOL"),
+    }
+    Ok(())
+}
+
+#[test]
+fn of_entries(rt: HostRuntime) -> Result<(), Fail> {
+    let longs = [
+        0x3EF,
+        0x8200_0000,
+        8,
+        0,
+        0x8100_0001,
+        0x5F66_0000,
+        1,
+        2,
+        0x0100_0000,
+        5,
+        0,
+    ];
+    let bytes = spelled(rt.alloc(), longs.as_slice())?;
+    let (block, _) = Block::decode(rt.alloc(), bytes.as_slice(), Mode::Object)?;
+    match block.body() {
+        Body::Ext(entries) => {
+            assert_eq!(rt; entries.len(), 3);
+            let (common, reference, definition) = (entries.at(0), entries.at(1), entries.at(2));
+            assert_eq!(rt;
+                (common.word, common.value, common.offsets.len()),
+                (0x8200_0000, 8, 0)
+            );
+            assert_eq!(rt; common.name.bytes(), [].as_slice());
+            assert_eq!(rt; (reference.value, reference.offsets.len()), (0, 1));
+            assert_eq!(rt; reference.offsets.at(0), 2);
+            assert_eq!(rt; reference.name.bytes(), b"_f\0\0".as_slice());
+            assert_eq!(rt; (definition.value, definition.offsets.len()), (5, 0));
+        }
+        _ => panic!(&rt; "EXT"),
+    }
+    Ok(())
+}
