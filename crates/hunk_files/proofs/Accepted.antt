@@ -1,0 +1,206 @@
+-- No longword of a load text is refused.
+use Rattle.std.proofs.Common.{◌≡◌, ◌≢◌, ℕ, ◌+◌, ◌-◌, ◌*◌, ◌^◌, ◌<◌, ◌≤◌, Bool, true, false, ◌||◌, ltb, eqb, List, [], ◌∷◌, ◌++◌, length, map, refl, ◌∙◌, arith, Some, None}
+use Rattle.std.specs.Prelude.{IsTrue, if◌then◌else◌, cond}
+use Rattle.std.specs.List.{flat_map, AllByRecursion}
+use Rattle.std.proofs.lemmas.Bool.{lt-ltb, le-ltb, eq-eqb, ne_eqb}
+use Rattle.std.proofs.lemmas.List.{length-map}
+use Rattle.hunk_words.specs.declared.block_word.Kind.{Kind}
+use Rattle.hunk_words.specs.declared.block_word.Kind.TheVariants as kinds
+use Rattle.hunk_words.specs.declared.reason.Reason.TheVariants as reasons
+use Rattle.hunk_words.specs.Bits.{kind, is_advisory, size_longs, has_both_bits}
+use Rattle.hunk_words.specs.Longs.{IsLong, AreLongs}
+use Rattle.hunk_blocks.specs.Values.{RelocGroup, SymbolEntry, BlockBody, BlockValue, Name, Code, Data, Bss, Reloc, Ext, Symbol, Debug, Advisory, End, FitsWord, IsGroup, IsSymbolEntry, is_unknown}
+use Rattle.hunk_blocks.specs.Parts.{Part, Part as parts, each, group_parts, symbol_parts, body_parts, block_parts}
+use Rattle.hunk_blocks.specs.Modes.{IsOfLoad}
+use Rattle.hunk_files.specs.LoadFile.{TableEntry, LoadFileValue, IsTableEntry, Standing, Beside, Content, Relocating, Ending, standing, is_content, AreInOrder, IsInside, FitsGroup, FitsHunk, IsHunkBlock, IsHunk, IsLoadFile, declared_longs}
+use Rattle.hunk_files.specs.Roles.{Place, InBlock, refuse, refuse_part, refuse_kind, Role as roles}
+use Rattle.hunk_files.specs.LoadText.{entry_labelled, header_labelled, block_labelled, blocks_labelled, hunk_labelled, table, labelled}
+use Rattle.hunk_files.proofs.FileText.{standings, entries_fit}
+use Rattle.hunk_blocks.proofs.Lists.{passes_else, passes_then}
+use Rattle.hunk_files.proofs.Runs.{IsAccepted, AreAccepted}
+
+pub All-append : {A : Type 0} (P : A → Type 0) (xs ys : List A) → AllByRecursion P xs → AllByRecursion P ys → AllByRecursion P (xs ++ ys)
+All-append P [] ys h k = k
+All-append P (x ∷ xs) ys h k = (h.0, All-append P xs ys h.1 k)
+
+pub All-flat_map : {A B : Type 0} (P : A → Type 0) (Q : B → Type 0) (f : A → List B) → ((x : A) → P x → AllByRecursion Q (f x)) → (xs : List A) → AllByRecursion P xs → AllByRecursion Q (flat_map f xs)
+All-flat_map P Q f each [] h = tt
+All-flat_map P Q f each (x ∷ xs) h = All-append Q (f x) (flat_map f xs) (each x h.0) (All-flat_map P Q f each xs h.1)
+
+pub All-map : {A B : Type 0} (P : A → Type 0) (Q : B → Type 0) (f : A → B) → ((x : A) → P x → Q (f x)) → (xs : List A) → AllByRecursion P xs → AllByRecursion Q (map f xs)
+All-map P Q f each [] h = tt
+All-map P Q f each (x ∷ xs) h = (each x h.0, All-map P Q f each xs h.1)
+
+-- ---- the parts of a block
+
+module _ (p : Place) where
+  abbrev pub PartPasses : Part × ℕ → Type 0
+  PartPasses x = IsLong x.1 × (refuse_part p x.0 x.1 ≡ None)
+
+  abbrev pub PartsPass : List (Part × ℕ) → Type 0
+  PartsPass ps = AllByRecursion PartPasses ps
+
+  payload_passes : (ws : List ℕ) → AreLongs ws → PartsPass (each parts.Payload ws)
+  payload_passes ws h = All-map IsLong PartPasses (λ (w : ℕ). (parts.Payload, w)) (λ w l. (l, refl)) ws h
+
+  names_pass : (ws : List ℕ) → AreLongs ws → PartsPass (each parts.EntryName ws)
+  names_pass ws h = All-map IsLong PartPasses (λ (w : ℕ). (parts.EntryName, w)) (λ w l. (l, refl)) ws h
+
+  size_passes : (w : ℕ) → IsLong w → size_longs w ≤ p.longs → PartPasses (parts.ContentSize, w)
+  size_passes w l h = (l, passes_else (ltb p.longs (size_longs w)) (Some reasons.ContentTooLong) None (le-ltb p.longs (size_longs w) h))
+
+  sized_size_passes : (top n : ℕ) → top < 4 → n < 2 ^ 30 → n ≤ p.longs → PartPasses (parts.ContentSize, top * 2 ^ 30 + n)
+  sized_size_passes top n t l h = size_passes (top * 2 ^ 30 + n) (omega arith) (omega arith)
+
+  offset_passes : (w : ℕ) → IsLong w → IsInside p.longs w → PartPasses (parts.Offset, w)
+  offset_passes w l h = (l, passes_else (ltb (4 * p.longs) (w + 4)) (Some reasons.BadOffset) None (le-ltb (4 * p.longs) (w + 4) h))
+
+  offsets_pass : (ws : List ℕ) → AreLongs ws → AllByRecursion (IsInside p.longs) ws → PartsPass (each parts.Offset ws)
+  offsets_pass [] l h = tt
+  offsets_pass (w ∷ ws) l h = (offset_passes w l.0 h.0, offsets_pass ws l.1 h.1)
+
+  target_passes : (w : ℕ) → IsLong w → w < p.hunks → PartPasses (parts.Target, w)
+  target_passes w l h = (l, passes_then (ltb w p.hunks) None (Some reasons.BadTarget) (lt-ltb w p.hunks h))
+
+  some_inside : (ws : List ℕ) → ws ≢ [] → AllByRecursion (IsInside p.longs) ws → p.longs ≡ 0 → ⊥
+  some_inside [] some h e = absurd (some refl)
+  some_inside (w ∷ ws) some h e = omega (arith, h.0)
+
+  group_count_passes : (w : ℕ) → IsLong w → (p.longs ≡ 0 → ⊥) → PartPasses (parts.GroupCount, w)
+  group_count_passes w l h = (l, go (eqb w 0))
+    where
+      go : (b : Bool) → cond b None (cond (eqb p.longs 0) (Some reasons.NothingToRelocate) None) ≡ None
+      go true = refl
+      go false = passes_else (eqb p.longs 0) (Some reasons.NothingToRelocate) None (ne_eqb p.longs 0 h)
+
+  group_passes : (g : RelocGroup) → IsGroup g → FitsGroup p.hunks p.longs g → PartsPass (group_parts g)
+  group_passes g h f =
+      (group_count_passes (length g.offsets) h.offsets.0 (some_inside g.offsets h.some f.1), (target_passes g.target h.target f.0, offsets_pass g.offsets h.offsets.1 f.1))
+
+  groups_pass : (gs : List RelocGroup) → AllByRecursion IsGroup gs → AllByRecursion (FitsGroup p.hunks p.longs) gs → PartsPass (flat_map group_parts gs)
+  groups_pass [] h f = tt
+  groups_pass (g ∷ gs) h f = All-append PartPasses (group_parts g) (flat_map group_parts gs) (group_passes g h.0 f.0) (groups_pass gs h.1 f.1)
+
+  symbol_passes : (s : SymbolEntry) → IsSymbolEntry s → PartsPass (symbol_parts s)
+  symbol_passes s h = ((h.named.fits, refl), All-append PartPasses (each parts.EntryName s.name) ((parts.EntryValue, s.value) ∷ []) (names_pass s.name h.named.longs) ((h.value, refl), tt))
+
+  body_passes : (word : ℕ) (body : BlockBody) → FitsWord word body → IsOfLoad word body → FitsHunk p.hunks p.longs body → PartsPass (body_parts body)
+  body_passes word (Name ws) h m f = ((omega (arith, h.1.0), passes_then (ltb (length ws) (2 ^ 24)) None (Some reasons.NameWord) (lt-ltb (length ws) (2 ^ 24) h.1.0)), payload_passes ws h.1.1)
+  body_passes word (Code top ws) h m f = (sized_size_passes top (length ws) h.1 h.2.0 f, payload_passes ws h.2.1)
+  body_passes word (Data top ws) h m f = (sized_size_passes top (length ws) h.1 h.2.0 f, payload_passes ws h.2.1)
+  body_passes word (Bss size) h m f = (size_passes size h.1 f, tt)
+  body_passes word (Reloc gs) h m f = All-append PartPasses (flat_map group_parts gs) ((parts.GroupCount, 0) ∷ []) (groups_pass gs h.1 f) ((omega arith, refl), tt)
+  body_passes word (Ext es) h m f = absurd m
+  body_passes word (Symbol es) h m f =
+      All-append PartPasses (flat_map symbol_parts es) ((parts.EntryWord, 0) ∷ []) (All-flat_map IsSymbolEntry PartPasses symbol_parts symbol_passes es h.1) ((omega arith, refl), tt)
+  body_passes word (Debug ws) h m f = ((h.1.0, refl), payload_passes ws h.1.1)
+  body_passes word (Advisory ws) h m f = ((h.2.0, refl), payload_passes ws h.2.1)
+  body_passes word End h m f = tt
+
+-- ---- the block word, where the block may stand
+
+not_yet : (has_content : Bool) (later : List Standing) → AreInOrder has_content (Content ∷ later) → has_content ≡ false
+not_yet true later o = absurd o
+not_yet false later o = refl
+
+already : (has_content : Bool) (later : List Standing) → AreInOrder has_content (Relocating ∷ later) → has_content ≡ true
+already true later o = refl
+already false later o = absurd o
+
+at_end : (has_content : Bool) (later : List Standing) → AreInOrder has_content (Ending ∷ later) → has_content ≡ true
+at_end true later o = refl
+at_end false later o = absurd o
+
+unknown_passes : (has_content advisory : Bool) (k : Kind) → IsTrue (is_unknown k) → IsTrue advisory → refuse_kind has_content advisory k ≡ None
+unknown_passes has_content advisory (kinds.Unknown n) u a = passes_then advisory None (Some reasons.UnknownBlock) a
+unknown_passes has_content advisory kinds.Unit u a = absurd cc
+unknown_passes has_content advisory _ u a = absurd cc
+
+kind_passes : (has_content : Bool) (word : ℕ) (body : BlockBody) (later : List Standing) → FitsWord word body → IsOfLoad word body →
+    AreInOrder has_content (standing body ∷ later) → refuse_kind has_content (is_advisory word) (kind word) ≡ None
+kind_passes has_content word (Name ws) later h m o = rw h.0 refl
+kind_passes has_content word (Code top ws) later h m o = rw h.0 (passes_else has_content (Some reasons.SecondContent) None (not_yet has_content later o))
+kind_passes has_content word (Data top ws) later h m o = rw h.0 (passes_else has_content (Some reasons.SecondContent) None (not_yet has_content later o))
+kind_passes has_content word (Bss size) later h m o = rw h.0 (passes_else has_content (Some reasons.SecondContent) None (not_yet has_content later o))
+kind_passes has_content word (Reloc gs) later h m o = rw m (passes_then has_content None (Some reasons.BeforeContent) (already has_content later o))
+kind_passes has_content word (Ext es) later h m o = absurd m
+kind_passes has_content word (Symbol es) later h m o = rw h.0 refl
+kind_passes has_content word (Debug ws) later h m o = rw h.0 refl
+kind_passes has_content word (Advisory ws) later h m o = unknown_passes has_content (is_advisory word) (kind word) h.0 h.1
+kind_passes has_content word End later h m o = rw h (passes_then has_content None (Some reasons.NoContent) (at_end has_content later o))
+
+block_passes : (p : Place) (b : BlockValue) (later : List Standing) → IsHunkBlock p.hunks p.longs b → AreInOrder p.has_content (standing b.body ∷ later) → PartsPass p (block_parts b)
+block_passes p b later h o = (
+  (h.block.word, passes_else (has_both_bits b.word) (Some reasons.BothBits) _ h.block.bits ∙ kind_passes p.has_content b.word b.body later h.block.body h.mode o),
+  body_passes p b.word b.body h.block.body h.mode h.fits,
+)
+
+block_accepted : (p : Place) (b : BlockValue) (later : List Standing) → IsHunkBlock p.hunks p.longs b → AreInOrder p.has_content (standing b.body ∷ later) → AreAccepted (block_labelled p b)
+block_accepted p b later h o = All-map (PartPasses p) IsAccepted (λ (x : Part × ℕ). (InBlock p x.0, x.1)) (λ x k. k) (block_parts b) (block_passes p b later h o)
+
+abbrev place_in : ℕ → ℕ → Bool → Place
+place_in hunks longs has_content = record { hunks = hunks; longs = longs; has_content = has_content }
+
+module _ (hunks longs : ℕ) where
+  abbrev RestPasses : List BlockValue → Type 0
+  RestPasses more = (has_content : Bool) → AreInOrder has_content (standings more) → AreAccepted (blocks_labelled hunks longs has_content more)
+
+  rest_passes : (s : Standing) (has_content : Bool) (more : List BlockValue) → AreInOrder has_content (s ∷ standings more) → RestPasses more → AreAccepted (blocks_labelled hunks longs (has_content || is_content s) more)
+  rest_passes Beside true more o rest = rest true o
+  rest_passes Beside false more o rest = rest false o
+  rest_passes Content true more o rest = absurd o
+  rest_passes Content false more o rest = rest true o
+  rest_passes Relocating true more o rest = rest true o
+  rest_passes Relocating false more o rest = absurd o
+  rest_passes Ending true [] o rest = tt
+  rest_passes Ending true (c ∷ more) o rest = absurd cc
+  rest_passes Ending false more o rest = absurd o
+
+  blocks_accepted : (more : List BlockValue) → AllByRecursion (IsHunkBlock hunks longs) more → RestPasses more
+  blocks_accepted [] h has_content o = tt
+  blocks_accepted (b ∷ more) h has_content o =
+      All-append IsAccepted (block_labelled (place_in hunks longs has_content) b) (blocks_labelled hunks longs (has_content || is_content (standing b.body)) more)
+      (block_accepted (place_in hunks longs has_content) b (standings more) h.0 o)
+      (rest_passes (standing b.body) has_content more o (λ has order. blocks_accepted more h.1 has order))
+
+-- ---- the header
+
+entry_accepted : (e : TableEntry) → IsTableEntry e → AreAccepted (entry_labelled e)
+entry_accepted e h = ((h.0, refl), go (has_both_bits e.word))
+  where
+    go : (b : Bool) → AreAccepted (if b then (roles.Attributes, e.extra) ∷ [] else [])
+    go true = ((h.1, refl), tt)
+    go false = tt
+
+count_accepted : (n : ℕ) → 0 < n → n ≤ 65536 → refuse roles.TableSize n ≡ None
+count_accepted n some most =
+    passes_else (eqb n 0) (Some reasons.NoHunks) _ (ne_eqb n 0 (omega arith)) ∙ passes_else (ltb 65536 n) (Some reasons.TooManyHunks) None (le-ltb 65536 n most)
+
+last_accepted : (n : ℕ) → 0 < n → refuse (roles.LastHunk n) (n - 1) ≡ None
+last_accepted n some = passes_then (eqb (n - 1 + 1) n) None (Some reasons.LastHunk) (eq-eqb (n - 1 + 1) n (omega arith))
+
+header_accepted : (t : List TableEntry) → 0 < length t → length t ≤ 65536 → AllByRecursion IsTableEntry t → AreAccepted (header_labelled t)
+header_accepted t some most h = (
+  (omega arith, refl),
+  (
+    (omega arith, refl),
+    (
+      (omega arith, count_accepted (length t) some most),
+      (
+        (omega arith, refl),
+        (
+          (omega arith, last_accepted (length t) some),
+          All-flat_map IsTableEntry IsAccepted entry_labelled entry_accepted t h,
+        ),
+      ),
+    ),
+  ),
+)
+
+-- No longword of a load text is refused at its role.
+pub labelled_accepted : (v : LoadFileValue) → IsLoadFile v → AreAccepted (labelled v)
+unfolding labelled
+labelled_accepted v h =
+    All-append IsAccepted (header_labelled (table v)) (flat_map (hunk_labelled (length v)) v)
+    (header_accepted (table v) (omega (arith, h.some, length-map v (λ x. x.entry))) (omega (arith, h.most, length-map v (λ x. x.entry))) (entries_fit (length v) v h.each))
+    (All-flat_map (IsHunk (length v)) IsAccepted (hunk_labelled (length v)) (λ x k. blocks_accepted (length v) (declared_longs x) x.blocks k.blocks false k.order) v h.each)

@@ -1,0 +1,323 @@
+-- What has been read of a load file is the text up to there, and it fits as long as no longword was refused.
+use Rattle.std.proofs.Common.{◌≡◌, ℕ, zero, suc, ◌+◌, ◌-◌, ◌<◌, ◌≤◌, Bool, true, false, ◌||◌, ltb, eqb, List, [], ◌∷◌, ◌++◌, length, refl, sym, ap, subst, ◌∙◌, append_assoc, append-nil, arith, Some, None}
+use Rattle.std.specs.Prelude.{IsTrue, cond}
+use Rattle.std.specs.List.{flat_map, AllByRecursion}
+use Rattle.std.proofs.lemmas.Bool.{ltb-false, eqb-true, eqb-false}
+use Rattle.std.proofs.lemmas.List.{length-map}
+use Rattle.hunk_words.specs.declared.block_word.Kind.{Kind}
+use Rattle.hunk_words.specs.declared.block_word.Kind.TheVariants as kinds
+use Rattle.hunk_words.specs.declared.reason.Reason.TheVariants as reasons
+use Rattle.hunk_words.specs.Bits.{kind, is_advisory, size_longs, has_both_bits}
+use Rattle.hunk_words.specs.Longs.{IsLong}
+use Rattle.hunk_blocks.specs.Values.{BlockBody, BlockValue, Name, Code, Data, Bss, Reloc, Ext, Symbol, Debug, Advisory, End}
+use Rattle.hunk_blocks.specs.Parts.{Part, Part as parts}
+use Rattle.hunk_files.specs.LoadFile.{TableEntry, HunkValue, IsTableEntry, Standing, Content, Relocating, Ending, standing, is_content, AreInOrder, IsHunkBlock, IsHunk, IsLoadFile}
+use Rattle.hunk_files.specs.Roles.{Place, Role, InBlock, refuse, refuse_part, refuse_kind, Role as roles}
+use Rattle.hunk_files.specs.LoadText.{entry_labelled, block_labelled, blocks_labelled, hunk_labelled, labelled}
+use Rattle.hunk_blocks.proofs.BlockSteps.{BlockNext, Open, Whole, part_of, step_inside, begin}
+use Rattle.hunk_blocks.proofs.BlockProgress.{read_inside, read_next, step_reads, begin_reads}
+use Rattle.hunk_files.proofs.HunkProgress.{BodyFits, begin_fits, step_fits, alone_passes}
+use Rattle.hunk_files.proofs.HunkProgress as blocks
+use Rattle.hunk_files.proofs.FileText.{in_place, standings, entries}
+use Rattle.hunk_files.proofs.FileSteps.{table_entry, hunk, block, OpenHunk, Progress, AtFirst, AtResident, AtTableSize, AtFirstHunk, AtLastHunk, AtSizeWord, AtAttributes, AtBlock, InBody, Next, More, Finished, place_of, role_of, open_hunk, rows, with_block, close, after, sized_row, step}
+use Rattle.hunk_blocks.proofs.Lists.{All-more, map-more, flat_map-more, more_owed, passed_false, passed_true, passed_both, passes_else, passes_then}
+
+abbrev Labelled : Type 0
+Labelled = List (Role × ℕ)
+
+-- ---- the text so far
+
+abbrev pub header_so_far : ℕ → List TableEntry → List (Role × ℕ)
+header_so_far hunks done =
+    (roles.FirstLong, 0x3F3) ∷ (roles.ResidentName, 0) ∷ (roles.TableSize, hunks) ∷ (roles.FirstHunk, 0) ∷ (roles.LastHunk hunks, hunks - 1)
+    ∷ flat_map entry_labelled done
+
+-- the header, and the hunks that are whole
+abbrev pub front : ℕ → List TableEntry → List HunkValue → List (Role × ℕ)
+front hunks t finished = header_so_far hunks t ++ flat_map (hunk_labelled hunks) finished
+
+abbrev pub open_so_far : OpenHunk → List (Role × ℕ)
+open_so_far o =
+    front o.hunks (entries o.finished ++ o.entry ∷ o.ahead) o.finished ++ blocks_labelled o.hunks (size_longs o.entry.word) false o.blocks
+
+abbrev pub read_progress : Progress → List (Role × ℕ)
+read_progress AtFirst = []
+read_progress AtResident = (roles.FirstLong, 0x3F3) ∷ []
+read_progress AtTableSize = (roles.FirstLong, 0x3F3) ∷ (roles.ResidentName, 0) ∷ []
+read_progress (AtFirstHunk hunks) = (roles.FirstLong, 0x3F3) ∷ (roles.ResidentName, 0) ∷ (roles.TableSize, hunks) ∷ []
+read_progress (AtLastHunk hunks) = (roles.FirstLong, 0x3F3) ∷ (roles.ResidentName, 0) ∷ (roles.TableSize, hunks) ∷ (roles.FirstHunk, 0) ∷ []
+read_progress (AtSizeWord hunks done owed) = header_so_far hunks done
+read_progress (AtAttributes hunks done word owed) = header_so_far hunks done ++ (roles.SizeWord, word) ∷ []
+read_progress (AtBlock o) = open_so_far o
+read_progress (InBody o word x) = open_so_far o ++ in_place (place_of o) ((parts.BlockWord, word) ∷ read_inside x)
+
+abbrev pub read : Next → List (Role × ℕ)
+read (More p) = read_progress p
+read (Finished v) = labelled v
+
+-- whether the content block is among the blocks
+abbrev pub content_in : Bool → List BlockValue → Bool
+content_in has_content [] = has_content
+content_in has_content (b ∷ more) = content_in (has_content || is_content (standing b.body)) more
+
+abbrev pub place_in : ℕ → ℕ → Bool → Place
+place_in hunks longs has_content = record { hunks = hunks; longs = longs; has_content = has_content }
+
+blocks-more : (hunks longs : ℕ) (has_content : Bool) (bs : List BlockValue) (b : BlockValue) →
+    blocks_labelled hunks longs has_content (bs ++ b ∷ []) ≡ blocks_labelled hunks longs has_content bs ++ block_labelled (place_in hunks longs (content_in has_content bs)) b
+blocks-more hunks longs has_content [] b = append-nil (block_labelled (place_in hunks longs has_content) b)
+blocks-more hunks longs has_content (c ∷ bs) b =
+    ap (λ (l : Labelled). block_labelled (place_in hunks longs has_content) c ++ l) (blocks-more hunks longs (has_content || is_content (standing c.body)) bs b)
+    ∙ sym (append_assoc (block_labelled (place_in hunks longs has_content) c) (blocks_labelled hunks longs (has_content || is_content (standing c.body)) bs) _)
+
+content_in-more : (has_content : Bool) (bs : List BlockValue) (b : BlockValue) → content_in has_content (bs ++ b ∷ []) ≡ content_in has_content bs || is_content (standing b.body)
+content_in-more has_content [] b = refl
+content_in-more has_content (c ∷ bs) b = content_in-more (has_content || is_content (standing c.body)) bs b
+
+-- ---- what fits so far
+
+abbrev pub HunksFit : ℕ → Type 0
+HunksFit hunks = (0 < hunks) × (hunks ≤ 65536)
+
+pub record RowsFit (hunks : ℕ) (done : List TableEntry) (owed : ℕ) : Type 0 where
+  pub hunks_fit : HunksFit hunks
+  pub counts : length done + owed ≡ hunks
+  pub rows_fit : AllByRecursion IsTableEntry done
+
+pub record FrontFits (hunks : ℕ) (finished : List HunkValue) (ahead : List TableEntry) : Type 0 where
+  pub hunks_fit : HunksFit hunks
+  pub counts : length finished + length ahead ≡ hunks
+  pub finished_fit : AllByRecursion (IsHunk hunks) finished
+  pub ahead_fit : AllByRecursion IsTableEntry ahead
+
+pub record OpenFits (o : OpenHunk) : Type 0 where
+  pub front_fits : FrontFits o.hunks o.finished (o.entry ∷ o.ahead)
+  pub blocks_fit : AllByRecursion (IsHunkBlock o.hunks (size_longs o.entry.word)) o.blocks
+  pub content_is : o.has_content ≡ content_in false o.blocks
+  pub in_order : (later : List Standing) → AreInOrder o.has_content later → AreInOrder false (standings o.blocks ++ later)
+
+abbrev pub IsAdmitted : OpenHunk → ℕ → Type 0
+IsAdmitted o word = IsLong word × (refuse_part (place_of o) parts.BlockWord word ≡ None)
+
+abbrev pub ProgressFits : Progress → Type 0
+ProgressFits AtFirst = Unit {0}
+ProgressFits AtResident = Unit {0}
+ProgressFits AtTableSize = Unit {0}
+ProgressFits (AtFirstHunk hunks) = HunksFit hunks
+ProgressFits (AtLastHunk hunks) = HunksFit hunks
+ProgressFits (AtSizeWord hunks done owed) = RowsFit hunks done (suc owed)
+ProgressFits (AtAttributes hunks done word owed) = RowsFit hunks done (suc owed) × IsLong word × IsTrue (has_both_bits word)
+ProgressFits (AtBlock o) = OpenFits o
+ProgressFits (InBody o word x) = OpenFits o × IsAdmitted o word × blocks.Fits (place_of o) word x
+
+-- Both at once: what has been read fits, and is this text.
+abbrev pub NextFits : Next → Type 0
+NextFits (More p) = ProgressFits p
+NextFits (Finished v) = IsLoadFile v
+
+abbrev pub Reads : Next → List (Role × ℕ) → Type 0
+Reads n ls = NextFits n × (read n ≡ ls)
+
+Reads-as : (n : Next) {ls ms : Labelled} → ls ≡ ms → Reads n ls → Reads n ms
+Reads-as n e h = (h.0, h.1 ∙ e)
+
+finished_reads : (hunks : ℕ) (finished : List HunkValue) → length finished ≡ hunks → labelled finished ≡ front hunks (entries finished) finished
+unfolding labelled
+finished_reads hunks finished e =
+    ap (λ (n : ℕ). header_so_far n (entries finished) ++ flat_map (hunk_labelled (length finished)) finished) (length-map finished (λ h. h.entry))
+    ∙ ap (λ (n : ℕ). front n (entries finished) finished) e
+
+open_hunk_reads : (hunks : ℕ) (finished : List HunkValue) (ahead : List TableEntry) → FrontFits hunks finished ahead → Reads (open_hunk hunks finished ahead) (front hunks (entries finished ++ ahead) finished)
+open_hunk_reads hunks finished [] h = (
+  go hunks (omega (arith, h.counts)) h.hunks_fit h.finished_fit,
+  finished_reads hunks finished (omega (arith, h.counts)) ∙ ap (λ (t : List TableEntry). front hunks t finished) (sym (append-nil (entries finished))),
+)
+  where
+    go : (n : ℕ) → length finished ≡ n → HunksFit n → AllByRecursion (IsHunk n) finished → IsLoadFile finished
+    go n e f all = record { some = omega (arith, f.0); most = omega (arith, f.1); each = subst (λ (m : ℕ). AllByRecursion (IsHunk m) finished) (sym e) all }
+open_hunk_reads hunks finished (e ∷ ahead) h =
+    (record { front_fits = h; blocks_fit = tt; content_is = refl; in_order = λ later o. o }, append-nil (front hunks (entries finished ++ e ∷ ahead) finished))
+
+rows_read : (hunks : ℕ) (done : List TableEntry) (owed : ℕ) → RowsFit hunks done owed → Reads (rows hunks done owed) (header_so_far hunks done)
+rows_read hunks done zero h =
+    Reads-as (open_hunk hunks [] done) (append-nil (header_so_far hunks done))
+    (open_hunk_reads hunks [] done (record { hunks_fit = h.hunks_fit; counts = omega (arith, h.counts); finished_fit = tt; ahead_fit = h.rows_fit }))
+rows_read hunks done (suc owed) h = (h, refl)
+
+-- ---- a block that is whole
+
+pub or_false : (b : Bool) → b || false ≡ b
+or_false true = refl
+or_false false = refl
+
+pub or_true : (b : Bool) → b || true ≡ true
+or_true true = refl
+or_true false = refl
+
+-- the blocks with one more
+module _ (o : OpenHunk) (h : OpenFits o) (b : BlockValue) (fits : IsHunkBlock o.hunks (size_longs o.entry.word) b) where
+  one_more_reads : blocks_labelled o.hunks (size_longs o.entry.word) false (o.blocks ++ b ∷ []) ≡ blocks_labelled o.hunks (size_longs o.entry.word) false o.blocks ++ block_labelled (place_of o) b
+  one_more_reads =
+      blocks-more o.hunks (size_longs o.entry.word) false o.blocks b
+      ∙ ap (λ (c : Bool). blocks_labelled o.hunks (size_longs o.entry.word) false o.blocks ++ block_labelled (place_in o.hunks (size_longs o.entry.word) c) b) (sym h.content_is)
+
+  still_open : (has_content : Bool) → has_content ≡ o.has_content || is_content (standing b.body) →
+      ((later : List Standing) → AreInOrder has_content later → AreInOrder o.has_content (standing b.body ∷ later)) →
+      Reads (More (AtBlock (with_block o b has_content))) (open_so_far o ++ block_labelled (place_of o) b)
+  still_open has_content e order = (
+    record {
+      front_fits = h.front_fits;
+      blocks_fit = All-more (IsHunkBlock o.hunks (size_longs o.entry.word)) o.blocks b h.blocks_fit fits;
+      content_is = e ∙ ap (λ (c : Bool). c || is_content (standing b.body)) h.content_is ∙ sym (content_in-more false o.blocks b);
+      in_order = λ later ok. subst (λ (s : List Standing). AreInOrder false s) (sym (in_standings later)) (h.in_order (standing b.body ∷ later) (order later ok));
+    },
+    ap (λ (l : Labelled). front o.hunks (entries o.finished ++ o.entry ∷ o.ahead) o.finished ++ l) one_more_reads
+        ∙ sym (append_assoc (front o.hunks (entries o.finished ++ o.entry ∷ o.ahead) o.finished) (blocks_labelled o.hunks (size_longs o.entry.word) false o.blocks) (block_labelled (place_of o) b)),
+  )
+    where
+      in_standings : (later : List Standing) → standings (o.blocks ++ b ∷ []) ++ later ≡ standings o.blocks ++ standing b.body ∷ later
+      in_standings later = ap (λ (s : List Standing). s ++ later) (map-more (λ (c : BlockValue). standing c.body) o.blocks b) ∙ append_assoc (standings o.blocks) (standing b.body ∷ []) later
+
+  now_whole : AreInOrder o.has_content (standing b.body ∷ []) →
+      Reads (open_hunk o.hunks (o.finished ++ hunk o.entry (o.blocks ++ b ∷ []) ∷ []) o.ahead) (open_so_far o ++ block_labelled (place_of o) b)
+  now_whole order =
+      Reads-as (open_hunk o.hunks (o.finished ++ x ∷ []) o.ahead)
+      (ap (λ (t : List TableEntry). front o.hunks t (o.finished ++ x ∷ [])) same_table
+      ∙ ap (λ (l : Labelled). header_so_far o.hunks t ++ l) (flat_map-more (hunk_labelled o.hunks) o.finished x)
+      ∙ sym (append_assoc (header_so_far o.hunks t) (flat_map (hunk_labelled o.hunks) o.finished) (hunk_labelled o.hunks x))
+      ∙ ap (λ (l : Labelled). front o.hunks t o.finished ++ l) one_more_reads
+      ∙ sym (append_assoc (front o.hunks t o.finished) (blocks_labelled o.hunks (size_longs o.entry.word) false o.blocks) (block_labelled (place_of o) b)))
+      (open_hunk_reads o.hunks (o.finished ++ x ∷ []) o.ahead
+      (record {
+        hunks_fit = h.front_fits.hunks_fit;
+        counts = more_owed o.finished x (length o.ahead) ∙ h.front_fits.counts;
+        finished_fit = All-more (IsHunk o.hunks) o.finished x h.front_fits.finished_fit whole;
+        ahead_fit = h.front_fits.ahead_fit.1;
+      }))
+    where
+      x : HunkValue
+      x = hunk o.entry (o.blocks ++ b ∷ [])
+
+      t : List TableEntry
+      t = entries o.finished ++ o.entry ∷ o.ahead
+
+      same_table : entries (o.finished ++ x ∷ []) ++ o.ahead ≡ t
+      same_table = ap (λ (es : List TableEntry). es ++ o.ahead) (map-more (λ (y : HunkValue). y.entry) o.finished x) ∙ append_assoc (entries o.finished) (o.entry ∷ []) o.ahead
+
+      whole : IsHunk o.hunks x
+      whole = record {
+        entry = h.front_fits.ahead_fit.0;
+        blocks = All-more (IsHunkBlock o.hunks (size_longs o.entry.word)) o.blocks b h.blocks_fit fits;
+        order = subst (λ (s : List Standing). AreInOrder false s) (sym (map-more (λ (c : BlockValue). standing c.body) o.blocks b)) (h.in_order (standing b.body ∷ []) order);
+      }
+
+pub kind_admitted : (o : OpenHunk) (word : ℕ) → IsAdmitted o word → (has_both_bits word ≡ false) × (refuse_kind o.has_content (is_advisory word) (kind word) ≡ None)
+kind_admitted o word a = passed_both (has_both_bits word) reasons.BothBits (refuse_kind o.has_content (is_advisory word) (kind word)) a.1
+
+block_fits : (o : OpenHunk) (word : ℕ) (body : BlockBody) → IsAdmitted o word → BodyFits (place_of o) word body → IsHunkBlock o.hunks (size_longs o.entry.word) (block word body)
+block_fits o word body a f = record { block = record { word = a.0; bits = (kind_admitted o word a).0; body = f.fits_word }; mode = f.of_load; fits = f.fits_hunk }
+
+kind_is : (o : OpenHunk) (word : ℕ) (k : Kind) → IsAdmitted o word → kind word ≡ k → refuse_kind o.has_content (is_advisory word) k ≡ None
+kind_is o word k a e = subst (λ (x : Kind). refuse_kind o.has_content (is_advisory word) x ≡ None) e (kind_admitted o word a).1
+
+content_order : (has_content : Bool) → has_content ≡ false → (later : List Standing) → AreInOrder true later → AreInOrder has_content (Content ∷ later)
+content_order true e later ok = absurd cc
+content_order false e later ok = ok
+
+reloc_order : (has_content : Bool) → has_content ≡ true → (later : List Standing) → AreInOrder has_content later → AreInOrder has_content (Relocating ∷ later)
+reloc_order true e later ok = ok
+reloc_order false e later ok = absurd cc
+
+end_order : (has_content : Bool) → has_content ≡ true → AreInOrder has_content (Ending ∷ [])
+end_order true e = refl
+end_order false e = absurd cc
+
+close_reads : (o : OpenHunk) (word : ℕ) (body : BlockBody) → OpenFits o → IsAdmitted o word → BodyFits (place_of o) word body →
+    Reads (close o (block word body)) (open_so_far o ++ block_labelled (place_of o) (block word body))
+close_reads o word (Name ws) h a f = still_open o h (block word (Name ws)) (block_fits o word (Name ws) a f) o.has_content (sym (or_false o.has_content)) (λ later ok. ok)
+close_reads o word (Code top ws) h a f =
+    still_open o h (block word (Code top ws)) (block_fits o word (Code top ws) a f) true (sym (or_true o.has_content)) (content_order o.has_content (passed_false o.has_content reasons.SecondContent (kind_is o word kinds.Code a f.fits_word.0)))
+close_reads o word (Data top ws) h a f =
+    still_open o h (block word (Data top ws)) (block_fits o word (Data top ws) a f) true (sym (or_true o.has_content)) (content_order o.has_content (passed_false o.has_content reasons.SecondContent (kind_is o word kinds.Data a f.fits_word.0)))
+close_reads o word (Bss size) h a f =
+    still_open o h (block word (Bss size)) (block_fits o word (Bss size) a f) true (sym (or_true o.has_content)) (content_order o.has_content (passed_false o.has_content reasons.SecondContent (kind_is o word kinds.Bss a f.fits_word.0)))
+close_reads o word (Reloc gs) h a f =
+    still_open o h (block word (Reloc gs)) (block_fits o word (Reloc gs) a f) o.has_content (sym (or_false o.has_content)) (reloc_order o.has_content (passed_true o.has_content reasons.BeforeContent (kind_is o word kinds.Reloc32 a f.of_load)))
+close_reads o word (Ext es) h a f = absurd f.of_load
+close_reads o word (Symbol es) h a f = still_open o h (block word (Symbol es)) (block_fits o word (Symbol es) a f) o.has_content (sym (or_false o.has_content)) (λ later ok. ok)
+close_reads o word (Debug ws) h a f = still_open o h (block word (Debug ws)) (block_fits o word (Debug ws) a f) o.has_content (sym (or_false o.has_content)) (λ later ok. ok)
+close_reads o word (Advisory ws) h a f = still_open o h (block word (Advisory ws)) (block_fits o word (Advisory ws) a f) o.has_content (sym (or_false o.has_content)) (λ later ok. ok)
+close_reads o word End h a f =
+    now_whole o h (block word End) (block_fits o word End a f) (end_order o.has_content (passed_true o.has_content reasons.NoContent (kind_is o word kinds.End a f.fits_word)))
+
+after_reads : (o : OpenHunk) (word : ℕ) (n : BlockNext) → OpenFits o → IsAdmitted o word → blocks.NextFits (place_of o) word n →
+    Reads (after o word n) (open_so_far o ++ in_place (place_of o) ((parts.BlockWord, word) ∷ read_next n))
+after_reads o word (Open x) h a f = ((h, a, f), refl)
+after_reads o word (Whole body) h a f = close_reads o word body h a f
+
+-- ---- every step
+
+row_added : (hunks : ℕ) (done : List TableEntry) (e : TableEntry) (owed : ℕ) → RowsFit hunks done (suc owed) → IsTableEntry e → Reads (rows hunks (done ++ e ∷ []) owed) (header_so_far hunks done ++ entry_labelled e)
+row_added hunks done e owed h fits =
+    Reads-as (rows hunks (done ++ e ∷ []) owed)
+    (ap (λ (l : Labelled). (roles.FirstLong, 0x3F3) ∷ (roles.ResidentName, 0) ∷ (roles.TableSize, hunks) ∷ (roles.FirstHunk, 0) ∷ (roles.LastHunk hunks, hunks - 1) ∷ l) (flat_map-more entry_labelled done e))
+    (rows_read hunks (done ++ e ∷ []) owed (record { hunks_fit = h.hunks_fit; counts = more_owed done e owed ∙ h.counts; rows_fit = All-more IsTableEntry done e h.rows_fit fits }))
+
+size_word_reads : (hunks : ℕ) (done : List TableEntry) (w owed : ℕ) (b : Bool) → has_both_bits w ≡ b → RowsFit hunks done (suc owed) → IsLong w →
+    Reads (sized_row hunks done w owed b) (header_so_far hunks done ++ (roles.SizeWord, w) ∷ [])
+size_word_reads hunks done w owed true e h l = ((h, l, e), refl)
+size_word_reads hunks done w owed false e h l =
+    Reads-as (rows hunks (done ++ table_entry w 0 ∷ []) owed)
+    (ap (λ (m : Labelled). header_so_far hunks done ++ (roles.SizeWord, w) ∷ m) (passes_else (has_both_bits w) ((roles.Attributes, 0) ∷ []) [] e))
+    (row_added hunks done (table_entry w 0) owed h (l, omega arith, λ x. refl))
+
+attributes_read : (hunks : ℕ) (done : List TableEntry) (word w owed : ℕ) → RowsFit hunks done (suc owed) → IsLong word → has_both_bits word ≡ true → IsLong w →
+    Reads (rows hunks (done ++ table_entry word w ∷ []) owed) ((header_so_far hunks done ++ (roles.SizeWord, word) ∷ []) ++ (roles.Attributes, w) ∷ [])
+attributes_read hunks done word w owed h l e k =
+    Reads-as (rows hunks (done ++ table_entry word w ∷ []) owed)
+    (ap (λ (m : Labelled). header_so_far hunks done ++ (roles.SizeWord, word) ∷ m) (passes_then (has_both_bits word) ((roles.Attributes, w) ∷ []) [] e)
+    ∙ sym (append_assoc (header_so_far hunks done) ((roles.SizeWord, word) ∷ []) ((roles.Attributes, w) ∷ [])))
+    (row_added hunks done (table_entry word w) owed h (l, k, λ x. absurd cc))
+
+pub zero_or_limit : (w : ℕ) → refuse roles.TableSize w ≡ None → HunksFit w
+zero_or_limit w ok =
+    let parts = passed_both (eqb w 0) reasons.NoHunks (cond (ltb 65536 w) (Some reasons.TooManyHunks) None) ok in
+    let above : w ≡ 0 → ⊥ = eqb-false w 0 parts.0 in
+    (omega arith, ltb-false 65536 w (passed_false (ltb 65536 w) reasons.TooManyHunks parts.1))
+
+first_passes : {A : Type 0} (a b c : Bool) (r s t : A) → cond a None (cond b (Some r) (cond c (Some s) (Some t))) ≡ None → a ≡ true
+first_passes true b c r s t e = refl
+first_passes false true c r s t e = absurd cc
+first_passes false false true r s t e = absurd cc
+first_passes false false false r s t e = absurd cc
+
+is_header_word : (w : ℕ) → refuse roles.FirstLong w ≡ None → 0x3F3 ≡ w
+is_header_word w ok = sym (eqb-true w 0x3F3 (first_passes (eqb w 0x3F3) (eqb w 0x3E7) (eqb w 0x3FA) reasons.IsObject reasons.Library reasons.NotLoadFile ok))
+
+is_zero : {A : Type 0} (w : ℕ) (r : A) → cond (eqb w 0) None (Some r) ≡ None → 0 ≡ w
+is_zero w r ok = sym (eqb-true w 0 (passed_true (eqb w 0) r ok))
+
+last_hunk_reads : (hunks w : ℕ) → HunksFit hunks → w + 1 ≡ hunks → Reads (rows hunks [] hunks) (read_progress (AtLastHunk hunks) ++ (roles.LastHunk hunks, w) ∷ [])
+last_hunk_reads hunks w h e =
+    Reads-as (rows hunks [] hunks)
+    (ap (λ (n : ℕ). read_progress (AtLastHunk hunks) ++ (roles.LastHunk hunks, n) ∷ []) (omega arith))
+    (rows_read hunks [] hunks (record { hunks_fit = h; counts = omega arith; rows_fit = tt }))
+
+-- A longword that is not refused leads on to what it adds to the text.
+pub step_keeps : (p : Progress) (w : ℕ) → ProgressFits p → IsLong w → refuse (role_of p) w ≡ None → Reads (step p w) (read_progress p ++ (role_of p, w) ∷ [])
+step_keeps AtFirst w h l ok = (tt, ap (λ (n : ℕ). (roles.FirstLong, n) ∷ []) (is_header_word w ok))
+step_keeps AtResident w h l ok = (tt, ap (λ (n : ℕ). read_progress AtResident ++ (roles.ResidentName, n) ∷ []) (is_zero w reasons.Resident ok))
+step_keeps AtTableSize w h l ok = (zero_or_limit w ok, refl)
+step_keeps (AtFirstHunk hunks) w h l ok = (h, ap (λ (n : ℕ). read_progress (AtFirstHunk hunks) ++ (roles.FirstHunk, n) ∷ []) (is_zero w reasons.FirstHunk ok))
+step_keeps (AtLastHunk hunks) w h l ok = last_hunk_reads hunks w h (eqb-true (w + 1) hunks (passed_true (eqb (w + 1) hunks) reasons.LastHunk ok))
+step_keeps (AtSizeWord hunks done owed) w h l ok = size_word_reads hunks done w owed (has_both_bits w) refl h l
+step_keeps (AtAttributes hunks done word owed) w h l ok = attributes_read hunks done word w owed h.0 h.1 h.2 l
+step_keeps (AtBlock o) w h l ok =
+    Reads-as (after o w (begin (kind w))) (ap (λ (ps : List (Part × ℕ)). open_so_far o ++ in_place (place_of o) ((parts.BlockWord, w) ∷ ps)) (begin_reads (kind w)))
+    (after_reads o w (begin (kind w)) h (l, ok) (begin_fits (place_of o) w (kind w) refl (kind_admitted o w (l, ok)).1))
+step_keeps (InBody o word x) w h l ok =
+    Reads-as (after o word (step_inside x w))
+    (ap (λ (ps : List (Part × ℕ)). open_so_far o ++ in_place (place_of o) ((parts.BlockWord, word) ∷ ps)) (step_reads word x w h.2.0 (alone_passes (place_of o) word x w h.2.1 ok))
+    ∙ ap (λ (ls : Labelled). open_so_far o ++ (InBlock (place_of o) parts.BlockWord, word) ∷ ls) (map-more (λ (y : Part × ℕ). (InBlock (place_of o) y.0, y.1)) (read_inside x) (part_of x, w))
+    ∙ sym (append_assoc (open_so_far o) (in_place (place_of o) ((parts.BlockWord, word) ∷ read_inside x)) ((InBlock (place_of o) (part_of x), w) ∷ [])))
+    (after_reads o word (step_inside x w) h.0 h.1 (step_fits (place_of o) word x w h.2 l ok))

@@ -1,0 +1,132 @@
+-- The text of a load file leads from the start to its value.
+use Rattle.std.proofs.Common.{◌≡◌, ℕ, Bool, true, false, ◌||◌, List, [], ◌∷◌, ◌++◌, length, map, refl, sym, ap, subst, append_assoc, append-nil}
+use Rattle.std.proofs.lemmas.List.{length-map}
+use Rattle.std.specs.Prelude.{if◌then◌else◌}
+use Rattle.std.specs.List.{flat_map, AllByRecursion}
+use Rattle.hunk_words.specs.Bits.{kind, has_both_bits, size_longs}
+use Rattle.hunk_blocks.specs.Values.{BlockValue}
+use Rattle.hunk_blocks.specs.Parts.{Part, body_parts}
+use Rattle.hunk_files.specs.LoadFile.{TableEntry, HunkValue, LoadFileValue, IsTableEntry, Standing, Beside, Content, Relocating, Ending, standing, is_content, AreInOrder, IsHunkBlock, IsHunk, IsLoadFile}
+use Rattle.hunk_files.specs.Roles.{Place, Role, InBlock, Role as roles}
+use Rattle.hunk_files.specs.LoadText.{entry_labelled, header_labelled, block_labelled, blocks_labelled, hunk_labelled, table, labelled}
+use Rattle.hunk_blocks.proofs.BlockSteps.{BlockNext, Open, Whole, step_inside, begin, Follows}
+use Rattle.hunk_blocks.proofs.BlockText.{body_follows}
+use Rattle.hunk_files.proofs.FileSteps.{table_entry, hunk, OpenHunk, AtFirst, AtSizeWord, AtBlock, Next, More, Finished, place_of, open_hunk, rows, close_by, close, after, sized_row, step, Leads}
+
+pub Leads-append : (a b c : Next) (ls ms : List (Role × ℕ)) → Leads a ls b → Leads b ms c → Leads a (ls ++ ms) c
+Leads-append a b c [] ms h k = subst (λ (x : Next). Leads x ms c) (sym h) k
+Leads-append (More p) b c (l ∷ ls) ms h k = (h.0, Leads-append (step p l.1) b c ls ms h.1 k)
+Leads-append (Finished v) b c (l ∷ ls) ms h k = absurd h
+
+-- the same run, along equal longwords and to an equal end
+pub Leads-along : (a : Next) {b c : Next} {ls ms : List (Role × ℕ)} → ls ≡ ms → b ≡ c → Leads a ls b → Leads a ms c
+Leads-along a {b} {c} {ls} {ms} e d h = subst (λ (x : Next). Leads a ms x) d (subst (λ (l : List (Role × ℕ)). Leads a l b) e h)
+
+abbrev pub in_place : Place → List (Part × ℕ) → List (Role × ℕ)
+in_place p ps = map (λ x. (InBlock p x.0, x.1)) ps
+
+-- a run in a block is one in the file
+pub Follows-leads : (o : OpenHunk) (word : ℕ) (a b : BlockNext) (ps : List (Part × ℕ)) → Follows a ps b → Leads (after o word a) (in_place (place_of o) ps) (after o word b)
+Follows-leads o word a b [] h = ap (λ (x : BlockNext). after o word x) h
+Follows-leads o word (Open x) b (p ∷ ps) h = (ap (λ (part : Part). InBlock (place_of o) part) h.0, Follows-leads o word (step_inside x p.1) b ps h.1)
+Follows-leads o word (Whole x) b (p ∷ ps) h = absurd h
+
+pub block_leads : (hunks longs : ℕ) (o : OpenHunk) (b : BlockValue) → IsHunkBlock hunks longs b → Leads (More (AtBlock o)) (block_labelled (place_of o) b) (close o b)
+block_leads hunks longs o b h = (refl, Follows-leads o b.word (begin (kind b.word)) (Whole b.body) (body_parts b.body) (body_follows b.word b.body h.block.body))
+
+-- the blocks of a hunk from an open place in it
+abbrev pub standings : List BlockValue → List Standing
+standings bs = map (λ b. standing b.body) bs
+
+or_false : (b : Bool) → b || false ≡ b
+or_false true = refl
+or_false false = refl
+
+or_true : (b : Bool) → b || true ≡ true
+or_true true = refl
+or_true false = refl
+
+abbrev opened : ℕ → List HunkValue → TableEntry → List BlockValue → Bool → List TableEntry → OpenHunk
+opened hunks finished entry blocks has_content ahead =
+    record { hunks = hunks; finished = finished; entry = entry; blocks = blocks; has_content = has_content; ahead = ahead }
+
+module _ (hunks : ℕ) (finished : List HunkValue) (entry : TableEntry) (ahead : List TableEntry) where
+  abbrev at : List BlockValue → Bool → OpenHunk
+  at blocks has_content = opened hunks finished entry blocks has_content ahead
+
+  -- the place behind a hunk of these blocks
+  abbrev behind : List BlockValue → Next
+  behind blocks = open_hunk hunks (finished ++ hunk entry blocks ∷ []) ahead
+
+  abbrev labels : Bool → List BlockValue → List (Role × ℕ)
+  labels has_content more = blocks_labelled hunks (size_longs entry.word) has_content more
+
+  abbrev AreRead : List BlockValue → Type 0
+  AreRead more = (has_content : Bool) (done : List BlockValue) → AreInOrder has_content (standings more) →
+      Leads (More (AtBlock (at done has_content))) (labels has_content more) (behind (done ++ more))
+
+  one_more : (has_content : Bool) (done : List BlockValue) (b : BlockValue) (more : List BlockValue) → AreInOrder has_content (standings more) → AreRead more →
+      Leads (More (AtBlock (at (done ++ b ∷ []) has_content))) (labels has_content more) (behind (done ++ b ∷ more))
+  one_more has_content done b more o reads =
+      subst (λ (bs : List BlockValue). Leads (More (AtBlock (at (done ++ b ∷ []) has_content))) (labels has_content more) (behind bs)) (append_assoc done (b ∷ []) more) (reads has_content (done ++ b ∷ []) o)
+
+  block_closed : (s : Standing) (has_content : Bool) (done : List BlockValue) (b : BlockValue) (more : List BlockValue) → AreInOrder has_content (s ∷ standings more) → AreRead more →
+      Leads (close_by (at done has_content) b s) (labels (has_content || is_content s) more) (behind (done ++ b ∷ more))
+  block_closed Beside true done b more o reads = one_more true done b more o reads
+  block_closed Beside false done b more o reads = one_more false done b more o reads
+  block_closed Content true done b more o reads = absurd o
+  block_closed Content false done b more o reads = one_more true done b more o reads
+  block_closed Relocating true done b more o reads = one_more true done b more o reads
+  block_closed Relocating false done b more o reads = absurd o
+  block_closed Ending true done b [] o reads = refl
+  block_closed Ending true done b (c ∷ more) o reads = absurd cc
+  block_closed Ending false done b more o reads = absurd o
+
+  pub blocks_lead : (more : List BlockValue) → AllByRecursion (IsHunkBlock hunks (size_longs entry.word)) more → AreRead more
+  blocks_lead [] h has_content done o = absurd o
+  blocks_lead (b ∷ more) h has_content done o =
+      Leads-append (More (AtBlock (at done has_content))) (close (at done has_content) b) _ (block_labelled (place_of (at done has_content)) b) _
+      (block_leads hunks (size_longs entry.word) (at done has_content) b h.0)
+      (block_closed (standing b.body) has_content done b more o (λ has other order. blocks_lead more h.1 has other order))
+
+abbrev pub entries : List HunkValue → List TableEntry
+entries hs = map (λ h. h.entry) hs
+
+pub hunks_lead : (hunks : ℕ) (finished more : List HunkValue) → AllByRecursion (IsHunk hunks) more →
+    Leads (open_hunk hunks finished (entries more)) (flat_map (hunk_labelled hunks) more) (Finished (finished ++ more))
+hunks_lead hunks finished [] h = ap (λ (v : LoadFileValue). Finished v) (sym (append-nil finished))
+hunks_lead hunks finished (x ∷ more) h =
+    Leads-append (open_hunk hunks finished (entries (x ∷ more))) (open_hunk hunks (finished ++ x ∷ []) (entries more)) _ (hunk_labelled hunks x) _
+    (blocks_lead hunks finished x.entry (entries more) x.blocks h.0.blocks false [] h.0.order)
+    (subst (λ (v : LoadFileValue). Leads (open_hunk hunks (finished ++ x ∷ []) (entries more)) (flat_map (hunk_labelled hunks) more) (Finished v)) (append_assoc finished (x ∷ []) more) (hunks_lead hunks (finished ++ x ∷ []) more h.1))
+
+-- ---- the table
+
+entry_leads : (hunks : ℕ) (done : List TableEntry) (e : TableEntry) (owed : ℕ) → IsTableEntry e → Leads (More (AtSizeWord hunks done owed)) (entry_labelled e) (rows hunks (done ++ e ∷ []) owed)
+entry_leads hunks done e owed h = (refl, go (has_both_bits e.word) refl)
+  where
+    go : (b : Bool) → has_both_bits e.word ≡ b → Leads (sized_row hunks done e.word owed b) (if b then (roles.Attributes, e.extra) ∷ [] else []) (rows hunks (done ++ e ∷ []) owed)
+    go true is = (refl, refl)
+    go false is = ap (λ (extra : ℕ). rows hunks (done ++ table_entry e.word extra ∷ []) owed) (sym (h.2 is))
+
+pub table_leads : (hunks : ℕ) (done more : List TableEntry) → AllByRecursion IsTableEntry more → Leads (rows hunks done (length more)) (flat_map entry_labelled more) (open_hunk hunks [] (done ++ more))
+table_leads hunks done [] h = ap (λ (t : List TableEntry). open_hunk hunks [] t) (sym (append-nil done))
+table_leads hunks done (e ∷ more) h =
+    Leads-append (More (AtSizeWord hunks done (length more))) (rows hunks (done ++ e ∷ []) (length more)) _ (entry_labelled e) _
+    (entry_leads hunks done e (length more) h.0)
+    (subst (λ (t : List TableEntry). Leads (rows hunks (done ++ e ∷ []) (length more)) (flat_map entry_labelled more) (open_hunk hunks [] t)) (append_assoc done (e ∷ []) more) (table_leads hunks (done ++ e ∷ []) more h.1))
+
+pub header_leads : (t : List TableEntry) → AllByRecursion IsTableEntry t → Leads (More AtFirst) (header_labelled t) (open_hunk (length t) [] t)
+header_leads t h = (refl, (refl, (refl, (refl, (refl, table_leads (length t) [] t h)))))
+
+pub entries_fit : (hunks : ℕ) (hs : List HunkValue) → AllByRecursion (IsHunk hunks) hs → AllByRecursion IsTableEntry (entries hs)
+entries_fit hunks [] h = tt
+entries_fit hunks (x ∷ hs) h = (h.0.entry, entries_fit hunks hs h.1)
+
+-- The text of a load file leads from the start to its value, each longword by its role.
+pub file_leads : (v : LoadFileValue) → IsLoadFile v → Leads (More AtFirst) (labelled v) (Finished v)
+unfolding labelled
+file_leads v h =
+    Leads-append (More AtFirst) (open_hunk (length v) [] (entries v)) _ (header_labelled (table v)) _
+    (subst (λ (n : ℕ). Leads (More AtFirst) (header_labelled (table v)) (open_hunk n [] (entries v))) (length-map v (λ h. h.entry)) (header_leads (entries v) (entries_fit (length v) v h.each)))
+    (hunks_lead (length v) [] v h.each)

@@ -1,0 +1,80 @@
+-- What the hunks of a load file in memory stand for.
+use Rattle.std.proofs.Common.{◌≡◌, ℕ, zero, suc, ◌+◌, ◌*◌, ◌^◌, ◌<◌, ◌≤◌, List, [], ◌∷◌, ◌++◌, length, map, get_or, set, take, drop, refl, sym, ap, ap₂, subst, ◌∙◌, append_assoc, arith, Some, Option}
+use Rattle.std.specs.Prelude.{slice_get, slice_set}
+use Rattle.std.specs.Option.{option_map}
+use Rattle.std.specs.List.{sum_by}
+use Rattle.std.proofs.lemmas.Option.{slice_get-map, slice_get_read}
+use Rattle.std.proofs.lemmas.List.{length-map, take_at, take_all}
+use Rattle.std.proofs.lemmas.List.Sums.{sum_by-cons, sum_by_more}
+use Rattle.hunk_words.specs.Bits.{size_longs}
+use Rattle.hunk_blocks.specs.Values.{BlockValue}
+use Rattle.hunk_files.specs.declared.load.hunk.LoadHunk.{LoadHunk}
+use Rattle.hunk_files.specs.LoadFile.{TableEntry, HunkValue, LoadFileValue, IsLoadFile}
+use Rattle.hunk_files.specs.LoadText.{table}
+use Rattle.hunk_files.specs.Image.{declared_bytes}
+use Rattle.hunk_files.specs.Strip.{strip_hunk, strip_file}
+use Rattle.hunk_files.specs.Tables.{row_entry, hunk_of}
+use Rattle.hunk_files.proofs.StripLaws.{file_kept}
+
+-- ---- one hunk
+
+pub hunk_at : (hs : List LoadHunk) (v : LoadFileValue) (i : ℕ) (h : LoadHunk) → map hunk_of hs ≡ v → i < length v → h ≡ get_or hs i h → slice_get v i ≡ Some (hunk_of h)
+hunk_at hs v i h view inside is =
+    let count : i < length hs = omega (arith, inside, ap length view, length-map hs hunk_of) in
+    ap (λ (w : LoadFileValue). slice_get w i) (sym view) ∙ slice_get-map hunk_of hs i ∙ ap (λ (o : Option LoadHunk). option_map hunk_of o) (slice_get_read hs (length hs) i h refl count is)
+
+pub entry_at : (hs : List LoadHunk) (v : LoadFileValue) (i : ℕ) (h : LoadHunk) → map hunk_of hs ≡ v → i < length v → h ≡ get_or hs i h → slice_get (table v) i ≡ Some (row_entry h.row)
+entry_at hs v i h view inside is = slice_get-map (λ (x : HunkValue). x.entry) v i ∙ ap (λ (o : Option HunkValue). option_map (λ x. x.entry) o) (hunk_at hs v i h view inside is)
+
+pub blocks_at : (hs : List LoadHunk) (v : LoadFileValue) (i : ℕ) (h : LoadHunk) → map hunk_of hs ≡ v → i < length v → h ≡ get_or hs i h → slice_get (map (λ h. h.blocks) v) i ≡ Some h.blocks.items
+blocks_at hs v i h view inside is = slice_get-map (λ (x : HunkValue). x.blocks) v i ∙ ap (λ (o : Option HunkValue). option_map (λ x. x.blocks) o) (hunk_at hs v i h view inside is)
+
+-- ---- the sum of the declared bytes
+
+abbrev hunk_bytes : LoadHunk → ℕ
+hunk_bytes h = 4 * size_longs h.row.word
+
+pub record SumSoFar (hs : List LoadHunk) (i sum : ℕ) : Type 0 where
+  pub value : sum ≡ sum_by hunk_bytes (take i hs)
+  pub bound : sum ≤ i * 2 ^ 32
+
+pub no_sum : (hs : List LoadHunk) → SumSoFar hs 0 0
+no_sum hs = record { value = refl; bound = omega arith }
+
+pub sum_more : (hs : List LoadHunk) (i sum : ℕ) (h : LoadHunk) → SumSoFar hs i sum → i < length hs → h ≡ get_or hs i h → SumSoFar hs (i + 1) (sum + hunk_bytes h)
+sum_more hs i sum h s inside is = record { value = omega (arith, s.value, sum_by_more hunk_bytes hs i h inside, ap hunk_bytes is); bound = omega (arith, s.bound) }
+
+declared-map : (hs : List LoadHunk) → declared_bytes (table (map hunk_of hs)) ≡ sum_by hunk_bytes hs
+declared-map [] = refl
+declared-map (h ∷ hs) =
+    sum_by-cons (λ (e : TableEntry). 4 * size_longs e.word) (row_entry h.row) (table (map hunk_of hs)) ∙ ap (λ (n : ℕ). hunk_bytes h + n) (declared-map hs) ∙ sym (sum_by-cons hunk_bytes h hs)
+
+pub sum_whole : (hs : List LoadHunk) (v : LoadFileValue) (i sum : ℕ) → map hunk_of hs ≡ v → SumSoFar hs i sum → length hs ≤ i → sum ≡ declared_bytes (table v)
+sum_whole hs v i sum view s all = s.value ∙ ap (sum_by hunk_bytes) (take_all i hs all) ∙ sym (declared-map hs) ∙ ap (λ (w : LoadFileValue). declared_bytes (table w)) view
+
+-- ---- stripped one after the other
+
+pub stripped_more : (hs : List LoadHunk) (vs : LoadFileValue) (i : ℕ) (h x : LoadHunk) → map hunk_of hs ≡ strip_file (take i vs) ++ drop i vs → i < length hs → h ≡ get_or hs i h → hunk_of x ≡ strip_hunk (hunk_of h) →
+    map hunk_of (set hs i x) ≡ strip_file (take (i + 1) vs) ++ drop (i + 1) vs
+stripped_more hs vs i h x e inside is one = go hs vs i e inside is
+  where
+    go : (hs : List LoadHunk) (vs : LoadFileValue) (i : ℕ) → map hunk_of hs ≡ strip_file (take i vs) ++ drop i vs → i < length hs → h ≡ get_or hs i h → map hunk_of (set hs i x) ≡ strip_file (take (i + 1) vs) ++ drop (i + 1) vs
+    go [] vs i e l is = absurd (omega (arith, l))
+    go (y ∷ hs) [] zero e l is = absurd cc
+    go (y ∷ hs) [] (suc i) e l is = absurd cc
+    go (y ∷ hs) (v ∷ vs) zero e l is =
+        let head : hunk_of y ≡ v = cc in
+        let tail : map hunk_of hs ≡ vs = cc in
+        ap₂ (λ (a : HunkValue) (b : LoadFileValue). a ∷ b) (one ∙ ap (λ (z : LoadHunk). strip_hunk (hunk_of z)) is ∙ ap strip_hunk head) tail
+    go (y ∷ hs) (v ∷ vs) (suc i) e l is =
+        let head : hunk_of y ≡ strip_hunk v = cc in
+        let tail : map hunk_of hs ≡ strip_file (take i vs) ++ drop i vs = cc in
+        let step : suc (i + 1) ≡ suc i + 1 = omega arith in
+        subst (λ (n : ℕ). hunk_of y ∷ map hunk_of (set hs i x) ≡ strip_file (take n (v ∷ vs)) ++ drop n (v ∷ vs)) step
+        (ap₂ (λ (a : HunkValue) (b : LoadFileValue). a ∷ b) head (go hs vs i tail (omega (arith, l)) is))
+
+-- what a slice of the vector was changed to
+pub whole_slice : (old new : List LoadHunk) (len : ℕ) → len ≡ length old → map hunk_of new ≡ strip_file (map hunk_of old) → map hunk_of (take len (new ++ drop (length new) old)) ≡ strip_file (map hunk_of old)
+whole_slice old new len e strips =
+    let same : length new ≡ len = omega (arith, e, ap length strips, length-map new hunk_of, length-map (map hunk_of old) strip_hunk, length-map old hunk_of) in
+    ap (map hunk_of) (take_at new (drop (length new) old) len same) ∙ strips

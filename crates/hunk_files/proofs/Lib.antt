@@ -1,0 +1,39 @@
+pub mod Accepted
+pub mod AddAt
+pub mod Completion
+pub mod Concats
+mod Examples
+pub mod FileProgress
+pub mod FileReading
+pub mod FileSteps
+pub mod FileText
+pub mod FileViews
+mod FindingSteps
+pub mod HunkProgress
+pub mod HunkReading
+pub mod ImageParts
+pub mod Least
+pub mod Memory
+pub mod Numbers
+mod ObjectDecoding
+pub mod ObjectReading
+pub mod ObjectText
+mod ObjectWriting
+pub mod OffsetLists
+pub mod Peel
+pub mod Puts
+pub mod Reading
+pub mod Refusals
+pub mod Relocate
+pub mod Rising
+pub mod Runs
+pub mod Scan
+pub mod Shapes
+pub mod StripLaws
+mod StripSteps
+pub mod StripText
+pub mod Summed
+pub mod TableReading
+pub mod TextParts
+mod UnitReading
+pub mod Walking

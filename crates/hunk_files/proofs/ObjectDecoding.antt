@@ -1,0 +1,326 @@
+-- What a decoder that reads an object file part by part has to know.
+use Rattle.std.proofs.Common.{◌≡◌, ◌≢◌, ℕ, zero, suc, ◌+◌, ◌*◌, ◌^◌, ◌<◌, ◌≤◌, Bool, true, false, List, [], ◌∷◌, ◌++◌, length, map, take, drop, get_or, refl, sym, ap, ap₂, subst, ◌∙◌, append_assoc, append-nil, length-append, arith, Option, Some, None, inl, inr, Result, Ok, Err}
+use Rattle.std.specs.Prelude.{◌⊎◌, ◌||◌, IsTrue, IfOk, IfErr, OnErr}
+use Rattle.std.specs.List.{flat_map, AllByRecursion}
+use Rattle.std.proofs.lemmas.List.{take-append-drop, drop-drop, length-drop, length-take-le, append_cancel_left, drop_all}
+use Rattle.std.proofs.Math.Seq.{take-add}
+use Rattle.hunk_words.specs.declared.block_word.Kind.{Kind}
+use Rattle.hunk_words.specs.declared.block_word.Kind.TheVariants as kinds
+use Rattle.hunk_words.specs.declared.reason.Reason.{Reason}
+use Rattle.hunk_words.specs.declared.reason.Reason.TheVariants as reasons
+use Rattle.hunk_words.specs.Bits.{kind}
+use Rattle.hunk_words.specs.Longs.{longs, bytes_of, IsBytes, IsLong, AreLongs}
+use Rattle.hunk_words.proofs.LongLaws.{bytes_of-append, length-bytes_of, longs-bytes_of, spelled, longs-few}
+use Rattle.hunk_blocks.specs.declared.mode.Mode.TheVariants as modes
+use Rattle.hunk_blocks.specs.Values.{BlockBody, BlockValue, Name, Code, Data, Bss, Reloc, Ext, Symbol, Debug, Advisory, End, FitsWord, IsBlock, IsPayload, is_relocation, is_unknown}
+use Rattle.hunk_blocks.specs.Parts.{block_text}
+use Rattle.hunk_blocks.specs.Modes.{is_block_refusal}
+use Rattle.hunk_blocks.specs.Begins.{BeginsWithBlock, BeginsWithNoBlock, first_long}
+use Rattle.hunk_blocks.specs.Reading.{BeginsWithNo}
+use Rattle.hunk_blocks.proofs.Lists.{map-more, flat_map-more}
+use Rattle.hunk_blocks.proofs.BlockLongs.{block_longs}
+use Rattle.hunk_blocks.proofs.BlockPrefix.{block_same}
+use Rattle.hunk_files.specs.LoadFile.{Standing, Beside, Content, Relocating, Ending, standing, AreInOrder, is_content}
+use Rattle.hunk_files.specs.ObjectFile.{IsNoObjectFile, is_object_refusal, ObjectHunk, UnitValue, ObjectFileValue, IsObjectHunk, IsUnit, IsObjectFile, unit_word, unit_header, unit_text, object_text}
+use Rattle.hunk_files.specs.ObjectParts.{BeginsWithText, EndsUnit, MayStand, is_ending, refuse_standing, standing_of_kind}
+
+-- ---- longwords and their bytes
+
+longs-append : (xs ys : List ℕ) → AreLongs xs → AreLongs ys → AreLongs (xs ++ ys)
+longs-append [] ys h k = k
+longs-append (x ∷ xs) ys h k = (h.0, longs-append xs ys h.1 k)
+
+flat_longs : {A : Type 0} (Is : A → Type 0) (text : A → List ℕ) → ((x : A) → Is x → AreLongs (text x)) → (xs : List A) → AllByRecursion Is xs → AreLongs (flat_map text xs)
+flat_longs Is text fits [] h = tt
+flat_longs Is text fits (x ∷ xs) h = longs-append (text x) (flat_map text xs) (fits x h.0) (flat_longs Is text fits xs h.1)
+
+pub hunk_longs : (h : ObjectHunk) → AllByRecursion IsBlock h → AreLongs (flat_map block_text h)
+hunk_longs h is = flat_longs IsBlock block_text block_longs h is
+
+pub hunks_longs : (hs : List ObjectHunk) → AllByRecursion IsObjectHunk hs → AreLongs (flat_map (flat_map block_text) hs)
+hunks_longs hs is = flat_longs IsObjectHunk (flat_map block_text) (λ h k. hunk_longs h k.blocks) hs is
+
+pub header_longs : (name : List ℕ) → IsPayload (2 ^ 24) name → AreLongs (unit_header name)
+header_longs name h = (omega arith, (omega (arith, h.0), h.1))
+
+pub unit_longs : (u : UnitValue) → IsUnit u → AreLongs (unit_text u)
+unit_longs u is = longs-append (unit_header u.name) (flat_map (flat_map block_text) u.hunks) (header_longs u.name is.name) (hunks_longs u.hunks is.hunks)
+
+pub object_longs : (us : ObjectFileValue) → AllByRecursion IsUnit us → AreLongs (object_text us)
+object_longs us is = flat_longs IsUnit unit_text unit_longs us is
+
+-- ---- bytes that begin with a text
+
+pub text_none : (bytes : List ℕ) → bytes_of [] ≡ [] → BeginsWithText bytes [] 0
+text_none bytes e = record { text = sym e; whole = omega arith }
+
+pub text_more : (bytes words more : List ℕ) (n m : ℕ) → BeginsWithText bytes words n → BeginsWithText (drop n bytes) more m → BeginsWithText bytes (words ++ more) (n + m)
+text_more bytes words more n m h k =
+    record {
+      text = take-add n m bytes ∙ ap₂ (λ (xs ys : List ℕ). xs ++ ys) h.text k.text ∙ sym (bytes_of-append words more);
+      whole = omega (arith, h.whole, k.whole, length-drop n bytes);
+    }
+
+pub text_size : (bytes words : List ℕ) (n : ℕ) → BeginsWithText bytes words n → n ≡ 4 * length words
+text_size bytes words n h = omega (arith, ap length h.text, length-take-le n bytes h.whole, length-bytes_of words)
+
+pub text_split : (bytes words : List ℕ) (n : ℕ) → BeginsWithText bytes words n → bytes ≡ bytes_of words ++ drop n bytes
+text_split bytes words n h = sym (take-append-drop n bytes) ∙ ap (λ (xs : List ℕ). xs ++ drop n bytes) h.text
+
+pub text_words : (bytes words : List ℕ) (n : ℕ) → AreLongs words → BeginsWithText bytes words n → longs bytes ≡ words ++ longs (drop n bytes)
+text_words bytes words n fit h = ap longs (text_split bytes words n h) ∙ longs-bytes_of words (drop n bytes) fit
+
+pub drop_bytes : (bytes : List ℕ) (n : ℕ) → IsBytes bytes → IsBytes (drop n bytes)
+drop_bytes bytes zero fit = fit
+drop_bytes [] (suc n) fit = fit
+drop_bytes (b ∷ bytes) (suc n) fit = drop_bytes bytes n (λ i. fit (suc i))
+
+-- bytes whose longwords begin so
+pub words_split : (bytes words more : List ℕ) → IsBytes bytes → longs bytes ≡ words ++ more → (rest : List ℕ) × (bytes ≡ bytes_of words ++ rest)
+words_split bytes words more fit e =
+    let s = spelled bytes fit in
+    (bytes_of more ++ s.over, s.split ∙ ap (λ (l : List ℕ). bytes_of l ++ s.over) e ∙ ap (λ (l : List ℕ). l ++ s.over) (bytes_of-append words more) ∙ append_assoc (bytes_of words) (bytes_of more) s.over)
+
+-- ---- where a block may stand
+
+relocating : (k : Kind) → IsTrue (is_relocation k) → standing_of_kind k ≡ Relocating
+relocating kinds.Reloc32 h = refl
+relocating kinds.Reloc16 h = refl
+relocating kinds.Reloc8 h = refl
+relocating kinds.Drel32 h = refl
+relocating kinds.Drel16 h = refl
+relocating kinds.Drel8 h = refl
+relocating kinds.RelReloc32 h = refl
+relocating kinds.AbsReloc16 h = refl
+relocating _ h = absurd cc
+
+advisory : (k : Kind) → IsTrue (is_unknown k) → standing_of_kind k ≡ Beside
+advisory (kinds.Unknown n) h = refl
+advisory kinds.Unit h = absurd cc
+advisory _ h = absurd cc
+
+pub standing_is : (word : ℕ) (body : BlockBody) → FitsWord word body → standing body ≡ standing_of_kind (kind word)
+standing_is word (Name ws) h = rw h.0 refl
+standing_is word (Code top ws) h = rw h.0 refl
+standing_is word (Data top ws) h = rw h.0 refl
+standing_is word (Bss size) h = rw h.0 refl
+standing_is word (Reloc gs) h = sym (relocating (kind word) h.0)
+standing_is word (Ext es) h = rw h.0 refl
+standing_is word (Symbol es) h = rw h.0 refl
+standing_is word (Debug ws) h = rw h.0 refl
+standing_is word (Advisory ws) h = sym (advisory (kind word) h.0)
+standing_is word End h = rw h refl
+
+word_in_front : (bytes : List ℕ) (b : BlockValue) (more : List ℕ) → longs bytes ≡ block_text b ++ more → first_long bytes ≡ b.word
+word_in_front bytes b more e = ap (λ (ws : List ℕ). get_or ws 0 0) e
+
+begun_words : (bytes : List ℕ) (b : BlockValue) (n : ℕ) → BeginsWithBlock modes.Object bytes b n → longs bytes ≡ block_text b ++ longs (drop n bytes)
+begun_words bytes b n h = text_words bytes (block_text b) n (block_longs b h.block) (record { text = h.text; whole = h.whole })
+
+pub stands : (bytes : List ℕ) (word : ℕ) (has : Bool) (b : BlockValue) (n : ℕ) → word ≡ first_long bytes → refuse_standing has (standing_of_kind (kind word)) ≡ None →
+    BeginsWithBlock modes.Object bytes b n → refuse_standing has (standing b.body) ≡ None
+stands bytes word has b n is ok h =
+    let same : b.word ≡ word = sym (is ∙ word_in_front bytes b (longs (drop n bytes)) (begun_words bytes b n h)) in
+    ap (refuse_standing has) (standing_is b.word b.body h.block.body ∙ ap (λ (w : ℕ). standing_of_kind (kind w)) same) ∙ ok
+
+pub no_place : (bytes : List ℕ) (word : ℕ) (has : Bool) (reason : Reason) → word ≡ first_long bytes → refuse_standing has (standing_of_kind (kind word)) ≡ Some reason → BeginsWithNo (MayStand has) block_text (longs bytes)
+no_place bytes word has reason is refused b may more e =
+    let same : b.word ≡ word = sym (is ∙ word_in_front bytes b more e) in
+    let here : refuse_standing has (standing b.body) ≡ Some reason = ap (refuse_standing has) (standing_is b.word b.body may.0.body ∙ ap (λ (w : ℕ). standing_of_kind (kind w)) same) ∙ refused in
+    let ok : refuse_standing has (standing b.body) ≡ None = may.1 in
+    cc
+
+pub no_block : (bytes : List ℕ) (has : Bool) → IsBytes bytes → BeginsWithNoBlock modes.Object bytes → BeginsWithNo (MayStand has) block_text (longs bytes)
+unfolding BeginsWithNoBlock
+no_block bytes has fit none b may more e =
+    let s = words_split bytes (block_text b) more fit e in
+    none b may.0 tt s.0 s.1
+
+pub no_longword : (bytes : List ℕ) (has : Bool) → length bytes < 4 → BeginsWithNo (MayStand has) block_text (longs bytes)
+no_longword bytes has few b may more e = let none : [] ≡ block_text b ++ more = sym (longs-few bytes few) ∙ e in cc
+
+pub ok_of : {A E : Type 0} (r : Result A E) (P : A → Type 0) (Q : A → Type 0) → IfOk r P → ((x : A) → P x → Q x) → IfOk r Q
+ok_of (Ok x) P Q h f = f x h
+ok_of (Err e) P Q h f = h
+
+pub err_of : {A E : Type 0} (r : Result A E) (P : E → Type 0) (Q : E → Type 0) → IfErr r P → ((x : E) → P x → Q x) → IfErr r Q
+err_of (Ok x) P Q h f = h
+err_of (Err e) P Q h f = f e h
+
+pub err_both : {A E : Type 0} (r : Result A E) (P Q R : E → Type 0) → IfErr r P → IfErr r Q → ((x : E) → P x → Q x → R x) → IfErr r R
+err_both (Ok x) P Q R h k f = h
+err_both (Err e) P Q R h k f = f e h k
+
+-- ---- reasons
+
+pub place_own : (has : Bool) (s : Standing) (reason : Reason) → refuse_standing has s ≡ Some reason → IsTrue (is_object_refusal reason)
+place_own true Content reason e = let same : reasons.SecondContent ≡ reason = cc in subst (λ (x : Reason). IsTrue (is_object_refusal x)) same refl
+place_own false Relocating reason e = let same : reasons.BeforeContent ≡ reason = cc in subst (λ (x : Reason). IsTrue (is_object_refusal x)) same refl
+place_own false Ending reason e = let same : reasons.NoContent ≡ reason = cc in subst (λ (x : Reason). IsTrue (is_object_refusal x)) same refl
+place_own true Beside reason e = absurd cc
+place_own true Relocating reason e = absurd cc
+place_own true Ending reason e = absurd cc
+place_own false Beside reason e = absurd cc
+place_own false Content reason e = absurd cc
+
+pub block_own : (reason : Reason) → IsTrue (is_block_refusal reason) → reason ≢ reasons.NotInLoadFile → IsTrue (is_object_refusal reason)
+block_own reasons.NotInLoadFile h ne = absurd (ne refl)
+block_own reasons.Library h ne = refl
+block_own reasons.BothBits h ne = refl
+block_own reasons.Overlay h ne = refl
+block_own reasons.Break h ne = refl
+block_own reasons.ShortReloc h ne = refl
+block_own reasons.Misplaced h ne = refl
+block_own reasons.UnknownBlock h ne = refl
+block_own reasons.NameWord h ne = refl
+block_own reasons.ExtKind h ne = refl
+block_own reasons.Truncated h ne = refl
+block_own reasons.OutOfMemory h ne = refl
+block_own _ h ne = absurd cc
+
+-- ---- the blocks of a hunk
+
+-- These blocks may follow one another, and none of them ends the hunk. The flags tell whether the content block came before them, and whether it came then.
+abbrev pub Leads : Bool → List Standing → Bool → Type 0
+Leads a [] b = a ≡ b
+Leads a (Beside ∷ rest) b = Leads a rest b
+Leads false (Content ∷ rest) b = Leads true rest b
+Leads true (Content ∷ rest) b = ⊥
+Leads true (Relocating ∷ rest) b = Leads true rest b
+Leads false (Relocating ∷ rest) b = ⊥
+Leads a (Ending ∷ rest) b = ⊥
+
+abbrev pub standings : List BlockValue → List Standing
+standings bs = map (λ b. standing b.body) bs
+
+pub record HunkSoFar (bytes : List ℕ) (bs : ObjectHunk) (has : Bool) (at : ℕ) : Type 0 where
+  pub blocks : AllByRecursion IsBlock bs
+  pub leads : Leads false (standings bs) has
+  pub text : BeginsWithText bytes (flat_map block_text bs) at
+
+pub no_blocks : (bytes : List ℕ) → HunkSoFar bytes [] false 0
+unfolding bytes_of
+no_blocks bytes = record { blocks = tt; leads = refl; text = text_none bytes refl }
+
+pub All-more : {A : Type 0} (P : A → Type 0) (xs : List A) (x : A) → AllByRecursion P xs → P x → AllByRecursion P (xs ++ x ∷ [])
+All-more P [] x h k = (k, tt)
+All-more P (y ∷ xs) x h k = (h.0, All-more P xs x h.1 k)
+
+-- what may stand here leads on, unless it is END
+leads_one : (has : Bool) (s : Standing) → refuse_standing has s ≡ None → is_ending s ≡ false → Leads has (s ∷ []) (has || is_content s)
+leads_one true Beside ok no_end = refl
+leads_one false Beside ok no_end = refl
+leads_one true Content ok no_end = absurd cc
+leads_one false Content ok no_end = refl
+leads_one true Relocating ok no_end = refl
+leads_one false Relocating ok no_end = absurd cc
+leads_one true Ending ok no_end = absurd cc
+leads_one false Ending ok no_end = absurd cc
+
+leads_more : (a b c : Bool) (xs ys : List Standing) → Leads a xs b → Leads b ys c → Leads a (xs ++ ys) c
+leads_more a b c [] ys h k = subst (λ (x : Bool). Leads x ys c) (sym h) k
+leads_more true b c (Beside ∷ xs) ys h k = leads_more true b c xs ys h k
+leads_more false b c (Beside ∷ xs) ys h k = leads_more false b c xs ys h k
+leads_more false b c (Content ∷ xs) ys h k = leads_more true b c xs ys h k
+leads_more true b c (Content ∷ xs) ys h k = absurd h
+leads_more true b c (Relocating ∷ xs) ys h k = leads_more true b c xs ys h k
+leads_more false b c (Relocating ∷ xs) ys h k = absurd h
+leads_more true b c (Ending ∷ xs) ys h k = absurd h
+leads_more false b c (Ending ∷ xs) ys h k = absurd h
+
+leads_end : (a b : Bool) (xs ys : List Standing) → Leads a xs b → AreInOrder b ys → AreInOrder a (xs ++ ys)
+leads_end a b [] ys h k = subst (λ (x : Bool). AreInOrder x ys) (sym h) k
+leads_end true b (Beside ∷ xs) ys h k = leads_end true b xs ys h k
+leads_end false b (Beside ∷ xs) ys h k = leads_end false b xs ys h k
+leads_end false b (Content ∷ xs) ys h k = leads_end true b xs ys h k
+leads_end true b (Content ∷ xs) ys h k = absurd h
+leads_end true b (Relocating ∷ xs) ys h k = leads_end true b xs ys h k
+leads_end false b (Relocating ∷ xs) ys h k = absurd h
+leads_end true b (Ending ∷ xs) ys h k = absurd h
+leads_end false b (Ending ∷ xs) ys h k = absurd h
+
+end_stands : (has : Bool) (s : Standing) → refuse_standing has s ≡ None → is_ending s ≡ true → AreInOrder has (s ∷ [])
+end_stands true Ending ok e = refl
+end_stands false Ending ok e = absurd cc
+end_stands true Beside ok e = absurd cc
+end_stands false Beside ok e = absurd cc
+end_stands true Content ok e = absurd cc
+end_stands false Content ok e = absurd cc
+end_stands true Relocating ok e = absurd cc
+end_stands false Relocating ok e = absurd cc
+
+module _ (bytes : List ℕ) (bs : ObjectHunk) (has : Bool) (at : ℕ) (h : HunkSoFar bytes bs has at) (b : BlockValue) (size : ℕ) (r : BeginsWithBlock modes.Object (drop at bytes) b size) (ok : refuse_standing has (standing b.body) ≡ None) where
+  pub text_with : BeginsWithText bytes (flat_map block_text (bs ++ b ∷ [])) (at + size)
+  text_with =
+      subst (λ (ws : List ℕ). BeginsWithText bytes ws (at + size)) (sym (flat_map-more block_text bs b))
+      (text_more bytes (flat_map block_text bs) (block_text b) at size h.text (record { text = r.text; whole = r.whole }))
+
+  pub block_added : is_ending (standing b.body) ≡ false → HunkSoFar bytes (bs ++ b ∷ []) (has || is_content (standing b.body)) (at + size)
+  block_added e =
+      record {
+        blocks = All-more IsBlock bs b h.blocks r.block;
+        leads =
+            subst (λ (ss : List Standing). Leads false ss (has || is_content (standing b.body))) (sym (map-more (λ c. standing c.body) bs b))
+            (leads_more false has (has || is_content (standing b.body)) (standings bs) (standing b.body ∷ []) h.leads (leads_one has (standing b.body) ok e));
+        text = text_with;
+      }
+
+  pub hunk_ended : is_ending (standing b.body) ≡ true → IsObjectHunk (bs ++ b ∷ [])
+  hunk_ended e =
+      record {
+        blocks = All-more IsBlock bs b h.blocks r.block;
+        order = subst (AreInOrder false) (sym (map-more (λ c. standing c.body) bs b)) (leads_end false has (standings bs) (standing b.body ∷ []) h.leads (end_stands has (standing b.body) ok e));
+      }
+
+  pub goes_further : 0 < size
+  goes_further = omega (arith, text_size (drop at bytes) (block_text b) size (record { text = r.text; whole = r.whole }))
+
+  pub still_inside : at + size ≤ length bytes
+  still_inside = text_with.whole
+
+-- ---- where no block follows, no hunk begins
+
+pub record Left (has : Bool) (x y : List ℕ) : Type 0 where
+  pub blocks : ObjectHunk
+  pub are : AllByRecursion IsBlock blocks
+  pub order : AreInOrder has (standings blocks)
+  pub text : x ≡ flat_map block_text blocks ++ y
+
+-- Of two runs of blocks along the same longwords, the hunk goes on where the other stops.
+left_of : (bs cs : ObjectHunk) (a has : Bool) (x y : List ℕ) → AllByRecursion IsBlock bs → AllByRecursion IsBlock cs → Leads a (standings bs) has → AreInOrder a (standings cs) → flat_map block_text bs ++ x ≡ flat_map block_text cs ++ y → Left has x y
+left_of [] cs a has x y hb hc leads order e = record { blocks = cs; are = hc; order = subst (λ (k : Bool). AreInOrder k (standings cs)) leads order; text = e }
+left_of (b ∷ bs) [] a has x y hb hc leads order e = absurd order
+left_of (b ∷ bs) (c ∷ cs) a has x y hb hc leads order e =
+    let same =
+    block_same b c (flat_map block_text bs ++ x) (flat_map block_text cs ++ y) hb.0 hc.0
+    (sym (append_assoc (block_text b) (flat_map block_text bs) x) ∙ e ∙ append_assoc (block_text c) (flat_map block_text cs) y) in
+    go a (standing b.body) leads (subst (λ (d : BlockValue). AreInOrder a (standing d.body ∷ standings cs)) (sym same.0) order) (λ k l o. left_of bs cs k has x y hb.1 hc.1 l o same.1)
+  where
+    go : (k : Bool) (s : Standing) → Leads k (s ∷ standings bs) has → AreInOrder k (s ∷ standings cs) → ((m : Bool) → Leads m (standings bs) has → AreInOrder m (standings cs) → Left has x y) → Left has x y
+    go true Beside l o all = all true l o
+    go false Beside l o all = all false l o
+    go false Content l o all = all true l o
+    go true Content l o all = absurd l
+    go true Relocating l o all = all true l o
+    go false Relocating l o all = absurd l
+    go true Ending l o all = absurd l
+    go false Ending l o all = absurd l
+
+first_stands : (has : Bool) (s : Standing) (rest : List Standing) → AreInOrder has (s ∷ rest) → refuse_standing has s ≡ None
+first_stands true Beside rest o = refl
+first_stands false Beside rest o = refl
+first_stands false Content rest o = refl
+first_stands true Content rest o = absurd o
+first_stands true Relocating rest o = refl
+first_stands false Relocating rest o = absurd o
+first_stands true Ending rest o = refl
+first_stands false Ending rest o = absurd o
+
+pub no_hunk : (bytes : List ℕ) (bs : ObjectHunk) (has : Bool) (at : ℕ) → HunkSoFar bytes bs has at → BeginsWithNo (MayStand has) block_text (longs (drop at bytes)) → BeginsWithNo IsObjectHunk (flat_map block_text) (longs bytes)
+no_hunk bytes bs has at h none k is more e =
+    let l = left_of bs k false has (longs (drop at bytes)) more h.blocks is.blocks h.leads is.order (sym (text_words bytes (flat_map block_text bs) at (hunk_longs bs h.blocks) h.text) ∙ e) in
+    go l.blocks l.are l.order l.text
+  where
+    go : (ds : ObjectHunk) → AllByRecursion IsBlock ds → AreInOrder has (standings ds) → longs (drop at bytes) ≡ flat_map block_text ds ++ more → ⊥
+    go [] all o t = o
+    go (d ∷ ds) all o t = none d (all.0, first_stands has (standing d.body) (standings ds) o) (flat_map block_text ds ++ more) (t ∙ append_assoc (block_text d) (flat_map block_text ds) more)

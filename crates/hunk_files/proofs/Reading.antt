@@ -1,0 +1,136 @@
+-- What a reader that takes longwords one by one has to know, in a few lemmas.
+use Rattle.std.proofs.Common.{◌≡◌, ◌≢◌, ℕ, ◌*◌, Bool, true, false, ◌&&◌, List, [], ◌∷◌, ◌++◌, length, refl, sym, ap, ap₂, subst, ◌∙◌, append_assoc, append-nil, Option, Some, None, is_none}
+use Rattle.std.proofs.lemmas.List.{map-append}
+use Rattle.std.proofs.lemmas.Bool.{and_parts}
+use Rattle.hunk_words.specs.declared.reason.Reason.{Reason}
+use Rattle.hunk_words.specs.Longs.{longs, IsLong, AreLongs}
+use Rattle.hunk_files.specs.LoadFile.{LoadFileValue, IsLoadFile}
+use Rattle.hunk_files.specs.Roles.{Role, refuse}
+use Rattle.hunk_files.specs.LoadText.{words, text, labelled}
+use Rattle.hunk_files.specs.Fault.{Expects, HasRefusal, IsTruncated}
+use Rattle.hunk_files.proofs.FileSteps.{Progress, AtFirst, Next, More, Finished, role_of, step, Leads}
+use Rattle.hunk_files.proofs.FileText.{file_leads, Leads-append}
+use Rattle.hunk_files.proofs.FileProgress.{Reads, step_keeps}
+use Rattle.hunk_files.proofs.Runs.{Labelled, IsAccepted, AreAccepted, Leads-split, Leads-same}
+use Rattle.hunk_files.proofs.Accepted.{All-append, labelled_accepted}
+use Rattle.hunk_files.proofs.Scan.{words_split, expects_of, truncated_of}
+
+-- These longwords were read, none was refused, and they lead here.
+pub record HasRead (ws : List ℕ) (n : Next) : Type 0 where
+  pub done : Labelled
+  pub run : Leads (More AtFirst) done n
+  pub reads : Reads n done
+  pub accepted : AreAccepted done
+  pub all : words done ≡ ws
+
+pub start_read : HasRead [] (More AtFirst)
+start_read = record { done = []; run = refl; reads = (tt, refl); accepted = tt; all = refl }
+
+-- One more longword is read.
+pub step_read : (ws : List ℕ) (p : Progress) (w : ℕ) → HasRead ws (More p) → IsLong w → refuse (role_of p) w ≡ None → HasRead (ws ++ w ∷ []) (step p w)
+step_read ws p w h l ok =
+    let k = step_keeps p w h.reads.0 l ok in
+    record {
+      done = h.done ++ (role_of p, w) ∷ [];
+      run = Leads-append (More AtFirst) (More p) (step p w) h.done ((role_of p, w) ∷ []) h.run (refl, refl);
+      reads = (k.0, k.1 ∙ ap (λ (ls : Labelled). ls ++ (role_of p, w) ∷ []) h.reads.1);
+      accepted = All-append IsAccepted h.done ((role_of p, w) ∷ []) h.accepted ((l, ok), tt);
+      all = map-append (λ (x : Role × ℕ). x.1) h.done ((role_of p, w) ∷ []) ∙ ap (λ (xs : List ℕ). xs ++ w ∷ []) h.all;
+    }
+
+-- The longwords alone tell where they lead.
+pub one_place : (ws : List ℕ) (n m : Next) → HasRead ws n → HasRead ws m → n ≡ m
+one_place ws n m h k = (Leads-same (More AtFirst) n m h.done k.done h.run k.run (h.all ∙ sym k.all)).1
+
+-- A longword that is refused here is the fault.
+pub read_refused : (bytes ws : List ℕ) (p : Progress) (w : ℕ) (after : List ℕ) (reason : Reason) → HasRead ws (More p) → longs bytes ≡ ws ++ w ∷ after → refuse (role_of p) w ≡ Some reason →
+    HasRefusal bytes (4 * length ws) reason
+read_refused bytes ws p w after reason h e no-pass =
+    record {
+      before = ws;
+      word = w;
+      after = after;
+      role = role_of p;
+      split = e;
+      place = refl;
+      expects = subst (λ (xs : List ℕ). Expects xs (role_of p)) h.all (expects_of p h.done h.reads);
+      refuses = no-pass;
+    }
+
+-- Where the longwords end too soon, that is the fault.
+pub read_truncated : (bytes : List ℕ) (p : Progress) → HasRead (longs bytes) (More p) → IsTruncated bytes (4 * length (longs bytes))
+read_truncated bytes p h = truncated_of bytes (record { progress = p; done = h.done; reads = h.reads; all = h.all })
+
+-- At the end there is a load file of this text.
+pub read_ended : (ws : List ℕ) (v : LoadFileValue) → HasRead ws (Finished v) → IsLoadFile v × (text v ≡ ws)
+read_ended ws v h = (h.reads.0, ap words h.reads.1 ∙ h.all)
+
+-- the rest of a load text from here
+module _ (ws : List ℕ) (n : Next) (h : HasRead ws n) (v : LoadFileValue) (is : IsLoadFile v) (more : List ℕ) (e : text v ≡ ws ++ more) where
+  pub rest_leads : (ls : Labelled) × Leads n ls (Finished v) × AreAccepted ls × (words ls ≡ more)
+  rest_leads =
+      let s = words_split (labelled v) ws more e in
+      let cut = Leads-split (More AtFirst) (Finished v) s.front s.back (subst (λ (ls : Labelled). Leads (More AtFirst) ls (Finished v)) s.split (file_leads v is)) in
+      let same = Leads-same (More AtFirst) cut.0 n s.front h.done cut.1 h.run (s.front_words ∙ sym h.all) in (
+        s.back,
+        subst (λ (m : Next). Leads m s.back (Finished v)) same.1 cut.2,
+        right_of s.front s.back (subst AreAccepted s.split (labelled_accepted v is)),
+        s.back_words,
+      )
+    where
+      right_of : (xs ys : Labelled) → AreAccepted (xs ++ ys) → AreAccepted ys
+      right_of [] ys ok = ok
+      right_of (x ∷ xs) ys ok = right_of xs ys ok.1
+
+first_passes : (p : Progress) (ls : Labelled) (v : LoadFileValue) (w : ℕ) (more : List ℕ) → Leads (More p) ls (Finished v) → AreAccepted ls → words ls ≡ w ∷ more → refuse (role_of p) w ≡ None
+first_passes p [] v w more run ok e = absurd cc
+first_passes p (l ∷ ls) v w more run ok e =
+    let same : l.1 ≡ w = cc in
+    ap₂ (λ (r : Role) (x : ℕ). refuse r x) run.0 (sym same) ∙ ok.0.1
+
+-- No longword of a load text that goes on from here is refused.
+pub read_passes : (ws : List ℕ) (p : Progress) → HasRead ws (More p) → (v : LoadFileValue) → IsLoadFile v → (w : ℕ) (more : List ℕ) → text v ≡ ws ++ w ∷ more → refuse (role_of p) w ≡ None
+read_passes ws p h v is w more e =
+    let r = rest_leads ws (More p) h v is (w ∷ more) e in
+    first_passes p r.0 v w more r.1 r.2 r.3
+
+goes_on : (p : Progress) (ls : Labelled) (v : LoadFileValue) → Leads (More p) ls (Finished v) → words ls ≢ []
+goes_on p [] v run e = cc
+goes_on p (l ∷ ls) v run e = cc
+
+-- A load text that begins so is not whole here.
+pub read_goes_on : (ws : List ℕ) (p : Progress) → HasRead ws (More p) → (v : LoadFileValue) → IsLoadFile v → (more : List ℕ) → text v ≡ ws ++ more → more ≢ []
+read_goes_on ws p h v is more e nil =
+    let r = rest_leads ws (More p) h v is more e in
+    goes_on p r.0 v r.1 (r.3 ∙ nil)
+
+-- ---- as functions of the longwords, for facts that are equations
+
+-- where longwords lead; behind the end nothing is read
+abbrev pub next_after : Next → List ℕ → Next
+next_after n [] = n
+next_after (Finished v) (w ∷ ws) = Finished v
+next_after (More p) (w ∷ ws) = next_after (step p w) ws
+
+-- whether all longwords are read, and none is refused
+abbrev pub all_pass : Next → List ℕ → Bool
+all_pass n [] = true
+all_pass (Finished v) (w ∷ ws) = false
+all_pass (More p) (w ∷ ws) = is_none (refuse (role_of p) w) && all_pass (step p w) ws
+
+none_is : {A : Type 0} (o : Option A) → is_none o ≡ true → o ≡ None
+none_is (Some x) e = absurd cc
+none_is None e = refl
+
+-- After what was read, longwords that all pass.
+pub passing_from : (before : List ℕ) (n : Next) (ws : List ℕ) → HasRead before n → AreLongs ws → all_pass n ws ≡ true → HasRead (before ++ ws) (next_after n ws)
+passing_from before n [] h l ok = subst (λ (xs : List ℕ). HasRead xs n) (sym (append-nil before)) h
+passing_from before (Finished v) (w ∷ ws) h l ok = absurd cc
+passing_from before (More p) (w ∷ ws) h l ok =
+    let both = and_parts (is_none (refuse (role_of p) w)) (all_pass (step p w) ws) ok in
+    subst (λ (xs : List ℕ). HasRead xs (next_after (step p w) ws)) (append_assoc before (w ∷ []) ws)
+    (passing_from (before ++ w ∷ []) (step p w) ws (step_read before p w h l.0 (none_is (refuse (role_of p) w) both.0)) l.1 both.1)
+
+-- Longwords that all pass have been read.
+pub passing : (ws : List ℕ) → AreLongs ws → all_pass (More AtFirst) ws ≡ true → HasRead ws (next_after (More AtFirst) ws)
+passing ws l ok = passing_from [] (More AtFirst) ws start_read l ok

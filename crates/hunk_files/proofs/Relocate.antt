@@ -1,0 +1,127 @@
+-- Relocations, one part after another.
+use Rattle.std.proofs.Common.{◌≡◌, ℕ, zero, suc, ◌+◌, ◌*◌, ◌<◌, ◌≤◌, Bool, true, false, List, [], ◌∷◌, ◌++◌, length, map, get_or, take, refl, sym, ap, subst, ◌∙◌, append-nil, length-append, arith}
+use Rattle.std.specs.List.{flat_map, AllByRecursion}
+use Rattle.std.proofs.lemmas.List.{take_more, get_or-map, length-map}
+use Rattle.hunk_words.specs.Longs.{bytes_of}
+use Rattle.hunk_words.proofs.LongLaws.{length-bytes_of}
+use Rattle.hunk_words.specs.Bits.{size_longs}
+use Rattle.hunk_blocks.specs.Values.{RelocGroup, BlockBody, BlockValue, Name, Code, Data, Bss, Reloc, Ext, Symbol, Debug, Advisory, End}
+use Rattle.hunk_files.specs.LoadFile.{HunkValue, Standing, standing, AreInOrder, FitsGroup, IsInside, IsHunkBlock, IsHunk, declared_longs}
+use Rattle.hunk_files.specs.Image.{add_at, block_content, block_relocations, group_relocations, relocated, relocations}
+use Rattle.hunk_files.specs.Relocating.{IsRelocatable}
+use Rattle.hunk_files.proofs.Accepted.{All-append, All-map, All-flat_map}
+use Rattle.hunk_files.proofs.Concats.{flat_map-next}
+
+pub relocated-append : (bases s : List ℕ) (ps qs : List (ℕ × ℕ)) → relocated bases s (ps ++ qs) ≡ relocated bases (relocated bases s ps) qs
+relocated-append bases s [] qs = refl
+relocated-append bases s (p ∷ ps) qs = relocated-append bases (add_at s p.0 (get_or bases p.1 0)) ps qs
+
+-- ---- one part more
+
+-- one offset of a group
+pub group_more : (bases s now : List ℕ) (g : RelocGroup) (i o : ℕ) → i < length g.offsets → o ≡ get_or g.offsets i 0 → now ≡ relocated bases s (take i (group_relocations g)) →
+    add_at now o (get_or bases g.target 0) ≡ relocated bases s (take (i + 1) (group_relocations g))
+group_more bases s now g i o inside is e =
+    let f : ℕ → ℕ × ℕ = λ x. (x, g.target) in
+    let next : take (i + 1) (map f g.offsets) ≡ take i (map f g.offsets) ++ (o, g.target) ∷ [] =
+    take_more (map f g.offsets) i (0, 0) (omega (arith, inside, length-map g.offsets f))
+    ∙ ap (λ (p : ℕ × ℕ). take i (map f g.offsets) ++ p ∷ []) (get_or-map f g.offsets i 0 (0, 0) inside ∙ ap f (sym is))
+    in
+    ap (λ (l : List ℕ). add_at l o (get_or bases g.target 0)) e ∙ sym (ap (relocated bases s) next ∙ relocated-append bases s (take i (map f g.offsets)) ((o, g.target) ∷ []))
+
+-- a group of some, or a block
+pub part_more : {A : Type 0} (f : A → List (ℕ × ℕ)) (bases s now new : List ℕ) (xs : List A) (i : ℕ) (x : A) → i < length xs → x ≡ get_or xs i x → now ≡ relocated bases s (flat_map f (take i xs)) → new ≡ relocated bases now (f x) →
+    new ≡ relocated bases s (flat_map f (take (i + 1) xs))
+part_more f bases s now new xs i x inside is e n =
+    n ∙ ap (λ (l : List ℕ). relocated bases l (f x)) e ∙ sym (relocated-append bases s (flat_map f (take i xs)) (f x)) ∙ ap (relocated bases s) (sym (flat_map-next f xs i x inside is))
+
+-- ---- there is room
+
+All-left : {A : Type 0} (P : A → Type 0) (xs ys : List A) → AllByRecursion P (xs ++ ys) → AllByRecursion P xs
+All-left P [] ys h = tt
+All-left P (x ∷ xs) ys h = (h.0, All-left P xs ys h.1)
+
+All-right : {A : Type 0} (P : A → Type 0) (xs ys : List A) → AllByRecursion P (xs ++ ys) → AllByRecursion P ys
+All-right P [] ys h = h
+All-right P (x ∷ xs) ys h = All-right P xs ys h.1
+
+-- of one part
+pub part_room : {A : Type 0} (f : A → List (ℕ × ℕ)) (size size' bases : ℕ) (xs : List A) (i : ℕ) (x : A) → size ≡ size' → IsRelocatable size bases (flat_map f xs) → i < length xs → x ≡ get_or xs i x → IsRelocatable size' bases (f x)
+part_room {A} f size size' bases xs i x same h inside is = subst (λ (n : ℕ). IsRelocatable n bases (f x)) same (go xs i h inside is)
+  where
+    go : (xs : List A) (i : ℕ) → IsRelocatable size bases (flat_map f xs) → i < length xs → x ≡ get_or xs i x → IsRelocatable size bases (f x)
+    go [] i h l e = absurd (omega (arith, l))
+    go (y ∷ xs) zero h l e = subst (λ (z : A). IsRelocatable size bases (f z)) (sym e) (All-left (λ (p : ℕ × ℕ). (p.0 + 4 ≤ size) × (p.1 < bases)) (f y) (flat_map f xs) h)
+    go (y ∷ xs) (suc i) h l e = go xs i (All-right (λ (p : ℕ × ℕ). (p.0 + 4 ≤ size) × (p.1 < bases)) (f y) (flat_map f xs) h) (omega (arith, l)) e
+
+-- of one offset
+pub offset_room : (size bases : ℕ) (g : RelocGroup) (i : ℕ) → IsRelocatable size bases (group_relocations g) → i < length g.offsets → (get_or g.offsets i 0 + 4 ≤ size) × (g.target < bases)
+offset_room size bases g i h inside = go g.offsets i h inside
+  where
+    go : (os : List ℕ) (i : ℕ) → IsRelocatable size bases (map (λ o. (o, g.target)) os) → i < length os → (get_or os i 0 + 4 ≤ size) × (g.target < bases)
+    go [] i h l = absurd (omega (arith, l))
+    go (o ∷ os) zero h l = h.0
+    go (o ∷ os) (suc i) h l = go os i h.1 (omega (arith, l))
+
+group_fits : (hunks longs : ℕ) (g : RelocGroup) → FitsGroup hunks longs g → IsRelocatable (4 * longs) hunks (group_relocations g)
+group_fits hunks longs g h = All-map (IsInside longs) (λ (p : ℕ × ℕ). (p.0 + 4 ≤ 4 * longs) × (p.1 < hunks)) (λ (o : ℕ). (o, g.target)) (λ o l. (l, h.0)) g.offsets h.1
+
+block_fits : (hunks longs : ℕ) (w : ℕ) (b : BlockBody) → IsHunkBlock hunks longs (record { word = w; body = b }) → IsRelocatable (4 * longs) hunks (block_relocations b)
+block_fits hunks longs w (Reloc groups) h = All-flat_map (FitsGroup hunks longs) (λ (p : ℕ × ℕ). (p.0 + 4 ≤ 4 * longs) × (p.1 < hunks)) group_relocations (group_fits hunks longs) groups h.fits
+block_fits hunks longs w (Name words) h = tt
+block_fits hunks longs w (Code top words) h = tt
+block_fits hunks longs w (Data top words) h = tt
+block_fits hunks longs w (Bss size) h = tt
+block_fits hunks longs w (Ext entries) h = tt
+block_fits hunks longs w (Symbol entries) h = tt
+block_fits hunks longs w (Debug words) h = tt
+block_fits hunks longs w (Advisory words) h = tt
+block_fits hunks longs w End h = tt
+
+-- of all relocations of a hunk
+pub hunk_fits : (hunks : ℕ) (h : HunkValue) → IsHunk hunks h → IsRelocatable (4 * declared_longs h) hunks (relocations h)
+hunk_fits hunks h is =
+    All-flat_map (IsHunkBlock hunks (declared_longs h)) (λ (p : ℕ × ℕ). (p.0 + 4 ≤ 4 * declared_longs h) × (p.1 < hunks)) (λ (b : BlockValue). block_relocations b.body) (λ b k. block_fits hunks (declared_longs h) b.word b.body k) h.blocks is.blocks
+
+-- ---- the content is at most what is declared
+
+abbrev contents : List BlockValue → List ℕ
+contents bs = flat_map (λ (b : BlockValue). block_content b.body) bs
+
+abbrev standings : List BlockValue → List Standing
+standings bs = map (λ b. standing b.body) bs
+
+-- behind the content block there is none
+abbrev limit : Bool → ℕ → ℕ
+limit true longs = 0
+limit false longs = 4 * longs
+
+content_by : (hunks longs : ℕ) (has : Bool) (w : ℕ) (b : BlockBody) (bs : List BlockValue) → IsHunkBlock hunks longs (record { word = w; body = b }) → AreInOrder has (standing b ∷ standings bs) →
+    ((k : Bool) → AreInOrder k (standings bs) → length (contents bs) ≤ limit k longs) → (bs ≡ [] → length (contents bs) ≡ 0) → length (block_content b ++ contents bs) ≤ limit has longs
+content_by hunks longs has w (Name words) bs h o more none = more has o
+content_by hunks longs has w (Symbol entries) bs h o more none = more has o
+content_by hunks longs has w (Debug words) bs h o more none = more has o
+content_by hunks longs has w (Advisory words) bs h o more none = more has o
+content_by hunks longs false w (Code top words) bs h o more none = omega (arith, length-append (bytes_of words) (contents bs), length-bytes_of words, h.fits, more true o)
+content_by hunks longs true w (Code top words) bs h o more none = absurd o
+content_by hunks longs false w (Data top words) bs h o more none = omega (arith, length-append (bytes_of words) (contents bs), length-bytes_of words, h.fits, more true o)
+content_by hunks longs true w (Data top words) bs h o more none = absurd o
+content_by hunks longs false w (Bss size) bs h o more none = omega (arith, more true o)
+content_by hunks longs true w (Bss size) bs h o more none = absurd o
+content_by hunks longs true w (Reloc groups) bs h o more none = more true o
+content_by hunks longs false w (Reloc groups) bs h o more none = absurd o
+content_by hunks longs true w (Ext entries) bs h o more none = more true o
+content_by hunks longs false w (Ext entries) bs h o more none = absurd o
+content_by hunks longs true w End bs h o more none = omega (arith, none (no_more bs o))
+  where
+    no_more : (bs : List BlockValue) → standings bs ≡ [] → bs ≡ []
+    no_more [] e = refl
+    no_more (x ∷ bs) e = absurd cc
+content_by hunks longs false w End bs h o more none = absurd o
+
+contents_fit : (hunks longs : ℕ) (has : Bool) (bs : List BlockValue) → AllByRecursion (IsHunkBlock hunks longs) bs → AreInOrder has (standings bs) → length (contents bs) ≤ limit has longs
+contents_fit hunks longs has [] h o = absurd o
+contents_fit hunks longs has (b ∷ bs) h o = content_by hunks longs has b.word b.body bs h.0 o (λ k p. contents_fit hunks longs k bs h.1 p) (λ e. ap (λ (l : List BlockValue). length (contents l)) e)
+
+pub content_fits : (hunks : ℕ) (h : HunkValue) → IsHunk hunks h → length (flat_map (λ (b : BlockValue). block_content b.body) h.blocks) ≤ 4 * declared_longs h
+content_fits hunks h is = contents_fit hunks (declared_longs h) false h.blocks is.blocks is.order

@@ -1,0 +1,49 @@
+-- Runs of the reader: cut in two, determined by their longwords, and keeping what fits.
+use Rattle.std.proofs.Common.{◌≡◌, ℕ, List, [], ◌∷◌, ◌++◌, refl, sym, ap₂, subst, ◌∙◌, append_assoc, append-nil, None}
+use Rattle.std.specs.List.{AllByRecursion}
+use Rattle.hunk_words.specs.Longs.{IsLong}
+use Rattle.hunk_files.specs.Roles.{Role, refuse}
+use Rattle.hunk_files.specs.LoadText.{words}
+use Rattle.hunk_files.proofs.FileSteps.{Next, More, Finished, role_of, step, Leads}
+use Rattle.hunk_files.proofs.FileProgress.{Reads, step_keeps}
+
+abbrev pub Labelled : Type 0
+Labelled = List (Role × ℕ)
+
+-- a longword that its role lets pass
+abbrev pub IsAccepted : Role × ℕ → Type 0
+IsAccepted l = IsLong l.1 × (refuse l.0 l.1 ≡ None)
+
+abbrev pub AreAccepted : Labelled → Type 0
+AreAccepted ls = AllByRecursion IsAccepted ls
+
+pub Leads-split : (a c : Next) (ls ms : Labelled) → Leads a (ls ++ ms) c → (b : Next) × Leads a ls b × Leads b ms c
+Leads-split a c [] ms h = (a, refl, h)
+Leads-split (More p) c (l ∷ ls) ms h =
+    let rest = Leads-split (step p l.1) c ls ms h.1 in
+    (rest.0, (h.0, rest.1), rest.2)
+Leads-split (Finished v) c (l ∷ ls) ms h = absurd h
+
+-- The longwords alone determine the roles and the end.
+pub Leads-same : (a b c : Next) (ls ms : Labelled) → Leads a ls b → Leads a ms c → words ls ≡ words ms → (ls ≡ ms) × (b ≡ c)
+Leads-same a b c [] [] h k e = (refl, sym h ∙ k)
+Leads-same a b c [] (m ∷ ms) h k e = absurd cc
+Leads-same a b c (l ∷ ls) [] h k e = absurd cc
+Leads-same (Finished v) b c (l ∷ ls) (m ∷ ms) h k e = absurd h
+Leads-same (More p) b c (l ∷ ls) (m ∷ ms) h k e =
+    let head : l.1 ≡ m.1 = cc in
+    let tail : words ls ≡ words ms = cc in
+    let rest = Leads-same (step p l.1) b c ls ms h.1 (subst (λ (w : ℕ). Leads (step p w) ms c) (sym head) k.1) tail in
+    (ap₂ (λ (x : Role × ℕ) (xs : Labelled). x ∷ xs) (λ i. ((sym h.0 ∙ k.0) i, head i)) rest.0, rest.1)
+
+-- A run over longwords that pass keeps what fits, and adds them to the text.
+pub Leads-keeps : (a b : Next) (before ls : Labelled) → Reads a before → AreAccepted ls → Leads a ls b → Reads b (before ++ ls)
+Leads-keeps a b before [] h ok run = subst (λ (x : Next). Reads x (before ++ [])) run (h.0, h.1 ∙ sym (append-nil before))
+Leads-keeps (Finished v) b before (l ∷ ls) h ok run = absurd run
+Leads-keeps (More p) b before (l ∷ ls) h ok run =
+    let role : role_of p ≡ l.0 = run.0 in
+    let one = step_keeps p l.1 h.0 ok.0.0 (subst (λ (r : Role). refuse r l.1 ≡ None) (sym role) ok.0.1) in
+    subst (λ (ms : Labelled). Reads b ms) (append_assoc before (l ∷ []) ls)
+    (Leads-keeps (step p l.1) b (before ++ l ∷ []) ls
+    (one.0, one.1 ∙ ap₂ (λ (ms : Labelled) (r : Role). ms ++ (r, l.1) ∷ []) h.1 role)
+    ok.1 run.1)

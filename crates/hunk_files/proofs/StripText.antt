@@ -1,0 +1,48 @@
+-- What is stripped is no longer than it was.
+use Rattle.std.proofs.Common.{◌≡◌, ℕ, ◌+◌, ◌*◌, ◌≤◌, Bool, true, false, cond, List, [], ◌∷◌, ◌++◌, length, map, ap, length-append, arith}
+use Rattle.hunk_words.specs.Longs.{bytes_of}
+use Rattle.hunk_words.proofs.LongLaws.{length-bytes_of}
+use Rattle.hunk_blocks.specs.Values.{BlockValue}
+use Rattle.hunk_blocks.specs.Parts.{block_text}
+use Rattle.hunk_files.specs.LoadFile.{LoadFileValue, TableEntry}
+use Rattle.hunk_files.specs.LoadText.{header_labelled, table, text, words}
+use Rattle.hunk_files.specs.Hunks.{block_texts}
+use Rattle.hunk_files.specs.Strip.{is_kept, strip_blocks, strip_hunk, strip_file}
+use Rattle.hunk_files.specs.Tables.{hunk_texts}
+use Rattle.hunk_files.proofs.StripLaws.{table_kept}
+use Rattle.hunk_files.proofs.TableReading.{text_is}
+
+blocks_shorter : (bs : List BlockValue) → length (block_texts (strip_blocks bs)) ≤ length (block_texts bs)
+blocks_shorter [] = omega arith
+blocks_shorter (b ∷ bs) = by_test (blocks_shorter bs) (is_kept b.body)
+  where
+    by_test : length (block_texts (strip_blocks bs)) ≤ length (block_texts bs) → (k : Bool) → length (block_texts (cond k (b ∷ strip_blocks bs) (strip_blocks bs))) ≤ length (block_text b ++ block_texts bs)
+    by_test h true = omega (arith, h, length-append (block_text b) (block_texts (strip_blocks bs)), length-append (block_text b) (block_texts bs))
+    by_test h false = omega (arith, h, length-append (block_text b) (block_texts bs))
+
+hunks_shorter : (v : LoadFileValue) → length (hunk_texts (strip_file v)) ≤ length (hunk_texts v)
+hunks_shorter [] = omega arith
+hunks_shorter (h ∷ v) =
+    omega (
+      arith,
+      blocks_shorter h.blocks,
+      hunks_shorter v,
+      length-append (block_texts (strip_blocks h.blocks)) (hunk_texts (strip_file v)),
+      length-append (block_texts h.blocks) (hunk_texts v),
+    )
+
+pub text_shorter : (v : LoadFileValue) → length (text (strip_file v)) ≤ length (text v)
+text_shorter v =
+    let header : List TableEntry → List ℕ = λ t. words (header_labelled t) in
+    omega (
+      arith,
+      hunks_shorter v,
+      ap length (text_is (strip_file v)),
+      ap length (text_is v),
+      length-append (header (table (strip_file v))) (hunk_texts (strip_file v)),
+      length-append (header (table v)) (hunk_texts v),
+      ap (λ (t : List TableEntry). length (header t)) (table_kept v),
+    )
+
+pub bytes_shorter : (v : LoadFileValue) → length (bytes_of (text (strip_file v))) ≤ length (bytes_of (text v))
+bytes_shorter v = omega (arith, text_shorter v, length-bytes_of (text (strip_file v)), length-bytes_of (text v))

@@ -1,0 +1,71 @@
+-- The text of a load file in memory, in the parts that are written.
+use Rattle.std.proofs.Common.{◌≡◌, ℕ, ◌+◌, ◌-◌, Bool, true, false, List, [], ◌∷◌, ◌++◌, length, map, refl, sym, ap, ap₂, ◌∙◌, append_assoc, length-append, arith, if◌then◌else◌}
+use Rattle.std.specs.List.{flat_map}
+use Rattle.std.proofs.lemmas.List.{length-map}
+use Rattle.std.proofs.lemmas.List.Folds.{flat_map-map}
+use Rattle.hunk_words.specs.Longs.{bytes_of}
+use Rattle.hunk_words.specs.Bits.{has_both_bits}
+use Rattle.hunk_words.proofs.LongLaws.{bytes_of-cons, bytes_of-append}
+use Rattle.hunk_files.specs.declared.row.Row.{Row}
+use Rattle.hunk_files.specs.declared.load.hunk.LoadHunk.{LoadHunk}
+use Rattle.hunk_files.specs.LoadFile.{HunkValue, LoadFileValue}
+use Rattle.hunk_files.specs.LoadText.{table, text}
+use Rattle.hunk_files.specs.Hunks.{block_texts}
+use Rattle.hunk_files.specs.Tables.{row_entry, hunk_of, hunk_texts, row_words, row_texts, behind_first}
+use Rattle.hunk_files.proofs.TableReading.{entries_words, entries_more, entry_words, text_is}
+
+-- ---- a row
+
+abbrev pub row_rest : Row → List ℕ
+row_rest r = if has_both_bits r.word then r.extra ∷ [] else []
+
+pub row_split : (r : Row) → bytes_of (row_words r) ≡ bytes_of (r.word ∷ []) ++ bytes_of (row_rest r)
+row_split r = ap bytes_of (entry_words (row_entry r) (has_both_bits r.word) refl) ∙ bytes_of-cons r.word (row_rest r)
+
+pub row_two : (r : Row) → has_both_bits r.word ≡ true → bytes_of (row_words r) ≡ bytes_of (r.word ∷ []) ++ bytes_of (r.extra ∷ [])
+row_two r e = ap bytes_of (entry_words (row_entry r) true e) ∙ bytes_of-cons r.word (r.extra ∷ [])
+
+pub row_one : (r : Row) → has_both_bits r.word ≡ false → bytes_of (row_words r) ≡ bytes_of (r.word ∷ [])
+row_one r e = ap bytes_of (entry_words (row_entry r) false e)
+
+-- ---- the file
+
+abbrev pub all_blocks : List LoadHunk → List ℕ
+all_blocks hs = flat_map (λ (h : LoadHunk). block_texts h.blocks.items) hs
+
+abbrev pub numbers : List LoadHunk → List ℕ
+numbers hs = 0 ∷ length hs ∷ 0 ∷ (length hs - 1) ∷ []
+
+pub behind_split : (hs : List LoadHunk) → bytes_of (behind_first hs) ≡ bytes_of (numbers hs) ++ (bytes_of (row_texts hs) ++ bytes_of (all_blocks hs))
+behind_split hs = bytes_of-append (numbers hs) (row_texts hs ++ all_blocks hs) ∙ ap (λ (l : List ℕ). bytes_of (numbers hs) ++ l) (bytes_of-append (row_texts hs) (all_blocks hs))
+
+pub behind_size : (hs : List LoadHunk) → length (bytes_of (behind_first hs)) ≡ length (bytes_of (numbers hs)) + (length (bytes_of (row_texts hs)) + length (bytes_of (all_blocks hs)))
+behind_size hs =
+    omega (
+      arith,
+      ap length (behind_split hs),
+      length-append (bytes_of (numbers hs)) (bytes_of (row_texts hs) ++ bytes_of (all_blocks hs)),
+      length-append (bytes_of (row_texts hs)) (bytes_of (all_blocks hs)),
+    )
+
+-- what stands behind the first longword of a text
+abbrev pub after_first : LoadFileValue → List ℕ
+after_first v = 0 ∷ length (table v) ∷ 0 ∷ (length (table v) - 1) ∷ (entries_words (table v) ++ hunk_texts v)
+
+pub first_split : (v : LoadFileValue) → bytes_of (text v) ≡ bytes_of (0x3F3 ∷ []) ++ bytes_of (after_first v)
+first_split v = ap bytes_of (text_is v) ∙ bytes_of-cons 0x3F3 (after_first v)
+
+rows_are : (hs : List LoadHunk) → entries_words (table (map hunk_of hs)) ≡ row_texts hs
+rows_are [] = refl
+rows_are (h ∷ hs) = entries_more (row_entry h.row) (table (map hunk_of hs)) ∙ ap (λ (l : List ℕ). row_words h.row ++ l) (rows_are hs)
+
+text_behind : (hs : List LoadHunk) → text (map hunk_of hs) ≡ 0x3F3 ∷ behind_first hs
+text_behind hs =
+    let count : length (table (map hunk_of hs)) ≡ length hs = length-map (map hunk_of hs) (λ (h : HunkValue). h.entry) ∙ length-map hs hunk_of in
+    text_is (map hunk_of hs)
+    ∙ ap₂ (λ (n : ℕ) (l : List ℕ). 0x3F3 ∷ 0 ∷ n ∷ 0 ∷ (n - 1) ∷ l) count (ap₂ (λ (l m : List ℕ). l ++ m) (rows_are hs) (flat_map-map (λ (h : HunkValue). block_texts h.blocks) hunk_of hs))
+
+pub text_split : (hs behind : List LoadHunk) (v : LoadFileValue) → map hunk_of hs ≡ v → behind ≡ hs → bytes_of (text v) ≡ bytes_of (0x3F3 ∷ []) ++ bytes_of (behind_first behind)
+text_split hs behind v view same =
+    ap (λ (w : LoadFileValue). bytes_of (text w)) (sym view) ∙ ap bytes_of (text_behind hs) ∙ bytes_of-cons 0x3F3 (behind_first hs)
+    ∙ ap (λ (l : List LoadHunk). bytes_of (0x3F3 ∷ []) ++ bytes_of (behind_first l)) (sym same)

@@ -1,0 +1,5 @@
+use Rattle.hunk_files.proofs.Scan.{completed}
+use Rattle.hunk_files.proofs.laws.complete.Goals as goal
+
+pub returns : goal.returns
+returns c = completed

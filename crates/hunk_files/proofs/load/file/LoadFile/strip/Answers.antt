@@ -1,0 +1,28 @@
+use Rattle.std.proofs.Common.{◌≡◌, ◌≤◌, List, length, map, ap, sym, ◌∙◌, subst, arith}
+use Rattle.hunk_words.specs.Longs.{bytes_of}
+use Rattle.hunk_files.specs.declared.load.hunk.LoadHunk.{LoadHunk}
+use Rattle.hunk_files.specs.LoadFile.{LoadFileValue, IsLoadFile}
+use Rattle.hunk_files.specs.LoadText.{text}
+use Rattle.hunk_files.specs.Strip.{strip_file}
+use Rattle.hunk_files.specs.Tables.{hunk_of}
+use Rattle.hunk_files.proofs.StripLaws.{file_kept}
+use Rattle.hunk_files.proofs.StripText.{bytes_shorter}
+use Rattle.hunk_files.proofs.FileViews.{whole_slice}
+use Rattle.hunk_files.proofs.load.file.LoadFile.strip.Goals as goal
+
+pub invariant_of-result : goal.invariant_of-result
+invariant_of-result c =
+    let items = c.self.inside.hunks.items in
+    let strips = c.strip_hunks.ensures ∙ ap (λ (hs : List LoadHunk). strip_file (map hunk_of hs)) c.deref_mut.ensures.value in
+    subst IsLoadFile (sym (whole_slice items c.strip_hunks.new.hunks c.self.inside.hunks.len (omega arith) strips)) (file_kept (map hunk_of items) c.self.invariant)
+
+pub returns-clause-value : goal.returns-clause-value
+returns-clause-value c =
+    let strips = c.strip_hunks.ensures ∙ ap (λ (hs : List LoadHunk). strip_file (map hunk_of hs)) c.deref_mut.ensures.value in
+    whole_slice c.self.inside.hunks.items c.strip_hunks.new.hunks c.self.inside.hunks.len (omega arith) strips ∙ ap strip_file c.self.view_is
+
+pub returns-clause-shorter : goal.returns-clause-shorter
+returns-clause-shorter c =
+    let strips = c.strip_hunks.ensures ∙ ap (λ (hs : List LoadHunk). strip_file (map hunk_of hs)) c.deref_mut.ensures.value in
+    let value = whole_slice c.self.inside.hunks.items c.strip_hunks.new.hunks c.self.inside.hunks.len (omega arith) strips ∙ ap strip_file c.self.view_is in
+    subst (λ (v : LoadFileValue). length (bytes_of (text v)) ≤ length (bytes_of (text c.args.self))) (sym value) (bytes_shorter c.args.self)

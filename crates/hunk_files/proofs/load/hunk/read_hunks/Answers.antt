@@ -1,0 +1,47 @@
+use Rattle.std.proofs.Common.{◌≡◌, ℕ, ◌+◌, ◌<◌, ◌≤◌, List, [], ◌∷◌, ◌++◌, length, map, get_or, arith, rules, refl, sym, ap, ◌∙◌, subst}
+use Rattle.std.proofs.lemmas.List.{map_push}
+use Rattle.hunk_files.specs.declared.row.Row.{Row}
+use Rattle.hunk_files.specs.declared.load.hunk.LoadHunk.{LoadHunk}
+use Rattle.hunk_files.specs.LoadFile.{HunkValue}
+use Rattle.hunk_files.specs.Tables.{hunk_of}
+use Rattle.hunk_files.proofs.FileReading.{HunksSoFar, no_hunks, some_hunk, hunk_added, all_read, behind_start, out_of_memory}
+use Rattle.hunk_files.proofs.load.hunk.read_hunks.Goals as goal
+
+abbrev no_row : Row
+no_row = record { word = 0; extra = 0; base = 0 }
+
+pub reading-init : goal.reading-init
+reading-init c file =
+    let P : List HunkValue → Type 0 = λ hs. HunksSoFar c.args.bytes.now file hs 0 c.args.start in
+    subst P (ap (map hunk_of) (sym c.new-hunks.ensures.items)) (no_hunks c.args.bytes.now file c.args.rows.now c.args.start (c.requires.table file))
+
+pub read_hunk-requires : goal.read_hunk-requires
+read_hunk-requires c = (c.reading.invariant c.requires.begins).inside
+
+pub returns-in-Err-clause-memory : goal.returns-in-Err-clause-memory
+returns-in-Err-clause-memory c =
+    let file = c.requires.begins in
+    let rows = c.args.rows.now in
+    out_of_memory c.in-Err.fault.reason
+    (λ other. some_hunk c.args.bytes.now file rows (c.requires.table file).rows_are (map hunk_of c.reading.hunks.items) c.reading.row-index c.reading.at (c.reading.invariant file)
+    no_row (get_or rows c.reading.row-index no_row) (omega arith) refl (c.in-Err.ensures.none other))
+
+pub out_of_memory-requires : goal.out_of_memory-requires
+out_of_memory-requires c =
+    behind_start c.args.bytes.now c.reading.at c.in-Ok.read.1 c.in-Ok.read.0.items (c.reading.invariant c.requires.begins).inside c.in-Ok.ensures.found
+
+pub reading-preserved : goal.reading-preserved
+reading-preserved c file =
+    let rows = c.args.rows.now in
+    let row = get_or rows c.reading.row-index no_row in
+    let hunk : LoadHunk = record { row = row; blocks = c.in-Ok.read.0 } in
+    let pushed : c.push.new.self.items ≡ c.reading.hunks.items ++ hunk ∷ [] = search rules in
+    let more : map hunk_of c.push.new.self.items ≡ map hunk_of c.reading.hunks.items ++ hunk_of hunk ∷ [] = ap (map hunk_of) pushed ∙ map_push hunk_of c.reading.hunks.items hunk in
+    let P : List HunkValue → Type 0 = λ hs. HunksSoFar c.args.bytes.now file hs (c.reading.row-index + 1) c.in-Ok.read.1 in
+    subst P (sym more)
+    (hunk_added c.args.bytes.now file rows (c.requires.table file).rows_are (map hunk_of c.reading.hunks.items) c.reading.row-index c.reading.at (c.reading.invariant file)
+    no_row row (omega arith) refl c.in-Ok.read.1 c.in-Ok.read.0.items c.in-Ok.ensures.found)
+
+pub returns-clause-hunks : goal.returns-clause-hunks
+returns-clause-hunks c file =
+    all_read c.args.bytes.now file c.args.rows.now (c.requires.table file).rows_are (map hunk_of c.reading.hunks.items) c.reading.row-index c.reading.at (c.reading.invariant file) (omega arith)

@@ -1,0 +1,9 @@
+use Rattle.std.proofs.Common.{length, ◌-◌, ◌/◌}
+use Rattle.hunk_files.proofs.Walking.{Walks}
+use Rattle.hunk_files.proofs.load.walk.walk.Given as goal
+
+abbrev pub invariant-walking : goal.invariant-walking
+invariant-walking l = Walks l.bytes l.at l.stage
+
+abbrev pub decreases-walking : goal.decreases-walking
+decreases-walking l = l.count - l.at

@@ -1,0 +1,46 @@
+use Rattle.std.proofs.Common.{◌≡◌, ◌+◌, ◌∙◌, List, [], ◌∷◌, ◌++◌, ℕ, arith, rules, sym, ap, subst, drop}
+use Rattle.std.proofs.lemmas.List.{take_rest}
+use Rattle.hunk_words.specs.Longs.{bytes_of}
+use Rattle.hunk_files.specs.ObjectFile.{IsNoObjectFile, ObjectFileValue, IsObjectFile, unit_text, object_text}
+use Rattle.hunk_files.specs.ObjectParts.{BeginsWithText, EndsUnit}
+use Rattle.hunk_files.proofs.UnitReading.{UnitsSoFar, no_units, no_more_units, unit_added, unit_goes_on, units_inside, all_text}
+use Rattle.hunk_files.proofs.object.file.ObjectFile.decode.Goals as goal
+
+pub reading-init : goal.reading-init
+reading-init c =
+    let P : ObjectFileValue → Type 0 = λ us. UnitsSoFar c.args.bytes.now us 0 in
+    subst P (sym c.new-units.ensures.items) (no_units c.args.bytes.now)
+
+pub returns-in-Err-clause-none : goal.returns-in-Err-clause-none
+returns-in-Err-clause-none c ne =
+    no_more_units c.args.bytes.now c.reading.units.items c.reading.at c.reading.invariant
+    (subst IsNoObjectFile (take_rest c.args.bytes.now c.reading.at) (c.in-Err.ensures.none (λ e. ne (c.counted_from.ensures.reason ∙ e))))
+
+pub returns-then-at-bytes-clause-text : goal.returns-then-at-bytes-clause-text
+returns-then-at-bytes-clause-text c =
+    let bytes = c.args.bytes.now in
+    let pushed : c.push.new.self.items ≡ c.reading.units.items ++ c.in-Ok.read.0 ∷ [] = search rules in
+    let P : List ℕ → Type 0 = λ rest. BeginsWithText rest (unit_text c.in-Ok.read.0) c.in-Ok.read.1 in
+    let here = subst P (take_rest bytes c.reading.at) c.in-Ok.ensures.text in
+    let Q : ObjectFileValue → Type 0 = λ us. bytes ≡ bytes_of (object_text us) in
+    subst Q (sym pushed) (all_text bytes c.reading.units.items c.reading.at c.reading.invariant c.in-Ok.read.0 c.in-Ok.read.1 c.in-Ok.ensures.unit here c.if-at-bytes.true)
+
+pub reading-smaller : goal.reading-smaller
+reading-smaller c =
+    let bytes = c.args.bytes.now in
+    let P : List ℕ → Type 0 = λ rest. BeginsWithText rest (unit_text c.in-Ok.read.0) c.in-Ok.read.1 in
+    let here = subst P (take_rest bytes c.reading.at) c.in-Ok.ensures.text in
+    let grows = unit_goes_on bytes c.reading.units.items c.reading.at c.reading.invariant c.in-Ok.read.0 c.in-Ok.read.1 c.in-Ok.ensures.unit here in
+    let inside = units_inside bytes c.reading.units.items c.reading.at c.reading.invariant c.in-Ok.read.0 c.in-Ok.read.1 c.in-Ok.ensures.unit here in
+    omega (arith, grows, inside)
+
+pub reading-preserved : goal.reading-preserved
+reading-preserved c =
+    let bytes = c.args.bytes.now in
+    let pushed : c.push.new.self.items ≡ c.reading.units.items ++ c.in-Ok.read.0 ∷ [] = search rules in
+    let P : List ℕ → Type 0 = λ rest. BeginsWithText rest (unit_text c.in-Ok.read.0) c.in-Ok.read.1 in
+    let here = subst P (take_rest bytes c.reading.at) c.in-Ok.ensures.text in
+    let R : List ℕ → Type 0 = λ rest. EndsUnit (drop c.in-Ok.read.1 rest) in
+    let ends = subst R (take_rest bytes c.reading.at) c.in-Ok.ensures.end in
+    let Q : ObjectFileValue → Type 0 = λ us. UnitsSoFar bytes us (c.reading.at + c.in-Ok.read.1) in
+    subst Q (sym pushed) (unit_added bytes c.reading.units.items c.reading.at c.reading.invariant c.in-Ok.read.0 c.in-Ok.read.1 c.in-Ok.ensures.unit here ends c.if-at-bytes.false)

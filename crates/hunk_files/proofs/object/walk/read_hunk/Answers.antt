@@ -1,0 +1,61 @@
+use Rattle.std.proofs.Common.{◌≡◌, ◌+◌, ◌∙◌, List, [], ◌∷◌, ◌++◌, ℕ, Bool, false, ◌||◌, arith, rules, sym, ap, subst}
+use Rattle.std.proofs.lemmas.List.{take_rest}
+use Rattle.std.specs.List.{flat_map}
+use Rattle.hunk_words.specs.Longs.{longs}
+use Rattle.hunk_blocks.specs.declared.mode.Mode.TheVariants as modes
+use Rattle.hunk_blocks.specs.Parts.{block_text}
+use Rattle.hunk_blocks.specs.Begins.{BeginsWithBlock}
+use Rattle.hunk_blocks.specs.Reading.{BeginsWithNo}
+use Rattle.hunk_files.specs.LoadFile.{standing, is_content}
+use Rattle.hunk_files.specs.ObjectFile.{ObjectHunk, IsObjectHunk}
+use Rattle.hunk_files.specs.ObjectParts.{BeginsWithText, MayStand}
+use Rattle.hunk_files.proofs.ObjectDecoding.{HunkSoFar, no_blocks, no_hunk, block_added, hunk_ended, text_with, goes_further, still_inside}
+use Rattle.hunk_files.proofs.object.walk.read_hunk.Goals as goal
+
+pub reading-init : goal.reading-init
+reading-init c =
+    let P : ObjectHunk → Type 0 = λ bs. HunkSoFar c.args.bytes.now bs false 0 in
+    subst P (sym c.new-blocks.ensures.items) (no_blocks c.args.bytes.now)
+
+pub returns-in-Err-clause-none : goal.returns-in-Err-clause-none
+returns-in-Err-clause-none c ne =
+    let P : List ℕ → Type 0 = λ rest. BeginsWithNo (MayStand c.reading.has_content) block_text (longs rest) in
+    no_hunk c.args.bytes.now c.reading.blocks.items c.reading.has_content c.reading.at c.reading.invariant
+    (subst P (take_rest c.args.bytes.now c.reading.at) (c.in-Err.ensures.none (λ e. ne (c.counted_from.ensures.reason ∙ e))))
+
+pub returns-then-ended-clause-hunk : goal.returns-then-ended-clause-hunk
+returns-then-ended-clause-hunk c =
+    let bytes = c.args.bytes.now in
+    let pushed : c.push.new.self.items ≡ c.reading.blocks.items ++ c.in-Ok.read.0 ∷ [] = search rules in
+    let P : List ℕ → Type 0 = λ rest. BeginsWithBlock modes.Object rest c.in-Ok.read.0 c.in-Ok.read.1 in
+    let here = subst P (take_rest bytes c.reading.at) c.in-Ok.ensures.block in
+    subst IsObjectHunk (sym pushed) (hunk_ended bytes c.reading.blocks.items c.reading.has_content c.reading.at c.reading.invariant c.in-Ok.read.0 c.in-Ok.read.1 here c.in-Ok.ensures.place (sym c.if-ended.ensures))
+
+pub returns-then-ended-clause-text : goal.returns-then-ended-clause-text
+returns-then-ended-clause-text c =
+    let bytes = c.args.bytes.now in
+    let pushed : c.push.new.self.items ≡ c.reading.blocks.items ++ c.in-Ok.read.0 ∷ [] = search rules in
+    let P : List ℕ → Type 0 = λ rest. BeginsWithBlock modes.Object rest c.in-Ok.read.0 c.in-Ok.read.1 in
+    let here = subst P (take_rest bytes c.reading.at) c.in-Ok.ensures.block in
+    let Q : ObjectHunk → Type 0 = λ bs. BeginsWithText bytes (flat_map block_text bs) (c.reading.at + c.in-Ok.read.1) in
+    subst Q (sym pushed) (text_with bytes c.reading.blocks.items c.reading.has_content c.reading.at c.reading.invariant c.in-Ok.read.0 c.in-Ok.read.1 here c.in-Ok.ensures.place)
+
+pub reading-smaller : goal.reading-smaller
+reading-smaller c =
+    let bytes = c.args.bytes.now in
+    let P : List ℕ → Type 0 = λ rest. BeginsWithBlock modes.Object rest c.in-Ok.read.0 c.in-Ok.read.1 in
+    let here = subst P (take_rest bytes c.reading.at) c.in-Ok.ensures.block in
+    let grows = goes_further bytes c.reading.blocks.items c.reading.has_content c.reading.at c.reading.invariant c.in-Ok.read.0 c.in-Ok.read.1 here c.in-Ok.ensures.place in
+    let inside = still_inside bytes c.reading.blocks.items c.reading.has_content c.reading.at c.reading.invariant c.in-Ok.read.0 c.in-Ok.read.1 here c.in-Ok.ensures.place in
+    omega (arith, grows, inside)
+
+pub reading-preserved : goal.reading-preserved
+reading-preserved c =
+    let bytes = c.args.bytes.now in
+    let pushed : c.push.new.self.items ≡ c.reading.blocks.items ++ c.in-Ok.read.0 ∷ [] = search rules in
+    let P : List ℕ → Type 0 = λ rest. BeginsWithBlock modes.Object rest c.in-Ok.read.0 c.in-Ok.read.1 in
+    let here = subst P (take_rest bytes c.reading.at) c.in-Ok.ensures.block in
+    let Q : ObjectHunk → Type 0 = λ bs. HunkSoFar bytes bs (c.reading.has_content || is_content (standing c.in-Ok.read.0.body)) (c.reading.at + c.in-Ok.read.1) in
+    let R : Bool → Type 0 = λ k. HunkSoFar bytes c.push.new.self.items (c.reading.has_content || k) (c.reading.at + c.in-Ok.read.1) in
+    subst R (sym c.is_content-has_content.ensures)
+    (subst Q (sym pushed) (block_added bytes c.reading.blocks.items c.reading.has_content c.reading.at c.reading.invariant c.in-Ok.read.0 c.in-Ok.read.1 here c.in-Ok.ensures.place (sym c.if-ended.ensures)))

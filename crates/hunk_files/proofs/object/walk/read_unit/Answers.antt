@@ -1,0 +1,40 @@
+use Rattle.std.proofs.Common.{◌≡◌, ◌+◌, ◌∙◌, List, [], ◌∷◌, ◌++◌, ℕ, arith, rules, sym, ap, subst, drop}
+use Rattle.std.proofs.lemmas.List.{take_rest}
+use Rattle.std.specs.List.{flat_map}
+use Rattle.hunk_words.specs.Longs.{longs}
+use Rattle.hunk_blocks.specs.Parts.{block_text}
+use Rattle.hunk_blocks.specs.Reading.{BeginsWithNo}
+use Rattle.hunk_files.specs.ObjectFile.{ObjectHunk, IsObjectHunk}
+use Rattle.hunk_files.specs.ObjectParts.{BeginsWithText, EndsUnit}
+use Rattle.hunk_files.proofs.UnitReading.{UnitSoFar, unit, hunk_added, no_object, no_object_header, hunk_goes_on}
+use Rattle.hunk_files.proofs.object.walk.read_unit.Goals as goal
+
+pub returns-in-Err-clause-none : goal.returns-in-Err-clause-none
+returns-in-Err-clause-none c ne = no_object_header c.args.bytes.now c.in-Err.ensures.none
+
+pub returns-in-Err-read_hunk-clause-none : goal.returns-in-Err-read_hunk-clause-none
+returns-in-Err-read_hunk-clause-none c ne =
+    let bytes = c.args.bytes.now in
+    let P : List ℕ → Type 0 = λ rest. BeginsWithNo IsObjectHunk (flat_map block_text) (longs rest) in
+    let Q : List ℕ → Type 0 = λ rest. EndsUnit rest → ⊥ in
+    no_object bytes (longs c.in-Ok.read.0) c.reading.hunks.items c.reading.at c.reading.invariant (λ i. omega (arith, c.type_inv.bytes i))
+    (subst Q (take_rest bytes c.reading.at) (λ ends. let there = c.ends_unit.ensures.1 ends in let not_there = c.reading-test.true in cc))
+    (subst P (take_rest bytes c.reading.at) (c.in-Err-read_hunk.ensures.none (λ e. ne (c.counted_from.ensures.reason ∙ e))))
+
+pub reading-smaller : goal.reading-smaller
+reading-smaller c =
+    let bytes = c.args.bytes.now in
+    let P : List ℕ → Type 0 = λ rest. BeginsWithText rest (flat_map block_text c.in-Ok-read_hunk.read.0.items) c.in-Ok-read_hunk.read.1 in
+    let here = subst P (take_rest bytes c.reading.at) c.in-Ok-read_hunk.ensures.text in
+    let grows = hunk_goes_on (drop c.reading.at bytes) c.in-Ok-read_hunk.read.0.items c.in-Ok-read_hunk.read.1 c.in-Ok-read_hunk.ensures.hunk here in
+    let added = hunk_added bytes (longs c.in-Ok.read.0) c.reading.hunks.items c.reading.at c.reading.invariant c.in-Ok-read_hunk.read.0.items c.in-Ok-read_hunk.read.1 c.in-Ok-read_hunk.ensures.hunk here in
+    omega (arith, grows, added.text.whole)
+
+pub reading-preserved : goal.reading-preserved
+reading-preserved c =
+    let bytes = c.args.bytes.now in
+    let pushed : c.push.new.self.items ≡ c.reading.hunks.items ++ c.in-Ok-read_hunk.read.0.items ∷ [] = search rules in
+    let P : List ℕ → Type 0 = λ rest. BeginsWithText rest (flat_map block_text c.in-Ok-read_hunk.read.0.items) c.in-Ok-read_hunk.read.1 in
+    let here = subst P (take_rest bytes c.reading.at) c.in-Ok-read_hunk.ensures.text in
+    let Q : List ObjectHunk → Type 0 = λ hs. UnitSoFar bytes (unit (longs c.in-Ok.read.0) hs) (c.reading.at + c.in-Ok-read_hunk.read.1) in
+    subst Q (sym pushed) (hunk_added bytes (longs c.in-Ok.read.0) c.reading.hunks.items c.reading.at c.reading.invariant c.in-Ok-read_hunk.read.0.items c.in-Ok-read_hunk.read.1 c.in-Ok-read_hunk.ensures.hunk here)

@@ -1,0 +1,80 @@
+-- What is wrong with the offsets of an object file.
+use Rattle.std.specs.Prelude.{ℕ, ◌+◌, ◌*◌, ◌||◌, List, [], ◌∷◌, ◌++◌, length, ◌==◌, nat_lt, if◌then◌else◌}
+use Rattle.std.specs.List.{flat_map, sum_by}
+use Rattle.hunk_words.specs.declared.block_word.Kind.{Kind}
+use Rattle.hunk_words.specs.declared.block_word.Kind.TheVariants as kinds
+use Rattle.hunk_words.specs.Bits.{size_longs, kind}
+use Rattle.hunk_blocks.specs.Values.{RelocGroup, ExtEntry, BlockBody, Code, Data, Bss, Reloc, Ext, ext_type}
+use Rattle.hunk_files.specs.declared.object.check.Finding.{Finding}
+use Rattle.hunk_files.specs.declared.object.check.FindingKind.{FindingKind}
+use Rattle.hunk_files.specs.declared.object.check.FindingKind.TheVariants.{BadTarget, OutsideHunk}
+pub use Rattle.hunk_files.specs.declared.object.check.Spot.{Spot}
+use Rattle.hunk_files.specs.ObjectFile.{ObjectHunk, UnitValue, ObjectFileValue}
+
+-- the number of bytes that an offset of this kind of relocation stands for
+abbrev pub relocation_width : Kind → ℕ
+relocation_width kinds.Reloc16 = 2
+relocation_width kinds.Drel16 = 2
+relocation_width kinds.AbsReloc16 = 2
+relocation_width kinds.Reloc8 = 1
+relocation_width kinds.Drel8 = 1
+relocation_width _ = 4
+
+-- the same of a reference, by the number of its type
+abbrev pub reference_width : ℕ → ℕ
+reference_width n =
+    if n == 131 || n == 134 || n == 138 then 2
+    else if n == 132 || n == 135 || n == 139 then 1
+    else 4
+
+abbrev pub content_longs : BlockBody → ℕ
+content_longs (Code top words) = length words
+content_longs (Data top words) = length words
+content_longs (Bss size) = size_longs size
+content_longs _ = 0
+
+abbrev pub hunk_bytes : ObjectHunk → ℕ
+hunk_bytes h = 4 * sum_by (λ b. content_longs b.body) h
+
+abbrev pub FindingValue : Type 0
+FindingValue = Finding
+
+abbrev pub finding : Spot → FindingKind → ℕ → FindingValue
+finding s fault offset = record { unit = s.unit; hunk = s.hunk; fault = fault; offset = offset }
+
+abbrev pub outside : Spot → ℕ → ℕ → List FindingValue
+outside s width offset = if nat_lt s.bytes (offset + width) then finding s OutsideHunk offset ∷ [] else []
+
+abbrev pub relocation_findings : Spot → ℕ → ℕ → ℕ → List FindingValue
+relocation_findings s width target offset = (if nat_lt target s.hunks then [] else finding s BadTarget offset ∷ []) ++ outside s width offset
+
+abbrev pub group_findings : Spot → ℕ → RelocGroup → List FindingValue
+group_findings s width g = flat_map (relocation_findings s width g.target) g.offsets
+
+abbrev pub entry_findings : Spot → ExtEntry → List FindingValue
+entry_findings s e = flat_map (outside s (reference_width (ext_type e))) e.offsets
+
+abbrev pub body_findings : Spot → ℕ → BlockBody → List FindingValue
+body_findings s word (Reloc groups) = flat_map (group_findings s (relocation_width (kind word))) groups
+body_findings s word (Ext entries) = flat_map (entry_findings s) entries
+body_findings s word _ = []
+
+abbrev pub hunk_findings : Spot → ObjectHunk → List FindingValue
+hunk_findings s h = flat_map (λ b. body_findings s b.word b.body) h
+
+-- the hunks from this number on, of a unit of so many
+abbrev pub hunks_findings : ℕ → ℕ → ℕ → List ObjectHunk → List FindingValue
+hunks_findings unit hunks number [] = []
+hunks_findings unit hunks number (h ∷ rest) =
+    hunk_findings (record { unit = unit; hunk = number; hunks = hunks; bytes = hunk_bytes h }) h ++ hunks_findings unit hunks (number + 1) rest
+
+abbrev pub unit_findings : ℕ → UnitValue → List FindingValue
+unit_findings number u = hunks_findings number (length u.hunks) 0 u.hunks
+
+abbrev pub units_findings : ℕ → List UnitValue → List FindingValue
+units_findings number [] = []
+units_findings number (u ∷ rest) = unit_findings number u ++ units_findings (number + 1) rest
+
+-- What is wrong with an object file, in file order.
+abbrev pub findings : ObjectFileValue → List FindingValue
+findings o = units_findings 0 o

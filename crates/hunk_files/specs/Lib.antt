@@ -1,0 +1,16 @@
+pub mod Fault
+pub mod FileKind
+pub mod Findings
+pub mod Hunks
+pub mod Image
+pub mod LoadFile
+pub mod LoadText
+pub mod ObjectFile
+pub mod ObjectParts
+pub mod Overlap
+pub mod Relocating
+pub mod Roles
+pub mod Stages
+pub mod Strip
+pub mod SumImage
+pub mod Tables

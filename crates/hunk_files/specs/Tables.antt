@@ -1,0 +1,42 @@
+-- The rows and hunks of a load file, as they are read from bytes that begin with one.
+use Rattle.std.specs.Prelude.{◌≡◌, ℕ, ◌-◌, ◌≤◌, List, [], ◌∷◌, ◌++◌, length, map, drop}
+use Rattle.std.specs.List.{flat_map}
+use Rattle.hunk_words.specs.Longs.{bytes_of}
+use Rattle.hunk_words.specs.declared.size_word.SizeWord.{SizeWord}
+use Rattle.hunk_files.specs.declared.row.Row.{Row}
+use Rattle.hunk_files.specs.declared.load.hunk.LoadHunk.{LoadHunk}
+use Rattle.hunk_files.specs.LoadFile.{TableEntry, HunkValue, LoadFileValue}
+use Rattle.hunk_files.specs.LoadText.{entry_labelled, table, words}
+use Rattle.hunk_files.specs.Fault.{BeginsWithLoadFile}
+use Rattle.hunk_files.specs.Hunks.{block_texts}
+
+-- what the header declares of the hunk
+abbrev pub row_entry : Row → TableEntry
+row_entry r = record { word = r.word; extra = r.extra }
+
+abbrev pub entry_of : SizeWord → TableEntry
+entry_of s = record { word = s.word; extra = s.extra }
+
+abbrev pub hunk_of : LoadHunk → HunkValue
+hunk_of h = record { entry = row_entry h.row; blocks = h.blocks.items }
+
+abbrev pub hunk_texts : LoadFileValue → List ℕ
+hunk_texts v = flat_map (λ h. block_texts h.blocks) v
+
+-- These are the rows of the file's table, and the hunks stand from this byte on.
+pub record IsTable (bytes : List ℕ) (file : BeginsWithLoadFile bytes) (rows : List Row) (end : ℕ) : Type 0 where
+  pub rows_are : map row_entry rows ≡ table file.value
+  pub inside : end ≤ length bytes
+  pub hunks_follow : drop end bytes ≡ bytes_of (hunk_texts file.value) ++ file.rest
+
+-- ---- the text of hunks in memory
+
+abbrev pub row_words : Row → List ℕ
+row_words r = words (entry_labelled (row_entry r))
+
+abbrev pub row_texts : List LoadHunk → List ℕ
+row_texts hunks = flat_map (λ h. row_words h.row) hunks
+
+-- What stands behind the first longword of a file: the numbers of its header, the table and the blocks.
+abbrev pub behind_first : List LoadHunk → List ℕ
+behind_first hunks = (0 ∷ length hunks ∷ 0 ∷ (length hunks - 1) ∷ []) ++ (row_texts hunks ++ flat_map (λ h. block_texts h.blocks.items) hunks)

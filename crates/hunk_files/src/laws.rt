@@ -1,0 +1,79 @@
+//! Laws over the definitions alone: each function does nothing, and its contract is the law.
+ghost use Rattle.std.specs.Prelude.{◌≡◌, ℕ, List, [], ◌∷◌, ◌++◌, map, IsTrue, Some, None, ◌⊎◌};
+ghost use Rattle.std.specs.List.{AllByRecursion};
+ghost use Rattle.hunk_words.specs.Longs.{IsLong, IsBytes};
+ghost use Rattle.hunk_words.specs.declared.reason.Reason.{Reason};
+ghost use Rattle.hunk_files.specs.LoadFile.{HunkValue, LoadFileValue, IsHunk, IsLoadFile};
+ghost use Rattle.hunk_files.specs.Roles.{Role, refuse};
+ghost use Rattle.hunk_files.specs.LoadText.{labelled, table, text};
+ghost use Rattle.hunk_files.specs.Fault.{Expects, IsCompleted, BeginsWithLoadFile, HasRefusal, IsTruncated, HasFault, is_word_refusal};
+ghost use Rattle.hunk_files.specs.Image.{content, relocations, offsets, image};
+ghost use Rattle.hunk_files.specs.Overlap.{AreApart};
+ghost use Rattle.hunk_files.specs.SumImage.{IsSumImage};
+ghost use Rattle.hunk_files.specs.ObjectFile.{ObjectFileValue, IsObjectFile, object_text};
+ghost use Rattle.hunk_files.specs.Findings.{findings};
+ghost use Rattle.hunk_files.specs.Strip.{strip_file, strip_object};
+
+/// No load text is a proper prefix of another, one text has one value, and the longwords before a
+/// place determine its role.
+pub fn load_prefix()
+    ensures one_value { (a b : LoadFileValue) (more : List ℕ) → IsLoadFile a → IsLoadFile b →
+        text a ++ more ≡ text b → (a ≡ b) × (more ≡ []) }
+    ensures one_role { (before : List ℕ) (r s : Role) → Expects before r → Expects before s → r ≡ s }
+{}
+
+/// A longword that is not refused at its place goes on to a load text, as the roles that follow
+/// complete it.
+pub fn complete()
+    ensures { (before : List ℕ) (role : Role) (word : ℕ) → Expects before role → IsLong word →
+        refuse role word ≡ None → IsCompleted (before ++ word ∷ []) }
+{}
+
+/// No longword of a load text is refused.
+pub fn no_refusal()
+    ensures { (v : LoadFileValue) → IsLoadFile v → AllByRecursion (λ l. refuse l.0 l.1 ≡ None) (labelled v) }
+{}
+
+/// Of every list of bytes just one of three holds: it begins with a load text, a longword of it is
+/// refused, or it ends too soon. The fault is one, and the first.
+pub fn one_outcome()
+    ensures some { (bytes : List ℕ) → IsBytes bytes →
+        BeginsWithLoadFile bytes ⊎ ((at : ℕ) × (reason : Reason) × HasFault bytes at reason) }
+    ensures one { (bytes : List ℕ) → IsBytes bytes → (at : ℕ) (reason : Reason) (at2 : ℕ) (reason2 : Reason) →
+        HasFault bytes at reason → HasFault bytes at2 reason2 → (at ≡ at2) × (reason ≡ reason2) }
+    ensures not_both { (bytes : List ℕ) (at : ℕ) (reason : Reason) →
+        BeginsWithLoadFile bytes → HasFault bytes at reason → ⊥ }
+    ensures of_word { (bytes : List ℕ) (at : ℕ) (reason : Reason) → HasRefusal bytes at reason → IsTrue (is_word_refusal reason) }
+    ensures not_truncated { (bytes : List ℕ) → IsBytes bytes → (at : ℕ) (reason : Reason) (at2 : ℕ) →
+        HasRefusal bytes at reason → IsTruncated bytes at2 → ⊥ }
+{}
+
+/// Where no two relocated longs overlap, the memory of a hunk is its content with the bases of each
+/// offset's targets added, and no other bytes are.
+pub fn sum_image()
+    ensures sums { (hunks : ℕ) (h : HunkValue) (bases : List ℕ) → IsHunk hunks h → AreApart (offsets (relocations h)) →
+        IsSumImage bases h (image bases h) }
+    ensures one { (hunks : ℕ) (h : HunkValue) (bases : List ℕ) (memory : List ℕ) → IsHunk hunks h → AreApart (offsets (relocations h)) →
+        IsSumImage bases h memory → memory ≡ image bases h }
+{}
+
+/// What is stripped is a load file with the same table, content and relocations, and so with the
+/// same memory wherever the hunks lie.
+pub fn strip_image()
+    ensures value { (v : LoadFileValue) → IsLoadFile v → IsLoadFile (strip_file v) }
+    ensures table { (v : LoadFileValue) → table (strip_file v) ≡ table v }
+    ensures content { (v : LoadFileValue) → map content (strip_file v) ≡ map content v }
+    ensures relocations { (v : LoadFileValue) → map relocations (strip_file v) ≡ map relocations v }
+    ensures image { (v : LoadFileValue) (bases : List ℕ) → map (image bases) (strip_file v) ≡ map (image bases) v }
+{}
+
+/// One object text has one value.
+pub fn object_value()
+    ensures { (a b : ObjectFileValue) → IsObjectFile a → IsObjectFile b → object_text a ≡ object_text b → a ≡ b }
+{}
+
+/// What is stripped is an object file with the same findings.
+pub fn strip_findings()
+    ensures value { (o : ObjectFileValue) → IsObjectFile o → IsObjectFile (strip_object o) }
+    ensures findings { (o : ObjectFileValue) → findings (strip_object o) ≡ findings o }
+{}

@@ -1,0 +1,18 @@
+//! Load files and object files of the Amiga, read from bytes and written to them.
+#![tactic(auto)]
+
+mod file_kind;
+pub mod laws;
+mod load;
+mod object;
+mod order;
+mod row;
+mod sniffing;
+#[cfg(test)]
+mod tests;
+
+pub use crate::file_kind::Sniff;
+pub use crate::load::{ImageFault, LoadFile};
+pub use crate::object::{Finding, FindingKind, Findings, Hunk, ObjectFile, Unit};
+pub use crate::row::Row;
+pub use crate::sniffing::sniff;

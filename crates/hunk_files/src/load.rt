@@ -1,0 +1,15 @@
+//! Load files.
+
+mod file;
+mod hunk;
+mod image;
+mod overlap;
+mod refusal;
+mod stage;
+mod strip;
+mod table;
+mod walk;
+mod writing;
+
+pub use crate::load::file::LoadFile;
+pub use crate::load::image::ImageFault;

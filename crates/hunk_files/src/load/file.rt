@@ -1,0 +1,96 @@
+//! Load files.
+ghost use Rattle.std.specs.Prelude.{◌≡◌, ◌≢◌, ◌^◌, ◌<◌, ◌≤◌, IfOk, IfErr, IsTrue, Some, length, map, slice_get, take};
+ghost use Rattle.hunk_words.specs.declared.reason.Reason.TheVariants as reasons;
+ghost use Rattle.hunk_words.specs.Longs.{bytes_of};
+ghost use Rattle.hunk_files.specs.LoadFile.{IsLoadFile};
+ghost use Rattle.hunk_files.specs.Image.{declared_bytes};
+ghost use Rattle.hunk_files.specs.LoadText.{table, text};
+ghost use Rattle.hunk_files.specs.Fault.{BeginsWithLoadFile, HasFault, is_load_refusal};
+ghost use Rattle.hunk_files.specs.Tables.{entry_of};
+
+use crate::load::hunk::{LoadHunk, read_hunks};
+use crate::load::table::read_table;
+use crate::load::walk::walk;
+use hunk_blocks::Block;
+use hunk_words::{FileFault, SizeWord};
+use std::alloc::Global;
+use std::marker::Model;
+
+/// A load file of the input, made by `decode` alone. Contracts see it as its load-file value.
+#[derive(Debug, Drop)]
+pub struct LoadFile<'a> {
+    pub(super) hunks: Vec<LoadHunk<'a>>,
+}
+
+impl<'a> Model for LoadFile<'a> {
+    ghost use Rattle.std.specs.Prelude.{map};
+    ghost use Rattle.hunk_files.specs.LoadFile.{LoadFileValue, IsLoadFile};
+    ghost use Rattle.hunk_files.specs.Tables.{hunk_of};
+
+    ghost Value = { LoadFileValue };
+
+    ghost view = { λ s. map hunk_of s.hunks.items };
+
+    ghost invariant = { λ s. IsLoadFile (map hunk_of s.hunks.items) };
+}
+
+impl<'a> LoadFile<'a> {
+    /// The load file that the bytes begin with, and the number of its bytes. It ends with the END of
+    /// its last hunk; what follows is not read.
+    ///
+    /// A refusal names the first longword, in file order, that no load file has there, by its first
+    /// byte, and why. `Truncated` is answered where all whole longwords are those of a load file that
+    /// goes on, at 4 times their number. `OutOfMemory` is answered where memory was refused, for a row
+    /// of the table, the groups or entries of a block, a block or a hunk, at the longword that
+    /// completes it; no memory is asked for before the file was seen to be whole.
+    ///
+    /// Source: The AmigaDOS Manual, 3rd edition, Amiga binary file structure, and `dos/doshunks.h`.
+    pub fn decode(alloc: Global, bytes: &'a [u8]) -> Result<(LoadFile<'a>, usize), FileFault>
+        ensures value { IfOk result (λ r. IsLoadFile r.0) }
+        ensures text { IfOk result (λ r. take r.1 bytes.entry.now ≡ bytes_of (text r.0)) }
+        ensures whole { IfOk result (λ r. r.1 ≤ length bytes.entry.now) }
+        ensures fault { IfErr result (λ fault. fault.reason ≢ reasons.OutOfMemory → HasFault bytes.entry.now fault.place fault.reason) }
+        ensures none { IfErr result (λ fault. fault.reason ≢ reasons.OutOfMemory → BeginsWithLoadFile bytes.entry.now → ⊥) }
+        ensures own { IfErr result (λ fault. IsTrue (is_load_refusal fault.reason)) }
+    {
+        let size = walk(bytes)?;
+        let (rows, start) = read_table(alloc, bytes)?;
+        let hunks = read_hunks(alloc, bytes, &rows, start)?;
+        Ok((LoadFile { hunks }, size))
+    }
+    /// The number of hunks, from 1 to 65,536.
+    pub fn hunks(&self) -> u32
+        ensures value { result ≡ length self.now }
+        ensures file { IsLoadFile self.now }
+    {
+        self.hunks.len() as u32
+    }
+
+    /// What the table declares of hunk `i`, counted from 0.
+    pub fn table(&self, i: u32) -> SizeWord
+        requires { i < length self.now }
+        ensures { slice_get (table self.now) i ≡ Some (entry_of result) }
+    {
+        self.hunks[i as usize].row.size()
+    }
+
+    /// The blocks of hunk `i`, counted from 0, up to its END.
+    pub fn hunk(&self, i: u32) -> &[Block<'a>]
+        requires { i < length self.now }
+        ensures { slice_get (map (λ h. h.blocks) self.now) i ≡ Some result.now }
+    {
+        &self.hunks[i as usize].blocks
+    }
+
+    /// The number of bytes that the table declares, all hunks together.
+    pub fn total(&self) -> u64
+        ensures value { result ≡ declared_bytes (table self.now) }
+        ensures bound { result ≤ 2 ^ 48 }
+    {
+        let mut sum = 0;
+        'hunks: for hunk in &self.hunks {
+            sum += hunk.row.size().bytes();
+        }
+        sum
+    }
+}

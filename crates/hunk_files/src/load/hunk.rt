@@ -1,0 +1,98 @@
+//! The hunks of a load file.
+ghost use Rattle.std.specs.Prelude.{◌≡◌, ◌≢◌, ◌≤◌, ◌+◌, drop, map, IfOk, IfErr, length};
+ghost use Rattle.hunk_words.specs.declared.reason.Reason.TheVariants as reasons;
+ghost use Rattle.hunk_files.specs.Fault.{BeginsWithLoadFile};
+ghost use Rattle.hunk_files.specs.Hunks.{is_end, AreBlocksAt, HasNoHunk};
+ghost use Rattle.hunk_files.specs.Tables.{hunk_of, IsTable};
+
+use crate::row::Row;
+use hunk_blocks::{Block, Body, Mode};
+use hunk_words::{FileFault, Reason};
+use std::alloc::Global;
+
+/// A hunk of a load file: its row of the table, and its blocks.
+#[derive(Debug, Drop)]
+pub(crate) struct LoadHunk<'a> {
+    pub row: Row,
+    pub blocks: Vec<Block<'a>>,
+}
+
+/// Whether the block ends its hunk.
+fn is_end(block: &Block<'_>) -> bool
+    ensures { result ≡ is_end block.now.body }
+{
+    matches!(block.body(), Body::End)
+}
+
+/// The blocks up to END that stand at `start`, and the byte behind them.
+pub(crate) fn read_hunk<'a>(
+    alloc: Global,
+    bytes: &'a [u8],
+    start: usize,
+) -> Result<(Vec<Block<'a>>, usize), FileFault>
+    requires { start ≤ length bytes.now }
+    ensures found { IfOk result (λ r. AreBlocksAt bytes.entry.now start r.1 r.0.items) }
+    ensures none { IfErr result (λ fault. fault.reason ≢ reasons.OutOfMemory → HasNoHunk (drop start bytes.entry.now)) }
+{
+    let mut blocks = Vec::new(alloc);
+    let mut at = start;
+    'reading: loop {
+        let (block, size) = match Block::decode(alloc, &bytes[at..], Mode::Load) {
+            Ok(decoded) => decoded,
+            Err(fault) => {
+                return Err(FileFault {
+                    place: fault.place.saturating_add(at as u64),
+                    reason: fault.reason,
+                });
+            }
+        };
+        at += size;
+        let ended = is_end(&block);
+        if blocks.push(block).is_err() {
+            return Err(out_of_memory(at));
+        }
+        if ended {
+            return Ok((blocks, at));
+        }
+    }
+}
+
+/// The hunks of the load file that the bytes begin with: those of the rows, one after the other from
+/// `start` on.
+pub(crate) fn read_hunks<'a>(
+    alloc: Global,
+    bytes: &'a [u8],
+    rows: &[Row],
+    start: usize,
+) -> Result<Vec<LoadHunk<'a>>, FileFault>
+    requires begins { BeginsWithLoadFile bytes.now }
+    requires table { (file : BeginsWithLoadFile bytes.now) → IsTable bytes.now file rows.now start }
+    ensures hunks { IfOk result (λ hunks. (file : BeginsWithLoadFile bytes.entry.now) → map hunk_of hunks.items ≡ file.value) }
+    ensures memory { IfErr result (λ fault. fault.reason ≡ reasons.OutOfMemory) }
+{
+    let mut hunks = Vec::new(alloc);
+    let mut at = start;
+    'reading: for row in rows {
+        let (blocks, end) = match read_hunk(alloc, bytes, at) {
+            Ok(read) => read,
+            Err(fault) => return Err(fault),
+        };
+        at = end;
+        if hunks.push(LoadHunk { row: *row, blocks }).is_err() {
+            return Err(out_of_memory(at));
+        }
+    }
+    Ok(hunks)
+}
+
+/// Want of memory for what the longword that ends here completes.
+pub(crate) fn out_of_memory(end: usize) -> FileFault
+    requires { 4 ≤ end }
+    ensures place { result.place + 4 ≡ end }
+    ensures reason { result.reason ≡ reasons.OutOfMemory }
+{
+    FileFault {
+        place: end as u64 - 4,
+        reason: Reason::OutOfMemory,
+    }
+}

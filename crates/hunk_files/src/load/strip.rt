@@ -1,0 +1,39 @@
+//! Load files without what is not loaded.
+ghost use Rattle.std.specs.Prelude.{◌≡◌, ◌≤◌, length, map};
+ghost use Rattle.hunk_words.specs.Longs.{bytes_of};
+ghost use Rattle.hunk_files.specs.LoadText.{text};
+ghost use Rattle.hunk_files.specs.Strip.{strip_hunk, strip_file};
+ghost use Rattle.hunk_files.specs.Tables.{hunk_of};
+
+use crate::load::file::LoadFile;
+use crate::load::hunk::LoadHunk;
+use crate::order::is_kept;
+
+impl<'a> LoadFile<'a> {
+    /// The file without its NAME, SYMBOL, DEBUG and ADVISORY blocks. It has the same table, and the
+    /// same image at all bases.
+    ///
+    /// It takes no memory.
+    pub fn strip(self) -> LoadFile<'a>
+        ensures value { result ≡ strip_file self.entry }
+        ensures shorter { length (bytes_of (text result)) ≤ length (bytes_of (text self.entry)) }
+    {
+        let mut hunks = self.hunks;
+        strip_hunks(&mut hunks);
+        LoadFile { hunks }
+    }
+}
+
+fn strip_hunks(hunks: &mut [LoadHunk<'_>])
+    ensures { map hunk_of hunks.new ≡ strip_file (map hunk_of hunks.old) }
+{
+    'hunks: for hunk in hunks.iter_mut() {
+        strip_hunk(hunk);
+    }
+}
+
+fn strip_hunk(hunk: &mut LoadHunk<'_>)
+    ensures { hunk_of hunk.new ≡ strip_hunk (hunk_of hunk.old) }
+{
+    hunk.blocks.retain(|block| is_kept(block));
+}

@@ -1,0 +1,77 @@
+//! Object files.
+ghost use Rattle.std.specs.Prelude.{◌≡◌, ◌≢◌, IfErr, IfOk, IsTrue};
+ghost use Rattle.hunk_words.specs.Longs.{bytes_of};
+ghost use Rattle.hunk_words.specs.declared.reason.Reason.TheVariants as reasons;
+ghost use Rattle.hunk_files.specs.ObjectFile.{IsNoObjectFile, is_object_refusal, IsObjectFile, object_text};
+
+use crate::object::refusal::{counted_from, out_of_memory};
+use crate::object::unit::Unit;
+use crate::object::walk::read_unit;
+use hunk_words::FileFault;
+use std::alloc::Global;
+use std::marker::Model;
+
+/// An object file, read from bytes. Contracts see it as the list of its units.
+#[derive(Debug, Drop)]
+pub struct ObjectFile<'a> {
+    pub(super) units: Vec<Unit<'a>>,
+}
+
+impl<'a> Model for ObjectFile<'a> {
+    ghost use Rattle.hunk_files.specs.ObjectFile.{ObjectFileValue, IsObjectFile};
+
+    ghost Value = { ObjectFileValue };
+
+    ghost view = { λ s. s.units.items };
+
+    ghost invariant = { λ s. IsObjectFile s.units.items };
+}
+
+impl<'a> ObjectFile<'a> {
+    /// The object file that the bytes are, from the first to the last.
+    ///
+    /// The longwords are tested in file order, each when it is whole, and the place is the byte of
+    /// the one that is refused. Refused are a block word with both memory bits (`BothBits`), OVERLAY,
+    /// BREAK, short relocations, library hunks (`Library`), unknown blocks without the advisory flag,
+    /// HEADER, a UNIT with a flag or inside a hunk and anything else before the first UNIT
+    /// (`Misplaced`), a second content block, a relocation kind or EXT before the content block
+    /// (`BeforeContent`), END before it (`NoContent`), a name's count with a top byte (`NameWord`),
+    /// and an EXT type that is not accepted (`ExtKind`). Where the input ends while no unit has
+    /// begun, inside a block, while a hunk is open or with 1 to 3 bytes over, the answer is
+    /// `Truncated` at 4 times the number of whole longwords.
+    ///
+    /// Memory is asked for only for what was read whole. Where it is not there, the answer is
+    /// `OutOfMemory`.
+    ///
+    /// Source: The AmigaDOS Manual, 3rd edition, Amiga binary file structure, and `dos/doshunks.h`.
+    pub fn decode(alloc: Global, bytes: &'a [u8]) -> Result<ObjectFile<'a>, FileFault>
+        ensures file { IfOk result (λ o. IsObjectFile o) }
+        ensures text { IfOk result (λ o. bytes.entry.now ≡ bytes_of (object_text o)) }
+        ensures none { IfErr result (λ fault. fault.reason ≢ reasons.OutOfMemory → IsNoObjectFile bytes.entry.now) }
+        ensures own { IfErr result (λ fault. IsTrue (is_object_refusal fault.reason)) }
+    {
+        let mut units = Vec::new(alloc);
+        let mut at = 0;
+        'reading: loop {
+            let (unit, size) = match read_unit(alloc, &bytes[at..]) {
+                Ok(read) => read,
+                Err(fault) => return Err(counted_from(at, fault)),
+            };
+            at += size;
+            if units.push(unit).is_err() {
+                return Err(out_of_memory(at));
+            }
+            if at == bytes.len() {
+                return Ok(ObjectFile { units });
+            }
+        }
+    }
+
+    /// The units, in file order. There is at least one.
+    pub fn units(&self) -> &[Unit<'a>]
+        ensures value { result.now ≡ self.now }
+        ensures file { IsObjectFile self.now }
+    {
+        self.units.as_slice()
+    }
+}

@@ -1,0 +1,87 @@
+//! What is refused in an object file, and where.
+ghost use Rattle.std.specs.Prelude.{◌≡◌, ◌+◌, ◌*◌, ◌^◌, ◌<◌, ◌↔◌, IfSome, IsNone, IsTrue, length};
+ghost use Rattle.hunk_words.specs.Bits.{kind};
+ghost use Rattle.hunk_words.specs.Longs.{longs};
+ghost use Rattle.hunk_words.specs.declared.reason.Reason.TheVariants as reasons;
+ghost use Rattle.hunk_files.specs.ObjectFile.{is_object_refusal, unit_word};
+ghost use Rattle.hunk_files.specs.ObjectParts.{refuse_standing, standing_of_kind};
+
+use hunk_words::{BlockWord, FileFault, Kind, Reason, SizeWord};
+
+/// The word of UNIT, which has no flags.
+pub(super) const UNIT: u32 = 0x3E7;
+
+/// Why this longword does not begin a unit, where it does not.
+pub(super) fn refuse_unit_word(word: BlockWord) -> Option<Reason>
+    ensures unit { IsNone result ↔ (word ≡ unit_word) }
+    ensures own { IfSome result (λ reason. IsTrue (is_object_refusal reason)) }
+{
+    if word.word() == UNIT {
+        return None;
+    }
+    if SizeWord::has_extra(word.word()) {
+        return Some(Reason::BothBits);
+    }
+    Some(match word.kind() {
+        Kind::Overlay => Reason::Overlay,
+        Kind::Break => Reason::Break,
+        Kind::Reloc32Short => Reason::ShortReloc,
+        Kind::Lib | Kind::Index => Reason::Library,
+        Kind::Unknown(_) if word.flags() % 2 == 0 => Reason::UnknownBlock,
+        _ => Reason::Misplaced,
+    })
+}
+
+/// Why a block of this kind may not stand here, where it may not. The flag tells whether the hunk
+/// has its content block.
+pub(super) fn refuse_place(kind: Kind, has_content: bool) -> Option<Reason>
+    ensures { result ≡ refuse_standing has_content (standing_of_kind kind) }
+{
+    match kind {
+        Kind::Code | Kind::Data | Kind::Bss if has_content => Some(Reason::SecondContent),
+        Kind::Ext
+        | Kind::Reloc32
+        | Kind::Reloc16
+        | Kind::Reloc8
+        | Kind::Drel32
+        | Kind::Drel16
+        | Kind::Drel8
+        | Kind::RelReloc32
+        | Kind::AbsReloc16
+            if !has_content => { Some(Reason::BeforeContent) }
+        Kind::End if !has_content => Some(Reason::NoContent),
+        _ => None,
+    }
+}
+
+/// The refusal of an input that ends too soon.
+pub(super) fn truncated(bytes: &[u8]) -> FileFault
+    ensures place { result.place ≡ 4 * length (longs bytes.now) }
+    ensures reason { result.reason ≡ reasons.Truncated }
+{
+    FileFault {
+        place: 4 * (bytes.len() as u64 / 4),
+        reason: Reason::Truncated,
+    }
+}
+
+/// The refusal of memory for what ends before byte `at`: at its last longword.
+pub(super) fn out_of_memory(at: usize) -> FileFault
+    ensures { result.reason ≡ reasons.OutOfMemory }
+{
+    FileFault {
+        place: (at as u64).saturating_sub(4),
+        reason: Reason::OutOfMemory,
+    }
+}
+
+/// The refusal of what begins at byte `at`, whose place counts from there.
+pub(super) fn counted_from(at: usize, fault: FileFault) -> FileFault
+    ensures place { at + fault.place < 2 ^ 64 → result.place ≡ at + fault.place }
+    ensures reason { result.reason ≡ fault.reason }
+{
+    FileFault {
+        place: (at as u64).saturating_add(fault.place),
+        reason: fault.reason,
+    }
+}

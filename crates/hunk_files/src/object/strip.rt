@@ -1,0 +1,53 @@
+//! An object file without what only names, describes or comments it.
+ghost use Rattle.std.specs.Prelude.{◌≡◌, ◌≤◌, length, map};
+ghost use Rattle.hunk_words.specs.Longs.{bytes_of};
+ghost use Rattle.hunk_files.specs.ObjectFile.{object_text};
+ghost use Rattle.hunk_files.specs.Strip.{strip_blocks, strip_object, strip_unit};
+
+use crate::object::file::ObjectFile;
+use crate::object::unit::{Hunk, Unit};
+use crate::order::is_kept;
+
+impl Hunk<'_> {
+    fn strip(&mut self)
+        ensures { self.new ≡ strip_blocks self.old }
+    {
+        self.blocks.retain(|block| is_kept(block))
+    }
+}
+
+impl Unit<'_> {
+    fn strip(&mut self)
+        ensures { self.new ≡ strip_unit self.old }
+    {
+        strip_hunks(&mut self.hunks)
+    }
+}
+
+fn strip_hunks(hunks: &mut Vec<Hunk>)
+    ensures { hunks.new.items ≡ map strip_blocks hunks.old.items }
+{
+    for hunk in hunks.iter_mut() {
+        hunk.strip();
+    }
+}
+
+fn strip_units(units: &mut Vec<Unit>)
+    ensures { units.new.items ≡ strip_object units.old.items }
+{
+    for unit in units.iter_mut() {
+        unit.strip();
+    }
+}
+
+impl<'a> ObjectFile<'a> {
+    /// The file without its NAME, SYMBOL, DEBUG and ADVISORY blocks. A unit keeps its own name, and
+    /// EXT blocks stay. Takes no memory.
+    pub fn strip(mut self) -> ObjectFile<'a>
+        ensures stripped { result ≡ strip_object self.entry }
+        ensures shorter { length (bytes_of (object_text result)) ≤ length (bytes_of (object_text self.entry)) }
+    {
+        strip_units(&mut self.units);
+        self
+    }
+}

@@ -1,0 +1,16 @@
+//! What stands where in a hunk.
+ghost use Rattle.std.specs.Prelude.{◌≡◌};
+ghost use Rattle.hunk_files.specs.Strip.{is_kept};
+
+use hunk_blocks::{Block, Body};
+
+/// Whether the block says what the hunk is: all blocks but NAME, SYMBOL, DEBUG and ADVISORY, which may
+/// stand anywhere in a hunk.
+pub(crate) fn is_kept(block: &Block<'_>) -> bool
+    ensures { result ≡ is_kept block.now.body }
+{
+    !matches!(
+        block.body(),
+        Body::Name(_) | Body::Symbol(_) | Body::Debug(_) | Body::Advisory(_)
+    )
+}

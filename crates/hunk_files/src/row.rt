@@ -1,0 +1,28 @@
+//! Rows of a hunk table.
+ghost use Rattle.std.specs.Prelude.{◌≡◌};
+
+use hunk_words::SizeWord;
+
+/// A row of the hunk table: what the header declares of a hunk, and where the hunk lies.
+#[derive(Clone, Copy, Debug, PartialEq, Eq)]
+pub struct Row {
+    /// The size word: the number of longwords in the low 30 bits, the memory in bits 30 and 31.
+    pub word: u32,
+    /// The memory attributes, where bits 30 and 31 are both set; else 0.
+    pub extra: u32,
+    /// The address of the hunk's first byte, once it is placed; before, 0.
+    pub base: u32,
+}
+
+impl Row {
+    /// What the header declares: the size and the memory.
+    pub fn size(&self) -> SizeWord
+        ensures word { result.word ≡ self.now.word }
+        ensures extra { result.extra ≡ self.now.extra }
+    {
+        SizeWord {
+            word: self.word,
+            extra: self.extra,
+        }
+    }
+}

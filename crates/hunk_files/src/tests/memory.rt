@@ -1,0 +1,85 @@
+//! Load files while no growth is granted.
+
+use crate::tests::{ONE_HUNK, spelled};
+use crate::{ImageFault, LoadFile};
+use hunk_words::{FileFault, Reason};
+use std::alloc::{AllocError, Global};
+use std::test::Fail;
+
+/// All the memory that the allocator gives, in ever smaller pieces: while they are held, the next
+/// growth is refused.
+fn all_memory(alloc: Global) -> Result<Vec<Vec<u8>>, AllocError> {
+    let mut pieces = Vec::with_capacity(alloc, 60_000)?;
+    let mut size = 1usize << 46;
+    for _ in 0..44u64 {
+        for _ in 0..10_000u64 {
+            match Vec::<u8>::with_capacity(alloc, size) {
+                Ok(piece) => pieces.push(piece)?,
+                Err(_) => break,
+            }
+        }
+        size /= 2;
+    }
+    Ok(pieces)
+}
+
+/// What is answered for the longwords with the next growth refused.
+fn starved(alloc: Global, longs: &[u32]) -> Result<Result<usize, FileFault>, AllocError> {
+    let bytes = spelled(alloc, longs)?;
+    let pieces = all_memory(alloc)?;
+    let result = match LoadFile::decode(alloc, bytes.as_slice()) {
+        Ok((_, count)) => Ok(count),
+        Err(fault) => Err(fault),
+    };
+    drop(pieces);
+    Ok(result)
+}
+
+/// No row is reserved by the number of hunks, and a fault is answered before memory is asked for.
+#[test]
+fn refused_at_the_first_growth(rt: HostRuntime) -> Result<(), Fail> {
+    let rows = [
+        (
+            [0x3F3, 0, 0x10000, 0, 0xFFFF].as_slice(),
+            20,
+            Reason::Truncated,
+        ),
+        (
+            [0x3F3, 0, 1, 0, 0, 1, 0x3E9, 1, 0, 0x3EC, 1, 0, 1].as_slice(),
+            48,
+            Reason::BadOffset,
+        ),
+    ];
+    for (longs, place, reason) in rows {
+        assert_eq!(rt;
+            starved(rt.alloc(), longs)?,
+            Err(FileFault { place, reason })
+        );
+    }
+    let reason = starved(rt.alloc(), ONE_HUNK.as_slice())?.map_err(|fault| fault.reason);
+    assert_eq!(rt; reason, Err(Reason::OutOfMemory));
+    Ok(())
+}
+
+#[test]
+fn no_memory_for_an_image(rt: HostRuntime) -> Result<(), Fail> {
+    let bytes = spelled(
+        rt.alloc(),
+        [
+            0x3F3, 0, 1, 0, 0, 1, 0x3E9, 1, 0x10, 0x3EC, 1, 0, 0, 0, 0x3F2,
+        ]
+        .as_slice(),
+    )?;
+    let (file, _) = match LoadFile::decode(rt.alloc(), bytes.as_slice()) {
+        Ok(decoded) => decoded,
+        Err(fault) => panic!(&rt; "{fault:?}"),
+    };
+    assert_eq!(rt; file.hunks(), 1);
+    let pieces = all_memory(rt.alloc())?;
+    let image = file.image(rt.alloc(), [0x21000].as_slice());
+    let overlap = file.overlap(rt.alloc(), 0);
+    drop(pieces);
+    assert_eq!(rt; image, Err(ImageFault::OutOfMemory));
+    assert!(rt; overlap.is_err());
+    Ok(())
+}

@@ -1,0 +1,75 @@
+//! What the readers of a load file tell.
+
+use crate::tests::{ONE_HUNK, spelled};
+use crate::{LoadFile, Row, Sniff, sniff};
+use hunk_words::{BlockWord, Memory};
+use std::test::Fail;
+
+/// A hunk with memory attributes, and an empty one.
+#[test]
+fn tables_and_blocks(rt: HostRuntime) -> Result<(), Fail> {
+    let longs = [
+        0x3F3,
+        0,
+        2,
+        0,
+        1,
+        0xC000_0002,
+        0x0001_0004,
+        1,
+        0x3E9,
+        2,
+        0x4E71_4E71,
+        0x4E75_4E71,
+        0x3F2,
+        0x3EB,
+        1,
+        0x3F2,
+    ];
+    let bytes = spelled(rt.alloc(), longs.as_slice())?;
+    let (file, _) = match LoadFile::decode(rt.alloc(), bytes.as_slice()) {
+        Ok(decoded) => decoded,
+        Err(fault) => panic!(&rt; "{fault:?}"),
+    };
+    assert_eq!(rt; file.hunks(), 2);
+    let rows = [(0, Memory::Attributes(0x10004), 8), (1, Memory::Any, 4)];
+    for (i, memory, size) in rows {
+        assert!(rt; i < file.hunks());
+        assert_eq!(rt; file.table(i).memory(), memory);
+        assert_eq!(rt; file.table(i).bytes(), size);
+        assert_eq!(rt; file.hunk(i).len(), 2);
+    }
+    let words = [(0, 0x3E9), (1, 0x3EB)];
+    for (i, word) in words {
+        assert!(rt; i < file.hunks());
+        let first = file.hunk(i).first().map(|block| block.word());
+        assert_eq!(rt; first, Some(BlockWord::of(word)));
+    }
+    Ok(())
+}
+
+#[test]
+fn sniffs_and_rows(rt: HostRuntime) -> Result<(), Fail> {
+    let rows = [
+        ([0x3F3].as_slice(), Sniff::Load),
+        ([0x3E7, 0].as_slice(), Sniff::Object),
+        ([0x3FA].as_slice(), Sniff::Library),
+        ([0x2000_03E7].as_slice(), Sniff::Other),
+        ([].as_slice(), Sniff::Other),
+    ];
+    for (longs, want) in rows {
+        let bytes = spelled(rt.alloc(), longs)?;
+        assert_eq!(rt; sniff(bytes.as_slice()), want);
+    }
+    let bytes = spelled(rt.alloc(), ONE_HUNK.as_slice())?;
+    assert_eq!(rt; bytes.len(), 40);
+    assert_eq!(rt; sniff(&bytes[..3]), Sniff::Other);
+    let row = Row {
+        word: 0xC000_0002,
+        extra: 0x10004,
+        base: 0x21000,
+    };
+    assert_eq!(rt; row.size().memory(), Memory::Attributes(0x10004));
+    assert_eq!(rt; row.size().bytes(), 8);
+    Ok(())
+}
