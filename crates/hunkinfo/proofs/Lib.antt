@@ -1,6 +1,7 @@
 mod Consumed
 mod Literals
 mod Numbers
-mod OneHunkLaws
 mod RowLaws
+mod SegmentLaws
+mod TableLaws
 mod Telling

@@ -2,6 +2,7 @@
 use Rattle.std.specs.Prelude.{◌≡◌, ◌<◌, ℕ, List, Option, length}
 use Rattle.std.specs.Io.KnownBytes.{Consumes, IsAtEnd}
 use Rattle.hunk_words.specs.Puts.{Puts}
+use Rattle.hunk_words.specs.declared.fault.Fault.{Fault}
 
 -- The source was read to its end in fewer than `most` bytes. The text is one that these have, and as many of its first bytes
 -- have gone out as `written` says.
@@ -17,3 +18,11 @@ pub record Writes (IsTextOf : List ℕ → List ℕ → Type 0) (a b : Option (L
 -- all of the text has gone out
 abbrev pub WritesAll : (List ℕ → List ℕ → Type 0) → Option (List ℕ) → Option (List ℕ) → ℕ → Option (List ℕ) → Option (List ℕ) → ℕ → Type 0
 WritesAll IsTextOf a b most c d written = (writes : Writes IsTextOf a b most c d written) × (written ≡ length writes.text)
+
+-- The source was read to its end in fewer than `most` bytes, and these are refused so.
+pub record Refuses (IsRefusalOf : List ℕ → Fault → Type 0) (a b : Option (List ℕ)) (most : ℕ) (refusal : Fault) : Type 0 where
+  pub input : List ℕ
+  pub given : Consumes a b input
+  pub ended : IsAtEnd b
+  pub few : length input < most
+  pub is_refusal : IsRefusalOf input refusal

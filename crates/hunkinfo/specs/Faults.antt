@@ -1,6 +1,7 @@
 -- The status and the line of each fault.
 use Rattle.std.specs.Prelude.{◌⊎◌, ℕ, List, [], ◌++◌, ⊤, codes}
 use Rattle.std.specs.Fmt.{decimal}
+use Rattle.hunk_words.specs.declared.fault.Fault.{Fault}
 use Rattle.hunk_words.specs.declared.reason.Reason.{Reason}
 use Rattle.hunk_words.specs.declared.reason.Reason.TheVariants as reasons
 use Rattle.hunk_words.specs.Reasons.{name_of, number_of}
@@ -33,6 +34,14 @@ line_of Memory = codes "out of memory"
 abbrev pub IsWrite : RunFault → Type 0
 IsWrite (Write written) = ⊤
 IsWrite _ = ⊥
+
+-- What a refusal is to a run: want of memory is no fault of the input.
+abbrev pub refused_for : Reason → Fault → RunFault
+refused_for reasons.OutOfMemory refusal = Memory
+refused_for reason refusal = Refused refusal
+
+abbrev pub refused_as : Fault → RunFault
+refused_as refusal = refused_for refusal.reason refusal
 
 -- a reason that the longwords of a file give, and not the run: no limit, no base, no reading and no memory
 abbrev pub IsFileReason : Reason → Type 0

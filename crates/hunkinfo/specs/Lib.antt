@@ -1,3 +1,4 @@
+pub mod Bases
 pub mod Command
 pub mod Engine
 pub mod Faults
@@ -5,7 +6,6 @@ pub mod HexText
 pub mod Inputs
 pub mod Line
 pub mod Listing
-pub mod OneHunk
 pub mod Output
 pub mod Relocating
 pub mod Runs

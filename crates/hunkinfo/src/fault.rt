@@ -1,7 +1,7 @@
 //! Why a run failed: the status that it ends with and the line that it prints.
 ghost use Rattle.std.specs.Prelude.{◌≡◌, ◌<◌, ◌≤◌, Some};
-ghost use Rattle.hunkinfo.specs.Faults.{line_of, status_of};
-ghost use Rattle.hunkinfo.specs.declared.fault.RunFault.TheVariants.{Memory, Refused, Write};
+ghost use Rattle.hunkinfo.specs.Faults.{line_of, refused_as, status_of};
+ghost use Rattle.hunkinfo.specs.declared.fault.RunFault.TheVariants.{Memory, Write};
 
 use hunk_words::{Fault, Reason, WriteFault};
 use std::alloc::{AllocError, AllocFailed};
@@ -63,10 +63,13 @@ impl fmt::Display for RunFault {
 }
 
 impl From<Fault> for RunFault {
-    ghost from_gives = { λ refusal fault. fault ≡ Refused refusal };
+    ghost from_gives = { λ refusal fault. fault ≡ refused_as refusal };
 
     fn from(refusal: Fault) -> RunFault {
-        RunFault::Refused(refusal)
+        match refusal.reason {
+            Reason::OutOfMemory => RunFault::Memory,
+            _ => RunFault::Refused(refusal),
+        }
     }
 }
 

@@ -2,10 +2,10 @@
 #![tactic(auto)]
 
 mod asked;
+mod bases;
 mod fault;
 mod line;
 mod listing;
-mod one_hunk;
 mod relocate;
 mod run;
 mod unhex;

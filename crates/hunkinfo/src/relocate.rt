@@ -1,29 +1,32 @@
 //! `relocate`: a load file is loaded, and its segments are printed.
-ghost use Rattle.std.specs.Prelude.{◌≡◌, ◌⊎◌, ◌+◌, ◌-◌, ◌^◌, ◌<◌, ◌≤◌, ◌++◌, ℕ, List, Some, false, true, length, replicate, IfOk, IfErr, OnOk};
+ghost use Rattle.std.specs.Prelude.{◌≡◌, ◌≢◌, ◌⊎◌, ◌<◌, ◌++◌, ℕ, List, Some, false, true, length, IfOk, IfErr, OnOk};
+ghost use Rattle.hunk_words.specs.declared.fault.Fault.{Fault};
 ghost use Rattle.hunk_words.specs.declared.reason.Reason.TheVariants.{FileLimit};
 ghost use Rattle.hunkinfo.specs.declared.fault.RunFault.TheVariants.{Memory, Read, Refused, Write};
 ghost use Rattle.hunkinfo.specs.Faults.{IsRefusalOfFile};
+ghost use Rattle.hunk_files.specs.Image.{images};
+ghost use Rattle.hunkinfo.specs.Listing.{listing};
 ghost use Rattle.hunkinfo.specs.Inputs.{Gave};
 ghost use Rattle.hunkinfo.specs.Output.{StopsOutput};
-ghost use Rattle.hunkinfo.specs.Relocating.{IsListingAt};
-ghost use Rattle.hunkinfo.specs.Engine.{Writes, WritesAll};
+ghost use Rattle.hunkinfo.specs.Relocating.{IsListingAt, IsRefusedAt, segments_by};
+ghost use Rattle.hunkinfo.specs.Engine.{Refuses, Writes, WritesAll};
 
+use crate::bases::bases;
 use crate::fault::RunFault;
 use crate::listing::push_segment;
-use crate::one_hunk::{CodeHunk, decode};
 use crate::whole::whole;
-use hunk_words::{Fault, LongWriter, Reason, Sink, Source};
+use hunk_files::LoadFile;
+use hunk_words::{LongWriter, Sink, Source};
 use std::alloc::{AllocError, Global};
-
-/// The length of the header of a file of one hunk.
-const HEADER_BYTES: u64 = 24;
 
 /// Reads the input to its end, loads the load file that it begins with at this base, and prints its
 /// segments. What follows the file is ignored.
 ///
-/// `FileLimit` comes at `file_bytes` where so many bytes were read, before an end is looked for, and
-/// `NoBase` at the header's length where the hunk would pass 2^32. Nothing is written before the
-/// file was accepted and all memory was given.
+/// The first hunk lies at `base`, each other one right behind the one before it. `FileLimit` comes at
+/// `file_bytes` where so many bytes were read, before an end is looked for; the faults of the file are
+/// those of `LoadFile::decode`; `NoBase` comes after them, at the header's length, for the first hunk
+/// that would begin at 2^32 or pass it. Nothing is written before the file was accepted and all
+/// memory was given.
 pub fn relocate<R: Source, W: Sink>(
     alloc: Global,
     r: &mut R,
@@ -45,6 +48,8 @@ pub fn relocate<R: Source, W: Sink>(
 
     ensures limit { IfErr result (λ fault. (place : ℕ) → fault ≡ Refused (record { place = place; reason = FileLimit }) →
         (place ≡ file_bytes) × Gave (R.left r.old) (R.left r.new) place) }
+    ensures refused { IfErr result (λ fault. (refusal : Fault) → fault ≡ Refused refusal → refusal.reason ≢ FileLimit →
+        Refuses (IsRefusedAt base) (R.left r.old) (R.left r.new) file_bytes refusal) }
     ensures read { IfErr result (λ fault. (place : ℕ) → fault ≡ Read place →
         (R.failed r.new ≡ true) × Gave (R.left r.old) (R.left r.new) place) }
 {
@@ -55,31 +60,38 @@ pub fn relocate<R: Source, W: Sink>(
 }
 
 // The listing of the load file that the bytes begin with.
-fn listing_at(alloc: Global, bytes: &[u8], base: u32) -> Result<Vec<u8>, RunFault>
-    ensures ok { IfOk result (λ text. IsListingAt base bytes.now text.items) }
-    ensures none { IfErr result (λ fault. (fault ≡ Memory) ⊎ ((text : List ℕ) → IsListingAt base bytes.now text → ⊥)) }
-    ensures refused { IfErr result (λ fault. (fault ≡ Memory) ⊎ IsRefusalOfFile fault) }
+fn listing_at(alloc: Global, bytes: &[u8], start: u32) -> Result<Vec<u8>, RunFault>
+    ensures ok { IfOk result (λ text. IsListingAt start bytes.now text.items) }
+    ensures none { IfErr result (λ fault. (fault ≡ Memory) ⊎ ((text : List ℕ) → IsListingAt start bytes.now text → ⊥)) }
+    ensures refused { IfErr result (λ fault. (fault ≡ Memory) ⊎ ((refusal : Fault) × (fault ≡ Refused refusal) × IsRefusedAt start bytes.now refusal)) }
+    ensures own { IfErr result (λ fault. (fault ≡ Memory) ⊎ IsRefusalOfFile fault) }
 {
-    let hunk = decode(bytes)?;
-    if u64::from(base) + hunk.declared.bytes() > 1 << 32 {
-        return Err(RunFault::Refused(Fault {
-            place: HEADER_BYTES,
-            reason: Reason::NoBase(0),
-        }));
-    }
-    let segment = zero_filled(alloc, hunk.content, hunk.declared.bytes() as usize)?;
+    let (file, _) = LoadFile::decode(alloc, bytes)?;
+    let bases = bases(alloc, &file, start)?;
+    let Ok(memory) = file.image(alloc, bases.as_slice()) else {
+        return Err(RunFault::Memory);
+    };
     let mut text = Vec::new(alloc);
-    push_segment(&mut text, 0, base, segment.as_slice())?;
+    push_segments(&mut text, &file, bases.as_slice(), memory.as_slice())?;
     Ok(text)
 }
 
-// The content, and then zero bytes up to the size.
-fn zero_filled(alloc: Global, content: &[u8], size: usize) -> Result<Vec<u8>, AllocError>
-    requires { length content.now ≤ size }
-    ensures { IfOk result (λ segment. segment.items ≡ content.now ++ replicate (size - length content.now) 0) }
+// The lines of each hunk's segment. The memory is that of all hunks, one after the other.
+fn push_segments(
+    text: &mut Vec<u8>,
+    file: &LoadFile<'_>,
+    bases: &[u32],
+    memory: &[u8],
+) -> Result<(), AllocError>
+    requires bases { length bases.now ≡ length file.now }
+    requires memory { memory.now ≡ images bases.now file.now }
+    ensures { OnOk result (text.new.items ≡ text.old.items ++ listing (segments_by bases.now bases.now file.now)) }
 {
-    let mut segment = Vec::with_capacity(alloc, size)?;
-    segment.extend_from_slice(content)?;
-    segment.resize(size, 0)?;
-    Ok(segment)
+    let mut rest = memory;
+    'hunks: for hunk in 0..file.hunks() {
+        let (segment, after) = rest.split_at(file.table(hunk).bytes() as usize);
+        push_segment(text, hunk, bases[hunk as usize], segment)?;
+        rest = after;
+    }
+    Ok(())
 }

@@ -24,27 +24,36 @@ fn all_memory(alloc: Global) -> Result<Vec<Vec<u8>>, AllocError> {
     Ok(pieces)
 }
 
-// The sizes of the growths that `relocate` asks for on example 1: the input, the segment, the text.
-const INPUT: usize = 40;
+// More than `relocate` needs on example 1, and into how many steps it is divided.
+const ROOM: usize = 65_536;
 
-const SEGMENT: usize = 4;
+const STEPS: usize = 64;
 
 #[test]
 fn refused_growths(rt: HostRuntime) -> Result<(), Fail> {
     let bytes = bytes_of(rt.alloc(), EXAMPLE_1.as_slice())?;
-    for granted in 0..3usize {
-        let mut rooms = Vec::with_capacity(rt.alloc(), 2)?;
-        for size in [INPUT, SEGMENT].iter().take(granted) {
-            rooms.push(Vec::<u8>::with_capacity(rt.alloc(), *size)?)?;
-        }
-        let pieces = all_memory(rt.alloc())?;
-        rooms.clear();
+    let room = Vec::<u8>::with_capacity(rt.alloc(), ROOM)?;
+    let pieces = all_memory(rt.alloc())?;
+    drop(room);
+    // With ever more of the room left, ever later growths are refused.
+    let mut answers = [(Ok(()), 0); STEPS];
+    for (step, answer) in answers.iter_mut().enumerate() {
+        let taken = Vec::<u8>::with_capacity(rt.alloc(), ROOM - ROOM / STEPS * step);
         let mut out = wide();
         let mut source = FromSlice::new(bytes.as_slice());
         let got = relocate(rt.alloc(), &mut source, &mut out, 1_000, 0x21000);
-        drop(pieces);
-        assert_eq!(rt; got, Err(RunFault::Memory), "after {granted} growths");
-        assert_eq!(rt; out.written(), 0);
+        *answer = (got, out.written());
+        drop(taken);
+    }
+    drop(pieces);
+    assert_eq!(rt; answers[0], (Err(RunFault::Memory), 0));
+    assert_eq!(rt; answers[STEPS - 1], (Ok(()), 42));
+    for (step, answer) in answers.iter().enumerate() {
+        if answer.0.is_err() {
+            assert_eq!(rt; *answer, (Err(RunFault::Memory), 0), "at {step}");
+        } else {
+            assert_eq!(rt; *answer, (Ok(()), 42), "at {step}");
+        }
     }
     Ok(())
 }

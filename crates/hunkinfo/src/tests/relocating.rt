@@ -1,4 +1,4 @@
-//! What `relocate` prints and refuses, by the examples of a file of one hunk.
+//! What `relocate` prints and refuses, by the examples.
 
 use crate::fault::RunFault;
 use crate::relocate::relocate;
@@ -137,10 +137,6 @@ fn one_longword_changed(rt: HostRuntime) -> Result<(), Fail> {
         (36, 0x3F4, Reason::UnknownBlock),
         (36, 0x3E9, Reason::SecondContent),
         (36, 0x3FA, Reason::Library),
-        // These three are no refusals of the format. They stand until files of all shapes are read.
-        (8, 2, Reason::TooManyHunks),
-        (20, 0xC000_0001, Reason::BothBits),
-        (24, 0x3EA, Reason::UnknownBlock),
     ];
     for (place, word, reason) in table {
         let mut words = EXAMPLE_1;
@@ -155,12 +151,20 @@ fn one_longword_changed(rt: HostRuntime) -> Result<(), Fail> {
             "{word:x} at {place}"
         );
     }
-    // The top bits of a content's size are not looked at.
-    let mut words = EXAMPLE_1;
-    words[7] = 0x8000_0001;
-    let bytes = bytes_of(rt.alloc(), words.as_slice())?;
-    let text = printed(rt.alloc(), bytes.as_slice(), BASE)?;
-    assert_eq!(rt; text.as_slice(), PRINTED.as_bytes());
+    // Flags of a block word, and the top bits of a content's size, are not looked at.
+    for (i, word) in [
+        (6, 0x2000_03E9),
+        (6, 0x4000_03E9),
+        (6, 0x3EA),
+        (7, 0x8000_0001),
+        (9, 0x2000_03F2),
+    ] {
+        let mut words = EXAMPLE_1;
+        words[i] = word;
+        let bytes = bytes_of(rt.alloc(), words.as_slice())?;
+        let text = printed(rt.alloc(), bytes.as_slice(), BASE)?;
+        assert_eq!(rt; text.as_slice(), PRINTED.as_bytes(), "{word:x}");
+    }
     Ok(())
 }
 
@@ -174,6 +178,77 @@ fn needs_a_base(rt: HostRuntime) -> Result<(), Fail> {
     assert_eq!(rt;
         text.as_slice(),
         b"hunk 0 base 0xfffffffc 4 bytes\n  4e754e71\n".as_slice()
+    );
+    Ok(())
+}
+
+/// Two hunks, of which the first has the address of the second at offset 2.
+const EXAMPLE_2: [u32; 21] = [
+    0x3F3,
+    0,
+    2,
+    0,
+    1,
+    2,
+    1,
+    0x3E9,
+    2,
+    0x4EF9_0000,
+    0x0004_4E71,
+    0x3EC,
+    1,
+    1,
+    2,
+    0,
+    0x3F2,
+    0x3EA,
+    1,
+    0x1234_5678,
+    0x3F2,
+];
+
+#[test]
+fn packs_hunks(rt: HostRuntime) -> Result<(), Fail> {
+    // Example 28.
+    let bytes = bytes_of(rt.alloc(), EXAMPLE_2.as_slice())?;
+    let text = printed(rt.alloc(), bytes.as_slice(), 0xFFFF_FFF4)?;
+    assert_eq!(rt;
+        text.as_slice(),
+        b"hunk 0 base 0xfffffff4 8 bytes\n  4ef9000000004e71\nhunk 1 base 0xfffffffc 4 bytes\n  12345678\n".as_slice()
+    );
+    let got = printed(rt.alloc(), bytes.as_slice(), 0xFFFF_FFF8).err();
+    assert_eq!(rt; got, Some(refused(28, Reason::NoBase(1))));
+    Ok(())
+}
+
+#[test]
+fn counts_memory_attributes_in_the_header(rt: HostRuntime) -> Result<(), Fail> {
+    // Example 8: the first entry has both memory bits, so the header has 32 bytes.
+    let words = [
+        0x3F3,
+        0,
+        2,
+        0,
+        1,
+        0xC000_0002,
+        0x10004,
+        1,
+        0x3E9,
+        2,
+        0x4E71_4E71,
+        0x4E75_4E71,
+        0x3F2,
+        0x3EB,
+        1,
+        0x3F2,
+    ];
+    let bytes = bytes_of(rt.alloc(), words.as_slice())?;
+    let got = printed(rt.alloc(), bytes.as_slice(), 0xFFFF_FFF8).err();
+    assert_eq!(rt; got, Some(refused(32, Reason::NoBase(1))));
+    let text = printed(rt.alloc(), bytes.as_slice(), 0)?;
+    assert_eq!(rt;
+        text.as_slice(),
+        b"hunk 0 base 0x00000000 8 bytes\n  4e714e714e754e71\nhunk 1 base 0x00000008 4 bytes\n  00000000\n".as_slice()
     );
     Ok(())
 }

@@ -53,6 +53,28 @@ fn relocates(rt: HostRuntime) -> Result<(), Fail> {
 }
 
 #[test]
+fn relocates_an_address(rt: HostRuntime) -> Result<(), Fail> {
+    // Example 30: the longword FFFFFFFC is relocated by 1000.
+    let text = "000003F3 00000000 00000001 00000000 00000000 00000001\n\
+        000003E9 00000001 FFFFFFFC\n\
+        000003EC 00000001 00000000 00000000 00000000\n\
+        000003F2\n";
+    let made = giving(text.as_bytes());
+    let (status, printed) = ran(
+        rt.alloc(),
+        &made,
+        ANY,
+        "hunkinfo relocate --hex --base 00001000",
+    )?;
+    assert_eq!(rt;
+        printed.as_str(),
+        "hunk 0 base 0x00001000 4 bytes\n  00000ffc\n"
+    );
+    assert_eq!(rt; status, 0);
+    Ok(())
+}
+
+#[test]
 fn relocates_bytes(rt: HostRuntime) -> Result<(), Fail> {
     let bytes = unhex(rt.alloc(), EXAMPLE.as_bytes())?;
     for line in [
