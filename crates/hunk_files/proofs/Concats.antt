@@ -1,8 +1,8 @@
 -- Lists that are made of a part for each element, one more at a time.
-use Rattle.std.proofs.Common.{◌≡◌, ℕ, zero, suc, ◌+◌, ◌<◌, ◌≤◌, List, [], ◌∷◌, ◌++◌, length, map, get_or, take, refl, sym, ap, subst, ◌∙◌, append_assoc, append-nil, arith, Some}
+use Rattle.std.proofs.Common.{◌≡◌, ℕ, ◌+◌, ◌<◌, ◌≤◌, List, ◌++◌, length, get_or, take, sym, ap, ◌∙◌, Some}
 use Rattle.std.specs.Prelude.{slice_get}
 use Rattle.std.specs.List.{flat_map}
-use Rattle.std.proofs.lemmas.List.{map-append, take_all, take_more}
+use Rattle.std.proofs.lemmas.List.{take_all, take_more}
 use Rattle.std.proofs.lemmas.Option.{get_or_from_slice_get}
 use Rattle.hunk_blocks.proofs.Lists.{flat_map-more}
 

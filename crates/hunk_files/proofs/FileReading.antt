@@ -1,17 +1,17 @@
 -- The hunks of a load file, read one after the other.
-use Rattle.std.proofs.Common.{◌≡◌, ◌≢◌, ℕ, ◌+◌, ◌*◌, ◌-◌, ◌<◌, ◌≤◌, List, [], ◌∷◌, ◌++◌, length, map, get_or, take, drop, refl, sym, ap, ap₂, subst, ◌∙◌, append_assoc, append-nil, arith}
+use Rattle.std.proofs.Common.{◌≡◌, ◌≢◌, ℕ, ◌+◌, ◌<◌, ◌≤◌, List, [], ◌∷◌, ◌++◌, length, map, get_or, drop, refl, sym, ap, subst, ◌∙◌, append_assoc, append-nil, arith}
 use Rattle.std.specs.List.{AllByRecursion}
 use Rattle.std.proofs.lemmas.List.{append_cancel_left, length-append, length-map, length-drop, take-append-drop, map-append, get_or-map, get_or_at}
 use Rattle.hunk_words.specs.declared.reason.Reason.{Reason}
 use Rattle.hunk_words.specs.declared.reason.Reason.TheVariants as reasons
 use Rattle.hunk_words.specs.Longs.{longs, bytes_of, IsLong, AreLongs}
-use Rattle.hunk_words.proofs.LongLaws.{bytes_of-nil, bytes_of-append, length-bytes_of, longs-bytes_of}
+use Rattle.hunk_words.proofs.LongLaws.{bytes_of-append, length-bytes_of, longs-bytes_of}
 use Rattle.hunk_blocks.specs.Values.{BlockValue}
 use Rattle.hunk_blocks.specs.Parts.{block_text}
 use Rattle.hunk_blocks.proofs.BlockLongs.{block_longs}
 use Rattle.hunk_files.specs.declared.row.Row.{Row}
 use Rattle.hunk_files.specs.LoadFile.{TableEntry, HunkValue, LoadFileValue, IsHunk}
-use Rattle.hunk_files.specs.LoadText.{table, text}
+use Rattle.hunk_files.specs.LoadText.{table}
 use Rattle.hunk_files.specs.Fault.{BeginsWithLoadFile, HasLoadText}
 use Rattle.hunk_files.specs.Hunks.{block_texts, EndsOnce, IsLoadBlock, AreHunkBlocks, AreBlocksAt, HasNoHunk}
 use Rattle.hunk_files.specs.Tables.{row_entry, hunk_texts, IsTable}

@@ -1,10 +1,10 @@
 -- The memory of the hunks, one after another.
-use Rattle.std.proofs.Common.{◌≡◌, ℕ, ◌+◌, ◌*◌, ◌^◌, ◌<◌, ◌≤◌, List, [], ◌++◌, length, map, get_or, take, refl, sym, ap, subst, ◌∙◌, append_assoc, length-append, arith}
-use Rattle.std.specs.List.{flat_map, AllByRecursion}
+use Rattle.std.proofs.Common.{◌≡◌, ℕ, ◌+◌, ◌*◌, ◌^◌, ◌<◌, ◌≤◌, List, [], ◌++◌, length, map, get_or, take, sym, ap, ◌∙◌, arith}
+use Rattle.std.specs.List.{flat_map}
 use Rattle.std.proofs.lemmas.List.Folds.{flat_map-map}
 use Rattle.hunk_words.specs.Bits.{size_longs}
 use Rattle.hunk_files.specs.declared.load.hunk.LoadHunk.{LoadHunk}
-use Rattle.hunk_files.specs.LoadFile.{HunkValue, LoadFileValue}
+use Rattle.hunk_files.specs.LoadFile.{LoadFileValue}
 use Rattle.hunk_files.specs.Image.{image, images}
 use Rattle.hunk_files.specs.Tables.{hunk_of}
 use Rattle.hunk_files.proofs.Concats.{flat_map-next, flat_map-whole}

@@ -6,11 +6,11 @@ use Rattle.hunk_words.specs.declared.block_word.Kind.TheVariants as kinds
 use Rattle.hunk_words.specs.declared.reason.Reason.TheVariants as reasons
 use Rattle.hunk_words.specs.Longs.{IsLong}
 use Rattle.hunk_words.specs.Bits.{kind, is_advisory, has_both_bits}
-use Rattle.hunk_blocks.specs.Values.{ExtEntry, ext_shape, SymbolEntry, BlockBody, Name, Code, Data, Bss, Reloc, Ext, Symbol, Debug, Advisory, End}
+use Rattle.hunk_blocks.specs.Values.{ExtEntry, SymbolEntry, BlockBody, Name, Code, Data, Bss, Reloc, Ext, Symbol, Debug, Advisory, End}
 use Rattle.hunk_files.specs.LoadFile.{TableEntry, LoadFileValue, IsLoadFile, HunkValue, Standing, Beside, Content, Relocating, Ending, standing, is_content}
 use Rattle.hunk_files.specs.Roles.{Role, refuse, refuse_kind}
 use Rattle.hunk_files.specs.LoadText.{text}
-use Rattle.hunk_blocks.proofs.BlockSteps.{ForName, ForDebug, ForAdvisory, ForCode, ForData, ForBss, Filling, Counted, SizedCode, SizedData, Inside, AtCount, AtSize, InPayload, AtGroup, AtTarget, InOffsets, AtEntry, InName, AtValue, AtExtWord, InExtName, AtExtValue, AtExtSize, AtExtCount, InExtOffsets, BlockNext, step_inside, begin, fill, name_entry, shaped, name_external}
+use Rattle.hunk_blocks.proofs.BlockSteps.{ForName, ForDebug, ForAdvisory, ForCode, ForData, ForBss, Filling, Counted, SizedCode, SizedData, Inside, AtCount, AtSize, InPayload, AtGroup, AtTarget, InOffsets, AtEntry, InName, AtValue, AtExtWord, InExtName, AtExtValue, AtExtSize, AtExtCount, InExtOffsets, BlockNext, step_inside, begin, fill, name_entry, name_external}
 use Rattle.hunk_files.proofs.FileSteps.{table_entry, block, OpenHunk, Progress, AtFirst, AtResident, AtTableSize, AtFirstHunk, AtLastHunk, AtSizeWord, AtAttributes, AtBlock, InBody, Next, More, Finished, role_of, open_hunk, rows, close, close_by, after, sized_row, step, Leads}
 use Rattle.hunk_files.proofs.Shapes.{by_shape}
 use Rattle.hunk_files.proofs.FileProgress.{ProgressFits, NextFits, kind_admitted, zero_or_limit, step_keeps}

@@ -4,9 +4,9 @@ use Rattle.std.specs.List.{flat_map, fold}
 use Rattle.hunk_words.proofs.LongLaws.{bytes_of-nil, bytes_of-append}
 use Rattle.hunk_words.specs.Longs.{bytes_of}
 use Rattle.hunk_words.specs.Bits.{size_longs}
-use Rattle.hunk_blocks.specs.Values.{RelocGroup, ExtEntry, ext_shape, SymbolEntry, BlockValue, End}
+use Rattle.hunk_blocks.specs.Values.{RelocGroup, ExtEntry, SymbolEntry, BlockValue, End}
 use Rattle.hunk_files.specs.Image.{block_content, block_relocations, group_relocations, filled, relocated, add_at, image}
-use Rattle.hunk_blocks.proofs.BlockSteps.{ForName, ForDebug, ForAdvisory, ForCode, ForData, ForBss, Filling, Counted, SizedCode, SizedData, Inside, AtCount, AtSize, InPayload, AtGroup, AtTarget, InOffsets, AtEntry, InName, AtValue, AtExtWord, InExtName, AtExtValue, AtExtSize, AtExtCount, InExtOffsets, BlockNext, Open, Whole, group, step_inside, fill, name_entry, shaped, name_external}
+use Rattle.hunk_blocks.proofs.BlockSteps.{ForName, ForDebug, ForAdvisory, ForCode, ForData, ForBss, Filling, Counted, SizedCode, SizedData, Inside, AtCount, AtSize, InPayload, AtGroup, AtTarget, InOffsets, AtEntry, InName, AtValue, AtExtWord, InExtName, AtExtValue, AtExtSize, AtExtCount, InExtOffsets, BlockNext, Open, Whole, group, step_inside, fill, name_entry, name_external}
 use Rattle.hunk_files.proofs.FileSteps.{OpenHunk, hunk, block}
 use Rattle.hunk_files.proofs.Shapes.{by_shape}
 use Rattle.hunk_blocks.proofs.Lists.{map-more, flat_map-more}

@@ -11,7 +11,7 @@ use Rattle.hunk_blocks.proofs.BlockSteps.{AtCount, AtSize, InPayload, AtGroup, A
 use Rattle.hunk_blocks.proofs.BlockSteps as blocks
 use Rattle.hunk_blocks.proofs.Lists.{map-more, more_owed, passed_both}
 use Rattle.hunk_files.specs.LoadFile.{TableEntry, HunkValue}
-use Rattle.hunk_files.specs.Roles.{InBlock, refuse, refuse_kind}
+use Rattle.hunk_files.specs.Roles.{refuse, refuse_kind}
 use Rattle.hunk_files.specs.LoadText.{entry_labelled}
 use Rattle.hunk_files.specs.declared.load.stage.Inside.{Inside}
 use Rattle.hunk_files.specs.declared.load.stage.Inside.TheVariants as insides
@@ -20,7 +20,7 @@ use Rattle.hunk_files.specs.declared.load.stage.Stage.{Stage}
 use Rattle.hunk_files.specs.declared.load.stage.Stage.TheVariants as stages
 use Rattle.hunk_files.specs.declared.load.stage.Next.{Next}
 use Rattle.hunk_files.specs.declared.load.stage.Next.TheVariants as nexts
-use Rattle.hunk_files.specs.Stages.{stage_role, inside_part, next_hunk, next_row, next_of_block, next_inside, next_stage, with_content}
+use Rattle.hunk_files.specs.Stages.{stage_role, next_hunk, next_row, next_of_block, next_inside, next_stage, with_content}
 use Rattle.hunk_files.proofs.FileText.{entries}
 use Rattle.hunk_files.proofs.FileSteps.{OpenHunk, Progress, AtFirst, AtResident, AtTableSize, AtFirstHunk, AtLastHunk, AtSizeWord, AtAttributes, AtBlock, InBody, More, Finished, role_of, place_of, step, rows, open_hunk, sized_row, after, hunk, block, table_entry}
 use Rattle.hunk_files.proofs.FileSteps as files

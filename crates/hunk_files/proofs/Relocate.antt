@@ -1,15 +1,14 @@
 -- Relocations, one part after another.
-use Rattle.std.proofs.Common.{◌≡◌, ℕ, zero, suc, ◌+◌, ◌*◌, ◌<◌, ◌≤◌, Bool, true, false, List, [], ◌∷◌, ◌++◌, length, map, get_or, take, refl, sym, ap, subst, ◌∙◌, append-nil, length-append, arith}
+use Rattle.std.proofs.Common.{◌≡◌, ℕ, zero, suc, ◌+◌, ◌*◌, ◌<◌, ◌≤◌, Bool, true, false, List, [], ◌∷◌, ◌++◌, length, map, get_or, take, refl, sym, ap, subst, ◌∙◌, length-append, arith}
 use Rattle.std.specs.List.{flat_map, AllByRecursion}
 use Rattle.std.proofs.lemmas.List.{take_more, get_or-map, length-map}
 use Rattle.hunk_words.specs.Longs.{bytes_of}
 use Rattle.hunk_words.proofs.LongLaws.{length-bytes_of}
-use Rattle.hunk_words.specs.Bits.{size_longs}
 use Rattle.hunk_blocks.specs.Values.{RelocGroup, BlockBody, BlockValue, Name, Code, Data, Bss, Reloc, Ext, Symbol, Debug, Advisory, End}
 use Rattle.hunk_files.specs.LoadFile.{HunkValue, Standing, standing, AreInOrder, FitsGroup, IsInside, IsHunkBlock, IsHunk, declared_longs}
 use Rattle.hunk_files.specs.Image.{add_at, block_content, block_relocations, group_relocations, relocated, relocations}
 use Rattle.hunk_files.specs.Relocating.{IsRelocatable}
-use Rattle.hunk_files.proofs.Accepted.{All-append, All-map, All-flat_map}
+use Rattle.hunk_files.proofs.Accepted.{All-map, All-flat_map}
 use Rattle.hunk_files.proofs.Concats.{flat_map-next}
 
 pub relocated-append : (bases s : List ℕ) (ps qs : List (ℕ × ℕ)) → relocated bases s (ps ++ qs) ≡ relocated bases (relocated bases s ps) qs

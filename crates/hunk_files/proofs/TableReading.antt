@@ -1,5 +1,5 @@
 -- The rows of a table, read one after the other.
-use Rattle.std.proofs.Common.{◌≡◌, ℕ, zero, suc, ◌+◌, ◌-◌, ◌*◌, ◌<◌, ◌≤◌, Bool, true, false, List, [], ◌∷◌, ◌++◌, length, map, get_or, drop, refl, sym, ap, ap₂, subst, ◌∙◌, append_assoc, append-nil, arith, if◌then◌else◌}
+use Rattle.std.proofs.Common.{◌≡◌, ℕ, ◌+◌, ◌-◌, ◌*◌, ◌<◌, ◌≤◌, Bool, true, false, List, [], ◌∷◌, ◌++◌, length, map, get_or, drop, refl, sym, ap, ap₂, subst, ◌∙◌, append_assoc, append-nil, arith, if◌then◌else◌}
 use Rattle.std.specs.List.{flat_map, AllByRecursion}
 use Rattle.std.proofs.lemmas.List.{length-append, length-map, map-append, get_or-append-add, drop_at}
 use Rattle.std.proofs.lemmas.List.Concat.{flat_map-append}
@@ -8,7 +8,7 @@ use Rattle.hunk_words.specs.Bits.{has_both_bits}
 use Rattle.hunk_words.proofs.LongLaws.{bytes_of-append, length-bytes_of, length-longs}
 use Rattle.hunk_blocks.proofs.Lists.{flat_map-more}
 use Rattle.hunk_files.specs.declared.row.Row.{Row}
-use Rattle.hunk_files.specs.LoadFile.{TableEntry, HunkValue, LoadFileValue, IsTableEntry, IsHunk}
+use Rattle.hunk_files.specs.LoadFile.{TableEntry, LoadFileValue, IsTableEntry, IsHunk}
 use Rattle.hunk_files.specs.Roles.{Role, Role as roles}
 use Rattle.hunk_files.specs.LoadText.{entry_labelled, header_labelled, hunk_labelled, labelled, table, words, text}
 use Rattle.hunk_files.specs.Fault.{BeginsWithLoadFile}

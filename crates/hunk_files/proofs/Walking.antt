@@ -1,5 +1,5 @@
 -- A walk keeps what was read, as a value with its open end.
-use Rattle.std.proofs.Common.{◌≡◌, ℕ, zero, suc, ◌+◌, ◌-◌, ◌*◌, ◌/◌, ◌<◌, ◌≤◌, Bool, true, false, List, [], ◌∷◌, ◌++◌, length, get_or, take, drop, refl, sym, ap, ap₂, subst, ◌∙◌, append_assoc, arith, Option, Some, None, if◌then◌else◌, ◌⊎◌, inl, inr}
+use Rattle.std.proofs.Common.{◌≡◌, ℕ, zero, suc, ◌+◌, ◌-◌, ◌*◌, ◌<◌, ◌≤◌, Bool, true, false, List, [], ◌∷◌, ◌++◌, length, get_or, take, drop, refl, sym, ap, ap₂, subst, ◌∙◌, append_assoc, arith, Option, Some, None, if◌then◌else◌, ◌⊎◌, inl, inr}
 use Rattle.std.specs.List.{flat_map, AllByRecursion}
 use Rattle.std.proofs.lemmas.List.{length-append, length-map, length-take-le, length-drop, get_or_at, map-append, take_more, drop_more, take-append-drop, take_at, take_all, get_or-take}
 use Rattle.std.proofs.lemmas.List.Elements.{All-from_recursion}
@@ -11,7 +11,6 @@ use Rattle.hunk_words.specs.declared.reason.Reason.TheVariants as reasons
 use Rattle.hunk_words.specs.Longs.{IsBytes, IsLong, AreLongs, longs, bytes_of}
 use Rattle.hunk_words.specs.Bits.{size_longs, has_both_bits}
 use Rattle.hunk_words.proofs.LongLaws.{spelled, longs_fit, bytes_of-append, length-bytes_of, length-longs}
-use Rattle.hunk_blocks.proofs.BlockSteps as blocks
 use Rattle.hunk_blocks.proofs.Lists.{flat_map-more}
 use Rattle.hunk_files.specs.LoadFile.{TableEntry, LoadFileValue}
 use Rattle.hunk_files.specs.Roles.{Role, refuse, Role as roles}

@@ -1,5 +1,5 @@
 -- The memory of a hunk whose relocated longs lie apart.
-use Rattle.std.specs.Prelude.{◌≡◌, ℕ, ◌+◌, ◌%◌, ◌^◌, ◌<◌, ◌≤◌, ◌==◌, List, length, map, take, drop, get_or, if◌then◌else◌, ◌⊎◌}
+use Rattle.std.specs.Prelude.{◌≡◌, ℕ, ◌+◌, ◌%◌, ◌^◌, ◌<◌, ◌≤◌, ◌==◌, List, length, take, drop, get_or, if◌then◌else◌, ◌⊎◌}
 use Rattle.std.specs.List.{Contains, sum_by}
 use Rattle.std.specs.Int.{w32, from_be_bytes}
 use Rattle.hunk_files.specs.LoadFile.{HunkValue}

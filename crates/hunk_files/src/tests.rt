@@ -3,6 +3,7 @@
 
 mod answers;
 mod images;
+mod large;
 mod memory;
 mod object;
 mod object_findings;

@@ -1,5 +1,5 @@
 //! What is refused in an object file, and where.
-ghost use Rattle.std.specs.Prelude.{◌≡◌, ◌+◌, ◌*◌, ◌^◌, ◌<◌, ◌↔◌, IfSome, IsNone, IsTrue, length};
+ghost use Rattle.std.specs.Prelude.{◌≡◌, ◌+◌, ◌*◌, ◌^◌, ◌<◌, ◌≤◌, ◌↔◌, IfSome, IsNone, IsTrue, length};
 ghost use Rattle.hunk_words.specs.Bits.{kind};
 ghost use Rattle.hunk_words.specs.Longs.{longs};
 ghost use Rattle.hunk_words.specs.declared.reason.Reason.TheVariants as reasons;
@@ -67,7 +67,8 @@ pub(super) fn truncated(bytes: &[u8]) -> FileFault
 
 /// The refusal of memory for what ends before byte `at`: at its last longword.
 pub(super) fn out_of_memory(at: usize) -> FileFault
-    ensures { result.reason ≡ reasons.OutOfMemory }
+    ensures place { 4 ≤ at → result.place + 4 ≡ at }
+    ensures reason { result.reason ≡ reasons.OutOfMemory }
 {
     FileFault {
         place: (at as u64).saturating_sub(4),

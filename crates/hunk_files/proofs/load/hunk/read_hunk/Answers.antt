@@ -1,4 +1,4 @@
-use Rattle.std.proofs.Common.{arith, ◌+◌, ◌≡◌, ℕ, List, [], ◌∷◌, ◌++◌, drop, rules, subst, sym}
+use Rattle.std.proofs.Common.{arith, ◌+◌, ◌≡◌, ℕ, List, [], ◌∷◌, ◌++◌, rules, subst, sym}
 use Rattle.std.proofs.lemmas.List.{take_rest}
 use Rattle.hunk_blocks.specs.declared.mode.Mode.TheVariants as modes
 use Rattle.hunk_blocks.specs.Values.{BlockValue}

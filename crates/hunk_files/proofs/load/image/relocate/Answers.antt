@@ -1,5 +1,5 @@
-use Rattle.std.proofs.Common.{◌≡◌, ℕ, List, length, ap, sym, subst, ◌∙◌, arith}
-use Rattle.hunk_blocks.specs.Values.{BlockBody, BlockValue}
+use Rattle.std.proofs.Common.{length, ap, sym, subst, ◌∙◌, arith}
+use Rattle.hunk_blocks.specs.Values.{BlockValue}
 use Rattle.hunk_blocks.specs.Views.{body_of}
 use Rattle.hunk_blocks.specs.declared.body.Body.{Body}
 use Rattle.hunk_files.specs.Image.{block_relocations}

@@ -1,6 +1,5 @@
-use Rattle.std.proofs.Common.{◌≡◌, ℕ, ◌+◌, get_or, length, ap, sym, ◌∙◌, arith}
+use Rattle.std.proofs.Common.{length, ◌∙◌, arith}
 use Rattle.hunk_blocks.specs.Views.{group_of}
-use Rattle.hunk_files.specs.Image.{add_at}
 use Rattle.hunk_files.proofs.Relocate.{group_more, offset_room}
 use Rattle.hunk_files.proofs.load.image.relocate_group.Goals as goal
 

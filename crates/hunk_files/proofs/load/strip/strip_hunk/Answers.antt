@@ -1,7 +1,6 @@
-use Rattle.std.proofs.Common.{◌≡◌, List, ap, rules}
+use Rattle.std.proofs.Common.{List, ap, rules}
 use Rattle.std.proofs.lemmas.Fn.{filter_same}
 use Rattle.hunk_blocks.specs.Values.{BlockValue}
-use Rattle.hunk_files.specs.LoadFile.{HunkValue}
 use Rattle.hunk_files.specs.Strip.{is_kept}
 use Rattle.hunk_files.specs.Tables.{row_entry}
 use Rattle.hunk_files.proofs.FileSteps.{hunk}

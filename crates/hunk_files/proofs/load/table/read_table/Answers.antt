@@ -1,7 +1,5 @@
-use Rattle.std.proofs.Common.{◌≡◌, ℕ, ◌+◌, ◌*◌, ◌<◌, ◌≤◌, List, [], ◌∷◌, ◌++◌, length, map, arith, rules, sym, ap, ◌∙◌, subst, if◌then◌else◌}
+use Rattle.std.proofs.Common.{◌≡◌, ℕ, ◌+◌, ◌<◌, List, [], ◌∷◌, ◌++◌, length, map, arith, rules, sym, ap, ◌∙◌, subst}
 use Rattle.std.proofs.lemmas.List.{length-map, map_push}
-use Rattle.hunk_words.specs.Bits.{has_both_bits}
-use Rattle.hunk_files.specs.declared.row.Row.{Row}
 use Rattle.hunk_files.specs.LoadFile.{TableEntry}
 use Rattle.hunk_files.specs.LoadText.{table}
 use Rattle.hunk_files.specs.Tables.{row_entry}

@@ -1,6 +1,5 @@
-use Rattle.std.proofs.Common.{◌≡◌, ℕ, ◌+◌, ◌*◌, ◌/◌, ◌<◌, length, get_or, arith, sym, ap, ◌∙◌, subst, Some, None, Option}
+use Rattle.std.proofs.Common.{ℕ, ◌+◌, ◌*◌, ◌<◌, length, arith, sym, ap, ◌∙◌, subst}
 use Rattle.hunk_words.specs.Longs.{longs, IsBytes}
-use Rattle.hunk_words.specs.declared.reason.Reason.{Reason}
 use Rattle.hunk_words.specs.declared.reason.Reason.TheVariants as reasons
 use Rattle.hunk_words.proofs.LongLaws.{length-longs}
 use Rattle.hunk_files.specs.Roles.{refuse}
@@ -8,7 +7,7 @@ use Rattle.hunk_files.specs.Fault.{HasFault}
 use Rattle.hunk_files.specs.Stages.{stage_role, next_stage}
 use Rattle.hunk_files.specs.declared.load.stage.OpenHunk.{OpenHunk}
 use Rattle.hunk_files.specs.declared.load.stage.Stage.TheVariants as stages
-use Rattle.hunk_files.proofs.Walking.{StandsAt, Walks, start_walk, stands, has_declared, walk_refused, walk_goes, walk_opens, walk_ends, walk_truncated, row_fits}
+use Rattle.hunk_files.proofs.Walking.{Walks, start_walk, stands, has_declared, walk_refused, walk_goes, walk_opens, walk_ends, walk_truncated, row_fits}
 use Rattle.hunk_files.proofs.load.walk.walk.Goals as goal
 
 pub walking-init : goal.walking-init

@@ -1,4 +1,4 @@
-use Rattle.std.proofs.Common.{length, ◌-◌, ◌/◌}
+use Rattle.std.proofs.Common.{◌-◌}
 use Rattle.hunk_files.proofs.Walking.{Walks}
 use Rattle.hunk_files.proofs.load.walk.walk.Given as goal
 

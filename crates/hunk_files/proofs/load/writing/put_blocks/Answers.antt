@@ -1,4 +1,4 @@
-use Rattle.std.proofs.Common.{◌^◌, arith}
+use Rattle.std.proofs.Common.{◌^◌}
 use Rattle.hunk_blocks.specs.Parts.{block_text}
 use Rattle.hunk_files.proofs.Puts.{puts_begin, puts_room, puts_next, puts_stop}
 use Rattle.hunk_files.proofs.load.writing.put_blocks.Goals as goal

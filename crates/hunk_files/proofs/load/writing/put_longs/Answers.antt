@@ -1,4 +1,4 @@
-use Rattle.std.proofs.Common.{◌≡◌, ℕ, List, ◌+◌, ◌<◌, ◌^◌, [], ◌∷◌, length, get_or, refl, sym, ap, subst, arith}
+use Rattle.std.proofs.Common.{◌≡◌, ℕ, List, ◌<◌, ◌^◌, [], ◌∷◌, length, get_or, ap, arith}
 use Rattle.std.proofs.lemmas.List.{get_or_default}
 use Rattle.hunk_words.specs.Longs.{bytes_of}
 use Rattle.hunk_words.proofs.LongLaws.{length-bytes_of}

@@ -1,8 +1,6 @@
-use Rattle.std.proofs.Common.{◌≡◌, List, ℕ, [], ◌∷◌, length, sym, ap, subst, ◌∙◌, append-nil, length-append, arith}
-use Rattle.std.specs.Prelude.{Result}
+use Rattle.std.proofs.Common.{[], ◌∷◌, length, sym, ap, subst, ◌∙◌, append-nil, length-append, arith}
 use Rattle.hunk_words.specs.Longs.{bytes_of}
 use Rattle.hunk_words.proofs.LongLaws.{length-bytes_of}
-use Rattle.hunk_words.specs.declared.long_writer.WriteFault.{WriteFault}
 use Rattle.hunk_blocks.specs.Writes.{Writes}
 use Rattle.hunk_blocks.proofs.WriteLaws.{long_writes, stops_first, writes_two, writes_same}
 use Rattle.hunk_files.proofs.TextParts.{row_rest, row_split, row_two, row_one}

@@ -1,4 +1,4 @@
-use Rattle.std.proofs.Common.{◌^◌, arith}
+use Rattle.std.proofs.Common.{◌^◌}
 use Rattle.hunk_files.specs.declared.load.hunk.LoadHunk.{LoadHunk}
 use Rattle.hunk_files.specs.Tables.{row_words}
 use Rattle.hunk_files.proofs.Puts.{puts_begin, puts_room, puts_next, puts_stop}

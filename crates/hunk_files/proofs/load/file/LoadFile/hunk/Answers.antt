@@ -1,4 +1,4 @@
-use Rattle.std.proofs.Common.{◌≡◌, List, ap, sym, ◌∙◌, Some}
+use Rattle.std.proofs.Common.{List, ap, sym, ◌∙◌, Some}
 use Rattle.hunk_blocks.specs.Values.{BlockValue}
 use Rattle.hunk_files.proofs.FileViews.{blocks_at}
 use Rattle.hunk_files.proofs.load.file.LoadFile.hunk.Goals as goal

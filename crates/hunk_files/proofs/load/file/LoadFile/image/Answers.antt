@@ -1,13 +1,13 @@
-use Rattle.std.proofs.Common.{◌≡◌, ℕ, ◌+◌, ◌*◌, ◌≤◌, ◌++◌, vec_len, List, map, length, ap, sym, subst, ◌∙◌, arith, rules}
+use Rattle.std.proofs.Common.{◌≡◌, ℕ, ◌+◌, ◌*◌, ◌++◌, vec_len, List, map, length, ap, sym, subst, ◌∙◌, arith, rules}
 use Rattle.std.specs.List.{AllByRecursion}
 use Rattle.std.proofs.lemmas.List.{length-map}
 use Rattle.hunk_words.specs.Bits.{size_longs}
 use Rattle.hunk_blocks.proofs.ListWriting.{All-at}
 use Rattle.hunk_files.specs.declared.load.hunk.LoadHunk.{LoadHunk}
-use Rattle.hunk_files.specs.LoadFile.{HunkValue, IsHunk}
+use Rattle.hunk_files.specs.LoadFile.{IsHunk}
 use Rattle.hunk_files.specs.Image.{image}
 use Rattle.hunk_files.specs.Tables.{hunk_of}
-use Rattle.hunk_files.proofs.ImageParts.{ImagesSoFar, no_images, image_more, image_whole}
+use Rattle.hunk_files.proofs.ImageParts.{image_more, image_whole}
 use Rattle.hunk_files.proofs.Relocate.{hunk_fits, content_fits}
 use Rattle.hunk_files.proofs.load.file.LoadFile.image.Goals as goal
 

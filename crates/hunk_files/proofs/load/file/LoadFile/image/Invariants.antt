@@ -1,4 +1,3 @@
-use Rattle.std.proofs.Common.{map, take}
 use Rattle.hunk_files.proofs.ImageParts.{ImagesSoFar}
 use Rattle.hunk_files.proofs.load.file.LoadFile.image.Given as goal
 

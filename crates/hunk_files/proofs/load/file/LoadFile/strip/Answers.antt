@@ -1,4 +1,4 @@
-use Rattle.std.proofs.Common.{◌≡◌, ◌≤◌, List, length, map, ap, sym, ◌∙◌, subst, arith}
+use Rattle.std.proofs.Common.{◌≤◌, List, length, map, ap, sym, ◌∙◌, subst, arith}
 use Rattle.hunk_words.specs.Longs.{bytes_of}
 use Rattle.hunk_files.specs.declared.load.hunk.LoadHunk.{LoadHunk}
 use Rattle.hunk_files.specs.LoadFile.{LoadFileValue, IsLoadFile}

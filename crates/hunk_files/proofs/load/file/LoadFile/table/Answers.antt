@@ -1,4 +1,4 @@
-use Rattle.std.proofs.Common.{◌≡◌, sym, ◌∙◌, Some}
+use Rattle.std.proofs.Common.{sym, ◌∙◌, Some}
 use Rattle.hunk_files.proofs.FileViews.{entry_at}
 use Rattle.hunk_files.proofs.load.file.LoadFile.table.Goals as goal
 
