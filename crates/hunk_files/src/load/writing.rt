@@ -11,7 +11,7 @@ ghost use Rattle.hunk_files.specs.Tables.{behind_first, row_texts, row_words};
 use crate::load::file::LoadFile;
 use crate::load::hunk::LoadHunk;
 use crate::row::Row;
-use hunk_blocks::Block;
+use crate::writing::put_blocks;
 use hunk_words::{LongWriter, Sink, SizeWord, WriteFault};
 
 /// The longword that a load file begins with.
@@ -103,18 +103,6 @@ fn put_hunks<W: Sink>(writer: &mut LongWriter<W>, hunks: &[LoadHunk<'_>]) -> Res
 {
     'putting: for hunk in hunks {
         put_blocks(writer, &hunk.blocks)?;
-    }
-    Ok(())
-}
-
-fn put_blocks<W: Sink>(writer: &mut LongWriter<W>, blocks: &[Block<'_>]) -> Result<(), WriteFault>
-    requires running { writer.old.stopped ≡ false }
-    requires room { writer.old.written + length (bytes_of (block_texts blocks.now)) < 2 ^ 64 }
-    ensures { Writes W.taken W.failed writer.old writer.new result
-        (bytes_of (block_texts blocks.now)) }
-{
-    'putting: for block in blocks {
-        block.encode(writer)?;
     }
     Ok(())
 }

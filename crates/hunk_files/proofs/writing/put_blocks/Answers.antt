@@ -1,7 +1,7 @@
 use Rattle.std.proofs.Common.{◌^◌}
 use Rattle.hunk_blocks.specs.Parts.{block_text}
 use Rattle.hunk_files.proofs.Puts.{puts_begin, puts_room, puts_next, puts_stop}
-use Rattle.hunk_files.proofs.load.writing.put_blocks.Goals as goal
+use Rattle.hunk_files.proofs.writing.put_blocks.Goals as goal
 
 pub putting-init : goal.putting-init
 putting-init g c = puts_begin block_text g.W.Sink.taken g.W.Sink.failed c.args.blocks.now c.args.writer.now c.requires.running
