@@ -1,5 +1,5 @@
 -- Behind the header no longword has the role of a size word, and before its end none is refused that a header has there.
-use Rattle.std.proofs.Common.{◌≡◌, ℕ, List, [], ◌∷◌, ◌++◌, length, refl, sym, ap, subst, ◌∙◌, append_assoc, None}
+use Rattle.std.proofs.Common.{◌≡◌, ℕ, List, [], ◌∷◌, ◌++◌, length, sym, ap, subst, ◌∙◌, append_assoc, None}
 use Rattle.std.proofs.lemmas.List.{map-append}
 use Rattle.hunk_files.specs.Fault.{Expects}
 use Rattle.hunk_files.specs.LoadFile.{TableEntry}

@@ -1,21 +1,20 @@
 -- The machine of numbers is the reader of load files, without what was read.
-use Rattle.std.proofs.Common.{◌≡◌, ℕ, zero, suc, ◌+◌, ◌-◌, ◌*◌, ◌/◌, ◌%◌, ◌^◌, Bool, true, false, ◌||◌, cond, eqb, List, [], ◌∷◌, ◌++◌, length, map, get_or, refl, sym, ap, ap₂, ◌∙◌, append_assoc, arith, Option, None}
+use Rattle.std.proofs.Common.{◌≡◌, ℕ, zero, suc, ◌+◌, ◌-◌, ◌*◌, ◌/◌, ◌%◌, ◌^◌, Bool, true, false, ◌||◌, cond, List, [], ◌∷◌, ◌++◌, length, get_or, refl, sym, ap, ap₂, ◌∙◌, append_assoc, arith, None}
 use Rattle.std.specs.List.{sum_by}
 use Rattle.std.proofs.lemmas.Bool.{ne_eqb, eq-eqb}
 use Rattle.std.proofs.lemmas.List.{length-map, length-append, map-append, get_or_at}
 use Rattle.std.proofs.lemmas.List.Sums.{sum_by-append, sum_by-cons}
 use Rattle.hunk_words.specs.declared.block_word.Kind.{Kind}
 use Rattle.hunk_words.specs.declared.block_word.Kind.TheVariants as kinds
-use Rattle.hunk_words.specs.declared.reason.Reason.{Reason}
 use Rattle.hunk_words.specs.Longs.{IsLong}
 use Rattle.hunk_words.specs.Bits.{size_longs, kind, is_advisory}
-use Rattle.hunk_blocks.specs.Values.{RelocGroup, SymbolEntry, BlockBody, Name, Code, Data, Bss, Reloc, Symbol, Debug, Advisory, End}
+use Rattle.hunk_blocks.specs.Values.{SymbolEntry, End}
 use Rattle.hunk_blocks.specs.Parts.{Part}
 use Rattle.hunk_files.specs.LoadFile.{TableEntry, HunkValue, Standing, Beside, Content, Relocating, Ending, standing}
 use Rattle.hunk_files.specs.Roles.{Place, refuse, refuse_part, refuse_kind}
 use Rattle.hunk_files.proofs.FileText.{entries}
-use Rattle.hunk_blocks.proofs.BlockSteps.{ForName, ForDebug, ForAdvisory, ForCode, ForData, ForBss, Filling, Counted, SizedCode, SizedData, Inside, AtCount, AtSize, InPayload, AtGroup, AtTarget, InOffsets, AtEntry, InName, AtValue, BlockNext, Open, Whole, part_of, step_inside, fill, begin, relocate, name_entry}
-use Rattle.hunk_files.proofs.FileSteps.{hunk, block, OpenHunk, Progress, AtFirst, AtBlock, InBody, Next, More, Finished, place_of, role_of, open_hunk, close_by, after, step}
+use Rattle.hunk_blocks.proofs.BlockSteps.{ForName, ForDebug, ForAdvisory, ForCode, ForData, ForBss, Counted, SizedCode, SizedData, Inside, AtCount, AtSize, InPayload, AtGroup, AtTarget, InOffsets, AtEntry, InName, AtValue, BlockNext, Open, Whole, part_of, step_inside, fill, begin, name_entry}
+use Rattle.hunk_files.proofs.FileSteps.{hunk, block, OpenHunk, Progress, AtBlock, InBody, More, place_of, role_of, open_hunk, close_by, after, step}
 use Rattle.hunk_files.proofs.FileProgress.{OpenFits, ProgressFits, kind_admitted}
 use Rattle.hunk_files.proofs.HunkProgress.{Within}
 use Rattle.hunk_blocks.proofs.Lists.{map-more, length-more}

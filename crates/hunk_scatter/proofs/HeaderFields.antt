@@ -1,9 +1,8 @@
 -- What the fields of the loader of a header keep, and what they tell.
-use Rattle.std.proofs.Common.{◌≡◌, ℕ, suc, ◌+◌, ◌-◌, ◌*◌, ◌/◌, ◌^◌, ◌<◌, ◌≤◌, Bool, true, false, List, [], ◌∷◌, ◌++◌, length, map, refl, sym, ap, ap₂, subst, ◌∙◌, append_assoc, append-nil, arith, length-append, Option, Some, None, ◌⊎◌, inl, inr, ltb, take, drop, take-append-drop}
+use Rattle.std.proofs.Common.{◌≡◌, ℕ, ◌+◌, ◌-◌, ◌*◌, ◌/◌, ◌^◌, ◌<◌, ◌≤◌, Bool, true, false, List, [], ◌∷◌, ◌++◌, length, map, refl, sym, ap, subst, ◌∙◌, append_assoc, append-nil, arith, length-append, Option, Some, None, ◌⊎◌, inl, inr, ltb, take, drop, take-append-drop}
 use Rattle.std.specs.Prelude.{IsTrue}
 use Rattle.std.proofs.lemmas.Bool.{ltb-true, ltb-false}
 use Rattle.std.proofs.lemmas.List.{length-map, take_all}
-use Rattle.hunk_words.specs.Bits.{size_longs}
 use Rattle.hunk_words.specs.Longs.{longs, bytes_of, IsLong}
 use Rattle.hunk_words.specs.declared.fault.Fault.{Fault}
 use Rattle.hunk_words.specs.declared.reason.Reason.{Reason}
@@ -14,14 +13,14 @@ use Rattle.hunk_files.specs.Fault.{IsTruncated, Expects}
 use Rattle.hunk_files.specs.Image.{declared_bytes}
 use Rattle.hunk_files.specs.LoadFile.{TableEntry}
 use Rattle.hunk_files.specs.Roles.{refuse, Role as roles}
-use Rattle.hunk_files.proofs.FileSteps.{Progress, AtFirst, AtBlock, Next, More, open_hunk}
+use Rattle.hunk_files.proofs.FileSteps.{Progress, More, open_hunk}
 use Rattle.hunk_files.proofs.Reading.{HasRead, start_read, one_place}
 use Rattle.hunk_scatter.specs.declared.header_state.HeaderPhase.{HeaderPhase}
 use Rattle.hunk_scatter.specs.declared.header_state.HeaderPhase.TheVariants as phases
 use Rattle.hunk_scatter.specs.declared.header_state.HeaderState.{HeaderState}
 use Rattle.hunk_scatter.specs.Answers.{is_of_header}
 use Rattle.hunk_scatter.specs.Headers.{IsTable, IsHeader, header_words, header_bytes, entries_so_far, PassesBudget}
-use Rattle.hunk_scatter.specs.Heading.{next_at, role_at, is_done, least_at, behind, adds, declares, IsStarted, total_at, EndsHeader, StopsFor, HasReadHeader, HeaderReading, IsHeading, IsTabled, HeaderStop}
+use Rattle.hunk_scatter.specs.Heading.{next_at, role_at, is_done, least_at, behind, adds, declares, IsStarted, total_at, EndsHeader, StopsFor, HeaderReading, IsHeading, HeaderStop}
 use Rattle.hunk_scatter.specs.Loaders.{HasNoRefusal}
 use Rattle.hunk_scatter.specs.Rows.{entry_of, entries_of, row_of}
 use Rattle.hunk_scatter.proofs.Behind.{no_size_word, table_behind}
@@ -119,9 +118,9 @@ module _ (budget : ℕ) (rows : List Row) (s : HeaderState) (pending fed : List 
       let d = header_done r.ws (entries_of rows) (subst (λ (x : HeaderPhase). HasRead r.ws (next_at x (entries_of rows))) (done_is s.phase done) r.has_read.read) in (
         d.0,
         r.spelled
-        ∙ ap (λ (bs : List ℕ). bytes_of r.ws ++ bs) (ends_done s.phase pending done r.whole)
-        ∙ append-nil (bytes_of r.ws)
-        ∙ ap bytes_of d.1,
+            ∙ ap (λ (bs : List ℕ). bytes_of r.ws ++ bs) (ends_done s.phase pending done r.whole)
+            ∙ append-nil (bytes_of r.ws)
+            ∙ ap bytes_of d.1,
       )
 
   pub heading_total : is_done s.phase ≡ true → s.total ≡ declared_bytes (entries_of rows)

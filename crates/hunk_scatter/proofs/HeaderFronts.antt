@@ -1,9 +1,9 @@
 -- The header in front of bytes: it is one, its size words keep to its declared bytes, and each load text begins with one.
-use Rattle.std.proofs.Common.{◌≡◌, ℕ, suc, ◌+◌, ◌-◌, ◌*◌, ◌/◌, ◌<◌, ◌≤◌, Bool, true, false, List, [], ◌∷◌, ◌++◌, length, map, refl, sym, ap, ap₂, subst, ◌∙◌, append_assoc, append-nil, arith, length-append, None, ◌⊎◌, inl, inr}
+use Rattle.std.proofs.Common.{◌≡◌, ℕ, ◌+◌, ◌*◌, ◌≤◌, Bool, true, false, List, [], ◌∷◌, ◌++◌, length, refl, sym, ap, subst, ◌∙◌, append_assoc, append-nil, arith, ◌⊎◌, inl, inr}
 use Rattle.std.specs.List.{flat_map}
 use Rattle.std.proofs.lemmas.List.{length-map, map-append}
 use Rattle.hunk_words.specs.Bits.{size_longs}
-use Rattle.hunk_words.specs.Longs.{longs, bytes_of, IsLong, AreLongs}
+use Rattle.hunk_words.specs.Longs.{longs, bytes_of}
 use Rattle.hunk_words.proofs.LongLaws.{bytes_of-append, longs-bytes_of}
 use Rattle.hunk_words.specs.declared.reason.Reason.{Reason}
 use Rattle.hunk_files.specs.Fault.{Expects, HasRefusal}
@@ -14,23 +14,21 @@ use Rattle.hunk_files.specs.Roles.{Role, Role as roles, refuse}
 use Rattle.hunk_files.proofs.FileProgress.{ProgressFits, NextFits, step_keeps}
 use Rattle.hunk_files.proofs.FileSteps.{Progress, AtFirst, AtResident, AtTableSize, AtFirstHunk, AtLastHunk, AtSizeWord, AtAttributes, AtBlock, InBody, Next, More, Finished, open_hunk, role_of, step, Leads}
 use Rattle.hunk_files.proofs.FileText.{header_leads, entries_fit}
-use Rattle.hunk_files.proofs.Reading.{HasRead, step_read}
+use Rattle.hunk_files.proofs.Reading.{HasRead}
 use Rattle.hunk_files.proofs.Runs.{Labelled, IsAccepted, AreAccepted, Leads-split, Leads-same}
 use Rattle.hunk_files.proofs.Scan.{no_fault, words_split, expected_place}
 use Rattle.hunk_scatter.specs.declared.header_state.HeaderPhase.{HeaderPhase}
 use Rattle.hunk_scatter.specs.declared.header_state.HeaderPhase.TheVariants as phases
 use Rattle.hunk_scatter.specs.Headers.{IsTable, header_words, header_bytes, entries_so_far, IsWithinBudget, PassesBudget}
-use Rattle.hunk_scatter.specs.Heading.{next_at, role_at, is_done, behind, adds, declares, IsStarted, total_at}
+use Rattle.hunk_scatter.specs.Heading.{next_at, is_done, behind, adds, declares, IsStarted, total_at}
 use Rattle.hunk_scatter.specs.Loading.{IsBehindHeader}
 use Rattle.hunk_scatter.specs.Loads.{IsWithinHeader, IsWithinFile}
 use Rattle.hunk_scatter.specs.Standing.{table_of}
-use Rattle.hunk_scatter.proofs.Behind.{table_behind, no_size_word, role_here}
+use Rattle.hunk_scatter.proofs.Behind.{table_behind, no_size_word}
 use Rattle.hunk_scatter.proofs.Faults.{longs-more}
 use Rattle.hunk_scatter.proofs.Feeding.{fronts_of}
 use Rattle.hunk_scatter.proofs.Forget.{step_behind, step_table}
-use Rattle.hunk_scatter.proofs.HeaderFields.{header_spells}
 use Rattle.hunk_scatter.proofs.HeaderLeast.{opens}
-use Rattle.hunk_scatter.proofs.HeaderReads.{size_word}
 use Rattle.hunk_scatter.proofs.HeaderSteps.{header_step, goes_on, not_done, step_total}
 use Rattle.hunk_scatter.proofs.HeaderStops.{header_longs}
 use Rattle.hunk_scatter.proofs.HeaderTexts.{header_read, header_accepted, rows_read}
@@ -82,7 +80,7 @@ text_header v is = (
   (
     bytes_of (words (flat_map (hunk_labelled (length v)) v)),
     ap bytes_of (map-append (λ (x : Role × ℕ). x.1) (header_labelled (table v)) (flat_map (hunk_labelled (length v)) v))
-    ∙ bytes_of-append (header_words (table v)) (words (flat_map (hunk_labelled (length v)) v)),
+        ∙ bytes_of-append (header_words (table v)) (words (flat_map (hunk_labelled (length v)) v)),
   ),
 )
 

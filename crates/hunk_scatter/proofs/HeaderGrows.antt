@@ -2,18 +2,18 @@
 use Rattle.std.proofs.Common.{◌≡◌, ℕ, zero, suc, ◌+◌, ◌-◌, ◌*◌, ◌%◌, ◌<◌, ◌≤◌, Bool, true, false, cond, List, [], ◌∷◌, ◌++◌, length, replicate, get_or, refl, sym, ap, subst, ◌∙◌, append_assoc, append-nil, arith, length-append, None}
 use Rattle.std.proofs.lemmas.List.{length-replicate}
 use Rattle.hunk_words.specs.Bits.{has_both_bits}
-use Rattle.hunk_words.specs.Longs.{longs, bytes_of, IsLong, AreLongs, IsBytes}
+use Rattle.hunk_words.specs.Longs.{longs, bytes_of, AreLongs, IsBytes}
 use Rattle.hunk_words.proofs.LongLaws.{spelled, longs_fit, length-bytes_of, bytes_of-append}
 use Rattle.hunk_files.specs.LoadFile.{TableEntry}
 use Rattle.hunk_files.specs.Roles.{Role, refuse}
-use Rattle.hunk_files.proofs.FileSteps.{Next, More, role_of}
+use Rattle.hunk_files.proofs.FileSteps.{Next}
 use Rattle.hunk_files.proofs.Reading.{HasRead, step_read}
 use Rattle.hunk_scatter.specs.declared.header_state.HeaderPhase.{HeaderPhase}
 use Rattle.hunk_scatter.specs.declared.header_state.HeaderPhase.TheVariants as phases
-use Rattle.hunk_scatter.specs.Headers.{IsTable, header_words, header_bytes, BeginsHeader}
+use Rattle.hunk_scatter.specs.Headers.{IsTable, header_bytes, BeginsHeader}
 use Rattle.hunk_scatter.specs.Heading.{next_at, role_at, is_done, least_at, rows_owed, behind, adds, IsStarted}
 use Rattle.hunk_scatter.proofs.Forget.{by_count-suc}
-use Rattle.hunk_scatter.proofs.HeaderLeast.{EndsIn, header_ends, least_step}
+use Rattle.hunk_scatter.proofs.HeaderLeast.{header_ends, least_step}
 use Rattle.hunk_scatter.proofs.HeaderSteps.{header_step, goes_on, not_done}
 
 -- ---- longwords of the table

@@ -1,16 +1,15 @@
 -- How many longwords a header still has, at least.
-use Rattle.std.proofs.Common.{◌≡◌, ℕ, zero, suc, ◌+◌, ◌-◌, ◌*◌, ◌<◌, ◌≤◌, Bool, true, false, cond, eqb, ltb, List, [], ◌∷◌, ◌++◌, length, refl, sym, ap, subst, ◌∙◌, append_assoc, append-nil, arith, None, Some}
+use Rattle.std.proofs.Common.{◌≡◌, ℕ, zero, suc, ◌+◌, ◌-◌, ◌≤◌, Bool, true, false, cond, eqb, List, [], ◌∷◌, ◌++◌, length, refl, sym, ap, subst, ◌∙◌, append_assoc, append-nil, arith, None}
 use Rattle.hunk_words.specs.Bits.{has_both_bits}
 use Rattle.hunk_words.specs.declared.reason.Reason.TheVariants as reasons
-use Rattle.hunk_words.specs.Longs.{IsLong}
 use Rattle.std.proofs.lemmas.Bool.{eqb-false}
 use Rattle.std.proofs.lemmas.List.{length-map}
-use Rattle.hunk_blocks.proofs.Lists.{more_owed, passed_both, passes_then}
+use Rattle.hunk_blocks.proofs.Lists.{more_owed, passed_both}
 use Rattle.hunk_files.specs.LoadFile.{TableEntry}
-use Rattle.hunk_files.specs.LoadText.{header_labelled, words}
-use Rattle.hunk_files.specs.Roles.{Role, Role as roles, refuse}
+use Rattle.hunk_files.specs.LoadText.{header_labelled}
+use Rattle.hunk_files.specs.Roles.{Role, refuse}
 use Rattle.hunk_files.proofs.FileProgress.{ProgressFits, NextFits, step_keeps}
-use Rattle.hunk_files.proofs.FileSteps.{table_entry, Progress, AtFirst, AtResident, AtTableSize, AtFirstHunk, AtLastHunk, AtSizeWord, AtAttributes, Next, More, open_hunk, rows, role_of, step, Leads}
+use Rattle.hunk_files.proofs.FileSteps.{table_entry, Progress, AtFirst, AtResident, AtTableSize, AtFirstHunk, AtLastHunk, AtSizeWord, AtAttributes, Next, More, open_hunk, rows, Leads}
 use Rattle.hunk_files.proofs.FileText.{header_leads}
 use Rattle.hunk_files.proofs.Reading.{HasRead, step_read}
 use Rattle.hunk_files.proofs.Runs.{Labelled, IsAccepted, AreAccepted, Leads-split, Leads-same}

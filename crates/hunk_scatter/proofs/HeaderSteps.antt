@@ -1,11 +1,10 @@
 -- The numbers and rows follow the reader of load files through the header.
-use Rattle.std.proofs.Common.{◌≡◌, ℕ, zero, suc, ◌+◌, ◌-◌, ◌*◌, Bool, true, false, cond, List, [], ◌∷◌, ◌++◌, length, refl, sym, ap, subst, ◌∙◌, append-nil, arith, length-append}
+use Rattle.std.proofs.Common.{◌≡◌, ℕ, zero, suc, ◌+◌, ◌*◌, Bool, true, false, cond, List, [], ◌∷◌, ◌++◌, length, refl, sym, ap, subst, ◌∙◌, append-nil, arith}
 use Rattle.hunk_words.specs.Bits.{has_both_bits, size_longs}
 use Rattle.hunk_files.specs.Image.{declared_bytes}
 use Rattle.hunk_files.specs.LoadFile.{TableEntry}
-use Rattle.hunk_files.specs.Roles.{Role}
-use Rattle.hunk_files.proofs.FileSteps.{table_entry, Progress, AtFirst, AtResident, AtTableSize, AtFirstHunk, AtLastHunk, AtSizeWord, AtAttributes, Next, More, open_hunk, role_of, rows, sized_row, step}
-use Rattle.hunk_files.proofs.FileProgress.{ProgressFits, RowsFit}
+use Rattle.hunk_files.proofs.FileSteps.{table_entry, Progress, AtFirst, AtResident, AtTableSize, AtFirstHunk, AtLastHunk, AtSizeWord, AtAttributes, More, open_hunk, role_of, rows, sized_row, step}
+use Rattle.hunk_files.proofs.FileProgress.{ProgressFits}
 use Rattle.hunk_blocks.proofs.Lists.{more_owed}
 use Rattle.hunk_scatter.specs.declared.header_state.HeaderPhase.{HeaderPhase}
 use Rattle.hunk_scatter.specs.declared.header_state.HeaderPhase.TheVariants as phases

@@ -1,8 +1,8 @@
 -- What stops the loader of a header is the fault of the bytes, or the budget, or want of memory.
-use Rattle.std.proofs.Common.{◌≡◌, ℕ, suc, ◌+◌, ◌*◌, ◌<◌, ◌≤◌, Bool, true, false, cond, List, [], ◌∷◌, ◌++◌, length, map, refl, sym, ap, ap₂, subst, ◌∙◌, append_assoc, append-nil, arith, length-append, Option, Some, None, ◌⊎◌, inl, inr, ◌==◌}
-use Rattle.std.specs.Prelude.{IfSome, IsTrue, nat_lt}
+use Rattle.std.proofs.Common.{◌≡◌, ℕ, ◌+◌, ◌*◌, ◌<◌, ◌≤◌, List, [], ◌∷◌, ◌++◌, length, map, refl, sym, ap, subst, ◌∙◌, append_assoc, append-nil, arith, length-append, Some, None, ◌⊎◌, inl, inr}
+use Rattle.std.specs.Prelude.{IsTrue}
 use Rattle.hunk_words.specs.Bits.{size_longs}
-use Rattle.hunk_words.specs.Longs.{longs, bytes_of, IsLong, AreLongs, IsBytes}
+use Rattle.hunk_words.specs.Longs.{longs, IsLong, AreLongs, IsBytes}
 use Rattle.hunk_words.specs.declared.fault.Fault.{Fault}
 use Rattle.hunk_words.specs.declared.reason.Reason.{Reason}
 use Rattle.hunk_words.specs.declared.reason.Reason.TheVariants as reasons
@@ -14,15 +14,15 @@ use Rattle.hunk_files.specs.Image.{declared_bytes}
 use Rattle.hunk_files.specs.LoadFile.{TableEntry}
 use Rattle.hunk_files.specs.LoadText.{header_labelled}
 use Rattle.hunk_files.specs.Roles.{Role, Role as roles, refuse}
-use Rattle.hunk_files.proofs.FileSteps.{Progress, Next, More, open_hunk, role_of}
+use Rattle.hunk_files.proofs.FileSteps.{Progress, More, open_hunk, role_of}
 use Rattle.hunk_files.proofs.Reading.{HasRead, read_refused}
 use Rattle.hunk_files.proofs.Refusals.{refusal_of_word}
 use Rattle.hunk_files.proofs.Scan.{expects_of}
 use Rattle.hunk_scatter.specs.declared.header_state.HeaderPhase.{HeaderPhase}
 use Rattle.hunk_scatter.specs.declared.header_state.HeaderPhase.TheVariants as phases
 use Rattle.hunk_scatter.specs.Answers.{is_of_header}
-use Rattle.hunk_scatter.specs.Headers.{IsTable, header_words, header_bytes, BeginsHeader, MayGoOnInHeader, PassesBudget, IsOverBudget, IsBudgetOrMemory, IsInHeader, IsHeaderFaultBy, IsHeaderFault, entries_so_far}
-use Rattle.hunk_scatter.specs.Heading.{role_at, is_done, behind, adds, declares, StopsFor, IsOver, LacksMemory, HeaderStop}
+use Rattle.hunk_scatter.specs.Headers.{IsTable, header_words, header_bytes, BeginsHeader, MayGoOnInHeader, PassesBudget, IsOverBudget, IsBudgetOrMemory, IsHeaderFaultBy, IsHeaderFault, entries_so_far}
+use Rattle.hunk_scatter.specs.Heading.{role_at, behind, adds, declares, StopsFor, HeaderStop}
 use Rattle.hunk_scatter.proofs.Behind.{stays_behind, table_behind, expected_passes, header_passes, role_here}
 use Rattle.hunk_scatter.proofs.HeaderGrows.{row_in_table, table_grows}
 use Rattle.hunk_scatter.proofs.HeaderReads.{here, read_here, role_is, sum_here, word_read, here_in_header}

@@ -1,18 +1,18 @@
 -- The longwords of headers: what they spell, and that a reader of load files takes them.
-use Rattle.std.proofs.Common.{◌≡◌, ℕ, zero, suc, ◌+◌, ◌-◌, ◌<◌, ◌≤◌, Bool, true, false, cond, eqb, ltb, List, [], ◌∷◌, ◌++◌, length, map, drop, refl, sym, ap, subst, ◌∙◌, append_assoc, append-nil, arith, None, Some}
-use Rattle.std.specs.Prelude.{if◌then◌else◌, IsTrue, IsFalse}
+use Rattle.std.proofs.Common.{◌≡◌, ℕ, ◌+◌, ◌-◌, ◌<◌, ◌≤◌, Bool, true, false, eqb, ltb, List, [], ◌∷◌, ◌++◌, length, refl, sym, ap, ◌∙◌, append_assoc, append-nil, arith, None, Some}
+use Rattle.std.specs.Prelude.{if◌then◌else◌}
 use Rattle.std.specs.List.{AllByRecursion, flat_map}
 use Rattle.std.proofs.lemmas.Bool.{le-ltb, eq-eqb, ne_eqb}
 use Rattle.std.proofs.lemmas.List.{map-append}
 use Rattle.hunk_words.specs.Bits.{has_both_bits}
 use Rattle.hunk_words.specs.declared.reason.Reason.TheVariants as reasons
 use Rattle.hunk_blocks.proofs.Lists.{passes_else, passes_then}
-use Rattle.hunk_files.specs.LoadFile.{TableEntry, IsTableEntry, LoadFileValue}
-use Rattle.hunk_files.specs.LoadText.{entry_labelled, header_labelled, labelled, words}
+use Rattle.hunk_files.specs.LoadFile.{TableEntry, IsTableEntry}
+use Rattle.hunk_files.specs.LoadText.{entry_labelled, header_labelled, words}
 use Rattle.hunk_files.specs.Roles.{Role, Role as roles, refuse}
 use Rattle.hunk_files.proofs.Accepted.{All-flat_map}
-use Rattle.hunk_files.proofs.FileProgress.{header_so_far, NextFits, read, RowsFit}
-use Rattle.hunk_files.proofs.FileSteps.{table_entry, AtFirst, AtBlock, Next, More, Finished, open_hunk}
+use Rattle.hunk_files.proofs.FileProgress.{header_so_far, NextFits, read}
+use Rattle.hunk_files.proofs.FileSteps.{table_entry, AtFirst, More, open_hunk}
 use Rattle.hunk_files.proofs.FileText.{header_leads}
 use Rattle.hunk_files.proofs.Reading.{HasRead}
 use Rattle.hunk_files.proofs.Runs.{Labelled, IsAccepted, AreAccepted, Leads-keeps}
@@ -76,8 +76,8 @@ module _ (ws : List ℕ) where
   header_done (e ∷ t) h = (
     record { some = h.reads.0.front_fits.hunks_fit.0; most = h.reads.0.front_fits.hunks_fit.1; each = h.reads.0.front_fits.ahead_fit },
     sym h.all
-    ∙ ap words (sym h.reads.1)
-    ∙ ap words (append-nil (header_so_far (length (e ∷ t)) (e ∷ t) ++ []) ∙ append-nil (header_so_far (length (e ∷ t)) (e ∷ t))),
+        ∙ ap words (sym h.reads.1)
+        ∙ ap words (append-nil (header_so_far (length (e ∷ t)) (e ∷ t) ++ []) ∙ append-nil (header_so_far (length (e ∷ t)) (e ∷ t))),
   )
 
 -- ---- the entries

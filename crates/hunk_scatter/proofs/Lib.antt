@@ -1,4 +1,5 @@
 pub mod Behind
+pub mod BodyFields
 pub mod DeclaredBytes
 pub mod Faults
 pub mod Feeding

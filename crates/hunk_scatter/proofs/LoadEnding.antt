@@ -1,9 +1,8 @@
 -- The two stages of a load together, and when a load succeeds.
-use Rattle.std.proofs.Common.{◌≡◌, ℕ, ◌+◌, ◌-◌, ◌*◌, ◌/◌, ◌<◌, ◌≤◌, Bool, true, false, List, [], ◌∷◌, ◌++◌, length, map, zero, suc, take, drop, refl, sym, ap, subst, ◌∙◌, append_assoc, append-nil, arith, length-append, Option, Some, None, Result, Ok, Err, ◌⊎◌, inl, inr}
+use Rattle.std.proofs.Common.{◌≡◌, ℕ, ◌+◌, ◌-◌, ◌*◌, ◌/◌, ◌≤◌, Bool, true, false, List, [], ◌∷◌, ◌++◌, length, map, zero, suc, take, refl, sym, ap, subst, ◌∙◌, append_assoc, append-nil, arith, length-append, Option, Some, None, Result, Ok, Err, ◌⊎◌, inl, inr}
 use Rattle.std.specs.Prelude.{IfErr, IsErrAnd, IsTrue, IsSome, MatchResult}
 use Rattle.std.proofs.Math.Seq.{take-append-add}
-use Rattle.std.proofs.lemmas.List.{take_all}
-use Rattle.std.specs.Io.KnownBytes.{Consumes, IsAtEnd}
+use Rattle.std.specs.Io.KnownBytes.{IsAtEnd}
 use Rattle.hunk_words.specs.Longs.{longs, bytes_of}
 use Rattle.hunk_words.specs.declared.fault.Fault.{Fault}
 use Rattle.hunk_words.specs.declared.reason.Reason.{Reason}
@@ -15,11 +14,11 @@ use Rattle.hunk_files.specs.Image.{declared_bytes, image as image_at}
 use Rattle.hunk_files.specs.LoadFile.{TableEntry, LoadFileValue, IsLoadFile}
 use Rattle.hunk_files.specs.LoadText.{table, text}
 use Rattle.hunk_files.specs.Roles.{Role as roles}
-use Rattle.hunk_scatter.specs.Answers.{is_of_header, is_of_body, is_of_file}
-use Rattle.hunk_scatter.specs.Headers.{IsTable, header_bytes, PassesBudget, IsOverBudget, IsInHeader, IsHeaderFaultBy}
+use Rattle.hunk_scatter.specs.Answers.{is_of_header, is_of_file}
+use Rattle.hunk_scatter.specs.Headers.{IsTable, header_bytes, PassesBudget, IsOverBudget, IsHeaderFaultBy}
 use Rattle.hunk_scatter.specs.Loaders.{Placed, MayGoOn, IsImageOf}
-use Rattle.hunk_scatter.specs.Loads.{Gives, IsLoaded, IsHeaderWithin, IsWithinFile, IsReadFault, StopsInHeader, StopsInBody, StopsShort, IsBodyStop, KeepsToHeader, LoadStop, InHeader, Between, InBody, LoadEnds}
-use Rattle.hunk_scatter.specs.Placing.{Placing, base_at, AreBases, HasBases, IsFirstUnplaced, IsUnplacedFor}
+use Rattle.hunk_scatter.specs.Loads.{Gives, IsHeaderWithin, IsWithinFile, IsReadFault, StopsInHeader, StopsShort, IsBodyStop, KeepsToHeader, LoadStop, InHeader, Between, InBody, LoadEnds}
+use Rattle.hunk_scatter.specs.Placing.{Placing, base_at, AreBases, HasBases, IsUnplacedFor}
 use Rattle.hunk_scatter.specs.Rows.{entries_of, bases_of}
 use Rattle.hunk_scatter.proofs.Faults.{refusal_more, no_refusal_on}
 use Rattle.hunk_scatter.proofs.Feeding.{fronts_of}

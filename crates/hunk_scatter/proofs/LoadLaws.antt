@@ -1,24 +1,22 @@
 -- What follows from how a load ends.
-use Rattle.std.proofs.Common.{◌≡◌, ℕ, ◌+◌, ◌-◌, ◌*◌, ◌/◌, ◌<◌, ◌≤◌, Bool, true, false, List, [], ◌∷◌, ◌++◌, length, take, refl, sym, ap, subst, ◌∙◌, append_assoc, append-nil, arith, length-append, Option, Some, None, Result, Ok, Err, ◌⊎◌, inl, inr}
-use Rattle.std.specs.Prelude.{IfOk, IfErr, IsErrAnd, IsTrue, IsSome, is_some}
-use Rattle.std.specs.Io.KnownBytes.{Consumes, IsAtEnd}
-use Rattle.hunk_words.specs.Longs.{longs, bytes_of}
-use Rattle.hunk_words.proofs.LongLaws.{length-longs}
+use Rattle.std.proofs.Common.{◌≡◌, ℕ, ◌≤◌, Bool, List, [], ◌++◌, length, refl, sym, ap, subst, ◌∙◌, append-nil, arith, Option, Some, None, Result, Ok, Err, ◌⊎◌, inl, inr}
+use Rattle.std.specs.Prelude.{IfOk, IfErr, IsTrue, IsSome}
+use Rattle.std.specs.Io.KnownBytes.{Consumes}
+use Rattle.hunk_words.specs.Longs.{bytes_of}
 use Rattle.hunk_words.specs.declared.fault.Fault.{Fault}
 use Rattle.hunk_words.specs.declared.reason.Reason.{Reason}
 use Rattle.hunk_words.specs.declared.reason.Reason.TheVariants as reasons
-use Rattle.hunk_files.specs.Fault.{HasRefusal, HasFault, IsTruncated}
+use Rattle.hunk_files.specs.Fault.{HasRefusal, IsTruncated}
 use Rattle.hunk_files.specs.Image.{declared_bytes}
 use Rattle.hunk_files.specs.LoadFile.{TableEntry, LoadFileValue, IsLoadFile}
-use Rattle.hunk_files.specs.LoadText.{table, text}
-use Rattle.hunk_scatter.specs.Answers.{is_of_header, is_of_body, is_of_file, is_of_load}
-use Rattle.hunk_scatter.specs.Headers.{IsTable, header_bytes, BeginsHeader, PassesBudget, IsOverBudget, IsInHeader, IsHeaderFaultBy}
-use Rattle.hunk_scatter.specs.Loaders.{Placed, MayGoOn}
-use Rattle.hunk_scatter.specs.Loads.{Gives, KeepsRest, IsNotPlaced, IsLoaded, IsShort, IsHeaderWithin, IsLoadFaultBy, IsLoadFault, IsWithinFile, IsReadFault, StopsInHeader, StopsInBody, StopsShort, IsHeaderStop, IsBodyStop, KeepsToHeader, LoadStop, InHeader, Between, InBody, LoadEnds}
-use Rattle.hunk_scatter.specs.Placing.{Placing, base_at, HasBases, IsFirstUnplaced, IsUnplacedFor}
-use Rattle.hunk_scatter.proofs.Faults.{refusal_more, no_refusal_on}
+use Rattle.hunk_files.specs.LoadText.{text}
+use Rattle.hunk_scatter.specs.Answers.{is_of_header, is_of_body, is_of_load}
+use Rattle.hunk_scatter.specs.Headers.{IsTable, header_bytes, BeginsHeader, PassesBudget, IsHeaderFaultBy}
+use Rattle.hunk_scatter.specs.Loaders.{Placed}
+use Rattle.hunk_scatter.specs.Loads.{Gives, KeepsRest, IsNotPlaced, IsLoaded, IsShort, IsHeaderWithin, IsLoadFaultBy, IsLoadFault, IsWithinFile, IsReadFault, StopsShort, KeepsToHeader, LoadStop, InHeader, Between, InBody, LoadEnds}
+use Rattle.hunk_scatter.specs.Placing.{Placing, base_at, HasBases, IsUnplacedFor}
 use Rattle.hunk_scatter.proofs.Feeding.{fronts_of}
-use Rattle.hunk_scatter.proofs.HeaderFronts.{one_table, text_header, table_within, passes_more, passes_front, refused_front}
+use Rattle.hunk_scatter.proofs.HeaderFronts.{table_within}
 
 -- ---- what is read
 

@@ -1,11 +1,11 @@
 -- What was read has no refusal, and is truncated where it goes on.
-use Rattle.std.proofs.Common.{◌≡◌, ℕ, ◌*◌, ◌/◌, ◌<◌, List, [], ◌∷◌, ◌++◌, length, refl, sym, ap, subst, ◌∙◌, append_assoc, append-nil, inl}
+use Rattle.std.proofs.Common.{◌≡◌, ℕ, ◌*◌, ◌/◌, ◌<◌, List, [], ◌∷◌, ◌++◌, length, sym, ap, subst, ◌∙◌, append_assoc, append-nil, inl}
 use Rattle.std.proofs.lemmas.List.{map-append}
 use Rattle.hunk_words.specs.Longs.{longs, bytes_of}
 use Rattle.hunk_words.proofs.LongLaws.{longs-bytes_of, length-longs}
 use Rattle.hunk_words.proofs.GatherLaws.{gathered-all}
 use Rattle.hunk_files.specs.LoadFile.{LoadFileValue, IsLoadFile}
-use Rattle.hunk_files.specs.LoadText.{labelled, words, text}
+use Rattle.hunk_files.specs.LoadText.{words, text}
 use Rattle.hunk_files.specs.Roles.{Role}
 use Rattle.hunk_files.specs.Fault.{IsTruncated}
 use Rattle.hunk_files.proofs.FileSteps.{Progress, Next, More, Finished, role_of}

@@ -1,5 +1,5 @@
 -- Each longword keeps what the store holds.
-use Rattle.std.proofs.Common.{◌≡◌, ℕ, zero, suc, ◌+◌, ◌-◌, ◌*◌, ◌/◌, ◌%◌, ◌^◌, ◌≤◌, ◌<◌, Bool, true, false, List, [], ◌∷◌, ◌++◌, length, take, drop, get_or, replicate, refl, sym, ap, ap₂, subst, ◌∙◌, append_assoc, append-nil, arith, length-append, ltb, None, Some}
+use Rattle.std.proofs.Common.{◌≡◌, ℕ, ◌+◌, ◌-◌, ◌*◌, ◌≤◌, Bool, true, false, List, [], ◌∷◌, ◌++◌, length, get_or, replicate, refl, sym, ap, ap₂, subst, ◌∙◌, append_assoc, append-nil, arith, length-append, ltb, None}
 use Rattle.std.specs.List.{flat_map, AllByRecursion}
 use Rattle.std.specs.Int.{w32, to_be_bytes}
 use Rattle.std.proofs.lemmas.Bool.{ltb-false}
@@ -11,19 +11,17 @@ use Rattle.hunk_words.specs.declared.reason.Reason.TheVariants as reasons
 use Rattle.hunk_words.specs.Bits.{size_longs, kind, is_advisory}
 use Rattle.hunk_words.specs.Longs.{bytes_of, IsLong}
 use Rattle.hunk_files.specs.Image.{add_at, image, filled, relocated, block_content, block_relocations}
-use Rattle.hunk_blocks.specs.Values.{RelocGroup, SymbolEntry, BlockValue, BlockBody, Name, Code, Data, Bss, Reloc, Ext, Symbol, Debug, Advisory, End}
-use Rattle.hunk_blocks.specs.Parts.{Part as parts}
+use Rattle.hunk_blocks.specs.Values.{BlockValue, Name, Code, Data, Bss, Reloc, Ext, Symbol, Debug, Advisory, End}
 use Rattle.hunk_files.specs.LoadFile.{TableEntry, HunkValue}
 use Rattle.hunk_files.specs.Roles.{refuse, refuse_part, refuse_kind}
-use Rattle.hunk_blocks.proofs.BlockSteps.{ForName, ForDebug, ForAdvisory, ForCode, ForData, ForBss, Filling, Counted, SizedCode, SizedData, Inside, AtCount, AtSize, InPayload, AtGroup, AtTarget, InOffsets, AtEntry, InName, AtValue, BlockNext, Open, Whole, part_of, step_inside, begin}
-use Rattle.hunk_files.proofs.FileSteps.{hunk, block, OpenHunk, Progress, AtBlock, InBody, Next, More, Finished, place_of, role_of, with_block, open_hunk, close, after, step}
-use Rattle.hunk_files.proofs.FileProgress.{OpenFits, ProgressFits, IsAdmitted, kind_admitted}
+use Rattle.hunk_blocks.proofs.BlockSteps.{ForName, ForDebug, ForAdvisory, ForCode, ForData, ForBss, Counted, SizedCode, SizedData, Inside, AtCount, AtSize, InPayload, AtGroup, AtTarget, InOffsets, AtEntry, InName, AtValue, BlockNext, Open, Whole, part_of, step_inside, begin}
+use Rattle.hunk_files.proofs.FileSteps.{hunk, block, OpenHunk, Progress, AtBlock, InBody, More, place_of, role_of, with_block, open_hunk, close, after, step}
+use Rattle.hunk_files.proofs.FileProgress.{ProgressFits, IsAdmitted, kind_admitted}
 use Rattle.hunk_files.proofs.HunkProgress as blocks
 use Rattle.hunk_blocks.proofs.Lists.{All-more, flat_map-more, passed_true, passed_false}
-use Rattle.hunk_files.proofs.Memory.{segment_so_far, open_bytes, open_pairs, bytes_so_far, pairs_so_far, bytes_in, pairs_in, adds_bytes, adds_pairs, step_adds_bytes, step_adds_pairs, offset_adds, end_is_image}
-use Rattle.hunk_scatter.specs.declared.state.Phase.TheVariants as phases
+use Rattle.hunk_files.proofs.Memory.{segment_so_far, bytes_so_far, pairs_so_far, bytes_in, pairs_in, adds_bytes, adds_pairs, step_adds_bytes, step_adds_pairs, offset_adds, end_is_image}
 use Rattle.hunk_scatter.specs.Holding.{zeros, IsSized, images, Holds, StoreHolds, put_at, stored_in, stored}
-use Rattle.hunk_scatter.specs.Standing.{phase_of, open_state, state_of, before, IsInBody}
+use Rattle.hunk_scatter.specs.Standing.{phase_of, state_of, before}
 use Rattle.hunk_scatter.proofs.Splice.{put-join, add-join, length-put, long_fills}
 use Rattle.hunk_words.proofs.LongLaws.{length-bytes_of, bytes_of-one}
 

@@ -1,5 +1,5 @@
 -- One list cut in two ways.
-use Rattle.std.proofs.Common.{◌≡◌, ℕ, suc, ◌+◌, List, [], ◌∷◌, ◌++◌, length, refl, sym, ap, ap₂, ◌∙◌, arith, length-append, ◌⊎◌, inl, inr}
+use Rattle.std.proofs.Common.{◌≡◌, ℕ, List, [], ◌∷◌, ◌++◌, length, refl, sym, ap, ap₂, arith, length-append, ◌⊎◌, inl, inr}
 
 -- Both cuts are at one place, or one is before the other.
 pub data Cuts (xs : List ℕ) (x : ℕ) (ys : List ℕ) (y : ℕ) : Type 0 where

@@ -1,5 +1,5 @@
 -- The reader of a header as a machine of numbers, and what the fields of its loader keep.
-use Rattle.std.specs.Prelude.{◌≡◌, ◌≢◌, ℕ, ◌+◌, ◌-◌, ◌*◌, ◌<◌, ◌≤◌, Bool, true, false, List, [], ◌∷◌, ◌++◌, length, map, if◌then◌else◌, Option, None, Some, IsTrue, ◌⊎◌}
+use Rattle.std.specs.Prelude.{◌≡◌, ℕ, ◌+◌, ◌*◌, ◌<◌, ◌≤◌, Bool, true, false, List, [], ◌∷◌, ◌++◌, length, map, if◌then◌else◌, Option, None, Some, IsTrue, ◌⊎◌}
 use Rattle.hunk_words.specs.Bits.{has_both_bits, size_longs}
 use Rattle.hunk_words.specs.Longs.{bytes_of, IsLong}
 use Rattle.hunk_words.specs.declared.fault.Fault.{Fault}

@@ -1,10 +1,10 @@
 -- What the one store holds at any point of the body.
-use Rattle.std.specs.Prelude.{◌≡◌, ℕ, ◌+◌, ◌*◌, ◌%◌, ◌^◌, ◌≤◌, ◌<◌, Bool, false, List, [], ◌++◌, length, take, drop, get_or, replicate}
+use Rattle.std.specs.Prelude.{◌≡◌, ℕ, ◌+◌, ◌*◌, false, List, [], ◌++◌, length, take, drop, get_or, replicate}
 use Rattle.std.specs.List.{flat_map, AllByRecursion}
 use Rattle.std.specs.Int.{w32, to_be_bytes}
 use Rattle.hunk_words.specs.Bits.{size_longs}
 use Rattle.hunk_files.specs.Image.{add_at, image, block_content, block_relocations}
-use Rattle.hunk_files.specs.LoadFile.{TableEntry, HunkValue, declared_longs}
+use Rattle.hunk_files.specs.LoadFile.{TableEntry, HunkValue}
 use Rattle.hunk_blocks.proofs.BlockSteps.{BlockNext, Open, Whole}
 use Rattle.hunk_blocks.specs.Values.{End}
 use Rattle.hunk_files.proofs.FileSteps.{OpenHunk, Next, More, Finished, AtBlock, InBody}

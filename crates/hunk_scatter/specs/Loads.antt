@@ -11,7 +11,7 @@ use Rattle.hunk_files.specs.LoadFile.{TableEntry, LoadFileValue, IsLoadFile}
 use Rattle.hunk_files.specs.LoadText.{table, text}
 use Rattle.hunk_scatter.specs.Answers.{is_of_header, is_of_body}
 use Rattle.hunk_scatter.specs.Headers.{IsTable, header_bytes, BeginsHeader, PassesBudget, IsOverBudget, IsHeaderFault}
-use Rattle.hunk_scatter.specs.Loaders.{Placed, HasNoRefusal, IsImageOf}
+use Rattle.hunk_scatter.specs.Loaders.{Placed, HasNoRefusal}
 use Rattle.hunk_scatter.specs.Placing.{Placing, base_at, AreBases, HasBases, IsFirstUnplaced, IsUnplacedFor}
 use Rattle.hunk_scatter.specs.Rows.{entries_of, bases_of}
 

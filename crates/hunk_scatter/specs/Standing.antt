@@ -1,5 +1,5 @@
 -- What the loader of a body keeps of what was read.
-use Rattle.std.specs.Prelude.{ℕ, ◌*◌, Bool, false, List, [], ◌∷◌, ◌++◌, length, map}
+use Rattle.std.specs.Prelude.{ℕ, ◌*◌, false, List, [], ◌∷◌, ◌++◌, length, map}
 use Rattle.std.specs.List.{sum_by}
 use Rattle.hunk_words.specs.Bits.{size_longs}
 use Rattle.hunk_files.specs.LoadFile.{TableEntry, HunkValue}

@@ -12,9 +12,9 @@ ghost use Rattle.hunk_scatter.specs.Rows.{entries_of};
 
 use crate::history::History;
 use crate::image::Image;
-use hunk_files::Row;
 use crate::state::State;
 use crate::store::take_word;
+use hunk_files::Row;
 use hunk_words::{Assembler, LoadFault};
 use std::marker::Model;
 

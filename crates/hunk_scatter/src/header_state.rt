@@ -179,7 +179,12 @@ impl HeaderPhase {
 }
 
 /// Takes a longword, or tells why it is refused: by its own test, by the budget, or for want of memory.
-pub fn take_header_word(rows: &mut Vec<Row>, state: HeaderState, budget: u64, word: u32) -> Result<HeaderState, Reason>
+pub fn take_header_word(
+    rows: &mut Vec<Row>,
+    state: HeaderState,
+    budget: u64,
+    word: u32,
+) -> Result<HeaderState, Reason>
     requires room { state.total + 2 ^ 32 < 2 ^ 64 }
     requires within { state.total ≤ budget }
     ensures phase { IfOk result (λ s. s.phase ≡ heading.behind state.phase word) }

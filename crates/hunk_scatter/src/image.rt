@@ -4,8 +4,8 @@ ghost use Rattle.hunk_files.specs.Image.{declared_bytes};
 ghost use Rattle.hunk_scatter.specs.Loaders.{cut};
 ghost use Rattle.hunk_scatter.specs.Rows.{entries_of, words_of, bases_of};
 
-use hunk_files::Row;
 use crate::store::base_of;
+use hunk_files::Row;
 use std::marker::Model;
 
 /// The segments of a load file, each as it lies at its base.
@@ -97,6 +97,6 @@ impl Image {
     pub fn held(&self) -> u64
         ensures { result ≡ declared_bytes (entries_of self.now.rows) + 12 * length self.now.rows }
     {
-        self.store.len() as u64 + 12 * self.rows.len() as u64
+        self.bytes() + 12 * self.rows.len() as u64
     }
 }

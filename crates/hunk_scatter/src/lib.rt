@@ -14,6 +14,8 @@ mod placer;
 mod state;
 mod step;
 mod store;
+#[cfg(test)]
+mod tests;
 
 pub use crate::body::BodyLoader;
 pub use crate::declared::{Declared, Unplaced};

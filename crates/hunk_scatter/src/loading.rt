@@ -23,7 +23,13 @@ use hunk_words::{LoadFault, Reason, Source};
 use std::alloc::Global;
 
 /// Reads a next piece of at most `want` bytes, where `count` were read before it.
-fn read_piece<R: Source>(r: &mut R, buf: &mut [u8], want: usize, count: u64, limit: u64) -> Result<usize, LoadFault>
+fn read_piece<R: Source>(
+    r: &mut R,
+    buf: &mut [u8],
+    want: usize,
+    count: u64,
+    limit: u64,
+) -> Result<usize, LoadFault>
     requires some { 0 < want }
     requires room { want ≤ length buf.old }
     requires within { count ≤ limit }
@@ -55,7 +61,12 @@ fn read_piece<R: Source>(r: &mut R, buf: &mut [u8], want: usize, count: u64, lim
 }
 
 /// Reads the header.
-fn load_header<R: Source>(alloc: Global, r: &mut R, buf: &mut [u8], limits: Limits) -> Result<Declared, LoadFault>
+fn load_header<R: Source>(
+    alloc: Global,
+    r: &mut R,
+    buf: &mut [u8],
+    limits: Limits,
+) -> Result<Declared, LoadFault>
     requires { length buf.old ≡ 256 }
     ensures { (given : List ℕ) × Gives (R.left r.old) (R.left r.new) limits.file_bytes given × IsWithinHeader given
         × MatchResult result (λ declared. IsTable declared.table × (given ≡ header_bytes declared.table) × (declared_bytes declared.table ≤ limits.budget))
@@ -83,7 +94,12 @@ fn load_header<R: Source>(alloc: Global, r: &mut R, buf: &mut [u8], limits: Limi
 }
 
 /// Reads the body behind its header.
-fn load_body<R: Source>(r: &mut R, buf: &mut [u8], loader: BodyLoader, limit: u64) -> Result<Image, LoadFault>
+fn load_body<R: Source>(
+    r: &mut R,
+    buf: &mut [u8],
+    loader: BodyLoader,
+    limit: u64,
+) -> Result<Image, LoadFault>
     requires buffer { length buf.old ≡ 256 }
     requires reading { loader.refused ≡ None }
     requires within { length loader.fed ≤ limit }
@@ -114,7 +130,12 @@ fn load_body<R: Source>(r: &mut R, buf: &mut [u8], loader: BodyLoader, limit: u6
 }
 
 /// Reads the header, places the hunks, and reads the body.
-fn load_placed<R: Source, P: Placer>(alloc: Global, r: &mut R, limits: Limits, p: &P) -> Result<Image, LoadFault>
+fn load_placed<R: Source, P: Placer>(
+    alloc: Global,
+    r: &mut R,
+    limits: Limits,
+    p: &P,
+) -> Result<Image, LoadFault>
     ensures { (given : List ℕ) × Gives (R.left r.old) (R.left r.new) limits.file_bytes given × IsWithinFile given × KeepsToHeader (P.base p.now) limits.budget given
         × LoadEnds (P.base p.now) limits.budget limits.file_bytes (R.left r.new) (R.failed r.new) given result }
 {
@@ -146,7 +167,12 @@ fn load_placed<R: Source, P: Placer>(alloc: Global, r: &mut R, limits: Limits, p
 /// table declares more than the budget, before a hunk is placed; NoBase where a hunk has no base;
 /// FileLimit where `limits.file_bytes` were read and more is needed; Read where the source failed;
 /// OutOfMemory where memory was refused. After an `Err` there is no image.
-pub fn load<R: Source, P: Placer>(alloc: Global, r: &mut R, limits: Limits, p: &P) -> Result<Image, LoadFault>
+pub fn load<R: Source, P: Placer>(
+    alloc: Global,
+    r: &mut R,
+    limits: Limits,
+    p: &P,
+) -> Result<Image, LoadFault>
     // Just one load file was read, and the image is its.
     ensures loaded { IfOk result (λ image. (v : LoadFileValue) × IsLoaded (P.base p.now) limits.budget v image
         × Gives (R.left r.old) (R.left r.new) limits.file_bytes (bytes_of (text v))) }

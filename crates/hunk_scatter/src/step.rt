@@ -4,8 +4,8 @@ ghost use Rattle.hunk_scatter.specs.Stepping as stepping;
 ghost use Rattle.hunk_scatter.specs.Stepping.{stepped, longs_at, IsInStore};
 ghost use Rattle.hunk_scatter.specs.Rows.{words_of};
 
-use hunk_files::Row;
 use crate::state::{Phase, State, longs_of};
+use hunk_files::Row;
 use hunk_words::{BlockWord, Kind};
 
 /// So many longwords of a payload are owed.

@@ -8,8 +8,8 @@ ghost use Rattle.hunk_scatter.specs.Holding.{put_at, stored};
 ghost use Rattle.hunk_scatter.specs.Stepping.{stepped, IsInStore, place_at, part_at};
 ghost use Rattle.hunk_scatter.specs.Rows.{words_of, bases_of};
 
-use hunk_files::Row;
 use crate::state::{Phase, State};
+use hunk_files::Row;
 use hunk_words::Reason;
 
 /// Puts a longword at the offset.
@@ -58,7 +58,7 @@ pub fn store_word(store: &mut [u8], rows: &[Row], state: State, word: u32)
 }
 
 /// Takes a longword, or tells why it is refused.
-#[tactic(auto, using(crate::proofs::OneByte::few_words, crate::proofs::Refusing::refused_in_body))]
+#[tactic(auto, using(crate::proofs::BodyFields::few_words, crate::proofs::Refusing::refused_in_body))]
 pub fn take_word(store: &mut [u8], rows: &[Row], state: State, word: u32) -> Result<State, Reason>
     requires { IsInStore (words_of rows.now) (length store.old) state }
     ensures steps { IfOk result (λ s. s ≡ stepped (words_of rows.now) state word) }

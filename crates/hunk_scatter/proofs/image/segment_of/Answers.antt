@@ -1,4 +1,4 @@
-use Rattle.std.proofs.Common.{◌≡◌, ℕ, ◌+◌, ◌-◌, ◌*◌, List, take, drop, Some, sym, ap, ap₂, ◌∙◌, arith}
+use Rattle.std.proofs.Common.{◌≡◌, ℕ, ◌+◌, ◌-◌, ◌*◌, take, drop, Some, sym, ap, ap₂, ◌∙◌, arith}
 use Rattle.hunk_words.specs.Bits.{size_longs}
 use Rattle.hunk_scatter.proofs.DeclaredBytes.{segment_within, table_fits, cut_at}
 use Rattle.hunk_scatter.proofs.image.segment_of.Goals as goal

@@ -1,4 +1,4 @@
-use Rattle.std.proofs.Common.{◌≡◌, arith, take, length-take}
+use Rattle.std.proofs.Common.{arith, take, length-take}
 use Rattle.std.proofs.lemmas.List.{length-map}
 use Rattle.hunk_scatter.specs.Rows.{entry_of, entries_of}
 use Rattle.hunk_scatter.proofs.DeclaredBytes.{declared_limit}

@@ -1,4 +1,3 @@
-use Rattle.std.proofs.Common.{◌≡◌}
 use Rattle.hunk_scatter.proofs.LoadEnding.{file_loads, budget_stops, file_faults}
 use Rattle.hunk_scatter.proofs.LoadLaws.{keeps_file, keeps_header, ends_fault, ends_own, ends_loaded}
 use Rattle.hunk_scatter.proofs.loading.load.Goals as goal

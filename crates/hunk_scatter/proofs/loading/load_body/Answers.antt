@@ -1,7 +1,7 @@
-use Rattle.std.proofs.Common.{◌≡◌, ℕ, ◌+◌, ◌*◌, ◌/◌, ◌≤◌, ◌<◌, List, [], ◌++◌, length, take, length-take, length-append, sym, ap, subst, refl, ◌∙◌, append_assoc, append-nil, arith, inl, inr}
+use Rattle.std.proofs.Common.{◌≡◌, ℕ, ◌+◌, ◌≤◌, ◌<◌, List, [], ◌++◌, length, take, length-take, length-append, sym, ap, subst, ◌∙◌, append_assoc, append-nil, arith, inl, inr}
 use Rattle.std.specs.Io.KnownBytes.{Consumes}
 use Rattle.std.proofs.KnownBytes.{Consumes-trans}
-use Rattle.hunk_scatter.specs.Loads.{IsWithinFile, IsReadFault, IsBodyStop, StopsInBody, StopsShort}
+use Rattle.hunk_scatter.specs.Loads.{IsWithinFile, IsReadFault, IsBodyStop}
 use Rattle.hunk_scatter.proofs.Feeding.{file_fed, file_within_more}
 use Rattle.hunk_scatter.proofs.loading.load_body.Goals as goal
 
@@ -14,12 +14,12 @@ returns-in-Err g c =
       omega (arith, i.within, ap length i.given.2),
       subst IsWithinFile i.given.2 i.in_file,
       subst (λ (bs : List ℕ). IsBodyStop c.args.limit (g.R.Source.left c.read_piece.new.r) (g.R.Source.failed c.read_piece.new.r) bs c.in-Err.fault) i.given.2
-      (inr
-      (record {
-        clean = c.want-want.ensures.clean i.reading;
-        truncated = c.want-want.ensures.truncated some;
-        why = subst (λ (n : ℕ). IsReadFault c.args.limit (g.R.Source.left c.read_piece.new.r) (g.R.Source.failed c.read_piece.new.r) n c.in-Err.fault) c.fed.ensures c.in-Err.ensures.fault;
-      })),
+          (inr
+          (record {
+            clean = c.want-want.ensures.clean i.reading;
+            truncated = c.want-want.ensures.truncated some;
+            why = subst (λ (n : ℕ). IsReadFault c.args.limit (g.R.Source.left c.read_piece.new.r) (g.R.Source.failed c.read_piece.new.r) n c.in-Err.fault) c.fed.ensures c.in-Err.ensures.fault;
+          })),
     )
 
 pub reading-preserved : goal.reading-preserved
@@ -55,5 +55,5 @@ returns-in-Err-feed g c =
       omega (arith, ap length is, length-append c.reading.loader.fed piece, room),
       subst IsWithinFile is (file_within_more c.reading.loader.fed piece c.want-want.result c.want-want.ensures.least fits _ (c.want-want.ensures.truncated some)),
       subst (λ (bs : List ℕ). IsBodyStop c.args.limit (g.R.Source.left c.read_piece.new.r) (g.R.Source.failed c.read_piece.new.r) bs c.in-Err-feed.fault) is
-      (inl (record { refusal = c.in-Err-feed.ensures.refusal i.reading; own = c.in-Err-feed.ensures.own })),
+          (inl (record { refusal = c.in-Err-feed.ensures.refusal i.reading; own = c.in-Err-feed.ensures.own })),
     )

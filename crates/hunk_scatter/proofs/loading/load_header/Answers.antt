@@ -1,4 +1,4 @@
-use Rattle.std.proofs.Common.{◌≡◌, ℕ, ◌+◌, ◌*◌, ◌/◌, ◌≤◌, ◌<◌, List, ◌++◌, length, take, length-take, sym, ap, subst, refl, ◌∙◌, arith, inl, inr}
+use Rattle.std.proofs.Common.{ℕ, ◌+◌, ◌≤◌, ◌<◌, List, ◌++◌, length, take, length-take, sym, subst, refl, ◌∙◌, arith, inl, inr}
 use Rattle.hunk_scatter.specs.Headers.{PassesBudget, IsHeaderFault}
 use Rattle.hunk_scatter.specs.Loads.{IsWithinHeader, IsReadFault}
 use Rattle.hunk_scatter.proofs.Feeding.{header_fed, header_within_more, gives_more, gives_none, row_begins, header_wants}
@@ -10,8 +10,7 @@ returns-in-Err g c =
       c.reading.loader.fed,
       gives_none _ _ _ _ _ i.given c.in-Err.ensures.nothing,
       i.in_header,
-      inr
-      (
+      inr (
         record {
           clean = c.want-want.ensures.clean i.reading;
           truncated = c.want-want.ensures.truncated i.reading;
@@ -50,14 +49,14 @@ returns-in-Err-feed g c =
       gives_more _ _ _ _ c.reading.loader.fed piece (c.reading.loader.fed ++ piece) i.given c.in-Ok.ensures.piece room refl,
       header_within_more c.reading.loader.fed piece c.want-want.result c.want-want.ensures.least fits some (λ w. c.want-want.ensures.over i.reading w) i.in_header,
       inl
-      (record {
-        fault = fault;
-        over = λ at p. c.in-Err-feed.ensures.passes i.reading at (subst (λ (b : ℕ). PassesBudget b (c.reading.loader.fed ++ piece) at) (sym i.budget_is) p);
-        own = c.in-Err-feed.ensures.own;
-        begins =
-            λ e.
-            row_begins c.reading.loader.fed piece c.want-want.result c.in-Err-feed.fault.place c.want-want.ensures.least fits
-            (c.in-Err-feed.ensures.wanting i.reading e)
-            (header_wants c.in-Err-feed.fault c.args.limits.budget (c.reading.loader.fed ++ piece) e fault);
-      }),
+          (record {
+            fault = fault;
+            over = λ at p. c.in-Err-feed.ensures.passes i.reading at (subst (λ (b : ℕ). PassesBudget b (c.reading.loader.fed ++ piece) at) (sym i.budget_is) p);
+            own = c.in-Err-feed.ensures.own;
+            begins =
+                λ e.
+                row_begins c.reading.loader.fed piece c.want-want.result c.in-Err-feed.fault.place c.want-want.ensures.least fits
+                (c.in-Err-feed.ensures.wanting i.reading e)
+                (header_wants c.in-Err-feed.fault c.args.limits.budget (c.reading.loader.fed ++ piece) e fault);
+          }),
     )

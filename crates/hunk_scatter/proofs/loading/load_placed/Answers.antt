@@ -1,7 +1,6 @@
-use Rattle.std.proofs.Common.{◌≡◌, ℕ, List, ◌++◌, length, sym, ap, subst, ◌∙◌, inl, arith}
+use Rattle.std.proofs.Common.{◌≡◌, ◌++◌, length, sym, ap, subst, ◌∙◌, inl}
 use Rattle.std.specs.Io.KnownBytes.{Consumes}
 use Rattle.std.proofs.KnownBytes.{Consumes-trans}
-use Rattle.hunk_scatter.specs.Headers.{header_bytes}
 use Rattle.hunk_scatter.specs.Loads.{IsHeaderWithin, IsWithinFile, InHeader, Between}
 use Rattle.hunk_scatter.proofs.HeaderFronts.{within_file}
 use Rattle.hunk_scatter.proofs.LoadEnding.{ends_body, body_keeps, has_bases}

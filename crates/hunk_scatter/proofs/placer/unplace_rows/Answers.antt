@@ -1,4 +1,4 @@
-use Rattle.std.proofs.Common.{◌≡◌, arith}
+use Rattle.std.proofs.Common.{arith}
 use Rattle.hunk_scatter.proofs.PlacingLaws.{unplaced_next}
 use Rattle.hunk_scatter.proofs.placer.unplace_rows.Goals as goal
 

@@ -1,4 +1,4 @@
-use Rattle.std.proofs.Common.{◌≡◌, ◌≤◌, ◌++◌, length, take, None}
+use Rattle.std.proofs.Common.{◌≡◌, ◌++◌, take, None}
 use Rattle.hunk_scatter.specs.Loaders.{IsWholeFile}
 use Rattle.hunk_scatter.proofs.body.BodyLoader.feed.Given as goal
 

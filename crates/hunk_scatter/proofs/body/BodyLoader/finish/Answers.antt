@@ -1,7 +1,7 @@
-use Rattle.std.proofs.Common.{◌≡◌, sym, ap, subst, ◌∙◌}
+use Rattle.std.proofs.Common.{sym, ap, subst, ◌∙◌}
 use Rattle.hunk_scatter.specs.Loaders.{Loading, IsWholeFile, IsImageOf, cut}
 use Rattle.hunk_scatter.specs.Rows.{words_of}
-use Rattle.hunk_scatter.proofs.OneByte.{image_of, not_whole, none_of}
+use Rattle.hunk_scatter.proofs.BodyFields.{image_of, not_whole, none_of}
 use Rattle.hunk_scatter.proofs.body.BodyLoader.finish.Goals as goal
 
 pub returns-then-not-is_done-clause-whole : goal.returns-then-not-is_done-clause-whole

@@ -1,13 +1,10 @@
-use Rattle.std.proofs.Common.{rules, ◌≡◌, ℕ, ◌+◌, ◌-◌, ◌<◌, ◌≤◌, ◌^◌, List, [], ◌∷◌, ◌++◌, length, refl, sym, ap, subst, ◌∙◌, arith, None}
+use Rattle.std.proofs.Common.{ℕ, ◌-◌, List, [], ◌∷◌, ◌++◌, length, sym, ap, subst, ◌∙◌}
 use Rattle.hunk_files.specs.Fault.{HasRefusal}
 use Rattle.hunk_files.specs.declared.row.Row.{Row}
-use Rattle.hunk_scatter.specs.declared.state.State.{State}
-use Rattle.hunk_scatter.specs.Holding.{stored}
-use Rattle.hunk_scatter.specs.Loading.{IsLoading}
 use Rattle.hunk_scatter.specs.Loaders.{Loading, IsWholeFile}
-use Rattle.hunk_scatter.specs.Stepping.{IsInStore, stepped, place_at, part_at}
-use Rattle.hunk_scatter.specs.Rows.{words_of, bases_of}
-use Rattle.hunk_scatter.proofs.OneByte.{not_whole, whole_file, in_room, kept_none, kept_word, refusal_here, three_before, kept_refusal, written, loading_as}
+use Rattle.hunk_scatter.specs.Stepping.{stepped}
+use Rattle.hunk_scatter.specs.Rows.{words_of}
+use Rattle.hunk_scatter.proofs.BodyFields.{not_whole, in_room, kept_word, refusal_here, three_before, kept_refusal, written, loading_as}
 use Rattle.hunk_scatter.proofs.body.BodyLoader.push.Goals as goal
 
 pub take_word-requires : goal.take_word-requires

@@ -1,10 +1,8 @@
-use Rattle.std.proofs.Common.{◌≡◌, ℕ, ◌+◌, ◌*◌, ◌/◌, ◌≤◌, List, ◌++◌, length, None, sym, ap, subst, ◌∙◌, arith}
-use Rattle.hunk_words.specs.Longs.{bytes_of}
-use Rattle.hunk_files.specs.LoadText.{text}
+use Rattle.std.proofs.Common.{◌≡◌, ◌*◌, ◌/◌, List, ◌++◌, length, sym, ap, subst, ◌∙◌, arith}
 use Rattle.hunk_scatter.specs.Loaders.{Loading, IsWholeFile, HasNoRefusal}
 use Rattle.hunk_files.specs.declared.row.Row.{Row}
 use Rattle.hunk_scatter.specs.Stepping.{least_of}
-use Rattle.hunk_scatter.proofs.OneByte.{owes_bytes, not_whole, none_of, fed_truncated, fed_clean}
+use Rattle.hunk_scatter.proofs.BodyFields.{owes_bytes, not_whole, none_of, fed_truncated, fed_clean}
 use Rattle.hunk_files.specs.Fault.{IsTruncated}
 use Rattle.hunk_scatter.proofs.body.BodyLoader.want.Goals as goal
 

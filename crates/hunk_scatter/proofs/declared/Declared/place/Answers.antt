@@ -1,8 +1,8 @@
-use Rattle.std.proofs.Common.{◌≡◌, ℕ, List, [], length, None, refl, sym, ap, subst, ◌∙◌}
+use Rattle.std.proofs.Common.{List, length, None, refl, sym, ap, subst, ◌∙◌}
 use Rattle.hunk_files.specs.declared.row.Row.{Row}
 use Rattle.hunk_scatter.specs.Loading.{IsLoading}
 use Rattle.hunk_scatter.specs.Rows.{entries_of}
-use Rattle.hunk_scatter.proofs.OneByte.{loading_as}
+use Rattle.hunk_scatter.proofs.BodyFields.{loading_as}
 use Rattle.hunk_scatter.proofs.Starting.{placed_loading, written_rows}
 use Rattle.hunk_scatter.proofs.declared.Declared.place.Goals as goal
 

@@ -1,4 +1,4 @@
-use Rattle.std.proofs.Common.{◌≡◌, sym, ap, subst, ◌∙◌}
+use Rattle.std.proofs.Common.{sym, ap, subst, ◌∙◌}
 use Rattle.hunk_scatter.specs.Headers.{IsHeader}
 use Rattle.hunk_scatter.specs.Loaders.{Heading}
 use Rattle.hunk_scatter.proofs.HeaderFields.{heading_not_whole}

@@ -1,4 +1,4 @@
-use Rattle.std.proofs.Common.{◌≡◌, List, ℕ, ◌++◌, sym, ap, subst, ◌∙◌, arith}
+use Rattle.std.proofs.Common.{List, ℕ, ◌++◌, sym, ap, subst, ◌∙◌, arith}
 use Rattle.hunk_scatter.specs.Headers.{IsHeader, PassesBudget, IsHeaderFault, MayGoOnInHeader}
 use Rattle.hunk_scatter.specs.Loaders.{Heading}
 use Rattle.hunk_scatter.proofs.Feeding.{rest_bytes}

@@ -1,4 +1,4 @@
-use Rattle.std.proofs.Common.{◌≡◌, ℕ, ◌*◌, length, ap, ◌∙◌, arith}
+use Rattle.std.proofs.Common.{length, ap, ◌∙◌, arith}
 use Rattle.hunk_words.specs.Longs.{longs}
 use Rattle.hunk_scatter.specs.Headers.{entries_so_far}
 use Rattle.hunk_scatter.specs.Loaders.{Heading}

@@ -1,4 +1,3 @@
-use Rattle.std.proofs.Common.{◌≡◌, List, sym}
 use Rattle.hunk_scatter.proofs.HeaderFields.{heading_new, heading_as}
 use Rattle.hunk_scatter.proofs.header.HeaderLoader.new.Goals as goal
 use Rattle.std.proofs.Common.{refl}

@@ -1,10 +1,8 @@
-use Rattle.std.proofs.Common.{◌≡◌, ℕ, ◌-◌, List, [], ◌∷◌, ◌++◌, sym, ap, subst, ◌∙◌, arith}
-use Rattle.hunk_words.specs.declared.fault.Fault.{Fault}
+use Rattle.std.proofs.Common.{◌-◌, [], ◌∷◌, ◌++◌, sym, ap, subst, ◌∙◌}
 use Rattle.hunk_scatter.specs.Headers.{IsHeader}
 use Rattle.hunk_scatter.specs.Heading.{HeaderStop}
 use Rattle.hunk_scatter.specs.Loaders.{Heading}
-use Rattle.hunk_scatter.proofs.HeaderFields.{heading_as, heading_byte, heading_word, heading_stop, heading_three, heading_room, heading_refused, heading_not_whole}
-use Rattle.hunk_scatter.proofs.HeaderStops.{stop_own}
+use Rattle.hunk_scatter.proofs.HeaderFields.{heading_as, heading_word, heading_stop, heading_three, heading_room, heading_not_whole}
 use Rattle.hunk_scatter.proofs.header.HeaderLoader.push.Goals as goal
 
 pub take_header_word-requires-clause-room : goal.take_header_word-requires-clause-room

@@ -1,4 +1,4 @@
-use Rattle.std.proofs.Common.{arith, ◌+◌, ◌∷◌, [], ◌++◌, drop, get_or, suc, ap, take, length, length-append, subst, List, ℕ}
+use Rattle.std.proofs.Common.{arith, ◌∷◌, [], ◌++◌, drop, get_or, suc, ap, take, length, length-append, subst, ℕ}
 use Rattle.hunk_scatter.specs.Heading.{HeaderStop}
 use Rattle.hunk_scatter.proofs.Faults.{byte_split}
 use Rattle.hunk_scatter.proofs.header.HeaderLoader.push_all.Goals as goal

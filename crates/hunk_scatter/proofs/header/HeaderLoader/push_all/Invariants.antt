@@ -1,4 +1,4 @@
-use Rattle.std.proofs.Common.{◌≡◌, ℕ, ◌++◌, take, None}
+use Rattle.std.proofs.Common.{◌≡◌, ◌++◌, take, None}
 use Rattle.hunk_scatter.specs.Headers.{IsHeader}
 use Rattle.hunk_scatter.proofs.header.HeaderLoader.push_all.Given as goal
 

@@ -1,8 +1,8 @@
-use Rattle.std.proofs.Common.{◌≡◌, ℕ, ◌*◌, ◌/◌, ◌≤◌, List, ◌++◌, length, None, sym, ap, subst, ◌∙◌, arith}
+use Rattle.std.proofs.Common.{◌*◌, ◌/◌, ◌++◌, length, sym, ap, subst, ◌∙◌, arith}
 use Rattle.hunk_files.specs.Fault.{IsTruncated}
 use Rattle.hunk_scatter.specs.Headers.{IsHeader, PassesBudget}
 use Rattle.hunk_scatter.specs.Loaders.{Heading, HasNoRefusal}
-use Rattle.hunk_scatter.proofs.OneByte.{none_of}
+use Rattle.hunk_scatter.proofs.BodyFields.{none_of}
 use Rattle.hunk_scatter.proofs.HeaderFields.{heading_clean, heading_truncated, heading_within, heading_not_whole, heading_least}
 use Rattle.hunk_scatter.proofs.header.HeaderLoader.want.Goals as goal
 
