@@ -10,7 +10,6 @@ mod row;
 mod sniffing;
 #[cfg(test)]
 mod tests;
-mod writing;
 
 pub use crate::file_kind::Sniff;
 pub use crate::load::{ImageFault, LoadFile};
