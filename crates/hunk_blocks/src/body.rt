@@ -10,18 +10,23 @@ use crate::symbols::Symbols;
 /// In CODE, DATA and BSS the top two bits of the size word are kept and not interpreted.
 #[derive(Debug, Drop)]
 pub enum Body<'a> {
+    /// A NAME block: the bytes of the name, padded with zero bytes.
     Name(Payload<'a>),
-    /// `top` is the top two bits of the size word, 0 to 3.
+    /// A CODE block. `top` is the top two bits of the size word, 0 to 3.
     Code { top: u8, payload: Payload<'a> },
-    /// `top` is the top two bits of the size word, 0 to 3.
+    /// A DATA block. `top` is the top two bits of the size word, 0 to 3.
     Data { top: u8, payload: Payload<'a> },
-    /// `size` is the whole size word.
+    /// A BSS block. `size` is the whole size word.
     Bss { size: u32 },
     /// A block of any relocation kind.
     Reloc(Groups<'a>),
+    /// An EXT block.
     Ext(Entries<'a>),
+    /// A SYMBOL block.
     Symbol(Symbols<'a>),
+    /// A DEBUG block, whose contents are not interpreted.
     Debug(Payload<'a>),
+    /// An END block, which has nothing behind its word.
     End,
     /// A block of unknown kind with the advisory flag, which readers may pass over.
     Advisory(Payload<'a>),

@@ -9,6 +9,7 @@ use std::marker::Model;
 pub struct Entry<'a> {
     /// The type in the top byte, and the number of longwords of the name in the low 24 bits.
     pub word: u32,
+    /// The bytes of the name, padded with zero bytes.
     pub name: Payload<'a>,
     /// The value of a definition or the size in bytes of a common block, else 0.
     pub value: u32,

@@ -5,11 +5,11 @@ use crate::payload::Longs;
 use std::marker::Model;
 
 /// Relocations to one target: the longs at these offsets are increased by its base.
-///
-/// The target is a hunk's number, and offsets are in bytes from the start of the hunk.
 #[derive(Debug, Drop)]
 pub struct Group<'a> {
+    /// The number of a hunk: of the file in a load file, of the unit in an object file.
     pub target: u32,
+    /// The places in bytes from the start of the hunk, in file order.
     pub offsets: Longs<'a>,
 }
 

@@ -9,7 +9,9 @@ use std::marker::Model;
 pub struct Named<'a> {
     /// The number of longwords of the name in the low 24 bits; the top byte is kept.
     pub word: u32,
+    /// The bytes of the name, padded with zero bytes.
     pub name: Payload<'a>,
+    /// The value of the symbol.
     pub value: u32,
 }
 

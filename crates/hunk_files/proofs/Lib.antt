@@ -16,7 +16,6 @@ pub mod Least
 pub mod Memory
 pub mod Numbers
 mod ObjectDecoding
-pub mod ObjectReading
 pub mod ObjectText
 mod ObjectWriting
 pub mod OffsetLists

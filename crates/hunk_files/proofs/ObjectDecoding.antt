@@ -1,15 +1,15 @@
 -- What a decoder that reads an object file part by part has to know.
-use Rattle.std.proofs.Common.{◌≡◌, ◌≢◌, ℕ, zero, suc, ◌+◌, ◌*◌, ◌^◌, ◌<◌, ◌≤◌, Bool, true, false, List, [], ◌∷◌, ◌++◌, length, map, take, drop, get_or, refl, sym, ap, ap₂, subst, ◌∙◌, append_assoc, append-nil, length-append, arith, Option, Some, None, inl, inr, Result, Ok, Err}
-use Rattle.std.specs.Prelude.{◌⊎◌, ◌||◌, IsTrue, IfOk, IfErr, OnErr}
+use Rattle.std.proofs.Common.{◌≡◌, ◌≢◌, ℕ, zero, suc, ◌+◌, ◌*◌, ◌^◌, ◌<◌, ◌≤◌, Bool, true, false, List, [], ◌∷◌, ◌++◌, length, map, drop, get_or, refl, sym, ap, ap₂, subst, ◌∙◌, append_assoc, arith, Some, None, Result, Ok, Err}
+use Rattle.std.specs.Prelude.{◌||◌, IsTrue, IfOk, IfErr}
 use Rattle.std.specs.List.{flat_map, AllByRecursion}
-use Rattle.std.proofs.lemmas.List.{take-append-drop, drop-drop, length-drop, length-take-le, append_cancel_left, drop_all}
+use Rattle.std.proofs.lemmas.List.{take-append-drop, length-drop, length-take-le}
 use Rattle.std.proofs.Math.Seq.{take-add}
 use Rattle.hunk_words.specs.declared.block_word.Kind.{Kind}
 use Rattle.hunk_words.specs.declared.block_word.Kind.TheVariants as kinds
 use Rattle.hunk_words.specs.declared.reason.Reason.{Reason}
 use Rattle.hunk_words.specs.declared.reason.Reason.TheVariants as reasons
 use Rattle.hunk_words.specs.Bits.{kind}
-use Rattle.hunk_words.specs.Longs.{longs, bytes_of, IsBytes, IsLong, AreLongs}
+use Rattle.hunk_words.specs.Longs.{longs, bytes_of, IsBytes, AreLongs}
 use Rattle.hunk_words.proofs.LongLaws.{bytes_of-append, length-bytes_of, longs-bytes_of, spelled, longs-few}
 use Rattle.hunk_blocks.specs.declared.mode.Mode.TheVariants as modes
 use Rattle.hunk_blocks.specs.Values.{BlockBody, BlockValue, Name, Code, Data, Bss, Reloc, Ext, Symbol, Debug, Advisory, End, FitsWord, IsBlock, IsPayload, is_relocation, is_unknown}
@@ -21,8 +21,8 @@ use Rattle.hunk_blocks.proofs.Lists.{map-more, flat_map-more}
 use Rattle.hunk_blocks.proofs.BlockLongs.{block_longs}
 use Rattle.hunk_blocks.proofs.BlockPrefix.{block_same}
 use Rattle.hunk_files.specs.LoadFile.{Standing, Beside, Content, Relocating, Ending, standing, AreInOrder, is_content}
-use Rattle.hunk_files.specs.ObjectFile.{IsNoObjectFile, is_object_refusal, ObjectHunk, UnitValue, ObjectFileValue, IsObjectHunk, IsUnit, IsObjectFile, unit_word, unit_header, unit_text, object_text}
-use Rattle.hunk_files.specs.ObjectParts.{BeginsWithText, EndsUnit, MayStand, is_ending, refuse_standing, standing_of_kind}
+use Rattle.hunk_files.specs.ObjectFile.{is_object_refusal, ObjectHunk, UnitValue, ObjectFileValue, IsObjectHunk, IsUnit, unit_header, unit_text, object_text}
+use Rattle.hunk_files.specs.ObjectParts.{BeginsWithText, MayStand, is_ending, refuse_standing, standing_of_kind}
 
 -- ---- longwords and their bytes
 

@@ -4,7 +4,7 @@ use Rattle.std.specs.List.{flat_map}
 use Rattle.hunk_words.specs.Longs.{bytes_of}
 use Rattle.hunk_words.proofs.LongLaws.{length-bytes_of}
 use Rattle.hunk_blocks.specs.Parts.{block_text}
-use Rattle.hunk_files.specs.ObjectFile.{ObjectHunk, UnitValue, ObjectFileValue, IsObjectHunk, IsUnit, IsObjectFile, unit_header, unit_text, object_text}
+use Rattle.hunk_files.specs.ObjectFile.{ObjectHunk, UnitValue, ObjectFileValue, IsObjectHunk, IsUnit, unit_header, unit_text, object_text}
 use Rattle.hunk_files.specs.Strip.{is_kept, strip_blocks, strip_unit, strip_object}
 use Rattle.hunk_files.proofs.StripLaws.{object_kept}
 

@@ -1,25 +1,25 @@
 -- Units that are read one by one, and where no object file goes on.
-use Rattle.std.proofs.Common.{◌≡◌, ◌≢◌, ℕ, zero, suc, ◌+◌, ◌-◌, ◌*◌, ◌%◌, ◌^◌, ◌<◌, ◌≤◌, Bool, true, false, List, [], ◌∷◌, ◌++◌, length, map, take, drop, get_or, refl, sym, ap, ap₂, subst, ◌∙◌, append_assoc, append-nil, length-append, arith, inl, inr}
+use Rattle.std.proofs.Common.{◌≡◌, ℕ, zero, suc, ◌+◌, ◌-◌, ◌*◌, ◌^◌, ◌<◌, ◌≤◌, Bool, true, false, List, [], ◌∷◌, ◌++◌, length, take, drop, get_or, refl, sym, ap, ap₂, subst, ◌∙◌, append_assoc, append-nil, length-append, arith, inl, inr}
 use Rattle.std.specs.Prelude.{◌⊎◌}
 use Rattle.std.specs.List.{flat_map, AllByRecursion}
 use Rattle.std.proofs.lemmas.List.{length-drop, length-take-le, append_cancel_left, take-append-drop, take_all, drop-drop}
 use Rattle.std.proofs.Math.Seq.{take-append_seam}
 use Rattle.hunk_words.specs.declared.block_word.Kind.TheVariants as kinds
 use Rattle.hunk_words.specs.Bits.{kind}
-use Rattle.hunk_words.specs.Longs.{longs, bytes_of, IsBytes, AreLongs}
+use Rattle.hunk_words.specs.Longs.{longs, bytes_of, IsBytes}
 use Rattle.hunk_words.proofs.LongLaws.{bytes_of-append, length-bytes_of, longs-bytes_of, length-longs, longs_fit}
 use Rattle.hunk_words.proofs.PartLaws.{longs-part}
 use Rattle.hunk_blocks.specs.Values.{BlockBody, BlockValue, Name, Code, Data, Bss, Reloc, Ext, Symbol, Debug, Advisory, End, FitsWord, IsBlock, IsPayload}
 use Rattle.hunk_blocks.specs.Parts.{block_text}
 use Rattle.hunk_blocks.specs.Begins.{first_long}
 use Rattle.hunk_blocks.specs.Reading.{BeginsWithNo}
-use Rattle.hunk_blocks.proofs.Lists.{map-more, flat_map-more}
+use Rattle.hunk_blocks.proofs.Lists.{flat_map-more}
 use Rattle.hunk_blocks.proofs.BlockPrefix.{block_same}
 use Rattle.hunk_files.specs.LoadFile.{Standing, Beside, Content, Relocating, Ending, standing, AreInOrder}
 use Rattle.hunk_files.specs.ObjectFile.{IsNoObjectFile, ObjectHunk, UnitValue, ObjectFileValue, IsObjectHunk, IsUnit, IsObjectFile, unit_word, unit_header, unit_text, object_text}
 use Rattle.hunk_files.specs.ObjectParts.{BeginsWithText, EndsUnit}
 use Rattle.hunk_files.proofs.ObjectText.{Header, item_same}
-use Rattle.hunk_files.proofs.ObjectDecoding.{All-more, hunk_longs, hunks_longs, header_longs, object_longs, unit_longs, text_none, text_more, text_size, text_split, text_words, words_split, drop_bytes, standings}
+use Rattle.hunk_files.proofs.ObjectDecoding.{All-more, object_longs, unit_longs, text_none, text_more, text_size, text_split, text_words, words_split, drop_bytes, standings}
 
 -- ---- the header
 

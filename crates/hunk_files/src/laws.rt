@@ -31,7 +31,8 @@ pub fn complete()
 
 /// No longword of a load text is refused.
 pub fn no_refusal()
-    ensures { (v : LoadFileValue) → IsLoadFile v → AllByRecursion (λ l. refuse l.0 l.1 ≡ None) (labelled v) }
+    ensures { (v : LoadFileValue) → IsLoadFile v →
+        AllByRecursion (λ l. refuse l.0 l.1 ≡ None) (labelled v) }
 {}
 
 /// Of every list of bytes just one of three holds: it begins with a load text, a longword of it is
@@ -43,7 +44,8 @@ pub fn one_outcome()
         HasFault bytes at reason → HasFault bytes at2 reason2 → (at ≡ at2) × (reason ≡ reason2) }
     ensures not_both { (bytes : List ℕ) (at : ℕ) (reason : Reason) →
         BeginsWithLoadFile bytes → HasFault bytes at reason → ⊥ }
-    ensures of_word { (bytes : List ℕ) (at : ℕ) (reason : Reason) → HasRefusal bytes at reason → IsTrue (is_word_refusal reason) }
+    ensures of_word { (bytes : List ℕ) (at : ℕ) (reason : Reason) → HasRefusal bytes at reason →
+        IsTrue (is_word_refusal reason) }
     ensures not_truncated { (bytes : List ℕ) → IsBytes bytes → (at : ℕ) (reason : Reason) (at2 : ℕ) →
         HasRefusal bytes at reason → IsTruncated bytes at2 → ⊥ }
 {}
@@ -51,10 +53,10 @@ pub fn one_outcome()
 /// Where no two relocated longs overlap, the memory of a hunk is its content with the bases of each
 /// offset's targets added, and no other bytes are.
 pub fn sum_image()
-    ensures sums { (hunks : ℕ) (h : HunkValue) (bases : List ℕ) → IsHunk hunks h → AreApart (offsets (relocations h)) →
-        IsSumImage bases h (image bases h) }
-    ensures one { (hunks : ℕ) (h : HunkValue) (bases : List ℕ) (memory : List ℕ) → IsHunk hunks h → AreApart (offsets (relocations h)) →
-        IsSumImage bases h memory → memory ≡ image bases h }
+    ensures sums { (hunks : ℕ) (h : HunkValue) (bases : List ℕ) → IsHunk hunks h →
+        AreApart (offsets (relocations h)) → IsSumImage bases h (image bases h) }
+    ensures one { (hunks : ℕ) (h : HunkValue) (bases : List ℕ) (memory : List ℕ) → IsHunk hunks h →
+        AreApart (offsets (relocations h)) → IsSumImage bases h memory → memory ≡ image bases h }
 {}
 
 /// What is stripped is a load file with the same table, content and relocations, and so with the
@@ -64,12 +66,14 @@ pub fn strip_image()
     ensures table { (v : LoadFileValue) → table (strip_file v) ≡ table v }
     ensures content { (v : LoadFileValue) → map content (strip_file v) ≡ map content v }
     ensures relocations { (v : LoadFileValue) → map relocations (strip_file v) ≡ map relocations v }
-    ensures image { (v : LoadFileValue) (bases : List ℕ) → map (image bases) (strip_file v) ≡ map (image bases) v }
+    ensures image { (v : LoadFileValue) (bases : List ℕ) →
+        map (image bases) (strip_file v) ≡ map (image bases) v }
 {}
 
 /// One object text has one value.
 pub fn object_value()
-    ensures { (a b : ObjectFileValue) → IsObjectFile a → IsObjectFile b → object_text a ≡ object_text b → a ≡ b }
+    ensures { (a b : ObjectFileValue) → IsObjectFile a → IsObjectFile b →
+        object_text a ≡ object_text b → a ≡ b }
 {}
 
 /// What is stripped is an object file with the same findings.

@@ -10,6 +10,7 @@ mod row;
 mod sniffing;
 #[cfg(test)]
 mod tests;
+mod writing;
 
 pub use crate::file_kind::Sniff;
 pub use crate::load::{ImageFault, LoadFile};

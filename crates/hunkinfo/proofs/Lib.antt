@@ -1,7 +1,14 @@
+mod BlockLaws
 mod Consumed
+mod Contents
+mod Engines
+mod FileLaws
+mod Lines
 mod Literals
 mod Numbers
+mod RewriteLaws
 mod RowLaws
 mod SegmentLaws
+mod StrippedSize
 mod TableLaws
 mod Telling

@@ -1,8 +1,12 @@
 -- What an engine function reads and writes: of its source a was left before and b is left now, its sink had taken c and has taken d now, where these are told.
-use Rattle.std.specs.Prelude.{◌≡◌, ◌<◌, ℕ, List, Option, length}
+use Rattle.std.specs.Prelude.{◌≡◌, ◌⊎◌, ◌<◌, ⊤, ℕ, List, Option, length}
 use Rattle.std.specs.Io.KnownBytes.{Consumes, IsAtEnd}
-use Rattle.hunk_words.specs.Puts.{Puts}
 use Rattle.hunk_words.specs.declared.fault.Fault.{Fault}
+use Rattle.hunk_words.specs.declared.reason.Reason.TheVariants.{FileLimit}
+use Rattle.hunk_words.specs.Puts.{Puts}
+use Rattle.hunkinfo.specs.declared.fault.RunFault.{RunFault}
+use Rattle.hunkinfo.specs.declared.fault.RunFault.TheVariants.{HexText, Memory, Read, Refused, Write}
+use Rattle.hunkinfo.specs.FileKinds.{RefusesBytes}
 
 -- The source was read to its end in fewer than `most` bytes. The text is one that these have, and as many of its first bytes
 -- have gone out as `written` says.
@@ -26,3 +30,17 @@ pub record Refuses (IsRefusalOf : List ℕ → Fault → Type 0) (a b : Option (
   pub ended : IsAtEnd b
   pub few : length input < most
   pub is_refusal : IsRefusalOf input refusal
+
+-- The source was read to its end in fewer than `most` bytes, and for these the run answers the fault.
+pub record RefusesInput (fault : RunFault) (a b : Option (List ℕ)) (most : ℕ) : Type 0 where
+  pub input : List ℕ
+  pub given : Consumes a b input
+  pub ended : IsAtEnd b
+  pub few : length input < most
+  pub refuses : RefusesBytes fault input
+
+-- An input is refused at the limit of its bytes, or since its bytes are no file.
+abbrev pub RefusesOnly : RunFault → Option (List ℕ) → Option (List ℕ) → ℕ → Type 0
+RefusesOnly (Refused refusal) a b most = (refusal.reason ≡ FileLimit) ⊎ RefusesInput (Refused refusal) a b most
+RefusesOnly HexText a b most = ⊥
+RefusesOnly fault a b most = ⊤

@@ -1,15 +1,11 @@
 -- What `relocate` prints of the segments that it loaded.
 use Rattle.std.specs.Prelude.{ℕ, zero, suc, ◌+◌, ◌/◌, List, [], ◌∷◌, ◌++◌, length, take, drop, codes, decimal}
-use Rattle.std.specs.Int.{to_be_bytes, w32}
 use Rattle.hex.specs.Hex.{encode_lower}
+use Rattle.hunkinfo.specs.Printed.{hexadecimal}
 
 pub record Segment : Type 0 where
   pub base : ℕ
   pub bytes : List ℕ
-
--- `0x` and eight hexadecimal digits
-abbrev pub hexadecimal : ℕ → List ℕ
-hexadecimal number = codes "0x" ++ encode_lower (to_be_bytes w32 number)
 
 -- `hunk D base X D bytes`: its number, its base, how many bytes it has
 unfoldable pub heading : ℕ → ℕ → ℕ → List ℕ

@@ -4,6 +4,7 @@ use Rattle.std.specs.Io.KnownBytes.{Appends}
 use Rattle.hunk_words.specs.Carriers.{Writing}
 use Rattle.hunkinfo.specs.declared.fault.RunFault.{RunFault}
 use Rattle.hunkinfo.specs.Faults.{IsWrite, line_of, status_of}
+use Rattle.hunkinfo.specs.Validated.{IsReport}
 
 -- the line with its end, LF
 abbrev pub ended : List ℕ → List ℕ
@@ -24,10 +25,11 @@ pub record StopsOutput {W : Type 0} (taken : W → Option (List ℕ)) (failed : 
   pub unwritten : ¬ IsWrite fault → new.written ≡ 0
   pub untouched : ¬ IsWrite fault → Takes taken old new []
 
--- the status is 0, or the output has taken one line that says why it is not, or the output failed
+-- the status is 0, or the output has taken one line that says why it is not, or the output failed, or the output has taken a report of findings and the status is 1
 abbrev pub TellsStatus : {W : Type 0} → (W → Option (List ℕ)) → (W → Bool) → Writing W → Writing W → ℕ → Type 0
 TellsStatus taken failed old new status =
     (status ≡ 0)
     ⊎ ((status ≡ 2) × Takes taken old new (ended (codes "command line refused")))
     ⊎ ((fault : RunFault) × (status ≡ status_of fault) × Takes taken old new (ended (line_of fault)))
     ⊎ ((status ≡ 3) × (failed new.sink ≡ true))
+    ⊎ ((bytes : List ℕ) × (text : List ℕ) × (status ≡ 1) × IsReport bytes text × Takes taken old new text)

@@ -4,16 +4,21 @@ use Rattle.std.specs.Io.KnownBytes.{Consumes, IsAtEnd}
 use Rattle.hunk_words.specs.Carriers.{Writing}
 use Rattle.hunk_words.specs.declared.reason.Reason.TheVariants as reasons
 use Rattle.hunkinfo.specs.declared.asked.Order.{Order}
-use Rattle.hunkinfo.specs.declared.asked.Order.TheVariants.{Relocate}
+use Rattle.hunkinfo.specs.declared.asked.Order.TheVariants as orders
 use Rattle.hunkinfo.specs.declared.asked.OrderFault.{OrderFault}
 use Rattle.hunkinfo.specs.declared.asked.OrderFault.TheVariants.{Help, Line, Memory}
 use Rattle.hunkinfo.specs.declared.fault.RunFault.{RunFault}
 use Rattle.hunkinfo.specs.declared.fault.RunFault.TheVariants as faults
+use Rattle.hunkinfo.specs.declared.run.listing.Listing.{Listing}
+use Rattle.hunkinfo.specs.declared.run.listing.Listing.TheVariants as listings
 use Rattle.hunkinfo.specs.Faults.{line_of}
 use Rattle.hunkinfo.specs.HexText.{Spells}
 use Rattle.hunkinfo.specs.Inputs.{Gave}
+use Rattle.hunkinfo.specs.Listed.{IsShown}
 use Rattle.hunkinfo.specs.Output.{Prints, Takes, ended}
 use Rattle.hunkinfo.specs.Relocating.{IsListingAt}
+use Rattle.hunkinfo.specs.Rewritten.{TellsRewriting}
+use Rattle.hunkinfo.specs.Validated.{IsValidated}
 
 -- what is printed where the words are no order, and the status
 abbrev pub PrintsRefusal : {W : Type 0} → (W → Option (List ℕ)) → (W → Bool) → Writing W → Writing W → OrderFault → ℕ → Type 0
@@ -21,17 +26,31 @@ PrintsRefusal taken failed old new Line status = Prints taken failed old new (en
 PrintsRefusal taken failed old new (Help text) status = Prints taken failed old new (string_bytes text) 0 status
 PrintsRefusal taken failed old new Memory status = Prints taken failed old new (ended (line_of faults.Memory)) 4 status
 
--- the output has taken the listing of some input's load file at this base, and nothing else
-pub record Lists {W : Type 0} (taken : W → Option (List ℕ)) (old new : Writing W) (base : ℕ) : Type 0 where
+-- what is printed of an input in which nothing is amiss
+abbrev pub IsListed : Listing → List ℕ → List ℕ → Type 0
+IsListed listings.Show input text = IsShown input text
+IsListed listings.Validate input text = IsValidated 0 input text
+IsListed (listings.Relocate base) input text = IsListingAt base input text
+
+-- the output has taken what is printed of some input, and nothing else
+pub record Lists {W : Type 0} (taken : W → Option (List ℕ)) (old new : Writing W) (listing : Listing) : Type 0 where
   pub input : List ℕ
   pub text : List ℕ
-  pub is_listing : IsListingAt base input text
+  pub is_listed : IsListed listing input text
+  pub takes : Takes taken old new text
+
+-- the output has taken what is printed of some rewriting, and nothing else
+pub record Rewrites {W : Type 0} (taken : W → Option (List ℕ)) (old new : Writing W) (strip : Bool) : Type 0 where
+  pub text : List ℕ
+  pub tells : TellsRewriting strip text
   pub takes : Takes taken old new text
 
 -- what the order asks for is done
 abbrev pub IsDone : {W : Type 0} → (W → Option (List ℕ)) → Writing W → Writing W → Order → Type 0
-IsDone taken old new (Relocate hex base budget file) = Lists taken old new base
-IsDone taken old new _ = ⊥
+IsDone taken old new (orders.Show hex file) = Lists taken old new listings.Show
+IsDone taken old new (orders.Validate hex file) = Lists taken old new listings.Validate
+IsDone taken old new (orders.Relocate hex base budget file) = Lists taken old new (listings.Relocate base)
+IsDone taken old new (orders.Rewrite strip input output) = Rewrites taken old new strip
 
 -- the words are no order, or memory was wanting; no help is printed
 abbrev pub PrintsNoHelp : {W : Type 0} → (W → Option (List ℕ)) → (W → Bool) → Writing W → Writing W → ℕ → Type 0
@@ -43,15 +62,15 @@ abbrev pub IsInput : Bool → List ℕ → List ℕ → Type 0
 IsInput true given input = Spells given input
 IsInput false given input = input ≡ given
 
--- The source, of which a was left before and b is left now, was read to its end, and the output has taken the listing of the input.
-pub record ListsSource {W : Type 0} (hex : Bool) (base : ℕ) (a b : Option (List ℕ)) (taken : W → Option (List ℕ)) (old new : Writing W) : Type 0 where
+-- The source, of which a was left before and b is left now, was read to its end, and the output has taken what is printed of the input.
+pub record ListsSource {W : Type 0} (hex : Bool) (listing : Listing) (a b : Option (List ℕ)) (taken : W → Option (List ℕ)) (old new : Writing W) : Type 0 where
   pub given : List ℕ
   pub consumed : Consumes a b given
   pub at_end : IsAtEnd b
   pub input : List ℕ
   pub is_input : IsInput hex given input
   pub text : List ℕ
-  pub is_listing : IsListingAt base input text
+  pub is_listed : IsListed listing input text
   pub takes : Takes taken old new text
 
 -- why no text of at most so many bytes was read; `failed` is whether the source failed

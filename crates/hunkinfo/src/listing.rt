@@ -1,9 +1,8 @@
 //! The lines that `relocate` prints of its segments.
 ghost use Rattle.std.specs.Prelude.{◌≡◌, ◌≤◌, ◌++◌, length, codes, decimal, OnOk};
-ghost use Rattle.hex.specs.Hex.{encode_lower};
-ghost use Rattle.hunkinfo.specs.Listing.{dump, heading, hexadecimal, row, segment_lines};
+ghost use Rattle.hunkinfo.specs.Listing.{dump, heading, row, segment_lines};
 
-use itoa::{Buffer, Integer};
+use crate::text::{push_decimal, push_digits, push_hexadecimal};
 use std::alloc::AllocError;
 
 /// How many bytes of a segment a row shows.
@@ -38,8 +37,8 @@ fn push_heading(text: &mut Vec<u8>, number: u32, base: u32, len: usize) -> Resul
 {
     text.extend_from_slice(b"hunk ")?;
     push_decimal(text, number)?;
-    text.extend_from_slice(b" base 0x")?;
-    push_digits(text, &base.to_be_bytes())?;
+    text.extend_from_slice(b" base ")?;
+    push_hexadecimal(text, base)?;
     text.extend_from_slice(b" ")?;
     push_decimal(text, len)?;
     text.extend_from_slice(b" bytes\n")
@@ -62,22 +61,4 @@ fn push_row(text: &mut Vec<u8>, bytes: &[u8]) -> Result<(), AllocError>
     text.extend_from_slice(b"  ")?;
     push_digits(text, bytes)?;
     text.extend_from_slice(b"\n")
-}
-
-fn push_decimal<N: Integer>(text: &mut Vec<u8>, number: N) -> Result<(), AllocError>
-    ensures { OnOk result (text.new.items ≡ text.old.items ++ N.text number) }
-{
-    text.extend_from_slice(Buffer::new().format(number).as_bytes())
-}
-
-// Two digits a byte.
-fn push_digits(text: &mut Vec<u8>, bytes: &[u8]) -> Result<(), AllocError>
-    requires { length bytes.now ≤ ROW }
-    ensures { OnOk result (text.new.items ≡ text.old.items ++ encode_lower bytes.now) }
-{
-    let mut digits = [0; 2 * ROW];
-    let digits = &mut digits[..2 * bytes.len()];
-    // The room is just that of the digits, so this cannot fail.
-    let _ = hex::encode_to_slice(bytes, digits);
-    text.extend_from_slice(digits)
 }

@@ -4,11 +4,17 @@
 mod asked;
 mod bases;
 mod fault;
+mod hunk_file;
 mod line;
 mod listing;
 mod relocate;
+mod rewrite;
 mod run;
+mod show;
+mod text;
+mod to_file;
 mod unhex;
+mod validate;
 mod whole;
 
 use crate::asked::OrderFault;

@@ -1,23 +1,22 @@
 //! A run: the words are read, what they ask for is done, and one text is printed, once.
-ghost use Rattle.std.specs.Prelude.{◌≡◌, ◌<◌, ◌≤◌, IfErr, IfOk, OnOk, length, map, true};
-ghost use Rattle.std.specs.Io.KnownBytes.{Consumes, IsAtEnd};
+ghost use Rattle.std.specs.Prelude.{◌≡◌, ◌<◌, ◌≤◌, map, true};
 ghost use Rattle.std.specs.String.{string_bytes};
 ghost use Rattle.clap.specs.Words.{takes};
-ghost use Rattle.hunkinfo.specs.Output.{Prints, StopsOutput, TellsStatus};
+ghost use Rattle.hunkinfo.specs.Output.{Prints, TellsStatus};
 ghost use Rattle.hunkinfo.specs.Command.{hunkinfo};
 ghost use Rattle.hunkinfo.specs.Line.{order_of, taken};
-ghost use Rattle.hunkinfo.specs.Runs.{IsDone, Lists, ListsSource, PrintsNoHelp, PrintsRefusal, ReadsNoText};
+ghost use Rattle.hunkinfo.specs.Runs.{IsDone, Lists, PrintsNoHelp, PrintsRefusal};
+
+mod listing;
+mod rewriting;
 
 use crate::asked::{FileName, Order, OrderFault};
 use crate::fault::{OUT_OF_MEMORY, RunFault};
 use crate::line::order;
-use crate::relocate::relocate;
-use crate::unhex::unhex;
-use crate::whole::whole;
-use hunk_words::{Fault, FromRead, FromSlice, LongWriter, Reason, Sink, Source};
+use crate::run::listing::{Listing, list_file};
+use crate::run::rewriting::rewrite_file;
+use hunk_words::{LongWriter, Sink};
 use std::alloc::Global;
-use std::fs;
-use std::io::BufReader;
 use std::rt::Files;
 
 /// The bytes of an input at which it is refused, and the most that hexadecimal text may have.
@@ -83,88 +82,49 @@ fn obey<T: Files + Input, W: Sink>(
     ensures told { TellsStatus W.taken W.failed out.old out.new result }
 {
     match order {
+        Order::Show { hex, file } => list(rt, alloc, Listing::Show, *hex, file.as_ref(), out),
+        Order::Validate { hex, file } => {
+            list(rt, alloc, Listing::Validate, *hex, file.as_ref(), out)
+        }
         Order::Relocate {
             hex,
             base,
             budget: _,
             file,
-        } => match relocate_file(rt, alloc, file.as_ref(), *hex, *base, out) {
-            Ok(()) => DONE,
-            // The output failed, so nothing more is written.
-            Err(fault @ RunFault::Write { .. }) => fault.status(),
+        } => {
+            let listing = Listing::Relocate { base: *base };
+            list(rt, alloc, listing, *hex, file.as_ref(), out)
+        }
+        Order::Rewrite {
+            strip,
+            input,
+            output,
+        } => match rewrite_file(rt, alloc, input, output, *strip) {
+            Ok(text) => print_bytes(text.as_slice(), DONE, out),
             Err(fault) => report(alloc, fault, out),
         },
-        Order::Show { .. } | Order::Validate { .. } | Order::Rewrite { .. } => {
-            refuse(&OrderFault::Line, out)
-        }
     }
 }
 
-// `relocate` on the file, or on standard input. A file is read through a buffer, since little may
-// be asked for at a time; standard input is not, so that what follows stays for the next reader.
-fn relocate_file<T: Files + Input, W: Sink>(
+// Prints what is listed, or why it can't be.
+fn list<T: Files + Input, W: Sink>(
     rt: &T,
     alloc: Global,
+    listing: Listing,
+    hex: bool,
     file: Option<&FileName>,
-    hex: bool,
-    base: u32,
     out: &mut LongWriter<W>,
-) -> Result<(), RunFault>
+) -> u8
     requires { out.old.written ≡ 0 }
-    ensures ok { OnOk result (Lists W.taken out.old out.new base) }
-    ensures fails { IfErr result (StopsOutput W.taken W.failed out.old out.new) }
+    ensures known { result ≤ 4 }
+    ensures done { result ≡ 0 → Lists W.taken out.old out.new listing }
+    ensures told { TellsStatus W.taken W.failed out.old out.new result }
 {
-    let Some(name) = file else {
-        return relocate_source(alloc, &mut FromRead::new(rt.reader()), hex, base, out);
-    };
-    let Ok(file) = fs::open(rt, name.as_str()) else {
-        return Err(RunFault::Read { place: 0 });
-    };
-    let Ok(reader) = BufReader::new(alloc, file) else {
-        return Err(RunFault::Memory);
-    };
-    relocate_source(alloc, &mut FromRead::new(reader), hex, base, out)
-}
-
-// `relocate` on the bytes of the source, or on those that its text spells.
-fn relocate_source<R: Source, W: Sink>(
-    alloc: Global,
-    source: &mut R,
-    hex: bool,
-    base: u32,
-    out: &mut LongWriter<W>,
-) -> Result<(), RunFault>
-    requires { out.old.written ≡ 0 }
-    ensures ok { OnOk result (ListsSource hex base (R.left source.old) (R.left source.new) W.taken out.old out.new) }
-    ensures fails { IfErr result (StopsOutput W.taken W.failed out.old out.new) }
-{
-    if !hex {
-        return relocate(alloc, source, out, FILE_BYTES, base);
-    }
-    let text = hex_text(alloc, source)?;
-    let bytes = unhex(alloc, text.as_slice())?;
-    relocate(
-        alloc,
-        &mut FromSlice::new(bytes.as_slice()),
-        out,
-        FILE_BYTES,
-        base,
-    )
-}
-
-// All of the source's text, which may have `FILE_BYTES` bytes and no more.
-fn hex_text<R: Source>(alloc: Global, source: &mut R) -> Result<Vec<u8>, RunFault>
-    ensures given { IfOk result (λ text. Consumes (R.left source.old) (R.left source.new) text.items) }
-    ensures ended { OnOk result (IsAtEnd (R.left source.new)) }
-    ensures bound { IfOk result (λ text. length text.items ≤ FILE_BYTES) }
-    ensures err { IfErr result (λ fault. ReadsNoText fault (R.left source.old) (R.left source.new) FILE_BYTES (R.failed source.new)) }
-{
-    match whole(alloc, source, FILE_BYTES + 1) {
-        Err(RunFault::Refused(Fault { place: _, reason })) => Err(RunFault::Refused(Fault {
-            place: FILE_BYTES,
-            reason,
-        })),
-        read => read,
+    match list_file(rt, alloc, listing, file, hex, out) {
+        Ok(status) => status,
+        // The output failed, so nothing more is written.
+        Err(fault @ RunFault::Write { .. }) => fault.status(),
+        Err(fault) => report(alloc, fault, out),
     }
 }
 
@@ -187,7 +147,17 @@ fn print<W: Sink>(text: &str, status: u8, out: &mut LongWriter<W>) -> u8
     ensures known { result ≤ 4 }
     ensures printed { Prints W.taken W.failed out.old out.new text.now status result }
 {
-    match out.put_bytes(text.as_bytes()) {
+    print_bytes(text.as_bytes(), status, out)
+}
+
+// The same of a text that is bytes.
+fn print_bytes<W: Sink>(text: &[u8], status: u8, out: &mut LongWriter<W>) -> u8
+    requires first { out.old.written ≡ 0 }
+    requires known { status ≤ 4 }
+    ensures known { result ≤ 4 }
+    ensures printed { Prints W.taken W.failed out.old out.new text.now status result }
+{
+    match out.put_bytes(text) {
         Ok(()) => status,
         Err(fault) => RunFault::from(fault).status(),
     }

@@ -35,8 +35,9 @@ fn starved(alloc: Global, longs: &[u32]) -> Result<Result<usize, BlockFault>, Al
     Ok(result)
 }
 
-/// Only groups and entries that stand in the input take memory, and no count does.
-const WITHOUT_MEMORY: [Row; 12] = [
+/// Only groups and entries that stand in the input take memory, at their last longword, and no
+/// count does.
+const WITHOUT_MEMORY: [Row; 15] = [
     (&[0x3E8, 1, 0x6100_0000], 12, None),
     (&[0x3E9, 1, 0x4E75_4E71], 12, None),
     (&[0x3EA, 1, 0x4E75_4E71], 12, None),
@@ -45,6 +46,17 @@ const WITHOUT_MEMORY: [Row; 12] = [
     (&[0x3F2], 4, None),
     (&[0x2000_04D2, 1, 7], 12, None),
     (&[0x3EC, 0], 8, None),
+    (&[0x3EC, 1, 0, 0, 0], 12, Some(Reason::OutOfMemory)),
+    (
+        &[0x3F0, 1, 0x5F6D_0000, 0, 0],
+        12,
+        Some(Reason::OutOfMemory),
+    ),
+    (
+        &[0x3EF, 0x8100_0000, 1, 4, 0],
+        12,
+        Some(Reason::OutOfMemory),
+    ),
     (&[0x3EC, 0xFFFF_FFFF, 0, 1, 2], 20, Some(Reason::Truncated)),
     (&[0x3F0, 0x00FF_FFFF, 0, 1, 2], 20, Some(Reason::Truncated)),
     (&[0x3EF, 0x81FF_FFFF, 0, 1, 2], 20, Some(Reason::Truncated)),
@@ -60,17 +72,6 @@ fn refused_at_the_first_growth(rt: HostRuntime) -> Result<(), Fail> {
     for (longs, number, reason) in WITHOUT_MEMORY {
         let want = wanted(number, reason);
         assert_eq!(rt; starved(rt.alloc(), longs)?, want, "{longs:?}");
-    }
-    let lists = [
-        [0x3EC, 1, 0, 0, 0].as_slice(),
-        [0x3F0, 1, 0x5F6D_0000, 0, 0].as_slice(),
-        [0x3EF, 0x8100_0000, 1, 4, 0].as_slice(),
-    ];
-    for longs in lists {
-        match starved(rt.alloc(), longs)? {
-            Ok(_) => panic!(&rt; "a list without memory"),
-            Err(fault) => assert_eq!(rt; fault.reason, Reason::OutOfMemory),
-        }
     }
     Ok(())
 }

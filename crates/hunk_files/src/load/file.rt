@@ -35,22 +35,24 @@ impl<'a> Model for LoadFile<'a> {
 }
 
 impl<'a> LoadFile<'a> {
-    /// The load file that the bytes begin with, and the number of its bytes. It ends with the END of
-    /// its last hunk; what follows is not read.
+    /// The load file that the bytes begin with, and the number of its bytes. It ends with the END
+    /// of its last hunk; what follows is not read.
     ///
     /// A refusal names the first longword, in file order, that no load file has there, by its first
-    /// byte, and why. `Truncated` is answered where all whole longwords are those of a load file that
-    /// goes on, at 4 times their number. `OutOfMemory` is answered where memory was refused, for a row
-    /// of the table, the groups or entries of a block, a block or a hunk, at the longword that
-    /// completes it; no memory is asked for before the file was seen to be whole.
+    /// byte, and why. `Truncated` is answered where all whole longwords are those of a load file
+    /// that goes on, at 4 times their number. `OutOfMemory` is answered where memory was refused,
+    /// for a row of the table, the groups or entries of a block, a block or a hunk, at the longword
+    /// that completes it; no memory is asked for before the file was seen to be whole.
     ///
     /// Source: The AmigaDOS Manual, 3rd edition, Amiga binary file structure, and `dos/doshunks.h`.
     pub fn decode(alloc: Global, bytes: &'a [u8]) -> Result<(LoadFile<'a>, usize), FileFault>
         ensures value { IfOk result (λ r. IsLoadFile r.0) }
         ensures text { IfOk result (λ r. take r.1 bytes.entry.now ≡ bytes_of (text r.0)) }
         ensures whole { IfOk result (λ r. r.1 ≤ length bytes.entry.now) }
-        ensures fault { IfErr result (λ fault. fault.reason ≢ reasons.OutOfMemory → HasFault bytes.entry.now fault.place fault.reason) }
-        ensures none { IfErr result (λ fault. fault.reason ≢ reasons.OutOfMemory → BeginsWithLoadFile bytes.entry.now → ⊥) }
+        ensures fault { IfErr result (λ fault. fault.reason ≢ reasons.OutOfMemory →
+            HasFault bytes.entry.now fault.place fault.reason) }
+        ensures none { IfErr result (λ fault. fault.reason ≢ reasons.OutOfMemory →
+            BeginsWithLoadFile bytes.entry.now → ⊥) }
         ensures own { IfErr result (λ fault. IsTrue (is_load_refusal fault.reason)) }
     {
         let size = walk(bytes)?;

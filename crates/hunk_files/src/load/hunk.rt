@@ -32,7 +32,8 @@ pub(crate) fn read_hunk<'a>(
 ) -> Result<(Vec<Block<'a>>, usize), FileFault>
     requires { start ≤ length bytes.now }
     ensures found { IfOk result (λ r. AreBlocksAt bytes.entry.now start r.1 r.0.items) }
-    ensures none { IfErr result (λ fault. fault.reason ≢ reasons.OutOfMemory → HasNoHunk (drop start bytes.entry.now)) }
+    ensures none { IfErr result (λ fault. fault.reason ≢ reasons.OutOfMemory →
+        HasNoHunk (drop start bytes.entry.now)) }
 {
     let mut blocks = Vec::new(alloc);
     let mut at = start;
@@ -57,8 +58,8 @@ pub(crate) fn read_hunk<'a>(
     }
 }
 
-/// The hunks of the load file that the bytes begin with: those of the rows, one after the other from
-/// `start` on.
+/// The hunks of the load file that the bytes begin with: those of the rows, one after the other
+/// from `start` on.
 pub(crate) fn read_hunks<'a>(
     alloc: Global,
     bytes: &'a [u8],
@@ -67,7 +68,8 @@ pub(crate) fn read_hunks<'a>(
 ) -> Result<Vec<LoadHunk<'a>>, FileFault>
     requires begins { BeginsWithLoadFile bytes.now }
     requires table { (file : BeginsWithLoadFile bytes.now) → IsTable bytes.now file rows.now start }
-    ensures hunks { IfOk result (λ hunks. (file : BeginsWithLoadFile bytes.entry.now) → map hunk_of hunks.items ≡ file.value) }
+    ensures hunks { IfOk result (λ hunks.
+        (file : BeginsWithLoadFile bytes.entry.now) → map hunk_of hunks.items ≡ file.value) }
     ensures memory { IfErr result (λ fault. fault.reason ≡ reasons.OutOfMemory) }
 {
     let mut hunks = Vec::new(alloc);

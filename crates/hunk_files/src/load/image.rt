@@ -54,11 +54,15 @@ impl LoadFile<'_> {
 
 /// Appends the memory of a hunk.
 fn push_image(memory: &mut Vec<u8>, hunk: &LoadHunk<'_>, bases: &[u32]) -> Result<(), AllocError>
-    requires content { length (flat_map (λ b. block_content b.body) hunk.now.blocks.items) ≤ 4 * size_longs hunk.now.row.word }
-    requires relocations { IsRelocatable (4 * size_longs hunk.now.row.word) (length bases.now) (relocations (hunk_of hunk.now)) }
+    requires content { length (flat_map (λ b. block_content b.body) hunk.now.blocks.items)
+        ≤ 4 * size_longs hunk.now.row.word }
+    requires relocations { IsRelocatable (4 * size_longs hunk.now.row.word) (length bases.now)
+        (relocations (hunk_of hunk.now)) }
     requires room { vec_len memory.old < 2 ^ 60 }
-    ensures appends { OnOk result (memory.new.items ≡ memory.old.items ++ image bases.now (hunk_of hunk.now)) }
-    ensures grows { OnOk result (vec_len memory.new ≡ vec_len memory.old + 4 * size_longs hunk.now.row.word) }
+    ensures appends { OnOk result (memory.new.items
+        ≡ memory.old.items ++ image bases.now (hunk_of hunk.now)) }
+    ensures grows { OnOk result (vec_len memory.new
+        ≡ vec_len memory.old + 4 * size_longs hunk.now.row.word) }
 {
     let start = memory.len();
     push_content(memory, &hunk.blocks)?;
@@ -69,7 +73,8 @@ fn push_image(memory: &mut Vec<u8>, hunk: &LoadHunk<'_>, bases: &[u32]) -> Resul
 
 /// Appends the contents of the blocks.
 fn push_content(memory: &mut Vec<u8>, blocks: &[Block<'_>]) -> Result<(), AllocError>
-    ensures { OnOk result (memory.new.items ≡ memory.old.items ++ flat_map (λ b. block_content b.body) blocks.now) }
+    ensures { OnOk result (memory.new.items
+        ≡ memory.old.items ++ flat_map (λ b. block_content b.body) blocks.now) }
 {
     'pushing: for block in blocks {
         if let Body::Code { payload, .. } | Body::Data { payload, .. } = block.body() {
@@ -81,8 +86,10 @@ fn push_content(memory: &mut Vec<u8>, blocks: &[Block<'_>]) -> Result<(), AllocE
 
 /// Adds the bases of all relocations of the blocks, in file order.
 fn relocate(memory: &mut [u8], blocks: &[Block<'_>], bases: &[u32])
-    requires { IsRelocatable (length memory.old) (length bases.now) (flat_map (λ b. block_relocations b.body) blocks.now) }
-    ensures { memory.new ≡ relocated bases.now memory.old (flat_map (λ b. block_relocations b.body) blocks.now) }
+    requires { IsRelocatable (length memory.old) (length bases.now)
+        (flat_map (λ b. block_relocations b.body) blocks.now) }
+    ensures { memory.new ≡ relocated bases.now memory.old
+        (flat_map (λ b. block_relocations b.body) blocks.now) }
 {
     'relocating: for block in blocks {
         if let Body::Reloc(groups) = block.body() {
@@ -93,8 +100,10 @@ fn relocate(memory: &mut [u8], blocks: &[Block<'_>], bases: &[u32])
 
 /// Adds the bases of all groups, in file order.
 fn relocate_groups(memory: &mut [u8], groups: &Groups<'_>, bases: &[u32])
-    requires { IsRelocatable (length memory.old) (length bases.now) (flat_map group_relocations (map group_of groups.now)) }
-    ensures { memory.new ≡ relocated bases.now memory.old (flat_map group_relocations (map group_of groups.now)) }
+    requires { IsRelocatable (length memory.old) (length bases.now)
+        (flat_map group_relocations (map group_of groups.now)) }
+    ensures { memory.new ≡ relocated bases.now memory.old
+        (flat_map group_relocations (map group_of groups.now)) }
 {
     'relocating: for number in 0..groups.len() {
         relocate_group(memory, groups.at(number), bases);
@@ -103,7 +112,8 @@ fn relocate_groups(memory: &mut [u8], groups: &Groups<'_>, bases: &[u32])
 
 /// Adds the base of the group's target at each of its offsets.
 fn relocate_group(memory: &mut [u8], group: &Group<'_>, bases: &[u32])
-    requires { IsRelocatable (length memory.old) (length bases.now) (group_relocations (group_of group.now)) }
+    requires { IsRelocatable (length memory.old) (length bases.now)
+        (group_relocations (group_of group.now)) }
     ensures { memory.new ≡ relocated bases.now memory.old (group_relocations (group_of group.now)) }
 {
     'relocating: for number in 0..group.offsets.len() {

@@ -32,7 +32,8 @@ impl LoadFile<'_> {
 /// The first two neighbours among rising offsets that are 1 to 3 apart.
 fn first_close(rising: &[u32]) -> Option<(u32, u32)>
     requires { IsNonDecreasing rising.now }
-    ensures { MatchOption result (AreApart rising.now) (λ pair. IsFirstOverlap rising.now pair.0 pair.1) }
+    ensures { MatchOption result (AreApart rising.now)
+        (λ pair. IsFirstOverlap rising.now pair.0 pair.1) }
 {
     for i in 1..rising.len() {
         let smaller = rising[i - 1];
@@ -46,7 +47,8 @@ fn first_close(rising: &[u32]) -> Option<(u32, u32)>
 
 /// Appends the offsets of all relocations of the blocks, in file order.
 fn push_hunk_offsets(rising: &mut Vec<u32>, blocks: &[Block<'_>]) -> Result<(), AllocError>
-    ensures { OnOk result (rising.new.items ≡ rising.old.items ++ offsets (flat_map (λ b. block_relocations b.body) blocks.now)) }
+    ensures { OnOk result (rising.new.items ≡ rising.old.items
+        ++ offsets (flat_map (λ b. block_relocations b.body) blocks.now)) }
 {
     'pushing: for block in blocks {
         if let Body::Reloc(groups) = block.body() {
@@ -58,7 +60,8 @@ fn push_hunk_offsets(rising: &mut Vec<u32>, blocks: &[Block<'_>]) -> Result<(), 
 
 /// Appends the offsets of all groups.
 fn push_offsets(rising: &mut Vec<u32>, groups: &Groups<'_>) -> Result<(), AllocError>
-    ensures { OnOk result (rising.new.items ≡ rising.old.items ++ offsets (flat_map group_relocations (map group_of groups.now))) }
+    ensures { OnOk result (rising.new.items ≡ rising.old.items
+        ++ offsets (flat_map group_relocations (map group_of groups.now))) }
 {
     'pushing: for number in 0..groups.len() {
         push_longs(rising, &groups.at(number).offsets)?;

@@ -5,7 +5,7 @@ ghost use Rattle.hunk_files.specs.Stages.{next_stage, next_of_block, next_inside
 use hunk_words::{BlockWord, Kind, SizeWord};
 
 /// The hunk that is open.
-#[derive(Clone, Copy, Debug, PartialEq, Eq)]
+#[derive(Clone, Copy)]
 pub(crate) struct OpenHunk {
     /// The number of hunks of the file.
     pub hunks: u32,
@@ -20,7 +20,7 @@ pub(crate) struct OpenHunk {
 }
 
 /// What the next longword of a block is for. A number tells how many more offsets follow the next.
-#[derive(Clone, Copy, Debug, PartialEq, Eq)]
+#[derive(Clone, Copy)]
 pub(crate) enum Inside {
     NameCount,
     LongCount,
@@ -35,7 +35,7 @@ pub(crate) enum Inside {
 
 /// What the next longword is for. In the table, the second number tells how many entries follow the
 /// next.
-#[derive(Clone, Copy, Debug, PartialEq, Eq)]
+#[derive(Clone, Copy)]
 pub(crate) enum Stage {
     FirstLong,
     ResidentName,
@@ -49,7 +49,7 @@ pub(crate) enum Stage {
 }
 
 /// What a longword leads to.
-#[derive(Clone, Copy, Debug, PartialEq, Eq)]
+#[derive(Clone, Copy)]
 pub(crate) enum Next {
     /// So many longwords that no test looks at, and then this stage.
     Goes(u32, Stage),

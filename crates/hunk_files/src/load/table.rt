@@ -20,7 +20,8 @@ const TABLE: usize = 5;
 /// The rows of the table, and the byte behind it. Each row is stored when it was read.
 pub(crate) fn read_table(alloc: Global, bytes: &[u8]) -> Result<(Vec<Row>, usize), FileFault>
     requires { BeginsWithLoadFile bytes.now }
-    ensures table { IfOk result (λ r. (file : BeginsWithLoadFile bytes.now) → IsTable bytes.now file r.0.items r.1) }
+    ensures table { IfOk result (λ r.
+        (file : BeginsWithLoadFile bytes.now) → IsTable bytes.now file r.0.items r.1) }
     ensures memory { IfErr result (λ fault. fault.reason ≡ reasons.OutOfMemory) }
 {
     let hunks = word_at(bytes, TABLE_SIZE) as usize;
@@ -39,9 +40,11 @@ pub(crate) fn read_table(alloc: Global, bytes: &[u8]) -> Result<(Vec<Row>, usize
 /// The row whose size word is the longword number `at`.
 fn row_at(bytes: &[u8], at: usize) -> Row
     requires word { 4 * at + 4 ≤ length bytes.now }
-    requires extra { IsTrue (has_both_bits (slice_index (longs bytes.now) at)) → 4 * at + 8 ≤ length bytes.now }
+    requires extra { IsTrue (has_both_bits (slice_index (longs bytes.now) at)) →
+        4 * at + 8 ≤ length bytes.now }
     ensures word { result.word ≡ slice_index (longs bytes.now) at }
-    ensures extra { result.extra ≡ (if has_both_bits (slice_index (longs bytes.now) at) then slice_index (longs bytes.now) (at + 1) else 0) }
+    ensures extra { result.extra ≡ (if has_both_bits (slice_index (longs bytes.now) at)
+        then slice_index (longs bytes.now) (at + 1) else 0) }
 {
     let word = word_at(bytes, at);
     let extra = if SizeWord::has_extra(word) {

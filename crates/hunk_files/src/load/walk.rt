@@ -10,9 +10,11 @@ use hunk_words::{FileFault, Reason, SizeWord, word_at};
 
 /// The number of bytes of the load file that the bytes begin with, or their first fault.
 ///
-/// It takes no memory. Payloads and names are passed over at once, as no test looks at their longwords.
+/// It takes no memory. Payloads and names are passed over at once, as no test looks at their
+/// longwords.
 pub(crate) fn walk(bytes: &[u8]) -> Result<usize, FileFault>
-    ensures { MatchResult result (λ size. HasLoadText bytes.now size) (λ fault. HasFault bytes.now fault.place fault.reason) }
+    ensures { MatchResult result (λ size. HasLoadText bytes.now size)
+        (λ fault. HasFault bytes.now fault.place fault.reason) }
 {
     let count = bytes.len() / 4;
     let mut stage = Stage::FirstLong;

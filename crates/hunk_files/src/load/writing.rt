@@ -11,7 +11,7 @@ ghost use Rattle.hunk_files.specs.Tables.{behind_first, row_texts, row_words};
 use crate::load::file::LoadFile;
 use crate::load::hunk::LoadHunk;
 use crate::row::Row;
-use hunk_blocks::Block;
+use crate::writing::put_blocks;
 use hunk_words::{LongWriter, Sink, SizeWord, WriteFault};
 
 /// The longword that a load file begins with.
@@ -26,8 +26,10 @@ impl LoadFile<'_> {
     /// answer the same.
     pub fn encode<W: Sink>(&self, writer: &mut LongWriter<W>) -> Result<(), WriteFault>
         requires { writer.old.written + length (bytes_of (text self.now)) < 2 ^ 64 }
-        ensures puts { Puts (W.taken writer.old.sink) (W.taken writer.new.sink) writer.old.written writer.new.written (bytes_of (text self.now)) }
-        ensures whole { OnOk result (writer.new.written ≡ writer.old.written + length (bytes_of (text self.now))) }
+        ensures puts { Puts (W.taken writer.old.sink) (W.taken writer.new.sink)
+            writer.old.written writer.new.written (bytes_of (text self.now)) }
+        ensures whole { OnOk result (writer.new.written
+            ≡ writer.old.written + length (bytes_of (text self.now))) }
         ensures told { IfErr result (λ fault. fault.written ≡ writer.new.written) }
         ensures failed { OnErr result (W.failed writer.new.sink ≡ true) }
         ensures stops { writer.new.stopped ≡ is_err result }
@@ -44,7 +46,8 @@ fn put_behind<W: Sink>(writer: &mut LongWriter<W>, hunks: &[LoadHunk<'_>]) -> Re
     requires some { 0 < length hunks.now }
     requires most { length hunks.now ≤ 65536 }
     requires room { writer.old.written + length (bytes_of (behind_first hunks.now)) < 2 ^ 64 }
-    ensures { Writes W.taken W.failed writer.old writer.new result (bytes_of (behind_first hunks.now)) }
+    ensures { Writes W.taken W.failed writer.old writer.new result
+        (bytes_of (behind_first hunks.now)) }
 {
     let count = hunks.len() as u32;
     put_longs(writer, &[0, count, 0, count - 1])?;
@@ -55,7 +58,8 @@ fn put_behind<W: Sink>(writer: &mut LongWriter<W>, hunks: &[LoadHunk<'_>]) -> Re
 fn put_longs<W: Sink>(writer: &mut LongWriter<W>, longs: &[u32]) -> Result<(), WriteFault>
     requires running { writer.old.stopped ≡ false }
     requires room { writer.old.written + length (bytes_of longs.now) < 2 ^ 64 }
-    ensures { Writes W.taken W.failed writer.old writer.new result (bytes_of longs.now) }
+    ensures { Writes W.taken W.failed writer.old writer.new result
+        (bytes_of longs.now) }
 {
     'putting: for long in longs {
         writer.put_long(*long)?;
@@ -67,7 +71,8 @@ fn put_longs<W: Sink>(writer: &mut LongWriter<W>, longs: &[u32]) -> Result<(), W
 fn put_table<W: Sink>(writer: &mut LongWriter<W>, hunks: &[LoadHunk<'_>]) -> Result<(), WriteFault>
     requires running { writer.old.stopped ≡ false }
     requires room { writer.old.written + length (bytes_of (row_texts hunks.now)) < 2 ^ 64 }
-    ensures { Writes W.taken W.failed writer.old writer.new result (bytes_of (row_texts hunks.now)) }
+    ensures { Writes W.taken W.failed writer.old writer.new result
+        (bytes_of (row_texts hunks.now)) }
 {
     'putting: for hunk in hunks {
         put_row(writer, &hunk.row)?;
@@ -78,7 +83,8 @@ fn put_table<W: Sink>(writer: &mut LongWriter<W>, hunks: &[LoadHunk<'_>]) -> Res
 /// A size word, and the memory attributes where they follow it.
 fn put_row<W: Sink>(writer: &mut LongWriter<W>, row: &Row) -> Result<(), WriteFault>
     requires { writer.old.written + length (bytes_of (row_words row.now)) < 2 ^ 64 }
-    ensures { Writes W.taken W.failed writer.old writer.new result (bytes_of (row_words row.now)) }
+    ensures { Writes W.taken W.failed writer.old writer.new result
+        (bytes_of (row_words row.now)) }
 {
     writer.put_long(row.word)?;
     if SizeWord::has_extra(row.word) {
@@ -90,22 +96,13 @@ fn put_row<W: Sink>(writer: &mut LongWriter<W>, row: &Row) -> Result<(), WriteFa
 /// The blocks of all hunks.
 fn put_hunks<W: Sink>(writer: &mut LongWriter<W>, hunks: &[LoadHunk<'_>]) -> Result<(), WriteFault>
     requires running { writer.old.stopped ≡ false }
-    requires room { writer.old.written + length (bytes_of (flat_map (λ h. block_texts h.blocks.items) hunks.now)) < 2 ^ 64 }
-    ensures { Writes W.taken W.failed writer.old writer.new result (bytes_of (flat_map (λ h. block_texts h.blocks.items) hunks.now)) }
+    requires room { writer.old.written
+        + length (bytes_of (flat_map (λ h. block_texts h.blocks.items) hunks.now)) < 2 ^ 64 }
+    ensures { Writes W.taken W.failed writer.old writer.new result
+        (bytes_of (flat_map (λ h. block_texts h.blocks.items) hunks.now)) }
 {
     'putting: for hunk in hunks {
         put_blocks(writer, &hunk.blocks)?;
-    }
-    Ok(())
-}
-
-fn put_blocks<W: Sink>(writer: &mut LongWriter<W>, blocks: &[Block<'_>]) -> Result<(), WriteFault>
-    requires running { writer.old.stopped ≡ false }
-    requires room { writer.old.written + length (bytes_of (block_texts blocks.now)) < 2 ^ 64 }
-    ensures { Writes W.taken W.failed writer.old writer.new result (bytes_of (block_texts blocks.now)) }
-{
-    'putting: for block in blocks {
-        block.encode(writer)?;
     }
     Ok(())
 }

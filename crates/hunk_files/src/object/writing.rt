@@ -11,20 +11,9 @@ ghost use Rattle.hunk_files.specs.ObjectFile.{object_text, unit_header, unit_tex
 use crate::object::file::ObjectFile;
 use crate::object::refusal::UNIT;
 use crate::object::unit::{Hunk, Unit};
-use hunk_blocks::{Block, Payload};
+use crate::writing::put_blocks;
+use hunk_blocks::Payload;
 use hunk_words::{LongWriter, Sink, WriteFault};
-
-/// The blocks, one after the other.
-fn put_blocks<W: Sink>(writer: &mut LongWriter<W>, blocks: &[Block<'_>]) -> Result<(), WriteFault>
-    requires running { writer.old.stopped ≡ false }
-    requires room { writer.old.written + length (bytes_of (flat_map block_text blocks.now)) < 2 ^ 64 }
-    ensures { Writes W.taken W.failed writer.old writer.new result (bytes_of (flat_map block_text blocks.now)) }
-{
-    'writing: for block in blocks {
-        block.encode(writer)?;
-    }
-    Ok(())
-}
 
 /// The blocks of the hunks.
 fn put_hunks<W: Sink>(writer: &mut LongWriter<W>, hunks: &[Hunk<'_>]) -> Result<(), WriteFault>

@@ -9,7 +9,7 @@ use std::io::{BufRead, Empty, Lines, Read, Seek, SeekFrom, Write};
 use std::rt::Files;
 
 /// A runtime whose standard input and whose files all give the same bytes, and where `fails` is set
-/// fail once those are given. The file `missing` can't be opened.
+/// fail once those are given. The file `missing` can't be opened, and the file `full` takes 6 bytes.
 #[derive(Drop)]
 pub(super) struct Made<'a> {
     pub bytes: &'a [u8],
@@ -21,6 +21,7 @@ pub(super) struct Made<'a> {
 pub(super) struct Tape<'a> {
     rest: &'a [u8],
     fails: bool,
+    room: usize,
 }
 
 fn unsupported<T: Drop>() -> io::Result<T>
@@ -54,8 +55,10 @@ impl BufRead for Tape<'_> {
 }
 
 impl Write for Tape<'_> {
-    fn write(&mut self, _buf: &[u8]) -> io::Result<usize> {
-        unsupported()
+    fn write(&mut self, buf: &[u8]) -> io::Result<usize> {
+        let count = buf.len().min(self.room);
+        self.room -= count;
+        Ok(count)
     }
 
     fn flush(&mut self) -> io::Result<()> {
@@ -97,7 +100,11 @@ impl<'a> Files for Made<'a> {
         if path == "missing" {
             return unsupported();
         }
-        Ok(self.reader())
+        let mut tape = self.reader();
+        if path == "full" {
+            tape.room = 6;
+        }
+        Ok(tape)
     }
 
     fn open_dir(&self, _path: &str) -> io::Result<Empty> {
@@ -152,6 +159,7 @@ impl<'a> Input for Made<'a> {
         Tape {
             rest: self.bytes,
             fails: self.fails,
+            room: usize::MAX,
         }
     }
 }

@@ -13,6 +13,10 @@ const EXAMPLE: &str = "000003F3 00000000 00000001 00000000 00000000 00000001\n\
 
 const ANY: usize = usize::MAX;
 
+/// An object file with a relocation whose target is no hunk, and whose offset is past the end.
+const OBJECT: &str = "000003E7 00000000 000003E9 00000001 00000000\n\
+    000003EC 00000001 00000001 00000002 00000000 000003F2\n";
+
 // Runs these words, apart by spaces, with a standard output that takes `room` bytes.
 fn ran(alloc: Global, made: &Made<'_>, room: usize, line: &str) -> Result<(u8, String), Fail> {
     let mut words = Vec::new(alloc);
@@ -160,6 +164,10 @@ fn reading_fails(rt: HostRuntime) -> Result<(), Fail> {
 fn writing_fails(rt: HostRuntime) -> Result<(), Fail> {
     for (input, line) in [
         (EXAMPLE, "hunkinfo"),
+        (EXAMPLE, "hunkinfo show --hex"),
+        (EXAMPLE, "hunkinfo validate --hex"),
+        (OBJECT, "hunkinfo validate --hex"),
+        (EXAMPLE, "hunkinfo rewrite a b"),
         ("000", "hunkinfo"),
         ("", "hunkinfo relocate --base 00000000 missing"),
         ("", "hunkinfo --help"),
@@ -235,6 +243,91 @@ fn helps(rt: HostRuntime) -> Result<(), Fail> {
         for part in parts {
             assert!(rt; text.contains(*part), "{part} at {line}");
         }
+    }
+    Ok(())
+}
+
+#[test]
+fn lists(rt: HostRuntime) -> Result<(), Fail> {
+    let listing = "load file 1 hunks 4 bytes\nhunk 0 4 bytes any\n  CODE 4 bytes\n  END\n";
+    let findings = "unit 0 hunk 0 offset 0x00000002 BadTarget\n\
+        unit 0 hunk 0 offset 0x00000002 OutsideHunk\nobject file 1 units 2 findings\n";
+    let checked = "load file 1 hunks 4 bytes\n";
+    for (input, line, want, status_wanted) in [
+        (EXAMPLE, "hunkinfo show --hex", listing, 0),
+        (EXAMPLE, "hunkinfo show --hex a", listing, 0),
+        (EXAMPLE, "hunkinfo validate --hex", checked, 0),
+        (OBJECT, "hunkinfo validate --hex a", findings, 1),
+        (
+            "",
+            "hunkinfo show a",
+            "refused at byte 0: Truncated (26)\n",
+            1,
+        ),
+        (
+            "",
+            "hunkinfo validate",
+            "refused at byte 0: Truncated (26)\n",
+            1,
+        ),
+        ("0", "hunkinfo show --hex", "hex text refused\n", 1),
+        ("", "hunkinfo show missing", "reading failed at byte 0\n", 3),
+    ] {
+        let (status, text) = ran(rt.alloc(), &giving(input.as_bytes()), ANY, line)?;
+        assert_eq!(rt; text.as_str(), want, "at {line}");
+        assert_eq!(rt; status, status_wanted, "at {line}");
+    }
+    Ok(())
+}
+
+#[test]
+fn rewrites(rt: HostRuntime) -> Result<(), Fail> {
+    let mut bytes = unhex(rt.alloc(), EXAMPLE.as_bytes())?;
+    for (line, want, status_wanted) in [
+        ("hunkinfo rewrite a b", "wrote 40 bytes\n", 0),
+        ("hunkinfo rewrite --strip a b", "wrote 40 bytes\n", 0),
+        (
+            "hunkinfo rewrite missing b",
+            "reading failed at byte 0\n",
+            3,
+        ),
+        (
+            "hunkinfo rewrite a missing",
+            "writing failed after 0 bytes\n",
+            3,
+        ),
+        (
+            "hunkinfo rewrite a full",
+            "writing failed after 6 bytes\n",
+            3,
+        ),
+    ] {
+        let (status, text) = ran(rt.alloc(), &giving(bytes.as_slice()), ANY, line)?;
+        assert_eq!(rt; text.as_str(), want, "at {line}");
+        assert_eq!(rt; status, status_wanted, "at {line}");
+    }
+    bytes.extend_from_slice(&[0; 7])?;
+    let made = giving(bytes.as_slice());
+    let (status, text) = ran(rt.alloc(), &made, ANY, "hunkinfo rewrite a b")?;
+    assert_eq!(rt; text.as_str(), "wrote 40 bytes\nrest 7 bytes left out\n");
+    assert_eq!(rt; status, 0);
+    Ok(())
+}
+
+// A fault of the input comes before any of the output, which is not opened then.
+#[test]
+fn refuses_before_opening_the_output(rt: HostRuntime) -> Result<(), Fail> {
+    for (input, want) in [
+        (
+            b"\0\0\x03\xF3".as_slice(),
+            "refused at byte 4: Truncated (26)\n",
+        ),
+        (b"\0\0\x03\xE9", "refused at byte 0: NotLoadFile (1)\n"),
+    ] {
+        let made = giving(input);
+        let (status, text) = ran(rt.alloc(), &made, ANY, "hunkinfo rewrite a missing")?;
+        assert_eq!(rt; text.as_str(), want);
+        assert_eq!(rt; status, 1);
     }
     Ok(())
 }

@@ -1,4 +1,4 @@
-use Rattle.std.proofs.Common.{◌≡◌, ◌≤◌, length, arith, ◌∙◌, ap, List, ◌++◌}
+use Rattle.std.proofs.Common.{◌≤◌, length, arith, ◌∙◌, ap, List, ◌++◌}
 use Rattle.hunk_blocks.specs.Views.{entry_of}
 use Rattle.hunk_files.specs.Findings.{FindingValue, entry_findings}
 use Rattle.hunk_files.proofs.FindingSteps.{found_told, found_all, flat_map-map}

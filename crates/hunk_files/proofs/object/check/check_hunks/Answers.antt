@@ -1,6 +1,6 @@
-use Rattle.std.proofs.Common.{◌≡◌, ◌<◌, ◌^◌, ◌++◌, List, length, arith, ap, sym, subst, ◌∙◌, ℕ}
+use Rattle.std.proofs.Common.{◌<◌, ◌^◌, ◌++◌, length, arith, ap, sym, subst, ◌∙◌, ℕ}
 use Rattle.hunk_files.specs.ObjectFile.{ObjectHunk}
-use Rattle.hunk_files.specs.Findings.{Spot, FindingValue, hunk_bytes, hunk_findings}
+use Rattle.hunk_files.specs.Findings.{Spot, hunk_bytes, hunk_findings}
 use Rattle.hunk_files.proofs.FindingSteps.{hunk_bytes_fit, hunks_more}
 use Rattle.hunk_files.proofs.object.check.check_hunks.Goals as goal
 

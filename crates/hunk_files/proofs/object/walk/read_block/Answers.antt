@@ -1,9 +1,7 @@
-use Rattle.std.proofs.Common.{refl, ◌≡◌, None, sym, ap, ◌∙◌, arith, ℕ}
+use Rattle.std.proofs.Common.{refl, sym, ap, ◌∙◌, arith}
 use Rattle.hunk_words.specs.declared.block_word.Kind.{Kind}
-use Rattle.hunk_words.specs.Longs.{IsBytes}
-use Rattle.hunk_words.specs.Bits.{kind}
 use Rattle.hunk_files.specs.ObjectParts.{refuse_standing, standing_of_kind}
-use Rattle.hunk_files.proofs.ObjectDecoding.{stands, no_place, no_block, ok_of, err_of, err_both, place_own, block_own}
+use Rattle.hunk_files.proofs.ObjectDecoding.{stands, no_block, ok_of, err_of, err_both, place_own, block_own}
 use Rattle.hunk_files.proofs.object.walk.read_block.Goals as goal
 
 pub returns-in-Some-clause-own : goal.returns-in-Some-clause-own

@@ -1,5 +1,4 @@
 use Rattle.std.proofs.Common.{◌≡◌, ◌+◌, ◌*◌, sym, ◌∙◌, arith, rules}
-use Rattle.hunk_words.specs.Longs.{IsBytes}
 use Rattle.hunk_files.specs.ObjectFile.{unit_word}
 use Rattle.hunk_files.proofs.UnitReading.{name_fits, header_begins, no_header}
 use Rattle.hunk_files.proofs.object.walk.read_header.Goals as goal

@@ -1,4 +1,4 @@
-use Rattle.std.proofs.Common.{◌≡◌, ◌∷◌, [], ◌++◌, ◌∙◌, ◌/◌, ◌+◌, ℕ, List, ap, sym, subst, length, arith}
+use Rattle.std.proofs.Common.{◌≡◌, ◌∷◌, ◌∙◌, ◌/◌, ◌+◌, ℕ, List, ap, sym, subst, length, arith}
 use Rattle.hunk_words.specs.Longs.{bytes_of, longs}
 use Rattle.hunk_words.proofs.LongLaws.{bytes_of-cons, length-bytes_of, length-longs}
 use Rattle.hunk_blocks.proofs.TextBytes.{first_bytes}

@@ -1,4 +1,4 @@
-use Rattle.std.proofs.Common.{◌+◌, ◌≡◌, ◌<◌, ◌≤◌, ◌^◌, List, ℕ, length, arith, sym, ap, subst}
+use Rattle.std.proofs.Common.{◌+◌, ◌<◌, ◌^◌, List, length, arith, sym, subst}
 use Rattle.hunk_words.specs.Longs.{bytes_of}
 use Rattle.std.specs.List.{flat_map}
 use Rattle.hunk_blocks.specs.Values.{BlockValue}

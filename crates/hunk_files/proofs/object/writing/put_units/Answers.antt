@@ -1,5 +1,4 @@
-use Rattle.std.proofs.Common.{◌≡◌, ◌<◌, ◌≤◌, ◌^◌, List, ℕ, length, arith, sym, ap, subst}
-use Rattle.hunk_words.specs.Longs.{bytes_of}
+use Rattle.std.proofs.Common.{◌^◌, arith}
 use Rattle.hunk_files.specs.ObjectFile.{unit_text}
 use Rattle.hunk_files.proofs.ObjectWriting.{some_none, some_next, some_written, next_room, next_running, next_stops}
 use Rattle.hunk_files.proofs.object.writing.put_units.Goals as goal

@@ -1,7 +1,7 @@
-use Rattle.std.proofs.Common.{◌≡◌, ◌+◌, ◌∙◌, List, [], ◌∷◌, ◌++◌, ℕ, arith, rules, sym, ap, subst, drop}
+use Rattle.std.proofs.Common.{◌≡◌, ◌+◌, ◌∙◌, List, [], ◌∷◌, ◌++◌, ℕ, arith, rules, sym, subst, drop}
 use Rattle.std.proofs.lemmas.List.{take_rest}
 use Rattle.hunk_words.specs.Longs.{bytes_of}
-use Rattle.hunk_files.specs.ObjectFile.{IsNoObjectFile, ObjectFileValue, IsObjectFile, unit_text, object_text}
+use Rattle.hunk_files.specs.ObjectFile.{IsNoObjectFile, ObjectFileValue, unit_text, object_text}
 use Rattle.hunk_files.specs.ObjectParts.{BeginsWithText, EndsUnit}
 use Rattle.hunk_files.proofs.UnitReading.{UnitsSoFar, no_units, no_more_units, unit_added, unit_goes_on, units_inside, all_text}
 use Rattle.hunk_files.proofs.object.file.ObjectFile.decode.Goals as goal

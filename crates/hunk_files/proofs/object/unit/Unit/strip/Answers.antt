@@ -1,6 +1,6 @@
-use Rattle.std.proofs.Common.{◌≡◌, List, sym, subst, ap, map}
+use Rattle.std.proofs.Common.{List, sym, subst}
 use Rattle.hunk_words.specs.Longs.{longs}
-use Rattle.hunk_files.specs.ObjectFile.{ObjectHunk, UnitValue, IsUnit}
+use Rattle.hunk_files.specs.ObjectFile.{ObjectHunk, IsUnit}
 use Rattle.hunk_files.proofs.StripSteps.{unit_kept}
 use Rattle.hunk_files.proofs.object.unit.Unit.strip.Goals as goal
 

@@ -1,0 +1,67 @@
+-- Behind the header no longword has the role of a size word, and before its end none is refused that a header has there.
+use Rattle.std.proofs.Common.{◌≡◌, ℕ, List, [], ◌∷◌, ◌++◌, length, sym, ap, subst, ◌∙◌, append_assoc, None}
+use Rattle.std.proofs.lemmas.List.{map-append}
+use Rattle.hunk_files.specs.Fault.{Expects}
+use Rattle.hunk_files.specs.LoadFile.{TableEntry}
+use Rattle.hunk_files.specs.LoadText.{words, text}
+use Rattle.hunk_files.specs.Roles.{Role, Role as roles, refuse}
+use Rattle.hunk_files.proofs.FileSteps.{Progress, AtFirst, AtBlock, InBody, Next, More, Finished, open_hunk, role_of, step, Leads}
+use Rattle.hunk_files.proofs.Reading.{HasRead, read_passes}
+use Rattle.hunk_files.proofs.Runs.{Labelled, Leads-split, Leads-same}
+use Rattle.hunk_files.proofs.Scan.{expected_place, expects_of, words_split, one_role}
+use Rattle.hunk_scatter.specs.Headers.{IsTable, header_words}
+use Rattle.hunk_scatter.specs.Loading.{IsBehindHeader}
+use Rattle.hunk_scatter.specs.Standing.{IsInBody}
+use Rattle.hunk_scatter.proofs.Forget.{step_behind}
+use Rattle.hunk_scatter.proofs.HeaderTexts.{header_read}
+use Rattle.hunk_scatter.proofs.Outcomes.{begins_file}
+
+behind_leads : (n : Next) → IsBehindHeader n → (ls : Labelled) (p : Progress) → Leads n ls (More p) → IsInBody p
+behind_leads n b [] p run = subst IsBehindHeader run b
+behind_leads (More q) b (l ∷ ls) p run = behind_leads (step q l.1) (step_behind q l.1 b) ls p run.1
+behind_leads (Finished v) b (l ∷ ls) p run = absurd run
+
+-- What follows a header is read in the body.
+pub stays_behind : (ws more : List ℕ) (n : Next) (p : Progress) → HasRead ws n → IsBehindHeader n → HasRead (ws ++ more) (More p) → IsInBody p
+stays_behind ws more n p h b k =
+    let s = words_split k.done ws more k.all in
+    let cut = Leads-split (More AtFirst) (More p) s.front s.back (subst (λ (ls : Labelled). Leads (More AtFirst) ls (More p)) s.split k.run) in
+    let same = Leads-same (More AtFirst) cut.0 n s.front h.done cut.1 h.run (s.front_words ∙ sym h.all) in
+    behind_leads n b s.back p (subst (λ (m : Next). Leads m s.back (More p)) same.1 cut.2)
+
+in_block : (p : Progress) → IsInBody p → role_of p ≡ roles.SizeWord → ⊥
+in_block (AtBlock o) b e = cc
+in_block (InBody o word x) b e = cc
+in_block _ b e = absurd b
+
+pub no_size_word : (ws more : List ℕ) (n : Next) → HasRead ws n → IsBehindHeader n → Expects (ws ++ more) roles.SizeWord → ⊥
+no_size_word ws more n h b e =
+    let place = expected_place (ws ++ more) roles.SizeWord e in
+    in_block place.0
+    (stays_behind ws more n place.0 h b (record { done = e.done; run = place.1.run; reads = place.1.reads; accepted = place.1.accepted; all = e.begins }))
+    place.1.role_is
+
+pub table_behind : (t : List TableEntry) → IsTable t → IsBehindHeader (open_hunk (length t) [] t)
+table_behind [] h = tt
+table_behind (e ∷ t) h = tt
+
+-- ---- longwords that pass
+
+expected_text : (before : List ℕ) (role : Role) (e : Expects before role) → text e.value ≡ before ++ e.word ∷ words e.more
+expected_text before role e =
+    ap words e.labels ∙ map-append (λ (x : Role × ℕ). x.1) e.done ((role, e.word) ∷ e.more) ∙ ap (λ (xs : List ℕ). xs ++ e.word ∷ words e.more) e.begins
+
+-- A longword that a load text has here is not refused.
+pub expected_passes : (ws : List ℕ) (p : Progress) (w : ℕ) (more : List ℕ) (role : Role) → HasRead ws (More p) → Expects (ws ++ w ∷ more) role → refuse (role_of p) w ≡ None
+expected_passes ws p w more role h e =
+    read_passes ws p h e.value e.is_load_file w (more ++ e.word ∷ words e.more) (expected_text (ws ++ w ∷ more) role e ∙ append_assoc ws (w ∷ more) (e.word ∷ words e.more))
+
+-- Nor is one that a header has here.
+pub header_passes : (t : List TableEntry) → IsTable t → (ws : List ℕ) (p : Progress) (w : ℕ) (more : List ℕ) → HasRead ws (More p) → header_words t ≡ ws ++ w ∷ more → refuse (role_of p) w ≡ None
+header_passes t is ws p w more h e =
+    let b = begins_file (header_words t) (open_hunk (length t) [] t) (header_read t is) in
+    read_passes ws p h b.value b.is_load_file w (more ++ b.more) (b.begins ∙ ap (λ (xs : List ℕ). xs ++ b.more) e ∙ append_assoc ws (w ∷ more) b.more)
+
+-- The role here is the one that is expected.
+pub role_here : (ws : List ℕ) (p : Progress) (role : Role) → HasRead ws (More p) → Expects ws role → role_of p ≡ role
+role_here ws p role h e = one_role ws (role_of p) role (subst (λ (xs : List ℕ). Expects xs (role_of p)) h.all (expects_of p h.done h.reads)) e

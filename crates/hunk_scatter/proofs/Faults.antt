@@ -1,0 +1,58 @@
+-- Faults of bytes that go on.
+use Rattle.std.proofs.Common.{◌≡◌, ℕ, suc, ◌<◌, List, [], ◌∷◌, ◌++◌, length, take, drop, get_or, refl, sym, ap, ap₂, subst, ◌∙◌, append_assoc, append-nil, drop-cons, take-append-drop, ◌⊎◌, inl, inr}
+use Rattle.std.specs.Int.{w32, from_be_bytes}
+use Rattle.hunk_words.specs.declared.reason.Reason.{Reason}
+use Rattle.hunk_words.specs.Longs.{longs, bytes_of}
+use Rattle.hunk_files.specs.Fault.{HasRefusal}
+use Rattle.hunk_files.specs.LoadText.{text}
+use Rattle.hunk_files.proofs.Scan.{no_fault}
+use Rattle.hunk_scatter.specs.Loaders.{MayGoOn}
+
+pub longs-more : (bytes more : List ℕ) → (rest : List ℕ) × (longs (bytes ++ more) ≡ longs bytes ++ rest)
+longs-more [] more = (longs more, refl)
+longs-more (a ∷ []) more = (longs (a ∷ more), refl)
+longs-more (a ∷ b ∷ []) more = (longs (a ∷ b ∷ more), refl)
+longs-more (a ∷ b ∷ c ∷ []) more = (longs (a ∷ b ∷ c ∷ more), refl)
+longs-more (a ∷ b ∷ c ∷ d ∷ bytes) more =
+    let r = longs-more bytes more in
+    (r.0, ap (λ (xs : List ℕ). from_be_bytes w32 (a ∷ b ∷ c ∷ d ∷ []) ∷ xs) r.1)
+
+-- A refusal stays one as bytes follow.
+pub refusal_more : (bytes more : List ℕ) (at : ℕ) (reason : Reason) → HasRefusal bytes at reason → HasRefusal (bytes ++ more) at reason
+refusal_more bytes more at reason h =
+    let r = longs-more bytes more in
+    record {
+      before = h.before;
+      word = h.word;
+      after = h.after ++ r.0;
+      role = h.role;
+      split = r.1 ∙ ap (λ (xs : List ℕ). xs ++ r.0) h.split ∙ append_assoc h.before (h.word ∷ h.after) r.0;
+      place = h.place;
+      expects = h.expects;
+      refuses = h.refuses;
+    }
+
+-- Bytes that go on to a load file, or begin with one, have no refusal.
+pub no_refusal_on : (bytes : List ℕ) (at : ℕ) (reason : Reason) → MayGoOn bytes → HasRefusal bytes at reason → ⊥
+no_refusal_on bytes at reason m h = go m.fits
+  where
+    go : (bytes_of (text m.value) ≡ bytes ++ m.more) ⊎ (bytes ≡ bytes_of (text m.value) ++ m.more) → ⊥
+    go (inl e) =
+        no_fault (bytes ++ m.more) at reason (record { value = m.value; is_load_file = m.is_load_file; rest = []; split = sym e ∙ sym (append-nil (bytes_of (text m.value))) })
+        (inl (refusal_more bytes m.more at reason h))
+    go (inr e) = no_fault bytes at reason (record { value = m.value; is_load_file = m.is_load_file; rest = m.more; split = e }) (inl h)
+
+-- A piece around one of its bytes.
+pub byte_split : (fed piece front : List ℕ) (i : ℕ) → i < length piece → front ≡ fed ++ take i piece → fed ++ piece ≡ (front ++ get_or piece i 0 ∷ []) ++ drop (suc i) piece
+byte_split fed piece front i less e =
+    sym
+    (append_assoc front (get_or piece i 0 ∷ []) (drop (suc i) piece)
+    ∙ ap₂ (λ (xs ys : List ℕ). xs ++ ys) e (sym (drop-cons piece i 0 less))
+    ∙ append_assoc fed (take i piece) (drop i piece)
+    ∙ ap (λ (xs : List ℕ). fed ++ xs) (take-append-drop i piece))
+
+-- A refusal at a byte of a piece is one of all that was fed and the piece.
+pub refused_in : (fed piece front : List ℕ) (i at : ℕ) (reason : Reason) → i < length piece → front ≡ fed ++ take i piece → HasRefusal (front ++ get_or piece i 0 ∷ []) at reason → HasRefusal (fed ++ piece) at reason
+refused_in fed piece front i at reason less e h =
+    subst (λ (bs : List ℕ). HasRefusal bs at reason) (sym (byte_split fed piece front i less e))
+    (refusal_more (front ++ get_or piece i 0 ∷ []) (drop (suc i) piece) at reason h)

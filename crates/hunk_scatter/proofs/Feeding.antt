@@ -1,0 +1,125 @@
+-- What was wanted is consumed whole, and goes past no end.
+use Rattle.std.proofs.Common.{◌≡◌, ℕ, suc, ◌+◌, ◌<◌, ◌≤◌, List, [], ◌∷◌, ◌++◌, length, take, refl, sym, ap, subst, ◌∙◌, append_assoc, append-nil, length-append, length-take, arith, Option, ◌⊎◌, inl, inr}
+use Rattle.std.proofs.lemmas.List.{take_all}
+use Rattle.std.proofs.KnownBytes.{Consumes-trans}
+use Rattle.std.specs.Io.KnownBytes.{Consumes}
+use Rattle.hunk_words.specs.Longs.{bytes_of, IsBytes}
+use Rattle.hunk_files.specs.Fault.{IsTruncated}
+use Rattle.hunk_files.specs.LoadFile.{TableEntry, LoadFileValue, IsLoadFile}
+use Rattle.hunk_files.specs.LoadText.{text}
+use Rattle.hunk_files.specs.declared.row.Row.{Row}
+use Rattle.hunk_scatter.specs.Headers.{IsTable, IsHeader, header_bytes, IsInHeader, BeginsHeader, IsHeaderFault, IsHeaderFaultBy}
+use Rattle.hunk_words.specs.declared.fault.Fault.{Fault}
+use Rattle.hunk_words.specs.declared.reason.Reason.{Reason}
+use Rattle.hunk_words.specs.declared.reason.Reason.TheVariants as reasons
+use Rattle.hunk_scatter.specs.Loaders.{IsWholeFile}
+use Rattle.hunk_scatter.specs.Loads.{Gives, IsWithinHeader, IsWithinFile}
+
+nothing : (xs : List ℕ) → length xs ≤ 0 → xs ≡ []
+nothing [] le = refl
+nothing (x ∷ xs) le = absurd (omega (arith, le))
+
+no_less : (m n : ℕ) → (m < n → ⊥) → n ≤ m
+no_less m n h = omega (arith, h)
+
+-- the second front of a list is within the first, or goes on behind it
+pub fronts_of : (xs cs ys bs : List ℕ) → xs ++ cs ≡ ys ++ bs → ((m : List ℕ) × (xs ≡ ys ++ m) × (m ++ cs ≡ bs)) ⊎ ((m : List ℕ) × (ys ≡ xs ++ m) × (cs ≡ m ++ bs))
+fronts_of [] cs ys bs e = inr (ys, refl, e)
+fronts_of (x ∷ xs) cs [] bs e = inl (x ∷ xs, refl, e)
+fronts_of (x ∷ xs) cs (y ∷ ys) bs e =
+    let head : x ≡ y = cc in
+    let tail : xs ++ cs ≡ ys ++ bs = cc in
+    go head (fronts_of xs cs ys bs tail)
+  where
+    go : x ≡ y → ((m : List ℕ) × (xs ≡ ys ++ m) × (m ++ cs ≡ bs)) ⊎ ((m : List ℕ) × (ys ≡ xs ++ m) × (cs ≡ m ++ bs)) →
+        ((m : List ℕ) × (x ∷ xs ≡ (y ∷ ys) ++ m) × (m ++ cs ≡ bs)) ⊎ ((m : List ℕ) × (y ∷ ys ≡ (x ∷ xs) ++ m) × (cs ≡ m ++ bs))
+    go h (inl (m, p, q)) = inl (m, (λ i. h i ∷ p i), q)
+    go h (inr (m, p, q)) = inr (m, (λ i. (sym h) i ∷ p i), q)
+
+-- ---- a piece of a source
+
+pub gives_more : (a b c : Option (List ℕ)) (limit : ℕ) (fed piece after : List ℕ) → Gives a b limit fed → Consumes b c piece → length fed + length piece ≤ limit → after ≡ fed ++ piece → Gives a c limit after
+gives_more a b c limit fed piece after g k le e =
+    subst (Gives a c limit) (sym e)
+    (record { consumed = Consumes-trans a b c fed piece g.consumed k; within = omega (arith, le, length-append fed piece) })
+
+pub gives_none : (a b c : Option (List ℕ)) (limit : ℕ) (fed : List ℕ) → Gives a b limit fed → Consumes b c [] → Gives a c limit fed
+gives_none a b c limit fed g k =
+    record { consumed = subst (Consumes a c) (append-nil fed) (Consumes-trans a b c fed [] g.consumed k); within = g.within }
+
+-- ---- in a header
+
+module _ (fed piece : List ℕ) (want : ℕ) (least : (t : List TableEntry) (more : List ℕ) → IsTable t → header_bytes t ≡ fed ++ more → want ≤ length more) (fits : length piece ≤ want) where
+  pub header_fed : (after : List ℕ) (m : ℕ) → m ≤ length piece → after ≡ fed ++ take m piece → (m < length piece → IsHeader after) → after ≡ fed ++ piece
+  header_fed after m le is all =
+      let whole : length piece ≤ m = no_less m (length piece) (λ lt. short (all lt) lt) in
+      is ∙ ap (λ (xs : List ℕ). fed ++ xs) (take_all m piece whole)
+    where
+      short : IsHeader after → m < length piece → ⊥
+      short (t, ok, e) lt =
+          let far : want ≤ length (take m piece) = least t (take m piece) ok (sym e ∙ is) in
+          omega (arith, length-take m piece, far)
+
+  pub header_within_more : 0 < want → (IsHeader fed → want ≡ 0) → IsWithinHeader fed → IsWithinHeader (fed ++ piece)
+  header_within_more some over w t more ok e = go (fronts_of fed piece (header_bytes t) more e)
+    where
+      go : ((m : List ℕ) × (fed ≡ header_bytes t ++ m) × (m ++ piece ≡ more)) ⊎ ((m : List ℕ) × (header_bytes t ≡ fed ++ m) × (piece ≡ m ++ more)) → more ≡ []
+      go (inl (m, p, q)) =
+          let whole : fed ≡ header_bytes t = p ∙ ap (λ (xs : List ℕ). header_bytes t ++ xs) (w t m ok p) ∙ append-nil (header_bytes t) in
+          let none = over (t, ok, whole) in
+          absurd (omega (arith, none, some))
+      go (inr (m, p, q)) =
+          let far = least t m ok p in
+          nothing more (omega (arith, far, ap length q, length-append m more))
+
+-- ---- in a file
+
+module _ (fed piece : List ℕ) (want : ℕ) (least : (v : LoadFileValue) (more : List ℕ) → IsLoadFile v → bytes_of (text v) ≡ fed ++ more → want ≤ length more) (fits : length piece ≤ want) where
+  pub file_fed : (rows : List Row) (after : List ℕ) (m : ℕ) → m ≤ length piece → after ≡ fed ++ take m piece → (m < length piece → IsWholeFile rows after) → after ≡ fed ++ piece
+  file_fed rows after m le is all =
+      let whole : length piece ≤ m = no_less m (length piece) (λ lt. short (all lt) lt) in
+      is ∙ ap (λ (xs : List ℕ). fed ++ xs) (take_all m piece whole)
+    where
+      short : IsWholeFile rows after → m < length piece → ⊥
+      short w lt =
+          let far : want ≤ length (take m piece) = least w.0 (take m piece) w.1.is_load_file (w.1.bytes_are ∙ is) in
+          omega (arith, length-take m piece, far)
+
+  pub file_within_more : (at : ℕ) → IsTruncated fed at → IsWithinFile (fed ++ piece)
+  file_within_more at short v more ok e = go (fronts_of fed piece (bytes_of (text v)) more e)
+    where
+      go : ((m : List ℕ) × (fed ≡ bytes_of (text v) ++ m) × (m ++ piece ≡ more)) ⊎ ((m : List ℕ) × (bytes_of (text v) ≡ fed ++ m) × (piece ≡ m ++ more)) → more ≡ []
+      go (inl (m, p, q)) = absurd (short.not_whole (record { value = v; is_load_file = ok; rest = m; split = p }))
+      go (inr (m, p, q)) =
+          let far = least v m ok p in
+          nothing more (omega (arith, far, ap length q, length-append m more))
+
+-- ---- want of memory
+
+rest_are_bytes : (m rest : List ℕ) → IsBytes (m ++ rest) → IsBytes rest
+rest_are_bytes [] rest h i = h i
+rest_are_bytes (x ∷ m) rest h i = rest_are_bytes m rest (λ k. h (suc k)) i
+
+-- the rest of a piece of bytes
+pub rest_bytes : (fed piece front rest : List ℕ) → IsBytes piece → fed ++ piece ≡ front ++ rest → length fed < length front → IsBytes rest
+rest_bytes fed piece front rest are e less = go (fronts_of fed piece front rest e)
+  where
+    go : ((m : List ℕ) × (fed ≡ front ++ m) × (m ++ piece ≡ rest)) ⊎ ((m : List ℕ) × (front ≡ fed ++ m) × (piece ≡ m ++ rest)) → IsBytes rest
+    go (inl (m, p, q)) = absurd (omega (arith, less, ap length p, length-append front m))
+    go (inr (m, p, q)) = rest_are_bytes m rest (subst IsBytes q are)
+
+-- A piece with which a row is completed is that of a header.
+pub row_begins : (fed piece : List ℕ) (want at : ℕ) → ((t : List TableEntry) (more : List ℕ) → IsTable t → header_bytes t ≡ fed ++ more → want ≤ length more) → length piece ≤ want →
+    length fed < at + 4 → IsInHeader (fed ++ piece) at → BeginsHeader (fed ++ piece)
+row_begins fed piece want at least fits less h = go (fronts_of fed piece h.front h.rest h.split)
+  where
+    go : ((m : List ℕ) × (fed ≡ h.front ++ m) × (m ++ piece ≡ h.rest)) ⊎ ((m : List ℕ) × (h.front ≡ fed ++ m) × (piece ≡ m ++ h.rest)) → BeginsHeader (fed ++ piece)
+    go (inl (m, p, q)) = absurd (omega (arith, less, ap length p, length-append h.front m, h.ends))
+    go (inr (m, p, q)) =
+        h.begins
+        (λ t k is e.
+        let far = least t (m ++ k) is (e ∙ ap (λ (bs : List ℕ). bs ++ k) p ∙ append_assoc fed m k) in
+        omega (arith, far, fits, ap length q, length-append m h.rest, length-append m k))
+
+pub header_wants : (f : Fault) (budget : ℕ) (bytes : List ℕ) → f.reason ≡ reasons.OutOfMemory → IsHeaderFault budget bytes f → IsInHeader bytes f.place
+header_wants f budget bytes e h = subst (λ (r : Reason). IsHeaderFaultBy r budget bytes f.place) e h

@@ -1,0 +1,316 @@
+-- What the fields of the loader of a header keep, and what they tell.
+use Rattle.std.proofs.Common.{◌≡◌, ℕ, ◌+◌, ◌-◌, ◌*◌, ◌/◌, ◌^◌, ◌<◌, ◌≤◌, Bool, true, false, List, [], ◌∷◌, ◌++◌, length, map, refl, sym, ap, subst, ◌∙◌, append_assoc, append-nil, arith, length-append, Option, Some, None, ◌⊎◌, inl, inr, ltb, take, drop, take-append-drop}
+use Rattle.std.specs.Prelude.{IsTrue}
+use Rattle.std.proofs.lemmas.Bool.{ltb-true, ltb-false}
+use Rattle.std.proofs.lemmas.List.{length-map, take_all}
+use Rattle.hunk_words.specs.Longs.{longs, bytes_of, IsLong}
+use Rattle.hunk_words.specs.declared.fault.Fault.{Fault}
+use Rattle.hunk_words.specs.declared.reason.Reason.{Reason}
+use Rattle.hunk_words.proofs.GatherLaws.{gathers-word, gathers-none}
+use Rattle.hunk_words.proofs.LongLaws.{bytes_of-nil, longs-bytes_of, length-bytes_of, longs-few, length-longs}
+use Rattle.hunk_files.specs.declared.row.Row.{Row}
+use Rattle.hunk_files.specs.Fault.{IsTruncated, Expects}
+use Rattle.hunk_files.specs.Image.{declared_bytes}
+use Rattle.hunk_files.specs.LoadFile.{TableEntry}
+use Rattle.hunk_files.specs.Roles.{refuse, Role as roles}
+use Rattle.hunk_files.proofs.FileSteps.{Progress, More, open_hunk}
+use Rattle.hunk_files.proofs.Reading.{HasRead, start_read, one_place}
+use Rattle.hunk_scatter.specs.declared.header_state.HeaderPhase.{HeaderPhase}
+use Rattle.hunk_scatter.specs.declared.header_state.HeaderPhase.TheVariants as phases
+use Rattle.hunk_scatter.specs.declared.header_state.HeaderState.{HeaderState}
+use Rattle.hunk_scatter.specs.Answers.{is_of_header}
+use Rattle.hunk_scatter.specs.Headers.{IsTable, IsHeader, header_words, header_bytes, entries_so_far, PassesBudget}
+use Rattle.hunk_scatter.specs.Heading.{next_at, role_at, is_done, least_at, behind, adds, declares, IsStarted, total_at, EndsHeader, StopsFor, HeaderReading, IsHeading, HeaderStop}
+use Rattle.hunk_scatter.specs.Loaders.{HasNoRefusal}
+use Rattle.hunk_scatter.specs.Rows.{entry_of, entries_of, row_of}
+use Rattle.hunk_scatter.proofs.Behind.{no_size_word, table_behind}
+use Rattle.hunk_scatter.proofs.DeclaredBytes.{declared_limit}
+use Rattle.hunk_scatter.proofs.HeaderLeast.{header_owes, opens}
+use Rattle.hunk_scatter.proofs.HeaderReads.{word_read}
+use Rattle.hunk_scatter.proofs.HeaderStops.{header_longs}
+use Rattle.hunk_scatter.proofs.HeaderTexts.{header_read, header_done, rows_read}
+use Rattle.hunk_scatter.proofs.Outcomes.{longs_are, read_clean, read_truncated}
+use Rattle.hunk_scatter.proofs.ReadWords.{read_longs}
+use Rattle.hunk_scatter.proofs.Splits.{fronts}
+
+done_is : (x : HeaderPhase) → is_done x ≡ true → x ≡ phases.Done
+done_is phases.Done e = refl
+done_is _ e = absurd cc
+
+ends_nil : (x : HeaderPhase) → EndsHeader x []
+ends_nil phases.Done = refl
+ends_nil _ = tt
+
+ends_open : (x : HeaderPhase) (pending : List ℕ) → is_done x ≡ false → EndsHeader x pending
+ends_open phases.Done pending e = absurd cc
+ends_open _ pending e = tt
+
+ends_done : (x : HeaderPhase) (pending : List ℕ) → is_done x ≡ true → EndsHeader x pending → pending ≡ []
+ends_done phases.Done pending e h = h
+ends_done _ pending e h = absurd cc
+
+-- the reader goes on, also behind the header
+goes_further : (phase : HeaderPhase) (table : List TableEntry) (ws : List ℕ) → HasRead ws (next_at phase table) → (p : Progress) × HasRead ws (More p)
+goes_further phases.First table ws h = (_, h)
+goes_further phases.Resident table ws h = (_, h)
+goes_further phases.TableSize table ws h = (_, h)
+goes_further (phases.FirstHunk hunks) table ws h = (_, h)
+goes_further (phases.LastHunk hunks) table ws h = (_, h)
+goes_further (phases.SizeWord hunks owed) table ws h = (_, h)
+goes_further (phases.Attributes hunks word owed) table ws h = (_, h)
+goes_further phases.Done [] ws h = absurd (let some = (header_done ws [] h).0.some in omega (arith, some))
+goes_further phases.Done (e ∷ table) ws h = (_, h)
+
+rows_few : (phase : HeaderPhase) (table : List TableEntry) (ws : List ℕ) → HasRead ws (next_at phase table) → IsStarted phase table → length table ≤ 65536
+rows_few phases.First table ws h s = omega (arith, ap length s)
+rows_few phases.Resident table ws h s = omega (arith, ap length s)
+rows_few phases.TableSize table ws h s = omega (arith, ap length s)
+rows_few (phases.FirstHunk hunks) table ws h s = omega (arith, ap length s)
+rows_few (phases.LastHunk hunks) table ws h s = omega (arith, ap length s)
+rows_few (phases.SizeWord hunks owed) table ws h s = let f = h.reads.0 in omega (arith, f.counts, f.hunks_fit.1)
+rows_few (phases.Attributes hunks word owed) table ws h s = let f = h.reads.0.0 in omega (arith, f.counts, f.hunks_fit.1)
+rows_few phases.Done table ws h s = (header_done ws table h).0.most
+
+total_limit : (phase : HeaderPhase) (table : List TableEntry) → total_at phase table ≤ declared_bytes table + 2 ^ 32
+total_limit (phases.Attributes hunks word owed) table = omega arith
+total_limit phases.First table = omega arith
+total_limit phases.Resident table = omega arith
+total_limit phases.TableSize table = omega arith
+total_limit (phases.FirstHunk hunks) table = omega arith
+total_limit (phases.LastHunk hunks) table = omega arith
+total_limit (phases.SizeWord hunks owed) table = omega arith
+total_limit phases.Done table = omega arith
+
+pub header_spells : (t : List TableEntry) → IsTable t → longs (header_bytes t) ≡ header_words t
+header_spells t is = ap longs (sym (append-nil (header_bytes t))) ∙ longs-bytes_of (header_words t) [] (header_longs t is) ∙ append-nil (header_words t)
+
+-- ---- what the fields tell
+
+module _ (budget : ℕ) (rows : List Row) (s : HeaderState) (pending fed : List ℕ) (r : HeaderReading budget rows s pending fed) where
+  words_are : longs fed ≡ r.ws
+  words_are = longs_are r.ws (next_at s.phase (entries_of rows)) pending fed r.has_read.read r.few r.spelled
+
+  pub heading_clean : HasNoRefusal fed
+  heading_clean = read_clean r.ws (next_at s.phase (entries_of rows)) pending fed r.has_read.read r.few r.spelled
+
+  pub heading_truncated : IsTruncated fed (4 * (length fed / 4))
+  heading_truncated =
+      let g = goes_further s.phase (entries_of rows) r.ws r.has_read.read in
+      read_truncated r.ws g.0 pending fed g.1 r.few r.spelled
+
+  pub heading_within : (at : ℕ) → PassesBudget budget fed at → ⊥
+  heading_within at p =
+      let le = r.has_read.none_passes p.before p.after p.word (sym words_are ∙ p.split) p.expects in
+      omega (arith, le, p.passes)
+
+  pub heading_rows : length rows ≡ length (entries_so_far (longs fed))
+  heading_rows =
+      sym (length-map rows entry_of)
+      ∙ ap length (sym (rows_read s.phase (entries_of rows) r.ws r.has_read.read r.has_read.started))
+      ∙ ap (λ (ws : List ℕ). length (entries_so_far ws)) (sym words_are)
+
+  pub heading_room : length rows ≤ 65536 → s.total + 2 ^ 32 < 2 ^ 64
+  heading_room few =
+      omega (arith, r.has_read.total_is, total_limit s.phase (entries_of rows), declared_limit (entries_of rows), length-map rows entry_of)
+
+  pub heading_table : is_done s.phase ≡ true → IsTable (entries_of rows) × (fed ≡ header_bytes (entries_of rows))
+  heading_table done =
+      let d = header_done r.ws (entries_of rows) (subst (λ (x : HeaderPhase). HasRead r.ws (next_at x (entries_of rows))) (done_is s.phase done) r.has_read.read) in (
+        d.0,
+        r.spelled
+            ∙ ap (λ (bs : List ℕ). bytes_of r.ws ++ bs) (ends_done s.phase pending done r.whole)
+            ∙ append-nil (bytes_of r.ws)
+            ∙ ap bytes_of d.1,
+      )
+
+  pub heading_total : is_done s.phase ≡ true → s.total ≡ declared_bytes (entries_of rows)
+  heading_total done = r.has_read.total_is ∙ ap (λ (x : HeaderPhase). total_at x (entries_of rows)) (done_is s.phase done)
+
+  -- the longwords of a header that begins with what was fed
+  header_split : (t : List TableEntry) (more : List ℕ) → IsTable t → header_bytes t ≡ fed ++ more → header_words t ≡ r.ws ++ longs (pending ++ more)
+  header_split t more is e =
+      sym (append-nil (header_words t))
+      ∙ sym (longs-bytes_of (header_words t) [] (header_longs t is))
+      ∙ ap longs (append-nil (header_bytes t) ∙ e ∙ ap (λ (bs : List ℕ). bs ++ more) r.spelled ∙ append_assoc (bytes_of r.ws) pending more)
+      ∙ longs-bytes_of r.ws (pending ++ more) (read_longs r.ws _ r.has_read.read)
+
+  pub heading_not_whole : is_done s.phase ≡ false → IsHeader fed → ⊥
+  heading_not_whole more (t, is, e) =
+      let same : header_words t ≡ r.ws =
+      header_split t [] is (sym e ∙ sym (append-nil fed)) ∙ ap (λ (xs : List ℕ). r.ws ++ xs) (ap longs (append-nil pending) ∙ longs-few pending r.few) ∙ append-nil r.ws in
+      opens s.phase (entries_of rows) t more is
+      (one_place r.ws (next_at s.phase (entries_of rows)) (open_hunk (length t) [] t) r.has_read.read (subst (λ (xs : List ℕ). HasRead xs (open_hunk (length t) [] t)) same (header_read t is)))
+
+  -- No header that begins with what was fed ends in fewer bytes.
+  pub heading_least : (t : List TableEntry) (more : List ℕ) → IsTable t → header_bytes t ≡ fed ++ more → 4 * least_at s.phase ≤ length pending + length more
+  heading_least t more is e =
+      let d = header_split t more is e in
+      let owed = header_owes s.phase (entries_of rows) r.ws r.has_read.read r.has_read.started t is (longs (pending ++ more)) d in
+      omega (
+        arith,
+        owed,
+        length-append pending more,
+        length-longs (pending ++ more),
+      )
+
+-- What was consumed of a piece keeps to the budget, and so does the piece.
+pub piece_within : (budget : ℕ) (rows : List Row) (s : HeaderState) (pending fed piece after : List ℕ) (n : ℕ) → HeaderReading budget rows s pending after →
+    n ≤ length piece → after ≡ fed ++ take n piece → (n < length piece → IsHeader after) → (at : ℕ) → PassesBudget budget (fed ++ piece) at → ⊥
+piece_within budget rows s pending fed piece after n r le is all at p = go (ltb n (length piece)) refl
+  where
+    whole : after ++ drop n piece ≡ fed ++ piece
+    whole = ap (λ (xs : List ℕ). xs ++ drop n piece) is ∙ append_assoc fed (take n piece) (drop n piece) ∙ ap (λ (xs : List ℕ). fed ++ xs) (take-append-drop n piece)
+
+    within : longs after ≡ longs after → (word_after : List ℕ) → longs after ≡ p.before ++ p.word ∷ word_after → ⊥
+    within same word_after e =
+        heading_within budget rows s pending after r at
+        (record { before = p.before; word = p.word; after = word_after; split = e; place = p.place; expects = p.expects; first = p.first; passes = p.passes })
+
+    by_front : (t : List TableEntry) → IsTable t → after ≡ header_bytes t →
+        ((m : List ℕ) × (header_words t ≡ p.before ++ p.word ∷ m)) ⊎ ((m : List ℕ) × (p.before ≡ header_words t ++ m)) → ⊥
+    by_front t ok e (inl (m, d)) = within refl m (ap longs e ∙ header_spells t ok ∙ d)
+    by_front t ok e (inr (m, d)) =
+        no_size_word (header_words t) m (open_hunk (length t) [] t) (header_read t ok) (table_behind t ok) (subst (λ (xs : List ℕ). Expects xs roles.SizeWord) d p.expects)
+
+    in_header : IsHeader after → ⊥
+    in_header (t, ok, e) =
+        by_front t ok e
+        (fronts p.before p.word p.after (header_words t) (longs (drop n piece))
+        (sym p.split ∙ ap longs (sym whole ∙ ap (λ (bs : List ℕ). bs ++ drop n piece) e) ∙ longs-bytes_of (header_words t) (drop n piece) (header_longs t ok)))
+
+    go : (b : Bool) → ltb n (length piece) ≡ b → ⊥
+    go true e = in_header (all (ltb-true n (length piece) e))
+    go false e =
+        let done : length piece ≤ n = ltb-false n (length piece) e in
+        within refl p.after (ap longs (is ∙ ap (λ (xs : List ℕ). fed ++ xs) (take_all n piece done)) ∙ p.split)
+
+-- ---- a byte
+
+-- the same fields, however the state is written
+pub heading_as : (budget : ℕ) (rows rows2 : List Row) (s s2 : HeaderState) (pending pending2 : List ℕ) (count : ℕ) (refused : Option Fault) (fed fed2 : List ℕ) →
+    rows2 ≡ rows → s2.phase ≡ s.phase → s2.total ≡ s.total → pending2 ≡ pending → fed2 ≡ fed → IsHeading budget rows s pending count refused fed → IsHeading budget rows2 s2 pending2 count refused fed2
+heading_as budget rows rows2 s s2 pending pending2 count refused fed fed2 e p t d f h =
+    let state : s2 ≡ s = λ i. record { phase = p i; total = t i } in
+    subst (λ (x : List Row). IsHeading budget x s2 pending2 count refused fed2) (sym e)
+    (subst (λ (x : HeaderState). IsHeading budget rows x pending2 count refused fed2) (sym state)
+    (subst (λ (x : List ℕ). IsHeading budget rows s x count refused fed2) (sym d)
+    (subst (λ (x : List ℕ). IsHeading budget rows s pending count refused x) (sym f) h)))
+
+-- a loader that nothing was fed to
+pub heading_new : (budget : ℕ) → IsHeading budget [] (record { phase = phases.First; total = 0 }) [] 0 None []
+heading_new budget = record {
+  counted = refl;
+  few_rows = omega arith;
+  reading =
+      λ e. record {
+        ws = [];
+        spelled = sym bytes_of-nil ∙ sym (append-nil (bytes_of []));
+        few = omega arith;
+        whole = tt;
+        has_read = record {
+          read = start_read;
+          started = refl;
+          unplaced = refl;
+          total_is = refl;
+          within = omega arith;
+          none_passes = λ before after word d x. absurd (empty before word after d);
+        };
+      };
+  own = λ f e. absurd cc;
+  cleared = λ f e. absurd cc;
+}
+  where
+    empty : (before : List ℕ) (word : ℕ) (after : List ℕ) → [] ≡ before ++ word ∷ after → ⊥
+    empty [] word after d = cc
+    empty (b ∷ before) word after d = cc
+
+module _ (budget : ℕ) (rows : List Row) (s : HeaderState) (pending : List ℕ) (count : ℕ) (refused : Option Fault) (fed : List ℕ)
+    (h : IsHeading budget rows s pending count refused fed) (none : refused ≡ None) (more : is_done s.phase ≡ false) where
+  now : HeaderReading budget rows s pending fed
+  now = h.reading none
+
+  -- A byte that completes no longword.
+  pub heading_byte : (byte : ℕ) (after : List ℕ) → after ≡ pending ++ byte ∷ [] → length after < 4 → IsHeading budget rows s after (count + 1) refused (fed ++ byte ∷ [])
+  heading_byte byte after e few = record {
+    counted = omega (arith, h.counted, length-append fed (byte ∷ []));
+    few_rows = h.few_rows;
+    reading =
+        λ x. record {
+          ws = now.ws;
+          spelled = gathers-none fed pending (byte ∷ []) after now.ws now.spelled e;
+          few = few;
+          whole = ends_open s.phase after more;
+          has_read = now.has_read;
+        };
+    own = h.own;
+    cleared = h.cleared;
+  }
+
+  module _ (byte w : ℕ) (is : IsLong w) (gathers : pending ++ byte ∷ [] ≡ bytes_of (w ∷ [])) where
+    spells : fed ++ byte ∷ [] ≡ bytes_of (now.ws ++ w ∷ [])
+    spells = gathers-word fed pending (byte ∷ []) [] now.ws w now.spelled (gathers, refl) ∙ append-nil (bytes_of (now.ws ++ w ∷ []))
+
+    heading_place : count ≡ 4 * length now.ws + 3
+    heading_place =
+        omega (
+          arith,
+          h.counted,
+          ap length spells,
+          length-append fed (byte ∷ []),
+          length-bytes_of (now.ws ++ w ∷ []),
+          length-append now.ws (w ∷ []),
+        )
+
+    pub heading_three : 3 ≤ count
+    heading_three = omega (arith, heading_place)
+
+    -- One that completes a longword that passes.
+    pub heading_word : refuse (role_at s.phase) w ≡ None → s.total + declares s.phase w ≤ budget →
+        IsHeading budget (rows ++ map row_of (adds s.phase w)) (record { phase = behind s.phase w; total = s.total + declares s.phase w }) [] (count + 1) refused (fed ++ byte ∷ [])
+    heading_word pass within =
+        let k = word_read budget rows s now.ws now.has_read more w within is pass in
+        record {
+          counted = omega (arith, h.counted, length-append fed (byte ∷ []));
+          few_rows =
+              omega (
+                arith,
+                rows_few _ _ (now.ws ++ w ∷ []) k.read k.started,
+                length-map (rows ++ map row_of (adds s.phase w)) entry_of,
+              );
+          reading =
+              λ x. record {
+                ws = now.ws ++ w ∷ [];
+                spelled = spells ∙ sym (append-nil (bytes_of (now.ws ++ w ∷ [])));
+                few = omega arith;
+                whole = ends_nil (behind s.phase w);
+                has_read = k;
+              };
+          own = h.own;
+          cleared = λ f e. absurd (let d : None ≡ Some f = sym none ∙ e in cc);
+        }
+
+    -- One that completes a longword that stops the loader.
+    pub heading_stop : (reason : Reason) → StopsFor budget s w reason → HeaderStop budget (fed ++ byte ∷ []) (record { place = count - 3; reason = reason })
+    heading_stop reason stops = record {
+      ws = now.ws;
+      rows = rows;
+      state = s;
+      word = w;
+      spelled = spells;
+      long = is;
+      has_read = now.has_read;
+      goes_on = more;
+      place = omega (arith, heading_place);
+      stops = stops;
+    }
+
+-- A refusal leaves what was fed, and clears the rows.
+pub heading_refused : (budget : ℕ) (rows : List Row) (s : HeaderState) (pending : List ℕ) (count : ℕ) (fed : List ℕ) (f : Fault) →
+    count ≡ length fed → rows ≡ [] → IsTrue (is_of_header f.reason) → IsHeading budget rows s pending count (Some f) fed
+heading_refused budget rows s pending count fed f counted cleared own = record {
+  counted = counted;
+  few_rows = omega (arith, ap length cleared);
+  reading = λ e. absurd cc;
+  own = λ g e. let d : f ≡ g = cc in subst (λ (x : Fault). IsTrue (is_of_header x.reason)) d own;
+  cleared = λ g e. cleared;
+}

@@ -1,0 +1,231 @@
+-- The header in front of bytes: it is one, its size words keep to its declared bytes, and each load text begins with one.
+use Rattle.std.proofs.Common.{◌≡◌, ℕ, ◌+◌, ◌*◌, ◌≤◌, Bool, true, false, List, [], ◌∷◌, ◌++◌, length, refl, sym, ap, subst, ◌∙◌, append_assoc, append-nil, arith, ◌⊎◌, inl, inr}
+use Rattle.std.specs.List.{flat_map}
+use Rattle.std.proofs.lemmas.List.{length-map, map-append}
+use Rattle.hunk_words.specs.Bits.{size_longs}
+use Rattle.hunk_words.specs.Longs.{longs, bytes_of}
+use Rattle.hunk_words.proofs.LongLaws.{bytes_of-append, longs-bytes_of}
+use Rattle.hunk_words.specs.declared.reason.Reason.{Reason}
+use Rattle.hunk_files.specs.Fault.{Expects, HasRefusal}
+use Rattle.hunk_files.specs.Image.{declared_bytes}
+use Rattle.hunk_files.specs.LoadFile.{TableEntry, LoadFileValue, IsLoadFile}
+use Rattle.hunk_files.specs.LoadText.{labelled, header_labelled, hunk_labelled, table, text, words}
+use Rattle.hunk_files.specs.Roles.{Role, Role as roles, refuse}
+use Rattle.hunk_files.proofs.FileProgress.{ProgressFits, NextFits, step_keeps}
+use Rattle.hunk_files.proofs.FileSteps.{Progress, AtFirst, AtResident, AtTableSize, AtFirstHunk, AtLastHunk, AtSizeWord, AtAttributes, AtBlock, InBody, Next, More, Finished, open_hunk, role_of, step, Leads}
+use Rattle.hunk_files.proofs.FileText.{header_leads, entries_fit}
+use Rattle.hunk_files.proofs.Reading.{HasRead}
+use Rattle.hunk_files.proofs.Runs.{Labelled, IsAccepted, AreAccepted, Leads-split, Leads-same}
+use Rattle.hunk_files.proofs.Scan.{no_fault, words_split, expected_place}
+use Rattle.hunk_scatter.specs.declared.header_state.HeaderPhase.{HeaderPhase}
+use Rattle.hunk_scatter.specs.declared.header_state.HeaderPhase.TheVariants as phases
+use Rattle.hunk_scatter.specs.Headers.{IsTable, header_words, header_bytes, entries_so_far, IsWithinBudget, PassesBudget}
+use Rattle.hunk_scatter.specs.Heading.{next_at, is_done, behind, adds, declares, IsStarted, total_at}
+use Rattle.hunk_scatter.specs.Loading.{IsBehindHeader}
+use Rattle.hunk_scatter.specs.Loads.{IsWithinHeader, IsWithinFile}
+use Rattle.hunk_scatter.specs.Standing.{table_of}
+use Rattle.hunk_scatter.proofs.Behind.{table_behind, no_size_word}
+use Rattle.hunk_scatter.proofs.Faults.{longs-more}
+use Rattle.hunk_scatter.proofs.Feeding.{fronts_of}
+use Rattle.hunk_scatter.proofs.Forget.{step_behind, step_table}
+use Rattle.hunk_scatter.proofs.HeaderLeast.{opens}
+use Rattle.hunk_scatter.proofs.HeaderSteps.{header_step, goes_on, not_done, step_total}
+use Rattle.hunk_scatter.proofs.HeaderStops.{header_longs}
+use Rattle.hunk_scatter.proofs.HeaderTexts.{header_read, header_accepted, rows_read}
+use Rattle.hunk_scatter.proofs.Outcomes.{longs_text}
+use Rattle.hunk_scatter.proofs.Splits.{fronts}
+
+-- ---- one header
+
+behind_table : (n c : Next) → IsBehindHeader n → (ls : Labelled) → Leads n ls c → table_of c ≡ table_of n
+behind_table n c b [] run = ap table_of (sym run)
+behind_table (More q) c b (l ∷ ls) run = behind_table (step q l.1) c (step_behind q l.1 b) ls run.1 ∙ step_table q l.1 b
+behind_table (Finished v) c b (l ∷ ls) run = absurd run
+
+opened : (t : List TableEntry) → IsTable t → table_of (open_hunk (length t) [] t) ≡ t
+opened [] is = absurd (let some = is.some in omega (arith, some))
+opened (e ∷ t) is = refl
+
+longer : (t u : List TableEntry) (m : List ℕ) → IsTable t → IsTable u → header_words u ≡ header_words t ++ m → u ≡ t
+longer t u m is ok e =
+    let s = words_split (header_labelled u) (header_words t) m e in
+    let cut = Leads-split (More AtFirst) (open_hunk (length u) [] u) s.front s.back (subst (λ (ls : Labelled). Leads (More AtFirst) ls (open_hunk (length u) [] u)) s.split (header_leads u ok.each)) in
+    let same = Leads-same (More AtFirst) cut.0 (open_hunk (length t) [] t) s.front (header_labelled t) cut.1 (header_leads t is.each) s.front_words in
+    sym (opened u ok)
+    ∙ behind_table (open_hunk (length t) [] t) (open_hunk (length u) [] u) (table_behind t is) s.back (subst (λ (n : Next). Leads n s.back (open_hunk (length u) [] u)) same.1 cut.2)
+    ∙ opened t is
+
+-- Bytes begin with one header.
+pub one_table : (t u : List TableEntry) (xs ys : List ℕ) → IsTable t → IsTable u → header_bytes t ++ xs ≡ header_bytes u ++ ys → t ≡ u
+one_table t u xs ys is ok e = go (fronts_of (header_words t) (longs xs) (header_words u) (longs ys) spelled)
+  where
+    spelled : header_words t ++ longs xs ≡ header_words u ++ longs ys
+    spelled = sym (longs-bytes_of (header_words t) xs (header_longs t is)) ∙ ap longs e ∙ longs-bytes_of (header_words u) ys (header_longs u ok)
+
+    go : ((m : List ℕ) × (header_words t ≡ header_words u ++ m) × (m ++ longs xs ≡ longs ys)) ⊎ ((m : List ℕ) × (header_words u ≡ header_words t ++ m) × (longs xs ≡ m ++ longs ys)) → t ≡ u
+    go (inl (m, p, q)) = longer u t m ok is p
+    go (inr (m, p, q)) = sym (longer t u m is ok p)
+
+-- ---- a load text
+
+-- A load text begins with the header of its table.
+pub text_header : (v : LoadFileValue) → IsLoadFile v → IsTable (table v) × ((rest : List ℕ) × (bytes_of (text v) ≡ header_bytes (table v) ++ rest))
+unfolding labelled
+text_header v is = (
+  record {
+    some = omega (arith, is.some, length-map v (λ h. h.entry));
+    most = omega (arith, is.most, length-map v (λ h. h.entry));
+    each = entries_fit (length v) v is.each;
+  },
+  (
+    bytes_of (words (flat_map (hunk_labelled (length v)) v)),
+    ap bytes_of (map-append (λ (x : Role × ℕ). x.1) (header_labelled (table v)) (flat_map (hunk_labelled (length v)) v))
+        ∙ bytes_of-append (header_words (table v)) (words (flat_map (hunk_labelled (length v)) v)),
+  ),
+)
+
+right_nil : (xs ys : List ℕ) → xs ++ ys ≡ [] → ys ≡ []
+right_nil [] ys e = e
+right_nil (x ∷ xs) ys e = absurd cc
+
+pub within_file : (bytes : List ℕ) → IsWithinHeader bytes → IsWithinFile bytes
+within_file bytes w v more is e =
+    let h = text_header v is in
+    right_nil h.1.0 more (w (table v) (h.1.0 ++ more) h.0 (e ∙ ap (λ (bs : List ℕ). bs ++ more) h.1.1 ∙ append_assoc (header_bytes (table v)) h.1.0 more))
+
+-- ---- the budget
+
+module _ (t : List TableEntry) (is : IsTable t) where
+  -- a run from here to the end of the header
+  abbrev TotalsTo : Labelled → Type 0
+  TotalsTo ls =
+      (phase : HeaderPhase) (now : List TableEntry) → IsStarted phase now → ((p : Progress) → next_at phase now ≡ More p → ProgressFits p) →
+      Leads (next_at phase now) ls (open_hunk (length t) [] t) → total_at phase now ≤ declared_bytes t
+
+  held : (now : List TableEntry) → table_of (open_hunk (length now) [] now) ≡ now
+  held [] = refl
+  held (e ∷ now) = refl
+
+  open_behind : (now : List TableEntry) → IsBehindHeader (open_hunk (length now) [] now)
+  open_behind [] = tt
+  open_behind (e ∷ now) = tt
+
+  past_total : (ls : Labelled) (phase : HeaderPhase) (now : List TableEntry) → is_done phase ≡ true → Leads (next_at phase now) ls (open_hunk (length t) [] t) → total_at phase now ≤ declared_bytes t
+  past_total ls phases.Done now d run =
+      let same : now ≡ t = sym (held now) ∙ sym (behind_table (open_hunk (length now) [] now) (open_hunk (length t) [] t) (open_behind now) ls run) ∙ opened t is in
+      omega (arith, ap declared_bytes same)
+  past_total ls _ now d run = absurd cc
+
+  on_word : (l : Role × ℕ) (ls : Labelled) → IsAccepted l → TotalsTo ls → (phase : HeaderPhase) (now : List TableEntry) → is_done phase ≡ false → IsStarted phase now →
+      ((p : Progress) → next_at phase now ≡ More p → ProgressFits p) → Leads (next_at phase now) (l ∷ ls) (open_hunk (length t) [] t) → total_at phase now + declares phase l.1 ≤ declared_bytes t
+  on_word l ls a rest phase now more s fits run =
+      let g = goes_on phase now more in
+      let k = header_step phase now l.1 (not_done phase more) s g.0 g.1 (fits g.0 g.1) in
+      let here = subst (λ (n : Next). Leads n (l ∷ ls) (open_hunk (length t) [] t)) g.1 run in
+      let pass = ap (λ (r : Role). refuse r l.1) here.0 ∙ a.1 in
+      let kept = step_keeps g.0 l.1 (fits g.0 g.1) a.0 pass in
+      let less = rest (behind phase l.1) (now ++ adds phase l.1) k.2
+      (λ p e. subst NextFits (k.1 ∙ e) kept.0)
+      (subst (λ (n : Next). Leads n ls (open_hunk (length t) [] t)) k.1 here.1) in
+      omega (arith, less, step_total phase now l.1)
+
+  run_total : (ls : Labelled) → AreAccepted ls → TotalsTo ls
+  run_total [] a phase now s fits run = go (is_done phase) refl
+    where
+      go : (b : Bool) → is_done phase ≡ b → total_at phase now ≤ declared_bytes t
+      go true e = past_total [] phase now e run
+      go false e = absurd (opens phase now t e is run)
+  run_total (l ∷ ls) a phase now s fits run = go (run_total ls a.1) (is_done phase) refl
+    where
+      go : TotalsTo ls → (b : Bool) → is_done phase ≡ b → total_at phase now ≤ declared_bytes t
+      go rest true e = past_total (l ∷ ls) phase now e run
+      go rest false e = let more = on_word l ls a.0 rest phase now e s fits run in omega (arith, more)
+
+  accepted_right : (xs ys : Labelled) → AreAccepted (xs ++ ys) → AreAccepted ys
+  accepted_right [] ys a = a
+  accepted_right (x ∷ xs) ys a = accepted_right xs ys a.1
+
+  -- the longword that a run from a size word goes by
+  first_word : (p : Progress) (before : List ℕ) (word : ℕ) (after : List ℕ) → HasRead before (More p) → role_of p ≡ roles.SizeWord → (ls : Labelled) → AreAccepted ls → words ls ≡ word ∷ after →
+      Leads (More p) ls (open_hunk (length t) [] t) → declared_bytes (entries_so_far before) + 4 * size_longs word ≤ declared_bytes t
+  first_word p before word after h role [] a e run = absurd cc
+  first_word (AtSizeWord hunks done owed) before word after h role (l ∷ ls) a e run =
+      let same : l.1 ≡ word = cc in
+      let rows = rows_read (phases.SizeWord hunks owed) done before h tt in
+      let le = on_word l ls a.0 (run_total ls a.1) (phases.SizeWord hunks owed) done refl tt (λ q d. subst NextFits d h.reads.0) run in
+      omega (arith, le, ap declared_bytes rows, ap size_longs same)
+  first_word AtFirst before word after h role (l ∷ ls) a e run = absurd cc
+  first_word AtResident before word after h role (l ∷ ls) a e run = absurd cc
+  first_word AtTableSize before word after h role (l ∷ ls) a e run = absurd cc
+  first_word (AtFirstHunk hunks) before word after h role (l ∷ ls) a e run = absurd cc
+  first_word (AtLastHunk hunks) before word after h role (l ∷ ls) a e run = absurd cc
+  first_word (AtAttributes hunks done w owed) before word after h role (l ∷ ls) a e run = absurd cc
+  first_word (AtBlock o) before word after h role (l ∷ ls) a e run = absurd cc
+  first_word (InBody o w x) before word after h role (l ∷ ls) a e run = absurd cc
+
+  -- The size words of a header keep to its declared bytes.
+  pub header_within : IsWithinBudget (declared_bytes t) (header_words t)
+  header_within before after word e x =
+      let s = words_split (header_labelled t) before (word ∷ after) e in
+      let place = expected_place before roles.SizeWord x in
+      let h : HasRead before (More place.0) = record { done = x.done; run = place.1.run; reads = place.1.reads; accepted = place.1.accepted; all = x.begins } in
+      let cut = Leads-split (More AtFirst) (open_hunk (length t) [] t) s.front s.back (subst (λ (ls : Labelled). Leads (More AtFirst) ls (open_hunk (length t) [] t)) s.split (header_leads t is.each)) in
+      let same = Leads-same (More AtFirst) cut.0 (More place.0) s.front h.done cut.1 h.run (s.front_words ∙ sym h.all) in
+      first_word place.0 before word after h place.1.role_is s.back (accepted_right s.front s.back (subst AreAccepted s.split (header_accepted t is))) s.back_words
+      (subst (λ (n : Next). Leads n s.back (open_hunk (length t) [] t)) same.1 cut.2)
+
+  -- Bytes that begin with a header within the budget do not pass it.
+  pub table_within : (budget : ℕ) (bytes more : List ℕ) → declared_bytes t ≤ budget → bytes ≡ header_bytes t ++ more → (at : ℕ) → PassesBudget budget bytes at → ⊥
+  table_within budget bytes more le e at p =
+      go (fronts p.before p.word p.after (header_words t) (longs more) (sym p.split ∙ ap longs e ∙ longs-bytes_of (header_words t) more (header_longs t is)))
+    where
+      go : ((m : List ℕ) × (header_words t ≡ p.before ++ p.word ∷ m)) ⊎ ((m : List ℕ) × (p.before ≡ header_words t ++ m)) → ⊥
+      go (inl (m, d)) = let fits = header_within p.before m p.word d p.expects in omega (arith, fits, le, p.passes)
+      go (inr (m, d)) = no_size_word (header_words t) m (open_hunk (length t) [] t) (header_read t is) (table_behind t is) (subst (λ (xs : List ℕ). Expects xs roles.SizeWord) d p.expects)
+
+-- What passes the budget does so as bytes follow.
+pub passes_more : (budget : ℕ) (bytes more : List ℕ) (at : ℕ) → PassesBudget budget bytes at → PassesBudget budget (bytes ++ more) at
+passes_more budget bytes more at p =
+    let r = longs-more bytes more in
+    record {
+      before = p.before;
+      word = p.word;
+      after = p.after ++ r.0;
+      split = r.1 ∙ ap (λ (xs : List ℕ). xs ++ r.0) p.split ∙ append_assoc p.before (p.word ∷ p.after) r.0;
+      place = p.place;
+      expects = p.expects;
+      first = p.first;
+      passes = p.passes;
+    }
+
+-- It does so in the front, or behind it.
+pub passes_front : (budget : ℕ) (bytes more : List ℕ) (at : ℕ) → (p : PassesBudget budget (bytes ++ more) at) → PassesBudget budget bytes at ⊎ ((m : List ℕ) × (p.before ≡ longs bytes ++ m))
+passes_front budget bytes more at p = go (fronts p.before p.word p.after (longs bytes) r.0 (sym p.split ∙ r.1))
+  where
+    r : (rest : List ℕ) × (longs (bytes ++ more) ≡ longs bytes ++ rest)
+    r = longs-more bytes more
+
+    go : ((m : List ℕ) × (longs bytes ≡ p.before ++ p.word ∷ m)) ⊎ ((m : List ℕ) × (p.before ≡ longs bytes ++ m)) → PassesBudget budget bytes at ⊎ ((m : List ℕ) × (p.before ≡ longs bytes ++ m))
+    go (inl (m, d)) = inl (record { before = p.before; word = p.word; after = m; split = d; place = p.place; expects = p.expects; first = p.first; passes = p.passes })
+    go (inr k) = inr k
+
+-- No size word is expected behind a longword that is refused.
+pub refused_front : (bytes : List ℕ) (at : ℕ) (reason : Reason) (m : List ℕ) → HasRefusal bytes at reason → Expects (longs bytes ++ m) roles.SizeWord → ⊥
+refused_front bytes at reason m h e =
+    no_fault (bytes_of (text e.value)) at reason
+    (record { value = e.value; is_load_file = e.is_load_file; rest = []; split = sym (append-nil (bytes_of (text e.value))) })
+    (inl (record {
+      before = h.before;
+      word = h.word;
+      after = (h.after ++ m) ++ e.word ∷ words e.more;
+      role = h.role;
+      split =
+          longs_text e.value e.is_load_file
+          ∙ ap words e.labels
+          ∙ map-append (λ (x : Role × ℕ). x.1) e.done ((roles.SizeWord, e.word) ∷ e.more)
+          ∙ ap (λ (xs : List ℕ). xs ++ e.word ∷ words e.more) (e.begins ∙ ap (λ (xs : List ℕ). xs ++ m) h.split ∙ append_assoc h.before (h.word ∷ h.after) m)
+          ∙ append_assoc h.before (h.word ∷ (h.after ++ m)) (e.word ∷ words e.more);
+      place = h.place;
+      expects = h.expects;
+      refuses = h.refuses;
+    }))

@@ -1,0 +1,283 @@
+-- The two stages of a load together, and when a load succeeds.
+use Rattle.std.proofs.Common.{◌≡◌, ℕ, ◌+◌, ◌-◌, ◌*◌, ◌/◌, ◌≤◌, Bool, true, false, List, [], ◌∷◌, ◌++◌, length, map, zero, suc, take, refl, sym, ap, subst, ◌∙◌, append_assoc, append-nil, arith, length-append, Option, Some, None, Result, Ok, Err, ◌⊎◌, inl, inr}
+use Rattle.std.specs.Prelude.{IfErr, IsErrAnd, IsTrue, IsSome, MatchResult}
+use Rattle.std.proofs.Math.Seq.{take-append-add}
+use Rattle.std.specs.Io.KnownBytes.{IsAtEnd}
+use Rattle.hunk_words.specs.Longs.{longs, bytes_of}
+use Rattle.hunk_words.specs.declared.fault.Fault.{Fault}
+use Rattle.hunk_words.specs.declared.reason.Reason.{Reason}
+use Rattle.hunk_words.specs.declared.reason.Reason.TheVariants as reasons
+use Rattle.hunk_words.proofs.LongLaws.{length-longs}
+use Rattle.hunk_files.specs.declared.row.Row.{Row}
+use Rattle.hunk_files.specs.Fault.{Expects, HasRefusal, HasFault, IsTruncated}
+use Rattle.hunk_files.specs.Image.{declared_bytes, image as image_at}
+use Rattle.hunk_files.specs.LoadFile.{TableEntry, LoadFileValue, IsLoadFile}
+use Rattle.hunk_files.specs.LoadText.{table, text}
+use Rattle.hunk_files.specs.Roles.{Role as roles}
+use Rattle.hunk_scatter.specs.Answers.{is_of_header, is_of_file}
+use Rattle.hunk_scatter.specs.Headers.{IsTable, header_bytes, PassesBudget, IsOverBudget, IsHeaderFaultBy}
+use Rattle.hunk_scatter.specs.Loaders.{Placed, MayGoOn, IsImageOf}
+use Rattle.hunk_scatter.specs.Loads.{Gives, IsHeaderWithin, IsWithinFile, IsReadFault, StopsInHeader, StopsShort, IsBodyStop, KeepsToHeader, LoadStop, InHeader, Between, InBody, LoadEnds}
+use Rattle.hunk_scatter.specs.Placing.{Placing, base_at, AreBases, HasBases, IsUnplacedFor}
+use Rattle.hunk_scatter.specs.Rows.{entries_of, bases_of}
+use Rattle.hunk_scatter.proofs.Faults.{refusal_more, no_refusal_on}
+use Rattle.hunk_scatter.proofs.Feeding.{fronts_of}
+use Rattle.hunk_scatter.proofs.HeaderFronts.{one_table, text_header, table_within, passes_more, passes_front, refused_front}
+use Rattle.hunk_scatter.proofs.LoadLaws.{IsSplit, split_of}
+
+-- ---- the body behind its header
+
+pub has_bases : (base : Placing) (t : List TableEntry) (bases : List ℕ) → AreBases base t bases → HasBases base t
+has_bases base t bases h i less = subst IsSome (sym (h.each i less)) refl
+
+pub ends_body : (base : Placing) (budget limit : ℕ) (left : Option (List ℕ)) (failed : Bool) (t : List TableEntry) (header more : List ℕ) (rows : List Row) (result : Result Placed Fault) →
+    IsHeaderWithin budget header t → entries_of rows ≡ t → AreBases base t (bases_of rows) →
+    MatchResult result (λ image. IsImageOf rows (header ++ more) image.segments × (image.rows ≡ rows)) (IsBodyStop limit left failed (header ++ more)) → LoadEnds base budget limit left failed (header ++ more) result
+ends_body base budget limit left failed t header more rows (Ok placed) h e b (image, same) =
+    let table_is : table image.value ≡ t = image.file.table_is ∙ e in (
+      image.value,
+      record {
+        is_load_file = image.file.is_load_file;
+        table_is = image.file.table_is ∙ ap entries_of (sym same);
+        within = subst (λ (u : List TableEntry). declared_bytes u ≤ budget) (sym table_is) h.within;
+        bases = subst (λ (u : List TableEntry). AreBases base u (bases_of placed.rows)) (sym table_is) (subst (λ (rs : List Row). AreBases base t (bases_of rs)) (sym same) b);
+        segments = image.images_are ∙ ap (λ (rs : List Row). map (image_at (bases_of rs)) image.value) (sym same);
+      },
+      sym image.file.bytes_are,
+    )
+ends_body base budget limit left failed t header more rows (Err f) h e b stop = InBody t header more h refl stop
+
+pub body_keeps : (base : Placing) (budget : ℕ) (t : List TableEntry) (header more : List ℕ) → IsHeaderWithin budget header t → HasBases base t → KeepsToHeader base budget (header ++ more)
+body_keeps base budget t header more h b u m is e =
+    let same : t ≡ u = one_table t u more m h.is_table is (ap (λ (xs : List ℕ). xs ++ more) (sym h.header) ∙ e) in
+    inr (subst (λ (x : List TableEntry). (declared_bytes x ≤ budget) × HasBases base x) same (h.within, b))
+
+-- ---- success
+
+module _ (base : Placing) (budget limit : ℕ) (old left : Option (List ℕ)) (failed : Bool) (given : List ℕ) (gives : Gives old left limit given) (one : IsWithinFile given) (works : failed ≡ false) where
+  -- a file that fits and can be placed
+  module _ (v : LoadFileValue) (rest : List ℕ) (is : IsLoadFile v) (input : old ≡ Some (bytes_of (text v) ++ rest)) (fits : length (bytes_of (text v)) ≤ limit) (within : declared_bytes (table v) ≤ budget) (bases : HasBases base (table v)) where
+    split : IsSplit old left (bytes_of (text v) ++ rest) given
+    split = split_of old left (bytes_of (text v) ++ rest) given input gives.consumed
+
+    -- what was given is a front of the file
+    front : (m : List ℕ) × (bytes_of (text v) ≡ given ++ m) × (split.rest ≡ m ++ rest)
+    front = go (fronts_of given split.rest (bytes_of (text v)) rest (sym split.split))
+      where
+        go : ((m : List ℕ) × (given ≡ bytes_of (text v) ++ m) × (m ++ split.rest ≡ rest)) ⊎ ((m : List ℕ) × (bytes_of (text v) ≡ given ++ m) × (split.rest ≡ m ++ rest)) →
+            (m : List ℕ) × (bytes_of (text v) ≡ given ++ m) × (split.rest ≡ m ++ rest)
+        go (inl (m, p, q)) =
+            let none = one v m is p in
+            let whole : given ≡ bytes_of (text v) = p ∙ ap (λ (xs : List ℕ). bytes_of (text v) ++ xs) none ∙ append-nil (bytes_of (text v)) in
+            ([], sym whole ∙ sym (append-nil given), ap (λ (xs : List ℕ). xs ++ split.rest) (sym none) ∙ q)
+        go (inr k) = k
+
+    on : MayGoOn given
+    on = record { value = v; is_load_file = is; more = front.0; fits = inl front.1 }
+
+    no_refusal : (at : ℕ) (r : Reason) → HasRefusal given at r → ⊥
+    no_refusal at r h = no_refusal_on given at r on h
+
+    no_pass : (at : ℕ) → PassesBudget budget given at → ⊥
+    no_pass at p =
+        let h = text_header v is in
+        table_within (table v) h.0 budget (given ++ front.0) h.1.0 within (sym front.1 ∙ h.1.1) at (passes_more budget given front.0 at p)
+
+    not_whole : (at : ℕ) → IsTruncated given at → front.0 ≡ [] → ⊥
+    not_whole at t e = t.not_whole (record { value = v; is_load_file = is; rest = []; split = sym (append-nil given) ∙ ap (λ (xs : List ℕ). given ++ xs) (sym e) ∙ sym front.1 ∙ sym (append-nil (bytes_of (text v))) })
+
+    nothing : (xs : List ℕ) → length xs ≤ 0 → xs ≡ []
+    nothing [] le = refl
+    nothing (x ∷ xs) le = absurd (omega (arith, le))
+
+    not_short : (f : Fault) → StopsShort limit left failed given f → f.reason ≡ reasons.OutOfMemory
+    not_short f s = go s.why
+      where
+        nil_left : (l : Option (List ℕ)) → l ≡ Some split.rest → IsAtEnd l → split.rest ≡ []
+        nil_left None e a = absurd cc
+        nil_left (Some xs) e a = let same : xs ≡ split.rest = cc in sym same ∙ a
+
+        left_nil : (xs ys : List ℕ) → xs ++ ys ≡ [] → xs ≡ []
+        left_nil [] ys e = refl
+        left_nil (x ∷ xs) ys e = absurd cc
+
+        go : IsReadFault limit left failed (length given) f → f.reason ≡ reasons.OutOfMemory
+        go (inl (e, p, c)) = absurd (not_whole _ s.truncated (nothing front.0 (omega (arith, c, fits, ap length front.1, length-append given front.0))))
+        go (inr (inl (e, p, x))) = absurd (let clash : true ≡ false = sym x ∙ works in cc)
+        go (inr (inr (e, p, a))) = absurd (not_whole _ s.truncated (left_nil front.0 rest (sym front.2 ∙ nil_left left split.left_is a)))
+
+    by_header : (r : Reason) (at : ℕ) → IsTrue (is_of_header r) → IsHeaderFaultBy r budget given at → r ≡ reasons.OutOfMemory
+    by_header reasons.Budget at o h = absurd (no_pass at h)
+    by_header reasons.OutOfMemory at o h = refl
+    by_header reasons.NotLoadFile at o h = absurd (no_refusal at _ h)
+    by_header reasons.IsObject at o h = absurd (no_refusal at _ h)
+    by_header reasons.Library at o h = absurd (no_refusal at _ h)
+    by_header reasons.Resident at o h = absurd (no_refusal at _ h)
+    by_header reasons.NoHunks at o h = absurd (no_refusal at _ h)
+    by_header reasons.TooManyHunks at o h = absurd (no_refusal at _ h)
+    by_header reasons.FirstHunk at o h = absurd (no_refusal at _ h)
+    by_header reasons.LastHunk at o h = absurd (no_refusal at _ h)
+    by_header _ at o h = absurd cc
+
+    missing : (t : List TableEntry) (r : Reason) → t ≡ table v → IsUnplacedFor base t r → r ≡ reasons.OutOfMemory
+    missing t (reasons.NoBase hunk) e u =
+        absurd (clash (base_at base t hunk) u.none (subst (λ (x : List TableEntry). HasBases base x) (sym e) bases hunk u.inside))
+      where
+        clash : (o : Option ℕ) → o ≡ None → IsSome o → ⊥
+        clash None n s = absurd cc
+        clash (Some x) n s = absurd cc
+    missing t reasons.OutOfMemory e u = refl
+    missing t _ e u = absurd u
+
+    stops : (f : Fault) → LoadStop base budget limit left failed given f → f.reason ≡ reasons.OutOfMemory
+    stops f (InHeader (inl s)) = by_header f.reason f.place s.own s.fault
+    stops f (InHeader (inr (s, n))) = not_short f s
+    stops f (Between t h u p) =
+        let k = text_header v is in
+        missing t f.reason
+        (one_table t (table v) front.0 k.1.0 h.is_table k.0 (ap (λ (xs : List ℕ). xs ++ front.0) (sym h.header) ∙ sym front.1 ∙ k.1.1)) u
+    stops f (InBody t header more h e (inl s)) = absurd (no_refusal f.place f.reason s.refusal)
+    stops f (InBody t header more h e (inr s)) = not_short f s
+
+    -- It is loaded, unless memory is wanted.
+    pub file_loads : (result : Result Placed Fault) → LoadEnds base budget limit left failed given result → IfErr result (λ f. f.reason ≡ reasons.OutOfMemory)
+    file_loads (Ok placed) h = tt
+    file_loads (Err f) h = stops f h
+
+  -- ---- a table that passes the budget
+
+  module _ (input : List ℕ) (is : old ≡ Some input) (at : ℕ) (p : PassesBudget budget (take limit input) at) where
+    cut : IsSplit old left input given
+    cut = split_of old left input given is gives.consumed
+
+    behind : List ℕ
+    behind = take (limit - length given) cut.rest
+
+    -- the bytes that may be read, around those that were given
+    around : take limit input ≡ given ++ behind
+    unfolding behind
+    around =
+        let n : limit ≡ length given + (limit - length given) = omega (arith, gives.within) in
+        ap (take limit) cut.split ∙ ap (λ (k : ℕ). take k (given ++ cut.rest)) n ∙ take-append-add given cut.rest (limit - length given)
+
+    here : PassesBudget budget (given ++ behind) at
+    here = subst (λ (bs : List ℕ). PassesBudget budget bs at) around p
+
+    not_in : (t : List TableEntry) (more : List ℕ) → IsTable t → declared_bytes t ≤ budget → given ≡ header_bytes t ++ more → ⊥
+    not_in t more ok le e = table_within t ok budget (given ++ behind) (more ++ behind) le (ap (λ (xs : List ℕ). xs ++ behind) e ∙ append_assoc (header_bytes t) more behind) at here
+
+    not_all : behind ≡ [] → ((k : ℕ) → PassesBudget budget given k → ⊥) → ⊥
+    not_all e n = n at (subst (λ (bs : List ℕ). PassesBudget budget bs at) (ap (λ (xs : List ℕ). given ++ xs) e ∙ append-nil given) here)
+
+    read_all : (f : Fault) → StopsShort limit left failed given f → behind ≡ []
+    unfolding behind
+    read_all f s = go s.why
+      where
+        short_take : (n : ℕ) (xs : List ℕ) → n ≡ 0 → take n xs ≡ []
+        short_take n xs e = ap (λ (k : ℕ). take k xs) e
+
+        take_nil : (n : ℕ) (xs : List ℕ) → xs ≡ [] → take n xs ≡ []
+        take_nil n xs e = ap (take n) e ∙ none n
+          where
+            none : (k : ℕ) → take {A = ℕ} k [] ≡ []
+            none zero = refl
+            none (suc k) = refl
+
+        nil_left : (l : Option (List ℕ)) → l ≡ Some cut.rest → IsAtEnd l → cut.rest ≡ []
+        nil_left None e a = absurd cc
+        nil_left (Some xs) e a = let same : xs ≡ cut.rest = cc in sym same ∙ a
+
+        go : IsReadFault limit left failed (length given) f → take (limit - length given) cut.rest ≡ []
+        go (inl (e, q, c)) = short_take (limit - length given) cut.rest (omega (arith, c))
+        go (inr (inl (e, q, x))) = absurd (let clash : true ≡ false = sym x ∙ works in cc)
+        go (inr (inr (e, q, a))) = take_nil (limit - length given) cut.rest (nil_left left cut.left_is a)
+
+    outside : (f : Fault) (r : Reason) → f.reason ≡ r → IsTrue (is_of_header r) → IsHeaderFaultBy r budget given f.place → (m : List ℕ) → here.before ≡ longs given ++ m → IsOverBudget at f
+    outside f reasons.Budget e o h m d =
+        let le = here.first h.before (h.after ++ m) h.word (d ∙ ap (λ (xs : List ℕ). xs ++ m) h.split ∙ append_assoc h.before (h.word ∷ h.after) m) h.expects in
+        absurd (omega (arith, le, h.passes))
+    outside f reasons.OutOfMemory e o h m d =
+        inr (
+          e,
+          omega (
+            arith,
+            here.place,
+            ap length d,
+            length-append (longs given) m,
+            length-longs given,
+            h.ends,
+            ap length h.split,
+            length-append h.front h.rest,
+          ),
+        )
+    outside f reasons.NotLoadFile e o h m d = absurd (refused_front given f.place _ m h (subst (λ (xs : List ℕ). Expects xs roles.SizeWord) d here.expects))
+    outside f reasons.IsObject e o h m d = absurd (refused_front given f.place _ m h (subst (λ (xs : List ℕ). Expects xs roles.SizeWord) d here.expects))
+    outside f reasons.Library e o h m d = absurd (refused_front given f.place _ m h (subst (λ (xs : List ℕ). Expects xs roles.SizeWord) d here.expects))
+    outside f reasons.Resident e o h m d = absurd (refused_front given f.place _ m h (subst (λ (xs : List ℕ). Expects xs roles.SizeWord) d here.expects))
+    outside f reasons.NoHunks e o h m d = absurd (refused_front given f.place _ m h (subst (λ (xs : List ℕ). Expects xs roles.SizeWord) d here.expects))
+    outside f reasons.TooManyHunks e o h m d = absurd (refused_front given f.place _ m h (subst (λ (xs : List ℕ). Expects xs roles.SizeWord) d here.expects))
+    outside f reasons.FirstHunk e o h m d = absurd (refused_front given f.place _ m h (subst (λ (xs : List ℕ). Expects xs roles.SizeWord) d here.expects))
+    outside f reasons.LastHunk e o h m d = absurd (refused_front given f.place _ m h (subst (λ (xs : List ℕ). Expects xs roles.SizeWord) d here.expects))
+    outside f _ e o h m d = absurd cc
+
+    in_header : (f : Fault) → StopsInHeader budget given f → PassesBudget budget given at ⊎ ((m : List ℕ) × (here.before ≡ longs given ++ m)) → IsOverBudget at f
+    in_header f s (inl q) = s.over at q
+    in_header f s (inr (m, d)) = outside f f.reason refl s.own s.fault m d
+
+    over : (f : Fault) → LoadStop base budget limit left failed given f → IsOverBudget at f
+    over f (InHeader (inl s)) = in_header f s (passes_front budget given behind at here)
+    over f (InHeader (inr (s, n))) = absurd (not_all (read_all f s) n)
+    over f (Between t h u q) = absurd (not_in t [] h.is_table h.within (h.header ∙ sym (append-nil (header_bytes t))))
+    over f (InBody t header more h e s) = absurd (not_in t more h.is_table h.within (e ∙ ap (λ (xs : List ℕ). xs ++ more) h.header))
+
+    -- It stops there, or before it for want of memory.
+    pub budget_stops : (result : Result Placed Fault) → LoadEnds base budget limit left failed given result → IsErrAnd result (IsOverBudget at)
+    budget_stops (Ok placed) (v, loaded, e) =
+        let k = text_header v loaded.is_load_file in
+        absurd (not_in (table v) k.1.0 k.0 loaded.within (e ∙ k.1.1))
+    budget_stops (Err f) h = over f h
+
+-- ---- the fault of a file
+
+file_header : (budget : ℕ) (given : List ℕ) (r : Reason) (at : ℕ) → IsTrue (is_of_file r) → IsTrue (is_of_header r) → IsHeaderFaultBy r budget given at → HasRefusal given at r
+file_header budget given reasons.Budget at o w h = absurd cc
+file_header budget given reasons.OutOfMemory at o w h = absurd cc
+file_header budget given _ at o w h = h
+
+place_not : (base : Placing) (t : List TableEntry) (r : Reason) → IsTrue (is_of_file r) → IsUnplacedFor base t r → ⊥
+place_not base t (reasons.NoBase hunk) o u = absurd cc
+place_not base t reasons.OutOfMemory o u = absurd cc
+place_not base t _ o u = u
+
+module _ (old left : Option (List ℕ)) (limit : ℕ) (failed : Bool) (given : List ℕ) (gives : Gives old left limit given) (input : List ℕ) (is : old ≡ Some input) where
+  parts : IsSplit old left input given
+  parts = split_of old left input given is gives.consumed
+
+  refused : (at : ℕ) (r : Reason) → HasRefusal given at r → HasFault input at r
+  refused at r h = inl (subst (λ (bs : List ℕ). HasRefusal bs at r) (sym parts.split) (refusal_more given parts.rest at r h))
+
+  short : (f : Fault) → IsTrue (is_of_file f.reason) → StopsShort limit left failed given f → HasFault input f.place f.reason
+  short f o s = go s.why
+    where
+      nil_left : (l : Option (List ℕ)) → l ≡ Some parts.rest → IsAtEnd l → parts.rest ≡ []
+      nil_left None e a = absurd cc
+      nil_left (Some xs) e a = let same : xs ≡ parts.rest = cc in sym same ∙ a
+
+      go : IsReadFault limit left failed (length given) f → HasFault input f.place f.reason
+      go (inl (e, p, c)) = absurd (let clash : true ≡ false = sym o ∙ ap is_of_file e in cc)
+      go (inr (inl (e, p, x))) = absurd (let clash : true ≡ false = sym o ∙ ap is_of_file e in cc)
+      go (inr (inr (e, p, a))) =
+          let all : given ≡ input = sym (append-nil given) ∙ ap (λ (xs : List ℕ). given ++ xs) (sym (nil_left left parts.left_is a)) ∙ sym parts.split in
+          inr (e, subst (λ (n : ℕ). IsTruncated input n) (sym p) (subst (λ (bs : List ℕ). IsTruncated bs (4 * (length given / 4))) all s.truncated))
+
+  file_stop : (base : Placing) (budget : ℕ) (f : Fault) → IsTrue (is_of_file f.reason) → LoadStop base budget limit left failed given f → HasFault input f.place f.reason
+  file_stop base budget f o (InHeader (inl s)) = refused f.place f.reason (file_header budget given f.reason f.place o s.own s.fault)
+  file_stop base budget f o (InHeader (inr (s, n))) = short f o s
+  file_stop base budget f o (Between t h u p) = absurd (place_not base t f.reason o u)
+  file_stop base budget f o (InBody t header more h e (inl s)) = refused f.place f.reason s.refusal
+  file_stop base budget f o (InBody t header more h e (inr s)) = short f o s
+
+  -- What is the file's is its fault.
+  pub file_faults : (base : Placing) (budget : ℕ) (result : Result Placed Fault) → LoadEnds base budget limit left failed given result → IfErr result (λ f. IsTrue (is_of_file f.reason) → HasFault input f.place f.reason)
+  file_faults base budget (Ok placed) h = tt
+  file_faults base budget (Err f) h = λ o. file_stop base budget f o h

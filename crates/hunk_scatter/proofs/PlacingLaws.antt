@@ -1,0 +1,134 @@
+-- Rows are placed one after another.
+use Rattle.std.proofs.Common.{◌≡◌, ◌≢◌, ℕ, zero, suc, ◌+◌, ◌*◌, ◌<◌, ◌≤◌, ◌^◌, Bool, true, false, List, [], ◌∷◌, ◌++◌, length, map, take, drop, get_or, set, refl, sym, ap, ap₂, subst, ◌∙◌, arith, None, Some, ltb, length-take}
+use Rattle.std.specs.Prelude.{IsSome}
+use Rattle.std.proofs.lemmas.Bool.{ltb-true, ltb-false}
+use Rattle.std.proofs.lemmas.List.{get_or-set_same, get_or-set_other, get_or-map, length-map, map-set}
+use Rattle.std.proofs.Math.Seq.{map-set_same, take-suc}
+use Rattle.hunk_words.specs.Bits.{size_longs}
+use Rattle.hunk_files.specs.declared.row.Row.{Row}
+use Rattle.hunk_files.specs.Image.{declared_bytes}
+use Rattle.hunk_files.specs.LoadFile.{TableEntry}
+use Rattle.hunk_scatter.specs.Placing.{Placing, base_at, AreBases, IsFirstUnplaced, ArePlacedTo}
+use Rattle.hunk_scatter.specs.Rows.{entry_of, entries_of, row_of, bases_of}
+use Rattle.hunk_scatter.proofs.DeclaredBytes.{declared_limit, declared-append, declared-one}
+
+abbrev no_entry : TableEntry
+no_entry = record { word = 0; extra = 0 }
+
+module _ (base : Placing) (old rows : List Row) (i before : ℕ) (d : Row) (inside : i < length old) (unplaced : old ≡ map row_of (entries_of old)) (p : ArePlacedTo base (entries_of old) old rows i before) where
+  counts : length rows ≡ length old
+  counts = sym (length-map rows entry_of) ∙ ap length p.entries ∙ length-map old entry_of
+
+  -- the row that is asked for
+  pub asked : get_or rows i d ≡ row_of (get_or (entries_of old) i no_entry)
+  asked =
+      p.later i (λ less. omega (arith, less)) d
+      ∙ ap (λ (rs : List Row). get_or rs i d) unplaced
+      ∙ get_or-map row_of (entries_of old) i no_entry d (omega (arith, length-map old entry_of, inside))
+
+  pub answer_is : base i (get_or rows i d) before ≡ base_at base (entries_of old) i
+  answer_is = ap₂ (λ (r : Row) (n : ℕ). base i r n) asked p.before_is
+
+  size_is : 4 * size_longs (get_or rows i d).word ≡ 4 * size_longs (get_or (entries_of old) i no_entry).word
+  size_is = ap (λ (r : Row). 4 * size_longs r.word) asked
+
+  -- One more hunk is placed.
+  pub placed_more : (b : ℕ) (row : Row) → base_at base (entries_of old) i ≡ Some b → row.base ≡ b → entry_of row ≡ entry_of (get_or rows i d) →
+      ArePlacedTo base (entries_of old) old (set rows i row) (suc i) (before + 4 * size_longs (get_or rows i d).word)
+  placed_more b row is e same = record {
+    entries = map-set_same entry_of rows i row d same ∙ p.entries;
+    later = λ k no x. get_or-set_other rows i k row x (λ same. no (omega (arith, same))) ∙ p.later k (λ less. no (omega (arith, less))) x;
+    given = λ k less. at k less (ltb k i) refl;
+    before_is =
+        omega (
+          arith,
+          p.before_is,
+          size_is,
+          ap declared_bytes (take-suc (entries_of old) i no_entry (omega (arith, inside, length-map old entry_of))),
+          declared-append (take i (entries_of old)) (get_or (entries_of old) i no_entry ∷ []),
+          declared-one (get_or (entries_of old) i no_entry),
+        );
+  }
+    where
+      bases : bases_of (set rows i row) ≡ set (bases_of rows) i row.base
+      bases = map-set (λ (r : Row). r.base) rows i row
+
+      at : (k : ℕ) → k < suc i → (t : Bool) → ltb k i ≡ t → base_at base (entries_of old) k ≡ Some (get_or (bases_of (set rows i row)) k 0)
+      at k less true f =
+          let before_i : k < i = ltb-true k i f in
+          let other : k ≢ i = λ e. omega (arith, before_i, e) in
+          p.given k before_i ∙ ap (λ (x : ℕ). Some x) (sym (ap (λ (xs : List ℕ). get_or xs k 0) bases ∙ get_or-set_other (bases_of rows) i k row.base 0 other))
+      at k less false f =
+          let not_less : i ≤ k = ltb-false k i f in
+          let here : k ≡ i = omega arith in
+          let in_bases : i < length (bases_of rows) = omega (arith, length-map rows (λ (r : Row). r.base), counts, inside) in
+          ap (base_at base (entries_of old)) here ∙ is ∙ ap (λ (x : ℕ). Some x)
+          (sym e
+          ∙ sym (get_or-set_same (bases_of rows) i row.base 0 in_bases)
+          ∙ ap₂ (λ (xs : List ℕ) (n : ℕ). get_or xs n 0) (sym bases) (sym here))
+
+  -- The first hunk without a base.
+  pub none_here : base_at base (entries_of old) i ≡ None → IsFirstUnplaced base (entries_of old) i
+  none_here e = record {
+    inside = omega (arith, inside, length-map old entry_of);
+    none = e;
+    first = λ k less. subst IsSome (sym (p.given k less)) refl;
+  }
+
+  pub before_room : length old ≤ 65536 → before + 4 * size_longs (get_or rows i d).word < 2 ^ 49
+  before_room few =
+      omega (
+        arith,
+        p.before_is,
+        declared_limit (take i (entries_of old)),
+        length-take i (entries_of old),
+        length-map old entry_of,
+      )
+
+-- All hunks are placed.
+pub placed_all : (base : Placing) (old rows : List Row) (n before : ℕ) → n ≡ length old → ArePlacedTo base (entries_of old) old rows n before → AreBases base (entries_of old) (bases_of rows)
+placed_all base old rows n before e p = record {
+  count = length-map rows (λ (r : Row). r.base) ∙ sym (length-map rows entry_of) ∙ ap length p.entries;
+  each = λ i less. p.given i (omega (arith, less, e, length-map old entry_of));
+}
+
+pub placed_none : (base : Placing) (rows : List Row) → ArePlacedTo base (entries_of rows) rows rows 0 0
+placed_none base rows = record { entries = refl; later = λ k no d. refl; given = λ k less. absurd (omega (arith, less)); before_is = refl }
+
+abbrev pub no_row : Row
+no_row = record { word = 0; extra = 0; base = 0 }
+
+abbrev pub with_base : Row → ℕ → Row
+with_base row b = record { word = row.word; extra = row.extra; base = b }
+
+-- One turn of the loop.
+pub placed_next : (base : Placing) (old rows : List Row) (i before b w size j sum : ℕ) → i < length old → old ≡ map row_of (entries_of old) → ArePlacedTo base (entries_of old) old rows i before →
+    base i (get_or rows i no_row) before ≡ Some b → w ≡ (get_or rows i no_row).word → size ≡ 4 * size_longs w → j ≡ suc i → sum ≡ before + size →
+    ArePlacedTo base (entries_of old) old (set rows i (with_base (get_or rows i no_row) b)) j sum
+placed_next base old rows i before b w size j sum inside unplaced p e v s f d =
+    subst (λ (k : ℕ). ArePlacedTo base (entries_of old) old (set rows i (with_base (get_or rows i no_row) b)) k sum) (sym f)
+    (subst (λ (k : ℕ). ArePlacedTo base (entries_of old) old (set rows i (with_base (get_or rows i no_row) b)) (suc i) k)
+    (sym (d ∙ ap (λ (n : ℕ). before + n) (s ∙ ap (λ (n : ℕ). 4 * size_longs n) v)))
+    (placed_more base old rows i before no_row inside unplaced p b (with_base (get_or rows i no_row) b) (sym (answer_is base old rows i before no_row inside unplaced p) ∙ e) refl refl))
+
+pub next_room : (base : Placing) (old rows : List Row) (i before w size : ℕ) → i < length old → old ≡ map row_of (entries_of old) → ArePlacedTo base (entries_of old) old rows i before →
+    length old ≤ 65536 → w ≡ (get_or rows i no_row).word → size ≡ 4 * size_longs w → before + size < 2 ^ 49
+next_room base old rows i before w size inside unplaced p few v s =
+    omega (arith, before_room base old rows i before no_row inside unplaced p few, s, ap (λ (n : ℕ). 4 * size_longs n) v)
+
+pub next_none : (base : Placing) (old rows : List Row) (i before : ℕ) → i < length old → old ≡ map row_of (entries_of old) → ArePlacedTo base (entries_of old) old rows i before →
+    base i (get_or rows i no_row) before ≡ None → IsFirstUnplaced base (entries_of old) i
+next_none base old rows i before inside unplaced p e =
+    none_here base old rows i before no_row inside unplaced p (sym (answer_is base old rows i before no_row inside unplaced p) ∙ e)
+
+-- ---- bases taken away
+
+pub unplaced_next : (old items : List Row) (i j : ℕ) → i < length old → j ≡ suc i → items ≡ map row_of (entries_of (take i old)) ++ drop i old →
+    set items i (with_base (get_or items i no_row) 0) ≡ map row_of (entries_of (take j old)) ++ drop j old
+unplaced_next old items i j inside f e = ap (λ (xs : List Row). set xs i (with_base (get_or xs i no_row) 0)) e ∙ go old i inside ∙ ap (λ (n : ℕ). map row_of (entries_of (take n old)) ++ drop n old) (sym f)
+  where
+    go : (rs : List Row) (n : ℕ) → n < length rs →
+        set (map row_of (entries_of (take n rs)) ++ drop n rs) n (with_base (get_or (map row_of (entries_of (take n rs)) ++ drop n rs) n no_row) 0) ≡ map row_of (entries_of (take (suc n) rs)) ++ drop (suc n) rs
+    go [] n less = absurd (omega (arith, less))
+    go (r ∷ rs) zero less = refl
+    go (r ∷ rs) (suc n) less = ap (λ (xs : List Row). row_of (entry_of r) ∷ xs) (go rs n (omega (arith, less)))

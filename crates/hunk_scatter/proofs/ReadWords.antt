@@ -1,0 +1,19 @@
+-- The longwords that were read, and those of a load text, are below 2 ^ 32.
+use Rattle.std.proofs.Common.{ℕ, List, [], ◌∷◌, subst}
+use Rattle.hunk_words.specs.Longs.{AreLongs}
+use Rattle.hunk_files.specs.LoadFile.{LoadFileValue, IsLoadFile}
+use Rattle.hunk_files.specs.LoadText.{labelled, words, text}
+use Rattle.hunk_files.proofs.FileSteps.{Next}
+use Rattle.hunk_files.proofs.Runs.{Labelled, AreAccepted}
+use Rattle.hunk_files.proofs.Accepted.{labelled_accepted}
+use Rattle.hunk_files.proofs.Reading.{HasRead}
+
+pub accepted_longs : (done : Labelled) → AreAccepted done → AreLongs (words done)
+accepted_longs [] h = tt
+accepted_longs (l ∷ done) h = (h.0.0, accepted_longs done h.1)
+
+pub read_longs : (ws : List ℕ) (n : Next) → HasRead ws n → AreLongs ws
+read_longs ws n h = subst AreLongs h.all (accepted_longs h.done h.accepted)
+
+pub text_longs : (v : LoadFileValue) → IsLoadFile v → AreLongs (text v)
+text_longs v is = accepted_longs (labelled v) (labelled_accepted v is)

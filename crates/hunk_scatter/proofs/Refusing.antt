@@ -1,0 +1,60 @@
+-- The reasons for which a longword of a body, and one of a header, is refused.
+use Rattle.std.proofs.Common.{◌≡◌, ℕ, ◌+◌, Bool, true, false, cond, Some, None, Option, refl, subst, ◌==◌}
+use Rattle.std.specs.Prelude.{IfSome, IsTrue, nat_lt}
+use Rattle.hunk_words.specs.declared.block_word.Kind.{Kind}
+use Rattle.hunk_words.specs.declared.block_word.Kind.TheVariants as kinds
+use Rattle.hunk_words.specs.declared.reason.Reason.{Reason}
+use Rattle.hunk_words.specs.declared.reason.Reason.TheVariants as reasons
+use Rattle.hunk_words.specs.Bits.{has_both_bits, size_longs, is_advisory, kind}
+use Rattle.hunk_blocks.specs.Parts.{Part, Part as parts}
+use Rattle.hunk_files.specs.Roles.{Place, refuse, refuse_kind, refuse_part}
+use Rattle.hunk_scatter.specs.declared.header_state.HeaderPhase.{HeaderPhase}
+use Rattle.hunk_scatter.specs.declared.header_state.HeaderPhase.TheVariants as phases
+use Rattle.hunk_scatter.specs.Answers.{is_of_body, is_of_header}
+use Rattle.hunk_scatter.specs.Heading.{role_at}
+
+module _ (test : Reason → Bool) where
+  abbrev AreOf : Option Reason → Type 0
+  AreOf o = IfSome o (λ r. IsTrue (test r))
+
+  chosen : (b : Bool) (x y : Option Reason) → AreOf x → AreOf y → AreOf (cond b x y)
+  chosen true x y h k = h
+  chosen false x y h k = k
+
+kind_of_body : (has_content advisory : Bool) (k : Kind) → AreOf is_of_body (refuse_kind has_content advisory k)
+kind_of_body h a (kinds.Unknown n) = chosen is_of_body a None (Some reasons.UnknownBlock) tt refl
+kind_of_body h a kinds.Code = chosen is_of_body h (Some reasons.SecondContent) None refl tt
+kind_of_body h a kinds.Data = chosen is_of_body h (Some reasons.SecondContent) None refl tt
+kind_of_body h a kinds.Bss = chosen is_of_body h (Some reasons.SecondContent) None refl tt
+kind_of_body h a kinds.Reloc32 = chosen is_of_body h None (Some reasons.BeforeContent) tt refl
+kind_of_body h a kinds.End = chosen is_of_body h None (Some reasons.NoContent) tt refl
+kind_of_body h a kinds.Name = tt
+kind_of_body h a kinds.Symbol = tt
+kind_of_body h a kinds.Debug = tt
+kind_of_body h a _ = refl
+
+part_of_body : (p : Place) (part : Part) (w : ℕ) → AreOf is_of_body (refuse_part p part w)
+part_of_body p parts.BlockWord w = chosen is_of_body (has_both_bits w) (Some reasons.BothBits) _ refl (kind_of_body p.has_content (is_advisory w) (kind w))
+part_of_body p parts.ContentSize w = chosen is_of_body (nat_lt p.longs (size_longs w)) (Some reasons.ContentTooLong) None refl tt
+part_of_body p parts.NameCount w = chosen is_of_body (nat_lt w 16777216) None (Some reasons.NameWord) tt refl
+part_of_body p parts.GroupCount w = chosen is_of_body (w == 0) None _ tt (chosen is_of_body (p.longs == 0) (Some reasons.NothingToRelocate) None refl tt)
+part_of_body p parts.Target w = chosen is_of_body (nat_lt w p.hunks) None (Some reasons.BadTarget) tt refl
+part_of_body p parts.Offset w = chosen is_of_body (nat_lt _ _) (Some reasons.BadOffset) None refl tt
+part_of_body p _ w = tt
+
+pub refused_in_body : (p : Place) (part : Part) (w : ℕ) (r : Reason) → refuse_part p part w ≡ Some r → IsTrue (is_of_body r)
+refused_in_body p part w r e = subst (AreOf is_of_body) e (part_of_body p part w)
+
+role_of_header : (phase : HeaderPhase) (w : ℕ) → AreOf is_of_header (refuse (role_at phase) w)
+role_of_header phases.First w =
+    chosen is_of_header (w == 0x3F3) None _ tt
+    (chosen is_of_header (w == 0x3E7) (Some reasons.IsObject) _ refl (chosen is_of_header (w == 0x3FA) (Some reasons.Library) (Some reasons.NotLoadFile) refl refl))
+role_of_header phases.Resident w = chosen is_of_header (w == 0) None (Some reasons.Resident) tt refl
+role_of_header phases.TableSize w =
+    chosen is_of_header (w == 0) (Some reasons.NoHunks) _ refl (chosen is_of_header (nat_lt 65536 w) (Some reasons.TooManyHunks) None refl tt)
+role_of_header (phases.FirstHunk hunks) w = chosen is_of_header (w == 0) None (Some reasons.FirstHunk) tt refl
+role_of_header (phases.LastHunk hunks) w = chosen is_of_header (w + 1 == hunks) None (Some reasons.LastHunk) tt refl
+role_of_header _ w = tt
+
+pub refused_in_header : (phase : HeaderPhase) (w : ℕ) (r : Reason) → refuse (role_at phase) w ≡ Some r → IsTrue (is_of_header r)
+refused_in_header phase w r e = subst (AreOf is_of_header) e (role_of_header phase w)

@@ -1,0 +1,249 @@
+-- Each longword keeps what the store holds.
+use Rattle.std.proofs.Common.{◌≡◌, ℕ, ◌+◌, ◌-◌, ◌*◌, ◌≤◌, Bool, true, false, List, [], ◌∷◌, ◌++◌, length, get_or, replicate, refl, sym, ap, ap₂, subst, ◌∙◌, append_assoc, append-nil, arith, length-append, ltb, None}
+use Rattle.std.specs.List.{flat_map, AllByRecursion}
+use Rattle.std.specs.Int.{w32, to_be_bytes}
+use Rattle.std.proofs.lemmas.Bool.{ltb-false}
+use Rattle.std.proofs.lemmas.List.Sums.{sum_by-cons}
+use Rattle.std.proofs.lemmas.List.{length-replicate}
+use Rattle.hunk_words.specs.declared.block_word.Kind.{Kind}
+use Rattle.hunk_words.specs.declared.block_word.Kind.TheVariants as kinds
+use Rattle.hunk_words.specs.declared.reason.Reason.TheVariants as reasons
+use Rattle.hunk_words.specs.Bits.{size_longs, kind, is_advisory}
+use Rattle.hunk_words.specs.Longs.{bytes_of, IsLong}
+use Rattle.hunk_files.specs.Image.{add_at, image, filled, relocated, block_content, block_relocations}
+use Rattle.hunk_blocks.specs.Values.{BlockValue, Name, Code, Data, Bss, Reloc, Ext, Symbol, Debug, Advisory, End}
+use Rattle.hunk_files.specs.LoadFile.{TableEntry, HunkValue}
+use Rattle.hunk_files.specs.Roles.{refuse, refuse_part, refuse_kind}
+use Rattle.hunk_blocks.proofs.BlockSteps.{ForName, ForDebug, ForAdvisory, ForCode, ForData, ForBss, Counted, SizedCode, SizedData, Inside, AtCount, AtSize, InPayload, AtGroup, AtTarget, InOffsets, AtEntry, InName, AtValue, BlockNext, Open, Whole, part_of, step_inside, begin}
+use Rattle.hunk_files.proofs.FileSteps.{hunk, block, OpenHunk, Progress, AtBlock, InBody, More, place_of, role_of, with_block, open_hunk, close, after, step}
+use Rattle.hunk_files.proofs.FileProgress.{ProgressFits, IsAdmitted, kind_admitted}
+use Rattle.hunk_files.proofs.HunkProgress as blocks
+use Rattle.hunk_blocks.proofs.Lists.{All-more, flat_map-more, passed_true, passed_false}
+use Rattle.hunk_files.proofs.Memory.{segment_so_far, bytes_so_far, pairs_so_far, bytes_in, pairs_in, adds_bytes, adds_pairs, step_adds_bytes, step_adds_pairs, offset_adds, end_is_image}
+use Rattle.hunk_scatter.specs.Holding.{zeros, IsSized, images, Holds, StoreHolds, put_at, stored_in, stored}
+use Rattle.hunk_scatter.specs.Standing.{phase_of, state_of, before}
+use Rattle.hunk_scatter.proofs.Splice.{put-join, add-join, length-put, long_fills}
+use Rattle.hunk_words.proofs.LongLaws.{length-bytes_of, bytes_of-one}
+
+abbrev contents_of : OpenHunk → List ℕ
+contents_of o = flat_map (λ b. block_content b.body) o.blocks
+
+abbrev pairs_of : OpenHunk → List (ℕ × ℕ)
+pairs_of o = flat_map (λ b. block_relocations b.body) o.blocks
+
+segment_by : List ℕ → OpenHunk → List ℕ → List (ℕ × ℕ) → List ℕ
+segment_by bases o bytes pairs = relocated bases (filled (4 * size_longs o.entry.word) bytes) pairs
+
+-- ---- a segment that is as it was
+
+holds_as : (bases : List ℕ) (o : OpenHunk) (n m : BlockNext) (store : List ℕ) → segment_so_far bases o m ≡ segment_so_far bases o n → Holds bases o n store → Holds bases o m store
+holds_as bases o n m store e h = record {
+  front = h.front;
+  segment = ap length e ∙ h.segment;
+  unplaced = h.unplaced;
+  store_is = h.store_is ∙ ap (λ (s : List ℕ). images bases o.finished ++ (s ++ zeros o.ahead)) (sym e);
+}
+
+same_parts : (bases : List ℕ) (o : OpenHunk) (n m : BlockNext) → bytes_so_far m ≡ bytes_so_far n → pairs_so_far m ≡ pairs_so_far n → segment_so_far bases o m ≡ segment_so_far bases o n
+same_parts bases o n m e d =
+    ap₂ (λ (bs : List ℕ) (ps : List (ℕ × ℕ)). relocated bases (filled (4 * size_longs o.entry.word) (contents_of o ++ bs)) (pairs_of o ++ ps)) e d
+
+nothing_added : (bases : List ℕ) (o : OpenHunk) (x : Inside) (w : ℕ) → adds_bytes x w ≡ [] → adds_pairs x w ≡ [] → segment_so_far bases o (step_inside x w) ≡ segment_so_far bases o (Open x)
+nothing_added bases o x w e d =
+    same_parts bases o (Open x) (step_inside x w)
+    (step_adds_bytes x w ∙ ap (λ (bs : List ℕ). bytes_in x ++ bs) e ∙ append-nil (bytes_in x))
+    (step_adds_pairs x w ∙ ap (λ (ps : List (ℕ × ℕ)). pairs_in x ++ ps) d ∙ append-nil (pairs_in x))
+
+-- ---- a segment in which four bytes are replaced
+
+length-images : (bases : List ℕ) (hs : List HunkValue) → AllByRecursion (IsSized bases) hs → length (images bases hs) ≡ before hs
+length-images bases [] h = refl
+length-images bases (x ∷ hs) h =
+    omega (arith, length-append (image bases x) (images bases hs), h.0, length-images bases hs h.1, sum_by-cons (λ (y : HunkValue). 4 * size_longs y.entry.word) x hs)
+
+put_holds : (bases : List ℕ) (o : OpenHunk) (n m : BlockNext) (store : List ℕ) (k : ℕ) (four : List ℕ) → length four ≡ 4 → k + 4 ≤ 4 * size_longs o.entry.word →
+    segment_so_far bases o m ≡ put_at (segment_so_far bases o n) k four → Holds bases o n store → Holds bases o m (put_at store (before o.finished + k) four)
+put_holds bases o n m store k four l fits e h =
+    let inside : k + 4 ≤ length (segment_so_far bases o n) = omega (arith, h.segment) in
+    record {
+      front = h.front;
+      segment = ap length e ∙ length-put (segment_so_far bases o n) k four l inside ∙ h.segment;
+      unplaced = h.unplaced;
+      store_is =
+          ap₂ (λ (s : List ℕ) (at : ℕ). put_at s (at + k) four) h.store_is (sym (length-images bases o.finished h.front))
+          ∙ put-join (images bases o.finished) (segment_so_far bases o n) (zeros o.ahead) k inside four
+          ∙ ap (λ (s : List ℕ). images bases o.finished ++ (s ++ zeros o.ahead)) (sym e);
+    }
+
+add_holds : (bases : List ℕ) (o : OpenHunk) (n m : BlockNext) (store : List ℕ) (k base : ℕ) → k + 4 ≤ 4 * size_longs o.entry.word →
+    segment_so_far bases o m ≡ add_at (segment_so_far bases o n) k base → Holds bases o n store → Holds bases o m (add_at store (before o.finished + k) base)
+add_holds bases o n m store k base fits e h =
+    let inside : k + 4 ≤ length (segment_so_far bases o n) = omega (arith, h.segment) in
+    record {
+      front = h.front;
+      segment = ap length e ∙ length-put (segment_so_far bases o n) k _ refl inside ∙ h.segment;
+      unplaced = h.unplaced;
+      store_is =
+          ap₂ (λ (s : List ℕ) (at : ℕ). add_at s (at + k) base) h.store_is (sym (length-images bases o.finished h.front))
+          ∙ add-join (images bases o.finished) (segment_so_far bases o n) (zeros o.ahead) k inside base
+          ∙ ap (λ (s : List ℕ). images bases o.finished ++ (s ++ zeros o.ahead)) (sym e);
+    }
+
+-- ---- within a block
+
+kind_is : (o : OpenHunk) (word : ℕ) (k : Kind) → IsAdmitted o word → kind word ≡ k → refuse_kind o.has_content (is_advisory word) k ≡ None
+kind_is o word k a e = subst (λ (x : Kind). refuse_kind o.has_content (is_advisory word) x ≡ None) e (kind_admitted o word a).1
+
+-- while the content comes, the segment is what has come of it
+content_only : (bases : List ℕ) (o : OpenHunk) (n : BlockNext) (c : List ℕ) → contents_of o ≡ [] → pairs_of o ≡ [] → bytes_so_far n ≡ c → pairs_so_far n ≡ [] →
+    segment_so_far bases o n ≡ filled (4 * size_longs o.entry.word) c
+content_only bases o n c e d f g =
+    ap₂ (λ (bs : List ℕ) (ps : List (ℕ × ℕ)). relocated bases (filled (4 * size_longs o.entry.word) bs) ps)
+    (ap₂ (λ (xs ys : List ℕ). xs ++ ys) e f)
+    (ap₂ (λ (xs ys : List (ℕ × ℕ)). xs ++ ys) d g)
+
+content_put : (bases : List ℕ) (o : OpenHunk) (n m : BlockNext) (done : List ℕ) (w : ℕ) → (contents_of o ≡ []) × (pairs_of o ≡ []) →
+    bytes_so_far n ≡ bytes_of done → pairs_so_far n ≡ [] → bytes_so_far m ≡ bytes_of done ++ to_be_bytes w32 w → pairs_so_far m ≡ [] → 4 * length done + 4 ≤ 4 * size_longs o.entry.word →
+    segment_so_far bases o m ≡ put_at (segment_so_far bases o n) (4 * length done) (to_be_bytes w32 w)
+content_put bases o n m done w u e d f g fits =
+    content_only bases o m (bytes_of done ++ to_be_bytes w32 w) u.0 u.1 f g
+    ∙ long_fills (4 * size_longs o.entry.word) (bytes_of done) (to_be_bytes w32 w) refl (omega (arith, length-bytes_of done))
+    ∙ ap₂ (λ (s : List ℕ) (at : ℕ). put_at s at (to_be_bytes w32 w)) (sym (content_only bases o n (bytes_of done) u.0 u.1 e d)) (length-bytes_of done)
+
+inside_holds : (bases : List ℕ) (o : OpenHunk) (word : ℕ) (x : Inside) (w : ℕ) (store : List ℕ) → IsAdmitted o word → blocks.Fits (place_of o) word x →
+    refuse_part (place_of o) (part_of x) w ≡ None → Holds bases o (Open x) store → Holds bases o (step_inside x w) (stored_in bases (before o.finished) (phase_of x) w store)
+inside_holds bases o word x w store a f ok h = go x f ok h
+  where
+    idle : (y : Inside) → adds_bytes y w ≡ [] → adds_pairs y w ≡ [] → Holds bases o (Open y) store → Holds bases o (step_inside y w) store
+    idle y e d k = holds_as bases o (Open y) (step_inside y w) store (nothing_added bases o y w e d) k
+
+    go : (y : Inside) → blocks.Fits (place_of o) word y → refuse_part (place_of o) (part_of y) w ≡ None → Holds bases o (Open y) store →
+        Holds bases o (step_inside y w) (stored_in bases (before o.finished) (phase_of y) w store)
+    go (AtCount ForName) f ok k = idle (AtCount ForName) refl refl k
+    go (AtCount ForDebug) f ok k = idle (AtCount ForDebug) refl refl k
+    go (AtCount ForAdvisory) f ok k = idle (AtCount ForAdvisory) refl refl k
+    go (AtSize ForCode) f ok k = idle (AtSize ForCode) refl refl k
+    go (AtSize ForData) f ok k = idle (AtSize ForData) refl refl k
+    go (AtSize ForBss) f ok k = idle (AtSize ForBss) refl refl k
+    go (InPayload (Counted c) done owed) f ok k = idle (InPayload (Counted c) done owed) refl refl k
+    go (InPayload (SizedCode top) done owed) f ok k =
+        let y : Inside = InPayload (SizedCode top) done owed in
+        let early : o.has_content ≡ false = passed_false o.has_content reasons.SecondContent (kind_is o word kinds.Code a f.0.0.0) in
+        let room : 4 * length done + 4 ≤ 4 * size_longs o.entry.word = omega (arith, f.1) in
+        put_holds bases o (Open y) (step_inside y w) store (4 * length done) (to_be_bytes w32 w) refl room
+        (content_put bases o (Open y) (step_inside y w) done w (k.unplaced early) refl refl (step_adds_bytes y w ∙ ap (λ (bs : List ℕ). bytes_of done ++ bs) (bytes_of-one w)) (step_adds_pairs y w) room) k
+    go (InPayload (SizedData top) done owed) f ok k =
+        let y : Inside = InPayload (SizedData top) done owed in
+        let early : o.has_content ≡ false = passed_false o.has_content reasons.SecondContent (kind_is o word kinds.Data a f.0.0.0) in
+        let room : 4 * length done + 4 ≤ 4 * size_longs o.entry.word = omega (arith, f.1) in
+        put_holds bases o (Open y) (step_inside y w) store (4 * length done) (to_be_bytes w32 w) refl room
+        (content_put bases o (Open y) (step_inside y w) done w (k.unplaced early) refl refl (step_adds_bytes y w ∙ ap (λ (bs : List ℕ). bytes_of done ++ bs) (bytes_of-one w)) (step_adds_pairs y w) room) k
+    go (AtGroup groups) f ok k = idle (AtGroup groups) refl refl k
+    go (AtTarget groups owed) f ok k = idle (AtTarget groups owed) refl refl k
+    go (InOffsets groups target done owed) f ok k =
+        let y : Inside = InOffsets groups target done owed in
+        let room : w + 4 ≤ 4 * size_longs o.entry.word = ltb-false (4 * size_longs o.entry.word) (w + 4) (passed_false (ltb (4 * size_longs o.entry.word) (w + 4)) reasons.BadOffset ok) in
+        add_holds bases o (Open y) (step_inside y w) store w (get_or bases target 0) room (offset_adds bases o groups target done owed w) k
+    go (AtEntry entries) f ok k = idle (AtEntry entries) refl refl k
+    go (InName entries w2 done owed) f ok k = idle (InName entries w2 done owed) refl refl k
+    go (AtValue entries w2 name) f ok k = idle (AtValue entries w2 name) refl refl k
+    go _ f ok k = absurd f.1
+
+-- ---- between blocks
+
+closed_holds : (bases : List ℕ) (o : OpenHunk) (b : BlockValue) (c : Bool) (store : List ℕ) →
+    (c ≡ false → (flat_map (λ (x : BlockValue). block_content x.body) (o.blocks ++ b ∷ []) ≡ []) × (flat_map (λ (x : BlockValue). block_relocations x.body) (o.blocks ++ b ∷ []) ≡ [])) →
+    Holds bases o (Whole b.body) store → Holds bases (with_block o b c) (Whole End) store
+closed_holds bases o b c store u h =
+    let e : segment_so_far bases (with_block o b c) (Whole End) ≡ segment_so_far bases o (Whole b.body) =
+    ap₂ (λ (bs : List ℕ) (ps : List (ℕ × ℕ)). relocated bases (filled (4 * size_longs o.entry.word) bs) ps)
+    (append-nil (flat_map (λ (x : BlockValue). block_content x.body) (o.blocks ++ b ∷ [])) ∙ flat_map-more (λ (x : BlockValue). block_content x.body) o.blocks b)
+    (append-nil (flat_map (λ (x : BlockValue). block_relocations x.body) (o.blocks ++ b ∷ [])) ∙ flat_map-more (λ (x : BlockValue). block_relocations x.body) o.blocks b) in
+    record {
+      front = h.front;
+      segment = ap length e ∙ h.segment;
+      unplaced = u;
+      store_is = h.store_is ∙ ap (λ (s : List ℕ). images bases o.finished ++ (s ++ zeros o.ahead)) (sym e);
+    }
+
+-- a block that has neither content nor relocations
+beside_holds : (bases : List ℕ) (o : OpenHunk) (b : BlockValue) (store : List ℕ) → block_content b.body ≡ [] → block_relocations b.body ≡ [] →
+    Holds bases o (Whole b.body) store → Holds bases (with_block o b o.has_content) (Whole End) store
+beside_holds bases o b store e d h =
+    closed_holds bases o b o.has_content store
+    (λ c. (
+      flat_map-more (λ (x : BlockValue). block_content x.body) o.blocks b ∙ ap₂ (λ (xs ys : List ℕ). xs ++ ys) (h.unplaced c).0 e,
+      flat_map-more (λ (x : BlockValue). block_relocations x.body) o.blocks b ∙ ap₂ (λ (xs ys : List (ℕ × ℕ)). xs ++ ys) (h.unplaced c).1 d,
+    )) h
+
+-- the hunks with these entries are all zero so far
+zero_holds : (bases : List ℕ) (hunks : ℕ) (finished : List HunkValue) (ahead : List TableEntry) (store : List ℕ) → AllByRecursion (IsSized bases) finished →
+    store ≡ images bases finished ++ zeros ahead → StoreHolds bases (open_hunk hunks finished ahead) store
+zero_holds bases hunks finished [] store f e = (f, e ∙ append-nil (images bases finished))
+zero_holds bases hunks finished (x ∷ ahead) store f e =
+    let size : 4 * size_longs x.word - 0 ≡ 4 * size_longs x.word = omega arith in
+    record {
+      front = f;
+      segment = length-replicate (4 * size_longs x.word - 0) 0 ∙ size;
+      unplaced = λ c. (refl, refl);
+      store_is = e ∙ ap (λ (n : ℕ). images bases finished ++ (replicate n 0 ++ zeros ahead)) (sym size);
+    }
+
+ended_holds : (bases : List ℕ) (o : OpenHunk) (word : ℕ) (store : List ℕ) → Holds bases o (Whole End) store → StoreHolds bases (close o (block word End)) store
+ended_holds bases o word store h =
+    zero_holds bases o.hunks (o.finished ++ x ∷ []) o.ahead store
+    (All-more (IsSized bases) o.finished x h.front (ap length (end_is_image bases o word) ∙ h.segment))
+    (h.store_is
+    ∙ sym (append_assoc (images bases o.finished) (segment_so_far bases o (Whole End)) (zeros o.ahead))
+    ∙ ap (λ (s : List ℕ). (images bases o.finished ++ s) ++ zeros o.ahead) (sym (end_is_image bases o word))
+    ∙ ap (λ (s : List ℕ). s ++ zeros o.ahead) (sym (flat_map-more (image bases) o.finished x)))
+  where
+    x : HunkValue
+    x = hunk o.entry (o.blocks ++ block word End ∷ [])
+
+after_holds : (bases : List ℕ) (o : OpenHunk) (word : ℕ) (n : BlockNext) (store : List ℕ) → IsAdmitted o word → blocks.NextFits (place_of o) word n →
+    Holds bases o n store → StoreHolds bases (after o word n) store
+after_holds bases o word (Open x) store a f h = h
+after_holds bases o word (Whole (Name ws)) store a f h = beside_holds bases o (block word (Name ws)) store refl refl h
+after_holds bases o word (Whole (Symbol es)) store a f h = beside_holds bases o (block word (Symbol es)) store refl refl h
+after_holds bases o word (Whole (Debug ws)) store a f h = beside_holds bases o (block word (Debug ws)) store refl refl h
+after_holds bases o word (Whole (Advisory ws)) store a f h = beside_holds bases o (block word (Advisory ws)) store refl refl h
+after_holds bases o word (Whole (Code top ws)) store a f h = closed_holds bases o (block word (Code top ws)) true store (λ c. absurd cc) h
+after_holds bases o word (Whole (Data top ws)) store a f h = closed_holds bases o (block word (Data top ws)) true store (λ c. absurd cc) h
+after_holds bases o word (Whole (Bss size)) store a f h = closed_holds bases o (block word (Bss size)) true store (λ c. absurd cc) h
+after_holds bases o word (Whole (Reloc gs)) store a f h =
+    let late : o.has_content ≡ true = passed_true o.has_content reasons.BeforeContent (kind_is o word kinds.Reloc32 a f.of_load) in
+    closed_holds bases o (block word (Reloc gs)) o.has_content store (λ c. absurd (clash o.has_content late c)) h
+  where
+    clash : (b : Bool) → b ≡ true → b ≡ false → ⊥
+    clash true e d = absurd cc
+    clash false e d = absurd cc
+after_holds bases o word (Whole (Ext es)) store a f h = absurd f.of_load
+after_holds bases o word (Whole End) store a f h = ended_holds bases o word store h
+
+begin_empty : (k : Kind) → (bytes_so_far (begin k) ≡ []) × (pairs_so_far (begin k) ≡ [])
+begin_empty kinds.Name = (refl, refl)
+begin_empty kinds.Code = (refl, refl)
+begin_empty kinds.Data = (refl, refl)
+begin_empty kinds.Bss = (refl, refl)
+begin_empty kinds.Reloc32 = (refl, refl)
+begin_empty kinds.Symbol = (refl, refl)
+begin_empty kinds.Debug = (refl, refl)
+begin_empty (kinds.Unknown n) = (refl, refl)
+begin_empty _ = (refl, refl)
+
+-- A longword that is not refused keeps what the store holds.
+pub step_holds : (bases : List ℕ) (p : Progress) (w : ℕ) (store : List ℕ) → ProgressFits p → IsLong w → refuse (role_of p) w ≡ None → StoreHolds bases (More p) store →
+    StoreHolds bases (step p w) (stored bases (state_of (More p)) w store)
+step_holds bases (AtBlock o) w store f l ok h =
+    let e = begin_empty (kind w) in
+    after_holds bases o w (begin (kind w)) store (l, ok) (blocks.begin_fits (place_of o) w (kind w) refl (kind_admitted o w (l, ok)).1)
+    (holds_as bases o (Whole End) (begin (kind w)) store (same_parts bases o (Whole End) (begin (kind w)) e.0 e.1) h)
+step_holds bases (InBody o word x) w store f l ok h =
+    after_holds bases o word (step_inside x w) (stored_in bases (before o.finished) (phase_of x) w store) f.1 (blocks.step_fits (place_of o) word x w f.2 l ok)
+    (inside_holds bases o word x w store f.1 f.2 ok h)
+step_holds bases _ w store f l ok h = absurd h
+
+-- The store of zero bytes holds what is there behind the header.
+pub start_holds : (bases : List ℕ) (table : List TableEntry) → StoreHolds bases (open_hunk (length table) [] table) (zeros table)
+start_holds bases table = zero_holds bases (length table) [] table (zeros table) tt refl

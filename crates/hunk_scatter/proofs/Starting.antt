@@ -1,0 +1,69 @@
+-- Behind the header the body's loader stands at its first hunk, with a store of zero bytes.
+use Rattle.std.proofs.Common.{◌≡◌, ◌≢◌, ℕ, zero, suc, ◌+◌, ◌*◌, List, [], ◌∷◌, ◌++◌, length, replicate, false, refl, sym, ap, ◌∙◌, append-nil, arith, subst, None, take, drop, drop_of_length-le}
+use Rattle.std.proofs.lemmas.List.Sums.{sum_by-cons}
+use Rattle.hunk_words.specs.Longs.{bytes_of}
+use Rattle.hunk_words.specs.Bits.{size_longs}
+use Rattle.hunk_files.specs.Image.{declared_bytes}
+use Rattle.hunk_files.specs.LoadFile.{TableEntry}
+use Rattle.hunk_files.proofs.FileSteps.{open_hunk}
+use Rattle.hunk_files.proofs.Reading.{HasRead}
+use Rattle.hunk_files.specs.declared.row.Row.{Row}
+use Rattle.hunk_scatter.specs.declared.state.Phase.TheVariants as phases
+use Rattle.hunk_scatter.specs.Holding.{zeros}
+use Rattle.hunk_scatter.specs.Loading.{Reading, IsLoading}
+use Rattle.hunk_scatter.specs.Rows.{entry_of, entries_of, bases_of}
+use Rattle.std.proofs.lemmas.List.{length-map, length-replicate, take_all}
+use Rattle.hunk_scatter.specs.Headers.{IsTable, header_words, header_bytes}
+use Rattle.hunk_scatter.specs.Heading.{IsTabled}
+use Rattle.hunk_scatter.proofs.HeaderTexts.{header_read}
+use Rattle.hunk_scatter.proofs.Scatter.{start_holds}
+
+replicate-both : (m n : ℕ) → replicate {A = ℕ} (m + n) 0 ≡ replicate m 0 ++ replicate n 0
+replicate-both zero n = let e : zero + n ≡ n = omega arith in ap (λ (k : ℕ). replicate k 0) e
+replicate-both (suc m) n = let e : suc m + n ≡ suc (m + n) = omega arith in ap (λ (k : ℕ). replicate k 0) e ∙ ap (λ (xs : List ℕ). 0 ∷ xs) (replicate-both m n)
+
+pub zeros_are : (table : List TableEntry) → replicate (declared_bytes table) 0 ≡ zeros table
+zeros_are [] = refl
+zeros_are (e ∷ table) =
+    ap (λ (n : ℕ). replicate n 0) (sum_by-cons (λ (x : TableEntry). 4 * size_longs x.word) e table)
+    ∙ replicate-both (4 * size_longs e.word) (declared_bytes table)
+    ∙ ap (λ (xs : List ℕ). replicate (4 * size_longs e.word) 0 ++ xs) (zeros_are table)
+
+pub start_reading : (rows : List Row) (ws fed : List ℕ) → rows ≢ [] → fed ≡ bytes_of ws → HasRead ws (open_hunk (length (entries_of rows)) [] (entries_of rows)) →
+    Reading rows (zeros (entries_of rows)) (record { hunk = 0; start = 0; has_content = false; phase = phases.Block }) [] fed
+start_reading [] ws fed some e read = absurd (some refl)
+start_reading (r ∷ rows) ws fed some e read = record {
+  ws = ws;
+  next = open_hunk (length (entries_of (r ∷ rows))) [] (entries_of (r ∷ rows));
+  spelled = e ∙ sym (append-nil (bytes_of ws));
+  few = omega arith;
+  read = read;
+  behind = tt;
+  table_is = refl;
+  state_is = refl;
+  holds = start_holds (bases_of (r ∷ rows)) (entries_of (r ∷ rows));
+  whole = tt;
+}
+
+-- A table that was read, with its hunks placed and a store of zero bytes.
+pub placed_loading : (old rows : List Row) (total budget count : ℕ) (fed store : List ℕ) → IsTabled old total budget count fed → entries_of rows ≡ entries_of old → store ≡ replicate total 0 →
+    IsLoading rows store (record { hunk = 0; start = 0; has_content = false; phase = phases.Block }) [] count None fed
+placed_loading old rows total budget count fed store h same s =
+    let table : IsTable (entries_of rows) = subst IsTable (sym same) h.is_table in
+    let zero_bytes : store ≡ zeros (entries_of rows) =
+    s ∙ ap (λ (n : ℕ). replicate n 0) (h.total_is ∙ ap declared_bytes (sym same)) ∙ zeros_are (entries_of rows) in
+    record {
+      counted = h.counted;
+      hunks = omega (arith, table.most, length-map rows entry_of);
+      size = ap length s ∙ length-replicate total 0 ∙ h.total_is ∙ ap declared_bytes (sym same);
+      reading =
+          λ e.
+          subst (λ (bs : List ℕ). Reading rows bs (record { hunk = 0; start = 0; has_content = false; phase = phases.Block }) [] fed) (sym zero_bytes)
+          (start_reading rows (header_words (entries_of rows)) fed (λ none. omega (arith, ap length none, table.some, length-map rows entry_of)) (h.header ∙ ap header_bytes (sym same)) (header_read (entries_of rows) table));
+      own = λ f e. absurd cc;
+    }
+
+-- a Vec whose elements were written through a slice
+pub written_rows : (items new : List Row) (len : ℕ) → len ≡ length items → length new ≡ length items → take len (new ++ drop (length new) items) ≡ new
+written_rows items new len e d =
+    ap (λ (xs : List Row). take len (new ++ xs)) (drop_of_length-le items (omega arith)) ∙ ap (λ (xs : List Row). take len xs) (append-nil new) ∙ take_all len new (omega arith)

@@ -1,0 +1,59 @@
+use Rattle.std.proofs.Common.{◌≡◌, ℕ, ◌+◌, ◌≤◌, ◌<◌, List, [], ◌++◌, length, take, length-take, length-append, sym, ap, subst, ◌∙◌, append_assoc, append-nil, arith, inl, inr}
+use Rattle.std.specs.Io.KnownBytes.{Consumes}
+use Rattle.std.proofs.KnownBytes.{Consumes-trans}
+use Rattle.hunk_scatter.specs.Loads.{IsWithinFile, IsReadFault, IsBodyStop}
+use Rattle.hunk_scatter.proofs.Feeding.{file_fed, file_within_more}
+use Rattle.hunk_scatter.proofs.loading.load_body.Goals as goal
+
+pub returns-in-Err : goal.returns-in-Err
+returns-in-Err g c =
+    let i = c.reading.invariant in
+    let some : 0 < c.want-want.result = omega arith in (
+      i.given.0,
+      subst (Consumes _ _) (append-nil i.given.0) (Consumes-trans _ _ _ i.given.0 [] i.given.1 c.in-Err.ensures.nothing),
+      omega (arith, i.within, ap length i.given.2),
+      subst IsWithinFile i.given.2 i.in_file,
+      subst (λ (bs : List ℕ). IsBodyStop c.args.limit (g.R.Source.left c.read_piece.new.r) (g.R.Source.failed c.read_piece.new.r) bs c.in-Err.fault) i.given.2
+          (inr
+          (record {
+            clean = c.want-want.ensures.clean i.reading;
+            truncated = c.want-want.ensures.truncated some;
+            why = subst (λ (n : ℕ). IsReadFault c.args.limit (g.R.Source.left c.read_piece.new.r) (g.R.Source.failed c.read_piece.new.r) n c.in-Err.fault) c.fed.ensures c.in-Err.ensures.fault;
+          })),
+    )
+
+pub reading-preserved : goal.reading-preserved
+reading-preserved g c =
+    let i = c.reading.invariant in
+    let piece : List ℕ = take c.in-Ok.n c.read_piece.new.buf in
+    let fits : length piece ≤ c.want-want.result = omega (arith, length-take c.in-Ok.n c.read_piece.new.buf, c.in-Ok.ensures.most) in
+    let room : length c.reading.loader.fed + length piece ≤ c.args.limit = omega (arith, length-take c.in-Ok.n c.read_piece.new.buf, c.in-Ok.ensures.limit, c.fed.ensures) in
+    let some : 0 < c.want-want.result = omega arith in
+    let all = file_fed c.reading.loader.fed piece c.want-want.result c.want-want.ensures.least fits c.feed.new.self.rows c.feed.new.self.fed c.in-Ok-feed.field-0 c.in-Ok-feed.ensures.taken.0 c.in-Ok-feed.ensures.taken.1 c.in-Ok-feed.ensures.all in
+    record {
+      reading = c.in-Ok-feed.ensures.reading.1;
+      rows_are = c.in-Ok-feed.ensures.rows ∙ i.rows_are;
+      given = (
+        i.given.0 ++ piece,
+        Consumes-trans _ _ _ i.given.0 piece i.given.1 c.in-Ok.ensures.piece,
+        all ∙ ap (λ (xs : List ℕ). xs ++ piece) i.given.2 ∙ append_assoc c.args.loader.fed i.given.0 piece,
+      );
+      within = omega (arith, ap length all, length-append c.reading.loader.fed piece, room);
+      in_file = subst IsWithinFile (sym all) (file_within_more c.reading.loader.fed piece c.want-want.result c.want-want.ensures.least fits _ (c.want-want.ensures.truncated some));
+    }
+
+pub returns-in-Err-feed : goal.returns-in-Err-feed
+returns-in-Err-feed g c =
+    let i = c.reading.invariant in
+    let piece : List ℕ = take c.in-Ok.n c.read_piece.new.buf in
+    let fits : length piece ≤ c.want-want.result = omega (arith, length-take c.in-Ok.n c.read_piece.new.buf, c.in-Ok.ensures.most) in
+    let room : length c.reading.loader.fed + length piece ≤ c.args.limit = omega (arith, length-take c.in-Ok.n c.read_piece.new.buf, c.in-Ok.ensures.limit, c.fed.ensures) in
+    let some : 0 < c.want-want.result = omega arith in
+    let is : c.reading.loader.fed ++ piece ≡ c.args.loader.fed ++ (i.given.0 ++ piece) = ap (λ (xs : List ℕ). xs ++ piece) i.given.2 ∙ append_assoc c.args.loader.fed i.given.0 piece in (
+      i.given.0 ++ piece,
+      Consumes-trans _ _ _ i.given.0 piece i.given.1 c.in-Ok.ensures.piece,
+      omega (arith, ap length is, length-append c.reading.loader.fed piece, room),
+      subst IsWithinFile is (file_within_more c.reading.loader.fed piece c.want-want.result c.want-want.ensures.least fits _ (c.want-want.ensures.truncated some)),
+      subst (λ (bs : List ℕ). IsBodyStop c.args.limit (g.R.Source.left c.read_piece.new.r) (g.R.Source.failed c.read_piece.new.r) bs c.in-Err-feed.fault) is
+          (inl (record { refusal = c.in-Err-feed.ensures.refusal i.reading; own = c.in-Err-feed.ensures.own })),
+    )

@@ -1,0 +1,16 @@
+use Rattle.std.proofs.Common.{◌≡◌, ◌≤◌, ◌-◌, ℕ, List, ◌++◌, length, None}
+use Rattle.std.specs.Io.KnownBytes.{Consumes}
+use Rattle.hunk_scatter.specs.Loads.{IsWithinFile}
+use Rattle.hunk_scatter.proofs.loading.load_body.Given as goal
+
+abbrev pub invariant-reading : goal.invariant-reading
+invariant-reading g l = record {
+  reading : l.loader.refused ≡ None;
+  rows_are : l.loader.rows ≡ l.fn.loader.rows;
+  given : (more : List ℕ) × Consumes (g.R.Source.left l.fn.r) (g.R.Source.left l.r) more × (l.loader.fed ≡ l.fn.loader.fed ++ more);
+  within : length l.loader.fed ≤ l.limit;
+  in_file : IsWithinFile l.loader.fed;
+}
+
+abbrev pub decreases-reading : goal.decreases-reading
+decreases-reading g l = l.limit - length l.loader.fed

@@ -1,0 +1,14 @@
+use Rattle.std.proofs.Common.{◌≡◌, ◌-◌, length, None}
+use Rattle.hunk_scatter.specs.Loads.{Gives, IsWithinHeader}
+use Rattle.hunk_scatter.proofs.loading.load_header.Given as goal
+
+abbrev pub invariant-reading : goal.invariant-reading
+invariant-reading g l = record {
+  reading : l.loader.refused ≡ None;
+  budget_is : l.loader.budget ≡ l.limits.budget;
+  given : Gives (g.R.Source.left l.fn.r) (g.R.Source.left l.r) l.limits.file_bytes l.loader.fed;
+  in_header : IsWithinHeader l.loader.fed;
+}
+
+abbrev pub decreases-reading : goal.decreases-reading
+decreases-reading g l = l.limits.file_bytes - length l.loader.fed

@@ -1,0 +1,41 @@
+use Rattle.std.proofs.Common.{◌≡◌, ◌++◌, length, sym, ap, subst, ◌∙◌, inl}
+use Rattle.std.specs.Io.KnownBytes.{Consumes}
+use Rattle.std.proofs.KnownBytes.{Consumes-trans}
+use Rattle.hunk_scatter.specs.Loads.{IsHeaderWithin, IsWithinFile, InHeader, Between}
+use Rattle.hunk_scatter.proofs.HeaderFronts.{within_file}
+use Rattle.hunk_scatter.proofs.LoadEnding.{ends_body, body_keeps, has_bases}
+use Rattle.hunk_scatter.proofs.loading.load_placed.Goals as goal
+
+pub returns-in-Err : goal.returns-in-Err
+returns-in-Err g c = let e = c.in-Err.ensures in (e.0, e.1, within_file e.0 e.2, λ t more is d. inl (e.2 t more is d), InHeader e.3)
+
+pub returns-in-Err-place : goal.returns-in-Err-place
+returns-in-Err-place g c =
+    let e = c.in-Ok.ensures in (
+      e.0,
+      e.1,
+      within_file e.0 e.2,
+      λ t more is d. inl (e.2 t more is d),
+      Between c.in-Ok.declared.table (record { is_table = e.3.0; header = e.3.1; within = e.3.2 }) c.in-Err-place.ensures.reason (c.header_len-place.ensures ∙ ap length (sym e.3.1)),
+    )
+
+pub load_body-requires-clause-in_file : goal.load_body-requires-clause-in_file
+load_body-requires-clause-in_file g c =
+    let e = c.in-Ok.ensures in
+    subst IsWithinFile (e.3.1 ∙ sym c.in-Ok-place.ensures.fed) (within_file e.0 e.2)
+
+pub returns : goal.returns
+returns g c =
+    let e = c.in-Ok.ensures in
+    let b = c.load_body.ensures in
+    let same : e.0 ≡ c.in-Ok-place.loader.fed = e.3.1 ∙ sym c.in-Ok-place.ensures.fed in
+    let h : IsHeaderWithin c.args.limits.budget c.in-Ok-place.loader.fed c.in-Ok.declared.table = record { is_table = e.3.0; header = c.in-Ok-place.ensures.fed; within = e.3.2 } in (
+      c.in-Ok-place.loader.fed ++ b.0,
+      record {
+        consumed = Consumes-trans _ _ _ c.in-Ok-place.loader.fed b.0 (subst (Consumes (g.R.Source.left c.args.r.now) (g.R.Source.left c.load_header.new.r)) same e.1.consumed) b.1;
+        within = b.2;
+      },
+      b.3,
+      body_keeps (g.P.Placer.base c.args.p.now) c.args.limits.budget c.in-Ok.declared.table c.in-Ok-place.loader.fed b.0 h (has_bases _ _ _ c.in-Ok-place.ensures.bases),
+      ends_body _ _ _ _ _ c.in-Ok.declared.table c.in-Ok-place.loader.fed b.0 c.in-Ok-place.loader.rows c.load_body.result h c.in-Ok-place.ensures.rows c.in-Ok-place.ensures.bases b.4,
+    )

@@ -1,0 +1,11 @@
+pub mod Answers
+pub mod Headers
+pub mod Heading
+pub mod Holding
+pub mod Loaders
+pub mod Loading
+pub mod Loads
+pub mod Placing
+pub mod Rows
+pub mod Standing
+pub mod Stepping

@@ -1,0 +1,144 @@
+//! A table whose hunks are not placed.
+ghost use Rattle.std.specs.Prelude.{◌≡◌, ◌+◌, ◌*◌, ◌<◌, ◌≤◌, length, map, slice_get, Some, None, replicate, IfOk, IfErr};
+ghost use Rattle.hunk_files.specs.Image.{declared_bytes};
+ghost use Rattle.hunk_scatter.specs.Headers.{header_bytes};
+ghost use Rattle.hunk_scatter.specs.Placing.{AreBases, IsUnplacedFor};
+ghost use Rattle.hunk_scatter.specs.Rows.{row_of, entries_of, bases_of};
+
+use crate::body::BodyLoader;
+use crate::history::History;
+use crate::placer::{Placer, place_rows, unplace_rows};
+use crate::state::State;
+use hunk_files::Row;
+use hunk_words::{Assembler, Reason};
+use std::alloc::{AllocError, Global};
+use std::marker::Model;
+
+/// The table of a load file, which keeps to a budget. No hunk is placed.
+///
+/// Contracts see the entries of the table, and the budget.
+#[derive(Drop)]
+pub struct Declared {
+    pub(crate) alloc: Global,
+    pub(crate) rows: Vec<Row>,
+    pub(crate) total: u64,
+    pub(crate) budget: u64,
+    pub(crate) count: u64,
+    pub(crate) history: History,
+}
+
+impl Model for Declared {
+    ghost use Rattle.hunk_scatter.specs.Loaders.{Tabled};
+    ghost use Rattle.hunk_scatter.specs.Heading.{IsTabled};
+    ghost use Rattle.hunk_scatter.specs.Rows.{entries_of};
+
+    ghost Value = { Tabled };
+
+    ghost view = { λ s. record { table = entries_of s.rows.items; budget = s.budget } };
+
+    ghost invariant = { λ s. IsTabled s.rows.items s.total s.budget s.count s.history.bytes };
+}
+
+/// A table that could not be placed, as it was, and why.
+#[derive(Drop)]
+pub struct Unplaced {
+    pub declared: Declared,
+    pub reason: Reason,
+}
+
+fn zero_bytes(alloc: Global, count: usize) -> Result<Vec<u8>, AllocError>
+    ensures { IfOk result (λ v. v.items ≡ replicate count 0) }
+{
+    Ok(vec![in alloc; 0; count]?)
+}
+
+impl Declared {
+    /// The number of hunks, 1 to 65,536.
+    pub fn hunks(&self) -> u32
+        ensures { result ≡ length self.now.table }
+    {
+        self.rows.len() as u32
+    }
+
+    /// The table's entry of a hunk, with base 0.
+    pub fn row(&self, i: u32) -> Row
+        requires { i < length self.now.table }
+        ensures { slice_get (map row_of self.now.table) i ≡ Some result }
+    {
+        self.rows[i as usize]
+    }
+
+    /// The bytes that all hunks declare, at most the budget.
+    pub fn total(&self) -> u64
+        ensures value { result ≡ declared_bytes self.now.table }
+        ensures bound { result ≤ self.now.budget }
+    {
+        self.total
+    }
+
+    /// The bytes that are held: 12 for each hunk.
+    pub fn held(&self) -> u64
+        ensures { result ≡ 12 * length self.now.table }
+    {
+        12 * self.rows.len() as u64
+    }
+
+    /// The number of bytes of the header.
+    pub(crate) fn header_len(&self) -> u64
+        ensures { result ≡ length (header_bytes self.now.table) }
+    {
+        self.count
+    }
+
+    /// The table with every base 0, for a reason.
+    fn unplaced(self, reason: Reason) -> Unplaced
+        ensures same { result.declared ≡ self }
+        ensures reason { result.reason ≡ reason }
+    {
+        Unplaced {
+            declared: self,
+            reason,
+        }
+    }
+
+    /// Places each hunk, and makes the store, of as many zero bytes as are declared.
+    ///
+    /// The placer is asked for the hunks in rising order. The first that has no base is NoBase;
+    /// without memory for the store the answer is OutOfMemory. Either way the table comes back as
+    /// it was, every base 0.
+    pub fn place<P: Placer>(self, placer: &P) -> Result<BodyLoader, Unplaced>
+        ensures fed { IfOk result (λ loader. loader.fed ≡ header_bytes self.table) }
+        ensures rows { IfOk result (λ loader. entries_of loader.rows ≡ self.table) }
+        ensures bases { IfOk result (λ loader. AreBases (P.base placer.now) self.table (bases_of loader.rows)) }
+        ensures open { IfOk result (λ loader. loader.refused ≡ None) }
+        ensures reason { IfErr result (λ unplaced. IsUnplacedFor (P.base placer.now) self.table unplaced.reason) }
+        ensures same { IfErr result (λ unplaced. unplaced.declared ≡ self) }
+    {
+        let mut table = self;
+        if let Err(hunk) = place_rows(table.rows.as_mut_slice(), placer) {
+            unplace_rows(table.rows.as_mut_slice());
+            return Err(table.unplaced(Reason::NoBase(hunk)));
+        }
+        let Ok(store) = zero_bytes(table.alloc, table.total as usize) else {
+            unplace_rows(table.rows.as_mut_slice());
+            return Err(table.unplaced(Reason::OutOfMemory));
+        };
+        let Declared {
+            alloc: _,
+            rows,
+            total: _,
+            budget: _,
+            count,
+            history,
+        } = table;
+        Ok(BodyLoader {
+            rows,
+            store,
+            state: State::start(),
+            assembler: Assembler::new(),
+            count,
+            refused: None,
+            history,
+        })
+    }
+}

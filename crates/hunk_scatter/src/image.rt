@@ -1,0 +1,102 @@
+//! A load file in memory.
+ghost use Rattle.std.specs.Prelude.{◌≡◌, ◌+◌, ◌*◌, ◌<◌, ◌≤◌, length, slice_get, slice_index, Some};
+ghost use Rattle.hunk_files.specs.Image.{declared_bytes};
+ghost use Rattle.hunk_scatter.specs.Loaders.{cut};
+ghost use Rattle.hunk_scatter.specs.Rows.{entries_of, words_of, bases_of};
+
+use crate::store::base_of;
+use hunk_files::Row;
+use std::marker::Model;
+
+/// The segments of a load file, each as it lies at its base.
+///
+/// Contracts see the rows with their bases, and the segments. No call takes memory.
+#[derive(Drop)]
+pub struct Image {
+    pub(crate) rows: Vec<Row>,
+    pub(crate) store: Vec<u8>,
+}
+
+impl Model for Image {
+    ghost use Rattle.std.specs.Prelude.{◌≡◌, ◌≤◌, length};
+    ghost use Rattle.hunk_files.specs.Image.{declared_bytes};
+    ghost use Rattle.hunk_scatter.specs.Loaders.{Placed, cut};
+    ghost use Rattle.hunk_scatter.specs.Rows.{entries_of, words_of};
+
+    ghost Value = { Placed };
+
+    ghost view = { λ s. record { rows = s.rows.items; segments = cut (words_of s.rows.items) s.store.items } };
+
+    ghost invariant = { λ s. (length s.store.items ≡ declared_bytes (entries_of s.rows.items)) × (length s.rows.items ≤ 65536) };
+}
+
+/// Where the segment of a hunk begins: the declared bytes of the rows before it.
+fn start_of(rows: &[Row]) -> u64
+    requires { length rows.now ≤ 65536 }
+    ensures { result ≡ declared_bytes (entries_of rows.now) }
+{
+    let mut bytes = 0;
+    for row in rows {
+        bytes += row.size().bytes();
+    }
+    bytes
+}
+
+fn segment_of<'a>(rows: &[Row], store: &'a [u8], i: usize) -> &'a [u8]
+    requires hunk { i < length rows.now }
+    requires few { length rows.now ≤ 65536 }
+    requires size { length store.now ≡ declared_bytes (entries_of rows.now) }
+    ensures { slice_get (cut (words_of rows.now) store.entry.now) i ≡ Some result.now }
+{
+    let start = start_of(&rows[..i]) as usize;
+    let row = rows[i];
+    let bytes = row.size().bytes() as usize;
+    &store[start..start + bytes]
+}
+
+impl Image {
+    /// The number of hunks.
+    pub fn hunks(&self) -> u32
+        ensures { result ≡ length self.now.rows }
+    {
+        self.rows.len() as u32
+    }
+
+    /// The table's entry of a hunk, and its base.
+    pub fn row(&self, i: u32) -> Row
+        requires { i < length self.now.rows }
+        ensures { slice_get self.now.rows i ≡ Some result }
+    {
+        self.rows[i as usize]
+    }
+
+    /// The byte of memory where a hunk begins.
+    pub fn base(&self, i: u32) -> u32
+        requires { i < length self.now.rows }
+        ensures { result ≡ slice_index (bases_of self.now.rows) i }
+    {
+        base_of(self.rows.as_slice(), i)
+    }
+
+    /// The bytes of a hunk.
+    pub fn segment(&self, i: u32) -> &[u8]
+        requires { i < length self.now.rows }
+        ensures { slice_get self.now.segments i ≡ Some result.now }
+    {
+        segment_of(self.rows.as_slice(), self.store.as_slice(), i as usize)
+    }
+
+    /// The bytes of all hunks.
+    pub fn bytes(&self) -> u64
+        ensures { result ≡ declared_bytes (entries_of self.now.rows) }
+    {
+        self.store.len() as u64
+    }
+
+    /// The bytes that are held: those of the store, and 12 for each hunk.
+    pub fn held(&self) -> u64
+        ensures { result ≡ declared_bytes (entries_of self.now.rows) + 12 * length self.now.rows }
+    {
+        self.bytes() + 12 * self.rows.len() as u64
+    }
+}

@@ -1,0 +1,199 @@
+//! A load from a source.
+ghost use Rattle.std.specs.Prelude.{◌≡◌, ℕ, ◌*◌, ◌+◌, ◌/◌, ◌<◌, ◌≤◌, Bool, List, [], ◌++◌, length, take, None, Some, IfOk, IfErr, OnErr, MatchResult, IsErrAnd, IsTrue};
+ghost use Rattle.std.specs.Io.KnownBytes.{Consumes};
+ghost use Rattle.hunk_words.specs.Longs.{bytes_of};
+ghost use Rattle.hunk_words.specs.declared.reason.Reason.TheVariants as reasons;
+ghost use Rattle.hunk_files.specs.Fault.{HasFault};
+ghost use Rattle.hunk_files.specs.Image.{declared_bytes};
+ghost use Rattle.hunk_files.specs.LoadFile.{TableEntry, LoadFileValue, IsLoadFile};
+ghost use Rattle.hunk_files.specs.LoadText.{table, text};
+ghost use Rattle.hunk_scatter.specs.Answers.{is_of_file, is_of_load};
+ghost use Rattle.hunk_scatter.specs.Headers.{IsTable, header_bytes, PassesBudget, IsOverBudget};
+ghost use Rattle.hunk_scatter.specs.Loaders.{IsImageOf};
+ghost use Rattle.hunk_scatter.specs.Loads.{Gives, KeepsRest, IsNotPlaced, IsLoaded, IsLoadFault, IsHeaderWithin, IsWithinHeader, IsWithinFile, IsReadFault, IsHeaderStop, IsBodyStop, KeepsToHeader, LoadEnds};
+ghost use Rattle.hunk_scatter.specs.Placing.{HasBases};
+
+use crate::body::BodyLoader;
+use crate::declared::Declared;
+use crate::header::HeaderLoader;
+use crate::image::Image;
+use crate::limits::Limits;
+use crate::placer::Placer;
+use hunk_words::{LoadFault, Reason, Source};
+use std::alloc::Global;
+
+/// Reads a next piece of at most `want` bytes, where `count` were read before it.
+fn read_piece<R: Source>(
+    r: &mut R,
+    buf: &mut [u8],
+    want: usize,
+    count: u64,
+    limit: u64,
+) -> Result<usize, LoadFault>
+    requires some { 0 < want }
+    requires room { want ≤ length buf.old }
+    requires within { count ≤ limit }
+    ensures some { IfOk result (λ n. 0 < n) }
+    ensures most { IfOk result (λ n. n ≤ want) }
+    ensures limit { IfOk result (λ n. count + n ≤ limit) }
+    ensures piece { IfOk result (λ n. Consumes (R.left r.old) (R.left r.new) (take n buf.new)) }
+    ensures fault { IfErr result (IsReadFault limit (R.left r.new) (R.failed r.new) count) }
+    ensures nothing { OnErr result (Consumes (R.left r.old) (R.left r.new) []) }
+{
+    if count >= limit {
+        return Err(LoadFault {
+            place: limit,
+            reason: Reason::FileLimit,
+        });
+    }
+    let most = (limit - count).min(want as u64) as usize;
+    match r.pull(&mut buf[..most]) {
+        Ok(0) => Err(LoadFault {
+            place: count / 4 * 4,
+            reason: Reason::Truncated,
+        }),
+        Ok(n) => Ok(n),
+        Err(_) => Err(LoadFault {
+            place: count,
+            reason: Reason::Read,
+        }),
+    }
+}
+
+/// Reads the header.
+fn load_header<R: Source>(
+    alloc: Global,
+    r: &mut R,
+    buf: &mut [u8],
+    limits: Limits,
+) -> Result<Declared, LoadFault>
+    requires { length buf.old ≡ 256 }
+    ensures { (given : List ℕ) × Gives (R.left r.old) (R.left r.new) limits.file_bytes given × IsWithinHeader given
+        × MatchResult result (λ declared. IsTable declared.table × (given ≡ header_bytes declared.table) × (declared_bytes declared.table ≤ limits.budget))
+        (IsHeaderStop limits.budget limits.file_bytes (R.left r.new) (R.failed r.new) given) }
+{
+    let mut loader = HeaderLoader::new(alloc, limits.budget);
+    'reading: loop {
+        let want = loader.want();
+        if want == 0 {
+            break 'reading;
+        }
+        let n = match read_piece(r, buf, want, loader.fed(), limits.file_bytes) {
+            Ok(n) => n,
+            Err(fault) => return Err(fault),
+        };
+        match loader.feed(&buf[..n]) {
+            Ok(_) => {}
+            Err(fault) => return Err(fault),
+        }
+    }
+    match loader.declared() {
+        Ok(declared) => Ok(declared),
+        Err(_) => unreachable!(),
+    }
+}
+
+/// Reads the body behind its header.
+fn load_body<R: Source>(
+    r: &mut R,
+    buf: &mut [u8],
+    loader: BodyLoader,
+    limit: u64,
+) -> Result<Image, LoadFault>
+    requires buffer { length buf.old ≡ 256 }
+    requires reading { loader.refused ≡ None }
+    requires within { length loader.fed ≤ limit }
+    requires in_file { IsWithinFile loader.fed }
+    ensures { (more : List ℕ) × Consumes (R.left r.old) (R.left r.new) more × (length (loader.fed ++ more) ≤ limit) × IsWithinFile (loader.fed ++ more)
+        × MatchResult result (λ image. IsImageOf loader.rows (loader.fed ++ more) image.segments × (image.rows ≡ loader.rows))
+        (IsBodyStop limit (R.left r.new) (R.failed r.new) (loader.fed ++ more)) }
+{
+    let mut loader = loader;
+    'reading: loop {
+        let want = loader.want();
+        if want == 0 {
+            break 'reading;
+        }
+        let n = match read_piece(r, buf, want, loader.fed(), limit) {
+            Ok(n) => n,
+            Err(fault) => return Err(fault),
+        };
+        match loader.feed(&buf[..n]) {
+            Ok(_) => {}
+            Err(fault) => return Err(fault),
+        }
+    }
+    match loader.finish() {
+        Ok(image) => Ok(image),
+        Err(_) => unreachable!(),
+    }
+}
+
+/// Reads the header, places the hunks, and reads the body.
+fn load_placed<R: Source, P: Placer>(
+    alloc: Global,
+    r: &mut R,
+    limits: Limits,
+    p: &P,
+) -> Result<Image, LoadFault>
+    ensures { (given : List ℕ) × Gives (R.left r.old) (R.left r.new) limits.file_bytes given × IsWithinFile given × KeepsToHeader (P.base p.now) limits.budget given
+        × LoadEnds (P.base p.now) limits.budget limits.file_bytes (R.left r.new) (R.failed r.new) given result }
+{
+    let mut buf = [0u8; 256];
+    let declared = match load_header(alloc, r, buf.as_mut_slice(), limits) {
+        Ok(declared) => declared,
+        Err(fault) => return Err(fault),
+    };
+    let place = declared.header_len();
+    let loader = match declared.place(p) {
+        Ok(loader) => loader,
+        Err(unplaced) => {
+            return Err(LoadFault {
+                place,
+                reason: unplaced.reason,
+            });
+        }
+    };
+    load_body(r, buf.as_mut_slice(), loader, limits.file_bytes)
+}
+
+/// Loads a file from a source, as it comes, each hunk to where the placer puts it.
+///
+/// At most `limits.budget` bytes of segments and 12 bytes for each hunk are held, beside a buffer of
+/// 256 bytes. No byte is read that cannot be one of the file's: the source is left just behind it.
+/// Memory is asked for the rows that were read, and once for the store.
+///
+/// Where the file is no load file the answer is its first fault, or Truncated; Budget where its
+/// table declares more than the budget, before a hunk is placed; NoBase where a hunk has no base;
+/// FileLimit where `limits.file_bytes` were read and more is needed; Read where the source failed;
+/// OutOfMemory where memory was refused. After an `Err` there is no image.
+pub fn load<R: Source, P: Placer>(
+    alloc: Global,
+    r: &mut R,
+    limits: Limits,
+    p: &P,
+) -> Result<Image, LoadFault>
+    // Just one load file was read, and the image is its.
+    ensures loaded { IfOk result (λ image. (v : LoadFileValue) × IsLoaded (P.base p.now) limits.budget v image
+        × Gives (R.left r.old) (R.left r.new) limits.file_bytes (bytes_of (text v))) }
+
+    // What is read at most.
+    ensures limit { (given : List ℕ) × Gives (R.left r.old) (R.left r.new) limits.file_bytes given }
+    ensures one_file { (v : LoadFileValue) (rest : List ℕ) → IsLoadFile v → R.left r.old ≡ Some (bytes_of (text v) ++ rest) → KeepsRest (R.left r.new) rest }
+    ensures header_first { (t : List TableEntry) (rest : List ℕ) → IsTable t → R.left r.old ≡ Some (header_bytes t ++ rest)
+        → IsNotPlaced (P.base p.now) limits.budget t → KeepsRest (R.left r.new) rest }
+
+    // Success.
+    ensures succeeds { (v : LoadFileValue) (rest : List ℕ) → IsLoadFile v → R.left r.old ≡ Some (bytes_of (text v) ++ rest) → length (bytes_of (text v)) ≤ limits.file_bytes
+        → declared_bytes (table v) ≤ limits.budget → HasBases (P.base p.now) (table v) → R.failed r.new ≡ Bool.false → IfErr result (λ f. f.reason ≡ reasons.OutOfMemory) }
+
+    // Refusals.
+    ensures over_budget { (input : List ℕ) (at : ℕ) → R.left r.old ≡ Some input → R.failed r.new ≡ Bool.false
+        → PassesBudget limits.budget (take limits.file_bytes input) at → IsErrAnd result (IsOverBudget at) }
+    ensures file_fault { (input : List ℕ) → R.left r.old ≡ Some input → IfErr result (λ f. IsTrue (is_of_file f.reason) → HasFault input f.place f.reason) }
+    ensures fault { IfErr result (λ f. (given : List ℕ) × Gives (R.left r.old) (R.left r.new) limits.file_bytes given
+        × IsLoadFault (P.base p.now) limits.budget limits.file_bytes (R.left r.new) (R.failed r.new) given f) }
+    ensures own { IfErr result (λ f. IsTrue (is_of_load f.reason)) }
+{
+    load_placed(alloc, r, limits, p)
+}

@@ -1,0 +1,82 @@
+//! Where hunks go.
+ghost use Rattle.std.specs.Prelude.{◌≡◌, ℕ, ◌<◌, ◌≤◌, length, map, Option, slice_get, IfErr, OnOk};
+ghost use Rattle.hunk_files.specs.declared.row.Row.{Row};
+ghost use Rattle.hunk_scatter.specs.Placing.{packed_base, AreBases, IsFirstUnplaced};
+ghost use Rattle.hunk_scatter.specs.Rows.{entries_of, bases_of, row_of};
+
+use hunk_files::Row;
+
+/// Tells where each hunk of a load file goes.
+pub trait Placer {
+    ghost base: { Self → ℕ → Row → ℕ → Option ℕ };
+
+    /// The byte of memory where the hunk begins; none where there is no place for it.
+    ///
+    /// `before` is the sum of the declared bytes of the earlier rows, and `row.base` is 0. The
+    /// answer is a function of the value and these.
+    fn base(&self, hunk: u32, row: &Row, before: u64) -> Option<u32>
+        ensures { result ≡ base self.now hunk row.now before };
+}
+
+/// Hunks one after another from `start` on, up to the end of the address space of 32 bits.
+#[derive(Clone, Copy, Debug, PartialEq, Eq)]
+pub struct Packed {
+    pub start: u32,
+}
+
+impl Placer for Packed {
+    ghost base = { λ s hunk row before. packed_base s.start row before };
+
+    fn base(&self, _hunk: u32, row: &Row, before: u64) -> Option<u32> {
+        const END: u64 = 1 << 32;
+        if before >= END - u64::from(self.start) {
+            return None;
+        }
+        let base = u64::from(self.start) + before;
+        if base + row.size().bytes() > END {
+            return None;
+        }
+        Some(base as u32)
+    }
+}
+
+/// Hunks at these bases in turn; one past their end has none.
+#[derive(Clone, Copy, Debug)]
+pub struct Listed<'a>(pub &'a [u32]);
+
+impl Placer for Listed<'_> {
+    ghost base = { λ s hunk row before. slice_get s.0.now hunk };
+
+    fn base(&self, hunk: u32, _row: &Row, _before: u64) -> Option<u32> {
+        self.0.get(hunk as usize).copied()
+    }
+}
+
+/// Gives each row its base, or answers the first hunk that has none.
+pub fn place_rows<P: Placer>(rows: &mut [Row], placer: &P) -> Result<(), u32>
+    requires few { length rows.old ≤ 65536 }
+    requires unplaced { rows.old ≡ map row_of (entries_of rows.old) }
+    ensures entries { entries_of rows.new ≡ entries_of rows.old }
+    ensures given { OnOk result (AreBases (P.base placer.now) (entries_of rows.old) (bases_of rows.new)) }
+    ensures missing { IfErr result (IsFirstUnplaced (P.base placer.now) (entries_of rows.old)) }
+{
+    let mut before = 0;
+    for i in 0..rows.len() {
+        let row = rows[i];
+        match placer.base(i as u32, &row, before) {
+            Some(base) => rows[i].base = base,
+            None => return Err(i as u32),
+        }
+        before += row.size().bytes();
+    }
+    Ok(())
+}
+
+/// Takes each row's base away.
+pub fn unplace_rows(rows: &mut [Row])
+    ensures { rows.new ≡ map row_of (entries_of rows.old) }
+{
+    for row in rows {
+        row.base = 0;
+    }
+}

@@ -1,0 +1,10 @@
+use Rattle.std.proofs.Common.{rules}
+use Rattle.hunkinfo.specs.Faults.{IsWrite}
+use Rattle.hunkinfo.proofs.Telling.{tells_after}
+use Rattle.hunkinfo.proofs.run.list.Goals as goal
+
+pub returns-in-Err-clause-told : goal.returns-in-Err-clause-told
+returns-in-Err-clause-told g c =
+    let other : ¬ IsWrite c.in-Err.fault = search rules in
+    tells_after g.W.Sink.taken g.W.Sink.failed c.args.out.now c.list_file.new.out c.report.new.out c.report.result
+    (c.in-Err.ensures.fails.untouched other) c.report.ensures.told

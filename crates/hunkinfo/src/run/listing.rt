@@ -1,0 +1,126 @@
+//! The commands that print what they find in one input.
+ghost use Rattle.std.specs.Prelude.{◌≡◌, ◌≤◌, IfErr, IfOk, OnOk, false, length};
+ghost use Rattle.std.specs.Io.KnownBytes.{Consumes, IsAtEnd};
+ghost use Rattle.hunkinfo.specs.Output.{StopsOutput, TellsStatus};
+ghost use Rattle.hunkinfo.specs.Runs.{Lists, ListsSource, ReadsNoText};
+
+use crate::asked::FileName;
+use crate::fault::RunFault;
+use crate::relocate::relocate;
+use crate::run::FILE_BYTES;
+use crate::show::show;
+use crate::unhex::unhex;
+use crate::validate::validate;
+use crate::whole::whole;
+use hunk_words::{Fault, FromRead, FromSlice, LongWriter, Sink, Source};
+use std::alloc::Global;
+use std::fs;
+use std::io::BufReader;
+use std::rt::Files;
+
+/// What is printed of an input.
+#[derive(Clone, Copy, Debug)]
+pub(crate) enum Listing {
+    /// The hunks and blocks.
+    Show,
+    /// The findings.
+    Validate,
+    /// The segments, of which the first lies at `base`.
+    Relocate { base: u32 },
+}
+
+/// Prints it of the file, or of standard input, and gives the exit status: 1 where something was
+/// found. A file is read through a buffer, since little may be asked for at a time; standard input
+/// is not, so that what follows stays for the next reader.
+pub(super) fn list_file<T: Files + Input, W: Sink>(
+    rt: &T,
+    alloc: Global,
+    listing: Listing,
+    file: Option<&FileName>,
+    hex: bool,
+    out: &mut LongWriter<W>,
+) -> Result<u8, RunFault>
+    requires { out.old.written ≡ 0 }
+    ensures known { IfOk result (λ status. status ≤ 4) }
+    ensures done { IfOk result (λ status. status ≡ 0 → Lists W.taken out.old out.new listing) }
+    ensures told { IfOk result (TellsStatus W.taken W.failed out.old out.new) }
+    ensures fails { IfErr result (StopsOutput W.taken W.failed out.old out.new) }
+{
+    let Some(name) = file else {
+        return list_source(alloc, listing, &mut FromRead::new(rt.reader()), hex, out);
+    };
+    let Ok(file) = fs::open(rt, name.as_str()) else {
+        return Err(RunFault::Read { place: 0 });
+    };
+    let Ok(reader) = BufReader::new(alloc, file) else {
+        return Err(RunFault::Memory);
+    };
+    list_source(alloc, listing, &mut FromRead::new(reader), hex, out)
+}
+
+// The same of the bytes of the source, or of those that its text spells.
+fn list_source<R: Source, W: Sink>(
+    alloc: Global,
+    listing: Listing,
+    source: &mut R,
+    hex: bool,
+    out: &mut LongWriter<W>,
+) -> Result<u8, RunFault>
+    requires { out.old.written ≡ 0 }
+    ensures known { IfOk result (λ status. status ≤ 4) }
+    ensures done { IfOk result (λ status. status ≡ 0 → ListsSource hex listing (R.left source.old) (R.left source.new) W.taken out.old out.new) }
+    ensures told { IfOk result (TellsStatus W.taken W.failed out.old out.new) }
+    ensures fails { IfErr result (StopsOutput W.taken W.failed out.old out.new) }
+{
+    if !hex {
+        return list_bytes(alloc, listing, source, out);
+    }
+    let text = text_of(alloc, source)?;
+    let bytes = unhex(alloc, text.as_slice())?;
+    list_bytes(alloc, listing, &mut FromSlice::new(bytes.as_slice()), out)
+}
+
+// All of the source's text, which may have `FILE_BYTES` bytes and no more.
+fn text_of<R: Source>(alloc: Global, source: &mut R) -> Result<Vec<u8>, RunFault>
+    ensures given { IfOk result (λ text. Consumes (R.left source.old) (R.left source.new) text.items) }
+    ensures ended { OnOk result (IsAtEnd (R.left source.new)) }
+    ensures bound { IfOk result (λ text. length text.items ≤ FILE_BYTES) }
+    ensures err { IfErr result (λ fault. ReadsNoText fault (R.left source.old) (R.left source.new) FILE_BYTES (R.failed source.new)) }
+{
+    match whole(alloc, source, FILE_BYTES + 1) {
+        Err(RunFault::Refused(Fault { place: _, reason })) => Err(RunFault::Refused(Fault {
+            place: FILE_BYTES,
+            reason,
+        })),
+        read => read,
+    }
+}
+
+fn list_bytes<R: Source, W: Sink>(
+    alloc: Global,
+    listing: Listing,
+    source: &mut R,
+    out: &mut LongWriter<W>,
+) -> Result<u8, RunFault>
+    requires { out.old.written ≡ 0 }
+    ensures known { IfOk result (λ status. status ≤ 4) }
+    ensures done { IfOk result (λ status. status ≡ 0 → ListsSource false listing (R.left source.old) (R.left source.new) W.taken out.old out.new) }
+    ensures told { IfOk result (TellsStatus W.taken W.failed out.old out.new) }
+    ensures fails { IfErr result (StopsOutput W.taken W.failed out.old out.new) }
+{
+    match listing {
+        Listing::Show => match show(alloc, source, out, FILE_BYTES) {
+            Ok(()) => Ok(0),
+            Err(fault) => Err(fault),
+        },
+        Listing::Validate => match validate(alloc, source, out, FILE_BYTES) {
+            Ok(0) => Ok(0),
+            Ok(_) => Ok(1),
+            Err(fault) => Err(fault),
+        },
+        Listing::Relocate { base } => match relocate(alloc, source, out, FILE_BYTES, base) {
+            Ok(()) => Ok(0),
+            Err(fault) => Err(fault),
+        },
+    }
+}
