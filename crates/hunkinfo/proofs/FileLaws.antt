@@ -72,6 +72,16 @@ pub answered : (Is : Fault → Type 0) (result : RunFault) (fault : Fault) →
 answered Is result fault (inl memory) is = subst (λ (f : RunFault). RefusesAs Is f) (sym memory) tt
 answered Is result fault (inr other) is = subst (λ (f : RunFault). RefusesAs Is f) (sym other.0) (is other.1)
 
+-- the limit of an input is no fault of its bytes
+no_limit : (kind : Sniff) (bytes : List ℕ) (place : ℕ) → IsRefusal kind bytes (record { place = place; reason = reasons.FileLimit }) → ⊥
+no_limit sniffs.Object bytes place is = let no = is.0 in cc
+no_limit sniffs.Load bytes place is = let no = is.1 in cc
+no_limit sniffs.Library bytes place is = let no = is.1 in cc
+no_limit sniffs.Other bytes place is = let no = is.1 in cc
+
+pub refused_in_limit : (fault : RunFault) (bytes : List ℕ) (place : ℕ) → RefusesBytes fault bytes → fault ≡ faults.Refused (record { place = place; reason = reasons.FileLimit }) → ⊥
+refused_in_limit fault bytes place is limit = no_limit (sniffed (longs bytes)) bytes place (subst (λ (f : RunFault). RefusesBytes f bytes) limit is)
+
 -- ---- what bytes announce
 
 first_announced : (word : ℕ) (rest : List ℕ) → IsLong word → sniffed (longs (bytes_of (word ∷ []) ++ rest)) ≡ sniffed (word ∷ longs rest)

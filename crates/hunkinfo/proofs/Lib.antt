@@ -8,7 +8,5 @@ mod Literals
 mod Numbers
 mod RewriteLaws
 mod RowLaws
-mod SegmentLaws
 mod StrippedSize
-mod TableLaws
 mod Telling

@@ -1,13 +1,20 @@
 -- How what a run tells follows on an engine function that has written nothing.
-use Rattle.std.proofs.Common.{◌≡◌, ℕ, Bool, false, List, [], Option, take, inl, inr, refl, subst, arith}
+use Rattle.std.proofs.Common.{◌≡◌, ◌++◌, ◌∙◌, ℕ, Bool, true, false, List, [], Option, Some, None, length, take, inl, inr, refl, ap, sym, subst, arith, append-nil, append_assoc}
+use Rattle.std.specs.Io.KnownBytes.{Consumes, IsAtEnd}
 use Rattle.std.proofs.lemmas.List.{take_all}
 use Rattle.std.proofs.KnownBytes.{Appends-trans}
 use Rattle.hunk_words.specs.Carriers.{Writing}
+use Rattle.hunk_words.specs.Longs.{bytes_of}
+use Rattle.hunk_words.specs.Puts.{Puts}
+use Rattle.hunk_files.specs.LoadText.{text}
 use Rattle.hunkinfo.specs.Engine.{WritesAll}
 use Rattle.hunkinfo.specs.Validated.{IsValidated}
 use Rattle.hunkinfo.specs.Output.{Takes, TellsStatus}
 use Rattle.hunkinfo.specs.declared.run.listing.Listing.{Listing}
-use Rattle.hunkinfo.specs.Runs.{IsListed, ListsSource}
+use Rattle.hunkinfo.specs.declared.run.listing.Listing.TheVariants as listings
+use Rattle.hunkinfo.specs.HexText.{Spells}
+use Rattle.hunkinfo.specs.Relocating.{RelocatesAll}
+use Rattle.hunkinfo.specs.Runs.{IsListed, ListsSource, StopsReading}
 
 pub tells_after : {W : Type 0} (taken : W → Option (List ℕ)) (failed : W → Bool) (old mid new : Writing W) (status : ℕ)
     → Takes taken old mid [] → TellsStatus taken failed mid new status → TellsStatus taken failed old new status
@@ -19,29 +26,85 @@ tells_after taken failed old mid new status nothing (inr (inr (inr (inl broken))
 tells_after taken failed old mid new status nothing (inr (inr (inr (inr (bytes, text, is, report, takes))))) =
     inr (inr (inr (inr (bytes, text, is, report, Appends-trans _ _ _ [] _ nothing takes))))
 
--- a text that was written whole
+-- a text that was put whole
+takes_put : {W : Type 0} (taken : W → Option (List ℕ)) (old new : Writing W) (written : ℕ) (text : List ℕ) →
+    Puts (taken old.sink) (taken new.sink) 0 written text → written ≡ length text → Takes taken old new text
+takes_put taken old new written text puts all =
+    subst (λ (xs : List ℕ). Takes taken old new xs) (take_all puts.count text (omega (arith, puts.rose, all))) puts.gone
+
 pub takes_whole : {W : Type 0} (taken : W → Option (List ℕ)) (old new : Writing W) (Is : List ℕ → List ℕ → Type 0) (a b : Option (List ℕ)) (most written : ℕ)
     (all : WritesAll Is a b most (taken old.sink) (taken new.sink) written) → Takes taken old new all.0.text
-takes_whole taken old new Is a b most written all =
-    let writes = all.0 in
-    let whole : take writes.puts.count writes.text ≡ writes.text = take_all writes.puts.count writes.text (omega (arith, writes.puts.rose, all.1)) in
-    subst (λ (xs : List ℕ). Takes taken old new xs) whole writes.puts.gone
+takes_whole taken old new Is a b most written all = takes_put taken old new written all.0.text all.0.puts all.1
 
 pub tells_report : {W : Type 0} (taken : W → Option (List ℕ)) (failed : W → Bool) (old new : Writing W) (count : ℕ) (a b : Option (List ℕ)) (most written : ℕ) →
     WritesAll (IsValidated count) a b most (taken old.sink) (taken new.sink) written → TellsStatus taken failed old new 1
 tells_report taken failed old new count a b most written all =
     inr (inr (inr (inr (all.0.input, all.0.text, refl, (count, all.0.is_text), takes_whole taken old new (IsValidated count) a b most written all))))
 
+-- an input that was read to its end
 pub lists_source : {W : Type 0} (taken : W → Option (List ℕ)) (old new : Writing W) (listing : Listing) (Is : List ℕ → List ℕ → Type 0)
     (a b : Option (List ℕ)) (most written : ℕ) → ((input text : List ℕ) → Is input text → IsListed listing input text) →
+    ((given : List ℕ) → IsAtEnd b → StopsReading false listing given b) →
     WritesAll Is a b most (taken old.sink) (taken new.sink) written → ListsSource false listing a b taken old new
-lists_source taken old new listing Is a b most written listed all = record {
+lists_source taken old new listing Is a b most written listed ended all = record {
   given = all.0.input;
   consumed = all.0.given;
-  at_end = all.0.ended;
+  stops = ended all.0.input all.0.ended;
   input = all.0.input;
   is_input = refl;
   text = all.0.text;
   is_listed = listed all.0.input all.0.text all.0.is_text;
   takes = takes_whole taken old new Is a b most written all;
+}
+
+-- a load file that was loaded as it came
+pub lists_loaded : {W : Type 0} (taken : W → Option (List ℕ)) (old new : Writing W) (base budget most : ℕ) (a b : Option (List ℕ)) (written : ℕ) →
+    RelocatesAll base budget most a b (taken old.sink) (taken new.sink) written → ListsSource false (listings.Relocate base budget) a b taken old new
+lists_loaded taken old new base budget most a b written all =
+    let file = bytes_of (text all.0.file) in
+    record {
+      given = file;
+      consumed = all.0.gave.consumed;
+      stops = (all.0.file, all.0.is_listing.is_file, refl);
+      input = file;
+      is_input = refl;
+      text = all.0.lines;
+      is_listed = record { file = all.0.file; is_listing = all.0.is_listing; rest = []; split = sym (append-nil file) };
+      takes = takes_put taken old new written all.0.lines all.0.puts all.1;
+    }
+
+-- what is printed of a front is printed of the bytes, where the reading stops behind it
+listed_front : (listing : Listing) (bytes given written rest : List ℕ) → bytes ≡ given ++ rest → StopsReading false listing given (Some rest) →
+    IsListed listing given written → IsListed listing bytes written
+listed_front listings.Show bytes given written rest split stops is =
+    subst (λ (xs : List ℕ). IsListed listings.Show xs written) (sym (split ∙ ap (λ (xs : List ℕ). given ++ xs) stops ∙ append-nil given)) is
+listed_front listings.Validate bytes given written rest split stops is =
+    subst (λ (xs : List ℕ). IsListed listings.Validate xs written) (sym (split ∙ ap (λ (xs : List ℕ). given ++ xs) stops ∙ append-nil given)) is
+listed_front (listings.Relocate base budget) bytes given written rest split stops is =
+    let file = bytes_of (text is.file) in
+    record {
+      file = is.file;
+      is_listing = is.is_listing;
+      rest = is.rest ++ rest;
+      split = split ∙ ap (λ (xs : List ℕ). xs ++ rest) is.split ∙ append_assoc file is.rest rest;
+    }
+
+listed_slice : (listing : Listing) (bytes given written : List ℕ) (b : Option (List ℕ)) → Consumes (Some bytes) b given → StopsReading false listing given b →
+    IsListed listing given written → IsListed listing bytes written
+listed_slice listing bytes given written (Some rest) consumed stops is = listed_front listing bytes given written rest consumed stops is
+listed_slice listing bytes given written None consumed stops is = absurd consumed
+
+-- the text of a source spells the bytes of which this is printed
+pub lists_text : {W : Type 0} (taken : W → Option (List ℕ)) (old new : Writing W) (listing : Listing) (a b c d : Option (List ℕ)) (given bytes : List ℕ) →
+    Consumes a b given → IsAtEnd b → Spells given bytes → c ≡ Some bytes → ListsSource false listing c d taken old new → ListsSource true listing a b taken old new
+lists_text taken old new listing a b c d given bytes consumed ended spells known lists = record {
+  given = given;
+  consumed = consumed;
+  stops = ended;
+  input = bytes;
+  is_input = spells;
+  text = lists.text;
+  is_listed = listed_slice listing bytes lists.given lists.text d (subst (λ (o : Option (List ℕ)). Consumes o d lists.given) known lists.consumed) lists.stops
+      (subst (λ (xs : List ℕ). IsListed listing xs lists.text) lists.is_input lists.is_listed);
+  takes = lists.takes;
 }

@@ -1,10 +1,11 @@
 -- The status and the line of each fault.
-use Rattle.std.specs.Prelude.{◌⊎◌, ℕ, List, [], ◌++◌, ⊤, codes}
+use Rattle.std.specs.Prelude.{◌||◌, ℕ, Bool, List, [], ◌++◌, ⊤, codes}
 use Rattle.std.specs.Fmt.{decimal}
 use Rattle.hunk_words.specs.declared.fault.Fault.{Fault}
 use Rattle.hunk_words.specs.declared.reason.Reason.{Reason}
 use Rattle.hunk_words.specs.declared.reason.Reason.TheVariants as reasons
 use Rattle.hunk_words.specs.Reasons.{name_of, number_of}
+use Rattle.hunk_scatter.specs.Answers.{between}
 use Rattle.hunkinfo.specs.declared.fault.RunFault.{RunFault}
 use Rattle.hunkinfo.specs.declared.fault.RunFault.TheVariants.{HexText, Memory, Read, Refused, Write}
 
@@ -35,28 +36,15 @@ abbrev pub IsWrite : RunFault → Type 0
 IsWrite (Write written) = ⊤
 IsWrite _ = ⊥
 
--- What a refusal is to a run: want of memory is no fault of the input.
+-- What a refusal is to a run: want of memory and a failed read are no faults of the input.
 abbrev pub refused_for : Reason → Fault → RunFault
 refused_for reasons.OutOfMemory refusal = Memory
+refused_for reasons.Read refusal = Read refusal.place
 refused_for reason refusal = Refused refusal
 
 abbrev pub refused_as : Fault → RunFault
 refused_as refusal = refused_for refusal.reason refusal
 
--- a reason that the longwords of a file give, and not the run: no limit, no base, no reading and no memory
-abbrev pub IsFileReason : Reason → Type 0
-IsFileReason reasons.Budget = ⊥
-IsFileReason reasons.FileLimit = ⊥
-IsFileReason (reasons.NoBase hunk) = ⊥
-IsFileReason reasons.Read = ⊥
-IsFileReason reasons.OutOfMemory = ⊥
-IsFileReason _ = ⊤
-
-abbrev pub IsNoBase : Reason → Type 0
-IsNoBase (reasons.NoBase hunk) = ⊤
-IsNoBase _ = ⊥
-
--- The input is refused for its longwords, or since a hunk has no base.
-abbrev pub IsRefusalOfFile : RunFault → Type 0
-IsRefusalOfFile (Refused fault) = IsFileReason fault.reason ⊎ IsNoBase fault.reason
-IsRefusalOfFile _ = ⊥
+-- a reason for which an input is refused: its longwords, its end, a limit, or a hunk without a base
+abbrev pub is_of_input : Reason → Bool
+is_of_input r = between 1 9 (number_of r) || between 11 24 (number_of r) || between 26 29 (number_of r)

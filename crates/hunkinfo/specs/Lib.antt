@@ -1,4 +1,3 @@
-pub mod Bases
 pub mod BlockLines
 pub mod BlockNames
 pub mod Command

@@ -1,43 +1,55 @@
--- What `relocate` prints of the bytes that it read, and when it refuses them.
-use Rattle.std.specs.Prelude.{◌≡◌, ◌⊎◌, ◌++◌, ℕ, List, [], ◌∷◌, None, Some}
+-- What `relocate` prints of a load file that is loaded within a budget, and when it prints nothing.
+use Rattle.std.specs.Prelude.{◌≡◌, ◌≤◌, ◌++◌, ℕ, Bool, true, List, [], ◌∷◌, Option, length, map}
 use Rattle.hunk_words.specs.Longs.{bytes_of}
-use Rattle.hunk_words.specs.declared.fault.Fault.{Fault}
-use Rattle.hunk_words.specs.declared.reason.Reason.TheVariants.{NoBase}
-use Rattle.hunk_files.specs.LoadFile.{HunkValue, LoadFileValue, IsLoadFile}
+use Rattle.hunk_words.specs.Puts.{Puts}
+use Rattle.hunk_files.specs.LoadFile.{LoadFileValue, IsLoadFile}
 use Rattle.hunk_files.specs.LoadText.{table, text}
-use Rattle.hunk_files.specs.Image.{image}
-use Rattle.hunk_files.specs.Fault.{HasFault}
-use Rattle.hunkinfo.specs.Bases.{bases_from, header_bytes, lacking_from}
+use Rattle.hunk_files.specs.Image.{declared_bytes, image}
+use Rattle.hunk_scatter.specs.Loads.{Gives, IsShort}
+use Rattle.hunk_scatter.specs.Placing.{AreBases, Placing, packed_base}
 use Rattle.hunkinfo.specs.Listing.{Segment, listing}
 
--- each hunk's memory at its base, relocated by the bases of all
-abbrev pub segments_by : List ℕ → List ℕ → LoadFileValue → List Segment
-segments_by bases (base ∷ rest) (hunk ∷ hunks) = record { base = base; bytes = image bases hunk } ∷ segments_by bases rest hunks
-segments_by bases _ _ = []
-
 -- the hunks lie one behind the other from the start on
-abbrev pub segments : ℕ → LoadFileValue → List Segment
-segments start file = segments_by (bases_from start (table file)) (bases_from start (table file)) file
+abbrev pub packed : ℕ → Placing
+packed start = λ hunk row before. packed_base start row before
 
--- The bytes begin with a load file whose hunks all have bases from the start on, and the text is the listing of its segments.
-pub record IsListingAt (start : ℕ) (bytes written : List ℕ) : Type 0 where
-  pub file : LoadFileValue
+-- each segment at its base
+abbrev pub segments_of : List ℕ → List (List ℕ) → List Segment
+segments_of (base ∷ bases) (bytes ∷ segments) = record { base = base; bytes = bytes } ∷ segments_of bases segments
+segments_of _ _ = []
+
+-- The load file keeps to the budget, all its hunks have bases from the start on, and the text is the listing of its segments, each relocated by the bases of all.
+pub record IsListingAt (start budget : ℕ) (file : LoadFileValue) (written : List ℕ) : Type 0 where
   pub is_file : IsLoadFile file
-  pub rest : List ℕ
-  pub split : bytes ≡ bytes_of (text file) ++ rest
-  pub fits : lacking_from 0 start (table file) ≡ None
-  pub listing_is : written ≡ listing (segments start file)
+  pub within : declared_bytes (table file) ≤ budget
+  pub bases : List ℕ
+  pub are_bases : AreBases (packed start) (table file) bases
+  pub listing_is : written ≡ listing (segments_of bases (map (image bases) file))
 
--- The bytes begin with a load file of which this is the first hunk without a base.
-pub record LacksBase (start : ℕ) (bytes : List ℕ) (refusal : Fault) : Type 0 where
+-- The input begins with a load file of which this is the listing.
+pub record IsRelocated (start budget : ℕ) (input written : List ℕ) : Type 0 where
   pub file : LoadFileValue
-  pub is_file : IsLoadFile file
+  pub is_listing : IsListingAt start budget file written
   pub rest : List ℕ
-  pub split : bytes ≡ bytes_of (text file) ++ rest
-  pub hunk : ℕ
-  pub lacks : lacking_from 0 start (table file) ≡ Some hunk
-  pub refusal_is : refusal ≡ record { place = header_bytes (table file); reason = NoBase hunk }
+  pub split : input ≡ bytes_of (text file) ++ rest
 
--- why bytes have no listing: the fault of a load file, or a hunk without a base
-abbrev pub IsRefusedAt : ℕ → List ℕ → Fault → Type 0
-IsRefusedAt start bytes refusal = HasFault bytes refusal.place refusal.reason ⊎ LacksBase start bytes refusal
+-- The source, of which a was left before and b is left now, gave one load file and no byte more. Of its listing, as many of the first bytes
+-- have gone out as `written` says: the sink had taken c and has taken d now.
+pub record Relocates (start budget most : ℕ) (a b c d : Option (List ℕ)) (written : ℕ) : Type 0 where
+  pub file : LoadFileValue
+  pub lines : List ℕ
+  pub is_listing : IsListingAt start budget file lines
+  pub gave : Gives a b most (bytes_of (text file))
+  pub puts : Puts c d 0 written lines
+
+-- all of the listing has gone out
+abbrev pub RelocatesAll : ℕ → ℕ → ℕ → Option (List ℕ) → Option (List ℕ) → Option (List ℕ) → Option (List ℕ) → ℕ → Type 0
+RelocatesAll start budget most a b c d written = (relocates : Relocates start budget most a b c d written) × (written ≡ length relocates.lines)
+
+-- The source failed after so many bytes, which are no whole load file and in which nothing is amiss.
+pub record ReadsShort (budget most : ℕ) (a b : Option (List ℕ)) (failed : Bool) (place : ℕ) : Type 0 where
+  pub broken : failed ≡ true
+  pub given : List ℕ
+  pub gave : Gives a b most given
+  pub place_is : place ≡ length given
+  pub short : IsShort budget given

@@ -2,7 +2,10 @@
 use Rattle.std.specs.Prelude.{◌≡◌, ◌⊎◌, ◌+◌, ⊤, ℕ, Bool, true, false, List, Option, codes, string_bytes}
 use Rattle.std.specs.Io.KnownBytes.{Consumes, IsAtEnd}
 use Rattle.hunk_words.specs.Carriers.{Writing}
+use Rattle.hunk_words.specs.Longs.{bytes_of}
 use Rattle.hunk_words.specs.declared.reason.Reason.TheVariants as reasons
+use Rattle.hunk_files.specs.LoadFile.{LoadFileValue, IsLoadFile}
+use Rattle.hunk_files.specs.LoadText.{text}
 use Rattle.hunkinfo.specs.declared.asked.Order.{Order}
 use Rattle.hunkinfo.specs.declared.asked.Order.TheVariants as orders
 use Rattle.hunkinfo.specs.declared.asked.OrderFault.{OrderFault}
@@ -16,7 +19,7 @@ use Rattle.hunkinfo.specs.HexText.{Spells}
 use Rattle.hunkinfo.specs.Inputs.{Gave}
 use Rattle.hunkinfo.specs.Listed.{IsShown}
 use Rattle.hunkinfo.specs.Output.{Prints, Takes, ended}
-use Rattle.hunkinfo.specs.Relocating.{IsListingAt}
+use Rattle.hunkinfo.specs.Relocating.{IsRelocated}
 use Rattle.hunkinfo.specs.Rewritten.{TellsRewriting}
 use Rattle.hunkinfo.specs.Validated.{IsValidated}
 
@@ -30,7 +33,7 @@ PrintsRefusal taken failed old new Memory status = Prints taken failed old new (
 abbrev pub IsListed : Listing → List ℕ → List ℕ → Type 0
 IsListed listings.Show input text = IsShown input text
 IsListed listings.Validate input text = IsValidated 0 input text
-IsListed (listings.Relocate base) input text = IsListingAt base input text
+IsListed (listings.Relocate base budget) input text = IsRelocated base budget input text
 
 -- the output has taken what is printed of some input, and nothing else
 pub record Lists {W : Type 0} (taken : W → Option (List ℕ)) (old new : Writing W) (listing : Listing) : Type 0 where
@@ -49,7 +52,7 @@ pub record Rewrites {W : Type 0} (taken : W → Option (List ℕ)) (old new : Wr
 abbrev pub IsDone : {W : Type 0} → (W → Option (List ℕ)) → Writing W → Writing W → Order → Type 0
 IsDone taken old new (orders.Show hex file) = Lists taken old new listings.Show
 IsDone taken old new (orders.Validate hex file) = Lists taken old new listings.Validate
-IsDone taken old new (orders.Relocate hex base budget file) = Lists taken old new (listings.Relocate base)
+IsDone taken old new (orders.Relocate hex base budget file) = Lists taken old new (listings.Relocate base budget)
 IsDone taken old new (orders.Rewrite strip input output) = Rewrites taken old new strip
 
 -- the words are no order, or memory was wanting; no help is printed
@@ -62,11 +65,18 @@ abbrev pub IsInput : Bool → List ℕ → List ℕ → Type 0
 IsInput true given input = Spells given input
 IsInput false given input = input ≡ given
 
--- The source, of which a was left before and b is left now, was read to its end, and the output has taken what is printed of the input.
+-- Where the reading stops: at the end of the source, or right behind a load file that is loaded as it comes.
+abbrev pub StopsReading : Bool → Listing → List ℕ → Option (List ℕ) → Type 0
+StopsReading true listing given b = IsAtEnd b
+StopsReading false listings.Show given b = IsAtEnd b
+StopsReading false listings.Validate given b = IsAtEnd b
+StopsReading false (listings.Relocate base budget) given b = (file : LoadFileValue) × IsLoadFile file × (given ≡ bytes_of (text file))
+
+-- Of the source a was left before and b is left now. The output has taken what is printed of the input that it gave.
 pub record ListsSource {W : Type 0} (hex : Bool) (listing : Listing) (a b : Option (List ℕ)) (taken : W → Option (List ℕ)) (old new : Writing W) : Type 0 where
   pub given : List ℕ
   pub consumed : Consumes a b given
-  pub at_end : IsAtEnd b
+  pub stops : StopsReading hex listing given b
   pub input : List ℕ
   pub is_input : IsInput hex given input
   pub text : List ℕ

@@ -68,6 +68,9 @@ impl From<Fault> for RunFault {
     fn from(refusal: Fault) -> RunFault {
         match refusal.reason {
             Reason::OutOfMemory => RunFault::Memory,
+            Reason::Read => RunFault::Read {
+                place: refusal.place,
+            },
             _ => RunFault::Refused(refusal),
         }
     }

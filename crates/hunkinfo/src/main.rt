@@ -2,7 +2,6 @@
 #![tactic(auto)]
 
 mod asked;
-mod bases;
 mod fault;
 mod hunk_file;
 mod line;

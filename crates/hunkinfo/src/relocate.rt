@@ -1,97 +1,89 @@
-//! `relocate`: a load file is loaded, and its segments are printed.
-ghost use Rattle.std.specs.Prelude.{◌≡◌, ◌≢◌, ◌⊎◌, ◌<◌, ◌++◌, ℕ, List, Some, false, true, length, IfOk, IfErr, OnOk};
+//! `relocate`: a load file is loaded as it comes, and its segments are printed.
+ghost use Rattle.std.specs.Prelude.{◌≡◌, ◌⊎◌, ◌<◌, ◌≤◌, ◌++◌, ℕ, List, Some, false, length, take, IfOk, IfErr, IsErrAnd, IsTrue, OnOk};
+ghost use Rattle.hunk_words.specs.Longs.{bytes_of};
 ghost use Rattle.hunk_words.specs.declared.fault.Fault.{Fault};
-ghost use Rattle.hunk_words.specs.declared.reason.Reason.TheVariants.{FileLimit};
+ghost use Rattle.hunk_words.specs.declared.reason.Reason.TheVariants.{Budget};
 ghost use Rattle.hunkinfo.specs.declared.fault.RunFault.TheVariants.{Memory, Read, Refused, Write};
-ghost use Rattle.hunkinfo.specs.Faults.{IsRefusalOfFile};
-ghost use Rattle.hunk_files.specs.Image.{images};
+ghost use Rattle.hunk_files.specs.Fault.{HasFault};
+ghost use Rattle.hunk_files.specs.Image.{declared_bytes};
+ghost use Rattle.hunk_files.specs.LoadFile.{LoadFileValue, TableEntry, IsLoadFile};
+ghost use Rattle.hunk_files.specs.LoadText.{table, text};
+ghost use Rattle.hunk_scatter.specs.Answers.{is_of_file};
+ghost use Rattle.hunk_scatter.specs.Headers.{IsTable, PassesBudget, header_bytes};
+ghost use Rattle.hunk_scatter.specs.Loads.{Gives, IsLoadFault, IsNotPlaced, KeepsRest};
+ghost use Rattle.hunk_scatter.specs.Placing.{HasBases};
+ghost use Rattle.hunk_scatter.specs.Rows.{bases_of};
+ghost use Rattle.hunkinfo.specs.Faults.{is_of_input};
 ghost use Rattle.hunkinfo.specs.Listing.{listing};
-ghost use Rattle.hunkinfo.specs.Inputs.{Gave};
 ghost use Rattle.hunkinfo.specs.Output.{StopsOutput};
-ghost use Rattle.hunkinfo.specs.Relocating.{IsListingAt, IsRefusedAt, segments_by};
-ghost use Rattle.hunkinfo.specs.Engine.{Refuses, Writes, WritesAll};
+ghost use Rattle.hunkinfo.specs.Relocating.{ReadsShort, Relocates, RelocatesAll, packed, segments_of};
 
-use crate::bases::bases;
 use crate::fault::RunFault;
 use crate::listing::push_segment;
-use crate::whole::whole;
-use hunk_files::LoadFile;
+use hunk_scatter::{Image, Limits, Packed, load};
 use hunk_words::{LongWriter, Sink, Source};
 use std::alloc::{AllocError, Global};
 
-/// Reads the input to its end, loads the load file that it begins with at this base, and prints its
-/// segments. What follows the file is ignored.
+/// Loads a load file from the source as it comes, and prints its segments.
 ///
-/// The first hunk lies at `base`, each other one right behind the one before it. `FileLimit` comes at
-/// `file_bytes` where so many bytes were read, before an end is looked for; the faults of the file are
-/// those of `LoadFile::decode`; `NoBase` comes after them, at the header's length, for the first hunk
-/// that would begin at 2^32 or pass it. Nothing is written before the file was accepted and all
-/// memory was given.
+/// The first hunk lies at `base`, each other one right behind the one before it. The segments have
+/// at most `limits.budget` bytes together, and at most `limits.file_bytes` bytes are read. The
+/// source is left just behind the file.
+///
+/// The refusals are those of `load`: a fault of the file, `Truncated`, `Budget`, `FileLimit`, and
+/// `NoBase` for the first hunk that would begin at 2^32 or pass it. `Read` comes where the source
+/// failed. Nothing is written before the file was loaded and all memory was given.
 pub fn relocate<R: Source, W: Sink>(
     alloc: Global,
     r: &mut R,
     w: &mut LongWriter<W>,
-    file_bytes: u64,
+    limits: Limits,
     base: u32,
 ) -> Result<(), RunFault>
     requires { w.old.written ≡ 0 }
-    ensures ok { OnOk result (WritesAll (IsListingAt base)
-        (R.left r.old) (R.left r.new) file_bytes (W.taken w.old.sink) (W.taken w.new.sink) w.new.written) }
-    ensures succeeds { (input text : List ℕ) → R.left r.old ≡ Some input → length input < file_bytes → IsListingAt base input text
+    ensures ok { OnOk result (RelocatesAll base limits.budget limits.file_bytes
+        (R.left r.old) (R.left r.new) (W.taken w.old.sink) (W.taken w.new.sink) w.new.written) }
+    ensures succeeds { (v : LoadFileValue) (rest : List ℕ) → IsLoadFile v → R.left r.old ≡ Some (bytes_of (text v) ++ rest)
+        → length (bytes_of (text v)) ≤ limits.file_bytes → declared_bytes (table v) ≤ limits.budget → HasBases (packed base) (table v)
         → R.failed r.new ≡ false → W.failed w.new.sink ≡ false → IfErr result (λ fault. fault ≡ Memory) }
 
+    // What is read at most, whatever the answer: no byte behind the file, and none behind a header that can't be placed.
+    ensures limit { (given : List ℕ) × Gives (R.left r.old) (R.left r.new) limits.file_bytes given }
+    ensures one_file { (v : LoadFileValue) (rest : List ℕ) → IsLoadFile v → R.left r.old ≡ Some (bytes_of (text v) ++ rest)
+        → KeepsRest (R.left r.new) rest }
+    ensures header_first { (t : List TableEntry) (rest : List ℕ) → IsTable t → R.left r.old ≡ Some (header_bytes t ++ rest)
+        → IsNotPlaced (packed base) limits.budget t → KeepsRest (R.left r.new) rest }
+
     // After a fault of writing the first bytes of the text have gone out, and after another one nothing has.
-    ensures write { IfErr result (λ fault. (written : ℕ) → fault ≡ Write written →
-        (w.new.written ≡ written) × Writes (IsListingAt base)
-        (R.left r.old) (R.left r.new) file_bytes (W.taken w.old.sink) (W.taken w.new.sink) written) }
+    ensures write { IfErr result (λ fault. (written : ℕ) → fault ≡ Write written → (w.new.written ≡ written)
+        × Relocates base limits.budget limits.file_bytes (R.left r.old) (R.left r.new) (W.taken w.old.sink) (W.taken w.new.sink) written) }
     ensures fails { IfErr result (StopsOutput W.taken W.failed w.old w.new) }
 
-    ensures limit { IfErr result (λ fault. (place : ℕ) → fault ≡ Refused (record { place = place; reason = FileLimit }) →
-        (place ≡ file_bytes) × Gave (R.left r.old) (R.left r.new) place) }
-    ensures refused { IfErr result (λ fault. (refusal : Fault) → fault ≡ Refused refusal → refusal.reason ≢ FileLimit →
-        Refuses (IsRefusedAt base) (R.left r.old) (R.left r.new) file_bytes refusal) }
-    ensures read { IfErr result (λ fault. (place : ℕ) → fault ≡ Read place →
-        (R.failed r.new ≡ true) × Gave (R.left r.old) (R.left r.new) place) }
+    ensures over_budget { (input : List ℕ) (at : ℕ) → R.left r.old ≡ Some input → R.failed r.new ≡ false
+        → PassesBudget limits.budget (take limits.file_bytes input) at
+        → IsErrAnd result (λ fault. (fault ≡ Memory) ⊎ (fault ≡ Refused (record { place = at; reason = Budget }))) }
+    ensures file_fault { (input : List ℕ) → R.left r.old ≡ Some input → IfErr result (λ fault. (refusal : Fault) → fault ≡ Refused refusal
+        → IsTrue (is_of_file refusal.reason) → HasFault input refusal.place refusal.reason) }
+    ensures refused { IfErr result (λ fault. (refusal : Fault) → fault ≡ Refused refusal
+        → (given : List ℕ) × Gives (R.left r.old) (R.left r.new) limits.file_bytes given
+        × IsLoadFault (packed base) limits.budget limits.file_bytes (R.left r.new) (R.failed r.new) given refusal) }
+    ensures read { IfErr result (λ fault. (place : ℕ) → fault ≡ Read place
+        → ReadsShort limits.budget limits.file_bytes (R.left r.old) (R.left r.new) (R.failed r.new) place) }
+    ensures own { IfErr result (λ fault. (refusal : Fault) → fault ≡ Refused refusal → IsTrue (is_of_input refusal.reason)) }
 {
-    let input = whole(alloc, r, file_bytes)?;
-    let text = listing_at(alloc, input.as_slice(), base)?;
+    let image = load(alloc, r, limits, &Packed { start: base })?;
+    let text = listing_of(alloc, &image)?;
     w.put_bytes(text.as_slice())?;
     Ok(())
 }
 
-// The listing of the load file that the bytes begin with.
-fn listing_at(alloc: Global, bytes: &[u8], start: u32) -> Result<Vec<u8>, RunFault>
-    ensures ok { IfOk result (λ text. IsListingAt start bytes.now text.items) }
-    ensures none { IfErr result (λ fault. (fault ≡ Memory) ⊎ ((text : List ℕ) → IsListingAt start bytes.now text → ⊥)) }
-    ensures refused { IfErr result (λ fault. (fault ≡ Memory) ⊎ ((refusal : Fault) × (fault ≡ Refused refusal) × IsRefusedAt start bytes.now refusal)) }
-    ensures own { IfErr result (λ fault. (fault ≡ Memory) ⊎ IsRefusalOfFile fault) }
+// The lines of each hunk's segment.
+fn listing_of(alloc: Global, image: &Image) -> Result<Vec<u8>, AllocError>
+    ensures { IfOk result (λ text. text.items ≡ listing (segments_of (bases_of image.now.rows) image.now.segments)) }
 {
-    let (file, _) = LoadFile::decode(alloc, bytes)?;
-    let bases = bases(alloc, &file, start)?;
-    let Ok(memory) = file.image(alloc, bases.as_slice()) else {
-        return Err(RunFault::Memory);
-    };
     let mut text = Vec::new(alloc);
-    push_segments(&mut text, &file, bases.as_slice(), memory.as_slice())?;
-    Ok(text)
-}
-
-// The lines of each hunk's segment. The memory is that of all hunks, one after the other.
-fn push_segments(
-    text: &mut Vec<u8>,
-    file: &LoadFile<'_>,
-    bases: &[u32],
-    memory: &[u8],
-) -> Result<(), AllocError>
-    requires bases { length bases.now ≡ length file.now }
-    requires memory { memory.now ≡ images bases.now file.now }
-    ensures { OnOk result (text.new.items ≡ text.old.items ++ listing (segments_by bases.now bases.now file.now)) }
-{
-    let mut rest = memory;
-    'hunks: for hunk in 0..file.hunks() {
-        let (segment, after) = rest.split_at(file.table(hunk).bytes() as usize);
-        push_segment(text, hunk, bases[hunk as usize], segment)?;
-        rest = after;
+    'hunks: for hunk in 0..image.hunks() {
+        push_segment(&mut text, hunk, image.base(hunk), image.segment(hunk))?;
     }
-    Ok(())
+    Ok(text)
 }

@@ -1,6 +1,7 @@
 //! `rewrite`: a file is read, and written again.
 ghost use Rattle.std.specs.Prelude.{◌≡◌, ◌<◌, ℕ, List, Some, false, true, length, IfOk, IfErr};
 ghost use Rattle.hunk_words.specs.declared.reason.Reason.TheVariants.{FileLimit};
+ghost use Rattle.hunk_scatter.specs.Loads.{Gives};
 ghost use Rattle.hunkinfo.specs.declared.fault.RunFault.TheVariants.{Memory, Read, Refused, Write};
 ghost use Rattle.hunkinfo.specs.Engine.{RefusesOnly, Writes, WritesAll};
 ghost use Rattle.hunkinfo.specs.FileKinds.{AreFile};
@@ -48,6 +49,7 @@ pub fn rewrite<R: Source, W: Sink>(
         (R.left r.old) (R.left r.new) file_bytes (W.taken w.old.sink) (W.taken w.new.sink) written) }
     ensures fails { IfErr result (StopsOutput W.taken W.failed w.old w.new) }
 
+    ensures within { (given : List ℕ) × Gives (R.left r.old) (R.left r.new) file_bytes given }
     ensures limit { IfErr result (λ fault. (place : ℕ) → fault ≡ Refused (record { place = place; reason = FileLimit }) →
         (place ≡ file_bytes) × Gave (R.left r.old) (R.left r.new) place) }
     ensures read { IfErr result (λ fault. (place : ℕ) → fault ≡ Read place →

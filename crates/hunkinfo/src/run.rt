@@ -89,10 +89,13 @@ fn obey<T: Files + Input, W: Sink>(
         Order::Relocate {
             hex,
             base,
-            budget: _,
+            budget,
             file,
         } => {
-            let listing = Listing::Relocate { base: *base };
+            let listing = Listing::Relocate {
+                base: *base,
+                budget: *budget,
+            };
             list(rt, alloc, listing, *hex, file.as_ref(), out)
         }
         Order::Rewrite {

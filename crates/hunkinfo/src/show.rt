@@ -1,6 +1,7 @@
 //! `show`: the hunks and blocks of a file are listed.
 ghost use Rattle.std.specs.Prelude.{◌≡◌, ◌⊎◌, ◌<◌, ℕ, List, Some, false, true, length, IfOk, IfErr, OnOk};
 ghost use Rattle.hunk_words.specs.declared.reason.Reason.TheVariants.{FileLimit};
+ghost use Rattle.hunk_scatter.specs.Loads.{Gives};
 ghost use Rattle.hunkinfo.specs.declared.fault.RunFault.TheVariants.{Memory, Read, Refused, Write};
 ghost use Rattle.hunkinfo.specs.Engine.{RefusesOnly, Writes, WritesAll};
 ghost use Rattle.hunkinfo.specs.FileKinds.{AreFile, RefusesBytes};
@@ -46,6 +47,7 @@ pub fn show<R: Source, W: Sink>(
         (R.left r.old) (R.left r.new) file_bytes (W.taken w.old.sink) (W.taken w.new.sink) written) }
     ensures fails { IfErr result (StopsOutput W.taken W.failed w.old w.new) }
 
+    ensures within { (given : List ℕ) × Gives (R.left r.old) (R.left r.new) file_bytes given }
     ensures limit { IfErr result (λ fault. (place : ℕ) → fault ≡ Refused (record { place = place; reason = FileLimit }) →
         (place ≡ file_bytes) × Gave (R.left r.old) (R.left r.new) place) }
     ensures read { IfErr result (λ fault. (place : ℕ) → fault ≡ Read place →

@@ -7,6 +7,7 @@ mod listing;
 mod listing_ends;
 mod made;
 mod memory;
+mod old_output;
 mod relocating;
 mod runs;
 mod samples;

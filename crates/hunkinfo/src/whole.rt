@@ -1,6 +1,7 @@
 //! A source read to its end.
-ghost use Rattle.std.specs.Prelude.{◌≡◌, ◌<◌, false, length, IfOk, OnOk, IfErr};
+ghost use Rattle.std.specs.Prelude.{◌≡◌, ◌<◌, ℕ, List, false, length, IfOk, OnOk, IfErr};
 ghost use Rattle.std.specs.Io.KnownBytes.{Consumes, IsAtEnd};
+ghost use Rattle.hunk_scatter.specs.Loads.{Gives};
 ghost use Rattle.hunkinfo.specs.Inputs.{ReadsInVain};
 
 use crate::fault::RunFault;
@@ -22,6 +23,7 @@ pub(crate) fn whole<S: Source>(
     ensures ended { OnOk result (IsAtEnd (S.left source.new)) }
     ensures bound { IfOk result (λ bytes. length bytes.items < most) }
     ensures err { IfErr result (λ fault. ReadsInVain fault (S.left source.old) (S.left source.new) most (S.failed source.new)) }
+    ensures within { (given : List ℕ) × Gives (S.left source.old) (S.left source.new) most given }
     ensures sound { S.failed source.old ≡ false → OnOk result (S.failed source.new ≡ false) }
 {
     let mut held = Vec::new(alloc);

@@ -12,6 +12,7 @@ use crate::show::show;
 use crate::unhex::unhex;
 use crate::validate::validate;
 use crate::whole::whole;
+use hunk_scatter::Limits;
 use hunk_words::{Fault, FromRead, FromSlice, LongWriter, Sink, Source};
 use std::alloc::Global;
 use std::fs;
@@ -25,8 +26,8 @@ pub(crate) enum Listing {
     Show,
     /// The findings.
     Validate,
-    /// The segments, of which the first lies at `base`.
-    Relocate { base: u32 },
+    /// The segments, of which the first lies at `base`, with at most `budget` bytes together.
+    Relocate { base: u32, budget: u64 },
 }
 
 /// Prints it of the file, or of standard input, and gives the exit status: 1 where something was
@@ -118,9 +119,15 @@ fn list_bytes<R: Source, W: Sink>(
             Ok(_) => Ok(1),
             Err(fault) => Err(fault),
         },
-        Listing::Relocate { base } => match relocate(alloc, source, out, FILE_BYTES, base) {
-            Ok(()) => Ok(0),
-            Err(fault) => Err(fault),
-        },
+        Listing::Relocate { base, budget } => {
+            let limits = Limits {
+                budget,
+                file_bytes: FILE_BYTES,
+            };
+            match relocate(alloc, source, out, limits, base) {
+                Ok(()) => Ok(0),
+                Err(fault) => Err(fault),
+            }
+        }
     }
 }

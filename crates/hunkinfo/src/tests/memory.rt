@@ -1,9 +1,12 @@
-//! `relocate` with its growths refused one by one.
+//! The engine functions with their growths refused one by one.
 
 use crate::fault::RunFault;
 use crate::relocate::relocate;
+use crate::rewrite::rewrite;
+use crate::show::show;
 use crate::tests::ends::wide;
-use crate::tests::relocating::{EXAMPLE_1, bytes_of};
+use crate::tests::relocating::{EXAMPLE_1, LIMITS, bytes_of};
+use crate::validate::validate;
 use hunk_words::FromSlice;
 use std::alloc::{AllocError, Global};
 use std::test::Fail;
@@ -24,35 +27,61 @@ fn all_memory(alloc: Global) -> Result<Vec<Vec<u8>>, AllocError> {
     Ok(pieces)
 }
 
-// More than `relocate` needs on example 1, and into how many steps it is divided.
+// More than each call needs on example 1, and into how many steps it is divided.
 const ROOM: usize = 65_536;
 
-const STEPS: usize = 64;
+const STEPS: usize = 1_024;
+
+#[derive(Clone, Copy, Debug)]
+enum Call {
+    Show,
+    Validate,
+    Relocate,
+    Rewrite,
+}
+
+// What the call answers on the bytes, and how many bytes it writes.
+fn outcome(alloc: Global, call: Call, bytes: &[u8]) -> (Option<RunFault>, u64) {
+    let (mut out, mut source) = (wide(), FromSlice::new(bytes));
+    let fault = match call {
+        Call::Show => show(alloc, &mut source, &mut out, 1_000).err(),
+        Call::Validate => validate(alloc, &mut source, &mut out, 1_000).err(),
+        Call::Relocate => relocate(alloc, &mut source, &mut out, LIMITS, 0x21000).err(),
+        Call::Rewrite => rewrite(alloc, &mut source, &mut out, 1_000, true).err(),
+    };
+    (fault, out.written())
+}
+
+// What it answers with ever more of the room left, so that ever later growths are refused.
+fn outcomes(alloc: Global, call: Call, bytes: &[u8]) -> Result<Vec<(Option<RunFault>, u64)>, Fail> {
+    let mut answers = vec![in alloc; (None, 0); STEPS]?;
+    let room = Vec::<u8>::with_capacity(alloc, ROOM)?;
+    let pieces = all_memory(alloc)?;
+    drop(room);
+    for (step, answer) in answers.iter_mut().enumerate() {
+        let taken = Vec::<u8>::with_capacity(alloc, ROOM - ROOM / STEPS * step);
+        *answer = outcome(alloc, call, bytes);
+        drop(taken);
+    }
+    drop(pieces);
+    Ok(answers)
+}
 
 #[test]
 fn refused_growths(rt: HostRuntime) -> Result<(), Fail> {
     let bytes = bytes_of(rt.alloc(), EXAMPLE_1.as_slice())?;
-    let room = Vec::<u8>::with_capacity(rt.alloc(), ROOM)?;
-    let pieces = all_memory(rt.alloc())?;
-    drop(room);
-    // With ever more of the room left, ever later growths are refused.
-    let mut answers = [(Ok(()), 0); STEPS];
-    for (step, answer) in answers.iter_mut().enumerate() {
-        let taken = Vec::<u8>::with_capacity(rt.alloc(), ROOM - ROOM / STEPS * step);
-        let mut out = wide();
-        let mut source = FromSlice::new(bytes.as_slice());
-        let got = relocate(rt.alloc(), &mut source, &mut out, 1_000, 0x21000);
-        *answer = (got, out.written());
-        drop(taken);
-    }
-    drop(pieces);
-    assert_eq!(rt; answers[0], (Err(RunFault::Memory), 0));
-    assert_eq!(rt; answers[STEPS - 1], (Ok(()), 42));
-    for (step, answer) in answers.iter().enumerate() {
-        if answer.0.is_err() {
-            assert_eq!(rt; *answer, (Err(RunFault::Memory), 0), "at {step}");
-        } else {
-            assert_eq!(rt; *answer, (Ok(()), 42), "at {step}");
+    for (call, size) in [
+        (Call::Show, 66),
+        (Call::Validate, 26),
+        (Call::Relocate, 42),
+        (Call::Rewrite, 40),
+    ] {
+        let answers = outcomes(rt.alloc(), call, bytes.as_slice())?;
+        let (refused, done) = ((Some(RunFault::Memory), 0), (None, size));
+        assert_eq!(rt; answers.first().copied(), Some(refused), "{call:?}");
+        assert_eq!(rt; answers.last().copied(), Some(done), "{call:?}");
+        for answer in answers.as_slice() {
+            assert!(rt; *answer == refused || *answer == done, "{call:?}");
         }
     }
     Ok(())

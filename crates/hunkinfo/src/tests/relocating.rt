@@ -3,7 +3,8 @@
 use crate::fault::RunFault;
 use crate::relocate::relocate;
 use crate::tests::ends::{Narrow, Slow, WIDTH, wide};
-use hunk_words::{Fault, FromRead, FromSlice, FromWrite, LongWriter, Reason};
+use hunk_scatter::Limits;
+use hunk_words::{Fault, FromRead, FromSlice, FromWrite, LongWriter, Reason, Source};
 use std::alloc::{AllocError, Global};
 use std::test::Fail;
 
@@ -14,7 +15,10 @@ const PRINTED: &str = "hunk 0 base 0x00021000 4 bytes\n  4e754e71\n";
 
 const BASE: u32 = 0x21000;
 
-const FILE_BYTES: u64 = 100_000;
+pub(super) const LIMITS: Limits = Limits {
+    budget: 1_000,
+    file_bytes: 100_000,
+};
 
 /// The bytes of these longwords.
 pub(super) fn bytes_of(alloc: Global, words: &[u32]) -> Result<Vec<u8>, AllocError> {
@@ -28,13 +32,8 @@ pub(super) fn bytes_of(alloc: Global, words: &[u32]) -> Result<Vec<u8>, AllocErr
 // What `relocate` prints of these bytes at this base.
 fn printed(alloc: Global, bytes: &[u8], base: u32) -> Result<Vec<u8>, RunFault> {
     let mut out = LongWriter::new(FromWrite::new(Vec::<u8>::new(alloc)));
-    relocate(
-        alloc,
-        &mut FromSlice::new(bytes),
-        &mut out,
-        FILE_BYTES,
-        base,
-    )?;
+    let mut source = FromSlice::new(bytes);
+    relocate(alloc, &mut source, &mut out, LIMITS, base)?;
     Ok(out.into_inner().into_inner())
 }
 
@@ -89,11 +88,25 @@ fn prints_rows_of_sixteen(rt: HostRuntime) -> Result<(), Fail> {
 }
 
 #[test]
-fn ignores_what_follows(rt: HostRuntime) -> Result<(), Fail> {
+fn leaves_what_follows(rt: HostRuntime) -> Result<(), Fail> {
     let mut bytes = bytes_of(rt.alloc(), EXAMPLE_1.as_slice())?;
-    bytes.extend_from_slice(&[0; 7])?;
+    bytes.extend_from_slice(b"follows")?;
     let text = printed(rt.alloc(), bytes.as_slice(), BASE)?;
     assert_eq!(rt; text.as_slice(), PRINTED.as_bytes());
+    // The next reader has all of it; and all of the body, where the header can't be placed.
+    for (base, budget, left) in [
+        (BASE, 4, 7),
+        (BASE, 3, 23),
+        (0xFFFF_FFFC, 4, 7),
+        (0xFFFF_FFFD, 4, 23),
+    ] {
+        let limits = Limits { budget, ..LIMITS };
+        let mut source = FromSlice::new(bytes.as_slice());
+        let got = relocate(rt.alloc(), &mut source, &mut wide(), limits, base);
+        assert_eq!(rt; got.is_ok(), left == 7);
+        let mut rest = [0; 64];
+        assert_eq!(rt; source.pull(rest.as_mut_slice()), Ok(left));
+    }
     Ok(())
 }
 
@@ -254,21 +267,24 @@ fn counts_memory_attributes_in_the_header(rt: HostRuntime) -> Result<(), Fail> {
 }
 
 #[test]
-fn limits_the_input(rt: HostRuntime) -> Result<(), Fail> {
+fn keeps_to_the_limits(rt: HostRuntime) -> Result<(), Fail> {
     let bytes = bytes_of(rt.alloc(), EXAMPLE_1.as_slice())?;
-    for limit in [0, 1, 39, 40] {
+    for (file_bytes, budget, want) in [
+        (0, 4, Err(refused(0, Reason::FileLimit))),
+        (1, 4, Err(refused(1, Reason::FileLimit))),
+        (39, 4, Err(refused(39, Reason::FileLimit))),
+        (40, 4, Ok(())),
+        (40, 3, Err(refused(20, Reason::Budget))),
+        (24, 3, Err(refused(20, Reason::Budget))),
+        (23, 3, Err(refused(23, Reason::FileLimit))),
+    ] {
+        let limits = Limits { budget, file_bytes };
         let mut out = wide();
         let mut source = FromSlice::new(bytes.as_slice());
-        let got = relocate(rt.alloc(), &mut source, &mut out, limit, BASE);
-        assert_eq!(rt; got, Err(refused(limit, Reason::FileLimit)));
-        assert_eq!(rt; out.written(), 0);
+        let got = relocate(rt.alloc(), &mut source, &mut out, limits, BASE);
+        assert_eq!(rt; got, want);
+        assert_eq!(rt; out.written(), if got.is_ok() { 42 } else { 0 });
     }
-    let mut out = wide();
-    let mut source = FromSlice::new(bytes.as_slice());
-    assert_eq!(rt;
-        relocate(rt.alloc(), &mut source, &mut out, 41, BASE),
-        Ok(())
-    );
     Ok(())
 }
 
@@ -278,14 +294,14 @@ fn reads_in_any_pieces(rt: HostRuntime) -> Result<(), Fail> {
     for step in [1, 3, 7, 256] {
         let mut out = LongWriter::new(FromWrite::new(Narrow::new(WIDTH, 1, false)));
         let mut source = Slow::new(bytes.as_slice(), step, false);
-        let got = relocate(rt.alloc(), &mut source, &mut out, FILE_BYTES, BASE);
+        let got = relocate(rt.alloc(), &mut source, &mut out, LIMITS, BASE);
         assert_eq!(rt; got, Ok(()));
         assert_eq!(rt; out.into_inner().into_inner().taken(), PRINTED.as_bytes());
     }
     let mut out = wide();
     let mut source = FromRead::new(bytes.as_slice());
     assert_eq!(rt;
-        relocate(rt.alloc(), &mut source, &mut out, FILE_BYTES, BASE),
+        relocate(rt.alloc(), &mut source, &mut out, LIMITS, BASE),
         Ok(())
     );
     Ok(())
@@ -295,15 +311,22 @@ fn reads_in_any_pieces(rt: HostRuntime) -> Result<(), Fail> {
 fn reading_fails_in_mid_stream(rt: HostRuntime) -> Result<(), Fail> {
     let bytes = bytes_of(rt.alloc(), EXAMPLE_1.as_slice())?;
     assert_eq!(rt; bytes.len(), 40);
-    for n in 0..41usize {
+    for n in 0..40usize {
         for step in [1, 256] {
             let mut out = wide();
             let mut source = Slow::new(&bytes[..n], step, true);
-            let got = relocate(rt.alloc(), &mut source, &mut out, FILE_BYTES, BASE);
+            let got = relocate(rt.alloc(), &mut source, &mut out, LIMITS, BASE);
             assert_eq!(rt; got, Err(RunFault::Read { place: n as u64 }));
             assert_eq!(rt; out.written(), 0);
         }
     }
+    // A source that fails behind the file is not asked again.
+    let mut out = wide();
+    let mut source = Slow::new(bytes.as_slice(), 256, true);
+    assert_eq!(rt;
+        relocate(rt.alloc(), &mut source, &mut out, LIMITS, BASE),
+        Ok(())
+    );
     Ok(())
 }
 
@@ -318,7 +341,7 @@ fn writing_fails_after_each_byte(rt: HostRuntime) -> Result<(), Fail> {
                 let writer = FromWrite::new(Narrow::new(n, step, takes_none));
                 let mut out = LongWriter::new(writer);
                 let mut source = FromSlice::new(bytes.as_slice());
-                let got = relocate(rt.alloc(), &mut source, &mut out, FILE_BYTES, BASE);
+                let got = relocate(rt.alloc(), &mut source, &mut out, LIMITS, BASE);
                 assert_eq!(rt; got, Err(RunFault::Write { written: n as u64 }));
                 assert_eq!(rt; out.into_inner().into_inner().taken(), &text[..n]);
             }

@@ -44,6 +44,7 @@ fn failing_after(bytes: &[u8]) -> Made<'_> {
 fn relocates(rt: HostRuntime) -> Result<(), Fail> {
     for (line, base) in [
         ("hunkinfo", "00000000"),
+        ("hunkinfo relocate --hex --base 00000000 --budget 4", "00000000"),
         ("hunkinfo relocate --hex --base 00021000", "00021000"),
         ("hunkinfo relocate --hex --base FFFFFFFC a", "fffffffc"),
     ] {
@@ -107,10 +108,16 @@ fn refuses_inputs(rt: HostRuntime) -> Result<(), Fail> {
             "hunkinfo relocate --base 00000000 a",
             "refused at byte 0: Truncated (26)\n",
         ),
+        // Examples 32 and 38.
         (
             EXAMPLE,
             "hunkinfo relocate --hex --base FFFFFFFD",
             "refused at byte 24: NoBase (29) hunk 0\n",
+        ),
+        (
+            EXAMPLE,
+            "hunkinfo relocate --hex --base 00000000 --budget 3",
+            "refused at byte 20: Budget (27)\n",
         ),
     ] {
         let (status, text) = ran(rt.alloc(), &giving(input.as_bytes()), ANY, line)?;

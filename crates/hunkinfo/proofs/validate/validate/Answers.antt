@@ -1,11 +1,13 @@
 use Rattle.std.proofs.Common.{◌≡◌, ℕ}
 use Rattle.std.proofs.lemmas.Result.{err_from_is_err_and}
+use Rattle.hunk_words.specs.declared.reason.Reason.TheVariants.{FileLimit}
 use Rattle.hunkinfo.specs.declared.fault.RunFault.{RunFault}
-use Rattle.hunkinfo.specs.declared.fault.RunFault.TheVariants.{Memory}
+use Rattle.hunkinfo.specs.Inputs.{Gave}
+use Rattle.hunkinfo.specs.declared.fault.RunFault.TheVariants.{Memory, Refused}
 use Rattle.hunkinfo.specs.Engine.{RefusesOnly, Writes}
 use Rattle.hunkinfo.specs.Validated.{IsReport, IsValidated}
 use Rattle.hunkinfo.specs.Output.{StopsOutput}
-use Rattle.hunkinfo.proofs.FileLaws.{refused_not_written}
+use Rattle.hunkinfo.proofs.FileLaws.{refused_in_limit, refused_not_written}
 use Rattle.hunkinfo.proofs.Engines.{handed, is_read, only_memory, refuses_only, stops_untouched, writes_all, writes_of, written_first}
 use Rattle.hunkinfo.proofs.validate.validate.Goals as goal
 
@@ -52,3 +54,10 @@ returns-clause-ok g c =
     let read = is_read a b c.args.file_bytes c.in_ok-input.input.items c.as_slice.result.now c.in_ok-input.ensures.given c.in_ok-input.ensures.ended c.in_ok-input.ensures.bound c.as_slice.ensures.value in
     writes_all (IsValidated c.in_ok-report.report.count) a b c.args.file_bytes before after c.args.w.now.written c.put_bytes.new.self.written c.as_slice.result.now c.in_ok-report.report.text.items c.as_slice-2.result.now read c.in_ok-report.ensures.ok
     c.as_slice-2.ensures.value c.requires c.in_ok-put_bytes.ensures.puts c.in_ok-put_bytes.ensures.whole
+
+pub returns-in_err-report-clause-limit : goal.returns-in_err-report-clause-limit
+returns-in_err-report-clause-limit g c =
+    handed (λ (fault : RunFault). (place : ℕ) → fault ≡ Refused (record { place = place; reason = FileLimit }) →
+        (place ≡ c.args.file_bytes) × Gave (g.R.Source.left c.args.r.now) (g.R.Source.left c.whole.new.source) place)
+    c.from_residual-in_err-report.result c.in_err-report.field-0.0 (err_from_is_err_and c.from_residual-in_err-report.result c.from_residual-in_err-report.ensures.1)
+    (λ place is. absurd (refused_in_limit c.in_err-report.field-0.0 c.as_slice.result.now place c.in_err-report.ensures.refused is))

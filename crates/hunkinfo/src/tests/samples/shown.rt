@@ -7,7 +7,7 @@ pub(in crate::tests) struct Shown {
     pub text: &'static str,
 }
 
-pub(in crate::tests) static SHOWN: [Shown; 15] = [
+pub(in crate::tests) static SHOWN: [Shown; 16] = [
     Shown {
         name: "example 8",
         hex: "000003F3 00000000 00000002 00000000 00000001 C0000002 00010004 00000001 000003E9 \
@@ -99,6 +99,19 @@ hunk 0 4 bytes any
         hex: "000003E7 00000000",
         text: "object file 1 units
 unit 0 
+",
+    },
+    Shown {
+        name: "example 29",
+        hex: "000003E7 00000000 000003E9 00000001 00000000 000003EC 00000001 00000001 00000002 \
+        00000000 000003F2",
+        text: "object file 1 units
+unit 0 
+hunk 0 4 bytes
+  CODE 4 bytes
+  RELOC32 1
+    1 0x00000002
+  END
 ",
     },
     Shown {

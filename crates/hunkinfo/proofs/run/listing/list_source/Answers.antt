@@ -1,0 +1,27 @@
+use Rattle.std.proofs.Common.{rules, ◌≡◌, ◌∙◌, ℕ, Bool, true, false, List, Option, Some, Result, Ok, Err, ap, sym, subst}
+use Rattle.std.specs.Prelude.{IfOk}
+use Rattle.std.specs.Io.KnownBytes.{Consumes, IsAtEnd}
+use Rattle.hunk_words.specs.Carriers.{Writing}
+use Rattle.hunkinfo.specs.declared.fault.RunFault.{RunFault}
+use Rattle.hunkinfo.specs.declared.run.listing.Listing.{Listing}
+use Rattle.hunkinfo.specs.HexText.{Spells}
+use Rattle.hunkinfo.specs.Runs.{ListsSource}
+use Rattle.hunkinfo.proofs.Telling.{lists_text}
+use Rattle.hunkinfo.proofs.run.listing.list_source.Goals as goal
+
+-- what was listed of the bytes is listed of the text that spells them
+lists_where_done : {W : Type 0} (taken : W → Option (List ℕ)) (old new : Writing W) (listing : Listing) (hex : Bool) (a b c d : Option (List ℕ)) (given bytes : List ℕ)
+    (result : Result ℕ RunFault) → hex ≡ true → Consumes a b given → IsAtEnd b → Spells given bytes → c ≡ Some bytes →
+    IfOk result (λ status. status ≡ 0 → ListsSource false listing c d taken old new) → IfOk result (λ status. status ≡ 0 → ListsSource hex listing a b taken old new)
+lists_where_done taken old new listing hex a b c d given bytes (Ok status) is consumed ended spells known lists =
+    λ done. subst (λ (h : Bool). ListsSource h listing a b taken old new) (sym is) (lists_text taken old new listing a b c d given bytes consumed ended spells known (lists done))
+lists_where_done taken old new listing hex a b c d given bytes (Err fault) is consumed ended spells known lists = tt
+
+pub returns-clause-done : goal.returns-clause-done
+returns-clause-done g c =
+    let hex : c.args.hex ≡ true = search rules in
+    let bytes = c.in_ok-bytes.bytes.items in
+    let spells : Spells c.in_ok-text.text.items bytes = subst (λ (xs : List ℕ). Spells xs bytes) c.as_slice.ensures.value c.in_ok-bytes.ensures.spelled in
+    let known = ap {B = Option (List ℕ)} (λ (xs : List ℕ). Some xs) (c.new.ensures ∙ c.as_slice-2.ensures.value) in
+    lists_where_done g.W.Sink.taken c.args.out.now c.list_bytes-2.new.out c.args.listing c.args.hex _ _ _ _ c.in_ok-text.text.items bytes _
+    hex c.in_ok-text.ensures.given c.in_ok-text.ensures.ended spells known c.list_bytes-2.ensures.done

@@ -1,0 +1,40 @@
+//! What becomes of an OUT that is there, with files.
+
+use crate::run::run;
+use crate::tests::relocating::{EXAMPLE_1, bytes_of};
+use hunk_words::{FromWrite, LongWriter};
+use std::fs;
+use std::test::Fail;
+
+#[test]
+fn keeps_an_old_output(rt: HostRuntime) -> Result<(), Fail> {
+    let file = bytes_of(rt.alloc(), EXAMPLE_1.as_slice())?;
+    let short = bytes_of(rt.alloc(), &EXAMPLE_1[..9])?;
+    let mut words = EXAMPLE_1;
+    words[9] = 0x3F4;
+    let damaged = bytes_of(rt.alloc(), words.as_slice())?;
+    let old = b"an old file that is longer than the one that takes its place";
+    let (input, output) = ("/tmp/hunkinfo-test-in", "/tmp/hunkinfo-test-out");
+    for (bytes, want, status_wanted) in [
+        // A refused IN leaves OUT as it was.
+        (short.as_slice(), old.as_slice(), 1),
+        (damaged.as_slice(), old.as_slice(), 1),
+        // One that is accepted takes its place.
+        (file.as_slice(), file.as_slice(), 0),
+    ] {
+        fs::write(&rt, input, bytes)?;
+        fs::write(&rt, output, old.as_slice())?;
+        let mut words = Vec::new(rt.alloc());
+        for word in ["hunkinfo", "rewrite", input, output] {
+            words.push(String::from_str(rt.alloc(), word)?)?;
+        }
+        let mut out = LongWriter::new(FromWrite::new(Vec::<u8>::new(rt.alloc())));
+        let status = run(&rt, rt.alloc(), words.as_slice(), &mut out);
+        assert_eq!(rt; status, status_wanted);
+        assert_eq!(rt; fs::read(&rt, output)?.as_slice(), want);
+        assert_eq!(rt; fs::read(&rt, input)?.as_slice(), bytes);
+    }
+    fs::remove_file(&rt, input)?;
+    fs::remove_file(&rt, output)?;
+    Ok(())
+}
