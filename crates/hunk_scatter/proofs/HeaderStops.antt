@@ -6,7 +6,6 @@ use Rattle.hunk_words.specs.Longs.{longs, IsLong, AreLongs, IsBytes}
 use Rattle.hunk_words.specs.declared.fault.Fault.{Fault}
 use Rattle.hunk_words.specs.declared.reason.Reason.{Reason}
 use Rattle.hunk_words.specs.declared.reason.Reason.TheVariants as reasons
-use Rattle.hunk_words.specs.Reasons.{number_of}
 use Rattle.hunk_words.proofs.LongLaws.{longs-bytes_of, length-bytes_of}
 use Rattle.hunk_blocks.proofs.Lists.{All-more}
 use Rattle.hunk_files.specs.Fault.{Expects, HasRefusal, is_word_refusal}

@@ -1,5 +1,5 @@
 -- What is written of a file that was decoded.
-use Rattle.std.proofs.Common.{◌≡◌, ◌≤◌, ℕ, Bool, true, false, List, ◌++◌, length, refl, inl, inr, ap, sym, ◌∙◌, arith, length-append}
+use Rattle.std.proofs.Common.{◌≤◌, ℕ, Bool, true, false, List, length, refl, inl, inr, ap, arith, length-append}
 use Rattle.hunk_words.specs.Longs.{bytes_of}
 use Rattle.hunk_files.specs.LoadFile.{LoadFileValue}
 use Rattle.hunk_files.specs.LoadText.{text}

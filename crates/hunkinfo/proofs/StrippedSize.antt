@@ -1,16 +1,16 @@
 -- Stripping makes no file longer.
-use Rattle.std.proofs.Common.{◌≡◌, ◌≤◌, ℕ, ◌+◌, Bool, true, false, List, [], ◌∷◌, ◌++◌, length, map, refl, sym, ap, ap₂, ◌∙◌, arith, cond, length-append}
-use Rattle.std.specs.List.{filter, flat_map}
+use Rattle.std.proofs.Common.{◌≡◌, ◌≤◌, ℕ, Bool, true, false, List, [], ◌∷◌, length, map, refl, ap, arith, cond, length-append}
+use Rattle.std.specs.List.{flat_map}
 use Rattle.hunk_blocks.specs.Values.{BlockValue}
 use Rattle.hunk_blocks.specs.Parts.{block_text}
 use Rattle.hunk_words.specs.Longs.{bytes_of}
 use Rattle.hunk_words.proofs.LongLaws.{length-bytes_of}
-use Rattle.hunk_files.specs.LoadFile.{HunkValue, LoadFileValue, TableEntry}
+use Rattle.hunk_files.specs.LoadFile.{LoadFileValue, TableEntry}
 use Rattle.hunk_files.specs.LoadText.{header_labelled, table, text, words}
 use Rattle.hunk_files.specs.Hunks.{block_texts}
 use Rattle.hunk_files.specs.Tables.{hunk_texts}
 use Rattle.hunk_files.specs.ObjectFile.{ObjectFileValue, ObjectHunk, object_text, unit_header, unit_text}
-use Rattle.hunk_files.specs.Strip.{is_kept, strip_blocks, strip_file, strip_hunk, strip_object, strip_unit}
+use Rattle.hunk_files.specs.Strip.{is_kept, strip_blocks, strip_file, strip_object, strip_unit}
 use Rattle.hunk_files.proofs.TableReading.{text_is}
 
 blocks_shorter : (blocks : List BlockValue) → length (block_texts (strip_blocks blocks)) ≤ length (block_texts blocks)

@@ -5,7 +5,7 @@ use Rattle.hunk_words.specs.declared.fault.Fault.{Fault}
 use Rattle.hunk_words.specs.declared.reason.Reason.TheVariants.{FileLimit}
 use Rattle.hunk_words.specs.Puts.{Puts}
 use Rattle.hunkinfo.specs.declared.fault.RunFault.{RunFault}
-use Rattle.hunkinfo.specs.declared.fault.RunFault.TheVariants.{HexText, Memory, Read, Refused, Write}
+use Rattle.hunkinfo.specs.declared.fault.RunFault.TheVariants.{HexText, Refused}
 use Rattle.hunkinfo.specs.FileKinds.{RefusesBytes}
 
 -- The source was read to its end in fewer than `most` bytes. The text is one that these have, and as many of its first bytes

@@ -44,7 +44,10 @@ fn failing_after(bytes: &[u8]) -> Made<'_> {
 fn relocates(rt: HostRuntime) -> Result<(), Fail> {
     for (line, base) in [
         ("hunkinfo", "00000000"),
-        ("hunkinfo relocate --hex --base 00000000 --budget 4", "00000000"),
+        (
+            "hunkinfo relocate --hex --base 00000000 --budget 4",
+            "00000000",
+        ),
         ("hunkinfo relocate --hex --base 00021000", "00021000"),
         ("hunkinfo relocate --hex --base FFFFFFFC a", "fffffffc"),
     ] {

@@ -1,5 +1,5 @@
-use Rattle.std.proofs.Common.{◌≡◌, ◌⊎◌, ◌∙◌, ℕ, List, Result, Err, inl, inr, ap, ap₂, sym, subst, refl, length, map, arith}
-use Rattle.std.specs.Prelude.{IsErrAnd, IsTrue}
+use Rattle.std.proofs.Common.{◌≡◌, ◌⊎◌, ◌∙◌, ℕ, List, inl, inr, ap, ap₂, sym, subst, refl, length, arith}
+use Rattle.std.specs.Prelude.{IsTrue}
 use Rattle.std.proofs.lemmas.Result.{err_from_is_err_and}
 use Rattle.hunk_words.specs.declared.fault.Fault.{Fault}
 use Rattle.hunk_words.specs.declared.reason.Reason.{Reason}
@@ -10,7 +10,6 @@ use Rattle.hunk_scatter.specs.Answers.{is_of_file}
 use Rattle.hunk_scatter.specs.Headers.{IsOverBudget}
 use Rattle.hunk_scatter.specs.Loads.{Gives, IsLoadFault, IsLoadFaultBy}
 use Rattle.hunk_scatter.specs.Rows.{bases_of}
-use Rattle.hunkinfo.specs.declared.fault.RunFault.{RunFault}
 use Rattle.hunkinfo.specs.declared.fault.RunFault.TheVariants.{Memory, Read, Refused}
 use Rattle.hunkinfo.specs.Faults.{refused_as, refused_for}
 use Rattle.hunkinfo.specs.Listing.{listing}
@@ -62,10 +61,10 @@ returns-in_err-image-clause-refused g c =
     let failed = g.R.Source.failed c.load.new.r in
     let limits = c.args.limits in
     handed (λ fault. (x : Fault) → fault ≡ Refused x → (given : List ℕ) × Gives before after limits.file_bytes given
-        × IsLoadFault (packed c.args.base) limits.budget limits.file_bytes after failed given x)
+    × IsLoadFault (packed c.args.base) limits.budget limits.file_bytes after failed given x)
     c.from_residual.result (refused_as refusal) (err_from_is_err_and c.from_residual.result c.from_residual.ensures.1)
     (λ x is. subst (λ (y : Fault). (given : List ℕ) × Gives before after limits.file_bytes given
-        × IsLoadFault (packed c.args.base) limits.budget limits.file_bytes after failed given y) (same_refusal refusal x is) c.in_err-image.ensures.fault)
+    × IsLoadFault (packed c.args.base) limits.budget limits.file_bytes after failed given y) (same_refusal refusal x is) c.in_err-image.ensures.fault)
 
 pub returns-in_err-image-clause-read : goal.returns-in_err-image-clause-read
 returns-in_err-image-clause-read g c =
@@ -77,16 +76,16 @@ returns-in_err-image-clause-read g c =
     handed (λ fault. (place : ℕ) → fault ≡ Read place → ReadsShort limits.budget limits.file_bytes before after failed place)
     c.from_residual.result (refused_as refusal) (err_from_is_err_and c.from_residual.result c.from_residual.ensures.1)
     (λ place is.
-        let read = same_read refusal place is in
-        let fault = c.in_err-image.ensures.fault in
-        let why = subst (λ (r : Reason). IsLoadFaultBy r (packed c.args.base) limits.budget limits.file_bytes after failed fault.0 refusal.place) read.0 fault.2 in
-        record {
-          broken = why.1;
-          given = fault.0;
-          gave = fault.1;
-          place_is = sym read.1 ∙ why.0;
-          short = why.2;
-        })
+    let read = same_read refusal place is in
+    let fault = c.in_err-image.ensures.fault in
+    let why = subst (λ (r : Reason). IsLoadFaultBy r (packed c.args.base) limits.budget limits.file_bytes after failed fault.0 refusal.place) read.0 fault.2 in
+    record {
+      broken = why.1;
+      given = fault.0;
+      gave = fault.1;
+      place_is = sym read.1 ∙ why.0;
+      short = why.2;
+    })
 
 pub returns-in_err-put_bytes-clause-over_budget : goal.returns-in_err-put_bytes-clause-over_budget
 returns-in_err-put_bytes-clause-over_budget g c = λ input at known sound passes. absurd (c.in_ok-image.ensures.over_budget input at known sound passes)

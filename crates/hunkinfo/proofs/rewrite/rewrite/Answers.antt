@@ -1,4 +1,4 @@
-use Rattle.std.proofs.Common.{◌≡◌, ◌∙◌, ℕ, List, length, ap, sym, refl, subst, arith}
+use Rattle.std.proofs.Common.{◌≡◌, ℕ, List, length, ap, sym, refl, subst, arith}
 use Rattle.std.proofs.lemmas.Result.{err_from_is_err_and}
 use Rattle.hunkinfo.specs.declared.fault.RunFault.{RunFault}
 use Rattle.hunkinfo.specs.declared.fault.RunFault.TheVariants.{Memory}

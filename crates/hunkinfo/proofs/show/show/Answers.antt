@@ -58,6 +58,6 @@ returns-clause-ok g c =
 pub returns-in_err-text-clause-limit : goal.returns-in_err-text-clause-limit
 returns-in_err-text-clause-limit g c =
     handed (λ (fault : RunFault). (place : ℕ) → fault ≡ Refused (record { place = place; reason = FileLimit }) →
-        (place ≡ c.args.file_bytes) × Gave (g.R.Source.left c.args.r.now) (g.R.Source.left c.whole.new.source) place)
+    (place ≡ c.args.file_bytes) × Gave (g.R.Source.left c.args.r.now) (g.R.Source.left c.whole.new.source) place)
     c.from_residual-in_err-text.result c.in_err-text.field-0.0 (err_from_is_err_and c.from_residual-in_err-text.result c.from_residual-in_err-text.ensures.1)
     (λ place is. absurd (refused_in_limit c.in_err-text.field-0.0 c.as_slice.result.now place c.in_err-text.ensures.refused is))

@@ -1,4 +1,4 @@
-use Rattle.std.proofs.Common.{rules, ◌≡◌, ◌+◌, ◌≤◌, ◌++◌, ℕ, List, length, take, length-append, arith}
+use Rattle.std.proofs.Common.{rules, ◌+◌, ◌≤◌, ◌++◌, length, take, length-append, arith}
 use Rattle.std.proofs.KnownBytes.{Consumes-trans}
 use Rattle.hunkinfo.proofs.whole.whole.Goals as goal
 use Rattle.hunkinfo.proofs.whole.whole.Goals.{then-room, else-room}
@@ -11,8 +11,10 @@ returns-in_err-extend_from_slice-in-Ok-clause-within g c =
       | then-room w ↦ omega (arith, w.ask-is, w.if-room.true, c.len-in-reading.ensures, c.len.ensures, c.reading-test.true)
       | else-room w ↦ omega (arith, w.ask-is, w.if-room.false, c.len-in-reading.ensures, c.len.ensures, c.reading-test.true)
     ] in
-    let few : length piece ≤ c.if-room.ask = search rules in
-    (held ++ piece, record {
-      consumed = Consumes-trans _ _ _ held piece c.reading.invariant.1 c.in-Ok.ensures.bytes.0;
-      within = omega (arith, length-append held piece, asked, few);
-    })
+    let few : length piece ≤ c.if-room.ask = search rules in (
+      held ++ piece,
+      record {
+        consumed = Consumes-trans _ _ _ held piece c.reading.invariant.1 c.in-Ok.ensures.bytes.0;
+        within = omega (arith, length-append held piece, asked, few);
+      },
+    )

@@ -1,4 +1,4 @@
-use Rattle.std.proofs.Common.{◌≡◌, ◌≢◌, ◌∙◌, sym, inl, inr}
+use Rattle.std.proofs.Common.{◌≢◌, ◌∙◌, sym, inl, inr}
 use Rattle.hunk_words.specs.Longs.{longs}
 use Rattle.hunk_files.specs.declared.file_kind.Sniff.TheVariants.{Object}
 use Rattle.hunk_files.specs.FileKind.{sniffed}

@@ -1,5 +1,4 @@
-use Rattle.std.proofs.Common.{◌≡◌, ◌≤◌, ◌∙◌, ap, sym, ℕ, ◌++◌, length, map, arith}
-use Rattle.std.proofs.lemmas.List.{length-map}
+use Rattle.std.proofs.Common.{◌≤◌, ◌∙◌, ap, ℕ, ◌++◌, length, arith}
 use Rattle.hunk_blocks.specs.Views.{group_of}
 use Rattle.hunkinfo.specs.BlockLines.{count_line, group_lines}
 use Rattle.hunkinfo.proofs.Lines.{shown_behind, shown_told}

@@ -1,4 +1,4 @@
-use Rattle.std.proofs.Common.{◌≡◌, ◌≤◌, ◌∙◌, ap, sym, ℕ, ◌++◌, length, map, arith}
+use Rattle.std.proofs.Common.{◌≤◌, ◌∙◌, ap, sym, ℕ, ◌++◌, length, arith}
 use Rattle.std.proofs.lemmas.List.{length-map}
 use Rattle.hunk_blocks.specs.Views.{symbol_of}
 use Rattle.hunkinfo.specs.BlockLines.{count_line, symbol_line}

@@ -1,4 +1,4 @@
-use Rattle.std.proofs.Common.{◌≡◌, ◌∙◌, ◌*◌, ℕ, refl, ap, sym, true, false, arith}
+use Rattle.std.proofs.Common.{◌≡◌, ◌∙◌, ◌*◌, refl, ap, sym, true, false, arith}
 use Rattle.hunk_blocks.specs.Values.{BlockBody}
 use Rattle.hunk_files.specs.LoadFile.{is_content, standing}
 use Rattle.hunk_files.specs.Findings.{content_longs}
