@@ -78,7 +78,7 @@ impl Image {
         base_of(self.rows.as_slice(), i)
     }
 
-    /// The bytes of a hunk.
+    /// The bytes of a hunk. It is found by summing the bytes of the hunks before it.
     pub fn segment(&self, i: u32) -> &[u8]
         requires { i < length self.now.rows }
         ensures { slice_get self.now.segments i ≡ Some result.now }

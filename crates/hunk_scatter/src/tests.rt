@@ -1,7 +1,9 @@
 //! What no clause says: images and faults from outside by readers of all kinds, the number of reads,
 //! and refused memory.
 
+mod bodies;
 mod headers;
+mod limits;
 mod loads;
 mod memory;
 mod sources;

@@ -7,7 +7,11 @@ use std::alloc::Global;
 use std::test::Fail;
 
 /// The table of a header, or why it is refused.
-fn table(alloc: Global, text: &str, budget: u64) -> Result<Result<Declared, LoadFault>, Fail> {
+pub(super) fn table(
+    alloc: Global,
+    text: &str,
+    budget: u64,
+) -> Result<Result<Declared, LoadFault>, Fail> {
     let bytes = spelled(alloc, text)?;
     let mut loader = HeaderLoader::new(alloc, budget);
     match loader.feed(bytes.as_slice()) {
