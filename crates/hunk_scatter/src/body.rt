@@ -95,7 +95,8 @@ impl BodyLoader {
     /// input ends here, the input is truncated.
     pub fn want(&self) -> usize
         ensures bound { result ≤ 256 }
-        ensures least { (v : LoadFileValue) (more : List ℕ) → IsLoadFile v → bytes_of (text v) ≡ self.now.fed ++ more → result ≤ length more }
+        ensures least { (v : LoadFileValue) (more : List ℕ) → IsLoadFile v
+            → bytes_of (text v) ≡ self.now.fed ++ more → result ≤ length more }
         ensures over { self.now.refused ≡ None → IsWholeFile self.now.rows self.now.fed → result ≡ 0 }
         ensures some { self.now.refused ≡ None → result ≡ 0 → IsWholeFile self.now.rows self.now.fed }
         ensures refused { (f : Fault) → self.now.refused ≡ Some f → result ≡ 0 }
@@ -129,7 +130,8 @@ impl BodyLoader {
         ensures reading { OnOk result ((self.old.refused ≡ None) × (self.new.refused ≡ None)) }
 
         // Refusals.
-        ensures refusal { self.old.refused ≡ None → IfErr result (λ f. HasRefusal (self.old.fed ++ piece.now) f.place f.reason) }
+        ensures refusal { self.old.refused ≡ None
+            → IfErr result (λ f. HasRefusal (self.old.fed ++ piece.now) f.place f.reason) }
         ensures accepts { self.old.refused ≡ None → MayGoOn (self.old.fed ++ piece.now) → IsOk result }
         ensures own { IfErr result (λ f. IsTrue (is_of_body f.reason)) }
 

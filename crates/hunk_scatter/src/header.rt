@@ -112,7 +112,8 @@ impl HeaderLoader {
     /// that was fed is refused before `feed` refuses; where the input ends here, it is truncated.
     pub fn want(&self) -> usize
         ensures bound { result ≤ 256 }
-        ensures least { (table : List TableEntry) (more : List ℕ) → IsTable table → header_bytes table ≡ self.now.fed ++ more → result ≤ length more }
+        ensures least { (table : List TableEntry) (more : List ℕ) → IsTable table
+            → header_bytes table ≡ self.now.fed ++ more → result ≤ length more }
         ensures over { self.now.refused ≡ None → IsHeader self.now.fed → result ≡ 0 }
         ensures some { self.now.refused ≡ None → result ≡ 0 → IsHeader self.now.fed }
         ensures refused { (f : Fault) → self.now.refused ≡ Some f → result ≡ 0 }
@@ -139,7 +140,8 @@ impl HeaderLoader {
         ensures all { IfOk result (λ n. n < length piece.now → IsHeader self.new.fed) }
         ensures complete { IsHeader self.old.fed → result ≡ Ok 0 }
         ensures reading { OnOk result (self.new.refused ≡ None) }
-        ensures refusal { IfErr result (λ f. (front rest : List ℕ) × (self.old.fed ++ piece.now ≡ front ++ rest) × (length self.old.fed < length front) × HeaderStop self.old.budget front f) }
+        ensures refusal { IfErr result (λ f. (front rest : List ℕ) × (self.old.fed ++ piece.now ≡ front ++ rest)
+            × (length self.old.fed < length front) × HeaderStop self.old.budget front f) }
         ensures remembers { IfErr result (λ f. self.new.refused ≡ Some f) }
     {
         let mut taken = 0;
@@ -170,10 +172,14 @@ impl HeaderLoader {
         ensures reading { OnOk result ((self.old.refused ≡ None) × (self.new.refused ≡ None)) }
 
         // Refusals.
-        ensures refusal { self.old.refused ≡ None → IfErr result (IsHeaderFault self.old.budget (self.old.fed ++ piece.now)) }
-        ensures passes { self.old.refused ≡ None → (at : ℕ) → PassesBudget self.old.budget (self.old.fed ++ piece.now) at → IsErrAnd result (IsOverBudget at) }
-        ensures wanting { self.old.refused ≡ None → IfErr result (λ f. f.reason ≡ reasons.OutOfMemory → length self.old.fed < f.place + 4) }
-        ensures accepts { self.old.refused ≡ None → MayGoOnInHeader (self.old.fed ++ piece.now) → IfErr result (λ f. IsBudgetOrMemory f.reason) }
+        ensures refusal { self.old.refused ≡ None
+            → IfErr result (IsHeaderFault self.old.budget (self.old.fed ++ piece.now)) }
+        ensures passes { self.old.refused ≡ None → (at : ℕ)
+            → PassesBudget self.old.budget (self.old.fed ++ piece.now) at → IsErrAnd result (IsOverBudget at) }
+        ensures wanting { self.old.refused ≡ None
+            → IfErr result (λ f. f.reason ≡ reasons.OutOfMemory → length self.old.fed < f.place + 4) }
+        ensures accepts { self.old.refused ≡ None → MayGoOnInHeader (self.old.fed ++ piece.now)
+            → IfErr result (λ f. IsBudgetOrMemory f.reason) }
         ensures own { IfErr result (λ f. IsTrue (is_of_header f.reason)) }
 
         // A loader that has refused.

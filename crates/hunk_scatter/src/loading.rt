@@ -69,7 +69,9 @@ fn load_header<R: Source>(
 ) -> Result<Declared, LoadFault>
     requires { length buf.old ≡ 256 }
     ensures { (given : List ℕ) × Gives (R.left r.old) (R.left r.new) limits.file_bytes given × IsWithinHeader given
-        × MatchResult result (λ declared. IsTable declared.table × (given ≡ header_bytes declared.table) × (declared_bytes declared.table ≤ limits.budget))
+        × MatchResult result
+        (λ declared. IsTable declared.table × (given ≡ header_bytes declared.table)
+        × (declared_bytes declared.table ≤ limits.budget))
         (IsHeaderStop limits.budget limits.file_bytes (R.left r.new) (R.failed r.new) given) }
 {
     let mut loader = HeaderLoader::new(alloc, limits.budget);
@@ -104,8 +106,10 @@ fn load_body<R: Source>(
     requires reading { loader.refused ≡ None }
     requires within { length loader.fed ≤ limit }
     requires in_file { IsWithinFile loader.fed }
-    ensures { (more : List ℕ) × Consumes (R.left r.old) (R.left r.new) more × (length (loader.fed ++ more) ≤ limit) × IsWithinFile (loader.fed ++ more)
-        × MatchResult result (λ image. IsImageOf loader.rows (loader.fed ++ more) image.segments × (image.rows ≡ loader.rows))
+    ensures { (more : List ℕ) × Consumes (R.left r.old) (R.left r.new) more
+        × (length (loader.fed ++ more) ≤ limit) × IsWithinFile (loader.fed ++ more)
+        × MatchResult result
+        (λ image. IsImageOf loader.rows (loader.fed ++ more) image.segments × (image.rows ≡ loader.rows))
         (IsBodyStop limit (R.left r.new) (R.failed r.new) (loader.fed ++ more)) }
 {
     let mut loader = loader;
@@ -136,7 +140,8 @@ fn load_placed<R: Source, P: Placer>(
     limits: Limits,
     p: &P,
 ) -> Result<Image, LoadFault>
-    ensures { (given : List ℕ) × Gives (R.left r.old) (R.left r.new) limits.file_bytes given × IsWithinFile given × KeepsToHeader (P.base p.now) limits.budget given
+    ensures { (given : List ℕ) × Gives (R.left r.old) (R.left r.new) limits.file_bytes given
+        × IsWithinFile given × KeepsToHeader (P.base p.now) limits.budget given
         × LoadEnds (P.base p.now) limits.budget limits.file_bytes (R.left r.new) (R.failed r.new) given result }
 {
     let mut buf = [0u8; 256];
@@ -179,18 +184,23 @@ pub fn load<R: Source, P: Placer>(
 
     // What is read at most.
     ensures limit { (given : List ℕ) × Gives (R.left r.old) (R.left r.new) limits.file_bytes given }
-    ensures one_file { (v : LoadFileValue) (rest : List ℕ) → IsLoadFile v → R.left r.old ≡ Some (bytes_of (text v) ++ rest) → KeepsRest (R.left r.new) rest }
-    ensures header_first { (t : List TableEntry) (rest : List ℕ) → IsTable t → R.left r.old ≡ Some (header_bytes t ++ rest)
+    ensures one_file { (v : LoadFileValue) (rest : List ℕ) → IsLoadFile v
+        → R.left r.old ≡ Some (bytes_of (text v) ++ rest) → KeepsRest (R.left r.new) rest }
+    ensures header_first { (t : List TableEntry) (rest : List ℕ) → IsTable t
+        → R.left r.old ≡ Some (header_bytes t ++ rest)
         → IsNotPlaced (P.base p.now) limits.budget t → KeepsRest (R.left r.new) rest }
 
     // Success.
-    ensures succeeds { (v : LoadFileValue) (rest : List ℕ) → IsLoadFile v → R.left r.old ≡ Some (bytes_of (text v) ++ rest) → length (bytes_of (text v)) ≤ limits.file_bytes
-        → declared_bytes (table v) ≤ limits.budget → HasBases (P.base p.now) (table v) → R.failed r.new ≡ Bool.false → IfErr result (λ f. f.reason ≡ reasons.OutOfMemory) }
+    ensures succeeds { (v : LoadFileValue) (rest : List ℕ) → IsLoadFile v
+        → R.left r.old ≡ Some (bytes_of (text v) ++ rest) → length (bytes_of (text v)) ≤ limits.file_bytes
+        → declared_bytes (table v) ≤ limits.budget → HasBases (P.base p.now) (table v)
+        → R.failed r.new ≡ Bool.false → IfErr result (λ f. f.reason ≡ reasons.OutOfMemory) }
 
     // Refusals.
     ensures over_budget { (input : List ℕ) (at : ℕ) → R.left r.old ≡ Some input → R.failed r.new ≡ Bool.false
         → PassesBudget limits.budget (take limits.file_bytes input) at → IsErrAnd result (IsOverBudget at) }
-    ensures file_fault { (input : List ℕ) → R.left r.old ≡ Some input → IfErr result (λ f. IsTrue (is_of_file f.reason) → HasFault input f.place f.reason) }
+    ensures file_fault { (input : List ℕ) → R.left r.old ≡ Some input
+        → IfErr result (λ f. IsTrue (is_of_file f.reason) → HasFault input f.place f.reason) }
     ensures fault { IfErr result (λ f. (given : List ℕ) × Gives (R.left r.old) (R.left r.new) limits.file_bytes given
         × IsLoadFault (P.base p.now) limits.budget limits.file_bytes (R.left r.new) (R.failed r.new) given f) }
     ensures own { IfErr result (λ f. IsTrue (is_of_load f.reason)) }
