@@ -176,10 +176,10 @@ count_accepted : (n : ℕ) → 0 < n → n ≤ 65536 → refuse roles.TableSize 
 count_accepted n some most =
     passes_else (eqb n 0) (Some reasons.NoHunks) _ (ne_eqb n 0 (omega arith)) ∙ passes_else (ltb 65536 n) (Some reasons.TooManyHunks) None (le-ltb 65536 n most)
 
-last_accepted : (n : ℕ) → 0 < n → refuse (roles.LastHunk n) (n - 1) ≡ None
+pub last_accepted : (n : ℕ) → 0 < n → refuse (roles.LastHunk n) (n - 1) ≡ None
 last_accepted n some = passes_then (eqb (n - 1 + 1) n) None (Some reasons.LastHunk) (eq-eqb (n - 1 + 1) n (omega arith))
 
-header_accepted : (t : List TableEntry) → 0 < length t → length t ≤ 65536 → AllByRecursion IsTableEntry t → AreAccepted (header_labelled t)
+pub header_accepted : (t : List TableEntry) → 0 < length t → length t ≤ 65536 → AllByRecursion IsTableEntry t → AreAccepted (header_labelled t)
 header_accepted t some most h = (
   (omega arith, refl),
   (

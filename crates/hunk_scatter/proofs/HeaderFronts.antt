@@ -11,6 +11,7 @@ use Rattle.hunk_files.specs.Image.{declared_bytes}
 use Rattle.hunk_files.specs.LoadFile.{TableEntry, LoadFileValue, IsLoadFile}
 use Rattle.hunk_files.specs.LoadText.{labelled, header_labelled, hunk_labelled, table, text, words}
 use Rattle.hunk_files.specs.Roles.{Role, Role as roles, refuse}
+use Rattle.hunk_files.proofs.Accepted.{header_accepted}
 use Rattle.hunk_files.proofs.FileProgress.{ProgressFits, NextFits, step_keeps}
 use Rattle.hunk_files.proofs.FileSteps.{Progress, AtFirst, AtResident, AtTableSize, AtFirstHunk, AtLastHunk, AtSizeWord, AtAttributes, AtBlock, InBody, Next, More, Finished, open_hunk, role_of, step, Leads}
 use Rattle.hunk_files.proofs.FileText.{header_leads, entries_fit}
@@ -31,7 +32,7 @@ use Rattle.hunk_scatter.proofs.Forget.{step_behind, step_table}
 use Rattle.hunk_scatter.proofs.HeaderLeast.{opens}
 use Rattle.hunk_scatter.proofs.HeaderSteps.{header_step, goes_on, not_done, step_total}
 use Rattle.hunk_scatter.proofs.HeaderStops.{header_longs}
-use Rattle.hunk_scatter.proofs.HeaderTexts.{header_read, header_accepted, rows_read}
+use Rattle.hunk_scatter.proofs.HeaderTexts.{header_read, rows_read}
 use Rattle.hunk_scatter.proofs.Outcomes.{longs_text}
 use Rattle.hunk_scatter.proofs.Splits.{fronts}
 
@@ -171,7 +172,7 @@ module _ (t : List TableEntry) (is : IsTable t) where
       let h : HasRead before (More place.0) = record { done = x.done; run = place.1.run; reads = place.1.reads; accepted = place.1.accepted; all = x.begins } in
       let cut = Leads-split (More AtFirst) (open_hunk (length t) [] t) s.front s.back (subst (λ (ls : Labelled). Leads (More AtFirst) ls (open_hunk (length t) [] t)) s.split (header_leads t is.each)) in
       let same = Leads-same (More AtFirst) cut.0 (More place.0) s.front h.done cut.1 h.run (s.front_words ∙ sym h.all) in
-      first_word place.0 before word after h place.1.role_is s.back (accepted_right s.front s.back (subst AreAccepted s.split (header_accepted t is))) s.back_words
+      first_word place.0 before word after h place.1.role_is s.back (accepted_right s.front s.back (subst AreAccepted s.split (header_accepted t is.some is.most is.each))) s.back_words
       (subst (λ (n : Next). Leads n s.back (open_hunk (length t) [] t)) same.1 cut.2)
 
   -- Bytes that begin with a header within the budget do not pass it.

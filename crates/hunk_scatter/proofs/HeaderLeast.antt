@@ -8,6 +8,7 @@ use Rattle.hunk_blocks.proofs.Lists.{more_owed, passed_both}
 use Rattle.hunk_files.specs.LoadFile.{TableEntry}
 use Rattle.hunk_files.specs.LoadText.{header_labelled}
 use Rattle.hunk_files.specs.Roles.{Role, refuse}
+use Rattle.hunk_files.proofs.Accepted.{header_accepted, last_accepted}
 use Rattle.hunk_files.proofs.FileProgress.{ProgressFits, NextFits, step_keeps}
 use Rattle.hunk_files.proofs.FileSteps.{table_entry, Progress, AtFirst, AtResident, AtTableSize, AtFirstHunk, AtLastHunk, AtSizeWord, AtAttributes, Next, More, open_hunk, rows, Leads}
 use Rattle.hunk_files.proofs.FileText.{header_leads}
@@ -20,7 +21,7 @@ use Rattle.hunk_scatter.specs.Headers.{IsTable, header_words}
 use Rattle.hunk_scatter.specs.Heading.{next_at, role_at, is_done, least_at, rows_owed, behind, adds, IsStarted}
 use Rattle.hunk_scatter.proofs.Forget.{by_count-suc}
 use Rattle.hunk_scatter.proofs.HeaderSteps.{header_step, goes_on, not_done}
-use Rattle.hunk_scatter.proofs.HeaderTexts.{header_accepted, header_done, last_accepted}
+use Rattle.hunk_scatter.proofs.HeaderTexts.{header_done}
 
 -- ---- no sooner
 
@@ -97,7 +98,7 @@ pub header_owes : (phase : HeaderPhase) (table : List TableEntry) (ws : List ℕ
     (t : List TableEntry) → IsTable t → (more : List ℕ) → header_words t ≡ ws ++ more → least_at phase ≤ length more
 header_owes phase table ws h s t is more e =
     let cut = words_split (header_labelled t) ws more e in
-    let ok = header_accepted t is in
+    let ok = header_accepted t is.some is.most is.each in
     let run = Leads-split (More AtFirst) (open_hunk (length t) [] t) cut.front cut.back (subst (λ (ls : Labelled). Leads (More AtFirst) ls (open_hunk (length t) [] t)) cut.split (header_leads t is.each)) in
     let same = Leads-same (More AtFirst) run.0 (next_at phase table) cut.front h.done run.1 h.run (cut.front_words ∙ sym h.all) in
     let least = run_least t is cut.back (right_of cut.front cut.back (subst AreAccepted cut.split ok)) phase table s

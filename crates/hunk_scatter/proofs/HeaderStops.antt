@@ -13,6 +13,7 @@ use Rattle.hunk_files.specs.Image.{declared_bytes}
 use Rattle.hunk_files.specs.LoadFile.{TableEntry}
 use Rattle.hunk_files.specs.LoadText.{header_labelled}
 use Rattle.hunk_files.specs.Roles.{Role, Role as roles, refuse}
+use Rattle.hunk_files.proofs.Accepted.{header_accepted}
 use Rattle.hunk_files.proofs.FileSteps.{Progress, More, open_hunk, role_of}
 use Rattle.hunk_files.proofs.Reading.{HasRead, read_refused}
 use Rattle.hunk_files.proofs.Refusals.{refusal_of_word}
@@ -26,7 +27,7 @@ use Rattle.hunk_scatter.proofs.Behind.{stays_behind, table_behind, expected_pass
 use Rattle.hunk_scatter.proofs.HeaderGrows.{row_in_table, table_grows}
 use Rattle.hunk_scatter.proofs.HeaderReads.{here, read_here, role_is, sum_here, word_read, here_in_header}
 use Rattle.hunk_scatter.specs.Rows.{entries_of, row_of}
-use Rattle.hunk_scatter.proofs.HeaderTexts.{header_read, header_accepted}
+use Rattle.hunk_scatter.proofs.HeaderTexts.{header_read}
 use Rattle.hunk_scatter.proofs.ReadWords.{read_longs, accepted_longs}
 use Rattle.hunk_scatter.proofs.Refusing.{refused_in_header}
 use Rattle.hunk_scatter.proofs.Splits.{Cuts, Same, Before, Behind, cuts, fronts}
@@ -44,7 +45,7 @@ declares_some phases.Done w total budget le lt = absurd (omega arith)
 declares_some _ w total budget le lt = absurd (omega arith)
 
 pub header_longs : (t : List TableEntry) → IsTable t → AreLongs (header_words t)
-header_longs t is = accepted_longs (header_labelled t) (header_accepted t is)
+header_longs t is = accepted_longs (header_labelled t) (header_accepted t is.some is.most is.each)
 
 module _ (budget : ℕ) (bytes rest : List ℕ) (f : Fault) (s : HeaderStop budget bytes f) where
   before_longs : AreLongs (s.ws ++ s.word ∷ [])

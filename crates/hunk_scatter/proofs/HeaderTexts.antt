@@ -1,21 +1,19 @@
 -- The longwords of headers: what they spell, and that a reader of load files takes them.
-use Rattle.std.proofs.Common.{◌≡◌, ℕ, ◌+◌, ◌-◌, ◌<◌, ◌≤◌, Bool, true, false, eqb, ltb, List, [], ◌∷◌, ◌++◌, length, refl, sym, ap, ◌∙◌, append_assoc, append-nil, arith, None, Some}
+use Rattle.std.proofs.Common.{◌≡◌, ℕ, Bool, true, false, List, [], ◌∷◌, ◌++◌, length, refl, sym, ap, ◌∙◌, append_assoc, append-nil, arith}
 use Rattle.std.specs.Prelude.{if◌then◌else◌}
 use Rattle.std.specs.List.{AllByRecursion, flat_map}
-use Rattle.std.proofs.lemmas.Bool.{le-ltb, eq-eqb, ne_eqb}
 use Rattle.std.proofs.lemmas.List.{map-append}
 use Rattle.hunk_words.specs.Bits.{has_both_bits}
-use Rattle.hunk_words.specs.declared.reason.Reason.TheVariants as reasons
 use Rattle.hunk_blocks.proofs.Lists.{passes_else, passes_then}
 use Rattle.hunk_files.specs.LoadFile.{TableEntry, IsTableEntry}
 use Rattle.hunk_files.specs.LoadText.{entry_labelled, header_labelled, words}
-use Rattle.hunk_files.specs.Roles.{Role, Role as roles, refuse}
-use Rattle.hunk_files.proofs.Accepted.{All-flat_map}
+use Rattle.hunk_files.specs.Roles.{Role, Role as roles}
+use Rattle.hunk_files.proofs.Accepted.{header_accepted}
 use Rattle.hunk_files.proofs.FileProgress.{header_so_far, NextFits, read}
 use Rattle.hunk_files.proofs.FileSteps.{table_entry, AtFirst, More, open_hunk}
 use Rattle.hunk_files.proofs.FileText.{header_leads}
 use Rattle.hunk_files.proofs.Reading.{HasRead}
-use Rattle.hunk_files.proofs.Runs.{Labelled, IsAccepted, AreAccepted, Leads-keeps}
+use Rattle.hunk_files.proofs.Runs.{Labelled, Leads-keeps}
 use Rattle.hunk_scatter.specs.declared.header_state.HeaderPhase.{HeaderPhase}
 use Rattle.hunk_scatter.specs.declared.header_state.HeaderPhase.TheVariants as phases
 use Rattle.hunk_scatter.specs.Headers.{IsTable, header_words, entries_in, entries_so_far}
@@ -23,43 +21,11 @@ use Rattle.hunk_scatter.specs.Heading.{next_at, IsStarted}
 
 -- ---- a header is read
 
-entry_accepted : (e : TableEntry) → IsTableEntry e → AreAccepted (entry_labelled e)
-entry_accepted e h = ((h.0, refl), go (has_both_bits e.word))
-  where
-    go : (b : Bool) → AreAccepted (if b then (roles.Attributes, e.extra) ∷ [] else [])
-    go true = ((h.1, refl), tt)
-    go false = tt
-
-count_accepted : (n : ℕ) → 0 < n → n ≤ 65536 → refuse roles.TableSize n ≡ None
-count_accepted n some most =
-    passes_else (eqb n 0) (Some reasons.NoHunks) _ (ne_eqb n 0 (omega arith)) ∙ passes_else (ltb 65536 n) (Some reasons.TooManyHunks) None (le-ltb 65536 n most)
-
-pub last_accepted : (n : ℕ) → 0 < n → refuse (roles.LastHunk n) (n - 1) ≡ None
-last_accepted n some = passes_then (eqb (n - 1 + 1) n) None (Some reasons.LastHunk) (eq-eqb (n - 1 + 1) n (omega arith))
-
-pub header_accepted : (t : List TableEntry) → IsTable t → AreAccepted (header_labelled t)
-header_accepted t h = (
-  (omega arith, refl),
-  (
-    (omega arith, refl),
-    (
-      (omega (arith, h.most), count_accepted (length t) h.some h.most),
-      (
-        (omega arith, refl),
-        (
-          (omega (arith, h.most), last_accepted (length t) h.some),
-          All-flat_map IsTableEntry IsAccepted entry_labelled entry_accepted t h.each,
-        ),
-      ),
-    ),
-  ),
-)
-
 -- The header of a table leads to its first hunk.
 pub header_read : (t : List TableEntry) → IsTable t → HasRead (header_words t) (open_hunk (length t) [] t)
 header_read t h =
     let run = header_leads t h.each in
-    let ok = header_accepted t h in
+    let ok = header_accepted t h.some h.most h.each in
     record {
       done = header_labelled t;
       run = run;
