@@ -1,7 +1,6 @@
 -- What an engine function reads and writes: of its source a was left before and b is left now, its sink had taken c and has taken d now, where these are told.
 use Rattle.std.specs.Prelude.{◌≡◌, ◌⊎◌, ◌<◌, ⊤, ℕ, List, Option, length}
 use Rattle.std.specs.Io.KnownBytes.{Consumes, IsAtEnd}
-use Rattle.hunk_words.specs.declared.fault.Fault.{Fault}
 use Rattle.hunk_words.specs.declared.reason.Reason.TheVariants.{FileLimit}
 use Rattle.hunk_words.specs.Puts.{Puts}
 use Rattle.hunkinfo.specs.declared.fault.RunFault.{RunFault}
@@ -22,14 +21,6 @@ pub record Writes (IsTextOf : List ℕ → List ℕ → Type 0) (a b : Option (L
 -- all of the text has gone out
 abbrev pub WritesAll : (List ℕ → List ℕ → Type 0) → Option (List ℕ) → Option (List ℕ) → ℕ → Option (List ℕ) → Option (List ℕ) → ℕ → Type 0
 WritesAll IsTextOf a b most c d written = (writes : Writes IsTextOf a b most c d written) × (written ≡ length writes.text)
-
--- The source was read to its end in fewer than `most` bytes, and these are refused so.
-pub record Refuses (IsRefusalOf : List ℕ → Fault → Type 0) (a b : Option (List ℕ)) (most : ℕ) (refusal : Fault) : Type 0 where
-  pub input : List ℕ
-  pub given : Consumes a b input
-  pub ended : IsAtEnd b
-  pub few : length input < most
-  pub is_refusal : IsRefusalOf input refusal
 
 -- The source was read to its end in fewer than `most` bytes, and for these the run answers the fault.
 pub record RefusesInput (fault : RunFault) (a b : Option (List ℕ)) (most : ℕ) : Type 0 where

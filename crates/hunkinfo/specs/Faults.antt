@@ -1,5 +1,5 @@
 -- The status and the line of each fault.
-use Rattle.std.specs.Prelude.{◌||◌, ℕ, Bool, List, [], ◌++◌, ⊤, codes}
+use Rattle.std.specs.Prelude.{◌||◌, ℕ, Bool, List, [], ◌++◌, ⊤, IsTrue, codes}
 use Rattle.std.specs.Fmt.{decimal}
 use Rattle.hunk_words.specs.declared.fault.Fault.{Fault}
 use Rattle.hunk_words.specs.declared.reason.Reason.{Reason}
@@ -48,3 +48,9 @@ refused_as refusal = refused_for refusal.reason refusal
 -- a reason for which an input is refused: its longwords, its end, a limit, or a hunk without a base
 abbrev pub is_of_input : Reason → Bool
 is_of_input r = between 1 9 (number_of r) || between 11 24 (number_of r) || between 26 29 (number_of r)
+
+-- the faults of a load: reading, writing and memory, and the refusals of an input
+abbrev pub IsOfLoad : RunFault → Type 0
+IsOfLoad (Refused refusal) = IsTrue (is_of_input refusal.reason)
+IsOfLoad HexText = ⊥
+IsOfLoad _ = ⊤

@@ -11,6 +11,7 @@ pub mod Listed
 pub mod Listing
 pub mod Output
 pub mod Printed
+pub mod Refusals
 pub mod Relocating
 pub mod Rewritten
 pub mod Runs

@@ -13,7 +13,7 @@ ghost use Rattle.hunk_scatter.specs.Headers.{IsTable, PassesBudget, header_bytes
 ghost use Rattle.hunk_scatter.specs.Loads.{Gives, IsLoadFault, IsNotPlaced, KeepsRest};
 ghost use Rattle.hunk_scatter.specs.Placing.{HasBases};
 ghost use Rattle.hunk_scatter.specs.Rows.{bases_of};
-ghost use Rattle.hunkinfo.specs.Faults.{is_of_input};
+ghost use Rattle.hunkinfo.specs.Faults.{IsOfLoad};
 ghost use Rattle.hunkinfo.specs.Listing.{listing};
 ghost use Rattle.hunkinfo.specs.Output.{StopsOutput};
 ghost use Rattle.hunkinfo.specs.Relocating.{ReadsShort, Relocates, RelocatesAll, packed, segments_of};
@@ -69,7 +69,7 @@ pub fn relocate<R: Source, W: Sink>(
         × IsLoadFault (packed base) limits.budget limits.file_bytes (R.left r.new) (R.failed r.new) given refusal) }
     ensures read { IfErr result (λ fault. (place : ℕ) → fault ≡ Read place
         → ReadsShort limits.budget limits.file_bytes (R.left r.old) (R.left r.new) (R.failed r.new) place) }
-    ensures own { IfErr result (λ fault. (refusal : Fault) → fault ≡ Refused refusal → IsTrue (is_of_input refusal.reason)) }
+    ensures own { IfErr result IsOfLoad }
 {
     let image = load(alloc, r, limits, &Packed { start: base })?;
     let text = listing_of(alloc, &image)?;

@@ -1,7 +1,10 @@
 //! The commands that print what they find in one input.
-ghost use Rattle.std.specs.Prelude.{◌≡◌, ◌≤◌, IfErr, IfOk, OnOk, false, length};
+ghost use Rattle.std.specs.Prelude.{◌≡◌, ◌≢◌, ◌≤◌, IfErr, IfOk, OnOk, false, length};
 ghost use Rattle.std.specs.Io.KnownBytes.{Consumes, IsAtEnd};
+ghost use Rattle.hunk_words.specs.declared.fault.Fault.{Fault};
+ghost use Rattle.hunkinfo.specs.declared.fault.RunFault.TheVariants.{HexText, Refused};
 ghost use Rattle.hunkinfo.specs.Output.{StopsOutput, TellsStatus};
+ghost use Rattle.hunkinfo.specs.Refusals.{RefusesListing, RefusesSource, SpellsNone};
 ghost use Rattle.hunkinfo.specs.Runs.{Lists, ListsSource, ReadsNoText};
 
 use crate::asked::FileName;
@@ -72,6 +75,9 @@ fn list_source<R: Source, W: Sink>(
     ensures done { IfOk result (λ status. status ≡ 0 → ListsSource hex listing (R.left source.old) (R.left source.new) W.taken out.old out.new) }
     ensures told { IfOk result (TellsStatus W.taken W.failed out.old out.new) }
     ensures fails { IfErr result (StopsOutput W.taken W.failed out.old out.new) }
+    ensures refused { IfErr result (λ fault. (refusal : Fault) → fault ≡ Refused refusal
+        → RefusesSource hex listing refusal (R.left source.old) (R.left source.new) FILE_BYTES (R.failed source.new)) }
+    ensures hex_text { IfErr result (λ fault. fault ≡ HexText → SpellsNone (R.left source.old) (R.left source.new)) }
 {
     if !hex {
         return list_bytes(alloc, listing, source, out);
@@ -108,6 +114,9 @@ fn list_bytes<R: Source, W: Sink>(
     ensures done { IfOk result (λ status. status ≡ 0 → ListsSource false listing (R.left source.old) (R.left source.new) W.taken out.old out.new) }
     ensures told { IfOk result (TellsStatus W.taken W.failed out.old out.new) }
     ensures fails { IfErr result (StopsOutput W.taken W.failed out.old out.new) }
+    ensures refused { IfErr result (λ fault. (refusal : Fault) → fault ≡ Refused refusal
+        → RefusesListing listing refusal (R.left source.old) (R.left source.new) FILE_BYTES (R.failed source.new)) }
+    ensures hex_text { IfErr result (λ fault. fault ≢ HexText) }
 {
     match listing {
         Listing::Show => match show(alloc, source, out, FILE_BYTES) {

@@ -1,10 +1,13 @@
-use Rattle.std.proofs.Common.{rules, ◌≡◌, ◌∙◌, ℕ, Bool, true, false, List, Option, Some, Result, Ok, Err, ap, sym, subst}
-use Rattle.std.specs.Prelude.{IfOk}
+use Rattle.std.proofs.Common.{rules, ◌≡◌, ◌∙◌, ℕ, Bool, true, false, List, Option, Some, Result, Ok, Err, inr, ap, sym, subst}
+use Rattle.std.specs.Prelude.{IfErr, IfOk}
 use Rattle.std.specs.Io.KnownBytes.{Consumes, IsAtEnd}
 use Rattle.hunk_words.specs.Carriers.{Writing}
+use Rattle.hunk_words.specs.declared.fault.Fault.{Fault}
 use Rattle.hunkinfo.specs.declared.fault.RunFault.{RunFault}
+use Rattle.hunkinfo.specs.declared.fault.RunFault.TheVariants.{Refused}
 use Rattle.hunkinfo.specs.declared.run.listing.Listing.{Listing}
 use Rattle.hunkinfo.specs.HexText.{Spells}
+use Rattle.hunkinfo.specs.Refusals.{RefusesListing, RefusesSource}
 use Rattle.hunkinfo.specs.Runs.{ListsSource}
 use Rattle.hunkinfo.proofs.Telling.{lists_text}
 use Rattle.hunkinfo.proofs.run.listing.list_source.Goals as goal
@@ -25,3 +28,30 @@ returns-clause-done g c =
     let known = ap {B = Option (List ℕ)} (λ (xs : List ℕ). Some xs) (c.new.ensures ∙ c.as_slice-2.ensures.value) in
     lists_where_done g.W.Sink.taken c.args.out.now c.list_bytes-2.new.out c.args.listing c.args.hex _ _ _ _ c.in_ok-text.text.items bytes _
     hex c.in_ok-text.ensures.given c.in_ok-text.ensures.ended spells known c.list_bytes-2.ensures.done
+
+-- where the bytes are refused, the text that spells them is
+refused_where : (listing : Listing) (hex : Bool) (a b c d : Option (List ℕ)) (given bytes : List ℕ) (most : ℕ) (failed : Bool) (result : Result ℕ RunFault) →
+    hex ≡ true → Consumes a b given → IsAtEnd b → Spells given bytes → c ≡ Some bytes →
+    IfErr result (λ fault. (refusal : Fault) → fault ≡ Refused refusal → RefusesListing listing refusal c d most false) →
+    IfErr result (λ fault. (refusal : Fault) → fault ≡ Refused refusal → RefusesSource hex listing refusal a b most failed)
+refused_where listing hex a b c d given bytes most failed (Ok status) is consumed ended spells known refuses = tt
+refused_where listing hex a b c d given bytes most failed (Err fault) is consumed ended spells known refuses =
+    λ refusal same. subst (λ (h : Bool). RefusesSource h listing refusal a b most failed) (sym is)
+    (inr (record {
+      text = given;
+      consumed = consumed;
+      at_end = ended;
+      bytes = bytes;
+      spells = spells;
+      left = d;
+      refuses = subst (λ (o : Option (List ℕ)). RefusesListing listing refusal o d most false) known (refuses refusal same);
+    }))
+
+pub returns-clause-refused : goal.returns-clause-refused
+returns-clause-refused g c =
+    let hex : c.args.hex ≡ true = search rules in
+    let bytes = c.in_ok-bytes.bytes.items in
+    let spells : Spells c.in_ok-text.text.items bytes = subst (λ (xs : List ℕ). Spells xs bytes) c.as_slice.ensures.value c.in_ok-bytes.ensures.spelled in
+    let known = ap {B = Option (List ℕ)} (λ (xs : List ℕ). Some xs) (c.new.ensures ∙ c.as_slice-2.ensures.value) in
+    refused_where c.args.listing c.args.hex _ _ _ _ c.in_ok-text.text.items bytes _ _ _
+    hex c.in_ok-text.ensures.given c.in_ok-text.ensures.ended spells known c.list_bytes-2.ensures.refused

@@ -1,0 +1,46 @@
+-- Why nothing is printed of an input. Of its source a was left before and b is left now; `failed` is whether it has failed.
+use Rattle.std.specs.Prelude.{◌≡◌, ◌⊎◌, ◌+◌, ℕ, Bool, true, false, List, Option, Some}
+use Rattle.std.specs.Io.KnownBytes.{Consumes, IsAtEnd}
+use Rattle.hunk_words.specs.declared.fault.Fault.{Fault}
+use Rattle.hunk_words.specs.declared.reason.Reason.TheVariants.{FileLimit}
+use Rattle.hunk_scatter.specs.Loads.{Gives, IsLoadFault}
+use Rattle.hunkinfo.specs.declared.fault.RunFault.TheVariants.{Refused}
+use Rattle.hunkinfo.specs.declared.run.listing.Listing.{Listing}
+use Rattle.hunkinfo.specs.declared.run.listing.Listing.TheVariants as listings
+use Rattle.hunkinfo.specs.Engine.{RefusesOnly}
+use Rattle.hunkinfo.specs.HexText.{Spells}
+use Rattle.hunkinfo.specs.Inputs.{Gave}
+use Rattle.hunkinfo.specs.Relocating.{packed}
+
+-- its bytes are refused, of which at most so many are read
+abbrev pub RefusesListing : Listing → Fault → Option (List ℕ) → Option (List ℕ) → ℕ → Bool → Type 0
+RefusesListing listings.Show refusal a b most failed = RefusesOnly (Refused refusal) a b most
+RefusesListing listings.Validate refusal a b most failed = RefusesOnly (Refused refusal) a b most
+RefusesListing (listings.Relocate base budget) refusal a b most failed =
+    (given : List ℕ) × Gives a b most given × IsLoadFault (packed base) budget most b failed given refusal
+
+-- its text spells bytes that are refused
+pub record RefusesSpelled (listing : Listing) (refusal : Fault) (a b : Option (List ℕ)) (most : ℕ) : Type 0 where
+  pub text : List ℕ
+  pub consumed : Consumes a b text
+  pub at_end : IsAtEnd b
+  pub bytes : List ℕ
+  pub spells : Spells text bytes
+  pub left : Option (List ℕ)
+  pub refuses : RefusesListing listing refusal (Some bytes) left most false
+
+-- its text is too long, or spells such bytes
+abbrev pub RefusesText : Listing → Fault → Option (List ℕ) → Option (List ℕ) → ℕ → Type 0
+RefusesText listing refusal a b most =
+    ((refusal.reason ≡ FileLimit) × (refusal.place ≡ most) × Gave a b (most + 1)) ⊎ RefusesSpelled listing refusal a b most
+
+abbrev pub RefusesSource : Bool → Listing → Fault → Option (List ℕ) → Option (List ℕ) → ℕ → Bool → Type 0
+RefusesSource true listing refusal a b most failed = RefusesText listing refusal a b most
+RefusesSource false listing refusal a b most failed = RefusesListing listing refusal a b most failed
+
+-- its text spells no bytes
+pub record SpellsNone (a b : Option (List ℕ)) : Type 0 where
+  pub text : List ℕ
+  pub consumed : Consumes a b text
+  pub at_end : IsAtEnd b
+  pub none : (bytes : List ℕ) → ¬ Spells text bytes
