@@ -26,7 +26,7 @@ group_longs : (g : RelocGroup) → IsGroup g → AreLongs (group_text g)
 group_longs g h = subst AreLongs (sym (group_text_is g)) (h.offsets.0, (h.target, h.offsets.1))
 
 symbol_longs : (s : SymbolEntry) → IsSymbolEntry s → AreLongs (symbol_text s)
-symbol_longs s h = subst AreLongs (sym (symbol_text_is s)) (h.named.fits, longs-append s.name (s.value ∷ []) h.named.longs (h.value, tt))
+symbol_longs s h = subst AreLongs (sym (symbol_text_is s)) (h.entry_word.fits, longs-append s.name (s.value ∷ []) h.entry_word.longs (h.value, tt))
 
 behind_longs : (s : ExtShape) (value : ℕ) (offsets : List ℕ) → IsLong value → IsPayload (2 ^ 32) offsets → AreLongs (behind s value offsets)
 behind_longs Defines value offsets v o = (v, tt)
@@ -37,7 +37,7 @@ behind_longs Refused value offsets v o = tt
 entry_longs : (e : ExtEntry) → IsExtEntry e → AreLongs (ext_text e)
 entry_longs e h =
     subst AreLongs (sym (ext_text_is e))
-    (h.named.fits, longs-append e.name (behind (ext_shape (e.word / 2 ^ 24)) e.value e.offsets) h.named.longs (behind_longs (ext_shape (e.word / 2 ^ 24)) e.value e.offsets h.value h.offsets))
+    (h.entry_word.fits, longs-append e.name (behind (ext_shape (e.word / 2 ^ 24)) e.value e.offsets) h.entry_word.longs (behind_longs (ext_shape (e.word / 2 ^ 24)) e.value e.offsets h.value h.offsets))
 
 body_longs : (word : ℕ) (body : BlockBody) → FitsWord word body → AreLongs (text_of body)
 body_longs word (Name ws) h = (omega (arith, h.1.0), h.1.1)

@@ -3,7 +3,7 @@ use Rattle.std.proofs.Common.{◌≡◌, ℕ, List, [], ◌∷◌, ◌++◌, sym
 use Rattle.hunk_words.specs.Bits.{kind}
 use Rattle.hunk_blocks.specs.Values.{BlockBody, BlockValue, IsBlock}
 use Rattle.hunk_blocks.specs.Parts.{Part, longs_of, body_parts, block_text}
-use Rattle.hunk_blocks.proofs.BlockSteps.{BlockNext, Open, Whole, step_inside, begin, Follows}
+use Rattle.hunk_blocks.specs.BlockSteps.{BlockNext, Open, Whole, step_inside, begin, Follows}
 use Rattle.hunk_blocks.proofs.BlockText.{body_follows}
 
 abbrev Parts : Type 0

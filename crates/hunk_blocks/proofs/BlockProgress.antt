@@ -14,7 +14,7 @@ use Rattle.hunk_blocks.specs.declared.ext_shape.ExtShape.TheVariants.{Defines, R
 use Rattle.hunk_blocks.specs.Values.{RelocGroup, ExtEntry, SymbolEntry, FitsShape, ext_shape, FitsWord, IsGroup, IsExtEntry, IsSymbolEntry, is_unknown, is_relocation}
 use Rattle.hunk_blocks.specs.Parts.{Part, Part as parts, each, group_parts, ext_parts, ext_parts_by, symbol_parts, body_parts}
 use Rattle.hunk_blocks.specs.Modes.{refuse_inside, refuse_shape, refuse_alone_kind}
-use Rattle.hunk_blocks.proofs.BlockSteps.{Counting, ForName, ForDebug, ForAdvisory, Sizing, ForCode, ForData, ForBss, Filling, Counted, SizedCode, SizedData, Inside, AtCount, AtSize, InPayload, AtGroup, AtTarget, InOffsets, AtEntry, InName, AtValue, AtExtWord, InExtName, AtExtValue, AtExtSize, AtExtCount, InExtOffsets, BlockNext, Open, Whole, group, entry, external, count_part, part_of, step_inside, fill, relocate, name_entry, sized_by, grouped, entered, shaped, name_external, refer, listed, begin}
+use Rattle.hunk_blocks.specs.BlockSteps.{Counting, ForName, ForDebug, ForAdvisory, Sizing, ForCode, ForData, ForBss, Filling, Counted, SizedCode, SizedData, Inside, AtCount, AtSize, InPayload, AtGroup, AtTarget, InOffsets, AtEntry, InName, AtValue, AtExtWord, InExtName, AtExtValue, AtExtSize, AtExtCount, InExtOffsets, BlockNext, Open, Whole, group, entry, external, count_part, part_of, step_inside, fill, relocate, name_entry, sized_by, grouped, entered, shaped, name_external, refer, listed, begin}
 use Rattle.hunk_blocks.proofs.Lists.{All-more, map-more, flat_map-more, more_owed, more-not-nil, passed_true}
 
 -- ---- the text so far
@@ -211,7 +211,7 @@ module _ (word : ℕ) where
   external_more entries w name value done g h v c l s = (
     g.0,
     All-more IsExtEntry entries (external w name value done) g.1
-        (record { named = record { fits = h.fits; goes_on = h.goes_on; count = h.counts; longs = h.longs_fit }; value = v; offsets = (c, l); shape = s }),
+        (record { entry_word = record { fits = h.fits; goes_on = h.goes_on; count = h.counts; longs = h.longs_fit }; value = v; offsets = (c, l); shape = s }),
   )
 
   refer_fits : (entries : List ExtEntry) (w : ℕ) (name : List ℕ) (value : ℕ) (done : List ℕ) (owed : ℕ) → ExternalsFit entries → ReferencesFit w name value → length done + owed < 2 ^ 32 → AreLongs done → NextFits (refer entries w name value done owed)
@@ -266,7 +266,7 @@ module _ (word : ℕ) where
   step_fits (AtValue entries word name) w h l ok = (
     h.0.0,
     All-more IsSymbolEntry entries (entry word name w) h.0.1
-        (record { named = record { fits = h.1.fits; goes_on = h.1.goes_on; count = h.1.counts; longs = h.1.longs_fit }; value = l }),
+        (record { entry_word = record { fits = h.1.fits; goes_on = h.1.goes_on; count = h.1.counts; longs = h.1.longs_fit }; value = l }),
   )
   step_fits (AtExtWord entries) w h l ok = external_fits entries w h l ok
   step_fits (InExtName entries word done owed) w h l ok =

@@ -9,7 +9,7 @@ use Rattle.hunk_blocks.specs.declared.ext_shape.ExtShape.{ExtShape}
 use Rattle.hunk_blocks.specs.declared.ext_shape.ExtShape.TheVariants.{Defines, Refers, Shares, Refused}
 use Rattle.hunk_blocks.specs.Values.{RelocGroup, ExtEntry, SymbolEntry, FitsShape, ext_shape, BlockBody, Name, Code, Data, Bss, Reloc, Ext, Symbol, Debug, Advisory, End, FitsWord, IsGroup, IsExtEntry, IsSymbolEntry, is_unknown, is_relocation}
 use Rattle.hunk_blocks.specs.Parts.{Part, Part as parts, each, group_parts, ext_parts, ext_parts_by, symbol_parts, body_parts}
-use Rattle.hunk_blocks.proofs.BlockSteps.{ForName, ForDebug, ForAdvisory, Filling, Counted, SizedCode, SizedData, AtCount, AtGroup, AtEntry, AtValue, AtExtWord, BlockNext, Open, Whole, group, entry, external, step_inside, fill, filled_body, relocate, name_entry, entered, shaped, name_external, refer, listed, begin, Follows}
+use Rattle.hunk_blocks.specs.BlockSteps.{ForName, ForDebug, ForAdvisory, Filling, Counted, SizedCode, SizedData, AtCount, AtGroup, AtEntry, AtValue, AtExtWord, BlockNext, Open, Whole, group, entry, external, step_inside, fill, filled_body, relocate, name_entry, entered, shaped, name_external, refer, listed, begin, Follows}
 
 pub Follows-append : (a b c : BlockNext) (ps qs : List (Part × ℕ)) → Follows a ps b → Follows b qs c → Follows a (ps ++ qs) c
 Follows-append a b c [] qs h k = subst (λ (x : BlockNext). Follows x qs c) (sym h) k
@@ -51,7 +51,7 @@ groups_follow groups (g ∷ more) h =
     (Follows-append (Open (AtGroup groups)) (Open (AtGroup (groups ++ g ∷ []))) _ (group_parts g) _ (group_follows groups g h.0.some) (groups_follow (groups ++ g ∷ []) more h.1))
 
 pub entry_follows : (entries : List SymbolEntry) (s : SymbolEntry) → IsSymbolEntry s → Follows (Open (AtEntry entries)) (symbol_parts s) (Open (AtEntry (entries ++ s ∷ [])))
-entry_follows entries s h = go s.word s.name s.value h.named.goes_on h.named.count
+entry_follows entries s h = go s.word s.name s.value h.entry_word.goes_on h.entry_word.count
   where
     go : (word : ℕ) (name : List ℕ) (value : ℕ) → word ≢ 0 → length name ≡ word % 2 ^ 24 → Follows (Open (AtEntry entries)) (symbol_parts (entry word name value)) (Open (AtEntry (entries ++ entry word name value ∷ [])))
     go zero name value goes count = absurd (goes refl)
@@ -92,7 +92,7 @@ shape_follows Shares entries word name value offsets h = (refl, (refl, ext_offse
 shape_follows Refused entries word name value offsets h = absurd h
 
 pub external_follows : (entries : List ExtEntry) (e : ExtEntry) → IsExtEntry e → Follows (Open (AtExtWord entries)) (ext_parts e) (Open (AtExtWord (entries ++ e ∷ [])))
-external_follows entries e h = go e.word e.name e.value e.offsets h.named.goes_on h.named.count h.shape
+external_follows entries e h = go e.word e.name e.value e.offsets h.entry_word.goes_on h.entry_word.count h.shape
   where
     go : (word : ℕ) (name : List ℕ) (value : ℕ) (offsets : List ℕ) → word ≢ 0 → length name ≡ word % 2 ^ 24 → FitsShape (ext_shape (word / 2 ^ 24)) (external word name value offsets) →
         Follows (Open (AtExtWord entries)) (ext_parts (external word name value offsets)) (Open (AtExtWord (entries ++ external word name value offsets ∷ [])))

@@ -24,7 +24,7 @@ text_of (Debug words) = counted_text words
 text_of (Advisory words) = counted_text words
 text_of End = []
 
-longs_of-flat_map : {A : Type 0} (f : A → List (Part × ℕ)) (xs : List A) → longs_of (flat_map f xs) ≡ flat_map (λ x. longs_of (f x)) xs
+pub longs_of-flat_map : {A : Type 0} (f : A → List (Part × ℕ)) (xs : List A) → longs_of (flat_map f xs) ≡ flat_map (λ x. longs_of (f x)) xs
 longs_of-flat_map f [] = refl
 longs_of-flat_map f (x ∷ xs) = map-append (λ p. p.1) (f x) (flat_map f xs) ∙ ap (λ l. longs_of (f x) ++ l) (longs_of-flat_map f xs)
 

@@ -27,8 +27,8 @@ front_bytes bytes words rest fit e =
     )
 
 -- the block word is the first longword
-pub begun : (bytes : List ℕ) (old mid : Unread) (word long : ℕ) → old.rest ≡ longs bytes → Reads old mid (long ∷ []) → word ≡ long → longs bytes ≡ word ∷ mid.rest
-begun bytes old mid word long begins h same = sym begins ∙ h.front ∙ ap (λ w. w ∷ mid.rest) (sym same)
+pub first_word_read : (bytes : List ℕ) (old mid : Unread) (word long : ℕ) → old.rest ≡ longs bytes → Reads old mid (long ∷ []) → word ≡ long → longs bytes ≡ word ∷ mid.rest
+first_word_read bytes old mid word long begins h same = sym begins ∙ h.front ∙ ap (λ w. w ∷ mid.rest) (sym same)
 
 -- A block word that is not refused, and a body that fits it.
 pub decoded : (mode : Mode) (bytes : List ℕ) (old mid new : Unread) (word long : ℕ) (body : BlockBody) → IsBytes bytes → old.rest ≡ longs bytes → old.place ≡ 0 → Reads old mid (long ∷ []) → word ≡ long → IsLong long → refuse_alone_word mode word ≡ None →

@@ -7,7 +7,7 @@ use Rattle.hunk_blocks.specs.declared.ext_shape.ExtShape.TheVariants.{Defines, R
 use Rattle.hunk_blocks.specs.Values.{ExtEntry, IsExtEntry, IsPayload, FitsShape, ext_shape}
 use Rattle.hunk_blocks.specs.Parts.{Part as parts, each, longs_of, ext_parts_by, ext_text, counted_text}
 use Rattle.hunk_blocks.specs.Reading.{Unread, Reads, BeginsWithNo, BeginsWithNoItem}
-use Rattle.hunk_blocks.proofs.BlockSteps.{external}
+use Rattle.hunk_blocks.specs.BlockSteps.{external}
 use Rattle.hunk_blocks.proofs.GroupReading.{longs_of-each}
 use Rattle.hunk_blocks.proofs.ListReading.{EndThemselves, Reads-append, append_same}
 
@@ -41,7 +41,7 @@ entry_read s a b c d word value name offsets shape k l h =
 pub entry_is : (s : ExtShape) (word value : ℕ) (name offsets : List ℕ) → ext_shape (word / 2 ^ 24) ≡ s → FitsShape s (external word name value offsets) → IsLong word → word ≢ 0 → length name ≡ word % 2 ^ 24 → AreLongs name →
     IsLong value → IsPayload (2 ^ 32) offsets → IsExtEntry (external word name value offsets)
 entry_is s word value name offsets shape fits l some n ls v o =
-    record { named = record { fits = l; goes_on = some; count = n; longs = ls }; value = v; offsets = o; shape = subst (λ t. FitsShape t (external word name value offsets)) (sym shape) fits }
+    record { entry_word = record { fits = l; goes_on = some; count = n; longs = ls }; value = v; offsets = o; shape = subst (λ t. FitsShape t (external word name value offsets)) (sym shape) fits }
 
 -- of two entries of one shape, with the same longwords behind the name
 same_behind : (s : ExtShape) (a b : ExtEntry) (x y : List ℕ) → FitsShape s a → FitsShape s b → behind s a.value a.offsets ++ x ≡ behind s b.value b.offsets ++ y → (a.value ≡ b.value) × (a.offsets ≡ b.offsets) × (x ≡ y)
@@ -68,7 +68,7 @@ entries_end =
           let shape_b : ExtShape = ext_shape (b.word / 2 ^ 24) in
           let f : a.word ∷ ((a.name ++ behind shape_a a.value a.offsets) ++ x) ≡ b.word ∷ ((b.name ++ behind shape_b b.value b.offsets) ++ y) = ap (λ l. l ++ x) (sym (ext_text_is a)) ∙ e ∙ ap (λ l. l ++ y) (ext_text_is b) in
           let word : a.word ≡ b.word = cc in
-          let count : length a.name ≡ length b.name = ha.named.count ∙ ap (λ w. w % 2 ^ 24) word ∙ sym hb.named.count in
+          let count : length a.name ≡ length b.name = ha.entry_word.count ∙ ap (λ w. w % 2 ^ 24) word ∙ sym hb.entry_word.count in
           let tail : (a.name ++ behind shape_a a.value a.offsets) ++ x ≡ (b.name ++ behind shape_b b.value b.offsets) ++ y = cc in
           let same =
           append_same a.name b.name (behind shape_a a.value a.offsets ++ x) (behind shape_b b.value b.offsets ++ y) count
@@ -82,7 +82,7 @@ entries_end =
           λ a x y ha e.
           let f : a.word ∷ ((a.name ++ behind (ext_shape (a.word / 2 ^ 24)) a.value a.offsets) ++ x) ≡ 0 ∷ y = ap (λ l. l ++ x) (sym (ext_text_is a)) ∙ e in
           let none : a.word ≡ 0 = cc in
-          ha.named.goes_on none;
+          ha.entry_word.goes_on none;
     }
 
 pub no_offsets : (offsets : List ℕ) → offsets ≡ [] → IsPayload (2 ^ 32) offsets
@@ -101,7 +101,7 @@ unnamed s before old mid word name shape goes n h k none =
           sym (h.front ∙ ap (λ l. word ∷ l) k.front) ∙ eq ∙ ap (λ l. l ++ more) (ext_text_is e) in
           let same : word ≡ e.word = cc in
           let tail : name ++ mid.rest ≡ (e.name ++ behind (ext_shape (e.word / 2 ^ 24)) e.value e.offsets) ++ more = cc in
-          let cut = append_same name e.name mid.rest (behind (ext_shape (e.word / 2 ^ 24)) e.value e.offsets ++ more) (n ∙ ap (λ w. w % 2 ^ 24) same ∙ sym is.named.count)
+          let cut = append_same name e.name mid.rest (behind (ext_shape (e.word / 2 ^ 24)) e.value e.offsets ++ more) (n ∙ ap (λ w. w % 2 ^ 24) same ∙ sym is.entry_word.count)
           (tail ∙ append_assoc e.name (behind (ext_shape (e.word / 2 ^ 24)) e.value e.offsets) more) in
           none e is more (cut.1 ∙ ap (λ t. behind t e.value e.offsets ++ more) (ap (λ w. ext_shape (w / 2 ^ 24)) (sym same) ∙ shape));
       end = λ more e. let f : word ∷ old.rest ≡ 0 ∷ more = sym h.front ∙ e in let z : word ≡ 0 = cc in goes z;

@@ -4,7 +4,7 @@ use Rattle.hunk_words.specs.Longs.{IsLong, AreLongs}
 use Rattle.hunk_blocks.specs.Values.{RelocGroup, IsGroup}
 use Rattle.hunk_blocks.specs.Parts.{Part, Part as parts, each, longs_of, group_text}
 use Rattle.hunk_blocks.specs.Reading.{Unread, Reads}
-use Rattle.hunk_blocks.proofs.BlockSteps.{group}
+use Rattle.hunk_blocks.specs.BlockSteps.{group}
 use Rattle.hunk_blocks.proofs.ListReading.{EndThemselves, Reads-append, append_same}
 
 pub longs_of-each : (part : Part) (words : List ℕ) → longs_of (each part words) ≡ words

@@ -97,3 +97,11 @@ on_err (Err e) h = h
 pub if_err_and : {T E : Type 0} (r : Result T E) (Q P : E → Type 0) → IsErrAnd r Q → ((e : E) → Q e → P e) → IfErr r P
 if_err_and (Ok x) Q P q h = tt
 if_err_and (Err e) Q P q h = h e q
+
+pub on_err_of : {T E P Q : Type 0} (r : Result T E) → OnErr r P → (P → Q) → OnErr r Q
+on_err_of (Ok x) h f = tt
+on_err_of (Err e) h f = f h
+
+pub if_err_with : {T E Q : Type 0} (r : Result T E) (P R : E → Type 0) → OnErr r Q → IfErr r P → ((e : E) → Q → P e → R e) → IfErr r R
+if_err_with (Ok x) P R q h f = tt
+if_err_with (Err e) P R q h f = f e q h

@@ -15,14 +15,15 @@ module _ {W : Type 0} (taken : W → Option (List ℕ)) (failed : W → Bool) wh
     pub puts : Puts (taken old.sink) (taken new.sink) old.written new.written bytes
     pub whole : new.written ≡ old.written + length bytes
     pub stays : old.stopped ≡ true → new ≡ old
+    pub quiet : failed new.sink ≡ failed old.sink
 
   pub nothing_written : (w : Writing W) → HasWritten w w []
-  nothing_written w = record { puts = puts_none (taken w.sink) (taken w.sink) w.written [] refl; whole = omega arith; stays = λ h. refl }
+  nothing_written w = record { puts = puts_none (taken w.sink) (taken w.sink) w.written [] refl; whole = omega arith; stays = λ h. refl; quiet = refl }
 
   pub written : {T : Type 0} (a b : Writing W) (r : Result T WriteFault) (x : T) (xs : List ℕ) → Writes taken failed a b r xs → r ≡ Ok x → HasWritten a b xs
   written a b r x xs h e =
       let k : Writes taken failed a b (Ok x) xs = subst (λ s. Writes taken failed a b s xs) e h in
-      record { puts = k.puts; whole = k.whole; stays = λ s. (k.stays s).1 }
+      record { puts = k.puts; whole = k.whole; stays = λ s. (k.stays s).1; quiet = k.quiet }
 
   -- bytes, and then others
   pub written_after : (a b c : Writing W) (xs ys : List ℕ) → HasWritten a b xs → HasWritten b c ys → HasWritten a c (xs ++ ys)
@@ -31,6 +32,7 @@ module _ {W : Type 0} (taken : W → Option (List ℕ)) (failed : W → Bool) wh
         puts = puts_more_after (taken a.sink) (taken b.sink) (taken c.sink) a.written b.written c.written xs ys h.puts h.whole k.puts;
         whole = omega (arith, h.whole, k.whole, length-append xs ys);
         stays = λ s. k.stays (ap (λ w. w.stopped) (h.stays s) ∙ s) ∙ h.stays s;
+        quiet = k.quiet ∙ h.quiet;
       }
 
   pub writes_after : {T : Type 0} (a b c : Writing W) (r : Result T WriteFault) (xs ys : List ℕ) → HasWritten a b xs → Writes taken failed b c r ys → Writes taken failed a c r (xs ++ ys)
@@ -42,6 +44,7 @@ module _ {W : Type 0} (taken : W → Option (List ℕ)) (failed : W → Bool) wh
         fails = tt;
         stops = k.stops;
         stays = λ s. ((k.stays (ap (λ w. w.stopped) (h.stays s) ∙ s)).0, (k.stays (ap (λ w. w.stopped) (h.stays s) ∙ s)).1 ∙ h.stays s);
+        quiet = k.quiet ∙ h.quiet;
       }
   writes_after a b c (Err e) xs ys h k =
       record {
@@ -51,6 +54,7 @@ module _ {W : Type 0} (taken : W → Option (List ℕ)) (failed : W → Bool) wh
         fails = k.fails;
         stops = k.stops;
         stays = λ s. (refl, (k.stays (ap (λ w. w.stopped) (h.stays s) ∙ s)).1 ∙ h.stays s);
+        quiet = tt;
       }
 
   -- What stops within the bytes stops within them and more.
@@ -66,14 +70,15 @@ module _ {W : Type 0} (taken : W → Option (List ℕ)) (failed : W → Bool) wh
         fails = k.fails;
         stops = k.stops;
         stays = λ s. (refl, (k.stays s).1);
+        quiet = tt;
       }
 
   -- one longword
   pub long_writes : {T : Type 0} (a b : Writing W) (r : Result T WriteFault) (word : ℕ) → Puts (taken a.sink) (taken b.sink) a.written b.written (bytes_of (word ∷ [])) → OnOk r (b.written ≡ a.written + 4) →
-      IfErr r (λ fault. fault.written ≡ b.written) → OnErr r (failed b.sink ≡ true) → b.stopped ≡ is_err r → (a.stopped ≡ true → IsErr r × (b ≡ a)) → Writes taken failed a b r (bytes_of (word ∷ []))
-  long_writes a b (Ok x) word puts whole told fails stops stays =
-      record { puts = puts; whole = omega (arith, whole, length-bytes_of (word ∷ [])); told = told; fails = fails; stops = stops; stays = stays }
-  long_writes a b (Err e) word puts whole told fails stops stays = record { puts = puts; whole = whole; told = told; fails = fails; stops = stops; stays = stays }
+      IfErr r (λ fault. fault.written ≡ b.written) → OnErr r (failed b.sink ≡ true) → b.stopped ≡ is_err r → (a.stopped ≡ true → IsErr r × (b ≡ a)) → OnOk r (failed b.sink ≡ failed a.sink) → Writes taken failed a b r (bytes_of (word ∷ []))
+  long_writes a b (Ok x) word puts whole told fails stops stays quiet =
+      record { puts = puts; whole = omega (arith, whole, length-bytes_of (word ∷ [])); told = told; fails = fails; stops = stops; stays = stays; quiet = quiet }
+  long_writes a b (Err e) word puts whole told fails stops stays quiet = record { puts = puts; whole = whole; told = told; fails = fails; stops = stops; stays = stays; quiet = quiet }
 
   -- no bytes, where the writer has not stopped
   pub writes_nothing : {T : Type 0} (w : Writing W) (x : T) → w.stopped ≡ false → Writes taken failed w w (Ok x) []
@@ -85,6 +90,7 @@ module _ {W : Type 0} (taken : W → Option (List ℕ)) (failed : W → Bool) wh
         fails = tt;
         stops = open_;
         stays = λ s. let f : true ≡ false = sym s ∙ open_ in absurd cc;
+        quiet = refl;
       }
 
   -- the same bytes

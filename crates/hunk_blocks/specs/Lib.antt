@@ -1,4 +1,6 @@
 pub mod Begins
+pub mod BlockSteps
+pub mod Faults
 pub mod Modes
 pub mod Parts
 pub mod Reading

@@ -1,5 +1,6 @@
 -- The blocks of load files and of object files, and what is refused in a block that stands alone.
 use Rattle.std.specs.Prelude.{◌≡◌, ℕ, ◌/◌, ◌^◌, Bool, true, false, ⊤, IsTrue, nat_lt, if◌then◌else◌, Option, Some, None, ◌⊎◌}
+use Rattle.hunk_words.specs.Limits.{name_limit}
 use Rattle.hunk_words.specs.declared.block_word.Kind.{Kind}
 use Rattle.hunk_words.specs.declared.block_word.Kind.TheVariants as kinds
 use Rattle.hunk_words.specs.declared.reason.Reason.{Reason}
@@ -83,6 +84,6 @@ MayRefuse k reason =
 
 -- The tests of a longword behind the block word.
 abbrev pub refuse_inside : Part → ℕ → Option Reason
-refuse_inside NameCount w = if nat_lt w (2 ^ 24) then None else Some reasons.NameWord
+refuse_inside NameCount w = if nat_lt w name_limit then None else Some reasons.NameWord
 refuse_inside ExtWord w = refuse_shape (ext_shape (w / 2 ^ 24))
 refuse_inside part w = None

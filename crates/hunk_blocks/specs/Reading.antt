@@ -27,6 +27,13 @@ pub record BeginsWithNoItem {A : Type 0} (Is : A → Type 0) (text : A → List 
   pub item : BeginsWithNo Is text words
   pub end : (more : List ℕ) → words ≡ 0 ∷ more → ⊥
 
+-- The text of some such value begins with these longwords.
+pub record IsFrontOf {A : Type 0} (Is : A → Type 0) (text : A → List ℕ) (words : List ℕ) : Type 0 where
+  pub value : A
+  pub is : Is value
+  pub more : List ℕ
+  pub begins : text value ≡ words ++ more
+
 -- the refusal where the input ends too soon
 abbrev pub cut : Unread → Fault
 cut r = record { place = r.place + 4 * length r.rest; reason = reasons.Truncated }

@@ -2,6 +2,7 @@
 use Rattle.std.specs.Prelude.{◌≡◌, ◌≢◌, ℕ, ◌%◌, ◌/◌, ◌^◌, ◌<◌, Bool, true, false, ◌||◌, List, [], length, ⊤, ◌==◌, nat_lt, if◌then◌else◌, IsTrue, IsFalse}
 use Rattle.std.specs.Int.{is_in_range}
 use Rattle.std.specs.List.{AllByRecursion}
+use Rattle.hunk_words.specs.Limits.{name_limit, content_limit}
 use Rattle.hunk_words.specs.declared.block_word.Kind.{Kind}
 use Rattle.hunk_words.specs.declared.block_word.Kind.TheVariants as kinds
 use Rattle.hunk_words.specs.Longs.{IsLong, AreLongs}
@@ -66,7 +67,7 @@ IsPayload limit words = (length words < limit) × AreLongs words
 
 -- the top two bits of a size word, and a payload whose count fits the others
 abbrev pub IsSized : (ℕ × List ℕ) → Type 0
-IsSized s = (s.0 < 4) × IsPayload (2 ^ 30) s.1
+IsSized s = (s.0 < 4) × IsPayload content_limit s.1
 
 pub record IsGroup (g : RelocGroup) : Type 0 where
   pub some : g.offsets ≢ []
@@ -81,7 +82,7 @@ pub record IsEntryWord (word : ℕ) (name : List ℕ) : Type 0 where
   pub longs : AreLongs name
 
 pub record IsSymbolEntry (s : SymbolEntry) : Type 0 where
-  pub named : IsEntryWord s.word s.name
+  pub entry_word : IsEntryWord s.word s.name
   pub value : IsLong s.value
 
 -- An entry without a value has the value 0, one without references no offsets.
@@ -92,7 +93,7 @@ FitsShape Shares e = ⊤
 FitsShape Refused e = ⊥
 
 pub record IsExtEntry (e : ExtEntry) : Type 0 where
-  pub named : IsEntryWord e.word e.name
+  pub entry_word : IsEntryWord e.word e.name
   pub value : IsLong e.value
   pub offsets : IsPayload (2 ^ 32) e.offsets
   pub shape : FitsShape (ext_shape (ext_type e)) e
@@ -115,9 +116,9 @@ is_unknown _ = false
 
 -- The body is one that a block of this word can have.
 abbrev pub FitsWord : ℕ → BlockBody → Type 0
-FitsWord word (Name words) = (kind word ≡ kinds.Name) × IsPayload (2 ^ 24) words
-FitsWord word (Code top words) = (kind word ≡ kinds.Code) × (top < 4) × IsPayload (2 ^ 30) words
-FitsWord word (Data top words) = (kind word ≡ kinds.Data) × (top < 4) × IsPayload (2 ^ 30) words
+FitsWord word (Name words) = (kind word ≡ kinds.Name) × IsPayload name_limit words
+FitsWord word (Code top words) = (kind word ≡ kinds.Code) × (top < 4) × IsPayload content_limit words
+FitsWord word (Data top words) = (kind word ≡ kinds.Data) × (top < 4) × IsPayload content_limit words
 FitsWord word (Bss size) = (kind word ≡ kinds.Bss) × IsLong size
 FitsWord word (Reloc groups) = IsTrue (is_relocation (kind word)) × AllByRecursion IsGroup groups
 FitsWord word (Ext entries) = (kind word ≡ kinds.Ext) × AllByRecursion IsExtEntry entries

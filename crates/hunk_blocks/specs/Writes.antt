@@ -12,3 +12,4 @@ pub record Writes {W T : Type 0} (taken : W → Option (List ℕ)) (failed : W �
   pub fails : OnErr result (failed new.sink ≡ true)
   pub stops : new.stopped ≡ is_err result
   pub stays : old.stopped ≡ true → IsErr result × (new ≡ old)
+  pub quiet : OnOk result (failed new.sink ≡ failed old.sink)

@@ -9,6 +9,7 @@ ghost use Rattle.hunk_blocks.specs.declared.mode.Mode.TheVariants as modes;
 ghost use Rattle.hunk_blocks.specs.Values.{IsBlock};
 ghost use Rattle.hunk_blocks.specs.Parts.{block_text};
 ghost use Rattle.hunk_blocks.specs.Modes.{is_block_refusal, refuse_alone_word, takes_memory};
+ghost use Rattle.hunk_blocks.specs.Faults.{HasBlockFault};
 ghost use Rattle.hunk_blocks.specs.Begins.{BeginsWithBlock, BeginsWithNoBlock, first_long};
 ghost use Rattle.hunk_blocks.specs.Views.{body_of};
 
@@ -63,6 +64,8 @@ impl<'a> Block<'a> {
         ensures block { IfOk result (λ r. BeginsWithBlock mode bytes.entry.now r.0 r.1) }
         ensures none { IfErr result (λ fault.
             fault.reason ≢ reasons.OutOfMemory → BeginsWithNoBlock mode bytes.entry.now) }
+        ensures fault { IfErr result (λ fault. fault.reason ≢ reasons.OutOfMemory →
+            HasBlockFault mode bytes.entry.now fault.place fault.reason) }
         ensures own { IfErr result (λ fault. IsTrue (is_block_refusal fault.reason)) }
         ensures object { mode ≡ modes.Object → IfErr result (λ fault. fault.reason ≢ reasons.NotInLoadFile) }
         ensures memory { IfErr result (λ fault. fault.reason ≡ reasons.OutOfMemory →
@@ -75,7 +78,7 @@ impl<'a> Block<'a> {
     {
         let mut reader = LongReader::new(bytes);
         let word = BlockWord::of(reader.long()?);
-        if let Some(reason) = mode.refusal(word) {
+        if let Some(reason) = mode.refuse(word) {
             return Err(BlockFault { place: 0, reason });
         }
         let body = read_body(alloc, &mut reader, mode, word)?;
@@ -120,6 +123,7 @@ impl<'a> Block<'a> {
         ensures failed { OnErr result (W.failed writer.new.sink ≡ true) }
         ensures stops { writer.new.stopped ≡ is_err result }
         ensures stays { writer.old.stopped ≡ true → IsErr result × (writer.new ≡ writer.old) }
+        ensures quiet { OnOk result (W.failed writer.new.sink ≡ W.failed writer.old.sink) }
     {
         writer.put_long(self.word.word())?;
         put_body(writer, self.word, &self.body)

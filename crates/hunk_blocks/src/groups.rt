@@ -1,8 +1,10 @@
 //! The groups of a relocation block.
-ghost use Rattle.std.specs.Prelude.{◌≡◌, ◌<◌, Some, length, slice_get};
+ghost use Rattle.std.specs.Prelude.{◌≡◌, ◌<◌, ◌↔◌, [], IsTrue, Some, length, slice_get};
+ghost use Rattle.std.specs.Slice.Iter.{iter_rest};
 
 use crate::payload::Longs;
 use std::marker::Model;
+use std::slice;
 
 /// Relocations to one target: the longs at these offsets are increased by its base.
 #[derive(Debug, Drop)]
@@ -43,6 +45,20 @@ impl<'a> Groups<'a> {
         self.groups.len()
     }
 
+    /// Whether there is no group.
+    pub fn is_empty(&self) -> bool
+        ensures { IsTrue result ↔ (self.now ≡ []) }
+    {
+        self.groups.is_empty()
+    }
+
+    /// The groups in turn.
+    pub fn iter(&self) -> slice::Iter<'_, Group<'a>>
+        ensures { iter_rest result ≡ self.now }
+    {
+        self.groups.iter()
+    }
+
     /// The group number `i`, counted from 0.
     pub fn at(&self, i: usize) -> &Group<'a>
         requires { i < length self.now }
@@ -56,5 +72,17 @@ impl<'a> Groups<'a> {
         ensures { result.now ≡ self.now }
     {
         self.groups.as_slice()
+    }
+}
+
+impl<'a, 'b> IntoIterator for &'b Groups<'a> {
+    type Item = &'b Group<'a>;
+
+    type IntoIter = slice::Iter<'b, Group<'a>>;
+
+    ghost into_iter_gives = { λ groups it. iter_rest it ≡ groups.now };
+
+    fn into_iter(self) -> Self::IntoIter {
+        self.iter()
     }
 }

@@ -15,17 +15,17 @@ pub enum Mode {
 
 impl Mode {
     /// Why this block word is refused, wherever the block stands.
-    pub(crate) fn refusal(self, word: BlockWord) -> Option<Reason>
+    pub fn refuse(self, word: BlockWord) -> Option<Reason>
         ensures { result ≡ refuse_alone_word self word }
     {
         if word.word() >> 30 == 3 {
             return Some(Reason::BothBits);
         }
-        self.refusal_of_kind(word.flags() & 1 == 1, word.kind())
+        self.refuse_kind(word.flags() & 1 == 1, word.kind())
     }
 
     /// Why a block of this kind is refused.
-    fn refusal_of_kind(self, advisory: bool, kind: Kind) -> Option<Reason>
+    fn refuse_kind(self, advisory: bool, kind: Kind) -> Option<Reason>
         ensures { result ≡ refuse_alone_kind self advisory kind }
     {
         match (self, kind) {

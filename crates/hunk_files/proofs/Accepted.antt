@@ -12,12 +12,13 @@ use Rattle.hunk_words.specs.Longs.{IsLong, AreLongs}
 use Rattle.hunk_blocks.specs.Values.{RelocGroup, SymbolEntry, BlockBody, BlockValue, Name, Code, Data, Bss, Reloc, Ext, Symbol, Debug, Advisory, End, FitsWord, IsGroup, IsSymbolEntry, is_unknown}
 use Rattle.hunk_blocks.specs.Parts.{Part, Part as parts, each, group_parts, symbol_parts, body_parts, block_parts}
 use Rattle.hunk_blocks.specs.Modes.{IsOfLoad}
-use Rattle.hunk_files.specs.LoadFile.{TableEntry, LoadFileValue, IsTableEntry, Standing, Beside, Content, Relocating, Ending, standing, is_content, AreInOrder, IsInside, FitsGroup, FitsHunk, IsHunkBlock, IsHunk, IsLoadFile, declared_longs}
-use Rattle.hunk_files.specs.Roles.{Place, InBlock, refuse, refuse_part, refuse_kind, Role as roles}
+use Rattle.hunk_files.specs.LoadFile.{TableEntry, LoadFileValue, IsTableEntry, standing, AreInOrder, IsInside, FitsGroup, FitsHunk, IsHunkBlock, IsHunk, IsLoadFile, declared_longs}
+use Rattle.hunk_scan.specs.Standings.{Standing, Beside, Content, Relocating, Ending, is_content}
+use Rattle.hunk_scan.specs.Roles.{Place, InBlock, refuse, refuse_part, refuse_kind, Role as roles}
 use Rattle.hunk_files.specs.LoadText.{entry_labelled, header_labelled, block_labelled, blocks_labelled, hunk_labelled, table, labelled}
 use Rattle.hunk_files.proofs.FileText.{standings, entries_fit}
 use Rattle.hunk_blocks.proofs.Lists.{passes_else, passes_then}
-use Rattle.hunk_files.proofs.Runs.{IsAccepted, AreAccepted}
+use Rattle.hunk_files.specs.WordsRead.{IsAccepted, AreAccepted}
 
 pub All-append : {A : Type 0} (P : A → Type 0) (xs ys : List A) → AllByRecursion P xs → AllByRecursion P ys → AllByRecursion P (xs ++ ys)
 All-append P [] ys h k = k
@@ -82,7 +83,7 @@ module _ (p : Place) where
   groups_pass (g ∷ gs) h f = All-append PartPasses (group_parts g) (flat_map group_parts gs) (group_passes g h.0 f.0) (groups_pass gs h.1 f.1)
 
   symbol_passes : (s : SymbolEntry) → IsSymbolEntry s → PartsPass (symbol_parts s)
-  symbol_passes s h = ((h.named.fits, refl), All-append PartPasses (each parts.EntryName s.name) ((parts.EntryValue, s.value) ∷ []) (names_pass s.name h.named.longs) ((h.value, refl), tt))
+  symbol_passes s h = ((h.entry_word.fits, refl), All-append PartPasses (each parts.EntryName s.name) ((parts.EntryValue, s.value) ∷ []) (names_pass s.name h.entry_word.longs) ((h.value, refl), tt))
 
   body_passes : (word : ℕ) (body : BlockBody) → FitsWord word body → IsOfLoad word body → FitsHunk p.hunks p.longs body → PartsPass (body_parts body)
   body_passes word (Name ws) h m f = ((omega (arith, h.1.0), passes_then (ltb (length ws) (2 ^ 24)) None (Some reasons.NameWord) (lt-ltb (length ws) (2 ^ 24) h.1.0)), payload_passes ws h.1.1)

@@ -8,18 +8,19 @@ use Rattle.hunk_words.specs.Bits.{kind}
 use Rattle.hunk_words.specs.Longs.{IsLong}
 use Rattle.hunk_blocks.specs.Values.{RelocGroup, BlockBody, BlockValue, Name, Code, Data, Bss, Reloc, Symbol, Debug, Advisory, End}
 use Rattle.hunk_blocks.specs.Parts.{Part, Part as parts, each}
-use Rattle.hunk_files.specs.LoadFile.{TableEntry, HunkValue, LoadFileValue, Standing, Beside, Content, Relocating, Ending, standing, is_content}
-use Rattle.hunk_files.specs.Roles.{Place, Role, InBlock, refuse, refuse_part}
+use Rattle.hunk_files.specs.LoadFile.{TableEntry, HunkValue, LoadFileValue, standing}
+use Rattle.hunk_scan.specs.Standings.{Standing, Beside, Content, Relocating, Ending, is_content}
+use Rattle.hunk_scan.specs.Roles.{Place, Role, InBlock, refuse, refuse_part}
 use Rattle.hunk_files.specs.LoadText.{words}
 use Rattle.hunk_files.specs.Fault.{completing}
-use Rattle.hunk_blocks.proofs.BlockSteps.{ForName, ForDebug, ForAdvisory, ForCode, ForData, ForBss, Filling, Counted, SizedCode, SizedData, Inside, AtCount, AtSize, InPayload, AtGroup, AtTarget, InOffsets, AtEntry, InName, AtValue, Open, Whole, group, count_part, fill, filled_body, relocate, name_entry, Follows}
+use Rattle.hunk_blocks.specs.BlockSteps.{ForName, ForDebug, ForAdvisory, ForCode, ForData, ForBss, Filling, Counted, SizedCode, SizedData, Inside, AtCount, AtSize, InPayload, AtGroup, AtTarget, InOffsets, AtEntry, InName, AtValue, Open, Whole, group, count_part, fill, filled_body, relocate, name_entry, Follows}
 use Rattle.hunk_blocks.proofs.BlockText.{Follows-append, payload_follows, offsets_follow, name_follows}
 use Rattle.hunk_files.proofs.HunkProgress.{Fits, Within}
 use Rattle.hunk_files.proofs.FileText.{in_place, Follows-leads, Leads-append}
-use Rattle.hunk_files.proofs.FileSteps.{table_entry, hunk, block, OpenHunk, Progress, AtFirst, AtResident, AtTableSize, AtFirstHunk, AtLastHunk, AtSizeWord, AtAttributes, AtBlock, InBody, Next, More, Finished, place_of, role_of, open_hunk, rows, with_block, close_by, close, step, Leads}
+use Rattle.hunk_files.specs.FileSteps.{table_entry, hunk, block, OpenHunk, Progress, AtFirst, AtResident, AtTableSize, AtFirstHunk, AtLastHunk, AtSizeWord, AtAttributes, AtBlock, InBody, Next, More, Finished, place_of, role_of, open_hunk, rows, with_block, close_by, close, step, Leads}
 use Rattle.hunk_files.proofs.FileProgress.{or_false, or_true, ProgressFits, NextFits}
 use Rattle.hunk_blocks.proofs.Lists.{more_owed, passes_else, passes_then}
-use Rattle.hunk_files.proofs.Runs.{Labelled, IsAccepted}
+use Rattle.hunk_files.specs.WordsRead.{Labelled, IsAccepted}
 use Rattle.hunk_files.proofs.Accepted.{All-append, All-map, PartPasses}
 
 -- ---- the words that complete
@@ -114,10 +115,10 @@ on_run a b ls ws run ok c = record {
 size_zero_passes : (p : Place) → refuse_part p parts.ContentSize 0 ≡ None
 size_zero_passes p = passes_else (ltb p.longs 0) (Some reasons.ContentTooLong) None (le-ltb p.longs 0 (omega arith))
 
-ended : (o : OpenHunk) (ws : List ℕ) → o.has_content ≡ true →
+end_completes : (o : OpenHunk) (ws : List ℕ) → o.has_content ≡ true →
     Completes (open_hunk o.hunks (o.finished ++ hunk o.entry (o.blocks ++ block 0x3F2 End ∷ []) ∷ []) o.ahead) ws → Completes (More (AtBlock o)) (0x3F2 ∷ ws)
 unfolding kind
-ended o ws e c = on_step (AtBlock o) 0x3F2 ws (omega arith) (passes_then o.has_content None (Some reasons.NoContent) e) (sym (passes_then o.has_content 0x3F2 0x3EB e)) c
+end_completes o ws e c = on_step (AtBlock o) 0x3F2 ws (omega arith) (passes_then o.has_content None (Some reasons.NoContent) e) (sym (passes_then o.has_content 0x3F2 0x3EB e)) c
 
 filled_and_ended : (o : OpenHunk) (ws : List ℕ) → o.has_content ≡ false →
     Completes (open_hunk o.hunks (o.finished ++ hunk o.entry ((o.blocks ++ block 0x3EB (Bss 0) ∷ []) ++ block 0x3F2 End ∷ []) ∷ []) o.ahead) ws → Completes (More (AtBlock o)) (0x3EB ∷ 0 ∷ 0x3F2 ∷ ws)
@@ -125,7 +126,7 @@ unfolding kind
 filled_and_ended o ws e c =
     on_step (AtBlock o) 0x3EB (0 ∷ 0x3F2 ∷ ws) (omega arith) (passes_else o.has_content (Some reasons.SecondContent) None e) (sym (passes_else o.has_content 0x3F2 0x3EB e))
     (on_step (InBody o 0x3EB (AtSize ForBss)) 0 (0x3F2 ∷ ws) (omega arith) (size_zero_passes (place_of o)) refl
-    (ended (with_block o (block 0x3EB (Bss 0)) true) ws refl c))
+    (end_completes (with_block o (block 0x3EB (Bss 0)) true) ws refl c))
 
 hunks_complete : (hunks : ℕ) (finished : List HunkValue) (ahead : List TableEntry) → Completes (open_hunk hunks finished ahead) (empty_hunks (length ahead))
 hunks_complete hunks finished [] = record { value = finished; labels = []; run = refl; accepted = tt; text = refl }
@@ -137,7 +138,7 @@ open_completes : (o : OpenHunk) → Completes (More (AtBlock o)) (end_of_hunk o.
 open_completes o = go o.has_content refl
   where
     go : (b : Bool) → o.has_content ≡ b → Completes (More (AtBlock o)) (end_of_hunk b ++ empty_hunks (length o.ahead))
-    go true e = ended o (empty_hunks (length o.ahead)) e (hunks_complete o.hunks _ o.ahead)
+    go true e = end_completes o (empty_hunks (length o.ahead)) e (hunks_complete o.hunks _ o.ahead)
     go false e = filled_and_ended o (empty_hunks (length o.ahead)) e (hunks_complete o.hunks _ o.ahead)
 
 close_completes : (o : OpenHunk) (b : BlockValue) (s : Standing) → s ≢ Ending → Completes (close_by o b s) (end_of_hunk (o.has_content || is_content s) ++ empty_hunks (length o.ahead))

@@ -11,15 +11,16 @@ use Rattle.hunk_words.specs.Bits.{kind, is_advisory, size_longs, has_both_bits}
 use Rattle.hunk_words.specs.Longs.{IsLong}
 use Rattle.hunk_blocks.specs.Values.{BlockBody, BlockValue, Name, Code, Data, Bss, Reloc, Ext, Symbol, Debug, Advisory, End}
 use Rattle.hunk_blocks.specs.Parts.{Part, Part as parts}
-use Rattle.hunk_files.specs.LoadFile.{TableEntry, HunkValue, IsTableEntry, Standing, Content, Relocating, Ending, standing, is_content, AreInOrder, IsHunkBlock, IsHunk, IsLoadFile}
-use Rattle.hunk_files.specs.Roles.{Place, Role, InBlock, refuse, refuse_part, refuse_kind, Role as roles}
-use Rattle.hunk_files.specs.LoadText.{entry_labelled, block_labelled, blocks_labelled, hunk_labelled, labelled}
-use Rattle.hunk_blocks.proofs.BlockSteps.{BlockNext, Open, Whole, part_of, step_inside, begin}
+use Rattle.hunk_files.specs.LoadFile.{TableEntry, HunkValue, IsTableEntry, standing, AreInOrder, IsHunkBlock, IsHunk, IsLoadFile}
+use Rattle.hunk_scan.specs.Standings.{Standing, Content, Relocating, Ending, is_content}
+use Rattle.hunk_scan.specs.Roles.{Place, Role, InBlock, refuse, refuse_part, refuse_kind, Role as roles}
+use Rattle.hunk_files.specs.LoadText.{entry_labelled, block_labelled, blocks_labelled, hunk_labelled, labelled, entries}
+use Rattle.hunk_blocks.specs.BlockSteps.{BlockNext, Open, Whole, part_of, step_inside, begin}
 use Rattle.hunk_blocks.proofs.BlockProgress.{read_inside, read_next, step_reads, begin_reads}
 use Rattle.hunk_files.proofs.HunkProgress.{BodyFits, begin_fits, step_fits, alone_passes}
 use Rattle.hunk_files.proofs.HunkProgress as blocks
-use Rattle.hunk_files.proofs.FileText.{in_place, standings, entries}
-use Rattle.hunk_files.proofs.FileSteps.{table_entry, hunk, block, OpenHunk, Progress, AtFirst, AtResident, AtTableSize, AtFirstHunk, AtLastHunk, AtSizeWord, AtAttributes, AtBlock, InBody, Next, More, Finished, place_of, role_of, open_hunk, rows, with_block, close, after, sized_row, step}
+use Rattle.hunk_files.proofs.FileText.{in_place, standings}
+use Rattle.hunk_files.specs.FileSteps.{table_entry, hunk, block, OpenHunk, Progress, AtFirst, AtResident, AtTableSize, AtFirstHunk, AtLastHunk, AtSizeWord, AtAttributes, AtBlock, InBody, Next, More, Finished, place_of, role_of, open_hunk, rows, with_block, close, after, sized_row, step}
 use Rattle.hunk_blocks.proofs.Lists.{All-more, map-more, flat_map-more, more_owed, passed_false, passed_true, passed_both, passes_else, passes_then}
 
 abbrev Labelled : Type 0

@@ -6,12 +6,13 @@ use Rattle.std.specs.List.{flat_map, AllByRecursion}
 use Rattle.hunk_words.specs.Bits.{kind, has_both_bits, size_longs}
 use Rattle.hunk_blocks.specs.Values.{BlockValue}
 use Rattle.hunk_blocks.specs.Parts.{Part, body_parts}
-use Rattle.hunk_files.specs.LoadFile.{TableEntry, HunkValue, LoadFileValue, IsTableEntry, Standing, Beside, Content, Relocating, Ending, standing, is_content, AreInOrder, IsHunkBlock, IsHunk, IsLoadFile}
-use Rattle.hunk_files.specs.Roles.{Place, Role, InBlock, Role as roles}
-use Rattle.hunk_files.specs.LoadText.{entry_labelled, header_labelled, block_labelled, blocks_labelled, hunk_labelled, table, labelled}
-use Rattle.hunk_blocks.proofs.BlockSteps.{BlockNext, Open, Whole, step_inside, begin, Follows}
+use Rattle.hunk_files.specs.LoadFile.{TableEntry, HunkValue, LoadFileValue, IsTableEntry, standing, AreInOrder, IsHunkBlock, IsHunk, IsLoadFile}
+use Rattle.hunk_scan.specs.Standings.{Standing, Beside, Content, Relocating, Ending, is_content}
+use Rattle.hunk_scan.specs.Roles.{Place, Role, InBlock, Role as roles}
+use Rattle.hunk_files.specs.LoadText.{entries, entry_labelled, header_labelled, block_labelled, blocks_labelled, hunk_labelled, table, labelled}
+use Rattle.hunk_blocks.specs.BlockSteps.{BlockNext, Open, Whole, step_inside, begin, Follows}
 use Rattle.hunk_blocks.proofs.BlockText.{body_follows}
-use Rattle.hunk_files.proofs.FileSteps.{table_entry, hunk, OpenHunk, AtFirst, AtSizeWord, AtBlock, Next, More, Finished, place_of, open_hunk, rows, close_by, close, after, sized_row, step, Leads}
+use Rattle.hunk_files.specs.FileSteps.{table_entry, hunk, OpenHunk, AtFirst, AtSizeWord, AtBlock, Next, More, Finished, place_of, open_hunk, rows, close_by, close, after, sized_row, step, Leads}
 
 pub Leads-append : (a b c : Next) (ls ms : List (Role × ℕ)) → Leads a ls b → Leads b ms c → Leads a (ls ++ ms) c
 Leads-append a b c [] ms h k = subst (λ (x : Next). Leads x ms c) (sym h) k
@@ -88,9 +89,6 @@ module _ (hunks : ℕ) (finished : List HunkValue) (entry : TableEntry) (ahead :
       Leads-append (More (AtBlock (at done has_content))) (close (at done has_content) b) _ (block_labelled (place_of (at done has_content)) b) _
       (block_leads hunks (size_longs entry.word) (at done has_content) b h.0)
       (block_closed (standing b.body) has_content done b more o (λ has other order. blocks_lead more h.1 has other order))
-
-abbrev pub entries : List HunkValue → List TableEntry
-entries hs = map (λ h. h.entry) hs
 
 pub hunks_lead : (hunks : ℕ) (finished more : List HunkValue) → AllByRecursion (IsHunk hunks) more →
     Leads (open_hunk hunks finished (entries more)) (flat_map (hunk_labelled hunks) more) (Finished (finished ++ more))

@@ -6,22 +6,23 @@ use Rattle.hunk_words.specs.declared.block_word.Kind.TheVariants as kinds
 use Rattle.hunk_words.specs.declared.reason.Reason.TheVariants as reasons
 use Rattle.hunk_words.specs.Longs.{IsLong}
 use Rattle.hunk_words.specs.Bits.{kind, is_advisory, has_both_bits}
-use Rattle.hunk_blocks.specs.Values.{ExtEntry, SymbolEntry, BlockBody, Name, Code, Data, Bss, Reloc, Ext, Symbol, Debug, Advisory, End}
-use Rattle.hunk_files.specs.LoadFile.{TableEntry, LoadFileValue, IsLoadFile, HunkValue, Standing, Beside, Content, Relocating, Ending, standing, is_content}
-use Rattle.hunk_files.specs.Roles.{Role, refuse, refuse_kind}
+use Rattle.hunk_blocks.specs.Values.{BlockValue, ExtEntry, SymbolEntry, BlockBody, Name, Code, Data, Bss, Reloc, Ext, Symbol, Debug, Advisory, End}
+use Rattle.hunk_files.specs.LoadFile.{TableEntry, LoadFileValue, IsLoadFile, HunkValue, standing}
+use Rattle.hunk_scan.specs.Standings.{Standing, Beside, Content, Relocating, Ending, is_content}
+use Rattle.hunk_scan.specs.declared.position.Position.TheVariants as positions
+use Rattle.hunk_scan.specs.Positions.{end_least, is_behind_header, least_longs}
+use Rattle.hunk_files.specs.ReaderPosition.{open_of, block_phase, position_of}
+use Rattle.hunk_files.proofs.InsideCases.{by_inside}
+use Rattle.hunk_scan.specs.Roles.{Role, refuse, refuse_kind}
 use Rattle.hunk_files.specs.LoadText.{text}
-use Rattle.hunk_blocks.proofs.BlockSteps.{ForName, ForDebug, ForAdvisory, ForCode, ForData, ForBss, Filling, Counted, SizedCode, SizedData, Inside, AtCount, AtSize, InPayload, AtGroup, AtTarget, InOffsets, AtEntry, InName, AtValue, AtExtWord, InExtName, AtExtValue, AtExtSize, AtExtCount, InExtOffsets, BlockNext, step_inside, begin, fill, name_entry, name_external}
-use Rattle.hunk_files.proofs.FileSteps.{table_entry, block, OpenHunk, Progress, AtFirst, AtResident, AtTableSize, AtFirstHunk, AtLastHunk, AtSizeWord, AtAttributes, AtBlock, InBody, Next, More, Finished, role_of, open_hunk, rows, close, close_by, after, sized_row, step, Leads}
+use Rattle.hunk_blocks.specs.BlockSteps.{ForName, ForDebug, ForAdvisory, ForCode, ForData, ForBss, Filling, Counted, SizedCode, SizedData, Inside, AtCount, AtSize, InPayload, AtGroup, AtTarget, InOffsets, AtEntry, InName, AtValue, AtExtWord, InExtName, AtExtValue, AtExtSize, AtExtCount, InExtOffsets, BlockNext, step_inside, begin, fill, name_entry, name_external}
+use Rattle.hunk_files.specs.FileSteps.{place_of, table_entry, block, OpenHunk, Progress, AtFirst, AtResident, AtTableSize, AtFirstHunk, AtLastHunk, AtSizeWord, AtAttributes, AtBlock, InBody, Next, More, Finished, role_of, open_hunk, rows, close, close_by, after, sized_row, step, Leads}
 use Rattle.hunk_files.proofs.Shapes.{by_shape}
 use Rattle.hunk_files.proofs.FileProgress.{ProgressFits, NextFits, kind_admitted, zero_or_limit, step_keeps}
 use Rattle.hunk_files.proofs.Completion.{gives_content, filling_content}
-use Rattle.hunk_files.proofs.Runs.{Labelled, AreAccepted}
-use Rattle.hunk_files.proofs.Reading.{HasRead, rest_leads}
+use Rattle.hunk_files.specs.WordsRead.{Labelled, AreAccepted, HasRead}
+use Rattle.hunk_files.proofs.Reading.{reads, rest_read, file_read}
 use Rattle.hunk_blocks.proofs.Lists.{more_owed, passed_true}
-
-abbrev pub end_least : Bool → ℕ
-end_least true = 1
-end_least false = 3
 
 abbrev pub inside_least : Inside → ℕ
 inside_least (AtCount c) = 1
@@ -188,5 +189,24 @@ run_least (More p) (l ∷ ls) v h ok run =
 -- No load text that begins with what was read ends in fewer longwords.
 pub owes_least : (ws : List ℕ) (n : Next) (h : HasRead ws n) (v : LoadFileValue) → IsLoadFile v → (more : List ℕ) → text v ≡ ws ++ more → least_next n ≤ length more
 owes_least ws n h v is more e =
-    let r = rest_leads ws n h v is more e in
-    omega (arith, run_least n r.0 v h.reads.0 r.2 r.1, length-map r.0 (λ (x : Role × ℕ). x.1), ap length r.3)
+    let r = rest_read ws n h (text v) (Finished v) (file_read v is) more e in
+    omega (arith, run_least n r.0 v (reads h).0 r.2 r.1, length-map r.0 (λ (x : Role × ℕ). x.1), ap length r.3)
+
+-- ---- by the position
+
+block_least : (o : OpenHunk) (blocks : List BlockValue) → least (AtBlock o) ≡ least_longs (positions.Body (open_of o) (block_phase blocks))
+block_least o [] = refl
+block_least o (b ∷ blocks) = refl
+
+-- Behind the header the position tells the least number.
+pub least_same : (p : Progress) → is_behind_header (position_of (More p)) ≡ true → ProgressFits p → least p ≡ least_longs (position_of (More p))
+least_same (AtBlock o) b f = block_least o o.blocks
+least_same (InBody o word x) b f =
+    let beside = behind_false o in
+    let full = behind_true o in
+    by_inside (place_of o) word (λ (y : Inside). least (InBody o word y) ≡ least_longs (position_of (More (InBody o word y))))
+    (omega (arith, beside)) (omega (arith, beside)) (omega (arith, beside)) (omega (arith, full)) (omega (arith, full)) (omega (arith, full))
+    (λ c done owed. omega (arith, beside)) (λ top done owed. omega (arith, full)) (λ top done owed. omega (arith, full))
+    (λ gs. omega (arith, beside)) (λ gs owed. omega (arith, beside)) (λ gs target done owed. omega (arith, beside))
+    (λ es. omega (arith, beside)) (λ es w done owed. omega (arith, beside)) (λ es w name. omega (arith, beside)) x f.2.1
+least_same _ b f = absurd cc

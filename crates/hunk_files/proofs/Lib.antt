@@ -5,16 +5,17 @@ pub mod Concats
 mod Examples
 pub mod FileProgress
 pub mod FileReading
-pub mod FileSteps
 pub mod FileText
 pub mod FileViews
 mod FindingSteps
 pub mod HunkProgress
+mod HunkFaults
 pub mod HunkReading
 pub mod ImageParts
+pub mod InsideCases
 pub mod Least
 pub mod Memory
-pub mod Numbers
+pub mod Positions
 mod ObjectDecoding
 pub mod ObjectText
 mod ObjectWriting
@@ -34,5 +35,7 @@ pub mod StripText
 pub mod Summed
 pub mod TableReading
 pub mod TextParts
+mod UnitFaults
+mod OneObjectFault
 mod UnitReading
 pub mod Walking

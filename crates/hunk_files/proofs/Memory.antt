@@ -6,37 +6,11 @@ use Rattle.hunk_words.specs.Longs.{bytes_of}
 use Rattle.hunk_words.specs.Bits.{size_longs}
 use Rattle.hunk_blocks.specs.Values.{RelocGroup, ExtEntry, SymbolEntry, BlockValue, End}
 use Rattle.hunk_files.specs.Image.{block_content, block_relocations, group_relocations, filled, relocated, add_at, image}
-use Rattle.hunk_blocks.proofs.BlockSteps.{ForName, ForDebug, ForAdvisory, ForCode, ForData, ForBss, Filling, Counted, SizedCode, SizedData, Inside, AtCount, AtSize, InPayload, AtGroup, AtTarget, InOffsets, AtEntry, InName, AtValue, AtExtWord, InExtName, AtExtValue, AtExtSize, AtExtCount, InExtOffsets, BlockNext, Open, Whole, group, step_inside, fill, name_entry, name_external}
-use Rattle.hunk_files.proofs.FileSteps.{OpenHunk, hunk, block}
+use Rattle.hunk_blocks.specs.BlockSteps.{ForName, ForDebug, ForAdvisory, ForCode, ForData, ForBss, Filling, Counted, SizedCode, SizedData, Inside, AtCount, AtSize, InPayload, AtGroup, AtTarget, InOffsets, AtEntry, InName, AtValue, AtExtWord, InExtName, AtExtValue, AtExtSize, AtExtCount, InExtOffsets, BlockNext, Open, Whole, group, step_inside, fill, name_entry, name_external}
+use Rattle.hunk_files.specs.OpenSegment.{filling_bytes, bytes_in, pairs_to, pairs_in, bytes_so_far, pairs_so_far, open_pairs, segment_so_far}
+use Rattle.hunk_files.specs.FileSteps.{OpenHunk, hunk, block}
 use Rattle.hunk_files.proofs.Shapes.{by_shape}
 use Rattle.hunk_blocks.proofs.Lists.{map-more, flat_map-more}
-
-abbrev pub filling_bytes : Filling → List ℕ → List ℕ
-filling_bytes (Counted c) ws = []
-filling_bytes (SizedCode top) ws = bytes_of ws
-filling_bytes (SizedData top) ws = bytes_of ws
-
--- the content bytes, and the relocations, of what has come of a block
-abbrev pub bytes_in : Inside → List ℕ
-bytes_in (InPayload f done owed) = filling_bytes f done
-bytes_in _ = []
-
-abbrev pub pairs_to : ℕ → List ℕ → List (ℕ × ℕ)
-pairs_to target offsets = map (λ offset. (offset, target)) offsets
-
-abbrev pub pairs_in : Inside → List (ℕ × ℕ)
-pairs_in (AtGroup groups) = flat_map group_relocations groups
-pairs_in (AtTarget groups owed) = flat_map group_relocations groups
-pairs_in (InOffsets groups target done owed) = flat_map group_relocations groups ++ pairs_to target done
-pairs_in _ = []
-
-abbrev pub bytes_so_far : BlockNext → List ℕ
-bytes_so_far (Open x) = bytes_in x
-bytes_so_far (Whole body) = block_content body
-
-abbrev pub pairs_so_far : BlockNext → List (ℕ × ℕ)
-pairs_so_far (Open x) = pairs_in x
-pairs_so_far (Whole body) = block_relocations body
 
 -- what a longword adds to either
 abbrev pub adds_bytes : Inside → ℕ → List ℕ
@@ -84,11 +58,11 @@ step_adds_bytes (AtTarget groups owed) w = refl
 step_adds_bytes (InOffsets groups target done zero) w = refl
 step_adds_bytes (InOffsets groups target done (suc owed)) w = refl
 step_adds_bytes (AtEntry entries) zero = refl
-step_adds_bytes (AtEntry entries) (suc w) = named entries (suc w) [] (suc w % 2 ^ 24)
+step_adds_bytes (AtEntry entries) (suc w) = name_adds entries (suc w) [] (suc w % 2 ^ 24)
   where
-    named : (es : List SymbolEntry) (word : ℕ) (done : List ℕ) (owed : ℕ) → bytes_so_far (name_entry es word done owed) ≡ []
-    named es word done zero = refl
-    named es word done (suc owed) = refl
+    name_adds : (es : List SymbolEntry) (word : ℕ) (done : List ℕ) (owed : ℕ) → bytes_so_far (name_entry es word done owed) ≡ []
+    name_adds es word done zero = refl
+    name_adds es word done (suc owed) = refl
 step_adds_bytes (InName entries word done zero) w = refl
 step_adds_bytes (InName entries word done (suc owed)) w = refl
 step_adds_bytes (AtValue entries word name) w = refl
@@ -123,11 +97,11 @@ step_adds_pairs (InOffsets groups target done (suc owed)) w =
     ap (λ (l : List (ℕ × ℕ)). flat_map group_relocations groups ++ l) (map-more (λ (o : ℕ). (o, target)) done w)
     ∙ sym (append_assoc (flat_map group_relocations groups) (pairs_to target done) ((w, target) ∷ []))
 step_adds_pairs (AtEntry entries) zero = refl
-step_adds_pairs (AtEntry entries) (suc w) = named entries (suc w) [] (suc w % 2 ^ 24)
+step_adds_pairs (AtEntry entries) (suc w) = name_adds entries (suc w) [] (suc w % 2 ^ 24)
   where
-    named : (es : List SymbolEntry) (word : ℕ) (done : List ℕ) (owed : ℕ) → pairs_so_far (name_entry es word done owed) ≡ []
-    named es word done zero = refl
-    named es word done (suc owed) = refl
+    name_adds : (es : List SymbolEntry) (word : ℕ) (done : List ℕ) (owed : ℕ) → pairs_so_far (name_entry es word done owed) ≡ []
+    name_adds es word done zero = refl
+    name_adds es word done (suc owed) = refl
 step_adds_pairs (InName entries word done zero) w = refl
 step_adds_pairs (InName entries word done (suc owed)) w = refl
 step_adds_pairs (AtValue entries word name) w = refl
@@ -142,15 +116,6 @@ step_adds_pairs (InExtOffsets entries word name value done zero) w = refl
 step_adds_pairs (InExtOffsets entries word name value done (suc owed)) w = refl
 
 -- ---- the memory of the open hunk
-
-abbrev pub open_bytes : OpenHunk → BlockNext → List ℕ
-open_bytes o n = flat_map (λ b. block_content b.body) o.blocks ++ bytes_so_far n
-
-abbrev pub open_pairs : OpenHunk → BlockNext → List (ℕ × ℕ)
-open_pairs o n = flat_map (λ b. block_relocations b.body) o.blocks ++ pairs_so_far n
-
-abbrev pub segment_so_far : List ℕ → OpenHunk → BlockNext → List ℕ
-segment_so_far bases o n = relocated bases (filled (4 * size_longs o.entry.word) (open_bytes o n)) (open_pairs o n)
 
 fold-more : {A B : Type 0} (f : B → A → B) (a : B) (xs : List A) (x : A) → fold f a (xs ++ x ∷ []) ≡ f (fold f a xs) x
 fold-more f a [] x = refl

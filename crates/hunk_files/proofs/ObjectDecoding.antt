@@ -20,9 +20,10 @@ use Rattle.hunk_blocks.specs.Reading.{BeginsWithNo}
 use Rattle.hunk_blocks.proofs.Lists.{map-more, flat_map-more}
 use Rattle.hunk_blocks.proofs.BlockLongs.{block_longs}
 use Rattle.hunk_blocks.proofs.BlockPrefix.{block_same}
-use Rattle.hunk_files.specs.LoadFile.{Standing, Beside, Content, Relocating, Ending, standing, AreInOrder, is_content}
+use Rattle.hunk_files.specs.LoadFile.{standing, AreInOrder}
+use Rattle.hunk_scan.specs.Standings.{Standing, Beside, Content, Relocating, Ending, is_content, is_ending, refuse_standing, standing_of_kind}
 use Rattle.hunk_files.specs.ObjectFile.{is_object_refusal, ObjectHunk, UnitValue, ObjectFileValue, IsObjectHunk, IsUnit, unit_header, unit_text, object_text}
-use Rattle.hunk_files.specs.ObjectParts.{BeginsWithText, MayStand, is_ending, refuse_standing, standing_of_kind}
+use Rattle.hunk_files.specs.ObjectParts.{BeginsWithText, MayStand}
 
 -- ---- longwords and their bytes
 
@@ -228,7 +229,7 @@ leads_more false b c (Relocating ∷ xs) ys h k = absurd h
 leads_more true b c (Ending ∷ xs) ys h k = absurd h
 leads_more false b c (Ending ∷ xs) ys h k = absurd h
 
-leads_end : (a b : Bool) (xs ys : List Standing) → Leads a xs b → AreInOrder b ys → AreInOrder a (xs ++ ys)
+pub leads_end : (a b : Bool) (xs ys : List Standing) → Leads a xs b → AreInOrder b ys → AreInOrder a (xs ++ ys)
 leads_end a b [] ys h k = subst (λ (x : Bool). AreInOrder x ys) (sym h) k
 leads_end true b (Beside ∷ xs) ys h k = leads_end true b xs ys h k
 leads_end false b (Beside ∷ xs) ys h k = leads_end false b xs ys h k

@@ -5,7 +5,8 @@ use Rattle.hunk_words.specs.declared.block_word.Kind.TheVariants as kinds
 use Rattle.hunk_words.specs.Bits.{kind}
 use Rattle.hunk_blocks.specs.Values.{BlockBody, BlockValue, Name, Code, Data, Bss, Reloc, Ext, Symbol, Debug, Advisory, End, FitsWord, IsBlock, IsPayload}
 use Rattle.hunk_blocks.specs.Parts.{block_text}
-use Rattle.hunk_files.specs.LoadFile.{Standing, Beside, Content, Relocating, Ending, standing, AreInOrder}
+use Rattle.hunk_files.specs.LoadFile.{standing, AreInOrder}
+use Rattle.hunk_scan.specs.Standings.{Standing, Beside, Content, Relocating, Ending}
 use Rattle.hunk_files.specs.ObjectFile.{ObjectHunk, UnitValue, ObjectFileValue, IsObjectHunk, IsUnit, IsObjectFile, unit_word, unit_header, object_text}
 use Rattle.hunk_blocks.proofs.BlockPrefix.{block_same}
 

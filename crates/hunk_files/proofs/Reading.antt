@@ -5,35 +5,30 @@ use Rattle.std.proofs.lemmas.Bool.{and_parts}
 use Rattle.hunk_words.specs.declared.reason.Reason.{Reason}
 use Rattle.hunk_words.specs.Longs.{longs, IsLong, AreLongs}
 use Rattle.hunk_files.specs.LoadFile.{LoadFileValue, IsLoadFile}
-use Rattle.hunk_files.specs.Roles.{Role, refuse}
+use Rattle.hunk_scan.specs.Roles.{Role, refuse}
 use Rattle.hunk_files.specs.LoadText.{words, text, labelled}
 use Rattle.hunk_files.specs.Fault.{Expects, HasRefusal, IsTruncated}
-use Rattle.hunk_files.proofs.FileSteps.{Progress, AtFirst, Next, More, Finished, role_of, step, Leads}
+use Rattle.hunk_files.specs.FileSteps.{Progress, AtFirst, Next, More, Finished, role_of, step, Leads}
 use Rattle.hunk_files.proofs.FileText.{file_leads, Leads-append}
 use Rattle.hunk_files.proofs.FileProgress.{Reads, step_keeps}
-use Rattle.hunk_files.proofs.Runs.{Labelled, IsAccepted, AreAccepted, Leads-split, Leads-same}
+use Rattle.hunk_files.proofs.Runs.{Leads-keeps, Leads-split, Leads-same}
+use Rattle.hunk_files.specs.WordsRead.{HasRead, Labelled, IsAccepted, AreAccepted}
 use Rattle.hunk_files.proofs.Accepted.{All-append, labelled_accepted}
 use Rattle.hunk_files.proofs.Scan.{words_split, expects_of, truncated_of}
 
--- These longwords were read, none was refused, and they lead here.
-pub record HasRead (ws : List ℕ) (n : Next) : Type 0 where
-  pub done : Labelled
-  pub run : Leads (More AtFirst) done n
-  pub reads : Reads n done
-  pub accepted : AreAccepted done
-  pub all : words done ≡ ws
+-- What was read fits, and is the text so far.
+pub reads : {ws : List ℕ} {n : Next} (h : HasRead ws n) → Reads n h.done
+reads {ws} {n} h = Leads-keeps (More AtFirst) n [] h.done (tt, refl) h.accepted h.run
 
 pub start_read : HasRead [] (More AtFirst)
-start_read = record { done = []; run = refl; reads = (tt, refl); accepted = tt; all = refl }
+start_read = record { done = []; run = refl; accepted = tt; all = refl }
 
 -- One more longword is read.
 pub step_read : (ws : List ℕ) (p : Progress) (w : ℕ) → HasRead ws (More p) → IsLong w → refuse (role_of p) w ≡ None → HasRead (ws ++ w ∷ []) (step p w)
 step_read ws p w h l ok =
-    let k = step_keeps p w h.reads.0 l ok in
     record {
       done = h.done ++ (role_of p, w) ∷ [];
       run = Leads-append (More AtFirst) (More p) (step p w) h.done ((role_of p, w) ∷ []) h.run (refl, refl);
-      reads = (k.0, k.1 ∙ ap (λ (ls : Labelled). ls ++ (role_of p, w) ∷ []) h.reads.1);
       accepted = All-append IsAccepted h.done ((role_of p, w) ∷ []) h.accepted ((l, ok), tt);
       all = map-append (λ (x : Role × ℕ). x.1) h.done ((role_of p, w) ∷ []) ∙ ap (λ (xs : List ℕ). xs ++ w ∷ []) h.all;
     }
@@ -53,34 +48,38 @@ read_refused bytes ws p w after reason h e no-pass =
       role = role_of p;
       split = e;
       place = refl;
-      expects = subst (λ (xs : List ℕ). Expects xs (role_of p)) h.all (expects_of p h.done h.reads);
+      expects = subst (λ (xs : List ℕ). Expects xs (role_of p)) h.all (expects_of p h.done (reads h));
       refuses = no-pass;
     }
 
 -- Where the longwords end too soon, that is the fault.
 pub read_truncated : (bytes : List ℕ) (p : Progress) → HasRead (longs bytes) (More p) → IsTruncated bytes (4 * length (longs bytes))
-read_truncated bytes p h = truncated_of bytes (record { progress = p; done = h.done; reads = h.reads; all = h.all })
+read_truncated bytes p h = truncated_of bytes (record { progress = p; done = h.done; reads = reads h; all = h.all })
 
 -- At the end there is a load file of this text.
 pub read_ended : (ws : List ℕ) (v : LoadFileValue) → HasRead ws (Finished v) → IsLoadFile v × (text v ≡ ws)
-read_ended ws v h = (h.reads.0, ap words h.reads.1 ∙ h.all)
+read_ended ws v h = ((reads h).0, ap words (reads h).1 ∙ h.all)
 
--- the rest of a load text from here
-module _ (ws : List ℕ) (n : Next) (h : HasRead ws n) (v : LoadFileValue) (is : IsLoadFile v) (more : List ℕ) (e : text v ≡ ws ++ more) where
-  pub rest_leads : (ls : Labelled) × Leads n ls (Finished v) × AreAccepted ls × (words ls ≡ more)
-  rest_leads =
-      let s = words_split (labelled v) ws more e in
-      let cut = Leads-split (More AtFirst) (Finished v) s.front s.back (subst (λ (ls : Labelled). Leads (More AtFirst) ls (Finished v)) s.split (file_leads v is)) in
+-- what follows of longwords that were read further than these
+module _ (ws : List ℕ) (n : Next) (h : HasRead ws n) (all : List ℕ) (last : Next) (k : HasRead all last) (more : List ℕ) (e : all ≡ ws ++ more) where
+  pub rest_read : (ls : Labelled) × Leads n ls last × AreAccepted ls × (words ls ≡ more)
+  rest_read =
+      let s = words_split k.done ws more (k.all ∙ e) in
+      let cut = Leads-split (More AtFirst) last s.front s.back (subst (λ (ls : Labelled). Leads (More AtFirst) ls last) s.split k.run) in
       let same = Leads-same (More AtFirst) cut.0 n s.front h.done cut.1 h.run (s.front_words ∙ sym h.all) in (
         s.back,
-        subst (λ (m : Next). Leads m s.back (Finished v)) same.1 cut.2,
-        right_of s.front s.back (subst AreAccepted s.split (labelled_accepted v is)),
+        subst (λ (m : Next). Leads m s.back last) same.1 cut.2,
+        right_of s.front s.back (subst AreAccepted s.split k.accepted),
         s.back_words,
       )
     where
       right_of : (xs ys : Labelled) → AreAccepted (xs ++ ys) → AreAccepted ys
       right_of [] ys ok = ok
       right_of (x ∷ xs) ys ok = right_of xs ys ok.1
+
+-- A load text is read to its end.
+pub file_read : (v : LoadFileValue) → IsLoadFile v → HasRead (text v) (Finished v)
+file_read v is = record { done = labelled v; run = file_leads v is; accepted = labelled_accepted v is; all = refl }
 
 first_passes : (p : Progress) (ls : Labelled) (v : LoadFileValue) (w : ℕ) (more : List ℕ) → Leads (More p) ls (Finished v) → AreAccepted ls → words ls ≡ w ∷ more → refuse (role_of p) w ≡ None
 first_passes p [] v w more run ok e = absurd cc
@@ -91,7 +90,7 @@ first_passes p (l ∷ ls) v w more run ok e =
 -- No longword of a load text that goes on from here is refused.
 pub read_passes : (ws : List ℕ) (p : Progress) → HasRead ws (More p) → (v : LoadFileValue) → IsLoadFile v → (w : ℕ) (more : List ℕ) → text v ≡ ws ++ w ∷ more → refuse (role_of p) w ≡ None
 read_passes ws p h v is w more e =
-    let r = rest_leads ws (More p) h v is (w ∷ more) e in
+    let r = rest_read ws (More p) h (text v) (Finished v) (file_read v is) (w ∷ more) e in
     first_passes p r.0 v w more r.1 r.2 r.3
 
 goes_on : (p : Progress) (ls : Labelled) (v : LoadFileValue) → Leads (More p) ls (Finished v) → words ls ≢ []
@@ -101,7 +100,7 @@ goes_on p (l ∷ ls) v run e = cc
 -- A load text that begins so is not whole here.
 pub read_goes_on : (ws : List ℕ) (p : Progress) → HasRead ws (More p) → (v : LoadFileValue) → IsLoadFile v → (more : List ℕ) → text v ≡ ws ++ more → more ≢ []
 read_goes_on ws p h v is more e nil =
-    let r = rest_leads ws (More p) h v is more e in
+    let r = rest_read ws (More p) h (text v) (Finished v) (file_read v is) more e in
     goes_on p r.0 v r.1 (r.3 ∙ nil)
 
 -- ---- as functions of the longwords, for facts that are equations

@@ -5,7 +5,8 @@ use Rattle.std.proofs.lemmas.List.{take_more, get_or-map, length-map}
 use Rattle.hunk_words.specs.Longs.{bytes_of}
 use Rattle.hunk_words.proofs.LongLaws.{length-bytes_of}
 use Rattle.hunk_blocks.specs.Values.{RelocGroup, BlockBody, BlockValue, Name, Code, Data, Bss, Reloc, Ext, Symbol, Debug, Advisory, End}
-use Rattle.hunk_files.specs.LoadFile.{HunkValue, Standing, standing, AreInOrder, FitsGroup, IsInside, IsHunkBlock, IsHunk, declared_longs}
+use Rattle.hunk_files.specs.LoadFile.{HunkValue, standing, AreInOrder, FitsGroup, IsInside, IsHunkBlock, IsHunk, declared_longs}
+use Rattle.hunk_scan.specs.Standings.{Standing}
 use Rattle.hunk_files.specs.Image.{add_at, block_content, block_relocations, group_relocations, relocated, relocations}
 use Rattle.hunk_files.specs.Relocating.{IsRelocatable}
 use Rattle.hunk_files.proofs.Accepted.{All-map, All-flat_map}

@@ -2,20 +2,11 @@
 use Rattle.std.proofs.Common.{◌≡◌, ℕ, List, [], ◌∷◌, ◌++◌, refl, sym, ap₂, subst, ◌∙◌, append_assoc, append-nil, None}
 use Rattle.std.specs.List.{AllByRecursion}
 use Rattle.hunk_words.specs.Longs.{IsLong}
-use Rattle.hunk_files.specs.Roles.{Role, refuse}
+use Rattle.hunk_scan.specs.Roles.{Role, refuse}
 use Rattle.hunk_files.specs.LoadText.{words}
-use Rattle.hunk_files.proofs.FileSteps.{Next, More, Finished, role_of, step, Leads}
+use Rattle.hunk_files.specs.WordsRead.{Labelled, IsAccepted, AreAccepted}
+use Rattle.hunk_files.specs.FileSteps.{Next, More, Finished, role_of, step, Leads}
 use Rattle.hunk_files.proofs.FileProgress.{Reads, step_keeps}
-
-abbrev pub Labelled : Type 0
-Labelled = List (Role × ℕ)
-
--- a longword that its role lets pass
-abbrev pub IsAccepted : Role × ℕ → Type 0
-IsAccepted l = IsLong l.1 × (refuse l.0 l.1 ≡ None)
-
-abbrev pub AreAccepted : Labelled → Type 0
-AreAccepted ls = AllByRecursion IsAccepted ls
 
 pub Leads-split : (a c : Next) (ls ms : Labelled) → Leads a (ls ++ ms) c → (b : Next) × Leads a ls b × Leads b ms c
 Leads-split a c [] ms h = (a, refl, h)

@@ -6,13 +6,14 @@ use Rattle.hunk_words.specs.declared.reason.Reason.TheVariants as reasons
 use Rattle.hunk_words.specs.declared.reason.Reason.{Reason}
 use Rattle.hunk_words.specs.Longs.{longs, bytes_of, IsLong, AreLongs, IsBytes}
 use Rattle.hunk_files.specs.LoadFile.{LoadFileValue, IsLoadFile}
-use Rattle.hunk_files.specs.Roles.{Role, refuse}
+use Rattle.hunk_scan.specs.Roles.{Role, refuse}
 use Rattle.hunk_files.specs.LoadText.{words, text, labelled}
 use Rattle.hunk_files.specs.Fault.{Expects, HasRefusal, BeginsWithLoadFile, IsTruncated, HasFault, IsCompleted, completing}
-use Rattle.hunk_files.proofs.FileSteps.{Progress, AtFirst, Next, More, Finished, role_of, step, Leads}
+use Rattle.hunk_files.specs.FileSteps.{Progress, AtFirst, Next, More, Finished, role_of, step, Leads}
 use Rattle.hunk_files.proofs.FileText.{file_leads}
 use Rattle.hunk_files.proofs.FileProgress.{Reads, step_keeps}
-use Rattle.hunk_files.proofs.Runs.{Labelled, IsAccepted, AreAccepted, Leads-split, Leads-same, Leads-keeps}
+use Rattle.hunk_files.proofs.Runs.{Leads-split, Leads-same, Leads-keeps}
+use Rattle.hunk_files.specs.WordsRead.{Labelled, IsAccepted, AreAccepted}
 use Rattle.hunk_files.proofs.Accepted.{labelled_accepted}
 use Rattle.hunk_files.proofs.Completion.{IsOwed, completes, completes_next}
 use Rattle.hunk_words.proofs.LongLaws.{longs-bytes_of, bytes_of-append, spelled, longs_fit}

@@ -3,7 +3,7 @@ use Rattle.std.proofs.Common.{◌≡◌, ℕ, Bool, true, false, ◌||◌, List,
 use Rattle.std.specs.Prelude.{nat_lt}
 use Rattle.std.specs.Int.{is_in_range}
 use Rattle.hunk_blocks.specs.Values.{ExtEntry, ext_shape}
-use Rattle.hunk_blocks.proofs.BlockSteps.{BlockNext, Open, AtExtValue, AtExtCount, AtExtSize, AtExtWord, shaped}
+use Rattle.hunk_blocks.specs.BlockSteps.{BlockNext, Open, AtExtValue, AtExtCount, AtExtSize, AtExtWord, shaped}
 
 -- A fact of each of the four holds of the one that a type leads to.
 pub by_shape : (P : BlockNext → Type 0) (n : ℕ) (entries : List ExtEntry) (word : ℕ) (name : List ℕ) →

@@ -87,8 +87,8 @@ all_named : (P : ℕ → Type 0) (pairs : List (ℕ × ℕ)) → ((o : ℕ) → 
 all_named P [] h = tt
 all_named P (x ∷ pairs) h = (h x.0 (0, omega arith, refl), all_named P pairs (λ o c. h o (contains_more (offsets pairs) x.0 o c)))
 
-away_by_order : (named : List ℕ) (p o : ℕ) → AreApart named → Contains named p → Contains named o → IsAway p o
-away_by_order named p o apart hp ho =
+away_by_order : (places : List ℕ) (p o : ℕ) → AreApart places → Contains places p → Contains places o → IsAway p o
+away_by_order places p o apart hp ho =
     elim (cases_order p o) [
       | inl e ↦ inl e
       | inr (inl less) ↦ elim (cases_lt o (p + 4)) [ inl near ↦ absurd (apart p o hp ho (less, near)) | inr far ↦ inr (inl far) ]
@@ -100,31 +100,31 @@ relocated_sums bases s pairs b h apart =
     record {
       bytes = relocated_bytes bases s pairs h b;
       size = relocated_length bases s pairs h;
-      named = λ o c. relocated_long bases s pairs o h (all_named (IsAway o) pairs (λ q d. away_by_order (offsets pairs) o q apart c d)) (long_at_fits s o b);
+      at_offsets = λ o c. relocated_long bases s pairs o h (all_named (IsAway o) pairs (λ q d. away_by_order (offsets pairs) o q apart c d)) (long_at_fits s o b);
       other = λ i out. relocated_beside bases s pairs i h (all_named (λ q. (i < q) ⊎ (q + 4 ≤ i)) pairs out);
     }
 
 -- ---- there is one such memory
 
-pub record IsWithin (named : List ℕ) (i : ℕ) : Type 0 where
+pub record IsWithin (places : List ℕ) (i : ℕ) : Type 0 where
   pub offset : ℕ
-  pub is_named : Contains named offset
+  pub is_place : Contains places offset
   pub low : offset ≤ i
   pub high : i < offset + 4
 
-within_or_outside : (named : List ℕ) (i : ℕ) → IsWithin named i ⊎ IsOutside named i
+within_or_outside : (places : List ℕ) (i : ℕ) → IsWithin places i ⊎ IsOutside places i
 within_or_outside [] i = inr (λ o c. absurd (omega (arith, c.1)))
-within_or_outside (x ∷ named) i = by_place (within_or_outside named i) (cases_lt i x) (cases_lt i (x + 4))
+within_or_outside (x ∷ places) i = by_place (within_or_outside places i) (cases_lt i x) (cases_lt i (x + 4))
   where
-    outside : IsOutside named i → (i < x) ⊎ (x + 4 ≤ i) → IsOutside (x ∷ named) i
+    outside : IsOutside places i → (i < x) ⊎ (x + 4 ≤ i) → IsOutside (x ∷ places) i
     outside out h o (zero, l, e) = let P : ℕ → Type 0 = λ y. (i < y) ⊎ (y + 4 ≤ i) in subst P e h
     outside out h o (suc k, l, e) = out o (k, omega (arith, l), e)
 
-    by_place : IsWithin named i ⊎ IsOutside named i → (i < x) ⊎ (x ≤ i) → (i < x + 4) ⊎ (x + 4 ≤ i) → IsWithin (x ∷ named) i ⊎ IsOutside (x ∷ named) i
-    by_place (inl w) g h = inl (record { offset = w.offset; is_named = contains_more named x w.offset w.is_named; low = w.low; high = w.high })
+    by_place : IsWithin places i ⊎ IsOutside places i → (i < x) ⊎ (x ≤ i) → (i < x + 4) ⊎ (x + 4 ≤ i) → IsWithin (x ∷ places) i ⊎ IsOutside (x ∷ places) i
+    by_place (inl w) g h = inl (record { offset = w.offset; is_place = contains_more places x w.offset w.is_place; low = w.low; high = w.high })
     by_place (inr out) (inl less) h = inr (outside out (inl less))
     by_place (inr out) (inr le) (inr more) = inr (outside out (inr more))
-    by_place (inr out) (inr le) (inl less) = inl (record { offset = x; is_named = (0, omega arith, refl); low = le; high = less })
+    by_place (inr out) (inr le) (inl less) = inl (record { offset = x; is_place = (0, omega arith, refl); low = le; high = less })
 
 -- a byte of a long
 byte_in : (s : List ℕ) (o i : ℕ) → o ≤ i → i < o + 4 → get_or (take 4 (drop o s)) (i - o) 0 ≡ get_or s i 0
@@ -147,9 +147,9 @@ one_sum bases s pairs a b h x y =
     by_place : (i : ℕ) → IsWithin (offsets pairs) i ⊎ IsOutside (offsets pairs) i → get_or a i 0 ≡ get_or b i 0
     by_place i (inr out) = x.other i out ∙ sym (y.other i out)
     by_place i (inl w) =
-        let inside : w.offset + 4 ≤ length s = all_contained (λ o. o + 4 ≤ length s) pairs w.offset h w.is_named in
+        let inside : w.offset + 4 ≤ length s = all_contained (λ o. o + 4 ≤ length s) pairs w.offset h w.is_place in
         sym (byte_in a w.offset i w.low w.high)
-        ∙ ap (λ (l : List ℕ). get_or l (i - w.offset) 0) (same_bytes a b w.offset x.bytes y.bytes (omega (arith, x.size)) (x.size ∙ sym y.size) (x.named w.offset w.is_named ∙ sym (y.named w.offset w.is_named)))
+        ∙ ap (λ (l : List ℕ). get_or l (i - w.offset) 0) (same_bytes a b w.offset x.bytes y.bytes (omega (arith, x.size)) (x.size ∙ sym y.size) (x.at_offsets w.offset w.is_place ∙ sym (y.at_offsets w.offset w.is_place)))
         ∙ byte_in b w.offset i w.low w.high
 
 -- ---- of a hunk

@@ -15,7 +15,8 @@ use Rattle.hunk_blocks.specs.Begins.{first_long}
 use Rattle.hunk_blocks.specs.Reading.{BeginsWithNo}
 use Rattle.hunk_blocks.proofs.Lists.{flat_map-more}
 use Rattle.hunk_blocks.proofs.BlockPrefix.{block_same}
-use Rattle.hunk_files.specs.LoadFile.{Standing, Beside, Content, Relocating, Ending, standing, AreInOrder}
+use Rattle.hunk_files.specs.LoadFile.{standing, AreInOrder}
+use Rattle.hunk_scan.specs.Standings.{Standing, Beside, Content, Relocating, Ending}
 use Rattle.hunk_files.specs.ObjectFile.{IsNoObjectFile, ObjectHunk, UnitValue, ObjectFileValue, IsObjectHunk, IsUnit, IsObjectFile, unit_word, unit_header, unit_text, object_text}
 use Rattle.hunk_files.specs.ObjectParts.{BeginsWithText, EndsUnit}
 use Rattle.hunk_files.proofs.ObjectText.{Header, item_same}
@@ -29,7 +30,7 @@ take_bytes [] (suc n) fit i = omega arith
 take_bytes (b ∷ bytes) (suc n) fit zero = fit 0
 take_bytes (b ∷ bytes) (suc n) fit (suc i) = take_bytes bytes n (λ j. fit (suc j)) i
 
-two_words : (ws : List ℕ) → 2 ≤ length ws → ws ≡ get_or ws 0 0 ∷ get_or ws 1 0 ∷ drop 2 ws
+pub two_words : (ws : List ℕ) → 2 ≤ length ws → ws ≡ get_or ws 0 0 ∷ get_or ws 1 0 ∷ drop 2 ws
 two_words [] h = absurd (omega (arith, h))
 two_words (v ∷ []) h = absurd (omega (arith, h))
 two_words (v ∷ w ∷ ws) h = refl
@@ -79,11 +80,11 @@ object_starts : (us : ObjectFileValue) (rest : List ℕ) → StartsUnit rest →
 object_starts [] rest h = h
 object_starts (u ∷ us) rest h = refl
 
-unit_kind : kind unit_word ≡ kinds.Unit
+pub unit_kind : kind unit_word ≡ kinds.Unit
 unfolding kind
 unit_kind = refl
 
-no_kind : (word : ℕ) (body : BlockBody) → FitsWord word body → kind word ≡ kinds.Unit → ⊥
+pub no_kind : (word : ℕ) (body : BlockBody) → FitsWord word body → kind word ≡ kinds.Unit → ⊥
 no_kind word (Name ws) h e = cc
 no_kind word (Code top ws) h e = cc
 no_kind word (Data top ws) h e = cc
@@ -169,7 +170,7 @@ units_left (u ∷ us) (o ∷ os) x hu ho starts e =
 
 -- ---- a unit, hunk by hunk
 
-text_longs : (bytes : List ℕ) (us : ObjectFileValue) → AllByRecursion IsUnit us → bytes ≡ bytes_of (object_text us) → longs bytes ≡ object_text us
+pub text_longs : (bytes : List ℕ) (us : ObjectFileValue) → AllByRecursion IsUnit us → bytes ≡ bytes_of (object_text us) → longs bytes ≡ object_text us
 text_longs bytes us is e = ap longs (e ∙ sym (append-nil (bytes_of (object_text us)))) ∙ longs-bytes_of (object_text us) [] (object_longs us is) ∙ append-nil (object_text us)
 
 abbrev pub unit : List ℕ → List ObjectHunk → UnitValue

@@ -1,5 +1,5 @@
 -- A walk keeps what was read, as a value with its open end.
-use Rattle.std.proofs.Common.{◌≡◌, ℕ, zero, suc, ◌+◌, ◌-◌, ◌*◌, ◌<◌, ◌≤◌, Bool, true, false, List, [], ◌∷◌, ◌++◌, length, get_or, take, drop, refl, sym, ap, ap₂, subst, ◌∙◌, append_assoc, arith, Option, Some, None, if◌then◌else◌, ◌⊎◌, inl, inr}
+use Rattle.std.proofs.Common.{◌≡◌, ℕ, zero, suc, ◌+◌, ◌-◌, ◌*◌, ◌<◌, ◌≤◌, Bool, true, false, List, [], ◌∷◌, ◌++◌, length, get_or, take, drop, refl, sym, ap, ap₂, subst, ◌∙◌, append_assoc, arith, Some, None, if◌then◌else◌, ◌⊎◌, inl, inr}
 use Rattle.std.specs.List.{flat_map, AllByRecursion}
 use Rattle.std.proofs.lemmas.List.{length-append, length-map, length-take-le, length-drop, get_or_at, map-append, take_more, drop_more, take-append-drop, take_at, take_all, get_or-take}
 use Rattle.std.proofs.lemmas.List.Elements.{All-from_recursion}
@@ -13,28 +13,41 @@ use Rattle.hunk_words.specs.Bits.{size_longs, has_both_bits}
 use Rattle.hunk_words.proofs.LongLaws.{spelled, longs_fit, bytes_of-append, length-bytes_of, length-longs}
 use Rattle.hunk_blocks.proofs.Lists.{flat_map-more}
 use Rattle.hunk_files.specs.LoadFile.{TableEntry, LoadFileValue}
-use Rattle.hunk_files.specs.Roles.{Role, refuse, Role as roles}
-use Rattle.hunk_files.specs.LoadText.{words, entry_labelled, hunk_labelled, blocks_labelled}
+use Rattle.hunk_scan.specs.Roles.{Role, refuse, Role as roles}
+use Rattle.hunk_files.specs.LoadText.{words, entry_labelled, hunk_labelled, blocks_labelled, entries}
 use Rattle.hunk_files.specs.Fault.{HasFault, HasLoadText}
-use Rattle.hunk_files.specs.declared.load.stage.OpenHunk as numbers
-use Rattle.hunk_files.specs.declared.load.stage.Stage.{Stage}
-use Rattle.hunk_files.specs.declared.load.stage.Stage.TheVariants as stages
-use Rattle.hunk_files.specs.declared.load.stage.Next as leads
-use Rattle.hunk_files.specs.declared.load.stage.Next.TheVariants as nexts
-use Rattle.hunk_files.specs.declared.load.stage.Inside as inner
-use Rattle.hunk_files.specs.Stages.{stage_role, next_stage, opened, HasDeclared}
-use Rattle.hunk_files.proofs.FileText.{entries}
-use Rattle.hunk_files.proofs.FileSteps.{OpenHunk, Progress, AtFirst, AtBlock, InBody, Next, More, Finished, role_of, step}
+use Rattle.hunk_files.specs.declared.load.walk.Entry.{Entry}
+use Rattle.hunk_files.specs.Entries.{entry_behind, entry_at}
+use Rattle.hunk_scan.specs.declared.position.Position.{Position}
+use Rattle.hunk_scan.specs.declared.position.Position.TheVariants as positions
+use Rattle.hunk_scan.specs.Positions as scan
+use Rattle.hunk_scan.specs.Positions.{role_at, run, pass, is_between_hunks}
+use Rattle.hunk_files.specs.FileSteps.{OpenHunk, Progress, AtFirst, AtBlock, InBody, Next, More, Finished, role_of, step}
 use Rattle.hunk_files.proofs.FileProgress.{header_so_far, open_so_far}
-use Rattle.hunk_files.proofs.Runs.{Labelled}
-use Rattle.hunk_files.proofs.Reading.{HasRead, start_read, step_read, passing_from, next_after, read_refused, read_ended, read_truncated}
-use Rattle.hunk_files.proofs.Numbers.{inside_of, stage_of, body_stage, open_of, row_behind, IsAt, IsMore, GoesTo, Opening, OpensAt, IsEnd, Agrees, role_is, step_agrees}
+use Rattle.hunk_files.specs.WordsRead.{Labelled, HasRead}
+use Rattle.hunk_files.proofs.Reading.{reads, start_read, step_read, passing_from, read_refused, read_ended, read_truncated}
+use Rattle.hunk_files.proofs.Positions.{inside_open, Moves, MovesTo, refuse_same, step_position, not_done, step_moves, run_passes}
+use Rattle.hunk_files.specs.ReaderPosition.{open_of, block_phase, position_of, longs_of, opened}
+use Rattle.hunk_blocks.specs.Values.{BlockValue}
 
--- The walk is at a longword, of this stage.
-pub record StandsAt (bytes : List ℕ) (at : ℕ) (stage : Stage) : Type 0 where
+-- the longword behind these entries
+abbrev pub row_behind : List TableEntry → ℕ
+row_behind es = 5 + length (flat_map entry_labelled es)
+
+-- the longword at which the next entry stands
+abbrev pub row_of : Progress → ℕ
+row_of p = row_behind (opened p)
+
+-- the entry of the open hunk
+abbrev pub entry_of : Progress → Entry
+entry_of p = record { longs = longs_of p; next = row_of p }
+
+-- What the walk has read, up to a longword: it stands there, with the entry of the open hunk.
+pub record StandsAt (bytes : List ℕ) (at : ℕ) (position : Position) (entry : Entry) : Type 0 where
   pub progress : Progress
   pub has_read : HasRead (take at (longs bytes)) (More progress)
-  pub is : stage_of progress ≡ Some stage
+  pub position_is : position_of (More progress) ≡ position
+  pub entry_is : entry_of progress ≡ entry
 
 -- It has passed over all longwords, and the file goes on.
 pub record HasPassed (bytes : List ℕ) (at : ℕ) : Type 0 where
@@ -42,15 +55,15 @@ pub record HasPassed (bytes : List ℕ) (at : ℕ) : Type 0 where
   pub has_read : HasRead (longs bytes) (More progress)
   pub beyond : length (longs bytes) < at
 
-abbrev pub Walks : List ℕ → ℕ → Stage → Type 0
-Walks bytes at stage = StandsAt bytes at stage ⊎ HasPassed bytes at
+abbrev pub Walks : List ℕ → ℕ → Position → Entry → Type 0
+Walks bytes at position entry = StandsAt bytes at position entry ⊎ HasPassed bytes at
 
-pub start_walk : (bytes : List ℕ) → Walks bytes 0 stages.FirstLong
-start_walk bytes = inl (record { progress = AtFirst; has_read = start_read; is = refl })
+pub start_walk : (bytes : List ℕ) → Walks bytes 0 positions.FirstLong (record { longs = 0; next = 5 })
+start_walk bytes = inl (record { progress = AtFirst; has_read = start_read; position_is = refl; entry_is = refl })
 
-pub stands : (bytes : List ℕ) (at : ℕ) (stage : Stage) → Walks bytes at stage → at < length (longs bytes) → StandsAt bytes at stage
-stands bytes at stage (inl s) l = s
-stands bytes at stage (inr p) l = absurd (omega (arith, p.beyond, l))
+pub stands : (bytes : List ℕ) (at : ℕ) (position : Position) (entry : Entry) → Walks bytes at position entry → at < length (longs bytes) → StandsAt bytes at position entry
+stands bytes at position entry (inl s) l = s
+stands bytes at position entry (inr p) l = absurd (omega (arith, p.beyond, l))
 
 -- ---- longwords of bytes
 
@@ -107,7 +120,7 @@ module _ (ws : List ℕ) (o : OpenHunk) (h : HasRead ws (More (AtBlock o))) wher
   behind_length = omega (arith, length-map (header_so_far o.hunks (entries o.finished)) (λ (x : Role × ℕ). x.1))
 
   read_split : ws ≡ words (header_so_far o.hunks (entries o.finished)) ++ o.entry.word ∷ words (open_split o).0
-  read_split = sym h.all ∙ ap words (sym h.reads.1 ∙ (open_split o).1) ∙ map-append (λ (x : Role × ℕ). x.1) (header_so_far o.hunks (entries o.finished)) ((roles.SizeWord, o.entry.word) ∷ (open_split o).0)
+  read_split = sym h.all ∙ ap words (sym (reads h).1 ∙ (open_split o).1) ∙ map-append (λ (x : Role × ℕ). x.1) (header_so_far o.hunks (entries o.finished)) ((roles.SizeWord, o.entry.word) ∷ (open_split o).0)
 
   row_inside : row_behind (entries o.finished) < length ws
   row_inside =
@@ -139,75 +152,47 @@ row_after es e false h =
       ap (λ (b : Bool). let ls : Labelled = (roles.SizeWord, e.word) ∷ (if b then (roles.Attributes, e.extra) ∷ [] else []) in length ls) h,
     )
 
-same_open : (hunks longs ahead row hunks2 longs2 ahead2 row2 : ℕ) (c c2 : Bool) → hunks ≡ hunks2 → longs ≡ longs2 → c ≡ c2 → ahead ≡ ahead2 → row ≡ row2 →
-    (let a : numbers.OpenHunk = record { hunks = hunks; longs = longs; has_content = c; ahead = ahead; row = row } in a) ≡ record { hunks = hunks2; longs = longs2; has_content = c2; ahead = ahead2; row = row2 }
-same_open hunks longs ahead row hunks2 longs2 ahead2 row2 c c2 e1 e2 e3 e4 e5 = cc
-
-opened_is : (o : OpenHunk) (word hunks ahead row : ℕ) → word ≡ o.entry.word → Opening hunks ahead row o → open_of o ≡ opened word hunks ahead row
-opened_is o word hunks ahead row e x =
-    same_open o.hunks (size_longs o.entry.word) (length o.ahead) (row_behind (entries o.finished ++ o.entry ∷ [])) hunks (size_longs word) (ahead - 1) (if has_both_bits word then row + 2 else row + 1) o.has_content false
-    x.hunks_is
-    (ap size_longs (sym e))
-    x.content_is
-    (omega (arith, x.ahead_is))
-    (row_after (entries o.finished) o.entry (has_both_bits word) (ap has_both_bits (sym e)) ∙ ap (λ (r : ℕ). if has_both_bits word then r + 2 else r + 1) x.row_is)
+same_entry : (longs next longs' next' : ℕ) → longs ≡ longs' → next ≡ next' → (let e : Entry = record { longs = longs; next = next } in e) ≡ record { longs = longs'; next = next' }
+same_entry longs next longs' next' e f = cc
 
 -- ---- one more longword
 
-AreDeclared : Option Stage → Type 0
-AreDeclared (Some s) = HasDeclared s
-AreDeclared None = Unit {0}
+-- behind these longwords of the input, where the last was read at p
+module _ (all : List ℕ) (at : ℕ) (whole : at ≤ length all) (p : Progress) where
+  module _ (o : OpenHunk) (read : HasRead (take at all) (More (AtBlock o))) where
+    opens_inside : row_behind (entries o.finished) ≡ row_of p → row_of p < at
+    opens_inside e = omega (arith, e, row_inside (take at all) o read, length-take-le at all whole)
 
-declared : (p : Progress) → AreDeclared (stage_of p)
-unfolding AreDeclared
-declared (AtBlock o) = omega arith
-declared (InBody o word x) = go (inside_of x)
-  where
-    go : (y : Option inner.Inside) → AreDeclared (body_stage (open_of o) y)
-    go (Some y) = omega arith
-    go None = tt
-declared _ = tt
+    opened_entry : row_behind (entries o.finished) ≡ row_of p → entry_of (AtBlock o) ≡ entry_behind (get_or all (row_of p) 0) (row_of p)
+    opened_entry e =
+        let word : o.entry.word ≡ get_or all (row_of p) 0 =
+        sym (row_word (take at all) o read)
+        ∙ ap (λ (r : ℕ). get_or (take at all) r 0) e
+        ∙ get_or-take at all (row_of p) 0 (opens_inside e) in
+        let extra = has_both_bits (get_or all (row_of p) 0) in
+        same_entry (size_longs o.entry.word) (row_behind (entries o.finished ++ o.entry ∷ [])) (size_longs (get_or all (row_of p) 0)) (if extra then row_of p + 2 else row_of p + 1)
+        (ap size_longs word)
+        (row_after (entries o.finished) o.entry extra (ap has_both_bits word) ∙ ap (λ (r : ℕ). if extra then r + 2 else r + 1) e)
 
-pub has_declared : (bytes : List ℕ) (at : ℕ) (stage : Stage) → StandsAt bytes at stage → HasDeclared stage
-unfolding AreDeclared
-has_declared bytes at stage s = subst AreDeclared s.is (declared s.progress)
+    block_entry : (blocks : List BlockValue) → MovesTo p o blocks →
+        (is_between_hunks (positions.Body (open_of o) (block_phase blocks)) ≡ true → row_of p < at)
+        × (entry_of (AtBlock o) ≡ entry_at all (positions.Body (open_of o) (block_phase blocks)) (entry_of p))
+    block_entry [] m = let e = ap row_behind m in ((λ b. opens_inside e), opened_entry e)
+    block_entry (b ∷ blocks) m = ((λ e. absurd cc), same_entry _ _ _ _ m.0 (ap row_behind m.1))
 
-pub record Came (ws : List ℕ) (stage : Stage) : Type 0 where
-  pub progress : Progress
-  pub has_read : HasRead ws (More progress)
-  pub is : stage_of progress ≡ Some stage
+  entry_now : (q : Progress) → HasRead (take at all) (More q) → Moves p (More q) → (is_between_hunks (position_of (More q)) ≡ true → row_of p < at) × (entry_of q ≡ entry_at all (position_of (More q)) (entry_of p))
+  entry_now (AtBlock o) h m = block_entry o h o.blocks m
+  entry_now (InBody o word x) h m =
+      let in_hunk = inside_open x (open_of o) in (
+        (λ e. absurd (cc (in_hunk, e))),
+        same_entry _ _ _ _ m.0 (ap row_behind m.1) ∙ ap (λ (b : Bool). if b then entry_behind (get_or all (row_of p) 0) (row_of p) else entry_of p) (sym in_hunk),
+      )
+  entry_now _ h m = ((λ e. absurd cc), same_entry _ _ _ _ m.0 (ap row_behind m.1))
 
-came : (ws : List ℕ) (stage : Stage) (n : Next) → HasRead ws n → IsAt stage n → Came ws stage
-came ws stage (More p) h g = record { progress = p; has_read = h; is = g }
-came ws stage (Finished v) h g = absurd g
+-- ---- runs
 
-pub record GoesOn (ws : List ℕ) : Type 0 where
-  pub progress : Progress
-  pub has_read : HasRead ws (More progress)
-
-goes_on : (ws : List ℕ) (n : Next) → HasRead ws n → IsMore n → GoesOn ws
-goes_on ws (More p) h m = record { progress = p; has_read = h }
-goes_on ws (Finished v) h m = absurd m
-
-pub record Opened (ws : List ℕ) (hunks ahead row : ℕ) : Type 0 where
-  pub hunk : OpenHunk
-  pub has_read : HasRead ws (More (AtBlock hunk))
-  pub opening : Opening hunks ahead row hunk
-
-opens : (ws : List ℕ) (hunks ahead row : ℕ) (n : Next) → HasRead ws n → OpensAt hunks ahead row n → Opened ws hunks ahead row
-opens ws hunks ahead row (More (AtBlock o)) h x = record { hunk = o; has_read = h; opening = x }
-opens ws hunks ahead row _ h x = absurd x
-
-pub record Ended (ws : List ℕ) : Type 0 where
-  pub value : LoadFileValue
-  pub has_read : HasRead ws (Finished value)
-
-ends : (ws : List ℕ) (n : Next) → HasRead ws n → IsEnd n → Ended ws
-ends ws (More p) h x = absurd x
-ends ws (Finished v) h x = record { value = v; has_read = h }
-
--- so many longwords are passed over
-module _ (bytes : List ℕ) (fit : IsBytes bytes) (at : ℕ) (n : Next) (h : HasRead (take at (longs bytes)) n) (inside : at ≤ length (longs bytes)) (skip : ℕ) (next : Stage) (g : GoesTo skip next n) where
+-- a run is passed over at once
+module _ (bytes : List ℕ) (fit : IsBytes bytes) (at : ℕ) (position : Position) (entry : Entry) (s : StandsAt bytes at position entry) (inside : at ≤ length (longs bytes)) where
   rest : List ℕ
   rest = drop at (longs bytes)
 
@@ -215,50 +200,55 @@ module _ (bytes : List ℕ) (fit : IsBytes bytes) (at : ℕ) (n : Next) (h : Has
   unfolding rest
   rest_fits = All-drop IsLong at (longs bytes) (longs_fit bytes fit)
 
-  skip_some : at + skip ≤ length (longs bytes) → StandsAt bytes (at + skip) next
+  run_read : (ws : List ℕ) → AreLongs ws → length ws ≤ run position → (q : Progress) × HasRead (take at (longs bytes) ++ ws) (More q) × (position_of (More q) ≡ scan.pass position (length ws)) × (entry_of q ≡ entry)
+  run_read ws l few =
+      let r = run_passes s.progress ws (subst (λ (p : Position). length ws ≤ run p) (sym s.position_is) few) in
+      let read = passing_from (take at (longs bytes)) (More s.progress) ws s.has_read l r.passes in (
+        r.next,
+        subst (λ (n : Next). HasRead (take at (longs bytes) ++ ws) n) r.leads read,
+        r.position_is ∙ ap (λ (p : Position). scan.pass p (length ws)) s.position_is,
+        same_entry _ _ _ _ r.stays.0 (ap row_behind r.stays.1) ∙ s.entry_is,
+      )
+
+  pass_some : at + run position ≤ length (longs bytes) → StandsAt bytes (at + run position) (scan.pass position (run position)) entry
   unfolding rest
-  skip_some some =
-      let many : length (take skip rest) ≡ skip = length-take-le skip rest (omega (arith, length-drop at (longs bytes), some)) in
-      let r = g.whole (take skip rest) many in
-      let read = passing_from (take at (longs bytes)) n (take skip rest) h (All-take IsLong skip rest rest_fits) r.1 in
-      let c = came (take at (longs bytes) ++ take skip rest) next (next_after n (take skip rest)) read r.0 in
+  pass_some some =
+      let many : length (take (run position) rest) ≡ run position = length-take-le (run position) rest (omega (arith, length-drop at (longs bytes), some)) in
+      let r = run_read (take (run position) rest) (All-take IsLong (run position) rest rest_fits) (omega (arith, many)) in
       record {
-        progress = c.progress;
-        has_read = subst (λ (ws : List ℕ). HasRead ws (More c.progress)) (sym (take-add at skip (longs bytes) inside)) c.has_read;
-        is = c.is;
+        progress = r.0;
+        has_read = subst (λ (ws : List ℕ). HasRead ws (More r.0)) (sym (take-add at (run position) (longs bytes) inside)) r.1;
+        position_is = r.2 ∙ ap (λ (n : ℕ). scan.pass position n) many;
+        entry_is = r.3;
       }
 
-  skip_all : length (longs bytes) < at + skip → HasPassed bytes (at + skip)
+  pass_all : length (longs bytes) < at + run position → HasPassed bytes (at + run position)
   unfolding rest
-  skip_all beyond =
-      let r = g.short rest (omega (arith, length-drop at (longs bytes), inside, beyond)) in
-      let read = passing_from (take at (longs bytes)) n rest h rest_fits r.1 in
-      let c = goes_on (take at (longs bytes) ++ rest) (next_after n rest) read r.0 in
-      record {
-        progress = c.progress;
-        has_read = subst (λ (ws : List ℕ). HasRead ws (More c.progress)) (take-append-drop at (longs bytes)) c.has_read;
-        beyond = beyond;
-      }
+  pass_all beyond =
+      let r = run_read rest rest_fits (omega (arith, length-drop at (longs bytes), inside, beyond)) in
+      record { progress = r.0; has_read = subst (λ (ws : List ℕ). HasRead ws (More r.0)) (take-append-drop at (longs bytes)) r.1; beyond = beyond }
 
-  pub skips : Walks bytes (at + skip) next
-  skips = elim (cases_lt (length (longs bytes)) (at + skip)) [ inl beyond ↦ inr (skip_all beyond) | inr some ↦ inl (skip_some some) ]
+  pub passes_over : Walks bytes (at + run position) (scan.pass position (run position)) entry
+  passes_over = elim (cases_lt (length (longs bytes)) (at + run position)) [ inl beyond ↦ inr (pass_all beyond) | inr some ↦ inl (pass_some some) ]
 
-module _ (bytes : List ℕ) (fit : IsBytes bytes) (at : ℕ) (stage : Stage) (s : StandsAt bytes at stage) (l : at < length (longs bytes)) where
-  role_here : role_of s.progress ≡ stage_role stage
-  role_here = role_is s.progress stage s.is
+module _ (bytes : List ℕ) (fit : IsBytes bytes) (at : ℕ) (position : Position) (entry : Entry) (s : StandsAt bytes at position entry) (l : at < length (longs bytes)) where
+  refusal_here : refuse (role_of s.progress) (get_or (longs bytes) at 0) ≡ refuse (role_at entry.longs position) (get_or (longs bytes) at 0)
+  refusal_here =
+      refuse_same s.progress (get_or (longs bytes) at 0) (reads s.has_read).0
+      ∙ ap₂ (λ (e : Entry) (p : Position). refuse (role_at e.longs p) (get_or (longs bytes) at 0)) s.entry_is s.position_is
 
-  pub walk_refused : (reason : Reason) → Some reason ≡ refuse (stage_role stage) (get_or (longs bytes) at 0) → HasFault bytes (4 * at) reason
+  pub walk_refused : (reason : Reason) → Some reason ≡ refuse (role_at entry.longs position) (get_or (longs bytes) at 0) → HasFault bytes (4 * at) reason
   walk_refused reason e =
       let ws = longs bytes in
       let P : ℕ → Type 0 = λ n. HasFault bytes (4 * n) reason in
       subst P (length-take-le at ws (omega (arith, l)))
       (inl (read_refused bytes (take at ws) s.progress (get_or ws at 0) (drop (at + 1) ws) reason s.has_read
       (sym (take-append-drop at ws) ∙ ap (λ (r : List ℕ). take at ws ++ r) (drop_more ws at 0 l))
-      (ap (λ (r : Role). refuse r (get_or ws at 0)) role_here ∙ sym e)))
+      (refusal_here ∙ sym e)))
 
-  module _ (pass : None ≡ refuse (stage_role stage) (get_or (longs bytes) at 0)) where
+  module _ (pass : None ≡ refuse (role_at entry.longs position) (get_or (longs bytes) at 0)) where
     accepted : refuse (role_of s.progress) (get_or (longs bytes) at 0) ≡ None
-    accepted = ap (λ (r : Role). refuse r (get_or (longs bytes) at 0)) role_here ∙ sym pass
+    accepted = refusal_here ∙ sym pass
 
     read_on : HasRead (take (at + 1) (longs bytes)) (step s.progress (get_or (longs bytes) at 0))
     read_on =
@@ -266,61 +256,60 @@ module _ (bytes : List ℕ) (fit : IsBytes bytes) (at : ℕ) (stage : Stage) (s 
         let P : List ℕ → Type 0 = λ r. HasRead r (step s.progress (get_or ws at 0)) in
         subst P (sym (take_more ws at 0 l)) (step_read (take at ws) s.progress (get_or ws at 0) s.has_read (All-from_recursion IsLong ws (longs_fit bytes fit) at 0 l) accepted)
 
-    agrees_on : (next : leads.Next) → next ≡ next_stage stage (get_or (longs bytes) at 0) → Agrees next (step s.progress (get_or (longs bytes) at 0))
-    agrees_on next e =
-        let n = step s.progress (get_or (longs bytes) at 0) in
-        let P : leads.Next → Type 0 = λ k. Agrees k n in
-        subst P (sym e) (step_agrees s.progress stage (get_or (longs bytes) at 0) s.is s.has_read.reads.0 accepted)
+    position_on : position_of (step s.progress (get_or (longs bytes) at 0)) ≡ scan.step position (get_or (longs bytes) at 0)
+    position_on =
+        step_position s.progress (get_or (longs bytes) at 0) (reads s.has_read).0 accepted
+        ∙ ap (λ (p : Position). scan.step p (get_or (longs bytes) at 0)) s.position_is
 
-    pub walk_goes : (skip : ℕ) (next : Stage) → nexts.Goes skip next ≡ next_stage stage (get_or (longs bytes) at 0) → Walks bytes (at + (1 + skip)) next
-    walk_goes skip next e =
-        let P : ℕ → Type 0 = λ i. Walks bytes i next in
-        let place : at + 1 + skip ≡ at + (1 + skip) = omega arith in
-        subst P place (skips bytes fit (at + 1) (step s.progress (get_or (longs bytes) at 0)) read_on (omega (arith, l)) skip next (agrees_on (nexts.Goes skip next) e))
+    pub walk_ends : positions.Done ≡ scan.step position (get_or (longs bytes) at 0) → HasLoadText bytes (4 * (at + 1))
+    walk_ends e = go (step s.progress (get_or (longs bytes) at 0)) read_on (position_on ∙ sym e)
+      where
+        text_ends : (v : LoadFileValue) → HasRead (take (at + 1) (longs bytes)) (Finished v) → HasLoadText bytes (4 * (at + 1))
+        text_ends v h =
+            let r = read_ended (take (at + 1) (longs bytes)) v h in
+            record {
+              value = v;
+              is_load_file = r.0;
+              text_is = bytes_before bytes (at + 1) fit (omega (arith, l)) ∙ ap bytes_of (sym r.1);
+              whole = omega (arith, l, length-longs bytes);
+            }
 
-    opened_on : (hunks ahead row : ℕ) → nexts.Opens hunks ahead row ≡ next_stage stage (get_or (longs bytes) at 0) → Opened (take (at + 1) (longs bytes)) hunks ahead row
-    opened_on hunks ahead row e = opens (take (at + 1) (longs bytes)) hunks ahead row (step s.progress (get_or (longs bytes) at 0)) read_on (agrees_on (nexts.Opens hunks ahead row) e)
+        go : (n : Next) → HasRead (take (at + 1) (longs bytes)) n → position_of n ≡ positions.Done → HasLoadText bytes (4 * (at + 1))
+        go (Finished v) h d = text_ends v h
+        go (More p) h d = absurd (not_done p d)
 
-    row_here : (hunks ahead row : ℕ) → nexts.Opens hunks ahead row ≡ next_stage stage (get_or (longs bytes) at 0) → row < at + 1
-    row_here hunks ahead row e =
-        let x = opened_on hunks ahead row e in
-        omega (arith, row_inside (take (at + 1) (longs bytes)) x.hunk x.has_read, x.opening.row_is, length-take-le (at + 1) (longs bytes) (omega (arith, l)))
+    -- the walk goes on
+    abbrev Onward : Type 0
+    Onward =
+        let behind = scan.step position (get_or (longs bytes) at 0) in
+        (is_between_hunks behind ≡ true → entry.next < at + 1) × StandsAt bytes (at + 1) behind (entry_at (longs bytes) behind entry)
 
-    pub row_fits : (hunks ahead row : ℕ) → nexts.Opens hunks ahead row ≡ next_stage stage (get_or (longs bytes) at 0) → 4 * row + 4 ≤ length bytes
-    row_fits hunks ahead row e = omega (arith, row_here hunks ahead row e, l, length-longs bytes)
+    walk_on : (scan.step position (get_or (longs bytes) at 0) ≡ positions.Done → ⊥) → Onward
+    walk_on more = go (step s.progress (get_or (longs bytes) at 0)) read_on (step_moves s.progress (get_or (longs bytes) at 0)) position_on
+      where
+        go : (n : Next) → HasRead (take (at + 1) (longs bytes)) n → Moves s.progress n → position_of n ≡ scan.step position (get_or (longs bytes) at 0) → Onward
+        go (Finished v) h m e = absurd (more (sym e))
+        go (More q) h m e =
+            let x = entry_now (longs bytes) (at + 1) (omega (arith, l)) s.progress q h m in
+            let P : Position → Entry → Type 0 = λ p b. (is_between_hunks p ≡ true → b.next < at + 1) × (entry_of q ≡ entry_at (longs bytes) p b) in
+            let y = subst (λ (b : Entry). P (scan.step position (get_or (longs bytes) at 0)) b) s.entry_is (subst (λ (p : Position). P p (entry_of s.progress)) e x) in
+            (y.0, record { progress = q; has_read = h; position_is = e; entry_is = y.1 })
 
-    pub some_ahead : (hunks ahead row : ℕ) → nexts.Opens hunks ahead row ≡ next_stage stage (get_or (longs bytes) at 0) → 0 < ahead
-    some_ahead hunks ahead row e = omega (arith, (opened_on hunks ahead row e).opening.ahead_is)
+    -- The entry of a hunk that opens was read.
+    pub entry_fits : (scan.step position (get_or (longs bytes) at 0) ≡ positions.Done → ⊥) → is_between_hunks (scan.step position (get_or (longs bytes) at 0)) ≡ true → 4 * entry.next + 4 ≤ length bytes
+    entry_fits more between = omega (arith, (walk_on more).0 between, l, length-longs bytes)
 
-    pub walk_opens : (hunks ahead row : ℕ) → nexts.Opens hunks ahead row ≡ next_stage stage (get_or (longs bytes) at 0) →
-        Walks bytes (at + 1) (stages.BlockWord (opened (get_or (longs bytes) row 0) hunks ahead row))
-    walk_opens hunks ahead row e =
-        let x = opened_on hunks ahead row e in
-        let word : get_or (longs bytes) row 0 ≡ x.hunk.entry.word =
-        sym (get_or-take (at + 1) (longs bytes) row 0 (row_here hunks ahead row e))
-        ∙ ap (λ (r : ℕ). get_or (take (at + 1) (longs bytes)) r 0) (sym x.opening.row_is)
-        ∙ row_word (take (at + 1) (longs bytes)) x.hunk x.has_read
-        in
-        inl (record {
-          progress = AtBlock x.hunk;
-          has_read = x.has_read;
-          is = ap (λ (o : numbers.OpenHunk). Some (stages.BlockWord o)) (opened_is x.hunk (get_or (longs bytes) row 0) hunks ahead row word x.opening);
-        })
-
-    pub walk_ends : nexts.Ends ≡ next_stage stage (get_or (longs bytes) at 0) → HasLoadText bytes (4 * (at + 1))
-    walk_ends e =
-        let x = ends (take (at + 1) (longs bytes)) (step s.progress (get_or (longs bytes) at 0)) read_on (agrees_on nexts.Ends e) in
-        let r = read_ended (take (at + 1) (longs bytes)) x.value x.has_read in
-        record {
-          value = x.value;
-          is_load_file = r.0;
-          text_is = bytes_before bytes (at + 1) fit (omega (arith, l)) ∙ ap bytes_of (sym r.1);
-          whole = omega (arith, l, length-longs bytes);
-        }
+    pub walk_passes : (scan.step position (get_or (longs bytes) at 0) ≡ positions.Done → ⊥) →
+        (let behind = scan.step position (get_or (longs bytes) at 0) in Walks bytes (at + (1 + run behind)) (scan.pass behind (run behind)) (entry_at (longs bytes) behind entry))
+    walk_passes more =
+        let behind = scan.step position (get_or (longs bytes) at 0) in
+        let place : at + 1 + run behind ≡ at + (1 + run behind) = omega arith in
+        let P : ℕ → Type 0 = λ i. Walks bytes i (scan.pass behind (run behind)) (entry_at (longs bytes) behind entry) in
+        subst P place (passes_over bytes fit (at + 1) behind (entry_at (longs bytes) behind entry) (walk_on more).1 (omega (arith, l)))
 
 -- All longwords were read, and the file goes on.
-pub walk_truncated : (bytes : List ℕ) (at : ℕ) (stage : Stage) → Walks bytes at stage → length (longs bytes) ≤ at → HasFault bytes (4 * length (longs bytes)) reasons.Truncated
-walk_truncated bytes at stage (inl s) l =
+pub walk_truncated : (bytes : List ℕ) (at : ℕ) (position : Position) (entry : Entry) → Walks bytes at position entry → length (longs bytes) ≤ at → HasFault bytes (4 * length (longs bytes)) reasons.Truncated
+walk_truncated bytes at position entry (inl s) l =
     let P : List ℕ → Type 0 = λ ws. HasRead ws (More s.progress) in
     inr (refl, read_truncated bytes s.progress (subst P (take_all at (longs bytes) l) s.has_read))
-walk_truncated bytes at stage (inr p) l = inr (refl, read_truncated bytes p.progress p.has_read)
+walk_truncated bytes at position entry (inr p) l = inr (refl, read_truncated bytes p.progress p.has_read)

@@ -6,7 +6,7 @@ use Rattle.hunk_words.specs.declared.reason.Reason.TheVariants as reasons
 use Rattle.hunk_words.specs.Longs.{longs, bytes_of}
 use Rattle.hunk_blocks.specs.Parts.{Part as parts}
 use Rattle.hunk_files.specs.LoadFile.{LoadFileValue, IsLoadFile}
-use Rattle.hunk_files.specs.Roles.{Role, Role as roles, InBlock, refuse}
+use Rattle.hunk_scan.specs.Roles.{Role, Role as roles, InBlock, refuse}
 use Rattle.hunk_files.specs.LoadText.{labelled, words, text}
 
 -- Some load text begins with these longwords, and then has a longword of this role.

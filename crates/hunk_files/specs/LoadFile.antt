@@ -1,11 +1,13 @@
 -- Load-file values.
 use Rattle.std.specs.Prelude.{◌≡◌, ℕ, ◌+◌, ◌*◌, ◌<◌, ◌≤◌, Bool, true, false, List, [], ◌∷◌, length, map, ⊤, IsFalse}
 use Rattle.std.specs.List.{AllByRecursion}
+use Rattle.hunk_words.specs.Limits.{most_hunks}
 use Rattle.hunk_words.specs.Longs.{IsLong}
 use Rattle.hunk_words.specs.Bits.{size_longs, has_both_bits}
 use Rattle.hunk_blocks.specs.declared.mode.Mode.TheVariants as modes
 use Rattle.hunk_blocks.specs.Values.{RelocGroup, BlockBody, BlockValue, Name, Code, Data, Bss, Reloc, Ext, Symbol, Debug, Advisory, End, IsBlock}
 use Rattle.hunk_blocks.specs.Modes.{IsOfMode}
+use Rattle.hunk_scan.specs.Standings.{Standing, Beside, Content, Relocating, Ending}
 
 -- A size word of the table, and the memory attributes where both of its memory bits are set, else 0.
 pub record TableEntry : Type 0 where
@@ -25,13 +27,7 @@ declared_longs h = size_longs h.entry.word
 abbrev pub IsTableEntry : TableEntry → Type 0
 IsTableEntry e = IsLong e.word × IsLong e.extra × (IsFalse (has_both_bits e.word) → e.extra ≡ 0)
 
--- Where a block may stand in a hunk.
-pub data Standing : Type 0 where
-  Beside : Standing
-  Content : Standing
-  Relocating : Standing
-  Ending : Standing
-
+-- where a block may stand in its hunk
 abbrev pub standing : BlockBody → Standing
 standing (Name words) = Beside
 standing (Code top words) = Content
@@ -43,10 +39,6 @@ standing (Symbol entries) = Beside
 standing (Debug words) = Beside
 standing (Advisory words) = Beside
 standing End = Ending
-
-abbrev pub is_content : Standing → Bool
-is_content Content = true
-is_content _ = false
 
 -- One content block, relocations only after it, and END last. The flag tells whether the content block came before.
 abbrev pub AreInOrder : Bool → List Standing → Type 0
@@ -86,5 +78,5 @@ pub record IsHunk (hunks : ℕ) (h : HunkValue) : Type 0 where
 
 pub record IsLoadFile (v : LoadFileValue) : Type 0 where
   pub some : 0 < length v
-  pub most : length v ≤ 65536
+  pub most : length v ≤ most_hunks
   pub each : AllByRecursion (IsHunk (length v)) v

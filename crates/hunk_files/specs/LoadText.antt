@@ -4,8 +4,9 @@ use Rattle.std.specs.List.{flat_map}
 use Rattle.hunk_words.specs.Bits.{has_both_bits}
 use Rattle.hunk_blocks.specs.Values.{BlockValue}
 use Rattle.hunk_blocks.specs.Parts.{block_parts}
-use Rattle.hunk_files.specs.LoadFile.{TableEntry, HunkValue, LoadFileValue, declared_longs, standing, is_content}
-use Rattle.hunk_files.specs.Roles.{Place, Role, FirstLong, ResidentName, TableSize, FirstHunk, LastHunk, SizeWord, Attributes, InBlock}
+use Rattle.hunk_files.specs.LoadFile.{TableEntry, HunkValue, LoadFileValue, declared_longs, standing}
+use Rattle.hunk_scan.specs.Standings.{is_content}
+use Rattle.hunk_scan.specs.Roles.{Place, Role, FirstLong, ResidentName, TableSize, FirstHunk, LastHunk, SizeWord, Attributes, InBlock}
 
 abbrev pub entry_labelled : TableEntry → List (Role × ℕ)
 entry_labelled e = (SizeWord, e.word) ∷ (if has_both_bits e.word then (Attributes, e.extra) ∷ [] else [])
@@ -29,8 +30,12 @@ blocks_labelled hunks longs has_content (b ∷ rest) =
 abbrev pub hunk_labelled : ℕ → HunkValue → List (Role × ℕ)
 hunk_labelled hunks h = blocks_labelled hunks (declared_longs h) false h.blocks
 
+-- what the table has of hunks
+abbrev pub entries : List HunkValue → List TableEntry
+entries hunks = map (λ h. h.entry) hunks
+
 abbrev pub table : LoadFileValue → List TableEntry
-table v = map (λ h. h.entry) v
+table v = entries v
 
 -- The longwords of a load file, each with its role: the header, then the blocks of each hunk.
 unfoldable pub labelled : LoadFileValue → List (Role × ℕ)

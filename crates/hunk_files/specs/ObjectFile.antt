@@ -1,6 +1,7 @@
 -- Object-file values and their text.
 use Rattle.std.specs.Prelude.{◌≡◌, ℕ, ◌^◌, ◌<◌, Bool, true, false, List, ◌∷◌, ◌++◌, length, map}
 use Rattle.std.specs.List.{flat_map, AllByRecursion}
+use Rattle.hunk_words.specs.Limits.{name_limit}
 use Rattle.hunk_words.specs.declared.reason.Reason.{Reason}
 use Rattle.hunk_words.specs.declared.reason.Reason.TheVariants as reasons
 use Rattle.hunk_words.specs.Longs.{bytes_of}
@@ -26,7 +27,7 @@ pub record IsObjectHunk (h : ObjectHunk) : Type 0 where
   pub order : AreInOrder false (map (λ b. standing b.body) h)
 
 pub record IsUnit (u : UnitValue) : Type 0 where
-  pub name : IsPayload (2 ^ 24) u.name
+  pub name : IsPayload name_limit u.name
   pub hunks : AllByRecursion IsObjectHunk u.hunks
 
 pub record IsObjectFile (o : ObjectFileValue) : Type 0 where

@@ -16,14 +16,14 @@ added bases pairs offset = sum_by (λ pair. if pair.0 == offset then get_or base
 
 -- The byte is in none of the longs at the offsets.
 abbrev pub IsOutside : List ℕ → ℕ → Type 0
-IsOutside named i = (o : ℕ) → Contains named o → (i < o) ⊎ (o + 4 ≤ i)
+IsOutside places i = (o : ℕ) → Contains places o → (i < o) ⊎ (o + 4 ≤ i)
 
 -- The long at each offset is that of the content plus the bases of all its targets, and every other byte is the
 -- content's.
 pub record IsSum (bases content : List ℕ) (pairs : List (ℕ × ℕ)) (memory : List ℕ) : Type 0 where
   pub bytes : IsBytes memory
   pub size : length memory ≡ length content
-  pub named : (o : ℕ) → Contains (offsets pairs) o → long_at memory o ≡ (long_at content o + added bases pairs o) % 2 ^ 32
+  pub at_offsets : (o : ℕ) → Contains (offsets pairs) o → long_at memory o ≡ (long_at content o + added bases pairs o) % 2 ^ 32
   pub other : (i : ℕ) → IsOutside (offsets pairs) i → get_or memory i 0 ≡ get_or content i 0
 
 -- The sum image of a hunk, where the hunks lie at these bases.

@@ -4,13 +4,14 @@ ghost use Rattle.std.specs.List.{AllByRecursion};
 ghost use Rattle.hunk_words.specs.Longs.{IsLong, IsBytes};
 ghost use Rattle.hunk_words.specs.declared.reason.Reason.{Reason};
 ghost use Rattle.hunk_files.specs.LoadFile.{HunkValue, LoadFileValue, IsHunk, IsLoadFile};
-ghost use Rattle.hunk_files.specs.Roles.{Role, refuse};
+ghost use Rattle.hunk_scan.specs.Roles.{Role, refuse};
 ghost use Rattle.hunk_files.specs.LoadText.{labelled, table, text};
 ghost use Rattle.hunk_files.specs.Fault.{Expects, IsCompleted, BeginsWithLoadFile, HasRefusal, IsTruncated, HasFault, is_word_refusal};
 ghost use Rattle.hunk_files.specs.Image.{content, relocations, offsets, image};
 ghost use Rattle.hunk_files.specs.Overlap.{AreApart};
 ghost use Rattle.hunk_files.specs.SumImage.{IsSumImage};
-ghost use Rattle.hunk_files.specs.ObjectFile.{ObjectFileValue, IsObjectFile, object_text};
+ghost use Rattle.hunk_files.specs.ObjectFile.{ObjectFileValue, IsNoObjectFile, IsObjectFile, object_text};
+ghost use Rattle.hunk_files.specs.ObjectFault.{HasObjectFault};
 ghost use Rattle.hunk_files.specs.Findings.{findings};
 ghost use Rattle.hunk_files.specs.Strip.{strip_file, strip_object};
 
@@ -80,4 +81,13 @@ pub fn object_value()
 pub fn strip_findings()
     ensures value { (o : ObjectFileValue) → IsObjectFile o → IsObjectFile (strip_object o) }
     ensures findings { (o : ObjectFileValue) → findings (strip_object o) ≡ findings o }
+{}
+
+/// Bytes have at most one fault as an object file, and none where they are one.
+pub fn object_fault()
+    ensures one { (bytes : List ℕ) (at at2 : ℕ) (reason reason2 : Reason) →
+        HasObjectFault bytes at reason → HasObjectFault bytes at2 reason2 →
+        (at ≡ at2) × (reason ≡ reason2) }
+    ensures none { (bytes : List ℕ) (at : ℕ) (reason : Reason) →
+        HasObjectFault bytes at reason → IsNoObjectFile bytes }
 {}

@@ -1,7 +1,6 @@
 //! Load files and object files of the Amiga, read from bytes and written to them.
 #![tactic(auto)]
 
-mod file_kind;
 pub mod laws;
 mod load;
 mod object;
@@ -12,8 +11,8 @@ mod sniffing;
 mod tests;
 mod writing;
 
-pub use crate::file_kind::Sniff;
 pub use crate::load::{ImageFault, LoadFile};
 pub use crate::object::{Finding, FindingKind, Findings, Hunk, ObjectFile, Unit};
 pub use crate::row::Row;
 pub use crate::sniffing::sniff;
+pub use hunk_scan::Sniff;

@@ -4,8 +4,6 @@ mod file;
 mod hunk;
 mod image;
 mod overlap;
-mod refusal;
-mod stage;
 mod strip;
 mod table;
 mod walk;

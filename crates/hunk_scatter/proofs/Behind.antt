@@ -1,17 +1,18 @@
 -- Behind the header no longword has the role of a size word, and before its end none is refused that a header has there.
-use Rattle.std.proofs.Common.{◌≡◌, ℕ, List, [], ◌∷◌, ◌++◌, length, sym, ap, subst, ◌∙◌, append_assoc, None}
+use Rattle.std.proofs.Common.{◌≡◌, ℕ, List, [], ◌∷◌, ◌++◌, length, refl, sym, ap, subst, ◌∙◌, append_assoc, None}
 use Rattle.std.proofs.lemmas.List.{map-append}
 use Rattle.hunk_files.specs.Fault.{Expects}
 use Rattle.hunk_files.specs.LoadFile.{TableEntry}
 use Rattle.hunk_files.specs.LoadText.{words, text}
-use Rattle.hunk_files.specs.Roles.{Role, Role as roles, refuse}
-use Rattle.hunk_files.proofs.FileSteps.{Progress, AtFirst, AtBlock, InBody, Next, More, Finished, open_hunk, role_of, step, Leads}
-use Rattle.hunk_files.proofs.Reading.{HasRead, read_passes}
-use Rattle.hunk_files.proofs.Runs.{Labelled, Leads-split, Leads-same}
+use Rattle.hunk_scan.specs.Roles.{Role, Role as roles, refuse}
+use Rattle.hunk_files.specs.FileSteps.{Progress, AtFirst, AtBlock, InBody, Next, More, Finished, open_hunk, role_of, step, Leads}
+use Rattle.hunk_files.proofs.Reading.{reads, rest_read, read_passes}
+use Rattle.hunk_files.specs.WordsRead.{HasRead, Labelled}
+use Rattle.hunk_files.proofs.Runs.{Leads-split, Leads-same}
 use Rattle.hunk_files.proofs.Scan.{expected_place, expects_of, words_split, one_role}
-use Rattle.hunk_scatter.specs.Headers.{IsTable, header_words}
-use Rattle.hunk_scatter.specs.Loading.{IsBehindHeader}
-use Rattle.hunk_scatter.specs.Standing.{IsInBody}
+use Rattle.hunk_scatter.specs.HeaderBytes.{IsTable, header_words}
+use Rattle.hunk_scatter.specs.BodyLoaderFields.{IsBehindHeader}
+use Rattle.hunk_scatter.specs.BodyReader.{IsInBody}
 use Rattle.hunk_scatter.proofs.Forget.{step_behind}
 use Rattle.hunk_scatter.proofs.HeaderTexts.{header_read}
 use Rattle.hunk_scatter.proofs.Outcomes.{begins_file}
@@ -23,11 +24,7 @@ behind_leads (Finished v) b (l ∷ ls) p run = absurd run
 
 -- What follows a header is read in the body.
 pub stays_behind : (ws more : List ℕ) (n : Next) (p : Progress) → HasRead ws n → IsBehindHeader n → HasRead (ws ++ more) (More p) → IsInBody p
-stays_behind ws more n p h b k =
-    let s = words_split k.done ws more k.all in
-    let cut = Leads-split (More AtFirst) (More p) s.front s.back (subst (λ (ls : Labelled). Leads (More AtFirst) ls (More p)) s.split k.run) in
-    let same = Leads-same (More AtFirst) cut.0 n s.front h.done cut.1 h.run (s.front_words ∙ sym h.all) in
-    behind_leads n b s.back p (subst (λ (m : Next). Leads m s.back (More p)) same.1 cut.2)
+stays_behind ws more n p h b k = let r = rest_read ws n h (ws ++ more) (More p) k more refl in behind_leads n b r.0 p r.1
 
 in_block : (p : Progress) → IsInBody p → role_of p ≡ roles.SizeWord → ⊥
 in_block (AtBlock o) b e = cc
@@ -38,7 +35,7 @@ pub no_size_word : (ws more : List ℕ) (n : Next) → HasRead ws n → IsBehind
 no_size_word ws more n h b e =
     let place = expected_place (ws ++ more) roles.SizeWord e in
     in_block place.0
-    (stays_behind ws more n place.0 h b (record { done = e.done; run = place.1.run; reads = place.1.reads; accepted = place.1.accepted; all = e.begins }))
+    (stays_behind ws more n place.0 h b (record { done = e.done; run = place.1.run; accepted = place.1.accepted; all = e.begins }))
     place.1.role_is
 
 pub table_behind : (t : List TableEntry) → IsTable t → IsBehindHeader (open_hunk (length t) [] t)
@@ -64,4 +61,4 @@ header_passes t is ws p w more h e =
 
 -- The role here is the one that is expected.
 pub role_here : (ws : List ℕ) (p : Progress) (role : Role) → HasRead ws (More p) → Expects ws role → role_of p ≡ role
-role_here ws p role h e = one_role ws (role_of p) role (subst (λ (xs : List ℕ). Expects xs (role_of p)) h.all (expects_of p h.done h.reads)) e
+role_here ws p role h e = one_role ws (role_of p) role (subst (λ (xs : List ℕ). Expects xs (role_of p)) h.all (expects_of p h.done (reads h))) e

@@ -12,63 +12,63 @@ use Rattle.hunk_words.specs.Longs.{bytes_of, longs, IsLong}
 use Rattle.hunk_files.specs.Fault.{HasRefusal, IsTruncated}
 use Rattle.hunk_files.specs.Image.{image}
 use Rattle.hunk_files.specs.LoadFile.{HunkValue, LoadFileValue, IsLoadFile}
-use Rattle.hunk_files.specs.Roles.{refuse_part}
-use Rattle.hunk_files.specs.LoadText.{text}
-use Rattle.hunk_files.proofs.FileText.{entries}
-use Rattle.hunk_blocks.proofs.BlockSteps.{ForName, ForDebug, ForAdvisory, ForCode, ForData, ForBss, Counted, SizedCode, SizedData, Inside, AtCount, AtSize, InPayload, AtGroup, AtTarget, InOffsets, AtEntry, InName, AtValue}
-use Rattle.hunk_files.proofs.FileSteps.{Progress, AtBlock, InBody, More, place_of}
+use Rattle.hunk_files.specs.LoadText.{text, entries}
+use Rattle.hunk_blocks.specs.BlockSteps.{ForName, ForDebug, ForAdvisory, ForCode, ForData, ForBss, Counted, SizedCode, SizedData, Inside, AtCount, AtSize, InPayload, AtGroup, AtTarget, InOffsets, AtEntry, InName, AtValue}
+use Rattle.hunk_files.specs.FileSteps.{OpenHunk, Progress, AtBlock, InBody, More, place_of}
 use Rattle.hunk_files.proofs.FileProgress.{ProgressFits}
 use Rattle.hunk_files.proofs.HunkProgress as blocks
 use Rattle.hunk_words.proofs.LongLaws.{longs-bytes_of, longs-few, length-bytes_of}
 use Rattle.hunk_blocks.proofs.Lists.{passed_false}
-use Rattle.hunk_files.proofs.Least.{least, end_least, owes_least}
-use Rattle.hunk_files.proofs.Reading.{read_goes_on}
+use Rattle.hunk_files.proofs.Least.{least, owes_least, least_same}
+use Rattle.hunk_files.proofs.Reading.{reads, read_goes_on}
 use Rattle.hunk_files.specs.declared.row.Row.{Row}
-use Rattle.hunk_scatter.specs.declared.state.Phase.{Phase}
-use Rattle.hunk_scatter.specs.declared.state.Phase.TheVariants as phases
-use Rattle.hunk_scatter.specs.declared.state.State.{State}
-use Rattle.hunk_scatter.specs.Answers.{is_of_body}
+use Rattle.hunk_blocks.specs.Values.{BlockValue}
+use Rattle.hunk_scan.specs.declared.phase.Phase.TheVariants as phases
+use Rattle.hunk_scan.specs.declared.position.Position.{Position}
+use Rattle.hunk_scan.specs.declared.position.Position.TheVariants as positions
+use Rattle.hunk_scan.specs.Positions.{is_behind_header, is_done, least_longs}
+use Rattle.hunk_files.specs.ReaderPosition.{position_of, open_of, block_phase}
+use Rattle.hunk_scatter.specs.declared.body_state.BodyState.{BodyState}
+use Rattle.hunk_scatter.specs.LoaderReasons.{is_of_body}
 use Rattle.std.specs.Prelude.{IsTrue}
-use Rattle.hunk_scatter.specs.Holding.{IsSized, stored_in, stored, images}
-use Rattle.hunk_scatter.specs.Loading.{IsLoading}
-use Rattle.hunk_scatter.specs.Loaders.{IsWholeFile, IsImageOf, HasNoRefusal, cut}
-use Rattle.hunk_scatter.specs.Standing.{open_table, table_of, sizes_of, phase_of, open_state, state_of, IsInBody}
-use Rattle.hunk_scatter.specs.Stepping.{longs_at, place_at, part_at, stepped, is_done, least_of, IsInStore}
+use Rattle.hunk_scatter.specs.StoreContent.{IsSized, stored_in, stored, images}
+use Rattle.hunk_scatter.specs.BodyLoaderFields.{BodyLoaderInvariant}
+use Rattle.hunk_scatter.specs.LoaderValues.{IsWholeFile, IsImageOf, HasNoRefusal, cut}
+use Rattle.hunk_scatter.specs.BodyReader.{sizes_of, state_of, IsInBody}
+use Rattle.hunk_scatter.specs.BodySteps.{longs_at, refusal, step_body, IsInStore}
 use Rattle.hunk_scatter.specs.Rows.{words_of, bases_of}
 use Rattle.hunk_scatter.proofs.Outcomes.{read_clean, read_truncated}
 use Rattle.hunk_scatter.proofs.ReadWords.{read_longs, text_longs}
-use Rattle.hunk_scatter.proofs.Forget.{sizes-length}
 use Rattle.hunk_scatter.proofs.Splice.{length-put}
-use Rattle.hunk_scatter.proofs.OneByte.{Going, going, room, more_pending, more_read, refused_here, ended, sizes_are}
+use Rattle.hunk_scatter.proofs.OneByte.{Going, going, room, more_pending, more_read, refused_here, file_read, sizes_are}
 
 -- ---- the loader's fields
 
-pub few_words : (rows : List Row) (total : ℕ) (s : State) → IsInStore (words_of rows) total s → length rows < 2 ^ 32
+pub few_words : (rows : List Row) (total : ℕ) (s : BodyState) → IsInStore (words_of rows) total s → length rows < 2 ^ 32
 few_words rows total s h = omega (arith, h.hunks, length-map rows (λ (r : Row). r.word))
 
-length-stored_in : (sizes bases : List ℕ) (hunk start : ℕ) (content : Bool) (phase : Phase) (w : ℕ) (store : List ℕ) →
-    IsInStore sizes (length store) (record { hunk = hunk; start = start; has_content = content; phase = phase }) →
-    refuse_part (place_at sizes (record { hunk = hunk; start = start; has_content = content; phase = phase })) (part_at phase) w ≡ None → length (stored_in bases start phase w store) ≡ length store
-length-stored_in sizes bases hunk start content (phases.Content done owed) w store i ok = length-put store (start + 4 * done) (to_be_bytes w32 w) refl (omega (arith, i.segment, i.room))
-length-stored_in sizes bases hunk start content (phases.Offset target owed) w store i ok =
+length-stored_in : (sizes bases : List ℕ) (hunk start : ℕ) (position : Position) (w : ℕ) (store : List ℕ) → IsInStore sizes (length store) (record { hunk = hunk; start = start; position = position }) →
+    refusal sizes (record { hunk = hunk; start = start; position = position }) w ≡ None → length (stored_in bases start position w store) ≡ length store
+length-stored_in sizes bases hunk start (positions.Body o (phases.Content longs owed)) w store i ok = length-put store (start + 4 * (longs - owed - 1)) (to_be_bytes w32 w) refl (omega (arith, i.segment, i.room.0, i.room.1))
+length-stored_in sizes bases hunk start (positions.Body o (phases.Offset target owed)) w store i ok =
     let longs : ℕ = longs_at sizes hunk in
     let inside : w + 4 ≤ 4 * longs = ltb-false (4 * longs) (w + 4) (passed_false (ltb (4 * longs) (w + 4)) reasons.BadOffset ok) in
     length-put store (start + w) _ refl (omega (arith, i.segment, inside))
-length-stored_in sizes bases hunk start content _ w store i ok = refl
+length-stored_in sizes bases hunk start _ w store i ok = refl
 
-module _ (rows : List Row) (store : List ℕ) (state : State) (pending : List ℕ) (count : ℕ) (refused : Option Fault) (fed : List ℕ)
-    (h : IsLoading rows store state pending count refused fed) (none : refused ≡ None) where
-  pub whole_file : is_done state.phase ≡ true → IsWholeFile rows fed
-  whole_file done = let e = ended rows store state pending fed (h.reading none) done in (e.0, e.1)
+module _ (rows : List Row) (store : List ℕ) (state : BodyState) (pending : List ℕ) (count : ℕ) (refused : Option Fault) (fed : List ℕ)
+    (h : BodyLoaderInvariant rows store state pending count refused fed) (none : refused ≡ None) where
+  pub whole_file : is_done state.position ≡ true → IsWholeFile rows fed
+  whole_file done = let e = file_read rows store state pending fed (h.reading none) done in (e.0, e.1)
 
-  module _ (more : is_done state.phase ≡ false) where
+  module _ (more : is_done state.position ≡ false) where
     gone : Going rows store state pending fed
     gone = going rows store state pending fed (h.reading none) more
 
     pub in_room : IsInStore (words_of rows) (length store) state
     in_room = room rows store state pending fed gone h.size
 
-    pub kept_none : (byte : ℕ) → length (pending ++ byte ∷ []) < 4 → IsLoading rows store state (pending ++ byte ∷ []) (count + 1) refused (fed ++ byte ∷ [])
+    pub kept_none : (byte : ℕ) → length (pending ++ byte ∷ []) < 4 → BodyLoaderInvariant rows store state (pending ++ byte ∷ []) (count + 1) refused (fed ++ byte ∷ [])
     kept_none byte few = record {
       counted = omega (arith, h.counted, length-append fed (byte ∷ []));
       hunks = h.hunks;
@@ -78,11 +78,11 @@ module _ (rows : List Row) (store : List ℕ) (state : State) (pending : List �
     }
 
     module _ (byte w : ℕ) (is : IsLong w) (gathers : pending ++ byte ∷ [] ≡ bytes_of (w ∷ [])) where
-      pub kept_word : refuse_part (place_at (words_of rows) state) (part_at state.phase) w ≡ None →
-          IsLoading rows (stored (bases_of rows) state w store) (stepped (words_of rows) state w) [] (count + 1) refused (fed ++ byte ∷ [])
+      pub kept_word : refusal (words_of rows) state w ≡ None →
+          BodyLoaderInvariant rows (stored (bases_of rows) state w store) (step_body (words_of rows) state w) [] (count + 1) refused (fed ++ byte ∷ [])
       kept_word ok = record {
         counted = omega (arith, h.counted, length-append fed (byte ∷ []));
-        size = length-stored_in (words_of rows) (bases_of rows) state.hunk state.start state.has_content state.phase w store in_room ok ∙ h.size;
+        size = length-stored_in (words_of rows) (bases_of rows) state.hunk state.start state.position w store in_room ok ∙ h.size;
         hunks = h.hunks;
         reading = λ e. more_read rows store state pending fed gone byte w is gathers ok;
         own = h.own;
@@ -100,14 +100,14 @@ module _ (rows : List Row) (store : List ℕ) (state : State) (pending : List �
             length-append (bytes_of gone.ws) pending,
           )
 
-      pub refusal_here : (reason : Reason) → refuse_part (place_at (words_of rows) state) (part_at state.phase) w ≡ Some reason → HasRefusal (fed ++ byte ∷ []) (count - 3) reason
+      pub refusal_here : (reason : Reason) → refusal (words_of rows) state w ≡ Some reason → HasRefusal (fed ++ byte ∷ []) (count - 3) reason
       refusal_here reason no-pass =
           let three : length pending ≡ 3 = omega (arith, ap length gathers, length-bytes_of (w ∷ []), length-append pending (byte ∷ [])) in
           refused_here rows store state pending fed gone byte w is gathers reason (count - 3)
           (omega (arith, h.counted, three, ap length gone.spelled, length-append (bytes_of gone.ws) pending)) no-pass
 
     -- A refusal leaves what was fed.
-    pub kept_refusal : (store2 pending2 : List ℕ) (f : Fault) → length store2 ≡ length store → IsTrue (is_of_body f.reason) → IsLoading rows store2 state pending2 count (Some f) fed
+    pub kept_refusal : (store2 pending2 : List ℕ) (f : Fault) → length store2 ≡ length store → IsTrue (is_of_body f.reason) → BodyLoaderInvariant rows store2 state pending2 count (Some f) fed
     kept_refusal store2 pending2 f same own = record {
       counted = h.counted;
       hunks = h.hunks;
@@ -121,20 +121,20 @@ pub written : (items new : List ℕ) (len : ℕ) → len ≡ length items → le
 written items new len e d =
     ap (λ (xs : List ℕ). take len (new ++ xs)) (drop_of_length-le items (omega arith)) ∙ ap (λ (xs : List ℕ). take len xs) (append-nil new) ∙ take_all len new (omega arith)
 
-pub loading_as : (rows : List Row) (store store2 : List ℕ) (state state2 : State) (pending pending2 : List ℕ) (count : ℕ) (refused : Option Fault) (fed fed2 : List ℕ) →
-    store2 ≡ store → state2 ≡ state → pending2 ≡ pending → fed2 ≡ fed → IsLoading rows store state pending count refused fed → IsLoading rows store2 state2 pending2 count refused fed2
+pub loading_as : (rows : List Row) (store store2 : List ℕ) (state state2 : BodyState) (pending pending2 : List ℕ) (count : ℕ) (refused : Option Fault) (fed fed2 : List ℕ) →
+    store2 ≡ store → state2 ≡ state → pending2 ≡ pending → fed2 ≡ fed → BodyLoaderInvariant rows store state pending count refused fed → BodyLoaderInvariant rows store2 state2 pending2 count refused fed2
 loading_as rows store store2 state state2 pending pending2 count refused fed fed2 e f g h l =
-    subst (λ (x : List ℕ). IsLoading rows x state2 pending2 count refused fed2) (sym e)
-    (subst (λ (x : State). IsLoading rows store x pending2 count refused fed2) (sym f)
-    (subst (λ (x : List ℕ). IsLoading rows store state x count refused fed2) (sym g)
-    (subst (λ (x : List ℕ). IsLoading rows store state pending count refused x) (sym h) l)))
+    subst (λ (x : List ℕ). BodyLoaderInvariant rows x state2 pending2 count refused fed2) (sym e)
+    (subst (λ (x : BodyState). BodyLoaderInvariant rows store x pending2 count refused fed2) (sym f)
+    (subst (λ (x : List ℕ). BodyLoaderInvariant rows store state x count refused fed2) (sym g)
+    (subst (λ (x : List ℕ). BodyLoaderInvariant rows store state pending count refused x) (sym h) l)))
 
-module _ (rows : List Row) (store : List ℕ) (state : State) (pending : List ℕ) (count : ℕ) (refused : Option Fault) (fed : List ℕ)
-    (h : IsLoading rows store state pending count refused fed) (none : refused ≡ None) where
+module _ (rows : List Row) (store : List ℕ) (state : BodyState) (pending : List ℕ) (count : ℕ) (refused : Option Fault) (fed : List ℕ)
+    (h : BodyLoaderInvariant rows store state pending count refused fed) (none : refused ≡ None) where
   pub fed_clean : HasNoRefusal fed
   fed_clean = let r = h.reading none in read_clean r.ws r.next pending fed r.read r.few r.spelled
 
-  pub fed_truncated : is_done state.phase ≡ false → IsTruncated fed (4 * (length fed / 4))
+  pub fed_truncated : is_done state.position ≡ false → IsTruncated fed (4 * (length fed / 4))
   fed_truncated more = let g = going rows store state pending fed (h.reading none) more in read_truncated g.ws g.at pending fed g.read g.few g.spelled
 
 -- ---- the image
@@ -145,11 +145,11 @@ cut_images bases (x ∷ v) h =
     ap₂ (λ (s : List ℕ) (ss : List (List ℕ)). s ∷ ss) (take_at (image bases x) (images bases v) (4 * size_longs x.entry.word) h.0)
     (ap (λ (s : List ℕ). cut (sizes_of (entries v)) s) (drop_at (image bases x) (images bases v) (4 * size_longs x.entry.word) h.0) ∙ cut_images bases v h.1)
 
-module _ (rows : List Row) (store : List ℕ) (state : State) (pending : List ℕ) (count : ℕ) (refused : Option Fault) (fed : List ℕ)
-    (h : IsLoading rows store state pending count refused fed) (none : refused ≡ None) where
-  pub image_of : is_done state.phase ≡ true → IsImageOf rows fed (cut (words_of rows) store)
+module _ (rows : List Row) (store : List ℕ) (state : BodyState) (pending : List ℕ) (count : ℕ) (refused : Option Fault) (fed : List ℕ)
+    (h : BodyLoaderInvariant rows store state pending count refused fed) (none : refused ≡ None) where
+  pub image_of : is_done state.position ≡ true → IsImageOf rows fed (cut (words_of rows) store)
   image_of done =
-      let e = ended rows store state pending fed (h.reading none) done in
+      let e = file_read rows store state pending fed (h.reading none) done in
       record {
         value = e.0;
         file = e.1;
@@ -158,7 +158,7 @@ module _ (rows : List Row) (store : List ℕ) (state : State) (pending : List �
             ∙ cut_images (bases_of rows) e.0 e.2;
       }
 
-  pub not_whole : is_done state.phase ≡ false → IsWholeFile rows fed → ⊥
+  pub not_whole : is_done state.position ≡ false → IsWholeFile rows fed → ⊥
   not_whole more w =
       let g = going rows store state pending fed (h.reading none) more in
       let e : text w.0 ≡ g.ws ++ longs pending =
@@ -174,42 +174,21 @@ none_of (Some f) e = absurd cc
 
 -- ---- what is wanted
 
-least_same : (p : Progress) → IsInBody p → ProgressFits p → least p ≡ least_of (length (sizes_of (table_of (More p)))) (state_of (More p))
-least_same (AtBlock o) b f = omega (arith, sizes-length o.finished o.entry o.ahead)
-least_same (InBody o word x) b f = go x f.2.1
-  where
-    plain : (c : Bool) → end_least (c || false) ≡ end_least c
-    plain true = refl
-    plain false = refl
+in_body_is : (p : Progress) → IsInBody p → is_behind_header (position_of (More p)) ≡ true
+in_body_is (AtBlock o) b = refl
+in_body_is (InBody o word x) b = refl
+in_body_is _ b = absurd b
 
-    full : (c : Bool) → end_least (c || true) ≡ 1
-    full true = refl
-    full false = refl
+state_position : (p : Progress) → IsInBody p → least_longs (state_of (More p)).position ≡ least_longs (position_of (More p))
+state_position (AtBlock o) b = refl
+state_position (InBody o word x) b = refl
+state_position _ b = absurd b
 
-    go : (y : Inside) → blocks.Within (place_of o) word y → least (InBody o word y) ≡ least_of (length (sizes_of (open_table o))) (open_state o (phase_of y))
-    go (AtCount ForName) h = omega (arith, sizes-length o.finished o.entry o.ahead, plain o.has_content)
-    go (AtCount ForDebug) h = omega (arith, sizes-length o.finished o.entry o.ahead, plain o.has_content)
-    go (AtCount ForAdvisory) h = omega (arith, sizes-length o.finished o.entry o.ahead, plain o.has_content)
-    go (AtSize ForCode) h = omega (arith, sizes-length o.finished o.entry o.ahead, full o.has_content)
-    go (AtSize ForData) h = omega (arith, sizes-length o.finished o.entry o.ahead, full o.has_content)
-    go (AtSize ForBss) h = omega (arith, sizes-length o.finished o.entry o.ahead, full o.has_content)
-    go (InPayload (Counted c) done owed) h = omega (arith, sizes-length o.finished o.entry o.ahead, plain o.has_content)
-    go (InPayload (SizedCode top) done owed) h = omega (arith, sizes-length o.finished o.entry o.ahead, full o.has_content)
-    go (InPayload (SizedData top) done owed) h = omega (arith, sizes-length o.finished o.entry o.ahead, full o.has_content)
-    go (AtGroup groups) h = omega (arith, sizes-length o.finished o.entry o.ahead, plain o.has_content)
-    go (AtTarget groups owed) h = omega (arith, sizes-length o.finished o.entry o.ahead, plain o.has_content)
-    go (InOffsets groups target done owed) h = omega (arith, sizes-length o.finished o.entry o.ahead, plain o.has_content)
-    go (AtEntry entries) h = omega (arith, sizes-length o.finished o.entry o.ahead, plain o.has_content)
-    go (InName entries w done owed) h = omega (arith, sizes-length o.finished o.entry o.ahead, plain o.has_content)
-    go (AtValue entries w name) h = omega (arith, sizes-length o.finished o.entry o.ahead, plain o.has_content)
-    go _ h = absurd h
-least_same _ b f = absurd b
-
-module _ (rows : List Row) (store : List ℕ) (state : State) (pending : List ℕ) (count : ℕ) (refused : Option Fault) (fed : List ℕ)
-    (h : IsLoading rows store state pending count refused fed) (none : refused ≡ None) where
+module _ (rows : List Row) (store : List ℕ) (state : BodyState) (pending : List ℕ) (count : ℕ) (refused : Option Fault) (fed : List ℕ)
+    (h : BodyLoaderInvariant rows store state pending count refused fed) (none : refused ≡ None) where
   -- No load text that begins with what was fed ends in fewer bytes.
-  pub owes_bytes : is_done state.phase ≡ false → (v : LoadFileValue) (more : List ℕ) → IsLoadFile v → bytes_of (text v) ≡ fed ++ more →
-      (4 * least_of (length rows) state ≤ length pending + length more) × (length rows ≤ 65536)
+  pub owes_bytes : is_done state.position ≡ false → (v : LoadFileValue) (more : List ℕ) → IsLoadFile v → bytes_of (text v) ≡ fed ++ more →
+      (4 * least_longs state.position ≤ length pending + length more) × (length rows ≤ 65536)
   owes_bytes going_on v more is e =
       let g = going rows store state pending fed (h.reading none) going_on in
       let whole : bytes_of (text v) ≡ bytes_of g.ws ++ (pending ++ more) =
@@ -220,9 +199,8 @@ module _ (rows : List Row) (store : List ℕ) (state : State) (pending : List �
       ∙ ap longs (append-nil (bytes_of (text v)) ∙ whole)
       ∙ longs-bytes_of g.ws (pending ++ more) (read_longs g.ws (More g.at) g.read) in
       let owed : least g.at ≤ length (longs (pending ++ more)) = owes_least g.ws (More g.at) g.read v is (longs (pending ++ more)) d in
-      let here : least g.at ≡ least_of (length rows) state =
-      least_same g.at g.in_body g.read.reads.0
-      ∙ ap₂ (λ (n : ℕ) (s : State). least_of n s) (ap length (ap sizes_of g.table_is ∙ sizes_are rows) ∙ length-map rows (λ (r : Row). r.word)) g.state_is in
+      let here : least g.at ≡ least_longs state.position =
+      least_same g.at (in_body_is g.at g.in_body) (reads g.read).0 ∙ sym (state_position g.at g.in_body) ∙ ap (λ (s : BodyState). least_longs s.position) g.state_is in
       let bytes : 4 * length (longs (pending ++ more)) ≡ length pending + length more =
       omega (arith, ap length d, ap length whole, length-append g.ws (longs (pending ++ more)), length-bytes_of (text v), length-bytes_of g.ws, length-append (bytes_of g.ws) (pending ++ more), length-append pending more) in
       let i = room rows store state pending fed g h.size in

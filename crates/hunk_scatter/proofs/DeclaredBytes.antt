@@ -7,7 +7,7 @@ use Rattle.hunk_words.specs.Bits.{size_longs}
 use Rattle.hunk_files.specs.LoadFile.{TableEntry}
 use Rattle.hunk_files.specs.Image.{declared_bytes}
 use Rattle.hunk_files.specs.declared.row.Row.{Row}
-use Rattle.hunk_scatter.specs.Loaders.{cut}
+use Rattle.hunk_scatter.specs.LoaderValues.{cut}
 use Rattle.hunk_scatter.specs.Rows.{entry_of, entries_of, words_of}
 
 pub declared-cons : (e : TableEntry) (table : List TableEntry) → declared_bytes (e ∷ table) ≡ 4 * size_longs e.word + declared_bytes table

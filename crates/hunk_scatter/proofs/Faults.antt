@@ -6,7 +6,7 @@ use Rattle.hunk_words.specs.Longs.{longs, bytes_of}
 use Rattle.hunk_files.specs.Fault.{HasRefusal}
 use Rattle.hunk_files.specs.LoadText.{text}
 use Rattle.hunk_files.proofs.Scan.{no_fault}
-use Rattle.hunk_scatter.specs.Loaders.{MayGoOn}
+use Rattle.hunk_scatter.specs.LoaderValues.{MayGoOn}
 
 pub longs-more : (bytes more : List ℕ) → (rest : List ℕ) × (longs (bytes ++ more) ≡ longs bytes ++ rest)
 longs-more [] more = (longs more, refl)

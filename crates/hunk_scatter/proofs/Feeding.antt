@@ -8,12 +8,12 @@ use Rattle.hunk_files.specs.Fault.{IsTruncated}
 use Rattle.hunk_files.specs.LoadFile.{TableEntry, LoadFileValue, IsLoadFile}
 use Rattle.hunk_files.specs.LoadText.{text}
 use Rattle.hunk_files.specs.declared.row.Row.{Row}
-use Rattle.hunk_scatter.specs.Headers.{IsTable, IsHeader, header_bytes, IsInHeader, BeginsHeader, IsHeaderFault, IsHeaderFaultBy}
+use Rattle.hunk_scatter.specs.HeaderBytes.{IsTable, IsHeader, header_bytes, IsInHeader, BeginsHeader, IsHeaderFault, IsHeaderFaultBy}
 use Rattle.hunk_words.specs.declared.fault.Fault.{Fault}
 use Rattle.hunk_words.specs.declared.reason.Reason.{Reason}
 use Rattle.hunk_words.specs.declared.reason.Reason.TheVariants as reasons
-use Rattle.hunk_scatter.specs.Loaders.{IsWholeFile}
-use Rattle.hunk_scatter.specs.Loads.{Gives, IsWithinHeader, IsWithinFile}
+use Rattle.hunk_scatter.specs.LoaderValues.{IsWholeFile}
+use Rattle.hunk_scatter.specs.LoadOutcomes.{Gives, IsWithinHeader, IsWithinFile}
 
 nothing : (xs : List ℕ) → length xs ≤ 0 → xs ≡ []
 nothing [] le = refl

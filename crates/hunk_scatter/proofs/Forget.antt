@@ -1,55 +1,27 @@
--- The machine of numbers is the reader of load files, without what was read.
-use Rattle.std.proofs.Common.{◌≡◌, ℕ, zero, suc, ◌+◌, ◌-◌, ◌*◌, ◌/◌, ◌%◌, ◌^◌, Bool, true, false, ◌||◌, cond, List, [], ◌∷◌, ◌++◌, length, get_or, refl, sym, ap, ap₂, ◌∙◌, append_assoc, arith, None}
-use Rattle.std.specs.List.{sum_by}
-use Rattle.std.proofs.lemmas.Bool.{ne_eqb, eq-eqb}
+-- The state of the loader is the reader of load files, without what was read.
+use Rattle.std.proofs.Common.{◌≡◌, ℕ, ◌+◌, ◌*◌, Bool, true, false, cond, List, [], ◌∷◌, ◌++◌, length, get_or, refl, sym, ap, ◌∙◌, append_assoc, arith, None}
 use Rattle.std.proofs.lemmas.List.{length-map, length-append, map-append, get_or_at}
 use Rattle.std.proofs.lemmas.List.Sums.{sum_by-append, sum_by-cons}
-use Rattle.hunk_words.specs.declared.block_word.Kind.{Kind}
-use Rattle.hunk_words.specs.declared.block_word.Kind.TheVariants as kinds
-use Rattle.hunk_words.specs.Longs.{IsLong}
-use Rattle.hunk_words.specs.Bits.{size_longs, kind, is_advisory}
-use Rattle.hunk_blocks.specs.Values.{SymbolEntry, End}
-use Rattle.hunk_blocks.specs.Parts.{Part}
-use Rattle.hunk_files.specs.LoadFile.{TableEntry, HunkValue, Standing, Beside, Content, Relocating, Ending, standing}
-use Rattle.hunk_files.specs.Roles.{Place, refuse, refuse_part, refuse_kind}
-use Rattle.hunk_files.proofs.FileText.{entries}
-use Rattle.hunk_blocks.proofs.BlockSteps.{ForName, ForDebug, ForAdvisory, ForCode, ForData, ForBss, Counted, SizedCode, SizedData, Inside, AtCount, AtSize, InPayload, AtGroup, AtTarget, InOffsets, AtEntry, InName, AtValue, BlockNext, Open, Whole, part_of, step_inside, fill, begin, name_entry}
-use Rattle.hunk_files.proofs.FileSteps.{hunk, block, OpenHunk, Progress, AtBlock, InBody, More, place_of, role_of, open_hunk, close_by, after, step}
-use Rattle.hunk_files.proofs.FileProgress.{OpenFits, ProgressFits, kind_admitted}
-use Rattle.hunk_files.proofs.HunkProgress.{Within}
-use Rattle.hunk_blocks.proofs.Lists.{map-more, length-more}
-use Rattle.hunk_scatter.specs.declared.state.Phase.{Phase}
-use Rattle.hunk_scatter.specs.declared.state.Phase.TheVariants as phases
-use Rattle.hunk_scatter.specs.declared.state.State.{State}
-use Rattle.hunk_scatter.specs.Loading.{IsBehindHeader}
-use Rattle.hunk_scatter.specs.Standing.{open_table, table_of, sizes_of, phase_of, before, open_state, state_of, IsInBody}
-use Rattle.hunk_scatter.specs.Stepping.{longs_at, place_at, part_at, by_count, in_phase, at_block, ended, begun, contents, paid, named, stepped}
-
--- ---- counts
-
-pub by_count-suc : {A : Type 0} (n : ℕ) (x : A) (f : ℕ → A) → by_count (suc n) x f ≡ f n
-by_count-suc n x f =
-    let e : suc n - 1 ≡ n = omega arith in
-    ap (λ (b : Bool). cond b x (f (suc n - 1))) (ne_eqb (suc n) 0 (omega arith)) ∙ ap f e
-
-sum_by-more : {A : Type 0} (f : A → ℕ) (xs : List A) (x : A) → sum_by f (xs ++ x ∷ []) ≡ sum_by f xs + f x
-sum_by-more f xs x = omega (arith, sum_by-append f xs (x ∷ []), sum_by-cons f x [])
-
-or_false : (b : Bool) → b ≡ b || false
-or_false true = refl
-or_false false = refl
-
-or_true : (b : Bool) → true ≡ b || true
-or_true true = refl
-or_true false = refl
-
-same_state : (h k s t : ℕ) (b c : Bool) (p q : Phase) → h ≡ k → s ≡ t → b ≡ c → p ≡ q →
-    ◌≡◌ {A = State} (record { hunk = h; start = s; has_content = b; phase = p }) (record { hunk = k; start = t; has_content = c; phase = q })
-same_state h k s t b c p q e f g d = λ i. record { hunk = e i; start = f i; has_content = g i; phase = d i }
-
-blocked : (o : OpenHunk) (content : Bool) (c : Bool) → c ≡ o.has_content || content → (p : Phase) →
-    ◌≡◌ {A = State} (record { hunk = length o.finished; start = before o.finished; has_content = c; phase = phases.Block }) (at_block (open_state o p) content)
-blocked o content c e p = same_state (length o.finished) (length o.finished) (before o.finished) (before o.finished) c (o.has_content || content) phases.Block phases.Block refl refl e refl
+use Rattle.hunk_words.specs.Bits.{size_longs, kind}
+use Rattle.hunk_blocks.specs.Values.{BlockValue}
+use Rattle.hunk_files.specs.Image.{declared_bytes}
+use Rattle.hunk_files.specs.LoadFile.{TableEntry, HunkValue, standing}
+use Rattle.hunk_scan.specs.Standings.{Standing, Beside, Content, Relocating, Ending}
+use Rattle.hunk_files.specs.LoadText.{entries}
+use Rattle.hunk_blocks.specs.BlockSteps.{BlockNext, Open, Whole, step_inside, begin}
+use Rattle.hunk_files.specs.FileSteps.{hunk, block, OpenHunk, Progress, AtBlock, InBody, Next, More, Finished, role_of, open_hunk, close_by, after, step}
+use Rattle.hunk_files.proofs.FileProgress.{ProgressFits}
+use Rattle.hunk_files.proofs.Positions.{Moves, MovesTo, step_moves, step_position, refuse_same, inside_open}
+use Rattle.hunk_files.specs.ReaderPosition.{position_of, open_of, block_phase, longs_of, opened, open_table, table_of}
+use Rattle.hunk_blocks.proofs.Lists.{map-more}
+use Rattle.hunk_scan.specs.Roles.{refuse}
+use Rattle.hunk_scan.specs.declared.position.Position.{Position}
+use Rattle.hunk_scan.specs.declared.position.Position.TheVariants as positions
+use Rattle.hunk_scan.specs.Positions.{is_between_hunks, role_at}
+use Rattle.hunk_scatter.specs.declared.body_state.BodyState.{BodyState}
+use Rattle.hunk_scatter.specs.BodyLoaderFields.{IsBehindHeader}
+use Rattle.hunk_scatter.specs.BodyReader.{sizes_of, before, state_at, state_of, IsInBody}
+use Rattle.hunk_scatter.specs.BodySteps.{longs_at, refusal, move_to, step_body}
 
 -- ---- the table at the open hunk
 
@@ -65,123 +37,75 @@ sizes-length finished e ahead =
 
 -- ---- each step
 
-ended_state : (hunks : ℕ) (finished : List HunkValue) (x : HunkValue) (ahead : List TableEntry) (b : Bool) (p : Phase) →
-    state_of (open_hunk hunks (finished ++ x ∷ []) ahead)
-    ≡ ended (sizes_of (entries finished ++ x.entry ∷ ahead)) (record { hunk = length finished; start = before finished; has_content = b; phase = p })
-ended_state hunks finished x [] b p =
-    same_state _ _ _ _ false false phases.Done _
-    (omega (arith, length-more finished x))
-    (sum_by-more (λ (h : HunkValue). 4 * size_longs h.entry.word) finished x ∙ ap (λ (n : ℕ). before finished + 4 * size_longs n) (sym (sizes-at finished x.entry [])))
-    refl
-    (ap (λ (t : Bool). cond t phases.Done phases.Block) (sym (eq-eqb (length finished + 1) (length (sizes_of (entries finished ++ x.entry ∷ []))) (omega (arith, sizes-length finished x.entry [])))))
-ended_state hunks finished x (e ∷ ahead) b p =
-    same_state _ _ _ _ false false phases.Block _
-    (omega (arith, length-more finished x))
-    (sum_by-more (λ (h : HunkValue). 4 * size_longs h.entry.word) finished x ∙ ap (λ (n : ℕ). before finished + 4 * size_longs n) (sym (sizes-at finished x.entry (e ∷ ahead))))
-    refl
-    (ap (λ (t : Bool). cond t phases.Done phases.Block) (sym (ne_eqb (length finished + 1) (length (sizes_of (entries finished ++ x.entry ∷ e ∷ ahead))) (omega (arith, sizes-length finished x.entry (e ∷ ahead))))))
+pub before_is : (hs : List HunkValue) → declared_bytes (entries hs) ≡ before hs
+before_is [] = refl
+before_is (h ∷ hs) =
+    omega (arith, before_is hs, sum_by-cons (λ (e : TableEntry). 4 * size_longs e.word) h.entry (entries hs), sum_by-cons (λ (x : HunkValue). 4 * size_longs x.entry.word) h hs)
 
-counted_state : (o : OpenHunk) (word : ℕ) (p : Phase) (done : List ℕ) (owed : ℕ) →
-    (state_of (after o word (fill (Counted ForName) done owed)) ≡ paid (open_state o p) owed)
-    × (state_of (after o word (fill (Counted ForDebug) done owed)) ≡ paid (open_state o p) owed)
-    × (state_of (after o word (fill (Counted ForAdvisory) done owed)) ≡ paid (open_state o p) owed)
-counted_state o word p done zero = let e = blocked o false o.has_content (or_false o.has_content) p in (e, e, e)
-counted_state o word p done (suc owed) =
-    let e = sym (by_count-suc owed (at_block (open_state o p) false) (λ (n : ℕ). in_phase (open_state o p) (phases.Payload n))) in (e, e, e)
+same_state : (h k s t : ℕ) (p : Position) → h ≡ k → s ≡ t → ◌≡◌ {A = BodyState} (record { hunk = h; start = s; position = p }) (record { hunk = k; start = t; position = p })
+same_state h k s t p e f = λ i. record { hunk = e i; start = f i; position = p }
 
-content_state : (o : OpenHunk) (word top : ℕ) (p : Phase) (done : List ℕ) (owed : ℕ) →
-    (state_of (after o word (fill (SizedCode top) done owed)) ≡ contents (open_state o p) (length done) owed)
-    × (state_of (after o word (fill (SizedData top) done owed)) ≡ contents (open_state o p) (length done) owed)
-content_state o word top p done zero = let e = blocked o true true (or_true o.has_content) p in (e, e)
-content_state o word top p done (suc owed) =
-    let e = sym (by_count-suc owed (at_block (open_state o p) true) (λ (n : ℕ). in_phase (open_state o p) (phases.Content (length done) n))) in (e, e)
+last_bytes : (es : List TableEntry) (e : TableEntry) → declared_bytes (es ++ e ∷ []) ≡ declared_bytes es + 4 * size_longs e.word
+last_bytes es e =
+    omega (
+      arith,
+      sum_by-append (λ (x : TableEntry). 4 * size_longs x.word) es (e ∷ []),
+      sum_by-cons (λ (x : TableEntry). 4 * size_longs x.word) e [],
+    )
 
-content_more : (o : OpenHunk) (p : Phase) (done : List ℕ) (w owed : ℕ) → contents (open_state o p) (length (done ++ w ∷ [])) owed ≡ contents (open_state o p) (length done + 1) owed
-content_more o p done w owed = let e : length (done ++ w ∷ []) ≡ length done + 1 = omega (arith, length-more done w) in ap (λ (n : ℕ). contents (open_state o p) n owed) e
+-- from the open hunk
+module _ (o : OpenHunk) where
+  here : Position → BodyState
+  here position = state_at o.finished position
 
-named_state : (o : OpenHunk) (word : ℕ) (p : Phase) (es : List SymbolEntry) (w : ℕ) (done : List ℕ) (owed : ℕ) → state_of (after o word (name_entry es w done owed)) ≡ named (open_state o p) owed
-named_state o word p es w done zero = refl
-named_state o word p es w done (suc owed) = sym (by_count-suc owed (in_phase (open_state o p) phases.EntryValue) (λ (n : ℕ). in_phase (open_state o p) (phases.EntryName n)))
+  declared : longs_at (sizes_of (open_table o)) (length o.finished) ≡ size_longs o.entry.word
+  declared = ap size_longs (sizes-at o.finished o.entry o.ahead)
 
-inside_state : (o : OpenHunk) (word : ℕ) (x : Inside) (w : ℕ) → Within (place_of o) word x → state_of (after o word (step_inside x w)) ≡ stepped (sizes_of (open_table o)) (open_state o (phase_of x)) w
-inside_state o word (AtCount ForName) w h = (counted_state o word phases.NameCount [] w).0
-inside_state o word (AtCount ForDebug) w h = (counted_state o word phases.LongCount [] w).1
-inside_state o word (AtCount ForAdvisory) w h = (counted_state o word phases.LongCount [] w).2
-inside_state o word (AtSize ForCode) w h = (content_state o word (w / 2 ^ 30) phases.ContentSize [] (w % 2 ^ 30)).0
-inside_state o word (AtSize ForData) w h = (content_state o word (w / 2 ^ 30) phases.ContentSize [] (w % 2 ^ 30)).1
-inside_state o word (AtSize ForBss) w h = blocked o true true (or_true o.has_content) phases.BssSize
-inside_state o word (InPayload (Counted ForName) done owed) w h = (counted_state o word (phases.Payload owed) (done ++ w ∷ []) owed).0
-inside_state o word (InPayload (Counted ForDebug) done owed) w h = (counted_state o word (phases.Payload owed) (done ++ w ∷ []) owed).1
-inside_state o word (InPayload (Counted ForAdvisory) done owed) w h = (counted_state o word (phases.Payload owed) (done ++ w ∷ []) owed).2
-inside_state o word (InPayload (SizedCode top) done owed) w h =
-    (content_state o word top (phases.Content (length done) owed) (done ++ w ∷ []) owed).0 ∙ content_more o (phases.Content (length done) owed) done w owed
-inside_state o word (InPayload (SizedData top) done owed) w h =
-    (content_state o word top (phases.Content (length done) owed) (done ++ w ∷ []) owed).1 ∙ content_more o (phases.Content (length done) owed) done w owed
-inside_state o word (AtGroup groups) zero h = blocked o false o.has_content (or_false o.has_content) phases.Group
-inside_state o word (AtGroup groups) (suc owed) h =
-    sym (by_count-suc owed (at_block (open_state o phases.Group) false) (λ (n : ℕ). in_phase (open_state o phases.Group) (phases.Target n)))
-inside_state o word (AtTarget groups owed) w h = refl
-inside_state o word (InOffsets groups target done zero) w h = refl
-inside_state o word (InOffsets groups target done (suc owed)) w h =
-    sym (by_count-suc owed (in_phase (open_state o phases.Group) phases.Group) (λ (n : ℕ). in_phase (open_state o phases.Group) (phases.Offset target n)))
-inside_state o word (AtEntry entries) zero h = blocked o false o.has_content (or_false o.has_content) phases.Entry
-inside_state o word (AtEntry entries) (suc w) h =
-    named_state o word phases.Entry entries (suc w) [] (suc w % 2 ^ 24)
-    ∙ sym (by_count-suc w (at_block (open_state o phases.Entry) false) (λ (n : ℕ). named (open_state o phases.Entry) (suc w % 2 ^ 24)))
-inside_state o word (InName entries w2 done owed) w h = named_state o word (phases.EntryName owed) entries w2 (done ++ w ∷ []) owed
-inside_state o word (AtValue entries w2 name) w h = refl
-inside_state o word _ w h = absurd h
+  -- the next opens, or the file is whole
+  next_state : (hs : List HunkValue) (p : Position) → entries hs ≡ entries o.finished ++ o.entry ∷ [] → is_between_hunks p ≡ true → state_at hs p ≡ move_to (sizes_of (open_table o)) (state_at o.finished p) p
+  next_state hs p e b =
+      let hunks : length hs ≡ length o.finished + 1 =
+      omega (arith, ap length e, length-append (entries o.finished) (o.entry ∷ []), length-map hs (λ (h : HunkValue). h.entry), length-map o.finished (λ (h : HunkValue). h.entry)) in
+      let bytes : before hs ≡ before o.finished + 4 * longs_at (sizes_of (open_table o)) (length o.finished) =
+      omega (arith, before_is hs, ap declared_bytes e, last_bytes (entries o.finished) o.entry, before_is o.finished, declared) in
+      same_state _ _ _ _ p hunks bytes
+      ∙ ap (λ (t : Bool). cond t (state_next p) (state_at o.finished p)) (sym b)
+    where
+      state_next : Position → BodyState
+      state_next p = record { hunk = length o.finished + 1; start = before o.finished + 4 * longs_at (sizes_of (open_table o)) (length o.finished); position = p }
 
-begun_state : (o : OpenHunk) (w : ℕ) (k : Kind) → refuse_kind o.has_content (is_advisory w) k ≡ None → state_of (after o w (begin k)) ≡ begun (sizes_of (open_table o)) (open_state o phases.Block) k
-begun_state o w kinds.Name ok = refl
-begun_state o w kinds.Code ok = refl
-begun_state o w kinds.Data ok = refl
-begun_state o w kinds.Bss ok = refl
-begun_state o w kinds.Reloc32 ok = refl
-begun_state o w kinds.Symbol ok = refl
-begun_state o w kinds.Debug ok = refl
-begun_state o w (kinds.Unknown n) ok = refl
-begun_state o w kinds.End ok = ended_state o.hunks o.finished (hunk o.entry (o.blocks ++ block w End ∷ [])) o.ahead o.has_content phases.Block
-begun_state o w _ ok = absurd cc
+  -- the hunk stays
+  same_hunk : (hs : List HunkValue) (e : TableEntry) (p : Position) → entries hs ++ e ∷ [] ≡ entries o.finished ++ o.entry ∷ [] → size_longs e.word ≡ size_longs o.entry.word → is_between_hunks p ≡ false →
+      state_at hs p ≡ move_to (sizes_of (open_table o)) (state_at o.finished p) p
+  same_hunk hs e p same longs b =
+      let hunks : length hs ≡ length o.finished =
+      omega (
+        arith,
+        ap length same,
+        length-append (entries o.finished) (o.entry ∷ []),
+        length-append (entries hs) (e ∷ []),
+        length-map hs (λ (h : HunkValue). h.entry),
+        length-map o.finished (λ (h : HunkValue). h.entry),
+      ) in
+      let bytes : before hs ≡ before o.finished =
+      omega (arith, before_is hs, ap declared_bytes same, last_bytes (entries o.finished) o.entry, last_bytes (entries hs) e, before_is o.finished, longs) in
+      same_state _ _ _ _ p hunks bytes
+      ∙ ap (λ (t : Bool). cond t (state_next p) (state_at o.finished p)) (sym b)
+    where
+      state_next : Position → BodyState
+      state_next p = record { hunk = length o.finished + 1; start = before o.finished + 4 * longs_at (sizes_of (open_table o)) (length o.finished); position = p }
 
--- A step of the reader is a step of the numbers.
-pub step_state : (p : Progress) (w : ℕ) → IsInBody p → ProgressFits p → IsLong w → refuse (role_of p) w ≡ None → state_of (step p w) ≡ stepped (sizes_of (table_of (More p))) (state_of (More p)) w
-step_state (AtBlock o) w h f l ok = begun_state o w (kind w) (kind_admitted o w (l, ok)).1
-step_state (InBody o word x) w h f l ok = inside_state o word x w f.2.1
-step_state _ w h f l ok = absurd h
+  module _ (p : Progress) (opened_is : opened p ≡ entries o.finished ++ o.entry ∷ []) (longs_is : longs_of p ≡ size_longs o.entry.word) where
+    block_state : (q : OpenHunk) (blocks : List BlockValue) → MovesTo p q blocks →
+        (let at = positions.Body (open_of q) (block_phase blocks) in state_at q.finished at ≡ move_to (sizes_of (open_table o)) (state_at o.finished at) at)
+    block_state q [] m = next_state q.finished _ (m ∙ opened_is) refl
+    block_state q (b ∷ blocks) m = same_hunk q.finished q.entry _ (m.1 ∙ opened_is) (m.0 ∙ longs_is) refl
 
--- ---- the refusal
-
-place_same : (o : OpenHunk) (p : Phase) → OpenFits o → place_of o ≡ place_at (sizes_of (open_table o)) (open_state o p)
-place_same o p h =
-    let hunks : o.hunks ≡ length (sizes_of (open_table o)) = omega (arith, sizes-length o.finished o.entry o.ahead, h.front_fits.counts) in
-    let longs : size_longs o.entry.word ≡ longs_at (sizes_of (open_table o)) (length o.finished) = ap size_longs (sym (sizes-at o.finished o.entry o.ahead)) in
-    λ i. record { hunks = hunks i; longs = longs i; has_content = o.has_content }
-
-part_same : (p : Place) (word : ℕ) (x : Inside) → Within p word x → part_of x ≡ part_at (phase_of x)
-part_same p word (AtCount ForName) h = refl
-part_same p word (AtCount ForDebug) h = refl
-part_same p word (AtCount ForAdvisory) h = refl
-part_same p word (AtSize ForCode) h = refl
-part_same p word (AtSize ForData) h = refl
-part_same p word (AtSize ForBss) h = refl
-part_same p word (InPayload (Counted c) done owed) h = refl
-part_same p word (InPayload (SizedCode top) done owed) h = refl
-part_same p word (InPayload (SizedData top) done owed) h = refl
-part_same p word (AtGroup groups) h = refl
-part_same p word (AtTarget groups owed) h = refl
-part_same p word (InOffsets groups target done owed) h = refl
-part_same p word (AtEntry entries) h = refl
-part_same p word (InName entries w done owed) h = refl
-part_same p word (AtValue entries w name) h = refl
-part_same p word _ h = absurd h
-
--- The numbers tell the refusal.
-pub refuse_same : (p : Progress) (w : ℕ) → IsInBody p → ProgressFits p →
-    refuse (role_of p) w ≡ refuse_part (place_at (sizes_of (table_of (More p))) (state_of (More p))) (part_at (state_of (More p)).phase) w
-refuse_same (AtBlock o) w b h = ap (λ (q : Place). refuse_part q (part_at phases.Block) w) (place_same o phases.Block h)
-refuse_same (InBody o word x) w b h = ap₂ (λ (q : Place) (t : Part). refuse_part q t w) (place_same o (phase_of x) h.0) (part_same (place_of o) word x h.2.1)
-refuse_same _ w b h = absurd b
+    after_state : (n : Next) → IsBehindHeader n → Moves p n → state_of n ≡ move_to (sizes_of (open_table o)) (state_at o.finished (position_of n)) (position_of n)
+    after_state (More (AtBlock q)) b m = block_state q q.blocks m
+    after_state (More (InBody q word x)) b m = same_hunk q.finished q.entry _ (m.1 ∙ opened_is) (m.0 ∙ longs_is) (inside_open x (open_of q))
+    after_state (Finished v) b m = next_state v positions.Done (m ∙ opened_is) refl
+    after_state _ b m = absurd b
 
 -- ---- the table stays
 
@@ -223,3 +147,21 @@ pub step_behind : (p : Progress) (w : ℕ) → IsInBody p → IsBehindHeader (st
 step_behind (AtBlock o) w h = after_behind o w (begin (kind w))
 step_behind (InBody o word x) w h = after_behind o word (step_inside x w)
 step_behind _ w h = absurd h
+
+-- A step of the reader is a step of the state.
+pub step_state : (p : Progress) (w : ℕ) → IsInBody p → ProgressFits p → refuse (role_of p) w ≡ None → state_of (step p w) ≡ step_body (sizes_of (table_of (More p))) (state_of (More p)) w
+step_state (AtBlock o) w b f ok =
+    after_state o (AtBlock o) refl refl (step (AtBlock o) w) (step_behind (AtBlock o) w b) (step_moves (AtBlock o) w)
+    ∙ ap (λ (p : Position). move_to (sizes_of (open_table o)) (state_at o.finished p) p) (step_position (AtBlock o) w f ok)
+step_state (InBody o word x) w b f ok =
+    after_state o (InBody o word x) refl refl (step (InBody o word x) w) (step_behind (InBody o word x) w b) (step_moves (InBody o word x) w)
+    ∙ ap (λ (p : Position). move_to (sizes_of (open_table o)) (state_at o.finished p) p) (step_position (InBody o word x) w f ok)
+step_state _ w b f ok = absurd b
+
+-- The state tells the refusal.
+pub refusal_same : (p : Progress) (w : ℕ) → IsInBody p → ProgressFits p → refuse (role_of p) w ≡ refusal (sizes_of (table_of (More p))) (state_of (More p)) w
+refusal_same (AtBlock o) w b f =
+    refuse_same (AtBlock o) w f ∙ ap (λ (n : ℕ). refuse (role_at n (position_of (More (AtBlock o)))) w) (sym (declared o))
+refusal_same (InBody o word x) w b f =
+    refuse_same (InBody o word x) w f ∙ ap (λ (n : ℕ). refuse (role_at n (position_of (More (InBody o word x)))) w) (sym (declared o))
+refusal_same _ w b f = absurd b

@@ -1,6 +1,6 @@
 -- What the fields of the loader of a header keep, and what they tell.
 use Rattle.std.proofs.Common.{◌≡◌, ℕ, ◌+◌, ◌-◌, ◌*◌, ◌/◌, ◌^◌, ◌<◌, ◌≤◌, Bool, true, false, List, [], ◌∷◌, ◌++◌, length, map, refl, sym, ap, subst, ◌∙◌, append_assoc, append-nil, arith, length-append, Option, Some, None, ◌⊎◌, inl, inr, ltb, take, drop, take-append-drop}
-use Rattle.std.specs.Prelude.{IsTrue}
+use Rattle.std.specs.Prelude.{IsTrue, if◌then◌else◌}
 use Rattle.std.proofs.lemmas.Bool.{ltb-true, ltb-false}
 use Rattle.std.proofs.lemmas.List.{length-map, take_all}
 use Rattle.hunk_words.specs.Longs.{longs, bytes_of, IsLong}
@@ -12,74 +12,43 @@ use Rattle.hunk_files.specs.declared.row.Row.{Row}
 use Rattle.hunk_files.specs.Fault.{IsTruncated, Expects}
 use Rattle.hunk_files.specs.Image.{declared_bytes}
 use Rattle.hunk_files.specs.LoadFile.{TableEntry}
-use Rattle.hunk_files.specs.Roles.{refuse, Role as roles}
-use Rattle.hunk_files.proofs.FileSteps.{Progress, More, open_hunk}
-use Rattle.hunk_files.proofs.Reading.{HasRead, start_read, one_place}
-use Rattle.hunk_scatter.specs.declared.header_state.HeaderPhase.{HeaderPhase}
-use Rattle.hunk_scatter.specs.declared.header_state.HeaderPhase.TheVariants as phases
+use Rattle.hunk_scan.specs.Roles.{refuse, Role as roles}
+use Rattle.hunk_files.specs.FileSteps.{Progress, AtFirst, AtAttributes, More, Finished, open_hunk, Next}
+use Rattle.hunk_files.specs.ReaderPosition.{table_of}
+use Rattle.hunk_files.proofs.Reading.{reads, start_read, one_place}
+use Rattle.hunk_files.specs.WordsRead.{HasRead}
+use Rattle.hunk_scan.specs.declared.position.Position.{Position}
+use Rattle.hunk_scan.specs.declared.position.Position.TheVariants as positions
 use Rattle.hunk_scatter.specs.declared.header_state.HeaderState.{HeaderState}
-use Rattle.hunk_scatter.specs.Answers.{is_of_header}
-use Rattle.hunk_scatter.specs.Headers.{IsTable, IsHeader, header_words, header_bytes, entries_so_far, PassesBudget}
-use Rattle.hunk_scatter.specs.Heading.{next_at, role_at, is_done, least_at, behind, adds, declares, IsStarted, total_at, EndsHeader, StopsFor, HeaderReading, IsHeading, HeaderStop}
-use Rattle.hunk_scatter.specs.Loaders.{HasNoRefusal}
+use Rattle.hunk_scatter.specs.LoaderReasons.{is_of_header}
+use Rattle.hunk_scatter.specs.HeaderBytes.{IsTable, IsHeader, header_words, header_bytes, entries_so_far, PassesBudget}
+use Rattle.hunk_scatter.specs.HeaderLoaderFields.{adds, declares, declared_so_far, OpensFirst, StopsFor, HeaderReading, HeaderLoaderInvariant, DeclaredInvariant, HeaderStop}
+use Rattle.hunk_scan.specs.Positions.{role_at, step, is_behind_header, least_longs}
+use Rattle.hunk_scatter.specs.LoaderValues.{HasNoRefusal}
 use Rattle.hunk_scatter.specs.Rows.{entry_of, entries_of, row_of}
 use Rattle.hunk_scatter.proofs.Behind.{no_size_word, table_behind}
 use Rattle.hunk_scatter.proofs.DeclaredBytes.{declared_limit}
-use Rattle.hunk_scatter.proofs.HeaderLeast.{header_owes, opens}
+use Rattle.hunk_scatter.proofs.HeaderLeast.{header_owes, least_is, opens}
+use Rattle.hunk_scatter.proofs.HeaderSteps.{rows_total}
 use Rattle.hunk_scatter.proofs.HeaderReads.{word_read}
 use Rattle.hunk_scatter.proofs.HeaderStops.{header_longs}
-use Rattle.hunk_scatter.proofs.HeaderTexts.{header_read, header_done, rows_read}
+use Rattle.hunk_scatter.proofs.HeaderTexts.{header_read, header_done, rows_read, rows_few}
 use Rattle.hunk_scatter.proofs.Outcomes.{longs_are, read_clean, read_truncated}
 use Rattle.hunk_scatter.proofs.ReadWords.{read_longs}
 use Rattle.hunk_scatter.proofs.Splits.{fronts}
 
-done_is : (x : HeaderPhase) → is_done x ≡ true → x ≡ phases.Done
-done_is phases.Done e = refl
-done_is _ e = absurd cc
+-- where the reader goes on
+goes_further : (n : Next) (ws : List ℕ) → HasRead ws n → OpensFirst n → (p : Progress) × HasRead ws (More p)
+goes_further (More p) ws h o = (p, h)
+goes_further (Finished v) ws h o = go (table_of (Finished v)) (o refl)
+  where
+    go : (t : List TableEntry) → Finished v ≡ open_hunk (length t) [] t → (p : Progress) × HasRead ws (More p)
+    go [] e = let some = (header_done ws [] (subst (λ (m : Next). HasRead ws m) e h)).0.some in absurd (omega (arith, some))
+    go (x ∷ t) e = absurd cc
 
-ends_nil : (x : HeaderPhase) → EndsHeader x []
-ends_nil phases.Done = refl
-ends_nil _ = tt
-
-ends_open : (x : HeaderPhase) (pending : List ℕ) → is_done x ≡ false → EndsHeader x pending
-ends_open phases.Done pending e = absurd cc
-ends_open _ pending e = tt
-
-ends_done : (x : HeaderPhase) (pending : List ℕ) → is_done x ≡ true → EndsHeader x pending → pending ≡ []
-ends_done phases.Done pending e h = h
-ends_done _ pending e h = absurd cc
-
--- the reader goes on, also behind the header
-goes_further : (phase : HeaderPhase) (table : List TableEntry) (ws : List ℕ) → HasRead ws (next_at phase table) → (p : Progress) × HasRead ws (More p)
-goes_further phases.First table ws h = (_, h)
-goes_further phases.Resident table ws h = (_, h)
-goes_further phases.TableSize table ws h = (_, h)
-goes_further (phases.FirstHunk hunks) table ws h = (_, h)
-goes_further (phases.LastHunk hunks) table ws h = (_, h)
-goes_further (phases.SizeWord hunks owed) table ws h = (_, h)
-goes_further (phases.Attributes hunks word owed) table ws h = (_, h)
-goes_further phases.Done [] ws h = absurd (let some = (header_done ws [] h).0.some in omega (arith, some))
-goes_further phases.Done (e ∷ table) ws h = (_, h)
-
-rows_few : (phase : HeaderPhase) (table : List TableEntry) (ws : List ℕ) → HasRead ws (next_at phase table) → IsStarted phase table → length table ≤ 65536
-rows_few phases.First table ws h s = omega (arith, ap length s)
-rows_few phases.Resident table ws h s = omega (arith, ap length s)
-rows_few phases.TableSize table ws h s = omega (arith, ap length s)
-rows_few (phases.FirstHunk hunks) table ws h s = omega (arith, ap length s)
-rows_few (phases.LastHunk hunks) table ws h s = omega (arith, ap length s)
-rows_few (phases.SizeWord hunks owed) table ws h s = let f = h.reads.0 in omega (arith, f.counts, f.hunks_fit.1)
-rows_few (phases.Attributes hunks word owed) table ws h s = let f = h.reads.0.0 in omega (arith, f.counts, f.hunks_fit.1)
-rows_few phases.Done table ws h s = (header_done ws table h).0.most
-
-total_limit : (phase : HeaderPhase) (table : List TableEntry) → total_at phase table ≤ declared_bytes table + 2 ^ 32
-total_limit (phases.Attributes hunks word owed) table = omega arith
-total_limit phases.First table = omega arith
-total_limit phases.Resident table = omega arith
-total_limit phases.TableSize table = omega arith
-total_limit (phases.FirstHunk hunks) table = omega arith
-total_limit (phases.LastHunk hunks) table = omega arith
-total_limit (phases.SizeWord hunks owed) table = omega arith
-total_limit phases.Done table = omega arith
+total_limit : (n : Next) → declared_so_far n ≤ declared_bytes (table_of n) + 2 ^ 32
+total_limit (More (AtAttributes hunks done word owed)) = omega arith
+total_limit _ = omega arith
 
 pub header_spells : (t : List TableEntry) → IsTable t → longs (header_bytes t) ≡ header_words t
 header_spells t is = ap longs (sym (append-nil (header_bytes t))) ∙ longs-bytes_of (header_words t) [] (header_longs t is) ∙ append-nil (header_words t)
@@ -88,14 +57,14 @@ header_spells t is = ap longs (sym (append-nil (header_bytes t))) ∙ longs-byte
 
 module _ (budget : ℕ) (rows : List Row) (s : HeaderState) (pending fed : List ℕ) (r : HeaderReading budget rows s pending fed) where
   words_are : longs fed ≡ r.ws
-  words_are = longs_are r.ws (next_at s.phase (entries_of rows)) pending fed r.has_read.read r.few r.spelled
+  words_are = longs_are r.ws r.has_read.next pending fed r.has_read.read r.few r.spelled
 
   pub heading_clean : HasNoRefusal fed
-  heading_clean = read_clean r.ws (next_at s.phase (entries_of rows)) pending fed r.has_read.read r.few r.spelled
+  heading_clean = read_clean r.ws r.has_read.next pending fed r.has_read.read r.few r.spelled
 
   pub heading_truncated : IsTruncated fed (4 * (length fed / 4))
   heading_truncated =
-      let g = goes_further s.phase (entries_of rows) r.ws r.has_read.read in
+      let g = goes_further r.has_read.next r.ws r.has_read.read r.has_read.opens_first in
       read_truncated r.ws g.0 pending fed g.1 r.few r.spelled
 
   pub heading_within : (at : ℕ) → PassesBudget budget fed at → ⊥
@@ -106,25 +75,27 @@ module _ (budget : ℕ) (rows : List Row) (s : HeaderState) (pending fed : List 
   pub heading_rows : length rows ≡ length (entries_so_far (longs fed))
   heading_rows =
       sym (length-map rows entry_of)
-      ∙ ap length (sym (rows_read s.phase (entries_of rows) r.ws r.has_read.read r.has_read.started))
+      ∙ ap length (sym r.has_read.table_is ∙ sym (rows_read r.has_read.next r.ws r.has_read.read r.has_read.opens_first))
       ∙ ap (λ (ws : List ℕ). length (entries_so_far ws)) (sym words_are)
 
   pub heading_room : length rows ≤ 65536 → s.total + 2 ^ 32 < 2 ^ 64
   heading_room few =
-      omega (arith, r.has_read.total_is, total_limit s.phase (entries_of rows), declared_limit (entries_of rows), length-map rows entry_of)
+      omega (arith, r.has_read.total_is, total_limit r.has_read.next, ap declared_bytes r.has_read.table_is, declared_limit (entries_of rows), length-map rows entry_of)
 
-  pub heading_table : is_done s.phase ≡ true → IsTable (entries_of rows) × (fed ≡ header_bytes (entries_of rows))
+  -- where the header is whole
+  whole_next : is_behind_header s.position ≡ true → r.has_read.next ≡ open_hunk (length (entries_of rows)) [] (entries_of rows)
+  whole_next done =
+      r.has_read.opens_first (ap is_behind_header r.has_read.position_is ∙ done) ∙ ap (λ (t : List TableEntry). open_hunk (length t) [] t) r.has_read.table_is
+
+  pub heading_table : is_behind_header s.position ≡ true → IsTable (entries_of rows) × (fed ≡ header_bytes (entries_of rows))
   heading_table done =
-      let d = header_done r.ws (entries_of rows) (subst (λ (x : HeaderPhase). HasRead r.ws (next_at x (entries_of rows))) (done_is s.phase done) r.has_read.read) in (
+      let d = header_done r.ws (entries_of rows) (subst (λ (n : Next). HasRead r.ws n) (whole_next done) r.has_read.read) in (
         d.0,
-        r.spelled
-            ∙ ap (λ (bs : List ℕ). bytes_of r.ws ++ bs) (ends_done s.phase pending done r.whole)
-            ∙ append-nil (bytes_of r.ws)
-            ∙ ap bytes_of d.1,
+        r.spelled ∙ ap (λ (bs : List ℕ). bytes_of r.ws ++ bs) (r.whole done) ∙ append-nil (bytes_of r.ws) ∙ ap bytes_of d.1,
       )
 
-  pub heading_total : is_done s.phase ≡ true → s.total ≡ declared_bytes (entries_of rows)
-  heading_total done = r.has_read.total_is ∙ ap (λ (x : HeaderPhase). total_at x (entries_of rows)) (done_is s.phase done)
+  pub heading_total : is_behind_header s.position ≡ true → s.total ≡ declared_bytes (entries_of rows)
+  heading_total done = r.has_read.total_is ∙ ap declared_so_far (whole_next done) ∙ rows_total (length (entries_of rows)) (entries_of rows) 0
 
   -- the longwords of a header that begins with what was fed
   header_split : (t : List TableEntry) (more : List ℕ) → IsTable t → header_bytes t ≡ fed ++ more → header_words t ≡ r.ws ++ longs (pending ++ more)
@@ -134,21 +105,23 @@ module _ (budget : ℕ) (rows : List Row) (s : HeaderState) (pending fed : List 
       ∙ ap longs (append-nil (header_bytes t) ∙ e ∙ ap (λ (bs : List ℕ). bs ++ more) r.spelled ∙ append_assoc (bytes_of r.ws) pending more)
       ∙ longs-bytes_of r.ws (pending ++ more) (read_longs r.ws _ r.has_read.read)
 
-  pub heading_not_whole : is_done s.phase ≡ false → IsHeader fed → ⊥
+  pub heading_not_whole : is_behind_header s.position ≡ false → IsHeader fed → ⊥
   heading_not_whole more (t, is, e) =
       let same : header_words t ≡ r.ws =
       header_split t [] is (sym e ∙ sym (append-nil fed)) ∙ ap (λ (xs : List ℕ). r.ws ++ xs) (ap longs (append-nil pending) ∙ longs-few pending r.few) ∙ append-nil r.ws in
-      opens s.phase (entries_of rows) t more is
-      (one_place r.ws (next_at s.phase (entries_of rows)) (open_hunk (length t) [] t) r.has_read.read (subst (λ (xs : List ℕ). HasRead xs (open_hunk (length t) [] t)) same (header_read t is)))
+      opens r.has_read.next t (ap is_behind_header r.has_read.position_is ∙ more) is
+      (one_place r.ws r.has_read.next (open_hunk (length t) [] t) r.has_read.read (subst (λ (xs : List ℕ). HasRead xs (open_hunk (length t) [] t)) same (header_read t is)))
 
   -- No header that begins with what was fed ends in fewer bytes.
-  pub heading_least : (t : List TableEntry) (more : List ℕ) → IsTable t → header_bytes t ≡ fed ++ more → 4 * least_at s.phase ≤ length pending + length more
-  heading_least t more is e =
+  pub heading_least : is_behind_header s.position ≡ false → (t : List TableEntry) (more : List ℕ) → IsTable t → header_bytes t ≡ fed ++ more → 4 * least_longs s.position ≤ length pending + length more
+  heading_least going t more is e =
       let d = header_split t more is e in
-      let owed = header_owes s.phase (entries_of rows) r.ws r.has_read.read r.has_read.started t is (longs (pending ++ more)) d in
+      let owed = header_owes r.has_read.next r.ws r.has_read.read t is (longs (pending ++ more)) d in
       omega (
         arith,
         owed,
+        least_is r.has_read.next (ap is_behind_header r.has_read.position_is ∙ going),
+        ap least_longs r.has_read.position_is,
         length-append pending more,
         length-longs (pending ++ more),
       )
@@ -188,16 +161,16 @@ piece_within budget rows s pending fed piece after n r le is all at p = go (ltb 
 
 -- the same fields, however the state is written
 pub heading_as : (budget : ℕ) (rows rows2 : List Row) (s s2 : HeaderState) (pending pending2 : List ℕ) (count : ℕ) (refused : Option Fault) (fed fed2 : List ℕ) →
-    rows2 ≡ rows → s2.phase ≡ s.phase → s2.total ≡ s.total → pending2 ≡ pending → fed2 ≡ fed → IsHeading budget rows s pending count refused fed → IsHeading budget rows2 s2 pending2 count refused fed2
+    rows2 ≡ rows → s2.position ≡ s.position → s2.total ≡ s.total → pending2 ≡ pending → fed2 ≡ fed → HeaderLoaderInvariant budget rows s pending count refused fed → HeaderLoaderInvariant budget rows2 s2 pending2 count refused fed2
 heading_as budget rows rows2 s s2 pending pending2 count refused fed fed2 e p t d f h =
-    let state : s2 ≡ s = λ i. record { phase = p i; total = t i } in
-    subst (λ (x : List Row). IsHeading budget x s2 pending2 count refused fed2) (sym e)
-    (subst (λ (x : HeaderState). IsHeading budget rows x pending2 count refused fed2) (sym state)
-    (subst (λ (x : List ℕ). IsHeading budget rows s x count refused fed2) (sym d)
-    (subst (λ (x : List ℕ). IsHeading budget rows s pending count refused x) (sym f) h)))
+    let state : s2 ≡ s = λ i. record { position = p i; total = t i } in
+    subst (λ (x : List Row). HeaderLoaderInvariant budget x s2 pending2 count refused fed2) (sym e)
+    (subst (λ (x : HeaderState). HeaderLoaderInvariant budget rows x pending2 count refused fed2) (sym state)
+    (subst (λ (x : List ℕ). HeaderLoaderInvariant budget rows s x count refused fed2) (sym d)
+    (subst (λ (x : List ℕ). HeaderLoaderInvariant budget rows s pending count refused x) (sym f) h)))
 
 -- a loader that nothing was fed to
-pub heading_new : (budget : ℕ) → IsHeading budget [] (record { phase = phases.First; total = 0 }) [] 0 None []
+pub heading_new : (budget : ℕ) → HeaderLoaderInvariant budget [] (record { position = positions.FirstLong; total = 0 }) [] 0 None []
 heading_new budget = record {
   counted = refl;
   few_rows = omega arith;
@@ -206,10 +179,13 @@ heading_new budget = record {
         ws = [];
         spelled = sym bytes_of-nil ∙ sym (append-nil (bytes_of []));
         few = omega arith;
-        whole = tt;
+        whole = λ done. absurd cc;
         has_read = record {
+          next = More AtFirst;
           read = start_read;
-          started = refl;
+          opens_first = λ done. absurd cc;
+          position_is = refl;
+          table_is = refl;
           unplaced = refl;
           total_is = refl;
           within = omega arith;
@@ -225,12 +201,12 @@ heading_new budget = record {
     empty (b ∷ before) word after d = cc
 
 module _ (budget : ℕ) (rows : List Row) (s : HeaderState) (pending : List ℕ) (count : ℕ) (refused : Option Fault) (fed : List ℕ)
-    (h : IsHeading budget rows s pending count refused fed) (none : refused ≡ None) (more : is_done s.phase ≡ false) where
+    (h : HeaderLoaderInvariant budget rows s pending count refused fed) (none : refused ≡ None) (more : is_behind_header s.position ≡ false) where
   now : HeaderReading budget rows s pending fed
   now = h.reading none
 
   -- A byte that completes no longword.
-  pub heading_byte : (byte : ℕ) (after : List ℕ) → after ≡ pending ++ byte ∷ [] → length after < 4 → IsHeading budget rows s after (count + 1) refused (fed ++ byte ∷ [])
+  pub heading_byte : (byte : ℕ) (after : List ℕ) → after ≡ pending ++ byte ∷ [] → length after < 4 → HeaderLoaderInvariant budget rows s after (count + 1) refused (fed ++ byte ∷ [])
   heading_byte byte after e few = record {
     counted = omega (arith, h.counted, length-append fed (byte ∷ []));
     few_rows = h.few_rows;
@@ -239,7 +215,7 @@ module _ (budget : ℕ) (rows : List Row) (s : HeaderState) (pending : List ℕ)
           ws = now.ws;
           spelled = gathers-none fed pending (byte ∷ []) after now.ws now.spelled e;
           few = few;
-          whole = ends_open s.phase after more;
+          whole = λ done. let clash : true ≡ false = sym done ∙ more in absurd cc;
           has_read = now.has_read;
         };
     own = h.own;
@@ -265,8 +241,8 @@ module _ (budget : ℕ) (rows : List Row) (s : HeaderState) (pending : List ℕ)
     heading_three = omega (arith, heading_place)
 
     -- One that completes a longword that passes.
-    pub heading_word : refuse (role_at s.phase) w ≡ None → s.total + declares s.phase w ≤ budget →
-        IsHeading budget (rows ++ map row_of (adds s.phase w)) (record { phase = behind s.phase w; total = s.total + declares s.phase w }) [] (count + 1) refused (fed ++ byte ∷ [])
+    pub heading_word : refuse (role_at 0 s.position) w ≡ None → s.total + declares s.position w ≤ budget →
+        HeaderLoaderInvariant budget (rows ++ map row_of (adds s.position w)) (record { position = step s.position w; total = s.total + declares s.position w }) [] (count + 1) refused (fed ++ byte ∷ [])
     heading_word pass within =
         let k = word_read budget rows s now.ws now.has_read more w within is pass in
         record {
@@ -274,15 +250,16 @@ module _ (budget : ℕ) (rows : List Row) (s : HeaderState) (pending : List ℕ)
           few_rows =
               omega (
                 arith,
-                rows_few _ _ (now.ws ++ w ∷ []) k.read k.started,
-                length-map (rows ++ map row_of (adds s.phase w)) entry_of,
+                rows_few k.next (now.ws ++ w ∷ []) k.read k.opens_first,
+                ap length k.table_is,
+                length-map (rows ++ map row_of (adds s.position w)) entry_of,
               );
           reading =
               λ x. record {
                 ws = now.ws ++ w ∷ [];
                 spelled = spells ∙ sym (append-nil (bytes_of (now.ws ++ w ∷ [])));
                 few = omega arith;
-                whole = ends_nil (behind s.phase w);
+                whole = λ done. refl;
                 has_read = k;
               };
           own = h.own;
@@ -306,7 +283,7 @@ module _ (budget : ℕ) (rows : List Row) (s : HeaderState) (pending : List ℕ)
 
 -- A refusal leaves what was fed, and clears the rows.
 pub heading_refused : (budget : ℕ) (rows : List Row) (s : HeaderState) (pending : List ℕ) (count : ℕ) (fed : List ℕ) (f : Fault) →
-    count ≡ length fed → rows ≡ [] → IsTrue (is_of_header f.reason) → IsHeading budget rows s pending count (Some f) fed
+    count ≡ length fed → rows ≡ [] → IsTrue (is_of_header f.reason) → HeaderLoaderInvariant budget rows s pending count (Some f) fed
 heading_refused budget rows s pending count fed f counted cleared own = record {
   counted = counted;
   few_rows = omega (arith, ap length cleared);
@@ -314,3 +291,18 @@ heading_refused budget rows s pending count fed f counted cleared own = record {
   own = λ g e. let d : f ≡ g = cc in subst (λ (x : Fault). IsTrue (is_of_header x.reason)) d own;
   cleared = λ g e. cleared;
 }
+
+-- A header that is whole is that of the table.
+pub table_declared : (budget : ℕ) (rows : List Row) (s : HeaderState) (pending : List ℕ) (count : ℕ) (refused : Option Fault) (fed : List ℕ) →
+    HeaderLoaderInvariant budget rows s pending count refused fed → refused ≡ None → is_behind_header s.position ≡ true → DeclaredInvariant rows s.total budget count fed
+table_declared budget rows s pending count refused fed h none done =
+    let r = h.reading none in
+    let t = heading_table budget rows s pending fed r done in
+    record {
+      is_table = t.0;
+      unplaced = r.has_read.unplaced;
+      total_is = heading_total budget rows s pending fed r done;
+      within = r.has_read.within;
+      counted = h.counted;
+      header = t.1;
+    }

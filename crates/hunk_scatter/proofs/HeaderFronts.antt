@@ -1,36 +1,33 @@
 -- The header in front of bytes: it is one, its size words keep to its declared bytes, and each load text begins with one.
-use Rattle.std.proofs.Common.{◌≡◌, ℕ, ◌+◌, ◌*◌, ◌≤◌, Bool, true, false, List, [], ◌∷◌, ◌++◌, length, refl, sym, ap, subst, ◌∙◌, append_assoc, append-nil, arith, ◌⊎◌, inl, inr}
+use Rattle.std.proofs.Common.{◌≡◌, ℕ, ◌+◌, ◌*◌, ◌≤◌, Bool, true, false, List, [], ◌∷◌, ◌++◌, length, refl, sym, ap, ◌∙◌, append_assoc, append-nil, arith, subst, ◌⊎◌, inl, inr}
 use Rattle.std.specs.List.{flat_map}
 use Rattle.std.proofs.lemmas.List.{length-map, map-append}
 use Rattle.hunk_words.specs.Bits.{size_longs}
 use Rattle.hunk_words.specs.Longs.{longs, bytes_of}
 use Rattle.hunk_words.proofs.LongLaws.{bytes_of-append, longs-bytes_of}
 use Rattle.hunk_words.specs.declared.reason.Reason.{Reason}
+use Rattle.hunk_scan.specs.Positions.{is_behind_header}
+use Rattle.hunk_scan.specs.Roles.{Role, Role as roles, refuse}
 use Rattle.hunk_files.specs.Fault.{Expects, HasRefusal}
 use Rattle.hunk_files.specs.Image.{declared_bytes}
 use Rattle.hunk_files.specs.LoadFile.{TableEntry, LoadFileValue, IsLoadFile}
 use Rattle.hunk_files.specs.LoadText.{labelled, header_labelled, hunk_labelled, table, text, words}
-use Rattle.hunk_files.specs.Roles.{Role, Role as roles, refuse}
-use Rattle.hunk_files.proofs.Accepted.{header_accepted}
+use Rattle.hunk_files.specs.FileSteps.{Progress, AtSizeWord, Next, More, Finished, open_hunk, role_of, step, Leads}
+use Rattle.hunk_files.specs.ReaderPosition.{position_of, table_of}
+use Rattle.hunk_files.specs.WordsRead.{HasRead, Labelled, AreAccepted}
 use Rattle.hunk_files.proofs.FileProgress.{ProgressFits, NextFits, step_keeps}
-use Rattle.hunk_files.proofs.FileSteps.{Progress, AtFirst, AtResident, AtTableSize, AtFirstHunk, AtLastHunk, AtSizeWord, AtAttributes, AtBlock, InBody, Next, More, Finished, open_hunk, role_of, step, Leads}
-use Rattle.hunk_files.proofs.FileText.{header_leads, entries_fit}
-use Rattle.hunk_files.proofs.Reading.{HasRead}
-use Rattle.hunk_files.proofs.Runs.{Labelled, IsAccepted, AreAccepted, Leads-split, Leads-same}
-use Rattle.hunk_files.proofs.Scan.{no_fault, words_split, expected_place}
-use Rattle.hunk_scatter.specs.declared.header_state.HeaderPhase.{HeaderPhase}
-use Rattle.hunk_scatter.specs.declared.header_state.HeaderPhase.TheVariants as phases
-use Rattle.hunk_scatter.specs.Headers.{IsTable, header_words, header_bytes, entries_so_far, IsWithinBudget, PassesBudget}
-use Rattle.hunk_scatter.specs.Heading.{next_at, is_done, behind, adds, declares, IsStarted, total_at}
-use Rattle.hunk_scatter.specs.Loading.{IsBehindHeader}
-use Rattle.hunk_scatter.specs.Loads.{IsWithinHeader, IsWithinFile}
-use Rattle.hunk_scatter.specs.Standing.{table_of}
+use Rattle.hunk_files.proofs.FileText.{entries_fit}
+use Rattle.hunk_files.proofs.Reading.{reads, rest_read}
+use Rattle.hunk_files.proofs.Scan.{no_fault, expected_place}
+use Rattle.hunk_scatter.specs.HeaderBytes.{IsTable, header_words, header_bytes, entries_so_far, IsWithinBudget, PassesBudget}
+use Rattle.hunk_scatter.specs.HeaderLoaderFields.{declares, declared_so_far, OpensFirst}
+use Rattle.hunk_scatter.specs.BodyLoaderFields.{IsBehindHeader}
+use Rattle.hunk_scatter.specs.LoadOutcomes.{IsWithinHeader, IsWithinFile}
 use Rattle.hunk_scatter.proofs.Behind.{table_behind, no_size_word}
 use Rattle.hunk_scatter.proofs.Faults.{longs-more}
 use Rattle.hunk_scatter.proofs.Feeding.{fronts_of}
 use Rattle.hunk_scatter.proofs.Forget.{step_behind, step_table}
-use Rattle.hunk_scatter.proofs.HeaderLeast.{opens}
-use Rattle.hunk_scatter.proofs.HeaderSteps.{header_step, goes_on, not_done, step_total}
+use Rattle.hunk_scatter.proofs.HeaderSteps.{IsInHeader, behind_is, step_opens, step_declares, rows_total}
 use Rattle.hunk_scatter.proofs.HeaderStops.{header_longs}
 use Rattle.hunk_scatter.proofs.HeaderTexts.{header_read, rows_read}
 use Rattle.hunk_scatter.proofs.Outcomes.{longs_text}
@@ -49,12 +46,8 @@ opened (e ∷ t) is = refl
 
 longer : (t u : List TableEntry) (m : List ℕ) → IsTable t → IsTable u → header_words u ≡ header_words t ++ m → u ≡ t
 longer t u m is ok e =
-    let s = words_split (header_labelled u) (header_words t) m e in
-    let cut = Leads-split (More AtFirst) (open_hunk (length u) [] u) s.front s.back (subst (λ (ls : Labelled). Leads (More AtFirst) ls (open_hunk (length u) [] u)) s.split (header_leads u ok.each)) in
-    let same = Leads-same (More AtFirst) cut.0 (open_hunk (length t) [] t) s.front (header_labelled t) cut.1 (header_leads t is.each) s.front_words in
-    sym (opened u ok)
-    ∙ behind_table (open_hunk (length t) [] t) (open_hunk (length u) [] u) (table_behind t is) s.back (subst (λ (n : Next). Leads n s.back (open_hunk (length u) [] u)) same.1 cut.2)
-    ∙ opened t is
+    let r = rest_read (header_words t) (open_hunk (length t) [] t) (header_read t is) (header_words u) (open_hunk (length u) [] u) (header_read u ok) m e in
+    sym (opened u ok) ∙ behind_table (open_hunk (length t) [] t) (open_hunk (length u) [] u) (table_behind t is) r.0 r.1 ∙ opened t is
 
 -- Bytes begin with one header.
 pub one_table : (t u : List TableEntry) (xs ys : List ℕ) → IsTable t → IsTable u → header_bytes t ++ xs ≡ header_bytes u ++ ys → t ≡ u
@@ -98,82 +91,49 @@ within_file bytes w v more is e =
 
 module _ (t : List TableEntry) (is : IsTable t) where
   -- a run from here to the end of the header
-  abbrev TotalsTo : Labelled → Type 0
-  TotalsTo ls =
-      (phase : HeaderPhase) (now : List TableEntry) → IsStarted phase now → ((p : Progress) → next_at phase now ≡ More p → ProgressFits p) →
-      Leads (next_at phase now) ls (open_hunk (length t) [] t) → total_at phase now ≤ declared_bytes t
+  abbrev TotalsTo : Next → Labelled → Type 0
+  TotalsTo n ls = NextFits n → OpensFirst n → AreAccepted ls → Leads n ls (open_hunk (length t) [] t) → declared_so_far n ≤ declared_bytes t
 
-  held : (now : List TableEntry) → table_of (open_hunk (length now) [] now) ≡ now
-  held [] = refl
-  held (e ∷ now) = refl
+  word_total : (p : Progress) (l : Role × ℕ) (ls : Labelled) → TotalsTo (step p l.1) ls → ProgressFits p → AreAccepted (l ∷ ls) → Leads (More p) (l ∷ ls) (open_hunk (length t) [] t) → IsInHeader p →
+      declared_so_far (More p) + declares (position_of (More p)) l.1 ≤ declared_bytes t
+  word_total p l ls rest f ok run e =
+      let pass = ap (λ (r : Role). refuse r l.1) run.0 ∙ ok.0.1 in
+      let less = rest (step_keeps p l.1 f ok.0.0 pass).0 (step_opens p l.1 e f) ok.1 run.1 in
+      omega (arith, less, step_declares p l.1 e)
 
-  open_behind : (now : List TableEntry) → IsBehindHeader (open_hunk (length now) [] now)
-  open_behind [] = tt
-  open_behind (e ∷ now) = tt
+  past_total : (p : Progress) (ls : Labelled) → OpensFirst (More p) → is_behind_header (position_of (More p)) ≡ true → Leads (More p) ls (open_hunk (length t) [] t) → declared_so_far (More p) ≤ declared_bytes t
+  past_total p ls o e run =
+      let table : ℕ = length (table_of (More p)) in
+      let same : table_of (More p) ≡ t = sym (behind_table (More p) (open_hunk (length t) [] t) (behind_is (More p) e) ls run) ∙ opened t is in
+      omega (arith, ap declared_so_far (o e), rows_total table (table_of (More p)) 0, ap declared_bytes same)
 
-  past_total : (ls : Labelled) (phase : HeaderPhase) (now : List TableEntry) → is_done phase ≡ true → Leads (next_at phase now) ls (open_hunk (length t) [] t) → total_at phase now ≤ declared_bytes t
-  past_total ls phases.Done now d run =
-      let same : now ≡ t = sym (held now) ∙ sym (behind_table (open_hunk (length now) [] now) (open_hunk (length t) [] t) (open_behind now) ls run) ∙ opened t is in
-      omega (arith, ap declared_bytes same)
-  past_total ls _ now d run = absurd cc
-
-  on_word : (l : Role × ℕ) (ls : Labelled) → IsAccepted l → TotalsTo ls → (phase : HeaderPhase) (now : List TableEntry) → is_done phase ≡ false → IsStarted phase now →
-      ((p : Progress) → next_at phase now ≡ More p → ProgressFits p) → Leads (next_at phase now) (l ∷ ls) (open_hunk (length t) [] t) → total_at phase now + declares phase l.1 ≤ declared_bytes t
-  on_word l ls a rest phase now more s fits run =
-      let g = goes_on phase now more in
-      let k = header_step phase now l.1 (not_done phase more) s g.0 g.1 (fits g.0 g.1) in
-      let here = subst (λ (n : Next). Leads n (l ∷ ls) (open_hunk (length t) [] t)) g.1 run in
-      let pass = ap (λ (r : Role). refuse r l.1) here.0 ∙ a.1 in
-      let kept = step_keeps g.0 l.1 (fits g.0 g.1) a.0 pass in
-      let less = rest (behind phase l.1) (now ++ adds phase l.1) k.2
-      (λ p e. subst NextFits (k.1 ∙ e) kept.0)
-      (subst (λ (n : Next). Leads n ls (open_hunk (length t) [] t)) k.1 here.1) in
-      omega (arith, less, step_total phase now l.1)
-
-  run_total : (ls : Labelled) → AreAccepted ls → TotalsTo ls
-  run_total [] a phase now s fits run = go (is_done phase) refl
+  run_total : (ls : Labelled) (n : Next) → TotalsTo n ls
+  run_total [] n f o ok run = omega (arith, ap declared_so_far run, rows_total (length t) t 0)
+  run_total (l ∷ ls) (Finished v) f o ok run = absurd run
+  run_total (l ∷ ls) (More p) f o ok run = go (run_total ls (step p l.1)) (is_behind_header (position_of (More p))) refl
     where
-      go : (b : Bool) → is_done phase ≡ b → total_at phase now ≤ declared_bytes t
-      go true e = past_total [] phase now e run
-      go false e = absurd (opens phase now t e is run)
-  run_total (l ∷ ls) a phase now s fits run = go (run_total ls a.1) (is_done phase) refl
-    where
-      go : TotalsTo ls → (b : Bool) → is_done phase ≡ b → total_at phase now ≤ declared_bytes t
-      go rest true e = past_total (l ∷ ls) phase now e run
-      go rest false e = let more = on_word l ls a.0 rest phase now e s fits run in omega (arith, more)
-
-  accepted_right : (xs ys : Labelled) → AreAccepted (xs ++ ys) → AreAccepted ys
-  accepted_right [] ys a = a
-  accepted_right (x ∷ xs) ys a = accepted_right xs ys a.1
+      go : TotalsTo (step p l.1) ls → (b : Bool) → is_behind_header (position_of (More p)) ≡ b → declared_so_far (More p) ≤ declared_bytes t
+      go rest true e = past_total p (l ∷ ls) o e run
+      go rest false e = let le = word_total p l ls rest f ok run e in omega (arith, le)
 
   -- the longword that a run from a size word goes by
   first_word : (p : Progress) (before : List ℕ) (word : ℕ) (after : List ℕ) → HasRead before (More p) → role_of p ≡ roles.SizeWord → (ls : Labelled) → AreAccepted ls → words ls ≡ word ∷ after →
       Leads (More p) ls (open_hunk (length t) [] t) → declared_bytes (entries_so_far before) + 4 * size_longs word ≤ declared_bytes t
-  first_word p before word after h role [] a e run = absurd cc
-  first_word (AtSizeWord hunks done owed) before word after h role (l ∷ ls) a e run =
+  first_word p before word after h role [] ok e run = absurd cc
+  first_word (AtSizeWord hunks done owed) before word after h role (l ∷ ls) ok e run =
       let same : l.1 ≡ word = cc in
-      let rows = rows_read (phases.SizeWord hunks owed) done before h tt in
-      let le = on_word l ls a.0 (run_total ls a.1) (phases.SizeWord hunks owed) done refl tt (λ q d. subst NextFits d h.reads.0) run in
+      let rows = rows_read (More (AtSizeWord hunks done owed)) before h (λ b. absurd cc) in
+      let le = word_total (AtSizeWord hunks done owed) l ls (run_total ls (step (AtSizeWord hunks done owed) l.1)) (reads h).0 ok run refl in
       omega (arith, le, ap declared_bytes rows, ap size_longs same)
-  first_word AtFirst before word after h role (l ∷ ls) a e run = absurd cc
-  first_word AtResident before word after h role (l ∷ ls) a e run = absurd cc
-  first_word AtTableSize before word after h role (l ∷ ls) a e run = absurd cc
-  first_word (AtFirstHunk hunks) before word after h role (l ∷ ls) a e run = absurd cc
-  first_word (AtLastHunk hunks) before word after h role (l ∷ ls) a e run = absurd cc
-  first_word (AtAttributes hunks done w owed) before word after h role (l ∷ ls) a e run = absurd cc
-  first_word (AtBlock o) before word after h role (l ∷ ls) a e run = absurd cc
-  first_word (InBody o w x) before word after h role (l ∷ ls) a e run = absurd cc
+  first_word _ before word after h role (l ∷ ls) ok e run = absurd cc
 
   -- The size words of a header keep to its declared bytes.
   pub header_within : IsWithinBudget (declared_bytes t) (header_words t)
   header_within before after word e x =
-      let s = words_split (header_labelled t) before (word ∷ after) e in
       let place = expected_place before roles.SizeWord x in
-      let h : HasRead before (More place.0) = record { done = x.done; run = place.1.run; reads = place.1.reads; accepted = place.1.accepted; all = x.begins } in
-      let cut = Leads-split (More AtFirst) (open_hunk (length t) [] t) s.front s.back (subst (λ (ls : Labelled). Leads (More AtFirst) ls (open_hunk (length t) [] t)) s.split (header_leads t is.each)) in
-      let same = Leads-same (More AtFirst) cut.0 (More place.0) s.front h.done cut.1 h.run (s.front_words ∙ sym h.all) in
-      first_word place.0 before word after h place.1.role_is s.back (accepted_right s.front s.back (subst AreAccepted s.split (header_accepted t is.some is.most is.each))) s.back_words
-      (subst (λ (n : Next). Leads n s.back (open_hunk (length t) [] t)) same.1 cut.2)
+      let h : HasRead before (More place.0) = record { done = x.done; run = place.1.run; accepted = place.1.accepted; all = x.begins } in
+      let r = rest_read before (More place.0) h (header_words t) (open_hunk (length t) [] t) (header_read t is) (word ∷ after) e in
+      first_word place.0 before word after h place.1.role_is r.0 r.2 r.3 r.1
 
   -- Bytes that begin with a header within the budget do not pass it.
   pub table_within : (budget : ℕ) (bytes more : List ℕ) → declared_bytes t ≤ budget → bytes ≡ header_bytes t ++ more → (at : ℕ) → PassesBudget budget bytes at → ⊥

@@ -1,81 +1,70 @@
 -- Whatever longwords follow in a table, a header has them.
-use Rattle.std.proofs.Common.{◌≡◌, ℕ, zero, suc, ◌+◌, ◌-◌, ◌*◌, ◌%◌, ◌<◌, ◌≤◌, Bool, true, false, cond, List, [], ◌∷◌, ◌++◌, length, replicate, get_or, refl, sym, ap, subst, ◌∙◌, append_assoc, append-nil, arith, length-append, None}
+use Rattle.std.proofs.Common.{◌≡◌, ℕ, zero, suc, ◌+◌, ◌-◌, ◌*◌, ◌%◌, ◌<◌, ◌≤◌, Bool, true, false, List, [], ◌∷◌, ◌++◌, length, replicate, get_or, refl, sym, ap, subst, ◌∙◌, append_assoc, append-nil, arith, length-append, None}
 use Rattle.std.proofs.lemmas.List.{length-replicate}
 use Rattle.hunk_words.specs.Bits.{has_both_bits}
-use Rattle.hunk_words.specs.Longs.{longs, bytes_of, AreLongs, IsBytes}
+use Rattle.hunk_words.specs.Longs.{longs, bytes_of, IsLong, AreLongs, IsBytes}
 use Rattle.hunk_words.proofs.LongLaws.{spelled, longs_fit, length-bytes_of, bytes_of-append}
+use Rattle.hunk_scan.specs.Roles.{refuse}
 use Rattle.hunk_files.specs.LoadFile.{TableEntry}
-use Rattle.hunk_files.specs.Roles.{Role, refuse}
-use Rattle.hunk_files.proofs.FileSteps.{Next}
-use Rattle.hunk_files.proofs.Reading.{HasRead, step_read}
-use Rattle.hunk_scatter.specs.declared.header_state.HeaderPhase.{HeaderPhase}
-use Rattle.hunk_scatter.specs.declared.header_state.HeaderPhase.TheVariants as phases
-use Rattle.hunk_scatter.specs.Headers.{IsTable, header_bytes, BeginsHeader}
-use Rattle.hunk_scatter.specs.Heading.{next_at, role_at, is_done, least_at, rows_owed, behind, adds, IsStarted}
-use Rattle.hunk_scatter.proofs.Forget.{by_count-suc}
-use Rattle.hunk_scatter.proofs.HeaderLeast.{header_ends, least_step}
-use Rattle.hunk_scatter.proofs.HeaderSteps.{header_step, goes_on, not_done}
+use Rattle.hunk_files.specs.FileSteps.{table_entry, Progress, AtFirst, AtResident, AtTableSize, AtFirstHunk, AtLastHunk, AtSizeWord, AtAttributes, AtBlock, InBody, Next, More, Finished, role_of, rows, sized_row, step}
+use Rattle.hunk_files.specs.ReaderPosition.{position_of}
+use Rattle.hunk_files.specs.WordsRead.{HasRead}
+use Rattle.hunk_files.proofs.Reading.{reads, step_read}
+use Rattle.hunk_scatter.specs.HeaderBytes.{IsTable, header_bytes, BeginsHeader}
+use Rattle.hunk_scatter.specs.HeaderLoaderFields.{adds, OpensFirst}
+use Rattle.hunk_scatter.proofs.HeaderLeast.{header_least, header_ends, header_falls}
+use Rattle.hunk_scatter.proofs.HeaderSteps.{IsInHeader, step_opens}
 
 -- ---- longwords of the table
 
-abbrev pub IsInTable : HeaderPhase → Type 0
-IsInTable (phases.SizeWord hunks owed) = Unit {0}
-IsInTable (phases.Attributes hunks word owed) = Unit {0}
-IsInTable phases.Done = Unit {0}
-IsInTable _ = ⊥
+abbrev pub IsInTable : Next → Type 0
+IsInTable (More AtFirst) = ⊥
+IsInTable (More AtResident) = ⊥
+IsInTable (More AtTableSize) = ⊥
+IsInTable (More (AtFirstHunk hunks)) = ⊥
+IsInTable (More (AtLastHunk hunks)) = ⊥
+IsInTable n = Unit {0}
 
-owed_in_table : (hunks owed : ℕ) → IsInTable (rows_owed hunks owed)
-owed_in_table hunks zero = tt
-owed_in_table hunks (suc owed) = subst IsInTable (sym (by_count-suc owed phases.Done (λ (n : ℕ). phases.SizeWord hunks n))) tt
+rows_in_table : (hunks : ℕ) (done : List TableEntry) (owed : ℕ) → IsInTable (rows hunks done owed)
+rows_in_table hunks [] zero = tt
+rows_in_table hunks (e ∷ done) zero = tt
+rows_in_table hunks done (suc owed) = tt
 
-sized_in_table : (hunks owed w : ℕ) (b : Bool) → IsInTable (cond b (phases.Attributes hunks w owed) (rows_owed hunks owed))
-sized_in_table hunks owed w true = tt
-sized_in_table hunks owed w false = owed_in_table hunks owed
+sized_in_table : (hunks : ℕ) (done : List TableEntry) (w owed : ℕ) (b : Bool) → IsInTable (sized_row hunks done w owed b)
+sized_in_table hunks done w owed true = tt
+sized_in_table hunks done w owed false = rows_in_table hunks (done ++ table_entry w 0 ∷ []) owed
 
-behind_in_table : (phase : HeaderPhase) (w : ℕ) → IsInTable phase → IsInTable (behind phase w)
-behind_in_table (phases.SizeWord hunks owed) w i = sized_in_table hunks owed w (has_both_bits w)
-behind_in_table (phases.Attributes hunks word owed) w i = owed_in_table hunks owed
-behind_in_table phases.Done w i = tt
-behind_in_table _ w i = absurd i
-
-pub row_in_table : (phase : HeaderPhase) (w : ℕ) → 0 < length (adds phase w) → IsInTable (behind phase w)
-row_in_table (phases.SizeWord hunks owed) w some = sized_in_table hunks owed w (has_both_bits w)
-row_in_table (phases.Attributes hunks word owed) w some = owed_in_table hunks owed
+-- behind a longword that completes a row
+pub row_in_table : (p : Progress) (w : ℕ) → 0 < length (adds (position_of (More p)) w) → IsInTable (step p w)
+row_in_table (AtSizeWord hunks done owed) w some = sized_in_table hunks done w owed (has_both_bits w)
+row_in_table (AtAttributes hunks done word owed) w some = rows_in_table hunks (done ++ table_entry word w ∷ []) owed
 row_in_table _ w some = absurd (omega (arith, some))
-
-passes_in_table : (phase : HeaderPhase) (w : ℕ) → IsInTable phase → refuse (role_at phase) w ≡ None
-passes_in_table (phases.SizeWord hunks owed) w i = refl
-passes_in_table (phases.Attributes hunks word owed) w i = refl
-passes_in_table phases.Done w i = refl
-passes_in_table _ w i = absurd i
-
-none_left : (phase : HeaderPhase) → is_done phase ≡ true → least_at phase ≡ 0
-none_left phases.Done e = refl
-none_left _ e = absurd cc
 
 -- The reader goes on in the header.
 record GoesOn (ws : List ℕ) : Type 0 where
-  pub phase : HeaderPhase
-  pub table : List TableEntry
-  pub read : HasRead ws (next_at phase table)
+  pub next : Next
+  pub read : HasRead ws next
+  pub opens_first : OpensFirst next
 
-rows_go_on : (xs : List ℕ) → AreLongs xs → (phase : HeaderPhase) (table : List TableEntry) (ws : List ℕ) → IsInTable phase → HasRead ws (next_at phase table) → IsStarted phase table → length xs ≤ least_at phase → GoesOn (ws ++ xs)
-rows_go_on [] l phase table ws i h s le = record { phase = phase; table = table; read = subst (λ (us : List ℕ). HasRead us (next_at phase table)) (sym (append-nil ws)) h }
-rows_go_on (x ∷ xs) l phase table ws i h s le = go (λ p t us j k m n. rows_go_on xs l.1 p t us j k m n) (is_done phase) refl
-  where
-    go : ((p : HeaderPhase) (t : List TableEntry) (us : List ℕ) → IsInTable p → HasRead us (next_at p t) → IsStarted p t → length xs ≤ least_at p → GoesOn (us ++ xs))
-        → (b : Bool) → is_done phase ≡ b → GoesOn (ws ++ x ∷ xs)
-    go rest true e = absurd (let none = none_left phase e in omega (arith, le, none))
-    go rest false e =
-        let g = goes_on phase table e in
-        let at = subst (λ (n : Next). HasRead ws n) g.1 h in
-        let k = header_step phase table x (not_done phase e) s g.0 g.1 at.reads.0 in
-        let pass = passes_in_table phase x i in
-        let less = least_step phase x pass in
-        subst GoesOn (append_assoc ws (x ∷ []) xs)
-        (rest (behind phase x) (table ++ adds phase x) (ws ++ x ∷ []) (behind_in_table phase x i)
-        (subst (λ (n : Next). HasRead (ws ++ x ∷ []) n) k.1 (step_read ws g.0 x at l.0 (ap (λ (r : Role). refuse r x) k.0 ∙ pass)))
-        k.2 (omega (arith, le, less)))
+abbrev GoOn : List ℕ → Next → List ℕ → Type 0
+GoOn xs n ws = IsInTable n → HasRead ws n → OpensFirst n → length xs ≤ header_least n → GoesOn (ws ++ xs)
+
+-- behind one longword
+further : (x : ℕ) (xs : List ℕ) → IsLong x → (p : Progress) (ws : List ℕ) → GoOn xs (step p x) (ws ++ x ∷ []) → IsInHeader p → IsInTable (step p x) → refuse (role_of p) x ≡ None →
+    HasRead ws (More p) → length (x ∷ xs) ≤ header_least (More p) → GoesOn (ws ++ x ∷ xs)
+further x xs l p ws rest e i pass h le =
+    subst GoesOn (append_assoc ws (x ∷ []) xs) (rest i (step_read ws p x h l pass) (step_opens p x e (reads h).0) (omega (arith, le, header_falls p x pass)))
+
+rows_go_on : (xs : List ℕ) → AreLongs xs → (n : Next) (ws : List ℕ) → GoOn xs n ws
+rows_go_on [] l n ws i h o le = record { next = n; read = subst (λ (us : List ℕ). HasRead us n) (sym (append-nil ws)) h; opens_first = o }
+rows_go_on (x ∷ xs) l (More (AtSizeWord hunks done owed)) ws i h o le =
+    further x xs l.0 (AtSizeWord hunks done owed) ws (rows_go_on xs l.1 (step (AtSizeWord hunks done owed) x) (ws ++ x ∷ [])) refl (sized_in_table hunks done x owed (has_both_bits x)) refl h le
+rows_go_on (x ∷ xs) l (More (AtAttributes hunks done word owed)) ws i h o le =
+    further x xs l.0 (AtAttributes hunks done word owed) ws (rows_go_on xs l.1 (step (AtAttributes hunks done word owed) x) (ws ++ x ∷ [])) refl (rows_in_table hunks (done ++ table_entry word x ∷ []) owed) refl h le
+rows_go_on (x ∷ xs) l (More (AtBlock p)) ws i h o le = absurd (omega (arith, le))
+rows_go_on (x ∷ xs) l (More (InBody p word y)) ws i h o le = absurd (omega (arith, le))
+rows_go_on (x ∷ xs) l (Finished v) ws i h o le = absurd (omega (arith, le))
+rows_go_on (x ∷ xs) l _ ws i h o le = absurd i
 
 -- ---- bytes that may end inside a longword
 
@@ -116,14 +105,14 @@ padded zs h =
     empty (b ∷ bs) e = absurd (omega (arith, e))
 
 -- Behind a row a header has whatever bytes follow, as far as headers go on.
-pub table_grows : (phase : HeaderPhase) (table : List TableEntry) (ws more : List ℕ) → IsInTable phase → HasRead ws (next_at phase table) → IsStarted phase table → IsBytes more →
+pub table_grows : (n : Next) (ws more : List ℕ) → IsInTable n → HasRead ws n → OpensFirst n → IsBytes more →
     ((t : List TableEntry) (k : List ℕ) → IsTable t → header_bytes t ≡ bytes_of ws ++ k → length more ≤ length k) → BeginsHeader (bytes_of ws ++ more)
-table_grows phase table ws more i h s fit fits =
-    let end = header_ends phase table ws h in
+table_grows n ws more i h o fit fits =
+    let end = header_ends n ws h o in
     let room = fits end.table (bytes_of end.more) end.is_table (ap bytes_of end.begins ∙ bytes_of-append ws end.more) in
     let p = padded more fit in
-    let g = rows_go_on p.ws p.are_longs phase table ws i h s (omega (arith, room, p.few, end.count, length-bytes_of end.more)) in
-    let e = header_ends g.phase g.table (ws ++ p.ws) g.read in
+    let g = rows_go_on p.ws p.are_longs n ws i h o (omega (arith, room, p.few, end.count, length-bytes_of end.more)) in
+    let e = header_ends g.next (ws ++ p.ws) g.read g.opens_first in
     record {
       table = e.table;
       is_table = e.is_table;

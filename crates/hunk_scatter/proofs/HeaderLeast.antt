@@ -1,114 +1,78 @@
 -- How many longwords a header still has, at least.
-use Rattle.std.proofs.Common.{◌≡◌, ℕ, zero, suc, ◌+◌, ◌-◌, ◌≤◌, Bool, true, false, cond, eqb, List, [], ◌∷◌, ◌++◌, length, refl, sym, ap, subst, ◌∙◌, append_assoc, append-nil, arith, None}
-use Rattle.hunk_words.specs.Bits.{has_both_bits}
-use Rattle.hunk_words.specs.declared.reason.Reason.TheVariants as reasons
-use Rattle.std.proofs.lemmas.Bool.{eqb-false}
+use Rattle.std.proofs.Common.{◌≡◌, ℕ, zero, suc, ◌+◌, ◌-◌, ◌≤◌, Bool, true, false, List, [], ◌∷◌, ◌++◌, length, refl, sym, ap, subst, ◌∙◌, append_assoc, append-nil, arith, None}
 use Rattle.std.proofs.lemmas.List.{length-map}
-use Rattle.hunk_blocks.proofs.Lists.{more_owed, passed_both}
+use Rattle.hunk_words.specs.Bits.{has_both_bits}
+use Rattle.hunk_blocks.proofs.Lists.{more_owed}
+use Rattle.hunk_scan.specs.Positions.{is_behind_header, least_longs}
+use Rattle.hunk_scan.specs.Roles.{Role, refuse}
 use Rattle.hunk_files.specs.LoadFile.{TableEntry}
-use Rattle.hunk_files.specs.LoadText.{header_labelled}
-use Rattle.hunk_files.specs.Roles.{Role, refuse}
-use Rattle.hunk_files.proofs.Accepted.{header_accepted, last_accepted}
-use Rattle.hunk_files.proofs.FileProgress.{ProgressFits, NextFits, step_keeps}
-use Rattle.hunk_files.proofs.FileSteps.{table_entry, Progress, AtFirst, AtResident, AtTableSize, AtFirstHunk, AtLastHunk, AtSizeWord, AtAttributes, Next, More, open_hunk, rows, Leads}
-use Rattle.hunk_files.proofs.FileText.{header_leads}
-use Rattle.hunk_files.proofs.Reading.{HasRead, step_read}
-use Rattle.hunk_files.proofs.Runs.{Labelled, IsAccepted, AreAccepted, Leads-split, Leads-same}
-use Rattle.hunk_files.proofs.Scan.{words_split}
-use Rattle.hunk_scatter.specs.declared.header_state.HeaderPhase.{HeaderPhase}
-use Rattle.hunk_scatter.specs.declared.header_state.HeaderPhase.TheVariants as phases
-use Rattle.hunk_scatter.specs.Headers.{IsTable, header_words}
-use Rattle.hunk_scatter.specs.Heading.{next_at, role_at, is_done, least_at, rows_owed, behind, adds, IsStarted}
-use Rattle.hunk_scatter.proofs.Forget.{by_count-suc}
-use Rattle.hunk_scatter.proofs.HeaderSteps.{header_step, goes_on, not_done}
-use Rattle.hunk_scatter.proofs.HeaderTexts.{header_done}
+use Rattle.hunk_files.specs.FileSteps.{table_entry, Progress, AtFirst, AtResident, AtTableSize, AtFirstHunk, AtLastHunk, AtSizeWord, AtAttributes, AtBlock, InBody, Next, More, Finished, role_of, open_hunk, rows, sized_row, step, Leads}
+use Rattle.hunk_files.specs.ReaderPosition.{position_of, table_of}
+use Rattle.hunk_files.specs.WordsRead.{HasRead, Labelled, AreAccepted}
+use Rattle.hunk_files.proofs.Accepted.{last_accepted}
+use Rattle.hunk_files.proofs.FileProgress.{NextFits, ProgressFits, step_keeps, zero_or_limit}
+use Rattle.hunk_files.proofs.Reading.{reads, rest_read, step_read}
+use Rattle.hunk_scatter.specs.HeaderBytes.{IsTable, header_words}
+use Rattle.hunk_scatter.specs.HeaderLoaderFields.{OpensFirst}
+use Rattle.hunk_scatter.proofs.HeaderTexts.{header_read, header_done}
+
+abbrev pub header_least : Next → ℕ
+header_least (More (AtBlock o)) = 0
+header_least (More (InBody o word x)) = 0
+header_least (Finished v) = 0
+header_least n = least_longs (position_of n)
+
+-- The position tells it.
+pub least_is : (n : Next) → is_behind_header (position_of n) ≡ false → header_least n ≡ least_longs (position_of n)
+least_is (More (AtBlock o)) e = absurd cc
+least_is (More (InBody o word x)) e = absurd cc
+least_is (Finished v) e = absurd cc
+least_is _ e = refl
 
 -- ---- no sooner
 
-least_owed : (hunks owed : ℕ) → least_at (rows_owed hunks owed) ≡ owed
-least_owed hunks zero = refl
-least_owed hunks (suc owed) = ap least_at (by_count-suc owed phases.Done (λ (n : ℕ). phases.SizeWord hunks n)) ∙ omega arith
+rows_least : (hunks : ℕ) (done : List TableEntry) (owed : ℕ) → owed ≤ header_least (rows hunks done owed)
+rows_least hunks done zero = omega arith
+rows_least hunks done (suc owed) = omega arith
 
-sized_least : (hunks owed w : ℕ) (b : Bool) → owed ≤ least_at (cond b (phases.Attributes hunks w owed) (rows_owed hunks owed))
-sized_least hunks owed w true = omega arith
-sized_least hunks owed w false = omega (arith, least_owed hunks owed)
+sized_least : (hunks : ℕ) (done : List TableEntry) (w owed : ℕ) (b : Bool) → owed ≤ header_least (sized_row hunks done w owed b)
+sized_least hunks done w owed true = omega arith
+sized_least hunks done w owed false = rows_least hunks (done ++ table_entry w 0 ∷ []) owed
 
-pub least_step : (phase : HeaderPhase) (w : ℕ) → refuse (role_at phase) w ≡ None → least_at phase ≤ suc (least_at (behind phase w))
-least_step phases.First w ok = omega arith
-least_step phases.Resident w ok = omega arith
-least_step phases.TableSize w ok =
-    let some : w ≡ 0 → ⊥ = eqb-false w 0 (passed_both (eqb w 0) reasons.NoHunks _ ok).0 in
-    omega (arith, some)
-least_step (phases.FirstHunk hunks) w ok = omega arith
-least_step (phases.LastHunk hunks) w ok = omega (arith, least_owed hunks hunks)
-least_step (phases.SizeWord hunks owed) w ok = omega (arith, sized_least hunks owed w (has_both_bits w))
-least_step (phases.Attributes hunks word owed) w ok = omega (arith, least_owed hunks owed)
-least_step phases.Done w ok = omega arith
+-- one step takes one longword at most off what is owed
+pub header_falls : (p : Progress) (w : ℕ) → refuse (role_of p) w ≡ None → header_least (More p) ≤ suc (header_least (step p w))
+header_falls AtFirst w ok = omega arith
+header_falls AtResident w ok = omega arith
+header_falls AtTableSize w ok = omega (arith, zero_or_limit w ok)
+header_falls (AtFirstHunk hunks) w ok = omega arith
+header_falls (AtLastHunk hunks) w ok = omega (arith, rows_least hunks [] hunks)
+header_falls (AtSizeWord hunks done owed) w ok = omega (arith, sized_least hunks done w owed (has_both_bits w))
+header_falls (AtAttributes hunks done word owed) w ok = omega (arith, rows_least hunks (done ++ table_entry word w ∷ []) owed)
+header_falls (AtBlock o) w ok = omega arith
+header_falls (InBody o word x) w ok = omega arith
 
--- the first hunk of a table is not within its header
-pub opens : (phase : HeaderPhase) (table t : List TableEntry) → is_done phase ≡ false → IsTable t → next_at phase table ≡ open_hunk (length t) [] t → ⊥
-opens phase table [] more is e = let some = is.some in omega (arith, some)
-opens phases.First table (x ∷ t) more is e = cc
-opens phases.Resident table (x ∷ t) more is e = cc
-opens phases.TableSize table (x ∷ t) more is e = cc
-opens (phases.FirstHunk hunks) table (x ∷ t) more is e = cc
-opens (phases.LastHunk hunks) table (x ∷ t) more is e = cc
-opens (phases.SizeWord hunks owed) table (x ∷ t) more is e = cc
-opens (phases.Attributes hunks word owed) table (x ∷ t) more is e = cc
-opens phases.Done table (x ∷ t) more is e = cc
+run_least : (n last : Next) (ls : Labelled) → NextFits n → AreAccepted ls → Leads n ls last → header_least last ≡ 0 → header_least n ≤ length ls
+run_least n last [] f ok run e = omega (arith, e, ap header_least run)
+run_least (Finished v) last (l ∷ ls) f ok run e = absurd run
+run_least (More p) last (l ∷ ls) f ok run e =
+    let pass = ap (λ (r : Role). refuse r l.1) run.0 ∙ ok.0.1 in
+    let rest = run_least (step p l.1) last ls (step_keeps p l.1 f ok.0.0 pass).0 ok.1 run.1 e in
+    omega (arith, header_falls p l.1 pass)
 
-at_end : (x : HeaderPhase) → is_done x ≡ true → least_at x ≡ 0
-at_end phases.Done e = refl
-at_end _ e = absurd cc
-
-module _ (t : List TableEntry) (is : IsTable t) where
-  -- a run from here to the end of the header
-  abbrev RunsOn : Labelled → Type 0
-  RunsOn ls =
-      (phase : HeaderPhase) (table : List TableEntry) → IsStarted phase table → ((p : Progress) → next_at phase table ≡ More p → ProgressFits p) →
-      Leads (next_at phase table) ls (open_hunk (length t) [] t) → least_at phase ≤ length ls
-
-  on_word : (l : Role × ℕ) (ls : Labelled) → IsAccepted l → RunsOn ls → (phase : HeaderPhase) (table : List TableEntry) → is_done phase ≡ false → IsStarted phase table →
-      ((p : Progress) → next_at phase table ≡ More p → ProgressFits p) → Leads (next_at phase table) (l ∷ ls) (open_hunk (length t) [] t) → least_at phase ≤ suc (length ls)
-  on_word l ls a rest phase table more s fits run =
-      let g = goes_on phase table more in
-      let k = header_step phase table l.1 (not_done phase more) s g.0 g.1 (fits g.0 g.1) in
-      let here = subst (λ (n : Next). Leads n (l ∷ ls) (open_hunk (length t) [] t)) g.1 run in
-      let pass = ap (λ (r : Role). refuse r l.1) here.0 ∙ a.1 in
-      let kept = step_keeps g.0 l.1 (fits g.0 g.1) a.0 pass in
-      let less = rest (behind phase l.1) (table ++ adds phase l.1) k.2
-      (λ p e. subst NextFits (k.1 ∙ e) kept.0)
-      (subst (λ (n : Next). Leads n ls (open_hunk (length t) [] t)) k.1 here.1) in
-      omega (arith, less, least_step phase l.1 (ap (λ (r : Role). refuse r l.1) (sym k.0) ∙ pass))
-
-  run_least : (ls : Labelled) → AreAccepted ls → RunsOn ls
-  run_least [] a phase table s fits run = go (is_done phase) refl
-    where
-      go : (b : Bool) → is_done phase ≡ b → least_at phase ≤ 0
-      go true e = omega (arith, at_end phase e)
-      go false e = absurd (opens phase table t e is run)
-  run_least (l ∷ ls) a phase table s fits run = go (run_least ls a.1) (is_done phase) refl
-    where
-      go : RunsOn ls → (b : Bool) → is_done phase ≡ b → least_at phase ≤ suc (length ls)
-      go rest true e = omega (arith, at_end phase e)
-      go rest false e = on_word l ls a.0 rest phase table e s fits run
+open_least : (t : List TableEntry) → header_least (open_hunk (length t) [] t) ≡ 0
+open_least [] = refl
+open_least (e ∷ t) = refl
 
 -- No header that begins with what was read ends in fewer longwords.
-pub header_owes : (phase : HeaderPhase) (table : List TableEntry) (ws : List ℕ) → HasRead ws (next_at phase table) → IsStarted phase table →
-    (t : List TableEntry) → IsTable t → (more : List ℕ) → header_words t ≡ ws ++ more → least_at phase ≤ length more
-header_owes phase table ws h s t is more e =
-    let cut = words_split (header_labelled t) ws more e in
-    let ok = header_accepted t is.some is.most is.each in
-    let run = Leads-split (More AtFirst) (open_hunk (length t) [] t) cut.front cut.back (subst (λ (ls : Labelled). Leads (More AtFirst) ls (open_hunk (length t) [] t)) cut.split (header_leads t is.each)) in
-    let same = Leads-same (More AtFirst) run.0 (next_at phase table) cut.front h.done run.1 h.run (cut.front_words ∙ sym h.all) in
-    let least = run_least t is cut.back (right_of cut.front cut.back (subst AreAccepted cut.split ok)) phase table s
-    (λ p d. subst NextFits d h.reads.0)
-    (subst (λ (n : Next). Leads n cut.back (open_hunk (length t) [] t)) same.1 run.2) in
-    omega (arith, least, length-map cut.back (λ (x : Role × ℕ). x.1), ap length cut.back_words)
-  where
-    right_of : (xs ys : Labelled) → AreAccepted (xs ++ ys) → AreAccepted ys
-    right_of [] ys a = a
-    right_of (x ∷ xs) ys a = right_of xs ys a.1
+pub header_owes : (n : Next) (ws : List ℕ) → HasRead ws n → (t : List TableEntry) → IsTable t → (more : List ℕ) → header_words t ≡ ws ++ more → header_least n ≤ length more
+header_owes n ws h t is more e =
+    let r = rest_read ws n h (header_words t) (open_hunk (length t) [] t) (header_read t is) more e in
+    omega (arith, run_least n (open_hunk (length t) [] t) r.0 (reads h).0 r.2 r.1 (open_least t), length-map r.0 (λ (x : Role × ℕ). x.1), ap length r.3)
+
+-- the first hunk of a table is not within its header
+pub opens : (n : Next) (t : List TableEntry) → is_behind_header (position_of n) ≡ false → IsTable t → n ≡ open_hunk (length t) [] t → ⊥
+opens n [] e is same = let some = is.some in omega (arith, some)
+opens n (x ∷ t) e is same = let clash : true ≡ false = ap (λ (m : Next). is_behind_header (position_of m)) (sym same) ∙ e in cc
 
 -- ---- and just so soon
 
@@ -140,7 +104,7 @@ ends_rows (suc owed) hunks table ws h e =
 
 ends_last : (hunks : ℕ) (ws : List ℕ) → HasRead ws (More (AtLastHunk hunks)) → EndsIn ws (suc hunks)
 ends_last hunks ws h =
-    let fits = h.reads.0 in
+    let fits = (reads h).0 in
     one_more ws (hunks - 1) hunks
     (ends_rows hunks hunks [] (ws ++ (hunks - 1) ∷ []) (step_read ws (AtLastHunk hunks) (hunks - 1) h (omega (arith, fits.1)) (last_accepted hunks fits.0)) (omega arith))
 
@@ -156,17 +120,22 @@ ends_resident ws h = one_more ws 0 4 (ends_size (ws ++ 0 ∷ []) (step_read ws A
 as_least : (ws : List ℕ) (m n : ℕ) → m ≡ n → EndsIn ws m → EndsIn ws n
 as_least ws m n e h = subst (EndsIn ws) e h
 
+whole : (n : Next) (ws : List ℕ) → HasRead ws n → n ≡ open_hunk (length (table_of n)) [] (table_of n) → EndsIn ws 0
+whole n ws h e = ends_rows 0 (length (table_of n)) (table_of n) ws (subst (λ (m : Next). HasRead ws m) e h) (omega arith)
+
 -- What was read of a header is the beginning of one that ends in the least number of longwords.
-pub header_ends : (phase : HeaderPhase) (table : List TableEntry) (ws : List ℕ) → HasRead ws (next_at phase table) → EndsIn ws (least_at phase)
-header_ends phases.First table ws h = one_more ws 0x3F3 5 (ends_resident (ws ++ 0x3F3 ∷ []) (step_read ws AtFirst 0x3F3 h (omega arith) refl))
-header_ends phases.Resident table ws h = ends_resident ws h
-header_ends phases.TableSize table ws h = ends_size ws h
-header_ends (phases.FirstHunk hunks) table ws h = as_least ws _ _ (omega arith) (ends_first hunks ws h)
-header_ends (phases.LastHunk hunks) table ws h = as_least ws _ _ (omega arith) (ends_last hunks ws h)
-header_ends (phases.SizeWord hunks owed) table ws h = as_least ws _ _ (omega arith) (ends_rows (suc owed) hunks table ws h h.reads.0.counts)
-header_ends (phases.Attributes hunks word owed) table ws h =
+pub header_ends : (n : Next) (ws : List ℕ) → HasRead ws n → OpensFirst n → EndsIn ws (header_least n)
+header_ends (More AtFirst) ws h o = one_more ws 0x3F3 5 (ends_resident (ws ++ 0x3F3 ∷ []) (step_read ws AtFirst 0x3F3 h (omega arith) refl))
+header_ends (More AtResident) ws h o = ends_resident ws h
+header_ends (More AtTableSize) ws h o = ends_size ws h
+header_ends (More (AtFirstHunk hunks)) ws h o = as_least ws _ _ (omega arith) (ends_first hunks ws h)
+header_ends (More (AtLastHunk hunks)) ws h o = as_least ws _ _ (omega arith) (ends_last hunks ws h)
+header_ends (More (AtSizeWord hunks done owed)) ws h o = as_least ws _ _ (omega arith) (ends_rows (suc owed) hunks done ws h (reads h).0.counts)
+header_ends (More (AtAttributes hunks done word owed)) ws h o =
     as_least ws _ _ (omega arith)
     (one_more ws 0 owed
-    (ends_rows owed hunks (table ++ table_entry word 0 ∷ []) (ws ++ 0 ∷ []) (step_read ws (AtAttributes hunks table word owed) 0 h (omega arith) refl)
-    (more_owed table (table_entry word 0) owed ∙ h.reads.0.0.counts)))
-header_ends phases.Done table ws h = ends_rows 0 (length table) table ws h (omega arith)
+    (ends_rows owed hunks (done ++ table_entry word 0 ∷ []) (ws ++ 0 ∷ []) (step_read ws (AtAttributes hunks done word owed) 0 h (omega arith) refl)
+    (more_owed done (table_entry word 0) owed ∙ (reads h).0.0.counts)))
+header_ends (More (AtBlock p)) ws h o = whole (More (AtBlock p)) ws h (o refl)
+header_ends (More (InBody p word x)) ws h o = whole (More (InBody p word x)) ws h (o refl)
+header_ends (Finished v) ws h o = whole (Finished v) ws h (o refl)

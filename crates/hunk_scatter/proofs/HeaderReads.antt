@@ -1,24 +1,27 @@
 -- One longword of a header.
-use Rattle.std.proofs.Common.{◌≡◌, ℕ, ◌+◌, ◌*◌, ◌≤◌, false, List, [], ◌∷◌, ◌++◌, map, refl, sym, ap, subst, ◌∙◌, arith, None}
+use Rattle.std.proofs.Common.{◌≡◌, ℕ, ◌+◌, ◌*◌, ◌≤◌, false, List, [], ◌∷◌, ◌++◌, map, refl, sym, ap, ap₂, subst, ◌∙◌, arith, None}
 use Rattle.std.proofs.lemmas.List.{map-append}
 use Rattle.hunk_words.specs.Bits.{size_longs}
 use Rattle.hunk_words.specs.Longs.{IsLong}
+use Rattle.hunk_scan.specs.declared.position.Position.{Position}
+use Rattle.hunk_scan.specs.Positions as scan
+use Rattle.hunk_scan.specs.Positions.{role_at, is_behind_header}
+use Rattle.hunk_scan.specs.Roles.{Role as roles, refuse}
 use Rattle.hunk_files.specs.declared.row.Row.{Row}
 use Rattle.hunk_files.specs.Fault.{Expects}
 use Rattle.hunk_files.specs.Image.{declared_bytes}
 use Rattle.hunk_files.specs.LoadFile.{TableEntry}
-use Rattle.hunk_files.specs.Roles.{Role, Role as roles, refuse}
-use Rattle.hunk_files.proofs.FileSteps.{Progress, Next, More, role_of, step}
-use Rattle.hunk_files.proofs.Reading.{HasRead, step_read}
-use Rattle.hunk_scatter.specs.declared.header_state.HeaderPhase.{HeaderPhase}
-use Rattle.hunk_scatter.specs.declared.header_state.HeaderPhase.TheVariants as phases
+use Rattle.hunk_files.specs.FileSteps.{Progress, Next, More, Finished, role_of, step}
+use Rattle.hunk_files.specs.ReaderPosition.{position_of, table_of}
+use Rattle.hunk_files.specs.WordsRead.{HasRead}
+use Rattle.hunk_files.proofs.Positions.{step_position}
+use Rattle.hunk_files.proofs.Reading.{reads, step_read}
 use Rattle.hunk_scatter.specs.declared.header_state.HeaderState.{HeaderState}
-use Rattle.hunk_scatter.specs.Headers.{entries_so_far, IsWithinBudget}
-use Rattle.hunk_scatter.specs.Heading.{next_at, role_at, is_done, behind, adds, declares, IsStarted, total_at, HasReadHeader}
-use Rattle.hunk_scatter.specs.Standing.{IsInBody}
+use Rattle.hunk_scatter.specs.HeaderBytes.{entries_so_far, IsWithinBudget}
+use Rattle.hunk_scatter.specs.HeaderLoaderFields.{adds, declares, declared_so_far, HasReadHeader}
 use Rattle.hunk_scatter.specs.Rows.{entry_of, entries_of, row_of}
 use Rattle.hunk_scatter.proofs.Behind.{role_here}
-use Rattle.hunk_scatter.proofs.HeaderSteps.{header_step, goes_on, not_done, step_total}
+use Rattle.hunk_scatter.proofs.HeaderSteps.{IsInHeader, refusal_here, size_word, step_adds, step_declares, step_opens}
 use Rattle.hunk_scatter.proofs.HeaderTexts.{rows_read}
 use Rattle.hunk_scatter.proofs.Splits.{Cuts, Same, Before, Behind, cuts, not_before}
 
@@ -37,37 +40,50 @@ unplaced_more rows more e =
 
 -- ---- the size words
 
--- where a size word is expected, it declares its bytes beside those of the rows
-pub size_word : (phase : HeaderPhase) (table : List TableEntry) (w : ℕ) → is_done phase ≡ false → role_at phase ≡ roles.SizeWord →
-    (declares phase w ≡ 4 * size_longs w) × (total_at phase table ≡ declared_bytes table)
-size_word (phases.SizeWord hunks owed) table w more e = (refl, refl)
-size_word phases.Done table w more e = absurd cc
-size_word _ table w more e = absurd cc
+module _ (budget : ℕ) (rows : List Row) (s : HeaderState) (ws : List ℕ) (h : HasReadHeader budget rows s ws) (more : is_behind_header s.position ≡ false) where
+  -- the reader goes on here
+  goes_on : (n : Next) → is_behind_header (position_of n) ≡ false → (p : Progress) × (n ≡ More p)
+  goes_on (More p) e = (p, refl)
+  goes_on (Finished v) e = absurd cc
 
-module _ (budget : ℕ) (rows : List Row) (s : HeaderState) (ws : List ℕ) (h : HasReadHeader budget rows s ws) (more : is_done s.phase ≡ false) where
+  at : (p : Progress) × (h.next ≡ More p)
+  at = goes_on h.next (ap is_behind_header h.position_is ∙ more)
+
   pub here : Progress
-  here = (goes_on s.phase (entries_of rows) more).0
-
-  at_is : next_at s.phase (entries_of rows) ≡ More here
-  unfolding here
-  at_is = (goes_on s.phase (entries_of rows) more).1
+  here = at.0
 
   pub read_here : HasRead ws (More here)
-  read_here = subst (λ (n : Next). HasRead ws n) at_is h.read
+  unfolding here
+  read_here = subst (λ (n : Next). HasRead ws n) at.1 h.read
 
-  stepped : (w : ℕ) → (role_of here ≡ role_at s.phase) × (step here w ≡ next_at (behind s.phase w) (entries_of rows ++ adds s.phase w)) × IsStarted (behind s.phase w) (entries_of rows ++ adds s.phase w)
-  stepped w = header_step s.phase (entries_of rows) w (not_done s.phase more) h.started here at_is read_here.reads.0
+  pub position_here : position_of (More here) ≡ s.position
+  unfolding here
+  position_here = ap position_of (sym at.1) ∙ h.position_is
 
-  pub role_is : role_of here ≡ role_at s.phase
-  role_is = (stepped 0).0
+  pub in_header : IsInHeader here
+  in_header = ap is_behind_header position_here ∙ more
+
+  table_here : table_of (More here) ≡ entries_of rows
+  unfolding here
+  table_here = ap table_of (sym at.1) ∙ h.table_is
+
+  total_here : s.total ≡ declared_so_far (More here)
+  unfolding here
+  total_here = h.total_is ∙ ap declared_so_far at.1
+
+  pub refusal_is : (w : ℕ) → refuse (role_of here) w ≡ refuse (role_at 0 s.position) w
+  refusal_is w = refusal_here here w in_header (reads read_here).0 ∙ ap (λ (p : Position). refuse (role_at 0 p) w) position_here
 
   -- the sum where a size word is expected
-  pub sum_here : (w : ℕ) → Expects ws roles.SizeWord → (declares s.phase w ≡ 4 * size_longs w) × (s.total ≡ declared_bytes (entries_so_far ws))
+  pub sum_here : (w : ℕ) → Expects ws roles.SizeWord → (declares s.position w ≡ 4 * size_longs w) × (s.total ≡ declared_bytes (entries_so_far ws))
+  unfolding here
   sum_here w e =
-      let k = size_word s.phase (entries_of rows) w more (sym role_is ∙ role_here ws here roles.SizeWord read_here e) in
-      (k.0, h.total_is ∙ k.1 ∙ ap declared_bytes (sym (rows_read s.phase (entries_of rows) ws h.read h.started)))
+      let k = size_word here w (role_here ws here roles.SizeWord read_here e) in (
+        ap (λ (p : Position). declares p w) (sym position_here) ∙ k.0,
+        total_here ∙ k.1 ∙ ap declared_bytes (ap table_of (sym at.1) ∙ sym (rows_read h.next ws h.read h.opens_first)),
+      )
 
-  module _ (w : ℕ) (within : s.total + declares s.phase w ≤ budget) where
+  module _ (w : ℕ) (within : s.total + declares s.position w ≤ budget) where
     none_passes_more : IsWithinBudget budget (ws ++ w ∷ [])
     none_passes_more before after word e x = go (cuts ws w [] before word after e)
       where
@@ -81,36 +97,22 @@ module _ (budget : ℕ) (rows : List Row) (s : HeaderState) (ws : List ℕ) (h :
         go (Behind m p) = h.none_passes before m word p x
 
     -- A longword that passes.
-    pub word_read : IsLong w → refuse (role_at s.phase) w ≡ None →
-        HasReadHeader budget (rows ++ map row_of (adds s.phase w)) (record { phase = behind s.phase w; total = s.total + declares s.phase w }) (ws ++ w ∷ [])
+    pub word_read : IsLong w → refuse (role_at 0 s.position) w ≡ None →
+        HasReadHeader budget (rows ++ map row_of (adds s.position w)) (record { position = scan.step s.position w; total = s.total + declares s.position w }) (ws ++ w ∷ [])
     word_read is pass =
-        let k = stepped w in
-        let table = sym (entries-more rows (adds s.phase w)) in
+        let ok : refuse (role_of here) w ≡ None = refusal_is w ∙ pass in
         record {
-          read =
-              subst (λ (n : Next). HasRead (ws ++ w ∷ []) n) (k.1 ∙ ap (next_at (behind s.phase w)) table)
-              (step_read ws here w read_here is (ap (λ (r : Role). refuse r w) k.0 ∙ pass));
-          started = subst (IsStarted (behind s.phase w)) table k.2;
-          unplaced = unplaced_more rows (adds s.phase w) h.unplaced;
+          next = step here w;
+          read = step_read ws here w read_here is ok;
+          opens_first = step_opens here w in_header (reads read_here).0;
+          position_is = step_position here w (reads read_here).0 ok ∙ ap (λ (p : Position). scan.step p w) position_here;
+          table_is =
+              step_adds here w in_header
+              ∙ ap₂ (λ (t : List TableEntry) (p : Position). t ++ adds p w) table_here position_here
+              ∙ sym (entries-more rows (adds s.position w));
+          unplaced = unplaced_more rows (adds s.position w) h.unplaced;
           total_is =
-              ap (λ (n : ℕ). n + declares s.phase w) h.total_is
-              ∙ sym (step_total s.phase (entries_of rows) w)
-              ∙ ap (total_at (behind s.phase w)) table;
+              ap₂ (λ (n : ℕ) (p : Position). n + declares p w) total_here (sym position_here) ∙ sym (step_declares here w in_header);
           within = within;
           none_passes = none_passes_more;
         }
-
-  -- It is not in the body.
-  pub here_in_header : IsInBody here → ⊥
-  unfolding here goes_on
-  here_in_header b = go s.phase (entries_of rows) more b
-    where
-      go : (x : HeaderPhase) (t : List TableEntry) (m : is_done x ≡ false) → IsInBody (goes_on x t m).0 → ⊥
-      go phases.Done t m b = absurd cc
-      go phases.First t m b = b
-      go phases.Resident t m b = b
-      go phases.TableSize t m b = b
-      go (phases.FirstHunk hunks) t m b = b
-      go (phases.LastHunk hunks) t m b = b
-      go (phases.SizeWord hunks owed) t m b = b
-      go (phases.Attributes hunks word owed) t m b = b

@@ -1,112 +1,115 @@
--- The numbers and rows follow the reader of load files through the header.
-use Rattle.std.proofs.Common.{◌≡◌, ℕ, zero, suc, ◌+◌, ◌*◌, Bool, true, false, cond, List, [], ◌∷◌, ◌++◌, length, refl, sym, ap, subst, ◌∙◌, append-nil, arith}
+-- A longword of a header: what it adds to the table and to the declared bytes, and that the first hunk opens behind the last.
+use Rattle.std.proofs.Common.{◌≡◌, ℕ, zero, suc, ◌+◌, ◌*◌, ◌≤◌, ◌<◌, Bool, true, false, cond, List, [], ◌∷◌, ◌++◌, length, refl, sym, ap, ◌∙◌, append-nil, arith}
 use Rattle.hunk_words.specs.Bits.{has_both_bits, size_longs}
+use Rattle.hunk_blocks.proofs.Lists.{more_owed}
+use Rattle.hunk_scan.specs.Roles.{Role as roles, refuse}
+use Rattle.hunk_scan.specs.Positions.{role_at, is_behind_header}
 use Rattle.hunk_files.specs.Image.{declared_bytes}
 use Rattle.hunk_files.specs.LoadFile.{TableEntry}
-use Rattle.hunk_files.proofs.FileSteps.{table_entry, Progress, AtFirst, AtResident, AtTableSize, AtFirstHunk, AtLastHunk, AtSizeWord, AtAttributes, More, open_hunk, role_of, rows, sized_row, step}
+use Rattle.hunk_files.specs.FileSteps.{table_entry, Progress, AtFirst, AtResident, AtTableSize, AtFirstHunk, AtLastHunk, AtSizeWord, AtAttributes, AtBlock, InBody, Next, More, Finished, role_of, rows, sized_row, step}
+use Rattle.hunk_files.specs.ReaderPosition.{position_of, longs_of, table_of}
 use Rattle.hunk_files.proofs.FileProgress.{ProgressFits}
-use Rattle.hunk_blocks.proofs.Lists.{more_owed}
-use Rattle.hunk_scatter.specs.declared.header_state.HeaderPhase.{HeaderPhase}
-use Rattle.hunk_scatter.specs.declared.header_state.HeaderPhase.TheVariants as phases
-use Rattle.hunk_scatter.specs.Heading.{next_at, role_at, rows_owed, behind, adds, declares, IsStarted, is_done, total_at}
+use Rattle.hunk_files.proofs.Positions.{refuse_same}
+use Rattle.hunk_scatter.specs.HeaderLoaderFields.{adds, declares, declared_so_far, OpensFirst}
+use Rattle.hunk_scatter.specs.BodyLoaderFields.{IsBehindHeader}
+use Rattle.hunk_scatter.specs.BodyReader.{IsInBody}
 use Rattle.hunk_scatter.proofs.DeclaredBytes.{declared-append, declared-one}
-use Rattle.hunk_scatter.proofs.Forget.{by_count-suc}
 
-rows_at : (hunks : ℕ) (table : List TableEntry) (owed : ℕ) → length table + owed ≡ hunks → rows hunks table owed ≡ next_at (rows_owed hunks owed) table
-rows_at hunks table zero e = let d : hunks ≡ length table = omega arith in ap (λ (n : ℕ). open_hunk n [] table) d
-rows_at hunks table (suc owed) e = ap (λ (x : HeaderPhase). next_at x table) (sym (by_count-suc owed phases.Done (λ (n : ℕ). phases.SizeWord hunks n)))
+-- ---- what is in the header
 
-sized_at : (hunks : ℕ) (table : List TableEntry) (w owed : ℕ) (b : Bool) → length table + suc owed ≡ hunks →
-    sized_row hunks table w owed b ≡ next_at (cond b (phases.Attributes hunks w owed) (rows_owed hunks owed)) (table ++ cond b [] (table_entry w 0 ∷ []))
-sized_at hunks table w owed true e = ap (λ (t : List TableEntry). More (AtAttributes hunks t w owed)) (sym (append-nil table))
-sized_at hunks table w owed false e = rows_at hunks (table ++ table_entry w 0 ∷ []) owed (more_owed table (table_entry w 0) owed ∙ e)
+abbrev pub IsInHeader : Progress → Type 0
+IsInHeader p = is_behind_header (position_of (More p)) ≡ false
 
-started : (hunks owed : ℕ) (table : List TableEntry) → IsStarted (rows_owed hunks owed) table
-started hunks zero table = tt
-started hunks (suc owed) table = subst (λ (x : HeaderPhase). IsStarted x table) (sym (by_count-suc owed phases.Done (λ (n : ℕ). phases.SizeWord hunks n))) tt
+pub not_in_body : (p : Progress) → IsInHeader p → IsInBody p → ⊥
+not_in_body (AtBlock o) e b = cc
+not_in_body (InBody o word x) e b = cc
+not_in_body _ e b = b
 
-sized_started : (hunks owed w : ℕ) (table : List TableEntry) (b : Bool) → IsStarted (cond b (phases.Attributes hunks w owed) (rows_owed hunks owed)) table
-sized_started hunks owed w table true = tt
-sized_started hunks owed w table false = started hunks owed table
+pub behind_is : (n : Next) → is_behind_header (position_of n) ≡ true → IsBehindHeader n
+behind_is (More (AtBlock o)) e = tt
+behind_is (More (InBody o word x)) e = tt
+behind_is (Finished v) e = tt
+behind_is _ e = absurd cc
 
-pub header_step : (phase : HeaderPhase) (table : List TableEntry) (w : ℕ) → (phase ≡ phases.Done → ⊥) → IsStarted phase table → (p : Progress) → next_at phase table ≡ More p → ProgressFits p →
-    (role_of p ≡ role_at phase) × (step p w ≡ next_at (behind phase w) (table ++ adds phase w)) × IsStarted (behind phase w) (table ++ adds phase w)
-header_step phase table w going s p e f = go phase going s (λ (q : Progress) (d : More q ≡ More p). subst ProgressFits (same p q d) f) (λ (q : Progress) (d : More q ≡ More p). same p q d) e
-  where
-    same : (p q : Progress) → More q ≡ More p → p ≡ q
-    same p q d = cc
+-- no hunk is open
+none_open : (p : Progress) → IsInHeader p → longs_of p ≡ 0
+none_open (AtBlock o) e = absurd cc
+none_open (InBody o word x) e = absurd cc
+none_open _ e = refl
 
-    Goal : HeaderPhase → Type 0
-    Goal x = (role_of p ≡ role_at x) × (step p w ≡ next_at (behind x w) (table ++ adds x w)) × IsStarted (behind x w) (table ++ adds x w)
+-- The position tells the refusal.
+pub refusal_here : (p : Progress) (w : ℕ) → IsInHeader p → ProgressFits p → refuse (role_of p) w ≡ refuse (role_at 0 (position_of (More p))) w
+refusal_here p w e f = refuse_same p w f ∙ ap (λ (n : ℕ). refuse (role_at n (position_of (More p))) w) (none_open p e)
 
-    go : (x : HeaderPhase) → (x ≡ phases.Done → ⊥) → IsStarted x table → ((q : Progress) → More q ≡ More p → ProgressFits q) → ((q : Progress) → More q ≡ More p → p ≡ q) → next_at x table ≡ More p →
-        (role_of p ≡ role_at x) × (step p w ≡ next_at (behind x w) (table ++ adds x w)) × IsStarted (behind x w) (table ++ adds x w)
-    go phases.First n s fits is e = let d = is AtFirst e in (ap role_of d, ap (λ (q : Progress). step q w) d, append-nil table ∙ s)
-    go phases.Resident n s fits is e = let d = is AtResident e in (ap role_of d, ap (λ (q : Progress). step q w) d, append-nil table ∙ s)
-    go phases.TableSize n s fits is e = let d = is AtTableSize e in (ap role_of d, ap (λ (q : Progress). step q w) d, append-nil table ∙ s)
-    go (phases.FirstHunk hunks) n s fits is e = let d = is (AtFirstHunk hunks) e in (ap role_of d, ap (λ (q : Progress). step q w) d, append-nil table ∙ s)
-    go (phases.LastHunk hunks) n s fits is e =
-        let d = is (AtLastHunk hunks) e in (
-          ap role_of d,
-          ap (λ (q : Progress). step q w) d ∙ rows_at hunks [] hunks (omega arith) ∙ ap (λ (t : List TableEntry). next_at (rows_owed hunks hunks) t) (sym (append-nil table ∙ s)),
-          started hunks hunks (table ++ []),
-        )
-    go (phases.SizeWord hunks owed) n s fits is e =
-        let d = is (AtSizeWord hunks table owed) e in
-        let f = fits (AtSizeWord hunks table owed) e in (
-          ap role_of d,
-          ap (λ (q : Progress). step q w) d ∙ sized_at hunks table w owed (has_both_bits w) f.counts,
-          sized_started hunks owed w (table ++ adds (phases.SizeWord hunks owed) w) (has_both_bits w),
-        )
-    go (phases.Attributes hunks word owed) n s fits is e =
-        let d = is (AtAttributes hunks table word owed) e in
-        let f = fits (AtAttributes hunks table word owed) e in (
-          ap role_of d,
-          ap (λ (q : Progress). step q w) d ∙ rows_at hunks (table ++ table_entry word w ∷ []) owed (more_owed table (table_entry word w) owed ∙ f.0.counts),
-          started hunks owed (table ++ table_entry word w ∷ []),
-        )
-    go phases.Done n s fits is e = absurd (n refl)
+-- where a size word is expected, it declares its bytes beside those of the rows
+pub size_word : (p : Progress) (w : ℕ) → role_of p ≡ roles.SizeWord → (declares (position_of (More p)) w ≡ 4 * size_longs w) × (declared_so_far (More p) ≡ declared_bytes (table_of (More p)))
+size_word (AtSizeWord hunks done owed) w e = (refl, refl)
+size_word _ w e = absurd cc
 
--- Before the end of a header its reader goes on.
-unfoldable pub goes_on : (phase : HeaderPhase) (table : List TableEntry) → is_done phase ≡ false → (p : Progress) × (next_at phase table ≡ More p)
-goes_on phases.First table e = (AtFirst, refl)
-goes_on phases.Resident table e = (AtResident, refl)
-goes_on phases.TableSize table e = (AtTableSize, refl)
-goes_on (phases.FirstHunk hunks) table e = (AtFirstHunk hunks, refl)
-goes_on (phases.LastHunk hunks) table e = (AtLastHunk hunks, refl)
-goes_on (phases.SizeWord hunks owed) table e = (AtSizeWord hunks table owed, refl)
-goes_on (phases.Attributes hunks word owed) table e = (AtAttributes hunks table word owed, refl)
-goes_on phases.Done table e = absurd cc
+-- a size word is expected where bytes are declared
+pub declares_some : (p : Progress) (w total budget : ℕ) → total ≤ budget → budget < total + declares (position_of (More p)) w → role_of p ≡ roles.SizeWord
+declares_some (AtSizeWord hunks done owed) w total budget le lt = refl
+declares_some _ w total budget le lt = absurd (omega arith)
 
-pub not_done : (phase : HeaderPhase) → is_done phase ≡ false → phase ≡ phases.Done → ⊥
-not_done phase e d = let f : true ≡ false = ap is_done (sym d) ∙ e in absurd cc
+-- ---- the table
 
--- ---- the sum
+rows_table : (hunks : ℕ) (done : List TableEntry) (owed : ℕ) → table_of (rows hunks done owed) ≡ done
+rows_table hunks [] zero = refl
+rows_table hunks (e ∷ done) zero = refl
+rows_table hunks done (suc owed) = refl
 
-total_owed : (hunks owed : ℕ) (table : List TableEntry) → total_at (rows_owed hunks owed) table ≡ declared_bytes table
-total_owed hunks zero table = refl
-total_owed hunks (suc owed) table = ap (λ (x : HeaderPhase). total_at x table) (by_count-suc owed phases.Done (λ (n : ℕ). phases.SizeWord hunks n))
+sized_table : (hunks : ℕ) (done : List TableEntry) (w owed : ℕ) (b : Bool) → table_of (sized_row hunks done w owed b) ≡ done ++ cond b [] (table_entry w 0 ∷ [])
+sized_table hunks done w owed true = sym (append-nil done)
+sized_table hunks done w owed false = rows_table hunks (done ++ table_entry w 0 ∷ []) owed
 
-same_total : (phase : HeaderPhase) (table : List TableEntry) → total_at phase table ≡ declared_bytes table → total_at phase (table ++ []) ≡ declared_bytes table + 0
-same_total phase table e = ap (λ (t : List TableEntry). total_at phase t) (append-nil table) ∙ e ∙ omega arith
+-- A longword adds a row, or none.
+pub step_adds : (p : Progress) (w : ℕ) → IsInHeader p → table_of (step p w) ≡ table_of (More p) ++ adds (position_of (More p)) w
+step_adds (AtLastHunk hunks) w e = rows_table hunks [] hunks
+step_adds (AtSizeWord hunks done owed) w e = sized_table hunks done w owed (has_both_bits w)
+step_adds (AtAttributes hunks done word owed) w e = rows_table hunks (done ++ table_entry word w ∷ []) owed
+step_adds (AtBlock o) w e = absurd cc
+step_adds (InBody o word x) w e = absurd cc
+step_adds _ w e = refl
 
-sized_total : (hunks owed w : ℕ) (table : List TableEntry) (b : Bool) →
-    total_at (cond b (phases.Attributes hunks w owed) (rows_owed hunks owed)) (table ++ cond b [] (table_entry w 0 ∷ [])) ≡ declared_bytes table + 4 * size_longs w
-sized_total hunks owed w table true = ap (λ (t : List TableEntry). declared_bytes t + 4 * size_longs w) (append-nil table)
-sized_total hunks owed w table false =
-    total_owed hunks owed (table ++ table_entry w 0 ∷ []) ∙ declared-append table (table_entry w 0 ∷ []) ∙ ap (λ (n : ℕ). declared_bytes table + n) (declared-one (table_entry w 0))
+-- ---- the declared bytes
+
+pub rows_total : (hunks : ℕ) (done : List TableEntry) (owed : ℕ) → declared_so_far (rows hunks done owed) ≡ declared_bytes done
+rows_total hunks [] zero = refl
+rows_total hunks (e ∷ done) zero = refl
+rows_total hunks done (suc owed) = refl
+
+one_more : (hunks : ℕ) (done : List TableEntry) (e : TableEntry) (owed : ℕ) → declared_so_far (rows hunks (done ++ e ∷ []) owed) ≡ declared_bytes done + 4 * size_longs e.word
+one_more hunks done e owed = rows_total hunks (done ++ e ∷ []) owed ∙ declared-append done (e ∷ []) ∙ ap (λ (n : ℕ). declared_bytes done + n) (declared-one e)
+
+sized_total : (hunks : ℕ) (done : List TableEntry) (w owed : ℕ) (b : Bool) → declared_so_far (sized_row hunks done w owed b) ≡ declared_bytes done + 4 * size_longs w
+sized_total hunks done w owed true = refl
+sized_total hunks done w owed false = one_more hunks done (table_entry w 0) owed
 
 -- A longword adds what it declares.
-pub step_total : (phase : HeaderPhase) (table : List TableEntry) (w : ℕ) → total_at (behind phase w) (table ++ adds phase w) ≡ total_at phase table + declares phase w
-step_total phases.First table w = same_total phases.Resident table refl
-step_total phases.Resident table w = same_total phases.TableSize table refl
-step_total phases.TableSize table w = same_total (phases.FirstHunk w) table refl
-step_total (phases.FirstHunk hunks) table w = same_total (phases.LastHunk hunks) table refl
-step_total (phases.LastHunk hunks) table w = same_total (rows_owed hunks hunks) table (total_owed hunks hunks table)
-step_total (phases.SizeWord hunks owed) table w = sized_total hunks owed w table (has_both_bits w)
-step_total (phases.Attributes hunks word owed) table w =
-    total_owed hunks owed (table ++ table_entry word w ∷ [])
-    ∙ declared-append table (table_entry word w ∷ [])
-    ∙ ap (λ (n : ℕ). declared_bytes table + n) (declared-one (table_entry word w))
-    ∙ omega arith
-step_total phases.Done table w = same_total phases.Done table refl
+pub step_declares : (p : Progress) (w : ℕ) → IsInHeader p → declared_so_far (step p w) ≡ declared_so_far (More p) + declares (position_of (More p)) w
+step_declares (AtLastHunk hunks) w e = rows_total hunks [] hunks ∙ omega arith
+step_declares (AtSizeWord hunks done owed) w e = sized_total hunks done w owed (has_both_bits w)
+step_declares (AtAttributes hunks done word owed) w e = one_more hunks done (table_entry word w) owed ∙ omega arith
+step_declares (AtBlock o) w e = absurd cc
+step_declares (InBody o word x) w e = absurd cc
+step_declares _ w e = omega arith
+
+-- ---- the end
+
+rows_open : (hunks : ℕ) (done : List TableEntry) (owed : ℕ) → length done + owed ≡ hunks → OpensFirst (rows hunks done owed)
+rows_open hunks [] zero e b = refl
+rows_open hunks (x ∷ done) zero e b = ap (λ (n : ℕ). rows n (x ∷ done) 0) (omega (arith, e))
+rows_open hunks done (suc owed) e b = absurd cc
+
+sized_open : (hunks : ℕ) (done : List TableEntry) (w owed : ℕ) (b : Bool) → length done + suc owed ≡ hunks → OpensFirst (sized_row hunks done w owed b)
+sized_open hunks done w owed true e b = absurd cc
+sized_open hunks done w owed false e b = rows_open hunks (done ++ table_entry w 0 ∷ []) owed (more_owed done (table_entry w 0) owed ∙ e) b
+
+-- Behind the last longword the first hunk opens.
+pub step_opens : (p : Progress) (w : ℕ) → IsInHeader p → ProgressFits p → OpensFirst (step p w)
+step_opens (AtLastHunk hunks) w e f = rows_open hunks [] hunks (omega arith)
+step_opens (AtSizeWord hunks done owed) w e f = sized_open hunks done w owed (has_both_bits w) f.counts
+step_opens (AtAttributes hunks done word owed) w e f = rows_open hunks (done ++ table_entry word w ∷ []) owed (more_owed done (table_entry word w) owed ∙ f.0.counts)
+step_opens (AtBlock o) w e f = absurd cc
+step_opens (InBody o word x) w e f = absurd cc
+step_opens _ w e f = λ b. absurd cc

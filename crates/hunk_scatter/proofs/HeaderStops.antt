@@ -12,21 +12,23 @@ use Rattle.hunk_files.specs.Fault.{Expects, HasRefusal, is_word_refusal}
 use Rattle.hunk_files.specs.Image.{declared_bytes}
 use Rattle.hunk_files.specs.LoadFile.{TableEntry}
 use Rattle.hunk_files.specs.LoadText.{header_labelled}
-use Rattle.hunk_files.specs.Roles.{Role, Role as roles, refuse}
+use Rattle.hunk_scan.specs.Roles.{Role, Role as roles, refuse}
 use Rattle.hunk_files.proofs.Accepted.{header_accepted}
-use Rattle.hunk_files.proofs.FileSteps.{Progress, More, open_hunk, role_of}
-use Rattle.hunk_files.proofs.Reading.{HasRead, read_refused}
+use Rattle.hunk_files.specs.FileSteps.{Progress, More, open_hunk, role_of, step}
+use Rattle.hunk_files.specs.ReaderPosition.{position_of}
+use Rattle.hunk_scan.specs.Positions.{role_at, is_behind_header}
+use Rattle.hunk_files.proofs.Reading.{reads, step_read, read_refused}
+use Rattle.hunk_files.specs.WordsRead.{HasRead}
 use Rattle.hunk_files.proofs.Refusals.{refusal_of_word}
 use Rattle.hunk_files.proofs.Scan.{expects_of}
-use Rattle.hunk_scatter.specs.declared.header_state.HeaderPhase.{HeaderPhase}
-use Rattle.hunk_scatter.specs.declared.header_state.HeaderPhase.TheVariants as phases
-use Rattle.hunk_scatter.specs.Answers.{is_of_header}
-use Rattle.hunk_scatter.specs.Headers.{IsTable, header_words, header_bytes, BeginsHeader, MayGoOnInHeader, PassesBudget, IsOverBudget, IsBudgetOrMemory, IsHeaderFaultBy, IsHeaderFault, entries_so_far}
-use Rattle.hunk_scatter.specs.Heading.{role_at, behind, adds, declares, StopsFor, HeaderStop}
+use Rattle.hunk_scan.specs.declared.position.Position.{Position}
+use Rattle.hunk_scatter.specs.LoaderReasons.{is_of_header}
+use Rattle.hunk_scatter.specs.HeaderBytes.{IsTable, header_words, header_bytes, BeginsHeader, MayGoOnInHeader, PassesBudget, IsOverBudget, IsBudgetOrMemory, IsHeaderFaultBy, IsHeaderFault, entries_so_far}
+use Rattle.hunk_scatter.specs.HeaderLoaderFields.{adds, declares, StopsFor, HeaderStop}
 use Rattle.hunk_scatter.proofs.Behind.{stays_behind, table_behind, expected_passes, header_passes, role_here}
 use Rattle.hunk_scatter.proofs.HeaderGrows.{row_in_table, table_grows}
-use Rattle.hunk_scatter.proofs.HeaderReads.{here, read_here, role_is, sum_here, word_read, here_in_header}
-use Rattle.hunk_scatter.specs.Rows.{entries_of, row_of}
+use Rattle.hunk_scatter.proofs.HeaderReads.{here, read_here, position_here, refusal_is, sum_here}
+use Rattle.hunk_scatter.proofs.HeaderSteps.{IsInHeader, not_in_body, declares_some, step_opens}
 use Rattle.hunk_scatter.proofs.HeaderTexts.{header_read}
 use Rattle.hunk_scatter.proofs.ReadWords.{read_longs, accepted_longs}
 use Rattle.hunk_scatter.proofs.Refusing.{refused_in_header}
@@ -37,12 +39,6 @@ plain_fault : (r : Reason) (budget : ℕ) (bytes : List ℕ) (at : ℕ) → IsTr
 plain_fault reasons.Budget budget bytes at n h = absurd cc
 plain_fault reasons.OutOfMemory budget bytes at n h = absurd cc
 plain_fault _ budget bytes at n h = h
-
--- a size word is expected where bytes are declared
-declares_some : (phase : HeaderPhase) (w total budget : ℕ) → total ≤ budget → budget < total + declares phase w → role_at phase ≡ roles.SizeWord
-declares_some (phases.SizeWord hunks owed) w total budget le lt = refl
-declares_some phases.Done w total budget le lt = absurd (omega arith)
-declares_some _ w total budget le lt = absurd (omega arith)
 
 pub header_longs : (t : List TableEntry) → IsTable t → AreLongs (header_words t)
 header_longs t is = accepted_longs (header_labelled t) (header_accepted t is.some is.most is.each)
@@ -65,27 +61,41 @@ module _ (budget : ℕ) (bytes rest : List ℕ) (f : Fault) (s : HeaderStop budg
   unfolding at
   read_at = read_here budget s.rows s.state s.ws s.has_read s.goes_on
 
-  role_at_is : role_of at ≡ role_at s.state.phase
+  position_at : position_of (More at) ≡ s.state.position
   unfolding at
-  role_at_is = role_is budget s.rows s.state s.ws s.has_read s.goes_on
+  position_at = position_here budget s.rows s.state s.ws s.has_read s.goes_on
+
+  header_at : IsInHeader at
+  header_at = ap is_behind_header position_at ∙ s.goes_on
+
+  refusal_at : (w : ℕ) → refuse (role_of at) w ≡ refuse (role_at 0 s.state.position) w
+  unfolding at
+  refusal_at w = refusal_is budget s.rows s.state s.ws s.has_read s.goes_on w
 
   expects_here : Expects s.ws (role_of at)
-  expects_here = subst (λ (xs : List ℕ). Expects xs (role_of at)) read_at.all (expects_of at read_at.done read_at.reads)
+  expects_here = subst (λ (xs : List ℕ). Expects xs (role_of at)) read_at.all (expects_of at read_at.done (reads read_at))
+
+  -- a size word is expected where bytes are declared
+  expects_size : budget < s.state.total + declares s.state.position s.word → Expects s.ws roles.SizeWord
+  expects_size passes =
+      subst (Expects s.ws)
+      (declares_some at s.word s.state.total budget s.has_read.within
+      (subst (λ (p : Position). budget < s.state.total + declares p s.word) (sym position_at) passes))
+      expects_here
 
   -- It is the fault.
   pub stop_fault : IsBytes rest → IsHeaderFault budget (bytes ++ rest) f
   stop_fault fit = go s.stops
     where
-      refused : refuse (role_at s.state.phase) s.word ≡ Some f.reason → HasRefusal (bytes ++ rest) f.place f.reason
+      refused : refuse (role_at 0 s.state.position) s.word ≡ Some f.reason → HasRefusal (bytes ++ rest) f.place f.reason
       refused e =
           subst (λ (n : ℕ). HasRefusal (bytes ++ rest) n f.reason) (sym s.place)
-          (read_refused (bytes ++ rest) s.ws at s.word (longs rest) f.reason read_at spells (ap (λ (r : Role). refuse r s.word) role_at_is ∙ e))
+          (read_refused (bytes ++ rest) s.ws at s.word (longs rest) f.reason read_at spells (refusal_at s.word ∙ e))
 
       go : StopsFor budget s.state s.word f.reason → IsHeaderFaultBy f.reason budget (bytes ++ rest) f.place
       go (inl e) = plain_fault f.reason budget (bytes ++ rest) f.place (refusal_of_word (bytes ++ rest) f.place f.reason (refused e)) (refused e)
       go (inr (inl o)) =
-          let role = declares_some s.state.phase s.word s.state.total budget s.has_read.within o.passes in
-          let x = subst (Expects s.ws) (role_at_is ∙ role) expects_here in
+          let x = expects_size o.passes in
           let k = sum_here budget s.rows s.state s.ws s.has_read s.goes_on s.word x in
           subst (λ (r : Reason). IsHeaderFaultBy r budget (bytes ++ rest) f.place) (sym o.reason_is)
           (record {
@@ -99,7 +109,7 @@ module _ (budget : ℕ) (bytes rest : List ℕ) (f : Fault) (s : HeaderStop budg
             passes = omega (arith, o.passes, k.0, k.1);
           })
       go (inr (inr l)) =
-          let h = word_read budget s.rows s.state s.ws s.has_read s.goes_on s.word l.within s.long l.accepted in
+          let in_table = row_in_table at s.word (subst (λ (p : Position). 0 < length (adds p s.word)) (sym position_at) l.row) in
           subst (λ (r : Reason). IsHeaderFaultBy r budget (bytes ++ rest) f.place) (sym l.reason_is)
           (record {
             front = bytes;
@@ -109,7 +119,7 @@ module _ (budget : ℕ) (bytes rest : List ℕ) (f : Fault) (s : HeaderStop budg
             begins =
                 λ fits.
                 subst (λ (bs : List ℕ). BeginsHeader (bs ++ rest)) (sym s.spelled)
-                (table_grows (behind s.state.phase s.word) (entries_of (s.rows ++ map row_of (adds s.state.phase s.word))) (s.ws ++ s.word ∷ []) rest (row_in_table s.state.phase s.word l.row) h.read h.started fit
+                (table_grows (step at s.word) (s.ws ++ s.word ∷ []) rest in_table (step_read s.ws at s.word read_at s.long (refusal_at s.word ∙ l.accepted)) (step_opens at s.word header_at (reads read_at).0) fit
                 (λ t k is e. fits t k is (e ∙ ap (λ (bs : List ℕ). bs ++ k) (sym s.spelled))));
           })
 
@@ -122,7 +132,7 @@ module _ (budget : ℕ) (bytes rest : List ℕ) (f : Fault) (s : HeaderStop budg
   stop_own = go s.stops
     where
       go : StopsFor budget s.state s.word f.reason → IsTrue (is_of_header f.reason)
-      go (inl e) = refused_in_header s.state.phase s.word f.reason e
+      go (inl e) = refused_in_header s.state.position s.word f.reason s.goes_on e
       go (inr (inl o)) = ap is_of_header o.reason_is
       go (inr (inr l)) = ap is_of_header l.reason_is
 
@@ -133,7 +143,7 @@ module _ (budget : ℕ) (bytes rest : List ℕ) (f : Fault) (s : HeaderStop budg
       by_cut : Cuts s.ws s.word p.before p.word → StopsFor budget s.state s.word f.reason → IsOverBudget place f
       by_cut (Same e d) (inl r) =
           let role : role_of at ≡ roles.SizeWord = role_here s.ws at roles.SizeWord read_at (subst (λ (xs : List ℕ). Expects xs roles.SizeWord) (sym e) p.expects) in
-          let none : refuse roles.SizeWord s.word ≡ Some f.reason = ap (λ (x : Role). refuse x s.word) (sym role ∙ role_at_is) ∙ r in
+          let none : refuse roles.SizeWord s.word ≡ Some f.reason = ap (λ (x : Role). refuse x s.word) (sym role) ∙ refusal_at s.word ∙ r in
           absurd cc
       by_cut (Same e d) (inr (inl o)) = inl (o.reason_is, s.place ∙ ap (λ (xs : List ℕ). 4 * length xs) e ∙ sym p.place)
       by_cut (Same e d) (inr (inr l)) =
@@ -144,11 +154,10 @@ module _ (budget : ℕ) (bytes rest : List ℕ) (f : Fault) (s : HeaderStop budg
           absurd (omega (arith, l.within, k.0, k.1, front, size, p.passes))
       by_cut (Before m e) (inl r) =
           let ok = expected_passes s.ws at s.word m roles.SizeWord read_at (subst (λ (xs : List ℕ). Expects xs roles.SizeWord) e p.expects) in
-          let clash : None ≡ Some f.reason = sym ok ∙ ap (λ (x : Role). refuse x s.word) role_at_is ∙ r in
+          let clash : None ≡ Some f.reason = sym ok ∙ refusal_at s.word ∙ r in
           absurd cc
       by_cut (Before m e) (inr (inl o)) =
-          let role = declares_some s.state.phase s.word s.state.total budget s.has_read.within o.passes in
-          let x = subst (Expects s.ws) (role_at_is ∙ role) expects_here in
+          let x = expects_size o.passes in
           let k = sum_here budget s.rows s.state s.ws s.has_read s.goes_on s.word x in
           let le = p.first s.ws m s.word e x in
           absurd (omega (arith, le, o.passes, k.0, k.1))
@@ -163,8 +172,8 @@ module _ (budget : ℕ) (bytes rest : List ℕ) (f : Fault) (s : HeaderStop budg
   unfolding at
   stop_accepts m = go s.stops
     where
-      clash : refuse (role_of at) s.word ≡ None → refuse (role_at s.state.phase) s.word ≡ Some f.reason → IsBudgetOrMemory f.reason
-      clash ok r = let c : None ≡ Some f.reason = sym ok ∙ ap (λ (x : Role). refuse x s.word) role_at_is ∙ r in absurd cc
+      clash : refuse (role_of at) s.word ≡ None → refuse (role_at 0 s.state.position) s.word ≡ Some f.reason → IsBudgetOrMemory f.reason
+      clash ok r = let c : None ≡ Some f.reason = sym ok ∙ refusal_at s.word ∙ r in absurd cc
 
       in_text : header_bytes m.table ≡ (bytes ++ rest) ++ m.more → header_words m.table ≡ s.ws ++ s.word ∷ longs (rest ++ m.more)
       in_text e =
@@ -177,14 +186,14 @@ module _ (budget : ℕ) (bytes rest : List ℕ) (f : Fault) (s : HeaderStop budg
       behind_text : bytes ++ rest ≡ header_bytes m.table ++ m.more → s.ws ++ s.word ∷ longs rest ≡ header_words m.table ++ longs m.more
       behind_text e = sym spells ∙ ap longs e ∙ longs-bytes_of (header_words m.table) m.more (header_longs m.table m.is_table)
 
-      by_front : refuse (role_at s.state.phase) s.word ≡ Some f.reason
+      by_front : refuse (role_at 0 s.state.position) s.word ≡ Some f.reason
           → ((k : List ℕ) × (header_words m.table ≡ s.ws ++ s.word ∷ k)) ⊎ ((k : List ℕ) × (s.ws ≡ header_words m.table ++ k)) → IsBudgetOrMemory f.reason
       by_front r (inl (k, e)) = clash (header_passes m.table m.is_table s.ws at s.word k read_at e) r
       by_front r (inr (k, e)) =
-          absurd (here_in_header budget s.rows s.state s.ws s.has_read s.goes_on
+          absurd (not_in_body at header_at
           (stays_behind (header_words m.table) k (open_hunk (length m.table) [] m.table) at (header_read m.table m.is_table) (table_behind m.table m.is_table) (subst (λ (xs : List ℕ). HasRead xs (More at)) e read_at)))
 
-      refused : refuse (role_at s.state.phase) s.word ≡ Some f.reason → (header_bytes m.table ≡ (bytes ++ rest) ++ m.more) ⊎ (bytes ++ rest ≡ header_bytes m.table ++ m.more) → IsBudgetOrMemory f.reason
+      refused : refuse (role_at 0 s.state.position) s.word ≡ Some f.reason → (header_bytes m.table ≡ (bytes ++ rest) ++ m.more) ⊎ (bytes ++ rest ≡ header_bytes m.table ++ m.more) → IsBudgetOrMemory f.reason
       refused r (inl e) = clash (header_passes m.table m.is_table s.ws at s.word (longs (rest ++ m.more)) read_at (in_text e)) r
       refused r (inr e) = by_front r (fronts s.ws s.word (longs rest) (header_words m.table) (longs m.more) (behind_text e))
 

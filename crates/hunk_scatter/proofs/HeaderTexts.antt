@@ -1,48 +1,40 @@
 -- The longwords of headers: what they spell, and that a reader of load files takes them.
-use Rattle.std.proofs.Common.{◌≡◌, ℕ, Bool, true, false, List, [], ◌∷◌, ◌++◌, length, refl, sym, ap, ◌∙◌, append_assoc, append-nil, arith}
+use Rattle.std.proofs.Common.{◌≡◌, ℕ, ◌≤◌, Bool, true, false, List, [], ◌∷◌, ◌++◌, length, refl, sym, ap, subst, ◌∙◌, append_assoc, append-nil, arith}
 use Rattle.std.specs.Prelude.{if◌then◌else◌}
 use Rattle.std.specs.List.{AllByRecursion, flat_map}
 use Rattle.std.proofs.lemmas.List.{map-append}
+use Rattle.hunk_words.specs.Limits.{most_hunks}
 use Rattle.hunk_words.specs.Bits.{has_both_bits}
 use Rattle.hunk_blocks.proofs.Lists.{passes_else, passes_then}
+use Rattle.hunk_scan.specs.Positions.{is_behind_header}
+use Rattle.hunk_scan.specs.Roles.{Role, Role as roles}
 use Rattle.hunk_files.specs.LoadFile.{TableEntry, IsTableEntry}
 use Rattle.hunk_files.specs.LoadText.{entry_labelled, header_labelled, words}
-use Rattle.hunk_files.specs.Roles.{Role, Role as roles}
+use Rattle.hunk_files.specs.FileSteps.{table_entry, AtSizeWord, AtAttributes, AtBlock, InBody, Next, More, Finished, open_hunk}
+use Rattle.hunk_files.specs.ReaderPosition.{position_of, table_of}
+use Rattle.hunk_files.specs.WordsRead.{Labelled, HasRead}
 use Rattle.hunk_files.proofs.Accepted.{header_accepted}
 use Rattle.hunk_files.proofs.FileProgress.{header_so_far, NextFits, read}
-use Rattle.hunk_files.proofs.FileSteps.{table_entry, AtFirst, More, open_hunk}
 use Rattle.hunk_files.proofs.FileText.{header_leads}
-use Rattle.hunk_files.proofs.Reading.{HasRead}
-use Rattle.hunk_files.proofs.Runs.{Labelled, Leads-keeps}
-use Rattle.hunk_scatter.specs.declared.header_state.HeaderPhase.{HeaderPhase}
-use Rattle.hunk_scatter.specs.declared.header_state.HeaderPhase.TheVariants as phases
-use Rattle.hunk_scatter.specs.Headers.{IsTable, header_words, entries_in, entries_so_far}
-use Rattle.hunk_scatter.specs.Heading.{next_at, IsStarted}
+use Rattle.hunk_files.proofs.Reading.{reads}
+use Rattle.hunk_scatter.specs.HeaderBytes.{IsTable, header_words, entries_in, entries_so_far}
+use Rattle.hunk_scatter.specs.HeaderLoaderFields.{OpensFirst}
 
 -- ---- a header is read
 
 -- The header of a table leads to its first hunk.
 pub header_read : (t : List TableEntry) → IsTable t → HasRead (header_words t) (open_hunk (length t) [] t)
-header_read t h =
-    let run = header_leads t h.each in
-    let ok = header_accepted t h.some h.most h.each in
-    record {
-      done = header_labelled t;
-      run = run;
-      reads = Leads-keeps (More AtFirst) (open_hunk (length t) [] t) [] (header_labelled t) (tt, refl) ok run;
-      accepted = ok;
-      all = refl;
-    }
+header_read t h = record { done = header_labelled t; run = header_leads t h.each; accepted = header_accepted t h.some h.most h.each; all = refl }
 
 -- ---- a header that was read
 
 module _ (ws : List ℕ) where
   pub header_done : (t : List TableEntry) → HasRead ws (open_hunk (length t) [] t) → IsTable t × (ws ≡ header_words t)
-  header_done [] h = let some = h.reads.0.some in absurd (omega (arith, some))
+  header_done [] h = let some = (reads h).0.some in absurd (omega (arith, some))
   header_done (e ∷ t) h = (
-    record { some = h.reads.0.front_fits.hunks_fit.0; most = h.reads.0.front_fits.hunks_fit.1; each = h.reads.0.front_fits.ahead_fit },
+    record { some = (reads h).0.front_fits.hunks_fit.0; most = (reads h).0.front_fits.hunks_fit.1; each = (reads h).0.front_fits.ahead_fit },
     sym h.all
-        ∙ ap words (sym h.reads.1)
+        ∙ ap words (sym (reads h).1)
         ∙ ap words (append-nil (header_so_far (length (e ∷ t)) (e ∷ t) ++ []) ∙ append-nil (header_so_far (length (e ∷ t)) (e ∷ t))),
   )
 
@@ -78,21 +70,38 @@ entries_all : (t : List TableEntry) → AllByRecursion IsTableEntry t → entrie
 entries_all t h = ap (λ (xs : Labelled). entries_in (words xs)) (sym (append-nil (flat_map entry_labelled t))) ∙ entries-table t h [] ∙ append-nil t
 
 -- The rows are those that were read.
-pub rows_read : (phase : HeaderPhase) (table : List TableEntry) (ws : List ℕ) → HasRead ws (next_at phase table) → IsStarted phase table → entries_so_far ws ≡ table
-rows_read phase table ws h s = ap entries_so_far (sym h.all ∙ ap words (sym h.reads.1)) ∙ go phase table s h.reads.0
+pub rows_read : (n : Next) (ws : List ℕ) → HasRead ws n → OpensFirst n → entries_so_far ws ≡ table_of n
+rows_read n ws h o = by_end (is_behind_header (position_of n)) refl
   where
-    go : (x : HeaderPhase) (t : List TableEntry) → IsStarted x t → NextFits (next_at x t) → entries_so_far (words (read (next_at x t))) ≡ t
-    go phases.First t s f = sym s
-    go phases.Resident t s f = sym s
-    go phases.TableSize t s f = sym s
-    go (phases.FirstHunk hunks) t s f = sym s
-    go (phases.LastHunk hunks) t s f = sym s
-    go (phases.SizeWord hunks owed) t s f = entries_all t f.rows_fit
-    go (phases.Attributes hunks word owed) t s f =
-        entries-table t f.0.rows_fit ((roles.SizeWord, word) ∷ [])
-        ∙ ap (λ (xs : List TableEntry). t ++ xs) (passes_then (has_both_bits word) [] (table_entry word 0 ∷ []) f.2)
-        ∙ append-nil t
-    go phases.Done [] s f = absurd (let some = f.some in omega (arith, some))
-    go phases.Done (e ∷ t) s f =
-        ap (λ (xs : Labelled). entries_so_far (words xs)) (append-nil (header_so_far (length (e ∷ t)) (e ∷ t) ++ []) ∙ append-nil (header_so_far (length (e ∷ t)) (e ∷ t)))
-        ∙ entries_all (e ∷ t) f.front_fits.ahead_fit
+    so_far : (m : Next) → NextFits m → is_behind_header (position_of m) ≡ false → entries_so_far (words (read m)) ≡ table_of m
+    so_far (More (AtSizeWord hunks done owed)) f e = entries_all done f.rows_fit
+    so_far (More (AtAttributes hunks done word owed)) f e =
+        entries-table done f.0.rows_fit ((roles.SizeWord, word) ∷ [])
+        ∙ ap (λ (xs : List TableEntry). done ++ xs) (passes_then (has_both_bits word) [] (table_entry word 0 ∷ []) f.2)
+        ∙ append-nil done
+    so_far (More (AtBlock p)) f e = absurd cc
+    so_far (More (InBody p word x)) f e = absurd cc
+    so_far (Finished v) f e = absurd cc
+    so_far _ f e = refl
+
+    by_end : (b : Bool) → is_behind_header (position_of n) ≡ b → entries_so_far ws ≡ table_of n
+    by_end true e =
+        let d = header_done ws (table_of n) (subst (λ (m : Next). HasRead ws m) (o e) h) in
+        ap entries_so_far d.1 ∙ entries_all (table_of n) d.0.each
+    by_end false e = ap entries_so_far (sym h.all ∙ ap words (sym (reads h).1)) ∙ so_far n (reads h).0 e
+
+-- They are no more than a file has hunks.
+pub rows_few : (n : Next) (ws : List ℕ) → HasRead ws n → OpensFirst n → length (table_of n) ≤ most_hunks
+rows_few n ws h o = by_end (is_behind_header (position_of n)) refl
+  where
+    few : (m : Next) → NextFits m → is_behind_header (position_of m) ≡ false → length (table_of m) ≤ most_hunks
+    few (More (AtSizeWord hunks done owed)) f e = omega (arith, f.counts, f.hunks_fit.1)
+    few (More (AtAttributes hunks done word owed)) f e = omega (arith, f.0.counts, f.0.hunks_fit.1)
+    few (More (AtBlock p)) f e = absurd cc
+    few (More (InBody p word x)) f e = absurd cc
+    few (Finished v) f e = absurd cc
+    few _ f e = omega arith
+
+    by_end : (b : Bool) → is_behind_header (position_of n) ≡ b → length (table_of n) ≤ most_hunks
+    by_end true e = (header_done ws (table_of n) (subst (λ (m : Next). HasRead ws m) (o e) h)).0.most
+    by_end false e = few n (reads h).0 e

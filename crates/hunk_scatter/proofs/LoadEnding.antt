@@ -13,11 +13,11 @@ use Rattle.hunk_files.specs.Fault.{Expects, HasRefusal, HasFault, IsTruncated}
 use Rattle.hunk_files.specs.Image.{declared_bytes, image as image_at}
 use Rattle.hunk_files.specs.LoadFile.{TableEntry, LoadFileValue, IsLoadFile}
 use Rattle.hunk_files.specs.LoadText.{table, text}
-use Rattle.hunk_files.specs.Roles.{Role as roles}
-use Rattle.hunk_scatter.specs.Answers.{is_of_header, is_of_file}
-use Rattle.hunk_scatter.specs.Headers.{IsTable, header_bytes, PassesBudget, IsOverBudget, IsHeaderFaultBy}
-use Rattle.hunk_scatter.specs.Loaders.{Placed, MayGoOn, IsImageOf}
-use Rattle.hunk_scatter.specs.Loads.{Gives, IsHeaderWithin, IsWithinFile, IsReadFault, StopsInHeader, StopsShort, IsBodyStop, KeepsToHeader, LoadStop, InHeader, Between, InBody, LoadEnds}
+use Rattle.hunk_scan.specs.Roles.{Role as roles}
+use Rattle.hunk_scatter.specs.LoaderReasons.{is_of_header, is_of_file}
+use Rattle.hunk_scatter.specs.HeaderBytes.{IsTable, header_bytes, PassesBudget, IsOverBudget, IsHeaderFaultBy}
+use Rattle.hunk_scatter.specs.LoaderValues.{ImageValue, MayGoOn, IsImageOf}
+use Rattle.hunk_scatter.specs.LoadOutcomes.{Gives, IsHeaderWithin, IsWithinFile, IsReadFault, StopsInHeader, StopsShort, IsBodyStop, KeepsToHeader, LoadStop, InHeader, Between, InBody, LoadEnds}
 use Rattle.hunk_scatter.specs.Placing.{Placing, base_at, AreBases, HasBases, IsUnplacedFor}
 use Rattle.hunk_scatter.specs.Rows.{entries_of, bases_of}
 use Rattle.hunk_scatter.proofs.Faults.{refusal_more, no_refusal_on}
@@ -30,7 +30,7 @@ use Rattle.hunk_scatter.proofs.LoadLaws.{IsSplit, split_of}
 pub has_bases : (base : Placing) (t : List TableEntry) (bases : List ℕ) → AreBases base t bases → HasBases base t
 has_bases base t bases h i less = subst IsSome (sym (h.each i less)) refl
 
-pub ends_body : (base : Placing) (budget limit : ℕ) (left : Option (List ℕ)) (failed : Bool) (t : List TableEntry) (header more : List ℕ) (rows : List Row) (result : Result Placed Fault) →
+pub ends_body : (base : Placing) (budget limit : ℕ) (left : Option (List ℕ)) (failed : Bool) (t : List TableEntry) (header more : List ℕ) (rows : List Row) (result : Result ImageValue Fault) →
     IsHeaderWithin budget header t → entries_of rows ≡ t → AreBases base t (bases_of rows) →
     MatchResult result (λ image. IsImageOf rows (header ++ more) image.segments × (image.rows ≡ rows)) (IsBodyStop limit left failed (header ++ more)) → LoadEnds base budget limit left failed (header ++ more) result
 ends_body base budget limit left failed t header more rows (Ok placed) h e b (image, same) =
@@ -140,7 +140,7 @@ module _ (base : Placing) (budget limit : ℕ) (old left : Option (List ℕ)) (f
     stops f (InBody t header more h e (inr s)) = not_short f s
 
     -- It is loaded, unless memory is wanted.
-    pub file_loads : (result : Result Placed Fault) → LoadEnds base budget limit left failed given result → IfErr result (λ f. f.reason ≡ reasons.OutOfMemory)
+    pub file_loads : (result : Result ImageValue Fault) → LoadEnds base budget limit left failed given result → IfErr result (λ f. f.reason ≡ reasons.OutOfMemory)
     file_loads (Ok placed) h = tt
     file_loads (Err f) h = stops f h
 
@@ -231,7 +231,7 @@ module _ (base : Placing) (budget limit : ℕ) (old left : Option (List ℕ)) (f
     over f (InBody t header more h e s) = absurd (not_in t more h.is_table h.within (e ∙ ap (λ (xs : List ℕ). xs ++ more) h.header))
 
     -- It stops there, or before it for want of memory.
-    pub budget_stops : (result : Result Placed Fault) → LoadEnds base budget limit left failed given result → IsErrAnd result (IsOverBudget at)
+    pub budget_stops : (result : Result ImageValue Fault) → LoadEnds base budget limit left failed given result → IsErrAnd result (IsOverBudget at)
     budget_stops (Ok placed) (v, loaded, e) =
         let k = text_header v loaded.is_load_file in
         absurd (not_in (table v) k.1.0 k.0 loaded.within (e ∙ k.1.1))
@@ -278,6 +278,6 @@ module _ (old left : Option (List ℕ)) (limit : ℕ) (failed : Bool) (given : L
   file_stop base budget f o (InBody t header more h e (inr s)) = short f o s
 
   -- What is the file's is its fault.
-  pub file_faults : (base : Placing) (budget : ℕ) (result : Result Placed Fault) → LoadEnds base budget limit left failed given result → IfErr result (λ f. IsTrue (is_of_file f.reason) → HasFault input f.place f.reason)
+  pub file_faults : (base : Placing) (budget : ℕ) (result : Result ImageValue Fault) → LoadEnds base budget limit left failed given result → IfErr result (λ f. IsTrue (is_of_file f.reason) → HasFault input f.place f.reason)
   file_faults base budget (Ok placed) h = tt
   file_faults base budget (Err f) h = λ o. file_stop base budget f o h

@@ -10,10 +10,10 @@ use Rattle.hunk_files.specs.Fault.{HasRefusal, IsTruncated}
 use Rattle.hunk_files.specs.Image.{declared_bytes}
 use Rattle.hunk_files.specs.LoadFile.{TableEntry, LoadFileValue, IsLoadFile}
 use Rattle.hunk_files.specs.LoadText.{text}
-use Rattle.hunk_scatter.specs.Answers.{is_of_header, is_of_body, is_of_load}
-use Rattle.hunk_scatter.specs.Headers.{IsTable, header_bytes, BeginsHeader, PassesBudget, IsHeaderFaultBy}
-use Rattle.hunk_scatter.specs.Loaders.{Placed}
-use Rattle.hunk_scatter.specs.Loads.{Gives, KeepsRest, IsNotPlaced, IsLoaded, IsShort, IsHeaderWithin, IsLoadFaultBy, IsLoadFault, IsWithinFile, IsReadFault, StopsShort, KeepsToHeader, LoadStop, InHeader, Between, InBody, LoadEnds}
+use Rattle.hunk_scatter.specs.LoaderReasons.{is_of_header, is_of_body, is_of_load}
+use Rattle.hunk_scatter.specs.HeaderBytes.{IsTable, header_bytes, BeginsHeader, PassesBudget, IsHeaderFaultBy}
+use Rattle.hunk_scatter.specs.LoaderValues.{ImageValue}
+use Rattle.hunk_scatter.specs.LoadOutcomes.{Gives, KeepsRest, IsNotPlaced, IsLoaded, IsShort, IsHeaderWithin, IsLoadFaultBy, IsLoadFault, IsWithinFile, IsReadFault, StopsShort, KeepsToHeader, LoadStop, InHeader, Between, InBody, LoadEnds}
 use Rattle.hunk_scatter.specs.Placing.{Placing, base_at, HasBases, IsUnplacedFor}
 use Rattle.hunk_scatter.proofs.Feeding.{fronts_of}
 use Rattle.hunk_scatter.proofs.HeaderFronts.{table_within}
@@ -152,17 +152,17 @@ stop_own base budget limit left failed given f (InBody t header more h e (inr s)
 
 -- ---- of an end
 
-pub ends_loaded : (base : Placing) (budget limit : ℕ) (old left : Option (List ℕ)) (failed : Bool) (given : List ℕ) (result : Result Placed Fault) → Gives old left limit given →
+pub ends_loaded : (base : Placing) (budget limit : ℕ) (old left : Option (List ℕ)) (failed : Bool) (given : List ℕ) (result : Result ImageValue Fault) → Gives old left limit given →
     LoadEnds base budget limit left failed given result → IfOk result (λ placed. (v : LoadFileValue) × IsLoaded base budget v placed × Gives old left limit (bytes_of (text v)))
 ends_loaded base budget limit old left failed given (Ok placed) g (v, loaded, e) = (v, loaded, subst (Gives old left limit) e g)
 ends_loaded base budget limit old left failed given (Err f) g h = tt
 
-pub ends_fault : (base : Placing) (budget limit : ℕ) (old left : Option (List ℕ)) (failed : Bool) (given : List ℕ) (result : Result Placed Fault) → Gives old left limit given →
+pub ends_fault : (base : Placing) (budget limit : ℕ) (old left : Option (List ℕ)) (failed : Bool) (given : List ℕ) (result : Result ImageValue Fault) → Gives old left limit given →
     LoadEnds base budget limit left failed given result → IfErr result (λ f. (bytes : List ℕ) × Gives old left limit bytes × IsLoadFault base budget limit left failed bytes f)
 ends_fault base budget limit old left failed given (Ok placed) g h = tt
 ends_fault base budget limit old left failed given (Err f) g h = (given, g, stop_is base budget limit left failed given f h)
 
-pub ends_own : (base : Placing) (budget limit : ℕ) (left : Option (List ℕ)) (failed : Bool) (given : List ℕ) (result : Result Placed Fault) → LoadEnds base budget limit left failed given result →
+pub ends_own : (base : Placing) (budget limit : ℕ) (left : Option (List ℕ)) (failed : Bool) (given : List ℕ) (result : Result ImageValue Fault) → LoadEnds base budget limit left failed given result →
     IfErr result (λ f. IsTrue (is_of_load f.reason))
 ends_own base budget limit left failed given (Ok placed) h = tt
 ends_own base budget limit left failed given (Err f) h = stop_own base budget limit left failed given f h

@@ -7,40 +7,40 @@ use Rattle.hunk_words.specs.Bits.{size_longs}
 use Rattle.hunk_words.specs.Longs.{bytes_of, longs, IsLong}
 use Rattle.hunk_files.specs.Fault.{HasRefusal}
 use Rattle.hunk_files.specs.Image.{declared_bytes}
-use Rattle.hunk_files.specs.LoadFile.{TableEntry, HunkValue, LoadFileValue}
-use Rattle.hunk_files.specs.Roles.{refuse, refuse_part}
-use Rattle.hunk_files.proofs.FileText.{entries}
-use Rattle.hunk_blocks.proofs.BlockSteps.{ForName, ForDebug, ForAdvisory, ForCode, ForData, ForBss, Counted, SizedCode, SizedData, Inside, AtCount, AtSize, InPayload, AtGroup, AtTarget, InOffsets, AtEntry, InName, AtValue}
-use Rattle.hunk_files.proofs.FileSteps.{OpenHunk, Progress, AtBlock, InBody, Next, More, Finished, place_of, role_of, step}
+use Rattle.hunk_files.specs.LoadFile.{TableEntry, LoadFileValue}
+use Rattle.hunk_scan.specs.Roles.{refuse}
+use Rattle.hunk_files.specs.LoadText.{entries}
+use Rattle.hunk_blocks.specs.BlockSteps.{ForName, ForDebug, ForAdvisory, ForCode, ForData, ForBss, Counted, SizedCode, SizedData, Inside, AtCount, AtSize, InPayload, AtGroup, AtTarget, InOffsets, AtEntry, InName, AtValue}
+use Rattle.hunk_files.specs.FileSteps.{OpenHunk, Progress, AtBlock, InBody, Next, More, Finished, place_of, role_of, step}
 use Rattle.hunk_files.proofs.FileProgress.{OpenFits, ProgressFits}
 use Rattle.hunk_files.proofs.HunkProgress as blocks
+use Rattle.hunk_files.proofs.InsideCases.{by_inside}
 use Rattle.hunk_words.proofs.LongLaws.{longs-bytes_of, length-bytes_of, bytes_of-append}
 use Rattle.hunk_blocks.proofs.Lists.{All-more}
-use Rattle.hunk_files.proofs.Reading.{HasRead, step_read, read_refused, read_ended}
+use Rattle.hunk_files.proofs.Reading.{reads, step_read, read_refused, read_ended}
+use Rattle.hunk_files.specs.WordsRead.{HasRead}
 use Rattle.hunk_files.specs.declared.row.Row.{Row}
-use Rattle.hunk_scatter.specs.declared.state.Phase.{Phase}
-use Rattle.hunk_scatter.specs.declared.state.Phase.TheVariants as phases
-use Rattle.hunk_scatter.specs.declared.state.State.{State}
-use Rattle.hunk_scatter.specs.Holding.{StoreHolds, IsSized, stored, images}
-use Rattle.hunk_scatter.specs.Loading.{IsBehindHeader, EndsWhole, Reading}
-use Rattle.hunk_scatter.specs.Loaders.{IsFileOf}
-use Rattle.hunk_scatter.specs.Rows.{entries_of}
-use Rattle.hunk_scatter.specs.Standing.{open_table, table_of, sizes_of, phase_of, before, open_state, state_of, IsInBody}
-use Rattle.hunk_scatter.specs.Stepping.{longs_at, place_at, part_at, stepped, is_done, RoomIn, IsInStore}
-use Rattle.hunk_scatter.specs.Rows.{words_of, bases_of}
+use Rattle.hunk_blocks.specs.Values.{BlockValue}
+use Rattle.hunk_scan.specs.declared.position.Position.{Position}
+use Rattle.hunk_scan.specs.declared.position.Position.TheVariants as positions
+use Rattle.hunk_scan.specs.Positions.{is_done, is_behind_header}
+use Rattle.hunk_files.specs.ReaderPosition.{position_of, open_of, block_phase, open_table, table_of}
+use Rattle.hunk_scatter.specs.declared.body_state.BodyState.{BodyState}
+use Rattle.hunk_scatter.specs.StoreContent.{StoreHolds, IsSized, stored, images}
+use Rattle.hunk_scatter.specs.BodyLoaderFields.{IsBehindHeader, EndsWhole, Reading}
+use Rattle.hunk_scatter.specs.LoaderValues.{IsFileOf}
+use Rattle.hunk_scatter.specs.Rows.{entries_of, words_of, bases_of}
+use Rattle.hunk_scatter.specs.BodyReader.{sizes_of, state_at, state_of, IsInBody}
+use Rattle.hunk_scatter.specs.BodySteps.{refusal, step_body, RoomIn, IsInStore}
 use Rattle.hunk_scatter.proofs.ReadWords.{read_longs}
-use Rattle.hunk_scatter.proofs.Forget.{step_state, step_table, step_behind, refuse_same, sizes-at, sizes-length}
+use Rattle.hunk_scatter.proofs.Forget.{before_is, step_state, step_table, step_behind, refusal_same, sizes-at, sizes-length}
 use Rattle.hunk_scatter.proofs.Scatter.{step_holds}
 
 -- ---- room
 
-before_is : (hs : List HunkValue) → declared_bytes (entries hs) ≡ before hs
-before_is [] = refl
-before_is (h ∷ hs) =
-    omega (arith, before_is hs, sum_by-cons (λ (e : TableEntry). 4 * size_longs e.word) h.entry (entries hs), sum_by-cons (λ (x : HunkValue). 4 * size_longs x.entry.word) h hs)
-
-open_in_store : (o : OpenHunk) (p : Phase) → OpenFits o → RoomIn (sizes_of (open_table o)) (longs_at (sizes_of (open_table o)) (length o.finished)) p → IsInStore (sizes_of (open_table o)) (declared_bytes (open_table o)) (open_state o p)
-open_in_store o p f room = record {
+open_in_store : (o : OpenHunk) (p : Position) → OpenFits o → is_behind_header p ≡ true → RoomIn (sizes_of (open_table o)) (size_longs o.entry.word) p → IsInStore (sizes_of (open_table o)) (declared_bytes (open_table o)) (state_at o.finished p)
+open_in_store o p f b room = record {
+  in_body = b;
   hunks = omega (arith, sizes-length o.finished o.entry o.ahead, f.front_fits.counts, f.front_fits.hunks_fit.1);
   hunk = omega (arith, sizes-length o.finished o.entry o.ahead);
   segment =
@@ -51,66 +51,38 @@ open_in_store o p f room = record {
         sum_by-append (λ (e : TableEntry). 4 * size_longs e.word) (entries o.finished) (o.entry ∷ o.ahead),
         sum_by-cons (λ (e : TableEntry). 4 * size_longs e.word) o.entry o.ahead,
       );
-  room = room;
+  room = subst (λ (n : ℕ). RoomIn (sizes_of (open_table o)) n p) (sym (ap size_longs (sizes-at o.finished o.entry o.ahead))) room;
 }
 
-in_store : (p : Progress) → IsInBody p → ProgressFits p → IsInStore (sizes_of (table_of (More p))) (declared_bytes (table_of (More p))) (state_of (More p))
-in_store (AtBlock o) b f = open_in_store o phases.Block f tt
-in_store (InBody o word x) b f = open_in_store o (phase_of x) f.0 (go x f.2)
-  where
-    longs_are : longs_at (sizes_of (open_table o)) (length o.finished) ≡ size_longs o.entry.word
-    longs_are = ap size_longs (sizes-at o.finished o.entry o.ahead)
+block_room : (o : OpenHunk) (blocks : List BlockValue) → RoomIn (sizes_of (open_table o)) (size_longs o.entry.word) (positions.Body (open_of o) (block_phase blocks))
+block_room o [] = tt
+block_room o (b ∷ blocks) = tt
 
-    go : (y : Inside) → blocks.Fits (place_of o) word y → RoomIn (sizes_of (open_table o)) (longs_at (sizes_of (open_table o)) (length o.finished)) (phase_of y)
-    go (AtCount ForName) g = tt
-    go (AtCount ForDebug) g = tt
-    go (AtCount ForAdvisory) g = tt
-    go (AtSize ForCode) g = tt
-    go (AtSize ForData) g = tt
-    go (AtSize ForBss) g = tt
-    go (InPayload (Counted c) done owed) g = tt
-    go (InPayload (SizedCode top) done owed) g = omega (arith, longs_are, g.1)
-    go (InPayload (SizedData top) done owed) g = omega (arith, longs_are, g.1)
-    go (AtGroup groups) g = tt
-    go (AtTarget groups owed) g = tt
-    go (InOffsets groups target done owed) g = omega (arith, sizes-length o.finished o.entry o.ahead, f.0.front_fits.counts, g.1.1)
-    go (AtEntry entries) g = tt
-    go (InName entries w done owed) g = tt
-    go (AtValue entries w name) g = tt
-    go _ g = absurd g.1
+in_store : (p : Progress) → IsInBody p → ProgressFits p → IsInStore (sizes_of (table_of (More p))) (declared_bytes (table_of (More p))) (state_of (More p))
+in_store (AtBlock o) b f = open_in_store o (position_of (More (AtBlock o))) f refl (block_room o o.blocks)
+in_store (InBody o word x) b f = open_in_store o (position_of (More (InBody o word x))) f.0 refl (by_inside (place_of o) word Room
+    (λ g. tt) (λ g. tt) (λ g. tt) (λ g. tt) (λ g. tt) (λ g. tt) (λ c done owed g. tt)
+    (λ top done owed g. (omega arith, omega (arith, g.1))) (λ top done owed g. (omega arith, omega (arith, g.1)))
+    (λ gs g. tt) (λ gs owed g. tt) (λ gs target done owed g. omega (arith, sizes-length o.finished o.entry o.ahead, f.0.front_fits.counts, g.1.1))
+    (λ es g. tt) (λ es w done owed g. tt) (λ es w name g. tt) x f.2.1 f.2)
+  where
+    Room : Inside → Type 0
+    Room y = blocks.Fits (place_of o) word y → RoomIn (sizes_of (open_table o)) (size_longs o.entry.word) (position_of (More (InBody o word y)))
 in_store _ b f = absurd b
 
 pub sizes_are : (rows : List Row) → sizes_of (entries_of rows) ≡ words_of rows
 sizes_are [] = refl
 sizes_are (r ∷ rows) = ap (λ (xs : List ℕ). r.word ∷ xs) (sizes_are rows)
 
-pub not_done : (p : Progress) → IsInBody p → ProgressFits p → is_done (state_of (More p)).phase ≡ false
-not_done (AtBlock o) b f = refl
-not_done (InBody o word x) b f = go x f.2.1
-  where
-    go : (y : Inside) → blocks.Within (place_of o) word y → is_done (phase_of y) ≡ false
-    go (AtCount ForName) h = refl
-    go (AtCount ForDebug) h = refl
-    go (AtCount ForAdvisory) h = refl
-    go (AtSize ForCode) h = refl
-    go (AtSize ForData) h = refl
-    go (AtSize ForBss) h = refl
-    go (InPayload (Counted c) done owed) h = refl
-    go (InPayload (SizedCode top) done owed) h = refl
-    go (InPayload (SizedData top) done owed) h = refl
-    go (AtGroup groups) h = refl
-    go (AtTarget groups owed) h = refl
-    go (InOffsets groups target done owed) h = refl
-    go (AtEntry entries) h = refl
-    go (InName entries w done owed) h = refl
-    go (AtValue entries w name) h = refl
-    go _ h = absurd h
-not_done _ b f = absurd b
+pub not_done : (p : Progress) → IsInBody p → is_done (state_of (More p)).position ≡ false
+not_done (AtBlock o) b = refl
+not_done (InBody o word x) b = refl
+not_done _ b = absurd b
 
 -- ---- a reading that goes on
 
 -- what was read of a reading that is not whole
-pub record Going (rows : List Row) (store : List ℕ) (state : State) (pending fed : List ℕ) : Type 0 where
+pub record Going (rows : List Row) (store : List ℕ) (state : BodyState) (pending fed : List ℕ) : Type 0 where
   pub ws : List ℕ
   pub at : Progress
   pub spelled : fed ≡ bytes_of ws ++ pending
@@ -121,31 +93,29 @@ pub record Going (rows : List Row) (store : List ℕ) (state : State) (pending f
   pub state_is : state_of (More at) ≡ state
   pub holds : StoreHolds (bases_of rows) (More at) store
 
-pub going : (rows : List Row) (store : List ℕ) (state : State) (pending fed : List ℕ) → Reading rows store state pending fed → is_done state.phase ≡ false → Going rows store state pending fed
+pub going : (rows : List Row) (store : List ℕ) (state : BodyState) (pending fed : List ℕ) → Reading rows store state pending fed → is_done state.position ≡ false → Going rows store state pending fed
 going rows store state pending fed r more = go r.next r.read r.behind r.table_is r.state_is r.holds
   where
     go : (n : Next) → HasRead r.ws n → IsBehindHeader n → table_of n ≡ entries_of rows → state_of n ≡ state → StoreHolds (bases_of rows) n store → Going rows store state pending fed
     go (More p) read b t s h = record { ws = r.ws; at = p; spelled = r.spelled; few = r.few; read = read; in_body = b; table_is = t; state_is = s; holds = h }
     go (Finished v) read b t s h =
-        let done : true ≡ is_done state.phase = ap (λ (x : State). is_done x.phase) s in
+        let done : true ≡ is_done state.position = ap (λ (x : BodyState). is_done x.position) s in
         absurd (cc (done, more))
 
-module _ (rows : List Row) (store : List ℕ) (state : State) (pending fed : List ℕ) (g : Going rows store state pending fed) where
+module _ (rows : List Row) (store : List ℕ) (state : BodyState) (pending fed : List ℕ) (g : Going rows store state pending fed) where
   sizes_now : sizes_of (table_of (More g.at)) ≡ words_of rows
   sizes_now = ap sizes_of g.table_is ∙ sizes_are rows
 
   -- The state stands in the store.
   pub room : length store ≡ declared_bytes (entries_of rows) → IsInStore (words_of rows) (length store) state
   room e =
-      subst (λ (s : State). IsInStore (words_of rows) (length store) s) g.state_is
+      subst (λ (s : BodyState). IsInStore (words_of rows) (length store) s) g.state_is
       (subst (λ (ss : List ℕ). IsInStore ss (length store) (state_of (More g.at))) sizes_now
       (subst (λ (n : ℕ). IsInStore (sizes_of (table_of (More g.at))) n (state_of (More g.at))) (ap declared_bytes g.table_is ∙ sym e)
-      (in_store g.at g.in_body g.read.reads.0)))
+      (in_store g.at g.in_body (reads g.read).0)))
 
-  refusal_is : (w : ℕ) → refuse (role_of g.at) w ≡ refuse_part (place_at (words_of rows) state) (part_at state.phase) w
-  refusal_is w =
-      refuse_same g.at w g.in_body g.read.reads.0
-      ∙ ap₂ (λ (ss : List ℕ) (s : State). refuse_part (place_at ss s) (part_at s.phase) w) sizes_now g.state_is
+  refusal_is : (w : ℕ) → refuse (role_of g.at) w ≡ refusal (words_of rows) state w
+  refusal_is w = refusal_same g.at w g.in_body (reads g.read).0 ∙ ap₂ (λ (ss : List ℕ) (s : BodyState). refusal ss s w) sizes_now g.state_is
 
   -- A byte that completes no longword.
   pub more_pending : (byte : ℕ) → length (pending ++ byte ∷ []) < 4 → Reading rows store state (pending ++ byte ∷ []) (fed ++ byte ∷ [])
@@ -171,7 +141,7 @@ module _ (rows : List Row) (store : List ℕ) (state : State) (pending fed : Lis
         ∙ sym (bytes_of-append g.ws (w ∷ []))
 
     -- One that completes a longword that passes.
-    pub more_read : refuse_part (place_at (words_of rows) state) (part_at state.phase) w ≡ None → Reading rows (stored (bases_of rows) state w store) (stepped (words_of rows) state w) [] (fed ++ byte ∷ [])
+    pub more_read : refusal (words_of rows) state w ≡ None → Reading rows (stored (bases_of rows) state w store) (step_body (words_of rows) state w) [] (fed ++ byte ∷ [])
     more_read ok =
         let pass : refuse (role_of g.at) w ≡ None = refusal_is w ∙ ok in
         record {
@@ -182,10 +152,10 @@ module _ (rows : List Row) (store : List ℕ) (state : State) (pending fed : Lis
           read = step_read g.ws g.at w g.read is pass;
           behind = step_behind g.at w g.in_body;
           table_is = step_table g.at w g.in_body ∙ g.table_is;
-          state_is = step_state g.at w g.in_body g.read.reads.0 is pass ∙ ap₂ (λ (ss : List ℕ) (s : State). stepped ss s w) sizes_now g.state_is;
+          state_is = step_state g.at w g.in_body (reads g.read).0 pass ∙ ap₂ (λ (ss : List ℕ) (s : BodyState). step_body ss s w) sizes_now g.state_is;
           holds =
-              subst (λ (s : State). StoreHolds (bases_of rows) (step g.at w) (stored (bases_of rows) s w store)) g.state_is
-              (step_holds (bases_of rows) g.at w store g.read.reads.0 is pass g.holds);
+              subst (λ (s : BodyState). StoreHolds (bases_of rows) (step g.at w) (stored (bases_of rows) s w store)) g.state_is
+              (step_holds (bases_of rows) g.at w store (reads g.read).0 is pass g.holds);
           whole = nothing (step g.at w);
         }
       where
@@ -194,7 +164,7 @@ module _ (rows : List Row) (store : List ℕ) (state : State) (pending fed : Lis
         nothing (Finished v) = refl
 
     -- One that completes a longword that is refused.
-    pub refused_here : (reason : Reason) (at : ℕ) → at + 4 ≡ length fed + 1 → refuse_part (place_at (words_of rows) state) (part_at state.phase) w ≡ Some reason → HasRefusal (fed ++ byte ∷ []) at reason
+    pub refused_here : (reason : Reason) (at : ℕ) → at + 4 ≡ length fed + 1 → refusal (words_of rows) state w ≡ Some reason → HasRefusal (fed ++ byte ∷ []) at reason
     refused_here reason at e no-pass =
         let spelled : longs (fed ++ byte ∷ []) ≡ g.ws ++ w ∷ [] =
         ap longs (spells ∙ sym (append-nil (bytes_of (g.ws ++ w ∷ []))))
@@ -208,14 +178,14 @@ module _ (rows : List Row) (store : List ℕ) (state : State) (pending fed : Lis
 -- ---- the end
 
 -- A reading that is whole has a load file.
-pub ended : (rows : List Row) (store : List ℕ) (state : State) (pending fed : List ℕ) → Reading rows store state pending fed → is_done state.phase ≡ true →
+pub file_read : (rows : List Row) (store : List ℕ) (state : BodyState) (pending fed : List ℕ) → Reading rows store state pending fed → is_done state.position ≡ true →
     (v : LoadFileValue) × IsFileOf rows fed v × AllByRecursion (IsSized (bases_of rows)) v × (store ≡ images (bases_of rows) v)
-ended rows store state pending fed r done = go r.next r.read r.behind r.table_is r.state_is r.holds r.whole
+file_read rows store state pending fed r done = go r.next r.read r.behind r.table_is r.state_is r.holds r.whole
   where
     go : (n : Next) → HasRead r.ws n → IsBehindHeader n → table_of n ≡ entries_of rows → state_of n ≡ state → StoreHolds (bases_of rows) n store → EndsWhole n pending →
         (v : LoadFileValue) × IsFileOf rows fed v × AllByRecursion (IsSized (bases_of rows)) v × (store ≡ images (bases_of rows) v)
     go (More p) read b t s h w =
-        let more : is_done state.phase ≡ false = ap (λ (x : State). is_done x.phase) (sym s) ∙ not_done p b read.reads.0 in
+        let more : is_done state.position ≡ false = ap (λ (x : BodyState). is_done x.position) (sym s) ∙ not_done p b in
         absurd (cc (done, more))
     go (Finished v) read b t s h w =
         let e = read_ended r.ws v read in (

@@ -6,12 +6,13 @@ use Rattle.hunk_words.proofs.LongLaws.{longs-bytes_of, length-longs}
 use Rattle.hunk_words.proofs.GatherLaws.{gathered-all}
 use Rattle.hunk_files.specs.LoadFile.{LoadFileValue, IsLoadFile}
 use Rattle.hunk_files.specs.LoadText.{words, text}
-use Rattle.hunk_files.specs.Roles.{Role}
+use Rattle.hunk_scan.specs.Roles.{Role}
 use Rattle.hunk_files.specs.Fault.{IsTruncated}
-use Rattle.hunk_files.proofs.FileSteps.{Progress, Next, More, Finished, role_of}
-use Rattle.hunk_files.proofs.Reading.{HasRead, read_ended}
+use Rattle.hunk_files.specs.FileSteps.{Progress, Next, More, Finished, role_of}
+use Rattle.hunk_files.proofs.Reading.{reads, read_ended}
+use Rattle.hunk_files.specs.WordsRead.{HasRead}
 use Rattle.hunk_files.proofs.Scan.{front_of, no_fault, truncated_of}
-use Rattle.hunk_scatter.specs.Loaders.{HasNoRefusal}
+use Rattle.hunk_scatter.specs.LoaderValues.{HasNoRefusal}
 use Rattle.hunk_scatter.proofs.ReadWords.{read_longs, text_longs}
 
 -- Some load text begins with what was read.
@@ -23,7 +24,7 @@ pub record BeginsFile (ws : List ℕ) : Type 0 where
 
 pub begins_file : (ws : List ℕ) (n : Next) → HasRead ws n → BeginsFile ws
 begins_file ws (More p) h =
-    let f = front_of p h.done h.reads in
+    let f = front_of p h.done (reads h) in
     record {
       value = f.value;
       is_load_file = f.is_load_file;
@@ -64,4 +65,4 @@ module _ (ws : List ℕ) (n : Next) (pending fed : List ℕ) (read : HasRead ws 
 pub read_truncated : (ws : List ℕ) (p : Progress) (pending fed : List ℕ) → HasRead ws (More p) → length pending < 4 → fed ≡ bytes_of ws ++ pending → IsTruncated fed (4 * (length fed / 4))
 read_truncated ws p pending fed read few spelled =
     subst (λ (n : ℕ). IsTruncated fed (4 * n)) (length-longs fed)
-    (truncated_of fed (record { progress = p; done = read.done; reads = read.reads; all = read.all ∙ sym (longs_are ws (More p) pending fed read few spelled) }))
+    (truncated_of fed (record { progress = p; done = read.done; reads = reads read; all = read.all ∙ sym (longs_are ws (More p) pending fed read few spelled) }))

@@ -3,10 +3,9 @@ use Rattle.std.proofs.Common.{ℕ, List, [], ◌∷◌, subst}
 use Rattle.hunk_words.specs.Longs.{AreLongs}
 use Rattle.hunk_files.specs.LoadFile.{LoadFileValue, IsLoadFile}
 use Rattle.hunk_files.specs.LoadText.{labelled, words, text}
-use Rattle.hunk_files.proofs.FileSteps.{Next}
-use Rattle.hunk_files.proofs.Runs.{Labelled, AreAccepted}
+use Rattle.hunk_files.specs.FileSteps.{Next}
+use Rattle.hunk_files.specs.WordsRead.{Labelled, AreAccepted, HasRead}
 use Rattle.hunk_files.proofs.Accepted.{labelled_accepted}
-use Rattle.hunk_files.proofs.Reading.{HasRead}
 
 pub accepted_longs : (done : Labelled) → AreAccepted done → AreLongs (words done)
 accepted_longs [] h = tt

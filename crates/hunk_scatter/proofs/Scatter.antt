@@ -1,5 +1,5 @@
 -- Each longword keeps what the store holds.
-use Rattle.std.proofs.Common.{◌≡◌, ℕ, ◌+◌, ◌-◌, ◌*◌, ◌≤◌, Bool, true, false, List, [], ◌∷◌, ◌++◌, length, get_or, replicate, refl, sym, ap, ap₂, subst, ◌∙◌, append_assoc, append-nil, arith, length-append, ltb, None}
+use Rattle.std.proofs.Common.{◌≡◌, ℕ, suc, ◌+◌, ◌-◌, ◌*◌, ◌≤◌, Bool, true, false, List, [], ◌∷◌, ◌++◌, length, get_or, replicate, refl, sym, ap, ap₂, subst, ◌∙◌, append_assoc, append-nil, arith, length-append, ltb, None}
 use Rattle.std.specs.List.{flat_map, AllByRecursion}
 use Rattle.std.specs.Int.{w32, to_be_bytes}
 use Rattle.std.proofs.lemmas.Bool.{ltb-false}
@@ -13,15 +13,19 @@ use Rattle.hunk_words.specs.Longs.{bytes_of, IsLong}
 use Rattle.hunk_files.specs.Image.{add_at, image, filled, relocated, block_content, block_relocations}
 use Rattle.hunk_blocks.specs.Values.{BlockValue, Name, Code, Data, Bss, Reloc, Ext, Symbol, Debug, Advisory, End}
 use Rattle.hunk_files.specs.LoadFile.{TableEntry, HunkValue}
-use Rattle.hunk_files.specs.Roles.{refuse, refuse_part, refuse_kind}
-use Rattle.hunk_blocks.proofs.BlockSteps.{ForName, ForDebug, ForAdvisory, ForCode, ForData, ForBss, Counted, SizedCode, SizedData, Inside, AtCount, AtSize, InPayload, AtGroup, AtTarget, InOffsets, AtEntry, InName, AtValue, BlockNext, Open, Whole, part_of, step_inside, begin}
-use Rattle.hunk_files.proofs.FileSteps.{hunk, block, OpenHunk, Progress, AtBlock, InBody, More, place_of, role_of, with_block, open_hunk, close, after, step}
+use Rattle.hunk_scan.specs.Roles.{refuse, refuse_part, refuse_kind}
+use Rattle.hunk_blocks.specs.BlockSteps.{ForName, ForDebug, ForAdvisory, ForCode, ForData, ForBss, Counted, SizedCode, SizedData, Inside, AtCount, AtSize, InPayload, AtGroup, AtTarget, InOffsets, AtEntry, InName, AtValue, BlockNext, Open, Whole, part_of, step_inside, begin}
+use Rattle.hunk_files.specs.FileSteps.{hunk, block, OpenHunk, Progress, AtBlock, InBody, More, place_of, role_of, with_block, open_hunk, close, after, step}
 use Rattle.hunk_files.proofs.FileProgress.{ProgressFits, IsAdmitted, kind_admitted}
 use Rattle.hunk_files.proofs.HunkProgress as blocks
 use Rattle.hunk_blocks.proofs.Lists.{All-more, flat_map-more, passed_true, passed_false}
-use Rattle.hunk_files.proofs.Memory.{segment_so_far, bytes_so_far, pairs_so_far, bytes_in, pairs_in, adds_bytes, adds_pairs, step_adds_bytes, step_adds_pairs, offset_adds, end_is_image}
-use Rattle.hunk_scatter.specs.Holding.{zeros, IsSized, images, Holds, StoreHolds, put_at, stored_in, stored}
-use Rattle.hunk_scatter.specs.Standing.{phase_of, state_of, before}
+use Rattle.hunk_files.proofs.Memory.{adds_bytes, adds_pairs, step_adds_bytes, step_adds_pairs, offset_adds, end_is_image}
+use Rattle.hunk_files.specs.OpenSegment.{segment_so_far, bytes_so_far, pairs_so_far, bytes_in, pairs_in}
+use Rattle.hunk_scatter.specs.StoreContent.{zeros, IsSized, images, Holds, StoreHolds, put_at, stored_in, stored}
+use Rattle.hunk_files.specs.ReaderPosition.{position_of, open_of, block_phase}
+use Rattle.hunk_scan.specs.declared.phase.OpenHunk as numbers
+use Rattle.hunk_scan.specs.declared.position.Position.TheVariants as positions
+use Rattle.hunk_scatter.specs.BodyReader.{state_of, before}
 use Rattle.hunk_scatter.proofs.Splice.{put-join, add-join, length-put, long_fills}
 use Rattle.hunk_words.proofs.LongLaws.{length-bytes_of, bytes_of-one}
 
@@ -110,15 +114,21 @@ content_put bases o n m done w u e d f g fits =
     ∙ long_fills (4 * size_longs o.entry.word) (bytes_of done) (to_be_bytes w32 w) refl (omega (arith, length-bytes_of done))
     ∙ ap₂ (λ (s : List ℕ) (at : ℕ). put_at s at (to_be_bytes w32 w)) (sym (content_only bases o n (bytes_of done) u.0 u.1 e d)) (length-bytes_of done)
 
+-- the longwords of a content that came, by those that are owed
+at_place : (done : List ℕ) (owed : ℕ) (P : List ℕ → Type 0) (start : ℕ) (four store : List ℕ) → P (put_at store (start + 4 * length done) four) → P (put_at store (start + 4 * (length done + suc owed - owed - 1)) four)
+at_place done owed P start four store h =
+    let e : length done ≡ length done + suc owed - owed - 1 = omega arith in
+    subst (λ (n : ℕ). P (put_at store (start + 4 * n) four)) e h
+
 inside_holds : (bases : List ℕ) (o : OpenHunk) (word : ℕ) (x : Inside) (w : ℕ) (store : List ℕ) → IsAdmitted o word → blocks.Fits (place_of o) word x →
-    refuse_part (place_of o) (part_of x) w ≡ None → Holds bases o (Open x) store → Holds bases o (step_inside x w) (stored_in bases (before o.finished) (phase_of x) w store)
+    refuse_part (place_of o) (part_of x) w ≡ None → Holds bases o (Open x) store → Holds bases o (step_inside x w) (stored_in bases (before o.finished) (position_of (More (InBody o word x))) w store)
 inside_holds bases o word x w store a f ok h = go x f ok h
   where
     idle : (y : Inside) → adds_bytes y w ≡ [] → adds_pairs y w ≡ [] → Holds bases o (Open y) store → Holds bases o (step_inside y w) store
     idle y e d k = holds_as bases o (Open y) (step_inside y w) store (nothing_added bases o y w e d) k
 
     go : (y : Inside) → blocks.Fits (place_of o) word y → refuse_part (place_of o) (part_of y) w ≡ None → Holds bases o (Open y) store →
-        Holds bases o (step_inside y w) (stored_in bases (before o.finished) (phase_of y) w store)
+        Holds bases o (step_inside y w) (stored_in bases (before o.finished) (position_of (More (InBody o word y))) w store)
     go (AtCount ForName) f ok k = idle (AtCount ForName) refl refl k
     go (AtCount ForDebug) f ok k = idle (AtCount ForDebug) refl refl k
     go (AtCount ForAdvisory) f ok k = idle (AtCount ForAdvisory) refl refl k
@@ -130,14 +140,16 @@ inside_holds bases o word x w store a f ok h = go x f ok h
         let y : Inside = InPayload (SizedCode top) done owed in
         let early : o.has_content ≡ false = passed_false o.has_content reasons.SecondContent (kind_is o word kinds.Code a f.0.0.0) in
         let room : 4 * length done + 4 ≤ 4 * size_longs o.entry.word = omega (arith, f.1) in
-        put_holds bases o (Open y) (step_inside y w) store (4 * length done) (to_be_bytes w32 w) refl room
-        (content_put bases o (Open y) (step_inside y w) done w (k.unplaced early) refl refl (step_adds_bytes y w ∙ ap (λ (bs : List ℕ). bytes_of done ++ bs) (bytes_of-one w)) (step_adds_pairs y w) room) k
+        at_place done owed (Holds bases o (step_inside y w)) (before o.finished) (to_be_bytes w32 w) store
+        (put_holds bases o (Open y) (step_inside y w) store (4 * length done) (to_be_bytes w32 w) refl room
+        (content_put bases o (Open y) (step_inside y w) done w (k.unplaced early) refl refl (step_adds_bytes y w ∙ ap (λ (bs : List ℕ). bytes_of done ++ bs) (bytes_of-one w)) (step_adds_pairs y w) room) k)
     go (InPayload (SizedData top) done owed) f ok k =
         let y : Inside = InPayload (SizedData top) done owed in
         let early : o.has_content ≡ false = passed_false o.has_content reasons.SecondContent (kind_is o word kinds.Data a f.0.0.0) in
         let room : 4 * length done + 4 ≤ 4 * size_longs o.entry.word = omega (arith, f.1) in
-        put_holds bases o (Open y) (step_inside y w) store (4 * length done) (to_be_bytes w32 w) refl room
-        (content_put bases o (Open y) (step_inside y w) done w (k.unplaced early) refl refl (step_adds_bytes y w ∙ ap (λ (bs : List ℕ). bytes_of done ++ bs) (bytes_of-one w)) (step_adds_pairs y w) room) k
+        at_place done owed (Holds bases o (step_inside y w)) (before o.finished) (to_be_bytes w32 w) store
+        (put_holds bases o (Open y) (step_inside y w) store (4 * length done) (to_be_bytes w32 w) refl room
+        (content_put bases o (Open y) (step_inside y w) done w (k.unplaced early) refl refl (step_adds_bytes y w ∙ ap (λ (bs : List ℕ). bytes_of done ++ bs) (bytes_of-one w)) (step_adds_pairs y w) room) k)
     go (AtGroup groups) f ok k = idle (AtGroup groups) refl refl k
     go (AtTarget groups owed) f ok k = idle (AtTarget groups owed) refl refl k
     go (InOffsets groups target done owed) f ok k =
@@ -232,15 +244,21 @@ begin_empty kinds.Debug = (refl, refl)
 begin_empty (kinds.Unknown n) = (refl, refl)
 begin_empty _ = (refl, refl)
 
+-- a block word stores nothing
+block_stores : (blocks : List BlockValue) (P : List ℕ → Type 0) (bases : List ℕ) (start : ℕ) (o : numbers.OpenHunk) (w : ℕ) (store : List ℕ) → P store → P (stored_in bases start (positions.Body o (block_phase blocks)) w store)
+block_stores [] P bases start o w store h = h
+block_stores (b ∷ blocks) P bases start o w store h = h
+
 -- A longword that is not refused keeps what the store holds.
 pub step_holds : (bases : List ℕ) (p : Progress) (w : ℕ) (store : List ℕ) → ProgressFits p → IsLong w → refuse (role_of p) w ≡ None → StoreHolds bases (More p) store →
     StoreHolds bases (step p w) (stored bases (state_of (More p)) w store)
 step_holds bases (AtBlock o) w store f l ok h =
     let e = begin_empty (kind w) in
-    after_holds bases o w (begin (kind w)) store (l, ok) (blocks.begin_fits (place_of o) w (kind w) refl (kind_admitted o w (l, ok)).1)
-    (holds_as bases o (Whole End) (begin (kind w)) store (same_parts bases o (Whole End) (begin (kind w)) e.0 e.1) h)
+    block_stores o.blocks (StoreHolds bases (step (AtBlock o) w)) bases (before o.finished) (open_of o) w store
+    (after_holds bases o w (begin (kind w)) store (l, ok) (blocks.begin_fits (place_of o) w (kind w) refl (kind_admitted o w (l, ok)).1)
+    (holds_as bases o (Whole End) (begin (kind w)) store (same_parts bases o (Whole End) (begin (kind w)) e.0 e.1) h))
 step_holds bases (InBody o word x) w store f l ok h =
-    after_holds bases o word (step_inside x w) (stored_in bases (before o.finished) (phase_of x) w store) f.1 (blocks.step_fits (place_of o) word x w f.2 l ok)
+    after_holds bases o word (step_inside x w) (stored_in bases (before o.finished) (position_of (More (InBody o word x))) w store) f.1 (blocks.step_fits (place_of o) word x w f.2 l ok)
     (inside_holds bases o word x w store f.1 f.2 ok h)
 step_holds bases _ w store f l ok h = absurd h
 

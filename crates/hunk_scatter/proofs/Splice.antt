@@ -4,7 +4,7 @@ use Rattle.std.proofs.lemmas.List.{take-append-le, drop-append-le}
 use Rattle.std.proofs.Math.Seq.{take-append-add, drop-append-add, take-append_seam}
 use Rattle.std.specs.Int.{w32, to_be_bytes, from_be_bytes}
 use Rattle.hunk_files.specs.Image.{add_at, filled}
-use Rattle.hunk_scatter.specs.Holding.{put_at}
+use Rattle.hunk_scatter.specs.StoreContent.{put_at}
 
 module _ (front mid back : List ℕ) (k : ℕ) (fits : k + 4 ≤ length mid) where
   whole : List ℕ

@@ -1,14 +1,14 @@
 //! A table whose hunks are not placed.
 ghost use Rattle.std.specs.Prelude.{◌≡◌, ◌+◌, ◌*◌, ◌<◌, ◌≤◌, length, map, slice_get, Some, None, replicate, IfOk, IfErr};
 ghost use Rattle.hunk_files.specs.Image.{declared_bytes};
-ghost use Rattle.hunk_scatter.specs.Headers.{header_bytes};
+ghost use Rattle.hunk_scatter.specs.HeaderBytes.{header_bytes};
 ghost use Rattle.hunk_scatter.specs.Placing.{AreBases, IsUnplacedFor};
 ghost use Rattle.hunk_scatter.specs.Rows.{row_of, entries_of, bases_of};
 
-use crate::body::BodyLoader;
+use crate::body_loader::BodyLoader;
+use crate::body_state::BodyState;
 use crate::history::History;
 use crate::placer::{Placer, place_rows, unplace_rows};
-use crate::state::State;
 use hunk_files::Row;
 use hunk_words::{Assembler, Reason};
 use std::alloc::{AllocError, Global};
@@ -28,15 +28,15 @@ pub struct Declared {
 }
 
 impl Model for Declared {
-    ghost use Rattle.hunk_scatter.specs.Loaders.{Tabled};
-    ghost use Rattle.hunk_scatter.specs.Heading.{IsTabled};
+    ghost use Rattle.hunk_scatter.specs.LoaderValues.{DeclaredValue};
+    ghost use Rattle.hunk_scatter.specs.HeaderLoaderFields.{DeclaredInvariant};
     ghost use Rattle.hunk_scatter.specs.Rows.{entries_of};
 
-    ghost Value = { Tabled };
+    ghost Value = { DeclaredValue };
 
     ghost view = { λ s. record { table = entries_of s.rows.items; budget = s.budget } };
 
-    ghost invariant = { λ s. IsTabled s.rows.items s.total s.budget s.count s.history.bytes };
+    ghost invariant = { λ s. DeclaredInvariant s.rows.items s.total s.budget s.count s.history.bytes };
 }
 
 /// A table that could not be placed, as it was, and why.
@@ -132,9 +132,9 @@ impl Declared {
             history,
         } = table;
         Ok(BodyLoader {
+            state: BodyState::start(rows.len() as u32),
             rows,
             store,
-            state: State::start(),
             assembler: Assembler::new(),
             count,
             refused: None,

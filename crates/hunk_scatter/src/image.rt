@@ -1,7 +1,8 @@
 //! A load file in memory.
 ghost use Rattle.std.specs.Prelude.{◌≡◌, ◌+◌, ◌*◌, ◌<◌, ◌≤◌, length, slice_get, slice_index, Some};
+ghost use Rattle.hunk_words.specs.Limits.{most_hunks};
 ghost use Rattle.hunk_files.specs.Image.{declared_bytes};
-ghost use Rattle.hunk_scatter.specs.Loaders.{cut};
+ghost use Rattle.hunk_scatter.specs.LoaderValues.{cut};
 ghost use Rattle.hunk_scatter.specs.Rows.{entries_of, words_of, bases_of};
 
 use crate::store::base_of;
@@ -18,21 +19,22 @@ pub struct Image {
 }
 
 impl Model for Image {
+    ghost use Rattle.hunk_words.specs.Limits.{most_hunks};
     ghost use Rattle.std.specs.Prelude.{◌≡◌, ◌≤◌, length};
     ghost use Rattle.hunk_files.specs.Image.{declared_bytes};
-    ghost use Rattle.hunk_scatter.specs.Loaders.{Placed, cut};
+    ghost use Rattle.hunk_scatter.specs.LoaderValues.{ImageValue, cut};
     ghost use Rattle.hunk_scatter.specs.Rows.{entries_of, words_of};
 
-    ghost Value = { Placed };
+    ghost Value = { ImageValue };
 
     ghost view = { λ s. record { rows = s.rows.items; segments = cut (words_of s.rows.items) s.store.items } };
 
-    ghost invariant = { λ s. (length s.store.items ≡ declared_bytes (entries_of s.rows.items)) × (length s.rows.items ≤ 65536) };
+    ghost invariant = { λ s. (length s.store.items ≡ declared_bytes (entries_of s.rows.items)) × (length s.rows.items ≤ most_hunks) };
 }
 
 /// Where the segment of a hunk begins: the declared bytes of the rows before it.
 fn start_of(rows: &[Row]) -> u64
-    requires { length rows.now ≤ 65536 }
+    requires { length rows.now ≤ most_hunks }
     ensures { result ≡ declared_bytes (entries_of rows.now) }
 {
     let mut bytes = 0;
@@ -44,7 +46,7 @@ fn start_of(rows: &[Row]) -> u64
 
 fn segment_of<'a>(rows: &[Row], store: &'a [u8], i: usize) -> &'a [u8]
     requires hunk { i < length rows.now }
-    requires few { length rows.now ≤ 65536 }
+    requires few { length rows.now ≤ most_hunks }
     requires size { length store.now ≡ declared_bytes (entries_of rows.now) }
     ensures { slice_get (cut (words_of rows.now) store.entry.now) i ≡ Some result.now }
 {

@@ -1,5 +1,6 @@
 //! Where hunks go.
 ghost use Rattle.std.specs.Prelude.{◌≡◌, ℕ, ◌<◌, ◌≤◌, length, map, Option, slice_get, IfErr, OnOk};
+ghost use Rattle.hunk_words.specs.Limits.{most_hunks};
 ghost use Rattle.hunk_files.specs.declared.row.Row.{Row};
 ghost use Rattle.hunk_scatter.specs.Placing.{packed_base, AreBases, IsFirstUnplaced};
 ghost use Rattle.hunk_scatter.specs.Rows.{entries_of, bases_of, row_of};
@@ -54,7 +55,7 @@ impl Placer for Listed<'_> {
 
 /// Gives each row its base, or answers the first hunk that has none.
 pub fn place_rows<P: Placer>(rows: &mut [Row], placer: &P) -> Result<(), u32>
-    requires few { length rows.old ≤ 65536 }
+    requires few { length rows.old ≤ most_hunks }
     requires unplaced { rows.old ≡ map row_of (entries_of rows.old) }
     ensures entries { entries_of rows.new ≡ entries_of rows.old }
     ensures given { OnOk result (AreBases (P.base placer.now) (entries_of rows.old) (bases_of rows.new)) }

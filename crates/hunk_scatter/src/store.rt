@@ -1,15 +1,15 @@
 //! The one store.
 ghost use Rattle.std.specs.Prelude.{◌≡◌, ◌+◌, ◌≤◌, ◌<◌, ◌^◌, length, get_or, Some, None, IfOk, IfErr, OnOk, OnErr, IsTrue};
-ghost use Rattle.hunk_scatter.specs.Answers.{is_of_body};
+ghost use Rattle.hunk_scatter.specs.LoaderReasons.{is_of_body};
 ghost use Rattle.std.specs.Int.{w32, to_be_bytes};
 ghost use Rattle.hunk_files.specs.Image.{add_at};
-ghost use Rattle.hunk_files.specs.Roles.{refuse_part};
-ghost use Rattle.hunk_scatter.specs.Holding.{put_at, stored};
-ghost use Rattle.hunk_scatter.specs.Stepping.{stepped, IsInStore, place_at, part_at};
+ghost use Rattle.hunk_scatter.specs.StoreContent.{put_at, stored};
+ghost use Rattle.hunk_scatter.specs.BodySteps.{step_body, refusal, IsInStore};
 ghost use Rattle.hunk_scatter.specs.Rows.{words_of, bases_of};
 
-use crate::state::{Phase, State};
+use crate::body_state::BodyState;
 use hunk_files::Row;
+use hunk_scan::{Phase, Position};
 use hunk_words::Reason;
 
 /// Puts a longword at the offset.
@@ -38,17 +38,17 @@ pub fn base_of(rows: &[Row], hunk: u32) -> u32
 }
 
 /// What the loader does to its store at a longword that is not refused.
-pub fn store_word(store: &mut [u8], rows: &[Row], state: State, word: u32)
+pub fn store_word(store: &mut [u8], rows: &[Row], state: BodyState, word: u32)
     requires room { IsInStore (words_of rows.now) (length store.old) state }
-    requires passes { refuse_part (place_at (words_of rows.now) state) (part_at state.phase) word ≡ None }
+    requires passes { refusal (words_of rows.now) state word ≡ None }
     ensures { store.new ≡ stored (bases_of rows.now) state word store.old }
 {
-    match state.phase {
-        Phase::Content { done, owed: _ } => {
-            let at = state.start + 4 * u64::from(done);
+    match state.position {
+        Position::Body(_, Phase::Content { longs, owed }) => {
+            let at = state.start + 4 * u64::from(longs - owed - 1);
             put(store, at as usize, word);
         }
-        Phase::Offset { target, owed: _ } => {
+        Position::Body(_, Phase::Offset { target, owed: _ }) => {
             let base = base_of(rows, target);
             let at = state.start + u64::from(word);
             add(store, at as usize, base);
@@ -58,13 +58,18 @@ pub fn store_word(store: &mut [u8], rows: &[Row], state: State, word: u32)
 }
 
 /// Takes a longword, or tells why it is refused.
-#[tactic(auto, using(crate::proofs::BodyFields::few_words, crate::proofs::Refusing::refused_in_body))]
-pub fn take_word(store: &mut [u8], rows: &[Row], state: State, word: u32) -> Result<State, Reason>
+#[tactic(auto, using(crate::proofs::BodyFields::few_words))]
+pub fn take_word(
+    store: &mut [u8],
+    rows: &[Row],
+    state: BodyState,
+    word: u32,
+) -> Result<BodyState, Reason>
     requires { IsInStore (words_of rows.now) (length store.old) state }
-    ensures steps { IfOk result (λ s. s ≡ stepped (words_of rows.now) state word) }
+    ensures steps { IfOk result (λ s. s ≡ step_body (words_of rows.now) state word) }
     ensures stores { OnOk result (store.new ≡ stored (bases_of rows.now) state word store.old) }
-    ensures passes { OnOk result (refuse_part (place_at (words_of rows.now) state) (part_at state.phase) word ≡ None) }
-    ensures refusal { IfErr result (λ r. refuse_part (place_at (words_of rows.now) state) (part_at state.phase) word ≡ Some r) }
+    ensures passes { OnOk result (refusal (words_of rows.now) state word ≡ None) }
+    ensures refusal { IfErr result (λ r. refusal (words_of rows.now) state word ≡ Some r) }
     ensures own { IfErr result (λ r. IsTrue (is_of_body r)) }
     ensures nothing { OnErr result (store.new ≡ store.old) }
     ensures long { word < 2 ^ 32 }

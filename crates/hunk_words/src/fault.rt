@@ -1,6 +1,8 @@
 //! Where an input is refused, and why.
 
 use crate::reason::Reason;
+use std::error::Error;
+use std::fmt;
 
 /// A refusal.
 ///
@@ -21,3 +23,18 @@ pub type FileFault = Fault;
 
 /// A refusal of a file that is loaded as it comes.
 pub type LoadFault = Fault;
+
+impl fmt::Display for Fault {
+    fn fmt<W: fmt::Write>(&self, f: &mut fmt::Formatter<W>) -> fmt::Result {
+        let (place, name, number) = (self.place, self.reason.name(), self.reason.number());
+        match self.reason {
+            Reason::NoBase(hunk) => write!(
+                f,
+                "refused at byte {place}: {name} ({number}) hunk {hunk}"
+            ),
+            _ => write!(f, "refused at byte {place}: {name} ({number})"),
+        }
+    }
+}
+
+impl Error for Fault {}

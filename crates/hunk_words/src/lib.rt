@@ -6,6 +6,7 @@
 mod assembler;
 mod block_word;
 mod fault;
+mod limits;
 mod long_writer;
 mod longword;
 mod reason;
@@ -18,6 +19,7 @@ mod tests;
 pub use crate::assembler::Assembler;
 pub use crate::block_word::{BlockWord, Kind};
 pub use crate::fault::{BlockFault, Fault, FileFault, LoadFault};
+pub use crate::limits::{MOST_HUNKS, NAME_LIMIT};
 pub use crate::long_writer::{LongWriter, WriteFault};
 pub use crate::longword::word_at;
 pub use crate::reason::Reason;

@@ -80,6 +80,7 @@ impl<W: Sink> LongWriter<W> {
         ensures failed { OnErr result (W.failed self.new.sink ≡ true) }
         ensures stops { self.new.stopped ≡ is_err result }
         ensures stays { self.old.stopped ≡ true → IsErr result × (self.new ≡ self.old) }
+        ensures quiet { OnOk result (W.failed self.new.sink ≡ W.failed self.old.sink) }
     {
         if self.stopped {
             return Err(WriteFault {
@@ -114,6 +115,7 @@ impl<W: Sink> LongWriter<W> {
         ensures failed { OnErr result (W.failed self.new.sink ≡ true) }
         ensures stops { self.new.stopped ≡ is_err result }
         ensures stays { self.old.stopped ≡ true → IsErr result × (self.new ≡ self.old) }
+        ensures quiet { OnOk result (W.failed self.new.sink ≡ W.failed self.old.sink) }
     {
         self.put_bytes(word.to_be_bytes().as_slice())
     }

@@ -8,4 +8,4 @@ consumed input None bytes split none = absurd split
 
 -- it was read to its end
 pub consumed_all : (a b : Option (List ℕ)) (input bytes : List ℕ) → a ≡ Some input → Consumes a b bytes → IsAtEnd b → input ≡ bytes
-consumed_all a b input bytes known given ended = consumed input b bytes (subst (λ (o : Option (List ℕ)). Consumes o b bytes) known given) ended
+consumed_all a b input bytes known given at_end = consumed input b bytes (subst (λ (o : Option (List ℕ)). Consumes o b bytes) known given) at_end

@@ -3,7 +3,8 @@ use Rattle.std.proofs.Common.{◌≡◌, ℕ, ◌+◌, ◌*◌, ◌<◌, ◌≤�
 use Rattle.std.proofs.lemmas.List.{drop_all, drop_more}
 use Rattle.std.proofs.lemmas.List.Sums.{sum_by-cons}
 use Rattle.hunk_blocks.specs.Values.{BlockBody, BlockValue, Name, Code, Data, Bss, Reloc, Ext, Symbol, Debug, Advisory, End}
-use Rattle.hunk_files.specs.LoadFile.{Standing, Beside, Content, Relocating, Ending, AreInOrder, is_content, standing}
+use Rattle.hunk_files.specs.LoadFile.{AreInOrder, standing}
+use Rattle.hunk_scan.specs.Standings.{Standing, Beside, Content, Relocating, Ending, is_content}
 use Rattle.hunk_files.specs.ObjectFile.{ObjectHunk}
 use Rattle.hunk_files.specs.Findings.{content_longs, hunk_bytes}
 
@@ -44,16 +45,16 @@ before_content Ending rest other order = absurd order
 nothing_beside : (b : BlockValue) (blocks : ObjectHunk) → is_content (standing b.body) ≡ false → hunk_bytes blocks ≡ 0 → hunk_bytes (b ∷ blocks) ≡ 0
 nothing_beside b blocks beside none = omega (arith, bytes-cons b blocks, beside_content b.body beside, none)
 
-ended : (blocks : ObjectHunk) → standings blocks ≡ [] → hunk_bytes blocks ≡ 0
-ended [] e = refl
-ended (b ∷ blocks) e = absurd cc
+no_bytes : (blocks : ObjectHunk) → standings blocks ≡ [] → hunk_bytes blocks ≡ 0
+no_bytes [] e = refl
+no_bytes (b ∷ blocks) e = absurd cc
 
 nothing_here : (b : BlockValue) (blocks : ObjectHunk) → (AreInOrder true (standings blocks) → hunk_bytes blocks ≡ 0) →
     (s : Standing) → standing b.body ≡ s → AreInOrder true (s ∷ standings blocks) → hunk_bytes (b ∷ blocks) ≡ 0
 nothing_here b blocks more Beside is order = nothing_beside b blocks (ap is_content is) (more order)
 nothing_here b blocks more Relocating is order = nothing_beside b blocks (ap is_content is) (more order)
 nothing_here b blocks more Content is order = absurd order
-nothing_here b blocks more Ending is order = nothing_beside b blocks (ap is_content is) (ended blocks order)
+nothing_here b blocks more Ending is order = nothing_beside b blocks (ap is_content is) (no_bytes blocks order)
 
 -- behind the content block no other has content
 nothing_more : (blocks : ObjectHunk) → AreInOrder true (standings blocks) → hunk_bytes blocks ≡ 0

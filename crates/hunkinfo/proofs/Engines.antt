@@ -16,11 +16,11 @@ use Rattle.hunkinfo.proofs.Consumed.{consumed_all}
 -- the source was read to its end, and gave the bytes
 pub record IsRead (a b : Option (List ℕ)) (most : ℕ) (bytes : List ℕ) : Type 0 where
   pub given : Consumes a b bytes
-  pub ended : IsAtEnd b
+  pub at_end : IsAtEnd b
   pub few : length bytes < most
 
 pub is_read : (a b : Option (List ℕ)) (most : ℕ) (items bytes : List ℕ) → Consumes a b items → IsAtEnd b → length items < most → bytes ≡ items → IsRead a b most bytes
-is_read a b most items bytes given ended few same = subst (λ (xs : List ℕ). IsRead a b most xs) (sym same) (record { given = given; ended = ended; few = few })
+is_read a b most items bytes given at_end few same = subst (λ (xs : List ℕ). IsRead a b most xs) (sym same) (record { given = given; at_end = at_end; few = few })
 
 -- ---- a fault that is handed on
 
@@ -28,7 +28,7 @@ pub handed : {T : Type 0} (P : RunFault → Type 0) (result : Result T RunFault)
 handed {T} P result fault p is = subst (λ (r : Result T RunFault). IfErr r P) (sym (p.1 ∙ ap Err p.2)) is
 
 pub refuses_only : (fault : RunFault) (a b : Option (List ℕ)) (most : ℕ) (bytes : List ℕ) → IsRead a b most bytes → RefusesBytes fault bytes → RefusesOnly fault a b most
-refuses_only (Refused refusal) a b most bytes read is = inr (record { input = bytes; given = read.given; ended = read.ended; few = read.few; refuses = is })
+refuses_only (Refused refusal) a b most bytes read is = inr (record { input = bytes; given = read.given; at_end = read.at_end; few = read.few; refuses = is })
 refuses_only Memory a b most bytes read is = tt
 refuses_only (Read place) a b most bytes read is = tt
 refuses_only (Write written) a b most bytes read is = tt
@@ -42,7 +42,7 @@ stops_untouched taken failed old fault none other = record { broken = λ is. abs
 pub only_memory : (fault : RunFault) (a b : Option (List ℕ)) (most : ℕ) (bytes input : List ℕ) → IsRead a b most bytes →
     (fault ≡ Memory) ⊎ (AreFile bytes → ⊥) → a ≡ Some input → AreFile input → fault ≡ Memory
 only_memory fault a b most bytes input read (inl memory) known file = memory
-only_memory fault a b most bytes input read (inr none) known file = absurd (none (subst AreFile (consumed_all a b input bytes known read.given read.ended) file))
+only_memory fault a b most bytes input read (inr none) known file = absurd (none (subst AreFile (consumed_all a b input bytes known read.given read.at_end) file))
 
 -- ---- a text that is put
 
@@ -51,7 +51,7 @@ abbrev pub writes_of : (Is : List ℕ → List ℕ → Type 0) (a b : Option (Li
 writes_of Is a b most c d m n bytes text put read is same none puts = record {
   input = bytes;
   given = read.given;
-  ended = read.ended;
+  at_end = read.at_end;
   few = read.few;
   text = text;
   is_text = is;

@@ -10,3 +10,4 @@ mod RewriteLaws
 mod RowLaws
 mod StrippedSize
 mod Telling
+mod Vacuity

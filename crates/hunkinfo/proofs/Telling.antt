@@ -1,5 +1,5 @@
 -- How what a run tells follows on an engine function that has written nothing.
-use Rattle.std.proofs.Common.{◌≡◌, ◌++◌, ◌∙◌, ℕ, Bool, true, false, List, [], Option, Some, None, length, inl, inr, refl, ap, sym, subst, arith, append-nil, append_assoc}
+use Rattle.std.proofs.Common.{◌≡◌, ◌<◌, ◌++◌, ◌∙◌, ℕ, Bool, true, false, List, [], Option, Some, None, length, inl, inr, refl, ap, sym, subst, arith, append-nil, append_assoc}
 use Rattle.std.specs.Io.KnownBytes.{Consumes, IsAtEnd}
 use Rattle.std.proofs.lemmas.List.{take_all}
 use Rattle.std.proofs.KnownBytes.{Appends-trans}
@@ -37,19 +37,19 @@ pub takes_whole : {W : Type 0} (taken : W → Option (List ℕ)) (old new : Writ
 takes_whole taken old new Is a b most written all = takes_put taken old new written all.0.text all.0.puts all.1
 
 pub tells_report : {W : Type 0} (taken : W → Option (List ℕ)) (failed : W → Bool) (old new : Writing W) (count : ℕ) (a b : Option (List ℕ)) (most written : ℕ) →
-    WritesAll (IsValidated count) a b most (taken old.sink) (taken new.sink) written → TellsStatus taken failed old new 1
-tells_report taken failed old new count a b most written all =
-    inr (inr (inr (inr (all.0.input, all.0.text, refl, (count, all.0.is_text), takes_whole taken old new (IsValidated count) a b most written all))))
+    0 < count → WritesAll (IsValidated count) a b most (taken old.sink) (taken new.sink) written → TellsStatus taken failed old new 1
+tells_report taken failed old new count a b most written some all =
+    inr (inr (inr (inr (all.0.input, all.0.text, refl, (count, some, all.0.is_text), takes_whole taken old new (IsValidated count) a b most written all))))
 
 -- an input that was read to its end
 pub lists_source : {W : Type 0} (taken : W → Option (List ℕ)) (old new : Writing W) (listing : Listing) (Is : List ℕ → List ℕ → Type 0)
     (a b : Option (List ℕ)) (most written : ℕ) → ((input text : List ℕ) → Is input text → IsListed listing input text) →
     ((given : List ℕ) → IsAtEnd b → StopsReading false listing given b) →
     WritesAll Is a b most (taken old.sink) (taken new.sink) written → ListsSource false listing a b taken old new
-lists_source taken old new listing Is a b most written listed ended all = record {
+lists_source taken old new listing Is a b most written listed at_end all = record {
   given = all.0.input;
   consumed = all.0.given;
-  stops = ended all.0.input all.0.ended;
+  stops = at_end all.0.input all.0.at_end;
   input = all.0.input;
   is_input = refl;
   text = all.0.text;
@@ -97,10 +97,10 @@ listed_slice listing bytes given written None consumed stops is = absurd consume
 -- the text of a source spells the bytes of which this is printed
 pub lists_text : {W : Type 0} (taken : W → Option (List ℕ)) (old new : Writing W) (listing : Listing) (a b c d : Option (List ℕ)) (given bytes : List ℕ) →
     Consumes a b given → IsAtEnd b → Spells given bytes → c ≡ Some bytes → ListsSource false listing c d taken old new → ListsSource true listing a b taken old new
-lists_text taken old new listing a b c d given bytes consumed ended spells known lists = record {
+lists_text taken old new listing a b c d given bytes consumed at_end spells known lists = record {
   given = given;
   consumed = consumed;
-  stops = ended;
+  stops = at_end;
   input = bytes;
   is_input = spells;
   text = lists.text;

@@ -12,7 +12,7 @@ use Rattle.hunkinfo.specs.FileKinds.{RefusesBytes}
 pub record Writes (IsTextOf : List ℕ → List ℕ → Type 0) (a b : Option (List ℕ)) (most : ℕ) (c d : Option (List ℕ)) (written : ℕ) : Type 0 where
   pub input : List ℕ
   pub given : Consumes a b input
-  pub ended : IsAtEnd b
+  pub at_end : IsAtEnd b
   pub few : length input < most
   pub text : List ℕ
   pub is_text : IsTextOf input text
@@ -26,7 +26,7 @@ WritesAll IsTextOf a b most c d written = (writes : Writes IsTextOf a b most c d
 pub record RefusesInput (fault : RunFault) (a b : Option (List ℕ)) (most : ℕ) : Type 0 where
   pub input : List ℕ
   pub given : Consumes a b input
-  pub ended : IsAtEnd b
+  pub at_end : IsAtEnd b
   pub few : length input < most
   pub refuses : RefusesBytes fault input
 

@@ -5,7 +5,7 @@ use Rattle.hunk_words.specs.declared.fault.Fault.{Fault}
 use Rattle.hunk_words.specs.declared.reason.Reason.{Reason}
 use Rattle.hunk_words.specs.declared.reason.Reason.TheVariants as reasons
 use Rattle.hunk_words.specs.Reasons.{name_of, number_of}
-use Rattle.hunk_scatter.specs.Answers.{between}
+use Rattle.hunk_scatter.specs.LoaderReasons.{between}
 use Rattle.hunkinfo.specs.declared.fault.RunFault.{RunFault}
 use Rattle.hunkinfo.specs.declared.fault.RunFault.TheVariants.{HexText, Memory, Read, Refused, Write}
 

@@ -3,9 +3,9 @@ use Rattle.std.specs.Prelude.{◌≡◌, ◌≢◌, ◌⊎◌, ⊤, ℕ, Bool, L
 use Rattle.hunk_words.specs.Longs.{bytes_of, longs}
 use Rattle.hunk_words.specs.declared.fault.Fault.{Fault}
 use Rattle.hunk_words.specs.declared.reason.Reason.TheVariants as reasons
-use Rattle.hunk_files.specs.declared.file_kind.Sniff.{Sniff}
-use Rattle.hunk_files.specs.declared.file_kind.Sniff.TheVariants as sniffs
-use Rattle.hunk_files.specs.FileKind.{sniffed}
+use Rattle.hunk_scan.specs.declared.file_kind.Sniff.{Sniff}
+use Rattle.hunk_scan.specs.declared.file_kind.Sniff.TheVariants as sniffs
+use Rattle.hunk_scan.specs.FileKind.{sniffed}
 use Rattle.hunk_files.specs.Fault.{BeginsWithLoadFile, HasFault, is_load_refusal}
 use Rattle.hunk_files.specs.LoadText.{text}
 use Rattle.hunk_files.specs.ObjectFile.{ObjectFileValue, IsObjectFile, is_object_refusal, object_text}

@@ -1,3 +1,4 @@
+pub mod Asked
 pub mod BlockLines
 pub mod BlockNames
 pub mod Command

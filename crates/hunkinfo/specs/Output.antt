@@ -4,11 +4,11 @@ use Rattle.std.specs.Io.KnownBytes.{Appends}
 use Rattle.hunk_words.specs.Carriers.{Writing}
 use Rattle.hunkinfo.specs.declared.fault.RunFault.{RunFault}
 use Rattle.hunkinfo.specs.Faults.{IsWrite, line_of, status_of}
-use Rattle.hunkinfo.specs.Validated.{IsReport}
+use Rattle.hunkinfo.specs.Validated.{IsFound}
 
 -- the line with its end, LF
-abbrev pub ended : List ℕ → List ℕ
-ended line = line ++ 10 ∷ []
+abbrev pub with_newline : List ℕ → List ℕ
+with_newline line = line ++ 10 ∷ []
 
 -- the output has taken this text, and nothing else
 abbrev pub Takes : {W : Type 0} → (W → Option (List ℕ)) → Writing W → Writing W → List ℕ → Type 0
@@ -29,7 +29,7 @@ pub record StopsOutput {W : Type 0} (taken : W → Option (List ℕ)) (failed : 
 abbrev pub TellsStatus : {W : Type 0} → (W → Option (List ℕ)) → (W → Bool) → Writing W → Writing W → ℕ → Type 0
 TellsStatus taken failed old new status =
     (status ≡ 0)
-    ⊎ ((status ≡ 2) × Takes taken old new (ended (codes "command line refused")))
-    ⊎ ((fault : RunFault) × (status ≡ status_of fault) × Takes taken old new (ended (line_of fault)))
+    ⊎ ((status ≡ 2) × Takes taken old new (with_newline (codes "command line refused")))
+    ⊎ ((fault : RunFault) × (status ≡ status_of fault) × Takes taken old new (with_newline (line_of fault)))
     ⊎ ((status ≡ 3) × (failed new.sink ≡ true))
-    ⊎ ((bytes : List ℕ) × (text : List ℕ) × (status ≡ 1) × IsReport bytes text × Takes taken old new text)
+    ⊎ ((bytes : List ℕ) × (text : List ℕ) × (status ≡ 1) × IsFound bytes text × Takes taken old new text)

@@ -3,7 +3,7 @@ use Rattle.std.specs.Prelude.{◌≡◌, ◌⊎◌, ◌+◌, ℕ, Bool, true, fa
 use Rattle.std.specs.Io.KnownBytes.{Consumes, IsAtEnd}
 use Rattle.hunk_words.specs.declared.fault.Fault.{Fault}
 use Rattle.hunk_words.specs.declared.reason.Reason.TheVariants.{FileLimit}
-use Rattle.hunk_scatter.specs.Loads.{Gives, IsLoadFault}
+use Rattle.hunk_scatter.specs.LoadOutcomes.{Gives, IsLoadFault}
 use Rattle.hunkinfo.specs.declared.fault.RunFault.TheVariants.{Refused}
 use Rattle.hunkinfo.specs.declared.run.listing.Listing.{Listing}
 use Rattle.hunkinfo.specs.declared.run.listing.Listing.TheVariants as listings

@@ -5,7 +5,7 @@ use Rattle.hunk_words.specs.Puts.{Puts}
 use Rattle.hunk_files.specs.LoadFile.{LoadFileValue, IsLoadFile}
 use Rattle.hunk_files.specs.LoadText.{table, text}
 use Rattle.hunk_files.specs.Image.{declared_bytes, image}
-use Rattle.hunk_scatter.specs.Loads.{Gives, IsShort}
+use Rattle.hunk_scatter.specs.LoadOutcomes.{Gives, IsShort}
 use Rattle.hunk_scatter.specs.Placing.{AreBases, Placing, packed_base}
 use Rattle.hunkinfo.specs.Listing.{Segment, listing}
 

@@ -18,16 +18,16 @@ use Rattle.hunkinfo.specs.Faults.{line_of}
 use Rattle.hunkinfo.specs.HexText.{Spells}
 use Rattle.hunkinfo.specs.Inputs.{Gave}
 use Rattle.hunkinfo.specs.Listed.{IsShown}
-use Rattle.hunkinfo.specs.Output.{Prints, Takes, ended}
+use Rattle.hunkinfo.specs.Output.{Prints, Takes, with_newline}
 use Rattle.hunkinfo.specs.Relocating.{IsRelocated}
 use Rattle.hunkinfo.specs.Rewritten.{TellsRewriting}
 use Rattle.hunkinfo.specs.Validated.{IsValidated}
 
 -- what is printed where the words are no order, and the status
 abbrev pub PrintsRefusal : {W : Type 0} → (W → Option (List ℕ)) → (W → Bool) → Writing W → Writing W → OrderFault → ℕ → Type 0
-PrintsRefusal taken failed old new Line status = Prints taken failed old new (ended (codes "command line refused")) 2 status
+PrintsRefusal taken failed old new Line status = Prints taken failed old new (with_newline (codes "command line refused")) 2 status
 PrintsRefusal taken failed old new (Help text) status = Prints taken failed old new (string_bytes text) 0 status
-PrintsRefusal taken failed old new Memory status = Prints taken failed old new (ended (line_of faults.Memory)) 4 status
+PrintsRefusal taken failed old new Memory status = Prints taken failed old new (with_newline (line_of faults.Memory)) 4 status
 
 -- what is printed of an input in which nothing is amiss
 abbrev pub IsListed : Listing → List ℕ → List ℕ → Type 0

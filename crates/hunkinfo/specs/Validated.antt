@@ -1,5 +1,5 @@
 -- What `validate` prints, and how much it finds.
-use Rattle.std.specs.Prelude.{◌≡◌, ◌⊎◌, ℕ, List, ◌++◌, length, codes, decimal}
+use Rattle.std.specs.Prelude.{◌≡◌, ◌<◌, ◌⊎◌, ℕ, List, ◌++◌, length, codes, decimal}
 use Rattle.std.specs.List.{flat_map}
 use Rattle.hunk_files.specs.declared.object.check.Finding.{Finding}
 use Rattle.hunk_files.specs.declared.object.check.FindingKind.{FindingKind}
@@ -38,6 +38,10 @@ abbrev pub IsValidated : ℕ → List ℕ → List ℕ → Type 0
 IsValidated count bytes text =
     ((file : BeginsWithLoadFile bytes) × (count ≡ 0) × (text ≡ load_summary file.value (length file.rest)))
     ⊎ ((file : AreObjectFile bytes) × (count ≡ length (findings file.value)) × (text ≡ object_report file.value))
+
+-- a report that finds something
+abbrev pub IsFound : List ℕ → List ℕ → Type 0
+IsFound bytes text = (count : ℕ) × (0 < count) × IsValidated count bytes text
 
 abbrev pub IsReport : List ℕ → List ℕ → Type 0
 IsReport bytes text = (count : ℕ) × IsValidated count bytes text

@@ -2,7 +2,10 @@
 ghost use Rattle.std.specs.Prelude.{◌≡◌, ◌⊎◌, IfOk, IfErr, map, true};
 ghost use Rattle.std.specs.String.{string_bytes};
 ghost use Rattle.clap.specs.Words.{found_of, kind_of, rows_of, subcommand_of, takes};
+ghost use Rattle.clap.specs.Kinds.{IsAmong};
+ghost use Rattle.clap.specs.Faults.{fault_of as clap_fault};
 ghost use Rattle.hunkinfo.specs.Command as spec;
+ghost use Rattle.hunkinfo.specs.Asked.{IsHelp};
 ghost use Rattle.hunkinfo.specs.Line.{entered_order, order_of, relocate_order, rewrite_order, show_order, taken, validate_order};
 ghost use Rattle.hunkinfo.specs.declared.asked.OrderFault.TheVariants.{Line, Memory};
 
@@ -84,7 +87,8 @@ fn rewrite_order(alloc: Global, found: &ArgMatches<'_>) -> Result<Order, OrderFa
 
 // What an error of clap means: the help that was asked for, want of memory, or no order.
 fn fault_of(alloc: Global, error: &Error) -> OrderFault
-    ensures { kind_of error.now ≡ ErrorKind.OutOfMemory → result ≡ Memory }
+    ensures memory { kind_of error.now ≡ ErrorKind.OutOfMemory → result ≡ Memory }
+    ensures asked { IsHelp result → kind_of error.now ≡ ErrorKind.DisplayHelp }
 {
     match error.kind() {
         ErrorKind::DisplayHelp => match format!(in alloc; "{error}") {
@@ -100,6 +104,7 @@ fn order_in<S: AsStr>(alloc: Global, words: &[S]) -> Result<Order, OrderFault>
     ensures ok { IfOk result (λ order. entered_order (subcommand_of spec.hunkinfo (map S.text words.now)) ≡ Some order) }
     ensures err { IfErr result (λ fault. takes spec.hunkinfo (map S.text words.now) ≡ true
         → (fault ≡ Memory) ⊎ ((fault ≡ Line) × (entered_order (subcommand_of spec.hunkinfo (map S.text words.now)) ≡ None))) }
+    ensures asked { IfErr result (λ fault. IsHelp fault → IsAmong ErrorKind.DisplayHelp (clap_fault spec.hunkinfo (map S.text words.now))) }
 {
     let matches = match hunkinfo(alloc)?.try_get_matches_from(words) {
         Ok(matches) => matches,
@@ -127,6 +132,7 @@ pub fn order(alloc: Global, words: &[String]) -> Result<Order, OrderFault>
     ensures ok { IfOk result (λ order. order_of (map string_bytes words.now) ≡ Some order) }
     ensures err { IfErr result (λ fault. takes spec.hunkinfo (taken (map string_bytes words.now)) ≡ true
         → (fault ≡ Memory) ⊎ ((fault ≡ Line) × (order_of (map string_bytes words.now) ≡ None))) }
+    ensures asked { IfErr result (λ fault. IsHelp fault → IsAmong ErrorKind.DisplayHelp (clap_fault spec.hunkinfo (taken (map string_bytes words.now)))) }
 {
     if words.len() < 2 {
         order_in(alloc, STORED.as_slice())

@@ -1,7 +1,7 @@
 //! `rewrite`: a file is read, and written again.
 ghost use Rattle.std.specs.Prelude.{◌≡◌, ◌<◌, ℕ, List, Some, false, true, length, IfOk, IfErr};
 ghost use Rattle.hunk_words.specs.declared.reason.Reason.TheVariants.{FileLimit};
-ghost use Rattle.hunk_scatter.specs.Loads.{Gives};
+ghost use Rattle.hunk_scatter.specs.LoadOutcomes.{Gives};
 ghost use Rattle.hunkinfo.specs.declared.fault.RunFault.TheVariants.{Memory, Read, Refused, Write};
 ghost use Rattle.hunkinfo.specs.Engine.{RefusesOnly, Writes, WritesAll};
 ghost use Rattle.hunkinfo.specs.FileKinds.{AreFile};

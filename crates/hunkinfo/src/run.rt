@@ -1,7 +1,11 @@
 //! A run: the words are read, what they ask for is done, and one text is printed, once.
-ghost use Rattle.std.specs.Prelude.{◌≡◌, ◌<◌, ◌≤◌, map, true};
+ghost use Rattle.std.specs.Prelude.{◌≡◌, ◌<◌, ◌≤◌, map, true, Some, None};
 ghost use Rattle.std.specs.String.{string_bytes};
 ghost use Rattle.clap.specs.Words.{takes};
+ghost use Rattle.clap.specs.Kinds.{IsAmong};
+ghost use Rattle.clap.specs.Faults.{fault_of};
+ghost use Rattle.clap.specs.declared.error.kind.ErrorKind.TheVariants.{DisplayHelp};
+ghost use Rattle.hunkinfo.specs.declared.asked.Order.{Order};
 ghost use Rattle.hunkinfo.specs.Output.{Prints, TellsStatus};
 ghost use Rattle.hunkinfo.specs.Command.{hunkinfo};
 ghost use Rattle.hunkinfo.specs.Line.{order_of, taken};
@@ -49,6 +53,10 @@ pub fn run<T: Files + Input, W: Sink>(
         → order_of (map string_bytes words.now) ≡ Some order → result ≡ 0 → IsDone W.taken out.old out.new order }
     ensures refused { takes hunkinfo (taken (map string_bytes words.now)) ≡ true
         → order_of (map string_bytes words.now) ≡ None → PrintsNoHelp W.taken W.failed out.old out.new result }
+
+    // Where no help is asked for, the status is 0 only where the words are an order, and it is done.
+    ensures heard { (IsAmong DisplayHelp (fault_of hunkinfo (taken (map string_bytes words.now))) → ⊥) → result ≡ 0
+        → (order : Order) × (order_of (map string_bytes words.now) ≡ Some order) × IsDone W.taken out.old out.new order }
 {
     match order(alloc, words) {
         Ok(order) => obey(rt, alloc, &order, out),

@@ -1,5 +1,6 @@
 //! A file that is created at its first byte.
-ghost use Rattle.std.specs.Prelude.{◌≡◌, ◌≤◌, None, length, IfOk};
+ghost use Rattle.std.specs.Prelude.{◌≡◌, ◌≤◌, length, IfOk, option_and_then};
+ghost use Rattle.std.specs.Io.KnownBytes.{WriteAppends};
 
 use hunk_words::{Failed, Sink};
 use std::io::Write;
@@ -31,6 +32,7 @@ impl<'a, T: Files> ToFile<'a, T> {
     fn write(&mut self, bytes: &[u8]) -> io::Result<usize>
         ensures fits { IfOk result (λ n. n ≤ length bytes.now) }
         ensures same { self.new.failed ≡ self.old.failed }
+        ensures bytes { WriteAppends (option_and_then (λ f. T.File.contents f) self.old.file) (option_and_then (λ f. T.File.contents f) self.new.file) result bytes.now }
     {
         if self.file.is_none() {
             self.file = Some(fs::create(self.rt, self.name)?);
@@ -43,7 +45,7 @@ impl<'a, T: Files> ToFile<'a, T> {
 }
 
 impl<T: Files> Sink for ToFile<'_, T> {
-    ghost taken = { λ _. None };
+    ghost taken = { λ s. option_and_then (λ f. T.File.contents f) s.file };
 
     ghost failed = { λ s. s.failed };
 

@@ -3,7 +3,7 @@ ghost use Rattle.std.specs.Prelude.{◌≡◌, ◌⊎◌, ◌<◌, ◌++◌, ℕ
 ghost use Rattle.std.specs.List.{flat_map};
 ghost use Rattle.hunk_words.specs.declared.reason.Reason.TheVariants.{FileLimit};
 ghost use Rattle.hunk_files.specs.Findings.{findings};
-ghost use Rattle.hunk_scatter.specs.Loads.{Gives};
+ghost use Rattle.hunk_scatter.specs.LoadOutcomes.{Gives};
 ghost use Rattle.hunkinfo.specs.declared.fault.RunFault.TheVariants.{Memory, Read, Refused, Write};
 ghost use Rattle.hunkinfo.specs.Engine.{RefusesOnly, Writes, WritesAll};
 ghost use Rattle.hunkinfo.specs.FileKinds.{AreFile, RefusesBytes};

@@ -1,7 +1,7 @@
 //! A source read to its end.
 ghost use Rattle.std.specs.Prelude.{◌≡◌, ◌<◌, ℕ, List, false, length, IfOk, OnOk, IfErr};
 ghost use Rattle.std.specs.Io.KnownBytes.{Consumes, IsAtEnd};
-ghost use Rattle.hunk_scatter.specs.Loads.{Gives};
+ghost use Rattle.hunk_scatter.specs.LoadOutcomes.{Gives};
 ghost use Rattle.hunkinfo.specs.Inputs.{ReadsInVain};
 
 use crate::fault::RunFault;
@@ -20,7 +20,7 @@ pub(crate) fn whole<S: Source>(
     most: u64,
 ) -> Result<Vec<u8>, RunFault>
     ensures given { IfOk result (λ bytes. Consumes (S.left source.old) (S.left source.new) bytes.items) }
-    ensures ended { OnOk result (IsAtEnd (S.left source.new)) }
+    ensures at_end { OnOk result (IsAtEnd (S.left source.new)) }
     ensures bound { IfOk result (λ bytes. length bytes.items < most) }
     ensures err { IfErr result (λ fault. ReadsInVain fault (S.left source.old) (S.left source.new) most (S.failed source.new)) }
     ensures within { (given : List ℕ) × Gives (S.left source.old) (S.left source.new) most given }

@@ -6,7 +6,8 @@ ghost use Rattle.hunk_words.specs.declared.reason.Reason.TheVariants as reasons;
 ghost use Rattle.hunk_blocks.specs.declared.ext_shape.ExtShape.TheVariants as shapes;
 ghost use Rattle.hunk_blocks.specs.Values.{IsExtEntry, ext_shape};
 ghost use Rattle.hunk_blocks.specs.Parts.{ext_text, list_text};
-ghost use Rattle.hunk_blocks.specs.Reading.{BeginsWithNo, BeginsWithNoItem, Reads, ReadsItem, Unread, cut};
+ghost use Rattle.hunk_blocks.specs.Faults.{FaultAhead, entries};
+ghost use Rattle.hunk_blocks.specs.Reading.{BeginsWithNo, BeginsWithNoItem, IsFrontOf, Reads, ReadsItem, Unread, cut};
 ghost use Rattle.hunk_blocks.specs.Views.{entry_of};
 
 use crate::entries::{Entries, Entry};
@@ -25,6 +26,7 @@ fn definition<'a>(reader: &mut LongReader<'a>, word: u32) -> Result<Entry<'a>, B
         Reads before reader.old (word ∷ []) → Reads before reader.new (ext_text (entry_of e)))) }
     ensures none { OnErr result ((before : Unread) →
         Reads before reader.old (word ∷ []) → BeginsWithNoItem IsExtEntry ext_text before.rest) }
+    ensures front { OnErr result (IsFrontOf (AllByRecursion IsExtEntry) (list_text ext_text) (word ∷ reader.old.rest)) }
     ensures fault { IfErr result (λ fault. fault ≡ cut reader.old) }
 {
     let name = read_entry_name(reader, word)?;
@@ -45,6 +47,7 @@ fn reference<'a>(reader: &mut LongReader<'a>, word: u32) -> Result<Entry<'a>, Bl
         Reads before reader.old (word ∷ []) → Reads before reader.new (ext_text (entry_of e)))) }
     ensures none { OnErr result ((before : Unread) →
         Reads before reader.old (word ∷ []) → BeginsWithNoItem IsExtEntry ext_text before.rest) }
+    ensures front { OnErr result (IsFrontOf (AllByRecursion IsExtEntry) (list_text ext_text) (word ∷ reader.old.rest)) }
     ensures fault { IfErr result (λ fault. fault ≡ cut reader.old) }
 {
     let name = read_entry_name(reader, word)?;
@@ -65,6 +68,7 @@ fn common<'a>(reader: &mut LongReader<'a>, word: u32) -> Result<Entry<'a>, Block
         Reads before reader.old (word ∷ []) → Reads before reader.new (ext_text (entry_of e)))) }
     ensures none { OnErr result ((before : Unread) →
         Reads before reader.old (word ∷ []) → BeginsWithNoItem IsExtEntry ext_text before.rest) }
+    ensures front { OnErr result (IsFrontOf (AllByRecursion IsExtEntry) (list_text ext_text) (word ∷ reader.old.rest)) }
     ensures fault { IfErr result (λ fault. fault ≡ cut reader.old) }
 {
     let name = read_entry_name(reader, word)?;
@@ -83,6 +87,7 @@ fn next_entry<'a>(reader: &mut LongReader<'a>) -> Result<Option<Entry<'a>>, Bloc
     ensures read { IfOk result (λ found.
         ReadsItem IsExtEntry ext_text reader.old reader.new (option_map entry_of found)) }
     ensures none { OnErr result (BeginsWithNoItem IsExtEntry ext_text reader.old.rest) }
+    ensures first { IfErr result (λ fault. FaultAhead entries reader.old fault) }
     ensures fault { IfErr result (λ fault.
         (fault ≡ cut reader.old) ⊎ (fault.reason ≡ reasons.ExtKind)) }
 {
@@ -112,6 +117,8 @@ pub(crate) fn read_entries<'a>(
         Reads reader.old reader.new (list_text ext_text (map entry_of entries))) }
     ensures none { IfErr result (λ fault. fault.reason ≢ reasons.OutOfMemory →
         BeginsWithNo (AllByRecursion IsExtEntry) (list_text ext_text) reader.old.rest) }
+    ensures first { IfErr result (λ fault. fault.reason ≢ reasons.OutOfMemory →
+        FaultAhead entries reader.old fault) }
     ensures fault { IfErr result (λ fault.
         (fault ≡ cut reader.old) ⊎ (fault.reason ≡ reasons.ExtKind) ⊎
         (fault.reason ≡ reasons.OutOfMemory)) }

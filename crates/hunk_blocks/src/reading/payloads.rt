@@ -1,20 +1,23 @@
 //! Reading payloads.
 ghost use Rattle.std.specs.Prelude.{◌≡◌, ◌%◌, ◌^◌, ◌<◌, IfErr, IfOk, OnErr, length, ◌⊎◌};
+ghost use Rattle.hunk_words.specs.Limits.{name_limit};
 ghost use Rattle.hunk_words.specs.declared.reason.Reason.TheVariants as reasons;
 ghost use Rattle.hunk_words.specs.Longs.{AreLongs, longs};
 ghost use Rattle.hunk_blocks.specs.Values.{IsPayload, IsSized};
 ghost use Rattle.hunk_blocks.specs.Parts.{counted_text, sized_text};
-ghost use Rattle.hunk_blocks.specs.Reading.{BeginsWithNo, Reads, cut};
+ghost use Rattle.hunk_blocks.specs.Reading.{BeginsWithNo, IsFrontOf, Reads, cut};
+ghost use Rattle.hunk_blocks.specs.Faults.{FaultAhead, name};
 
 use crate::payload::Payload;
 use crate::reading::long_reader::LongReader;
-use hunk_words::{BlockFault, Reason};
+use hunk_words::{BlockFault, NAME_LIMIT, Reason};
 
 /// A count, and that many longwords.
 pub(crate) fn read_counted<'a>(reader: &mut LongReader<'a>) -> Result<Payload<'a>, BlockFault>
     ensures read { IfOk result (λ p.
         IsPayload (2 ^ 32) (longs p) × Reads reader.old reader.new (counted_text (longs p))) }
     ensures none { OnErr result (BeginsWithNo (IsPayload (2 ^ 32)) counted_text reader.old.rest) }
+    ensures front { OnErr result (IsFrontOf (IsPayload (2 ^ 32)) counted_text reader.old.rest) }
     ensures fault { IfErr result (λ fault. fault ≡ cut reader.old) }
 {
     let count = reader.long()?;
@@ -24,15 +27,16 @@ pub(crate) fn read_counted<'a>(reader: &mut LongReader<'a>) -> Result<Payload<'a
 /// The count of a name, which has no top byte, and that many longwords.
 pub(crate) fn read_name<'a>(reader: &mut LongReader<'a>) -> Result<Payload<'a>, BlockFault>
     ensures read { IfOk result (λ p.
-        IsPayload (2 ^ 24) (longs p) × Reads reader.old reader.new (counted_text (longs p))) }
-    ensures none { OnErr result (BeginsWithNo (IsPayload (2 ^ 24)) counted_text reader.old.rest) }
+        IsPayload name_limit (longs p) × Reads reader.old reader.new (counted_text (longs p))) }
+    ensures none { OnErr result (BeginsWithNo (IsPayload name_limit) counted_text reader.old.rest) }
+    ensures first { IfErr result (λ fault. FaultAhead name reader.old fault) }
     ensures fault { IfErr result (λ fault.
         (fault ≡ cut reader.old) ⊎
         (fault ≡ record { place = reader.old.place; reason = reasons.NameWord })) }
 {
     let place = reader.place();
     let count = reader.long()?;
-    if count >= 0x0100_0000 {
+    if count >= NAME_LIMIT {
         return Err(BlockFault {
             place,
             reason: Reason::NameWord,
@@ -49,9 +53,10 @@ pub(crate) fn read_entry_name<'a>(
     ensures read { IfOk result (λ p. Reads reader.old reader.new (longs p)) }
     ensures count { IfOk result (λ p. (length (longs p) ≡ word % 2 ^ 24) × AreLongs (longs p)) }
     ensures short { OnErr result (length reader.old.rest < word % 2 ^ 24) }
+    ensures fit { AreLongs reader.old.rest }
     ensures fault { IfErr result (λ fault. fault ≡ cut reader.old) }
 {
-    reader.payload(word & 0x00FF_FFFF)
+    reader.payload(word % NAME_LIMIT)
 }
 
 /// A size word, and as many longwords as its low 30 bits say. The number is its top two bits.
@@ -59,6 +64,7 @@ pub(crate) fn read_sized<'a>(reader: &mut LongReader<'a>) -> Result<(u8, Payload
     ensures read { IfOk result (λ r.
         IsSized (r.0, longs r.1) × Reads reader.old reader.new (sized_text (r.0, longs r.1))) }
     ensures none { OnErr result (BeginsWithNo IsSized sized_text reader.old.rest) }
+    ensures front { OnErr result (IsFrontOf IsSized sized_text reader.old.rest) }
     ensures fault { IfErr result (λ fault. fault ≡ cut reader.old) }
 {
     let size = reader.long()?;

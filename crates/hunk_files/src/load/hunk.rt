@@ -48,11 +48,11 @@ pub(crate) fn read_hunk<'a>(
             }
         };
         at += size;
-        let ended = is_end(&block);
+        let hunk_ends = is_end(&block);
         if blocks.push(block).is_err() {
             return Err(out_of_memory(at));
         }
-        if ended {
+        if hunk_ends {
             return Ok((blocks, at));
         }
     }

@@ -1,12 +1,20 @@
 //! The walk over the longwords of a load file, from the first on: its end, or the first fault.
-ghost use Rattle.std.specs.Prelude.{◌≡◌, ◌<◌, ◌≤◌, ◌+◌, ◌*◌, length, slice_index, MatchResult};
+ghost use Rattle.std.specs.Prelude.{◌≡◌, ◌<◌, ◌≤◌, ◌+◌, ◌*◌, ◌^◌, length, slice_index, true, MatchResult};
 ghost use Rattle.hunk_words.specs.Longs.{longs};
 ghost use Rattle.hunk_files.specs.Fault.{HasFault, HasLoadText};
-ghost use Rattle.hunk_files.specs.Stages.{opened};
+ghost use Rattle.hunk_files.specs.Entries.{entry_behind, entry_at};
+ghost use Rattle.hunk_scan.specs.Positions.{is_between_hunks};
 
-use crate::load::refusal::refuse_at;
-use crate::load::stage::{Next, OpenHunk, Stage, go_on};
+use hunk_scan::Position;
 use hunk_words::{FileFault, Reason, SizeWord, word_at};
+
+/// What the table declares of the open hunk, 0 longwords before the first.
+#[derive(Clone, Copy)]
+pub(crate) struct Entry {
+    pub longs: u32,
+    /// The longword at which the next entry stands.
+    pub next: usize,
+}
 
 /// The number of bytes of the load file that the bytes begin with, or their first fault.
 ///
@@ -17,27 +25,25 @@ pub(crate) fn walk(bytes: &[u8]) -> Result<usize, FileFault>
         (λ fault. HasFault bytes.now fault.place fault.reason) }
 {
     let count = bytes.len() / 4;
-    let mut stage = Stage::FirstLong;
+    let mut position = Position::FirstLong;
+    let mut entry = Entry { longs: 0, next: 5 };
     let mut at = 0;
     'walking: while at < count {
         let word = word_at(bytes, at);
-        if let Some(reason) = refuse_at(stage, word) {
+        if let Some(reason) = position.refuse(entry.longs, word) {
             return Err(FileFault {
                 place: 4 * at as u64,
                 reason,
             });
         }
-        match go_on(stage, word) {
-            Next::Goes(skip, next) => {
-                at += 1 + skip as usize;
-                stage = next;
-            }
-            Next::Opens(hunks, ahead, row) => {
-                at += 1;
-                stage = Stage::BlockWord(open_hunk(bytes, hunks, ahead, row));
-            }
-            Next::Ends => return Ok(4 * (at + 1)),
+        let behind = position.step(word);
+        if let Position::Done = behind {
+            return Ok(4 * (at + 1));
         }
+        entry = open_entry(bytes, behind, entry);
+        let run = behind.run();
+        position = behind.pass(run);
+        at += 1 + run as usize;
     }
     Err(FileFault {
         place: 4 * count as u64,
@@ -45,23 +51,30 @@ pub(crate) fn walk(bytes: &[u8]) -> Result<usize, FileFault>
     })
 }
 
-/// The hunk whose entry stands at this longword, the first of those that are left.
-fn open_hunk(bytes: &[u8], hunks: u32, ahead: u32, row: usize) -> OpenHunk
-    requires inside { 4 * row + 4 ≤ length bytes.now }
-    requires some { 0 < ahead }
-    ensures { result ≡ opened (slice_index (longs bytes.now) row) hunks ahead row }
+/// The entry of the hunk that is open at the position: where it opens, the next of the table.
+fn open_entry(bytes: &[u8], position: Position, entry: Entry) -> Entry
+    requires { is_between_hunks position ≡ true → 4 * entry.next + 4 ≤ length bytes.now }
+    ensures { result ≡ entry_at (longs bytes.now) position entry }
 {
-    let word = word_at(bytes, row);
+    if position.is_between_hunks() {
+        read_entry(word_at(bytes, entry.next), entry.next)
+    } else {
+        entry
+    }
+}
+
+/// The entry whose size word stands at this longword.
+fn read_entry(word: u32, at: usize) -> Entry
+    requires { at + 2 < 2 ^ 64 }
+    ensures { result ≡ entry_behind word at }
+{
     let size = SizeWord { word, extra: 0 };
-    OpenHunk {
-        hunks,
+    Entry {
         longs: size.longs(),
-        has_content: false,
-        ahead: ahead - 1,
-        row: if SizeWord::has_extra(word) {
-            row + 2
+        next: if SizeWord::has_extra(word) {
+            at + 2
         } else {
-            row + 1
+            at + 1
         },
     }
 }

@@ -1,6 +1,7 @@
 //! Writing load files.
 ghost use Rattle.std.specs.Prelude.{◌≡◌, ◌+◌, ◌^◌, ◌<◌, ◌≤◌, true, false, length, is_err, IsErr, IfErr, OnErr, OnOk};
 ghost use Rattle.std.specs.List.{flat_map};
+ghost use Rattle.hunk_words.specs.Limits.{most_hunks};
 ghost use Rattle.hunk_words.specs.Longs.{bytes_of};
 ghost use Rattle.hunk_words.specs.Puts.{Puts};
 ghost use Rattle.hunk_blocks.specs.Writes.{Writes};
@@ -34,6 +35,7 @@ impl LoadFile<'_> {
         ensures failed { OnErr result (W.failed writer.new.sink ≡ true) }
         ensures stops { writer.new.stopped ≡ is_err result }
         ensures stays { writer.old.stopped ≡ true → IsErr result × (writer.new ≡ writer.old) }
+        ensures quiet { OnOk result (W.failed writer.new.sink ≡ W.failed writer.old.sink) }
     {
         writer.put_long(HEADER)?;
         put_behind(writer, &self.hunks)
@@ -44,7 +46,7 @@ impl LoadFile<'_> {
 fn put_behind<W: Sink>(writer: &mut LongWriter<W>, hunks: &[LoadHunk<'_>]) -> Result<(), WriteFault>
     requires running { writer.old.stopped ≡ false }
     requires some { 0 < length hunks.now }
-    requires most { length hunks.now ≤ 65536 }
+    requires most { length hunks.now ≤ most_hunks }
     requires room { writer.old.written + length (bytes_of (behind_first hunks.now)) < 2 ^ 64 }
     ensures { Writes W.taken W.failed writer.old writer.new result
         (bytes_of (behind_first hunks.now)) }

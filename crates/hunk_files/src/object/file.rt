@@ -3,6 +3,7 @@ ghost use Rattle.std.specs.Prelude.{◌≡◌, ◌≢◌, IfErr, IfOk, IsTrue};
 ghost use Rattle.hunk_words.specs.Longs.{bytes_of};
 ghost use Rattle.hunk_words.specs.declared.reason.Reason.TheVariants as reasons;
 ghost use Rattle.hunk_files.specs.ObjectFile.{IsNoObjectFile, is_object_refusal, IsObjectFile, object_text};
+ghost use Rattle.hunk_files.specs.ObjectFault.{HasObjectFault};
 
 use crate::object::refusal::{counted_from, out_of_memory};
 use crate::object::unit::Unit;
@@ -48,6 +49,8 @@ impl<'a> ObjectFile<'a> {
         ensures file { IfOk result (λ o. IsObjectFile o) }
         ensures text { IfOk result (λ o. bytes.entry.now ≡ bytes_of (object_text o)) }
         ensures none { IfErr result (λ fault. fault.reason ≢ reasons.OutOfMemory → IsNoObjectFile bytes.entry.now) }
+        ensures fault { IfErr result (λ fault. fault.reason ≢ reasons.OutOfMemory →
+            HasObjectFault bytes.entry.now fault.place fault.reason) }
         ensures own { IfErr result (λ fault. IsTrue (is_object_refusal fault.reason)) }
     {
         let mut units = Vec::new(alloc);

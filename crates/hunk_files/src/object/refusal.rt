@@ -1,56 +1,28 @@
 //! What is refused in an object file, and where.
 ghost use Rattle.std.specs.Prelude.{◌≡◌, ◌+◌, ◌*◌, ◌^◌, ◌<◌, ◌≤◌, ◌↔◌, IfSome, IsNone, IsTrue, length};
-ghost use Rattle.hunk_words.specs.Bits.{kind};
 ghost use Rattle.hunk_words.specs.Longs.{longs};
 ghost use Rattle.hunk_words.specs.declared.reason.Reason.TheVariants as reasons;
 ghost use Rattle.hunk_files.specs.ObjectFile.{is_object_refusal, unit_word};
-ghost use Rattle.hunk_files.specs.ObjectParts.{refuse_standing, standing_of_kind};
+ghost use Rattle.hunk_files.specs.ObjectFault.{BeforeUnits, refuse_word};
 
-use hunk_words::{BlockWord, FileFault, Kind, Reason, SizeWord};
+use hunk_blocks::Mode;
+use hunk_words::{BlockWord, FileFault, Reason};
 
 /// The word of UNIT, which has no flags.
 pub(super) const UNIT: u32 = 0x3E7;
 
 /// Why this longword does not begin a unit, where it does not.
 pub(super) fn refuse_unit_word(word: BlockWord) -> Option<Reason>
+    ensures test { result ≡ refuse_word BeforeUnits word }
     ensures unit { IsNone result ↔ (word ≡ unit_word) }
     ensures own { IfSome result (λ reason. IsTrue (is_object_refusal reason)) }
 {
     if word.word() == UNIT {
         return None;
     }
-    if SizeWord::has_extra(word.word()) {
-        return Some(Reason::BothBits);
-    }
-    Some(match word.kind() {
-        Kind::Overlay => Reason::Overlay,
-        Kind::Break => Reason::Break,
-        Kind::Reloc32Short => Reason::ShortReloc,
-        Kind::Lib | Kind::Index => Reason::Library,
-        Kind::Unknown(_) if word.flags() % 2 == 0 => Reason::UnknownBlock,
-        _ => Reason::Misplaced,
-    })
-}
-
-/// Why a block of this kind may not stand here, where it may not. The flag tells whether the hunk
-/// has its content block.
-pub(super) fn refuse_place(kind: Kind, has_content: bool) -> Option<Reason>
-    ensures { result ≡ refuse_standing has_content (standing_of_kind kind) }
-{
-    match kind {
-        Kind::Code | Kind::Data | Kind::Bss if has_content => Some(Reason::SecondContent),
-        Kind::Ext
-        | Kind::Reloc32
-        | Kind::Reloc16
-        | Kind::Reloc8
-        | Kind::Drel32
-        | Kind::Drel16
-        | Kind::Drel8
-        | Kind::RelReloc32
-        | Kind::AbsReloc16
-            if !has_content => { Some(Reason::BeforeContent) }
-        Kind::End if !has_content => Some(Reason::NoContent),
-        _ => None,
+    match Mode::Object.refuse(word) {
+        Some(reason) => Some(reason),
+        None => Some(Reason::Misplaced),
     }
 }
 

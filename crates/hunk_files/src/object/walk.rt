@@ -1,22 +1,25 @@
 //! Reading the units, hunks and blocks of an object file, one after the other.
 ghost use Rattle.std.specs.Prelude.{◌≡◌, ◌≢◌, ◌+◌, ◌*◌, ◌^◌, ◌≤◌, ◌<◌, ◌↔◌, None, IfErr, IfOk, OnErr, IsTrue, length, drop, slice_index};
 ghost use Rattle.std.specs.List.{flat_map};
+ghost use Rattle.hunk_words.specs.Limits.{name_limit};
 ghost use Rattle.hunk_words.specs.Longs.{longs};
 ghost use Rattle.hunk_words.specs.declared.reason.Reason.TheVariants as reasons;
 ghost use Rattle.hunk_blocks.specs.declared.mode.Mode.TheVariants as modes;
 ghost use Rattle.hunk_blocks.specs.Values.{IsPayload};
 ghost use Rattle.hunk_blocks.specs.Parts.{block_text};
-ghost use Rattle.hunk_blocks.specs.Begins.{BeginsWithBlock};
-ghost use Rattle.hunk_blocks.specs.Reading.{BeginsWithNo};
-ghost use Rattle.hunk_files.specs.LoadFile.{standing, is_content};
-ghost use Rattle.hunk_files.specs.ObjectFile.{IsNoObjectFile, is_object_refusal, IsObjectHunk, IsUnit, unit_header, unit_text};
-ghost use Rattle.hunk_files.specs.ObjectParts.{BeginsWithText, EndsUnit, MayStand, is_ending, refuse_standing};
+ghost use Rattle.hunk_blocks.specs.Begins.{BeginsWithBlock, first_long};
+ghost use Rattle.hunk_blocks.specs.Faults.{FaultAhead};
+ghost use Rattle.hunk_blocks.specs.Reading.{BeginsWithNo, cut};
+ghost use Rattle.hunk_files.specs.LoadFile.{standing};
+ghost use Rattle.hunk_scan.specs.Standings.{is_content, is_ending, refuse_standing};
+ghost use Rattle.hunk_files.specs.ObjectFile.{IsNoObjectFile, is_object_refusal, IsObjectHunk, IsUnit, unit_header, unit_text, unit_word};
+ghost use Rattle.hunk_files.specs.ObjectFault.{WordPlace, BetweenHunks, MayBegin, MayGoOn, blocks_from, units_from, unread};
+ghost use Rattle.hunk_files.specs.ObjectParts.{BeginsWithText, EndsUnit, MayStand};
 
-use crate::object::refusal::{
-    UNIT, counted_from, out_of_memory, refuse_place, refuse_unit_word, truncated,
-};
+use crate::object::refusal::{UNIT, counted_from, out_of_memory, refuse_unit_word, truncated};
 use crate::object::unit::{Hunk, Unit};
 use hunk_blocks::{Block, Body, Mode, Payload};
+use hunk_scan::refuse_place;
 use hunk_words::{BlockWord, FileFault, Reason, SizeWord, word_at};
 use std::alloc::Global;
 
@@ -25,7 +28,7 @@ fn long_at(bytes: &[u8], i: usize) -> Result<u32, FileFault>
     requires { i < 2 ^ 32 }
     ensures long { IfOk result (λ word. (4 * i + 4 ≤ length bytes.now) × (word ≡ slice_index (longs bytes.now) i)) }
     ensures short { OnErr result (length bytes.now < 4 * i + 4) }
-    ensures cut { IfErr result (λ fault. fault.reason ≡ reasons.Truncated) }
+    ensures cut { IfErr result (λ fault. fault ≡ cut (unread bytes.now)) }
 {
     if bytes.len() < 4 * i + 4 {
         return Err(truncated(bytes));
@@ -69,6 +72,9 @@ fn read_block<'a>(
     ensures place { IfOk result (λ r. refuse_standing has_content (standing r.0.body) ≡ None) }
     ensures none { IfErr result (λ fault. fault.reason ≢ reasons.OutOfMemory →
         BeginsWithNo (MayStand has_content) block_text (longs bytes.entry.now)) }
+    ensures fault { (place : WordPlace) → MayGoOn place has_content bytes.entry.now →
+        IfErr result (λ fault. fault.reason ≢ reasons.OutOfMemory →
+        FaultAhead (blocks_from place) (unread bytes.entry.now) fault) }
     ensures own { IfErr result (λ fault. IsTrue (is_object_refusal fault.reason)) }
 {
     let word = match long_at(bytes, 0) {
@@ -96,6 +102,9 @@ pub(super) fn read_hunk<'a>(
     ensures text { IfOk result (λ r. BeginsWithText bytes.entry.now (flat_map block_text r.0.items) r.1) }
     ensures none { IfErr result (λ fault. fault.reason ≢ reasons.OutOfMemory →
         BeginsWithNo IsObjectHunk (flat_map block_text) (longs bytes.entry.now)) }
+    ensures fault { first_long bytes.entry.now ≢ unit_word →
+        IfErr result (λ fault. fault.reason ≢ reasons.OutOfMemory →
+        FaultAhead (blocks_from BetweenHunks) (unread bytes.entry.now) fault) }
     ensures own { IfErr result (λ fault. IsTrue (is_object_refusal fault.reason)) }
 {
     let mut blocks = Vec::new(alloc);
@@ -108,11 +117,11 @@ pub(super) fn read_hunk<'a>(
         };
         at += size;
         has_content |= is_content(&block);
-        let ended = is_end(&block);
+        let hunk_ends = is_end(&block);
         if blocks.push(block).is_err() {
             return Err(out_of_memory(at));
         }
-        if ended {
+        if hunk_ends {
             return Ok((blocks, at));
         }
     }
@@ -120,9 +129,11 @@ pub(super) fn read_hunk<'a>(
 
 /// The name in the unit header in front, and the number of the header's bytes.
 fn read_header(bytes: &[u8]) -> Result<(Payload<'_>, usize), FileFault>
-    ensures name { IfOk result (λ r. IsPayload (2 ^ 24) (longs r.0)) }
+    ensures name { IfOk result (λ r. IsPayload name_limit (longs r.0)) }
     ensures text { IfOk result (λ r. BeginsWithText bytes.entry.now (unit_header (longs r.0)) r.1) }
-    ensures none { OnErr result (BeginsWithNo (IsPayload (2 ^ 24)) unit_header (longs bytes.entry.now)) }
+    ensures none { OnErr result (BeginsWithNo (IsPayload name_limit) unit_header (longs bytes.entry.now)) }
+    ensures fault { (place : WordPlace) → MayBegin place bytes.entry.now →
+        IfErr result (λ fault. FaultAhead (units_from place) (unread bytes.entry.now) fault) }
     ensures own { IfErr result (λ fault. IsTrue (is_object_refusal fault.reason)) }
 {
     let word = BlockWord::of(long_at(bytes, 0)?);
@@ -149,6 +160,9 @@ pub(super) fn read_unit<'a>(alloc: Global, bytes: &'a [u8]) -> Result<(Unit<'a>,
     ensures text { IfOk result (λ r. BeginsWithText bytes.entry.now (unit_text r.0) r.1) }
     ensures end { IfOk result (λ r. EndsUnit (drop r.1 bytes.entry.now)) }
     ensures none { IfErr result (λ fault. fault.reason ≢ reasons.OutOfMemory → IsNoObjectFile bytes.entry.now) }
+    ensures fault { (place : WordPlace) → MayBegin place bytes.entry.now →
+        IfErr result (λ fault. fault.reason ≢ reasons.OutOfMemory →
+        FaultAhead (units_from place) (unread bytes.entry.now) fault) }
     ensures own { IfErr result (λ fault. IsTrue (is_object_refusal fault.reason)) }
 {
     let (name, mut at) = match read_header(bytes) {

@@ -1,6 +1,7 @@
 //! Writing an object file.
 ghost use Rattle.std.specs.Prelude.{◌≡◌, ◌+◌, ◌^◌, ◌<◌, true, false, IfErr, IsErr, OnErr, OnOk, is_err, length};
 ghost use Rattle.std.specs.List.{flat_map};
+ghost use Rattle.hunk_words.specs.Limits.{name_limit};
 ghost use Rattle.hunk_words.specs.Longs.{bytes_of, longs};
 ghost use Rattle.hunk_words.specs.Puts.{Puts};
 ghost use Rattle.hunk_blocks.specs.Values.{IsPayload};
@@ -29,7 +30,7 @@ fn put_hunks<W: Sink>(writer: &mut LongWriter<W>, hunks: &[Hunk<'_>]) -> Result<
 
 /// The header of a unit with this name.
 fn put_header<W: Sink>(writer: &mut LongWriter<W>, name: &Payload<'_>) -> Result<(), WriteFault>
-    requires fits { IsPayload (2 ^ 24) (longs name.now) }
+    requires fits { IsPayload name_limit (longs name.now) }
     requires room { writer.old.written + length (bytes_of (unit_header (longs name.now))) < 2 ^ 64 }
     ensures { Writes W.taken W.failed writer.old writer.new result (bytes_of (unit_header (longs name.now))) }
 {
@@ -74,6 +75,7 @@ impl ObjectFile<'_> {
         ensures failed { OnErr result (W.failed writer.new.sink ≡ true) }
         ensures stops { writer.new.stopped ≡ is_err result }
         ensures stays { writer.old.stopped ≡ true → IsErr result × (writer.new ≡ writer.old) }
+        ensures quiet { OnOk result (W.failed writer.new.sink ≡ W.failed writer.old.sink) }
     {
         put_units(writer, self.units())
     }

@@ -246,3 +246,57 @@ fn many_units(rt: HostRuntime) -> Result<(), Fail> {
     }
     Ok(())
 }
+
+/// Places count from the first byte of the file, in later hunks and units, too.
+#[test]
+fn refused_in_later_units(rt: HostRuntime) -> Result<(), Fail> {
+    let rows = [
+        (
+            [0x3E7, 0, 0x3EB, 0, 0x3F2, 0x3F2].as_slice(),
+            refused(20, Reason::NoContent),
+        ),
+        (
+            [0x3E7, 0, 0x3EB, 0, 0x3F2, 0x3EC].as_slice(),
+            refused(20, Reason::BeforeContent),
+        ),
+        (
+            [0x3E7, 0, 0x3EB, 0, 0x3F2, 0x3E7, 0x0100_0000].as_slice(),
+            refused(24, Reason::NameWord),
+        ),
+        (
+            [0x3E7, 0, 0x3EB, 0, 0x3F2, 0x3E7, 0, 0x3F2].as_slice(),
+            refused(28, Reason::NoContent),
+        ),
+        (
+            [
+                0x3E7,
+                0,
+                0x3EB,
+                0,
+                0x3F2,
+                0x3E7,
+                0,
+                0x3EB,
+                0,
+                0x3EF,
+                0x0100_0000,
+                0,
+                0x0300_0000,
+            ]
+            .as_slice(),
+            refused(48, Reason::ExtKind),
+        ),
+        (
+            [0x3E7, 0x0100_0000, 0].as_slice(),
+            refused(4, Reason::NameWord),
+        ),
+        (
+            [0x3E7, 0, 0x3E7, 0, 0x3E9, 0, 0x3E8, 0x0100_0000].as_slice(),
+            refused(28, Reason::NameWord),
+        ),
+    ];
+    for (longs, want) in rows {
+        assert_eq!(rt; answer_of(rt.alloc(), longs)?, want, "{longs:?}");
+    }
+    Ok(())
+}

@@ -1,7 +1,7 @@
 //! Sources and sinks over readers and writers, and over references to them.
-ghost use Rattle.std.specs.Prelude.{IsErr};
+ghost use Rattle.std.specs.Prelude.{IsErr, None};
 
-use crate::{Failed, FromRead, FromSlice, FromWrite, Sink, Source};
+use crate::{Failed, FromRead, FromSlice, FromWrite, LongWriter, Sink, Source, WriteFault};
 use std::io;
 use std::io::{Read, Write};
 use std::test::Fail;
@@ -30,6 +30,83 @@ impl Write for Broken {
     fn flush(&mut self) -> io::Result<()> {
         Ok(())
     }
+}
+
+/// A reader, a writer and a sink that fail once, or take none once, and then go on.
+#[derive(Drop)]
+struct Once {
+    over: bool,
+    takes_none: bool,
+    failed: bool,
+}
+
+impl Once {
+    fn of(takes_none: bool) -> Once {
+        Once {
+            over: false,
+            takes_none,
+            failed: false,
+        }
+    }
+}
+
+impl Read for Once {
+    fn read(&mut self, buf: &mut [u8]) -> io::Result<usize> {
+        if self.over {
+            return Ok(buf.len().min(1));
+        }
+        self.over = true;
+        Err(io::Error::from(io::ErrorKind::Interrupted))
+    }
+}
+
+impl Write for Once {
+    fn write(&mut self, buf: &[u8]) -> io::Result<usize> {
+        if self.over {
+            return Ok(buf.len());
+        }
+        self.over = true;
+        if self.takes_none {
+            Ok(0)
+        } else {
+            Err(io::Error::from(io::ErrorKind::Interrupted))
+        }
+    }
+
+    fn flush(&mut self) -> io::Result<()> {
+        Ok(())
+    }
+}
+
+impl Sink for Once {
+    ghost taken = { λ _. None };
+
+    ghost failed = { λ s. s.failed };
+
+    fn push(&mut self, bytes: &[u8]) -> Result<usize, Failed> {
+        if self.over {
+            return Ok(bytes.len());
+        }
+        self.over = true;
+        self.failed = true;
+        Err(Failed)
+    }
+}
+
+#[test]
+fn nothing_is_tried_again(rt: HostRuntime) -> Result<(), Fail> {
+    let mut buf = [0u8; 3];
+    assert_eq!(rt; FromRead::new(Once::of(false)).pull(&mut buf), Err(Failed));
+    for takes_none in [false, true] {
+        let mut sink = FromWrite::new(Once::of(takes_none));
+        assert_eq!(rt; sink.push(b"ab".as_slice()), Err(Failed));
+    }
+    let mut out = LongWriter::new(Once::of(false));
+    assert_eq!(rt;
+        out.put_bytes(b"ab".as_slice()),
+        Err(WriteFault { written: 0 })
+    );
+    Ok(())
 }
 
 #[test]

@@ -90,7 +90,7 @@ fn list_source<R: Source, W: Sink>(
 // All of the source's text, which may have `FILE_BYTES` bytes and no more.
 fn text_of<R: Source>(alloc: Global, source: &mut R) -> Result<Vec<u8>, RunFault>
     ensures given { IfOk result (λ text. Consumes (R.left source.old) (R.left source.new) text.items) }
-    ensures ended { OnOk result (IsAtEnd (R.left source.new)) }
+    ensures at_end { OnOk result (IsAtEnd (R.left source.new)) }
     ensures bound { IfOk result (λ text. length text.items ≤ FILE_BYTES) }
     ensures err { IfErr result (λ fault. ReadsNoText fault (R.left source.old) (R.left source.new) FILE_BYTES (R.failed source.new)) }
 {

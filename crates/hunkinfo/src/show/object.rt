@@ -3,7 +3,8 @@ ghost use Rattle.std.specs.Prelude.{◌≡◌, ◌*◌, ◌++◌, true, false, I
 ghost use Rattle.hunk_words.specs.Longs.{longs};
 ghost use Rattle.hunk_blocks.specs.Views.{body_of};
 ghost use Rattle.hunk_files.specs.Findings.{content_longs, hunk_bytes};
-ghost use Rattle.hunk_files.specs.LoadFile.{is_content, standing};
+ghost use Rattle.hunk_files.specs.LoadFile.{standing};
+ghost use Rattle.hunk_scan.specs.Standings.{is_content};
 ghost use Rattle.hunk_files.specs.ObjectFile.{IsObjectHunk};
 ghost use Rattle.hunkinfo.specs.Listed.{numbered, object_hunk_line, object_hunk_lines, object_line, unit_line, unit_lines};
 

@@ -87,7 +87,7 @@ put_long-requires g c =
 pub returns-in-Bss : goal.returns-in-Bss
 returns-in-Bss g c =
     writes_same g.W.Sink.taken g.W.Sink.failed c.args.writer.now c.put_long.new.self c.put_long.result _ _ (bytes_as c.args.body.now (bodies.Bss c.in-Bss.size) c.in-Bss.is)
-    (long_writes g.W.Sink.taken g.W.Sink.failed c.args.writer.now c.put_long.new.self c.put_long.result c.in-Bss.size c.put_long.ensures.puts c.put_long.ensures.whole c.put_long.ensures.told c.put_long.ensures.failed c.put_long.ensures.stops c.put_long.ensures.stays)
+    (long_writes g.W.Sink.taken g.W.Sink.failed c.args.writer.now c.put_long.new.self c.put_long.result c.in-Bss.size c.put_long.ensures.puts c.put_long.ensures.whole c.put_long.ensures.told c.put_long.ensures.failed c.put_long.ensures.stops c.put_long.ensures.stays c.put_long.ensures.quiet)
 
 pub returns-in-End : goal.returns-in-End
 returns-in-End g c =

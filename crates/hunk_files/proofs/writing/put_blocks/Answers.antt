@@ -12,10 +12,10 @@ encode-requires g c =
 
 pub returns-in_err-encode : goal.returns-in_err-encode
 returns-in_err-encode g c =
-    puts_stop block_text g.W.Sink.taken g.W.Sink.failed c.args.blocks.now c.putting.block-index c.block-item.result c.putting-test.true c.block-item.is c.putting.invariant (record { puts = c.encode.ensures.puts; whole = c.encode.ensures.whole; told = c.encode.ensures.told; fails = c.encode.ensures.failed; stops = c.encode.ensures.stops; stays = c.encode.ensures.stays })
+    puts_stop block_text g.W.Sink.taken g.W.Sink.failed c.args.blocks.now c.putting.block-index c.block-item.result c.putting-test.true c.block-item.is c.putting.invariant (record { puts = c.encode.ensures.puts; whole = c.encode.ensures.whole; told = c.encode.ensures.told; fails = c.encode.ensures.failed; stops = c.encode.ensures.stops; stays = c.encode.ensures.stays; quiet = c.encode.ensures.quiet })
     c.in_err-encode.was c.from_residual.ensures.1
 
 pub putting-preserved : goal.putting-preserved
 putting-preserved g c =
-    puts_next block_text g.W.Sink.taken g.W.Sink.failed c.args.blocks.now c.putting.block-index c.block-item.result c.putting-test.true c.block-item.is c.putting.invariant (record { puts = c.encode.ensures.puts; whole = c.encode.ensures.whole; told = c.encode.ensures.told; fails = c.encode.ensures.failed; stops = c.encode.ensures.stops; stays = c.encode.ensures.stays })
+    puts_next block_text g.W.Sink.taken g.W.Sink.failed c.args.blocks.now c.putting.block-index c.block-item.result c.putting-test.true c.block-item.is c.putting.invariant (record { puts = c.encode.ensures.puts; whole = c.encode.ensures.whole; told = c.encode.ensures.told; fails = c.encode.ensures.failed; stops = c.encode.ensures.stops; stays = c.encode.ensures.stays; quiet = c.encode.ensures.quiet })
     c.in_ok-encode.was

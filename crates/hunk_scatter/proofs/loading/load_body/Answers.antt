@@ -1,7 +1,7 @@
 use Rattle.std.proofs.Common.{◌≡◌, ℕ, ◌+◌, ◌≤◌, ◌<◌, List, [], ◌++◌, length, take, length-take, length-append, sym, ap, subst, ◌∙◌, append_assoc, append-nil, arith, inl, inr}
 use Rattle.std.specs.Io.KnownBytes.{Consumes}
 use Rattle.std.proofs.KnownBytes.{Consumes-trans}
-use Rattle.hunk_scatter.specs.Loads.{IsWithinFile, IsReadFault, IsBodyStop}
+use Rattle.hunk_scatter.specs.LoadOutcomes.{IsWithinFile, IsReadFault, IsBodyStop}
 use Rattle.hunk_scatter.proofs.Feeding.{file_fed, file_within_more}
 use Rattle.hunk_scatter.proofs.loading.load_body.Goals as goal
 

@@ -1,6 +1,6 @@
 use Rattle.std.proofs.Common.{◌≡◌, ◌≤◌, ◌-◌, ℕ, List, ◌++◌, length, None}
 use Rattle.std.specs.Io.KnownBytes.{Consumes}
-use Rattle.hunk_scatter.specs.Loads.{IsWithinFile}
+use Rattle.hunk_scatter.specs.LoadOutcomes.{IsWithinFile}
 use Rattle.hunk_scatter.proofs.loading.load_body.Given as goal
 
 abbrev pub invariant-reading : goal.invariant-reading

@@ -1,5 +1,5 @@
 use Rattle.std.proofs.Common.{◌≡◌, ◌-◌, length, None}
-use Rattle.hunk_scatter.specs.Loads.{Gives, IsWithinHeader}
+use Rattle.hunk_scatter.specs.LoadOutcomes.{Gives, IsWithinHeader}
 use Rattle.hunk_scatter.proofs.loading.load_header.Given as goal
 
 abbrev pub invariant-reading : goal.invariant-reading

@@ -1,7 +1,7 @@
 use Rattle.std.proofs.Common.{◌≡◌, ◌++◌, length, sym, ap, subst, ◌∙◌, inl}
 use Rattle.std.specs.Io.KnownBytes.{Consumes}
 use Rattle.std.proofs.KnownBytes.{Consumes-trans}
-use Rattle.hunk_scatter.specs.Loads.{IsHeaderWithin, IsWithinFile, InHeader, Between}
+use Rattle.hunk_scatter.specs.LoadOutcomes.{IsHeaderWithin, IsWithinFile, InHeader, Between}
 use Rattle.hunk_scatter.proofs.HeaderFronts.{within_file}
 use Rattle.hunk_scatter.proofs.LoadEnding.{ends_body, body_keeps, has_bases}
 use Rattle.hunk_scatter.proofs.loading.load_placed.Goals as goal

@@ -7,6 +7,10 @@ use Rattle.clap.specs.Words.{subcommand_of, takes, Text}
 use Rattle.hunkinfo.specs.declared.asked.OrderFault.TheVariants.{Line, Memory}
 use Rattle.hunkinfo.specs.Command.{hunkinfo}
 use Rattle.hunkinfo.specs.Line as spec
+use Rattle.hunkinfo.specs.Asked.{IsHelp}
+use Rattle.clap.specs.Kinds.{IsAmong}
+use Rattle.clap.specs.Faults.{fault_of}
+use Rattle.clap.specs.declared.error.kind.ErrorKind.TheVariants as kind
 use Rattle.hunkinfo.proofs.line.order.Goals as goal
 
 taken_short : (words : List Text) → length words < 2 → spec.taken words ≡ spec.stored
@@ -23,6 +27,9 @@ returns-then-words-lt2 c =
       err = IfErr-weaker c.order_in.result _ _
           (λ fault h. subst (λ (words : List Text). takes hunkinfo words ≡ true → (fault ≡ Memory) ⊎ ((fault ≡ Line) × (spec.entered_order (subcommand_of hunkinfo words) ≡ None))) same h)
           c.order_in.ensures.err;
+      asked = IfErr-weaker c.order_in.result _ _
+          (λ fault h. subst (λ (words : List Text). IsHelp fault → IsAmong kind.DisplayHelp (fault_of hunkinfo words)) same h)
+          c.order_in.ensures.asked;
     }
 
 taken_long : (words : List Text) → 2 ≤ length words → spec.taken words ≡ words
@@ -34,3 +41,10 @@ returns-else-words-lt2-clause-err c =
     IfErr-weaker c.order_in-else-words-lt2.result _ _
     (λ fault h. subst (λ (words : List Text). takes hunkinfo words ≡ true → (fault ≡ Memory) ⊎ ((fault ≡ Line) × (spec.entered_order (subcommand_of hunkinfo words) ≡ None))) same h)
     c.order_in-else-words-lt2.ensures.err
+
+pub returns-else-words-lt2-clause-asked : goal.returns-else-words-lt2-clause-asked
+returns-else-words-lt2-clause-asked c =
+    let same = sym (taken_long (map string_bytes c.args.words.now) (simp length-map (omega arith))) in
+    IfErr-weaker c.order_in-else-words-lt2.result _ _
+    (λ fault h. subst (λ (words : List Text). IsHelp fault → IsAmong kind.DisplayHelp (fault_of hunkinfo words)) same h)
+    c.order_in-else-words-lt2.ensures.asked

@@ -6,9 +6,9 @@ use Rattle.hunk_words.specs.declared.reason.Reason.{Reason}
 use Rattle.hunk_words.specs.declared.reason.Reason.TheVariants as reasons
 use Rattle.hunk_words.specs.Puts.{Puts}
 use Rattle.hunk_files.specs.Fault.{HasFault}
-use Rattle.hunk_scatter.specs.Answers.{is_of_file}
-use Rattle.hunk_scatter.specs.Headers.{IsOverBudget}
-use Rattle.hunk_scatter.specs.Loads.{Gives, IsLoadFault, IsLoadFaultBy}
+use Rattle.hunk_scatter.specs.LoaderReasons.{is_of_file}
+use Rattle.hunk_scatter.specs.HeaderBytes.{IsOverBudget}
+use Rattle.hunk_scatter.specs.LoadOutcomes.{Gives, IsLoadFault, IsLoadFaultBy}
 use Rattle.hunk_scatter.specs.Rows.{bases_of}
 use Rattle.hunkinfo.specs.declared.fault.RunFault.TheVariants.{Memory, Read, Refused}
 use Rattle.hunkinfo.specs.Faults.{refused_as, refused_for}

@@ -14,7 +14,7 @@ use Rattle.hunkinfo.proofs.rewrite.rewrite.Goals as goal
 
 pub returns-in_err-decode-clause-succeeds : goal.returns-in_err-decode-clause-succeeds
 returns-in_err-decode-clause-succeeds g c = λ input known few file reads writes.
-    let read = is_read _ _ c.args.file_bytes c.in_ok-input.input.items c.as_slice.result.now c.in_ok-input.ensures.given c.in_ok-input.ensures.ended c.in_ok-input.ensures.bound c.as_slice.ensures.value in
+    let read = is_read _ _ c.args.file_bytes c.in_ok-input.input.items c.as_slice.result.now c.in_ok-input.ensures.given c.in_ok-input.ensures.at_end c.in_ok-input.ensures.bound c.as_slice.ensures.value in
     handed (λ (fault : RunFault). fault ≡ Memory) c.from_residual-in_err-decode.result c.in_err-decode.field-0.0
     (err_from_is_err_and c.from_residual-in_err-decode.result c.from_residual-in_err-decode.ensures.1)
     (only_memory _ _ _ _ _ input read c.in_err-decode.ensures.none known file)
@@ -29,7 +29,7 @@ pub returns-in_err-decode-clause-refused : goal.returns-in_err-decode-clause-ref
 returns-in_err-decode-clause-refused g c =
     let a = g.R.Source.left c.args.r.now in
     let b = g.R.Source.left c.whole.new.source in
-    let read = is_read a b c.args.file_bytes c.in_ok-input.input.items c.as_slice.result.now c.in_ok-input.ensures.given c.in_ok-input.ensures.ended c.in_ok-input.ensures.bound c.as_slice.ensures.value in
+    let read = is_read a b c.args.file_bytes c.in_ok-input.input.items c.as_slice.result.now c.in_ok-input.ensures.given c.in_ok-input.ensures.at_end c.in_ok-input.ensures.bound c.as_slice.ensures.value in
     handed (λ (fault : RunFault). RefusesOnly fault a b c.args.file_bytes) c.from_residual-in_err-decode.result c.in_err-decode.field-0.0
     (err_from_is_err_and c.from_residual-in_err-decode.result c.from_residual-in_err-decode.ensures.1)
     (refuses_only _ a b c.args.file_bytes _ read c.in_err-decode.ensures.refused)
@@ -51,7 +51,7 @@ returns-in_err-encode-clause-write g c =
     let before = g.W.Sink.taken c.args.w.now.sink in
     let after = g.W.Sink.taken c.encode.new.writer.sink in
     let bytes = c.as_slice.result.now in
-    let read = is_read a b c.args.file_bytes c.in_ok-input.input.items bytes c.in_ok-input.ensures.given c.in_ok-input.ensures.ended c.in_ok-input.ensures.bound c.as_slice.ensures.value in
+    let read = is_read a b c.args.file_bytes c.in_ok-input.input.items bytes c.in_ok-input.ensures.given c.in_ok-input.ensures.at_end c.in_ok-input.ensures.bound c.as_slice.ensures.value in
     let file = c.strip_where-file.result in
     let is : IsRewritten c.args.strip (bytes_behind file) bytes (file_bytes file) =
     subst (λ (f : HunkFile). IsRewritten c.args.strip (bytes_behind f) bytes (file_bytes f)) (sym c.strip_where-file.ensures) (rewritten c.args.strip bytes c.in_ok-decode.field-0 c.in_ok-decode.ensures.ok) in
@@ -67,7 +67,7 @@ returns-clause-ok g c =
     let before = g.W.Sink.taken c.args.w.now.sink in
     let after = g.W.Sink.taken c.encode.new.writer.sink in
     let bytes = c.as_slice.result.now in
-    let read = is_read a b c.args.file_bytes c.in_ok-input.input.items bytes c.in_ok-input.ensures.given c.in_ok-input.ensures.ended c.in_ok-input.ensures.bound c.as_slice.ensures.value in
+    let read = is_read a b c.args.file_bytes c.in_ok-input.input.items bytes c.in_ok-input.ensures.given c.in_ok-input.ensures.at_end c.in_ok-input.ensures.bound c.as_slice.ensures.value in
     let file = c.strip_where-file.result in
     let is : IsRewritten c.args.strip (bytes_behind file) bytes (file_bytes file) =
     subst (λ (f : HunkFile). IsRewritten c.args.strip (bytes_behind f) bytes (file_bytes f)) (sym c.strip_where-file.ensures) (rewritten c.args.strip bytes c.in_ok-decode.field-0 c.in_ok-decode.ensures.ok) in

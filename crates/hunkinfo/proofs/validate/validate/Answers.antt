@@ -13,7 +13,7 @@ use Rattle.hunkinfo.proofs.validate.validate.Goals as goal
 
 pub returns-in_err-report-clause-succeeds : goal.returns-in_err-report-clause-succeeds
 returns-in_err-report-clause-succeeds g c = λ input known few file reads writes.
-    let read = is_read _ _ c.args.file_bytes c.in_ok-input.input.items c.as_slice.result.now c.in_ok-input.ensures.given c.in_ok-input.ensures.ended c.in_ok-input.ensures.bound c.as_slice.ensures.value in
+    let read = is_read _ _ c.args.file_bytes c.in_ok-input.input.items c.as_slice.result.now c.in_ok-input.ensures.given c.in_ok-input.ensures.at_end c.in_ok-input.ensures.bound c.as_slice.ensures.value in
     handed (λ (fault : RunFault). fault ≡ Memory) c.from_residual-in_err-report.result c.in_err-report.field-0.0
     (err_from_is_err_and c.from_residual-in_err-report.result c.from_residual-in_err-report.ensures.1)
     (only_memory _ _ _ _ _ input read c.in_err-report.ensures.none known file)
@@ -28,7 +28,7 @@ pub returns-in_err-report-clause-refused : goal.returns-in_err-report-clause-ref
 returns-in_err-report-clause-refused g c =
     let a = g.R.Source.left c.args.r.now in
     let b = g.R.Source.left c.whole.new.source in
-    let read = is_read a b c.args.file_bytes c.in_ok-input.input.items c.as_slice.result.now c.in_ok-input.ensures.given c.in_ok-input.ensures.ended c.in_ok-input.ensures.bound c.as_slice.ensures.value in
+    let read = is_read a b c.args.file_bytes c.in_ok-input.input.items c.as_slice.result.now c.in_ok-input.ensures.given c.in_ok-input.ensures.at_end c.in_ok-input.ensures.bound c.as_slice.ensures.value in
     handed (λ (fault : RunFault). RefusesOnly fault a b c.args.file_bytes) c.from_residual-in_err-report.result c.in_err-report.field-0.0
     (err_from_is_err_and c.from_residual-in_err-report.result c.from_residual-in_err-report.ensures.1)
     (refuses_only _ a b c.args.file_bytes _ read c.in_err-report.ensures.refused)
@@ -39,7 +39,7 @@ returns-in_err-put_bytes-clause-write g c =
     let b = g.R.Source.left c.whole.new.source in
     let before = g.W.Sink.taken c.args.w.now.sink in
     let after = g.W.Sink.taken c.put_bytes.new.self.sink in
-    let read = is_read a b c.args.file_bytes c.in_ok-input.input.items c.as_slice.result.now c.in_ok-input.ensures.given c.in_ok-input.ensures.ended c.in_ok-input.ensures.bound c.as_slice.ensures.value in
+    let read = is_read a b c.args.file_bytes c.in_ok-input.input.items c.as_slice.result.now c.in_ok-input.ensures.given c.in_ok-input.ensures.at_end c.in_ok-input.ensures.bound c.as_slice.ensures.value in
     written_first (λ (written : ℕ). Writes IsReport a b c.args.file_bytes before after written) c.from_residual-in_err-put_bytes.result c.in_err-put_bytes.field-0.0.written c.put_bytes.new.self.written
     (err_from_is_err_and c.from_residual-in_err-put_bytes.result c.from_residual-in_err-put_bytes.ensures.1) c.in_err-put_bytes.ensures.told
     (writes_of IsReport a b c.args.file_bytes before after c.args.w.now.written c.put_bytes.new.self.written c.as_slice.result.now c.in_ok-report.report.text.items c.as_slice-2.result.now read (c.in_ok-report.report.count, c.in_ok-report.ensures.ok)
@@ -51,7 +51,7 @@ returns-clause-ok g c =
     let b = g.R.Source.left c.whole.new.source in
     let before = g.W.Sink.taken c.args.w.now.sink in
     let after = g.W.Sink.taken c.put_bytes.new.self.sink in
-    let read = is_read a b c.args.file_bytes c.in_ok-input.input.items c.as_slice.result.now c.in_ok-input.ensures.given c.in_ok-input.ensures.ended c.in_ok-input.ensures.bound c.as_slice.ensures.value in
+    let read = is_read a b c.args.file_bytes c.in_ok-input.input.items c.as_slice.result.now c.in_ok-input.ensures.given c.in_ok-input.ensures.at_end c.in_ok-input.ensures.bound c.as_slice.ensures.value in
     writes_all (IsValidated c.in_ok-report.report.count) a b c.args.file_bytes before after c.args.w.now.written c.put_bytes.new.self.written c.as_slice.result.now c.in_ok-report.report.text.items c.as_slice-2.result.now read c.in_ok-report.ensures.ok
     c.as_slice-2.ensures.value c.requires c.in_ok-put_bytes.ensures.puts c.in_ok-put_bytes.ensures.whole
 

@@ -1,4 +1,9 @@
-use Rattle.hunk_blocks.proofs.ListReading.{on_err}
+use Rattle.hunk_blocks.proofs.ListReading.{on_err, if_err_and, Reads-nil}
+use Rattle.std.proofs.Common.{[], ◌∷◌, sym, ◌∙◌}
+use Rattle.hunk_blocks.specs.Values.{IsExtEntry}
+use Rattle.hunk_blocks.specs.Parts.{ext_text}
+use Rattle.hunk_blocks.proofs.FrontLaws.{empty_front}
+use Rattle.hunk_blocks.proofs.BodyFaults.{entries_cut, type_fault}
 use Rattle.hunk_blocks.proofs.reading.entries.next_entry.Goals as goal
 
 pub returns-in_err-definition-in-Defines-clause-none : goal.returns-in_err-definition-in-Defines-clause-none
@@ -24,3 +29,27 @@ returns-in_ok-reference-in-Refers-clause-read c =
 pub returns-in_ok-common-in-Shares-clause-read : goal.returns-in_ok-common-in-Shares-clause-read
 returns-in_ok-common-in-Shares-clause-read c =
     (c.in_ok-common-in-Shares.ensures.read.0, c.in_ok-common-in-Shares.ensures.read.1 c.args.reader.now c.in_ok-word.ensures.read)
+
+pub returns-in_err-word-clause-first : goal.returns-in_err-word-clause-first
+returns-in_err-word-clause-first c =
+    if_err_and c.from_residual.result _ _ c.from_residual.ensures.1
+    (λ fault same. entries_cut c.args.reader.now c.args.reader.now fault [] (Reads-nil c.args.reader.now) (same ∙ c.in_err-word.ensures.fault) (empty_front IsExtEntry ext_text c.args.reader.now.rest c.in_err-word.ensures.short))
+
+pub returns-in_err-definition-in-Defines-clause-first : goal.returns-in_err-definition-in-Defines-clause-first
+returns-in_err-definition-in-Defines-clause-first c =
+    if_err_and c.from_residual-in_err-definition-in-Defines.result _ _ c.from_residual-in_err-definition-in-Defines.ensures.1
+    (λ fault same. entries_cut c.args.reader.now c.long.new.self fault (c.in_ok-word.word ∷ []) c.in_ok-word.ensures.read (same ∙ c.in_err-definition-in-Defines.ensures.fault) c.in_err-definition-in-Defines.ensures.front)
+
+pub returns-in_err-reference-in-Refers-clause-first : goal.returns-in_err-reference-in-Refers-clause-first
+returns-in_err-reference-in-Refers-clause-first c =
+    if_err_and c.from_residual-in_err-reference-in-Refers.result _ _ c.from_residual-in_err-reference-in-Refers.ensures.1
+    (λ fault same. entries_cut c.args.reader.now c.long.new.self fault (c.in_ok-word.word ∷ []) c.in_ok-word.ensures.read (same ∙ c.in_err-reference-in-Refers.ensures.fault) c.in_err-reference-in-Refers.ensures.front)
+
+pub returns-in_err-common-in-Shares-clause-first : goal.returns-in_err-common-in-Shares-clause-first
+returns-in_err-common-in-Shares-clause-first c =
+    if_err_and c.from_residual-in_err-common-in-Shares.result _ _ c.from_residual-in_err-common-in-Shares.ensures.1
+    (λ fault same. entries_cut c.args.reader.now c.long.new.self fault (c.in_ok-word.word ∷ []) c.in_ok-word.ensures.read (same ∙ c.in_err-common-in-Shares.ensures.fault) c.in_err-common-in-Shares.ensures.front)
+
+pub returns-in-Refused-clause-first : goal.returns-in-Refused-clause-first
+returns-in-Refused-clause-first c =
+    type_fault c.args.reader.now c.long.new.self _ c.in_ok-word.word c.in_ok-word.ensures.read (rw c.place-place.ensures) (sym c.shape_of.ensures ∙ c.in-Refused.is)

@@ -29,4 +29,4 @@ put_long-requires g c = end_room entry_of ext_text c.args.entries.now c.entries.
 pub returns : goal.returns
 returns g c =
     list_writes entry_of ext_text c.args.entries.now c.entries.entry-index (omega (arith, c.entries-test.false)) c.entries.invariant
-    (long_writes g.W.Sink.taken g.W.Sink.failed c.entries.writer c.put_long.new.self c.put_long.result 0 c.put_long.ensures.puts c.put_long.ensures.whole c.put_long.ensures.told c.put_long.ensures.failed c.put_long.ensures.stops c.put_long.ensures.stays)
+    (long_writes g.W.Sink.taken g.W.Sink.failed c.entries.writer c.put_long.new.self c.put_long.result 0 c.put_long.ensures.puts c.put_long.ensures.whole c.put_long.ensures.told c.put_long.ensures.failed c.put_long.ensures.stops c.put_long.ensures.stays c.put_long.ensures.quiet)

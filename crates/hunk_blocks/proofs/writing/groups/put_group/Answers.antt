@@ -13,7 +13,7 @@ put_long-requires g c =
 pub returns-in_err-put_long : goal.returns-in_err-put_long
 returns-in_err-put_long g c =
     stops_first (bytes_of (c.args.group.now.target ∷ c.args.group.now.offsets)) (group_bytes (group_of c.args.group.now) c.len.result c.len.ensures)
-    (long_writes g.W.Sink.taken g.W.Sink.failed c.args.writer.now c.put_long.new.self c.put_long.result c.len.result c.put_long.ensures.puts c.put_long.ensures.whole c.put_long.ensures.told c.put_long.ensures.failed c.put_long.ensures.stops c.put_long.ensures.stays)
+    (long_writes g.W.Sink.taken g.W.Sink.failed c.args.writer.now c.put_long.new.self c.put_long.result c.len.result c.put_long.ensures.puts c.put_long.ensures.whole c.put_long.ensures.told c.put_long.ensures.failed c.put_long.ensures.stops c.put_long.ensures.stays c.put_long.ensures.quiet)
     c.in_err-put_long.was c.from_residual.ensures.1
 
 pub put_long-requires-2 : goal.put_long-requires-2
@@ -23,10 +23,10 @@ put_long-requires-2 g c =
 pub returns-in_err-put_long-2 : goal.returns-in_err-put_long-2
 returns-in_err-put_long-2 g c =
     writes_two (group_bytes (group_of c.args.group.now) c.len.result c.len.ensures)
-    (long_writes g.W.Sink.taken g.W.Sink.failed c.args.writer.now c.put_long.new.self c.put_long.result c.len.result c.put_long.ensures.puts c.put_long.ensures.whole c.put_long.ensures.told c.put_long.ensures.failed c.put_long.ensures.stops c.put_long.ensures.stays)
+    (long_writes g.W.Sink.taken g.W.Sink.failed c.args.writer.now c.put_long.new.self c.put_long.result c.len.result c.put_long.ensures.puts c.put_long.ensures.whole c.put_long.ensures.told c.put_long.ensures.failed c.put_long.ensures.stops c.put_long.ensures.stays c.put_long.ensures.quiet)
     c.in_ok-put_long.was
     (stops_first (bytes_of c.args.group.now.offsets) (bytes_of-cons c.args.group.now.target c.args.group.now.offsets)
-    (long_writes g.W.Sink.taken g.W.Sink.failed c.put_long.new.self c.put_long-2.new.self c.put_long-2.result c.args.group.now.target c.put_long-2.ensures.puts c.put_long-2.ensures.whole c.put_long-2.ensures.told c.put_long-2.ensures.failed c.put_long-2.ensures.stops c.put_long-2.ensures.stays)
+    (long_writes g.W.Sink.taken g.W.Sink.failed c.put_long.new.self c.put_long-2.new.self c.put_long-2.result c.args.group.now.target c.put_long-2.ensures.puts c.put_long-2.ensures.whole c.put_long-2.ensures.told c.put_long-2.ensures.failed c.put_long-2.ensures.stops c.put_long-2.ensures.stays c.put_long-2.ensures.quiet)
     c.in_err-put_long-2.was c.from_residual-in_err-put_long-2.ensures.1)
 
 pub put_payload-requires : goal.put_payload-requires
@@ -36,8 +36,8 @@ put_payload-requires g c =
 pub returns : goal.returns
 returns g c =
     writes_two (group_bytes (group_of c.args.group.now) c.len.result c.len.ensures)
-    (long_writes g.W.Sink.taken g.W.Sink.failed c.args.writer.now c.put_long.new.self c.put_long.result c.len.result c.put_long.ensures.puts c.put_long.ensures.whole c.put_long.ensures.told c.put_long.ensures.failed c.put_long.ensures.stops c.put_long.ensures.stays)
+    (long_writes g.W.Sink.taken g.W.Sink.failed c.args.writer.now c.put_long.new.self c.put_long.result c.len.result c.put_long.ensures.puts c.put_long.ensures.whole c.put_long.ensures.told c.put_long.ensures.failed c.put_long.ensures.stops c.put_long.ensures.stays c.put_long.ensures.quiet)
     c.in_ok-put_long.was
     (writes_two (bytes_of-cons c.args.group.now.target c.args.group.now.offsets ∙ ap (λ l. bytes_of (c.args.group.now.target ∷ []) ++ bytes_of l) (sym c.payload.ensures))
-    (long_writes g.W.Sink.taken g.W.Sink.failed c.put_long.new.self c.put_long-2.new.self c.put_long-2.result c.args.group.now.target c.put_long-2.ensures.puts c.put_long-2.ensures.whole c.put_long-2.ensures.told c.put_long-2.ensures.failed c.put_long-2.ensures.stops c.put_long-2.ensures.stays)
+    (long_writes g.W.Sink.taken g.W.Sink.failed c.put_long.new.self c.put_long-2.new.self c.put_long-2.result c.args.group.now.target c.put_long-2.ensures.puts c.put_long-2.ensures.whole c.put_long-2.ensures.told c.put_long-2.ensures.failed c.put_long-2.ensures.stops c.put_long-2.ensures.stays c.put_long-2.ensures.quiet)
     c.in_ok-put_long-2.was c.put_payload.ensures)

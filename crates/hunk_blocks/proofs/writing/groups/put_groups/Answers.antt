@@ -29,4 +29,4 @@ put_long-requires g c = end_room group_of group_text c.args.groups.now c.groups.
 pub returns : goal.returns
 returns g c =
     list_writes group_of group_text c.args.groups.now c.groups.group-index (omega (arith, c.groups-test.false)) c.groups.invariant
-    (long_writes g.W.Sink.taken g.W.Sink.failed c.groups.writer c.put_long.new.self c.put_long.result 0 c.put_long.ensures.puts c.put_long.ensures.whole c.put_long.ensures.told c.put_long.ensures.failed c.put_long.ensures.stops c.put_long.ensures.stays)
+    (long_writes g.W.Sink.taken g.W.Sink.failed c.groups.writer c.put_long.new.self c.put_long.result 0 c.put_long.ensures.puts c.put_long.ensures.whole c.put_long.ensures.told c.put_long.ensures.failed c.put_long.ensures.stops c.put_long.ensures.stays c.put_long.ensures.quiet)

@@ -10,7 +10,7 @@ put_long-requires g c = omega (arith, c.requires.room, first_size (c.args.top * 
 pub returns-in_err-put_long : goal.returns-in_err-put_long
 returns-in_err-put_long g c =
     stops_first (bytes_of (longs c.args.payload.now)) (first_bytes (c.args.top * 2 ^ 30 + length (longs c.args.payload.now)) (c.args.top * 2 ^ 30 % 2 ^ 32 + c.count.result) (longs c.args.payload.now) (omega (arith, c.count.ensures, c.requires.fits.0)))
-    (long_writes g.W.Sink.taken g.W.Sink.failed c.args.writer.now c.put_long.new.self c.put_long.result (c.args.top * 2 ^ 30 % 2 ^ 32 + c.count.result) c.put_long.ensures.puts c.put_long.ensures.whole c.put_long.ensures.told c.put_long.ensures.failed c.put_long.ensures.stops c.put_long.ensures.stays)
+    (long_writes g.W.Sink.taken g.W.Sink.failed c.args.writer.now c.put_long.new.self c.put_long.result (c.args.top * 2 ^ 30 % 2 ^ 32 + c.count.result) c.put_long.ensures.puts c.put_long.ensures.whole c.put_long.ensures.told c.put_long.ensures.failed c.put_long.ensures.stops c.put_long.ensures.stays c.put_long.ensures.quiet)
     c.in_err-put_long.was c.from_residual.ensures.1
 
 pub put_payload-requires : goal.put_payload-requires
@@ -19,5 +19,5 @@ put_payload-requires g c = omega (arith, c.requires.room, first_size (c.args.top
 pub returns : goal.returns
 returns g c =
     writes_two (first_bytes (c.args.top * 2 ^ 30 + length (longs c.args.payload.now)) (c.args.top * 2 ^ 30 % 2 ^ 32 + c.count.result) (longs c.args.payload.now) (omega (arith, c.count.ensures, c.requires.fits.0)))
-    (long_writes g.W.Sink.taken g.W.Sink.failed c.args.writer.now c.put_long.new.self c.put_long.result (c.args.top * 2 ^ 30 % 2 ^ 32 + c.count.result) c.put_long.ensures.puts c.put_long.ensures.whole c.put_long.ensures.told c.put_long.ensures.failed c.put_long.ensures.stops c.put_long.ensures.stays)
+    (long_writes g.W.Sink.taken g.W.Sink.failed c.args.writer.now c.put_long.new.self c.put_long.result (c.args.top * 2 ^ 30 % 2 ^ 32 + c.count.result) c.put_long.ensures.puts c.put_long.ensures.whole c.put_long.ensures.told c.put_long.ensures.failed c.put_long.ensures.stops c.put_long.ensures.stays c.put_long.ensures.quiet)
     c.in_ok-put_long.was c.put_payload.ensures

@@ -29,4 +29,4 @@ put_long-requires g c = end_room symbol_of symbol_text c.args.symbols.now c.symb
 pub returns : goal.returns
 returns g c =
     list_writes symbol_of symbol_text c.args.symbols.now c.symbols.symbol-index (omega (arith, c.symbols-test.false)) c.symbols.invariant
-    (long_writes g.W.Sink.taken g.W.Sink.failed c.symbols.writer c.put_long.new.self c.put_long.result 0 c.put_long.ensures.puts c.put_long.ensures.whole c.put_long.ensures.told c.put_long.ensures.failed c.put_long.ensures.stops c.put_long.ensures.stays)
+    (long_writes g.W.Sink.taken g.W.Sink.failed c.symbols.writer c.put_long.new.self c.put_long.result 0 c.put_long.ensures.puts c.put_long.ensures.whole c.put_long.ensures.told c.put_long.ensures.failed c.put_long.ensures.stops c.put_long.ensures.stays c.put_long.ensures.quiet)

@@ -2,78 +2,73 @@ use Rattle.std.proofs.Common.{ℕ, ◌+◌, ◌*◌, ◌<◌, length, arith, sym
 use Rattle.hunk_words.specs.Longs.{longs, IsBytes}
 use Rattle.hunk_words.specs.declared.reason.Reason.TheVariants as reasons
 use Rattle.hunk_words.proofs.LongLaws.{length-longs}
-use Rattle.hunk_files.specs.Roles.{refuse}
+use Rattle.hunk_scan.specs.Roles.{refuse}
+use Rattle.hunk_scan.specs.Positions as scan
+use Rattle.hunk_scan.specs.Positions.{role_at, run, is_between_hunks}
+use Rattle.hunk_scan.specs.declared.position.Position.{Position}
+use Rattle.hunk_files.specs.Entries.{entry_at}
 use Rattle.hunk_files.specs.Fault.{HasFault}
-use Rattle.hunk_files.specs.Stages.{stage_role, next_stage}
-use Rattle.hunk_files.specs.declared.load.stage.OpenHunk.{OpenHunk}
-use Rattle.hunk_files.specs.declared.load.stage.Stage.TheVariants as stages
-use Rattle.hunk_files.proofs.Walking.{Walks, start_walk, stands, has_declared, walk_refused, walk_goes, walk_opens, walk_ends, walk_truncated, row_fits}
+use Rattle.hunk_files.specs.declared.load.walk.Entry.{Entry}
+use Rattle.hunk_files.proofs.Walking.{Walks, start_walk, stands, walk_refused, walk_ends, entry_fits, walk_passes, walk_truncated}
 use Rattle.hunk_files.proofs.load.walk.walk.Goals as goal
 
 pub walking-init : goal.walking-init
 walking-init c = start_walk c.args.bytes.now
 
-pub refuse_at-requires : goal.refuse_at-requires
-refuse_at-requires c =
-    let bytes = c.args.bytes.now in
-    let l : c.walking.at < length (longs bytes) = omega (arith, length-longs bytes) in
-    has_declared bytes c.walking.at c.walking.stage (stands bytes c.walking.at c.walking.stage c.walking.invariant l)
-
 pub returns-in-Some : goal.returns-in-Some
 returns-in-Some c =
     let bytes = c.args.bytes.now in
+    let w = c.walking in
     let fit : IsBytes bytes = λ i. omega (arith, c.type_inv.bytes i) in
-    let l : c.walking.at < length (longs bytes) = omega (arith, length-longs bytes) in
-    walk_refused bytes fit c.walking.at c.walking.stage (stands bytes c.walking.at c.walking.stage c.walking.invariant l) l c.in-Some.reason
-    (sym c.in-Some.is ∙ c.refuse_at.ensures ∙ ap (λ (w : ℕ). refuse (stage_role c.walking.stage) w) c.word_at-word.ensures)
+    let l : w.at < length (longs bytes) = omega (arith, length-longs bytes) in
+    walk_refused bytes fit w.at w.position w.entry (stands bytes w.at w.position w.entry w.invariant l) l c.in-Some.reason
+    (sym c.in-Some.is ∙ c.refuse.ensures ∙ ap (λ (x : ℕ). refuse (role_at w.entry.longs w.position) x) c.word_at-word.ensures)
 
-pub walking-preserved-in-Goes : goal.walking-preserved-in-Goes
-walking-preserved-in-Goes c =
+pub returns-in-Done : goal.returns-in-Done
+returns-in-Done c =
     let bytes = c.args.bytes.now in
+    let w = c.walking in
     let fit : IsBytes bytes = λ i. omega (arith, c.type_inv.bytes i) in
-    let l : c.walking.at < length (longs bytes) = omega (arith, length-longs bytes) in
+    let l : w.at < length (longs bytes) = omega (arith, length-longs bytes) in
     let pass = sym c.in_default.is in
-    walk_goes bytes fit c.walking.at c.walking.stage (stands bytes c.walking.at c.walking.stage c.walking.invariant l) l
-    (pass ∙ c.refuse_at.ensures ∙ ap (λ (w : ℕ). refuse (stage_role c.walking.stage) w) c.word_at-word.ensures)
-    c.in-Goes.skip c.in-Goes.next
-    (sym c.in-Goes.is ∙ c.go_on.ensures ∙ ap (λ (w : ℕ). next_stage c.walking.stage w) c.word_at-word.ensures)
+    walk_ends bytes fit w.at w.position w.entry (stands bytes w.at w.position w.entry w.invariant l) l
+    (pass ∙ c.refuse.ensures ∙ ap (λ (x : ℕ). refuse (role_at w.entry.longs w.position) x) c.word_at-word.ensures)
+    (sym c.in-Done.is ∙ c.step-behind.ensures ∙ ap (λ (x : ℕ). scan.step w.position x) c.word_at-word.ensures)
 
-pub open_hunk-requires-clause-inside : goal.open_hunk-requires-clause-inside
-open_hunk-requires-clause-inside c =
+pub open_entry-entry-requires : goal.open_entry-entry-requires
+open_entry-entry-requires c between =
     let bytes = c.args.bytes.now in
+    let w = c.walking in
     let fit : IsBytes bytes = λ i. omega (arith, c.type_inv.bytes i) in
-    let l : c.walking.at < length (longs bytes) = omega (arith, length-longs bytes) in
+    let l : w.at < length (longs bytes) = omega (arith, length-longs bytes) in
     let pass = sym c.in_default.is in
-    row_fits bytes fit c.walking.at c.walking.stage (stands bytes c.walking.at c.walking.stage c.walking.invariant l) l
-    (pass ∙ c.refuse_at.ensures ∙ ap (λ (w : ℕ). refuse (stage_role c.walking.stage) w) c.word_at-word.ensures)
-    c.in-Opens.hunks c.in-Opens.ahead c.in-Opens.row
-    (sym c.in-Opens.is ∙ c.go_on.ensures ∙ ap (λ (w : ℕ). next_stage c.walking.stage w) c.word_at-word.ensures)
+    let behind = c.step-behind.ensures ∙ ap (λ (x : ℕ). scan.step w.position x) c.word_at-word.ensures in
+    entry_fits bytes fit w.at w.position w.entry (stands bytes w.at w.position w.entry w.invariant l) l
+    (pass ∙ c.refuse.ensures ∙ ap (λ (x : ℕ). refuse (role_at w.entry.longs w.position) x) c.word_at-word.ensures)
+    (λ d. c.in_default-behind.not-Done (behind ∙ d))
+    (ap is_between_hunks (sym behind) ∙ between)
 
 pub walking-preserved : goal.walking-preserved
 walking-preserved c =
     let bytes = c.args.bytes.now in
+    let w = c.walking in
     let fit : IsBytes bytes = λ i. omega (arith, c.type_inv.bytes i) in
-    let l : c.walking.at < length (longs bytes) = omega (arith, length-longs bytes) in
+    let l : w.at < length (longs bytes) = omega (arith, length-longs bytes) in
     let pass = sym c.in_default.is in
-    let P : OpenHunk → Type 0 = λ o. Walks bytes (c.walking.at + 1) (stages.BlockWord o) in
-    subst P (sym c.open_hunk.ensures)
-    (walk_opens bytes fit c.walking.at c.walking.stage (stands bytes c.walking.at c.walking.stage c.walking.invariant l) l
-    (pass ∙ c.refuse_at.ensures ∙ ap (λ (w : ℕ). refuse (stage_role c.walking.stage) w) c.word_at-word.ensures)
-    c.in-Opens.hunks c.in-Opens.ahead c.in-Opens.row
-    (sym c.in-Opens.is ∙ c.go_on.ensures ∙ ap (λ (w : ℕ). next_stage c.walking.stage w) c.word_at-word.ensures))
-
-pub returns-in-Ends : goal.returns-in-Ends
-returns-in-Ends c =
-    let bytes = c.args.bytes.now in
-    let fit : IsBytes bytes = λ i. omega (arith, c.type_inv.bytes i) in
-    let l : c.walking.at < length (longs bytes) = omega (arith, length-longs bytes) in
-    let pass = sym c.in_default.is in
-    walk_ends bytes fit c.walking.at c.walking.stage (stands bytes c.walking.at c.walking.stage c.walking.invariant l) l
-    (pass ∙ c.refuse_at.ensures ∙ ap (λ (w : ℕ). refuse (stage_role c.walking.stage) w) c.word_at-word.ensures)
-    (sym c.in-Ends.is ∙ c.go_on.ensures ∙ ap (λ (w : ℕ). next_stage c.walking.stage w) c.word_at-word.ensures)
+    let behind = c.step-behind.ensures ∙ ap (λ (x : ℕ). scan.step w.position x) c.word_at-word.ensures in
+    let on = walk_passes bytes fit w.at w.position w.entry (stands bytes w.at w.position w.entry w.invariant l) l
+    (pass ∙ c.refuse.ensures ∙ ap (λ (x : ℕ). refuse (role_at w.entry.longs w.position) x) c.word_at-word.ensures)
+    (λ d. c.in_default-behind.not-Done (behind ∙ d)) in
+    let P : Position → Type 0 = λ p. Walks bytes (w.at + (1 + run p)) (scan.pass p (run p)) (entry_at (longs bytes) p w.entry) in
+    let Q : ℕ → Type 0 = λ n. Walks bytes (w.at + (1 + n)) (scan.pass c.step-behind.result n) (entry_at (longs bytes) c.step-behind.result w.entry) in
+    let R : Position → Entry → Type 0 = λ p e. Walks bytes (w.at + (1 + c.run-run.result)) p e in
+    let here = subst Q (sym c.run-run.ensures.value) (subst P (sym behind) on) in
+    subst (λ (e : Entry). R c.pass-position.result e) (sym c.open_entry-entry.ensures)
+    (subst (λ (p : Position). R p (entry_at (longs bytes) c.step-behind.result w.entry)) (sym c.pass-position.ensures) here)
 
 pub returns : goal.returns
 returns c =
     let bytes = c.args.bytes.now in
+    let w = c.walking in
     let P : ℕ → Type 0 = λ n. HasFault bytes (4 * n) reasons.Truncated in
-    subst P (length-longs bytes) (walk_truncated bytes c.walking.at c.walking.stage c.walking.invariant (omega (arith, length-longs bytes)))
+    subst P (length-longs bytes) (walk_truncated bytes w.at w.position w.entry w.invariant (omega (arith, length-longs bytes)))

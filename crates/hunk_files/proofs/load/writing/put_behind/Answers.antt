@@ -1,9 +1,8 @@
-use Rattle.std.proofs.Common.{◌++◌, arith}
+use Rattle.std.proofs.Common.{◌++◌, arith, refl}
 use Rattle.hunk_words.specs.Longs.{bytes_of}
 use Rattle.hunk_files.specs.Tables.{row_texts}
 use Rattle.hunk_files.proofs.TextParts.{all_blocks, behind_split, behind_size}
 use Rattle.hunk_blocks.proofs.WriteLaws.{stops_first, writes_two}
-use Rattle.std.proofs.Common.{refl}
 use Rattle.hunk_files.proofs.load.writing.put_behind.Goals as goal
 
 pub put_longs-requires-clause-room : goal.put_longs-requires-clause-room

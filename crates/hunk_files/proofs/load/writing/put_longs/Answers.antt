@@ -26,7 +26,7 @@ returns-in_err-put_long g c =
     let i = c.putting.long-index in
     writes_same g.W.Sink.taken g.W.Sink.failed c.args.writer.now c.put_long.new.self _ _ (bytes_of longs) (ap bytes_of (each_long longs))
     (puts_stop (λ (w : ℕ). w ∷ []) g.W.Sink.taken g.W.Sink.failed longs i (get_or longs i 0) c.putting-test.true (here longs i c.putting-test.true) c.putting.invariant
-    (long_writes g.W.Sink.taken g.W.Sink.failed c.putting.writer c.put_long.new.self c.put_long.result (get_or longs i 0) c.put_long.ensures.puts c.put_long.ensures.whole c.put_long.ensures.told c.put_long.ensures.failed c.put_long.ensures.stops c.put_long.ensures.stays)
+    (long_writes g.W.Sink.taken g.W.Sink.failed c.putting.writer c.put_long.new.self c.put_long.result (get_or longs i 0) c.put_long.ensures.puts c.put_long.ensures.whole c.put_long.ensures.told c.put_long.ensures.failed c.put_long.ensures.stops c.put_long.ensures.stays c.put_long.ensures.quiet)
     c.in_err-put_long.was c.from_residual.ensures.1)
 
 pub putting-preserved : goal.putting-preserved
@@ -34,7 +34,7 @@ putting-preserved g c =
     let longs = c.args.longs.now in
     let i = c.putting.long-index in
     puts_next (λ (w : ℕ). w ∷ []) g.W.Sink.taken g.W.Sink.failed longs i (get_or longs i 0) c.putting-test.true (here longs i c.putting-test.true) c.putting.invariant
-    (long_writes g.W.Sink.taken g.W.Sink.failed c.putting.writer c.put_long.new.self c.put_long.result (get_or longs i 0) c.put_long.ensures.puts c.put_long.ensures.whole c.put_long.ensures.told c.put_long.ensures.failed c.put_long.ensures.stops c.put_long.ensures.stays)
+    (long_writes g.W.Sink.taken g.W.Sink.failed c.putting.writer c.put_long.new.self c.put_long.result (get_or longs i 0) c.put_long.ensures.puts c.put_long.ensures.whole c.put_long.ensures.told c.put_long.ensures.failed c.put_long.ensures.stops c.put_long.ensures.stays c.put_long.ensures.quiet)
     c.in_ok-put_long.was
 
 pub returns : goal.returns

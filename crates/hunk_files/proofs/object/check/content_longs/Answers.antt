@@ -1,10 +1,9 @@
-use Rattle.std.proofs.Common.{◌≡◌, ℕ, ◌/◌, List, length, sym, ap, ◌∙◌}
+use Rattle.std.proofs.Common.{◌≡◌, ℕ, ◌/◌, List, length, sym, ap, ◌∙◌, inl, inr}
 use Rattle.hunk_words.specs.Longs.{longs}
 use Rattle.hunk_words.proofs.LongLaws.{length-longs}
 use Rattle.hunk_blocks.specs.declared.body.Body.{Body}
 use Rattle.hunk_blocks.specs.Views.{body_of}
 use Rattle.hunk_files.specs.Findings.{content_longs}
-use Rattle.std.proofs.Common.{inl, inr}
 use Rattle.hunk_files.proofs.object.check.content_longs.Goals as goal
 
 pub returns-in-Code : goal.returns-in-Code

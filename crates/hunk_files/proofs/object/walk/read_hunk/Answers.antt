@@ -1,15 +1,19 @@
-use Rattle.std.proofs.Common.{◌≡◌, ◌+◌, ◌∙◌, List, [], ◌∷◌, ◌++◌, ℕ, Bool, false, ◌||◌, arith, rules, sym, subst}
-use Rattle.std.proofs.lemmas.List.{take_rest}
+use Rattle.std.proofs.Common.{◌≡◌, ◌+◌, ◌∙◌, List, [], ◌∷◌, ◌++◌, ℕ, Bool, false, ◌||◌, arith, drop, rules, sym, subst}
+use Rattle.std.proofs.lemmas.List.{take_rest, length-drop}
 use Rattle.std.specs.List.{flat_map}
 use Rattle.hunk_words.specs.Longs.{longs}
 use Rattle.hunk_blocks.specs.declared.mode.Mode.TheVariants as modes
 use Rattle.hunk_blocks.specs.Parts.{block_text}
 use Rattle.hunk_blocks.specs.Begins.{BeginsWithBlock}
 use Rattle.hunk_blocks.specs.Reading.{BeginsWithNo}
-use Rattle.hunk_files.specs.LoadFile.{standing, is_content}
+use Rattle.hunk_files.specs.LoadFile.{standing}
+use Rattle.hunk_scan.specs.Standings.{is_content}
 use Rattle.hunk_files.specs.ObjectFile.{ObjectHunk, IsObjectHunk}
 use Rattle.hunk_files.specs.ObjectParts.{BeginsWithText, MayStand}
 use Rattle.hunk_files.proofs.ObjectDecoding.{HunkSoFar, no_blocks, no_hunk, block_added, hunk_ended, text_with, goes_further, still_inside}
+use Rattle.hunk_blocks.specs.Faults.{FaultAhead}
+use Rattle.hunk_files.specs.ObjectFault.{BetweenHunks, MayGoOn, blocks_from, unread}
+use Rattle.hunk_files.proofs.HunkFaults.{fault_inside, hunk_ahead, may_go_on, place_behind}
 use Rattle.hunk_files.proofs.object.walk.read_hunk.Goals as goal
 
 pub reading-init : goal.reading-init
@@ -23,16 +27,16 @@ returns-in-Err-clause-none c ne =
     no_hunk c.args.bytes.now c.reading.blocks.items c.reading.has_content c.reading.at c.reading.invariant
     (subst P (take_rest c.args.bytes.now c.reading.at) (c.in-Err.ensures.none (λ e. ne (c.counted_from.ensures.reason ∙ e))))
 
-pub returns-then-ended-clause-hunk : goal.returns-then-ended-clause-hunk
-returns-then-ended-clause-hunk c =
+pub returns-then-hunk_ends-clause-hunk : goal.returns-then-hunk_ends-clause-hunk
+returns-then-hunk_ends-clause-hunk c =
     let bytes = c.args.bytes.now in
     let pushed : c.push.new.self.items ≡ c.reading.blocks.items ++ c.in-Ok.read.0 ∷ [] = search rules in
     let P : List ℕ → Type 0 = λ rest. BeginsWithBlock modes.Object rest c.in-Ok.read.0 c.in-Ok.read.1 in
     let here = subst P (take_rest bytes c.reading.at) c.in-Ok.ensures.block in
-    subst IsObjectHunk (sym pushed) (hunk_ended bytes c.reading.blocks.items c.reading.has_content c.reading.at c.reading.invariant c.in-Ok.read.0 c.in-Ok.read.1 here c.in-Ok.ensures.place (sym c.if-ended.ensures))
+    subst IsObjectHunk (sym pushed) (hunk_ended bytes c.reading.blocks.items c.reading.has_content c.reading.at c.reading.invariant c.in-Ok.read.0 c.in-Ok.read.1 here c.in-Ok.ensures.place (sym c.if-hunk_ends.ensures))
 
-pub returns-then-ended-clause-text : goal.returns-then-ended-clause-text
-returns-then-ended-clause-text c =
+pub returns-then-hunk_ends-clause-text : goal.returns-then-hunk_ends-clause-text
+returns-then-hunk_ends-clause-text c =
     let bytes = c.args.bytes.now in
     let pushed : c.push.new.self.items ≡ c.reading.blocks.items ++ c.in-Ok.read.0 ∷ [] = search rules in
     let P : List ℕ → Type 0 = λ rest. BeginsWithBlock modes.Object rest c.in-Ok.read.0 c.in-Ok.read.1 in
@@ -58,4 +62,14 @@ reading-preserved c =
     let Q : ObjectHunk → Type 0 = λ bs. HunkSoFar bytes bs (c.reading.has_content || is_content (standing c.in-Ok.read.0.body)) (c.reading.at + c.in-Ok.read.1) in
     let R : Bool → Type 0 = λ k. HunkSoFar bytes c.push.new.self.items (c.reading.has_content || k) (c.reading.at + c.in-Ok.read.1) in
     subst R (sym c.is_content-has_content.ensures)
-    (subst Q (sym pushed) (block_added bytes c.reading.blocks.items c.reading.has_content c.reading.at c.reading.invariant c.in-Ok.read.0 c.in-Ok.read.1 here c.in-Ok.ensures.place (sym c.if-ended.ensures)))
+    (subst Q (sym pushed) (block_added bytes c.reading.blocks.items c.reading.has_content c.reading.at c.reading.invariant c.in-Ok.read.0 c.in-Ok.read.1 here c.in-Ok.ensures.place (sym c.if-hunk_ends.ensures)))
+
+pub returns-in-Err-clause-fault : goal.returns-in-Err-clause-fault
+returns-in-Err-clause-fault c no_unit ne =
+    let bytes : List ℕ = c.args.bytes.now in
+    let at : ℕ = c.reading.at in
+    let place = place_behind BetweenHunks c.reading.blocks.items in
+    let P : List ℕ → Type 0 = λ rest. MayGoOn place c.reading.has_content rest → FaultAhead (blocks_from place) (unread rest) c.in-Err.fault in
+    let here = subst P (take_rest bytes at) (λ may. c.in-Err.ensures.fault place may (λ e. ne (c.counted_from.ensures.reason ∙ e))) (may_go_on c.reading.blocks.items c.reading.has_content bytes at c.reading.invariant no_unit) in
+    let inside = fault_inside (blocks_from place) (drop at bytes) c.in-Err.fault here in
+    hunk_ahead bytes c.reading.blocks.items c.reading.has_content at c.in-Err.fault c.counted_from.result c.reading.invariant (c.counted_from.ensures.place (omega (arith, inside, length-drop at bytes, c.reading.invariant.text.whole))) c.counted_from.ensures.reason here

@@ -1,12 +1,17 @@
-use Rattle.std.proofs.Common.{◌≡◌, ◌+◌, ◌∙◌, List, [], ◌∷◌, ◌++◌, ℕ, arith, rules, sym, subst, drop}
-use Rattle.std.proofs.lemmas.List.{take_rest}
+use Rattle.std.proofs.Common.{◌≢◌, ◌≡◌, ◌+◌, ◌∙◌, List, [], ◌∷◌, ◌++◌, ℕ, arith, rules, sym, subst, drop}
+use Rattle.std.proofs.lemmas.List.{take_rest, length-drop}
 use Rattle.std.specs.List.{flat_map}
 use Rattle.hunk_words.specs.Longs.{longs}
 use Rattle.hunk_blocks.specs.Parts.{block_text}
 use Rattle.hunk_blocks.specs.Reading.{BeginsWithNo}
-use Rattle.hunk_files.specs.ObjectFile.{ObjectHunk, IsObjectHunk}
+use Rattle.hunk_files.specs.ObjectFile.{ObjectHunk, IsObjectHunk, unit_word}
 use Rattle.hunk_files.specs.ObjectParts.{BeginsWithText, EndsUnit}
 use Rattle.hunk_files.proofs.UnitReading.{UnitSoFar, unit, hunk_added, no_object, no_object_header, hunk_goes_on}
+use Rattle.hunk_blocks.specs.Begins.{first_long}
+use Rattle.hunk_blocks.specs.Faults.{FaultAhead}
+use Rattle.hunk_files.specs.ObjectFault.{BetweenHunks, blocks_from, unread}
+use Rattle.hunk_files.proofs.HunkFaults.{fault_inside}
+use Rattle.hunk_files.proofs.UnitFaults.{no_unit_here, unit_ahead}
 use Rattle.hunk_files.proofs.object.walk.read_unit.Goals as goal
 
 pub returns-in-Err-clause-none : goal.returns-in-Err-clause-none
@@ -38,3 +43,15 @@ reading-preserved c =
     let here = subst P (take_rest bytes c.reading.at) c.in-Ok-read_hunk.ensures.text in
     let Q : List ObjectHunk → Type 0 = λ hs. UnitSoFar bytes (unit (longs c.in-Ok.read.0) hs) (c.reading.at + c.in-Ok-read_hunk.read.1) in
     subst Q (sym pushed) (hunk_added bytes (longs c.in-Ok.read.0) c.reading.hunks.items c.reading.at c.reading.invariant c.in-Ok-read_hunk.read.0.items c.in-Ok-read_hunk.read.1 c.in-Ok-read_hunk.ensures.hunk here)
+
+pub returns-in-Err-read_hunk-clause-fault : goal.returns-in-Err-read_hunk-clause-fault
+returns-in-Err-read_hunk-clause-fault c place may ne =
+    let bytes : List ℕ = c.args.bytes.now in
+    let at : ℕ = c.reading.at in
+    let P : List ℕ → Type 0 = λ rest. EndsUnit rest → ⊥ in
+    let goes_on : EndsUnit (drop at bytes) → ⊥ = subst P (take_rest bytes at) (λ ends. let there = c.ends_unit.ensures.1 ends in let not_there = c.reading-test.true in cc) in
+    let Q : List ℕ → Type 0 = λ rest. first_long rest ≢ unit_word → FaultAhead (blocks_from BetweenHunks) (unread rest) c.in-Err-read_hunk.fault in
+    let here = subst Q (take_rest bytes at) (λ other. c.in-Err-read_hunk.ensures.fault other (λ e. ne (c.counted_from.ensures.reason ∙ e))) (no_unit_here (drop at bytes) goes_on) in
+    let inside = fault_inside (blocks_from BetweenHunks) (drop at bytes) c.in-Err-read_hunk.fault here in
+    unit_ahead place bytes (unit (longs c.in-Ok.read.0) c.reading.hunks.items) at c.in-Err-read_hunk.fault c.counted_from.result c.reading.invariant
+    (c.counted_from.ensures.place (omega (arith, inside, length-drop at bytes, c.reading.invariant.text.whole))) c.counted_from.ensures.reason here

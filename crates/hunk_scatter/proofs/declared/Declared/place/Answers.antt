@@ -1,7 +1,10 @@
-use Rattle.std.proofs.Common.{List, length, None, refl, sym, ap, subst, ◌∙◌}
+use Rattle.std.proofs.Common.{◌≡◌, ℕ, List, [], length, arith, None, refl, sym, ap, subst, ◌∙◌}
 use Rattle.hunk_files.specs.declared.row.Row.{Row}
-use Rattle.hunk_scatter.specs.Loading.{IsLoading}
-use Rattle.hunk_scatter.specs.Rows.{entries_of}
+use Rattle.hunk_scatter.specs.BodyLoaderFields.{BodyLoaderInvariant}
+use Rattle.std.proofs.lemmas.List.{length-map}
+use Rattle.hunk_scan.specs.Positions.{close}
+use Rattle.hunk_scatter.specs.BodyReader.{state_at}
+use Rattle.hunk_scatter.specs.Rows.{entry_of, entries_of}
 use Rattle.hunk_scatter.proofs.BodyFields.{loading_as}
 use Rattle.hunk_scatter.proofs.Starting.{placed_loading, written_rows}
 use Rattle.hunk_scatter.proofs.declared.Declared.place.Goals as goal
@@ -12,7 +15,9 @@ invariant_of-result g c =
     (sym c.as_mut_slice.ensures.len ∙ ap length c.as_mut_slice.ensures.value)
     (c.place_rows.auto.rows ∙ ap length c.as_mut_slice.ensures.value) in
     let entries = c.in_default.ensures.entries ∙ ap entries_of c.as_mut_slice.ensures.value in
-    subst (λ (rs : List Row). IsLoading rs c.in-Ok.store.items c.start.result c.new.result c.table.inside.count None c.table.inside.history.bytes) (sym rows)
-    (loading_as _ _ _ _ _ _ _ _ _ _ _ refl c.start.ensures c.new.ensures refl
+    let hunks : c.len.result ≡ length (entries_of c.place_rows.new.rows) =
+    omega (arith, c.len.ensures, ap length rows, length-map c.place_rows.new.rows entry_of) in
+    subst (λ (rs : List Row). BodyLoaderInvariant rs c.in-Ok.store.items c.start.result c.new.result c.table.inside.count None c.table.inside.history.bytes) (sym rows)
+    (loading_as _ _ _ _ _ _ _ _ _ _ _ refl (c.start.ensures ∙ ap (λ (n : ℕ). state_at [] (close n n)) hunks) c.new.ensures refl
     (placed_loading c.table.inside.rows.items c.place_rows.new.rows c.table.inside.total c.table.inside.budget c.table.inside.count c.table.inside.history.bytes c.in-Ok.store.items
     c.table.invariant entries c.in-Ok.ensures))

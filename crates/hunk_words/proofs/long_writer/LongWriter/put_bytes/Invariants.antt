@@ -5,6 +5,7 @@ use Rattle.hunk_words.proofs.long_writer.LongWriter.put_bytes.Given as goal
 abbrev pub invariant-loop-rest : goal.invariant-loop-rest
 invariant-loop-rest g l =
     (l.self-inside.stopped ≡ false)
+    × (g.W.Sink.failed l.self-inside.sink ≡ g.W.Sink.failed l.fn.self.sink)
     × PutsBefore (g.W.Sink.taken l.fn.self.sink) (g.W.Sink.taken l.self-inside.sink) l.fn.self.written l.self-inside.written l.bytes l.rest
 
 abbrev pub decreases-loop-rest : goal.decreases-loop-rest

@@ -1,7 +1,7 @@
 use Rattle.std.proofs.Common.{◌≢◌, ◌∙◌, sym, inl, inr}
 use Rattle.hunk_words.specs.Longs.{longs}
-use Rattle.hunk_files.specs.declared.file_kind.Sniff.TheVariants.{Object}
-use Rattle.hunk_files.specs.FileKind.{sniffed}
+use Rattle.hunk_scan.specs.declared.file_kind.Sniff.TheVariants.{Object}
+use Rattle.hunk_scan.specs.FileKind.{sniffed}
 use Rattle.hunkinfo.proofs.FileLaws.{none_load, none_object, refused_load}
 use Rattle.hunkinfo.proofs.hunk_file.HunkFile.decode.Goals as goal
 

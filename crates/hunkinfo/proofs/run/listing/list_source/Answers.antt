@@ -16,9 +16,9 @@ use Rattle.hunkinfo.proofs.run.listing.list_source.Goals as goal
 lists_where_done : {W : Type 0} (taken : W → Option (List ℕ)) (old new : Writing W) (listing : Listing) (hex : Bool) (a b c d : Option (List ℕ)) (given bytes : List ℕ)
     (result : Result ℕ RunFault) → hex ≡ true → Consumes a b given → IsAtEnd b → Spells given bytes → c ≡ Some bytes →
     IfOk result (λ status. status ≡ 0 → ListsSource false listing c d taken old new) → IfOk result (λ status. status ≡ 0 → ListsSource hex listing a b taken old new)
-lists_where_done taken old new listing hex a b c d given bytes (Ok status) is consumed ended spells known lists =
-    λ done. subst (λ (h : Bool). ListsSource h listing a b taken old new) (sym is) (lists_text taken old new listing a b c d given bytes consumed ended spells known (lists done))
-lists_where_done taken old new listing hex a b c d given bytes (Err fault) is consumed ended spells known lists = tt
+lists_where_done taken old new listing hex a b c d given bytes (Ok status) is consumed at_end spells known lists =
+    λ done. subst (λ (h : Bool). ListsSource h listing a b taken old new) (sym is) (lists_text taken old new listing a b c d given bytes consumed at_end spells known (lists done))
+lists_where_done taken old new listing hex a b c d given bytes (Err fault) is consumed at_end spells known lists = tt
 
 pub returns-clause-done : goal.returns-clause-done
 returns-clause-done g c =
@@ -27,20 +27,20 @@ returns-clause-done g c =
     let spells : Spells c.in_ok-text.text.items bytes = subst (λ (xs : List ℕ). Spells xs bytes) c.as_slice.ensures.value c.in_ok-bytes.ensures.spelled in
     let known = ap {B = Option (List ℕ)} (λ (xs : List ℕ). Some xs) (c.new.ensures ∙ c.as_slice-2.ensures.value) in
     lists_where_done g.W.Sink.taken c.args.out.now c.list_bytes-2.new.out c.args.listing c.args.hex _ _ _ _ c.in_ok-text.text.items bytes _
-    hex c.in_ok-text.ensures.given c.in_ok-text.ensures.ended spells known c.list_bytes-2.ensures.done
+    hex c.in_ok-text.ensures.given c.in_ok-text.ensures.at_end spells known c.list_bytes-2.ensures.done
 
 -- where the bytes are refused, the text that spells them is
 refused_where : (listing : Listing) (hex : Bool) (a b c d : Option (List ℕ)) (given bytes : List ℕ) (most : ℕ) (failed : Bool) (result : Result ℕ RunFault) →
     hex ≡ true → Consumes a b given → IsAtEnd b → Spells given bytes → c ≡ Some bytes →
     IfErr result (λ fault. (refusal : Fault) → fault ≡ Refused refusal → RefusesListing listing refusal c d most false) →
     IfErr result (λ fault. (refusal : Fault) → fault ≡ Refused refusal → RefusesSource hex listing refusal a b most failed)
-refused_where listing hex a b c d given bytes most failed (Ok status) is consumed ended spells known refuses = tt
-refused_where listing hex a b c d given bytes most failed (Err fault) is consumed ended spells known refuses =
+refused_where listing hex a b c d given bytes most failed (Ok status) is consumed at_end spells known refuses = tt
+refused_where listing hex a b c d given bytes most failed (Err fault) is consumed at_end spells known refuses =
     λ refusal same. subst (λ (h : Bool). RefusesSource h listing refusal a b most failed) (sym is)
     (inr (record {
       text = given;
       consumed = consumed;
-      at_end = ended;
+      at_end = at_end;
       bytes = bytes;
       spells = spells;
       left = d;
@@ -54,4 +54,4 @@ returns-clause-refused g c =
     let spells : Spells c.in_ok-text.text.items bytes = subst (λ (xs : List ℕ). Spells xs bytes) c.as_slice.ensures.value c.in_ok-bytes.ensures.spelled in
     let known = ap {B = Option (List ℕ)} (λ (xs : List ℕ). Some xs) (c.new.ensures ∙ c.as_slice-2.ensures.value) in
     refused_where c.args.listing c.args.hex _ _ _ _ c.in_ok-text.text.items bytes _ _ _
-    hex c.in_ok-text.ensures.given c.in_ok-text.ensures.ended spells known c.list_bytes-2.ensures.refused
+    hex c.in_ok-text.ensures.given c.in_ok-text.ensures.at_end spells known c.list_bytes-2.ensures.refused

@@ -1,6 +1,7 @@
 use Rattle.std.proofs.Common.{◌≡◌, ◌∙◌, ◌*◌, refl, ap, sym, true, false, arith}
 use Rattle.hunk_blocks.specs.Values.{BlockBody}
-use Rattle.hunk_files.specs.LoadFile.{is_content, standing}
+use Rattle.hunk_files.specs.LoadFile.{standing}
+use Rattle.hunk_scan.specs.Standings.{is_content}
 use Rattle.hunk_files.specs.Findings.{content_longs}
 use Rattle.hunkinfo.proofs.Contents.{found_content, none_open, still_open}
 use Rattle.hunkinfo.proofs.show.object.hunk_bytes.Goals as goal

@@ -14,7 +14,7 @@ put_long-requires g c =
 pub returns-in_err-put_long-clause-puts : goal.returns-in_err-put_long-clause-puts
 returns-in_err-put_long-clause-puts g c =
     (stops_first (bytes_of (after_first c.args.self.now)) (first_split c.args.self.now)
-    (long_writes g.W.Sink.taken g.W.Sink.failed c.args.writer.now c.put_long.new.self c.put_long.result 0x3F3 c.put_long.ensures.puts c.put_long.ensures.whole c.put_long.ensures.told c.put_long.ensures.failed c.put_long.ensures.stops c.put_long.ensures.stays)
+    (long_writes g.W.Sink.taken g.W.Sink.failed c.args.writer.now c.put_long.new.self c.put_long.result 0x3F3 c.put_long.ensures.puts c.put_long.ensures.whole c.put_long.ensures.told c.put_long.ensures.failed c.put_long.ensures.stops c.put_long.ensures.stays c.put_long.ensures.quiet)
     c.in_err-put_long.was c.from_residual.ensures.1).puts
 
 pub put_behind-requires-clause-room : goal.put_behind-requires-clause-room
@@ -32,11 +32,11 @@ put_behind-requires-clause-room g c =
 pub returns-clause-puts : goal.returns-clause-puts
 returns-clause-puts g c =
     (writes_two (text_split c.self.inside.hunks.items c.deref.result.now c.args.self.now c.self.view_is c.deref.ensures.value)
-    (long_writes g.W.Sink.taken g.W.Sink.failed c.args.writer.now c.put_long.new.self c.put_long.result 0x3F3 c.put_long.ensures.puts c.put_long.ensures.whole c.put_long.ensures.told c.put_long.ensures.failed c.put_long.ensures.stops c.put_long.ensures.stays)
+    (long_writes g.W.Sink.taken g.W.Sink.failed c.args.writer.now c.put_long.new.self c.put_long.result 0x3F3 c.put_long.ensures.puts c.put_long.ensures.whole c.put_long.ensures.told c.put_long.ensures.failed c.put_long.ensures.stops c.put_long.ensures.stays c.put_long.ensures.quiet)
     c.in_ok-put_long.was c.put_behind.ensures).puts
 
 pub returns-clause-whole : goal.returns-clause-whole
 returns-clause-whole g c =
     (writes_two (text_split c.self.inside.hunks.items c.deref.result.now c.args.self.now c.self.view_is c.deref.ensures.value)
-    (long_writes g.W.Sink.taken g.W.Sink.failed c.args.writer.now c.put_long.new.self c.put_long.result 0x3F3 c.put_long.ensures.puts c.put_long.ensures.whole c.put_long.ensures.told c.put_long.ensures.failed c.put_long.ensures.stops c.put_long.ensures.stays)
+    (long_writes g.W.Sink.taken g.W.Sink.failed c.args.writer.now c.put_long.new.self c.put_long.result 0x3F3 c.put_long.ensures.puts c.put_long.ensures.whole c.put_long.ensures.told c.put_long.ensures.failed c.put_long.ensures.stops c.put_long.ensures.stays c.put_long.ensures.quiet)
     c.in_ok-put_long.was c.put_behind.ensures).whole

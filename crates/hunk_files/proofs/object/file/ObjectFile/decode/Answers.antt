@@ -1,9 +1,13 @@
 use Rattle.std.proofs.Common.{◌≡◌, ◌+◌, ◌∙◌, List, [], ◌∷◌, ◌++◌, ℕ, arith, rules, sym, subst, drop}
-use Rattle.std.proofs.lemmas.List.{take_rest}
+use Rattle.std.proofs.lemmas.List.{take_rest, length-drop}
 use Rattle.hunk_words.specs.Longs.{bytes_of}
 use Rattle.hunk_files.specs.ObjectFile.{IsNoObjectFile, ObjectFileValue, unit_text, object_text}
 use Rattle.hunk_files.specs.ObjectParts.{BeginsWithText, EndsUnit}
 use Rattle.hunk_files.proofs.UnitReading.{UnitsSoFar, no_units, no_more_units, unit_added, unit_goes_on, units_inside, all_text}
+use Rattle.hunk_blocks.specs.Faults.{FaultAhead}
+use Rattle.hunk_files.specs.ObjectFault.{MayBegin, units_from, unread}
+use Rattle.hunk_files.proofs.HunkFaults.{fault_inside}
+use Rattle.hunk_files.proofs.UnitFaults.{may_begin, object_fault, place_after, units_ahead}
 use Rattle.hunk_files.proofs.object.file.ObjectFile.decode.Goals as goal
 
 pub reading-init : goal.reading-init
@@ -44,3 +48,14 @@ reading-preserved c =
     let ends = subst R (take_rest bytes c.reading.at) c.in-Ok.ensures.end in
     let Q : ObjectFileValue → Type 0 = λ us. UnitsSoFar bytes us (c.reading.at + c.in-Ok.read.1) in
     subst Q (sym pushed) (unit_added bytes c.reading.units.items c.reading.at c.reading.invariant c.in-Ok.read.0 c.in-Ok.read.1 c.in-Ok.ensures.unit here ends c.if-at-bytes.false)
+
+pub returns-in-Err-clause-fault : goal.returns-in-Err-clause-fault
+returns-in-Err-clause-fault c ne =
+    let bytes : List ℕ = c.args.bytes.now in
+    let at : ℕ = c.reading.at in
+    let us : ObjectFileValue = c.reading.units.items in
+    let P : List ℕ → Type 0 = λ rest. MayBegin (place_after us) rest → FaultAhead (units_from (place_after us)) (unread rest) c.in-Err.fault in
+    let here = subst P (take_rest bytes at) (λ may. c.in-Err.ensures.fault (place_after us) may (λ e. ne (c.counted_from.ensures.reason ∙ e))) (may_begin bytes us at c.reading.invariant) in
+    let inside = fault_inside (units_from (place_after us)) (drop at bytes) c.in-Err.fault here in
+    object_fault bytes c.counted_from.result (returns-in-Err-clause-none c ne)
+    (units_ahead bytes us at c.in-Err.fault c.counted_from.result c.reading.invariant (c.counted_from.ensures.place (omega (arith, inside, length-drop at bytes, c.reading.invariant.text.whole))) c.counted_from.ensures.reason here)

@@ -1,0 +1,8 @@
+use Rattle.hunk_blocks.proofs.OneBlockFault.{one_fault, no_block}
+use Rattle.hunk_blocks.proofs.laws.block_fault.Goals as goal
+
+pub returns-clause-one : goal.returns-clause-one
+returns-clause-one c = one_fault
+
+pub returns-clause-none : goal.returns-clause-none
+returns-clause-none c = no_block

@@ -1,0 +1,77 @@
+-- What was read of a load file, in numbers alone: the position of its reader.
+use Rattle.std.specs.Prelude.{ℕ, suc, ◌+◌, List, [], ◌∷◌, ◌++◌, length}
+use Rattle.hunk_words.specs.Bits.{size_longs}
+use Rattle.hunk_blocks.specs.Values.{BlockValue}
+use Rattle.hunk_blocks.specs.BlockSteps.{ForName, ForDebug, ForAdvisory, ForCode, ForData, ForBss, Counted, SizedCode, SizedData, Inside, AtCount, AtSize, InPayload, AtGroup, AtTarget, InOffsets, AtEntry, InName, AtValue}
+use Rattle.hunk_scan.specs.declared.phase.OpenHunk as numbers
+use Rattle.hunk_scan.specs.declared.phase.Phase.{Phase}
+use Rattle.hunk_scan.specs.declared.phase.Phase.TheVariants as phases
+use Rattle.hunk_scan.specs.declared.position.Position.{Position}
+use Rattle.hunk_scan.specs.declared.position.Position.TheVariants as positions
+use Rattle.hunk_files.specs.LoadFile.{TableEntry}
+use Rattle.hunk_files.specs.LoadText.{entries}
+use Rattle.hunk_files.specs.FileSteps.{OpenHunk, Progress, AtFirst, AtResident, AtTableSize, AtFirstHunk, AtLastHunk, AtSizeWord, AtAttributes, AtBlock, InBody, Next, More, Finished}
+
+abbrev pub open_of : OpenHunk → numbers.OpenHunk
+open_of o = record { hunks = o.hunks; ahead = length o.ahead; has_content = o.has_content }
+
+-- behind these blocks of a hunk
+abbrev pub block_phase : List BlockValue → Phase
+block_phase [] = phases.FirstBlock
+block_phase (b ∷ blocks) = phases.BlockWord
+
+abbrev pub phase_of : Inside → Phase
+phase_of (AtCount ForName) = phases.NameCount
+phase_of (AtCount ForDebug) = phases.LongCount
+phase_of (AtCount ForAdvisory) = phases.LongCount
+phase_of (AtSize ForCode) = phases.ContentSize
+phase_of (AtSize ForData) = phases.ContentSize
+phase_of (AtSize ForBss) = phases.BssSize
+phase_of (InPayload (Counted c) done owed) = phases.Payload owed
+phase_of (InPayload (SizedCode top) done owed) = phases.Content (length done + suc owed) owed
+phase_of (InPayload (SizedData top) done owed) = phases.Content (length done + suc owed) owed
+phase_of (AtGroup groups) = phases.GroupCount
+phase_of (AtTarget groups owed) = phases.Target owed
+phase_of (InOffsets groups target done owed) = phases.Offset target owed
+phase_of (AtEntry es) = phases.EntryWord
+phase_of (InName es word done owed) = phases.Symbol (suc owed)
+phase_of (AtValue es word name) = phases.Symbol 0
+-- nothing is external in a load file
+phase_of _ = phases.BlockWord
+
+-- The position behind what was read.
+abbrev pub position_of : Next → Position
+position_of (More AtFirst) = positions.FirstLong
+position_of (More AtResident) = positions.ResidentName
+position_of (More AtTableSize) = positions.TableSize
+position_of (More (AtFirstHunk hunks)) = positions.FirstHunk hunks
+position_of (More (AtLastHunk hunks)) = positions.LastHunk hunks
+position_of (More (AtSizeWord hunks done owed)) = positions.SizeWord hunks owed
+position_of (More (AtAttributes hunks done word owed)) = positions.Attributes hunks word owed
+position_of (More (AtBlock o)) = positions.Body (open_of o) (block_phase o.blocks)
+position_of (More (InBody o word x)) = positions.Body (open_of o) (phase_of x)
+position_of (Finished v) = positions.Done
+
+-- the longs that the open hunk declares
+abbrev pub longs_of : Progress → ℕ
+longs_of (AtBlock o) = size_longs o.entry.word
+longs_of (InBody o word x) = size_longs o.entry.word
+longs_of _ = 0
+
+-- the entries of the hunks that were opened
+abbrev pub opened : Progress → List TableEntry
+opened (AtBlock o) = entries o.finished ++ o.entry ∷ []
+opened (InBody o word x) = entries o.finished ++ o.entry ∷ []
+opened _ = []
+
+abbrev pub open_table : OpenHunk → List TableEntry
+open_table o = entries o.finished ++ o.entry ∷ o.ahead
+
+-- the table, as far as it was read
+abbrev pub table_of : Next → List TableEntry
+table_of (More (AtSizeWord hunks done owed)) = done
+table_of (More (AtAttributes hunks done word owed)) = done
+table_of (More (AtBlock o)) = open_table o
+table_of (More (InBody o word x)) = open_table o
+table_of (Finished v) = entries v
+table_of _ = []

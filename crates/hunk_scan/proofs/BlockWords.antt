@@ -1,0 +1,60 @@
+-- A block word of a load file is refused wherever its block stands, or else for its place in the hunk.
+use Rattle.std.proofs.Common.{◌≡◌, ℕ, Bool, true, false, refl, Option, Some, None, ap, if◌then◌else◌}
+use Rattle.hunk_words.specs.declared.block_word.Kind.{Kind}
+use Rattle.hunk_words.specs.declared.block_word.Kind.TheVariants as kinds
+use Rattle.hunk_words.specs.declared.reason.Reason.{Reason}
+use Rattle.hunk_words.specs.declared.reason.Reason.TheVariants as reasons
+use Rattle.hunk_words.specs.Bits.{has_both_bits, is_advisory, kind}
+use Rattle.hunk_blocks.specs.declared.mode.Mode.TheVariants as modes
+use Rattle.hunk_blocks.specs.Modes.{refuse_alone_kind, refuse_alone_word}
+use Rattle.hunk_scan.specs.Roles.{refuse_kind, refuse_word}
+use Rattle.hunk_scan.specs.Standings.{first_of, refuse_standing, standing_of_kind}
+
+pub kind_split : (has_content advisory : Bool) (k : Kind) →
+    refuse_kind has_content advisory k ≡ first_of (refuse_alone_kind modes.Load advisory k) (refuse_standing has_content (standing_of_kind k))
+kind_split c a kinds.Unit = refl
+kind_split true a kinds.Name = refl
+kind_split false a kinds.Name = refl
+kind_split true a kinds.Code = refl
+kind_split false a kinds.Code = refl
+kind_split true a kinds.Data = refl
+kind_split false a kinds.Data = refl
+kind_split true a kinds.Bss = refl
+kind_split false a kinds.Bss = refl
+kind_split true a kinds.Reloc32 = refl
+kind_split false a kinds.Reloc32 = refl
+kind_split c a kinds.Reloc16 = refl
+kind_split c a kinds.Reloc8 = refl
+kind_split c a kinds.Ext = refl
+kind_split true a kinds.Symbol = refl
+kind_split false a kinds.Symbol = refl
+kind_split true a kinds.Debug = refl
+kind_split false a kinds.Debug = refl
+kind_split true a kinds.End = refl
+kind_split false a kinds.End = refl
+kind_split c a kinds.Header = refl
+kind_split c a kinds.Overlay = refl
+kind_split c a kinds.Break = refl
+kind_split c a kinds.Drel32 = refl
+kind_split c a kinds.Drel16 = refl
+kind_split c a kinds.Drel8 = refl
+kind_split c a kinds.Lib = refl
+kind_split c a kinds.Index = refl
+kind_split c a kinds.Reloc32Short = refl
+kind_split c a kinds.RelReloc32 = refl
+kind_split c a kinds.AbsReloc16 = refl
+kind_split true true (kinds.Unknown n) = refl
+kind_split false true (kinds.Unknown n) = refl
+kind_split true false (kinds.Unknown n) = refl
+kind_split false false (kinds.Unknown n) = refl
+
+-- The test of a block word of a load file, by its two parts.
+pub word_split : (has_content : Bool) (w : ℕ) →
+    refuse_word has_content w ≡ first_of (refuse_alone_word modes.Load w) (refuse_standing has_content (standing_of_kind (kind w)))
+word_split c w = go (has_both_bits w)
+  where
+    go : (b : Bool) →
+        (if b then Some reasons.BothBits else refuse_kind c (is_advisory w) (kind w))
+        ≡ first_of (if b then Some reasons.BothBits else refuse_alone_kind modes.Load (is_advisory w) (kind w)) (refuse_standing c (standing_of_kind (kind w)))
+    go true = refl
+    go false = kind_split c (is_advisory w) (kind w)

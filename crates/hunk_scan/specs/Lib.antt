@@ -1,0 +1,4 @@
+pub mod FileKind
+pub mod Positions
+pub mod Roles
+pub mod Standings

@@ -1,0 +1,203 @@
+-- Where a reader of a load file stands, in numbers alone: what the next longword is for, and what it leads to.
+use Rattle.std.specs.Prelude.{ℕ, zero, suc, ◌+◌, ◌-◌, ◌*◌, ◌%◌, ◌^◌, Bool, true, false, if◌then◌else◌}
+use Rattle.hunk_words.specs.declared.block_word.Kind.{Kind}
+use Rattle.hunk_words.specs.declared.block_word.Kind.TheVariants as kinds
+use Rattle.hunk_words.specs.Bits.{has_both_bits, kind}
+use Rattle.hunk_blocks.specs.Parts.{Part, Part as parts}
+use Rattle.hunk_scan.specs.declared.phase.OpenHunk.{OpenHunk}
+use Rattle.hunk_scan.specs.declared.phase.Phase.{Phase}
+use Rattle.hunk_scan.specs.declared.phase.Phase.TheVariants as phases
+use Rattle.hunk_scan.specs.declared.position.Position.{Position}
+use Rattle.hunk_scan.specs.declared.position.Position.TheVariants as positions
+use Rattle.hunk_scan.specs.Roles.{Place, Role, Role as roles, InBlock}
+
+-- ---- roles
+
+abbrev pub place : ℕ → OpenHunk → Place
+place longs o = record { hunks = o.hunks; longs = longs; has_content = o.has_content }
+
+abbrev pub part_at : Phase → Part
+part_at phases.FirstBlock = parts.BlockWord
+part_at phases.BlockWord = parts.BlockWord
+part_at phases.NameCount = parts.NameCount
+part_at phases.LongCount = parts.LongCount
+part_at phases.ContentSize = parts.ContentSize
+part_at phases.BssSize = parts.ContentSize
+part_at (phases.Content longs owed) = parts.Payload
+part_at (phases.Payload owed) = parts.Payload
+part_at phases.GroupCount = parts.GroupCount
+part_at (phases.Target owed) = parts.Target
+part_at (phases.Offset target owed) = parts.Offset
+part_at phases.EntryWord = parts.EntryWord
+part_at (phases.Symbol owed) = parts.EntryName
+
+-- The role of the next longword, where the open hunk declares so many longs. Behind the end nothing is refused.
+abbrev pub role_at : ℕ → Position → Role
+role_at longs positions.FirstLong = roles.FirstLong
+role_at longs positions.ResidentName = roles.ResidentName
+role_at longs positions.TableSize = roles.TableSize
+role_at longs (positions.FirstHunk hunks) = roles.FirstHunk
+role_at longs (positions.LastHunk hunks) = roles.LastHunk hunks
+role_at longs (positions.SizeWord hunks owed) = roles.SizeWord
+role_at longs (positions.Attributes hunks word owed) = roles.Attributes
+role_at longs (positions.Body o phase) = InBlock (place longs o) (part_at phase)
+role_at longs positions.Done = roles.SizeWord
+
+-- ---- steps
+
+abbrev pub at : OpenHunk → Phase → Position
+at o phase = positions.Body o phase
+
+abbrev pub with_content : OpenHunk → OpenHunk
+with_content o = record { hunks = o.hunks; ahead = o.ahead; has_content = true }
+
+-- so many hunks are left
+abbrev pub close : ℕ → ℕ → Position
+close hunks zero = positions.Done
+close hunks (suc ahead) = positions.Body (record { hunks = hunks; ahead = ahead; has_content = false }) phases.FirstBlock
+
+-- so many entries of the table are owed
+abbrev pub entries : ℕ → ℕ → Position
+entries hunks zero = close hunks hunks
+entries hunks (suc owed) = positions.SizeWord hunks owed
+
+-- the kinds that are refused do not matter
+abbrev pub begin : OpenHunk → Kind → Position
+begin o kinds.Name = at o phases.NameCount
+begin o kinds.Code = at o phases.ContentSize
+begin o kinds.Data = at o phases.ContentSize
+begin o kinds.Bss = at o phases.BssSize
+begin o kinds.Reloc32 = at o phases.GroupCount
+begin o kinds.Symbol = at o phases.EntryWord
+begin o kinds.Debug = at o phases.LongCount
+begin o (kinds.Unknown n) = at o phases.LongCount
+begin o _ = close o.hunks o.ahead
+
+-- so many longwords of the kind are owed
+abbrev pub content : OpenHunk → ℕ → ℕ → Position
+content o longs zero = at (with_content o) phases.BlockWord
+content o longs (suc owed) = at o (phases.Content longs owed)
+
+abbrev pub payload : OpenHunk → ℕ → Position
+payload o zero = at o phases.BlockWord
+payload o (suc owed) = at o (phases.Payload owed)
+
+abbrev pub groups : OpenHunk → ℕ → Position
+groups o zero = at o phases.BlockWord
+groups o (suc owed) = at o (phases.Target owed)
+
+abbrev pub offsets : OpenHunk → ℕ → ℕ → Position
+offsets o target zero = at o phases.GroupCount
+offsets o target (suc owed) = at o (phases.Offset target owed)
+
+abbrev pub symbol : OpenHunk → ℕ → Position
+symbol o zero = at o phases.EntryWord
+symbol o (suc owed) = at o (phases.Symbol owed)
+
+-- The name, and the value behind it; a word of 0 ends the entries.
+abbrev pub symbols : OpenHunk → ℕ → Position
+symbols o zero = at o phases.BlockWord
+symbols o (suc w) = symbol o (suc (suc w % 2 ^ 24))
+
+abbrev pub step_in : OpenHunk → Phase → ℕ → Position
+step_in o phases.FirstBlock w = begin o (kind w)
+step_in o phases.BlockWord w = begin o (kind w)
+step_in o phases.NameCount w = payload o w
+step_in o phases.LongCount w = payload o w
+step_in o phases.ContentSize w = content o (w % 2 ^ 30) (w % 2 ^ 30)
+step_in o phases.BssSize w = at (with_content o) phases.BlockWord
+step_in o (phases.Content longs owed) w = content o longs owed
+step_in o (phases.Payload owed) w = payload o owed
+step_in o phases.GroupCount w = groups o w
+step_in o (phases.Target owed) w = at o (phases.Offset w owed)
+step_in o (phases.Offset target owed) w = offsets o target owed
+step_in o phases.EntryWord w = symbols o w
+step_in o (phases.Symbol owed) w = symbol o owed
+
+-- Behind a longword that is not refused.
+abbrev pub step : Position → ℕ → Position
+step positions.FirstLong w = positions.ResidentName
+step positions.ResidentName w = positions.TableSize
+step positions.TableSize w = positions.FirstHunk w
+step (positions.FirstHunk hunks) w = positions.LastHunk hunks
+step (positions.LastHunk hunks) w = entries hunks hunks
+step (positions.SizeWord hunks owed) w = if has_both_bits w then positions.Attributes hunks w owed else entries hunks owed
+step (positions.Attributes hunks word owed) w = entries hunks owed
+step (positions.Body o phase) w = step_in o phase w
+step positions.Done w = positions.Done
+
+-- the file is whole
+abbrev pub is_done : Position → Bool
+is_done positions.Done = true
+is_done _ = false
+
+-- the header is whole
+abbrev pub is_behind_header : Position → Bool
+is_behind_header (positions.Body o phase) = true
+is_behind_header positions.Done = true
+is_behind_header _ = false
+
+-- No hunk is open any more: the next opens here, or the file is whole.
+abbrev pub is_between_hunks : Position → Bool
+is_between_hunks (positions.Body o phases.FirstBlock) = true
+is_between_hunks positions.Done = true
+is_between_hunks _ = false
+
+-- ---- runs
+
+-- so many longwords come at least that no test looks at
+abbrev pub run_in : Phase → ℕ
+run_in (phases.Content longs owed) = suc owed
+run_in (phases.Payload owed) = suc owed
+run_in (phases.Symbol owed) = suc owed
+run_in _ = 0
+
+abbrev pub run : Position → ℕ
+run (positions.Body o phase) = run_in phase
+run _ = 0
+
+-- behind one longword of a run and so many more
+abbrev pub pass_in : OpenHunk → Phase → ℕ → Position
+pass_in o (phases.Content longs owed) n = content o longs (owed - n)
+pass_in o (phases.Payload owed) n = payload o (owed - n)
+pass_in o (phases.Symbol owed) n = symbol o (owed - n)
+pass_in o phase n = at o phase
+
+abbrev pub pass : Position → ℕ → Position
+pass p zero = p
+pass (positions.Body o phase) (suc n) = pass_in o phase n
+pass p (suc n) = p
+
+-- ---- the least number of longwords
+
+-- up to the END of the hunk
+abbrev pub end_least : Bool → ℕ
+end_least true = 1
+end_least false = 3
+
+abbrev pub least_in : OpenHunk → Phase → ℕ
+least_in o phases.FirstBlock = end_least o.has_content + 3 * o.ahead
+least_in o phases.BlockWord = end_least o.has_content + 3 * o.ahead
+least_in o phases.NameCount = 1 + end_least o.has_content + 3 * o.ahead
+least_in o phases.LongCount = 1 + end_least o.has_content + 3 * o.ahead
+least_in o phases.ContentSize = 2 + 3 * o.ahead
+least_in o phases.BssSize = 2 + 3 * o.ahead
+least_in o (phases.Content longs owed) = owed + 2 + 3 * o.ahead
+least_in o (phases.Payload owed) = owed + 1 + end_least o.has_content + 3 * o.ahead
+least_in o phases.GroupCount = 1 + end_least o.has_content + 3 * o.ahead
+least_in o (phases.Target owed) = owed + 3 + end_least o.has_content + 3 * o.ahead
+least_in o (phases.Offset target owed) = owed + 2 + end_least o.has_content + 3 * o.ahead
+least_in o phases.EntryWord = 1 + end_least o.has_content + 3 * o.ahead
+least_in o (phases.Symbol owed) = owed + 2 + end_least o.has_content + 3 * o.ahead
+
+-- Up to the end of the header, or behind it up to the end of the file.
+abbrev pub least_longs : Position → ℕ
+least_longs positions.FirstLong = 6
+least_longs positions.ResidentName = 5
+least_longs positions.TableSize = 4
+least_longs (positions.FirstHunk hunks) = hunks + 2
+least_longs (positions.LastHunk hunks) = hunks + 1
+least_longs (positions.SizeWord hunks owed) = owed + 1
+least_longs (positions.Attributes hunks word owed) = owed + 1
+least_longs (positions.Body o phase) = least_in o phase
+least_longs positions.Done = 0

@@ -1,0 +1,50 @@
+-- Where a block may stand in its hunk.
+use Rattle.std.specs.Prelude.{Bool, true, false, Option, Some, None}
+use Rattle.hunk_words.specs.declared.block_word.Kind.{Kind}
+use Rattle.hunk_words.specs.declared.block_word.Kind.TheVariants as kinds
+use Rattle.hunk_words.specs.declared.reason.Reason.{Reason}
+use Rattle.hunk_words.specs.declared.reason.Reason.TheVariants as reasons
+
+-- Anywhere, or once, or only behind the content block, or at the end.
+pub data Standing : Type 0 where
+  Beside : Standing
+  Content : Standing
+  Relocating : Standing
+  Ending : Standing
+
+abbrev pub is_content : Standing → Bool
+is_content Content = true
+is_content _ = false
+
+abbrev pub is_ending : Standing → Bool
+is_ending Ending = true
+is_ending _ = false
+
+-- where a block of this kind may stand
+abbrev pub standing_of_kind : Kind → Standing
+standing_of_kind kinds.Code = Content
+standing_of_kind kinds.Data = Content
+standing_of_kind kinds.Bss = Content
+standing_of_kind kinds.Ext = Relocating
+standing_of_kind kinds.Reloc32 = Relocating
+standing_of_kind kinds.Reloc16 = Relocating
+standing_of_kind kinds.Reloc8 = Relocating
+standing_of_kind kinds.Drel32 = Relocating
+standing_of_kind kinds.Drel16 = Relocating
+standing_of_kind kinds.Drel8 = Relocating
+standing_of_kind kinds.RelReloc32 = Relocating
+standing_of_kind kinds.AbsReloc16 = Relocating
+standing_of_kind kinds.End = Ending
+standing_of_kind _ = Beside
+
+-- The test of a block's place. The flag tells whether the hunk has its content block.
+abbrev pub refuse_standing : Bool → Standing → Option Reason
+refuse_standing true Content = Some reasons.SecondContent
+refuse_standing false Relocating = Some reasons.BeforeContent
+refuse_standing false Ending = Some reasons.NoContent
+refuse_standing has_content s = None
+
+-- The first refusal of two tests.
+abbrev pub first_of : Option Reason → Option Reason → Option Reason
+first_of (Some reason) next = Some reason
+first_of None next = next

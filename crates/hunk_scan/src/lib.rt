@@ -1,0 +1,15 @@
+//! The longwords of a load file one by one: what each is for, why it is refused, and what follows.
+//!
+//! It takes no memory, and stands below every reader of load files.
+#![tactic(auto)]
+
+mod file_kind;
+mod phase;
+mod position;
+mod refusal;
+mod standing;
+
+pub use crate::file_kind::Sniff;
+pub use crate::phase::{OpenHunk, Phase};
+pub use crate::position::Position;
+pub use crate::standing::refuse_place;

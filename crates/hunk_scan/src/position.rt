@@ -1,0 +1,158 @@
+//! Positions in a load file.
+ghost use Rattle.std.specs.Prelude.{◌≡◌, ◌≤◌, ◌<◌, ◌^◌, false};
+ghost use Rattle.hunk_scan.specs.Positions as positions;
+ghost use Rattle.hunk_scan.specs.Positions.{step, run, pass, least_longs, is_done, is_behind_header, is_between_hunks};
+
+use crate::phase::{OpenHunk, Phase, open_hunk};
+use hunk_words::SizeWord;
+
+/// What the next longword of a load file is for. In the table, an owed number tells how many
+/// entries follow the next.
+#[derive(Clone, Copy, Debug, PartialEq, Eq)]
+pub enum Position {
+    FirstLong,
+    ResidentName,
+    TableSize,
+    FirstHunk { hunks: u32 },
+    LastHunk { hunks: u32 },
+    SizeWord { hunks: u32, owed: u32 },
+    Attributes { hunks: u32, word: u32, owed: u32 },
+    Body(OpenHunk, Phase),
+    /// The file is whole.
+    Done,
+}
+
+impl Position {
+    /// Behind the table of a file of so many hunks.
+    #[inline(always)]
+    pub fn behind_table(hunks: u32) -> Position
+        ensures { result ≡ positions.close hunks hunks }
+    {
+        open_hunk(hunks, hunks)
+    }
+
+    /// Whether the file is whole.
+    #[inline(always)]
+    pub fn is_done(self) -> bool
+        ensures { result ≡ is_done self }
+    {
+        match self {
+            Position::Done => true,
+            _ => false,
+        }
+    }
+
+    /// Whether the header is whole.
+    #[inline(always)]
+    pub fn is_behind_header(self) -> bool
+        ensures { result ≡ is_behind_header self }
+    {
+        match self {
+            Position::Body(_, _) | Position::Done => true,
+            _ => false,
+        }
+    }
+
+    /// Whether no hunk is open any more: the next opens here, or the file is whole.
+    #[inline(always)]
+    pub fn is_between_hunks(self) -> bool
+        ensures { result ≡ is_between_hunks self }
+    {
+        match self {
+            Position::Body(_, Phase::FirstBlock) | Position::Done => true,
+            _ => false,
+        }
+    }
+
+    /// Behind a longword that is not refused.
+    #[inline(always)]
+    pub fn step(self, word: u32) -> Position
+        ensures { result ≡ step self word }
+    {
+        match self {
+            Position::FirstLong => Position::ResidentName,
+            Position::ResidentName => Position::TableSize,
+            Position::TableSize => Position::FirstHunk { hunks: word },
+            Position::FirstHunk { hunks } => Position::LastHunk { hunks },
+            Position::LastHunk { hunks } => entries(hunks, hunks),
+            Position::SizeWord { hunks, owed } => {
+                if SizeWord::has_extra(word) {
+                    Position::Attributes { hunks, word, owed }
+                } else {
+                    entries(hunks, owed)
+                }
+            }
+            Position::Attributes {
+                hunks,
+                word: _,
+                owed,
+            } => entries(hunks, owed),
+            Position::Body(hunk, phase) => hunk.step(phase, word),
+            Position::Done => Position::Done,
+        }
+    }
+
+    /// How many longwords come at least that no test looks at: a content, a payload, or a name with
+    /// its value, as far as it is owed.
+    #[inline(always)]
+    pub fn run(self) -> u64
+        ensures value { result ≡ run self }
+        ensures bound { result ≤ 2 ^ 32 }
+    {
+        match self {
+            Position::Body(_, phase) => phase.run(),
+            _ => 0,
+        }
+    }
+
+    /// Behind so many longwords of a run.
+    #[inline(always)]
+    pub fn pass(self, count: u64) -> Position
+        requires { count ≤ run self }
+        ensures { result ≡ pass self count }
+    {
+        match self {
+            Position::Body(hunk, phase) if count > 0 => hunk.pass(phase, (count - 1) as u32),
+            _ => self,
+        }
+    }
+
+    /// The least number of longwords up to the end of the header, or behind it up to the end of the
+    /// file.
+    pub fn least_longs(self) -> u64
+        ensures value { result ≡ least_longs self }
+        ensures some { is_done self ≡ false → 0 < result }
+        ensures bound { result < 2 ^ 35 }
+    {
+        match self {
+            Position::FirstLong => 6,
+            Position::ResidentName => 5,
+            Position::TableSize => 4,
+            Position::FirstHunk { hunks } => u64::from(hunks) + 2,
+            Position::LastHunk { hunks } => u64::from(hunks) + 1,
+            Position::SizeWord { hunks: _, owed }
+            | Position::Attributes {
+                hunks: _,
+                word: _,
+                owed,
+            } => u64::from(owed) + 1,
+            Position::Body(hunk, phase) => hunk.least_longs(phase),
+            Position::Done => 0,
+        }
+    }
+}
+
+/// So many entries of the table are owed.
+#[inline(always)]
+fn entries(hunks: u32, owed: u32) -> Position
+    ensures { result ≡ positions.entries hunks owed }
+{
+    if owed == 0 {
+        Position::behind_table(hunks)
+    } else {
+        Position::SizeWord {
+            hunks,
+            owed: owed - 1,
+        }
+    }
+}

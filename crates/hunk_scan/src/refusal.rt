@@ -1,0 +1,88 @@
+//! The tests of the longwords of a load file.
+ghost use Rattle.std.specs.Prelude.{◌≡◌, Some, None, if◌then◌else◌};
+ghost use Rattle.hunk_blocks.specs.Parts.{Part as parts};
+ghost use Rattle.hunk_scan.specs.Roles.{Role as roles, refuse, refuse_part, refuse_word};
+ghost use Rattle.hunk_scan.specs.Positions.{role_at, part_at, place};
+
+use crate::file_kind::Sniff;
+use crate::phase::{OpenHunk, Phase, content_longs};
+use crate::position::Position;
+use crate::standing::refuse_place;
+use hunk_blocks::Mode;
+use hunk_words::{BlockWord, MOST_HUNKS, NAME_LIMIT, Reason, SizeWord};
+
+impl Position {
+    /// Why the longword is refused, where it is. In the body, the open hunk declares so many
+    /// longwords.
+    #[inline(always)]
+    pub fn refuse(self, longs: u32, word: u32) -> Option<Reason>
+        ensures { result ≡ refuse (role_at longs self) word }
+    {
+        match self {
+            Position::FirstLong => refuse_first(word),
+            Position::ResidentName => refuse_if(word != 0, Reason::Resident),
+            Position::TableSize if word == 0 => Some(Reason::NoHunks),
+            Position::TableSize => refuse_if(word > MOST_HUNKS, Reason::TooManyHunks),
+            Position::FirstHunk { hunks: _ } => refuse_if(word != 0, Reason::FirstHunk),
+            Position::LastHunk { hunks } => {
+                refuse_if(u64::from(word) + 1 != u64::from(hunks), Reason::LastHunk)
+            }
+            Position::Body(hunk, phase) => hunk.refuse(phase, longs, word),
+            _ => None,
+        }
+    }
+}
+
+impl OpenHunk {
+    #[inline(always)]
+    fn refuse(self, phase: Phase, longs: u32, word: u32) -> Option<Reason>
+        ensures { result ≡ refuse_part (place longs self) (part_at phase) word }
+    {
+        match phase {
+            Phase::FirstBlock | Phase::BlockWord => refuse_block_word(self.has_content, word),
+            Phase::NameCount => refuse_if(word >= NAME_LIMIT, Reason::NameWord),
+            Phase::ContentSize | Phase::BssSize => {
+                refuse_if(content_longs(word) > longs, Reason::ContentTooLong)
+            }
+            Phase::GroupCount => refuse_if(word != 0 && longs == 0, Reason::NothingToRelocate),
+            Phase::Target { owed: _ } => refuse_if(word >= self.hunks, Reason::BadTarget),
+            Phase::Offset { target: _, owed: _ } => {
+                refuse_if(
+                    u64::from(word) + 4 > u64::from(longs) * 4,
+                    Reason::BadOffset,
+                )
+            }
+            _ => None,
+        }
+    }
+}
+
+#[inline(always)]
+fn refuse_if(refused: bool, reason: Reason) -> Option<Reason>
+    ensures { result ≡ (if refused then Some reason else None) }
+{
+    if refused { Some(reason) } else { None }
+}
+
+fn refuse_first(word: u32) -> Option<Reason>
+    ensures { result ≡ refuse roles.FirstLong word }
+{
+    match Sniff::of(word) {
+        Sniff::Load => None,
+        Sniff::Object => Some(Reason::IsObject),
+        Sniff::Library => Some(Reason::Library),
+        Sniff::Other => Some(Reason::NotLoadFile),
+    }
+}
+
+/// A block word is refused wherever its block stands, or else for its place in the hunk.
+#[tactic(auto, using(crate::proofs::BlockWords::word_split))]
+fn refuse_block_word(has_content: bool, word: u32) -> Option<Reason>
+    ensures { result ≡ refuse_word has_content word }
+{
+    let block = BlockWord::of(word);
+    match Mode::Load.refuse(block) {
+        Some(reason) => Some(reason),
+        None => refuse_place(block.kind(), has_content),
+    }
+}

@@ -1,0 +1,28 @@
+//! Where a block may stand in its hunk.
+ghost use Rattle.std.specs.Prelude.{◌≡◌};
+ghost use Rattle.hunk_scan.specs.Standings.{refuse_standing, standing_of_kind};
+
+use hunk_words::{Kind, Reason};
+
+/// Why a block of this kind may not stand here, where it may not. The flag tells whether the hunk
+/// has its content block.
+#[inline(always)]
+pub fn refuse_place(kind: Kind, has_content: bool) -> Option<Reason>
+    ensures { result ≡ refuse_standing has_content (standing_of_kind kind) }
+{
+    match kind {
+        Kind::Code | Kind::Data | Kind::Bss if has_content => Some(Reason::SecondContent),
+        Kind::Ext
+        | Kind::Reloc32
+        | Kind::Reloc16
+        | Kind::Reloc8
+        | Kind::Drel32
+        | Kind::Drel16
+        | Kind::Drel8
+        | Kind::RelReloc32
+        | Kind::AbsReloc16
+            if !has_content => { Some(Reason::BeforeContent) }
+        Kind::End if !has_content => Some(Reason::NoContent),
+        _ => None,
+    }
+}

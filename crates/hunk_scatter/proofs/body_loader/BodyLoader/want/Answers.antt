@@ -1,0 +1,57 @@
+use Rattle.std.proofs.Common.{◌*◌, ◌/◌, ◌++◌, length, sym, ap, subst, ◌∙◌, arith}
+use Rattle.hunk_scatter.specs.LoaderValues.{BodyLoaderValue, IsWholeFile, HasNoRefusal}
+use Rattle.hunk_scatter.proofs.BodyFields.{owes_bytes, not_whole, whole_file, none_of, fed_truncated, fed_clean}
+use Rattle.hunk_files.specs.Fault.{IsTruncated}
+use Rattle.hunk_scatter.proofs.body_loader.BodyLoader.want.Goals as goal
+
+pub returns-then-bytes-lt256-clause-least : goal.returns-then-bytes-lt256-clause-least
+returns-then-bytes-lt256-clause-least c v more is e =
+    let o = owes_bytes _ _ _ _ _ _ _ c.self.invariant (none_of c.self.inside.refused (sym c.is_some.ensures ∙ c.if-is_some.false)) (sym c.is_done.ensures ∙ c.if-is_done.false) v more is
+    (e ∙ ap (λ (l : BodyLoaderValue). l.fed ++ more) (sym c.self.view_is)) in
+    omega (arith, o.0)
+
+pub returns-then-bytes-lt256-clause-over : goal.returns-then-bytes-lt256-clause-over
+returns-then-bytes-lt256-clause-over c none w =
+    absurd (not_whole _ _ _ _ _ _ _ c.self.invariant (ap (λ (v : BodyLoaderValue). v.refused) c.self.view_is ∙ none) (sym c.is_done.ensures ∙ c.if-is_done.false)
+    (subst (λ (v : BodyLoaderValue). IsWholeFile v.rows v.fed) (sym c.self.view_is) w))
+
+pub returns-else-bytes-lt256-clause-least : goal.returns-else-bytes-lt256-clause-least
+returns-else-bytes-lt256-clause-least c v more is e =
+    let o = owes_bytes _ _ _ _ _ _ _ c.self.invariant (none_of c.self.inside.refused (sym c.is_some.ensures ∙ c.if-is_some.false)) (sym c.is_done.ensures ∙ c.if-is_done.false) v more is
+    (e ∙ ap (λ (l : BodyLoaderValue). l.fed ++ more) (sym c.self.view_is)) in
+    omega (arith, o.0)
+
+pub returns-else-bytes-lt256-clause-over : goal.returns-else-bytes-lt256-clause-over
+returns-else-bytes-lt256-clause-over c none w =
+    absurd (not_whole _ _ _ _ _ _ _ c.self.invariant (ap (λ (v : BodyLoaderValue). v.refused) c.self.view_is ∙ none) (sym c.is_done.ensures ∙ c.if-is_done.false)
+    (subst (λ (v : BodyLoaderValue). IsWholeFile v.rows v.fed) (sym c.self.view_is) w))
+
+pub returns-then-bytes-lt256-clause-truncated : goal.returns-then-bytes-lt256-clause-truncated
+returns-then-bytes-lt256-clause-truncated c some =
+    subst (λ (l : BodyLoaderValue). IsTruncated l.fed (4 * (length l.fed / 4))) c.self.view_is
+    (fed_truncated _ _ _ _ _ _ _ c.self.invariant (none_of c.self.inside.refused (sym c.is_some.ensures ∙ c.if-is_some.false)) (sym c.is_done.ensures ∙ c.if-is_done.false))
+
+pub returns-else-bytes-lt256-clause-truncated : goal.returns-else-bytes-lt256-clause-truncated
+returns-else-bytes-lt256-clause-truncated c some =
+    subst (λ (l : BodyLoaderValue). IsTruncated l.fed (4 * (length l.fed / 4))) c.self.view_is
+    (fed_truncated _ _ _ _ _ _ _ c.self.invariant (none_of c.self.inside.refused (sym c.is_some.ensures ∙ c.if-is_some.false)) (sym c.is_done.ensures ∙ c.if-is_done.false))
+
+pub returns-then-is_done-clause-clean : goal.returns-then-is_done-clause-clean
+returns-then-is_done-clause-clean c none =
+    subst (λ (l : BodyLoaderValue). HasNoRefusal l.fed) c.self.view_is
+    (fed_clean _ _ _ _ _ _ _ c.self.invariant (none_of c.self.inside.refused (sym c.is_some.ensures ∙ c.if-is_some.false)))
+
+pub returns-then-bytes-lt256-clause-clean : goal.returns-then-bytes-lt256-clause-clean
+returns-then-bytes-lt256-clause-clean c none =
+    subst (λ (l : BodyLoaderValue). HasNoRefusal l.fed) c.self.view_is
+    (fed_clean _ _ _ _ _ _ _ c.self.invariant (none_of c.self.inside.refused (sym c.is_some.ensures ∙ c.if-is_some.false)))
+
+pub returns-else-bytes-lt256-clause-clean : goal.returns-else-bytes-lt256-clause-clean
+returns-else-bytes-lt256-clause-clean c none =
+    subst (λ (l : BodyLoaderValue). HasNoRefusal l.fed) c.self.view_is
+    (fed_clean _ _ _ _ _ _ _ c.self.invariant (none_of c.self.inside.refused (sym c.is_some.ensures ∙ c.if-is_some.false)))
+
+pub returns-then-is_done-clause-some : goal.returns-then-is_done-clause-some
+returns-then-is_done-clause-some c none same =
+    subst (λ (v : BodyLoaderValue). IsWholeFile v.rows v.fed) c.self.view_is
+    (whole_file _ _ _ _ _ _ _ c.self.invariant (ap (λ (v : BodyLoaderValue). v.refused) c.self.view_is ∙ none) (sym c.is_done.ensures ∙ c.if-is_done.true))

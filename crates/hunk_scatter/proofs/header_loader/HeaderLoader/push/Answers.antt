@@ -1,0 +1,47 @@
+use Rattle.std.proofs.Common.{refl, ◌-◌, [], ◌∷◌, ◌++◌, sym, ap, subst, ◌∙◌}
+use Rattle.hunk_scatter.specs.HeaderBytes.{IsHeader}
+use Rattle.hunk_scatter.specs.HeaderLoaderFields.{HeaderStop}
+use Rattle.hunk_scatter.specs.LoaderValues.{HeaderLoaderValue}
+use Rattle.hunk_scatter.proofs.HeaderFields.{heading_as, heading_word, heading_stop, heading_three, heading_room, heading_table, heading_not_whole}
+use Rattle.hunk_scatter.proofs.header_loader.HeaderLoader.push.Goals as goal
+
+pub take_header_word-requires-clause-room : goal.take_header_word-requires-clause-room
+take_header_word-requires-clause-room c = heading_room _ _ _ _ _ (c.self.invariant.reading (ap (λ (v : HeaderLoaderValue). v.refused) c.self.view_is ∙ c.requires.reading)) c.self.invariant.few_rows
+
+pub invariant_of-self-in-Ok : goal.invariant_of-self-in-Ok
+invariant_of-self-in-Ok c =
+    heading_as _ _ _ _ _ _ _ _ _ _ _ c.in-Ok.ensures.rows c.in-Ok.ensures.position c.in-Ok.ensures.total c.in-Some.ensures.gathers.1 c.and-self-inside-in-Ok.ensures
+    (heading_word _ _ _ _ _ _ _ c.self.invariant (ap (λ (v : HeaderLoaderValue). v.refused) c.self.view_is ∙ c.requires.reading) (sym c.is_behind_header.ensures ∙ c.if-is_behind_header.false)
+    c.args.byte c.in-Some.word c.in-Ok.ensures.long c.in-Some.ensures.gathers.0 c.in-Ok.ensures.passes c.in-Ok.ensures.within)
+
+pub overflow_sub-fault : goal.overflow_sub-fault
+overflow_sub-fault c =
+    heading_three _ _ _ _ _ _ _ c.self.invariant (ap (λ (v : HeaderLoaderValue). v.refused) c.self.view_is ∙ c.requires.reading) (sym c.is_behind_header.ensures ∙ c.if-is_behind_header.false)
+    c.args.byte c.in-Some.word c.in-Err.ensures.long c.in-Some.ensures.gathers.0
+
+pub returns-in-Err-clause-refusal : goal.returns-in-Err-clause-refusal
+returns-in-Err-clause-refusal c =
+    subst (λ (v : HeaderLoaderValue). HeaderStop v.budget (v.fed ++ c.args.byte ∷ []) (record { place = c.self.inside.count - 3; reason = c.in-Err.reason })) c.self.view_is
+    (heading_stop _ _ _ _ _ _ _ c.self.invariant (ap (λ (v : HeaderLoaderValue). v.refused) c.self.view_is ∙ c.requires.reading) (sym c.is_behind_header.ensures ∙ c.if-is_behind_header.false)
+    c.args.byte c.in-Some.word c.in-Err.ensures.long c.in-Some.ensures.gathers.0 c.in-Err.reason c.in-Err.ensures.refusal)
+
+pub returns-in_default-clause-complete : goal.returns-in_default-clause-complete
+returns-in_default-clause-complete c w =
+    absurd (heading_not_whole _ _ _ _ _ (c.self.invariant.reading (ap (λ (v : HeaderLoaderValue). v.refused) c.self.view_is ∙ c.requires.reading)) (sym c.is_behind_header.ensures ∙ c.if-is_behind_header.false)
+    (subst (λ (v : HeaderLoaderValue). IsHeader v.fed) (sym c.self.view_is) w))
+
+pub returns-in-Ok-clause-complete : goal.returns-in-Ok-clause-complete
+returns-in-Ok-clause-complete c w =
+    absurd (heading_not_whole _ _ _ _ _ (c.self.invariant.reading (ap (λ (v : HeaderLoaderValue). v.refused) c.self.view_is ∙ c.requires.reading)) (sym c.is_behind_header.ensures ∙ c.if-is_behind_header.false)
+    (subst (λ (v : HeaderLoaderValue). IsHeader v.fed) (sym c.self.view_is) w))
+
+pub returns-in-Err-clause-complete : goal.returns-in-Err-clause-complete
+returns-in-Err-clause-complete c w =
+    absurd (heading_not_whole _ _ _ _ _ (c.self.invariant.reading (ap (λ (v : HeaderLoaderValue). v.refused) c.self.view_is ∙ c.requires.reading)) (sym c.is_behind_header.ensures ∙ c.if-is_behind_header.false)
+    (subst (λ (v : HeaderLoaderValue). IsHeader v.fed) (sym c.self.view_is) w))
+
+pub returns-then-is_behind_header-clause-whole : goal.returns-then-is_behind_header-clause-whole
+returns-then-is_behind_header-clause-whole c same =
+    let t =
+    heading_table _ _ _ _ _ (c.self.invariant.reading (ap (λ (v : HeaderLoaderValue). v.refused) c.self.view_is ∙ c.requires.reading)) (sym c.is_behind_header.ensures ∙ c.if-is_behind_header.true) in
+    (refl, subst (λ (v : HeaderLoaderValue). IsHeader v.fed) c.self.view_is (_, t.0, t.1))

@@ -1,0 +1,71 @@
+use Rattle.std.proofs.Common.{◌*◌, ◌/◌, ◌++◌, length, sym, ap, subst, ◌∙◌, arith}
+use Rattle.hunk_files.specs.Fault.{IsTruncated}
+use Rattle.hunk_scatter.specs.HeaderBytes.{IsHeader, PassesBudget}
+use Rattle.hunk_scatter.specs.LoaderValues.{HeaderLoaderValue, HasNoRefusal}
+use Rattle.hunk_scatter.proofs.BodyFields.{none_of}
+use Rattle.hunk_scatter.proofs.HeaderFields.{heading_clean, heading_truncated, heading_within, heading_not_whole, heading_table, heading_least}
+use Rattle.hunk_scatter.proofs.header_loader.HeaderLoader.want.Goals as goal
+
+pub returns-then-is_behind_header-clause-clean : goal.returns-then-is_behind_header-clause-clean
+returns-then-is_behind_header-clause-clean c none = subst (λ (v : HeaderLoaderValue). HasNoRefusal v.fed) c.self.view_is (heading_clean _ _ _ _ _ (c.self.invariant.reading (ap (λ (v : HeaderLoaderValue). v.refused) c.self.view_is ∙ none)))
+
+pub returns-then-is_behind_header-clause-truncated : goal.returns-then-is_behind_header-clause-truncated
+returns-then-is_behind_header-clause-truncated c none =
+    subst (λ (v : HeaderLoaderValue). IsTruncated v.fed (4 * (length v.fed / 4))) c.self.view_is (heading_truncated _ _ _ _ _ (c.self.invariant.reading (ap (λ (v : HeaderLoaderValue). v.refused) c.self.view_is ∙ none)))
+
+pub returns-then-is_behind_header-clause-within : goal.returns-then-is_behind_header-clause-within
+returns-then-is_behind_header-clause-within c none at p =
+    heading_within _ _ _ _ _ (c.self.invariant.reading (ap (λ (v : HeaderLoaderValue). v.refused) c.self.view_is ∙ none)) at
+    (subst (λ (v : HeaderLoaderValue). PassesBudget v.budget v.fed at) (sym c.self.view_is) p)
+
+pub returns-then-bytes-lt256-clause-clean : goal.returns-then-bytes-lt256-clause-clean
+returns-then-bytes-lt256-clause-clean c none = subst (λ (v : HeaderLoaderValue). HasNoRefusal v.fed) c.self.view_is (heading_clean _ _ _ _ _ (c.self.invariant.reading (ap (λ (v : HeaderLoaderValue). v.refused) c.self.view_is ∙ none)))
+
+pub returns-then-bytes-lt256-clause-truncated : goal.returns-then-bytes-lt256-clause-truncated
+returns-then-bytes-lt256-clause-truncated c none =
+    subst (λ (v : HeaderLoaderValue). IsTruncated v.fed (4 * (length v.fed / 4))) c.self.view_is (heading_truncated _ _ _ _ _ (c.self.invariant.reading (ap (λ (v : HeaderLoaderValue). v.refused) c.self.view_is ∙ none)))
+
+pub returns-then-bytes-lt256-clause-within : goal.returns-then-bytes-lt256-clause-within
+returns-then-bytes-lt256-clause-within c none at p =
+    heading_within _ _ _ _ _ (c.self.invariant.reading (ap (λ (v : HeaderLoaderValue). v.refused) c.self.view_is ∙ none)) at
+    (subst (λ (v : HeaderLoaderValue). PassesBudget v.budget v.fed at) (sym c.self.view_is) p)
+
+pub returns-else-bytes-lt256-clause-clean : goal.returns-else-bytes-lt256-clause-clean
+returns-else-bytes-lt256-clause-clean c none = subst (λ (v : HeaderLoaderValue). HasNoRefusal v.fed) c.self.view_is (heading_clean _ _ _ _ _ (c.self.invariant.reading (ap (λ (v : HeaderLoaderValue). v.refused) c.self.view_is ∙ none)))
+
+pub returns-else-bytes-lt256-clause-truncated : goal.returns-else-bytes-lt256-clause-truncated
+returns-else-bytes-lt256-clause-truncated c none =
+    subst (λ (v : HeaderLoaderValue). IsTruncated v.fed (4 * (length v.fed / 4))) c.self.view_is (heading_truncated _ _ _ _ _ (c.self.invariant.reading (ap (λ (v : HeaderLoaderValue). v.refused) c.self.view_is ∙ none)))
+
+pub returns-else-bytes-lt256-clause-within : goal.returns-else-bytes-lt256-clause-within
+returns-else-bytes-lt256-clause-within c none at p =
+    heading_within _ _ _ _ _ (c.self.invariant.reading (ap (λ (v : HeaderLoaderValue). v.refused) c.self.view_is ∙ none)) at
+    (subst (λ (v : HeaderLoaderValue). PassesBudget v.budget v.fed at) (sym c.self.view_is) p)
+
+pub returns-then-bytes-lt256-clause-over : goal.returns-then-bytes-lt256-clause-over
+returns-then-bytes-lt256-clause-over c none w =
+    absurd (heading_not_whole _ _ _ _ _ (c.self.invariant.reading (ap (λ (v : HeaderLoaderValue). v.refused) c.self.view_is ∙ none)) (sym c.is_behind_header.ensures ∙ c.if-is_behind_header.false)
+    (subst (λ (v : HeaderLoaderValue). IsHeader v.fed) (sym c.self.view_is) w))
+
+pub returns-then-bytes-lt256-clause-least : goal.returns-then-bytes-lt256-clause-least
+returns-then-bytes-lt256-clause-least c t more is e =
+    let o = heading_least _ _ _ _ _ (c.self.invariant.reading (none_of c.self.inside.refused (sym c.is_some.ensures ∙ c.if-is_some.false))) (sym c.is_behind_header.ensures ∙ c.if-is_behind_header.false) t more is
+    (e ∙ ap (λ (v : HeaderLoaderValue). v.fed ++ more) (sym c.self.view_is)) in
+    omega (arith, o, c.least_longs.ensures.value, c.pending.ensures.value)
+
+pub returns-else-bytes-lt256-clause-over : goal.returns-else-bytes-lt256-clause-over
+returns-else-bytes-lt256-clause-over c none w =
+    absurd (heading_not_whole _ _ _ _ _ (c.self.invariant.reading (ap (λ (v : HeaderLoaderValue). v.refused) c.self.view_is ∙ none)) (sym c.is_behind_header.ensures ∙ c.if-is_behind_header.false)
+    (subst (λ (v : HeaderLoaderValue). IsHeader v.fed) (sym c.self.view_is) w))
+
+pub returns-else-bytes-lt256-clause-least : goal.returns-else-bytes-lt256-clause-least
+returns-else-bytes-lt256-clause-least c t more is e =
+    let o = heading_least _ _ _ _ _ (c.self.invariant.reading (none_of c.self.inside.refused (sym c.is_some.ensures ∙ c.if-is_some.false))) (sym c.is_behind_header.ensures ∙ c.if-is_behind_header.false) t more is
+    (e ∙ ap (λ (v : HeaderLoaderValue). v.fed ++ more) (sym c.self.view_is)) in
+    omega (arith, o, c.least_longs.ensures.value, c.pending.ensures.value)
+
+pub returns-then-is_behind_header-clause-some : goal.returns-then-is_behind_header-clause-some
+returns-then-is_behind_header-clause-some c none same =
+    let t =
+    heading_table _ _ _ _ _ (c.self.invariant.reading (ap (λ (v : HeaderLoaderValue). v.refused) c.self.view_is ∙ none)) (sym c.is_behind_header.ensures ∙ c.if-is_behind_header.true) in
+    subst (λ (v : HeaderLoaderValue). IsHeader v.fed) c.self.view_is (_, t.0, t.1)

@@ -1,0 +1,44 @@
+-- What the fields of the loader of a body keep.
+use Rattle.std.specs.Prelude.{◌≡◌, ℕ, ◌<◌, ◌≤◌, List, [], ◌++◌, length, Option, None, Some, IsTrue}
+use Rattle.hunk_words.specs.Limits.{most_hunks}
+use Rattle.hunk_words.specs.Longs.{bytes_of}
+use Rattle.hunk_words.specs.declared.fault.Fault.{Fault}
+use Rattle.hunk_files.specs.Image.{declared_bytes}
+use Rattle.hunk_files.specs.FileSteps.{Next, More, Finished}
+use Rattle.hunk_files.specs.WordsRead.{HasRead}
+use Rattle.hunk_files.specs.declared.row.Row.{Row}
+use Rattle.hunk_scatter.specs.declared.body_state.BodyState.{BodyState}
+use Rattle.hunk_scatter.specs.LoaderReasons.{is_of_body}
+use Rattle.hunk_scatter.specs.StoreContent.{StoreHolds}
+use Rattle.hunk_scatter.specs.Rows.{entries_of, bases_of}
+use Rattle.hunk_scatter.specs.BodyReader.{state_of, IsInBody}
+use Rattle.hunk_files.specs.ReaderPosition.{table_of}
+
+abbrev pub IsBehindHeader : Next → Type 0
+IsBehindHeader (More p) = IsInBody p
+IsBehindHeader (Finished v) = Unit {0}
+
+-- where the file is whole no byte is pending
+abbrev pub EndsWhole : Next → List ℕ → Type 0
+EndsWhole (More p) pending = Unit {0}
+EndsWhole (Finished v) pending = pending ≡ []
+
+-- Longwords were read and bytes are pending; the numbers and the store are those of what was read.
+pub record Reading (rows : List Row) (store : List ℕ) (state : BodyState) (pending fed : List ℕ) : Type 0 where
+  pub ws : List ℕ
+  pub next : Next
+  pub spelled : fed ≡ bytes_of ws ++ pending
+  pub few : length pending < 4
+  pub read : HasRead ws next
+  pub behind : IsBehindHeader next
+  pub table_is : table_of next ≡ entries_of rows
+  pub state_is : state_of next ≡ state
+  pub holds : StoreHolds (bases_of rows) next store
+  pub whole : EndsWhole next pending
+
+pub record BodyLoaderInvariant (rows : List Row) (store : List ℕ) (state : BodyState) (pending : List ℕ) (count : ℕ) (refused : Option Fault) (fed : List ℕ) : Type 0 where
+  pub counted : count ≡ length fed
+  pub hunks : length rows ≤ most_hunks
+  pub size : length store ≡ declared_bytes (entries_of rows)
+  pub reading : refused ≡ None → Reading rows store state pending fed
+  pub own : (f : Fault) → refused ≡ Some f → IsTrue (is_of_body f.reason)

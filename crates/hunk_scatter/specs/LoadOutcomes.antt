@@ -1,0 +1,126 @@
+-- A load from a source.
+use Rattle.std.specs.Prelude.{◌≡◌, ℕ, ◌*◌, ◌/◌, ◌<◌, ◌≤◌, Bool, true, List, [], ◌++◌, length, map, Option, Some, None, ◌⊎◌, IsTrue, Result, MatchResult}
+use Rattle.std.specs.Io.KnownBytes.{Consumes, IsAtEnd}
+use Rattle.hunk_words.specs.Longs.{bytes_of}
+use Rattle.hunk_words.specs.declared.fault.Fault.{Fault}
+use Rattle.hunk_words.specs.declared.reason.Reason.{Reason}
+use Rattle.hunk_words.specs.declared.reason.Reason.TheVariants as reasons
+use Rattle.hunk_files.specs.Fault.{HasRefusal, IsTruncated}
+use Rattle.hunk_files.specs.Image.{declared_bytes, image}
+use Rattle.hunk_files.specs.LoadFile.{TableEntry, LoadFileValue, IsLoadFile}
+use Rattle.hunk_files.specs.LoadText.{table, text}
+use Rattle.hunk_scatter.specs.LoaderReasons.{is_of_header, is_of_body}
+use Rattle.hunk_scatter.specs.HeaderBytes.{IsTable, header_bytes, BeginsHeader, PassesBudget, IsOverBudget, IsHeaderFault}
+use Rattle.hunk_scatter.specs.LoaderValues.{ImageValue, HasNoRefusal}
+use Rattle.hunk_scatter.specs.Placing.{Placing, base_at, AreBases, HasBases, IsFirstUnplaced, IsUnplacedFor}
+use Rattle.hunk_scatter.specs.Rows.{entries_of, bases_of}
+
+-- ---- what a reader gives
+
+-- It has given these bytes, and no more than the limit.
+pub record Gives (old new : Option (List ℕ)) (limit : ℕ) (given : List ℕ) : Type 0 where
+  pub consumed : Consumes old new given
+  pub within : length given ≤ limit
+
+-- These bytes, the last of all, are still to be read.
+abbrev pub KeepsRest : Option (List ℕ) → List ℕ → Type 0
+KeepsRest left rest = (front : List ℕ) × (left ≡ Some (front ++ rest))
+
+-- The table declares more than the budget, or a hunk of it has no base.
+abbrev pub IsNotPlaced : Placing → ℕ → List TableEntry → Type 0
+IsNotPlaced base budget table = (budget < declared_bytes table) ⊎ ((hunk : ℕ) × (hunk < length table) × (base_at base table hunk ≡ None))
+
+-- ---- what is loaded
+
+-- The image is that of the load file: its table, within the budget, the bases that the placer gave, and each segment as it lies there.
+pub record IsLoaded (base : Placing) (budget : ℕ) (v : LoadFileValue) (placed : ImageValue) : Type 0 where
+  pub is_load_file : IsLoadFile v
+  pub table_is : table v ≡ entries_of placed.rows
+  pub within : declared_bytes (table v) ≤ budget
+  pub bases : AreBases base (table v) (bases_of placed.rows)
+  pub segments : placed.segments ≡ map (image (bases_of placed.rows)) v
+
+-- ---- what is answered else
+
+-- No longword of the bytes is refused, none passes the budget, and they are no whole load file.
+pub record IsShort (budget : ℕ) (bytes : List ℕ) : Type 0 where
+  pub clean : HasNoRefusal bytes
+  pub truncated : IsTruncated bytes (4 * (length bytes / 4))
+  pub none_passes : (at : ℕ) → PassesBudget budget bytes at → ⊥
+
+-- The bytes are the header of a table that keeps to the budget.
+pub record IsHeaderWithin (budget : ℕ) (bytes : List ℕ) (table : List TableEntry) : Type 0 where
+  pub is_table : IsTable table
+  pub header : bytes ≡ header_bytes table
+  pub within : declared_bytes table ≤ budget
+
+-- The fault of a load, by its reason, where the reader has given these bytes: what is left then, and whether it failed.
+abbrev pub IsLoadFaultBy : Reason → Placing → ℕ → ℕ → Option (List ℕ) → Bool → List ℕ → ℕ → Type 0
+IsLoadFaultBy reasons.Budget base budget limit left failed given at = PassesBudget budget given at
+IsLoadFaultBy reasons.FileLimit base budget limit left failed given at = (at ≡ limit) × (length given ≡ limit) × IsShort budget given
+IsLoadFaultBy reasons.Read base budget limit left failed given at = (at ≡ length given) × (failed ≡ true) × IsShort budget given
+IsLoadFaultBy reasons.Truncated base budget limit left failed given at = IsAtEnd left × IsTruncated given at × IsShort budget given
+IsLoadFaultBy (reasons.NoBase hunk) base budget limit left failed given at =
+    (table : List TableEntry) × IsHeaderWithin budget given table × IsFirstUnplaced base table hunk × (at ≡ length given)
+IsLoadFaultBy reasons.OutOfMemory base budget limit left failed given at = BeginsHeader given
+IsLoadFaultBy reason base budget limit left failed given at = HasRefusal given at reason
+
+abbrev pub IsLoadFault : Placing → ℕ → ℕ → Option (List ℕ) → Bool → List ℕ → Fault → Type 0
+IsLoadFault base budget limit left failed given f = IsLoadFaultBy f.reason base budget limit left failed given f.place
+
+-- ---- by stages
+
+-- No header is in front of more.
+abbrev pub IsWithinHeader : List ℕ → Type 0
+IsWithinHeader bytes = (table : List TableEntry) (more : List ℕ) → IsTable table → bytes ≡ header_bytes table ++ more → more ≡ []
+
+-- No load text is in front of more.
+abbrev pub IsWithinFile : List ℕ → Type 0
+IsWithinFile bytes = (v : LoadFileValue) (more : List ℕ) → IsLoadFile v → bytes ≡ bytes_of (text v) ++ more → more ≡ []
+
+-- Where so many bytes were given: the limit, a failed read, or the end.
+abbrev pub IsReadFault : ℕ → Option (List ℕ) → Bool → ℕ → Fault → Type 0
+IsReadFault limit left failed count f =
+    ((f.reason ≡ reasons.FileLimit) × (f.place ≡ limit) × (count ≡ limit))
+    ⊎ (((f.reason ≡ reasons.Read) × (f.place ≡ count) × (failed ≡ true)) ⊎ ((f.reason ≡ reasons.Truncated) × (f.place ≡ 4 * (count / 4)) × IsAtEnd left))
+
+-- The loader of the header has stopped.
+pub record StopsInHeader (budget : ℕ) (bytes : List ℕ) (f : Fault) : Type 0 where
+  pub fault : IsHeaderFault budget bytes f
+  pub over : (at : ℕ) → PassesBudget budget bytes at → IsOverBudget at f
+  pub own : IsTrue (is_of_header f.reason)
+  pub begins : f.reason ≡ reasons.OutOfMemory → BeginsHeader bytes
+
+-- The loader of the body has.
+pub record StopsInBody (bytes : List ℕ) (f : Fault) : Type 0 where
+  pub refusal : HasRefusal bytes f.place f.reason
+  pub own : IsTrue (is_of_body f.reason)
+
+-- The reading has.
+pub record StopsShort (limit : ℕ) (left : Option (List ℕ)) (failed : Bool) (bytes : List ℕ) (f : Fault) : Type 0 where
+  pub clean : HasNoRefusal bytes
+  pub truncated : IsTruncated bytes (4 * (length bytes / 4))
+  pub why : IsReadFault limit left failed (length bytes) f
+
+abbrev pub IsHeaderStop : ℕ → ℕ → Option (List ℕ) → Bool → List ℕ → Fault → Type 0
+IsHeaderStop budget limit left failed bytes f =
+    StopsInHeader budget bytes f ⊎ (StopsShort limit left failed bytes f × ((at : ℕ) → PassesBudget budget bytes at → ⊥))
+
+abbrev pub IsBodyStop : ℕ → Option (List ℕ) → Bool → List ℕ → Fault → Type 0
+IsBodyStop limit left failed bytes f = StopsInBody bytes f ⊎ StopsShort limit left failed bytes f
+
+-- Whichever header is in front of more keeps to the budget, and each of its hunks has a base.
+abbrev pub KeepsToHeader : Placing → ℕ → List ℕ → Type 0
+KeepsToHeader base budget bytes =
+    (table : List TableEntry) (more : List ℕ) → IsTable table → bytes ≡ header_bytes table ++ more → (more ≡ []) ⊎ ((declared_bytes table ≤ budget) × HasBases base table)
+
+-- A load stops in the header, between header and body, or in the body.
+pub data LoadStop (base : Placing) (budget limit : ℕ) (left : Option (List ℕ)) (failed : Bool) (given : List ℕ) (f : Fault) : Type 0 where
+  InHeader : IsHeaderStop budget limit left failed given f → LoadStop base budget limit left failed given f
+  Between : (table : List TableEntry) → IsHeaderWithin budget given table → IsUnplacedFor base table f.reason → f.place ≡ length given → LoadStop base budget limit left failed given f
+  InBody : (table : List TableEntry) (header more : List ℕ) → IsHeaderWithin budget header table → given ≡ header ++ more → IsBodyStop limit left failed given f → LoadStop base budget limit left failed given f
+
+-- What a load comes to.
+abbrev pub LoadEnds : Placing → ℕ → ℕ → Option (List ℕ) → Bool → List ℕ → Result ImageValue Fault → Type 0
+LoadEnds base budget limit left failed given result =
+    MatchResult result (λ placed. (v : LoadFileValue) × IsLoaded base budget v placed × (given ≡ bytes_of (text v))) (λ f. LoadStop base budget limit left failed given f)

@@ -1,0 +1,69 @@
+-- The loaders and what they make, as their callers see them.
+use Rattle.std.specs.Prelude.{◌≡◌, ℕ, ◌*◌, List, [], ◌∷◌, ◌++◌, map, take, drop, Option, ◌⊎◌}
+use Rattle.hunk_words.specs.Bits.{size_longs}
+use Rattle.hunk_words.specs.Longs.{bytes_of}
+use Rattle.hunk_words.specs.declared.fault.Fault.{Fault}
+use Rattle.hunk_words.specs.declared.reason.Reason.{Reason}
+use Rattle.hunk_files.specs.LoadFile.{TableEntry, LoadFileValue, IsLoadFile}
+use Rattle.hunk_files.specs.LoadText.{table, text}
+use Rattle.hunk_files.specs.Fault.{HasRefusal}
+use Rattle.hunk_files.specs.Image.{image}
+use Rattle.hunk_files.specs.declared.row.Row.{Row}
+use Rattle.hunk_scatter.specs.Rows.{entries_of, bases_of}
+
+-- The loader of a header: the bytes that it has consumed, its budget, and its refusal.
+pub record HeaderLoaderValue : Type 0 where
+  pub fed : List ℕ
+  pub budget : ℕ
+  pub refused : Option Fault
+
+-- A table whose hunks are not placed, and the budget that it keeps to.
+pub record DeclaredValue : Type 0 where
+  pub table : List TableEntry
+  pub budget : ℕ
+
+-- The loader of a body: the bytes that were consumed, header and body joined, the rows with their bases, and the refusal.
+pub record BodyLoaderValue : Type 0 where
+  pub fed : List ℕ
+  pub rows : List Row
+  pub refused : Option Fault
+
+-- An image: the rows with their bases, and the segments.
+pub record ImageValue : Type 0 where
+  pub rows : List Row
+  pub segments : List (List ℕ)
+
+-- ---- files
+
+-- The bytes are a load file with the table of these rows.
+pub record IsFileOf (rows : List Row) (bytes : List ℕ) (v : LoadFileValue) : Type 0 where
+  pub is_load_file : IsLoadFile v
+  pub bytes_are : bytes_of (text v) ≡ bytes
+  pub table_is : table v ≡ entries_of rows
+
+abbrev pub IsWholeFile : List Row → List ℕ → Type 0
+IsWholeFile rows bytes = (v : LoadFileValue) × IsFileOf rows bytes v
+
+-- A load file begins with the bytes, or they begin with one.
+pub record MayGoOn (bytes : List ℕ) : Type 0 where
+  pub value : LoadFileValue
+  pub is_load_file : IsLoadFile value
+  pub more : List ℕ
+  pub fits : (bytes_of (text value) ≡ bytes ++ more) ⊎ (bytes ≡ bytes_of (text value) ++ more)
+
+-- No longword of the bytes is refused.
+abbrev pub HasNoRefusal : List ℕ → Type 0
+HasNoRefusal bytes = (at : ℕ) (reason : Reason) → HasRefusal bytes at reason → ⊥
+
+-- ---- images
+
+-- the store cut into segments of these sizes
+abbrev pub cut : List ℕ → List ℕ → List (List ℕ)
+cut [] store = []
+cut (size ∷ sizes) store = take (4 * size_longs size) store ∷ cut sizes (drop (4 * size_longs size) store)
+
+-- The bytes are a load file with these rows, and the segments are the images of its hunks at the rows' bases.
+pub record IsImageOf (rows : List Row) (bytes : List ℕ) (segments : List (List ℕ)) : Type 0 where
+  pub value : LoadFileValue
+  pub file : IsFileOf rows bytes value
+  pub images_are : segments ≡ map (image (bases_of rows)) value

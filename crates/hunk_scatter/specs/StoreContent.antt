@@ -1,0 +1,50 @@
+-- What the one store holds at any point of the body.
+use Rattle.std.specs.Prelude.{◌≡◌, ℕ, ◌+◌, ◌-◌, ◌*◌, false, List, [], ◌++◌, length, take, drop, get_or, replicate}
+use Rattle.std.specs.List.{flat_map, AllByRecursion}
+use Rattle.std.specs.Int.{w32, to_be_bytes}
+use Rattle.hunk_words.specs.Bits.{size_longs}
+use Rattle.hunk_files.specs.Image.{add_at, image, block_content, block_relocations}
+use Rattle.hunk_files.specs.LoadFile.{TableEntry, HunkValue}
+use Rattle.hunk_blocks.specs.BlockSteps.{BlockNext, Open, Whole}
+use Rattle.hunk_blocks.specs.Values.{End}
+use Rattle.hunk_files.specs.FileSteps.{OpenHunk, Next, More, Finished, AtBlock, InBody}
+use Rattle.hunk_files.specs.OpenSegment.{segment_so_far}
+use Rattle.hunk_scan.specs.declared.phase.Phase.TheVariants as phases
+use Rattle.hunk_scan.specs.declared.position.Position.{Position}
+use Rattle.hunk_scan.specs.declared.position.Position.TheVariants as positions
+use Rattle.hunk_scatter.specs.declared.body_state.BodyState.{BodyState}
+
+abbrev pub zeros : List TableEntry → List ℕ
+zeros table = flat_map (λ e. replicate (4 * size_longs e.word) 0) table
+
+abbrev pub IsSized : List ℕ → HunkValue → Type 0
+IsSized bases h = length (image bases h) ≡ 4 * size_longs h.entry.word
+
+abbrev pub images : List ℕ → List HunkValue → List ℕ
+images bases hunks = flat_map (image bases) hunks
+
+-- The images of the whole hunks, the open segment so far, and zero bytes.
+pub record Holds (bases : List ℕ) (o : OpenHunk) (n : BlockNext) (store : List ℕ) : Type 0 where
+  pub front : AllByRecursion (IsSized bases) o.finished
+  pub segment : length (segment_so_far bases o n) ≡ 4 * size_longs o.entry.word
+  pub unplaced : o.has_content ≡ false → (flat_map (λ b. block_content b.body) o.blocks ≡ []) × (flat_map (λ b. block_relocations b.body) o.blocks ≡ [])
+  pub store_is : store ≡ images bases o.finished ++ (segment_so_far bases o n ++ zeros o.ahead)
+
+abbrev pub StoreHolds : List ℕ → Next → List ℕ → Type 0
+StoreHolds bases (More (AtBlock o)) store = Holds bases o (Whole End) store
+StoreHolds bases (More (InBody o word x)) store = Holds bases o (Open x) store
+StoreHolds bases (Finished v) store = AllByRecursion (IsSized bases) v × (store ≡ images bases v)
+StoreHolds bases _ store = ⊥
+
+-- four bytes at the offset are replaced
+abbrev pub put_at : List ℕ → ℕ → List ℕ → List ℕ
+put_at bytes offset four = take offset bytes ++ four ++ drop (offset + 4) bytes
+
+-- What the loader does to its store at a longword.
+abbrev pub stored_in : List ℕ → ℕ → Position → ℕ → List ℕ → List ℕ
+stored_in bases start (positions.Body o (phases.Content longs owed)) w store = put_at store (start + 4 * (longs - owed - 1)) (to_be_bytes w32 w)
+stored_in bases start (positions.Body o (phases.Offset target owed)) w store = add_at store (start + w) (get_or bases target 0)
+stored_in bases start _ w store = store
+
+abbrev pub stored : List ℕ → BodyState → ℕ → List ℕ → List ℕ
+stored bases s w store = stored_in bases s.start s.position w store

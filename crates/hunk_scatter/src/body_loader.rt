@@ -1,0 +1,201 @@
+//! The loader of a body.
+ghost use Rattle.std.specs.Prelude.{◌≡◌, ℕ, ◌+◌, ◌*◌, ◌/◌, ◌<◌, ◌≤◌, ◌^◌, List, [], ◌∷◌, ◌++◌, length, take, true, false, Some, None, Ok, Err, IfOk, IfErr, OnOk, OnErr, IsOk, IsTrue};
+ghost use Rattle.hunk_words.specs.Longs.{bytes_of};
+ghost use Rattle.hunk_words.specs.declared.fault.Fault.{Fault};
+ghost use Rattle.hunk_files.specs.Fault.{HasRefusal, IsTruncated};
+ghost use Rattle.hunk_files.specs.Image.{declared_bytes};
+ghost use Rattle.hunk_files.specs.LoadFile.{LoadFileValue, IsLoadFile};
+ghost use Rattle.hunk_files.specs.LoadText.{text};
+ghost use Rattle.hunk_scatter.specs.LoaderReasons.{is_of_body};
+ghost use Rattle.hunk_scatter.specs.LoaderValues.{BodyLoaderValue, IsWholeFile, MayGoOn, HasNoRefusal, IsImageOf};
+ghost use Rattle.hunk_scatter.specs.Rows.{entries_of};
+
+use crate::body_state::BodyState;
+use crate::history::History;
+use crate::image::Image;
+use crate::store::take_word;
+use hunk_files::Row;
+use hunk_words::{Assembler, LoadFault};
+use std::marker::Model;
+
+/// Takes the body of a load file, and leaves each segment in its place.
+///
+/// Contracts see the bytes that were consumed, header and body joined, the rows with their bases,
+/// and the refusal. No call takes memory.
+#[derive(Drop)]
+pub struct BodyLoader {
+    pub(crate) rows: Vec<Row>,
+    pub(crate) store: Vec<u8>,
+    pub(crate) state: BodyState,
+    pub(crate) assembler: Assembler,
+    pub(crate) count: u64,
+    pub(crate) refused: Option<LoadFault>,
+    pub(crate) history: History,
+}
+
+impl Model for BodyLoader {
+    ghost use Rattle.hunk_scatter.specs.LoaderValues.{BodyLoaderValue};
+    ghost use Rattle.hunk_scatter.specs.BodyLoaderFields.{BodyLoaderInvariant};
+
+    ghost Value = { BodyLoaderValue };
+
+    ghost view = { λ s. record { fed = s.history.bytes; rows = s.rows.items; refused = s.refused } };
+
+    ghost invariant = { λ s. BodyLoaderInvariant s.rows.items s.store.items s.state s.assembler s.count s.refused s.history.bytes };
+}
+
+impl BodyLoader {
+    /// Takes a byte, unless the file is whole.
+    fn push(&mut self, byte: u8) -> Result<bool, LoadFault>
+        requires room { length self.old.fed + 1 < 2 ^ 64 }
+        requires reading { self.old.refused ≡ None }
+        ensures rows { self.new.rows ≡ self.old.rows }
+        ensures more { result ≡ Ok true → (self.new.fed ≡ self.old.fed ++ byte ∷ []) × (self.new.refused ≡ None) }
+        ensures whole { result ≡ Ok false → (self.new ≡ self.old) × IsWholeFile self.old.rows self.old.fed }
+        ensures complete { IsWholeFile self.old.rows self.old.fed → result ≡ Ok false }
+        ensures refusal { IfErr result (λ f. HasRefusal (self.old.fed ++ byte ∷ []) f.place f.reason) }
+        ensures own { IfErr result (λ f. IsTrue (is_of_body f.reason)) }
+        ensures remembers { IfErr result (λ f. self.new.refused ≡ Some f) }
+    {
+        if self.state.position.is_done() {
+            return Ok(false);
+        }
+        let Some(word) = self.assembler.push(byte) else {
+            self.count += 1;
+            self.history = self.history.and(&[byte]);
+            return Ok(true);
+        };
+        match take_word(
+            self.store.as_mut_slice(),
+            self.rows.as_slice(),
+            self.state,
+            word,
+        ) {
+            Ok(state) => {
+                self.state = state;
+                self.count += 1;
+                self.history = self.history.and(&[byte]);
+                Ok(true)
+            }
+            Err(reason) => {
+                let fault = LoadFault {
+                    place: self.count - 3,
+                    reason,
+                };
+                self.refused = Some(fault);
+                Err(fault)
+            }
+        }
+    }
+
+    /// How many bytes to read next, at most; 0 where nothing more is taken.
+    ///
+    /// No load file with this table that begins with what was fed ends sooner than so many bytes
+    /// later. No longword that was fed is refused before `feed` refuses; where this is not 0 and the
+    /// input ends here, the input is truncated.
+    pub fn want(&self) -> usize
+        ensures bound { result ≤ 256 }
+        ensures least { (v : LoadFileValue) (more : List ℕ) → IsLoadFile v
+            → bytes_of (text v) ≡ self.now.fed ++ more → result ≤ length more }
+        ensures over { self.now.refused ≡ None → IsWholeFile self.now.rows self.now.fed → result ≡ 0 }
+        ensures some { self.now.refused ≡ None → result ≡ 0 → IsWholeFile self.now.rows self.now.fed }
+        ensures refused { (f : Fault) → self.now.refused ≡ Some f → result ≡ 0 }
+        ensures clean { self.now.refused ≡ None → HasNoRefusal self.now.fed }
+        ensures truncated { 0 < result → IsTruncated self.now.fed (4 * (length self.now.fed / 4)) }
+    {
+        if self.refused.is_some() {
+            return 0;
+        }
+        if self.state.position.is_done() {
+            return 0;
+        }
+        let bytes = 4 * self.state.position.least_longs() - self.assembler.pending() as u64;
+        if bytes < 256 { bytes as usize } else { 256 }
+    }
+
+    /// Consumes the piece, or up to the end of the file where that stands inside it, and gives the
+    /// number of bytes consumed. A file that is whole consumes nothing.
+    ///
+    /// A refusal is the first fault of all that was fed, this piece included, whatever the pieces
+    /// before. It consumes nothing, and each later `feed` answers it again.
+    pub fn feed(&mut self, piece: &[u8]) -> Result<usize, LoadFault>
+        requires { length self.old.fed + length piece.now < 2 ^ 64 }
+        ensures rows { self.new.rows ≡ self.old.rows }
+
+        // Success.
+        ensures taken { IfOk result (λ n. (n ≤ length piece.now) × (self.new.fed ≡ self.old.fed ++ take n piece.now)) }
+        ensures all { IfOk result (λ n. n < length piece.now → IsWholeFile self.new.rows self.new.fed) }
+        ensures complete { self.old.refused ≡ None → IsWholeFile self.old.rows self.old.fed → result ≡ Ok 0 }
+        ensures reading { OnOk result ((self.old.refused ≡ None) × (self.new.refused ≡ None)) }
+
+        // Refusals.
+        ensures refusal { self.old.refused ≡ None
+            → IfErr result (λ f. HasRefusal (self.old.fed ++ piece.now) f.place f.reason) }
+        ensures accepts { self.old.refused ≡ None → MayGoOn (self.old.fed ++ piece.now) → IsOk result }
+        ensures own { IfErr result (λ f. IsTrue (is_of_body f.reason)) }
+
+        // A loader that has refused.
+        ensures remembers { IfErr result (λ f. self.new.refused ≡ Some f) }
+        ensures nothing { OnErr result (self.new.fed ≡ self.old.fed) }
+        ensures stays { (f : Fault) → self.old.refused ≡ Some f → (result ≡ Err f) × (self.new ≡ self.old) }
+    {
+        if let Some(fault) = self.refused {
+            return Err(fault);
+        }
+        let before = self.history.and(&[]);
+        let count = self.count;
+        let mut taken = 0;
+        for byte in piece {
+            match self.push(*byte) {
+                Ok(true) => taken += 1,
+                Ok(false) => return Ok(taken),
+                Err(fault) => {
+                    self.history = before;
+                    self.count = count;
+                    return Err(fault);
+                }
+            }
+        }
+        Ok(taken)
+    }
+
+    /// The bytes that are held: those of the store, and 12 for each hunk.
+    pub fn held(&self) -> u64
+        ensures { result ≡ declared_bytes (entries_of self.now.rows) + 12 * length self.now.rows }
+    {
+        self.store.len() as u64 + 12 * self.rows.len() as u64
+    }
+
+    /// The number of bytes of header and body that were consumed.
+    pub fn fed(&self) -> u64
+        ensures { result ≡ length self.now.fed }
+    {
+        self.count
+    }
+
+    /// The image, where the file is whole; else the loader as it was.
+    pub fn finish(self) -> Result<Image, BodyLoader>
+        ensures image { IfOk result (λ image. IsImageOf self.rows self.fed image.segments) }
+        ensures rows { IfOk result (λ image. image.rows ≡ self.rows) }
+        ensures reading { OnOk result (self.refused ≡ None) }
+        ensures whole { self.refused ≡ None → IsWholeFile self.rows self.fed → IsOk result }
+        ensures same { IfErr result (λ loader. loader ≡ self) }
+    {
+        if self.refused.is_some() {
+            return Err(self);
+        }
+        if !self.state.position.is_done() {
+            return Err(self);
+        }
+        let BodyLoader {
+            rows,
+            store,
+            state: _,
+            assembler: _,
+            count: _,
+            refused: _,
+            history: _,
+        } = self;
+        Ok(Image { rows, store })
+    }
+}

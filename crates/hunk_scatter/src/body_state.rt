@@ -1,0 +1,66 @@
+//! Where the loader of a body stands.
+ghost use Rattle.std.specs.Prelude.{◌≡◌, ◌+◌, ◌*◌, ◌<◌, ◌^◌, length, ℕ};
+ghost use Rattle.hunk_scan.specs.Positions.{close};
+ghost use Rattle.hunk_scatter.specs.BodySteps.{step_body, refusal, longs_at, IsInStore};
+ghost use Rattle.hunk_scatter.specs.Rows.{words_of};
+
+use hunk_files::Row;
+use hunk_scan::Position;
+use hunk_words::Reason;
+
+/// The position, the open hunk, and the byte of the store where its segment begins.
+#[derive(Clone, Copy, Debug, PartialEq, Eq)]
+pub struct BodyState {
+    pub hunk: u32,
+    pub start: u64,
+    pub position: Position,
+}
+
+/// The declared longs of a hunk.
+fn longs_of(rows: &[Row], hunk: u32) -> u32
+    requires { hunk < length rows.now }
+    ensures value { result ≡ longs_at (words_of rows.now) hunk }
+    ensures bound { result < 2 ^ 30 }
+{
+    rows[hunk as usize].size().longs()
+}
+
+impl BodyState {
+    /// Before the first block of the first of so many hunks.
+    pub fn start(hunks: u32) -> BodyState
+        ensures { result ≡ record { hunk = 0; start = 0; position = close hunks hunks } }
+    {
+        BodyState {
+            hunk: 0,
+            start: 0,
+            position: Position::behind_table(hunks),
+        }
+    }
+
+    /// The refusal of the next longword.
+    pub fn refuse(&self, rows: &[Row], word: u32) -> Option<Reason>
+        requires { self.now.hunk < length rows.now }
+        ensures refusal { result ≡ refusal (words_of rows.now) self.now word }
+        ensures long { word < 2 ^ 32 }
+    {
+        self.position.refuse(longs_of(rows, self.hunk), word)
+    }
+
+    /// Behind a longword that is not refused.
+    pub fn step(self, rows: &[Row], word: u32) -> BodyState
+        requires rows { length rows.now < 2 ^ 32 }
+        requires room { (total : ℕ) × (total < 2 ^ 64) × IsInStore (words_of rows.now) total self }
+        ensures { result ≡ step_body (words_of rows.now) self word }
+    {
+        let position = self.position.step(word);
+        if position.is_between_hunks() {
+            BodyState {
+                hunk: self.hunk + 1,
+                start: self.start + 4 * u64::from(longs_of(rows, self.hunk)),
+                position,
+            }
+        } else {
+            BodyState { position, ..self }
+        }
+    }
+}

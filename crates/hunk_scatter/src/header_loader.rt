@@ -1,0 +1,261 @@
+//! The loader of a header.
+ghost use Rattle.std.specs.Prelude.{◌≡◌, ℕ, ◌+◌, ◌*◌, ◌/◌, ◌<◌, ◌≤◌, ◌^◌, List, [], ◌∷◌, ◌++◌, length, take, true, false, Some, None, Ok, Err, IfOk, IfErr, OnOk, OnErr, IsOk, IsTrue, IsErrAnd};
+ghost use Rattle.hunk_words.specs.Limits.{most_hunks};
+ghost use Rattle.hunk_words.specs.declared.fault.Fault.{Fault};
+ghost use Rattle.hunk_words.specs.declared.reason.Reason.TheVariants as reasons;
+ghost use Rattle.hunk_files.specs.Fault.{IsTruncated};
+ghost use Rattle.hunk_files.specs.Image.{declared_bytes};
+ghost use Rattle.hunk_files.specs.LoadFile.{TableEntry};
+ghost use Rattle.hunk_scatter.specs.LoaderReasons.{is_of_header};
+ghost use Rattle.hunk_scatter.specs.HeaderBytes.{IsTable, header_bytes, IsHeader, MayGoOnInHeader, entries_so_far, PassesBudget, IsOverBudget, IsBudgetOrMemory, IsHeaderFault};
+ghost use Rattle.hunk_scatter.specs.HeaderLoaderFields.{HeaderStop};
+ghost use Rattle.hunk_scatter.specs.LoaderValues.{HeaderLoaderValue, HasNoRefusal};
+ghost use Rattle.hunk_words.specs.Longs.{longs};
+
+use crate::declared::Declared;
+use crate::header_state::{HeaderState, take_header_word};
+use crate::history::History;
+use hunk_files::Row;
+use hunk_scan::Position;
+use hunk_words::{Assembler, LoadFault, Reason};
+use std::alloc::Global;
+use std::marker::Model;
+
+/// Takes the header of a load file, whose hunks may declare so many bytes together.
+///
+/// Contracts see the bytes that were consumed, the budget and the refusal. Memory is asked for rows
+/// that were read, and for nothing else.
+#[derive(Drop)]
+pub struct HeaderLoader {
+    alloc: Global,
+    rows: Vec<Row>,
+    state: HeaderState,
+    budget: u64,
+    assembler: Assembler,
+    count: u64,
+    refused: Option<LoadFault>,
+    history: History,
+}
+
+impl Model for HeaderLoader {
+    ghost use Rattle.hunk_scatter.specs.HeaderLoaderFields.{HeaderLoaderInvariant};
+    ghost use Rattle.hunk_scatter.specs.LoaderValues.{HeaderLoaderValue};
+
+    ghost Value = { HeaderLoaderValue };
+
+    ghost view = { λ s. record { fed = s.history.bytes; budget = s.budget; refused = s.refused } };
+
+    ghost invariant = { λ s. HeaderLoaderInvariant s.budget s.rows.items s.state s.assembler s.count s.refused s.history.bytes };
+}
+
+impl HeaderLoader {
+    /// A loader that nothing was fed to. It takes no memory.
+    pub fn new(alloc: Global, budget: u64) -> HeaderLoader
+        ensures fed { result.fed ≡ [] }
+        ensures budget { result.budget ≡ budget }
+        ensures open { result.refused ≡ None }
+    {
+        HeaderLoader {
+            alloc,
+            rows: Vec::new(alloc),
+            state: HeaderState {
+                position: Position::FirstLong,
+                total: 0,
+            },
+            budget,
+            assembler: Assembler::new(),
+            count: 0,
+            refused: None,
+            history: History::new(),
+        }
+    }
+
+    /// Takes a byte, unless the header is whole.
+    fn push(&mut self, byte: u8) -> Result<bool, LoadFault>
+        requires room { length self.old.fed + 1 < 2 ^ 64 }
+        requires reading { self.old.refused ≡ None }
+        ensures budget { self.new.budget ≡ self.old.budget }
+        ensures more { result ≡ Ok true → (self.new.fed ≡ self.old.fed ++ byte ∷ []) × (self.new.refused ≡ None) }
+        ensures whole { result ≡ Ok false → (self.new ≡ self.old) × IsHeader self.old.fed }
+        ensures complete { IsHeader self.old.fed → result ≡ Ok false }
+        ensures refusal { IfErr result (HeaderStop self.old.budget (self.old.fed ++ byte ∷ [])) }
+        ensures remembers { IfErr result (λ f. self.new.refused ≡ Some f) }
+    {
+        if self.state.position.is_behind_header() {
+            return Ok(false);
+        }
+        let Some(word) = self.assembler.push(byte) else {
+            self.count += 1;
+            self.history = self.history.and(&[byte]);
+            return Ok(true);
+        };
+        match take_header_word(&mut self.rows, self.state, self.budget, word) {
+            Ok(state) => {
+                self.state = state;
+                self.count += 1;
+                self.history = self.history.and(&[byte]);
+                Ok(true)
+            }
+            Err(reason) => {
+                let fault = LoadFault {
+                    place: self.count - 3,
+                    reason,
+                };
+                self.rows.clear();
+                self.refused = Some(fault);
+                Err(fault)
+            }
+        }
+    }
+
+    /// How many bytes to read next, at most; 0 where nothing more is taken.
+    ///
+    /// No header that begins with what was fed ends sooner than so many bytes later. No longword
+    /// that was fed is refused before `feed` refuses; where the input ends here, it is truncated.
+    pub fn want(&self) -> usize
+        ensures bound { result ≤ 256 }
+        ensures least { (table : List TableEntry) (more : List ℕ) → IsTable table
+            → header_bytes table ≡ self.now.fed ++ more → result ≤ length more }
+        ensures over { self.now.refused ≡ None → IsHeader self.now.fed → result ≡ 0 }
+        ensures some { self.now.refused ≡ None → result ≡ 0 → IsHeader self.now.fed }
+        ensures refused { (f : Fault) → self.now.refused ≡ Some f → result ≡ 0 }
+        ensures clean { self.now.refused ≡ None → HasNoRefusal self.now.fed }
+        ensures truncated { self.now.refused ≡ None → IsTruncated self.now.fed (4 * (length self.now.fed / 4)) }
+        ensures within { self.now.refused ≡ None → (at : ℕ) → PassesBudget self.now.budget self.now.fed at → ⊥ }
+    {
+        if self.refused.is_some() {
+            return 0;
+        }
+        if self.state.position.is_behind_header() {
+            return 0;
+        }
+        let bytes = 4 * self.state.position.least_longs() - self.assembler.pending() as u64;
+        if bytes < 256 { bytes as usize } else { 256 }
+    }
+
+    /// Takes the bytes of a piece in turn.
+    fn push_all(&mut self, piece: &[u8]) -> Result<usize, LoadFault>
+        requires room { length self.old.fed + length piece.now < 2 ^ 64 }
+        requires reading { self.old.refused ≡ None }
+        ensures budget { self.new.budget ≡ self.old.budget }
+        ensures taken { IfOk result (λ n. (n ≤ length piece.now) × (self.new.fed ≡ self.old.fed ++ take n piece.now)) }
+        ensures all { IfOk result (λ n. n < length piece.now → IsHeader self.new.fed) }
+        ensures complete { IsHeader self.old.fed → result ≡ Ok 0 }
+        ensures reading { OnOk result (self.new.refused ≡ None) }
+        ensures refusal { IfErr result (λ f. (front rest : List ℕ) × (self.old.fed ++ piece.now ≡ front ++ rest)
+            × (length self.old.fed < length front) × HeaderStop self.old.budget front f) }
+        ensures remembers { IfErr result (λ f. self.new.refused ≡ Some f) }
+    {
+        let mut taken = 0;
+        for byte in piece {
+            match self.push(*byte) {
+                Ok(true) => taken += 1,
+                Ok(false) => return Ok(taken),
+                Err(fault) => return Err(fault),
+            }
+        }
+        Ok(taken)
+    }
+
+    /// Consumes the piece, or up to the end of the header where that stands inside it, and gives the
+    /// number of bytes consumed. A header that is whole consumes nothing.
+    ///
+    /// A refusal is Budget at the size word with which the declared bytes first pass the budget,
+    /// OutOfMemory at the longword that completes a row, or the first fault of all that was fed,
+    /// this piece included. It consumes nothing, and each later `feed` answers it again.
+    pub fn feed(&mut self, piece: &[u8]) -> Result<usize, LoadFault>
+        requires { length self.old.fed + length piece.now < 2 ^ 64 }
+        ensures budget { self.new.budget ≡ self.old.budget }
+
+        // Success.
+        ensures taken { IfOk result (λ n. (n ≤ length piece.now) × (self.new.fed ≡ self.old.fed ++ take n piece.now)) }
+        ensures all { IfOk result (λ n. n < length piece.now → IsHeader self.new.fed) }
+        ensures complete { self.old.refused ≡ None → IsHeader self.old.fed → result ≡ Ok 0 }
+        ensures reading { OnOk result ((self.old.refused ≡ None) × (self.new.refused ≡ None)) }
+
+        // Refusals.
+        ensures refusal { self.old.refused ≡ None
+            → IfErr result (IsHeaderFault self.old.budget (self.old.fed ++ piece.now)) }
+        ensures passes { self.old.refused ≡ None → (at : ℕ)
+            → PassesBudget self.old.budget (self.old.fed ++ piece.now) at → IsErrAnd result (IsOverBudget at) }
+        ensures wanting { self.old.refused ≡ None
+            → IfErr result (λ f. f.reason ≡ reasons.OutOfMemory → length self.old.fed < f.place + 4) }
+        ensures accepts { self.old.refused ≡ None → MayGoOnInHeader (self.old.fed ++ piece.now)
+            → IfErr result (λ f. IsBudgetOrMemory f.reason) }
+        ensures own { IfErr result (λ f. IsTrue (is_of_header f.reason)) }
+
+        // A loader that has refused.
+        ensures remembers { IfErr result (λ f. self.new.refused ≡ Some f) }
+        ensures nothing { OnErr result (self.new.fed ≡ self.old.fed) }
+        ensures stays { (f : Fault) → self.old.refused ≡ Some f → (result ≡ Err f) × (self.new ≡ self.old) }
+    {
+        if let Some(fault) = self.refused {
+            return Err(fault);
+        }
+        let before = self.history.and(&[]);
+        let count = self.count;
+        match self.push_all(piece) {
+            Ok(taken) => {
+                // The proof learns that what was fed keeps to the budget.
+                let _ = &self.history;
+                Ok(taken)
+            }
+            Err(fault) => {
+                self.history = before;
+                self.count = count;
+                Err(fault)
+            }
+        }
+    }
+
+    /// The bytes that are held: 12 for each row that is whole in what was fed, none after a refusal.
+    pub fn held(&self) -> u64
+        ensures exact { self.now.refused ≡ None → result ≡ 12 * length (entries_so_far (longs self.now.fed)) }
+        ensures cleared { (f : Fault) → self.now.refused ≡ Some f → result ≡ 0 }
+        ensures bound { result ≤ 12 * most_hunks }
+    {
+        12 * self.rows.len() as u64
+    }
+
+    /// The number of bytes that were consumed.
+    pub(crate) fn fed(&self) -> u64
+        ensures { result ≡ length self.now.fed }
+    {
+        self.count
+    }
+
+    /// The table, where the header is whole; else the loader as it was.
+    pub fn declared(self) -> Result<Declared, HeaderLoader>
+        ensures table { IfOk result (λ d. IsTable d.table × (self.fed ≡ header_bytes d.table)) }
+        ensures budget { IfOk result (λ d. d.budget ≡ self.budget) }
+        ensures within { IfOk result (λ d. declared_bytes d.table ≤ self.budget) }
+        ensures reading { OnOk result (self.refused ≡ None) }
+        ensures whole { self.refused ≡ None → IsHeader self.fed → IsOk result }
+        ensures same { IfErr result (λ loader. loader ≡ self) }
+    {
+        if self.refused.is_some() {
+            return Err(self);
+        }
+        if !self.state.position.is_behind_header() {
+            return Err(self);
+        }
+        let HeaderLoader {
+            alloc,
+            rows,
+            state,
+            budget,
+            assembler: _,
+            count,
+            refused: _,
+            history,
+        } = self;
+        Ok(Declared {
+            alloc,
+            rows,
+            total: state.total,
+            budget,
+            count,
+            history,
+        })
+    }
+}

@@ -1,0 +1,14 @@
+-- The limits that the fields of the format set.
+use Rattle.std.specs.Prelude.{ℕ, ◌^◌}
+
+-- the most hunks of a load file
+abbrev pub most_hunks : ℕ
+most_hunks = 65536
+
+-- a name has fewer longwords
+abbrev pub name_limit : ℕ
+name_limit = 2 ^ 24
+
+-- a content has fewer longwords
+abbrev pub content_limit : ℕ
+content_limit = 2 ^ 30
