@@ -1,5 +1,5 @@
 -- What was read of a load file, in numbers alone: the position of its reader.
-use Rattle.std.specs.Prelude.{ℕ, suc, ◌+◌, List, [], ◌∷◌, ◌++◌, length}
+use Rattle.std.specs.Prelude.{◌≡◌, ℕ, suc, ◌+◌, true, List, [], ◌∷◌, ◌++◌, length}
 use Rattle.hunk_words.specs.Bits.{size_longs}
 use Rattle.hunk_blocks.specs.Values.{BlockValue}
 use Rattle.hunk_blocks.specs.BlockSteps.{ForName, ForDebug, ForAdvisory, ForCode, ForData, ForBss, Counted, SizedCode, SizedData, Inside, AtCount, AtSize, InPayload, AtGroup, AtTarget, InOffsets, AtEntry, InName, AtValue}
@@ -8,6 +8,7 @@ use Rattle.hunk_scan.specs.declared.phase.Phase.{Phase}
 use Rattle.hunk_scan.specs.declared.phase.Phase.TheVariants as phases
 use Rattle.hunk_scan.specs.declared.position.Position.{Position}
 use Rattle.hunk_scan.specs.declared.position.Position.TheVariants as positions
+use Rattle.hunk_scan.specs.Positions.{is_behind_header}
 use Rattle.hunk_files.specs.LoadFile.{TableEntry}
 use Rattle.hunk_files.specs.LoadText.{entries}
 use Rattle.hunk_files.specs.FileSteps.{OpenHunk, Progress, AtFirst, AtResident, AtTableSize, AtFirstHunk, AtLastHunk, AtSizeWord, AtAttributes, AtBlock, InBody, Next, More, Finished}
@@ -75,3 +76,7 @@ table_of (More (AtBlock o)) = open_table o
 table_of (More (InBody o word x)) = open_table o
 table_of (Finished v) = entries v
 table_of _ = []
+
+-- the header was read
+abbrev pub IsBehindHeader : Next → Type 0
+IsBehindHeader n = is_behind_header (position_of n) ≡ true

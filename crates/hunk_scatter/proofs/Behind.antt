@@ -1,35 +1,33 @@
 -- Behind the header no longword has the role of a size word, and before its end none is refused that a header has there.
-use Rattle.std.proofs.Common.{◌≡◌, ℕ, List, [], ◌∷◌, ◌++◌, length, refl, sym, ap, subst, ◌∙◌, append_assoc, None}
+use Rattle.std.proofs.Common.{◌≡◌, ℕ, List, [], ◌∷◌, ◌++◌, length, refl, ap, subst, ◌∙◌, append_assoc, None}
 use Rattle.std.proofs.lemmas.List.{map-append}
 use Rattle.hunk_files.specs.Fault.{Expects}
 use Rattle.hunk_files.specs.LoadFile.{TableEntry}
 use Rattle.hunk_files.specs.LoadText.{words, text}
 use Rattle.hunk_scan.specs.Roles.{Role, Role as roles, refuse}
-use Rattle.hunk_files.specs.FileSteps.{Progress, AtFirst, AtBlock, InBody, Next, More, Finished, open_hunk, role_of, step, Leads}
+use Rattle.hunk_files.specs.FileSteps.{Progress, AtBlock, InBody, Next, More, Finished, open_hunk, role_of, step, Leads}
 use Rattle.hunk_files.proofs.Reading.{reads, rest_read, read_passes}
 use Rattle.hunk_files.specs.WordsRead.{HasRead, Labelled}
-use Rattle.hunk_files.proofs.Runs.{Leads-split, Leads-same}
-use Rattle.hunk_files.proofs.Scan.{expected_place, expects_of, words_split, one_role}
+use Rattle.hunk_files.proofs.Scan.{expected_place, expects_of, one_role}
 use Rattle.hunk_scatter.specs.HeaderBytes.{IsTable, header_words}
-use Rattle.hunk_scatter.specs.BodyLoaderFields.{IsBehindHeader}
-use Rattle.hunk_scatter.specs.BodyReader.{IsInBody}
+use Rattle.hunk_files.specs.ReaderPosition.{IsBehindHeader}
 use Rattle.hunk_scatter.proofs.Forget.{step_behind}
 use Rattle.hunk_scatter.proofs.HeaderTexts.{header_read}
 use Rattle.hunk_scatter.proofs.Outcomes.{begins_file}
 
-behind_leads : (n : Next) → IsBehindHeader n → (ls : Labelled) (p : Progress) → Leads n ls (More p) → IsInBody p
+behind_leads : (n : Next) → IsBehindHeader n → (ls : Labelled) (p : Progress) → Leads n ls (More p) → IsBehindHeader (More p)
 behind_leads n b [] p run = subst IsBehindHeader run b
 behind_leads (More q) b (l ∷ ls) p run = behind_leads (step q l.1) (step_behind q l.1 b) ls p run.1
 behind_leads (Finished v) b (l ∷ ls) p run = absurd run
 
 -- What follows a header is read in the body.
-pub stays_behind : (ws more : List ℕ) (n : Next) (p : Progress) → HasRead ws n → IsBehindHeader n → HasRead (ws ++ more) (More p) → IsInBody p
+pub stays_behind : (ws more : List ℕ) (n : Next) (p : Progress) → HasRead ws n → IsBehindHeader n → HasRead (ws ++ more) (More p) → IsBehindHeader (More p)
 stays_behind ws more n p h b k = let r = rest_read ws n h (ws ++ more) (More p) k more refl in behind_leads n b r.0 p r.1
 
-in_block : (p : Progress) → IsInBody p → role_of p ≡ roles.SizeWord → ⊥
+in_block : (p : Progress) → IsBehindHeader (More p) → role_of p ≡ roles.SizeWord → ⊥
 in_block (AtBlock o) b e = cc
 in_block (InBody o word x) b e = cc
-in_block _ b e = absurd b
+in_block _ b e = cc
 
 pub no_size_word : (ws more : List ℕ) (n : Next) → HasRead ws n → IsBehindHeader n → Expects (ws ++ more) roles.SizeWord → ⊥
 no_size_word ws more n h b e =
@@ -39,8 +37,8 @@ no_size_word ws more n h b e =
     place.1.role_is
 
 pub table_behind : (t : List TableEntry) → IsTable t → IsBehindHeader (open_hunk (length t) [] t)
-table_behind [] h = tt
-table_behind (e ∷ t) h = tt
+table_behind [] h = refl
+table_behind (e ∷ t) h = refl
 
 -- ---- longwords that pass
 

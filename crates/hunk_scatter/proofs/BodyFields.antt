@@ -1,5 +1,5 @@
 -- What the fields of the loader of a body keep, and what they tell.
-use Rattle.std.proofs.Common.{◌≡◌, ℕ, ◌+◌, ◌-◌, ◌*◌, ◌/◌, ◌^◌, ◌≤◌, ◌<◌, Bool, true, false, ◌||◌, List, [], ◌∷◌, ◌++◌, length, map, take, drop, refl, sym, ap, ap₂, subst, ◌∙◌, append_assoc, append-nil, arith, length-append, drop_of_length-le, is_some, Option, ltb, None, Some}
+use Rattle.std.proofs.Common.{◌≡◌, ℕ, ◌+◌, ◌-◌, ◌*◌, ◌/◌, ◌^◌, ◌≤◌, ◌<◌, true, false, List, [], ◌∷◌, ◌++◌, length, map, take, drop, refl, sym, ap, ap₂, subst, ◌∙◌, append_assoc, append-nil, arith, length-append, drop_of_length-le, is_some, Option, ltb, None, Some}
 use Rattle.std.specs.List.{AllByRecursion}
 use Rattle.std.specs.Int.{w32, to_be_bytes}
 use Rattle.std.proofs.lemmas.List.{length-map, take_all, take_at, drop_at}
@@ -13,28 +13,24 @@ use Rattle.hunk_files.specs.Fault.{HasRefusal, IsTruncated}
 use Rattle.hunk_files.specs.Image.{image}
 use Rattle.hunk_files.specs.LoadFile.{HunkValue, LoadFileValue, IsLoadFile}
 use Rattle.hunk_files.specs.LoadText.{text, entries}
-use Rattle.hunk_blocks.specs.BlockSteps.{ForName, ForDebug, ForAdvisory, ForCode, ForData, ForBss, Counted, SizedCode, SizedData, Inside, AtCount, AtSize, InPayload, AtGroup, AtTarget, InOffsets, AtEntry, InName, AtValue}
-use Rattle.hunk_files.specs.FileSteps.{OpenHunk, Progress, AtBlock, InBody, More, place_of}
-use Rattle.hunk_files.proofs.FileProgress.{ProgressFits}
-use Rattle.hunk_files.proofs.HunkProgress as blocks
+use Rattle.hunk_files.specs.FileSteps.{Progress, AtBlock, InBody, More}
 use Rattle.hunk_words.proofs.LongLaws.{longs-bytes_of, longs-few, length-bytes_of}
 use Rattle.hunk_blocks.proofs.Lists.{passed_false}
 use Rattle.hunk_files.proofs.Least.{least, owes_least, least_same}
 use Rattle.hunk_files.proofs.Reading.{reads, read_goes_on}
 use Rattle.hunk_files.specs.declared.row.Row.{Row}
-use Rattle.hunk_blocks.specs.Values.{BlockValue}
 use Rattle.hunk_scan.specs.declared.phase.Phase.TheVariants as phases
 use Rattle.hunk_scan.specs.declared.position.Position.{Position}
 use Rattle.hunk_scan.specs.declared.position.Position.TheVariants as positions
-use Rattle.hunk_scan.specs.Positions.{is_behind_header, is_done, least_longs}
-use Rattle.hunk_files.specs.ReaderPosition.{position_of, open_of, block_phase}
+use Rattle.hunk_scan.specs.Positions.{is_done, least_longs}
+use Rattle.hunk_files.specs.ReaderPosition.{position_of, IsBehindHeader}
 use Rattle.hunk_scatter.specs.declared.body_state.BodyState.{BodyState}
 use Rattle.hunk_scatter.specs.LoaderReasons.{is_of_body}
 use Rattle.std.specs.Prelude.{IsTrue}
 use Rattle.hunk_scatter.specs.StoreContent.{IsSized, stored_in, stored, images}
 use Rattle.hunk_scatter.specs.BodyLoaderFields.{BodyLoaderInvariant}
 use Rattle.hunk_scatter.specs.LoaderValues.{IsWholeFile, IsImageOf, HasNoRefusal, cut}
-use Rattle.hunk_scatter.specs.BodyReader.{sizes_of, state_of, IsInBody}
+use Rattle.hunk_scatter.specs.BodyReader.{sizes_of, state_of}
 use Rattle.hunk_scatter.specs.BodySteps.{longs_at, refusal, step_body, IsInStore}
 use Rattle.hunk_scatter.specs.Rows.{words_of, bases_of}
 use Rattle.hunk_scatter.proofs.Outcomes.{read_clean, read_truncated}
@@ -174,15 +170,10 @@ none_of (Some f) e = absurd cc
 
 -- ---- what is wanted
 
-in_body_is : (p : Progress) → IsInBody p → is_behind_header (position_of (More p)) ≡ true
-in_body_is (AtBlock o) b = refl
-in_body_is (InBody o word x) b = refl
-in_body_is _ b = absurd b
-
-state_position : (p : Progress) → IsInBody p → least_longs (state_of (More p)).position ≡ least_longs (position_of (More p))
+state_position : (p : Progress) → IsBehindHeader (More p) → least_longs (state_of (More p)).position ≡ least_longs (position_of (More p))
 state_position (AtBlock o) b = refl
 state_position (InBody o word x) b = refl
-state_position _ b = absurd b
+state_position _ b = absurd cc
 
 module _ (rows : List Row) (store : List ℕ) (state : BodyState) (pending : List ℕ) (count : ℕ) (refused : Option Fault) (fed : List ℕ)
     (h : BodyLoaderInvariant rows store state pending count refused fed) (none : refused ≡ None) where
@@ -200,7 +191,7 @@ module _ (rows : List Row) (store : List ℕ) (state : BodyState) (pending : Lis
       ∙ longs-bytes_of g.ws (pending ++ more) (read_longs g.ws (More g.at) g.read) in
       let owed : least g.at ≤ length (longs (pending ++ more)) = owes_least g.ws (More g.at) g.read v is (longs (pending ++ more)) d in
       let here : least g.at ≡ least_longs state.position =
-      least_same g.at (in_body_is g.at g.in_body) (reads g.read).0 ∙ sym (state_position g.at g.in_body) ∙ ap (λ (s : BodyState). least_longs s.position) g.state_is in
+      least_same g.at g.in_body (reads g.read).0 ∙ sym (state_position g.at g.in_body) ∙ ap (λ (s : BodyState). least_longs s.position) g.state_is in
       let bytes : 4 * length (longs (pending ++ more)) ≡ length pending + length more =
       omega (arith, ap length d, ap length whole, length-append g.ws (longs (pending ++ more)), length-bytes_of (text v), length-bytes_of g.ws, length-append (bytes_of g.ws) (pending ++ more), length-append pending more) in
       let i = room rows store state pending fed g h.size in

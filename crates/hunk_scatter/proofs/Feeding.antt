@@ -8,7 +8,8 @@ use Rattle.hunk_files.specs.Fault.{IsTruncated}
 use Rattle.hunk_files.specs.LoadFile.{TableEntry, LoadFileValue, IsLoadFile}
 use Rattle.hunk_files.specs.LoadText.{text}
 use Rattle.hunk_files.specs.declared.row.Row.{Row}
-use Rattle.hunk_scatter.specs.HeaderBytes.{IsTable, IsHeader, header_bytes, IsInHeader, BeginsHeader, IsHeaderFault, IsHeaderFaultBy}
+use Rattle.hunk_scatter.specs.HeaderBytes.{IsTable, IsHeader, header_bytes, BeginsHeader}
+use Rattle.hunk_scatter.specs.HeaderFaults.{CompletesRow, IsHeaderFault, IsHeaderFaultBy}
 use Rattle.hunk_words.specs.declared.fault.Fault.{Fault}
 use Rattle.hunk_words.specs.declared.reason.Reason.{Reason}
 use Rattle.hunk_words.specs.declared.reason.Reason.TheVariants as reasons
@@ -110,7 +111,7 @@ rest_bytes fed piece front rest are e less = go (fronts_of fed piece front rest 
 
 -- A piece with which a row is completed is that of a header.
 pub row_begins : (fed piece : List ℕ) (want at : ℕ) → ((t : List TableEntry) (more : List ℕ) → IsTable t → header_bytes t ≡ fed ++ more → want ≤ length more) → length piece ≤ want →
-    length fed < at + 4 → IsInHeader (fed ++ piece) at → BeginsHeader (fed ++ piece)
+    length fed < at + 4 → CompletesRow (fed ++ piece) at → BeginsHeader (fed ++ piece)
 row_begins fed piece want at least fits less h = go (fronts_of fed piece h.front h.rest h.split)
   where
     go : ((m : List ℕ) × (fed ≡ h.front ++ m) × (m ++ piece ≡ h.rest)) ⊎ ((m : List ℕ) × (h.front ≡ fed ++ m) × (piece ≡ m ++ h.rest)) → BeginsHeader (fed ++ piece)
@@ -121,5 +122,5 @@ row_begins fed piece want at least fits less h = go (fronts_of fed piece h.front
         let far = least t (m ++ k) is (e ∙ ap (λ (bs : List ℕ). bs ++ k) p ∙ append_assoc fed m k) in
         omega (arith, far, fits, ap length q, length-append m h.rest, length-append m k))
 
-pub header_wants : (f : Fault) (budget : ℕ) (bytes : List ℕ) → f.reason ≡ reasons.OutOfMemory → IsHeaderFault budget bytes f → IsInHeader bytes f.place
+pub header_wants : (f : Fault) (budget : ℕ) (bytes : List ℕ) → f.reason ≡ reasons.OutOfMemory → IsHeaderFault budget bytes f → CompletesRow bytes f.place
 header_wants f budget bytes e h = subst (λ (r : Reason). IsHeaderFaultBy r budget bytes f.place) e h

@@ -12,15 +12,14 @@ use Rattle.hunk_blocks.specs.BlockSteps.{BlockNext, Open, Whole, step_inside, be
 use Rattle.hunk_files.specs.FileSteps.{hunk, block, OpenHunk, Progress, AtBlock, InBody, Next, More, Finished, role_of, open_hunk, close_by, after, step}
 use Rattle.hunk_files.proofs.FileProgress.{ProgressFits}
 use Rattle.hunk_files.proofs.Positions.{Moves, MovesTo, step_moves, step_position, refuse_same, inside_open}
-use Rattle.hunk_files.specs.ReaderPosition.{position_of, open_of, block_phase, longs_of, opened, open_table, table_of}
+use Rattle.hunk_files.specs.ReaderPosition.{position_of, open_of, block_phase, longs_of, opened, open_table, table_of, IsBehindHeader}
 use Rattle.hunk_blocks.proofs.Lists.{map-more}
 use Rattle.hunk_scan.specs.Roles.{refuse}
 use Rattle.hunk_scan.specs.declared.position.Position.{Position}
 use Rattle.hunk_scan.specs.declared.position.Position.TheVariants as positions
 use Rattle.hunk_scan.specs.Positions.{is_between_hunks, role_at}
 use Rattle.hunk_scatter.specs.declared.body_state.BodyState.{BodyState}
-use Rattle.hunk_scatter.specs.BodyLoaderFields.{IsBehindHeader}
-use Rattle.hunk_scatter.specs.BodyReader.{sizes_of, before, state_at, state_of, IsInBody}
+use Rattle.hunk_scatter.specs.BodyReader.{sizes_of, before, state_at, state_of}
 use Rattle.hunk_scatter.specs.BodySteps.{longs_at, refusal, move_to, step_body}
 
 -- ---- the table at the open hunk
@@ -105,7 +104,7 @@ module _ (o : OpenHunk) where
     after_state (More (AtBlock q)) b m = block_state q q.blocks m
     after_state (More (InBody q word x)) b m = same_hunk q.finished q.entry _ (m.1 ∙ opened_is) (m.0 ∙ longs_is) (inside_open x (open_of q))
     after_state (Finished v) b m = next_state v positions.Done (m ∙ opened_is) refl
-    after_state _ b m = absurd b
+    after_state _ b m = absurd cc
 
 -- ---- the table stays
 
@@ -124,44 +123,44 @@ after_table o word (Whole body) = go (standing body)
     go Content = refl
     go Ending = open_table_more o.hunks o.finished (hunk o.entry (o.blocks ++ block word body ∷ [])) o.ahead
 
-pub step_table : (p : Progress) (w : ℕ) → IsInBody p → table_of (step p w) ≡ table_of (More p)
+pub step_table : (p : Progress) (w : ℕ) → IsBehindHeader (More p) → table_of (step p w) ≡ table_of (More p)
 step_table (AtBlock o) w h = after_table o w (begin (kind w))
 step_table (InBody o word x) w h = after_table o word (step_inside x w)
-step_table _ w h = absurd h
+step_table _ w h = absurd cc
 
 open_behind : (hunks : ℕ) (finished : List HunkValue) (ahead : List TableEntry) → IsBehindHeader (open_hunk hunks finished ahead)
-open_behind hunks finished [] = tt
-open_behind hunks finished (e ∷ ahead) = tt
+open_behind hunks finished [] = refl
+open_behind hunks finished (e ∷ ahead) = refl
 
 after_behind : (o : OpenHunk) (word : ℕ) (n : BlockNext) → IsBehindHeader (after o word n)
-after_behind o word (Open x) = tt
+after_behind o word (Open x) = refl
 after_behind o word (Whole body) = go (standing body)
   where
     go : (s : Standing) → IsBehindHeader (close_by o (block word body) s)
-    go Beside = tt
-    go Relocating = tt
-    go Content = tt
+    go Beside = refl
+    go Relocating = refl
+    go Content = refl
     go Ending = open_behind o.hunks (o.finished ++ hunk o.entry (o.blocks ++ block word body ∷ []) ∷ []) o.ahead
 
-pub step_behind : (p : Progress) (w : ℕ) → IsInBody p → IsBehindHeader (step p w)
+pub step_behind : (p : Progress) (w : ℕ) → IsBehindHeader (More p) → IsBehindHeader (step p w)
 step_behind (AtBlock o) w h = after_behind o w (begin (kind w))
 step_behind (InBody o word x) w h = after_behind o word (step_inside x w)
-step_behind _ w h = absurd h
+step_behind _ w h = absurd cc
 
 -- A step of the reader is a step of the state.
-pub step_state : (p : Progress) (w : ℕ) → IsInBody p → ProgressFits p → refuse (role_of p) w ≡ None → state_of (step p w) ≡ step_body (sizes_of (table_of (More p))) (state_of (More p)) w
+pub step_state : (p : Progress) (w : ℕ) → IsBehindHeader (More p) → ProgressFits p → refuse (role_of p) w ≡ None → state_of (step p w) ≡ step_body (sizes_of (table_of (More p))) (state_of (More p)) w
 step_state (AtBlock o) w b f ok =
     after_state o (AtBlock o) refl refl (step (AtBlock o) w) (step_behind (AtBlock o) w b) (step_moves (AtBlock o) w)
     ∙ ap (λ (p : Position). move_to (sizes_of (open_table o)) (state_at o.finished p) p) (step_position (AtBlock o) w f ok)
 step_state (InBody o word x) w b f ok =
     after_state o (InBody o word x) refl refl (step (InBody o word x) w) (step_behind (InBody o word x) w b) (step_moves (InBody o word x) w)
     ∙ ap (λ (p : Position). move_to (sizes_of (open_table o)) (state_at o.finished p) p) (step_position (InBody o word x) w f ok)
-step_state _ w b f ok = absurd b
+step_state _ w b f ok = absurd cc
 
 -- The state tells the refusal.
-pub refusal_same : (p : Progress) (w : ℕ) → IsInBody p → ProgressFits p → refuse (role_of p) w ≡ refusal (sizes_of (table_of (More p))) (state_of (More p)) w
+pub refusal_same : (p : Progress) (w : ℕ) → IsBehindHeader (More p) → ProgressFits p → refuse (role_of p) w ≡ refusal (sizes_of (table_of (More p))) (state_of (More p)) w
 refusal_same (AtBlock o) w b f =
     refuse_same (AtBlock o) w f ∙ ap (λ (n : ℕ). refuse (role_at n (position_of (More (AtBlock o)))) w) (sym (declared o))
 refusal_same (InBody o word x) w b f =
     refuse_same (InBody o word x) w f ∙ ap (λ (n : ℕ). refuse (role_at n (position_of (More (InBody o word x)))) w) (sym (declared o))
-refusal_same _ w b f = absurd b
+refusal_same _ w b f = absurd cc

@@ -1,6 +1,6 @@
 -- What the fields of the loader of a header keep, and what they tell.
 use Rattle.std.proofs.Common.{◌≡◌, ℕ, ◌+◌, ◌-◌, ◌*◌, ◌/◌, ◌^◌, ◌<◌, ◌≤◌, Bool, true, false, List, [], ◌∷◌, ◌++◌, length, map, refl, sym, ap, subst, ◌∙◌, append_assoc, append-nil, arith, length-append, Option, Some, None, ◌⊎◌, inl, inr, ltb, take, drop, take-append-drop}
-use Rattle.std.specs.Prelude.{IsTrue, if◌then◌else◌}
+use Rattle.std.specs.Prelude.{IsTrue}
 use Rattle.std.proofs.lemmas.Bool.{ltb-true, ltb-false}
 use Rattle.std.proofs.lemmas.List.{length-map, take_all}
 use Rattle.hunk_words.specs.Longs.{longs, bytes_of, IsLong}
@@ -15,13 +15,13 @@ use Rattle.hunk_files.specs.LoadFile.{TableEntry}
 use Rattle.hunk_scan.specs.Roles.{refuse, Role as roles}
 use Rattle.hunk_files.specs.FileSteps.{Progress, AtFirst, AtAttributes, More, Finished, open_hunk, Next}
 use Rattle.hunk_files.specs.ReaderPosition.{table_of}
-use Rattle.hunk_files.proofs.Reading.{reads, start_read, one_place}
+use Rattle.hunk_files.proofs.Reading.{start_read, one_place}
 use Rattle.hunk_files.specs.WordsRead.{HasRead}
-use Rattle.hunk_scan.specs.declared.position.Position.{Position}
 use Rattle.hunk_scan.specs.declared.position.Position.TheVariants as positions
 use Rattle.hunk_scatter.specs.declared.header_state.HeaderState.{HeaderState}
 use Rattle.hunk_scatter.specs.LoaderReasons.{is_of_header}
-use Rattle.hunk_scatter.specs.HeaderBytes.{IsTable, IsHeader, header_words, header_bytes, entries_so_far, PassesBudget}
+use Rattle.hunk_scatter.specs.HeaderBytes.{IsTable, IsHeader, header_words, header_bytes, entries_so_far}
+use Rattle.hunk_scatter.specs.HeaderFaults.{PassesBudget}
 use Rattle.hunk_scatter.specs.HeaderLoaderFields.{adds, declares, declared_so_far, OpensFirst, StopsFor, HeaderReading, HeaderLoaderInvariant, DeclaredInvariant, HeaderStop}
 use Rattle.hunk_scan.specs.Positions.{role_at, step, is_behind_header, least_longs}
 use Rattle.hunk_scatter.specs.LoaderValues.{HasNoRefusal}

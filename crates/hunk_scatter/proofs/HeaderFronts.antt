@@ -13,21 +13,21 @@ use Rattle.hunk_files.specs.Image.{declared_bytes}
 use Rattle.hunk_files.specs.LoadFile.{TableEntry, LoadFileValue, IsLoadFile}
 use Rattle.hunk_files.specs.LoadText.{labelled, header_labelled, hunk_labelled, table, text, words}
 use Rattle.hunk_files.specs.FileSteps.{Progress, AtSizeWord, Next, More, Finished, open_hunk, role_of, step, Leads}
-use Rattle.hunk_files.specs.ReaderPosition.{position_of, table_of}
+use Rattle.hunk_files.specs.ReaderPosition.{position_of, table_of, IsBehindHeader}
 use Rattle.hunk_files.specs.WordsRead.{HasRead, Labelled, AreAccepted}
 use Rattle.hunk_files.proofs.FileProgress.{ProgressFits, NextFits, step_keeps}
 use Rattle.hunk_files.proofs.FileText.{entries_fit}
 use Rattle.hunk_files.proofs.Reading.{reads, rest_read}
 use Rattle.hunk_files.proofs.Scan.{no_fault, expected_place}
-use Rattle.hunk_scatter.specs.HeaderBytes.{IsTable, header_words, header_bytes, entries_so_far, IsWithinBudget, PassesBudget}
+use Rattle.hunk_scatter.specs.HeaderBytes.{IsTable, header_words, header_bytes, entries_so_far}
+use Rattle.hunk_scatter.specs.HeaderFaults.{IsWithinBudget, PassesBudget}
 use Rattle.hunk_scatter.specs.HeaderLoaderFields.{declares, declared_so_far, OpensFirst}
-use Rattle.hunk_scatter.specs.BodyLoaderFields.{IsBehindHeader}
 use Rattle.hunk_scatter.specs.LoadOutcomes.{IsWithinHeader, IsWithinFile}
 use Rattle.hunk_scatter.proofs.Behind.{table_behind, no_size_word}
 use Rattle.hunk_scatter.proofs.Faults.{longs-more}
 use Rattle.hunk_scatter.proofs.Feeding.{fronts_of}
 use Rattle.hunk_scatter.proofs.Forget.{step_behind, step_table}
-use Rattle.hunk_scatter.proofs.HeaderSteps.{IsInHeader, behind_is, step_opens, step_declares, rows_total}
+use Rattle.hunk_scatter.proofs.HeaderSteps.{IsInHeader, step_opens, step_declares, rows_total}
 use Rattle.hunk_scatter.proofs.HeaderStops.{header_longs}
 use Rattle.hunk_scatter.proofs.HeaderTexts.{header_read, rows_read}
 use Rattle.hunk_scatter.proofs.Outcomes.{longs_text}
@@ -104,7 +104,7 @@ module _ (t : List TableEntry) (is : IsTable t) where
   past_total : (p : Progress) (ls : Labelled) → OpensFirst (More p) → is_behind_header (position_of (More p)) ≡ true → Leads (More p) ls (open_hunk (length t) [] t) → declared_so_far (More p) ≤ declared_bytes t
   past_total p ls o e run =
       let table : ℕ = length (table_of (More p)) in
-      let same : table_of (More p) ≡ t = sym (behind_table (More p) (open_hunk (length t) [] t) (behind_is (More p) e) ls run) ∙ opened t is in
+      let same : table_of (More p) ≡ t = sym (behind_table (More p) (open_hunk (length t) [] t) e ls run) ∙ opened t is in
       omega (arith, ap declared_so_far (o e), rows_total table (table_of (More p)) 0, ap declared_bytes same)
 
   run_total : (ls : Labelled) (n : Next) → TotalsTo n ls

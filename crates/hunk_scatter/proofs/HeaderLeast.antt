@@ -10,7 +10,7 @@ use Rattle.hunk_files.specs.FileSteps.{table_entry, Progress, AtFirst, AtResiden
 use Rattle.hunk_files.specs.ReaderPosition.{position_of, table_of}
 use Rattle.hunk_files.specs.WordsRead.{HasRead, Labelled, AreAccepted}
 use Rattle.hunk_files.proofs.Accepted.{last_accepted}
-use Rattle.hunk_files.proofs.FileProgress.{NextFits, ProgressFits, step_keeps, zero_or_limit}
+use Rattle.hunk_files.proofs.FileProgress.{NextFits, step_keeps, zero_or_limit}
 use Rattle.hunk_files.proofs.Reading.{reads, rest_read, step_read}
 use Rattle.hunk_scatter.specs.HeaderBytes.{IsTable, header_words}
 use Rattle.hunk_scatter.specs.HeaderLoaderFields.{OpensFirst}

@@ -17,7 +17,8 @@ use Rattle.hunk_files.specs.WordsRead.{HasRead}
 use Rattle.hunk_files.proofs.Positions.{step_position}
 use Rattle.hunk_files.proofs.Reading.{reads, step_read}
 use Rattle.hunk_scatter.specs.declared.header_state.HeaderState.{HeaderState}
-use Rattle.hunk_scatter.specs.HeaderBytes.{entries_so_far, IsWithinBudget}
+use Rattle.hunk_scatter.specs.HeaderBytes.{entries_so_far}
+use Rattle.hunk_scatter.specs.HeaderFaults.{IsWithinBudget}
 use Rattle.hunk_scatter.specs.HeaderLoaderFields.{adds, declares, declared_so_far, HasReadHeader}
 use Rattle.hunk_scatter.specs.Rows.{entry_of, entries_of, row_of}
 use Rattle.hunk_scatter.proofs.Behind.{role_here}

@@ -6,13 +6,11 @@ use Rattle.hunk_scan.specs.Roles.{Role as roles, refuse}
 use Rattle.hunk_scan.specs.Positions.{role_at, is_behind_header}
 use Rattle.hunk_files.specs.Image.{declared_bytes}
 use Rattle.hunk_files.specs.LoadFile.{TableEntry}
-use Rattle.hunk_files.specs.FileSteps.{table_entry, Progress, AtFirst, AtResident, AtTableSize, AtFirstHunk, AtLastHunk, AtSizeWord, AtAttributes, AtBlock, InBody, Next, More, Finished, role_of, rows, sized_row, step}
-use Rattle.hunk_files.specs.ReaderPosition.{position_of, longs_of, table_of}
+use Rattle.hunk_files.specs.FileSteps.{table_entry, Progress, AtLastHunk, AtSizeWord, AtAttributes, AtBlock, InBody, More, role_of, rows, sized_row, step}
+use Rattle.hunk_files.specs.ReaderPosition.{position_of, longs_of, table_of, IsBehindHeader}
 use Rattle.hunk_files.proofs.FileProgress.{ProgressFits}
 use Rattle.hunk_files.proofs.Positions.{refuse_same}
 use Rattle.hunk_scatter.specs.HeaderLoaderFields.{adds, declares, declared_so_far, OpensFirst}
-use Rattle.hunk_scatter.specs.BodyLoaderFields.{IsBehindHeader}
-use Rattle.hunk_scatter.specs.BodyReader.{IsInBody}
 use Rattle.hunk_scatter.proofs.DeclaredBytes.{declared-append, declared-one}
 
 -- ---- what is in the header
@@ -20,16 +18,8 @@ use Rattle.hunk_scatter.proofs.DeclaredBytes.{declared-append, declared-one}
 abbrev pub IsInHeader : Progress → Type 0
 IsInHeader p = is_behind_header (position_of (More p)) ≡ false
 
-pub not_in_body : (p : Progress) → IsInHeader p → IsInBody p → ⊥
-not_in_body (AtBlock o) e b = cc
-not_in_body (InBody o word x) e b = cc
-not_in_body _ e b = b
-
-pub behind_is : (n : Next) → is_behind_header (position_of n) ≡ true → IsBehindHeader n
-behind_is (More (AtBlock o)) e = tt
-behind_is (More (InBody o word x)) e = tt
-behind_is (Finished v) e = tt
-behind_is _ e = absurd cc
+pub not_in_body : (p : Progress) → IsInHeader p → IsBehindHeader (More p) → ⊥
+not_in_body p e b = let clash : false ≡ true = sym e ∙ b in cc
 
 -- no hunk is open
 none_open : (p : Progress) → IsInHeader p → longs_of p ≡ 0

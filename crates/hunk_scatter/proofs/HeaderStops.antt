@@ -1,5 +1,5 @@
 -- What stops the loader of a header is the fault of the bytes, or the budget, or want of memory.
-use Rattle.std.proofs.Common.{◌≡◌, ℕ, ◌+◌, ◌*◌, ◌<◌, ◌≤◌, List, [], ◌∷◌, ◌++◌, length, map, refl, sym, ap, subst, ◌∙◌, append_assoc, append-nil, arith, length-append, Some, None, ◌⊎◌, inl, inr}
+use Rattle.std.proofs.Common.{◌≡◌, ℕ, ◌+◌, ◌*◌, ◌<◌, List, [], ◌∷◌, ◌++◌, length, refl, sym, ap, subst, ◌∙◌, append_assoc, append-nil, arith, length-append, Some, None, ◌⊎◌, inl, inr}
 use Rattle.std.specs.Prelude.{IsTrue}
 use Rattle.hunk_words.specs.Bits.{size_longs}
 use Rattle.hunk_words.specs.Longs.{longs, IsLong, AreLongs, IsBytes}
@@ -23,7 +23,8 @@ use Rattle.hunk_files.proofs.Refusals.{refusal_of_word}
 use Rattle.hunk_files.proofs.Scan.{expects_of}
 use Rattle.hunk_scan.specs.declared.position.Position.{Position}
 use Rattle.hunk_scatter.specs.LoaderReasons.{is_of_header}
-use Rattle.hunk_scatter.specs.HeaderBytes.{IsTable, header_words, header_bytes, BeginsHeader, MayGoOnInHeader, PassesBudget, IsOverBudget, IsBudgetOrMemory, IsHeaderFaultBy, IsHeaderFault, entries_so_far}
+use Rattle.hunk_scatter.specs.HeaderBytes.{IsTable, header_words, header_bytes, BeginsHeader, MayGoOnInHeader, entries_so_far}
+use Rattle.hunk_scatter.specs.HeaderFaults.{PassesBudget, IsOverBudget, IsBudgetOrMemory, IsHeaderFaultBy, IsHeaderFault}
 use Rattle.hunk_scatter.specs.HeaderLoaderFields.{adds, declares, StopsFor, HeaderStop}
 use Rattle.hunk_scatter.proofs.Behind.{stays_behind, table_behind, expected_passes, header_passes, role_here}
 use Rattle.hunk_scatter.proofs.HeaderGrows.{row_in_table, table_grows}

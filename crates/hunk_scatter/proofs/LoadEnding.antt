@@ -15,7 +15,8 @@ use Rattle.hunk_files.specs.LoadFile.{TableEntry, LoadFileValue, IsLoadFile}
 use Rattle.hunk_files.specs.LoadText.{table, text}
 use Rattle.hunk_scan.specs.Roles.{Role as roles}
 use Rattle.hunk_scatter.specs.LoaderReasons.{is_of_header, is_of_file}
-use Rattle.hunk_scatter.specs.HeaderBytes.{IsTable, header_bytes, PassesBudget, IsOverBudget, IsHeaderFaultBy}
+use Rattle.hunk_scatter.specs.HeaderBytes.{IsTable, header_bytes}
+use Rattle.hunk_scatter.specs.HeaderFaults.{PassesBudget, IsOverBudget, IsHeaderFaultBy}
 use Rattle.hunk_scatter.specs.LoaderValues.{ImageValue, MayGoOn, IsImageOf}
 use Rattle.hunk_scatter.specs.LoadOutcomes.{Gives, IsHeaderWithin, IsWithinFile, IsReadFault, StopsInHeader, StopsShort, IsBodyStop, KeepsToHeader, LoadStop, InHeader, Between, InBody, LoadEnds}
 use Rattle.hunk_scatter.specs.Placing.{Placing, base_at, AreBases, HasBases, IsUnplacedFor}

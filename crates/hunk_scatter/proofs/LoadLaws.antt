@@ -11,7 +11,8 @@ use Rattle.hunk_files.specs.Image.{declared_bytes}
 use Rattle.hunk_files.specs.LoadFile.{TableEntry, LoadFileValue, IsLoadFile}
 use Rattle.hunk_files.specs.LoadText.{text}
 use Rattle.hunk_scatter.specs.LoaderReasons.{is_of_header, is_of_body, is_of_load}
-use Rattle.hunk_scatter.specs.HeaderBytes.{IsTable, header_bytes, BeginsHeader, PassesBudget, IsHeaderFaultBy}
+use Rattle.hunk_scatter.specs.HeaderBytes.{IsTable, header_bytes, BeginsHeader}
+use Rattle.hunk_scatter.specs.HeaderFaults.{PassesBudget, IsHeaderFaultBy}
 use Rattle.hunk_scatter.specs.LoaderValues.{ImageValue}
 use Rattle.hunk_scatter.specs.LoadOutcomes.{Gives, KeepsRest, IsNotPlaced, IsLoaded, IsShort, IsHeaderWithin, IsLoadFaultBy, IsLoadFault, IsWithinFile, IsReadFault, StopsShort, KeepsToHeader, LoadStop, InHeader, Between, InBody, LoadEnds}
 use Rattle.hunk_scatter.specs.Placing.{Placing, base_at, HasBases, IsUnplacedFor}

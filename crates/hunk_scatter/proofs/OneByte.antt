@@ -10,7 +10,7 @@ use Rattle.hunk_files.specs.Image.{declared_bytes}
 use Rattle.hunk_files.specs.LoadFile.{TableEntry, LoadFileValue}
 use Rattle.hunk_scan.specs.Roles.{refuse}
 use Rattle.hunk_files.specs.LoadText.{entries}
-use Rattle.hunk_blocks.specs.BlockSteps.{ForName, ForDebug, ForAdvisory, ForCode, ForData, ForBss, Counted, SizedCode, SizedData, Inside, AtCount, AtSize, InPayload, AtGroup, AtTarget, InOffsets, AtEntry, InName, AtValue}
+use Rattle.hunk_blocks.specs.BlockSteps.{Inside}
 use Rattle.hunk_files.specs.FileSteps.{OpenHunk, Progress, AtBlock, InBody, Next, More, Finished, place_of, role_of, step}
 use Rattle.hunk_files.proofs.FileProgress.{OpenFits, ProgressFits}
 use Rattle.hunk_files.proofs.HunkProgress as blocks
@@ -24,13 +24,13 @@ use Rattle.hunk_blocks.specs.Values.{BlockValue}
 use Rattle.hunk_scan.specs.declared.position.Position.{Position}
 use Rattle.hunk_scan.specs.declared.position.Position.TheVariants as positions
 use Rattle.hunk_scan.specs.Positions.{is_done, is_behind_header}
-use Rattle.hunk_files.specs.ReaderPosition.{position_of, open_of, block_phase, open_table, table_of}
+use Rattle.hunk_files.specs.ReaderPosition.{position_of, open_of, block_phase, open_table, table_of, IsBehindHeader}
 use Rattle.hunk_scatter.specs.declared.body_state.BodyState.{BodyState}
 use Rattle.hunk_scatter.specs.StoreContent.{StoreHolds, IsSized, stored, images}
-use Rattle.hunk_scatter.specs.BodyLoaderFields.{IsBehindHeader, EndsWhole, Reading}
+use Rattle.hunk_scatter.specs.BodyLoaderFields.{EndsWhole, Reading}
 use Rattle.hunk_scatter.specs.LoaderValues.{IsFileOf}
 use Rattle.hunk_scatter.specs.Rows.{entries_of, words_of, bases_of}
-use Rattle.hunk_scatter.specs.BodyReader.{sizes_of, state_at, state_of, IsInBody}
+use Rattle.hunk_scatter.specs.BodyReader.{sizes_of, state_at, state_of}
 use Rattle.hunk_scatter.specs.BodySteps.{refusal, step_body, RoomIn, IsInStore}
 use Rattle.hunk_scatter.proofs.ReadWords.{read_longs}
 use Rattle.hunk_scatter.proofs.Forget.{before_is, step_state, step_table, step_behind, refusal_same, sizes-at, sizes-length}
@@ -58,7 +58,7 @@ block_room : (o : OpenHunk) (blocks : List BlockValue) → RoomIn (sizes_of (ope
 block_room o [] = tt
 block_room o (b ∷ blocks) = tt
 
-in_store : (p : Progress) → IsInBody p → ProgressFits p → IsInStore (sizes_of (table_of (More p))) (declared_bytes (table_of (More p))) (state_of (More p))
+in_store : (p : Progress) → IsBehindHeader (More p) → ProgressFits p → IsInStore (sizes_of (table_of (More p))) (declared_bytes (table_of (More p))) (state_of (More p))
 in_store (AtBlock o) b f = open_in_store o (position_of (More (AtBlock o))) f refl (block_room o o.blocks)
 in_store (InBody o word x) b f = open_in_store o (position_of (More (InBody o word x))) f.0 refl (by_inside (place_of o) word Room
     (λ g. tt) (λ g. tt) (λ g. tt) (λ g. tt) (λ g. tt) (λ g. tt) (λ c done owed g. tt)
@@ -68,16 +68,16 @@ in_store (InBody o word x) b f = open_in_store o (position_of (More (InBody o wo
   where
     Room : Inside → Type 0
     Room y = blocks.Fits (place_of o) word y → RoomIn (sizes_of (open_table o)) (size_longs o.entry.word) (position_of (More (InBody o word y)))
-in_store _ b f = absurd b
+in_store _ b f = absurd cc
 
 pub sizes_are : (rows : List Row) → sizes_of (entries_of rows) ≡ words_of rows
 sizes_are [] = refl
 sizes_are (r ∷ rows) = ap (λ (xs : List ℕ). r.word ∷ xs) (sizes_are rows)
 
-pub not_done : (p : Progress) → IsInBody p → is_done (state_of (More p)).position ≡ false
+pub not_done : (p : Progress) → IsBehindHeader (More p) → is_done (state_of (More p)).position ≡ false
 not_done (AtBlock o) b = refl
 not_done (InBody o word x) b = refl
-not_done _ b = absurd b
+not_done _ b = absurd cc
 
 -- ---- a reading that goes on
 
@@ -88,7 +88,7 @@ pub record Going (rows : List Row) (store : List ℕ) (state : BodyState) (pendi
   pub spelled : fed ≡ bytes_of ws ++ pending
   pub few : length pending < 4
   pub read : HasRead ws (More at)
-  pub in_body : IsInBody at
+  pub in_body : IsBehindHeader (More at)
   pub table_is : table_of (More at) ≡ entries_of rows
   pub state_is : state_of (More at) ≡ state
   pub holds : StoreHolds (bases_of rows) (More at) store

@@ -11,12 +11,8 @@ use Rattle.hunk_scatter.specs.declared.body_state.BodyState.{BodyState}
 use Rattle.hunk_scatter.specs.LoaderReasons.{is_of_body}
 use Rattle.hunk_scatter.specs.StoreContent.{StoreHolds}
 use Rattle.hunk_scatter.specs.Rows.{entries_of, bases_of}
-use Rattle.hunk_scatter.specs.BodyReader.{state_of, IsInBody}
-use Rattle.hunk_files.specs.ReaderPosition.{table_of}
-
-abbrev pub IsBehindHeader : Next → Type 0
-IsBehindHeader (More p) = IsInBody p
-IsBehindHeader (Finished v) = Unit {0}
+use Rattle.hunk_scatter.specs.BodyReader.{state_of}
+use Rattle.hunk_files.specs.ReaderPosition.{IsBehindHeader, table_of}
 
 -- where the file is whole no byte is pending
 abbrev pub EndsWhole : Next → List ℕ → Type 0

@@ -1,10 +1,9 @@
 -- What the loader of a body keeps of what was read.
-use Rattle.std.specs.Prelude.{ℕ, ◌*◌, List, [], ◌∷◌, ◌++◌, length, map}
+use Rattle.std.specs.Prelude.{ℕ, ◌*◌, List, [], length, map}
 use Rattle.std.specs.List.{sum_by}
 use Rattle.hunk_words.specs.Bits.{size_longs}
 use Rattle.hunk_files.specs.LoadFile.{TableEntry, HunkValue}
-use Rattle.hunk_files.specs.LoadText.{entries}
-use Rattle.hunk_files.specs.FileSteps.{OpenHunk, Progress, AtBlock, InBody, Next, More, Finished}
+use Rattle.hunk_files.specs.FileSteps.{AtBlock, InBody, Next, More, Finished}
 use Rattle.hunk_files.specs.ReaderPosition.{position_of}
 use Rattle.hunk_scan.specs.declared.position.Position.{Position}
 use Rattle.hunk_scan.specs.declared.position.Position.TheVariants as positions
@@ -26,9 +25,3 @@ state_of (More (AtBlock o)) = state_at o.finished (position_of (More (AtBlock o)
 state_of (More (InBody o word x)) = state_at o.finished (position_of (More (InBody o word x)))
 state_of (Finished v) = state_at v positions.Done
 state_of n = state_at [] (position_of n)
-
--- behind the header, and before the end
-abbrev pub IsInBody : Progress → Type 0
-IsInBody (AtBlock o) = Unit {0}
-IsInBody (InBody o word x) = Unit {0}
-IsInBody _ = ⊥

@@ -18,7 +18,8 @@ use Rattle.hunk_files.specs.ReaderPosition.{position_of, table_of}
 use Rattle.hunk_files.specs.WordsRead.{HasRead}
 use Rattle.hunk_scatter.specs.declared.header_state.HeaderState.{HeaderState}
 use Rattle.hunk_scatter.specs.LoaderReasons.{is_of_header}
-use Rattle.hunk_scatter.specs.HeaderBytes.{IsTable, header_bytes, IsWithinBudget}
+use Rattle.hunk_scatter.specs.HeaderBytes.{IsTable, header_bytes}
+use Rattle.hunk_scatter.specs.HeaderFaults.{IsWithinBudget}
 use Rattle.hunk_scatter.specs.Rows.{entries_of, row_of}
 
 -- ---- a step

@@ -2,6 +2,7 @@ pub mod BodyLoaderFields
 pub mod BodyReader
 pub mod BodySteps
 pub mod HeaderBytes
+pub mod HeaderFaults
 pub mod HeaderLoaderFields
 pub mod LoadOutcomes
 pub mod LoaderReasons

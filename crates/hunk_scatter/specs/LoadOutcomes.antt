@@ -10,7 +10,8 @@ use Rattle.hunk_files.specs.Image.{declared_bytes, image}
 use Rattle.hunk_files.specs.LoadFile.{TableEntry, LoadFileValue, IsLoadFile}
 use Rattle.hunk_files.specs.LoadText.{table, text}
 use Rattle.hunk_scatter.specs.LoaderReasons.{is_of_header, is_of_body}
-use Rattle.hunk_scatter.specs.HeaderBytes.{IsTable, header_bytes, BeginsHeader, PassesBudget, IsOverBudget, IsHeaderFault}
+use Rattle.hunk_scatter.specs.HeaderBytes.{IsTable, header_bytes, BeginsHeader}
+use Rattle.hunk_scatter.specs.HeaderFaults.{PassesBudget, IsOverBudget, IsHeaderFault}
 use Rattle.hunk_scatter.specs.LoaderValues.{ImageValue, HasNoRefusal}
 use Rattle.hunk_scatter.specs.Placing.{Placing, base_at, AreBases, HasBases, IsFirstUnplaced, IsUnplacedFor}
 use Rattle.hunk_scatter.specs.Rows.{entries_of, bases_of}

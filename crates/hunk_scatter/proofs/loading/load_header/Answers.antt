@@ -1,5 +1,5 @@
 use Rattle.std.proofs.Common.{ℕ, ◌+◌, ◌≤◌, ◌<◌, List, ◌++◌, length, take, length-take, sym, subst, refl, ◌∙◌, arith, inl, inr}
-use Rattle.hunk_scatter.specs.HeaderBytes.{PassesBudget, IsHeaderFault}
+use Rattle.hunk_scatter.specs.HeaderFaults.{PassesBudget, IsHeaderFault}
 use Rattle.hunk_scatter.specs.LoadOutcomes.{IsWithinHeader, IsReadFault}
 use Rattle.hunk_scatter.proofs.Feeding.{header_fed, header_within_more, gives_more, gives_none, row_begins, header_wants}
 use Rattle.hunk_scatter.proofs.loading.load_header.Goals as goal

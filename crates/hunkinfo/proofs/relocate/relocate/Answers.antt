@@ -7,7 +7,7 @@ use Rattle.hunk_words.specs.declared.reason.Reason.TheVariants as reasons
 use Rattle.hunk_words.specs.Puts.{Puts}
 use Rattle.hunk_files.specs.Fault.{HasFault}
 use Rattle.hunk_scatter.specs.LoaderReasons.{is_of_file}
-use Rattle.hunk_scatter.specs.HeaderBytes.{IsOverBudget}
+use Rattle.hunk_scatter.specs.HeaderFaults.{IsOverBudget}
 use Rattle.hunk_scatter.specs.LoadOutcomes.{Gives, IsLoadFault, IsLoadFaultBy}
 use Rattle.hunk_scatter.specs.Rows.{bases_of}
 use Rattle.hunkinfo.specs.declared.fault.RunFault.TheVariants.{Memory, Read, Refused}

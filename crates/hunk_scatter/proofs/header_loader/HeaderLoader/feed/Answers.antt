@@ -1,5 +1,6 @@
 use Rattle.std.proofs.Common.{List, ℕ, ◌++◌, sym, ap, subst, ◌∙◌, arith}
-use Rattle.hunk_scatter.specs.HeaderBytes.{IsHeader, PassesBudget, IsHeaderFault, MayGoOnInHeader}
+use Rattle.hunk_scatter.specs.HeaderBytes.{IsHeader, MayGoOnInHeader}
+use Rattle.hunk_scatter.specs.HeaderFaults.{PassesBudget, IsHeaderFault}
 use Rattle.hunk_scatter.specs.LoaderValues.{HeaderLoaderValue}
 use Rattle.hunk_scatter.proofs.Feeding.{rest_bytes}
 use Rattle.hunk_scatter.proofs.HeaderFields.{piece_within}

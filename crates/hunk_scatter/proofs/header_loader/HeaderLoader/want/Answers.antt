@@ -1,6 +1,7 @@
 use Rattle.std.proofs.Common.{◌*◌, ◌/◌, ◌++◌, length, sym, ap, subst, ◌∙◌, arith}
 use Rattle.hunk_files.specs.Fault.{IsTruncated}
-use Rattle.hunk_scatter.specs.HeaderBytes.{IsHeader, PassesBudget}
+use Rattle.hunk_scatter.specs.HeaderBytes.{IsHeader}
+use Rattle.hunk_scatter.specs.HeaderFaults.{PassesBudget}
 use Rattle.hunk_scatter.specs.LoaderValues.{HeaderLoaderValue, HasNoRefusal}
 use Rattle.hunk_scatter.proofs.BodyFields.{none_of}
 use Rattle.hunk_scatter.proofs.HeaderFields.{heading_clean, heading_truncated, heading_within, heading_not_whole, heading_table, heading_least}
