@@ -83,9 +83,6 @@ name_reads entries word done (suc owed) = refl
 more_payload : (f : Filling) (done : List ℕ) (w n m : ℕ) → n ≡ m → head_of f n ∷ each parts.Payload (done ++ w ∷ []) ≡ (head_of f m ∷ each parts.Payload done) ++ (parts.Payload, w) ∷ []
 more_payload f done w n m e = ap (λ (k : ℕ). head_of f k ∷ each parts.Payload (done ++ w ∷ [])) e ∙ ap (λ (l : List (Part × ℕ)). head_of f m ∷ l) (map-more (λ (x : ℕ). (parts.Payload, x)) done w)
 
-size_again : (w : ℕ) → (w / 2 ^ 30) * 2 ^ 30 + (w % 2 ^ 30) ≡ w
-size_again w = omega arith
-
 sized_reads : (s : Sizing) (w : ℕ) → read_next (sized_by s w) ≡ (parts.ContentSize, w) ∷ []
 sized_reads ForCode w = fill_reads (SizedCode (w / 2 ^ 30)) [] (w % 2 ^ 30) ∙ ap (λ (n : ℕ). (parts.ContentSize, n) ∷ []) (omega arith)
 sized_reads ForData w = fill_reads (SizedData (w / 2 ^ 30)) [] (w % 2 ^ 30) ∙ ap (λ (n : ℕ). (parts.ContentSize, n) ∷ []) (omega arith)

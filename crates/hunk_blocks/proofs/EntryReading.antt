@@ -116,15 +116,3 @@ pub common_missing : (before old mid new : Unread) (word size : ℕ) (name : Lis
 common_missing before old mid new word size name shape goes n h k l none =
     unnamed Shares before old mid word name shape goes n h k
     (λ e is more f. let g : size ∷ new.rest ≡ e.value ∷ (counted_text e.offsets ++ more) = sym l.front ∙ f in let tail : new.rest ≡ counted_text e.offsets ++ more = cc in none e.offsets is.offsets more tail)
-
--- a word whose type is not accepted
-pub type_refused : (before old : Unread) (word : ℕ) → ext_shape (word / 2 ^ 24) ≡ Refused → word ≢ 0 → Reads before old (word ∷ []) → BeginsWithNoItem IsExtEntry ext_text before.rest
-type_refused before old word shape goes h =
-    record {
-      item =
-          λ e is more eq.
-          let f : word ∷ old.rest ≡ e.word ∷ ((e.name ++ behind (ext_shape (e.word / 2 ^ 24)) e.value e.offsets) ++ more) = sym h.front ∙ eq ∙ ap (λ l. l ++ more) (ext_text_is e) in
-          let same : e.word ≡ word = cc in
-          subst (λ t. FitsShape t e) (ap (λ w. ext_shape (w / 2 ^ 24)) same ∙ shape) is.shape;
-      end = λ more e. let f : word ∷ old.rest ≡ 0 ∷ more = sym h.front ∙ e in let z : word ≡ 0 = cc in goes z;
-    }

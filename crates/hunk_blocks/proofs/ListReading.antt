@@ -69,9 +69,6 @@ module _ {A : Type 0} (Is : A → Type 0) (text : A → List ℕ) where
     pub are : AllByRecursion Is done
     pub reads : Reads old new (flat_map text done)
 
-  pub nothing_read : (r : Unread) → HasRead r r []
-  nothing_read r = record { are = tt; reads = Reads-nil r }
-
   -- one more
   pub item_read : (a b c : Unread) (done : List A) (x : A) → HasRead a b done → Is x → Reads b c (text x) → HasRead a c (done ++ x ∷ [])
   item_read a b c done x h is r =
@@ -80,10 +77,6 @@ module _ {A : Type 0} (Is : A → Type 0) (text : A → List ℕ) where
   -- and the end
   pub list_read : (a b c : Unread) (done : List A) → HasRead a b done → Reads b c (0 ∷ []) → Reads a c (list_text text done)
   list_read a b c done h r = Reads-append a b c (flat_map text done) (0 ∷ []) h.reads r
-
--- a value that a vector keeps is one more of those that its items stand for
-pub map-kept : {A B : Type 0} (f : A → B) (old new : List A) (x : A) → new ≡ old ++ x ∷ [] → map f new ≡ map f old ++ f x ∷ []
-map-kept f old new x e = ap (map f) e ∙ map-append f old (x ∷ [])
 
 -- what holds of any refusal
 pub if_err : {T E : Type 0} (r : Result T E) (P : E → Type 0) → ((e : E) → P e) → IfErr r P

@@ -19,10 +19,6 @@ Leads-append a b c [] ms h k = subst (λ (x : Next). Leads x ms c) (sym h) k
 Leads-append (More p) b c (l ∷ ls) ms h k = (h.0, Leads-append (step p l.1) b c ls ms h.1 k)
 Leads-append (Finished v) b c (l ∷ ls) ms h k = absurd h
 
--- the same run, along equal longwords and to an equal end
-pub Leads-along : (a : Next) {b c : Next} {ls ms : List (Role × ℕ)} → ls ≡ ms → b ≡ c → Leads a ls b → Leads a ms c
-Leads-along a {b} {c} {ls} {ms} e d h = subst (λ (x : Next). Leads a ms x) d (subst (λ (l : List (Role × ℕ)). Leads a l b) e h)
-
 abbrev pub in_place : Place → List (Part × ℕ) → List (Role × ℕ)
 in_place p ps = map (λ x. (InBlock p x.0, x.1)) ps
 

@@ -13,9 +13,6 @@ pub record ImagesSoFar (bases : List ℕ) (hs : List LoadHunk) (i : ℕ) (memory
   pub items : memory ≡ flat_map (λ (h : LoadHunk). image bases (hunk_of h)) (take i hs)
   pub bound : length memory ≤ i * 2 ^ 32
 
-pub no_images : (bases : List ℕ) (hs : List LoadHunk) (memory : List ℕ) → memory ≡ [] → ImagesSoFar bases hs 0 memory
-no_images bases hs memory e = record { items = e; bound = omega (arith, ap length e) }
-
 pub image_more : (bases : List ℕ) (hs : List LoadHunk) (i : ℕ) (h : LoadHunk) (memory new : List ℕ) → ImagesSoFar bases hs i memory → i < length hs → h ≡ get_or hs i h → new ≡ memory ++ image bases (hunk_of h) → length new ≡ length memory + 4 * size_longs h.row.word →
     ImagesSoFar bases hs (i + 1) new
 image_more bases hs i h memory new s inside is e l =

@@ -124,13 +124,6 @@ stands bytes word has b n is ok h =
     let same : b.word ≡ word = sym (is ∙ word_in_front bytes b (longs (drop n bytes)) (begun_words bytes b n h)) in
     ap (refuse_standing has) (standing_is b.word b.body h.block.body ∙ ap (λ (w : ℕ). standing_of_kind (kind w)) same) ∙ ok
 
-pub no_place : (bytes : List ℕ) (word : ℕ) (has : Bool) (reason : Reason) → word ≡ first_long bytes → refuse_standing has (standing_of_kind (kind word)) ≡ Some reason → BeginsWithNo (MayStand has) block_text (longs bytes)
-no_place bytes word has reason is refused b may more e =
-    let same : b.word ≡ word = sym (is ∙ word_in_front bytes b more e) in
-    let here : refuse_standing has (standing b.body) ≡ Some reason = ap (refuse_standing has) (standing_is b.word b.body may.0.body ∙ ap (λ (w : ℕ). standing_of_kind (kind w)) same) ∙ refused in
-    let ok : refuse_standing has (standing b.body) ≡ None = may.1 in
-    cc
-
 pub no_block : (bytes : List ℕ) (has : Bool) → IsBytes bytes → BeginsWithNoBlock modes.Object bytes → BeginsWithNo (MayStand has) block_text (longs bytes)
 unfolding BeginsWithNoBlock
 no_block bytes has fit none b may more e =

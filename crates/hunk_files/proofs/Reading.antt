@@ -129,7 +129,3 @@ passing_from before (More p) (w ∷ ws) h l ok =
     let both = and_parts (is_none (refuse (role_of p) w)) (all_pass (step p w) ws) ok in
     subst (λ (xs : List ℕ). HasRead xs (next_after (step p w) ws)) (append_assoc before (w ∷ []) ws)
     (passing_from (before ++ w ∷ []) (step p w) ws (step_read before p w h l.0 (none_is (refuse (role_of p) w) both.0)) l.1 both.1)
-
--- Longwords that all pass have been read.
-pub passing : (ws : List ℕ) → AreLongs ws → all_pass (More AtFirst) ws ≡ true → HasRead ws (next_after (More AtFirst) ws)
-passing ws l ok = passing_from [] (More AtFirst) ws start_read l ok

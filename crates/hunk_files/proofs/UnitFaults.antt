@@ -64,9 +64,6 @@ cut_is bytes fault p r =
     let place : fault.place ≡ 0 + 4 * length (longs bytes) = omega (arith, p) in
     λ i. record { place = place i; reason = r i }
 
-empty_unit : UnitValue
-empty_unit = unit [] []
-
 abbrev one_unit : List ℕ → ObjectFileValue
 one_unit name = unit name [] ∷ []
 

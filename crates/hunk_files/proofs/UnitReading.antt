@@ -270,9 +270,6 @@ module _ (bytes : List ℕ) (us : ObjectFileValue) (at : ℕ) (s : UnitsSoFar by
             ]);
       }
 
-  pub all_are : IsObjectFile (us ++ u ∷ [])
-  all_are = record { some = omega (arith, length-append us (u ∷ [])); units = All-more IsUnit us u s.are is }
-
   pub all_text : at + size ≡ length bytes → bytes ≡ bytes_of (object_text (us ++ u ∷ []))
   all_text end = sym (take_all (at + size) bytes (omega (arith, end))) ∙ units_text.text
 

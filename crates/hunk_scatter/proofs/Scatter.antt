@@ -35,9 +35,6 @@ contents_of o = flat_map (λ b. block_content b.body) o.blocks
 abbrev pairs_of : OpenHunk → List (ℕ × ℕ)
 pairs_of o = flat_map (λ b. block_relocations b.body) o.blocks
 
-segment_by : List ℕ → OpenHunk → List ℕ → List (ℕ × ℕ) → List ℕ
-segment_by bases o bytes pairs = relocated bases (filled (4 * size_longs o.entry.word) bytes) pairs
-
 -- ---- a segment that is as it was
 
 holds_as : (bases : List ℕ) (o : OpenHunk) (n m : BlockNext) (store : List ℕ) → segment_so_far bases o m ≡ segment_so_far bases o n → Holds bases o n store → Holds bases o m store
