@@ -64,9 +64,9 @@ whole_block o h b = ap (λ (p : Phase). positions.Body h p) (further_block o.blo
 
 -- so many of the longwords of a payload are owed
 abbrev fill_left : OpenHunk → Filling → ℕ → ℕ → Position
-fill_left o (Counted c) longs owed = scan.payload (open_of o) owed
-fill_left o (SizedCode top) longs owed = scan.content (open_of o) longs owed
-fill_left o (SizedData top) longs owed = scan.content (open_of o) longs owed
+fill_left o (Counted c) longs owed = scan.owe_payload (open_of o) owed
+fill_left o (SizedCode top) longs owed = scan.owe_content (open_of o) longs owed
+fill_left o (SizedData top) longs owed = scan.owe_content (open_of o) longs owed
 
 -- All of these longwords pass, and lead to this position of the same hunk.
 pub record Passes (p : Progress) (n : Next) (ws : List ℕ) (position : Position) : Type 0 where
@@ -108,20 +108,20 @@ module _ (o : OpenHunk) (word : ℕ) (p : Progress) (longs_are : size_longs o.en
       let r = fill_passes f (done ++ w ∷ []) owed ws left (omega (arith, e)) in
       record { next = r.next; leads = r.leads; passes = r.passes; position_is = r.position_is ∙ ap (λ (n : ℕ). fill_left o f n left) (more_owed done w owed); stays = r.stays }
 
-  name_here : (es : List SymbolEntry) (w : ℕ) (done : List ℕ) (owed : ℕ) → Passes p (after o word (name_entry es w done owed)) [] (scan.symbol (open_of o) (suc owed))
+  name_here : (es : List SymbolEntry) (w : ℕ) (done : List ℕ) (owed : ℕ) → Passes p (after o word (name_entry es w done owed)) [] (scan.owe_symbol (open_of o) (suc owed))
   name_here es w done zero = open_passes (AtValue es w done)
   name_here es w done (suc owed) = open_passes (InName es w done owed)
 
-  value_passes : (es : List SymbolEntry) (w : ℕ) (name : List ℕ) (x : ℕ) → Passes p (More (InBody o word (AtValue es w name))) (x ∷ []) (scan.symbol (open_of o) 0)
+  value_passes : (es : List SymbolEntry) (w : ℕ) (name : List ℕ) (x : ℕ) → Passes p (More (InBody o word (AtValue es w name))) (x ∷ []) (scan.owe_symbol (open_of o) 0)
   value_passes es w name x = record { next = InBody o word (AtEntry (es ++ entry w name x ∷ [])); leads = refl; passes = refl; position_is = refl; stays = (longs_are, opened_are) }
 
-  name_passes : (es : List SymbolEntry) (w : ℕ) (done : List ℕ) (owed : ℕ) (ws : List ℕ) (left : ℕ) → length ws + left ≡ suc owed → Passes p (after o word (name_entry es w done owed)) ws (scan.symbol (open_of o) left)
+  name_passes : (es : List SymbolEntry) (w : ℕ) (done : List ℕ) (owed : ℕ) (ws : List ℕ) (left : ℕ) → length ws + left ≡ suc owed → Passes p (after o word (name_entry es w done owed)) ws (scan.owe_symbol (open_of o) left)
   name_passes es w done owed [] left e =
       let same : suc owed ≡ left = omega (arith, e) in
-      subst (λ (n : ℕ). Passes p (after o word (name_entry es w done owed)) [] (scan.symbol (open_of o) n)) same (name_here es w done owed)
+      subst (λ (n : ℕ). Passes p (after o word (name_entry es w done owed)) [] (scan.owe_symbol (open_of o) n)) same (name_here es w done owed)
   name_passes es w done zero (x ∷ []) left e =
       let none : 0 ≡ left = omega (arith, e) in
-      subst (λ (n : ℕ). Passes p (More (InBody o word (AtValue es w done))) (x ∷ []) (scan.symbol (open_of o) n)) none (value_passes es w done x)
+      subst (λ (n : ℕ). Passes p (More (InBody o word (AtValue es w done))) (x ∷ []) (scan.owe_symbol (open_of o) n)) none (value_passes es w done x)
   name_passes es w done zero (x ∷ y ∷ ws) left e = absurd (omega (arith, e))
   name_passes es w done (suc owed) (x ∷ ws) left e =
       let r = name_passes es w (done ++ x ∷ []) owed ws left (omega (arith, e)) in
@@ -136,11 +136,11 @@ fill_run o word (Counted c) done owed w ws l =
 fill_run o word (SizedCode top) done owed w ws l =
     let p = InBody o word (InPayload (SizedCode top) done owed) in
     let r = fill_passes o word p refl refl (SizedCode top) (done ++ w ∷ []) owed ws (owed - length ws) (omega (arith, l)) in
-    record { next = r.next; leads = r.leads; passes = r.passes; position_is = r.position_is ∙ ap (λ (n : ℕ). scan.content (open_of o) n (owed - length ws)) (more_owed done w owed); stays = r.stays }
+    record { next = r.next; leads = r.leads; passes = r.passes; position_is = r.position_is ∙ ap (λ (n : ℕ). scan.owe_content (open_of o) n (owed - length ws)) (more_owed done w owed); stays = r.stays }
 fill_run o word (SizedData top) done owed w ws l =
     let p = InBody o word (InPayload (SizedData top) done owed) in
     let r = fill_passes o word p refl refl (SizedData top) (done ++ w ∷ []) owed ws (owed - length ws) (omega (arith, l)) in
-    record { next = r.next; leads = r.leads; passes = r.passes; position_is = r.position_is ∙ ap (λ (n : ℕ). scan.content (open_of o) n (owed - length ws)) (more_owed done w owed); stays = r.stays }
+    record { next = r.next; leads = r.leads; passes = r.passes; position_is = r.position_is ∙ ap (λ (n : ℕ). scan.owe_content (open_of o) n (owed - length ws)) (more_owed done w owed); stays = r.stays }
 
 -- Longwords of a run all pass.
 pub run_passes : (p : Progress) (ws : List ℕ) → length ws ≤ run (position_of (More p)) → Passes p (More p) ws (pass (position_of (More p)) (length ws))
@@ -167,16 +167,16 @@ run_passes _ (w ∷ ws) l = absurd (omega (arith, l))
 
 -- ---- steps
 
-open_position : (hunks : ℕ) (finished : List HunkValue) (ahead : List TableEntry) → position_of (open_hunk hunks finished ahead) ≡ scan.close hunks (length ahead)
+open_position : (hunks : ℕ) (finished : List HunkValue) (ahead : List TableEntry) → position_of (open_hunk hunks finished ahead) ≡ scan.open_next hunks (length ahead)
 open_position hunks finished [] = refl
 open_position hunks finished (e ∷ ahead) = refl
 
-rows_position : (hunks : ℕ) (done : List TableEntry) (owed : ℕ) → length done + owed ≡ hunks → position_of (rows hunks done owed) ≡ scan.entries hunks owed
-rows_position hunks done zero e = let n : length done ≡ hunks = omega (arith, e) in open_position hunks [] done ∙ ap (λ (k : ℕ). scan.close hunks k) n
+rows_position : (hunks : ℕ) (done : List TableEntry) (owed : ℕ) → length done + owed ≡ hunks → position_of (rows hunks done owed) ≡ scan.owe_entries hunks owed
+rows_position hunks done zero e = let n : length done ≡ hunks = omega (arith, e) in open_position hunks [] done ∙ ap (λ (k : ℕ). scan.open_next hunks k) n
 rows_position hunks done (suc owed) e = refl
 
 sized_position : (hunks : ℕ) (done : List TableEntry) (w owed : ℕ) (b : Bool) → length done + suc owed ≡ hunks →
-    position_of (sized_row hunks done w owed b) ≡ cond b (positions.Attributes hunks w owed) (scan.entries hunks owed)
+    position_of (sized_row hunks done w owed b) ≡ cond b (positions.Attributes hunks w owed) (scan.owe_entries hunks owed)
 sized_position hunks done w owed true e = refl
 sized_position hunks done w owed false e = rows_position hunks (done ++ table_entry w 0 ∷ []) owed (more_owed done (table_entry w 0) owed ∙ e)
 
@@ -184,14 +184,14 @@ module _ (o : OpenHunk) (word : ℕ) where
   fill_position : (f : Filling) (done : List ℕ) (owed : ℕ) → position_of (after o word (fill f done owed)) ≡ fill_left o f (length done + owed) owed
   fill_position f done owed = let r = fill_here o word (AtBlock o) refl refl f done owed in ap position_of r.leads ∙ r.position_is
 
-  name_position : (es : List SymbolEntry) (w : ℕ) (done : List ℕ) (owed : ℕ) → position_of (after o word (name_entry es w done owed)) ≡ scan.symbol (open_of o) (suc owed)
+  name_position : (es : List SymbolEntry) (w : ℕ) (done : List ℕ) (owed : ℕ) → position_of (after o word (name_entry es w done owed)) ≡ scan.owe_symbol (open_of o) (suc owed)
   name_position es w done owed = let r = name_here o word (AtBlock o) refl refl es w done owed in ap position_of r.leads ∙ r.position_is
 
-  more_content : (done : List ℕ) (w owed : ℕ) → scan.content (open_of o) (length (done ++ w ∷ []) + owed) owed ≡ scan.content (open_of o) (length done + suc owed) owed
-  more_content done w owed = ap (λ (n : ℕ). scan.content (open_of o) n owed) (more_owed done w owed)
+  more_content : (done : List ℕ) (w owed : ℕ) → scan.owe_content (open_of o) (length (done ++ w ∷ []) + owed) owed ≡ scan.owe_content (open_of o) (length done + suc owed) owed
+  more_content done w owed = ap (λ (n : ℕ). scan.owe_content (open_of o) n owed) (more_owed done w owed)
 
-  whole_content : (n : ℕ) → scan.content (open_of o) (0 + n) n ≡ scan.content (open_of o) n n
-  whole_content n = let e : 0 + n ≡ n = omega arith in ap (λ (m : ℕ). scan.content (open_of o) m n) e
+  whole_content : (n : ℕ) → scan.owe_content (open_of o) (0 + n) n ≡ scan.owe_content (open_of o) n n
+  whole_content n = let e : 0 + n ≡ n = omega arith in ap (λ (m : ℕ). scan.owe_content (open_of o) m n) e
 
   inside_position : (x : Inside) (w : ℕ) → Within (place_of o) word x → position_of (after o word (step_inside x w)) ≡ scan.step (position_of (More (InBody o word x))) w
   inside_position (AtCount ForName) w h = fill_position (Counted ForName) [] w

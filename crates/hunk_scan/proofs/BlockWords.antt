@@ -1,8 +1,7 @@
 -- A block word of a load file is refused wherever its block stands, or else for its place in the hunk.
-use Rattle.std.proofs.Common.{◌≡◌, ℕ, Bool, true, false, refl, Option, Some, None, ap, if◌then◌else◌}
+use Rattle.std.proofs.Common.{◌≡◌, ℕ, Bool, true, false, refl, Some, if◌then◌else◌}
 use Rattle.hunk_words.specs.declared.block_word.Kind.{Kind}
 use Rattle.hunk_words.specs.declared.block_word.Kind.TheVariants as kinds
-use Rattle.hunk_words.specs.declared.reason.Reason.{Reason}
 use Rattle.hunk_words.specs.declared.reason.Reason.TheVariants as reasons
 use Rattle.hunk_words.specs.Bits.{has_both_bits, is_advisory, kind}
 use Rattle.hunk_blocks.specs.declared.mode.Mode.TheVariants as modes

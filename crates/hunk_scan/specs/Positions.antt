@@ -52,14 +52,14 @@ abbrev pub with_content : OpenHunk → OpenHunk
 with_content o = record { hunks = o.hunks; ahead = o.ahead; has_content = true }
 
 -- so many hunks are left
-abbrev pub close : ℕ → ℕ → Position
-close hunks zero = positions.Done
-close hunks (suc ahead) = positions.Body (record { hunks = hunks; ahead = ahead; has_content = false }) phases.FirstBlock
+abbrev pub open_next : ℕ → ℕ → Position
+open_next hunks zero = positions.Done
+open_next hunks (suc ahead) = positions.Body (record { hunks = hunks; ahead = ahead; has_content = false }) phases.FirstBlock
 
 -- so many entries of the table are owed
-abbrev pub entries : ℕ → ℕ → Position
-entries hunks zero = close hunks hunks
-entries hunks (suc owed) = positions.SizeWord hunks owed
+abbrev pub owe_entries : ℕ → ℕ → Position
+owe_entries hunks zero = open_next hunks hunks
+owe_entries hunks (suc owed) = positions.SizeWord hunks owed
 
 -- the kinds that are refused do not matter
 abbrev pub begin : OpenHunk → Kind → Position
@@ -71,48 +71,48 @@ begin o kinds.Reloc32 = at o phases.GroupCount
 begin o kinds.Symbol = at o phases.EntryWord
 begin o kinds.Debug = at o phases.LongCount
 begin o (kinds.Unknown n) = at o phases.LongCount
-begin o _ = close o.hunks o.ahead
+begin o _ = open_next o.hunks o.ahead
 
 -- so many longwords of the kind are owed
-abbrev pub content : OpenHunk → ℕ → ℕ → Position
-content o longs zero = at (with_content o) phases.BlockWord
-content o longs (suc owed) = at o (phases.Content longs owed)
+abbrev pub owe_content : OpenHunk → ℕ → ℕ → Position
+owe_content o longs zero = at (with_content o) phases.BlockWord
+owe_content o longs (suc owed) = at o (phases.Content longs owed)
 
-abbrev pub payload : OpenHunk → ℕ → Position
-payload o zero = at o phases.BlockWord
-payload o (suc owed) = at o (phases.Payload owed)
+abbrev pub owe_payload : OpenHunk → ℕ → Position
+owe_payload o zero = at o phases.BlockWord
+owe_payload o (suc owed) = at o (phases.Payload owed)
 
-abbrev pub groups : OpenHunk → ℕ → Position
-groups o zero = at o phases.BlockWord
-groups o (suc owed) = at o (phases.Target owed)
+abbrev pub owe_targets : OpenHunk → ℕ → Position
+owe_targets o zero = at o phases.BlockWord
+owe_targets o (suc owed) = at o (phases.Target owed)
 
-abbrev pub offsets : OpenHunk → ℕ → ℕ → Position
-offsets o target zero = at o phases.GroupCount
-offsets o target (suc owed) = at o (phases.Offset target owed)
+abbrev pub owe_offsets : OpenHunk → ℕ → ℕ → Position
+owe_offsets o target zero = at o phases.GroupCount
+owe_offsets o target (suc owed) = at o (phases.Offset target owed)
 
-abbrev pub symbol : OpenHunk → ℕ → Position
-symbol o zero = at o phases.EntryWord
-symbol o (suc owed) = at o (phases.Symbol owed)
+abbrev pub owe_symbol : OpenHunk → ℕ → Position
+owe_symbol o zero = at o phases.EntryWord
+owe_symbol o (suc owed) = at o (phases.Symbol owed)
 
 -- The name, and the value behind it; a word of 0 ends the entries.
-abbrev pub symbols : OpenHunk → ℕ → Position
-symbols o zero = at o phases.BlockWord
-symbols o (suc w) = symbol o (suc (suc w % 2 ^ 24))
+abbrev pub owe_symbols : OpenHunk → ℕ → Position
+owe_symbols o zero = at o phases.BlockWord
+owe_symbols o (suc w) = owe_symbol o (suc (suc w % 2 ^ 24))
 
 abbrev pub step_in : OpenHunk → Phase → ℕ → Position
 step_in o phases.FirstBlock w = begin o (kind w)
 step_in o phases.BlockWord w = begin o (kind w)
-step_in o phases.NameCount w = payload o w
-step_in o phases.LongCount w = payload o w
-step_in o phases.ContentSize w = content o (w % 2 ^ 30) (w % 2 ^ 30)
+step_in o phases.NameCount w = owe_payload o w
+step_in o phases.LongCount w = owe_payload o w
+step_in o phases.ContentSize w = owe_content o (w % 2 ^ 30) (w % 2 ^ 30)
 step_in o phases.BssSize w = at (with_content o) phases.BlockWord
-step_in o (phases.Content longs owed) w = content o longs owed
-step_in o (phases.Payload owed) w = payload o owed
-step_in o phases.GroupCount w = groups o w
+step_in o (phases.Content longs owed) w = owe_content o longs owed
+step_in o (phases.Payload owed) w = owe_payload o owed
+step_in o phases.GroupCount w = owe_targets o w
 step_in o (phases.Target owed) w = at o (phases.Offset w owed)
-step_in o (phases.Offset target owed) w = offsets o target owed
-step_in o phases.EntryWord w = symbols o w
-step_in o (phases.Symbol owed) w = symbol o owed
+step_in o (phases.Offset target owed) w = owe_offsets o target owed
+step_in o phases.EntryWord w = owe_symbols o w
+step_in o (phases.Symbol owed) w = owe_symbol o owed
 
 -- Behind a longword that is not refused.
 abbrev pub step : Position → ℕ → Position
@@ -120,9 +120,9 @@ step positions.FirstLong w = positions.ResidentName
 step positions.ResidentName w = positions.TableSize
 step positions.TableSize w = positions.FirstHunk w
 step (positions.FirstHunk hunks) w = positions.LastHunk hunks
-step (positions.LastHunk hunks) w = entries hunks hunks
-step (positions.SizeWord hunks owed) w = if has_both_bits w then positions.Attributes hunks w owed else entries hunks owed
-step (positions.Attributes hunks word owed) w = entries hunks owed
+step (positions.LastHunk hunks) w = owe_entries hunks hunks
+step (positions.SizeWord hunks owed) w = if has_both_bits w then positions.Attributes hunks w owed else owe_entries hunks owed
+step (positions.Attributes hunks word owed) w = owe_entries hunks owed
 step (positions.Body o phase) w = step_in o phase w
 step positions.Done w = positions.Done
 
@@ -158,9 +158,9 @@ run _ = 0
 
 -- behind one longword of a run and so many more
 abbrev pub pass_in : OpenHunk → Phase → ℕ → Position
-pass_in o (phases.Content longs owed) n = content o longs (owed - n)
-pass_in o (phases.Payload owed) n = payload o (owed - n)
-pass_in o (phases.Symbol owed) n = symbol o (owed - n)
+pass_in o (phases.Content longs owed) n = owe_content o longs (owed - n)
+pass_in o (phases.Payload owed) n = owe_payload o (owed - n)
+pass_in o (phases.Symbol owed) n = owe_symbol o (owed - n)
 pass_in o phase n = at o phase
 
 abbrev pub pass : Position → ℕ → Position

@@ -65,9 +65,9 @@ impl OpenHunk {
     /// Behind the END of the hunk.
     #[inline(always)]
     fn close(self) -> Position
-        ensures { result ≡ positions.close self.hunks self.ahead }
+        ensures { result ≡ positions.open_next self.hunks self.ahead }
     {
-        open_hunk(self.hunks, self.ahead)
+        open_next(self.hunks, self.ahead)
     }
 
     /// Behind a block word.
@@ -87,8 +87,8 @@ impl OpenHunk {
 
     /// So many longwords of the content are owed.
     #[inline(always)]
-    fn content(self, longs: u32, owed: u32) -> Position
-        ensures { result ≡ positions.content self longs owed }
+    fn owe_content(self, longs: u32, owed: u32) -> Position
+        ensures { result ≡ positions.owe_content self longs owed }
     {
         if owed == 0 {
             self.with_content().at(Phase::BlockWord)
@@ -101,8 +101,8 @@ impl OpenHunk {
     }
 
     #[inline(always)]
-    fn payload(self, owed: u32) -> Position
-        ensures { result ≡ positions.payload self owed }
+    fn owe_payload(self, owed: u32) -> Position
+        ensures { result ≡ positions.owe_payload self owed }
     {
         if owed == 0 {
             self.at(Phase::BlockWord)
@@ -112,8 +112,8 @@ impl OpenHunk {
     }
 
     #[inline(always)]
-    fn symbol(self, owed: u32) -> Position
-        ensures { result ≡ positions.symbol self owed }
+    fn owe_symbol(self, owed: u32) -> Position
+        ensures { result ≡ positions.owe_symbol self owed }
     {
         if owed == 0 {
             self.at(Phase::EntryWord)
@@ -129,11 +129,11 @@ impl OpenHunk {
     {
         match phase {
             Phase::FirstBlock | Phase::BlockWord => self.begin(BlockWord::of(word).kind()),
-            Phase::NameCount | Phase::LongCount => self.payload(word),
-            Phase::ContentSize => self.content(content_longs(word), content_longs(word)),
+            Phase::NameCount | Phase::LongCount => self.owe_payload(word),
+            Phase::ContentSize => self.owe_content(content_longs(word), content_longs(word)),
             Phase::BssSize => self.with_content().at(Phase::BlockWord),
-            Phase::Content { longs, owed } => self.content(longs, owed),
-            Phase::Payload { owed } => self.payload(owed),
+            Phase::Content { longs, owed } => self.owe_content(longs, owed),
+            Phase::Payload { owed } => self.owe_payload(owed),
             Phase::GroupCount | Phase::EntryWord if word == 0 => self.at(Phase::BlockWord),
             Phase::GroupCount => self.at(Phase::Target { owed: word - 1 }),
             Phase::Target { owed } => self.at(Phase::Offset { target: word, owed }),
@@ -142,8 +142,8 @@ impl OpenHunk {
                 target,
                 owed: owed - 1,
             }),
-            Phase::EntryWord => self.symbol(word % NAME_LIMIT + 1),
-            Phase::Symbol { owed } => self.symbol(owed),
+            Phase::EntryWord => self.owe_symbol(word % NAME_LIMIT + 1),
+            Phase::Symbol { owed } => self.owe_symbol(owed),
         }
     }
 
@@ -154,9 +154,9 @@ impl OpenHunk {
         ensures { result ≡ positions.pass_in self phase more }
     {
         match phase {
-            Phase::Content { longs, owed } => self.content(longs, owed - more),
-            Phase::Payload { owed } => self.payload(owed - more),
-            Phase::Symbol { owed } => self.symbol(owed - more),
+            Phase::Content { longs, owed } => self.owe_content(longs, owed - more),
+            Phase::Payload { owed } => self.owe_payload(owed - more),
+            Phase::Symbol { owed } => self.owe_symbol(owed - more),
             _ => self.at(phase),
         }
     }
@@ -202,8 +202,8 @@ impl Phase {
 
 /// Where so many hunks are left.
 #[inline(always)]
-pub(crate) fn open_hunk(hunks: u32, left: u32) -> Position
-    ensures { result ≡ positions.close hunks left }
+pub(crate) fn open_next(hunks: u32, left: u32) -> Position
+    ensures { result ≡ positions.open_next hunks left }
 {
     if left == 0 {
         Position::Done

@@ -3,7 +3,7 @@ ghost use Rattle.std.specs.Prelude.{◌≡◌, ◌≤◌, ◌<◌, ◌^◌, fals
 ghost use Rattle.hunk_scan.specs.Positions as positions;
 ghost use Rattle.hunk_scan.specs.Positions.{step, run, pass, least_longs, is_done, is_behind_header, is_between_hunks};
 
-use crate::phase::{OpenHunk, Phase, open_hunk};
+use crate::phase::{OpenHunk, Phase, open_next};
 use hunk_words::SizeWord;
 
 /// What the next longword of a load file is for. In the table, an owed number tells how many
@@ -26,9 +26,9 @@ impl Position {
     /// Behind the table of a file of so many hunks.
     #[inline(always)]
     pub fn behind_table(hunks: u32) -> Position
-        ensures { result ≡ positions.close hunks hunks }
+        ensures { result ≡ positions.open_next hunks hunks }
     {
-        open_hunk(hunks, hunks)
+        open_next(hunks, hunks)
     }
 
     /// Whether the file is whole.
@@ -74,19 +74,19 @@ impl Position {
             Position::ResidentName => Position::TableSize,
             Position::TableSize => Position::FirstHunk { hunks: word },
             Position::FirstHunk { hunks } => Position::LastHunk { hunks },
-            Position::LastHunk { hunks } => entries(hunks, hunks),
+            Position::LastHunk { hunks } => owe_entries(hunks, hunks),
             Position::SizeWord { hunks, owed } => {
                 if SizeWord::has_extra(word) {
                     Position::Attributes { hunks, word, owed }
                 } else {
-                    entries(hunks, owed)
+                    owe_entries(hunks, owed)
                 }
             }
             Position::Attributes {
                 hunks,
                 word: _,
                 owed,
-            } => entries(hunks, owed),
+            } => owe_entries(hunks, owed),
             Position::Body(hunk, phase) => hunk.step(phase, word),
             Position::Done => Position::Done,
         }
@@ -144,8 +144,8 @@ impl Position {
 
 /// So many entries of the table are owed.
 #[inline(always)]
-fn entries(hunks: u32, owed: u32) -> Position
-    ensures { result ≡ positions.entries hunks owed }
+fn owe_entries(hunks: u32, owed: u32) -> Position
+    ensures { result ≡ positions.owe_entries hunks owed }
 {
     if owed == 0 {
         Position::behind_table(hunks)

@@ -8,7 +8,7 @@ use Rattle.hunk_files.specs.LoadFile.{TableEntry}
 use Rattle.hunk_files.specs.FileSteps.{open_hunk}
 use Rattle.hunk_files.specs.WordsRead.{HasRead}
 use Rattle.hunk_files.specs.declared.row.Row.{Row}
-use Rattle.hunk_scan.specs.Positions.{close}
+use Rattle.hunk_scan.specs.Positions.{open_next}
 use Rattle.hunk_scatter.specs.BodyReader.{state_at}
 use Rattle.hunk_scatter.specs.StoreContent.{zeros}
 use Rattle.hunk_scatter.specs.BodyLoaderFields.{Reading, BodyLoaderInvariant}
@@ -31,7 +31,7 @@ zeros_are (e ∷ table) =
     ∙ ap (λ (xs : List ℕ). replicate (4 * size_longs e.word) 0 ++ xs) (zeros_are table)
 
 pub start_reading : (rows : List Row) (ws fed : List ℕ) → rows ≢ [] → fed ≡ bytes_of ws → HasRead ws (open_hunk (length (entries_of rows)) [] (entries_of rows)) →
-    Reading rows (zeros (entries_of rows)) (state_at [] (close (length (entries_of rows)) (length (entries_of rows)))) [] fed
+    Reading rows (zeros (entries_of rows)) (state_at [] (open_next (length (entries_of rows)) (length (entries_of rows)))) [] fed
 start_reading [] ws fed some e read = absurd (some refl)
 start_reading (r ∷ rows) ws fed some e read = record {
   ws = ws;
@@ -48,7 +48,7 @@ start_reading (r ∷ rows) ws fed some e read = record {
 
 -- A table that was read, with its hunks placed and a store of zero bytes.
 pub placed_loading : (old rows : List Row) (total budget count : ℕ) (fed store : List ℕ) → DeclaredInvariant old total budget count fed → entries_of rows ≡ entries_of old → store ≡ replicate total 0 →
-    BodyLoaderInvariant rows store (state_at [] (close (length (entries_of rows)) (length (entries_of rows)))) [] count None fed
+    BodyLoaderInvariant rows store (state_at [] (open_next (length (entries_of rows)) (length (entries_of rows)))) [] count None fed
 placed_loading old rows total budget count fed store h same s =
     let table : IsTable (entries_of rows) = subst IsTable (sym same) h.is_table in
     let zero_bytes : store ≡ zeros (entries_of rows) =
@@ -59,7 +59,7 @@ placed_loading old rows total budget count fed store h same s =
       size = ap length s ∙ length-replicate total 0 ∙ h.total_is ∙ ap declared_bytes (sym same);
       reading =
           λ e.
-          subst (λ (bs : List ℕ). Reading rows bs (state_at [] (close (length (entries_of rows)) (length (entries_of rows)))) [] fed) (sym zero_bytes)
+          subst (λ (bs : List ℕ). Reading rows bs (state_at [] (open_next (length (entries_of rows)) (length (entries_of rows)))) [] fed) (sym zero_bytes)
           (start_reading rows (header_words (entries_of rows)) fed (λ none. omega (arith, ap length none, table.some, length-map rows entry_of)) (h.header ∙ ap header_bytes (sym same)) (header_read (entries_of rows) table));
       own = λ f e. absurd cc;
     }

@@ -1,6 +1,6 @@
 //! Where the loader of a body stands.
 ghost use Rattle.std.specs.Prelude.{◌≡◌, ◌+◌, ◌*◌, ◌<◌, ◌^◌, length, ℕ};
-ghost use Rattle.hunk_scan.specs.Positions.{close};
+ghost use Rattle.hunk_scan.specs.Positions.{open_next};
 ghost use Rattle.hunk_scatter.specs.BodySteps.{step_body, refusal, longs_at, IsInStore};
 ghost use Rattle.hunk_scatter.specs.Rows.{words_of};
 
@@ -28,7 +28,7 @@ fn longs_of(rows: &[Row], hunk: u32) -> u32
 impl BodyState {
     /// Before the first block of the first of so many hunks.
     pub fn start(hunks: u32) -> BodyState
-        ensures { result ≡ record { hunk = 0; start = 0; position = close hunks hunks } }
+        ensures { result ≡ record { hunk = 0; start = 0; position = open_next hunks hunks } }
     {
         BodyState {
             hunk: 0,

@@ -1,12 +1,11 @@
 -- Words that are taken, and the orders that they are.
 use Rattle.std.proofs.Common.{refl, codes, true, false, None, Some, List, [], ◌∷◌, ◌≡◌}
-use Rattle.clap.specs.Words.{subcommand_of, takes, Text}
+use Rattle.clap.specs.Words.{takes, Text}
 use Rattle.clap.proofs.OnLiterals.{clap_on_literals}
 use Rattle.hunkinfo.specs.Command.{hunkinfo}
 use Rattle.hunkinfo.specs.Line.{order_of, taken}
-use Rattle.hunkinfo.specs.declared.asked.Order.TheVariants.{Relocate, Show, Rewrite}
+use Rattle.hunkinfo.specs.declared.asked.Order.TheVariants.{Relocate, Show}
 use Rattle.clap.specs.Faults.{fault_of}
-use Rattle.clap.specs.Kinds.{Kinds}
 use Rattle.clap.specs.declared.error.kind.ErrorKind.TheVariants as kind
 
 abbrev bad_base : List Text

@@ -20,7 +20,7 @@ use crate::object::refusal::{UNIT, counted_from, out_of_memory, refuse_unit_word
 use crate::object::unit::{Hunk, Unit};
 use hunk_blocks::{Block, Body, Mode, Payload};
 use hunk_scan::refuse_place;
-use hunk_words::{BlockWord, FileFault, Reason, SizeWord, word_at};
+use hunk_words::{BlockWord, FileFault, NAME_LIMIT, Reason, SizeWord, word_at};
 use std::alloc::Global;
 
 /// The longword number `i`.
@@ -141,7 +141,7 @@ fn read_header(bytes: &[u8]) -> Result<(Payload<'_>, usize), FileFault>
         return Err(FileFault { place: 0, reason });
     }
     let count = long_at(bytes, 1)?;
-    if count >= 0x0100_0000 {
+    if count >= NAME_LIMIT {
         return Err(FileFault {
             place: 4,
             reason: Reason::NameWord,

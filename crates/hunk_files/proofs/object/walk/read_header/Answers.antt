@@ -40,13 +40,13 @@ returns-in_err-count-clause-fault c place may =
     if_err_and c.from_residual-in_err-count.result _ _ c.from_residual-in_err-count.ensures.1
     (λ fault same. count_missing place bytes fault (only_word bytes unit_word (omega (arith, c.in_ok-long_at.ensures.long.0)) (omega (arith, c.in_err-count.ensures.short)) (sym unit ∙ c.of-word.ensures ∙ c.in_ok-long_at.ensures.long.1)) (same ∙ c.in_err-count.ensures.cut))
 
-pub returns-then-count-ge16777216-clause-fault : goal.returns-then-count-ge16777216-clause-fault
-returns-then-count-ge16777216-clause-fault c place may =
+pub returns-then-count-ge-NAME_LIMIT-clause-fault : goal.returns-then-count-ge-NAME_LIMIT-clause-fault
+returns-then-count-ge-NAME_LIMIT-clause-fault c place may =
     let bytes : List ℕ = c.args.bytes.now in
     let unit : c.of-word.result ≡ unit_word = search rules in
     count_refused place bytes c.in_ok-count.count (drop 2 (longs bytes))
     (word_and_count bytes unit_word c.in_ok-count.count (omega (arith, c.in_ok-count.ensures.long.0)) (sym unit ∙ c.of-word.ensures ∙ c.in_ok-long_at.ensures.long.1) c.in_ok-count.ensures.long.1)
-    (omega (arith, c.if-count-ge16777216.true))
+    (omega (arith, c.if-count-ge-NAME_LIMIT.true))
 
 pub returns-then-bytes-end-clause-fault : goal.returns-then-bytes-end-clause-fault
 returns-then-bytes-end-clause-fault c place may =

@@ -2,7 +2,7 @@ use Rattle.std.proofs.Common.{◌≡◌, ℕ, List, [], length, arith, None, ref
 use Rattle.hunk_files.specs.declared.row.Row.{Row}
 use Rattle.hunk_scatter.specs.BodyLoaderFields.{BodyLoaderInvariant}
 use Rattle.std.proofs.lemmas.List.{length-map}
-use Rattle.hunk_scan.specs.Positions.{close}
+use Rattle.hunk_scan.specs.Positions.{open_next}
 use Rattle.hunk_scatter.specs.BodyReader.{state_at}
 use Rattle.hunk_scatter.specs.Rows.{entry_of, entries_of}
 use Rattle.hunk_scatter.proofs.BodyFields.{loading_as}
@@ -18,6 +18,6 @@ invariant_of-result g c =
     let hunks : c.len.result ≡ length (entries_of c.place_rows.new.rows) =
     omega (arith, c.len.ensures, ap length rows, length-map c.place_rows.new.rows entry_of) in
     subst (λ (rs : List Row). BodyLoaderInvariant rs c.in-Ok.store.items c.start.result c.new.result c.table.inside.count None c.table.inside.history.bytes) (sym rows)
-    (loading_as _ _ _ _ _ _ _ _ _ _ _ refl (c.start.ensures ∙ ap (λ (n : ℕ). state_at [] (close n n)) hunks) c.new.ensures refl
+    (loading_as _ _ _ _ _ _ _ _ _ _ _ refl (c.start.ensures ∙ ap (λ (n : ℕ). state_at [] (open_next n n)) hunks) c.new.ensures refl
     (placed_loading c.table.inside.rows.items c.place_rows.new.rows c.table.inside.total c.table.inside.budget c.table.inside.count c.table.inside.history.bytes c.in-Ok.store.items
     c.table.invariant entries c.in-Ok.ensures))
