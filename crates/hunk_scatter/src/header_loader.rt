@@ -102,7 +102,7 @@ impl HeaderLoader {
                     place: self.count - 3,
                     reason,
                 };
-                self.rows.clear();
+                self.rows = Vec::new(self.alloc);
                 self.refused = Some(fault);
                 Err(fault)
             }
@@ -242,7 +242,7 @@ impl HeaderLoader {
         }
         let HeaderLoader {
             alloc,
-            rows,
+            mut rows,
             state,
             budget,
             assembler: _,
@@ -250,6 +250,7 @@ impl HeaderLoader {
             refused: _,
             history,
         } = self;
+        rows.shrink_to_fit();
         Ok(Declared {
             alloc,
             rows,
