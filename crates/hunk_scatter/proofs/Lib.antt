@@ -4,6 +4,7 @@ pub mod DeclaredBytes
 pub mod Faults
 pub mod Feeding
 pub mod Forget
+pub mod HeaderEnds
 pub mod HeaderFields
 pub mod HeaderFronts
 pub mod HeaderGrows

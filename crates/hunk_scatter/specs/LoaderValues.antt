@@ -1,5 +1,6 @@
 -- The loaders and what they make, as their callers see them.
-use Rattle.std.specs.Prelude.{◌≡◌, ℕ, ◌*◌, List, [], ◌∷◌, ◌++◌, map, take, drop, Option, ◌⊎◌}
+use Rattle.std.specs.Prelude.{◌≡◌, ℕ, ◌*◌, List, [], ◌∷◌, ◌++◌, map, take, drop, Option, MatchOption, ◌⊎◌}
+use Rattle.std.specs.Borrow.{Bor}
 use Rattle.hunk_words.specs.Bits.{size_longs}
 use Rattle.hunk_words.specs.Longs.{bytes_of}
 use Rattle.hunk_words.specs.declared.fault.Fault.{Fault}
@@ -67,3 +68,8 @@ pub record IsImageOf (rows : List Row) (bytes : List ℕ) (segments : List (List
   pub value : LoadFileValue
   pub file : IsFileOf rows bytes value
   pub images_are : segments ≡ map (image (bases_of rows)) value
+
+-- The rows and segments before a step from the front, the first of them, and those after it. After the last there is none.
+abbrev pub GivesSegment : ImageValue → Option (Row × Bor (List ℕ)) → ImageValue → Type 0
+GivesSegment before first after =
+    MatchOption first ((before.rows ≡ []) × (before.segments ≡ []) × (after ≡ before)) (λ x. (before.rows ≡ x.0 ∷ after.rows) × (before.segments ≡ x.1.now ∷ after.segments))

@@ -11,6 +11,7 @@ ghost use Rattle.hunk_scatter.specs.HeaderBytes.{IsTable, header_bytes, IsHeader
 ghost use Rattle.hunk_scatter.specs.HeaderFaults.{PassesBudget, IsOverBudget, IsBudgetOrMemory, IsHeaderFault};
 ghost use Rattle.hunk_scatter.specs.HeaderLoaderFields.{HeaderStop};
 ghost use Rattle.hunk_scatter.specs.LoaderValues.{HeaderLoaderValue, HasNoRefusal};
+ghost use Rattle.hunk_scatter.specs.LoadOutcomes.{IsWithinHeader};
 ghost use Rattle.hunk_words.specs.Longs.{longs};
 
 use crate::declared::Declared;
@@ -102,7 +103,7 @@ impl HeaderLoader {
                     place: self.count - 3,
                     reason,
                 };
-                self.rows.clear();
+                self.rows = Vec::new(self.alloc);
                 self.refused = Some(fault);
                 Err(fault)
             }
@@ -159,7 +160,7 @@ impl HeaderLoader {
     }
 
     /// Consumes the piece, or up to the end of the header where that stands inside it, and gives the
-    /// number of bytes consumed. A header that is whole consumes nothing.
+    /// number of bytes consumed: none behind the header. A header that is whole consumes nothing.
     ///
     /// A refusal is Budget at the size word with which the declared bytes first pass the budget,
     /// OutOfMemory at the longword that completes a row, or the first fault of all that was fed,
@@ -171,6 +172,7 @@ impl HeaderLoader {
         // Success.
         ensures taken { IfOk result (λ n. (n ≤ length piece.now) × (self.new.fed ≡ self.old.fed ++ take n piece.now)) }
         ensures all { IfOk result (λ n. n < length piece.now → IsHeader self.new.fed) }
+        ensures within { OnOk result (IsWithinHeader self.new.fed) }
         ensures complete { self.old.refused ≡ None → IsHeader self.old.fed → result ≡ Ok 0 }
         ensures reading { OnOk result ((self.old.refused ≡ None) × (self.new.refused ≡ None)) }
 
@@ -242,7 +244,7 @@ impl HeaderLoader {
         }
         let HeaderLoader {
             alloc,
-            rows,
+            mut rows,
             state,
             budget,
             assembler: _,
@@ -250,6 +252,7 @@ impl HeaderLoader {
             refused: _,
             history,
         } = self;
+        rows.shrink_to_fit();
         Ok(Declared {
             alloc,
             rows,

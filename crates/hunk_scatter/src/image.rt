@@ -5,6 +5,7 @@ ghost use Rattle.hunk_files.specs.Image.{declared_bytes};
 ghost use Rattle.hunk_scatter.specs.LoaderValues.{cut};
 ghost use Rattle.hunk_scatter.specs.Rows.{entries_of, words_of, bases_of};
 
+use crate::segments::Segments;
 use crate::store::base_of;
 use hunk_files::Row;
 use std::marker::Model;
@@ -80,12 +81,23 @@ impl Image {
         base_of(self.rows.as_slice(), i)
     }
 
-    /// The bytes of a hunk. It is found by summing the bytes of the hunks before it.
+    /// The bytes of a hunk. It is found by summing the bytes of the hunks before it: for all hunks
+    /// take `segments`.
     pub fn segment(&self, i: u32) -> &[u8]
         requires { i < length self.now.rows }
         ensures { slice_get self.now.segments i ≡ Some result.now }
     {
         segment_of(self.rows.as_slice(), self.store.as_slice(), i as usize)
+    }
+
+    /// The segments in turn, each with its row: for all hunks, in time linear in their number.
+    pub fn segments(&self) -> Segments<'_>
+        ensures { result ≡ self.now }
+    {
+        Segments {
+            rows: self.rows.as_slice(),
+            rest: self.store.as_slice(),
+        }
     }
 
     /// The bytes of all hunks.

@@ -11,6 +11,7 @@ mod image;
 mod limits;
 mod loading;
 mod placer;
+mod segments;
 mod store;
 #[cfg(test)]
 mod tests;
@@ -22,3 +23,4 @@ pub use crate::image::Image;
 pub use crate::limits::Limits;
 pub use crate::loading::load;
 pub use crate::placer::{Listed, Packed, Placer};
+pub use crate::segments::Segments;

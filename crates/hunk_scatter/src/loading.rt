@@ -1,5 +1,5 @@
 //! A load from a source.
-ghost use Rattle.std.specs.Prelude.{◌≡◌, ℕ, ◌*◌, ◌+◌, ◌/◌, ◌<◌, ◌≤◌, Bool, List, [], ◌++◌, length, take, None, Some, IfOk, IfErr, OnErr, MatchResult, IsErrAnd, IsTrue};
+ghost use Rattle.std.specs.Prelude.{◌≡◌, ℕ, ◌*◌, ◌+◌, ◌/◌, ◌<◌, ◌≤◌, Bool, List, [], ◌++◌, length, take, None, Some, IfOk, IfErr, OnOk, OnErr, MatchResult, IsErrAnd, IsTrue};
 ghost use Rattle.std.specs.Io.KnownBytes.{Consumes};
 ghost use Rattle.hunk_words.specs.Longs.{bytes_of};
 ghost use Rattle.hunk_words.specs.declared.reason.Reason.TheVariants as reasons;
@@ -40,6 +40,8 @@ fn read_piece<R: Source>(
     ensures piece { IfOk result (λ n. Consumes (R.left r.old) (R.left r.new) (take n buf.new)) }
     ensures fault { IfErr result (IsReadFault limit (R.left r.new) (R.failed r.new) count) }
     ensures nothing { OnErr result (Consumes (R.left r.old) (R.left r.new) []) }
+    ensures works { OnOk result (R.failed r.new ≡ R.failed r.old) }
+    ensures read { R.failed r.old ≡ Bool.false → R.failed r.new ≡ Bool.true → IsErrAnd result (λ f. f.reason ≡ reasons.Read) }
 {
     if count >= limit {
         return Err(LoadFault {
@@ -69,11 +71,12 @@ fn load_header<R: Source>(
     limits: Limits,
 ) -> Result<Declared, LoadFault>
     requires { length buf.old ≡ 256 }
-    ensures { (given : List ℕ) × Gives (R.left r.old) (R.left r.new) limits.file_bytes given × IsWithinHeader given
+    ensures ends { (given : List ℕ) × Gives (R.left r.old) (R.left r.new) limits.file_bytes given × IsWithinHeader given
         × MatchResult result
         (λ declared. IsTable declared.table × (given ≡ header_bytes declared.table)
         × (declared_bytes declared.table ≤ limits.budget))
         (IsHeaderStop limits.budget limits.file_bytes (R.left r.new) (R.failed r.new) given) }
+    ensures read { R.failed r.old ≡ Bool.false → R.failed r.new ≡ Bool.true → IsErrAnd result (λ f. f.reason ≡ reasons.Read) }
 {
     let mut loader = HeaderLoader::new(alloc, limits.budget);
     'reading: loop {
@@ -107,11 +110,12 @@ fn load_body<R: Source>(
     requires reading { loader.refused ≡ None }
     requires within { length loader.fed ≤ limit }
     requires in_file { IsWithinFile loader.fed }
-    ensures { (more : List ℕ) × Consumes (R.left r.old) (R.left r.new) more
+    ensures ends { (more : List ℕ) × Consumes (R.left r.old) (R.left r.new) more
         × (length (loader.fed ++ more) ≤ limit) × IsWithinFile (loader.fed ++ more)
         × MatchResult result
         (λ image. IsImageOf loader.rows (loader.fed ++ more) image.segments × (image.rows ≡ loader.rows))
         (IsBodyStop limit (R.left r.new) (R.failed r.new) (loader.fed ++ more)) }
+    ensures read { R.failed r.old ≡ Bool.false → R.failed r.new ≡ Bool.true → IsErrAnd result (λ f. f.reason ≡ reasons.Read) }
 {
     let mut loader = loader;
     'reading: loop {
@@ -141,9 +145,10 @@ fn load_placed<R: Source, P: Placer>(
     limits: Limits,
     p: &P,
 ) -> Result<Image, LoadFault>
-    ensures { (given : List ℕ) × Gives (R.left r.old) (R.left r.new) limits.file_bytes given
+    ensures ends { (given : List ℕ) × Gives (R.left r.old) (R.left r.new) limits.file_bytes given
         × IsWithinFile given × KeepsToHeader (P.base p.now) limits.budget given
         × LoadEnds (P.base p.now) limits.budget limits.file_bytes (R.left r.new) (R.failed r.new) given result }
+    ensures read { R.failed r.old ≡ Bool.false → R.failed r.new ≡ Bool.true → IsErrAnd result (λ f. f.reason ≡ reasons.Read) }
 {
     let mut buf = [0u8; 256];
     let declared = match load_header(alloc, r, buf.as_mut_slice(), limits) {
@@ -205,6 +210,10 @@ pub fn load<R: Source, P: Placer>(
     ensures fault { IfErr result (λ f. (given : List ℕ) × Gives (R.left r.old) (R.left r.new) limits.file_bytes given
         × IsLoadFault (P.base p.now) limits.budget limits.file_bytes (R.left r.new) (R.failed r.new) given f) }
     ensures own { IfErr result (λ f. IsTrue (is_of_load f.reason)) }
+
+    // A read that fails ends the load.
+    ensures read { R.failed r.old ≡ Bool.false → R.failed r.new ≡ Bool.true
+        → IsErrAnd result (λ f. f.reason ≡ reasons.Read) }
 {
     load_placed(alloc, r, limits, p)
 }

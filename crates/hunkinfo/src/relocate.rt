@@ -83,8 +83,8 @@ fn listing_of(alloc: Global, image: &Image) -> Result<Vec<u8>, AllocError>
     ensures { IfOk result (λ text. text.items ≡ listing (segments_of (bases_of image.now.rows) image.now.segments)) }
 {
     let mut text = Vec::new(alloc);
-    'hunks: for hunk in 0..image.hunks() {
-        push_segment(&mut text, hunk, image.base(hunk), image.segment(hunk))?;
+    'hunks: for (hunk, (row, segment)) in (0..image.hunks()).zip(image.segments()) {
+        push_segment(&mut text, hunk, row.base, segment)?;
     }
     Ok(text)
 }

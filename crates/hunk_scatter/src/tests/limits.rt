@@ -1,7 +1,7 @@
 //! What a load reads and holds at most.
 
 use crate::tests::loads::{START, Want, comes, front};
-use crate::tests::sources::{Fed, Then};
+use crate::tests::sources::{FailsOnce, Fed, Then};
 use crate::tests::{AMPLE, ONE_HUNK, TWO_HUNKS, outcome, spelled};
 use crate::{Limits, Listed};
 use hunk_words::{LoadFault, Reason};
@@ -81,6 +81,32 @@ fn stops(rt: HostRuntime) -> Result<(), Fail> {
             let got = outcome(rt.alloc(), &mut source, limits, &START)?;
             assert_eq!(rt; got, Err(LoadFault { place, reason }));
             assert!(rt; source.reads <= file_bytes + 1);
+        }
+    }
+    Ok(())
+}
+
+/// Example 1, whose 40 bytes come one a read: a read that fails ends the load, though the next would go on.
+#[test]
+fn reads_nothing_again(rt: HostRuntime) -> Result<(), Fail> {
+    let one = spelled(rt.alloc(), ONE_HUNK)?;
+    for fails_at in 0..41 {
+        let mut source = FailsOnce {
+            bytes: one.as_slice(),
+            given: 0,
+            fails_at,
+            failed: false,
+        };
+        let got = outcome(rt.alloc(), &mut source, AMPLE, &START)?;
+        assert_eq!(rt; source.given, fails_at);
+        if fails_at == 40 {
+            assert!(rt; got.is_ok() && !source.failed);
+        } else {
+            let fault = LoadFault {
+                place: fails_at as u64,
+                reason: Reason::Read,
+            };
+            assert_eq!(rt; got, Err(fault));
         }
     }
     Ok(())

@@ -115,3 +115,26 @@ fn two_growths(rt: HostRuntime) -> Result<(), Fail> {
     assert!(rt; third.is_err());
     Ok(())
 }
+
+/// A loader that refuses gives its rows' memory back: the only room for them can be taken again.
+#[test]
+fn frees_rows(rt: HostRuntime) -> Result<(), Fail> {
+    let bytes = spelled(rt.alloc(), "3F3 0 2 0 1 2")?;
+    let mut rooms = Vec::with_capacity(rt.alloc(), 1)?;
+    rooms.push(Vec::<u8>::with_capacity(rt.alloc(), ROWS)?)?;
+    let mut loader = HeaderLoader::new(rt.alloc(), 8);
+    let pieces = all_memory(rt.alloc())?;
+    rooms.clear();
+    let first = loader.feed(bytes.as_slice());
+    let taken = Vec::<u8>::with_capacity(rt.alloc(), ROWS).is_err();
+    assert!(rt; loader.fed() < 1_000);
+    let second = loader.feed([0, 0, 0, 1].as_slice());
+    let again = Vec::<u8>::with_capacity(rt.alloc(), ROWS).is_ok();
+    drop(pieces);
+    assert_eq!(rt; first, Ok(24));
+    assert!(rt; taken);
+    let reason = Reason::Budget;
+    assert_eq!(rt; second, Err(LoadFault { place: 24, reason }));
+    assert!(rt; again);
+    Ok(())
+}

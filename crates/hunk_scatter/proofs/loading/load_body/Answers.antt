@@ -5,8 +5,8 @@ use Rattle.hunk_scatter.specs.LoadOutcomes.{IsWithinFile, IsReadFault, IsBodySto
 use Rattle.hunk_scatter.proofs.Feeding.{file_fed, file_within_more}
 use Rattle.hunk_scatter.proofs.loading.load_body.Goals as goal
 
-pub returns-in-Err : goal.returns-in-Err
-returns-in-Err g c =
+pub returns-in-Err-clause-ends : goal.returns-in-Err-clause-ends
+returns-in-Err-clause-ends g c =
     let i = c.reading.invariant in
     let some : 0 < c.want-want.result = omega arith in (
       i.given.0,
@@ -32,6 +32,7 @@ reading-preserved g c =
     let all = file_fed c.reading.loader.fed piece c.want-want.result c.want-want.ensures.least fits c.feed.new.self.rows c.feed.new.self.fed c.in-Ok-feed.field-0 c.in-Ok-feed.ensures.taken.0 c.in-Ok-feed.ensures.taken.1 c.in-Ok-feed.ensures.all in
     record {
       reading = c.in-Ok-feed.ensures.reading.1;
+      works = λ e. c.in-Ok.ensures.works ∙ i.works e;
       rows_are = c.in-Ok-feed.ensures.rows ∙ i.rows_are;
       given = (
         i.given.0 ++ piece,
@@ -42,8 +43,8 @@ reading-preserved g c =
       in_file = subst IsWithinFile (sym all) (file_within_more c.reading.loader.fed piece c.want-want.result c.want-want.ensures.least fits _ (c.want-want.ensures.truncated some));
     }
 
-pub returns-in-Err-feed : goal.returns-in-Err-feed
-returns-in-Err-feed g c =
+pub returns-in-Err-feed-clause-ends : goal.returns-in-Err-feed-clause-ends
+returns-in-Err-feed-clause-ends g c =
     let i = c.reading.invariant in
     let piece : List ℕ = take c.in-Ok.n c.read_piece.new.buf in
     let fits : length piece ≤ c.want-want.result = omega (arith, length-take c.in-Ok.n c.read_piece.new.buf, c.in-Ok.ensures.most) in

@@ -1,4 +1,4 @@
-use Rattle.std.proofs.Common.{◌≡◌, ◌≤◌, ◌-◌, ℕ, List, ◌++◌, length, None}
+use Rattle.std.proofs.Common.{◌≡◌, ◌≤◌, ◌-◌, ℕ, List, ◌++◌, length, None, false}
 use Rattle.std.specs.Io.KnownBytes.{Consumes}
 use Rattle.hunk_scatter.specs.LoadOutcomes.{IsWithinFile}
 use Rattle.hunk_scatter.proofs.loading.load_body.Given as goal
@@ -6,6 +6,7 @@ use Rattle.hunk_scatter.proofs.loading.load_body.Given as goal
 abbrev pub invariant-reading : goal.invariant-reading
 invariant-reading g l = record {
   reading : l.loader.refused ≡ None;
+  works : g.R.Source.failed l.fn.r ≡ false → g.R.Source.failed l.r ≡ false;
   rows_are : l.loader.rows ≡ l.fn.loader.rows;
   given : (more : List ℕ) × Consumes (g.R.Source.left l.fn.r) (g.R.Source.left l.r) more × (l.loader.fed ≡ l.fn.loader.fed ++ more);
   within : length l.loader.fed ≤ l.limit;

@@ -4,8 +4,8 @@ use Rattle.hunk_scatter.specs.LoadOutcomes.{IsWithinHeader, IsReadFault}
 use Rattle.hunk_scatter.proofs.Feeding.{header_fed, header_within_more, gives_more, gives_none, row_begins, header_wants}
 use Rattle.hunk_scatter.proofs.loading.load_header.Goals as goal
 
-pub returns-in-Err : goal.returns-in-Err
-returns-in-Err g c =
+pub returns-in-Err-clause-ends : goal.returns-in-Err-clause-ends
+returns-in-Err-clause-ends g c =
     let i = c.reading.invariant in (
       c.reading.loader.fed,
       gives_none _ _ _ _ _ i.given c.in-Err.ensures.nothing,
@@ -30,6 +30,7 @@ reading-preserved g c =
     let some : 0 < c.want-want.result = omega arith in
     record {
       reading = c.in-Ok-feed.ensures.reading.1;
+      works = λ e. c.in-Ok.ensures.works ∙ i.works e;
       budget_is = c.in-Ok-feed.ensures.budget ∙ i.budget_is;
       given = gives_more _ _ _ _ c.reading.loader.fed piece c.feed.new.self.fed i.given c.in-Ok.ensures.piece room all;
       in_header =
@@ -37,8 +38,8 @@ reading-preserved g c =
           (header_within_more c.reading.loader.fed piece c.want-want.result c.want-want.ensures.least fits some (λ w. c.want-want.ensures.over i.reading w) i.in_header);
     }
 
-pub returns-in-Err-feed : goal.returns-in-Err-feed
-returns-in-Err-feed g c =
+pub returns-in-Err-feed-clause-ends : goal.returns-in-Err-feed-clause-ends
+returns-in-Err-feed-clause-ends g c =
     let i = c.reading.invariant in
     let piece : List ℕ = take c.in-Ok.n c.read_piece.new.buf in
     let fits : length piece ≤ c.want-want.result = omega (arith, length-take c.in-Ok.n c.read_piece.new.buf, c.in-Ok.ensures.most) in

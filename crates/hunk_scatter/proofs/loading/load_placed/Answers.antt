@@ -1,4 +1,4 @@
-use Rattle.std.proofs.Common.{◌≡◌, ◌++◌, length, sym, ap, subst, ◌∙◌, inl}
+use Rattle.std.proofs.Common.{◌≡◌, ◌++◌, Bool, true, false, length, refl, sym, ap, subst, ◌∙◌, inl}
 use Rattle.std.specs.Io.KnownBytes.{Consumes}
 use Rattle.std.proofs.KnownBytes.{Consumes-trans}
 use Rattle.hunk_scatter.specs.LoadOutcomes.{IsHeaderWithin, IsWithinFile, InHeader, Between}
@@ -6,12 +6,12 @@ use Rattle.hunk_scatter.proofs.HeaderFronts.{within_file}
 use Rattle.hunk_scatter.proofs.LoadEnding.{ends_body, body_keeps, has_bases}
 use Rattle.hunk_scatter.proofs.loading.load_placed.Goals as goal
 
-pub returns-in-Err : goal.returns-in-Err
-returns-in-Err g c = let e = c.in-Err.ensures in (e.0, e.1, within_file e.0 e.2, λ t more is d. inl (e.2 t more is d), InHeader e.3)
+pub returns-in-Err-clause-ends : goal.returns-in-Err-clause-ends
+returns-in-Err-clause-ends g c = let e = c.in-Err.ensures.ends in (e.0, e.1, within_file e.0 e.2, λ t more is d. inl (e.2 t more is d), InHeader e.3)
 
-pub returns-in-Err-place : goal.returns-in-Err-place
-returns-in-Err-place g c =
-    let e = c.in-Ok.ensures in (
+pub returns-in-Err-place-clause-ends : goal.returns-in-Err-place-clause-ends
+returns-in-Err-place-clause-ends g c =
+    let e = c.in-Ok.ensures.ends in (
       e.0,
       e.1,
       within_file e.0 e.2,
@@ -21,13 +21,13 @@ returns-in-Err-place g c =
 
 pub load_body-requires-clause-in_file : goal.load_body-requires-clause-in_file
 load_body-requires-clause-in_file g c =
-    let e = c.in-Ok.ensures in
+    let e = c.in-Ok.ensures.ends in
     subst IsWithinFile (e.3.1 ∙ sym c.in-Ok-place.ensures.fed) (within_file e.0 e.2)
 
-pub returns : goal.returns
-returns g c =
-    let e = c.in-Ok.ensures in
-    let b = c.load_body.ensures in
+pub returns-clause-ends : goal.returns-clause-ends
+returns-clause-ends g c =
+    let e = c.in-Ok.ensures.ends in
+    let b = c.load_body.ensures.ends in
     let same : e.0 ≡ c.in-Ok-place.loader.fed = e.3.1 ∙ sym c.in-Ok-place.ensures.fed in
     let h : IsHeaderWithin c.args.limits.budget c.in-Ok-place.loader.fed c.in-Ok.declared.table = record { is_table = e.3.0; header = c.in-Ok-place.ensures.fed; within = e.3.2 } in (
       c.in-Ok-place.loader.fed ++ b.0,
@@ -39,3 +39,10 @@ returns g c =
       body_keeps (g.P.Placer.base c.args.p.now) c.args.limits.budget c.in-Ok.declared.table c.in-Ok-place.loader.fed b.0 h (has_bases _ _ _ c.in-Ok-place.ensures.bases),
       ends_body _ _ _ _ _ c.in-Ok.declared.table c.in-Ok-place.loader.fed b.0 c.in-Ok-place.loader.rows c.load_body.result h c.in-Ok-place.ensures.rows c.in-Ok-place.ensures.bases b.4,
     )
+
+not_true : (b : Bool) → (b ≡ true → ⊥) → b ≡ false
+not_true true h = absurd (h refl)
+not_true false h = refl
+
+pub returns-clause-read : goal.returns-clause-read
+returns-clause-read g c = λ fresh fails. c.load_body.ensures.read (not_true _ (λ e. c.in-Ok.ensures.read fresh e)) fails

@@ -1,11 +1,16 @@
-use Rattle.std.proofs.Common.{◌≡◌, ◌++◌, drop}
+use Rattle.std.proofs.Common.{◌≡◌, ◌+◌, ◌++◌, length}
+use Rattle.std.specs.Iterator.Adapters.{zip_first, zip_second}
 use Rattle.hunk_scatter.specs.Rows.{bases_of}
 use Rattle.hunkinfo.specs.Listing.{lines_from, listing}
 use Rattle.hunkinfo.specs.Relocating.{segments_of}
 use Rattle.hunkinfo.proofs.relocate.listing_of.Given as goal
 
--- the lines so far, and those of the rest
+-- the lines so far and those of the segments that are left, one for each hunk to come
 abbrev pub invariant-hunks : goal.invariant-hunks
 invariant-hunks l =
-    l.text.items ++ lines_from l.hunk (segments_of (drop l.hunk (bases_of l.image.rows)) (drop l.hunk l.image.segments))
-    ≡ listing (segments_of (bases_of l.image.rows) l.image.segments)
+    let hunks = zip_first l.hunk-iterator in
+    let left = zip_second l.hunk-iterator in
+    record {
+      lines : l.text.items ++ lines_from hunks.start (segments_of (bases_of left.rows) left.segments) ≡ listing (segments_of (bases_of l.image.rows) l.image.segments);
+      count : hunks.start + length left.rows ≡ hunks.end;
+    }

@@ -1,9 +1,11 @@
-use Rattle.std.proofs.Common.{◌≡◌, sym, ap, subst, ◌∙◌}
-use Rattle.hunk_scatter.specs.HeaderBytes.{IsHeader, header_bytes}
+use Rattle.std.proofs.Common.{◌≡◌, List, sym, ap, subst, ◌∙◌}
+use Rattle.hunk_scatter.specs.HeaderBytes.{IsHeader, IsTable, header_bytes}
 use Rattle.hunk_scatter.specs.LoaderValues.{HeaderLoaderValue}
 use Rattle.hunk_scatter.proofs.HeaderFields.{heading_not_whole, table_declared}
 use Rattle.hunk_scatter.proofs.BodyFields.{none_of}
+use Rattle.hunk_scatter.specs.HeaderLoaderFields.{DeclaredInvariant}
 use Rattle.hunk_scatter.specs.Rows.{entries_of}
+use Rattle.hunk_files.specs.declared.row.Row.{Row}
 use Rattle.hunk_scatter.proofs.header_loader.HeaderLoader.declared.Goals as goal
 
 pub returns-then-not-is_behind_header-clause-whole : goal.returns-then-not-is_behind_header-clause-whole
@@ -13,10 +15,14 @@ returns-then-not-is_behind_header-clause-whole c none w =
 
 pub invariant_of-result : goal.invariant_of-result
 invariant_of-result c =
-    table_declared _ _ _ _ _ _ _ c.self.invariant (none_of c.self.inside.refused (sym c.is_some.ensures ∙ c.if-is_some.false)) (sym c.is_behind_header.ensures ∙ c.if-not-is_behind_header.false)
+    subst (λ (rows : List Row). DeclaredInvariant rows c.self.inside.state.total c.self.inside.budget c.self.inside.count c.self.inside.history.bytes) (sym c.shrink_to_fit.ensures.items)
+    (table_declared _ _ _ _ _ _ _ c.self.invariant (none_of c.self.inside.refused (sym c.is_some.ensures ∙ c.if-is_some.false)) (sym c.is_behind_header.ensures ∙ c.if-not-is_behind_header.false))
 
 pub returns-clause-table : goal.returns-clause-table
 returns-clause-table c =
     let t =
     table_declared _ _ _ _ _ _ _ c.self.invariant (none_of c.self.inside.refused (sym c.is_some.ensures ∙ c.if-is_some.false)) (sym c.is_behind_header.ensures ∙ c.if-not-is_behind_header.false) in
-    (t.is_table, subst (λ (v : HeaderLoaderValue). v.fed ≡ header_bytes (entries_of c.self.inside.rows.items)) c.self.view_is t.header)
+    let same : entries_of c.self.inside.rows.items ≡ entries_of c.shrink_to_fit.new.self.items = ap entries_of (sym c.shrink_to_fit.ensures.items) in (
+      subst IsTable same t.is_table,
+      subst (λ (v : HeaderLoaderValue). v.fed ≡ header_bytes (entries_of c.shrink_to_fit.new.self.items)) c.self.view_is (t.header ∙ ap header_bytes same),
+    )

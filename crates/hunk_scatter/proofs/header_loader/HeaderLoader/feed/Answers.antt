@@ -2,6 +2,8 @@ use Rattle.std.proofs.Common.{List, ℕ, ◌++◌, sym, ap, subst, ◌∙◌, ar
 use Rattle.hunk_scatter.specs.HeaderBytes.{IsHeader, MayGoOnInHeader}
 use Rattle.hunk_scatter.specs.HeaderFaults.{PassesBudget, IsHeaderFault}
 use Rattle.hunk_scatter.specs.LoaderValues.{HeaderLoaderValue}
+use Rattle.hunk_scatter.specs.LoadOutcomes.{IsWithinHeader}
+use Rattle.hunk_scatter.proofs.HeaderEnds.{heading_ends}
 use Rattle.hunk_scatter.proofs.Feeding.{rest_bytes}
 use Rattle.hunk_scatter.proofs.HeaderFields.{piece_within}
 use Rattle.hunk_scatter.proofs.HeaderStops.{stop_ends, stop_fault, stop_over, stop_accepts}
@@ -37,3 +39,8 @@ pub returns-in-Err-clause-wanting : goal.returns-in-Err-clause-wanting
 returns-in-Err-clause-wanting c none e =
     let s = c.in-Err.ensures.refusal in
     omega (arith, s.3, stop_ends _ s.0 s.1 c.in-Err.fault s.4)
+
+pub returns-in-Ok-clause-within : goal.returns-in-Ok-clause-within
+returns-in-Ok-clause-within c =
+    subst IsWithinHeader (ap (λ (v : HeaderLoaderValue). v.fed) c.self-2.view_is)
+    (heading_ends _ _ _ _ _ (c.self-2.invariant.reading (ap (λ (v : HeaderLoaderValue). v.refused) c.self-2.view_is ∙ c.in-Ok.ensures.reading)))

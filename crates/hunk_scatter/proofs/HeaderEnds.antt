@@ -1,0 +1,52 @@
+-- What the loader of a header has consumed goes past no end of a header.
+use Rattle.std.proofs.Common.{◌≡◌, ℕ, ◌≤◌, Bool, true, false, List, [], ◌∷◌, ◌++◌, length, refl, sym, ap, subst, ◌∙◌, append-nil, arith, length-append}
+use Rattle.hunk_words.specs.Longs.{longs}
+use Rattle.hunk_words.proofs.LongLaws.{longs-bytes_of}
+use Rattle.hunk_files.specs.LoadFile.{TableEntry}
+use Rattle.hunk_files.specs.declared.row.Row.{Row}
+use Rattle.hunk_files.specs.FileSteps.{More, open_hunk}
+use Rattle.hunk_files.specs.WordsRead.{HasRead}
+use Rattle.hunk_scan.specs.Positions.{is_behind_header}
+use Rattle.hunk_scatter.specs.declared.header_state.HeaderState.{HeaderState}
+use Rattle.hunk_scatter.specs.HeaderBytes.{header_bytes, header_words}
+use Rattle.hunk_scatter.specs.HeaderLoaderFields.{HeaderReading}
+use Rattle.hunk_scatter.specs.LoadOutcomes.{IsWithinHeader}
+use Rattle.hunk_scatter.specs.Rows.{entries_of}
+use Rattle.hunk_scatter.proofs.Behind.{stays_behind, table_behind}
+use Rattle.hunk_scatter.proofs.HeaderFields.{heading_table}
+use Rattle.hunk_scatter.proofs.HeaderFronts.{one_table}
+use Rattle.hunk_scatter.proofs.HeaderReads.{here, read_here, in_header}
+use Rattle.hunk_scatter.proofs.HeaderSteps.{not_in_body}
+use Rattle.hunk_scatter.proofs.HeaderTexts.{header_read}
+use Rattle.hunk_scatter.proofs.HeaderStops.{header_longs}
+use Rattle.hunk_scatter.proofs.Outcomes.{longs_are}
+
+none : (xs : List ℕ) → length xs ≤ 0 → xs ≡ []
+none [] le = refl
+none (x ∷ xs) le = absurd (omega (arith, le))
+
+module _ (budget : ℕ) (rows : List Row) (s : HeaderState) (pending fed : List ℕ) (r : HeaderReading budget rows s pending fed) where
+  pub heading_ends : IsWithinHeader fed
+  heading_ends t more is e = go (is_behind_header s.position) refl
+    where
+      words : r.ws ≡ header_words t ++ longs more
+      words =
+          sym (longs_are r.ws r.has_read.next pending fed r.has_read.read r.few r.spelled)
+          ∙ ap longs e
+          ∙ longs-bytes_of (header_words t) more (header_longs t is)
+
+      go : (b : Bool) → is_behind_header s.position ≡ b → more ≡ []
+      go true done =
+          let d = heading_table budget rows s pending fed r done in
+          let same : entries_of rows ≡ t = one_table (entries_of rows) t [] more d.0 is (append-nil (header_bytes (entries_of rows)) ∙ sym d.1 ∙ e) in
+          none more
+          (omega (
+            arith,
+            ap length (sym d.1 ∙ e),
+            length-append (header_bytes t) more,
+            ap (λ (u : List TableEntry). length (header_bytes u)) same,
+          ))
+      go false going =
+          absurd (not_in_body (here budget rows s r.ws r.has_read going) (in_header budget rows s r.ws r.has_read going)
+          (stays_behind (header_words t) (longs more) (open_hunk (length t) [] t) (here budget rows s r.ws r.has_read going) (header_read t is) (table_behind t is)
+          (subst (λ (ws : List ℕ). HasRead ws (More (here budget rows s r.ws r.has_read going))) words (read_here budget rows s r.ws r.has_read going))))
