@@ -1,5 +1,5 @@
 -- What the fields of the loader of a body keep, and what they tell.
-use Rattle.std.proofs.Common.{◌≡◌, ℕ, ◌+◌, ◌-◌, ◌*◌, ◌/◌, ◌^◌, ◌≤◌, ◌<◌, true, false, List, [], ◌∷◌, ◌++◌, length, map, take, drop, refl, sym, ap, ap₂, subst, ◌∙◌, append_assoc, append-nil, arith, length-append, drop_of_length-le, is_some, Option, ltb, None, Some}
+use Rattle.std.proofs.Common.{◌≡◌, ℕ, ◌+◌, ◌-◌, ◌*◌, ◌/◌, ◌%◌, ◌^◌, ◌≤◌, ◌<◌, true, false, List, [], ◌∷◌, ◌++◌, length, map, take, drop, refl, sym, ap, ap₂, subst, ◌∙◌, append_assoc, append-nil, arith, length-append, drop_of_length-le, is_some, Option, ltb, None, Some}
 use Rattle.std.specs.List.{AllByRecursion}
 use Rattle.std.specs.Int.{w32, to_be_bytes}
 use Rattle.std.proofs.lemmas.List.{length-map, take_all, take_at, drop_at}
@@ -8,7 +8,7 @@ use Rattle.hunk_words.specs.declared.reason.Reason.{Reason}
 use Rattle.hunk_words.specs.declared.reason.Reason.TheVariants as reasons
 use Rattle.hunk_words.specs.declared.fault.Fault.{Fault}
 use Rattle.hunk_words.specs.Bits.{size_longs}
-use Rattle.hunk_words.specs.Longs.{bytes_of, longs, IsLong}
+use Rattle.hunk_words.specs.Longs.{bytes_of, longs, IsBytes, IsLong}
 use Rattle.hunk_files.specs.Fault.{HasRefusal, IsTruncated}
 use Rattle.hunk_files.specs.Image.{image}
 use Rattle.hunk_files.specs.LoadFile.{HunkValue, LoadFileValue, IsLoadFile}
@@ -22,19 +22,20 @@ use Rattle.hunk_files.specs.declared.row.Row.{Row}
 use Rattle.hunk_scan.specs.declared.phase.Phase.TheVariants as phases
 use Rattle.hunk_scan.specs.declared.position.Position.{Position}
 use Rattle.hunk_scan.specs.declared.position.Position.TheVariants as positions
-use Rattle.hunk_scan.specs.Positions.{is_done, least_longs}
+use Rattle.hunk_scan.specs.Positions.{is_done, least_longs, run}
 use Rattle.hunk_files.specs.ReaderPosition.{position_of, IsBehindHeader}
 use Rattle.hunk_scatter.specs.declared.body_state.BodyState.{BodyState}
 use Rattle.hunk_scatter.specs.LoaderReasons.{is_of_body}
 use Rattle.std.specs.Prelude.{IsTrue}
-use Rattle.hunk_scatter.specs.StoreContent.{IsSized, stored_in, stored, images}
-use Rattle.hunk_scatter.specs.BodyLoaderFields.{BodyLoaderInvariant}
+use Rattle.hunk_scatter.specs.StoreContent.{IsSized, stored_in, stored, stored_run, images}
+use Rattle.hunk_scatter.specs.BodyLoaderFields.{Reading, BodyLoaderInvariant}
 use Rattle.hunk_scatter.specs.LoaderValues.{IsWholeFile, IsImageOf, HasNoRefusal, cut}
 use Rattle.hunk_scatter.specs.BodyReader.{sizes_of, state_of}
-use Rattle.hunk_scatter.specs.BodySteps.{longs_at, refusal, step_body, IsInStore}
+use Rattle.hunk_scatter.specs.BodySteps.{longs_at, refusal, step_body, pass_body, IsInStore}
 use Rattle.hunk_scatter.specs.Rows.{words_of, bases_of}
 use Rattle.hunk_scatter.proofs.Outcomes.{read_clean, read_truncated}
 use Rattle.hunk_scatter.proofs.ReadWords.{read_longs, text_longs}
+use Rattle.hunk_scatter.proofs.Runs.{length-run, read_run}
 use Rattle.hunk_scatter.proofs.Splice.{length-put}
 use Rattle.hunk_scatter.proofs.OneByte.{Going, going, room, more_pending, more_read, refused_here, file_read, sizes_are}
 
@@ -64,43 +65,54 @@ module _ (rows : List Row) (store : List ℕ) (state : BodyState) (pending : Lis
     pub in_room : IsInStore (words_of rows) (length store) state
     in_room = room rows store state pending fed gone h.size
 
-    pub kept_none : (byte : ℕ) → length (pending ++ byte ∷ []) < 4 → BodyLoaderInvariant rows store state (pending ++ byte ∷ []) (count + 1) refused (fed ++ byte ∷ [])
-    kept_none byte few = record {
-      counted = omega (arith, h.counted, length-append fed (byte ∷ []));
+    pub kept_none : (bytes : List ℕ) (n : ℕ) → length bytes ≡ n → length (pending ++ bytes) < 4 → BodyLoaderInvariant rows store state (pending ++ bytes) (count + n) refused (fed ++ bytes)
+    kept_none bytes n long few = record {
+      counted = omega (arith, h.counted, long, length-append fed bytes);
       hunks = h.hunks;
       size = h.size;
-      reading = λ e. more_pending rows store state pending fed gone byte few;
+      reading = λ e. more_pending rows store state pending fed gone bytes few;
       own = h.own;
     }
 
-    module _ (byte w : ℕ) (is : IsLong w) (gathers : pending ++ byte ∷ [] ≡ bytes_of (w ∷ [])) where
+    module _ (bytes : List ℕ) (n : ℕ) (long : length bytes ≡ n) (w : ℕ) (is : IsLong w) (gathers : pending ++ bytes ≡ bytes_of (w ∷ [])) where
       pub kept_word : refusal (words_of rows) state w ≡ None →
-          BodyLoaderInvariant rows (stored (bases_of rows) state w store) (step_body (words_of rows) state w) [] (count + 1) refused (fed ++ byte ∷ [])
+          BodyLoaderInvariant rows (stored (bases_of rows) state w store) (step_body (words_of rows) state w) [] (count + n) refused (fed ++ bytes)
       kept_word ok = record {
-        counted = omega (arith, h.counted, length-append fed (byte ∷ []));
+        counted = omega (arith, h.counted, long, length-append fed bytes);
         size = length-stored_in (words_of rows) (bases_of rows) state.hunk state.start state.position w store in_room ok ∙ h.size;
         hunks = h.hunks;
-        reading = λ e. more_read rows store state pending fed gone byte w is gathers ok;
+        reading = λ e. more_read rows store state pending fed gone bytes w is gathers ok;
         own = h.own;
       }
 
-      pub three_before : 3 ≤ count
-      three_before =
+      pub four_before : 4 ≤ count + n
+      four_before =
           omega (
             arith,
             h.counted,
+            long,
             ap length gathers,
             length-bytes_of (w ∷ []),
-            length-append pending (byte ∷ []),
+            length-append pending bytes,
             ap length gone.spelled,
             length-append (bytes_of gone.ws) pending,
           )
 
-      pub refusal_here : (reason : Reason) → refusal (words_of rows) state w ≡ Some reason → HasRefusal (fed ++ byte ∷ []) (count - 3) reason
+      pub refusal_here : (reason : Reason) → refusal (words_of rows) state w ≡ Some reason → HasRefusal (fed ++ bytes) (count + n - 4) reason
       refusal_here reason no-pass =
-          let three : length pending ≡ 3 = omega (arith, ap length gathers, length-bytes_of (w ∷ []), length-append pending (byte ∷ [])) in
-          refused_here rows store state pending fed gone byte w is gathers reason (count - 3)
-          (omega (arith, h.counted, three, ap length gone.spelled, length-append (bytes_of gone.ws) pending)) no-pass
+          refused_here rows store state pending fed gone bytes w is gathers reason (count + n - 4)
+          (omega (arith, h.counted, long, four_before)) no-pass
+
+    -- Longwords of a run are taken at once.
+    pub kept_run : (bytes : List ℕ) (n : ℕ) → pending ≡ [] → length bytes ≡ n → IsBytes bytes → n % 4 ≡ 0 → 0 < n → n ≤ 4 * run state.position →
+        BodyLoaderInvariant rows (stored_run state bytes store) (pass_body state (n / 4)) [] (count + n) refused (fed ++ bytes)
+    kept_run bytes n none_pending long are fours some fits = record {
+      counted = omega (arith, h.counted, long, length-append fed bytes);
+      hunks = h.hunks;
+      size = length-run (words_of rows) state.hunk state.start state.position bytes store in_room (omega (arith, long, fours, fits)) ∙ h.size;
+      reading = λ e. read_run rows store state fed bytes n (subst (λ (xs : List ℕ). Reading rows store state xs fed) none_pending (h.reading none)) in_room long are fours some fits;
+      own = h.own;
+    }
 
     -- A refusal leaves what was fed.
     pub kept_refusal : (store2 pending2 : List ℕ) (f : Fault) → length store2 ≡ length store → IsTrue (is_of_body f.reason) → BodyLoaderInvariant rows store2 state pending2 count (Some f) fed

@@ -19,6 +19,7 @@ pub mod Outcomes
 pub mod PlacingLaws
 pub mod ReadWords
 pub mod Refusing
+pub mod Runs
 pub mod Scatter
 pub mod Splice
 pub mod Splits
