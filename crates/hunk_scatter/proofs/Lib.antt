@@ -16,6 +16,7 @@ pub mod LoadEnding
 pub mod LoadLaws
 pub mod OneByte
 pub mod Outcomes
+pub mod Owed
 pub mod PlacingLaws
 pub mod ReadWords
 pub mod Refusing

@@ -1,5 +1,5 @@
 //! The loader of a body.
-ghost use Rattle.std.specs.Prelude.{◌≡◌, ℕ, ◌+◌, ◌*◌, ◌/◌, ◌<◌, ◌≤◌, ◌^◌, List, [], ◌∷◌, ◌++◌, length, take, true, false, Some, None, Ok, Err, IfOk, IfErr, OnOk, OnErr, IsOk, IsTrue};
+ghost use Rattle.std.specs.Prelude.{◌≡◌, ℕ, ◌+◌, ◌*◌, ◌/◌, ◌<◌, ◌≤◌, ◌^◌, List, [], ◌∷◌, ◌++◌, length, take, true, false, Some, None, Ok, Err, IfOk, IfErr, OnOk, OnErr, IsOk, IsTrue, ◌⊎◌};
 ghost use Rattle.hunk_words.specs.Longs.{bytes_of};
 ghost use Rattle.hunk_words.specs.declared.fault.Fault.{Fault};
 ghost use Rattle.hunk_files.specs.Fault.{HasRefusal, IsTruncated};
@@ -8,6 +8,8 @@ ghost use Rattle.hunk_files.specs.LoadFile.{LoadFileValue, IsLoadFile};
 ghost use Rattle.hunk_files.specs.LoadText.{text};
 ghost use Rattle.hunk_scatter.specs.LoaderReasons.{is_of_body};
 ghost use Rattle.hunk_scatter.specs.LoaderValues.{BodyLoaderValue, IsWholeFile, MayGoOn, HasNoRefusal, IsImageOf};
+ghost use Rattle.hunk_scatter.specs.LoadOutcomes.{IsWithinFile};
+ghost use Rattle.hunk_scatter.specs.Owing.{HasToCome};
 ghost use Rattle.hunk_scatter.specs.Rows.{entries_of};
 
 use crate::body_state::BodyState;
@@ -145,12 +147,14 @@ impl BodyLoader {
     /// How many bytes to read next, at most; 0 where nothing more is taken.
     ///
     /// No load file with this table that begins with what was fed ends sooner than so many bytes
-    /// later. No longword that was fed is refused before `feed` refuses; where this is not 0 and the
-    /// input ends here, the input is truncated.
+    /// later. While a content, a name, a payload or a list of offsets is under way, what is still to
+    /// come of it is wanted at once, up to 256 bytes. No longword that was fed is refused before
+    /// `feed` refuses; where this is not 0 and the input ends here, the input is truncated.
     pub fn want(&self) -> usize
         ensures bound { result ≤ 256 }
         ensures least { (v : LoadFileValue) (more : List ℕ) → IsLoadFile v
             → bytes_of (text v) ≡ self.now.fed ++ more → result ≤ length more }
+        ensures to_come { self.now.refused ≡ None → (p : ℕ) → HasToCome self.now.fed p → (p ≤ result) ⊎ (256 ≤ result) }
         ensures over { self.now.refused ≡ None → IsWholeFile self.now.rows self.now.fed → result ≡ 0 }
         ensures some { self.now.refused ≡ None → result ≡ 0 → IsWholeFile self.now.rows self.now.fed }
         ensures refused { (f : Fault) → self.now.refused ≡ Some f → result ≡ 0 }
@@ -179,6 +183,7 @@ impl BodyLoader {
         // Success.
         ensures taken { IfOk result (λ n. (n ≤ length piece.now) × (self.new.fed ≡ self.old.fed ++ take n piece.now)) }
         ensures all { IfOk result (λ n. n < length piece.now → IsWholeFile self.new.rows self.new.fed) }
+        ensures within { OnOk result (IsWithinFile self.new.fed) }
         ensures complete { self.old.refused ≡ None → IsWholeFile self.old.rows self.old.fed → result ≡ Ok 0 }
         ensures reading { OnOk result ((self.old.refused ≡ None) × (self.new.refused ≡ None)) }
 
@@ -210,6 +215,8 @@ impl BodyLoader {
                 }
             }
         }
+        // The proof learns that what was fed was read.
+        let _ = &self.history;
         Ok(taken)
     }
 

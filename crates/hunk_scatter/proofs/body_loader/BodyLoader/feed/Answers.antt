@@ -1,6 +1,8 @@
 use Rattle.std.proofs.Common.{◌≡◌, ◌++◌, ◌∙◌, List, ℕ, Ok, ap, sym, subst, take, append-nil}
 use Rattle.hunk_files.specs.declared.row.Row.{Row}
-use Rattle.hunk_scatter.specs.LoaderValues.{IsWholeFile}
+use Rattle.hunk_scatter.specs.LoadOutcomes.{IsWithinFile}
+use Rattle.hunk_scatter.specs.LoaderValues.{BodyLoaderValue, IsWholeFile}
+use Rattle.hunk_scatter.proofs.BodyFields.{fed_within}
 use Rattle.hunk_scatter.proofs.Faults.{no_refusal_on, refused_rest, rest_within, fed_on}
 use Rattle.hunk_scatter.proofs.body_loader.BodyLoader.feed.Goals as goal
 
@@ -25,3 +27,13 @@ pub returns-in-Err-clause-accepts : goal.returns-in-Err-clause-accepts
 returns-in-Err-clause-accepts c none on =
     absurd (no_refusal_on _ _ _ on
     (refused_rest c.args.self.now.fed c.args.piece.now c.loop-taken.self.fed c.loop-taken.taken c.in-Err.fault.place c.in-Err.fault.reason c.loop-taken.invariant.1 c.in-Err.ensures.refusal))
+
+pub returns-in-Ok-eq0-clause-within : goal.returns-in-Ok-eq0-clause-within
+returns-in-Ok-eq0-clause-within c =
+    subst IsWithinFile (ap (λ (v : BodyLoaderValue). v.fed) c.self-in-loop-taken.view_is)
+    (fed_within _ _ _ _ _ _ _ c.self-in-loop-taken.invariant (ap (λ (v : BodyLoaderValue). v.refused) c.self-in-loop-taken.view_is ∙ c.in-Ok-eq0.ensures.goes_on))
+
+pub returns-clause-within : goal.returns-clause-within
+returns-clause-within c =
+    subst IsWithinFile (ap (λ (v : BodyLoaderValue). v.fed) c.self-2.view_is)
+    (fed_within _ _ _ _ _ _ _ c.self-2.invariant (ap (λ (v : BodyLoaderValue). v.refused) c.self-2.view_is ∙ c.loop-taken.invariant.3))
