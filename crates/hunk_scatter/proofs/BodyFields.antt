@@ -1,42 +1,48 @@
 -- What the fields of the loader of a body keep, and what they tell.
-use Rattle.std.proofs.Common.{◌≡◌, ℕ, ◌+◌, ◌-◌, ◌*◌, ◌/◌, ◌^◌, ◌≤◌, ◌<◌, true, false, List, [], ◌∷◌, ◌++◌, length, map, take, drop, refl, sym, ap, ap₂, subst, ◌∙◌, append_assoc, append-nil, arith, length-append, drop_of_length-le, is_some, Option, ltb, None, Some}
+use Rattle.std.proofs.Common.{◌≡◌, ℕ, ◌+◌, ◌-◌, ◌*◌, ◌/◌, ◌%◌, ◌^◌, ◌≤◌, ◌<◌, Bool, true, false, List, [], ◌∷◌, ◌++◌, length, map, take, drop, refl, sym, ap, ap₂, subst, ◌∙◌, append_assoc, append-nil, arith, length-append, drop_of_length-le, is_some, Option, ltb, None, Some}
 use Rattle.std.specs.List.{AllByRecursion}
 use Rattle.std.specs.Int.{w32, to_be_bytes}
-use Rattle.std.proofs.lemmas.List.{length-map, take_all, take_at, drop_at}
+use Rattle.std.proofs.lemmas.List.{map-append, length-map, take_all, take_at, drop_at}
 use Rattle.std.proofs.lemmas.Bool.{ltb-false}
 use Rattle.hunk_words.specs.declared.reason.Reason.{Reason}
 use Rattle.hunk_words.specs.declared.reason.Reason.TheVariants as reasons
 use Rattle.hunk_words.specs.declared.fault.Fault.{Fault}
 use Rattle.hunk_words.specs.Bits.{size_longs}
-use Rattle.hunk_words.specs.Longs.{bytes_of, longs, IsLong}
+use Rattle.hunk_words.specs.Longs.{bytes_of, longs, IsBytes, IsLong, AreLongs}
 use Rattle.hunk_files.specs.Fault.{HasRefusal, IsTruncated}
 use Rattle.hunk_files.specs.Image.{image}
 use Rattle.hunk_files.specs.LoadFile.{HunkValue, LoadFileValue, IsLoadFile}
-use Rattle.hunk_files.specs.LoadText.{text, entries}
-use Rattle.hunk_files.specs.FileSteps.{Progress, AtBlock, InBody, More}
+use Rattle.hunk_files.specs.LoadText.{words, text, entries}
+use Rattle.hunk_files.specs.FileSteps.{Progress, AtBlock, InBody, Next, More, Finished, Leads}
+use Rattle.hunk_files.specs.WordsRead.{HasRead, Labelled}
+use Rattle.hunk_scan.specs.Roles.{Role}
+use Rattle.hunk_scatter.specs.LoadOutcomes.{IsWithinFile}
+use Rattle.hunk_scatter.specs.Owing.{HasToCome, run_of}
+use Rattle.hunk_scatter.proofs.Owed.{to_come, to_come_least}
 use Rattle.hunk_words.proofs.LongLaws.{longs-bytes_of, longs-few, length-bytes_of}
 use Rattle.hunk_blocks.proofs.Lists.{passed_false}
 use Rattle.hunk_files.proofs.Least.{least, owes_least, least_same}
-use Rattle.hunk_files.proofs.Reading.{reads, read_goes_on}
+use Rattle.hunk_files.proofs.Reading.{reads, read_goes_on, rest_read, file_read as text_read}
 use Rattle.hunk_files.specs.declared.row.Row.{Row}
 use Rattle.hunk_scan.specs.declared.phase.Phase.TheVariants as phases
 use Rattle.hunk_scan.specs.declared.position.Position.{Position}
 use Rattle.hunk_scan.specs.declared.position.Position.TheVariants as positions
-use Rattle.hunk_scan.specs.Positions.{is_done, least_longs}
+use Rattle.hunk_scan.specs.Positions.{is_done, least_longs, run}
 use Rattle.hunk_files.specs.ReaderPosition.{position_of, IsBehindHeader}
 use Rattle.hunk_scatter.specs.declared.body_state.BodyState.{BodyState}
 use Rattle.hunk_scatter.specs.LoaderReasons.{is_of_body}
 use Rattle.std.specs.Prelude.{IsTrue}
-use Rattle.hunk_scatter.specs.StoreContent.{IsSized, stored_in, stored, images}
-use Rattle.hunk_scatter.specs.BodyLoaderFields.{BodyLoaderInvariant}
+use Rattle.hunk_scatter.specs.StoreContent.{IsSized, stored_in, stored, stored_run, images}
+use Rattle.hunk_scatter.specs.BodyLoaderFields.{Reading, BodyLoaderInvariant}
 use Rattle.hunk_scatter.specs.LoaderValues.{IsWholeFile, IsImageOf, HasNoRefusal, cut}
 use Rattle.hunk_scatter.specs.BodyReader.{sizes_of, state_of}
-use Rattle.hunk_scatter.specs.BodySteps.{longs_at, refusal, step_body, IsInStore}
+use Rattle.hunk_scatter.specs.BodySteps.{longs_at, refusal, step_body, pass_body, IsInStore}
 use Rattle.hunk_scatter.specs.Rows.{words_of, bases_of}
 use Rattle.hunk_scatter.proofs.Outcomes.{read_clean, read_truncated}
 use Rattle.hunk_scatter.proofs.ReadWords.{read_longs, text_longs}
+use Rattle.hunk_scatter.proofs.Runs.{length-run, read_run, none_over}
 use Rattle.hunk_scatter.proofs.Splice.{length-put}
-use Rattle.hunk_scatter.proofs.OneByte.{Going, going, room, more_pending, more_read, refused_here, file_read, sizes_are}
+use Rattle.hunk_scatter.proofs.OneByte.{Going, going, room, more_pending, more_read, refused_here, file_read, sizes_are, not_done}
 
 -- ---- the loader's fields
 
@@ -64,43 +70,54 @@ module _ (rows : List Row) (store : List ℕ) (state : BodyState) (pending : Lis
     pub in_room : IsInStore (words_of rows) (length store) state
     in_room = room rows store state pending fed gone h.size
 
-    pub kept_none : (byte : ℕ) → length (pending ++ byte ∷ []) < 4 → BodyLoaderInvariant rows store state (pending ++ byte ∷ []) (count + 1) refused (fed ++ byte ∷ [])
-    kept_none byte few = record {
-      counted = omega (arith, h.counted, length-append fed (byte ∷ []));
+    pub kept_none : (bytes : List ℕ) (n : ℕ) → length bytes ≡ n → length (pending ++ bytes) < 4 → BodyLoaderInvariant rows store state (pending ++ bytes) (count + n) refused (fed ++ bytes)
+    kept_none bytes n long few = record {
+      counted = omega (arith, h.counted, long, length-append fed bytes);
       hunks = h.hunks;
       size = h.size;
-      reading = λ e. more_pending rows store state pending fed gone byte few;
+      reading = λ e. more_pending rows store state pending fed gone bytes few;
       own = h.own;
     }
 
-    module _ (byte w : ℕ) (is : IsLong w) (gathers : pending ++ byte ∷ [] ≡ bytes_of (w ∷ [])) where
+    module _ (bytes : List ℕ) (n : ℕ) (long : length bytes ≡ n) (w : ℕ) (is : IsLong w) (gathers : pending ++ bytes ≡ bytes_of (w ∷ [])) where
       pub kept_word : refusal (words_of rows) state w ≡ None →
-          BodyLoaderInvariant rows (stored (bases_of rows) state w store) (step_body (words_of rows) state w) [] (count + 1) refused (fed ++ byte ∷ [])
+          BodyLoaderInvariant rows (stored (bases_of rows) state w store) (step_body (words_of rows) state w) [] (count + n) refused (fed ++ bytes)
       kept_word ok = record {
-        counted = omega (arith, h.counted, length-append fed (byte ∷ []));
+        counted = omega (arith, h.counted, long, length-append fed bytes);
         size = length-stored_in (words_of rows) (bases_of rows) state.hunk state.start state.position w store in_room ok ∙ h.size;
         hunks = h.hunks;
-        reading = λ e. more_read rows store state pending fed gone byte w is gathers ok;
+        reading = λ e. more_read rows store state pending fed gone bytes w is gathers ok;
         own = h.own;
       }
 
-      pub three_before : 3 ≤ count
-      three_before =
+      pub four_before : 4 ≤ count + n
+      four_before =
           omega (
             arith,
             h.counted,
+            long,
             ap length gathers,
             length-bytes_of (w ∷ []),
-            length-append pending (byte ∷ []),
+            length-append pending bytes,
             ap length gone.spelled,
             length-append (bytes_of gone.ws) pending,
           )
 
-      pub refusal_here : (reason : Reason) → refusal (words_of rows) state w ≡ Some reason → HasRefusal (fed ++ byte ∷ []) (count - 3) reason
+      pub refusal_here : (reason : Reason) → refusal (words_of rows) state w ≡ Some reason → HasRefusal (fed ++ bytes) (count + n - 4) reason
       refusal_here reason no-pass =
-          let three : length pending ≡ 3 = omega (arith, ap length gathers, length-bytes_of (w ∷ []), length-append pending (byte ∷ [])) in
-          refused_here rows store state pending fed gone byte w is gathers reason (count - 3)
-          (omega (arith, h.counted, three, ap length gone.spelled, length-append (bytes_of gone.ws) pending)) no-pass
+          refused_here rows store state pending fed gone bytes w is gathers reason (count + n - 4)
+          (omega (arith, h.counted, long, four_before)) no-pass
+
+    -- Longwords of a run are taken at once.
+    pub kept_run : (bytes : List ℕ) (n : ℕ) → pending ≡ [] → length bytes ≡ n → IsBytes bytes → n % 4 ≡ 0 → 0 < n → n ≤ 4 * run state.position →
+        BodyLoaderInvariant rows (stored_run state bytes store) (pass_body state (n / 4)) [] (count + n) refused (fed ++ bytes)
+    kept_run bytes n none_pending long are fours some fits = record {
+      counted = omega (arith, h.counted, long, length-append fed bytes);
+      hunks = h.hunks;
+      size = length-run (words_of rows) state.hunk state.start state.position bytes store in_room (omega (arith, long, fours, fits)) ∙ h.size;
+      reading = λ e. read_run rows store state fed bytes n (subst (λ (xs : List ℕ). Reading rows store state xs fed) none_pending (h.reading none)) in_room long are fours some fits;
+      own = h.own;
+    }
 
     -- A refusal leaves what was fed.
     pub kept_refusal : (store2 pending2 : List ℕ) (f : Fault) → length store2 ≡ length store → IsTrue (is_of_body f.reason) → BodyLoaderInvariant rows store2 state pending2 count (Some f) fed
@@ -132,6 +149,44 @@ module _ (rows : List Row) (store : List ℕ) (state : BodyState) (pending : Lis
 
   pub fed_truncated : is_done state.position ≡ false → IsTruncated fed (4 * (length fed / 4))
   fed_truncated more = let g = going rows store state pending fed (h.reading none) more in read_truncated g.ws g.at pending fed g.read g.few g.spelled
+
+-- A load text that another begins with is that one.
+none_behind : (u v : LoadFileValue) → IsLoadFile u → IsLoadFile v → (more : List ℕ) → text u ≡ text v ++ more → more ≡ []
+none_behind u v is in_front more e =
+    let r = rest_read (text v) (Finished v) (text_read v in_front) (text u) (Finished u) (text_read u is) more e in
+    go r.0 r.1 r.3
+  where
+    go : (ls : Labelled) → Leads (Finished v) ls (Finished u) → words ls ≡ more → more ≡ []
+    go [] run same = sym same
+    go (l ∷ ls) run same = absurd run
+
+-- No byte is fed behind a load text.
+module _ (rows : List Row) (store : List ℕ) (state : BodyState) (pending : List ℕ) (count : ℕ) (refused : Option Fault) (fed : List ℕ)
+    (h : BodyLoaderInvariant rows store state pending count refused fed) (none : refused ≡ None) where
+  pub fed_within : IsWithinFile fed
+  fed_within v more is e = go (is_done state.position) refl
+    where
+      go : (b : Bool) → is_done state.position ≡ b → more ≡ []
+      go false on = absurd ((fed_truncated rows store state pending count refused fed h none on).not_whole (record { value = v; is_load_file = is; rest = more; split = e }))
+      go true done =
+          let w = whole_file rows store state pending count refused fed h none done in
+          let same : text w.0 ≡ text v ++ longs more =
+          sym (append-nil (text w.0))
+          ∙ sym (longs-bytes_of (text w.0) [] (text_longs w.0 w.1.is_load_file))
+          ∙ ap longs (append-nil (bytes_of (text w.0)) ∙ w.1.bytes_are ∙ e)
+          ∙ longs-bytes_of (text v) more (text_longs v is) in
+          let over : longs more ≡ [] = none_behind w.0 v w.1.is_load_file is (longs more) same in
+          none_over more
+          (omega (
+            arith,
+            ap length (w.1.bytes_are ∙ e),
+            length-append (bytes_of (text v)) more,
+            length-bytes_of (text w.0),
+            length-bytes_of (text v),
+            ap length same,
+            length-append (text v) (longs more),
+            ap length over,
+          ))
 
 -- ---- the image
 
@@ -196,3 +251,55 @@ module _ (rows : List Row) (store : List ℕ) (state : BodyState) (pending : Lis
       omega (arith, ap length d, ap length whole, length-append g.ws (longs (pending ++ more)), length-bytes_of (text v), length-bytes_of g.ws, length-append (bytes_of g.ws) (pending ++ more), length-append pending more) in
       let i = room rows store state pending fed g h.size in
       (omega (arith, owed, here, bytes), omega (arith, i.hunks, length-map rows (λ (r : Row). r.word)))
+
+-- ---- what is to come
+
+longs_left : (xs ys : List ℕ) → AreLongs (xs ++ ys) → AreLongs xs
+longs_left [] ys h = tt
+longs_left (x ∷ xs) ys h = (h.0, longs_left xs ys h.1)
+
+words_same : (ws pending fed : List ℕ) → fed ≡ bytes_of ws ++ pending → length pending < 4 → AreLongs ws → (p : ℕ) (h : HasToCome fed p) → (words h.done ≡ ws) × (length h.pending ≡ length pending)
+words_same ws pending fed e few are p h =
+    let split : text h.value ≡ words h.done ++ words h.more = ap words h.labels ∙ map-append (λ (x : Role × ℕ). x.1) h.done h.more in
+    let fits : AreLongs (words h.done) = longs_left (words h.done) (words h.more) (subst AreLongs split (text_longs h.value h.is_load_file)) in
+    let one : longs fed ≡ words h.done =
+    ap longs h.spelled ∙ longs-bytes_of (words h.done) h.pending fits ∙ ap (λ (xs : List ℕ). words h.done ++ xs) (longs-few h.pending h.few) ∙ append-nil (words h.done) in
+    let two : longs fed ≡ ws =
+    ap longs e ∙ longs-bytes_of ws pending are ∙ ap (λ (xs : List ℕ). ws ++ xs) (longs-few pending few) ∙ append-nil ws in
+    let same : words h.done ≡ ws = sym one ∙ two in (
+      same,
+      omega (
+        arith,
+        ap length same,
+        ap length h.spelled,
+        ap length e,
+        length-append (bytes_of (words h.done)) h.pending,
+        length-append (bytes_of ws) pending,
+        length-bytes_of (words h.done),
+        length-bytes_of ws,
+      ),
+    )
+
+module _ (rows : List Row) (store : List ℕ) (state : BodyState) (pending : List ℕ) (count : ℕ) (refused : Option Fault) (fed : List ℕ)
+    (h : BodyLoaderInvariant rows store state pending count refused fed) (none : refused ≡ None) where
+  -- What is to come of a list is owed.
+  pub to_come_owed : is_done state.position ≡ false → (p : ℕ) → HasToCome fed p → p + length pending ≤ 4 * least_longs state.position
+  to_come_owed going_on p t =
+      let g = going rows store state pending fed (h.reading none) going_on in
+      let w = words_same g.ws pending fed g.spelled g.few (read_longs g.ws (More g.at) g.read) p t in
+      let most : run_of t.more ≤ least g.at = to_come_least g.ws g.at g.read t.value t.is_load_file t.done t.more t.labels w.0 in
+      let here : least g.at ≡ least_longs state.position =
+      least_same g.at g.in_body (reads g.read).0 ∙ sym (state_position g.at g.in_body) ∙ ap (λ (s : BodyState). least_longs s.position) g.state_is in
+      omega (arith, t.count, w.1, most, here)
+
+  -- At the end nothing is.
+  pub none_to_come : is_done state.position ≡ true → (p : ℕ) → HasToCome fed p → p ≡ 0
+  none_to_come done p t = let r = h.reading none in go r.next r.read r.behind r.state_is (words_same r.ws pending fed r.spelled r.few (read_longs r.ws r.next r.read) p t)
+    where
+      go : (n : Next) → HasRead (h.reading none).ws n → IsBehindHeader n → state_of n ≡ state → (words t.done ≡ (h.reading none).ws) × (length t.pending ≡ length pending) → p ≡ 0
+      go (More q) read b s w =
+          let more : is_done state.position ≡ false = ap (λ (x : BodyState). is_done x.position) (sym s) ∙ not_done q b in
+          absurd (cc (done, more))
+      go (Finished v) read b s w =
+          let none_left : run_of t.more ≡ 0 = to_come (h.reading none).ws (Finished v) read t.value t.is_load_file t.done t.more t.labels w.0 in
+          omega (arith, t.count, none_left)

@@ -1,6 +1,8 @@
 -- Faults of bytes that go on.
-use Rattle.std.proofs.Common.{◌≡◌, ℕ, suc, ◌<◌, List, [], ◌∷◌, ◌++◌, length, take, drop, get_or, refl, sym, ap, ap₂, subst, ◌∙◌, append_assoc, append-nil, drop-cons, take-append-drop, ◌⊎◌, inl, inr}
+use Rattle.std.proofs.Common.{◌≡◌, ℕ, suc, ◌+◌, ◌-◌, ◌<◌, ◌≤◌, List, [], ◌∷◌, ◌++◌, length, take, drop, length-drop, arith, get_or, refl, sym, ap, ap₂, subst, ◌∙◌, append_assoc, append-nil, drop-cons, take-append-drop, ◌⊎◌, inl, inr}
 use Rattle.std.specs.Int.{w32, from_be_bytes}
+use Rattle.std.proofs.lemmas.List.{take_rest}
+use Rattle.std.proofs.Math.Seq.{take-add}
 use Rattle.hunk_words.specs.declared.reason.Reason.{Reason}
 use Rattle.hunk_words.specs.Longs.{longs, bytes_of}
 use Rattle.hunk_files.specs.Fault.{HasRefusal}
@@ -51,8 +53,26 @@ byte_split fed piece front i less e =
     ∙ append_assoc fed (take i piece) (drop i piece)
     ∙ ap (λ (xs : List ℕ). fed ++ xs) (take-append-drop i piece))
 
--- A refusal at a byte of a piece is one of all that was fed and the piece.
-pub refused_in : (fed piece front : List ℕ) (i at : ℕ) (reason : Reason) → i < length piece → front ≡ fed ++ take i piece → HasRefusal (front ++ get_or piece i 0 ∷ []) at reason → HasRefusal (fed ++ piece) at reason
-refused_in fed piece front i at reason less e h =
-    subst (λ (bs : List ℕ). HasRefusal bs at reason) (sym (byte_split fed piece front i less e))
-    (refusal_more (front ++ get_or piece i 0 ∷ []) (drop (suc i) piece) at reason h)
+-- A refusal within the front of a piece is one of the piece.
+pub refusal_front : (fed piece : List ℕ) (n at : ℕ) (reason : Reason) → HasRefusal (fed ++ take n piece) at reason → HasRefusal (fed ++ piece) at reason
+refusal_front fed piece n at reason h =
+    subst (λ (bs : List ℕ). HasRefusal bs at reason) (append_assoc fed (take n piece) (drop n piece) ∙ ap (λ (xs : List ℕ). fed ++ xs) (take-append-drop n piece))
+    (refusal_more (fed ++ take n piece) (drop n piece) at reason h)
+
+-- A refusal of the rest of a piece is one of the piece.
+pub refused_rest : (fed piece front : List ℕ) (n at : ℕ) (reason : Reason) → front ≡ fed ++ take n piece → HasRefusal (front ++ take (length piece - n) (drop n piece)) at reason → HasRefusal (fed ++ piece) at reason
+refused_rest fed piece front n at reason e h =
+    subst (λ (bs : List ℕ). HasRefusal bs at reason)
+    (ap₂ (λ (bs rest : List ℕ). bs ++ rest) e (take_rest piece n) ∙ append_assoc fed (take n piece) (drop n piece) ∙ ap (λ (xs : List ℕ). fed ++ xs) (take-append-drop n piece)) h
+
+-- So much of a piece, and so much of its rest.
+pub fed_on : (fed piece front after : List ℕ) (n m : ℕ) → front ≡ fed ++ take n piece → after ≡ front ++ take m (take (length piece - n) (drop n piece)) → after ≡ fed ++ take (n + m) piece
+fed_on fed piece front after n m e d =
+    d
+    ∙ ap₂ (λ (bs rest : List ℕ). bs ++ take m rest) e (take_rest piece n)
+    ∙ append_assoc fed (take n piece) (take m (drop n piece))
+    ∙ ap (λ (xs : List ℕ). fed ++ xs) (sym (take-add n m piece))
+
+-- A part of the rest of a piece ends within it.
+pub rest_within : (piece : List ℕ) (n m : ℕ) → n ≤ length piece → m ≤ length (take (length piece - n) (drop n piece)) → n + m ≤ length piece
+rest_within piece n m le more = omega (arith, le, more, ap length (take_rest piece n), length-drop n piece)

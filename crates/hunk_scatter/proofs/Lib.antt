@@ -17,9 +17,11 @@ pub mod LoadEnding
 pub mod LoadLaws
 pub mod OneByte
 pub mod Outcomes
+pub mod Owed
 pub mod PlacingLaws
 pub mod ReadWords
 pub mod Refusing
+pub mod Runs
 pub mod Scatter
 pub mod Splice
 pub mod Splits

@@ -1,4 +1,4 @@
--- One byte of a body.
+-- Bytes of a body up to the end of a longword.
 use Rattle.std.proofs.Common.{◌≡◌, ℕ, ◌+◌, ◌*◌, ◌<◌, true, false, List, [], ◌∷◌, ◌++◌, length, refl, sym, ap, ap₂, subst, ◌∙◌, append_assoc, append-nil, arith, length-append, None, Some}
 use Rattle.std.specs.List.{AllByRecursion}
 use Rattle.std.proofs.lemmas.List.Sums.{sum_by-append, sum_by-cons}
@@ -117,13 +117,13 @@ module _ (rows : List Row) (store : List ℕ) (state : BodyState) (pending fed :
   refusal_is : (w : ℕ) → refuse (role_of g.at) w ≡ refusal (words_of rows) state w
   refusal_is w = refusal_same g.at w g.in_body (reads g.read).0 ∙ ap₂ (λ (ss : List ℕ) (s : BodyState). refusal ss s w) sizes_now g.state_is
 
-  -- A byte that completes no longword.
-  pub more_pending : (byte : ℕ) → length (pending ++ byte ∷ []) < 4 → Reading rows store state (pending ++ byte ∷ []) (fed ++ byte ∷ [])
-  more_pending byte few = record {
+  -- Bytes that complete no longword.
+  pub more_pending : (bytes : List ℕ) → length (pending ++ bytes) < 4 → Reading rows store state (pending ++ bytes) (fed ++ bytes)
+  more_pending bytes few = record {
     few = few;
     ws = g.ws;
     next = More g.at;
-    spelled = ap (λ (xs : List ℕ). xs ++ byte ∷ []) g.spelled ∙ append_assoc (bytes_of g.ws) pending (byte ∷ []);
+    spelled = ap (λ (xs : List ℕ). xs ++ bytes) g.spelled ∙ append_assoc (bytes_of g.ws) pending bytes;
     read = g.read;
     behind = g.in_body;
     table_is = g.table_is;
@@ -132,16 +132,16 @@ module _ (rows : List Row) (store : List ℕ) (state : BodyState) (pending fed :
     whole = tt;
   }
 
-  module _ (byte w : ℕ) (is : IsLong w) (gathers : pending ++ byte ∷ [] ≡ bytes_of (w ∷ [])) where
-    spells : fed ++ byte ∷ [] ≡ bytes_of (g.ws ++ w ∷ [])
+  module _ (bytes : List ℕ) (w : ℕ) (is : IsLong w) (gathers : pending ++ bytes ≡ bytes_of (w ∷ [])) where
+    spells : fed ++ bytes ≡ bytes_of (g.ws ++ w ∷ [])
     spells =
-        ap (λ (xs : List ℕ). xs ++ byte ∷ []) g.spelled
-        ∙ append_assoc (bytes_of g.ws) pending (byte ∷ [])
+        ap (λ (xs : List ℕ). xs ++ bytes) g.spelled
+        ∙ append_assoc (bytes_of g.ws) pending bytes
         ∙ ap (λ (xs : List ℕ). bytes_of g.ws ++ xs) gathers
         ∙ sym (bytes_of-append g.ws (w ∷ []))
 
-    -- One that completes a longword that passes.
-    pub more_read : refusal (words_of rows) state w ≡ None → Reading rows (stored (bases_of rows) state w store) (step_body (words_of rows) state w) [] (fed ++ byte ∷ [])
+    -- Those that complete a longword that passes.
+    pub more_read : refusal (words_of rows) state w ≡ None → Reading rows (stored (bases_of rows) state w store) (step_body (words_of rows) state w) [] (fed ++ bytes)
     more_read ok =
         let pass : refuse (role_of g.at) w ≡ None = refusal_is w ∙ ok in
         record {
@@ -163,17 +163,17 @@ module _ (rows : List Row) (store : List ℕ) (state : BodyState) (pending fed :
         nothing (More p) = tt
         nothing (Finished v) = refl
 
-    -- One that completes a longword that is refused.
-    pub refused_here : (reason : Reason) (at : ℕ) → at + 4 ≡ length fed + 1 → refusal (words_of rows) state w ≡ Some reason → HasRefusal (fed ++ byte ∷ []) at reason
+    -- Those that complete a longword that is refused.
+    pub refused_here : (reason : Reason) (at : ℕ) → at + 4 ≡ length fed + length bytes → refusal (words_of rows) state w ≡ Some reason → HasRefusal (fed ++ bytes) at reason
     refused_here reason at e no-pass =
-        let spelled : longs (fed ++ byte ∷ []) ≡ g.ws ++ w ∷ [] =
+        let spelled : longs (fed ++ bytes) ≡ g.ws ++ w ∷ [] =
         ap longs (spells ∙ sym (append-nil (bytes_of (g.ws ++ w ∷ []))))
         ∙ longs-bytes_of (g.ws ++ w ∷ []) [] (All-more IsLong g.ws w (read_longs g.ws (More g.at) g.read) is)
         ∙ append-nil (g.ws ++ w ∷ []) in
         let place : 4 * length g.ws ≡ at =
-        omega (arith, e, ap length spells, length-append fed (byte ∷ []), length-bytes_of (g.ws ++ w ∷ []), length-append g.ws (w ∷ [])) in
-        subst (λ (n : ℕ). HasRefusal (fed ++ byte ∷ []) n reason) place
-        (read_refused (fed ++ byte ∷ []) g.ws g.at w [] reason g.read spelled (refusal_is w ∙ no-pass))
+        omega (arith, e, ap length spells, length-append fed bytes, length-bytes_of (g.ws ++ w ∷ []), length-append g.ws (w ∷ [])) in
+        subst (λ (n : ℕ). HasRefusal (fed ++ bytes) n reason) place
+        (read_refused (fed ++ bytes) g.ws g.at w [] reason g.read spelled (refusal_is w ∙ no-pass))
 
 -- ---- the end
 

@@ -6,7 +6,7 @@ use Rattle.hunk_words.specs.Bits.{size_longs}
 use Rattle.hunk_scan.specs.declared.phase.Phase.TheVariants as phases
 use Rattle.hunk_scan.specs.declared.position.Position.{Position}
 use Rattle.hunk_scan.specs.declared.position.Position.TheVariants as positions
-use Rattle.hunk_scan.specs.Positions.{role_at, step, is_between_hunks, is_behind_header}
+use Rattle.hunk_scan.specs.Positions.{role_at, step, pass, is_between_hunks, is_behind_header}
 use Rattle.hunk_scan.specs.Roles.{refuse}
 use Rattle.hunk_scatter.specs.declared.body_state.BodyState.{BodyState}
 
@@ -26,6 +26,10 @@ move_to sizes s p =
 -- Behind a longword that is not refused.
 abbrev pub step_body : List ℕ → BodyState → ℕ → BodyState
 step_body sizes s w = move_to sizes s (step s.position w)
+
+-- Behind so many longwords of a run; the hunk stays.
+abbrev pub pass_body : BodyState → ℕ → BodyState
+pass_body s n = record { hunk = s.hunk; start = s.start; position = pass s.position n }
 
 -- Room for what a longword does, in a hunk of so many longs.
 abbrev pub RoomIn : List ℕ → ℕ → Position → Type 0

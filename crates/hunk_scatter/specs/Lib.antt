@@ -7,6 +7,7 @@ pub mod HeaderLoaderFields
 pub mod LoadOutcomes
 pub mod LoaderReasons
 pub mod LoaderValues
+pub mod Owing
 pub mod Placing
 pub mod Rows
 pub mod StoreContent

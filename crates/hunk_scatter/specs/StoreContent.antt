@@ -48,3 +48,15 @@ stored_in bases start _ w store = store
 
 abbrev pub stored : List ℕ → BodyState → ℕ → List ℕ → List ℕ
 stored bases s w store = stored_in bases s.start s.position w store
+
+-- so many bytes at the offset are replaced
+abbrev pub put_slice : List ℕ → ℕ → List ℕ → List ℕ
+put_slice bytes offset part = take offset bytes ++ part ++ drop (offset + length part) bytes
+
+-- What the loader does to its store at the bytes of longwords of a run: those of a content go to where it goes on.
+abbrev pub stored_run_in : ℕ → Position → List ℕ → List ℕ → List ℕ
+stored_run_in start (positions.Body o (phases.Content longs owed)) bytes store = put_slice store (start + 4 * (longs - owed - 1)) bytes
+stored_run_in start _ bytes store = store
+
+abbrev pub stored_run : BodyState → List ℕ → List ℕ → List ℕ
+stored_run s bytes store = stored_run_in s.start s.position bytes store

@@ -1,5 +1,5 @@
 //! The loader of a body.
-ghost use Rattle.std.specs.Prelude.{◌≡◌, ℕ, ◌+◌, ◌*◌, ◌/◌, ◌<◌, ◌≤◌, ◌^◌, List, [], ◌∷◌, ◌++◌, length, take, true, false, Some, None, Ok, Err, IfOk, IfErr, OnOk, OnErr, IsOk, IsTrue};
+ghost use Rattle.std.specs.Prelude.{◌≡◌, ℕ, ◌+◌, ◌*◌, ◌/◌, ◌<◌, ◌≤◌, ◌^◌, List, [], ◌∷◌, ◌++◌, length, take, true, false, Some, None, Ok, Err, IfOk, IfErr, OnOk, OnErr, IsOk, IsTrue, ◌⊎◌};
 ghost use Rattle.hunk_words.specs.Longs.{bytes_of};
 ghost use Rattle.hunk_words.specs.declared.fault.Fault.{Fault};
 ghost use Rattle.hunk_files.specs.Fault.{HasRefusal, IsTruncated};
@@ -8,12 +8,14 @@ ghost use Rattle.hunk_files.specs.LoadFile.{LoadFileValue, IsLoadFile};
 ghost use Rattle.hunk_files.specs.LoadText.{text};
 ghost use Rattle.hunk_scatter.specs.LoaderReasons.{is_of_body};
 ghost use Rattle.hunk_scatter.specs.LoaderValues.{BodyLoaderValue, IsWholeFile, MayGoOn, HasNoRefusal, IsImageOf};
+ghost use Rattle.hunk_scatter.specs.LoadOutcomes.{IsWithinFile};
+ghost use Rattle.hunk_scatter.specs.Owing.{HasToCome};
 ghost use Rattle.hunk_scatter.specs.Rows.{entries_of};
 
 use crate::body_state::BodyState;
 use crate::history::History;
 use crate::image::Image;
-use crate::store::take_word;
+use crate::store::{next_word, run_bytes, take_run, take_word};
 use hunk_files::Row;
 use hunk_words::{Assembler, LoadFault};
 use std::marker::Model;
@@ -45,25 +47,59 @@ impl Model for BodyLoader {
 }
 
 impl BodyLoader {
-    /// Takes a byte, unless the file is whole.
-    fn push(&mut self, byte: u8) -> Result<bool, LoadFault>
-        requires room { length self.old.fed + 1 < 2 ^ 64 }
+    /// Takes what lies in the piece of a content, or of what is passed over, in whole longwords, and
+    /// gives its number of bytes.
+    fn take_run(&mut self, piece: &[u8]) -> usize
+        requires room { length self.old.fed + length piece.now < 2 ^ 64 }
         requires reading { self.old.refused ≡ None }
         ensures rows { self.new.rows ≡ self.old.rows }
-        ensures more { result ≡ Ok true → (self.new.fed ≡ self.old.fed ++ byte ∷ []) × (self.new.refused ≡ None) }
-        ensures whole { result ≡ Ok false → (self.new ≡ self.old) × IsWholeFile self.old.rows self.old.fed }
-        ensures complete { IsWholeFile self.old.rows self.old.fed → result ≡ Ok false }
-        ensures refusal { IfErr result (λ f. HasRefusal (self.old.fed ++ byte ∷ []) f.place f.reason) }
+        ensures taken { (result ≤ length piece.now) × (self.new.fed ≡ self.old.fed ++ take result piece.now) }
+        ensures none { result ≡ 0 → self.new ≡ self.old }
+        ensures complete { IsWholeFile self.old.rows self.old.fed → result ≡ 0 }
+        ensures goes_on { self.new.refused ≡ None }
+    {
+        if self.assembler.pending() > 0 {
+            return 0;
+        }
+        let taken = run_bytes(self.state.position, piece.len());
+        if taken == 0 {
+            return 0;
+        }
+        let bytes = &piece[..taken];
+        self.state = take_run(
+            self.store.as_mut_slice(),
+            self.rows.as_slice(),
+            self.state,
+            bytes,
+        );
+        self.count += taken as u64;
+        self.history = self.history.and(bytes);
+        taken
+    }
+
+    /// Takes bytes up to the end of a longword or of the piece, unless the file is whole.
+    fn take_long(&mut self, piece: &[u8]) -> Result<usize, LoadFault>
+        requires room { length self.old.fed + length piece.now < 2 ^ 64 }
+        requires reading { self.old.refused ≡ None }
+        requires some { 0 < length piece.now }
+        ensures rows { self.new.rows ≡ self.old.rows }
+        ensures taken { IfOk result (λ n. (n ≤ length piece.now) × (self.new.fed ≡ self.old.fed ++ take n piece.now)) }
+        ensures goes_on { OnOk result (self.new.refused ≡ None) }
+        ensures whole { result ≡ Ok 0 → IsWholeFile self.new.rows self.new.fed }
+        ensures complete { IsWholeFile self.old.rows self.old.fed → result ≡ Ok 0 }
+        ensures refusal { IfErr result (λ f. HasRefusal (self.old.fed ++ piece.now) f.place f.reason) }
         ensures own { IfErr result (λ f. IsTrue (is_of_body f.reason)) }
         ensures remembers { IfErr result (λ f. self.new.refused ≡ Some f) }
     {
         if self.state.position.is_done() {
-            return Ok(false);
+            return Ok(0);
         }
-        let Some(word) = self.assembler.push(byte) else {
-            self.count += 1;
-            self.history = self.history.and(&[byte]);
-            return Ok(true);
+        let (taken, next) = next_word(&mut self.assembler, piece);
+        let bytes = &piece[..taken];
+        let Some(word) = next else {
+            self.count += taken as u64;
+            self.history = self.history.and(bytes);
+            return Ok(taken);
         };
         match take_word(
             self.store.as_mut_slice(),
@@ -73,30 +109,52 @@ impl BodyLoader {
         ) {
             Ok(state) => {
                 self.state = state;
-                self.count += 1;
-                self.history = self.history.and(&[byte]);
-                Ok(true)
+                self.count += taken as u64;
+                self.history = self.history.and(bytes);
+                Ok(taken)
             }
             Err(reason) => {
-                let fault = LoadFault {
-                    place: self.count - 3,
-                    reason,
-                };
+                let place = self.count + taken as u64 - 4;
+                let fault = LoadFault { place, reason };
                 self.refused = Some(fault);
                 Err(fault)
             }
         }
     }
 
+    /// Takes bytes of the piece, unless the file is whole: those of a run, else up to the end of a
+    /// longword.
+    fn take_part(&mut self, piece: &[u8]) -> Result<usize, LoadFault>
+        requires room { length self.old.fed + length piece.now < 2 ^ 64 }
+        requires reading { self.old.refused ≡ None }
+        requires some { 0 < length piece.now }
+        ensures rows { self.new.rows ≡ self.old.rows }
+        ensures taken { IfOk result (λ n. (n ≤ length piece.now) × (self.new.fed ≡ self.old.fed ++ take n piece.now)) }
+        ensures goes_on { OnOk result (self.new.refused ≡ None) }
+        ensures whole { result ≡ Ok 0 → IsWholeFile self.new.rows self.new.fed }
+        ensures complete { IsWholeFile self.old.rows self.old.fed → result ≡ Ok 0 }
+        ensures refusal { IfErr result (λ f. HasRefusal (self.old.fed ++ piece.now) f.place f.reason) }
+        ensures own { IfErr result (λ f. IsTrue (is_of_body f.reason)) }
+        ensures remembers { IfErr result (λ f. self.new.refused ≡ Some f) }
+    {
+        let run = self.take_run(piece);
+        if run > 0 {
+            return Ok(run);
+        }
+        self.take_long(piece)
+    }
+
     /// How many bytes to read next, at most; 0 where nothing more is taken.
     ///
     /// No load file with this table that begins with what was fed ends sooner than so many bytes
-    /// later. No longword that was fed is refused before `feed` refuses; where this is not 0 and the
-    /// input ends here, the input is truncated.
+    /// later. While a content, a name, a payload or a list of offsets is under way, what is still to
+    /// come of it is wanted at once, up to 256 bytes. No longword that was fed is refused before
+    /// `feed` refuses; where this is not 0 and the input ends here, the input is truncated.
     pub fn want(&self) -> usize
         ensures bound { result ≤ 256 }
         ensures least { (v : LoadFileValue) (more : List ℕ) → IsLoadFile v
             → bytes_of (text v) ≡ self.now.fed ++ more → result ≤ length more }
+        ensures to_come { self.now.refused ≡ None → (p : ℕ) → HasToCome self.now.fed p → (p ≤ result) ⊎ (256 ≤ result) }
         ensures over { self.now.refused ≡ None → IsWholeFile self.now.rows self.now.fed → result ≡ 0 }
         ensures some { self.now.refused ≡ None → result ≡ 0 → IsWholeFile self.now.rows self.now.fed }
         ensures refused { (f : Fault) → self.now.refused ≡ Some f → result ≡ 0 }
@@ -125,6 +183,7 @@ impl BodyLoader {
         // Success.
         ensures taken { IfOk result (λ n. (n ≤ length piece.now) × (self.new.fed ≡ self.old.fed ++ take n piece.now)) }
         ensures all { IfOk result (λ n. n < length piece.now → IsWholeFile self.new.rows self.new.fed) }
+        ensures within { OnOk result (IsWithinFile self.new.fed) }
         ensures complete { self.old.refused ≡ None → IsWholeFile self.old.rows self.old.fed → result ≡ Ok 0 }
         ensures reading { OnOk result ((self.old.refused ≡ None) × (self.new.refused ≡ None)) }
 
@@ -145,10 +204,10 @@ impl BodyLoader {
         let before = self.history.and(&[]);
         let count = self.count;
         let mut taken = 0;
-        for byte in piece {
-            match self.push(*byte) {
-                Ok(true) => taken += 1,
-                Ok(false) => return Ok(taken),
+        while taken < piece.len() {
+            match self.take_part(&piece[taken..]) {
+                Ok(0) => return Ok(taken),
+                Ok(part) => taken += part,
                 Err(fault) => {
                     self.history = before;
                     self.count = count;
@@ -156,6 +215,8 @@ impl BodyLoader {
                 }
             }
         }
+        // The proof learns that what was fed was read.
+        let _ = &self.history;
         Ok(taken)
     }
 

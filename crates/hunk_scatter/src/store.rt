@@ -1,16 +1,18 @@
 //! The one store.
-ghost use Rattle.std.specs.Prelude.{◌≡◌, ◌+◌, ◌≤◌, ◌<◌, ◌^◌, length, get_or, Some, None, IfOk, IfErr, OnOk, OnErr, IsTrue};
+ghost use Rattle.std.specs.Prelude.{◌≡◌, ◌+◌, ◌≤◌, ◌<◌, ◌*◌, ◌/◌, ◌%◌, ◌^◌, ◌++◌, length, take, get_or, Some, None, IfNone, IfOk, IfErr, OnOk, OnErr, IsTrue};
 ghost use Rattle.hunk_scatter.specs.LoaderReasons.{is_of_body};
+ghost use Rattle.hunk_words.specs.Longs.{Gathers};
 ghost use Rattle.std.specs.Int.{w32, to_be_bytes};
 ghost use Rattle.hunk_files.specs.Image.{add_at};
-ghost use Rattle.hunk_scatter.specs.StoreContent.{put_at, stored};
-ghost use Rattle.hunk_scatter.specs.BodySteps.{step_body, refusal, IsInStore};
+ghost use Rattle.hunk_scatter.specs.StoreContent.{put_at, put_slice, stored, stored_run};
+ghost use Rattle.hunk_scatter.specs.BodySteps.{step_body, pass_body, refusal, IsInStore};
+ghost use Rattle.hunk_scan.specs.Positions.{run};
 ghost use Rattle.hunk_scatter.specs.Rows.{words_of, bases_of};
 
 use crate::body_state::BodyState;
 use hunk_files::Row;
 use hunk_scan::{Phase, Position};
-use hunk_words::Reason;
+use hunk_words::{Assembler, Reason, word_at};
 
 /// Puts a longword at the offset.
 pub fn put(store: &mut [u8], at: usize, word: u32)
@@ -18,6 +20,14 @@ pub fn put(store: &mut [u8], at: usize, word: u32)
     ensures { store.new ≡ put_at store.old at (to_be_bytes w32 word) }
 {
     store[at..at + 4].copy_from_slice(word.to_be_bytes().as_slice());
+}
+
+/// Puts bytes at the offset.
+pub fn put_all(store: &mut [u8], at: usize, bytes: &[u8])
+    requires { at + length bytes.now ≤ length store.old }
+    ensures { store.new ≡ put_slice store.old at bytes.now }
+{
+    store[at..at + bytes.len()].copy_from_slice(bytes);
 }
 
 /// Adds to the longword at the offset, modulo 2 ^ 32.
@@ -79,4 +89,51 @@ pub fn take_word(
     }
     store_word(store, rows, state, word);
     Ok(state.step(rows, word))
+}
+
+/// How many bytes of a piece of so many are longwords of a run.
+pub fn run_bytes(position: Position, length: usize) -> usize
+    ensures inside { result ≤ length }
+    ensures fours { result % 4 ≡ 0 }
+    ensures run { result ≤ 4 * run position }
+{
+    let run = 4 * position.run();
+    let whole = length - length % 4;
+    if (whole as u64) < run {
+        whole
+    } else {
+        run as usize
+    }
+}
+
+/// Takes longwords of a run at once: those of a content are copied, and the others are passed over.
+pub fn take_run(store: &mut [u8], rows: &[Row], state: BodyState, bytes: &[u8]) -> BodyState
+    requires room { IsInStore (words_of rows.now) (length store.old) state }
+    requires fours { length bytes.now % 4 ≡ 0 }
+    requires run { length bytes.now ≤ 4 * run state.position }
+    ensures steps { result ≡ pass_body state (length bytes.now / 4) }
+    ensures stores { store.new ≡ stored_run state bytes.now store.old }
+{
+    if let Position::Body(_, Phase::Content { longs, owed }) = state.position {
+        let at = state.start + 4 * u64::from(longs - owed - 1);
+        put_all(store, at as usize, bytes);
+    }
+    let position = state.position.pass((bytes.len() / 4) as u64);
+    BodyState { position, ..state }
+}
+
+/// Takes bytes up to the end of a longword or of the piece, and gives their number and the longword,
+/// where one is whole. A longword that lies whole in the piece is read in place.
+pub fn next_word(assembler: &mut Assembler, piece: &[u8]) -> (usize, Option<u32>)
+    requires { 0 < length piece.now }
+    ensures inside { result.0 ≤ length piece.now }
+    ensures some { 0 < result.0 }
+    ensures gathers { Gathers (assembler.old ++ take result.0 piece.now) assembler.new result.1 }
+    ensures whole { IfNone result.1 (result.0 ≡ length piece.now) }
+    ensures bound { length assembler.new < 4 }
+{
+    if assembler.pending() == 0 && piece.len() >= 4 {
+        return (4, Some(word_at(piece, 0)));
+    }
+    assembler.take(piece)
 }

@@ -1,6 +1,7 @@
-use Rattle.std.proofs.Common.{◌*◌, ◌/◌, ◌++◌, length, sym, ap, subst, ◌∙◌, arith}
+use Rattle.std.proofs.Common.{inl, inr, ◌*◌, ◌/◌, ◌++◌, length, sym, ap, subst, ◌∙◌, arith}
 use Rattle.hunk_scatter.specs.LoaderValues.{BodyLoaderValue, IsWholeFile, HasNoRefusal}
-use Rattle.hunk_scatter.proofs.BodyFields.{owes_bytes, not_whole, whole_file, none_of, fed_truncated, fed_clean}
+use Rattle.hunk_scatter.proofs.BodyFields.{owes_bytes, to_come_owed, none_to_come, not_whole, whole_file, none_of, fed_truncated, fed_clean}
+use Rattle.hunk_scatter.specs.Owing.{HasToCome}
 use Rattle.hunk_files.specs.Fault.{IsTruncated}
 use Rattle.hunk_scatter.proofs.body_loader.BodyLoader.want.Goals as goal
 
@@ -55,3 +56,21 @@ pub returns-then-is_done-clause-some : goal.returns-then-is_done-clause-some
 returns-then-is_done-clause-some c none same =
     subst (λ (v : BodyLoaderValue). IsWholeFile v.rows v.fed) c.self.view_is
     (whole_file _ _ _ _ _ _ _ c.self.invariant (ap (λ (v : BodyLoaderValue). v.refused) c.self.view_is ∙ none) (sym c.is_done.ensures ∙ c.if-is_done.true))
+
+pub returns-then-bytes-lt256-clause-to_come : goal.returns-then-bytes-lt256-clause-to_come
+returns-then-bytes-lt256-clause-to_come c none p t =
+    let o = to_come_owed _ _ _ _ _ _ _ c.self.invariant (none_of c.self.inside.refused (sym c.is_some.ensures ∙ c.if-is_some.false)) (sym c.is_done.ensures ∙ c.if-is_done.false) p
+    (subst (λ (l : BodyLoaderValue). HasToCome l.fed p) (sym c.self.view_is) t) in
+    inl (omega (arith, o))
+
+pub returns-else-bytes-lt256-clause-to_come : goal.returns-else-bytes-lt256-clause-to_come
+returns-else-bytes-lt256-clause-to_come c none p t =
+    let o = to_come_owed _ _ _ _ _ _ _ c.self.invariant (none_of c.self.inside.refused (sym c.is_some.ensures ∙ c.if-is_some.false)) (sym c.is_done.ensures ∙ c.if-is_done.false) p
+    (subst (λ (l : BodyLoaderValue). HasToCome l.fed p) (sym c.self.view_is) t) in
+    inr (omega (arith, o))
+
+pub returns-then-is_done-clause-to_come : goal.returns-then-is_done-clause-to_come
+returns-then-is_done-clause-to_come c none p t =
+    let e = none_to_come _ _ _ _ _ _ _ c.self.invariant (none_of c.self.inside.refused (sym c.is_some.ensures ∙ c.if-is_some.false)) (sym c.is_done.ensures ∙ c.if-is_done.true) p
+    (subst (λ (l : BodyLoaderValue). HasToCome l.fed p) (sym c.self.view_is) t) in
+    inl (omega (arith, e))

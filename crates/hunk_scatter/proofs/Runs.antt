@@ -1,0 +1,220 @@
+-- Longwords of a content, a payload or a name at once.
+use Rattle.std.proofs.Common.{◌≡◌, ℕ, zero, suc, ◌+◌, ◌-◌, ◌*◌, ◌/◌, ◌%◌, ◌<◌, ◌≤◌, false, get_or, Option, None, Some, IfNone, List, [], ◌∷◌, ◌++◌, length, take, drop, refl, sym, ap, ap₂, subst, ◌∙◌, append_assoc, append-nil, arith, length-append, length-take, length-drop}
+use Rattle.std.specs.Int.{w32, to_be_bytes}
+use Rattle.std.proofs.lemmas.List.{take_at, drop-drop, take-append-drop}
+use Rattle.std.proofs.Math.Seq.{drop-append-add}
+use Rattle.hunk_words.specs.Longs.{bytes_of, longs, IsBytes, AreLongs, Gathers}
+use Rattle.hunk_words.proofs.LongLaws.{bytes_of-cons, bytes_of-nil, bytes_of-one, length-bytes_of, length-longs, spelled, longs_fit}
+use Rattle.hunk_files.specs.declared.row.Row.{Row}
+use Rattle.hunk_scan.specs.declared.phase.OpenHunk.{OpenHunk}
+use Rattle.hunk_scan.specs.declared.phase.Phase.TheVariants as phases
+use Rattle.hunk_scan.specs.declared.position.Position.{Position}
+use Rattle.hunk_scan.specs.declared.position.Position.TheVariants as positions
+use Rattle.hunk_scan.specs.Positions.{is_done, run, pass, owe_content, owe_payload, owe_symbol}
+use Rattle.hunk_scatter.specs.declared.body_state.BodyState.{BodyState}
+use Rattle.hunk_scatter.specs.BodyLoaderFields.{Reading}
+use Rattle.hunk_scatter.specs.BodySteps.{pass_body, IsInStore}
+use Rattle.hunk_scatter.specs.Rows.{words_of}
+use Rattle.hunk_scatter.specs.StoreContent.{put_at, put_slice, stored_run_in, stored_run}
+use Rattle.hunk_scatter.proofs.OneByte.{going, more_read}
+use Rattle.hunk_scatter.proofs.Splice.{length-put}
+
+-- ---- the store
+
+put_none : (bytes : List ℕ) (at : ℕ) → bytes ≡ put_slice bytes at []
+put_none bytes at =
+    let e : at ≡ at + 0 = omega arith in
+    sym (take-append-drop at bytes) ∙ ap₂ (λ (xs : List ℕ) (n : ℕ). xs ++ drop n bytes) (sym (append-nil (take at bytes))) e
+
+put_more : (bytes : List ℕ) (at : ℕ) (four xs : List ℕ) → length four ≡ 4 → at + 4 ≤ length bytes → put_slice (put_at bytes at four) (at + 4) xs ≡ put_slice bytes at (four ++ xs)
+put_more bytes at four xs l fits =
+    let front : List ℕ = take at bytes ++ four in
+    let long : length front ≡ at + 4 = omega (arith, l, length-append (take at bytes) four, length-take at bytes) in
+    let rest : drop (at + 4 + length xs) (front ++ drop (at + 4) bytes) ≡ drop (at + length (four ++ xs)) bytes =
+    ap (λ (n : ℕ). drop (n + length xs) (front ++ drop (at + 4) bytes)) (sym long)
+    ∙ drop-append-add front (drop (at + 4) bytes) (length xs)
+    ∙ drop-drop (length xs) (at + 4) bytes
+    ∙ (let e : at + 4 + length xs ≡ at + length (four ++ xs) = omega (arith, l, length-append four xs) in ap (λ (n : ℕ). drop n bytes) e) in
+    ap₂ (λ (ys zs : List ℕ). (ys ++ xs) ++ zs) (take_at front (drop (at + 4) bytes) (at + 4) long) rest
+    ∙ ap (λ (ys : List ℕ). ys ++ drop (at + length (four ++ xs)) bytes) (append_assoc (take at bytes) four xs)
+
+-- a content goes on behind its next longword
+put_long : (store : List ℕ) (at next w : ℕ) (ws : List ℕ) → next ≡ at + 4 → at + 4 ≤ length store →
+    put_slice (put_at store at (to_be_bytes w32 w)) next (bytes_of ws) ≡ put_slice store at (bytes_of (w ∷ ws))
+put_long store at next w ws e fits =
+    let four : List ℕ = to_be_bytes w32 w in
+    ap (λ (n : ℕ). put_slice (put_at store at four) n (bytes_of ws)) e
+    ∙ put_more store at four (bytes_of ws) refl fits
+    ∙ ap (λ (xs : List ℕ). put_slice store at xs) (ap (λ (xs : List ℕ). xs ++ bytes_of ws) (sym (bytes_of-one w)) ∙ sym (bytes_of-cons w ws))
+
+pub length-slice : (bytes : List ℕ) (at : ℕ) (part : List ℕ) → at + length part ≤ length bytes → length (put_slice bytes at part) ≡ length bytes
+length-slice bytes at part fits =
+    omega (
+      arith,
+      fits,
+      length-append (take at bytes ++ part) (drop (at + length part) bytes),
+      length-append (take at bytes) part,
+      length-take at bytes,
+      length-drop (at + length part) bytes,
+    )
+
+pub length-run : (sizes : List ℕ) (hunk start : ℕ) (p : Position) (bytes store : List ℕ) → IsInStore sizes (length store) (record { hunk = hunk; start = start; position = p }) → length bytes ≤ 4 * run p →
+    length (stored_run_in start p bytes store) ≡ length store
+length-run sizes hunk start (positions.Body o (phases.Content longs owed)) bytes store i fits =
+    length-slice store (start + 4 * (longs - owed - 1)) bytes (omega (arith, i.segment, i.room.0, i.room.1, fits))
+length-run sizes hunk start _ bytes store i fits = refl
+
+-- ---- the state
+
+-- the reading behind so many bytes more
+abbrev Read : List Row → List ℕ → BodyState → List ℕ → List ℕ → Type 0
+Read rows store s fed ws = Reading rows store s [] (fed ++ bytes_of ws)
+
+module _ (rows : List Row) (hunk start : ℕ) (o : OpenHunk) where
+  abbrev at : Position → BodyState
+  at p = record { hunk = hunk; start = start; position = p }
+
+  read_none : (store : List ℕ) (s : BodyState) (fed : List ℕ) → Reading rows store s [] fed → Read rows store s fed []
+  read_none store s fed r = subst (λ (bs : List ℕ). Reading rows store s [] bs) (sym (append-nil fed) ∙ ap (λ (xs : List ℕ). fed ++ xs) (sym bytes_of-nil)) r
+
+  read_more : (store : List ℕ) (s : BodyState) (fed : List ℕ) (w : ℕ) (ws : List ℕ) → Read rows store s (fed ++ bytes_of (w ∷ [])) ws → Read rows store s fed (w ∷ ws)
+  read_more store s fed w ws r =
+      subst (λ (bs : List ℕ). Reading rows store s [] bs)
+      (append_assoc fed (bytes_of (w ∷ [])) (bytes_of ws) ∙ ap (λ (xs : List ℕ). fed ++ xs) (sym (bytes_of-cons w ws))) r
+
+  -- so much of a content
+  content_read : (store fed : List ℕ) (all owed : ℕ) (ws : List ℕ) → AreLongs ws → Reading rows store (at (positions.Body o (phases.Content all owed))) [] fed →
+      length ws ≤ suc owed → owed < all → start + 4 * all ≤ length store →
+      Read rows (put_slice store (start + 4 * (all - owed - 1)) (bytes_of ws)) (at (owe_content o all (suc owed - length ws))) fed ws
+  content_read store fed all owed [] l r fits less room =
+      let d : suc owed ≡ suc owed - 0 = omega arith in
+      subst (λ (n : ℕ). Read rows (put_slice store (start + 4 * (all - owed - 1)) (bytes_of [])) (at (owe_content o all n)) fed []) d
+      (subst (λ (xs : List ℕ). Read rows xs (at (owe_content o all (suc owed))) fed [])
+      (put_none store (start + 4 * (all - owed - 1)) ∙ ap (λ (xs : List ℕ). put_slice store (start + 4 * (all - owed - 1)) xs) (sym bytes_of-nil))
+      (read_none store (at (owe_content o all (suc owed))) fed r))
+  content_read store fed all zero (w ∷ []) l r fits less room =
+      let g = going rows store (at (positions.Body o (phases.Content all zero))) [] fed r refl in
+      let e : zero ≡ suc zero - length (w ∷ []) = omega arith in
+      subst (λ (n : ℕ). Read rows (put_slice store (start + 4 * (all - zero - 1)) (bytes_of (w ∷ []))) (at (owe_content o all n)) fed (w ∷ [])) e
+      (subst (λ (xs : List ℕ). Read rows xs (at (owe_content o all zero)) fed (w ∷ [])) (ap (λ (xs : List ℕ). put_slice store (start + 4 * (all - zero - 1)) xs) (sym (bytes_of-one w)))
+      (more_read rows store (at (positions.Body o (phases.Content all zero))) [] fed g (bytes_of (w ∷ [])) w l.0 refl refl))
+  content_read store fed all zero (w ∷ v ∷ ws) l r fits less room = absurd (omega (arith, fits))
+  content_read store fed all (suc owed) (w ∷ ws) l r fits less room =
+      let g = going rows store (at (positions.Body o (phases.Content all (suc owed)))) [] fed r refl in
+      let here : ℕ = start + 4 * (all - suc owed - 1) in
+      let more : List ℕ = put_at store here (to_be_bytes w32 w) in
+      let same : length more ≡ length store = length-put store here (to_be_bytes w32 w) refl (omega (arith, less, room)) in
+      let rest = content_read more (fed ++ bytes_of (w ∷ [])) all owed ws l.1
+      (more_read rows store (at (positions.Body o (phases.Content all (suc owed)))) [] fed g (bytes_of (w ∷ [])) w l.0 refl refl)
+      (omega (arith, fits)) (omega (arith, less)) (omega (arith, room, same)) in
+      let d : suc owed - length ws ≡ suc (suc owed) - length (w ∷ ws) = omega arith in
+      subst (λ (n : ℕ). Read rows (put_slice store here (bytes_of (w ∷ ws))) (at (owe_content o all n)) fed (w ∷ ws)) d
+      (subst (λ (xs : List ℕ). Read rows xs (at (owe_content o all (suc owed - length ws))) fed (w ∷ ws)) (put_long store here (start + 4 * (all - owed - 1)) w ws (omega (arith, less)) (omega (arith, less, room)))
+      (read_more (put_slice more (start + 4 * (all - owed - 1)) (bytes_of ws)) (at (owe_content o all (suc owed - length ws))) fed w ws rest))
+
+  -- so much of a payload
+  payload_read : (store fed : List ℕ) (owed : ℕ) (ws : List ℕ) → AreLongs ws → Reading rows store (at (positions.Body o (phases.Payload owed))) [] fed → length ws ≤ suc owed →
+      Read rows store (at (owe_payload o (suc owed - length ws))) fed ws
+  payload_read store fed owed [] l r fits =
+      let d : suc owed ≡ suc owed - 0 = omega arith in
+      subst (λ (n : ℕ). Read rows store (at (owe_payload o n)) fed []) d (read_none store (at (owe_payload o (suc owed))) fed r)
+  payload_read store fed zero (w ∷ []) l r fits =
+      let g = going rows store (at (positions.Body o (phases.Payload zero))) [] fed r refl in
+      let e : zero ≡ suc zero - length (w ∷ []) = omega arith in
+      subst (λ (n : ℕ). Read rows store (at (owe_payload o n)) fed (w ∷ [])) e
+      (more_read rows store (at (positions.Body o (phases.Payload zero))) [] fed g (bytes_of (w ∷ [])) w l.0 refl refl)
+  payload_read store fed zero (w ∷ v ∷ ws) l r fits = absurd (omega (arith, fits))
+  payload_read store fed (suc owed) (w ∷ ws) l r fits =
+      let g = going rows store (at (positions.Body o (phases.Payload (suc owed)))) [] fed r refl in
+      let rest = payload_read store (fed ++ bytes_of (w ∷ [])) owed ws l.1
+      (more_read rows store (at (positions.Body o (phases.Payload (suc owed)))) [] fed g (bytes_of (w ∷ [])) w l.0 refl refl) (omega (arith, fits)) in
+      let d : suc owed - length ws ≡ suc (suc owed) - length (w ∷ ws) = omega arith in
+      subst (λ (n : ℕ). Read rows store (at (owe_payload o n)) fed (w ∷ ws)) d (read_more store (at (owe_payload o (suc owed - length ws))) fed w ws rest)
+
+  -- so much of a name and its value
+  symbol_read : (store fed : List ℕ) (owed : ℕ) (ws : List ℕ) → AreLongs ws → Reading rows store (at (positions.Body o (phases.Symbol owed))) [] fed → length ws ≤ suc owed →
+      Read rows store (at (owe_symbol o (suc owed - length ws))) fed ws
+  symbol_read store fed owed [] l r fits =
+      let d : suc owed ≡ suc owed - 0 = omega arith in
+      subst (λ (n : ℕ). Read rows store (at (owe_symbol o n)) fed []) d (read_none store (at (owe_symbol o (suc owed))) fed r)
+  symbol_read store fed zero (w ∷ []) l r fits =
+      let g = going rows store (at (positions.Body o (phases.Symbol zero))) [] fed r refl in
+      let e : zero ≡ suc zero - length (w ∷ []) = omega arith in
+      subst (λ (n : ℕ). Read rows store (at (owe_symbol o n)) fed (w ∷ [])) e
+      (more_read rows store (at (positions.Body o (phases.Symbol zero))) [] fed g (bytes_of (w ∷ [])) w l.0 refl refl)
+  symbol_read store fed zero (w ∷ v ∷ ws) l r fits = absurd (omega (arith, fits))
+  symbol_read store fed (suc owed) (w ∷ ws) l r fits =
+      let g = going rows store (at (positions.Body o (phases.Symbol (suc owed)))) [] fed r refl in
+      let rest = symbol_read store (fed ++ bytes_of (w ∷ [])) owed ws l.1
+      (more_read rows store (at (positions.Body o (phases.Symbol (suc owed)))) [] fed g (bytes_of (w ∷ [])) w l.0 refl refl) (omega (arith, fits)) in
+      let d : suc owed - length ws ≡ suc (suc owed) - length (w ∷ ws) = omega arith in
+      subst (λ (n : ℕ). Read rows store (at (owe_symbol o n)) fed (w ∷ ws)) d (read_more store (at (owe_symbol o (suc owed - length ws))) fed w ws rest)
+
+run_read : (rows : List Row) (hunk start : ℕ) (p : Position) (store fed ws : List ℕ) → AreLongs ws → Reading rows store (record { hunk = hunk; start = start; position = p }) [] fed →
+    IsInStore (words_of rows) (length store) (record { hunk = hunk; start = start; position = p }) → 0 < length ws → length ws ≤ run p →
+    Read rows (stored_run_in start p (bytes_of ws) store) (record { hunk = hunk; start = start; position = pass p (length ws) }) fed ws
+run_read rows hunk start p store fed [] l r i some fits = absurd (omega (arith, some))
+run_read rows hunk start (positions.Body o (phases.Content all owed)) store fed (w ∷ ws) l r i some fits =
+    let d : suc owed - length (w ∷ ws) ≡ owed - length ws = omega arith in
+    subst (λ (n : ℕ). Read rows (put_slice store (start + 4 * (all - owed - 1)) (bytes_of (w ∷ ws))) (record { hunk = hunk; start = start; position = owe_content o all n }) fed (w ∷ ws)) d
+    (content_read rows hunk start o store fed all owed (w ∷ ws) l r fits i.room.0 (omega (arith, i.segment, i.room.1)))
+run_read rows hunk start (positions.Body o (phases.Payload owed)) store fed (w ∷ ws) l r i some fits =
+    let d : suc owed - length (w ∷ ws) ≡ owed - length ws = omega arith in
+    subst (λ (n : ℕ). Read rows store (record { hunk = hunk; start = start; position = owe_payload o n }) fed (w ∷ ws)) d
+    (payload_read rows hunk start o store fed owed (w ∷ ws) l r fits)
+run_read rows hunk start (positions.Body o (phases.Symbol owed)) store fed (w ∷ ws) l r i some fits =
+    let d : suc owed - length (w ∷ ws) ≡ owed - length ws = omega arith in
+    subst (λ (n : ℕ). Read rows store (record { hunk = hunk; start = start; position = owe_symbol o n }) fed (w ∷ ws)) d
+    (symbol_read rows hunk start o store fed owed (w ∷ ws) l r fits)
+run_read rows hunk start _ store fed (w ∷ ws) l r i some fits = absurd (omega (arith, fits))
+
+-- ---- bytes
+
+pub none_over : (over : List ℕ) → length over ≡ 0 → over ≡ []
+none_over [] e = refl
+none_over (x ∷ over) e = absurd (omega (arith, e))
+
+-- bytes in fours are those of their longwords
+pub fours_are : (bytes : List ℕ) → IsBytes bytes → length bytes % 4 ≡ 0 → bytes ≡ bytes_of (longs bytes)
+fours_are bytes are fours =
+    let s = spelled bytes are in
+    let none : length s.over ≡ 0 = omega (arith, fours, s.few, ap length s.split, length-append (bytes_of (longs bytes)) s.over, length-bytes_of (longs bytes)) in
+    s.split ∙ ap (λ (xs : List ℕ). bytes_of (longs bytes) ++ xs) (none_over s.over none) ∙ append-nil (bytes_of (longs bytes))
+
+-- What was read goes on behind the bytes of a run.
+pub read_run : (rows : List Row) (store : List ℕ) (state : BodyState) (fed bytes : List ℕ) (n : ℕ) → Reading rows store state [] fed → IsInStore (words_of rows) (length store) state →
+    length bytes ≡ n → IsBytes bytes → n % 4 ≡ 0 → 0 < n → n ≤ 4 * run state.position → Reading rows (stored_run state bytes store) (pass_body state (n / 4)) [] (fed ++ bytes)
+read_run rows store state fed bytes n r i long are fours some fits =
+    let same : bytes ≡ bytes_of (longs bytes) = fours_are bytes are (omega (arith, long, fours)) in
+    let count : length (longs bytes) ≡ n / 4 = omega (arith, length-longs bytes, long) in
+    subst (λ (bs : List ℕ). Reading rows (stored_run state bs store) (pass_body state (n / 4)) [] (fed ++ bs)) (sym same)
+    (subst (λ (k : ℕ). Reading rows (stored_run state (bytes_of (longs bytes)) store) (pass_body state k) [] (fed ++ bytes_of (longs bytes))) count
+    (run_read rows state.hunk state.start state.position store fed (longs bytes) (longs_fit bytes are) r i (omega (arith, count, some, fours)) (omega (arith, count, fits, fours))))
+
+-- Where a run goes on the file does not end.
+pub run_goes_on : (p : Position) → 0 < run p → is_done p ≡ false
+run_goes_on (positions.Body o phase) some = refl
+run_goes_on positions.Done some = absurd (omega (arith, some))
+run_goes_on _ some = refl
+
+front_bytes : (xs ys : List ℕ) → IsBytes (xs ++ ys) → IsBytes xs
+front_bytes [] ys h i = omega arith
+front_bytes (x ∷ xs) ys h zero = h 0
+front_bytes (x ∷ xs) ys h (suc i) = front_bytes xs ys (λ k. h (suc k)) i
+
+pub take_bytes : (bytes : List ℕ) (n : ℕ) → IsBytes bytes → IsBytes (take n bytes)
+take_bytes bytes n are = front_bytes (take n bytes) (drop n bytes) (subst IsBytes (sym (take-append-drop n bytes)) are)
+
+-- the first longword of a piece
+pub in_place : (piece : List ℕ) → IsBytes piece → 4 ≤ length piece → take 4 piece ≡ bytes_of (get_or (longs piece) 0 0 ∷ [])
+in_place [] are l = absurd (omega (arith, l))
+in_place (a ∷ []) are l = absurd (omega (arith, l))
+in_place (a ∷ b ∷ []) are l = absurd (omega (arith, l))
+in_place (a ∷ b ∷ c ∷ []) are l = absurd (omega (arith, l))
+in_place (a ∷ b ∷ c ∷ d ∷ rest) are l = fours_are (a ∷ b ∷ c ∷ d ∷ []) (front_bytes (a ∷ b ∷ c ∷ d ∷ []) rest are) refl
+
+-- Up to the end of a longword there are bytes.
+pub takes_some : (old new piece : List ℕ) (n : ℕ) (word : Option ℕ) → length old < 4 → 0 < length piece → Gathers (old ++ take n piece) new word → IfNone word (n ≡ length piece) → 0 < n
+takes_some old new piece n None few some g whole = omega (arith, some, whole)
+takes_some old new piece n (Some w) few some g whole =
+    omega (arith, few, ap length g.0, length-append old (take n piece), length-take n piece, length-bytes_of (w ∷ []))

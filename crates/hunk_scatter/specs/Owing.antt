@@ -1,0 +1,31 @@
+-- What is still to come of a content, a name, a payload or a list of offsets.
+use Rattle.std.specs.Prelude.{◌≡◌, ℕ, suc, ◌+◌, ◌*◌, ◌<◌, Bool, true, false, List, [], ◌∷◌, ◌++◌, length, if◌then◌else◌}
+use Rattle.hunk_words.specs.Longs.{bytes_of}
+use Rattle.hunk_blocks.specs.Parts.{Part as parts}
+use Rattle.hunk_files.specs.LoadFile.{LoadFileValue, IsLoadFile}
+use Rattle.hunk_files.specs.LoadText.{labelled, words}
+use Rattle.hunk_scan.specs.Roles.{Role, InBlock}
+
+-- a longword of a content, a name, a payload or a list of offsets
+abbrev pub is_listed : Role → Bool
+is_listed (InBlock p parts.Payload) = true
+is_listed (InBlock p parts.Offset) = true
+is_listed (InBlock p parts.EntryName) = true
+is_listed _ = false
+
+-- so many of them come next
+abbrev pub run_of : List (Role × ℕ) → ℕ
+run_of [] = 0
+run_of (l ∷ ls) = if is_listed l.0 then suc (run_of ls) else 0
+
+-- A load text begins with the bytes, and so many bytes of a content, a name, a payload or a list of offsets are to come in it.
+pub record HasToCome (fed : List ℕ) (p : ℕ) : Type 0 where
+  pub value : LoadFileValue
+  pub is_load_file : IsLoadFile value
+  pub done : List (Role × ℕ)
+  pub more : List (Role × ℕ)
+  pub pending : List ℕ
+  pub labels : labelled value ≡ done ++ more
+  pub spelled : fed ≡ bytes_of (words done) ++ pending
+  pub few : length pending < 4
+  pub count : p + length pending ≡ 4 * run_of more
