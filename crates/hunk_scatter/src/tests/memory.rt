@@ -27,10 +27,11 @@ fn all_memory(alloc: Global) -> Result<Vec<Vec<u8>>, AllocError> {
     Ok(pieces)
 }
 
-/// Example 43: the rows' growth refused, and the store's.
+/// Example 43: the rows' growth refused, and the store's, which is larger than what the rows leave of
+/// their room.
 #[test]
 fn refused_growths(rt: HostRuntime) -> Result<(), Fail> {
-    let bytes = spelled(rt.alloc(), TWO_HUNKS)?;
+    let bytes = spelled(rt.alloc(), "3F3 0 2 0 1 10 1")?;
     let bases = Listed([0x10000, 0x20000].as_slice());
     for (rows, place) in [(false, 20), (true, 28)] {
         let mut rooms = Vec::with_capacity(rt.alloc(), 1)?;
