@@ -10,7 +10,7 @@ use Rattle.hunk_files.specs.LoadText.{words, text, labelled}
 use Rattle.hunk_files.specs.Fault.{Expects, HasRefusal, IsTruncated}
 use Rattle.hunk_files.specs.FileSteps.{Progress, AtFirst, Next, More, Finished, role_of, step, Leads}
 use Rattle.hunk_files.proofs.FileText.{file_leads, Leads-append}
-use Rattle.hunk_files.proofs.FileProgress.{Reads, step_keeps}
+use Rattle.hunk_files.proofs.FileProgress.{Reads}
 use Rattle.hunk_files.proofs.Runs.{Leads-keeps, Leads-split, Leads-same}
 use Rattle.hunk_files.specs.WordsRead.{HasRead, Labelled, IsAccepted, AreAccepted}
 use Rattle.hunk_files.proofs.Accepted.{All-append, labelled_accepted}

@@ -1,10 +1,8 @@
 -- Runs of the reader: cut in two, determined by their longwords, and keeping what fits.
-use Rattle.std.proofs.Common.{◌≡◌, ℕ, List, [], ◌∷◌, ◌++◌, refl, sym, ap₂, subst, ◌∙◌, append_assoc, append-nil, None}
-use Rattle.std.specs.List.{AllByRecursion}
-use Rattle.hunk_words.specs.Longs.{IsLong}
+use Rattle.std.proofs.Common.{◌≡◌, ℕ, [], ◌∷◌, ◌++◌, refl, sym, ap₂, subst, ◌∙◌, append_assoc, append-nil, None}
 use Rattle.hunk_scan.specs.Roles.{Role, refuse}
 use Rattle.hunk_files.specs.LoadText.{words}
-use Rattle.hunk_files.specs.WordsRead.{Labelled, IsAccepted, AreAccepted}
+use Rattle.hunk_files.specs.WordsRead.{Labelled, AreAccepted}
 use Rattle.hunk_files.specs.FileSteps.{Next, More, Finished, role_of, step, Leads}
 use Rattle.hunk_files.proofs.FileProgress.{Reads, step_keeps}
 

@@ -17,7 +17,7 @@ use Rattle.hunk_blocks.proofs.Lists.{flat_map-more}
 use Rattle.hunk_blocks.proofs.BlockPrefix.{block_same}
 use Rattle.hunk_files.specs.LoadFile.{standing, AreInOrder}
 use Rattle.hunk_scan.specs.Standings.{Standing, Beside, Content, Relocating, Ending}
-use Rattle.hunk_files.specs.ObjectFile.{IsNoObjectFile, ObjectHunk, UnitValue, ObjectFileValue, IsObjectHunk, IsUnit, IsObjectFile, unit_word, unit_header, unit_text, object_text}
+use Rattle.hunk_files.specs.ObjectFile.{IsNoObjectFile, ObjectHunk, UnitValue, ObjectFileValue, IsObjectHunk, IsUnit, unit_word, unit_header, unit_text, object_text}
 use Rattle.hunk_files.specs.ObjectParts.{BeginsWithText, EndsUnit}
 use Rattle.hunk_files.proofs.ObjectText.{Header, item_same}
 use Rattle.hunk_files.proofs.ObjectDecoding.{All-more, object_longs, unit_longs, text_none, text_more, text_size, text_split, text_words, words_split, drop_bytes, standings}

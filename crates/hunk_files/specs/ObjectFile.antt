@@ -1,5 +1,5 @@
 -- Object-file values and their text.
-use Rattle.std.specs.Prelude.{◌≡◌, ℕ, ◌^◌, ◌<◌, Bool, true, false, List, ◌∷◌, ◌++◌, length, map}
+use Rattle.std.specs.Prelude.{◌≡◌, ℕ, ◌<◌, Bool, true, false, List, ◌∷◌, ◌++◌, length, map}
 use Rattle.std.specs.List.{flat_map, AllByRecursion}
 use Rattle.hunk_words.specs.Limits.{name_limit}
 use Rattle.hunk_words.specs.declared.reason.Reason.{Reason}

@@ -3,6 +3,7 @@
 
 mod bodies;
 mod headers;
+mod large;
 mod limits;
 mod loads;
 mod memory;
