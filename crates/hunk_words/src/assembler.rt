@@ -52,7 +52,7 @@ impl Assembler {
             return None;
         }
         let word = u32::from_be_bytes([self.bytes[0], self.bytes[1], self.bytes[2], self.bytes[3]]);
-        self.bytes.clear();
+        self.bytes = ArrayVec::new();
         Some(word)
     }
 
