@@ -14,6 +14,7 @@ pub mod HeaderStops
 pub mod HeaderTexts
 pub mod LoadEnding
 pub mod LoadLaws
+pub mod Offsets
 pub mod OneByte
 pub mod Outcomes
 pub mod Owed
