@@ -15,6 +15,7 @@ pub mod HeaderStops
 pub mod HeaderTexts
 pub mod LoadEnding
 pub mod LoadLaws
+pub mod Offsets
 pub mod OneByte
 pub mod Outcomes
 pub mod Owed

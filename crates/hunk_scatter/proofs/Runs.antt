@@ -1,10 +1,15 @@
--- Longwords of a content, a payload or a name at once.
-use Rattle.std.proofs.Common.{◌≡◌, ℕ, zero, suc, ◌+◌, ◌-◌, ◌*◌, ◌/◌, ◌%◌, ◌<◌, ◌≤◌, false, get_or, Option, None, Some, IfNone, List, [], ◌∷◌, ◌++◌, length, take, drop, refl, sym, ap, ap₂, subst, ◌∙◌, append_assoc, append-nil, arith, length-append, length-take, length-drop}
+-- Longwords of a content, a payload, a name or a list of offsets at once.
+use Rattle.std.proofs.Common.{◌≡◌, ℕ, zero, suc, ◌+◌, ◌-◌, ◌*◌, ◌/◌, ◌%◌, ◌<◌, ◌≤◌, Bool, false, cond, nat_lt, if◌then◌else◌, get_or, Option, None, Some, IfNone, List, [], ◌∷◌, ◌++◌, length, take, drop, refl, sym, ap, ap₂, subst, ◌∙◌, append_assoc, append-nil, arith, length-append, length-take, length-drop}
 use Rattle.std.specs.Int.{w32, to_be_bytes}
 use Rattle.std.proofs.lemmas.List.{take_at, drop-drop, take-append-drop}
 use Rattle.std.proofs.Math.Seq.{drop-append-add}
 use Rattle.hunk_words.specs.Longs.{bytes_of, longs, IsBytes, AreLongs, Gathers}
 use Rattle.hunk_words.proofs.LongLaws.{bytes_of-cons, bytes_of-nil, bytes_of-one, length-bytes_of, length-longs, spelled, longs_fit}
+use Rattle.std.proofs.lemmas.Bool.{le-ltb}
+use Rattle.hunk_words.proofs.PartLaws.{longs-take}
+use Rattle.std.specs.List.{AllByRecursion}
+use Rattle.hunk_files.specs.Image.{add_at}
+use Rattle.hunk_words.specs.declared.reason.Reason.TheVariants as reasons
 use Rattle.hunk_files.specs.declared.row.Row.{Row}
 use Rattle.hunk_scan.specs.declared.phase.OpenHunk.{OpenHunk}
 use Rattle.hunk_scan.specs.declared.phase.Phase.TheVariants as phases
@@ -13,9 +18,9 @@ use Rattle.hunk_scan.specs.declared.position.Position.TheVariants as positions
 use Rattle.hunk_scan.specs.Positions.{is_done, run, pass, owe_content, owe_payload, owe_symbol}
 use Rattle.hunk_scatter.specs.declared.body_state.BodyState.{BodyState}
 use Rattle.hunk_scatter.specs.BodyLoaderFields.{Reading}
-use Rattle.hunk_scatter.specs.BodySteps.{pass_body, IsInStore}
-use Rattle.hunk_scatter.specs.Rows.{words_of}
-use Rattle.hunk_scatter.specs.StoreContent.{put_at, put_slice, stored_run_in, stored_run}
+use Rattle.hunk_scatter.specs.BodySteps.{longs_at, pass_body, IsInStore}
+use Rattle.hunk_scatter.specs.Rows.{words_of, bases_of}
+use Rattle.hunk_scatter.specs.StoreContent.{put_at, put_slice, stored_run_in, stored_run, added, EndsWithin, TakesOffsets}
 use Rattle.hunk_scatter.proofs.OneByte.{going, more_read}
 use Rattle.hunk_scatter.proofs.Splice.{length-put}
 
@@ -63,6 +68,10 @@ pub length-run : (sizes : List ℕ) (hunk start : ℕ) (p : Position) (bytes sto
 length-run sizes hunk start (positions.Body o (phases.Content longs owed)) bytes store i fits =
     length-slice store (start + 4 * (longs - owed - 1)) bytes (omega (arith, i.segment, i.room.0, i.room.1, fits))
 length-run sizes hunk start _ bytes store i fits = refl
+
+-- an offset that ends within the hunk passes
+within_passes : (limit w : ℕ) → EndsWithin limit w → (if nat_lt limit (w + 4) then Some reasons.BadOffset else None) ≡ None
+within_passes limit w less = ap (λ (b : Bool). cond b (Some reasons.BadOffset) None) (le-ltb limit (w + 4) less)
 
 -- ---- the state
 
@@ -150,6 +159,24 @@ module _ (rows : List Row) (hunk start : ℕ) (o : OpenHunk) where
       let d : suc owed - length ws ≡ suc (suc owed) - length (w ∷ ws) = omega arith in
       subst (λ (n : ℕ). Read rows store (at (owe_symbol o n)) fed (w ∷ ws)) d (read_more store (at (owe_symbol o (suc owed - length ws))) fed w ws rest)
 
+  -- so many of a list of offsets, none of which is refused; one at least is still owed
+  pub offsets_read : (store fed : List ℕ) (target owed : ℕ) (ws : List ℕ) → AreLongs ws → Reading rows store (at (positions.Body o (phases.Offset target owed))) [] fed → length ws ≤ owed →
+      AllByRecursion (EndsWithin (4 * longs_at (words_of rows) hunk)) ws →
+      Read rows (added start (get_or (bases_of rows) target 0) ws store) (at (positions.Body o (phases.Offset target (owed - length ws)))) fed ws
+  offsets_read store fed target owed [] l r fits all =
+      let d : owed ≡ owed - 0 = omega arith in
+      subst (λ (n : ℕ). Read rows store (at (positions.Body o (phases.Offset target n))) fed []) d (read_none store (at (positions.Body o (phases.Offset target owed))) fed r)
+  offsets_read store fed target zero (w ∷ ws) l r fits all = absurd (omega (arith, fits))
+  offsets_read store fed target (suc owed) (w ∷ ws) l r fits all =
+      let g = going rows store (at (positions.Body o (phases.Offset target (suc owed)))) [] fed r refl in
+      let base : ℕ = get_or (bases_of rows) target 0 in
+      let rest = offsets_read (add_at store (start + w) base) (fed ++ bytes_of (w ∷ [])) target owed ws l.1
+      (more_read rows store (at (positions.Body o (phases.Offset target (suc owed)))) [] fed g (bytes_of (w ∷ [])) w l.0 refl (within_passes (4 * longs_at (words_of rows) hunk) w all.0))
+      (omega (arith, fits)) all.1 in
+      let d : owed - length ws ≡ suc owed - length (w ∷ ws) = omega arith in
+      subst (λ (n : ℕ). Read rows (added start base ws (add_at store (start + w) base)) (at (positions.Body o (phases.Offset target n))) fed (w ∷ ws)) d
+      (read_more (added start base ws (add_at store (start + w) base)) (at (positions.Body o (phases.Offset target (owed - length ws)))) fed w ws rest)
+
 run_read : (rows : List Row) (hunk start : ℕ) (p : Position) (store fed ws : List ℕ) → AreLongs ws → Reading rows store (record { hunk = hunk; start = start; position = p }) [] fed →
     IsInStore (words_of rows) (length store) (record { hunk = hunk; start = start; position = p }) → 0 < length ws → length ws ≤ run p →
     Read rows (stored_run_in start p (bytes_of ws) store) (record { hunk = hunk; start = start; position = pass p (length ws) }) fed ws
@@ -218,3 +245,36 @@ pub takes_some : (old new piece : List ℕ) (n : ℕ) (word : Option ℕ) → le
 takes_some old new piece n None few some g whole = omega (arith, some, whole)
 takes_some old new piece n (Some w) few some g whole =
     omega (arith, few, ap length g.0, length-append old (take n piece), length-take n piece, length-bytes_of (w ∷ []))
+
+-- What was read goes on behind so many offsets of a list.
+pub read_offsets : (rows : List Row) (store store2 : List ℕ) (state state2 : BodyState) (fed piece : List ℕ) (n : ℕ) → Reading rows store state [] fed → IsBytes piece → 4 * n ≤ length piece →
+    TakesOffsets (words_of rows) (bases_of rows) state (take n (longs piece)) store state2 store2 → Reading rows store2 state2 [] (fed ++ take (4 * n) piece)
+read_offsets rows store store2 state state2 fed piece n r are fits t =
+    let bytes : List ℕ = take (4 * n) piece in
+    let ws : List ℕ = take n (longs piece) in
+    let long : length bytes ≡ 4 * n = omega (arith, length-take (4 * n) piece, fits) in
+    let spells : longs bytes ≡ ws = longs-take piece n (4 * n) refl in
+    let same : bytes ≡ bytes_of ws = fours_are bytes (take_bytes piece (4 * n) are) (omega (arith, long)) ∙ ap bytes_of spells in
+    subst (λ (bs : List ℕ). Reading rows store2 state2 [] (fed ++ bs)) (sym same)
+    (go state.position r (subst AreLongs spells (longs_fit bytes (take_bytes piece (4 * n) are))) t)
+  where
+    go : (p : Position) → Reading rows store (record { hunk = state.hunk; start = state.start; position = p }) [] fed → AreLongs (take n (longs piece)) →
+        TakesOffsets (words_of rows) (bases_of rows) (record { hunk = state.hunk; start = state.start; position = p }) (take n (longs piece)) store state2 store2 →
+        Read rows store2 state2 fed (take n (longs piece))
+    go (positions.Body o (phases.Offset target owed)) q l k =
+        subst (λ (s : BodyState). Read rows store2 s fed (take n (longs piece))) (sym k.2)
+        (subst (λ (xs : List ℕ). Read rows xs (record { hunk = state.hunk; start = state.start; position = positions.Body o (phases.Offset target (owed - length (take n (longs piece)))) }) fed (take n (longs piece))) (sym k.3)
+        (offsets_read rows state.hunk state.start o store fed target owed (take n (longs piece)) l q k.0 k.1))
+    go _ q l k = absurd k
+
+-- The state behind so many offsets.
+pub offsets_taken : (sizes bases : List ℕ) (hunk start : ℕ) (p : Position) (o : OpenHunk) (target owed limit base left : ℕ) (ws store store2 : List ℕ) → positions.Body o (phases.Offset target owed) ≡ p →
+    length ws ≤ owed → AllByRecursion (EndsWithin limit) ws → limit ≡ 4 * longs_at sizes hunk → base ≡ get_or bases target 0 → left ≡ owed - length ws → store2 ≡ added start base ws store →
+    TakesOffsets sizes bases (record { hunk = hunk; start = start; position = p }) ws store (record { hunk = hunk; start = start; position = positions.Body o (phases.Offset target left) }) store2
+offsets_taken sizes bases hunk start p o target owed limit base left ws store store2 is fits all e f g d =
+    subst (λ (q : Position). TakesOffsets sizes bases (record { hunk = hunk; start = start; position = q }) ws store (record { hunk = hunk; start = start; position = positions.Body o (phases.Offset target left) }) store2) is (
+      fits,
+      subst (λ (n : ℕ). AllByRecursion (EndsWithin n) ws) e all,
+      ap (λ (n : ℕ). record { hunk = hunk; start = start; position = positions.Body o (phases.Offset target n) }) g,
+      d ∙ ap (λ (n : ℕ). added start n ws store) f,
+    )

@@ -1,5 +1,5 @@
 -- What the one store holds at any point of the body.
-use Rattle.std.specs.Prelude.{◌≡◌, ℕ, ◌+◌, ◌-◌, ◌*◌, false, List, [], ◌++◌, length, take, drop, get_or, replicate}
+use Rattle.std.specs.Prelude.{◌≡◌, ℕ, ◌+◌, ◌-◌, ◌*◌, ◌≤◌, false, List, [], ◌∷◌, ◌++◌, length, take, drop, get_or, replicate}
 use Rattle.std.specs.List.{flat_map, AllByRecursion}
 use Rattle.std.specs.Int.{w32, to_be_bytes}
 use Rattle.hunk_words.specs.Bits.{size_longs}
@@ -12,6 +12,7 @@ use Rattle.hunk_files.specs.OpenSegment.{segment_so_far}
 use Rattle.hunk_scan.specs.declared.phase.Phase.TheVariants as phases
 use Rattle.hunk_scan.specs.declared.position.Position.{Position}
 use Rattle.hunk_scan.specs.declared.position.Position.TheVariants as positions
+use Rattle.hunk_scatter.specs.BodySteps.{longs_at}
 use Rattle.hunk_scatter.specs.declared.body_state.BodyState.{BodyState}
 
 abbrev pub zeros : List TableEntry → List ℕ
@@ -60,3 +61,23 @@ stored_run_in start _ bytes store = store
 
 abbrev pub stored_run : BodyState → List ℕ → List ℕ → List ℕ
 stored_run s bytes store = stored_run_in s.start s.position bytes store
+
+-- the base is added at each offset
+abbrev pub added : ℕ → ℕ → List ℕ → List ℕ → List ℕ
+added start base [] store = store
+added start base (w ∷ ws) store = added start base ws (add_at store (start + w) base)
+
+-- a longword at the offset ends within so many bytes
+abbrev pub EndsWithin : ℕ → ℕ → Type 0
+EndsWithin limit offset = offset + 4 ≤ limit
+
+-- Offsets of a list were taken, none of them refused; one at least is still owed.
+abbrev pub TakesOffsetsAt : List ℕ → List ℕ → ℕ → ℕ → Position → List ℕ → List ℕ → BodyState → List ℕ → Type 0
+TakesOffsetsAt sizes bases hunk start (positions.Body o (phases.Offset target owed)) ws store state2 store2 =
+    (length ws ≤ owed) × AllByRecursion (EndsWithin (4 * longs_at sizes hunk)) ws
+    × (state2 ≡ record { hunk = hunk; start = start; position = positions.Body o (phases.Offset target (owed - length ws)) })
+    × (store2 ≡ added start (get_or bases target 0) ws store)
+TakesOffsetsAt sizes bases hunk start _ ws store state2 store2 = ⊥
+
+abbrev pub TakesOffsets : List ℕ → List ℕ → BodyState → List ℕ → List ℕ → BodyState → List ℕ → Type 0
+TakesOffsets sizes bases s ws store state2 store2 = TakesOffsetsAt sizes bases s.hunk s.start s.position ws store state2 store2

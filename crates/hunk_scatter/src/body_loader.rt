@@ -15,7 +15,7 @@ ghost use Rattle.hunk_scatter.specs.Rows.{entries_of};
 use crate::body_state::BodyState;
 use crate::history::History;
 use crate::image::Image;
-use crate::store::{next_word, run_bytes, take_run, take_word};
+use crate::store::{next_word, run_bytes, take_offsets, take_run, take_word};
 use hunk_files::Row;
 use hunk_words::{Assembler, LoadFault};
 use std::marker::Model;
@@ -74,6 +74,34 @@ impl BodyLoader {
         );
         self.count += taken as u64;
         self.history = self.history.and(bytes);
+        taken
+    }
+
+    /// Takes what lies in the piece of a list of offsets, up to its last or to one that is refused,
+    /// and gives its number of bytes.
+    fn take_offsets(&mut self, piece: &[u8]) -> usize
+        requires room { length self.old.fed + length piece.now < 2 ^ 64 }
+        requires reading { self.old.refused ≡ None }
+        ensures rows { self.new.rows ≡ self.old.rows }
+        ensures taken { (result ≤ length piece.now) × (self.new.fed ≡ self.old.fed ++ take result piece.now) }
+        ensures complete { IsWholeFile self.old.rows self.old.fed → result ≡ 0 }
+        ensures goes_on { self.new.refused ≡ None }
+    {
+        if self.assembler.pending() > 0 || self.state.position.is_done() {
+            return 0;
+        }
+        let Some((state, count)) = take_offsets(
+            self.store.as_mut_slice(),
+            self.rows.as_slice(),
+            self.state,
+            piece,
+        ) else {
+            return 0;
+        };
+        let taken = 4 * count;
+        self.state = state;
+        self.count += taken as u64;
+        self.history = self.history.and(&piece[..taken]);
         taken
     }
 
@@ -140,6 +168,10 @@ impl BodyLoader {
         let run = self.take_run(piece);
         if run > 0 {
             return Ok(run);
+        }
+        let offsets = self.take_offsets(piece);
+        if offsets > 0 {
+            return Ok(offsets);
         }
         self.take_long(piece)
     }

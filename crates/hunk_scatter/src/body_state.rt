@@ -17,7 +17,7 @@ pub struct BodyState {
 }
 
 /// The declared longs of a hunk.
-fn longs_of(rows: &[Row], hunk: u32) -> u32
+pub fn longs_of(rows: &[Row], hunk: u32) -> u32
     requires { hunk < length rows.now }
     ensures value { result ≡ longs_at (words_of rows.now) hunk }
     ensures bound { result < 2 ^ 30 }

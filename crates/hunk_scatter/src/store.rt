@@ -1,15 +1,16 @@
 //! The one store.
-ghost use Rattle.std.specs.Prelude.{◌≡◌, ◌+◌, ◌≤◌, ◌<◌, ◌*◌, ◌/◌, ◌%◌, ◌^◌, ◌++◌, length, take, get_or, Some, None, IfNone, IfOk, IfErr, OnOk, OnErr, IsTrue};
+ghost use Rattle.std.specs.Prelude.{◌≡◌, ◌+◌, ◌≤◌, ◌<◌, ◌*◌, ◌/◌, ◌%◌, ◌^◌, ◌++◌, length, take, get_or, Some, None, IfNone, IfSome, IfOk, IfErr, OnOk, OnErr, IsTrue};
 ghost use Rattle.hunk_scatter.specs.LoaderReasons.{is_of_body};
-ghost use Rattle.hunk_words.specs.Longs.{Gathers};
+ghost use Rattle.hunk_words.specs.Longs.{Gathers, longs};
+ghost use Rattle.std.specs.List.{AllByRecursion};
 ghost use Rattle.std.specs.Int.{w32, to_be_bytes};
 ghost use Rattle.hunk_files.specs.Image.{add_at};
-ghost use Rattle.hunk_scatter.specs.StoreContent.{put_at, put_slice, stored, stored_run};
+ghost use Rattle.hunk_scatter.specs.StoreContent.{put_at, put_slice, stored, stored_run, added, EndsWithin, TakesOffsets};
 ghost use Rattle.hunk_scatter.specs.BodySteps.{step_body, pass_body, refusal, IsInStore};
 ghost use Rattle.hunk_scan.specs.Positions.{run};
 ghost use Rattle.hunk_scatter.specs.Rows.{words_of, bases_of};
 
-use crate::body_state::BodyState;
+use crate::body_state::{BodyState, longs_of};
 use hunk_files::Row;
 use hunk_scan::{Phase, Position};
 use hunk_words::{Assembler, Reason, word_at};
@@ -136,4 +137,66 @@ pub fn next_word(assembler: &mut Assembler, piece: &[u8]) -> (usize, Option<u32>
         return (4, Some(word_at(piece, 0)));
     }
     assembler.take(piece)
+}
+
+/// Adds to the longwords at so many offsets at most, up to the first that does not end within the
+/// limit, and gives their number.
+pub fn add_all(
+    store: &mut [u8],
+    start: u64,
+    limit: u64,
+    base: u32,
+    offsets: &[u8],
+    most: usize,
+) -> usize
+    requires room { start + limit ≤ length store.old }
+    requires offsets { 4 * most ≤ length offsets.now }
+    ensures count { result ≤ most }
+    ensures inside { AllByRecursion (EndsWithin limit) (take result (longs offsets.now)) }
+    ensures adds { store.new ≡ added start base (take result (longs offsets.now)) store.old }
+{
+    let mut taken = 0;
+    while taken < most {
+        let word = word_at(offsets, taken);
+        if u64::from(word) + 4 > limit {
+            return taken;
+        }
+        add(store, (start + u64::from(word)) as usize, base);
+        taken += 1;
+    }
+    taken
+}
+
+/// Takes the offsets that lie whole in the piece, up to the last of their list or the first that is
+/// refused, and gives their number; `None` where none is expected.
+pub fn take_offsets(
+    store: &mut [u8],
+    rows: &[Row],
+    state: BodyState,
+    piece: &[u8],
+) -> Option<(BodyState, usize)>
+    requires { IsInStore (words_of rows.now) (length store.old) state }
+    ensures inside { IfSome result (λ r. 4 * r.1 ≤ length piece.now) }
+    ensures none { IfNone result (store.new ≡ store.old) }
+    ensures offsets { IfSome result (λ r. TakesOffsets (words_of rows.now) (bases_of rows.now) state
+        (take r.1 (longs piece.now)) store.old r.0 store.new) }
+{
+    let Position::Body(hunk, phase) = state.position else {
+        return None;
+    };
+    let Phase::Offset { target, owed } = phase else {
+        return None;
+    };
+    let whole = piece.len() / 4;
+    let most = if (owed as usize) < whole {
+        owed as usize
+    } else {
+        whole
+    };
+    let limit = 4 * u64::from(longs_of(rows, state.hunk));
+    let base = base_of(rows, target);
+    let taken = add_all(store, state.start, limit, base, piece, most);
+    let owed = owed - taken as u32;
+    let position = Position::Body(hunk, Phase::Offset { target, owed });
+    Some((BodyState { position, ..state }, taken))
 }
