@@ -14,4 +14,5 @@ mod tests;
 pub use crate::file_kind::Sniff;
 pub use crate::phase::{OpenHunk, Phase};
 pub use crate::position::Position;
+pub use crate::refusal::is_outside;
 pub use crate::standing::refuse_place;

@@ -1,5 +1,5 @@
 //! The tests of the longwords of a load file.
-ghost use Rattle.std.specs.Prelude.{◌≡◌, Some, None, if◌then◌else◌};
+ghost use Rattle.std.specs.Prelude.{◌≡◌, ◌+◌, ◌*◌, nat_lt, Some, None, if◌then◌else◌};
 ghost use Rattle.hunk_blocks.specs.Parts.{Part as parts};
 ghost use Rattle.hunk_scan.specs.Roles.{Role as roles, refuse, refuse_part, refuse_word};
 ghost use Rattle.hunk_scan.specs.Positions.{role_at, part_at, place};
@@ -47,14 +47,19 @@ impl OpenHunk {
             Phase::GroupCount => refuse_if(word != 0 && longs == 0, Reason::NothingToRelocate),
             Phase::Target { owed: _ } => refuse_if(word >= self.hunks, Reason::BadTarget),
             Phase::Offset { target: _, owed: _ } => {
-                refuse_if(
-                    u64::from(word) + 4 > u64::from(longs) * 4,
-                    Reason::BadOffset,
-                )
+                refuse_if(is_outside(word, longs), Reason::BadOffset)
             }
             _ => None,
         }
     }
+}
+
+/// Whether the long at the offset passes the end of a hunk of so many declared longs.
+#[inline(always)]
+pub fn is_outside(offset: u32, longs: u32) -> bool
+    ensures { result ≡ nat_lt (4 * longs) (offset + 4) }
+{
+    u64::from(offset) + 4 > u64::from(longs) * 4
 }
 
 #[inline(always)]

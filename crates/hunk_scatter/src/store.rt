@@ -12,7 +12,7 @@ ghost use Rattle.hunk_scatter.specs.Rows.{words_of, bases_of};
 
 use crate::body_state::{BodyState, longs_of};
 use hunk_files::Row;
-use hunk_scan::{Phase, Position};
+use hunk_scan::{Phase, Position, is_outside};
 use hunk_words::{Assembler, Reason, word_at};
 
 /// Puts a longword at the offset.
@@ -139,26 +139,26 @@ pub fn next_word(assembler: &mut Assembler, piece: &[u8]) -> (usize, Option<u32>
     assembler.take(piece)
 }
 
-/// Adds to the longwords at so many offsets at most, up to the first that does not end within the
-/// limit, and gives their number.
+/// Adds to the longwords at so many offsets at most, up to the first that passes the end of a hunk of
+/// so many declared longs, and gives their number.
 pub fn add_all(
     store: &mut [u8],
     start: u64,
-    limit: u64,
+    declared: u32,
     base: u32,
     offsets: &[u8],
     most: usize,
 ) -> usize
-    requires room { start + limit ≤ length store.old }
+    requires room { start + 4 * declared ≤ length store.old }
     requires offsets { 4 * most ≤ length offsets.now }
     ensures count { result ≤ most }
-    ensures inside { AllByRecursion (EndsWithin limit) (take result (longs offsets.now)) }
+    ensures inside { AllByRecursion (EndsWithin (4 * declared)) (take result (longs offsets.now)) }
     ensures adds { store.new ≡ added start base (take result (longs offsets.now)) store.old }
 {
     let mut taken = 0;
     while taken < most {
         let word = word_at(offsets, taken);
-        if u64::from(word) + 4 > limit {
+        if is_outside(word, declared) {
             return taken;
         }
         add(store, (start + u64::from(word)) as usize, base);
@@ -193,9 +193,9 @@ pub fn take_offsets(
     } else {
         whole
     };
-    let limit = 4 * u64::from(longs_of(rows, state.hunk));
+    let declared = longs_of(rows, state.hunk);
     let base = base_of(rows, target);
-    let taken = add_all(store, state.start, limit, base, piece, most);
+    let taken = add_all(store, state.start, declared, base, piece, most);
     let owed = owed - taken as u32;
     let position = Position::Body(hunk, Phase::Offset { target, owed });
     Some((BodyState { position, ..state }, taken))

@@ -1,4 +1,4 @@
-use Rattle.std.proofs.Common.{length, ◌-◌, ◌≡◌, ◌≤◌, take}
+use Rattle.std.proofs.Common.{length, ◌-◌, ◌*◌, ◌≡◌, ◌≤◌, take}
 use Rattle.std.specs.List.{AllByRecursion}
 use Rattle.hunk_words.specs.Longs.{longs}
 use Rattle.hunk_scatter.specs.StoreContent.{added, EndsWithin}
@@ -6,7 +6,7 @@ use Rattle.hunk_scatter.proofs.store.add_all.Given as goal
 
 abbrev pub invariant-loop-taken : goal.invariant-loop-taken
 invariant-loop-taken l =
-    (l.taken ≤ l.most) × AllByRecursion (EndsWithin l.limit) (take l.taken (longs l.offsets)) × (l.store ≡ added l.start l.base (take l.taken (longs l.offsets)) l.fn.store)
+    (l.taken ≤ l.most) × AllByRecursion (EndsWithin (4 * l.declared)) (take l.taken (longs l.offsets)) × (l.store ≡ added l.start l.base (take l.taken (longs l.offsets)) l.fn.store)
     × (length l.store ≡ length l.fn.store)
 
 abbrev pub decreases-loop-taken : goal.decreases-loop-taken
