@@ -108,3 +108,28 @@ fn of_entries(rt: HostRuntime) -> Result<(), Fail> {
     }
     Ok(())
 }
+
+#[test]
+fn of_groups_in_turn(rt: HostRuntime) -> Result<(), Fail> {
+    let words = [0x3EC, 1, 0, 4, 2, 1, 8, 12, 0];
+    let bytes = spelled(rt.alloc(), words.as_slice())?;
+    let (block, _) = Block::decode(rt.alloc(), bytes.as_slice(), Mode::Load)?;
+    let none = spelled(rt.alloc(), [0x3EC, 0].as_slice())?;
+    let (empty, _) = Block::decode(rt.alloc(), none.as_slice(), Mode::Load)?;
+    match (block.body(), empty.body()) {
+        (Body::Reloc(groups), Body::Reloc(none)) => {
+            for (number, group) in groups.iter().enumerate() {
+                assert_eq!(rt; group.offsets.len(), number + 1);
+                assert_eq!(rt; group.target as usize, number);
+            }
+            assert_eq!(rt; groups.iter().count(), 2);
+            for group in groups {
+                assert!(rt; group.offsets.len() == 1 + group.target as usize);
+            }
+            assert!(rt; !groups.is_empty());
+            assert!(rt; none.is_empty());
+        }
+        _ => panic!(&rt; "RELOC32"),
+    }
+    Ok(())
+}

@@ -1,6 +1,6 @@
 //! Fields of longwords, by values from the table of block types and the examples of size words.
 
-use crate::{Assembler, BlockWord, Kind, Memory, Reason, SizeWord, word_at};
+use crate::{Assembler, BlockWord, Fault, Kind, Memory, Reason, SizeWord, word_at};
 use std::test::Fail;
 
 #[test]
@@ -84,5 +84,22 @@ fn longwords(rt: HostRuntime) -> Result<(), Fail> {
     assert_eq!(rt; assembler.take([0, 0, 3].as_slice()), (3, None));
     assert_eq!(rt; assembler.take([0xE9, 1, 2].as_slice()), (1, Some(0x3E9)));
     assert_eq!(rt; assembler.pending(), 0);
+    Ok(())
+}
+
+#[test]
+fn fault_texts(rt: HostRuntime) -> Result<(), Fail> {
+    let bad_offset = Fault {
+        place: 52,
+        reason: Reason::BadOffset,
+    };
+    let no_base = Fault {
+        place: 56,
+        reason: Reason::NoBase(1),
+    };
+    let text = format!(in rt.alloc(); "{bad_offset}")?;
+    assert_eq!(rt; text.as_str(), "refused at byte 52: BadOffset (24)");
+    let text = format!(in rt.alloc(); "{no_base}")?;
+    assert_eq!(rt; text.as_str(), "refused at byte 56: NoBase (29) hunk 1");
     Ok(())
 }
