@@ -1,13 +1,4 @@
-mod BlockLaws
-mod Consumed
-mod Contents
-mod Engines
-mod FileLaws
-mod Lines
 mod Literals
 mod Numbers
-mod RewriteLaws
-mod RowLaws
-mod StrippedSize
 mod Telling
 mod Vacuity

@@ -7,13 +7,14 @@ use Rattle.hunk_words.specs.Carriers.{Writing}
 use Rattle.hunk_words.specs.Longs.{bytes_of}
 use Rattle.hunk_words.specs.Puts.{Puts}
 use Rattle.hunk_files.specs.LoadText.{text}
-use Rattle.hunkinfo.specs.Engine.{WritesAll}
-use Rattle.hunkinfo.specs.Validated.{IsValidated}
-use Rattle.hunkinfo.specs.Output.{Takes, TellsStatus}
+use Rattle.hunk_commands.specs.Engine.{WritesAll}
+use Rattle.hunk_commands.specs.Validated.{IsValidated}
+use Rattle.hunk_commands.specs.Output.{Takes}
+use Rattle.hunkinfo.specs.Status.{TellsStatus}
 use Rattle.hunkinfo.specs.declared.run.listing.Listing.{Listing}
 use Rattle.hunkinfo.specs.declared.run.listing.Listing.TheVariants as listings
-use Rattle.hunkinfo.specs.HexText.{Spells}
-use Rattle.hunkinfo.specs.Relocating.{RelocatesAll}
+use Rattle.hunk_commands.specs.HexText.{Spells}
+use Rattle.hunk_commands.specs.Relocating.{RelocatesAll}
 use Rattle.hunkinfo.specs.Runs.{IsListed, ListsSource, StopsReading}
 
 pub tells_after : {W : Type 0} (taken : W → Option (List ℕ)) (failed : W → Bool) (old mid new : Writing W) (status : ℕ)

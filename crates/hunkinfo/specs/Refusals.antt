@@ -4,13 +4,13 @@ use Rattle.std.specs.Io.KnownBytes.{Consumes, IsAtEnd}
 use Rattle.hunk_words.specs.declared.fault.Fault.{Fault}
 use Rattle.hunk_words.specs.declared.reason.Reason.TheVariants.{FileLimit}
 use Rattle.hunk_scatter.specs.LoadOutcomes.{Gives, IsLoadFault}
-use Rattle.hunkinfo.specs.declared.fault.RunFault.TheVariants.{Refused}
+use Rattle.hunk_commands.specs.declared.fault.RunFault.TheVariants.{Refused}
 use Rattle.hunkinfo.specs.declared.run.listing.Listing.{Listing}
 use Rattle.hunkinfo.specs.declared.run.listing.Listing.TheVariants as listings
-use Rattle.hunkinfo.specs.Engine.{RefusesOnly}
-use Rattle.hunkinfo.specs.HexText.{Spells}
-use Rattle.hunkinfo.specs.Inputs.{Gave}
-use Rattle.hunkinfo.specs.Relocating.{packed}
+use Rattle.hunk_commands.specs.Engine.{RefusesOnly}
+use Rattle.hunk_commands.specs.HexText.{Spells}
+use Rattle.hunk_commands.specs.Inputs.{Gave}
+use Rattle.hunk_commands.specs.Relocating.{packed}
 
 -- its bytes are refused, of which at most so many are read
 abbrev pub RefusesListing : Listing → Fault → Option (List ℕ) → Option (List ℕ) → ℕ → Bool → Type 0

@@ -1,5 +1,5 @@
 -- What a run has done: its output is a writer that is old before it and new after it. `taken` tells the bytes that a sink has taken, and `failed` whether it has failed.
-use Rattle.std.specs.Prelude.{◌≡◌, ◌⊎◌, ◌+◌, ⊤, ℕ, Bool, true, false, List, Option, codes, string_bytes}
+use Rattle.std.specs.Prelude.{◌≡◌, ◌⊎◌, ◌+◌, ◌++◌, ⊤, ℕ, Bool, true, false, List, Option, length, codes, string_bytes}
 use Rattle.std.specs.Io.KnownBytes.{Consumes, IsAtEnd}
 use Rattle.hunk_words.specs.Carriers.{Writing}
 use Rattle.hunk_words.specs.Longs.{bytes_of}
@@ -10,18 +10,20 @@ use Rattle.hunkinfo.specs.declared.asked.Order.{Order}
 use Rattle.hunkinfo.specs.declared.asked.Order.TheVariants as orders
 use Rattle.hunkinfo.specs.declared.asked.OrderFault.{OrderFault}
 use Rattle.hunkinfo.specs.declared.asked.OrderFault.TheVariants.{Help, Line, Memory}
-use Rattle.hunkinfo.specs.declared.fault.RunFault.{RunFault}
-use Rattle.hunkinfo.specs.declared.fault.RunFault.TheVariants as faults
+use Rattle.hunk_commands.specs.declared.fault.RunFault.{RunFault}
+use Rattle.hunk_commands.specs.declared.fault.RunFault.TheVariants as faults
 use Rattle.hunkinfo.specs.declared.run.listing.Listing.{Listing}
 use Rattle.hunkinfo.specs.declared.run.listing.Listing.TheVariants as listings
-use Rattle.hunkinfo.specs.Faults.{line_of}
-use Rattle.hunkinfo.specs.HexText.{Spells}
-use Rattle.hunkinfo.specs.Inputs.{Gave}
-use Rattle.hunkinfo.specs.Listed.{IsShown}
-use Rattle.hunkinfo.specs.Output.{Prints, Takes, with_newline}
-use Rattle.hunkinfo.specs.Relocating.{IsRelocated}
-use Rattle.hunkinfo.specs.Rewritten.{TellsRewriting}
-use Rattle.hunkinfo.specs.Validated.{IsValidated}
+use Rattle.hunk_commands.specs.Faults.{line_of}
+use Rattle.hunk_commands.specs.HexText.{Spells}
+use Rattle.hunk_commands.specs.Inputs.{Gave}
+use Rattle.hunk_commands.specs.Shown.{IsShown}
+use Rattle.hunk_commands.specs.Output.{Takes}
+use Rattle.hunk_commands.specs.Relocating.{IsRelocated}
+use Rattle.hunk_commands.specs.Rewritten.{IsRewritten}
+use Rattle.hunk_commands.specs.Validated.{IsValidated}
+use Rattle.hunk_listing.specs.RewritingLines.{left_out_line, wrote_line}
+use Rattle.hunkinfo.specs.Status.{Prints, with_newline}
 
 -- what is printed where the words are no order, and the status
 abbrev pub PrintsRefusal : {W : Type 0} → (W → Option (List ℕ)) → (W → Bool) → Writing W → Writing W → OrderFault → ℕ → Type 0
@@ -41,6 +43,14 @@ pub record Lists {W : Type 0} (taken : W → Option (List ℕ)) (old new : Writi
   pub text : List ℕ
   pub is_listed : IsListed listing input text
   pub takes : Takes taken old new text
+
+-- Some input was rewritten, and the text says how many bytes were written and how many left out.
+pub record TellsRewriting (strip : Bool) (told : List ℕ) : Type 0 where
+  pub input : List ℕ
+  pub rest : ℕ
+  pub output : List ℕ
+  pub is_rewritten : IsRewritten strip rest input output
+  pub told_is : told ≡ wrote_line (length output) ++ left_out_line rest
 
 -- the output has taken what is printed of some rewriting, and nothing else
 pub record Rewrites {W : Type 0} (taken : W → Option (List ℕ)) (old new : Writing W) (strip : Bool) : Type 0 where

@@ -2,19 +2,9 @@
 #![tactic(auto)]
 
 mod asked;
-mod fault;
-mod hunk_file;
 mod line;
-mod listing;
-mod relocate;
-mod rewrite;
 mod run;
-mod show;
-mod text;
 mod to_file;
-mod unhex;
-mod validate;
-mod whole;
 
 use crate::asked::OrderFault;
 use hunk_words::{FromWrite, LongWriter};

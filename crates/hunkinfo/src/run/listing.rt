@@ -2,19 +2,15 @@
 ghost use Rattle.std.specs.Prelude.{◌≡◌, ◌≢◌, ◌≤◌, IfErr, IfOk, OnOk, false, length};
 ghost use Rattle.std.specs.Io.KnownBytes.{Consumes, IsAtEnd};
 ghost use Rattle.hunk_words.specs.declared.fault.Fault.{Fault};
-ghost use Rattle.hunkinfo.specs.declared.fault.RunFault.TheVariants.{HexText, Refused};
-ghost use Rattle.hunkinfo.specs.Output.{StopsOutput, TellsStatus};
+ghost use Rattle.hunk_commands.specs.declared.fault.RunFault.TheVariants.{HexText, Refused};
+ghost use Rattle.hunk_commands.specs.Output.{StopsOutput};
+ghost use Rattle.hunkinfo.specs.Status.{TellsStatus};
 ghost use Rattle.hunkinfo.specs.Refusals.{RefusesListing, RefusesSource, SpellsNone};
 ghost use Rattle.hunkinfo.specs.Runs.{Lists, ListsSource, ReadsNoText};
 
 use crate::asked::FileName;
-use crate::fault::RunFault;
-use crate::relocate::relocate;
 use crate::run::FILE_BYTES;
-use crate::show::show;
-use crate::unhex::unhex;
-use crate::validate::validate;
-use crate::whole::whole;
+use hunk_commands::{RunFault, read_whole, relocate, show, unhex, validate};
 use hunk_scatter::Limits;
 use hunk_words::{Fault, FromRead, FromSlice, LongWriter, Sink, Source};
 use std::alloc::Global;
@@ -94,7 +90,7 @@ fn text_of<R: Source>(alloc: Global, source: &mut R) -> Result<Vec<u8>, RunFault
     ensures bound { IfOk result (λ text. length text.items ≤ FILE_BYTES) }
     ensures err { IfErr result (λ fault. ReadsNoText fault (R.left source.old) (R.left source.new) FILE_BYTES (R.failed source.new)) }
 {
-    match whole(alloc, source, FILE_BYTES + 1) {
+    match read_whole(alloc, source, FILE_BYTES + 1) {
         Err(RunFault::Refused(Fault { place: _, reason })) => Err(RunFault::Refused(Fault {
             place: FILE_BYTES,
             reason,

@@ -1,15 +1,14 @@
 //! The command `rewrite`, from one file to another.
-ghost use Rattle.std.specs.Prelude.{◌≡◌, ◌++◌, IfOk, OnOk};
-ghost use Rattle.hunkinfo.specs.Rewritten.{TellsRewriting, left_out_line, wrote_line};
+ghost use Rattle.std.specs.Prelude.{IfOk};
+ghost use Rattle.hunkinfo.specs.Runs.{TellsRewriting};
 
 use crate::asked::FileName;
-use crate::fault::RunFault;
-use crate::rewrite::{Rewritten, rewrite};
 use crate::run::FILE_BYTES;
-use crate::text::push_decimal;
 use crate::to_file::ToFile;
+use hunk_commands::{RunFault, rewrite};
+use hunk_listing::push_rewriting;
 use hunk_words::{FromRead, LongWriter};
-use std::alloc::{AllocError, Global};
+use std::alloc::Global;
 use std::fs;
 use std::rt::Files;
 
@@ -36,35 +35,6 @@ pub(super) fn rewrite_file<T: Files>(
     let mut writer = LongWriter::new(ToFile::new(rt, output.as_str()));
     let mut reader = FromRead::new(file);
     let done = rewrite(alloc, &mut reader, &mut writer, FILE_BYTES, strip)?;
-    push_rewritten(&mut text, done)?;
+    push_rewriting(&mut text, done.written, done.rest)?;
     Ok(text)
-}
-
-// The lines of what was done.
-fn push_rewritten(text: &mut Vec<u8>, done: Rewritten) -> Result<(), AllocError>
-    ensures { OnOk result (text.new.items ≡ text.old.items ++ (wrote_line done.written ++ left_out_line done.rest)) }
-{
-    push_wrote(text, done.written)?;
-    push_left_out(text, done.rest)
-}
-
-#[tactic(auto, unfolding(crate::specs::Rewritten::wrote_line))]
-fn push_wrote(text: &mut Vec<u8>, written: u64) -> Result<(), AllocError>
-    ensures { OnOk result (text.new.items ≡ text.old.items ++ wrote_line written) }
-{
-    text.extend_from_slice(b"wrote ")?;
-    push_decimal(text, written)?;
-    text.extend_from_slice(b" bytes\n")
-}
-
-#[tactic(auto, unfolding(crate::specs::Rewritten::left_out_line))]
-fn push_left_out(text: &mut Vec<u8>, rest: u64) -> Result<(), AllocError>
-    ensures { OnOk result (text.new.items ≡ text.old.items ++ left_out_line rest) }
-{
-    if rest == 0 {
-        return Ok(());
-    }
-    text.extend_from_slice(b"rest ")?;
-    push_decimal(text, rest)?;
-    text.extend_from_slice(b" bytes left out\n")
 }

@@ -1,23 +1,28 @@
 //! What becomes of an OUT that is there, with files.
 
 use crate::run::run;
-use crate::tests::relocating::{EXAMPLE_1, bytes_of};
+use hunk_commands::unhex;
 use hunk_words::{FromWrite, LongWriter};
 use std::fs;
 use std::test::Fail;
 
+/// A load file of one hunk, whose code is 4E754E71.
+const FILE: &str =
+    "000003F3 00000000 00000001 00000000 00000000 00000001 000003E9 00000001 4E754E71 000003F2";
+
+/// The same with no END, but a longword that is no block word.
+const DAMAGED: &str =
+    "000003F3 00000000 00000001 00000000 00000000 00000001 000003E9 00000001 4E754E71 000003F4";
+
 #[test]
 fn keeps_an_old_output(rt: HostRuntime) -> Result<(), Fail> {
-    let file = bytes_of(rt.alloc(), EXAMPLE_1.as_slice())?;
-    let short = bytes_of(rt.alloc(), &EXAMPLE_1[..9])?;
-    let mut words = EXAMPLE_1;
-    words[9] = 0x3F4;
-    let damaged = bytes_of(rt.alloc(), words.as_slice())?;
+    let file = unhex(rt.alloc(), FILE.as_bytes())?;
+    let damaged = unhex(rt.alloc(), DAMAGED.as_bytes())?;
     let old = b"an old file that is longer than the one that takes its place";
     let (input, output) = ("/tmp/hunkinfo-test-in", "/tmp/hunkinfo-test-out");
     for (bytes, want, status_wanted) in [
         // A refused IN leaves OUT as it was.
-        (short.as_slice(), old.as_slice(), 1),
+        (b"\0\0\x03\xF3".as_slice(), old.as_slice(), 1),
         (damaged.as_slice(), old.as_slice(), 1),
         // One that is accepted takes its place.
         (file.as_slice(), file.as_slice(), 0),

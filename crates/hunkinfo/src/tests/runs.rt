@@ -1,7 +1,7 @@
 //! What runs print, and the statuses that they end with.
 use crate::run::run;
 use crate::tests::made::{Kept, Made};
-use crate::unhex::unhex;
+use hunk_commands::unhex;
 use hunk_words::LongWriter;
 use std::alloc::Global;
 use std::test::Fail;

@@ -1,5 +1,5 @@
 use Rattle.std.proofs.Common.{rules}
-use Rattle.hunkinfo.specs.Faults.{IsWrite}
+use Rattle.hunk_commands.specs.Faults.{IsWrite}
 use Rattle.hunkinfo.proofs.Telling.{tells_after}
 use Rattle.hunkinfo.proofs.run.list.Goals as goal
 

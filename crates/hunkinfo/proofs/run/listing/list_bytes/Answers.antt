@@ -1,9 +1,9 @@
 use Rattle.std.proofs.Common.{◌≡◌, ℕ, false, rules, sym, subst}
 use Rattle.hunkinfo.specs.declared.run.listing.Listing.{Listing}
 use Rattle.hunkinfo.specs.declared.run.listing.Listing.TheVariants as listings
-use Rattle.hunkinfo.specs.Listed.{IsShown}
+use Rattle.hunk_commands.specs.Shown.{IsShown}
 use Rattle.hunkinfo.specs.Runs.{ListsSource}
-use Rattle.hunkinfo.specs.Validated.{IsValidated}
+use Rattle.hunk_commands.specs.Validated.{IsValidated}
 use Rattle.hunkinfo.proofs.Telling.{lists_source}
 use Rattle.hunkinfo.proofs.run.listing.list_bytes.Goals as goal
 

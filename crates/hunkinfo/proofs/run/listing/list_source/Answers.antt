@@ -3,10 +3,10 @@ use Rattle.std.specs.Prelude.{IfErr, IfOk}
 use Rattle.std.specs.Io.KnownBytes.{Consumes, IsAtEnd}
 use Rattle.hunk_words.specs.Carriers.{Writing}
 use Rattle.hunk_words.specs.declared.fault.Fault.{Fault}
-use Rattle.hunkinfo.specs.declared.fault.RunFault.{RunFault}
-use Rattle.hunkinfo.specs.declared.fault.RunFault.TheVariants.{Refused}
+use Rattle.hunk_commands.specs.declared.fault.RunFault.{RunFault}
+use Rattle.hunk_commands.specs.declared.fault.RunFault.TheVariants.{Refused}
 use Rattle.hunkinfo.specs.declared.run.listing.Listing.{Listing}
-use Rattle.hunkinfo.specs.HexText.{Spells}
+use Rattle.hunk_commands.specs.HexText.{Spells}
 use Rattle.hunkinfo.specs.Refusals.{RefusesListing, RefusesSource}
 use Rattle.hunkinfo.specs.Runs.{ListsSource}
 use Rattle.hunkinfo.proofs.Telling.{lists_text}

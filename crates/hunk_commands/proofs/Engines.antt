@@ -1,0 +1,72 @@
+-- What the engine functions share: a source read to its end, a text made of its bytes and put.
+use Rattle.std.proofs.Common.{◌≡◌, ◌<◌, ◌+◌, ℕ, List, Option, Some, Result, Err, length, inl, inr, ap, sym, subst, ◌∙◌, arith}
+use Rattle.std.specs.Prelude.{Bool, IfErr, ◌⊎◌}
+use Rattle.std.specs.Io.KnownBytes.{Consumes, IsAtEnd}
+use Rattle.std.proofs.KnownBytes.{Appends-nil}
+use Rattle.hunk_words.specs.Carriers.{Writing}
+use Rattle.hunk_words.specs.Puts.{Puts}
+use Rattle.hunk_commands.specs.declared.fault.RunFault.{RunFault}
+use Rattle.hunk_commands.specs.declared.fault.RunFault.TheVariants.{HexText, Memory, Read, Refused, Write}
+use Rattle.hunk_commands.specs.Engine.{RefusesOnly, Writes, WritesAll}
+use Rattle.hunk_commands.specs.Faults.{IsWrite}
+use Rattle.hunk_commands.specs.FileKinds.{AreFile, RefusesBytes}
+use Rattle.hunk_commands.specs.Output.{StopsOutput}
+use Rattle.hunk_commands.proofs.Consumed.{consumed_all}
+
+-- the source was read to its end, and gave the bytes
+pub record IsRead (a b : Option (List ℕ)) (most : ℕ) (bytes : List ℕ) : Type 0 where
+  pub given : Consumes a b bytes
+  pub at_end : IsAtEnd b
+  pub few : length bytes < most
+
+pub is_read : (a b : Option (List ℕ)) (most : ℕ) (items bytes : List ℕ) → Consumes a b items → IsAtEnd b → length items < most → bytes ≡ items → IsRead a b most bytes
+is_read a b most items bytes given at_end few same = subst (λ (xs : List ℕ). IsRead a b most xs) (sym same) (record { given = given; at_end = at_end; few = few })
+
+-- ---- a fault that is handed on
+
+pub handed : {T : Type 0} (P : RunFault → Type 0) (result : Result T RunFault) (fault : RunFault) → ((y : RunFault) × (result ≡ Err y) × (y ≡ fault)) → P fault → IfErr result P
+handed {T} P result fault p is = subst (λ (r : Result T RunFault). IfErr r P) (sym (p.1 ∙ ap Err p.2)) is
+
+pub refuses_only : (fault : RunFault) (a b : Option (List ℕ)) (most : ℕ) (bytes : List ℕ) → IsRead a b most bytes → RefusesBytes fault bytes → RefusesOnly fault a b most
+refuses_only (Refused refusal) a b most bytes read is = inr (record { input = bytes; given = read.given; at_end = read.at_end; few = read.few; refuses = is })
+refuses_only Memory a b most bytes read is = tt
+refuses_only (Read place) a b most bytes read is = tt
+refuses_only (Write written) a b most bytes read is = tt
+refuses_only HexText a b most bytes read is = is
+
+-- nothing was put
+pub stops_untouched : {W : Type 0} (taken : W → Option (List ℕ)) (failed : W → Bool) (old : Writing W) (fault : RunFault) → old.written ≡ 0 → ¬ IsWrite fault → StopsOutput taken failed old old fault
+stops_untouched taken failed old fault none other = record { broken = λ is. absurd (other is); unwritten = λ _. none; untouched = λ _. Appends-nil (taken old.sink) }
+
+-- a file is never refused
+pub only_memory : (fault : RunFault) (a b : Option (List ℕ)) (most : ℕ) (bytes input : List ℕ) → IsRead a b most bytes →
+    (fault ≡ Memory) ⊎ (AreFile bytes → ⊥) → a ≡ Some input → AreFile input → fault ≡ Memory
+only_memory fault a b most bytes input read (inl memory) known file = memory
+only_memory fault a b most bytes input read (inr none) known file = absurd (none (subst AreFile (consumed_all a b input bytes known read.given read.at_end) file))
+
+-- ---- a text that is put
+
+abbrev pub writes_of : (Is : List ℕ → List ℕ → Type 0) (a b : Option (List ℕ)) (most : ℕ) (c d : Option (List ℕ)) (m n : ℕ) (bytes text put : List ℕ) →
+    IsRead a b most bytes → Is bytes text → put ≡ text → m ≡ 0 → Puts c d m n put → Writes Is a b most c d n
+writes_of Is a b most c d m n bytes text put read is same none puts = record {
+  input = bytes;
+  given = read.given;
+  at_end = read.at_end;
+  few = read.few;
+  text = text;
+  is_text = is;
+  puts = subst (λ (k : ℕ). Puts c d k n text) none (subst (λ (xs : List ℕ). Puts c d m n xs) same puts);
+}
+
+pub writes_all : (Is : List ℕ → List ℕ → Type 0) (a b : Option (List ℕ)) (most : ℕ) (c d : Option (List ℕ)) (m n : ℕ) (bytes text put : List ℕ) →
+    IsRead a b most bytes → Is bytes text → put ≡ text → m ≡ 0 → Puts c d m n put → n ≡ m + length put → WritesAll Is a b most c d n
+writes_all Is a b most c d m n bytes text put read is same none puts whole =
+    (writes_of Is a b most c d m n bytes text put read is same none puts, omega (arith, whole, none, ap length same))
+
+-- the first bytes have gone out
+pub written_first : {T : Type 0} (W : ℕ → Type 0) (result : Result T RunFault) (m n : ℕ) → ((y : RunFault) × (result ≡ Err y) × (y ≡ Write m)) → m ≡ n → W n →
+    IfErr result (λ fault. (written : ℕ) → fault ≡ Write written → (n ≡ written) × W written)
+written_first W result m n p told w = handed (λ fault. (written : ℕ) → fault ≡ Write written → (n ≡ written) × W written) result (Write m) p go
+  where
+    go : (written : ℕ) → Write m ≡ Write written → (n ≡ written) × W written
+    go written e = let same : n ≡ written = sym told ∙ cc in (same, subst W same w)

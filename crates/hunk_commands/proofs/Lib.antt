@@ -1,0 +1,5 @@
+mod Consumed
+mod Engines
+mod FileLaws
+mod RewriteLaws
+mod StrippedSize

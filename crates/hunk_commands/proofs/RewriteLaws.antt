@@ -1,0 +1,38 @@
+-- What is written of a file that was decoded.
+use Rattle.std.proofs.Common.{◌≤◌, ℕ, Bool, true, false, List, length, refl, inl, inr, ap, arith, length-append}
+use Rattle.hunk_words.specs.Longs.{bytes_of}
+use Rattle.hunk_files.specs.LoadFile.{LoadFileValue}
+use Rattle.hunk_files.specs.LoadText.{text}
+use Rattle.hunk_files.specs.ObjectFile.{ObjectFileValue, object_text}
+use Rattle.hunk_files.specs.Strip.{strip_file, strip_object}
+use Rattle.hunk_commands.specs.declared.hunk_file.HunkFile.{HunkFile}
+use Rattle.hunk_commands.specs.declared.hunk_file.HunkFile.TheVariants as files
+use Rattle.hunk_commands.specs.FileKinds.{IsFileOf, bytes_behind, file_bytes, stripped_where}
+use Rattle.hunk_commands.specs.Rewritten.{IsRewritten}
+use Rattle.hunk_commands.proofs.StrippedSize.{load_shorter, object_shorter}
+
+pub rewritten : (strip : Bool) (bytes : List ℕ) (file : HunkFile) → IsFileOf bytes file →
+    IsRewritten strip (bytes_behind (stripped_where strip file)) bytes (file_bytes (stripped_where strip file))
+rewritten true bytes (files.Load value rest) is = inl (is.0, is.2, ap (λ (v : LoadFileValue). bytes_of (text (strip_file v))) is.1)
+rewritten false bytes (files.Load value rest) is = inl (is.0, is.2, ap (λ (v : LoadFileValue). bytes_of (text v)) is.1)
+rewritten true bytes (files.Object value) is = inr (is.0, refl, ap (λ (o : ObjectFileValue). bytes_of (object_text (strip_object o))) is.1)
+rewritten false bytes (files.Object value) is = inr (is.0, refl, ap (λ (o : ObjectFileValue). bytes_of (object_text o)) is.1)
+
+whole_size : (bytes : List ℕ) (file : HunkFile) → IsFileOf bytes file → length (file_bytes file) ≤ length bytes
+whole_size bytes (files.Load value rest) is = omega (
+  arith,
+  ap (λ (v : LoadFileValue). length (bytes_of (text v))) is.1,
+  ap (λ (xs : List ℕ). length xs) is.0.split,
+  length-append (bytes_of (text is.0.value)) is.0.rest,
+)
+whole_size bytes (files.Object value) is =
+    omega (arith, ap (λ (o : ObjectFileValue). length (bytes_of (object_text o))) is.1, ap (λ (xs : List ℕ). length xs) is.0.text_is)
+
+stripped_size : (strip : Bool) (file : HunkFile) → length (file_bytes (stripped_where strip file)) ≤ length (file_bytes file)
+stripped_size true (files.Load value rest) = load_shorter value
+stripped_size true (files.Object value) = object_shorter value
+stripped_size false file = omega arith
+
+-- no more is written than was read
+pub rewritten_size : (strip : Bool) (bytes : List ℕ) (file : HunkFile) → IsFileOf bytes file → length (file_bytes (stripped_where strip file)) ≤ length bytes
+rewritten_size strip bytes file is = omega (arith, whole_size bytes file is, stripped_size strip file)

@@ -1,0 +1,56 @@
+-- The status and the line of each fault.
+use Rattle.std.specs.Prelude.{◌||◌, ℕ, Bool, List, [], ◌++◌, ⊤, IsTrue, codes}
+use Rattle.std.specs.Fmt.{decimal}
+use Rattle.hunk_words.specs.declared.fault.Fault.{Fault}
+use Rattle.hunk_words.specs.declared.reason.Reason.{Reason}
+use Rattle.hunk_words.specs.declared.reason.Reason.TheVariants as reasons
+use Rattle.hunk_words.specs.Reasons.{name_of, number_of}
+use Rattle.hunk_scatter.specs.LoaderReasons.{between}
+use Rattle.hunk_commands.specs.declared.fault.RunFault.{RunFault}
+use Rattle.hunk_commands.specs.declared.fault.RunFault.TheVariants.{HexText, Memory, Read, Refused, Write}
+
+-- the exit status
+abbrev pub status_of : RunFault → ℕ
+status_of (Refused fault) = 1
+status_of HexText = 1
+status_of (Read place) = 3
+status_of (Write written) = 3
+status_of Memory = 4
+
+-- the hunk that has no base, where that is the reason
+abbrev pub hunk_of : Reason → List ℕ
+hunk_of (reasons.NoBase hunk) = codes " hunk " ++ decimal hunk
+hunk_of _ = []
+
+-- the line, without its end
+abbrev pub line_of : RunFault → List ℕ
+line_of (Refused fault) = codes "refused at byte " ++ decimal fault.place ++ codes ": " ++ name_of fault.reason
+    ++ codes " (" ++ decimal (number_of fault.reason) ++ codes ")" ++ hunk_of fault.reason
+line_of HexText = codes "hex text refused"
+line_of (Read place) = codes "reading failed at byte " ++ decimal place
+line_of (Write written) = codes "writing failed after " ++ decimal written ++ codes " bytes"
+line_of Memory = codes "out of memory"
+
+-- the output failed
+abbrev pub IsWrite : RunFault → Type 0
+IsWrite (Write written) = ⊤
+IsWrite _ = ⊥
+
+-- What a refusal is to a run: want of memory and a failed read are no faults of the input.
+abbrev pub refused_for : Reason → Fault → RunFault
+refused_for reasons.OutOfMemory refusal = Memory
+refused_for reasons.Read refusal = Read refusal.place
+refused_for reason refusal = Refused refusal
+
+abbrev pub refused_as : Fault → RunFault
+refused_as refusal = refused_for refusal.reason refusal
+
+-- a reason for which an input is refused: its longwords, its end, a limit, or a hunk without a base
+abbrev pub is_of_input : Reason → Bool
+is_of_input r = between 1 9 (number_of r) || between 11 24 (number_of r) || between 26 29 (number_of r)
+
+-- the faults of a load: reading, writing and memory, and the refusals of an input
+abbrev pub IsOfLoad : RunFault → Type 0
+IsOfLoad (Refused refusal) = IsTrue (is_of_input refusal.reason)
+IsOfLoad HexText = ⊥
+IsOfLoad _ = ⊤

@@ -1,0 +1,18 @@
+-- What was read of a source, and why it was not read to its end. Of the source a was left before and b is left now, where that is told.
+use Rattle.std.specs.Prelude.{◌≡◌, ℕ, List, Option, Bool, true, length, ⊤}
+use Rattle.std.specs.Io.KnownBytes.{Consumes}
+use Rattle.hunk_words.specs.declared.reason.Reason.TheVariants as reasons
+use Rattle.hunk_commands.specs.declared.fault.RunFault.{RunFault}
+use Rattle.hunk_commands.specs.declared.fault.RunFault.TheVariants as faults
+
+-- it gave so many bytes
+abbrev pub Gave : Option (List ℕ) → Option (List ℕ) → ℕ → Type 0
+Gave a b count = (bytes : List ℕ) × Consumes a b bytes × (length bytes ≡ count)
+
+-- why it was not read to its end in fewer than `most` bytes; `failed` is whether it failed
+abbrev pub ReadsInVain : RunFault → Option (List ℕ) → Option (List ℕ) → ℕ → Bool → Type 0
+ReadsInVain (faults.Refused refusal) a b most failed = (refusal.reason ≡ reasons.FileLimit) × (refusal.place ≡ most) × Gave a b most
+ReadsInVain (faults.Read place) a b most failed = (failed ≡ true) × Gave a b place
+ReadsInVain faults.Memory a b most failed = ⊤
+ReadsInVain (faults.Write written) a b most failed = ⊥
+ReadsInVain faults.HexText a b most failed = ⊥

@@ -1,0 +1,10 @@
+pub mod Engine
+pub mod Faults
+pub mod FileKinds
+pub mod HexText
+pub mod Inputs
+pub mod Output
+pub mod Relocating
+pub mod Rewritten
+pub mod Shown
+pub mod Validated

@@ -1,0 +1,22 @@
+//! What the commands of hunkinfo do, over any reader and writer: `show`, `validate`, `relocate` and
+//! `rewrite`, and hexadecimal text.
+#![tactic(auto)]
+
+mod fault;
+mod hex_text;
+mod hunk_file;
+mod input;
+mod relocating;
+mod rewriting;
+mod showing;
+#[cfg(test)]
+mod tests;
+mod validating;
+
+pub use crate::fault::{OUT_OF_MEMORY, RunFault};
+pub use crate::hex_text::unhex;
+pub use crate::input::read_whole;
+pub use crate::relocating::relocate;
+pub use crate::rewriting::{Rewritten, rewrite};
+pub use crate::showing::show;
+pub use crate::validating::validate;

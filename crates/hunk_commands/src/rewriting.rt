@@ -1,0 +1,66 @@
+//! `rewrite`: a file is read, and written again.
+ghost use Rattle.std.specs.Prelude.{◌≡◌, ◌<◌, ℕ, List, Some, false, true, length, IfOk, IfErr};
+ghost use Rattle.hunk_words.specs.declared.reason.Reason.TheVariants.{FileLimit};
+ghost use Rattle.hunk_scatter.specs.LoadOutcomes.{Gives};
+ghost use Rattle.hunk_commands.specs.declared.fault.RunFault.TheVariants.{Memory, Read, Refused, Write};
+ghost use Rattle.hunk_commands.specs.Engine.{RefusesOnly, Writes, WritesAll};
+ghost use Rattle.hunk_commands.specs.FileKinds.{AreFile};
+ghost use Rattle.hunk_commands.specs.Inputs.{Gave};
+ghost use Rattle.hunk_commands.specs.Output.{StopsOutput};
+ghost use Rattle.hunk_commands.specs.Rewritten.{IsRewriting, IsRewritten};
+
+use crate::fault::RunFault;
+use crate::hunk_file::HunkFile;
+use crate::input::read_whole;
+use hunk_words::{LongWriter, Sink, Source};
+use std::alloc::Global;
+
+/// What `rewrite` did.
+#[derive(Clone, Copy, Debug, PartialEq, Eq)]
+pub struct Rewritten {
+    /// The bytes that were written.
+    pub written: u64,
+    /// The bytes that follow the load file, which were left out.
+    pub rest: u64,
+}
+
+/// Reads the input to its end, and writes the object file that it is, or the load file that it
+/// begins with; where `strip` is set, without its NAME, SYMBOL, DEBUG and ADVISORY blocks.
+///
+/// `FileLimit` comes at `file_bytes` where so many bytes were read, before an end is looked for.
+/// Nothing is written before the file was accepted and all memory was given.
+pub fn rewrite<R: Source, W: Sink>(
+    alloc: Global,
+    r: &mut R,
+    w: &mut LongWriter<W>,
+    file_bytes: u64,
+    strip: bool,
+) -> Result<Rewritten, RunFault>
+    requires { w.old.written ≡ 0 }
+    ensures ok { IfOk result (λ done. WritesAll (IsRewritten strip done.rest)
+        (R.left r.old) (R.left r.new) file_bytes (W.taken w.old.sink) (W.taken w.new.sink) done.written) }
+    ensures written { IfOk result (λ done. done.written ≡ w.new.written) }
+    ensures succeeds { (input : List ℕ) → R.left r.old ≡ Some input → length input < file_bytes → AreFile input
+        → R.failed r.new ≡ false → W.failed w.new.sink ≡ false → IfErr result (λ fault. fault ≡ Memory) }
+
+    // After a fault of writing the first bytes of the file have gone out, and after another one nothing has.
+    ensures write { IfErr result (λ fault. (written : ℕ) → fault ≡ Write written →
+        (w.new.written ≡ written) × Writes (IsRewriting strip)
+        (R.left r.old) (R.left r.new) file_bytes (W.taken w.old.sink) (W.taken w.new.sink) written) }
+    ensures fails { IfErr result (StopsOutput W.taken W.failed w.old w.new) }
+
+    ensures within { (given : List ℕ) × Gives (R.left r.old) (R.left r.new) file_bytes given }
+    ensures limit { IfErr result (λ fault. (place : ℕ) → fault ≡ Refused (record { place = place; reason = FileLimit }) →
+        (place ≡ file_bytes) × Gave (R.left r.old) (R.left r.new) place) }
+    ensures read { IfErr result (λ fault. (place : ℕ) → fault ≡ Read place →
+        (R.failed r.new ≡ true) × Gave (R.left r.old) (R.left r.new) place) }
+    ensures refused { IfErr result (λ fault. RefusesOnly fault (R.left r.old) (R.left r.new) file_bytes) }
+{
+    let input = read_whole(alloc, r, file_bytes)?;
+    let file = HunkFile::decode(alloc, input.as_slice())?.strip_where(strip);
+    file.encode(w)?;
+    Ok(Rewritten {
+        written: w.written(),
+        rest: file.rest(),
+    })
+}

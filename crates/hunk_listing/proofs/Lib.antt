@@ -1,0 +1,4 @@
+mod BlockLaws
+mod Contents
+mod Lines
+mod RowLaws

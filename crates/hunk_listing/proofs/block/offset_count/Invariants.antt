@@ -1,0 +1,7 @@
+use Rattle.std.proofs.Common.{◌≡◌, ◌+◌, drop, map}
+use Rattle.hunk_blocks.specs.Views.{group_of}
+use Rattle.hunk_listing.specs.BlockLines.{offset_count}
+use Rattle.hunk_listing.proofs.block.offset_count.Given as goal
+
+abbrev pub invariant-groups : goal.invariant-groups
+invariant-groups l = l.count + offset_count (map group_of (drop l.i l.groups)) ≡ offset_count (map group_of l.groups)

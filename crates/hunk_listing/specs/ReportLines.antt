@@ -1,0 +1,32 @@
+-- The lines of a report: what a load file declares, and what is found in an object file.
+use Rattle.std.specs.Prelude.{ℕ, List, ◌++◌, length, codes, decimal}
+use Rattle.std.specs.List.{flat_map}
+use Rattle.hunk_files.specs.declared.object.check.Finding.{Finding}
+use Rattle.hunk_files.specs.declared.object.check.FindingKind.{FindingKind}
+use Rattle.hunk_files.specs.declared.object.check.FindingKind.TheVariants.{BadTarget, OutsideHunk}
+use Rattle.hunk_files.specs.LoadFile.{LoadFileValue}
+use Rattle.hunk_files.specs.ObjectFile.{ObjectFileValue}
+use Rattle.hunk_files.specs.Findings.{findings}
+use Rattle.hunk_listing.specs.Printed.{hexadecimal}
+use Rattle.hunk_listing.specs.FileLines.{load_head, rest_line}
+
+-- the first line of `show`, and its last where bytes follow the file
+abbrev pub load_summary : LoadFileValue → ℕ → List ℕ
+load_summary file rest = load_head file ++ rest_line rest
+
+abbrev pub finding_name : FindingKind → List ℕ
+finding_name BadTarget = codes "BadTarget"
+finding_name OutsideHunk = codes "OutsideHunk"
+
+-- `unit D hunk D offset X NAME`
+unfoldable pub finding_line : Finding → List ℕ
+finding_line finding =
+    codes "unit " ++ decimal finding.unit ++ codes " hunk " ++ decimal finding.hunk ++ codes " offset " ++ hexadecimal finding.offset
+    ++ codes " " ++ finding_name finding.fault ++ codes "\n"
+
+-- `object file D units D findings`
+unfoldable pub count_line : ℕ → ℕ → List ℕ
+count_line units count = codes "object file " ++ decimal units ++ codes " units " ++ decimal count ++ codes " findings\n"
+
+abbrev pub object_report : ObjectFileValue → List ℕ
+object_report file = flat_map finding_line (findings file) ++ count_line (length file) (length (findings file))

@@ -1,7 +1,0 @@
-use Rattle.std.proofs.Common.{◌≡◌, ◌+◌, drop, map}
-use Rattle.hunk_blocks.specs.Views.{group_of}
-use Rattle.hunkinfo.specs.BlockLines.{offset_count}
-use Rattle.hunkinfo.proofs.show.block.offset_count.Given as goal
-
-abbrev pub invariant-groups : goal.invariant-groups
-invariant-groups l = l.count + offset_count (map group_of (drop l.i l.groups)) ≡ offset_count (map group_of l.groups)

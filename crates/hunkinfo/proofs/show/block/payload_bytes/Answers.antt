@@ -1,5 +1,0 @@
-use Rattle.hunkinfo.proofs.BlockLaws.{payload_size}
-use Rattle.hunkinfo.proofs.show.block.payload_bytes.Goals as goal
-
-pub returns : goal.returns
-returns c = payload_size c.args.payload.now c.bytes.result.now c.bytes.ensures.value c.bytes.ensures.whole
