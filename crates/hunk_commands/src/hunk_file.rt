@@ -4,7 +4,7 @@ ghost use Rattle.hunk_words.specs.Puts.{Puts};
 ghost use Rattle.hunk_words.specs.declared.reason.Reason.TheVariants as reasons;
 ghost use Rattle.hunk_files.specs.Fault.{BeginsWithLoadFile};
 ghost use Rattle.hunk_commands.specs.declared.fault.RunFault.TheVariants.{Memory, Refused};
-ghost use Rattle.hunk_commands.specs.FileKinds.{AreFile, AreObjectFile, IsFileOf, IsLoadRefusal, IsObjectRefusal, RefusesAs, RefusesBytes, bytes_behind, file_bytes, stripped, stripped_where};
+ghost use Rattle.hunk_commands.specs.FileKinds.{AreFile, AreObjectFile, IsFileOf, IsLoadRefusal, IsObjectRefusal, RefusesAs, RefusesBytes, bytes_behind, file_bytes, stripped};
 
 use crate::fault::RunFault;
 use hunk_files::{LoadFile, ObjectFile, Sniff, sniff};
@@ -46,14 +46,8 @@ impl<'a> HunkFile<'a> {
         }
     }
 
-    /// The file without its NAME, SYMBOL, DEBUG and ADVISORY blocks where that is asked for.
-    pub(crate) fn strip_where(self, strip: bool) -> HunkFile<'a>
-        ensures { result ≡ stripped_where strip self.entry }
-    {
-        if strip { self.strip() } else { self }
-    }
-
-    fn strip(self) -> HunkFile<'a>
+    /// The file without its NAME, SYMBOL, DEBUG and ADVISORY blocks.
+    pub(crate) fn strip(self) -> HunkFile<'a>
         ensures { result ≡ stripped self.entry }
     {
         match self {

@@ -1,10 +1,11 @@
 //! `rewrite`: a file is read, and written again.
-ghost use Rattle.std.specs.Prelude.{◌≡◌, ◌<◌, ℕ, List, Some, false, true, length, IfOk, IfErr};
+ghost use Rattle.std.specs.Prelude.{◌≡◌, ◌+◌, ◌^◌, ◌<◌, ℕ, List, Some, false, true, length, IfOk, IfErr, OnOk, OnErr};
+ghost use Rattle.hunk_words.specs.Puts.{Puts};
 ghost use Rattle.hunk_words.specs.declared.reason.Reason.TheVariants.{FileLimit};
 ghost use Rattle.hunk_scatter.specs.LoadOutcomes.{Gives};
 ghost use Rattle.hunk_commands.specs.declared.fault.RunFault.TheVariants.{Memory, Read, Refused, Write};
 ghost use Rattle.hunk_commands.specs.Engine.{RefusesOnly, Writes, WritesAll};
-ghost use Rattle.hunk_commands.specs.FileKinds.{AreFile};
+ghost use Rattle.hunk_commands.specs.FileKinds.{AreFile, IsFileOf, file_bytes, stripped_where};
 ghost use Rattle.hunk_commands.specs.Inputs.{Gave};
 ghost use Rattle.hunk_commands.specs.Output.{StopsOutput};
 ghost use Rattle.hunk_commands.specs.Rewritten.{IsRewriting, IsRewritten};
@@ -12,7 +13,7 @@ ghost use Rattle.hunk_commands.specs.Rewritten.{IsRewriting, IsRewritten};
 use crate::fault::RunFault;
 use crate::hunk_file::HunkFile;
 use crate::input::read_whole;
-use hunk_words::{LongWriter, Sink, Source};
+use hunk_words::{LongWriter, Sink, Source, WriteFault};
 use std::alloc::Global;
 
 /// What `rewrite` did.
@@ -57,10 +58,31 @@ pub fn rewrite<R: Source, W: Sink>(
     ensures refused { IfErr result (λ fault. RefusesOnly fault (R.left r.old) (R.left r.new) file_bytes) }
 {
     let input = read_whole(alloc, r, file_bytes)?;
-    let file = HunkFile::decode(alloc, input.as_slice())?.strip_where(strip);
-    file.encode(w)?;
+    let file = HunkFile::decode(alloc, input.as_slice())?;
+    let rest = file.rest();
+    put_file(w, file, input.as_slice(), strip)?;
     Ok(Rewritten {
         written: w.written(),
-        rest: file.rest(),
+        rest,
     })
+}
+
+// Writes the file that the input is, or begins with. Where nothing is stripped, its text is what was read.
+fn put_file<W: Sink>(
+    w: &mut LongWriter<W>,
+    file: HunkFile<'_>,
+    input: &[u8],
+    strip: bool,
+) -> Result<(), WriteFault>
+    requires file { IsFileOf input.now file }
+    requires room { w.old.written + length input.now < 2 ^ 64 }
+    ensures puts { Puts (W.taken w.old.sink) (W.taken w.new.sink) w.old.written w.new.written (file_bytes (stripped_where strip file.entry)) }
+    ensures whole { OnOk result (w.new.written ≡ w.old.written + length (file_bytes (stripped_where strip file.entry))) }
+    ensures told { IfErr result (λ fault. fault.written ≡ w.new.written) }
+    ensures failed { OnErr result (W.failed w.new.sink ≡ true) }
+{
+    if strip {
+        return file.strip().encode(w);
+    }
+    w.put_bytes(&input[..input.len() - file.rest() as usize])
 }
