@@ -8,8 +8,12 @@ use std::io;
 use std::io::{BufRead, Empty, Lines, Read, Seek, SeekFrom, Write};
 use std::rt::Files;
 
-/// A runtime whose standard input and whose files all give the same bytes, and where `fails` is set
-/// fail once those are given. The file `missing` can't be opened, and the file `full` takes 6 bytes.
+/// What the file `other` gives: a load file of one hunk, whose code is 4E754E71 4E714E75.
+pub(super) const OTHER: &[u8; 44] = b"\0\0\x03\xF3\0\0\0\0\0\0\0\x01\0\0\0\0\0\0\0\0\0\0\0\x02\
+    \0\0\x03\xE9\0\0\0\x02\x4E\x75\x4E\x71\x4E\x71\x4E\x75\0\0\x03\xF2";
+
+/// A runtime whose standard input and whose files but `other` give the same bytes, and where `fails` is
+/// set fail once those are given. The file `missing` can't be opened, and the file `full` takes 6 bytes.
 #[derive(Drop)]
 pub(super) struct Made<'a> {
     pub bytes: &'a [u8],
@@ -103,6 +107,9 @@ impl<'a> Files for Made<'a> {
         let mut tape = self.reader();
         if path == "full" {
             tape.room = 6;
+        }
+        if path == "other" {
+            tape.rest = OTHER.as_slice();
         }
         Ok(tape)
     }

@@ -324,6 +324,32 @@ fn rewrites(rt: HostRuntime) -> Result<(), Fail> {
     Ok(())
 }
 
+#[test]
+fn reads_the_file_that_is_named(rt: HostRuntime) -> Result<(), Fail> {
+    let bytes = unhex(rt.alloc(), EXAMPLE.as_bytes())?;
+    let made = giving(bytes.as_slice());
+    let listing = "load file 1 hunks 8 bytes\nhunk 0 8 bytes any\n  CODE 8 bytes\n  END\n";
+    for (line, want, status_wanted) in [
+        ("hunkinfo show other", listing, 0),
+        ("hunkinfo validate other", "load file 1 hunks 8 bytes\n", 0),
+        ("hunkinfo validate", "load file 1 hunks 4 bytes\n", 0),
+        (
+            "hunkinfo relocate --base 00000000 other",
+            "hunk 0 base 0x00000000 8 bytes\n  4e754e714e714e75\n",
+            0,
+        ),
+        ("hunkinfo show --hex other", "hex text refused\n", 1),
+        ("hunkinfo rewrite other b", "wrote 44 bytes\n", 0),
+        ("hunkinfo rewrite a other", "wrote 40 bytes\n", 0),
+        ("hunkinfo rewrite --strip other b", "wrote 44 bytes\n", 0),
+    ] {
+        let (status, text) = ran(rt.alloc(), &made, ANY, line)?;
+        assert_eq!(rt; text.as_str(), want, "at {line}");
+        assert_eq!(rt; status, status_wanted, "at {line}");
+    }
+    Ok(())
+}
+
 // A fault of the input comes before any of the output, which is not opened then.
 #[test]
 fn refuses_before_opening_the_output(rt: HostRuntime) -> Result<(), Fail> {
