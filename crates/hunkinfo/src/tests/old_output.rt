@@ -19,7 +19,7 @@ fn keeps_an_old_output(rt: HostRuntime) -> Result<(), Fail> {
     let file = unhex(rt.alloc(), FILE.as_bytes())?;
     let damaged = unhex(rt.alloc(), DAMAGED.as_bytes())?;
     let old = b"an old file that is longer than the one that takes its place";
-    let (input, output) = ("/tmp/hunkinfo-test-in", "/tmp/hunkinfo-test-out");
+    let (input, output) = ("hunkinfo-test.in", "hunkinfo-test.out");
     for (bytes, want, status_wanted) in [
         // A refused IN leaves OUT as it was.
         (b"\0\0\x03\xF3".as_slice(), old.as_slice(), 1),
