@@ -114,21 +114,18 @@ at_end false later o = absurd o
 
 unknown_passes : (has_content advisory : Bool) (k : Kind) → IsTrue (is_unknown k) → IsTrue advisory → refuse_kind has_content advisory k ≡ None
 unknown_passes has_content advisory (kinds.Unknown n) u a = passes_then advisory None (Some reasons.UnknownBlock) a
-unknown_passes has_content advisory kinds.Unit u a = absurd cc
 unknown_passes has_content advisory _ u a = absurd cc
 
 kind_passes : (has_content : Bool) (word : ℕ) (body : BlockBody) (later : List Standing) → FitsWord word body → IsOfLoad word body →
     AreInOrder has_content (standing body ∷ later) → refuse_kind has_content (is_advisory word) (kind word) ≡ None
-kind_passes has_content word (Name ws) later h m o = rw h.0 refl
 kind_passes has_content word (Code top ws) later h m o = rw h.0 (passes_else has_content (Some reasons.SecondContent) None (not_yet has_content later o))
 kind_passes has_content word (Data top ws) later h m o = rw h.0 (passes_else has_content (Some reasons.SecondContent) None (not_yet has_content later o))
 kind_passes has_content word (Bss size) later h m o = rw h.0 (passes_else has_content (Some reasons.SecondContent) None (not_yet has_content later o))
 kind_passes has_content word (Reloc gs) later h m o = rw m (passes_then has_content None (Some reasons.BeforeContent) (already has_content later o))
 kind_passes has_content word (Ext es) later h m o = absurd m
-kind_passes has_content word (Symbol es) later h m o = rw h.0 refl
-kind_passes has_content word (Debug ws) later h m o = rw h.0 refl
 kind_passes has_content word (Advisory ws) later h m o = unknown_passes has_content (is_advisory word) (kind word) h.0 h.1
 kind_passes has_content word End later h m o = rw h (passes_then has_content None (Some reasons.NoContent) (at_end has_content later o))
+kind_passes has_content word _ later h m o = rw h.0 refl
 
 block_passes : (p : Place) (b : BlockValue) (later : List Standing) → IsHunkBlock p.hunks p.longs b → AreInOrder p.has_content (standing b.body ∷ later) → PartsPass p (block_parts b)
 block_passes p b later h o = (
@@ -149,13 +146,11 @@ module _ (hunks longs : ℕ) where
   rest_passes : (s : Standing) (has_content : Bool) (more : List BlockValue) → AreInOrder has_content (s ∷ standings more) → RestPasses more → AreAccepted (blocks_labelled hunks longs (has_content || is_content s) more)
   rest_passes Beside true more o rest = rest true o
   rest_passes Beside false more o rest = rest false o
-  rest_passes Content true more o rest = absurd o
   rest_passes Content false more o rest = rest true o
   rest_passes Relocating true more o rest = rest true o
-  rest_passes Relocating false more o rest = absurd o
   rest_passes Ending true [] o rest = tt
   rest_passes Ending true (c ∷ more) o rest = absurd cc
-  rest_passes Ending false more o rest = absurd o
+  rest_passes _ _ more o rest = absurd o
 
   blocks_accepted : (more : List BlockValue) → AllByRecursion (IsHunkBlock hunks longs) more → RestPasses more
   blocks_accepted [] h has_content o = tt

@@ -54,11 +54,8 @@ same_long s t p e same =
     get_or-take 4 (drop p s) i 0 less ∙ get_or-drop p s i 0 ∙ same (p + i) (omega arith) (omega arith) ∙ sym (get_or-take 4 (drop p t) i 0 less ∙ get_or-drop p t i 0))
 
 pub bytes_of_word : (x : ℕ) → IsBytes (to_be_bytes w32 x)
-bytes_of_word x zero = omega arith
-bytes_of_word x (suc zero) = omega arith
-bytes_of_word x (suc (suc zero)) = omega arith
-bytes_of_word x (suc (suc (suc zero))) = omega arith
 bytes_of_word x (suc (suc (suc (suc i)))) = omega arith
+bytes_of_word x _ = omega arith
 
 pub bytes_in_long : (s : List ℕ) (p : ℕ) → IsBytes s → IsBytes (take 4 (drop p s))
 bytes_in_long s p h i =

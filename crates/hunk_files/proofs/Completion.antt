@@ -178,17 +178,11 @@ closes p word (InPayload f done owed) h = record {
   where
     same : (g : Filling) (ws : List ℕ) → is_content (standing (filled_body g ws)) ≡ filling_content g
     same (Counted ForName) ws = refl
-    same (Counted ForDebug) ws = refl
-    same (Counted ForAdvisory) ws = refl
-    same (SizedCode top) ws = refl
-    same (SizedData top) ws = refl
+    same _ ws = refl
 
     more : (g : Filling) (ws : List ℕ) → standing (filled_body g ws) ≢ Ending
     more (Counted ForName) ws e = cc
-    more (Counted ForDebug) ws e = cc
-    more (Counted ForAdvisory) ws e = cc
-    more (SizedCode top) ws e = cc
-    more (SizedData top) ws e = cc
+    more _ ws e = cc
 closes p word (AtGroup groups) h = record { body = Reloc groups; run = (refl, refl); content = refl; goes_on = λ e. cc }
 closes p word (AtTarget groups owed) h = record {
   body = Reloc (groups ++ group 0 (zeros (suc owed)) ∷ []);

@@ -288,9 +288,8 @@ zero_or_limit w ok =
 
 first_passes : {A : Type 0} (a b c : Bool) (r s t : A) → cond a None (cond b (Some r) (cond c (Some s) (Some t))) ≡ None → a ≡ true
 first_passes true b c r s t e = refl
-first_passes false true c r s t e = absurd cc
 first_passes false false true r s t e = absurd cc
-first_passes false false false r s t e = absurd cc
+first_passes _ _ _ r s t e = absurd cc
 
 is_header_word : (w : ℕ) → refuse roles.FirstLong w ≡ None → 0x3F3 ≡ w
 is_header_word w ok = sym (eqb-true w 0x3F3 (first_passes (eqb w 0x3F3) (eqb w 0x3E7) (eqb w 0x3FA) reasons.IsObject reasons.Library reasons.NotLoadFile ok))

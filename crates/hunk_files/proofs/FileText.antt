@@ -71,13 +71,11 @@ module _ (hunks : ℕ) (finished : List HunkValue) (entry : TableEntry) (ahead :
       Leads (close_by (at done has_content) b s) (labels (has_content || is_content s) more) (behind (done ++ b ∷ more))
   block_closed Beside true done b more o reads = one_more true done b more o reads
   block_closed Beside false done b more o reads = one_more false done b more o reads
-  block_closed Content true done b more o reads = absurd o
   block_closed Content false done b more o reads = one_more true done b more o reads
   block_closed Relocating true done b more o reads = one_more true done b more o reads
-  block_closed Relocating false done b more o reads = absurd o
   block_closed Ending true done b [] o reads = refl
   block_closed Ending true done b (c ∷ more) o reads = absurd cc
-  block_closed Ending false done b more o reads = absurd o
+  block_closed _ _ done b more o reads = absurd o
 
   pub blocks_lead : (more : List BlockValue) → AllByRecursion (IsHunkBlock hunks (size_longs entry.word)) more → AreRead more
   blocks_lead [] h has_content done o = absurd o

@@ -80,17 +80,12 @@ body_fits word (Symbol es) h n rest has f o = omega (arith, rest has (n + 0) o)
 body_fits word (Debug ws) h n rest has f o = omega (arith, rest has (n + 0) o)
 body_fits word (Advisory ws) h n rest has f o = omega (arith, rest has (n + 0) o)
 body_fits word (Reloc gs) h n rest true f o = omega (arith, rest true (n + 0) o)
-body_fits word (Reloc gs) h n rest false f o = absurd o
 body_fits word (Ext es) h n rest true f o = omega (arith, rest true (n + 0) o)
-body_fits word (Ext es) h n rest false f o = absurd o
 body_fits word End h n rest true f o = omega (arith, nothing_behind h (n + 0) o)
-body_fits word End h n rest false f o = absurd o
-body_fits word (Code top ws) h n rest true f o = absurd o
 body_fits word (Code top ws) h n rest false f o = omega (arith, f.2.0, rest true (n + length ws) o)
-body_fits word (Data top ws) h n rest true f o = absurd o
 body_fits word (Data top ws) h n rest false f o = omega (arith, f.2.0, rest true (n + length ws) o)
-body_fits word (Bss size) h n rest true f o = absurd o
 body_fits word (Bss size) h n rest false f o = omega (arith, rest true (n + size_longs size) o)
+body_fits word _ h n rest _ f o = absurd o
 
 -- what stands beside the content block has no content, and only one block has
 longs_fit : (h : ObjectHunk) (has : Bool) (n : ℕ) → AllByRecursion IsBlock h → AreInOrder has (map (λ b. standing b.body) h) → longs_from h n < n + most_longs has

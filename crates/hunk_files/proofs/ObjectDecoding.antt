@@ -152,10 +152,7 @@ place_own true Content reason e = let same : reasons.SecondContent ≡ reason = 
 place_own false Relocating reason e = let same : reasons.BeforeContent ≡ reason = cc in subst (λ (x : Reason). IsTrue (is_object_refusal x)) same refl
 place_own false Ending reason e = let same : reasons.NoContent ≡ reason = cc in subst (λ (x : Reason). IsTrue (is_object_refusal x)) same refl
 place_own true Beside reason e = absurd cc
-place_own true Relocating reason e = absurd cc
-place_own true Ending reason e = absurd cc
-place_own false Beside reason e = absurd cc
-place_own false Content reason e = absurd cc
+place_own _ _ reason e = absurd cc
 
 pub block_own : (reason : Reason) → IsTrue (is_block_refusal reason) → reason ≢ reasons.NotInLoadFile → IsTrue (is_object_refusal reason)
 block_own reasons.NotInLoadFile h ne = absurd (ne refl)
@@ -204,44 +201,30 @@ All-more P (y ∷ xs) x h k = (h.0, All-more P xs x h.1 k)
 leads_one : (has : Bool) (s : Standing) → refuse_standing has s ≡ None → is_ending s ≡ false → Leads has (s ∷ []) (has || is_content s)
 leads_one true Beside ok no_end = refl
 leads_one false Beside ok no_end = refl
-leads_one true Content ok no_end = absurd cc
 leads_one false Content ok no_end = refl
 leads_one true Relocating ok no_end = refl
-leads_one false Relocating ok no_end = absurd cc
-leads_one true Ending ok no_end = absurd cc
-leads_one false Ending ok no_end = absurd cc
+leads_one _ _ ok no_end = absurd cc
 
 leads_more : (a b c : Bool) (xs ys : List Standing) → Leads a xs b → Leads b ys c → Leads a (xs ++ ys) c
 leads_more a b c [] ys h k = subst (λ (x : Bool). Leads x ys c) (sym h) k
 leads_more true b c (Beside ∷ xs) ys h k = leads_more true b c xs ys h k
 leads_more false b c (Beside ∷ xs) ys h k = leads_more false b c xs ys h k
 leads_more false b c (Content ∷ xs) ys h k = leads_more true b c xs ys h k
-leads_more true b c (Content ∷ xs) ys h k = absurd h
 leads_more true b c (Relocating ∷ xs) ys h k = leads_more true b c xs ys h k
-leads_more false b c (Relocating ∷ xs) ys h k = absurd h
-leads_more true b c (Ending ∷ xs) ys h k = absurd h
-leads_more false b c (Ending ∷ xs) ys h k = absurd h
+leads_more _ b c (_ ∷ xs) ys h k = absurd h
 
 pub leads_end : (a b : Bool) (xs ys : List Standing) → Leads a xs b → AreInOrder b ys → AreInOrder a (xs ++ ys)
 leads_end a b [] ys h k = subst (λ (x : Bool). AreInOrder x ys) (sym h) k
 leads_end true b (Beside ∷ xs) ys h k = leads_end true b xs ys h k
 leads_end false b (Beside ∷ xs) ys h k = leads_end false b xs ys h k
 leads_end false b (Content ∷ xs) ys h k = leads_end true b xs ys h k
-leads_end true b (Content ∷ xs) ys h k = absurd h
 leads_end true b (Relocating ∷ xs) ys h k = leads_end true b xs ys h k
-leads_end false b (Relocating ∷ xs) ys h k = absurd h
-leads_end true b (Ending ∷ xs) ys h k = absurd h
-leads_end false b (Ending ∷ xs) ys h k = absurd h
+leads_end _ b (_ ∷ xs) ys h k = absurd h
 
 end_stands : (has : Bool) (s : Standing) → refuse_standing has s ≡ None → is_ending s ≡ true → AreInOrder has (s ∷ [])
 end_stands true Ending ok e = refl
 end_stands false Ending ok e = absurd cc
-end_stands true Beside ok e = absurd cc
-end_stands false Beside ok e = absurd cc
-end_stands true Content ok e = absurd cc
-end_stands false Content ok e = absurd cc
-end_stands true Relocating ok e = absurd cc
-end_stands false Relocating ok e = absurd cc
+end_stands _ _ ok e = absurd cc
 
 module _ (bytes : List ℕ) (bs : ObjectHunk) (has : Bool) (at : ℕ) (h : HunkSoFar bytes bs has at) (b : BlockValue) (size : ℕ) (r : BeginsWithBlock modes.Object (drop at bytes) b size) (ok : refuse_standing has (standing b.body) ≡ None) where
   pub text_with : BeginsWithText bytes (flat_map block_text (bs ++ b ∷ [])) (at + size)
@@ -294,21 +277,14 @@ left_of (b ∷ bs) (c ∷ cs) a has x y hb hc leads order e =
     go true Beside l o all = all true l o
     go false Beside l o all = all false l o
     go false Content l o all = all true l o
-    go true Content l o all = absurd l
     go true Relocating l o all = all true l o
-    go false Relocating l o all = absurd l
-    go true Ending l o all = absurd l
-    go false Ending l o all = absurd l
+    go _ _ l o all = absurd l
 
 first_stands : (has : Bool) (s : Standing) (rest : List Standing) → AreInOrder has (s ∷ rest) → refuse_standing has s ≡ None
-first_stands true Beside rest o = refl
-first_stands false Beside rest o = refl
-first_stands false Content rest o = refl
 first_stands true Content rest o = absurd o
-first_stands true Relocating rest o = refl
 first_stands false Relocating rest o = absurd o
-first_stands true Ending rest o = refl
 first_stands false Ending rest o = absurd o
+first_stands _ _ rest o = refl
 
 pub no_hunk : (bytes : List ℕ) (bs : ObjectHunk) (has : Bool) (at : ℕ) → HunkSoFar bytes bs has at → BeginsWithNo (MayStand has) block_text (longs (drop at bytes)) → BeginsWithNo IsObjectHunk (flat_map block_text) (longs bytes)
 no_hunk bytes bs has at h none k is more e =

@@ -37,15 +37,7 @@ items o = flat_map unit_items o
 
 no_unit : (word : ℕ) (body : BlockBody) → FitsWord word body → kind word ≡ kinds.Unit → ⊥
 no_unit word (Name ws) h e = cc
-no_unit word (Code top ws) h e = cc
-no_unit word (Data top ws) h e = cc
-no_unit word (Bss size) h e = cc
-no_unit word (Reloc gs) h e = cc
-no_unit word (Ext es) h e = cc
-no_unit word (Symbol es) h e = cc
-no_unit word (Debug ws) h e = cc
-no_unit word (Advisory ws) h e = cc
-no_unit word End h e = cc
+no_unit word _ h e = cc
 
 unit_kind : kind unit_word ≡ kinds.Unit
 unfolding kind
@@ -84,12 +76,11 @@ item_same (Block a) (Block b) more other ha hb e =
 items_same : (xs ys : List Item) → AllByRecursion IsItem xs → AllByRecursion IsItem ys → flat_map item_text xs ≡ flat_map item_text ys → xs ≡ ys
 items_same [] [] hx hy e = refl
 items_same [] (Header name ∷ ys) hx hy e = absurd cc
-items_same [] (Block b ∷ ys) hx hy e = absurd cc
 items_same (Header name ∷ xs) [] hx hy e = absurd cc
-items_same (Block b ∷ xs) [] hx hy e = absurd cc
 items_same (x ∷ xs) (y ∷ ys) hx hy e =
     let same = item_same x y (flat_map item_text xs) (flat_map item_text ys) hx.0 hy.0 e in
     ap₂ (λ (z : Item) (zs : List Item). z ∷ zs) same.0 (items_same xs ys hx.1 hy.1 same.1)
+items_same _ _ hx hy e = absurd cc
 
 -- ---- the items determine the value
 
@@ -124,16 +115,14 @@ group_hunk has_content (b ∷ more) rest o = go (standing b.body) has_content o 
         grouped (before s b (group (blocks_items more ++ rest)).hunks) (group (blocks_items more ++ rest)).units ≡ grouped ((b ∷ more) ∷ (group rest).hunks) (group rest).units
     go Beside true o all = ap (λ (g : Grouped). grouped (before Beside b g.hunks) g.units) (all true o)
     go Beside false o all = ap (λ (g : Grouped). grouped (before Beside b g.hunks) g.units) (all false o)
-    go Content true o all = absurd o
     go Content false o all = ap (λ (g : Grouped). grouped (before Content b g.hunks) g.units) (all true o)
     go Relocating true o all = ap (λ (g : Grouped). grouped (before Relocating b g.hunks) g.units) (all true o)
-    go Relocating false o all = absurd o
     go Ending true o all = last more o
       where
         last : (bs : List BlockValue) → standings bs ≡ [] → grouped ((b ∷ []) ∷ (group (blocks_items bs ++ rest)).hunks) (group (blocks_items bs ++ rest)).units ≡ grouped ((b ∷ bs) ∷ (group rest).hunks) (group rest).units
         last [] e = refl
         last (c ∷ bs) e = absurd cc
-    go Ending false o all = absurd o
+    go _ _ o all = absurd o
 
 group_hunks : (hs : List ObjectHunk) (rest : List Item) → AllByRecursion IsObjectHunk hs → group (flat_map blocks_items hs ++ rest) ≡ grouped (hs ++ (group rest).hunks) (group rest).units
 group_hunks [] rest all = refl

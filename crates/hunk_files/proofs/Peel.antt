@@ -57,17 +57,12 @@ ends_by has w b ys h more = go has b ys h more
     go has (Debug words) ys h more = beside (Debug words) ys refl (more has h)
     go has (Advisory words) ys h more = beside (Advisory words) ys refl (more has h)
     go false (Code top words) ys h more = beside (Code top words) ys refl (more true h)
-    go true (Code top words) ys h more = absurd h
     go false (Data top words) ys h more = beside (Data top words) ys refl (more true h)
-    go true (Data top words) ys h more = absurd h
     go false (Bss size) ys h more = beside (Bss size) ys refl (more true h)
-    go true (Bss size) ys h more = absurd h
     go true (Reloc gs) ys h more = beside (Reloc gs) ys refl (more true h)
-    go false (Reloc gs) ys h more = absurd h
     go true (Ext es) ys h more = beside (Ext es) ys refl (more true h)
-    go false (Ext es) ys h more = absurd h
     go true End ys h more = last ys h
-    go false End ys h more = absurd h
+    go _ _ ys h more = absurd h
 
 order_ends : (has : Bool) (ys : List BlockValue) → AreInOrder has (standings ys) → EndsOnce ys
 order_ends has [] h = h

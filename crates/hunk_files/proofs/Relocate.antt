@@ -68,15 +68,7 @@ group_fits hunks longs g h = All-map (IsInside longs) (λ (p : ℕ × ℕ). (p.0
 
 block_fits : (hunks longs : ℕ) (w : ℕ) (b : BlockBody) → IsHunkBlock hunks longs (record { word = w; body = b }) → IsRelocatable (4 * longs) hunks (block_relocations b)
 block_fits hunks longs w (Reloc groups) h = All-flat_map (FitsGroup hunks longs) (λ (p : ℕ × ℕ). (p.0 + 4 ≤ 4 * longs) × (p.1 < hunks)) group_relocations (group_fits hunks longs) groups h.fits
-block_fits hunks longs w (Name words) h = tt
-block_fits hunks longs w (Code top words) h = tt
-block_fits hunks longs w (Data top words) h = tt
-block_fits hunks longs w (Bss size) h = tt
-block_fits hunks longs w (Ext entries) h = tt
-block_fits hunks longs w (Symbol entries) h = tt
-block_fits hunks longs w (Debug words) h = tt
-block_fits hunks longs w (Advisory words) h = tt
-block_fits hunks longs w End h = tt
+block_fits hunks longs w _ h = tt
 
 -- of all relocations of a hunk
 pub hunk_fits : (hunks : ℕ) (h : HunkValue) → IsHunk hunks h → IsRelocatable (4 * declared_longs h) hunks (relocations h)
@@ -103,21 +95,16 @@ content_by hunks longs has w (Symbol entries) bs h o more none = more has o
 content_by hunks longs has w (Debug words) bs h o more none = more has o
 content_by hunks longs has w (Advisory words) bs h o more none = more has o
 content_by hunks longs false w (Code top words) bs h o more none = omega (arith, length-append (bytes_of words) (contents bs), length-bytes_of words, h.fits, more true o)
-content_by hunks longs true w (Code top words) bs h o more none = absurd o
 content_by hunks longs false w (Data top words) bs h o more none = omega (arith, length-append (bytes_of words) (contents bs), length-bytes_of words, h.fits, more true o)
-content_by hunks longs true w (Data top words) bs h o more none = absurd o
 content_by hunks longs false w (Bss size) bs h o more none = omega (arith, more true o)
-content_by hunks longs true w (Bss size) bs h o more none = absurd o
 content_by hunks longs true w (Reloc groups) bs h o more none = more true o
-content_by hunks longs false w (Reloc groups) bs h o more none = absurd o
 content_by hunks longs true w (Ext entries) bs h o more none = more true o
-content_by hunks longs false w (Ext entries) bs h o more none = absurd o
 content_by hunks longs true w End bs h o more none = omega (arith, none (no_more bs o))
   where
     no_more : (bs : List BlockValue) → standings bs ≡ [] → bs ≡ []
     no_more [] e = refl
     no_more (x ∷ bs) e = absurd cc
-content_by hunks longs false w End bs h o more none = absurd o
+content_by hunks longs _ w _ bs h o more none = absurd o
 
 contents_fit : (hunks longs : ℕ) (has : Bool) (bs : List BlockValue) → AllByRecursion (IsHunkBlock hunks longs) bs → AreInOrder has (standings bs) → length (contents bs) ≤ limit has longs
 contents_fit hunks longs has [] h o = absurd o

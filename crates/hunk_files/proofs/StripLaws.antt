@@ -132,17 +132,12 @@ in_order_by has w (Symbol entries) bs kept more none h = more has h
 in_order_by has w (Debug words) bs kept more none h = more has h
 in_order_by has w (Advisory words) bs kept more none h = more has h
 in_order_by false w (Code top words) bs kept more none h = more true h
-in_order_by true w (Code top words) bs kept more none h = absurd h
 in_order_by false w (Data top words) bs kept more none h = more true h
-in_order_by true w (Data top words) bs kept more none h = absurd h
 in_order_by false w (Bss size) bs kept more none h = more true h
-in_order_by true w (Bss size) bs kept more none h = absurd h
 in_order_by true w (Reloc groups) bs kept more none h = more true h
-in_order_by false w (Reloc groups) bs kept more none h = absurd h
 in_order_by true w (Ext entries) bs kept more none h = more true h
-in_order_by false w (Ext entries) bs kept more none h = absurd h
 in_order_by true w End bs kept more none h = ap standings (none (no_more bs h))
-in_order_by false w End bs kept more none h = absurd h
+in_order_by _ w _ bs kept more none h = absurd h
 
 order_kept : (has : Bool) (bs : List BlockValue) → AreInOrder has (standings bs) → AreInOrder has (standings (strip_blocks bs))
 order_kept has [] h = h

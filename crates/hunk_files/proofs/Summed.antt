@@ -200,15 +200,7 @@ groups_inside hunks longs (g ∷ gs) h = inside_append (4 * longs) (group_reloca
 
 block_inside : (hunks longs w : ℕ) (b : BlockBody) → IsHunkBlock hunks longs (record { word = w; body = b }) → AreInside (4 * longs) (block_relocations b)
 block_inside hunks longs w (Reloc groups) h = groups_inside hunks longs groups h.fits
-block_inside hunks longs w (Name words) h = tt
-block_inside hunks longs w (Code top words) h = tt
-block_inside hunks longs w (Data top words) h = tt
-block_inside hunks longs w (Bss size) h = tt
-block_inside hunks longs w (Ext entries) h = tt
-block_inside hunks longs w (Symbol entries) h = tt
-block_inside hunks longs w (Debug words) h = tt
-block_inside hunks longs w (Advisory words) h = tt
-block_inside hunks longs w End h = tt
+block_inside hunks longs w _ h = tt
 
 blocks_inside : (hunks longs : ℕ) (bs : List BlockValue) → AllByRecursion (IsHunkBlock hunks longs) bs → AreInside (4 * longs) (flat_map (λ b. block_relocations b.body) bs)
 blocks_inside hunks longs [] h = tt

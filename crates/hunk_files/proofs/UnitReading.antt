@@ -86,15 +86,7 @@ unit_kind = refl
 
 pub no_kind : (word : ℕ) (body : BlockBody) → FitsWord word body → kind word ≡ kinds.Unit → ⊥
 no_kind word (Name ws) h e = cc
-no_kind word (Code top ws) h e = cc
-no_kind word (Data top ws) h e = cc
-no_kind word (Bss size) h e = cc
-no_kind word (Reloc gs) h e = cc
-no_kind word (Ext es) h e = cc
-no_kind word (Symbol es) h e = cc
-no_kind word (Debug ws) h e = cc
-no_kind word (Advisory ws) h e = cc
-no_kind word End h e = cc
+no_kind word _ h e = cc
 
 -- a hunk does not
 no_unit : (h : ObjectHunk) (x y : List ℕ) → IsObjectHunk h → StartsUnit y → flat_map block_text h ++ x ≡ y → ⊥
@@ -124,11 +116,9 @@ hunk_rest (b ∷ bs) (c ∷ cs) has x y hb hc ob oc e =
     go true Beside p q t all = all true p q
     go false Beside p q t all = all false p q
     go false Content p q t all = all true p q
-    go true Content p q t all = absurd p
     go true Relocating p q t all = all true p q
-    go false Relocating p q t all = absurd p
     go true Ending p q t all = last bs cs p q t
-    go false Ending p q t all = absurd p
+    go _ _ p q t all = absurd p
 
 pub record HunksLeft (x y : List ℕ) : Type 0 where
   pub hunks : List ObjectHunk

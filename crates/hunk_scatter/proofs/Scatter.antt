@@ -19,7 +19,7 @@ use Rattle.hunk_files.specs.FileSteps.{hunk, block, OpenHunk, Progress, AtBlock,
 use Rattle.hunk_files.proofs.FileProgress.{ProgressFits, IsAdmitted, kind_admitted}
 use Rattle.hunk_files.proofs.HunkProgress as blocks
 use Rattle.hunk_blocks.proofs.Lists.{All-more, flat_map-more, passed_true, passed_false}
-use Rattle.hunk_files.proofs.Memory.{adds_bytes, adds_pairs, step_adds_bytes, step_adds_pairs, offset_adds, end_is_image}
+use Rattle.hunk_files.proofs.Memory.{adds_bytes, adds_pairs, step_has, offset_adds, end_is_image}
 use Rattle.hunk_files.specs.OpenSegment.{segment_so_far, bytes_so_far, pairs_so_far, bytes_in, pairs_in}
 use Rattle.hunk_scatter.specs.StoreContent.{zeros, IsSized, images, Holds, StoreHolds, put_at, stored_in, stored}
 use Rattle.hunk_files.specs.ReaderPosition.{position_of, open_of, block_phase}
@@ -52,8 +52,8 @@ same_parts bases o n m e d =
 nothing_added : (bases : List ℕ) (o : OpenHunk) (x : Inside) (w : ℕ) → adds_bytes x w ≡ [] → adds_pairs x w ≡ [] → segment_so_far bases o (step_inside x w) ≡ segment_so_far bases o (Open x)
 nothing_added bases o x w e d =
     same_parts bases o (Open x) (step_inside x w)
-    (step_adds_bytes x w ∙ ap (λ (bs : List ℕ). bytes_in x ++ bs) e ∙ append-nil (bytes_in x))
-    (step_adds_pairs x w ∙ ap (λ (ps : List (ℕ × ℕ)). pairs_in x ++ ps) d ∙ append-nil (pairs_in x))
+    ((step_has x w).0 ∙ ap (λ (bs : List ℕ). bytes_in x ++ bs) e ∙ append-nil (bytes_in x))
+    ((step_has x w).1 ∙ ap (λ (ps : List (ℕ × ℕ)). pairs_in x ++ ps) d ∙ append-nil (pairs_in x))
 
 -- ---- a segment in which four bytes are replaced
 
@@ -139,14 +139,14 @@ inside_holds bases o word x w store a f ok h = go x f ok h
         let room : 4 * length done + 4 ≤ 4 * size_longs o.entry.word = omega (arith, f.1) in
         at_place done owed (Holds bases o (step_inside y w)) (before o.finished) (to_be_bytes w32 w) store
         (put_holds bases o (Open y) (step_inside y w) store (4 * length done) (to_be_bytes w32 w) refl room
-        (content_put bases o (Open y) (step_inside y w) done w (k.unplaced early) refl refl (step_adds_bytes y w ∙ ap (λ (bs : List ℕ). bytes_of done ++ bs) (bytes_of-one w)) (step_adds_pairs y w) room) k)
+        (content_put bases o (Open y) (step_inside y w) done w (k.unplaced early) refl refl ((step_has y w).0 ∙ ap (λ (bs : List ℕ). bytes_of done ++ bs) (bytes_of-one w)) (step_has y w).1 room) k)
     go (InPayload (SizedData top) done owed) f ok k =
         let y : Inside = InPayload (SizedData top) done owed in
         let early : o.has_content ≡ false = passed_false o.has_content reasons.SecondContent (kind_is o word kinds.Data a f.0.0.0) in
         let room : 4 * length done + 4 ≤ 4 * size_longs o.entry.word = omega (arith, f.1) in
         at_place done owed (Holds bases o (step_inside y w)) (before o.finished) (to_be_bytes w32 w) store
         (put_holds bases o (Open y) (step_inside y w) store (4 * length done) (to_be_bytes w32 w) refl room
-        (content_put bases o (Open y) (step_inside y w) done w (k.unplaced early) refl refl (step_adds_bytes y w ∙ ap (λ (bs : List ℕ). bytes_of done ++ bs) (bytes_of-one w)) (step_adds_pairs y w) room) k)
+        (content_put bases o (Open y) (step_inside y w) done w (k.unplaced early) refl refl ((step_has y w).0 ∙ ap (λ (bs : List ℕ). bytes_of done ++ bs) (bytes_of-one w)) (step_has y w).1 room) k)
     go (AtGroup groups) f ok k = idle (AtGroup groups) refl refl k
     go (AtTarget groups owed) f ok k = idle (AtTarget groups owed) refl refl k
     go (InOffsets groups target done owed) f ok k =
@@ -232,13 +232,6 @@ after_holds bases o word (Whole End) store a f h = ended_holds bases o word stor
 
 begin_empty : (k : Kind) → (bytes_so_far (begin k) ≡ []) × (pairs_so_far (begin k) ≡ [])
 begin_empty kinds.Name = (refl, refl)
-begin_empty kinds.Code = (refl, refl)
-begin_empty kinds.Data = (refl, refl)
-begin_empty kinds.Bss = (refl, refl)
-begin_empty kinds.Reloc32 = (refl, refl)
-begin_empty kinds.Symbol = (refl, refl)
-begin_empty kinds.Debug = (refl, refl)
-begin_empty (kinds.Unknown n) = (refl, refl)
 begin_empty _ = (refl, refl)
 
 -- a block word stores nothing
