@@ -17,12 +17,8 @@ use Rattle.hunk_scan.specs.Standings.{Standing, Beside, Content, Relocating, End
 use Rattle.hunk_scan.specs.Roles.{Place, InBlock, refuse, refuse_part, refuse_kind, Role as roles}
 use Rattle.hunk_files.specs.LoadText.{entry_labelled, header_labelled, block_labelled, blocks_labelled, hunk_labelled, table, labelled}
 use Rattle.hunk_files.proofs.FileText.{standings, entries_fit}
-use Rattle.hunk_blocks.proofs.Lists.{passes_else, passes_then}
+use Rattle.hunk_blocks.proofs.Lists.{passes_else, passes_then, All-append}
 use Rattle.hunk_files.specs.WordsRead.{IsAccepted, AreAccepted}
-
-pub All-append : {A : Type 0} (P : A → Type 0) (xs ys : List A) → AllByRecursion P xs → AllByRecursion P ys → AllByRecursion P (xs ++ ys)
-All-append P [] ys h k = k
-All-append P (x ∷ xs) ys h k = (h.0, All-append P xs ys h.1 k)
 
 pub All-flat_map : {A B : Type 0} (P : A → Type 0) (Q : B → Type 0) (f : A → List B) → ((x : A) → P x → AllByRecursion Q (f x)) → (xs : List A) → AllByRecursion P xs → AllByRecursion Q (flat_map f xs)
 All-flat_map P Q f each [] h = tt

@@ -16,8 +16,8 @@ use Rattle.hunk_files.specs.Fault.{BeginsWithLoadFile, HasLoadText}
 use Rattle.hunk_files.specs.Hunks.{block_texts, EndsOnce, IsLoadBlock, AreHunkBlocks, AreBlocksAt, HasNoHunk}
 use Rattle.hunk_files.specs.Tables.{row_entry, hunk_texts, IsTable}
 use Rattle.hunk_files.specs.FileSteps.{hunk}
-use Rattle.hunk_files.proofs.Accepted.{All-append}
 use Rattle.hunk_files.proofs.Peel.{hunk_peel, hunk_is_blocks}
+use Rattle.hunk_blocks.proofs.Lists.{All-append}
 
 -- ---- reasons
 

@@ -35,14 +35,6 @@ block_leads hunks longs o b h = (refl, Follows-leads o b.word (begin (kind b.wor
 abbrev pub standings : List BlockValue → List Standing
 standings bs = map (λ b. standing b.body) bs
 
-or_false : (b : Bool) → b || false ≡ b
-or_false true = refl
-or_false false = refl
-
-or_true : (b : Bool) → b || true ≡ true
-or_true true = refl
-or_true false = refl
-
 abbrev opened : ℕ → List HunkValue → TableEntry → List BlockValue → Bool → List TableEntry → OpenHunk
 opened hunks finished entry blocks has_content ahead =
     record { hunks = hunks; finished = finished; entry = entry; blocks = blocks; has_content = has_content; ahead = ahead }

@@ -23,6 +23,7 @@ use Rattle.hunk_files.proofs.Completion.{gives_content, filling_content}
 use Rattle.hunk_files.specs.WordsRead.{Labelled, AreAccepted, HasRead}
 use Rattle.hunk_files.proofs.Reading.{reads, rest_read, file_read}
 use Rattle.hunk_blocks.proofs.Lists.{more_owed, passed_true}
+use Rattle.std.proofs.Math.Bool.{or-false, or-true}
 
 abbrev pub inside_least : Inside → ℕ
 inside_least (AtCount c) = 1
@@ -61,22 +62,14 @@ least_next (Finished v) = 0
 abbrev behind : OpenHunk → Bool → ℕ
 behind o content = end_least (o.has_content || content) + 3 * length o.ahead
 
-or_again : (a : Bool) → a || false ≡ a
-or_again true = refl
-or_again false = refl
-
-or_all : (a : Bool) → a || true ≡ true
-or_all true = refl
-or_all false = refl
-
 -- a whole block that is not END
 closed_least : (o : OpenHunk) (word : ℕ) (body : BlockBody) → standing body ≢ Ending → behind o (is_content (standing body)) ≤ least_next (close o (block word body))
 closed_least o word body ne = go (standing body) ne
   where
     go : (s : Standing) → s ≢ Ending → behind o (is_content s) ≤ least_next (close_by o (block word body) s)
-    go Beside n = rw (or_again o.has_content) (omega arith)
-    go Relocating n = rw (or_again o.has_content) (omega arith)
-    go Content n = rw (or_all o.has_content) (omega arith)
+    go Beside n = rw (or-false o.has_content) (omega arith)
+    go Relocating n = rw (or-false o.has_content) (omega arith)
+    go Content n = rw (or-true o.has_content) (omega arith)
     go Ending n = absurd (n refl)
 
 -- so many longwords and what is behind are owed at least
@@ -128,10 +121,10 @@ inside_falls o word (InExtOffsets entries w2 name value done (suc owed)) w = ome
 -- ---- between blocks
 
 behind_false : (o : OpenHunk) → behind o false ≡ end_least o.has_content + 3 * length o.ahead
-behind_false o = ap (λ (b : Bool). end_least b + 3 * length o.ahead) (or_again o.has_content)
+behind_false o = ap (λ (b : Bool). end_least b + 3 * length o.ahead) (or-false o.has_content)
 
 behind_true : (o : OpenHunk) → behind o true ≡ 1 + 3 * length o.ahead
-behind_true o = ap (λ (b : Bool). end_least b + 3 * length o.ahead) (or_all o.has_content)
+behind_true o = ap (λ (b : Bool). end_least b + 3 * length o.ahead) (or-true o.has_content)
 
 end_most : (b : Bool) → end_least b ≤ 3
 end_most true = omega arith

@@ -10,6 +10,7 @@ use Rattle.hunk_files.specs.OpenSegment.{filling_bytes, bytes_in, pairs_to, pair
 use Rattle.hunk_files.specs.FileSteps.{OpenHunk, hunk, block}
 use Rattle.hunk_files.proofs.Shapes.{by_shape}
 use Rattle.hunk_blocks.proofs.Lists.{map-more, flat_map-more}
+use Rattle.std.proofs.lemmas.List.Sums.{fold-append}
 
 -- what a longword adds to either
 abbrev pub adds_bytes : Inside → ℕ → List ℕ
@@ -73,10 +74,6 @@ step_has _ w = (refl, refl)
 
 -- ---- the memory of the open hunk
 
-fold-more : {A B : Type 0} (f : B → A → B) (a : B) (xs : List A) (x : A) → fold f a (xs ++ x ∷ []) ≡ f (fold f a xs) x
-fold-more f a [] x = refl
-fold-more f a (y ∷ xs) x = fold-more f (f a y) xs x
-
 -- An offset is one addition.
 pub offset_adds : (bases : List ℕ) (o : OpenHunk) (groups : List RelocGroup) (target : ℕ) (done : List ℕ) (owed w : ℕ) →
     segment_so_far bases o (step_inside (InOffsets groups target done owed) w)
@@ -86,7 +83,7 @@ offset_adds bases o groups target done owed w =
     (ap (λ (bs : List ℕ). flat_map (λ (b : BlockValue). block_content b.body) o.blocks ++ bs) (step_has x w).0)
     (ap (λ (ps : List (ℕ × ℕ)). flat_map (λ (b : BlockValue). block_relocations b.body) o.blocks ++ ps) (step_has x w).1
     ∙ sym (append_assoc (flat_map (λ (b : BlockValue). block_relocations b.body) o.blocks) (pairs_in x) ((w, target) ∷ [])))
-    ∙ fold-more (λ (b : List ℕ) (pair : ℕ × ℕ). add_at b pair.0 (get_or bases pair.1 0)) _ (open_pairs o (Open x)) (w, target)
+    ∙ fold-append (λ (b : List ℕ) (pair : ℕ × ℕ). add_at b pair.0 (get_or bases pair.1 0)) _ (open_pairs o (Open x)) ((w, target) ∷ [])
   where
     x : Inside
     x = InOffsets groups target done owed

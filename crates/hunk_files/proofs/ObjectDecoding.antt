@@ -9,7 +9,7 @@ use Rattle.hunk_words.specs.declared.block_word.Kind.TheVariants as kinds
 use Rattle.hunk_words.specs.declared.reason.Reason.{Reason}
 use Rattle.hunk_words.specs.declared.reason.Reason.TheVariants as reasons
 use Rattle.hunk_words.specs.Bits.{kind}
-use Rattle.hunk_words.specs.Longs.{longs, bytes_of, IsBytes, AreLongs}
+use Rattle.hunk_words.specs.Longs.{longs, bytes_of, IsBytes, AreLongs, IsLong}
 use Rattle.hunk_words.proofs.LongLaws.{bytes_of-append, length-bytes_of, longs-bytes_of, spelled, longs-few}
 use Rattle.hunk_blocks.specs.declared.mode.Mode.TheVariants as modes
 use Rattle.hunk_blocks.specs.Values.{BlockBody, BlockValue, Name, Code, Data, Bss, Reloc, Ext, Symbol, Debug, Advisory, End, FitsWord, IsBlock, IsPayload, is_relocation, is_unknown}
@@ -17,38 +17,31 @@ use Rattle.hunk_blocks.specs.Parts.{block_text}
 use Rattle.hunk_blocks.specs.Modes.{is_block_refusal}
 use Rattle.hunk_blocks.specs.Begins.{BeginsWithBlock, BeginsWithNoBlock, first_long}
 use Rattle.hunk_blocks.specs.Reading.{BeginsWithNo}
-use Rattle.hunk_blocks.proofs.Lists.{map-more, flat_map-more}
+use Rattle.hunk_blocks.proofs.Lists.{map-more, flat_map-more, All-more, All-append}
 use Rattle.hunk_blocks.proofs.BlockLongs.{block_longs}
 use Rattle.hunk_blocks.proofs.BlockPrefix.{block_same}
 use Rattle.hunk_files.specs.LoadFile.{standing, AreInOrder}
 use Rattle.hunk_scan.specs.Standings.{Standing, Beside, Content, Relocating, Ending, is_content, is_ending, refuse_standing, standing_of_kind}
 use Rattle.hunk_files.specs.ObjectFile.{is_object_refusal, ObjectHunk, UnitValue, ObjectFileValue, IsObjectHunk, IsUnit, unit_header, unit_text, object_text}
 use Rattle.hunk_files.specs.ObjectParts.{BeginsWithText, MayStand}
+use Rattle.hunk_files.proofs.Accepted.{All-flat_map}
 
 -- ---- longwords and their bytes
 
-longs-append : (xs ys : List ℕ) → AreLongs xs → AreLongs ys → AreLongs (xs ++ ys)
-longs-append [] ys h k = k
-longs-append (x ∷ xs) ys h k = (h.0, longs-append xs ys h.1 k)
-
-flat_longs : {A : Type 0} (Is : A → Type 0) (text : A → List ℕ) → ((x : A) → Is x → AreLongs (text x)) → (xs : List A) → AllByRecursion Is xs → AreLongs (flat_map text xs)
-flat_longs Is text fits [] h = tt
-flat_longs Is text fits (x ∷ xs) h = longs-append (text x) (flat_map text xs) (fits x h.0) (flat_longs Is text fits xs h.1)
-
 pub hunk_longs : (h : ObjectHunk) → AllByRecursion IsBlock h → AreLongs (flat_map block_text h)
-hunk_longs h is = flat_longs IsBlock block_text block_longs h is
+hunk_longs h is = All-flat_map IsBlock IsLong block_text block_longs h is
 
 pub hunks_longs : (hs : List ObjectHunk) → AllByRecursion IsObjectHunk hs → AreLongs (flat_map (flat_map block_text) hs)
-hunks_longs hs is = flat_longs IsObjectHunk (flat_map block_text) (λ h k. hunk_longs h k.blocks) hs is
+hunks_longs hs is = All-flat_map IsObjectHunk IsLong (flat_map block_text) (λ h k. hunk_longs h k.blocks) hs is
 
 pub header_longs : (name : List ℕ) → IsPayload (2 ^ 24) name → AreLongs (unit_header name)
 header_longs name h = (omega arith, (omega (arith, h.0), h.1))
 
 pub unit_longs : (u : UnitValue) → IsUnit u → AreLongs (unit_text u)
-unit_longs u is = longs-append (unit_header u.name) (flat_map (flat_map block_text) u.hunks) (header_longs u.name is.name) (hunks_longs u.hunks is.hunks)
+unit_longs u is = All-append IsLong (unit_header u.name) (flat_map (flat_map block_text) u.hunks) (header_longs u.name is.name) (hunks_longs u.hunks is.hunks)
 
 pub object_longs : (us : ObjectFileValue) → AllByRecursion IsUnit us → AreLongs (object_text us)
-object_longs us is = flat_longs IsUnit unit_text unit_longs us is
+object_longs us is = All-flat_map IsUnit IsLong unit_text unit_longs us is
 
 -- ---- bytes that begin with a text
 
@@ -192,10 +185,6 @@ pub record HunkSoFar (bytes : List ℕ) (bs : ObjectHunk) (has : Bool) (at : ℕ
 pub no_blocks : (bytes : List ℕ) → HunkSoFar bytes [] false 0
 unfolding bytes_of
 no_blocks bytes = record { blocks = tt; leads = refl; text = text_none bytes refl }
-
-pub All-more : {A : Type 0} (P : A → Type 0) (xs : List A) (x : A) → AllByRecursion P xs → P x → AllByRecursion P (xs ++ x ∷ [])
-All-more P [] x h k = (k, tt)
-All-more P (y ∷ xs) x h k = (h.0, All-more P xs x h.1 k)
 
 -- what may stand here leads on, unless it is END
 leads_one : (has : Bool) (s : Standing) → refuse_standing has s ≡ None → is_ending s ≡ false → Leads has (s ∷ []) (has || is_content s)

@@ -9,6 +9,8 @@ use Rattle.hunk_files.specs.LoadFile.{standing, AreInOrder}
 use Rattle.hunk_scan.specs.Standings.{Standing, Beside, Content, Relocating, Ending}
 use Rattle.hunk_files.specs.ObjectFile.{ObjectHunk, UnitValue, ObjectFileValue, IsObjectHunk, IsUnit, IsObjectFile, unit_word, unit_header, object_text}
 use Rattle.hunk_blocks.proofs.BlockPrefix.{block_same}
+use Rattle.hunk_blocks.proofs.Lists.{All-append, flat_map-append}
+use Rattle.hunk_blocks.proofs.ListReading.{append_same}
 
 -- ---- an object file is a list of unit headers and blocks
 
@@ -46,22 +48,11 @@ unit_kind = refl
 not_a_unit : (b : BlockValue) → IsBlock b → b.word ≡ unit_word → ⊥
 not_a_unit b h e = no_unit b.word b.body h.body (ap kind e ∙ unit_kind)
 
-same_name : (xs ys more other : List ℕ) → length xs ≡ length ys → xs ++ more ≡ ys ++ other → (xs ≡ ys) × (more ≡ other)
-same_name [] [] more other n e = (refl, e)
-same_name [] (y ∷ ys) more other n e = absurd cc
-same_name (x ∷ xs) [] more other n e = absurd cc
-same_name (x ∷ xs) (y ∷ ys) more other n e =
-    let head : x ≡ y = cc in
-    let tail : xs ++ more ≡ ys ++ other = cc in
-    let count : length xs ≡ length ys = omega (arith, n) in
-    let rest = same_name xs ys more other count tail in
-    (ap₂ (λ (z : ℕ) (zs : List ℕ). z ∷ zs) head rest.0, rest.1)
-
 pub item_same : (a b : Item) (more other : List ℕ) → IsItem a → IsItem b → item_text a ++ more ≡ item_text b ++ other → (a ≡ b) × (more ≡ other)
 item_same (Header xs) (Header ys) more other ha hb e =
     let count : length xs ≡ length ys = cc in
     let tail : xs ++ more ≡ ys ++ other = cc in
-    let same = same_name xs ys more other count tail in
+    let same = append_same xs ys more other count tail in
     (ap (λ (name : List ℕ). Header name) same.0, same.1)
 item_same (Header xs) (Block b) more other ha hb e =
     let word : b.word ≡ unit_word = cc in
@@ -140,10 +131,6 @@ group_units (u ∷ us) all =
 
 -- ---- the text of the items
 
-pub flat_map-append : {A B : Type 0} (f : A → List B) (xs ys : List A) → flat_map f (xs ++ ys) ≡ flat_map f xs ++ flat_map f ys
-flat_map-append f [] ys = refl
-flat_map-append f (x ∷ xs) ys = ap (λ zs. f x ++ zs) (flat_map-append f xs ys) ∙ sym (append_assoc (f x) (flat_map f xs) (flat_map f ys))
-
 blocks_text : (bs : List BlockValue) → flat_map item_text (blocks_items bs) ≡ flat_map block_text bs
 blocks_text [] = refl
 blocks_text (b ∷ bs) = ap (λ (ws : List ℕ). block_text b ++ ws) (blocks_text bs)
@@ -157,10 +144,6 @@ units_text [] = refl
 units_text (u ∷ us) =
     flat_map-append item_text (unit_items u) (items us)
     ∙ ap₂ (λ (xs ys : List ℕ). (unit_header u.name ++ xs) ++ ys) (hunks_text u.hunks) (units_text us)
-
-pub All-append : {A : Type 0} (P : A → Type 0) (xs ys : List A) → AllByRecursion P xs → AllByRecursion P ys → AllByRecursion P (xs ++ ys)
-All-append P [] ys h k = k
-All-append P (x ∷ xs) ys h k = (h.0, All-append P xs ys h.1 k)
 
 blocks_are : (bs : List BlockValue) → AllByRecursion IsBlock bs → AllByRecursion IsItem (blocks_items bs)
 blocks_are [] h = tt

@@ -8,9 +8,8 @@ use Rattle.hunk_words.specs.Carriers.{Writing}
 use Rattle.hunk_words.specs.Longs.{bytes_of}
 use Rattle.hunk_words.proofs.LongLaws.{bytes_of-append, bytes_of-nil}
 use Rattle.hunk_blocks.specs.Writes.{Writes}
-use Rattle.hunk_blocks.proofs.Lists.{flat_map-more}
+use Rattle.hunk_blocks.proofs.Lists.{flat_map-more, flat_map-append}
 use Rattle.hunk_blocks.proofs.WriteLaws.{HasWritten, nothing_written, written, written_after, writes_after, writes_part, writes_same, writes_nothing}
-use Rattle.hunk_files.proofs.ObjectText.{flat_map-append}
 
 module _ {A W : Type 0} (text : A → List ℕ) (taken : W → Option (List ℕ)) (failed : W → Bool) (xs : List A) where
   -- The texts of the first ones were written, and the writer has not stopped.

@@ -13,8 +13,9 @@ use Rattle.hunk_files.proofs.FileText.{file_leads, Leads-append}
 use Rattle.hunk_files.proofs.FileProgress.{Reads}
 use Rattle.hunk_files.proofs.Runs.{Leads-keeps, Leads-split, Leads-same}
 use Rattle.hunk_files.specs.WordsRead.{HasRead, Labelled, IsAccepted, AreAccepted}
-use Rattle.hunk_files.proofs.Accepted.{All-append, labelled_accepted}
+use Rattle.hunk_files.proofs.Accepted.{labelled_accepted}
 use Rattle.hunk_files.proofs.Scan.{words_split, expects_of, truncated_of}
+use Rattle.hunk_blocks.proofs.Lists.{All-append}
 
 -- What was read fits, and is the text so far.
 pub reads : {ws : List ℕ} {n : Next} (h : HasRead ws n) → Reads n h.done

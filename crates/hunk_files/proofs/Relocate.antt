@@ -11,6 +11,7 @@ use Rattle.hunk_files.specs.Image.{add_at, block_content, block_relocations, gro
 use Rattle.hunk_files.specs.Relocating.{IsRelocatable}
 use Rattle.hunk_files.proofs.Accepted.{All-map, All-flat_map}
 use Rattle.hunk_files.proofs.Concats.{flat_map-next}
+use Rattle.hunk_blocks.proofs.Fronts.{All-left, All-right}
 
 pub relocated-append : (bases s : List ℕ) (ps qs : List (ℕ × ℕ)) → relocated bases s (ps ++ qs) ≡ relocated bases (relocated bases s ps) qs
 relocated-append bases s [] qs = refl
@@ -36,14 +37,6 @@ part_more f bases s now new xs i x inside is e n =
     n ∙ ap (λ (l : List ℕ). relocated bases l (f x)) e ∙ sym (relocated-append bases s (flat_map f (take i xs)) (f x)) ∙ ap (relocated bases s) (sym (flat_map-next f xs i x inside is))
 
 -- ---- there is room
-
-All-left : {A : Type 0} (P : A → Type 0) (xs ys : List A) → AllByRecursion P (xs ++ ys) → AllByRecursion P xs
-All-left P [] ys h = tt
-All-left P (x ∷ xs) ys h = (h.0, All-left P xs ys h.1)
-
-All-right : {A : Type 0} (P : A → Type 0) (xs ys : List A) → AllByRecursion P (xs ++ ys) → AllByRecursion P ys
-All-right P [] ys h = h
-All-right P (x ∷ xs) ys h = All-right P xs ys h.1
 
 -- of one part
 pub part_room : {A : Type 0} (f : A → List (ℕ × ℕ)) (size size' bases : ℕ) (xs : List A) (i : ℕ) (x : A) → size ≡ size' → IsRelocatable size bases (flat_map f xs) → i < length xs → x ≡ get_or xs i x → IsRelocatable size' bases (f x)

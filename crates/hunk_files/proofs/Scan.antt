@@ -17,10 +17,7 @@ use Rattle.hunk_files.specs.WordsRead.{Labelled, IsAccepted, AreAccepted}
 use Rattle.hunk_files.proofs.Accepted.{labelled_accepted}
 use Rattle.hunk_files.proofs.Completion.{IsOwed, completes, completes_next}
 use Rattle.hunk_words.proofs.LongLaws.{longs-bytes_of, bytes_of-append, spelled, longs_fit}
-
-All-left : {A : Type 0} (P : A → Type 0) (xs ys : List A) → AllByRecursion P (xs ++ ys) → AllByRecursion P xs
-All-left P [] ys h = tt
-All-left P (x ∷ xs) ys h = (h.0, All-left P xs ys h.1)
+use Rattle.hunk_blocks.proofs.Fronts.{All-left}
 
 -- ---- a place in a load text
 

@@ -13,14 +13,14 @@ use Rattle.hunk_blocks.specs.Values.{BlockBody, BlockValue, Name, Code, Data, Bs
 use Rattle.hunk_blocks.specs.Parts.{block_text}
 use Rattle.hunk_blocks.specs.Begins.{first_long}
 use Rattle.hunk_blocks.specs.Reading.{BeginsWithNo}
-use Rattle.hunk_blocks.proofs.Lists.{flat_map-more}
+use Rattle.hunk_blocks.proofs.Lists.{flat_map-more, All-more}
 use Rattle.hunk_blocks.proofs.BlockPrefix.{block_same}
 use Rattle.hunk_files.specs.LoadFile.{standing, AreInOrder}
 use Rattle.hunk_scan.specs.Standings.{Standing, Beside, Content, Relocating, Ending}
 use Rattle.hunk_files.specs.ObjectFile.{IsNoObjectFile, ObjectHunk, UnitValue, ObjectFileValue, IsObjectHunk, IsUnit, unit_word, unit_header, unit_text, object_text}
 use Rattle.hunk_files.specs.ObjectParts.{BeginsWithText, EndsUnit}
 use Rattle.hunk_files.proofs.ObjectText.{Header, item_same}
-use Rattle.hunk_files.proofs.ObjectDecoding.{All-more, object_longs, unit_longs, text_none, text_more, text_size, text_split, text_words, words_split, drop_bytes, standings}
+use Rattle.hunk_files.proofs.ObjectDecoding.{object_longs, unit_longs, text_none, text_more, text_size, text_split, text_words, words_split, drop_bytes, standings}
 
 -- ---- the header
 
