@@ -1,5 +1,5 @@
 -- No longword of a load text is refused.
-use Rattle.std.proofs.Common.{◌≡◌, ◌≢◌, ℕ, ◌+◌, ◌-◌, ◌*◌, ◌^◌, ◌<◌, ◌≤◌, Bool, true, false, ◌||◌, ltb, eqb, List, [], ◌∷◌, ◌++◌, length, map, refl, ◌∙◌, arith, Some, None}
+use Rattle.std.proofs.Common.{◌≡◌, ◌≢◌, ℕ, ◌+◌, ◌-◌, ◌*◌, ◌^◌, ◌<◌, ◌≤◌, Bool, true, false, ◌||◌, ltb, eqb, List, [], ◌∷◌, length, map, refl, ◌∙◌, arith, Some, None}
 use Rattle.std.specs.Prelude.{IsTrue, if◌then◌else◌, cond}
 use Rattle.std.specs.List.{flat_map, AllByRecursion}
 use Rattle.std.proofs.lemmas.Bool.{lt-ltb, le-ltb, eq-eqb, ne_eqb}
@@ -19,6 +19,7 @@ use Rattle.hunk_files.specs.LoadText.{entry_labelled, header_labelled, block_lab
 use Rattle.hunk_files.proofs.FileText.{standings, entries_fit}
 use Rattle.hunk_blocks.proofs.Lists.{passes_else, passes_then, All-append}
 use Rattle.hunk_files.specs.WordsRead.{IsAccepted, AreAccepted}
+use Rattle.hunk_files.proofs.FileProgress.{place_in}
 
 pub All-flat_map : {A B : Type 0} (P : A → Type 0) (Q : B → Type 0) (f : A → List B) → ((x : A) → P x → AllByRecursion Q (f x)) → (xs : List A) → AllByRecursion P xs → AllByRecursion Q (flat_map f xs)
 All-flat_map P Q f each [] h = tt
@@ -131,9 +132,6 @@ block_passes p b later h o = (
 
 block_accepted : (p : Place) (b : BlockValue) (later : List Standing) → IsHunkBlock p.hunks p.longs b → AreInOrder p.has_content (standing b.body ∷ later) → AreAccepted (block_labelled p b)
 block_accepted p b later h o = All-map (PartPasses p) IsAccepted (λ (x : Part × ℕ). (InBlock p x.0, x.1)) (λ x k. k) (block_parts b) (block_passes p b later h o)
-
-abbrev place_in : ℕ → ℕ → Bool → Place
-place_in hunks longs has_content = record { hunks = hunks; longs = longs; has_content = has_content }
 
 module _ (hunks longs : ℕ) where
   abbrev RestPasses : List BlockValue → Type 0

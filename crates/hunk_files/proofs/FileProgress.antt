@@ -23,9 +23,7 @@ use Rattle.hunk_files.proofs.FileText.{in_place, standings}
 use Rattle.hunk_files.specs.FileSteps.{table_entry, hunk, block, OpenHunk, Progress, AtFirst, AtResident, AtTableSize, AtFirstHunk, AtLastHunk, AtSizeWord, AtAttributes, AtBlock, InBody, Next, More, Finished, place_of, role_of, open_hunk, rows, with_block, close, after, sized_row, step}
 use Rattle.hunk_blocks.proofs.Lists.{All-more, map-more, flat_map-more, more_owed, passed_false, passed_true, passed_both, passes_else, passes_then}
 use Rattle.std.proofs.Math.Bool.{or-false, or-true}
-
-abbrev Labelled : Type 0
-Labelled = List (Role × ℕ)
+use Rattle.hunk_files.specs.WordsRead.{Labelled}
 
 -- ---- the text so far
 

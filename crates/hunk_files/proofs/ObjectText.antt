@@ -1,9 +1,9 @@
 -- One object text has one value.
-use Rattle.std.proofs.Common.{◌≡◌, ℕ, ◌^◌, Bool, true, false, List, [], ◌∷◌, ◌++◌, length, map, refl, sym, ap, ap₂, ◌∙◌, append_assoc, append-nil, arith}
+use Rattle.std.proofs.Common.{◌≡◌, ℕ, ◌^◌, Bool, true, false, List, [], ◌∷◌, ◌++◌, length, map, refl, sym, ap, ap₂, ◌∙◌, append_assoc, append-nil}
 use Rattle.std.specs.List.{flat_map, AllByRecursion}
 use Rattle.hunk_words.specs.declared.block_word.Kind.TheVariants as kinds
 use Rattle.hunk_words.specs.Bits.{kind}
-use Rattle.hunk_blocks.specs.Values.{BlockBody, BlockValue, Name, Code, Data, Bss, Reloc, Ext, Symbol, Debug, Advisory, End, FitsWord, IsBlock, IsPayload}
+use Rattle.hunk_blocks.specs.Values.{BlockBody, BlockValue, Name, FitsWord, IsBlock, IsPayload}
 use Rattle.hunk_blocks.specs.Parts.{block_text}
 use Rattle.hunk_files.specs.LoadFile.{standing, AreInOrder}
 use Rattle.hunk_scan.specs.Standings.{Standing, Beside, Content, Relocating, Ending}
@@ -11,6 +11,7 @@ use Rattle.hunk_files.specs.ObjectFile.{ObjectHunk, UnitValue, ObjectFileValue, 
 use Rattle.hunk_blocks.proofs.BlockPrefix.{block_same}
 use Rattle.hunk_blocks.proofs.Lists.{All-append, flat_map-append}
 use Rattle.hunk_blocks.proofs.ListReading.{append_same}
+use Rattle.hunk_files.proofs.FileText.{standings}
 
 -- ---- an object file is a list of unit headers and blocks
 
@@ -93,9 +94,6 @@ abbrev pub group : List Item → Grouped
 group [] = grouped [] []
 group (Header name ∷ rest) = grouped [] (record { name = name; hunks = (group rest).hunks } ∷ (group rest).units)
 group (Block b ∷ rest) = grouped (before (standing b.body) b (group rest).hunks) (group rest).units
-
-abbrev pub standings : List BlockValue → List Standing
-standings bs = map (λ b. standing b.body) bs
 
 group_hunk : (has_content : Bool) (h : ObjectHunk) (rest : List Item) → AreInOrder has_content (standings h) → group (blocks_items h ++ rest) ≡ grouped (h ∷ (group rest).hunks) (group rest).units
 group_hunk has_content [] rest o = absurd o

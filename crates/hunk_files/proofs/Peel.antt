@@ -5,11 +5,12 @@ use Rattle.std.proofs.lemmas.List.{map-append}
 use Rattle.hunk_blocks.specs.Values.{BlockBody, BlockValue, Name, Code, Data, Bss, Reloc, Ext, Symbol, Debug, Advisory, End}
 use Rattle.hunk_blocks.specs.Parts.{Part, block_text, block_parts}
 use Rattle.hunk_files.specs.LoadFile.{HunkValue, IsHunk, IsHunkBlock, AreInOrder, standing, declared_longs}
-use Rattle.hunk_scan.specs.Standings.{Standing, is_content}
+use Rattle.hunk_scan.specs.Standings.{is_content}
 use Rattle.hunk_scan.specs.Roles.{Place, Role, InBlock}
 use Rattle.hunk_files.specs.LoadText.{block_labelled, blocks_labelled, hunk_labelled, words}
 use Rattle.hunk_blocks.proofs.BlockPrefix.{block_same}
 use Rattle.hunk_files.specs.Hunks.{is_end, block_texts, EndsOnce, IsLoadBlock, AreHunkBlocks}
+use Rattle.hunk_files.proofs.FileText.{standings}
 
 true_false : true ≡ false → ⊥
 true_false e = absurd cc
@@ -36,9 +37,6 @@ pub hunk_peel : (xs ys : List BlockValue) (u v : List ℕ) → AreHunkBlocks xs 
 hunk_peel xs ys u v ha hb e = hunk_peel_by xs ys u v ha.each ha.ends hb.each hb.ends e
 
 -- ---- the blocks of a hunk are such blocks
-
-abbrev standings : List BlockValue → List Standing
-standings ys = map (λ b. standing b.body) ys
 
 ends_by : (has : Bool) (w : ℕ) (b : BlockBody) (ys : List BlockValue) → AreInOrder has (standing b ∷ standings ys) → ((h : Bool) → AreInOrder h (standings ys) → EndsOnce ys) → EndsOnce (record { word = w; body = b } ∷ ys)
 ends_by has w b ys h more = go has b ys h more

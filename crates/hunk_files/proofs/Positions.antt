@@ -20,7 +20,7 @@ use Rattle.hunk_scan.specs.Standings.{Standing, Beside, Content, Relocating, End
 use Rattle.hunk_files.specs.LoadText.{entries}
 use Rattle.hunk_files.proofs.Reading.{next_after, all_pass}
 use Rattle.hunk_files.specs.ReaderPosition.{open_of, block_phase, phase_of, position_of, longs_of, opened}
-use Rattle.hunk_files.specs.FileSteps.{OpenHunk, Progress, AtFirst, AtResident, AtTableSize, AtFirstHunk, AtLastHunk, AtSizeWord, AtAttributes, AtBlock, InBody, Next, More, Finished, role_of, place_of, step, rows, open_hunk, with_block, close_by, sized_row, after, hunk, block, table_entry}
+use Rattle.hunk_files.specs.FileSteps.{OpenHunk, Progress, AtFirst, AtLastHunk, AtSizeWord, AtAttributes, AtBlock, InBody, Next, More, Finished, role_of, place_of, step, rows, open_hunk, with_block, close_by, sized_row, after, hunk, block, table_entry}
 use Rattle.hunk_files.proofs.FileProgress.{ProgressFits}
 use Rattle.hunk_files.proofs.HunkProgress.{Within}
 use Rattle.hunk_files.proofs.InsideCases.{by_inside}
@@ -40,7 +40,6 @@ block_same o w (b ∷ blocks) = refl
 -- The position and the declared longs tell the refusal.
 pub refuse_same : (p : Progress) (w : ℕ) → ProgressFits p → refuse (role_of p) w ≡ refuse (role_at (longs_of p) (position_of (More p))) w
 refuse_same AtFirst w f = refl
-refuse_same (AtFirstHunk hunks) w f = refl
 refuse_same (AtBlock o) w f = block_same o w o.blocks
 refuse_same (InBody o word x) w f = part_same o word x w f.2.1
 refuse_same _ w f = refl
@@ -120,19 +119,10 @@ module _ (o : OpenHunk) (word : ℕ) (p : Progress) (longs_are : size_longs o.en
       record { next = r.next; leads = r.leads; passes = r.passes; position_is = r.position_is; stays = r.stays }
 
 fill_run : (o : OpenHunk) (word : ℕ) (f : Filling) (done : List ℕ) (owed w : ℕ) (ws : List ℕ) → length ws ≤ owed →
-    Passes (InBody o word (InPayload f done owed)) (More (InBody o word (InPayload f done owed))) (w ∷ ws) (pass (position_of (More (InBody o word (InPayload f done owed)))) (suc (length ws)))
-fill_run o word (Counted c) done owed w ws l =
-    let p = InBody o word (InPayload (Counted c) done owed) in
-    let r = fill_passes o word p refl refl (Counted c) (done ++ w ∷ []) owed ws (owed - length ws) (omega (arith, l)) in
-    record { next = r.next; leads = r.leads; passes = r.passes; position_is = r.position_is; stays = r.stays }
-fill_run o word (SizedCode top) done owed w ws l =
-    let p = InBody o word (InPayload (SizedCode top) done owed) in
-    let r = fill_passes o word p refl refl (SizedCode top) (done ++ w ∷ []) owed ws (owed - length ws) (omega (arith, l)) in
-    record { next = r.next; leads = r.leads; passes = r.passes; position_is = r.position_is ∙ ap (λ (n : ℕ). scan.owe_content (open_of o) n (owed - length ws)) (more_owed done w owed); stays = r.stays }
-fill_run o word (SizedData top) done owed w ws l =
-    let p = InBody o word (InPayload (SizedData top) done owed) in
-    let r = fill_passes o word p refl refl (SizedData top) (done ++ w ∷ []) owed ws (owed - length ws) (omega (arith, l)) in
-    record { next = r.next; leads = r.leads; passes = r.passes; position_is = r.position_is ∙ ap (λ (n : ℕ). scan.owe_content (open_of o) n (owed - length ws)) (more_owed done w owed); stays = r.stays }
+    Passes (InBody o word (InPayload f done owed)) (More (InBody o word (InPayload f done owed))) (w ∷ ws) (fill_left o f (length done + suc owed) (owed - length ws))
+fill_run o word f done owed w ws l =
+    let r = fill_passes o word (InBody o word (InPayload f done owed)) refl refl f (done ++ w ∷ []) owed ws (owed - length ws) (omega (arith, l)) in
+    record { next = r.next; leads = r.leads; passes = r.passes; position_is = r.position_is ∙ ap (λ (n : ℕ). fill_left o f n (owed - length ws)) (more_owed done w owed); stays = r.stays }
 
 -- Longwords of a run all pass.
 pub run_passes : (p : Progress) (ws : List ℕ) → length ws ≤ run (position_of (More p)) → Passes p (More p) ws (pass (position_of (More p)) (length ws))
@@ -233,7 +223,6 @@ step_position _ w f ok = refl
 -- what was read of a file that goes on
 pub not_done : (p : Progress) → position_of (More p) ≡ positions.Done → ⊥
 not_done AtFirst e = cc
-not_done (AtFirstHunk hunks) e = cc
 not_done _ e = cc
 
 -- ---- the open hunk

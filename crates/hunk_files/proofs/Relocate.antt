@@ -6,12 +6,12 @@ use Rattle.hunk_words.specs.Longs.{bytes_of}
 use Rattle.hunk_words.proofs.LongLaws.{length-bytes_of}
 use Rattle.hunk_blocks.specs.Values.{RelocGroup, BlockBody, BlockValue, Name, Code, Data, Bss, Reloc, Ext, Symbol, Debug, Advisory, End}
 use Rattle.hunk_files.specs.LoadFile.{HunkValue, standing, AreInOrder, FitsGroup, IsInside, IsHunkBlock, IsHunk, declared_longs}
-use Rattle.hunk_scan.specs.Standings.{Standing}
 use Rattle.hunk_files.specs.Image.{add_at, block_content, block_relocations, group_relocations, relocated, relocations}
 use Rattle.hunk_files.specs.Relocating.{IsRelocatable}
 use Rattle.hunk_files.proofs.Accepted.{All-map, All-flat_map}
 use Rattle.hunk_files.proofs.Concats.{flat_map-next}
 use Rattle.hunk_blocks.proofs.Fronts.{All-left, All-right}
+use Rattle.hunk_files.proofs.FileText.{standings}
 
 pub relocated-append : (bases s : List ℕ) (ps qs : List (ℕ × ℕ)) → relocated bases s (ps ++ qs) ≡ relocated bases (relocated bases s ps) qs
 relocated-append bases s [] qs = refl
@@ -72,9 +72,6 @@ hunk_fits hunks h is =
 
 abbrev contents : List BlockValue → List ℕ
 contents bs = flat_map (λ (b : BlockValue). block_content b.body) bs
-
-abbrev standings : List BlockValue → List Standing
-standings bs = map (λ b. standing b.body) bs
 
 -- behind the content block there is none
 abbrev limit : Bool → ℕ → ℕ

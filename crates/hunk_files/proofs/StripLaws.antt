@@ -4,13 +4,13 @@ use Rattle.std.proofs.lemmas.List.{length-map}
 use Rattle.std.specs.List.{flat_map, fold, AllByRecursion}
 use Rattle.hunk_blocks.specs.Values.{BlockBody, BlockValue, Name, Code, Data, Bss, Reloc, Ext, Symbol, Debug, Advisory, End, IsBlock}
 use Rattle.hunk_files.specs.LoadFile.{HunkValue, LoadFileValue, standing, AreInOrder, IsHunkBlock, IsHunk, IsLoadFile, declared_longs}
-use Rattle.hunk_scan.specs.Standings.{Standing}
 use Rattle.hunk_files.specs.LoadText.{table}
 use Rattle.hunk_files.specs.Image.{block_content, block_relocations, content, relocations, filled, image, relocated}
 use Rattle.hunk_files.specs.ObjectFile.{ObjectHunk, UnitValue, ObjectFileValue, IsObjectHunk, IsUnit, IsObjectFile}
 use Rattle.hunk_files.specs.Findings.{FindingValue, Spot, content_longs, hunk_bytes, body_findings, hunk_findings, hunks_findings, unit_findings, units_findings, findings}
 use Rattle.hunk_files.specs.Strip.{is_kept, strip_blocks, strip_hunk, strip_file, strip_unit, strip_object}
 use Rattle.hunk_files.proofs.Accepted.{All-map}
+use Rattle.hunk_files.proofs.FileText.{standings}
 
 -- ---- what the dropped blocks do not have
 
@@ -116,9 +116,6 @@ all_kept P (b ∷ bs) h = by_test (all_kept P bs h.1) (is_kept b.body)
     by_test : AllByRecursion P (strip_blocks bs) → (k : Bool) → AllByRecursion P (cond k (b ∷ strip_blocks bs) (strip_blocks bs))
     by_test rest true = (h.0, rest)
     by_test rest false = rest
-
-abbrev standings : List BlockValue → List Standing
-standings bs = map (λ b. standing b.body) bs
 
 no_more : (bs : List BlockValue) → standings bs ≡ [] → bs ≡ []
 no_more [] e = refl

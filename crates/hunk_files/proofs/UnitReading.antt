@@ -9,7 +9,7 @@ use Rattle.hunk_words.specs.Bits.{kind}
 use Rattle.hunk_words.specs.Longs.{longs, bytes_of, IsBytes}
 use Rattle.hunk_words.proofs.LongLaws.{bytes_of-append, length-bytes_of, longs-bytes_of, length-longs, longs_fit}
 use Rattle.hunk_words.proofs.PartLaws.{longs-part}
-use Rattle.hunk_blocks.specs.Values.{BlockBody, BlockValue, Name, Code, Data, Bss, Reloc, Ext, Symbol, Debug, Advisory, End, FitsWord, IsBlock, IsPayload}
+use Rattle.hunk_blocks.specs.Values.{BlockBody, BlockValue, Name, FitsWord, IsBlock, IsPayload}
 use Rattle.hunk_blocks.specs.Parts.{block_text}
 use Rattle.hunk_blocks.specs.Begins.{first_long}
 use Rattle.hunk_blocks.specs.Reading.{BeginsWithNo}
