@@ -209,7 +209,7 @@ kind_admitted o word a = passed_both (has_both_bits word) reasons.BothBits (refu
 block_fits : (o : OpenHunk) (word : ℕ) (body : BlockBody) → IsAdmitted o word → BodyFits (place_of o) word body → IsHunkBlock o.hunks (size_longs o.entry.word) (block word body)
 block_fits o word body a f = record { block = record { word = a.0; bits = (kind_admitted o word a).0; body = f.fits_word }; mode = f.of_load; fits = f.fits_hunk }
 
-kind_is : (o : OpenHunk) (word : ℕ) (k : Kind) → IsAdmitted o word → kind word ≡ k → refuse_kind o.has_content (is_advisory word) k ≡ None
+pub kind_is : (o : OpenHunk) (word : ℕ) (k : Kind) → IsAdmitted o word → kind word ≡ k → refuse_kind o.has_content (is_advisory word) k ≡ None
 kind_is o word k a e = subst (λ (x : Kind). refuse_kind o.has_content (is_advisory word) x ≡ None) e (kind_admitted o word a).1
 
 content_order : (has_content : Bool) → has_content ≡ false → (later : List Standing) → AreInOrder true later → AreInOrder has_content (Content ∷ later)

@@ -7,8 +7,8 @@ use Rattle.std.proofs.lemmas.Option.{get_or_from_slice_get, slice_get_within}
 use Rattle.hunk_words.specs.Bits.{size_longs}
 use Rattle.hunk_blocks.specs.Values.{BlockBody, Name, Code, Data, Bss, Reloc, Ext, Symbol, Debug, Advisory, End, FitsWord, IsBlock}
 use Rattle.hunk_files.specs.LoadFile.{standing, AreInOrder}
-use Rattle.hunk_files.specs.ObjectFile.{ObjectHunk, UnitValue, ObjectFileValue, IsObjectHunk}
-use Rattle.hunk_files.specs.Findings.{FindingValue, content_longs, hunk_bytes, hunk_findings, hunks_findings, unit_findings, units_findings}
+use Rattle.hunk_files.specs.ObjectFile.{ObjectHunk, IsObjectHunk}
+use Rattle.hunk_files.specs.Findings.{FindingValue, content_longs, hunk_bytes, hunk_findings, hunks_findings}
 
 -- ---- what is found of each element of a list
 
@@ -47,18 +47,6 @@ hunks_more unit hunks i hs d now next all l h e =
     let rest : List FindingValue = hunks_findings unit hunks (i + 1) (drop (i + 1) hs) in
     let here : List FindingValue = hunk_findings (record { unit = unit; hunk = i; hunks = hunks; bytes = hunk_bytes (get_or hs i d) }) (get_or hs i d) in
     ap (λ (ys : List FindingValue). ys ++ rest) e ∙ append_assoc now here rest ∙ ap (λ (xs : List ObjectHunk). now ++ hunks_findings unit hunks i xs) (sym (drop_more hs i d l)) ∙ h
-
-pub hunks_all : (unit hunks i : ℕ) (hs : List ObjectHunk) (now all : List FindingValue) → length hs ≤ i → now ++ hunks_findings unit hunks i (drop i hs) ≡ all → now ≡ all
-hunks_all unit hunks i hs now all l h = sym (append-nil now) ∙ ap (λ (xs : List ObjectHunk). now ++ hunks_findings unit hunks i xs) (sym (drop_all i hs l)) ∙ h
-
-pub units_more : (i : ℕ) (us : ObjectFileValue) (d : UnitValue) (now next all : List FindingValue) → i < length us →
-    now ++ units_findings i (drop i us) ≡ all → next ≡ now ++ unit_findings i (get_or us i d) → next ++ units_findings (i + 1) (drop (i + 1) us) ≡ all
-units_more i us d now next all l h e =
-    let rest : List FindingValue = units_findings (i + 1) (drop (i + 1) us) in
-    ap (λ (ys : List FindingValue). ys ++ rest) e ∙ append_assoc now (unit_findings i (get_or us i d)) rest ∙ ap (λ (xs : ObjectFileValue). now ++ units_findings i xs) (sym (drop_more us i d l)) ∙ h
-
-pub units_all : (i : ℕ) (us : ObjectFileValue) (now all : List FindingValue) → length us ≤ i → now ++ units_findings i (drop i us) ≡ all → now ≡ all
-units_all i us now all l h = sym (append-nil now) ∙ ap (λ (xs : ObjectFileValue). now ++ units_findings i xs) (sym (drop_all i us l)) ∙ h
 
 -- ---- the bytes of a hunk fit
 

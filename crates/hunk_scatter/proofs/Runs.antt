@@ -234,11 +234,8 @@ take_bytes bytes n are = front_bytes (take n bytes) (drop n bytes) (subst IsByte
 
 -- the first longword of a piece
 pub in_place : (piece : List ℕ) → IsBytes piece → 4 ≤ length piece → take 4 piece ≡ bytes_of (get_or (longs piece) 0 0 ∷ [])
-in_place [] are l = absurd (omega (arith, l))
-in_place (a ∷ []) are l = absurd (omega (arith, l))
-in_place (a ∷ b ∷ []) are l = absurd (omega (arith, l))
-in_place (a ∷ b ∷ c ∷ []) are l = absurd (omega (arith, l))
 in_place (a ∷ b ∷ c ∷ d ∷ rest) are l = fours_are (a ∷ b ∷ c ∷ d ∷ []) (front_bytes (a ∷ b ∷ c ∷ d ∷ []) rest are) refl
+in_place _ are l = absurd (omega (arith, l))
 
 -- Up to the end of a longword there are bytes.
 pub takes_some : (old new piece : List ℕ) (n : ℕ) (word : Option ℕ) → length old < 4 → 0 < length piece → Gathers (old ++ take n piece) new word → IfNone word (n ≡ length piece) → 0 < n
