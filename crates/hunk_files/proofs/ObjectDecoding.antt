@@ -94,16 +94,10 @@ advisory kinds.Unit h = absurd cc
 advisory _ h = absurd cc
 
 pub standing_is : (word : ℕ) (body : BlockBody) → FitsWord word body → standing body ≡ standing_of_kind (kind word)
-standing_is word (Name ws) h = rw h.0 refl
-standing_is word (Code top ws) h = rw h.0 refl
-standing_is word (Data top ws) h = rw h.0 refl
-standing_is word (Bss size) h = rw h.0 refl
 standing_is word (Reloc gs) h = sym (relocating (kind word) h.0)
-standing_is word (Ext es) h = rw h.0 refl
-standing_is word (Symbol es) h = rw h.0 refl
-standing_is word (Debug ws) h = rw h.0 refl
 standing_is word (Advisory ws) h = sym (advisory (kind word) h.0)
 standing_is word End h = rw h refl
+standing_is word _ h = rw h.0 refl
 
 word_in_front : (bytes : List ℕ) (b : BlockValue) (more : List ℕ) → longs bytes ≡ block_text b ++ more → first_long bytes ≡ b.word
 word_in_front bytes b more e = ap (λ (ws : List ℕ). get_or ws 0 0) e
