@@ -12,7 +12,7 @@ use Rattle.hunk_words.specs.Bits.{kind}
 use Rattle.hunk_words.specs.Longs.{longs, bytes_of, IsBytes, AreLongs, IsLong}
 use Rattle.hunk_words.proofs.LongLaws.{bytes_of-append, length-bytes_of, longs-bytes_of, spelled, longs-few}
 use Rattle.hunk_blocks.specs.declared.mode.Mode.TheVariants as modes
-use Rattle.hunk_blocks.specs.Values.{BlockBody, BlockValue, Name, Code, Data, Bss, Reloc, Ext, Symbol, Debug, Advisory, End, FitsWord, IsBlock, IsPayload, is_relocation, is_unknown}
+use Rattle.hunk_blocks.specs.Values.{BlockBody, BlockValue, Reloc, Advisory, End, FitsWord, IsBlock, IsPayload, is_relocation, is_unknown}
 use Rattle.hunk_blocks.specs.Parts.{block_text}
 use Rattle.hunk_blocks.specs.Modes.{is_block_refusal}
 use Rattle.hunk_blocks.specs.Begins.{BeginsWithBlock, BeginsWithNoBlock, first_long}

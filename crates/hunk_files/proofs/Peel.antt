@@ -2,7 +2,7 @@
 use Rattle.std.proofs.Common.{◌≡◌, ℕ, Bool, true, false, ◌||◌, List, [], ◌∷◌, ◌++◌, map, refl, sym, ap, ap₂, ◌∙◌, append_assoc}
 use Rattle.std.specs.List.{AllByRecursion}
 use Rattle.std.proofs.lemmas.List.{map-append}
-use Rattle.hunk_blocks.specs.Values.{BlockBody, BlockValue, Name, Code, Data, Bss, Reloc, Ext, Symbol, Debug, Advisory, End}
+use Rattle.hunk_blocks.specs.Values.{BlockBody, BlockValue, Name, Code, Data, Bss, Reloc, Ext, Symbol, Debug, Advisory, End, IsBlock}
 use Rattle.hunk_blocks.specs.Parts.{Part, block_text, block_parts}
 use Rattle.hunk_files.specs.LoadFile.{HunkValue, IsHunk, IsHunkBlock, AreInOrder, standing, declared_longs}
 use Rattle.hunk_scan.specs.Standings.{is_content}
@@ -12,29 +12,30 @@ use Rattle.hunk_blocks.proofs.BlockPrefix.{block_same}
 use Rattle.hunk_files.specs.Hunks.{is_end, block_texts, EndsOnce, IsLoadBlock, AreHunkBlocks}
 use Rattle.hunk_files.proofs.FileText.{standings}
 
-true_false : true ≡ false → ⊥
-true_false e = absurd cc
-
-hunk_peel_by : (xs ys : List BlockValue) (u v : List ℕ) → AllByRecursion IsLoadBlock xs → EndsOnce xs → AllByRecursion IsLoadBlock ys → EndsOnce ys → block_texts xs ++ u ≡ block_texts ys ++ v → (xs ≡ ys) × (u ≡ v)
-hunk_peel_by [] ys u v ha ea hb eb e = absurd ea
-hunk_peel_by (a ∷ xs) [] u v ha ea hb eb e = absurd eb
-hunk_peel_by (a ∷ xs) (b ∷ ys) u v ha ea hb eb e =
+-- Blocks up to the first END have one reading.
+pub blocks_peel : (xs ys : List BlockValue) (u v : List ℕ) → AllByRecursion IsBlock xs → EndsOnce xs → AllByRecursion IsBlock ys → EndsOnce ys → block_texts xs ++ u ≡ block_texts ys ++ v → (xs ≡ ys) × (u ≡ v)
+blocks_peel [] ys u v ha ea hb eb e = absurd ea
+blocks_peel (a ∷ xs) [] u v ha ea hb eb e = absurd eb
+blocks_peel (a ∷ xs) (b ∷ ys) u v ha ea hb eb e =
     let split : block_text a ++ (block_texts xs ++ u) ≡ block_text b ++ (block_texts ys ++ v) = sym (append_assoc (block_text a) (block_texts xs) u) ∙ e ∙ append_assoc (block_text b) (block_texts ys) v in
-    let same = block_same a b (block_texts xs ++ u) (block_texts ys ++ v) ha.0.0 hb.0.0 split in
-    go xs ys ha.1 ea hb.1 eb same.0 same.1 (hunk_peel_by xs ys u v)
+    let same = block_same a b (block_texts xs ++ u) (block_texts ys ++ v) ha.0 hb.0 split in
+    go xs ys ha.1 ea hb.1 eb same.0 same.1 (blocks_peel xs ys u v)
   where
-    go : (xs ys : List BlockValue) → AllByRecursion IsLoadBlock xs → EndsOnce (a ∷ xs) → AllByRecursion IsLoadBlock ys → EndsOnce (b ∷ ys) → a ≡ b → block_texts xs ++ u ≡ block_texts ys ++ v →
-        (AllByRecursion IsLoadBlock xs → EndsOnce xs → AllByRecursion IsLoadBlock ys → EndsOnce ys → block_texts xs ++ u ≡ block_texts ys ++ v → (xs ≡ ys) × (u ≡ v)) → (a ∷ xs ≡ b ∷ ys) × (u ≡ v)
+    go : (xs ys : List BlockValue) → AllByRecursion IsBlock xs → EndsOnce (a ∷ xs) → AllByRecursion IsBlock ys → EndsOnce (b ∷ ys) → a ≡ b → block_texts xs ++ u ≡ block_texts ys ++ v →
+        (AllByRecursion IsBlock xs → EndsOnce xs → AllByRecursion IsBlock ys → EndsOnce ys → block_texts xs ++ u ≡ block_texts ys ++ v → (xs ≡ ys) × (u ≡ v)) → (a ∷ xs ≡ b ∷ ys) × (u ≡ v)
     go [] [] ha ea hb eb same rest more = (ap (λ (x : BlockValue). x ∷ []) same, rest)
-    go [] (c ∷ ys) ha ea hb eb same rest more = let clash : is_end b.body ≡ true = ap (λ (x : BlockValue). is_end x.body) (sym same) ∙ ea in absurd (true_false (sym clash ∙ eb.0))
-    go (c ∷ xs) [] ha ea hb eb same rest more = let clash : is_end a.body ≡ true = ap (λ (x : BlockValue). is_end x.body) same ∙ eb in absurd (true_false (sym clash ∙ ea.0))
+    go [] (c ∷ ys) ha ea hb eb same rest more = let ends : is_end b.body ≡ true = ap (λ (x : BlockValue). is_end x.body) (sym same) ∙ ea in absurd (cc (ends, eb.0))
+    go (c ∷ xs) [] ha ea hb eb same rest more = let ends : is_end a.body ≡ true = ap (λ (x : BlockValue). is_end x.body) same ∙ eb in absurd (cc (ends, ea.0))
     go (c ∷ xs) (d ∷ ys) ha ea hb eb same rest more =
         let r = more ha ea.1 hb eb.1 rest in
         (ap₂ (λ (x : BlockValue) (xs : List BlockValue). x ∷ xs) same r.0, r.1)
 
--- Blocks up to END have one reading.
+are_blocks : (xs : List BlockValue) → AllByRecursion IsLoadBlock xs → AllByRecursion IsBlock xs
+are_blocks [] h = tt
+are_blocks (b ∷ xs) h = (h.0.0, are_blocks xs h.1)
+
 pub hunk_peel : (xs ys : List BlockValue) (u v : List ℕ) → AreHunkBlocks xs → AreHunkBlocks ys → block_texts xs ++ u ≡ block_texts ys ++ v → (xs ≡ ys) × (u ≡ v)
-hunk_peel xs ys u v ha hb e = hunk_peel_by xs ys u v ha.each ha.ends hb.each hb.ends e
+hunk_peel xs ys u v ha hb e = blocks_peel xs ys u v (are_blocks xs ha.each) ha.ends (are_blocks ys hb.each) hb.ends e
 
 -- ---- the blocks of a hunk are such blocks
 
@@ -62,7 +63,7 @@ ends_by has w b ys h more = go has b ys h more
     go true End ys h more = last ys h
     go _ _ ys h more = absurd h
 
-order_ends : (has : Bool) (ys : List BlockValue) → AreInOrder has (standings ys) → EndsOnce ys
+pub order_ends : (has : Bool) (ys : List BlockValue) → AreInOrder has (standings ys) → EndsOnce ys
 order_ends has [] h = h
 order_ends has (b ∷ ys) h = ends_by has b.word b.body ys h (λ k. order_ends k ys)
 
