@@ -33,10 +33,6 @@ pub found_told : {A : Type 0} (f : A → List FindingValue) (xs : List A) (i : �
 found_told f xs i x now next old g h e =
     found_more f xs i x now next old (slice_get_within xs i x g) h (e ∙ ap (λ y. now ++ f y) (sym (get_or_from_slice_get xs i x x g)))
 
-pub flat_map-map : {A B C : Type 0} (f : B → List C) (g : A → B) (xs : List A) → flat_map (λ x. f (g x)) xs ≡ flat_map f (map g xs)
-flat_map-map f g [] = refl
-flat_map-map f g (x ∷ xs) = ap (λ zs. f (g x) ++ zs) (flat_map-map f g xs)
-
 -- ---- the hunks of a unit, the units of a file
 
 pub hunks_more : (unit hunks i : ℕ) (hs : List ObjectHunk) (d : ObjectHunk) (now next all : List FindingValue) → i < length hs →
