@@ -112,7 +112,8 @@ module _ (o : OpenHunk) where
 abbrev Keeps : List TableEntry → Next → Type 0
 Keeps table n = (table_of n ≡ table) × IsBehindHeader n
 
-open_keeps : (hunks : ℕ) (finished : List HunkValue) (x : HunkValue) (ahead : List TableEntry) → Keeps (entries finished ++ x.entry ∷ ahead) (open_hunk hunks (finished ++ x ∷ []) ahead)
+open_keeps : (hunks : ℕ) (finished : List HunkValue) (x : HunkValue) (ahead : List TableEntry) →
+    Keeps (entries finished ++ x.entry ∷ ahead) (open_hunk hunks (finished ++ x ∷ []) ahead)
 open_keeps hunks finished x [] = (map-more (λ (h : HunkValue). h.entry) finished x, refl)
 open_keeps hunks finished x (e ∷ ahead) = (
   ap (λ (es : List TableEntry). es ++ e ∷ ahead) (map-more (λ (h : HunkValue). h.entry) finished x) ∙ append_assoc (entries finished) (x.entry ∷ []) (e ∷ ahead),

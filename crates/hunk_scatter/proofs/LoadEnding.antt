@@ -99,7 +99,9 @@ module _ (base : Placing) (budget limit : ℕ) (old left : Option (List ℕ)) (f
         go : IsReadFault limit left failed (length given) f → f.reason ≡ reasons.OutOfMemory
         go (inl (e, p, c)) = absurd (not_whole _ s.truncated (drop_all 0 front.0 (omega (arith, c, fits, ap length front.1, length-append given front.0))))
         go (inr (inl (e, p, x))) = absurd (let clash : true ≡ false = sym x ∙ works in cc)
-        go (inr (inr (e, p, a))) = absurd (not_whole _ s.truncated (drop_all 0 front.0 (omega (arith, ap length (sym front.2 ∙ nothing_left left split.rest split.left_is a), length-append front.0 rest))))
+        go (inr (inr (e, p, a))) =
+            let none = sym front.2 ∙ nothing_left left split.rest split.left_is a in
+            absurd (not_whole _ s.truncated (drop_all 0 front.0 (omega (arith, ap length none, length-append front.0 rest))))
 
     by_header : (r : Reason) (at : ℕ) → IsTrue (is_of_header r) → IsHeaderFaultBy r budget given at → r ≡ reasons.OutOfMemory
     by_header reasons.Budget at o h = absurd (no_pass at h)

@@ -103,8 +103,8 @@ module _ (rows : List Row) (hunk start : ℕ) where
       none : (n : ℕ) (store : List ℕ) → made n [] store ≡ store
       more : (n w : ℕ) (ws store : List ℕ) → Room (suc n) store → made n ws (stored_at (pos (suc n)) w store) ≡ made (suc n) (w ∷ ws) store
 
-    list_read : Owing → (store fed : List ℕ) (n left : ℕ) (ws : List ℕ) → AreLongs ws → AllByRecursion Good ws → Room n store → Reading rows store (at (pos n)) [] fed → length ws + left ≡ n →
-        Read rows (made n ws store) (at (pos left)) fed ws
+    list_read : Owing → (store fed : List ℕ) (n left : ℕ) (ws : List ℕ) → AreLongs ws → AllByRecursion Good ws → Room n store →
+        Reading rows store (at (pos n)) [] fed → length ws + left ≡ n → Read rows (made n ws store) (at (pos left)) fed ws
     list_read o store fed n left [] l g room r e =
         let same : n ≡ left = omega (arith, e) in
         subst (λ (k : ℕ). Read rows (made n [] store) (at (pos k)) fed []) same
@@ -120,12 +120,14 @@ module _ (rows : List Row) (hunk start : ℕ) where
         (subst (λ (s : BodyState). Reading rows now s [] (fed ++ bytes_of (w ∷ []))) (o.moves n w) next) (omega (arith, e))))
 
   content_owing : (o : OpenHunk) (all : ℕ) →
-      Owing IsLong (λ n store. (n ≤ all) × (start + 4 * all ≤ length store)) (owe_content o all) (λ n ws store. put_slice store (start + 4 * (all - n)) (bytes_of ws))
+      Owing IsLong (λ n store. (n ≤ all) × (start + 4 * all ≤ length store)) (owe_content o all)
+      (λ n ws store. put_slice store (start + 4 * (all - n)) (bytes_of ws))
   content_owing o all = record {
     goes_on = λ n. refl;
     passes = λ n w l. refl;
     moves = moves;
-    room = λ n w store h. (omega (arith, h.0), omega (arith, h.1, length-put store (start + 4 * (all - n - 1)) (to_be_bytes w32 w) refl (omega (arith, h.0, h.1))));
+    room = λ n w store h.
+        (omega (arith, h.0), omega (arith, h.1, length-put store (start + 4 * (all - n - 1)) (to_be_bytes w32 w) refl (omega (arith, h.0, h.1))));
     none = λ n store. ap (λ (xs : List ℕ). put_slice store (start + 4 * (all - n)) xs) bytes_of-nil ∙ sym (put_none store (start + 4 * (all - n)));
     more = λ n w ws store h.
         put_long store (start + 4 * (all - n - 1)) (start + 4 * (all - n)) w ws (omega (arith, h.0)) (omega (arith, h.0, h.1))
@@ -137,14 +139,16 @@ module _ (rows : List Row) (hunk start : ℕ) where
       moves (suc n) w = refl
 
   payload_owing : (o : OpenHunk) → Owing IsLong (λ n store. Unit {0}) (owe_payload o) (λ n ws store. store)
-  payload_owing o = record { goes_on = λ n. refl; passes = λ n w l. refl; moves = moves; room = λ n w store h. tt; none = λ n store. refl; more = λ n w ws store h. refl }
+  payload_owing o =
+      record { goes_on = λ n. refl; passes = λ n w l. refl; moves = moves; room = λ n w store h. tt; none = λ n store. refl; more = λ n w ws store h. refl }
     where
       moves : (n w : ℕ) → step_body (words_of rows) (at (owe_payload o (suc n))) w ≡ at (owe_payload o n)
       moves zero w = refl
       moves (suc n) w = refl
 
   symbol_owing : (o : OpenHunk) → Owing IsLong (λ n store. Unit {0}) (owe_symbol o) (λ n ws store. store)
-  symbol_owing o = record { goes_on = λ n. refl; passes = λ n w l. refl; moves = moves; room = λ n w store h. tt; none = λ n store. refl; more = λ n w ws store h. refl }
+  symbol_owing o =
+      record { goes_on = λ n. refl; passes = λ n w l. refl; moves = moves; room = λ n w store h. tt; none = λ n store. refl; more = λ n w ws store h. refl }
     where
       moves : (n w : ℕ) → step_body (words_of rows) (at (owe_symbol o (suc n))) w ≡ at (owe_symbol o n)
       moves zero w = refl
@@ -152,7 +156,8 @@ module _ (rows : List Row) (hunk start : ℕ) where
 
   -- one offset at least is still owed
   offsets_owing : (o : OpenHunk) (target : ℕ) →
-      Owing (EndsWithin (4 * longs_at (words_of rows) hunk)) (λ n store. Unit {0}) (λ n. positions.Body o (phases.Offset target n)) (λ n ws store. added start (get_or (bases_of rows) target 0) ws store)
+      Owing (EndsWithin (4 * longs_at (words_of rows) hunk)) (λ n store. Unit {0}) (λ n. positions.Body o (phases.Offset target n))
+      (λ n ws store. added start (get_or (bases_of rows) target 0) ws store)
   offsets_owing o target = record {
     goes_on = λ n. refl;
     passes = λ n w within. within_passes (4 * longs_at (words_of rows) hunk) w within;
@@ -168,8 +173,10 @@ run_read : (rows : List Row) (hunk start : ℕ) (p : Position) (store fed ws : L
 run_read rows hunk start p store fed [] l r i some fits = absurd (omega (arith, some))
 run_read rows hunk start (positions.Body o (phases.Content all owed)) store fed (w ∷ ws) l r i some fits =
     let here : all - suc owed ≡ all - owed - 1 = omega arith in
-    subst (λ (k : ℕ). Read rows (put_slice store (start + 4 * k) (bytes_of (w ∷ ws))) (record { hunk = hunk; start = start; position = owe_content o all (owed - length ws) }) fed (w ∷ ws)) here
-    (list_read rows hunk start _ _ _ _ (content_owing rows hunk start o all) store fed (suc owed) (owed - length ws) (w ∷ ws) l l (omega (arith, i.room.0), omega (arith, i.segment, i.room.1)) r (omega (arith, fits)))
+    let behind : BodyState = record { hunk = hunk; start = start; position = owe_content o all (owed - length ws) } in
+    subst (λ (k : ℕ). Read rows (put_slice store (start + 4 * k) (bytes_of (w ∷ ws))) behind fed (w ∷ ws)) here
+    (list_read rows hunk start _ _ _ _ (content_owing rows hunk start o all) store fed (suc owed) (owed - length ws) (w ∷ ws) l l
+    (omega (arith, i.room.0), omega (arith, i.segment, i.room.1)) r (omega (arith, fits)))
 run_read rows hunk start (positions.Body o (phases.Payload owed)) store fed (w ∷ ws) l r i some fits =
     list_read rows hunk start _ _ _ _ (payload_owing rows hunk start o) store fed (suc owed) (owed - length ws) (w ∷ ws) l l tt r (omega (arith, fits))
 run_read rows hunk start (positions.Body o (phases.Symbol owed)) store fed (w ∷ ws) l r i some fits =
@@ -242,7 +249,8 @@ read_offsets rows store store2 state state2 fed piece n r are fits t =
     go (positions.Body o (phases.Offset target owed)) q l k =
         subst (λ (s : BodyState). Read rows store2 s fed (take n (longs piece))) (sym k.2)
         (subst (λ (xs : List ℕ). Read rows xs (record { hunk = state.hunk; start = state.start; position = positions.Body o (phases.Offset target (owed - length (take n (longs piece)))) }) fed (take n (longs piece))) (sym k.3)
-        (list_read rows state.hunk state.start _ _ _ _ (offsets_owing rows state.hunk state.start o target) store fed owed (owed - length (take n (longs piece))) (take n (longs piece)) l k.1 tt q (omega (arith, k.0))))
+        (list_read rows state.hunk state.start _ _ _ _ (offsets_owing rows state.hunk state.start o target) store fed owed _ (take n (longs piece))
+        l k.1 tt q (omega (arith, k.0))))
     go _ q l k = absurd k
 
 -- The state behind so many offsets.

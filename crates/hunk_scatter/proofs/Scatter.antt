@@ -108,8 +108,8 @@ inside_holds bases o word x w store a f ok h = go x f ok h
     idle y e d k = holds_as bases o (Open y) (step_inside y w) store (nothing_added bases o y w e d) k
 
     -- a longword of the content, which is the first of the hunk
-    content : (y : Inside) (done : List ℕ) (owed : ℕ) → bytes_in y ≡ bytes_of done → pairs_in y ≡ [] → adds_bytes y w ≡ bytes_of (w ∷ []) → adds_pairs y w ≡ [] → o.has_content ≡ false →
-        length done + suc owed ≤ size_longs o.entry.word → Holds bases o (Open y) store →
+    content : (y : Inside) (done : List ℕ) (owed : ℕ) → bytes_in y ≡ bytes_of done → pairs_in y ≡ [] → adds_bytes y w ≡ bytes_of (w ∷ []) → adds_pairs y w ≡ [] →
+        o.has_content ≡ false → length done + suc owed ≤ size_longs o.entry.word → Holds bases o (Open y) store →
         Holds bases o (step_inside y w) (put_at store (before o.finished + 4 * (length done + suc owed - owed - 1)) (to_be_bytes w32 w))
     content y done owed b p e d early fits k =
         let four : List ℕ = to_be_bytes w32 w in
@@ -126,9 +126,11 @@ inside_holds bases o word x w store a f ok h = go x f ok h
     go : (y : Inside) → blocks.Fits (place_of o) word y → refuse_part (place_of o) (part_of y) w ≡ None → Holds bases o (Open y) store →
         Holds bases o (step_inside y w) (stored_in bases (before o.finished) (position_of (More (InBody o word y))) w store)
     go (InPayload (SizedCode top) done owed) f ok k =
-        content (InPayload (SizedCode top) done owed) done owed refl refl refl refl (passed_false o.has_content reasons.SecondContent (kind_is o word kinds.Code a f.0.0.0)) f.1 k
+        content (InPayload (SizedCode top) done owed) done owed refl refl refl refl
+        (passed_false o.has_content reasons.SecondContent (kind_is o word kinds.Code a f.0.0.0)) f.1 k
     go (InPayload (SizedData top) done owed) f ok k =
-        content (InPayload (SizedData top) done owed) done owed refl refl refl refl (passed_false o.has_content reasons.SecondContent (kind_is o word kinds.Data a f.0.0.0)) f.1 k
+        content (InPayload (SizedData top) done owed) done owed refl refl refl refl
+        (passed_false o.has_content reasons.SecondContent (kind_is o word kinds.Data a f.0.0.0)) f.1 k
     go (InOffsets groups target done owed) f ok k =
         let y : Inside = InOffsets groups target done owed in
         let room : w + 4 ≤ 4 * size_longs o.entry.word = ltb-false (4 * size_longs o.entry.word) (w + 4) (passed_false (ltb (4 * size_longs o.entry.word) (w + 4)) reasons.BadOffset ok) in
