@@ -1,5 +1,5 @@
 -- No longword of a load text is refused.
-use Rattle.std.proofs.Common.{◌≡◌, ◌≢◌, ℕ, ◌+◌, ◌-◌, ◌*◌, ◌^◌, ◌<◌, ◌≤◌, Bool, true, false, ◌||◌, ltb, eqb, List, [], ◌∷◌, ◌++◌, length, map, refl, ◌∙◌, arith, Some, None}
+use Rattle.std.proofs.Common.{◌≡◌, ◌≢◌, ℕ, ◌+◌, ◌-◌, ◌*◌, ◌^◌, ◌<◌, ◌≤◌, Bool, true, false, ◌||◌, ltb, eqb, List, [], ◌∷◌, length, map, refl, ◌∙◌, arith, Some, None}
 use Rattle.std.specs.Prelude.{IsTrue, if◌then◌else◌, cond}
 use Rattle.std.specs.List.{flat_map, AllByRecursion}
 use Rattle.std.proofs.lemmas.Bool.{lt-ltb, le-ltb, eq-eqb, ne_eqb}
@@ -17,12 +17,9 @@ use Rattle.hunk_scan.specs.Standings.{Standing, Beside, Content, Relocating, End
 use Rattle.hunk_scan.specs.Roles.{Place, InBlock, refuse, refuse_part, refuse_kind, Role as roles}
 use Rattle.hunk_files.specs.LoadText.{entry_labelled, header_labelled, block_labelled, blocks_labelled, hunk_labelled, table, labelled}
 use Rattle.hunk_files.proofs.FileText.{standings, entries_fit}
-use Rattle.hunk_blocks.proofs.Lists.{passes_else, passes_then}
+use Rattle.hunk_blocks.proofs.Lists.{passes_else, passes_then, All-append}
 use Rattle.hunk_files.specs.WordsRead.{IsAccepted, AreAccepted}
-
-pub All-append : {A : Type 0} (P : A → Type 0) (xs ys : List A) → AllByRecursion P xs → AllByRecursion P ys → AllByRecursion P (xs ++ ys)
-All-append P [] ys h k = k
-All-append P (x ∷ xs) ys h k = (h.0, All-append P xs ys h.1 k)
+use Rattle.hunk_files.proofs.FileProgress.{place_in}
 
 pub All-flat_map : {A B : Type 0} (P : A → Type 0) (Q : B → Type 0) (f : A → List B) → ((x : A) → P x → AllByRecursion Q (f x)) → (xs : List A) → AllByRecursion P xs → AllByRecursion Q (flat_map f xs)
 All-flat_map P Q f each [] h = tt
@@ -114,21 +111,18 @@ at_end false later o = absurd o
 
 unknown_passes : (has_content advisory : Bool) (k : Kind) → IsTrue (is_unknown k) → IsTrue advisory → refuse_kind has_content advisory k ≡ None
 unknown_passes has_content advisory (kinds.Unknown n) u a = passes_then advisory None (Some reasons.UnknownBlock) a
-unknown_passes has_content advisory kinds.Unit u a = absurd cc
 unknown_passes has_content advisory _ u a = absurd cc
 
 kind_passes : (has_content : Bool) (word : ℕ) (body : BlockBody) (later : List Standing) → FitsWord word body → IsOfLoad word body →
     AreInOrder has_content (standing body ∷ later) → refuse_kind has_content (is_advisory word) (kind word) ≡ None
-kind_passes has_content word (Name ws) later h m o = rw h.0 refl
 kind_passes has_content word (Code top ws) later h m o = rw h.0 (passes_else has_content (Some reasons.SecondContent) None (not_yet has_content later o))
 kind_passes has_content word (Data top ws) later h m o = rw h.0 (passes_else has_content (Some reasons.SecondContent) None (not_yet has_content later o))
 kind_passes has_content word (Bss size) later h m o = rw h.0 (passes_else has_content (Some reasons.SecondContent) None (not_yet has_content later o))
 kind_passes has_content word (Reloc gs) later h m o = rw m (passes_then has_content None (Some reasons.BeforeContent) (already has_content later o))
 kind_passes has_content word (Ext es) later h m o = absurd m
-kind_passes has_content word (Symbol es) later h m o = rw h.0 refl
-kind_passes has_content word (Debug ws) later h m o = rw h.0 refl
 kind_passes has_content word (Advisory ws) later h m o = unknown_passes has_content (is_advisory word) (kind word) h.0 h.1
 kind_passes has_content word End later h m o = rw h (passes_then has_content None (Some reasons.NoContent) (at_end has_content later o))
+kind_passes has_content word _ later h m o = rw h.0 refl
 
 block_passes : (p : Place) (b : BlockValue) (later : List Standing) → IsHunkBlock p.hunks p.longs b → AreInOrder p.has_content (standing b.body ∷ later) → PartsPass p (block_parts b)
 block_passes p b later h o = (
@@ -139,9 +133,6 @@ block_passes p b later h o = (
 block_accepted : (p : Place) (b : BlockValue) (later : List Standing) → IsHunkBlock p.hunks p.longs b → AreInOrder p.has_content (standing b.body ∷ later) → AreAccepted (block_labelled p b)
 block_accepted p b later h o = All-map (PartPasses p) IsAccepted (λ (x : Part × ℕ). (InBlock p x.0, x.1)) (λ x k. k) (block_parts b) (block_passes p b later h o)
 
-abbrev place_in : ℕ → ℕ → Bool → Place
-place_in hunks longs has_content = record { hunks = hunks; longs = longs; has_content = has_content }
-
 module _ (hunks longs : ℕ) where
   abbrev RestPasses : List BlockValue → Type 0
   RestPasses more = (has_content : Bool) → AreInOrder has_content (standings more) → AreAccepted (blocks_labelled hunks longs has_content more)
@@ -149,13 +140,11 @@ module _ (hunks longs : ℕ) where
   rest_passes : (s : Standing) (has_content : Bool) (more : List BlockValue) → AreInOrder has_content (s ∷ standings more) → RestPasses more → AreAccepted (blocks_labelled hunks longs (has_content || is_content s) more)
   rest_passes Beside true more o rest = rest true o
   rest_passes Beside false more o rest = rest false o
-  rest_passes Content true more o rest = absurd o
   rest_passes Content false more o rest = rest true o
   rest_passes Relocating true more o rest = rest true o
-  rest_passes Relocating false more o rest = absurd o
   rest_passes Ending true [] o rest = tt
   rest_passes Ending true (c ∷ more) o rest = absurd cc
-  rest_passes Ending false more o rest = absurd o
+  rest_passes _ _ more o rest = absurd o
 
   blocks_accepted : (more : List BlockValue) → AllByRecursion (IsHunkBlock hunks longs) more → RestPasses more
   blocks_accepted [] h has_content o = tt

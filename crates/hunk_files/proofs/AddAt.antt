@@ -1,5 +1,5 @@
 -- What an addition at an offset does to bytes.
-use Rattle.std.proofs.Common.{◌≡◌, ℕ, zero, suc, ◌+◌, ◌-◌, ◌%◌, ◌^◌, ◌<◌, ◌≤◌, min, List, ◌++◌, length, get_or, take, drop, refl, sym, ap, ◌∙◌, append_assoc, arith, ◌⊎◌, inl, inr}
+use Rattle.std.proofs.Common.{◌≡◌, ℕ, suc, ◌+◌, ◌-◌, ◌%◌, ◌^◌, ◌<◌, ◌≤◌, min, List, ◌++◌, length, get_or, take, drop, refl, sym, ap, ◌∙◌, append_assoc, arith, ◌⊎◌, inl, inr}
 use Rattle.std.specs.Int.{w32, to_be_bytes, from_be_bytes}
 use Rattle.std.proofs.lemmas.List.{length-append, length-take, length-take-le, length-drop, get_or_append_left, get_or-append_right, get_or-take, get_or-drop, get_or_past, drop_at, take_at, ext_get_or}
 use Rattle.std.proofs.lemmas.Nat.{from_be_bytes-to_be_bytes_4}
@@ -54,11 +54,8 @@ same_long s t p e same =
     get_or-take 4 (drop p s) i 0 less ∙ get_or-drop p s i 0 ∙ same (p + i) (omega arith) (omega arith) ∙ sym (get_or-take 4 (drop p t) i 0 less ∙ get_or-drop p t i 0))
 
 pub bytes_of_word : (x : ℕ) → IsBytes (to_be_bytes w32 x)
-bytes_of_word x zero = omega arith
-bytes_of_word x (suc zero) = omega arith
-bytes_of_word x (suc (suc zero)) = omega arith
-bytes_of_word x (suc (suc (suc zero))) = omega arith
 bytes_of_word x (suc (suc (suc (suc i)))) = omega arith
+bytes_of_word x _ = omega arith
 
 pub bytes_in_long : (s : List ℕ) (p : ℕ) → IsBytes s → IsBytes (take 4 (drop p s))
 bytes_in_long s p h i =

@@ -18,10 +18,11 @@ use Rattle.hunk_blocks.proofs.BlockText.{Follows-append, payload_follows, offset
 use Rattle.hunk_files.proofs.HunkProgress.{Fits, Within}
 use Rattle.hunk_files.proofs.FileText.{in_place, Follows-leads, Leads-append}
 use Rattle.hunk_files.specs.FileSteps.{table_entry, hunk, block, OpenHunk, Progress, AtFirst, AtResident, AtTableSize, AtFirstHunk, AtLastHunk, AtSizeWord, AtAttributes, AtBlock, InBody, Next, More, Finished, place_of, role_of, open_hunk, rows, with_block, close_by, close, step, Leads}
-use Rattle.hunk_files.proofs.FileProgress.{or_false, or_true, ProgressFits, NextFits}
-use Rattle.hunk_blocks.proofs.Lists.{more_owed, passes_else, passes_then}
+use Rattle.hunk_files.proofs.FileProgress.{ProgressFits, NextFits}
+use Rattle.hunk_blocks.proofs.Lists.{more_owed, passes_else, passes_then, All-append}
 use Rattle.hunk_files.specs.WordsRead.{Labelled, IsAccepted}
-use Rattle.hunk_files.proofs.Accepted.{All-append, All-map, PartPasses}
+use Rattle.hunk_files.proofs.Accepted.{All-map, PartPasses}
+use Rattle.std.proofs.Math.Bool.{or-false, or-true}
 
 -- ---- the words that complete
 
@@ -142,9 +143,9 @@ open_completes o = go o.has_content refl
     go false e = filled_and_ended o (empty_hunks (length o.ahead)) e (hunks_complete o.hunks _ o.ahead)
 
 close_completes : (o : OpenHunk) (b : BlockValue) (s : Standing) → s ≢ Ending → Completes (close_by o b s) (end_of_hunk (o.has_content || is_content s) ++ empty_hunks (length o.ahead))
-close_completes o b Beside ne = Completes-as (close_by o b Beside) (ap (λ (c : Bool). end_of_hunk c ++ empty_hunks (length o.ahead)) (sym (or_false o.has_content))) (open_completes (with_block o b o.has_content))
-close_completes o b Relocating ne = Completes-as (close_by o b Relocating) (ap (λ (c : Bool). end_of_hunk c ++ empty_hunks (length o.ahead)) (sym (or_false o.has_content))) (open_completes (with_block o b o.has_content))
-close_completes o b Content ne = Completes-as (close_by o b Content) (ap (λ (c : Bool). end_of_hunk c ++ empty_hunks (length o.ahead)) (sym (or_true o.has_content))) (open_completes (with_block o b true))
+close_completes o b Beside ne = Completes-as (close_by o b Beside) (ap (λ (c : Bool). end_of_hunk c ++ empty_hunks (length o.ahead)) (sym (or-false o.has_content))) (open_completes (with_block o b o.has_content))
+close_completes o b Relocating ne = Completes-as (close_by o b Relocating) (ap (λ (c : Bool). end_of_hunk c ++ empty_hunks (length o.ahead)) (sym (or-false o.has_content))) (open_completes (with_block o b o.has_content))
+close_completes o b Content ne = Completes-as (close_by o b Content) (ap (λ (c : Bool). end_of_hunk c ++ empty_hunks (length o.ahead)) (sym (or-true o.has_content))) (open_completes (with_block o b true))
 close_completes o b Ending ne = absurd (ne refl)
 
 -- ---- the open block
@@ -178,17 +179,11 @@ closes p word (InPayload f done owed) h = record {
   where
     same : (g : Filling) (ws : List ℕ) → is_content (standing (filled_body g ws)) ≡ filling_content g
     same (Counted ForName) ws = refl
-    same (Counted ForDebug) ws = refl
-    same (Counted ForAdvisory) ws = refl
-    same (SizedCode top) ws = refl
-    same (SizedData top) ws = refl
+    same _ ws = refl
 
     more : (g : Filling) (ws : List ℕ) → standing (filled_body g ws) ≢ Ending
     more (Counted ForName) ws e = cc
-    more (Counted ForDebug) ws e = cc
-    more (Counted ForAdvisory) ws e = cc
-    more (SizedCode top) ws e = cc
-    more (SizedData top) ws e = cc
+    more _ ws e = cc
 closes p word (AtGroup groups) h = record { body = Reloc groups; run = (refl, refl); content = refl; goes_on = λ e. cc }
 closes p word (AtTarget groups owed) h = record {
   body = Reloc (groups ++ group 0 (zeros (suc owed)) ∷ []);

@@ -22,9 +22,8 @@ use Rattle.hunk_files.proofs.HunkProgress as blocks
 use Rattle.hunk_files.proofs.FileText.{in_place, standings}
 use Rattle.hunk_files.specs.FileSteps.{table_entry, hunk, block, OpenHunk, Progress, AtFirst, AtResident, AtTableSize, AtFirstHunk, AtLastHunk, AtSizeWord, AtAttributes, AtBlock, InBody, Next, More, Finished, place_of, role_of, open_hunk, rows, with_block, close, after, sized_row, step}
 use Rattle.hunk_blocks.proofs.Lists.{All-more, map-more, flat_map-more, more_owed, passed_false, passed_true, passed_both, passes_else, passes_then}
-
-abbrev Labelled : Type 0
-Labelled = List (Role × ℕ)
+use Rattle.std.proofs.Math.Bool.{or-false, or-true}
+use Rattle.hunk_files.specs.WordsRead.{Labelled}
 
 -- ---- the text so far
 
@@ -147,14 +146,6 @@ rows_read hunks done (suc owed) h = (h, refl)
 
 -- ---- a block that is whole
 
-pub or_false : (b : Bool) → b || false ≡ b
-or_false true = refl
-or_false false = refl
-
-pub or_true : (b : Bool) → b || true ≡ true
-or_true true = refl
-or_true false = refl
-
 -- the blocks with one more
 module _ (o : OpenHunk) (h : OpenFits o) (b : BlockValue) (fits : IsHunkBlock o.hunks (size_longs o.entry.word) b) where
   one_more_reads : blocks_labelled o.hunks (size_longs o.entry.word) false (o.blocks ++ b ∷ []) ≡ blocks_labelled o.hunks (size_longs o.entry.word) false o.blocks ++ block_labelled (place_of o) b
@@ -218,7 +209,7 @@ kind_admitted o word a = passed_both (has_both_bits word) reasons.BothBits (refu
 block_fits : (o : OpenHunk) (word : ℕ) (body : BlockBody) → IsAdmitted o word → BodyFits (place_of o) word body → IsHunkBlock o.hunks (size_longs o.entry.word) (block word body)
 block_fits o word body a f = record { block = record { word = a.0; bits = (kind_admitted o word a).0; body = f.fits_word }; mode = f.of_load; fits = f.fits_hunk }
 
-kind_is : (o : OpenHunk) (word : ℕ) (k : Kind) → IsAdmitted o word → kind word ≡ k → refuse_kind o.has_content (is_advisory word) k ≡ None
+pub kind_is : (o : OpenHunk) (word : ℕ) (k : Kind) → IsAdmitted o word → kind word ≡ k → refuse_kind o.has_content (is_advisory word) k ≡ None
 kind_is o word k a e = subst (λ (x : Kind). refuse_kind o.has_content (is_advisory word) x ≡ None) e (kind_admitted o word a).1
 
 content_order : (has_content : Bool) → has_content ≡ false → (later : List Standing) → AreInOrder true later → AreInOrder has_content (Content ∷ later)
@@ -235,19 +226,19 @@ end_order false e = absurd cc
 
 close_reads : (o : OpenHunk) (word : ℕ) (body : BlockBody) → OpenFits o → IsAdmitted o word → BodyFits (place_of o) word body →
     Reads (close o (block word body)) (open_so_far o ++ block_labelled (place_of o) (block word body))
-close_reads o word (Name ws) h a f = still_open o h (block word (Name ws)) (block_fits o word (Name ws) a f) o.has_content (sym (or_false o.has_content)) (λ later ok. ok)
+close_reads o word (Name ws) h a f = still_open o h (block word (Name ws)) (block_fits o word (Name ws) a f) o.has_content (sym (or-false o.has_content)) (λ later ok. ok)
 close_reads o word (Code top ws) h a f =
-    still_open o h (block word (Code top ws)) (block_fits o word (Code top ws) a f) true (sym (or_true o.has_content)) (content_order o.has_content (passed_false o.has_content reasons.SecondContent (kind_is o word kinds.Code a f.fits_word.0)))
+    still_open o h (block word (Code top ws)) (block_fits o word (Code top ws) a f) true (sym (or-true o.has_content)) (content_order o.has_content (passed_false o.has_content reasons.SecondContent (kind_is o word kinds.Code a f.fits_word.0)))
 close_reads o word (Data top ws) h a f =
-    still_open o h (block word (Data top ws)) (block_fits o word (Data top ws) a f) true (sym (or_true o.has_content)) (content_order o.has_content (passed_false o.has_content reasons.SecondContent (kind_is o word kinds.Data a f.fits_word.0)))
+    still_open o h (block word (Data top ws)) (block_fits o word (Data top ws) a f) true (sym (or-true o.has_content)) (content_order o.has_content (passed_false o.has_content reasons.SecondContent (kind_is o word kinds.Data a f.fits_word.0)))
 close_reads o word (Bss size) h a f =
-    still_open o h (block word (Bss size)) (block_fits o word (Bss size) a f) true (sym (or_true o.has_content)) (content_order o.has_content (passed_false o.has_content reasons.SecondContent (kind_is o word kinds.Bss a f.fits_word.0)))
+    still_open o h (block word (Bss size)) (block_fits o word (Bss size) a f) true (sym (or-true o.has_content)) (content_order o.has_content (passed_false o.has_content reasons.SecondContent (kind_is o word kinds.Bss a f.fits_word.0)))
 close_reads o word (Reloc gs) h a f =
-    still_open o h (block word (Reloc gs)) (block_fits o word (Reloc gs) a f) o.has_content (sym (or_false o.has_content)) (reloc_order o.has_content (passed_true o.has_content reasons.BeforeContent (kind_is o word kinds.Reloc32 a f.of_load)))
+    still_open o h (block word (Reloc gs)) (block_fits o word (Reloc gs) a f) o.has_content (sym (or-false o.has_content)) (reloc_order o.has_content (passed_true o.has_content reasons.BeforeContent (kind_is o word kinds.Reloc32 a f.of_load)))
 close_reads o word (Ext es) h a f = absurd f.of_load
-close_reads o word (Symbol es) h a f = still_open o h (block word (Symbol es)) (block_fits o word (Symbol es) a f) o.has_content (sym (or_false o.has_content)) (λ later ok. ok)
-close_reads o word (Debug ws) h a f = still_open o h (block word (Debug ws)) (block_fits o word (Debug ws) a f) o.has_content (sym (or_false o.has_content)) (λ later ok. ok)
-close_reads o word (Advisory ws) h a f = still_open o h (block word (Advisory ws)) (block_fits o word (Advisory ws) a f) o.has_content (sym (or_false o.has_content)) (λ later ok. ok)
+close_reads o word (Symbol es) h a f = still_open o h (block word (Symbol es)) (block_fits o word (Symbol es) a f) o.has_content (sym (or-false o.has_content)) (λ later ok. ok)
+close_reads o word (Debug ws) h a f = still_open o h (block word (Debug ws)) (block_fits o word (Debug ws) a f) o.has_content (sym (or-false o.has_content)) (λ later ok. ok)
+close_reads o word (Advisory ws) h a f = still_open o h (block word (Advisory ws)) (block_fits o word (Advisory ws) a f) o.has_content (sym (or-false o.has_content)) (λ later ok. ok)
 close_reads o word End h a f =
     now_whole o h (block word End) (block_fits o word End a f) (end_order o.has_content (passed_true o.has_content reasons.NoContent (kind_is o word kinds.End a f.fits_word)))
 
@@ -288,9 +279,8 @@ zero_or_limit w ok =
 
 first_passes : {A : Type 0} (a b c : Bool) (r s t : A) → cond a None (cond b (Some r) (cond c (Some s) (Some t))) ≡ None → a ≡ true
 first_passes true b c r s t e = refl
-first_passes false true c r s t e = absurd cc
 first_passes false false true r s t e = absurd cc
-first_passes false false false r s t e = absurd cc
+first_passes _ _ _ r s t e = absurd cc
 
 is_header_word : (w : ℕ) → refuse roles.FirstLong w ≡ None → 0x3F3 ≡ w
 is_header_word w ok = sym (eqb-true w 0x3F3 (first_passes (eqb w 0x3F3) (eqb w 0x3E7) (eqb w 0x3FA) reasons.IsObject reasons.Library reasons.NotLoadFile ok))

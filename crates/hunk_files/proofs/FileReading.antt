@@ -1,7 +1,7 @@
 -- The hunks of a load file, read one after the other.
 use Rattle.std.proofs.Common.{◌≡◌, ◌≢◌, ℕ, ◌+◌, ◌<◌, ◌≤◌, List, [], ◌∷◌, ◌++◌, length, map, get_or, drop, refl, sym, ap, subst, ◌∙◌, append_assoc, append-nil, arith}
 use Rattle.std.specs.List.{AllByRecursion}
-use Rattle.std.proofs.lemmas.List.{append_cancel_left, length-append, length-map, length-drop, take-append-drop, map-append, get_or-map, get_or_at}
+use Rattle.std.proofs.lemmas.List.{append_cancel_left, length-append, length-map, length-drop, take-append-drop, map-append, get_or-map, get_or_at, drop_all}
 use Rattle.hunk_words.specs.declared.reason.Reason.{Reason}
 use Rattle.hunk_words.specs.declared.reason.Reason.TheVariants as reasons
 use Rattle.hunk_words.specs.Longs.{longs, bytes_of, IsLong, AreLongs}
@@ -16,8 +16,9 @@ use Rattle.hunk_files.specs.Fault.{BeginsWithLoadFile, HasLoadText}
 use Rattle.hunk_files.specs.Hunks.{block_texts, EndsOnce, IsLoadBlock, AreHunkBlocks, AreBlocksAt, HasNoHunk}
 use Rattle.hunk_files.specs.Tables.{row_entry, hunk_texts, IsTable}
 use Rattle.hunk_files.specs.FileSteps.{hunk}
-use Rattle.hunk_files.proofs.Accepted.{All-append}
 use Rattle.hunk_files.proofs.Peel.{hunk_peel, hunk_is_blocks}
+use Rattle.hunk_blocks.proofs.Lists.{All-append}
+use Rattle.hunk_blocks.proofs.Fronts.{All-right}
 
 -- ---- reasons
 
@@ -80,11 +81,7 @@ module _ (bytes : List ℕ) (file : BeginsWithLoadFile bytes) (rows : List Row) 
     value_is = s.split ∙ ap (λ (m : LoadFileValue). hs ++ m) next_hunk.is
 
     is_hunk : IsHunk (length file.value) next_hunk.hunk
-    is_hunk = (right hs (next_hunk.hunk ∷ next_hunk.later) (subst (AllByRecursion (IsHunk (length file.value))) value_is file.is_load_file.each)).0
-      where
-        right : (xs ys : LoadFileValue) → AllByRecursion (IsHunk (length file.value)) (xs ++ ys) → AllByRecursion (IsHunk (length file.value)) ys
-        right [] ys h = h
-        right (x ∷ xs) ys h = right xs ys h.1
+    is_hunk = (All-right (IsHunk (length file.value)) hs (next_hunk.hunk ∷ next_hunk.later) (subst (AllByRecursion (IsHunk (length file.value))) value_is file.is_load_file.each)).0
 
     are_blocks : AreHunkBlocks next_hunk.hunk.blocks
     are_blocks = hunk_is_blocks (length file.value) next_hunk.hunk is_hunk
@@ -121,11 +118,7 @@ module _ (bytes : List ℕ) (file : BeginsWithLoadFile bytes) (rows : List Row) 
   -- All hunks were read.
   pub all_read : length rows ≤ count → hs ≡ file.value
   all_read all =
-      sym (s.split ∙ ap (λ (m : LoadFileValue). hs ++ m) (none s.later (omega (arith, all, count_rows, s.count_is, ap length s.split, length-append hs s.later))) ∙ append-nil hs)
-    where
-      none : (l : LoadFileValue) → length l ≡ 0 → l ≡ []
-      none [] e = refl
-      none (x ∷ l) e = absurd (omega (arith, e))
+      sym (s.split ∙ ap (λ (m : LoadFileValue). hs ++ m) (drop_all 0 s.later (omega (arith, all, count_rows, s.count_is, ap length s.split, length-append hs s.later))) ∙ append-nil hs)
 
 -- ---- the file
 

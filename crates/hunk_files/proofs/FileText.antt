@@ -35,14 +35,6 @@ block_leads hunks longs o b h = (refl, Follows-leads o b.word (begin (kind b.wor
 abbrev pub standings : List BlockValue → List Standing
 standings bs = map (λ b. standing b.body) bs
 
-or_false : (b : Bool) → b || false ≡ b
-or_false true = refl
-or_false false = refl
-
-or_true : (b : Bool) → b || true ≡ true
-or_true true = refl
-or_true false = refl
-
 abbrev opened : ℕ → List HunkValue → TableEntry → List BlockValue → Bool → List TableEntry → OpenHunk
 opened hunks finished entry blocks has_content ahead =
     record { hunks = hunks; finished = finished; entry = entry; blocks = blocks; has_content = has_content; ahead = ahead }
@@ -71,13 +63,11 @@ module _ (hunks : ℕ) (finished : List HunkValue) (entry : TableEntry) (ahead :
       Leads (close_by (at done has_content) b s) (labels (has_content || is_content s) more) (behind (done ++ b ∷ more))
   block_closed Beside true done b more o reads = one_more true done b more o reads
   block_closed Beside false done b more o reads = one_more false done b more o reads
-  block_closed Content true done b more o reads = absurd o
   block_closed Content false done b more o reads = one_more true done b more o reads
   block_closed Relocating true done b more o reads = one_more true done b more o reads
-  block_closed Relocating false done b more o reads = absurd o
   block_closed Ending true done b [] o reads = refl
   block_closed Ending true done b (c ∷ more) o reads = absurd cc
-  block_closed Ending false done b more o reads = absurd o
+  block_closed _ _ done b more o reads = absurd o
 
   pub blocks_lead : (more : List BlockValue) → AllByRecursion (IsHunkBlock hunks (size_longs entry.word)) more → AreRead more
   blocks_lead [] h has_content done o = absurd o

@@ -7,8 +7,8 @@ use Rattle.std.proofs.lemmas.Option.{get_or_from_slice_get, slice_get_within}
 use Rattle.hunk_words.specs.Bits.{size_longs}
 use Rattle.hunk_blocks.specs.Values.{BlockBody, Name, Code, Data, Bss, Reloc, Ext, Symbol, Debug, Advisory, End, FitsWord, IsBlock}
 use Rattle.hunk_files.specs.LoadFile.{standing, AreInOrder}
-use Rattle.hunk_files.specs.ObjectFile.{ObjectHunk, UnitValue, ObjectFileValue, IsObjectHunk}
-use Rattle.hunk_files.specs.Findings.{FindingValue, content_longs, hunk_bytes, hunk_findings, hunks_findings, unit_findings, units_findings}
+use Rattle.hunk_files.specs.ObjectFile.{ObjectHunk, IsObjectHunk}
+use Rattle.hunk_files.specs.Findings.{FindingValue, content_longs, hunk_bytes, hunk_findings, hunks_findings}
 
 -- ---- what is found of each element of a list
 
@@ -33,10 +33,6 @@ pub found_told : {A : Type 0} (f : A → List FindingValue) (xs : List A) (i : �
 found_told f xs i x now next old g h e =
     found_more f xs i x now next old (slice_get_within xs i x g) h (e ∙ ap (λ y. now ++ f y) (sym (get_or_from_slice_get xs i x x g)))
 
-pub flat_map-map : {A B C : Type 0} (f : B → List C) (g : A → B) (xs : List A) → flat_map (λ x. f (g x)) xs ≡ flat_map f (map g xs)
-flat_map-map f g [] = refl
-flat_map-map f g (x ∷ xs) = ap (λ zs. f (g x) ++ zs) (flat_map-map f g xs)
-
 -- ---- the hunks of a unit, the units of a file
 
 pub hunks_more : (unit hunks i : ℕ) (hs : List ObjectHunk) (d : ObjectHunk) (now next all : List FindingValue) → i < length hs →
@@ -47,18 +43,6 @@ hunks_more unit hunks i hs d now next all l h e =
     let rest : List FindingValue = hunks_findings unit hunks (i + 1) (drop (i + 1) hs) in
     let here : List FindingValue = hunk_findings (record { unit = unit; hunk = i; hunks = hunks; bytes = hunk_bytes (get_or hs i d) }) (get_or hs i d) in
     ap (λ (ys : List FindingValue). ys ++ rest) e ∙ append_assoc now here rest ∙ ap (λ (xs : List ObjectHunk). now ++ hunks_findings unit hunks i xs) (sym (drop_more hs i d l)) ∙ h
-
-pub hunks_all : (unit hunks i : ℕ) (hs : List ObjectHunk) (now all : List FindingValue) → length hs ≤ i → now ++ hunks_findings unit hunks i (drop i hs) ≡ all → now ≡ all
-hunks_all unit hunks i hs now all l h = sym (append-nil now) ∙ ap (λ (xs : List ObjectHunk). now ++ hunks_findings unit hunks i xs) (sym (drop_all i hs l)) ∙ h
-
-pub units_more : (i : ℕ) (us : ObjectFileValue) (d : UnitValue) (now next all : List FindingValue) → i < length us →
-    now ++ units_findings i (drop i us) ≡ all → next ≡ now ++ unit_findings i (get_or us i d) → next ++ units_findings (i + 1) (drop (i + 1) us) ≡ all
-units_more i us d now next all l h e =
-    let rest : List FindingValue = units_findings (i + 1) (drop (i + 1) us) in
-    ap (λ (ys : List FindingValue). ys ++ rest) e ∙ append_assoc now (unit_findings i (get_or us i d)) rest ∙ ap (λ (xs : ObjectFileValue). now ++ units_findings i xs) (sym (drop_more us i d l)) ∙ h
-
-pub units_all : (i : ℕ) (us : ObjectFileValue) (now all : List FindingValue) → length us ≤ i → now ++ units_findings i (drop i us) ≡ all → now ≡ all
-units_all i us now all l h = sym (append-nil now) ∙ ap (λ (xs : ObjectFileValue). now ++ units_findings i xs) (sym (drop_all i us l)) ∙ h
 
 -- ---- the bytes of a hunk fit
 
@@ -80,17 +64,12 @@ body_fits word (Symbol es) h n rest has f o = omega (arith, rest has (n + 0) o)
 body_fits word (Debug ws) h n rest has f o = omega (arith, rest has (n + 0) o)
 body_fits word (Advisory ws) h n rest has f o = omega (arith, rest has (n + 0) o)
 body_fits word (Reloc gs) h n rest true f o = omega (arith, rest true (n + 0) o)
-body_fits word (Reloc gs) h n rest false f o = absurd o
 body_fits word (Ext es) h n rest true f o = omega (arith, rest true (n + 0) o)
-body_fits word (Ext es) h n rest false f o = absurd o
 body_fits word End h n rest true f o = omega (arith, nothing_behind h (n + 0) o)
-body_fits word End h n rest false f o = absurd o
-body_fits word (Code top ws) h n rest true f o = absurd o
 body_fits word (Code top ws) h n rest false f o = omega (arith, f.2.0, rest true (n + length ws) o)
-body_fits word (Data top ws) h n rest true f o = absurd o
 body_fits word (Data top ws) h n rest false f o = omega (arith, f.2.0, rest true (n + length ws) o)
-body_fits word (Bss size) h n rest true f o = absurd o
 body_fits word (Bss size) h n rest false f o = omega (arith, rest true (n + size_longs size) o)
+body_fits word _ h n rest _ f o = absurd o
 
 -- what stands beside the content block has no content, and only one block has
 longs_fit : (h : ObjectHunk) (has : Bool) (n : ℕ) → AllByRecursion IsBlock h → AreInOrder has (map (λ b. standing b.body) h) → longs_from h n < n + most_longs has

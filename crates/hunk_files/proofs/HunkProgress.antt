@@ -13,7 +13,7 @@ use Rattle.hunk_blocks.specs.Parts.{Part as parts}
 use Rattle.hunk_blocks.specs.Modes.{IsOfLoad, refuse_inside, refuse_alone_kind}
 use Rattle.hunk_scan.specs.Roles.{Place, refuse_part, refuse_kind}
 use Rattle.hunk_files.specs.LoadFile.{FitsGroup, FitsHunk, IsInside}
-use Rattle.hunk_blocks.specs.BlockSteps.{ForName, ForDebug, ForAdvisory, Sizing, ForCode, ForData, ForBss, Filling, Counted, SizedCode, SizedData, Inside, AtCount, AtSize, InPayload, AtGroup, AtTarget, InOffsets, AtEntry, InName, AtValue, BlockNext, Open, Whole, group, part_of, step_inside, fill, relocate, name_entry, sized_by, grouped, entered, begin}
+use Rattle.hunk_blocks.specs.BlockSteps.{ForName, Sizing, ForCode, ForData, ForBss, Filling, Counted, SizedCode, SizedData, Inside, AtCount, AtSize, InPayload, AtGroup, AtTarget, InOffsets, AtEntry, InName, AtValue, AtExtWord, BlockNext, Open, Whole, group, part_of, step_inside, fill, relocate, name_entry, sized_by, grouped, entered, begin}
 use Rattle.hunk_blocks.proofs.BlockProgress as blocks
 use Rattle.hunk_blocks.proofs.Lists.{All-more, more_owed, passed_false, passed_true}
 
@@ -63,11 +63,10 @@ module _ (p : Place) (word : ℕ) where
   both (Whole body) f h = record { fits_word = f; of_load = h.0; fits_hunk = h.1 }
 
   fill_within : (f : Filling) (done : List ℕ) (owed : ℕ) → FillWithin f (length done + owed) → NextWithin (fill f done owed)
-  fill_within (Counted ForName) done zero h = (tt, tt)
-  fill_within (Counted ForDebug) done zero h = (tt, tt)
-  fill_within (Counted ForAdvisory) done zero h = (tt, tt)
   fill_within (SizedCode top) done zero h = (tt, omega (arith, h))
   fill_within (SizedData top) done zero h = (tt, omega (arith, h))
+  fill_within (Counted ForName) done zero h = (tt, tt)
+  fill_within (Counted c) done zero h = (tt, tt)
   fill_within f done (suc owed) h = h
 
   relocate_within : (groups : List RelocGroup) (target : ℕ) (done : List ℕ) (owed : ℕ) → GroupsWithin groups → target < p.hunks → AllByRecursion (IsInside p.longs) done → 0 < p.longs → NextWithin (relocate groups target done owed)
@@ -110,17 +109,8 @@ module _ (p : Place) (word : ℕ) where
   -- what a load file lets pass, a block that stands alone lets pass
   pub alone_passes : (x : Inside) (w : ℕ) → Within x → refuse_part p (part_of x) w ≡ None → refuse_inside (part_of x) w ≡ None
   alone_passes (AtCount ForName) w h ok = ok
-  alone_passes (AtCount ForDebug) w h ok = refl
-  alone_passes (AtCount ForAdvisory) w h ok = refl
-  alone_passes (AtSize s) w h ok = refl
-  alone_passes (InPayload f done owed) w h ok = refl
-  alone_passes (AtGroup groups) w h ok = refl
-  alone_passes (AtTarget groups owed) w h ok = refl
-  alone_passes (InOffsets groups target done owed) w h ok = refl
-  alone_passes (AtEntry entries) w h ok = refl
-  alone_passes (InName entries word done owed) w h ok = refl
-  alone_passes (AtValue entries word name) w h ok = refl
-  alone_passes _ w h ok = absurd h
+  alone_passes (AtExtWord entries) w h ok = absurd h
+  alone_passes _ w h ok = refl
 
   -- A step at a longword that is not refused keeps what fits.
   pub step_fits : (x : Inside) (w : ℕ) → Fits x → IsLong w → refuse_part p (part_of x) w ≡ None → NextFits (step_inside x w)
@@ -131,16 +121,12 @@ pub begin_fits : (p : Place) (word : ℕ) (k : Kind) → kind word ≡ k → ref
 begin_fits p word k e ok = both p word (begin k) (blocks.begin_fits modes.Load word k e (alone k ok)) (within k e ok)
   where
     alone : (k : Kind) → refuse_kind p.has_content (is_advisory word) k ≡ None → refuse_alone_kind modes.Load (is_advisory word) k ≡ None
-    alone kinds.Name ok = refl
     alone kinds.Code ok = refl
     alone kinds.Data ok = refl
     alone kinds.Bss ok = refl
     alone kinds.Reloc32 ok = refl
-    alone kinds.Symbol ok = refl
-    alone kinds.Debug ok = refl
     alone kinds.End ok = refl
-    alone (kinds.Unknown n) ok = ok
-    alone _ ok = absurd cc
+    alone _ ok = ok
 
     within : (k : Kind) → kind word ≡ k → refuse_kind p.has_content (is_advisory word) k ≡ None → NextWithin p word (begin k)
     within kinds.Name e ok = tt

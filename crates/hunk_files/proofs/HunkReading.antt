@@ -75,9 +75,6 @@ module _ (bytes : List ℕ) (start : ℕ) (bs : List BlockValue) (at : ℕ) (s :
         texts = stands_more;
       }
 
-true_is_false : true ≡ false → ⊥
-true_is_false e = absurd cc
-
 -- Where no block follows, no blocks up to END stand in front.
 module _ (u : List ℕ) (none : BeginsWithNoBlock modes.Load u) where
   front : (x : BlockValue) (xs : List BlockValue) (w : List ℕ) → bytes_of (block_text x) ++ (bytes_of (block_texts xs) ++ w) ≡ bytes_of (block_texts (x ∷ xs)) ++ w
@@ -88,7 +85,7 @@ module _ (u : List ℕ) (none : BeginsWithNoBlock modes.Load u) where
   no_block c rest is e = none c is.0 is.1 rest e
 
   behind_end : (b c : BlockValue) (cs : List BlockValue) → b ≡ c → EndsOnce (c ∷ cs) → is_end b.body ≡ false → (EndsOnce cs → ⊥) → ⊥
-  behind_end b c [] same ends not more = true_is_false (sym ends ∙ ap (λ (x : BlockValue). is_end x.body) (sym same) ∙ not)
+  behind_end b c [] same ends not more = absurd (cc (sym ends ∙ ap (λ (x : BlockValue). is_end x.body) (sym same) ∙ not))
   behind_end b c (d ∷ cs) same ends not more = more ends.1
 
   no_hunk_by : (bs cs : List BlockValue) (v : List ℕ) → AllByRecursion IsLoadBlock bs → AllByRecursion (λ b. is_end b.body ≡ false) bs → AllByRecursion IsLoadBlock cs → EndsOnce cs →

@@ -23,23 +23,20 @@ use Rattle.hunk_files.proofs.Completion.{gives_content, filling_content}
 use Rattle.hunk_files.specs.WordsRead.{Labelled, AreAccepted, HasRead}
 use Rattle.hunk_files.proofs.Reading.{reads, rest_read, file_read}
 use Rattle.hunk_blocks.proofs.Lists.{more_owed, passed_true}
+use Rattle.std.proofs.Math.Bool.{or-false, or-true}
 
 abbrev pub inside_least : Inside → ℕ
-inside_least (AtCount c) = 1
-inside_least (AtSize s) = 1
 inside_least (InPayload f done owed) = owed + 1
-inside_least (AtGroup groups) = 1
 inside_least (AtTarget groups owed) = owed + 3
 inside_least (InOffsets groups target done owed) = owed + 2
-inside_least (AtEntry entries) = 1
 inside_least (InName entries word done owed) = owed + 3
 inside_least (AtValue entries word name) = 2
-inside_least (AtExtWord entries) = 1
 inside_least (InExtName entries word done owed) = owed + 2
 inside_least (AtExtValue entries word name) = 2
 inside_least (AtExtSize entries word name) = 3
 inside_least (AtExtCount entries word name value) = 2
 inside_least (InExtOffsets entries word name value done owed) = owed + 2
+inside_least _ = 1
 
 abbrev pub least : Progress → ℕ
 least AtFirst = 9
@@ -61,22 +58,14 @@ least_next (Finished v) = 0
 abbrev behind : OpenHunk → Bool → ℕ
 behind o content = end_least (o.has_content || content) + 3 * length o.ahead
 
-or_again : (a : Bool) → a || false ≡ a
-or_again true = refl
-or_again false = refl
-
-or_all : (a : Bool) → a || true ≡ true
-or_all true = refl
-or_all false = refl
-
 -- a whole block that is not END
 closed_least : (o : OpenHunk) (word : ℕ) (body : BlockBody) → standing body ≢ Ending → behind o (is_content (standing body)) ≤ least_next (close o (block word body))
 closed_least o word body ne = go (standing body) ne
   where
     go : (s : Standing) → s ≢ Ending → behind o (is_content s) ≤ least_next (close_by o (block word body) s)
-    go Beside n = rw (or_again o.has_content) (omega arith)
-    go Relocating n = rw (or_again o.has_content) (omega arith)
-    go Content n = rw (or_all o.has_content) (omega arith)
+    go Beside n = rw (or-false o.has_content) (omega arith)
+    go Relocating n = rw (or-false o.has_content) (omega arith)
+    go Content n = rw (or-true o.has_content) (omega arith)
     go Ending n = absurd (n refl)
 
 -- so many longwords and what is behind are owed at least
@@ -107,31 +96,24 @@ inside_falls o word (AtSize ForData) w = omega (arith, fill_owes o word (SizedDa
 inside_falls o word (AtSize ForBss) w = omega (arith, closed_least o word (Bss w) (λ e. cc))
 inside_falls o word (InPayload f done owed) w = omega (arith, fill_owes o word f (done ++ w ∷ []) owed)
 inside_falls o word (AtGroup groups) zero = omega (arith, closed_least o word (Reloc groups) (λ e. cc))
-inside_falls o word (AtGroup groups) (suc owed) = omega arith
-inside_falls o word (AtTarget groups owed) w = omega arith
 inside_falls o word (InOffsets groups target done zero) w = omega arith
-inside_falls o word (InOffsets groups target done (suc owed)) w = omega arith
 inside_falls o word (AtEntry entries) zero = omega (arith, closed_least o word (Symbol entries) (λ e. cc))
 inside_falls o word (AtEntry entries) (suc w) = omega (arith, name_owes o word entries (suc w) [] (suc w % 2 ^ 24))
 inside_falls o word (InName entries w2 done owed) w = omega (arith, name_owes o word entries w2 (done ++ w ∷ []) owed)
-inside_falls o word (AtValue entries w2 name) w = omega arith
 inside_falls o word (AtExtWord entries) zero = omega (arith, closed_least o word (Ext entries) (λ e. cc))
 inside_falls o word (AtExtWord entries) (suc w) = omega (arith, external_owes o word entries (suc w) [] (suc w % 2 ^ 24))
 inside_falls o word (InExtName entries w2 done owed) w = omega (arith, external_owes o word entries w2 (done ++ w ∷ []) owed)
-inside_falls o word (AtExtValue entries w2 name) w = omega arith
-inside_falls o word (AtExtSize entries w2 name) w = omega arith
 inside_falls o word (AtExtCount entries w2 name value) zero = omega arith
-inside_falls o word (AtExtCount entries w2 name value) (suc w) = omega arith
 inside_falls o word (InExtOffsets entries w2 name value done zero) w = omega arith
-inside_falls o word (InExtOffsets entries w2 name value done (suc owed)) w = omega arith
+inside_falls o word _ w = omega arith
 
 -- ---- between blocks
 
 behind_false : (o : OpenHunk) → behind o false ≡ end_least o.has_content + 3 * length o.ahead
-behind_false o = ap (λ (b : Bool). end_least b + 3 * length o.ahead) (or_again o.has_content)
+behind_false o = ap (λ (b : Bool). end_least b + 3 * length o.ahead) (or-false o.has_content)
 
 behind_true : (o : OpenHunk) → behind o true ≡ 1 + 3 * length o.ahead
-behind_true o = ap (λ (b : Bool). end_least b + 3 * length o.ahead) (or_all o.has_content)
+behind_true o = ap (λ (b : Bool). end_least b + 3 * length o.ahead) (or-true o.has_content)
 
 end_most : (b : Bool) → end_least b ≤ 3
 end_most true = omega arith
@@ -167,15 +149,13 @@ sized_least hunks done w owed true e = omega arith
 sized_least hunks done w owed false e = rows_least hunks (done ++ table_entry w 0 ∷ []) owed (more_owed done (table_entry w 0) owed ∙ e)
 
 step_falls : (p : Progress) (w : ℕ) → ProgressFits p → IsLong w → refuse (role_of p) w ≡ None → least p ≤ suc (least_next (step p w))
-step_falls AtFirst w h l ok = omega arith
-step_falls AtResident w h l ok = omega arith
 step_falls AtTableSize w h l ok = omega (arith, zero_or_limit w ok)
-step_falls (AtFirstHunk hunks) w h l ok = omega arith
 step_falls (AtLastHunk hunks) w h l ok = omega (arith, rows_least hunks [] hunks (omega arith))
 step_falls (AtSizeWord hunks done owed) w h l ok = omega (arith, sized_least hunks done w owed (has_both_bits w) h.counts)
 step_falls (AtAttributes hunks done word owed) w h l ok = omega (arith, rows_least hunks (done ++ table_entry word w ∷ []) owed (more_owed done (table_entry word w) owed ∙ h.0.counts))
 step_falls (AtBlock o) w h l ok = block_falls o w (kind w) (kind_admitted o w (l, ok)).1
 step_falls (InBody o word x) w h l ok = omega (arith, inside_falls o word x w)
+step_falls _ w h l ok = omega arith
 
 run_least : (n : Next) (ls : Labelled) (v : LoadFileValue) → NextFits n → AreAccepted ls → Leads n ls (Finished v) → least_next n ≤ length ls
 run_least (More p) [] v h ok run = absurd cc

@@ -18,7 +18,6 @@ pub mod Memory
 pub mod Positions
 mod ObjectDecoding
 pub mod ObjectText
-mod ObjectWriting
 pub mod OffsetLists
 pub mod Peel
 pub mod Puts

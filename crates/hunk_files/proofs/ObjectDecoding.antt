@@ -9,46 +9,39 @@ use Rattle.hunk_words.specs.declared.block_word.Kind.TheVariants as kinds
 use Rattle.hunk_words.specs.declared.reason.Reason.{Reason}
 use Rattle.hunk_words.specs.declared.reason.Reason.TheVariants as reasons
 use Rattle.hunk_words.specs.Bits.{kind}
-use Rattle.hunk_words.specs.Longs.{longs, bytes_of, IsBytes, AreLongs}
+use Rattle.hunk_words.specs.Longs.{longs, bytes_of, IsBytes, AreLongs, IsLong}
 use Rattle.hunk_words.proofs.LongLaws.{bytes_of-append, length-bytes_of, longs-bytes_of, spelled, longs-few}
 use Rattle.hunk_blocks.specs.declared.mode.Mode.TheVariants as modes
-use Rattle.hunk_blocks.specs.Values.{BlockBody, BlockValue, Name, Code, Data, Bss, Reloc, Ext, Symbol, Debug, Advisory, End, FitsWord, IsBlock, IsPayload, is_relocation, is_unknown}
+use Rattle.hunk_blocks.specs.Values.{BlockBody, BlockValue, Reloc, Advisory, End, FitsWord, IsBlock, IsPayload, is_relocation, is_unknown}
 use Rattle.hunk_blocks.specs.Parts.{block_text}
 use Rattle.hunk_blocks.specs.Modes.{is_block_refusal}
 use Rattle.hunk_blocks.specs.Begins.{BeginsWithBlock, BeginsWithNoBlock, first_long}
 use Rattle.hunk_blocks.specs.Reading.{BeginsWithNo}
-use Rattle.hunk_blocks.proofs.Lists.{map-more, flat_map-more}
+use Rattle.hunk_blocks.proofs.Lists.{map-more, flat_map-more, All-more, All-append}
 use Rattle.hunk_blocks.proofs.BlockLongs.{block_longs}
 use Rattle.hunk_blocks.proofs.BlockPrefix.{block_same}
 use Rattle.hunk_files.specs.LoadFile.{standing, AreInOrder}
 use Rattle.hunk_scan.specs.Standings.{Standing, Beside, Content, Relocating, Ending, is_content, is_ending, refuse_standing, standing_of_kind}
 use Rattle.hunk_files.specs.ObjectFile.{is_object_refusal, ObjectHunk, UnitValue, ObjectFileValue, IsObjectHunk, IsUnit, unit_header, unit_text, object_text}
 use Rattle.hunk_files.specs.ObjectParts.{BeginsWithText, MayStand}
+use Rattle.hunk_files.proofs.Accepted.{All-flat_map}
 
 -- ---- longwords and their bytes
 
-longs-append : (xs ys : List ℕ) → AreLongs xs → AreLongs ys → AreLongs (xs ++ ys)
-longs-append [] ys h k = k
-longs-append (x ∷ xs) ys h k = (h.0, longs-append xs ys h.1 k)
-
-flat_longs : {A : Type 0} (Is : A → Type 0) (text : A → List ℕ) → ((x : A) → Is x → AreLongs (text x)) → (xs : List A) → AllByRecursion Is xs → AreLongs (flat_map text xs)
-flat_longs Is text fits [] h = tt
-flat_longs Is text fits (x ∷ xs) h = longs-append (text x) (flat_map text xs) (fits x h.0) (flat_longs Is text fits xs h.1)
-
 pub hunk_longs : (h : ObjectHunk) → AllByRecursion IsBlock h → AreLongs (flat_map block_text h)
-hunk_longs h is = flat_longs IsBlock block_text block_longs h is
+hunk_longs h is = All-flat_map IsBlock IsLong block_text block_longs h is
 
 pub hunks_longs : (hs : List ObjectHunk) → AllByRecursion IsObjectHunk hs → AreLongs (flat_map (flat_map block_text) hs)
-hunks_longs hs is = flat_longs IsObjectHunk (flat_map block_text) (λ h k. hunk_longs h k.blocks) hs is
+hunks_longs hs is = All-flat_map IsObjectHunk IsLong (flat_map block_text) (λ h k. hunk_longs h k.blocks) hs is
 
 pub header_longs : (name : List ℕ) → IsPayload (2 ^ 24) name → AreLongs (unit_header name)
 header_longs name h = (omega arith, (omega (arith, h.0), h.1))
 
 pub unit_longs : (u : UnitValue) → IsUnit u → AreLongs (unit_text u)
-unit_longs u is = longs-append (unit_header u.name) (flat_map (flat_map block_text) u.hunks) (header_longs u.name is.name) (hunks_longs u.hunks is.hunks)
+unit_longs u is = All-append IsLong (unit_header u.name) (flat_map (flat_map block_text) u.hunks) (header_longs u.name is.name) (hunks_longs u.hunks is.hunks)
 
 pub object_longs : (us : ObjectFileValue) → AllByRecursion IsUnit us → AreLongs (object_text us)
-object_longs us is = flat_longs IsUnit unit_text unit_longs us is
+object_longs us is = All-flat_map IsUnit IsLong unit_text unit_longs us is
 
 -- ---- bytes that begin with a text
 
@@ -101,16 +94,10 @@ advisory kinds.Unit h = absurd cc
 advisory _ h = absurd cc
 
 pub standing_is : (word : ℕ) (body : BlockBody) → FitsWord word body → standing body ≡ standing_of_kind (kind word)
-standing_is word (Name ws) h = rw h.0 refl
-standing_is word (Code top ws) h = rw h.0 refl
-standing_is word (Data top ws) h = rw h.0 refl
-standing_is word (Bss size) h = rw h.0 refl
 standing_is word (Reloc gs) h = sym (relocating (kind word) h.0)
-standing_is word (Ext es) h = rw h.0 refl
-standing_is word (Symbol es) h = rw h.0 refl
-standing_is word (Debug ws) h = rw h.0 refl
 standing_is word (Advisory ws) h = sym (advisory (kind word) h.0)
 standing_is word End h = rw h refl
+standing_is word _ h = rw h.0 refl
 
 word_in_front : (bytes : List ℕ) (b : BlockValue) (more : List ℕ) → longs bytes ≡ block_text b ++ more → first_long bytes ≡ b.word
 word_in_front bytes b more e = ap (λ (ws : List ℕ). get_or ws 0 0) e
@@ -152,10 +139,7 @@ place_own true Content reason e = let same : reasons.SecondContent ≡ reason = 
 place_own false Relocating reason e = let same : reasons.BeforeContent ≡ reason = cc in subst (λ (x : Reason). IsTrue (is_object_refusal x)) same refl
 place_own false Ending reason e = let same : reasons.NoContent ≡ reason = cc in subst (λ (x : Reason). IsTrue (is_object_refusal x)) same refl
 place_own true Beside reason e = absurd cc
-place_own true Relocating reason e = absurd cc
-place_own true Ending reason e = absurd cc
-place_own false Beside reason e = absurd cc
-place_own false Content reason e = absurd cc
+place_own _ _ reason e = absurd cc
 
 pub block_own : (reason : Reason) → IsTrue (is_block_refusal reason) → reason ≢ reasons.NotInLoadFile → IsTrue (is_object_refusal reason)
 block_own reasons.NotInLoadFile h ne = absurd (ne refl)
@@ -196,52 +180,34 @@ pub no_blocks : (bytes : List ℕ) → HunkSoFar bytes [] false 0
 unfolding bytes_of
 no_blocks bytes = record { blocks = tt; leads = refl; text = text_none bytes refl }
 
-pub All-more : {A : Type 0} (P : A → Type 0) (xs : List A) (x : A) → AllByRecursion P xs → P x → AllByRecursion P (xs ++ x ∷ [])
-All-more P [] x h k = (k, tt)
-All-more P (y ∷ xs) x h k = (h.0, All-more P xs x h.1 k)
-
 -- what may stand here leads on, unless it is END
 leads_one : (has : Bool) (s : Standing) → refuse_standing has s ≡ None → is_ending s ≡ false → Leads has (s ∷ []) (has || is_content s)
 leads_one true Beside ok no_end = refl
 leads_one false Beside ok no_end = refl
-leads_one true Content ok no_end = absurd cc
 leads_one false Content ok no_end = refl
 leads_one true Relocating ok no_end = refl
-leads_one false Relocating ok no_end = absurd cc
-leads_one true Ending ok no_end = absurd cc
-leads_one false Ending ok no_end = absurd cc
+leads_one _ _ ok no_end = absurd cc
 
 leads_more : (a b c : Bool) (xs ys : List Standing) → Leads a xs b → Leads b ys c → Leads a (xs ++ ys) c
 leads_more a b c [] ys h k = subst (λ (x : Bool). Leads x ys c) (sym h) k
 leads_more true b c (Beside ∷ xs) ys h k = leads_more true b c xs ys h k
 leads_more false b c (Beside ∷ xs) ys h k = leads_more false b c xs ys h k
 leads_more false b c (Content ∷ xs) ys h k = leads_more true b c xs ys h k
-leads_more true b c (Content ∷ xs) ys h k = absurd h
 leads_more true b c (Relocating ∷ xs) ys h k = leads_more true b c xs ys h k
-leads_more false b c (Relocating ∷ xs) ys h k = absurd h
-leads_more true b c (Ending ∷ xs) ys h k = absurd h
-leads_more false b c (Ending ∷ xs) ys h k = absurd h
+leads_more _ b c (_ ∷ xs) ys h k = absurd h
 
 pub leads_end : (a b : Bool) (xs ys : List Standing) → Leads a xs b → AreInOrder b ys → AreInOrder a (xs ++ ys)
 leads_end a b [] ys h k = subst (λ (x : Bool). AreInOrder x ys) (sym h) k
 leads_end true b (Beside ∷ xs) ys h k = leads_end true b xs ys h k
 leads_end false b (Beside ∷ xs) ys h k = leads_end false b xs ys h k
 leads_end false b (Content ∷ xs) ys h k = leads_end true b xs ys h k
-leads_end true b (Content ∷ xs) ys h k = absurd h
 leads_end true b (Relocating ∷ xs) ys h k = leads_end true b xs ys h k
-leads_end false b (Relocating ∷ xs) ys h k = absurd h
-leads_end true b (Ending ∷ xs) ys h k = absurd h
-leads_end false b (Ending ∷ xs) ys h k = absurd h
+leads_end _ b (_ ∷ xs) ys h k = absurd h
 
 end_stands : (has : Bool) (s : Standing) → refuse_standing has s ≡ None → is_ending s ≡ true → AreInOrder has (s ∷ [])
 end_stands true Ending ok e = refl
 end_stands false Ending ok e = absurd cc
-end_stands true Beside ok e = absurd cc
-end_stands false Beside ok e = absurd cc
-end_stands true Content ok e = absurd cc
-end_stands false Content ok e = absurd cc
-end_stands true Relocating ok e = absurd cc
-end_stands false Relocating ok e = absurd cc
+end_stands _ _ ok e = absurd cc
 
 module _ (bytes : List ℕ) (bs : ObjectHunk) (has : Bool) (at : ℕ) (h : HunkSoFar bytes bs has at) (b : BlockValue) (size : ℕ) (r : BeginsWithBlock modes.Object (drop at bytes) b size) (ok : refuse_standing has (standing b.body) ≡ None) where
   pub text_with : BeginsWithText bytes (flat_map block_text (bs ++ b ∷ [])) (at + size)
@@ -294,21 +260,14 @@ left_of (b ∷ bs) (c ∷ cs) a has x y hb hc leads order e =
     go true Beside l o all = all true l o
     go false Beside l o all = all false l o
     go false Content l o all = all true l o
-    go true Content l o all = absurd l
     go true Relocating l o all = all true l o
-    go false Relocating l o all = absurd l
-    go true Ending l o all = absurd l
-    go false Ending l o all = absurd l
+    go _ _ l o all = absurd l
 
 first_stands : (has : Bool) (s : Standing) (rest : List Standing) → AreInOrder has (s ∷ rest) → refuse_standing has s ≡ None
-first_stands true Beside rest o = refl
-first_stands false Beside rest o = refl
-first_stands false Content rest o = refl
 first_stands true Content rest o = absurd o
-first_stands true Relocating rest o = refl
 first_stands false Relocating rest o = absurd o
-first_stands true Ending rest o = refl
 first_stands false Ending rest o = absurd o
+first_stands _ _ rest o = refl
 
 pub no_hunk : (bytes : List ℕ) (bs : ObjectHunk) (has : Bool) (at : ℕ) → HunkSoFar bytes bs has at → BeginsWithNo (MayStand has) block_text (longs (drop at bytes)) → BeginsWithNo IsObjectHunk (flat_map block_text) (longs bytes)
 no_hunk bytes bs has at h none k is more e =

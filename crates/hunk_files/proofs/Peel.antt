@@ -2,43 +2,42 @@
 use Rattle.std.proofs.Common.{◌≡◌, ℕ, Bool, true, false, ◌||◌, List, [], ◌∷◌, ◌++◌, map, refl, sym, ap, ap₂, ◌∙◌, append_assoc}
 use Rattle.std.specs.List.{AllByRecursion}
 use Rattle.std.proofs.lemmas.List.{map-append}
-use Rattle.hunk_blocks.specs.Values.{BlockBody, BlockValue, Name, Code, Data, Bss, Reloc, Ext, Symbol, Debug, Advisory, End}
+use Rattle.hunk_blocks.specs.Values.{BlockBody, BlockValue, Name, Code, Data, Bss, Reloc, Ext, Symbol, Debug, Advisory, End, IsBlock}
 use Rattle.hunk_blocks.specs.Parts.{Part, block_text, block_parts}
 use Rattle.hunk_files.specs.LoadFile.{HunkValue, IsHunk, IsHunkBlock, AreInOrder, standing, declared_longs}
-use Rattle.hunk_scan.specs.Standings.{Standing, is_content}
+use Rattle.hunk_scan.specs.Standings.{is_content}
 use Rattle.hunk_scan.specs.Roles.{Place, Role, InBlock}
 use Rattle.hunk_files.specs.LoadText.{block_labelled, blocks_labelled, hunk_labelled, words}
 use Rattle.hunk_blocks.proofs.BlockPrefix.{block_same}
 use Rattle.hunk_files.specs.Hunks.{is_end, block_texts, EndsOnce, IsLoadBlock, AreHunkBlocks}
+use Rattle.hunk_files.proofs.FileText.{standings}
 
-true_false : true ≡ false → ⊥
-true_false e = absurd cc
-
-hunk_peel_by : (xs ys : List BlockValue) (u v : List ℕ) → AllByRecursion IsLoadBlock xs → EndsOnce xs → AllByRecursion IsLoadBlock ys → EndsOnce ys → block_texts xs ++ u ≡ block_texts ys ++ v → (xs ≡ ys) × (u ≡ v)
-hunk_peel_by [] ys u v ha ea hb eb e = absurd ea
-hunk_peel_by (a ∷ xs) [] u v ha ea hb eb e = absurd eb
-hunk_peel_by (a ∷ xs) (b ∷ ys) u v ha ea hb eb e =
+-- Blocks up to the first END have one reading.
+pub blocks_peel : (xs ys : List BlockValue) (u v : List ℕ) → AllByRecursion IsBlock xs → EndsOnce xs → AllByRecursion IsBlock ys → EndsOnce ys → block_texts xs ++ u ≡ block_texts ys ++ v → (xs ≡ ys) × (u ≡ v)
+blocks_peel [] ys u v ha ea hb eb e = absurd ea
+blocks_peel (a ∷ xs) [] u v ha ea hb eb e = absurd eb
+blocks_peel (a ∷ xs) (b ∷ ys) u v ha ea hb eb e =
     let split : block_text a ++ (block_texts xs ++ u) ≡ block_text b ++ (block_texts ys ++ v) = sym (append_assoc (block_text a) (block_texts xs) u) ∙ e ∙ append_assoc (block_text b) (block_texts ys) v in
-    let same = block_same a b (block_texts xs ++ u) (block_texts ys ++ v) ha.0.0 hb.0.0 split in
-    go xs ys ha.1 ea hb.1 eb same.0 same.1 (hunk_peel_by xs ys u v)
+    let same = block_same a b (block_texts xs ++ u) (block_texts ys ++ v) ha.0 hb.0 split in
+    go xs ys ha.1 ea hb.1 eb same.0 same.1 (blocks_peel xs ys u v)
   where
-    go : (xs ys : List BlockValue) → AllByRecursion IsLoadBlock xs → EndsOnce (a ∷ xs) → AllByRecursion IsLoadBlock ys → EndsOnce (b ∷ ys) → a ≡ b → block_texts xs ++ u ≡ block_texts ys ++ v →
-        (AllByRecursion IsLoadBlock xs → EndsOnce xs → AllByRecursion IsLoadBlock ys → EndsOnce ys → block_texts xs ++ u ≡ block_texts ys ++ v → (xs ≡ ys) × (u ≡ v)) → (a ∷ xs ≡ b ∷ ys) × (u ≡ v)
+    go : (xs ys : List BlockValue) → AllByRecursion IsBlock xs → EndsOnce (a ∷ xs) → AllByRecursion IsBlock ys → EndsOnce (b ∷ ys) → a ≡ b → block_texts xs ++ u ≡ block_texts ys ++ v →
+        (AllByRecursion IsBlock xs → EndsOnce xs → AllByRecursion IsBlock ys → EndsOnce ys → block_texts xs ++ u ≡ block_texts ys ++ v → (xs ≡ ys) × (u ≡ v)) → (a ∷ xs ≡ b ∷ ys) × (u ≡ v)
     go [] [] ha ea hb eb same rest more = (ap (λ (x : BlockValue). x ∷ []) same, rest)
-    go [] (c ∷ ys) ha ea hb eb same rest more = let clash : is_end b.body ≡ true = ap (λ (x : BlockValue). is_end x.body) (sym same) ∙ ea in absurd (true_false (sym clash ∙ eb.0))
-    go (c ∷ xs) [] ha ea hb eb same rest more = let clash : is_end a.body ≡ true = ap (λ (x : BlockValue). is_end x.body) same ∙ eb in absurd (true_false (sym clash ∙ ea.0))
+    go [] (c ∷ ys) ha ea hb eb same rest more = let ends : is_end b.body ≡ true = ap (λ (x : BlockValue). is_end x.body) (sym same) ∙ ea in absurd (cc (ends, eb.0))
+    go (c ∷ xs) [] ha ea hb eb same rest more = let ends : is_end a.body ≡ true = ap (λ (x : BlockValue). is_end x.body) same ∙ eb in absurd (cc (ends, ea.0))
     go (c ∷ xs) (d ∷ ys) ha ea hb eb same rest more =
         let r = more ha ea.1 hb eb.1 rest in
         (ap₂ (λ (x : BlockValue) (xs : List BlockValue). x ∷ xs) same r.0, r.1)
 
--- Blocks up to END have one reading.
+are_blocks : (xs : List BlockValue) → AllByRecursion IsLoadBlock xs → AllByRecursion IsBlock xs
+are_blocks [] h = tt
+are_blocks (b ∷ xs) h = (h.0.0, are_blocks xs h.1)
+
 pub hunk_peel : (xs ys : List BlockValue) (u v : List ℕ) → AreHunkBlocks xs → AreHunkBlocks ys → block_texts xs ++ u ≡ block_texts ys ++ v → (xs ≡ ys) × (u ≡ v)
-hunk_peel xs ys u v ha hb e = hunk_peel_by xs ys u v ha.each ha.ends hb.each hb.ends e
+hunk_peel xs ys u v ha hb e = blocks_peel xs ys u v (are_blocks xs ha.each) ha.ends (are_blocks ys hb.each) hb.ends e
 
 -- ---- the blocks of a hunk are such blocks
-
-abbrev standings : List BlockValue → List Standing
-standings ys = map (λ b. standing b.body) ys
 
 ends_by : (has : Bool) (w : ℕ) (b : BlockBody) (ys : List BlockValue) → AreInOrder has (standing b ∷ standings ys) → ((h : Bool) → AreInOrder h (standings ys) → EndsOnce ys) → EndsOnce (record { word = w; body = b } ∷ ys)
 ends_by has w b ys h more = go has b ys h more
@@ -57,19 +56,14 @@ ends_by has w b ys h more = go has b ys h more
     go has (Debug words) ys h more = beside (Debug words) ys refl (more has h)
     go has (Advisory words) ys h more = beside (Advisory words) ys refl (more has h)
     go false (Code top words) ys h more = beside (Code top words) ys refl (more true h)
-    go true (Code top words) ys h more = absurd h
     go false (Data top words) ys h more = beside (Data top words) ys refl (more true h)
-    go true (Data top words) ys h more = absurd h
     go false (Bss size) ys h more = beside (Bss size) ys refl (more true h)
-    go true (Bss size) ys h more = absurd h
     go true (Reloc gs) ys h more = beside (Reloc gs) ys refl (more true h)
-    go false (Reloc gs) ys h more = absurd h
     go true (Ext es) ys h more = beside (Ext es) ys refl (more true h)
-    go false (Ext es) ys h more = absurd h
     go true End ys h more = last ys h
-    go false End ys h more = absurd h
+    go _ _ ys h more = absurd h
 
-order_ends : (has : Bool) (ys : List BlockValue) → AreInOrder has (standings ys) → EndsOnce ys
+pub order_ends : (has : Bool) (ys : List BlockValue) → AreInOrder has (standings ys) → EndsOnce ys
 order_ends has [] h = h
 order_ends has (b ∷ ys) h = ends_by has b.word b.body ys h (λ k. order_ends k ys)
 

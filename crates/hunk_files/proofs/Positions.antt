@@ -20,7 +20,7 @@ use Rattle.hunk_scan.specs.Standings.{Standing, Beside, Content, Relocating, End
 use Rattle.hunk_files.specs.LoadText.{entries}
 use Rattle.hunk_files.proofs.Reading.{next_after, all_pass}
 use Rattle.hunk_files.specs.ReaderPosition.{open_of, block_phase, phase_of, position_of, longs_of, opened}
-use Rattle.hunk_files.specs.FileSteps.{OpenHunk, Progress, AtFirst, AtResident, AtTableSize, AtFirstHunk, AtLastHunk, AtSizeWord, AtAttributes, AtBlock, InBody, Next, More, Finished, role_of, place_of, step, rows, open_hunk, with_block, close_by, sized_row, after, hunk, block, table_entry}
+use Rattle.hunk_files.specs.FileSteps.{OpenHunk, Progress, AtFirst, AtLastHunk, AtSizeWord, AtAttributes, AtBlock, InBody, Next, More, Finished, role_of, place_of, step, rows, open_hunk, with_block, close_by, sized_row, after, hunk, block, table_entry}
 use Rattle.hunk_files.proofs.FileProgress.{ProgressFits}
 use Rattle.hunk_files.proofs.HunkProgress.{Within}
 use Rattle.hunk_files.proofs.InsideCases.{by_inside}
@@ -40,14 +40,9 @@ block_same o w (b ∷ blocks) = refl
 -- The position and the declared longs tell the refusal.
 pub refuse_same : (p : Progress) (w : ℕ) → ProgressFits p → refuse (role_of p) w ≡ refuse (role_at (longs_of p) (position_of (More p))) w
 refuse_same AtFirst w f = refl
-refuse_same AtResident w f = refl
-refuse_same AtTableSize w f = refl
-refuse_same (AtFirstHunk hunks) w f = refl
-refuse_same (AtLastHunk hunks) w f = refl
-refuse_same (AtSizeWord hunks done owed) w f = refl
-refuse_same (AtAttributes hunks done word owed) w f = refl
 refuse_same (AtBlock o) w f = block_same o w o.blocks
 refuse_same (InBody o word x) w f = part_same o word x w f.2.1
+refuse_same _ w f = refl
 
 -- ---- runs
 
@@ -91,13 +86,9 @@ module _ (o : OpenHunk) (word : ℕ) (p : Progress) (longs_are : size_longs o.en
 
   fill_here : (f : Filling) (done : List ℕ) (owed : ℕ) → Passes p (after o word (fill f done owed)) [] (fill_left o f (length done + owed) owed)
   fill_here (Counted ForName) done zero = block_passes _ _ _ refl
-  fill_here (Counted ForDebug) done zero = block_passes _ _ _ refl
-  fill_here (Counted ForAdvisory) done zero = block_passes _ _ _ refl
-  fill_here (SizedCode top) done zero = block_passes _ _ _ refl
-  fill_here (SizedData top) done zero = block_passes _ _ _ refl
-  fill_here (Counted c) done (suc owed) = open_passes (InPayload (Counted c) done owed)
-  fill_here (SizedCode top) done (suc owed) = open_passes (InPayload (SizedCode top) done owed)
-  fill_here (SizedData top) done (suc owed) = open_passes (InPayload (SizedData top) done owed)
+  fill_here _ done zero = block_passes _ _ _ refl
+  fill_here (Counted c) done (suc owed) = open_passes _
+  fill_here _ done (suc owed) = open_passes _
 
   fill_passes : (f : Filling) (done : List ℕ) (owed : ℕ) (ws : List ℕ) (left : ℕ) → length ws + left ≡ owed → Passes p (after o word (fill f done owed)) ws (fill_left o f (length done + owed) left)
   fill_passes f done owed [] left e =
@@ -128,19 +119,10 @@ module _ (o : OpenHunk) (word : ℕ) (p : Progress) (longs_are : size_longs o.en
       record { next = r.next; leads = r.leads; passes = r.passes; position_is = r.position_is; stays = r.stays }
 
 fill_run : (o : OpenHunk) (word : ℕ) (f : Filling) (done : List ℕ) (owed w : ℕ) (ws : List ℕ) → length ws ≤ owed →
-    Passes (InBody o word (InPayload f done owed)) (More (InBody o word (InPayload f done owed))) (w ∷ ws) (pass (position_of (More (InBody o word (InPayload f done owed)))) (suc (length ws)))
-fill_run o word (Counted c) done owed w ws l =
-    let p = InBody o word (InPayload (Counted c) done owed) in
-    let r = fill_passes o word p refl refl (Counted c) (done ++ w ∷ []) owed ws (owed - length ws) (omega (arith, l)) in
-    record { next = r.next; leads = r.leads; passes = r.passes; position_is = r.position_is; stays = r.stays }
-fill_run o word (SizedCode top) done owed w ws l =
-    let p = InBody o word (InPayload (SizedCode top) done owed) in
-    let r = fill_passes o word p refl refl (SizedCode top) (done ++ w ∷ []) owed ws (owed - length ws) (omega (arith, l)) in
-    record { next = r.next; leads = r.leads; passes = r.passes; position_is = r.position_is ∙ ap (λ (n : ℕ). scan.owe_content (open_of o) n (owed - length ws)) (more_owed done w owed); stays = r.stays }
-fill_run o word (SizedData top) done owed w ws l =
-    let p = InBody o word (InPayload (SizedData top) done owed) in
-    let r = fill_passes o word p refl refl (SizedData top) (done ++ w ∷ []) owed ws (owed - length ws) (omega (arith, l)) in
-    record { next = r.next; leads = r.leads; passes = r.passes; position_is = r.position_is ∙ ap (λ (n : ℕ). scan.owe_content (open_of o) n (owed - length ws)) (more_owed done w owed); stays = r.stays }
+    Passes (InBody o word (InPayload f done owed)) (More (InBody o word (InPayload f done owed))) (w ∷ ws) (fill_left o f (length done + suc owed) (owed - length ws))
+fill_run o word f done owed w ws l =
+    let r = fill_passes o word (InBody o word (InPayload f done owed)) refl refl f (done ++ w ∷ []) owed ws (owed - length ws) (omega (arith, l)) in
+    record { next = r.next; leads = r.leads; passes = r.passes; position_is = r.position_is ∙ ap (λ (n : ℕ). fill_left o f n (owed - length ws)) (more_owed done w owed); stays = r.stays }
 
 -- Longwords of a run all pass.
 pub run_passes : (p : Progress) (ws : List ℕ) → length ws ≤ run (position_of (More p)) → Passes p (More p) ws (pass (position_of (More p)) (length ws))
@@ -158,11 +140,7 @@ run_passes (AtBlock o) (w ∷ ws) l = absurd (none o.blocks l)
     none [] h = omega (arith, h)
     none (b ∷ blocks) h = omega (arith, h)
 run_passes (InBody o word (AtCount ForName)) (w ∷ ws) l = absurd (omega (arith, l))
-run_passes (InBody o word (AtCount ForDebug)) (w ∷ ws) l = absurd (omega (arith, l))
-run_passes (InBody o word (AtCount ForAdvisory)) (w ∷ ws) l = absurd (omega (arith, l))
 run_passes (InBody o word (AtSize ForCode)) (w ∷ ws) l = absurd (omega (arith, l))
-run_passes (InBody o word (AtSize ForData)) (w ∷ ws) l = absurd (omega (arith, l))
-run_passes (InBody o word (AtSize ForBss)) (w ∷ ws) l = absurd (omega (arith, l))
 run_passes _ (w ∷ ws) l = absurd (omega (arith, l))
 
 -- ---- steps
@@ -233,10 +211,6 @@ block_step o w (b ∷ blocks) = refl
 
 -- A step of the reader is a step of its position.
 pub step_position : (p : Progress) (w : ℕ) → ProgressFits p → refuse (role_of p) w ≡ None → position_of (step p w) ≡ scan.step (position_of (More p)) w
-step_position AtFirst w f ok = refl
-step_position AtResident w f ok = refl
-step_position AtTableSize w f ok = refl
-step_position (AtFirstHunk hunks) w f ok = refl
 step_position (AtLastHunk hunks) w f ok = rows_position hunks [] hunks (omega arith)
 step_position (AtSizeWord hunks done owed) w f ok = sized_position hunks done w owed (has_both_bits w) f.counts
 step_position (AtAttributes hunks done word owed) w f ok = rows_position hunks (done ++ table_entry word w ∷ []) owed (more_owed done (table_entry word w) owed ∙ f.0.counts)
@@ -244,32 +218,20 @@ step_position (AtBlock o) w f ok =
     begin_position o w (is_advisory w) (kind w) (passed_both (has_both_bits w) reasons.BothBits (refuse_kind o.has_content (is_advisory w) (kind w)) ok).1
     ∙ block_step (open_of o) w o.blocks
 step_position (InBody o word x) w f ok = inside_position o word x w f.2.1
+step_position _ w f ok = refl
 
 -- what was read of a file that goes on
 pub not_done : (p : Progress) → position_of (More p) ≡ positions.Done → ⊥
 not_done AtFirst e = cc
-not_done AtResident e = cc
-not_done AtTableSize e = cc
-not_done (AtFirstHunk hunks) e = cc
-not_done (AtLastHunk hunks) e = cc
-not_done (AtSizeWord hunks done owed) e = cc
-not_done (AtAttributes hunks done word owed) e = cc
-not_done (AtBlock o) e = cc
-not_done (InBody o word x) e = cc
+not_done _ e = cc
 
 -- ---- the open hunk
 
 -- within a block the hunk is open
 pub inside_open : (x : Inside) (o : numbers.OpenHunk) → is_between_hunks (positions.Body o (phase_of x)) ≡ false
 inside_open (AtCount ForName) o = refl
-inside_open (AtCount ForDebug) o = refl
-inside_open (AtCount ForAdvisory) o = refl
 inside_open (AtSize ForCode) o = refl
-inside_open (AtSize ForData) o = refl
-inside_open (AtSize ForBss) o = refl
-inside_open (InPayload (Counted c) done owed) o = refl
 inside_open (InPayload (SizedCode top) done owed) o = refl
-inside_open (InPayload (SizedData top) done owed) o = refl
 inside_open _ o = refl
 
 abbrev pub MovesTo : Progress → OpenHunk → List BlockValue → Type 0
@@ -311,12 +273,9 @@ after_moves p o word (Whole body) s = go (standing body)
         (map-more (λ (h : HunkValue). h.entry) o.finished (hunk o.entry (o.blocks ++ block word body ∷ [])) ∙ s.1)
 
 pub step_moves : (p : Progress) (w : ℕ) → Moves p (step p w)
-step_moves AtFirst w = (refl, refl)
-step_moves AtResident w = (refl, refl)
-step_moves AtTableSize w = (refl, refl)
-step_moves (AtFirstHunk hunks) w = (refl, refl)
 step_moves (AtLastHunk hunks) w = row_moves (AtLastHunk hunks) hunks [] hunks refl refl
 step_moves (AtSizeWord hunks done owed) w = sized_moves (AtSizeWord hunks done owed) hunks done w owed (has_both_bits w) refl refl
 step_moves (AtAttributes hunks done word owed) w = row_moves (AtAttributes hunks done word owed) hunks (done ++ table_entry word w ∷ []) owed refl refl
 step_moves (AtBlock o) w = after_moves (AtBlock o) o w (begin (kind w)) (refl, refl)
 step_moves (InBody o word x) w = after_moves (InBody o word x) o word (step_inside x w) (refl, refl)
+step_moves _ w = (refl, refl)

@@ -35,12 +35,12 @@ module _ {A W : Type 0} (f : A → List ℕ) (taken : W → Option (List ℕ)) (
 
   module _ {a b : Writing W} where
     -- there is room for the next
-    pub puts_room : (i : ℕ) (x : A) (limit : ℕ) → i < length xs → x ≡ get_or xs i x → PutsSoFar a b i → a.written + length (bytes_of (flat_map f xs)) < limit → b.written + length (bytes_of (f x)) < limit
+    pub puts_room : (i : ℕ) (x : A) (limit : ℕ) → i < length xs → x ≡ get_or xs i x → HasWritten taken failed a b (bytes_of (flat_map f (take i xs))) → a.written + length (bytes_of (flat_map f xs)) < limit → b.written + length (bytes_of (f x)) < limit
     puts_room i x limit inside is h room =
         omega (
           arith,
           room,
-          h.written.whole,
+          h.whole,
           ap length (split_bytes f xs i x inside is),
           length-append (bytes_of (flat_map f (take i xs))) (bytes_of (f x) ++ bytes_of (flat_map f (drop (suc i) xs))),
           length-append (bytes_of (f x)) (bytes_of (flat_map f (drop (suc i) xs))),
@@ -48,21 +48,21 @@ module _ {A W : Type 0} (f : A → List ℕ) (taken : W → Option (List ℕ)) (
 
     module _ {T : Type 0} {c : Writing W} {s : Result T WriteFault} where
       -- it is written
-      pub puts_next : (i : ℕ) (x : A) {y : T} → i < length xs → x ≡ get_or xs i x → PutsSoFar a b i → Writes taken failed b c s (bytes_of (f x)) → s ≡ Ok y → PutsSoFar a c (i + 1)
+      pub puts_next : (i : ℕ) (x : A) {y : T} → i < length xs → x ≡ get_or xs i x → HasWritten taken failed a b (bytes_of (flat_map f (take i xs))) → Writes taken failed b c s (bytes_of (f x)) → s ≡ Ok y → PutsSoFar a c (i + 1)
       puts_next i x {y} inside is h k done =
           record {
             written =
                 subst (λ (l : List ℕ). HasWritten taken failed a c l) (sym (ap bytes_of (flat_map-next f xs i x inside is) ∙ bytes_of-append (flat_map f (take i xs)) (f x)))
-                (written_after taken failed a b c (bytes_of (flat_map f (take i xs))) (bytes_of (f x)) h.written (written taken failed b c s y (bytes_of (f x)) k done));
+                (written_after taken failed a b c (bytes_of (flat_map f (take i xs))) (bytes_of (f x)) h (written taken failed b c s y (bytes_of (f x)) k done));
             open_ = k.stops ∙ ap (λ (r : Result T WriteFault). is_err r) done;
           }
 
       -- it stops
-      pub puts_stop : {U : Type 0} {fault : WriteFault} {r : Result U WriteFault} (i : ℕ) (x : A) → i < length xs → x ≡ get_or xs i x → PutsSoFar a b i → Writes taken failed b c s (bytes_of (f x)) → s ≡ Err fault → IsErrAnd r (λ e. e ≡ fault) →
+      pub puts_stop : {U : Type 0} {fault : WriteFault} {r : Result U WriteFault} (i : ℕ) (x : A) → i < length xs → x ≡ get_or xs i x → HasWritten taken failed a b (bytes_of (flat_map f (take i xs))) → Writes taken failed b c s (bytes_of (f x)) → s ≡ Err fault → IsErrAnd r (λ e. e ≡ fault) →
           Writes taken failed a c r (bytes_of (flat_map f xs))
       puts_stop {U} {fault} {r} i x inside is h k stop same =
           writes_same taken failed a c r (bytes_of (flat_map f (take i xs)) ++ (bytes_of (f x) ++ bytes_of (flat_map f (drop (suc i) xs)))) (bytes_of (flat_map f xs)) (sym (split_bytes f xs i x inside is))
-          (writes_after taken failed a b c r (bytes_of (flat_map f (take i xs))) (bytes_of (f x) ++ bytes_of (flat_map f (drop (suc i) xs))) h.written
+          (writes_after taken failed a b c r (bytes_of (flat_map f (take i xs))) (bytes_of (f x) ++ bytes_of (flat_map f (drop (suc i) xs))) h
           (writes_part taken failed b c fault s r (bytes_of (f x)) (bytes_of (flat_map f (drop (suc i) xs))) k stop same))
 
     -- all are written
@@ -70,6 +70,21 @@ module _ {A W : Type 0} (f : A → List ℕ) (taken : W → Option (List ℕ)) (
     puts_end {T} i x all h =
         writes_same taken failed a b (Ok x) (bytes_of (flat_map f (take i xs)) ++ []) (bytes_of (flat_map f xs)) (append-nil (bytes_of (flat_map f (take i xs))) ∙ ap bytes_of (flat_map-whole f xs i all))
         (writes_after taken failed a b b (Ok x) (bytes_of (flat_map f (take i xs))) [] h.written (writes_nothing taken failed b x h.open_))
+
+  -- the same where at least one is written, by a writer that may have stopped before
+  pub record PutsSome (a b : Writing W) (i : ℕ) : Type 0 where
+    pub written : HasWritten taken failed a b (bytes_of (flat_map f (take i xs)))
+    pub open_ : 0 < i → b.stopped ≡ false
+
+  pub some_begin : (w : Writing W) → PutsSome w w 0
+  some_begin w = record { written = subst (λ (l : List ℕ). HasWritten taken failed w w l) (sym bytes_of-nil) (nothing_written taken failed w); open_ = λ h. absurd (omega (arith, h)) }
+
+  module _ {a b : Writing W} where
+    pub some_next : (i : ℕ) → PutsSoFar a b (i + 1) → PutsSome a b (i + 1)
+    some_next i h = record { written = h.written; open_ = λ l. h.open_ }
+
+    pub some_end : {T : Type 0} (i : ℕ) (x : T) → length xs ≤ i → 0 < length xs → PutsSome a b i → Writes taken failed a b (Ok x) (bytes_of (flat_map f xs))
+    some_end i x all some h = puts_end i x all (record { written = h.written; open_ = h.open_ (omega (arith, all, some)) })
 
 -- longwords, one by one
 pub each_long : (ws : List ℕ) → flat_map (λ w. w ∷ []) ws ≡ ws

@@ -13,8 +13,10 @@ use Rattle.hunk_files.proofs.FileText.{file_leads, Leads-append}
 use Rattle.hunk_files.proofs.FileProgress.{Reads}
 use Rattle.hunk_files.proofs.Runs.{Leads-keeps, Leads-split, Leads-same}
 use Rattle.hunk_files.specs.WordsRead.{HasRead, Labelled, IsAccepted, AreAccepted}
-use Rattle.hunk_files.proofs.Accepted.{All-append, labelled_accepted}
+use Rattle.hunk_files.proofs.Accepted.{labelled_accepted}
 use Rattle.hunk_files.proofs.Scan.{words_split, expects_of, truncated_of}
+use Rattle.hunk_blocks.proofs.Lists.{All-append}
+use Rattle.hunk_blocks.proofs.Fronts.{All-right}
 
 -- What was read fits, and is the text so far.
 pub reads : {ws : List ℕ} {n : Next} (h : HasRead ws n) → Reads n h.done
@@ -69,13 +71,9 @@ module _ (ws : List ℕ) (n : Next) (h : HasRead ws n) (all : List ℕ) (last : 
       let same = Leads-same (More AtFirst) cut.0 n s.front h.done cut.1 h.run (s.front_words ∙ sym h.all) in (
         s.back,
         subst (λ (m : Next). Leads m s.back last) same.1 cut.2,
-        right_of s.front s.back (subst AreAccepted s.split k.accepted),
+        All-right IsAccepted s.front s.back (subst AreAccepted s.split k.accepted),
         s.back_words,
       )
-    where
-      right_of : (xs ys : Labelled) → AreAccepted (xs ++ ys) → AreAccepted ys
-      right_of [] ys ok = ok
-      right_of (x ∷ xs) ys ok = right_of xs ys ok.1
 
 -- A load text is read to its end.
 pub file_read : (v : LoadFileValue) → IsLoadFile v → HasRead (text v) (Finished v)

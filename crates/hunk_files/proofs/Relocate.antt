@@ -6,11 +6,12 @@ use Rattle.hunk_words.specs.Longs.{bytes_of}
 use Rattle.hunk_words.proofs.LongLaws.{length-bytes_of}
 use Rattle.hunk_blocks.specs.Values.{RelocGroup, BlockBody, BlockValue, Name, Code, Data, Bss, Reloc, Ext, Symbol, Debug, Advisory, End}
 use Rattle.hunk_files.specs.LoadFile.{HunkValue, standing, AreInOrder, FitsGroup, IsInside, IsHunkBlock, IsHunk, declared_longs}
-use Rattle.hunk_scan.specs.Standings.{Standing}
 use Rattle.hunk_files.specs.Image.{add_at, block_content, block_relocations, group_relocations, relocated, relocations}
 use Rattle.hunk_files.specs.Relocating.{IsRelocatable}
 use Rattle.hunk_files.proofs.Accepted.{All-map, All-flat_map}
 use Rattle.hunk_files.proofs.Concats.{flat_map-next}
+use Rattle.hunk_blocks.proofs.Fronts.{All-left, All-right}
+use Rattle.hunk_files.proofs.FileText.{standings}
 
 pub relocated-append : (bases s : List ℕ) (ps qs : List (ℕ × ℕ)) → relocated bases s (ps ++ qs) ≡ relocated bases (relocated bases s ps) qs
 relocated-append bases s [] qs = refl
@@ -37,14 +38,6 @@ part_more f bases s now new xs i x inside is e n =
 
 -- ---- there is room
 
-All-left : {A : Type 0} (P : A → Type 0) (xs ys : List A) → AllByRecursion P (xs ++ ys) → AllByRecursion P xs
-All-left P [] ys h = tt
-All-left P (x ∷ xs) ys h = (h.0, All-left P xs ys h.1)
-
-All-right : {A : Type 0} (P : A → Type 0) (xs ys : List A) → AllByRecursion P (xs ++ ys) → AllByRecursion P ys
-All-right P [] ys h = h
-All-right P (x ∷ xs) ys h = All-right P xs ys h.1
-
 -- of one part
 pub part_room : {A : Type 0} (f : A → List (ℕ × ℕ)) (size size' bases : ℕ) (xs : List A) (i : ℕ) (x : A) → size ≡ size' → IsRelocatable size bases (flat_map f xs) → i < length xs → x ≡ get_or xs i x → IsRelocatable size' bases (f x)
 part_room {A} f size size' bases xs i x same h inside is = subst (λ (n : ℕ). IsRelocatable n bases (f x)) same (go xs i h inside is)
@@ -68,15 +61,7 @@ group_fits hunks longs g h = All-map (IsInside longs) (λ (p : ℕ × ℕ). (p.0
 
 block_fits : (hunks longs : ℕ) (w : ℕ) (b : BlockBody) → IsHunkBlock hunks longs (record { word = w; body = b }) → IsRelocatable (4 * longs) hunks (block_relocations b)
 block_fits hunks longs w (Reloc groups) h = All-flat_map (FitsGroup hunks longs) (λ (p : ℕ × ℕ). (p.0 + 4 ≤ 4 * longs) × (p.1 < hunks)) group_relocations (group_fits hunks longs) groups h.fits
-block_fits hunks longs w (Name words) h = tt
-block_fits hunks longs w (Code top words) h = tt
-block_fits hunks longs w (Data top words) h = tt
-block_fits hunks longs w (Bss size) h = tt
-block_fits hunks longs w (Ext entries) h = tt
-block_fits hunks longs w (Symbol entries) h = tt
-block_fits hunks longs w (Debug words) h = tt
-block_fits hunks longs w (Advisory words) h = tt
-block_fits hunks longs w End h = tt
+block_fits hunks longs w _ h = tt
 
 -- of all relocations of a hunk
 pub hunk_fits : (hunks : ℕ) (h : HunkValue) → IsHunk hunks h → IsRelocatable (4 * declared_longs h) hunks (relocations h)
@@ -87,9 +72,6 @@ hunk_fits hunks h is =
 
 abbrev contents : List BlockValue → List ℕ
 contents bs = flat_map (λ (b : BlockValue). block_content b.body) bs
-
-abbrev standings : List BlockValue → List Standing
-standings bs = map (λ b. standing b.body) bs
 
 -- behind the content block there is none
 abbrev limit : Bool → ℕ → ℕ
@@ -103,21 +85,16 @@ content_by hunks longs has w (Symbol entries) bs h o more none = more has o
 content_by hunks longs has w (Debug words) bs h o more none = more has o
 content_by hunks longs has w (Advisory words) bs h o more none = more has o
 content_by hunks longs false w (Code top words) bs h o more none = omega (arith, length-append (bytes_of words) (contents bs), length-bytes_of words, h.fits, more true o)
-content_by hunks longs true w (Code top words) bs h o more none = absurd o
 content_by hunks longs false w (Data top words) bs h o more none = omega (arith, length-append (bytes_of words) (contents bs), length-bytes_of words, h.fits, more true o)
-content_by hunks longs true w (Data top words) bs h o more none = absurd o
 content_by hunks longs false w (Bss size) bs h o more none = omega (arith, more true o)
-content_by hunks longs true w (Bss size) bs h o more none = absurd o
 content_by hunks longs true w (Reloc groups) bs h o more none = more true o
-content_by hunks longs false w (Reloc groups) bs h o more none = absurd o
 content_by hunks longs true w (Ext entries) bs h o more none = more true o
-content_by hunks longs false w (Ext entries) bs h o more none = absurd o
 content_by hunks longs true w End bs h o more none = omega (arith, none (no_more bs o))
   where
     no_more : (bs : List BlockValue) → standings bs ≡ [] → bs ≡ []
     no_more [] e = refl
     no_more (x ∷ bs) e = absurd cc
-content_by hunks longs false w End bs h o more none = absurd o
+content_by hunks longs _ w _ bs h o more none = absurd o
 
 contents_fit : (hunks longs : ℕ) (has : Bool) (bs : List BlockValue) → AllByRecursion (IsHunkBlock hunks longs) bs → AreInOrder has (standings bs) → length (contents bs) ≤ limit has longs
 contents_fit hunks longs has [] h o = absurd o

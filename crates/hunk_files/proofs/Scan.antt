@@ -17,10 +17,7 @@ use Rattle.hunk_files.specs.WordsRead.{Labelled, IsAccepted, AreAccepted}
 use Rattle.hunk_files.proofs.Accepted.{labelled_accepted}
 use Rattle.hunk_files.proofs.Completion.{IsOwed, completes, completes_next}
 use Rattle.hunk_words.proofs.LongLaws.{longs-bytes_of, bytes_of-append, spelled, longs_fit}
-
-All-left : {A : Type 0} (P : A → Type 0) (xs ys : List A) → AllByRecursion P (xs ++ ys) → AllByRecursion P xs
-All-left P [] ys h = tt
-All-left P (x ∷ xs) ys h = (h.0, All-left P xs ys h.1)
+use Rattle.hunk_blocks.proofs.Fronts.{All-left}
 
 -- ---- a place in a load text
 
@@ -297,25 +294,13 @@ goes_on_scan ws g =
     ap scan_words (sym g.all ∙ sym (append-nil (words g.done)))
     ∙ scan_run (More AtFirst) (More place.0) g.done 0 [] place.1.run place.1.accepted
 
-ends≢goes_on : (v : LoadFileValue) (ws : List ℕ) → Ends v ws ≡ GoesOn → ⊥
-ends≢goes_on v ws e = cc
-
-ends≢refuses : (v : LoadFileValue) (ws : List ℕ) (k : ℕ) (reason : Reason) → Ends v ws ≡ Refuses k reason → ⊥
-ends≢refuses v ws k reason e = cc
-
-refuses≢goes_on : (k : ℕ) (reason : Reason) → Refuses k reason ≡ GoesOn → ⊥
-refuses≢goes_on k reason e = cc
-
-same_refusal : (j k : ℕ) (r s : Reason) → Refuses j r ≡ Refuses k s → (j ≡ k) × (r ≡ s)
-same_refusal j k r s e = (cc, cc)
-
 -- Where all longwords were accepted and none ends a file, the input is too short.
 pub truncated_of : (bytes : List ℕ) → GoesOnBehind (longs bytes) → IsTruncated bytes (4 * length (longs bytes))
 truncated_of bytes g =
     let f = front_of g.progress g.done g.reads in
     record {
       place = refl;
-      not_whole = λ h. ends≢goes_on h.value (longs h.rest) (sym (begun_scan bytes h) ∙ goes_on_scan (longs bytes) g);
+      not_whole = λ h. let clash : Ends h.value (longs h.rest) ≡ GoesOn = sym (begun_scan bytes h) ∙ goes_on_scan (longs bytes) g in cc;
       value = f.value;
       is_load_file = f.is_load_file;
       more = words ((role_of g.progress, f.word) ∷ f.more);
@@ -350,17 +335,18 @@ some_outcome bytes fit = outcome_of bytes fit (judged AtFirst [] (tt, refl) (lon
 -- They have one fault.
 pub one_fault : (bytes : List ℕ) → IsBytes bytes → (at : ℕ) (reason : Reason) (at' : ℕ) (reason' : Reason) → HasFault bytes at reason → HasFault bytes at' reason' → (at ≡ at') × (reason ≡ reason')
 one_fault bytes fit at reason at' reason' (inl h) (inl k) =
-    let e = same_refusal (length h.before) (length k.before) reason reason' (sym (refused_scan bytes at reason h) ∙ refused_scan bytes at' reason' k) in
-    (h.place ∙ ap (λ (n : ℕ). 4 * n) e.0 ∙ sym k.place, e.1)
+    let same : Refuses (length h.before) reason ≡ Refuses (length k.before) reason' = sym (refused_scan bytes at reason h) ∙ refused_scan bytes at' reason' k in
+    let place : length h.before ≡ length k.before = cc in
+    (h.place ∙ ap (λ (n : ℕ). 4 * n) place ∙ sym k.place, cc)
 one_fault bytes fit at reason at' reason' (inl h) (inr k) =
-    absurd (refuses≢goes_on (length h.before) reason (sym (refused_scan bytes at reason h) ∙ truncated_scan bytes at' fit k.1))
+    absurd (let clash : Refuses (length h.before) reason ≡ GoesOn = sym (refused_scan bytes at reason h) ∙ truncated_scan bytes at' fit k.1 in cc)
 one_fault bytes fit at reason at' reason' (inr h) (inl k) =
-    absurd (refuses≢goes_on (length k.before) reason' (sym (refused_scan bytes at' reason' k) ∙ truncated_scan bytes at fit h.1))
+    absurd (let clash : Refuses (length k.before) reason' ≡ GoesOn = sym (refused_scan bytes at' reason' k) ∙ truncated_scan bytes at fit h.1 in cc)
 one_fault bytes fit at reason at' reason' (inr h) (inr k) = (h.1.place ∙ sym k.1.place, h.0 ∙ sym k.0)
 
 -- And none where they begin with a load file.
 pub no_fault : (bytes : List ℕ) (at : ℕ) (reason : Reason) → BeginsWithLoadFile bytes → HasFault bytes at reason → ⊥
-no_fault bytes at reason h (inl k) = ends≢refuses h.value (longs h.rest) (length k.before) reason (sym (begun_scan bytes h) ∙ refused_scan bytes at reason k)
+no_fault bytes at reason h (inl k) = let clash : Ends h.value (longs h.rest) ≡ Refuses (length k.before) reason = sym (begun_scan bytes h) ∙ refused_scan bytes at reason k in cc
 no_fault bytes at reason h (inr k) = k.1.not_whole h
 
 refusals_none : (ls : Labelled) → AreAccepted ls → AllByRecursion (λ l. refuse l.0 l.1 ≡ None) ls

@@ -4,12 +4,13 @@ use Rattle.std.proofs.lemmas.List.{length-map}
 use Rattle.std.specs.List.{flat_map, fold, AllByRecursion}
 use Rattle.hunk_blocks.specs.Values.{BlockBody, BlockValue, Name, Code, Data, Bss, Reloc, Ext, Symbol, Debug, Advisory, End, IsBlock}
 use Rattle.hunk_files.specs.LoadFile.{HunkValue, LoadFileValue, standing, AreInOrder, IsHunkBlock, IsHunk, IsLoadFile, declared_longs}
-use Rattle.hunk_scan.specs.Standings.{Standing}
 use Rattle.hunk_files.specs.LoadText.{table}
 use Rattle.hunk_files.specs.Image.{block_content, block_relocations, content, relocations, filled, image, relocated}
 use Rattle.hunk_files.specs.ObjectFile.{ObjectHunk, UnitValue, ObjectFileValue, IsObjectHunk, IsUnit, IsObjectFile}
 use Rattle.hunk_files.specs.Findings.{FindingValue, Spot, content_longs, hunk_bytes, body_findings, hunk_findings, hunks_findings, unit_findings, units_findings, findings}
 use Rattle.hunk_files.specs.Strip.{is_kept, strip_blocks, strip_hunk, strip_file, strip_unit, strip_object}
+use Rattle.hunk_files.proofs.Accepted.{All-map}
+use Rattle.hunk_files.proofs.FileText.{standings}
 
 -- ---- what the dropped blocks do not have
 
@@ -116,9 +117,6 @@ all_kept P (b ∷ bs) h = by_test (all_kept P bs h.1) (is_kept b.body)
     by_test rest true = (h.0, rest)
     by_test rest false = rest
 
-abbrev standings : List BlockValue → List Standing
-standings bs = map (λ b. standing b.body) bs
-
 no_more : (bs : List BlockValue) → standings bs ≡ [] → bs ≡ []
 no_more [] e = refl
 no_more (b ∷ bs) e = absurd cc
@@ -132,25 +130,16 @@ in_order_by has w (Symbol entries) bs kept more none h = more has h
 in_order_by has w (Debug words) bs kept more none h = more has h
 in_order_by has w (Advisory words) bs kept more none h = more has h
 in_order_by false w (Code top words) bs kept more none h = more true h
-in_order_by true w (Code top words) bs kept more none h = absurd h
 in_order_by false w (Data top words) bs kept more none h = more true h
-in_order_by true w (Data top words) bs kept more none h = absurd h
 in_order_by false w (Bss size) bs kept more none h = more true h
-in_order_by true w (Bss size) bs kept more none h = absurd h
 in_order_by true w (Reloc groups) bs kept more none h = more true h
-in_order_by false w (Reloc groups) bs kept more none h = absurd h
 in_order_by true w (Ext entries) bs kept more none h = more true h
-in_order_by false w (Ext entries) bs kept more none h = absurd h
 in_order_by true w End bs kept more none h = ap standings (none (no_more bs h))
-in_order_by false w End bs kept more none h = absurd h
+in_order_by _ w _ bs kept more none h = absurd h
 
 order_kept : (has : Bool) (bs : List BlockValue) → AreInOrder has (standings bs) → AreInOrder has (standings (strip_blocks bs))
 order_kept has [] h = h
 order_kept has (b ∷ bs) h = in_order_by has b.word b.body bs (strip_blocks bs) (λ k. order_kept k bs) (λ e. ap strip_blocks e) h
-
-all_map : {A B : Type 0} (P : A → Type 0) (Q : B → Type 0) (f : A → B) → ((x : A) → P x → Q (f x)) → (xs : List A) → AllByRecursion P xs → AllByRecursion Q (map f xs)
-all_map P Q f each [] h = tt
-all_map P Q f each (x ∷ xs) h = (each x h.0, all_map P Q f each xs h.1)
 
 hunk_kept : (hunks : ℕ) (h : HunkValue) → IsHunk hunks h → IsHunk hunks (strip_hunk h)
 hunk_kept hunks h is = record { entry = is.entry; blocks = all_kept (IsHunkBlock hunks (declared_longs h)) h.blocks is.blocks; order = order_kept false h.blocks is.order }
@@ -161,14 +150,14 @@ file_kept v is =
     record {
       some = omega (arith, n, is.some);
       most = omega (arith, n, is.most);
-      each = subst (λ (k : ℕ). AllByRecursion (IsHunk k) (strip_file v)) (sym n) (all_map (IsHunk (length v)) (IsHunk (length v)) strip_hunk (hunk_kept (length v)) v is.each);
+      each = subst (λ (k : ℕ). AllByRecursion (IsHunk k) (strip_file v)) (sym n) (All-map (IsHunk (length v)) (IsHunk (length v)) strip_hunk (hunk_kept (length v)) v is.each);
     }
 
 object_hunk_kept : (h : ObjectHunk) → IsObjectHunk h → IsObjectHunk (strip_blocks h)
 object_hunk_kept h is = record { blocks = all_kept IsBlock h is.blocks; order = order_kept false h is.order }
 
 unit_kept : (u : UnitValue) → IsUnit u → IsUnit (strip_unit u)
-unit_kept u is = record { name = is.name; hunks = all_map IsObjectHunk IsObjectHunk strip_blocks object_hunk_kept u.hunks is.hunks }
+unit_kept u is = record { name = is.name; hunks = All-map IsObjectHunk IsObjectHunk strip_blocks object_hunk_kept u.hunks is.hunks }
 
 pub object_kept : (o : ObjectFileValue) → IsObjectFile o → IsObjectFile (strip_object o)
-object_kept o is = record { some = omega (arith, length-map o strip_unit, is.some); units = all_map IsUnit IsUnit strip_unit unit_kept o is.units }
+object_kept o is = record { some = omega (arith, length-map o strip_unit, is.some); units = All-map IsUnit IsUnit strip_unit unit_kept o is.units }

@@ -43,7 +43,7 @@ turn_more {A} f now old i d y l e t =
 
 -- ---- the text gets no longer
 
-shorter_blocks : (bs : ObjectHunk) → length (flat_map block_text (strip_blocks bs)) ≤ length (flat_map block_text bs)
+pub shorter_blocks : (bs : ObjectHunk) → length (flat_map block_text (strip_blocks bs)) ≤ length (flat_map block_text bs)
 shorter_blocks [] = omega arith
 shorter_blocks (b ∷ bs) = by_test (shorter_blocks bs) (is_kept b.body)
   where

@@ -11,21 +11,14 @@ use Rattle.hunk_files.specs.Strip.{is_kept, strip_blocks, strip_file}
 use Rattle.hunk_files.specs.Tables.{hunk_texts}
 use Rattle.hunk_files.proofs.StripLaws.{table_kept}
 use Rattle.hunk_files.proofs.TableReading.{text_is}
-
-blocks_shorter : (bs : List BlockValue) → length (block_texts (strip_blocks bs)) ≤ length (block_texts bs)
-blocks_shorter [] = omega arith
-blocks_shorter (b ∷ bs) = by_test (blocks_shorter bs) (is_kept b.body)
-  where
-    by_test : length (block_texts (strip_blocks bs)) ≤ length (block_texts bs) → (k : Bool) → length (block_texts (cond k (b ∷ strip_blocks bs) (strip_blocks bs))) ≤ length (block_text b ++ block_texts bs)
-    by_test h true = omega (arith, h, length-append (block_text b) (block_texts (strip_blocks bs)), length-append (block_text b) (block_texts bs))
-    by_test h false = omega (arith, h, length-append (block_text b) (block_texts bs))
+use Rattle.hunk_files.proofs.StripSteps.{shorter_blocks}
 
 hunks_shorter : (v : LoadFileValue) → length (hunk_texts (strip_file v)) ≤ length (hunk_texts v)
 hunks_shorter [] = omega arith
 hunks_shorter (h ∷ v) =
     omega (
       arith,
-      blocks_shorter h.blocks,
+      shorter_blocks h.blocks,
       hunks_shorter v,
       length-append (block_texts (strip_blocks h.blocks)) (hunk_texts (strip_file v)),
       length-append (block_texts h.blocks) (hunk_texts v),

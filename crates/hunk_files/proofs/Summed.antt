@@ -1,5 +1,5 @@
 -- Longs that lie apart: one addition after the other is one sum.
-use Rattle.std.proofs.Common.{◌≡◌, ℕ, zero, suc, ◌+◌, ◌-◌, ◌*◌, ◌%◌, ◌^◌, ◌<◌, ◌≤◌, ◌==◌, cond, if◌then◌else◌, List, [], ◌∷◌, ◌++◌, length, map, get_or, take, drop, replicate, refl, sym, ap, subst, ◌∙◌, arith, ◌⊎◌, inl, inr}
+use Rattle.std.proofs.Common.{◌≡◌, ℕ, zero, suc, ◌+◌, ◌-◌, ◌*◌, ◌%◌, ◌^◌, ◌<◌, ◌≤◌, ◌==◌, cond, if◌then◌else◌, List, [], ◌∷◌, ◌++◌, length, get_or, take, drop, replicate, refl, sym, ap, subst, ◌∙◌, arith, ◌⊎◌, inl, inr}
 use Rattle.std.specs.List.{Contains, AllByRecursion, flat_map}
 use Rattle.std.specs.Int.{w32, to_be_bytes}
 use Rattle.std.proofs.lemmas.List.{length-append, length-replicate, get_or_append_left, get_or-append_right, get_or-replicate, get_or_past, get_or-take, get_or-drop, ext_get_or, length-take, length-drop}
@@ -9,12 +9,14 @@ use Rattle.std.proofs.lemmas.Bool.Decides.{nat_tests}
 use Rattle.std.proofs.Math.Nat.{mod-add-mod}
 use Rattle.std.proofs.lemmas.Bool.{cases_lt, cases_order}
 use Rattle.hunk_words.specs.Longs.{bytes_of, IsBytes}
-use Rattle.hunk_blocks.specs.Values.{BlockBody, BlockValue, RelocGroup, Name, Code, Data, Bss, Reloc, Ext, Symbol, Debug, Advisory, End}
-use Rattle.hunk_files.specs.LoadFile.{HunkValue, IsHunk, IsHunkBlock, FitsGroup, IsInside, declared_longs}
-use Rattle.hunk_files.specs.Image.{content, relocations, offsets, image, relocated, add_at, filled, block_content, block_relocations, group_relocations}
+use Rattle.hunk_blocks.specs.Values.{BlockBody, BlockValue, Code, Data}
+use Rattle.hunk_files.specs.LoadFile.{HunkValue, IsHunk, declared_longs}
+use Rattle.hunk_files.specs.Image.{content, relocations, offsets, image, relocated, add_at, filled, block_content}
 use Rattle.hunk_files.specs.Overlap.{AreApart}
 use Rattle.hunk_files.specs.SumImage.{long_at, added, IsOutside, IsSum, IsSumImage}
 use Rattle.hunk_files.proofs.AddAt.{added_length, added_beside, added_bytes, added_here, added_away, bytes_of_word, bytes_in_long, long_at_fits}
+use Rattle.hunk_files.specs.Relocating.{IsRelocatable}
+use Rattle.hunk_files.proofs.Relocate.{hunk_fits}
 
 abbrev pub AreInside : ℕ → List (ℕ × ℕ) → Type 0
 AreInside size pairs = AllByRecursion (λ pair. pair.0 + 4 ≤ size) pairs
@@ -186,40 +188,12 @@ content_bytes h = bytes_append _ _ (bytes_flat (λ (b : BlockValue). block_conte
 filled_length : (size : ℕ) (bytes : List ℕ) → size ≤ length (filled size bytes)
 filled_length size bytes = omega (arith, length-append bytes (replicate (size - length bytes) 0), length-replicate {A = ℕ} (size - length bytes) 0)
 
-inside_append : (size : ℕ) (ps qs : List (ℕ × ℕ)) → AreInside size ps → AreInside size qs → AreInside size (ps ++ qs)
-inside_append size [] qs h k = k
-inside_append size (p ∷ ps) qs h k = (h.0, inside_append size ps qs h.1 k)
-
-group_inside : (longs target : ℕ) (os : List ℕ) → AllByRecursion (IsInside longs) os → AreInside (4 * longs) (map (λ o. (o, target)) os)
-group_inside longs target [] h = tt
-group_inside longs target (o ∷ os) h = (h.0, group_inside longs target os h.1)
-
-groups_inside : (hunks longs : ℕ) (gs : List RelocGroup) → AllByRecursion (FitsGroup hunks longs) gs → AreInside (4 * longs) (flat_map group_relocations gs)
-groups_inside hunks longs [] h = tt
-groups_inside hunks longs (g ∷ gs) h = inside_append (4 * longs) (group_relocations g) (flat_map group_relocations gs) (group_inside longs g.target g.offsets h.0.1) (groups_inside hunks longs gs h.1)
-
-block_inside : (hunks longs w : ℕ) (b : BlockBody) → IsHunkBlock hunks longs (record { word = w; body = b }) → AreInside (4 * longs) (block_relocations b)
-block_inside hunks longs w (Reloc groups) h = groups_inside hunks longs groups h.fits
-block_inside hunks longs w (Name words) h = tt
-block_inside hunks longs w (Code top words) h = tt
-block_inside hunks longs w (Data top words) h = tt
-block_inside hunks longs w (Bss size) h = tt
-block_inside hunks longs w (Ext entries) h = tt
-block_inside hunks longs w (Symbol entries) h = tt
-block_inside hunks longs w (Debug words) h = tt
-block_inside hunks longs w (Advisory words) h = tt
-block_inside hunks longs w End h = tt
-
-blocks_inside : (hunks longs : ℕ) (bs : List BlockValue) → AllByRecursion (IsHunkBlock hunks longs) bs → AreInside (4 * longs) (flat_map (λ b. block_relocations b.body) bs)
-blocks_inside hunks longs [] h = tt
-blocks_inside hunks longs (b ∷ bs) h = inside_append (4 * longs) (block_relocations b.body) (flat_map (λ (x : BlockValue). block_relocations x.body) bs) (block_inside hunks longs b.word b.body h.0) (blocks_inside hunks longs bs h.1)
-
-inside_more : (a b : ℕ) (pairs : List (ℕ × ℕ)) → a ≤ b → AreInside a pairs → AreInside b pairs
-inside_more a b [] le h = tt
-inside_more a b (p ∷ pairs) le h = (omega (arith, h.0, le), inside_more a b pairs le h.1)
+relocatable_inside : (a b hunks : ℕ) (pairs : List (ℕ × ℕ)) → a ≤ b → IsRelocatable a hunks pairs → AreInside b pairs
+relocatable_inside a b hunks [] le h = tt
+relocatable_inside a b hunks (p ∷ pairs) le h = (omega (arith, h.0.0, le), relocatable_inside a b hunks pairs le h.1)
 
 pub relocations_inside : (hunks : ℕ) (h : HunkValue) → IsHunk hunks h → AreInside (length (content h)) (relocations h)
-relocations_inside hunks h is = inside_more (4 * declared_longs h) (length (content h)) (relocations h) (filled_length (4 * declared_longs h) _) (blocks_inside hunks (declared_longs h) h.blocks is.blocks)
+relocations_inside hunks h is = relocatable_inside (4 * declared_longs h) (length (content h)) hunks (relocations h) (filled_length (4 * declared_longs h) _) (hunk_fits hunks h is)
 
 pub image_sums : (hunks : ℕ) (h : HunkValue) (bases : List ℕ) → IsHunk hunks h → AreApart (offsets (relocations h)) → IsSumImage bases h (image bases h)
 image_sums hunks h bases is apart = relocated_sums bases (content h) (relocations h) (content_bytes h) (relocations_inside hunks h is) apart

@@ -1,14 +1,14 @@
 -- The rows of a table, read one after the other.
 use Rattle.std.proofs.Common.{◌≡◌, ℕ, ◌+◌, ◌-◌, ◌*◌, ◌<◌, ◌≤◌, Bool, true, false, List, [], ◌∷◌, ◌++◌, length, map, get_or, drop, refl, sym, ap, ap₂, subst, ◌∙◌, append_assoc, append-nil, arith, if◌then◌else◌}
 use Rattle.std.specs.List.{flat_map, AllByRecursion}
-use Rattle.std.proofs.lemmas.List.{length-append, length-map, map-append, get_or-append-add, drop_at}
+use Rattle.std.proofs.lemmas.List.{length-append, length-map, map-append, get_or-append-add, drop_at, drop_all}
 use Rattle.std.proofs.lemmas.List.Concat.{flat_map-append}
 use Rattle.hunk_words.specs.Longs.{longs, bytes_of}
 use Rattle.hunk_words.specs.Bits.{has_both_bits}
 use Rattle.hunk_words.proofs.LongLaws.{bytes_of-append, length-bytes_of, length-longs}
 use Rattle.hunk_blocks.proofs.Lists.{flat_map-more}
 use Rattle.hunk_files.specs.declared.row.Row.{Row}
-use Rattle.hunk_files.specs.LoadFile.{TableEntry, LoadFileValue, IsTableEntry, IsHunk}
+use Rattle.hunk_files.specs.LoadFile.{TableEntry, LoadFileValue, IsTableEntry}
 use Rattle.hunk_scan.specs.Roles.{Role, Role as roles}
 use Rattle.hunk_files.specs.LoadText.{entry_labelled, header_labelled, hunk_labelled, labelled, table, words, text}
 use Rattle.hunk_files.specs.Fault.{BeginsWithLoadFile}
@@ -16,6 +16,8 @@ use Rattle.hunk_files.specs.Tables.{row_entry, hunk_texts, IsTable}
 use Rattle.hunk_files.proofs.FileProgress.{header_so_far}
 use Rattle.hunk_files.proofs.Scan.{begun_longs}
 use Rattle.hunk_files.proofs.Peel.{hunk_words}
+use Rattle.hunk_blocks.proofs.Fronts.{All-right}
+use Rattle.hunk_files.proofs.FileText.{entries_fit}
 
 -- ---- the text as its header and its hunks
 
@@ -45,6 +47,10 @@ front_more hunks es later =
 pub entry_words : (e : TableEntry) (b : Bool) → has_both_bits e.word ≡ b → words (entry_labelled e) ≡ e.word ∷ (if b then e.extra ∷ [] else [])
 entry_words e true h = ap (λ (c : Bool). words ((roles.SizeWord, e.word) ∷ (if c then (roles.Attributes, e.extra) ∷ [] else []))) h
 entry_words e false h = ap (λ (c : Bool). words ((roles.SizeWord, e.word) ∷ (if c then (roles.Attributes, e.extra) ∷ [] else []))) h
+
+pub entry_length : (e : TableEntry) (b : Bool) → has_both_bits e.word ≡ b → length (words (entry_labelled e)) ≡ (if b then 2 else 1)
+entry_length e true h = ap length (entry_words e true h)
+entry_length e false h = ap length (entry_words e false h)
 
 pub entries_more : (e : TableEntry) (es : List TableEntry) → entries_words (e ∷ es) ≡ words (entry_labelled e) ++ entries_words es
 entries_more e es = map-append (λ (x : Role × ℕ). x.1) (entry_labelled e) (flat_map entry_labelled es)
@@ -143,18 +149,10 @@ module _ (bytes : List ℕ) (file : BeginsWithLoadFile bytes) where
         ∙ get_or-append-add (front hunks es) ((next_row.entry.word ∷ next_row.entry.extra ∷ []) ++ more) 1 0
     extra_by false h = sym (entry_fits.2 h)
       where
-        fits : (v : LoadFileValue) (n : ℕ) → AllByRecursion (IsHunk n) v → AllByRecursion IsTableEntry (table v)
-        fits [] n h = tt
-        fits (x ∷ v) n h = (h.0.entry, fits v n h.1)
-
-        right : (xs ys : List TableEntry) → AllByRecursion IsTableEntry (xs ++ ys) → AllByRecursion IsTableEntry ys
-        right [] ys h = h
-        right (x ∷ xs) ys h = right xs ys h.1
-
         entry_fits : IsTableEntry next_row.entry
         entry_fits =
-            (right es (next_row.entry ∷ next_row.later)
-            (subst (AllByRecursion IsTableEntry) (s.split ∙ ap (λ (m : List TableEntry). es ++ m) next_row.is) (fits file.value (length file.value) file.is_load_file.each))).0
+            (All-right IsTableEntry es (next_row.entry ∷ next_row.later)
+            (subst (AllByRecursion IsTableEntry) (s.split ∙ ap (λ (m : List TableEntry). es ++ m) next_row.is) (entries_fit (length file.value) file.value file.is_load_file.each))).0
 
     -- The row that was read is that of the table.
     pub row_added : (row : Row) → row.word ≡ get_or (longs bytes) at 0 → row.extra ≡ (if has_both_bits (get_or (longs bytes) at 0) then get_or (longs bytes) (at + 1) 0 else 0) →
@@ -178,17 +176,13 @@ module _ (bytes : List ℕ) (file : BeginsWithLoadFile bytes) where
                 entry_length (row_entry row) (has_both_bits row.word) refl,
               );
         }
-      where
-        entry_length : (e : TableEntry) (b : Bool) → has_both_bits e.word ≡ b → length (words (entry_labelled e)) ≡ (if b then 2 else 1)
-        entry_length e true h = ap length (entry_words e true h)
-        entry_length e false h = ap length (entry_words e false h)
 
   -- All rows were read.
   pub table_read : (rows : List Row) (at : ℕ) → TableSoFar bytes file (map row_entry rows) at → length (table file.value) ≤ length rows → IsTable bytes file rows (4 * at)
   unfolding hunks
   table_read rows at s all =
       let es = map row_entry rows in
-      let none = no_later s.later (omega (arith, all, ap length s.split, length-append es s.later, length-map rows row_entry)) in
+      let none = drop_all 0 s.later (omega (arith, all, ap length s.split, length-append es s.later, length-map rows row_entry)) in
       let whole : table file.value ≡ es = s.split ∙ ap (λ (m : List TableEntry). es ++ m) none ∙ append-nil es in
       let w = front (length (table file.value)) (table file.value) in
       let cut : bytes ≡ bytes_of w ++ (bytes_of (hunk_texts file.value) ++ file.rest) =
@@ -199,7 +193,3 @@ module _ (bytes : List ℕ) (file : BeginsWithLoadFile bytes) where
         inside = omega (arith, long, ap length cut, length-append (bytes_of w) (bytes_of (hunk_texts file.value) ++ file.rest));
         hunks_follow = ap (λ (l : List ℕ). drop (4 * at) l) cut ∙ drop_at (bytes_of w) (bytes_of (hunk_texts file.value) ++ file.rest) (4 * at) long;
       }
-    where
-      no_later : (l : List TableEntry) → length l ≡ 0 → l ≡ []
-      no_later [] e = refl
-      no_later (x ∷ l) e = absurd (omega (arith, e))

@@ -1,5 +1,5 @@
 -- Units that are read one by one, and where no object file goes on.
-use Rattle.std.proofs.Common.{◌≡◌, ℕ, zero, suc, ◌+◌, ◌-◌, ◌*◌, ◌^◌, ◌<◌, ◌≤◌, Bool, true, false, List, [], ◌∷◌, ◌++◌, length, take, drop, get_or, refl, sym, ap, ap₂, subst, ◌∙◌, append_assoc, append-nil, length-append, arith, inl, inr}
+use Rattle.std.proofs.Common.{◌≡◌, ℕ, zero, suc, ◌+◌, ◌-◌, ◌*◌, ◌^◌, ◌<◌, ◌≤◌, false, List, [], ◌∷◌, ◌++◌, length, take, drop, get_or, refl, sym, ap, ap₂, subst, ◌∙◌, append_assoc, append-nil, length-append, arith, inl, inr}
 use Rattle.std.specs.Prelude.{◌⊎◌}
 use Rattle.std.specs.List.{flat_map, AllByRecursion}
 use Rattle.std.proofs.lemmas.List.{length-drop, length-take-le, append_cancel_left, take-append-drop, take_all, drop-drop}
@@ -9,18 +9,16 @@ use Rattle.hunk_words.specs.Bits.{kind}
 use Rattle.hunk_words.specs.Longs.{longs, bytes_of, IsBytes}
 use Rattle.hunk_words.proofs.LongLaws.{bytes_of-append, length-bytes_of, longs-bytes_of, length-longs, longs_fit}
 use Rattle.hunk_words.proofs.PartLaws.{longs-part}
-use Rattle.hunk_blocks.specs.Values.{BlockBody, BlockValue, Name, Code, Data, Bss, Reloc, Ext, Symbol, Debug, Advisory, End, FitsWord, IsBlock, IsPayload}
+use Rattle.hunk_blocks.specs.Values.{BlockBody, Name, FitsWord, IsPayload}
 use Rattle.hunk_blocks.specs.Parts.{block_text}
 use Rattle.hunk_blocks.specs.Begins.{first_long}
 use Rattle.hunk_blocks.specs.Reading.{BeginsWithNo}
-use Rattle.hunk_blocks.proofs.Lists.{flat_map-more}
-use Rattle.hunk_blocks.proofs.BlockPrefix.{block_same}
-use Rattle.hunk_files.specs.LoadFile.{standing, AreInOrder}
-use Rattle.hunk_scan.specs.Standings.{Standing, Beside, Content, Relocating, Ending}
+use Rattle.hunk_blocks.proofs.Lists.{flat_map-more, All-more}
 use Rattle.hunk_files.specs.ObjectFile.{IsNoObjectFile, ObjectHunk, UnitValue, ObjectFileValue, IsObjectHunk, IsUnit, unit_word, unit_header, unit_text, object_text}
 use Rattle.hunk_files.specs.ObjectParts.{BeginsWithText, EndsUnit}
-use Rattle.hunk_files.proofs.ObjectText.{Header, item_same}
-use Rattle.hunk_files.proofs.ObjectDecoding.{All-more, object_longs, unit_longs, text_none, text_more, text_size, text_split, text_words, words_split, drop_bytes, standings}
+use Rattle.hunk_files.proofs.ObjectDecoding.{object_longs, unit_longs, text_none, text_more, text_size, text_split, text_words, words_split, drop_bytes}
+use Rattle.hunk_files.proofs.Peel.{blocks_peel, order_ends}
+use Rattle.hunk_blocks.proofs.ListReading.{append_same}
 
 -- ---- the header
 
@@ -76,7 +74,7 @@ abbrev pub StartsUnit : List ℕ → Type 0
 StartsUnit [] = Unit {0}
 StartsUnit (w ∷ ws) = w ≡ unit_word
 
-object_starts : (us : ObjectFileValue) (rest : List ℕ) → StartsUnit rest → StartsUnit (object_text us ++ rest)
+pub object_starts : (us : ObjectFileValue) (rest : List ℕ) → StartsUnit rest → StartsUnit (object_text us ++ rest)
 object_starts [] rest h = h
 object_starts (u ∷ us) rest h = refl
 
@@ -86,49 +84,15 @@ unit_kind = refl
 
 pub no_kind : (word : ℕ) (body : BlockBody) → FitsWord word body → kind word ≡ kinds.Unit → ⊥
 no_kind word (Name ws) h e = cc
-no_kind word (Code top ws) h e = cc
-no_kind word (Data top ws) h e = cc
-no_kind word (Bss size) h e = cc
-no_kind word (Reloc gs) h e = cc
-no_kind word (Ext es) h e = cc
-no_kind word (Symbol es) h e = cc
-no_kind word (Debug ws) h e = cc
-no_kind word (Advisory ws) h e = cc
-no_kind word End h e = cc
+no_kind word _ h e = cc
 
 -- a hunk does not
-no_unit : (h : ObjectHunk) (x y : List ℕ) → IsObjectHunk h → StartsUnit y → flat_map block_text h ++ x ≡ y → ⊥
+pub no_unit : (h : ObjectHunk) (x y : List ℕ) → IsObjectHunk h → StartsUnit y → flat_map block_text h ++ x ≡ y → ⊥
 no_unit [] x y is starts e = is.order
 no_unit (b ∷ bs) x [] is starts e = cc
 no_unit (b ∷ bs) x (w ∷ ws) is starts e =
     let word : b.word ≡ w = cc in
     no_kind b.word b.body is.blocks.0.body (ap kind (word ∙ starts) ∙ unit_kind)
-
--- Of two hunks along the same longwords the same is left.
-hunk_rest : (bs cs : ObjectHunk) (has : Bool) (x y : List ℕ) → AllByRecursion IsBlock bs → AllByRecursion IsBlock cs → AreInOrder has (standings bs) → AreInOrder has (standings cs) → flat_map block_text bs ++ x ≡ flat_map block_text cs ++ y → x ≡ y
-hunk_rest [] cs has x y hb hc ob oc e = absurd ob
-hunk_rest (b ∷ bs) [] has x y hb hc ob oc e = absurd oc
-hunk_rest (b ∷ bs) (c ∷ cs) has x y hb hc ob oc e =
-    let same =
-    block_same b c (flat_map block_text bs ++ x) (flat_map block_text cs ++ y) hb.0 hc.0
-    (sym (append_assoc (block_text b) (flat_map block_text bs) x) ∙ e ∙ append_assoc (block_text c) (flat_map block_text cs) y) in
-    go has (standing b.body) ob (subst (λ (d : BlockValue). AreInOrder has (standing d.body ∷ standings cs)) (sym same.0) oc) same.1 (λ k p q. hunk_rest bs cs k x y hb.1 hc.1 p q same.1)
-  where
-    last : (ds es : ObjectHunk) → standings ds ≡ [] → standings es ≡ [] → flat_map block_text ds ++ x ≡ flat_map block_text es ++ y → x ≡ y
-    last [] [] p q t = t
-    last [] (f ∷ es) p q t = absurd cc
-    last (f ∷ ds) es p q t = absurd cc
-
-    go : (k : Bool) (s : Standing) → AreInOrder k (s ∷ standings bs) → AreInOrder k (s ∷ standings cs) → flat_map block_text bs ++ x ≡ flat_map block_text cs ++ y →
-        ((m : Bool) → AreInOrder m (standings bs) → AreInOrder m (standings cs) → x ≡ y) → x ≡ y
-    go true Beside p q t all = all true p q
-    go false Beside p q t all = all false p q
-    go false Content p q t all = all true p q
-    go true Content p q t all = absurd p
-    go true Relocating p q t all = all true p q
-    go false Relocating p q t all = absurd p
-    go true Ending p q t all = last bs cs p q t
-    go false Ending p q t all = absurd p
 
 pub record HunksLeft (x y : List ℕ) : Type 0 where
   pub hunks : List ObjectHunk
@@ -141,11 +105,15 @@ hunks_left [] ks x y hh hk starts e = record { hunks = ks; are = hk; text = e }
 hunks_left (h ∷ hs) [] x y hh hk starts e = absurd (no_unit h (flat_map (flat_map block_text) hs ++ x) y hh.0 starts (sym (append_assoc (flat_map block_text h) (flat_map (flat_map block_text) hs) x) ∙ e))
 hunks_left (h ∷ hs) (k ∷ ks) x y hh hk starts e =
     hunks_left hs ks x y hh.1 hk.1 starts
-    (hunk_rest h k false (flat_map (flat_map block_text) hs ++ x) (flat_map (flat_map block_text) ks ++ y) hh.0.blocks hk.0.blocks hh.0.order hk.0.order
-    (sym (append_assoc (flat_map block_text h) (flat_map (flat_map block_text) hs) x) ∙ e ∙ append_assoc (flat_map block_text k) (flat_map (flat_map block_text) ks) y))
+    (blocks_peel h k (flat_map (flat_map block_text) hs ++ x) (flat_map (flat_map block_text) ks ++ y) hh.0.blocks (order_ends false h hh.0.order) hk.0.blocks (order_ends false k hk.0.order)
+    (sym (append_assoc (flat_map block_text h) (flat_map (flat_map block_text) hs) x) ∙ e ∙ append_assoc (flat_map block_text k) (flat_map (flat_map block_text) ks) y)).1
 
-header_rest : (name other : List ℕ) (x y : List ℕ) → IsPayload (2 ^ 24) name → IsPayload (2 ^ 24) other → unit_header name ++ x ≡ unit_header other ++ y → x ≡ y
-header_rest name other x y h k e = (item_same (Header name) (Header other) x y h k e).1
+-- One header in front of another is told by its length.
+pub header_same : (name other x y : List ℕ) → unit_header name ++ x ≡ unit_header other ++ y → (name ≡ other) × (x ≡ y)
+header_same name other x y e =
+    let count : length name ≡ length other = cc in
+    let tail : name ++ x ≡ other ++ y = cc in
+    append_same name other x y count tail
 
 pub record UnitsLeft (x : List ℕ) : Type 0 where
   pub units : ObjectFileValue
@@ -159,8 +127,8 @@ units_left (u ∷ us) [] x hu ho starts e = absurd cc
 units_left (u ∷ us) (o ∷ os) x hu ho starts e =
     let hunks : List ObjectHunk → List ℕ = flat_map (flat_map block_text) in
     let same : hunks u.hunks ++ (object_text us ++ x) ≡ hunks o.hunks ++ object_text os =
-    header_rest u.name o.name (hunks u.hunks ++ (object_text us ++ x)) (hunks o.hunks ++ object_text os) hu.0.name ho.0.name
-    (sym (append_assoc (unit_header u.name) (hunks u.hunks) (object_text us ++ x)) ∙ sym (append_assoc (unit_text u) (object_text us) x) ∙ e ∙ append_assoc (unit_header o.name) (hunks o.hunks) (object_text os)) in
+    (header_same u.name o.name (hunks u.hunks ++ (object_text us ++ x)) (hunks o.hunks ++ object_text os)
+    (sym (append_assoc (unit_header u.name) (hunks u.hunks) (object_text us ++ x)) ∙ sym (append_assoc (unit_text u) (object_text us) x) ∙ e ∙ append_assoc (unit_header o.name) (hunks o.hunks) (object_text os))).1 in
     let left = hunks_left u.hunks o.hunks (object_text us ++ x) (object_text os) hu.0.hunks ho.0.hunks (subst StartsUnit (append-nil (object_text os)) (object_starts os [] tt)) same in
     go left.hunks left.are left.text (λ t. units_left us os x hu.1 ho.1 starts t)
   where
@@ -201,8 +169,8 @@ module _ (bytes name : List ℕ) (hs : List ObjectHunk) (at : ℕ) (s : UnitSoFa
       let rest : List ℕ = longs (drop at bytes) in
       let words : longs bytes ≡ unit_text (unit name hs) ++ rest = text_words bytes (unit_text (unit name hs)) at (unit_longs (unit name hs) s.is_unit) s.text in
       hunks_left hs u.hunks rest (object_text us) s.is_unit.hunks is.hunks (subst StartsUnit (append-nil (object_text us)) (object_starts us [] tt))
-      (header_rest name u.name (hunks hs ++ rest) (hunks u.hunks ++ object_text us) s.is_unit.name is.name
-      (sym (append_assoc (unit_header name) (hunks hs) rest) ∙ sym words ∙ e ∙ append_assoc (unit_header u.name) (hunks u.hunks) (object_text us)))
+      (header_same name u.name (hunks hs ++ rest) (hunks u.hunks ++ object_text us)
+      (sym (append_assoc (unit_header name) (hunks hs) rest) ∙ sym words ∙ e ∙ append_assoc (unit_header u.name) (hunks u.hunks) (object_text us))).1
 
   pub no_object : IsBytes bytes → (EndsUnit (drop at bytes) → ⊥) → BeginsWithNo IsObjectHunk (flat_map block_text) (longs (drop at bytes)) → IsNoObjectFile bytes
   no_object fit goes_on none [] is e = omega (arith, is.some)

@@ -1,11 +1,11 @@
 -- A walk keeps what was read, as a value with its open end.
-use Rattle.std.proofs.Common.{◌≡◌, ℕ, zero, suc, ◌+◌, ◌-◌, ◌*◌, ◌<◌, ◌≤◌, Bool, true, false, List, [], ◌∷◌, ◌++◌, length, get_or, take, drop, refl, sym, ap, ap₂, subst, ◌∙◌, append_assoc, arith, Some, None, if◌then◌else◌, ◌⊎◌, inl, inr}
-use Rattle.std.specs.List.{flat_map, AllByRecursion}
+use Rattle.std.proofs.Common.{◌≡◌, ℕ, ◌+◌, ◌-◌, ◌*◌, ◌<◌, ◌≤◌, Bool, true, false, List, [], ◌∷◌, ◌++◌, length, get_or, take, drop, refl, sym, ap, ap₂, subst, ◌∙◌, append_assoc, arith, Some, None, if◌then◌else◌, ◌⊎◌, inl, inr}
+use Rattle.std.specs.List.{flat_map}
 use Rattle.std.proofs.lemmas.List.{length-append, length-map, length-take-le, length-drop, get_or_at, map-append, take_more, drop_more, take-append-drop, take_at, take_all, get_or-take}
 use Rattle.std.proofs.lemmas.List.Elements.{All-from_recursion}
 use Rattle.std.proofs.lemmas.List.Concat.{flat_map-append}
 use Rattle.std.proofs.lemmas.Bool.{cases_lt}
-use Rattle.std.proofs.Math.Seq.{take-append-add}
+use Rattle.std.proofs.Math.Seq.{take-add}
 use Rattle.hunk_words.specs.declared.reason.Reason.{Reason}
 use Rattle.hunk_words.specs.declared.reason.Reason.TheVariants as reasons
 use Rattle.hunk_words.specs.Longs.{IsBytes, IsLong, AreLongs, longs, bytes_of}
@@ -29,6 +29,8 @@ use Rattle.hunk_files.proofs.Reading.{reads, start_read, step_read, passing_from
 use Rattle.hunk_files.proofs.Positions.{inside_open, Moves, MovesTo, refuse_same, step_position, not_done, step_moves, run_passes}
 use Rattle.hunk_files.specs.ReaderPosition.{open_of, block_phase, position_of, longs_of, opened}
 use Rattle.hunk_blocks.specs.Values.{BlockValue}
+use Rattle.hunk_blocks.proofs.Fronts.{All-left, All-right}
+use Rattle.hunk_files.proofs.TableReading.{entry_length}
 
 -- the longword behind these entries
 abbrev pub row_behind : List TableEntry → ℕ
@@ -66,21 +68,6 @@ stands bytes at position entry (inl s) l = s
 stands bytes at position entry (inr p) l = absurd (omega (arith, p.beyond, l))
 
 -- ---- longwords of bytes
-
-All-take : {A : Type 0} (P : A → Type 0) (n : ℕ) (xs : List A) → AllByRecursion P xs → AllByRecursion P (take n xs)
-All-take P zero xs h = tt
-All-take P (suc n) [] h = tt
-All-take P (suc n) (x ∷ xs) h = (h.0, All-take P n xs h.1)
-
-All-drop : {A : Type 0} (P : A → Type 0) (n : ℕ) (xs : List A) → AllByRecursion P xs → AllByRecursion P (drop n xs)
-All-drop P zero xs h = h
-All-drop P (suc n) [] h = tt
-All-drop P (suc n) (x ∷ xs) h = All-drop P n xs h.1
-
-take-add : (n m : ℕ) (xs : List ℕ) → n ≤ length xs → take (n + m) xs ≡ take n xs ++ take m (drop n xs)
-take-add n m xs h =
-    ap₂ (λ (k : ℕ) (ys : List ℕ). take (k + m) ys) (sym (length-take-le n xs h)) (sym (take-append-drop n xs))
-    ∙ take-append-add (take n xs) (drop n xs) m
 
 -- the first bytes are those of the first longwords
 pub bytes_before : (bytes : List ℕ) (n : ℕ) → IsBytes bytes → n ≤ length (longs bytes) → take (4 * n) bytes ≡ bytes_of (take n (longs bytes))
@@ -136,24 +123,15 @@ module _ (ws : List ℕ) (o : OpenHunk) (h : HasRead ws (More (AtBlock o))) wher
       ap (λ (l : List ℕ). get_or l (row_behind (entries o.finished)) 0) read_split
       ∙ get_or_at (words (header_so_far o.hunks (entries o.finished))) o.entry.word (words (open_split o).0) 0 (row_behind (entries o.finished)) behind_length
 
-row_after : (es : List TableEntry) (e : TableEntry) (b : Bool) → has_both_bits e.word ≡ b → row_behind (es ++ e ∷ []) ≡ (if b then row_behind es + 2 else row_behind es + 1)
-row_after es e true h =
-    omega (
-      arith,
-      ap length (flat_map-more entry_labelled es e),
-      length-append (flat_map entry_labelled es) (entry_labelled e),
-      ap (λ (b : Bool). let ls : Labelled = (roles.SizeWord, e.word) ∷ (if b then (roles.Attributes, e.extra) ∷ [] else []) in length ls) h,
-    )
-row_after es e false h =
-    omega (
-      arith,
-      ap length (flat_map-more entry_labelled es e),
-      length-append (flat_map entry_labelled es) (entry_labelled e),
-      ap (λ (b : Bool). let ls : Labelled = (roles.SizeWord, e.word) ∷ (if b then (roles.Attributes, e.extra) ∷ [] else []) in length ls) h,
-    )
+entries_length : (es : List TableEntry) (e : TableEntry) → length (flat_map entry_labelled (es ++ e ∷ [])) ≡ length (flat_map entry_labelled es) + length (entry_labelled e)
+entries_length es e = ap length (flat_map-more entry_labelled es e) ∙ length-append (flat_map entry_labelled es) (entry_labelled e)
 
-same_entry : (longs next longs' next' : ℕ) → longs ≡ longs' → next ≡ next' → (let e : Entry = record { longs = longs; next = next } in e) ≡ record { longs = longs'; next = next' }
-same_entry longs next longs' next' e f = cc
+row_after : (es : List TableEntry) (e : TableEntry) (b : Bool) → has_both_bits e.word ≡ b → row_behind (es ++ e ∷ []) ≡ (if b then row_behind es + 2 else row_behind es + 1)
+row_after es e true h = omega (arith, entries_length es e, length-map (entry_labelled e) (λ (x : Role × ℕ). x.1), entry_length e true h)
+row_after es e false h = omega (arith, entries_length es e, length-map (entry_labelled e) (λ (x : Role × ℕ). x.1), entry_length e false h)
+
+same_entry : (e d : Entry) → e.longs ≡ d.longs → e.next ≡ d.next → e ≡ d
+same_entry e d l n = λ i. record { longs = l i; next = n i }
 
 -- ---- one more longword
 
@@ -170,24 +148,23 @@ module _ (all : List ℕ) (at : ℕ) (whole : at ≤ length all) (p : Progress) 
         ∙ ap (λ (r : ℕ). get_or (take at all) r 0) e
         ∙ get_or-take at all (row_of p) 0 (opens_inside e) in
         let extra = has_both_bits (get_or all (row_of p) 0) in
-        same_entry (size_longs o.entry.word) (row_behind (entries o.finished ++ o.entry ∷ [])) (size_longs (get_or all (row_of p) 0)) (if extra then row_of p + 2 else row_of p + 1)
-        (ap size_longs word)
+        same_entry _ _ (ap size_longs word)
         (row_after (entries o.finished) o.entry extra (ap has_both_bits word) ∙ ap (λ (r : ℕ). if extra then r + 2 else r + 1) e)
 
     block_entry : (blocks : List BlockValue) → MovesTo p o blocks →
         (is_between_hunks (positions.Body (open_of o) (block_phase blocks)) ≡ true → row_of p < at)
         × (entry_of (AtBlock o) ≡ entry_at all (positions.Body (open_of o) (block_phase blocks)) (entry_of p))
     block_entry [] m = let e = ap row_behind m in ((λ b. opens_inside e), opened_entry e)
-    block_entry (b ∷ blocks) m = ((λ e. absurd cc), same_entry _ _ _ _ m.0 (ap row_behind m.1))
+    block_entry (b ∷ blocks) m = ((λ e. absurd cc), same_entry _ _ m.0 (ap row_behind m.1))
 
   entry_now : (q : Progress) → HasRead (take at all) (More q) → Moves p (More q) → (is_between_hunks (position_of (More q)) ≡ true → row_of p < at) × (entry_of q ≡ entry_at all (position_of (More q)) (entry_of p))
   entry_now (AtBlock o) h m = block_entry o h o.blocks m
   entry_now (InBody o word x) h m =
       let in_hunk = inside_open x (open_of o) in (
         (λ e. absurd (cc (in_hunk, e))),
-        same_entry _ _ _ _ m.0 (ap row_behind m.1) ∙ ap (λ (b : Bool). if b then entry_behind (get_or all (row_of p) 0) (row_of p) else entry_of p) (sym in_hunk),
+        same_entry _ _ m.0 (ap row_behind m.1) ∙ ap (λ (b : Bool). if b then entry_behind (get_or all (row_of p) 0) (row_of p) else entry_of p) (sym in_hunk),
       )
-  entry_now _ h m = ((λ e. absurd cc), same_entry _ _ _ _ m.0 (ap row_behind m.1))
+  entry_now _ h m = ((λ e. absurd cc), same_entry _ _ m.0 (ap row_behind m.1))
 
 -- ---- runs
 
@@ -198,7 +175,7 @@ module _ (bytes : List ℕ) (fit : IsBytes bytes) (at : ℕ) (position : Positio
 
   rest_fits : AreLongs rest
   unfolding rest
-  rest_fits = All-drop IsLong at (longs bytes) (longs_fit bytes fit)
+  rest_fits = All-right IsLong (take at (longs bytes)) rest (subst AreLongs (sym (take-append-drop at (longs bytes))) (longs_fit bytes fit))
 
   run_read : (ws : List ℕ) → AreLongs ws → length ws ≤ run position → (q : Progress) × HasRead (take at (longs bytes) ++ ws) (More q) × (position_of (More q) ≡ scan.pass position (length ws)) × (entry_of q ≡ entry)
   run_read ws l few =
@@ -207,17 +184,17 @@ module _ (bytes : List ℕ) (fit : IsBytes bytes) (at : ℕ) (position : Positio
         r.next,
         subst (λ (n : Next). HasRead (take at (longs bytes) ++ ws) n) r.leads read,
         r.position_is ∙ ap (λ (p : Position). scan.pass p (length ws)) s.position_is,
-        same_entry _ _ _ _ r.stays.0 (ap row_behind r.stays.1) ∙ s.entry_is,
+        same_entry _ _ r.stays.0 (ap row_behind r.stays.1) ∙ s.entry_is,
       )
 
   pass_some : at + run position ≤ length (longs bytes) → StandsAt bytes (at + run position) (scan.pass position (run position)) entry
   unfolding rest
   pass_some some =
       let many : length (take (run position) rest) ≡ run position = length-take-le (run position) rest (omega (arith, length-drop at (longs bytes), some)) in
-      let r = run_read (take (run position) rest) (All-take IsLong (run position) rest rest_fits) (omega (arith, many)) in
+      let r = run_read (take (run position) rest) (All-left IsLong (take (run position) rest) _ (subst AreLongs (sym (take-append-drop (run position) rest)) rest_fits)) (omega (arith, many)) in
       record {
         progress = r.0;
-        has_read = subst (λ (ws : List ℕ). HasRead ws (More r.0)) (sym (take-add at (run position) (longs bytes) inside)) r.1;
+        has_read = subst (λ (ws : List ℕ). HasRead ws (More r.0)) (sym (take-add at (run position) (longs bytes))) r.1;
         position_is = r.2 ∙ ap (λ (n : ℕ). scan.pass position n) many;
         entry_is = r.3;
       }

@@ -12,40 +12,10 @@ use Rattle.hunk_scan.specs.Standings.{first_of, refuse_standing, standing_of_kin
 pub kind_split : (has_content advisory : Bool) (k : Kind) →
     refuse_kind has_content advisory k ≡ first_of (refuse_alone_kind modes.Load advisory k) (refuse_standing has_content (standing_of_kind k))
 kind_split c a kinds.Unit = refl
-kind_split true a kinds.Name = refl
-kind_split false a kinds.Name = refl
-kind_split true a kinds.Code = refl
-kind_split false a kinds.Code = refl
-kind_split true a kinds.Data = refl
-kind_split false a kinds.Data = refl
-kind_split true a kinds.Bss = refl
-kind_split false a kinds.Bss = refl
-kind_split true a kinds.Reloc32 = refl
-kind_split false a kinds.Reloc32 = refl
-kind_split c a kinds.Reloc16 = refl
-kind_split c a kinds.Reloc8 = refl
-kind_split c a kinds.Ext = refl
-kind_split true a kinds.Symbol = refl
-kind_split false a kinds.Symbol = refl
-kind_split true a kinds.Debug = refl
-kind_split false a kinds.Debug = refl
-kind_split true a kinds.End = refl
-kind_split false a kinds.End = refl
-kind_split c a kinds.Header = refl
-kind_split c a kinds.Overlay = refl
-kind_split c a kinds.Break = refl
-kind_split c a kinds.Drel32 = refl
-kind_split c a kinds.Drel16 = refl
-kind_split c a kinds.Drel8 = refl
-kind_split c a kinds.Lib = refl
-kind_split c a kinds.Index = refl
-kind_split c a kinds.Reloc32Short = refl
-kind_split c a kinds.RelReloc32 = refl
-kind_split c a kinds.AbsReloc16 = refl
-kind_split true true (kinds.Unknown n) = refl
-kind_split false true (kinds.Unknown n) = refl
-kind_split true false (kinds.Unknown n) = refl
-kind_split false false (kinds.Unknown n) = refl
+kind_split true true _ = refl
+kind_split true false _ = refl
+kind_split false true _ = refl
+kind_split false false _ = refl
 
 -- The test of a block word of a load file, by its two parts.
 pub word_split : (has_content : Bool) (w : ℕ) →

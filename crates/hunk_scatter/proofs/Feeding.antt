@@ -1,6 +1,6 @@
 -- What was wanted is consumed whole, and goes past no end.
 use Rattle.std.proofs.Common.{◌≡◌, ℕ, suc, ◌+◌, ◌<◌, ◌≤◌, List, [], ◌∷◌, ◌++◌, length, take, refl, sym, ap, subst, ◌∙◌, append_assoc, append-nil, length-append, length-take, arith, Option, ◌⊎◌, inl, inr}
-use Rattle.std.proofs.lemmas.List.{take_all}
+use Rattle.std.proofs.lemmas.List.{take_all, drop_all}
 use Rattle.std.proofs.KnownBytes.{Consumes-trans}
 use Rattle.std.specs.Io.KnownBytes.{Consumes}
 use Rattle.hunk_words.specs.Longs.{bytes_of, IsBytes}
@@ -15,10 +15,6 @@ use Rattle.hunk_words.specs.declared.reason.Reason.{Reason}
 use Rattle.hunk_words.specs.declared.reason.Reason.TheVariants as reasons
 use Rattle.hunk_scatter.specs.LoaderValues.{IsWholeFile}
 use Rattle.hunk_scatter.specs.LoadOutcomes.{Gives, IsWithinHeader, IsWithinFile}
-
-nothing : (xs : List ℕ) → length xs ≤ 0 → xs ≡ []
-nothing [] le = refl
-nothing (x ∷ xs) le = absurd (omega (arith, le))
 
 no_less : (m n : ℕ) → (m < n → ⊥) → n ≤ m
 no_less m n h = omega (arith, h)
@@ -71,7 +67,7 @@ module _ (fed piece : List ℕ) (want : ℕ) (least : (t : List TableEntry) (mor
           absurd (omega (arith, none, some))
       go (inr (m, p, q)) =
           let far = least t m ok p in
-          nothing more (omega (arith, far, ap length q, length-append m more))
+          drop_all 0 more (omega (arith, far, ap length q, length-append m more))
 
 -- ---- in a file
 
@@ -93,7 +89,7 @@ module _ (fed piece : List ℕ) (want : ℕ) (least : (v : LoadFileValue) (more 
       go (inl (m, p, q)) = absurd (short.not_whole (record { value = v; is_load_file = ok; rest = m; split = p }))
       go (inr (m, p, q)) =
           let far = least v m ok p in
-          nothing more (omega (arith, far, ap length q, length-append m more))
+          drop_all 0 more (omega (arith, far, ap length q, length-append m more))
 
 -- ---- want of memory
 

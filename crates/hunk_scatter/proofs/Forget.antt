@@ -6,7 +6,7 @@ use Rattle.hunk_words.specs.Bits.{size_longs, kind}
 use Rattle.hunk_blocks.specs.Values.{BlockValue}
 use Rattle.hunk_files.specs.Image.{declared_bytes}
 use Rattle.hunk_files.specs.LoadFile.{TableEntry, HunkValue, standing}
-use Rattle.hunk_scan.specs.Standings.{Standing, Beside, Content, Relocating, Ending}
+use Rattle.hunk_scan.specs.Standings.{Standing, Ending}
 use Rattle.hunk_files.specs.LoadText.{entries}
 use Rattle.hunk_blocks.specs.BlockSteps.{BlockNext, Open, Whole, step_inside, begin}
 use Rattle.hunk_files.specs.FileSteps.{hunk, block, OpenHunk, Progress, AtBlock, InBody, Next, More, Finished, role_of, open_hunk, close_by, after, step}
@@ -108,44 +108,36 @@ module _ (o : OpenHunk) where
 
 -- ---- the table stays
 
-open_table_more : (hunks : ℕ) (finished : List HunkValue) (x : HunkValue) (ahead : List TableEntry) → table_of (open_hunk hunks (finished ++ x ∷ []) ahead) ≡ entries finished ++ x.entry ∷ ahead
-open_table_more hunks finished x [] = map-more (λ (h : HunkValue). h.entry) finished x
-open_table_more hunks finished x (e ∷ ahead) =
-    ap (λ (es : List TableEntry). es ++ e ∷ ahead) (map-more (λ (h : HunkValue). h.entry) finished x) ∙ append_assoc (entries finished) (x.entry ∷ []) (e ∷ ahead)
+-- the table stays, and the header was read
+abbrev Keeps : List TableEntry → Next → Type 0
+Keeps table n = (table_of n ≡ table) × IsBehindHeader n
 
-after_table : (o : OpenHunk) (word : ℕ) (n : BlockNext) → table_of (after o word n) ≡ open_table o
-after_table o word (Open x) = refl
-after_table o word (Whole body) = go (standing body)
+open_keeps : (hunks : ℕ) (finished : List HunkValue) (x : HunkValue) (ahead : List TableEntry) →
+    Keeps (entries finished ++ x.entry ∷ ahead) (open_hunk hunks (finished ++ x ∷ []) ahead)
+open_keeps hunks finished x [] = (map-more (λ (h : HunkValue). h.entry) finished x, refl)
+open_keeps hunks finished x (e ∷ ahead) = (
+  ap (λ (es : List TableEntry). es ++ e ∷ ahead) (map-more (λ (h : HunkValue). h.entry) finished x) ∙ append_assoc (entries finished) (x.entry ∷ []) (e ∷ ahead),
+  refl,
+)
+
+after_keeps : (o : OpenHunk) (word : ℕ) (n : BlockNext) → Keeps (open_table o) (after o word n)
+after_keeps o word (Open x) = (refl, refl)
+after_keeps o word (Whole body) = go (standing body)
   where
-    go : (s : Standing) → table_of (close_by o (block word body) s) ≡ open_table o
-    go Beside = refl
-    go Relocating = refl
-    go Content = refl
-    go Ending = open_table_more o.hunks o.finished (hunk o.entry (o.blocks ++ block word body ∷ [])) o.ahead
+    go : (s : Standing) → Keeps (open_table o) (close_by o (block word body) s)
+    go Ending = open_keeps o.hunks o.finished (hunk o.entry (o.blocks ++ block word body ∷ [])) o.ahead
+    go _ = (refl, refl)
+
+step_keeps : (p : Progress) (w : ℕ) → IsBehindHeader (More p) → Keeps (table_of (More p)) (step p w)
+step_keeps (AtBlock o) w h = after_keeps o w (begin (kind w))
+step_keeps (InBody o word x) w h = after_keeps o word (step_inside x w)
+step_keeps _ w h = absurd cc
 
 pub step_table : (p : Progress) (w : ℕ) → IsBehindHeader (More p) → table_of (step p w) ≡ table_of (More p)
-step_table (AtBlock o) w h = after_table o w (begin (kind w))
-step_table (InBody o word x) w h = after_table o word (step_inside x w)
-step_table _ w h = absurd cc
-
-open_behind : (hunks : ℕ) (finished : List HunkValue) (ahead : List TableEntry) → IsBehindHeader (open_hunk hunks finished ahead)
-open_behind hunks finished [] = refl
-open_behind hunks finished (e ∷ ahead) = refl
-
-after_behind : (o : OpenHunk) (word : ℕ) (n : BlockNext) → IsBehindHeader (after o word n)
-after_behind o word (Open x) = refl
-after_behind o word (Whole body) = go (standing body)
-  where
-    go : (s : Standing) → IsBehindHeader (close_by o (block word body) s)
-    go Beside = refl
-    go Relocating = refl
-    go Content = refl
-    go Ending = open_behind o.hunks (o.finished ++ hunk o.entry (o.blocks ++ block word body ∷ []) ∷ []) o.ahead
+step_table p w h = (step_keeps p w h).0
 
 pub step_behind : (p : Progress) (w : ℕ) → IsBehindHeader (More p) → IsBehindHeader (step p w)
-step_behind (AtBlock o) w h = after_behind o w (begin (kind w))
-step_behind (InBody o word x) w h = after_behind o word (step_inside x w)
-step_behind _ w h = absurd cc
+step_behind p w h = (step_keeps p w h).1
 
 -- A step of the reader is a step of the state.
 pub step_state : (p : Progress) (w : ℕ) → IsBehindHeader (More p) → ProgressFits p → refuse (role_of p) w ≡ None → state_of (step p w) ≡ step_body (sizes_of (table_of (More p))) (state_of (More p)) w

@@ -1,5 +1,5 @@
 -- The two stages of a load together, and when a load succeeds.
-use Rattle.std.proofs.Common.{◌≡◌, ℕ, ◌+◌, ◌-◌, ◌*◌, ◌/◌, ◌≤◌, Bool, true, false, List, [], ◌∷◌, ◌++◌, length, map, zero, suc, take, refl, sym, ap, subst, ◌∙◌, append_assoc, append-nil, arith, length-append, Option, Some, None, Result, Ok, Err, ◌⊎◌, inl, inr}
+use Rattle.std.proofs.Common.{◌≡◌, ℕ, ◌+◌, ◌-◌, ◌*◌, ◌/◌, ◌≤◌, Bool, true, false, List, [], ◌∷◌, ◌++◌, length, map, take, refl, sym, ap, subst, ◌∙◌, append_assoc, append-nil, arith, length-append, Option, Some, None, Result, Ok, Err, ◌⊎◌, inl, inr, min}
 use Rattle.std.specs.Prelude.{IfErr, IsErrAnd, IsTrue, IsSome, MatchResult}
 use Rattle.std.proofs.Math.Seq.{take-append-add}
 use Rattle.std.specs.Io.KnownBytes.{IsAtEnd}
@@ -19,12 +19,18 @@ use Rattle.hunk_scatter.specs.HeaderBytes.{IsTable, header_bytes}
 use Rattle.hunk_scatter.specs.HeaderFaults.{PassesBudget, IsOverBudget, IsHeaderFaultBy}
 use Rattle.hunk_scatter.specs.LoaderValues.{ImageValue, MayGoOn, IsImageOf}
 use Rattle.hunk_scatter.specs.LoadOutcomes.{Gives, IsHeaderWithin, IsWithinFile, IsReadFault, StopsInHeader, StopsShort, IsBodyStop, KeepsToHeader, LoadStop, InHeader, Between, InBody, LoadEnds}
-use Rattle.hunk_scatter.specs.Placing.{Placing, base_at, AreBases, HasBases, IsUnplacedFor}
+use Rattle.hunk_scatter.specs.Placing.{Placing, AreBases, HasBases, IsUnplacedFor}
 use Rattle.hunk_scatter.specs.Rows.{entries_of, bases_of}
 use Rattle.hunk_scatter.proofs.Faults.{refusal_more, no_refusal_on}
 use Rattle.hunk_scatter.proofs.Feeding.{fronts_of}
 use Rattle.hunk_scatter.proofs.HeaderFronts.{one_table, text_header, table_within, passes_more, passes_front, refused_front}
 use Rattle.hunk_scatter.proofs.LoadLaws.{IsSplit, split_of}
+use Rattle.std.proofs.lemmas.List.{drop_all, length-take}
+
+-- at the end of what a source has nothing is left
+nothing_left : (left : Option (List ℕ)) (rest : List ℕ) → left ≡ Some rest → IsAtEnd left → rest ≡ []
+nothing_left None rest e a = absurd cc
+nothing_left (Some xs) rest e a = let same : xs ≡ rest = cc in sym same ∙ a
 
 -- ---- the body behind its header
 
@@ -87,46 +93,24 @@ module _ (base : Placing) (budget limit : ℕ) (old left : Option (List ℕ)) (f
     not_whole : (at : ℕ) → IsTruncated given at → front.0 ≡ [] → ⊥
     not_whole at t e = t.not_whole (record { value = v; is_load_file = is; rest = []; split = sym (append-nil given) ∙ ap (λ (xs : List ℕ). given ++ xs) (sym e) ∙ sym front.1 ∙ sym (append-nil (bytes_of (text v))) })
 
-    nothing : (xs : List ℕ) → length xs ≤ 0 → xs ≡ []
-    nothing [] le = refl
-    nothing (x ∷ xs) le = absurd (omega (arith, le))
-
     not_short : (f : Fault) → StopsShort limit left failed given f → f.reason ≡ reasons.OutOfMemory
     not_short f s = go s.why
       where
-        nil_left : (l : Option (List ℕ)) → l ≡ Some split.rest → IsAtEnd l → split.rest ≡ []
-        nil_left None e a = absurd cc
-        nil_left (Some xs) e a = let same : xs ≡ split.rest = cc in sym same ∙ a
-
-        left_nil : (xs ys : List ℕ) → xs ++ ys ≡ [] → xs ≡ []
-        left_nil [] ys e = refl
-        left_nil (x ∷ xs) ys e = absurd cc
-
         go : IsReadFault limit left failed (length given) f → f.reason ≡ reasons.OutOfMemory
-        go (inl (e, p, c)) = absurd (not_whole _ s.truncated (nothing front.0 (omega (arith, c, fits, ap length front.1, length-append given front.0))))
+        go (inl (e, p, c)) = absurd (not_whole _ s.truncated (drop_all 0 front.0 (omega (arith, c, fits, ap length front.1, length-append given front.0))))
         go (inr (inl (e, p, x))) = absurd (let clash : true ≡ false = sym x ∙ works in cc)
-        go (inr (inr (e, p, a))) = absurd (not_whole _ s.truncated (left_nil front.0 rest (sym front.2 ∙ nil_left left split.left_is a)))
+        go (inr (inr (e, p, a))) =
+            let none = sym front.2 ∙ nothing_left left split.rest split.left_is a in
+            absurd (not_whole _ s.truncated (drop_all 0 front.0 (omega (arith, ap length none, length-append front.0 rest))))
 
     by_header : (r : Reason) (at : ℕ) → IsTrue (is_of_header r) → IsHeaderFaultBy r budget given at → r ≡ reasons.OutOfMemory
     by_header reasons.Budget at o h = absurd (no_pass at h)
     by_header reasons.OutOfMemory at o h = refl
-    by_header reasons.NotLoadFile at o h = absurd (no_refusal at _ h)
-    by_header reasons.IsObject at o h = absurd (no_refusal at _ h)
-    by_header reasons.Library at o h = absurd (no_refusal at _ h)
-    by_header reasons.Resident at o h = absurd (no_refusal at _ h)
-    by_header reasons.NoHunks at o h = absurd (no_refusal at _ h)
-    by_header reasons.TooManyHunks at o h = absurd (no_refusal at _ h)
-    by_header reasons.FirstHunk at o h = absurd (no_refusal at _ h)
-    by_header reasons.LastHunk at o h = absurd (no_refusal at _ h)
-    by_header _ at o h = absurd cc
+    by_header _ at o h = absurd (no_refusal at _ h)
 
     missing : (t : List TableEntry) (r : Reason) → t ≡ table v → IsUnplacedFor base t r → r ≡ reasons.OutOfMemory
     missing t (reasons.NoBase hunk) e u =
-        absurd (clash (base_at base t hunk) u.none (subst (λ (x : List TableEntry). HasBases base x) (sym e) bases hunk u.inside))
-      where
-        clash : (o : Option ℕ) → o ≡ None → IsSome o → ⊥
-        clash None n s = absurd cc
-        clash (Some x) n s = absurd cc
+        let some : IsSome {T = ℕ} None = subst IsSome u.none (subst (λ (x : List TableEntry). HasBases base x) (sym e) bases hunk u.inside) in absurd cc
     missing t reasons.OutOfMemory e u = refl
     missing t _ e u = absurd u
 
@@ -174,24 +158,13 @@ module _ (base : Placing) (budget limit : ℕ) (old left : Option (List ℕ)) (f
     unfolding behind
     read_all f s = go s.why
       where
-        short_take : (n : ℕ) (xs : List ℕ) → n ≡ 0 → take n xs ≡ []
-        short_take n xs e = ap (λ (k : ℕ). take k xs) e
-
-        take_nil : (n : ℕ) (xs : List ℕ) → xs ≡ [] → take n xs ≡ []
-        take_nil n xs e = ap (take n) e ∙ none n
-          where
-            none : (k : ℕ) → take {A = ℕ} k [] ≡ []
-            none zero = refl
-            none (suc k) = refl
-
-        nil_left : (l : Option (List ℕ)) → l ≡ Some cut.rest → IsAtEnd l → cut.rest ≡ []
-        nil_left None e a = absurd cc
-        nil_left (Some xs) e a = let same : xs ≡ cut.rest = cc in sym same ∙ a
+        none_taken : min (limit - length given) (length cut.rest) ≡ 0 → take (limit - length given) cut.rest ≡ []
+        none_taken e = drop_all 0 (take (limit - length given) cut.rest) (omega (arith, length-take (limit - length given) cut.rest, e))
 
         go : IsReadFault limit left failed (length given) f → take (limit - length given) cut.rest ≡ []
-        go (inl (e, q, c)) = short_take (limit - length given) cut.rest (omega (arith, c))
+        go (inl (e, q, c)) = none_taken (omega (arith, c))
         go (inr (inl (e, q, x))) = absurd (let clash : true ≡ false = sym x ∙ works in cc)
-        go (inr (inr (e, q, a))) = take_nil (limit - length given) cut.rest (nil_left left cut.left_is a)
+        go (inr (inr (e, q, a))) = none_taken (omega (arith, ap length (nothing_left left cut.rest cut.left_is a)))
 
     outside : (f : Fault) (r : Reason) → f.reason ≡ r → IsTrue (is_of_header r) → IsHeaderFaultBy r budget given f.place → (m : List ℕ) → here.before ≡ longs given ++ m → IsOverBudget at f
     outside f reasons.Budget e o h m d =
@@ -211,15 +184,7 @@ module _ (base : Placing) (budget limit : ℕ) (old left : Option (List ℕ)) (f
             length-append h.front h.rest,
           ),
         )
-    outside f reasons.NotLoadFile e o h m d = absurd (refused_front given f.place _ m h (subst (λ (xs : List ℕ). Expects xs roles.SizeWord) d here.expects))
-    outside f reasons.IsObject e o h m d = absurd (refused_front given f.place _ m h (subst (λ (xs : List ℕ). Expects xs roles.SizeWord) d here.expects))
-    outside f reasons.Library e o h m d = absurd (refused_front given f.place _ m h (subst (λ (xs : List ℕ). Expects xs roles.SizeWord) d here.expects))
-    outside f reasons.Resident e o h m d = absurd (refused_front given f.place _ m h (subst (λ (xs : List ℕ). Expects xs roles.SizeWord) d here.expects))
-    outside f reasons.NoHunks e o h m d = absurd (refused_front given f.place _ m h (subst (λ (xs : List ℕ). Expects xs roles.SizeWord) d here.expects))
-    outside f reasons.TooManyHunks e o h m d = absurd (refused_front given f.place _ m h (subst (λ (xs : List ℕ). Expects xs roles.SizeWord) d here.expects))
-    outside f reasons.FirstHunk e o h m d = absurd (refused_front given f.place _ m h (subst (λ (xs : List ℕ). Expects xs roles.SizeWord) d here.expects))
-    outside f reasons.LastHunk e o h m d = absurd (refused_front given f.place _ m h (subst (λ (xs : List ℕ). Expects xs roles.SizeWord) d here.expects))
-    outside f _ e o h m d = absurd cc
+    outside f _ e o h m d = absurd (refused_front given f.place _ m h (subst (λ (xs : List ℕ). Expects xs roles.SizeWord) d here.expects))
 
     in_header : (f : Fault) → StopsInHeader budget given f → PassesBudget budget given at ⊎ ((m : List ℕ) × (here.before ≡ longs given ++ m)) → IsOverBudget at f
     in_header f s (inl q) = s.over at q
@@ -260,15 +225,11 @@ module _ (old left : Option (List ℕ)) (limit : ℕ) (failed : Bool) (given : L
   short : (f : Fault) → IsTrue (is_of_file f.reason) → StopsShort limit left failed given f → HasFault input f.place f.reason
   short f o s = go s.why
     where
-      nil_left : (l : Option (List ℕ)) → l ≡ Some parts.rest → IsAtEnd l → parts.rest ≡ []
-      nil_left None e a = absurd cc
-      nil_left (Some xs) e a = let same : xs ≡ parts.rest = cc in sym same ∙ a
-
       go : IsReadFault limit left failed (length given) f → HasFault input f.place f.reason
       go (inl (e, p, c)) = absurd (let clash : true ≡ false = sym o ∙ ap is_of_file e in cc)
       go (inr (inl (e, p, x))) = absurd (let clash : true ≡ false = sym o ∙ ap is_of_file e in cc)
       go (inr (inr (e, p, a))) =
-          let all : given ≡ input = sym (append-nil given) ∙ ap (λ (xs : List ℕ). given ++ xs) (sym (nil_left left parts.left_is a)) ∙ sym parts.split in
+          let all : given ≡ input = sym (append-nil given) ∙ ap (λ (xs : List ℕ). given ++ xs) (sym (nothing_left left parts.rest parts.left_is a)) ∙ sym parts.split in
           inr (e, subst (λ (n : ℕ). IsTruncated input n) (sym p) (subst (λ (bs : List ℕ). IsTruncated bs (4 * (length given / 4))) all s.truncated))
 
   file_stop : (base : Placing) (budget : ℕ) (f : Fault) → IsTrue (is_of_file f.reason) → LoadStop base budget limit left failed given f → HasFault input f.place f.reason

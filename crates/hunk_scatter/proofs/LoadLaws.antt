@@ -15,7 +15,7 @@ use Rattle.hunk_scatter.specs.HeaderBytes.{IsTable, header_bytes, BeginsHeader}
 use Rattle.hunk_scatter.specs.HeaderFaults.{PassesBudget, IsHeaderFaultBy}
 use Rattle.hunk_scatter.specs.LoaderValues.{ImageValue}
 use Rattle.hunk_scatter.specs.LoadOutcomes.{Gives, KeepsRest, IsNotPlaced, IsLoaded, IsShort, IsHeaderWithin, IsLoadFaultBy, IsLoadFault, IsWithinFile, IsReadFault, StopsShort, KeepsToHeader, LoadStop, InHeader, Between, InBody, LoadEnds}
-use Rattle.hunk_scatter.specs.Placing.{Placing, base_at, HasBases, IsUnplacedFor}
+use Rattle.hunk_scatter.specs.Placing.{Placing, HasBases, IsUnplacedFor}
 use Rattle.hunk_scatter.proofs.Feeding.{fronts_of}
 use Rattle.hunk_scatter.proofs.HeaderFronts.{table_within}
 
@@ -54,14 +54,10 @@ pub keeps_header : (base : Placing) (budget : ℕ) (old new : Option (List ℕ))
     (t : List TableEntry) (rest : List ℕ) → IsTable t → old ≡ Some (header_bytes t ++ rest) → IsNotPlaced base budget t → KeepsRest new rest
 keeps_header base budget old new limit given g k t rest is e n = keeps_behind old new given (header_bytes t) rest g.consumed (λ m d. go m (k t m is d) n) e
   where
-    clash : (o : Option ℕ) → o ≡ None → IsSome o → ⊥
-    clash None e s = absurd cc
-    clash (Some x) e s = absurd cc
-
     go : (m : List ℕ) → (m ≡ []) ⊎ ((declared_bytes t ≤ budget) × HasBases base t) → IsNotPlaced base budget t → m ≡ []
     go m (inl d) x = d
     go m (inr h) (inl less) = absurd (let le = h.0 in omega (arith, le, less))
-    go m (inr h) (inr (hunk, inside, none)) = absurd (clash (base_at base t hunk) none (h.1 hunk inside))
+    go m (inr h) (inr (hunk, inside, none)) = let some : IsSome {T = ℕ} None = subst IsSome none (h.1 hunk inside) in absurd cc
 
 -- ---- the answers
 

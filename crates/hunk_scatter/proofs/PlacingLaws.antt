@@ -1,6 +1,5 @@
 -- Rows are placed one after another.
-use Rattle.std.proofs.Common.{◌≡◌, ◌≢◌, ℕ, zero, suc, ◌+◌, ◌*◌, ◌<◌, ◌≤◌, ◌^◌, Bool, true, false, List, [], ◌∷◌, ◌++◌, length, map, take, drop, get_or, set, refl, sym, ap, ap₂, subst, ◌∙◌, arith, None, Some, ltb, length-take}
-use Rattle.std.specs.Prelude.{IsSome}
+use Rattle.std.proofs.Common.{◌≡◌, ◌≢◌, ℕ, zero, suc, ◌+◌, ◌*◌, ◌<◌, ◌≤◌, ◌^◌, Bool, true, false, List, [], ◌∷◌, ◌++◌, length, map, take, drop, get_or, set, refl, sym, ap, ap₂, subst, ◌∙◌, arith, Some, ltb, length-take}
 use Rattle.std.proofs.lemmas.Bool.{ltb-true, ltb-false}
 use Rattle.std.proofs.lemmas.List.{get_or-set_same, get_or-set_other, get_or-map, length-map, map-set}
 use Rattle.std.proofs.Math.Seq.{map-set_same, take-suc}
@@ -8,7 +7,7 @@ use Rattle.hunk_words.specs.Bits.{size_longs}
 use Rattle.hunk_files.specs.declared.row.Row.{Row}
 use Rattle.hunk_files.specs.Image.{declared_bytes}
 use Rattle.hunk_files.specs.LoadFile.{TableEntry}
-use Rattle.hunk_scatter.specs.Placing.{Placing, base_at, AreBases, IsFirstUnplaced, ArePlacedTo}
+use Rattle.hunk_scatter.specs.Placing.{Placing, base_at, ArePlacedTo}
 use Rattle.hunk_scatter.specs.Rows.{entry_of, entries_of, row_of, bases_of}
 use Rattle.hunk_scatter.proofs.DeclaredBytes.{declared_limit, declared-append, declared-one}
 
@@ -67,14 +66,6 @@ module _ (base : Placing) (old rows : List Row) (i before : ℕ) (d : Row) (insi
           ∙ sym (get_or-set_same (bases_of rows) i row.base 0 in_bases)
           ∙ ap₂ (λ (xs : List ℕ) (n : ℕ). get_or xs n 0) (sym bases) (sym here))
 
-  -- The first hunk without a base.
-  pub none_here : base_at base (entries_of old) i ≡ None → IsFirstUnplaced base (entries_of old) i
-  none_here e = record {
-    inside = omega (arith, inside, length-map old entry_of);
-    none = e;
-    first = λ k less. subst IsSome (sym (p.given k less)) refl;
-  }
-
   pub before_room : length old ≤ 65536 → before + 4 * size_longs (get_or rows i d).word < 2 ^ 49
   before_room few =
       omega (
@@ -84,16 +75,6 @@ module _ (base : Placing) (old rows : List Row) (i before : ℕ) (d : Row) (insi
         length-take i (entries_of old),
         length-map old entry_of,
       )
-
--- All hunks are placed.
-pub placed_all : (base : Placing) (old rows : List Row) (n before : ℕ) → n ≡ length old → ArePlacedTo base (entries_of old) old rows n before → AreBases base (entries_of old) (bases_of rows)
-placed_all base old rows n before e p = record {
-  count = length-map rows (λ (r : Row). r.base) ∙ sym (length-map rows entry_of) ∙ ap length p.entries;
-  each = λ i less. p.given i (omega (arith, less, e, length-map old entry_of));
-}
-
-pub placed_none : (base : Placing) (rows : List Row) → ArePlacedTo base (entries_of rows) rows rows 0 0
-placed_none base rows = record { entries = refl; later = λ k no d. refl; given = λ k less. absurd (omega (arith, less)); before_is = refl }
 
 abbrev pub no_row : Row
 no_row = record { word = 0; extra = 0; base = 0 }
@@ -115,11 +96,6 @@ pub next_room : (base : Placing) (old rows : List Row) (i before w size : ℕ) �
     length old ≤ 65536 → w ≡ (get_or rows i no_row).word → size ≡ 4 * size_longs w → before + size < 2 ^ 49
 next_room base old rows i before w size inside unplaced p few v s =
     omega (arith, before_room base old rows i before no_row inside unplaced p few, s, ap (λ (n : ℕ). 4 * size_longs n) v)
-
-pub next_none : (base : Placing) (old rows : List Row) (i before : ℕ) → i < length old → old ≡ map row_of (entries_of old) → ArePlacedTo base (entries_of old) old rows i before →
-    base i (get_or rows i no_row) before ≡ None → IsFirstUnplaced base (entries_of old) i
-next_none base old rows i before inside unplaced p e =
-    none_here base old rows i before no_row inside unplaced p (sym (answer_is base old rows i before no_row inside unplaced p) ∙ e)
 
 -- ---- bases taken away
 

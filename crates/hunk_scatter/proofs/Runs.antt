@@ -3,12 +3,11 @@ use Rattle.std.proofs.Common.{◌≡◌, ℕ, zero, suc, ◌+◌, ◌-◌, ◌*�
 use Rattle.std.specs.Int.{w32, to_be_bytes}
 use Rattle.std.proofs.lemmas.List.{take_at, drop-drop, take-append-drop}
 use Rattle.std.proofs.Math.Seq.{drop-append-add}
-use Rattle.hunk_words.specs.Longs.{bytes_of, longs, IsBytes, AreLongs, Gathers}
+use Rattle.hunk_words.specs.Longs.{bytes_of, longs, IsBytes, AreLongs, Gathers, IsLong}
 use Rattle.hunk_words.proofs.LongLaws.{bytes_of-cons, bytes_of-nil, bytes_of-one, length-bytes_of, length-longs, spelled, longs_fit}
 use Rattle.std.proofs.lemmas.Bool.{le-ltb}
 use Rattle.hunk_words.proofs.PartLaws.{longs-take}
 use Rattle.std.specs.List.{AllByRecursion}
-use Rattle.hunk_files.specs.Image.{add_at}
 use Rattle.hunk_words.specs.declared.reason.Reason.TheVariants as reasons
 use Rattle.hunk_files.specs.declared.row.Row.{Row}
 use Rattle.hunk_scan.specs.declared.phase.OpenHunk.{OpenHunk}
@@ -18,9 +17,9 @@ use Rattle.hunk_scan.specs.declared.position.Position.TheVariants as positions
 use Rattle.hunk_scan.specs.Positions.{is_done, run, pass, owe_content, owe_payload, owe_symbol}
 use Rattle.hunk_scatter.specs.declared.body_state.BodyState.{BodyState}
 use Rattle.hunk_scatter.specs.BodyLoaderFields.{Reading}
-use Rattle.hunk_scatter.specs.BodySteps.{longs_at, pass_body, IsInStore}
+use Rattle.hunk_scatter.specs.BodySteps.{longs_at, pass_body, IsInStore, refusal, step_body}
 use Rattle.hunk_scatter.specs.Rows.{words_of, bases_of}
-use Rattle.hunk_scatter.specs.StoreContent.{put_at, put_slice, stored_run_in, stored_run, added, EndsWithin, TakesOffsets}
+use Rattle.hunk_scatter.specs.StoreContent.{put_at, put_slice, stored_run_in, stored_run, added, EndsWithin, TakesOffsets, stored_in}
 use Rattle.hunk_scatter.proofs.OneByte.{going, more_read}
 use Rattle.hunk_scatter.proofs.Splice.{length-put}
 
@@ -79,9 +78,12 @@ within_passes limit w less = ap (λ (b : Bool). cond b (Some reasons.BadOffset) 
 abbrev Read : List Row → List ℕ → BodyState → List ℕ → List ℕ → Type 0
 Read rows store s fed ws = Reading rows store s [] (fed ++ bytes_of ws)
 
-module _ (rows : List Row) (hunk start : ℕ) (o : OpenHunk) where
+module _ (rows : List Row) (hunk start : ℕ) where
   abbrev at : Position → BodyState
   at p = record { hunk = hunk; start = start; position = p }
+
+  abbrev stored_at : Position → ℕ → List ℕ → List ℕ
+  stored_at p w store = stored_in (bases_of rows) start p w store
 
   read_none : (store : List ℕ) (s : BodyState) (fed : List ℕ) → Reading rows store s [] fed → Read rows store s fed []
   read_none store s fed r = subst (λ (bs : List ℕ). Reading rows store s [] bs) (sym (append-nil fed) ∙ ap (λ (xs : List ℕ). fed ++ xs) (sym bytes_of-nil)) r
@@ -91,108 +93,94 @@ module _ (rows : List Row) (hunk start : ℕ) (o : OpenHunk) where
       subst (λ (bs : List ℕ). Reading rows store s [] bs)
       (append_assoc fed (bytes_of (w ∷ [])) (bytes_of ws) ∙ ap (λ (xs : List ℕ). fed ++ xs) (sym (bytes_of-cons w ws))) r
 
-  -- so much of a content
-  content_read : (store fed : List ℕ) (all owed : ℕ) (ws : List ℕ) → AreLongs ws → Reading rows store (at (positions.Body o (phases.Content all owed))) [] fed →
-      length ws ≤ suc owed → owed < all → start + 4 * all ≤ length store →
-      Read rows (put_slice store (start + 4 * (all - owed - 1)) (bytes_of ws)) (at (owe_content o all (suc owed - length ws))) fed ws
-  content_read store fed all owed [] l r fits less room =
-      let d : suc owed ≡ suc owed - 0 = omega arith in
-      subst (λ (n : ℕ). Read rows (put_slice store (start + 4 * (all - owed - 1)) (bytes_of [])) (at (owe_content o all n)) fed []) d
-      (subst (λ (xs : List ℕ). Read rows xs (at (owe_content o all (suc owed))) fed [])
-      (put_none store (start + 4 * (all - owed - 1)) ∙ ap (λ (xs : List ℕ). put_slice store (start + 4 * (all - owed - 1)) xs) (sym bytes_of-nil))
-      (read_none store (at (owe_content o all (suc owed))) fed r))
-  content_read store fed all zero (w ∷ []) l r fits less room =
-      let g = going rows store (at (positions.Body o (phases.Content all zero))) [] fed r refl in
-      let e : zero ≡ suc zero - length (w ∷ []) = omega arith in
-      subst (λ (n : ℕ). Read rows (put_slice store (start + 4 * (all - zero - 1)) (bytes_of (w ∷ []))) (at (owe_content o all n)) fed (w ∷ [])) e
-      (subst (λ (xs : List ℕ). Read rows xs (at (owe_content o all zero)) fed (w ∷ [])) (ap (λ (xs : List ℕ). put_slice store (start + 4 * (all - zero - 1)) xs) (sym (bytes_of-one w)))
-      (more_read rows store (at (positions.Body o (phases.Content all zero))) [] fed g (bytes_of (w ∷ [])) w l.0 refl refl))
-  content_read store fed all zero (w ∷ v ∷ ws) l r fits less room = absurd (omega (arith, fits))
-  content_read store fed all (suc owed) (w ∷ ws) l r fits less room =
-      let g = going rows store (at (positions.Body o (phases.Content all (suc owed)))) [] fed r refl in
-      let here : ℕ = start + 4 * (all - suc owed - 1) in
-      let more : List ℕ = put_at store here (to_be_bytes w32 w) in
-      let same : length more ≡ length store = length-put store here (to_be_bytes w32 w) refl (omega (arith, less, room)) in
-      let rest = content_read more (fed ++ bytes_of (w ∷ [])) all owed ws l.1
-      (more_read rows store (at (positions.Body o (phases.Content all (suc owed)))) [] fed g (bytes_of (w ∷ [])) w l.0 refl refl)
-      (omega (arith, fits)) (omega (arith, less)) (omega (arith, room, same)) in
-      let d : suc owed - length ws ≡ suc (suc owed) - length (w ∷ ws) = omega arith in
-      subst (λ (n : ℕ). Read rows (put_slice store here (bytes_of (w ∷ ws))) (at (owe_content o all n)) fed (w ∷ ws)) d
-      (subst (λ (xs : List ℕ). Read rows xs (at (owe_content o all (suc owed - length ws))) fed (w ∷ ws)) (put_long store here (start + 4 * (all - owed - 1)) w ws (omega (arith, less)) (omega (arith, less, room)))
-      (read_more (put_slice more (start + 4 * (all - owed - 1)) (bytes_of ws)) (at (owe_content o all (suc owed - length ws))) fed w ws rest))
+  module _ (Good : ℕ → Type 0) (Room : ℕ → List ℕ → Type 0) (pos : ℕ → Position) (made : ℕ → List ℕ → List ℕ → List ℕ) where
+    -- Longwords of a list, by the number that is owed: each that is good leads to one fewer, and so many make this of the store.
+    record Owing : Type 0 where
+      goes_on : (n : ℕ) → is_done (pos (suc n)) ≡ false
+      passes : (n w : ℕ) → Good w → refusal (words_of rows) (at (pos (suc n))) w ≡ None
+      moves : (n w : ℕ) → step_body (words_of rows) (at (pos (suc n))) w ≡ at (pos n)
+      room : (n w : ℕ) (store : List ℕ) → Room (suc n) store → Room n (stored_at (pos (suc n)) w store)
+      none : (n : ℕ) (store : List ℕ) → made n [] store ≡ store
+      more : (n w : ℕ) (ws store : List ℕ) → Room (suc n) store → made n ws (stored_at (pos (suc n)) w store) ≡ made (suc n) (w ∷ ws) store
 
-  -- so much of a payload
-  payload_read : (store fed : List ℕ) (owed : ℕ) (ws : List ℕ) → AreLongs ws → Reading rows store (at (positions.Body o (phases.Payload owed))) [] fed → length ws ≤ suc owed →
-      Read rows store (at (owe_payload o (suc owed - length ws))) fed ws
-  payload_read store fed owed [] l r fits =
-      let d : suc owed ≡ suc owed - 0 = omega arith in
-      subst (λ (n : ℕ). Read rows store (at (owe_payload o n)) fed []) d (read_none store (at (owe_payload o (suc owed))) fed r)
-  payload_read store fed zero (w ∷ []) l r fits =
-      let g = going rows store (at (positions.Body o (phases.Payload zero))) [] fed r refl in
-      let e : zero ≡ suc zero - length (w ∷ []) = omega arith in
-      subst (λ (n : ℕ). Read rows store (at (owe_payload o n)) fed (w ∷ [])) e
-      (more_read rows store (at (positions.Body o (phases.Payload zero))) [] fed g (bytes_of (w ∷ [])) w l.0 refl refl)
-  payload_read store fed zero (w ∷ v ∷ ws) l r fits = absurd (omega (arith, fits))
-  payload_read store fed (suc owed) (w ∷ ws) l r fits =
-      let g = going rows store (at (positions.Body o (phases.Payload (suc owed)))) [] fed r refl in
-      let rest = payload_read store (fed ++ bytes_of (w ∷ [])) owed ws l.1
-      (more_read rows store (at (positions.Body o (phases.Payload (suc owed)))) [] fed g (bytes_of (w ∷ [])) w l.0 refl refl) (omega (arith, fits)) in
-      let d : suc owed - length ws ≡ suc (suc owed) - length (w ∷ ws) = omega arith in
-      subst (λ (n : ℕ). Read rows store (at (owe_payload o n)) fed (w ∷ ws)) d (read_more store (at (owe_payload o (suc owed - length ws))) fed w ws rest)
+    list_read : Owing → (store fed : List ℕ) (n left : ℕ) (ws : List ℕ) → AreLongs ws → AllByRecursion Good ws → Room n store →
+        Reading rows store (at (pos n)) [] fed → length ws + left ≡ n → Read rows (made n ws store) (at (pos left)) fed ws
+    list_read o store fed n left [] l g room r e =
+        let same : n ≡ left = omega (arith, e) in
+        subst (λ (k : ℕ). Read rows (made n [] store) (at (pos k)) fed []) same
+        (subst (λ (xs : List ℕ). Read rows xs (at (pos n)) fed []) (sym (o.none n store)) (read_none store (at (pos n)) fed r))
+    list_read o store fed zero left (w ∷ ws) l g room r e = absurd (omega (arith, e))
+    list_read o store fed (suc n) left (w ∷ ws) l g room r e =
+        let now : List ℕ = stored_at (pos (suc n)) w store in
+        let g1 = going rows store (at (pos (suc n))) [] fed r (o.goes_on n) in
+        let next = more_read rows store (at (pos (suc n))) [] fed g1 (bytes_of (w ∷ [])) w l.0 refl (o.passes n w g.0) in
+        subst (λ (xs : List ℕ). Read rows xs (at (pos left)) fed (w ∷ ws)) (o.more n w ws store room)
+        (read_more (made n ws now) (at (pos left)) fed w ws
+        (list_read o now (fed ++ bytes_of (w ∷ [])) n left ws l.1 g.1 (o.room n w store room)
+        (subst (λ (s : BodyState). Reading rows now s [] (fed ++ bytes_of (w ∷ []))) (o.moves n w) next) (omega (arith, e))))
 
-  -- so much of a name and its value
-  symbol_read : (store fed : List ℕ) (owed : ℕ) (ws : List ℕ) → AreLongs ws → Reading rows store (at (positions.Body o (phases.Symbol owed))) [] fed → length ws ≤ suc owed →
-      Read rows store (at (owe_symbol o (suc owed - length ws))) fed ws
-  symbol_read store fed owed [] l r fits =
-      let d : suc owed ≡ suc owed - 0 = omega arith in
-      subst (λ (n : ℕ). Read rows store (at (owe_symbol o n)) fed []) d (read_none store (at (owe_symbol o (suc owed))) fed r)
-  symbol_read store fed zero (w ∷ []) l r fits =
-      let g = going rows store (at (positions.Body o (phases.Symbol zero))) [] fed r refl in
-      let e : zero ≡ suc zero - length (w ∷ []) = omega arith in
-      subst (λ (n : ℕ). Read rows store (at (owe_symbol o n)) fed (w ∷ [])) e
-      (more_read rows store (at (positions.Body o (phases.Symbol zero))) [] fed g (bytes_of (w ∷ [])) w l.0 refl refl)
-  symbol_read store fed zero (w ∷ v ∷ ws) l r fits = absurd (omega (arith, fits))
-  symbol_read store fed (suc owed) (w ∷ ws) l r fits =
-      let g = going rows store (at (positions.Body o (phases.Symbol (suc owed)))) [] fed r refl in
-      let rest = symbol_read store (fed ++ bytes_of (w ∷ [])) owed ws l.1
-      (more_read rows store (at (positions.Body o (phases.Symbol (suc owed)))) [] fed g (bytes_of (w ∷ [])) w l.0 refl refl) (omega (arith, fits)) in
-      let d : suc owed - length ws ≡ suc (suc owed) - length (w ∷ ws) = omega arith in
-      subst (λ (n : ℕ). Read rows store (at (owe_symbol o n)) fed (w ∷ ws)) d (read_more store (at (owe_symbol o (suc owed - length ws))) fed w ws rest)
+  content_owing : (o : OpenHunk) (all : ℕ) →
+      Owing IsLong (λ n store. (n ≤ all) × (start + 4 * all ≤ length store)) (owe_content o all)
+      (λ n ws store. put_slice store (start + 4 * (all - n)) (bytes_of ws))
+  content_owing o all = record {
+    goes_on = λ n. refl;
+    passes = λ n w l. refl;
+    moves = moves;
+    room = λ n w store h.
+        (omega (arith, h.0), omega (arith, h.1, length-put store (start + 4 * (all - n - 1)) (to_be_bytes w32 w) refl (omega (arith, h.0, h.1))));
+    none = λ n store. ap (λ (xs : List ℕ). put_slice store (start + 4 * (all - n)) xs) bytes_of-nil ∙ sym (put_none store (start + 4 * (all - n)));
+    more = λ n w ws store h.
+        put_long store (start + 4 * (all - n - 1)) (start + 4 * (all - n)) w ws (omega (arith, h.0)) (omega (arith, h.0, h.1))
+        ∙ ap (λ (k : ℕ). put_slice store (start + 4 * k) (bytes_of (w ∷ ws))) (omega arith);
+  }
+    where
+      moves : (n w : ℕ) → step_body (words_of rows) (at (owe_content o all (suc n))) w ≡ at (owe_content o all n)
+      moves zero w = refl
+      moves (suc n) w = refl
 
-  -- so many of a list of offsets, none of which is refused; one at least is still owed
-  pub offsets_read : (store fed : List ℕ) (target owed : ℕ) (ws : List ℕ) → AreLongs ws → Reading rows store (at (positions.Body o (phases.Offset target owed))) [] fed → length ws ≤ owed →
-      AllByRecursion (EndsWithin (4 * longs_at (words_of rows) hunk)) ws →
-      Read rows (added start (get_or (bases_of rows) target 0) ws store) (at (positions.Body o (phases.Offset target (owed - length ws)))) fed ws
-  offsets_read store fed target owed [] l r fits all =
-      let d : owed ≡ owed - 0 = omega arith in
-      subst (λ (n : ℕ). Read rows store (at (positions.Body o (phases.Offset target n))) fed []) d (read_none store (at (positions.Body o (phases.Offset target owed))) fed r)
-  offsets_read store fed target zero (w ∷ ws) l r fits all = absurd (omega (arith, fits))
-  offsets_read store fed target (suc owed) (w ∷ ws) l r fits all =
-      let g = going rows store (at (positions.Body o (phases.Offset target (suc owed)))) [] fed r refl in
-      let base : ℕ = get_or (bases_of rows) target 0 in
-      let rest = offsets_read (add_at store (start + w) base) (fed ++ bytes_of (w ∷ [])) target owed ws l.1
-      (more_read rows store (at (positions.Body o (phases.Offset target (suc owed)))) [] fed g (bytes_of (w ∷ [])) w l.0 refl (within_passes (4 * longs_at (words_of rows) hunk) w all.0))
-      (omega (arith, fits)) all.1 in
-      let d : owed - length ws ≡ suc owed - length (w ∷ ws) = omega arith in
-      subst (λ (n : ℕ). Read rows (added start base ws (add_at store (start + w) base)) (at (positions.Body o (phases.Offset target n))) fed (w ∷ ws)) d
-      (read_more (added start base ws (add_at store (start + w) base)) (at (positions.Body o (phases.Offset target (owed - length ws)))) fed w ws rest)
+  payload_owing : (o : OpenHunk) → Owing IsLong (λ n store. Unit {0}) (owe_payload o) (λ n ws store. store)
+  payload_owing o =
+      record { goes_on = λ n. refl; passes = λ n w l. refl; moves = moves; room = λ n w store h. tt; none = λ n store. refl; more = λ n w ws store h. refl }
+    where
+      moves : (n w : ℕ) → step_body (words_of rows) (at (owe_payload o (suc n))) w ≡ at (owe_payload o n)
+      moves zero w = refl
+      moves (suc n) w = refl
+
+  symbol_owing : (o : OpenHunk) → Owing IsLong (λ n store. Unit {0}) (owe_symbol o) (λ n ws store. store)
+  symbol_owing o =
+      record { goes_on = λ n. refl; passes = λ n w l. refl; moves = moves; room = λ n w store h. tt; none = λ n store. refl; more = λ n w ws store h. refl }
+    where
+      moves : (n w : ℕ) → step_body (words_of rows) (at (owe_symbol o (suc n))) w ≡ at (owe_symbol o n)
+      moves zero w = refl
+      moves (suc n) w = refl
+
+  -- one offset at least is still owed
+  offsets_owing : (o : OpenHunk) (target : ℕ) →
+      Owing (EndsWithin (4 * longs_at (words_of rows) hunk)) (λ n store. Unit {0}) (λ n. positions.Body o (phases.Offset target n))
+      (λ n ws store. added start (get_or (bases_of rows) target 0) ws store)
+  offsets_owing o target = record {
+    goes_on = λ n. refl;
+    passes = λ n w within. within_passes (4 * longs_at (words_of rows) hunk) w within;
+    moves = λ n w. refl;
+    room = λ n w store h. tt;
+    none = λ n store. refl;
+    more = λ n w ws store h. refl;
+  }
 
 run_read : (rows : List Row) (hunk start : ℕ) (p : Position) (store fed ws : List ℕ) → AreLongs ws → Reading rows store (record { hunk = hunk; start = start; position = p }) [] fed →
     IsInStore (words_of rows) (length store) (record { hunk = hunk; start = start; position = p }) → 0 < length ws → length ws ≤ run p →
     Read rows (stored_run_in start p (bytes_of ws) store) (record { hunk = hunk; start = start; position = pass p (length ws) }) fed ws
 run_read rows hunk start p store fed [] l r i some fits = absurd (omega (arith, some))
 run_read rows hunk start (positions.Body o (phases.Content all owed)) store fed (w ∷ ws) l r i some fits =
-    let d : suc owed - length (w ∷ ws) ≡ owed - length ws = omega arith in
-    subst (λ (n : ℕ). Read rows (put_slice store (start + 4 * (all - owed - 1)) (bytes_of (w ∷ ws))) (record { hunk = hunk; start = start; position = owe_content o all n }) fed (w ∷ ws)) d
-    (content_read rows hunk start o store fed all owed (w ∷ ws) l r fits i.room.0 (omega (arith, i.segment, i.room.1)))
+    let here : all - suc owed ≡ all - owed - 1 = omega arith in
+    let behind : BodyState = record { hunk = hunk; start = start; position = owe_content o all (owed - length ws) } in
+    subst (λ (k : ℕ). Read rows (put_slice store (start + 4 * k) (bytes_of (w ∷ ws))) behind fed (w ∷ ws)) here
+    (list_read rows hunk start _ _ _ _ (content_owing rows hunk start o all) store fed (suc owed) (owed - length ws) (w ∷ ws) l l
+    (omega (arith, i.room.0), omega (arith, i.segment, i.room.1)) r (omega (arith, fits)))
 run_read rows hunk start (positions.Body o (phases.Payload owed)) store fed (w ∷ ws) l r i some fits =
-    let d : suc owed - length (w ∷ ws) ≡ owed - length ws = omega arith in
-    subst (λ (n : ℕ). Read rows store (record { hunk = hunk; start = start; position = owe_payload o n }) fed (w ∷ ws)) d
-    (payload_read rows hunk start o store fed owed (w ∷ ws) l r fits)
+    list_read rows hunk start _ _ _ _ (payload_owing rows hunk start o) store fed (suc owed) (owed - length ws) (w ∷ ws) l l tt r (omega (arith, fits))
 run_read rows hunk start (positions.Body o (phases.Symbol owed)) store fed (w ∷ ws) l r i some fits =
-    let d : suc owed - length (w ∷ ws) ≡ owed - length ws = omega arith in
-    subst (λ (n : ℕ). Read rows store (record { hunk = hunk; start = start; position = owe_symbol o n }) fed (w ∷ ws)) d
-    (symbol_read rows hunk start o store fed owed (w ∷ ws) l r fits)
+    list_read rows hunk start _ _ _ _ (symbol_owing rows hunk start o) store fed (suc owed) (owed - length ws) (w ∷ ws) l l tt r (omega (arith, fits))
 run_read rows hunk start _ store fed (w ∷ ws) l r i some fits = absurd (omega (arith, fits))
 
 -- ---- bytes
@@ -234,11 +222,8 @@ take_bytes bytes n are = front_bytes (take n bytes) (drop n bytes) (subst IsByte
 
 -- the first longword of a piece
 pub in_place : (piece : List ℕ) → IsBytes piece → 4 ≤ length piece → take 4 piece ≡ bytes_of (get_or (longs piece) 0 0 ∷ [])
-in_place [] are l = absurd (omega (arith, l))
-in_place (a ∷ []) are l = absurd (omega (arith, l))
-in_place (a ∷ b ∷ []) are l = absurd (omega (arith, l))
-in_place (a ∷ b ∷ c ∷ []) are l = absurd (omega (arith, l))
 in_place (a ∷ b ∷ c ∷ d ∷ rest) are l = fours_are (a ∷ b ∷ c ∷ d ∷ []) (front_bytes (a ∷ b ∷ c ∷ d ∷ []) rest are) refl
+in_place _ are l = absurd (omega (arith, l))
 
 -- Up to the end of a longword there are bytes.
 pub takes_some : (old new piece : List ℕ) (n : ℕ) (word : Option ℕ) → length old < 4 → 0 < length piece → Gathers (old ++ take n piece) new word → IfNone word (n ≡ length piece) → 0 < n
@@ -264,7 +249,8 @@ read_offsets rows store store2 state state2 fed piece n r are fits t =
     go (positions.Body o (phases.Offset target owed)) q l k =
         subst (λ (s : BodyState). Read rows store2 s fed (take n (longs piece))) (sym k.2)
         (subst (λ (xs : List ℕ). Read rows xs (record { hunk = state.hunk; start = state.start; position = positions.Body o (phases.Offset target (owed - length (take n (longs piece)))) }) fed (take n (longs piece))) (sym k.3)
-        (offsets_read rows state.hunk state.start o store fed target owed (take n (longs piece)) l q k.0 k.1))
+        (list_read rows state.hunk state.start _ _ _ _ (offsets_owing rows state.hunk state.start o target) store fed owed _ (take n (longs piece))
+        l k.1 tt q (omega (arith, k.0))))
     go _ q l k = absurd k
 
 -- The state behind so many offsets.

@@ -1,5 +1,5 @@
 -- Each longword keeps what the store holds.
-use Rattle.std.proofs.Common.{◌≡◌, ℕ, suc, ◌+◌, ◌-◌, ◌*◌, ◌≤◌, Bool, true, false, List, [], ◌∷◌, ◌++◌, length, get_or, replicate, refl, sym, ap, ap₂, subst, ◌∙◌, append_assoc, append-nil, arith, length-append, ltb, None}
+use Rattle.std.proofs.Common.{◌≡◌, ℕ, suc, ◌+◌, ◌-◌, ◌*◌, ◌≤◌, Bool, true, false, List, [], ◌∷◌, ◌++◌, length, get_or, replicate, refl, sym, ap, ap₂, ◌∙◌, append_assoc, append-nil, arith, length-append, ltb, None}
 use Rattle.std.specs.List.{flat_map, AllByRecursion}
 use Rattle.std.specs.Int.{w32, to_be_bytes}
 use Rattle.std.proofs.lemmas.Bool.{ltb-false}
@@ -8,18 +8,18 @@ use Rattle.std.proofs.lemmas.List.{length-replicate}
 use Rattle.hunk_words.specs.declared.block_word.Kind.{Kind}
 use Rattle.hunk_words.specs.declared.block_word.Kind.TheVariants as kinds
 use Rattle.hunk_words.specs.declared.reason.Reason.TheVariants as reasons
-use Rattle.hunk_words.specs.Bits.{size_longs, kind, is_advisory}
+use Rattle.hunk_words.specs.Bits.{size_longs, kind}
 use Rattle.hunk_words.specs.Longs.{bytes_of, IsLong}
 use Rattle.hunk_files.specs.Image.{add_at, image, filled, relocated, block_content, block_relocations}
 use Rattle.hunk_blocks.specs.Values.{BlockValue, Name, Code, Data, Bss, Reloc, Ext, Symbol, Debug, Advisory, End}
 use Rattle.hunk_files.specs.LoadFile.{TableEntry, HunkValue}
-use Rattle.hunk_scan.specs.Roles.{refuse, refuse_part, refuse_kind}
-use Rattle.hunk_blocks.specs.BlockSteps.{ForName, ForDebug, ForAdvisory, ForCode, ForData, ForBss, Counted, SizedCode, SizedData, Inside, AtCount, AtSize, InPayload, AtGroup, AtTarget, InOffsets, AtEntry, InName, AtValue, BlockNext, Open, Whole, part_of, step_inside, begin}
+use Rattle.hunk_scan.specs.Roles.{refuse, refuse_part}
+use Rattle.hunk_blocks.specs.BlockSteps.{ForName, ForCode, SizedCode, SizedData, Inside, AtCount, AtSize, InPayload, InOffsets, BlockNext, Open, Whole, part_of, step_inside, begin}
 use Rattle.hunk_files.specs.FileSteps.{hunk, block, OpenHunk, Progress, AtBlock, InBody, More, place_of, role_of, with_block, open_hunk, close, after, step}
-use Rattle.hunk_files.proofs.FileProgress.{ProgressFits, IsAdmitted, kind_admitted}
+use Rattle.hunk_files.proofs.FileProgress.{ProgressFits, IsAdmitted, kind_admitted, kind_is}
 use Rattle.hunk_files.proofs.HunkProgress as blocks
 use Rattle.hunk_blocks.proofs.Lists.{All-more, flat_map-more, passed_true, passed_false}
-use Rattle.hunk_files.proofs.Memory.{adds_bytes, adds_pairs, step_adds_bytes, step_adds_pairs, offset_adds, end_is_image}
+use Rattle.hunk_files.proofs.Memory.{adds_bytes, adds_pairs, step_has, offset_adds, end_is_image}
 use Rattle.hunk_files.specs.OpenSegment.{segment_so_far, bytes_so_far, pairs_so_far, bytes_in, pairs_in}
 use Rattle.hunk_scatter.specs.StoreContent.{zeros, IsSized, images, Holds, StoreHolds, put_at, stored_in, stored}
 use Rattle.hunk_files.specs.ReaderPosition.{position_of, open_of, block_phase}
@@ -52,8 +52,8 @@ same_parts bases o n m e d =
 nothing_added : (bases : List ℕ) (o : OpenHunk) (x : Inside) (w : ℕ) → adds_bytes x w ≡ [] → adds_pairs x w ≡ [] → segment_so_far bases o (step_inside x w) ≡ segment_so_far bases o (Open x)
 nothing_added bases o x w e d =
     same_parts bases o (Open x) (step_inside x w)
-    (step_adds_bytes x w ∙ ap (λ (bs : List ℕ). bytes_in x ++ bs) e ∙ append-nil (bytes_in x))
-    (step_adds_pairs x w ∙ ap (λ (ps : List (ℕ × ℕ)). pairs_in x ++ ps) d ∙ append-nil (pairs_in x))
+    ((step_has x w).0 ∙ ap (λ (bs : List ℕ). bytes_in x ++ bs) e ∙ append-nil (bytes_in x))
+    ((step_has x w).1 ∙ ap (λ (ps : List (ℕ × ℕ)). pairs_in x ++ ps) d ∙ append-nil (pairs_in x))
 
 -- ---- a segment in which four bytes are replaced
 
@@ -92,9 +92,6 @@ add_holds bases o n m store k base fits e h =
 
 -- ---- within a block
 
-kind_is : (o : OpenHunk) (word : ℕ) (k : Kind) → IsAdmitted o word → kind word ≡ k → refuse_kind o.has_content (is_advisory word) k ≡ None
-kind_is o word k a e = subst (λ (x : Kind). refuse_kind o.has_content (is_advisory word) x ≡ None) e (kind_admitted o word a).1
-
 -- while the content comes, the segment is what has come of it
 content_only : (bases : List ℕ) (o : OpenHunk) (n : BlockNext) (c : List ℕ) → contents_of o ≡ [] → pairs_of o ≡ [] → bytes_so_far n ≡ c → pairs_so_far n ≡ [] →
     segment_so_far bases o n ≡ filled (4 * size_longs o.entry.word) c
@@ -103,20 +100,6 @@ content_only bases o n c e d f g =
     (ap₂ (λ (xs ys : List ℕ). xs ++ ys) e f)
     (ap₂ (λ (xs ys : List (ℕ × ℕ)). xs ++ ys) d g)
 
-content_put : (bases : List ℕ) (o : OpenHunk) (n m : BlockNext) (done : List ℕ) (w : ℕ) → (contents_of o ≡ []) × (pairs_of o ≡ []) →
-    bytes_so_far n ≡ bytes_of done → pairs_so_far n ≡ [] → bytes_so_far m ≡ bytes_of done ++ to_be_bytes w32 w → pairs_so_far m ≡ [] → 4 * length done + 4 ≤ 4 * size_longs o.entry.word →
-    segment_so_far bases o m ≡ put_at (segment_so_far bases o n) (4 * length done) (to_be_bytes w32 w)
-content_put bases o n m done w u e d f g fits =
-    content_only bases o m (bytes_of done ++ to_be_bytes w32 w) u.0 u.1 f g
-    ∙ long_fills (4 * size_longs o.entry.word) (bytes_of done) (to_be_bytes w32 w) refl (omega (arith, length-bytes_of done))
-    ∙ ap₂ (λ (s : List ℕ) (at : ℕ). put_at s at (to_be_bytes w32 w)) (sym (content_only bases o n (bytes_of done) u.0 u.1 e d)) (length-bytes_of done)
-
--- the longwords of a content that came, by those that are owed
-at_place : (done : List ℕ) (owed : ℕ) (P : List ℕ → Type 0) (start : ℕ) (four store : List ℕ) → P (put_at store (start + 4 * length done) four) → P (put_at store (start + 4 * (length done + suc owed - owed - 1)) four)
-at_place done owed P start four store h =
-    let e : length done ≡ length done + suc owed - owed - 1 = omega arith in
-    subst (λ (n : ℕ). P (put_at store (start + 4 * n) four)) e h
-
 inside_holds : (bases : List ℕ) (o : OpenHunk) (word : ℕ) (x : Inside) (w : ℕ) (store : List ℕ) → IsAdmitted o word → blocks.Fits (place_of o) word x →
     refuse_part (place_of o) (part_of x) w ≡ None → Holds bases o (Open x) store → Holds bases o (step_inside x w) (stored_in bases (before o.finished) (position_of (More (InBody o word x))) w store)
 inside_holds bases o word x w store a f ok h = go x f ok h
@@ -124,39 +107,37 @@ inside_holds bases o word x w store a f ok h = go x f ok h
     idle : (y : Inside) → adds_bytes y w ≡ [] → adds_pairs y w ≡ [] → Holds bases o (Open y) store → Holds bases o (step_inside y w) store
     idle y e d k = holds_as bases o (Open y) (step_inside y w) store (nothing_added bases o y w e d) k
 
+    -- a longword of the content, which is the first of the hunk
+    content : (y : Inside) (done : List ℕ) (owed : ℕ) → bytes_in y ≡ bytes_of done → pairs_in y ≡ [] → adds_bytes y w ≡ bytes_of (w ∷ []) → adds_pairs y w ≡ [] →
+        o.has_content ≡ false → length done + suc owed ≤ size_longs o.entry.word → Holds bases o (Open y) store →
+        Holds bases o (step_inside y w) (put_at store (before o.finished + 4 * (length done + suc owed - owed - 1)) (to_be_bytes w32 w))
+    content y done owed b p e d early fits k =
+        let four : List ℕ = to_be_bytes w32 w in
+        let size : ℕ = 4 * size_longs o.entry.word in
+        let u = k.unplaced early in
+        let n = step_has y w in
+        let more : bytes_so_far (step_inside y w) ≡ bytes_of done ++ four = n.0 ∙ ap₂ (λ (xs ys : List ℕ). xs ++ ys) b (e ∙ bytes_of-one w) in
+        let place : length (bytes_of done) ≡ 4 * (length done + suc owed - owed - 1) = omega (arith, length-bytes_of done) in
+        put_holds bases o (Open y) (step_inside y w) store _ four refl (omega (arith, fits))
+        (content_only bases o (step_inside y w) (bytes_of done ++ four) u.0 u.1 more (n.1 ∙ ap₂ (λ (xs ys : List (ℕ × ℕ)). xs ++ ys) p d)
+        ∙ long_fills size (bytes_of done) four refl (omega (arith, length-bytes_of done, fits))
+        ∙ ap₂ (λ (s : List ℕ) (at : ℕ). put_at s at four) (sym (content_only bases o (Open y) (bytes_of done) u.0 u.1 b p)) place) k
+
     go : (y : Inside) → blocks.Fits (place_of o) word y → refuse_part (place_of o) (part_of y) w ≡ None → Holds bases o (Open y) store →
         Holds bases o (step_inside y w) (stored_in bases (before o.finished) (position_of (More (InBody o word y))) w store)
-    go (AtCount ForName) f ok k = idle (AtCount ForName) refl refl k
-    go (AtCount ForDebug) f ok k = idle (AtCount ForDebug) refl refl k
-    go (AtCount ForAdvisory) f ok k = idle (AtCount ForAdvisory) refl refl k
-    go (AtSize ForCode) f ok k = idle (AtSize ForCode) refl refl k
-    go (AtSize ForData) f ok k = idle (AtSize ForData) refl refl k
-    go (AtSize ForBss) f ok k = idle (AtSize ForBss) refl refl k
-    go (InPayload (Counted c) done owed) f ok k = idle (InPayload (Counted c) done owed) refl refl k
     go (InPayload (SizedCode top) done owed) f ok k =
-        let y : Inside = InPayload (SizedCode top) done owed in
-        let early : o.has_content ≡ false = passed_false o.has_content reasons.SecondContent (kind_is o word kinds.Code a f.0.0.0) in
-        let room : 4 * length done + 4 ≤ 4 * size_longs o.entry.word = omega (arith, f.1) in
-        at_place done owed (Holds bases o (step_inside y w)) (before o.finished) (to_be_bytes w32 w) store
-        (put_holds bases o (Open y) (step_inside y w) store (4 * length done) (to_be_bytes w32 w) refl room
-        (content_put bases o (Open y) (step_inside y w) done w (k.unplaced early) refl refl (step_adds_bytes y w ∙ ap (λ (bs : List ℕ). bytes_of done ++ bs) (bytes_of-one w)) (step_adds_pairs y w) room) k)
+        content (InPayload (SizedCode top) done owed) done owed refl refl refl refl
+        (passed_false o.has_content reasons.SecondContent (kind_is o word kinds.Code a f.0.0.0)) f.1 k
     go (InPayload (SizedData top) done owed) f ok k =
-        let y : Inside = InPayload (SizedData top) done owed in
-        let early : o.has_content ≡ false = passed_false o.has_content reasons.SecondContent (kind_is o word kinds.Data a f.0.0.0) in
-        let room : 4 * length done + 4 ≤ 4 * size_longs o.entry.word = omega (arith, f.1) in
-        at_place done owed (Holds bases o (step_inside y w)) (before o.finished) (to_be_bytes w32 w) store
-        (put_holds bases o (Open y) (step_inside y w) store (4 * length done) (to_be_bytes w32 w) refl room
-        (content_put bases o (Open y) (step_inside y w) done w (k.unplaced early) refl refl (step_adds_bytes y w ∙ ap (λ (bs : List ℕ). bytes_of done ++ bs) (bytes_of-one w)) (step_adds_pairs y w) room) k)
-    go (AtGroup groups) f ok k = idle (AtGroup groups) refl refl k
-    go (AtTarget groups owed) f ok k = idle (AtTarget groups owed) refl refl k
+        content (InPayload (SizedData top) done owed) done owed refl refl refl refl
+        (passed_false o.has_content reasons.SecondContent (kind_is o word kinds.Data a f.0.0.0)) f.1 k
     go (InOffsets groups target done owed) f ok k =
         let y : Inside = InOffsets groups target done owed in
         let room : w + 4 ≤ 4 * size_longs o.entry.word = ltb-false (4 * size_longs o.entry.word) (w + 4) (passed_false (ltb (4 * size_longs o.entry.word) (w + 4)) reasons.BadOffset ok) in
         add_holds bases o (Open y) (step_inside y w) store w (get_or bases target 0) room (offset_adds bases o groups target done owed w) k
-    go (AtEntry entries) f ok k = idle (AtEntry entries) refl refl k
-    go (InName entries w2 done owed) f ok k = idle (InName entries w2 done owed) refl refl k
-    go (AtValue entries w2 name) f ok k = idle (AtValue entries w2 name) refl refl k
-    go _ f ok k = absurd f.1
+    go (AtCount ForName) f ok k = idle (AtCount ForName) refl refl k
+    go (AtSize ForCode) f ok k = idle (AtSize ForCode) refl refl k
+    go _ f ok k = idle _ refl refl k
 
 -- ---- between blocks
 
@@ -232,13 +213,6 @@ after_holds bases o word (Whole End) store a f h = ended_holds bases o word stor
 
 begin_empty : (k : Kind) → (bytes_so_far (begin k) ≡ []) × (pairs_so_far (begin k) ≡ [])
 begin_empty kinds.Name = (refl, refl)
-begin_empty kinds.Code = (refl, refl)
-begin_empty kinds.Data = (refl, refl)
-begin_empty kinds.Bss = (refl, refl)
-begin_empty kinds.Reloc32 = (refl, refl)
-begin_empty kinds.Symbol = (refl, refl)
-begin_empty kinds.Debug = (refl, refl)
-begin_empty (kinds.Unknown n) = (refl, refl)
 begin_empty _ = (refl, refl)
 
 -- a block word stores nothing

@@ -17,7 +17,7 @@ pub put_long-requires : goal.put_long-requires
 put_long-requires g c =
     let longs = c.args.longs.now in
     let i = c.putting.long-index in
-    let room = puts_room (λ (w : ℕ). w ∷ []) g.W.Sink.taken g.W.Sink.failed longs i (get_or longs i 0) (2 ^ 64) c.putting-test.true (here longs i c.putting-test.true) c.putting.invariant (omega (arith, c.requires.room, ap (λ (l : List ℕ). length (bytes_of l)) (each_long longs))) in
+    let room = puts_room (λ (w : ℕ). w ∷ []) g.W.Sink.taken g.W.Sink.failed longs i (get_or longs i 0) (2 ^ 64) c.putting-test.true (here longs i c.putting-test.true) c.putting.invariant.written (omega (arith, c.requires.room, ap (λ (l : List ℕ). length (bytes_of l)) (each_long longs))) in
     omega (arith, room, length-bytes_of (get_or longs i 0 ∷ []))
 
 pub returns-in_err-put_long : goal.returns-in_err-put_long
@@ -25,7 +25,7 @@ returns-in_err-put_long g c =
     let longs = c.args.longs.now in
     let i = c.putting.long-index in
     writes_same g.W.Sink.taken g.W.Sink.failed c.args.writer.now c.put_long.new.self _ _ (bytes_of longs) (ap bytes_of (each_long longs))
-    (puts_stop (λ (w : ℕ). w ∷ []) g.W.Sink.taken g.W.Sink.failed longs i (get_or longs i 0) c.putting-test.true (here longs i c.putting-test.true) c.putting.invariant
+    (puts_stop (λ (w : ℕ). w ∷ []) g.W.Sink.taken g.W.Sink.failed longs i (get_or longs i 0) c.putting-test.true (here longs i c.putting-test.true) c.putting.invariant.written
     (long_writes g.W.Sink.taken g.W.Sink.failed c.putting.writer c.put_long.new.self c.put_long.result (get_or longs i 0) c.put_long.ensures.puts c.put_long.ensures.whole c.put_long.ensures.told c.put_long.ensures.failed c.put_long.ensures.stops c.put_long.ensures.stays c.put_long.ensures.quiet)
     c.in_err-put_long.was c.from_residual.ensures.1)
 
@@ -33,7 +33,7 @@ pub putting-preserved : goal.putting-preserved
 putting-preserved g c =
     let longs = c.args.longs.now in
     let i = c.putting.long-index in
-    puts_next (λ (w : ℕ). w ∷ []) g.W.Sink.taken g.W.Sink.failed longs i (get_or longs i 0) c.putting-test.true (here longs i c.putting-test.true) c.putting.invariant
+    puts_next (λ (w : ℕ). w ∷ []) g.W.Sink.taken g.W.Sink.failed longs i (get_or longs i 0) c.putting-test.true (here longs i c.putting-test.true) c.putting.invariant.written
     (long_writes g.W.Sink.taken g.W.Sink.failed c.putting.writer c.put_long.new.self c.put_long.result (get_or longs i 0) c.put_long.ensures.puts c.put_long.ensures.whole c.put_long.ensures.told c.put_long.ensures.failed c.put_long.ensures.stops c.put_long.ensures.stays c.put_long.ensures.quiet)
     c.in_ok-put_long.was
 
