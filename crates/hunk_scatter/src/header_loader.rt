@@ -1,5 +1,5 @@
 //! The loader of a header.
-ghost use Rattle.std.specs.Prelude.{◌≡◌, ℕ, ◌+◌, ◌*◌, ◌/◌, ◌<◌, ◌≤◌, ◌^◌, List, [], ◌∷◌, ◌++◌, length, take, true, false, Some, None, Ok, Err, IfOk, IfErr, OnOk, OnErr, IsOk, IsTrue, IsErrAnd};
+ghost use Rattle.std.specs.Prelude.{◌≡◌, ℕ, ◌+◌, ◌*◌, ◌/◌, ◌<◌, ◌≤◌, ◌^◌, List, [], ◌∷◌, ◌++◌, length, take, true, false, Some, None, Ok, Err, IfOk, IfErr, OnOk, OnErr, IsOk, IsTrue, IsErrAnd, ◌⊎◌};
 ghost use Rattle.hunk_words.specs.Limits.{most_hunks};
 ghost use Rattle.hunk_words.specs.declared.fault.Fault.{Fault};
 ghost use Rattle.hunk_words.specs.declared.reason.Reason.TheVariants as reasons;
@@ -10,6 +10,7 @@ ghost use Rattle.hunk_scatter.specs.LoaderReasons.{is_of_header};
 ghost use Rattle.hunk_scatter.specs.HeaderBytes.{IsTable, header_bytes, IsHeader, MayGoOnInHeader, entries_so_far};
 ghost use Rattle.hunk_scatter.specs.HeaderFaults.{PassesBudget, IsOverBudget, IsBudgetOrMemory, IsHeaderFault};
 ghost use Rattle.hunk_scatter.specs.HeaderLoaderFields.{HeaderStop};
+ghost use Rattle.hunk_scatter.specs.HeaderOwing.{HasRowsToCome, HasHeaderToCome};
 ghost use Rattle.hunk_scatter.specs.LoaderValues.{HeaderLoaderValue, HasNoRefusal};
 ghost use Rattle.hunk_scatter.specs.LoadOutcomes.{IsWithinHeader};
 ghost use Rattle.hunk_words.specs.Longs.{longs};
@@ -116,12 +117,16 @@ impl HeaderLoader {
 
     /// How many bytes to read next, at most; 0 where nothing more is taken.
     ///
-    /// No header that begins with what was fed ends sooner than so many bytes later. No longword
-    /// that was fed is refused before `feed` refuses; where the input ends here, it is truncated.
+    /// No header that begins with what was fed ends sooner than so many bytes later. What each one
+    /// still has that begins with the longwords fed is wanted at once, up to 256 bytes: a longword at
+    /// least of each row owed. No longword that was fed is refused before `feed` refuses; where the
+    /// input ends here, it is truncated.
     pub fn want(&self) -> usize
         ensures bound { result ≤ 256 }
         ensures least { (table : List TableEntry) (more : List ℕ) → IsTable table
             → header_bytes table ≡ self.now.fed ++ more → result ≤ length more }
+        ensures to_come { self.now.refused ≡ None → (p : ℕ) → HasHeaderToCome self.now.fed p → (p ≤ result) ⊎ (256 ≤ result) }
+        ensures rows { self.now.refused ≡ None → (p : ℕ) → HasRowsToCome self.now.fed p → (p ≤ result) ⊎ (256 ≤ result) }
         ensures over { self.now.refused ≡ None → IsHeader self.now.fed → result ≡ 0 }
         ensures some { self.now.refused ≡ None → result ≡ 0 → IsHeader self.now.fed }
         ensures refused { (f : Fault) → self.now.refused ≡ Some f → result ≡ 0 }

@@ -3,7 +3,7 @@ use Rattle.hunk_words.specs.Longs.{Gathers}
 use Rattle.hunk_scatter.specs.HeaderBytes.{IsHeader}
 use Rattle.hunk_scatter.specs.HeaderLoaderFields.{HeaderStop}
 use Rattle.hunk_scatter.specs.LoaderValues.{HeaderLoaderValue}
-use Rattle.hunk_scatter.proofs.HeaderFields.{heading_as, heading_pending, heading_word, heading_stop, heading_four, heading_room, heading_table, heading_not_whole}
+use Rattle.hunk_scatter.proofs.HeaderFields.{heading_as, heading_word, heading_stop, heading_four, heading_room, heading_table, heading_not_whole}
 use Rattle.hunk_scatter.proofs.header_loader.HeaderLoader.take_long.Goals as goal
 
 pub take_header_word-requires-clause-room : goal.take_header_word-requires-clause-room

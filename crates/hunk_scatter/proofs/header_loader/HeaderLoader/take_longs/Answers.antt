@@ -1,4 +1,4 @@
-use Rattle.std.proofs.Common.{◌≡◌, ◌++◌, ◌∙◌, List, ℕ, Ok, ap, sym, subst, take, length, length-append, append-nil, arith}
+use Rattle.std.proofs.Common.{◌≡◌, ◌++◌, ◌∙◌, ℕ, Ok, ap, sym, subst, take, length, length-append, append-nil, arith}
 use Rattle.hunk_scatter.specs.HeaderBytes.{IsHeader}
 use Rattle.hunk_scatter.specs.HeaderLoaderFields.{HeaderStop}
 use Rattle.hunk_scatter.proofs.Faults.{rest_within, fed_on, fed_rest}
