@@ -1,5 +1,5 @@
 -- Faults of bytes that go on.
-use Rattle.std.proofs.Common.{◌≡◌, ℕ, suc, ◌+◌, ◌-◌, ◌<◌, ◌≤◌, List, [], ◌∷◌, ◌++◌, length, take, drop, length-drop, arith, get_or, refl, sym, ap, ap₂, subst, ◌∙◌, append_assoc, append-nil, drop-cons, take-append-drop, ◌⊎◌, inl, inr}
+use Rattle.std.proofs.Common.{◌≡◌, ℕ, ◌+◌, ◌-◌, ◌≤◌, List, [], ◌∷◌, ◌++◌, length, take, drop, length-drop, arith, refl, sym, ap, ap₂, subst, ◌∙◌, append_assoc, append-nil, take-append-drop, ◌⊎◌, inl, inr}
 use Rattle.std.specs.Int.{w32, from_be_bytes}
 use Rattle.std.proofs.lemmas.List.{take_rest}
 use Rattle.std.proofs.Math.Seq.{take-add}
@@ -44,26 +44,20 @@ no_refusal_on bytes at reason m h = go m.fits
         (inl (refusal_more bytes m.more at reason h))
     go (inr e) = no_fault bytes at reason (record { value = m.value; is_load_file = m.is_load_file; rest = m.more; split = e }) (inl h)
 
--- A piece around one of its bytes.
-pub byte_split : (fed piece front : List ℕ) (i : ℕ) → i < length piece → front ≡ fed ++ take i piece → fed ++ piece ≡ (front ++ get_or piece i 0 ∷ []) ++ drop (suc i) piece
-byte_split fed piece front i less e =
-    sym
-    (append_assoc front (get_or piece i 0 ∷ []) (drop (suc i) piece)
-    ∙ ap₂ (λ (xs ys : List ℕ). xs ++ ys) e (sym (drop-cons piece i 0 less))
-    ∙ append_assoc fed (take i piece) (drop i piece)
-    ∙ ap (λ (xs : List ℕ). fed ++ xs) (take-append-drop i piece))
-
 -- A refusal within the front of a piece is one of the piece.
 pub refusal_front : (fed piece : List ℕ) (n at : ℕ) (reason : Reason) → HasRefusal (fed ++ take n piece) at reason → HasRefusal (fed ++ piece) at reason
 refusal_front fed piece n at reason h =
     subst (λ (bs : List ℕ). HasRefusal bs at reason) (append_assoc fed (take n piece) (drop n piece) ∙ ap (λ (xs : List ℕ). fed ++ xs) (take-append-drop n piece))
     (refusal_more (fed ++ take n piece) (drop n piece) at reason h)
 
+-- So much of a piece, and all its rest.
+pub fed_rest : (fed piece front : List ℕ) (n : ℕ) → front ≡ fed ++ take n piece → front ++ take (length piece - n) (drop n piece) ≡ fed ++ piece
+fed_rest fed piece front n e =
+    ap₂ (λ (bs rest : List ℕ). bs ++ rest) e (take_rest piece n) ∙ append_assoc fed (take n piece) (drop n piece) ∙ ap (λ (xs : List ℕ). fed ++ xs) (take-append-drop n piece)
+
 -- A refusal of the rest of a piece is one of the piece.
 pub refused_rest : (fed piece front : List ℕ) (n at : ℕ) (reason : Reason) → front ≡ fed ++ take n piece → HasRefusal (front ++ take (length piece - n) (drop n piece)) at reason → HasRefusal (fed ++ piece) at reason
-refused_rest fed piece front n at reason e h =
-    subst (λ (bs : List ℕ). HasRefusal bs at reason)
-    (ap₂ (λ (bs rest : List ℕ). bs ++ rest) e (take_rest piece n) ∙ append_assoc fed (take n piece) (drop n piece) ∙ ap (λ (xs : List ℕ). fed ++ xs) (take-append-drop n piece)) h
+refused_rest fed piece front n at reason e h = subst (λ (bs : List ℕ). HasRefusal bs at reason) (fed_rest fed piece front n e) h
 
 -- So much of a piece, and so much of its rest.
 pub fed_on : (fed piece front after : List ℕ) (n m : ℕ) → front ≡ fed ++ take n piece → after ≡ front ++ take m (take (length piece - n) (drop n piece)) → after ≡ fed ++ take (n + m) piece

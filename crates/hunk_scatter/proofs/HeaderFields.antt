@@ -157,7 +157,7 @@ piece_within budget rows s pending fed piece after n r le is all at p = go (ltb 
         let done : length piece ≤ n = ltb-false n (length piece) e in
         within refl p.after (ap longs (is ∙ ap (λ (xs : List ℕ). fed ++ xs) (take_all n piece done)) ∙ p.split)
 
--- ---- a byte
+-- ---- bytes of a piece
 
 -- the same fields, however the state is written
 pub heading_as : (budget : ℕ) (rows rows2 : List Row) (s s2 : HeaderState) (pending pending2 : List ℕ) (count : ℕ) (refused : Option Fault) (fed fed2 : List ℕ) →
@@ -205,15 +205,15 @@ module _ (budget : ℕ) (rows : List Row) (s : HeaderState) (pending : List ℕ)
   now : HeaderReading budget rows s pending fed
   now = h.reading none
 
-  -- A byte that completes no longword.
-  pub heading_byte : (byte : ℕ) (after : List ℕ) → after ≡ pending ++ byte ∷ [] → length after < 4 → HeaderLoaderInvariant budget rows s after (count + 1) refused (fed ++ byte ∷ [])
-  heading_byte byte after e few = record {
-    counted = omega (arith, h.counted, length-append fed (byte ∷ []));
+  -- Bytes that complete no longword.
+  pub heading_pending : (bytes after : List ℕ) (n : ℕ) → length bytes ≡ n → after ≡ pending ++ bytes → length after < 4 → HeaderLoaderInvariant budget rows s after (count + n) refused (fed ++ bytes)
+  heading_pending bytes after n long e few = record {
+    counted = omega (arith, h.counted, long, length-append fed bytes);
     few_rows = h.few_rows;
     reading =
         λ x. record {
           ws = now.ws;
-          spelled = gathers-none fed pending (byte ∷ []) after now.ws now.spelled e;
+          spelled = gathers-none fed pending bytes after now.ws now.spelled e;
           few = few;
           whole = λ done. let clash : true ≡ false = sym done ∙ more in absurd cc;
           has_read = now.has_read;
@@ -222,31 +222,32 @@ module _ (budget : ℕ) (rows : List Row) (s : HeaderState) (pending : List ℕ)
     cleared = h.cleared;
   }
 
-  module _ (byte w : ℕ) (is : IsLong w) (gathers : pending ++ byte ∷ [] ≡ bytes_of (w ∷ [])) where
-    spells : fed ++ byte ∷ [] ≡ bytes_of (now.ws ++ w ∷ [])
-    spells = gathers-word fed pending (byte ∷ []) [] now.ws w now.spelled (gathers, refl) ∙ append-nil (bytes_of (now.ws ++ w ∷ []))
+  module _ (bytes : List ℕ) (n : ℕ) (long : length bytes ≡ n) (w : ℕ) (is : IsLong w) (gathers : pending ++ bytes ≡ bytes_of (w ∷ [])) where
+    spells : fed ++ bytes ≡ bytes_of (now.ws ++ w ∷ [])
+    spells = gathers-word fed pending bytes [] now.ws w now.spelled (gathers, refl) ∙ append-nil (bytes_of (now.ws ++ w ∷ []))
 
-    heading_place : count ≡ 4 * length now.ws + 3
+    heading_place : count + n ≡ 4 * length now.ws + 4
     heading_place =
         omega (
           arith,
           h.counted,
+          long,
           ap length spells,
-          length-append fed (byte ∷ []),
+          length-append fed bytes,
           length-bytes_of (now.ws ++ w ∷ []),
           length-append now.ws (w ∷ []),
         )
 
-    pub heading_three : 3 ≤ count
-    heading_three = omega (arith, heading_place)
+    pub heading_four : 4 ≤ count + n
+    heading_four = omega (arith, heading_place)
 
-    -- One that completes a longword that passes.
+    -- Those that complete a longword that passes.
     pub heading_word : refuse (role_at 0 s.position) w ≡ None → s.total + declares s.position w ≤ budget →
-        HeaderLoaderInvariant budget (rows ++ map row_of (adds s.position w)) (record { position = step s.position w; total = s.total + declares s.position w }) [] (count + 1) refused (fed ++ byte ∷ [])
+        HeaderLoaderInvariant budget (rows ++ map row_of (adds s.position w)) (record { position = step s.position w; total = s.total + declares s.position w }) [] (count + n) refused (fed ++ bytes)
     heading_word pass within =
         let k = word_read budget rows s now.ws now.has_read more w within is pass in
         record {
-          counted = omega (arith, h.counted, length-append fed (byte ∷ []));
+          counted = omega (arith, h.counted, long, length-append fed bytes);
           few_rows =
               omega (
                 arith,
@@ -266,8 +267,8 @@ module _ (budget : ℕ) (rows : List Row) (s : HeaderState) (pending : List ℕ)
           cleared = λ f e. absurd (let d : None ≡ Some f = sym none ∙ e in cc);
         }
 
-    -- One that completes a longword that stops the loader.
-    pub heading_stop : (reason : Reason) → StopsFor budget s w reason → HeaderStop budget (fed ++ byte ∷ []) (record { place = count - 3; reason = reason })
+    -- Those that complete a longword that stops the loader.
+    pub heading_stop : (reason : Reason) → StopsFor budget s w reason → HeaderStop budget (fed ++ bytes) (record { place = count + n - 4; reason = reason })
     heading_stop reason stops = record {
       ws = now.ws;
       rows = rows;

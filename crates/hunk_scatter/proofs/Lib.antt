@@ -9,6 +9,7 @@ pub mod HeaderFields
 pub mod HeaderFronts
 pub mod HeaderGrows
 pub mod HeaderLeast
+pub mod HeaderOwed
 pub mod HeaderReads
 pub mod HeaderSteps
 pub mod HeaderStops

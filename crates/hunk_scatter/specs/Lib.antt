@@ -4,6 +4,7 @@ pub mod BodySteps
 pub mod HeaderBytes
 pub mod HeaderFaults
 pub mod HeaderLoaderFields
+pub mod HeaderOwing
 pub mod LoadOutcomes
 pub mod LoaderReasons
 pub mod LoaderValues

@@ -1,5 +1,5 @@
 //! The loader of a header.
-ghost use Rattle.std.specs.Prelude.{◌≡◌, ℕ, ◌+◌, ◌*◌, ◌/◌, ◌<◌, ◌≤◌, ◌^◌, List, [], ◌∷◌, ◌++◌, length, take, true, false, Some, None, Ok, Err, IfOk, IfErr, OnOk, OnErr, IsOk, IsTrue, IsErrAnd};
+ghost use Rattle.std.specs.Prelude.{◌≡◌, ℕ, ◌+◌, ◌*◌, ◌/◌, ◌<◌, ◌≤◌, ◌^◌, List, [], ◌∷◌, ◌++◌, length, take, true, false, Some, None, Ok, Err, IfOk, IfErr, OnOk, OnErr, IsOk, IsTrue, IsErrAnd, ◌⊎◌};
 ghost use Rattle.hunk_words.specs.Limits.{most_hunks};
 ghost use Rattle.hunk_words.specs.declared.fault.Fault.{Fault};
 ghost use Rattle.hunk_words.specs.declared.reason.Reason.TheVariants as reasons;
@@ -10,6 +10,7 @@ ghost use Rattle.hunk_scatter.specs.LoaderReasons.{is_of_header};
 ghost use Rattle.hunk_scatter.specs.HeaderBytes.{IsTable, header_bytes, IsHeader, MayGoOnInHeader, entries_so_far};
 ghost use Rattle.hunk_scatter.specs.HeaderFaults.{PassesBudget, IsOverBudget, IsBudgetOrMemory, IsHeaderFault};
 ghost use Rattle.hunk_scatter.specs.HeaderLoaderFields.{HeaderStop};
+ghost use Rattle.hunk_scatter.specs.HeaderOwing.{HasRowsToCome, HasHeaderToCome};
 ghost use Rattle.hunk_scatter.specs.LoaderValues.{HeaderLoaderValue, HasNoRefusal};
 ghost use Rattle.hunk_scatter.specs.LoadOutcomes.{IsWithinHeader};
 ghost use Rattle.hunk_words.specs.Longs.{longs};
@@ -17,6 +18,7 @@ ghost use Rattle.hunk_words.specs.Longs.{longs};
 use crate::declared::Declared;
 use crate::header_state::{HeaderState, take_header_word};
 use crate::history::History;
+use crate::store::next_word;
 use hunk_files::Row;
 use hunk_scan::Position;
 use hunk_words::{Assembler, LoadFault, Reason};
@@ -72,37 +74,40 @@ impl HeaderLoader {
         }
     }
 
-    /// Takes a byte, unless the header is whole.
-    fn push(&mut self, byte: u8) -> Result<bool, LoadFault>
-        requires room { length self.old.fed + 1 < 2 ^ 64 }
+    /// Takes bytes up to the end of a longword or of the piece, unless the header is whole.
+    fn take_long(&mut self, piece: &[u8]) -> Result<usize, LoadFault>
+        requires room { length self.old.fed + length piece.now < 2 ^ 64 }
         requires reading { self.old.refused ≡ None }
+        requires some { 0 < length piece.now }
         ensures budget { self.new.budget ≡ self.old.budget }
-        ensures more { result ≡ Ok true → (self.new.fed ≡ self.old.fed ++ byte ∷ []) × (self.new.refused ≡ None) }
-        ensures whole { result ≡ Ok false → (self.new ≡ self.old) × IsHeader self.old.fed }
-        ensures complete { IsHeader self.old.fed → result ≡ Ok false }
-        ensures refusal { IfErr result (HeaderStop self.old.budget (self.old.fed ++ byte ∷ [])) }
+        ensures taken { IfOk result (λ n. (n ≤ length piece.now) × (self.new.fed ≡ self.old.fed ++ take n piece.now)) }
+        ensures goes_on { OnOk result (self.new.refused ≡ None) }
+        ensures whole { result ≡ Ok 0 → IsHeader self.new.fed }
+        ensures complete { IsHeader self.old.fed → result ≡ Ok 0 }
+        ensures refusal { IfErr result (λ f. (front rest : List ℕ) × (self.old.fed ++ piece.now ≡ front ++ rest)
+            × (length self.old.fed < length front) × HeaderStop self.old.budget front f) }
         ensures remembers { IfErr result (λ f. self.new.refused ≡ Some f) }
     {
         if self.state.position.is_behind_header() {
-            return Ok(false);
+            return Ok(0);
         }
-        let Some(word) = self.assembler.push(byte) else {
-            self.count += 1;
-            self.history = self.history.and(&[byte]);
-            return Ok(true);
+        let (taken, next) = next_word(&mut self.assembler, piece);
+        let bytes = &piece[..taken];
+        let Some(word) = next else {
+            self.count += taken as u64;
+            self.history = self.history.and(bytes);
+            return Ok(taken);
         };
         match take_header_word(&mut self.rows, self.state, self.budget, word) {
             Ok(state) => {
                 self.state = state;
-                self.count += 1;
-                self.history = self.history.and(&[byte]);
-                Ok(true)
+                self.count += taken as u64;
+                self.history = self.history.and(bytes);
+                Ok(taken)
             }
             Err(reason) => {
-                let fault = LoadFault {
-                    place: self.count - 3,
-                    reason,
-                };
+                let place = self.count + taken as u64 - 4;
+                let fault = LoadFault { place, reason };
                 self.rows = Vec::new(self.alloc);
                 self.refused = Some(fault);
                 Err(fault)
@@ -112,12 +117,16 @@ impl HeaderLoader {
 
     /// How many bytes to read next, at most; 0 where nothing more is taken.
     ///
-    /// No header that begins with what was fed ends sooner than so many bytes later. No longword
-    /// that was fed is refused before `feed` refuses; where the input ends here, it is truncated.
+    /// No header that begins with what was fed ends sooner than so many bytes later. What each one
+    /// still has that begins with the longwords fed is wanted at once, up to 256 bytes: a longword at
+    /// least of each row owed. No longword that was fed is refused before `feed` refuses; where the
+    /// input ends here, it is truncated.
     pub fn want(&self) -> usize
         ensures bound { result ≤ 256 }
         ensures least { (table : List TableEntry) (more : List ℕ) → IsTable table
             → header_bytes table ≡ self.now.fed ++ more → result ≤ length more }
+        ensures to_come { self.now.refused ≡ None → (p : ℕ) → HasHeaderToCome self.now.fed p → (p ≤ result) ⊎ (256 ≤ result) }
+        ensures rows { self.now.refused ≡ None → (p : ℕ) → HasRowsToCome self.now.fed p → (p ≤ result) ⊎ (256 ≤ result) }
         ensures over { self.now.refused ≡ None → IsHeader self.now.fed → result ≡ 0 }
         ensures some { self.now.refused ≡ None → result ≡ 0 → IsHeader self.now.fed }
         ensures refused { (f : Fault) → self.now.refused ≡ Some f → result ≡ 0 }
@@ -135,8 +144,8 @@ impl HeaderLoader {
         if bytes < 256 { bytes as usize } else { 256 }
     }
 
-    /// Takes the bytes of a piece in turn.
-    fn push_all(&mut self, piece: &[u8]) -> Result<usize, LoadFault>
+    /// Takes the longwords of a piece in turn.
+    fn take_longs(&mut self, piece: &[u8]) -> Result<usize, LoadFault>
         requires room { length self.old.fed + length piece.now < 2 ^ 64 }
         requires reading { self.old.refused ≡ None }
         ensures budget { self.new.budget ≡ self.old.budget }
@@ -149,10 +158,10 @@ impl HeaderLoader {
         ensures remembers { IfErr result (λ f. self.new.refused ≡ Some f) }
     {
         let mut taken = 0;
-        for byte in piece {
-            match self.push(*byte) {
-                Ok(true) => taken += 1,
-                Ok(false) => return Ok(taken),
+        while taken < piece.len() {
+            match self.take_long(&piece[taken..]) {
+                Ok(0) => return Ok(taken),
+                Ok(part) => taken += part,
                 Err(fault) => return Err(fault),
             }
         }
@@ -197,7 +206,7 @@ impl HeaderLoader {
         }
         let before = self.history.and(&[]);
         let count = self.count;
-        match self.push_all(piece) {
+        match self.take_longs(piece) {
             Ok(taken) => {
                 // The proof learns that what was fed keeps to the budget.
                 let _ = &self.history;

@@ -4,6 +4,7 @@ use crate::tests::{ONE_HUNK, TWO_HUNKS, spelled};
 use crate::{Declared, HeaderLoader, Listed, Packed};
 use hunk_words::{LoadFault, Memory, Reason};
 use std::alloc::Global;
+use std::process::Abort;
 use std::test::Fail;
 
 /// The table of a header, or why it is refused.
@@ -33,6 +34,110 @@ fn refusal(alloc: Global, text: &str, budget: u64) -> Result<Option<(u64, Reason
             .err()
             .map(|fault| (fault.place, fault.reason)),
     )
+}
+
+/// Feeds a piece, and gives the number of bytes taken of it.
+fn feeds(rt: &impl Abort, loader: &mut HeaderLoader, piece: &[u8]) -> Result<usize, LoadFault> {
+    assert!(rt; loader.fed() < 1_000 && piece.len() < 1_000);
+    loader.feed(piece)
+}
+
+/// The number of hunks and the bytes that they declare, or why the header is refused, where a first
+/// piece of it has so many bytes, and each further one so many at most.
+fn in_pieces(
+    rt: &impl Abort,
+    alloc: Global,
+    bytes: &[u8],
+    budget: u64,
+    first: usize,
+    most: usize,
+) -> Result<(u32, u64), (u64, Reason)> {
+    let mut loader = HeaderLoader::new(alloc, budget);
+    let mut rest = bytes;
+    let mut size = first;
+    for _ in 0..bytes.len() {
+        let (piece, behind) = rest.split_at(size.min(rest.len()));
+        if let Err(fault) = feeds(rt, &mut loader, piece) {
+            return Err((fault.place, fault.reason));
+        }
+        rest = behind;
+        size = most;
+    }
+    match loader.declared() {
+        Ok(declared) => Ok((declared.hunks(), declared.total())),
+        Err(_) => panic!(rt; "not whole"),
+    }
+}
+
+/// Headers of examples 7, 8 and 16 with what follows, cut at each byte and in pieces of 1, 3 and 256
+/// bytes: the same comes as of one piece.
+#[test]
+fn headers_in_pieces(rt: HostRuntime) -> Result<(), Fail> {
+    let rows = [
+        ("3F3 0 2 0 1 C0000002 10004 1 / 3E9 2", 1_000, Ok((2, 12))),
+        ("3F3 0 2 0 1 2 3 / 3E9 1", 20, Ok((2, 20))),
+        ("3F3 0 2 0 1 2 3 / 3E9 1", 19, Err((24, Reason::Budget))),
+        ("3F3 0 2 0 0 1 1", 1_000, Err((16, Reason::LastHunk))),
+    ];
+    for (text, budget, comes) in rows {
+        let bytes = spelled(rt.alloc(), text)?;
+        for most in [1, 3, 256] {
+            let got = in_pieces(&rt, rt.alloc(), bytes.as_slice(), budget, most, most);
+            assert_eq!(rt; got, comes, "{text}, {most} bytes a piece");
+        }
+        for cut in 1..bytes.len() {
+            let got = in_pieces(&rt, rt.alloc(), bytes.as_slice(), budget, cut, 256);
+            assert_eq!(rt; got, comes, "{text}, cut at {cut}");
+        }
+    }
+    Ok(())
+}
+
+/// Three hunks, the second with attributes, byte by byte: until their number is known the shortest header
+/// has six longwords, and then each row that is owed has one.
+#[test]
+fn wants_what_rows_still_have(rt: HostRuntime) -> Result<(), Fail> {
+    let mut loader = HeaderLoader::new(rt.alloc(), 1_000);
+    let bytes = spelled(rt.alloc(), "3F3 0 3 0 2 1 C0000002 10004 1")?;
+    let wants = [
+        24, 23, 22, 21, 20, 19, 18, 17, 16, 15, 14, 13, // 3F3 0 3
+        20, 19, 18, 17, 16, 15, 14, 13, // 0 2
+        12, 11, 10, 9, // 1
+        8, 7, 6, 5, 8, 7, 6, 5, // C0000002 10004
+        4, 3, 2, 1, // 1
+    ];
+    assert_eq!(rt; bytes.len(), wants.len());
+    for (byte, want) in bytes.iter().zip(wants) {
+        assert_eq!(rt; loader.want(), want);
+        assert_eq!(rt; feeds(&rt, &mut loader, &[*byte]), Ok(1));
+    }
+    assert_eq!(rt; loader.want(), 0);
+    // What follows the header is not taken.
+    assert_eq!(rt; feeds(&rt, &mut loader, b"follows"), Ok(0));
+    assert!(rt; loader.declared().is_ok());
+    Ok(())
+}
+
+/// 65 hunks: no more than 256 bytes are wanted, until 64 rows are owed.
+#[test]
+fn wants_at_most_a_buffer(rt: HostRuntime) -> Result<(), Fail> {
+    let mut loader = HeaderLoader::new(rt.alloc(), 1_000);
+    let wants = [
+        ("3F3 0", 16),
+        ("41", 256),
+        ("0 40", 256),
+        ("1", 256),
+        ("1", 252),
+        ("1 1 1", 240),
+    ];
+    for (text, want) in wants {
+        let piece = spelled(rt.alloc(), text)?;
+        assert_eq!(rt; feeds(&rt, &mut loader, piece.as_slice()), Ok(piece.len()));
+        assert_eq!(rt; loader.want(), want, "behind {text}");
+    }
+    assert_eq!(rt; feeds(&rt, &mut loader, [0].as_slice()), Ok(1));
+    assert_eq!(rt; loader.want(), 239);
+    Ok(())
 }
 
 /// Examples 7, 16 and 17.

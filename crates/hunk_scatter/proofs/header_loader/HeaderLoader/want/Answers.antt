@@ -1,10 +1,12 @@
-use Rattle.std.proofs.Common.{◌*◌, ◌/◌, ◌++◌, length, sym, ap, subst, ◌∙◌, arith}
+use Rattle.std.proofs.Common.{inl, inr, ◌*◌, ◌/◌, ◌++◌, length, sym, ap, subst, ◌∙◌, arith}
 use Rattle.hunk_files.specs.Fault.{IsTruncated}
 use Rattle.hunk_scatter.specs.HeaderBytes.{IsHeader}
 use Rattle.hunk_scatter.specs.HeaderFaults.{PassesBudget}
 use Rattle.hunk_scatter.specs.LoaderValues.{HeaderLoaderValue, HasNoRefusal}
 use Rattle.hunk_scatter.proofs.BodyFields.{none_of}
 use Rattle.hunk_scatter.proofs.HeaderFields.{heading_clean, heading_truncated, heading_within, heading_not_whole, heading_table, heading_least}
+use Rattle.hunk_scatter.proofs.HeaderOwed.{rows_to_come, header_to_come, no_rows_to_come, no_header_to_come}
+use Rattle.hunk_scatter.specs.HeaderOwing.{HasRowsToCome, HasHeaderToCome}
 use Rattle.hunk_scatter.proofs.header_loader.HeaderLoader.want.Goals as goal
 
 pub returns-then-is_behind_header-clause-clean : goal.returns-then-is_behind_header-clause-clean
@@ -70,3 +72,39 @@ returns-then-is_behind_header-clause-some c none same =
     let t =
     heading_table _ _ _ _ _ (c.self.invariant.reading (ap (λ (v : HeaderLoaderValue). v.refused) c.self.view_is ∙ none)) (sym c.is_behind_header.ensures ∙ c.if-is_behind_header.true) in
     subst (λ (v : HeaderLoaderValue). IsHeader v.fed) c.self.view_is (_, t.0, t.1)
+
+pub returns-then-bytes-lt256-clause-to_come : goal.returns-then-bytes-lt256-clause-to_come
+returns-then-bytes-lt256-clause-to_come c none p t =
+    let o = header_to_come _ _ _ _ _ (c.self.invariant.reading (ap (λ (v : HeaderLoaderValue). v.refused) c.self.view_is ∙ none)) p (sym c.is_behind_header.ensures ∙ c.if-is_behind_header.false)
+    (subst (λ (v : HeaderLoaderValue). HasHeaderToCome v.fed p) (sym c.self.view_is) t) in
+    inl (omega (arith, o, c.least_longs.ensures.value, c.pending.ensures.value))
+
+pub returns-else-bytes-lt256-clause-to_come : goal.returns-else-bytes-lt256-clause-to_come
+returns-else-bytes-lt256-clause-to_come c none p t =
+    let o = header_to_come _ _ _ _ _ (c.self.invariant.reading (ap (λ (v : HeaderLoaderValue). v.refused) c.self.view_is ∙ none)) p (sym c.is_behind_header.ensures ∙ c.if-is_behind_header.false)
+    (subst (λ (v : HeaderLoaderValue). HasHeaderToCome v.fed p) (sym c.self.view_is) t) in
+    inr (omega (arith, o, c.least_longs.ensures.value, c.pending.ensures.value))
+
+pub returns-then-is_behind_header-clause-to_come : goal.returns-then-is_behind_header-clause-to_come
+returns-then-is_behind_header-clause-to_come c none p t =
+    let e = no_header_to_come _ _ _ _ _ (c.self.invariant.reading (ap (λ (v : HeaderLoaderValue). v.refused) c.self.view_is ∙ none)) p (sym c.is_behind_header.ensures ∙ c.if-is_behind_header.true)
+    (subst (λ (v : HeaderLoaderValue). HasHeaderToCome v.fed p) (sym c.self.view_is) t) in
+    inl (omega (arith, e))
+
+pub returns-then-bytes-lt256-clause-rows : goal.returns-then-bytes-lt256-clause-rows
+returns-then-bytes-lt256-clause-rows c none p t =
+    let o = rows_to_come _ _ _ _ _ (c.self.invariant.reading (ap (λ (v : HeaderLoaderValue). v.refused) c.self.view_is ∙ none)) p (sym c.is_behind_header.ensures ∙ c.if-is_behind_header.false)
+    (subst (λ (v : HeaderLoaderValue). HasRowsToCome v.fed p) (sym c.self.view_is) t) in
+    inl (omega (arith, o, c.least_longs.ensures.value, c.pending.ensures.value))
+
+pub returns-else-bytes-lt256-clause-rows : goal.returns-else-bytes-lt256-clause-rows
+returns-else-bytes-lt256-clause-rows c none p t =
+    let o = rows_to_come _ _ _ _ _ (c.self.invariant.reading (ap (λ (v : HeaderLoaderValue). v.refused) c.self.view_is ∙ none)) p (sym c.is_behind_header.ensures ∙ c.if-is_behind_header.false)
+    (subst (λ (v : HeaderLoaderValue). HasRowsToCome v.fed p) (sym c.self.view_is) t) in
+    inr (omega (arith, o, c.least_longs.ensures.value, c.pending.ensures.value))
+
+pub returns-then-is_behind_header-clause-rows : goal.returns-then-is_behind_header-clause-rows
+returns-then-is_behind_header-clause-rows c none p t =
+    let e = no_rows_to_come _ _ _ _ _ (c.self.invariant.reading (ap (λ (v : HeaderLoaderValue). v.refused) c.self.view_is ∙ none)) p (sym c.is_behind_header.ensures ∙ c.if-is_behind_header.true)
+    (subst (λ (v : HeaderLoaderValue). HasRowsToCome v.fed p) (sym c.self.view_is) t) in
+    inl (omega (arith, e))

@@ -1,0 +1,98 @@
+-- How much is to come of a header.
+use Rattle.std.proofs.Common.{◌≡◌, ℕ, ◌+◌, ◌*◌, ◌%◌, ◌≤◌, Bool, true, false, List, ◌++◌, length, get_or, refl, sym, ap, subst, ◌∙◌, arith, length-append}
+use Rattle.hunk_words.specs.Longs.{bytes_of, longs}
+use Rattle.hunk_words.proofs.LongLaws.{length-bytes_of}
+use Rattle.hunk_scan.specs.Positions.{is_behind_header, least_longs}
+use Rattle.hunk_files.specs.LoadText.{words}
+use Rattle.hunk_files.specs.FileSteps.{AtSizeWord, AtAttributes, AtBlock, InBody, Next, More, Finished}
+use Rattle.hunk_files.specs.ReaderPosition.{position_of, table_of}
+use Rattle.hunk_files.specs.WordsRead.{HasRead}
+use Rattle.hunk_files.proofs.FileProgress.{NextFits, read}
+use Rattle.hunk_files.proofs.Reading.{reads}
+use Rattle.hunk_files.specs.declared.row.Row.{Row}
+use Rattle.hunk_scatter.specs.declared.header_state.HeaderState.{HeaderState}
+use Rattle.hunk_scatter.specs.HeaderLoaderFields.{OpensFirst, HeaderReading}
+use Rattle.hunk_scatter.specs.HeaderOwing.{rows_owed, HasRowsToCome, HasHeaderToCome}
+use Rattle.hunk_scatter.proofs.HeaderLeast.{header_least, least_is, header_ends}
+use Rattle.hunk_scatter.proofs.HeaderTexts.{header_done, rows_read}
+use Rattle.hunk_scatter.proofs.Outcomes.{longs_are}
+
+-- the hunks declared are rows that are whole, and longwords that are owed
+hunks_declared : (n : Next) → NextFits n → is_behind_header (position_of n) ≡ false → get_or (words (read n)) 2 0 ≤ length (table_of n) + header_least n
+hunks_declared (More (AtSizeWord hunks done owed)) f e = omega (arith, f.counts)
+hunks_declared (More (AtAttributes hunks done word owed)) f e = omega (arith, f.0.counts)
+hunks_declared (More (AtBlock p)) f e = absurd cc
+hunks_declared (More (InBody p word x)) f e = absurd cc
+hunks_declared (Finished v) f e = absurd cc
+hunks_declared _ f e = omega arith
+
+-- Each row owed is a longword owed.
+rows_least : (n : Next) (ws : List ℕ) → HasRead ws n → OpensFirst n → rows_owed ws ≤ header_least n
+rows_least n ws h o = by_end (is_behind_header (position_of n)) refl
+  where
+    by_end : (b : Bool) → is_behind_header (position_of n) ≡ b → rows_owed ws ≤ header_least n
+    by_end true e =
+        let d = header_done ws (table_of n) (subst (λ (m : Next). HasRead ws m) (o e) h) in
+        omega (arith, ap (λ (xs : List ℕ). get_or xs 2 0) d.1, ap length (rows_read n ws h o))
+    by_end false e =
+        omega (
+          arith,
+          hunks_declared n (reads h).0 e,
+          ap (λ (xs : List ℕ). get_or xs 2 0) (sym h.all ∙ ap words (sym (reads h).1)),
+          ap length (rows_read n ws h o),
+        )
+
+-- Behind the header no longword of it is owed.
+none_owed : (n : Next) → is_behind_header (position_of n) ≡ true → header_least n ≡ 0
+none_owed (More (AtBlock p)) e = refl
+none_owed (More (InBody p word x)) e = refl
+none_owed (Finished v) e = refl
+none_owed _ e = absurd cc
+
+module _ (budget : ℕ) (rows : List Row) (s : HeaderState) (pending fed : List ℕ) (r : HeaderReading budget rows s pending fed) where
+  words_are : longs fed ≡ r.ws
+  words_are = longs_are r.ws r.has_read.next pending fed r.has_read.read r.few r.spelled
+
+  pending_is : length pending ≡ length fed % 4
+  pending_is = omega (arith, r.few, ap length r.spelled, length-append (bytes_of r.ws) pending, length-bytes_of r.ws)
+
+  rows_owed_least : rows_owed (longs fed) ≤ header_least r.has_read.next
+  rows_owed_least =
+      subst (λ (ws : List ℕ). rows_owed ws ≤ header_least r.has_read.next) (sym words_are)
+      (rows_least r.has_read.next r.ws r.has_read.read r.has_read.opens_first)
+
+  owed_least : (p : ℕ) (h : HasHeaderToCome fed p) → h.owed ≤ header_least r.has_read.next
+  owed_least p h =
+      let e = header_ends r.has_read.next r.ws r.has_read.read r.has_read.opens_first in
+      let fits = h.least e.table e.more e.is_table (e.begins ∙ ap (λ (ws : List ℕ). ws ++ e.more) (sym words_are)) in
+      omega (arith, fits, e.count)
+
+  module _ (p : ℕ) (more : is_behind_header s.position ≡ false) where
+    bytes_least : (owed : ℕ) → owed ≤ header_least r.has_read.next → p + length fed % 4 ≡ 4 * owed → p + length pending ≤ 4 * least_longs s.position
+    bytes_least owed least count =
+        omega (
+          arith,
+          least,
+          count,
+          pending_is,
+          least_is r.has_read.next (ap is_behind_header r.has_read.position_is ∙ more),
+          ap least_longs r.has_read.position_is,
+        )
+
+    -- What is to come is owed.
+    pub rows_to_come : HasRowsToCome fed p → p + length pending ≤ 4 * least_longs s.position
+    rows_to_come h = bytes_least (rows_owed (longs fed)) rows_owed_least h
+
+    pub header_to_come : HasHeaderToCome fed p → p + length pending ≤ 4 * least_longs s.position
+    header_to_come h = bytes_least h.owed (owed_least p h) h.count
+
+  module _ (p : ℕ) (done : is_behind_header s.position ≡ true) where
+    none_least : header_least r.has_read.next ≡ 0
+    none_least = none_owed r.has_read.next (ap is_behind_header r.has_read.position_is ∙ done)
+
+    -- At the end nothing is.
+    pub no_rows_to_come : HasRowsToCome fed p → p ≡ 0
+    no_rows_to_come h = omega (arith, h, rows_owed_least, none_least)
+
+    pub no_header_to_come : HasHeaderToCome fed p → p ≡ 0
+    no_header_to_come h = omega (arith, h.count, owed_least p h, none_least)
