@@ -2,7 +2,7 @@
 ghost use Rattle.std.specs.Prelude.{◌≡◌, ◌≤◌, ◌++◌, length, codes, decimal, OnOk};
 ghost use Rattle.hunk_listing.specs.SegmentLines.{dump, heading, row, segment_lines};
 
-use crate::text::{push_decimal, push_digits, push_hexadecimal};
+use crate::text::{push_decimal, push_hexadecimal, put_digits};
 use std::alloc::AllocError;
 
 /// How many bytes of a segment a row shows.
@@ -58,7 +58,9 @@ fn push_row(text: &mut Vec<u8>, bytes: &[u8]) -> Result<(), AllocError>
     requires { length bytes.now ≤ ROW }
     ensures { OnOk result (text.new.items ≡ text.old.items ++ row bytes.now) }
 {
-    text.extend_from_slice(b"  ")?;
-    push_digits(text, bytes)?;
-    text.extend_from_slice(b"\n")
+    let mut line = [b' '; 2 * ROW + 3];
+    let end = 2 + 2 * bytes.len();
+    put_digits(line.as_mut_slice(), 2, bytes);
+    line[end] = b'\n';
+    text.extend_from_slice(&line[..end + 1])
 }

@@ -1,5 +1,5 @@
 //! Numbers and names, appended to a text.
-ghost use Rattle.std.specs.Prelude.{◌≡◌, ◌≤◌, ◌++◌, length, codes, OnOk};
+ghost use Rattle.std.specs.Prelude.{◌≡◌, ◌≤◌, ◌+◌, ◌*◌, ◌++◌, length, take, drop, codes, OnOk};
 ghost use Rattle.hex.specs.Hex.{encode_lower};
 ghost use Rattle.hunk_words.specs.Longs.{longs};
 ghost use Rattle.hunk_listing.specs.Printed.{character, characters, hexadecimal, name_text};
@@ -8,9 +8,6 @@ use hunk_blocks::Payload;
 use itoa::{Buffer, Integer};
 use std::alloc::AllocError;
 
-/// How many bytes `push_digits` takes at most.
-pub(crate) const MOST_BYTES: usize = 16;
-
 /// Appends the number in decimal.
 pub(crate) fn push_decimal<N: Integer>(text: &mut Vec<u8>, number: N) -> Result<(), AllocError>
     ensures { OnOk result (text.new.items ≡ text.old.items ++ N.text number) }
@@ -18,24 +15,22 @@ pub(crate) fn push_decimal<N: Integer>(text: &mut Vec<u8>, number: N) -> Result<
     text.extend_from_slice(Buffer::new().format(number).as_bytes())
 }
 
-/// Appends two hexadecimal digits a byte.
-pub(crate) fn push_digits(text: &mut Vec<u8>, bytes: &[u8]) -> Result<(), AllocError>
-    requires { length bytes.now ≤ MOST_BYTES }
-    ensures { OnOk result (text.new.items ≡ text.old.items ++ encode_lower bytes.now) }
+/// Puts two hexadecimal digits a byte into the line, from `at` on.
+pub(crate) fn put_digits(line: &mut [u8], at: usize, bytes: &[u8])
+    requires { at + 2 * length bytes.now ≤ length line.old }
+    ensures { line.new ≡ take at line.old ++ encode_lower bytes.now ++ drop (at + 2 * length bytes.now) line.old }
 {
-    let mut digits = [0; 2 * MOST_BYTES];
-    let digits = &mut digits[..2 * bytes.len()];
     // The room is just that of the digits, so this cannot fail.
-    let _ = hex::encode_to_slice(bytes, digits);
-    text.extend_from_slice(digits)
+    let _ = hex::encode_to_slice(bytes, &mut line[at..at + 2 * bytes.len()]);
 }
 
 /// Appends `0x` and the number's eight hexadecimal digits.
 pub(crate) fn push_hexadecimal(text: &mut Vec<u8>, number: u32) -> Result<(), AllocError>
     ensures { OnOk result (text.new.items ≡ text.old.items ++ hexadecimal number) }
 {
-    text.extend_from_slice(b"0x")?;
-    push_digits(text, &number.to_be_bytes())
+    let mut digits = *b"0x00000000";
+    put_digits(digits.as_mut_slice(), 2, &number.to_be_bytes());
+    text.extend_from_slice(&digits)
 }
 
 /// Appends the name's text: its bytes before the first zero byte, of which those outside 0x20 to
@@ -65,6 +60,7 @@ fn push_character(text: &mut Vec<u8>, byte: u8) -> Result<(), AllocError>
     if matches!(byte, 0x20..=0x7E) && byte != b'\\' {
         return text.extend_from_slice(&[byte]);
     }
-    text.extend_from_slice(b"\\x")?;
-    push_digits(text, &[byte])
+    let mut digits = *b"\\x00";
+    put_digits(digits.as_mut_slice(), 2, &[byte]);
+    text.extend_from_slice(&digits)
 }
