@@ -27,3 +27,4 @@ pub mod Scatter
 pub mod Splice
 pub mod Splits
 pub mod Starting
+pub mod WholeLongs

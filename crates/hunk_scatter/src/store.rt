@@ -167,8 +167,8 @@ pub fn add_all(
     taken
 }
 
-/// Takes the offsets that lie whole in the piece, up to the last of their list or the first that is
-/// refused, and gives their number; `None` where none is expected.
+/// Takes the offsets that lie whole in the piece, up to the last but one of their list or to the
+/// first that is refused, and gives their number; `None` where there is none.
 pub fn take_offsets(
     store: &mut [u8],
     rows: &[Row],
@@ -177,6 +177,7 @@ pub fn take_offsets(
 ) -> Option<(BodyState, usize)>
     requires { IsInStore (words_of rows.now) (length store.old) state }
     ensures inside { IfSome result (λ r. 4 * r.1 ≤ length piece.now) }
+    ensures some { IfSome result (λ r. 0 < r.1) }
     ensures none { IfNone result (store.new ≡ store.old) }
     ensures offsets { IfSome result (λ r. TakesOffsets (words_of rows.now) (bases_of rows.now) state
         (take r.1 (longs piece.now)) store.old r.0 store.new) }
@@ -196,6 +197,9 @@ pub fn take_offsets(
     let declared = longs_of(rows, state.hunk);
     let base = base_of(rows, target);
     let taken = add_all(store, state.start, declared, base, piece, most);
+    if taken == 0 {
+        return None;
+    }
     let owed = owed - taken as u32;
     let position = Position::Body(hunk, Phase::Offset { target, owed });
     Some((BodyState { position, ..state }, taken))
