@@ -50,6 +50,7 @@ impl Model for BodyLoader {
 impl BodyLoader {
     /// Takes the longwords that lie whole in the piece, up to the end of the file or to one that is
     /// refused; nothing while a longword is gathered.
+    #[inline(always)]
     fn take_whole(&mut self, piece: &[u8]) -> Result<usize, LoadFault>
         requires room { length self.old.fed + length piece.now < 2 ^ 64 }
         requires reading { self.old.refused ≡ None }
@@ -85,6 +86,7 @@ impl BodyLoader {
     }
 
     /// Takes bytes up to the end of a longword or of the piece, unless the file is whole.
+    #[inline(never)]
     fn take_long(&mut self, piece: &[u8]) -> Result<usize, LoadFault>
         requires room { length self.old.fed + length piece.now < 2 ^ 64 }
         requires reading { self.old.refused ≡ None }
@@ -131,6 +133,7 @@ impl BodyLoader {
 
     /// Takes bytes of the piece, unless the file is whole: those of whole longwords, else up to the end
     /// of a longword.
+    #[inline(always)]
     fn take_part(&mut self, piece: &[u8]) -> Result<usize, LoadFault>
         requires room { length self.old.fed + length piece.now < 2 ^ 64 }
         requires reading { self.old.refused ≡ None }
@@ -157,6 +160,7 @@ impl BodyLoader {
     /// later. While a content, a name, a payload or a list of offsets is under way, what is still to
     /// come of it is wanted at once, up to 256 bytes. No longword that was fed is refused before
     /// `feed` refuses; where this is not 0 and the input ends here, the input is truncated.
+    #[inline(always)]
     pub fn want(&self) -> usize
         ensures bound { result ≤ 256 }
         ensures least { (v : LoadFileValue) (more : List ℕ) → IsLoadFile v
@@ -183,6 +187,7 @@ impl BodyLoader {
     ///
     /// A refusal is the first fault of all that was fed, this piece included, whatever the pieces
     /// before. It consumes nothing, and each later `feed` answers it again.
+    #[inline(always)]
     pub fn feed(&mut self, piece: &[u8]) -> Result<usize, LoadFault>
         requires { length self.old.fed + length piece.now < 2 ^ 64 }
         ensures rows { self.new.rows ≡ self.old.rows }

@@ -48,6 +48,7 @@ fn take_front(
 
 /// Takes the whole longwords of the piece, up to the end of the file or to one that is refused, and
 /// gives what they lead to, their number of bytes, and why the next is refused, where it is.
+#[inline(always)]
 pub fn take_longwords(
     store: &mut [u8],
     rows: &[Row],

@@ -24,6 +24,7 @@ pub fn put(store: &mut [u8], at: usize, word: u32)
 }
 
 /// Puts bytes at the offset.
+#[inline(never)]
 pub fn put_all(store: &mut [u8], at: usize, bytes: &[u8])
     requires { at + length bytes.now ≤ length store.old }
     ensures { store.new ≡ put_slice store.old at bytes.now }
@@ -49,6 +50,7 @@ pub fn base_of(rows: &[Row], hunk: u32) -> u32
 }
 
 /// What the loader does to its store at a longword that is not refused.
+#[inline(always)]
 pub fn store_word(store: &mut [u8], rows: &[Row], state: BodyState, word: u32)
     requires room { IsInStore (words_of rows.now) (length store.old) state }
     requires passes { refusal (words_of rows.now) state word ≡ None }
@@ -70,6 +72,7 @@ pub fn store_word(store: &mut [u8], rows: &[Row], state: BodyState, word: u32)
 
 /// Takes a longword, or tells why it is refused.
 #[tactic(auto, using(crate::proofs::BodyFields::few_words))]
+#[inline(always)]
 pub fn take_word(
     store: &mut [u8],
     rows: &[Row],
@@ -93,6 +96,7 @@ pub fn take_word(
 }
 
 /// How many bytes of a piece of so many are longwords of a run.
+#[inline(always)]
 pub fn run_bytes(position: Position, length: usize) -> usize
     ensures inside { result ≤ length }
     ensures fours { result % 4 ≡ 0 }
@@ -108,6 +112,7 @@ pub fn run_bytes(position: Position, length: usize) -> usize
 }
 
 /// Takes longwords of a run at once: those of a content are copied, and the others are passed over.
+#[inline(always)]
 pub fn take_run(store: &mut [u8], rows: &[Row], state: BodyState, bytes: &[u8]) -> BodyState
     requires room { IsInStore (words_of rows.now) (length store.old) state }
     requires fours { length bytes.now % 4 ≡ 0 }
@@ -141,6 +146,7 @@ pub fn next_word(assembler: &mut Assembler, piece: &[u8]) -> (usize, Option<u32>
 
 /// Adds to the longwords at so many offsets at most, up to the first that passes the end of a hunk of
 /// so many declared longs, and gives their number.
+#[inline(never)]
 pub fn add_all(
     store: &mut [u8],
     start: u64,
@@ -169,6 +175,7 @@ pub fn add_all(
 
 /// Takes the offsets that lie whole in the piece, up to the last but one of their list or to the
 /// first that is refused, and gives their number; `None` where there is none.
+#[inline(always)]
 pub fn take_offsets(
     store: &mut [u8],
     rows: &[Row],
@@ -188,6 +195,9 @@ pub fn take_offsets(
     let Phase::Offset { target, owed } = phase else {
         return None;
     };
+    if owed == 0 {
+        return None;
+    }
     let whole = piece.len() / 4;
     let most = if (owed as usize) < whole {
         owed as usize
