@@ -1,5 +1,5 @@
 -- What the fields of the loader of a body keep, and what they tell.
-use Rattle.std.proofs.Common.{◌≡◌, ℕ, ◌+◌, ◌-◌, ◌*◌, ◌/◌, ◌%◌, ◌^◌, ◌≤◌, ◌<◌, Bool, true, false, List, [], ◌∷◌, ◌++◌, length, map, take, drop, refl, sym, ap, ap₂, subst, ◌∙◌, append_assoc, append-nil, arith, length-append, length-take, drop_of_length-le, is_some, Option, ltb, None, Some}
+use Rattle.std.proofs.Common.{◌≡◌, ℕ, ◌+◌, ◌-◌, ◌*◌, ◌/◌, ◌^◌, ◌≤◌, ◌<◌, Bool, true, false, List, [], ◌∷◌, ◌++◌, length, map, take, drop, refl, sym, ap, ap₂, subst, ◌∙◌, append_assoc, append-nil, arith, length-append, drop_of_length-le, is_some, Option, ltb, None, Some}
 use Rattle.std.specs.List.{AllByRecursion}
 use Rattle.std.specs.Int.{w32, to_be_bytes}
 use Rattle.std.proofs.lemmas.List.{map-append, length-map, take_all, take_at, drop_at}
@@ -8,7 +8,7 @@ use Rattle.hunk_words.specs.declared.reason.Reason.{Reason}
 use Rattle.hunk_words.specs.declared.reason.Reason.TheVariants as reasons
 use Rattle.hunk_words.specs.declared.fault.Fault.{Fault}
 use Rattle.hunk_words.specs.Bits.{size_longs}
-use Rattle.hunk_words.specs.Longs.{bytes_of, longs, IsBytes, IsLong, AreLongs}
+use Rattle.hunk_words.specs.Longs.{bytes_of, longs, IsLong, AreLongs}
 use Rattle.hunk_files.specs.Fault.{HasRefusal, IsTruncated}
 use Rattle.hunk_files.specs.Image.{image}
 use Rattle.hunk_files.specs.LoadFile.{HunkValue, LoadFileValue, IsLoadFile}
@@ -32,11 +32,11 @@ use Rattle.hunk_files.specs.ReaderPosition.{position_of, IsBehindHeader}
 use Rattle.hunk_scatter.specs.declared.body_state.BodyState.{BodyState}
 use Rattle.hunk_scatter.specs.LoaderReasons.{is_of_body}
 use Rattle.std.specs.Prelude.{IsTrue}
-use Rattle.hunk_scatter.specs.StoreContent.{IsSized, stored_in, stored, stored_run, images, TakesOffsets}
+use Rattle.hunk_scatter.specs.StoreContent.{IsSized, stored_in, stored, images}
 use Rattle.hunk_scatter.specs.BodyLoaderFields.{Reading, BodyLoaderInvariant}
 use Rattle.hunk_scatter.specs.LoaderValues.{IsWholeFile, IsImageOf, HasNoRefusal, cut}
 use Rattle.hunk_scatter.specs.BodyReader.{sizes_of, state_of}
-use Rattle.hunk_scatter.specs.BodySteps.{longs_at, refusal, step_body, pass_body, IsInStore}
+use Rattle.hunk_scatter.specs.BodySteps.{longs_at, refusal, step_body, IsInStore}
 use Rattle.hunk_scatter.specs.Rows.{words_of, bases_of}
 use Rattle.hunk_scatter.proofs.Outcomes.{read_clean, read_truncated}
 use Rattle.hunk_scatter.proofs.ReadWords.{read_longs, text_longs}

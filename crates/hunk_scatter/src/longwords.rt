@@ -11,7 +11,35 @@ use crate::body_state::BodyState;
 use crate::history::History;
 use crate::store::{run_bytes, take_offsets, take_run, take_word};
 use hunk_files::Row;
+use hunk_scan::{Phase, Position};
 use hunk_words::{Reason, word_at};
+
+/// Takes the first longword of the piece, and gives what it leads to and its number of bytes.
+#[inline(always)]
+fn take_first(
+    store: &mut [u8],
+    rows: &[Row],
+    state: BodyState,
+    history: &History,
+    piece: &[u8],
+) -> Result<(BodyState, usize), Reason>
+    requires size { length store.old ≡ declared_bytes (entries_of rows.now) }
+    requires reading { Reading rows.now store.old state [] history.now.bytes }
+    requires more { is_done state.position ≡ false }
+    requires some { 4 ≤ length piece.now }
+    ensures some { IfOk result (λ r. 0 < r.1) }
+    ensures inside { IfOk result (λ r. r.1 ≤ length piece.now) }
+    ensures reading { IfOk result (λ r. Reading rows.now store.new r.0 [] (history.now.bytes ++ take r.1 piece.now)) }
+    ensures refusal { IfErr result (λ r. HasRefusal (history.now.bytes ++ piece.now) (length history.now.bytes) r) }
+    ensures own { IfErr result (λ r. IsTrue (is_of_body r)) }
+{
+    // The history is for the contract alone.
+    let _ = history;
+    match take_word(store, rows, state, word_at(piece, 0)) {
+        Ok(state) => Ok((state, 4)),
+        Err(reason) => Err(reason),
+    }
+}
 
 /// Takes longwords from the front of the piece, and gives what they lead to and their number of
 /// bytes: those of a run, or of a list of offsets, at once, and else one.
@@ -33,16 +61,18 @@ fn take_front(
     ensures refusal { IfErr result (λ r. HasRefusal (history.now.bytes ++ piece.now) (length history.now.bytes) r) }
     ensures own { IfErr result (λ r. IsTrue (is_of_body r)) }
 {
-    let run = run_bytes(state.position, piece.len());
-    if run > 0 {
-        return Ok((take_run(store, rows, state, &piece[..run]), run));
+    if state.position.run() > 0 {
+        let count = run_bytes(state.position, piece.len());
+        return Ok((take_run(store, rows, state, &piece[..count]), count));
     }
-    if let Some((next, count)) = take_offsets(store, rows, state, piece) {
-        return Ok((next, 4 * count));
-    }
-    match take_word(store, rows, state, word_at(piece, 0)) {
-        Ok(state) => Ok((state, 4)),
-        Err(reason) => Err(reason),
+    match state.position {
+        Position::Body(_, Phase::Offset { target: _, owed: _ }) => {
+            match take_offsets(store, rows, state, piece) {
+                Some((next, count)) => Ok((next, 4 * count)),
+                None => take_first(store, rows, state, history, piece),
+            }
+        }
+        _ => take_first(store, rows, state, history, piece),
     }
 }
 

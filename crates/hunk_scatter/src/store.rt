@@ -97,13 +97,14 @@ pub fn take_word(
 
 /// How many bytes of a piece of so many are longwords of a run.
 #[inline(always)]
-pub fn run_bytes(position: Position, length: usize) -> usize
-    ensures inside { result ≤ length }
+pub fn run_bytes(position: Position, count: usize) -> usize
+    ensures inside { result ≤ count }
     ensures fours { result % 4 ≡ 0 }
     ensures run { result ≤ 4 * run position }
+    ensures some { 4 ≤ count → 0 < run position → 0 < result }
 {
     let run = 4 * position.run();
-    let whole = length - length % 4;
+    let whole = count - count % 4;
     if (whole as u64) < run {
         whole
     } else {

@@ -1,4 +1,4 @@
-use Rattle.std.proofs.Common.{◌≡◌, ℕ, ◌++◌, ◌∙◌, List, [], length, take, subst, sym, arith}
+use Rattle.std.proofs.Common.{ℕ, ◌∙◌, List, [], subst, sym, arith}
 use Rattle.hunk_scatter.specs.BodyLoaderFields.{Reading}
 use Rattle.hunk_scatter.proofs.Faults.{fed_on, rest_within}
 use Rattle.hunk_scatter.proofs.longwords.take_longwords.Goals as goal

@@ -1,5 +1,4 @@
-use Rattle.std.proofs.Common.{length, ◌-◌, ◌≡◌, ◌≤◌, ◌<◌, ◌++◌, [], take, false}
-use Rattle.hunk_scan.specs.Positions.{is_done}
+use Rattle.std.proofs.Common.{length, ◌-◌, ◌≡◌, ◌≤◌, ◌++◌, [], take}
 use Rattle.hunk_scatter.specs.BodyLoaderFields.{Reading}
 use Rattle.hunk_scatter.proofs.longwords.take_longwords.Given as goal
 
