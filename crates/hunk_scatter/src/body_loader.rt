@@ -187,7 +187,7 @@ impl BodyLoader {
     ///
     /// A refusal is the first fault of all that was fed, this piece included, whatever the pieces
     /// before. It consumes nothing, and each later `feed` answers it again.
-    #[inline(always)]
+    #[inline(never)]
     pub fn feed(&mut self, piece: &[u8]) -> Result<usize, LoadFault>
         requires { length self.old.fed + length piece.now < 2 ^ 64 }
         ensures rows { self.new.rows ≡ self.old.rows }
