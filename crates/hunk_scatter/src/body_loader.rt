@@ -14,7 +14,7 @@ ghost use Rattle.hunk_scatter.specs.Rows.{entries_of};
 
 use crate::body_state::BodyState;
 use crate::history::History;
-use crate::image::Image;
+use crate::image::{Image, starts_of};
 use crate::longwords::take_longwords;
 use crate::store::{next_word, take_word};
 use hunk_files::Row;
@@ -269,6 +269,11 @@ impl BodyLoader {
             refused: _,
             history: _,
         } = self;
-        Ok(Image { rows, store })
+        let starts = starts_of(rows.as_slice());
+        Ok(Image {
+            rows,
+            store,
+            starts,
+        })
     }
 }
