@@ -15,6 +15,7 @@ pub enum Mode {
 
 impl Mode {
     /// Why this block word is refused, wherever the block stands.
+    #[inline(always)]
     pub fn refuse(self, word: BlockWord) -> Option<Reason>
         ensures { result ≡ refuse_alone_word self word }
     {
@@ -25,6 +26,7 @@ impl Mode {
     }
 
     /// Why a block of this kind is refused.
+    #[inline(always)]
     fn refuse_kind(self, advisory: bool, kind: Kind) -> Option<Reason>
         ensures { result ≡ refuse_alone_kind self advisory kind }
     {

@@ -71,6 +71,7 @@ impl OpenHunk {
     }
 
     /// Behind a block word.
+    #[inline(always)]
     fn begin(self, kind: Kind) -> Position
         ensures { result ≡ positions.begin self kind }
     {

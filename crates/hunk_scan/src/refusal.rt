@@ -82,6 +82,7 @@ fn refuse_first(word: u32) -> Option<Reason>
 
 /// A block word is refused wherever its block stands, or else for its place in the hunk.
 #[tactic(auto, using(crate::proofs::BlockWords::word_split))]
+#[inline(always)]
 fn refuse_block_word(has_content: bool, word: u32) -> Option<Reason>
     ensures { result ≡ refuse_word has_content word }
 {

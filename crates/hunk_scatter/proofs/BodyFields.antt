@@ -1,5 +1,5 @@
 -- What the fields of the loader of a body keep, and what they tell.
-use Rattle.std.proofs.Common.{◌≡◌, ℕ, ◌+◌, ◌-◌, ◌*◌, ◌/◌, ◌%◌, ◌^◌, ◌≤◌, ◌<◌, Bool, true, false, List, [], ◌∷◌, ◌++◌, length, map, take, drop, refl, sym, ap, ap₂, subst, ◌∙◌, append_assoc, append-nil, arith, length-append, length-take, drop_of_length-le, is_some, Option, ltb, None, Some}
+use Rattle.std.proofs.Common.{◌≡◌, ℕ, ◌+◌, ◌-◌, ◌*◌, ◌/◌, ◌^◌, ◌≤◌, ◌<◌, Bool, true, false, List, [], ◌∷◌, ◌++◌, length, map, take, drop, refl, sym, ap, ap₂, subst, ◌∙◌, append_assoc, append-nil, arith, length-append, drop_of_length-le, is_some, Option, ltb, None, Some}
 use Rattle.std.specs.List.{AllByRecursion}
 use Rattle.std.specs.Int.{w32, to_be_bytes}
 use Rattle.std.proofs.lemmas.List.{map-append, length-map, take_all, take_at, drop_at}
@@ -8,7 +8,7 @@ use Rattle.hunk_words.specs.declared.reason.Reason.{Reason}
 use Rattle.hunk_words.specs.declared.reason.Reason.TheVariants as reasons
 use Rattle.hunk_words.specs.declared.fault.Fault.{Fault}
 use Rattle.hunk_words.specs.Bits.{size_longs}
-use Rattle.hunk_words.specs.Longs.{bytes_of, longs, IsBytes, IsLong, AreLongs}
+use Rattle.hunk_words.specs.Longs.{bytes_of, longs, IsLong, AreLongs}
 use Rattle.hunk_files.specs.Fault.{HasRefusal, IsTruncated}
 use Rattle.hunk_files.specs.Image.{image}
 use Rattle.hunk_files.specs.LoadFile.{HunkValue, LoadFileValue, IsLoadFile}
@@ -32,15 +32,15 @@ use Rattle.hunk_files.specs.ReaderPosition.{position_of, IsBehindHeader}
 use Rattle.hunk_scatter.specs.declared.body_state.BodyState.{BodyState}
 use Rattle.hunk_scatter.specs.LoaderReasons.{is_of_body}
 use Rattle.std.specs.Prelude.{IsTrue}
-use Rattle.hunk_scatter.specs.StoreContent.{IsSized, stored_in, stored, stored_run, images, TakesOffsets}
+use Rattle.hunk_scatter.specs.StoreContent.{IsSized, stored_in, stored, images}
 use Rattle.hunk_scatter.specs.BodyLoaderFields.{Reading, BodyLoaderInvariant}
 use Rattle.hunk_scatter.specs.LoaderValues.{IsWholeFile, IsImageOf, HasNoRefusal, cut}
 use Rattle.hunk_scatter.specs.BodyReader.{sizes_of, state_of}
-use Rattle.hunk_scatter.specs.BodySteps.{longs_at, refusal, step_body, pass_body, IsInStore}
+use Rattle.hunk_scatter.specs.BodySteps.{longs_at, refusal, step_body, IsInStore}
 use Rattle.hunk_scatter.specs.Rows.{words_of, bases_of}
 use Rattle.hunk_scatter.proofs.Outcomes.{read_clean, read_truncated}
 use Rattle.hunk_scatter.proofs.ReadWords.{read_longs, text_longs}
-use Rattle.hunk_scatter.proofs.Runs.{length-run, read_run, read_offsets, none_over}
+use Rattle.hunk_scatter.proofs.Runs.{none_over}
 use Rattle.hunk_scatter.proofs.Splice.{length-put}
 use Rattle.hunk_scatter.proofs.OneByte.{Going, going, room, more_pending, more_read, refused_here, file_read, sizes_are, not_done}
 
@@ -108,25 +108,14 @@ module _ (rows : List Row) (store : List ℕ) (state : BodyState) (pending : Lis
           refused_here rows store state pending fed gone bytes w is gathers reason (count + n - 4)
           (omega (arith, h.counted, long, four_before)) no-pass
 
-    -- Longwords of a run are taken at once.
-    pub kept_run : (bytes : List ℕ) (n : ℕ) → pending ≡ [] → length bytes ≡ n → IsBytes bytes → n % 4 ≡ 0 → 0 < n → n ≤ 4 * run state.position →
-        BodyLoaderInvariant rows (stored_run state bytes store) (pass_body state (n / 4)) [] (count + n) refused (fed ++ bytes)
-    kept_run bytes n none_pending long are fours some fits = record {
+    -- Longwords that lie whole in a piece are taken at once.
+    pub kept_longwords : (store2 : List ℕ) (state2 : BodyState) (bytes : List ℕ) (n : ℕ) → length bytes ≡ n → length store2 ≡ length store →
+        Reading rows store2 state2 [] (fed ++ bytes) → BodyLoaderInvariant rows store2 state2 [] (count + n) refused (fed ++ bytes)
+    kept_longwords store2 state2 bytes n long same r = record {
       counted = omega (arith, h.counted, long, length-append fed bytes);
       hunks = h.hunks;
-      size = length-run (words_of rows) state.hunk state.start state.position bytes store in_room (omega (arith, long, fours, fits)) ∙ h.size;
-      reading = λ e. read_run rows store state fed bytes n (subst (λ (xs : List ℕ). Reading rows store state xs fed) none_pending (h.reading none)) in_room long are fours some fits;
-      own = h.own;
-    }
-
-    -- Offsets of a list are.
-    pub kept_offsets : (store2 piece : List ℕ) (state2 : BodyState) (n : ℕ) → pending ≡ [] → length store2 ≡ length store → IsBytes piece → 4 * n ≤ length piece →
-        TakesOffsets (words_of rows) (bases_of rows) state (take n (longs piece)) store state2 store2 → BodyLoaderInvariant rows store2 state2 [] (count + 4 * n) refused (fed ++ take (4 * n) piece)
-    kept_offsets store2 piece state2 n none_pending same are fits t = record {
-      counted = omega (arith, h.counted, fits, length-append fed (take (4 * n) piece), length-take (4 * n) piece);
-      hunks = h.hunks;
       size = same ∙ h.size;
-      reading = λ e. read_offsets rows store store2 state state2 fed piece n (subst (λ (xs : List ℕ). Reading rows store state xs fed) none_pending (h.reading none)) are fits t;
+      reading = λ e. r;
       own = h.own;
     }
 

@@ -1,14 +1,15 @@
 -- The declared bytes of a table, and of a front of it.
-use Rattle.std.proofs.Common.{◌≡◌, ℕ, zero, suc, ◌+◌, ◌*◌, ◌^◌, ◌<◌, ◌≤◌, List, [], ◌∷◌, ◌++◌, length, take, drop, get_or, Some, refl, sym, ap, ◌∙◌, arith}
+use Rattle.std.proofs.Common.{◌≡◌, ℕ, zero, suc, ◌+◌, ◌-◌, ◌*◌, ◌/◌, ◌^◌, ◌<◌, ◌≤◌, min, slice_index, List, [], ◌∷◌, ◌++◌, length, take, drop, get_or, Some, refl, sym, ap, ◌∙◌, arith}
 use Rattle.std.specs.List.{slice_get}
-use Rattle.std.proofs.lemmas.List.{drop-drop, length-map}
+use Rattle.std.proofs.lemmas.List.{drop-drop, length-map, map-append, take_min, drop_min}
+use Rattle.std.proofs.Math.Seq.{take-add}
 use Rattle.std.proofs.lemmas.List.Sums.{sum_by-cons, sum_by-append}
 use Rattle.hunk_words.specs.Bits.{size_longs}
 use Rattle.hunk_files.specs.LoadFile.{TableEntry}
 use Rattle.hunk_files.specs.Image.{declared_bytes}
 use Rattle.hunk_files.specs.declared.row.Row.{Row}
 use Rattle.hunk_scatter.specs.LoaderValues.{cut}
-use Rattle.hunk_scatter.specs.Rows.{entry_of, entries_of, words_of}
+use Rattle.hunk_scatter.specs.Rows.{AreStarts, entry_of, entries_of, words_of}
 
 pub declared-cons : (e : TableEntry) (table : List TableEntry) → declared_bytes (e ∷ table) ≡ 4 * size_longs e.word + declared_bytes table
 declared-cons e table = sum_by-cons (λ (x : TableEntry). 4 * size_longs x.word) e table
@@ -62,3 +63,40 @@ segment_within rows i start size d h e f = omega (arith, e, f, declared_take row
 
 pub table_fits : (rows : List Row) → length rows ≤ 65536 → declared_bytes (entries_of rows) < 2 ^ 49
 table_fits rows few = omega (arith, declared_limit (entries_of rows), length-map rows entry_of)
+
+-- the rows in front, and so many behind them
+pub declared_range : (rows : List Row) (a n : ℕ) → declared_bytes (entries_of (take (a + n) rows)) ≡ declared_bytes (entries_of (take a rows)) + declared_bytes (entries_of (take n (drop a rows)))
+declared_range rows a n =
+    ap (λ (xs : List Row). declared_bytes (entries_of xs)) (take-add a n rows)
+    ∙ ap declared_bytes (map-append entry_of (take a rows) (take n (drop a rows)))
+    ∙ declared-append (entries_of (take a rows)) (entries_of (take n (drop a rows)))
+
+-- Where the next segments begin, behind so many rows more at most.
+pub next_rows : (rows rest front behind : List Row) (a b m n total more : ℕ) → rest ≡ drop a rows → m ≡ min n (length rest) → front ≡ take m rest → behind ≡ drop m rest → a + n ≡ b →
+    total ≡ declared_bytes (entries_of (take a rows)) → more ≡ declared_bytes (entries_of front) → (behind ≡ drop b rows) × (total + more ≡ declared_bytes (entries_of (take b rows)))
+next_rows rows rest front behind a b m n total more e f g h s t u =
+    let taken : front ≡ take n (drop a rows) = g ∙ ap (λ (k : ℕ). take k rest) f ∙ take_min n rest ∙ ap (λ (xs : List Row). take n xs) e in
+    let left : behind ≡ drop (a + n) rows = h ∙ ap (λ (k : ℕ). drop k rest) f ∙ drop_min n rest ∙ ap (λ (xs : List Row). drop n xs) e ∙ drop-drop n a rows in (
+      left ∙ ap (λ (k : ℕ). drop k rows) s,
+      omega (
+        arith,
+        t,
+        u ∙ ap (λ (xs : List Row). declared_bytes (entries_of xs)) taken,
+        declared_range rows a n,
+        ap (λ (k : ℕ). declared_bytes (entries_of (take k rows))) s,
+      ),
+    )
+
+-- Where a segment begins, by the next start of the index before it.
+pub start_at : (rows : List Row) (starts : List ℕ) (i first more : ℕ) → AreStarts rows starts → i < 65536 → first ≡ 2048 * (i / 2048) →
+    more ≡ declared_bytes (entries_of (take (i - first) (drop first rows))) → slice_index starts (i / 2048) + more ≡ declared_bytes (entries_of (take i rows))
+start_at rows starts i first more h few e u =
+    let d : first + (i - first) ≡ i = omega (arith, e) in
+    omega (
+      arith,
+      h.start (i / 2048) (omega (arith, few)),
+      ap (λ (k : ℕ). declared_bytes (entries_of (take k rows))) e,
+      u,
+      declared_range rows first (i - first),
+      ap (λ (k : ℕ). declared_bytes (entries_of (take k rows))) d,
+    )

@@ -28,3 +28,4 @@ pub mod Scatter
 pub mod Splice
 pub mod Splits
 pub mod Starting
+pub mod WholeLongs

@@ -1,5 +1,6 @@
 -- The rows of a table: its entries, and where their hunks lie.
-use Rattle.std.specs.Prelude.{ℕ, List, map}
+use Rattle.std.specs.Prelude.{◌≡◌, ℕ, ◌*◌, ◌<◌, List, length, map, take, slice_index}
+use Rattle.hunk_files.specs.Image.{declared_bytes}
 use Rattle.hunk_files.specs.LoadFile.{TableEntry}
 use Rattle.hunk_files.specs.declared.row.Row.{Row}
 
@@ -19,3 +20,8 @@ words_of rows = map (λ r. r.word) rows
 
 abbrev pub bases_of : List Row → List ℕ
 bases_of rows = map (λ r. r.base) rows
+
+-- where the segment of each 2,048th hunk begins
+pub record AreStarts (rows : List Row) (starts : List ℕ) : Type 0 where
+  pub count : length starts ≡ 32
+  pub start : (k : ℕ) → k < 32 → slice_index starts k ≡ declared_bytes (entries_of (take (2048 * k) rows))

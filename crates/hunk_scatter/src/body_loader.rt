@@ -14,8 +14,9 @@ ghost use Rattle.hunk_scatter.specs.Rows.{entries_of};
 
 use crate::body_state::BodyState;
 use crate::history::History;
-use crate::image::Image;
-use crate::store::{next_word, run_bytes, take_offsets, take_run, take_word};
+use crate::image::{Image, starts_of};
+use crate::longwords::take_longwords;
+use crate::store::{next_word, take_word};
 use hunk_files::Row;
 use hunk_words::{Assembler, LoadFault};
 use std::marker::Model;
@@ -47,65 +48,45 @@ impl Model for BodyLoader {
 }
 
 impl BodyLoader {
-    /// Takes what lies in the piece of a content, or of what is passed over, in whole longwords, and
-    /// gives its number of bytes.
-    fn take_run(&mut self, piece: &[u8]) -> usize
+    /// Takes the longwords that lie whole in the piece, up to the end of the file or to one that is
+    /// refused; nothing while a longword is gathered.
+    #[inline(always)]
+    fn take_whole(&mut self, piece: &[u8]) -> Result<usize, LoadFault>
         requires room { length self.old.fed + length piece.now < 2 ^ 64 }
         requires reading { self.old.refused ≡ None }
         ensures rows { self.new.rows ≡ self.old.rows }
-        ensures taken { (result ≤ length piece.now) × (self.new.fed ≡ self.old.fed ++ take result piece.now) }
-        ensures none { result ≡ 0 → self.new ≡ self.old }
-        ensures complete { IsWholeFile self.old.rows self.old.fed → result ≡ 0 }
-        ensures goes_on { self.new.refused ≡ None }
+        ensures taken { IfOk result (λ n. (n ≤ length piece.now) × (self.new.fed ≡ self.old.fed ++ take n piece.now)) }
+        ensures none { result ≡ Ok 0 → self.new ≡ self.old }
+        ensures goes_on { OnOk result (self.new.refused ≡ None) }
+        ensures complete { IsWholeFile self.old.rows self.old.fed → result ≡ Ok 0 }
+        ensures refusal { IfErr result (λ f. HasRefusal (self.old.fed ++ piece.now) f.place f.reason) }
+        ensures own { IfErr result (λ f. IsTrue (is_of_body f.reason)) }
+        ensures remembers { IfErr result (λ f. self.new.refused ≡ Some f) }
     {
-        if self.assembler.pending() > 0 {
-            return 0;
+        if self.assembler.pending() > 0 || piece.len() < 4 || self.state.position.is_done() {
+            return Ok(0);
         }
-        let taken = run_bytes(self.state.position, piece.len());
-        if taken == 0 {
-            return 0;
-        }
-        let bytes = &piece[..taken];
-        self.state = take_run(
+        let (state, taken, refused) = take_longwords(
             self.store.as_mut_slice(),
             self.rows.as_slice(),
             self.state,
-            bytes,
-        );
-        self.count += taken as u64;
-        self.history = self.history.and(bytes);
-        taken
-    }
-
-    /// Takes what lies in the piece of a list of offsets, up to its last or to one that is refused,
-    /// and gives its number of bytes.
-    fn take_offsets(&mut self, piece: &[u8]) -> usize
-        requires room { length self.old.fed + length piece.now < 2 ^ 64 }
-        requires reading { self.old.refused ≡ None }
-        ensures rows { self.new.rows ≡ self.old.rows }
-        ensures taken { (result ≤ length piece.now) × (self.new.fed ≡ self.old.fed ++ take result piece.now) }
-        ensures complete { IsWholeFile self.old.rows self.old.fed → result ≡ 0 }
-        ensures goes_on { self.new.refused ≡ None }
-    {
-        if self.assembler.pending() > 0 || self.state.position.is_done() {
-            return 0;
-        }
-        let Some((state, count)) = take_offsets(
-            self.store.as_mut_slice(),
-            self.rows.as_slice(),
-            self.state,
+            &self.history,
             piece,
-        ) else {
-            return 0;
-        };
-        let taken = 4 * count;
+        );
+        if let Some(reason) = refused {
+            let place = self.count + taken as u64;
+            let fault = LoadFault { place, reason };
+            self.refused = Some(fault);
+            return Err(fault);
+        }
         self.state = state;
         self.count += taken as u64;
         self.history = self.history.and(&piece[..taken]);
-        taken
+        Ok(taken)
     }
 
     /// Takes bytes up to the end of a longword or of the piece, unless the file is whole.
+    #[inline(never)]
     fn take_long(&mut self, piece: &[u8]) -> Result<usize, LoadFault>
         requires room { length self.old.fed + length piece.now < 2 ^ 64 }
         requires reading { self.old.refused ≡ None }
@@ -150,8 +131,9 @@ impl BodyLoader {
         }
     }
 
-    /// Takes bytes of the piece, unless the file is whole: those of a run, else up to the end of a
-    /// longword.
+    /// Takes bytes of the piece, unless the file is whole: those of whole longwords, else up to the end
+    /// of a longword.
+    #[inline(always)]
     fn take_part(&mut self, piece: &[u8]) -> Result<usize, LoadFault>
         requires room { length self.old.fed + length piece.now < 2 ^ 64 }
         requires reading { self.old.refused ≡ None }
@@ -165,15 +147,11 @@ impl BodyLoader {
         ensures own { IfErr result (λ f. IsTrue (is_of_body f.reason)) }
         ensures remembers { IfErr result (λ f. self.new.refused ≡ Some f) }
     {
-        let run = self.take_run(piece);
-        if run > 0 {
-            return Ok(run);
+        match self.take_whole(piece) {
+            Ok(0) => self.take_long(piece),
+            Ok(taken) => Ok(taken),
+            Err(fault) => Err(fault),
         }
-        let offsets = self.take_offsets(piece);
-        if offsets > 0 {
-            return Ok(offsets);
-        }
-        self.take_long(piece)
     }
 
     /// How many bytes to read next, at most; 0 where nothing more is taken.
@@ -182,6 +160,7 @@ impl BodyLoader {
     /// later. While a content, a name, a payload or a list of offsets is under way, what is still to
     /// come of it is wanted at once, up to 256 bytes. No longword that was fed is refused before
     /// `feed` refuses; where this is not 0 and the input ends here, the input is truncated.
+    #[inline(always)]
     pub fn want(&self) -> usize
         ensures bound { result ≤ 256 }
         ensures least { (v : LoadFileValue) (more : List ℕ) → IsLoadFile v
@@ -208,6 +187,7 @@ impl BodyLoader {
     ///
     /// A refusal is the first fault of all that was fed, this piece included, whatever the pieces
     /// before. It consumes nothing, and each later `feed` answers it again.
+    #[inline(never)]
     pub fn feed(&mut self, piece: &[u8]) -> Result<usize, LoadFault>
         requires { length self.old.fed + length piece.now < 2 ^ 64 }
         ensures rows { self.new.rows ≡ self.old.rows }
@@ -289,6 +269,11 @@ impl BodyLoader {
             refused: _,
             history: _,
         } = self;
-        Ok(Image { rows, store })
+        let starts = starts_of(rows.as_slice());
+        Ok(Image {
+            rows,
+            store,
+            starts,
+        })
     }
 }

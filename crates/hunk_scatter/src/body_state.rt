@@ -17,6 +17,7 @@ pub struct BodyState {
 }
 
 /// The declared longs of a hunk.
+#[inline(always)]
 pub fn longs_of(rows: &[Row], hunk: u32) -> u32
     requires { hunk < length rows.now }
     ensures value { result ≡ longs_at (words_of rows.now) hunk }
@@ -38,6 +39,7 @@ impl BodyState {
     }
 
     /// The refusal of the next longword.
+    #[inline(always)]
     pub fn refuse(&self, rows: &[Row], word: u32) -> Option<Reason>
         requires { self.now.hunk < length rows.now }
         ensures refusal { result ≡ refusal (words_of rows.now) self.now word }
@@ -47,6 +49,7 @@ impl BodyState {
     }
 
     /// Behind a longword that is not refused.
+    #[inline(always)]
     pub fn step(self, rows: &[Row], word: u32) -> BodyState
         requires rows { length rows.now < 2 ^ 32 }
         requires room { (total : ℕ) × (total < 2 ^ 64) × IsInStore (words_of rows.now) total self }

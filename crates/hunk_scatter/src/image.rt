@@ -3,7 +3,7 @@ ghost use Rattle.std.specs.Prelude.{◌≡◌, ◌+◌, ◌*◌, ◌<◌, ◌≤
 ghost use Rattle.hunk_words.specs.Limits.{most_hunks};
 ghost use Rattle.hunk_files.specs.Image.{declared_bytes};
 ghost use Rattle.hunk_scatter.specs.LoaderValues.{cut};
-ghost use Rattle.hunk_scatter.specs.Rows.{entries_of, words_of, bases_of};
+ghost use Rattle.hunk_scatter.specs.Rows.{AreStarts, entries_of, words_of, bases_of};
 
 use crate::segments::Segments;
 use crate::store::base_of;
@@ -17,6 +17,7 @@ use std::marker::Model;
 pub struct Image {
     pub(crate) rows: Vec<Row>,
     pub(crate) store: Vec<u8>,
+    pub(crate) starts: [u64; 32],
 }
 
 impl Model for Image {
@@ -24,13 +25,14 @@ impl Model for Image {
     ghost use Rattle.std.specs.Prelude.{◌≡◌, ◌≤◌, length};
     ghost use Rattle.hunk_files.specs.Image.{declared_bytes};
     ghost use Rattle.hunk_scatter.specs.LoaderValues.{ImageValue, cut};
-    ghost use Rattle.hunk_scatter.specs.Rows.{entries_of, words_of};
+    ghost use Rattle.hunk_scatter.specs.Rows.{AreStarts, entries_of, words_of};
 
     ghost Value = { ImageValue };
 
     ghost view = { λ s. record { rows = s.rows.items; segments = cut (words_of s.rows.items) s.store.items } };
 
-    ghost invariant = { λ s. (length s.store.items ≡ declared_bytes (entries_of s.rows.items)) × (length s.rows.items ≤ most_hunks) };
+    ghost invariant = { λ s. (length s.store.items ≡ declared_bytes (entries_of s.rows.items)) × (length s.rows.items ≤ most_hunks)
+        × AreStarts s.rows.items s.starts };
 }
 
 /// Where the segment of a hunk begins: the declared bytes of the rows before it.
@@ -45,13 +47,35 @@ fn start_of(rows: &[Row]) -> u64
     bytes
 }
 
-fn segment_of<'a>(rows: &[Row], store: &'a [u8], i: usize) -> &'a [u8]
+/// Where the segment of each 2,048th hunk begins, in one pass.
+pub fn starts_of(rows: &[Row]) -> [u64; 32]
+    requires { length rows.now ≤ most_hunks }
+    ensures { AreStarts rows.now result }
+{
+    let mut starts = [0; 32];
+    let mut bytes = 0;
+    let mut rest = rows;
+    let mut k = 0;
+    'starts: while k < 32 {
+        starts[k] = bytes;
+        let (front, behind) = rest.split_at(2048usize.min(rest.len()));
+        bytes += start_of(front);
+        rest = behind;
+        k += 1;
+    }
+    starts
+}
+
+fn segment_of<'a>(rows: &[Row], starts: &[u64], store: &'a [u8], i: usize) -> &'a [u8]
     requires hunk { i < length rows.now }
     requires few { length rows.now ≤ most_hunks }
+    requires starts { AreStarts rows.now starts.now }
     requires size { length store.now ≡ declared_bytes (entries_of rows.now) }
     ensures { slice_get (cut (words_of rows.now) store.entry.now) i ≡ Some result.now }
 {
-    let start = start_of(&rows[..i]) as usize;
+    let first = i / 2048 * 2048;
+    let front = start_of(&rows[first..i]);
+    let start = (starts[i / 2048] + front) as usize;
     let row = rows[i];
     let bytes = row.size().bytes() as usize;
     &store[start..start + bytes]
@@ -81,13 +105,14 @@ impl Image {
         base_of(self.rows.as_slice(), i)
     }
 
-    /// The bytes of a hunk. It is found by summing the bytes of the hunks before it: for all hunks
-    /// take `segments`.
+    /// The bytes of a hunk. It is found by summing the bytes of at most 2,047 hunks: for all hunks take
+    /// `segments`.
     pub fn segment(&self, i: u32) -> &[u8]
         requires { i < length self.now.rows }
         ensures { slice_get self.now.segments i ≡ Some result.now }
     {
-        segment_of(self.rows.as_slice(), self.store.as_slice(), i as usize)
+        let rows = self.rows.as_slice();
+        segment_of(rows, &self.starts, self.store.as_slice(), i as usize)
     }
 
     /// The segments in turn, each with its row: for all hunks, in time linear in their number.

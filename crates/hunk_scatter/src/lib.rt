@@ -10,6 +10,7 @@ mod history;
 mod image;
 mod limits;
 mod loading;
+mod longwords;
 mod placer;
 mod segments;
 mod store;

@@ -24,6 +24,7 @@ use hunk_words::{LoadFault, Reason, Source};
 use std::alloc::Global;
 
 /// Reads a next piece of at most `want` bytes, where `count` were read before it.
+#[inline(always)]
 fn read_piece<R: Source>(
     r: &mut R,
     buf: &mut [u8],

@@ -24,6 +24,7 @@ pub fn put(store: &mut [u8], at: usize, word: u32)
 }
 
 /// Puts bytes at the offset.
+#[inline(never)]
 pub fn put_all(store: &mut [u8], at: usize, bytes: &[u8])
     requires { at + length bytes.now ≤ length store.old }
     ensures { store.new ≡ put_slice store.old at bytes.now }
@@ -49,6 +50,7 @@ pub fn base_of(rows: &[Row], hunk: u32) -> u32
 }
 
 /// What the loader does to its store at a longword that is not refused.
+#[inline(always)]
 pub fn store_word(store: &mut [u8], rows: &[Row], state: BodyState, word: u32)
     requires room { IsInStore (words_of rows.now) (length store.old) state }
     requires passes { refusal (words_of rows.now) state word ≡ None }
@@ -70,6 +72,7 @@ pub fn store_word(store: &mut [u8], rows: &[Row], state: BodyState, word: u32)
 
 /// Takes a longword, or tells why it is refused.
 #[tactic(auto, using(crate::proofs::BodyFields::few_words))]
+#[inline(always)]
 pub fn take_word(
     store: &mut [u8],
     rows: &[Row],
@@ -93,13 +96,15 @@ pub fn take_word(
 }
 
 /// How many bytes of a piece of so many are longwords of a run.
-pub fn run_bytes(position: Position, length: usize) -> usize
-    ensures inside { result ≤ length }
+#[inline(always)]
+pub fn run_bytes(position: Position, count: usize) -> usize
+    ensures inside { result ≤ count }
     ensures fours { result % 4 ≡ 0 }
     ensures run { result ≤ 4 * run position }
+    ensures some { 4 ≤ count → 0 < run position → 0 < result }
 {
     let run = 4 * position.run();
-    let whole = length - length % 4;
+    let whole = count - count % 4;
     if (whole as u64) < run {
         whole
     } else {
@@ -108,6 +113,7 @@ pub fn run_bytes(position: Position, length: usize) -> usize
 }
 
 /// Takes longwords of a run at once: those of a content are copied, and the others are passed over.
+#[inline(always)]
 pub fn take_run(store: &mut [u8], rows: &[Row], state: BodyState, bytes: &[u8]) -> BodyState
     requires room { IsInStore (words_of rows.now) (length store.old) state }
     requires fours { length bytes.now % 4 ≡ 0 }
@@ -141,6 +147,7 @@ pub fn next_word(assembler: &mut Assembler, piece: &[u8]) -> (usize, Option<u32>
 
 /// Adds to the longwords at so many offsets at most, up to the first that passes the end of a hunk of
 /// so many declared longs, and gives their number.
+#[inline(never)]
 pub fn add_all(
     store: &mut [u8],
     start: u64,
@@ -167,8 +174,9 @@ pub fn add_all(
     taken
 }
 
-/// Takes the offsets that lie whole in the piece, up to the last of their list or the first that is
-/// refused, and gives their number; `None` where none is expected.
+/// Takes the offsets that lie whole in the piece, up to the last but one of their list or to the
+/// first that is refused, and gives their number; `None` where there is none.
+#[inline(always)]
 pub fn take_offsets(
     store: &mut [u8],
     rows: &[Row],
@@ -177,6 +185,7 @@ pub fn take_offsets(
 ) -> Option<(BodyState, usize)>
     requires { IsInStore (words_of rows.now) (length store.old) state }
     ensures inside { IfSome result (λ r. 4 * r.1 ≤ length piece.now) }
+    ensures some { IfSome result (λ r. 0 < r.1) }
     ensures none { IfNone result (store.new ≡ store.old) }
     ensures offsets { IfSome result (λ r. TakesOffsets (words_of rows.now) (bases_of rows.now) state
         (take r.1 (longs piece.now)) store.old r.0 store.new) }
@@ -187,6 +196,9 @@ pub fn take_offsets(
     let Phase::Offset { target, owed } = phase else {
         return None;
     };
+    if owed == 0 {
+        return None;
+    }
     let whole = piece.len() / 4;
     let most = if (owed as usize) < whole {
         owed as usize
@@ -196,6 +208,9 @@ pub fn take_offsets(
     let declared = longs_of(rows, state.hunk);
     let base = base_of(rows, target);
     let taken = add_all(store, state.start, declared, base, piece, most);
+    if taken == 0 {
+        return None;
+    }
     let owed = owed - taken as u32;
     let position = Position::Body(hunk, Phase::Offset { target, owed });
     Some((BodyState { position, ..state }, taken))

@@ -78,6 +78,7 @@ impl BlockWord {
 
     /// The type, by the low 29 bits.
     #[tactic(auto, unfolding(crate::specs::Bits::kind))]
+    #[inline(always)]
     pub fn kind(self) -> Kind
         ensures { result ≡ kind self }
     {

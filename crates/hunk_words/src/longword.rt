@@ -4,6 +4,7 @@ ghost use Rattle.hunk_words.specs.Longs.{longs};
 
 /// The longword number `i` of the slice, counted from 0, high byte first.
 #[tactic(auto, using(crate::proofs::LongLaws::word_is))]
+#[inline(always)]
 pub fn word_at(bytes: &[u8], i: usize) -> u32
     requires { 4 * i + 4 ≤ length bytes.now }
     ensures { result ≡ slice_index (longs bytes.now) i }

@@ -1,0 +1,48 @@
+-- Longwords that lie whole in a piece of a body, taken one part after another.
+use Rattle.std.proofs.Common.{◌≡◌, ℕ, ◌*◌, ◌/◌, ◌%◌, ◌<◌, ◌≤◌, false, List, [], ◌∷◌, ◌++◌, length, take, get_or, None, Some, sym, ap, subst, ◌∙◌, arith, length-take}
+use Rattle.hunk_words.specs.declared.reason.Reason.{Reason}
+use Rattle.hunk_words.specs.Longs.{bytes_of, longs, IsBytes, IsLong}
+use Rattle.hunk_files.specs.Fault.{HasRefusal}
+use Rattle.hunk_files.specs.Image.{declared_bytes}
+use Rattle.hunk_files.specs.declared.row.Row.{Row}
+use Rattle.hunk_scan.specs.Positions.{is_done, run}
+use Rattle.hunk_scatter.specs.declared.body_state.BodyState.{BodyState}
+use Rattle.hunk_scatter.specs.BodyLoaderFields.{Reading}
+use Rattle.hunk_scatter.specs.BodySteps.{refusal, step_body, pass_body, IsInStore}
+use Rattle.hunk_scatter.specs.Rows.{entries_of, words_of, bases_of}
+use Rattle.hunk_scatter.specs.StoreContent.{stored, stored_run}
+use Rattle.hunk_scatter.proofs.Faults.{refusal_front}
+use Rattle.hunk_scatter.proofs.OneByte.{Going, going, room, more_read, refused_here}
+use Rattle.hunk_scatter.proofs.Runs.{read_run, take_bytes, in_place}
+
+module _ (rows : List Row) (store : List ℕ) (state : BodyState) (fed : List ℕ) (size : length store ≡ declared_bytes (entries_of rows)) (r : Reading rows store state [] fed) (more : is_done state.position ≡ false) where
+  gone : Going rows store state [] fed
+  gone = going rows store state [] fed r more
+
+  pub in_store : IsInStore (words_of rows) (length store) state
+  in_store = room rows store state [] fed gone size
+
+  -- those of a run
+  pub run_taken : (piece : List ℕ) (n : ℕ) → IsBytes piece → n ≤ length piece → n % 4 ≡ 0 → 0 < n → n ≤ 4 * run state.position →
+      Reading rows (stored_run state (take n piece) store) (pass_body state (length (take n piece) / 4)) [] (fed ++ take n piece)
+  run_taken piece n are inside fours some fits =
+      let long : length (take n piece) ≡ n = omega (arith, length-take n piece, inside) in
+      subst (λ (k : ℕ). Reading rows (stored_run state (take n piece) store) (pass_body state (k / 4)) [] (fed ++ take n piece)) (sym long)
+      (read_run rows store state fed (take n piece) n r in_store long (take_bytes piece n are) fours some fits)
+
+  -- the first alone
+  module _ (piece : List ℕ) (are : IsBytes piece) (four : 4 ≤ length piece) (w : ℕ) (is : IsLong w) (first : w ≡ get_or (longs piece) 0 0) where
+    spelled : take 4 piece ≡ bytes_of (w ∷ [])
+    spelled = in_place piece are four ∙ ap (λ (v : ℕ). bytes_of (v ∷ [])) (sym first)
+
+    pub word_taken : refusal (words_of rows) state w ≡ None → Reading rows (stored (bases_of rows) state w store) (step_body (words_of rows) state w) [] (fed ++ take 4 piece)
+    word_taken ok = more_read rows store state [] fed gone (take 4 piece) w is spelled ok
+
+    pub word_refused : (reason : Reason) → refusal (words_of rows) state w ≡ Some reason → HasRefusal (fed ++ piece) (length fed) reason
+    word_refused reason no-pass =
+        refusal_front fed piece 4 (length fed) reason
+        (refused_here rows store state [] fed gone (take 4 piece) w is spelled reason (length fed) (omega (arith, length-take 4 piece, four)) no-pass)
+
+pub read_as : (rows : List Row) (store store2 : List ℕ) (state state2 : BodyState) (fed : List ℕ) → store2 ≡ store → state2 ≡ state → Reading rows store state [] fed → Reading rows store2 state2 [] fed
+read_as rows store store2 state state2 fed e d r =
+    subst (λ (xs : List ℕ). Reading rows xs state2 [] fed) (sym e) (subst (λ (s : BodyState). Reading rows store s [] fed) (sym d) r)
