@@ -1,3 +1,4 @@
+use Rattle.hunk_blocks.proofs.BlockOutcome.{some_outcome, word_goes_on}
 use Rattle.hunk_blocks.proofs.OneBlockFault.{one_fault, no_block}
 use Rattle.hunk_blocks.proofs.laws.block_fault.Goals as goal
 
@@ -6,3 +7,9 @@ returns-clause-one c = one_fault
 
 pub returns-clause-none : goal.returns-clause-none
 returns-clause-none c = no_block
+
+pub returns-clause-some : goal.returns-clause-some
+returns-clause-some c = some_outcome
+
+pub returns-clause-complete : goal.returns-clause-complete
+returns-clause-complete c = word_goes_on
