@@ -26,8 +26,7 @@ use Rattle.hunk_blocks.proofs.Outcomes.{Keeps, run, front, judged, completed}
 -- ---- what is read so far
 
 -- a block word that is not refused, and what fits behind it
-pub record Inner (mode : Mode) (n : BlockNext) (ws : List ℕ) : Type 0 where
-  pub word : ℕ
+pub record Inner (mode : Mode) (n : BlockNext) (word : ℕ) (ws : List ℕ) : Type 0 where
   pub fits : IsLong word
   pub ok : refuse_alone_word mode word ≡ None
   pub inside : NextFits word n
@@ -36,46 +35,44 @@ pub record Inner (mode : Mode) (n : BlockNext) (ws : List ℕ) : Type 0 where
 module _ (mode : Mode) where
   abbrev SoFar : Alone → List ℕ → Type 0
   SoFar AtWord ws = ws ≡ []
-  SoFar (Behind n) ws = Inner mode n ws
+  SoFar (Behind n) ws = (word : ℕ) × Inner mode n word ws
 
   -- a word and a body that fits it
   block_is : (word : ℕ) (b : BlockBody) → IsLong word → refuse_alone_word mode word ≡ None → FitsWord word b → IsBlock (block word b) × IsOfMode mode (block word b)
   block_is word b l ok fits =
       let a = kind_admitted mode word ok in (record { word = l; bits = a.0; body = fits }, of_mode mode word b fits a.1)
 
-  pub expects_inside : (x : Inside) (ws : List ℕ) → Inner mode (Open x) ws → Expects (blocks mode) ws (part_of x)
-  expects_inside x ws h = let c = completes x in go c.parts c.body c.run (run_fits h.word (Open x) c.parts c.body h.inside c.go c.run)
+  pub expects_inside : (x : Inside) (word : ℕ) (ws : List ℕ) → Inner mode (Open x) word ws → Expects (blocks mode) ws (part_of x)
+  expects_inside x word ws h = let c = completes x in go c.parts c.body c.run (run_fits word (Open x) c.parts c.body h.inside c.go c.run)
     where
-      go : (ps : List (Part × ℕ)) (b : BlockBody) → Follows (Open x) ps (Whole b) → FitsWord h.word b × (body_parts b ≡ read_inside x ++ ps) → Expects (blocks mode) ws (part_of x)
+      go : (ps : List (Part × ℕ)) (b : BlockBody) → Follows (Open x) ps (Whole b) → FitsWord word b × (body_parts b ≡ read_inside x ++ ps) → Expects (blocks mode) ws (part_of x)
       go [] b run k = absurd cc
       go (p ∷ ps) b run k =
           let part : ◌≡◌ {A = Part × ℕ} p (part_of x, p.1) = λ i. (sym run.0 i, p.1) in
           record {
-            value = block h.word b;
-            is = block_is h.word b h.fits h.ok k.0;
-            done = (parts.BlockWord, h.word) ∷ read_inside x;
+            value = block word b;
+            is = block_is word b h.fits h.ok k.0;
+            done = (parts.BlockWord, word) ∷ read_inside x;
             word = p.1;
             more = ps;
-            labels = ap (λ l. (parts.BlockWord, h.word) ∷ l) (k.1 ∙ ap (λ (q : Part × ℕ). read_inside x ++ q ∷ ps) part);
+            labels = ap (λ l. (parts.BlockWord, word) ∷ l) (k.1 ∙ ap (λ (q : Part × ℕ). read_inside x ++ q ∷ ps) part);
             begins = sym h.words_are;
           }
 
-  pub steps_inside : (x : Inside) (ws : List ℕ) (w : ℕ) → Inner mode (Open x) ws → IsLong w → refuse_inside (part_of x) w ≡ None → Inner mode (step_inside x w) (ws ++ w ∷ [])
-  steps_inside x ws w h l ok =
+  pub steps_inside : (x : Inside) (word : ℕ) (ws : List ℕ) (w : ℕ) → Inner mode (Open x) word ws → IsLong w → refuse_inside (part_of x) w ≡ None → Inner mode (step_inside x w) word (ws ++ w ∷ [])
+  steps_inside x word ws w h l ok =
       record {
-        word = h.word;
         fits = h.fits;
         ok = h.ok;
-        inside = step_fits h.word x w h.inside l ok;
+        inside = step_fits word x w h.inside l ok;
         words_are =
             ap (λ ys. ys ++ w ∷ []) h.words_are
-            ∙ ap (λ ys. h.word ∷ ys) (sym (words-append (read_inside x) ((part_of x, w) ∷ [])) ∙ sym (ap words (step_reads h.word x w h.inside ok)));
+            ∙ ap (λ ys. word ∷ ys) (sym (words-append (read_inside x) ((part_of x, w) ∷ [])) ∙ sym (ap words (step_reads word x w h.inside ok)));
       }
 
-  pub begins_inside : (w : ℕ) → IsLong w → refuse_alone_word mode w ≡ None → Inner mode (begin (kind w)) (w ∷ [])
+  pub begins_inside : (w : ℕ) → IsLong w → refuse_alone_word mode w ≡ None → Inner mode (begin (kind w)) w (w ∷ [])
   begins_inside w l ok =
       record {
-        word = w;
         fits = l;
         ok = ok;
         inside = begin_fits mode w (kind w) refl (kind_admitted mode w ok).1;
@@ -91,22 +88,22 @@ module _ (mode : Mode) where
           subst (Expects (blocks mode) before) same (subst (λ ws. Expects (blocks mode) ws parts.BlockWord) (sym h) (expects_word mode))
       expected (Behind (Open x)) before role h e =
           let same : part_of x ≡ role = cc in
-          subst (Expects (blocks mode) before) same (expects_inside x before h)
+          subst (Expects (blocks mode) before) same (expects_inside x h.0 before h.1)
       expected (Behind (Whole b)) before role h e = absurd cc
 
       go : (s : Alone) (before : List ℕ) (role : Part) (w : ℕ) → SoFar s before → alone.expects s ≡ Some role → IsLong w → refuse_alone mode role w ≡ None → SoFar (alone.step s w) (before ++ w ∷ [])
       go AtWord before role w h e l ok =
           let same : parts.BlockWord ≡ role = cc in
-          subst (λ ws. Inner mode (begin (kind w)) (ws ++ w ∷ [])) (sym h) (begins_inside w l (ap (λ (r : Part). refuse_alone mode r w) same ∙ ok))
+          (w, subst (λ ws. Inner mode (begin (kind w)) w (ws ++ w ∷ [])) (sym h) (begins_inside w l (ap (λ (r : Part). refuse_alone mode r w) same ∙ ok)))
       go (Behind (Open x)) before role w h e l ok =
           let same : part_of x ≡ role = cc in
-          steps_inside x before w h l (sym (alone_inside mode (part_of x) w (part_not_word x)) ∙ ap (λ (r : Part). refuse_alone mode r w) same ∙ ok)
+          (h.0, steps_inside x h.0 before w h.1 l (sym (alone_inside mode (part_of x) w (part_not_word x)) ∙ ap (λ (r : Part). refuse_alone mode r w) same ∙ ok))
       go (Behind (Whole b)) before role w h e l ok = absurd cc
 
       ended : (s : Alone) (before : List ℕ) → SoFar s before → alone.expects s ≡ None → (v : BlockValue) × (IsBlock v × IsOfMode mode v) × (words (block_parts v) ≡ before)
       ended AtWord before h e = absurd cc
       ended (Behind (Open x)) before h e = absurd cc
-      ended (Behind (Whole b)) before h e = (block h.word b, block_is h.word b h.fits h.ok h.inside, sym h.words_are)
+      ended (Behind (Whole b)) before h e = (block h.0 b, block_is h.0 b h.1.fits h.1.ok h.1.inside, sym h.1.words_are)
 
 -- ---- the laws
 

@@ -40,6 +40,8 @@ module _ {Value State Role : Type 0} (g : Grammar Value Role) (m : Machine State
 
   -- a text in front, behind which nothing is expected
   pub record Ends (ws : List ℕ) : Type 0 where
+    pub state : State
+    pub stops : m.expects state ≡ None
     pub value : Value
     pub is : g.Is value
     pub rest : List ℕ
@@ -69,7 +71,7 @@ module _ {Value State Role : Type 0} (g : Grammar Value Role) (m : Machine State
 
       by_role : (o : Option Role) → m.expects s ≡ o → Judged (run m s (w ∷ ws)) (before ++ w ∷ ws)
       by_role (Some role) e = by_test role e (g.refuse role w) refl
-      by_role None e = let v = k.ends s before h e in inl (record { value = v.0; is = v.1; rest = w ∷ ws; split = ap (λ ys. ys ++ w ∷ ws) (sym v.2) })
+      by_role None e = let v = k.ends s before h e in inl (record { state = s; stops = e; value = v.0; is = v.1; rest = w ∷ ws; split = ap (λ ys. ys ++ w ∷ ws) (sym v.2) })
 
   judged_from : (s : State) (before ws : List ℕ) → k.SoFar s before → AreLongs ws → Judged (run m s ws) (before ++ ws)
   judged_from s before [] h l = inr (inr (subst (k.SoFar s) (sym (append-nil before)) h))
