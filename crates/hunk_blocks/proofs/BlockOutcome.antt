@@ -38,7 +38,7 @@ module _ (mode : Mode) where
   SoFar (Behind n) ws = (word : ℕ) × Inner mode n word ws
 
   -- a word and a body that fits it
-  block_is : (word : ℕ) (b : BlockBody) → IsLong word → refuse_alone_word mode word ≡ None → FitsWord word b → IsBlock (block word b) × IsOfMode mode (block word b)
+  pub block_is : (word : ℕ) (b : BlockBody) → IsLong word → refuse_alone_word mode word ≡ None → FitsWord word b → IsBlock (block word b) × IsOfMode mode (block word b)
   block_is word b l ok fits =
       let a = kind_admitted mode word ok in (record { word = l; bits = a.0; body = fits }, of_mode mode word b fits a.1)
 

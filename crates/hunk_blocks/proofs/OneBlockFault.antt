@@ -14,7 +14,7 @@ use Rattle.hunk_blocks.specs.Values.{RelocGroup, SymbolEntry, ExtEntry, BlockBod
 use Rattle.hunk_blocks.specs.Parts.{Part, Part as parts, each, group_parts, symbol_parts, ext_parts, ext_parts_by, body_parts}
 use Rattle.hunk_blocks.specs.Modes.{refuse_inside, refuse_shape}
 use Rattle.hunk_blocks.specs.Begins.{BeginsWithNoBlock}
-use Rattle.hunk_blocks.specs.Faults.{HasBlockFault, blocks, refuse_alone}
+use Rattle.hunk_blocks.specs.Faults.{HasBlockFault, HasRefusal, IsTruncatedBlock, blocks, refuse_alone}
 use Rattle.hunk_blocks.proofs.Admitted.{word_passes}
 use Rattle.hunk_blocks.proofs.BlockLongs.{block_longs}
 use Rattle.hunk_blocks.specs.BlockSteps.{ForName, ForDebug, ForAdvisory, Inside, AtCount, BlockNext, Open, Whole, part_of, step_inside, begin, Follows}
@@ -141,10 +141,13 @@ block_reads mode =
 
 -- ---- the laws
 
+pub not_truncated : (mode : Mode) (bytes : List ℕ) (at : ℕ) (reason : Reason) (at2 : ℕ) → HasRefusal (blocks mode) (longs bytes) at reason → IsTruncatedBlock mode bytes at2 → ⊥
+not_truncated mode bytes at reason at2 h k = front_passes (blocks mode) alone (block_reads mode) (longs bytes) at reason h k.front
+
 pub one_fault : (mode : Mode) (bytes : List ℕ) (at at2 : ℕ) (reason reason2 : Reason) → HasBlockFault mode bytes at reason → HasBlockFault mode bytes at2 reason2 → (at ≡ at2) × (reason ≡ reason2)
 one_fault mode bytes at at2 reason reason2 (inl h) (inl k) = one_refusal (blocks mode) alone (block_reads mode) (longs bytes) at at2 reason reason2 h k
-one_fault mode bytes at at2 reason reason2 (inl h) (inr k) = absurd (front_passes (blocks mode) alone (block_reads mode) (longs bytes) at reason h k.1.front)
-one_fault mode bytes at at2 reason reason2 (inr h) (inl k) = absurd (front_passes (blocks mode) alone (block_reads mode) (longs bytes) at2 reason2 k h.1.front)
+one_fault mode bytes at at2 reason reason2 (inl h) (inr k) = absurd (not_truncated mode bytes at reason at2 h k.1)
+one_fault mode bytes at at2 reason reason2 (inr h) (inl k) = absurd (not_truncated mode bytes at2 reason2 at k h.1)
 one_fault mode bytes at at2 reason reason2 (inr h) (inr k) = (h.1.place ∙ sym k.1.place, h.0 ∙ sym k.0)
 
 pub no_block : (mode : Mode) (bytes : List ℕ) (at : ℕ) (reason : Reason) → HasBlockFault mode bytes at reason → BeginsWithNoBlock mode bytes

@@ -17,6 +17,8 @@ pub mod Least
 pub mod Memory
 pub mod Positions
 mod ObjectDecoding
+mod ObjectOutcome
+mod ObjectProgress
 pub mod ObjectText
 mod ObjectWriting
 pub mod OffsetLists

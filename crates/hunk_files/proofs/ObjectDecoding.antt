@@ -201,7 +201,7 @@ All-more P [] x h k = (k, tt)
 All-more P (y ∷ xs) x h k = (h.0, All-more P xs x h.1 k)
 
 -- what may stand here leads on, unless it is END
-leads_one : (has : Bool) (s : Standing) → refuse_standing has s ≡ None → is_ending s ≡ false → Leads has (s ∷ []) (has || is_content s)
+pub leads_one : (has : Bool) (s : Standing) → refuse_standing has s ≡ None → is_ending s ≡ false → Leads has (s ∷ []) (has || is_content s)
 leads_one true Beside ok no_end = refl
 leads_one false Beside ok no_end = refl
 leads_one true Content ok no_end = absurd cc
@@ -211,7 +211,7 @@ leads_one false Relocating ok no_end = absurd cc
 leads_one true Ending ok no_end = absurd cc
 leads_one false Ending ok no_end = absurd cc
 
-leads_more : (a b c : Bool) (xs ys : List Standing) → Leads a xs b → Leads b ys c → Leads a (xs ++ ys) c
+pub leads_more : (a b c : Bool) (xs ys : List Standing) → Leads a xs b → Leads b ys c → Leads a (xs ++ ys) c
 leads_more a b c [] ys h k = subst (λ (x : Bool). Leads x ys c) (sym h) k
 leads_more true b c (Beside ∷ xs) ys h k = leads_more true b c xs ys h k
 leads_more false b c (Beside ∷ xs) ys h k = leads_more false b c xs ys h k
@@ -233,7 +233,7 @@ leads_end false b (Relocating ∷ xs) ys h k = absurd h
 leads_end true b (Ending ∷ xs) ys h k = absurd h
 leads_end false b (Ending ∷ xs) ys h k = absurd h
 
-end_stands : (has : Bool) (s : Standing) → refuse_standing has s ≡ None → is_ending s ≡ true → AreInOrder has (s ∷ [])
+pub end_stands : (has : Bool) (s : Standing) → refuse_standing has s ≡ None → is_ending s ≡ true → AreInOrder has (s ∷ [])
 end_stands true Ending ok e = refl
 end_stands false Ending ok e = absurd cc
 end_stands true Beside ok e = absurd cc
