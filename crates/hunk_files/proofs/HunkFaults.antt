@@ -24,12 +24,13 @@ use Rattle.hunk_blocks.proofs.BlockText.{body_follows}
 use Rattle.hunk_blocks.proofs.BodyFaults.{end_block, end_is}
 use Rattle.hunk_blocks.proofs.FaultLaws.{Embeds, ahead_embedded, expects_embedded, embeds_same, relabel, same-labels, words-relabel}
 use Rattle.hunk_blocks.proofs.Lists.{All-append, passes_else, passes_then}
-use Rattle.hunk_blocks.proofs.OneBlockFault.{part_not_word}
+use Rattle.hunk_blocks.proofs.OneBlockFault.{alone_inside, part_not_word}
 use Rattle.hunk_files.specs.LoadFile.{standing, AreInOrder}
 use Rattle.hunk_scan.specs.Standings.{Standing, Beside, Content, Relocating, Ending, is_content, refuse_standing, standing_of_kind, first_of}
 use Rattle.hunk_files.specs.ObjectFile.{ObjectHunk, unit_word}
 use Rattle.hunk_files.specs.ObjectParts.{BeginsWithText}
-use Rattle.hunk_files.specs.ObjectFault.{WordPlace, BeforeUnits, BetweenHunks, InHunk, ObjectRole, WordAt, has_content, behind_block, role_at, block_labelled, blocks_labelled, refuse_unit, refuse_place, refuse_word, refuse_object, blocks_from, unread, MayGoOn}
+use Rattle.hunk_files.specs.ObjectFault.{WordPlace, BeforeUnits, BetweenHunks, InHunk, ObjectRole, WordAt, has_content, behind_block, role_at, block_labelled, blocks_labelled, refuse_unit, refuse_word, refuse_object, blocks_from, unread, MayGoOn}
+use Rattle.hunk_files.proofs.ObjectWords.{refuse_place, within_role, within_split, word_split}
 use Rattle.hunk_files.proofs.ObjectDecoding.{HunkSoFar, Leads, leads_end, hunk_longs, standings, standing_is, text_words, text_size}
 
 -- ---- parts of the input
@@ -156,7 +157,7 @@ unit_alone = refl
 -- The tests of a block word that is no UNIT between hunks.
 refuse_here : (place : WordPlace) (has : Bool) (bytes rest : List ℕ) (w : ℕ) (reason : Reason) → MayGoOn place has bytes → longs bytes ≡ w ∷ rest → first_of (refuse_alone_word modes.Object w) (refuse_standing has (standing_of_kind (kind w))) ≡ Some reason →
     refuse_word place w ≡ Some reason
-refuse_here place has bytes rest w reason m e refused = go place m (eqb w unit_word) refl
+refuse_here place has bytes rest w reason m e refused = word_split place w ∙ go place m (eqb w unit_word) refl
   where
     first : first_long bytes ≡ w
     first = ap (λ ws. get_or ws 0 0) e
@@ -229,19 +230,8 @@ no_second_word (Whole b) [] more part w end h e = absurd h
 no_second_word (Whole b) (p ∷ ps) more part w end h e = absurd h
 
 refused_within : (place : WordPlace) (part : Part) (w : ℕ) (reason : Reason) → part ≢ parts.BlockWord → refuse_alone modes.Object part w ≡ Some reason → refuse_object (role_at place part) w ≡ Some reason
-refused_within place parts.BlockWord w reason ne h = absurd (ne refl)
-refused_within place parts.ContentSize w reason ne h = h
-refused_within place parts.NameCount w reason ne h = h
-refused_within place parts.LongCount w reason ne h = h
-refused_within place parts.Payload w reason ne h = h
-refused_within place parts.GroupCount w reason ne h = h
-refused_within place parts.Target w reason ne h = h
-refused_within place parts.Offset w reason ne h = h
-refused_within place parts.EntryWord w reason ne h = h
-refused_within place parts.ExtWord w reason ne h = h
-refused_within place parts.EntryName w reason ne h = h
-refused_within place parts.EntryValue w reason ne h = h
-refused_within place parts.OffsetCount w reason ne h = h
+refused_within place part w reason ne h =
+    ap (λ (r : ObjectRole). refuse_object r w) (within_role place part ne) ∙ within_split part w ∙ sym (alone_inside modes.Object part w ne) ∙ h
 
 module _ (place : WordPlace) (w : ℕ) (ok : refuse_standing (has_content place) (standing_of_kind (kind w)) ≡ None) where
   -- a block with this word may stand here

@@ -20,6 +20,7 @@ mod ObjectDecoding
 mod ObjectOutcome
 mod ObjectProgress
 pub mod ObjectText
+mod ObjectWords
 mod ObjectWriting
 pub mod OffsetLists
 pub mod Peel

@@ -21,10 +21,11 @@ use Rattle.hunk_blocks.proofs.OneBlockFault.{part_not_word}
 use Rattle.hunk_files.specs.LoadFile.{standing, AreInOrder}
 use Rattle.hunk_scan.specs.Standings.{Standing, Beside, Content, Relocating, Ending, is_content, is_ending, refuse_standing, standing_of_kind, first_of}
 use Rattle.hunk_files.specs.ObjectFile.{ObjectHunk, UnitValue, ObjectFileValue, IsObjectFile, IsObjectHunk, IsUnit, unit_word, unit_header, unit_text, object_text}
-use Rattle.hunk_files.specs.ObjectFault.{WordPlace, BeforeUnits, BetweenHunks, InHunk, ObjectRole, WordAt, UnitCount, UnitName, Within, has_content, behind_block, role_at, refuse_unit, refuse_place, refuse_word, refuse_object, blocks_from, units_from, objects}
+use Rattle.hunk_files.specs.ObjectFault.{WordPlace, BeforeUnits, BetweenHunks, InHunk, ObjectRole, WordAt, UnitCount, UnitName, Within, has_content, behind_block, role_at, refuse_unit, refuse_word, refuse_object, blocks_from, units_from, objects}
 use Rattle.hunk_files.proofs.HunkFaults.{blocks_at, expects_block, expects_word, expects_within, expects_behind, place_behind, opened}
 use Rattle.hunk_files.proofs.ObjectDecoding.{Leads, leads_one, leads_more, leads_end, end_stands, standings, standing_is}
-use Rattle.hunk_files.proofs.OneObjectFault.{ObjectState, AtWord, AtCount, InName, InBlock, place_next, in_block, behind_name, reader, within_role}
+use Rattle.hunk_files.proofs.OneObjectFault.{ObjectState, AtWord, AtCount, InName, InBlock, place_next, in_block, behind_name, reader}
+use Rattle.hunk_files.proofs.ObjectWords.{refuse_place, within_role, within_split, word_split}
 use Rattle.hunk_files.proofs.UnitFaults.{place_after, one_unit, one_is, expects_unit, expects_count, expects_hunk, expects_units}
 use Rattle.hunk_files.proofs.UnitReading.{unit}
 
@@ -275,7 +276,7 @@ block_begins BetweenHunks ws w h l alone ok = in_block_so_far BetweenHunks (ws +
 block_begins (InHunk has) ws w h l alone ok = in_block_so_far (InHunk has) (ws ++ w ∷ []) (w ∷ []) w (begin (kind w)) (read_more (InHunk has) ws [] w h) (begins_inside modes.Object w l alone) ok
 
 word_goes_on : (place : WordPlace) (ws : List ℕ) (w : ℕ) → SoFarAt place ws → IsLong w → refuse_word place w ≡ None → SoFar (reader.step (AtWord place) w) (ws ++ w ∷ [])
-word_goes_on place ws w h l ok = go (eqb w unit_word) refl ok
+word_goes_on place ws w h l ok = go (eqb w unit_word) refl (sym (word_split place w) ∙ ok)
   where
     goes : ObjectState
     goes = in_block (place_next place (standing_of_kind (kind w))) (begin (kind w))
@@ -362,4 +363,4 @@ goes_on AtCount before role w h e l ok =
 goes_on (InName owed) before role w h e l ok = name_goes_on owed before w h l
 goes_on (InBlock next x) before role w h e l ok =
     let same : Within (part_of x) ≡ role = cc in
-    inside_goes_on next x before w h l (ap (λ (r : ObjectRole). refuse_object r w) same ∙ ok)
+    inside_goes_on next x before w h l (sym (within_split (part_of x) w) ∙ ap (λ (r : ObjectRole). refuse_object r w) same ∙ ok)

@@ -9,7 +9,7 @@ use Rattle.hunk_words.specs.Bits.{kind}
 use Rattle.hunk_words.specs.Longs.{longs}
 use Rattle.hunk_blocks.specs.declared.mode.Mode.TheVariants as modes
 use Rattle.hunk_blocks.specs.Values.{BlockBody, BlockValue, IsBlock}
-use Rattle.hunk_blocks.specs.Parts.{Part, Part as parts, body_parts}
+use Rattle.hunk_blocks.specs.Parts.{Part, body_parts}
 use Rattle.hunk_blocks.specs.Faults.{HasRefusal}
 use Rattle.hunk_blocks.proofs.Admitted.{word_passes}
 use Rattle.hunk_blocks.specs.BlockSteps.{Inside, BlockNext, Open, Whole, part_of, step_inside, begin, Follows}
@@ -21,8 +21,9 @@ use Rattle.hunk_blocks.proofs.OneBlockFault.{PartsPass, body_passes, part_not_wo
 use Rattle.hunk_files.specs.LoadFile.{standing, AreInOrder}
 use Rattle.hunk_scan.specs.Standings.{Standing, Beside, Content, Relocating, Ending, is_content, refuse_standing, standing_of_kind, first_of}
 use Rattle.hunk_files.specs.ObjectFile.{ObjectHunk, UnitValue, ObjectFileValue, IsObjectFile, IsObjectHunk, IsUnit, IsNoObjectFile, unit_word}
-use Rattle.hunk_files.specs.ObjectFault.{WordPlace, BeforeUnits, BetweenHunks, InHunk, ObjectRole, WordAt, UnitCount, UnitName, Within, has_content, behind_block, role_at, block_labelled, blocks_labelled, hunk_labelled, header_labelled, unit_labelled, units_labelled, refuse_unit, refuse_place, refuse_word, refuse_object, objects, IsTruncatedObject, HasObjectFault}
+use Rattle.hunk_files.specs.ObjectFault.{WordPlace, BeforeUnits, BetweenHunks, InHunk, ObjectRole, WordAt, UnitCount, UnitName, Within, has_content, behind_block, role_at, block_labelled, blocks_labelled, hunk_labelled, header_labelled, unit_labelled, units_labelled, refuse_unit, refuse_word, refuse_object, objects, IsTruncatedObject, HasObjectFault}
 use Rattle.hunk_files.proofs.ObjectDecoding.{standing_is, standings}
+use Rattle.hunk_files.proofs.ObjectWords.{refuse_place, within_role, within_split, word_split}
 use Rattle.hunk_files.proofs.UnitFaults.{units_words}
 use Rattle.hunk_files.proofs.UnitReading.{no_kind, unit_kind, text_longs}
 
@@ -69,21 +70,6 @@ reader = record { start = AtWord BeforeUnits; expects = expects; step = step }
 no_unit_word : (b : BlockValue) → IsBlock b → b.word ≢ unit_word
 no_unit_word b is e = no_kind b.word b.body is.body (ap kind e ∙ unit_kind)
 
-pub within_role : (place : WordPlace) (part : Part) → part ≢ parts.BlockWord → role_at place part ≡ Within part
-within_role place parts.BlockWord ne = absurd (ne refl)
-within_role place parts.ContentSize ne = refl
-within_role place parts.NameCount ne = refl
-within_role place parts.LongCount ne = refl
-within_role place parts.Payload ne = refl
-within_role place parts.GroupCount ne = refl
-within_role place parts.Target ne = refl
-within_role place parts.Offset ne = refl
-within_role place parts.EntryWord ne = refl
-within_role place parts.ExtWord ne = refl
-within_role place parts.EntryName ne = refl
-within_role place parts.EntryValue ne = refl
-within_role place parts.OffsetCount ne = refl
-
 body_leads : (place next : WordPlace) (n : BlockNext) (ps : List (Part × ℕ)) (b : BlockBody) → Follows n ps (Whole b) → Leads reader (in_block next n) (relabel (role_at place) ps) (AtWord next)
 body_leads place next n [] b h = ap (in_block next) h
 body_leads place next (Open x) (p ∷ ps) b h =
@@ -100,11 +86,12 @@ block_leads place b is =
 
 parts_pass : (place : WordPlace) (ps : List (Part × ℕ)) → PartsPass ps → Passes reader refuse_object (relabel (role_at place) ps)
 parts_pass place [] h = tt
-parts_pass place (p ∷ ps) h = (ap (λ (r : ObjectRole). refuse_object r p.1) (within_role place p.0 h.0.0) ∙ h.0.1, parts_pass place ps h.1)
+parts_pass place (p ∷ ps) h = (ap (λ (r : ObjectRole). refuse_object r p.1) (within_role place p.0 h.0.0) ∙ within_split p.0 p.1 ∙ h.0.1, parts_pass place ps h.1)
 
 word_goes : (place : WordPlace) (b : BlockValue) → IsBlock b → refuse_place place (standing b.body) ≡ None → refuse_word place b.word ≡ None
 word_goes place b is ok =
-    passes_else (eqb b.word unit_word) (refuse_unit place) _ (ne_eqb b.word unit_word (no_unit_word b is))
+    word_split place b.word
+    ∙ passes_else (eqb b.word unit_word) (refuse_unit place) _ (ne_eqb b.word unit_word (no_unit_word b is))
     ∙ ap (λ (o : Option Reason). first_of o (refuse_place place (standing_of_kind (kind b.word)))) (word_passes modes.Object b is tt)
     ∙ ap (refuse_place place) (sym (standing_is b.word b.body is.body))
     ∙ ok
