@@ -1,6 +1,8 @@
 -- A block word that no test refuses, and one that is refused.
-use Rattle.std.proofs.Common.{◌≡◌, ℕ, Bool, true, false, cond, Option, Some, None, refl, sym, ap, subst, ◌∙◌}
-use Rattle.std.specs.Prelude.{IsTrue}
+use Rattle.std.proofs.Common.{◌≡◌, ℕ, Bool, true, false, ◌||◌, cond, eqb, ltb, Option, Some, None, refl, sym, ap, subst, ◌∙◌}
+use Rattle.std.specs.Prelude.{IsTrue, nat_lt, if◌then◌else◌}
+use Rattle.std.specs.Int.{is_in_range}
+use Rattle.std.proofs.lemmas.Bool.{eqb-true}
 use Rattle.hunk_words.specs.declared.block_word.Kind.{Kind}
 use Rattle.hunk_words.specs.declared.block_word.Kind.TheVariants as kinds
 use Rattle.hunk_words.specs.declared.reason.Reason.{Reason}
@@ -8,8 +10,9 @@ use Rattle.hunk_words.specs.declared.reason.Reason.TheVariants as reasons
 use Rattle.hunk_words.specs.Bits.{has_both_bits, is_advisory, kind}
 use Rattle.hunk_blocks.specs.declared.mode.Mode.{Mode}
 use Rattle.hunk_blocks.specs.declared.mode.Mode.TheVariants as modes
-use Rattle.hunk_blocks.specs.Values.{BlockBody, Name, Code, Data, Bss, Reloc, Ext, Symbol, Debug, Advisory, End, BlockValue, is_relocation, is_unknown, FitsWord, IsBlock}
-use Rattle.hunk_blocks.specs.Modes.{IsOfMode, is_block_refusal, refuse_alone_kind, refuse_alone_word}
+use Rattle.hunk_blocks.specs.declared.ext_shape.ExtShape.TheVariants.{Defines, Refers, Shares, Refused}
+use Rattle.hunk_blocks.specs.Values.{ext_shape, BlockBody, Name, Code, Data, Bss, Reloc, Ext, Symbol, Debug, Advisory, End, BlockValue, is_relocation, is_unknown, FitsWord, IsBlock}
+use Rattle.hunk_blocks.specs.Modes.{IsOfMode, is_block_refusal, refuse_alone_kind, refuse_alone_word, refuse_shape}
 use Rattle.hunk_blocks.proofs.Lists.{passed_true, passed_both, passes_else, passes_then}
 
 abbrev pub block : ℕ → BlockBody → BlockValue
@@ -101,3 +104,24 @@ word_own mode word = go (has_both_bits word)
 
 pub refusal_own : (mode : Mode) (word : ℕ) (reason : Reason) → refuse_alone_word mode word ≡ Some reason → IsTrue (is_block_refusal reason)
 refusal_own mode word reason e = sym (ap own_or_none e) ∙ word_own mode word
+
+-- ---- the types of EXT entries
+
+-- the types of the common blocks are in the range
+common_inside : (n : ℕ) → (eqb n 130 || eqb n 137) ≡ true → is_in_range 129 139 n ≡ true
+common_inside n e = go (eqb n 130) refl e
+  where
+    go : (b : Bool) → eqb n 130 ≡ b → (b || eqb n 137) ≡ true → is_in_range 129 139 n ≡ true
+    go true f h = ap (is_in_range 129 139) (eqb-true n 130 f)
+    go false f h = ap (is_in_range 129 139) (eqb-true n 137 h)
+
+-- The types that are accepted, in two ranges.
+pub ext_type_split : (n : ℕ) → (if nat_lt n 3 then None else if is_in_range 129 139 n then None else Some reasons.ExtKind) ≡ refuse_shape (ext_shape n)
+ext_type_split n = go (ltb n 3) (eqb n 130 || eqb n 137) (is_in_range 129 139 n) (common_inside n)
+  where
+    go : (d s r : Bool) → (s ≡ true → r ≡ true) → cond d None (cond r None (Some reasons.ExtKind)) ≡ refuse_shape (cond d Defines (cond s Shares (cond r Refers Refused)))
+    go true s r h = refl
+    go false true true h = refl
+    go false true false h = let e = h refl in cc
+    go false false true h = refl
+    go false false false h = refl

@@ -130,7 +130,7 @@ end_of_mode : (mode : Mode) → IsOfMode mode end_block
 end_of_mode modes.Load = tt
 end_of_mode modes.Object = tt
 
-expects_word : (mode : Mode) → Expects (blocks mode) [] parts.BlockWord
+pub expects_word : (mode : Mode) → Expects (blocks mode) [] parts.BlockWord
 expects_word mode = record { value = end_block; is = (end_is, end_of_mode mode); done = []; word = 0x3F2; more = []; labels = refl; begins = refl }
 
 -- What a reader that has all the longwords before it answers.

@@ -16,7 +16,7 @@ use Rattle.hunk_blocks.proofs.BlockLongs.{block_longs}
 use Rattle.hunk_blocks.proofs.ListReading.{Reads-append}
 
 -- the first longwords are the first bytes
-front_bytes : (bytes words rest : List ℕ) → IsBytes bytes → longs bytes ≡ words ++ rest → (take (4 * length words) bytes ≡ bytes_of words) × (4 * length words ≤ length bytes)
+pub front_bytes : (bytes words rest : List ℕ) → IsBytes bytes → longs bytes ≡ words ++ rest → (take (4 * length words) bytes ≡ bytes_of words) × (4 * length words ≤ length bytes)
 front_bytes bytes words rest fit e =
     let s = spelled bytes fit in
     let cut : bytes ≡ bytes_of words ++ (bytes_of rest ++ s.over) =
@@ -51,7 +51,7 @@ begins_size mode bytes b n h = omega (arith, ap length h.text, length-take n byt
 
 -- ---- no block
 
-no_block : (mode : Mode) (bytes : List ℕ) → ((b : BlockValue) → IsBlock b → IsOfMode mode b → (more : List ℕ) → longs bytes ≡ block_text b ++ more → ⊥) → BeginsWithNoBlock mode bytes
+pub no_block : (mode : Mode) (bytes : List ℕ) → ((b : BlockValue) → IsBlock b → IsOfMode mode b → (more : List ℕ) → longs bytes ≡ block_text b ++ more → ⊥) → BeginsWithNoBlock mode bytes
 unfolding BeginsWithNoBlock
 no_block mode bytes none b is m rest e = none b is m (longs rest) (ap longs e ∙ longs-bytes_of (block_text b) rest (block_longs b is))
 

@@ -31,7 +31,7 @@ pub record Embeds {A B R S : Type 0} (g : Grammar A R) (h : Grammar B S) (front 
   pub refuses : (r : R) (w : ℕ) (reason : Reason) → g.refuse r w ≡ Some reason → h.refuse (role r) w ≡ Some reason
 
 module _ {A B R S : Type 0} (g : Grammar A R) (h : Grammar B S) (front : List (S × ℕ)) (m : Embeds g h front) where
-  expects_embedded : (before : List ℕ) (role : R) → Expects g before role → Expects h (words front ++ before) (m.role role)
+  pub expects_embedded : (before : List ℕ) (role : R) → Expects g before role → Expects h (words front ++ before) (m.role role)
   expects_embedded before role e =
       record {
         value = m.into e.value;
@@ -91,7 +91,7 @@ pub same-labels : {R : Type 0} (ls : List (R × ℕ)) → relabel (λ r. r) ls �
 same-labels [] = refl
 same-labels (l ∷ ls) = ap (λ ms. l ∷ ms) (same-labels ls)
 
-pub embeds_same : {A B R : Type 0} (g : Grammar A R) (h : Grammar B R) (front : List (R × ℕ)) (into : A → B) → ((a : A) → g.Is a → h.Is (into a)) → ((a : A) → g.Is a → h.labelled (into a) ≡ front ++ g.labelled a) →
+unfoldable pub embeds_same : {A B R : Type 0} (g : Grammar A R) (h : Grammar B R) (front : List (R × ℕ)) (into : A → B) → ((a : A) → g.Is a → h.Is (into a)) → ((a : A) → g.Is a → h.labelled (into a) ≡ front ++ g.labelled a) →
     ((r : R) (w : ℕ) (reason : Reason) → g.refuse r w ≡ Some reason → h.refuse r w ≡ Some reason) → Embeds g h front
 embeds_same g h front into is labels refuses =
     record {

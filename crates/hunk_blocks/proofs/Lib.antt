@@ -1,5 +1,7 @@
 pub mod Admitted
+pub mod BlockCompletion
 pub mod BlockLongs
+pub mod BlockOutcome
 pub mod BlockPrefix
 pub mod BlockProgress
 pub mod BlockText
@@ -16,6 +18,7 @@ pub mod ListReading
 pub mod Lists
 pub mod SymbolReading
 pub mod OneBlockFault
+pub mod Outcomes
 pub mod Whole
 pub mod WriteLaws
 pub mod TextBytes

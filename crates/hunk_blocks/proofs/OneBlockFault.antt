@@ -14,10 +14,10 @@ use Rattle.hunk_blocks.specs.Values.{RelocGroup, SymbolEntry, ExtEntry, BlockBod
 use Rattle.hunk_blocks.specs.Parts.{Part, Part as parts, each, group_parts, symbol_parts, ext_parts, ext_parts_by, body_parts}
 use Rattle.hunk_blocks.specs.Modes.{refuse_inside, refuse_shape}
 use Rattle.hunk_blocks.specs.Begins.{BeginsWithNoBlock}
-use Rattle.hunk_blocks.specs.Faults.{HasBlockFault, blocks, refuse_alone}
+use Rattle.hunk_blocks.specs.Faults.{HasBlockFault, HasRefusal, IsTruncatedBlock, blocks, refuse_alone}
 use Rattle.hunk_blocks.proofs.Admitted.{word_passes}
 use Rattle.hunk_blocks.proofs.BlockLongs.{block_longs}
-use Rattle.hunk_blocks.specs.BlockSteps.{BlockNext, Open, Whole, part_of, step_inside, begin, Follows}
+use Rattle.hunk_blocks.specs.BlockSteps.{ForName, ForDebug, ForAdvisory, Inside, AtCount, BlockNext, Open, Whole, part_of, step_inside, begin, Follows}
 use Rattle.hunk_blocks.proofs.BlockText.{body_follows}
 use Rattle.hunk_blocks.proofs.FaultScan.{Machine, Leads, Passes, Reads, one_refusal, front_passes, whole_passes}
 use Rattle.hunk_blocks.proofs.Lists.{All-append, passes_then}
@@ -87,17 +87,17 @@ pub data Alone : Type 0 where
   AtWord : Alone
   Behind : BlockNext → Alone
 
-abbrev expects : Alone → Option Part
+abbrev pub expects : Alone → Option Part
 expects AtWord = Some parts.BlockWord
 expects (Behind (Open x)) = Some (part_of x)
 expects (Behind (Whole b)) = None
 
-abbrev step : Alone → ℕ → Alone
+abbrev pub step : Alone → ℕ → Alone
 step AtWord w = Behind (begin (kind w))
 step (Behind (Open x)) w = Behind (step_inside x w)
 step (Behind (Whole b)) w = Behind (Whole b)
 
-abbrev alone : Machine Alone Part
+abbrev pub alone : Machine Alone Part
 alone = record { start = AtWord; expects = expects; step = step }
 
 follows_leads : (n end : BlockNext) (ps : List (Part × ℕ)) → Follows n ps end → Leads alone (Behind n) ps (Behind end)
@@ -105,26 +105,33 @@ follows_leads n end [] h = ap (λ (x : BlockNext). Behind x) h
 follows_leads (Open x) end (p ∷ ps) h = (ap (λ (part : Part). Some part) h.0, follows_leads (step_inside x p.1) end ps h.1)
 follows_leads (Whole b) end (p ∷ ps) h = absurd h
 
-inside_passes : (mode : Mode) (part : Part) (w : ℕ) → part ≢ parts.BlockWord → refuse_inside part w ≡ None → refuse_alone mode part w ≡ None
-inside_passes mode parts.BlockWord w ne h = absurd (ne refl)
-inside_passes mode parts.ContentSize w ne h = h
-inside_passes mode parts.NameCount w ne h = h
-inside_passes mode parts.LongCount w ne h = h
-inside_passes mode parts.Payload w ne h = h
-inside_passes mode parts.GroupCount w ne h = h
-inside_passes mode parts.Target w ne h = h
-inside_passes mode parts.Offset w ne h = h
-inside_passes mode parts.EntryWord w ne h = h
-inside_passes mode parts.ExtWord w ne h = h
-inside_passes mode parts.EntryName w ne h = h
-inside_passes mode parts.EntryValue w ne h = h
-inside_passes mode parts.OffsetCount w ne h = h
+-- no longword behind the block word is one
+pub part_not_word : (x : Inside) → part_of x ≢ parts.BlockWord
+part_not_word (AtCount ForName) e = cc
+part_not_word (AtCount ForDebug) e = cc
+part_not_word (AtCount ForAdvisory) e = cc
+part_not_word _ e = cc
+
+pub alone_inside : (mode : Mode) (part : Part) (w : ℕ) → part ≢ parts.BlockWord → refuse_alone mode part w ≡ refuse_inside part w
+alone_inside mode parts.BlockWord w ne = absurd (ne refl)
+alone_inside mode parts.ContentSize w ne = refl
+alone_inside mode parts.NameCount w ne = refl
+alone_inside mode parts.LongCount w ne = refl
+alone_inside mode parts.Payload w ne = refl
+alone_inside mode parts.GroupCount w ne = refl
+alone_inside mode parts.Target w ne = refl
+alone_inside mode parts.Offset w ne = refl
+alone_inside mode parts.EntryWord w ne = refl
+alone_inside mode parts.ExtWord w ne = refl
+alone_inside mode parts.EntryName w ne = refl
+alone_inside mode parts.EntryValue w ne = refl
+alone_inside mode parts.OffsetCount w ne = refl
 
 alone_passes : (mode : Mode) (ps : List (Part × ℕ)) → PartsPass ps → Passes alone (refuse_alone mode) ps
 alone_passes mode [] h = tt
-alone_passes mode (p ∷ ps) h = (inside_passes mode p.0 p.1 h.0.0 h.0.1, alone_passes mode ps h.1)
+alone_passes mode (p ∷ ps) h = (alone_inside mode p.0 p.1 h.0.0 ∙ h.0.1, alone_passes mode ps h.1)
 
-block_reads : (mode : Mode) → Reads (blocks mode) alone
+pub block_reads : (mode : Mode) → Reads (blocks mode) alone
 block_reads mode =
     record {
       end = λ b. Behind (Whole b.body);
@@ -134,10 +141,13 @@ block_reads mode =
 
 -- ---- the laws
 
+pub not_truncated : (mode : Mode) (bytes : List ℕ) (at : ℕ) (reason : Reason) (at2 : ℕ) → HasRefusal (blocks mode) (longs bytes) at reason → IsTruncatedBlock mode bytes at2 → ⊥
+not_truncated mode bytes at reason at2 h k = front_passes (blocks mode) alone (block_reads mode) (longs bytes) at reason h k.front
+
 pub one_fault : (mode : Mode) (bytes : List ℕ) (at at2 : ℕ) (reason reason2 : Reason) → HasBlockFault mode bytes at reason → HasBlockFault mode bytes at2 reason2 → (at ≡ at2) × (reason ≡ reason2)
 one_fault mode bytes at at2 reason reason2 (inl h) (inl k) = one_refusal (blocks mode) alone (block_reads mode) (longs bytes) at at2 reason reason2 h k
-one_fault mode bytes at at2 reason reason2 (inl h) (inr k) = absurd (front_passes (blocks mode) alone (block_reads mode) (longs bytes) at reason h k.1.front)
-one_fault mode bytes at at2 reason reason2 (inr h) (inl k) = absurd (front_passes (blocks mode) alone (block_reads mode) (longs bytes) at2 reason2 k h.1.front)
+one_fault mode bytes at at2 reason reason2 (inl h) (inr k) = absurd (not_truncated mode bytes at reason at2 h k.1)
+one_fault mode bytes at at2 reason reason2 (inr h) (inl k) = absurd (not_truncated mode bytes at2 reason2 at k h.1)
 one_fault mode bytes at at2 reason reason2 (inr h) (inr k) = (h.1.place ∙ sym k.1.place, h.0 ∙ sym k.0)
 
 pub no_block : (mode : Mode) (bytes : List ℕ) (at : ℕ) (reason : Reason) → HasBlockFault mode bytes at reason → BeginsWithNoBlock mode bytes

@@ -1,11 +1,12 @@
 //! Laws over the definitions alone.
+ghost use Rattle.hunk_words.specs.Longs.{IsBytes, IsLong, longs};
 ghost use Rattle.hunk_words.specs.declared.reason.Reason.{Reason};
 ghost use Rattle.hunk_blocks.specs.declared.mode.Mode.{Mode};
-ghost use Rattle.hunk_blocks.specs.Begins.{BeginsWithNoBlock};
-ghost use Rattle.hunk_blocks.specs.Faults.{HasBlockFault};
-ghost use Rattle.std.specs.Prelude.{◌≡◌, List, [], ◌++◌, ℕ};
+ghost use Rattle.hunk_blocks.specs.Begins.{BeginsWithBlock, BeginsWithNoBlock};
+ghost use Rattle.hunk_blocks.specs.Faults.{Expects, HasBlockFault, HasRefusal, IsFront, IsTruncatedBlock, blocks, refuse_alone};
+ghost use Rattle.std.specs.Prelude.{◌≡◌, List, [], ◌∷◌, ◌++◌, ℕ, None, ◌⊎◌};
 ghost use Rattle.hunk_blocks.specs.Values.{BlockValue, IsBlock};
-ghost use Rattle.hunk_blocks.specs.Parts.{block_text};
+ghost use Rattle.hunk_blocks.specs.Parts.{Part, block_text};
 
 /// No block begins another, and one text has one block.
 ///
@@ -16,11 +17,21 @@ pub fn block_prefix()
         block_text a ++ more ≡ block_text b → (a ≡ b) × (more ≡ []) }
 {}
 
-/// Bytes have at most one fault as a block of a mode, and none where they begin with one.
+/// Of every list of bytes just one of three holds: it begins with a block of the mode, a longword of
+/// it is refused, or it ends too soon. The fault is one, and the first, and a longword that is not
+/// refused goes on to a block.
 pub fn block_fault()
+    ensures some { (mode : Mode) (bytes : List ℕ) → IsBytes bytes →
+        ((b : BlockValue) × (size : ℕ) × BeginsWithBlock mode bytes b size)
+        ⊎ ((at : ℕ) × (reason : Reason) × HasBlockFault mode bytes at reason) }
     ensures one { (mode : Mode) (bytes : List ℕ) (at at2 : ℕ) (reason reason2 : Reason) →
         HasBlockFault mode bytes at reason → HasBlockFault mode bytes at2 reason2 →
         (at ≡ at2) × (reason ≡ reason2) }
     ensures none { (mode : Mode) (bytes : List ℕ) (at : ℕ) (reason : Reason) →
         HasBlockFault mode bytes at reason → BeginsWithNoBlock mode bytes }
+    ensures not_truncated { (mode : Mode) (bytes : List ℕ) (at : ℕ) (reason : Reason) (at2 : ℕ) →
+        HasRefusal (blocks mode) (longs bytes) at reason → IsTruncatedBlock mode bytes at2 → ⊥ }
+    ensures complete { (mode : Mode) (before : List ℕ) (role : Part) (word : ℕ) →
+        Expects (blocks mode) before role → IsLong word → refuse_alone mode role word ≡ None →
+        IsFront (blocks mode) (before ++ word ∷ []) }
 {}

@@ -19,16 +19,18 @@ use Rattle.hunk_blocks.specs.Begins.{first_long}
 use Rattle.hunk_blocks.specs.Reading.{Unread, Reads, cut}
 use Rattle.hunk_blocks.specs.Faults.{Grammar, words, Expects, HasRefusal, IsFront, FaultAhead, blocks, refuse_alone, HasBlockFault}
 use Rattle.hunk_blocks.proofs.Admitted.{block}
-use Rattle.hunk_blocks.specs.BlockSteps.{ForName, ForDebug, ForAdvisory, Inside, AtCount, BlockNext, Open, Whole, part_of, step_inside, begin, Follows}
+use Rattle.hunk_blocks.specs.BlockSteps.{BlockNext, Open, Whole, step_inside, begin, Follows}
 use Rattle.hunk_blocks.proofs.BlockText.{body_follows}
 use Rattle.hunk_blocks.proofs.BodyFaults.{end_block, end_is}
-use Rattle.hunk_blocks.proofs.FaultLaws.{Embeds, ahead_embedded, embeds_same, relabel, same-labels, words-relabel}
+use Rattle.hunk_blocks.proofs.FaultLaws.{Embeds, ahead_embedded, expects_embedded, embeds_same, relabel, same-labels, words-relabel}
 use Rattle.hunk_blocks.proofs.Lists.{All-append, passes_else, passes_then}
+use Rattle.hunk_blocks.proofs.OneBlockFault.{alone_inside, part_not_word}
 use Rattle.hunk_files.specs.LoadFile.{standing, AreInOrder}
 use Rattle.hunk_scan.specs.Standings.{Standing, Beside, Content, Relocating, Ending, is_content, refuse_standing, standing_of_kind, first_of}
 use Rattle.hunk_files.specs.ObjectFile.{ObjectHunk, unit_word}
 use Rattle.hunk_files.specs.ObjectParts.{BeginsWithText}
-use Rattle.hunk_files.specs.ObjectFault.{WordPlace, BeforeUnits, BetweenHunks, InHunk, ObjectRole, WordAt, has_content, behind_block, role_at, block_labelled, blocks_labelled, refuse_unit, refuse_place, refuse_word, refuse_object, blocks_from, unread, MayGoOn}
+use Rattle.hunk_files.specs.ObjectFault.{WordPlace, BeforeUnits, BetweenHunks, InHunk, ObjectRole, WordAt, has_content, behind_block, role_at, block_labelled, blocks_labelled, refuse_unit, refuse_word, refuse_object, blocks_from, unread, MayGoOn}
+use Rattle.hunk_files.proofs.ObjectWords.{refuse_place, within_role, within_split, word_split}
 use Rattle.hunk_files.proofs.ObjectDecoding.{HunkSoFar, Leads, leads_end, hunk_longs, standings, standing_is, text_words, text_size}
 
 -- ---- parts of the input
@@ -117,6 +119,11 @@ block_embeds place =
       refuses = λ r w reason h. h;
     }
 
+-- What is expected of a block is expected of the hunk.
+pub expects_block : (place : WordPlace) (before : List ℕ) (role : ObjectRole) → Expects (blocks_at place) before role → Expects (blocks_from place) before role
+unfolding block_embeds
+expects_block place before role e = expects_embedded (blocks_at place) (blocks_from place) [] (block_embeds place) before role e
+
 reads_none : (r : Unread) → Reads r r []
 reads_none r = record { front = refl; further = omega arith }
 
@@ -150,7 +157,7 @@ unit_alone = refl
 -- The tests of a block word that is no UNIT between hunks.
 refuse_here : (place : WordPlace) (has : Bool) (bytes rest : List ℕ) (w : ℕ) (reason : Reason) → MayGoOn place has bytes → longs bytes ≡ w ∷ rest → first_of (refuse_alone_word modes.Object w) (refuse_standing has (standing_of_kind (kind w))) ≡ Some reason →
     refuse_word place w ≡ Some reason
-refuse_here place has bytes rest w reason m e refused = go place m (eqb w unit_word) refl
+refuse_here place has bytes rest w reason m e refused = word_split place w ∙ go place m (eqb w unit_word) refl
   where
     first : first_long bytes ≡ w
     first = ap (λ ws. get_or ws 0 0) e
@@ -170,7 +177,7 @@ stands_here : (has : Bool) → (b : BlockValue) × IsBlock b × (refuse_standing
 stands_here true = (end_block, end_is, refl)
 stands_here false = (bss_block, bss_is, refl)
 
-expects_word : (place : WordPlace) → Expects (blocks_at place) [] (WordAt place)
+pub expects_word : (place : WordPlace) → Expects (blocks_at place) [] (WordAt place)
 expects_word place =
     let b = stands_here (has_content place) in
     record { value = b.0; is = (b.1, b.2); done = []; word = b.0.word; more = relabel (role_at place) (body_parts b.0.body); labels = refl; begins = refl }
@@ -216,12 +223,6 @@ misplaced has w reason one h =
 
 -- ---- behind a block word
 
-pub part_not_word : (x : Inside) → part_of x ≢ parts.BlockWord
-part_not_word (AtCount ForName) e = cc
-part_not_word (AtCount ForDebug) e = cc
-part_not_word (AtCount ForAdvisory) e = cc
-part_not_word _ e = cc
-
 no_second_word : (n : BlockNext) (ps more : List (Part × ℕ)) (part : Part) (w : ℕ) (end : BlockBody) → Follows n (ps ++ (part, w) ∷ more) (Whole end) → part ≢ parts.BlockWord
 no_second_word (Open x) [] more part w end h e = part_not_word x (h.0 ∙ e)
 no_second_word (Open x) (p ∷ ps) more part w end h e = no_second_word (step_inside x p.1) ps more part w end h.1 e
@@ -229,26 +230,15 @@ no_second_word (Whole b) [] more part w end h e = absurd h
 no_second_word (Whole b) (p ∷ ps) more part w end h e = absurd h
 
 refused_within : (place : WordPlace) (part : Part) (w : ℕ) (reason : Reason) → part ≢ parts.BlockWord → refuse_alone modes.Object part w ≡ Some reason → refuse_object (role_at place part) w ≡ Some reason
-refused_within place parts.BlockWord w reason ne h = absurd (ne refl)
-refused_within place parts.ContentSize w reason ne h = h
-refused_within place parts.NameCount w reason ne h = h
-refused_within place parts.LongCount w reason ne h = h
-refused_within place parts.Payload w reason ne h = h
-refused_within place parts.GroupCount w reason ne h = h
-refused_within place parts.Target w reason ne h = h
-refused_within place parts.Offset w reason ne h = h
-refused_within place parts.EntryWord w reason ne h = h
-refused_within place parts.ExtWord w reason ne h = h
-refused_within place parts.EntryName w reason ne h = h
-refused_within place parts.EntryValue w reason ne h = h
-refused_within place parts.OffsetCount w reason ne h = h
+refused_within place part w reason ne h =
+    ap (λ (r : ObjectRole). refuse_object r w) (within_role place part ne) ∙ within_split part w ∙ sym (alone_inside modes.Object part w ne) ∙ h
 
 module _ (place : WordPlace) (w : ℕ) (ok : refuse_standing (has_content place) (standing_of_kind (kind w)) ≡ None) where
   -- a block with this word may stand here
   may_stand : (b : BlockValue) → IsBlock b → b.word ≡ w → refuse_standing (has_content place) (standing b.body) ≡ None
   may_stand b is e = ap (refuse_standing (has_content place)) (standing_is b.word b.body is.body ∙ ap (λ (v : ℕ). standing_of_kind (kind v)) e) ∙ ok
 
-  expects_within : (before : List ℕ) (part : Part) → Expects (blocks modes.Object) (w ∷ before) part → Expects (blocks_at place) (w ∷ before) (role_at place part) × (part ≢ parts.BlockWord)
+  pub expects_within : (before : List ℕ) (part : Part) → Expects (blocks modes.Object) (w ∷ before) part → Expects (blocks_at place) (w ∷ before) (role_at place part) × (part ≢ parts.BlockWord)
   expects_within before part e = go e.done e.labels e.begins
     where
       go : (done : List (Part × ℕ)) → block_parts e.value ≡ done ++ (part, e.word) ∷ e.more → words done ≡ w ∷ before → Expects (blocks_at place) (w ∷ before) (role_at place part) × (part ≢ parts.BlockWord)
@@ -356,7 +346,7 @@ content_behind place (b ∷ bs) has h = content_behind (behind_block place (stan
     go false Ending l = absurd l
 
 -- a hunk that was begun goes on in itself
-opened : (place : WordPlace) (b : BlockValue) (bs : ObjectHunk) → (has : Bool) × (place_behind place (b ∷ bs) ≡ InHunk has)
+pub opened : (place : WordPlace) (b : BlockValue) (bs : ObjectHunk) → (has : Bool) × (place_behind place (b ∷ bs) ≡ InHunk has)
 opened place b [] = (has_content place || is_content (standing b.body), refl)
 opened place b (c ∷ bs) = opened (behind_block place (standing b.body)) c bs
 
@@ -379,6 +369,14 @@ blocks_embed bs has are leads =
           (leads_end false has (standings bs) (standings cs) leads (subst (λ (k : Bool). AreInOrder k (standings cs)) (content_behind BetweenHunks bs has leads) h.1)),
     ))
     (λ cs h. blocks-append BetweenHunks bs cs) (λ role w reason h. h)
+
+-- What is expected behind these blocks is expected of the hunk.
+pub expects_behind : (bs : ObjectHunk) (has : Bool) → AllByRecursion IsBlock bs → Leads false (standings bs) has → (before : List ℕ) (role : ObjectRole) → Expects (blocks_from (place_behind BetweenHunks bs)) before role →
+    Expects (blocks_from BetweenHunks) (flat_map block_text bs ++ before) role
+unfolding blocks_embed embeds_same
+expects_behind bs has are leads before role e =
+    subst (λ ws. Expects (blocks_from BetweenHunks) (ws ++ before) role) (blocks_words BetweenHunks bs)
+    (expects_embedded (blocks_from (place_behind BetweenHunks bs)) (blocks_from BetweenHunks) (blocks_labelled BetweenHunks bs) (blocks_embed bs has are leads) before role e)
 
 -- A fault behind these blocks is one of the hunk.
 pub hunk_ahead : (bytes : List ℕ) (bs : ObjectHunk) (has : Bool) (at : ℕ) (fault whole : Fault) → HunkSoFar bytes bs has at → whole.place ≡ at + fault.place → whole.reason ≡ fault.reason →

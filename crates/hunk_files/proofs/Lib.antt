@@ -17,7 +17,10 @@ pub mod Least
 pub mod Memory
 pub mod Positions
 mod ObjectDecoding
+mod ObjectOutcome
+mod ObjectProgress
 pub mod ObjectText
+mod ObjectWords
 pub mod OffsetLists
 pub mod Peel
 pub mod Puts

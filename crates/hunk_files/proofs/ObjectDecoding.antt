@@ -181,14 +181,14 @@ unfolding bytes_of
 no_blocks bytes = record { blocks = tt; leads = refl; text = text_none bytes refl }
 
 -- what may stand here leads on, unless it is END
-leads_one : (has : Bool) (s : Standing) → refuse_standing has s ≡ None → is_ending s ≡ false → Leads has (s ∷ []) (has || is_content s)
+pub leads_one : (has : Bool) (s : Standing) → refuse_standing has s ≡ None → is_ending s ≡ false → Leads has (s ∷ []) (has || is_content s)
 leads_one true Beside ok no_end = refl
 leads_one false Beside ok no_end = refl
 leads_one false Content ok no_end = refl
 leads_one true Relocating ok no_end = refl
 leads_one _ _ ok no_end = absurd cc
 
-leads_more : (a b c : Bool) (xs ys : List Standing) → Leads a xs b → Leads b ys c → Leads a (xs ++ ys) c
+pub leads_more : (a b c : Bool) (xs ys : List Standing) → Leads a xs b → Leads b ys c → Leads a (xs ++ ys) c
 leads_more a b c [] ys h k = subst (λ (x : Bool). Leads x ys c) (sym h) k
 leads_more true b c (Beside ∷ xs) ys h k = leads_more true b c xs ys h k
 leads_more false b c (Beside ∷ xs) ys h k = leads_more false b c xs ys h k
@@ -204,7 +204,7 @@ leads_end false b (Content ∷ xs) ys h k = leads_end true b xs ys h k
 leads_end true b (Relocating ∷ xs) ys h k = leads_end true b xs ys h k
 leads_end _ b (_ ∷ xs) ys h k = absurd h
 
-end_stands : (has : Bool) (s : Standing) → refuse_standing has s ≡ None → is_ending s ≡ true → AreInOrder has (s ∷ [])
+pub end_stands : (has : Bool) (s : Standing) → refuse_standing has s ≡ None → is_ending s ≡ true → AreInOrder has (s ∷ [])
 end_stands true Ending ok e = refl
 end_stands false Ending ok e = absurd cc
 end_stands _ _ ok e = absurd cc

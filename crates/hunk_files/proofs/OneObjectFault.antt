@@ -9,20 +9,21 @@ use Rattle.hunk_words.specs.Bits.{kind}
 use Rattle.hunk_words.specs.Longs.{longs}
 use Rattle.hunk_blocks.specs.declared.mode.Mode.TheVariants as modes
 use Rattle.hunk_blocks.specs.Values.{BlockBody, BlockValue, IsBlock}
-use Rattle.hunk_blocks.specs.Parts.{Part, Part as parts, body_parts}
+use Rattle.hunk_blocks.specs.Parts.{Part, body_parts}
+use Rattle.hunk_blocks.specs.Faults.{HasRefusal}
 use Rattle.hunk_blocks.proofs.Admitted.{word_passes}
 use Rattle.hunk_blocks.specs.BlockSteps.{Inside, BlockNext, Open, Whole, part_of, step_inside, begin, Follows}
 use Rattle.hunk_blocks.proofs.BlockText.{body_follows}
 use Rattle.hunk_blocks.proofs.FaultLaws.{relabel}
 use Rattle.hunk_blocks.proofs.FaultScan.{Machine, Leads, Leads-append, Passes, Reads, one_refusal, front_passes}
 use Rattle.hunk_blocks.proofs.Lists.{All-append, passes_then, passes_else}
-use Rattle.hunk_blocks.proofs.OneBlockFault.{PartsPass, body_passes}
+use Rattle.hunk_blocks.proofs.OneBlockFault.{PartsPass, body_passes, part_not_word}
 use Rattle.hunk_files.specs.LoadFile.{standing, AreInOrder}
 use Rattle.hunk_scan.specs.Standings.{Standing, Beside, Content, Relocating, Ending, is_content, refuse_standing, standing_of_kind, first_of}
-use Rattle.hunk_files.specs.ObjectFile.{ObjectHunk, UnitValue, ObjectFileValue, IsObjectHunk, IsUnit, IsNoObjectFile, unit_word}
-use Rattle.hunk_files.specs.ObjectFault.{WordPlace, BeforeUnits, BetweenHunks, InHunk, ObjectRole, WordAt, UnitCount, UnitName, Within, has_content, behind_block, role_at, block_labelled, blocks_labelled, hunk_labelled, header_labelled, unit_labelled, units_labelled, refuse_unit, refuse_place, refuse_word, refuse_object, objects, HasObjectFault}
-use Rattle.hunk_files.proofs.HunkFaults.{part_not_word}
+use Rattle.hunk_files.specs.ObjectFile.{ObjectHunk, UnitValue, ObjectFileValue, IsObjectFile, IsObjectHunk, IsUnit, IsNoObjectFile, unit_word}
+use Rattle.hunk_files.specs.ObjectFault.{WordPlace, BeforeUnits, BetweenHunks, InHunk, ObjectRole, WordAt, UnitCount, UnitName, Within, has_content, behind_block, role_at, block_labelled, blocks_labelled, hunk_labelled, header_labelled, unit_labelled, units_labelled, refuse_unit, refuse_word, refuse_object, objects, IsTruncatedObject, HasObjectFault}
 use Rattle.hunk_files.proofs.ObjectDecoding.{standing_is, standings}
+use Rattle.hunk_files.proofs.ObjectWords.{refuse_place, within_role, within_split, word_split}
 use Rattle.hunk_files.proofs.UnitFaults.{units_words}
 use Rattle.hunk_files.proofs.UnitReading.{no_kind, unit_kind, text_longs}
 
@@ -36,53 +37,38 @@ pub data ObjectState : Type 0 where
   InName : ℕ → ObjectState
   InBlock : WordPlace → Inside → ObjectState
 
-abbrev expects : ObjectState → Option ObjectRole
+abbrev pub expects : ObjectState → Option ObjectRole
 expects (AtWord place) = Some (WordAt place)
 expects AtCount = Some UnitCount
 expects (InName owed) = Some UnitName
 expects (InBlock next x) = Some (Within (part_of x))
 
 -- the place behind a block that stands here
-abbrev place_next : WordPlace → Standing → WordPlace
+abbrev pub place_next : WordPlace → Standing → WordPlace
 place_next place Ending = BetweenHunks
 place_next place s = behind_block place s
 
-abbrev in_block : WordPlace → BlockNext → ObjectState
+abbrev pub in_block : WordPlace → BlockNext → ObjectState
 in_block next (Open x) = InBlock next x
 in_block next (Whole b) = AtWord next
 
-abbrev behind_name : ℕ → ObjectState
+abbrev pub behind_name : ℕ → ObjectState
 behind_name zero = AtWord BetweenHunks
 behind_name (suc owed) = InName owed
 
-abbrev step : ObjectState → ℕ → ObjectState
+abbrev pub step : ObjectState → ℕ → ObjectState
 step (AtWord place) w = cond (eqb w unit_word) AtCount (in_block (place_next place (standing_of_kind (kind w))) (begin (kind w)))
 step AtCount w = behind_name w
 step (InName owed) w = behind_name owed
 step (InBlock next x) w = in_block next (step_inside x w)
 
-abbrev reader : Machine ObjectState ObjectRole
+abbrev pub reader : Machine ObjectState ObjectRole
 reader = record { start = AtWord BeforeUnits; expects = expects; step = step }
 
 -- ---- blocks
 
 no_unit_word : (b : BlockValue) → IsBlock b → b.word ≢ unit_word
 no_unit_word b is e = no_kind b.word b.body is.body (ap kind e ∙ unit_kind)
-
-within_role : (place : WordPlace) (part : Part) → part ≢ parts.BlockWord → role_at place part ≡ Within part
-within_role place parts.BlockWord ne = absurd (ne refl)
-within_role place parts.ContentSize ne = refl
-within_role place parts.NameCount ne = refl
-within_role place parts.LongCount ne = refl
-within_role place parts.Payload ne = refl
-within_role place parts.GroupCount ne = refl
-within_role place parts.Target ne = refl
-within_role place parts.Offset ne = refl
-within_role place parts.EntryWord ne = refl
-within_role place parts.ExtWord ne = refl
-within_role place parts.EntryName ne = refl
-within_role place parts.EntryValue ne = refl
-within_role place parts.OffsetCount ne = refl
 
 body_leads : (place next : WordPlace) (n : BlockNext) (ps : List (Part × ℕ)) (b : BlockBody) → Follows n ps (Whole b) → Leads reader (in_block next n) (relabel (role_at place) ps) (AtWord next)
 body_leads place next n [] b h = ap (in_block next) h
@@ -100,11 +86,12 @@ block_leads place b is =
 
 parts_pass : (place : WordPlace) (ps : List (Part × ℕ)) → PartsPass ps → Passes reader refuse_object (relabel (role_at place) ps)
 parts_pass place [] h = tt
-parts_pass place (p ∷ ps) h = (ap (λ (r : ObjectRole). refuse_object r p.1) (within_role place p.0 h.0.0) ∙ h.0.1, parts_pass place ps h.1)
+parts_pass place (p ∷ ps) h = (ap (λ (r : ObjectRole). refuse_object r p.1) (within_role place p.0 h.0.0) ∙ within_split p.0 p.1 ∙ h.0.1, parts_pass place ps h.1)
 
 word_goes : (place : WordPlace) (b : BlockValue) → IsBlock b → refuse_place place (standing b.body) ≡ None → refuse_word place b.word ≡ None
 word_goes place b is ok =
-    passes_else (eqb b.word unit_word) (refuse_unit place) _ (ne_eqb b.word unit_word (no_unit_word b is))
+    word_split place b.word
+    ∙ passes_else (eqb b.word unit_word) (refuse_unit place) _ (ne_eqb b.word unit_word (no_unit_word b is))
     ∙ ap (λ (o : Option Reason). first_of o (refuse_place place (standing_of_kind (kind b.word)))) (word_passes modes.Object b is tt)
     ∙ ap (refuse_place place) (sym (standing_is b.word b.body is.body))
     ∙ ok
@@ -207,7 +194,7 @@ file_runs [] some are = absurd (omega (arith, some))
 file_runs (u ∷ us) some are =
     runs_on (AtWord BeforeUnits) (AtWord BetweenHunks) (AtWord BetweenHunks) (unit_labelled BeforeUnits u) (units_labelled BetweenHunks us) (unit_runs BeforeUnits u tt are.0) (units_run us are.1)
 
-object_reads : Reads objects reader
+pub object_reads : Reads objects reader
 object_reads =
     record {
       end = λ us. AtWord BetweenHunks;
@@ -215,12 +202,19 @@ object_reads =
       passes = λ us h. (file_runs us h.0 h.1).1;
     }
 
+-- The longwords of an object file lead between hunks.
+pub file_leads : (o : ObjectFileValue) → IsObjectFile o → Leads reader (AtWord BeforeUnits) (units_labelled BeforeUnits o) (AtWord BetweenHunks)
+file_leads o is = (file_runs o is.some is.units).0
+
 -- ---- the laws
+
+pub not_truncated : (bytes : List ℕ) (at : ℕ) (reason : Reason) (at2 : ℕ) → HasRefusal objects (longs bytes) at reason → IsTruncatedObject bytes at2 → ⊥
+not_truncated bytes at reason at2 h k = front_passes objects reader object_reads (longs bytes) at reason h k.front
 
 pub one_fault : (bytes : List ℕ) (at at2 : ℕ) (reason reason2 : Reason) → HasObjectFault bytes at reason → HasObjectFault bytes at2 reason2 → (at ≡ at2) × (reason ≡ reason2)
 one_fault bytes at at2 reason reason2 (inl h) (inl k) = one_refusal objects reader object_reads (longs bytes) at at2 reason reason2 h k
-one_fault bytes at at2 reason reason2 (inl h) (inr k) = absurd (front_passes objects reader object_reads (longs bytes) at reason h k.1.front)
-one_fault bytes at at2 reason reason2 (inr h) (inl k) = absurd (front_passes objects reader object_reads (longs bytes) at2 reason2 k h.1.front)
+one_fault bytes at at2 reason reason2 (inl h) (inr k) = absurd (not_truncated bytes at reason at2 h k.1)
+one_fault bytes at at2 reason reason2 (inr h) (inl k) = absurd (not_truncated bytes at2 reason2 at k h.1)
 one_fault bytes at at2 reason reason2 (inr h) (inr k) = (h.1.place ∙ sym k.1.place, h.0 ∙ sym k.0)
 
 pub no_object : (bytes : List ℕ) (at : ℕ) (reason : Reason) → HasObjectFault bytes at reason → IsNoObjectFile bytes

@@ -11,14 +11,14 @@ use Rattle.hunk_blocks.specs.Values.{IsPayload}
 use Rattle.hunk_blocks.specs.Parts.{block_text}
 use Rattle.hunk_blocks.specs.Begins.{first_long}
 use Rattle.hunk_blocks.specs.Reading.{cut}
-use Rattle.hunk_blocks.specs.Faults.{words, HasRefusal, IsFront, FaultAhead}
-use Rattle.hunk_blocks.proofs.FaultLaws.{Embeds, embeds_same, same-labels, words-append}
+use Rattle.hunk_blocks.specs.Faults.{words, Expects, HasRefusal, IsFront, FaultAhead}
+use Rattle.hunk_blocks.proofs.FaultLaws.{Embeds, embeds_same, expects_embedded, same-labels, words-append}
 use Rattle.hunk_blocks.proofs.FrontLaws.{counted_front}
 use Rattle.hunk_blocks.proofs.Fronts.{All-right}
 use Rattle.hunk_blocks.proofs.Lists.{All-append, flat_map-append, passes_else}
 use Rattle.hunk_files.specs.ObjectFile.{ObjectHunk, UnitValue, ObjectFileValue, IsObjectHunk, IsUnit, IsNoObjectFile, unit_word, unit_header, unit_text, object_text}
 use Rattle.hunk_files.specs.ObjectParts.{BeginsWithText, EndsUnit}
-use Rattle.hunk_files.specs.ObjectFault.{WordPlace, BeforeUnits, BetweenHunks, InHunk, WordAt, UnitCount, UnitName, refuse_word, header_labelled, hunk_labelled, unit_labelled, units_labelled, blocks_from, units_from, objects, unread, MayBegin, HasObjectFault}
+use Rattle.hunk_files.specs.ObjectFault.{WordPlace, BeforeUnits, BetweenHunks, InHunk, ObjectRole, WordAt, UnitCount, UnitName, refuse_word, header_labelled, hunk_labelled, unit_labelled, units_labelled, blocks_from, units_from, objects, unread, MayBegin, HasObjectFault}
 use Rattle.hunk_files.proofs.HunkFaults.{blocks_words, fault_behind}
 use Rattle.hunk_files.proofs.ObjectDecoding.{unit_longs, object_longs}
 use Rattle.hunk_files.proofs.UnitReading.{UnitSoFar, UnitsSoFar, two_words, unit}
@@ -64,10 +64,10 @@ cut_is bytes fault p r =
     let place : fault.place ≡ 0 + 4 * length (longs bytes) = omega (arith, p) in
     λ i. record { place = place i; reason = r i }
 
-abbrev one_unit : List ℕ → ObjectFileValue
+abbrev pub one_unit : List ℕ → ObjectFileValue
 one_unit name = unit name [] ∷ []
 
-one_is : (name : List ℕ) → IsPayload (2 ^ 24) name → (0 < length (one_unit name)) × AllByRecursion IsUnit (one_unit name)
+pub one_is : (name : List ℕ) → IsPayload (2 ^ 24) name → (0 < length (one_unit name)) × AllByRecursion IsUnit (one_unit name)
 one_is name fits = (omega arith, (record { name = fits; hunks = tt }, tt))
 
 one_words : (place : WordPlace) (name : List ℕ) → words (units_labelled place (one_unit name)) ≡ unit_header name
@@ -97,6 +97,13 @@ pub name_missing : (place : WordPlace) (bytes : List ℕ) (fault : Fault) (count
 name_missing place bytes fault count ws fit split few short e =
     inr (e, subst (IsFront (units_from place)) (sym split) (count_front place count ws few short (All-right _ (unit_word ∷ count ∷ []) ws (subst AreLongs split (longs_fit bytes fit)))))
 
+-- a unit begins, and has a count
+pub expects_unit : (place : WordPlace) → Expects (units_from place) [] (WordAt place)
+expects_unit place = record { value = one_unit []; is = one_is [] no_name; done = []; word = unit_word; more = (UnitCount, 0) ∷ []; labels = refl; begins = refl }
+
+pub expects_count : (place : WordPlace) → Expects (units_from place) (unit_word ∷ []) UnitCount
+expects_count place = record { value = one_unit []; is = one_is [] no_name; done = (WordAt place, unit_word) ∷ []; word = 0; more = []; labels = refl; begins = refl }
+
 pub no_unit_word : (place : WordPlace) (bytes : List ℕ) (w : ℕ) (rest : List ℕ) (reason : Reason) → MayBegin place bytes → longs bytes ≡ w ∷ rest → w ≢ unit_word → refuse_word BeforeUnits w ≡ Some reason →
     FaultAhead (units_from place) (unread bytes) (record { place = 0; reason = reason })
 no_unit_word BetweenHunks bytes w rest reason may e ne refused = absurd (ne (sym (ap (λ ws. get_or ws 0 0) e) ∙ may))
@@ -113,7 +120,7 @@ no_unit_word BeforeUnits bytes w rest reason may e ne refused =
             role = WordAt BeforeUnits;
             split = e;
             place = omega arith;
-            expects = record { value = one_unit []; is = one_is [] no_name; done = []; word = unit_word; more = (UnitCount, 0) ∷ []; labels = refl; begins = refl };
+            expects = expects_unit BeforeUnits;
             refuses = refused;
           };
     })
@@ -131,7 +138,7 @@ count_refused place bytes count rest e many =
             role = UnitCount;
             split = e;
             place = omega arith;
-            expects = record { value = one_unit []; is = one_is [] no_name; done = (WordAt place, unit_word) ∷ []; word = 0; more = []; labels = refl; begins = refl };
+            expects = expects_count place;
             refuses = passes_else (ltb count (2 ^ 24)) None (Some reasons.NameWord) (le-ltb count (2 ^ 24) many);
           };
     })
@@ -160,6 +167,13 @@ hunk_embeds place u is =
           ∙ ap (λ ls. unit_labelled place u ++ (ls ++ [])) (sym (same-labels (hunk_labelled h)));
       refuses = λ r w reason h. h;
     }
+
+-- What is expected behind these hunks is expected of the units.
+pub expects_hunk : (place : WordPlace) (u : UnitValue) → IsUnit u → (before : List ℕ) (role : ObjectRole) → Expects (blocks_from BetweenHunks) before role → Expects (units_from place) (unit_text u ++ before) role
+unfolding hunk_embeds
+expects_hunk place u is before role e =
+    subst (λ ws. Expects (units_from place) (ws ++ before) role) (unit_words place u)
+    (expects_embedded (blocks_from BetweenHunks) (units_from place) (unit_labelled place u) (hunk_embeds place u is) before role e)
 
 -- A fault behind these hunks is one of the units.
 pub unit_ahead : (place : WordPlace) (bytes : List ℕ) (u : UnitValue) (at : ℕ) (fault whole : Fault) → UnitSoFar bytes u at → whole.place ≡ at + fault.place → whole.reason ≡ fault.reason →
@@ -193,6 +207,13 @@ units_embed us are =
     labels : (xs vs : ObjectFileValue) → units_labelled BeforeUnits (xs ++ vs) ≡ units_labelled BeforeUnits xs ++ units_labelled (place_after xs) vs
     labels [] vs = refl
     labels (x ∷ xs) vs = units-append BeforeUnits x xs vs
+
+-- What is expected behind these units is expected of the file.
+pub expects_units : (us : ObjectFileValue) → AllByRecursion IsUnit us → (before : List ℕ) (role : ObjectRole) → Expects (units_from (place_after us)) before role → Expects objects (object_text us ++ before) role
+unfolding units_embed embeds_same
+expects_units us are before role e =
+    subst (λ ws. Expects objects (ws ++ before) role) (units_words BeforeUnits us)
+    (expects_embedded (units_from (place_after us)) objects (units_labelled BeforeUnits us) (units_embed us are) before role e)
 
 -- A fault behind these units is one of the file.
 pub units_ahead : (bytes : List ℕ) (us : ObjectFileValue) (at : ℕ) (fault whole : Fault) → UnitsSoFar bytes us at → whole.place ≡ at + fault.place → whole.reason ≡ fault.reason →

@@ -3,13 +3,14 @@ use Rattle.std.specs.Prelude.{◌≡◌, ℕ, ◌≤◌, Bool, true, false, List
 use Rattle.std.specs.List.{flat_map, AllByRecursion}
 use Rattle.hunk_words.specs.Longs.{bytes_of}
 use Rattle.hunk_blocks.specs.declared.mode.Mode.TheVariants as modes
-use Rattle.hunk_blocks.specs.Values.{BlockBody, BlockValue, End, IsBlock}
+use Rattle.hunk_blocks.specs.Values.{BlockBody, BlockValue, IsBlock}
 use Rattle.hunk_blocks.specs.Parts.{block_text}
 use Rattle.hunk_blocks.specs.Modes.{IsOfMode}
+use Rattle.hunk_scan.specs.Standings.{is_ending}
+use Rattle.hunk_files.specs.LoadFile.{standing}
 
 abbrev pub is_end : BlockBody → Bool
-is_end End = true
-is_end _ = false
+is_end body = is_ending (standing body)
 
 abbrev pub block_texts : List BlockValue → List ℕ
 block_texts bs = flat_map block_text bs

@@ -1,19 +1,21 @@
 -- The longwords of an object file with their roles, the tests of them, and the first that is refused.
-use Rattle.std.specs.Prelude.{◌≡◌, ◌≢◌, ℕ, ◌*◌, ◌<◌, Bool, false, ◌||◌, ◌==◌, List, [], ◌∷◌, ◌++◌, length, map, ⊤, if◌then◌else◌, Option, Some, None, ◌⊎◌}
+use Rattle.std.specs.Prelude.{◌≡◌, ◌≢◌, ℕ, ◌*◌, ◌/◌, ◌^◌, ◌<◌, Bool, true, false, ◌||◌, ◌==◌, nat_lt, List, [], ◌∷◌, ◌++◌, length, map, ⊤, if◌then◌else◌, Option, Some, None, ◌⊎◌}
+use Rattle.std.specs.Int.{is_in_range}
 use Rattle.std.specs.List.{flat_map, AllByRecursion}
 use Rattle.hunk_words.specs.declared.reason.Reason.{Reason}
 use Rattle.hunk_words.specs.declared.reason.Reason.TheVariants as reasons
-use Rattle.hunk_words.specs.Bits.{kind}
+use Rattle.hunk_words.specs.Limits.{name_limit}
+use Rattle.hunk_words.specs.declared.block_word.Kind.{Kind}
+use Rattle.hunk_words.specs.declared.block_word.Kind.TheVariants as kinds
+use Rattle.hunk_words.specs.Bits.{has_both_bits, is_advisory, kind}
 use Rattle.hunk_words.specs.Longs.{longs}
-use Rattle.hunk_blocks.specs.declared.mode.Mode.TheVariants as modes
 use Rattle.hunk_blocks.specs.Values.{BlockValue, IsBlock}
 use Rattle.hunk_blocks.specs.Parts.{Part, Part as parts, block_parts}
-use Rattle.hunk_blocks.specs.Modes.{refuse_alone_word, refuse_inside}
 use Rattle.hunk_blocks.specs.Begins.{first_long}
 use Rattle.hunk_blocks.specs.Reading.{Unread}
 use Rattle.hunk_blocks.specs.Faults.{Grammar, HasRefusal, IsFront}
 use Rattle.hunk_files.specs.LoadFile.{standing, AreInOrder}
-use Rattle.hunk_scan.specs.Standings.{Standing, is_content, first_of, refuse_standing, standing_of_kind}
+use Rattle.hunk_scan.specs.Standings.{Standing, is_content}
 use Rattle.hunk_files.specs.ObjectFile.{ObjectHunk, UnitValue, ObjectFileValue, IsUnit, IsNoObjectFile, unit_word}
 
 -- ---- roles
@@ -65,30 +67,62 @@ abbrev pub units_labelled : WordPlace → ObjectFileValue → List (ObjectRole �
 units_labelled place [] = []
 units_labelled place (u ∷ us) = unit_labelled place u ++ units_labelled BetweenHunks us
 
--- ---- the tests
+-- ---- the tests, to be read beside docs/FORMAT.md
 
--- The test of UNIT.
+-- The test of a block word by its kind: the first line that fits. A UNIT stands here where it has a flag.
+abbrev pub refuse_kind : WordPlace → Bool → Kind → Option Reason
+refuse_kind place advisory kinds.Overlay = Some reasons.Overlay
+refuse_kind place advisory kinds.Break = Some reasons.Break
+refuse_kind place advisory kinds.Reloc32Short = Some reasons.ShortReloc
+refuse_kind place advisory kinds.Lib = Some reasons.Library
+refuse_kind place advisory kinds.Index = Some reasons.Library
+refuse_kind place advisory kinds.Header = Some reasons.Misplaced
+refuse_kind place false (kinds.Unknown n) = Some reasons.UnknownBlock
+refuse_kind place advisory kinds.Unit = Some reasons.Misplaced
+refuse_kind BeforeUnits advisory k = Some reasons.Misplaced
+refuse_kind (InHunk true) advisory kinds.Code = Some reasons.SecondContent
+refuse_kind (InHunk true) advisory kinds.Data = Some reasons.SecondContent
+refuse_kind (InHunk true) advisory kinds.Bss = Some reasons.SecondContent
+refuse_kind (InHunk true) advisory k = None
+refuse_kind place advisory kinds.Ext = Some reasons.BeforeContent
+refuse_kind place advisory kinds.Reloc32 = Some reasons.BeforeContent
+refuse_kind place advisory kinds.Reloc16 = Some reasons.BeforeContent
+refuse_kind place advisory kinds.Reloc8 = Some reasons.BeforeContent
+refuse_kind place advisory kinds.Drel32 = Some reasons.BeforeContent
+refuse_kind place advisory kinds.Drel16 = Some reasons.BeforeContent
+refuse_kind place advisory kinds.Drel8 = Some reasons.BeforeContent
+refuse_kind place advisory kinds.RelReloc32 = Some reasons.BeforeContent
+refuse_kind place advisory kinds.AbsReloc16 = Some reasons.BeforeContent
+refuse_kind place advisory kinds.End = Some reasons.NoContent
+refuse_kind place advisory k = None
+
+-- The test of UNIT without a flag.
 abbrev pub refuse_unit : WordPlace → Option Reason
 refuse_unit (InHunk has) = Some reasons.Misplaced
 refuse_unit place = None
 
--- The test of the place of any other block.
-abbrev pub refuse_place : WordPlace → Standing → Option Reason
-refuse_place BeforeUnits s = Some reasons.Misplaced
-refuse_place place s = refuse_standing (has_content place) s
-
--- The tests of a block word: those of a block that stands alone, and then that of its place.
+-- The tests of a block word.
 abbrev pub refuse_word : WordPlace → ℕ → Option Reason
 refuse_word place w =
     if w == unit_word then refuse_unit place
-    else first_of (refuse_alone_word modes.Object w) (refuse_place place (standing_of_kind (kind w)))
+    else if has_both_bits w then Some reasons.BothBits
+    else refuse_kind place (is_advisory w) (kind w)
+
+-- The test of the count of a UNIT's or NAME's name.
+abbrev pub refuse_count : ℕ → Option Reason
+refuse_count w = if nat_lt w name_limit then None else Some reasons.NameWord
+
+-- The test of the type of an EXT entry: SYMB, DEF and ABS, and those from REF32 to ABSREF8 are accepted.
+abbrev pub refuse_ext_type : ℕ → Option Reason
+refuse_ext_type n = if nat_lt n 3 then None else if is_in_range 129 139 n then None else Some reasons.ExtKind
 
 -- The tests of a longword of an object file.
 abbrev pub refuse_object : ObjectRole → ℕ → Option Reason
 refuse_object (WordAt place) w = refuse_word place w
-refuse_object UnitCount w = refuse_inside parts.NameCount w
-refuse_object UnitName w = None
-refuse_object (Within part) w = refuse_inside part w
+refuse_object UnitCount w = refuse_count w
+refuse_object (Within parts.NameCount) w = refuse_count w
+refuse_object (Within parts.ExtWord) w = refuse_ext_type (w / 2 ^ 24)
+refuse_object role w = None
 
 -- ---- the grammar
 

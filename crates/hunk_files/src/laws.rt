@@ -1,7 +1,7 @@
 //! Laws over the definitions alone: each function does nothing, and its contract is the law.
 ghost use Rattle.std.specs.Prelude.{◌≡◌, ℕ, List, [], ◌∷◌, ◌++◌, map, IsTrue, Some, None, ◌⊎◌};
 ghost use Rattle.std.specs.List.{AllByRecursion};
-ghost use Rattle.hunk_words.specs.Longs.{IsLong, IsBytes};
+ghost use Rattle.hunk_words.specs.Longs.{IsLong, IsBytes, longs, bytes_of};
 ghost use Rattle.hunk_words.specs.declared.reason.Reason.{Reason};
 ghost use Rattle.hunk_files.specs.LoadFile.{HunkValue, LoadFileValue, IsHunk, IsLoadFile};
 ghost use Rattle.hunk_scan.specs.Roles.{Role, refuse};
@@ -11,7 +11,8 @@ ghost use Rattle.hunk_files.specs.Image.{content, relocations, offsets, image};
 ghost use Rattle.hunk_files.specs.Overlap.{AreApart};
 ghost use Rattle.hunk_files.specs.SumImage.{IsSumImage};
 ghost use Rattle.hunk_files.specs.ObjectFile.{ObjectFileValue, IsNoObjectFile, IsObjectFile, object_text};
-ghost use Rattle.hunk_files.specs.ObjectFault.{HasObjectFault};
+ghost use Rattle.hunk_files.specs.ObjectFault.{HasObjectFault, IsTruncatedObject, ObjectRole, objects, refuse_object};
+ghost use Rattle.hunk_blocks.specs.Faults.{Expects as ExpectsOf, HasRefusal as RefusalOf, IsFront};
 ghost use Rattle.hunk_files.specs.Findings.{findings};
 ghost use Rattle.hunk_files.specs.Strip.{strip_file, strip_object};
 
@@ -83,11 +84,21 @@ pub fn strip_findings()
     ensures findings { (o : ObjectFileValue) → findings (strip_object o) ≡ findings o }
 {}
 
-/// Bytes have at most one fault as an object file, and none where they are one.
+/// Of every list of bytes just one of three holds: it is the text of an object file, all of it, a
+/// longword of it is refused, or it ends too soon. The fault is one, and the first, and a longword
+/// that is not refused goes on to an object file.
 pub fn object_fault()
+    ensures some { (bytes : List ℕ) → IsBytes bytes →
+        ((o : ObjectFileValue) × IsObjectFile o × (bytes ≡ bytes_of (object_text o)))
+        ⊎ ((at : ℕ) × (reason : Reason) × HasObjectFault bytes at reason) }
     ensures one { (bytes : List ℕ) (at at2 : ℕ) (reason reason2 : Reason) →
         HasObjectFault bytes at reason → HasObjectFault bytes at2 reason2 →
         (at ≡ at2) × (reason ≡ reason2) }
     ensures none { (bytes : List ℕ) (at : ℕ) (reason : Reason) →
         HasObjectFault bytes at reason → IsNoObjectFile bytes }
+    ensures not_truncated { (bytes : List ℕ) (at : ℕ) (reason : Reason) (at2 : ℕ) →
+        RefusalOf objects (longs bytes) at reason → IsTruncatedObject bytes at2 → ⊥ }
+    ensures complete { (before : List ℕ) (role : ObjectRole) (word : ℕ) →
+        ExpectsOf objects before role → IsLong word → refuse_object role word ≡ None →
+        IsFront objects (before ++ word ∷ []) }
 {}

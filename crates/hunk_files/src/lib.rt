@@ -5,6 +5,7 @@ pub mod laws;
 mod load;
 mod object;
 mod order;
+mod place;
 mod row;
 mod sniffing;
 #[cfg(test)]

@@ -1,5 +1,7 @@
 //! What stands where in a hunk.
 ghost use Rattle.std.specs.Prelude.{◌≡◌};
+ghost use Rattle.hunk_scan.specs.Standings.{is_ending};
+ghost use Rattle.hunk_files.specs.LoadFile.{standing};
 ghost use Rattle.hunk_files.specs.Strip.{is_kept};
 
 use hunk_blocks::{Block, Body};
@@ -13,4 +15,11 @@ pub(crate) fn is_kept(block: &Block<'_>) -> bool
         block.body(),
         Body::Name(_) | Body::Symbol(_) | Body::Debug(_) | Body::Advisory(_)
     )
+}
+
+/// Whether the block ends its hunk.
+pub(crate) fn is_end(block: &Block<'_>) -> bool
+    ensures { result ≡ is_ending (standing block.now.body) }
+{
+    matches!(block.body(), Body::End)
 }

@@ -7,6 +7,7 @@ mod large;
 mod memory;
 mod object;
 mod object_findings;
+mod object_refusals;
 mod object_texts;
 mod readers;
 mod writing;

@@ -33,7 +33,7 @@ pub enum Reason {
     ShortReloc,
     /// A block that this profile keeps out of load files.
     NotInLoadFile,
-    /// A HEADER or UNIT block in a place where none may stand.
+    /// A HEADER or UNIT block in a place where none may stand, or another before the first UNIT.
     Misplaced,
     /// A block type without a name, not advisory.
     UnknownBlock,

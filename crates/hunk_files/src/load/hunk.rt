@@ -2,11 +2,13 @@
 ghost use Rattle.std.specs.Prelude.{◌≡◌, ◌≢◌, ◌≤◌, ◌+◌, drop, map, IfOk, IfErr, length};
 ghost use Rattle.hunk_words.specs.declared.reason.Reason.TheVariants as reasons;
 ghost use Rattle.hunk_files.specs.Fault.{BeginsWithLoadFile};
-ghost use Rattle.hunk_files.specs.Hunks.{is_end, AreBlocksAt, HasNoHunk};
+ghost use Rattle.hunk_files.specs.Hunks.{AreBlocksAt, HasNoHunk};
 ghost use Rattle.hunk_files.specs.Tables.{hunk_of, IsTable};
 
+use crate::order::is_end;
+use crate::place::counted_from;
 use crate::row::Row;
-use hunk_blocks::{Block, Body, Mode};
+use hunk_blocks::{Block, Mode};
 use hunk_words::{FileFault, Reason};
 use std::alloc::Global;
 
@@ -15,13 +17,6 @@ use std::alloc::Global;
 pub(crate) struct LoadHunk<'a> {
     pub row: Row,
     pub blocks: Vec<Block<'a>>,
-}
-
-/// Whether the block ends its hunk.
-fn is_end(block: &Block<'_>) -> bool
-    ensures { result ≡ is_end block.now.body }
-{
-    matches!(block.body(), Body::End)
 }
 
 /// The blocks up to END that stand at `start`, and the byte behind them.
@@ -40,12 +35,7 @@ pub(crate) fn read_hunk<'a>(
     'reading: loop {
         let (block, size) = match Block::decode(alloc, &bytes[at..], Mode::Load) {
             Ok(decoded) => decoded,
-            Err(fault) => {
-                return Err(FileFault {
-                    place: fault.place.saturating_add(at as u64),
-                    reason: fault.reason,
-                });
-            }
+            Err(fault) => return Err(counted_from(at, fault)),
         };
         at += size;
         let hunk_ends = is_end(&block);

@@ -5,9 +5,10 @@ ghost use Rattle.hunk_words.specs.declared.reason.Reason.TheVariants as reasons;
 ghost use Rattle.hunk_files.specs.ObjectFile.{IsNoObjectFile, is_object_refusal, IsObjectFile, object_text};
 ghost use Rattle.hunk_files.specs.ObjectFault.{HasObjectFault};
 
-use crate::object::refusal::{counted_from, out_of_memory};
+use crate::object::refusal::out_of_memory;
 use crate::object::unit::Unit;
 use crate::object::walk::read_unit;
+use crate::place::counted_from;
 use hunk_words::FileFault;
 use std::alloc::Global;
 use std::marker::Model;

@@ -1,5 +1,5 @@
 //! What is refused in an object file, and where.
-ghost use Rattle.std.specs.Prelude.{◌≡◌, ◌+◌, ◌*◌, ◌^◌, ◌<◌, ◌≤◌, ◌↔◌, IfSome, IsNone, IsTrue, length};
+ghost use Rattle.std.specs.Prelude.{◌≡◌, ◌+◌, ◌*◌, ◌≤◌, ◌↔◌, IfSome, IsNone, IsTrue, length};
 ghost use Rattle.hunk_words.specs.Longs.{longs};
 ghost use Rattle.hunk_words.specs.declared.reason.Reason.TheVariants as reasons;
 ghost use Rattle.hunk_files.specs.ObjectFile.{is_object_refusal, unit_word};
@@ -45,16 +45,5 @@ pub(super) fn out_of_memory(at: usize) -> FileFault
     FileFault {
         place: (at as u64).saturating_sub(4),
         reason: Reason::OutOfMemory,
-    }
-}
-
-/// The refusal of what begins at byte `at`, whose place counts from there.
-pub(super) fn counted_from(at: usize, fault: FileFault) -> FileFault
-    ensures place { at + fault.place < 2 ^ 64 → result.place ≡ at + fault.place }
-    ensures reason { result.reason ≡ fault.reason }
-{
-    FileFault {
-        place: (at as u64).saturating_add(fault.place),
-        reason: fault.reason,
     }
 }

@@ -11,13 +11,15 @@ ghost use Rattle.hunk_blocks.specs.Begins.{BeginsWithBlock, first_long};
 ghost use Rattle.hunk_blocks.specs.Faults.{FaultAhead};
 ghost use Rattle.hunk_blocks.specs.Reading.{BeginsWithNo, cut};
 ghost use Rattle.hunk_files.specs.LoadFile.{standing};
-ghost use Rattle.hunk_scan.specs.Standings.{is_content, is_ending, refuse_standing};
+ghost use Rattle.hunk_scan.specs.Standings.{is_content, refuse_standing};
 ghost use Rattle.hunk_files.specs.ObjectFile.{IsNoObjectFile, is_object_refusal, IsObjectHunk, IsUnit, unit_header, unit_text, unit_word};
 ghost use Rattle.hunk_files.specs.ObjectFault.{WordPlace, BetweenHunks, MayBegin, MayGoOn, blocks_from, units_from, unread};
 ghost use Rattle.hunk_files.specs.ObjectParts.{BeginsWithText, EndsUnit, MayStand};
 
-use crate::object::refusal::{UNIT, counted_from, out_of_memory, refuse_unit_word, truncated};
+use crate::object::refusal::{UNIT, out_of_memory, refuse_unit_word, truncated};
 use crate::object::unit::{Hunk, Unit};
+use crate::order::is_end;
+use crate::place::counted_from;
 use hunk_blocks::{Block, Body, Mode, Payload};
 use hunk_scan::refuse_place;
 use hunk_words::{BlockWord, FileFault, NAME_LIMIT, Reason, SizeWord, word_at};
@@ -53,13 +55,6 @@ fn is_content(block: &Block) -> bool
             | Body::Data { top: _, payload: _ }
             | Body::Bss { size: _ }
     )
-}
-
-/// Whether the block ends its hunk.
-fn is_end(block: &Block) -> bool
-    ensures { result ≡ is_ending (standing block.now.body) }
-{
-    matches!(block.body(), Body::End)
 }
 
 /// The block in front, which may stand in a hunk at this place, and the number of its bytes.

@@ -1,8 +1,18 @@
-use Rattle.hunk_files.proofs.OneObjectFault.{one_fault, no_object}
+use Rattle.hunk_files.proofs.ObjectOutcome.{some_outcome, word_goes_on}
+use Rattle.hunk_files.proofs.OneObjectFault.{one_fault, no_object, not_truncated}
 use Rattle.hunk_files.proofs.laws.object_fault.Goals as goal
+
+pub returns-clause-some : goal.returns-clause-some
+returns-clause-some c = some_outcome
 
 pub returns-clause-one : goal.returns-clause-one
 returns-clause-one c = one_fault
 
 pub returns-clause-none : goal.returns-clause-none
 returns-clause-none c = no_object
+
+pub returns-clause-complete : goal.returns-clause-complete
+returns-clause-complete c = word_goes_on
+
+pub returns-clause-not_truncated : goal.returns-clause-not_truncated
+returns-clause-not_truncated c = not_truncated

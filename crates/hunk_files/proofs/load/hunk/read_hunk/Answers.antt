@@ -1,4 +1,4 @@
-use Rattle.std.proofs.Common.{arith, ◌+◌, ◌≡◌, ℕ, List, [], ◌∷◌, ◌++◌, rules, subst, sym}
+use Rattle.std.proofs.Common.{arith, ◌+◌, ◌≡◌, ℕ, List, [], ◌∷◌, ◌++◌, rules, subst, sym, ◌∙◌}
 use Rattle.std.proofs.lemmas.List.{take_rest}
 use Rattle.hunk_blocks.specs.declared.mode.Mode.TheVariants as modes
 use Rattle.hunk_blocks.specs.Values.{BlockValue}
@@ -16,7 +16,7 @@ pub returns-in-Err-clause-none : goal.returns-in-Err-clause-none
 returns-in-Err-clause-none c other =
     let bytes = c.args.bytes.now in
     let P : List ℕ → Type 0 = λ rest. BeginsWithNoBlock modes.Load rest in
-    no_hunk bytes c.args.start c.reading.blocks.items c.reading.at c.reading.invariant (subst P (take_rest bytes c.reading.at) (c.in-Err.ensures.none other))
+    no_hunk bytes c.args.start c.reading.blocks.items c.reading.at c.reading.invariant (subst P (take_rest bytes c.reading.at) (c.in-Err.ensures.none (λ e. other (c.counted_from.ensures.reason ∙ e))))
 
 pub out_of_memory-requires : goal.out_of_memory-requires
 out_of_memory-requires c =

@@ -1,0 +1,366 @@
+-- What has been read of an object file can be completed, and goes on as long as no longword is refused.
+use Rattle.std.proofs.Common.{◌≡◌, ℕ, zero, suc, ◌+◌, ◌^◌, ◌<◌, Bool, true, false, ◌||◌, cond, eqb, ltb, List, [], ◌∷◌, ◌++◌, length, map, refl, sym, ap, subst, ◌∙◌, append_assoc, append-nil, length-append, arith, Option, Some, None}
+use Rattle.std.specs.List.{flat_map, AllByRecursion}
+use Rattle.std.proofs.lemmas.Bool.{eqb-true, ltb-true}
+use Rattle.std.proofs.lemmas.List.{map-append}
+use Rattle.hunk_words.specs.declared.reason.Reason.{Reason}
+use Rattle.hunk_words.specs.declared.reason.Reason.TheVariants as reasons
+use Rattle.hunk_words.specs.Bits.{kind}
+use Rattle.hunk_words.specs.Longs.{IsLong, AreLongs}
+use Rattle.hunk_blocks.specs.declared.mode.Mode.TheVariants as modes
+use Rattle.hunk_blocks.specs.Values.{BlockValue, IsBlock, IsPayload}
+use Rattle.hunk_blocks.specs.Parts.{block_text}
+use Rattle.hunk_blocks.specs.Modes.{refuse_alone_word, refuse_inside}
+use Rattle.hunk_blocks.specs.Faults.{words, Expects, blocks}
+use Rattle.hunk_blocks.specs.BlockSteps.{Inside, BlockNext, Open, Whole, part_of, step_inside, begin}
+use Rattle.hunk_blocks.proofs.Admitted.{block}
+use Rattle.hunk_blocks.proofs.BlockOutcome.{Inner, block_is, expects_inside, steps_inside, begins_inside}
+use Rattle.hunk_blocks.proofs.BlockProgress.{read_inside}
+use Rattle.hunk_blocks.proofs.Lists.{All-more, All-append, flat_map-more, map-more, more_owed, passed_true}
+use Rattle.hunk_blocks.proofs.OneBlockFault.{part_not_word}
+use Rattle.hunk_files.specs.LoadFile.{standing, AreInOrder}
+use Rattle.hunk_scan.specs.Standings.{Standing, Beside, Content, Relocating, Ending, is_content, is_ending, refuse_standing, standing_of_kind, first_of}
+use Rattle.hunk_files.specs.ObjectFile.{ObjectHunk, UnitValue, ObjectFileValue, IsObjectFile, IsObjectHunk, IsUnit, unit_word, unit_header, unit_text, object_text}
+use Rattle.hunk_files.specs.ObjectFault.{WordPlace, BeforeUnits, BetweenHunks, InHunk, ObjectRole, WordAt, UnitCount, UnitName, Within, has_content, behind_block, role_at, refuse_unit, refuse_word, refuse_object, blocks_from, units_from, objects}
+use Rattle.hunk_files.proofs.HunkFaults.{blocks_at, expects_block, expects_word, expects_within, expects_behind, place_behind, opened}
+use Rattle.hunk_files.proofs.ObjectDecoding.{Leads, leads_one, leads_more, leads_end, end_stands, standings, standing_is}
+use Rattle.hunk_files.proofs.OneObjectFault.{ObjectState, AtWord, AtCount, InName, InBlock, place_next, in_block, behind_name, reader}
+use Rattle.hunk_files.proofs.ObjectWords.{refuse_place, within_role, within_split, word_split}
+use Rattle.hunk_files.proofs.UnitFaults.{place_after, one_unit, one_is, expects_unit, expects_count, expects_hunk, expects_units}
+use Rattle.hunk_files.proofs.UnitReading.{unit}
+
+-- ---- what is read so far
+
+-- Units, a unit with its hunks, the blocks of the open hunk, and what was read behind them.
+pub record InUnit (place : WordPlace) (ws tail : List ℕ) : Type 0 where
+  pub units : ObjectFileValue
+  pub unit_open : UnitValue
+  pub blocks : ObjectHunk
+  pub are_units : AllByRecursion IsUnit units
+  pub is_unit : IsUnit unit_open
+  pub are_blocks : AllByRecursion IsBlock blocks
+  pub leads : Leads false (standings blocks) (has_content place)
+  pub place_is : place_behind BetweenHunks blocks ≡ place
+  pub words_are : ws ≡ object_text units ++ (unit_text unit_open ++ (flat_map block_text blocks ++ tail))
+
+-- units, and what was read behind them
+pub record BehindUnits (ws tail : List ℕ) : Type 0 where
+  pub units : ObjectFileValue
+  pub are_units : AllByRecursion IsUnit units
+  pub words_are : ws ≡ object_text units ++ tail
+
+-- the longwords of a name, of which so many are to come behind the next
+pub record InUnitName (owed : ℕ) (ws : List ℕ) : Type 0 where
+  pub name : List ℕ
+  pub count : ℕ
+  pub name_fits : AreLongs name
+  pub few : count < 2 ^ 24
+  pub counts : count ≡ length name + suc owed
+  pub behind : BehindUnits ws (unit_word ∷ count ∷ name)
+
+pub record InUnitBlock (next : WordPlace) (x : Inside) (ws : List ℕ) : Type 0 where
+  pub place : WordPlace
+  pub word : ℕ
+  pub tail : List ℕ
+  pub in_unit : InUnit place ws tail
+  pub inner : Inner modes.Object (Open x) word tail
+  pub stands : refuse_place place (standing_of_kind (kind word)) ≡ None
+  pub next_is : place_next place (standing_of_kind (kind word)) ≡ next
+
+abbrev SoFarAt : WordPlace → List ℕ → Type 0
+SoFarAt BeforeUnits ws = ws ≡ []
+SoFarAt BetweenHunks ws = InUnit BetweenHunks ws []
+SoFarAt (InHunk has) ws = InUnit (InHunk has) ws []
+
+abbrev pub SoFar : ObjectState → List ℕ → Type 0
+SoFar (AtWord place) ws = SoFarAt place ws
+SoFar AtCount ws = BehindUnits ws (unit_word ∷ [])
+SoFar (InName owed) ws = InUnitName owed ws
+SoFar (InBlock next x) ws = InUnitBlock next x ws
+
+-- ---- it is completed
+
+in_file : (ws tail : List ℕ) (role : ObjectRole) → (h : BehindUnits ws tail) → Expects (units_from (place_after h.units)) tail role → Expects objects ws role
+in_file ws tail role h e = subst (λ ys. Expects objects ys role) (sym h.words_are) (expects_units h.units h.are_units tail role e)
+
+in_open : (place : WordPlace) (ws tail : List ℕ) (role : ObjectRole) → InUnit place ws tail → Expects (blocks_from place) tail role → Expects objects ws role
+in_open place ws tail role h e =
+    let here = subst (λ (p : WordPlace). Expects (blocks_from p) tail role) (sym h.place_is) e in
+    let hunk = expects_behind h.blocks (has_content place) h.are_blocks h.leads tail role here in
+    in_file ws (unit_text h.unit_open ++ (flat_map block_text h.blocks ++ tail)) role
+    (record { units = h.units; are_units = h.are_units; words_are = h.words_are })
+    (expects_hunk (place_after h.units) h.unit_open h.is_unit (flat_map block_text h.blocks ++ tail) role hunk)
+
+word_expected : (place : WordPlace) (ws : List ℕ) → SoFarAt place ws → Expects objects ws (WordAt place)
+word_expected BeforeUnits ws h = subst (λ ys. Expects objects ys (WordAt BeforeUnits)) (sym h) (expects_unit BeforeUnits)
+word_expected BetweenHunks ws h = in_open BetweenHunks ws [] (WordAt BetweenHunks) h (expects_block BetweenHunks [] (WordAt BetweenHunks) (expects_word BetweenHunks))
+word_expected (InHunk has) ws h = in_open (InHunk has) ws [] (WordAt (InHunk has)) h (expects_block (InHunk has) [] (WordAt (InHunk has)) (expects_word (InHunk has)))
+
+zeros : ℕ → List ℕ
+zeros zero = []
+zeros (suc n) = 0 ∷ zeros n
+
+zeros_fit : (n : ℕ) → AreLongs (zeros n) × (length (zeros n) ≡ n)
+unfolding zeros
+zeros_fit zero = (tt, refl)
+zeros_fit (suc n) = let z = zeros_fit n in ((omega arith, z.0), omega (arith, z.1))
+
+name_expected : (place : WordPlace) (count : ℕ) (name : List ℕ) (owed : ℕ) → AreLongs name → count < 2 ^ 24 → count ≡ length name + suc owed → Expects (units_from place) (unit_word ∷ count ∷ name) UnitName
+name_expected place count name owed fit few counts =
+    let z = zeros_fit owed in
+    let whole : List ℕ = name ++ 0 ∷ zeros owed in
+    let same : length whole ≡ count = omega (arith, counts, z.1, length-append name (0 ∷ zeros owed)) in
+    let named : ℕ → ObjectRole × ℕ = λ w. (UnitName, w) in
+    record {
+      value = one_unit whole;
+      is = one_is whole (omega (arith, same, few), All-append IsLong name (0 ∷ zeros owed) fit (omega arith, z.0));
+      done = (WordAt place, unit_word) ∷ (UnitCount, count) ∷ map named name;
+      word = 0;
+      more = map named (zeros owed);
+      labels =
+          append-nil (((WordAt place, unit_word) ∷ (UnitCount, length whole) ∷ map named whole) ++ [])
+          ∙ append-nil ((WordAt place, unit_word) ∷ (UnitCount, length whole) ∷ map named whole)
+          ∙ ap (λ (n : ℕ). (WordAt place, unit_word) ∷ (UnitCount, n) ∷ map named whole) same
+          ∙ ap (λ ls. (WordAt place, unit_word) ∷ (UnitCount, count) ∷ ls) (map-append named name (0 ∷ zeros owed));
+      begins = ap (λ ys. unit_word ∷ count ∷ ys) (names name);
+    }
+  where
+    names : (xs : List ℕ) → words (map (λ (w : ℕ). (UnitName, w)) xs) ≡ xs
+    names [] = refl
+    names (x ∷ xs) = ap (λ ys. x ∷ ys) (names xs)
+
+standing_goes : (place : WordPlace) (s : Standing) → refuse_place place s ≡ None → refuse_standing (has_content place) s ≡ None
+standing_goes BeforeUnits s ok = absurd cc
+standing_goes BetweenHunks s ok = ok
+standing_goes (InHunk has) s ok = ok
+
+inside_expected : (next : WordPlace) (x : Inside) (ws : List ℕ) → InUnitBlock next x ws → Expects objects ws (Within (part_of x))
+inside_expected next x ws h =
+    let before : List ℕ = words (read_inside x) in
+    let alone : Expects (blocks modes.Object) (h.word ∷ before) (part_of x) = subst (λ ys. Expects (blocks modes.Object) ys (part_of x)) h.inner.words_are (expects_inside modes.Object x h.word h.tail h.inner) in
+    let here : Expects (blocks_at h.place) (h.word ∷ before) (role_at h.place (part_of x)) = (expects_within h.place h.word (standing_goes h.place (standing_of_kind (kind h.word)) h.stands) before (part_of x) alone).0 in
+    let within = subst (Expects (blocks_at h.place) (h.word ∷ before)) (within_role h.place (part_of x) (part_not_word x)) here in
+    in_open h.place ws h.tail (Within (part_of x)) h.in_unit
+    (expects_block h.place h.tail (Within (part_of x)) (subst (λ ys. Expects (blocks_at h.place) ys (Within (part_of x))) (sym h.inner.words_are) within))
+
+-- ---- it goes on
+
+-- one longword more behind the blocks
+read_more : (place : WordPlace) (ws tail : List ℕ) (w : ℕ) → InUnit place ws tail → InUnit place (ws ++ w ∷ []) (tail ++ w ∷ [])
+read_more place ws tail w h =
+    record {
+      units = h.units;
+      unit_open = h.unit_open;
+      blocks = h.blocks;
+      are_units = h.are_units;
+      is_unit = h.is_unit;
+      are_blocks = h.are_blocks;
+      leads = h.leads;
+      place_is = h.place_is;
+      words_are =
+          ap (λ ys. ys ++ w ∷ []) h.words_are
+          ∙ append_assoc (object_text h.units) (unit_text h.unit_open ++ (flat_map block_text h.blocks ++ tail)) (w ∷ [])
+          ∙ ap (λ ys. object_text h.units ++ ys) (append_assoc (unit_text h.unit_open) (flat_map block_text h.blocks ++ tail) (w ∷ []) ∙ ap (λ ys. unit_text h.unit_open ++ ys) (append_assoc (flat_map block_text h.blocks) tail (w ∷ [])));
+    }
+
+units_more : (ws tail : List ℕ) (w : ℕ) → BehindUnits ws tail → BehindUnits (ws ++ w ∷ []) (tail ++ w ∷ [])
+units_more ws tail w h =
+    record { units = h.units; are_units = h.are_units; words_are = ap (λ ys. ys ++ w ∷ []) h.words_are ∙ append_assoc (object_text h.units) tail (w ∷ []) }
+
+-- between hunks no block is open
+none_open : (bs : ObjectHunk) → place_behind BetweenHunks bs ≡ BetweenHunks → bs ≡ []
+none_open [] e = refl
+none_open (b ∷ bs) e =
+    let o = opened BetweenHunks b bs in
+    let clash : InHunk o.0 ≡ BetweenHunks = sym o.1 ∙ e in
+    cc
+
+-- What was read up to there is an object file.
+pub whole_units : (ws : List ℕ) → InUnit BetweenHunks ws [] → (o : ObjectFileValue) × IsObjectFile o × (ws ≡ object_text o)
+whole_units ws h = (
+  h.units ++ h.unit_open ∷ [],
+  record { some = omega (arith, length-append h.units (h.unit_open ∷ [])); units = All-more IsUnit h.units h.unit_open h.are_units h.is_unit },
+  h.words_are
+      ∙ ap (λ (bs : ObjectHunk). object_text h.units ++ (unit_text h.unit_open ++ (flat_map block_text bs ++ []))) (none_open h.blocks h.place_is)
+      ∙ ap (λ ys. object_text h.units ++ ys) (append-nil (unit_text h.unit_open))
+      ∙ sym (flat_map-more unit_text h.units h.unit_open),
+)
+
+-- a hunk is whole
+hunk_closed : (place : WordPlace) (ws : List ℕ) (b : BlockValue) → InUnit place ws (block_text b) → IsBlock b → refuse_standing (has_content place) (standing b.body) ≡ None → is_ending (standing b.body) ≡ true → InUnit BetweenHunks ws []
+hunk_closed place ws b h is ok e =
+    let u : UnitValue = h.unit_open in
+    let hunk : ObjectHunk = h.blocks ++ b ∷ [] in
+    let closed : IsObjectHunk hunk =
+    record {
+      blocks = All-more IsBlock h.blocks b h.are_blocks is;
+      order = subst (AreInOrder false) (sym (map-more (λ c. standing c.body) h.blocks b)) (leads_end false (has_content place) (standings h.blocks) (standing b.body ∷ []) h.leads (end_stands (has_content place) (standing b.body) ok e));
+    } in
+    let text : unit_text (unit u.name (u.hunks ++ hunk ∷ [])) ≡ unit_text u ++ (flat_map block_text h.blocks ++ block_text b) =
+    ap (λ ys. unit_header u.name ++ ys) (flat_map-more (flat_map block_text) u.hunks hunk)
+    ∙ sym (append_assoc (unit_header u.name) (flat_map (flat_map block_text) u.hunks) (flat_map block_text hunk))
+    ∙ ap (λ ys. unit_text u ++ ys) (flat_map-more block_text h.blocks b) in
+    record {
+      units = h.units;
+      unit_open = unit u.name (u.hunks ++ hunk ∷ []);
+      blocks = [];
+      are_units = h.are_units;
+      is_unit = record { name = h.is_unit.name; hunks = All-more IsObjectHunk u.hunks hunk h.is_unit.hunks closed };
+      are_blocks = tt;
+      leads = refl;
+      place_is = refl;
+      words_are = h.words_are ∙ ap (λ ys. object_text h.units ++ ys) (sym text ∙ sym (append-nil (unit_text (unit u.name (u.hunks ++ hunk ∷ [])))));
+    }
+
+place_more : (place : WordPlace) (bs : ObjectHunk) (b : BlockValue) → place_behind place (bs ++ b ∷ []) ≡ behind_block (place_behind place bs) (standing b.body)
+place_more place [] b = refl
+place_more place (c ∷ bs) b = place_more (behind_block place (standing c.body)) bs b
+
+-- a block is whole, and its hunk goes on
+block_closed : (place : WordPlace) (ws : List ℕ) (b : BlockValue) → InUnit place ws (block_text b) → IsBlock b → refuse_standing (has_content place) (standing b.body) ≡ None → is_ending (standing b.body) ≡ false →
+    InUnit (behind_block place (standing b.body)) ws []
+block_closed place ws b h is ok e =
+    let has : Bool = has_content place in
+    record {
+      units = h.units;
+      unit_open = h.unit_open;
+      blocks = h.blocks ++ b ∷ [];
+      are_units = h.are_units;
+      is_unit = h.is_unit;
+      are_blocks = All-more IsBlock h.blocks b h.are_blocks is;
+      leads =
+          subst (λ (ss : List Standing). Leads false ss (has || is_content (standing b.body))) (sym (map-more (λ c. standing c.body) h.blocks b))
+          (leads_more false has (has || is_content (standing b.body)) (standings h.blocks) (standing b.body ∷ []) h.leads (leads_one has (standing b.body) ok e));
+      place_is = place_more BetweenHunks h.blocks b ∙ ap (λ (p : WordPlace). behind_block p (standing b.body)) h.place_is;
+      words_are =
+          h.words_are
+          ∙ ap (λ ys. object_text h.units ++ (unit_text h.unit_open ++ ys)) (sym (flat_map-more block_text h.blocks b) ∙ sym (append-nil (flat_map block_text (h.blocks ++ b ∷ []))));
+    }
+
+-- Behind a whole block the next block word is expected.
+closed : (place : WordPlace) (ws : List ℕ) (b : BlockValue) → InUnit place ws (block_text b) → IsBlock b → refuse_standing (has_content place) (standing b.body) ≡ None → SoFarAt (place_next place (standing b.body)) ws
+closed place ws b h is ok = go (standing b.body) refl
+  where
+    go : (s : Standing) → standing b.body ≡ s → SoFarAt (place_next place s) ws
+    go Ending e = hunk_closed place ws b h is ok (ap is_ending e)
+    go Beside e = subst (λ (s : Standing). InUnit (behind_block place s) ws []) e (block_closed place ws b h is ok (ap is_ending e))
+    go Content e = subst (λ (s : Standing). InUnit (behind_block place s) ws []) e (block_closed place ws b h is ok (ap is_ending e))
+    go Relocating e = subst (λ (s : Standing). InUnit (behind_block place s) ws []) e (block_closed place ws b h is ok (ap is_ending e))
+
+-- A block word and what was read behind it.
+in_block_so_far : (place : WordPlace) (ws tail : List ℕ) (w : ℕ) (n : BlockNext) → InUnit place ws tail → Inner modes.Object n w tail → refuse_place place (standing_of_kind (kind w)) ≡ None → SoFar (in_block (place_next place (standing_of_kind (kind w))) n) ws
+in_block_so_far place ws tail w (Open x) h i ok = record { place = place; word = w; tail = tail; in_unit = h; inner = i; stands = ok; next_is = refl }
+in_block_so_far place ws tail w (Whole b) h i ok =
+    let is = (block_is modes.Object w b i.fits i.ok i.inside).0 in
+    let same : standing b ≡ standing_of_kind (kind w) = standing_is w b i.inside in
+    subst (λ (s : Standing). SoFarAt (place_next place s) ws) same
+    (closed place ws (block w b) (subst (InUnit place ws) i.words_are h) is (ap (refuse_standing (has_content place)) same ∙ standing_goes place (standing_of_kind (kind w)) ok))
+
+-- ---- each longword that is not refused
+
+first_both : (o next : Option Reason) → first_of o next ≡ None → (o ≡ None) × (next ≡ None)
+first_both (Some reason) next e = absurd cc
+first_both None next e = (refl, e)
+
+-- a unit begins
+unit_begins : (place : WordPlace) (ws : List ℕ) (w : ℕ) → SoFarAt place ws → w ≡ unit_word → refuse_unit place ≡ None → BehindUnits (ws ++ w ∷ []) (unit_word ∷ [])
+unit_begins BeforeUnits ws w h e ok = record { units = []; are_units = tt; words_are = ap (λ ys. ys ++ w ∷ []) h ∙ ap (λ (v : ℕ). v ∷ []) e }
+unit_begins BetweenHunks ws w h e ok =
+    let o = whole_units ws h in
+    record { units = o.0; are_units = o.1.units; words_are = ap (λ ys. ys ++ w ∷ []) o.2 ∙ ap (λ (v : ℕ). object_text o.0 ++ v ∷ []) e }
+unit_begins (InHunk has) ws w h e ok = absurd cc
+
+block_begins : (place : WordPlace) (ws : List ℕ) (w : ℕ) → SoFarAt place ws → IsLong w → refuse_alone_word modes.Object w ≡ None → refuse_place place (standing_of_kind (kind w)) ≡ None → SoFar (in_block (place_next place (standing_of_kind (kind w))) (begin (kind w))) (ws ++ w ∷ [])
+block_begins BeforeUnits ws w h l alone ok = absurd cc
+block_begins BetweenHunks ws w h l alone ok = in_block_so_far BetweenHunks (ws ++ w ∷ []) (w ∷ []) w (begin (kind w)) (read_more BetweenHunks ws [] w h) (begins_inside modes.Object w l alone) ok
+block_begins (InHunk has) ws w h l alone ok = in_block_so_far (InHunk has) (ws ++ w ∷ []) (w ∷ []) w (begin (kind w)) (read_more (InHunk has) ws [] w h) (begins_inside modes.Object w l alone) ok
+
+word_goes_on : (place : WordPlace) (ws : List ℕ) (w : ℕ) → SoFarAt place ws → IsLong w → refuse_word place w ≡ None → SoFar (reader.step (AtWord place) w) (ws ++ w ∷ [])
+word_goes_on place ws w h l ok = go (eqb w unit_word) refl (sym (word_split place w) ∙ ok)
+  where
+    goes : ObjectState
+    goes = in_block (place_next place (standing_of_kind (kind w))) (begin (kind w))
+
+    go : (b : Bool) → eqb w unit_word ≡ b → cond b (refuse_unit place) (first_of (refuse_alone_word modes.Object w) (refuse_place place (standing_of_kind (kind w)))) ≡ None → SoFar (cond b AtCount goes) (ws ++ w ∷ [])
+    go true e pass = unit_begins place ws w h (eqb-true w unit_word e) pass
+    go false e pass = let both = first_both (refuse_alone_word modes.Object w) (refuse_place place (standing_of_kind (kind w))) pass in block_begins place ws w h l both.0 both.1
+
+-- behind the last longword of a name
+named : (ws name : List ℕ) (count : ℕ) → BehindUnits ws (unit_word ∷ count ∷ name) → IsPayload (2 ^ 24) name → count ≡ length name → InUnit BetweenHunks ws []
+named ws name count h fits counts =
+    record {
+      units = h.units;
+      unit_open = unit name [];
+      blocks = [];
+      are_units = h.are_units;
+      is_unit = record { name = fits; hunks = tt };
+      are_blocks = tt;
+      leads = refl;
+      place_is = refl;
+      words_are =
+          h.words_are
+          ∙ ap (λ (n : ℕ). object_text h.units ++ unit_word ∷ n ∷ name) counts
+          ∙ ap (λ ys. object_text h.units ++ ys) (sym (append-nil (unit_header name)) ∙ sym (append-nil (unit_header name ++ [])));
+    }
+
+count_goes_on : (ws : List ℕ) (w : ℕ) → BehindUnits ws (unit_word ∷ []) → w < 2 ^ 24 → SoFar (behind_name w) (ws ++ w ∷ [])
+count_goes_on ws zero h few = named (ws ++ 0 ∷ []) [] 0 (units_more ws (unit_word ∷ []) 0 h) (omega arith, tt) refl
+count_goes_on ws (suc owed) h few =
+    record { name = []; count = suc owed; name_fits = tt; few = few; counts = omega arith; behind = units_more ws (unit_word ∷ []) (suc owed) h }
+
+name_goes_on : (owed : ℕ) (ws : List ℕ) (w : ℕ) → InUnitName owed ws → IsLong w → SoFar (behind_name owed) (ws ++ w ∷ [])
+name_goes_on owed ws w h l = go owed h.counts
+  where
+    fit : AreLongs (h.name ++ w ∷ [])
+    fit = All-more IsLong h.name w h.name_fits l
+
+    behind : BehindUnits (ws ++ w ∷ []) (unit_word ∷ h.count ∷ (h.name ++ w ∷ []))
+    behind = units_more ws (unit_word ∷ h.count ∷ h.name) w h.behind
+
+    go : (n : ℕ) → h.count ≡ length h.name + suc n → SoFar (behind_name n) (ws ++ w ∷ [])
+    go zero e =
+        let same : h.count ≡ length (h.name ++ w ∷ []) = omega (arith, e, length-append h.name (w ∷ [])) in
+        named (ws ++ w ∷ []) (h.name ++ w ∷ []) h.count behind (omega (arith, same, h.few), fit) same
+    go (suc n) e = record { name = h.name ++ w ∷ []; count = h.count; name_fits = fit; few = h.few; counts = e ∙ sym (more_owed h.name w (suc n)); behind = behind }
+
+inside_goes_on : (next : WordPlace) (x : Inside) (ws : List ℕ) (w : ℕ) → InUnitBlock next x ws → IsLong w → refuse_inside (part_of x) w ≡ None → SoFar (in_block next (step_inside x w)) (ws ++ w ∷ [])
+inside_goes_on next x ws w h l ok =
+    subst (λ (p : WordPlace). SoFar (in_block p (step_inside x w)) (ws ++ w ∷ [])) h.next_is
+    (in_block_so_far h.place (ws ++ w ∷ []) (h.tail ++ w ∷ []) h.word (step_inside x w) (read_more h.place ws h.tail w h.in_unit) (steps_inside modes.Object x h.word h.tail w h.inner l ok) h.stands)
+
+-- ---- all of it
+
+-- some longword is expected everywhere
+pub never : (s : ObjectState) → reader.expects s ≡ None → ⊥
+never (AtWord place) e = cc
+never AtCount e = cc
+never (InName owed) e = cc
+never (InBlock next x) e = cc
+
+-- Some object file begins so, and goes on as is expected.
+pub expected : (s : ObjectState) (before : List ℕ) (role : ObjectRole) → SoFar s before → reader.expects s ≡ Some role → Expects objects before role
+expected (AtWord place) before role h e =
+    let same : WordAt place ≡ role = cc in
+    subst (Expects objects before) same (word_expected place before h)
+expected AtCount before role h e =
+    let same : UnitCount ≡ role = cc in
+    subst (Expects objects before) same (in_file before (unit_word ∷ []) UnitCount h (expects_count (place_after h.units)))
+expected (InName owed) before role h e =
+    let same : UnitName ≡ role = cc in
+    subst (Expects objects before) same (in_file before (unit_word ∷ h.count ∷ h.name) UnitName h.behind (name_expected (place_after h.behind.units) h.count h.name owed h.name_fits h.few h.counts))
+expected (InBlock next x) before role h e =
+    let same : Within (part_of x) ≡ role = cc in
+    subst (Expects objects before) same (inside_expected next x before h)
+
+-- A longword that is not refused keeps this.
+pub goes_on : (s : ObjectState) (before : List ℕ) (role : ObjectRole) (w : ℕ) → SoFar s before → reader.expects s ≡ Some role → IsLong w → refuse_object role w ≡ None → SoFar (reader.step s w) (before ++ w ∷ [])
+goes_on (AtWord place) before role w h e l ok =
+    let same : WordAt place ≡ role = cc in
+    word_goes_on place before w h l (ap (λ (r : ObjectRole). refuse_object r w) same ∙ ok)
+goes_on AtCount before role w h e l ok =
+    let same : UnitCount ≡ role = cc in
+    count_goes_on before w h (ltb-true w (2 ^ 24) (passed_true (ltb w (2 ^ 24)) reasons.NameWord (ap (λ (r : ObjectRole). refuse_object r w) same ∙ ok)))
+goes_on (InName owed) before role w h e l ok = name_goes_on owed before w h l
+goes_on (InBlock next x) before role w h e l ok =
+    let same : Within (part_of x) ≡ role = cc in
+    inside_goes_on next x before w h l (sym (within_split (part_of x) w) ∙ ap (λ (r : ObjectRole). refuse_object r w) same ∙ ok)
