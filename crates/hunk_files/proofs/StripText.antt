@@ -1,13 +1,11 @@
 -- What is stripped is no longer than it was.
-use Rattle.std.proofs.Common.{ℕ, ◌≤◌, Bool, true, false, cond, List, [], ◌∷◌, ◌++◌, length, ap, length-append, arith}
+use Rattle.std.proofs.Common.{ℕ, ◌≤◌, List, [], ◌∷◌, length, ap, length-append, arith}
 use Rattle.hunk_words.specs.Longs.{bytes_of}
 use Rattle.hunk_words.proofs.LongLaws.{length-bytes_of}
-use Rattle.hunk_blocks.specs.Values.{BlockValue}
-use Rattle.hunk_blocks.specs.Parts.{block_text}
 use Rattle.hunk_files.specs.LoadFile.{LoadFileValue, TableEntry}
 use Rattle.hunk_files.specs.LoadText.{header_labelled, table, text, words}
 use Rattle.hunk_files.specs.Hunks.{block_texts}
-use Rattle.hunk_files.specs.Strip.{is_kept, strip_blocks, strip_file}
+use Rattle.hunk_files.specs.Strip.{strip_blocks, strip_file}
 use Rattle.hunk_files.specs.Tables.{hunk_texts}
 use Rattle.hunk_files.proofs.StripLaws.{table_kept}
 use Rattle.hunk_files.proofs.TableReading.{text_is}
