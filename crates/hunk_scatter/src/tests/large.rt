@@ -17,6 +17,12 @@ fn put(bytes: &mut Vec<u8>, words: &[u32]) -> Result<(), AllocError> {
     Ok(())
 }
 
+/// The segment of a hunk of `many_hunks`, of which the first lies at 0x21000.
+fn long_of(hunk: u32) -> [u8; 4] {
+    let neighbour = 0x21000_u32.wrapping_add((hunk ^ 1).wrapping_mul(4));
+    hunk.wrapping_add(neighbour).to_be_bytes()
+}
+
 /// As many hunks as a file can have, each of one longword to which its neighbour's base is added.
 #[test]
 fn many_hunks(rt: HostRuntime) -> Result<(), Fail> {
@@ -38,10 +44,11 @@ fn many_hunks(rt: HostRuntime) -> Result<(), Fail> {
         assert_eq!(rt; image.hunks(), 65_536);
         for (hunk, (row, segment)) in (0..image.hunks()).zip(image.segments()) {
             let base = 0x21000_u32.wrapping_add(hunk.wrapping_mul(4));
-            let neighbour = 0x21000_u32.wrapping_add((hunk ^ 1).wrapping_mul(4));
             assert_eq!(rt; row.base, base);
-            let long = hunk.wrapping_add(neighbour).to_be_bytes();
-            assert_eq!(rt; segment, long.as_slice());
+            assert_eq!(rt; segment, long_of(hunk).as_slice());
+        }
+        for hunk in [0, 1, 2_047, 2_048, 2_049, 4_095, 40_000, 65_535] {
+            assert_eq!(rt; image.segment(hunk), long_of(hunk).as_slice());
         }
         assert!(rt; source.rest.is_empty());
     }
