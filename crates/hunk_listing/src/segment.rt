@@ -2,7 +2,7 @@
 ghost use Rattle.std.specs.Prelude.{◌≡◌, ◌≤◌, ◌++◌, length, codes, decimal, OnOk};
 ghost use Rattle.hunk_listing.specs.SegmentLines.{dump, heading, row, segment_lines};
 
-use crate::text::{push_decimal, push_hexadecimal, put_digits};
+use crate::text::{push_decimal, put_digits};
 use std::alloc::AllocError;
 
 /// How many bytes of a segment a row shows.
@@ -35,11 +35,11 @@ fn room_for(len: usize) -> usize {
 fn push_heading(text: &mut Vec<u8>, number: u32, base: u32, len: usize) -> Result<(), AllocError>
     ensures { OnOk result (text.new.items ≡ text.old.items ++ heading number base len) }
 {
+    let mut placed = *b" base 0x00000000 ";
+    put_digits(placed.as_mut_slice(), 8, &base.to_be_bytes());
     text.extend_from_slice(b"hunk ")?;
     push_decimal(text, number)?;
-    text.extend_from_slice(b" base ")?;
-    push_hexadecimal(text, base)?;
-    text.extend_from_slice(b" ")?;
+    text.extend_from_slice(&placed)?;
     push_decimal(text, len)?;
     text.extend_from_slice(b" bytes\n")
 }
