@@ -67,7 +67,8 @@ impl<'a> Block<'a> {
         ensures fault { IfErr result (λ fault. fault.reason ≢ reasons.OutOfMemory →
             HasBlockFault mode bytes.entry.now fault.place fault.reason) }
         ensures own { IfErr result (λ fault. IsTrue (is_block_refusal fault.reason)) }
-        ensures object { mode ≡ modes.Object → IfErr result (λ fault. fault.reason ≢ reasons.NotInLoadFile) }
+        ensures object { mode ≡ modes.Object
+            → IfErr result (λ fault. fault.reason ≢ reasons.NotInLoadFile) }
         ensures memory { IfErr result (λ fault. fault.reason ≡ reasons.OutOfMemory →
             IsTrue (takes_memory (kind (first_long bytes.entry.now)))) }
         ensures truncated { IfErr result (λ fault. fault.reason ≡ reasons.Truncated →

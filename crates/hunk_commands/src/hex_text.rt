@@ -28,7 +28,9 @@ fn digits_of(alloc: Global, text: &[u8]) -> Result<Vec<u8>, AllocError>
 /// digits.
 pub fn unhex(alloc: Global, text: &[u8]) -> Result<Vec<u8>, RunFault>
     ensures spelled { IfOk result (λ bytes. Spells text.now bytes.items) }
-    ensures refused { IfErr result (λ fault. (fault ≡ Memory) ⊎ ((fault ≡ HexText) × ((bytes : List ℕ) → ¬ Spells text.now bytes))) }
+    ensures refused { IfErr result
+        (λ fault. (fault ≡ Memory)
+        ⊎ ((fault ≡ HexText) × ((bytes : List ℕ) → ¬ Spells text.now bytes))) }
 {
     let digits = digits_of(alloc, text)?;
     match hex::decode(alloc, digits.as_slice()) {

@@ -62,8 +62,10 @@ impl<'a> HunkFile<'a> {
     /// Writes the file.
     pub(crate) fn encode<W: Sink>(&self, writer: &mut LongWriter<W>) -> Result<(), WriteFault>
         requires { writer.old.written + length (file_bytes self.now) < 2 ^ 64 }
-        ensures puts { Puts (W.taken writer.old.sink) (W.taken writer.new.sink) writer.old.written writer.new.written (file_bytes self.now) }
-        ensures whole { OnOk result (writer.new.written ≡ writer.old.written + length (file_bytes self.now)) }
+        ensures puts { Puts (W.taken writer.old.sink) (W.taken writer.new.sink)
+            writer.old.written writer.new.written (file_bytes self.now) }
+        ensures whole { OnOk result (writer.new.written
+            ≡ writer.old.written + length (file_bytes self.now)) }
         ensures told { IfErr result (λ fault. fault.written ≡ writer.new.written) }
         ensures failed { OnErr result (W.failed writer.new.sink ≡ true) }
     {
@@ -76,7 +78,8 @@ impl<'a> HunkFile<'a> {
 
 fn decode_load(alloc: Global, bytes: &[u8]) -> Result<HunkFile<'_>, RunFault>
     ensures ok { IfOk result (IsFileOf bytes.entry.now) }
-    ensures none { IfErr result (λ fault. (fault ≡ Memory) ⊎ (BeginsWithLoadFile bytes.entry.now → ⊥)) }
+    ensures none { IfErr result
+        (λ fault. (fault ≡ Memory) ⊎ (BeginsWithLoadFile bytes.entry.now → ⊥)) }
     ensures refused { IfErr result (RefusesAs (IsLoadRefusal bytes.entry.now)) }
 {
     match LoadFile::decode(alloc, bytes) {
@@ -101,7 +104,8 @@ fn decode_object(alloc: Global, bytes: &[u8]) -> Result<HunkFile<'_>, RunFault>
 
 // The fault, or `Memory` where memory was wanting.
 fn refusal(fault: Fault) -> RunFault
-    ensures { (result ≡ Memory) ⊎ ((result ≡ Refused fault) × (fault.reason ≢ reasons.OutOfMemory)) }
+    ensures { (result ≡ Memory)
+        ⊎ ((result ≡ Refused fault) × (fault.reason ≢ reasons.OutOfMemory)) }
 {
     match fault.reason {
         Reason::OutOfMemory => RunFault::Memory,

@@ -15,10 +15,12 @@ const PIECE: usize = 65_536;
 /// `FileLimit` at `most` comes where so many bytes were given, before an end is looked for, and
 /// `Read` at the number of bytes given where the source failed.
 pub fn read_whole<S: Source>(alloc: Global, source: &mut S, most: u64) -> Result<Vec<u8>, RunFault>
-    ensures given { IfOk result (λ bytes. Consumes (S.left source.old) (S.left source.new) bytes.items) }
+    ensures given { IfOk result
+        (λ bytes. Consumes (S.left source.old) (S.left source.new) bytes.items) }
     ensures at_end { OnOk result (IsAtEnd (S.left source.new)) }
     ensures bound { IfOk result (λ bytes. length bytes.items < most) }
-    ensures err { IfErr result (λ fault. ReadsInVain fault (S.left source.old) (S.left source.new) most (S.failed source.new)) }
+    ensures err { IfErr result
+        (λ fault. ReadsInVain fault (S.left source.old) (S.left source.new) most (S.failed source.new)) }
     ensures within { (given : List ℕ) × Gives (S.left source.old) (S.left source.new) most given }
     ensures sound { S.failed source.old ≡ false → OnOk result (S.failed source.new ≡ false) }
 {

@@ -44,30 +44,42 @@ pub fn relocate<R: Source, W: Sink>(
     requires { w.old.written ≡ 0 }
     ensures ok { OnOk result (RelocatesAll base limits.budget limits.file_bytes
         (R.left r.old) (R.left r.new) (W.taken w.old.sink) (W.taken w.new.sink) w.new.written) }
-    ensures succeeds { (v : LoadFileValue) (rest : List ℕ) → IsLoadFile v → R.left r.old ≡ Some (bytes_of (text v) ++ rest)
-        → length (bytes_of (text v)) ≤ limits.file_bytes → declared_bytes (table v) ≤ limits.budget → HasBases (packed base) (table v)
-        → R.failed r.new ≡ false → W.failed w.new.sink ≡ false → IfErr result (λ fault. fault ≡ Memory) }
+    ensures succeeds { (v : LoadFileValue) (rest : List ℕ) → IsLoadFile v
+        → R.left r.old ≡ Some (bytes_of (text v) ++ rest)
+        → length (bytes_of (text v)) ≤ limits.file_bytes → declared_bytes (table v) ≤ limits.budget
+        → HasBases (packed base) (table v)
+        → R.failed r.new ≡ false → W.failed w.new.sink ≡ false
+        → IfErr result (λ fault. fault ≡ Memory) }
 
-    // What is read at most, whatever the answer: no byte behind the file, and none behind a header that can't be placed.
+    // What is read at most, whatever the answer: no byte behind the file, and none behind a
+    // header that can't be placed.
     ensures limit { (given : List ℕ) × Gives (R.left r.old) (R.left r.new) limits.file_bytes given }
-    ensures one_file { (v : LoadFileValue) (rest : List ℕ) → IsLoadFile v → R.left r.old ≡ Some (bytes_of (text v) ++ rest)
+    ensures one_file { (v : LoadFileValue) (rest : List ℕ) → IsLoadFile v
+        → R.left r.old ≡ Some (bytes_of (text v) ++ rest)
         → KeepsRest (R.left r.new) rest }
-    ensures header_first { (t : List TableEntry) (rest : List ℕ) → IsTable t → R.left r.old ≡ Some (header_bytes t ++ rest)
+    ensures header_first { (t : List TableEntry) (rest : List ℕ) → IsTable t
+        → R.left r.old ≡ Some (header_bytes t ++ rest)
         → IsNotPlaced (packed base) limits.budget t → KeepsRest (R.left r.new) rest }
 
     // After a fault of writing the first bytes of the text have gone out, and after another one nothing has.
-    ensures write { IfErr result (λ fault. (written : ℕ) → fault ≡ Write written → (w.new.written ≡ written)
-        × Relocates base limits.budget limits.file_bytes (R.left r.old) (R.left r.new) (W.taken w.old.sink) (W.taken w.new.sink) written) }
+    ensures write { IfErr result
+        (λ fault. (written : ℕ) → fault ≡ Write written → (w.new.written ≡ written)
+        × Relocates base limits.budget limits.file_bytes (R.left r.old) (R.left r.new)
+        (W.taken w.old.sink) (W.taken w.new.sink) written) }
     ensures fails { IfErr result (StopsOutput W.taken W.failed w.old w.new) }
 
-    ensures over_budget { (input : List ℕ) (at : ℕ) → R.left r.old ≡ Some input → R.failed r.new ≡ false
+    ensures over_budget { (input : List ℕ) (at : ℕ) → R.left r.old ≡ Some input
+        → R.failed r.new ≡ false
         → PassesBudget limits.budget (take limits.file_bytes input) at
-        → IsErrAnd result (λ fault. (fault ≡ Memory) ⊎ (fault ≡ Refused (record { place = at; reason = Budget }))) }
-    ensures file_fault { (input : List ℕ) → R.left r.old ≡ Some input → IfErr result (λ fault. (refusal : Fault) → fault ≡ Refused refusal
+        → IsErrAnd result (λ fault. (fault ≡ Memory)
+        ⊎ (fault ≡ Refused (record { place = at; reason = Budget }))) }
+    ensures file_fault { (input : List ℕ) → R.left r.old ≡ Some input
+        → IfErr result (λ fault. (refusal : Fault) → fault ≡ Refused refusal
         → IsTrue (is_of_file refusal.reason) → HasFault input refusal.place refusal.reason) }
     ensures refused { IfErr result (λ fault. (refusal : Fault) → fault ≡ Refused refusal
         → (given : List ℕ) × Gives (R.left r.old) (R.left r.new) limits.file_bytes given
-        × IsLoadFault (packed base) limits.budget limits.file_bytes (R.left r.new) (R.failed r.new) given refusal) }
+        × IsLoadFault (packed base) limits.budget limits.file_bytes
+        (R.left r.new) (R.failed r.new) given refusal) }
     ensures read { IfErr result (λ fault. (place : ℕ) → fault ≡ Read place
         → ReadsShort limits.budget limits.file_bytes (R.left r.old) (R.left r.new) (R.failed r.new) place) }
     ensures own { IfErr result IsOfLoad }
@@ -80,7 +92,8 @@ pub fn relocate<R: Source, W: Sink>(
 
 // The lines of each hunk's segment.
 fn listing_of(alloc: Global, image: &Image) -> Result<Vec<u8>, AllocError>
-    ensures { IfOk result (λ text. text.items ≡ listing (segments_of (bases_of image.now.rows) image.now.segments)) }
+    ensures { IfOk result (λ text. text.items
+        ≡ listing (segments_of (bases_of image.now.rows) image.now.segments)) }
 {
     let mut text = Vec::new(alloc);
     'hunks: for (hunk, (row, segment)) in (0..image.hunks()).zip(image.segments()) {

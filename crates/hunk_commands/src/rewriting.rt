@@ -41,8 +41,10 @@ pub fn rewrite<R: Source, W: Sink>(
     ensures ok { IfOk result (λ done. WritesAll (IsRewritten strip done.rest)
         (R.left r.old) (R.left r.new) file_bytes (W.taken w.old.sink) (W.taken w.new.sink) done.written) }
     ensures written { IfOk result (λ done. done.written ≡ w.new.written) }
-    ensures succeeds { (input : List ℕ) → R.left r.old ≡ Some input → length input < file_bytes → AreFile input
-        → R.failed r.new ≡ false → W.failed w.new.sink ≡ false → IfErr result (λ fault. fault ≡ Memory) }
+    ensures succeeds { (input : List ℕ) → R.left r.old ≡ Some input → length input < file_bytes
+        → AreFile input
+        → R.failed r.new ≡ false → W.failed w.new.sink ≡ false
+        → IfErr result (λ fault. fault ≡ Memory) }
 
     // After a fault of writing the first bytes of the file have gone out, and after another one nothing has.
     ensures write { IfErr result (λ fault. (written : ℕ) → fault ≡ Write written →
@@ -51,11 +53,13 @@ pub fn rewrite<R: Source, W: Sink>(
     ensures fails { IfErr result (StopsOutput W.taken W.failed w.old w.new) }
 
     ensures within { (given : List ℕ) × Gives (R.left r.old) (R.left r.new) file_bytes given }
-    ensures limit { IfErr result (λ fault. (place : ℕ) → fault ≡ Refused (record { place = place; reason = FileLimit }) →
+    ensures limit { IfErr result
+        (λ fault. (place : ℕ) → fault ≡ Refused (record { place = place; reason = FileLimit }) →
         (place ≡ file_bytes) × Gave (R.left r.old) (R.left r.new) place) }
     ensures read { IfErr result (λ fault. (place : ℕ) → fault ≡ Read place →
         (R.failed r.new ≡ true) × Gave (R.left r.old) (R.left r.new) place) }
-    ensures refused { IfErr result (λ fault. RefusesOnly fault (R.left r.old) (R.left r.new) file_bytes) }
+    ensures refused { IfErr result
+        (λ fault. RefusesOnly fault (R.left r.old) (R.left r.new) file_bytes) }
 {
     let input = read_whole(alloc, r, file_bytes)?;
     let file = HunkFile::decode(alloc, input.as_slice())?;
@@ -76,8 +80,10 @@ fn put_file<W: Sink>(
 ) -> Result<(), WriteFault>
     requires file { IsFileOf input.now file }
     requires room { w.old.written + length input.now < 2 ^ 64 }
-    ensures puts { Puts (W.taken w.old.sink) (W.taken w.new.sink) w.old.written w.new.written (file_bytes (stripped_where strip file.entry)) }
-    ensures whole { OnOk result (w.new.written ≡ w.old.written + length (file_bytes (stripped_where strip file.entry))) }
+    ensures puts { Puts (W.taken w.old.sink) (W.taken w.new.sink) w.old.written w.new.written
+        (file_bytes (stripped_where strip file.entry)) }
+    ensures whole { OnOk result (w.new.written
+        ≡ w.old.written + length (file_bytes (stripped_where strip file.entry))) }
     ensures told { IfErr result (λ fault. fault.written ≡ w.new.written) }
     ensures failed { OnErr result (W.failed w.new.sink ≡ true) }
 {

@@ -30,8 +30,10 @@ pub fn show<R: Source, W: Sink>(
     requires { w.old.written ≡ 0 }
     ensures ok { OnOk result (WritesAll IsShown
         (R.left r.old) (R.left r.new) file_bytes (W.taken w.old.sink) (W.taken w.new.sink) w.new.written) }
-    ensures succeeds { (input : List ℕ) → R.left r.old ≡ Some input → length input < file_bytes → AreFile input
-        → R.failed r.new ≡ false → W.failed w.new.sink ≡ false → IfErr result (λ fault. fault ≡ Memory) }
+    ensures succeeds { (input : List ℕ) → R.left r.old ≡ Some input → length input < file_bytes
+        → AreFile input
+        → R.failed r.new ≡ false → W.failed w.new.sink ≡ false
+        → IfErr result (λ fault. fault ≡ Memory) }
 
     // After a fault of writing the first bytes of the text have gone out, and after another one nothing has.
     ensures write { IfErr result (λ fault. (written : ℕ) → fault ≡ Write written →
@@ -40,11 +42,13 @@ pub fn show<R: Source, W: Sink>(
     ensures fails { IfErr result (StopsOutput W.taken W.failed w.old w.new) }
 
     ensures within { (given : List ℕ) × Gives (R.left r.old) (R.left r.new) file_bytes given }
-    ensures limit { IfErr result (λ fault. (place : ℕ) → fault ≡ Refused (record { place = place; reason = FileLimit }) →
+    ensures limit { IfErr result
+        (λ fault. (place : ℕ) → fault ≡ Refused (record { place = place; reason = FileLimit }) →
         (place ≡ file_bytes) × Gave (R.left r.old) (R.left r.new) place) }
     ensures read { IfErr result (λ fault. (place : ℕ) → fault ≡ Read place →
         (R.failed r.new ≡ true) × Gave (R.left r.old) (R.left r.new) place) }
-    ensures refused { IfErr result (λ fault. RefusesOnly fault (R.left r.old) (R.left r.new) file_bytes) }
+    ensures refused { IfErr result
+        (λ fault. RefusesOnly fault (R.left r.old) (R.left r.new) file_bytes) }
 {
     let input = read_whole(alloc, r, file_bytes)?;
     let text = listing_of(alloc, input.as_slice())?;

@@ -21,7 +21,8 @@ ghost use Rattle.hunk_files.specs.Strip.{strip_file, strip_object};
 pub fn load_prefix()
     ensures one_value { (a b : LoadFileValue) (more : List ℕ) → IsLoadFile a → IsLoadFile b →
         text a ++ more ≡ text b → (a ≡ b) × (more ≡ []) }
-    ensures one_role { (before : List ℕ) (r s : Role) → Expects before r → Expects before s → r ≡ s }
+    ensures one_role { (before : List ℕ) (r s : Role) → Expects before r → Expects before s
+        → r ≡ s }
 {}
 
 /// A longword that is not refused at its place goes on to a load text, as the roles that follow
@@ -42,13 +43,15 @@ pub fn no_refusal()
 pub fn one_outcome()
     ensures some { (bytes : List ℕ) → IsBytes bytes →
         BeginsWithLoadFile bytes ⊎ ((at : ℕ) × (reason : Reason) × HasFault bytes at reason) }
-    ensures one { (bytes : List ℕ) → IsBytes bytes → (at : ℕ) (reason : Reason) (at2 : ℕ) (reason2 : Reason) →
+    ensures one { (bytes : List ℕ) → IsBytes bytes
+        → (at : ℕ) (reason : Reason) (at2 : ℕ) (reason2 : Reason) →
         HasFault bytes at reason → HasFault bytes at2 reason2 → (at ≡ at2) × (reason ≡ reason2) }
     ensures not_both { (bytes : List ℕ) (at : ℕ) (reason : Reason) →
         BeginsWithLoadFile bytes → HasFault bytes at reason → ⊥ }
     ensures of_word { (bytes : List ℕ) (at : ℕ) (reason : Reason) → HasRefusal bytes at reason →
         IsTrue (is_word_refusal reason) }
-    ensures not_truncated { (bytes : List ℕ) → IsBytes bytes → (at : ℕ) (reason : Reason) (at2 : ℕ) →
+    ensures not_truncated { (bytes : List ℕ) → IsBytes bytes
+        → (at : ℕ) (reason : Reason) (at2 : ℕ) →
         HasRefusal bytes at reason → IsTruncated bytes at2 → ⊥ }
 {}
 

@@ -69,7 +69,8 @@ fn push_payload_size(
     word: BlockWord,
     payload: &Payload<'_>,
 ) -> Result<(), AllocError>
-    ensures { OnOk result (text.new.items ≡ text.old.items ++ size_line word (4 * length (longs payload.now))) }
+    ensures { OnOk result (text.new.items ≡ text.old.items
+        ++ size_line word (4 * length (longs payload.now))) }
 {
     push_size(text, word, payload_bytes(payload))
 }
@@ -116,7 +117,8 @@ fn push_advisory(
     word: BlockWord,
     payload: &Payload<'_>,
 ) -> Result<(), AllocError>
-    ensures { OnOk result (text.new.items ≡ text.old.items ++ advisory_line word (4 * length (longs payload.now))) }
+    ensures { OnOk result (text.new.items ≡ text.old.items
+        ++ advisory_line word (4 * length (longs payload.now))) }
 {
     text.extend_from_slice(b"  ADVISORY ")?;
     push_decimal(text, word.word() & 0x1FFF_FFFF)?;
@@ -134,7 +136,8 @@ fn push_relocations(
     groups: &Groups<'_>,
 ) -> Result<(), AllocError>
     requires { offset_count (map group_of groups.now) < 2 ^ 64 }
-    ensures { OnOk result (text.new.items ≡ text.old.items ++ body_lines word (Reloc (map group_of groups.now))) }
+    ensures { OnOk result (text.new.items ≡ text.old.items
+        ++ body_lines word (Reloc (map group_of groups.now))) }
 {
     push_count(text, word, offset_count(groups))?;
     'groups: for i in 0..groups.len() {
@@ -180,7 +183,8 @@ fn push_symbols(
     word: BlockWord,
     symbols: &Symbols<'_>,
 ) -> Result<(), AllocError>
-    ensures { OnOk result (text.new.items ≡ text.old.items ++ body_lines word (Symbol (map symbol_of symbols.now))) }
+    ensures { OnOk result (text.new.items ≡ text.old.items
+        ++ body_lines word (Symbol (map symbol_of symbols.now))) }
 {
     push_count(text, word, symbols.len() as u64)?;
     'symbols: for i in 0..symbols.len() {
@@ -205,7 +209,8 @@ fn push_entries(
     word: BlockWord,
     entries: &Entries<'_>,
 ) -> Result<(), AllocError>
-    ensures { OnOk result (text.new.items ≡ text.old.items ++ body_lines word (Ext (map entry_of entries.now))) }
+    ensures { OnOk result (text.new.items ≡ text.old.items
+        ++ body_lines word (Ext (map entry_of entries.now))) }
 {
     push_count(text, word, entries.len() as u64)?;
     'entries: for i in 0..entries.len() {

@@ -29,7 +29,8 @@ fn push_entry_line(text: &mut Vec<u8>, entry: &Entry<'_>) -> Result<(), AllocErr
 
 #[tactic(auto, unfolding(crate::specs::BlockLines::definition_line))]
 fn push_definition(text: &mut Vec<u8>, entry: &Entry<'_>) -> Result<(), AllocError>
-    ensures { OnOk result (text.new.items ≡ text.old.items ++ definition_line (entry_of entry.now)) }
+    ensures { OnOk result (text.new.items ≡ text.old.items
+        ++ definition_line (entry_of entry.now)) }
 {
     text.extend_from_slice(b"    ")?;
     text.extend_from_slice(type_name(entry.word).as_bytes())?;

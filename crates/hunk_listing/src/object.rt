@@ -54,7 +54,8 @@ fn push_unit_line(text: &mut Vec<u8>, number: usize, name: &Payload<'_>) -> Resu
 }
 
 fn push_hunks(text: &mut Vec<u8>, hunks: &[Hunk<'_>]) -> Result<(), AllocError>
-    ensures { OnOk result (text.new.items ≡ text.old.items ++ numbered object_hunk_lines 0 hunks.now) }
+    ensures { OnOk result (text.new.items ≡ text.old.items
+        ++ numbered object_hunk_lines 0 hunks.now) }
 {
     'hunks: for (number, hunk) in hunks.iter().enumerate() {
         push_hunk(text, number, hunk)?;
@@ -96,8 +97,11 @@ fn hunk_bytes(blocks: &[Block<'_>]) -> u64
 
 // How many bytes a content block has.
 fn content_bytes(body: &Body<'_>) -> Option<u64>
-    ensures some { IfSome result (λ bytes. (bytes ≡ 4 * content_longs (body_of body.now)) × (is_content (standing (body_of body.now)) ≡ true)) }
-    ensures none { IfNone result ((content_longs (body_of body.now) ≡ 0) × (is_content (standing (body_of body.now)) ≡ false)) }
+    ensures some { IfSome result
+        (λ bytes. (bytes ≡ 4 * content_longs (body_of body.now))
+        × (is_content (standing (body_of body.now)) ≡ true)) }
+    ensures none { IfNone result ((content_longs (body_of body.now) ≡ 0)
+        × (is_content (standing (body_of body.now)) ≡ false)) }
 {
     match body {
         Body::Code { top: _, payload } => Some(payload_bytes(payload)),

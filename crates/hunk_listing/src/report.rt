@@ -24,7 +24,8 @@ pub struct Report {
 ///
 /// `AllocError` where memory for the text is refused.
 pub fn report_load_file(alloc: Global, file: &LoadFile<'_>, rest: u64) -> Result<Report, AllocError>
-    ensures { IfOk result (λ report. (report.count ≡ 0) × (report.text.items ≡ load_summary file.now rest)) }
+    ensures { IfOk result (λ report. (report.count ≡ 0)
+        × (report.text.items ≡ load_summary file.now rest)) }
 {
     let mut text = Vec::new(alloc);
     push_load_head(&mut text, file)?;
@@ -38,7 +39,8 @@ pub fn report_load_file(alloc: Global, file: &LoadFile<'_>, rest: u64) -> Result
 ///
 /// `AllocError` where memory for the findings or for the text is refused.
 pub fn report_object_file(alloc: Global, file: &ObjectFile<'_>) -> Result<Report, AllocError>
-    ensures { IfOk result (λ report. (report.count ≡ length (findings file.now)) × (report.text.items ≡ object_report file.now)) }
+    ensures { IfOk result (λ report. (report.count ≡ length (findings file.now))
+        × (report.text.items ≡ object_report file.now)) }
 {
     let found = file.check(alloc)?;
     let mut text = Vec::new(alloc);

@@ -12,7 +12,8 @@ use std::alloc::AllocError;
 ///
 /// `AllocError` where memory for the lines is refused; the text may have some of them then.
 pub fn push_rewriting(text: &mut Vec<u8>, written: u64, rest: u64) -> Result<(), AllocError>
-    ensures { OnOk result (text.new.items ≡ text.old.items ++ (wrote_line written ++ left_out_line rest)) }
+    ensures { OnOk result (text.new.items ≡ text.old.items
+        ++ (wrote_line written ++ left_out_line rest)) }
 {
     push_wrote(text, written)?;
     push_left_out(text, rest)

@@ -17,7 +17,8 @@ pub fn push_segment(
     base: u32,
     bytes: &[u8],
 ) -> Result<(), AllocError>
-    ensures { OnOk result (text.new.items ≡ text.old.items ++ segment_lines number (record { base = base; bytes = bytes.now })) }
+    ensures { OnOk result (text.new.items ≡ text.old.items
+        ++ segment_lines number (record { base = base; bytes = bytes.now })) }
 {
     text.reserve(room_for(bytes.len()))?;
     push_heading(text, number, base, bytes.len())?;

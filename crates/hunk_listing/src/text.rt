@@ -18,7 +18,8 @@ pub(crate) fn push_decimal<N: Integer>(text: &mut Vec<u8>, number: N) -> Result<
 /// Puts two hexadecimal digits a byte into the line, from `at` on.
 pub(crate) fn put_digits(line: &mut [u8], at: usize, bytes: &[u8])
     requires { at + 2 * length bytes.now ≤ length line.old }
-    ensures { line.new ≡ take at line.old ++ encode_lower bytes.now ++ drop (at + 2 * length bytes.now) line.old }
+    ensures { line.new ≡ take at line.old ++ encode_lower bytes.now
+        ++ drop (at + 2 * length bytes.now) line.old }
 {
     // The room is just that of the digits, so this cannot fail.
     let _ = hex::encode_to_slice(bytes, &mut line[at..at + 2 * bytes.len()]);

@@ -44,7 +44,8 @@ impl Model for BodyLoader {
 
     ghost view = { λ s. record { fed = s.history.bytes; rows = s.rows.items; refused = s.refused } };
 
-    ghost invariant = { λ s. BodyLoaderInvariant s.rows.items s.store.items s.state s.assembler s.count s.refused s.history.bytes };
+    ghost invariant = { λ s. BodyLoaderInvariant s.rows.items s.store.items s.state s.assembler
+        s.count s.refused s.history.bytes };
 }
 
 impl BodyLoader {
@@ -55,11 +56,13 @@ impl BodyLoader {
         requires room { length self.old.fed + length piece.now < 2 ^ 64 }
         requires reading { self.old.refused ≡ None }
         ensures rows { self.new.rows ≡ self.old.rows }
-        ensures taken { IfOk result (λ n. (n ≤ length piece.now) × (self.new.fed ≡ self.old.fed ++ take n piece.now)) }
+        ensures taken { IfOk result
+            (λ n. (n ≤ length piece.now) × (self.new.fed ≡ self.old.fed ++ take n piece.now)) }
         ensures none { result ≡ Ok 0 → self.new ≡ self.old }
         ensures goes_on { OnOk result (self.new.refused ≡ None) }
         ensures complete { IsWholeFile self.old.rows self.old.fed → result ≡ Ok 0 }
-        ensures refusal { IfErr result (λ f. HasRefusal (self.old.fed ++ piece.now) f.place f.reason) }
+        ensures refusal { IfErr result
+            (λ f. HasRefusal (self.old.fed ++ piece.now) f.place f.reason) }
         ensures own { IfErr result (λ f. IsTrue (is_of_body f.reason)) }
         ensures remembers { IfErr result (λ f. self.new.refused ≡ Some f) }
     {
@@ -92,11 +95,13 @@ impl BodyLoader {
         requires reading { self.old.refused ≡ None }
         requires some { 0 < length piece.now }
         ensures rows { self.new.rows ≡ self.old.rows }
-        ensures taken { IfOk result (λ n. (n ≤ length piece.now) × (self.new.fed ≡ self.old.fed ++ take n piece.now)) }
+        ensures taken { IfOk result
+            (λ n. (n ≤ length piece.now) × (self.new.fed ≡ self.old.fed ++ take n piece.now)) }
         ensures goes_on { OnOk result (self.new.refused ≡ None) }
         ensures whole { result ≡ Ok 0 → IsWholeFile self.new.rows self.new.fed }
         ensures complete { IsWholeFile self.old.rows self.old.fed → result ≡ Ok 0 }
-        ensures refusal { IfErr result (λ f. HasRefusal (self.old.fed ++ piece.now) f.place f.reason) }
+        ensures refusal { IfErr result
+            (λ f. HasRefusal (self.old.fed ++ piece.now) f.place f.reason) }
         ensures own { IfErr result (λ f. IsTrue (is_of_body f.reason)) }
         ensures remembers { IfErr result (λ f. self.new.refused ≡ Some f) }
     {
@@ -139,11 +144,13 @@ impl BodyLoader {
         requires reading { self.old.refused ≡ None }
         requires some { 0 < length piece.now }
         ensures rows { self.new.rows ≡ self.old.rows }
-        ensures taken { IfOk result (λ n. (n ≤ length piece.now) × (self.new.fed ≡ self.old.fed ++ take n piece.now)) }
+        ensures taken { IfOk result
+            (λ n. (n ≤ length piece.now) × (self.new.fed ≡ self.old.fed ++ take n piece.now)) }
         ensures goes_on { OnOk result (self.new.refused ≡ None) }
         ensures whole { result ≡ Ok 0 → IsWholeFile self.new.rows self.new.fed }
         ensures complete { IsWholeFile self.old.rows self.old.fed → result ≡ Ok 0 }
-        ensures refusal { IfErr result (λ f. HasRefusal (self.old.fed ++ piece.now) f.place f.reason) }
+        ensures refusal { IfErr result
+            (λ f. HasRefusal (self.old.fed ++ piece.now) f.place f.reason) }
         ensures own { IfErr result (λ f. IsTrue (is_of_body f.reason)) }
         ensures remembers { IfErr result (λ f. self.new.refused ≡ Some f) }
     {
@@ -165,9 +172,12 @@ impl BodyLoader {
         ensures bound { result ≤ 256 }
         ensures least { (v : LoadFileValue) (more : List ℕ) → IsLoadFile v
             → bytes_of (text v) ≡ self.now.fed ++ more → result ≤ length more }
-        ensures to_come { self.now.refused ≡ None → (p : ℕ) → HasToCome self.now.fed p → (p ≤ result) ⊎ (256 ≤ result) }
-        ensures over { self.now.refused ≡ None → IsWholeFile self.now.rows self.now.fed → result ≡ 0 }
-        ensures some { self.now.refused ≡ None → result ≡ 0 → IsWholeFile self.now.rows self.now.fed }
+        ensures to_come { self.now.refused ≡ None → (p : ℕ) → HasToCome self.now.fed p
+            → (p ≤ result) ⊎ (256 ≤ result) }
+        ensures over { self.now.refused ≡ None → IsWholeFile self.now.rows self.now.fed
+            → result ≡ 0 }
+        ensures some { self.now.refused ≡ None → result ≡ 0
+            → IsWholeFile self.now.rows self.now.fed }
         ensures refused { (f : Fault) → self.now.refused ≡ Some f → result ≡ 0 }
         ensures clean { self.now.refused ≡ None → HasNoRefusal self.now.fed }
         ensures truncated { 0 < result → IsTruncated self.now.fed (4 * (length self.now.fed / 4)) }
@@ -193,22 +203,27 @@ impl BodyLoader {
         ensures rows { self.new.rows ≡ self.old.rows }
 
         // Success.
-        ensures taken { IfOk result (λ n. (n ≤ length piece.now) × (self.new.fed ≡ self.old.fed ++ take n piece.now)) }
-        ensures all { IfOk result (λ n. n < length piece.now → IsWholeFile self.new.rows self.new.fed) }
+        ensures taken { IfOk result
+            (λ n. (n ≤ length piece.now) × (self.new.fed ≡ self.old.fed ++ take n piece.now)) }
+        ensures all { IfOk result
+            (λ n. n < length piece.now → IsWholeFile self.new.rows self.new.fed) }
         ensures within { OnOk result (IsWithinFile self.new.fed) }
-        ensures complete { self.old.refused ≡ None → IsWholeFile self.old.rows self.old.fed → result ≡ Ok 0 }
+        ensures complete { self.old.refused ≡ None → IsWholeFile self.old.rows self.old.fed
+            → result ≡ Ok 0 }
         ensures reading { OnOk result ((self.old.refused ≡ None) × (self.new.refused ≡ None)) }
 
         // Refusals.
         ensures refusal { self.old.refused ≡ None
             → IfErr result (λ f. HasRefusal (self.old.fed ++ piece.now) f.place f.reason) }
-        ensures accepts { self.old.refused ≡ None → MayGoOn (self.old.fed ++ piece.now) → IsOk result }
+        ensures accepts { self.old.refused ≡ None → MayGoOn (self.old.fed ++ piece.now)
+            → IsOk result }
         ensures own { IfErr result (λ f. IsTrue (is_of_body f.reason)) }
 
         // A loader that has refused.
         ensures remembers { IfErr result (λ f. self.new.refused ≡ Some f) }
         ensures nothing { OnErr result (self.new.fed ≡ self.old.fed) }
-        ensures stays { (f : Fault) → self.old.refused ≡ Some f → (result ≡ Err f) × (self.new ≡ self.old) }
+        ensures stays { (f : Fault) → self.old.refused ≡ Some f → (result ≡ Err f)
+            × (self.new ≡ self.old) }
     {
         if let Some(fault) = self.refused {
             return Err(fault);

@@ -109,9 +109,11 @@ impl Declared {
     pub fn place<P: Placer>(self, placer: &P) -> Result<BodyLoader, Unplaced>
         ensures fed { IfOk result (λ loader. loader.fed ≡ header_bytes self.table) }
         ensures rows { IfOk result (λ loader. entries_of loader.rows ≡ self.table) }
-        ensures bases { IfOk result (λ loader. AreBases (P.base placer.now) self.table (bases_of loader.rows)) }
+        ensures bases { IfOk result
+            (λ loader. AreBases (P.base placer.now) self.table (bases_of loader.rows)) }
         ensures open { IfOk result (λ loader. loader.refused ≡ None) }
-        ensures reason { IfErr result (λ unplaced. IsUnplacedFor (P.base placer.now) self.table unplaced.reason) }
+        ensures reason { IfErr result
+            (λ unplaced. IsUnplacedFor (P.base placer.now) self.table unplaced.reason) }
         ensures same { IfErr result (λ unplaced. unplaced.declared ≡ self) }
     {
         let mut table = self;

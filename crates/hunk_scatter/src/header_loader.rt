@@ -49,7 +49,8 @@ impl Model for HeaderLoader {
 
     ghost view = { λ s. record { fed = s.history.bytes; budget = s.budget; refused = s.refused } };
 
-    ghost invariant = { λ s. HeaderLoaderInvariant s.budget s.rows.items s.state s.assembler s.count s.refused s.history.bytes };
+    ghost invariant = { λ s. HeaderLoaderInvariant s.budget s.rows.items s.state s.assembler
+        s.count s.refused s.history.bytes };
 }
 
 impl HeaderLoader {
@@ -80,11 +81,13 @@ impl HeaderLoader {
         requires reading { self.old.refused ≡ None }
         requires some { 0 < length piece.now }
         ensures budget { self.new.budget ≡ self.old.budget }
-        ensures taken { IfOk result (λ n. (n ≤ length piece.now) × (self.new.fed ≡ self.old.fed ++ take n piece.now)) }
+        ensures taken { IfOk result
+            (λ n. (n ≤ length piece.now) × (self.new.fed ≡ self.old.fed ++ take n piece.now)) }
         ensures goes_on { OnOk result (self.new.refused ≡ None) }
         ensures whole { result ≡ Ok 0 → IsHeader self.new.fed }
         ensures complete { IsHeader self.old.fed → result ≡ Ok 0 }
-        ensures refusal { IfErr result (λ f. (front rest : List ℕ) × (self.old.fed ++ piece.now ≡ front ++ rest)
+        ensures refusal { IfErr result
+            (λ f. (front rest : List ℕ) × (self.old.fed ++ piece.now ≡ front ++ rest)
             × (length self.old.fed < length front) × HeaderStop self.old.budget front f) }
         ensures remembers { IfErr result (λ f. self.new.refused ≡ Some f) }
     {
@@ -125,14 +128,18 @@ impl HeaderLoader {
         ensures bound { result ≤ 256 }
         ensures least { (table : List TableEntry) (more : List ℕ) → IsTable table
             → header_bytes table ≡ self.now.fed ++ more → result ≤ length more }
-        ensures to_come { self.now.refused ≡ None → (p : ℕ) → HasHeaderToCome self.now.fed p → (p ≤ result) ⊎ (256 ≤ result) }
-        ensures rows { self.now.refused ≡ None → (p : ℕ) → HasRowsToCome self.now.fed p → (p ≤ result) ⊎ (256 ≤ result) }
+        ensures to_come { self.now.refused ≡ None → (p : ℕ) → HasHeaderToCome self.now.fed p
+            → (p ≤ result) ⊎ (256 ≤ result) }
+        ensures rows { self.now.refused ≡ None → (p : ℕ) → HasRowsToCome self.now.fed p
+            → (p ≤ result) ⊎ (256 ≤ result) }
         ensures over { self.now.refused ≡ None → IsHeader self.now.fed → result ≡ 0 }
         ensures some { self.now.refused ≡ None → result ≡ 0 → IsHeader self.now.fed }
         ensures refused { (f : Fault) → self.now.refused ≡ Some f → result ≡ 0 }
         ensures clean { self.now.refused ≡ None → HasNoRefusal self.now.fed }
-        ensures truncated { self.now.refused ≡ None → IsTruncated self.now.fed (4 * (length self.now.fed / 4)) }
-        ensures within { self.now.refused ≡ None → (at : ℕ) → PassesBudget self.now.budget self.now.fed at → ⊥ }
+        ensures truncated { self.now.refused ≡ None
+            → IsTruncated self.now.fed (4 * (length self.now.fed / 4)) }
+        ensures within { self.now.refused ≡ None → (at : ℕ)
+            → PassesBudget self.now.budget self.now.fed at → ⊥ }
     {
         if self.refused.is_some() {
             return 0;
@@ -149,11 +156,13 @@ impl HeaderLoader {
         requires room { length self.old.fed + length piece.now < 2 ^ 64 }
         requires reading { self.old.refused ≡ None }
         ensures budget { self.new.budget ≡ self.old.budget }
-        ensures taken { IfOk result (λ n. (n ≤ length piece.now) × (self.new.fed ≡ self.old.fed ++ take n piece.now)) }
+        ensures taken { IfOk result
+            (λ n. (n ≤ length piece.now) × (self.new.fed ≡ self.old.fed ++ take n piece.now)) }
         ensures all { IfOk result (λ n. n < length piece.now → IsHeader self.new.fed) }
         ensures complete { IsHeader self.old.fed → result ≡ Ok 0 }
         ensures reading { OnOk result (self.new.refused ≡ None) }
-        ensures refusal { IfErr result (λ f. (front rest : List ℕ) × (self.old.fed ++ piece.now ≡ front ++ rest)
+        ensures refusal { IfErr result
+            (λ f. (front rest : List ℕ) × (self.old.fed ++ piece.now ≡ front ++ rest)
             × (length self.old.fed < length front) × HeaderStop self.old.budget front f) }
         ensures remembers { IfErr result (λ f. self.new.refused ≡ Some f) }
     {
@@ -179,7 +188,8 @@ impl HeaderLoader {
         ensures budget { self.new.budget ≡ self.old.budget }
 
         // Success.
-        ensures taken { IfOk result (λ n. (n ≤ length piece.now) × (self.new.fed ≡ self.old.fed ++ take n piece.now)) }
+        ensures taken { IfOk result
+            (λ n. (n ≤ length piece.now) × (self.new.fed ≡ self.old.fed ++ take n piece.now)) }
         ensures all { IfOk result (λ n. n < length piece.now → IsHeader self.new.fed) }
         ensures within { OnOk result (IsWithinHeader self.new.fed) }
         ensures complete { self.old.refused ≡ None → IsHeader self.old.fed → result ≡ Ok 0 }
@@ -189,9 +199,11 @@ impl HeaderLoader {
         ensures refusal { self.old.refused ≡ None
             → IfErr result (IsHeaderFault self.old.budget (self.old.fed ++ piece.now)) }
         ensures passes { self.old.refused ≡ None → (at : ℕ)
-            → PassesBudget self.old.budget (self.old.fed ++ piece.now) at → IsErrAnd result (IsOverBudget at) }
+            → PassesBudget self.old.budget (self.old.fed ++ piece.now) at
+            → IsErrAnd result (IsOverBudget at) }
         ensures wanting { self.old.refused ≡ None
-            → IfErr result (λ f. f.reason ≡ reasons.OutOfMemory → length self.old.fed < f.place + 4) }
+            → IfErr result (λ f. f.reason ≡ reasons.OutOfMemory
+            → length self.old.fed < f.place + 4) }
         ensures accepts { self.old.refused ≡ None → MayGoOnInHeader (self.old.fed ++ piece.now)
             → IfErr result (λ f. IsBudgetOrMemory f.reason) }
         ensures own { IfErr result (λ f. IsTrue (is_of_header f.reason)) }
@@ -199,7 +211,8 @@ impl HeaderLoader {
         // A loader that has refused.
         ensures remembers { IfErr result (λ f. self.new.refused ≡ Some f) }
         ensures nothing { OnErr result (self.new.fed ≡ self.old.fed) }
-        ensures stays { (f : Fault) → self.old.refused ≡ Some f → (result ≡ Err f) × (self.new ≡ self.old) }
+        ensures stays { (f : Fault) → self.old.refused ≡ Some f → (result ≡ Err f)
+            × (self.new ≡ self.old) }
     {
         if let Some(fault) = self.refused {
             return Err(fault);
@@ -222,7 +235,8 @@ impl HeaderLoader {
 
     /// The bytes that are held: 12 for each row that is whole in what was fed, none after a refusal.
     pub fn held(&self) -> u64
-        ensures exact { self.now.refused ≡ None → result ≡ 12 * length (entries_so_far (longs self.now.fed)) }
+        ensures exact { self.now.refused ≡ None
+            → result ≡ 12 * length (entries_so_far (longs self.now.fed)) }
         ensures cleared { (f : Fault) → self.now.refused ≡ Some f → result ≡ 0 }
         ensures bound { result ≤ 12 * most_hunks }
     {

@@ -63,8 +63,10 @@ pub fn take_header_word(
     requires room { state.total + 2 ^ 32 < 2 ^ 64 }
     requires within { state.total ≤ budget }
     ensures position { IfOk result (λ s. s.position ≡ step state.position word) }
-    ensures total { IfOk result (λ s. s.total ≡ state.total + heading.declares state.position word) }
-    ensures rows { OnOk result (rows.new.items ≡ rows.old.items ++ map row_of (heading.adds state.position word)) }
+    ensures total { IfOk result
+        (λ s. s.total ≡ state.total + heading.declares state.position word) }
+    ensures rows { OnOk result (rows.new.items ≡ rows.old.items
+        ++ map row_of (heading.adds state.position word)) }
     ensures passes { OnOk result (refuse (role_at 0 state.position) word ≡ None) }
     ensures within { OnOk result (state.total + heading.declares state.position word ≤ budget) }
     ensures refusal { IfErr result (heading.StopsFor budget state word) }

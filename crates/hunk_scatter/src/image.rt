@@ -31,7 +31,8 @@ impl Model for Image {
 
     ghost view = { λ s. record { rows = s.rows.items; segments = cut (words_of s.rows.items) s.store.items } };
 
-    ghost invariant = { λ s. (length s.store.items ≡ declared_bytes (entries_of s.rows.items)) × (length s.rows.items ≤ most_hunks)
+    ghost invariant = { λ s. (length s.store.items ≡ declared_bytes (entries_of s.rows.items))
+        × (length s.rows.items ≤ most_hunks)
         × AreStarts s.rows.items s.starts };
 }
 

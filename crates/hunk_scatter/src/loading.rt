@@ -42,7 +42,8 @@ fn read_piece<R: Source>(
     ensures fault { IfErr result (IsReadFault limit (R.left r.new) (R.failed r.new) count) }
     ensures nothing { OnErr result (Consumes (R.left r.old) (R.left r.new) []) }
     ensures works { OnOk result (R.failed r.new ≡ R.failed r.old) }
-    ensures read { R.failed r.old ≡ Bool.false → R.failed r.new ≡ Bool.true → IsErrAnd result (λ f. f.reason ≡ reasons.Read) }
+    ensures read { R.failed r.old ≡ Bool.false → R.failed r.new ≡ Bool.true
+        → IsErrAnd result (λ f. f.reason ≡ reasons.Read) }
 {
     if count >= limit {
         return Err(LoadFault {
@@ -72,12 +73,14 @@ fn load_header<R: Source>(
     limits: Limits,
 ) -> Result<Declared, LoadFault>
     requires { length buf.old ≡ 256 }
-    ensures ends { (given : List ℕ) × Gives (R.left r.old) (R.left r.new) limits.file_bytes given × IsWithinHeader given
+    ensures ends { (given : List ℕ) × Gives (R.left r.old) (R.left r.new) limits.file_bytes given
+        × IsWithinHeader given
         × MatchResult result
         (λ declared. IsTable declared.table × (given ≡ header_bytes declared.table)
         × (declared_bytes declared.table ≤ limits.budget))
         (IsHeaderStop limits.budget limits.file_bytes (R.left r.new) (R.failed r.new) given) }
-    ensures read { R.failed r.old ≡ Bool.false → R.failed r.new ≡ Bool.true → IsErrAnd result (λ f. f.reason ≡ reasons.Read) }
+    ensures read { R.failed r.old ≡ Bool.false → R.failed r.new ≡ Bool.true
+        → IsErrAnd result (λ f. f.reason ≡ reasons.Read) }
 {
     let mut loader = HeaderLoader::new(alloc, limits.budget);
     'reading: loop {
@@ -114,9 +117,11 @@ fn load_body<R: Source>(
     ensures ends { (more : List ℕ) × Consumes (R.left r.old) (R.left r.new) more
         × (length (loader.fed ++ more) ≤ limit) × IsWithinFile (loader.fed ++ more)
         × MatchResult result
-        (λ image. IsImageOf loader.rows (loader.fed ++ more) image.segments × (image.rows ≡ loader.rows))
+        (λ image. IsImageOf loader.rows (loader.fed ++ more) image.segments
+        × (image.rows ≡ loader.rows))
         (IsBodyStop limit (R.left r.new) (R.failed r.new) (loader.fed ++ more)) }
-    ensures read { R.failed r.old ≡ Bool.false → R.failed r.new ≡ Bool.true → IsErrAnd result (λ f. f.reason ≡ reasons.Read) }
+    ensures read { R.failed r.old ≡ Bool.false → R.failed r.new ≡ Bool.true
+        → IsErrAnd result (λ f. f.reason ≡ reasons.Read) }
 {
     let mut loader = loader;
     'reading: loop {
@@ -149,7 +154,8 @@ fn load_placed<R: Source, P: Placer>(
     ensures ends { (given : List ℕ) × Gives (R.left r.old) (R.left r.new) limits.file_bytes given
         × IsWithinFile given × KeepsToHeader (P.base p.now) limits.budget given
         × LoadEnds (P.base p.now) limits.budget limits.file_bytes (R.left r.new) (R.failed r.new) given result }
-    ensures read { R.failed r.old ≡ Bool.false → R.failed r.new ≡ Bool.true → IsErrAnd result (λ f. f.reason ≡ reasons.Read) }
+    ensures read { R.failed r.old ≡ Bool.false → R.failed r.new ≡ Bool.true
+        → IsErrAnd result (λ f. f.reason ≡ reasons.Read) }
 {
     let mut buf = [0u8; 256];
     let declared = match load_header(alloc, r, buf.as_mut_slice(), limits) {
@@ -186,7 +192,8 @@ pub fn load<R: Source, P: Placer>(
     p: &P,
 ) -> Result<Image, LoadFault>
     // Just one load file was read, and the image is its.
-    ensures loaded { IfOk result (λ image. (v : LoadFileValue) × IsLoaded (P.base p.now) limits.budget v image
+    ensures loaded { IfOk result
+        (λ image. (v : LoadFileValue) × IsLoaded (P.base p.now) limits.budget v image
         × Gives (R.left r.old) (R.left r.new) limits.file_bytes (bytes_of (text v))) }
 
     // What is read at most.
@@ -199,16 +206,20 @@ pub fn load<R: Source, P: Placer>(
 
     // Success.
     ensures succeeds { (v : LoadFileValue) (rest : List ℕ) → IsLoadFile v
-        → R.left r.old ≡ Some (bytes_of (text v) ++ rest) → length (bytes_of (text v)) ≤ limits.file_bytes
+        → R.left r.old ≡ Some (bytes_of (text v) ++ rest)
+        → length (bytes_of (text v)) ≤ limits.file_bytes
         → declared_bytes (table v) ≤ limits.budget → HasBases (P.base p.now) (table v)
         → R.failed r.new ≡ Bool.false → IfErr result (λ f. f.reason ≡ reasons.OutOfMemory) }
 
     // Refusals.
-    ensures over_budget { (input : List ℕ) (at : ℕ) → R.left r.old ≡ Some input → R.failed r.new ≡ Bool.false
-        → PassesBudget limits.budget (take limits.file_bytes input) at → IsErrAnd result (IsOverBudget at) }
+    ensures over_budget { (input : List ℕ) (at : ℕ) → R.left r.old ≡ Some input
+        → R.failed r.new ≡ Bool.false
+        → PassesBudget limits.budget (take limits.file_bytes input) at
+        → IsErrAnd result (IsOverBudget at) }
     ensures file_fault { (input : List ℕ) → R.left r.old ≡ Some input
         → IfErr result (λ f. IsTrue (is_of_file f.reason) → HasFault input f.place f.reason) }
-    ensures fault { IfErr result (λ f. (given : List ℕ) × Gives (R.left r.old) (R.left r.new) limits.file_bytes given
+    ensures fault { IfErr result
+        (λ f. (given : List ℕ) × Gives (R.left r.old) (R.left r.new) limits.file_bytes given
         × IsLoadFault (P.base p.now) limits.budget limits.file_bytes (R.left r.new) (R.failed r.new) given f) }
     ensures own { IfErr result (λ f. IsTrue (is_of_load f.reason)) }
 

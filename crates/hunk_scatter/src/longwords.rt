@@ -29,8 +29,10 @@ fn take_first(
     requires some { 4 ≤ length piece.now }
     ensures some { IfOk result (λ r. 0 < r.1) }
     ensures inside { IfOk result (λ r. r.1 ≤ length piece.now) }
-    ensures reading { IfOk result (λ r. Reading rows.now store.new r.0 [] (history.now.bytes ++ take r.1 piece.now)) }
-    ensures refusal { IfErr result (λ r. HasRefusal (history.now.bytes ++ piece.now) (length history.now.bytes) r) }
+    ensures reading { IfOk result
+        (λ r. Reading rows.now store.new r.0 [] (history.now.bytes ++ take r.1 piece.now)) }
+    ensures refusal { IfErr result
+        (λ r. HasRefusal (history.now.bytes ++ piece.now) (length history.now.bytes) r) }
     ensures own { IfErr result (λ r. IsTrue (is_of_body r)) }
 {
     // The history is for the contract alone.
@@ -57,8 +59,10 @@ fn take_front(
     requires some { 4 ≤ length piece.now }
     ensures some { IfOk result (λ r. 0 < r.1) }
     ensures inside { IfOk result (λ r. r.1 ≤ length piece.now) }
-    ensures reading { IfOk result (λ r. Reading rows.now store.new r.0 [] (history.now.bytes ++ take r.1 piece.now)) }
-    ensures refusal { IfErr result (λ r. HasRefusal (history.now.bytes ++ piece.now) (length history.now.bytes) r) }
+    ensures reading { IfOk result
+        (λ r. Reading rows.now store.new r.0 [] (history.now.bytes ++ take r.1 piece.now)) }
+    ensures refusal { IfErr result
+        (λ r. HasRefusal (history.now.bytes ++ piece.now) (length history.now.bytes) r) }
     ensures own { IfErr result (λ r. IsTrue (is_of_body r)) }
 {
     if state.position.run() > 0 {
@@ -92,8 +96,10 @@ pub fn take_longwords(
     requires room { length history.now.bytes + length piece.now < 2 ^ 64 }
     ensures inside { result.1 ≤ length piece.now }
     ensures some { IfNone result.2 (is_done state.position ≡ false → 0 < result.1) }
-    ensures reading { IfNone result.2 (Reading rows.now store.new result.0 [] (history.now.bytes ++ take result.1 piece.now)) }
-    ensures refusal { IfSome result.2 (λ r. HasRefusal (history.now.bytes ++ piece.now) (length history.now.bytes + result.1) r) }
+    ensures reading { IfNone result.2 (Reading rows.now store.new result.0 [] (history.now.bytes
+        ++ take result.1 piece.now)) }
+    ensures refusal { IfSome result.2
+        (λ r. HasRefusal (history.now.bytes ++ piece.now) (length history.now.bytes + result.1) r) }
     ensures own { IfSome result.2 (λ r. IsTrue (is_of_body r)) }
 {
     let mut state = state;

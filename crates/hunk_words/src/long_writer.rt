@@ -74,7 +74,8 @@ impl<W: Sink> LongWriter<W> {
     #[tactic(auto, using(crate::proofs::PutLaws::puts_none, crate::proofs::PutLaws::puts_front))]
     pub fn put_bytes(&mut self, bytes: &[u8]) -> Result<(), WriteFault>
         requires { self.old.written + length bytes.now < 2 ^ 64 }
-        ensures puts { Puts (W.taken self.old.sink) (W.taken self.new.sink) self.old.written self.new.written bytes.now }
+        ensures puts { Puts (W.taken self.old.sink) (W.taken self.new.sink)
+            self.old.written self.new.written bytes.now }
         ensures whole { OnOk result (self.new.written ≡ self.old.written + length bytes.now) }
         ensures told { IfErr result (λ fault. fault.written ≡ self.new.written) }
         ensures failed { OnErr result (W.failed self.new.sink ≡ true) }
@@ -109,7 +110,8 @@ impl<W: Sink> LongWriter<W> {
     #[tactic(auto, unfolding(crate::specs::Longs::bytes_of))]
     pub fn put_long(&mut self, word: u32) -> Result<(), WriteFault>
         requires { self.old.written + 4 < 2 ^ 64 }
-        ensures puts { Puts (W.taken self.old.sink) (W.taken self.new.sink) self.old.written self.new.written (bytes_of (word ∷ [])) }
+        ensures puts { Puts (W.taken self.old.sink) (W.taken self.new.sink)
+            self.old.written self.new.written (bytes_of (word ∷ [])) }
         ensures whole { OnOk result (self.new.written ≡ self.old.written + 4) }
         ensures told { IfErr result (λ fault. fault.written ≡ self.new.written) }
         ensures failed { OnErr result (W.failed self.new.sink ≡ true) }

@@ -50,7 +50,9 @@ fn validate_order(alloc: Global, found: &ArgMatches<'_>) -> Result<Order, OrderF
 
 fn relocate_order(alloc: Global, found: &ArgMatches<'_>) -> Result<Order, OrderFault>
     ensures ok { IfOk result (λ order. relocate_order (rows_of (found_of found.now)) ≡ Some order) }
-    ensures err { IfErr result (λ fault. (fault ≡ Memory) ⊎ ((fault ≡ Line) × (relocate_order (rows_of (found_of found.now)) ≡ None))) }
+    ensures err { IfErr result
+        (λ fault. (fault ≡ Memory)
+        ⊎ ((fault ≡ Line) × (relocate_order (rows_of (found_of found.now)) ≡ None))) }
 {
     let base = match text_of(found, "base") {
         Some(text) => base_of(text).ok_or(OrderFault::Line)?,
@@ -70,7 +72,9 @@ fn relocate_order(alloc: Global, found: &ArgMatches<'_>) -> Result<Order, OrderF
 
 fn rewrite_order(alloc: Global, found: &ArgMatches<'_>) -> Result<Order, OrderFault>
     ensures ok { IfOk result (λ order. rewrite_order (rows_of (found_of found.now)) ≡ Some order) }
-    ensures err { IfErr result (λ fault. (fault ≡ Memory) ⊎ ((fault ≡ Line) × (rewrite_order (rows_of (found_of found.now)) ≡ None))) }
+    ensures err { IfErr result
+        (λ fault. (fault ≡ Memory)
+        ⊎ ((fault ≡ Line) × (rewrite_order (rows_of (found_of found.now)) ≡ None))) }
 {
     let Some(input) = name_of(alloc, found, "IN")? else {
         return Err(OrderFault::Line);
@@ -101,10 +105,14 @@ fn fault_of(alloc: Global, error: &Error) -> OrderFault
 }
 
 fn order_in<S: AsStr>(alloc: Global, words: &[S]) -> Result<Order, OrderFault>
-    ensures ok { IfOk result (λ order. entered_order (subcommand_of spec.hunkinfo (map S.text words.now)) ≡ Some order) }
+    ensures ok { IfOk result
+        (λ order. entered_order (subcommand_of spec.hunkinfo (map S.text words.now)) ≡ Some order) }
     ensures err { IfErr result (λ fault. takes spec.hunkinfo (map S.text words.now) ≡ true
-        → (fault ≡ Memory) ⊎ ((fault ≡ Line) × (entered_order (subcommand_of spec.hunkinfo (map S.text words.now)) ≡ None))) }
-    ensures asked { IfErr result (λ fault. IsHelp fault → IsAmong ErrorKind.DisplayHelp (clap_fault spec.hunkinfo (map S.text words.now))) }
+        → (fault ≡ Memory) ⊎ ((fault ≡ Line)
+        × (entered_order (subcommand_of spec.hunkinfo (map S.text words.now)) ≡ None))) }
+    ensures asked { IfErr result
+        (λ fault. IsHelp fault
+        → IsAmong ErrorKind.DisplayHelp (clap_fault spec.hunkinfo (map S.text words.now))) }
 {
     let matches = match hunkinfo(alloc)?.try_get_matches_from(words) {
         Ok(matches) => matches,
@@ -130,9 +138,12 @@ fn order_in<S: AsStr>(alloc: Global, words: &[S]) -> Result<Order, OrderFault>
 /// no memory was given.
 pub fn order(alloc: Global, words: &[String]) -> Result<Order, OrderFault>
     ensures ok { IfOk result (λ order. order_of (map string_bytes words.now) ≡ Some order) }
-    ensures err { IfErr result (λ fault. takes spec.hunkinfo (taken (map string_bytes words.now)) ≡ true
+    ensures err { IfErr result
+        (λ fault. takes spec.hunkinfo (taken (map string_bytes words.now)) ≡ true
         → (fault ≡ Memory) ⊎ ((fault ≡ Line) × (order_of (map string_bytes words.now) ≡ None))) }
-    ensures asked { IfErr result (λ fault. IsHelp fault → IsAmong ErrorKind.DisplayHelp (clap_fault spec.hunkinfo (taken (map string_bytes words.now)))) }
+    ensures asked { IfErr result
+        (λ fault. IsHelp fault → IsAmong ErrorKind.DisplayHelp
+        (clap_fault spec.hunkinfo (taken (map string_bytes words.now)))) }
 {
     if words.len() < 2 {
         order_in(alloc, STORED.as_slice())

@@ -50,13 +50,17 @@ pub fn run<T: Files + Input, W: Sink>(
 
     // Where clap takes the words: they are an order, which is done where the status is 0, or they are refused.
     ensures done { (order : Order) → takes hunkinfo (taken (map string_bytes words.now)) ≡ true
-        → order_of (map string_bytes words.now) ≡ Some order → result ≡ 0 → IsDone W.taken out.old out.new order }
+        → order_of (map string_bytes words.now) ≡ Some order → result ≡ 0
+        → IsDone W.taken out.old out.new order }
     ensures refused { takes hunkinfo (taken (map string_bytes words.now)) ≡ true
-        → order_of (map string_bytes words.now) ≡ None → PrintsNoHelp W.taken W.failed out.old out.new result }
+        → order_of (map string_bytes words.now) ≡ None
+        → PrintsNoHelp W.taken W.failed out.old out.new result }
 
     // Where no help is asked for, the status is 0 only where the words are an order, and it is done.
-    ensures heard { (IsAmong DisplayHelp (fault_of hunkinfo (taken (map string_bytes words.now))) → ⊥) → result ≡ 0
-        → (order : Order) × (order_of (map string_bytes words.now) ≡ Some order) × IsDone W.taken out.old out.new order }
+    ensures heard { (IsAmong DisplayHelp (fault_of hunkinfo (taken (map string_bytes words.now)))
+        → ⊥) → result ≡ 0
+        → (order : Order) × (order_of (map string_bytes words.now) ≡ Some order)
+        × IsDone W.taken out.old out.new order }
 {
     match order(alloc, words) {
         Ok(order) => obey(rt, alloc, &order, out),

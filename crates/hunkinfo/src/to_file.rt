@@ -32,7 +32,9 @@ impl<'a, T: Files> ToFile<'a, T> {
     fn write(&mut self, bytes: &[u8]) -> io::Result<usize>
         ensures fits { IfOk result (λ n. n ≤ length bytes.now) }
         ensures same { self.new.failed ≡ self.old.failed }
-        ensures bytes { WriteAppends (option_and_then (λ f. T.File.contents f) self.old.file) (option_and_then (λ f. T.File.contents f) self.new.file) result bytes.now }
+        ensures bytes { WriteAppends (option_and_then
+            (λ f. T.File.contents f) self.old.file) (option_and_then
+            (λ f. T.File.contents f) self.new.file) result bytes.now }
     {
         if self.file.is_none() {
             self.file = Some(fs::create(self.rt, self.name)?);

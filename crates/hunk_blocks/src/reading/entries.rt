@@ -26,7 +26,8 @@ fn definition<'a>(reader: &mut LongReader<'a>, word: u32) -> Result<Entry<'a>, B
         Reads before reader.old (word ∷ []) → Reads before reader.new (ext_text (entry_of e)))) }
     ensures none { OnErr result ((before : Unread) →
         Reads before reader.old (word ∷ []) → BeginsWithNoItem IsExtEntry ext_text before.rest) }
-    ensures front { OnErr result (IsFrontOf (AllByRecursion IsExtEntry) (list_text ext_text) (word ∷ reader.old.rest)) }
+    ensures front { OnErr result
+        (IsFrontOf (AllByRecursion IsExtEntry) (list_text ext_text) (word ∷ reader.old.rest)) }
     ensures fault { IfErr result (λ fault. fault ≡ cut reader.old) }
 {
     let name = read_entry_name(reader, word)?;
@@ -47,7 +48,8 @@ fn reference<'a>(reader: &mut LongReader<'a>, word: u32) -> Result<Entry<'a>, Bl
         Reads before reader.old (word ∷ []) → Reads before reader.new (ext_text (entry_of e)))) }
     ensures none { OnErr result ((before : Unread) →
         Reads before reader.old (word ∷ []) → BeginsWithNoItem IsExtEntry ext_text before.rest) }
-    ensures front { OnErr result (IsFrontOf (AllByRecursion IsExtEntry) (list_text ext_text) (word ∷ reader.old.rest)) }
+    ensures front { OnErr result
+        (IsFrontOf (AllByRecursion IsExtEntry) (list_text ext_text) (word ∷ reader.old.rest)) }
     ensures fault { IfErr result (λ fault. fault ≡ cut reader.old) }
 {
     let name = read_entry_name(reader, word)?;
@@ -68,7 +70,8 @@ fn common<'a>(reader: &mut LongReader<'a>, word: u32) -> Result<Entry<'a>, Block
         Reads before reader.old (word ∷ []) → Reads before reader.new (ext_text (entry_of e)))) }
     ensures none { OnErr result ((before : Unread) →
         Reads before reader.old (word ∷ []) → BeginsWithNoItem IsExtEntry ext_text before.rest) }
-    ensures front { OnErr result (IsFrontOf (AllByRecursion IsExtEntry) (list_text ext_text) (word ∷ reader.old.rest)) }
+    ensures front { OnErr result
+        (IsFrontOf (AllByRecursion IsExtEntry) (list_text ext_text) (word ∷ reader.old.rest)) }
     ensures fault { IfErr result (λ fault. fault ≡ cut reader.old) }
 {
     let name = read_entry_name(reader, word)?;

@@ -19,7 +19,8 @@ fn next_symbol<'a>(reader: &mut LongReader<'a>) -> Result<Option<Named<'a>>, Blo
     ensures read { IfOk result (λ found.
         ReadsItem IsSymbolEntry symbol_text reader.old reader.new (option_map symbol_of found)) }
     ensures none { OnErr result (BeginsWithNoItem IsSymbolEntry symbol_text reader.old.rest) }
-    ensures front { OnErr result (IsFrontOf (AllByRecursion IsSymbolEntry) (list_text symbol_text) reader.old.rest) }
+    ensures front { OnErr result
+        (IsFrontOf (AllByRecursion IsSymbolEntry) (list_text symbol_text) reader.old.rest) }
     ensures fault { IfErr result (λ fault. fault ≡ cut reader.old) }
 {
     let word = reader.long()?;

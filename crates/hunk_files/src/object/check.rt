@@ -161,7 +161,8 @@ fn check_relocation(
     offset: u32,
 ) -> Result<(), AllocError>
     requires { width ≤ 4 }
-    ensures { OnOk result (found.new.items ≡ found.old.items ++ relocation_findings spot width target offset) }
+    ensures { OnOk result (found.new.items ≡ found.old.items
+        ++ relocation_findings spot width target offset) }
 {
     if u64::from(target) >= spot.hunks {
         found.push(spot.finding(FindingKind::BadTarget, offset))?;
@@ -176,7 +177,8 @@ fn check_group(
     group: &Group,
 ) -> Result<(), AllocError>
     requires { width ≤ 4 }
-    ensures { OnOk result (found.new.items ≡ found.old.items ++ group_findings spot width (group_of group.now)) }
+    ensures { OnOk result (found.new.items ≡ found.old.items
+        ++ group_findings spot width (group_of group.now)) }
 {
     for i in 0..group.offsets.len() {
         check_relocation(found, spot, width, group.target, group.offsets.at(i))?;
@@ -191,7 +193,8 @@ fn check_groups(
     groups: &Groups,
 ) -> Result<(), AllocError>
     requires { width ≤ 4 }
-    ensures { OnOk result (found.new.items ≡ found.old.items ++ flat_map (group_findings spot width) (map group_of groups.now)) }
+    ensures { OnOk result (found.new.items ≡ found.old.items
+        ++ flat_map (group_findings spot width) (map group_of groups.now)) }
 {
     for i in 0..groups.len() {
         check_group(found, spot, width, groups.at(i))?;
@@ -200,7 +203,8 @@ fn check_groups(
 }
 
 fn check_entry(found: &mut Vec<Finding>, spot: Spot, entry: &Entry) -> Result<(), AllocError>
-    ensures { OnOk result (found.new.items ≡ found.old.items ++ entry_findings spot (entry_of entry.now)) }
+    ensures { OnOk result (found.new.items ≡ found.old.items
+        ++ entry_findings spot (entry_of entry.now)) }
 {
     let width = reference_width(entry.word);
     for i in 0..entry.offsets.len() {
@@ -210,7 +214,8 @@ fn check_entry(found: &mut Vec<Finding>, spot: Spot, entry: &Entry) -> Result<()
 }
 
 fn check_entries(found: &mut Vec<Finding>, spot: Spot, entries: &Entries) -> Result<(), AllocError>
-    ensures { OnOk result (found.new.items ≡ found.old.items ++ flat_map (entry_findings spot) (map entry_of entries.now)) }
+    ensures { OnOk result (found.new.items ≡ found.old.items
+        ++ flat_map (entry_findings spot) (map entry_of entries.now)) }
 {
     for i in 0..entries.len() {
         check_entry(found, spot, entries.at(i))?;
@@ -219,7 +224,8 @@ fn check_entries(found: &mut Vec<Finding>, spot: Spot, entries: &Entries) -> Res
 }
 
 fn check_block(found: &mut Vec<Finding>, spot: Spot, block: &Block) -> Result<(), AllocError>
-    ensures { OnOk result (found.new.items ≡ found.old.items ++ body_findings spot block.now.word block.now.body) }
+    ensures { OnOk result (found.new.items ≡ found.old.items
+        ++ body_findings spot block.now.word block.now.body) }
 {
     match block.body() {
         Body::Reloc(groups) => {
@@ -240,7 +246,8 @@ fn check_blocks(found: &mut Vec<Finding>, spot: Spot, blocks: &[Block]) -> Resul
 }
 
 fn check_hunks(found: &mut Vec<Finding>, unit: u64, hunks: &[Hunk]) -> Result<(), AllocError>
-    ensures { OnOk result (found.new.items ≡ found.old.items ++ hunks_findings unit (length hunks.now) 0 hunks.now) }
+    ensures { OnOk result (found.new.items ≡ found.old.items
+        ++ hunks_findings unit (length hunks.now) 0 hunks.now) }
 {
     for (number, hunk) in hunks.iter().enumerate() {
         let blocks = hunk.blocks();

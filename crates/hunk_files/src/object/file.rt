@@ -49,7 +49,8 @@ impl<'a> ObjectFile<'a> {
     pub fn decode(alloc: Global, bytes: &'a [u8]) -> Result<ObjectFile<'a>, FileFault>
         ensures file { IfOk result (λ o. IsObjectFile o) }
         ensures text { IfOk result (λ o. bytes.entry.now ≡ bytes_of (object_text o)) }
-        ensures none { IfErr result (λ fault. fault.reason ≢ reasons.OutOfMemory → IsNoObjectFile bytes.entry.now) }
+        ensures none { IfErr result
+            (λ fault. fault.reason ≢ reasons.OutOfMemory → IsNoObjectFile bytes.entry.now) }
         ensures fault { IfErr result (λ fault. fault.reason ≢ reasons.OutOfMemory →
             HasObjectFault bytes.entry.now fault.place fault.reason) }
         ensures own { IfErr result (λ fault. IsTrue (is_object_refusal fault.reason)) }

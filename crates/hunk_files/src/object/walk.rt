@@ -28,7 +28,8 @@ use std::alloc::Global;
 /// The longword number `i`.
 fn long_at(bytes: &[u8], i: usize) -> Result<u32, FileFault>
     requires { i < 2 ^ 32 }
-    ensures long { IfOk result (λ word. (4 * i + 4 ≤ length bytes.now) × (word ≡ slice_index (longs bytes.now) i)) }
+    ensures long { IfOk result
+        (λ word. (4 * i + 4 ≤ length bytes.now) × (word ≡ slice_index (longs bytes.now) i)) }
     ensures short { OnErr result (length bytes.now < 4 * i + 4) }
     ensures cut { IfErr result (λ fault. fault ≡ cut (unread bytes.now)) }
 {
@@ -94,7 +95,8 @@ pub(super) fn read_hunk<'a>(
     bytes: &'a [u8],
 ) -> Result<(Vec<Block<'a>>, usize), FileFault>
     ensures hunk { IfOk result (λ r. IsObjectHunk r.0.items) }
-    ensures text { IfOk result (λ r. BeginsWithText bytes.entry.now (flat_map block_text r.0.items) r.1) }
+    ensures text { IfOk result
+        (λ r. BeginsWithText bytes.entry.now (flat_map block_text r.0.items) r.1) }
     ensures none { IfErr result (λ fault. fault.reason ≢ reasons.OutOfMemory →
         BeginsWithNo IsObjectHunk (flat_map block_text) (longs bytes.entry.now)) }
     ensures fault { first_long bytes.entry.now ≢ unit_word →
@@ -154,7 +156,8 @@ pub(super) fn read_unit<'a>(alloc: Global, bytes: &'a [u8]) -> Result<(Unit<'a>,
     ensures unit { IfOk result (λ r. IsUnit r.0) }
     ensures text { IfOk result (λ r. BeginsWithText bytes.entry.now (unit_text r.0) r.1) }
     ensures end { IfOk result (λ r. EndsUnit (drop r.1 bytes.entry.now)) }
-    ensures none { IfErr result (λ fault. fault.reason ≢ reasons.OutOfMemory → IsNoObjectFile bytes.entry.now) }
+    ensures none { IfErr result
+        (λ fault. fault.reason ≢ reasons.OutOfMemory → IsNoObjectFile bytes.entry.now) }
     ensures fault { (place : WordPlace) → MayBegin place bytes.entry.now →
         IfErr result (λ fault. fault.reason ≢ reasons.OutOfMemory →
         FaultAhead (units_from place) (unread bytes.entry.now) fault) }

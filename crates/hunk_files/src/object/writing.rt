@@ -20,7 +20,8 @@ use hunk_words::{LongWriter, Sink, WriteFault};
 fn put_hunks<W: Sink>(writer: &mut LongWriter<W>, hunks: &[Hunk<'_>]) -> Result<(), WriteFault>
     requires running { writer.old.stopped ≡ false }
     requires room { writer.old.written + length (bytes_of (flat_map (flat_map block_text) hunks.now)) < 2 ^ 64 }
-    ensures { Writes W.taken W.failed writer.old writer.new result (bytes_of (flat_map (flat_map block_text) hunks.now)) }
+    ensures { Writes W.taken W.failed writer.old writer.new result
+        (bytes_of (flat_map (flat_map block_text) hunks.now)) }
 {
     'writing: for hunk in hunks {
         put_blocks(writer, hunk.blocks())?;
@@ -69,8 +70,10 @@ impl ObjectFile<'_> {
     /// answer the same.
     pub fn encode<W: Sink>(&self, writer: &mut LongWriter<W>) -> Result<(), WriteFault>
         requires { writer.old.written + length (bytes_of (object_text self.now)) < 2 ^ 64 }
-        ensures puts { Puts (W.taken writer.old.sink) (W.taken writer.new.sink) writer.old.written writer.new.written (bytes_of (object_text self.now)) }
-        ensures whole { OnOk result (writer.new.written ≡ writer.old.written + length (bytes_of (object_text self.now))) }
+        ensures puts { Puts (W.taken writer.old.sink) (W.taken writer.new.sink)
+            writer.old.written writer.new.written (bytes_of (object_text self.now)) }
+        ensures whole { OnOk result (writer.new.written
+            ≡ writer.old.written + length (bytes_of (object_text self.now))) }
         ensures told { IfErr result (λ fault. fault.written ≡ writer.new.written) }
         ensures failed { OnErr result (W.failed writer.new.sink ≡ true) }
         ensures stops { writer.new.stopped ≡ is_err result }

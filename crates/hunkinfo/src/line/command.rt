@@ -93,7 +93,8 @@ fn command<'a>(alloc: Global, name: &'a str, about: &'a str) -> Command<'a>
 
 // A command that only reads: NAME [--hex] [FILE].
 fn listing<'a>(alloc: Global, name: &'a str, about: &'a str) -> Result<Command<'a>, AllocError>
-    ensures { IfOk result (λ command. (app_of command ≡ spec.listing name.entry.now) × ((fields_of command).has_globals ≡ false)) }
+    ensures { IfOk result (λ command. (app_of command ≡ spec.listing name.entry.now)
+        × ((fields_of command).has_globals ≡ false)) }
 {
     command(alloc, name, about)
         .arg(hex_flag(alloc))?
@@ -101,7 +102,8 @@ fn listing<'a>(alloc: Global, name: &'a str, about: &'a str) -> Result<Command<'
 }
 
 fn show<'a>(alloc: Global) -> Result<Command<'a>, AllocError>
-    ensures { IfOk result (λ command. (app_of command ≡ spec.listing (codes "show")) × ((fields_of command).has_globals ≡ false)) }
+    ensures { IfOk result (λ command. (app_of command ≡ spec.listing (codes "show"))
+        × ((fields_of command).has_globals ≡ false)) }
 {
     listing(
         alloc,
@@ -111,7 +113,8 @@ fn show<'a>(alloc: Global) -> Result<Command<'a>, AllocError>
 }
 
 fn validate<'a>(alloc: Global) -> Result<Command<'a>, AllocError>
-    ensures { IfOk result (λ command. (app_of command ≡ spec.listing (codes "validate")) × ((fields_of command).has_globals ≡ false)) }
+    ensures { IfOk result (λ command. (app_of command ≡ spec.listing (codes "validate"))
+        × ((fields_of command).has_globals ≡ false)) }
 {
     listing(
         alloc,
@@ -145,7 +148,8 @@ fn budget_option<'a>(alloc: Global) -> Arg<'a>
 }
 
 fn relocate<'a>(alloc: Global) -> Result<Command<'a>, AllocError>
-    ensures { IfOk result (λ command. (app_of command ≡ spec.relocate) × ((fields_of command).has_globals ≡ false)) }
+    ensures { IfOk result (λ command. (app_of command ≡ spec.relocate)
+        × ((fields_of command).has_globals ≡ false)) }
 {
     let about = "Loads a load file at an address, and prints the bytes of its hunks";
     command(alloc, "relocate", about)
@@ -185,7 +189,8 @@ fn output_positional<'a>(alloc: Global) -> Arg<'a>
 }
 
 fn rewrite<'a>(alloc: Global) -> Result<Command<'a>, AllocError>
-    ensures { IfOk result (λ command. (app_of command ≡ spec.rewrite) × ((fields_of command).has_globals ≡ false)) }
+    ensures { IfOk result (λ command. (app_of command ≡ spec.rewrite)
+        × ((fields_of command).has_globals ≡ false)) }
 {
     let about = "Reads a load file or an object file, and writes it again";
     command(alloc, "rewrite", about)

@@ -68,12 +68,16 @@ fn list_source<R: Source, W: Sink>(
 ) -> Result<u8, RunFault>
     requires { out.old.written ≡ 0 }
     ensures known { IfOk result (λ status. status ≤ 4) }
-    ensures done { IfOk result (λ status. status ≡ 0 → ListsSource hex listing (R.left source.old) (R.left source.new) W.taken out.old out.new) }
+    ensures done { IfOk result
+        (λ status. status ≡ 0
+        → ListsSource hex listing (R.left source.old) (R.left source.new) W.taken out.old out.new) }
     ensures told { IfOk result (TellsStatus W.taken W.failed out.old out.new) }
     ensures fails { IfErr result (StopsOutput W.taken W.failed out.old out.new) }
     ensures refused { IfErr result (λ fault. (refusal : Fault) → fault ≡ Refused refusal
-        → RefusesSource hex listing refusal (R.left source.old) (R.left source.new) FILE_BYTES (R.failed source.new)) }
-    ensures hex_text { IfErr result (λ fault. fault ≡ HexText → SpellsNone (R.left source.old) (R.left source.new)) }
+        → RefusesSource hex listing refusal (R.left source.old) (R.left source.new)
+        FILE_BYTES (R.failed source.new)) }
+    ensures hex_text { IfErr result
+        (λ fault. fault ≡ HexText → SpellsNone (R.left source.old) (R.left source.new)) }
 {
     if !hex {
         return list_bytes(alloc, listing, source, out);
@@ -85,10 +89,12 @@ fn list_source<R: Source, W: Sink>(
 
 // All of the source's text, which may have `FILE_BYTES` bytes and no more.
 fn text_of<R: Source>(alloc: Global, source: &mut R) -> Result<Vec<u8>, RunFault>
-    ensures given { IfOk result (λ text. Consumes (R.left source.old) (R.left source.new) text.items) }
+    ensures given { IfOk result
+        (λ text. Consumes (R.left source.old) (R.left source.new) text.items) }
     ensures at_end { OnOk result (IsAtEnd (R.left source.new)) }
     ensures bound { IfOk result (λ text. length text.items ≤ FILE_BYTES) }
-    ensures err { IfErr result (λ fault. ReadsNoText fault (R.left source.old) (R.left source.new) FILE_BYTES (R.failed source.new)) }
+    ensures err { IfErr result
+        (λ fault. ReadsNoText fault (R.left source.old) (R.left source.new) FILE_BYTES (R.failed source.new)) }
 {
     match read_whole(alloc, source, FILE_BYTES + 1) {
         Err(RunFault::Refused(Fault { place: _, reason })) => Err(RunFault::Refused(Fault {
@@ -107,11 +113,14 @@ fn list_bytes<R: Source, W: Sink>(
 ) -> Result<u8, RunFault>
     requires { out.old.written ≡ 0 }
     ensures known { IfOk result (λ status. status ≤ 4) }
-    ensures done { IfOk result (λ status. status ≡ 0 → ListsSource false listing (R.left source.old) (R.left source.new) W.taken out.old out.new) }
+    ensures done { IfOk result
+        (λ status. status ≡ 0
+        → ListsSource false listing (R.left source.old) (R.left source.new) W.taken out.old out.new) }
     ensures told { IfOk result (TellsStatus W.taken W.failed out.old out.new) }
     ensures fails { IfErr result (StopsOutput W.taken W.failed out.old out.new) }
     ensures refused { IfErr result (λ fault. (refusal : Fault) → fault ≡ Refused refusal
-        → RefusesListing listing refusal (R.left source.old) (R.left source.new) FILE_BYTES (R.failed source.new)) }
+        → RefusesListing listing refusal (R.left source.old) (R.left source.new)
+        FILE_BYTES (R.failed source.new)) }
     ensures hex_text { IfErr result (λ fault. fault ≢ HexText) }
 {
     match listing {
