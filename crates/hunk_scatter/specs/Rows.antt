@@ -21,7 +21,15 @@ words_of rows = map (λ r. r.word) rows
 abbrev pub bases_of : List Row → List ℕ
 bases_of rows = map (λ r. r.base) rows
 
--- where the segment of each 2,048th hunk begins
+-- how many segments an index has the start of
+abbrev pub start_count : ℕ
+start_count = 32
+
+-- the hunks from one start of the index to the next
+abbrev pub hunks_a_start : ℕ
+hunks_a_start = 2048
+
+-- an index: where every so many segments one begins
 pub record AreStarts (rows : List Row) (starts : List ℕ) : Type 0 where
-  pub count : length starts ≡ 32
-  pub start : (k : ℕ) → k < 32 → slice_index starts k ≡ declared_bytes (entries_of (take (2048 * k) rows))
+  pub count : length starts ≡ start_count
+  pub start : (k : ℕ) → k < start_count → slice_index starts k ≡ declared_bytes (entries_of (take (hunks_a_start * k) rows))

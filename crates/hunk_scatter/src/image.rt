@@ -10,6 +10,12 @@ use crate::store::base_of;
 use hunk_files::Row;
 use std::marker::Model;
 
+/// How many segments an image's index has the start of.
+const STARTS: usize = 32;
+
+/// The hunks from one start of the index to the next: `STARTS` times as many are the most of a file.
+const HUNKS_A_START: usize = 2048;
+
 /// The segments of a load file, each as it lies at its base.
 ///
 /// Contracts see the rows with their bases, and the segments. No call takes memory.
@@ -17,7 +23,7 @@ use std::marker::Model;
 pub struct Image {
     pub(crate) rows: Vec<Row>,
     pub(crate) store: Vec<u8>,
-    pub(crate) starts: [u64; 32],
+    pub(crate) starts: [u64; STARTS],
 }
 
 impl Model for Image {
@@ -48,18 +54,18 @@ fn start_of(rows: &[Row]) -> u64
     bytes
 }
 
-/// Where the segment of each 2,048th hunk begins, in one pass.
-pub fn starts_of(rows: &[Row]) -> [u64; 32]
+/// The index of an image: where every 2,048th segment begins. It is made in one pass.
+pub fn starts_of(rows: &[Row]) -> [u64; STARTS]
     requires { length rows.now ≤ most_hunks }
     ensures { AreStarts rows.now result }
 {
-    let mut starts = [0; 32];
+    let mut starts = [0; STARTS];
     let mut bytes = 0;
     let mut rest = rows;
     let mut k = 0;
-    'starts: while k < 32 {
+    'starts: while k < STARTS {
         starts[k] = bytes;
-        let (front, behind) = rest.split_at(2048usize.min(rest.len()));
+        let (front, behind) = rest.split_at(HUNKS_A_START.min(rest.len()));
         bytes += start_of(front);
         rest = behind;
         k += 1;
@@ -74,9 +80,10 @@ fn segment_of<'a>(rows: &[Row], starts: &[u64], store: &'a [u8], i: usize) -> &'
     requires size { length store.now ≡ declared_bytes (entries_of rows.now) }
     ensures { slice_get (cut (words_of rows.now) store.entry.now) i ≡ Some result.now }
 {
-    let first = i / 2048 * 2048;
+    let k = i / HUNKS_A_START;
+    let first = k * HUNKS_A_START;
     let front = start_of(&rows[first..i]);
-    let start = (starts[i / 2048] + front) as usize;
+    let start = (starts[k] + front) as usize;
     let row = rows[i];
     let bytes = row.size().bytes() as usize;
     &store[start..start + bytes]
