@@ -6,6 +6,10 @@ mod load_vectors;
 mod object_texts;
 mod object_vectors;
 mod spelling;
+#[cfg(test)]
+mod tests;
 
+pub use crate::load_texts::LOAD_TEXTS;
 pub use crate::load_vectors::{VECTORS, Vector, Want, bytes};
+pub use crate::object_texts::OBJECT_TEXTS;
 pub use crate::object_vectors::{OBJECTS, ObjectVector, ObjectWant, object_bytes};

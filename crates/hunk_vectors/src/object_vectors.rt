@@ -164,7 +164,7 @@ pub const OBJECTS: [ObjectVector; 16] = [
 ///
 /// Where memory is refused.
 pub fn object_bytes(alloc: Global, i: usize) -> Result<Vec<u8>, AllocError>
-    requires { i < 16 }
+    requires { i < length OBJECT_TEXTS }
     ensures { IfOk result
         (λ bytes. IfSome (slice_get (map (λ text. text.now) OBJECT_TEXTS) i)
         (λ text. Spells text bytes.items)) }

@@ -1,4 +1,4 @@
-use Rattle.std.proofs.Common.{◌≡◌, refl}
+use Rattle.std.proofs.Common.{refl}
 use Rattle.hex.proofs.OnLiterals.{hex_on_literals}
 use Rattle.hunk_vectors.proofs.object_vectors.object_bytes.Goals as goal
 
@@ -6,6 +6,3 @@ use Rattle.hunk_vectors.proofs.object_vectors.object_bytes.Goals as goal
 pub spelled-requires-clause-texts : goal.spelled-requires-clause-texts
 unfolding hex_on_literals
 spelled-requires-clause-texts c = refl
-
-pub returns : goal.returns
-returns c = c.spelled.ensures

@@ -1,4 +1,4 @@
-use Rattle.std.proofs.Common.{◌≡◌, ℕ, List, true, is_ok, map, slice_get, IfSome, get_or, sym, ap, ◌∙◌, inl, inr, subst, option_map}
+use Rattle.std.proofs.Common.{ℕ, List, is_ok, IfSome, sym, ap, ◌∙◌, inl, inr, subst, option_map}
 use Rattle.std.specs.Borrow.{Bor}
 use Rattle.std.proofs.lemmas.Option.{slice_get-get_or, slice_get-map}
 use Rattle.std.proofs.lemmas.List.Sums.{AllPass-from_list_all}

@@ -1,0 +1,55 @@
+//! Each object file, and each front of it that is one, checked and written again.
+
+use crate::{OBJECT_TEXTS, OBJECTS, ObjectWant, object_bytes};
+use hunk_files::ObjectFile;
+use hunk_words::{FromWrite, LongWriter};
+use std::alloc::Global;
+use std::test::Fail;
+
+fn answer(alloc: Global, bytes: &[u8]) -> Result<ObjectWant, Fail> {
+    match ObjectFile::decode(alloc, bytes) {
+        Ok(file) => Ok(ObjectWant::Accepted {
+            units: file.units().len() as u64,
+            findings: file.check(alloc)?.len() as u64,
+        }),
+        Err(fault) => Ok(ObjectWant::Refused {
+            place: fault.place,
+            number: fault.reason.number(),
+        }),
+    }
+}
+
+/// Whether the bytes are no object file, or are written again as they are.
+fn is_written_again(alloc: Global, bytes: &[u8]) -> bool {
+    let Ok(file) = ObjectFile::decode(alloc, bytes) else {
+        return true;
+    };
+    let mut writer = LongWriter::new(FromWrite::new(Vec::new(alloc)));
+    file.encode(&mut writer).is_ok() && writer.into_inner().into_inner().as_slice() == bytes
+}
+
+#[test]
+fn answers(rt: HostRuntime) -> Result<(), Fail> {
+    for i in 0..OBJECT_TEXTS.len() {
+        let vector = OBJECTS[i];
+        assert_eq!(rt; vector.text, OBJECT_TEXTS[i]);
+        let bytes = object_bytes(rt.alloc(), i)?;
+        assert_eq!(rt; 2 * bytes.len(), vector.text.len());
+        assert_eq!(rt; answer(rt.alloc(), bytes.as_slice())?, vector.want, "{i}");
+    }
+    Ok(())
+}
+
+#[test]
+fn fronts_again(rt: HostRuntime) -> Result<(), Fail> {
+    for i in 0..OBJECT_TEXTS.len() {
+        let bytes = object_bytes(rt.alloc(), i)?;
+        for n in 0..=bytes.len() {
+            assert!(rt;
+                is_written_again(rt.alloc(), &bytes[..n]),
+                "{n} bytes of {i}"
+            );
+        }
+    }
+    Ok(())
+}
