@@ -3,7 +3,7 @@ ghost use Rattle.std.specs.Prelude.{None, false};
 
 use hunk_files::LoadFile;
 use hunk_scatter::{Image, Limits, Packed, load};
-use hunk_words::{Failed, FileFault, SizeWord, Source, word_at};
+use hunk_words::{Failed, SizeWord, Source, word_at};
 use std::alloc::{AllocError, Global};
 
 /// The bytes that the suite's loads may declare.
