@@ -6,10 +6,10 @@ ghost use Rattle.hunk_files.specs.Hunks.{AreBlocksAt, HasNoHunk};
 ghost use Rattle.hunk_files.specs.Tables.{hunk_of, IsTable};
 
 use crate::order::is_end;
-use crate::place::counted_from;
+use crate::place::{counted_from, out_of_memory};
 use crate::row::Row;
 use hunk_blocks::{Block, Mode};
-use hunk_words::{FileFault, Reason};
+use hunk_words::FileFault;
 use std::alloc::Global;
 
 /// A hunk of a load file: its row of the table, and its blocks.
@@ -75,16 +75,4 @@ pub(crate) fn read_hunks<'a>(
         }
     }
     Ok(hunks)
-}
-
-/// Want of memory for what the longword that ends here completes.
-pub(crate) fn out_of_memory(end: usize) -> FileFault
-    requires { 4 ≤ end }
-    ensures place { result.place + 4 ≡ end }
-    ensures reason { result.reason ≡ reasons.OutOfMemory }
-{
-    FileFault {
-        place: end as u64 - 4,
-        reason: Reason::OutOfMemory,
-    }
 }

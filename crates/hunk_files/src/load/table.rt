@@ -6,7 +6,7 @@ ghost use Rattle.hunk_words.specs.Longs.{longs};
 ghost use Rattle.hunk_files.specs.Fault.{BeginsWithLoadFile};
 ghost use Rattle.hunk_files.specs.Tables.{IsTable};
 
-use crate::load::hunk::out_of_memory;
+use crate::place::out_of_memory;
 use crate::row::Row;
 use hunk_words::{FileFault, SizeWord, word_at};
 use std::alloc::Global;
