@@ -1,5 +1,5 @@
 -- The reasons that a longword of a load file can be refused for.
-use Rattle.std.proofs.Common.{◌≡◌, ℕ, ◌+◌, Bool, true, false, cond, List, Some, None, Option, refl, sym, subst, ◌==◌, inl, inr}
+use Rattle.std.proofs.Common.{◌≡◌, ◌≢◌, ℕ, ◌+◌, Bool, true, false, cond, List, Some, None, Option, refl, sym, subst, ◌∙◌, ◌==◌, inl, inr}
 use Rattle.std.specs.Prelude.{IfSome, IsTrue, nat_lt}
 use Rattle.hunk_words.specs.declared.block_word.Kind.{Kind}
 use Rattle.hunk_words.specs.declared.block_word.Kind.TheVariants as kinds
@@ -102,3 +102,8 @@ of_load_file _ h = h
 pub fault_of_load : (bytes : List ℕ) (at : ℕ) (reason : Reason) → HasFault bytes at reason → IsTrue (is_load_refusal reason)
 fault_of_load bytes at reason (inl h) = of_load_file reason (refusal_of_word bytes at reason h)
 fault_of_load bytes at reason (inr h) = subst (λ (r : Reason). IsTrue (is_load_refusal r)) (sym h.0) refl
+
+-- and none is want of memory
+pub fault_not_memory : (bytes : List ℕ) (at : ℕ) (reason : Reason) → HasFault bytes at reason → reason ≢ reasons.OutOfMemory
+fault_not_memory bytes at reason (inl h) e = let clash : false ≡ true = subst IsWordRefusal e (refusal_of_word bytes at reason h) in cc
+fault_not_memory bytes at reason (inr h) e = let clash : reasons.Truncated ≡ reasons.OutOfMemory = sym h.0 ∙ e in cc
