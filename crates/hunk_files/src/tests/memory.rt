@@ -59,29 +59,13 @@ fn refused_at_the_first_growth(rt: HostRuntime) -> Result<(), Fail> {
     Ok(())
 }
 
+/// One hunk of nothing, with attributes of a longword of their own.
+const WITH_ATTRIBUTES: [u32; 10] = [0x3F3, 0, 1, 0, 0, 0xC000_0000, 2, 0x3EB, 0, 0x3F2];
+
 /// A row is asked for when it was read: at its size word, or at the attributes behind it.
 #[test]
 fn no_memory_for_a_row(rt: HostRuntime) -> Result<(), Fail> {
-    let rows = [
-        (ONE_HUNK.as_slice(), 20),
-        (
-            [
-                0x3F3,
-                0,
-                1,
-                0,
-                0,
-                0xC000_0001,
-                2,
-                0x3E9,
-                1,
-                0x4E75_4E71,
-                0x3F2,
-            ]
-            .as_slice(),
-            24,
-        ),
-    ];
+    let rows = [(ONE_HUNK.as_slice(), 20), (WITH_ATTRIBUTES.as_slice(), 24)];
     for (longs, place) in rows {
         let reason = Reason::OutOfMemory;
         assert_eq!(rt;
@@ -109,32 +93,26 @@ fn object_fault(
     Ok(result)
 }
 
-/// A block is asked for when it was read whole, and an entry, each at its last longword. A fault
-/// before that place is answered as ever, and one behind it is not seen.
+/// A block is asked for when it was read whole, at its last longword. A fault before that place is
+/// answered as ever, and one behind it is not seen.
 #[test]
 fn no_memory_for_an_object(rt: HostRuntime) -> Result<(), Fail> {
-    let block = [0x3E7, 0, 0x3E9, 1, 0x4E75_4E71, 0x3F5];
+    let content = [0x3E7, 0, 0x3E9, 1, 0x4E75_4E71, 0x3F5];
     let name = [0x3E7, 0, 0x3E8, 1, 0x6100_0000, 0x3F5];
-    let early = [0x3E7, 0, 0xC000_03E9, 1, 0x4E75_4E71, 0x3F2];
-    for (longs, starved, granted, reason) in [
-        (block.as_slice(), 16, 20, Reason::Overlay),
-        (name.as_slice(), 16, 20, Reason::Overlay),
-    ] {
-        let memory = Reason::OutOfMemory;
-        assert_eq!(rt;
-            object_fault(rt.alloc(), longs, true)?,
-            Some(FileFault { place: starved, reason: memory })
-        );
-        assert_eq!(rt;
-            object_fault(rt.alloc(), longs, false)?,
-            Some(FileFault { place: granted, reason })
-        );
+    for longs in [content.as_slice(), name.as_slice()] {
+        let memory = object_fault(rt.alloc(), longs, true)?;
+        assert_eq!(rt; memory, fault_at(16, Reason::OutOfMemory));
+        let refusal = object_fault(rt.alloc(), longs, false)?;
+        assert_eq!(rt; refusal, fault_at(20, Reason::Overlay));
     }
-    assert_eq!(rt;
-        object_fault(rt.alloc(), early.as_slice(), true)?,
-        Some(FileFault { place: 8, reason: Reason::BothBits })
-    );
+    let both_bits = [0x3E7, 0, 0xC000_03E9, 1, 0x4E75_4E71, 0x3F2];
+    let refusal = object_fault(rt.alloc(), both_bits.as_slice(), true)?;
+    assert_eq!(rt; refusal, fault_at(8, Reason::BothBits));
     Ok(())
+}
+
+fn fault_at(place: u64, reason: Reason) -> Option<FileFault> {
+    Some(FileFault { place, reason })
 }
 
 #[test]
