@@ -8,7 +8,7 @@ use Rattle.hunk_words.specs.Longs.{longs, bytes_of, IsLong, AreLongs, IsBytes}
 use Rattle.hunk_files.specs.LoadFile.{LoadFileValue, IsLoadFile}
 use Rattle.hunk_scan.specs.Roles.{Role, refuse}
 use Rattle.hunk_files.specs.LoadText.{words, text, labelled}
-use Rattle.hunk_blocks.proofs.FaultScan.{Machine, Leads as LeadsOf, Reads as ReadsOf, one_refusal, front_passes, whole_passes}
+use Rattle.hunk_blocks.proofs.FaultScan.{Machine, Leads as LeadsOf, Reads as ReadsOf, one_fault as one_of, front_passes, whole_passes}
 use Rattle.hunk_blocks.proofs.Outcomes.{Keeps, run, front, judged}
 use Rattle.hunk_blocks.specs.Faults.{IsFront}
 use Rattle.hunk_files.specs.Fault.{Expects, HasRefusal, BeginsWithLoadFile, IsTruncated, HasFault, IsCompleted, completing, loads}
@@ -292,10 +292,7 @@ not_truncated bytes at reason at' h t = front_passes loads load_reader load_read
 
 -- They have one fault.
 pub one_fault : (bytes : List ℕ) (at : ℕ) (reason : Reason) (at' : ℕ) (reason' : Reason) → HasFault bytes at reason → HasFault bytes at' reason' → (at ≡ at') × (reason ≡ reason')
-one_fault bytes at reason at' reason' (inl h) (inl k) = one_refusal loads load_reader load_reads (longs bytes) at at' reason reason' h k
-one_fault bytes at reason at' reason' (inl h) (inr k) = absurd (not_truncated bytes at reason at' h k.1)
-one_fault bytes at reason at' reason' (inr h) (inl k) = absurd (not_truncated bytes at' reason' at k h.1)
-one_fault bytes at reason at' reason' (inr h) (inr k) = (h.1.place ∙ sym k.1.place, h.0 ∙ sym k.0)
+one_fault bytes at reason at' reason' = one_of loads load_reader load_reads (longs bytes) (IsTruncated bytes) (λ n t. (t.place, t.front)) at at' reason reason'
 
 -- And none where they begin with a load file.
 pub no_fault : (bytes : List ℕ) (at : ℕ) (reason : Reason) → BeginsWithLoadFile bytes → HasFault bytes at reason → ⊥
