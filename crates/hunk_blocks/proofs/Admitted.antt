@@ -1,5 +1,5 @@
 -- A block word that no test refuses, and one that is refused.
-use Rattle.std.proofs.Common.{◌≡◌, ℕ, Bool, true, false, ◌||◌, cond, eqb, ltb, Option, Some, None, refl, sym, ap, subst, ◌∙◌}
+use Rattle.std.proofs.Common.{◌≡◌, ◌≢◌, ℕ, ◌/◌, ◌^◌, Bool, true, false, ◌||◌, cond, eqb, ltb, Option, Some, None, refl, sym, ap, subst, ◌∙◌}
 use Rattle.std.specs.Prelude.{IsTrue, nat_lt, if◌then◌else◌}
 use Rattle.std.specs.Int.{is_in_range}
 use Rattle.std.proofs.lemmas.Bool.{eqb-true}
@@ -11,8 +11,12 @@ use Rattle.hunk_words.specs.Bits.{has_both_bits, is_advisory, kind}
 use Rattle.hunk_blocks.specs.declared.mode.Mode.{Mode}
 use Rattle.hunk_blocks.specs.declared.mode.Mode.TheVariants as modes
 use Rattle.hunk_blocks.specs.declared.ext_shape.ExtShape.TheVariants.{Defines, Refers, Shares, Refused}
+use Rattle.hunk_blocks.specs.declared.ext_shape.ExtShape.{ExtShape}
+use Rattle.hunk_words.specs.Limits.{name_limit}
 use Rattle.hunk_blocks.specs.Values.{ext_shape, BlockBody, Name, Code, Data, Bss, Reloc, Ext, Symbol, Debug, Advisory, End, BlockValue, is_relocation, is_unknown, FitsWord, IsBlock}
-use Rattle.hunk_blocks.specs.Modes.{IsOfMode, is_block_refusal, refuse_alone_kind, refuse_alone_word, refuse_shape}
+use Rattle.hunk_blocks.specs.Parts.{Part, Part as parts}
+use Rattle.hunk_blocks.specs.Modes.{IsOfMode, is_block_refusal, refuse_alone_kind, refuse_alone_word, refuse_inside, refuse_shape}
+use Rattle.hunk_blocks.specs.Faults.{refuse_alone}
 use Rattle.hunk_blocks.proofs.Lists.{passed_true, passed_both, passes_else, passes_then}
 
 abbrev pub block : ℕ → BlockBody → BlockValue
@@ -104,6 +108,47 @@ word_own mode word = go (has_both_bits word)
 
 pub refusal_own : (mode : Mode) (word : ℕ) (reason : Reason) → refuse_alone_word mode word ≡ Some reason → IsTrue (is_block_refusal reason)
 refusal_own mode word reason e = sym (ap own_or_none e) ∙ word_own mode word
+
+-- ---- no longword is refused for want of memory
+
+abbrev pub not_for_memory : Option Reason → Bool
+not_for_memory (Some reasons.OutOfMemory) = false
+not_for_memory _ = true
+
+kind_not_for_memory : (mode : Mode) (advisory : Bool) (k : Kind) → not_for_memory (refuse_alone_kind mode advisory k) ≡ true
+kind_not_for_memory mode true (kinds.Unknown n) = refl
+kind_not_for_memory mode false (kinds.Unknown n) = refl
+kind_not_for_memory modes.Load advisory _ = refl
+kind_not_for_memory modes.Object advisory _ = refl
+
+shape_not_for_memory : (s : ExtShape) → not_for_memory (refuse_shape s) ≡ true
+shape_not_for_memory Refused = refl
+shape_not_for_memory _ = refl
+
+inside_not_for_memory : (part : Part) (w : ℕ) → not_for_memory (refuse_inside part w) ≡ true
+inside_not_for_memory parts.NameCount w = go (nat_lt w name_limit)
+  where
+    go : (b : Bool) → not_for_memory (cond b None (Some reasons.NameWord)) ≡ true
+    go true = refl
+    go false = refl
+inside_not_for_memory parts.ExtWord w = shape_not_for_memory (ext_shape (w / 2 ^ 24))
+inside_not_for_memory _ w = refl
+
+alone_not_for_memory : (mode : Mode) (part : Part) (w : ℕ) → not_for_memory (refuse_alone mode part w) ≡ true
+alone_not_for_memory mode parts.BlockWord w = go (has_both_bits w)
+  where
+    go : (b : Bool) → not_for_memory (cond b (Some reasons.BothBits) (refuse_alone_kind mode (is_advisory w) (kind w))) ≡ true
+    go true = refl
+    go false = kind_not_for_memory mode (is_advisory w) (kind w)
+alone_not_for_memory mode parts.NameCount w = inside_not_for_memory parts.NameCount w
+alone_not_for_memory mode parts.ExtWord w = inside_not_for_memory parts.ExtWord w
+alone_not_for_memory mode _ w = refl
+
+pub other_than_memory : (o : Option Reason) (reason : Reason) → not_for_memory o ≡ true → o ≡ Some reason → reason ≢ reasons.OutOfMemory
+other_than_memory o reason h e m = let clash : false ≡ true = ap not_for_memory (ap (λ (r : Reason). Some r) (sym m) ∙ sym e) ∙ h in cc
+
+pub alone_other_than_memory : (mode : Mode) (part : Part) (w : ℕ) (reason : Reason) → refuse_alone mode part w ≡ Some reason → reason ≢ reasons.OutOfMemory
+alone_other_than_memory mode part w reason = other_than_memory (refuse_alone mode part w) reason (alone_not_for_memory mode part w)
 
 -- ---- the types of EXT entries
 

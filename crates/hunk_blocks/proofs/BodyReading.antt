@@ -28,7 +28,7 @@ pub longs_of-flat_map : {A : Type 0} (f : A → List (Part × ℕ)) (xs : List A
 longs_of-flat_map f [] = refl
 longs_of-flat_map f (x ∷ xs) = map-append (λ p. p.1) (f x) (flat_map f xs) ∙ ap (λ l. longs_of (f x) ++ l) (longs_of-flat_map f xs)
 
-list_is : {A : Type 0} (f : A → List (Part × ℕ)) (part : Part) (xs : List A) → longs_of (flat_map f xs ++ (part, 0) ∷ []) ≡ list_text (λ x. longs_of (f x)) xs
+pub list_is : {A : Type 0} (f : A → List (Part × ℕ)) (part : Part) (xs : List A) → longs_of (flat_map f xs ++ (part, 0) ∷ []) ≡ list_text (λ x. longs_of (f x)) xs
 list_is f part xs = map-append (λ p. p.1) (flat_map f xs) ((part, 0) ∷ []) ∙ ap (λ l. l ++ 0 ∷ []) (longs_of-flat_map f xs)
 
 pub body_text_is : (b : BlockBody) → body_text b ≡ text_of b

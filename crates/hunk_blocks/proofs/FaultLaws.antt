@@ -1,10 +1,11 @@
 -- Faults of what stands behind longwords that were read.
-use Rattle.std.proofs.Common.{◌≡◌, ℕ, ◌+◌, ◌*◌, List, [], ◌∷◌, ◌++◌, length, map, refl, sym, ap, subst, ◌∙◌, append_assoc, length-append, append-nil, arith, Some, inl, inr}
+use Rattle.std.proofs.Common.{◌≡◌, ◌≢◌, ℕ, ◌+◌, ◌*◌, List, [], ◌∷◌, ◌++◌, length, map, refl, sym, ap, subst, ◌∙◌, append_assoc, length-append, append-nil, arith, Some, inl, inr}
 use Rattle.std.proofs.lemmas.List.{map-append}
 use Rattle.hunk_words.specs.declared.fault.Fault.{Fault}
 use Rattle.hunk_words.specs.declared.reason.Reason.{Reason}
+use Rattle.hunk_words.specs.declared.reason.Reason.TheVariants as reasons
 use Rattle.hunk_blocks.specs.Reading.{Unread, Reads, IsFrontOf}
-use Rattle.hunk_blocks.specs.Faults.{Grammar, words, Expects, HasRefusal, IsFront, FaultAhead}
+use Rattle.hunk_blocks.specs.Faults.{Grammar, words, Expects, HasRefusal, IsFront, IsFrontTo, FaultAhead}
 use Rattle.hunk_blocks.proofs.ListReading.{cut-Reads}
 
 -- What begins with a text and more begins with the text.
@@ -82,8 +83,29 @@ module _ {A B R S : Type 0} (g : Grammar A R) (h : Grammar B S) (front : List (S
         place = omega (arith, r.place, reads.further);
         refusal = subst (λ ws. HasRefusal h ws (4 * length (words front) + r.at) fault.reason) (sym reads.front) (refusal_embedded new.rest r.at fault.reason r.refusal);
       })
-  ahead_embedded old new fault reads (inr c) =
-      inr (c.0 ∙ sym (cut-Reads old new (words front) reads), subst (IsFront h) (sym reads.front) (front_embedded new.rest c.1))
+  ahead_embedded old new fault reads (inr (inl c)) =
+      inr (inl (c.0 ∙ sym (cut-Reads old new (words front) reads), subst (IsFront h) (sym reads.front) (front_embedded new.rest c.1)))
+  ahead_embedded old new fault reads (inr (inr w)) =
+      inr (inr (record {
+        reason = w.reason;
+        at = 4 * length (words front) + w.at;
+        place = omega (arith, w.place, reads.further);
+        front =
+            record {
+              read = words front ++ w.front.read;
+              after = w.front.after;
+              split = reads.front ∙ ap (λ ws. words front ++ ws) w.front.split ∙ sym (append_assoc (words front) w.front.read w.front.after);
+              place = omega (arith, w.front.place, length-append (words front) w.front.read);
+              front = front_embedded w.front.read w.front.front;
+            };
+      }))
+
+-- Where memory is missing, some text goes on up to there: no longword is refused for that.
+pub front_ahead : {A R : Type 0} (g : Grammar A R) (ws : List ℕ) (r : Unread) (fault : Fault) → ((role : R) (w : ℕ) (reason : Reason) → g.refuse role w ≡ Some reason → reason ≢ reasons.OutOfMemory) → r.rest ≡ ws → r.place ≡ 0 → fault.reason ≡ reasons.OutOfMemory →
+    FaultAhead g r fault → IsFrontTo g ws fault.place
+front_ahead g ws r fault others e zero memory (inl f) = absurd (others f.refusal.role f.refusal.word fault.reason f.refusal.refuses memory)
+front_ahead g ws r fault others e zero memory (inr (inl f)) = let clash : reasons.Truncated ≡ reasons.OutOfMemory = sym (ap (λ x. x.reason) f.0) ∙ memory in absurd cc
+front_ahead g ws r fault others e zero memory (inr (inr f)) = subst (λ xs. IsFrontTo g xs fault.place) e (subst (IsFrontTo g r.rest) (omega (arith, f.place, zero)) f.front)
 
 -- ---- of one grammar with the same roles
 

@@ -7,8 +7,8 @@ use Rattle.hunk_words.specs.declared.reason.Reason.{Reason}
 use Rattle.hunk_words.specs.declared.reason.Reason.TheVariants as reasons
 use Rattle.hunk_words.specs.Longs.{longs}
 use Rattle.hunk_blocks.specs.declared.mode.Mode.{Mode}
-use Rattle.hunk_blocks.specs.Values.{BlockBody, BlockValue, ExtEntry, FitsWord, IsBlock, IsExtEntry, IsPayload}
-use Rattle.hunk_blocks.specs.Parts.{Part, Part as parts, counted, body_parts, block_parts, ext_parts}
+use Rattle.hunk_blocks.specs.Values.{BlockBody, BlockValue, ExtEntry, FitsWord, IsBlock, IsExtEntry, IsGroup, IsPayload, IsSymbolEntry, RelocGroup, SymbolEntry}
+use Rattle.hunk_blocks.specs.Parts.{Part, Part as parts, counted, body_parts, block_parts, ext_parts, group_parts, symbol_parts}
 use Rattle.hunk_blocks.specs.Modes.{IsOfMode, refuse_alone_word, refuse_inside}
 use Rattle.hunk_blocks.specs.Reading.{Unread, IsFrontOf, cut}
 use Rattle.hunk_blocks.specs.Begins.{BeginsWithNoBlock}
@@ -55,9 +55,24 @@ module _ {Value Role : Type 0} (g : Grammar Value Role) where
     pub place : fault.place ≡ r.place + at
     pub refusal : HasRefusal r.rest at fault.reason
 
-  -- or the input ends too soon
+  -- Some text begins with these longwords up to the one at byte `at`, and with that.
+  pub record IsFrontTo (ws : List ℕ) (at : ℕ) : Type 0 where
+    pub read : List ℕ
+    pub after : List ℕ
+    pub split : ws ≡ read ++ after
+    pub place : at + 4 ≡ 4 * length read
+    pub front : IsFront read
+
+  -- Of what a reader has before it, memory is missing for what a longword of some text completes.
+  pub record WantAhead (r : Unread) (fault : Fault) : Type 0 where
+    pub reason : fault.reason ≡ reasons.OutOfMemory
+    pub at : ℕ
+    pub place : fault.place ≡ r.place + at
+    pub front : IsFrontTo r.rest at
+
+  -- Of it a longword is refused, or it ends too soon, or memory is missing.
   abbrev pub FaultAhead : Unread → Fault → Type 0
-  FaultAhead r fault = RefusedAhead r fault ⊎ ((fault ≡ cut r) × IsFront r.rest)
+  FaultAhead r fault = RefusedAhead r fault ⊎ (((fault ≡ cut r) × IsFront r.rest) ⊎ WantAhead r fault)
 
 -- ---- blocks
 
@@ -65,9 +80,21 @@ module _ {Value Role : Type 0} (g : Grammar Value Role) where
 abbrev pub name : Grammar (List ℕ) Part
 name = record { Is = IsPayload name_limit; labelled = counted parts.NameCount; refuse = refuse_inside }
 
+-- a list of such values, which a zero of this part ends
+abbrev pub list_of : {A : Type 0} → (A → Type 0) → (A → List (Part × ℕ)) → Part → Grammar (List A) Part
+list_of Is parts_of part = record { Is = AllByRecursion Is; labelled = λ xs. flat_map parts_of xs ++ (part, 0) ∷ []; refuse = refuse_inside }
+
+-- the groups of a relocation block
+abbrev pub groups : Grammar (List RelocGroup) Part
+groups = list_of IsGroup group_parts parts.GroupCount
+
 -- the entries of an EXT block
 abbrev pub entries : Grammar (List ExtEntry) Part
-entries = record { Is = AllByRecursion IsExtEntry; labelled = λ es. flat_map ext_parts es ++ (parts.ExtWord, 0) ∷ []; refuse = refuse_inside }
+entries = list_of IsExtEntry ext_parts parts.ExtWord
+
+-- the entries of a SYMBOL block
+abbrev pub symbols : Grammar (List SymbolEntry) Part
+symbols = list_of IsSymbolEntry symbol_parts parts.EntryWord
 
 -- what follows this block word
 abbrev pub body_behind : ℕ → Grammar BlockBody Part

@@ -1,5 +1,5 @@
 //! Blocks.
-ghost use Rattle.std.specs.Prelude.{◌≡◌, ◌≢◌, ◌+◌, ◌*◌, ◌^◌, ◌<◌, ◌≤◌, true, Err, IfErr, IfOk, IsErr, IsTrue, OnErr, OnOk, Some, is_err, length};
+ghost use Rattle.std.specs.Prelude.{◌≡◌, ◌≢◌, ℕ, ◌+◌, ◌*◌, ◌^◌, ◌<◌, ◌≤◌, true, Err, IfErr, IfOk, IsErr, IsTrue, OnErr, OnOk, Some, is_err, length};
 ghost use Rattle.hunk_words.specs.declared.reason.Reason.{Reason};
 ghost use Rattle.hunk_words.specs.declared.reason.Reason.TheVariants as reasons;
 ghost use Rattle.hunk_words.specs.Longs.{bytes_of, longs};
@@ -9,7 +9,7 @@ ghost use Rattle.hunk_blocks.specs.declared.mode.Mode.TheVariants as modes;
 ghost use Rattle.hunk_blocks.specs.Values.{IsBlock};
 ghost use Rattle.hunk_blocks.specs.Parts.{block_text};
 ghost use Rattle.hunk_blocks.specs.Modes.{is_block_refusal, refuse_alone_word, takes_memory};
-ghost use Rattle.hunk_blocks.specs.Faults.{HasBlockFault};
+ghost use Rattle.hunk_blocks.specs.Faults.{HasBlockFault, IsFrontTo, blocks};
 ghost use Rattle.hunk_blocks.specs.Begins.{BeginsWithBlock, BeginsWithNoBlock, first_long};
 ghost use Rattle.hunk_blocks.specs.Views.{body_of};
 
@@ -53,7 +53,8 @@ impl<'a> Block<'a> {
     /// refused at 0, a NAME count with a top byte (`NameWord`) and an EXT type that is not accepted
     /// (`ExtKind`) at their own byte, and where the bytes end inside the block the answer is
     /// `Truncated` at 4 times the number of whole longwords. Only the groups and entries of a
-    /// relocation kind, EXT or SYMBOL take memory, each when it was read whole.
+    /// relocation kind, EXT or SYMBOL take memory, each when it was read whole: `OutOfMemory` is
+    /// answered at its last longword, and no fault of the bytes lies there or before.
     ///
     /// Source: The AmigaDOS Manual, 3rd edition, Amiga binary file structure, and `dos/doshunks.h`.
     pub fn decode(
@@ -71,6 +72,11 @@ impl<'a> Block<'a> {
             → IfErr result (λ fault. fault.reason ≢ reasons.NotInLoadFile) }
         ensures memory { IfErr result (λ fault. fault.reason ≡ reasons.OutOfMemory →
             IsTrue (takes_memory (kind (first_long bytes.entry.now)))) }
+        ensures reached { IfErr result (λ fault. fault.reason ≡ reasons.OutOfMemory →
+            IsFrontTo (blocks mode) (longs bytes.entry.now) fault.place) }
+        ensures hidden { IfErr result (λ fault. fault.reason ≡ reasons.OutOfMemory →
+            (at : ℕ) (reason : Reason) →
+            HasBlockFault mode bytes.entry.now at reason → fault.place < at) }
         ensures truncated { IfErr result (λ fault. fault.reason ≡ reasons.Truncated →
             fault.place ≡ 4 * length (longs bytes.entry.now)) }
         ensures word { (reason : Reason) → 4 ≤ length bytes.entry.now →

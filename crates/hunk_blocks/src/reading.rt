@@ -37,8 +37,7 @@ pub(crate) fn read_body<'a>(
         FitsWord word (body_of body) × Reads reader.old reader.new (body_text (body_of body))) }
     ensures none { IfErr result (λ fault. fault.reason ≢ reasons.OutOfMemory →
         BeginsWithNo (FitsWord word) body_text reader.old.rest) }
-    ensures first { IfErr result (λ fault. fault.reason ≢ reasons.OutOfMemory →
-        FaultAhead (body_behind word) reader.old fault) }
+    ensures first { IfErr result (λ fault. FaultAhead (body_behind word) reader.old fault) }
     ensures fault { IfErr result (λ fault.
         (fault ≡ cut reader.old) ⊎ MayRefuse (kind word) fault.reason) }
 {

@@ -1,5 +1,5 @@
 -- The hunks of a load file, read one after the other.
-use Rattle.std.proofs.Common.{◌≡◌, ◌≢◌, ℕ, ◌+◌, ◌<◌, ◌≤◌, List, [], ◌∷◌, ◌++◌, length, map, get_or, drop, refl, sym, ap, subst, ◌∙◌, append_assoc, append-nil, arith}
+use Rattle.std.proofs.Common.{◌≡◌, ◌≢◌, ℕ, ◌+◌, ◌-◌, ◌*◌, ◌<◌, ◌≤◌, List, [], ◌∷◌, ◌++◌, length, map, get_or, drop, refl, sym, ap, subst, ◌∙◌, append_assoc, append-nil, arith}
 use Rattle.std.specs.List.{AllByRecursion}
 use Rattle.std.proofs.lemmas.List.{append_cancel_left, length-append, length-map, length-drop, take-append-drop, map-append, get_or-map, get_or_at, drop_all}
 use Rattle.hunk_words.specs.declared.reason.Reason.{Reason}
@@ -11,11 +11,12 @@ use Rattle.hunk_blocks.specs.Parts.{block_text}
 use Rattle.hunk_blocks.proofs.BlockLongs.{block_longs}
 use Rattle.hunk_files.specs.declared.row.Row.{Row}
 use Rattle.hunk_files.specs.LoadFile.{TableEntry, HunkValue, LoadFileValue, IsHunk}
-use Rattle.hunk_files.specs.LoadText.{table}
-use Rattle.hunk_files.specs.Fault.{BeginsWithLoadFile, HasLoadText}
+use Rattle.hunk_files.specs.LoadText.{table, text}
+use Rattle.hunk_files.specs.Fault.{BeginsWithLoadFile, HasLoadText, HasLongAt}
 use Rattle.hunk_files.specs.Hunks.{block_texts, EndsOnce, IsLoadBlock, AreHunkBlocks, AreBlocksAt, HasNoHunk}
 use Rattle.hunk_files.specs.Tables.{row_entry, hunk_texts, IsTable}
 use Rattle.hunk_files.specs.FileSteps.{hunk}
+use Rattle.hunk_files.proofs.HunkReading.{stands_size}
 use Rattle.hunk_files.proofs.Peel.{hunk_peel, hunk_is_blocks}
 use Rattle.hunk_blocks.proofs.Lists.{All-append}
 use Rattle.hunk_blocks.proofs.Fronts.{All-right}
@@ -115,10 +116,31 @@ module _ (bytes : List ℕ) (file : BeginsWithLoadFile bytes) (rows : List Row) 
           here = same.1;
         }
 
+  -- Whole longwords stand before a hunk.
+  pub hunks_place : at ≡ 4 * (length (text file.value) - length (hunk_texts s.later))
+  hunks_place =
+      omega (
+        arith,
+        s.inside,
+        length-drop at bytes,
+        ap length s.here,
+        length-append (bytes_of (hunk_texts s.later)) file.rest,
+        length-bytes_of (hunk_texts s.later),
+        ap length file.split,
+        length-append (bytes_of (text file.value)) file.rest,
+        length-bytes_of (text file.value),
+      )
+
   -- All hunks were read.
   pub all_read : length rows ≤ count → hs ≡ file.value
   all_read all =
       sym (s.split ∙ ap (λ (m : LoadFileValue). hs ++ m) (drop_all 0 s.later (omega (arith, all, count_rows, s.count_is, ap length s.split, length-append hs s.later))) ∙ append-nil hs)
+
+-- The place of a longword that ends behind a hunk.
+pub hunk_reached : (bytes : List ℕ) (start number end place : ℕ) (bs : List BlockValue) → start ≤ length bytes → start ≡ 4 * number → AreBlocksAt bytes start end bs → place + 4 ≡ end → HasLongAt bytes place
+hunk_reached bytes start number end place bs inside whole h p =
+    let long : end ≡ start + 4 * length (block_texts bs) = stands_size bytes start end (block_texts bs) inside h.texts in
+    record { number = number + length (block_texts bs) - 1; place = omega (arith, whole, p, long); inside = omega (arith, p, h.texts.inside) }
 
 -- ---- the file
 

@@ -1,5 +1,5 @@
 -- The faults of a block and of a hunk, as faults of what they stand in.
-use Rattle.std.proofs.Common.{◌≡◌, ◌≢◌, ℕ, ◌+◌, ◌*◌, ◌≤◌, Bool, true, false, ◌||◌, cond, eqb, List, [], ◌∷◌, ◌++◌, length, drop, get_or, refl, sym, ap, ap₂, subst, ◌∙◌, append_assoc, length-append, arith, Option, Some, None, inl, inr}
+use Rattle.std.proofs.Common.{◌≡◌, ◌≢◌, ℕ, ◌+◌, ◌-◌, ◌*◌, ◌<◌, ◌≤◌, Bool, true, false, ◌||◌, cond, eqb, List, [], ◌∷◌, ◌++◌, length, drop, get_or, refl, sym, ap, ap₂, subst, ◌∙◌, append_assoc, arith, Option, Some, None, inl, inr}
 use Rattle.std.specs.List.{flat_map, AllByRecursion}
 use Rattle.std.proofs.lemmas.List.{map-append}
 use Rattle.std.proofs.lemmas.Bool.{eqb-true}
@@ -15,11 +15,12 @@ use Rattle.hunk_blocks.specs.declared.mode.Mode.TheVariants as modes
 use Rattle.hunk_blocks.specs.Values.{BlockBody, BlockValue, Bss, IsBlock}
 use Rattle.hunk_blocks.specs.Parts.{Part, Part as parts, block_parts, block_text, body_parts}
 use Rattle.hunk_blocks.specs.Modes.{refuse_alone_kind, refuse_alone_word}
-use Rattle.hunk_blocks.specs.Begins.{first_long}
+use Rattle.hunk_blocks.specs.Begins.{BeginsWithBlock, first_long}
 use Rattle.hunk_blocks.specs.Reading.{Unread, Reads, cut}
-use Rattle.hunk_blocks.specs.Faults.{Grammar, words, Expects, HasRefusal, IsFront, FaultAhead, blocks, refuse_alone, HasBlockFault}
+use Rattle.hunk_blocks.specs.Faults.{Grammar, words, Expects, HasRefusal, IsFront, IsFrontTo, FaultAhead, blocks, refuse_alone, HasBlockFault}
 use Rattle.hunk_blocks.proofs.Admitted.{block}
 use Rattle.hunk_blocks.specs.BlockSteps.{BlockNext, Open, Whole, step_inside, begin, Follows}
+use Rattle.hunk_blocks.proofs.BlockLongs.{block_longs}
 use Rattle.hunk_blocks.proofs.BlockText.{body_follows}
 use Rattle.hunk_blocks.proofs.BodyFaults.{end_block, end_is}
 use Rattle.hunk_blocks.proofs.FaultLaws.{Embeds, ahead_embedded, expects_embedded, embeds_same, relabel, same-labels, words-relabel}
@@ -30,34 +31,9 @@ use Rattle.hunk_scan.specs.Standings.{Standing, Beside, Content, Relocating, End
 use Rattle.hunk_files.specs.ObjectFile.{ObjectHunk, unit_word}
 use Rattle.hunk_files.specs.ObjectParts.{BeginsWithText}
 use Rattle.hunk_files.specs.ObjectFault.{WordPlace, BeforeUnits, BetweenHunks, InHunk, ObjectRole, WordAt, has_content, behind_block, role_at, block_labelled, blocks_labelled, refuse_unit, refuse_word, refuse_object, blocks_from, unread, MayGoOn}
+use Rattle.hunk_files.proofs.PartFaults.{is_memory, fault_behind, value_wanted}
 use Rattle.hunk_files.proofs.ObjectWords.{refuse_place, within_role, within_split, word_split}
-use Rattle.hunk_files.proofs.ObjectDecoding.{HunkSoFar, Leads, leads_end, hunk_longs, standings, standing_is, text_words, text_size}
-
--- ---- parts of the input
-
--- The place of a fault lies within the input.
-pub fault_inside : {A R : Type 0} (g : Grammar A R) (bytes : List ℕ) (fault : Fault) → FaultAhead g (unread bytes) fault → fault.place ≤ length bytes
-fault_inside g bytes fault (inl r) =
-    omega (arith, r.place, r.refusal.place, ap length r.refusal.split, length-append r.refusal.before (r.refusal.word ∷ r.refusal.after), length-longs bytes)
-fault_inside g bytes fault (inr c) = omega (arith, ap (λ f. f.place) c.0, length-longs bytes)
-
--- The fault of a part, whose place counts from the part.
-part_fault : {A R : Type 0} (g : Grammar A R) (rest : List ℕ) (at : ℕ) (fault whole : Fault) → whole.place ≡ at + fault.place → whole.reason ≡ fault.reason → FaultAhead g (record { rest = rest; place = 0 }) fault →
-    FaultAhead g (record { rest = rest; place = at }) whole
-part_fault g rest at fault whole p r (inl f) =
-    inl (record { at = f.at; place = omega (arith, p, f.place); refusal = subst (λ (x : Reason). HasRefusal g rest f.at x) (sym r) f.refusal })
-part_fault g rest at fault whole p r (inr c) =
-    let place : whole.place ≡ at + 4 * length rest = omega (arith, p, ap (λ f. f.place) c.0) in
-    let reason : whole.reason ≡ reasons.Truncated = r ∙ ap (λ f. f.reason) c.0 in
-    inr ((λ i. record { place = place i; reason = reason i }), c.1)
-
--- A fault behind a text that stands in front.
-pub fault_behind : {A B R S : Type 0} (g : Grammar A R) (h : Grammar B S) (front : List (S × ℕ)) → Embeds g h front → (bytes : List ℕ) (at : ℕ) (fault whole : Fault) → AreLongs (words front) → BeginsWithText bytes (words front) at →
-    whole.place ≡ at + fault.place → whole.reason ≡ fault.reason → FaultAhead g (unread (drop at bytes)) fault → FaultAhead h (unread bytes) whole
-fault_behind g h front m bytes at fault whole fit t p r f =
-    ahead_embedded g h front m (unread bytes) (record { rest = longs (drop at bytes); place = at }) whole
-    (record { front = text_words bytes (words front) at fit t; further = omega (arith, text_size bytes (words front) at t) })
-    (part_fault g (longs (drop at bytes)) at fault whole p r f)
+use Rattle.hunk_files.proofs.ObjectDecoding.{HunkSoFar, Leads, leads_end, hunk_longs, standings, standing_is, text_size}
 
 -- ---- the rest of a hunk
 
@@ -143,7 +119,7 @@ one_word bytes w some is = go (longs bytes) (omega (arith, some, length-longs by
 pub hunk_missing : (place : WordPlace) (bytes : List ℕ) (fault : Fault) → longs bytes ≡ [] → fault ≡ cut (unread bytes) → FaultAhead (blocks_from place) (unread bytes) fault
 hunk_missing place bytes fault none e =
     let rest : ObjectHunk = rest_of_hunk (has_content place) in
-    inr (e, subst (IsFront (blocks_from place)) (sym none) (record { value = rest; is = rest_goes (has_content place); more = words (blocks_labelled place rest); begins = refl }))
+    inr (inl (e, subst (IsFront (blocks_from place)) (sym none) (record { value = rest; is = rest_goes (has_content place); more = words (blocks_labelled place rest); begins = refl })))
 
 content_is : (place : WordPlace) (has : Bool) (bytes : List ℕ) → MayGoOn place has bytes → has_content place ≡ has
 content_is BeforeUnits has bytes m = absurd m
@@ -259,7 +235,7 @@ module _ (place : WordPlace) (w : ℕ) (ok : refuse_standing (has_content place)
           )
 
 -- The fault of a block in front, which may stand here, is one of the hunk.
-pub block_ahead : (place : WordPlace) (has : Bool) (bytes rest : List ℕ) (w : ℕ) (fault : Fault) → MayGoOn place has bytes → longs bytes ≡ w ∷ rest → refuse_standing has (standing_of_kind (kind w)) ≡ None → HasBlockFault modes.Object bytes fault.place fault.reason →
+block_ahead : (place : WordPlace) (has : Bool) (bytes rest : List ℕ) (w : ℕ) (fault : Fault) → MayGoOn place has bytes → longs bytes ≡ w ∷ rest → refuse_standing has (standing_of_kind (kind w)) ≡ None → HasBlockFault modes.Object bytes fault.place fault.reason →
     FaultAhead (blocks_from place) (unread bytes) fault
 block_ahead place has bytes rest w fault m e ok (inl r) = in_hunk place (unread bytes) fault (inl (record { at = fault.place; place = omega arith; refusal = go r.before r.split r.place r.expects }))
   where
@@ -301,7 +277,7 @@ block_ahead place has bytes rest w fault m e ok (inr (reason, t)) =
     let stands : refuse_standing (has_content place) (standing_of_kind (kind w)) ≡ None = ap (λ (c : Bool). refuse_standing c (standing_of_kind (kind w))) (content_is place has bytes m) ∙ ok in
     let end : fault.place ≡ 0 + 4 * length (longs bytes) = omega (arith, t.place) in
     in_hunk place (unread bytes) fault
-    (inr (
+    (inr (inl (
       (λ i. record { place = end i; reason = reason i }),
       record {
         value = b;
@@ -309,7 +285,36 @@ block_ahead place has bytes rest w fault m e ok (inr (reason, t)) =
         more = t.front.more;
         begins = words-relabel (role_at place) (block_parts b) ∙ t.front.begins;
       },
-    ))
+    )))
+
+-- Memory is missing in a block in front, which may stand here.
+pub want_ahead : (place : WordPlace) (has : Bool) (bytes rest : List ℕ) (w : ℕ) (fault : Fault) → MayGoOn place has bytes → longs bytes ≡ w ∷ rest → refuse_standing has (standing_of_kind (kind w)) ≡ None → fault.reason ≡ reasons.OutOfMemory →
+    IsFrontTo (blocks modes.Object) (longs bytes) fault.place → FaultAhead (blocks_from place) (unread bytes) fault
+want_ahead place has bytes rest w fault m e ok reason f = in_hunk place (unread bytes) fault (inr (inr (record { reason = reason; at = fault.place; place = omega arith; front = record { read = f.read; after = f.after; split = f.split; place = f.place; front = front } })))
+  where
+    stands : refuse_standing (has_content place) (standing_of_kind (kind w)) ≡ None
+    stands = ap (λ (c : Bool). refuse_standing c (standing_of_kind (kind w))) (content_is place has bytes m) ∙ ok
+
+    word : (read : List ℕ) → 0 < length read → longs bytes ≡ read ++ f.after → words (block_parts f.front.value) ≡ read ++ f.front.more → f.front.value.word ≡ w
+    word [] some split begins = absurd (omega (arith, some))
+    word (x ∷ read) some split begins = let same : x ∷ (read ++ f.after) ≡ w ∷ rest = sym split ∙ e in cc
+
+    front : IsFront (blocks_at place) f.read
+    front =
+        record {
+          value = f.front.value;
+          is = (f.front.is.0, may_stand place w stands f.front.value f.front.is.0 (word f.read (omega (arith, f.place)) f.split f.front.begins));
+          more = f.front.more;
+          begins = words-relabel (role_at place) (block_parts f.front.value) ∙ f.front.begins;
+        }
+
+-- What a block in front is refused for, which may stand here, the hunk is refused for.
+pub refused_ahead : (place : WordPlace) (has : Bool) (bytes rest : List ℕ) (w : ℕ) (fault : Fault) → MayGoOn place has bytes → longs bytes ≡ w ∷ rest → refuse_standing has (standing_of_kind (kind w)) ≡ None →
+    (fault.reason ≢ reasons.OutOfMemory → HasBlockFault modes.Object bytes fault.place fault.reason) → (fault.reason ≡ reasons.OutOfMemory → IsFrontTo (blocks modes.Object) (longs bytes) fault.place) → FaultAhead (blocks_from place) (unread bytes) fault
+refused_ahead place has bytes rest w fault m e ok refusal want = elim (is_memory fault.reason) [
+  | inl memory ↦ want_ahead place has bytes rest w fault m e ok memory (want memory)
+  | inr other ↦ block_ahead place has bytes rest w fault m e ok (refusal other)
+]
 
 -- ---- behind the blocks that were read
 
@@ -385,3 +390,17 @@ hunk_ahead bytes bs has at fault whole h p r f =
     let same = sym (blocks_words BetweenHunks bs) in
     fault_behind (blocks_from (place_behind BetweenHunks bs)) (blocks_from BetweenHunks) (blocks_labelled BetweenHunks bs) (blocks_embed bs has h.blocks h.leads) bytes at fault whole
     (subst AreLongs same (hunk_longs bs h.blocks)) (subst (λ (ws : List ℕ). BeginsWithText bytes ws at) same h.text) p r f
+
+-- Memory is missing for one more block, which was read.
+pub block_wanted : (bytes : List ℕ) (bs : ObjectHunk) (has : Bool) (at : ℕ) (b : BlockValue) (size : ℕ) (whole : Fault) → HunkSoFar bytes bs has at → BeginsWithBlock modes.Object (drop at bytes) b size → refuse_standing has (standing b.body) ≡ None → whole.place + 4 ≡ at + size →
+    whole.reason ≡ reasons.OutOfMemory → FaultAhead (blocks_from BetweenHunks) (unread bytes) whole
+block_wanted bytes bs has at b size whole h r ok p reason =
+    let place = place_behind BetweenHunks bs in
+    let same = sym (words-relabel (role_at place) (block_parts b)) in
+    let here : Fault = record { place = size - 4; reason = reasons.OutOfMemory } in
+    let text : BeginsWithText (drop at bytes) (block_text b) size = record { text = r.text; whole = r.whole } in
+    let long : size ≡ 4 * length (block_text b) = text_size (drop at bytes) (block_text b) size text in
+    hunk_ahead bytes bs has at here whole h (omega (arith, p, long)) reason
+    (in_hunk place (unread (drop at bytes)) here
+    (value_wanted (blocks_at place) b (r.block, ap (λ (k : Bool). refuse_standing k (standing b.body)) (content_behind BetweenHunks bs has h.leads) ∙ ok) (drop at bytes) size here
+    (subst AreLongs same (block_longs b r.block)) (subst (λ (ws : List ℕ). BeginsWithText (drop at bytes) ws size) same text) (omega (arith, long)) refl))

@@ -1,9 +1,9 @@
 -- Blocks that are read one after the other, up to END.
-use Rattle.std.proofs.Common.{◌≡◌, ℕ, ◌+◌, ◌≤◌, true, false, List, [], ◌∷◌, ◌++◌, length, drop, sym, ap, ap₂, ◌∙◌, append_assoc, arith}
+use Rattle.std.proofs.Common.{◌≡◌, ℕ, ◌+◌, ◌-◌, ◌*◌, ◌≤◌, true, false, List, [], ◌∷◌, ◌++◌, length, drop, sym, ap, ap₂, ◌∙◌, append_assoc, length-append, arith}
 use Rattle.std.specs.List.{AllByRecursion}
 use Rattle.std.proofs.lemmas.List.{append_cancel_left, length-take-le, length-drop, take-append-drop, drop-drop}
 use Rattle.hunk_words.specs.Longs.{longs, bytes_of}
-use Rattle.hunk_words.proofs.LongLaws.{longs-bytes_of, bytes_of-nil, bytes_of-append, length-bytes_of}
+use Rattle.hunk_words.proofs.LongLaws.{longs-bytes_of, bytes_of-nil, bytes_of-append, length-bytes_of, length-longs}
 use Rattle.hunk_blocks.specs.declared.mode.Mode.TheVariants as modes
 use Rattle.hunk_blocks.specs.Values.{BlockValue}
 use Rattle.hunk_blocks.specs.Parts.{block_text}
@@ -11,6 +11,8 @@ use Rattle.hunk_blocks.specs.Begins.{BeginsWithBlock, BeginsWithNoBlock}
 use Rattle.hunk_blocks.proofs.BlockPrefix.{block_same}
 use Rattle.hunk_blocks.proofs.BlockLongs.{block_longs}
 use Rattle.hunk_blocks.proofs.Lists.{All-more, flat_map-more}
+use Rattle.hunk_blocks.specs.Faults.{IsFrontTo, blocks}
+use Rattle.hunk_files.specs.Fault.{HasLongAt}
 use Rattle.hunk_files.specs.Hunks.{is_end, block_texts, EndsOnce, IsLoadBlock, StandsAt, AreBlocksAt, HasNoHunk}
 
 -- ---- bytes that begin with a block
@@ -36,6 +38,11 @@ texts_more bs b rest =
     ap (λ (ws : List ℕ). bytes_of ws ++ rest) (flat_map-more block_text bs b)
     ∙ ap (λ (l : List ℕ). l ++ rest) (bytes_of-append (block_texts bs) (block_text b))
     ∙ append_assoc (bytes_of (block_texts bs)) (bytes_of (block_text b)) rest
+
+-- as many bytes as the longwords have
+pub stands_size : (bytes : List ℕ) (start end : ℕ) (words : List ℕ) → start ≤ length bytes → StandsAt bytes start end words → end ≡ start + 4 * length words
+stands_size bytes start end words inside h =
+    omega (arith, inside, h.inside, ap length h.split, length-append (bytes_of words) (drop end bytes), length-bytes_of words, length-drop start bytes, length-drop end bytes)
 
 -- one more block
 module _ (bytes : List ℕ) (start : ℕ) (bs : List BlockValue) (at : ℕ) (s : BlocksSoFar bytes start bs at) (b : BlockValue) (size : ℕ) (r : BeginsWithBlock modes.Load (drop at bytes) b size) where
@@ -63,6 +70,13 @@ module _ (bytes : List ℕ) (start : ℕ) (bs : List BlockValue) (at : ℕ) (s :
         texts = stands_more;
       }
 
+  -- the place of the longword that it ends with
+  pub block_reached : (number place : ℕ) → start ≤ length bytes → start ≡ 4 * number → place + 4 ≡ at + size → HasLongAt bytes place
+  block_reached number place inside whole p =
+      let words = block_texts (bs ++ b ∷ []) in
+      let long : at + size ≡ start + 4 * length words = stands_size bytes start (at + size) words inside stands_more in
+      record { number = number + length words - 1; place = omega (arith, whole, p, long); inside = omega (arith, p, still_inside) }
+
   ends_with : (cs : List BlockValue) → AllByRecursion (λ x. is_end x.body ≡ false) cs → is_end b.body ≡ true → EndsOnce (cs ++ b ∷ [])
   ends_with [] h e = e
   ends_with (c ∷ []) h e = (h.0, e)
@@ -74,6 +88,16 @@ module _ (bytes : List ℕ) (start : ℕ) (bs : List BlockValue) (at : ℕ) (s :
         blocks = record { each = All-more IsLoadBlock bs b s.each_is (r.block, r.of_mode); ends = ends_with bs s.none_ends e };
         texts = stands_more;
       }
+
+-- A longword of what follows the blocks.
+pub behind_reached : (bytes : List ℕ) (start at : ℕ) (bs : List BlockValue) → BlocksSoFar bytes start bs at → (number inner place : ℕ) → start ≤ length bytes → start ≡ 4 * number → IsFrontTo (blocks modes.Load) (longs (drop at bytes)) inner → place ≡ at + inner → HasLongAt bytes place
+behind_reached bytes start at bs s number inner place inside whole f p =
+    let long : at ≡ start + 4 * length (block_texts bs) = stands_size bytes start at (block_texts bs) inside s.texts in
+    record {
+      number = number + length (block_texts bs) + length f.read - 1;
+      place = omega (arith, whole, p, long, f.place);
+      inside = omega (arith, p, f.place, ap length f.split, length-append f.read f.after, length-longs (drop at bytes), length-drop at bytes, s.texts.inside);
+    }
 
 -- Where no block follows, no blocks up to END stand in front.
 module _ (u : List ℕ) (none : BeginsWithNoBlock modes.Load u) where

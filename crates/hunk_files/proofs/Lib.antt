@@ -9,6 +9,7 @@ pub mod FileText
 pub mod FileViews
 mod FindingSteps
 pub mod HunkProgress
+mod PartFaults
 mod HunkFaults
 pub mod HunkReading
 pub mod ImageParts

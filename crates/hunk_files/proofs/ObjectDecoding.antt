@@ -232,7 +232,7 @@ module _ (bytes : List ℕ) (bs : ObjectHunk) (has : Bool) (at : ℕ) (h : HunkS
         order = subst (AreInOrder false) (sym (map-more (λ c. standing c.body) bs b)) (leads_end false has (standings bs) (standing b.body ∷ []) h.leads (end_stands has (standing b.body) ok e));
       }
 
-  pub goes_further : 0 < size
+  pub goes_further : 4 ≤ size
   goes_further = omega (arith, text_size (drop at bytes) (block_text b) size (record { text = r.text; whole = r.whole }))
 
   pub still_inside : at + size ≤ length bytes

@@ -1,5 +1,8 @@
 -- The tests of an object file are those of a block that stands alone, and then that of its place in the hunk.
-use Rattle.std.proofs.Common.{◌≡◌, ℕ, ◌/◌, ◌^◌, Bool, true, false, cond, eqb, refl, ap, ◌≢◌, Option, Some}
+use Rattle.std.proofs.Common.{◌≡◌, ℕ, ◌/◌, ◌^◌, Bool, true, false, cond, eqb, refl, ap, ◌≢◌, Option, Some, None}
+use Rattle.std.specs.Prelude.{nat_lt}
+use Rattle.std.specs.Int.{is_in_range}
+use Rattle.hunk_words.specs.Limits.{name_limit}
 use Rattle.hunk_words.specs.declared.block_word.Kind.{Kind}
 use Rattle.hunk_words.specs.declared.block_word.Kind.TheVariants as kinds
 use Rattle.hunk_words.specs.declared.reason.Reason.{Reason}
@@ -8,10 +11,10 @@ use Rattle.hunk_words.specs.Bits.{has_both_bits, is_advisory, kind}
 use Rattle.hunk_blocks.specs.declared.mode.Mode.TheVariants as modes
 use Rattle.hunk_blocks.specs.Parts.{Part, Part as parts}
 use Rattle.hunk_blocks.specs.Modes.{refuse_alone_kind, refuse_alone_word, refuse_inside}
-use Rattle.hunk_blocks.proofs.Admitted.{ext_type_split}
+use Rattle.hunk_blocks.proofs.Admitted.{ext_type_split, not_for_memory, other_than_memory}
 use Rattle.hunk_scan.specs.Standings.{Standing, first_of, refuse_standing, standing_of_kind}
 use Rattle.hunk_files.specs.ObjectFile.{unit_word}
-use Rattle.hunk_files.specs.ObjectFault.{WordPlace, BeforeUnits, BetweenHunks, InHunk, Within, role_at, has_content, refuse_kind, refuse_unit, refuse_word, refuse_object}
+use Rattle.hunk_files.specs.ObjectFault.{WordPlace, BeforeUnits, BetweenHunks, InHunk, ObjectRole, WordAt, UnitCount, Within, role_at, has_content, refuse_kind, refuse_unit, refuse_word, refuse_object}
 
 -- ---- block words
 
@@ -61,3 +64,37 @@ within_role place parts.ExtWord ne = refl
 within_role place parts.EntryName ne = refl
 within_role place parts.EntryValue ne = refl
 within_role place parts.OffsetCount ne = refl
+
+-- ---- no longword is refused for want of memory
+
+kind_not_for_memory : (place : WordPlace) (advisory : Bool) (k : Kind) → not_for_memory (refuse_kind place advisory k) ≡ true
+kind_not_for_memory BeforeUnits true (kinds.Unknown n) = refl
+kind_not_for_memory BetweenHunks true (kinds.Unknown n) = refl
+kind_not_for_memory (InHunk true) true (kinds.Unknown n) = refl
+kind_not_for_memory (InHunk false) true (kinds.Unknown n) = refl
+kind_not_for_memory place false (kinds.Unknown n) = refl
+kind_not_for_memory BeforeUnits advisory _ = refl
+kind_not_for_memory BetweenHunks advisory _ = refl
+kind_not_for_memory (InHunk true) advisory _ = refl
+kind_not_for_memory (InHunk false) advisory _ = refl
+
+unit_not_for_memory : (place : WordPlace) → not_for_memory (refuse_unit place) ≡ true
+unit_not_for_memory (InHunk has) = refl
+unit_not_for_memory _ = refl
+
+chosen_not_for_memory : (b : Bool) (x y : Option Reason) → not_for_memory x ≡ true → not_for_memory y ≡ true → not_for_memory (cond b x y) ≡ true
+chosen_not_for_memory true x y h k = h
+chosen_not_for_memory false x y h k = k
+
+object_not_for_memory : (role : ObjectRole) (w : ℕ) → not_for_memory (refuse_object role w) ≡ true
+object_not_for_memory (WordAt place) w =
+    chosen_not_for_memory (eqb w unit_word) (refuse_unit place) _ (unit_not_for_memory place)
+    (chosen_not_for_memory (has_both_bits w) (Some reasons.BothBits) (refuse_kind place (is_advisory w) (kind w)) refl (kind_not_for_memory place (is_advisory w) (kind w)))
+object_not_for_memory UnitCount w = chosen_not_for_memory (nat_lt w name_limit) None (Some reasons.NameWord) refl refl
+object_not_for_memory (Within parts.NameCount) w = chosen_not_for_memory (nat_lt w name_limit) None (Some reasons.NameWord) refl refl
+object_not_for_memory (Within parts.ExtWord) w =
+    chosen_not_for_memory (nat_lt (w / 2 ^ 24) 3) None _ refl (chosen_not_for_memory (is_in_range 129 139 (w / 2 ^ 24)) None (Some reasons.ExtKind) refl refl)
+object_not_for_memory _ w = refl
+
+pub object_other_than_memory : (role : ObjectRole) (w : ℕ) (reason : Reason) → refuse_object role w ≡ Some reason → reason ≢ reasons.OutOfMemory
+object_other_than_memory role w reason = other_than_memory (refuse_object role w) reason (object_not_for_memory role w)

@@ -1,5 +1,5 @@
 -- Bytes have one fault as an object file, and none where they are one.
-use Rattle.std.proofs.Common.{◌≡◌, ◌≢◌, ℕ, zero, suc, ◌^◌, ◌<◌, Bool, true, false, ◌||◌, cond, eqb, ltb, List, [], ◌∷◌, ◌++◌, length, map, refl, sym, ap, subst, ◌∙◌, append-nil, arith, Option, Some, None, inl, inr}
+use Rattle.std.proofs.Common.{◌≡◌, ◌≢◌, ℕ, zero, suc, ◌^◌, ◌<◌, Bool, true, false, ◌||◌, cond, eqb, ltb, List, [], ◌∷◌, ◌++◌, length, map, refl, sym, ap, subst, ◌∙◌, append-nil, length-append, arith, Option, Some, None, inl, inr}
 use Rattle.std.specs.Prelude.{◌⊎◌}
 use Rattle.std.specs.List.{flat_map, AllByRecursion}
 use Rattle.std.proofs.lemmas.Bool.{ne_eqb, lt-ltb}
@@ -10,12 +10,12 @@ use Rattle.hunk_words.specs.Longs.{longs}
 use Rattle.hunk_blocks.specs.declared.mode.Mode.TheVariants as modes
 use Rattle.hunk_blocks.specs.Values.{BlockBody, BlockValue, IsBlock}
 use Rattle.hunk_blocks.specs.Parts.{Part, body_parts}
-use Rattle.hunk_blocks.specs.Faults.{HasRefusal}
+use Rattle.hunk_blocks.specs.Faults.{HasRefusal, IsFrontTo}
 use Rattle.hunk_blocks.proofs.Admitted.{word_passes}
 use Rattle.hunk_blocks.specs.BlockSteps.{Inside, BlockNext, Open, Whole, part_of, step_inside, begin, Follows}
 use Rattle.hunk_blocks.proofs.BlockText.{body_follows}
 use Rattle.hunk_blocks.proofs.FaultLaws.{relabel}
-use Rattle.hunk_blocks.proofs.FaultScan.{Machine, Leads, Leads-append, Passes, Reads, one_refusal, front_passes}
+use Rattle.hunk_blocks.proofs.FaultScan.{Machine, Leads, Leads-append, Passes, Reads, one_fault as one_of, fault_behind, front_passes}
 use Rattle.hunk_blocks.proofs.Lists.{All-append, passes_then, passes_else}
 use Rattle.hunk_blocks.proofs.OneBlockFault.{PartsPass, body_passes, part_not_word}
 use Rattle.hunk_files.specs.LoadFile.{standing, AreInOrder}
@@ -212,10 +212,11 @@ pub not_truncated : (bytes : List ℕ) (at : ℕ) (reason : Reason) (at2 : ℕ) 
 not_truncated bytes at reason at2 h k = front_passes objects reader object_reads (longs bytes) at reason h k.front
 
 pub one_fault : (bytes : List ℕ) (at at2 : ℕ) (reason reason2 : Reason) → HasObjectFault bytes at reason → HasObjectFault bytes at2 reason2 → (at ≡ at2) × (reason ≡ reason2)
-one_fault bytes at at2 reason reason2 (inl h) (inl k) = one_refusal objects reader object_reads (longs bytes) at at2 reason reason2 h k
-one_fault bytes at at2 reason reason2 (inl h) (inr k) = absurd (not_truncated bytes at reason at2 h k.1)
-one_fault bytes at at2 reason reason2 (inr h) (inl k) = absurd (not_truncated bytes at2 reason2 at k h.1)
-one_fault bytes at at2 reason reason2 (inr h) (inr k) = (h.1.place ∙ sym k.1.place, h.0 ∙ sym k.0)
+one_fault bytes = one_of objects reader object_reads (longs bytes) (IsTruncatedObject bytes) (λ at t. (t.place, t.front))
+
+-- No fault lies at or before a longword up to which an object file goes.
+pub fault_further : (bytes : List ℕ) (at at2 : ℕ) (reason : Reason) → IsFrontTo objects (longs bytes) at → HasObjectFault bytes at2 reason → at < at2
+fault_further bytes = fault_behind objects reader object_reads (longs bytes) (IsTruncatedObject bytes) (λ at t. (t.place, t.front))
 
 pub no_object : (bytes : List ℕ) (at : ℕ) (reason : Reason) → HasObjectFault bytes at reason → IsNoObjectFile bytes
 no_object bytes at reason (inr h) o is e = h.1.not_whole o is e

@@ -1,16 +1,14 @@
 -- The reasons that a longword of a load file can be refused for.
-use Rattle.std.proofs.Common.{◌≡◌, ℕ, ◌+◌, Bool, true, false, cond, List, Some, None, Option, refl, sym, subst, ◌==◌, inl, inr}
+use Rattle.std.proofs.Common.{◌≡◌, ◌≢◌, ℕ, ◌+◌, Bool, true, false, cond, List, Some, None, Option, refl, sym, subst, ◌∙◌, ◌==◌, inl, inr}
 use Rattle.std.specs.Prelude.{IfSome, IsTrue, nat_lt}
 use Rattle.hunk_words.specs.declared.block_word.Kind.{Kind}
 use Rattle.hunk_words.specs.declared.block_word.Kind.TheVariants as kinds
 use Rattle.hunk_words.specs.declared.reason.Reason.{Reason}
 use Rattle.hunk_words.specs.declared.reason.Reason.TheVariants as reasons
-use Rattle.hunk_words.specs.Longs.{IsBytes}
 use Rattle.hunk_words.specs.Bits.{has_both_bits, size_longs, is_advisory, kind}
 use Rattle.hunk_blocks.specs.Parts.{Part, Part as parts}
 use Rattle.hunk_scan.specs.Roles.{Place, Role, Role as roles, InBlock, refuse, refuse_kind, refuse_part}
-use Rattle.hunk_files.specs.Fault.{HasRefusal, IsTruncated, HasFault, is_word_refusal, is_load_refusal}
-use Rattle.hunk_files.proofs.Scan.{one_fault}
+use Rattle.hunk_files.specs.Fault.{HasRefusal, HasFault, is_word_refusal, is_load_refusal}
 
 abbrev pub IsWordRefusal : Reason → Type 0
 IsWordRefusal reason = IsTrue (is_word_refusal reason)
@@ -84,15 +82,6 @@ refused_of_word r w reason e = subst AreOfWord e (refused_role r w)
 pub refusal_of_word : (bytes : List ℕ) (at : ℕ) (reason : Reason) → HasRefusal bytes at reason → IsWordRefusal reason
 refusal_of_word bytes at reason h = refused_of_word h.role h.word reason h.refuses
 
--- A longword is refused, or the input is too short: not both.
-pub not_truncated : (bytes : List ℕ) → IsBytes bytes → (at : ℕ) (reason : Reason) (at' : ℕ) → HasRefusal bytes at reason → IsTruncated bytes at' → ⊥
-not_truncated bytes fit at reason at' h t =
-    let same : reason ≡ reasons.Truncated = (one_fault bytes fit at reason at' reasons.Truncated (inl h) (inr (refl, t))).1 in
-    absurd (false_is_true (subst IsWordRefusal same (refusal_of_word bytes at reason h)))
-  where
-    false_is_true : false ≡ true → ⊥
-    false_is_true e = absurd cc
-
 of_load_file : (reason : Reason) → IsWordRefusal reason → IsTrue (is_load_refusal reason)
 of_load_file reasons.Truncated h = refl
 of_load_file reasons.OutOfMemory h = refl
@@ -102,3 +91,8 @@ of_load_file _ h = h
 pub fault_of_load : (bytes : List ℕ) (at : ℕ) (reason : Reason) → HasFault bytes at reason → IsTrue (is_load_refusal reason)
 fault_of_load bytes at reason (inl h) = of_load_file reason (refusal_of_word bytes at reason h)
 fault_of_load bytes at reason (inr h) = subst (λ (r : Reason). IsTrue (is_load_refusal r)) (sym h.0) refl
+
+-- and none is want of memory
+pub fault_not_memory : (bytes : List ℕ) (at : ℕ) (reason : Reason) → HasFault bytes at reason → reason ≢ reasons.OutOfMemory
+fault_not_memory bytes at reason (inl h) e = let clash : false ≡ true = subst IsWordRefusal e (refusal_of_word bytes at reason h) in cc
+fault_not_memory bytes at reason (inr h) e = let clash : reasons.Truncated ≡ reasons.OutOfMemory = sym h.0 ∙ e in cc

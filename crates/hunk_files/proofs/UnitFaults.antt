@@ -1,5 +1,5 @@
 -- The faults of a unit header, of a unit and of an object file.
-use Rattle.std.proofs.Common.{◌≡◌, ◌≢◌, ℕ, ◌+◌, ◌*◌, ◌^◌, ◌<◌, ◌≤◌, ltb, List, [], ◌∷◌, ◌++◌, length, map, drop, get_or, refl, sym, ap, ap₂, subst, ◌∙◌, append_assoc, append-nil, length-append, arith, Some, None, inl, inr}
+use Rattle.std.proofs.Common.{◌≡◌, ◌≢◌, ℕ, ◌+◌, ◌-◌, ◌*◌, ◌^◌, ◌<◌, ◌≤◌, ltb, List, [], ◌∷◌, ◌++◌, length, map, drop, get_or, refl, sym, ap, ap₂, subst, ◌∙◌, append_assoc, append-nil, length-append, arith, Some, None, inl, inr}
 use Rattle.std.specs.List.{flat_map, AllByRecursion}
 use Rattle.std.proofs.lemmas.Bool.{le-ltb}
 use Rattle.hunk_words.specs.declared.fault.Fault.{Fault}
@@ -11,17 +11,19 @@ use Rattle.hunk_blocks.specs.Values.{IsPayload}
 use Rattle.hunk_blocks.specs.Parts.{block_text}
 use Rattle.hunk_blocks.specs.Begins.{first_long}
 use Rattle.hunk_blocks.specs.Reading.{cut}
-use Rattle.hunk_blocks.specs.Faults.{words, Expects, HasRefusal, IsFront, FaultAhead}
-use Rattle.hunk_blocks.proofs.FaultLaws.{Embeds, embeds_same, expects_embedded, same-labels, words-append}
+use Rattle.hunk_blocks.specs.Faults.{words, Expects, HasRefusal, IsFront, IsFrontTo, FaultAhead}
+use Rattle.hunk_blocks.proofs.FaultLaws.{Embeds, embeds_same, expects_embedded, front_ahead, same-labels, words-append}
 use Rattle.hunk_blocks.proofs.FrontLaws.{counted_front}
 use Rattle.hunk_blocks.proofs.Fronts.{All-right}
 use Rattle.hunk_blocks.proofs.Lists.{All-append, flat_map-append, passes_else}
 use Rattle.hunk_files.specs.ObjectFile.{ObjectHunk, UnitValue, ObjectFileValue, IsObjectHunk, IsUnit, IsNoObjectFile, unit_word, unit_header, unit_text, object_text}
 use Rattle.hunk_files.specs.ObjectParts.{BeginsWithText, EndsUnit}
 use Rattle.hunk_files.specs.ObjectFault.{WordPlace, BeforeUnits, BetweenHunks, InHunk, ObjectRole, WordAt, UnitCount, UnitName, refuse_word, header_labelled, hunk_labelled, unit_labelled, units_labelled, blocks_from, units_from, objects, unread, MayBegin, HasObjectFault}
-use Rattle.hunk_files.proofs.HunkFaults.{blocks_words, fault_behind}
-use Rattle.hunk_files.proofs.ObjectDecoding.{unit_longs, object_longs}
-use Rattle.hunk_files.proofs.UnitReading.{UnitSoFar, UnitsSoFar, two_words, unit}
+use Rattle.hunk_files.proofs.PartFaults.{fault_behind, value_wanted}
+use Rattle.hunk_files.proofs.HunkFaults.{blocks_words}
+use Rattle.hunk_files.proofs.ObjectDecoding.{hunk_longs, text_size, unit_longs, object_longs}
+use Rattle.hunk_files.proofs.ObjectWords.{object_other_than_memory}
+use Rattle.hunk_files.proofs.UnitReading.{UnitSoFar, UnitsSoFar, hunk_goes_on, two_words, unit}
 
 -- ---- words
 
@@ -82,7 +84,7 @@ header_front place name ws more fits e = record { value = one_unit name; is = on
 
 -- nothing is left
 pub unit_missing : (place : WordPlace) (bytes : List ℕ) (fault : Fault) → longs bytes ≡ [] → fault ≡ cut (unread bytes) → FaultAhead (units_from place) (unread bytes) fault
-unit_missing place bytes fault none e = inr (e, subst (IsFront (units_from place)) (sym none) (header_front place [] [] (unit_word ∷ 0 ∷ []) no_name refl))
+unit_missing place bytes fault none e = inr (inl (e, subst (IsFront (units_from place)) (sym none) (header_front place [] [] (unit_word ∷ 0 ∷ []) no_name refl)))
 
 -- the longwords of a header that is cut short
 count_front : (place : WordPlace) (count : ℕ) (ws : List ℕ) → count < 2 ^ 24 → length ws ≤ count → AreLongs ws → IsFront (units_from place) (unit_word ∷ count ∷ ws)
@@ -91,11 +93,11 @@ count_front place count ws few short fit =
     header_front place f.value (unit_word ∷ count ∷ ws) f.more f.is (ap (λ l. unit_word ∷ l) f.begins)
 
 pub count_missing : (place : WordPlace) (bytes : List ℕ) (fault : Fault) → longs bytes ≡ unit_word ∷ [] → fault ≡ cut (unread bytes) → FaultAhead (units_from place) (unread bytes) fault
-count_missing place bytes fault one e = inr (e, subst (IsFront (units_from place)) (sym one) (header_front place [] (unit_word ∷ []) (0 ∷ []) no_name refl))
+count_missing place bytes fault one e = inr (inl (e, subst (IsFront (units_from place)) (sym one) (header_front place [] (unit_word ∷ []) (0 ∷ []) no_name refl)))
 
 pub name_missing : (place : WordPlace) (bytes : List ℕ) (fault : Fault) (count : ℕ) (ws : List ℕ) → IsBytes bytes → longs bytes ≡ unit_word ∷ count ∷ ws → count < 2 ^ 24 → length ws ≤ count → fault ≡ cut (unread bytes) → FaultAhead (units_from place) (unread bytes) fault
 name_missing place bytes fault count ws fit split few short e =
-    inr (e, subst (IsFront (units_from place)) (sym split) (count_front place count ws few short (All-right _ (unit_word ∷ count ∷ []) ws (subst AreLongs split (longs_fit bytes fit)))))
+    inr (inl (e, subst (IsFront (units_from place)) (sym split) (count_front place count ws few short (All-right _ (unit_word ∷ count ∷ []) ws (subst AreLongs split (longs_fit bytes fit))))))
 
 -- a unit begins, and has a count
 pub expects_unit : (place : WordPlace) → Expects (units_from place) [] (WordAt place)
@@ -224,7 +226,37 @@ units_ahead bytes us at fault whole s p r f =
     (subst AreLongs same (object_longs us s.are)) (subst (λ (ws : List ℕ). BeginsWithText bytes ws at) same s.text) p r f
 
 -- What is refused of all the bytes is their fault.
-pub object_fault : (bytes : List ℕ) (fault : Fault) → IsNoObjectFile bytes → FaultAhead objects (unread bytes) fault → HasObjectFault bytes fault.place fault.reason
-object_fault bytes fault none (inl f) = inl (subst (λ (n : ℕ). HasRefusal objects (longs bytes) n fault.reason) (omega (arith, f.place)) f.refusal)
-object_fault bytes fault none (inr f) =
+pub object_fault : (bytes : List ℕ) (fault : Fault) → IsNoObjectFile bytes → fault.reason ≢ reasons.OutOfMemory → FaultAhead objects (unread bytes) fault → HasObjectFault bytes fault.place fault.reason
+object_fault bytes fault none other (inl f) = inl (subst (λ (n : ℕ). HasRefusal objects (longs bytes) n fault.reason) (omega (arith, f.place)) f.refusal)
+object_fault bytes fault none other (inr (inl f)) =
     inr (ap (λ x. x.reason) f.0, record { place = ap (λ x. x.place) f.0 ∙ omega arith; not_whole = none; front = f.1 })
+object_fault bytes fault none other (inr (inr w)) = absurd (other w.reason)
+
+-- ---- want of memory
+
+-- Where memory is missing, an object file goes on up to there.
+pub object_front : (bytes : List ℕ) (fault : Fault) → fault.reason ≡ reasons.OutOfMemory → FaultAhead objects (unread bytes) fault → IsFrontTo objects (longs bytes) fault.place
+object_front bytes fault = front_ahead objects (longs bytes) (unread bytes) fault object_other_than_memory refl refl
+
+-- Memory is missing for one more hunk, which was read.
+pub hunk_wanted : (place : WordPlace) (bytes : List ℕ) (u : UnitValue) (at : ℕ) (h : ObjectHunk) (size : ℕ) (whole : Fault) → UnitSoFar bytes u at → IsObjectHunk h → BeginsWithText (drop at bytes) (flat_map block_text h) size → whole.place + 4 ≡ at + size →
+    whole.reason ≡ reasons.OutOfMemory → FaultAhead (units_from place) (unread bytes) whole
+hunk_wanted place bytes u at h size whole s is t p reason =
+    let same = sym (blocks_words BetweenHunks h) in
+    let here : Fault = record { place = size - 4; reason = reasons.OutOfMemory } in
+    let long : 4 ≤ size = hunk_goes_on (drop at bytes) h size is t in
+    unit_ahead place bytes u at here whole s (omega (arith, p, long)) reason
+    (value_wanted (blocks_from BetweenHunks) h (is.blocks, is.order) (drop at bytes) size here
+    (subst AreLongs same (hunk_longs h is.blocks)) (subst (λ (ws : List ℕ). BeginsWithText (drop at bytes) ws size) same t) (omega (arith, long)) refl)
+
+-- Memory is missing for one more unit, which was read.
+pub unit_wanted : (bytes : List ℕ) (us : ObjectFileValue) (at : ℕ) (u : UnitValue) (size : ℕ) (whole : Fault) → UnitsSoFar bytes us at → IsUnit u → BeginsWithText (drop at bytes) (unit_text u) size → whole.place + 4 ≡ at + size →
+    whole.reason ≡ reasons.OutOfMemory → FaultAhead objects (unread bytes) whole
+unit_wanted bytes us at u size whole s is t p reason =
+    let place = place_after us in
+    let same : unit_text u ≡ words (units_labelled place (u ∷ [])) = sym (units_words place (u ∷ []) ∙ append-nil (unit_text u)) in
+    let here : Fault = record { place = size - 4; reason = reasons.OutOfMemory } in
+    let long : 4 ≤ size = omega (arith, text_size (drop at bytes) (unit_text u) size t) in
+    units_ahead bytes us at here whole s (omega (arith, p, long)) reason
+    (value_wanted (units_from place) (u ∷ []) (omega arith, (is, tt)) (drop at bytes) size here
+    (subst AreLongs same (unit_longs u is)) (subst (λ (ws : List ℕ). BeginsWithText (drop at bytes) ws size) same t) (omega (arith, long)) refl)

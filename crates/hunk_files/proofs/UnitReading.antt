@@ -200,7 +200,7 @@ no_object_header bytes none (u ∷ us) is e =
     none u.name is.units.0.name (flat_map (flat_map block_text) u.hunks ++ object_text us)
     (text_longs bytes (u ∷ us) is.units e ∙ append_assoc (unit_header u.name) (flat_map (flat_map block_text) u.hunks) (object_text us))
 
-pub hunk_goes_on : (bytes : List ℕ) (h : ObjectHunk) (size : ℕ) → IsObjectHunk h → BeginsWithText bytes (flat_map block_text h) size → 0 < size
+pub hunk_goes_on : (bytes : List ℕ) (h : ObjectHunk) (size : ℕ) → IsObjectHunk h → BeginsWithText bytes (flat_map block_text h) size → 4 ≤ size
 hunk_goes_on bytes [] size is t = absurd is.order
 hunk_goes_on bytes (b ∷ bs) size is t = omega (arith, text_size bytes (flat_map block_text (b ∷ bs)) size t, length-append (block_text b) (flat_map block_text bs))
 
@@ -223,7 +223,7 @@ module _ (bytes : List ℕ) (us : ObjectFileValue) (at : ℕ) (s : UnitsSoFar by
   pub units_inside : at + size ≤ length bytes
   units_inside = units_text.whole
 
-  pub unit_goes_on : 0 < size
+  pub unit_goes_on : 4 ≤ size
   unit_goes_on = omega (arith, text_size (drop at bytes) (unit_text u) size t)
 
   pub unit_added : EndsUnit (drop size (drop at bytes)) → (at + size ≡ length bytes → ⊥) → UnitsSoFar bytes (us ++ u ∷ []) (at + size)

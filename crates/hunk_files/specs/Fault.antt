@@ -1,23 +1,26 @@
 -- The first longword that is refused.
-use Rattle.std.specs.Prelude.{◌≡◌, ℕ, ◌≤◌, ◌*◌, ◌-◌, if◌then◌else◌, Bool, true, false, List, ◌∷◌, ◌++◌, length, take, Some, ◌⊎◌}
+use Rattle.std.specs.Prelude.{◌≡◌, ℕ, ◌+◌, ◌≤◌, ◌*◌, ◌-◌, if◌then◌else◌, Bool, true, false, List, ◌++◌, length, take, ◌⊎◌}
 use Rattle.std.specs.List.{AllByRecursion}
 use Rattle.hunk_words.specs.declared.reason.Reason.{Reason}
 use Rattle.hunk_words.specs.declared.reason.Reason.TheVariants as reasons
 use Rattle.hunk_words.specs.Longs.{longs, bytes_of}
 use Rattle.hunk_blocks.specs.Parts.{Part as parts}
+use Rattle.hunk_blocks.specs.Faults.{Grammar, Expects as ExpectsOf, HasRefusal as RefusalOf, IsFront}
 use Rattle.hunk_files.specs.LoadFile.{LoadFileValue, IsLoadFile}
 use Rattle.hunk_scan.specs.Roles.{Role, Role as roles, InBlock, refuse}
 use Rattle.hunk_files.specs.LoadText.{labelled, words, text}
 
+-- Load files.
+abbrev pub loads : Grammar LoadFileValue Role
+loads = record { Is = IsLoadFile; labelled = labelled; refuse = refuse }
+
 -- Some load text begins with these longwords, and then has a longword of this role.
-pub record Expects (before : List ℕ) (role : Role) : Type 0 where
-  pub value : LoadFileValue
-  pub is_load_file : IsLoadFile value
-  pub done : List (Role × ℕ)
-  pub word : ℕ
-  pub more : List (Role × ℕ)
-  pub labels : labelled value ≡ done ++ (role, word) ∷ more
-  pub begins : words done ≡ before
+abbrev pub Expects : List ℕ → Role → Type 0
+Expects before role = ExpectsOf loads before role
+
+-- A longword stands where this role is expected, and is refused.
+abbrev pub HasRefusal : List ℕ → ℕ → Reason → Type 0
+HasRefusal bytes at reason = RefusalOf loads (longs bytes) at reason
 
 -- The longword that completes a load text at this role: no more hunks, names, sizes, groups or entries than were
 -- announced, an empty BSS block where the hunk has no content, and the end of the hunk.
@@ -38,17 +41,6 @@ pub record IsCompleted (before : List ℕ) : Type 0 where
   pub begins : words done ≡ before
   pub completes : AllByRecursion (λ l. l.1 ≡ completing l.0) more
 
--- A longword stands where this role is expected, and is refused.
-pub record HasRefusal (bytes : List ℕ) (at : ℕ) (reason : Reason) : Type 0 where
-  pub before : List ℕ
-  pub word : ℕ
-  pub after : List ℕ
-  pub role : Role
-  pub split : longs bytes ≡ before ++ word ∷ after
-  pub place : at ≡ 4 * length before
-  pub expects : Expects before role
-  pub refuses : refuse role word ≡ Some reason
-
 -- The bytes of a load text stand in front.
 pub record BeginsWithLoadFile (bytes : List ℕ) : Type 0 where
   pub value : LoadFileValue
@@ -60,10 +52,7 @@ pub record BeginsWithLoadFile (bytes : List ℕ) : Type 0 where
 pub record IsTruncated (bytes : List ℕ) (at : ℕ) : Type 0 where
   pub place : at ≡ 4 * length (longs bytes)
   pub not_whole : BeginsWithLoadFile bytes → ⊥
-  pub value : LoadFileValue
-  pub is_load_file : IsLoadFile value
-  pub more : List ℕ
-  pub begins : text value ≡ longs bytes ++ more
+  pub front : IsFront loads (longs bytes)
 
 -- The fault of bytes that do not begin with a load file.
 abbrev pub HasFault : List ℕ → ℕ → Reason → Type 0
@@ -86,6 +75,12 @@ abbrev pub is_load_refusal : Reason → Bool
 is_load_refusal reasons.Truncated = true
 is_load_refusal reasons.OutOfMemory = true
 is_load_refusal reason = is_word_refusal reason
+
+-- A whole longword of the bytes stands here.
+pub record HasLongAt (bytes : List ℕ) (at : ℕ) : Type 0 where
+  pub number : ℕ
+  pub place : at ≡ 4 * number
+  pub inside : at + 4 ≤ length bytes
 
 -- The first so many bytes are a load text.
 pub record HasLoadText (bytes : List ℕ) (size : ℕ) : Type 0 where

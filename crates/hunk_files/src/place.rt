@@ -1,7 +1,8 @@
 //! Places in the whole file.
-ghost use Rattle.std.specs.Prelude.{◌≡◌, ◌+◌, ◌^◌, ◌<◌};
+ghost use Rattle.std.specs.Prelude.{◌≡◌, ◌+◌, ◌^◌, ◌<◌, ◌≤◌};
+ghost use Rattle.hunk_words.specs.declared.reason.Reason.TheVariants as reasons;
 
-use hunk_words::FileFault;
+use hunk_words::{FileFault, Reason};
 
 /// The refusal of what begins at byte `at`, whose place counts from there.
 pub(crate) fn counted_from(at: usize, fault: FileFault) -> FileFault
@@ -11,5 +12,17 @@ pub(crate) fn counted_from(at: usize, fault: FileFault) -> FileFault
     FileFault {
         place: (at as u64).saturating_add(fault.place),
         reason: fault.reason,
+    }
+}
+
+/// Want of memory for what the longword that ends here completes.
+pub(crate) fn out_of_memory(end: usize) -> FileFault
+    requires { 4 ≤ end }
+    ensures place { result.place + 4 ≡ end }
+    ensures reason { result.reason ≡ reasons.OutOfMemory }
+{
+    FileFault {
+        place: end as u64 - 4,
+        reason: Reason::OutOfMemory,
     }
 }

@@ -49,13 +49,13 @@ expected_text before role e =
 -- A longword that a load text has here is not refused.
 pub expected_passes : (ws : List ℕ) (p : Progress) (w : ℕ) (more : List ℕ) (role : Role) → HasRead ws (More p) → Expects (ws ++ w ∷ more) role → refuse (role_of p) w ≡ None
 expected_passes ws p w more role h e =
-    read_passes ws p h e.value e.is_load_file w (more ++ e.word ∷ words e.more) (expected_text (ws ++ w ∷ more) role e ∙ append_assoc ws (w ∷ more) (e.word ∷ words e.more))
+    read_passes ws p h e.value e.is w (more ++ e.word ∷ words e.more) (expected_text (ws ++ w ∷ more) role e ∙ append_assoc ws (w ∷ more) (e.word ∷ words e.more))
 
 -- Nor is one that a header has here.
 pub header_passes : (t : List TableEntry) → IsTable t → (ws : List ℕ) (p : Progress) (w : ℕ) (more : List ℕ) → HasRead ws (More p) → header_words t ≡ ws ++ w ∷ more → refuse (role_of p) w ≡ None
 header_passes t is ws p w more h e =
     let b = begins_file (header_words t) (open_hunk (length t) [] t) (header_read t is) in
-    read_passes ws p h b.value b.is_load_file w (more ++ b.more) (b.begins ∙ ap (λ (xs : List ℕ). xs ++ b.more) e ∙ append_assoc ws (w ∷ more) b.more)
+    read_passes ws p h b.value b.is w (more ++ b.more) (b.begins ∙ ap (λ (xs : List ℕ). xs ++ b.more) e ∙ append_assoc ws (w ∷ more) b.more)
 
 -- The role here is the one that is expected.
 pub role_here : (ws : List ℕ) (p : Progress) (role : Role) → HasRead ws (More p) → Expects ws role → role_of p ≡ role

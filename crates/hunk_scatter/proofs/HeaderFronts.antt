@@ -1,5 +1,5 @@
 -- The header in front of bytes: it is one, its size words keep to its declared bytes, and each load text begins with one.
-use Rattle.std.proofs.Common.{◌≡◌, ℕ, ◌+◌, ◌*◌, ◌≤◌, Bool, true, false, List, [], ◌∷◌, ◌++◌, length, refl, sym, ap, ◌∙◌, append_assoc, append-nil, arith, subst, ◌⊎◌, inl, inr}
+use Rattle.std.proofs.Common.{◌≡◌, ℕ, ◌+◌, ◌*◌, ◌≤◌, Bool, true, false, List, [], ◌∷◌, ◌++◌, length, refl, sym, ap, ◌∙◌, append_assoc, arith, subst, ◌⊎◌, inl, inr}
 use Rattle.std.specs.List.{flat_map}
 use Rattle.std.proofs.lemmas.List.{length-map, map-append}
 use Rattle.hunk_words.specs.Bits.{size_longs}
@@ -8,7 +8,8 @@ use Rattle.hunk_words.proofs.LongLaws.{bytes_of-append, longs-bytes_of}
 use Rattle.hunk_words.specs.declared.reason.Reason.{Reason}
 use Rattle.hunk_scan.specs.Positions.{is_behind_header}
 use Rattle.hunk_scan.specs.Roles.{Role, Role as roles, refuse}
-use Rattle.hunk_files.specs.Fault.{Expects, HasRefusal}
+use Rattle.hunk_blocks.proofs.FaultScan.{front_passes}
+use Rattle.hunk_files.specs.Fault.{Expects, HasRefusal, loads}
 use Rattle.hunk_files.specs.Image.{declared_bytes}
 use Rattle.hunk_files.specs.LoadFile.{TableEntry, LoadFileValue, IsLoadFile}
 use Rattle.hunk_files.specs.LoadText.{labelled, header_labelled, hunk_labelled, table, text, words}
@@ -18,7 +19,7 @@ use Rattle.hunk_files.specs.WordsRead.{HasRead, Labelled, AreAccepted}
 use Rattle.hunk_files.proofs.FileProgress.{ProgressFits, NextFits, step_keeps}
 use Rattle.hunk_files.proofs.FileText.{entries_fit}
 use Rattle.hunk_files.proofs.Reading.{reads, rest_read}
-use Rattle.hunk_files.proofs.Scan.{no_fault, expected_place}
+use Rattle.hunk_files.proofs.Scan.{expected_place, load_reader, load_reads}
 use Rattle.hunk_scatter.specs.HeaderBytes.{IsTable, header_words, header_bytes, entries_so_far}
 use Rattle.hunk_scatter.specs.HeaderFaults.{IsWithinBudget, PassesBudget}
 use Rattle.hunk_scatter.specs.HeaderLoaderFields.{declares, declared_so_far, OpensFirst}
@@ -30,7 +31,6 @@ use Rattle.hunk_scatter.proofs.Forget.{step_behind, step_table}
 use Rattle.hunk_scatter.proofs.HeaderSteps.{IsInHeader, step_opens, step_declares, rows_total}
 use Rattle.hunk_scatter.proofs.HeaderStops.{header_longs}
 use Rattle.hunk_scatter.proofs.HeaderTexts.{header_read, rows_read}
-use Rattle.hunk_scatter.proofs.Outcomes.{longs_text}
 use Rattle.hunk_scatter.proofs.Splits.{fronts}
 
 -- ---- one header
@@ -173,20 +173,14 @@ passes_front budget bytes more at p = go (fronts p.before p.word p.after (longs 
 -- No size word is expected behind a longword that is refused.
 pub refused_front : (bytes : List ℕ) (at : ℕ) (reason : Reason) (m : List ℕ) → HasRefusal bytes at reason → Expects (longs bytes ++ m) roles.SizeWord → ⊥
 refused_front bytes at reason m h e =
-    no_fault (bytes_of (text e.value)) at reason
-    (record { value = e.value; is_load_file = e.is_load_file; rest = []; split = sym (append-nil (bytes_of (text e.value))) })
-    (inl (record {
-      before = h.before;
-      word = h.word;
-      after = (h.after ++ m) ++ e.word ∷ words e.more;
-      role = h.role;
-      split =
-          longs_text e.value e.is_load_file
-          ∙ ap words e.labels
+    front_passes loads load_reader load_reads (longs bytes) at reason h
+    (record {
+      value = e.value;
+      is = e.is;
+      more = m ++ e.word ∷ words e.more;
+      begins =
+          ap words e.labels
           ∙ map-append (λ (x : Role × ℕ). x.1) e.done ((roles.SizeWord, e.word) ∷ e.more)
-          ∙ ap (λ (xs : List ℕ). xs ++ e.word ∷ words e.more) (e.begins ∙ ap (λ (xs : List ℕ). xs ++ m) h.split ∙ append_assoc h.before (h.word ∷ h.after) m)
-          ∙ append_assoc h.before (h.word ∷ (h.after ++ m)) (e.word ∷ words e.more);
-      place = h.place;
-      expects = h.expects;
-      refuses = h.refuses;
-    }))
+          ∙ ap (λ (xs : List ℕ). xs ++ e.word ∷ words e.more) e.begins
+          ∙ append_assoc (longs bytes) m (e.word ∷ words e.more);
+    })

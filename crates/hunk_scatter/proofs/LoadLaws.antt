@@ -69,7 +69,7 @@ as_reason base budget limit left failed given at r s e h = subst (λ (x : Reason
 module _ (base : Placing) (budget limit : ℕ) (left : Option (List ℕ)) (failed : Bool) (given : List ℕ) (at : ℕ) where
   by_header : (r : Reason) → IsTrue (is_of_header r) → IsHeaderFaultBy r budget given at → (r ≡ reasons.OutOfMemory → BeginsHeader given) → IsLoadFaultBy r base budget limit left failed given at
   by_header reasons.Budget o h m = h
-  by_header reasons.OutOfMemory o h m = m refl
+  by_header reasons.OutOfMemory o h m = (m refl, inl h)
   by_header reasons.FileLimit o h m = absurd cc
   by_header reasons.Read o h m = absurd cc
   by_header reasons.Truncated o h m = absurd cc
@@ -87,7 +87,7 @@ module _ (base : Placing) (budget limit : ℕ) (left : Option (List ℕ)) (faile
 
   between : (r : Reason) (t : List TableEntry) → IsHeaderWithin budget given t → IsUnplacedFor base t r → at ≡ length given → IsLoadFaultBy r base budget limit left failed given at
   between (reasons.NoBase hunk) t h u p = (t, h, u, p)
-  between reasons.OutOfMemory t h u p = record { table = t; is_table = h.is_table; more = []; fits = sym h.header ∙ sym (append-nil given) }
+  between reasons.OutOfMemory t h u p = (record { table = t; is_table = h.is_table; more = []; fits = sym h.header ∙ sym (append-nil given) }, inr (t, h, p))
   between _ t h u p = absurd u
 
 short_of : (budget limit : ℕ) (left : Option (List ℕ)) (failed : Bool) (given : List ℕ) (f : Fault) → StopsShort limit left failed given f → ((at : ℕ) → PassesBudget budget given at → ⊥) → IsShort budget given

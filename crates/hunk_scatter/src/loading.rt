@@ -184,7 +184,8 @@ fn load_placed<R: Source, P: Placer>(
 /// Where the file is no load file the answer is its first fault, or Truncated; Budget where its
 /// table declares more than the budget, before a hunk is placed; NoBase where a hunk has no base;
 /// FileLimit where `limits.file_bytes` were read and more is needed; Read where the source failed;
-/// OutOfMemory where memory was refused. After an `Err` there is no image.
+/// OutOfMemory where memory was refused, for a row at the longword that completes it, or for the
+/// store, behind the header. After an `Err` there is no image.
 pub fn load<R: Source, P: Placer>(
     alloc: Global,
     r: &mut R,

@@ -120,8 +120,7 @@ pub(crate) fn read_entries<'a>(
         Reads reader.old reader.new (list_text ext_text (map entry_of entries))) }
     ensures none { IfErr result (λ fault. fault.reason ≢ reasons.OutOfMemory →
         BeginsWithNo (AllByRecursion IsExtEntry) (list_text ext_text) reader.old.rest) }
-    ensures first { IfErr result (λ fault. fault.reason ≢ reasons.OutOfMemory →
-        FaultAhead entries reader.old fault) }
+    ensures first { IfErr result (λ fault. FaultAhead entries reader.old fault) }
     ensures fault { IfErr result (λ fault.
         (fault ≡ cut reader.old) ⊎ (fault.reason ≡ reasons.ExtKind) ⊎
         (fault.reason ≡ reasons.OutOfMemory)) }

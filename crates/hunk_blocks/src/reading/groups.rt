@@ -5,6 +5,7 @@ ghost use Rattle.std.specs.Option.{option_map};
 ghost use Rattle.hunk_words.specs.declared.reason.Reason.TheVariants as reasons;
 ghost use Rattle.hunk_blocks.specs.Values.{IsGroup};
 ghost use Rattle.hunk_blocks.specs.Parts.{group_text, list_text};
+ghost use Rattle.hunk_blocks.specs.Faults.{FaultAhead, groups};
 ghost use Rattle.hunk_blocks.specs.Reading.{BeginsWithNo, BeginsWithNoItem, IsFrontOf, Reads, ReadsItem, cut};
 ghost use Rattle.hunk_blocks.specs.Views.{group_of};
 
@@ -41,8 +42,7 @@ pub(crate) fn read_groups<'a>(
         Reads reader.old reader.new (list_text group_text (map group_of groups))) }
     ensures none { IfErr result (λ fault. fault.reason ≢ reasons.OutOfMemory →
         BeginsWithNo (AllByRecursion IsGroup) (list_text group_text) reader.old.rest) }
-    ensures front { IfErr result (λ fault. fault.reason ≢ reasons.OutOfMemory →
-        IsFrontOf (AllByRecursion IsGroup) (list_text group_text) reader.old.rest) }
+    ensures first { IfErr result (λ fault. FaultAhead groups reader.old fault) }
     ensures fault { IfErr result (λ fault.
         (fault ≡ cut reader.old) ⊎ (fault.reason ≡ reasons.OutOfMemory)) }
 {

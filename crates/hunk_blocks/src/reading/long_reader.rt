@@ -59,10 +59,12 @@ impl<'a> LongReader<'a> {
 
     /// A refusal of memory, at the longword that was read last.
     pub(crate) fn out_of_memory(&self) -> BlockFault
-        ensures { result.reason ≡ reasons.OutOfMemory }
+        requires { 4 ≤ self.now.place }
+        ensures place { result.place + 4 ≡ self.now.place }
+        ensures reason { result.reason ≡ reasons.OutOfMemory }
     {
         BlockFault {
-            place: self.place.saturating_sub(4),
+            place: self.place - 4,
             reason: Reason::OutOfMemory,
         }
     }

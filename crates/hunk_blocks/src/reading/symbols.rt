@@ -5,6 +5,7 @@ ghost use Rattle.std.specs.Option.{option_map};
 ghost use Rattle.hunk_words.specs.declared.reason.Reason.TheVariants as reasons;
 ghost use Rattle.hunk_blocks.specs.Values.{IsSymbolEntry};
 ghost use Rattle.hunk_blocks.specs.Parts.{list_text, symbol_text};
+ghost use Rattle.hunk_blocks.specs.Faults.{FaultAhead, symbols};
 ghost use Rattle.hunk_blocks.specs.Reading.{BeginsWithNo, BeginsWithNoItem, IsFrontOf, Reads, ReadsItem, cut};
 ghost use Rattle.hunk_blocks.specs.Views.{symbol_of};
 
@@ -42,8 +43,7 @@ pub(crate) fn read_symbols<'a>(
         Reads reader.old reader.new (list_text symbol_text (map symbol_of symbols))) }
     ensures none { IfErr result (λ fault. fault.reason ≢ reasons.OutOfMemory →
         BeginsWithNo (AllByRecursion IsSymbolEntry) (list_text symbol_text) reader.old.rest) }
-    ensures front { IfErr result (λ fault. fault.reason ≢ reasons.OutOfMemory →
-        IsFrontOf (AllByRecursion IsSymbolEntry) (list_text symbol_text) reader.old.rest) }
+    ensures first { IfErr result (λ fault. FaultAhead symbols reader.old fault) }
     ensures fault { IfErr result (λ fault.
         (fault ≡ cut reader.old) ⊎ (fault.reason ≡ reasons.OutOfMemory)) }
 {

@@ -5,7 +5,7 @@ ghost use Rattle.hunk_words.specs.Longs.{bytes_of};
 ghost use Rattle.hunk_files.specs.LoadFile.{IsLoadFile};
 ghost use Rattle.hunk_files.specs.Image.{declared_bytes};
 ghost use Rattle.hunk_files.specs.LoadText.{table, text};
-ghost use Rattle.hunk_files.specs.Fault.{BeginsWithLoadFile, HasFault, is_load_refusal};
+ghost use Rattle.hunk_files.specs.Fault.{BeginsWithLoadFile, HasFault, HasLongAt, is_load_refusal};
 ghost use Rattle.hunk_files.specs.Tables.{entry_of};
 
 use crate::load::hunk::{LoadHunk, read_hunks};
@@ -42,7 +42,8 @@ impl<'a> LoadFile<'a> {
     /// byte, and why. `Truncated` is answered where all whole longwords are those of a load file
     /// that goes on, at 4 times their number. `OutOfMemory` is answered where memory was refused,
     /// for a row of the table, the groups or entries of a block, a block or a hunk, at the longword
-    /// that completes it; no memory is asked for before the file was seen to be whole.
+    /// that completes it; no memory is asked for before the file was seen to be whole, so it hides
+    /// no fault.
     ///
     /// Source: The AmigaDOS Manual, 3rd edition, Amiga binary file structure, and `dos/doshunks.h`.
     pub fn decode(alloc: Global, bytes: &'a [u8]) -> Result<(LoadFile<'a>, usize), FileFault>
@@ -53,6 +54,10 @@ impl<'a> LoadFile<'a> {
             HasFault bytes.entry.now fault.place fault.reason) }
         ensures none { IfErr result (λ fault. fault.reason ≢ reasons.OutOfMemory →
             BeginsWithLoadFile bytes.entry.now → ⊥) }
+        ensures begins { IfErr result (λ fault. fault.reason ≡ reasons.OutOfMemory →
+            BeginsWithLoadFile bytes.entry.now) }
+        ensures reached { IfErr result (λ fault. fault.reason ≡ reasons.OutOfMemory →
+            HasLongAt bytes.entry.now fault.place) }
         ensures own { IfErr result (λ fault. IsTrue (is_load_refusal fault.reason)) }
     {
         let size = walk(bytes)?;

@@ -1,15 +1,15 @@
 //! The hunks of a load file.
-ghost use Rattle.std.specs.Prelude.{◌≡◌, ◌≢◌, ◌≤◌, ◌+◌, drop, map, IfOk, IfErr, length};
+ghost use Rattle.std.specs.Prelude.{◌≡◌, ◌≢◌, ◌≤◌, ◌+◌, ◌*◌, ℕ, drop, map, IfOk, IfErr, length};
 ghost use Rattle.hunk_words.specs.declared.reason.Reason.TheVariants as reasons;
-ghost use Rattle.hunk_files.specs.Fault.{BeginsWithLoadFile};
+ghost use Rattle.hunk_files.specs.Fault.{BeginsWithLoadFile, HasLongAt};
 ghost use Rattle.hunk_files.specs.Hunks.{AreBlocksAt, HasNoHunk};
 ghost use Rattle.hunk_files.specs.Tables.{hunk_of, IsTable};
 
 use crate::order::is_end;
-use crate::place::counted_from;
+use crate::place::{counted_from, out_of_memory};
 use crate::row::Row;
 use hunk_blocks::{Block, Mode};
-use hunk_words::{FileFault, Reason};
+use hunk_words::FileFault;
 use std::alloc::Global;
 
 /// A hunk of a load file: its row of the table, and its blocks.
@@ -29,6 +29,8 @@ pub(crate) fn read_hunk<'a>(
     ensures found { IfOk result (λ r. AreBlocksAt bytes.entry.now start r.1 r.0.items) }
     ensures none { IfErr result (λ fault. fault.reason ≢ reasons.OutOfMemory →
         HasNoHunk (drop start bytes.entry.now)) }
+    ensures reached { IfErr result (λ fault. fault.reason ≡ reasons.OutOfMemory →
+        (number : ℕ) → start ≡ 4 * number → HasLongAt bytes.entry.now fault.place) }
 {
     let mut blocks = Vec::new(alloc);
     let mut at = start;
@@ -61,6 +63,7 @@ pub(crate) fn read_hunks<'a>(
     ensures hunks { IfOk result (λ hunks.
         (file : BeginsWithLoadFile bytes.entry.now) → map hunk_of hunks.items ≡ file.value) }
     ensures memory { IfErr result (λ fault. fault.reason ≡ reasons.OutOfMemory) }
+    ensures reached { IfErr result (λ fault. HasLongAt bytes.entry.now fault.place) }
 {
     let mut hunks = Vec::new(alloc);
     let mut at = start;
@@ -75,16 +78,4 @@ pub(crate) fn read_hunks<'a>(
         }
     }
     Ok(hunks)
-}
-
-/// Want of memory for what the longword that ends here completes.
-pub(crate) fn out_of_memory(end: usize) -> FileFault
-    requires { 4 ≤ end }
-    ensures place { result.place + 4 ≡ end }
-    ensures reason { result.reason ≡ reasons.OutOfMemory }
-{
-    FileFault {
-        place: end as u64 - 4,
-        reason: Reason::OutOfMemory,
-    }
 }

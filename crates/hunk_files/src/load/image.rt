@@ -30,7 +30,7 @@ impl LoadFile<'_> {
     ///
     /// A hunk's memory is its contents, zero bytes up to its declared bytes, and for each RELOC32
     /// offset, in file order, the base of the target added to the long there, modulo 2^32: at any
-    /// offset, also where longs overlap. It takes memory for `total()` bytes, in one piece.
+    /// offset, also where longs overlap. It takes memory for `total()` bytes.
     ///
     /// `BaseCount` is answered just where the number of bases is not `hunks()`.
     pub fn image(&self, alloc: Global, bases: &[u32]) -> Result<Vec<u8>, ImageFault>

@@ -3,10 +3,10 @@ ghost use Rattle.std.specs.Prelude.{◌≡◌, ◌+◌, ◌*◌, ◌≤◌, IfOk
 ghost use Rattle.hunk_words.specs.declared.reason.Reason.TheVariants as reasons;
 ghost use Rattle.hunk_words.specs.Bits.{has_both_bits};
 ghost use Rattle.hunk_words.specs.Longs.{longs};
-ghost use Rattle.hunk_files.specs.Fault.{BeginsWithLoadFile};
+ghost use Rattle.hunk_files.specs.Fault.{BeginsWithLoadFile, HasLongAt};
 ghost use Rattle.hunk_files.specs.Tables.{IsTable};
 
-use crate::load::hunk::out_of_memory;
+use crate::place::out_of_memory;
 use crate::row::Row;
 use hunk_words::{FileFault, SizeWord, word_at};
 use std::alloc::Global;
@@ -23,6 +23,7 @@ pub(crate) fn read_table(alloc: Global, bytes: &[u8]) -> Result<(Vec<Row>, usize
     ensures table { IfOk result (λ r.
         (file : BeginsWithLoadFile bytes.now) → IsTable bytes.now file r.0.items r.1) }
     ensures memory { IfErr result (λ fault. fault.reason ≡ reasons.OutOfMemory) }
+    ensures reached { IfErr result (λ fault. HasLongAt bytes.entry.now fault.place) }
 {
     let hunks = word_at(bytes, TABLE_SIZE) as usize;
     let mut rows = Vec::new(alloc);

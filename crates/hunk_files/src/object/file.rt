@@ -1,14 +1,15 @@
 //! Object files.
-ghost use Rattle.std.specs.Prelude.{◌≡◌, ◌≢◌, IfErr, IfOk, IsTrue};
-ghost use Rattle.hunk_words.specs.Longs.{bytes_of};
+ghost use Rattle.std.specs.Prelude.{◌≡◌, ◌≢◌, ℕ, ◌<◌, IfErr, IfOk, IsTrue};
+ghost use Rattle.hunk_words.specs.Longs.{bytes_of, longs};
+ghost use Rattle.hunk_blocks.specs.Faults.{IsFrontTo};
+ghost use Rattle.hunk_words.specs.declared.reason.Reason.{Reason};
 ghost use Rattle.hunk_words.specs.declared.reason.Reason.TheVariants as reasons;
 ghost use Rattle.hunk_files.specs.ObjectFile.{IsNoObjectFile, is_object_refusal, IsObjectFile, object_text};
-ghost use Rattle.hunk_files.specs.ObjectFault.{HasObjectFault};
+ghost use Rattle.hunk_files.specs.ObjectFault.{HasObjectFault, objects};
 
-use crate::object::refusal::out_of_memory;
 use crate::object::unit::Unit;
 use crate::object::walk::read_unit;
-use crate::place::counted_from;
+use crate::place::{counted_from, out_of_memory};
 use hunk_words::FileFault;
 use std::alloc::Global;
 use std::marker::Model;
@@ -43,7 +44,8 @@ impl<'a> ObjectFile<'a> {
     /// `Truncated` at 4 times the number of whole longwords.
     ///
     /// Memory is asked for only for what was read whole. Where it is not there, the answer is
-    /// `OutOfMemory`.
+    /// `OutOfMemory` at the longword that completes it, and no fault of the input lies there or
+    /// before.
     ///
     /// Source: The AmigaDOS Manual, 3rd edition, Amiga binary file structure, and `dos/doshunks.h`.
     pub fn decode(alloc: Global, bytes: &'a [u8]) -> Result<ObjectFile<'a>, FileFault>
@@ -53,6 +55,11 @@ impl<'a> ObjectFile<'a> {
             (λ fault. fault.reason ≢ reasons.OutOfMemory → IsNoObjectFile bytes.entry.now) }
         ensures fault { IfErr result (λ fault. fault.reason ≢ reasons.OutOfMemory →
             HasObjectFault bytes.entry.now fault.place fault.reason) }
+        ensures reached { IfErr result (λ fault. fault.reason ≡ reasons.OutOfMemory →
+            IsFrontTo objects (longs bytes.entry.now) fault.place) }
+        ensures hidden { IfErr result (λ fault. fault.reason ≡ reasons.OutOfMemory →
+            (at : ℕ) (reason : Reason) →
+            HasObjectFault bytes.entry.now at reason → fault.place < at) }
         ensures own { IfErr result (λ fault. IsTrue (is_object_refusal fault.reason)) }
     {
         let mut units = Vec::new(alloc);

@@ -36,14 +36,3 @@ pub(super) fn truncated(bytes: &[u8]) -> FileFault
         reason: Reason::Truncated,
     }
 }
-
-/// The refusal of memory for what ends before byte `at`: at its last longword.
-pub(super) fn out_of_memory(at: usize) -> FileFault
-    ensures place { 4 ≤ at → result.place + 4 ≡ at }
-    ensures reason { result.reason ≡ reasons.OutOfMemory }
-{
-    FileFault {
-        place: (at as u64).saturating_sub(4),
-        reason: Reason::OutOfMemory,
-    }
-}

@@ -16,10 +16,10 @@ ghost use Rattle.hunk_files.specs.ObjectFile.{IsNoObjectFile, is_object_refusal,
 ghost use Rattle.hunk_files.specs.ObjectFault.{WordPlace, BetweenHunks, MayBegin, MayGoOn, blocks_from, units_from, unread};
 ghost use Rattle.hunk_files.specs.ObjectParts.{BeginsWithText, EndsUnit, MayStand};
 
-use crate::object::refusal::{UNIT, out_of_memory, refuse_unit_word, truncated};
+use crate::object::refusal::{UNIT, refuse_unit_word, truncated};
 use crate::object::unit::{Hunk, Unit};
 use crate::order::is_end;
-use crate::place::counted_from;
+use crate::place::{counted_from, out_of_memory};
 use hunk_blocks::{Block, Body, Mode, Payload};
 use hunk_scan::refuse_place;
 use hunk_words::{BlockWord, FileFault, NAME_LIMIT, Reason, SizeWord, word_at};
@@ -69,8 +69,7 @@ fn read_block<'a>(
     ensures none { IfErr result (λ fault. fault.reason ≢ reasons.OutOfMemory →
         BeginsWithNo (MayStand has_content) block_text (longs bytes.entry.now)) }
     ensures fault { (place : WordPlace) → MayGoOn place has_content bytes.entry.now →
-        IfErr result (λ fault. fault.reason ≢ reasons.OutOfMemory →
-        FaultAhead (blocks_from place) (unread bytes.entry.now) fault) }
+        IfErr result (λ fault. FaultAhead (blocks_from place) (unread bytes.entry.now) fault) }
     ensures own { IfErr result (λ fault. IsTrue (is_object_refusal fault.reason)) }
 {
     let word = match long_at(bytes, 0) {
@@ -100,7 +99,7 @@ pub(super) fn read_hunk<'a>(
     ensures none { IfErr result (λ fault. fault.reason ≢ reasons.OutOfMemory →
         BeginsWithNo IsObjectHunk (flat_map block_text) (longs bytes.entry.now)) }
     ensures fault { first_long bytes.entry.now ≢ unit_word →
-        IfErr result (λ fault. fault.reason ≢ reasons.OutOfMemory →
+        IfErr result (λ fault.
         FaultAhead (blocks_from BetweenHunks) (unread bytes.entry.now) fault) }
     ensures own { IfErr result (λ fault. IsTrue (is_object_refusal fault.reason)) }
 {
@@ -159,8 +158,7 @@ pub(super) fn read_unit<'a>(alloc: Global, bytes: &'a [u8]) -> Result<(Unit<'a>,
     ensures none { IfErr result
         (λ fault. fault.reason ≢ reasons.OutOfMemory → IsNoObjectFile bytes.entry.now) }
     ensures fault { (place : WordPlace) → MayBegin place bytes.entry.now →
-        IfErr result (λ fault. fault.reason ≢ reasons.OutOfMemory →
-        FaultAhead (units_from place) (unread bytes.entry.now) fault) }
+        IfErr result (λ fault. FaultAhead (units_from place) (unread bytes.entry.now) fault) }
     ensures own { IfErr result (λ fault. IsTrue (is_object_refusal fault.reason)) }
 {
     let (name, mut at) = match read_header(bytes) {

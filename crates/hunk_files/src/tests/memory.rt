@@ -1,7 +1,7 @@
 //! Load files while no growth is granted.
 
 use crate::tests::{ONE_HUNK, spelled};
-use crate::{ImageFault, LoadFile};
+use crate::{ImageFault, LoadFile, ObjectFile};
 use hunk_words::{FileFault, Reason};
 use std::alloc::{AllocError, Global};
 use std::test::Fail;
@@ -56,9 +56,63 @@ fn refused_at_the_first_growth(rt: HostRuntime) -> Result<(), Fail> {
             Err(FileFault { place, reason })
         );
     }
-    let reason = starved(rt.alloc(), ONE_HUNK.as_slice())?.map_err(|fault| fault.reason);
-    assert_eq!(rt; reason, Err(Reason::OutOfMemory));
     Ok(())
+}
+
+/// One hunk of nothing, with attributes of a longword of their own.
+const WITH_ATTRIBUTES: [u32; 10] = [0x3F3, 0, 1, 0, 0, 0xC000_0000, 2, 0x3EB, 0, 0x3F2];
+
+/// A row is asked for when it was read: at its size word, or at the attributes behind it.
+#[test]
+fn no_memory_for_a_row(rt: HostRuntime) -> Result<(), Fail> {
+    let rows = [(ONE_HUNK.as_slice(), 20), (WITH_ATTRIBUTES.as_slice(), 24)];
+    for (longs, place) in rows {
+        let reason = Reason::OutOfMemory;
+        assert_eq!(rt;
+            starved(rt.alloc(), longs)?,
+            Err(FileFault { place, reason })
+        );
+    }
+    Ok(())
+}
+
+/// What is answered for the longwords as an object file, with the next growth refused or not.
+fn object_fault(
+    alloc: Global,
+    longs: &[u32],
+    is_starved: bool,
+) -> Result<Option<FileFault>, AllocError> {
+    let bytes = spelled(alloc, longs)?;
+    let pieces = if is_starved {
+        all_memory(alloc)?
+    } else {
+        Vec::new(alloc)
+    };
+    let result = ObjectFile::decode(alloc, bytes.as_slice()).err();
+    drop(pieces);
+    Ok(result)
+}
+
+/// A block is asked for when it was read whole, at its last longword. A fault before that place is
+/// answered as ever, and one behind it is not seen.
+#[test]
+fn no_memory_for_an_object(rt: HostRuntime) -> Result<(), Fail> {
+    let content = [0x3E7, 0, 0x3E9, 1, 0x4E75_4E71, 0x3F5];
+    let name = [0x3E7, 0, 0x3E8, 1, 0x6100_0000, 0x3F5];
+    for longs in [content.as_slice(), name.as_slice()] {
+        let memory = object_fault(rt.alloc(), longs, true)?;
+        assert_eq!(rt; memory, fault_at(16, Reason::OutOfMemory));
+        let refusal = object_fault(rt.alloc(), longs, false)?;
+        assert_eq!(rt; refusal, fault_at(20, Reason::Overlay));
+    }
+    let both_bits = [0x3E7, 0, 0xC000_03E9, 1, 0x4E75_4E71, 0x3F2];
+    let refusal = object_fault(rt.alloc(), both_bits.as_slice(), true)?;
+    assert_eq!(rt; refusal, fault_at(8, Reason::BothBits));
+    Ok(())
+}
+
+fn fault_at(place: u64, reason: Reason) -> Option<FileFault> {
+    Some(FileFault { place, reason })
 }
 
 #[test]

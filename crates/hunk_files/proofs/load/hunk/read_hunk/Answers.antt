@@ -1,10 +1,13 @@
-use Rattle.std.proofs.Common.{arith, ◌+◌, ◌≡◌, ℕ, List, [], ◌∷◌, ◌++◌, rules, subst, sym, ◌∙◌}
-use Rattle.std.proofs.lemmas.List.{take_rest}
+use Rattle.std.proofs.Common.{arith, ap, drop, length, length-append, ◌^◌, ◌<◌, ◌+◌, ◌≡◌, ℕ, List, [], ◌∷◌, ◌++◌, rules, subst, sym, ◌∙◌}
+use Rattle.std.proofs.lemmas.List.{length-drop, take_rest}
 use Rattle.hunk_blocks.specs.declared.mode.Mode.TheVariants as modes
+use Rattle.hunk_words.specs.Longs.{longs}
+use Rattle.hunk_words.proofs.LongLaws.{length-longs}
+use Rattle.hunk_blocks.specs.Faults.{IsFrontTo, blocks}
 use Rattle.hunk_blocks.specs.Values.{BlockValue}
 use Rattle.hunk_blocks.specs.Begins.{BeginsWithBlock, BeginsWithNoBlock}
 use Rattle.hunk_files.specs.Hunks.{AreBlocksAt}
-use Rattle.hunk_files.proofs.HunkReading.{BlocksSoFar, no_blocks, block_added, hunk_read, no_hunk, goes_further, still_inside}
+use Rattle.hunk_files.proofs.HunkReading.{BlocksSoFar, behind_reached, block_reached, no_blocks, block_added, hunk_read, no_hunk, goes_further, still_inside}
 use Rattle.hunk_files.proofs.load.hunk.read_hunk.Goals as goal
 
 pub reading-init : goal.reading-init
@@ -50,3 +53,18 @@ reading-preserved c =
     let P : List BlockValue → Type 0 = λ bs. BlocksSoFar bytes c.args.start bs (c.reading.at + c.in-Ok.decoded.1) in
     let Q : List ℕ → Type 0 = λ rest. BeginsWithBlock modes.Load rest c.in-Ok.decoded.0 c.in-Ok.decoded.1 in
     subst P (sym pushed) (block_added bytes c.args.start c.reading.blocks.items c.reading.at c.reading.invariant c.in-Ok.decoded.0 c.in-Ok.decoded.1 (subst Q (take_rest bytes c.reading.at) c.in-Ok.ensures.block) (sym c.if-hunk_ends.ensures))
+
+pub returns-in-Err-clause-reached : goal.returns-in-Err-clause-reached
+returns-in-Err-clause-reached c memory number whole =
+    let bytes = c.args.bytes.now in
+    let P : List ℕ → Type 0 = λ rest. IsFrontTo (blocks modes.Load) (longs rest) c.in-Err.fault.place in
+    let f = subst P (take_rest bytes c.reading.at) (c.in-Err.ensures.reached (sym c.counted_from.ensures.reason ∙ memory)) in
+    let room : c.reading.at + c.in-Err.fault.place < 2 ^ 64 = omega (arith, f.place, ap length f.split, length-append f.read f.after, length-longs (drop c.reading.at bytes), length-drop c.reading.at bytes, c.reading.invariant.texts.inside) in
+    behind_reached bytes c.args.start c.reading.at c.reading.blocks.items c.reading.invariant number c.in-Err.fault.place c.counted_from.result.place c.requires whole f (c.counted_from.ensures.place room)
+
+pub returns-then-is_err-clause-reached : goal.returns-then-is_err-clause-reached
+returns-then-is_err-clause-reached c memory number whole =
+    let bytes = c.args.bytes.now in
+    let Q : List ℕ → Type 0 = λ rest. BeginsWithBlock modes.Load rest c.in-Ok.decoded.0 c.in-Ok.decoded.1 in
+    let r = subst Q (take_rest bytes c.reading.at) c.in-Ok.ensures.block in
+    block_reached bytes c.args.start c.reading.blocks.items c.reading.at c.reading.invariant c.in-Ok.decoded.0 c.in-Ok.decoded.1 r number c.out_of_memory.result.place c.requires whole c.out_of_memory.ensures.place

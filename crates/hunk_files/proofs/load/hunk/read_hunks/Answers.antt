@@ -4,7 +4,7 @@ use Rattle.hunk_files.specs.declared.row.Row.{Row}
 use Rattle.hunk_files.specs.declared.load.hunk.LoadHunk.{LoadHunk}
 use Rattle.hunk_files.specs.LoadFile.{HunkValue}
 use Rattle.hunk_files.specs.Tables.{hunk_of}
-use Rattle.hunk_files.proofs.FileReading.{HunksSoFar, no_hunks, some_hunk, hunk_added, all_read, behind_start, out_of_memory}
+use Rattle.hunk_files.proofs.FileReading.{HunksSoFar, no_hunks, some_hunk, hunk_added, all_read, behind_start, hunk_reached, hunks_place, out_of_memory}
 use Rattle.hunk_files.proofs.load.hunk.read_hunks.Goals as goal
 
 abbrev no_row : Row
@@ -45,3 +45,16 @@ reading-preserved c file =
 pub returns-clause-hunks : goal.returns-clause-hunks
 returns-clause-hunks c file =
     all_read c.args.bytes.now file c.args.rows.now (c.requires.table file).rows_are (map hunk_of c.reading.hunks.items) c.reading.row-index c.reading.at (c.reading.invariant file) (omega arith)
+
+pub returns-in-Err-clause-reached : goal.returns-in-Err-clause-reached
+returns-in-Err-clause-reached c =
+    let file = c.requires.begins in
+    let rows = c.args.rows.now in
+    c.in-Err.ensures.reached (returns-in-Err-clause-memory c) _ (hunks_place c.args.bytes.now file rows (c.requires.table file).rows_are (map hunk_of c.reading.hunks.items) c.reading.row-index c.reading.at (c.reading.invariant file))
+
+pub returns-then-is_err-clause-reached : goal.returns-then-is_err-clause-reached
+returns-then-is_err-clause-reached c =
+    let file = c.requires.begins in
+    let rows = c.args.rows.now in
+    let s = c.reading.invariant file in
+    hunk_reached c.args.bytes.now c.reading.at _ c.in-Ok.read.1 c.out_of_memory.result.place c.in-Ok.read.0.items s.inside (hunks_place c.args.bytes.now file rows (c.requires.table file).rows_are (map hunk_of c.reading.hunks.items) c.reading.row-index c.reading.at s) c.in-Ok.ensures.found c.out_of_memory.ensures.place

@@ -1,4 +1,4 @@
-use Rattle.std.proofs.Common.{◌≡◌, ℕ, ◌+◌, ◌<◌, List, [], ◌∷◌, ◌++◌, length, map, arith, rules, sym, ap, ◌∙◌, subst}
+use Rattle.std.proofs.Common.{◌≡◌, ℕ, ◌+◌, ◌-◌, ◌<◌, List, [], ◌∷◌, ◌++◌, length, map, arith, rules, sym, ap, ◌∙◌, subst}
 use Rattle.std.proofs.lemmas.List.{length-map, map_push}
 use Rattle.hunk_files.specs.LoadFile.{TableEntry}
 use Rattle.hunk_files.specs.LoadText.{table}
@@ -59,3 +59,14 @@ overflow_mul-result c =
 pub returns-clause-table : goal.returns-clause-table
 returns-clause-table c file =
     table_read c.args.bytes.now file c.reading.rows.items c.reading.at (c.reading.invariant file) (omega (arith, (size_is c.args.bytes.now file).0))
+
+pub returns-then-is_err-clause-reached : goal.returns-then-is_err-clause-reached
+returns-then-is_err-clause-reached c =
+    let file = c.requires in
+    let few : length (map row_entry c.reading.rows.items) < length (table file.value) = omega (arith, (size_is c.args.bytes.now file).0, length-map c.reading.rows.items row_entry) in
+    let room = row_room c.args.bytes.now file (map row_entry c.reading.rows.items) c.reading.at (c.reading.invariant file) few c.row_at-row.result.word c.row_at-row.ensures.word in
+    record {
+      number = c.reading.at + c.longs_of-at.result - 1;
+      place = omega (arith, c.out_of_memory.ensures.place, c.longs_of-at.ensures, room);
+      inside = omega (arith, c.out_of_memory.ensures.place, c.longs_of-at.ensures, room);
+    }

@@ -6,7 +6,7 @@ use Rattle.hunk_words.specs.Bits.{kind, has_both_bits}
 use Rattle.hunk_words.specs.Longs.{longs}
 use Rattle.hunk_words.specs.declared.reason.Reason.TheVariants as reasons
 use Rattle.hunk_words.proofs.LongLaws.{longs-few}
-use Rattle.hunk_files.proofs.HunkFaults.{one_word, word_ahead, hunk_missing, both_bits, misplaced, block_ahead}
+use Rattle.hunk_files.proofs.HunkFaults.{one_word, word_ahead, hunk_missing, both_bits, misplaced, refused_ahead}
 use Rattle.hunk_files.proofs.object.walk.read_block.Goals as goal
 
 pub returns-in-Some-clause-own : goal.returns-in-Some-clause-own
@@ -25,17 +25,17 @@ pub returns-clause-own : goal.returns-clause-own
 returns-clause-own c = err_both c.decode.result _ _ _ c.decode.ensures.own (c.decode.ensures.object refl) (λ fault own other. block_own fault.reason own other)
 
 pub returns-in-Err-clause-fault : goal.returns-in-Err-clause-fault
-returns-in-Err-clause-fault c place may ne = hunk_missing place c.args.bytes.now c.in-Err.fault (longs-few c.args.bytes.now (omega (arith, c.in-Err.ensures.short))) c.in-Err.ensures.cut
+returns-in-Err-clause-fault c place may = hunk_missing place c.args.bytes.now c.in-Err.fault (longs-few c.args.bytes.now (omega (arith, c.in-Err.ensures.short))) c.in-Err.ensures.cut
 
 pub returns-then-has_extra-clause-fault : goal.returns-then-has_extra-clause-fault
-returns-then-has_extra-clause-fault c place may ne =
+returns-then-has_extra-clause-fault c place may =
     let bytes : List ℕ = c.args.bytes.now in
     let w : ℕ = c.of-word.result in
     word_ahead place c.args.has_content bytes (drop 1 (longs bytes)) w reasons.BothBits may (one_word bytes w (omega (arith, c.in-Ok.ensures.long.0)) (c.of-word.ensures ∙ c.in-Ok.ensures.long.1))
     (both_bits w (refuse_standing c.args.has_content (standing_of_kind (kind w))) (ap has_both_bits (sym c.word.ensures) ∙ sym c.has_extra.ensures ∙ c.if-has_extra.true))
 
 pub returns-in-Some-clause-fault : goal.returns-in-Some-clause-fault
-returns-in-Some-clause-fault c place may ne =
+returns-in-Some-clause-fault c place may =
     let bytes : List ℕ = c.args.bytes.now in
     let w : ℕ = c.of-word.result in
     word_ahead place c.args.has_content bytes (drop 1 (longs bytes)) w c.in-Some.reason may (one_word bytes w (omega (arith, c.in-Ok.ensures.long.0)) (c.of-word.ensures ∙ c.in-Ok.ensures.long.1))
@@ -46,6 +46,6 @@ pub returns-clause-fault : goal.returns-clause-fault
 returns-clause-fault c place may =
     let bytes : List ℕ = c.args.bytes.now in
     let w : ℕ = c.of-word.result in
-    err_of c.decode.result _ _ c.decode.ensures.fault
-    (λ fault h ne. block_ahead place c.args.has_content bytes (drop 1 (longs bytes)) w fault may (one_word bytes w (omega (arith, c.in-Ok.ensures.long.0)) (c.of-word.ensures ∙ c.in-Ok.ensures.long.1))
-    (ap (λ (k : Kind). refuse_standing c.args.has_content (standing_of_kind k)) (sym c.kind.ensures) ∙ sym c.refuse_place.ensures ∙ c.in_default.is) (h ne))
+    err_both c.decode.result _ _ _ c.decode.ensures.fault c.decode.ensures.reached
+    (λ fault refusal want. refused_ahead place c.args.has_content bytes (drop 1 (longs bytes)) w fault may (one_word bytes w (omega (arith, c.in-Ok.ensures.long.0)) (c.of-word.ensures ∙ c.in-Ok.ensures.long.1))
+    (ap (λ (k : Kind). refuse_standing c.args.has_content (standing_of_kind k)) (sym c.kind.ensures) ∙ sym c.refuse_place.ensures ∙ c.in_default.is) refusal want)

@@ -13,7 +13,8 @@ use Rattle.hunk_files.specs.ObjectParts.{BeginsWithText, MayStand}
 use Rattle.hunk_files.proofs.ObjectDecoding.{HunkSoFar, no_blocks, no_hunk, block_added, hunk_ended, text_with, goes_further, still_inside}
 use Rattle.hunk_blocks.specs.Faults.{FaultAhead}
 use Rattle.hunk_files.specs.ObjectFault.{BetweenHunks, MayGoOn, blocks_from, unread}
-use Rattle.hunk_files.proofs.HunkFaults.{fault_inside, hunk_ahead, may_go_on, place_behind}
+use Rattle.hunk_files.proofs.PartFaults.{fault_inside}
+use Rattle.hunk_files.proofs.HunkFaults.{block_wanted, hunk_ahead, may_go_on, place_behind}
 use Rattle.hunk_files.proofs.object.walk.read_hunk.Goals as goal
 
 pub reading-init : goal.reading-init
@@ -65,11 +66,25 @@ reading-preserved c =
     (subst Q (sym pushed) (block_added bytes c.reading.blocks.items c.reading.has_content c.reading.at c.reading.invariant c.in-Ok.read.0 c.in-Ok.read.1 here c.in-Ok.ensures.place (sym c.if-hunk_ends.ensures)))
 
 pub returns-in-Err-clause-fault : goal.returns-in-Err-clause-fault
-returns-in-Err-clause-fault c no_unit ne =
+returns-in-Err-clause-fault c no_unit =
     let bytes : List ℕ = c.args.bytes.now in
     let at : ℕ = c.reading.at in
     let place = place_behind BetweenHunks c.reading.blocks.items in
     let P : List ℕ → Type 0 = λ rest. MayGoOn place c.reading.has_content rest → FaultAhead (blocks_from place) (unread rest) c.in-Err.fault in
-    let here = subst P (take_rest bytes at) (λ may. c.in-Err.ensures.fault place may (λ e. ne (c.counted_from.ensures.reason ∙ e))) (may_go_on c.reading.blocks.items c.reading.has_content bytes at c.reading.invariant no_unit) in
+    let here = subst P (take_rest bytes at) (c.in-Err.ensures.fault place) (may_go_on c.reading.blocks.items c.reading.has_content bytes at c.reading.invariant no_unit) in
     let inside = fault_inside (blocks_from place) (drop at bytes) c.in-Err.fault here in
     hunk_ahead bytes c.reading.blocks.items c.reading.has_content at c.in-Err.fault c.counted_from.result c.reading.invariant (c.counted_from.ensures.place (omega (arith, inside, length-drop at bytes, c.reading.invariant.text.whole))) c.counted_from.ensures.reason here
+
+pub out_of_memory-requires : goal.out_of_memory-requires
+out_of_memory-requires c =
+    let bytes = c.args.bytes.now in
+    let P : List ℕ → Type 0 = λ rest. BeginsWithBlock modes.Object rest c.in-Ok.read.0 c.in-Ok.read.1 in
+    let here = subst P (take_rest bytes c.reading.at) c.in-Ok.ensures.block in
+    omega (arith, goes_further bytes c.reading.blocks.items c.reading.has_content c.reading.at c.reading.invariant c.in-Ok.read.0 c.in-Ok.read.1 here c.in-Ok.ensures.place)
+
+pub returns-then-is_err-clause-fault : goal.returns-then-is_err-clause-fault
+returns-then-is_err-clause-fault c no_unit =
+    let bytes = c.args.bytes.now in
+    let P : List ℕ → Type 0 = λ rest. BeginsWithBlock modes.Object rest c.in-Ok.read.0 c.in-Ok.read.1 in
+    let here = subst P (take_rest bytes c.reading.at) c.in-Ok.ensures.block in
+    block_wanted bytes c.reading.blocks.items c.reading.has_content c.reading.at c.in-Ok.read.0 c.in-Ok.read.1 c.out_of_memory.result c.reading.invariant here c.in-Ok.ensures.place c.out_of_memory.ensures.place c.out_of_memory.ensures.reason

@@ -10,8 +10,8 @@ use Rattle.hunk_files.proofs.UnitReading.{UnitSoFar, unit, hunk_added, no_object
 use Rattle.hunk_blocks.specs.Begins.{first_long}
 use Rattle.hunk_blocks.specs.Faults.{FaultAhead}
 use Rattle.hunk_files.specs.ObjectFault.{BetweenHunks, blocks_from, unread}
-use Rattle.hunk_files.proofs.HunkFaults.{fault_inside}
-use Rattle.hunk_files.proofs.UnitFaults.{no_unit_here, unit_ahead}
+use Rattle.hunk_files.proofs.PartFaults.{fault_inside}
+use Rattle.hunk_files.proofs.UnitFaults.{hunk_wanted, no_unit_here, unit_ahead}
 use Rattle.hunk_files.proofs.object.walk.read_unit.Goals as goal
 
 pub returns-in-Err-clause-none : goal.returns-in-Err-clause-none
@@ -45,13 +45,28 @@ reading-preserved c =
     subst Q (sym pushed) (hunk_added bytes (longs c.in-Ok.read.0) c.reading.hunks.items c.reading.at c.reading.invariant c.in-Ok-read_hunk.read.0.items c.in-Ok-read_hunk.read.1 c.in-Ok-read_hunk.ensures.hunk here)
 
 pub returns-in-Err-read_hunk-clause-fault : goal.returns-in-Err-read_hunk-clause-fault
-returns-in-Err-read_hunk-clause-fault c place may ne =
+returns-in-Err-read_hunk-clause-fault c place may =
     let bytes : List ℕ = c.args.bytes.now in
     let at : ℕ = c.reading.at in
     let P : List ℕ → Type 0 = λ rest. EndsUnit rest → ⊥ in
     let goes_on : EndsUnit (drop at bytes) → ⊥ = subst P (take_rest bytes at) (λ ends. let there = c.ends_unit.ensures.1 ends in let not_there = c.reading-test.true in cc) in
     let Q : List ℕ → Type 0 = λ rest. first_long rest ≢ unit_word → FaultAhead (blocks_from BetweenHunks) (unread rest) c.in-Err-read_hunk.fault in
-    let here = subst Q (take_rest bytes at) (λ other. c.in-Err-read_hunk.ensures.fault other (λ e. ne (c.counted_from.ensures.reason ∙ e))) (no_unit_here (drop at bytes) goes_on) in
+    let here = subst Q (take_rest bytes at) c.in-Err-read_hunk.ensures.fault (no_unit_here (drop at bytes) goes_on) in
     let inside = fault_inside (blocks_from BetweenHunks) (drop at bytes) c.in-Err-read_hunk.fault here in
     unit_ahead place bytes (unit (longs c.in-Ok.read.0) c.reading.hunks.items) at c.in-Err-read_hunk.fault c.counted_from.result c.reading.invariant
     (c.counted_from.ensures.place (omega (arith, inside, length-drop at bytes, c.reading.invariant.text.whole))) c.counted_from.ensures.reason here
+
+-- the hunk that was read last
+here : (c : goal.After-drop-hunks-then-is_err) → BeginsWithText (drop c.reading.at c.args.bytes.now) (flat_map block_text c.in-Ok-read_hunk.read.0.items) c.in-Ok-read_hunk.read.1
+here c =
+    let P : List ℕ → Type 0 = λ rest. BeginsWithText rest (flat_map block_text c.in-Ok-read_hunk.read.0.items) c.in-Ok-read_hunk.read.1 in
+    subst P (take_rest c.args.bytes.now c.reading.at) c.in-Ok-read_hunk.ensures.text
+
+pub out_of_memory-requires : goal.out_of_memory-requires
+out_of_memory-requires c =
+    let P : List ℕ → Type 0 = λ rest. BeginsWithText rest (flat_map block_text c.in-Ok-read_hunk.read.0.items) c.in-Ok-read_hunk.read.1 in
+    omega (arith, hunk_goes_on (drop c.reading.at c.args.bytes.now) c.in-Ok-read_hunk.read.0.items c.in-Ok-read_hunk.read.1 c.in-Ok-read_hunk.ensures.hunk (subst P (take_rest c.args.bytes.now c.reading.at) c.in-Ok-read_hunk.ensures.text))
+
+pub returns-then-is_err-clause-fault : goal.returns-then-is_err-clause-fault
+returns-then-is_err-clause-fault c place may =
+    hunk_wanted place c.args.bytes.now (unit (longs c.in-Ok.read.0) c.reading.hunks.items) c.reading.at c.in-Ok-read_hunk.read.0.items c.in-Ok-read_hunk.read.1 c.out_of_memory.result c.reading.invariant c.in-Ok-read_hunk.ensures.hunk (here c) c.out_of_memory.ensures.place c.out_of_memory.ensures.reason

@@ -1,12 +1,13 @@
 use Rattle.std.proofs.Common.{List, sym, ap, ◌∙◌, subst}
 use Rattle.std.proofs.lemmas.Result.{err_from_is_err_and}
 use Rattle.hunk_words.specs.Longs.{bytes_of}
+use Rattle.hunk_blocks.proofs.ListReading.{if_err}
 use Rattle.hunk_files.specs.declared.row.Row.{Row}
 use Rattle.hunk_files.specs.LoadFile.{LoadFileValue, IsLoadFile}
 use Rattle.hunk_files.specs.LoadText.{text}
 use Rattle.hunk_files.specs.Tables.{IsTable}
 use Rattle.hunk_files.proofs.Scan.{no_fault}
-use Rattle.hunk_files.proofs.Refusals.{fault_of_load}
+use Rattle.hunk_files.proofs.Refusals.{fault_not_memory, fault_of_load}
 use Rattle.hunk_files.proofs.FileReading.{begins}
 use Rattle.hunk_files.proofs.load.file.LoadFile.decode.Goals as goal
 
@@ -45,3 +46,19 @@ pub returns-in_err-size-clause-own : goal.returns-in_err-size-clause-own
 returns-in_err-size-clause-own c =
     let p = err_from_is_err_and c.from_residual.result c.from_residual.ensures.1 in
     rw (p.1, p.2) (fault_of_load c.args.bytes.now c.in_err-size.field-0.0.place c.in_err-size.field-0.0.reason c.in_err-size.ensures)
+
+pub returns-in_err-size-clause-begins : goal.returns-in_err-size-clause-begins
+returns-in_err-size-clause-begins c =
+    let p = err_from_is_err_and c.from_residual.result c.from_residual.ensures.1 in
+    rw (p.1, p.2) (λ memory. absurd (fault_not_memory c.args.bytes.now c.in_err-size.field-0.0.place c.in_err-size.field-0.0.reason c.in_err-size.ensures memory))
+
+pub returns-in_err-size-clause-reached : goal.returns-in_err-size-clause-reached
+returns-in_err-size-clause-reached c =
+    let p = err_from_is_err_and c.from_residual.result c.from_residual.ensures.1 in
+    rw (p.1, p.2) (λ memory. absurd (fault_not_memory c.args.bytes.now c.in_err-size.field-0.0.place c.in_err-size.field-0.0.reason c.in_err-size.ensures memory))
+
+pub returns-in_err-rows-clause-begins : goal.returns-in_err-rows-clause-begins
+returns-in_err-rows-clause-begins c = if_err c.from_residual-in_err-rows.result _ (λ fault memory. begins c.args.bytes.now c.in_ok-size.size c.in_ok-size.ensures)
+
+pub returns-in_err-hunks-clause-begins : goal.returns-in_err-hunks-clause-begins
+returns-in_err-hunks-clause-begins c = if_err c.from_residual-in_err-hunks.result _ (λ fault memory. begins c.args.bytes.now c.in_ok-size.size c.in_ok-size.ensures)
