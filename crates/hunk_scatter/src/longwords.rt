@@ -3,6 +3,7 @@ ghost use Rattle.std.specs.Prelude.{◌≡◌, ◌+◌, ◌<◌, ◌≤◌, ◌^
 ghost use Rattle.hunk_files.specs.Fault.{HasRefusal};
 ghost use Rattle.hunk_files.specs.Image.{declared_bytes};
 ghost use Rattle.hunk_scan.specs.Positions.{is_done};
+ghost use Rattle.hunk_scan.specs.declared.position.Position.TheVariants as positions;
 ghost use Rattle.hunk_scatter.specs.BodyLoaderFields.{Reading};
 ghost use Rattle.hunk_scatter.specs.LoaderReasons.{is_of_body};
 ghost use Rattle.hunk_scatter.specs.Rows.{entries_of};
@@ -11,26 +12,26 @@ use crate::body_state::BodyState;
 use crate::history::History;
 use crate::store::{run_bytes, take_offsets, take_run, take_word};
 use hunk_files::Row;
-use hunk_scan::{Phase, Position};
+use hunk_scan::{OpenHunk, Phase, Position};
 use hunk_words::{Reason, word_at};
 
 /// Takes longwords from the front of the piece, and gives their number of bytes: those of a run, or
-/// of a list of offsets, at once, and else one. The position stands for itself, so that each caller
-/// who knows its phase has the tests of that phase alone compiled.
+/// of a list of offsets, at once, and else one. The state stands at this phase of this hunk; where the
+/// caller knows the phase, nothing is compiled of what it does at others.
 #[inline(always)]
 fn take_at(
     store: &mut [u8],
     rows: &[Row],
     state: &mut BodyState,
-    position: Position,
+    hunk: OpenHunk,
+    phase: Phase,
     history: &History,
     piece: &[u8],
 ) -> Result<usize, Reason>
     requires size { length store.old ≡ declared_bytes (entries_of rows.now) }
     requires reading { Reading rows.now store.old state.old [] history.now.bytes }
-    requires more { is_done state.old.position ≡ false }
     requires some { 4 ≤ length piece.now }
-    requires here { position ≡ state.old.position }
+    requires here { positions.Body hunk phase ≡ state.old.position }
     ensures some { IfOk result (λ n. 0 < n) }
     ensures inside { IfOk result (λ n. n ≤ length piece.now) }
     ensures reading { IfOk result
@@ -41,6 +42,7 @@ fn take_at(
 {
     // The history is for the contract alone.
     let _ = history;
+    let position = Position::Body(hunk, phase);
     let here = BodyState { position, ..*state };
     if position.run() > 0 {
         let count = run_bytes(position, piece.len());
@@ -69,12 +71,14 @@ fn take_front(
     store: &mut [u8],
     rows: &[Row],
     state: &mut BodyState,
+    hunk: OpenHunk,
+    phase: Phase,
     history: &History,
     piece: &[u8],
 ) -> Result<usize, Reason>
     requires size { length store.old ≡ declared_bytes (entries_of rows.now) }
     requires reading { Reading rows.now store.old state.old [] history.now.bytes }
-    requires more { is_done state.old.position ≡ false }
+    requires here { positions.Body hunk phase ≡ state.old.position }
     requires some { 4 ≤ length piece.now }
     ensures some { IfOk result (λ n. 0 < n) }
     ensures inside { IfOk result (λ n. n ≤ length piece.now) }
@@ -84,114 +88,25 @@ fn take_front(
         (λ r. HasRefusal (history.now.bytes ++ piece.now) (length history.now.bytes) r) }
     ensures own { IfErr result (λ r. IsTrue (is_of_body r)) }
 {
-    let Position::Body(hunk, phase) = state.position else {
-        return take_at(store, rows, state, state.position, history, piece);
-    };
+    macro_rules! at {
+        ($phase:expr) => {
+            take_at(store, rows, state, hunk, $phase, history, piece)
+        };
+    }
     match phase {
-        Phase::FirstBlock => take_at(
-            store,
-            rows,
-            state,
-            Position::Body(hunk, Phase::FirstBlock),
-            history,
-            piece,
-        ),
-        Phase::BlockWord => take_at(
-            store,
-            rows,
-            state,
-            Position::Body(hunk, Phase::BlockWord),
-            history,
-            piece,
-        ),
-        Phase::NameCount => take_at(
-            store,
-            rows,
-            state,
-            Position::Body(hunk, Phase::NameCount),
-            history,
-            piece,
-        ),
-        Phase::LongCount => take_at(
-            store,
-            rows,
-            state,
-            Position::Body(hunk, Phase::LongCount),
-            history,
-            piece,
-        ),
-        Phase::ContentSize => take_at(
-            store,
-            rows,
-            state,
-            Position::Body(hunk, Phase::ContentSize),
-            history,
-            piece,
-        ),
-        Phase::BssSize => take_at(
-            store,
-            rows,
-            state,
-            Position::Body(hunk, Phase::BssSize),
-            history,
-            piece,
-        ),
-        Phase::Content { longs, owed } => take_at(
-            store,
-            rows,
-            state,
-            Position::Body(hunk, Phase::Content { longs, owed }),
-            history,
-            piece,
-        ),
-        Phase::Payload { owed } => take_at(
-            store,
-            rows,
-            state,
-            Position::Body(hunk, Phase::Payload { owed }),
-            history,
-            piece,
-        ),
-        Phase::GroupCount => take_at(
-            store,
-            rows,
-            state,
-            Position::Body(hunk, Phase::GroupCount),
-            history,
-            piece,
-        ),
-        Phase::Target { owed } => take_at(
-            store,
-            rows,
-            state,
-            Position::Body(hunk, Phase::Target { owed }),
-            history,
-            piece,
-        ),
-        Phase::Offset { target, owed } => take_at(
-            store,
-            rows,
-            state,
-            Position::Body(hunk, Phase::Offset { target, owed }),
-            history,
-            piece,
-        ),
-        Phase::EntryWord => take_at(
-            store,
-            rows,
-            state,
-            Position::Body(hunk, Phase::EntryWord),
-            history,
-            piece,
-        ),
-        Phase::Symbol { owed } => take_at(
-            store,
-            rows,
-            state,
-            Position::Body(hunk, Phase::Symbol { owed }),
-            history,
-            piece,
-        ),
+        Phase::FirstBlock => at!(Phase::FirstBlock),
+        Phase::BlockWord => at!(Phase::BlockWord),
+        Phase::NameCount => at!(Phase::NameCount),
+        Phase::LongCount => at!(Phase::LongCount),
+        Phase::ContentSize => at!(Phase::ContentSize),
+        Phase::BssSize => at!(Phase::BssSize),
+        Phase::Content { longs, owed } => at!(Phase::Content { longs, owed }),
+        Phase::Payload { owed } => at!(Phase::Payload { owed }),
+        Phase::GroupCount => at!(Phase::GroupCount),
+        Phase::Target { owed } => at!(Phase::Target { owed }),
+        Phase::Offset { target, owed } => at!(Phase::Offset { target, owed }),
+        Phase::EntryWord => at!(Phase::EntryWord),
+        Phase::Symbol { owed } => at!(Phase::Symbol { owed }),
     }
 }
 
@@ -220,11 +135,11 @@ pub fn take_longwords(
     let mut taken = 0;
     let mut history = history.and(&[]);
     'longwords: while piece.len() - taken >= 4 {
-        if state.position.is_done() {
+        let Position::Body(hunk, phase) = state.position else {
             return (taken, None);
-        }
+        };
         let rest = &piece[taken..];
-        match take_front(store, rows, state, &history, rest) {
+        match take_front(store, rows, state, hunk, phase, &history, rest) {
             Ok(count) => {
                 taken += count;
                 history = history.and(&rest[..count]);
