@@ -6,6 +6,7 @@ use Rattle.hunk_files.specs.Fault.{HasRefusal}
 use Rattle.hunk_files.specs.Image.{declared_bytes}
 use Rattle.hunk_files.specs.declared.row.Row.{Row}
 use Rattle.hunk_scan.specs.Positions.{is_done, run}
+use Rattle.hunk_scan.specs.declared.position.Position.{Position}
 use Rattle.hunk_scatter.specs.declared.body_state.BodyState.{BodyState}
 use Rattle.hunk_scatter.specs.BodyLoaderFields.{Reading}
 use Rattle.hunk_scatter.specs.BodySteps.{refusal, step_body, pass_body, IsInStore}
@@ -46,3 +47,8 @@ module _ (rows : List Row) (store : List ℕ) (state : BodyState) (fed : List �
 pub read_as : (rows : List Row) (store store2 : List ℕ) (state state2 : BodyState) (fed : List ℕ) → store2 ≡ store → state2 ≡ state → Reading rows store state [] fed → Reading rows store2 state2 [] fed
 read_as rows store store2 state state2 fed e d r =
     subst (λ (xs : List ℕ). Reading rows xs state2 [] fed) (sym e) (subst (λ (s : BodyState). Reading rows store s [] fed) (sym d) r)
+
+-- at the position by another name
+pub read_at : (rows : List Row) (store : List ℕ) (state : BodyState) (position : Position) (fed : List ℕ) → position ≡ state.position → Reading rows store state [] fed →
+    Reading rows store (record { hunk = state.hunk; start = state.start; position = position }) [] fed
+read_at rows store state position fed same r = subst (λ (p : Position). Reading rows store (record { hunk = state.hunk; start = state.start; position = p }) [] fed) (sym same) r

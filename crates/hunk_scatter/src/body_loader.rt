@@ -69,10 +69,10 @@ impl BodyLoader {
         if self.assembler.pending() > 0 || piece.len() < 4 || self.state.position.is_done() {
             return Ok(0);
         }
-        let (state, taken, refused) = take_longwords(
+        let (taken, refused) = take_longwords(
             self.store.as_mut_slice(),
             self.rows.as_slice(),
-            self.state,
+            &mut self.state,
             &self.history,
             piece,
         );
@@ -82,7 +82,6 @@ impl BodyLoader {
             self.refused = Some(fault);
             return Err(fault);
         }
-        self.state = state;
         self.count += taken as u64;
         self.history = self.history.and(&piece[..taken]);
         Ok(taken)

@@ -3,6 +3,7 @@ ghost use Rattle.std.specs.Prelude.{◌≡◌, ◌+◌, ◌<◌, ◌≤◌, ◌^
 ghost use Rattle.hunk_files.specs.Fault.{HasRefusal};
 ghost use Rattle.hunk_files.specs.Image.{declared_bytes};
 ghost use Rattle.hunk_scan.specs.Positions.{is_done};
+ghost use Rattle.hunk_scan.specs.declared.position.Position.TheVariants as positions;
 ghost use Rattle.hunk_scatter.specs.BodyLoaderFields.{Reading};
 ghost use Rattle.hunk_scatter.specs.LoaderReasons.{is_of_body};
 ghost use Rattle.hunk_scatter.specs.Rows.{entries_of};
@@ -11,113 +12,140 @@ use crate::body_state::BodyState;
 use crate::history::History;
 use crate::store::{run_bytes, take_offsets, take_run, take_word};
 use hunk_files::Row;
-use hunk_scan::{Phase, Position};
+use hunk_scan::{OpenHunk, Phase, Position};
 use hunk_words::{Reason, word_at};
 
-/// Takes the first longword of the piece, and gives what it leads to and its number of bytes.
+/// Takes longwords from the front of the piece, and gives their number of bytes: those of a run, or
+/// of a list of offsets, at once, and else one. The state stands at this phase of this hunk; where the
+/// caller knows the phase, nothing is compiled of what it does at others.
 #[inline(always)]
-fn take_first(
+fn take_at(
     store: &mut [u8],
     rows: &[Row],
-    state: BodyState,
+    state: &mut BodyState,
+    hunk: OpenHunk,
+    phase: Phase,
     history: &History,
     piece: &[u8],
-) -> Result<(BodyState, usize), Reason>
+) -> Result<usize, Reason>
     requires size { length store.old ≡ declared_bytes (entries_of rows.now) }
-    requires reading { Reading rows.now store.old state [] history.now.bytes }
-    requires more { is_done state.position ≡ false }
+    requires reading { Reading rows.now store.old state.old [] history.now.bytes }
     requires some { 4 ≤ length piece.now }
-    ensures some { IfOk result (λ r. 0 < r.1) }
-    ensures inside { IfOk result (λ r. r.1 ≤ length piece.now) }
+    requires here { positions.Body hunk phase ≡ state.old.position }
+    ensures some { IfOk result (λ n. 0 < n) }
+    ensures inside { IfOk result (λ n. n ≤ length piece.now) }
     ensures reading { IfOk result
-        (λ r. Reading rows.now store.new r.0 [] (history.now.bytes ++ take r.1 piece.now)) }
+        (λ n. Reading rows.now store.new state.new [] (history.now.bytes ++ take n piece.now)) }
     ensures refusal { IfErr result
         (λ r. HasRefusal (history.now.bytes ++ piece.now) (length history.now.bytes) r) }
     ensures own { IfErr result (λ r. IsTrue (is_of_body r)) }
 {
     // The history is for the contract alone.
     let _ = history;
-    match take_word(store, rows, state, word_at(piece, 0)) {
-        Ok(state) => Ok((state, 4)),
-        Err(reason) => Err(reason),
+    let position = Position::Body(hunk, phase);
+    let here = BodyState { position, ..*state };
+    if position.run() > 0 {
+        let count = run_bytes(position, piece.len());
+        *state = take_run(store, rows, here, &piece[..count]);
+        return Ok(count);
+    }
+    match take_offsets(store, rows, here, piece) {
+        Some((next, count)) => {
+            *state = next;
+            Ok(4 * count)
+        }
+        None => match take_word(store, rows, here, word_at(piece, 0)) {
+            Ok(next) => {
+                *state = next;
+                Ok(4)
+            }
+            Err(reason) => Err(reason),
+        },
     }
 }
 
-/// Takes longwords from the front of the piece, and gives what they lead to and their number of
-/// bytes: those of a run, or of a list of offsets, at once, and else one.
+/// Takes longwords from the front of the piece, and gives their number of bytes. The phases are told
+/// apart here, once for all that is asked of them.
 #[inline(always)]
 fn take_front(
     store: &mut [u8],
     rows: &[Row],
-    state: BodyState,
+    state: &mut BodyState,
+    hunk: OpenHunk,
+    phase: Phase,
     history: &History,
     piece: &[u8],
-) -> Result<(BodyState, usize), Reason>
+) -> Result<usize, Reason>
     requires size { length store.old ≡ declared_bytes (entries_of rows.now) }
-    requires reading { Reading rows.now store.old state [] history.now.bytes }
-    requires more { is_done state.position ≡ false }
+    requires reading { Reading rows.now store.old state.old [] history.now.bytes }
+    requires here { positions.Body hunk phase ≡ state.old.position }
     requires some { 4 ≤ length piece.now }
-    ensures some { IfOk result (λ r. 0 < r.1) }
-    ensures inside { IfOk result (λ r. r.1 ≤ length piece.now) }
+    ensures some { IfOk result (λ n. 0 < n) }
+    ensures inside { IfOk result (λ n. n ≤ length piece.now) }
     ensures reading { IfOk result
-        (λ r. Reading rows.now store.new r.0 [] (history.now.bytes ++ take r.1 piece.now)) }
+        (λ n. Reading rows.now store.new state.new [] (history.now.bytes ++ take n piece.now)) }
     ensures refusal { IfErr result
         (λ r. HasRefusal (history.now.bytes ++ piece.now) (length history.now.bytes) r) }
     ensures own { IfErr result (λ r. IsTrue (is_of_body r)) }
 {
-    if state.position.run() > 0 {
-        let count = run_bytes(state.position, piece.len());
-        return Ok((take_run(store, rows, state, &piece[..count]), count));
+    macro_rules! at {
+        ($phase:expr) => {
+            take_at(store, rows, state, hunk, $phase, history, piece)
+        };
     }
-    match state.position {
-        Position::Body(_, Phase::Offset { target: _, owed: _ }) => {
-            match take_offsets(store, rows, state, piece) {
-                Some((next, count)) => Ok((next, 4 * count)),
-                None => take_first(store, rows, state, history, piece),
-            }
-        }
-        _ => take_first(store, rows, state, history, piece),
+    match phase {
+        Phase::FirstBlock => at!(Phase::FirstBlock),
+        Phase::BlockWord => at!(Phase::BlockWord),
+        Phase::NameCount => at!(Phase::NameCount),
+        Phase::LongCount => at!(Phase::LongCount),
+        Phase::ContentSize => at!(Phase::ContentSize),
+        Phase::BssSize => at!(Phase::BssSize),
+        Phase::Content { longs, owed } => at!(Phase::Content { longs, owed }),
+        Phase::Payload { owed } => at!(Phase::Payload { owed }),
+        Phase::GroupCount => at!(Phase::GroupCount),
+        Phase::Target { owed } => at!(Phase::Target { owed }),
+        Phase::Offset { target, owed } => at!(Phase::Offset { target, owed }),
+        Phase::EntryWord => at!(Phase::EntryWord),
+        Phase::Symbol { owed } => at!(Phase::Symbol { owed }),
     }
 }
 
 /// Takes the whole longwords of the piece, up to the end of the file or to one that is refused, and
-/// gives what they lead to, their number of bytes, and why the next is refused, where it is.
+/// gives their number of bytes, and why the next is refused, where it is.
 #[inline(always)]
 pub fn take_longwords(
     store: &mut [u8],
     rows: &[Row],
-    state: BodyState,
+    state: &mut BodyState,
     history: &History,
     piece: &[u8],
-) -> (BodyState, usize, Option<Reason>)
+) -> (usize, Option<Reason>)
     requires size { length store.old ≡ declared_bytes (entries_of rows.now) }
-    requires reading { Reading rows.now store.old state [] history.now.bytes }
+    requires reading { Reading rows.now store.old state.old [] history.now.bytes }
     requires some { 4 ≤ length piece.now }
     requires room { length history.now.bytes + length piece.now < 2 ^ 64 }
-    ensures inside { result.1 ≤ length piece.now }
-    ensures some { IfNone result.2 (is_done state.position ≡ false → 0 < result.1) }
-    ensures reading { IfNone result.2 (Reading rows.now store.new result.0 [] (history.now.bytes
-        ++ take result.1 piece.now)) }
-    ensures refusal { IfSome result.2
-        (λ r. HasRefusal (history.now.bytes ++ piece.now) (length history.now.bytes + result.1) r) }
-    ensures own { IfSome result.2 (λ r. IsTrue (is_of_body r)) }
+    ensures inside { result.0 ≤ length piece.now }
+    ensures some { IfNone result.1 (is_done state.old.position ≡ false → 0 < result.0) }
+    ensures reading { IfNone result.1
+        (Reading rows.now store.new state.new [] (history.now.bytes ++ take result.0 piece.now)) }
+    ensures refusal { IfSome result.1
+        (λ r. HasRefusal (history.now.bytes ++ piece.now) (length history.now.bytes + result.0) r) }
+    ensures own { IfSome result.1 (λ r. IsTrue (is_of_body r)) }
 {
-    let mut state = state;
     let mut taken = 0;
     let mut history = history.and(&[]);
     'longwords: while piece.len() - taken >= 4 {
-        if state.position.is_done() {
-            return (state, taken, None);
-        }
+        let Position::Body(hunk, phase) = state.position else {
+            return (taken, None);
+        };
         let rest = &piece[taken..];
-        match take_front(store, rows, state, &history, rest) {
-            Ok((next, count)) => {
-                state = next;
+        match take_front(store, rows, state, hunk, phase, &history, rest) {
+            Ok(count) => {
                 taken += count;
                 history = history.and(&rest[..count]);
             }
-            Err(reason) => return (state, taken, Some(reason)),
+            Err(reason) => return (taken, Some(reason)),
         }
     }
-    (state, taken, None)
+    (taken, None)
 }

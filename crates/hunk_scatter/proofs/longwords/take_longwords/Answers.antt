@@ -10,6 +10,6 @@ longwords-preserved c =
       rest_within c.args.piece.now c.longwords.taken c.in-Ok.count i.0 c.in-Ok.ensures.inside,
       fed_on c.args.history.now.bytes c.args.piece.now c.longwords.history.bytes c.and-history-in-Ok.result.bytes c.longwords.taken c.in-Ok.count i.1 fed,
       c.take_front.auto.store ∙ i.2,
-      subst (λ (bs : List ℕ). Reading c.args.rows.now c.take_front.new.store c.in-Ok.next [] bs) (sym fed) c.in-Ok.ensures.reading,
+      subst (λ (bs : List ℕ). Reading c.args.rows.now c.take_front.new.store c.take_front.new.state [] bs) (sym fed) c.in-Ok.ensures.reading,
       λ e. absurd (omega (arith, e, c.in-Ok.ensures.some)),
     )
