@@ -1,6 +1,6 @@
 //! The numbers of a command line, HEX and N.
 ghost use Rattle.std.specs.Prelude.{◌≡◌, ◌==◌, slice_index};
-ghost use Rattle.hunkinfo.specs.Line.{base_spelled, budget_spelled};
+ghost use Rattle.hunk_orders.specs.Line.{base_spelled, budget_spelled};
 
 // `from_str_radix` and `parse` pass over a plus.
 fn has_plus(text: &str) -> bool

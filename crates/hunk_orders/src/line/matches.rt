@@ -1,7 +1,7 @@
 //! What clap found for an argument.
 ghost use Rattle.std.specs.Prelude.{◌≡◌, IfOk, option_map};
 ghost use Rattle.clap.specs.Words.{first_of, found_of, rows_of};
-ghost use Rattle.hunkinfo.specs.Line.{is_set};
+ghost use Rattle.hunk_orders.specs.Line.{is_set};
 
 use crate::asked::FileName;
 use clap::ArgMatches;

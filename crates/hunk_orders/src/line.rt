@@ -4,10 +4,10 @@ ghost use Rattle.std.specs.String.{string_bytes};
 ghost use Rattle.clap.specs.Words.{found_of, kind_of, rows_of, subcommand_of, takes};
 ghost use Rattle.clap.specs.Kinds.{IsAmong};
 ghost use Rattle.clap.specs.Faults.{fault_of as clap_fault};
-ghost use Rattle.hunkinfo.specs.Command as spec;
-ghost use Rattle.hunkinfo.specs.Asked.{IsHelp};
-ghost use Rattle.hunkinfo.specs.Line.{entered_order, order_of, relocate_order, rewrite_order, show_order, taken, validate_order};
-ghost use Rattle.hunkinfo.specs.declared.asked.OrderFault.TheVariants.{Line, Memory};
+ghost use Rattle.hunk_orders.specs.Command as spec;
+ghost use Rattle.hunk_orders.specs.Asked.{IsHelp};
+ghost use Rattle.hunk_orders.specs.Line.{entered_order, order_of, relocate_order, rewrite_order, show_order, taken, validate_order};
+ghost use Rattle.hunk_orders.specs.declared.asked.OrderFault.TheVariants.{Line, Memory};
 
 mod command;
 mod matches;

@@ -6,9 +6,9 @@ use Rattle.std.specs.Str.Parse.{digits_value}
 use Rattle.std.specs.Char.{digit_value}
 use Rattle.std.specs.List.{list_all}
 use Rattle.clap.specs.Words.{Row, Text, first_of, subcommand_of}
-use Rattle.hunkinfo.specs.Command.{hunkinfo}
-use Rattle.hunkinfo.specs.declared.asked.Order.{Order}
-use Rattle.hunkinfo.specs.declared.asked.Order.TheVariants.{Show, Validate, Relocate, Rewrite}
+use Rattle.hunk_orders.specs.Command.{hunkinfo}
+use Rattle.hunk_orders.specs.declared.asked.Order.{Order}
+use Rattle.hunk_orders.specs.declared.asked.Order.TheVariants.{Show, Validate, Relocate, Rewrite}
 
 -- the words that stand for none
 abbrev pub stored : List Text

@@ -2,7 +2,7 @@
 ghost use Rattle.std.specs.Prelude.{◌≡◌, IfOk, codes, false};
 ghost use Rattle.clap.specs.Words.{app_of, new_app, new_rule, rule_of};
 ghost use Rattle.clap.specs.declared.builder.command.Command.TheViews.{out-Command as fields_of};
-ghost use Rattle.hunkinfo.specs.Command as spec;
+ghost use Rattle.hunk_orders.specs.Command as spec;
 
 use clap::{Arg, ArgAction, Command};
 use std::alloc::{AllocError, Global};

@@ -7,8 +7,8 @@ use Rattle.clap.specs.declared.error.Error.{Error}
 use Rattle.clap.specs.declared.error.kind.ErrorKind.{ErrorKind}
 use Rattle.clap.specs.declared.error.kind.ErrorKind.TheVariants as kind
 use Rattle.clap.proofs.OnLiterals.{clap_on_literals}
-use Rattle.hunkinfo.specs.Command.{hunkinfo}
-use Rattle.hunkinfo.proofs.line.order_in.Goals as goal
+use Rattle.hunk_orders.specs.Command.{hunkinfo}
+use Rattle.hunk_orders.proofs.line.order_in.Goals as goal
 
 pub returns-in-Err-clause-err : goal.returns-in-Err-clause-err
 returns-in-Err-clause-err g c = λ taken.

@@ -1,6 +1,6 @@
 //! What a command line asks for.
 ghost use Rattle.std.specs.Prelude.{◌≡◌, IfOk};
-ghost use Rattle.hunkinfo.specs.declared.asked.OrderFault.TheVariants.{Memory};
+ghost use Rattle.hunk_orders.specs.declared.asked.OrderFault.TheVariants.{Memory};
 
 use std::alloc::{AllocError, Global};
 use std::marker::Model;

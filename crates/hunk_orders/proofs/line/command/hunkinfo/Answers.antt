@@ -1,8 +1,8 @@
 use Rattle.std.proofs.Common.{ap, ap₂, codes, ◌∙◌, ◌≡◌}
 use Rattle.std.proofs.lemmas.Result.{IfOk-weaker}
 use Rattle.clap.specs.Words.{App, Shape, app_of, with_subcommand}
-use Rattle.hunkinfo.specs.Command as spec
-use Rattle.hunkinfo.proofs.line.command.hunkinfo.Goals as goal
+use Rattle.hunk_orders.specs.Command as spec
+use Rattle.hunk_orders.proofs.line.command.hunkinfo.Goals as goal
 
 abbrev top_of : App → Shape
 top_of a = a.top

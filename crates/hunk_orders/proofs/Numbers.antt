@@ -6,7 +6,7 @@ use Rattle.std.specs.Char.{digit_value}
 use Rattle.std.proofs.lemmas.Bool.{lt-ltb, ltb-true, le-ltb}
 use Rattle.std.proofs.lemmas.Int.Digits.{digits_value-lt}
 use Rattle.clap.proofs.WalkLemmas.{both}
-use Rattle.hunkinfo.specs.Line.{are_digits, base_spelled, budget_spelled}
+use Rattle.hunk_orders.specs.Line.{are_digits, base_spelled, budget_spelled}
 
 not_below : (a b : ℕ) → b ≤ a → nat_lt a b ≡ false
 not_below a b h = le-ltb a b h

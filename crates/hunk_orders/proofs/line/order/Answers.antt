@@ -4,14 +4,14 @@ use Rattle.std.proofs.lemmas.Bool.{le-ltb, lt-ltb}
 use Rattle.std.proofs.lemmas.List.{length-map}
 use Rattle.std.proofs.lemmas.Result.{IfErr-weaker, IfOk-weaker}
 use Rattle.clap.specs.Words.{subcommand_of, takes, Text}
-use Rattle.hunkinfo.specs.declared.asked.OrderFault.TheVariants.{Line, Memory}
-use Rattle.hunkinfo.specs.Command.{hunkinfo}
-use Rattle.hunkinfo.specs.Line as spec
-use Rattle.hunkinfo.specs.Asked.{IsHelp}
+use Rattle.hunk_orders.specs.declared.asked.OrderFault.TheVariants.{Line, Memory}
+use Rattle.hunk_orders.specs.Command.{hunkinfo}
+use Rattle.hunk_orders.specs.Line as spec
+use Rattle.hunk_orders.specs.Asked.{IsHelp}
 use Rattle.clap.specs.Kinds.{IsAmong}
 use Rattle.clap.specs.Faults.{fault_of}
 use Rattle.clap.specs.declared.error.kind.ErrorKind.TheVariants as kind
-use Rattle.hunkinfo.proofs.line.order.Goals as goal
+use Rattle.hunk_orders.proofs.line.order.Goals as goal
 
 taken_short : (words : List Text) → length words < 2 → spec.taken words ≡ spec.stored
 taken_short words short = rw (lt-ltb (length words) 2 short) refl
