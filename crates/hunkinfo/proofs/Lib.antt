@@ -1,4 +1,1 @@
-mod Literals
-mod Numbers
 mod Telling
-mod Vacuity

@@ -6,10 +6,10 @@ use Rattle.hunk_words.specs.Longs.{bytes_of}
 use Rattle.hunk_words.specs.declared.reason.Reason.TheVariants as reasons
 use Rattle.hunk_files.specs.LoadFile.{LoadFileValue, IsLoadFile}
 use Rattle.hunk_files.specs.LoadText.{text}
-use Rattle.hunkinfo.specs.declared.asked.Order.{Order}
-use Rattle.hunkinfo.specs.declared.asked.Order.TheVariants as orders
-use Rattle.hunkinfo.specs.declared.asked.OrderFault.{OrderFault}
-use Rattle.hunkinfo.specs.declared.asked.OrderFault.TheVariants.{Help, Line, Memory}
+use Rattle.hunk_orders.specs.declared.asked.Order.{Order}
+use Rattle.hunk_orders.specs.declared.asked.Order.TheVariants as orders
+use Rattle.hunk_orders.specs.declared.asked.OrderFault.{OrderFault}
+use Rattle.hunk_orders.specs.declared.asked.OrderFault.TheVariants.{Help, Line, Memory}
 use Rattle.hunk_commands.specs.declared.fault.RunFault.{RunFault}
 use Rattle.hunk_commands.specs.declared.fault.RunFault.TheVariants as faults
 use Rattle.hunkinfo.specs.declared.run.listing.Listing.{Listing}

@@ -1,12 +1,10 @@
 //! The program hunkinfo: lists, checks, relocates and rewrites AmigaDOS hunk files.
 #![tactic(auto)]
 
-mod asked;
-mod line;
 mod run;
 mod to_file;
 
-use crate::asked::OrderFault;
+use hunk_orders::OrderFault;
 use hunk_words::{FromWrite, LongWriter};
 use std::process::ExitCode;
 use std::{env, io};

@@ -5,20 +5,19 @@ ghost use Rattle.clap.specs.Words.{takes};
 ghost use Rattle.clap.specs.Kinds.{IsAmong};
 ghost use Rattle.clap.specs.Faults.{fault_of};
 ghost use Rattle.clap.specs.declared.error.kind.ErrorKind.TheVariants.{DisplayHelp};
-ghost use Rattle.hunkinfo.specs.declared.asked.Order.{Order};
+ghost use Rattle.hunk_orders.specs.declared.asked.Order.{Order};
 ghost use Rattle.hunkinfo.specs.Status.{Prints, TellsStatus};
-ghost use Rattle.hunkinfo.specs.Command.{hunkinfo};
-ghost use Rattle.hunkinfo.specs.Line.{order_of, taken};
+ghost use Rattle.hunk_orders.specs.Command.{hunkinfo};
+ghost use Rattle.hunk_orders.specs.Line.{order_of, taken};
 ghost use Rattle.hunkinfo.specs.Runs.{IsDone, Lists, PrintsNoHelp, PrintsRefusal};
 
 mod listing;
 mod rewriting;
 
-use crate::asked::{FileName, Order, OrderFault};
-use crate::line::order;
 use crate::run::listing::{Listing, list_file};
 use crate::run::rewriting::rewrite_file;
 use hunk_commands::{OUT_OF_MEMORY, RunFault};
+use hunk_orders::{FileName, Order, OrderFault, order};
 use hunk_words::{LongWriter, Sink};
 use std::alloc::Global;
 use std::rt::Files;

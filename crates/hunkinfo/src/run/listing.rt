@@ -8,9 +8,9 @@ ghost use Rattle.hunkinfo.specs.Status.{TellsStatus};
 ghost use Rattle.hunkinfo.specs.Refusals.{RefusesListing, RefusesSource, SpellsNone};
 ghost use Rattle.hunkinfo.specs.Runs.{Lists, ListsSource, ReadsNoText};
 
-use crate::asked::FileName;
 use crate::run::FILE_BYTES;
 use hunk_commands::{RunFault, read_whole, relocate, show, unhex, validate};
+use hunk_orders::FileName;
 use hunk_scatter::Limits;
 use hunk_words::{Fault, FromRead, FromSlice, LongWriter, Sink, Source};
 use std::alloc::Global;

@@ -2,11 +2,11 @@
 ghost use Rattle.std.specs.Prelude.{IfOk};
 ghost use Rattle.hunkinfo.specs.Runs.{TellsRewriting};
 
-use crate::asked::FileName;
 use crate::run::FILE_BYTES;
 use crate::to_file::ToFile;
 use hunk_commands::{RunFault, rewrite};
 use hunk_listing::push_rewriting;
+use hunk_orders::FileName;
 use hunk_words::{FromRead, LongWriter};
 use std::alloc::Global;
 use std::fs;

@@ -1,0 +1,89 @@
+//! What a command line asks for.
+ghost use Rattle.std.specs.Prelude.{◌≡◌, IfOk};
+ghost use Rattle.hunk_orders.specs.declared.asked.OrderFault.TheVariants.{Memory};
+
+use std::alloc::{AllocError, Global};
+use std::marker::Model;
+
+/// A file's name, as the command line has it.
+#[derive(Debug, Drop)]
+pub struct FileName {
+    text: String,
+}
+
+impl Model for FileName {
+    ghost use Rattle.std.specs.Prelude.{List, ℕ};
+    ghost use Rattle.std.specs.String.{string_bytes};
+
+    ghost Value = { List ℕ };
+
+    ghost view = { λ name. string_bytes name.text };
+}
+
+impl FileName {
+    /// A name of its own with the same text.
+    pub(crate) fn new(alloc: Global, text: &str) -> Result<FileName, AllocError>
+        ensures { IfOk result (λ name. name ≡ text.now) }
+    {
+        Ok(FileName {
+            text: String::from_str(alloc, text)?,
+        })
+    }
+
+    /// The name's text.
+    pub fn as_str(&self) -> &str
+        ensures { result.now ≡ self.now }
+    {
+        self.text.as_str()
+    }
+}
+
+/// What the command line asks for. Where `file` is `None`, standard input is read; where `hex` is
+/// set, the input is hexadecimal text.
+#[derive(Debug, Drop)]
+pub enum Order {
+    /// `show`: lists a load file or an object file.
+    Show {
+        hex: bool,
+        file: Option<FileName>,
+    },
+    /// `validate`: checks a load file or an object file.
+    Validate {
+        hex: bool,
+        file: Option<FileName>,
+    },
+    /// `relocate`: loads a load file from the address `base` on, and prints its segments, which
+    /// may have at most `budget` bytes together.
+    Relocate {
+        hex: bool,
+        base: u32,
+        budget: u64,
+        file: Option<FileName>,
+    },
+    /// `rewrite`: writes the file `input` again, to `output`. Where `strip` is set, what a loader
+    /// does not need is left out.
+    Rewrite {
+        strip: bool,
+        input: FileName,
+        output: FileName,
+    },
+}
+
+/// Why a command line is no order.
+#[derive(Debug, Drop)]
+pub enum OrderFault {
+    /// The words are none of the program's command lines.
+    Line,
+    /// The words ask for help, which is this text.
+    Help(String),
+    /// No memory was given.
+    Memory,
+}
+
+impl From<AllocError> for OrderFault {
+    ghost from_gives = { λ _ fault. fault ≡ Memory };
+
+    fn from(_error: AllocError) -> OrderFault {
+        OrderFault::Memory
+    }
+}

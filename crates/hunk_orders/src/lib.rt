@@ -1,0 +1,10 @@
+//! The command line of hunkinfo: which order its words are, or why they are none.
+#![tactic(auto)]
+
+mod asked;
+mod line;
+#[cfg(test)]
+mod tests;
+
+pub use crate::asked::{FileName, Order, OrderFault};
+pub use crate::line::order;

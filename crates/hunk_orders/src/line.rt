@@ -1,0 +1,153 @@
+//! The order that the words of a command line are.
+ghost use Rattle.std.specs.Prelude.{◌≡◌, ◌⊎◌, IfOk, IfErr, map, true};
+ghost use Rattle.std.specs.String.{string_bytes};
+ghost use Rattle.clap.specs.Words.{found_of, kind_of, rows_of, subcommand_of, takes};
+ghost use Rattle.clap.specs.Kinds.{IsAmong};
+ghost use Rattle.clap.specs.Faults.{fault_of as clap_fault};
+ghost use Rattle.hunk_orders.specs.Command as spec;
+ghost use Rattle.hunk_orders.specs.Asked.{IsHelp};
+ghost use Rattle.hunk_orders.specs.Line.{entered_order, order_of, relocate_order, rewrite_order, show_order, taken, validate_order};
+ghost use Rattle.hunk_orders.specs.declared.asked.OrderFault.TheVariants.{Line, Memory};
+
+mod command;
+mod matches;
+mod numbers;
+
+use crate::asked::{Order, OrderFault};
+use clap::error::ErrorKind;
+use clap::{ArgMatches, Error};
+use command::hunkinfo;
+use matches::{is_set, name_of, text_of};
+use numbers::{base_of, budget_of};
+use std::alloc::Global;
+use std::convert::AsStr;
+
+/// The segment bytes that `relocate` may hold where the command line does not say.
+const DEFAULT_BUDGET: u64 = 16_777_216;
+
+// The words that stand for none.
+static STORED: [&str; 5] = ["hunkinfo", "relocate", "--hex", "--base", "00000000"];
+
+fn show_order(alloc: Global, found: &ArgMatches<'_>) -> Result<Order, OrderFault>
+    ensures ok { IfOk result (λ order. show_order (rows_of (found_of found.now)) ≡ Some order) }
+    ensures err { IfErr result (λ fault. fault ≡ Memory) }
+{
+    Ok(Order::Show {
+        hex: is_set(found, "hex"),
+        file: name_of(alloc, found, "FILE")?,
+    })
+}
+
+fn validate_order(alloc: Global, found: &ArgMatches<'_>) -> Result<Order, OrderFault>
+    ensures ok { IfOk result (λ order. validate_order (rows_of (found_of found.now)) ≡ Some order) }
+    ensures err { IfErr result (λ fault. fault ≡ Memory) }
+{
+    Ok(Order::Validate {
+        hex: is_set(found, "hex"),
+        file: name_of(alloc, found, "FILE")?,
+    })
+}
+
+fn relocate_order(alloc: Global, found: &ArgMatches<'_>) -> Result<Order, OrderFault>
+    ensures ok { IfOk result (λ order. relocate_order (rows_of (found_of found.now)) ≡ Some order) }
+    ensures err { IfErr result
+        (λ fault. (fault ≡ Memory)
+        ⊎ ((fault ≡ Line) × (relocate_order (rows_of (found_of found.now)) ≡ None))) }
+{
+    let base = match text_of(found, "base") {
+        Some(text) => base_of(text).ok_or(OrderFault::Line)?,
+        None => return Err(OrderFault::Line),
+    };
+    let budget = match text_of(found, "budget") {
+        Some(text) => budget_of(text).ok_or(OrderFault::Line)?,
+        None => DEFAULT_BUDGET,
+    };
+    Ok(Order::Relocate {
+        hex: is_set(found, "hex"),
+        base,
+        budget,
+        file: name_of(alloc, found, "FILE")?,
+    })
+}
+
+fn rewrite_order(alloc: Global, found: &ArgMatches<'_>) -> Result<Order, OrderFault>
+    ensures ok { IfOk result (λ order. rewrite_order (rows_of (found_of found.now)) ≡ Some order) }
+    ensures err { IfErr result
+        (λ fault. (fault ≡ Memory)
+        ⊎ ((fault ≡ Line) × (rewrite_order (rows_of (found_of found.now)) ≡ None))) }
+{
+    let Some(input) = name_of(alloc, found, "IN")? else {
+        return Err(OrderFault::Line);
+    };
+    let Some(output) = name_of(alloc, found, "OUT")? else {
+        return Err(OrderFault::Line);
+    };
+    Ok(Order::Rewrite {
+        strip: is_set(found, "strip"),
+        input,
+        output,
+    })
+}
+
+// What an error of clap means: the help that was asked for, want of memory, or no order.
+fn fault_of(alloc: Global, error: &Error) -> OrderFault
+    ensures memory { kind_of error.now ≡ ErrorKind.OutOfMemory → result ≡ Memory }
+    ensures asked { IsHelp result → kind_of error.now ≡ ErrorKind.DisplayHelp }
+{
+    match error.kind() {
+        ErrorKind::DisplayHelp => match format!(in alloc; "{error}") {
+            Ok(text) => OrderFault::Help(text),
+            Err(_) => OrderFault::Memory,
+        },
+        ErrorKind::OutOfMemory => OrderFault::Memory,
+        _ => OrderFault::Line,
+    }
+}
+
+fn order_in<S: AsStr>(alloc: Global, words: &[S]) -> Result<Order, OrderFault>
+    ensures ok { IfOk result
+        (λ order. entered_order (subcommand_of spec.hunkinfo (map S.text words.now)) ≡ Some order) }
+    ensures err { IfErr result (λ fault. takes spec.hunkinfo (map S.text words.now) ≡ true
+        → (fault ≡ Memory) ⊎ ((fault ≡ Line)
+        × (entered_order (subcommand_of spec.hunkinfo (map S.text words.now)) ≡ None))) }
+    ensures asked { IfErr result
+        (λ fault. IsHelp fault
+        → IsAmong ErrorKind.DisplayHelp (clap_fault spec.hunkinfo (map S.text words.now))) }
+{
+    let matches = match hunkinfo(alloc)?.try_get_matches_from(words) {
+        Ok(matches) => matches,
+        Err(error) => return Err(fault_of(alloc, &error)),
+    };
+    match matches.subcommand() {
+        Some((name, found)) => match name {
+            "show" => show_order(alloc, found),
+            "validate" => validate_order(alloc, found),
+            "relocate" => relocate_order(alloc, found),
+            "rewrite" => rewrite_order(alloc, found),
+            _ => Err(OrderFault::Line),
+        },
+        None => Err(OrderFault::Line),
+    }
+}
+
+/// The order that the words are, of which the first is the program's name. Where no word follows
+/// it, the words `relocate --hex --base 00000000` are taken.
+///
+/// `Help` where the words ask for help; `Line` where they are none of the program's command lines,
+/// or where HEX is not eight hexadecimal digits, or N no decimal number below 2^64; `Memory` where
+/// no memory was given.
+pub fn order(alloc: Global, words: &[String]) -> Result<Order, OrderFault>
+    ensures ok { IfOk result (λ order. order_of (map string_bytes words.now) ≡ Some order) }
+    ensures err { IfErr result
+        (λ fault. takes spec.hunkinfo (taken (map string_bytes words.now)) ≡ true
+        → (fault ≡ Memory) ⊎ ((fault ≡ Line) × (order_of (map string_bytes words.now) ≡ None))) }
+    ensures asked { IfErr result
+        (λ fault. IsHelp fault → IsAmong ErrorKind.DisplayHelp
+        (clap_fault spec.hunkinfo (taken (map string_bytes words.now)))) }
+{
+    if words.len() < 2 {
+        order_in(alloc, STORED.as_slice())
+    } else {
+        order_in(alloc, words)
+    }
+}

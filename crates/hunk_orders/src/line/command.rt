@@ -1,0 +1,222 @@
+//! The command that clap reads the words by, with its help.
+ghost use Rattle.std.specs.Prelude.{◌≡◌, IfOk, codes, false};
+ghost use Rattle.clap.specs.Words.{app_of, new_app, new_rule, rule_of};
+ghost use Rattle.clap.specs.declared.builder.command.Command.TheViews.{out-Command as fields_of};
+ghost use Rattle.hunk_orders.specs.Command as spec;
+
+use clap::{Arg, ArgAction, Command};
+use std::alloc::{AllocError, Global};
+
+const AFTER_HELP: &str = "\
+Without a command, standard input is read as hexadecimal text and relocated
+to the address 00000000.
+
+Examples:
+  hunkinfo show prog
+  hunkinfo relocate --base 00021000 --budget 65536 prog
+  hunkinfo rewrite --strip prog prog.stripped
+
+Exit status:
+  0  done
+  1  the input was refused, or validate found something
+  2  the command line was refused
+  3  reading or writing failed
+  4  out of memory";
+
+// `--name`.
+fn flag<'a>(alloc: Global, name: &'a str, help: &'a str) -> Arg<'a>
+    ensures rule { rule_of result ≡ spec.flag name.entry.now }
+    ensures local { result.global ≡ false }
+{
+    Arg::new(alloc, name)
+        .long(name)
+        .action(ArgAction::SetTrue)
+        .help(help)
+}
+
+// `--name VALUE`.
+fn option<'a>(alloc: Global, name: &'a str, value: &'a str, help: &'a str) -> Arg<'a>
+    ensures rule { rule_of result ≡ spec.option name.entry.now }
+    ensures local { result.global ≡ false }
+{
+    Arg::new(alloc, name)
+        .long(name)
+        .value_name(value)
+        .help(help)
+}
+
+// A word at its place.
+fn positional<'a>(alloc: Global, name: &'a str, help: &'a str) -> Arg<'a>
+    ensures rule { rule_of result ≡ new_rule name.entry.now }
+    ensures local { result.global ≡ false }
+{
+    Arg::new(alloc, name).help(help)
+}
+
+// The argument, which has to be there.
+fn mandatory<'a>(arg: Arg<'a>) -> Arg<'a>
+    ensures rule { rule_of result ≡ spec.mandatory (rule_of arg.entry) }
+    ensures local { result.global ≡ arg.entry.global }
+{
+    arg.required(true)
+}
+
+fn hex_flag<'a>(alloc: Global) -> Arg<'a>
+    ensures rule { rule_of result ≡ spec.flag (codes "hex") }
+    ensures local { result.global ≡ false }
+{
+    flag(
+        alloc,
+        "hex",
+        "The input is hexadecimal text; spaces, tabs and line ends in it are ignored",
+    )
+}
+
+fn file_positional<'a>(alloc: Global) -> Arg<'a>
+    ensures rule { rule_of result ≡ new_rule (codes "FILE") }
+    ensures local { result.global ≡ false }
+{
+    positional(
+        alloc,
+        "FILE",
+        "The file to read; without it, standard input is read",
+    )
+}
+
+// A command that does not have its arguments yet.
+fn command<'a>(alloc: Global, name: &'a str, about: &'a str) -> Command<'a>
+    ensures app { app_of result ≡ new_app name.entry.now }
+    ensures local { (fields_of result).has_globals ≡ false }
+{
+    Command::new(alloc, name).about(about)
+}
+
+// A command that only reads: NAME [--hex] [FILE].
+fn listing<'a>(alloc: Global, name: &'a str, about: &'a str) -> Result<Command<'a>, AllocError>
+    ensures { IfOk result (λ command. (app_of command ≡ spec.listing name.entry.now)
+        × ((fields_of command).has_globals ≡ false)) }
+{
+    command(alloc, name, about)
+        .arg(hex_flag(alloc))?
+        .arg(file_positional(alloc))
+}
+
+fn show<'a>(alloc: Global) -> Result<Command<'a>, AllocError>
+    ensures { IfOk result (λ command. (app_of command ≡ spec.listing (codes "show"))
+        × ((fields_of command).has_globals ≡ false)) }
+{
+    listing(
+        alloc,
+        "show",
+        "Lists the hunks and blocks of a load file or an object file",
+    )
+}
+
+fn validate<'a>(alloc: Global) -> Result<Command<'a>, AllocError>
+    ensures { IfOk result (λ command. (app_of command ≡ spec.listing (codes "validate"))
+        × ((fields_of command).has_globals ≡ false)) }
+{
+    listing(
+        alloc,
+        "validate",
+        "Checks a file, and lists relocations and references that are out of range",
+    )
+}
+
+fn base_option<'a>(alloc: Global) -> Arg<'a>
+    ensures rule { rule_of result ≡ spec.option (codes "base") }
+    ensures local { result.global ≡ false }
+{
+    option(
+        alloc,
+        "base",
+        "HEX",
+        "The address of the first hunk: exactly eight hexadecimal digits",
+    )
+}
+
+fn budget_option<'a>(alloc: Global) -> Arg<'a>
+    ensures rule { rule_of result ≡ spec.option (codes "budget") }
+    ensures local { result.global ≡ false }
+{
+    option(
+        alloc,
+        "budget",
+        "N",
+        "The most bytes that the hunks may have together, in decimal [default: 16777216]",
+    )
+}
+
+fn relocate<'a>(alloc: Global) -> Result<Command<'a>, AllocError>
+    ensures { IfOk result (λ command. (app_of command ≡ spec.relocate)
+        × ((fields_of command).has_globals ≡ false)) }
+{
+    let about = "Loads a load file at an address, and prints the bytes of its hunks";
+    command(alloc, "relocate", about)
+        .arg(hex_flag(alloc))?
+        .arg(mandatory(base_option(alloc)))?
+        .arg(budget_option(alloc))?
+        .arg(file_positional(alloc))
+}
+
+fn strip_flag<'a>(alloc: Global) -> Arg<'a>
+    ensures rule { rule_of result ≡ spec.flag (codes "strip") }
+    ensures local { result.global ≡ false }
+{
+    flag(
+        alloc,
+        "strip",
+        "Leave out names, symbols, debug data and advisory blocks",
+    )
+}
+
+fn input_positional<'a>(alloc: Global) -> Arg<'a>
+    ensures rule { rule_of result ≡ new_rule (codes "IN") }
+    ensures local { result.global ≡ false }
+{
+    positional(alloc, "IN", "The file to read")
+}
+
+fn output_positional<'a>(alloc: Global) -> Arg<'a>
+    ensures rule { rule_of result ≡ new_rule (codes "OUT") }
+    ensures local { result.global ≡ false }
+{
+    positional(
+        alloc,
+        "OUT",
+        "The file to write; it is not touched where IN is refused",
+    )
+}
+
+fn rewrite<'a>(alloc: Global) -> Result<Command<'a>, AllocError>
+    ensures { IfOk result (λ command. (app_of command ≡ spec.rewrite)
+        × ((fields_of command).has_globals ≡ false)) }
+{
+    let about = "Reads a load file or an object file, and writes it again";
+    command(alloc, "rewrite", about)
+        .arg(strip_flag(alloc))?
+        .arg(mandatory(input_positional(alloc)))?
+        .arg(mandatory(output_positional(alloc)))
+}
+
+// The program, without its subcommands yet.
+fn program<'a>(alloc: Global) -> Command<'a>
+    ensures app { app_of result ≡ spec.program }
+    ensures local { (fields_of result).has_globals ≡ false }
+{
+    Command::new(alloc, "hunkinfo")
+        .about("Lists, checks, relocates and rewrites AmigaDOS hunk files")
+        .after_help(AFTER_HELP)
+        .subcommand_required(true)
+}
+
+/// The whole command line: one subcommand, with its flags, options and file names.
+pub(super) fn hunkinfo<'a>(alloc: Global) -> Result<Command<'a>, AllocError>
+    ensures { IfOk result (λ command. app_of command ≡ spec.hunkinfo) }
+{
+    program(alloc)
+        .subcommand(show(alloc)?)?
+        .subcommand(validate(alloc)?)?
+        .subcommand(relocate(alloc)?)?
+        .subcommand(rewrite(alloc)?)
+}

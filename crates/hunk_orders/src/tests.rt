@@ -1,0 +1,2 @@
+//! Tests of what no clause says.
+mod command_lines;

@@ -1,8 +1,0 @@
--- Help that was asked for.
-use Rattle.std.specs.Prelude.{⊤}
-use Rattle.hunkinfo.specs.declared.asked.OrderFault.{OrderFault}
-use Rattle.hunkinfo.specs.declared.asked.OrderFault.TheVariants.{Help}
-
-abbrev pub IsHelp : OrderFault → Type 0
-IsHelp (Help text) = ⊤
-IsHelp _ = ⊥
