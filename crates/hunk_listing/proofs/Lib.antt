@@ -6,3 +6,4 @@ pub mod LineLengths
 mod Lines
 pub mod ReportLengths
 mod RowLaws
+pub mod SegmentLengths
