@@ -18,6 +18,7 @@ use Rattle.hunk_listing.specs.BlockLines.{block_lines}
 use Rattle.hunk_listing.specs.FileLines.{hunk_line, hunk_lines, load_head, load_line, load_listing, memory_text, numbered, object_hunk_line, object_hunk_lines, object_line, object_listing, rest_line, unit_line, unit_lines}
 use Rattle.hunk_listing.specs.Printed.{name_text}
 use Rattle.hunk_listing.specs.ReportLines.{load_summary}
+use Rattle.hunk_listing.specs.RewritingLines.{left_out_line, wrote_line}
 use Rattle.hunk_listing.proofs.BlockLengths.{block_short, lists_short}
 use Rattle.hunk_listing.proofs.LineLengths.{fits_either, fits3, fits5, fits7, length-memory, length-name, length-number}
 
@@ -241,4 +242,19 @@ object_listing_fits o is few =
       length-append (object_line (length o)) (numbered unit_lines 0 o),
       length-object_line (length o) (omega (arith, few, most)),
       units_short 0 o is.units (omega (arith, few, most)) (omega (arith, few)),
+    )
+
+-- ---- a rewriting
+
+-- the lines on a rewriting, too, can be counted
+pub rewriting_fits : (written rest : ℕ) → written < 2 ^ 64 → rest < 2 ^ 64 → length (wrote_line written ++ left_out_line rest) < 2 ^ 64
+unfolding wrote_line left_out_line
+rewriting_fits written rest written_fits rest_fits =
+    let wrote = fits3 40 (codes "wrote ") (decimal written) (codes " bytes\n") (omega (arith, length-number written (omega (arith, written_fits)))) in
+    let left = fits3 48 (codes "rest ") (decimal rest) (codes " bytes left out\n") (omega (arith, length-number rest (omega (arith, rest_fits)))) in
+    omega (
+      arith,
+      wrote,
+      length-append (wrote_line written) (left_out_line rest),
+      fits_either 48 (rest == 0) [] (codes "rest " ++ decimal rest ++ codes " bytes left out\n") (omega arith) left,
     )
