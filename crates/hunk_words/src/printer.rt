@@ -30,9 +30,13 @@ impl<'a, W: Sink> Model for Printer<'a, W> {
 
     ghost Value = { Printing W };
 
-    ghost view = { λ s. record { out = s.out; origin = record { name = s.out.ghost_name; taken = s.history.first; written = s.start }; text = s.history.bytes } };
+    ghost view = { λ s. record {
+        out = s.out;
+        origin = record { name = s.out.ghost_name; taken = s.history.first; written = s.start };
+        text = s.history.bytes } };
 
-    ghost invariant = { λ s. Sends s.lost s.history.first (W.taken s.out.now.sink) s.start s.out.now.written s.out.now.stopped s.history.bytes s.held.items };
+    ghost invariant = { λ s. Sends s.lost s.history.first (W.taken s.out.now.sink)
+        s.start s.out.now.written s.out.now.stopped s.history.bytes s.held.items };
 }
 
 impl<'a, W: Sink> Printer<'a, W> {
@@ -40,7 +44,8 @@ impl<'a, W: Sink> Printer<'a, W> {
     pub fn new(out: &'a mut LongWriter<W>) -> Printer<'a, W>
         ghost taken: { Option (List ℕ) }
         requires { W.taken out.old.sink ≡ taken }
-        ensures origin { result.origin ≡ record { name = out.entry.ghost_name; taken = taken; written = out.old.written } }
+        ensures origin { result.origin
+            ≡ record { name = out.entry.ghost_name; taken = taken; written = out.old.written } }
         ensures text { result.text ≡ [] }
     {
         let start = out.written();
@@ -73,8 +78,10 @@ impl<'a, W: Sink> Printer<'a, W> {
         requires { self.old.origin.written + length self.old.text < 2 ^ 64 }
         ensures same { Prints self.old self.new [] }
         ensures same_reference { self.new.out.ghost_name ≡ self.old.origin.name }
-        ensures puts { Puts self.old.origin.taken (W.taken self.new.out.now.sink) self.old.origin.written self.new.out.now.written self.old.text }
-        ensures whole { OnOk result (self.new.out.now.written ≡ self.old.origin.written + length self.old.text) }
+        ensures puts { Puts self.old.origin.taken (W.taken self.new.out.now.sink)
+            self.old.origin.written self.new.out.now.written self.old.text }
+        ensures whole { OnOk result
+            (self.new.out.now.written ≡ self.old.origin.written + length self.old.text) }
         ensures told { IfErr result (λ fault. fault.written ≡ self.new.out.now.written) }
         ensures failed { OnErr result (W.failed self.new.out.now.sink ≡ true) }
     {
@@ -97,7 +104,9 @@ impl<'a, W: Sink> Printer<'a, W> {
 // Answers whether nothing was lost.
 #[cold]
 fn send_on<W: Sink>(out: &mut LongWriter<W>, held: &mut ArrayVec<u8, PAGE>, bytes: &[u8]) -> bool
-    ensures { Sends (not result) (W.taken out.old.sink) (W.taken out.new.sink) out.old.written out.new.written out.new.stopped (held.old.items ++ bytes.now) held.new.items }
+    ensures { Sends (not result) (W.taken out.old.sink) (W.taken out.new.sink)
+        out.old.written out.new.written out.new.stopped
+        (held.old.items ++ bytes.now) held.new.items }
 {
     let sent = send(out, held.as_slice());
     held.clear();
@@ -106,7 +115,8 @@ fn send_on<W: Sink>(out: &mut LongWriter<W>, held: &mut ArrayVec<u8, PAGE>, byte
 
 // Puts the bytes, unless they are too many to be counted. Answers whether all have gone out.
 fn send<W: Sink>(out: &mut LongWriter<W>, bytes: &[u8]) -> bool
-    ensures { Sends (not result) (W.taken out.old.sink) (W.taken out.new.sink) out.old.written out.new.written out.new.stopped bytes.now [] }
+    ensures { Sends (not result) (W.taken out.old.sink) (W.taken out.new.sink)
+        out.old.written out.new.written out.new.stopped bytes.now [] }
 {
     if u64::MAX - out.written() < bytes.len() as u64 {
         return false;
