@@ -1,6 +1,6 @@
 -- Files of the input, and what is told of them.
 use Rattle.std.proofs.Common.{◌≡◌, ◌≤◌, ◌<◌, ◌≢◌, ◌⊎◌, ℕ, List, [], ◌∷◌, ◌++◌, Result, Ok, Err, length, take, drop, refl, inl, inr, ap, ap₂, sym, subst, ◌∙◌, arith, append_assoc, lit<}
-use Rattle.std.specs.Prelude.{IfErr}
+use Rattle.std.specs.Prelude.{IfErr, OnOk}
 use Rattle.std.specs.List.{flat_map}
 use Rattle.std.proofs.lemmas.List.{take-append-drop}
 use Rattle.hunk_words.specs.Longs.{IsLong, bytes_of, longs}
@@ -16,16 +16,20 @@ use Rattle.hunk_files.specs.LoadText.{text}
 use Rattle.hunk_files.specs.Fault.{BeginsWithLoadFile}
 use Rattle.hunk_files.specs.ObjectFile.{ObjectFileValue, object_text}
 use Rattle.hunk_files.specs.Findings.{findings}
+use Rattle.hunk_files.specs.declared.object.check.Finding.{Finding}
 use Rattle.hunk_files.proofs.TextParts.{after_first, first_split}
 use Rattle.hunk_commands.specs.declared.fault.RunFault.{RunFault}
 use Rattle.hunk_commands.specs.declared.fault.RunFault.TheVariants as faults
 use Rattle.hunk_commands.specs.declared.hunk_file.HunkFile.{HunkFile}
 use Rattle.hunk_commands.specs.declared.hunk_file.HunkFile.TheVariants as files
+use Rattle.hunk_commands.specs.declared.validating.Checked.{Checked}
+use Rattle.hunk_commands.specs.declared.validating.Checked.TheVariants as checks
 use Rattle.hunk_commands.specs.Faults.{IsWrite}
 use Rattle.hunk_commands.specs.FileKinds.{AreFile, AreObjectFile, IsFileOf, IsLoadRefusal, IsRefusal, RefusesAs, RefusesBytes}
 use Rattle.hunk_listing.specs.FileLines.{load_listing, object_listing}
-use Rattle.hunk_listing.specs.ReportLines.{load_summary, object_report}
-use Rattle.hunk_commands.specs.Shown.{IsShown}
+use Rattle.hunk_listing.specs.ReportLines.{count_line, finding_line, load_summary}
+use Rattle.hunk_commands.specs.Reports.{IsChecked, finding_count, report}
+use Rattle.hunk_commands.specs.Shown.{IsShown, file_listing}
 use Rattle.hunk_commands.specs.Validated.{IsValidated}
 
 -- ---- a file that was decoded
@@ -45,21 +49,21 @@ load_of bytes value size is text_is whole rest rest_is = (
 
 -- ---- its texts
 
-pub shown_load : (bytes shown : List ℕ) (value : LoadFileValue) (rest : ℕ) → IsFileOf bytes (files.Load value rest) → shown ≡ load_listing value rest → IsShown bytes shown
-shown_load bytes shown value rest is e = inl (is.0, e ∙ ap₂ load_listing is.1 is.2)
+pub shown_file : (bytes : List ℕ) (file : HunkFile) → IsFileOf bytes file → IsShown bytes (file_listing file)
+shown_file bytes (files.Load value rest) is = inl (is.0, ap₂ load_listing is.1 is.2)
+shown_file bytes (files.Object value) is = inr (is.0, ap object_listing is.1)
 
-pub shown_object : (bytes shown : List ℕ) (value : ObjectFileValue) → IsFileOf bytes (files.Object value) → shown ≡ object_listing value → IsShown bytes shown
-shown_object bytes shown value is e = inr (is.0, e ∙ ap object_listing is.1)
-
-pub validated_load : (count : ℕ) (bytes shown : List ℕ) (value : LoadFileValue) (rest : ℕ) → IsFileOf bytes (files.Load value rest) →
-    count ≡ 0 → shown ≡ load_summary value rest → IsValidated count bytes shown
-validated_load count bytes shown value rest is none e = inl (is.0, none, e ∙ ap₂ load_summary is.1 is.2)
-
-pub validated_object : (count : ℕ) (bytes shown : List ℕ) (value : ObjectFileValue) → IsFileOf bytes (files.Object value) →
-    count ≡ length (findings value) → shown ≡ object_report value → IsValidated count bytes shown
-validated_object count bytes shown value is many e = inr (is.0, many ∙ ap (λ (o : ObjectFileValue). length (findings o)) is.1, e ∙ ap object_report is.1)
+pub validated_checked : (bytes : List ℕ) (file : Checked) → IsChecked bytes file → IsValidated (finding_count file) bytes (report file)
+validated_checked bytes (checks.Load value rest) is = inl (is.0, refl, ap₂ load_summary is.1 is.2)
+validated_checked bytes (checks.Object value found) is =
+    let same : found ≡ findings is.0.0.value = is.1 ∙ ap findings is.0.1 in
+    inr (is.0.0, ap length same, ap₂ (λ (fs : List Finding) (v : ObjectFileValue). flat_map finding_line fs ++ count_line (length v) (length fs)) same is.0.1)
 
 -- ---- refusals
+
+pub on_ok : {T E P : Type 0} (result : Result T E) → P → OnOk result P
+on_ok (Ok x) is = is
+on_ok (Err e) is = tt
 
 pub refused_not_written : (Is : Fault → Type 0) (fault : RunFault) → RefusesAs Is fault → ¬ IsWrite fault
 refused_not_written Is (faults.Refused refusal) is written = written

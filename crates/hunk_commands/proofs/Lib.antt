@@ -1,5 +1,6 @@
 mod Consumed
 mod Engines
 mod FileLaws
+mod ListingLengths
 mod RewriteLaws
 mod StrippedSize

@@ -5,6 +5,7 @@ pub mod HexText
 pub mod Inputs
 pub mod Output
 pub mod Relocating
+pub mod Reports
 pub mod Rewritten
 pub mod Shown
 pub mod Validated

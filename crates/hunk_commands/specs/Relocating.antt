@@ -6,7 +6,9 @@ use Rattle.hunk_files.specs.LoadFile.{LoadFileValue, IsLoadFile}
 use Rattle.hunk_files.specs.LoadText.{table, text}
 use Rattle.hunk_files.specs.Image.{declared_bytes, image}
 use Rattle.hunk_scatter.specs.LoadOutcomes.{Gives, IsShort}
+use Rattle.hunk_scatter.specs.LoaderValues.{ImageValue}
 use Rattle.hunk_scatter.specs.Placing.{AreBases, Placing, packed_base}
+use Rattle.hunk_scatter.specs.Rows.{bases_of}
 use Rattle.hunk_listing.specs.SegmentLines.{Segment, listing}
 
 -- the hunks lie one behind the other from the start on
@@ -17,6 +19,10 @@ packed start = λ hunk row before. packed_base start row before
 abbrev pub segments_of : List ℕ → List (List ℕ) → List Segment
 segments_of (base ∷ bases) (bytes ∷ segments) = record { base = base; bytes = bytes } ∷ segments_of bases segments
 segments_of _ _ = []
+
+-- the listing of an image
+abbrev pub image_listing : ImageValue → List ℕ
+image_listing image = listing (segments_of (bases_of image.rows) image.segments)
 
 -- The load file keeps to the budget, all its hunks have bases from the start on, and the text is the listing of its segments, each relocated by the bases of all.
 pub record IsListingAt (start budget : ℕ) (file : LoadFileValue) (written : List ℕ) : Type 0 where

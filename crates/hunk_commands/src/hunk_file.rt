@@ -1,5 +1,5 @@
 //! A load file or an object file, as its first longword announces.
-ghost use Rattle.std.specs.Prelude.{◌≡◌, ◌≢◌, ◌⊎◌, ◌+◌, ◌^◌, ◌<◌, true, IfOk, IfErr, OnOk, OnErr, length};
+ghost use Rattle.std.specs.Prelude.{◌≡◌, ◌≢◌, ◌⊎◌, ◌+◌, ◌^◌, ◌<◌, ◌≤◌, true, IfOk, IfErr, OnOk, OnErr, length};
 ghost use Rattle.hunk_words.specs.Puts.{Puts};
 ghost use Rattle.hunk_words.specs.declared.reason.Reason.TheVariants as reasons;
 ghost use Rattle.hunk_files.specs.Fault.{BeginsWithLoadFile};
@@ -10,6 +10,10 @@ use crate::fault::RunFault;
 use hunk_files::{LoadFile, ObjectFile, Sniff, sniff};
 use hunk_words::{Fault, LongWriter, Reason, Sink, WriteFault};
 use std::alloc::Global;
+
+/// The most bytes of an input, far more than any memory has: the bytes of its listing, which are at
+/// most 64 times as many, can still be counted.
+const MOST: usize = 1 << 56;
 
 /// A file of the input.
 #[derive(Debug, Drop)]
@@ -24,12 +28,17 @@ impl<'a> HunkFile<'a> {
     /// The file that the bytes are, or begin with: an object file where the first longword
     /// announces one, else a load file.
     ///
-    /// The fault of the bytes is handed on unchanged; want of memory is `Memory`.
+    /// The fault of the bytes is handed on unchanged; want of memory is `Memory`, and so are more
+    /// bytes than `MOST`.
     pub(crate) fn decode(alloc: Global, bytes: &'a [u8]) -> Result<HunkFile<'a>, RunFault>
         ensures ok { IfOk result (IsFileOf bytes.entry.now) }
+        ensures few { OnOk result (length bytes.entry.now ≤ 2 ^ 56) }
         ensures none { IfErr result (λ fault. (fault ≡ Memory) ⊎ (AreFile bytes.entry.now → ⊥)) }
         ensures refused { IfErr result (λ fault. RefusesBytes fault bytes.entry.now) }
     {
+        if bytes.len() > MOST {
+            return Err(RunFault::Memory);
+        }
         match sniff(bytes) {
             Sniff::Object => decode_object(alloc, bytes),
             Sniff::Load | Sniff::Library | Sniff::Other => decode_load(alloc, bytes),

@@ -1,6 +1,8 @@
 //! `relocate`: a load file is loaded as it comes, and its segments are printed.
-ghost use Rattle.std.specs.Prelude.{◌≡◌, ◌⊎◌, ◌<◌, ◌≤◌, ◌++◌, ℕ, List, Some, false, length, take, IfOk, IfErr, IsErrAnd, IsTrue, OnOk};
+ghost use Rattle.std.specs.Prelude.{◌≡◌, ◌⊎◌, ◌+◌, ◌^◌, ◌<◌, ◌≤◌, ◌++◌, ℕ, List, Some, false, true, length, take, IfErr, IsErrAnd, IsTrue, OnOk, OnErr};
 ghost use Rattle.hunk_words.specs.Longs.{bytes_of};
+ghost use Rattle.hunk_words.specs.Prints.{Prints};
+ghost use Rattle.hunk_words.specs.Puts.{Puts};
 ghost use Rattle.hunk_words.specs.declared.fault.Fault.{Fault};
 ghost use Rattle.hunk_words.specs.declared.reason.Reason.TheVariants.{Budget};
 ghost use Rattle.hunk_commands.specs.declared.fault.RunFault.TheVariants.{Memory, Read, Refused, Write};
@@ -13,17 +15,15 @@ ghost use Rattle.hunk_scatter.specs.HeaderBytes.{IsTable, header_bytes};
 ghost use Rattle.hunk_scatter.specs.HeaderFaults.{PassesBudget};
 ghost use Rattle.hunk_scatter.specs.LoadOutcomes.{Gives, IsLoadFault, IsNotPlaced, KeepsRest};
 ghost use Rattle.hunk_scatter.specs.Placing.{HasBases};
-ghost use Rattle.hunk_scatter.specs.Rows.{bases_of};
 ghost use Rattle.hunk_commands.specs.Faults.{IsOfLoad};
-ghost use Rattle.hunk_listing.specs.SegmentLines.{listing};
 ghost use Rattle.hunk_commands.specs.Output.{StopsOutput};
-ghost use Rattle.hunk_commands.specs.Relocating.{ReadsShort, Relocates, RelocatesAll, packed, segments_of};
+ghost use Rattle.hunk_commands.specs.Relocating.{ReadsShort, Relocates, RelocatesAll, image_listing, packed};
 
 use crate::fault::RunFault;
-use hunk_listing::push_segment;
+use hunk_listing::print_segment;
 use hunk_scatter::{Image, Limits, Packed, load};
-use hunk_words::{LongWriter, Sink, Source};
-use std::alloc::{AllocError, Global};
+use hunk_words::{LongWriter, Printer, Sink, Source, WriteFault};
+use std::alloc::Global;
 
 /// Loads a load file from the source as it comes, and prints its segments.
 ///
@@ -85,19 +85,32 @@ pub fn relocate<R: Source, W: Sink>(
     ensures own { IfErr result IsOfLoad }
 {
     let image = load(alloc, r, limits, &Packed { start: base })?;
-    let text = listing_of(alloc, &image)?;
-    w.put_bytes(text.as_slice())?;
+    // The bytes of the image can be counted, and so can those of its listing.
+    let _bytes = image.bytes();
+    put_listing(w, &image)?;
     Ok(())
 }
 
-// The lines of each hunk's segment.
-fn listing_of(alloc: Global, image: &Image) -> Result<Vec<u8>, AllocError>
-    ensures { IfOk result (λ text. text.items
-        ≡ listing (segments_of (bases_of image.now.rows) image.now.segments)) }
+// Puts the lines of each hunk's segment.
+fn put_listing<W: Sink>(w: &mut LongWriter<W>, image: &Image) -> Result<(), WriteFault>
+    requires { w.old.written + length (image_listing image.now) < 2 ^ 64 }
+    ensures puts { Puts (W.taken w.old.sink) (W.taken w.new.sink)
+        w.old.written w.new.written (image_listing image.now) }
+    ensures whole { OnOk result (w.new.written ≡ w.old.written + length (image_listing image.now)) }
+    ensures told { IfErr result (λ fault. fault.written ≡ w.new.written) }
+    ensures failed { OnErr result (W.failed w.new.sink ≡ true) }
 {
-    let mut text = Vec::new(alloc);
+    let mut page = Printer::new(w);
+    print_listing(&mut page, image);
+    let result = page.flush();
+    let _out = page.into_inner();
+    result
+}
+
+fn print_listing<W: Sink>(page: &mut Printer<'_, W>, image: &Image)
+    ensures { Prints page.old page.new (image_listing image.now) }
+{
     'hunks: for (hunk, (row, segment)) in (0..image.hunks()).zip(image.segments()) {
-        push_segment(&mut text, hunk, row.base, segment)?;
+        print_segment(page, hunk, row.base, segment);
     }
-    Ok(text)
 }

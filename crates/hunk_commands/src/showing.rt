@@ -1,19 +1,21 @@
 //! `show`: the hunks and blocks of a file are listed.
-ghost use Rattle.std.specs.Prelude.{◌≡◌, ◌⊎◌, ◌<◌, ℕ, List, Some, false, true, length, IfOk, IfErr, OnOk};
+ghost use Rattle.std.specs.Prelude.{◌≡◌, ◌+◌, ◌^◌, ◌<◌, ℕ, List, Some, false, true, length, IfErr, OnOk, OnErr};
+ghost use Rattle.hunk_words.specs.Prints.{Prints};
+ghost use Rattle.hunk_words.specs.Puts.{Puts};
 ghost use Rattle.hunk_words.specs.declared.reason.Reason.TheVariants.{FileLimit};
 ghost use Rattle.hunk_scatter.specs.LoadOutcomes.{Gives};
 ghost use Rattle.hunk_commands.specs.declared.fault.RunFault.TheVariants.{Memory, Read, Refused, Write};
 ghost use Rattle.hunk_commands.specs.Engine.{RefusesOnly, Writes, WritesAll};
-ghost use Rattle.hunk_commands.specs.FileKinds.{AreFile, RefusesBytes};
+ghost use Rattle.hunk_commands.specs.FileKinds.{AreFile};
 ghost use Rattle.hunk_commands.specs.Inputs.{Gave};
-ghost use Rattle.hunk_commands.specs.Shown.{IsShown};
+ghost use Rattle.hunk_commands.specs.Shown.{IsShown, file_listing};
 ghost use Rattle.hunk_commands.specs.Output.{StopsOutput};
 
 use crate::fault::RunFault;
 use crate::hunk_file::HunkFile;
 use crate::input::read_whole;
-use hunk_listing::{list_load_file, list_object_file};
-use hunk_words::{LongWriter, Sink, Source};
+use hunk_listing::{print_load_file, print_object_file};
+use hunk_words::{LongWriter, Printer, Sink, Source, WriteFault};
 use std::alloc::Global;
 
 /// Reads the input to its end, and lists the hunks and blocks of the object file that it is, or of
@@ -51,19 +53,32 @@ pub fn show<R: Source, W: Sink>(
         (λ fault. RefusesOnly fault (R.left r.old) (R.left r.new) file_bytes) }
 {
     let input = read_whole(alloc, r, file_bytes)?;
-    let text = listing_of(alloc, input.as_slice())?;
-    w.put_bytes(text.as_slice())?;
+    let file = HunkFile::decode(alloc, input.as_slice())?;
+    put_listing(w, &file)?;
     Ok(())
 }
 
-// The listing of the file that the bytes are, or begin with.
-fn listing_of(alloc: Global, bytes: &[u8]) -> Result<Vec<u8>, RunFault>
-    ensures ok { IfOk result (λ text. IsShown bytes.now text.items) }
-    ensures none { IfErr result (λ fault. (fault ≡ Memory) ⊎ (AreFile bytes.now → ⊥)) }
-    ensures refused { IfErr result (λ fault. RefusesBytes fault bytes.now) }
+// Puts the listing of the file.
+fn put_listing<W: Sink>(w: &mut LongWriter<W>, file: &HunkFile<'_>) -> Result<(), WriteFault>
+    requires { w.old.written + length (file_listing file.now) < 2 ^ 64 }
+    ensures puts { Puts (W.taken w.old.sink) (W.taken w.new.sink)
+        w.old.written w.new.written (file_listing file.now) }
+    ensures whole { OnOk result (w.new.written ≡ w.old.written + length (file_listing file.now)) }
+    ensures told { IfErr result (λ fault. fault.written ≡ w.new.written) }
+    ensures failed { OnErr result (W.failed w.new.sink ≡ true) }
 {
-    match HunkFile::decode(alloc, bytes)? {
-        HunkFile::Load { file, rest } => Ok(list_load_file(alloc, &file, rest)?),
-        HunkFile::Object(file) => Ok(list_object_file(alloc, &file)?),
+    let mut page = Printer::new(w);
+    print_listing(&mut page, file);
+    let result = page.flush();
+    let _out = page.into_inner();
+    result
+}
+
+fn print_listing<W: Sink>(page: &mut Printer<'_, W>, file: &HunkFile<'_>)
+    ensures { Prints page.old page.new (file_listing file.now) }
+{
+    match file {
+        HunkFile::Load { file, rest } => print_load_file(page, file, *rest),
+        HunkFile::Object(file) => print_object_file(page, file),
     }
 }

@@ -26,7 +26,7 @@ counted_at groups i group told =
     ∙ ap (λ (g : Group). length g.offsets + offset_count (map group_of (drop (i + 1) groups))) (get_or_from_slice_get groups i group group told)
 
 -- each offset is a longword of the text
-offsets_within : (groups : List RelocGroup) → offset_count groups ≤ length (flat_map group_parts groups)
+pub offsets_within : (groups : List RelocGroup) → offset_count groups ≤ length (flat_map group_parts groups)
 offsets_within [] = omega arith
 offsets_within (g ∷ groups) = omega (
   arith,

@@ -1,4 +1,9 @@
 mod BlockLaws
+pub mod BlockLengths
 mod Contents
+pub mod FileLengths
+pub mod LineLengths
 mod Lines
+pub mod ReportLengths
 mod RowLaws
+pub mod SegmentLengths

@@ -12,7 +12,7 @@ mod rewriting;
 mod segment;
 mod text;
 
-pub use crate::listing::{list_load_file, list_object_file};
-pub use crate::report::{Report, report_load_file, report_object_file};
-pub use crate::rewriting::push_rewriting;
-pub use crate::segment::push_segment;
+pub use crate::listing::{print_load_file, print_object_file};
+pub use crate::report::{print_load_summary, print_object_report};
+pub use crate::rewriting::print_rewriting;
+pub use crate::segment::print_segment;

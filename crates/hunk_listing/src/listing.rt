@@ -1,37 +1,26 @@
 //! The listing of a whole file.
-ghost use Rattle.std.specs.Prelude.{◌≡◌, IfOk};
+ghost use Rattle.std.specs.Prelude.{◌≡◌};
+ghost use Rattle.hunk_words.specs.Prints.{Prints};
 ghost use Rattle.hunk_listing.specs.FileLines.{load_listing, object_listing};
 
-use crate::load::{push_hunks, push_load_head, push_rest};
-use crate::object::{push_object_line, push_units};
+use crate::load::{print_hunks, print_load_head, print_rest};
+use crate::object::{print_object_line, print_units};
 use hunk_files::{LoadFile, ObjectFile};
-use std::alloc::{AllocError, Global};
+use hunk_words::{Printer, Sink};
 
 /// Lists the hunks and blocks of a load file that so many bytes follow.
-///
-/// # Errors
-///
-/// `AllocError` where memory for the text is refused.
-pub fn list_load_file(alloc: Global, file: &LoadFile<'_>, rest: u64) -> Result<Vec<u8>, AllocError>
-    ensures { IfOk result (λ text. text.items ≡ load_listing file.now rest) }
+pub fn print_load_file<W: Sink>(page: &mut Printer<'_, W>, file: &LoadFile<'_>, rest: u64)
+    ensures { Prints page.old page.new (load_listing file.now rest) }
 {
-    let mut text = Vec::new(alloc);
-    push_load_head(&mut text, file)?;
-    push_hunks(&mut text, file)?;
-    push_rest(&mut text, rest)?;
-    Ok(text)
+    print_load_head(page, file);
+    print_hunks(page, file);
+    print_rest(page, rest);
 }
 
 /// Lists the units, hunks and blocks of an object file.
-///
-/// # Errors
-///
-/// `AllocError` where memory for the text is refused.
-pub fn list_object_file(alloc: Global, file: &ObjectFile<'_>) -> Result<Vec<u8>, AllocError>
-    ensures { IfOk result (λ text. text.items ≡ object_listing file.now) }
+pub fn print_object_file<W: Sink>(page: &mut Printer<'_, W>, file: &ObjectFile<'_>)
+    ensures { Prints page.old page.new (object_listing file.now) }
 {
-    let mut text = Vec::new(alloc);
-    push_object_line(&mut text, file.units().len())?;
-    push_units(&mut text, file.units())?;
-    Ok(text)
+    print_object_line(page, file.units().len());
+    print_units(page, file.units());
 }

@@ -1,97 +1,95 @@
 //! The lines of a load file.
-ghost use Rattle.std.specs.Prelude.{◌≡◌, ◌++◌, OnOk};
+ghost use Rattle.std.specs.Prelude.{◌≡◌};
+ghost use Rattle.hunk_words.specs.Prints.{Prints};
 ghost use Rattle.std.specs.List.{flat_map};
 ghost use Rattle.hunk_words.specs.declared.size_word.Memory.TheVariants.{Attributes};
 ghost use Rattle.hunk_files.specs.Tables.{entry_of};
 ghost use Rattle.hunk_listing.specs.BlockLines.{block_lines};
 ghost use Rattle.hunk_listing.specs.FileLines.{hunk_line, hunk_lines, load_head, load_line, memory_text, numbered, rest_line};
 
-use crate::block::push_block;
-use crate::text::{push_decimal, push_hexadecimal};
+use crate::block::print_block;
+use crate::text::{print_decimal, print_hexadecimal};
 use hunk_blocks::Block;
 use hunk_files::LoadFile;
-use hunk_words::{Memory, SizeWord};
-use std::alloc::AllocError;
+use hunk_words::{Memory, Printer, Sink, SizeWord};
 
-/// Appends the line of the file: how many hunks it has, and how many bytes they declare.
-pub(crate) fn push_load_head(text: &mut Vec<u8>, file: &LoadFile<'_>) -> Result<(), AllocError>
-    ensures { OnOk result (text.new.items ≡ text.old.items ++ load_head file.now) }
+/// Prints the line of the file: how many hunks it has, and how many bytes they declare.
+pub(crate) fn print_load_head<W: Sink>(page: &mut Printer<'_, W>, file: &LoadFile<'_>)
+    ensures { Prints page.old page.new (load_head file.now) }
 {
-    push_load_line(text, file.hunks(), file.total())
+    print_load_line(page, file.hunks(), file.total());
 }
 
 #[tactic(auto, unfolding(crate::specs::FileLines::load_line))]
-fn push_load_line(text: &mut Vec<u8>, hunks: u32, bytes: u64) -> Result<(), AllocError>
-    ensures { OnOk result (text.new.items ≡ text.old.items ++ load_line hunks bytes) }
+fn print_load_line<W: Sink>(page: &mut Printer<'_, W>, hunks: u32, bytes: u64)
+    ensures { Prints page.old page.new (load_line hunks bytes) }
 {
-    text.extend_from_slice(b"load file ")?;
-    push_decimal(text, hunks)?;
-    text.extend_from_slice(b" hunks ")?;
-    push_decimal(text, bytes)?;
-    text.extend_from_slice(b" bytes\n")
+    page.print(b"load file ");
+    print_decimal(page, hunks);
+    page.print(b" hunks ");
+    print_decimal(page, bytes);
+    page.print(b" bytes\n");
 }
 
-/// Appends the line that says how many bytes follow the file, where some do.
+/// Prints the line that says how many bytes follow the file, where some do.
 #[tactic(auto, unfolding(crate::specs::FileLines::rest_line))]
-pub(crate) fn push_rest(text: &mut Vec<u8>, rest: u64) -> Result<(), AllocError>
-    ensures { OnOk result (text.new.items ≡ text.old.items ++ rest_line rest) }
+pub(crate) fn print_rest<W: Sink>(page: &mut Printer<'_, W>, rest: u64)
+    ensures { Prints page.old page.new (rest_line rest) }
 {
     if rest == 0 {
-        return Ok(());
+        return;
     }
-    text.extend_from_slice(b"rest ")?;
-    push_decimal(text, rest)?;
-    text.extend_from_slice(b" bytes\n")
+    page.print(b"rest ");
+    print_decimal(page, rest);
+    page.print(b" bytes\n");
 }
 
-/// Appends the lines of all hunks.
-pub(crate) fn push_hunks(text: &mut Vec<u8>, file: &LoadFile<'_>) -> Result<(), AllocError>
-    ensures { OnOk result (text.new.items ≡ text.old.items ++ numbered hunk_lines 0 file.now) }
+/// Prints the lines of all hunks.
+pub(crate) fn print_hunks<W: Sink>(page: &mut Printer<'_, W>, file: &LoadFile<'_>)
+    ensures { Prints page.old page.new (numbered hunk_lines 0 file.now) }
 {
     'hunks: for number in 0..file.hunks() {
-        push_hunk_line(text, number, file.table(number))?;
-        push_blocks(text, file.hunk(number))?;
+        print_hunk_line(page, number, file.table(number));
+        print_blocks(page, file.hunk(number));
     }
-    Ok(())
 }
 
 #[tactic(auto, unfolding(crate::specs::FileLines::hunk_line))]
-fn push_hunk_line(text: &mut Vec<u8>, number: u32, entry: SizeWord) -> Result<(), AllocError>
-    ensures { OnOk result (text.new.items ≡ text.old.items ++ hunk_line number (entry_of entry)) }
+fn print_hunk_line<W: Sink>(page: &mut Printer<'_, W>, number: u32, entry: SizeWord)
+    ensures { Prints page.old page.new (hunk_line number (entry_of entry)) }
 {
-    text.extend_from_slice(b"hunk ")?;
-    push_decimal(text, number)?;
-    text.extend_from_slice(b" ")?;
-    push_decimal(text, entry.bytes())?;
-    text.extend_from_slice(b" bytes ")?;
-    push_memory(text, entry.memory())?;
-    text.extend_from_slice(b"\n")
+    page.print(b"hunk ");
+    print_decimal(page, number);
+    page.print(b" ");
+    print_decimal(page, entry.bytes());
+    page.print(b" bytes ");
+    print_memory(page, entry.memory());
+    page.print(b"\n");
 }
 
-fn push_memory(text: &mut Vec<u8>, memory: Memory) -> Result<(), AllocError>
-    ensures { OnOk result (text.new.items ≡ text.old.items ++ memory_text memory) }
+fn print_memory<W: Sink>(page: &mut Printer<'_, W>, memory: Memory)
+    ensures { Prints page.old page.new (memory_text memory) }
 {
     match memory {
-        Memory::Any => text.extend_from_slice(b"any"),
-        Memory::Chip => text.extend_from_slice(b"chip"),
-        Memory::Fast => text.extend_from_slice(b"fast"),
-        Memory::Attributes(attributes) => push_attributes(text, attributes),
+        Memory::Any => page.print(b"any"),
+        Memory::Chip => page.print(b"chip"),
+        Memory::Fast => page.print(b"fast"),
+        Memory::Attributes(attributes) => print_attributes(page, attributes),
     }
 }
 
-fn push_attributes(text: &mut Vec<u8>, attributes: u32) -> Result<(), AllocError>
-    ensures { OnOk result (text.new.items ≡ text.old.items ++ memory_text (Attributes attributes)) }
+fn print_attributes<W: Sink>(page: &mut Printer<'_, W>, attributes: u32)
+    ensures { Prints page.old page.new (memory_text (Attributes attributes)) }
 {
-    text.extend_from_slice(b"attributes ")?;
-    push_hexadecimal(text, attributes)
+    page.print(b"attributes ");
+    print_hexadecimal(page, attributes);
 }
 
-/// Appends the lines of the blocks of a hunk.
-pub(crate) fn push_blocks(text: &mut Vec<u8>, blocks: &[Block<'_>]) -> Result<(), AllocError>
-    ensures { OnOk result (text.new.items ≡ text.old.items ++ flat_map block_lines blocks.now) }
+/// Prints the lines of the blocks of a hunk.
+pub(crate) fn print_blocks<W: Sink>(page: &mut Printer<'_, W>, blocks: &[Block<'_>])
+    ensures { Prints page.old page.new (flat_map block_lines blocks.now) }
 {
     'listing: for block in blocks {
-        push_block(text, block)?;
+        print_block(page, block);
     }
-    Ok(())
 }

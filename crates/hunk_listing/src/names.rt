@@ -1,9 +1,9 @@
 //! The names of blocks and of their entries, and the flags of a block word.
-ghost use Rattle.std.specs.Prelude.{◌≡◌, ◌/◌, ◌^◌, ◌++◌, OnOk};
+ghost use Rattle.std.specs.Prelude.{◌≡◌, ◌/◌, ◌^◌};
+ghost use Rattle.hunk_words.specs.Prints.{Prints};
 ghost use Rattle.hunk_listing.specs.BlockNames.{block_flags, kind_name, memory_flags, type_name, where_set};
 
-use hunk_words::{BlockWord, Kind};
-use std::alloc::AllocError;
+use hunk_words::{BlockWord, Kind, Printer, Sink};
 
 /// The name of a kind of block, as `dos/doshunks.h` has it. A block without a name there is
 /// advisory.
@@ -61,29 +61,28 @@ pub(crate) fn type_name(word: u32) -> &'static str
     }
 }
 
-/// Appends ` advisory`, ` chip` and ` fast` for the flags that the word has.
+/// Prints ` advisory`, ` chip` and ` fast` for the flags that the word has.
 #[tactic(auto, unfolding(crate::specs::BlockNames::block_flags))]
-pub(crate) fn push_block_flags(text: &mut Vec<u8>, word: BlockWord) -> Result<(), AllocError>
-    ensures { OnOk result (text.new.items ≡ text.old.items ++ block_flags word) }
+pub(crate) fn print_block_flags<W: Sink>(page: &mut Printer<'_, W>, word: BlockWord)
+    ensures { Prints page.old page.new (block_flags word) }
 {
-    push_where(text, word.word() >> 29 & 1 == 1, b" advisory")?;
-    push_memory_flags(text, word)
+    print_where(page, word.word() >> 29 & 1 == 1, b" advisory");
+    print_memory_flags(page, word);
 }
 
-/// Appends ` chip` and ` fast` for the flags that the word has.
+/// Prints ` chip` and ` fast` for the flags that the word has.
 #[tactic(auto, unfolding(crate::specs::BlockNames::memory_flags))]
-pub(crate) fn push_memory_flags(text: &mut Vec<u8>, word: BlockWord) -> Result<(), AllocError>
-    ensures { OnOk result (text.new.items ≡ text.old.items ++ memory_flags word) }
+pub(crate) fn print_memory_flags<W: Sink>(page: &mut Printer<'_, W>, word: BlockWord)
+    ensures { Prints page.old page.new (memory_flags word) }
 {
-    push_where(text, word.word() >> 30 & 1 == 1, b" chip")?;
-    push_where(text, word.word() >> 31 & 1 == 1, b" fast")
+    print_where(page, word.word() >> 30 & 1 == 1, b" chip");
+    print_where(page, word.word() >> 31 & 1 == 1, b" fast");
 }
 
-fn push_where(text: &mut Vec<u8>, flag: bool, name: &[u8]) -> Result<(), AllocError>
-    ensures { OnOk result (text.new.items ≡ text.old.items ++ where_set flag name.now) }
+fn print_where<W: Sink>(page: &mut Printer<'_, W>, flag: bool, name: &[u8])
+    ensures { Prints page.old page.new (where_set flag name.now) }
 {
     if flag {
-        text.extend_from_slice(name)?;
+        page.print(name);
     }
-    Ok(())
 }

@@ -1,5 +1,6 @@
 //! The lines of an object file.
-ghost use Rattle.std.specs.Prelude.{◌≡◌, ◌*◌, ◌++◌, true, false, IfSome, IfNone, OnOk};
+ghost use Rattle.std.specs.Prelude.{◌≡◌, ◌*◌, true, false, IfSome, IfNone};
+ghost use Rattle.hunk_words.specs.Prints.{Prints};
 ghost use Rattle.hunk_words.specs.Longs.{longs};
 ghost use Rattle.hunk_blocks.specs.Views.{body_of};
 ghost use Rattle.hunk_files.specs.Findings.{content_longs, hunk_bytes};
@@ -9,77 +10,74 @@ ghost use Rattle.hunk_files.specs.ObjectFile.{IsObjectHunk};
 ghost use Rattle.hunk_listing.specs.FileLines.{numbered, object_hunk_line, object_hunk_lines, object_line, unit_line, unit_lines};
 
 use crate::block::{bss_bytes, payload_bytes};
-use crate::load::push_blocks;
-use crate::text::{push_decimal, push_name};
+use crate::load::print_blocks;
+use crate::text::{print_decimal, print_name};
 use hunk_blocks::{Block, Body, Payload};
 use hunk_files::{Hunk, Unit};
-use std::alloc::AllocError;
+use hunk_words::{Printer, Sink};
 
-/// Appends the line of the file: how many units it has.
+/// Prints the line of the file: how many units it has.
 #[tactic(auto, unfolding(crate::specs::FileLines::object_line))]
-pub(crate) fn push_object_line(text: &mut Vec<u8>, units: usize) -> Result<(), AllocError>
-    ensures { OnOk result (text.new.items ≡ text.old.items ++ object_line units) }
+pub(crate) fn print_object_line<W: Sink>(page: &mut Printer<'_, W>, units: usize)
+    ensures { Prints page.old page.new (object_line units) }
 {
-    text.extend_from_slice(b"object file ")?;
-    push_decimal(text, units)?;
-    text.extend_from_slice(b" units\n")
+    page.print(b"object file ");
+    print_decimal(page, units);
+    page.print(b" units\n");
 }
 
-/// Appends the lines of all units.
-pub(crate) fn push_units(text: &mut Vec<u8>, units: &[Unit<'_>]) -> Result<(), AllocError>
-    ensures { OnOk result (text.new.items ≡ text.old.items ++ numbered unit_lines 0 units.now) }
+/// Prints the lines of all units.
+pub(crate) fn print_units<W: Sink>(page: &mut Printer<'_, W>, units: &[Unit<'_>])
+    ensures { Prints page.old page.new (numbered unit_lines 0 units.now) }
 {
     'units: for (number, unit) in units.iter().enumerate() {
-        push_unit(text, number, unit)?;
+        print_unit(page, number, unit);
     }
-    Ok(())
 }
 
-fn push_unit(text: &mut Vec<u8>, number: usize, unit: &Unit<'_>) -> Result<(), AllocError>
-    ensures { OnOk result (text.new.items ≡ text.old.items ++ unit_lines number unit.now) }
+fn print_unit<W: Sink>(page: &mut Printer<'_, W>, number: usize, unit: &Unit<'_>)
+    ensures { Prints page.old page.new (unit_lines number unit.now) }
 {
-    push_unit_line(text, number, unit.name())?;
-    push_hunks(text, unit.hunks())
+    print_unit_line(page, number, unit.name());
+    print_hunks(page, unit.hunks());
 }
 
 #[tactic(auto, unfolding(crate::specs::FileLines::unit_line))]
-fn push_unit_line(text: &mut Vec<u8>, number: usize, name: &Payload<'_>) -> Result<(), AllocError>
-    ensures { OnOk result (text.new.items ≡ text.old.items ++ unit_line number (longs name.now)) }
+fn print_unit_line<W: Sink>(page: &mut Printer<'_, W>, number: usize, name: &Payload<'_>)
+    ensures { Prints page.old page.new (unit_line number (longs name.now)) }
 {
-    text.extend_from_slice(b"unit ")?;
-    push_decimal(text, number)?;
-    text.extend_from_slice(b" ")?;
-    push_name(text, name)?;
-    text.extend_from_slice(b"\n")
+    page.print(b"unit ");
+    print_decimal(page, number);
+    page.print(b" ");
+    print_name(page, name);
+    page.print(b"\n");
 }
 
-fn push_hunks(text: &mut Vec<u8>, hunks: &[Hunk<'_>]) -> Result<(), AllocError>
-    ensures { OnOk result (text.new.items ≡ text.old.items
-        ++ numbered object_hunk_lines 0 hunks.now) }
+fn print_hunks<W: Sink>(page: &mut Printer<'_, W>, hunks: &[Hunk<'_>])
+    ensures { Prints page.old page.new (numbered object_hunk_lines 0 hunks.now) }
 {
     'hunks: for (number, hunk) in hunks.iter().enumerate() {
-        push_hunk(text, number, hunk)?;
+        print_hunk(page, number, hunk);
     }
-    Ok(())
 }
 
-fn push_hunk(text: &mut Vec<u8>, number: usize, hunk: &Hunk<'_>) -> Result<(), AllocError>
-    ensures { OnOk result (text.new.items ≡ text.old.items ++ object_hunk_lines number hunk.now) }
+fn print_hunk<W: Sink>(page: &mut Printer<'_, W>, number: usize, hunk: &Hunk<'_>)
+    ensures { Prints page.old page.new (object_hunk_lines number hunk.now) }
 {
     let blocks = hunk.blocks();
-    push_hunk_line(text, number, hunk_bytes(blocks))?;
-    push_blocks(text, blocks)
+    print_hunk_line(page, number, hunk_bytes(blocks));
+    print_blocks(page, blocks);
 }
 
 #[tactic(auto, unfolding(crate::specs::FileLines::object_hunk_line))]
-fn push_hunk_line(text: &mut Vec<u8>, number: usize, bytes: u64) -> Result<(), AllocError>
-    ensures { OnOk result (text.new.items ≡ text.old.items ++ object_hunk_line number bytes) }
+fn print_hunk_line<W: Sink>(page: &mut Printer<'_, W>, number: usize, bytes: u64)
+    ensures { Prints page.old page.new (object_hunk_line number bytes) }
 {
-    text.extend_from_slice(b"hunk ")?;
-    push_decimal(text, number)?;
-    text.extend_from_slice(b" ")?;
-    push_decimal(text, bytes)?;
-    text.extend_from_slice(b" bytes\n")
+    page.print(b"hunk ");
+    print_decimal(page, number);
+    page.print(b" ");
+    print_decimal(page, bytes);
+    page.print(b" bytes\n");
 }
 
 // How many bytes the hunk has: those of its content block.

@@ -1,79 +1,52 @@
 //! The report on a whole file.
-ghost use Rattle.std.specs.Prelude.{◌≡◌, ◌++◌, length, IfOk, OnOk};
+ghost use Rattle.std.specs.Prelude.{◌≡◌, ◌++◌, length};
+ghost use Rattle.hunk_words.specs.Prints.{Prints};
 ghost use Rattle.std.specs.List.{flat_map};
-ghost use Rattle.hunk_files.specs.Findings.{findings};
-ghost use Rattle.hunk_listing.specs.ReportLines.{count_line, finding_line, finding_name, load_summary, object_report};
+ghost use Rattle.hunk_listing.specs.ReportLines.{count_line, finding_line, finding_name, load_summary};
 
-use crate::load::{push_load_head, push_rest};
-use crate::text::{push_decimal, push_hexadecimal};
-use hunk_files::{Finding, FindingKind, Findings, LoadFile, ObjectFile};
-use std::alloc::{AllocError, Global};
-
-/// What is printed of a file that was checked.
-#[derive(Debug, Drop)]
-pub struct Report {
-    /// The lines.
-    pub text: Vec<u8>,
-    /// How many findings there are.
-    pub count: u64,
-}
+use crate::load::{print_load_head, print_rest};
+use crate::text::{print_decimal, print_hexadecimal};
+use hunk_files::{Finding, FindingKind, Findings, LoadFile};
+use hunk_words::{Printer, Sink};
 
 /// Reports a load file that so many bytes follow: nothing is found in one that was accepted.
-///
-/// # Errors
-///
-/// `AllocError` where memory for the text is refused.
-pub fn report_load_file(alloc: Global, file: &LoadFile<'_>, rest: u64) -> Result<Report, AllocError>
-    ensures { IfOk result (λ report. (report.count ≡ 0)
-        × (report.text.items ≡ load_summary file.now rest)) }
+pub fn print_load_summary<W: Sink>(page: &mut Printer<'_, W>, file: &LoadFile<'_>, rest: u64)
+    ensures { Prints page.old page.new (load_summary file.now rest) }
 {
-    let mut text = Vec::new(alloc);
-    push_load_head(&mut text, file)?;
-    push_rest(&mut text, rest)?;
-    Ok(Report { text, count: 0 })
+    print_load_head(page, file);
+    print_rest(page, rest);
 }
 
-/// Checks an object file, and reports what is found.
-///
-/// # Errors
-///
-/// `AllocError` where memory for the findings or for the text is refused.
-pub fn report_object_file(alloc: Global, file: &ObjectFile<'_>) -> Result<Report, AllocError>
-    ensures { IfOk result (λ report. (report.count ≡ length (findings file.now))
-        × (report.text.items ≡ object_report file.now)) }
+/// Reports what was found in an object file of so many units.
+pub fn print_object_report<W: Sink>(page: &mut Printer<'_, W>, units: usize, found: &Findings)
+    ensures { Prints page.old page.new
+        (flat_map finding_line found.now ++ count_line units (length found.now)) }
 {
-    let found = file.check(alloc)?;
-    let mut text = Vec::new(alloc);
-    push_findings(&mut text, &found)?;
-    push_count(&mut text, file.units().len(), found.len())?;
-    Ok(Report {
-        text,
-        count: found.len() as u64,
-    })
+    print_findings(page, found);
+    print_count(page, units, found.len());
 }
 
-fn push_findings(text: &mut Vec<u8>, found: &Findings) -> Result<(), AllocError>
-    ensures { OnOk result (text.new.items ≡ text.old.items ++ flat_map finding_line found.now) }
+fn print_findings<W: Sink>(page: &mut Printer<'_, W>, found: &Findings)
+    ensures { Prints page.old page.new (flat_map finding_line found.now) }
 {
     'found: for i in 0..found.len() {
-        push_finding(text, *found.at(i))?;
+        print_finding(page, *found.at(i));
     }
-    Ok(())
 }
 
 #[tactic(auto, unfolding(crate::specs::ReportLines::finding_line))]
-fn push_finding(text: &mut Vec<u8>, finding: Finding) -> Result<(), AllocError>
-    ensures { OnOk result (text.new.items ≡ text.old.items ++ finding_line finding) }
+fn print_finding<W: Sink>(page: &mut Printer<'_, W>, finding: Finding)
+    ensures { Prints page.old page.new (finding_line finding) }
 {
-    text.extend_from_slice(b"unit ")?;
-    push_decimal(text, finding.unit)?;
-    text.extend_from_slice(b" hunk ")?;
-    push_decimal(text, finding.hunk)?;
-    text.extend_from_slice(b" offset ")?;
-    push_hexadecimal(text, finding.offset)?;
-    text.extend_from_slice(b" ")?;
-    text.extend_from_slice(finding_name(finding.fault).as_bytes())?;
-    text.extend_from_slice(b"\n")
+    page.print(b"unit ");
+    print_decimal(page, finding.unit);
+    page.print(b" hunk ");
+    print_decimal(page, finding.hunk);
+    page.print(b" offset ");
+    print_hexadecimal(page, finding.offset);
+    page.print(b" ");
+    page.print(finding_name(finding.fault).as_bytes());
+    page.print(b"\n");
 }
 
 fn finding_name(fault: FindingKind) -> &'static str
@@ -86,12 +59,12 @@ fn finding_name(fault: FindingKind) -> &'static str
 }
 
 #[tactic(auto, unfolding(crate::specs::ReportLines::count_line))]
-fn push_count(text: &mut Vec<u8>, units: usize, count: usize) -> Result<(), AllocError>
-    ensures { OnOk result (text.new.items ≡ text.old.items ++ count_line units count) }
+fn print_count<W: Sink>(page: &mut Printer<'_, W>, units: usize, count: usize)
+    ensures { Prints page.old page.new (count_line units count) }
 {
-    text.extend_from_slice(b"object file ")?;
-    push_decimal(text, units)?;
-    text.extend_from_slice(b" units ")?;
-    push_decimal(text, count)?;
-    text.extend_from_slice(b" findings\n")
+    page.print(b"object file ");
+    print_decimal(page, units);
+    page.print(b" units ");
+    print_decimal(page, count);
+    page.print(b" findings\n");
 }

@@ -1,18 +1,19 @@
-//! Numbers and names, appended to a text.
-ghost use Rattle.std.specs.Prelude.{◌≡◌, ◌≤◌, ◌+◌, ◌*◌, ◌++◌, length, take, drop, codes, OnOk};
+//! Numbers and names, printed.
+ghost use Rattle.std.specs.Prelude.{◌≡◌, ◌≤◌, ◌+◌, ◌*◌, ◌++◌, length, take, drop, codes};
+ghost use Rattle.hunk_words.specs.Prints.{Prints};
 ghost use Rattle.hex.specs.Hex.{encode_lower};
 ghost use Rattle.hunk_words.specs.Longs.{longs};
 ghost use Rattle.hunk_listing.specs.Printed.{character, characters, hexadecimal, name_text};
 
 use hunk_blocks::Payload;
+use hunk_words::{Printer, Sink};
 use itoa::{Buffer, Integer};
-use std::alloc::AllocError;
 
-/// Appends the number in decimal.
-pub(crate) fn push_decimal<N: Integer>(text: &mut Vec<u8>, number: N) -> Result<(), AllocError>
-    ensures { OnOk result (text.new.items ≡ text.old.items ++ N.text number) }
+/// Prints the number in decimal.
+pub(crate) fn print_decimal<W: Sink, N: Integer>(page: &mut Printer<'_, W>, number: N)
+    ensures { Prints page.old page.new (N.text number) }
 {
-    text.extend_from_slice(Buffer::new().format(number).as_bytes())
+    page.print(Buffer::new().format(number).as_bytes());
 }
 
 /// Puts two hexadecimal digits a byte into the line, from `at` on.
@@ -25,43 +26,43 @@ pub(crate) fn put_digits(line: &mut [u8], at: usize, bytes: &[u8])
     let _ = hex::encode_to_slice(bytes, &mut line[at..at + 2 * bytes.len()]);
 }
 
-/// Appends `0x` and the number's eight hexadecimal digits.
-pub(crate) fn push_hexadecimal(text: &mut Vec<u8>, number: u32) -> Result<(), AllocError>
-    ensures { OnOk result (text.new.items ≡ text.old.items ++ hexadecimal number) }
+/// Prints `0x` and the number's eight hexadecimal digits.
+pub(crate) fn print_hexadecimal<W: Sink>(page: &mut Printer<'_, W>, number: u32)
+    ensures { Prints page.old page.new (hexadecimal number) }
 {
     let mut digits = *b"0x00000000";
     put_digits(digits.as_mut_slice(), 2, &number.to_be_bytes());
-    text.extend_from_slice(&digits)
+    page.print(&digits);
 }
 
-/// Appends the name's text: its bytes before the first zero byte, of which those outside 0x20 to
+/// Prints the name's text: its bytes before the first zero byte, of which those outside 0x20 to
 /// 0x7E, and the backslash, are `\x` and two hexadecimal digits.
-pub(crate) fn push_name(text: &mut Vec<u8>, name: &Payload<'_>) -> Result<(), AllocError>
-    ensures { OnOk result (text.new.items ≡ text.old.items ++ name_text (longs name.now)) }
+pub(crate) fn print_name<W: Sink>(page: &mut Printer<'_, W>, name: &Payload<'_>)
+    ensures { Prints page.old page.new (name_text (longs name.now)) }
 {
-    push_characters(text, name.bytes())
+    print_characters(page, name.bytes());
 }
 
-fn push_characters(text: &mut Vec<u8>, bytes: &[u8]) -> Result<(), AllocError>
-    ensures { OnOk result (text.new.items ≡ text.old.items ++ characters bytes.now) }
+fn print_characters<W: Sink>(page: &mut Printer<'_, W>, bytes: &[u8])
+    ensures { Prints page.old page.new (characters bytes.now) }
 {
     'bytes: for &byte in bytes {
         if byte == 0 {
-            return Ok(());
+            return;
         }
-        push_character(text, byte)?;
+        print_character(page, byte);
     }
-    Ok(())
 }
 
 #[tactic(auto, unfolding(crate::specs::Printed::character))]
-fn push_character(text: &mut Vec<u8>, byte: u8) -> Result<(), AllocError>
-    ensures { OnOk result (text.new.items ≡ text.old.items ++ character byte) }
+fn print_character<W: Sink>(page: &mut Printer<'_, W>, byte: u8)
+    ensures { Prints page.old page.new (character byte) }
 {
     if matches!(byte, 0x20..=0x7E) && byte != b'\\' {
-        return text.extend_from_slice(&[byte]);
+        page.print(&[byte]);
+        return;
     }
     let mut digits = *b"\\x00";
     put_digits(digits.as_mut_slice(), 2, &[byte]);
-    text.extend_from_slice(&digits)
+    page.print(&digits);
 }

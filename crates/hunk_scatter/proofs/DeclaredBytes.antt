@@ -1,7 +1,7 @@
 -- The declared bytes of a table, and of a front of it.
 use Rattle.std.proofs.Common.{◌≡◌, ℕ, zero, suc, ◌+◌, ◌-◌, ◌*◌, ◌/◌, ◌^◌, ◌<◌, ◌≤◌, min, slice_index, List, [], ◌∷◌, ◌++◌, length, take, drop, get_or, Some, refl, sym, ap, ◌∙◌, arith}
-use Rattle.std.specs.List.{slice_get}
-use Rattle.std.proofs.lemmas.List.{drop-drop, length-map, map-append, take_min, drop_min}
+use Rattle.std.specs.List.{slice_get, sum_by}
+use Rattle.std.proofs.lemmas.List.{drop-drop, length-drop, length-map, length-take, map-append, take_min, drop_min}
 use Rattle.std.proofs.Math.Seq.{take-add}
 use Rattle.std.proofs.lemmas.List.Sums.{sum_by-cons, sum_by-append}
 use Rattle.hunk_words.specs.Bits.{size_longs}
@@ -100,3 +100,12 @@ start_at rows starts i first more h few e u =
       declared_range rows first (i - first),
       ap (λ (k : ℕ). declared_bytes (entries_of (take k rows))) d,
     )
+
+-- the segments have the bytes of the store together
+pub cut_total : (rows : List Row) (store : List ℕ) → length store ≡ declared_bytes (entries_of rows) → sum_by length (cut (words_of rows) store) ≡ length store
+cut_total [] store e = sym e
+cut_total (r ∷ rows) store e =
+    let size = 4 * size_longs r.word in
+    let first = declared-cons (entry_of r) (entries_of rows) in
+    let rest = cut_total rows (drop size store) (omega (arith, e, first, length-drop size store)) in
+    omega (arith, e, first, rest, length-drop size store, length-take size store, sum_by-cons length (take size store) (cut (words_of rows) (drop size store)))

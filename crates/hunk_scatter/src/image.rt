@@ -1,5 +1,5 @@
 //! A load file in memory.
-ghost use Rattle.std.specs.Prelude.{◌≡◌, ◌+◌, ◌*◌, ◌<◌, ◌≤◌, length, slice_get, slice_index, Some};
+ghost use Rattle.std.specs.Prelude.{◌≡◌, ◌+◌, ◌*◌, ◌<◌, ◌≤◌, length, slice_get, slice_index, sum_by, Some};
 ghost use Rattle.hunk_words.specs.Limits.{most_hunks};
 ghost use Rattle.hunk_files.specs.Image.{declared_bytes};
 ghost use Rattle.hunk_scatter.specs.LoaderValues.{cut};
@@ -134,8 +134,10 @@ impl Image {
     }
 
     /// The bytes of all hunks.
+    #[tactic(auto, using(crate::proofs::DeclaredBytes::cut_total))]
     pub fn bytes(&self) -> u64
-        ensures { result ≡ declared_bytes (entries_of self.now.rows) }
+        ensures declared { result ≡ declared_bytes (entries_of self.now.rows) }
+        ensures together { result ≡ sum_by length self.now.segments }
     {
         self.store.len() as u64
     }

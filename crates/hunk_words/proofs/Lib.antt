@@ -1,4 +1,5 @@
 pub mod GatherLaws
 pub mod LongLaws
 pub mod PartLaws
+pub mod PrintLaws
 pub mod PutLaws

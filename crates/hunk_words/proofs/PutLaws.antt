@@ -5,11 +5,7 @@ use Rattle.std.proofs.Math.Seq.{take-append-add, take-append_seam}
 use Rattle.std.proofs.lemmas.Grind.{common_steps}
 use Rattle.std.proofs.KnownBytes.{Appends-nil, Appends-trans}
 use Rattle.std.specs.Io.KnownBytes.{Appends}
-use Rattle.hunk_words.specs.Puts.{Puts}
-
--- a first part of the bytes has gone out, and the rest is still to go
-abbrev pub PutsBefore : Option (List ℕ) → Option (List ℕ) → ℕ → ℕ → List ℕ → List ℕ → Type 0
-PutsBefore a b m n bytes rest = (front : List ℕ) × (bytes ≡ front ++ rest) × (n ≡ m + length front) × Appends a b front
+use Rattle.hunk_words.specs.Puts.{Puts, PutsBefore}
 
 -- one push in the middle of a put
 pub puts_more : (a b c : Option (List ℕ)) (start mid now : ℕ) (bytes rest : List ℕ) (n : ℕ)

@@ -2,5 +2,6 @@ pub mod Bits
 pub mod Carriers
 pub mod Limits
 pub mod Longs
+pub mod Prints
 pub mod Puts
 pub mod Reasons

@@ -15,7 +15,7 @@ mod listing;
 mod rewriting;
 
 use crate::run::listing::{Listing, list_file};
-use crate::run::rewriting::rewrite_file;
+use crate::run::rewriting::{rewrite_file, tell};
 use hunk_commands::{OUT_OF_MEMORY, RunFault};
 use hunk_orders::{FileName, Order, OrderFault, order};
 use hunk_words::{LongWriter, Sink};
@@ -114,7 +114,7 @@ fn obey<T: Files + Input, W: Sink>(
             input,
             output,
         } => match rewrite_file(rt, alloc, input, output, *strip) {
-            Ok(text) => print_bytes(text.as_slice(), DONE, out),
+            Ok(done) => tell(done, out),
             Err(fault) => report(alloc, fault, out),
         },
     }
@@ -161,17 +161,7 @@ fn print<W: Sink>(text: &str, status: u8, out: &mut LongWriter<W>) -> u8
     ensures known { result ≤ 4 }
     ensures printed { Prints W.taken W.failed out.old out.new text.now status result }
 {
-    print_bytes(text.as_bytes(), status, out)
-}
-
-// The same of a text that is bytes.
-fn print_bytes<W: Sink>(text: &[u8], status: u8, out: &mut LongWriter<W>) -> u8
-    requires first { out.old.written ≡ 0 }
-    requires known { status ≤ 4 }
-    ensures known { result ≤ 4 }
-    ensures printed { Prints W.taken W.failed out.old out.new text.now status result }
-{
-    match out.put_bytes(text) {
+    match out.put_bytes(text.as_bytes()) {
         Ok(()) => status,
         Err(fault) => RunFault::from(fault).status(),
     }

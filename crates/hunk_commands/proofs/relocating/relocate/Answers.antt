@@ -1,4 +1,4 @@
-use Rattle.std.proofs.Common.{◌≡◌, ◌⊎◌, ◌∙◌, ℕ, List, inl, inr, ap, ap₂, sym, subst, refl, length, arith}
+use Rattle.std.proofs.Common.{◌≡◌, ◌⊎◌, ◌∙◌, ℕ, List, inl, inr, ap, ap₂, sym, subst, refl, arith}
 use Rattle.std.specs.Prelude.{IsTrue}
 use Rattle.std.proofs.lemmas.Result.{err_from_is_err_and}
 use Rattle.hunk_words.specs.declared.fault.Fault.{Fault}
@@ -13,8 +13,9 @@ use Rattle.hunk_scatter.specs.Rows.{bases_of}
 use Rattle.hunk_commands.specs.declared.fault.RunFault.TheVariants.{Memory, Read, Refused}
 use Rattle.hunk_commands.specs.Faults.{refused_as, refused_for}
 use Rattle.hunk_listing.specs.SegmentLines.{listing}
-use Rattle.hunk_commands.specs.Relocating.{ReadsShort, packed, segments_of}
+use Rattle.hunk_commands.specs.Relocating.{ReadsShort, image_listing, packed, segments_of}
 use Rattle.hunk_commands.proofs.Engines.{handed}
+use Rattle.hunk_commands.proofs.ListingLengths.{image_listing_fits}
 use Rattle.hunk_commands.proofs.relocating.relocate.Goals as goal
 
 -- the refusal of an input is the load's
@@ -87,29 +88,34 @@ returns-in_err-image-clause-read g c =
       short = why.2;
     })
 
-pub returns-in_err-put_bytes-clause-over_budget : goal.returns-in_err-put_bytes-clause-over_budget
-returns-in_err-put_bytes-clause-over_budget g c = λ input at known sound passes. absurd (c.in_ok-image.ensures.over_budget input at known sound passes)
+pub returns-in_err-put_listing-clause-over_budget : goal.returns-in_err-put_listing-clause-over_budget
+returns-in_err-put_listing-clause-over_budget g c = λ input at known sound passes. absurd (c.in_ok-image.ensures.over_budget input at known sound passes)
 
 pub returns-clause-ok : goal.returns-clause-ok
 returns-clause-ok g c =
     let loaded = c.in_ok-image.ensures.loaded in
     let bases = bases_of c.in_ok-image.image.rows in
     let before = g.W.Sink.taken c.args.w.now.sink in
-    let after = g.W.Sink.taken c.put_bytes.new.self.sink in
-    let written = c.put_bytes.new.self.written in
-    let from_none = subst (λ (m : ℕ). Puts before after m written c.as_slice.result.now) c.requires c.in_ok-put_bytes.ensures.puts in (
+    let after = g.W.Sink.taken c.put_listing.new.w.sink in
+    let written = c.put_listing.new.w.written in
+    let lines = image_listing c.in_ok-image.image in (
       record {
         file = loaded.0;
-        lines = c.in_ok-text.text.items;
+        lines = lines;
         is_listing = record {
           is_file = loaded.1.is_load_file;
           within = loaded.1.within;
           bases = bases;
           are_bases = loaded.1.bases;
-          listing_is = c.in_ok-text.ensures ∙ ap (λ (ss : List (List ℕ)). listing (segments_of bases ss)) loaded.1.segments;
+          listing_is = ap (λ (ss : List (List ℕ)). listing (segments_of bases ss)) loaded.1.segments;
         };
         gave = loaded.2;
-        puts = subst (λ (xs : List ℕ). Puts before after 0 written xs) c.as_slice.ensures.value from_none;
+        puts = subst (λ (m : ℕ). Puts before after m written lines) c.requires c.in_ok-put_listing.ensures.puts;
       },
-      omega (arith, c.in_ok-put_bytes.ensures.whole, c.requires, ap (λ (xs : List ℕ). length xs) c.as_slice.ensures.value),
+      omega (arith, c.in_ok-put_listing.ensures.whole, c.requires),
     )
+
+pub put_listing-requires : goal.put_listing-requires
+put_listing-requires g c =
+    let loaded = c.in_ok-image.ensures.loaded in
+    omega (arith, c.requires, image_listing_fits loaded.0 c.in_ok-image.image c.bytes-bytes.result loaded.1.is_load_file loaded.1.table_is c.bytes-bytes.ensures.declared c.bytes-bytes.ensures.together)

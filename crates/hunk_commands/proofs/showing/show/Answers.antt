@@ -1,63 +1,68 @@
-use Rattle.std.proofs.Common.{◌≡◌, ℕ}
+use Rattle.std.proofs.Common.{◌≡◌, ℕ, refl, arith}
 use Rattle.std.proofs.lemmas.Result.{err_from_is_err_and}
 use Rattle.hunk_words.specs.declared.reason.Reason.TheVariants.{FileLimit}
 use Rattle.hunk_commands.specs.declared.fault.RunFault.{RunFault}
 use Rattle.hunk_commands.specs.Inputs.{Gave}
 use Rattle.hunk_commands.specs.declared.fault.RunFault.TheVariants.{Memory, Refused}
 use Rattle.hunk_commands.specs.Engine.{RefusesOnly, Writes}
-use Rattle.hunk_commands.specs.Shown.{IsShown}
+use Rattle.hunk_commands.specs.Shown.{IsShown, file_listing}
 use Rattle.hunk_commands.specs.Output.{StopsOutput}
-use Rattle.hunk_commands.proofs.FileLaws.{refused_in_limit, refused_not_written}
+use Rattle.hunk_commands.proofs.FileLaws.{refused_in_limit, refused_not_written, shown_file}
 use Rattle.hunk_commands.proofs.Engines.{handed, is_read, only_memory, refuses_only, stops_untouched, writes_all, writes_of, written_first}
+use Rattle.hunk_commands.proofs.ListingLengths.{file_listing_fits}
 use Rattle.hunk_commands.proofs.showing.show.Goals as goal
 
-pub returns-in_err-text-clause-succeeds : goal.returns-in_err-text-clause-succeeds
-returns-in_err-text-clause-succeeds g c = λ input known few file reads writes.
+pub returns-in_err-file-clause-succeeds : goal.returns-in_err-file-clause-succeeds
+returns-in_err-file-clause-succeeds g c = λ input known few file reads writes.
     let read = is_read _ _ c.args.file_bytes c.in_ok-input.input.items c.as_slice.result.now c.in_ok-input.ensures.given c.in_ok-input.ensures.at_end c.in_ok-input.ensures.bound c.as_slice.ensures.value in
-    handed (λ (fault : RunFault). fault ≡ Memory) c.from_residual-in_err-text.result c.in_err-text.field-0.0
-    (err_from_is_err_and c.from_residual-in_err-text.result c.from_residual-in_err-text.ensures.1)
-    (only_memory _ _ _ _ _ input read c.in_err-text.ensures.none known file)
+    handed (λ (fault : RunFault). fault ≡ Memory) c.from_residual-in_err-file.result c.in_err-file.field-0.0
+    (err_from_is_err_and c.from_residual-in_err-file.result c.from_residual-in_err-file.ensures.1)
+    (only_memory _ _ _ _ _ input read c.in_err-file.ensures.none known file)
 
-pub returns-in_err-text-clause-fails : goal.returns-in_err-text-clause-fails
-returns-in_err-text-clause-fails g c =
-    handed (StopsOutput g.W.Sink.taken g.W.Sink.failed c.args.w.now c.args.w.now) c.from_residual-in_err-text.result c.in_err-text.field-0.0
-    (err_from_is_err_and c.from_residual-in_err-text.result c.from_residual-in_err-text.ensures.1)
-    (stops_untouched g.W.Sink.taken g.W.Sink.failed c.args.w.now _ c.requires (refused_not_written _ _ c.in_err-text.ensures.refused))
+pub returns-in_err-file-clause-fails : goal.returns-in_err-file-clause-fails
+returns-in_err-file-clause-fails g c =
+    handed (StopsOutput g.W.Sink.taken g.W.Sink.failed c.args.w.now c.args.w.now) c.from_residual-in_err-file.result c.in_err-file.field-0.0
+    (err_from_is_err_and c.from_residual-in_err-file.result c.from_residual-in_err-file.ensures.1)
+    (stops_untouched g.W.Sink.taken g.W.Sink.failed c.args.w.now _ c.requires (refused_not_written _ _ c.in_err-file.ensures.refused))
 
-pub returns-in_err-text-clause-refused : goal.returns-in_err-text-clause-refused
-returns-in_err-text-clause-refused g c =
+pub returns-in_err-file-clause-refused : goal.returns-in_err-file-clause-refused
+returns-in_err-file-clause-refused g c =
     let a = g.R.Source.left c.args.r.now in
     let b = g.R.Source.left c.read_whole.new.source in
     let read = is_read a b c.args.file_bytes c.in_ok-input.input.items c.as_slice.result.now c.in_ok-input.ensures.given c.in_ok-input.ensures.at_end c.in_ok-input.ensures.bound c.as_slice.ensures.value in
-    handed (λ (fault : RunFault). RefusesOnly fault a b c.args.file_bytes) c.from_residual-in_err-text.result c.in_err-text.field-0.0
-    (err_from_is_err_and c.from_residual-in_err-text.result c.from_residual-in_err-text.ensures.1)
-    (refuses_only _ a b c.args.file_bytes _ read c.in_err-text.ensures.refused)
+    handed (λ (fault : RunFault). RefusesOnly fault a b c.args.file_bytes) c.from_residual-in_err-file.result c.in_err-file.field-0.0
+    (err_from_is_err_and c.from_residual-in_err-file.result c.from_residual-in_err-file.ensures.1)
+    (refuses_only _ a b c.args.file_bytes _ read c.in_err-file.ensures.refused)
 
-pub returns-in_err-put_bytes-clause-write : goal.returns-in_err-put_bytes-clause-write
-returns-in_err-put_bytes-clause-write g c =
+pub returns-in_err-put_listing-clause-write : goal.returns-in_err-put_listing-clause-write
+returns-in_err-put_listing-clause-write g c =
     let a = g.R.Source.left c.args.r.now in
     let b = g.R.Source.left c.read_whole.new.source in
     let before = g.W.Sink.taken c.args.w.now.sink in
-    let after = g.W.Sink.taken c.put_bytes.new.self.sink in
+    let after = g.W.Sink.taken c.put_listing.new.w.sink in
     let read = is_read a b c.args.file_bytes c.in_ok-input.input.items c.as_slice.result.now c.in_ok-input.ensures.given c.in_ok-input.ensures.at_end c.in_ok-input.ensures.bound c.as_slice.ensures.value in
-    written_first (λ (written : ℕ). Writes IsShown a b c.args.file_bytes before after written) c.from_residual-in_err-put_bytes.result c.in_err-put_bytes.field-0.0.written c.put_bytes.new.self.written
-    (err_from_is_err_and c.from_residual-in_err-put_bytes.result c.from_residual-in_err-put_bytes.ensures.1) c.in_err-put_bytes.ensures.told
-    (writes_of IsShown a b c.args.file_bytes before after c.args.w.now.written c.put_bytes.new.self.written c.as_slice.result.now c.in_ok-text.text.items c.as_slice-2.result.now read c.in_ok-text.ensures.ok
-    c.as_slice-2.ensures.value c.requires c.in_err-put_bytes.ensures.puts)
+    written_first (λ (written : ℕ). Writes IsShown a b c.args.file_bytes before after written) c.from_residual-in_err-put_listing.result c.in_err-put_listing.field-0.0.written c.put_listing.new.w.written
+    (err_from_is_err_and c.from_residual-in_err-put_listing.result c.from_residual-in_err-put_listing.ensures.1) c.in_err-put_listing.ensures.told
+    (writes_of IsShown a b c.args.file_bytes before after c.args.w.now.written c.put_listing.new.w.written c.as_slice.result.now (file_listing c.in_ok-file.file) (file_listing c.in_ok-file.file) read (shown_file c.as_slice.result.now c.in_ok-file.file c.in_ok-file.ensures.ok)
+    refl c.requires c.in_err-put_listing.ensures.puts)
 
 pub returns-clause-ok : goal.returns-clause-ok
 returns-clause-ok g c =
     let a = g.R.Source.left c.args.r.now in
     let b = g.R.Source.left c.read_whole.new.source in
     let before = g.W.Sink.taken c.args.w.now.sink in
-    let after = g.W.Sink.taken c.put_bytes.new.self.sink in
+    let after = g.W.Sink.taken c.put_listing.new.w.sink in
     let read = is_read a b c.args.file_bytes c.in_ok-input.input.items c.as_slice.result.now c.in_ok-input.ensures.given c.in_ok-input.ensures.at_end c.in_ok-input.ensures.bound c.as_slice.ensures.value in
-    writes_all IsShown a b c.args.file_bytes before after c.args.w.now.written c.put_bytes.new.self.written c.as_slice.result.now c.in_ok-text.text.items c.as_slice-2.result.now read c.in_ok-text.ensures.ok
-    c.as_slice-2.ensures.value c.requires c.in_ok-put_bytes.ensures.puts c.in_ok-put_bytes.ensures.whole
+    writes_all IsShown a b c.args.file_bytes before after c.args.w.now.written c.put_listing.new.w.written c.as_slice.result.now (file_listing c.in_ok-file.file) (file_listing c.in_ok-file.file) read (shown_file c.as_slice.result.now c.in_ok-file.file c.in_ok-file.ensures.ok)
+    refl c.requires c.in_ok-put_listing.ensures.puts c.in_ok-put_listing.ensures.whole
 
-pub returns-in_err-text-clause-limit : goal.returns-in_err-text-clause-limit
-returns-in_err-text-clause-limit g c =
+pub returns-in_err-file-clause-limit : goal.returns-in_err-file-clause-limit
+returns-in_err-file-clause-limit g c =
     handed (λ (fault : RunFault). (place : ℕ) → fault ≡ Refused (record { place = place; reason = FileLimit }) →
     (place ≡ c.args.file_bytes) × Gave (g.R.Source.left c.args.r.now) (g.R.Source.left c.read_whole.new.source) place)
-    c.from_residual-in_err-text.result c.in_err-text.field-0.0 (err_from_is_err_and c.from_residual-in_err-text.result c.from_residual-in_err-text.ensures.1)
-    (λ place is. absurd (refused_in_limit c.in_err-text.field-0.0 c.as_slice.result.now place c.in_err-text.ensures.refused is))
+    c.from_residual-in_err-file.result c.in_err-file.field-0.0 (err_from_is_err_and c.from_residual-in_err-file.result c.from_residual-in_err-file.ensures.1)
+    (λ place is. absurd (refused_in_limit c.in_err-file.field-0.0 c.as_slice.result.now place c.in_err-file.ensures.refused is))
+
+pub put_listing-requires : goal.put_listing-requires
+put_listing-requires g c =
+    omega (arith, c.requires, file_listing_fits c.as_slice.result.now c.in_ok-file.file c.in_ok-file.ensures.ok c.in_ok-file.ensures.few)

@@ -1,0 +1,217 @@
+-- The lines of a block are not much longer than its text.
+use Rattle.std.proofs.Common.{◌≡◌, ℕ, ◌+◌, ◌*◌, ◌%◌, ◌^◌, ◌<◌, ◌≤◌, Bool, true, false, List, [], ◌∷◌, length, refl, ap, arith, length-append}
+use Rattle.std.specs.Prelude.{codes, decimal, ◌==◌, ◌||◌, nat_lt}
+use Rattle.std.specs.Int.{is_in_range}
+use Rattle.std.specs.List.{AllByRecursion, flat_map}
+use Rattle.std.proofs.lemmas.List.{length-map}
+use Rattle.hunk_words.specs.Bits.{size_longs}
+use Rattle.hunk_blocks.specs.Values.{BlockBody, BlockValue, ExtEntry, RelocGroup, SymbolEntry, Name, Code, Data, Bss, Reloc, Ext, Symbol, Debug, Advisory, End, FitsShape, FitsWord, IsBlock, IsExtEntry, IsGroup, IsSymbolEntry, ext_shape, ext_type}
+use Rattle.hunk_blocks.specs.Parts.{Part, EntryName, EntryValue, EntryWord, ExtWord, GroupCount, Offset, Payload, block_parts, body_parts, each, ext_parts, ext_parts_by, group_parts, symbol_parts}
+use Rattle.hunk_listing.specs.BlockLines.{advisory_line, block_lines, body_lines, common_line, count_line, definition_line, end_line, entry_line, entry_lines, group_lines, head, name_line, offset_count, offset_line, reference_line, relocation_line, size_line, symbol_line}
+use Rattle.hunk_listing.specs.BlockNames.{memory_flags, type_name}
+use Rattle.hunk_listing.specs.Printed.{hexadecimal, name_text}
+use Rattle.hunk_listing.proofs.BlockLaws.{offsets_within}
+use Rattle.hunk_listing.proofs.LineLengths.{fits_either, fits3, fits4, fits5, fits7, fits9, length-head, length-hexadecimal, length-memory_flags, length-name, length-number, length-type}
+
+-- ---- lists
+
+-- Where the lines of each element are at most 96 times as long as its text, so are those of all.
+pub lists_short : {A B : Type 0} (Is : A → Type 0) (lines : A → List ℕ) (text : A → List B) →
+    ((x : A) → Is x → length (text x) < 2 ^ 60 → length (lines x) ≤ 96 * length (text x)) →
+    (xs : List A) → AllByRecursion Is xs → length (flat_map text xs) < 2 ^ 60 → length (flat_map lines xs) ≤ 96 * length (flat_map text xs)
+lists_short Is lines text short [] are few = omega arith
+lists_short Is lines text short (x ∷ xs) are few =
+    let sum = length-append (text x) (flat_map text xs) in
+    omega (
+      arith,
+      sum,
+      length-append (lines x) (flat_map lines xs),
+      short x are.0 (omega (arith, few, sum)),
+      lists_short Is lines text short xs are.1 (omega (arith, few, sum)),
+    )
+
+-- elements that each have a text are as many at most
+count_within : {A B : Type 0} (text : A → List B) → ((x : A) → 0 < length (text x)) → (xs : List A) → length xs ≤ length (flat_map text xs)
+count_within text some [] = omega arith
+count_within text some (x ∷ xs) = omega (arith, length-append (text x) (flat_map text xs), some x, count_within text some xs)
+
+-- ---- lines
+
+length-name_line : (word : ℕ) (name : List ℕ) → length (name_line word name) ≤ 35 + 16 * length name
+unfolding name_line
+length-name_line word name =
+    fits4 (35 + 16 * length name) (head word) (codes " ") (name_text name) (codes "\n") (omega (arith, length-head word, length-name name))
+
+length-size_line : (word size : ℕ) → size < 2 ^ 64 → length (size_line word size) ≤ 68
+unfolding size_line
+length-size_line word size fits =
+    fits4 68 (head word) (codes " ") (decimal size) (codes " bytes\n") (omega (arith, length-head word, length-number size (omega (arith, fits))))
+
+length-count_line : (word count : ℕ) → count < 2 ^ 64 → length (count_line word count) ≤ 62
+unfolding count_line
+length-count_line word count fits =
+    fits4 62 (head word) (codes " ") (decimal count) (codes "\n") (omega (arith, length-head word, length-number count (omega (arith, fits))))
+
+length-end_line : (word : ℕ) → length (end_line word) ≤ 34
+unfolding end_line
+length-end_line word = omega (arith, length-append (head word) (codes "\n"), length-head word)
+
+length-advisory_line : (word size : ℕ) → size < 2 ^ 64 → length (advisory_line word size) ≤ 83
+unfolding advisory_line
+length-advisory_line word size fits =
+    fits7 83 (codes "  ADVISORY ") (decimal (word % 2 ^ 29)) (codes " ") (decimal size) (codes " bytes") (memory_flags word) (codes "\n")
+    (omega (arith, length-number (word % 2 ^ 29) (omega arith), length-number size (omega (arith, fits)), length-memory_flags word))
+
+length-relocation_line : (target offset : ℕ) → target < 2 ^ 32 → length (relocation_line target offset) ≤ 43
+unfolding relocation_line
+length-relocation_line target offset fits =
+    fits5 43 (codes "    ") (decimal target) (codes " ") (hexadecimal offset) (codes "\n")
+    (omega (arith, length-number target (omega (arith, fits)), length-hexadecimal offset))
+
+length-symbol_line : (s : SymbolEntry) → length (symbol_line s) ≤ 16 + 16 * length s.name
+unfolding symbol_line
+length-symbol_line s =
+    fits5 (16 + 16 * length s.name) (codes "    ") (hexadecimal s.value) (codes " ") (name_text s.name) (codes "\n")
+    (omega (arith, length-hexadecimal s.value, length-name s.name))
+
+length-definition_line : (e : ExtEntry) → length (definition_line e) ≤ 71 + 16 * length e.name
+unfolding definition_line
+length-definition_line e =
+    fits7 (71 + 16 * length e.name) (codes "    ") (type_name (ext_type e)) (codes " ") (hexadecimal e.value) (codes " ") (name_text e.name) (codes "\n")
+    (omega (arith, length-type (ext_type e), length-hexadecimal e.value, length-name e.name))
+
+length-reference_line : (e : ExtEntry) → length e.offsets < 2 ^ 32 → length (reference_line e) ≤ 71 + 16 * length e.name
+unfolding reference_line
+length-reference_line e few =
+    fits7 (71 + 16 * length e.name) (codes "    ") (type_name (ext_type e)) (codes " ") (decimal (length e.offsets)) (codes " ") (name_text e.name) (codes "\n")
+    (omega (arith, length-type (ext_type e), length-number (length e.offsets) (omega (arith, few)), length-name e.name))
+
+length-common_line : (e : ExtEntry) → e.value < 2 ^ 32 → length e.offsets < 2 ^ 32 → length (common_line e) ≤ 71 + 16 * length e.name
+unfolding common_line
+length-common_line e fits few =
+    fits9 (71 + 16 * length e.name) (codes "    ") (type_name (ext_type e)) (codes " ") (decimal e.value) (codes " ") (decimal (length e.offsets))
+    (codes " ") (name_text e.name) (codes "\n")
+    (omega (arith, length-type (ext_type e), length-number e.value (omega (arith, fits)), length-number (length e.offsets) (omega (arith, few)), length-name e.name))
+
+length-entry_line : (e : ExtEntry) → e.value < 2 ^ 32 → length e.offsets < 2 ^ 32 → length (entry_line e) ≤ 71 + 16 * length e.name
+length-entry_line e fits few =
+    fits_either (71 + 16 * length e.name) (nat_lt (ext_type e) 3) (definition_line e) _ (length-definition_line e)
+    (fits_either (71 + 16 * length e.name) (ext_type e == 130 || ext_type e == 137) (common_line e) (reference_line e)
+    (length-common_line e fits few) (length-reference_line e few))
+
+length-offset_line : (offset : ℕ) → length (offset_line offset) ≤ 17
+unfolding offset_line
+length-offset_line offset = fits3 17 (codes "      ") (hexadecimal offset) (codes "\n") (omega (arith, length-hexadecimal offset))
+
+-- ---- groups, entries and symbols
+
+relocations_short : (target : ℕ) (offsets : List ℕ) → target < 2 ^ 32 → length (flat_map (relocation_line target) offsets) ≤ 43 * length offsets
+relocations_short target [] fits = omega arith
+relocations_short target (offset ∷ offsets) fits =
+    omega (
+      arith,
+      length-append (relocation_line target offset) (flat_map (relocation_line target) offsets),
+      length-relocation_line target offset fits,
+      relocations_short target offsets fits,
+    )
+
+group_short : (g : RelocGroup) → IsGroup g → length (group_parts g) < 2 ^ 60 → length (group_lines g) ≤ 96 * length (group_parts g)
+group_short g is few = omega (arith, relocations_short g.target g.offsets is.target, length-map {B = Part × ℕ} g.offsets (λ w. (Offset, w)))
+
+offsets_short : (offsets : List ℕ) → length (flat_map offset_line offsets) ≤ 17 * length offsets
+offsets_short [] = omega arith
+offsets_short (offset ∷ offsets) = omega (arith, length-append (offset_line offset) (flat_map offset_line offsets), length-offset_line offset, offsets_short offsets)
+
+-- the offsets of an entry are in its text
+pub references_within : (n : ℕ) (e : ExtEntry) → FitsShape (ext_shape n) e → 1 + length e.offsets ≤ length (ext_parts_by (ext_shape n) e)
+references_within n e = defined (nat_lt n 3) refl
+  where
+    offsets : length (each Offset e.offsets) ≡ length e.offsets
+    offsets = length-map {B = Part × ℕ} e.offsets (λ w. (Offset, w))
+
+    referred : nat_lt n 3 ≡ false → (n == 130 || n == 137) ≡ false → (b : Bool) → is_in_range 129 139 n ≡ b →
+        FitsShape (ext_shape n) e → 1 + length e.offsets ≤ length (ext_parts_by (ext_shape n) e)
+    referred d s true is = rw d (rw s (rw is (λ fits. omega (arith, offsets))))
+    referred d s false is = rw d (rw s (rw is (λ fits. absurd fits)))
+
+    shared : nat_lt n 3 ≡ false → (b : Bool) → (n == 130 || n == 137) ≡ b →
+        FitsShape (ext_shape n) e → 1 + length e.offsets ≤ length (ext_parts_by (ext_shape n) e)
+    shared d true is = rw d (rw is (λ fits. omega (arith, offsets)))
+    shared d false is = referred d is (is_in_range 129 139 n) refl
+
+    defined : (b : Bool) → nat_lt n 3 ≡ b → FitsShape (ext_shape n) e → 1 + length e.offsets ≤ length (ext_parts_by (ext_shape n) e)
+    defined true is = rw is (λ fits. omega (arith, ap length fits))
+    defined false is = shared is (n == 130 || n == 137) refl
+
+pub length-ext_parts : (e : ExtEntry) → length (ext_parts e) ≡ 1 + length e.name + length (ext_parts_by (ext_shape (ext_type e)) e)
+length-ext_parts e =
+    omega (
+      arith,
+      length-append (each EntryName e.name) (ext_parts_by (ext_shape (ext_type e)) e),
+      length-map {B = Part × ℕ} e.name (λ w. (EntryName, w)),
+    )
+
+entry_short : (e : ExtEntry) → IsExtEntry e → length (ext_parts e) < 2 ^ 60 → length (entry_lines e) ≤ 96 * length (ext_parts e)
+entry_short e is few =
+    omega (
+      arith,
+      length-append (entry_line e) (flat_map offset_line e.offsets),
+      length-entry_line e is.value is.offsets.0,
+      offsets_short e.offsets,
+      length-ext_parts e,
+      references_within (ext_type e) e is.shape,
+    )
+
+symbol_short : (s : SymbolEntry) → IsSymbolEntry s → length (symbol_parts s) < 2 ^ 60 → length (symbol_line s) ≤ 96 * length (symbol_parts s)
+symbol_short s is few =
+    omega (
+      arith,
+      length-symbol_line s,
+      length-append (each EntryName s.name) ((EntryValue, s.value) ∷ []),
+      length-map {B = Part × ℕ} s.name (λ w. (EntryName, w)),
+    )
+
+-- ---- blocks
+
+body_short : (word : ℕ) (body : BlockBody) → FitsWord word body → length (body_parts body) < 2 ^ 60 →
+    length (body_lines word body) ≤ 96 + 96 * length (body_parts body)
+body_short word (Name words) is few = omega (arith, length-name_line word words, length-map {B = Part × ℕ} words (λ w. (Payload, w)))
+body_short word (Code top words) is few = omega (arith, length-size_line word (4 * length words) (omega (arith, is.2.0)))
+body_short word (Data top words) is few = omega (arith, length-size_line word (4 * length words) (omega (arith, is.2.0)))
+body_short word (Bss size) is few = omega (arith, length-size_line word (4 * size_longs size) (omega arith))
+body_short word (Reloc groups) is few =
+    let text = length-append (flat_map group_parts groups) ((GroupCount, 0) ∷ []) in
+    let most = offsets_within groups in
+    omega (
+      arith,
+      text,
+      length-append (count_line word (offset_count groups)) (flat_map group_lines groups),
+      length-count_line word (offset_count groups) (omega (arith, few, text, most)),
+      lists_short IsGroup group_lines group_parts group_short groups is.1 (omega (arith, few, text)),
+    )
+body_short word (Ext entries) is few =
+    let text = length-append (flat_map ext_parts entries) ((ExtWord, 0) ∷ []) in
+    let most = count_within ext_parts (λ e. omega arith) entries in
+    omega (
+      arith,
+      text,
+      length-append (count_line word (length entries)) (flat_map entry_lines entries),
+      length-count_line word (length entries) (omega (arith, few, text, most)),
+      lists_short IsExtEntry entry_lines ext_parts entry_short entries is.1 (omega (arith, few, text)),
+    )
+body_short word (Symbol entries) is few =
+    let text = length-append (flat_map symbol_parts entries) ((EntryWord, 0) ∷ []) in
+    let most = count_within symbol_parts (λ s. omega arith) entries in
+    omega (
+      arith,
+      text,
+      length-append (count_line word (length entries)) (flat_map symbol_line entries),
+      length-count_line word (length entries) (omega (arith, few, text, most)),
+      lists_short IsSymbolEntry symbol_line symbol_parts symbol_short entries is.1 (omega (arith, few, text)),
+    )
+body_short word (Debug words) is few = omega (arith, length-size_line word (4 * length words) (omega (arith, is.1.0)))
+body_short word (Advisory words) is few = omega (arith, length-advisory_line word (4 * length words) (omega (arith, is.2.0)))
+body_short word End is few = omega (arith, length-end_line word)
+
+pub block_short : (b : BlockValue) → IsBlock b → length (block_parts b) < 2 ^ 60 → length (block_lines b) ≤ 96 * length (block_parts b)
+block_short b is few = omega (arith, body_short b.word b.body is.body (omega (arith, few)))

@@ -1,6 +1,0 @@
-use Rattle.std.proofs.Common.{◌≡◌, ◌++◌, drop}
-use Rattle.hunk_listing.specs.FileLines.{numbered, object_hunk_lines}
-use Rattle.hunk_listing.proofs.object.push_hunks.Given as goal
-
-abbrev pub invariant-hunks : goal.invariant-hunks
-invariant-hunks l = l.text.items ++ numbered object_hunk_lines l.number (drop l.number l.hunks) ≡ l.fn.text.items ++ numbered object_hunk_lines 0 l.hunks

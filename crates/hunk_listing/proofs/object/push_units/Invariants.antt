@@ -1,6 +1,0 @@
-use Rattle.std.proofs.Common.{◌≡◌, ◌++◌, drop}
-use Rattle.hunk_listing.specs.FileLines.{numbered, unit_lines}
-use Rattle.hunk_listing.proofs.object.push_units.Given as goal
-
-abbrev pub invariant-units : goal.invariant-units
-invariant-units l = l.text.items ++ numbered unit_lines l.number (drop l.number l.units) ≡ l.fn.text.items ++ numbered unit_lines 0 l.units
