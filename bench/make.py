@@ -1,0 +1,93 @@
+#!/usr/bin/env python3
+"""make.py KIND MIB OUT: a valid hunk file of about MIB MiB, the same at each call.
+
+Load files: code, debug, offsets, hunks (65,536 of them), symbols, blocks (DEBUG blocks of nothing).
+Object files: units, findings (relocations at no hunk, outside theirs)."""
+import array
+import random
+import sys
+
+UNIT, CODE, RELOC32, EXT = 0x3E7, 0x3E9, 0x3EC, 0x3EF
+SYMBOL, DEBUG, END, HEADER = 0x3F0, 0x3F1, 0x3F2, 0x3F3
+
+# one hunk of one longword, open behind its code
+ONE_HUNK = [HEADER, 0, 1, 0, 0, 1, CODE, 1, 0x4E754E71]
+
+
+def one_hunk_of(longs):
+    return [HEADER, 0, 1, 0, 0, longs, CODE, longs]
+
+
+def code(longs, content):
+    yield one_hunk_of(longs)
+    yield content(longs)
+    yield [RELOC32, 2, 0, 0, 2, 0, END]
+
+
+def debug(longs, content):
+    yield ONE_HUNK + [DEBUG, longs]
+    yield content(longs)
+    yield [END]
+
+
+def offsets(longs, content):
+    size = longs // 8
+    count = longs - size
+    yield one_hunk_of(size)
+    yield content(size)
+    yield [RELOC32, count, 0]
+    yield [4 * (i % size) for i in range(count)]
+    yield [0, END]
+
+
+def hunks(longs, content):
+    count = 65536
+    size = max(1, longs // count - 8)
+    yield [HEADER, 0, count, 0, count - 1] + [size] * count
+    for i in range(count):
+        yield [CODE, size]
+        yield content(size)
+        yield [RELOC32, 1, i ^ 1, 0, 0, END]
+
+
+def symbols(longs, content):
+    yield ONE_HUNK + [SYMBOL]
+    for i in range(longs // 4):
+        yield [2, 0x5F616161 + (i & 7), 0x62626200, 4 * i]
+    yield [0, END]
+
+
+def blocks(longs, content):
+    yield ONE_HUNK
+    yield [DEBUG, 0] * (longs // 2)
+    yield [END]
+
+
+def units(longs, content):
+    for _ in range(longs // 13):
+        yield [UNIT, 1, 0x61000000, CODE, 1, 0, EXT, 0x81000001, 0x5F660000, 1, 0, 0, END]
+
+
+def findings(longs, content):
+    yield [UNIT, 0, CODE, 1, 0, RELOC32, longs, 1]
+    yield [0xFFFFFFFF] * longs
+    yield [0, END]
+
+
+KINDS = {make.__name__: make for make in (code, debug, offsets, hunks, symbols, blocks, units, findings)}
+
+
+def main():
+    if len(sys.argv) != 4 or sys.argv[1] not in KINDS:
+        sys.exit(__doc__)
+    longs = max(64, int(float(sys.argv[2]) * (1 << 18)) - 64)
+    chance = random.Random(20261122)
+    with open(sys.argv[3], "wb") as out:
+        for part in KINDS[sys.argv[1]](longs, lambda count: array.array("I", chance.randbytes(4 * count))):
+            words = array.array("I", part)
+            if sys.byteorder == "little":
+                words.byteswap()
+            words.tofile(out)
+
+
+main()
