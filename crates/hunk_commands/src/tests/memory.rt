@@ -11,18 +11,31 @@ use hunk_words::FromSlice;
 use std::alloc::{AllocError, Global};
 use std::test::Fail;
 
-// All the memory that the allocator gives, in ever smaller pieces, so that the next growth is refused.
+/// Takes pieces of this size until one is refused.
+fn take_pieces(alloc: Global, size: usize, pieces: &mut Vec<Vec<u8>>) -> Result<(), AllocError> {
+    for _ in 0..10_000u64 {
+        match Vec::<u8>::with_capacity(alloc, size) {
+            Ok(piece) => pieces.push(piece)?,
+            Err(_) => break,
+        }
+    }
+    Ok(())
+}
+
+/// All the memory that the allocator gives, in ever smaller pieces: while they are held, the next
+/// growth is refused.
+///
+/// The allocator keeps small pieces that were freed apart by their size, 16 bytes from one to the
+/// next, and gives them to requests of that size alone: so these are asked for, too.
 fn all_memory(alloc: Global) -> Result<Vec<Vec<u8>>, AllocError> {
     let mut pieces = Vec::with_capacity(alloc, 60_000)?;
     let mut size = 1usize << 46;
     for _ in 0..44u64 {
-        for _ in 0..10_000u64 {
-            match Vec::<u8>::with_capacity(alloc, size) {
-                Ok(piece) => pieces.push(piece)?,
-                Err(_) => break,
-            }
-        }
+        take_pieces(alloc, size, &mut pieces)?;
         size /= 2;
+    }
+    for k in 0..66usize {
+        take_pieces(alloc, 8 + 16 * k, &mut pieces)?;
     }
     Ok(pieces)
 }
