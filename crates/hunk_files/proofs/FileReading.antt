@@ -1,7 +1,7 @@
 -- The hunks of a load file, read one after the other.
-use Rattle.std.proofs.Common.{◌≡◌, ◌≢◌, ℕ, ◌+◌, ◌-◌, ◌*◌, ◌<◌, ◌≤◌, List, [], ◌∷◌, ◌++◌, length, map, get_or, drop, refl, sym, ap, subst, ◌∙◌, append_assoc, append-nil, arith}
+use Rattle.std.proofs.Common.{◌≡◌, ◌≢◌, ℕ, ◌+◌, ◌-◌, ◌*◌, ◌<◌, ◌≤◌, List, [], ◌∷◌, ◌++◌, length, map, get_or, drop, take, refl, sym, ap, subst, ◌∙◌, append_assoc, append-nil, arith}
 use Rattle.std.specs.List.{AllByRecursion}
-use Rattle.std.proofs.lemmas.List.{append_cancel_left, length-append, length-map, length-drop, take-append-drop, map-append, get_or-map, get_or_at, drop_all}
+use Rattle.std.proofs.lemmas.List.{append_cancel_left, length-append, length-map, length-drop, length-take-le, take-append-drop, map-append, get_or-map, get_or_at, drop_all}
 use Rattle.hunk_words.specs.declared.reason.Reason.{Reason}
 use Rattle.hunk_words.specs.declared.reason.Reason.TheVariants as reasons
 use Rattle.hunk_words.specs.Longs.{longs, bytes_of, IsLong, AreLongs}
@@ -12,11 +12,13 @@ use Rattle.hunk_blocks.proofs.BlockLongs.{block_longs}
 use Rattle.hunk_files.specs.declared.row.Row.{Row}
 use Rattle.hunk_files.specs.LoadFile.{TableEntry, HunkValue, LoadFileValue, IsHunk}
 use Rattle.hunk_files.specs.LoadText.{table, text}
-use Rattle.hunk_files.specs.Fault.{BeginsWithLoadFile, HasLoadText, HasLongAt}
+use Rattle.hunk_blocks.specs.Faults.{IsFrontTo}
+use Rattle.hunk_files.specs.Fault.{BeginsWithLoadFile, HasLoadText, HasLongAt, loads}
 use Rattle.hunk_files.specs.Hunks.{block_texts, EndsOnce, IsLoadBlock, AreHunkBlocks, AreBlocksAt, HasNoHunk}
 use Rattle.hunk_files.specs.Tables.{row_entry, hunk_texts, IsTable}
 use Rattle.hunk_files.specs.FileSteps.{hunk}
 use Rattle.hunk_files.proofs.HunkReading.{stands_size}
+use Rattle.hunk_files.proofs.Scan.{begun_longs}
 use Rattle.hunk_files.proofs.Peel.{hunk_peel, hunk_is_blocks}
 use Rattle.hunk_blocks.proofs.Lists.{All-append}
 use Rattle.hunk_blocks.proofs.Fronts.{All-right}
@@ -147,3 +149,22 @@ hunk_reached bytes start number end place bs inside whole h p =
 abbrev pub begins : (bytes : List ℕ) (size : ℕ) → HasLoadText bytes size → BeginsWithLoadFile bytes
 begins bytes size h =
     record { value = h.value; is_load_file = h.is_load_file; rest = drop size bytes; split = sym (take-append-drop size bytes) ∙ ap (λ (l : List ℕ). l ++ drop size bytes) h.text_is }
+
+-- the bytes of the file alone
+abbrev pub whole_file : (bytes : List ℕ) (size : ℕ) → HasLoadText bytes size → BeginsWithLoadFile (take size bytes)
+whole_file bytes size h = record { value = h.value; is_load_file = h.is_load_file; rest = []; split = h.text_is ∙ sym (append-nil (bytes_of (text h.value))) }
+
+-- A load text begins with the longwords up to one that lies within the file.
+pub front_within : (bytes : List ℕ) (size place : ℕ) → HasLoadText bytes size → HasLongAt (take size bytes) place → IsFrontTo loads (longs bytes) place
+front_within bytes size place h at =
+    let ws = text h.value in
+    let rest = longs (drop size bytes) in
+    let n = at.number + 1 in
+    let within : n ≤ length ws = omega (arith, at.place, at.inside, ap length h.text_is, length-bytes_of ws) in
+    record {
+      read = take n ws;
+      after = drop n ws ++ rest;
+      split = begun_longs bytes (begins bytes size h) ∙ ap (λ (l : List ℕ). l ++ rest) (sym (take-append-drop n ws)) ∙ append_assoc (take n ws) (drop n ws) rest;
+      place = omega (arith, at.place, within, length-take-le n ws within);
+      front = record { value = h.value; is = h.is_load_file; more = drop n ws; begins = sym (take-append-drop n ws) };
+    }

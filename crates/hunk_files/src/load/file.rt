@@ -1,11 +1,12 @@
 //! Load files.
 ghost use Rattle.std.specs.Prelude.{◌≡◌, ◌≢◌, ◌^◌, ◌<◌, ◌≤◌, IfOk, IfErr, IsTrue, Some, length, map, slice_get, take};
 ghost use Rattle.hunk_words.specs.declared.reason.Reason.TheVariants as reasons;
-ghost use Rattle.hunk_words.specs.Longs.{bytes_of};
+ghost use Rattle.hunk_words.specs.Longs.{bytes_of, longs};
+ghost use Rattle.hunk_blocks.specs.Faults.{IsFrontTo};
 ghost use Rattle.hunk_files.specs.LoadFile.{IsLoadFile};
 ghost use Rattle.hunk_files.specs.Image.{declared_bytes};
 ghost use Rattle.hunk_files.specs.LoadText.{table, text};
-ghost use Rattle.hunk_files.specs.Fault.{BeginsWithLoadFile, HasFault, HasLongAt, is_load_refusal};
+ghost use Rattle.hunk_files.specs.Fault.{BeginsWithLoadFile, HasFault, is_load_refusal, loads};
 ghost use Rattle.hunk_files.specs.Tables.{entry_of};
 
 use crate::load::hunk::{LoadHunk, read_hunks};
@@ -57,14 +58,16 @@ impl<'a> LoadFile<'a> {
         ensures begins { IfErr result (λ fault. fault.reason ≡ reasons.OutOfMemory →
             BeginsWithLoadFile bytes.entry.now) }
         ensures reached { IfErr result (λ fault. fault.reason ≡ reasons.OutOfMemory →
-            HasLongAt bytes.entry.now fault.place) }
+            IsFrontTo loads (longs bytes.entry.now) fault.place) }
         ensures own { IfErr result (λ fault. IsTrue (is_load_refusal fault.reason)) }
     {
         let size = walk(bytes)?;
-        let (rows, start) = read_table(alloc, bytes)?;
-        let hunks = read_hunks(alloc, bytes, &rows, start)?;
+        let file = &bytes[..size];
+        let (rows, start) = read_table(alloc, file)?;
+        let hunks = read_hunks(alloc, file, &rows, start)?;
         Ok((LoadFile { hunks }, size))
     }
+
     /// The number of hunks, from 1 to 65,536.
     pub fn hunks(&self) -> u32
         ensures value { result ≡ length self.now }

@@ -1,4 +1,4 @@
-use Rattle.std.proofs.Common.{List, sym, ap, ◌∙◌, subst}
+use Rattle.std.proofs.Common.{List, take, sym, ap, ◌∙◌, subst}
 use Rattle.std.proofs.lemmas.Result.{err_from_is_err_and}
 use Rattle.hunk_words.specs.Longs.{bytes_of}
 use Rattle.hunk_blocks.proofs.ListReading.{if_err}
@@ -8,33 +8,33 @@ use Rattle.hunk_files.specs.LoadText.{text}
 use Rattle.hunk_files.specs.Tables.{IsTable}
 use Rattle.hunk_files.proofs.Scan.{no_fault}
 use Rattle.hunk_files.proofs.Refusals.{fault_not_memory, fault_of_load}
-use Rattle.hunk_files.proofs.FileReading.{begins}
+use Rattle.hunk_files.proofs.FileReading.{begins, front_within, whole_file}
 use Rattle.hunk_files.proofs.load.file.LoadFile.decode.Goals as goal
 
 pub read_table-requires : goal.read_table-requires
-read_table-requires c = begins c.args.bytes.now c.in_ok-size.size c.in_ok-size.ensures
+read_table-requires c = whole_file c.args.bytes.now c.in_ok-size.size c.in_ok-size.ensures
 
 pub read_hunks-requires-clause-begins : goal.read_hunks-requires-clause-begins
-read_hunks-requires-clause-begins c = begins c.args.bytes.now c.in_ok-size.size c.in_ok-size.ensures
+read_hunks-requires-clause-begins c = whole_file c.args.bytes.now c.in_ok-size.size c.in_ok-size.ensures
 
 pub read_hunks-requires-clause-table : goal.read_hunks-requires-clause-table
 read_hunks-requires-clause-table c file =
-    let P : List Row → Type 0 = λ rows. IsTable c.args.bytes.now file rows c.in_ok-rows.start in
+    let P : List Row → Type 0 = λ rows. IsTable (take c.in_ok-size.size c.args.bytes.now) file rows c.in_ok-rows.start in
     subst P (sym c.deref.ensures.value) (c.in_ok-rows.ensures.table file)
 
 pub invariant_of-result : goal.invariant_of-result
 invariant_of-result c =
-    let file = begins c.args.bytes.now c.in_ok-size.size c.in_ok-size.ensures in
+    let file = whole_file c.args.bytes.now c.in_ok-size.size c.in_ok-size.ensures in
     subst IsLoadFile (sym (c.in_ok-hunks.ensures.hunks file)) file.is_load_file
 
 pub returns-clause-value : goal.returns-clause-value
 returns-clause-value c =
-    let file = begins c.args.bytes.now c.in_ok-size.size c.in_ok-size.ensures in
+    let file = whole_file c.args.bytes.now c.in_ok-size.size c.in_ok-size.ensures in
     subst IsLoadFile (sym (c.in_ok-hunks.ensures.hunks file)) file.is_load_file
 
 pub returns-clause-text : goal.returns-clause-text
 returns-clause-text c =
-    let file = begins c.args.bytes.now c.in_ok-size.size c.in_ok-size.ensures in
+    let file = whole_file c.args.bytes.now c.in_ok-size.size c.in_ok-size.ensures in
     c.in_ok-size.ensures.text_is ∙ ap (λ (v : LoadFileValue). bytes_of (text v)) (sym (c.in_ok-hunks.ensures.hunks file))
 
 pub returns-in_err-size-clause-none : goal.returns-in_err-size-clause-none
@@ -62,3 +62,13 @@ returns-in_err-rows-clause-begins c = if_err c.from_residual-in_err-rows.result 
 
 pub returns-in_err-hunks-clause-begins : goal.returns-in_err-hunks-clause-begins
 returns-in_err-hunks-clause-begins c = if_err c.from_residual-in_err-hunks.result _ (λ fault memory. begins c.args.bytes.now c.in_ok-size.size c.in_ok-size.ensures)
+
+pub returns-in_err-rows-clause-reached : goal.returns-in_err-rows-clause-reached
+returns-in_err-rows-clause-reached c =
+    let p = err_from_is_err_and c.from_residual-in_err-rows.result c.from_residual-in_err-rows.ensures.1 in
+    rw (p.1, p.2) (λ memory. front_within c.args.bytes.now c.in_ok-size.size c.in_err-rows.field-0.0.place c.in_ok-size.ensures c.in_err-rows.ensures.reached)
+
+pub returns-in_err-hunks-clause-reached : goal.returns-in_err-hunks-clause-reached
+returns-in_err-hunks-clause-reached c =
+    let p = err_from_is_err_and c.from_residual-in_err-hunks.result c.from_residual-in_err-hunks.ensures.1 in
+    rw (p.1, p.2) (λ memory. front_within c.args.bytes.now c.in_ok-size.size c.in_err-hunks.field-0.0.place c.in_ok-size.ensures c.in_err-hunks.ensures.reached)
