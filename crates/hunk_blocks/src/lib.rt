@@ -7,6 +7,8 @@ mod entries;
 mod ext_shape;
 mod groups;
 pub mod laws;
+mod list;
+mod longs;
 mod mode;
 mod payload;
 mod reading;
@@ -17,8 +19,10 @@ pub use crate::block::Block;
 pub use crate::body::Body;
 pub use crate::entries::{Entries, Entry};
 pub use crate::groups::{Group, Groups};
+pub use crate::list::BlockList;
+pub use crate::longs::{Longs, LongsIter};
 pub use crate::mode::Mode;
-pub use crate::payload::{Longs, Payload};
+pub use crate::payload::Payload;
 pub use crate::symbols::{Named, Symbols};
 
 #[cfg(test)]

@@ -12,7 +12,7 @@ ghost use Rattle.hunk_blocks.specs.Views.{entry_of};
 
 use crate::entries::{Entries, Entry};
 use crate::ext_shape::{ExtShape, shape_of};
-use crate::payload::Longs;
+use crate::longs::Longs;
 use crate::reading::long_reader::LongReader;
 use crate::reading::payloads::{read_counted, read_entry_name};
 use hunk_words::{BlockFault, Reason};

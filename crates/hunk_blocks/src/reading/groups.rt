@@ -10,7 +10,7 @@ ghost use Rattle.hunk_blocks.specs.Reading.{BeginsWithNo, BeginsWithNoItem, IsFr
 ghost use Rattle.hunk_blocks.specs.Views.{group_of};
 
 use crate::groups::{Group, Groups};
-use crate::payload::Longs;
+use crate::longs::Longs;
 use crate::reading::long_reader::LongReader;
 use hunk_words::BlockFault;
 use std::alloc::Global;

@@ -1,7 +1,8 @@
 //! What a block that was read tells.
 
 use crate::tests::spelled;
-use crate::{Block, Body, Mode, Payload};
+use crate::{Block, Body, Groups, Mode, Payload};
+use std::alloc::{AllocError, Global};
 use std::test::Fail;
 
 #[test]
@@ -103,33 +104,41 @@ fn of_entries(rt: HostRuntime) -> Result<(), Fail> {
             assert_eq!(rt; reference.offsets.at(0), 2);
             assert_eq!(rt; reference.name.bytes(), b"_f\0\0".as_slice());
             assert_eq!(rt; (definition.value, definition.offsets.len()), (5, 0));
+            assert!(rt; definition.offsets.is_empty());
+            assert_eq!(rt; entries.iter().count(), 3);
         }
         _ => panic!(&rt; "EXT"),
     }
     Ok(())
 }
 
+/// The targets and offsets of a relocation block, in turn; nothing where it has no group.
+fn relocations(alloc: Global, longs: &[u32]) -> Result<Option<Vec<(u32, u32)>>, AllocError> {
+    let bytes = spelled(alloc, longs)?;
+    match Block::decode(alloc, bytes.as_slice(), Mode::Load) {
+        Ok((block, _)) => match block.body() {
+            Body::Reloc(groups) if !groups.is_empty() => Ok(Some(in_turn(alloc, groups)?)),
+            _ => Ok(None),
+        },
+        Err(_) => Ok(None),
+    }
+}
+
+fn in_turn(alloc: Global, groups: &Groups<'_>) -> Result<Vec<(u32, u32)>, AllocError> {
+    let mut found = Vec::new(alloc);
+    for group in groups {
+        for offset in &group.offsets {
+            found.push((group.target, offset))?;
+        }
+    }
+    Ok(found)
+}
+
 #[test]
 fn of_groups_in_turn(rt: HostRuntime) -> Result<(), Fail> {
-    let words = [0x3EC, 1, 0, 4, 2, 1, 8, 12, 0];
-    let bytes = spelled(rt.alloc(), words.as_slice())?;
-    let (block, _) = Block::decode(rt.alloc(), bytes.as_slice(), Mode::Load)?;
-    let none = spelled(rt.alloc(), [0x3EC, 0].as_slice())?;
-    let (empty, _) = Block::decode(rt.alloc(), none.as_slice(), Mode::Load)?;
-    match (block.body(), empty.body()) {
-        (Body::Reloc(groups), Body::Reloc(none)) => {
-            for (number, group) in groups.iter().enumerate() {
-                assert_eq!(rt; group.offsets.len(), number + 1);
-                assert_eq!(rt; group.target as usize, number);
-            }
-            assert_eq!(rt; groups.iter().count(), 2);
-            for group in groups {
-                assert!(rt; group.offsets.len() == 1 + group.target as usize);
-            }
-            assert!(rt; !groups.is_empty());
-            assert!(rt; none.is_empty());
-        }
-        _ => panic!(&rt; "RELOC32"),
-    }
+    let found = relocations(rt.alloc(), &[0x3EC, 1, 0, 4, 2, 1, 8, 12, 0])?;
+    let wanted = [(0, 4), (1, 8), (1, 12)];
+    assert_eq!(rt; found.as_deref(), Some(wanted.as_slice()));
+    assert_eq!(rt; relocations(rt.alloc(), &[0x3EC, 0])?, None);
     Ok(())
 }
