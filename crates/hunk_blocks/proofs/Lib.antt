@@ -20,6 +20,5 @@ pub mod SymbolReading
 pub mod OneBlockFault
 pub mod Outcomes
 pub mod Whole
-pub mod WriteLaws
 pub mod TextBytes
 pub mod ListWriting

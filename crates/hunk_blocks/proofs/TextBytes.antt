@@ -1,46 +1,57 @@
--- The bytes of the parts of a block, and their number.
-use Rattle.std.proofs.Common.{◌≡◌, ℕ, ◌+◌, ◌/◌, ◌^◌, List, [], ◌∷◌, ◌++◌, length, sym, ap, ◌∙◌, length-append, arith}
+-- What has been printed of a block's parts, when their longwords and names were printed.
+use Rattle.std.proofs.Common.{◌≡◌, ℕ, ◌+◌, ◌*◌, ◌/◌, ◌^◌, List, [], ◌∷◌, ◌++◌, length, refl, sym, ap, ◌∙◌, append_assoc, append-nil}
 use Rattle.hunk_words.specs.Longs.{bytes_of}
-use Rattle.hunk_words.proofs.LongLaws.{bytes_of-cons, length-bytes_of}
+use Rattle.hunk_words.proofs.LongLaws.{bytes_of-nil, bytes_of-append, bytes_of-cons}
+use Rattle.hunk_blocks.specs.declared.body.Body.{Body}
 use Rattle.hunk_blocks.specs.declared.ext_shape.ExtShape.{ExtShape}
-use Rattle.hunk_blocks.specs.Values.{RelocGroup, ExtEntry, SymbolEntry, ext_shape}
-use Rattle.hunk_blocks.specs.Parts.{group_text, ext_text, symbol_text}
+use Rattle.hunk_blocks.specs.Values.{BlockBody, BlockValue, ExtEntry, RelocGroup, SymbolEntry, ext_shape}
+use Rattle.hunk_blocks.specs.Parts.{block_text, body_text, counted_text, ext_text, group_text, sized_text, symbol_text}
+use Rattle.hunk_blocks.specs.Views.{body_of}
+use Rattle.hunk_blocks.proofs.BodyReading.{text_of, body_text_is}
 use Rattle.hunk_blocks.proofs.GroupReading.{group_text_is}
 use Rattle.hunk_blocks.proofs.SymbolReading.{symbol_text_is}
 use Rattle.hunk_blocks.proofs.EntryReading.{behind, ext_text_is}
 
--- a longword, and others
-pub first_bytes : (word n : ℕ) (words : List ℕ) → n ≡ word → bytes_of (word ∷ words) ≡ bytes_of (n ∷ []) ++ bytes_of words
-first_bytes word n words e = bytes_of-cons word words ∙ ap (λ w. bytes_of (w ∷ []) ++ bytes_of words) (sym e)
+-- longwords, and then others
+pub words_printed : (xs ys old mid new : List ℕ) → mid ≡ old ++ bytes_of xs → new ≡ mid ++ bytes_of ys → new ≡ old ++ bytes_of (xs ++ ys)
+words_printed xs ys old mid new first then =
+    then ∙ ap (λ l. l ++ bytes_of ys) first ∙ append_assoc old (bytes_of xs) (bytes_of ys) ∙ ap (λ l. old ++ l) (sym (bytes_of-append xs ys))
 
-pub first_size : (word : ℕ) (words : List ℕ) → length (bytes_of (word ∷ words)) ≡ 4 + length (bytes_of words)
-first_size word words = omega (arith, length-bytes_of (word ∷ words), length-bytes_of words)
+-- one longword, and then others
+pub word_printed : (word n : ℕ) (words old mid new : List ℕ) → n ≡ word → mid ≡ old ++ bytes_of (n ∷ []) → new ≡ mid ++ bytes_of words → new ≡ old ++ bytes_of (word ∷ words)
+word_printed word n words old mid new is first then = words_printed (word ∷ []) words old mid new (first ∙ ap (λ w. old ++ bytes_of (w ∷ [])) is) then
 
-pub group_bytes : (g : RelocGroup) (n : ℕ) → n ≡ length g.offsets → bytes_of (group_text g) ≡ bytes_of (n ∷ []) ++ bytes_of (g.target ∷ g.offsets)
-group_bytes g n e = ap bytes_of (group_text_is g) ∙ first_bytes (length g.offsets) n (g.target ∷ g.offsets) e
+pub group_printed : (target n : ℕ) (offsets old a b new : List ℕ) → n ≡ length offsets → a ≡ old ++ bytes_of (n ∷ []) → b ≡ a ++ bytes_of (target ∷ []) → new ≡ b ++ bytes_of offsets →
+    new ≡ old ++ bytes_of (group_text (record { target = target; offsets = offsets }))
+group_printed target n offsets old a b new count first second third =
+    let g : RelocGroup = record { target = target; offsets = offsets } in
+    word_printed (length offsets) n (target ∷ offsets) old a new count first (word_printed target target offsets a b new refl second third)
+    ∙ ap (λ l. old ++ bytes_of l) (sym (group_text_is g))
 
-pub group_size : (g : RelocGroup) → length (bytes_of (group_text g)) ≡ 8 + length (bytes_of g.offsets)
-group_size g =
-    omega (arith, ap (λ l. length (bytes_of l)) (group_text_is g), length-bytes_of (length g.offsets ∷ g.target ∷ g.offsets), length-bytes_of g.offsets)
+pub symbol_printed : (word value : ℕ) (name old a b new : List ℕ) → a ≡ old ++ bytes_of (word ∷ []) → b ≡ a ++ bytes_of name → new ≡ b ++ bytes_of (value ∷ []) →
+    new ≡ old ++ bytes_of (symbol_text (record { word = word; name = name; value = value }))
+symbol_printed word value name old a b new first second third =
+    let s : SymbolEntry = record { word = word; name = name; value = value } in
+    word_printed word word (name ++ value ∷ []) old a new refl first (words_printed name (value ∷ []) a b new second third)
+    ∙ ap (λ l. old ++ bytes_of l) (sym (symbol_text_is s))
 
-pub symbol_bytes : (s : SymbolEntry) → bytes_of (symbol_text s) ≡ bytes_of (s.word ∷ []) ++ bytes_of (s.name ++ s.value ∷ [])
-symbol_bytes s = ap bytes_of (symbol_text_is s) ∙ bytes_of-cons s.word (s.name ++ s.value ∷ [])
+-- of an entry, what its shape wants is last
+pub entry_printed : (s : ExtShape) (e : ExtEntry) (old a b new : List ℕ) → ext_shape (e.word / 2 ^ 24) ≡ s → a ≡ old ++ bytes_of (e.word ∷ []) → b ≡ a ++ bytes_of e.name →
+    new ≡ b ++ bytes_of (behind s e.value e.offsets) → new ≡ old ++ bytes_of (ext_text e)
+entry_printed s e old a b new shape first second third =
+    let rest = behind (ext_shape (e.word / 2 ^ 24)) e.value e.offsets in
+    word_printed e.word e.word (e.name ++ rest) old a new refl first (words_printed e.name rest a b new second (third ∙ ap (λ t. b ++ bytes_of (behind t e.value e.offsets)) (sym shape)))
+    ∙ ap (λ l. old ++ bytes_of l) (sym (ext_text_is e))
 
-pub symbol_size : (s : SymbolEntry) → length (bytes_of (symbol_text s)) ≡ 8 + length (bytes_of s.name)
-symbol_size s =
-    omega (arith, ap (λ l. length (bytes_of l)) (symbol_text_is s), length-bytes_of (s.word ∷ (s.name ++ s.value ∷ [])), length-append s.name (s.value ∷ []), length-bytes_of s.name)
+-- a body that is known
+pub body_printed : (body known : Body) (old new : List ℕ) → body ≡ known → new ≡ old ++ bytes_of (text_of (body_of known)) → new ≡ old ++ bytes_of (body_text (body_of body))
+body_printed body known old new is printed =
+    printed ∙ ap (λ l. old ++ bytes_of l) (sym (ap (λ b. body_text (body_of b)) is ∙ body_text_is (body_of known)))
 
-pub entry_bytes : (e : ExtEntry) → bytes_of (ext_text e) ≡ bytes_of (e.word ∷ []) ++ bytes_of (e.name ++ behind (ext_shape (e.word / 2 ^ 24)) e.value e.offsets)
-entry_bytes e = ap bytes_of (ext_text_is e) ∙ bytes_of-cons e.word (e.name ++ behind (ext_shape (e.word / 2 ^ 24)) e.value e.offsets)
+pub none_printed : (old : List ℕ) → old ≡ old ++ bytes_of []
+none_printed old = sym (ap (λ l. old ++ l) bytes_of-nil ∙ append-nil old)
 
-pub entry_size : (e : ExtEntry) → length (bytes_of (ext_text e)) ≡ 4 + length (bytes_of e.name) + length (bytes_of (behind (ext_shape (e.word / 2 ^ 24)) e.value e.offsets))
-entry_size e =
-    let rest : List ℕ = behind (ext_shape (e.word / 2 ^ 24)) e.value e.offsets in
-    omega (arith, ap (λ l. length (bytes_of l)) (ext_text_is e), length-bytes_of (e.word ∷ (e.name ++ rest)), length-append e.name rest, length-bytes_of e.name, length-bytes_of rest)
-
--- an entry of this shape
-pub entry_bytes_as : (s : ExtShape) (e : ExtEntry) → ext_shape (e.word / 2 ^ 24) ≡ s → bytes_of (ext_text e) ≡ bytes_of (e.word ∷ []) ++ bytes_of (e.name ++ behind s e.value e.offsets)
-entry_bytes_as s e shape = entry_bytes e ∙ ap (λ t. bytes_of (e.word ∷ []) ++ bytes_of (e.name ++ behind t e.value e.offsets)) shape
-
-pub entry_size_as : (s : ExtShape) (e : ExtEntry) → ext_shape (e.word / 2 ^ 24) ≡ s → length (bytes_of (ext_text e)) ≡ 4 + length (bytes_of e.name) + length (bytes_of (behind s e.value e.offsets))
-entry_size_as s e shape = entry_size e ∙ ap (λ t. 4 + length (bytes_of e.name) + length (bytes_of (behind t e.value e.offsets))) shape
+-- the word of a block, and its body
+pub block_printed : (word n : ℕ) (body : BlockBody) (b : BlockValue) (old mid new : List ℕ) → record { word = word; body = body } ≡ b → n ≡ word → mid ≡ old ++ bytes_of (n ∷ []) →
+    new ≡ mid ++ bytes_of (body_text body) → new ≡ old ++ bytes_of (block_text b)
+block_printed word n body b old mid new view is first then = word_printed word n (body_text body) old mid new is first then ∙ ap (λ v. old ++ bytes_of (block_text v)) view

@@ -6,4 +6,3 @@ pub mod Parts
 pub mod Reading
 pub mod Values
 pub mod Views
-pub mod Writes

@@ -3,6 +3,7 @@ ghost use Rattle.std.specs.Prelude.{◌≡◌, ◌≢◌, ℕ, ◌+◌, ◌*◌,
 ghost use Rattle.hunk_words.specs.declared.reason.Reason.{Reason};
 ghost use Rattle.hunk_words.specs.declared.reason.Reason.TheVariants as reasons;
 ghost use Rattle.hunk_words.specs.Longs.{bytes_of, longs};
+ghost use Rattle.hunk_words.specs.Prints.{Prints};
 ghost use Rattle.hunk_words.specs.Puts.{Puts};
 ghost use Rattle.hunk_words.specs.Bits.{kind};
 ghost use Rattle.hunk_blocks.specs.declared.mode.Mode.TheVariants as modes;
@@ -16,8 +17,8 @@ ghost use Rattle.hunk_blocks.specs.Views.{body_of};
 use crate::body::Body;
 use crate::mode::Mode;
 use crate::reading::{LongReader, read_body};
-use crate::writing::put_body;
-use hunk_words::{BlockFault, BlockWord, LongWriter, Sink, WriteFault};
+use crate::writing::print_body;
+use hunk_words::{BlockFault, BlockWord, LongWriter, PagePrinter, Sink, WriteFault};
 use std::alloc::Global;
 use std::marker::Model;
 
@@ -115,11 +116,20 @@ impl<'a> Block<'a> {
         self.len
     }
 
-    /// Writes the block's text, which the writer's count has room for.
+    /// Prints the block's text. Who writes many blocks prints them on one page.
+    pub fn print<W: Sink, const ROOM: usize>(&self, page: &mut PagePrinter<'_, W, ROOM>)
+        ensures { Prints page.old page.new (bytes_of (block_text self.now)) }
+    {
+        page.print_long(self.word.word());
+        print_body(page, self.word, &self.body);
+    }
+
+    /// Writes the block's text, which the writer's count has room for, part by part with no page.
     ///
     /// It takes no memory. At a `WriteFault` the writer's sink failed, now or before, and just the
     /// first `written` bytes of all that was ever put have gone out; later puts write nothing and
     /// answer the same.
+    #[tactic(auto, using(hunk_words::proofs::PutLaws::puts_after_none))]
     pub fn encode<W: Sink>(&self, writer: &mut LongWriter<W>) -> Result<(), WriteFault>
         requires { writer.old.written + length (bytes_of (block_text self.now)) < 2 ^ 64 }
         ensures puts { Puts (W.taken writer.old.sink) (W.taken writer.new.sink)
@@ -132,7 +142,26 @@ impl<'a> Block<'a> {
         ensures stays { writer.old.stopped ≡ true → IsErr result × (writer.new ≡ writer.old) }
         ensures quiet { OnOk result (W.failed writer.new.sink ≡ W.failed writer.old.sink) }
     {
-        writer.put_long(self.word.word())?;
-        put_body(writer, self.word, &self.body)
+        writer.put_bytes(&[])?;
+        put_block(writer, self)
     }
+}
+
+// Puts the block's text, part by part with no page.
+fn put_block<W: Sink>(writer: &mut LongWriter<W>, block: &Block<'_>) -> Result<(), WriteFault>
+    requires { writer.old.written + length (bytes_of (block_text block.now)) < 2 ^ 64 }
+    ensures puts { Puts (W.taken writer.old.sink) (W.taken writer.new.sink)
+        writer.old.written writer.new.written (bytes_of (block_text block.now)) }
+    ensures whole { OnOk result (writer.new.written ≡ writer.old.written
+        + length (bytes_of (block_text block.now))) }
+    ensures told { IfErr result (λ fault. fault.written ≡ writer.new.written) }
+    ensures failed { OnErr result (W.failed writer.new.sink ≡ true) }
+    ensures stops { writer.new.stopped ≡ is_err result }
+    ensures quiet { OnOk result (W.failed writer.new.sink ≡ W.failed writer.old.sink) }
+{
+    let mut page = PagePrinter::<W, 0>::new(writer);
+    block.print(&mut page);
+    let result = page.flush();
+    let _out = page.into_inner();
+    result
 }

@@ -24,7 +24,6 @@ pub mod ObjectText
 mod ObjectWords
 pub mod OffsetLists
 pub mod Peel
-pub mod Puts
 pub mod Reading
 pub mod Refusals
 pub mod Relocate

@@ -1,5 +1,5 @@
 -- The text of a load file in memory, in the parts that are written.
-use Rattle.std.proofs.Common.{◌≡◌, ℕ, ◌+◌, ◌-◌, true, false, List, [], ◌∷◌, ◌++◌, length, map, refl, sym, ap, ap₂, ◌∙◌, length-append, arith, if◌then◌else◌}
+use Rattle.std.proofs.Common.{◌≡◌, ℕ, ◌+◌, ◌-◌, true, false, List, [], ◌∷◌, ◌++◌, length, map, refl, sym, ap, ap₂, ◌∙◌, append_assoc}
 use Rattle.std.specs.List.{flat_map}
 use Rattle.std.proofs.lemmas.List.{length-map}
 use Rattle.std.proofs.lemmas.List.Folds.{flat_map-map}
@@ -15,12 +15,6 @@ use Rattle.hunk_files.specs.Tables.{row_entry, hunk_of, hunk_texts, row_words, r
 use Rattle.hunk_files.proofs.TableReading.{entries_words, entries_more, entry_words, text_is}
 
 -- ---- a row
-
-abbrev pub row_rest : Row → List ℕ
-row_rest r = if has_both_bits r.word then r.extra ∷ [] else []
-
-pub row_split : (r : Row) → bytes_of (row_words r) ≡ bytes_of (r.word ∷ []) ++ bytes_of (row_rest r)
-row_split r = ap bytes_of (entry_words (row_entry r) (has_both_bits r.word) refl) ∙ bytes_of-cons r.word (row_rest r)
 
 pub row_two : (r : Row) → has_both_bits r.word ≡ true → bytes_of (row_words r) ≡ bytes_of (r.word ∷ []) ++ bytes_of (r.extra ∷ [])
 row_two r e = ap bytes_of (entry_words (row_entry r) true e) ∙ bytes_of-cons r.word (r.extra ∷ [])
@@ -39,22 +33,6 @@ numbers hs = 0 ∷ length hs ∷ 0 ∷ (length hs - 1) ∷ []
 pub behind_split : (hs : List LoadHunk) → bytes_of (behind_first hs) ≡ bytes_of (numbers hs) ++ (bytes_of (row_texts hs) ++ bytes_of (all_blocks hs))
 behind_split hs = bytes_of-append (numbers hs) (row_texts hs ++ all_blocks hs) ∙ ap (λ (l : List ℕ). bytes_of (numbers hs) ++ l) (bytes_of-append (row_texts hs) (all_blocks hs))
 
-pub behind_size : (hs : List LoadHunk) → length (bytes_of (behind_first hs)) ≡ length (bytes_of (numbers hs)) + (length (bytes_of (row_texts hs)) + length (bytes_of (all_blocks hs)))
-behind_size hs =
-    omega (
-      arith,
-      ap length (behind_split hs),
-      length-append (bytes_of (numbers hs)) (bytes_of (row_texts hs) ++ bytes_of (all_blocks hs)),
-      length-append (bytes_of (row_texts hs)) (bytes_of (all_blocks hs)),
-    )
-
--- what stands behind the first longword of a text
-abbrev pub after_first : LoadFileValue → List ℕ
-after_first v = 0 ∷ length (table v) ∷ 0 ∷ (length (table v) - 1) ∷ (entries_words (table v) ++ hunk_texts v)
-
-pub first_split : (v : LoadFileValue) → bytes_of (text v) ≡ bytes_of (0x3F3 ∷ []) ++ bytes_of (after_first v)
-first_split v = ap bytes_of (text_is v) ∙ bytes_of-cons 0x3F3 (after_first v)
-
 rows_are : (hs : List LoadHunk) → entries_words (table (map hunk_of hs)) ≡ row_texts hs
 rows_are [] = refl
 rows_are (h ∷ hs) = entries_more (row_entry h.row) (table (map hunk_of hs)) ∙ ap (λ (l : List ℕ). row_words h.row ++ l) (rows_are hs)
@@ -69,3 +47,7 @@ pub text_split : (hs behind : List LoadHunk) (v : LoadFileValue) → map hunk_of
 text_split hs behind v view same =
     ap (λ (w : LoadFileValue). bytes_of (text w)) (sym view) ∙ ap bytes_of (text_behind hs) ∙ bytes_of-cons 0x3F3 (behind_first hs)
     ∙ ap (λ (l : List LoadHunk). bytes_of (0x3F3 ∷ []) ++ bytes_of (behind_first l)) (sym same)
+
+-- a text that was printed in two parts
+pub printed_two : (text xs ys old mid new : List ℕ) → mid ≡ old ++ xs → new ≡ mid ++ ys → text ≡ xs ++ ys → new ≡ old ++ text
+printed_two text xs ys old mid new first then split = then ∙ ap (λ l. l ++ ys) first ∙ append_assoc old xs ys ∙ ap (λ l. old ++ l) (sym split)

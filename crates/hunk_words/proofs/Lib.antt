@@ -3,3 +3,4 @@ pub mod LongLaws
 pub mod PartLaws
 pub mod PrintLaws
 pub mod PutLaws
+pub mod Shown

@@ -4,10 +4,11 @@ use Rattle.std.specs.Borrow.{GName, MutBor}
 use Rattle.hunk_words.specs.Carriers.{Writing}
 use Rattle.hunk_words.specs.Puts.{Puts, PutsBefore}
 
--- the writer that is printed to, what its sink had taken and how many bytes it had written when the printer was made
+-- the writer that is printed to, and as it was when the printer was made: what its sink had taken, whether that had failed, and how many bytes were written
 pub record Origin : Type 0 where
   pub name : GName
   pub taken : Option (List ℕ)
+  pub failed : Bool
   pub written : ℕ
 
 -- a printer as its callers see it: its writer as it is now, the writer at first, and all that was printed

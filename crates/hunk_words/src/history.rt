@@ -1,13 +1,14 @@
-//! A history that only proofs read. It takes no memory, and its methods do nothing at run time.
-ghost use Rattle.std.specs.Prelude.{◌≡◌, ℕ, List, Option, [], ◌++◌};
+//! Histories that only proofs read. They take no memory, and their methods do nothing at run time.
+ghost use Rattle.std.specs.Prelude.{◌≡◌, ℕ, Bool, List, Option, [], ◌++◌};
 ghost use Rattle.std.specs.Borrow.{ftrue};
 
+use crate::long_writer::LongWriter;
+use crate::sink::Sink;
 use std::marker::Model;
 
-/// What a sink had taken at first, where that was told, and the bytes that were put since.
+/// The bytes so far. A clause reads them as `bytes`.
 #[derive(Drop)]
 pub struct History {
-    pub ghost first: { Option (List ℕ) },
     pub ghost bytes: { List ℕ },
 }
 
@@ -17,15 +18,33 @@ impl Model for History {
 
 impl History {
     pub fn new() -> History
-        ghost taken: { Option (List ℕ) }
-        ensures { (result.first ≡ taken) × (result.bytes ≡ []) }
+        ensures { result.bytes ≡ [] }
     {
         History {}
     }
 
     pub fn and(&self, _piece: &[u8]) -> History
-        ensures { (result.first ≡ self.now.first) × (result.bytes ≡ self.now.bytes ++ _piece.now) }
+        ensures { result.bytes ≡ self.now.bytes ++ _piece.now }
     {
         History {}
+    }
+}
+
+/// What a writer's sink had taken, where that is told, and whether it had failed.
+#[derive(Drop)]
+pub(crate) struct Outset {
+    pub(crate) ghost taken: { Option (List ℕ) },
+    pub(crate) ghost failed: { Bool },
+}
+
+impl Model for Outset {
+    ghost also_owns = { λ _. ftrue };
+}
+
+impl Outset {
+    pub(crate) fn of<W: Sink>(_writer: &LongWriter<W>) -> Outset
+        ensures { (result.taken ≡ W.taken _writer.now.sink) × (result.failed ≡ W.failed _writer.now.sink) }
+    {
+        Outset {}
     }
 }

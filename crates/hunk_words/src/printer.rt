@@ -1,80 +1,105 @@
 //! A page of fixed size before a writer.
-ghost use Rattle.std.specs.Prelude.{◌≡◌, ℕ, List, Option, ◌+◌, ◌^◌, ◌<◌, ◌++◌, [], true, false, length, is_err, not, OnOk, IfErr, OnErr};
+ghost use Rattle.std.specs.Prelude.{◌≡◌, ℕ, List, Option, ◌+◌, ◌^◌, ◌<◌, ◌++◌, [], ◌∷◌, true, false, length, is_err, not, OnOk, IfErr, OnErr};
+ghost use Rattle.hunk_words.specs.Longs.{bytes_of};
 ghost use Rattle.hunk_words.specs.Prints.{Loses, Prints, Sends};
 ghost use Rattle.hunk_words.specs.Puts.{Puts, PutsBefore};
 
-use crate::history::History;
+use crate::history::{History, Outset};
 use crate::long_writer::{LongWriter, WriteFault};
+use crate::page::{PAGE, Page};
 use crate::sink::Sink;
-use arrayvec::ArrayVec;
 use std::marker::Model;
 
-/// How many bytes a printer holds at most.
-const PAGE: usize = 65536;
+/// A printer with a page for a whole text.
+pub type Printer<'a, W> = PagePrinter<'a, W, PAGE>;
 
-/// Prints a text through a page of fixed size, which goes out when it is full, and at `flush`.
+/// Prints a text through a page of fixed size, which goes out when it is full, and at `flush`. Where
+/// the page has no room at all, each piece that is printed goes out at once.
 ///
 /// Contracts see the text that was printed so far. A failure of the writer is kept for `flush`:
 /// what is printed after it goes nowhere.
 #[derive(Drop)]
-pub struct Printer<'a, W: Sink> {
+pub struct PagePrinter<'a, W: Sink, const ROOM: usize> {
     out: &'a mut LongWriter<W>,
     start: u64,
-    held: ArrayVec<u8, PAGE>,
+    held: Page<ROOM>,
     lost: bool,
+    outset: Outset,
     history: History,
 }
 
-impl<'a, W: Sink> Model for Printer<'a, W> {
+impl<'a, W: Sink, const ROOM: usize> Model for PagePrinter<'a, W, ROOM> {
+    ghost use Rattle.std.specs.Prelude.{◌≡◌, false};
     ghost use Rattle.hunk_words.specs.Prints.{Printing, Sends};
 
     ghost Value = { Printing W };
 
     ghost view = { λ s. record {
       out = s.out;
-      origin = record { name = s.out.ghost_name; taken = s.history.first; written = s.start };
+      origin = record {
+        name = s.out.ghost_name;
+        taken = s.outset.taken;
+        failed = s.outset.failed;
+        written = s.start;
+      };
       text = s.history.bytes;
     } };
 
-    ghost invariant = { λ s. Sends s.lost s.history.first (W.taken s.out.now.sink)
-        s.start s.out.now.written s.out.now.stopped s.history.bytes s.held.items };
+    ghost invariant = { λ s. (s.lost ≡ false → W.failed s.out.now.sink ≡ s.outset.failed)
+        × Sends s.lost s.outset.taken (W.taken s.out.now.sink)
+        s.start s.out.now.written s.out.now.stopped s.history.bytes s.held };
 }
 
-impl<'a, W: Sink> Printer<'a, W> {
+impl<'a, W: Sink, const ROOM: usize> PagePrinter<'a, W, ROOM> {
     /// A printer that has printed nothing yet.
-    pub fn new(out: &'a mut LongWriter<W>) -> Printer<'a, W>
+    pub fn new(out: &'a mut LongWriter<W>) -> PagePrinter<'a, W, ROOM>
         ghost taken: { Option (List ℕ) }
         requires { W.taken out.old.sink ≡ taken }
-        ensures origin { result.origin
-            ≡ record { name = out.entry.ghost_name; taken = taken; written = out.old.written } }
+        ensures origin { result.origin ≡ record {
+          name = out.entry.ghost_name;
+          taken = taken;
+          failed = W.failed out.old.sink;
+          written = out.old.written;
+        } }
         ensures text { result.text ≡ [] }
     {
         let start = out.written();
-        let history = History::new();
-        Printer {
+        let outset = Outset::of(out);
+        PagePrinter {
             out,
             start,
-            held: ArrayVec::new(),
+            held: Page::new(),
             lost: false,
-            history,
+            outset,
+            history: History::new(),
         }
     }
 
     /// Prints the bytes.
+    #[tactic(auto, using(crate::proofs::PrintLaws::printed))]
     pub fn print(&mut self, bytes: &[u8])
         ensures { Prints self.old self.new bytes.now }
     {
         self.history = self.history.and(bytes);
-        if self.lost || self.held.try_extend_from_slice(bytes).is_ok() {
+        if self.lost || self.held.append(bytes) {
             return;
         }
         self.lost = !send_on(self.out, &mut self.held, bytes);
+    }
+
+    /// Prints the longword, high byte first.
+    #[tactic(auto, unfolding(crate::specs::Longs::bytes_of))]
+    pub fn print_long(&mut self, word: u32)
+        ensures { Prints self.old self.new (bytes_of (word ∷ [])) }
+    {
+        self.print(word.to_be_bytes().as_slice());
     }
 
     /// Sends what is still held.
     ///
     /// At a `WriteFault` the sink failed, now or before, and just the first `written` bytes of all
     /// that was ever put have gone out.
+    #[tactic(auto, using(crate::proofs::PrintLaws::flushed, crate::proofs::PrintLaws::flushed_page, crate::proofs::PrintLaws::flushed_quiet))]
     pub fn flush(&mut self) -> Result<(), WriteFault>
         requires { self.old.origin.written + length self.old.text < 2 ^ 64 }
         ensures same { Prints self.old self.new [] }
@@ -85,6 +110,8 @@ impl<'a, W: Sink> Printer<'a, W> {
             (self.new.out.now.written ≡ self.old.origin.written + length self.old.text) }
         ensures told { IfErr result (λ fault. fault.written ≡ self.new.out.now.written) }
         ensures failed { OnErr result (W.failed self.new.out.now.sink ≡ true) }
+        ensures stops { self.new.out.now.stopped ≡ is_err result }
+        ensures quiet { OnOk result (W.failed self.new.out.now.sink ≡ self.old.origin.failed) }
     {
         let _sent = self.out.written();
         let result = self.out.put_bytes(self.held.as_slice());
@@ -104,20 +131,27 @@ impl<'a, W: Sink> Printer<'a, W> {
 // Sends what is held, and holds the bytes, or sends them too where a page has no room for them.
 // Answers whether nothing was lost.
 #[cold]
-fn send_on<W: Sink>(out: &mut LongWriter<W>, held: &mut ArrayVec<u8, PAGE>, bytes: &[u8]) -> bool
-    ensures { Sends (not result) (W.taken out.old.sink) (W.taken out.new.sink)
+#[tactic(auto, using(crate::proofs::PrintLaws::sent_behind))]
+fn send_on<W: Sink, const ROOM: usize>(
+    out: &mut LongWriter<W>,
+    held: &mut Page<ROOM>,
+    bytes: &[u8],
+) -> bool
+    ensures sends { Sends (not result) (W.taken out.old.sink) (W.taken out.new.sink)
         out.old.written out.new.written out.new.stopped
-        (held.old.items ++ bytes.now) held.new.items }
+        (held.old ++ bytes.now) held.new }
+    ensures quiet { result ≡ true → W.failed out.new.sink ≡ W.failed out.old.sink }
 {
     let sent = send(out, held.as_slice());
     held.clear();
-    sent && (held.try_extend_from_slice(bytes).is_ok() || send(out, bytes))
+    sent && (held.append(bytes) || send(out, bytes))
 }
 
 // Puts the bytes, unless they are too many to be counted. Answers whether all have gone out.
 fn send<W: Sink>(out: &mut LongWriter<W>, bytes: &[u8]) -> bool
-    ensures { Sends (not result) (W.taken out.old.sink) (W.taken out.new.sink)
+    ensures sends { Sends (not result) (W.taken out.old.sink) (W.taken out.new.sink)
         out.old.written out.new.written out.new.stopped bytes.now [] }
+    ensures quiet { result ≡ true → W.failed out.new.sink ≡ W.failed out.old.sink }
 {
     if u64::MAX - out.written() < bytes.len() as u64 {
         return false;

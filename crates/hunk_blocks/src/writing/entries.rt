@@ -1,51 +1,46 @@
 //! Writing the entries of an EXT block.
-ghost use Rattle.std.specs.Prelude.{◌+◌, ◌^◌, ◌<◌, length, map};
+ghost use Rattle.std.specs.Prelude.{map};
 ghost use Rattle.std.specs.List.{AllByRecursion};
 ghost use Rattle.hunk_words.specs.Longs.{bytes_of};
+ghost use Rattle.hunk_words.specs.Prints.{Prints};
 ghost use Rattle.hunk_blocks.specs.Values.{IsExtEntry};
 ghost use Rattle.hunk_blocks.specs.Parts.{ext_text, list_text};
 ghost use Rattle.hunk_blocks.specs.Views.{entry_of};
-ghost use Rattle.hunk_blocks.specs.Writes.{Writes};
 
 use crate::entries::Entry;
 use crate::ext_shape::{ExtShape, shape_of};
-use crate::writing::payloads::{put_counted, put_payload};
-use hunk_words::{LongWriter, Sink, WriteFault};
+use crate::writing::payloads::{print_counted, print_payload};
+use hunk_words::{PagePrinter, Sink};
 
 /// The word, the name, and what the type wants behind it.
-fn put_entry<W: Sink>(writer: &mut LongWriter<W>, entry: &Entry<'_>) -> Result<(), WriteFault>
-    requires fits { IsExtEntry (entry_of entry.now) }
-    requires room { writer.old.written
-        + length (bytes_of (ext_text (entry_of entry.now))) < 2 ^ 64 }
-    ensures { Writes W.taken W.failed writer.old writer.new result
-        (bytes_of (ext_text (entry_of entry.now))) }
+fn print_entry<W: Sink, const ROOM: usize>(page: &mut PagePrinter<'_, W, ROOM>, entry: &Entry<'_>)
+    requires { IsExtEntry (entry_of entry.now) }
+    ensures { Prints page.old page.new (bytes_of (ext_text (entry_of entry.now))) }
 {
-    writer.put_long(entry.word)?;
-    put_payload(writer, &entry.name)?;
+    page.print_long(entry.word);
+    print_payload(page, &entry.name);
     match shape_of(entry.word) {
-        ExtShape::Defines => writer.put_long(entry.value),
-        ExtShape::Refers => put_counted(writer, entry.offsets.payload()),
+        ExtShape::Defines => page.print_long(entry.value),
+        ExtShape::Refers => print_counted(page, entry.offsets.payload()),
         ExtShape::Shares => {
-            writer.put_long(entry.value)?;
-            put_counted(writer, entry.offsets.payload())
+            page.print_long(entry.value);
+            print_counted(page, entry.offsets.payload());
         }
         ExtShape::Refused => unreachable!(),
     }
 }
 
 /// The entries of an EXT block, and the zero that ends them.
-pub(crate) fn put_entries<W: Sink>(
-    writer: &mut LongWriter<W>,
+pub(crate) fn print_entries<W: Sink, const ROOM: usize>(
+    page: &mut PagePrinter<'_, W, ROOM>,
     entries: &[Entry<'_>],
-) -> Result<(), WriteFault>
-    requires fit { AllByRecursion IsExtEntry (map entry_of entries.now) }
-    requires room { writer.old.written
-        + length (bytes_of (list_text ext_text (map entry_of entries.now))) < 2 ^ 64 }
-    ensures { Writes W.taken W.failed writer.old writer.new result
+)
+    requires { AllByRecursion IsExtEntry (map entry_of entries.now) }
+    ensures { Prints page.old page.new
         (bytes_of (list_text ext_text (map entry_of entries.now))) }
 {
     'entries: for entry in entries {
-        put_entry(writer, entry)?;
+        print_entry(page, entry);
     }
-    writer.put_long(0)
+    page.print_long(0);
 }

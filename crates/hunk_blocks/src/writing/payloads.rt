@@ -1,52 +1,47 @@
 //! Writing payloads.
-ghost use Rattle.std.specs.Prelude.{◌+◌, ◌^◌, ◌<◌, length};
+ghost use Rattle.std.specs.Prelude.{◌^◌};
 ghost use Rattle.hunk_words.specs.Longs.{bytes_of, longs};
+ghost use Rattle.hunk_words.specs.Prints.{Prints};
 ghost use Rattle.hunk_blocks.specs.Values.{IsPayload, IsSized};
 ghost use Rattle.hunk_blocks.specs.Parts.{counted_text, sized_text};
-ghost use Rattle.hunk_blocks.specs.Writes.{Writes};
 
 use crate::payload::Payload;
-use hunk_words::{LongWriter, Sink, WriteFault};
+use hunk_words::{PagePrinter, Sink};
 
-/// The longwords of the payload, in one put.
-pub(crate) fn put_payload<W: Sink>(
-    writer: &mut LongWriter<W>,
+/// The longwords of the payload.
+pub(crate) fn print_payload<W: Sink, const ROOM: usize>(
+    page: &mut PagePrinter<'_, W, ROOM>,
     payload: &Payload<'_>,
-) -> Result<(), WriteFault>
-    requires { writer.old.written + length (bytes_of (longs payload.now)) < 2 ^ 64 }
-    ensures { Writes W.taken W.failed writer.old writer.new result (bytes_of (longs payload.now)) }
+)
+    ensures { Prints page.old page.new (bytes_of (longs payload.now)) }
 {
-    writer.put_bytes(payload.bytes())
+    page.print(payload.bytes());
 }
 
 /// The number of the longwords, and the longwords.
-pub(crate) fn put_counted<W: Sink>(
-    writer: &mut LongWriter<W>,
+#[tactic(auto, using(crate::proofs::TextBytes::word_printed))]
+pub(crate) fn print_counted<W: Sink, const ROOM: usize>(
+    page: &mut PagePrinter<'_, W, ROOM>,
     payload: &Payload<'_>,
-) -> Result<(), WriteFault>
-    requires fits { IsPayload (2 ^ 32) (longs payload.now) }
-    requires room { writer.old.written
-        + length (bytes_of (counted_text (longs payload.now))) < 2 ^ 64 }
-    ensures { Writes W.taken W.failed writer.old writer.new result
-        (bytes_of (counted_text (longs payload.now))) }
+)
+    requires { IsPayload (2 ^ 32) (longs payload.now) }
+    ensures { Prints page.old page.new (bytes_of (counted_text (longs payload.now))) }
 {
-    writer.put_long(payload.count() as u32)?;
-    put_payload(writer, payload)
+    page.print_long(payload.count() as u32);
+    print_payload(page, payload);
 }
 
 /// A size word with these top two bits, and the longwords.
-pub(crate) fn put_sized<W: Sink>(
-    writer: &mut LongWriter<W>,
+#[tactic(auto, using(crate::proofs::TextBytes::word_printed))]
+pub(crate) fn print_sized<W: Sink, const ROOM: usize>(
+    page: &mut PagePrinter<'_, W, ROOM>,
     top: u8,
     payload: &Payload<'_>,
-) -> Result<(), WriteFault>
-    requires fits { IsSized (top, longs payload.now) }
-    requires room { writer.old.written
-        + length (bytes_of (sized_text (top, longs payload.now))) < 2 ^ 64 }
-    ensures { Writes W.taken W.failed writer.old writer.new result
-        (bytes_of (sized_text (top, longs payload.now))) }
+)
+    requires { IsSized (top, longs payload.now) }
+    ensures { Prints page.old page.new (bytes_of (sized_text (top, longs payload.now))) }
 {
     let size = ((top as u32) << 30) + payload.count() as u32;
-    writer.put_long(size)?;
-    put_payload(writer, payload)
+    page.print_long(size);
+    print_payload(page, payload);
 }

@@ -1,10 +1,10 @@
 //! Writing load files.
-ghost use Rattle.std.specs.Prelude.{◌≡◌, ◌+◌, ◌^◌, ◌<◌, ◌≤◌, true, false, length, is_err, IsErr, IfErr, OnErr, OnOk};
+ghost use Rattle.std.specs.Prelude.{◌≡◌, ◌+◌, ◌^◌, ◌<◌, ◌≤◌, true, length, is_err, IsErr, IfErr, OnErr, OnOk};
 ghost use Rattle.std.specs.List.{flat_map};
 ghost use Rattle.hunk_words.specs.Limits.{most_hunks};
 ghost use Rattle.hunk_words.specs.Longs.{bytes_of};
+ghost use Rattle.hunk_words.specs.Prints.{Prints};
 ghost use Rattle.hunk_words.specs.Puts.{Puts};
-ghost use Rattle.hunk_blocks.specs.Writes.{Writes};
 ghost use Rattle.hunk_files.specs.LoadText.{text};
 ghost use Rattle.hunk_files.specs.Hunks.{block_texts};
 ghost use Rattle.hunk_files.specs.Tables.{behind_first, row_texts, row_words};
@@ -12,17 +12,25 @@ ghost use Rattle.hunk_files.specs.Tables.{behind_first, row_texts, row_words};
 use crate::load::file::LoadFile;
 use crate::load::hunk::LoadHunk;
 use crate::row::Row;
-use crate::writing::put_blocks;
-use hunk_words::{LongWriter, Sink, SizeWord, WriteFault};
+use crate::writing::print_blocks;
+use hunk_words::{LongWriter, Printer, Sink, SizeWord, WriteFault};
 
 /// The longword that a load file begins with.
 const HEADER: u32 = 0x3F3;
 
 impl LoadFile<'_> {
+    /// Prints the file's text.
+    pub(super) fn print<W: Sink>(&self, page: &mut Printer<'_, W>)
+        ensures { Prints page.old page.new (bytes_of (text self.now)) }
+    {
+        page.print_long(HEADER);
+        print_behind(page, &self.hunks);
+    }
+
     /// Writes the file's text, which the writer's count has room for: the bytes that it was decoded
     /// from, where it was not stripped.
     ///
-    /// It takes no memory. At a `WriteFault` the writer's sink failed, now or before, and just the
+    /// It goes out by pages, and takes no memory. At a `WriteFault` the writer's sink failed, now or before, and just the
     /// first `written` bytes of all that was ever put have gone out; later puts write nothing and
     /// answer the same.
     pub fn encode<W: Sink>(&self, writer: &mut LongWriter<W>) -> Result<(), WriteFault>
@@ -37,74 +45,75 @@ impl LoadFile<'_> {
         ensures stays { writer.old.stopped ≡ true → IsErr result × (writer.new ≡ writer.old) }
         ensures quiet { OnOk result (W.failed writer.new.sink ≡ W.failed writer.old.sink) }
     {
-        writer.put_long(HEADER)?;
-        put_behind(writer, &self.hunks)
+        writer.put_bytes(&[])?;
+        put_file(writer, self)
     }
+}
+
+// Puts the file's text through a page.
+fn put_file<W: Sink>(writer: &mut LongWriter<W>, file: &LoadFile<'_>) -> Result<(), WriteFault>
+    requires { writer.old.written + length (bytes_of (text file.now)) < 2 ^ 64 }
+    ensures puts { Puts (W.taken writer.old.sink) (W.taken writer.new.sink)
+        writer.old.written writer.new.written (bytes_of (text file.now)) }
+    ensures whole { OnOk result (writer.new.written
+        ≡ writer.old.written + length (bytes_of (text file.now))) }
+    ensures told { IfErr result (λ fault. fault.written ≡ writer.new.written) }
+    ensures failed { OnErr result (W.failed writer.new.sink ≡ true) }
+    ensures stops { writer.new.stopped ≡ is_err result }
+    ensures quiet { OnOk result (W.failed writer.new.sink ≡ W.failed writer.old.sink) }
+{
+    let mut page = Printer::new(writer);
+    file.print(&mut page);
+    let result = page.flush();
+    let _out = page.into_inner();
+    result
 }
 
 /// All that stands behind the first longword.
-fn put_behind<W: Sink>(writer: &mut LongWriter<W>, hunks: &[LoadHunk<'_>]) -> Result<(), WriteFault>
-    requires running { writer.old.stopped ≡ false }
+fn print_behind<W: Sink>(page: &mut Printer<'_, W>, hunks: &[LoadHunk<'_>])
     requires some { 0 < length hunks.now }
     requires most { length hunks.now ≤ most_hunks }
-    requires room { writer.old.written + length (bytes_of (behind_first hunks.now)) < 2 ^ 64 }
-    ensures { Writes W.taken W.failed writer.old writer.new result
-        (bytes_of (behind_first hunks.now)) }
+    ensures { Prints page.old page.new (bytes_of (behind_first hunks.now)) }
 {
     let count = hunks.len() as u32;
-    put_longs(writer, &[0, count, 0, count - 1])?;
-    put_table(writer, hunks)?;
-    put_hunks(writer, hunks)
+    print_longs(page, &[0, count, 0, count - 1]);
+    print_table(page, hunks);
+    print_hunks(page, hunks);
 }
 
-fn put_longs<W: Sink>(writer: &mut LongWriter<W>, longs: &[u32]) -> Result<(), WriteFault>
-    requires running { writer.old.stopped ≡ false }
-    requires room { writer.old.written + length (bytes_of longs.now) < 2 ^ 64 }
-    ensures { Writes W.taken W.failed writer.old writer.new result
-        (bytes_of longs.now) }
+fn print_longs<W: Sink>(page: &mut Printer<'_, W>, longs: &[u32])
+    ensures { Prints page.old page.new (bytes_of longs.now) }
 {
     'putting: for long in longs {
-        writer.put_long(*long)?;
+        page.print_long(*long);
     }
-    Ok(())
 }
 
 /// The rows of the table.
-fn put_table<W: Sink>(writer: &mut LongWriter<W>, hunks: &[LoadHunk<'_>]) -> Result<(), WriteFault>
-    requires running { writer.old.stopped ≡ false }
-    requires room { writer.old.written + length (bytes_of (row_texts hunks.now)) < 2 ^ 64 }
-    ensures { Writes W.taken W.failed writer.old writer.new result
-        (bytes_of (row_texts hunks.now)) }
+fn print_table<W: Sink>(page: &mut Printer<'_, W>, hunks: &[LoadHunk<'_>])
+    ensures { Prints page.old page.new (bytes_of (row_texts hunks.now)) }
 {
     'putting: for hunk in hunks {
-        put_row(writer, &hunk.row)?;
+        print_row(page, &hunk.row);
     }
-    Ok(())
 }
 
 /// A size word, and the memory attributes where they follow it.
-fn put_row<W: Sink>(writer: &mut LongWriter<W>, row: &Row) -> Result<(), WriteFault>
-    requires { writer.old.written + length (bytes_of (row_words row.now)) < 2 ^ 64 }
-    ensures { Writes W.taken W.failed writer.old writer.new result
-        (bytes_of (row_words row.now)) }
+fn print_row<W: Sink>(page: &mut Printer<'_, W>, row: &Row)
+    ensures { Prints page.old page.new (bytes_of (row_words row.now)) }
 {
-    writer.put_long(row.word)?;
+    page.print_long(row.word);
     if SizeWord::has_extra(row.word) {
-        writer.put_long(row.extra)?;
+        page.print_long(row.extra);
     }
-    Ok(())
 }
 
 /// The blocks of all hunks.
-fn put_hunks<W: Sink>(writer: &mut LongWriter<W>, hunks: &[LoadHunk<'_>]) -> Result<(), WriteFault>
-    requires running { writer.old.stopped ≡ false }
-    requires room { writer.old.written
-        + length (bytes_of (flat_map (λ h. block_texts h.blocks.items) hunks.now)) < 2 ^ 64 }
-    ensures { Writes W.taken W.failed writer.old writer.new result
+fn print_hunks<W: Sink>(page: &mut Printer<'_, W>, hunks: &[LoadHunk<'_>])
+    ensures { Prints page.old page.new
         (bytes_of (flat_map (λ h. block_texts h.blocks.items) hunks.now)) }
 {
     'putting: for hunk in hunks {
-        put_blocks(writer, &hunk.blocks)?;
+        print_blocks(page, &hunk.blocks);
     }
-    Ok(())
 }

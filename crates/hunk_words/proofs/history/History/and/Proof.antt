@@ -34,12 +34,12 @@ and_spec 𝓤 𝓛 𝓜 𝓡 wired =
     (λ κs. (shr_vals, (shr_slice_vals, tt))) (λ κs. (shr_Tells (named 0) κs.0 made.the_row, (shr_slice_Tells (named 1) κs.1.0 u8, tt)))
     (λ κs qs bounds a _ are.
     let y : W.Ghost = ((κs, qs, bounds, a, (shr_vals a.0, (shr_slice_vals a.1.0, tt))), tt) in
-    let h : (made.the_row).Denot = record { first = a.0.now.first; bytes = a.0.now.bytes ++ a.1.0.now } in
+    let h : (made.the_row).Denot = record { bytes = a.0.now.bytes ++ a.1.0.now } in
     qed 𝓛 ((raw (alive 𝓛 f.signature κs qs) ⊛ ‵ (owns (types_at f.signature.params κs) a y.0.4)) ∷ ‵ ftrue ∷ []) ∵
     split ! $ keep ! (0 ∷ 1 ∷ []) $
     enter ! _ _ _ _ _ $ alloc_all ! (λ l. pass_all ! refl ((tt, tt), ((tt, (tt, (record { fits = are.1.0.0.1.0 }, tt))), tt)) $
     sets ! (agg ! (no_more !)) refl (tt, tt) $
     returns ! (look_at ! 0 refl) $ free_all ! refl $
-    suffices ! _ (ends_at 𝓛 f.ended stayed c y (vstruct vnil) h (tt, (tt, tt)) (tt, (tt, tt))) $ says ! (refl, refl) $
+    suffices ! _ (ends_at 𝓛 f.ended stayed c y (vstruct vnil) h (tt, (tt, tt)) (tt, (tt, tt))) $ says ! refl $
     pure_i ! ((made.the_row).own_val h (vstruct vnil ∷ [])) ((λ vss. (tt, tt)), tt) ((tt, (refl, tt)), tt) $
     move ! (1 ∷ 2 ∷ 0 ∷ []) $ done !))

@@ -2,7 +2,7 @@ use Rattle.std.proofs.Common.{◌≡◌, ℕ, ◌+◌, ◌*◌, ◌++◌, vec_le
 use Rattle.std.specs.List.{AllByRecursion}
 use Rattle.std.proofs.lemmas.List.{length-map}
 use Rattle.hunk_words.specs.Bits.{size_longs}
-use Rattle.hunk_blocks.proofs.ListWriting.{All-at}
+use Rattle.hunk_blocks.proofs.ListWriting.{all_at}
 use Rattle.hunk_files.specs.declared.load.hunk.LoadHunk.{LoadHunk}
 use Rattle.hunk_files.specs.LoadFile.{IsHunk}
 use Rattle.hunk_files.specs.Image.{image}
@@ -17,7 +17,7 @@ push_image-requires-clause-content c =
     let same : items ≡ c.self.inside.hunks.items = c.deref-hunk-items.ensures.value in
     let n = length (map hunk_of c.self.inside.hunks.items) in
     let fit = subst (λ (hs : List LoadHunk). AllByRecursion (IsHunk n) (map hunk_of hs)) (sym same) c.self.invariant.each in
-    content_fits n (hunk_of c.hunk-item.result) (All-at (IsHunk n) hunk_of items c.hunks.hunk-index c.hunk-item.result fit c.hunks-test.true c.hunk-item.is)
+    content_fits n (hunk_of c.hunk-item.result) (all_at (IsHunk n) hunk_of items c.hunks.hunk-index c.hunk-item.result fit c.hunks-test.true c.hunk-item.is)
 
 pub push_image-requires-clause-relocations : goal.push_image-requires-clause-relocations
 push_image-requires-clause-relocations c =
@@ -26,7 +26,7 @@ push_image-requires-clause-relocations c =
     let n = length (map hunk_of c.self.inside.hunks.items) in
     let bases : n ≡ length c.args.bases.now = omega (arith, length-map c.self.inside.hunks.items hunk_of) in
     let fit = subst (λ (hs : List LoadHunk). AllByRecursion (IsHunk n) (map hunk_of hs)) (sym same) c.self.invariant.each in
-    let one = All-at (IsHunk n) hunk_of items c.hunks.hunk-index c.hunk-item.result fit c.hunks-test.true c.hunk-item.is in
+    let one = all_at (IsHunk n) hunk_of items c.hunks.hunk-index c.hunk-item.result fit c.hunks-test.true c.hunk-item.is in
     hunk_fits (length c.args.bases.now) (hunk_of c.hunk-item.result) (subst (λ (m : ℕ). IsHunk m (hunk_of c.hunk-item.result)) bases one)
 
 pub hunks-preserved : goal.hunks-preserved
