@@ -11,6 +11,7 @@ pub mod ObjectFile
 pub mod ObjectParts
 pub mod OpenSegment
 pub mod Overlap
+pub mod Passing
 pub mod ReaderPosition
 pub mod Relocating
 pub mod Strip

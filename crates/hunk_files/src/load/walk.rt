@@ -5,6 +5,7 @@ ghost use Rattle.hunk_files.specs.Fault.{HasFault, HasLoadText};
 ghost use Rattle.hunk_files.specs.Entries.{entry_behind, entry_at};
 ghost use Rattle.hunk_scan.specs.Positions.{is_between_hunks};
 
+use crate::load::offsets::pass_front;
 use hunk_scan::Position;
 use hunk_words::{FileFault, Reason, SizeWord, word_at};
 
@@ -41,9 +42,7 @@ pub(crate) fn walk(bytes: &[u8]) -> Result<usize, FileFault>
             return Ok(4 * (at + 1));
         }
         entry = open_entry(bytes, behind, entry);
-        let run = behind.run();
-        position = behind.pass(run);
-        at += 1 + run as usize;
+        (position, at) = pass_front(bytes, at + 1, behind, entry.longs);
     }
     Err(FileFault {
         place: 4 * count as u64,
