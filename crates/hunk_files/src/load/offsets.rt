@@ -2,14 +2,17 @@
 ghost use Rattle.std.specs.Prelude.{◌≡◌, ◌<◌, ◌≤◌, ◌*◌, ℕ, length, slice_index};
 ghost use Rattle.hunk_words.specs.Longs.{longs};
 ghost use Rattle.hunk_scan.specs.Positions.{EndsWithin};
-ghost use Rattle.hunk_files.specs.Passing.{IsPassed};
+ghost use Rattle.hunk_files.specs.Passing.{ArePassed, IsPassed};
 
 use hunk_scan::{Position, is_outside};
 use hunk_words::word_at;
 
-/// Passes the longwords from `at` on that no test looks at, or the offsets that lie in the bytes and
-/// are not refused in a hunk of so many declared longs. Answers the position and the longword behind
-/// them; that of a run may lie behind the bytes.
+/// From so many offsets on a list is passed at once: shorter ones cost less one by one.
+const MANY: u64 = 8;
+
+/// Passes the longwords from `at` on that no test looks at, or many offsets that lie in the bytes
+/// and are not refused in a hunk of so many declared longs. Answers the position and the longword
+/// behind them; that of a run may lie behind the bytes.
 #[inline(always)]
 pub(super) fn pass_front(
     bytes: &[u8],
@@ -20,11 +23,21 @@ pub(super) fn pass_front(
     requires { 4 * at ≤ length bytes.now }
     ensures { IsPassed (longs bytes.now) at position declared result.0 result.1 }
 {
-    let offsets = position.offsets();
-    if offsets == 0 {
-        let run = position.run();
-        return (position.pass(run), at + run as usize);
+    if position.offsets() >= MANY {
+        return pass_offsets(bytes, at, position, declared);
     }
+    let run = position.run();
+    (position.pass(run), at + run as usize)
+}
+
+/// Passes the offsets of a list from `at` on, up to the end of the list or of the bytes or to the
+/// first that is refused.
+#[inline(never)]
+fn pass_offsets(bytes: &[u8], at: usize, position: Position, declared: u32) -> (Position, usize)
+    requires { 4 * at ≤ length bytes.now }
+    ensures { ArePassed (longs bytes.now) at position declared result.0 result.1 }
+{
+    let offsets = position.offsets();
     let whole = bytes.len() / 4;
     let end = if offsets < (whole - at) as u64 {
         at + offsets as usize
