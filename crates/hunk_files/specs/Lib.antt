@@ -1,3 +1,4 @@
+pub mod Collecting
 pub mod Entries
 pub mod Fault
 pub mod FileSteps
