@@ -25,7 +25,7 @@ use Rattle.hunk_scan.specs.Positions.{role_at, run, offsets, pass_offsets, is_be
 use Rattle.hunk_scan.specs.declared.phase.OpenHunk as numbers
 use Rattle.hunk_scan.specs.declared.phase.Phase.TheVariants as phases
 use Rattle.hunk_scan.proofs.OffsetRuns.{offset_passes}
-use Rattle.hunk_files.specs.Passing.{IsPassed}
+use Rattle.hunk_files.specs.Passing.{ArePassed}
 use Rattle.hunk_files.specs.FileSteps.{OpenHunk, Progress, AtFirst, AtBlock, InBody, Next, More, Finished, role_of, step}
 use Rattle.hunk_files.proofs.FileProgress.{header_so_far, open_so_far}
 use Rattle.hunk_files.specs.WordsRead.{Labelled, HasRead}
@@ -265,7 +265,7 @@ module _ (bytes : List ℕ) (fit : IsBytes bytes) (at : ℕ) (position : Positio
         let behind = scan.step position (get_or (longs bytes) at 0) in
         (is_between_hunks behind ≡ true → entry.next < at + 1) × StandsAt bytes (at + 1) behind (entry_at (longs bytes) behind entry)
 
-    pub walk_on : (scan.step position (get_or (longs bytes) at 0) ≡ positions.Done → ⊥) → Onward
+    walk_on : (scan.step position (get_or (longs bytes) at 0) ≡ positions.Done → ⊥) → Onward
     walk_on more = go (step s.progress (get_or (longs bytes) at 0)) read_on (step_moves s.progress (get_or (longs bytes) at 0)) position_on
       where
         go : (n : Next) → HasRead (take (at + 1) (longs bytes)) n → Moves s.progress n → position_of n ≡ scan.step position (get_or (longs bytes) at 0) → Onward
@@ -279,6 +279,14 @@ module _ (bytes : List ℕ) (fit : IsBytes bytes) (at : ℕ) (position : Positio
     -- The entry of a hunk that opens was read.
     pub entry_fits : (scan.step position (get_or (longs bytes) at 0) ≡ positions.Done → ⊥) → is_between_hunks (scan.step position (get_or (longs bytes) at 0)) ≡ true → 4 * entry.next + 4 ≤ length bytes
     entry_fits more between = omega (arith, (walk_on more).0 between, l, length-longs bytes)
+
+    pub walk_passes : (scan.step position (get_or (longs bytes) at 0) ≡ positions.Done → ⊥) →
+        (let behind = scan.step position (get_or (longs bytes) at 0) in Walks bytes (at + (1 + run behind)) (scan.pass behind (run behind)) (entry_at (longs bytes) behind entry))
+    walk_passes more =
+        let behind = scan.step position (get_or (longs bytes) at 0) in
+        let place : at + 1 + run behind ≡ at + (1 + run behind) = omega arith in
+        let P : ℕ → Type 0 = λ i. Walks bytes i (scan.pass behind (run behind)) (entry_at (longs bytes) behind entry) in
+        subst P place (passes_over bytes fit (at + 1) behind (entry_at (longs bytes) behind entry) (walk_on more).1 (omega (arith, l)))
 
 -- ---- offsets
 
@@ -323,16 +331,10 @@ offsets_over bytes fit (suc n) at (positions.Body o (phases.Offset target (suc o
     (offsets_over bytes fit n (at + 1) (positions.Body o (phases.Offset target owed)) entry one (omega (arith, few)) (omega (arith, whole)) within))
 offsets_over bytes fit (suc n) at _ entry s few whole inside = absurd (omega (arith, few))
 
--- What is passed at once leads on.
-pub front_over : (bytes : List ℕ) → IsBytes bytes → (at : ℕ) (p : Position) (entry : Entry) → StandsAt bytes at p entry → at ≤ length (longs bytes) → (q : Position) (next : ℕ) →
-    IsPassed (longs bytes) at p entry.longs q next → Walks bytes next q entry
-front_over bytes fit at p entry s inside q next (inl passed) =
-    inl (subst (λ (k : ℕ). StandsAt bytes k q entry) (sym passed.next_is)
-    (subst (λ (r : Position). StandsAt bytes (at + passed.count) r entry) (sym passed.position_is)
-    (offsets_over bytes fit passed.count at p entry s passed.few passed.whole passed.inside)))
-front_over bytes fit at p entry s inside q next (inr passed) =
-    subst (λ (k : ℕ). Walks bytes k q entry) (sym passed.1)
-    (subst (λ (r : Position). Walks bytes (at + run p) r entry) (sym passed.0) (passes_over bytes fit at p entry s inside))
+-- Offsets that are passed at once lead on.
+pub passed_over : (bytes : List ℕ) → IsBytes bytes → (at n : ℕ) (p : Position) (entry : Entry) → StandsAt bytes at p entry → ArePassed (longs bytes) at p entry.longs n →
+    Walks bytes (at + n) (pass_offsets p n) entry
+passed_over bytes fit at n p entry s passed = inl (offsets_over bytes fit n at p entry s passed.few passed.whole passed.inside)
 
 -- All longwords were read, and the file goes on.
 pub walk_truncated : (bytes : List ℕ) (at : ℕ) (position : Position) (entry : Entry) → Walks bytes at position entry → length (longs bytes) ≤ at → HasFault bytes (4 * length (longs bytes)) reasons.Truncated

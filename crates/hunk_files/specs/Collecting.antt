@@ -1,6 +1,6 @@
 -- What is kept of the findings that are taken.
-use Rattle.std.specs.Prelude.{◌≡◌, Bool, false, List, [], ◌∷◌, ◌++◌}
-use Rattle.std.proofs.Common.{refl, sym, ap, ◌∙◌, append-nil, append_assoc}
+use Rattle.std.specs.Prelude.{◌≡◌, Bool, false, List, [], ◌++◌}
+use Rattle.std.proofs.Common.{sym, ap, ◌∙◌, append-nil, append_assoc}
 use Rattle.hunk_files.specs.declared.object.check.Finding.{Finding}
 
 -- These are kept too, unless some are lost.

@@ -1,15 +1,15 @@
-use Rattle.std.proofs.Common.{ℕ, ◌+◌, ◌*◌, ◌<◌, length, arith, sym, ap, ◌∙◌, subst}
+use Rattle.std.proofs.Common.{◌≡◌, ℕ, ◌+◌, ◌-◌, ◌*◌, ◌<◌, length, arith, sym, ap, ◌∙◌, subst}
 use Rattle.hunk_words.specs.Longs.{longs, IsBytes}
 use Rattle.hunk_words.specs.declared.reason.Reason.TheVariants as reasons
 use Rattle.hunk_words.proofs.LongLaws.{length-longs}
 use Rattle.hunk_scan.specs.Roles.{refuse}
 use Rattle.hunk_scan.specs.Positions as scan
-use Rattle.hunk_scan.specs.Positions.{role_at, is_between_hunks}
+use Rattle.hunk_scan.specs.Positions.{role_at, run, is_between_hunks}
 use Rattle.hunk_scan.specs.declared.position.Position.{Position}
 use Rattle.hunk_files.specs.Entries.{entry_at}
 use Rattle.hunk_files.specs.Fault.{HasFault}
 use Rattle.hunk_files.specs.declared.load.walk.Entry.{Entry}
-use Rattle.hunk_files.proofs.Walking.{start_walk, stands, walk_refused, walk_ends, entry_fits, walk_on, front_over, walk_truncated, StandsAt}
+use Rattle.hunk_files.proofs.Walking.{Walks, start_walk, stands, walk_refused, walk_ends, entry_fits, walk_passes, passed_over, walk_truncated}
 use Rattle.hunk_files.proofs.load.walk.walk.Goals as goal
 
 pub walking-init : goal.walking-init
@@ -56,12 +56,27 @@ walking-preserved c =
     let l : w.at < length (longs bytes) = omega (arith, length-longs bytes) in
     let pass = sym c.in_default.is in
     let behind = c.step-behind.ensures ∙ ap (λ (x : ℕ). scan.step w.position x) c.word_at-word.ensures in
-    let on = walk_on bytes fit w.at w.position w.entry (stands bytes w.at w.position w.entry w.invariant l) l
+    let on = walk_passes bytes fit w.at w.position w.entry (stands bytes w.at w.position w.entry w.invariant l) l
     (pass ∙ c.refuse.ensures ∙ ap (λ (x : ℕ). refuse (role_at w.entry.longs w.position) x) c.word_at-word.ensures)
     (λ d. c.in_default-behind.not-Done (behind ∙ d)) in
-    let here = subst (λ (e : Entry). StandsAt bytes (w.at + 1) c.step-behind.result e) (sym c.open_entry-entry.ensures)
-    (subst (λ (p : Position). StandsAt bytes (w.at + 1) p (entry_at (longs bytes) p w.entry)) (sym behind) on.1) in
-    front_over bytes fit (w.at + 1) c.step-behind.result c.open_entry-entry.result here (omega (arith, l)) _ _ c.pass_front.ensures
+    let P : Position → Type 0 = λ p. Walks bytes (w.at + (1 + run p)) (scan.pass p (run p)) (entry_at (longs bytes) p w.entry) in
+    let Q : ℕ → Type 0 = λ n. Walks bytes (w.at + (1 + n)) (scan.pass c.step-behind.result n) (entry_at (longs bytes) c.step-behind.result w.entry) in
+    let R : Position → Entry → Type 0 = λ p e. Walks bytes (w.at + (1 + c.run-run.result)) p e in
+    let here = subst Q (sym c.run-run.ensures.value) (subst P (sym behind) on) in
+    subst (λ (e : Entry). R c.pass-position.result e) (sym c.open_entry-entry.ensures)
+    (subst (λ (p : Position). R p (entry_at (longs bytes) c.step-behind.result w.entry)) (sym c.pass-position.ensures) here)
+
+pub walking-preserved-then-behind-at : goal.walking-preserved-then-behind-at
+walking-preserved-then-behind-at c =
+    let bytes = c.args.bytes.now in
+    let w = c.walking in
+    let fit : IsBytes bytes = λ i. omega (arith, c.type_inv.bytes i) in
+    let l : w.at < length (longs bytes) = omega (arith, length-longs bytes) in
+    let n = c.behind_offsets-behind.result - w.at in
+    let place : w.at + n ≡ c.behind_offsets-behind.result = omega (arith, c.behind_offsets-behind.ensures.from) in
+    let here = passed_over bytes fit w.at n w.position w.entry (stands bytes w.at w.position w.entry w.invariant l) c.behind_offsets-behind.ensures.passed in
+    subst (λ (k : ℕ). Walks bytes k c.pass_offsets-position.result w.entry) place
+    (subst (λ (p : Position). Walks bytes (w.at + n) p w.entry) (sym c.pass_offsets-position.ensures) here)
 
 pub returns : goal.returns
 returns c =

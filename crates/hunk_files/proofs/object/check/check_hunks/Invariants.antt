@@ -1,4 +1,3 @@
-use Rattle.hunk_files.specs.Findings.{hunks_findings}
 use Rattle.hunk_files.proofs.FindingSteps.{TakenUpTo, left_of_hunks}
 use Rattle.hunk_files.proofs.object.check.check_hunks.Given as goal
 
