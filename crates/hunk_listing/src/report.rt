@@ -1,5 +1,5 @@
 //! The report on a whole file.
-ghost use Rattle.std.specs.Prelude.{◌≡◌, ◌<◌, ◌^◌, length};
+ghost use Rattle.std.specs.Prelude.{◌≡◌, ◌<◌, ◌^◌, ◌++◌, codes, length};
 ghost use Rattle.std.proofs.Common.{◌∙◌, refl};
 ghost use Rattle.hunk_words.specs.Prints.{Prints};
 ghost use Rattle.hunk_files.specs.Findings.{findings};
@@ -7,7 +7,7 @@ ghost use Rattle.hunk_listing.specs.ReportLines.{count_line, finding_line, findi
 ghost use Rattle.hunk_listing.specs.Reporting.{Reports, reports_none, reports_more};
 
 use crate::load::{print_load_head, print_rest};
-use crate::text::{print_decimal, print_hexadecimal};
+use crate::text::{print_decimal, put_digits};
 use hunk_files::{Finding, FindingKind, LoadFile, ObjectFile, TakesFindings};
 use hunk_words::{Printer, Sink};
 
@@ -62,19 +62,19 @@ fn print_finding<W: Sink>(page: &mut Printer<'_, W>, finding: Finding)
     print_decimal(page, finding.unit);
     page.print(b" hunk ");
     print_decimal(page, finding.hunk);
-    page.print(b" offset ");
-    print_hexadecimal(page, finding.offset);
-    page.print(b" ");
-    page.print(finding_name(finding.fault).as_bytes());
-    page.print(b"\n");
+    let mut offset = *b" offset 0x00000000 ";
+    put_digits(offset.as_mut_slice(), 10, &finding.offset.to_be_bytes());
+    page.print(&offset);
+    page.print(finding_end(finding.fault).as_bytes());
 }
 
-fn finding_name(fault: FindingKind) -> &'static str
-    ensures { result.now ≡ finding_name fault }
+/// What is wrong, at the end of a line.
+fn finding_end(fault: FindingKind) -> &'static str
+    ensures { result.now ≡ finding_name fault ++ codes "\n" }
 {
     match fault {
-        FindingKind::BadTarget => "BadTarget",
-        FindingKind::OutsideHunk => "OutsideHunk",
+        FindingKind::BadTarget => "BadTarget\n",
+        FindingKind::OutsideHunk => "OutsideHunk\n",
     }
 }
 
