@@ -16,19 +16,16 @@ use Rattle.hunk_files.specs.LoadText.{text}
 use Rattle.hunk_files.specs.Fault.{BeginsWithLoadFile}
 use Rattle.hunk_files.specs.ObjectFile.{ObjectFileValue, object_text}
 use Rattle.hunk_files.specs.Findings.{findings}
-use Rattle.hunk_files.specs.declared.object.check.Finding.{Finding}
 use Rattle.hunk_files.proofs.TextParts.{after_first, first_split}
 use Rattle.hunk_commands.specs.declared.fault.RunFault.{RunFault}
 use Rattle.hunk_commands.specs.declared.fault.RunFault.TheVariants as faults
 use Rattle.hunk_commands.specs.declared.hunk_file.HunkFile.{HunkFile}
 use Rattle.hunk_commands.specs.declared.hunk_file.HunkFile.TheVariants as files
-use Rattle.hunk_commands.specs.declared.validating.Checked.{Checked}
-use Rattle.hunk_commands.specs.declared.validating.Checked.TheVariants as checks
 use Rattle.hunk_commands.specs.Faults.{IsWrite}
 use Rattle.hunk_commands.specs.FileKinds.{AreFile, AreObjectFile, IsFileOf, IsLoadRefusal, IsRefusal, RefusesAs, RefusesBytes}
 use Rattle.hunk_listing.specs.FileLines.{load_listing, object_listing}
-use Rattle.hunk_listing.specs.ReportLines.{count_line, finding_line, load_summary}
-use Rattle.hunk_commands.specs.Reports.{IsChecked, finding_count, report}
+use Rattle.hunk_listing.specs.ReportLines.{load_summary, object_report}
+use Rattle.hunk_commands.specs.Reports.{finding_count, report}
 use Rattle.hunk_commands.specs.Shown.{IsShown, file_listing}
 use Rattle.hunk_commands.specs.Validated.{IsValidated}
 
@@ -53,11 +50,9 @@ pub shown_file : (bytes : List ℕ) (file : HunkFile) → IsFileOf bytes file �
 shown_file bytes (files.Load value rest) is = inl (is.0, ap₂ load_listing is.1 is.2)
 shown_file bytes (files.Object value) is = inr (is.0, ap object_listing is.1)
 
-pub validated_checked : (bytes : List ℕ) (file : Checked) → IsChecked bytes file → IsValidated (finding_count file) bytes (report file)
-validated_checked bytes (checks.Load value rest) is = inl (is.0, refl, ap₂ load_summary is.1 is.2)
-validated_checked bytes (checks.Object value found) is =
-    let same : found ≡ findings is.0.0.value = is.1 ∙ ap findings is.0.1 in
-    inr (is.0.0, ap length same, ap₂ (λ (fs : List Finding) (v : ObjectFileValue). flat_map finding_line fs ++ count_line (length v) (length fs)) same is.0.1)
+pub validated_file : (bytes : List ℕ) (file : HunkFile) → IsFileOf bytes file → IsValidated (finding_count file) bytes (report file)
+validated_file bytes (files.Load value rest) is = inl (is.0, refl, ap₂ load_summary is.1 is.2)
+validated_file bytes (files.Object value) is = inr (is.0, ap (λ (v : ObjectFileValue). length (findings v)) is.1, ap object_report is.1)
 
 -- ---- refusals
 

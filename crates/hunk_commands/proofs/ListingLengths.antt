@@ -1,11 +1,11 @@
 -- The bytes of what is printed can be counted.
 use Rattle.std.proofs.Common.{◌≡◌, ℕ, ◌+◌, ◌*◌, ◌^◌, ◌<◌, ◌≤◌, List, [], ◌∷◌, ◌++◌, length, ap, sym, subst, ◌∙◌, arith, length-append}
-use Rattle.std.specs.List.{sum_by}
+use Rattle.std.specs.List.{flat_map, sum_by}
 use Rattle.std.proofs.lemmas.List.{length-map}
 use Rattle.std.proofs.lemmas.List.Sums.{sum_by-cons}
 use Rattle.hunk_words.specs.Longs.{bytes_of}
 use Rattle.hunk_words.proofs.LongLaws.{length-bytes_of}
-use Rattle.hunk_files.specs.declared.object.check.Finding.{Finding}
+use Rattle.hunk_files.specs.Findings.{findings}
 use Rattle.hunk_files.specs.declared.row.Row.{Row}
 use Rattle.hunk_files.specs.Image.{declared_bytes}
 use Rattle.hunk_files.specs.LoadFile.{HunkValue, IsLoadFile, LoadFileValue}
@@ -15,17 +15,15 @@ use Rattle.hunk_scatter.specs.LoaderValues.{ImageValue}
 use Rattle.hunk_scatter.specs.Rows.{bases_of, entries_of, entry_of}
 use Rattle.hunk_scatter.proofs.DeclaredBytes.{declared_limit}
 use Rattle.hunk_listing.specs.FileLines.{load_listing, object_listing}
-use Rattle.hunk_listing.specs.ReportLines.{load_summary, object_report}
+use Rattle.hunk_listing.specs.ReportLines.{count_line, finding_line, load_summary, object_report}
 use Rattle.hunk_listing.proofs.FileLengths.{load_listing_fits, load_summary_fits, object_listing_fits}
-use Rattle.hunk_listing.proofs.ReportLengths.{object_report_fits}
+use Rattle.hunk_listing.proofs.ReportLengths.{findings_within, object_report_fits}
 use Rattle.hunk_listing.proofs.SegmentLengths.{length-lines, total}
 use Rattle.hunk_commands.specs.declared.hunk_file.HunkFile.{HunkFile}
 use Rattle.hunk_commands.specs.declared.hunk_file.HunkFile.TheVariants as files
-use Rattle.hunk_commands.specs.declared.validating.Checked.{Checked}
-use Rattle.hunk_commands.specs.declared.validating.Checked.TheVariants as checks
 use Rattle.hunk_commands.specs.FileKinds.{IsFileOf}
 use Rattle.hunk_commands.specs.Relocating.{image_listing, segments_of}
-use Rattle.hunk_commands.specs.Reports.{IsChecked, report}
+use Rattle.hunk_commands.specs.Reports.{finding_count, report}
 use Rattle.hunk_commands.specs.Shown.{file_listing}
 
 -- ---- of bytes in memory
@@ -48,15 +46,20 @@ file_listing_fits bytes (files.Object value) is few =
     subst (λ (o : ObjectFileValue). length (object_listing o) < 2 ^ 64) (sym is.1)
     (object_listing_fits is.0.value is.0.is_object_file (words_few bytes (object_text is.0.value) is.0.text_is few))
 
-pub report_fits : (bytes : List ℕ) (file : Checked) → IsChecked bytes file → length bytes ≤ 2 ^ 56 → length (report file) < 2 ^ 64
-report_fits bytes (checks.Load value rest) is few =
+pub report_fits : (bytes : List ℕ) (file : HunkFile) → IsFileOf bytes file → length bytes ≤ 2 ^ 56 → length (report file) < 2 ^ 64
+report_fits bytes (files.Load value rest) is few =
     let small = parts_few bytes is.0.rest (text is.0.value) is.0.split few in
     subst (λ (v : LoadFileValue). length (load_summary v rest) < 2 ^ 64) (sym is.1)
     (load_summary_fits is.0.value rest is.0.is_load_file (omega (arith, small.1, is.2)))
-report_fits bytes (checks.Object value found) is few =
-    subst (λ (fs : List Finding). length (report (checks.Object value fs)) < 2 ^ 64) (sym is.1)
-    (subst (λ (o : ObjectFileValue). length (object_report o) < 2 ^ 64) (sym is.0.1)
-    (object_report_fits is.0.0.value is.0.0.is_object_file (words_few bytes (object_text is.0.0.value) is.0.0.text_is few)))
+report_fits bytes (files.Object value) is few =
+    subst (λ (o : ObjectFileValue). length (object_report o) < 2 ^ 64) (sym is.1)
+    (object_report_fits is.0.value is.0.is_object_file (words_few bytes (object_text is.0.value) is.0.text_is few))
+
+-- a finding has a line
+pub count_fits : (file : HunkFile) → length (report file) < 2 ^ 64 → finding_count file < 2 ^ 64
+count_fits (files.Load value rest) fits = omega arith
+count_fits (files.Object value) fits =
+    omega (arith, fits, findings_within (findings value), length-append (flat_map finding_line (findings value)) (count_line (length value) (length (findings value))))
 
 -- ---- of an image
 

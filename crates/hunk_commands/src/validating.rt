@@ -1,21 +1,20 @@
 //! `validate`: a file is checked.
-ghost use Rattle.std.specs.Prelude.{◌≡◌, ◌⊎◌, ◌+◌, ◌^◌, ◌<◌, ◌≤◌, ℕ, List, Some, false, true, length, IfOk, IfErr, OnOk, OnErr};
+ghost use Rattle.std.specs.Prelude.{◌≡◌, ◌+◌, ◌^◌, ◌<◌, ℕ, List, Some, false, true, length, IfOk, IfErr, OnOk, OnErr};
 ghost use Rattle.hunk_words.specs.Prints.{Prints};
 ghost use Rattle.hunk_words.specs.Puts.{Puts};
 ghost use Rattle.hunk_words.specs.declared.reason.Reason.TheVariants.{FileLimit};
 ghost use Rattle.hunk_scatter.specs.LoadOutcomes.{Gives};
 ghost use Rattle.hunk_commands.specs.declared.fault.RunFault.TheVariants.{Memory, Read, Refused, Write};
 ghost use Rattle.hunk_commands.specs.Engine.{RefusesOnly, Writes, WritesAll};
-ghost use Rattle.hunk_commands.specs.FileKinds.{AreFile, RefusesBytes};
+ghost use Rattle.hunk_commands.specs.FileKinds.{AreFile};
 ghost use Rattle.hunk_commands.specs.Inputs.{Gave};
 ghost use Rattle.hunk_commands.specs.Output.{StopsOutput};
-ghost use Rattle.hunk_commands.specs.Reports.{IsChecked, finding_count, report};
+ghost use Rattle.hunk_commands.specs.Reports.{finding_count, report};
 ghost use Rattle.hunk_commands.specs.Validated.{IsReport, IsValidated};
 
 use crate::fault::RunFault;
 use crate::hunk_file::HunkFile;
 use crate::input::read_whole;
-use hunk_files::{Findings, LoadFile, ObjectFile};
 use hunk_listing::{print_load_summary, print_object_report};
 use hunk_words::{LongWriter, Printer, Sink, Source, WriteFault};
 use std::alloc::Global;
@@ -55,74 +54,41 @@ pub fn validate<R: Source, W: Sink>(
         (λ fault. RefusesOnly fault (R.left r.old) (R.left r.new) file_bytes) }
 {
     let input = read_whole(alloc, r, file_bytes)?;
-    let checked = check(alloc, input.as_slice())?;
-    put_report(w, &checked)?;
-    Ok(checked.count())
+    let file = HunkFile::decode(alloc, input.as_slice())?;
+    let count = put_report(w, &file)?;
+    Ok(count)
 }
 
-/// A file that was checked.
-#[derive(Debug, Drop)]
-enum Checked<'a> {
-    /// A load file, in which nothing is found, and the number of bytes that follow it.
-    Load {
-        file: LoadFile<'a>,
-        rest: u64,
-    },
-    /// An object file, and what is found in it.
-    Object {
-        file: ObjectFile<'a>,
-        found: Findings,
-    },
-}
-
-impl Checked<'_> {
-    fn count(&self) -> u64
-        ensures { result ≡ finding_count self.now }
-    {
-        match self {
-            Checked::Load { file: _, rest: _ } => 0,
-            Checked::Object { file: _, found } => found.len() as u64,
-        }
-    }
-}
-
-// The file that the bytes are, or begin with, checked.
-fn check(alloc: Global, bytes: &[u8]) -> Result<Checked<'_>, RunFault>
-    ensures ok { IfOk result (IsChecked bytes.entry.now) }
-    ensures few { OnOk result (length bytes.entry.now ≤ 2 ^ 56) }
-    ensures none { IfErr result (λ fault. (fault ≡ Memory) ⊎ (AreFile bytes.entry.now → ⊥)) }
-    ensures refused { IfErr result (λ fault. RefusesBytes fault bytes.entry.now) }
-{
-    match HunkFile::decode(alloc, bytes)? {
-        HunkFile::Load { file, rest } => Ok(Checked::Load { file, rest }),
-        HunkFile::Object(file) => {
-            let found = file.check(alloc)?;
-            Ok(Checked::Object { file, found })
-        }
-    }
-}
-
-// Puts the report of the file.
-fn put_report<W: Sink>(w: &mut LongWriter<W>, checked: &Checked<'_>) -> Result<(), WriteFault>
-    requires { w.old.written + length (report checked.now) < 2 ^ 64 }
+// Puts the report of the file, and answers how much is found in it.
+fn put_report<W: Sink>(w: &mut LongWriter<W>, file: &HunkFile<'_>) -> Result<u64, WriteFault>
+    requires { w.old.written + length (report file.now) < 2 ^ 64 }
     ensures puts { Puts (W.taken w.old.sink) (W.taken w.new.sink)
-        w.old.written w.new.written (report checked.now) }
-    ensures whole { OnOk result (w.new.written ≡ w.old.written + length (report checked.now)) }
+        w.old.written w.new.written (report file.now) }
+    ensures whole { OnOk result (w.new.written ≡ w.old.written + length (report file.now)) }
+    ensures count { IfOk result (λ count. count ≡ finding_count file.now) }
     ensures told { IfErr result (λ fault. fault.written ≡ w.new.written) }
     ensures failed { OnErr result (W.failed w.new.sink ≡ true) }
 {
     let mut page = Printer::new(w);
-    print_report(&mut page, checked);
+    let count = print_report(&mut page, file);
     let result = page.flush();
     let _out = page.into_inner();
-    result
+    match result {
+        Ok(()) => Ok(count),
+        Err(fault) => Err(fault),
+    }
 }
 
-fn print_report<W: Sink>(page: &mut Printer<'_, W>, checked: &Checked<'_>)
-    ensures { Prints page.old page.new (report checked.now) }
+fn print_report<W: Sink>(page: &mut Printer<'_, W>, file: &HunkFile<'_>) -> u64
+    requires { finding_count file.now < 2 ^ 64 }
+    ensures prints { Prints page.old page.new (report file.now) }
+    ensures count { result ≡ finding_count file.now }
 {
-    match checked {
-        Checked::Load { file, rest } => print_load_summary(page, file, *rest),
-        Checked::Object { file, found } => print_object_report(page, file.units().len(), found),
+    match file {
+        HunkFile::Load { file, rest } => {
+            print_load_summary(page, file, *rest);
+            0
+        }
+        HunkFile::Object(file) => print_object_report(page, file),
     }
 }

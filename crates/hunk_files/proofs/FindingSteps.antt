@@ -1,48 +1,73 @@
 -- Findings that are looked for one by one.
-use Rattle.std.proofs.Common.{◌≡◌, ℕ, ◌+◌, ◌^◌, ◌<◌, ◌≤◌, Bool, true, false, if◌then◌else◌, List, [], ◌∷◌, ◌++◌, length, map, drop, get_or, refl, sym, ap, ◌∙◌, append_assoc, append-nil, arith}
+use Rattle.std.proofs.Common.{◌≡◌, ℕ, ◌+◌, ◌^◌, ◌<◌, ◌≤◌, Bool, true, false, if◌then◌else◌, List, [], ◌∷◌, ◌++◌, length, map, drop, get_or, refl, sym, ap, subst, ◌∙◌, append_assoc, append-nil, arith}
 use Rattle.std.specs.Prelude.{slice_get, Some}
 use Rattle.std.specs.List.{flat_map, fold, AllByRecursion}
 use Rattle.std.proofs.lemmas.List.{drop_more, drop_all}
+use Rattle.std.proofs.lemmas.List.Folds.{flat_map-map}
 use Rattle.std.proofs.lemmas.Option.{get_or_from_slice_get, slice_get_within}
 use Rattle.hunk_words.specs.Bits.{size_longs}
 use Rattle.hunk_blocks.specs.Values.{BlockBody, Name, Code, Data, Bss, Reloc, Ext, Symbol, Debug, Advisory, End, FitsWord, IsBlock}
 use Rattle.hunk_files.specs.LoadFile.{standing, AreInOrder}
-use Rattle.hunk_files.specs.ObjectFile.{ObjectHunk, IsObjectHunk}
-use Rattle.hunk_files.specs.Findings.{FindingValue, content_longs, hunk_bytes, hunk_findings, hunks_findings}
+use Rattle.hunk_files.specs.ObjectFile.{ObjectHunk, IsObjectHunk, UnitValue}
+use Rattle.hunk_files.specs.Findings.{FindingValue, content_longs, hunk_bytes, hunk_findings, hunks_findings, unit_findings, units_findings}
 
--- ---- what is found of each element of a list
+-- ---- findings that are taken one after the other, by a relation that joins
 
--- what was found so far, and what is found of the elements from this number on, is what is found of all
-abbrev pub FoundUpTo : {A : Type 0} → (A → List FindingValue) → List A → ℕ → List FindingValue → List FindingValue → Type 0
-FoundUpTo f xs i now old = now ++ flat_map f (drop i xs) ≡ old ++ flat_map f xs
+-- some were taken, and with the rest they are all
+abbrev pub TakenUpTo : {S : Type 0} → (S → List FindingValue → S → Type 0) → S → S → List FindingValue → List FindingValue → Type 0
+TakenUpTo Takes a b rest all = (done : List FindingValue) × Takes a done b × (done ++ rest ≡ all)
 
-pub found_more : {A : Type 0} (f : A → List FindingValue) (xs : List A) (i : ℕ) (d : A) (now next old : List FindingValue) →
-    i < length xs → FoundUpTo f xs i now old → next ≡ now ++ f (get_or xs i d) → FoundUpTo f xs (i + 1) next old
-found_more {A} f xs i d now next old l h e =
-    ap (λ (ys : List FindingValue). ys ++ flat_map f (drop (i + 1) xs)) e
-    ∙ append_assoc now (f (get_or xs i d)) (flat_map f (drop (i + 1) xs))
-    ∙ ap (λ (ys : List A). now ++ flat_map f ys) (sym (drop_more xs i d l))
-    ∙ h
+-- those of each element before this one
+abbrev pub TakenOf : {S A : Type 0} → (S → List FindingValue → S → Type 0) → (A → List FindingValue) → List A → ℕ → S → S → Type 0
+TakenOf Takes f xs i a b = TakenUpTo Takes a b (flat_map f (drop i xs)) (flat_map f xs)
 
-pub found_all : {A : Type 0} (f : A → List FindingValue) (xs : List A) (i : ℕ) (now old : List FindingValue) → length xs ≤ i → FoundUpTo f xs i now old → now ≡ old ++ flat_map f xs
-found_all {A} f xs i now old l h = sym (append-nil now) ∙ ap (λ (ys : List A). now ++ flat_map f ys) (sym (drop_all i xs l)) ∙ h
+pub taken_all : {S : Type 0} (Takes : S → List FindingValue → S → Type 0) (a b : S) (left all : List FindingValue) → left ≡ [] → TakenUpTo Takes a b left all → Takes a all b
+taken_all Takes a b left all e t = subst (λ (xs : List FindingValue). Takes a xs b) (sym (append-nil t.0) ∙ ap (λ (xs : List FindingValue). t.0 ++ xs) (sym e) ∙ t.2) t.1
 
--- the element that a list tells at a place
-pub found_told : {A : Type 0} (f : A → List FindingValue) (xs : List A) (i : ℕ) (x : A) (now next old : List FindingValue) →
-    slice_get xs i ≡ Some x → FoundUpTo f xs i now old → next ≡ now ++ f x → FoundUpTo f xs (i + 1) next old
-found_told f xs i x now next old g h e =
-    found_more f xs i x now next old (slice_get_within xs i x g) h (e ∙ ap (λ y. now ++ f y) (sym (get_or_from_slice_get xs i x x g)))
+module _ {S : Type 0} (Takes : S → List FindingValue → S → Type 0) (more : (a b c : S) (xs ys : List FindingValue) → Takes a xs b → Takes b ys c → Takes a (xs ++ ys) c) where
+  pub taken_on : (a b c : S) (here rest left all : List FindingValue) → left ≡ here ++ rest → TakenUpTo Takes a b left all → Takes b here c → TakenUpTo Takes a c rest all
+  taken_on a b c here rest left all e t h =
+      (t.0 ++ here, more a b c t.0 here t.1 h, append_assoc t.0 here rest ∙ ap (λ (xs : List FindingValue). t.0 ++ xs) (sym e) ∙ t.2)
+
+  pub each_on : {A : Type 0} (f : A → List FindingValue) (xs : List A) (i : ℕ) (d x : A) (a b c : S) → i < length xs → x ≡ get_or xs i d → TakenOf Takes f xs i a b → Takes b (f x) c → TakenOf Takes f xs (i + 1) a c
+  each_on {A} f xs i d x a b c l e t h =
+      taken_on a b c (f x) (flat_map f (drop (i + 1) xs)) (flat_map f (drop i xs)) (flat_map f xs)
+      (ap (λ (ys : List A). flat_map f ys) (drop_more xs i d l) ∙ ap (λ (y : A). f y ++ flat_map f (drop (i + 1) xs)) (sym e)) t h
+
+  -- by the element that the list tells at the place
+  pub told_on : {A : Type 0} (f : A → List FindingValue) (xs : List A) (i : ℕ) (x : A) (a b c : S) → slice_get xs i ≡ Some x → TakenOf Takes f xs i a b → Takes b (f x) c → TakenOf Takes f xs (i + 1) a c
+  told_on f xs i x a b c g t h = each_on f xs i x x a b c (slice_get_within xs i x g) (sym (get_or_from_slice_get xs i x x g)) t h
+
+-- all were taken of what the elements stand for
+pub viewed_all : {S A B : Type 0} (Takes : S → List FindingValue → S → Type 0) (f : B → List FindingValue) (view : A → B) (xs : List A) (i : ℕ) (a b : S) → length xs ≤ i →
+    TakenOf Takes (λ x. f (view x)) xs i a b → Takes a (flat_map f (map view xs)) b
+viewed_all {A = A} Takes f view xs i a b l t =
+    subst (λ (fs : List FindingValue). Takes a fs b) (sym (flat_map-map f view xs))
+    (taken_all Takes a b (flat_map (λ x. f (view x)) (drop i xs)) (flat_map (λ x. f (view x)) xs) (ap (λ (ys : List A). flat_map (λ x. f (view x)) ys) (drop_all i xs l)) t)
 
 -- ---- the hunks of a unit, the units of a file
 
-pub hunks_more : (unit hunks i : ℕ) (hs : List ObjectHunk) (d : ObjectHunk) (now next all : List FindingValue) → i < length hs →
-    now ++ hunks_findings unit hunks i (drop i hs) ≡ all →
-    next ≡ now ++ hunk_findings (record { unit = unit; hunk = i; hunks = hunks; bytes = hunk_bytes (get_or hs i d) }) (get_or hs i d) →
-    next ++ hunks_findings unit hunks (i + 1) (drop (i + 1) hs) ≡ all
-hunks_more unit hunks i hs d now next all l h e =
-    let rest : List FindingValue = hunks_findings unit hunks (i + 1) (drop (i + 1) hs) in
-    let here : List FindingValue = hunk_findings (record { unit = unit; hunk = i; hunks = hunks; bytes = hunk_bytes (get_or hs i d) }) (get_or hs i d) in
-    ap (λ (ys : List FindingValue). ys ++ rest) e ∙ append_assoc now here rest ∙ ap (λ (xs : List ObjectHunk). now ++ hunks_findings unit hunks i xs) (sym (drop_more hs i d l)) ∙ h
+-- what is found of the hunks from this number on
+abbrev pub left_of_hunks : ℕ → List ObjectHunk → ℕ → List FindingValue
+left_of_hunks unit hs i = hunks_findings unit (length hs) i (drop i hs)
+
+pub hunks_split : (unit i : ℕ) (hs : List ObjectHunk) (d : ObjectHunk) → i < length hs →
+    left_of_hunks unit hs i
+    ≡ hunk_findings (record { unit = unit; hunk = i; hunks = length hs; bytes = hunk_bytes (get_or hs i d) }) (get_or hs i d) ++ left_of_hunks unit hs (i + 1)
+hunks_split unit i hs d l = ap (λ (xs : List ObjectHunk). hunks_findings unit (length hs) i xs) (drop_more hs i d l)
+
+pub hunks_done : (unit i : ℕ) (hs : List ObjectHunk) → length hs ≤ i → left_of_hunks unit hs i ≡ []
+hunks_done unit i hs l = ap (λ (xs : List ObjectHunk). hunks_findings unit (length hs) i xs) (drop_all i hs l)
+
+-- the same of units
+abbrev pub left_of_units : List UnitValue → ℕ → List FindingValue
+left_of_units us i = units_findings i (drop i us)
+
+pub units_split : (i : ℕ) (us : List UnitValue) (d : UnitValue) → i < length us → left_of_units us i ≡ unit_findings i (get_or us i d) ++ left_of_units us (i + 1)
+units_split i us d l = ap (λ (xs : List UnitValue). units_findings i xs) (drop_more us i d l)
+
+pub units_done : (i : ℕ) (us : List UnitValue) → length us ≤ i → left_of_units us i ≡ []
+units_done i us l = ap (λ (xs : List UnitValue). units_findings i xs) (drop_all i us l)
 
 -- ---- the bytes of a hunk fit
 

@@ -1,5 +1,5 @@
 -- A walk keeps what was read, as a value with its open end.
-use Rattle.std.proofs.Common.{◌≡◌, ℕ, ◌+◌, ◌-◌, ◌*◌, ◌<◌, ◌≤◌, Bool, true, false, List, [], ◌∷◌, ◌++◌, length, get_or, take, drop, refl, sym, ap, ap₂, subst, ◌∙◌, append_assoc, arith, Some, None, if◌then◌else◌, ◌⊎◌, inl, inr}
+use Rattle.std.proofs.Common.{◌≡◌, ℕ, zero, suc, ◌+◌, ◌-◌, ◌*◌, ◌<◌, ◌≤◌, Bool, true, false, List, [], ◌∷◌, ◌++◌, length, get_or, take, drop, refl, sym, ap, ap₂, subst, ◌∙◌, append_assoc, arith, Some, None, if◌then◌else◌, ◌⊎◌, inl, inr}
 use Rattle.std.specs.List.{flat_map}
 use Rattle.std.proofs.lemmas.List.{length-append, length-map, length-take-le, length-drop, get_or_at, map-append, take_more, drop_more, take-append-drop, take_at, take_all, get_or-take}
 use Rattle.std.proofs.lemmas.List.Elements.{All-from_recursion}
@@ -21,7 +21,11 @@ use Rattle.hunk_files.specs.Entries.{entry_behind, entry_at}
 use Rattle.hunk_scan.specs.declared.position.Position.{Position}
 use Rattle.hunk_scan.specs.declared.position.Position.TheVariants as positions
 use Rattle.hunk_scan.specs.Positions as scan
-use Rattle.hunk_scan.specs.Positions.{role_at, run, pass, is_between_hunks}
+use Rattle.hunk_scan.specs.Positions.{role_at, run, offsets, pass_offsets, is_between_hunks, EndsWithin}
+use Rattle.hunk_scan.specs.declared.phase.OpenHunk as numbers
+use Rattle.hunk_scan.specs.declared.phase.Phase.TheVariants as phases
+use Rattle.hunk_scan.proofs.OffsetRuns.{offset_passes}
+use Rattle.hunk_files.specs.Passing.{ArePassed}
 use Rattle.hunk_files.specs.FileSteps.{OpenHunk, Progress, AtFirst, AtBlock, InBody, Next, More, Finished, role_of, step}
 use Rattle.hunk_files.proofs.FileProgress.{header_so_far, open_so_far}
 use Rattle.hunk_files.specs.WordsRead.{Labelled, HasRead}
@@ -283,6 +287,54 @@ module _ (bytes : List ℕ) (fit : IsBytes bytes) (at : ℕ) (position : Positio
         let place : at + 1 + run behind ≡ at + (1 + run behind) = omega arith in
         let P : ℕ → Type 0 = λ i. Walks bytes i (scan.pass behind (run behind)) (entry_at (longs bytes) behind entry) in
         subst P place (passes_over bytes fit (at + 1) behind (entry_at (longs bytes) behind entry) (walk_on more).1 (omega (arith, l)))
+
+-- ---- offsets
+
+-- an offset within the hunk leads to one fewer
+offset_over : (bytes : List ℕ) → IsBytes bytes → (at : ℕ) (o : numbers.OpenHunk) (target owed : ℕ) (entry : Entry) → StandsAt bytes at (positions.Body o (phases.Offset target owed)) entry →
+    at < length (longs bytes) → EndsWithin (4 * entry.longs) (get_or (longs bytes) at 0) → StandsAt bytes (at + 1) (scan.owe_offsets o target owed) entry
+offset_over bytes fit at o target owed entry s l within = go owed (walk_on bytes fit at _ entry s l pass (goes_on owed)).1
+  where
+    pass : None ≡ refuse (role_at entry.longs (positions.Body o (phases.Offset target owed))) (get_or (longs bytes) at 0)
+    pass = sym (offset_passes entry.longs o target owed (get_or (longs bytes) at 0) within)
+
+    goes_on : (k : ℕ) → scan.owe_offsets o target k ≡ positions.Done → ⊥
+    goes_on zero e = cc
+    goes_on (suc k) e = cc
+
+    go : (k : ℕ) → StandsAt bytes (at + 1) (scan.owe_offsets o target k) (entry_at (longs bytes) (scan.owe_offsets o target k) entry) → StandsAt bytes (at + 1) (scan.owe_offsets o target k) entry
+    go zero t = t
+    go (suc k) t = t
+
+fewer : (o : numbers.OpenHunk) (target owed n : ℕ) → n ≤ suc owed → pass_offsets (positions.Body o (phases.Offset target owed)) n ≡ scan.owe_offsets o target (suc owed - n)
+fewer o target owed zero l = let e : suc owed ≡ suc owed - 0 = omega arith in ap (λ (k : ℕ). scan.owe_offsets o target k) e
+fewer o target owed (suc n) l = let e : owed - n ≡ suc owed - suc n = omega arith in ap (λ (k : ℕ). scan.owe_offsets o target k) e
+
+-- so many lead to as many fewer
+offsets_over : (bytes : List ℕ) → IsBytes bytes → (n at : ℕ) (p : Position) (entry : Entry) → StandsAt bytes at p entry → n ≤ offsets p → at + n ≤ length (longs bytes) →
+    ((i : ℕ) → i < n → EndsWithin (4 * entry.longs) (get_or (longs bytes) (at + i) 0)) → StandsAt bytes (at + n) (pass_offsets p n) entry
+offsets_over bytes fit zero at p entry s few whole inside =
+    let same : at ≡ at + 0 = omega arith in subst (λ (k : ℕ). StandsAt bytes k p entry) same s
+offsets_over bytes fit (suc n) at (positions.Body o (phases.Offset target zero)) entry s few whole inside =
+    let none : 0 ≡ n = omega (arith, few) in
+    let here : at + 0 ≡ at = omega arith in
+    subst (λ (k : ℕ). StandsAt bytes (at + suc k) (scan.owe_offsets o target (0 - k)) entry) none
+    (offset_over bytes fit at o target 0 entry s (omega (arith, whole)) (subst (λ (k : ℕ). EndsWithin (4 * entry.longs) (get_or (longs bytes) k 0)) here (inside 0 (omega arith))))
+offsets_over bytes fit (suc n) at (positions.Body o (phases.Offset target (suc owed))) entry s few whole inside =
+    let here : at + 0 ≡ at = omega arith in
+    let next : at + 1 + n ≡ at + suc n = omega arith in
+    let one = offset_over bytes fit at o target (suc owed) entry s (omega (arith, whole)) (subst (λ (k : ℕ). EndsWithin (4 * entry.longs) (get_or (longs bytes) k 0)) here (inside 0 (omega arith))) in
+    let within : (i : ℕ) → i < n → EndsWithin (4 * entry.longs) (get_or (longs bytes) (at + 1 + i) 0) =
+    λ i less. let e : at + suc i ≡ at + 1 + i = omega arith in subst (λ (k : ℕ). EndsWithin (4 * entry.longs) (get_or (longs bytes) k 0)) e (inside (suc i) (omega (arith, less))) in
+    subst (λ (q : Position). StandsAt bytes (at + suc n) q entry) (fewer o target owed n (omega (arith, few)))
+    (subst (λ (k : ℕ). StandsAt bytes k (pass_offsets (positions.Body o (phases.Offset target owed)) n) entry) next
+    (offsets_over bytes fit n (at + 1) (positions.Body o (phases.Offset target owed)) entry one (omega (arith, few)) (omega (arith, whole)) within))
+offsets_over bytes fit (suc n) at _ entry s few whole inside = absurd (omega (arith, few))
+
+-- Offsets that are passed at once lead on.
+pub passed_over : (bytes : List ℕ) → IsBytes bytes → (at n : ℕ) (p : Position) (entry : Entry) → StandsAt bytes at p entry → ArePassed (longs bytes) at p entry.longs n →
+    Walks bytes (at + n) (pass_offsets p n) entry
+passed_over bytes fit at n p entry s passed = inl (offsets_over bytes fit n at p entry s passed.few passed.whole passed.inside)
 
 -- All longwords were read, and the file goes on.
 pub walk_truncated : (bytes : List ℕ) (at : ℕ) (position : Position) (entry : Entry) → Walks bytes at position entry → length (longs bytes) ≤ at → HasFault bytes (4 * length (longs bytes)) reasons.Truncated

@@ -1,3 +1,4 @@
+pub mod Collecting
 pub mod Entries
 pub mod Fault
 pub mod FileSteps
@@ -11,6 +12,7 @@ pub mod ObjectFile
 pub mod ObjectParts
 pub mod OpenSegment
 pub mod Overlap
+pub mod Passing
 pub mod ReaderPosition
 pub mod Relocating
 pub mod Strip

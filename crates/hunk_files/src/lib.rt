@@ -13,7 +13,7 @@ mod tests;
 mod writing;
 
 pub use crate::load::{ImageFault, LoadFile};
-pub use crate::object::{Finding, FindingKind, Findings, Hunk, ObjectFile, Unit};
+pub use crate::object::{Finding, FindingKind, Findings, Hunk, ObjectFile, TakesFindings, Unit};
 pub use crate::row::Row;
 pub use crate::sniffing::sniff;
 pub use hunk_scan::Sniff;

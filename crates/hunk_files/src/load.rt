@@ -3,6 +3,7 @@
 mod file;
 mod hunk;
 mod image;
+mod offsets;
 mod overlap;
 mod strip;
 mod table;

@@ -2,12 +2,16 @@
 
 mod check;
 mod file;
+mod findings;
 mod refusal;
 mod strip;
+mod taker;
 mod unit;
 mod walk;
 mod writing;
 
-pub use crate::object::check::{Finding, FindingKind, Findings};
+pub use crate::object::check::{Finding, FindingKind};
 pub use crate::object::file::ObjectFile;
+pub use crate::object::findings::Findings;
+pub use crate::object::taker::TakesFindings;
 pub use crate::object::unit::{Hunk, Unit};

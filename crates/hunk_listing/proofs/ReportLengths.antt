@@ -156,7 +156,7 @@ unfolding finding_line
 some_byte f = omega arith
 
 -- a finding has a line, so they are as many as the bytes of their lines at most
-findings_within : (found : List Finding) → length found ≤ length (lines found)
+pub findings_within : (found : List Finding) → length found ≤ length (lines found)
 findings_within [] = omega arith
 findings_within (f ∷ found) = omega (arith, length-append (finding_line f) (lines found), some_byte f, findings_within found)
 

@@ -1,12 +1,14 @@
 //! The report on a whole file.
-ghost use Rattle.std.specs.Prelude.{◌≡◌, ◌++◌, length};
+ghost use Rattle.std.specs.Prelude.{◌≡◌, ◌<◌, ◌^◌, ◌++◌, codes, length};
+ghost use Rattle.std.proofs.Common.{◌∙◌, refl};
 ghost use Rattle.hunk_words.specs.Prints.{Prints};
-ghost use Rattle.std.specs.List.{flat_map};
-ghost use Rattle.hunk_listing.specs.ReportLines.{count_line, finding_line, finding_name, load_summary};
+ghost use Rattle.hunk_files.specs.Findings.{findings};
+ghost use Rattle.hunk_listing.specs.ReportLines.{count_line, finding_line, finding_name, load_summary, object_report};
+ghost use Rattle.hunk_listing.specs.Reporting.{Reports, reports_none, reports_more};
 
 use crate::load::{print_load_head, print_rest};
-use crate::text::{print_decimal, print_hexadecimal};
-use hunk_files::{Finding, FindingKind, Findings, LoadFile};
+use crate::text::{print_decimal, put_digits};
+use hunk_files::{Finding, FindingKind, LoadFile, ObjectFile, TakesFindings};
 use hunk_words::{Printer, Sink};
 
 /// Reports a load file that so many bytes follow: nothing is found in one that was accepted.
@@ -17,20 +19,38 @@ pub fn print_load_summary<W: Sink>(page: &mut Printer<'_, W>, file: &LoadFile<'_
     print_rest(page, rest);
 }
 
-/// Reports what was found in an object file of so many units.
-pub fn print_object_report<W: Sink>(page: &mut Printer<'_, W>, units: usize, found: &Findings)
-    ensures { Prints page.old page.new
-        (flat_map finding_line found.now ++ count_line units (length found.now)) }
+/// Reports what is found in an object file, each finding as soon as it is found, and answers how
+/// many there are. It takes no memory.
+pub fn print_object_report<W: Sink>(page: &mut Printer<'_, W>, file: &ObjectFile<'_>) -> u64
+    requires { length (findings file.now) < 2 ^ 64 }
+    ensures prints { Prints page.old page.new (object_report file.now) }
+    ensures count { result ≡ length (findings file.now) }
 {
-    print_findings(page, found);
-    print_count(page, units, found.len());
+    let mut lines = FindingLines { page, count: 0 };
+    file.check_with(&mut lines);
+    let FindingLines { page, count } = lines;
+    print_count(page, file.units().len(), count);
+    count
 }
 
-fn print_findings<W: Sink>(page: &mut Printer<'_, W>, found: &Findings)
-    ensures { Prints page.old page.new (flat_map finding_line found.now) }
-{
-    'found: for i in 0..found.len() {
-        print_finding(page, *found.at(i));
+/// Prints a line for each finding, and counts them modulo 2 ^ 64.
+struct FindingLines<'p, 'a, W: Sink> {
+    page: &'p mut Printer<'a, W>,
+    count: u64,
+}
+
+impl<W: Sink> TakesFindings for FindingLines<'_, '_, W> {
+    ghost takes = { λ a xs b. (b.page.ghost_name ≡ a.page.ghost_name)
+        × Reports a.page.now b.page.now a.count b.count xs };
+
+    ghost none = { λ s. (refl, reports_none s.page.now s.count) };
+
+    ghost more = { λ a b c xs ys first next. (next.0 ∙ first.0,
+        reports_more a.page.now b.page.now c.page.now a.count b.count c.count xs ys first.1 next.1) };
+
+    fn take(&mut self, finding: Finding) {
+        print_finding(self.page, finding);
+        self.count = self.count.wrapping_add(1);
     }
 }
 
@@ -42,24 +62,24 @@ fn print_finding<W: Sink>(page: &mut Printer<'_, W>, finding: Finding)
     print_decimal(page, finding.unit);
     page.print(b" hunk ");
     print_decimal(page, finding.hunk);
-    page.print(b" offset ");
-    print_hexadecimal(page, finding.offset);
-    page.print(b" ");
-    page.print(finding_name(finding.fault).as_bytes());
-    page.print(b"\n");
+    let mut offset = *b" offset 0x00000000 ";
+    put_digits(offset.as_mut_slice(), 10, &finding.offset.to_be_bytes());
+    page.print(&offset);
+    page.print(finding_end(finding.fault).as_bytes());
 }
 
-fn finding_name(fault: FindingKind) -> &'static str
-    ensures { result.now ≡ finding_name fault }
+/// What is wrong, at the end of a line.
+fn finding_end(fault: FindingKind) -> &'static str
+    ensures { result.now ≡ finding_name fault ++ codes "\n" }
 {
     match fault {
-        FindingKind::BadTarget => "BadTarget",
-        FindingKind::OutsideHunk => "OutsideHunk",
+        FindingKind::BadTarget => "BadTarget\n",
+        FindingKind::OutsideHunk => "OutsideHunk\n",
     }
 }
 
 #[tactic(auto, unfolding(crate::specs::ReportLines::count_line))]
-fn print_count<W: Sink>(page: &mut Printer<'_, W>, units: usize, count: usize)
+fn print_count<W: Sink>(page: &mut Printer<'_, W>, units: usize, count: u64)
     ensures { Prints page.old page.new (count_line units count) }
 {
     page.print(b"object file ");

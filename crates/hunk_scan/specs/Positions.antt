@@ -1,5 +1,5 @@
 -- Where a reader of a load file stands, in numbers alone: what the next longword is for, and what it leads to.
-use Rattle.std.specs.Prelude.{ℕ, zero, suc, ◌+◌, ◌-◌, ◌*◌, ◌%◌, ◌^◌, Bool, true, false, if◌then◌else◌}
+use Rattle.std.specs.Prelude.{ℕ, zero, suc, ◌+◌, ◌-◌, ◌*◌, ◌%◌, ◌^◌, ◌≤◌, Bool, true, false, if◌then◌else◌}
 use Rattle.hunk_words.specs.declared.block_word.Kind.{Kind}
 use Rattle.hunk_words.specs.declared.block_word.Kind.TheVariants as kinds
 use Rattle.hunk_words.specs.Bits.{has_both_bits, kind}
@@ -167,6 +167,23 @@ abbrev pub pass : Position → ℕ → Position
 pass p zero = p
 pass (positions.Body o phase) (suc n) = pass_in o phase n
 pass p (suc n) = p
+
+-- ---- lists of offsets
+
+-- so many offsets of one list come at least
+abbrev pub offsets : Position → ℕ
+offsets (positions.Body o (phases.Offset target owed)) = suc owed
+offsets _ = 0
+
+-- behind so many of them
+abbrev pub pass_offsets : Position → ℕ → Position
+pass_offsets p zero = p
+pass_offsets (positions.Body o (phases.Offset target owed)) (suc n) = owe_offsets o target (owed - n)
+pass_offsets p (suc n) = p
+
+-- a long at the offset ends within so many bytes
+abbrev pub EndsWithin : ℕ → ℕ → Type 0
+EndsWithin limit offset = offset + 4 ≤ limit
 
 -- ---- the least number of longwords
 

@@ -113,6 +113,20 @@ impl OpenHunk {
     }
 
     #[inline(always)]
+    pub(crate) fn owe_offsets(self, target: u32, owed: u32) -> Position
+        ensures { result ≡ positions.owe_offsets self target owed }
+    {
+        if owed == 0 {
+            self.at(Phase::GroupCount)
+        } else {
+            self.at(Phase::Offset {
+                target,
+                owed: owed - 1,
+            })
+        }
+    }
+
+    #[inline(always)]
     fn owe_symbol(self, owed: u32) -> Position
         ensures { result ≡ positions.owe_symbol self owed }
     {
@@ -138,11 +152,7 @@ impl OpenHunk {
             Phase::GroupCount | Phase::EntryWord if word == 0 => self.at(Phase::BlockWord),
             Phase::GroupCount => self.at(Phase::Target { owed: word - 1 }),
             Phase::Target { owed } => self.at(Phase::Offset { target: word, owed }),
-            Phase::Offset { target: _, owed: 0 } => self.at(Phase::GroupCount),
-            Phase::Offset { target, owed } => self.at(Phase::Offset {
-                target,
-                owed: owed - 1,
-            }),
+            Phase::Offset { target, owed } => self.owe_offsets(target, owed),
             Phase::EntryWord => self.owe_symbol(word % NAME_LIMIT + 1),
             Phase::Symbol { owed } => self.owe_symbol(owed),
         }

@@ -1,7 +1,7 @@
 //! Positions in a load file.
 ghost use Rattle.std.specs.Prelude.{◌≡◌, ◌≤◌, ◌<◌, ◌^◌, false};
 ghost use Rattle.hunk_scan.specs.Positions as positions;
-ghost use Rattle.hunk_scan.specs.Positions.{step, run, pass, least_longs, is_done, is_behind_header, is_between_hunks};
+ghost use Rattle.hunk_scan.specs.Positions.{step, run, pass, offsets, pass_offsets, least_longs, is_done, is_behind_header, is_between_hunks};
 
 use crate::phase::{OpenHunk, Phase, open_next};
 use hunk_words::SizeWord;
@@ -113,6 +113,32 @@ impl Position {
     {
         match self {
             Position::Body(hunk, phase) if count > 0 => hunk.pass(phase, (count - 1) as u32),
+            _ => self,
+        }
+    }
+
+    /// How many offsets of one list come at least.
+    #[inline(always)]
+    pub fn offsets(self) -> u64
+        ensures value { result ≡ offsets self }
+        ensures bound { result ≤ 2 ^ 32 }
+    {
+        match self {
+            Position::Body(_, Phase::Offset { target: _, owed }) => u64::from(owed) + 1,
+            _ => 0,
+        }
+    }
+
+    /// Behind so many offsets of a list.
+    #[inline(always)]
+    pub fn pass_offsets(self, count: u64) -> Position
+        requires { count ≤ offsets self }
+        ensures { result ≡ pass_offsets self count }
+    {
+        match self {
+            Position::Body(hunk, Phase::Offset { target, owed }) if count > 0 => {
+                hunk.owe_offsets(target, owed - (count - 1) as u32)
+            }
             _ => self,
         }
     }

@@ -5,8 +5,12 @@ ghost use Rattle.hunk_files.specs.Fault.{HasFault, HasLoadText};
 ghost use Rattle.hunk_files.specs.Entries.{entry_behind, entry_at};
 ghost use Rattle.hunk_scan.specs.Positions.{is_between_hunks};
 
+use crate::load::offsets::behind_offsets;
 use hunk_scan::Position;
 use hunk_words::{FileFault, Reason, SizeWord, word_at};
+
+/// From so many offsets on a list is passed at once: shorter ones cost less one by one.
+const MANY: u64 = 8;
 
 /// What the table declares of the open hunk, 0 longwords before the first.
 #[derive(Clone, Copy)]
@@ -29,6 +33,14 @@ pub(crate) fn walk(bytes: &[u8]) -> Result<usize, FileFault>
     let mut entry = Entry { longs: 0, next: 5 };
     let mut at = 0;
     'walking: while at < count {
+        if position.offsets() >= MANY {
+            let behind = behind_offsets(bytes, at, position, entry.longs);
+            if behind > at {
+                position = position.pass_offsets((behind - at) as u64);
+                at = behind;
+                continue;
+            }
+        }
         let word = word_at(bytes, at);
         if let Some(reason) = position.refuse(entry.longs, word) {
             return Err(FileFault {

@@ -1,15 +1,14 @@
-//! What is wrong with the offsets of an object file.
-ghost use Rattle.std.specs.Prelude.{◌≡◌, ◌++◌, ◌*◌, ◌/◌, ◌^◌, ◌<◌, ◌≤◌, OnOk, IfOk, Some, length, slice_get, map, vec_len};
+//! What is wrong with the offsets of an object file, found by one walk.
+ghost use Rattle.std.specs.Prelude.{◌≡◌, ◌*◌, ◌/◌, ◌^◌, ◌<◌, ◌≤◌, length, map};
 ghost use Rattle.std.specs.List.{flat_map};
 ghost use Rattle.hunk_blocks.specs.Views.{body_of, entry_of, group_of};
 ghost use Rattle.hunk_files.specs.Findings.{body_findings, content_longs, entry_findings, finding, findings, group_findings, hunk_bytes, hunk_findings, hunks_findings, outside, reference_width, relocation_findings, relocation_width};
 
 use crate::object::file::ObjectFile;
+use crate::object::taker::TakesFindings;
 use crate::object::unit::{Hunk, Unit};
 use hunk_blocks::{Block, Body, Entries, Entry, Group, Groups};
 use hunk_words::{Kind, SizeWord};
-use std::alloc::{AllocError, Global};
-use std::marker::Model;
 
 /// What is wrong with an offset of an object file.
 #[derive(Clone, Copy, Debug, PartialEq, Eq)]
@@ -28,38 +27,6 @@ pub struct Finding {
     pub hunk: u64,
     pub fault: FindingKind,
     pub offset: u32,
-}
-
-/// What is wrong with the offsets of an object file, in file order. Contracts see it as a list.
-#[derive(Debug, Drop)]
-pub struct Findings {
-    findings: Vec<Finding>,
-}
-
-impl Model for Findings {
-    ghost use Rattle.std.specs.Prelude.{List};
-    ghost use Rattle.hunk_files.specs.declared.object.check.Finding.{Finding};
-
-    ghost Value = { List Finding };
-
-    ghost view = { λ s. s.findings.items };
-}
-
-impl Findings {
-    /// How many findings there are.
-    pub fn len(&self) -> usize
-        ensures { result ≡ length self.now }
-    {
-        self.findings.len()
-    }
-
-    /// The finding number `i`, counted from 0.
-    pub fn at(&self, i: usize) -> &Finding
-        requires { i < length self.now }
-        ensures { slice_get self.now i ≡ Some result.now }
-    {
-        &self.findings[i]
-    }
 }
 
 /// Where offsets stand: the unit and the hunk, how many hunks the unit has, and how many bytes the
@@ -136,118 +103,93 @@ fn hunk_bytes(blocks: &[Block]) -> u64
     4 * longs
 }
 
-/// What is wrong with an offset of this width.
-fn check_offset(
-    found: &mut Vec<Finding>,
-    spot: Spot,
-    width: u64,
-    offset: u32,
-) -> Result<(), AllocError>
+/// Hands over what is wrong with an offset of this width.
+fn check_offset<T: TakesFindings>(taker: &mut T, spot: Spot, width: u64, offset: u32)
     requires { width ≤ 4 }
-    ensures { OnOk result (found.new.items ≡ found.old.items ++ outside spot width offset) }
+    ensures { T.takes taker.old (outside spot width offset) taker.new }
 {
     if u64::from(offset) + width > spot.bytes {
-        found.push(spot.finding(FindingKind::OutsideHunk, offset))?;
+        taker.take(spot.finding(FindingKind::OutsideHunk, offset));
     }
-    Ok(())
 }
 
-/// What is wrong with an offset of this width that is relocated to this target.
-fn check_relocation(
-    found: &mut Vec<Finding>,
+/// Hands over what is wrong with an offset of this width that is relocated to this target.
+fn check_relocation<T: TakesFindings>(
+    taker: &mut T,
     spot: Spot,
     width: u64,
     target: u32,
     offset: u32,
-) -> Result<(), AllocError>
+)
     requires { width ≤ 4 }
-    ensures { OnOk result (found.new.items ≡ found.old.items
-        ++ relocation_findings spot width target offset) }
+    ensures { T.takes taker.old (relocation_findings spot width target offset) taker.new }
 {
     if u64::from(target) >= spot.hunks {
-        found.push(spot.finding(FindingKind::BadTarget, offset))?;
+        taker.take(spot.finding(FindingKind::BadTarget, offset));
     }
-    check_offset(found, spot, width, offset)
+    check_offset(taker, spot, width, offset);
 }
 
-fn check_group(
-    found: &mut Vec<Finding>,
-    spot: Spot,
-    width: u64,
-    group: &Group,
-) -> Result<(), AllocError>
+fn check_group<T: TakesFindings>(taker: &mut T, spot: Spot, width: u64, group: &Group)
     requires { width ≤ 4 }
-    ensures { OnOk result (found.new.items ≡ found.old.items
-        ++ group_findings spot width (group_of group.now)) }
+    ensures { T.takes taker.old (group_findings spot width (group_of group.now)) taker.new }
 {
     for i in 0..group.offsets.len() {
-        check_relocation(found, spot, width, group.target, group.offsets.at(i))?;
+        check_relocation(taker, spot, width, group.target, group.offsets.at(i));
     }
-    Ok(())
 }
 
-fn check_groups(
-    found: &mut Vec<Finding>,
-    spot: Spot,
-    width: u64,
-    groups: &Groups,
-) -> Result<(), AllocError>
+fn check_groups<T: TakesFindings>(taker: &mut T, spot: Spot, width: u64, groups: &Groups)
     requires { width ≤ 4 }
-    ensures { OnOk result (found.new.items ≡ found.old.items
-        ++ flat_map (group_findings spot width) (map group_of groups.now)) }
+    ensures { T.takes taker.old
+        (flat_map (group_findings spot width) (map group_of groups.now)) taker.new }
 {
     for i in 0..groups.len() {
-        check_group(found, spot, width, groups.at(i))?;
+        check_group(taker, spot, width, groups.at(i));
     }
-    Ok(())
 }
 
-fn check_entry(found: &mut Vec<Finding>, spot: Spot, entry: &Entry) -> Result<(), AllocError>
-    ensures { OnOk result (found.new.items ≡ found.old.items
-        ++ entry_findings spot (entry_of entry.now)) }
+fn check_entry<T: TakesFindings>(taker: &mut T, spot: Spot, entry: &Entry)
+    ensures { T.takes taker.old (entry_findings spot (entry_of entry.now)) taker.new }
 {
     let width = reference_width(entry.word);
     for i in 0..entry.offsets.len() {
-        check_offset(found, spot, width, entry.offsets.at(i))?;
+        check_offset(taker, spot, width, entry.offsets.at(i));
     }
-    Ok(())
 }
 
-fn check_entries(found: &mut Vec<Finding>, spot: Spot, entries: &Entries) -> Result<(), AllocError>
-    ensures { OnOk result (found.new.items ≡ found.old.items
-        ++ flat_map (entry_findings spot) (map entry_of entries.now)) }
+fn check_entries<T: TakesFindings>(taker: &mut T, spot: Spot, entries: &Entries)
+    ensures { T.takes taker.old
+        (flat_map (entry_findings spot) (map entry_of entries.now)) taker.new }
 {
     for i in 0..entries.len() {
-        check_entry(found, spot, entries.at(i))?;
+        check_entry(taker, spot, entries.at(i));
     }
-    Ok(())
 }
 
-fn check_block(found: &mut Vec<Finding>, spot: Spot, block: &Block) -> Result<(), AllocError>
-    ensures { OnOk result (found.new.items ≡ found.old.items
-        ++ body_findings spot block.now.word block.now.body) }
+fn check_block<T: TakesFindings>(taker: &mut T, spot: Spot, block: &Block)
+    ensures { T.takes taker.old (body_findings spot block.now.word block.now.body) taker.new }
 {
     match block.body() {
         Body::Reloc(groups) => {
-            check_groups(found, spot, relocation_width(block.word().kind()), groups)
+            check_groups(taker, spot, relocation_width(block.word().kind()), groups);
         }
-        Body::Ext(entries) => check_entries(found, spot, entries),
-        _ => Ok(()),
+        Body::Ext(entries) => check_entries(taker, spot, entries),
+        _ => {}
     }
 }
 
-fn check_blocks(found: &mut Vec<Finding>, spot: Spot, blocks: &[Block]) -> Result<(), AllocError>
-    ensures { OnOk result (found.new.items ≡ found.old.items ++ hunk_findings spot blocks.now) }
+fn check_blocks<T: TakesFindings>(taker: &mut T, spot: Spot, blocks: &[Block])
+    ensures { T.takes taker.old (hunk_findings spot blocks.now) taker.new }
 {
     for block in blocks {
-        check_block(found, spot, block)?;
+        check_block(taker, spot, block);
     }
-    Ok(())
 }
 
-fn check_hunks(found: &mut Vec<Finding>, unit: u64, hunks: &[Hunk]) -> Result<(), AllocError>
-    ensures { OnOk result (found.new.items ≡ found.old.items
-        ++ hunks_findings unit (length hunks.now) 0 hunks.now) }
+fn check_hunks<T: TakesFindings>(taker: &mut T, unit: u64, hunks: &[Hunk])
+    ensures { T.takes taker.old
+        (hunks_findings unit (length hunks.now) 0 hunks.now) taker.new }
 {
     for (number, hunk) in hunks.iter().enumerate() {
         let blocks = hunk.blocks();
@@ -257,31 +199,28 @@ fn check_hunks(found: &mut Vec<Finding>, unit: u64, hunks: &[Hunk]) -> Result<()
             hunks: hunks.len() as u64,
             bytes: hunk_bytes(blocks),
         };
-        check_blocks(found, spot, blocks)?;
+        check_blocks(taker, spot, blocks);
     }
-    Ok(())
 }
 
-fn check_units(found: &mut Vec<Finding>, units: &[Unit]) -> Result<(), AllocError>
-    ensures { OnOk result (found.new.items ≡ found.old.items ++ findings units.now) }
+fn check_units<T: TakesFindings>(taker: &mut T, units: &[Unit])
+    ensures { T.takes taker.old (findings units.now) taker.new }
 {
     for (number, unit) in units.iter().enumerate() {
-        check_hunks(found, number as u64, unit.hunks())?;
+        check_hunks(taker, number as u64, unit.hunks());
     }
-    Ok(())
 }
 
 impl ObjectFile<'_> {
-    /// What is wrong with the offsets of all relocations and external references, in file order.
+    /// Hands over what is wrong with the offsets of all relocations and external references, in file
+    /// order, each finding as soon as it is found. It takes no memory.
     ///
     /// For each offset there is `BadTarget` where it is a relocation's and the target is not below
     /// the unit's number of hunks, then `OutsideHunk` where the bytes that are relocated or refer
-    /// go past the end of the hunk. Fails only where memory runs out.
-    pub fn check(&self, alloc: Global) -> Result<Findings, AllocError>
-        ensures { IfOk result (λ found. found ≡ findings self.now) }
+    /// go past the end of the hunk.
+    pub fn check_with<T: TakesFindings>(&self, taker: &mut T)
+        ensures { T.takes taker.old (findings self.now) taker.new }
     {
-        let mut found = Vec::new(alloc);
-        check_units(&mut found, self.units())?;
-        Ok(Findings { findings: found })
+        check_units(taker, self.units());
     }
 }

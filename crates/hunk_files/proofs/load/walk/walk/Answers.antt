@@ -1,4 +1,4 @@
-use Rattle.std.proofs.Common.{ℕ, ◌+◌, ◌*◌, ◌<◌, length, arith, sym, ap, ◌∙◌, subst}
+use Rattle.std.proofs.Common.{◌≡◌, ℕ, ◌+◌, ◌-◌, ◌*◌, ◌<◌, length, arith, sym, ap, ◌∙◌, subst}
 use Rattle.hunk_words.specs.Longs.{longs, IsBytes}
 use Rattle.hunk_words.specs.declared.reason.Reason.TheVariants as reasons
 use Rattle.hunk_words.proofs.LongLaws.{length-longs}
@@ -9,7 +9,7 @@ use Rattle.hunk_scan.specs.declared.position.Position.{Position}
 use Rattle.hunk_files.specs.Entries.{entry_at}
 use Rattle.hunk_files.specs.Fault.{HasFault}
 use Rattle.hunk_files.specs.declared.load.walk.Entry.{Entry}
-use Rattle.hunk_files.proofs.Walking.{Walks, start_walk, stands, walk_refused, walk_ends, entry_fits, walk_passes, walk_truncated}
+use Rattle.hunk_files.proofs.Walking.{Walks, start_walk, stands, walk_refused, walk_ends, entry_fits, walk_passes, passed_over, walk_truncated}
 use Rattle.hunk_files.proofs.load.walk.walk.Goals as goal
 
 pub walking-init : goal.walking-init
@@ -65,6 +65,18 @@ walking-preserved c =
     let here = subst Q (sym c.run-run.ensures.value) (subst P (sym behind) on) in
     subst (λ (e : Entry). R c.pass-position.result e) (sym c.open_entry-entry.ensures)
     (subst (λ (p : Position). R p (entry_at (longs bytes) c.step-behind.result w.entry)) (sym c.pass-position.ensures) here)
+
+pub walking-preserved-then-behind-at : goal.walking-preserved-then-behind-at
+walking-preserved-then-behind-at c =
+    let bytes = c.args.bytes.now in
+    let w = c.walking in
+    let fit : IsBytes bytes = λ i. omega (arith, c.type_inv.bytes i) in
+    let l : w.at < length (longs bytes) = omega (arith, length-longs bytes) in
+    let n = c.behind_offsets-behind.result - w.at in
+    let place : w.at + n ≡ c.behind_offsets-behind.result = omega (arith, c.behind_offsets-behind.ensures.from) in
+    let here = passed_over bytes fit w.at n w.position w.entry (stands bytes w.at w.position w.entry w.invariant l) c.behind_offsets-behind.ensures.passed in
+    subst (λ (k : ℕ). Walks bytes k c.pass_offsets-position.result w.entry) place
+    (subst (λ (p : Position). Walks bytes (w.at + n) p w.entry) (sym c.pass_offsets-position.ensures) here)
 
 pub returns : goal.returns
 returns c =

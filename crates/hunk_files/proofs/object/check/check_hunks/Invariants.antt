@@ -1,7 +1,5 @@
-use Rattle.std.proofs.Common.{◌≡◌, ◌++◌, length, drop}
-use Rattle.hunk_files.specs.Findings.{hunks_findings}
+use Rattle.hunk_files.proofs.FindingSteps.{TakenUpTo, left_of_hunks}
 use Rattle.hunk_files.proofs.object.check.check_hunks.Given as goal
 
 abbrev pub invariant-loop-number : goal.invariant-loop-number
-invariant-loop-number l =
-    l.found.items ++ hunks_findings l.unit (length l.hunks) l.number (drop l.number l.hunks) ≡ l.fn.found.items ++ hunks_findings l.unit (length l.hunks) 0 l.hunks
+invariant-loop-number g l = TakenUpTo g.T.TakesFindings.takes l.fn.taker l.taker (left_of_hunks l.unit l.hunks l.number) (left_of_hunks l.unit l.hunks 0)

@@ -1,0 +1,61 @@
+//! The offsets of a list that are passed over at once.
+ghost use Rattle.std.specs.Prelude.{◌<◌, ◌≤◌, ◌-◌, ◌*◌, ℕ, length, slice_index};
+ghost use Rattle.hunk_words.specs.Longs.{longs};
+ghost use Rattle.hunk_scan.specs.Positions.{EndsWithin};
+ghost use Rattle.hunk_files.specs.Passing.{ArePassed};
+
+use hunk_scan::{Position, is_outside};
+use hunk_words::word_at;
+
+/// The longword behind the offsets of a list from `at` on that lie in the bytes and are not refused
+/// in a hunk of so many declared longs.
+#[inline(always)]
+pub(super) fn behind_offsets(bytes: &[u8], at: usize, position: Position, declared: u32) -> usize
+    requires { 4 * at ≤ length bytes.now }
+    ensures from { at ≤ result }
+    ensures passed { ArePassed (longs bytes.now) at position declared (result - at) }
+{
+    let offsets = position.offsets();
+    let whole = bytes.len() / 4;
+    let end = if offsets < (whole - at) as u64 {
+        at + offsets as usize
+    } else {
+        whole
+    };
+    first_outside(bytes, at, end, declared)
+}
+
+/// The first of the offsets from `first` up to `end` whose long passes the end of a hunk of so many
+/// declared longs; `end` where none does.
+#[inline(never)]
+fn first_outside(bytes: &[u8], first: usize, end: usize, declared: u32) -> usize
+    requires order { first ≤ end }
+    requires bytes { 4 * end ≤ length bytes.now }
+    ensures from { first ≤ result }
+    ensures bound { result ≤ end }
+    ensures inside { (i : ℕ) → first ≤ i → i < result
+        → EndsWithin (4 * declared) (slice_index (longs bytes.now) i) }
+    ensures stops { result < end → EndsWithin (4 * declared) (slice_index (longs bytes.now) result) → ⊥ }
+{
+    if !is_outside(largest(bytes, first, end), declared) {
+        return end;
+    }
+    'offsets: for i in first..end {
+        if is_outside(word_at(bytes, i), declared) {
+            return i;
+        }
+    }
+    end
+}
+
+/// The largest of the longwords from `first` up to `end`, 0 of none.
+fn largest(bytes: &[u8], first: usize, end: usize) -> u32
+    requires { 4 * end ≤ length bytes.now }
+    ensures { (i : ℕ) → first ≤ i → i < end → slice_index (longs bytes.now) i ≤ result }
+{
+    let mut largest = 0;
+    'longwords: for i in first..end {
+        largest = largest.max(word_at(bytes, i));
+    }
+    largest
+}
