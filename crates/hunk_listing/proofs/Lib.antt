@@ -1,6 +1,7 @@
 mod BlockLaws
 pub mod BlockLengths
 mod Contents
+mod DecimalLaws
 pub mod FileLengths
 pub mod LineLengths
 mod Lines

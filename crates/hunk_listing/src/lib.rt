@@ -3,6 +3,7 @@
 
 mod block;
 mod entry;
+mod line;
 mod listing;
 mod load;
 mod names;

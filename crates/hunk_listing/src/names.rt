@@ -1,14 +1,15 @@
 //! The names of blocks and of their entries, and the flags of a block word.
-ghost use Rattle.std.specs.Prelude.{◌≡◌, ◌/◌, ◌^◌};
-ghost use Rattle.hunk_words.specs.Prints.{Prints};
+ghost use Rattle.std.specs.Prelude.{◌≡◌, ◌≤◌, ◌+◌, ◌/◌, ◌^◌, ◌++◌, length};
 ghost use Rattle.hunk_listing.specs.BlockNames.{block_flags, kind_name, memory_flags, type_name, where_set};
 
-use hunk_words::{BlockWord, Kind, Printer, Sink};
+use crate::line::{LINE, Line};
+use hunk_words::{BlockWord, Kind};
 
 /// The name of a kind of block, as `dos/doshunks.h` has it. A block without a name there is
 /// advisory.
 pub(crate) fn kind_name(kind: Kind) -> &'static str
-    ensures { result.now ≡ kind_name kind }
+    ensures name { result.now ≡ kind_name kind }
+    ensures short { length result.now ≤ 12 }
 {
     match kind {
         Kind::Unit => "UNIT",
@@ -40,7 +41,8 @@ pub(crate) fn kind_name(kind: Kind) -> &'static str
 
 /// The name of the type of an EXT entry with this word.
 pub(crate) fn type_name(word: u32) -> &'static str
-    ensures { result.now ≡ type_name (word / 2 ^ 24) }
+    ensures name { result.now ≡ type_name (word / 2 ^ 24) }
+    ensures short { length result.now ≤ 9 }
 {
     match word >> 24 {
         0 => "SYMB",
@@ -61,28 +63,34 @@ pub(crate) fn type_name(word: u32) -> &'static str
     }
 }
 
-/// Prints ` advisory`, ` chip` and ` fast` for the flags that the word has.
+/// Puts ` advisory`, ` chip` and ` fast` for the flags that the word has.
 #[tactic(auto, unfolding(crate::specs::BlockNames::block_flags))]
-pub(crate) fn print_block_flags<W: Sink>(page: &mut Printer<'_, W>, word: BlockWord)
-    ensures { Prints page.old page.new (block_flags word) }
+pub(crate) fn put_block_flags(line: &mut Line, word: BlockWord)
+    requires { length line.old + 19 ≤ LINE }
+    ensures text { line.new ≡ line.old ++ block_flags word }
+    ensures short { length line.new ≤ length line.old + 19 }
 {
-    print_where(page, word.word() >> 29 & 1 == 1, b" advisory");
-    print_memory_flags(page, word);
+    put_where(line, word.word() >> 29 & 1 == 1, b" advisory");
+    put_memory_flags(line, word);
 }
 
-/// Prints ` chip` and ` fast` for the flags that the word has.
+/// Puts ` chip` and ` fast` for the flags that the word has.
 #[tactic(auto, unfolding(crate::specs::BlockNames::memory_flags))]
-pub(crate) fn print_memory_flags<W: Sink>(page: &mut Printer<'_, W>, word: BlockWord)
-    ensures { Prints page.old page.new (memory_flags word) }
+pub(crate) fn put_memory_flags(line: &mut Line, word: BlockWord)
+    requires { length line.old + 10 ≤ LINE }
+    ensures text { line.new ≡ line.old ++ memory_flags word }
+    ensures short { length line.new ≤ length line.old + 10 }
 {
-    print_where(page, word.word() >> 30 & 1 == 1, b" chip");
-    print_where(page, word.word() >> 31 & 1 == 1, b" fast");
+    put_where(line, word.word() >> 30 & 1 == 1, b" chip");
+    put_where(line, word.word() >> 31 & 1 == 1, b" fast");
 }
 
-fn print_where<W: Sink>(page: &mut Printer<'_, W>, flag: bool, name: &[u8])
-    ensures { Prints page.old page.new (where_set flag name.now) }
+fn put_where(line: &mut Line, flag: bool, name: &[u8])
+    requires { length line.old + length name.now ≤ LINE }
+    ensures text { line.new ≡ line.old ++ where_set flag name.now }
+    ensures short { length line.new ≤ length line.old + length name.now }
 {
     if flag {
-        page.print(name);
+        line.put(name);
     }
 }
