@@ -3,7 +3,7 @@ ghost use Rattle.std.specs.Prelude.{◌≡◌, ◌≤◌, ◌+◌, ◌*◌, ◌+
 ghost use Rattle.hunk_words.specs.Prints.{Prints};
 ghost use Rattle.hunk_listing.specs.Printed.{hexadecimal};
 
-use crate::text::put_digits;
+use crate::digits::put_digits;
 use hunk_words::{Printer, Sink};
 use itoa::write_digits;
 use std::marker::Model;

@@ -3,8 +3,8 @@ ghost use Rattle.std.specs.Prelude.{◌≡◌, ◌≤◌, length, codes, decimal
 ghost use Rattle.hunk_words.specs.Prints.{Prints};
 ghost use Rattle.hunk_listing.specs.SegmentLines.{dump, heading, row, segment_lines};
 
+use crate::digits::put_digits;
 use crate::line::Line;
-use crate::text::put_digits;
 use hunk_words::{Printer, Sink};
 
 /// How many bytes of a segment a row shows.

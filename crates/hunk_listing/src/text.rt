@@ -1,10 +1,10 @@
 //! Numbers and names, printed.
 ghost use Rattle.std.specs.Prelude.{◌≡◌, ◌≤◌, ◌<◌, ◌+◌, ◌*◌, ◌++◌, false, length, take, drop, slice_index, codes};
 ghost use Rattle.hunk_words.specs.Prints.{Prints};
-ghost use Rattle.hex.specs.Hex.{encode_lower};
 ghost use Rattle.hunk_words.specs.Longs.{longs};
 ghost use Rattle.hunk_listing.specs.Printed.{character, characters, hexadecimal, is_plain, name_text};
 
+use crate::digits::put_digits;
 use crate::line::{LINE, Line};
 use hunk_blocks::Payload;
 use hunk_words::{Printer, Sink};
@@ -15,16 +15,6 @@ pub(crate) fn print_decimal<W: Sink, N: Integer>(page: &mut Printer<'_, W>, numb
     ensures { Prints page.old page.new (N.text number) }
 {
     page.print(Buffer::new().format(number).as_bytes());
-}
-
-/// Puts two hexadecimal digits a byte into the line, from `at` on.
-pub(crate) fn put_digits(line: &mut [u8], at: usize, bytes: &[u8])
-    requires { at + 2 * length bytes.now ≤ length line.old }
-    ensures { line.new ≡ take at line.old ++ encode_lower bytes.now
-        ++ drop (at + 2 * length bytes.now) line.old }
-{
-    // The room is just that of the digits, so this cannot fail.
-    let _ = hex::encode_to_slice(bytes, &mut line[at..at + 2 * bytes.len()]);
 }
 
 /// Prints `0x` and the number's eight hexadecimal digits.
