@@ -9,7 +9,7 @@ ghost use Rattle.hunk_listing.specs.BlockLines.{advisory_line, block_lines, body
 
 use crate::entry::print_entry;
 use crate::line::Line;
-use crate::names::{kind_name, put_block_flags, put_memory_flags};
+use crate::names::{put_block_flags, put_kind, put_memory_flags};
 use crate::text::{print_name, print_offset_behind};
 use hunk_blocks::{Block, Body, Entries, Group, Groups, Named, Payload, Symbols};
 use hunk_words::{BlockWord, Printer, Sink, SizeWord};
@@ -37,13 +37,13 @@ pub(crate) fn print_block<W: Sink>(page: &mut Printer<'_, W>, block: &Block<'_>)
 
 // A line that begins with two spaces, the block's name and its flags.
 #[tactic(auto, unfolding(crate::specs::BlockLines::head))]
-fn line_of(word: BlockWord) -> Line
+fn begin_block_line(word: BlockWord) -> Line
     ensures text { result ≡ head word }
     ensures short { length result ≤ 33 }
 {
     let mut line = Line::new();
     line.put(b"  ");
-    line.put(kind_name(word.kind()).as_bytes());
+    put_kind(&mut line, word.kind());
     put_block_flags(&mut line, word);
     line
 }
@@ -52,7 +52,7 @@ fn line_of(word: BlockWord) -> Line
 fn print_name_line<W: Sink>(page: &mut Printer<'_, W>, word: BlockWord, name: &Payload<'_>)
     ensures { Prints page.old page.new (name_line word (longs name.now)) }
 {
-    let mut line = line_of(word);
+    let mut line = begin_block_line(word);
     line.put(b" ");
     line.print(page);
     print_name(page, name);
@@ -63,7 +63,7 @@ fn print_name_line<W: Sink>(page: &mut Printer<'_, W>, word: BlockWord, name: &P
 fn print_size<W: Sink>(page: &mut Printer<'_, W>, word: BlockWord, size: u64)
     ensures { Prints page.old page.new (size_line word size) }
 {
-    let mut line = line_of(word);
+    let mut line = begin_block_line(word);
     line.put(b" ");
     line.put_decimal(size);
     line.put(b" bytes\n");
@@ -98,7 +98,7 @@ pub(crate) fn payload_bytes(payload: &Payload<'_>) -> u64
 fn print_count<W: Sink>(page: &mut Printer<'_, W>, word: BlockWord, count: u64)
     ensures { Prints page.old page.new (count_line word count) }
 {
-    let mut line = line_of(word);
+    let mut line = begin_block_line(word);
     line.put(b" ");
     line.put_decimal(count);
     line.put(b"\n");
@@ -109,7 +109,7 @@ fn print_count<W: Sink>(page: &mut Printer<'_, W>, word: BlockWord, count: u64)
 fn print_end<W: Sink>(page: &mut Printer<'_, W>, word: BlockWord)
     ensures { Prints page.old page.new (end_line word) }
 {
-    let mut line = line_of(word);
+    let mut line = begin_block_line(word);
     line.put(b"\n");
     line.print(page);
 }
@@ -118,14 +118,14 @@ fn print_end<W: Sink>(page: &mut Printer<'_, W>, word: BlockWord)
 fn print_advisory<W: Sink>(page: &mut Printer<'_, W>, word: BlockWord, payload: &Payload<'_>)
     ensures { Prints page.old page.new (advisory_line word (4 * length (longs payload.now))) }
 {
-    let mut line = advisory_of(word, payload_bytes(payload));
+    let mut line = begin_advisory_line(word, payload_bytes(payload));
     put_memory_flags(&mut line, word);
     line.put(b"\n");
     line.print(page);
 }
 
 // The line of an advisory block up to its flags.
-fn advisory_of(word: BlockWord, size: u64) -> Line
+fn begin_advisory_line(word: BlockWord, size: u64) -> Line
     ensures text { result ≡ codes "  ADVISORY " ++ decimal (word % 2 ^ 29)
         ++ codes " " ++ decimal size ++ codes " bytes" }
     ensures short { length result ≤ 58 }
@@ -166,7 +166,7 @@ fn offset_count(groups: &Groups<'_>) -> u64
 fn print_group<W: Sink>(page: &mut Printer<'_, W>, group: &Group<'_>)
     ensures { Prints page.old page.new (group_lines (group_of group.now)) }
 {
-    let mut line = line_to(group.target);
+    let mut line = begin_relocation_line(group.target);
     let start = line.len();
     'offsets: for i in 0..group.offsets.len() {
         print_offset_behind(page, &mut line, start, group.offsets.at(i));
@@ -174,7 +174,7 @@ fn print_group<W: Sink>(page: &mut Printer<'_, W>, group: &Group<'_>)
 }
 
 // The line of a relocation up to its offset.
-fn line_to(target: u32) -> Line
+fn begin_relocation_line(target: u32) -> Line
     ensures text { result ≡ codes "    " ++ decimal target ++ codes " " }
     ensures short { length result ≤ 25 }
 {

@@ -7,7 +7,7 @@ ghost use Rattle.hunk_listing.specs.BlockLines.{common_line, definition_line, en
 ghost use Rattle.hunk_listing.specs.BlockNames.{type_name};
 
 use crate::line::Line;
-use crate::names::type_name;
+use crate::names::put_type;
 use crate::text::{print_name, print_offset_behind};
 use hunk_blocks::{Entry, Longs};
 use hunk_words::{Printer, Sink};
@@ -31,13 +31,13 @@ fn print_entry_line<W: Sink>(page: &mut Printer<'_, W>, entry: &Entry<'_>)
 }
 
 // A line that begins with four spaces and the name of the type.
-fn line_of(word: u32) -> Line
+fn begin_entry_line(word: u32) -> Line
     ensures text { result ≡ codes "    " ++ type_name (word / 2 ^ 24) ++ codes " " }
     ensures short { length result ≤ 14 }
 {
     let mut line = Line::new();
     line.put(b"    ");
-    line.put(type_name(word).as_bytes());
+    put_type(&mut line, word);
     line.put(b" ");
     line
 }
@@ -46,7 +46,7 @@ fn line_of(word: u32) -> Line
 fn print_definition<W: Sink>(page: &mut Printer<'_, W>, entry: &Entry<'_>)
     ensures { Prints page.old page.new (definition_line (entry_of entry.now)) }
 {
-    let mut line = line_of(entry.word);
+    let mut line = begin_entry_line(entry.word);
     line.put_hexadecimal(entry.value);
     line.put(b" ");
     line.print(page);
@@ -58,7 +58,7 @@ fn print_definition<W: Sink>(page: &mut Printer<'_, W>, entry: &Entry<'_>)
 fn print_reference<W: Sink>(page: &mut Printer<'_, W>, entry: &Entry<'_>)
     ensures { Prints page.old page.new (reference_line (entry_of entry.now)) }
 {
-    let mut line = line_of(entry.word);
+    let mut line = begin_entry_line(entry.word);
     line.put_decimal(entry.offsets.len() as u64);
     line.put(b" ");
     line.print(page);
@@ -70,7 +70,7 @@ fn print_reference<W: Sink>(page: &mut Printer<'_, W>, entry: &Entry<'_>)
 fn print_common<W: Sink>(page: &mut Printer<'_, W>, entry: &Entry<'_>)
     ensures { Prints page.old page.new (common_line (entry_of entry.now)) }
 {
-    let mut line = line_of(entry.word);
+    let mut line = begin_entry_line(entry.word);
     line.put_decimal(u64::from(entry.value));
     line.put(b" ");
     line.put_decimal(entry.offsets.len() as u64);
