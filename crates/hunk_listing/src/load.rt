@@ -53,9 +53,21 @@ pub(crate) fn print_hunks<W: Sink>(page: &mut Printer<'_, W>, file: &LoadFile<'_
     ensures { Prints page.old page.new (numbered hunk_lines 0 file.now) }
 {
     'hunks: for number in 0..file.hunks() {
-        print_hunk_line(page, number, file.table(number));
-        print_blocks(page, file.hunk(number));
+        print_hunk(page, number, file.table(number), file.hunk(number));
     }
+}
+
+fn print_hunk<W: Sink>(
+    page: &mut Printer<'_, W>,
+    number: u32,
+    entry: SizeWord,
+    blocks: &[Block<'_>],
+)
+    ensures { Prints page.old page.new
+        (hunk_line number (entry_of entry) ++ flat_map block_lines blocks.now) }
+{
+    print_hunk_line(page, number, entry);
+    print_blocks(page, blocks);
 }
 
 #[tactic(auto, unfolding(crate::specs::FileLines::hunk_line))]
