@@ -9,9 +9,9 @@ use itoa::write_digits;
 use std::marker::Model;
 
 /// How many bytes a line holds at most. No line without a name is longer.
-pub(crate) const LINE: usize = 80;
+pub(crate) const LINE: usize = 96;
 
-/// A line of at most 80 bytes, which is put together here and printed at once.
+/// A line of at most 96 bytes, which is put together here and printed at once.
 #[derive(Drop)]
 pub(crate) struct Line {
     bytes: [u8; LINE],
