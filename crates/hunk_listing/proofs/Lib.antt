@@ -1,6 +1,8 @@
 mod BlockLaws
 pub mod BlockLengths
 mod Contents
+mod DecimalLaws
+mod DigitPairs
 pub mod FileLengths
 pub mod LineLengths
 mod Lines

@@ -21,17 +21,14 @@ numbered_more {A} lines xs i d now next all l h e =
     ap (λ (ys : List ℕ). ys ++ rest) e ∙ append_assoc now (lines i (get_or xs i d)) rest ∙ ap (λ (ys : List A). now ++ numbered lines i ys) (sym (drop_more xs i d l)) ∙ h
 
 -- the hunk of a load file, by what its table and its blocks tell
-pub hunk_more : (file : LoadFileValue) (i : ℕ) (entry : TableEntry) (blocks : List BlockValue) (now mid next all : List ℕ) →
+pub hunk_more : (file : LoadFileValue) (i : ℕ) (entry : TableEntry) (blocks : List BlockValue) (now next all : List ℕ) →
     slice_get (table file) i ≡ Some entry → slice_get (map (λ h. h.blocks) file) i ≡ Some blocks → now ++ numbered hunk_lines i (drop i file) ≡ all →
-    mid ≡ now ++ hunk_line i entry → next ≡ mid ++ flat_map block_lines blocks → next ++ numbered hunk_lines (i + 1) (drop (i + 1) file) ≡ all
-hunk_more file i entry blocks now mid next all told_entry told_blocks h line lines =
+    next ≡ now ++ (hunk_line i entry ++ flat_map block_lines blocks) → next ++ numbered hunk_lines (i + 1) (drop (i + 1) file) ≡ all
+hunk_more file i entry blocks now next all told_entry told_blocks h lines =
     let d : HunkValue = record { entry = entry; blocks = blocks } in
     let inside : i < length file = omega (arith, slice_get_within (table file) i entry told_entry, length-map file (λ (h : HunkValue). h.entry)) in
     let entry_is : entry ≡ (get_or file i d).entry = sym (get_or_from_slice_get (table file) i entry entry told_entry) ∙ get_or-map (λ (h : HunkValue). h.entry) file i d entry inside in
     let blocks_are : blocks ≡ (get_or file i d).blocks =
     sym (get_or_from_slice_get (map (λ (h : HunkValue). h.blocks) file) i blocks blocks told_blocks) ∙ get_or-map (λ (h : HunkValue). h.blocks) file i d blocks inside in
     numbered_more hunk_lines file i d now next all inside h
-    (lines
-    ∙ ap (λ (ys : List ℕ). ys ++ flat_map block_lines blocks) line
-    ∙ append_assoc now (hunk_line i entry) (flat_map block_lines blocks)
-    ∙ ap₂ (λ (e : TableEntry) (bs : List BlockValue). now ++ (hunk_line i e ++ flat_map block_lines bs)) entry_is blocks_are)
+    (lines ∙ ap₂ (λ (e : TableEntry) (bs : List BlockValue). now ++ (hunk_line i e ++ flat_map block_lines bs)) entry_is blocks_are)

@@ -1,15 +1,16 @@
 //! The lines of a block.
-ghost use Rattle.std.specs.Prelude.{◌≡◌, ◌*◌, ◌^◌, ◌<◌, length, map};
+ghost use Rattle.std.specs.Prelude.{◌≡◌, ◌*◌, ◌%◌, ◌^◌, ◌<◌, ◌≤◌, ◌++◌, length, map, codes, decimal};
 ghost use Rattle.hunk_words.specs.Prints.{Prints};
 ghost use Rattle.hunk_words.specs.Longs.{longs};
 ghost use Rattle.hunk_words.specs.Bits.{size_longs};
 ghost use Rattle.hunk_blocks.specs.Values.{Ext, Reloc, Symbol};
 ghost use Rattle.hunk_blocks.specs.Views.{entry_of, group_of, symbol_of};
-ghost use Rattle.hunk_listing.specs.BlockLines.{advisory_line, block_lines, body_lines, count_line, end_line, group_lines, head, name_line, offset_count, relocation_line, size_line, symbol_line};
+ghost use Rattle.hunk_listing.specs.BlockLines.{advisory_line, block_lines, body_lines, count_line, end_line, group_lines, head, name_line, offset_count, size_line, symbol_line};
 
 use crate::entry::print_entry;
-use crate::names::{kind_name, print_block_flags, print_memory_flags};
-use crate::text::{print_decimal, print_name, put_digits};
+use crate::line::Line;
+use crate::names::{put_block_flags, put_kind, put_memory_flags};
+use crate::text::{print_name, print_offset_behind};
 use hunk_blocks::{Block, Body, Entries, Group, Groups, Named, Payload, Symbols};
 use hunk_words::{BlockWord, Printer, Sink, SizeWord};
 
@@ -34,22 +35,26 @@ pub(crate) fn print_block<W: Sink>(page: &mut Printer<'_, W>, block: &Block<'_>)
     }
 }
 
-// Two spaces, the block's name and its flags.
+// A line that begins with two spaces, the block's name and its flags.
 #[tactic(auto, unfolding(crate::specs::BlockLines::head))]
-fn print_head<W: Sink>(page: &mut Printer<'_, W>, word: BlockWord)
-    ensures { Prints page.old page.new (head word) }
+fn begin_block_line(word: BlockWord) -> Line
+    ensures text { result ≡ head word }
+    ensures short { length result ≤ 33 }
 {
-    page.print(b"  ");
-    page.print(kind_name(word.kind()).as_bytes());
-    print_block_flags(page, word);
+    let mut line = Line::new();
+    line.put(b"  ");
+    put_kind(&mut line, word.kind());
+    put_block_flags(&mut line, word);
+    line
 }
 
 #[tactic(auto, unfolding(crate::specs::BlockLines::name_line))]
 fn print_name_line<W: Sink>(page: &mut Printer<'_, W>, word: BlockWord, name: &Payload<'_>)
     ensures { Prints page.old page.new (name_line word (longs name.now)) }
 {
-    print_head(page, word);
-    page.print(b" ");
+    let mut line = begin_block_line(word);
+    line.put(b" ");
+    line.print(page);
     print_name(page, name);
     page.print(b"\n");
 }
@@ -58,10 +63,11 @@ fn print_name_line<W: Sink>(page: &mut Printer<'_, W>, word: BlockWord, name: &P
 fn print_size<W: Sink>(page: &mut Printer<'_, W>, word: BlockWord, size: u64)
     ensures { Prints page.old page.new (size_line word size) }
 {
-    print_head(page, word);
-    page.print(b" ");
-    print_decimal(page, size);
-    page.print(b" bytes\n");
+    let mut line = begin_block_line(word);
+    line.put(b" ");
+    line.put_decimal(size);
+    line.put(b" bytes\n");
+    line.print(page);
 }
 
 fn print_payload_size<W: Sink>(page: &mut Printer<'_, W>, word: BlockWord, payload: &Payload<'_>)
@@ -92,31 +98,45 @@ pub(crate) fn payload_bytes(payload: &Payload<'_>) -> u64
 fn print_count<W: Sink>(page: &mut Printer<'_, W>, word: BlockWord, count: u64)
     ensures { Prints page.old page.new (count_line word count) }
 {
-    print_head(page, word);
-    page.print(b" ");
-    print_decimal(page, count);
-    page.print(b"\n");
+    let mut line = begin_block_line(word);
+    line.put(b" ");
+    line.put_decimal(count);
+    line.put(b"\n");
+    line.print(page);
 }
 
 #[tactic(auto, unfolding(crate::specs::BlockLines::end_line))]
 fn print_end<W: Sink>(page: &mut Printer<'_, W>, word: BlockWord)
     ensures { Prints page.old page.new (end_line word) }
 {
-    print_head(page, word);
-    page.print(b"\n");
+    let mut line = begin_block_line(word);
+    line.put(b"\n");
+    line.print(page);
 }
 
 #[tactic(auto, unfolding(crate::specs::BlockLines::advisory_line))]
 fn print_advisory<W: Sink>(page: &mut Printer<'_, W>, word: BlockWord, payload: &Payload<'_>)
     ensures { Prints page.old page.new (advisory_line word (4 * length (longs payload.now))) }
 {
-    page.print(b"  ADVISORY ");
-    print_decimal(page, word.word() & 0x1FFF_FFFF);
-    page.print(b" ");
-    print_decimal(page, payload_bytes(payload));
-    page.print(b" bytes");
-    print_memory_flags(page, word);
-    page.print(b"\n");
+    let mut line = begin_advisory_line(word, payload_bytes(payload));
+    put_memory_flags(&mut line, word);
+    line.put(b"\n");
+    line.print(page);
+}
+
+// The line of an advisory block up to its flags.
+fn begin_advisory_line(word: BlockWord, size: u64) -> Line
+    ensures text { result ≡ codes "  ADVISORY " ++ decimal (word % 2 ^ 29)
+        ++ codes " " ++ decimal size ++ codes " bytes" }
+    ensures short { length result ≤ 58 }
+{
+    let mut line = Line::new();
+    line.put(b"  ADVISORY ");
+    line.put_decimal(u64::from(word.word() & 0x1FFF_FFFF));
+    line.put(b" ");
+    line.put_decimal(size);
+    line.put(b" bytes");
+    line
 }
 
 // The relocations of all groups.
@@ -142,23 +162,27 @@ fn offset_count(groups: &Groups<'_>) -> u64
     count
 }
 
+#[tactic(auto, unfolding(crate::specs::BlockLines::relocation_line))]
 fn print_group<W: Sink>(page: &mut Printer<'_, W>, group: &Group<'_>)
     ensures { Prints page.old page.new (group_lines (group_of group.now)) }
 {
+    let mut line = begin_relocation_line(group.target);
+    let start = line.len();
     'offsets: for i in 0..group.offsets.len() {
-        print_relocation(page, group.target, group.offsets.at(i));
+        print_offset_behind(page, &mut line, start, group.offsets.at(i));
     }
 }
 
-#[tactic(auto, unfolding(crate::specs::BlockLines::relocation_line))]
-fn print_relocation<W: Sink>(page: &mut Printer<'_, W>, target: u32, offset: u32)
-    ensures { Prints page.old page.new (relocation_line target offset) }
+// The line of a relocation up to its offset.
+fn begin_relocation_line(target: u32) -> Line
+    ensures text { result ≡ codes "    " ++ decimal target ++ codes " " }
+    ensures short { length result ≤ 25 }
 {
-    let mut placed = *b" 0x00000000\n";
-    put_digits(placed.as_mut_slice(), 3, &offset.to_be_bytes());
-    page.print(b"    ");
-    print_decimal(page, target);
-    page.print(&placed);
+    let mut line = Line::new();
+    line.put(b"    ");
+    line.put_decimal(u64::from(target));
+    line.put(b" ");
+    line
 }
 
 fn print_symbols<W: Sink>(page: &mut Printer<'_, W>, word: BlockWord, symbols: &Symbols<'_>)
@@ -174,9 +198,11 @@ fn print_symbols<W: Sink>(page: &mut Printer<'_, W>, word: BlockWord, symbols: &
 fn print_symbol<W: Sink>(page: &mut Printer<'_, W>, symbol: &Named<'_>)
     ensures { Prints page.old page.new (symbol_line (symbol_of symbol.now)) }
 {
-    let mut placed = *b"    0x00000000 ";
-    put_digits(placed.as_mut_slice(), 6, &symbol.value.to_be_bytes());
-    page.print(&placed);
+    let mut line = Line::new();
+    line.put(b"    ");
+    line.put_hexadecimal(symbol.value);
+    line.put(b" ");
+    line.print(page);
     print_name(page, &symbol.name);
     page.print(b"\n");
 }

@@ -2,7 +2,9 @@
 #![tactic(auto)]
 
 mod block;
+mod digits;
 mod entry;
+mod line;
 mod listing;
 mod load;
 mod names;

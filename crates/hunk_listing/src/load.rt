@@ -1,5 +1,5 @@
 //! The lines of a load file.
-ghost use Rattle.std.specs.Prelude.{◌≡◌};
+ghost use Rattle.std.specs.Prelude.{◌≡◌, ◌≤◌, ◌+◌, ◌++◌, length};
 ghost use Rattle.hunk_words.specs.Prints.{Prints};
 ghost use Rattle.std.specs.List.{flat_map};
 ghost use Rattle.hunk_words.specs.declared.size_word.Memory.TheVariants.{Attributes};
@@ -8,7 +8,7 @@ ghost use Rattle.hunk_listing.specs.BlockLines.{block_lines};
 ghost use Rattle.hunk_listing.specs.FileLines.{hunk_line, hunk_lines, load_head, load_line, memory_text, numbered, rest_line};
 
 use crate::block::print_block;
-use crate::text::{print_decimal, print_hexadecimal};
+use crate::line::{LINE, Line};
 use hunk_blocks::Block;
 use hunk_files::LoadFile;
 use hunk_words::{Memory, Printer, Sink, SizeWord};
@@ -24,11 +24,13 @@ pub(crate) fn print_load_head<W: Sink>(page: &mut Printer<'_, W>, file: &LoadFil
 fn print_load_line<W: Sink>(page: &mut Printer<'_, W>, hunks: u32, bytes: u64)
     ensures { Prints page.old page.new (load_line hunks bytes) }
 {
-    page.print(b"load file ");
-    print_decimal(page, hunks);
-    page.print(b" hunks ");
-    print_decimal(page, bytes);
-    page.print(b" bytes\n");
+    let mut line = Line::new();
+    line.put(b"load file ");
+    line.put_decimal(u64::from(hunks));
+    line.put(b" hunks ");
+    line.put_decimal(bytes);
+    line.put(b" bytes\n");
+    line.print(page);
 }
 
 /// Prints the line that says how many bytes follow the file, where some do.
@@ -39,9 +41,11 @@ pub(crate) fn print_rest<W: Sink>(page: &mut Printer<'_, W>, rest: u64)
     if rest == 0 {
         return;
     }
-    page.print(b"rest ");
-    print_decimal(page, rest);
-    page.print(b" bytes\n");
+    let mut line = Line::new();
+    line.put(b"rest ");
+    line.put_decimal(rest);
+    line.put(b" bytes\n");
+    line.print(page);
 }
 
 /// Prints the lines of all hunks.
@@ -49,40 +53,58 @@ pub(crate) fn print_hunks<W: Sink>(page: &mut Printer<'_, W>, file: &LoadFile<'_
     ensures { Prints page.old page.new (numbered hunk_lines 0 file.now) }
 {
     'hunks: for number in 0..file.hunks() {
-        print_hunk_line(page, number, file.table(number));
-        print_blocks(page, file.hunk(number));
+        print_hunk(page, number, file.table(number), file.hunk(number));
     }
+}
+
+fn print_hunk<W: Sink>(
+    page: &mut Printer<'_, W>,
+    number: u32,
+    entry: SizeWord,
+    blocks: &[Block<'_>],
+)
+    ensures { Prints page.old page.new
+        (hunk_line number (entry_of entry) ++ flat_map block_lines blocks.now) }
+{
+    print_hunk_line(page, number, entry);
+    print_blocks(page, blocks);
 }
 
 #[tactic(auto, unfolding(crate::specs::FileLines::hunk_line))]
 fn print_hunk_line<W: Sink>(page: &mut Printer<'_, W>, number: u32, entry: SizeWord)
     ensures { Prints page.old page.new (hunk_line number (entry_of entry)) }
 {
-    page.print(b"hunk ");
-    print_decimal(page, number);
-    page.print(b" ");
-    print_decimal(page, entry.bytes());
-    page.print(b" bytes ");
-    print_memory(page, entry.memory());
-    page.print(b"\n");
+    let mut line = Line::new();
+    line.put(b"hunk ");
+    line.put_decimal(u64::from(number));
+    line.put(b" ");
+    line.put_decimal(entry.bytes());
+    line.put(b" bytes ");
+    put_memory(&mut line, entry.memory());
+    line.put(b"\n");
+    line.print(page);
 }
 
-fn print_memory<W: Sink>(page: &mut Printer<'_, W>, memory: Memory)
-    ensures { Prints page.old page.new (memory_text memory) }
+fn put_memory(line: &mut Line, memory: Memory)
+    requires { length line.old + 21 ≤ LINE }
+    ensures text { line.new ≡ line.old ++ memory_text memory }
+    ensures short { length line.new ≤ length line.old + 21 }
 {
     match memory {
-        Memory::Any => page.print(b"any"),
-        Memory::Chip => page.print(b"chip"),
-        Memory::Fast => page.print(b"fast"),
-        Memory::Attributes(attributes) => print_attributes(page, attributes),
+        Memory::Any => line.put(b"any"),
+        Memory::Chip => line.put(b"chip"),
+        Memory::Fast => line.put(b"fast"),
+        Memory::Attributes(attributes) => put_attributes(line, attributes),
     }
 }
 
-fn print_attributes<W: Sink>(page: &mut Printer<'_, W>, attributes: u32)
-    ensures { Prints page.old page.new (memory_text (Attributes attributes)) }
+fn put_attributes(line: &mut Line, attributes: u32)
+    requires { length line.old + 21 ≤ LINE }
+    ensures text { line.new ≡ line.old ++ memory_text (Attributes attributes) }
+    ensures short { length line.new ≤ length line.old + 21 }
 {
-    page.print(b"attributes ");
-    print_hexadecimal(page, attributes);
+    line.put(b"attributes ");
+    line.put_hexadecimal(attributes);
 }
 
 /// Prints the lines of the blocks of a hunk.

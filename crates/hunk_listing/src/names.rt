@@ -1,88 +1,98 @@
 //! The names of blocks and of their entries, and the flags of a block word.
-ghost use Rattle.std.specs.Prelude.{◌≡◌, ◌/◌, ◌^◌};
-ghost use Rattle.hunk_words.specs.Prints.{Prints};
+ghost use Rattle.std.specs.Prelude.{◌≡◌, ◌≤◌, ◌+◌, ◌/◌, ◌^◌, ◌++◌, length};
 ghost use Rattle.hunk_listing.specs.BlockNames.{block_flags, kind_name, memory_flags, type_name, where_set};
 
-use hunk_words::{BlockWord, Kind, Printer, Sink};
+use crate::line::{LINE, Line};
+use hunk_words::{BlockWord, Kind};
 
-/// The name of a kind of block, as `dos/doshunks.h` has it. A block without a name there is
+/// Puts the name of a kind of block, as `dos/doshunks.h` has it. A block without a name there is
 /// advisory.
-pub(crate) fn kind_name(kind: Kind) -> &'static str
-    ensures { result.now ≡ kind_name kind }
+pub(crate) fn put_kind(line: &mut Line, kind: Kind)
+    requires { length line.old + 12 ≤ LINE }
+    ensures text { line.new ≡ line.old ++ kind_name kind }
+    ensures short { length line.new ≤ length line.old + 12 }
 {
     match kind {
-        Kind::Unit => "UNIT",
-        Kind::Name => "NAME",
-        Kind::Code => "CODE",
-        Kind::Data => "DATA",
-        Kind::Bss => "BSS",
-        Kind::Reloc32 => "RELOC32",
-        Kind::Reloc16 => "RELOC16",
-        Kind::Reloc8 => "RELOC8",
-        Kind::Ext => "EXT",
-        Kind::Symbol => "SYMBOL",
-        Kind::Debug => "DEBUG",
-        Kind::End => "END",
-        Kind::Header => "HEADER",
-        Kind::Overlay => "OVERLAY",
-        Kind::Break => "BREAK",
-        Kind::Drel32 => "DREL32",
-        Kind::Drel16 => "DREL16",
-        Kind::Drel8 => "DREL8",
-        Kind::Lib => "LIB",
-        Kind::Index => "INDEX",
-        Kind::Reloc32Short => "RELOC32SHORT",
-        Kind::RelReloc32 => "RELRELOC32",
-        Kind::AbsReloc16 => "ABSRELOC16",
-        Kind::Unknown(_) => "ADVISORY",
+        Kind::Unit => line.put(b"UNIT"),
+        Kind::Name => line.put(b"NAME"),
+        Kind::Code => line.put(b"CODE"),
+        Kind::Data => line.put(b"DATA"),
+        Kind::Bss => line.put(b"BSS"),
+        Kind::Reloc32 => line.put(b"RELOC32"),
+        Kind::Reloc16 => line.put(b"RELOC16"),
+        Kind::Reloc8 => line.put(b"RELOC8"),
+        Kind::Ext => line.put(b"EXT"),
+        Kind::Symbol => line.put(b"SYMBOL"),
+        Kind::Debug => line.put(b"DEBUG"),
+        Kind::End => line.put(b"END"),
+        Kind::Header => line.put(b"HEADER"),
+        Kind::Overlay => line.put(b"OVERLAY"),
+        Kind::Break => line.put(b"BREAK"),
+        Kind::Drel32 => line.put(b"DREL32"),
+        Kind::Drel16 => line.put(b"DREL16"),
+        Kind::Drel8 => line.put(b"DREL8"),
+        Kind::Lib => line.put(b"LIB"),
+        Kind::Index => line.put(b"INDEX"),
+        Kind::Reloc32Short => line.put(b"RELOC32SHORT"),
+        Kind::RelReloc32 => line.put(b"RELRELOC32"),
+        Kind::AbsReloc16 => line.put(b"ABSRELOC16"),
+        Kind::Unknown(_) => line.put(b"ADVISORY"),
     }
 }
 
-/// The name of the type of an EXT entry with this word.
-pub(crate) fn type_name(word: u32) -> &'static str
-    ensures { result.now ≡ type_name (word / 2 ^ 24) }
+/// Puts the name of the type of an EXT entry with this word.
+pub(crate) fn put_type(line: &mut Line, word: u32)
+    requires { length line.old + 9 ≤ LINE }
+    ensures text { line.new ≡ line.old ++ type_name (word / 2 ^ 24) }
+    ensures short { length line.new ≤ length line.old + 9 }
 {
     match word >> 24 {
-        0 => "SYMB",
-        1 => "DEF",
-        2 => "ABS",
-        129 => "REF32",
-        130 => "COMMON",
-        131 => "REF16",
-        132 => "REF8",
-        133 => "DEXT32",
-        134 => "DEXT16",
-        135 => "DEXT8",
-        136 => "RELREF32",
-        137 => "RELCOMMON",
-        138 => "ABSREF16",
-        139 => "ABSREF8",
-        _ => "",
+        0 => line.put(b"SYMB"),
+        1 => line.put(b"DEF"),
+        2 => line.put(b"ABS"),
+        129 => line.put(b"REF32"),
+        130 => line.put(b"COMMON"),
+        131 => line.put(b"REF16"),
+        132 => line.put(b"REF8"),
+        133 => line.put(b"DEXT32"),
+        134 => line.put(b"DEXT16"),
+        135 => line.put(b"DEXT8"),
+        136 => line.put(b"RELREF32"),
+        137 => line.put(b"RELCOMMON"),
+        138 => line.put(b"ABSREF16"),
+        139 => line.put(b"ABSREF8"),
+        _ => {}
     }
 }
 
-/// Prints ` advisory`, ` chip` and ` fast` for the flags that the word has.
+/// Puts ` advisory`, ` chip` and ` fast` for the flags that the word has.
 #[tactic(auto, unfolding(crate::specs::BlockNames::block_flags))]
-pub(crate) fn print_block_flags<W: Sink>(page: &mut Printer<'_, W>, word: BlockWord)
-    ensures { Prints page.old page.new (block_flags word) }
+pub(crate) fn put_block_flags(line: &mut Line, word: BlockWord)
+    requires { length line.old + 19 ≤ LINE }
+    ensures text { line.new ≡ line.old ++ block_flags word }
+    ensures short { length line.new ≤ length line.old + 19 }
 {
-    print_where(page, word.word() >> 29 & 1 == 1, b" advisory");
-    print_memory_flags(page, word);
+    put_where(line, word.word() >> 29 & 1 == 1, b" advisory");
+    put_memory_flags(line, word);
 }
 
-/// Prints ` chip` and ` fast` for the flags that the word has.
+/// Puts ` chip` and ` fast` for the flags that the word has.
 #[tactic(auto, unfolding(crate::specs::BlockNames::memory_flags))]
-pub(crate) fn print_memory_flags<W: Sink>(page: &mut Printer<'_, W>, word: BlockWord)
-    ensures { Prints page.old page.new (memory_flags word) }
+pub(crate) fn put_memory_flags(line: &mut Line, word: BlockWord)
+    requires { length line.old + 10 ≤ LINE }
+    ensures text { line.new ≡ line.old ++ memory_flags word }
+    ensures short { length line.new ≤ length line.old + 10 }
 {
-    print_where(page, word.word() >> 30 & 1 == 1, b" chip");
-    print_where(page, word.word() >> 31 & 1 == 1, b" fast");
+    put_where(line, word.word() >> 30 & 1 == 1, b" chip");
+    put_where(line, word.word() >> 31 & 1 == 1, b" fast");
 }
 
-fn print_where<W: Sink>(page: &mut Printer<'_, W>, flag: bool, name: &[u8])
-    ensures { Prints page.old page.new (where_set flag name.now) }
+fn put_where(line: &mut Line, flag: bool, name: &[u8])
+    requires { length line.old + length name.now ≤ LINE }
+    ensures text { line.new ≡ line.old ++ where_set flag name.now }
+    ensures short { length line.new ≤ length line.old + length name.now }
 {
     if flag {
-        page.print(name);
+        line.put(name);
     }
 }

@@ -10,8 +10,9 @@ ghost use Rattle.hunk_files.specs.ObjectFile.{IsObjectHunk};
 ghost use Rattle.hunk_listing.specs.FileLines.{numbered, object_hunk_line, object_hunk_lines, object_line, unit_line, unit_lines};
 
 use crate::block::{bss_bytes, payload_bytes};
+use crate::line::Line;
 use crate::load::print_blocks;
-use crate::text::{print_decimal, print_name};
+use crate::text::print_name;
 use hunk_blocks::{Block, Body, Payload};
 use hunk_files::{Hunk, Unit};
 use hunk_words::{Printer, Sink};
@@ -21,9 +22,11 @@ use hunk_words::{Printer, Sink};
 pub(crate) fn print_object_line<W: Sink>(page: &mut Printer<'_, W>, units: usize)
     ensures { Prints page.old page.new (object_line units) }
 {
-    page.print(b"object file ");
-    print_decimal(page, units);
-    page.print(b" units\n");
+    let mut line = Line::new();
+    line.put(b"object file ");
+    line.put_decimal(units as u64);
+    line.put(b" units\n");
+    line.print(page);
 }
 
 /// Prints the lines of all units.
@@ -46,9 +49,11 @@ fn print_unit<W: Sink>(page: &mut Printer<'_, W>, number: usize, unit: &Unit<'_>
 fn print_unit_line<W: Sink>(page: &mut Printer<'_, W>, number: usize, name: &Payload<'_>)
     ensures { Prints page.old page.new (unit_line number (longs name.now)) }
 {
-    page.print(b"unit ");
-    print_decimal(page, number);
-    page.print(b" ");
+    let mut line = Line::new();
+    line.put(b"unit ");
+    line.put_decimal(number as u64);
+    line.put(b" ");
+    line.print(page);
     print_name(page, name);
     page.print(b"\n");
 }
@@ -73,11 +78,13 @@ fn print_hunk<W: Sink>(page: &mut Printer<'_, W>, number: usize, hunk: &Hunk<'_>
 fn print_hunk_line<W: Sink>(page: &mut Printer<'_, W>, number: usize, bytes: u64)
     ensures { Prints page.old page.new (object_hunk_line number bytes) }
 {
-    page.print(b"hunk ");
-    print_decimal(page, number);
-    page.print(b" ");
-    print_decimal(page, bytes);
-    page.print(b" bytes\n");
+    let mut line = Line::new();
+    line.put(b"hunk ");
+    line.put_decimal(number as u64);
+    line.put(b" ");
+    line.put_decimal(bytes);
+    line.put(b" bytes\n");
+    line.print(page);
 }
 
 // How many bytes the hunk has: those of its content block.

@@ -3,7 +3,7 @@ ghost use Rattle.std.specs.Prelude.{◌≡◌, ◌++◌};
 ghost use Rattle.hunk_words.specs.Prints.{Prints};
 ghost use Rattle.hunk_listing.specs.RewritingLines.{left_out_line, wrote_line};
 
-use crate::text::print_decimal;
+use crate::line::Line;
 use hunk_words::{Printer, Sink};
 
 /// Prints the lines that say how many bytes were written, and how many behind the file, where
@@ -19,9 +19,11 @@ pub fn print_rewriting<W: Sink>(page: &mut Printer<'_, W>, written: u64, rest: u
 fn print_wrote<W: Sink>(page: &mut Printer<'_, W>, written: u64)
     ensures { Prints page.old page.new (wrote_line written) }
 {
-    page.print(b"wrote ");
-    print_decimal(page, written);
-    page.print(b" bytes\n");
+    let mut line = Line::new();
+    line.put(b"wrote ");
+    line.put_decimal(written);
+    line.put(b" bytes\n");
+    line.print(page);
 }
 
 #[tactic(auto, unfolding(crate::specs::RewritingLines::left_out_line))]
@@ -31,7 +33,9 @@ fn print_left_out<W: Sink>(page: &mut Printer<'_, W>, rest: u64)
     if rest == 0 {
         return;
     }
-    page.print(b"rest ");
-    print_decimal(page, rest);
-    page.print(b" bytes left out\n");
+    let mut line = Line::new();
+    line.put(b"rest ");
+    line.put_decimal(rest);
+    line.put(b" bytes left out\n");
+    line.print(page);
 }

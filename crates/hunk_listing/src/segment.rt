@@ -3,7 +3,8 @@ ghost use Rattle.std.specs.Prelude.{◌≡◌, ◌≤◌, length, codes, decimal
 ghost use Rattle.hunk_words.specs.Prints.{Prints};
 ghost use Rattle.hunk_listing.specs.SegmentLines.{dump, heading, row, segment_lines};
 
-use crate::text::{print_decimal, put_digits};
+use crate::digits::put_digits;
+use crate::line::Line;
 use hunk_words::{Printer, Sink};
 
 /// How many bytes of a segment a row shows.
@@ -22,13 +23,15 @@ pub fn print_segment<W: Sink>(page: &mut Printer<'_, W>, number: u32, base: u32,
 fn print_heading<W: Sink>(page: &mut Printer<'_, W>, number: u32, base: u32, len: usize)
     ensures { Prints page.old page.new (heading number base len) }
 {
-    let mut placed = *b" base 0x00000000 ";
-    put_digits(placed.as_mut_slice(), 8, &base.to_be_bytes());
-    page.print(b"hunk ");
-    print_decimal(page, number);
-    page.print(&placed);
-    print_decimal(page, len);
-    page.print(b" bytes\n");
+    let mut line = Line::new();
+    line.put(b"hunk ");
+    line.put_decimal(u64::from(number));
+    line.put(b" base ");
+    line.put_hexadecimal(base);
+    line.put(b" ");
+    line.put_decimal(len as u64);
+    line.put(b" bytes\n");
+    line.print(page);
 }
 
 fn print_dump<W: Sink>(page: &mut Printer<'_, W>, bytes: &[u8])
@@ -39,8 +42,28 @@ fn print_dump<W: Sink>(page: &mut Printer<'_, W>, bytes: &[u8])
     }
 }
 
-#[tactic(auto, unfolding(crate::specs::SegmentLines::row))]
 fn print_row<W: Sink>(page: &mut Printer<'_, W>, bytes: &[u8])
+    requires { length bytes.now ≤ ROW }
+    ensures { Prints page.old page.new (row bytes.now) }
+{
+    match bytes.first_chunk::<ROW>() {
+        Some(whole) => print_whole_row(page, whole),
+        None => print_short_row(page, bytes),
+    }
+}
+
+// Apart from a shorter one, so that all its lengths are known where it is compiled.
+#[tactic(auto, unfolding(crate::specs::SegmentLines::row))]
+fn print_whole_row<W: Sink>(page: &mut Printer<'_, W>, bytes: &[u8; ROW])
+    ensures { Prints page.old page.new (row bytes.now) }
+{
+    let mut line = *b"  00000000000000000000000000000000\n";
+    put_digits(line.as_mut_slice(), 2, bytes);
+    page.print(&line);
+}
+
+#[tactic(auto, unfolding(crate::specs::SegmentLines::row))]
+fn print_short_row<W: Sink>(page: &mut Printer<'_, W>, bytes: &[u8])
     requires { length bytes.now ≤ ROW }
     ensures { Prints page.old page.new (row bytes.now) }
 {

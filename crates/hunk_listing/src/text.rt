@@ -1,10 +1,11 @@
 //! Numbers and names, printed.
-ghost use Rattle.std.specs.Prelude.{◌≡◌, ◌≤◌, ◌+◌, ◌*◌, ◌++◌, length, take, drop, codes};
+ghost use Rattle.std.specs.Prelude.{◌≡◌, ◌≤◌, ◌<◌, ◌+◌, ◌*◌, ◌++◌, false, length, take, drop, slice_index, codes};
 ghost use Rattle.hunk_words.specs.Prints.{Prints};
-ghost use Rattle.hex.specs.Hex.{encode_lower};
 ghost use Rattle.hunk_words.specs.Longs.{longs};
-ghost use Rattle.hunk_listing.specs.Printed.{character, characters, hexadecimal, name_text};
+ghost use Rattle.hunk_listing.specs.Printed.{character, characters, hexadecimal, is_plain, name_text};
 
+use crate::digits::put_digits;
+use crate::line::{LINE, Line};
 use hunk_blocks::Payload;
 use hunk_words::{Printer, Sink};
 use itoa::{Buffer, Integer};
@@ -16,16 +17,6 @@ pub(crate) fn print_decimal<W: Sink, N: Integer>(page: &mut Printer<'_, W>, numb
     page.print(Buffer::new().format(number).as_bytes());
 }
 
-/// Puts two hexadecimal digits a byte into the line, from `at` on.
-pub(crate) fn put_digits(line: &mut [u8], at: usize, bytes: &[u8])
-    requires { at + 2 * length bytes.now ≤ length line.old }
-    ensures { line.new ≡ take at line.old ++ encode_lower bytes.now
-        ++ drop (at + 2 * length bytes.now) line.old }
-{
-    // The room is just that of the digits, so this cannot fail.
-    let _ = hex::encode_to_slice(bytes, &mut line[at..at + 2 * bytes.len()]);
-}
-
 /// Prints `0x` and the number's eight hexadecimal digits.
 pub(crate) fn print_hexadecimal<W: Sink>(page: &mut Printer<'_, W>, number: u32)
     ensures { Prints page.old page.new (hexadecimal number) }
@@ -33,6 +24,28 @@ pub(crate) fn print_hexadecimal<W: Sink>(page: &mut Printer<'_, W>, number: u32)
     let mut digits = *b"0x00000000";
     put_digits(digits.as_mut_slice(), 2, &number.to_be_bytes());
     page.print(&digits);
+}
+
+/// Prints the first `start` bytes of the line, the offset behind them and the end of the line.
+///
+/// The line keeps these bytes, so that it serves for the next offset.
+pub(crate) fn print_offset_behind<W: Sink>(
+    page: &mut Printer<'_, W>,
+    line: &mut Line,
+    start: usize,
+    offset: u32,
+)
+    requires within { start ≤ length line.old }
+    requires room { start + 11 ≤ LINE }
+    ensures prints { Prints page.old page.new
+        (take start line.old ++ hexadecimal offset ++ codes "\n") }
+    ensures kept { take start line.new ≡ take start line.old }
+    ensures within { start ≤ length line.new }
+{
+    line.truncate(start);
+    line.put_hexadecimal(offset);
+    line.put(b"\n");
+    line.print(page);
 }
 
 /// Prints the name's text: its bytes before the first zero byte, of which those outside 0x20 to
@@ -43,26 +56,50 @@ pub(crate) fn print_name<W: Sink>(page: &mut Printer<'_, W>, name: &Payload<'_>)
     print_characters(page, name.bytes());
 }
 
+// Plain bytes go out in runs, and another byte is put between two of them.
 fn print_characters<W: Sink>(page: &mut Printer<'_, W>, bytes: &[u8])
     ensures { Prints page.old page.new (characters bytes.now) }
 {
-    'bytes: for &byte in bytes {
-        if byte == 0 {
+    let mut start = 0;
+    'runs: while start < bytes.len() {
+        let end = start + plain_length(&bytes[start..]);
+        page.print(&bytes[start..end]);
+        if end == bytes.len() || bytes[end] == 0 {
             return;
         }
-        print_character(page, byte);
+        print_escape(page, bytes[end]);
+        start = end + 1;
     }
 }
 
+// How many bytes stand for themselves before the first that does not.
 #[tactic(auto, unfolding(crate::specs::Printed::character))]
-fn print_character<W: Sink>(page: &mut Printer<'_, W>, byte: u8)
+fn plain_length(bytes: &[u8]) -> usize
+    ensures run { characters bytes.now
+        ≡ take result bytes.now ++ characters (drop result bytes.now) }
+    ensures within { result ≤ length bytes.now }
+    ensures end { result < length bytes.now → is_plain (slice_index bytes.now result) ≡ false }
+{
+    'bytes: for i in 0..bytes.len() {
+        if !is_plain(bytes[i]) {
+            return i;
+        }
+    }
+    bytes.len()
+}
+
+fn is_plain(byte: u8) -> bool
+    ensures { result ≡ is_plain byte }
+{
+    matches!(byte, 0x20..=0x7E) && byte != b'\\'
+}
+
+#[tactic(auto, unfolding(crate::specs::Printed::character))]
+fn print_escape<W: Sink>(page: &mut Printer<'_, W>, byte: u8)
+    requires { is_plain byte ≡ false }
     ensures { Prints page.old page.new (character byte) }
 {
-    if matches!(byte, 0x20..=0x7E) && byte != b'\\' {
-        page.print(&[byte]);
-        return;
-    }
-    let mut digits = *b"\\x00";
-    put_digits(digits.as_mut_slice(), 2, &[byte]);
-    page.print(&digits);
+    let mut escape = *b"\\x00";
+    put_digits(escape.as_mut_slice(), 2, &[byte]);
+    page.print(&escape);
 }

@@ -5,7 +5,6 @@ use Rattle.hunk_listing.proofs.load.print_hunks.Goals as goal
 
 pub hunks-preserved : goal.hunks-preserved
 hunks-preserved g c = (
-  c.print_blocks.ensures.0 ∙ c.print_hunk_line.ensures.0 ∙ c.hunks.invariant.0,
-  hunk_more c.args.file.now c.hunks.number (entry_of c.table.result) c.hunk.result.now _ _ _ _ c.table.ensures c.hunk.ensures c.hunks.invariant.1
-      c.print_hunk_line.ensures.1 c.print_blocks.ensures.1,
+  c.print_hunk.ensures.0 ∙ c.hunks.invariant.0,
+  hunk_more c.args.file.now c.hunks.number (entry_of c.table.result) c.hunk.result.now _ _ _ c.table.ensures c.hunk.ensures c.hunks.invariant.1 c.print_hunk.ensures.1,
 )
