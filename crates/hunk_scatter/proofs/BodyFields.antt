@@ -24,6 +24,8 @@ use Rattle.hunk_blocks.proofs.Lists.{passed_false}
 use Rattle.hunk_files.proofs.Least.{least, owes_least, least_same}
 use Rattle.hunk_files.proofs.Reading.{reads, read_goes_on, rest_read, file_read as text_read}
 use Rattle.hunk_files.specs.declared.row.Row.{Row}
+use Rattle.hunk_scan.specs.declared.phase.OpenHunk.{OpenHunk}
+use Rattle.hunk_scan.specs.declared.phase.Phase.{Phase}
 use Rattle.hunk_scan.specs.declared.phase.Phase.TheVariants as phases
 use Rattle.hunk_scan.specs.declared.position.Position.{Position}
 use Rattle.hunk_scan.specs.declared.position.Position.TheVariants as positions
@@ -251,6 +253,18 @@ module _ (rows : List Row) (store : List ℕ) (state : BodyState) (pending : Lis
       omega (arith, ap length d, ap length whole, length-append g.ws (longs (pending ++ more)), length-bytes_of (text v), length-bytes_of g.ws, length-append (bytes_of g.ws) (pending ++ more), length-append pending more) in
       let i = room rows store state pending fed g h.size in
       (omega (arith, owed, here, bytes), omega (arith, i.hunks, length-map rows (λ (r : Row). r.word)))
+
+module _ (rows : List Row) (store : List ℕ) (state : BodyState) (pending : List ℕ) (count : ℕ) (refused : Option Fault) (fed : List ℕ)
+    (h : BodyLoaderInvariant rows store state pending count refused fed) (none : refused ≡ None) where
+  -- Behind a header a hunk is open, or the file is whole.
+  pub done_unless_open : ((hunk : OpenHunk) (phase : Phase) → state.position ≡ positions.Body hunk phase → ⊥) → is_done state.position ≡ true
+  done_unless_open closed = let r = h.reading none in go r.next r.behind r.state_is
+    where
+      go : (n : Next) → IsBehindHeader n → state_of n ≡ state → is_done state.position ≡ true
+      go (More (AtBlock o)) b s = absurd (closed _ _ (ap (λ (x : BodyState). x.position) (sym s)))
+      go (More (InBody o word x)) b s = absurd (closed _ _ (ap (λ (x : BodyState). x.position) (sym s)))
+      go (Finished v) b s = ap (λ (x : BodyState). is_done x.position) (sym s)
+      go _ b s = absurd cc
 
 -- ---- what is to come
 

@@ -18,6 +18,7 @@ use crate::image::{Image, starts_of};
 use crate::longwords::take_longwords;
 use crate::store::{next_word, take_word};
 use hunk_files::Row;
+use hunk_scan::Position;
 use hunk_words::{Assembler, LoadFault};
 use std::marker::Model;
 
@@ -58,7 +59,6 @@ impl BodyLoader {
         ensures rows { self.new.rows ≡ self.old.rows }
         ensures taken { IfOk result
             (λ n. (n ≤ length piece.now) × (self.new.fed ≡ self.old.fed ++ take n piece.now)) }
-        ensures none { result ≡ Ok 0 → self.new ≡ self.old }
         ensures goes_on { OnOk result (self.new.refused ≡ None) }
         ensures complete { IsWholeFile self.old.rows self.old.fed → result ≡ Ok 0 }
         ensures refusal { IfErr result
@@ -66,7 +66,10 @@ impl BodyLoader {
         ensures own { IfErr result (λ f. IsTrue (is_of_body f.reason)) }
         ensures remembers { IfErr result (λ f. self.new.refused ≡ Some f) }
     {
-        if self.assembler.pending() > 0 || piece.len() < 4 || self.state.position.is_done() {
+        if self.assembler.pending() > 0 {
+            return Ok(0);
+        }
+        if self.state.position.is_done() {
             return Ok(0);
         }
         let (taken, refused) = take_longwords(
@@ -135,27 +138,109 @@ impl BodyLoader {
         }
     }
 
-    /// Takes bytes of the piece, unless the file is whole: those of whole longwords, else up to the end
-    /// of a longword.
+    /// Takes the rest of a longword that is gathered, where there is one.
     #[inline(always)]
-    fn take_part(&mut self, piece: &[u8]) -> Result<usize, LoadFault>
+    fn take_gathered(&mut self, piece: &[u8]) -> Result<usize, LoadFault>
         requires room { length self.old.fed + length piece.now < 2 ^ 64 }
         requires reading { self.old.refused ≡ None }
-        requires some { 0 < length piece.now }
         ensures rows { self.new.rows ≡ self.old.rows }
         ensures taken { IfOk result
             (λ n. (n ≤ length piece.now) × (self.new.fed ≡ self.old.fed ++ take n piece.now)) }
         ensures goes_on { OnOk result (self.new.refused ≡ None) }
-        ensures whole { result ≡ Ok 0 → IsWholeFile self.new.rows self.new.fed }
         ensures complete { IsWholeFile self.old.rows self.old.fed → result ≡ Ok 0 }
         ensures refusal { IfErr result
             (λ f. HasRefusal (self.old.fed ++ piece.now) f.place f.reason) }
         ensures own { IfErr result (λ f. IsTrue (is_of_body f.reason)) }
         ensures remembers { IfErr result (λ f. self.new.refused ≡ Some f) }
     {
-        match self.take_whole(piece) {
-            Ok(0) => self.take_long(piece),
-            Ok(taken) => Ok(taken),
+        if self.assembler.pending() == 0 || piece.is_empty() {
+            return Ok(0);
+        }
+        self.take_long(piece)
+    }
+
+    /// Takes the piece, or up to the end of the file where that stands inside it, one longword after
+    /// another.
+    #[inline(never)]
+    fn take_longs(&mut self, piece: &[u8]) -> Result<usize, LoadFault>
+        requires room { length self.old.fed + length piece.now < 2 ^ 64 }
+        requires reading { self.old.refused ≡ None }
+        ensures rows { self.new.rows ≡ self.old.rows }
+        ensures taken { IfOk result
+            (λ n. (n ≤ length piece.now) × (self.new.fed ≡ self.old.fed ++ take n piece.now)) }
+        ensures all { IfOk result
+            (λ n. n < length piece.now → IsWholeFile self.new.rows self.new.fed) }
+        ensures goes_on { OnOk result (self.new.refused ≡ None) }
+        ensures complete { IsWholeFile self.old.rows self.old.fed → result ≡ Ok 0 }
+        ensures refusal { IfErr result
+            (λ f. HasRefusal (self.old.fed ++ piece.now) f.place f.reason) }
+        ensures own { IfErr result (λ f. IsTrue (is_of_body f.reason)) }
+        ensures remembers { IfErr result (λ f. self.new.refused ≡ Some f) }
+    {
+        let mut taken = 0;
+        while taken < piece.len() {
+            match self.take_long(&piece[taken..]) {
+                Ok(0) => return Ok(taken),
+                Ok(part) => taken += part,
+                Err(fault) => return Err(fault),
+            }
+        }
+        Ok(taken)
+    }
+
+    /// Takes the piece, or up to the end of the file where that stands inside it. Where no longword is
+    /// gathered, those that lie whole in the piece are taken at once.
+    #[inline(always)]
+    pub(crate) fn take_piece(&mut self, piece: &[u8]) -> Result<usize, LoadFault>
+        requires room { length self.old.fed + length piece.now < 2 ^ 64 }
+        requires reading { self.old.refused ≡ None }
+        ensures rows { self.new.rows ≡ self.old.rows }
+        ensures taken { IfOk result
+            (λ n. (n ≤ length piece.now) × (self.new.fed ≡ self.old.fed ++ take n piece.now)) }
+        ensures all { IfOk result
+            (λ n. n < length piece.now → IsWholeFile self.new.rows self.new.fed) }
+        ensures goes_on { OnOk result (self.new.refused ≡ None) }
+        ensures complete { IsWholeFile self.old.rows self.old.fed → result ≡ Ok 0 }
+        ensures refusal { IfErr result
+            (λ f. HasRefusal (self.old.fed ++ piece.now) f.place f.reason) }
+        ensures own { IfErr result (λ f. IsTrue (is_of_body f.reason)) }
+        ensures remembers { IfErr result (λ f. self.new.refused ≡ Some f) }
+    {
+        let whole = match self.take_whole(piece) {
+            Ok(whole) => whole,
+            Err(fault) => return Err(fault),
+        };
+        if whole == piece.len() {
+            return Ok(whole);
+        }
+        match self.take_longs(&piece[whole..]) {
+            Ok(more) => Ok(whole + more),
+            Err(fault) => Err(fault),
+        }
+    }
+
+    /// Takes the rest of a longword that is gathered, where there is one, and then the piece.
+    #[inline(always)]
+    fn take_bytes(&mut self, piece: &[u8]) -> Result<usize, LoadFault>
+        requires room { length self.old.fed + length piece.now < 2 ^ 64 }
+        requires reading { self.old.refused ≡ None }
+        ensures rows { self.new.rows ≡ self.old.rows }
+        ensures taken { IfOk result
+            (λ n. (n ≤ length piece.now) × (self.new.fed ≡ self.old.fed ++ take n piece.now)) }
+        ensures all { IfOk result
+            (λ n. n < length piece.now → IsWholeFile self.new.rows self.new.fed) }
+        ensures goes_on { OnOk result (self.new.refused ≡ None) }
+        ensures complete { IsWholeFile self.old.rows self.old.fed → result ≡ Ok 0 }
+        ensures refusal { IfErr result
+            (λ f. HasRefusal (self.old.fed ++ piece.now) f.place f.reason) }
+        ensures own { IfErr result (λ f. IsTrue (is_of_body f.reason)) }
+        ensures remembers { IfErr result (λ f. self.new.refused ≡ Some f) }
+    {
+        match self.take_gathered(piece) {
+            Ok(first) => match self.take_piece(&piece[first..]) {
+                Ok(more) => Ok(first + more),
+                Err(fault) => Err(fault),
+            },
             Err(fault) => Err(fault),
         }
     }
@@ -184,10 +269,12 @@ impl BodyLoader {
         if self.refused.is_some() {
             return 0;
         }
-        if self.state.position.is_done() {
+        // Behind a header a hunk is open, or the file is whole.
+        let Position::Body(hunk, phase) = self.state.position else {
             return 0;
-        }
-        let bytes = 4 * self.state.position.least_longs() - self.assembler.pending() as u64;
+        };
+        let longs = Position::Body(hunk, phase).least_longs();
+        let bytes = 4 * longs - self.assembler.pending() as u64;
         if bytes < 256 { bytes as usize } else { 256 }
     }
 
@@ -229,21 +316,18 @@ impl BodyLoader {
         }
         let before = self.history.and(&[]);
         let count = self.count;
-        let mut taken = 0;
-        while taken < piece.len() {
-            match self.take_part(&piece[taken..]) {
-                Ok(0) => return Ok(taken),
-                Ok(part) => taken += part,
-                Err(fault) => {
-                    self.history = before;
-                    self.count = count;
-                    return Err(fault);
-                }
+        match self.take_bytes(piece) {
+            Ok(taken) => {
+                // The proof learns that what was fed was read.
+                let _ = &self.history;
+                Ok(taken)
+            }
+            Err(fault) => {
+                self.history = before;
+                self.count = count;
+                Err(fault)
             }
         }
-        // The proof learns that what was fed was read.
-        let _ = &self.history;
-        Ok(taken)
     }
 
     /// The bytes that are held: those of the store, and 12 for each hunk.

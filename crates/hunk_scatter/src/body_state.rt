@@ -11,8 +11,8 @@ use hunk_words::Reason;
 /// The position, the open hunk, and the byte of the store where its segment begins.
 #[derive(Clone, Copy, Debug, PartialEq, Eq)]
 pub struct BodyState {
-    pub hunk: u32,
     pub start: u64,
+    pub hunk: u32,
     pub position: Position,
 }
 

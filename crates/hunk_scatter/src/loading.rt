@@ -133,7 +133,7 @@ fn load_body<R: Source>(
             Ok(n) => n,
             Err(fault) => return Err(fault),
         };
-        match loader.feed(&buf[..n]) {
+        match loader.take_piece(&buf[..n]) {
             Ok(_) => {}
             Err(fault) => return Err(fault),
         }

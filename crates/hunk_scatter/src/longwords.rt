@@ -1,5 +1,6 @@
 //! The longwords that lie whole in a piece of a body.
-ghost use Rattle.std.specs.Prelude.{◌≡◌, ◌+◌, ◌<◌, ◌≤◌, ◌^◌, ◌++◌, [], length, take, true, false, None, Some, IfNone, IfSome, IfOk, IfErr, IsTrue};
+ghost use Rattle.std.specs.Prelude.{◌≡◌, ◌+◌, ◌<◌, ◌≤◌, ◌^◌, ◌++◌, [], length, take, slice_index, true, false, None, Some, IfNone, IfSome, IfOk, IfErr, IsTrue};
+ghost use Rattle.hunk_words.specs.Longs.{longs};
 ghost use Rattle.hunk_files.specs.Fault.{HasRefusal};
 ghost use Rattle.hunk_files.specs.Image.{declared_bytes};
 ghost use Rattle.hunk_scan.specs.Positions.{is_done};
@@ -13,7 +14,91 @@ use crate::history::History;
 use crate::store::{run_bytes, take_offsets, take_run, take_word};
 use hunk_files::Row;
 use hunk_scan::{OpenHunk, Phase, Position};
-use hunk_words::{Reason, word_at};
+use hunk_words::{BlockWord, Kind, Reason, word_at};
+
+/// Takes the longword at the front of the piece, this one, and gives its number of bytes. The state
+/// stands here.
+#[inline(always)]
+fn take_one(
+    store: &mut [u8],
+    rows: &[Row],
+    state: &mut BodyState,
+    here: BodyState,
+    word: u32,
+    history: &History,
+    piece: &[u8],
+) -> Result<usize, Reason>
+    requires size { length store.old ≡ declared_bytes (entries_of rows.now) }
+    requires reading { Reading rows.now store.old here [] history.now.bytes }
+    requires going_on { is_done here.position ≡ false }
+    requires some { 4 ≤ length piece.now }
+    requires front { word ≡ slice_index (longs piece.now) 0 }
+    ensures some { IfOk result (λ n. 0 < n) }
+    ensures inside { IfOk result (λ n. n ≤ length piece.now) }
+    ensures reading { IfOk result
+        (λ n. Reading rows.now store.new state.new [] (history.now.bytes ++ take n piece.now)) }
+    ensures refusal { IfErr result
+        (λ r. HasRefusal (history.now.bytes ++ piece.now) (length history.now.bytes) r) }
+    ensures own { IfErr result (λ r. IsTrue (is_of_body r)) }
+{
+    // The history and the piece are for the contract alone.
+    let _ = history;
+    let _ = piece;
+    match take_word(store, rows, here, word) {
+        Ok(next) => {
+            *state = next;
+            Ok(4)
+        }
+        Err(reason) => Err(reason),
+    }
+}
+
+/// Takes the block word at the front of the piece, and gives its number of bytes. Each kind that a load
+/// file has is named here, so that what is asked of it, whether it is refused and what follows it, is
+/// compiled for that kind alone.
+#[tactic(auto, using(crate::proofs::WholeLongs::read_at))]
+#[inline(always)]
+fn take_block_word(
+    store: &mut [u8],
+    rows: &[Row],
+    state: &mut BodyState,
+    hunk: OpenHunk,
+    phase: Phase,
+    history: &History,
+    piece: &[u8],
+) -> Result<usize, Reason>
+    requires size { length store.old ≡ declared_bytes (entries_of rows.now) }
+    requires reading { Reading rows.now store.old state.old [] history.now.bytes }
+    requires some { 4 ≤ length piece.now }
+    requires here { positions.Body hunk phase ≡ state.old.position }
+    ensures some { IfOk result (λ n. 0 < n) }
+    ensures inside { IfOk result (λ n. n ≤ length piece.now) }
+    ensures reading { IfOk result
+        (λ n. Reading rows.now store.new state.new [] (history.now.bytes ++ take n piece.now)) }
+    ensures refusal { IfErr result
+        (λ r. HasRefusal (history.now.bytes ++ piece.now) (length history.now.bytes) r) }
+    ensures own { IfErr result (λ r. IsTrue (is_of_body r)) }
+{
+    let position = Position::Body(hunk, phase);
+    let here = BodyState { position, ..*state };
+    let word = word_at(piece, 0);
+    macro_rules! one {
+        () => {
+            take_one(store, rows, state, here, word, history, piece)
+        };
+    }
+    match BlockWord::of(word).kind() {
+        Kind::Name => one!(),
+        Kind::Code => one!(),
+        Kind::Data => one!(),
+        Kind::Bss => one!(),
+        Kind::Reloc32 => one!(),
+        Kind::Symbol => one!(),
+        Kind::Debug => one!(),
+        Kind::End => one!(),
+        _ => one!(),
+    }
+}
 
 /// Takes longwords from the front of the piece, and gives their number of bytes: those of a run, or
 /// of a list of offsets, at once, and else one. The state stands at this phase of this hunk; where the
@@ -54,13 +139,10 @@ fn take_at(
             *state = next;
             Ok(4 * count)
         }
-        None => match take_word(store, rows, here, word_at(piece, 0)) {
-            Ok(next) => {
-                *state = next;
-                Ok(4)
-            }
-            Err(reason) => Err(reason),
-        },
+        None => {
+            let word = word_at(piece, 0);
+            take_one(store, rows, state, here, word, history, piece)
+        }
     }
 }
 
@@ -94,8 +176,9 @@ fn take_front(
         };
     }
     match phase {
-        Phase::FirstBlock => at!(Phase::FirstBlock),
-        Phase::BlockWord => at!(Phase::BlockWord),
+        Phase::FirstBlock | Phase::BlockWord => {
+            take_block_word(store, rows, state, hunk, phase, history, piece)
+        }
         Phase::NameCount => at!(Phase::NameCount),
         Phase::LongCount => at!(Phase::LongCount),
         Phase::ContentSize => at!(Phase::ContentSize),
@@ -122,10 +205,8 @@ pub fn take_longwords(
 ) -> (usize, Option<Reason>)
     requires size { length store.old ≡ declared_bytes (entries_of rows.now) }
     requires reading { Reading rows.now store.old state.old [] history.now.bytes }
-    requires some { 4 ≤ length piece.now }
     requires room { length history.now.bytes + length piece.now < 2 ^ 64 }
     ensures inside { result.0 ≤ length piece.now }
-    ensures some { IfNone result.1 (is_done state.old.position ≡ false → 0 < result.0) }
     ensures reading { IfNone result.1
         (Reading rows.now store.new state.new [] (history.now.bytes ++ take result.0 piece.now)) }
     ensures refusal { IfSome result.1

@@ -29,11 +29,11 @@ reading-preserved g c =
     let fits : length piece ≤ c.want-want.result = omega (arith, length-take c.in-Ok.n c.read_piece.new.buf, c.in-Ok.ensures.most) in
     let room : length c.reading.loader.fed + length piece ≤ c.args.limit = omega (arith, length-take c.in-Ok.n c.read_piece.new.buf, c.in-Ok.ensures.limit, c.fed.ensures) in
     let some : 0 < c.want-want.result = omega arith in
-    let all = file_fed c.reading.loader.fed piece c.want-want.result c.want-want.ensures.least fits c.feed.new.self.rows c.feed.new.self.fed c.in-Ok-feed.field-0 c.in-Ok-feed.ensures.taken.0 c.in-Ok-feed.ensures.taken.1 c.in-Ok-feed.ensures.all in
+    let all = file_fed c.reading.loader.fed piece c.want-want.result c.want-want.ensures.least fits c.take_piece.new.self.rows c.take_piece.new.self.fed c.in-Ok-take_piece.field-0 c.in-Ok-take_piece.ensures.taken.0 c.in-Ok-take_piece.ensures.taken.1 c.in-Ok-take_piece.ensures.all in
     record {
-      reading = c.in-Ok-feed.ensures.reading.1;
+      reading = c.in-Ok-take_piece.ensures.goes_on;
       works = λ e. c.in-Ok.ensures.works ∙ i.works e;
-      rows_are = c.in-Ok-feed.ensures.rows ∙ i.rows_are;
+      rows_are = c.in-Ok-take_piece.ensures.rows ∙ i.rows_are;
       given = (
         i.given.0 ++ piece,
         Consumes-trans _ _ _ i.given.0 piece i.given.1 c.in-Ok.ensures.piece,
@@ -43,8 +43,8 @@ reading-preserved g c =
       in_file = subst IsWithinFile (sym all) (file_within_more c.reading.loader.fed piece c.want-want.result c.want-want.ensures.least fits _ (c.want-want.ensures.truncated some));
     }
 
-pub returns-in-Err-feed-clause-ends : goal.returns-in-Err-feed-clause-ends
-returns-in-Err-feed-clause-ends g c =
+pub returns-in-Err-take_piece-clause-ends : goal.returns-in-Err-take_piece-clause-ends
+returns-in-Err-take_piece-clause-ends g c =
     let i = c.reading.invariant in
     let piece : List ℕ = take c.in-Ok.n c.read_piece.new.buf in
     let fits : length piece ≤ c.want-want.result = omega (arith, length-take c.in-Ok.n c.read_piece.new.buf, c.in-Ok.ensures.most) in
@@ -55,6 +55,6 @@ returns-in-Err-feed-clause-ends g c =
       Consumes-trans _ _ _ i.given.0 piece i.given.1 c.in-Ok.ensures.piece,
       omega (arith, ap length is, length-append c.reading.loader.fed piece, room),
       subst IsWithinFile is (file_within_more c.reading.loader.fed piece c.want-want.result c.want-want.ensures.least fits _ (c.want-want.ensures.truncated some)),
-      subst (λ (bs : List ℕ). IsBodyStop c.args.limit (g.R.Source.left c.read_piece.new.r) (g.R.Source.failed c.read_piece.new.r) bs c.in-Err-feed.fault) is
-          (inl (record { refusal = c.in-Err-feed.ensures.refusal i.reading; own = c.in-Err-feed.ensures.own })),
+      subst (λ (bs : List ℕ). IsBodyStop c.args.limit (g.R.Source.left c.read_piece.new.r) (g.R.Source.failed c.read_piece.new.r) bs c.in-Err-take_piece.fault) is
+          (inl (record { refusal = c.in-Err-take_piece.ensures.refusal; own = c.in-Err-take_piece.ensures.own })),
     )

@@ -1,6 +1,6 @@
 use Rattle.std.proofs.Common.{◌<◌, refl, arith}
 use Rattle.hunk_scatter.proofs.Runs.{read_offsets}
-use Rattle.hunk_scatter.proofs.WholeLongs.{in_store, read_at, run_taken, word_taken, word_refused, read_as}
+use Rattle.hunk_scatter.proofs.WholeLongs.{in_store, read_at, run_taken, read_as}
 use Rattle.hunk_scatter.proofs.longwords.take_at.Goals as goal
 
 pub take_run-requires-clause-room : goal.take_run-requires-clause-room
@@ -22,15 +22,5 @@ returns-in-Some-clause-reading c =
     read_offsets c.args.rows.now c.args.store.now c.take_offsets.new.store _ c.in-Some.next c.args.history.now.bytes c.args.piece.now c.in-Some.count
     (read_at _ _ _ _ _ c.requires.here c.requires.reading) (λ k. omega (arith, c.type_inv.piece k)) c.in-Some.ensures.inside c.in-Some.ensures.offsets
 
-pub take_word-requires : goal.take_word-requires
-take_word-requires c =
-    rw c.in-None.ensures.none (in_store _ _ _ _ c.requires.size (read_at _ _ _ _ _ c.requires.here c.requires.reading) refl)
-
-pub returns-in-Ok-clause-reading : goal.returns-in-Ok-clause-reading
-returns-in-Ok-clause-reading c =
-    let taken = word_taken _ _ _ _ c.requires.size (read_at _ _ _ _ _ c.requires.here c.requires.reading) refl c.args.piece.now (λ k. omega (arith, c.type_inv.piece k)) c.requires.some c.word_at.result c.in-Ok.ensures.long c.word_at.ensures c.in-Ok.ensures.passes in
-    read_as _ _ _ _ _ _ (rw c.in-None.ensures.none at c.in-Ok.ensures.stores) c.in-Ok.ensures.steps taken
-
-pub returns-in-Err-clause-refusal : goal.returns-in-Err-clause-refusal
-returns-in-Err-clause-refusal c =
-    word_refused _ _ _ _ c.requires.size (read_at _ _ _ _ _ c.requires.here c.requires.reading) refl c.args.piece.now (λ k. omega (arith, c.type_inv.piece k)) c.requires.some c.word_at.result c.in-Err.ensures.long c.word_at.ensures c.in-Err.reason c.in-Err.ensures.refusal
+pub take_one-requires-clause-reading : goal.take_one-requires-clause-reading
+take_one-requires-clause-reading c = rw c.in-None.ensures.none (read_at _ _ _ _ _ c.requires.here c.requires.reading)

@@ -1,4 +1,4 @@
-use Rattle.std.proofs.Common.{ℕ, ◌∙◌, List, [], subst, sym, arith}
+use Rattle.std.proofs.Common.{ℕ, ◌∙◌, List, [], subst, sym}
 use Rattle.hunk_scatter.specs.BodyLoaderFields.{Reading}
 use Rattle.hunk_scatter.proofs.Faults.{fed_on, rest_within}
 use Rattle.hunk_scatter.proofs.longwords.take_longwords.Goals as goal
@@ -11,5 +11,4 @@ longwords-preserved c =
       fed_on c.args.history.now.bytes c.args.piece.now c.longwords.history.bytes c.and-history-in-Ok.result.bytes c.longwords.taken c.in-Ok.count i.1 fed,
       c.take_front.auto.store ∙ i.2,
       subst (λ (bs : List ℕ). Reading c.args.rows.now c.take_front.new.store c.take_front.new.state [] bs) (sym fed) c.in-Ok.ensures.reading,
-      λ e. absurd (omega (arith, e, c.in-Ok.ensures.some)),
     )

@@ -6,7 +6,6 @@ abbrev pub invariant-longwords : goal.invariant-longwords
 invariant-longwords l =
     (l.taken ≤ length l.piece) × (l.history.bytes ≡ l.fn.history.bytes ++ take l.taken l.piece) × (length l.store ≡ length l.fn.store)
     × Reading l.rows l.store l.state [] l.history.bytes
-    × (l.taken ≡ 0 → l.state ≡ l.fn.state)
 
 abbrev pub decreases-longwords : goal.decreases-longwords
 decreases-longwords l = length l.piece - l.taken

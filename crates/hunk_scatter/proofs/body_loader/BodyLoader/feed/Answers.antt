@@ -1,39 +1,14 @@
-use Rattle.std.proofs.Common.{◌≡◌, ◌++◌, ◌∙◌, List, ℕ, Ok, ap, sym, subst, take, append-nil}
-use Rattle.hunk_files.specs.declared.row.Row.{Row}
+use Rattle.std.proofs.Common.{◌∙◌, ap, subst}
 use Rattle.hunk_scatter.specs.LoadOutcomes.{IsWithinFile}
-use Rattle.hunk_scatter.specs.LoaderValues.{BodyLoaderValue, IsWholeFile}
+use Rattle.hunk_scatter.specs.LoaderValues.{BodyLoaderValue}
 use Rattle.hunk_scatter.proofs.BodyFields.{fed_within}
-use Rattle.hunk_scatter.proofs.Faults.{no_refusal_on, refused_rest, rest_within, fed_on}
+use Rattle.hunk_scatter.proofs.Faults.{no_refusal_on}
 use Rattle.hunk_scatter.proofs.body_loader.BodyLoader.feed.Goals as goal
 
-pub loop-taken-preserved : goal.loop-taken-preserved
-loop-taken-preserved c =
-    let i = c.loop-taken.invariant in
-    let fed = fed_on c.args.self.now.fed c.args.piece.now c.loop-taken.self.fed c.take_part.new.self.fed c.loop-taken.taken c.in-Ok.part i.1 c.in-Ok.ensures.taken.1 in
-    let part : IsWholeFile c.args.self.now.rows c.args.self.now.fed → ⊥ =
-    λ w.
-    let none : c.loop-taken.taken ≡ 0 = i.4 w in
-    let same : c.loop-taken.self.fed ≡ c.args.self.now.fed = i.1 ∙ ap (λ (n : ℕ). c.args.self.now.fed ++ take n c.args.piece.now) none ∙ append-nil c.args.self.now.fed in
-    let zero : Ok c.in-Ok.part ≡ Ok 0 = c.in-Ok.ensures.complete (subst (λ (bs : List ℕ). IsWholeFile c.loop-taken.self.rows bs) (sym same) (subst (λ (rs : List Row). IsWholeFile rs c.args.self.now.fed) (sym i.2) w)) in
-    c.in-Ok.part-test.1 cc in (
-      rest_within c.args.piece.now c.loop-taken.taken c.in-Ok.part i.0 c.in-Ok.ensures.taken.0,
-      fed,
-      c.in-Ok.ensures.rows ∙ i.2,
-      c.in-Ok.ensures.goes_on,
-      λ w. absurd (part w),
-    )
-
 pub returns-in-Err-clause-accepts : goal.returns-in-Err-clause-accepts
-returns-in-Err-clause-accepts c none on =
-    absurd (no_refusal_on _ _ _ on
-    (refused_rest c.args.self.now.fed c.args.piece.now c.loop-taken.self.fed c.loop-taken.taken c.in-Err.fault.place c.in-Err.fault.reason c.loop-taken.invariant.1 c.in-Err.ensures.refusal))
+returns-in-Err-clause-accepts c none on = absurd (no_refusal_on _ _ _ on c.in-Err.ensures.refusal)
 
-pub returns-in-Ok-eq0-clause-within : goal.returns-in-Ok-eq0-clause-within
-returns-in-Ok-eq0-clause-within c =
-    subst IsWithinFile (ap (λ (v : BodyLoaderValue). v.fed) c.self-in-loop-taken.view_is)
-    (fed_within _ _ _ _ _ _ _ c.self-in-loop-taken.invariant (ap (λ (v : BodyLoaderValue). v.refused) c.self-in-loop-taken.view_is ∙ c.in-Ok-eq0.ensures.goes_on))
-
-pub returns-clause-within : goal.returns-clause-within
-returns-clause-within c =
+pub returns-in-Ok-clause-within : goal.returns-in-Ok-clause-within
+returns-in-Ok-clause-within c =
     subst IsWithinFile (ap (λ (v : BodyLoaderValue). v.fed) c.self-2.view_is)
-    (fed_within _ _ _ _ _ _ _ c.self-2.invariant (ap (λ (v : BodyLoaderValue). v.refused) c.self-2.view_is ∙ c.loop-taken.invariant.3))
+    (fed_within _ _ _ _ _ _ _ c.self-2.invariant (ap (λ (v : BodyLoaderValue). v.refused) c.self-2.view_is ∙ c.in-Ok.ensures.goes_on))

@@ -1,6 +1,6 @@
 use Rattle.std.proofs.Common.{length, ◌-◌, ◌≡◌, ◌≤◌, ◌++◌, take, None}
 use Rattle.hunk_scatter.specs.LoaderValues.{IsWholeFile}
-use Rattle.hunk_scatter.proofs.body_loader.BodyLoader.feed.Given as goal
+use Rattle.hunk_scatter.proofs.body_loader.BodyLoader.take_longs.Given as goal
 
 abbrev pub invariant-loop-taken : goal.invariant-loop-taken
 invariant-loop-taken l =
