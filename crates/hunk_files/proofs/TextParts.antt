@@ -33,6 +33,13 @@ numbers hs = 0 ∷ length hs ∷ 0 ∷ (length hs - 1) ∷ []
 pub behind_split : (hs : List LoadHunk) → bytes_of (behind_first hs) ≡ bytes_of (numbers hs) ++ (bytes_of (row_texts hs) ++ bytes_of (all_blocks hs))
 behind_split hs = bytes_of-append (numbers hs) (row_texts hs ++ all_blocks hs) ∙ ap (λ (l : List ℕ). bytes_of (numbers hs) ++ l) (bytes_of-append (row_texts hs) (all_blocks hs))
 
+-- what stands behind the first longword of a text
+abbrev pub after_first : LoadFileValue → List ℕ
+after_first v = 0 ∷ length (table v) ∷ 0 ∷ (length (table v) - 1) ∷ (entries_words (table v) ++ hunk_texts v)
+
+pub first_split : (v : LoadFileValue) → bytes_of (text v) ≡ bytes_of (0x3F3 ∷ []) ++ bytes_of (after_first v)
+first_split v = ap bytes_of (text_is v) ∙ bytes_of-cons 0x3F3 (after_first v)
+
 rows_are : (hs : List LoadHunk) → entries_words (table (map hunk_of hs)) ≡ row_texts hs
 rows_are [] = refl
 rows_are (h ∷ hs) = entries_more (row_entry h.row) (table (map hunk_of hs)) ∙ ap (λ (l : List ℕ). row_words h.row ++ l) (rows_are hs)
