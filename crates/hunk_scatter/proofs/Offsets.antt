@@ -6,7 +6,8 @@ use Rattle.hunk_words.specs.Longs.{longs}
 use Rattle.hunk_words.proofs.LongLaws.{length-longs}
 use Rattle.hunk_blocks.proofs.Lists.{All-more}
 use Rattle.hunk_files.specs.Image.{add_at}
-use Rattle.hunk_scatter.specs.StoreContent.{added, EndsWithin}
+use Rattle.hunk_scan.specs.Positions.{EndsWithin}
+use Rattle.hunk_scatter.specs.StoreContent.{added}
 
 added-more : (start base : ℕ) (xs : List ℕ) (y : ℕ) (store : List ℕ) → added start base (xs ++ y ∷ []) store ≡ add_at (added start base xs store) (start + y) base
 added-more start base [] y store = refl

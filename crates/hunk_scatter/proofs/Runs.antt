@@ -1,25 +1,24 @@
 -- Longwords of a content, a payload, a name or a list of offsets at once.
-use Rattle.std.proofs.Common.{◌≡◌, ℕ, zero, suc, ◌+◌, ◌-◌, ◌*◌, ◌/◌, ◌%◌, ◌<◌, ◌≤◌, Bool, false, cond, nat_lt, if◌then◌else◌, get_or, Option, None, Some, IfNone, List, [], ◌∷◌, ◌++◌, length, take, drop, refl, sym, ap, ap₂, subst, ◌∙◌, append_assoc, append-nil, arith, length-append, length-take, length-drop}
+use Rattle.std.proofs.Common.{◌≡◌, ℕ, zero, suc, ◌+◌, ◌-◌, ◌*◌, ◌/◌, ◌%◌, ◌<◌, ◌≤◌, false, get_or, Option, None, Some, IfNone, List, [], ◌∷◌, ◌++◌, length, take, drop, refl, sym, ap, ap₂, subst, ◌∙◌, append_assoc, append-nil, arith, length-append, length-take, length-drop}
 use Rattle.std.specs.Int.{w32, to_be_bytes}
 use Rattle.std.proofs.lemmas.List.{take_at, drop-drop, take-append-drop}
 use Rattle.std.proofs.Math.Seq.{drop-append-add}
 use Rattle.hunk_words.specs.Longs.{bytes_of, longs, IsBytes, AreLongs, Gathers, IsLong}
 use Rattle.hunk_words.proofs.LongLaws.{bytes_of-cons, bytes_of-nil, bytes_of-one, length-bytes_of, length-longs, spelled, longs_fit}
-use Rattle.std.proofs.lemmas.Bool.{le-ltb}
 use Rattle.hunk_words.proofs.PartLaws.{longs-take}
 use Rattle.std.specs.List.{AllByRecursion}
-use Rattle.hunk_words.specs.declared.reason.Reason.TheVariants as reasons
 use Rattle.hunk_files.specs.declared.row.Row.{Row}
 use Rattle.hunk_scan.specs.declared.phase.OpenHunk.{OpenHunk}
 use Rattle.hunk_scan.specs.declared.phase.Phase.TheVariants as phases
 use Rattle.hunk_scan.specs.declared.position.Position.{Position}
 use Rattle.hunk_scan.specs.declared.position.Position.TheVariants as positions
-use Rattle.hunk_scan.specs.Positions.{is_done, run, pass, owe_content, owe_payload, owe_symbol}
+use Rattle.hunk_scan.specs.Positions.{is_done, run, pass, owe_content, owe_payload, owe_symbol, EndsWithin}
+use Rattle.hunk_scan.proofs.OffsetRuns.{offset_passes}
 use Rattle.hunk_scatter.specs.declared.body_state.BodyState.{BodyState}
 use Rattle.hunk_scatter.specs.BodyLoaderFields.{Reading}
 use Rattle.hunk_scatter.specs.BodySteps.{longs_at, pass_body, IsInStore, refusal, step_body}
 use Rattle.hunk_scatter.specs.Rows.{words_of, bases_of}
-use Rattle.hunk_scatter.specs.StoreContent.{put_at, put_slice, stored_run_in, stored_run, added, EndsWithin, TakesOffsets, stored_in}
+use Rattle.hunk_scatter.specs.StoreContent.{put_at, put_slice, stored_run_in, stored_run, added, TakesOffsets, stored_in}
 use Rattle.hunk_scatter.proofs.OneByte.{going, more_read}
 use Rattle.hunk_scatter.proofs.Splice.{length-put}
 
@@ -67,10 +66,6 @@ pub length-run : (sizes : List ℕ) (hunk start : ℕ) (p : Position) (bytes sto
 length-run sizes hunk start (positions.Body o (phases.Content longs owed)) bytes store i fits =
     length-slice store (start + 4 * (longs - owed - 1)) bytes (omega (arith, i.segment, i.room.0, i.room.1, fits))
 length-run sizes hunk start _ bytes store i fits = refl
-
--- an offset that ends within the hunk passes
-within_passes : (limit w : ℕ) → EndsWithin limit w → (if nat_lt limit (w + 4) then Some reasons.BadOffset else None) ≡ None
-within_passes limit w less = ap (λ (b : Bool). cond b (Some reasons.BadOffset) None) (le-ltb limit (w + 4) less)
 
 -- ---- the state
 
@@ -160,7 +155,7 @@ module _ (rows : List Row) (hunk start : ℕ) where
       (λ n ws store. added start (get_or (bases_of rows) target 0) ws store)
   offsets_owing o target = record {
     goes_on = λ n. refl;
-    passes = λ n w within. within_passes (4 * longs_at (words_of rows) hunk) w within;
+    passes = λ n w within. offset_passes (longs_at (words_of rows) hunk) o target n w within;
     moves = λ n w. refl;
     room = λ n w store h. tt;
     none = λ n store. refl;

@@ -12,6 +12,7 @@ use Rattle.hunk_files.specs.OpenSegment.{segment_so_far}
 use Rattle.hunk_scan.specs.declared.phase.Phase.TheVariants as phases
 use Rattle.hunk_scan.specs.declared.position.Position.{Position}
 use Rattle.hunk_scan.specs.declared.position.Position.TheVariants as positions
+use Rattle.hunk_scan.specs.Positions.{EndsWithin}
 use Rattle.hunk_scatter.specs.BodySteps.{longs_at}
 use Rattle.hunk_scatter.specs.declared.body_state.BodyState.{BodyState}
 
@@ -66,10 +67,6 @@ stored_run s bytes store = stored_run_in s.start s.position bytes store
 abbrev pub added : ℕ → ℕ → List ℕ → List ℕ → List ℕ
 added start base [] store = store
 added start base (w ∷ ws) store = added start base ws (add_at store (start + w) base)
-
--- a longword at the offset ends within so many bytes
-abbrev pub EndsWithin : ℕ → ℕ → Type 0
-EndsWithin limit offset = offset + 4 ≤ limit
 
 -- Offsets of a list were taken, none of them refused; one at least is still owed.
 abbrev pub TakesOffsetsAt : List ℕ → List ℕ → ℕ → ℕ → Position → List ℕ → List ℕ → BodyState → List ℕ → Type 0

@@ -5,9 +5,9 @@ ghost use Rattle.hunk_words.specs.Longs.{Gathers, longs};
 ghost use Rattle.std.specs.List.{AllByRecursion};
 ghost use Rattle.std.specs.Int.{w32, to_be_bytes};
 ghost use Rattle.hunk_files.specs.Image.{add_at};
-ghost use Rattle.hunk_scatter.specs.StoreContent.{put_at, put_slice, stored, stored_run, added, EndsWithin, TakesOffsets};
+ghost use Rattle.hunk_scatter.specs.StoreContent.{put_at, put_slice, stored, stored_run, added, TakesOffsets};
 ghost use Rattle.hunk_scatter.specs.BodySteps.{step_body, pass_body, refusal, IsInStore};
-ghost use Rattle.hunk_scan.specs.Positions.{run};
+ghost use Rattle.hunk_scan.specs.Positions.{run, EndsWithin};
 ghost use Rattle.hunk_scatter.specs.Rows.{words_of, bases_of};
 
 use crate::body_state::{BodyState, longs_of};

@@ -1,7 +1,8 @@
 use Rattle.std.proofs.Common.{length, ◌-◌, ◌*◌, ◌≡◌, ◌≤◌, take}
 use Rattle.std.specs.List.{AllByRecursion}
 use Rattle.hunk_words.specs.Longs.{longs}
-use Rattle.hunk_scatter.specs.StoreContent.{added, EndsWithin}
+use Rattle.hunk_scan.specs.Positions.{EndsWithin}
+use Rattle.hunk_scatter.specs.StoreContent.{added}
 use Rattle.hunk_scatter.proofs.store.add_all.Given as goal
 
 abbrev pub invariant-loop-taken : goal.invariant-loop-taken
