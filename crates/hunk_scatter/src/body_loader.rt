@@ -190,7 +190,7 @@ impl BodyLoader {
 
     /// Takes the piece, or up to the end of the file where that stands inside it. Where no longword is
     /// gathered, those that lie whole in the piece are taken at once.
-    #[inline(always)]
+    #[inline(never)]
     pub(crate) fn take_piece(&mut self, piece: &[u8]) -> Result<usize, LoadFault>
         requires room { length self.old.fed + length piece.now < 2 ^ 64 }
         requires reading { self.old.refused ≡ None }
