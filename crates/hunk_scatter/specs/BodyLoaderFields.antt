@@ -3,6 +3,7 @@ use Rattle.std.specs.Prelude.{◌≡◌, ℕ, ◌<◌, ◌≤◌, List, [], ◌+
 use Rattle.hunk_words.specs.Limits.{most_hunks}
 use Rattle.hunk_words.specs.Longs.{bytes_of}
 use Rattle.hunk_words.specs.declared.fault.Fault.{Fault}
+use Rattle.hunk_files.specs.Fault.{HasRefusal}
 use Rattle.hunk_files.specs.Image.{declared_bytes}
 use Rattle.hunk_files.specs.FileSteps.{Next, More, Finished}
 use Rattle.hunk_files.specs.WordsRead.{HasRead}
@@ -38,3 +39,7 @@ pub record BodyLoaderInvariant (rows : List Row) (store : List ℕ) (state : Bod
   pub size : length store ≡ declared_bytes (entries_of rows)
   pub reading : refused ≡ None → Reading rows store state pending fed
   pub own : (f : Fault) → refused ≡ Some f → IsTrue (is_of_body f.reason)
+
+-- the loader tells a refusal of these bytes
+abbrev pub RefusesOf : List ℕ → Option Fault → Type 0
+RefusesOf bytes refused = (f : Fault) × (refused ≡ Some f) × HasRefusal bytes f.place f.reason × IsTrue (is_of_body f.reason)

@@ -8,6 +8,7 @@ ghost use Rattle.hunk_files.specs.LoadFile.{LoadFileValue, IsLoadFile};
 ghost use Rattle.hunk_files.specs.LoadText.{text};
 ghost use Rattle.hunk_scatter.specs.LoaderReasons.{is_of_body};
 ghost use Rattle.hunk_scatter.specs.LoaderValues.{BodyLoaderValue, IsWholeFile, MayGoOn, HasNoRefusal, IsImageOf};
+ghost use Rattle.hunk_scatter.specs.BodyLoaderFields.{RefusesOf};
 ghost use Rattle.hunk_scatter.specs.LoadOutcomes.{IsWithinFile};
 ghost use Rattle.hunk_scatter.specs.Owing.{HasToCome};
 ghost use Rattle.hunk_scatter.specs.Rows.{entries_of};
@@ -48,6 +49,11 @@ impl Model for BodyLoader {
     ghost invariant = { λ s. BodyLoaderInvariant s.rows.items s.store.items s.state s.assembler
         s.count s.refused s.history.bytes };
 }
+
+/// Says that a longword was refused, for what the loader then tells. It has no bytes, so that the
+/// answers of the functions that each piece goes through stay in registers.
+#[derive(Clone, Copy)]
+struct Refused;
 
 impl BodyLoader {
     /// Takes the longwords that lie whole in the piece, up to the end of the file or to one that is
@@ -162,7 +168,7 @@ impl BodyLoader {
     /// Takes the piece, or up to the end of the file where that stands inside it, one longword after
     /// another.
     #[inline(never)]
-    fn take_longs(&mut self, piece: &[u8]) -> Result<usize, LoadFault>
+    fn take_longs(&mut self, piece: &[u8]) -> Result<usize, Refused>
         requires room { length self.old.fed + length piece.now < 2 ^ 64 }
         requires reading { self.old.refused ≡ None }
         ensures rows { self.new.rows ≡ self.old.rows }
@@ -172,17 +178,15 @@ impl BodyLoader {
             (λ n. n < length piece.now → IsWholeFile self.new.rows self.new.fed) }
         ensures goes_on { OnOk result (self.new.refused ≡ None) }
         ensures complete { IsWholeFile self.old.rows self.old.fed → result ≡ Ok 0 }
-        ensures refusal { IfErr result
-            (λ f. HasRefusal (self.old.fed ++ piece.now) f.place f.reason) }
-        ensures own { IfErr result (λ f. IsTrue (is_of_body f.reason)) }
-        ensures remembers { IfErr result (λ f. self.new.refused ≡ Some f) }
+        ensures refusal { OnErr result
+            (RefusesOf (self.old.fed ++ piece.now) self.new.refused) }
     {
         let mut taken = 0;
         while taken < piece.len() {
             match self.take_long(&piece[taken..]) {
                 Ok(0) => return Ok(taken),
                 Ok(part) => taken += part,
-                Err(fault) => return Err(fault),
+                Err(_) => return Err(Refused),
             }
         }
         Ok(taken)
@@ -190,6 +194,34 @@ impl BodyLoader {
 
     /// Takes the piece, or up to the end of the file where that stands inside it. Where no longword is
     /// gathered, those that lie whole in the piece are taken at once.
+    #[inline(never)]
+    fn take_parts(&mut self, piece: &[u8]) -> Result<usize, Refused>
+        requires room { length self.old.fed + length piece.now < 2 ^ 64 }
+        requires reading { self.old.refused ≡ None }
+        ensures rows { self.new.rows ≡ self.old.rows }
+        ensures taken { IfOk result
+            (λ n. (n ≤ length piece.now) × (self.new.fed ≡ self.old.fed ++ take n piece.now)) }
+        ensures all { IfOk result
+            (λ n. n < length piece.now → IsWholeFile self.new.rows self.new.fed) }
+        ensures goes_on { OnOk result (self.new.refused ≡ None) }
+        ensures complete { IsWholeFile self.old.rows self.old.fed → result ≡ Ok 0 }
+        ensures refusal { OnErr result
+            (RefusesOf (self.old.fed ++ piece.now) self.new.refused) }
+    {
+        let whole = match self.take_whole(piece) {
+            Ok(whole) => whole,
+            Err(_) => return Err(Refused),
+        };
+        if whole == piece.len() {
+            return Ok(whole);
+        }
+        match self.take_longs(&piece[whole..]) {
+            Ok(more) => Ok(whole + more),
+            Err(_) => Err(Refused),
+        }
+    }
+
+    /// Takes the piece as `take_parts` does, and tells the refusal.
     #[inline(always)]
     pub(crate) fn take_piece(&mut self, piece: &[u8]) -> Result<usize, LoadFault>
         requires room { length self.old.fed + length piece.now < 2 ^ 64 }
@@ -206,16 +238,12 @@ impl BodyLoader {
         ensures own { IfErr result (λ f. IsTrue (is_of_body f.reason)) }
         ensures remembers { IfErr result (λ f. self.new.refused ≡ Some f) }
     {
-        let whole = match self.take_whole(piece) {
-            Ok(whole) => whole,
-            Err(fault) => return Err(fault),
-        };
-        if whole == piece.len() {
-            return Ok(whole);
-        }
-        match self.take_longs(&piece[whole..]) {
-            Ok(more) => Ok(whole + more),
-            Err(fault) => Err(fault),
+        match self.take_parts(piece) {
+            Ok(taken) => Ok(taken),
+            Err(_) => match self.refused {
+                Some(fault) => Err(fault),
+                None => unreachable!(),
+            },
         }
     }
 
