@@ -3,8 +3,6 @@
 
 mod asked;
 mod line;
-#[cfg(test)]
-mod tests;
 
 pub use crate::asked::{FileName, Order, OrderFault};
 pub use crate::line::order;

@@ -8,8 +8,6 @@ mod phase;
 mod position;
 mod refusal;
 mod standing;
-#[cfg(test)]
-mod tests;
 
 pub use crate::file_kind::Sniff;
 pub use crate::phase::{OpenHunk, Phase};

@@ -14,8 +14,6 @@ mod longwords;
 mod placer;
 mod segments;
 mod store;
-#[cfg(test)]
-mod tests;
 
 pub use crate::body_loader::BodyLoader;
 pub use crate::declared::{Declared, Unplaced};

@@ -16,8 +16,6 @@ mod reason;
 mod sink;
 mod size_word;
 mod source;
-#[cfg(test)]
-mod tests;
 
 pub use crate::assembler::Assembler;
 pub use crate::block_word::{BlockWord, Kind};

@@ -1,6 +1,6 @@
 //! Fields of longwords, by values from the table of block types and the examples of size words.
 
-use crate::{Assembler, BlockWord, Fault, Kind, Memory, Reason, SizeWord, word_at};
+use hunk_words::{Assembler, BlockWord, Fault, Kind, Memory, Reason, SizeWord, word_at};
 use std::test::Fail;
 
 #[test]

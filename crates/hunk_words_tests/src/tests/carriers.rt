@@ -1,7 +1,7 @@
 //! Sources and sinks over readers and writers, and over references to them.
 ghost use Rattle.std.specs.Prelude.{IsErr, None};
 
-use crate::{Failed, FromRead, FromSlice, FromWrite, LongWriter, Sink, Source, WriteFault};
+use hunk_words::{Failed, FromRead, FromSlice, FromWrite, LongWriter, Sink, Source, WriteFault};
 use std::io;
 use std::io::{Read, Write};
 use std::test::Fail;

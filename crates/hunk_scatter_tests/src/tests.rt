@@ -9,7 +9,7 @@ mod loads;
 mod memory;
 mod sources;
 
-use crate::{Image, Limits, Placer, load};
+use hunk_scatter::{Image, Limits, Placer, load};
 use hunk_words::{LoadFault, Source};
 use std::alloc::{AllocError, Global};
 

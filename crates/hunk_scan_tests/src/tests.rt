@@ -1,6 +1,6 @@
 //! Load files by their longwords, one after the other.
 
-use crate::{Phase, Position, Sniff, refuse_place};
+use hunk_scan::{Phase, Position, Sniff, refuse_place};
 use hunk_words::{Kind, Reason};
 use std::test::Fail;
 

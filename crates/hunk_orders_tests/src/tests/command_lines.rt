@@ -1,6 +1,5 @@
 //! Which words are which orders.
-use crate::asked::{FileName, Order, OrderFault};
-use crate::line::order;
+use hunk_orders::{FileName, Order, OrderFault, order};
 use std::alloc::{AllocError, Global};
 use std::process::Abort;
 use std::test::Fail;

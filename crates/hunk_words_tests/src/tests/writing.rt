@@ -1,7 +1,7 @@
 //! Puts to a sink that takes a few bytes at a time and then fails.
 ghost use Rattle.std.specs.Prelude.{ℕ, ◌<◌, ◌≤◌, None};
 
-use crate::{Failed, FromWrite, LongWriter, Sink, WriteFault};
+use hunk_words::{Failed, FromWrite, LongWriter, Sink, WriteFault};
 use std::test::Fail;
 
 /// Takes at most `step` bytes at a time, and fails once it has taken `room`.

@@ -1,0 +1,293 @@
+//! Headers, tables and placing by themselves.
+ghost use Rattle.std.specs.Prelude.{◌≤◌, length};
+
+use crate::tests::{ONE_HUNK, TWO_HUNKS, spelled};
+use hunk_scatter::{BodyLoader, Declared, HeaderLoader, Listed, Packed, Unplaced};
+use hunk_words::{LoadFault, Memory, Reason};
+use std::alloc::Global;
+use std::process::Abort;
+use std::test::Fail;
+
+/// A loader of headers, and how many bytes it was given.
+#[derive(Drop)]
+pub(super) struct Counted {
+    pub(super) loader: HeaderLoader,
+    given: u64,
+    ghost within: { length loader.fed ≤ given },
+}
+
+impl Counted {
+    pub(super) fn new(alloc: Global, budget: u64) -> Counted {
+        Counted {
+            loader: HeaderLoader::new(alloc, budget),
+            given: 0,
+        }
+    }
+
+    /// Feeds a piece, and gives the number of bytes taken of it.
+    pub(super) fn feed(&mut self, rt: &impl Abort, piece: &[u8]) -> Result<usize, LoadFault> {
+        assert!(rt; self.given < 1_000 && piece.len() < 1_000);
+        let answer = self.loader.feed(piece);
+        self.given += piece.len() as u64;
+        answer
+    }
+}
+
+/// Why a header is refused, if it is, or the bytes that its hunks declare.
+fn answer(alloc: Global, text: &str, budget: u64) -> Result<Result<u64, LoadFault>, Fail> {
+    let bytes = spelled(alloc, text)?;
+    let mut loader = HeaderLoader::new(alloc, budget);
+    if let Err(fault) = loader.feed(bytes.as_slice()) {
+        return Ok(Err(fault));
+    }
+    match loader.declared() {
+        Ok(declared) => Ok(Ok(declared.total())),
+        Err(_) => Ok(Err(LoadFault {
+            place: 0,
+            reason: Reason::Truncated,
+        })),
+    }
+}
+
+/// The table of the header that the text begins with, of so many bytes.
+pub(super) fn declared(
+    rt: &impl Abort,
+    alloc: Global,
+    text: &str,
+    header: usize,
+) -> Result<Declared, Fail> {
+    let bytes = spelled(alloc, text)?;
+    let mut loader = HeaderLoader::new(alloc, 1_000);
+    assert!(rt; bytes.len() < 1_000);
+    assert_eq!(rt; loader.feed(bytes.as_slice()), Ok(header));
+    match loader.declared() {
+        Ok(declared) => Ok(declared),
+        Err(_) => panic!(rt; "no table"),
+    }
+}
+
+/// The number of hunks and the bytes that they declare, or why the header is refused, where a first
+/// piece of it has so many bytes, and each further one so many at most.
+fn in_pieces(
+    rt: &impl Abort,
+    alloc: Global,
+    bytes: &[u8],
+    budget: u64,
+    first: usize,
+    most: usize,
+) -> Result<(u32, u64), (u64, Reason)> {
+    let mut counted = Counted::new(alloc, budget);
+    let mut rest = bytes;
+    let mut size = first;
+    for _ in 0..bytes.len() {
+        let (piece, behind) = rest.split_at(size.min(rest.len()));
+        if let Err(fault) = counted.feed(rt, piece) {
+            return Err((fault.place, fault.reason));
+        }
+        rest = behind;
+        size = most;
+    }
+    match counted.loader.declared() {
+        Ok(declared) => Ok((declared.hunks(), declared.total())),
+        Err(_) => panic!(rt; "not whole"),
+    }
+}
+
+const IN_PIECES: &[(&str, u64, Result<(u32, u64), (u64, Reason)>)] = &[
+    ("3F3 0 2 0 1 C0000002 10004 1 / 3E9 2", 1_000, Ok((2, 12))),
+    ("3F3 0 2 0 1 2 3 / 3E9 1", 20, Ok((2, 20))),
+    ("3F3 0 2 0 1 2 3 / 3E9 1", 19, Err((24, Reason::Budget))),
+    ("3F3 0 2 0 0 1 1", 1_000, Err((16, Reason::LastHunk))),
+];
+
+/// The bytes cut at each byte and in pieces of 1, 3 and 256 bytes: the same comes as of one piece.
+fn expect_in_pieces(
+    rt: &impl Abort,
+    alloc: Global,
+    bytes: &[u8],
+    budget: u64,
+    want: &Result<(u32, u64), (u64, Reason)>,
+) {
+    for most in [1, 3, 256] {
+        let got = in_pieces(rt, alloc, bytes, budget, most, most);
+        assert_eq!(rt; got, *want, "{most} bytes a piece");
+    }
+    for cut in 1..bytes.len() {
+        let got = in_pieces(rt, alloc, bytes, budget, cut, 256);
+        assert_eq!(rt; got, *want, "cut at {cut}");
+    }
+}
+
+/// Headers of examples 7, 8 and 16 with what follows.
+#[test]
+fn headers_in_pieces(rt: HostRuntime) -> Result<(), Fail> {
+    for (text, budget, want) in IN_PIECES {
+        let bytes = spelled(rt.alloc(), text)?;
+        expect_in_pieces(&rt, rt.alloc(), bytes.as_slice(), *budget, want);
+    }
+    Ok(())
+}
+
+const WANTS: &[usize] = &[
+    24, 23, 22, 21, 20, 19, 18, 17, 16, 15, 14, 13, // 3F3 0 3
+    20, 19, 18, 17, 16, 15, 14, 13, // 0 2
+    12, 11, 10, 9, // 1
+    8, 7, 6, 5, 8, 7, 6, 5, // C0000002 10004
+    4, 3, 2, 1, // 1
+];
+
+/// Feeds the bytes one by one, and sees what is wanted before each.
+fn expect_wants(rt: &impl Abort, counted: &mut Counted, bytes: &[u8], wants: &[usize]) {
+    assert_eq!(rt; bytes.len(), wants.len());
+    for (byte, want) in bytes.iter().zip(wants) {
+        assert_eq!(rt; counted.loader.want(), *want);
+        assert_eq!(rt; counted.feed(rt, &[*byte]), Ok(1));
+    }
+}
+
+/// Three hunks, the second with attributes, byte by byte: until their number is known the shortest header
+/// has six longwords, and then each row that is owed has one. What follows the header is not taken.
+#[test]
+fn wants_what_rows_still_have(rt: HostRuntime) -> Result<(), Fail> {
+    let bytes = spelled(rt.alloc(), "3F3 0 3 0 2 1 C0000002 10004 1")?;
+    let mut counted = Counted::new(rt.alloc(), 1_000);
+    expect_wants(&rt, &mut counted, bytes.as_slice(), WANTS);
+    assert_eq!(rt; counted.loader.want(), 0);
+    assert_eq!(rt; counted.feed(&rt, b"follows"), Ok(0));
+    assert!(rt; counted.loader.declared().is_ok());
+    Ok(())
+}
+
+/// What is wanted behind each piece of a header of 65 hunks.
+const OF_65_HUNKS: &[(&str, usize)] = &[
+    ("3F3 0", 16),
+    ("41", 256),
+    ("0 40", 256),
+    ("1", 256),
+    ("1", 252),
+    ("1 1 1", 240),
+];
+
+/// No more than 256 bytes are wanted, until 64 rows are owed.
+#[test]
+fn wants_at_most_a_buffer(rt: HostRuntime) -> Result<(), Fail> {
+    let mut counted = Counted::new(rt.alloc(), 1_000);
+    for (text, want) in OF_65_HUNKS {
+        let piece = spelled(rt.alloc(), text)?;
+        assert_eq!(rt; counted.feed(&rt, piece.as_slice()), Ok(piece.len()));
+        assert_eq!(rt; counted.loader.want(), *want, "behind {text}");
+    }
+    assert_eq!(rt; counted.feed(&rt, [0].as_slice()), Ok(1));
+    assert_eq!(rt; counted.loader.want(), 239);
+    Ok(())
+}
+
+/// Examples 7, 16 and 17: the bytes that are declared, or the place and the reason.
+const ANSWERS: &[(&str, u64, Result<u64, (u64, Reason)>)] = &[
+    ("3F3 0 2 0 1 2 3", 19, Err((24, Reason::Budget))),
+    ("3F3 0 2 0 1 2 3", 20, Ok(20)),
+    ("3F3 0 2 0 0", 1_000, Err((16, Reason::LastHunk))),
+    ("3F3 0 0", 1_000, Err((8, Reason::NoHunks))),
+    ("3F3 0 10001", 1_000, Err((8, Reason::TooManyHunks))),
+    (
+        "3F3 0 1 0 0 3FFFFFFF",
+        4_294_967_291,
+        Err((20, Reason::Budget)),
+    ),
+    ("3F3 0 1 0 0 3FFFFFFF", 4_294_967_292, Ok(4_294_967_292)),
+    ("3F3 0 1 0 0 1 / 3FA", 1_000, Ok(4)),
+];
+
+#[test]
+fn answers(rt: HostRuntime) -> Result<(), Fail> {
+    for (text, budget, want) in ANSWERS {
+        let got = match answer(rt.alloc(), text, *budget)? {
+            Ok(bytes) => Ok(bytes),
+            Err(fault) => Err((fault.place, fault.reason)),
+        };
+        assert_eq!(rt; got, *want, "{text}");
+    }
+    Ok(())
+}
+
+fn expect_row(rt: &impl Abort, declared: &Declared, i: u32, memory: Memory, bytes: u64) {
+    assert!(rt; i < declared.hunks());
+    let row = declared.row(i);
+    assert_eq!(rt; row.size().memory(), memory);
+    assert_eq!(rt; row.size().bytes(), bytes);
+    assert_eq!(rt; row.base, 0);
+}
+
+/// The table of example 8.
+#[test]
+fn tables(rt: HostRuntime) -> Result<(), Fail> {
+    let declared = declared(&rt, rt.alloc(), "3F3 0 2 0 1 C0000002 10004 1", 32)?;
+    assert_eq!(rt; declared.hunks(), 2);
+    assert_eq!(rt; declared.held(), 24);
+    expect_row(&rt, &declared, 0, Memory::Attributes(0x10004), 8);
+    expect_row(&rt, &declared, 1, Memory::Any, 4);
+    Ok(())
+}
+
+/// Sees that a table of two hunks came back for this reason, as it was.
+pub(super) fn came_back(rt: &impl Abort, unplaced: Option<&Unplaced>, reason: Reason) {
+    let Some(unplaced) = unplaced else {
+        panic!(rt; "placed");
+    };
+    assert_eq!(rt; unplaced.reason, reason);
+    assert_eq!(rt; unplaced.declared.hunks(), 2);
+    for i in 0..unplaced.declared.hunks() {
+        assert_eq!(rt; unplaced.declared.row(i).base, 0);
+    }
+}
+
+/// Example 20: the table comes back as it was, and can be placed elsewhere.
+#[test]
+fn placing(rt: HostRuntime) -> Result<(), Fail> {
+    let declared = declared(&rt, rt.alloc(), TWO_HUNKS, 28)?;
+    let unplaced = declared.place(&Listed([0x10000].as_slice())).err();
+    came_back(&rt, unplaced.as_ref(), Reason::NoBase(1));
+    let again = unplaced.map(|unplaced| unplaced.declared);
+    let loader = again.and_then(|declared| declared.place(&Packed { start: 0x10000 }).ok());
+    assert_eq!(rt; loader.map(|loader| loader.held()), Some(36));
+    Ok(())
+}
+
+/// A loader of the body behind the header of example 1.
+pub(super) fn body(rt: &impl Abort, alloc: Global) -> Result<BodyLoader, Fail> {
+    let declared = declared(rt, alloc, ONE_HUNK, 24)?;
+    match declared.place(&Packed { start: 0x21000 }) {
+        Ok(loader) => Ok(loader),
+        Err(unplaced) => panic!(rt; "{:?}", unplaced.reason),
+    }
+}
+
+/// Example 31: what is held before the body.
+#[test]
+fn held(rt: HostRuntime) -> Result<(), Fail> {
+    let loader = body(&rt, rt.alloc())?;
+    assert_eq!(rt; loader.held(), 16);
+    assert_eq!(rt; loader.fed(), 24);
+    assert!(rt; loader.want() > 0);
+    assert!(rt; loader.finish().is_err());
+    Ok(())
+}
+
+/// A loader that has refused answers the same again, and takes nothing.
+#[test]
+fn stays_refused(rt: HostRuntime) -> Result<(), Fail> {
+    let header = spelled(rt.alloc(), "3F3 0 1 0 0 1")?;
+    let mut counted = Counted::new(rt.alloc(), 3);
+    let fault = LoadFault {
+        place: 20,
+        reason: Reason::Budget,
+    };
+    for _ in 0..2u8 {
+        let fed = counted.feed(&rt, header.as_slice());
+        assert_eq!(rt; fed, Err(fault));
+    }
+    assert_eq!(rt; counted.loader.want(), 0);
+    assert_eq!(rt; counted.loader.held(), 0);
+    assert!(rt; counted.loader.declared().is_err());
+    Ok(())
+}

@@ -1,0 +1,101 @@
+//! Files at their limits, by readers of few bytes at a time.
+
+use crate::tests::sources::{Fed, Then};
+use hunk_scatter::{Image, Limits, Packed, load};
+use std::alloc::{AllocError, Global};
+use std::process::Abort;
+use std::test::Fail;
+
+const LIMITS: Limits = Limits {
+    budget: 1 << 20,
+    file_bytes: 4_000_000,
+};
+
+fn put(bytes: &mut Vec<u8>, words: &[u32]) -> Result<(), AllocError> {
+    for word in words {
+        bytes.extend_from_slice(word.to_be_bytes().as_slice())?;
+    }
+    Ok(())
+}
+
+/// The base of a hunk where each has a longword and the first lies at 0x21000.
+fn base_of(hunk: u32) -> u32 {
+    0x21000_u32.wrapping_add(hunk.wrapping_mul(4))
+}
+
+/// The segment of a hunk of `most_hunks`, of which the first lies at 0x21000.
+fn long_of(hunk: u32) -> [u8; 4] {
+    hunk.wrapping_add(base_of(hunk ^ 1)).to_be_bytes()
+}
+
+/// Loads the bytes by a reader of so many bytes a read, which gives all of them.
+fn loaded(rt: &impl Abort, alloc: Global, bytes: &[u8], most: usize, start: u32) -> Image {
+    let mut source = Fed::new(bytes, 0, most, Then::Ends);
+    let answer = load(alloc, &mut source, LIMITS, &Packed { start });
+    assert!(rt; source.rest.is_empty());
+    match answer {
+        Ok(image) => image,
+        Err(fault) => panic!(rt; "{fault:?}"),
+    }
+}
+
+/// A file of as many hunks as there can be, each of one longword to which its neighbour's base is added.
+fn most_hunks(alloc: Global) -> Result<Vec<u8>, AllocError> {
+    let mut bytes = Vec::new(alloc);
+    put(&mut bytes, [0x3F3, 0, 65_536, 0, 65_535].as_slice())?;
+    for _ in 0..65_536u32 {
+        put(&mut bytes, [1].as_slice())?;
+    }
+    for hunk in 0..65_536u32 {
+        let words = [0x3E9, 1, hunk, 0x3EC, 1, hunk ^ 1, 0, 0, 0x3F2];
+        put(&mut bytes, words.as_slice())?;
+    }
+    Ok(bytes)
+}
+
+/// Sees that the segments have their bases and longwords, in turn and one by one.
+fn expect_segments(rt: &impl Abort, image: &Image) {
+    assert_eq!(rt; image.hunks(), 65_536);
+    for (hunk, (row, segment)) in (0..image.hunks()).zip(image.segments()) {
+        assert_eq!(rt; row.base, base_of(hunk));
+        assert_eq!(rt; segment, long_of(hunk).as_slice());
+    }
+    for hunk in [0, 1, 2_047, 2_048, 2_049, 4_095, 40_000, 65_535] {
+        assert_eq!(rt; image.segment(hunk), long_of(hunk).as_slice());
+    }
+}
+
+#[test]
+fn many_hunks(rt: HostRuntime) -> Result<(), Fail> {
+    let bytes = most_hunks(rt.alloc())?;
+    for most in [1, 3, 256] {
+        let image = loaded(&rt, rt.alloc(), bytes.as_slice(), most, 0x21000);
+        expect_segments(&rt, &image);
+    }
+    Ok(())
+}
+
+/// A file of one hunk of a MiB, which is its content.
+fn large_hunk(alloc: Global) -> Result<Vec<u8>, AllocError> {
+    let mut bytes = Vec::new(alloc);
+    let front = [0x3F3, 0, 1, 0, 0, 0x40000, 0x3E9, 0x40000];
+    put(&mut bytes, front.as_slice())?;
+    for i in 0..0x40000u32 {
+        put(&mut bytes, [i.wrapping_mul(0x9E37_79B1)].as_slice())?;
+    }
+    put(&mut bytes, [0x3F2].as_slice())?;
+    Ok(bytes)
+}
+
+#[test]
+fn one_large_hunk(rt: HostRuntime) -> Result<(), Fail> {
+    let bytes = large_hunk(rt.alloc())?;
+    for most in [1, 3, 256] {
+        let image = loaded(&rt, rt.alloc(), bytes.as_slice(), most, 0);
+        assert_eq!(rt; image.bytes(), 1 << 20);
+        for (_, segment) in image.segments() {
+            assert_eq!(rt; Some(segment), bytes.get(32..1_048_608));
+        }
+    }
+    Ok(())
+}

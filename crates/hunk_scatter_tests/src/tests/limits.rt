@@ -1,0 +1,175 @@
+//! What a load reads and holds at most.
+
+use crate::tests::loads::{START, Want, comes, front};
+use crate::tests::sources::{FailsOnce, Fed, Then};
+use crate::tests::{AMPLE, ONE_HUNK, TWO_HUNKS, outcome, spelled};
+use hunk_scatter::{Limits, Listed};
+use hunk_words::{LoadFault, Reason};
+use std::alloc::Global;
+use std::process::Abort;
+use std::test::Fail;
+
+const TWO_ROWS: &str = "3F3 0 2 0 1 2 3 / 3E9 1 4E754E71 / 3F2 / 3EB 3 / 3F2";
+
+/// Examples 7 and 22: the text and the bytes of its front, the budget and the number of bytes that may be
+/// read, and what comes.
+const LIMITED: &[(&str, usize, u64, u64, Want<'static>, &str)] = &[
+    (
+        TWO_ROWS,
+        56,
+        19,
+        100_000,
+        Err((24, Reason::Budget)),
+        "example 7, 19",
+    ),
+    (
+        TWO_ROWS,
+        56,
+        20,
+        100_000,
+        Ok(("4E754E71 0 0 0 0", &[0x21000, 0x21008])),
+        "example 7, 20",
+    ),
+    (
+        ONE_HUNK,
+        40,
+        4,
+        39,
+        Err((39, Reason::FileLimit)),
+        "example 22, 39",
+    ),
+    (
+        ONE_HUNK,
+        40,
+        4,
+        40,
+        Ok(("4E754E71", &[0x21000])),
+        "example 22, 40",
+    ),
+    (
+        ONE_HUNK,
+        40,
+        4,
+        0,
+        Err((0, Reason::FileLimit)),
+        "example 22, 0",
+    ),
+    (
+        ONE_HUNK,
+        39,
+        4,
+        39,
+        Err((39, Reason::FileLimit)),
+        "example 22, all of 39",
+    ),
+];
+
+#[test]
+fn limits(rt: HostRuntime) -> Result<(), Fail> {
+    for (text, count, budget, file_bytes, want, example) in LIMITED {
+        let limits = Limits {
+            budget: *budget,
+            file_bytes: *file_bytes,
+        };
+        let bytes = spelled(rt.alloc(), text)?;
+        let front = front(bytes.as_slice(), *count);
+        comes(&rt, rt.alloc(), front, limits, &START, want, example)?;
+    }
+    Ok(())
+}
+
+/// Where no byte may be read, no read is made.
+#[test]
+fn no_read(rt: HostRuntime) -> Result<(), Fail> {
+    let bytes = spelled(rt.alloc(), ONE_HUNK)?;
+    let mut source = Fed::new(bytes.as_slice(), 0, 256, Then::Ends);
+    let none = Limits {
+        budget: 4,
+        file_bytes: 0,
+    };
+    let got = outcome(rt.alloc(), &mut source, none, &START)?;
+    assert!(rt; got.is_err());
+    assert_eq!(rt; source.reads, 0);
+    Ok(())
+}
+
+/// Example 20: where a hunk has no base, the body is not read.
+#[test]
+fn no_base(rt: HostRuntime) -> Result<(), Fail> {
+    let bytes = spelled(rt.alloc(), TWO_HUNKS)?;
+    let mut source = Fed::new(bytes.as_slice(), 0, 256, Then::Ends);
+    let one = Listed([0x10000].as_slice());
+    let got = outcome(rt.alloc(), &mut source, AMPLE, &one)?;
+    assert!(rt; got.is_err());
+    assert_eq!(rt; source.rest.len(), 56);
+    Ok(())
+}
+
+/// Examples 21 and 31: how many bytes of example 1 come, what comes then, how many may be read, and the
+/// fault.
+const STOPS: &[(usize, Then, u64, u64, Reason)] = &[
+    (30, Then::Fails, 100_000, 30, Reason::Read),
+    (0, Then::Fails, 100_000, 0, Reason::Read),
+    (36, Then::Repeats, 1_000, 1_000, Reason::FileLimit),
+];
+
+/// Sees that the load stops with this fault, after no more reads than bytes may be read and one.
+fn expect_stop(
+    rt: &impl Abort,
+    alloc: Global,
+    source: &mut Fed,
+    file_bytes: u64,
+    fault: LoadFault,
+) -> Result<(), Fail> {
+    let limits = Limits {
+        budget: 1_000,
+        file_bytes,
+    };
+    let got = outcome(alloc, source, limits, &START)?;
+    assert_eq!(rt; got, Err(fault));
+    assert!(rt; source.reads <= file_bytes.saturating_add(1));
+    Ok(())
+}
+
+/// A reader that fails, and one without end.
+#[test]
+fn stops(rt: HostRuntime) -> Result<(), Fail> {
+    let one = spelled(rt.alloc(), ONE_HUNK)?;
+    for (given, then, file_bytes, place, reason) in STOPS {
+        let fault = LoadFault {
+            place: *place,
+            reason: *reason,
+        };
+        for most in [1, 3, 256] {
+            let mut source = Fed::new(front(one.as_slice(), *given), 0, most, *then);
+            expect_stop(&rt, rt.alloc(), &mut source, *file_bytes, fault)?;
+        }
+    }
+    Ok(())
+}
+
+/// Example 1, whose 40 bytes come one a read: a read that fails ends the load, though the next would go on.
+#[test]
+fn reads_nothing_again(rt: HostRuntime) -> Result<(), Fail> {
+    let one = spelled(rt.alloc(), ONE_HUNK)?;
+    for fails_at in 0..41 {
+        let mut source = FailsOnce {
+            bytes: one.as_slice(),
+            given: 0,
+            fails_at,
+            failed: false,
+        };
+        let got = outcome(rt.alloc(), &mut source, AMPLE, &START)?;
+        assert_eq!(rt; source.given, fails_at);
+        if fails_at == 40 {
+            assert!(rt; got.is_ok() && !source.failed);
+        } else {
+            let fault = LoadFault {
+                place: fails_at as u64,
+                reason: Reason::Read,
+            };
+            assert_eq!(rt; got, Err(fault));
+        }
+    }
+    Ok(())
+}

@@ -1,0 +1,141 @@
+//! Loads while growths are refused.
+
+use crate::tests::headers::{Counted, came_back, declared};
+use crate::tests::sources::{COMPUTED, Computed, Fed, Then};
+use crate::tests::{AMPLE, TWO_HUNKS, spelled};
+use hunk_scatter::{Limits, Listed, Packed, load};
+use hunk_testing::all_memory;
+use hunk_words::{LoadFault, Reason};
+use std::alloc::{AllocError, Global};
+use std::process::Abort;
+use std::test::Fail;
+
+/// The bytes of the first growth of a table's rows: room for four of them.
+const ROWS: usize = 48;
+
+/// Whether a growth of so many bytes is refused now.
+fn is_refused(alloc: Global, bytes: usize) -> bool {
+    Vec::<u8>::with_capacity(alloc, bytes).is_err()
+}
+
+/// Why a load is refused while there is no memory but a room of so many bytes.
+fn starved(alloc: Global, text: &str, room: usize) -> Result<Option<LoadFault>, AllocError> {
+    let bytes = spelled(alloc, text)?;
+    let room = Vec::<u8>::with_capacity(alloc, room)?;
+    let pieces = all_memory(alloc)?;
+    drop(room);
+    let mut source = Fed::new(bytes.as_slice(), 0, 256, Then::Ends);
+    let bases = Listed([0x10000, 0x20000].as_slice());
+    let fault = load(alloc, &mut source, AMPLE, &bases).err();
+    drop(pieces);
+    Ok(fault)
+}
+
+/// Example 43: the rows' growth refused, and the store's, which is larger than what the rows leave of
+/// their room.
+#[test]
+fn refused_growths(rt: HostRuntime) -> Result<(), Fail> {
+    let reason = Reason::OutOfMemory;
+    for (room, place) in [(0, 20), (ROWS, 28)] {
+        let fault = starved(rt.alloc(), "3F3 0 2 0 1 10 1", room)?;
+        assert_eq!(rt; fault, Some(LoadFault { place, reason }));
+    }
+    Ok(())
+}
+
+/// A table with its hunks placed, where the store's growth is refused, comes back with every base 0.
+#[test]
+fn refused_store(rt: HostRuntime) -> Result<(), Fail> {
+    let declared = declared(&rt, rt.alloc(), TWO_HUNKS, 28)?;
+    let pieces = all_memory(rt.alloc())?;
+    let unplaced = declared.place(&Listed([0x10000, 0x20000].as_slice())).err();
+    drop(pieces);
+    came_back(&rt, unplaced.as_ref(), Reason::OutOfMemory);
+    Ok(())
+}
+
+/// Nothing is reserved by the number of hunks.
+#[test]
+fn no_reserve(rt: HostRuntime) -> Result<(), Fail> {
+    let bytes = spelled(rt.alloc(), "3F3 0 10000 0 FFFF")?;
+    let pieces = all_memory(rt.alloc())?;
+    let mut counted = Counted::new(rt.alloc(), 1_000);
+    let fed = counted.feed(&rt, bytes.as_slice());
+    drop(pieces);
+    assert_eq!(rt; fed, Ok(20));
+    assert_eq!(rt; counted.loader.held(), 0);
+    Ok(())
+}
+
+/// The bytes of the image of the computed file, and whether a further growth is refused beside it.
+fn loads_computed(alloc: Global, source: &mut Computed) -> (Result<u64, LoadFault>, bool) {
+    let limits = Limits {
+        budget: 1_000,
+        file_bytes: 2_000_000,
+    };
+    match load(alloc, source, limits, &Packed { start: 0x21000 }) {
+        Ok(image) => (Ok(image.bytes()), is_refused(alloc, ROWS)),
+        Err(fault) => (Err(fault), false),
+    }
+}
+
+/// The same while there is no memory but a room for the rows and one for the store.
+fn loads_in_two_rooms(
+    alloc: Global,
+    source: &mut Computed,
+) -> Result<(Result<u64, LoadFault>, bool), AllocError> {
+    let rows = Vec::<u8>::with_capacity(alloc, ROWS)?;
+    let store = Vec::<u8>::with_capacity(alloc, 4)?;
+    let pieces = all_memory(alloc)?;
+    drop(rows);
+    drop(store);
+    let answer = loads_computed(alloc, source);
+    drop(pieces);
+    Ok(answer)
+}
+
+/// A load asks for the rows and the store alone: a file of a MiB is loaded while a third growth is
+/// refused.
+#[test]
+fn two_growths(rt: HostRuntime) -> Result<(), Fail> {
+    let front = spelled(rt.alloc(), "3F3 0 1 0 0 1 / 3E9 1 4E754E71 / 3F1 40000")?;
+    let mut source = Computed {
+        front: front.as_slice(),
+        at: 0,
+    };
+    let answer = loads_in_two_rooms(rt.alloc(), &mut source)?;
+    assert_eq!(rt; answer, (Ok(4), true));
+    assert_eq!(rt; source.at, COMPUTED);
+    Ok(())
+}
+
+/// What a header's loader answers for its table and for one size more, and whether the rows' room is
+/// taken behind the first and free behind the second.
+fn fills_and_frees(
+    rt: &impl Abort,
+    alloc: Global,
+    counted: &mut Counted,
+    table: &[u8],
+) -> [(Result<usize, LoadFault>, bool); 2] {
+    let first = counted.feed(rt, table);
+    let is_taken = is_refused(alloc, ROWS);
+    let second = counted.feed(rt, [0, 0, 0, 1].as_slice());
+    let is_free = !is_refused(alloc, ROWS);
+    [(first, is_taken), (second, is_free)]
+}
+
+/// A loader that refuses gives its rows' memory back: the only room for them can be taken again.
+#[test]
+fn frees_rows(rt: HostRuntime) -> Result<(), Fail> {
+    let bytes = spelled(rt.alloc(), "3F3 0 2 0 1 2")?;
+    let room = Vec::<u8>::with_capacity(rt.alloc(), ROWS)?;
+    let pieces = all_memory(rt.alloc())?;
+    drop(room);
+    let mut counted = Counted::new(rt.alloc(), 8);
+    let answers = fills_and_frees(&rt, rt.alloc(), &mut counted, bytes.as_slice());
+    drop(pieces);
+    let reason = Reason::Budget;
+    let over = LoadFault { place: 24, reason };
+    assert_eq!(rt; answers, [(Ok(24), true), (Err(over), true)]);
+    Ok(())
+}
