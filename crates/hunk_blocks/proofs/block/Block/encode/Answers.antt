@@ -23,18 +23,18 @@ put_body-requires-clause-room g c = omega (arith, c.requires, size c.args.self.n
 
 pub returns-in_err-put_long-clause-puts : goal.returns-in_err-put_long-clause-puts
 returns-in_err-put_long-clause-puts g c =
-    (stops_first (bytes_of (body_text (body_of c.self.inside.body))) (split c.args.self.now c.self.inside.word c.word.result (body_of c.self.inside.body) c.self.view_is c.word.ensures)
-    (long_writes g.W.Sink.taken g.W.Sink.failed c.args.writer.now c.put_long.new.self c.put_long.result c.word.result c.put_long.ensures.puts c.put_long.ensures.whole c.put_long.ensures.told c.put_long.ensures.failed c.put_long.ensures.stops c.put_long.ensures.stays c.put_long.ensures.quiet)
+    (stops_first (bytes_of (body_text (body_of c.self.inside.body))) (split c.args.self.now c.self.inside.word _ (body_of c.self.inside.body) c.self.view_is (omega (arith, c.word.ensures)))
+    (long_writes g.W.Sink.taken g.W.Sink.failed c.args.writer.now c.put_long.new.self c.put_long.result _ c.put_long.ensures.puts c.put_long.ensures.whole c.put_long.ensures.told c.put_long.ensures.failed c.put_long.ensures.stops c.put_long.ensures.stays c.put_long.ensures.quiet)
     c.in_err-put_long.was c.from_residual.ensures.1).puts
 
 pub returns-clause-puts : goal.returns-clause-puts
 returns-clause-puts g c =
-    (writes_two (split c.args.self.now c.self.inside.word c.word.result (body_of c.self.inside.body) c.self.view_is c.word.ensures)
-    (long_writes g.W.Sink.taken g.W.Sink.failed c.args.writer.now c.put_long.new.self c.put_long.result c.word.result c.put_long.ensures.puts c.put_long.ensures.whole c.put_long.ensures.told c.put_long.ensures.failed c.put_long.ensures.stops c.put_long.ensures.stays c.put_long.ensures.quiet)
+    (writes_two (split c.args.self.now c.self.inside.word _ (body_of c.self.inside.body) c.self.view_is (omega (arith, c.word.ensures)))
+    (long_writes g.W.Sink.taken g.W.Sink.failed c.args.writer.now c.put_long.new.self c.put_long.result _ c.put_long.ensures.puts c.put_long.ensures.whole c.put_long.ensures.told c.put_long.ensures.failed c.put_long.ensures.stops c.put_long.ensures.stays c.put_long.ensures.quiet)
     c.in_ok-put_long.was c.put_body.ensures).puts
 
 pub returns-clause-whole : goal.returns-clause-whole
 returns-clause-whole g c =
-    (writes_two (split c.args.self.now c.self.inside.word c.word.result (body_of c.self.inside.body) c.self.view_is c.word.ensures)
-    (long_writes g.W.Sink.taken g.W.Sink.failed c.args.writer.now c.put_long.new.self c.put_long.result c.word.result c.put_long.ensures.puts c.put_long.ensures.whole c.put_long.ensures.told c.put_long.ensures.failed c.put_long.ensures.stops c.put_long.ensures.stays c.put_long.ensures.quiet)
+    (writes_two (split c.args.self.now c.self.inside.word _ (body_of c.self.inside.body) c.self.view_is (omega (arith, c.word.ensures)))
+    (long_writes g.W.Sink.taken g.W.Sink.failed c.args.writer.now c.put_long.new.self c.put_long.result _ c.put_long.ensures.puts c.put_long.ensures.whole c.put_long.ensures.told c.put_long.ensures.failed c.put_long.ensures.stops c.put_long.ensures.stays c.put_long.ensures.quiet)
     c.in_ok-put_long.was c.put_body.ensures).whole
