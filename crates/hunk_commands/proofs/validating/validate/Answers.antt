@@ -55,7 +55,7 @@ returns-clause-ok g c =
     let after = g.W.Sink.taken c.put_report.new.w.sink in
     let read = is_read a b c.args.file_bytes c.in_ok-input.input.items c.as_slice.result.now c.in_ok-input.ensures.given c.in_ok-input.ensures.at_end c.in_ok-input.ensures.bound c.as_slice.ensures.value in
     let count = finding_count c.in_ok-checked.checked in
-    subst (λ (n : ℕ). WritesAll (IsValidated n) a b c.args.file_bytes before after c.put_report.new.w.written) (sym c.count.ensures)
+    subst (λ (n : ℕ). WritesAll (IsValidated n) a b c.args.file_bytes before after c.put_report.new.w.written) (omega (arith, c.count.ensures))
     (writes_all (IsValidated count) a b c.args.file_bytes before after c.args.w.now.written c.put_report.new.w.written c.as_slice.result.now (report c.in_ok-checked.checked) (report c.in_ok-checked.checked) read
     (validated_checked c.as_slice.result.now c.in_ok-checked.checked c.in_ok-checked.ensures.ok) refl c.requires c.in_ok-put_report.ensures.puts c.in_ok-put_report.ensures.whole)
 
