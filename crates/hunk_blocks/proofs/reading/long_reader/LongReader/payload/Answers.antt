@@ -1,5 +1,4 @@
-use Rattle.std.proofs.Common.{◌≡◌, ◌+◌, ◌*◌, ◌++◌, length, ap, subst, ◌∙◌, refl, arith, rules}
-use Rattle.std.proofs.lemmas.List.{take_all}
+use Rattle.std.proofs.Common.{◌≡◌, ◌+◌, ◌*◌, ◌++◌, length, ap, subst, ◌∙◌, refl, arith}
 use Rattle.hunk_words.specs.Longs.{longs}
 use Rattle.hunk_words.proofs.LongLaws.{length-longs}
 use Rattle.hunk_blocks.specs.Reading.{Unread, Reads}
@@ -11,14 +10,11 @@ returns-then-self-length-clause-short c = omega (arith, ap (λ u. length u.rest)
 
 -- the cut in two
 module _ (c : goal.After-of) where
-  front : c.of.result ≡ c.split_at.result.0.now
-  front = c.of.ensures ∙ search (rules, take_all)
-
   parts : longs c.self.inside.rest.now ≡ longs c.of.result ++ longs c.split_at.result.1.now
-  parts = longs-cut c.self.inside.rest.now c.of.result c.split_at.result.1.now c.args.count (front ∙ c.split_at.ensures.front) c.split_at.ensures.back
+  parts = longs-cut c.self.inside.rest.now c.of.result c.split_at.result.1.now c.args.count (c.of.ensures ∙ c.split_at.ensures.front) c.split_at.ensures.back
 
   many : length (longs c.of.result) ≡ c.args.count
-  many = omega (arith, length-longs c.of.result, ap length front, c.split_at.ensures.front_len)
+  many = omega (arith, length-longs c.of.result, ap length c.of.ensures, c.split_at.ensures.front_len)
 
 pub invariant_of-self : goal.invariant_of-self
 invariant_of-self c =
