@@ -36,7 +36,7 @@ read c =
 
 pub returns-clause-block : goal.returns-clause-block
 returns-clause-block c =
-    subst (BeginsWithBlock c.args.mode c.args.bytes.now (block c.of-word.result (body_of c.in_ok-body.body))) (sym c.place-len.ensures) (read c)
+    subst (BeginsWithBlock c.args.mode c.args.bytes.now (block c.of-word.result (body_of c.in_ok-body.body))) (omega (arith, c.place-len.ensures)) (read c)
 
 pub invariant_of-result : goal.invariant_of-result
 invariant_of-result c =

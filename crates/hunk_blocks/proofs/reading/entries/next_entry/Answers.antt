@@ -1,5 +1,6 @@
 use Rattle.hunk_blocks.proofs.ListReading.{on_err, if_err_and, Reads-nil}
-use Rattle.std.proofs.Common.{[], ◌∷◌, sym, ◌∙◌}
+use Rattle.std.proofs.Common.{[], ◌∷◌, sym, ap, arith, ◌∙◌}
+use Rattle.hunk_words.specs.declared.reason.Reason.TheVariants as reasons
 use Rattle.hunk_blocks.specs.Values.{IsExtEntry}
 use Rattle.hunk_blocks.specs.Parts.{ext_text}
 use Rattle.hunk_blocks.proofs.FrontLaws.{empty_front}
@@ -52,4 +53,4 @@ returns-in_err-common-in-Shares-clause-first c =
 
 pub returns-in-Refused-clause-first : goal.returns-in-Refused-clause-first
 returns-in-Refused-clause-first c =
-    type_fault c.args.reader.now c.long.new.self _ c.in_ok-word.word c.in_ok-word.ensures.read (rw c.place-place.ensures) (sym c.shape_of.ensures ∙ c.in-Refused.is)
+    type_fault c.args.reader.now c.long.new.self _ c.in_ok-word.word c.in_ok-word.ensures.read (ap (λ place. record { place = place; reason = reasons.ExtKind }) (omega (arith, c.place-place.ensures))) (sym c.shape_of.ensures ∙ c.in-Refused.is)

@@ -1,4 +1,5 @@
-use Rattle.std.proofs.Common.{◌^◌, [], ◌∷◌, ◌∙◌, sym, arith}
+use Rattle.std.proofs.Common.{◌^◌, [], ◌∷◌, ◌∙◌, ap, sym, arith}
+use Rattle.hunk_words.specs.declared.reason.Reason.TheVariants as reasons
 use Rattle.hunk_blocks.specs.Values.{IsPayload}
 use Rattle.hunk_blocks.specs.Parts.{counted_text}
 use Rattle.hunk_blocks.proofs.ListReading.{cut-Reads, if_err_and, if_err_with}
@@ -13,7 +14,7 @@ returns-in_err-count-clause-first c =
 
 pub returns-then-count-ge-NAME_LIMIT-clause-first : goal.returns-then-count-ge-NAME_LIMIT-clause-first
 returns-then-count-ge-NAME_LIMIT-clause-first c =
-    name_refused c.args.reader.now c.long.new.self _ c.in_ok-count.count c.in_ok-count.ensures.read (rw c.place-place.ensures) (omega (arith, c.if-count-ge-NAME_LIMIT.true))
+    name_refused c.args.reader.now c.long.new.self _ c.in_ok-count.count c.in_ok-count.ensures.read (ap (λ place. record { place = place; reason = reasons.NameWord }) (omega (arith, c.place-place.ensures))) (omega (arith, c.if-count-ge-NAME_LIMIT.true))
 
 pub returns-clause-first : goal.returns-clause-first
 returns-clause-first c =

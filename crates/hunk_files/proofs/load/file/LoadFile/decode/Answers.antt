@@ -1,4 +1,4 @@
-use Rattle.std.proofs.Common.{List, take, sym, ap, ◌∙◌, subst}
+use Rattle.std.proofs.Common.{List, ℕ, take, sym, ap, ◌∙◌, subst, arith}
 use Rattle.std.proofs.lemmas.Result.{err_from_is_err_and}
 use Rattle.hunk_words.specs.Longs.{bytes_of}
 use Rattle.hunk_blocks.proofs.ListReading.{if_err}
@@ -35,7 +35,8 @@ returns-clause-value c =
 pub returns-clause-text : goal.returns-clause-text
 returns-clause-text c =
     let file = whole_file c.args.bytes.now c.in_ok-size.size c.in_ok-size.ensures in
-    c.in_ok-size.ensures.text_is ∙ ap (λ (v : LoadFileValue). bytes_of (text v)) (sym (c.in_ok-hunks.ensures.hunks file))
+    ap (λ (n : ℕ). take n c.args.bytes.now) (omega arith)
+    ∙ c.in_ok-size.ensures.text_is ∙ ap (λ (v : LoadFileValue). bytes_of (text v)) (sym (c.in_ok-hunks.ensures.hunks file))
 
 pub returns-in_err-size-clause-none : goal.returns-in_err-size-clause-none
 returns-in_err-size-clause-none c =
