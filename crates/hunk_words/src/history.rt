@@ -43,7 +43,8 @@ impl Model for Outset {
 
 impl Outset {
     pub(crate) fn of<W: Sink>(_writer: &LongWriter<W>) -> Outset
-        ensures { (result.taken ≡ W.taken _writer.now.sink) × (result.failed ≡ W.failed _writer.now.sink) }
+        ensures { (result.taken ≡ W.taken _writer.now.sink)
+            × (result.failed ≡ W.failed _writer.now.sink) }
     {
         Outset {}
     }

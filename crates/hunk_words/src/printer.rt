@@ -13,8 +13,8 @@ use std::marker::Model;
 /// A printer with a page for a whole text.
 pub type Printer<'a, W> = PagePrinter<'a, W, PAGE>;
 
-/// Prints a text through a page of fixed size, which goes out when it is full, and at `flush`. Where
-/// the page has no room at all, each piece that is printed goes out at once.
+/// Prints a text through a page of fixed size, which goes out when it is full, and at `flush`.
+/// Where the page has no room at all, each piece that is printed goes out at once.
 ///
 /// Contracts see the text that was printed so far. A failure of the writer is kept for `flush`:
 /// what is printed after it goes nowhere.
