@@ -1,5 +1,5 @@
 //! The lines of a block.
-ghost use Rattle.std.specs.Prelude.{◌≡◌, ◌*◌, ◌%◌, ◌^◌, ◌<◌, ◌≤◌, ◌++◌, length, map, codes, decimal};
+ghost use Rattle.std.specs.Prelude.{◌≡◌, ◌*◌, ◌%◌, ◌^◌, ◌<◌, ◌≤◌, ◌+◌, ◌++◌, length, map, codes, decimal};
 ghost use Rattle.hunk_words.specs.Prints.{Prints};
 ghost use Rattle.hunk_words.specs.Longs.{longs};
 ghost use Rattle.hunk_words.specs.Bits.{size_longs};
@@ -8,7 +8,7 @@ ghost use Rattle.hunk_blocks.specs.Views.{entry_of, group_of, symbol_of};
 ghost use Rattle.hunk_listing.specs.BlockLines.{advisory_line, block_lines, body_lines, count_line, end_line, group_lines, head, name_line, offset_count, size_line, symbol_line};
 
 use crate::entry::print_entry;
-use crate::line::Line;
+use crate::line::{LINE, Line};
 use crate::names::{put_block_flags, put_kind, put_memory_flags};
 use crate::text::{print_name, print_offset_behind};
 use hunk_blocks::{Block, Body, Entries, Group, Groups, Named, Payload, Symbols};
@@ -35,24 +35,24 @@ pub(crate) fn print_block<W: Sink>(page: &mut Printer<'_, W>, block: &Block<'_>)
     }
 }
 
-// A line that begins with two spaces, the block's name and its flags.
+// Two spaces, the block's name and its flags.
 #[tactic(auto, unfolding(crate::specs::BlockLines::head))]
-fn begin_block_line(word: BlockWord) -> Line
-    ensures text { result ≡ head word }
-    ensures short { length result ≤ 33 }
+fn put_head(line: &mut Line, word: BlockWord)
+    requires { length line.old + 33 ≤ LINE }
+    ensures text { line.new ≡ line.old ++ head word }
+    ensures short { length line.new ≤ length line.old + 33 }
 {
-    let mut line = Line::new();
     line.put(b"  ");
-    put_kind(&mut line, word.kind());
-    put_block_flags(&mut line, word);
-    line
+    put_kind(line, word.kind());
+    put_block_flags(line, word);
 }
 
 #[tactic(auto, unfolding(crate::specs::BlockLines::name_line))]
 fn print_name_line<W: Sink>(page: &mut Printer<'_, W>, word: BlockWord, name: &Payload<'_>)
     ensures { Prints page.old page.new (name_line word (longs name.now)) }
 {
-    let mut line = begin_block_line(word);
+    let mut line = Line::new();
+    put_head(&mut line, word);
     line.put(b" ");
     line.print(page);
     print_name(page, name);
@@ -63,7 +63,8 @@ fn print_name_line<W: Sink>(page: &mut Printer<'_, W>, word: BlockWord, name: &P
 fn print_size<W: Sink>(page: &mut Printer<'_, W>, word: BlockWord, size: u64)
     ensures { Prints page.old page.new (size_line word size) }
 {
-    let mut line = begin_block_line(word);
+    let mut line = Line::new();
+    put_head(&mut line, word);
     line.put(b" ");
     line.put_decimal(size);
     line.put(b" bytes\n");
@@ -98,7 +99,8 @@ pub(crate) fn payload_bytes(payload: &Payload<'_>) -> u64
 fn print_count<W: Sink>(page: &mut Printer<'_, W>, word: BlockWord, count: u64)
     ensures { Prints page.old page.new (count_line word count) }
 {
-    let mut line = begin_block_line(word);
+    let mut line = Line::new();
+    put_head(&mut line, word);
     line.put(b" ");
     line.put_decimal(count);
     line.put(b"\n");
@@ -109,7 +111,8 @@ fn print_count<W: Sink>(page: &mut Printer<'_, W>, word: BlockWord, count: u64)
 fn print_end<W: Sink>(page: &mut Printer<'_, W>, word: BlockWord)
     ensures { Prints page.old page.new (end_line word) }
 {
-    let mut line = begin_block_line(word);
+    let mut line = Line::new();
+    put_head(&mut line, word);
     line.put(b"\n");
     line.print(page);
 }
