@@ -20,6 +20,3 @@ pub use crate::groups::{Group, Groups};
 pub use crate::mode::Mode;
 pub use crate::payload::{Longs, Payload};
 pub use crate::symbols::{Named, Symbols};
-
-#[cfg(test)]
-mod tests;

@@ -1,7 +1,7 @@
 //! What a block that was read tells.
 
-use crate::tests::spelled;
-use crate::{Block, Body, Mode, Payload};
+use hunk_blocks::{Block, Body, Mode, Payload};
+use hunk_testing::bytes_of;
 use std::test::Fail;
 
 #[test]
@@ -13,13 +13,13 @@ fn of_words_and_sizes(rt: HostRuntime) -> Result<(), Fail> {
         (0x8000_03F2, 4),
     ];
     for (word, flags) in rows {
-        let bytes = spelled(rt.alloc(), [word].as_slice())?;
+        let bytes = bytes_of(rt.alloc(), [word].as_slice())?;
         let (block, _) = Block::decode(rt.alloc(), bytes.as_slice(), Mode::Load)?;
         assert_eq!(rt; block.word().flags(), flags);
         assert_eq!(rt; block.word().word(), word);
         assert!(rt; matches!(block.body(), Body::End));
     }
-    let bytes = spelled(rt.alloc(), [0x3EB, 0x8000_0002].as_slice())?;
+    let bytes = bytes_of(rt.alloc(), [0x3EB, 0x8000_0002].as_slice())?;
     let (block, _) = Block::decode(rt.alloc(), bytes.as_slice(), Mode::Object)?;
     assert!(rt; matches!(block.body(), Body::Bss { size: 0x8000_0002 }));
     Ok(())
@@ -27,7 +27,7 @@ fn of_words_and_sizes(rt: HostRuntime) -> Result<(), Fail> {
 
 #[test]
 fn of_payloads(rt: HostRuntime) -> Result<(), Fail> {
-    let bytes = spelled(rt.alloc(), [0x3EA, 0x8000_0001, 0x1234_5678].as_slice())?;
+    let bytes = bytes_of(rt.alloc(), [0x3EA, 0x8000_0001, 0x1234_5678].as_slice())?;
     let (block, _) = Block::decode(rt.alloc(), bytes.as_slice(), Mode::Load)?;
     match block.body() {
         Body::Data { top, payload } => {
@@ -43,7 +43,7 @@ fn of_payloads(rt: HostRuntime) -> Result<(), Fail> {
 
 #[test]
 fn of_groups_and_symbols(rt: HostRuntime) -> Result<(), Fail> {
-    let bytes = spelled(rt.alloc(), [0x3EC, 2, 1, 8, 4, 1, 0, 12, 0].as_slice())?;
+    let bytes = bytes_of(rt.alloc(), [0x3EC, 2, 1, 8, 4, 1, 0, 12, 0].as_slice())?;
     let (block, _) = Block::decode(rt.alloc(), bytes.as_slice(), Mode::Load)?;
     match block.body() {
         Body::Reloc(groups) => {
@@ -56,7 +56,7 @@ fn of_groups_and_symbols(rt: HostRuntime) -> Result<(), Fail> {
         }
         _ => panic!(&rt; "RELOC32"),
     }
-    let bytes = spelled(
+    let bytes = bytes_of(
         rt.alloc(),
         [0x3F0, 0x0500_0001, 0x5F6D_0000, 9, 0].as_slice(),
     )?;
@@ -88,7 +88,7 @@ fn of_entries(rt: HostRuntime) -> Result<(), Fail> {
         5,
         0,
     ];
-    let bytes = spelled(rt.alloc(), longs.as_slice())?;
+    let bytes = bytes_of(rt.alloc(), longs.as_slice())?;
     let (block, _) = Block::decode(rt.alloc(), bytes.as_slice(), Mode::Object)?;
     match block.body() {
         Body::Ext(entries) => {
@@ -112,9 +112,9 @@ fn of_entries(rt: HostRuntime) -> Result<(), Fail> {
 #[test]
 fn of_groups_in_turn(rt: HostRuntime) -> Result<(), Fail> {
     let words = [0x3EC, 1, 0, 4, 2, 1, 8, 12, 0];
-    let bytes = spelled(rt.alloc(), words.as_slice())?;
+    let bytes = bytes_of(rt.alloc(), words.as_slice())?;
     let (block, _) = Block::decode(rt.alloc(), bytes.as_slice(), Mode::Load)?;
-    let none = spelled(rt.alloc(), [0x3EC, 0].as_slice())?;
+    let none = bytes_of(rt.alloc(), [0x3EC, 0].as_slice())?;
     let (empty, _) = Block::decode(rt.alloc(), none.as_slice(), Mode::Load)?;
     match (block.body(), empty.body()) {
         (Body::Reloc(groups), Body::Reloc(none)) => {
