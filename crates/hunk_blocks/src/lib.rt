@@ -24,6 +24,3 @@ pub use crate::longs::{Longs, LongsIter};
 pub use crate::mode::Mode;
 pub use crate::payload::Payload;
 pub use crate::symbols::{Named, Symbols};
-
-#[cfg(test)]
-mod tests;

@@ -22,14 +22,3 @@ fn wanted(number: u64, reason: Option<Reason>) -> Result<usize, BlockFault> {
         }),
     }
 }
-
-/// The bytes of the longwords.
-fn spelled(alloc: Global, longs: &[u32]) -> Result<Vec<u8>, AllocError> {
-    let mut bytes = Vec::new(alloc);
-    for long in longs {
-        for byte in long.to_be_bytes() {
-            bytes.push(byte)?;
-        }
-    }
-    Ok(bytes)
-}

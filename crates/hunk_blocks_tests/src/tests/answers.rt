@@ -1,7 +1,8 @@
 //! How many bytes a block has, or where it is refused and why.
 
-use crate::tests::{Row, spelled, wanted};
-use crate::{Block, Mode};
+use crate::tests::{Row, wanted};
+use hunk_blocks::{Block, Mode};
+use hunk_testing::bytes_of;
 use hunk_words::{BlockFault, Reason};
 use std::alloc::{AllocError, Global};
 use std::test::Fail;
@@ -12,7 +13,7 @@ fn answer(
     longs: &[u32],
     mode: Mode,
 ) -> Result<Result<usize, BlockFault>, AllocError> {
-    let bytes = spelled(alloc, longs)?;
+    let bytes = bytes_of(alloc, longs)?;
     match Block::decode(alloc, bytes.as_slice(), mode) {
         Ok((_, count)) => Ok(Ok(count)),
         Err(fault) => Ok(Err(fault)),

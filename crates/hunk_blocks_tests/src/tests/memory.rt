@@ -1,31 +1,15 @@
 //! Blocks while no growth is granted.
 
-use crate::tests::{Row, spelled, wanted};
-use crate::{Block, Mode};
+use crate::tests::{Row, wanted};
+use hunk_blocks::{Block, Mode};
+use hunk_testing::{all_memory, bytes_of};
 use hunk_words::{BlockFault, Reason};
 use std::alloc::{AllocError, Global};
 use std::test::Fail;
 
-/// All the memory that the allocator gives, in ever smaller pieces: while they are held, the next
-/// growth is refused.
-fn all_memory(alloc: Global) -> Result<Vec<Vec<u8>>, AllocError> {
-    let mut pieces = Vec::with_capacity(alloc, 60_000)?;
-    let mut size = 1usize << 46;
-    for _ in 0..44u64 {
-        for _ in 0..10_000u64 {
-            match Vec::<u8>::with_capacity(alloc, size) {
-                Ok(piece) => pieces.push(piece)?,
-                Err(_) => break,
-            }
-        }
-        size /= 2;
-    }
-    Ok(pieces)
-}
-
 /// What is answered for the longwords with the first growth refused.
 fn starved(alloc: Global, longs: &[u32]) -> Result<Result<usize, BlockFault>, AllocError> {
-    let bytes = spelled(alloc, longs)?;
+    let bytes = bytes_of(alloc, longs)?;
     let pieces = all_memory(alloc)?;
     let result = match Block::decode(alloc, bytes.as_slice(), Mode::Object) {
         Ok((_, count)) => Ok(count),

@@ -1,9 +1,9 @@
 //! Texts that are written again, whole and to sinks that stop.
 ghost use Rattle.std.specs.Prelude.{◌≤◌, None};
 
-use crate::tests::spelled;
 use crate::tests::texts::TEXTS;
-use crate::{Block, Mode};
+use hunk_blocks::{Block, Mode};
+use hunk_testing::bytes_of;
 use hunk_words::{BlockFault, Failed, FromWrite, LongWriter, Reason, Sink, WriteFault};
 use std::io;
 use std::io::Write;
@@ -71,7 +71,7 @@ impl Write for Full {
 #[test]
 fn what_was_read(rt: HostRuntime) -> Result<(), Fail> {
     for longs in TEXTS {
-        let mut bytes = spelled(rt.alloc(), longs)?;
+        let mut bytes = bytes_of(rt.alloc(), longs)?;
         let whole = bytes.len();
         for n in 0..whole {
             let place = n as u64 / 4 * 4;
@@ -102,7 +102,7 @@ fn what_was_read(rt: HostRuntime) -> Result<(), Fail> {
 #[test]
 fn to_a_sink_that_stops(rt: HostRuntime) -> Result<(), Fail> {
     for longs in TEXTS {
-        let bytes = spelled(rt.alloc(), longs)?;
+        let bytes = bytes_of(rt.alloc(), longs)?;
         let (block, whole) = Block::decode(rt.alloc(), bytes.as_slice(), Mode::Object)?;
         assert!(rt; block.encoded_len() < 1000);
         for room in 0..whole {
@@ -126,7 +126,7 @@ fn to_a_sink_that_stops(rt: HostRuntime) -> Result<(), Fail> {
 /// The block of example 33 at a sink that takes six bytes.
 #[test]
 fn six_bytes(rt: HostRuntime) -> Result<(), Fail> {
-    let bytes = spelled(rt.alloc(), [0x3E9, 1, 0x4E75_4E71].as_slice())?;
+    let bytes = bytes_of(rt.alloc(), [0x3E9, 1, 0x4E75_4E71].as_slice())?;
     let (block, _) = Block::decode(rt.alloc(), bytes.as_slice(), Mode::Load)?;
     let mut writer = LongWriter::new(Limited::of(6));
     assert!(rt; block.encoded_len() == 12);

@@ -1,7 +1,7 @@
 //! What a block that was read tells.
 
-use crate::tests::spelled;
-use crate::{Block, Body, Groups, Mode, Payload};
+use hunk_blocks::{Block, Body, Groups, Mode, Payload};
+use hunk_testing::bytes_of;
 use std::alloc::{AllocError, Global};
 use std::test::Fail;
 
@@ -14,13 +14,13 @@ fn of_words_and_sizes(rt: HostRuntime) -> Result<(), Fail> {
         (0x8000_03F2, 4),
     ];
     for (word, flags) in rows {
-        let bytes = spelled(rt.alloc(), [word].as_slice())?;
+        let bytes = bytes_of(rt.alloc(), [word].as_slice())?;
         let (block, _) = Block::decode(rt.alloc(), bytes.as_slice(), Mode::Load)?;
         assert_eq!(rt; block.word().flags(), flags);
         assert_eq!(rt; block.word().word(), word);
         assert!(rt; matches!(block.body(), Body::End));
     }
-    let bytes = spelled(rt.alloc(), [0x3EB, 0x8000_0002].as_slice())?;
+    let bytes = bytes_of(rt.alloc(), [0x3EB, 0x8000_0002].as_slice())?;
     let (block, _) = Block::decode(rt.alloc(), bytes.as_slice(), Mode::Object)?;
     assert!(rt; matches!(block.body(), Body::Bss { size: 0x8000_0002 }));
     Ok(())
@@ -28,7 +28,7 @@ fn of_words_and_sizes(rt: HostRuntime) -> Result<(), Fail> {
 
 #[test]
 fn of_payloads(rt: HostRuntime) -> Result<(), Fail> {
-    let bytes = spelled(rt.alloc(), [0x3EA, 0x8000_0001, 0x1234_5678].as_slice())?;
+    let bytes = bytes_of(rt.alloc(), [0x3EA, 0x8000_0001, 0x1234_5678].as_slice())?;
     let (block, _) = Block::decode(rt.alloc(), bytes.as_slice(), Mode::Load)?;
     match block.body() {
         Body::Data { top, payload } => {
@@ -44,7 +44,7 @@ fn of_payloads(rt: HostRuntime) -> Result<(), Fail> {
 
 #[test]
 fn of_groups_and_symbols(rt: HostRuntime) -> Result<(), Fail> {
-    let bytes = spelled(rt.alloc(), [0x3EC, 2, 1, 8, 4, 1, 0, 12, 0].as_slice())?;
+    let bytes = bytes_of(rt.alloc(), [0x3EC, 2, 1, 8, 4, 1, 0, 12, 0].as_slice())?;
     let (block, _) = Block::decode(rt.alloc(), bytes.as_slice(), Mode::Load)?;
     match block.body() {
         Body::Reloc(groups) => {
@@ -57,7 +57,7 @@ fn of_groups_and_symbols(rt: HostRuntime) -> Result<(), Fail> {
         }
         _ => panic!(&rt; "RELOC32"),
     }
-    let bytes = spelled(
+    let bytes = bytes_of(
         rt.alloc(),
         [0x3F0, 0x0500_0001, 0x5F6D_0000, 9, 0].as_slice(),
     )?;
@@ -89,7 +89,7 @@ fn of_entries(rt: HostRuntime) -> Result<(), Fail> {
         5,
         0,
     ];
-    let bytes = spelled(rt.alloc(), longs.as_slice())?;
+    let bytes = bytes_of(rt.alloc(), longs.as_slice())?;
     let (block, _) = Block::decode(rt.alloc(), bytes.as_slice(), Mode::Object)?;
     match block.body() {
         Body::Ext(entries) => {
@@ -114,7 +114,7 @@ fn of_entries(rt: HostRuntime) -> Result<(), Fail> {
 
 /// The targets and offsets of a relocation block, in turn; nothing where it has no group.
 fn relocations(alloc: Global, longs: &[u32]) -> Result<Option<Vec<(u32, u32)>>, AllocError> {
-    let bytes = spelled(alloc, longs)?;
+    let bytes = bytes_of(alloc, longs)?;
     match Block::decode(alloc, bytes.as_slice(), Mode::Load) {
         Ok((block, _)) => match block.body() {
             Body::Reloc(groups) if !groups.is_empty() => Ok(Some(in_turn(alloc, groups)?)),
