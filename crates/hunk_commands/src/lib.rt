@@ -9,8 +9,6 @@ mod input;
 mod relocating;
 mod rewriting;
 mod showing;
-#[cfg(test)]
-mod tests;
 mod validating;
 
 pub use crate::fault::{OUT_OF_MEMORY, RunFault};

@@ -8,8 +8,6 @@ mod order;
 mod place;
 mod row;
 mod sniffing;
-#[cfg(test)]
-mod tests;
 mod writing;
 
 pub use crate::load::{ImageFault, LoadFile};

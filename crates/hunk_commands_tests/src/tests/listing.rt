@@ -1,11 +1,7 @@
 //! What `show`, `validate` and `rewrite` make of the sample files.
 
-use crate::fault::RunFault;
-use crate::hex_text::unhex;
-use crate::rewriting::{Rewritten, rewrite};
-use crate::showing::show;
 use crate::tests::samples::{AGAIN, BAD, CHECKED, SHOWN};
-use crate::validating::validate;
+use hunk_commands::{Rewritten, RunFault, rewrite, show, unhex, validate};
 use hunk_words::{Fault, FromSlice, FromWrite, LongWriter};
 use std::test::Fail;
 

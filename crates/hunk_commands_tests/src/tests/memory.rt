@@ -1,44 +1,12 @@
 //! The engine functions with their growths refused one by one.
 
-use crate::fault::RunFault;
-use crate::relocating::relocate;
-use crate::rewriting::rewrite;
-use crate::showing::show;
 use crate::tests::ends::wide;
-use crate::tests::relocating::{EXAMPLE_1, LIMITS, bytes_of};
-use crate::validating::validate;
+use crate::tests::relocating::{EXAMPLE_1, LIMITS};
+use hunk_commands::{RunFault, relocate, rewrite, show, validate};
+use hunk_testing::{all_memory, bytes_of};
 use hunk_words::FromSlice;
 use std::alloc::{AllocError, Global};
 use std::test::Fail;
-
-/// Takes pieces of this size until one is refused.
-fn take_pieces(alloc: Global, size: usize, pieces: &mut Vec<Vec<u8>>) -> Result<(), AllocError> {
-    for _ in 0..10_000u64 {
-        match Vec::<u8>::with_capacity(alloc, size) {
-            Ok(piece) => pieces.push(piece)?,
-            Err(_) => break,
-        }
-    }
-    Ok(())
-}
-
-/// All the memory that the allocator gives, in ever smaller pieces: while they are held, the next
-/// growth is refused.
-///
-/// The allocator keeps small pieces that were freed apart by their size, 16 bytes from one to the
-/// next, and gives them to requests of that size alone: so these are asked for, too.
-fn all_memory(alloc: Global) -> Result<Vec<Vec<u8>>, AllocError> {
-    let mut pieces = Vec::with_capacity(alloc, 60_000)?;
-    let mut size = 1usize << 46;
-    for _ in 0..44u64 {
-        take_pieces(alloc, size, &mut pieces)?;
-        size /= 2;
-    }
-    for k in 0..66usize {
-        take_pieces(alloc, 8 + 16 * k, &mut pieces)?;
-    }
-    Ok(pieces)
-}
 
 // More than each call needs on example 1, and into how many steps it is divided.
 const ROOM: usize = 65_536;

@@ -1,8 +1,9 @@
 //! What is written again, and what strip leaves.
 ghost use Rattle.std.specs.Prelude.{None};
 
-use crate::LoadFile;
-use crate::tests::{ONE_HUNK, before_end, changed, spelled};
+use crate::tests::{ONE_HUNK, before_end, changed};
+use hunk_files::LoadFile;
+use hunk_testing::bytes_of;
 use hunk_words::{Failed, FromWrite, LongWriter, Sink, WriteFault};
 use std::alloc::Global;
 use std::test::Fail;
@@ -24,13 +25,13 @@ fn rewritten(alloc: Global, bytes: &[u8], strip: bool) -> Option<Vec<u8>> {
 #[test]
 fn written_again(rt: HostRuntime) -> Result<(), Fail> {
     let rows = [
-        spelled(rt.alloc(), ONE_HUNK.as_slice())?,
+        bytes_of(rt.alloc(), ONE_HUNK.as_slice())?,
         changed(rt.alloc(), 24, 0x2000_03E9)?,
         changed(rt.alloc(), 24, 0x4000_03E9)?,
         changed(rt.alloc(), 28, 0x8000_0001)?,
         changed(rt.alloc(), 36, 0x2000_03F2)?,
         before_end(rt.alloc(), [0x3F0, 1, 0x5F6D_0000, 0, 0].as_slice())?,
-        spelled(
+        bytes_of(
             rt.alloc(),
             [
                 0x3F3,
@@ -74,21 +75,21 @@ fn stripped(rt: HostRuntime) -> Result<(), Fail> {
     let rows = [
         (
             before_end(rt.alloc(), [0x3F0, 1, 0x5F6D_0000, 0, 0].as_slice())?,
-            spelled(rt.alloc(), ONE_HUNK.as_slice())?,
+            bytes_of(rt.alloc(), ONE_HUNK.as_slice())?,
         ),
         (
             before_end(rt.alloc(), [0x2000_04D2, 2, 0xDEAD_BEEF, 0x3F2].as_slice())?,
-            spelled(rt.alloc(), ONE_HUNK.as_slice())?,
+            bytes_of(rt.alloc(), ONE_HUNK.as_slice())?,
         ),
         (
-            spelled(
+            bytes_of(
                 rt.alloc(),
                 [
                     0x3F3, 0, 1, 0, 0, 1, 0x3E9, 1, 0x10, 0x3F0, 0, 0x3EC, 1, 0, 0, 0, 0x3F2,
                 ]
                 .as_slice(),
             )?,
-            spelled(
+            bytes_of(
                 rt.alloc(),
                 [
                     0x3F3, 0, 1, 0, 0, 1, 0x3E9, 1, 0x10, 0x3EC, 1, 0, 0, 0, 0x3F2,
@@ -131,7 +132,7 @@ impl Sink for Limited {
 /// A writer that takes six bytes of a file and then fails.
 #[test]
 fn stops_within(rt: HostRuntime) -> Result<(), Fail> {
-    let bytes = spelled(rt.alloc(), ONE_HUNK.as_slice())?;
+    let bytes = bytes_of(rt.alloc(), ONE_HUNK.as_slice())?;
     let (file, _) = match LoadFile::decode(rt.alloc(), bytes.as_slice()) {
         Ok(decoded) => decoded,
         Err(fault) => panic!(&rt; "{fault:?}"),

@@ -12,21 +12,11 @@ mod object_texts;
 mod readers;
 mod writing;
 
+use hunk_testing::bytes_of;
 use std::alloc::{AllocError, Global};
 
 /// One hunk of one CODE block of one longword.
 const ONE_HUNK: [u32; 10] = [0x3F3, 0, 1, 0, 0, 1, 0x3E9, 1, 0x4E75_4E71, 0x3F2];
-
-/// The bytes of the longwords.
-fn spelled(alloc: Global, longs: &[u32]) -> Result<Vec<u8>, AllocError> {
-    let mut bytes = Vec::new(alloc);
-    for long in longs {
-        for byte in long.to_be_bytes() {
-            bytes.push(byte)?;
-        }
-    }
-    Ok(bytes)
-}
 
 /// The bytes of `ONE_HUNK` with another longword at this byte.
 fn changed(alloc: Global, byte: usize, word: u32) -> Result<Vec<u8>, AllocError> {
@@ -34,7 +24,7 @@ fn changed(alloc: Global, byte: usize, word: u32) -> Result<Vec<u8>, AllocError>
     for (i, long) in ONE_HUNK.iter().enumerate() {
         longs.push(if i == byte / 4 { word } else { *long })?;
     }
-    spelled(alloc, longs.as_slice())
+    bytes_of(alloc, longs.as_slice())
 }
 
 /// The bytes of `ONE_HUNK` with these longwords before its END.
@@ -42,5 +32,5 @@ fn before_end(alloc: Global, longs: &[u32]) -> Result<Vec<u8>, AllocError> {
     let mut all = ONE_HUNK[..9].to_vec(alloc)?;
     all.extend_from_slice(longs)?;
     all.push(0x3F2)?;
-    spelled(alloc, all.as_slice())
+    bytes_of(alloc, all.as_slice())
 }

@@ -1,9 +1,9 @@
 //! Object files that are written again, whole, stripped and to a sink that stops.
 ghost use Rattle.std.specs.Prelude.{◌≡◌, None};
 
-use crate::ObjectFile;
-use crate::tests::spelled;
 use hunk_blocks::Body;
+use hunk_files::ObjectFile;
+use hunk_testing::bytes_of;
 use hunk_words::{Failed, FromWrite, LongWriter, Sink, WriteFault};
 use std::alloc::Global;
 use std::test::Fail;
@@ -196,7 +196,7 @@ fn no_bytes(alloc: Global) -> LongWriter<FromWrite<Vec<u8>>>
 #[test]
 fn what_was_read(rt: HostRuntime) -> Result<(), Fail> {
     for (longs, stripped) in TEXTS {
-        let bytes = spelled(rt.alloc(), longs)?;
+        let bytes = bytes_of(rt.alloc(), longs)?;
         let file = ObjectFile::decode(rt.alloc(), bytes.as_slice())?;
         let mut writer = no_bytes(rt.alloc());
         assert_eq!(rt; file.encode(&mut writer), Ok(()));
@@ -208,7 +208,7 @@ fn what_was_read(rt: HostRuntime) -> Result<(), Fail> {
         let kept = writer.into_inner().into_inner();
         assert_eq!(rt;
             kept.as_slice(),
-            spelled(rt.alloc(), stripped)?.as_slice(),
+            bytes_of(rt.alloc(), stripped)?.as_slice(),
             "{longs:?}"
         );
     }
@@ -218,7 +218,7 @@ fn what_was_read(rt: HostRuntime) -> Result<(), Fail> {
 #[test]
 fn to_a_sink_that_stops(rt: HostRuntime) -> Result<(), Fail> {
     for (longs, _) in TEXTS {
-        let bytes = spelled(rt.alloc(), longs)?;
+        let bytes = bytes_of(rt.alloc(), longs)?;
         let file = ObjectFile::decode(rt.alloc(), bytes.as_slice())?;
         for room in 0..bytes.len() {
             let written = room as u64;
@@ -237,7 +237,7 @@ fn to_a_sink_that_stops(rt: HostRuntime) -> Result<(), Fail> {
 #[test]
 fn what_is_told(rt: HostRuntime) -> Result<(), Fail> {
     let longs = [0x3E7, 1, 0x6100_0000, 0x3E9, 1, 0, 0x3F7, 1, 0, 0, 0, 0x3F2];
-    let bytes = spelled(rt.alloc(), longs.as_slice())?;
+    let bytes = bytes_of(rt.alloc(), longs.as_slice())?;
     let file = ObjectFile::decode(rt.alloc(), bytes.as_slice())?;
     let unit = file.units().first().ok_or("no unit")?;
     assert_eq!(rt; unit.name().bytes(), [0x61, 0, 0, 0].as_slice());

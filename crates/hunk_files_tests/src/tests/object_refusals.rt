@@ -1,7 +1,7 @@
 //! Every refusal of docs/FORMAT.md at every place of a file of two units, three hunks and an EXT block.
 
-use crate::ObjectFile;
-use crate::tests::spelled;
+use hunk_files::ObjectFile;
+use hunk_testing::bytes_of;
 use hunk_words::{FileFault, Reason};
 use std::alloc::{AllocError, Global};
 use std::test::Fail;
@@ -175,7 +175,7 @@ fn changed(alloc: Global, byte: u32, word: u32) -> Result<Vec<u8>, AllocError> {
     for (i, long) in LONGS.iter().enumerate() {
         longs.push(if i == byte as usize / 4 { word } else { *long })?;
     }
-    spelled(alloc, longs.as_slice())
+    bytes_of(alloc, longs.as_slice())
 }
 
 /// Why the file with another longword at this byte is refused there, if it is.
@@ -267,7 +267,7 @@ fn types_of_entries(rt: HostRuntime) -> Result<(), Fail> {
 /// Every prefix ends too soon, but for those that end with a unit's header or a hunk.
 #[test]
 fn prefixes(rt: HostRuntime) -> Result<(), Fail> {
-    let bytes = spelled(rt.alloc(), LONGS.as_slice())?;
+    let bytes = bytes_of(rt.alloc(), LONGS.as_slice())?;
     for n in 0..bytes.len() + 1 {
         let got = match ObjectFile::decode(rt.alloc(), &bytes[..n]) {
             Ok(file) => Ok(file.units().len()),

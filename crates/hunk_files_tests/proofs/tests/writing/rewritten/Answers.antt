@@ -2,8 +2,8 @@ use Rattle.std.proofs.Common.{◌≤◌, length, ap, arith}
 use Rattle.std.proofs.lemmas.List.{length-take-le}
 use Rattle.hunk_words.specs.Longs.{bytes_of}
 use Rattle.hunk_files.specs.LoadText.{text}
-use Rattle.hunk_files.proofs.tests.writing.rewritten.Goals.{then-strip, else-strip}
-use Rattle.hunk_files.proofs.tests.writing.rewritten.Goals as goal
+use Rattle.hunk_files_tests.proofs.tests.writing.rewritten.Goals.{then-strip, else-strip}
+use Rattle.hunk_files_tests.proofs.tests.writing.rewritten.Goals as goal
 
 pub encode-requires : goal.encode-requires
 encode-requires c =

@@ -1,43 +1,15 @@
 //! Load files while no growth is granted.
 
-use crate::tests::{ONE_HUNK, spelled};
-use crate::{ImageFault, LoadFile, ObjectFile};
+use crate::tests::ONE_HUNK;
+use hunk_files::{ImageFault, LoadFile, ObjectFile};
+use hunk_testing::{all_memory, bytes_of};
 use hunk_words::{FileFault, Reason};
 use std::alloc::{AllocError, Global};
 use std::test::Fail;
 
-/// Takes pieces of this size until one is refused.
-fn take_pieces(alloc: Global, size: usize, pieces: &mut Vec<Vec<u8>>) -> Result<(), AllocError> {
-    for _ in 0..10_000u64 {
-        match Vec::<u8>::with_capacity(alloc, size) {
-            Ok(piece) => pieces.push(piece)?,
-            Err(_) => break,
-        }
-    }
-    Ok(())
-}
-
-/// All the memory that the allocator gives, in ever smaller pieces: while they are held, the next
-/// growth is refused.
-///
-/// The allocator keeps small pieces that were freed apart by their size, 16 bytes from one to the
-/// next, and gives them to requests of that size alone: so these are asked for, too.
-fn all_memory(alloc: Global) -> Result<Vec<Vec<u8>>, AllocError> {
-    let mut pieces = Vec::with_capacity(alloc, 60_000)?;
-    let mut size = 1usize << 46;
-    for _ in 0..44u64 {
-        take_pieces(alloc, size, &mut pieces)?;
-        size /= 2;
-    }
-    for k in 0..66usize {
-        take_pieces(alloc, 8 + 16 * k, &mut pieces)?;
-    }
-    Ok(pieces)
-}
-
 /// What is answered for the longwords with the next growth refused.
 fn starved(alloc: Global, longs: &[u32]) -> Result<Result<usize, FileFault>, AllocError> {
-    let bytes = spelled(alloc, longs)?;
+    let bytes = bytes_of(alloc, longs)?;
     let pieces = all_memory(alloc)?;
     let result = match LoadFile::decode(alloc, bytes.as_slice()) {
         Ok((_, count)) => Ok(count),
@@ -94,7 +66,7 @@ fn object_fault(
     longs: &[u32],
     is_starved: bool,
 ) -> Result<Option<FileFault>, AllocError> {
-    let bytes = spelled(alloc, longs)?;
+    let bytes = bytes_of(alloc, longs)?;
     let pieces = if is_starved {
         all_memory(alloc)?
     } else {
@@ -129,7 +101,7 @@ fn fault_at(place: u64, reason: Reason) -> Option<FileFault> {
 
 #[test]
 fn no_memory_for_an_image(rt: HostRuntime) -> Result<(), Fail> {
-    let bytes = spelled(
+    let bytes = bytes_of(
         rt.alloc(),
         [
             0x3F3, 0, 1, 0, 0, 1, 0x3E9, 1, 0x10, 0x3EC, 1, 0, 0, 0, 0x3F2,

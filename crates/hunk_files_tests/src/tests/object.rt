@@ -1,7 +1,7 @@
 //! Which object files are read, and where the others are refused and why.
 
-use crate::ObjectFile;
-use crate::tests::spelled;
+use hunk_files::ObjectFile;
+use hunk_testing::bytes_of;
 use hunk_words::{FileFault, Reason};
 use std::alloc::{AllocError, Global};
 use std::test::Fail;
@@ -33,7 +33,7 @@ fn answer(alloc: Global, bytes: &[u8]) -> Answer {
 }
 
 fn answer_of(alloc: Global, longs: &[u32]) -> Result<Answer, AllocError> {
-    let bytes = spelled(alloc, longs)?;
+    let bytes = bytes_of(alloc, longs)?;
     Ok(answer(alloc, bytes.as_slice()))
 }
 
@@ -198,7 +198,7 @@ fn cut_short(rt: HostRuntime) -> Result<(), Fail> {
         0x3E7,
         0,
     ];
-    let bytes = spelled(rt.alloc(), longs.as_slice())?;
+    let bytes = bytes_of(rt.alloc(), longs.as_slice())?;
     let whole = [
         (12, (1, 0, 0)),
         (24, (1, 1, 2)),
@@ -222,7 +222,7 @@ fn cut_short(rt: HostRuntime) -> Result<(), Fail> {
 /// Bytes over, fewer than a longword.
 #[test]
 fn bytes_over(rt: HostRuntime) -> Result<(), Fail> {
-    let mut bytes = spelled(rt.alloc(), [0x3E7, 0].as_slice())?;
+    let mut bytes = bytes_of(rt.alloc(), [0x3E7, 0].as_slice())?;
     for _ in 0..3u8 {
         bytes.push(0)?;
         let want = refused(8, Reason::Truncated);
@@ -236,7 +236,7 @@ fn many_units(rt: HostRuntime) -> Result<(), Fail> {
     let mut bytes = Vec::new(rt.alloc());
     for number in 0..500u32 {
         let unit = [0x3E7, 1, number, 0x3EB, number, 0x3F2, 0x3EB, 0, 0x3F2];
-        bytes.extend_from_slice(spelled(rt.alloc(), unit.as_slice())?.as_slice())?;
+        bytes.extend_from_slice(bytes_of(rt.alloc(), unit.as_slice())?.as_slice())?;
     }
     let file = ObjectFile::decode(rt.alloc(), bytes.as_slice())?;
     assert_eq!(rt; counts(&file), (500, 1000, 2000));

@@ -1,9 +1,9 @@
 //! What `relocate` prints and refuses, by the examples.
 
-use crate::fault::RunFault;
-use crate::relocating::relocate;
 use crate::tests::ends::{Narrow, Slow, WIDTH, wide};
+use hunk_commands::{RunFault, relocate};
 use hunk_scatter::Limits;
+use hunk_testing::bytes_of;
 use hunk_words::{Fault, FromRead, FromSlice, FromWrite, LongWriter, Reason, Source};
 use std::alloc::{AllocError, Global};
 use std::test::Fail;
@@ -19,15 +19,6 @@ pub(super) const LIMITS: Limits = Limits {
     budget: 1_000,
     file_bytes: 100_000,
 };
-
-/// The bytes of these longwords.
-pub(super) fn bytes_of(alloc: Global, words: &[u32]) -> Result<Vec<u8>, AllocError> {
-    let mut bytes = Vec::new(alloc);
-    for word in words {
-        bytes.extend_from_slice(&word.to_be_bytes())?;
-    }
-    Ok(bytes)
-}
 
 // What `relocate` prints of these bytes at this base.
 fn printed(alloc: Global, bytes: &[u8], base: u32) -> Result<Vec<u8>, RunFault> {

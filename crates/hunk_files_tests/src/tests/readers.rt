@@ -1,7 +1,8 @@
 //! What the readers of a load file tell.
 
-use crate::tests::{ONE_HUNK, spelled};
-use crate::{LoadFile, Row, Sniff, sniff};
+use crate::tests::ONE_HUNK;
+use hunk_files::{LoadFile, Row, Sniff, sniff};
+use hunk_testing::bytes_of;
 use hunk_words::{BlockWord, Memory};
 use std::test::Fail;
 
@@ -26,7 +27,7 @@ fn tables_and_blocks(rt: HostRuntime) -> Result<(), Fail> {
         1,
         0x3F2,
     ];
-    let bytes = spelled(rt.alloc(), longs.as_slice())?;
+    let bytes = bytes_of(rt.alloc(), longs.as_slice())?;
     let (file, _) = match LoadFile::decode(rt.alloc(), bytes.as_slice()) {
         Ok(decoded) => decoded,
         Err(fault) => panic!(&rt; "{fault:?}"),
@@ -58,10 +59,10 @@ fn sniffs_and_rows(rt: HostRuntime) -> Result<(), Fail> {
         ([].as_slice(), Sniff::Other),
     ];
     for (longs, want) in rows {
-        let bytes = spelled(rt.alloc(), longs)?;
+        let bytes = bytes_of(rt.alloc(), longs)?;
         assert_eq!(rt; sniff(bytes.as_slice()), want);
     }
-    let bytes = spelled(rt.alloc(), ONE_HUNK.as_slice())?;
+    let bytes = bytes_of(rt.alloc(), ONE_HUNK.as_slice())?;
     assert_eq!(rt; bytes.len(), 40);
     assert_eq!(rt; sniff(&bytes[..3]), Sniff::Other);
     let row = Row {

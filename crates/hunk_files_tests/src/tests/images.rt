@@ -1,7 +1,8 @@
 //! The memory of load files, and the offsets whose longs overlap.
 
-use crate::tests::{ONE_HUNK, before_end, changed, spelled};
-use crate::{ImageFault, LoadFile};
+use crate::tests::{ONE_HUNK, before_end, changed};
+use hunk_files::{ImageFault, LoadFile};
+use hunk_testing::bytes_of;
 use std::alloc::{AllocError, Global};
 use std::test::Fail;
 
@@ -201,8 +202,8 @@ fn images(rt: HostRuntime) -> Result<(), Fail> {
         ),
     ];
     for (example, longs, bases, want) in rows {
-        let bytes = spelled(rt.alloc(), longs)?;
-        let want = spelled(rt.alloc(), want)?;
+        let bytes = bytes_of(rt.alloc(), longs)?;
+        let want = bytes_of(rt.alloc(), want)?;
         assert_eq!(rt;
             image(rt.alloc(), bytes.as_slice(), bases),
             Some(Ok(want)),
@@ -224,7 +225,7 @@ fn same_images(rt: HostRuntime) -> Result<(), Fail> {
         before_end(rt.alloc(), [0x2000_04D2, 2, 0xDEAD_BEEF, 0x3F2].as_slice())?,
     ];
     for bytes in &rows {
-        let want = spelled(rt.alloc(), [0x4E75_4E71].as_slice())?;
+        let want = bytes_of(rt.alloc(), [0x4E75_4E71].as_slice())?;
         assert_eq!(rt;
             image(rt.alloc(), bytes.as_slice(), [0x21000].as_slice()),
             Some(Ok(want))
@@ -235,7 +236,7 @@ fn same_images(rt: HostRuntime) -> Result<(), Fail> {
 
 #[test]
 fn wrong_number_of_bases(rt: HostRuntime) -> Result<(), Fail> {
-    let bytes = spelled(rt.alloc(), ONE_HUNK.as_slice())?;
+    let bytes = bytes_of(rt.alloc(), ONE_HUNK.as_slice())?;
     for bases in [[].as_slice(), [0, 0].as_slice()] {
         assert_eq!(rt;
             image(rt.alloc(), bytes.as_slice(), bases),
@@ -320,7 +321,7 @@ fn overlaps(rt: HostRuntime) -> Result<(), Fail> {
         ),
     ];
     for (longs, want) in rows {
-        let bytes = spelled(rt.alloc(), longs)?;
+        let bytes = bytes_of(rt.alloc(), longs)?;
         assert_eq!(rt; overlap(rt.alloc(), bytes.as_slice())?, Some(want));
     }
     Ok(())

@@ -1,7 +1,7 @@
 //! What `check` finds.
 
-use crate::tests::spelled;
-use crate::{Finding, FindingKind, ObjectFile};
+use hunk_files::{Finding, FindingKind, ObjectFile};
+use hunk_testing::bytes_of;
 use std::test::Fail;
 
 /// A finding in the first hunk of the first unit.
@@ -106,7 +106,7 @@ fn worked_examples(rt: HostRuntime) -> Result<(), Fail> {
         ),
     ];
     for (longs, want) in rows {
-        let bytes = spelled(rt.alloc(), longs)?;
+        let bytes = bytes_of(rt.alloc(), longs)?;
         let file = ObjectFile::decode(rt.alloc(), bytes.as_slice())?;
         let findings = file.check(rt.alloc())?;
         assert_eq!(rt; findings.len(), want.len(), "{longs:?}");
@@ -145,7 +145,7 @@ fn widths_of_relocations(rt: HostRuntime) -> Result<(), Fail> {
             0,
             0x3F2,
         ];
-        let bytes = spelled(rt.alloc(), longs.as_slice())?;
+        let bytes = bytes_of(rt.alloc(), longs.as_slice())?;
         let findings = ObjectFile::decode(rt.alloc(), bytes.as_slice())?.check(rt.alloc())?;
         assert_eq!(rt; findings.len(), 2, "{word:x}");
         assert_eq!(rt;
@@ -174,7 +174,7 @@ fn widths_of_references(rt: HostRuntime) -> Result<(), Fail> {
     for (number, last) in references {
         let word = number * 0x0100_0000;
         let longs = [0x3E7, 0, 0x3EB, 2, 0x3EF, word, 2, last, last + 1, 0, 0x3F2];
-        let bytes = spelled(rt.alloc(), longs.as_slice())?;
+        let bytes = bytes_of(rt.alloc(), longs.as_slice())?;
         let findings = ObjectFile::decode(rt.alloc(), bytes.as_slice())?.check(rt.alloc())?;
         assert_eq!(rt; findings.len(), 1, "{number}");
         assert_eq!(rt;
@@ -186,7 +186,7 @@ fn widths_of_references(rt: HostRuntime) -> Result<(), Fail> {
     for number in [130, 137] {
         let word = number * 0x0100_0000;
         let longs = [0x3E7, 0, 0x3EB, 2, 0x3EF, word, 99, 2, 4, 5, 0, 0x3F2];
-        let bytes = spelled(rt.alloc(), longs.as_slice())?;
+        let bytes = bytes_of(rt.alloc(), longs.as_slice())?;
         let findings = ObjectFile::decode(rt.alloc(), bytes.as_slice())?.check(rt.alloc())?;
         assert_eq!(rt; findings.len(), 1, "{number}");
         assert_eq!(rt;
@@ -205,7 +205,7 @@ fn where_findings_stand(rt: HostRuntime) -> Result<(), Fail> {
         0x3E7, 0, 0x3EB, 1, 0x3EC, 1, 1, 0, 0, 0x3F2, 0x3EB, 1, 0x3F2, 0x3E7, 0, 0x3EB, 1, 0x3F2,
         0x3E7, 0, 0x3EB, 1, 0x3F2, 0x3EB, 1, 0x3EC, 1, 2, 0, 0, 0x3F2,
     ];
-    let bytes = spelled(rt.alloc(), longs.as_slice())?;
+    let bytes = bytes_of(rt.alloc(), longs.as_slice())?;
     let findings = ObjectFile::decode(rt.alloc(), bytes.as_slice())?.check(rt.alloc())?;
     assert_eq!(rt; findings.len(), 1);
     let want = Finding {

@@ -1,13 +1,9 @@
 //! `show`, `validate` and `rewrite` over sources and writers that fail, and over input without end.
 ghost use Rattle.std.specs.Prelude.{◌≡◌, None};
 
-use crate::fault::RunFault;
-use crate::hex_text::unhex;
-use crate::rewriting::rewrite;
-use crate::showing::show;
 use crate::tests::ends::{Narrow, Slow, wide};
 use crate::tests::samples::SHOWN;
-use crate::validating::validate;
+use hunk_commands::{RunFault, rewrite, show, unhex, validate};
 use hunk_words::{Failed, Fault, FromSlice, FromWrite, LongWriter, Reason, Source};
 use std::test::Fail;
 

@@ -1,5 +1,5 @@
 //! The lines and statuses of faults.
-use crate::fault::RunFault;
+use hunk_commands::RunFault;
 use hunk_words::{Fault, Reason};
 use std::alloc::{AllocError, Global};
 use std::test::Fail;

@@ -1,6 +1,5 @@
 //! Which bytes a hexadecimal text spells.
-use crate::fault::RunFault;
-use crate::hex_text::unhex;
+use hunk_commands::{RunFault, unhex};
 use std::test::Fail;
 
 #[test]
