@@ -1,13 +1,13 @@
 //! The report on a whole file.
-ghost use Rattle.std.specs.Prelude.{◌≡◌, ◌<◌, ◌^◌, ◌++◌, codes, length};
+ghost use Rattle.std.specs.Prelude.{◌≡◌, ◌<◌, ◌≤◌, ◌^◌, ◌++◌, codes, length};
 ghost use Rattle.std.proofs.Common.{◌∙◌, refl};
 ghost use Rattle.hunk_words.specs.Prints.{Prints};
 ghost use Rattle.hunk_files.specs.Findings.{findings};
 ghost use Rattle.hunk_listing.specs.ReportLines.{count_line, finding_line, finding_name, load_summary, object_report};
 ghost use Rattle.hunk_listing.specs.Reporting.{Reports, reports_none, reports_more};
 
+use crate::line::Line;
 use crate::load::{print_load_head, print_rest};
-use crate::text::{print_decimal, put_digits};
 use hunk_files::{Finding, FindingKind, LoadFile, ObjectFile, TakesFindings};
 use hunk_words::{Printer, Sink};
 
@@ -45,8 +45,10 @@ impl<W: Sink> TakesFindings for FindingLines<'_, '_, W> {
 
     ghost none = { λ s. (refl, reports_none s.page.now s.count) };
 
-    ghost more = { λ a b c xs ys first next. (next.0 ∙ first.0,
-        reports_more a.page.now b.page.now c.page.now a.count b.count c.count xs ys first.1 next.1) };
+    ghost more = { λ a b c xs ys first next. (
+      next.0 ∙ first.0,
+      reports_more a.page.now b.page.now c.page.now a.count b.count c.count xs ys first.1 next.1,
+    ) };
 
     fn take(&mut self, finding: Finding) {
         print_finding(self.page, finding);
@@ -58,19 +60,22 @@ impl<W: Sink> TakesFindings for FindingLines<'_, '_, W> {
 fn print_finding<W: Sink>(page: &mut Printer<'_, W>, finding: Finding)
     ensures { Prints page.old page.new (finding_line finding) }
 {
-    page.print(b"unit ");
-    print_decimal(page, finding.unit);
-    page.print(b" hunk ");
-    print_decimal(page, finding.hunk);
-    let mut offset = *b" offset 0x00000000 ";
-    put_digits(offset.as_mut_slice(), 10, &finding.offset.to_be_bytes());
-    page.print(&offset);
-    page.print(finding_end(finding.fault).as_bytes());
+    let mut line = Line::new();
+    line.put(b"unit ");
+    line.put_decimal(finding.unit);
+    line.put(b" hunk ");
+    line.put_decimal(finding.hunk);
+    line.put(b" offset ");
+    line.put_hexadecimal(finding.offset);
+    line.put(b" ");
+    line.put(finding_end(finding.fault).as_bytes());
+    line.print(page);
 }
 
 /// What is wrong, at the end of a line.
 fn finding_end(fault: FindingKind) -> &'static str
-    ensures { result.now ≡ finding_name fault ++ codes "\n" }
+    ensures text { result.now ≡ finding_name fault ++ codes "\n" }
+    ensures short { length result.now ≤ 12 }
 {
     match fault {
         FindingKind::BadTarget => "BadTarget\n",
@@ -82,9 +87,11 @@ fn finding_end(fault: FindingKind) -> &'static str
 fn print_count<W: Sink>(page: &mut Printer<'_, W>, units: usize, count: u64)
     ensures { Prints page.old page.new (count_line units count) }
 {
-    page.print(b"object file ");
-    print_decimal(page, units);
-    page.print(b" units ");
-    print_decimal(page, count);
-    page.print(b" findings\n");
+    let mut line = Line::new();
+    line.put(b"object file ");
+    line.put_decimal(units as u64);
+    line.put(b" units ");
+    line.put_decimal(count);
+    line.put(b" findings\n");
+    line.print(page);
 }

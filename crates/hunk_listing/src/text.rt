@@ -8,23 +8,6 @@ use crate::digits::put_digits;
 use crate::line::{LINE, Line};
 use hunk_blocks::Payload;
 use hunk_words::{Printer, Sink};
-use itoa::{Buffer, Integer};
-
-/// Prints the number in decimal.
-pub(crate) fn print_decimal<W: Sink, N: Integer>(page: &mut Printer<'_, W>, number: N)
-    ensures { Prints page.old page.new (N.text number) }
-{
-    page.print(Buffer::new().format(number).as_bytes());
-}
-
-/// Prints `0x` and the number's eight hexadecimal digits.
-pub(crate) fn print_hexadecimal<W: Sink>(page: &mut Printer<'_, W>, number: u32)
-    ensures { Prints page.old page.new (hexadecimal number) }
-{
-    let mut digits = *b"0x00000000";
-    put_digits(digits.as_mut_slice(), 2, &number.to_be_bytes());
-    page.print(&digits);
-}
 
 /// Prints the first `start` bytes of the line, the offset behind them and the end of the line.
 ///
