@@ -147,7 +147,7 @@ impl<'a> Block<'a> {
     }
 }
 
-// Puts the block's text, part by part with no page.
+/// Puts the block's text, part by part with no page.
 fn put_block<W: Sink>(writer: &mut LongWriter<W>, block: &Block<'_>) -> Result<(), WriteFault>
     requires { writer.old.written + length (bytes_of (block_text block.now)) < 2 ^ 64 }
     ensures puts { Puts (W.taken writer.old.sink) (W.taken writer.new.sink)

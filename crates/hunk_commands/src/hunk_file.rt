@@ -111,7 +111,7 @@ fn decode_object(alloc: Global, bytes: &[u8]) -> Result<HunkFile<'_>, RunFault>
     }
 }
 
-// The fault, or `Memory` where memory was wanting.
+/// The fault, or `Memory` where memory was wanting.
 fn refusal(fault: Fault) -> RunFault
     ensures { (result ≡ Memory)
         ⊎ ((result ≡ Refused fault) × (fault.reason ≢ reasons.OutOfMemory)) }

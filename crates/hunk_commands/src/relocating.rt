@@ -91,7 +91,7 @@ pub fn relocate<R: Source, W: Sink>(
     Ok(())
 }
 
-// Puts the lines of each hunk's segment.
+/// Puts the lines of each hunk's segment.
 fn put_listing<W: Sink>(w: &mut LongWriter<W>, image: &Image) -> Result<(), WriteFault>
     requires { w.old.written + length (image_listing image.now) < 2 ^ 64 }
     ensures puts { Puts (W.taken w.old.sink) (W.taken w.new.sink)

@@ -58,7 +58,7 @@ pub fn show<R: Source, W: Sink>(
     Ok(())
 }
 
-// Puts the listing of the file.
+/// Puts the listing of the file.
 fn put_listing<W: Sink>(w: &mut LongWriter<W>, file: &HunkFile<'_>) -> Result<(), WriteFault>
     requires { w.old.written + length (file_listing file.now) < 2 ^ 64 }
     ensures puts { Puts (W.taken w.old.sink) (W.taken w.new.sink)

@@ -59,7 +59,7 @@ pub fn validate<R: Source, W: Sink>(
     Ok(count)
 }
 
-// Puts the report of the file, and answers how much is found in it.
+/// Puts the report of the file, and answers how much is found in it.
 fn put_report<W: Sink>(w: &mut LongWriter<W>, file: &HunkFile<'_>) -> Result<u64, WriteFault>
     requires { w.old.written + length (report file.now) < 2 ^ 64 }
     ensures puts { Puts (W.taken w.old.sink) (W.taken w.new.sink)

@@ -35,7 +35,7 @@ pub(crate) fn print_block<W: Sink>(page: &mut Printer<'_, W>, block: &Block<'_>)
     }
 }
 
-// Two spaces, the block's name and its flags.
+/// Two spaces, the block's name and its flags.
 #[tactic(auto, unfolding(crate::specs::BlockLines::head))]
 fn put_head(line: &mut Line, word: BlockWord)
     requires { length line.old + 33 ≤ LINE }
@@ -127,7 +127,7 @@ fn print_advisory<W: Sink>(page: &mut Printer<'_, W>, word: BlockWord, payload: 
     line.print(page);
 }
 
-// The line of an advisory block up to its flags.
+/// The line of an advisory block up to its flags.
 fn begin_advisory_line(word: BlockWord, size: u64) -> Line
     ensures text { result ≡ codes "  ADVISORY " ++ decimal (word % 2 ^ 29)
         ++ codes " " ++ decimal size ++ codes " bytes" }
@@ -142,7 +142,7 @@ fn begin_advisory_line(word: BlockWord, size: u64) -> Line
     line
 }
 
-// The relocations of all groups.
+/// The relocations of all groups.
 fn print_relocations<W: Sink>(page: &mut Printer<'_, W>, word: BlockWord, groups: &Groups<'_>)
     requires { offset_count (map group_of groups.now) < 2 ^ 64 }
     ensures { Prints page.old page.new (body_lines word (Reloc (map group_of groups.now))) }
@@ -153,7 +153,7 @@ fn print_relocations<W: Sink>(page: &mut Printer<'_, W>, word: BlockWord, groups
     }
 }
 
-// The number of offsets in all groups.
+/// The number of offsets in all groups.
 fn offset_count(groups: &Groups<'_>) -> u64
     requires { offset_count (map group_of groups.now) < 2 ^ 64 }
     ensures { result ≡ offset_count (map group_of groups.now) }
@@ -176,7 +176,7 @@ fn print_group<W: Sink>(page: &mut Printer<'_, W>, group: &Group<'_>)
     }
 }
 
-// The line of a relocation up to its offset.
+/// The line of a relocation up to its offset.
 fn begin_relocation_line(target: u32) -> Line
     ensures text { result ≡ codes "    " ++ decimal target ++ codes " " }
     ensures short { length result ≤ 25 }

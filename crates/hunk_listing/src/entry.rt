@@ -30,7 +30,7 @@ fn print_entry_line<W: Sink>(page: &mut Printer<'_, W>, entry: &Entry<'_>)
     }
 }
 
-// A line that begins with four spaces and the name of the type.
+/// A line that begins with four spaces and the name of the type.
 fn begin_entry_line(word: u32) -> Line
     ensures text { result ≡ codes "    " ++ type_name (word / 2 ^ 24) ++ codes " " }
     ensures short { length result ≤ 14 }

@@ -87,7 +87,7 @@ fn print_hunk_line<W: Sink>(page: &mut Printer<'_, W>, number: usize, bytes: u64
     line.print(page);
 }
 
-// How many bytes the hunk has: those of its content block.
+/// How many bytes the hunk has: those of its content block.
 fn hunk_bytes(blocks: &[Block<'_>]) -> u64
     requires { IsObjectHunk blocks.now }
     ensures { result ≡ hunk_bytes blocks.now }
@@ -100,7 +100,7 @@ fn hunk_bytes(blocks: &[Block<'_>]) -> u64
     0
 }
 
-// How many bytes a content block has.
+/// How many bytes a content block has.
 fn content_bytes(body: &Body<'_>) -> Option<u64>
     ensures some { IfSome result
         (λ bytes. (bytes ≡ 4 * content_longs (body_of body.now))

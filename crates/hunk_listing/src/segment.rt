@@ -52,7 +52,8 @@ fn print_row<W: Sink>(page: &mut Printer<'_, W>, bytes: &[u8])
     }
 }
 
-// Apart from a shorter one, so that all its lengths are known where it is compiled.
+/// Prints a row of 16 bytes: apart from a shorter one, so that all its lengths are known where it is
+/// compiled.
 #[tactic(auto, unfolding(crate::specs::SegmentLines::row))]
 fn print_whole_row<W: Sink>(page: &mut Printer<'_, W>, bytes: &[u8; ROW])
     ensures { Prints page.old page.new (row bytes.now) }

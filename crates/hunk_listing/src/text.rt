@@ -39,7 +39,7 @@ pub(crate) fn print_name<W: Sink>(page: &mut Printer<'_, W>, name: &Payload<'_>)
     print_characters(page, name.bytes());
 }
 
-// Plain bytes go out in runs, and another byte is put between two of them.
+/// Plain bytes go out in runs, and another byte is put between two of them.
 fn print_characters<W: Sink>(page: &mut Printer<'_, W>, bytes: &[u8])
     ensures { Prints page.old page.new (characters bytes.now) }
 {
@@ -55,7 +55,7 @@ fn print_characters<W: Sink>(page: &mut Printer<'_, W>, bytes: &[u8])
     }
 }
 
-// How many bytes stand for themselves before the first that does not.
+/// How many bytes stand for themselves before the first that does not.
 #[tactic(auto, unfolding(crate::specs::Printed::character))]
 fn plain_length(bytes: &[u8]) -> usize
     ensures run { characters bytes.now

@@ -25,7 +25,7 @@ use std::convert::AsStr;
 /// The segment bytes that `relocate` may hold where the command line does not say.
 const DEFAULT_BUDGET: u64 = 16_777_216;
 
-// The words that stand for none.
+/// The words that stand for none.
 static STORED: [&str; 5] = ["hunkinfo", "relocate", "--hex", "--base", "00000000"];
 
 fn show_order(alloc: Global, found: &ArgMatches<'_>) -> Result<Order, OrderFault>
@@ -89,7 +89,7 @@ fn rewrite_order(alloc: Global, found: &ArgMatches<'_>) -> Result<Order, OrderFa
     })
 }
 
-// What an error of clap means: the help that was asked for, want of memory, or no order.
+/// What an error of clap means: the help that was asked for, want of memory, or no order.
 fn fault_of(alloc: Global, error: &Error) -> OrderFault
     ensures memory { kind_of error.now ≡ ErrorKind.OutOfMemory → result ≡ Memory }
     ensures asked { IsHelp result → kind_of error.now ≡ ErrorKind.DisplayHelp }

@@ -128,8 +128,8 @@ impl<'a, W: Sink, const ROOM: usize> PagePrinter<'a, W, ROOM> {
     }
 }
 
-// Sends what is held, and holds the bytes, or sends them too where a page has no room for them.
-// Answers whether nothing was lost.
+/// Sends what is held, and holds the bytes, or sends them too where a page has no room for them.
+/// Answers whether nothing was lost.
 #[cold]
 #[tactic(auto, using(crate::proofs::PrintLaws::sent_behind))]
 fn send_on<W: Sink, const ROOM: usize>(
@@ -147,7 +147,7 @@ fn send_on<W: Sink, const ROOM: usize>(
     sent && (held.append(bytes) || send(out, bytes))
 }
 
-// Puts the bytes, unless they are too many to be counted. Answers whether all have gone out.
+/// Puts the bytes, unless they are too many to be counted. Answers whether all have gone out.
 fn send<W: Sink>(out: &mut LongWriter<W>, bytes: &[u8]) -> bool
     ensures sends { Sends (not result) (W.taken out.old.sink) (W.taken out.new.sink)
         out.old.written out.new.written out.new.stopped bytes.now [] }

@@ -9,7 +9,7 @@ use hunk_words::{FromWrite, LongWriter};
 use std::process::ExitCode;
 use std::{env, io};
 
-// The words of the command line, which have to be text.
+/// The words of the command line, which have to be text.
 fn words_of(rt: &HostRuntime) -> Result<Vec<String>, OrderFault> {
     match env::args(rt) {
         Ok(words) => Ok(words.collect(rt.alloc())?),

@@ -120,7 +120,7 @@ fn obey<T: Files + Input, W: Sink>(
     }
 }
 
-// Prints what is listed, or why it can't be.
+/// Prints what is listed, or why it can't be.
 fn list<T: Files + Input, W: Sink>(
     rt: &T,
     alloc: Global,
@@ -142,7 +142,7 @@ fn list<T: Files + Input, W: Sink>(
     }
 }
 
-// Prints the fault's line, and gives the fault's status.
+/// Prints the fault's line, and gives the fault's status.
 fn report<W: Sink>(alloc: Global, fault: RunFault, out: &mut LongWriter<W>) -> u8
     requires { out.old.written ≡ 0 }
     ensures known { (0 < result) × (result ≤ 4) }
@@ -154,7 +154,7 @@ fn report<W: Sink>(alloc: Global, fault: RunFault, out: &mut LongWriter<W>) -> u
     }
 }
 
-// Prints the text, the first on this writer, and gives the status, which is 3 where that fails.
+/// Prints the text, the first on this writer, and gives the status, which is 3 where that fails.
 fn print<W: Sink>(text: &str, status: u8, out: &mut LongWriter<W>) -> u8
     requires first { out.old.written ≡ 0 }
     requires known { status ≤ 4 }

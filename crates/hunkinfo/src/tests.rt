@@ -22,7 +22,7 @@ const ANY: usize = usize::MAX;
 const OBJECT: &str = "000003E7 00000000 000003E9 00000001 00000000\n\
     000003EC 00000001 00000001 00000002 00000000 000003F2\n";
 
-// Runs these words, apart by spaces, with a standard output that takes `room` bytes.
+/// Runs these words, apart by spaces, with a standard output that takes `room` bytes.
 fn ran(alloc: Global, made: &Made<'_>, room: usize, line: &str) -> Result<(u8, String), Fail> {
     let mut words = Vec::new(alloc);
     for word in line.split(' ') {
@@ -45,7 +45,7 @@ fn failing_after(bytes: &[u8]) -> Made<'_> {
     Made { bytes, fails: true }
 }
 
-// Tells whether a run of these words prints this text and ends with this status.
+/// Tells whether a run of these words prints this text and ends with this status.
 fn expect(
     rt: &impl Abort,
     alloc: Global,

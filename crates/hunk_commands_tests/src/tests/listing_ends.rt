@@ -74,7 +74,7 @@ fn input_without_end(rt: HostRuntime) {
     );
 }
 
-// Example 8, whose listing has 124 bytes and whose text has 60.
+/// Example 8, whose listing has 124 bytes and whose text has 60.
 #[test]
 fn writing_fails_after_each_byte(rt: HostRuntime) -> Result<(), Fail> {
     let bytes = unhex(rt.alloc(), SHOWN[0].hex.as_bytes())?;

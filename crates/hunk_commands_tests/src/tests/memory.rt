@@ -8,7 +8,7 @@ use hunk_words::FromSlice;
 use std::alloc::{AllocError, Global};
 use std::test::Fail;
 
-// More than each call needs on example 1, and into how many steps it is divided.
+/// More than each call needs on example 1, and into how many steps it is divided.
 const ROOM: usize = 65_536;
 
 const STEPS: usize = 1_024;
@@ -21,7 +21,7 @@ enum Call {
     Rewrite,
 }
 
-// What the call answers on the bytes, and how many bytes it writes.
+/// What the call answers on the bytes, and how many bytes it writes.
 fn outcome(alloc: Global, call: Call, bytes: &[u8]) -> (Option<RunFault>, u64) {
     let (mut out, mut source) = (wide(), FromSlice::new(bytes));
     let fault = match call {
@@ -33,7 +33,7 @@ fn outcome(alloc: Global, call: Call, bytes: &[u8]) -> (Option<RunFault>, u64) {
     (fault, out.written())
 }
 
-// What it answers with ever more of the room left, so that ever later growths are refused.
+/// What it answers with ever more of the room left, so that ever later growths are refused.
 fn outcomes(alloc: Global, call: Call, bytes: &[u8]) -> Result<Vec<(Option<RunFault>, u64)>, Fail> {
     let mut answers = vec![in alloc; (None, 0); STEPS]?;
     let room = Vec::<u8>::with_capacity(alloc, ROOM)?;

@@ -20,7 +20,7 @@ pub(super) const LIMITS: Limits = Limits {
     file_bytes: 100_000,
 };
 
-// What `relocate` prints of these bytes at this base.
+/// What `relocate` prints of these bytes at this base.
 fn printed(alloc: Global, bytes: &[u8], base: u32) -> Result<Vec<u8>, RunFault> {
     let mut out = LongWriter::new(FromWrite::new(Vec::<u8>::new(alloc)));
     let mut source = FromSlice::new(bytes);

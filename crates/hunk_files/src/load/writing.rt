@@ -50,7 +50,7 @@ impl LoadFile<'_> {
     }
 }
 
-// Puts the file's text through a page.
+/// Puts the file's text through a page.
 fn put_file<W: Sink>(writer: &mut LongWriter<W>, file: &LoadFile<'_>) -> Result<(), WriteFault>
     requires { writer.old.written + length (bytes_of (text file.now)) < 2 ^ 64 }
     ensures puts { Puts (W.taken writer.old.sink) (W.taken writer.new.sink)

@@ -52,7 +52,7 @@ fn print_units<W: Sink>(page: &mut Printer<'_, W>, units: &[Unit<'_>])
     }
 }
 
-// Puts the text of these units through a page.
+/// Puts the text of these units through a page.
 fn put_units<W: Sink>(writer: &mut LongWriter<W>, units: &[Unit<'_>]) -> Result<(), WriteFault>
     requires { writer.old.written + length (bytes_of (object_text units.now)) < 2 ^ 64 }
     ensures puts { Puts (W.taken writer.old.sink) (W.taken writer.new.sink)

@@ -45,7 +45,7 @@ fn option<'a>(alloc: Global, name: &'a str, value: &'a str, help: &'a str) -> Ar
         .help(help)
 }
 
-// A word at its place.
+/// A word at its place.
 fn positional<'a>(alloc: Global, name: &'a str, help: &'a str) -> Arg<'a>
     ensures rule { rule_of result ≡ new_rule name.entry.now }
     ensures local { result.global ≡ false }
@@ -53,7 +53,7 @@ fn positional<'a>(alloc: Global, name: &'a str, help: &'a str) -> Arg<'a>
     Arg::new(alloc, name).help(help)
 }
 
-// The argument, which has to be there.
+/// The argument, which has to be there.
 fn mandatory<'a>(arg: Arg<'a>) -> Arg<'a>
     ensures rule { rule_of result ≡ spec.mandatory (rule_of arg.entry) }
     ensures local { result.global ≡ arg.entry.global }
@@ -83,7 +83,7 @@ fn file_positional<'a>(alloc: Global) -> Arg<'a>
     )
 }
 
-// A command that does not have its arguments yet.
+/// A command that does not have its arguments yet.
 fn command<'a>(alloc: Global, name: &'a str, about: &'a str) -> Command<'a>
     ensures app { app_of result ≡ new_app name.entry.now }
     ensures local { (fields_of result).has_globals ≡ false }
@@ -91,7 +91,7 @@ fn command<'a>(alloc: Global, name: &'a str, about: &'a str) -> Command<'a>
     Command::new(alloc, name).about(about)
 }
 
-// A command that only reads: NAME [--hex] [FILE].
+/// A command that only reads: NAME [--hex] [FILE].
 fn listing<'a>(alloc: Global, name: &'a str, about: &'a str) -> Result<Command<'a>, AllocError>
     ensures { IfOk result (λ command. (app_of command ≡ spec.listing name.entry.now)
         × ((fields_of command).has_globals ≡ false)) }
@@ -199,7 +199,7 @@ fn rewrite<'a>(alloc: Global) -> Result<Command<'a>, AllocError>
         .arg(mandatory(output_positional(alloc)))
 }
 
-// The program, without its subcommands yet.
+/// The program, without its subcommands yet.
 fn program<'a>(alloc: Global) -> Command<'a>
     ensures app { app_of result ≡ spec.program }
     ensures local { (fields_of result).has_globals ≡ false }

@@ -11,7 +11,7 @@ fn name_of(name: &Option<FileName>) -> &str {
     }
 }
 
-// The order as a line of text.
+/// The order as a line of text.
 fn line_of(alloc: Global, asked: &Result<Order, OrderFault>) -> Result<String, AllocError> {
     match asked {
         Ok(Order::Show { hex, file }) => {
@@ -49,12 +49,12 @@ fn line_of(alloc: Global, asked: &Result<Order, OrderFault>) -> Result<String, A
     }
 }
 
-// The order that these words are, as a line of text.
+/// The order that these words are, as a line of text.
 fn told(alloc: Global, words: &[String]) -> Result<String, AllocError> {
     line_of(alloc, &order(alloc, words))
 }
 
-// The same of these words after the program's name.
+/// The same of these words after the program's name.
 fn asked(alloc: Global, words: &[&str]) -> Result<String, AllocError> {
     let mut all = Vec::new(alloc);
     all.push(String::from_str(alloc, "hunkinfo")?)?;
@@ -64,7 +64,7 @@ fn asked(alloc: Global, words: &[&str]) -> Result<String, AllocError> {
     told(alloc, all.as_slice())
 }
 
-// Tells whether the words after the program's name are this order.
+/// Tells whether the words after the program's name are this order.
 fn expect(rt: &impl Abort, alloc: Global, words: &[&str], want: &str) -> Result<(), Fail> {
     let got = asked(alloc, words)?;
     assert_eq!(rt; got.as_str(), want, "at {words:?}");

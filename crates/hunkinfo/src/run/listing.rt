@@ -58,7 +58,7 @@ pub(super) fn list_file<T: Files + Input, W: Sink>(
     list_source(alloc, listing, &mut FromRead::new(reader), hex, out)
 }
 
-// The same of the bytes of the source, or of those that its text spells.
+/// The same of the bytes of the source, or of those that its text spells.
 fn list_source<R: Source, W: Sink>(
     alloc: Global,
     listing: Listing,
@@ -87,7 +87,7 @@ fn list_source<R: Source, W: Sink>(
     list_bytes(alloc, listing, &mut FromSlice::new(bytes.as_slice()), out)
 }
 
-// All of the source's text, which may have `FILE_BYTES` bytes and no more.
+/// All of the source's text, which may have `FILE_BYTES` bytes and no more.
 fn text_of<R: Source>(alloc: Global, source: &mut R) -> Result<Vec<u8>, RunFault>
     ensures given { IfOk result
         (λ text. Consumes (R.left source.old) (R.left source.new) text.items) }

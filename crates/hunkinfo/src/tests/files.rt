@@ -133,7 +133,7 @@ const REFUSED_FIRST: &[(&[u8], &str)] = &[
     (b"\0\0\x03\xE9", "refused at byte 0: NotLoadFile (1)\n"),
 ];
 
-// A fault of the input comes before any of the output, which is not opened then.
+/// A fault of the input comes before any of the output, which is not opened then.
 #[test]
 fn refuses_before_opening_the_output(rt: HostRuntime) -> Result<(), Fail> {
     for (input, want) in REFUSED_FIRST {

@@ -21,7 +21,7 @@ const INPUT: &str = "hunkinfo-test.in";
 
 const OUTPUT: &str = "hunkinfo-test.out";
 
-// The status of `rewrite` from INPUT to OUTPUT.
+/// The status of `rewrite` from INPUT to OUTPUT.
 fn rewrite(rt: &HostRuntime) -> Result<u8, Fail> {
     let mut words = Vec::new(rt.alloc());
     for word in ["hunkinfo", "rewrite", INPUT, OUTPUT] {
@@ -39,7 +39,7 @@ struct After {
     output: Vec<u8>,
 }
 
-// Rewrites a file of these bytes, where OUTPUT is an old file.
+/// Rewrites a file of these bytes, where OUTPUT is an old file.
 fn rewritten(rt: &HostRuntime, bytes: &[u8]) -> Result<After, Fail> {
     fs::write(rt, INPUT, bytes)?;
     fs::write(rt, OUTPUT, OLD)?;
@@ -51,7 +51,7 @@ fn rewritten(rt: &HostRuntime, bytes: &[u8]) -> Result<After, Fail> {
     })
 }
 
-// Tells whether the rewriting of these bytes ends so, and leaves these bytes in OUTPUT.
+/// Tells whether the rewriting of these bytes ends so, and leaves these bytes in OUTPUT.
 fn expect(rt: &impl Abort, after: &After, bytes: &[u8], want: &[u8], status: u8) {
     assert_eq!(rt; after.status, status);
     assert_eq!(rt; after.output.as_slice(), want);

@@ -97,7 +97,7 @@ fn refuses_inputs(rt: HostRuntime) -> Result<(), Fail> {
     Ok(())
 }
 
-// The same of so many bytes `g`, which are no digits.
+/// The same of so many bytes `g`, which are no digits.
 fn expect_of_letters(
     rt: &impl Abort,
     alloc: Global,
@@ -115,7 +115,7 @@ fn limits_hexadecimal_text(rt: HostRuntime) -> Result<(), Fail> {
     expect_of_letters(&rt, rt.alloc(), 67_108_865, want)
 }
 
-// The first 30 bytes of the example.
+/// The first 30 bytes of the example.
 const FRONT: &[u8] = b"\0\0\x03\xF3\0\0\0\0\0\0\0\x01\0\0\0\0\0\0\0\0\0\0\0\x01\0\0\x03\xE9\0\0";
 
 const UNREAD: &[(&[u8], &str, &str)] = &[
@@ -164,7 +164,7 @@ fn reading_fails(rt: HostRuntime) -> Result<(), Fail> {
     Ok(())
 }
 
-// Tells whether a run of these words ends so where standard output fails.
+/// Tells whether a run of these words ends so where standard output fails.
 fn expect_unwritten(
     rt: &impl Abort,
     alloc: Global,
@@ -225,7 +225,7 @@ fn refuses_command_lines(rt: HostRuntime) -> Result<(), Fail> {
     Ok(())
 }
 
-// Tells whether a run of these words ends well and prints these parts of a help text.
+/// Tells whether a run of these words ends well and prints these parts of a help text.
 fn expect_help(rt: &impl Abort, alloc: Global, line: &str, parts: &[&str]) -> Result<(), Fail> {
     let (status, text) = ran(alloc, &giving(b""), ANY, line)?;
     assert_eq!(rt; status, 0, "at {line}");
