@@ -1,0 +1,20 @@
+//! An archive's check of a file.
+
+use hunk_files::{LoadFile, ObjectFile, Sniff, sniff};
+use std::alloc::Global;
+
+/// A line on a file: what it is, and what is amiss with it.
+///
+/// # Errors
+///
+/// The refusal of the file, with its place, or want of memory.
+pub fn describe(alloc: Global, bytes: &[u8]) -> anyhow::Result<String> {
+    if sniff(bytes) == Sniff::Object {
+        let file = ObjectFile::decode(alloc, bytes)?;
+        let (units, findings) = (file.units().len(), file.check(alloc)?.len());
+        return Ok(format!(in alloc; "object file, {units} units, {findings} findings")?);
+    }
+    let (file, size) = LoadFile::decode(alloc, bytes)?;
+    let (hunks, rest) = (file.hunks(), bytes.len() - size);
+    Ok(format!(in alloc; "load file, {hunks} hunks, {rest} bytes behind it")?)
+}

@@ -1,0 +1,32 @@
+//! An emulator's loader.
+
+use hunk_scatter::{Limits, Packed, load};
+use hunk_words::FromRead;
+use std::alloc::Global;
+use std::io::Read;
+
+/// The most bytes that a program may have in memory, and in its file.
+const LIMITS: Limits = Limits {
+    budget: 0x0020_0000,
+    file_bytes: 0x0040_0000,
+};
+
+/// Loads a program behind what the memory has already, where it lies from the address `start` on.
+/// Gives the address of its first longword. Where it is refused, the memory stays as it was.
+///
+/// # Errors
+///
+/// The refusal of the file, with its place, or want of memory.
+pub fn load_program<R: Read + Drop>(
+    alloc: Global,
+    file: R,
+    memory: &mut Vec<u8>,
+    start: u32,
+) -> anyhow::Result<u32> {
+    let image = load(alloc, &mut FromRead::new(file), LIMITS, &Packed { start })?;
+    memory.reserve(image.bytes() as usize)?;
+    for (_, segment) in image.segments() {
+        memory.extend_from_slice(segment)?;
+    }
+    Ok(image.base(0))
+}

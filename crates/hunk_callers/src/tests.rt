@@ -1,0 +1,71 @@
+//! The callers on files of the worked examples.
+
+use crate::{describe, list_symbols, load_program, write_program};
+use hunk_testing::bytes_of;
+use hunk_words::{FromWrite, LongWriter};
+use std::test::Fail;
+
+/// A program of one longword, with a symbol.
+const PROGRAM: &[u32] = &[
+    0x3F3,
+    0,
+    1,
+    0,
+    0,
+    1,
+    0x3E9,
+    1,
+    0x4E75_4E71,
+    0x3F0,
+    1,
+    0x5F6D_0000,
+    0,
+    0,
+    0x3F2,
+];
+
+/// An object file with a relocation whose target is no hunk, and whose offset is behind the hunk.
+const AMISS: &[u32] = &[0x3E7, 0, 0x3E9, 1, 0, 0x3EC, 1, 1, 2, 0, 0x3F2];
+
+#[test]
+fn loads_a_program(rt: HostRuntime) -> Result<(), Fail> {
+    let file = bytes_of(rt.alloc(), PROGRAM)?;
+    let mut memory = Vec::new(rt.alloc());
+    let first = load_program(rt.alloc(), file.as_slice(), &mut memory, 0x0002_1000)?;
+    assert_eq!(rt; first, 0x0002_1000);
+    assert_eq!(rt; memory.as_slice(), [0x4E, 0x75, 0x4E, 0x71].as_slice());
+    Ok(())
+}
+
+#[test]
+fn describes_files(rt: HostRuntime) -> Result<(), Fail> {
+    for (longs, want) in [
+        (PROGRAM, "load file, 1 hunks, 0 bytes behind it"),
+        (AMISS, "object file, 1 units, 2 findings"),
+    ] {
+        let file = bytes_of(rt.alloc(), longs)?;
+        let line = describe(rt.alloc(), file.as_slice())?;
+        assert_eq!(rt; line.as_str(), want);
+    }
+    Ok(())
+}
+
+#[test]
+fn lists_symbols(rt: HostRuntime) -> Result<(), Fail> {
+    let file = bytes_of(rt.alloc(), PROGRAM)?;
+    let found = list_symbols(rt.alloc(), file.as_slice())?;
+    assert_eq!(rt; found.as_slice(), [(0, 0)].as_slice());
+    Ok(())
+}
+
+#[test]
+fn writes_a_program(rt: HostRuntime) -> Result<(), Fail> {
+    let mut out = LongWriter::new(FromWrite::new(Vec::new(rt.alloc())));
+    write_program(&[0x4E75_4E71], &mut out)?;
+    let want = bytes_of(
+        rt.alloc(),
+        &[0x3F3, 0, 1, 0, 0, 1, 0x3E9, 1, 0x4E75_4E71, 0x3F2],
+    )?;
+    assert_eq!(rt; out.into_inner().into_inner().as_slice(), want.as_slice());
+    Ok(())
+}
