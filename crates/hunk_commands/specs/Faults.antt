@@ -4,7 +4,8 @@ use Rattle.std.specs.Fmt.{decimal}
 use Rattle.hunk_words.specs.declared.fault.Fault.{Fault}
 use Rattle.hunk_words.specs.declared.reason.Reason.{Reason}
 use Rattle.hunk_words.specs.declared.reason.Reason.TheVariants as reasons
-use Rattle.hunk_words.specs.Reasons.{name_of, number_of}
+use Rattle.hunk_words.specs.FaultLines.{refusal_line, write_line}
+use Rattle.hunk_words.specs.Reasons.{number_of}
 use Rattle.hunk_scatter.specs.LoaderReasons.{between}
 use Rattle.hunk_commands.specs.declared.fault.RunFault.{RunFault}
 use Rattle.hunk_commands.specs.declared.fault.RunFault.TheVariants.{HexText, Memory, Read, Refused, Write}
@@ -17,18 +18,12 @@ status_of (Read place) = 3
 status_of (Write written) = 3
 status_of Memory = 4
 
--- the hunk that has no base, where that is the reason
-abbrev pub hunk_of : Reason → List ℕ
-hunk_of (reasons.NoBase hunk) = codes " hunk " ++ decimal hunk
-hunk_of _ = []
-
 -- the line, without its end
 abbrev pub line_of : RunFault → List ℕ
-line_of (Refused fault) = codes "refused at byte " ++ decimal fault.place ++ codes ": " ++ name_of fault.reason
-    ++ codes " (" ++ decimal (number_of fault.reason) ++ codes ")" ++ hunk_of fault.reason
+line_of (Refused fault) = refusal_line fault
 line_of HexText = codes "hex text refused"
 line_of (Read place) = codes "reading failed at byte " ++ decimal place
-line_of (Write written) = codes "writing failed after " ++ decimal written ++ codes " bytes"
+line_of (Write written) = write_line (record { written = written })
 line_of Memory = codes "out of memory"
 
 -- the output failed

@@ -45,17 +45,12 @@ impl fmt::Display for RunFault {
 
     fn fmt<W: fmt::Write>(&self, f: &mut fmt::Formatter<W>) -> fmt::Result {
         match self {
-            RunFault::Refused(Fault { place, reason }) => {
-                let (name, number) = (reason.name(), reason.number());
-                match reason {
-                    Reason::NoBase(hunk) => {
-                        write!(f, "refused at byte {place}: {name} ({number}) hunk {hunk}")
-                    }
-                    _ => write!(f, "refused at byte {place}: {name} ({number})"),
-                }
-            }
+            RunFault::Refused(fault) => write!(f, "{fault}"),
             RunFault::Read { place } => write!(f, "reading failed at byte {place}"),
-            RunFault::Write { written } => write!(f, "writing failed after {written} bytes"),
+            RunFault::Write { written } => {
+                let fault = WriteFault { written: *written };
+                write!(f, "{fault}")
+            }
             RunFault::Memory => write!(f, "out of memory"),
             RunFault::HexText => write!(f, "hex text refused"),
         }

@@ -1,8 +1,11 @@
 //! What a command line asks for.
-ghost use Rattle.std.specs.Prelude.{◌≡◌, IfOk};
+ghost use Rattle.std.specs.Prelude.{◌≡◌, Some, IfOk};
+ghost use Rattle.hunk_orders.specs.FaultTexts.{fault_text};
 ghost use Rattle.hunk_orders.specs.declared.asked.OrderFault.TheVariants.{Memory};
 
 use std::alloc::{AllocError, Global};
+use std::error::Error;
+use std::fmt;
 use std::marker::Model;
 
 /// A file's name, as the command line has it.
@@ -79,6 +82,20 @@ pub enum OrderFault {
     /// No memory was given.
     Memory,
 }
+
+impl fmt::Display for OrderFault {
+    ghost output = { λ fault. Some (fault_text fault) };
+
+    fn fmt<W: fmt::Write>(&self, f: &mut fmt::Formatter<W>) -> fmt::Result {
+        match self {
+            OrderFault::Line => write!(f, "command line refused"),
+            OrderFault::Help(text) => write!(f, "{text}"),
+            OrderFault::Memory => write!(f, "out of memory"),
+        }
+    }
+}
+
+impl Error for OrderFault {}
 
 impl From<AllocError> for OrderFault {
     ghost from_gives = { λ _ fault. fault ≡ Memory };

@@ -134,3 +134,5 @@ module _ {W T : Type 0} (taken : W → Option (List ℕ)) (old new : Writing W) 
     pub flushed_quiet : (failed : W → Bool) (at_first : Bool) → (lost ≡ false → failed old.sink ≡ at_first) → OnOk r (failed new.sink ≡ failed old.sink) →
         now ≡ false → failed new.sink ≡ at_first
     flushed_quiet failed at_first quiet same fine = quiet_too failed at_first lost first start text held quiet sends counts stays same (sym kept ∙ fine)
+
+pub ruleset flushing = (flushed, flushed_page, flushed_quiet)

@@ -1,5 +1,6 @@
 pub mod Bits
 pub mod Carriers
+pub mod FaultLines
 pub mod Limits
 pub mod Longs
 pub mod Prints

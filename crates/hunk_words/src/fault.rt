@@ -1,4 +1,6 @@
 //! Where an input is refused, and why.
+ghost use Rattle.std.specs.Prelude.{Some};
+ghost use Rattle.hunk_words.specs.FaultLines.{refusal_line};
 
 use crate::reason::Reason;
 use std::error::Error;
@@ -27,15 +29,10 @@ pub type FileFault = Fault;
 pub type LoadFault = Fault;
 
 impl fmt::Display for Fault {
+    ghost output = { λ fault. Some (refusal_line fault) };
+
     fn fmt<W: fmt::Write>(&self, f: &mut fmt::Formatter<W>) -> fmt::Result {
-        let (place, name, number) = (self.place, self.reason.name(), self.reason.number());
-        match self.reason {
-            Reason::NoBase(hunk) => write!(
-                f,
-                "refused at byte {place}: {name} ({number}) hunk {hunk}"
-            ),
-            _ => write!(f, "refused at byte {place}: {name} ({number})"),
-        }
+        write!(f, "refused at byte {}: {}", self.place, self.reason)
     }
 }
 

@@ -1,9 +1,12 @@
 //! The writer of longwords.
-ghost use Rattle.std.specs.Prelude.{◌≡◌, ◌+◌, ◌^◌, ◌<◌, [], ◌∷◌, true, false, length, is_err, OnOk, IfErr, OnErr, IsErr};
+ghost use Rattle.std.specs.Prelude.{◌≡◌, ◌+◌, ◌^◌, ◌<◌, [], ◌∷◌, true, false, length, is_err, OnOk, IfErr, OnErr, IsErr, Some};
+ghost use Rattle.hunk_words.specs.FaultLines.{write_line};
 ghost use Rattle.hunk_words.specs.Puts.{Puts};
 ghost use Rattle.hunk_words.specs.Longs.{bytes_of};
 
 use crate::sink::Sink;
+use std::error::Error;
+use std::fmt;
 use std::marker::Model;
 
 /// Says that a put failed, and how many bytes have gone out since the writer was made.
@@ -11,6 +14,16 @@ use std::marker::Model;
 pub struct WriteFault {
     pub written: u64,
 }
+
+impl fmt::Display for WriteFault {
+    ghost output = { λ fault. Some (write_line fault) };
+
+    fn fmt<W: fmt::Write>(&self, f: &mut fmt::Formatter<W>) -> fmt::Result {
+        write!(f, "writing failed after {} bytes", self.written)
+    }
+}
+
+impl Error for WriteFault {}
 
 /// A writer of longwords over a sink, which counts the bytes that have gone out.
 ///

@@ -99,7 +99,7 @@ impl<'a, W: Sink, const ROOM: usize> PagePrinter<'a, W, ROOM> {
     ///
     /// At a `WriteFault` the sink failed, now or before, and just the first `written` bytes of all
     /// that was ever put have gone out.
-    #[tactic(auto, using(crate::proofs::PrintLaws::flushed, crate::proofs::PrintLaws::flushed_page, crate::proofs::PrintLaws::flushed_quiet))]
+    #[tactic(auto, using(crate::proofs::PrintLaws::flushing))]
     pub fn flush(&mut self) -> Result<(), WriteFault>
         requires { self.old.origin.written + length self.old.text < 2 ^ 64 }
         ensures same { Prints self.old self.new [] }

@@ -1,6 +1,10 @@
 //! The reasons of refusals.
-ghost use Rattle.std.specs.Prelude.{◌≡◌};
+ghost use Rattle.std.specs.Prelude.{◌≡◌, Some};
+ghost use Rattle.hunk_words.specs.FaultLines.{reason_line};
 ghost use Rattle.hunk_words.specs.Reasons.{name_of, number_of};
+
+use std::error::Error;
+use std::fmt;
 
 /// Why an input is refused. The numbers count from 1 in this order.
 #[derive(Clone, Copy, Debug, PartialEq, Eq)]
@@ -148,3 +152,17 @@ impl Reason {
         }
     }
 }
+
+impl fmt::Display for Reason {
+    ghost output = { λ reason. Some (reason_line reason) };
+
+    fn fmt<W: fmt::Write>(&self, f: &mut fmt::Formatter<W>) -> fmt::Result {
+        let (name, number) = (self.name(), self.number());
+        match self {
+            Reason::NoBase(hunk) => write!(f, "{name} ({number}) hunk {hunk}"),
+            _ => write!(f, "{name} ({number})"),
+        }
+    }
+}
+
+impl Error for Reason {}

@@ -1,14 +1,26 @@
 //! What bytes are pulled from.
-ghost use Rattle.std.specs.Prelude.{◌≡◌, ℕ, List, Option, Bool, false, ◌||◌, Some, is_err};
+ghost use Rattle.std.specs.Prelude.{◌≡◌, ℕ, List, Option, Bool, false, ◌||◌, Some, codes, is_err};
 ghost use Rattle.std.specs.Io.KnownBytes.{ReadConsumes};
 ghost use Rattle.std.specs.Io.{ReadsAtMost};
 
+use std::error::Error;
+use std::fmt;
 use std::io::Read;
 use std::marker::Model;
 
 /// Says that a pull or a push failed.
 #[derive(Clone, Copy, Debug, PartialEq, Eq)]
 pub struct Failed;
+
+impl fmt::Display for Failed {
+    ghost output = { λ _. Some (codes "reading or writing failed") };
+
+    fn fmt<W: fmt::Write>(&self, f: &mut fmt::Formatter<W>) -> fmt::Result {
+        write!(f, "reading or writing failed")
+    }
+}
+
+impl Error for Failed {}
 
 /// What bytes are pulled from.
 ///

@@ -43,9 +43,8 @@ fn line_of(alloc: Global, asked: &Result<Order, OrderFault>) -> Result<String, A
             let (input, output) = (input.as_str(), output.as_str());
             format!(in alloc; "rewrite {strip} {input} {output}")
         }
-        Err(OrderFault::Line) => format!(in alloc; "refused"),
         Err(OrderFault::Help(_)) => format!(in alloc; "help"),
-        Err(OrderFault::Memory) => format!(in alloc; "memory"),
+        Err(fault) => format!(in alloc; "{fault}"),
     }
 }
 
@@ -132,6 +131,8 @@ fn no_word_at_all(rt: HostRuntime) -> Result<(), Fail> {
     Ok(())
 }
 
+const REFUSED_LINE: &str = "command line refused";
+
 const REFUSED: &[&[&str]] = &[
     &["list"],
     &["SHOW"],
@@ -161,7 +162,7 @@ const REFUSED: &[&[&str]] = &[
 #[test]
 fn refused_words(rt: HostRuntime) -> Result<(), Fail> {
     for words in REFUSED {
-        expect(&rt, rt.alloc(), words, "refused")?;
+        expect(&rt, rt.alloc(), words, REFUSED_LINE)?;
     }
     Ok(())
 }
@@ -181,7 +182,7 @@ const REFUSED_BASES: &[&str] = &[
 #[test]
 fn refused_bases(rt: HostRuntime) -> Result<(), Fail> {
     for base in REFUSED_BASES {
-        expect(&rt, rt.alloc(), &["relocate", "--base", base], "refused")?;
+        expect(&rt, rt.alloc(), &["relocate", "--base", base], REFUSED_LINE)?;
     }
     Ok(())
 }
@@ -202,7 +203,7 @@ const REFUSED_BUDGETS: &[&str] = &[
 fn refused_budgets(rt: HostRuntime) -> Result<(), Fail> {
     for budget in REFUSED_BUDGETS {
         let words = ["relocate", "--base", "00000000", "--budget", budget];
-        expect(&rt, rt.alloc(), &words, "refused")?;
+        expect(&rt, rt.alloc(), &words, REFUSED_LINE)?;
     }
     Ok(())
 }

@@ -1,6 +1,8 @@
 //! Fields of longwords, by values from the table of block types and the examples of size words.
 
-use hunk_words::{Assembler, BlockWord, Fault, Kind, Memory, Reason, SizeWord, word_at};
+use hunk_words::{
+    Assembler, BlockWord, Failed, Fault, Kind, Memory, Reason, SizeWord, WriteFault, word_at,
+};
 use std::test::Fail;
 
 #[test]
@@ -101,5 +103,9 @@ fn fault_texts(rt: HostRuntime) -> Result<(), Fail> {
     assert_eq!(rt; text.as_str(), "refused at byte 52: BadOffset (24)");
     let text = format!(in rt.alloc(); "{no_base}")?;
     assert_eq!(rt; text.as_str(), "refused at byte 56: NoBase (29) hunk 1");
+    let text = format!(in rt.alloc(); "{}", no_base.reason)?;
+    assert_eq!(rt; text.as_str(), "NoBase (29) hunk 1");
+    let text = format!(in rt.alloc(); "{}, {Failed}", WriteFault { written: 6 })?;
+    assert_eq!(rt; text.as_str(), "writing failed after 6 bytes, reading or writing failed");
     Ok(())
 }
