@@ -11,8 +11,8 @@ const LIMITS: Limits = Limits {
     file_bytes: 0x0040_0000,
 };
 
-/// Loads a program behind what the memory has already, where it lies from the address `start` on.
-/// Gives the address of its first longword. Where it is refused, the memory stays as it was.
+/// Loads a program behind what the memory has already, which is where the address `start` is. Gives
+/// the address that it begins at.
 ///
 /// # Errors
 ///
@@ -24,7 +24,6 @@ pub fn load_program<R: Read + Drop>(
     start: u32,
 ) -> anyhow::Result<u32> {
     let image = load(alloc, &mut FromRead::new(file), LIMITS, &Packed { start })?;
-    memory.reserve(image.bytes() as usize)?;
     for (_, segment) in image.segments() {
         memory.extend_from_slice(segment)?;
     }

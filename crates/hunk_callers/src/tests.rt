@@ -2,7 +2,7 @@
 
 use crate::{describe, list_symbols, load_program, write_program};
 use hunk_testing::bytes_of;
-use hunk_words::{FromWrite, LongWriter};
+use hunk_words::FromWrite;
 use std::test::Fail;
 
 /// A program of one longword, with a symbol.
@@ -23,6 +23,9 @@ const PROGRAM: &[u32] = &[
     0,
     0x3F2,
 ];
+
+/// The same without it.
+const ONE_HUNK: &[u32] = &[0x3F3, 0, 1, 0, 0, 1, 0x3E9, 1, 0x4E75_4E71, 0x3F2];
 
 /// An object file with a relocation whose target is no hunk, and whose offset is behind the hunk.
 const AMISS: &[u32] = &[0x3E7, 0, 0x3E9, 1, 0, 0x3EC, 1, 1, 2, 0, 0x3F2];
@@ -60,12 +63,9 @@ fn lists_symbols(rt: HostRuntime) -> Result<(), Fail> {
 
 #[test]
 fn writes_a_program(rt: HostRuntime) -> Result<(), Fail> {
-    let mut out = LongWriter::new(FromWrite::new(Vec::new(rt.alloc())));
-    write_program(&[0x4E75_4E71], &mut out)?;
-    let want = bytes_of(
-        rt.alloc(),
-        &[0x3F3, 0, 1, 0, 0, 1, 0x3E9, 1, 0x4E75_4E71, 0x3F2],
-    )?;
-    assert_eq!(rt; out.into_inner().into_inner().as_slice(), want.as_slice());
+    let sink = FromWrite::new(Vec::new(rt.alloc()));
+    let file = write_program(&[0x4E, 0x75, 0x4E, 0x71], sink)?.into_inner();
+    let want = bytes_of(rt.alloc(), ONE_HUNK)?;
+    assert_eq!(rt; file.as_slice(), want.as_slice());
     Ok(())
 }
