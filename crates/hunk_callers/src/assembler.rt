@@ -1,15 +1,18 @@
 //! An assembler's output.
 
+use anyhow::ensure;
 use hunk_words::{LongWriter, Sink};
 
-/// Writes a load file of one hunk, whose code these bytes are, a whole number of longwords.
+/// Writes a load file of one hunk, whose code these bytes are.
 ///
 /// # Errors
 ///
-/// The code has more longwords than a hunk can have, or the writer failed, after as many bytes as the
-/// fault tells.
+/// The code is no whole number of longwords, or has more than a hunk can have, or the writer failed,
+/// after as many bytes as the error tells.
 pub fn write_program<W: Sink + Drop>(code: &[u8], sink: W) -> anyhow::Result<W> {
+    ensure!(code.len() % 4 == 0, "code of {} bytes", code.len());
     let size = u32::try_from(code.len() / 4)?;
+    ensure!(size < 1 << 30, "code of {size} longwords");
     let mut out = LongWriter::new(sink);
     for long in [0x3F3, 0, 1, 0, 0, size, 0x3E9, size] {
         out.put_long(long)?;

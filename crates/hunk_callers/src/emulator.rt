@@ -16,7 +16,7 @@ const LIMITS: Limits = Limits {
 ///
 /// # Errors
 ///
-/// The refusal of the file, with its place, or want of memory.
+/// The file is rejected, with the place and the reason, or memory ran out.
 pub fn load_program<R: Read + Drop>(
     alloc: Global,
     file: R,

@@ -69,3 +69,10 @@ fn writes_a_program(rt: HostRuntime) -> Result<(), Fail> {
     assert_eq!(rt; file.as_slice(), want.as_slice());
     Ok(())
 }
+
+#[test]
+fn refuses_half_a_longword(rt: HostRuntime) -> Result<(), Fail> {
+    let sink = FromWrite::new(Vec::new(rt.alloc()));
+    assert!(rt; write_program(&[0x4E, 0x75], sink).is_err());
+    Ok(())
+}
