@@ -5,6 +5,7 @@ ghost use Rattle.hunk_commands.specs.declared.fault.RunFault.TheVariants.{Memory
 
 use hunk_words::{Fault, Reason, WriteFault};
 use std::alloc::{AllocError, AllocFailed};
+use std::error::Error;
 use std::fmt;
 
 /// The line of `Memory`, which is printed where there is no memory for another one.
@@ -56,6 +57,8 @@ impl fmt::Display for RunFault {
         }
     }
 }
+
+impl Error for RunFault {}
 
 impl From<Fault> for RunFault {
     ghost from_gives = { λ refusal fault. fault ≡ refused_as refusal };
