@@ -1,6 +1,8 @@
 mod Consumed
 mod Engines
 mod FileLaws
+mod HexJoin
+mod HexPieces
 mod ListingLengths
 mod RewriteLaws
 mod StrippedSize

@@ -1,7 +1,11 @@
 -- Hexadecimal text with blanks in it.
-use Rattle.std.specs.Prelude.{◌==◌, ◌||◌, ◌≡◌, ℕ, Bool, not, List, Ok}
+use Rattle.std.specs.Prelude.{◌==◌, ◌||◌, ◌≡◌, ◌<◌, ◌++◌, ℕ, Bool, true, false, not, List, Option, Ok, length}
 use Rattle.std.specs.List.{filter}
+use Rattle.std.specs.Io.KnownBytes.{Consumes, IsAtEnd}
 use Rattle.hex.specs.Hex.{decode_of}
+use Rattle.hunk_commands.specs.Inputs.{ReadsInVain}
+use Rattle.hunk_commands.specs.declared.fault.RunFault.{RunFault}
+use Rattle.hunk_commands.specs.declared.fault.RunFault.TheVariants as faults
 
 -- a space, a tab, CR or LF
 abbrev pub is_blank : ℕ → Bool
@@ -13,3 +17,45 @@ without_blanks text = filter (λ byte. not (is_blank byte)) text
 -- the text, without its blanks, is hexadecimal text of the bytes
 abbrev pub Spells : List ℕ → List ℕ → Type 0
 Spells text bytes = decode_of (without_blanks text) ≡ Ok bytes
+
+-- ---- text that comes by pieces
+
+-- its digits, but for the last ones, which are held, spell the bytes
+abbrev pub SpellsBefore : List ℕ → List ℕ → List ℕ → Type 0
+SpellsBefore text bytes held = (digits : List ℕ) × (without_blanks text ≡ digits ++ held) × (decode_of digits ≡ Ok bytes)
+
+-- no text that begins so spells any bytes
+abbrev pub SpellsNever : List ℕ → Type 0
+SpellsNever text = (more bytes : List ℕ) → ¬ Spells (text ++ more) bytes
+
+-- what is known of the text so far, which is refused or not
+abbrev pub IsDecoded : Bool → List ℕ → List ℕ → List ℕ → Type 0
+IsDecoded true text bytes held = SpellsNever text
+IsDecoded false text bytes held = SpellsBefore text bytes held
+
+-- the bytes that the digits spell were appended, or they spell none
+abbrev pub AppendsSpelled : Bool → List ℕ → List ℕ → List ℕ → Type 0
+AppendsSpelled true digits old new = (more : List ℕ) × (decode_of digits ≡ Ok more) × (new ≡ old ++ more)
+AppendsSpelled false digits old new = (more : List ℕ) → ¬ (decode_of digits ≡ Ok more)
+
+-- ---- a source's text: a was left before and b is left now
+
+-- fewer than `most` bytes of text, read to its end, spell the bytes
+pub record ReadsHex (a b : Option (List ℕ)) (most : ℕ) (bytes : List ℕ) : Type 0 where
+  pub text : List ℕ
+  pub consumed : Consumes a b text
+  pub at_end : IsAtEnd b
+  pub few : length text < most
+  pub spells : Spells text bytes
+
+-- its text, read to its end, spells no bytes
+pub record SpellsNone (a b : Option (List ℕ)) : Type 0 where
+  pub text : List ℕ
+  pub consumed : Consumes a b text
+  pub at_end : IsAtEnd b
+  pub none : (bytes : List ℕ) → ¬ Spells text bytes
+
+-- why no bytes were read: its text was not read to its end in fewer than `most` bytes, or spells none
+abbrev pub ReadsNoHex : RunFault → Option (List ℕ) → Option (List ℕ) → ℕ → Bool → Type 0
+ReadsNoHex faults.HexText a b most failed = SpellsNone a b
+ReadsNoHex fault a b most failed = ReadsInVain fault a b most failed

@@ -1,14 +1,33 @@
 //! A source read to its end.
-ghost use Rattle.std.specs.Prelude.{◌≡◌, ◌<◌, ℕ, List, false, length, IfOk, OnOk, IfErr};
+ghost use Rattle.std.specs.Prelude.{◌≡◌, ◌<◌, ◌++◌, [], ℕ, List, false, length, IfOk, OnOk, IfErr};
 ghost use Rattle.std.specs.Io.KnownBytes.{Consumes, IsAtEnd};
 ghost use Rattle.hunk_scatter.specs.LoadOutcomes.{Gives};
 ghost use Rattle.hunk_commands.specs.Inputs.{ReadsInVain};
 
 use crate::fault::RunFault;
 use hunk_words::{Fault, Reason, Source};
-use std::alloc::Global;
+use std::alloc::{AllocError, Global};
 
+/// How many bytes are asked for at a time.
 const PIECE: usize = 65_536;
+
+/// What takes the bytes of a source piece by piece.
+pub(crate) trait Taker {
+    ghost took: { Self → List ℕ };
+
+    /// Takes the bytes that follow.
+    fn take(&mut self, piece: &[u8]) -> Result<(), AllocError>
+        ensures { OnOk result (took self.new ≡ took self.old ++ piece.now) };
+}
+
+/// A list keeps them all.
+impl Taker for Vec<u8> {
+    ghost took = { λ s. s.items };
+
+    fn take(&mut self, piece: &[u8]) -> Result<(), AllocError> {
+        self.extend_from_slice(piece)
+    }
+}
 
 /// All that the source has left, which are fewer than `most` bytes.
 ///
@@ -25,22 +44,43 @@ pub fn read_whole<S: Source>(alloc: Global, source: &mut S, most: u64) -> Result
     ensures sound { S.failed source.old ≡ false → OnOk result (S.failed source.new ≡ false) }
 {
     let mut held = Vec::new(alloc);
+    read_all(source, most, &mut held)?;
+    Ok(held)
+}
+
+/// Hands all that the source has left to the taker, which has taken nothing yet. The faults are those
+/// of `read_whole`.
+pub(crate) fn read_all<S: Source, T: Taker>(
+    source: &mut S,
+    most: u64,
+    taker: &mut T,
+) -> Result<(), RunFault>
+    requires { T.took taker.old ≡ [] }
+    ensures given { OnOk result
+        (Consumes (S.left source.old) (S.left source.new) (T.took taker.new)) }
+    ensures at_end { OnOk result (IsAtEnd (S.left source.new)) }
+    ensures bound { OnOk result (length (T.took taker.new) < most) }
+    ensures err { IfErr result
+        (λ fault. ReadsInVain fault (S.left source.old) (S.left source.new) most (S.failed source.new)) }
+    ensures within { (given : List ℕ) × Gives (S.left source.old) (S.left source.new) most given }
+    ensures sound { S.failed source.old ≡ false → OnOk result (S.failed source.new ≡ false) }
+{
     let mut buf = [0u8; PIECE];
-    'reading: while (held.len() as u64) < most {
-        let room = most - held.len() as u64;
+    let mut count = 0u64;
+    'reading: while count < most {
+        let room = most - count;
         let ask = if room < PIECE as u64 {
             room as usize
         } else {
             PIECE
         };
         match source.pull(&mut buf[..ask]) {
-            Ok(0) => return Ok(held),
-            Ok(n) => held.extend_from_slice(&buf[..n])?,
-            Err(_) => {
-                return Err(RunFault::Read {
-                    place: held.len() as u64,
-                });
+            Ok(0) => return Ok(()),
+            Ok(n) => {
+                taker.take(&buf[..n])?;
+                count += n as u64;
             }
+            Err(_) => return Err(RunFault::Read { place: count }),
         }
     }
     Err(RunFault::Refused(Fault {

@@ -2,4 +2,5 @@
 
 mod carriers;
 mod fields;
+mod printing;
 mod writing;

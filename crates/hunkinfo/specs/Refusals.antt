@@ -37,10 +37,3 @@ RefusesText listing refusal a b most =
 abbrev pub RefusesSource : Bool → Listing → Fault → Option (List ℕ) → Option (List ℕ) → ℕ → Bool → Type 0
 RefusesSource true listing refusal a b most failed = RefusesText listing refusal a b most
 RefusesSource false listing refusal a b most failed = RefusesListing listing refusal a b most failed
-
--- its text spells no bytes
-pub record SpellsNone (a b : Option (List ℕ)) : Type 0 where
-  pub text : List ℕ
-  pub consumed : Consumes a b text
-  pub at_end : IsAtEnd b
-  pub none : (bytes : List ℕ) → ¬ Spells text bytes

@@ -15,7 +15,7 @@ use Rattle.hunk_commands.specs.declared.fault.RunFault.TheVariants as faults
 use Rattle.hunkinfo.specs.declared.run.listing.Listing.{Listing}
 use Rattle.hunkinfo.specs.declared.run.listing.Listing.TheVariants as listings
 use Rattle.hunk_commands.specs.Faults.{line_of}
-use Rattle.hunk_commands.specs.HexText.{Spells}
+use Rattle.hunk_commands.specs.HexText.{Spells, SpellsNone}
 use Rattle.hunk_commands.specs.Inputs.{Gave}
 use Rattle.hunk_commands.specs.Shown.{IsShown}
 use Rattle.hunk_commands.specs.Output.{Takes}
@@ -93,10 +93,10 @@ pub record ListsSource {W : Type 0} (hex : Bool) (listing : Listing) (a b : Opti
   pub is_listed : IsListed listing input text
   pub takes : Takes taken old new text
 
--- why no text of at most so many bytes was read; `failed` is whether the source failed
+-- why no bytes were read that a text of at most so many bytes spells; `failed` is whether the source failed
 abbrev pub ReadsNoText : RunFault → Option (List ℕ) → Option (List ℕ) → ℕ → Bool → Type 0
 ReadsNoText (faults.Refused refusal) a b most failed = (refusal.reason ≡ reasons.FileLimit) × (refusal.place ≡ most) × Gave a b (most + 1)
 ReadsNoText (faults.Read place) a b most failed = (failed ≡ true) × Gave a b place
 ReadsNoText faults.Memory a b most failed = ⊤
 ReadsNoText (faults.Write written) a b most failed = ⊥
-ReadsNoText faults.HexText a b most failed = ⊥
+ReadsNoText faults.HexText a b most failed = SpellsNone a b

@@ -1,8 +1,10 @@
 //! A file that is created at its first byte.
-ghost use Rattle.std.specs.Prelude.{◌≡◌, ◌≤◌, length, IfOk, option_and_then};
+ghost use Rattle.std.specs.Prelude.{◌≡◌, ◌≤◌, ◌↔◌, true, false, length, is_err, not, IfOk, IsErr, IsErrAnd, option_and_then};
 ghost use Rattle.std.specs.Io.KnownBytes.{WriteAppends};
+ghost use Rattle.hunkinfo.specs.Settling.{IsLoss};
 
 use hunk_words::{Failed, Sink};
+use std::fs::OpenFile;
 use std::io::Write;
 use std::rt::Files;
 use std::{fs, io};
@@ -10,12 +12,14 @@ use std::{fs, io};
 /// A sink that creates its file, or empties it where it is there, at its first `push`.
 ///
 /// An error of creating or writing, and a write that takes none of a non-empty slice, is `Failed`.
+/// What was pushed is settled once the file has answered for it: `settle`.
 #[derive(Drop)]
 pub(crate) struct ToFile<'a, T: Files> {
     rt: &'a T,
     name: &'a str,
     file: Option<T::File>,
     failed: bool,
+    settled: bool,
 }
 
 impl<'a, T: Files> ToFile<'a, T> {
@@ -26,7 +30,31 @@ impl<'a, T: Files> ToFile<'a, T> {
             name,
             file: None,
             failed: false,
+            settled: false,
         }
+    }
+
+    /// Has the file keep all that was pushed, and waits until it does. A pipe or a terminal has
+    /// nothing to keep, which is no failure; nor is it where nothing was pushed.
+    ///
+    /// # Errors
+    ///
+    /// `Failed` where some of what was pushed is lost, as where a full disk or a quota is told of
+    /// late.
+    pub(crate) fn settle(&mut self) -> Result<(), Failed>
+        ensures settled { self.new.settled ≡ not (is_err result) }
+        ensures failed { IsErr result → self.new.failed ≡ true }
+    {
+        let kept = match &self.file {
+            Some(file) => keeps_all(file.sync_all()),
+            None => true,
+        };
+        self.settled = kept;
+        if kept {
+            return Ok(());
+        }
+        self.failed = true;
+        Err(Failed)
     }
 
     fn write(&mut self, bytes: &[u8]) -> io::Result<usize>
@@ -63,5 +91,18 @@ impl<T: Files> Sink for ToFile<'_, T> {
                 Err(Failed)
             }
         }
+    }
+}
+
+/// Whether a file that answers so to `sync_all` keeps all that was written, as far as it keeps anything.
+fn keeps_all(answer: io::Result<()>) -> bool
+    ensures { result ≡ false ↔ IsErrAnd answer IsLoss }
+{
+    match answer {
+        Ok(()) => true,
+        Err(error) => matches!(
+            error.kind(),
+            io::ErrorKind::InvalidInput | io::ErrorKind::Unsupported
+        ),
     }
 }

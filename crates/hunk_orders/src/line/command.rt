@@ -23,6 +23,11 @@ Exit status:
   3  reading or writing failed
   4  out of memory";
 
+const AFTER_REWRITE: &str = "\
+OUT is overwritten in its place, and left incomplete where writing it fails.
+To rewrite a file in its own place, rename what was written where that succeeds:
+  hunkinfo rewrite IN IN.new && mv IN.new IN";
+
 // `--name`.
 fn flag<'a>(alloc: Global, name: &'a str, help: &'a str) -> Arg<'a>
     ensures rule { rule_of result ≡ spec.flag name.entry.now }
@@ -188,12 +193,20 @@ fn output_positional<'a>(alloc: Global) -> Arg<'a>
     )
 }
 
+/// The command `rewrite` without its arguments yet, with what its help says of OUT.
+fn bare_rewrite<'a>(alloc: Global) -> Command<'a>
+    ensures app { app_of result ≡ new_app (codes "rewrite") }
+    ensures local { (fields_of result).has_globals ≡ false }
+{
+    let about = "Reads a load file or an object file, and writes it again";
+    command(alloc, "rewrite", about).after_help(AFTER_REWRITE)
+}
+
 fn rewrite<'a>(alloc: Global) -> Result<Command<'a>, AllocError>
     ensures { IfOk result (λ command. (app_of command ≡ spec.rewrite)
         × ((fields_of command).has_globals ≡ false)) }
 {
-    let about = "Reads a load file or an object file, and writes it again";
-    command(alloc, "rewrite", about)
+    bare_rewrite(alloc)
         .arg(strip_flag(alloc))?
         .arg(mandatory(input_positional(alloc)))?
         .arg(mandatory(output_positional(alloc)))

@@ -6,7 +6,7 @@ use std::test::Fail;
 
 /// Takes at most `step` bytes at a time, and fails once it has taken `room`.
 #[derive(Drop)]
-struct Limited {
+pub(super) struct Limited {
     room: usize,
     step: usize,
     failed: bool,
@@ -17,7 +17,7 @@ struct Limited {
 }
 
 impl Limited {
-    fn of(room: usize, step: usize) -> Limited
+    pub(super) fn of(room: usize, step: usize) -> Limited
         requires { 0 < step }
     {
         Limited {
@@ -27,6 +27,11 @@ impl Limited {
             taken: [0; 64],
             count: 0,
         }
+    }
+
+    /// The bytes that it has taken.
+    pub(super) fn taken(&self) -> &[u8] {
+        &self.taken[..self.count]
     }
 }
 
@@ -73,8 +78,7 @@ fn stops_after_each_number_of_bytes(rt: HostRuntime) -> Result<(), Fail> {
             }
             assert_eq!(rt; out.written(), written);
             let sink = out.into_inner();
-            assert_eq!(rt; sink.count, room);
-            assert_eq!(rt; &sink.taken[..room], &text[..room]);
+            assert_eq!(rt; sink.taken(), &text[..room]);
         }
     }
     Ok(())

@@ -1,15 +1,15 @@
 //! The commands that print what they find in one input.
-ghost use Rattle.std.specs.Prelude.{◌≡◌, ◌≢◌, ◌≤◌, IfErr, IfOk, OnOk, false, length};
-ghost use Rattle.std.specs.Io.KnownBytes.{Consumes, IsAtEnd};
+ghost use Rattle.std.specs.Prelude.{◌≡◌, ◌≢◌, ◌≤◌, ◌+◌, IfErr, IfOk, false};
 ghost use Rattle.hunk_words.specs.declared.fault.Fault.{Fault};
 ghost use Rattle.hunk_commands.specs.declared.fault.RunFault.TheVariants.{HexText, Refused};
+ghost use Rattle.hunk_commands.specs.HexText.{ReadsHex, SpellsNone};
 ghost use Rattle.hunk_commands.specs.Output.{StopsOutput};
 ghost use Rattle.hunkinfo.specs.Status.{TellsStatus};
-ghost use Rattle.hunkinfo.specs.Refusals.{RefusesListing, RefusesSource, SpellsNone};
+ghost use Rattle.hunkinfo.specs.Refusals.{RefusesListing, RefusesSource};
 ghost use Rattle.hunkinfo.specs.Runs.{Lists, ListsSource, ReadsNoText};
 
 use crate::run::FILE_BYTES;
-use hunk_commands::{RunFault, read_whole, relocate, show, unhex, validate};
+use hunk_commands::{RunFault, read_hex, relocate, show, validate};
 use hunk_orders::FileName;
 use hunk_scatter::Limits;
 use hunk_words::{Fault, FromRead, FromSlice, LongWriter, Sink, Source};
@@ -82,21 +82,18 @@ fn list_source<R: Source, W: Sink>(
     if !hex {
         return list_bytes(alloc, listing, source, out);
     }
-    let text = text_of(alloc, source)?;
-    let bytes = unhex(alloc, text.as_slice())?;
+    let bytes = spelled_bytes(alloc, source)?;
     list_bytes(alloc, listing, &mut FromSlice::new(bytes.as_slice()), out)
 }
 
-/// All of the source's text, which may have `FILE_BYTES` bytes and no more.
-fn text_of<R: Source>(alloc: Global, source: &mut R) -> Result<Vec<u8>, RunFault>
-    ensures given { IfOk result
-        (λ text. Consumes (R.left source.old) (R.left source.new) text.items) }
-    ensures at_end { OnOk result (IsAtEnd (R.left source.new)) }
-    ensures bound { IfOk result (λ text. length text.items ≤ FILE_BYTES) }
+/// The bytes that all of the source's text spells, which may have `FILE_BYTES` bytes and no more.
+fn spelled_bytes<R: Source>(alloc: Global, source: &mut R) -> Result<Vec<u8>, RunFault>
+    ensures spelled { IfOk result
+        (λ bytes. ReadsHex (R.left source.old) (R.left source.new) (FILE_BYTES + 1) bytes.items) }
     ensures err { IfErr result
         (λ fault. ReadsNoText fault (R.left source.old) (R.left source.new) FILE_BYTES (R.failed source.new)) }
 {
-    match read_whole(alloc, source, FILE_BYTES + 1) {
+    match read_hex(alloc, source, FILE_BYTES + 1) {
         Err(RunFault::Refused(Fault { place: _, reason })) => Err(RunFault::Refused(Fault {
             place: FILE_BYTES,
             reason,

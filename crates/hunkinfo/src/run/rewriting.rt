@@ -1,5 +1,5 @@
 //! The command `rewrite`, from one file to another.
-ghost use Rattle.std.specs.Prelude.{◌≡◌, ◌≤◌, ◌++◌, IfOk};
+ghost use Rattle.std.specs.Prelude.{◌≡◌, ◌≤◌, ◌++◌, true, IfOk, OnOk};
 ghost use Rattle.hunk_listing.specs.RewritingLines.{left_out_line, wrote_line};
 ghost use Rattle.hunkinfo.specs.Runs.{TellsRewriting};
 ghost use Rattle.hunkinfo.specs.Status.{Prints};
@@ -9,14 +9,15 @@ use crate::to_file::ToFile;
 use hunk_commands::{Rewritten, RunFault, rewrite};
 use hunk_listing::print_rewriting;
 use hunk_orders::FileName;
-use hunk_words::{FromRead, LongWriter, Printer, Sink};
+use hunk_words::{Failed, FromRead, LongWriter, Printer, Sink, Source};
 use std::alloc::Global;
 use std::fs;
 use std::rt::Files;
 
 /// Writes the file `input` again, to `output`, and gives how much was written.
 ///
-/// `output` is not touched before `input` was accepted.
+/// `output` is not touched before `input` was accepted, and keeps what was written where that
+/// succeeds.
 pub(super) fn rewrite_file<T: Files>(
     rt: &T,
     alloc: Global,
@@ -30,9 +31,34 @@ pub(super) fn rewrite_file<T: Files>(
     let Ok(file) = fs::open(rt, input.as_str()) else {
         return Err(RunFault::Read { place: 0 });
     };
-    let mut writer = LongWriter::new(ToFile::new(rt, output.as_str()));
-    let mut reader = FromRead::new(file);
-    rewrite(alloc, &mut reader, &mut writer, FILE_BYTES, strip)
+    let mut out = ToFile::new(rt, output.as_str());
+    rewrite_to(alloc, &mut FromRead::new(file), &mut out, strip)
+}
+
+/// Writes the file that the source gives again, to `out`, which is settled then.
+///
+/// # Errors
+///
+/// Those of `rewrite`; and where all was written and `out` does not keep it, a fault of writing
+/// after as many bytes.
+fn rewrite_to<R: Source, T: Files>(
+    alloc: Global,
+    source: &mut R,
+    out: &mut ToFile<'_, T>,
+    strip: bool,
+) -> Result<Rewritten, RunFault>
+    ensures told { IfOk result
+        (λ done. TellsRewriting strip (wrote_line done.written ++ left_out_line done.rest)) }
+    ensures settled { OnOk result (out.new.settled ≡ true) }
+{
+    let mut writer = LongWriter::new(&mut *out);
+    let done = rewrite(alloc, source, &mut writer, FILE_BYTES, strip)?;
+    match out.settle() {
+        Ok(()) => Ok(done),
+        Err(Failed) => Err(RunFault::Write {
+            written: done.written,
+        }),
+    }
 }
 
 /// Prints the lines that say how much was written, the first on this writer, and gives the status,

@@ -24,10 +24,10 @@ pub returns-clause-done : goal.returns-clause-done
 returns-clause-done g c =
     let hex : c.args.hex ≡ true = search rules in
     let bytes = c.in_ok-bytes.bytes.items in
-    let spells : Spells c.in_ok-text.text.items bytes = subst (λ (xs : List ℕ). Spells xs bytes) c.as_slice.ensures.value c.in_ok-bytes.ensures.spelled in
-    let known = ap {B = Option (List ℕ)} (λ (xs : List ℕ). Some xs) (c.new.ensures ∙ c.as_slice-2.ensures.value) in
-    lists_where_done g.W.Sink.taken c.args.out.now c.list_bytes-2.new.out c.args.listing c.args.hex _ _ _ _ c.in_ok-text.text.items bytes _
-    hex c.in_ok-text.ensures.given c.in_ok-text.ensures.at_end spells known c.list_bytes-2.ensures.done
+    let read = c.in_ok-bytes.ensures.spelled in
+    let known = ap {B = Option (List ℕ)} (λ (xs : List ℕ). Some xs) (c.new.ensures ∙ c.as_slice.ensures.value) in
+    lists_where_done g.W.Sink.taken c.args.out.now c.list_bytes-2.new.out c.args.listing c.args.hex _ _ _ _ read.text bytes _
+    hex read.consumed read.at_end read.spells known c.list_bytes-2.ensures.done
 
 -- where the bytes are refused, the text that spells them is
 refused_where : (listing : Listing) (hex : Bool) (a b c d : Option (List ℕ)) (given bytes : List ℕ) (most : ℕ) (failed : Bool) (result : Result ℕ RunFault) →
@@ -51,7 +51,7 @@ pub returns-clause-refused : goal.returns-clause-refused
 returns-clause-refused g c =
     let hex : c.args.hex ≡ true = search rules in
     let bytes = c.in_ok-bytes.bytes.items in
-    let spells : Spells c.in_ok-text.text.items bytes = subst (λ (xs : List ℕ). Spells xs bytes) c.as_slice.ensures.value c.in_ok-bytes.ensures.spelled in
-    let known = ap {B = Option (List ℕ)} (λ (xs : List ℕ). Some xs) (c.new.ensures ∙ c.as_slice-2.ensures.value) in
-    refused_where c.args.listing c.args.hex _ _ _ _ c.in_ok-text.text.items bytes _ _ _
-    hex c.in_ok-text.ensures.given c.in_ok-text.ensures.at_end spells known c.list_bytes-2.ensures.refused
+    let read = c.in_ok-bytes.ensures.spelled in
+    let known = ap {B = Option (List ℕ)} (λ (xs : List ℕ). Some xs) (c.new.ensures ∙ c.as_slice.ensures.value) in
+    refused_where c.args.listing c.args.hex _ _ _ _ read.text bytes _ _ _
+    hex read.consumed read.at_end read.spells known c.list_bytes-2.ensures.refused

@@ -1,0 +1,104 @@
+-- The text that a decoder has taken, a byte more of it, and what it spells.
+use Rattle.std.proofs.Common.{inl, inr, ◌≡◌, ℕ, ◌+◌, ◌%◌, ◌++◌, Bool, true, false, List, [], ◌∷◌, Ok, length, cond, not, refl, sym, ap, subst, ◌∙◌, arith, append_assoc, append-nil, length-append}
+use Rattle.std.specs.List.{filter}
+use Rattle.std.proofs.lemmas.List.Elements.{filter-append}
+use Rattle.std.specs.Prelude.{◌⊎◌}
+use Rattle.hex.specs.Hex.{decode_of, decode_pairs}
+use Rattle.hex.proofs.HexLemmas.{decode_of-ok}
+use Rattle.hunk_commands.specs.HexText.{AppendsSpelled, IsDecoded, Spells, SpellsBefore, SpellsNever, is_blank, without_blanks}
+use Rattle.hunk_commands.proofs.HexJoin.{decoded_joined, never_decoded}
+
+without_append : (text more : List ℕ) → without_blanks (text ++ more) ≡ without_blanks text ++ without_blanks more
+without_append text more = filter-append (λ (byte : ℕ). not (is_blank byte)) text more
+
+without_one : (byte : ℕ) (blank : Bool) → is_blank byte ≡ blank → without_blanks (byte ∷ []) ≡ cond blank [] (byte ∷ [])
+without_one byte true is = rw is refl
+without_one byte false is = rw is refl
+
+-- ---- a byte more
+
+pub blank_taken : (text bytes held : List ℕ) (byte : ℕ) → is_blank byte ≡ true → SpellsBefore text bytes held → SpellsBefore (text ++ byte ∷ []) bytes held
+blank_taken text bytes held byte is before = (
+  before.0,
+  without_append text (byte ∷ []) ∙ ap (λ (xs : List ℕ). without_blanks text ++ xs) (without_one byte true is) ∙ append-nil (without_blanks text) ∙ before.1,
+  before.2,
+)
+
+pub digit_taken : (text bytes held : List ℕ) (byte : ℕ) → is_blank byte ≡ false → SpellsBefore text bytes held → SpellsBefore (text ++ byte ∷ []) bytes (held ++ byte ∷ [])
+digit_taken text bytes held byte is before = (
+  before.0,
+  without_append text (byte ∷ []) ∙ ap (λ (xs : List ℕ). without_blanks text ++ xs) (without_one byte false is)
+      ∙ ap (λ (xs : List ℕ). xs ++ byte ∷ []) before.1 ∙ append_assoc before.0 held (byte ∷ []),
+  before.2,
+)
+
+pub never_taken : (text : List ℕ) (byte : ℕ) → SpellsNever text → SpellsNever (text ++ byte ∷ [])
+never_taken text byte never more bytes spells =
+    never (byte ∷ more) bytes (subst (λ (xs : List ℕ). Spells xs bytes) (append_assoc text (byte ∷ []) more) spells)
+
+-- ---- the held digits are decoded
+
+pub held_decoded : (text bytes held more : List ℕ) → SpellsBefore text bytes held → decode_of held ≡ Ok more → SpellsBefore text (bytes ++ more) []
+held_decoded text bytes held more before decoded =
+    (before.0 ++ held, before.1 ∙ sym (append-nil (before.0 ++ held)), decoded_joined before.0 held bytes more before.2 decoded)
+
+pub held_refused : (text bytes held : List ℕ) → SpellsBefore text bytes held → length held % 2 ≡ 0 → ((more : List ℕ) → ¬ (decode_of held ≡ Ok more)) → SpellsNever text
+held_refused text bytes held before even none more all spells =
+    let split : without_blanks (text ++ more) ≡ before.0 ++ (held ++ without_blanks more) =
+    without_append text more ∙ ap (λ (xs : List ℕ). xs ++ without_blanks more) before.1 ∙ append_assoc before.0 held (without_blanks more) in
+    never_decoded before.0 held (without_blanks more) all even none (ap decode_of (sym split) ∙ spells)
+
+-- ---- the end
+
+pub spelled_whole : (text bytes held more : List ℕ) → SpellsBefore text bytes held → decode_of held ≡ Ok more → Spells text (bytes ++ more)
+spelled_whole text bytes held more before decoded = ap decode_of before.1 ∙ decoded_joined before.0 held bytes more before.2 decoded
+
+pub none_spelled : (text bytes held : List ℕ) → SpellsBefore text bytes held → ((more : List ℕ) → ¬ (decode_of held ≡ Ok more)) → (all : List ℕ) → ¬ Spells text all
+none_spelled text bytes held before none all spells =
+    let whole = decode_of-ok (without_blanks text) all spells in
+    let front = decode_of-ok before.0 bytes before.2 in
+    let even : length held % 2 ≡ 0 = omega (arith, whole.0, front.0, ap length before.1, length-append before.0 held) in
+    never_decoded before.0 held [] all even none
+    (ap (λ (xs : List ℕ). decode_of (before.0 ++ xs)) (append-nil held) ∙ ap decode_of (sym before.1) ∙ spells)
+
+pub none_ever : (text : List ℕ) → SpellsNever text → (all : List ℕ) → ¬ Spells text all
+none_ever text never all spells = never [] all (subst (λ (xs : List ℕ). Spells xs all) (sym (append-nil text)) spells)
+
+-- ---- what a decoder knows
+
+nothing_decoded : decode_of [] ≡ Ok []
+unfolding decode_pairs
+nothing_decoded = refl
+
+pub nothing_taken : (text bytes held : List ℕ) → text ≡ [] → bytes ≡ [] → held ≡ [] → SpellsBefore text bytes held
+nothing_taken text bytes held t b h = rw (t, b, h) ([], refl, nothing_decoded)
+
+pub digit_kept : (refused : Bool) (text bytes held : List ℕ) (byte : ℕ) → is_blank byte ≡ false → IsDecoded refused text bytes held → IsDecoded refused (text ++ byte ∷ []) bytes (held ++ byte ∷ [])
+digit_kept true text bytes held byte is known = never_taken text byte known
+digit_kept false text bytes held byte is known = digit_taken text bytes held byte is known
+
+pub byte_passed : (refused : Bool) (text bytes held : List ℕ) (byte : ℕ) → (refused ≡ true) ⊎ (is_blank byte ≡ true) → IsDecoded refused text bytes held → IsDecoded refused (text ++ byte ∷ []) bytes held
+byte_passed true text bytes held byte is known = never_taken text byte known
+byte_passed false text bytes held byte (inl refused) known = cc refused
+byte_passed false text bytes held byte (inr blank) known = blank_taken text bytes held byte blank known
+
+pub room_made : (refused spelled : Bool) (text bytes held new : List ℕ) → refused ≡ false → length held % 2 ≡ 0 → IsDecoded refused text bytes held → AppendsSpelled spelled held bytes new → IsDecoded (not spelled) text new []
+room_made true spelled text bytes held new is even known appended = cc is
+room_made false true text bytes held new is even known appended =
+    subst (λ (xs : List ℕ). SpellsBefore text xs []) (sym appended.2) (held_decoded text bytes held appended.0 known appended.1)
+room_made false false text bytes held new is even known none = held_refused text bytes held known even none
+
+pub finished : (refused spelled : Bool) (text bytes held new : List ℕ) → refused ≡ false → spelled ≡ true → IsDecoded refused text bytes held → AppendsSpelled spelled held bytes new → Spells text new
+finished true spelled text bytes held new is done known appended = cc is
+finished false false text bytes held new is done known appended = cc done
+finished false true text bytes held new is done known appended =
+    subst (λ (xs : List ℕ). Spells text xs) (sym appended.2) (spelled_whole text bytes held appended.0 known appended.1)
+
+pub refused_before : (refused : Bool) (text bytes held : List ℕ) → refused ≡ true → IsDecoded refused text bytes held → (all : List ℕ) → ¬ Spells text all
+refused_before true text bytes held is known = none_ever text known
+refused_before false text bytes held is known = cc is
+
+pub refused_last : (refused spelled : Bool) (text bytes held new : List ℕ) → refused ≡ false → spelled ≡ false → IsDecoded refused text bytes held → AppendsSpelled spelled held bytes new → (all : List ℕ) → ¬ Spells text all
+refused_last true spelled text bytes held new is none known appended = cc is
+refused_last false true text bytes held new is none known appended = cc none
+refused_last false false text bytes held new is none known appended = none_spelled text bytes held known appended
