@@ -221,6 +221,13 @@ module _ (rows : List Row) (store : List ℕ) (state : BodyState) (pending : Lis
       ∙ longs-bytes_of g.ws pending (read_longs g.ws (More g.at) g.read) in
       read_goes_on g.ws g.at g.read w.0 w.1.is_load_file (longs pending) e (longs-few pending g.few)
 
+  pub done_if_whole : IsWholeFile rows fed → is_done state.position ≡ true
+  done_if_whole w = go (is_done state.position) refl
+    where
+      go : (b : Bool) → is_done state.position ≡ b → is_done state.position ≡ true
+      go true done = done
+      go false more = absurd (not_whole more w)
+
 pub none_of : (o : Option Fault) → is_some o ≡ false → o ≡ None
 none_of None e = refl
 none_of (Some f) e = absurd cc

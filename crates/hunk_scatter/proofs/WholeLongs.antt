@@ -1,5 +1,7 @@
 -- Longwords that lie whole in a piece of a body, taken one part after another.
-use Rattle.std.proofs.Common.{◌≡◌, ℕ, ◌*◌, ◌/◌, ◌%◌, ◌<◌, ◌≤◌, false, List, [], ◌∷◌, ◌++◌, length, take, get_or, None, Some, sym, ap, subst, ◌∙◌, arith, length-take}
+use Rattle.std.proofs.Common.{◌≡◌, ℕ, ◌+◌, ◌-◌, ◌*◌, ◌/◌, ◌%◌, ◌<◌, ◌≤◌, false, List, [], ◌∷◌, ◌++◌, length, take, drop, get_or, None, Some, sym, ap, ap₂, subst, ◌∙◌, arith, length-take, length-drop, length-append, append_assoc, take-append-drop}
+use Rattle.std.proofs.lemmas.List.{drop-drop, take_rest}
+use Rattle.std.proofs.Math.Seq.{take-add}
 use Rattle.hunk_words.specs.declared.reason.Reason.{Reason}
 use Rattle.hunk_words.specs.Longs.{bytes_of, longs, IsBytes, IsLong}
 use Rattle.hunk_files.specs.Fault.{HasRefusal}
@@ -52,3 +54,34 @@ read_as rows store store2 state state2 fed e d r =
 pub read_at : (rows : List Row) (store : List ℕ) (state : BodyState) (position : Position) (fed : List ℕ) → position ≡ state.position → Reading rows store state [] fed →
     Reading rows store (record { hunk = state.hunk; start = state.start; position = position }) [] fed
 read_at rows store state position fed same r = subst (λ (p : Position). Reading rows store (record { hunk = state.hunk; start = state.start; position = p }) [] fed) (sym same) r
+
+-- Of the piece this rest is left, and what was fed goes on to its beginning.
+abbrev pub Leaves : (fed piece front rest : List ℕ) → Type 0
+Leaves fed piece front rest =
+    (length rest ≤ length piece) × (rest ≡ drop (length piece - length rest) piece) × (front ≡ fed ++ take (length piece - length rest) piece)
+
+pub leaves_all : (fed piece front : List ℕ) → front ≡ fed ++ [] → Leaves fed piece front piece
+leaves_all fed piece front e =
+    let none : length piece - length piece ≡ 0 = omega arith in
+    (omega arith, sym (ap (λ (n : ℕ). drop n piece) none), e ∙ ap (λ (n : ℕ). fed ++ take n piece) (sym none))
+
+-- more of it is taken
+pub leaves_rest : (fed piece front rest after left : List ℕ) (m : ℕ) → Leaves fed piece front rest → m ≤ length rest → after ≡ front ++ take m rest → left ≡ take (length rest - m) (drop m rest) → Leaves fed piece after left
+leaves_rest fed piece front rest after left m (le, rest_is, front_is) inside after_is left_is =
+    let n = length piece - length rest in
+    let left_at : left ≡ drop m rest = left_is ∙ take_rest rest m in
+    let long : length left ≡ length rest - m = ap length left_at ∙ length-drop m rest in
+    let on : n + m ≡ length piece - length left = omega (arith, le, inside, long) in
+    let behind : left ≡ drop (n + m) piece = left_at ∙ ap (λ (xs : List ℕ). drop m xs) rest_is ∙ drop-drop m n piece in
+    let fed_on : after ≡ fed ++ take (n + m) piece =
+    after_is ∙ ap₂ (λ (xs ys : List ℕ). xs ++ take m ys) front_is rest_is ∙ append_assoc fed (take n piece) (take m (drop n piece)) ∙ ap (λ (xs : List ℕ). fed ++ xs) (sym (take-add n m piece)) in
+    (omega (arith, le, inside, long), behind ∙ ap (λ (k : ℕ). drop k piece) on, fed_on ∙ ap (λ (k : ℕ). fed ++ take k piece) on)
+
+-- a refusal of the rest is one of the piece
+pub refused_behind : (fed piece front rest : List ℕ) (reason : Reason) → Leaves fed piece front rest → HasRefusal (front ++ rest) (length front) reason → HasRefusal (fed ++ piece) (length fed + (length piece - length rest)) reason
+refused_behind fed piece front rest reason (le, rest_is, front_is) h =
+    let n = length piece - length rest in
+    let whole : front ++ rest ≡ fed ++ piece =
+    ap₂ (λ (xs ys : List ℕ). xs ++ ys) front_is rest_is ∙ append_assoc fed (take n piece) (drop n piece) ∙ ap (λ (xs : List ℕ). fed ++ xs) (take-append-drop n piece) in
+    let at : length front ≡ length fed + n = omega (arith, ap length front_is, length-append fed (take n piece), length-take n piece) in
+    subst (λ (k : ℕ). HasRefusal (fed ++ piece) k reason) at (subst (λ (bs : List ℕ). HasRefusal bs (length front) reason) whole h)

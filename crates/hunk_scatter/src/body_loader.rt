@@ -75,9 +75,6 @@ impl BodyLoader {
         if self.assembler.pending() > 0 {
             return Ok(0);
         }
-        if self.state.position.is_done() {
-            return Ok(0);
-        }
         let (taken, refused) = take_longwords(
             self.store.as_mut_slice(),
             self.rows.as_slice(),

@@ -46,7 +46,7 @@ fn take_one(
     let _ = piece;
     match take_word(store, rows, here, word) {
         Ok(next) => {
-            *state = next;
+            state.move_to(next);
             Ok(4)
         }
         Err(reason) => Err(reason),
@@ -131,12 +131,13 @@ fn take_at(
     let here = BodyState { position, ..*state };
     if position.run() > 0 {
         let count = run_bytes(position, piece.len());
-        *state = take_run(store, rows, here, &piece[..count]);
+        let next = take_run(store, rows, here, &piece[..count]);
+        state.move_to(next);
         return Ok(count);
     }
     match take_offsets(store, rows, here, piece) {
         Some((next, count)) => {
-            *state = next;
+            state.move_to(next);
             Ok(4 * count)
         }
         None => {
@@ -212,21 +213,21 @@ pub fn take_longwords(
     ensures refusal { IfSome result.1
         (λ r. HasRefusal (history.now.bytes ++ piece.now) (length history.now.bytes + result.0) r) }
     ensures own { IfSome result.1 (λ r. IsTrue (is_of_body r)) }
+    ensures whole { is_done state.old.position ≡ true → (result.0 ≡ 0) × (result.1 ≡ None) }
 {
-    let mut taken = 0;
+    let mut rest = piece;
     let mut history = history.and(&[]);
-    'longwords: while piece.len() - taken >= 4 {
+    'longwords: while rest.len() >= 4 {
         let Position::Body(hunk, phase) = state.position else {
-            return (taken, None);
+            return (piece.len() - rest.len(), None);
         };
-        let rest = &piece[taken..];
         match take_front(store, rows, state, hunk, phase, &history, rest) {
             Ok(count) => {
-                taken += count;
                 history = history.and(&rest[..count]);
+                rest = &rest[count..];
             }
-            Err(reason) => return (taken, Some(reason)),
+            Err(reason) => return (piece.len() - rest.len(), Some(reason)),
         }
     }
-    (taken, None)
+    (piece.len() - rest.len(), None)
 }

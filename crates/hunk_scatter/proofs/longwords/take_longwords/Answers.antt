@@ -1,14 +1,19 @@
-use Rattle.std.proofs.Common.{ℕ, ◌∙◌, List, [], subst, sym}
+use Rattle.std.proofs.Common.{◌≡◌, ℕ, ◌∙◌, List, [], true, false, ap, refl, subst, sym}
+use Rattle.hunk_scan.specs.Positions.{is_done}
 use Rattle.hunk_scatter.specs.BodyLoaderFields.{Reading}
-use Rattle.hunk_scatter.proofs.Faults.{fed_on, rest_within}
+use Rattle.hunk_scatter.proofs.WholeLongs.{leaves_rest, refused_behind}
 use Rattle.hunk_scatter.proofs.longwords.take_longwords.Goals as goal
 
 pub longwords-preserved : goal.longwords-preserved
 longwords-preserved c =
     let i = c.longwords.invariant in
-    let fed = c.and-history-in-Ok.ensures in (
-      rest_within c.args.piece.now c.longwords.taken c.in-Ok.count i.0 c.in-Ok.ensures.inside,
-      fed_on c.args.history.now.bytes c.args.piece.now c.longwords.history.bytes c.and-history-in-Ok.result.bytes c.longwords.taken c.in-Ok.count i.1 fed,
-      c.take_front.auto.store ∙ i.2,
-      subst (λ (bs : List ℕ). Reading c.args.rows.now c.take_front.new.store c.take_front.new.state [] bs) (sym fed) c.in-Ok.ensures.reading,
-    )
+    let fed = c.and-history-in-Ok.ensures in
+    record {
+      leaves = leaves_rest _ _ _ _ _ _ c.in-Ok.count i.leaves c.in-Ok.ensures.inside fed refl;
+      size = c.take_front.auto.store ∙ i.size;
+      reading = subst (λ (bs : List ℕ). Reading c.args.rows.now c.take_front.new.store c.take_front.new.state [] bs) (sym fed) c.in-Ok.ensures.reading;
+      whole = λ done. absurd (let clash : true ≡ false = sym (i.whole done).1 ∙ ap is_done c.in-Body.is in cc);
+    }
+
+pub returns-in-Err-clause-refusal : goal.returns-in-Err-clause-refusal
+returns-in-Err-clause-refusal c = refused_behind _ _ _ _ c.in-Err.reason c.longwords.invariant.leaves c.in-Err.ensures.refusal
