@@ -3,8 +3,8 @@ ghost use Rattle.std.specs.Prelude.{◌≡◌, ◌++◌, [], true, false};
 
 use std::marker::Model;
 
-/// How many bytes the page of a whole text has room for.
-pub(crate) const PAGE: usize = 65536;
+/// How many bytes the page of a whole text has room for: 80 KiB.
+pub(crate) const PAGE: usize = 81_920;
 
 /// A page with room for so many bytes. Contracts see it as the bytes that stand on it.
 #[derive(Drop)]
