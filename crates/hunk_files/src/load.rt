@@ -7,6 +7,7 @@ mod offsets;
 mod overlap;
 mod strip;
 mod table;
+mod taking;
 mod walk;
 mod writing;
 
