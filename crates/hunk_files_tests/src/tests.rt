@@ -2,6 +2,7 @@
 //! that stops.
 
 mod answers;
+mod growths;
 mod images;
 mod large;
 mod memory;

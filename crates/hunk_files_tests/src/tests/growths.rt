@@ -1,0 +1,208 @@
+//! Each growth of each call refused in turn, on files of several hunks and units.
+
+use hunk_files::{ImageFault, LoadFile, ObjectFile};
+use hunk_testing::{all_but, answers_growth_by_growth, bytes_of};
+use hunk_words::{FileFault, Reason};
+use std::alloc::{AllocError, Global};
+use std::test::Fail;
+
+/// A load file of five hunks, one with relocations and symbols, one of six blocks.
+const LOAD: &[u32] = &[
+    0x3F3,
+    0,
+    5,
+    0,
+    4,
+    2,
+    0xC000_0001,
+    0x10004,
+    0,
+    0,
+    1, // the header
+    0x3E9,
+    2,
+    0x4EF9_0000,
+    0x0004_4E71, // at 44
+    0x3EC,
+    5,
+    4,
+    0,
+    1,
+    2,
+    3,
+    4,
+    0, // at 60
+    0x3F0,
+    1,
+    0x5F6D_0000,
+    0,
+    0,
+    0x3F2, // at 96
+    0x3E8,
+    1,
+    0x2E74_0000, // at 120
+    0x3EA,
+    1,
+    0x1234_5678,
+    0x3F1,
+    0,
+    0x3F1,
+    0,
+    0x3F1,
+    0,
+    0x3F2, // at 132
+    0x3EB,
+    0,
+    0x3F2,
+    0x3EB,
+    0,
+    0x3F2,
+    0x3EB,
+    1,
+    0x3F2, // at 172
+];
+
+/// An object file of two units and three hunks, with relocations, external symbols and symbols.
+const OBJECT: &[u32] = &[
+    0x3E7,
+    1,
+    0x6100_0000,
+    0x3E9,
+    2,
+    0x4EB9_0000,
+    0x4E75, // at 0
+    0x3EC,
+    1,
+    0,
+    2,
+    0, // at 28
+    0x3EF,
+    0x8100_0001,
+    0x5F66_0000,
+    1,
+    2,
+    0x0100_0001,
+    0x5F6D_0000,
+    0,
+    0,
+    0x3F2, // at 48
+    0x3EB,
+    1,
+    0x3F0,
+    1,
+    0x5F6D_0000,
+    0,
+    0,
+    0x3F2, // at 88
+    0x3E7,
+    0,
+    0x3EB,
+    1,
+    0x3F2, // at 120
+];
+
+/// Where memory is asked for: for each hunk's blocks at its first, for groups, entries and symbols, for
+/// each unit's hunks at the END of its first, and for the units behind the first.
+const OF_OBJECT: &[u64] = &[24, 40, 64, 84, 92, 108, 116, 132, 136];
+
+/// Want of memory at these places, and then no fault.
+fn wanted(alloc: Global, places: &[u64]) -> Result<Vec<Option<FileFault>>, AllocError> {
+    let mut answers = Vec::new(alloc);
+    for place in places {
+        answers.push(Some(FileFault {
+            place: *place,
+            reason: Reason::OutOfMemory,
+        }))?;
+    }
+    answers.push(None)?;
+    Ok(answers)
+}
+
+#[test]
+fn of_an_object_file(rt: HostRuntime) -> Result<(), Fail> {
+    let alloc = rt.alloc();
+    let bytes = bytes_of(alloc, OBJECT)?;
+    let answers = answers_growth_by_growth(alloc, || ObjectFile::decode(alloc, &bytes).err())?;
+    assert_eq!(rt; answers, wanted(alloc, OF_OBJECT)?);
+    Ok(())
+}
+
+/// Three relocations with two findings each.
+const SIX_FINDINGS: &[u32] = &[0x3E7, 0, 0x3EB, 1, 0x3EC, 3, 1, 2, 3, 4, 0, 0x3F2];
+
+/// `check` keeps four findings at first, and more at the fifth.
+#[test]
+fn of_a_check(rt: HostRuntime) -> Result<(), Fail> {
+    let alloc = rt.alloc();
+    let bytes = bytes_of(alloc, SIX_FINDINGS)?;
+    let file = ObjectFile::decode(alloc, &bytes)?;
+    let answers = answers_growth_by_growth(alloc, || file.check(alloc).err().map(|_| ()))?;
+    assert_eq!(rt; answers.as_slice(), [Some(()), None].as_slice());
+    assert_eq!(rt; file.check(alloc)?.len(), 6);
+    Ok(())
+}
+
+/// Whether `overlap` of the first hunk is refused memory.
+fn overlap_fault(alloc: Global, file: &LoadFile) -> Option<()> {
+    if file.hunks() > 0 && file.overlap(alloc, 0).is_err() {
+        Some(())
+    } else {
+        None
+    }
+}
+
+/// `overlap` takes memory for five offsets in two growths, and `image` in one for all it makes.
+#[test]
+fn of_an_overlap_and_an_image(rt: HostRuntime) -> Result<(), Fail> {
+    let alloc = rt.alloc();
+    let bytes = bytes_of(alloc, LOAD)?;
+    let (file, _) = LoadFile::decode(alloc, &bytes)?;
+    let answers = answers_growth_by_growth(alloc, || overlap_fault(alloc, &file))?;
+    assert_eq!(rt; answers.as_slice(), [Some(()), None].as_slice());
+    let bases = [0; 5].as_slice();
+    let answers = answers_growth_by_growth(alloc, || file.image(alloc, bases).err())?;
+    let refused = Some(ImageFault::OutOfMemory);
+    assert_eq!(rt; answers.as_slice(), [refused, None].as_slice());
+    Ok(())
+}
+
+/// How many blocks each hunk has.
+fn load_blocks(alloc: Global, file: &LoadFile) -> Result<Vec<usize>, AllocError> {
+    let mut blocks = Vec::new(alloc);
+    for i in 0..file.hunks() {
+        blocks.push(file.hunk(i).len())?;
+    }
+    Ok(blocks)
+}
+
+/// How many blocks each hunk has, over all units.
+fn object_blocks(alloc: Global, file: &ObjectFile) -> Result<Vec<usize>, AllocError> {
+    let mut blocks = Vec::new(alloc);
+    for unit in file.units() {
+        for hunk in unit.hunks() {
+            blocks.push(hunk.blocks().len())?;
+        }
+    }
+    Ok(blocks)
+}
+
+/// Stripping takes no memory, and leaves nothing in for want of it.
+#[test]
+fn none_of_a_strip(rt: HostRuntime) -> Result<(), Fail> {
+    let alloc = rt.alloc();
+    let (load, object) = (bytes_of(alloc, LOAD)?, bytes_of(alloc, OBJECT)?);
+    let (load, _) = LoadFile::decode(alloc, &load)?;
+    let object = ObjectFile::decode(alloc, &object)?;
+    let held = all_but(alloc, &[])?;
+    let (load, object) = (load.strip(), object.strip());
+    drop(held);
+    assert_eq!(rt;
+        load_blocks(alloc, &load)?.as_slice(),
+        [3, 2, 2, 2, 2].as_slice()
+    );
+    assert_eq!(rt;
+        object_blocks(alloc, &object)?.as_slice(),
+        [4, 2, 2].as_slice()
+    );
+    Ok(())
+}

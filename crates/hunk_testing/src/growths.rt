@@ -1,0 +1,101 @@
+//! Memory that is held, so that growths of others are refused.
+
+use std::alloc::{AllocError, Global};
+
+/// Takes pieces of this size until one is refused, and 10,000 at most.
+fn take_pieces(alloc: Global, size: usize, pieces: &mut Vec<Vec<u8>>) -> Result<(), AllocError> {
+    for _ in 0..10_000u64 {
+        match Vec::<u8>::with_capacity(alloc, size) {
+            Ok(piece) => pieces.push(piece)?,
+            Err(_) => break,
+        }
+    }
+    Ok(())
+}
+
+/// All the memory that the allocator gives, in ever smaller pieces: while they are held, the next
+/// growth is refused.
+///
+/// The allocator keeps small pieces that were freed apart by their size, 16 bytes from one to the
+/// next, and gives them to requests of that size alone: so these are asked for, too.
+pub fn all_memory(alloc: Global) -> Result<Vec<Vec<u8>>, AllocError> {
+    let mut pieces = Vec::with_capacity(alloc, 60_000)?;
+    let mut size = 1usize << 46;
+    for _ in 0..44u64 {
+        take_pieces(alloc, size, &mut pieces)?;
+        size /= 2;
+    }
+    for k in 0..66usize {
+        take_pieces(alloc, 8 + 16 * k, &mut pieces)?;
+    }
+    Ok(pieces)
+}
+
+/// Memory that no one else has, until it is dropped.
+#[derive(Drop)]
+pub struct Held {
+    pieces: Vec<Vec<u8>>,
+    rooms: Vec<Vec<u8>>,
+}
+
+/// Holds all memory but a room of each of these sizes. A room of up to a KiB serves one growth of just
+/// its size.
+pub fn all_but(alloc: Global, sizes: &[usize]) -> Result<Held, AllocError> {
+    let mut rooms = Vec::with_capacity(alloc, sizes.len())?;
+    for size in sizes {
+        rooms.push(Vec::<u8>::with_capacity(alloc, *size)?)?;
+    }
+    let pieces = all_memory(alloc)?;
+    // Without the rooms, but with the list that held them: it would be one more.
+    rooms.clear();
+    Ok(Held { pieces, rooms })
+}
+
+/// The bytes from one size that the allocator gives to the next.
+const STEP: usize = 16;
+
+/// In how many steps a call has to succeed.
+const STEPS: u32 = 400;
+
+/// The bytes before the room that `all_but_steps` leaves, so many that the allocator does not keep them
+/// for requests of their size.
+const FRONT: usize = 4_096;
+
+/// Holds all memory but a room of so many steps, which serves growth after growth until it is full.
+fn all_but_steps(alloc: Global, steps: u32) -> Result<Held, AllocError> {
+    let mut rooms = Vec::with_capacity(alloc, 1)?;
+    let whole = Vec::<u8>::with_capacity(alloc, FRONT + STEP * steps as usize)?;
+    let pieces = all_memory(alloc)?;
+    drop(whole);
+    rooms.push(Vec::<u8>::with_capacity(alloc, FRONT)?)?;
+    Ok(Held { pieces, rooms })
+}
+
+/// What a call answers while each growth that it asks for is refused in turn: its answers, of which
+/// one that comes again is left out, and then `None`, as it succeeds.
+///
+/// From call to call there is a step more of memory. A growth takes one step or more, so that each is
+/// once the first that is refused, up to the first that is asked for behind a list that doubles: the
+/// allocator keeps what a list leaves of the room, when it grows in its place, for requests of that
+/// size alone.
+pub fn answers_growth_by_growth<E: PartialEq + Drop, F: Fn() -> Option<E>>(
+    alloc: Global,
+    call: F,
+) -> Result<Vec<Option<E>>, AllocError>
+    requires { F.IsAlwaysCallable call }
+{
+    let mut answers = Vec::new(alloc);
+    for steps in 0..STEPS {
+        let held = all_but_steps(alloc, steps)?;
+        let answer = call();
+        drop(held);
+        let succeeds = answer.is_none();
+        if answers.last() != Some(&answer) {
+            answers.push(answer)?;
+        }
+        if succeeds {
+            break;
+        }
+    }
+    Ok(answers)
+}
