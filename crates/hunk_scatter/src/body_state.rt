@@ -66,29 +66,4 @@ impl BodyState {
             BodyState { position, ..self }
         }
     }
-
-    /// Goes on to the next state.
-    #[inline(always)]
-    pub fn move_to(&mut self, next: BodyState)
-        ensures { self.new ≡ next }
-    {
-        self.start = next.start;
-        self.hunk = next.hunk;
-        move_position(&mut self.position, next.position);
-    }
-}
-
-/// Goes on to the next position. Within a body it is written by its parts, so that what stays as it
-/// was, as the open hunk mostly does, is not stored again.
-#[inline(always)]
-fn move_position(position: &mut Position, next: Position)
-    ensures { position.new ≡ next }
-{
-    match (position, next) {
-        (Position::Body(hunk, phase), Position::Body(next_hunk, next_phase)) => {
-            *hunk = next_hunk;
-            *phase = next_phase;
-        }
-        (position, next) => *position = next,
-    }
 }

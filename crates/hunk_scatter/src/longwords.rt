@@ -46,7 +46,7 @@ fn take_one(
     let _ = piece;
     match take_word(store, rows, here, word) {
         Ok(next) => {
-            state.move_to(next);
+            *state = next;
             Ok(4)
         }
         Err(reason) => Err(reason),
@@ -131,13 +131,12 @@ fn take_at(
     let here = BodyState { position, ..*state };
     if position.run() > 0 {
         let count = run_bytes(position, piece.len());
-        let next = take_run(store, rows, here, &piece[..count]);
-        state.move_to(next);
+        *state = take_run(store, rows, here, &piece[..count]);
         return Ok(count);
     }
     match take_offsets(store, rows, here, piece) {
         Some((next, count)) => {
-            state.move_to(next);
+            *state = next;
             Ok(4 * count)
         }
         None => {

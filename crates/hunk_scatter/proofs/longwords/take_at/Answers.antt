@@ -1,10 +1,10 @@
-use Rattle.std.proofs.Common.{◌<◌, ◌∙◌, refl, arith}
+use Rattle.std.proofs.Common.{◌<◌, refl, arith}
 use Rattle.hunk_scatter.proofs.Runs.{read_offsets}
 use Rattle.hunk_scatter.proofs.WholeLongs.{in_store, read_at, run_taken, read_as}
 use Rattle.hunk_scatter.proofs.longwords.take_at.Goals as goal
 
-pub take_run-next-requires-clause-room : goal.take_run-next-requires-clause-room
-take_run-next-requires-clause-room c = in_store _ _ _ _ c.requires.size (read_at _ _ _ _ _ c.requires.here c.requires.reading) refl
+pub take_run-requires-clause-room : goal.take_run-requires-clause-room
+take_run-requires-clause-room c = in_store _ _ _ _ c.requires.size (read_at _ _ _ _ _ c.requires.here c.requires.reading) refl
 
 pub returns-then-run-gt0-clause-reading : goal.returns-then-run-gt0-clause-reading
 returns-then-run-gt0-clause-reading c =
@@ -12,16 +12,15 @@ returns-then-run-gt0-clause-reading c =
     let e = c.run_bytes-count.ensures in
     let some : 0 < c.run_bytes-count.result = e.some c.requires.some (omega (arith, c.run.ensures.value, c.if-run-gt0.true)) in
     let taken = run_taken _ _ _ _ c.requires.size here refl c.args.piece.now c.run_bytes-count.result (λ k. omega (arith, c.type_inv.piece k)) e.inside e.fours some e.run in
-    read_as _ _ _ _ _ _ c.take_run-next.ensures.stores (c.move_to.ensures ∙ c.take_run-next.ensures.steps) taken
+    read_as _ _ _ _ _ _ c.take_run.ensures.stores c.take_run.ensures.steps taken
 
 pub take_offsets-requires : goal.take_offsets-requires
 take_offsets-requires c = in_store _ _ _ _ c.requires.size (read_at _ _ _ _ _ c.requires.here c.requires.reading) refl
 
 pub returns-in-Some-clause-reading : goal.returns-in-Some-clause-reading
 returns-in-Some-clause-reading c =
-    read_as _ _ _ _ _ _ refl c.move_to-in-Some.ensures
-    (read_offsets c.args.rows.now c.args.store.now c.take_offsets.new.store _ c.in-Some.next c.args.history.now.bytes c.args.piece.now c.in-Some.count
-    (read_at _ _ _ _ _ c.requires.here c.requires.reading) (λ k. omega (arith, c.type_inv.piece k)) c.in-Some.ensures.inside c.in-Some.ensures.offsets)
+    read_offsets c.args.rows.now c.args.store.now c.take_offsets.new.store _ c.in-Some.next c.args.history.now.bytes c.args.piece.now c.in-Some.count
+    (read_at _ _ _ _ _ c.requires.here c.requires.reading) (λ k. omega (arith, c.type_inv.piece k)) c.in-Some.ensures.inside c.in-Some.ensures.offsets
 
 pub take_one-requires-clause-reading : goal.take_one-requires-clause-reading
 take_one-requires-clause-reading c = rw c.in-None.ensures.none (read_at _ _ _ _ _ c.requires.here c.requires.reading)

@@ -1,4 +1,4 @@
-use Rattle.std.proofs.Common.{◌∙◌, arith}
+use Rattle.std.proofs.Common.{arith}
 use Rattle.hunk_scatter.proofs.WholeLongs.{in_store, word_taken, word_refused, read_as}
 use Rattle.hunk_scatter.proofs.longwords.take_one.Goals as goal
 
@@ -8,7 +8,7 @@ take_word-requires c = in_store _ _ _ _ c.requires.size c.requires.reading c.req
 pub returns-in-Ok-clause-reading : goal.returns-in-Ok-clause-reading
 returns-in-Ok-clause-reading c =
     let taken = word_taken _ _ _ _ c.requires.size c.requires.reading c.requires.going_on c.args.piece.now (λ k. omega (arith, c.type_inv.piece k)) c.requires.some c.args.word c.in-Ok.ensures.long c.requires.front c.in-Ok.ensures.passes in
-    read_as _ _ _ _ _ _ c.in-Ok.ensures.stores (c.move_to.ensures ∙ c.in-Ok.ensures.steps) taken
+    read_as _ _ _ _ _ _ c.in-Ok.ensures.stores c.in-Ok.ensures.steps taken
 
 pub returns-in-Err-clause-refusal : goal.returns-in-Err-clause-refusal
 returns-in-Err-clause-refusal c =
