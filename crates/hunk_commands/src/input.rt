@@ -8,7 +8,8 @@ use crate::fault::RunFault;
 use hunk_words::{Fault, Reason, Source};
 use std::alloc::Global;
 
-const PIECE: usize = 65_536;
+/// How many bytes are asked for at once: 32 KiB.
+const PIECE: usize = 32_768;
 
 /// All that the source has left, which are fewer than `most` bytes.
 ///
