@@ -8,8 +8,8 @@ use crate::fault::RunFault;
 use hunk_words::{Fault, Reason, Source};
 use std::alloc::{AllocError, Global};
 
-/// How many bytes are asked for at a time.
-const PIECE: usize = 65_536;
+/// How many bytes are asked for at a time: 32 KiB.
+const PIECE: usize = 32_768;
 
 /// What takes the bytes of a source piece by piece.
 pub(crate) trait Taker {

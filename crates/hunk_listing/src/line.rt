@@ -4,7 +4,7 @@ ghost use Rattle.hunk_words.specs.Prints.{Prints};
 ghost use Rattle.hunk_listing.specs.Printed.{hexadecimal};
 
 use crate::digits::put_digits;
-use hunk_words::{Printer, Sink};
+use hunk_words::{PagePrinter, Sink};
 use itoa::write_digits;
 use std::marker::Model;
 
@@ -89,7 +89,7 @@ impl Line {
     }
 
     /// Prints the line.
-    pub(crate) fn print<W: Sink>(&self, page: &mut Printer<'_, W>)
+    pub(crate) fn print<W: Sink, const ROOM: usize>(&self, page: &mut PagePrinter<'_, W, ROOM>)
         ensures { Prints page.old page.new self.now }
     {
         page.print(&self.bytes[..self.len]);

@@ -4,11 +4,15 @@ ghost use Rattle.hunk_words.specs.Prints.{Prints};
 ghost use Rattle.hunk_listing.specs.RewritingLines.{left_out_line, wrote_line};
 
 use crate::line::Line;
-use hunk_words::{Printer, Sink};
+use hunk_words::{PagePrinter, Sink};
 
 /// Prints the lines that say how many bytes were written, and how many behind the file, where
 /// there are some, were left out.
-pub fn print_rewriting<W: Sink>(page: &mut Printer<'_, W>, written: u64, rest: u64)
+pub fn print_rewriting<W: Sink, const ROOM: usize>(
+    page: &mut PagePrinter<'_, W, ROOM>,
+    written: u64,
+    rest: u64,
+)
     ensures { Prints page.old page.new (wrote_line written ++ left_out_line rest) }
 {
     print_wrote(page, written);
@@ -16,7 +20,7 @@ pub fn print_rewriting<W: Sink>(page: &mut Printer<'_, W>, written: u64, rest: u
 }
 
 #[tactic(auto, unfolding(crate::specs::RewritingLines::wrote_line))]
-fn print_wrote<W: Sink>(page: &mut Printer<'_, W>, written: u64)
+fn print_wrote<W: Sink, const ROOM: usize>(page: &mut PagePrinter<'_, W, ROOM>, written: u64)
     ensures { Prints page.old page.new (wrote_line written) }
 {
     let mut line = Line::new();
@@ -27,7 +31,7 @@ fn print_wrote<W: Sink>(page: &mut Printer<'_, W>, written: u64)
 }
 
 #[tactic(auto, unfolding(crate::specs::RewritingLines::left_out_line))]
-fn print_left_out<W: Sink>(page: &mut Printer<'_, W>, rest: u64)
+fn print_left_out<W: Sink, const ROOM: usize>(page: &mut PagePrinter<'_, W, ROOM>, rest: u64)
     ensures { Prints page.old page.new (left_out_line rest) }
 {
     if rest == 0 {

@@ -9,10 +9,17 @@ use crate::to_file::ToFile;
 use hunk_commands::{Rewritten, RunFault, rewrite};
 use hunk_listing::print_rewriting;
 use hunk_orders::FileName;
+<<<<<<< HEAD
 use hunk_words::{Failed, FromRead, LongWriter, Printer, Sink, Source};
+=======
+use hunk_words::{FromRead, LongWriter, PagePrinter, Sink};
+>>>>>>> h2rest
 use std::alloc::Global;
 use std::fs;
 use std::rt::Files;
+
+/// Room for the two lines that say how much was written.
+const LINES: usize = 128;
 
 /// Writes the file `input` again, to `output`, and gives how much was written.
 ///
@@ -69,7 +76,7 @@ pub(super) fn tell<W: Sink>(done: Rewritten, out: &mut LongWriter<W>) -> u8
     ensures printed { Prints W.taken W.failed out.old out.new
         (wrote_line done.written ++ left_out_line done.rest) DONE result }
 {
-    let mut page = Printer::new(out);
+    let mut page = PagePrinter::<W, LINES>::new(out);
     print_rewriting(&mut page, done.written, done.rest);
     let result = page.flush();
     let _out = page.into_inner();
