@@ -9,11 +9,7 @@ use crate::to_file::ToFile;
 use hunk_commands::{Rewritten, RunFault, rewrite};
 use hunk_listing::print_rewriting;
 use hunk_orders::FileName;
-<<<<<<< HEAD
-use hunk_words::{Failed, FromRead, LongWriter, Printer, Sink, Source};
-=======
-use hunk_words::{FromRead, LongWriter, PagePrinter, Sink};
->>>>>>> h2rest
+use hunk_words::{Failed, FromRead, LongWriter, PagePrinter, Sink, Source};
 use std::alloc::Global;
 use std::fs;
 use std::rt::Files;
