@@ -18,7 +18,7 @@ use crate::body::Body;
 use crate::mode::Mode;
 use crate::reading::{LongReader, read_body};
 use crate::writing::print_body;
-use hunk_words::{BlockFault, BlockWord, Kind, LongWriter, PagePrinter, Sink, WriteFault, word_at};
+use hunk_words::{BlockFault, BlockWord, LongWriter, PagePrinter, Sink, WriteFault};
 use std::alloc::Global;
 use std::marker::Model;
 
@@ -58,59 +58,7 @@ impl<'a> Block<'a> {
     /// answered at its last longword, and no fault of the bytes lies there or before.
     ///
     /// Source: The AmigaDOS Manual, 3rd edition, Amiga binary file structure, and `dos/doshunks.h`.
-    #[inline(always)]
     pub fn decode(
-        alloc: Global,
-        bytes: &'a [u8],
-        mode: Mode,
-    ) -> Result<(Block<'a>, usize), BlockFault>
-        ensures block { IfOk result (λ r. BeginsWithBlock mode bytes.entry.now r.0 r.1) }
-        ensures none { IfErr result (λ fault.
-            fault.reason ≢ reasons.OutOfMemory → BeginsWithNoBlock mode bytes.entry.now) }
-        ensures fault { IfErr result (λ fault. fault.reason ≢ reasons.OutOfMemory →
-            HasBlockFault mode bytes.entry.now fault.place fault.reason) }
-        ensures own { IfErr result (λ fault. IsTrue (is_block_refusal fault.reason)) }
-        ensures object { mode ≡ modes.Object
-            → IfErr result (λ fault. fault.reason ≢ reasons.NotInLoadFile) }
-        ensures memory { IfErr result (λ fault. fault.reason ≡ reasons.OutOfMemory →
-            IsTrue (takes_memory (kind (first_long bytes.entry.now)))) }
-        ensures reached { IfErr result (λ fault. fault.reason ≡ reasons.OutOfMemory →
-            IsFrontTo (blocks mode) (longs bytes.entry.now) fault.place) }
-        ensures hidden { IfErr result (λ fault. fault.reason ≡ reasons.OutOfMemory →
-            (at : ℕ) (reason : Reason) →
-            HasBlockFault mode bytes.entry.now at reason → fault.place < at) }
-        ensures truncated { IfErr result (λ fault. fault.reason ≡ reasons.Truncated →
-            fault.place ≡ 4 * length (longs bytes.entry.now)) }
-        ensures word { (reason : Reason) → 4 ≤ length bytes.entry.now →
-            refuse_alone_word mode (first_long bytes.entry.now) ≡ Some reason →
-            result ≡ Err (record { place = 0; reason = reason }) }
-    {
-        // Each frequent kind is named, so that what is asked of it, whether it is refused and what is
-        // read behind it, is compiled for that kind alone.
-        macro_rules! one {
-            () => {
-                Block::decode_one(alloc, bytes, mode)
-            };
-        }
-        if bytes.len() < 4 {
-            return one!();
-        }
-        match BlockWord::of(word_at(bytes, 0)).kind() {
-            Kind::Code => one!(),
-            Kind::Data => one!(),
-            Kind::Bss => one!(),
-            Kind::Reloc32 => one!(),
-            Kind::Ext => one!(),
-            Kind::Symbol => one!(),
-            Kind::Debug => one!(),
-            Kind::End => one!(),
-            _ => one!(),
-        }
-    }
-
-    /// The same, with the same contract. Where the caller knows the kind, nothing is compiled of others.
-    #[inline(always)]
-    fn decode_one(
         alloc: Global,
         bytes: &'a [u8],
         mode: Mode,

@@ -26,7 +26,6 @@ use hunk_words::{BlockFault, BlockWord, Kind};
 use std::alloc::Global;
 
 /// What follows a block word that the mode does not refuse.
-#[inline(always)]
 pub(crate) fn read_body<'a>(
     alloc: Global,
     reader: &mut LongReader<'a>,

@@ -7,7 +7,6 @@ mod offsets;
 mod overlap;
 mod strip;
 mod table;
-mod taking;
 mod walk;
 mod writing;
 

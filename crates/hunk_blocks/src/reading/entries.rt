@@ -19,7 +19,6 @@ use hunk_words::{BlockFault, Reason};
 use std::alloc::Global;
 
 /// The name and the value behind this word.
-#[inline(always)]
 fn definition<'a>(reader: &mut LongReader<'a>, word: u32) -> Result<Entry<'a>, BlockFault>
     requires goes_on { word ≢ 0 }
     requires shape { ext_shape (word / 2 ^ 24) ≡ shapes.Defines }
@@ -42,7 +41,6 @@ fn definition<'a>(reader: &mut LongReader<'a>, word: u32) -> Result<Entry<'a>, B
 }
 
 /// The name, the count and the offsets behind this word.
-#[inline(always)]
 fn reference<'a>(reader: &mut LongReader<'a>, word: u32) -> Result<Entry<'a>, BlockFault>
     requires goes_on { word ≢ 0 }
     requires shape { ext_shape (word / 2 ^ 24) ≡ shapes.Refers }
@@ -65,7 +63,6 @@ fn reference<'a>(reader: &mut LongReader<'a>, word: u32) -> Result<Entry<'a>, Bl
 }
 
 /// The name, the size, the count and the offsets behind this word.
-#[inline(always)]
 fn common<'a>(reader: &mut LongReader<'a>, word: u32) -> Result<Entry<'a>, BlockFault>
     requires goes_on { word ≢ 0 }
     requires shape { ext_shape (word / 2 ^ 24) ≡ shapes.Shares }
@@ -89,7 +86,6 @@ fn common<'a>(reader: &mut LongReader<'a>, word: u32) -> Result<Entry<'a>, Block
 }
 
 /// The next entry, or `None` behind the zero that ends the block.
-#[inline(always)]
 fn next_entry<'a>(reader: &mut LongReader<'a>) -> Result<Option<Entry<'a>>, BlockFault>
     ensures read { IfOk result (λ found.
         ReadsItem IsExtEntry ext_text reader.old reader.new (option_map entry_of found)) }
@@ -115,7 +111,6 @@ fn next_entry<'a>(reader: &mut LongReader<'a>) -> Result<Option<Entry<'a>>, Bloc
 }
 
 /// The entries of an EXT block.
-#[inline(always)]
 pub(crate) fn read_entries<'a>(
     alloc: Global,
     reader: &mut LongReader<'a>,

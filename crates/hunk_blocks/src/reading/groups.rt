@@ -16,7 +16,6 @@ use hunk_words::BlockFault;
 use std::alloc::Global;
 
 /// The next group, or `None` behind the count 0 that ends the block.
-#[inline(always)]
 fn next_group<'a>(reader: &mut LongReader<'a>) -> Result<Option<Group<'a>>, BlockFault>
     ensures read { IfOk result (λ found.
         ReadsItem IsGroup group_text reader.old reader.new (option_map group_of found)) }
@@ -34,7 +33,6 @@ fn next_group<'a>(reader: &mut LongReader<'a>) -> Result<Option<Group<'a>>, Bloc
 }
 
 /// The groups of a relocation block.
-#[inline(always)]
 pub(crate) fn read_groups<'a>(
     alloc: Global,
     reader: &mut LongReader<'a>,

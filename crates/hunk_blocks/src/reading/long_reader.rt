@@ -46,6 +46,17 @@ impl<'a> LongReader<'a> {
         self.place
     }
 
+    /// The end of the input, as a refusal.
+    #[tactic(auto, using(crate::proofs::Whole::long_counts))]
+    fn cut(&self) -> BlockFault
+        ensures { result ≡ cut self.now }
+    {
+        BlockFault {
+            place: self.place + 4 * (self.rest.len() as u64 / 4),
+            reason: Reason::Truncated,
+        }
+    }
+
     /// A refusal of memory, at the longword that was read last.
     pub(crate) fn out_of_memory(&self) -> BlockFault
         requires { 4 ≤ self.now.place }
@@ -59,7 +70,6 @@ impl<'a> LongReader<'a> {
     }
 
     /// The next longwords, as many as `count`.
-    #[inline(always)]
     pub(crate) fn payload(&mut self, count: u32) -> Result<Payload<'a>, BlockFault>
         ensures read { IfOk result (λ p. Reads self.old self.new (longs p)) }
         ensures count { IfOk result (λ p. (length (longs p) ≡ count) × AreLongs (longs p)) }
@@ -69,7 +79,7 @@ impl<'a> LongReader<'a> {
     {
         let length = 4 * count as usize;
         if self.rest.len() < length {
-            return Err(cut(self.place, self.rest));
+            return Err(self.cut());
         }
         let (front, rest) = self.rest.split_at(length);
         self.rest = rest;
@@ -78,33 +88,17 @@ impl<'a> LongReader<'a> {
     }
 
     /// The next longword.
-    #[inline(always)]
     pub(crate) fn long(&mut self) -> Result<u32, BlockFault>
         ensures read { IfOk result (λ word. Reads self.old self.new (word ∷ [])) }
         ensures short { OnErr result (self.old.rest ≡ []) }
         ensures fault { IfErr result (λ fault. fault ≡ cut self.old) }
     {
         if self.rest.len() < 4 {
-            return Err(cut(self.place, self.rest));
+            return Err(self.cut());
         }
         let word = word_at(self.rest, 0);
         self.rest = &self.rest[4..];
         self.place += 4;
         Ok(word)
-    }
-}
-
-/// The end of the input, as a refusal: behind the whole longwords of the rest, before which so many bytes
-/// have been read. It takes no reader, so that readers can stay in registers.
-#[cold]
-#[inline(never)]
-#[tactic(auto, using(crate::proofs::Whole::long_counts))]
-fn cut(place: u64, rest: &[u8]) -> BlockFault
-    requires { place + length rest.now < 2 ^ 64 }
-    ensures { result ≡ cut (record { rest = longs rest.now; place = place }) }
-{
-    BlockFault {
-        place: place + 4 * (rest.len() as u64 / 4),
-        reason: Reason::Truncated,
     }
 }

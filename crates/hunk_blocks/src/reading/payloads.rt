@@ -13,7 +13,6 @@ use crate::reading::long_reader::LongReader;
 use hunk_words::{BlockFault, NAME_LIMIT, Reason};
 
 /// A count, and that many longwords.
-#[inline(always)]
 pub(crate) fn read_counted<'a>(reader: &mut LongReader<'a>) -> Result<Payload<'a>, BlockFault>
     ensures read { IfOk result (λ p.
         IsPayload (2 ^ 32) (longs p) × Reads reader.old reader.new (counted_text (longs p))) }
@@ -26,7 +25,6 @@ pub(crate) fn read_counted<'a>(reader: &mut LongReader<'a>) -> Result<Payload<'a
 }
 
 /// The count of a name, which has no top byte, and that many longwords.
-#[inline(always)]
 pub(crate) fn read_name<'a>(reader: &mut LongReader<'a>) -> Result<Payload<'a>, BlockFault>
     ensures read { IfOk result (λ p.
         IsPayload name_limit (longs p) × Reads reader.old reader.new (counted_text (longs p))) }
@@ -48,7 +46,6 @@ pub(crate) fn read_name<'a>(reader: &mut LongReader<'a>) -> Result<Payload<'a>, 
 }
 
 /// The name of an entry with this word, as many longwords as its low 24 bits say.
-#[inline(always)]
 pub(crate) fn read_entry_name<'a>(
     reader: &mut LongReader<'a>,
     word: u32,
@@ -63,7 +60,6 @@ pub(crate) fn read_entry_name<'a>(
 }
 
 /// A size word, and as many longwords as its low 30 bits say. The number is its top two bits.
-#[inline(always)]
 pub(crate) fn read_sized<'a>(reader: &mut LongReader<'a>) -> Result<(u8, Payload<'a>), BlockFault>
     ensures read { IfOk result (λ r.
         IsSized (r.0, longs r.1) × Reads reader.old reader.new (sized_text (r.0, longs r.1))) }

@@ -16,7 +16,6 @@ use hunk_words::BlockFault;
 use std::alloc::Global;
 
 /// The next entry, or `None` behind the zero that ends the block.
-#[inline(always)]
 fn next_symbol<'a>(reader: &mut LongReader<'a>) -> Result<Option<Named<'a>>, BlockFault>
     ensures read { IfOk result (λ found.
         ReadsItem IsSymbolEntry symbol_text reader.old reader.new (option_map symbol_of found)) }
@@ -35,7 +34,6 @@ fn next_symbol<'a>(reader: &mut LongReader<'a>) -> Result<Option<Named<'a>>, Blo
 }
 
 /// The entries of a SYMBOL block.
-#[inline(always)]
 pub(crate) fn read_symbols<'a>(
     alloc: Global,
     reader: &mut LongReader<'a>,

@@ -9,7 +9,6 @@ use crate::payload::Payload;
 use hunk_words::{PagePrinter, Sink};
 
 /// The longwords of the payload.
-#[inline(always)]
 pub(crate) fn print_payload<W: Sink, const ROOM: usize>(
     page: &mut PagePrinter<'_, W, ROOM>,
     payload: &Payload<'_>,
@@ -34,7 +33,6 @@ pub(crate) fn print_counted<W: Sink, const ROOM: usize>(
 
 /// A size word with these top two bits, and the longwords.
 #[tactic(auto, using(crate::proofs::TextBytes::word_printed))]
-#[inline(always)]
 pub(crate) fn print_sized<W: Sink, const ROOM: usize>(
     page: &mut PagePrinter<'_, W, ROOM>,
     top: u8,

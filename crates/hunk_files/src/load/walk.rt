@@ -6,7 +6,6 @@ ghost use Rattle.hunk_files.specs.Entries.{entry_behind, entry_at};
 ghost use Rattle.hunk_scan.specs.Positions.{is_between_hunks};
 
 use crate::load::offsets::behind_offsets;
-use crate::load::taking::take;
 use hunk_scan::Position;
 use hunk_words::{FileFault, Reason, SizeWord, word_at};
 
@@ -42,15 +41,14 @@ pub(crate) fn walk(bytes: &[u8]) -> Result<usize, FileFault>
                 continue;
             }
         }
-        let behind = match take(position, entry.longs, word_at(bytes, at)) {
-            Ok(behind) => behind,
-            Err(reason) => {
-                return Err(FileFault {
-                    place: 4 * at as u64,
-                    reason,
-                });
-            }
-        };
+        let word = word_at(bytes, at);
+        if let Some(reason) = position.refuse(entry.longs, word) {
+            return Err(FileFault {
+                place: 4 * at as u64,
+                reason,
+            });
+        }
+        let behind = position.step(word);
         if let Position::Done = behind {
             return Ok(4 * (at + 1));
         }

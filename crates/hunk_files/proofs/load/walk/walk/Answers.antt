@@ -15,14 +15,14 @@ use Rattle.hunk_files.proofs.load.walk.walk.Goals as goal
 pub walking-init : goal.walking-init
 walking-init c = start_walk c.args.bytes.now
 
-pub returns-in-Err : goal.returns-in-Err
-returns-in-Err c =
+pub returns-in-Some : goal.returns-in-Some
+returns-in-Some c =
     let bytes = c.args.bytes.now in
     let w = c.walking in
     let fit : IsBytes bytes = λ i. omega (arith, c.type_inv.bytes i) in
     let l : w.at < length (longs bytes) = omega (arith, length-longs bytes) in
-    walk_refused bytes fit w.at w.position w.entry (stands bytes w.at w.position w.entry w.invariant l) l c.in-Err.reason
-    (sym c.in-Err.ensures ∙ ap (λ (x : ℕ). refuse (role_at w.entry.longs w.position) x) c.word_at.ensures)
+    walk_refused bytes fit w.at w.position w.entry (stands bytes w.at w.position w.entry w.invariant l) l c.in-Some.reason
+    (sym c.in-Some.is ∙ c.refuse.ensures ∙ ap (λ (x : ℕ). refuse (role_at w.entry.longs w.position) x) c.word_at-word.ensures)
 
 pub returns-in-Done : goal.returns-in-Done
 returns-in-Done c =
@@ -30,9 +30,10 @@ returns-in-Done c =
     let w = c.walking in
     let fit : IsBytes bytes = λ i. omega (arith, c.type_inv.bytes i) in
     let l : w.at < length (longs bytes) = omega (arith, length-longs bytes) in
+    let pass = sym c.in_default.is in
     walk_ends bytes fit w.at w.position w.entry (stands bytes w.at w.position w.entry w.invariant l) l
-    (sym c.in-Ok.ensures.0 ∙ ap (λ (x : ℕ). refuse (role_at w.entry.longs w.position) x) c.word_at.ensures)
-    (sym c.in-Done.is ∙ c.in-Ok.ensures.1 ∙ ap (λ (x : ℕ). scan.step w.position x) c.word_at.ensures)
+    (pass ∙ c.refuse.ensures ∙ ap (λ (x : ℕ). refuse (role_at w.entry.longs w.position) x) c.word_at-word.ensures)
+    (sym c.in-Done.is ∙ c.step-behind.ensures ∙ ap (λ (x : ℕ). scan.step w.position x) c.word_at-word.ensures)
 
 pub open_entry-entry-requires : goal.open_entry-entry-requires
 open_entry-entry-requires c between =
@@ -40,10 +41,11 @@ open_entry-entry-requires c between =
     let w = c.walking in
     let fit : IsBytes bytes = λ i. omega (arith, c.type_inv.bytes i) in
     let l : w.at < length (longs bytes) = omega (arith, length-longs bytes) in
-    let behind = c.in-Ok.ensures.1 ∙ ap (λ (x : ℕ). scan.step w.position x) c.word_at.ensures in
+    let pass = sym c.in_default.is in
+    let behind = c.step-behind.ensures ∙ ap (λ (x : ℕ). scan.step w.position x) c.word_at-word.ensures in
     entry_fits bytes fit w.at w.position w.entry (stands bytes w.at w.position w.entry w.invariant l) l
-    (sym c.in-Ok.ensures.0 ∙ ap (λ (x : ℕ). refuse (role_at w.entry.longs w.position) x) c.word_at.ensures)
-    (λ d. c.in_default.not-Done (behind ∙ d))
+    (pass ∙ c.refuse.ensures ∙ ap (λ (x : ℕ). refuse (role_at w.entry.longs w.position) x) c.word_at-word.ensures)
+    (λ d. c.in_default-behind.not-Done (behind ∙ d))
     (ap is_between_hunks (sym behind) ∙ between)
 
 pub walking-preserved : goal.walking-preserved
@@ -52,16 +54,17 @@ walking-preserved c =
     let w = c.walking in
     let fit : IsBytes bytes = λ i. omega (arith, c.type_inv.bytes i) in
     let l : w.at < length (longs bytes) = omega (arith, length-longs bytes) in
-    let behind = c.in-Ok.ensures.1 ∙ ap (λ (x : ℕ). scan.step w.position x) c.word_at.ensures in
+    let pass = sym c.in_default.is in
+    let behind = c.step-behind.ensures ∙ ap (λ (x : ℕ). scan.step w.position x) c.word_at-word.ensures in
     let on = walk_passes bytes fit w.at w.position w.entry (stands bytes w.at w.position w.entry w.invariant l) l
-    (sym c.in-Ok.ensures.0 ∙ ap (λ (x : ℕ). refuse (role_at w.entry.longs w.position) x) c.word_at.ensures)
-    (λ d. c.in_default.not-Done (behind ∙ d)) in
+    (pass ∙ c.refuse.ensures ∙ ap (λ (x : ℕ). refuse (role_at w.entry.longs w.position) x) c.word_at-word.ensures)
+    (λ d. c.in_default-behind.not-Done (behind ∙ d)) in
     let P : Position → Type 0 = λ p. Walks bytes (w.at + (1 + run p)) (scan.pass p (run p)) (entry_at (longs bytes) p w.entry) in
-    let Q : ℕ → Type 0 = λ n. Walks bytes (w.at + (1 + n)) (scan.pass c.in-Ok.behind n) (entry_at (longs bytes) c.in-Ok.behind w.entry) in
+    let Q : ℕ → Type 0 = λ n. Walks bytes (w.at + (1 + n)) (scan.pass c.step-behind.result n) (entry_at (longs bytes) c.step-behind.result w.entry) in
     let R : Position → Entry → Type 0 = λ p e. Walks bytes (w.at + (1 + c.run-run.result)) p e in
     let here = subst Q (sym c.run-run.ensures.value) (subst P (sym behind) on) in
     subst (λ (e : Entry). R c.pass-position.result e) (sym c.open_entry-entry.ensures)
-    (subst (λ (p : Position). R p (entry_at (longs bytes) c.in-Ok.behind w.entry)) (sym c.pass-position.ensures) here)
+    (subst (λ (p : Position). R p (entry_at (longs bytes) c.step-behind.result w.entry)) (sym c.pass-position.ensures) here)
 
 pub walking-preserved-then-behind-at : goal.walking-preserved-then-behind-at
 walking-preserved-then-behind-at c =

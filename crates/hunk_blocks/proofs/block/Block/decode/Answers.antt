@@ -11,7 +11,7 @@ use Rattle.hunk_blocks.specs.Faults.{FaultAhead, IsFrontTo, blocks, body_behind}
 use Rattle.hunk_blocks.proofs.BodyFaults.{block_fault, no_word_ahead, word_fault, body_fault}
 use Rattle.hunk_blocks.proofs.OneBlockFault.{fault_further}
 use Rattle.hunk_blocks.proofs.FaultLaws.{front_ahead}
-use Rattle.hunk_blocks.proofs.block.Block.decode_one.Goals as goal
+use Rattle.hunk_blocks.proofs.block.Block.decode.Goals as goal
 
 pub returns-in_err-long-clause-none : goal.returns-in_err-long-clause-none
 returns-in_err-long-clause-none c = if_err c.from_residual.result _ (λ fault ne. no_longword c.args.mode c.args.bytes.now (sym c.new-reader.ensures.rest ∙ c.in_err-long.ensures.short))
