@@ -5,5 +5,6 @@ mod hex_text;
 mod listing;
 mod listing_ends;
 mod memory;
+mod pages;
 mod relocating;
 mod samples;

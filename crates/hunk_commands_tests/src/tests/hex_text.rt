@@ -1,5 +1,8 @@
 //! Which bytes a hexadecimal text spells.
-use hunk_commands::{RunFault, unhex};
+use crate::tests::ends::Slow;
+use hunk_commands::{RunFault, read_hex, unhex};
+use hunk_words::{Fault, Reason};
+use std::alloc::Global;
 use std::test::Fail;
 
 #[test]
@@ -28,4 +31,68 @@ fn spells_none(rt: HostRuntime) {
         let got = unhex(rt.alloc(), text.as_bytes()).err();
         assert_eq!(rt; got, Some(RunFault::HexText), "at {text:?}");
     }
+}
+
+/// What the text spells, where it comes in pieces of `step` bytes, and fails behind them where that
+/// is set; fewer than `most` bytes of it are read.
+fn read(
+    alloc: Global,
+    text: &[u8],
+    step: usize,
+    fails: bool,
+    most: u64,
+) -> Result<Vec<u8>, RunFault> {
+    read_hex(alloc, &mut Slow::new(text, step, fails), most)
+}
+
+/// The text of so many bytes, which count up, with a blank inside of each third.
+fn counted(alloc: Global, count: usize) -> Result<(Vec<u8>, Vec<u8>), Fail> {
+    let (mut bytes, mut text) = (Vec::new(alloc), Vec::new(alloc));
+    for i in 0..count {
+        let byte = (i % 251) as u8;
+        bytes.push(byte)?;
+        text.push(DIGITS[usize::from(byte / 16)])?;
+        if i % 3 == 0 {
+            text.push(b'\n')?;
+        }
+        text.push(DIGITS[usize::from(byte % 16)])?;
+    }
+    Ok((bytes, text))
+}
+
+const DIGITS: &[u8; 16] = b"0123456789ABCdef";
+
+const STEPS: &[usize] = &[1, 3, 256];
+
+#[test]
+fn reads_in_pieces(rt: HostRuntime) -> Result<(), Fail> {
+    for count in [0, 1, 511, 512, 513, 1_025] {
+        let (bytes, text) = counted(rt.alloc(), count)?;
+        for step in STEPS {
+            let got = read(rt.alloc(), text.as_slice(), *step, false, 10_000)?;
+            assert!(rt; got == bytes, "{count} bytes by {step}");
+        }
+    }
+    Ok(())
+}
+
+/// The text is read to its end before it is refused, so a failure and the limit come first.
+#[test]
+fn refuses_at_the_end(rt: HostRuntime) -> Result<(), Fail> {
+    let (_, mut text) = counted(rt.alloc(), 1_025)?;
+    text[4] = b'g';
+    let place = text.len() as u64;
+    let limit = RunFault::Refused(Fault {
+        place,
+        reason: Reason::FileLimit,
+    });
+    for step in STEPS {
+        let got = read(rt.alloc(), text.as_slice(), *step, false, place + 1);
+        assert_eq!(rt; got.err(), Some(RunFault::HexText));
+        let got = read(rt.alloc(), text.as_slice(), *step, true, place + 1);
+        assert_eq!(rt; got.err(), Some(RunFault::Read { place }));
+        let got = read(rt.alloc(), text.as_slice(), *step, false, place);
+        assert_eq!(rt; got.err(), Some(limit));
+    }
+    Ok(())
 }

@@ -67,6 +67,13 @@ const REWRITTEN: &[(&str, &str, u8)] = &[
         "writing failed after 6 bytes\n",
         3,
     ),
+    (
+        "hunkinfo rewrite a lost",
+        "writing failed after 40 bytes\n",
+        3,
+    ),
+    ("hunkinfo rewrite a pipe", "wrote 40 bytes\n", 0),
+    ("hunkinfo rewrite a terminal", "wrote 40 bytes\n", 0),
 ];
 
 #[test]

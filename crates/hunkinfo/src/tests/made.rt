@@ -13,7 +13,8 @@ pub(super) const OTHER: &[u8; 44] = b"\0\0\x03\xF3\0\0\0\0\0\0\0\x01\0\0\0\0\0\0
     \0\0\x03\xE9\0\0\0\x02\x4E\x75\x4E\x71\x4E\x71\x4E\x75\0\0\x03\xF2";
 
 /// A runtime whose standard input and whose files but `other` give the same bytes, and where `fails` is
-/// set fail once those are given. The file `missing` can't be opened, and the file `full` takes 6 bytes.
+/// set fail once those are given. The file `missing` can't be opened, the file `full` takes 6 bytes,
+/// the file `lost` takes all and keeps none, and the files `pipe` and `terminal` have nothing to keep.
 #[derive(Drop)]
 pub(super) struct Made<'a> {
     pub bytes: &'a [u8],
@@ -26,6 +27,8 @@ pub(super) struct Tape<'a> {
     rest: &'a [u8],
     fails: bool,
     room: usize,
+    // What `sync_all` fails with.
+    loss: Option<io::ErrorKind>,
 }
 
 fn unsupported<T: Drop>() -> io::Result<T>
@@ -86,7 +89,10 @@ impl OpenFile for Tape<'_> {
     }
 
     fn sync_all(&self) -> io::Result<()> {
-        unsupported()
+        match self.loss {
+            Some(kind) => Err(io::Error::from(kind)),
+            None => Ok(()),
+        }
     }
 
     fn sync_data(&self) -> io::Result<()> {
@@ -105,11 +111,13 @@ impl<'a> Files for Made<'a> {
             return unsupported();
         }
         let mut tape = self.reader();
-        if path == "full" {
-            tape.room = 6;
-        }
-        if path == "other" {
-            tape.rest = OTHER.as_slice();
+        match path {
+            "full" => tape.room = 6,
+            "other" => tape.rest = OTHER.as_slice(),
+            "lost" => tape.loss = Some(io::ErrorKind::QuotaExceeded),
+            "pipe" => tape.loss = Some(io::ErrorKind::InvalidInput),
+            "terminal" => tape.loss = Some(io::ErrorKind::Unsupported),
+            _ => {}
         }
         Ok(tape)
     }
@@ -167,6 +175,7 @@ impl<'a> Input for Made<'a> {
             rest: self.bytes,
             fails: self.fails,
             room: usize::MAX,
+            loss: None,
         }
     }
 }

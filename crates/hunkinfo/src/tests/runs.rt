@@ -262,7 +262,10 @@ const HELP: &[(&str, &[&str])] = &[
             "[FILE]",
         ],
     ),
-    ("hunkinfo rewrite --help", &["--strip", "<IN>", "<OUT>"]),
+    (
+        "hunkinfo rewrite --help",
+        &["--strip", "<IN>", "<OUT>", "incomplete", "mv IN.new IN"],
+    ),
 ];
 
 #[test]

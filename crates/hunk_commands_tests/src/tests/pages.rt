@@ -1,0 +1,77 @@
+//! A listing of more than a page, to writers that stop where its pages end.
+
+use hunk_commands::{RunFault, show};
+use hunk_testing::bytes_of;
+use hunk_words::{FromSlice, FromWrite, LongWriter};
+use std::alloc::{AllocError, Global};
+use std::io;
+use std::io::Write;
+use std::test::Fail;
+
+/// Takes all, and keeps how much was first written at once.
+#[derive(Drop)]
+struct First {
+    count: usize,
+}
+
+impl Write for First {
+    fn write(&mut self, bytes: &[u8]) -> io::Result<usize> {
+        if self.count == 0 {
+            self.count = bytes.len();
+        }
+        Ok(bytes.len())
+    }
+
+    fn flush(&mut self) -> io::Result<()> {
+        Ok(())
+    }
+}
+
+/// A load file with so many relocations at offset 0, which are a line each.
+fn file(alloc: Global, count: u32) -> Result<Vec<u8>, AllocError> {
+    let head = [0x3F3, 0, 1, 0, 0, 1, 0x3E9, 1, 0, 0x3EC, count, 0];
+    let mut bytes = bytes_of(alloc, head.as_slice())?;
+    for _ in 0..count {
+        bytes.extend_from_slice(&[0; 4])?;
+    }
+    bytes.extend_from_slice(&[0, 0, 0, 0, 0, 0, 3, 0xF2])?;
+    Ok(bytes)
+}
+
+/// What `show` answers of these bytes, to a writer that takes as many as there is room and then
+/// none, and how many it wrote.
+fn shown(alloc: Global, bytes: &[u8], room: &mut [u8]) -> (Option<RunFault>, u64) {
+    let mut out = LongWriter::new(FromWrite::new(room));
+    let answer = show(alloc, &mut FromSlice::new(bytes), &mut out, 100_000);
+    (answer.err(), out.written())
+}
+
+#[test]
+fn stops_where_a_page_ends(rt: HostRuntime) -> Result<(), Fail> {
+    let bytes = file(rt.alloc(), 8_000)?;
+    let mut first = LongWriter::new(FromWrite::new(First { count: 0 }));
+    show(
+        rt.alloc(),
+        &mut FromSlice::new(bytes.as_slice()),
+        &mut first,
+        100_000,
+    )?;
+    let (size, page) = (first.written(), first.into_inner().into_inner().count);
+    let mut whole = vec![in rt.alloc(); 0u8; size as usize]?;
+    assert_eq!(rt;
+        shown(rt.alloc(), bytes.as_slice(), whole.as_mut_slice()),
+        (None, size)
+    );
+    for room in [page.saturating_sub(1), page, page.saturating_add(1)] {
+        let mut taken = vec![in rt.alloc(); 0u8; room]?;
+        let fault = RunFault::Write {
+            written: room as u64,
+        };
+        assert_eq!(rt;
+            shown(rt.alloc(), bytes.as_slice(), taken.as_mut_slice()),
+            (Some(fault), room as u64)
+        );
+        assert!(rt; whole.starts_with(taken.as_slice()), "at {room}");
+    }
+    Ok(())
+}
