@@ -83,7 +83,7 @@ pub(super) struct Outcome {
 }
 
 /// What the call comes to on what the source gives, to this writer.
-pub(super) fn outcome<R: Source>(
+pub(super) fn made<R: Source>(
     alloc: Global,
     call: Call,
     source: &mut R,

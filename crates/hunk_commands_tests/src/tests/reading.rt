@@ -1,6 +1,6 @@
 //! Sources that fail at each read in turn, and then would go on.
 
-use crate::tests::calls::{CASES, Call, Outcome, input_and_output, outcome, roomy};
+use crate::tests::calls::{CASES, Call, Outcome, input_and_output, made, roomy};
 use crate::tests::ends::{FailsOnce, Interrupted};
 use hunk_commands::RunFault;
 use hunk_words::FromRead;
@@ -34,7 +34,7 @@ fn one_read_fails(
 ) -> Result<(), Fail> {
     for place in 0..input.len() + 2 {
         let mut source = FailsOnce::new(input, place);
-        let got = outcome(alloc, call, &mut source, roomy());
+        let got = made(alloc, call, &mut source, roomy());
         // `relocate` knows where a load file ends, and reads no further.
         let reads = if call == Call::Relocate {
             input.len()
@@ -73,7 +73,7 @@ fn a_read_is_interrupted(rt: HostRuntime) -> Result<(), Fail> {
         let (input, _) = input_and_output(rt.alloc(), case)?;
         for place in [0, 1, 30] {
             let mut source = FromRead::new(Interrupted::new(input.as_slice(), place));
-            let got = outcome(rt.alloc(), case.call, &mut source, roomy());
+            let got = made(rt.alloc(), case.call, &mut source, roomy());
             expect_unread(&rt, &got, place);
         }
     }

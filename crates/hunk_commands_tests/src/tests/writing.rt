@@ -1,6 +1,6 @@
 //! Writers that take so many bytes, and then fail or take none.
 
-use crate::tests::calls::{CASES, Call, input_and_output, outcome};
+use crate::tests::calls::{CASES, Call, input_and_output, made};
 use crate::tests::ends::Narrow;
 use hunk_commands::RunFault;
 use hunk_words::FromSlice;
@@ -18,7 +18,7 @@ fn expect_cut(
     narrow: Narrow,
     room: usize,
 ) {
-    let got = outcome(alloc, call, &mut FromSlice::new(input), narrow);
+    let got = made(alloc, call, &mut FromSlice::new(input), narrow);
     let written = room as u64;
     assert_eq!(rt; got.fault, Some(RunFault::Write { written }));
     assert_eq!(rt; got.written, written);
