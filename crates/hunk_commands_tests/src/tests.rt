@@ -1,4 +1,5 @@
 //! Tests of what no clause says.
+mod calls;
 mod ends;
 mod faults;
 mod hex_text;
@@ -6,5 +7,7 @@ mod listing;
 mod listing_ends;
 mod memory;
 mod pages;
+mod reading;
 mod relocating;
 mod samples;
+mod writing;

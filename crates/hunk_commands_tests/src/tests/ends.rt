@@ -1,9 +1,9 @@
-//! A source and a writer that take their time, and fail where they are told to.
+//! Sources and a writer that take their time, and fail where they are told to.
 ghost use Rattle.std.specs.Prelude.{◌≡◌, ◌≤◌, None};
 
 use hunk_words::{Failed, FromWrite, LongWriter, Source};
 use std::io;
-use std::io::Write;
+use std::io::{Read, Write};
 
 /// Gives at most `step` bytes at a time, and where `fails` is set fails once all are given.
 #[derive(Drop)]
@@ -99,4 +99,81 @@ pub(super) fn wide() -> LongWriter<FromWrite<Narrow>>
     ensures { result.written ≡ 0 }
 {
     LongWriter::new(FromWrite::new(Narrow::new(WIDTH, WIDTH, false)))
+}
+
+/// Gives these bytes, one a read; behind so many of them one read fails, and those after it go on.
+#[derive(Drop)]
+pub(super) struct FailsOnce<'a> {
+    rest: &'a [u8],
+    given: usize,
+    fails_at: usize,
+    failed: bool,
+}
+
+impl<'a> FailsOnce<'a> {
+    pub(super) fn new(bytes: &'a [u8], fails_at: usize) -> FailsOnce<'a> {
+        FailsOnce {
+            rest: bytes,
+            given: 0,
+            fails_at,
+            failed: false,
+        }
+    }
+
+    /// How many bytes it has given.
+    pub(super) fn given(&self) -> usize {
+        self.given
+    }
+}
+
+impl Source for FailsOnce<'_> {
+    ghost left = { λ _. None };
+
+    ghost failed = { λ s. s.failed };
+
+    fn pull(&mut self, buf: &mut [u8]) -> Result<usize, Failed> {
+        if self.given == self.fails_at && !self.failed {
+            self.failed = true;
+            return Err(Failed);
+        }
+        let count = buf.len().min(self.rest.len()).min(1);
+        let (front, rest) = self.rest.split_at(count);
+        buf[..count].copy_from_slice(front);
+        self.rest = rest;
+        self.given = self.given.wrapping_add(count);
+        Ok(count)
+    }
+}
+
+/// Reads these bytes, one a read; behind so many of them one read is interrupted.
+#[derive(Drop)]
+pub(super) struct Interrupted<'a> {
+    rest: &'a [u8],
+    before: usize,
+    done: bool,
+}
+
+impl<'a> Interrupted<'a> {
+    pub(super) fn new(bytes: &'a [u8], before: usize) -> Interrupted<'a> {
+        Interrupted {
+            rest: bytes,
+            before,
+            done: false,
+        }
+    }
+}
+
+impl Read for Interrupted<'_> {
+    fn read(&mut self, buf: &mut [u8]) -> io::Result<usize> {
+        if self.before == 0 && !self.done {
+            self.done = true;
+            return Err(io::Error::from(io::ErrorKind::Interrupted));
+        }
+        let count = buf.len().min(self.rest.len()).min(1);
+        let (front, rest) = self.rest.split_at(count);
+        buf[..count].copy_from_slice(front);
+        self.rest = rest;
+        self.before = self.before.saturating_sub(count);
+        Ok(count)
+    }
 }

@@ -80,7 +80,9 @@ fn reads_in_pieces(rt: HostRuntime) -> Result<(), Fail> {
 #[test]
 fn refuses_at_the_end(rt: HostRuntime) -> Result<(), Fail> {
     let (_, mut text) = counted(rt.alloc(), 1_025)?;
-    text[4] = b'g';
+    if let Some(digit) = text.get_mut(4) {
+        *digit = b'g';
+    }
     let place = text.len() as u64;
     let limit = RunFault::Refused(Fault {
         place,

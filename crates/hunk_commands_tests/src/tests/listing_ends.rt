@@ -1,13 +1,9 @@
-//! `show`, `validate` and `rewrite` over sources and writers that fail, and over input without end.
-ghost use Rattle.std.specs.Prelude.{◌≡◌, None};
+//! `show`, `validate` and `rewrite` over input without end.
+ghost use Rattle.std.specs.Prelude.{None};
 
-use crate::tests::ends::{Narrow, Slow, wide};
-use crate::tests::samples::SHOWN;
-use hunk_commands::{RunFault, rewrite, show, unhex, validate};
-use hunk_words::{Failed, Fault, FromSlice, FromWrite, LongWriter, Reason, Source};
-use std::test::Fail;
-
-const LIMIT: u64 = 100_000;
+use crate::tests::ends::wide;
+use hunk_commands::{RunFault, rewrite, show, validate};
+use hunk_words::{Failed, Fault, Reason, Source};
 
 /// The first longwords of a load file, up to its END, and then empty DEBUG blocks without end.
 #[derive(Drop)]
@@ -58,80 +54,12 @@ fn input_without_end(rt: HostRuntime) {
         failed: false,
     };
     let mut out = wide();
-    assert_eq!(rt;
-        show(rt.alloc(), &mut endless(), &mut out, 1_000),
-        Err(fault)
-    );
+    let shown = show(rt.alloc(), &mut endless(), &mut out, 1_000);
+    assert_eq!(rt; (shown, out.written()), (Err(fault), 0));
     let mut out = wide();
-    assert_eq!(rt;
-        validate(rt.alloc(), &mut endless(), &mut out, 1_000),
-        Err(fault)
-    );
+    let validated = validate(rt.alloc(), &mut endless(), &mut out, 1_000);
+    assert_eq!(rt; (validated, out.written()), (Err(fault), 0));
     let mut out = wide();
-    assert_eq!(rt;
-        rewrite(rt.alloc(), &mut endless(), &mut out, 1_000, false),
-        Err(fault)
-    );
-}
-
-/// Example 8, whose listing has 124 bytes and whose text has 60.
-#[test]
-fn writing_fails_after_each_byte(rt: HostRuntime) -> Result<(), Fail> {
-    let bytes = unhex(rt.alloc(), SHOWN[0].hex.as_bytes())?;
-    assert_eq!(rt; SHOWN[0].text.len(), 124);
-    for takes_none in [false, true] {
-        for room in 0..124usize {
-            let mut source = FromSlice::new(bytes.as_slice());
-            let narrow = Narrow::new(room, 7, takes_none);
-            let mut out = LongWriter::new(FromWrite::new(narrow));
-            let answer = show(rt.alloc(), &mut source, &mut out, LIMIT);
-            let written = room as u64;
-            assert_eq!(rt; answer, Err(RunFault::Write { written }), "at {room}");
-            let narrow = out.into_inner().into_inner();
-            assert!(rt; SHOWN[0].text.as_bytes().starts_with(narrow.taken()));
-        }
-    }
-    let mut out = LongWriter::new(FromWrite::new(Narrow::new(124, 124, false)));
-    let mut source = FromSlice::new(bytes.as_slice());
-    assert_eq!(rt; show(rt.alloc(), &mut source, &mut out, LIMIT), Ok(()));
-    Ok(())
-}
-
-#[test]
-fn rewriting_fails_after_each_byte(rt: HostRuntime) -> Result<(), Fail> {
-    let bytes = unhex(rt.alloc(), SHOWN[0].hex.as_bytes())?;
-    for room in 0..bytes.len() {
-        let mut source = FromSlice::new(bytes.as_slice());
-        let mut out = LongWriter::new(FromWrite::new(Narrow::new(room, 5, false)));
-        let answer = rewrite(rt.alloc(), &mut source, &mut out, LIMIT, false);
-        let written = room as u64;
-        assert_eq!(rt; answer, Err(RunFault::Write { written }), "at {room}");
-        let narrow = out.into_inner().into_inner();
-        assert!(rt; bytes.as_slice().starts_with(narrow.taken()));
-    }
-    Ok(())
-}
-
-#[test]
-fn reading_fails_in_mid_stream(rt: HostRuntime) -> Result<(), Fail> {
-    let bytes = unhex(rt.alloc(), SHOWN[0].hex.as_bytes())?;
-    for given in 0..bytes.len() {
-        let fault = RunFault::Read {
-            place: given as u64,
-        };
-        let front = &bytes.as_slice()[..given];
-        let (mut out, mut source) = (wide(), Slow::new(front, 1, true));
-        assert_eq!(rt; show(rt.alloc(), &mut source, &mut out, LIMIT), Err(fault));
-        let (mut out, mut source) = (wide(), Slow::new(front, 3, true));
-        assert_eq!(rt;
-            validate(rt.alloc(), &mut source, &mut out, LIMIT),
-            Err(fault)
-        );
-        let (mut out, mut source) = (wide(), Slow::new(front, 9, true));
-        assert_eq!(rt;
-            rewrite(rt.alloc(), &mut source, &mut out, LIMIT, true),
-            Err(fault)
-        );
-    }
-    Ok(())
+    let rewritten = rewrite(rt.alloc(), &mut endless(), &mut out, 1_000, false);
+    assert_eq!(rt; (rewritten, out.written()), (Err(fault), 0));
 }
