@@ -2,6 +2,7 @@
 //! that stops.
 
 mod answers;
+mod growths;
 mod memory;
 mod texts;
 mod values;

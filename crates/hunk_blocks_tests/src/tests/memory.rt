@@ -8,10 +8,14 @@ use std::alloc::{AllocError, Global};
 use std::test::Fail;
 
 /// What is answered for the longwords with the first growth refused.
-fn starved(alloc: Global, longs: &[u32]) -> Result<Result<usize, BlockFault>, AllocError> {
+fn starved(
+    alloc: Global,
+    longs: &[u32],
+    mode: Mode,
+) -> Result<Result<usize, BlockFault>, AllocError> {
     let bytes = bytes_of(alloc, longs)?;
     let pieces = all_memory(alloc)?;
-    let result = match Block::decode(alloc, bytes.as_slice(), Mode::Object) {
+    let result = match Block::decode(alloc, bytes.as_slice(), mode) {
         Ok((_, count)) => Ok(count),
         Err(fault) => Err(fault),
     };
@@ -55,7 +59,21 @@ const WITHOUT_MEMORY: [Row; 15] = [
 fn refused_at_the_first_growth(rt: HostRuntime) -> Result<(), Fail> {
     for (longs, number, reason) in WITHOUT_MEMORY {
         let want = wanted(number, reason);
-        assert_eq!(rt; starved(rt.alloc(), longs)?, want, "{longs:?}");
+        assert_eq!(rt;
+            starved(rt.alloc(), longs, Mode::Object)?,
+            want,
+            "{longs:?}"
+        );
     }
+    Ok(())
+}
+
+/// Example 40: in a load file, too, a content takes no memory, and symbols do.
+#[test]
+fn refused_in_a_load_file(rt: HostRuntime) -> Result<(), Fail> {
+    let content = starved(rt.alloc(), &[0x3E9, 1, 0x4E75_4E71], Mode::Load)?;
+    assert_eq!(rt; content, Ok(12));
+    let symbols = starved(rt.alloc(), &[0x3F0, 1, 0x5F6D_0000, 0, 0], Mode::Load)?;
+    assert_eq!(rt; symbols, wanted(12, Some(Reason::OutOfMemory)));
     Ok(())
 }

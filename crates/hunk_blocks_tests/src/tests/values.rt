@@ -3,6 +3,7 @@
 use hunk_blocks::{Block, Body, Groups, Mode, Payload};
 use hunk_testing::bytes_of;
 use std::alloc::{AllocError, Global};
+use std::process::Abort;
 use std::test::Fail;
 
 #[test]
@@ -140,5 +141,35 @@ fn of_groups_in_turn(rt: HostRuntime) -> Result<(), Fail> {
     let wanted = [(0, 4), (1, 8), (1, 12)];
     assert_eq!(rt; found.as_deref(), Some(wanted.as_slice()));
     assert_eq!(rt; relocations(rt.alloc(), &[0x3EC, 0])?, None);
+    let found = relocations(rt.alloc(), &[0x3EC, 1, 0, 0, 0])?;
+    assert_eq!(rt; found.as_deref(), Some([(0, 0)].as_slice()), "example 33");
+    Ok(())
+}
+
+/// Sees that an advisory block of this word with a count of 0 has these flags and no payload.
+fn expect_empty(
+    rt: &impl Abort,
+    alloc: Global,
+    word: u32,
+    flags: u8,
+    mode: Mode,
+) -> Result<(), Fail> {
+    let bytes = bytes_of(alloc, &[word, 0])?;
+    let (block, _) = Block::decode(alloc, &bytes, mode)?;
+    assert_eq!(rt; block.word().flags(), flags);
+    assert!(rt; matches!(block.body(), Body::Advisory(payload) if payload.bytes().is_empty()));
+    Ok(())
+}
+
+/// Examples 44 and 33: advisory blocks without a payload, and a relocation block without a group.
+#[test]
+fn of_empty_bodies(rt: HostRuntime) -> Result<(), Fail> {
+    for mode in [Mode::Load, Mode::Object] {
+        expect_empty(&rt, rt.alloc(), 0x2000_04D2, 1, mode)?;
+        expect_empty(&rt, rt.alloc(), 0x6000_04D2, 3, mode)?;
+    }
+    let bytes = bytes_of(rt.alloc(), &[0x3F7, 0])?;
+    let (block, _) = Block::decode(rt.alloc(), &bytes, Mode::Object)?;
+    assert!(rt; matches!(block.body(), Body::Reloc(groups) if groups.is_empty()));
     Ok(())
 }
