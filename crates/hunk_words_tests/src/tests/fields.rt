@@ -106,6 +106,9 @@ fn fault_texts(rt: HostRuntime) -> Result<(), Fail> {
     let text = format!(in rt.alloc(); "{}", no_base.reason)?;
     assert_eq!(rt; text.as_str(), "NoBase (29) hunk 1");
     let text = format!(in rt.alloc(); "{}, {Failed}", WriteFault { written: 6 })?;
-    assert_eq!(rt; text.as_str(), "writing failed after 6 bytes, reading or writing failed");
+    assert_eq!(rt;
+        text.as_str(),
+        "writing failed after 6 bytes, reading or writing failed"
+    );
     Ok(())
 }
