@@ -14,13 +14,12 @@ ghost use Rattle.hunk_scatter.specs.Owing.{HasToCome};
 ghost use Rattle.hunk_scatter.specs.Rows.{entries_of};
 
 use crate::body_state::BodyState;
-use crate::history::History;
 use crate::image::{Image, starts_of};
 use crate::longwords::take_longwords;
 use crate::store::{next_word, take_word};
 use hunk_files::Row;
 use hunk_scan::Position;
-use hunk_words::{Assembler, LoadFault};
+use hunk_words::{Assembler, History, LoadFault};
 use std::marker::Model;
 
 /// Takes the body of a load file, and leaves each segment in its place.

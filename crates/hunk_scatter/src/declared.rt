@@ -7,10 +7,9 @@ ghost use Rattle.hunk_scatter.specs.Rows.{row_of, entries_of, bases_of};
 
 use crate::body_loader::BodyLoader;
 use crate::body_state::BodyState;
-use crate::history::History;
 use crate::placer::{Placer, place_rows, unplace_rows};
 use hunk_files::Row;
-use hunk_words::{Assembler, Reason};
+use hunk_words::{Assembler, History, Reason};
 use std::alloc::{AllocError, Global};
 use std::marker::Model;
 

@@ -17,11 +17,10 @@ ghost use Rattle.hunk_words.specs.Longs.{longs};
 
 use crate::declared::Declared;
 use crate::header_state::{HeaderState, take_header_word};
-use crate::history::History;
 use crate::store::next_word;
 use hunk_files::Row;
 use hunk_scan::Position;
-use hunk_words::{Assembler, LoadFault, Reason};
+use hunk_words::{Assembler, History, LoadFault, Reason};
 use std::alloc::Global;
 use std::marker::Model;
 

@@ -6,7 +6,6 @@ mod body_state;
 mod declared;
 mod header_loader;
 mod header_state;
-mod history;
 mod image;
 mod limits;
 mod loading;

@@ -10,11 +10,10 @@ ghost use Rattle.hunk_scatter.specs.LoaderReasons.{is_of_body};
 ghost use Rattle.hunk_scatter.specs.Rows.{entries_of};
 
 use crate::body_state::BodyState;
-use crate::history::History;
 use crate::store::{run_bytes, take_offsets, take_run, take_word};
 use hunk_files::Row;
 use hunk_scan::{OpenHunk, Phase, Position};
-use hunk_words::{BlockWord, Kind, Reason, word_at};
+use hunk_words::{BlockWord, History, Kind, Reason, word_at};
 
 /// Takes the longword at the front of the piece, this one, and gives its number of bytes. The state
 /// stands here.
