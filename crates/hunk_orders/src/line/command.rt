@@ -19,7 +19,7 @@ Examples:
   hunkinfo COMMAND --help
 
 Limits:
-  The input has fewer than 67108864 bytes (64 MiB), that of relocate no more.
+  The input: fewer than 67108864 bytes (64 MiB); for relocate at most 67108864.
   File names are UTF-8; `hunkinfo show < FILE` reads a file of any name.
   relocate holds the bytes that the hunks declare, and 12 for each hunk. The
   other commands hold the input and its lists, 1.1 to 12 times the input.
@@ -226,7 +226,7 @@ fn output_positional<'a>(alloc: Global) -> Arg<'a>
     positional(
         alloc,
         "OUT",
-        "The file to write; it is not touched where IN is refused",
+        "The file to write; it is not touched where IN is rejected",
     )
 }
 
