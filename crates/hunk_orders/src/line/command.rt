@@ -13,20 +13,50 @@ to the address 00000000.
 
 Examples:
   hunkinfo show prog
+  hunkinfo validate part.o
   hunkinfo relocate --base 00021000 --budget 65536 prog
   hunkinfo rewrite --strip prog prog.stripped
+  hunkinfo COMMAND --help
+
+Limits:
+  The input: fewer than 67108864 bytes (64 MiB); for relocate at most 67108864.
+  File names are UTF-8; `hunkinfo show < FILE` reads a file of any name.
+  relocate holds the bytes that the hunks declare, and 12 for each hunk. The
+  other commands hold the input and its lists, 1.1 to 12 times the input.
 
 Exit status:
   0  done
-  1  the input was refused, or validate found something
-  2  the command line was refused
+  1  the input was rejected, or validate found something
+  2  the command line was rejected
   3  reading or writing failed
   4  out of memory";
+
+const AFTER_SHOW: &str = "\
+Examples:
+  hunkinfo show prog
+  hunkinfo show < prog
+  xxd -p prog | hunkinfo show --hex";
+
+const AFTER_VALIDATE: &str = "\
+The exit status is 1 where the file was rejected, or something was found.
+
+Example:
+  hunkinfo validate part.o";
+
+const AFTER_RELOCATE: &str = "\
+The memory of all hunks is taken at once, as soon as the header was read: a small
+file may take the whole budget.
+
+Example, at the address 0x00021000 and in at most 65536 bytes:
+  hunkinfo relocate --base 00021000 --budget 65536 prog";
 
 const AFTER_REWRITE: &str = "\
 OUT is overwritten in its place, and left incomplete where writing it fails.
 To rewrite a file in its own place, rename what was written where that succeeds:
-  hunkinfo rewrite IN IN.new && mv IN.new IN";
+  hunkinfo rewrite IN IN.new && mv IN.new IN
+
+Example, without names, symbols and debug data:
+  hunkinfo rewrite --strip prog prog.stripped";
 
 // `--name`.
 fn flag<'a>(alloc: Global, name: &'a str, help: &'a str) -> Arg<'a>
@@ -88,20 +118,25 @@ fn file_positional<'a>(alloc: Global) -> Arg<'a>
     )
 }
 
-/// A command that does not have its arguments yet.
-fn command<'a>(alloc: Global, name: &'a str, about: &'a str) -> Command<'a>
+/// A command that does not have its arguments yet, with what its help says before and behind them.
+fn command<'a>(alloc: Global, name: &'a str, about: &'a str, after: &'a str) -> Command<'a>
     ensures app { app_of result ≡ new_app name.entry.now }
     ensures local { (fields_of result).has_globals ≡ false }
 {
-    Command::new(alloc, name).about(about)
+    Command::new(alloc, name).about(about).after_help(after)
 }
 
 /// A command that only reads: NAME [--hex] [FILE].
-fn listing<'a>(alloc: Global, name: &'a str, about: &'a str) -> Result<Command<'a>, AllocError>
+fn listing<'a>(
+    alloc: Global,
+    name: &'a str,
+    about: &'a str,
+    after: &'a str,
+) -> Result<Command<'a>, AllocError>
     ensures { IfOk result (λ command. (app_of command ≡ spec.listing name.entry.now)
         × ((fields_of command).has_globals ≡ false)) }
 {
-    command(alloc, name, about)
+    command(alloc, name, about, after)
         .arg(hex_flag(alloc))?
         .arg(file_positional(alloc))
 }
@@ -114,6 +149,7 @@ fn show<'a>(alloc: Global) -> Result<Command<'a>, AllocError>
         alloc,
         "show",
         "Lists the hunks and blocks of a load file or an object file",
+        AFTER_SHOW,
     )
 }
 
@@ -125,6 +161,7 @@ fn validate<'a>(alloc: Global) -> Result<Command<'a>, AllocError>
         alloc,
         "validate",
         "Checks a file, and lists relocations and references that are out of range",
+        AFTER_VALIDATE,
     )
 }
 
@@ -157,7 +194,7 @@ fn relocate<'a>(alloc: Global) -> Result<Command<'a>, AllocError>
         × ((fields_of command).has_globals ≡ false)) }
 {
     let about = "Loads a load file at an address, and prints the bytes of its hunks";
-    command(alloc, "relocate", about)
+    command(alloc, "relocate", about, AFTER_RELOCATE)
         .arg(hex_flag(alloc))?
         .arg(mandatory(base_option(alloc)))?
         .arg(budget_option(alloc))?
@@ -189,24 +226,16 @@ fn output_positional<'a>(alloc: Global) -> Arg<'a>
     positional(
         alloc,
         "OUT",
-        "The file to write; it is not touched where IN is refused",
+        "The file to write; it is not touched where IN is rejected",
     )
-}
-
-/// The command `rewrite` without its arguments yet, with what its help says of OUT.
-fn bare_rewrite<'a>(alloc: Global) -> Command<'a>
-    ensures app { app_of result ≡ new_app (codes "rewrite") }
-    ensures local { (fields_of result).has_globals ≡ false }
-{
-    let about = "Reads a load file or an object file, and writes it again";
-    command(alloc, "rewrite", about).after_help(AFTER_REWRITE)
 }
 
 fn rewrite<'a>(alloc: Global) -> Result<Command<'a>, AllocError>
     ensures { IfOk result (λ command. (app_of command ≡ spec.rewrite)
         × ((fields_of command).has_globals ≡ false)) }
 {
-    bare_rewrite(alloc)
+    let about = "Reads a load file or an object file, and writes it again";
+    command(alloc, "rewrite", about, AFTER_REWRITE)
         .arg(strip_flag(alloc))?
         .arg(mandatory(input_positional(alloc)))?
         .arg(mandatory(output_positional(alloc)))

@@ -244,6 +244,8 @@ const HELP: &[(&str, &[&str])] = &[
             "relocate",
             "rewrite",
             "Examples:",
+            "64 MiB",
+            "UTF-8",
             "Exit status:",
             "  0  ",
             "  1  ",
@@ -253,6 +255,14 @@ const HELP: &[(&str, &[&str])] = &[
         ],
     ),
     (
+        "hunkinfo help show",
+        &["--hex", "[FILE]", "  hunkinfo show prog\n"],
+    ),
+    (
+        "hunkinfo help validate",
+        &["--hex", "[FILE]", "  hunkinfo validate part.o"],
+    ),
+    (
         "hunkinfo help relocate",
         &[
             "--hex",
@@ -260,11 +270,19 @@ const HELP: &[(&str, &[&str])] = &[
             "--budget <N>",
             "16777216",
             "[FILE]",
+            "  hunkinfo relocate --base 00021000 ",
         ],
     ),
     (
         "hunkinfo rewrite --help",
-        &["--strip", "<IN>", "<OUT>", "incomplete", "mv IN.new IN"],
+        &[
+            "--strip",
+            "<IN>",
+            "<OUT>",
+            "incomplete",
+            "mv IN.new IN",
+            "  hunkinfo rewrite --strip prog ",
+        ],
     ),
 ];
 
