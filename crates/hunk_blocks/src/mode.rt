@@ -19,10 +19,10 @@ impl Mode {
     pub fn refuse(self, word: BlockWord) -> Option<Reason>
         ensures { result ≡ refuse_alone_word self word }
     {
-        if word.word() >> 30 == 3 {
+        if word.has_both_memory_bits() {
             return Some(Reason::BothBits);
         }
-        self.refuse_kind(word.flags() & 1 == 1, word.kind())
+        self.refuse_kind(word.is_advisory(), word.kind())
     }
 
     /// Why a block of this kind is refused.

@@ -9,7 +9,8 @@ use Rattle.hunk_commands.specs.declared.fault.RunFault.{RunFault}
 use Rattle.hunk_commands.specs.declared.fault.RunFault.TheVariants.{HexText, Memory, Read, Refused, Write}
 use Rattle.hunk_commands.specs.Engine.{RefusesOnly, Writes, WritesAll}
 use Rattle.hunk_commands.specs.Faults.{IsWrite}
-use Rattle.hunk_commands.specs.FileKinds.{AreFile, RefusesBytes}
+use Rattle.hunk_files.specs.HunkFile.{AreFile}
+use Rattle.hunk_commands.specs.Refusals.{RefusesBytes}
 use Rattle.hunk_commands.specs.Output.{StopsOutput}
 use Rattle.hunk_commands.proofs.Consumed.{consumed_all}
 

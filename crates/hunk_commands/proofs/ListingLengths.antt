@@ -19,9 +19,9 @@ use Rattle.hunk_listing.specs.ReportLines.{count_line, finding_line, load_summar
 use Rattle.hunk_listing.proofs.FileLengths.{load_listing_fits, load_summary_fits, object_listing_fits}
 use Rattle.hunk_listing.proofs.ReportLengths.{findings_within, object_report_fits}
 use Rattle.hunk_listing.proofs.SegmentLengths.{length-lines, total}
-use Rattle.hunk_commands.specs.declared.hunk_file.HunkFile.{HunkFile}
-use Rattle.hunk_commands.specs.declared.hunk_file.HunkFile.TheVariants as files
-use Rattle.hunk_commands.specs.FileKinds.{IsFileOf}
+use Rattle.hunk_files.specs.declared.hunk_file.HunkFile.{HunkFile}
+use Rattle.hunk_files.specs.declared.hunk_file.HunkFile.TheVariants as files
+use Rattle.hunk_files.specs.HunkFile.{IsFileOf}
 use Rattle.hunk_commands.specs.Relocating.{image_listing, segments_of}
 use Rattle.hunk_commands.specs.Reports.{finding_count, report}
 use Rattle.hunk_commands.specs.Shown.{file_listing}

@@ -6,10 +6,10 @@ use Rattle.hunk_files.specs.LoadFile.{LoadFileValue}
 use Rattle.hunk_files.specs.LoadText.{text}
 use Rattle.hunk_files.specs.ObjectFile.{ObjectFileValue, object_text}
 use Rattle.hunk_files.specs.Strip.{strip_file, strip_object}
-use Rattle.hunk_commands.specs.declared.hunk_file.HunkFile.{HunkFile}
-use Rattle.hunk_commands.specs.declared.hunk_file.HunkFile.TheVariants as files
-use Rattle.hunk_commands.specs.FileKinds.{IsFileOf, bytes_behind, file_bytes, stripped_where}
-use Rattle.hunk_commands.specs.Rewritten.{IsRewritten}
+use Rattle.hunk_files.specs.declared.hunk_file.HunkFile.{HunkFile}
+use Rattle.hunk_files.specs.declared.hunk_file.HunkFile.TheVariants as files
+use Rattle.hunk_files.specs.HunkFile.{IsFileOf, bytes_behind, file_bytes}
+use Rattle.hunk_commands.specs.Rewritten.{IsRewritten, stripped_where}
 use Rattle.hunk_commands.proofs.StrippedSize.{load_shorter, object_shorter}
 
 pub rewritten : (strip : Bool) (bytes : List ℕ) (file : HunkFile) → IsFileOf bytes file →

@@ -5,7 +5,7 @@ use Rattle.hunk_words.specs.declared.reason.Reason.TheVariants.{FileLimit}
 use Rattle.hunk_words.specs.Puts.{Puts}
 use Rattle.hunk_commands.specs.declared.fault.RunFault.{RunFault}
 use Rattle.hunk_commands.specs.declared.fault.RunFault.TheVariants.{HexText, Refused}
-use Rattle.hunk_commands.specs.FileKinds.{RefusesBytes}
+use Rattle.hunk_commands.specs.Refusals.{RefusesBytes}
 
 -- The source was read to its end in fewer than `most` bytes. The text is one that these have, and as many of its first bytes
 -- have gone out as `written` says.

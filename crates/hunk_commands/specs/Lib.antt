@@ -1,9 +1,9 @@
 pub mod Engine
 pub mod Faults
-pub mod FileKinds
 pub mod HexText
 pub mod Inputs
 pub mod Output
+pub mod Refusals
 pub mod Relocating
 pub mod Reports
 pub mod Rewritten

@@ -2,8 +2,8 @@
 use Rattle.std.specs.Prelude.{ℕ, List, length}
 use Rattle.hunk_files.specs.Findings.{findings}
 use Rattle.hunk_listing.specs.ReportLines.{load_summary, object_report}
-use Rattle.hunk_commands.specs.declared.hunk_file.HunkFile.{HunkFile}
-use Rattle.hunk_commands.specs.declared.hunk_file.HunkFile.TheVariants as files
+use Rattle.hunk_files.specs.declared.hunk_file.HunkFile.{HunkFile}
+use Rattle.hunk_files.specs.declared.hunk_file.HunkFile.TheVariants as files
 
 -- how much is found in it
 abbrev pub finding_count : HunkFile → ℕ

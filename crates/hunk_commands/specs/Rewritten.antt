@@ -5,7 +5,11 @@ use Rattle.hunk_files.specs.Fault.{BeginsWithLoadFile}
 use Rattle.hunk_files.specs.LoadText.{text}
 use Rattle.hunk_files.specs.ObjectFile.{object_text}
 use Rattle.hunk_files.specs.Strip.{strip_file, strip_object}
-use Rattle.hunk_commands.specs.FileKinds.{AreObjectFile}
+use Rattle.hunk_files.specs.HunkFile.{AreObjectFile, stripped}
+use Rattle.hunk_files.specs.declared.hunk_file.HunkFile.{HunkFile}
+
+abbrev pub stripped_where : Bool → HunkFile → HunkFile
+stripped_where strip file = if strip then stripped file else file
 
 -- The output is the text of the file that the bytes are, or begin with, stripped where that is asked for. So many bytes follow the file.
 abbrev pub IsRewritten : Bool → ℕ → List ℕ → List ℕ → Type 0

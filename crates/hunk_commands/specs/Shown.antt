@@ -2,9 +2,9 @@
 use Rattle.std.specs.Prelude.{◌≡◌, ◌⊎◌, ℕ, List, length}
 use Rattle.hunk_files.specs.Fault.{BeginsWithLoadFile}
 use Rattle.hunk_listing.specs.FileLines.{load_listing, object_listing}
-use Rattle.hunk_commands.specs.declared.hunk_file.HunkFile.{HunkFile}
-use Rattle.hunk_commands.specs.declared.hunk_file.HunkFile.TheVariants as files
-use Rattle.hunk_commands.specs.FileKinds.{AreObjectFile}
+use Rattle.hunk_files.specs.declared.hunk_file.HunkFile.{HunkFile}
+use Rattle.hunk_files.specs.declared.hunk_file.HunkFile.TheVariants as files
+use Rattle.hunk_files.specs.HunkFile.{AreObjectFile}
 
 -- the listing of a file
 abbrev pub file_listing : HunkFile → List ℕ

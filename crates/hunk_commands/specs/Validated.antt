@@ -3,7 +3,7 @@ use Rattle.std.specs.Prelude.{◌≡◌, ◌<◌, ◌⊎◌, ℕ, List, length}
 use Rattle.hunk_files.specs.Fault.{BeginsWithLoadFile}
 use Rattle.hunk_files.specs.Findings.{findings}
 use Rattle.hunk_listing.specs.ReportLines.{load_summary, object_report}
-use Rattle.hunk_commands.specs.FileKinds.{AreObjectFile}
+use Rattle.hunk_files.specs.HunkFile.{AreObjectFile}
 
 -- The text is printed of the bytes, of which there are so many findings.
 abbrev pub IsValidated : ℕ → List ℕ → List ℕ → Type 0

@@ -2,9 +2,9 @@
 //! `rewrite`, and hexadecimal text.
 #![tactic(auto)]
 
+mod decoding;
 mod fault;
 mod hex_text;
-mod hunk_file;
 mod input;
 mod relocating;
 mod rewriting;

@@ -2,17 +2,18 @@
 ghost use Rattle.std.specs.Prelude.{◌≡◌, ◌+◌, ◌^◌, ◌<◌, ℕ, List, Some, false, true, length, IfOk, IfErr, OnOk, OnErr};
 ghost use Rattle.hunk_words.specs.Puts.{Puts};
 ghost use Rattle.hunk_words.specs.declared.reason.Reason.TheVariants.{FileLimit};
+ghost use Rattle.hunk_files.specs.HunkFile.{AreFile, IsFileOf, file_bytes};
 ghost use Rattle.hunk_scatter.specs.LoadOutcomes.{Gives};
 ghost use Rattle.hunk_commands.specs.declared.fault.RunFault.TheVariants.{Memory, Read, Refused, Write};
 ghost use Rattle.hunk_commands.specs.Engine.{RefusesOnly, Writes, WritesAll};
-ghost use Rattle.hunk_commands.specs.FileKinds.{AreFile, IsFileOf, file_bytes, stripped_where};
 ghost use Rattle.hunk_commands.specs.Inputs.{Gave};
 ghost use Rattle.hunk_commands.specs.Output.{StopsOutput};
-ghost use Rattle.hunk_commands.specs.Rewritten.{IsRewriting, IsRewritten};
+ghost use Rattle.hunk_commands.specs.Rewritten.{IsRewriting, IsRewritten, stripped_where};
 
+use crate::decoding::decode_file;
 use crate::fault::RunFault;
-use crate::hunk_file::HunkFile;
 use crate::input::read_whole;
+use hunk_files::HunkFile;
 use hunk_words::{LongWriter, Sink, Source, WriteFault};
 use std::alloc::Global;
 
@@ -62,7 +63,7 @@ pub fn rewrite<R: Source, W: Sink>(
         (λ fault. RefusesOnly fault (R.left r.old) (R.left r.new) file_bytes) }
 {
     let input = read_whole(alloc, r, file_bytes)?;
-    let file = HunkFile::decode(alloc, input.as_slice())?;
+    let file = decode_file(alloc, input.as_slice())?;
     let rest = file.rest();
     put_file(w, file, input.as_slice(), strip)?;
     Ok(Rewritten {

@@ -6,14 +6,15 @@ ghost use Rattle.hunk_words.specs.declared.reason.Reason.TheVariants.{FileLimit}
 ghost use Rattle.hunk_scatter.specs.LoadOutcomes.{Gives};
 ghost use Rattle.hunk_commands.specs.declared.fault.RunFault.TheVariants.{Memory, Read, Refused, Write};
 ghost use Rattle.hunk_commands.specs.Engine.{RefusesOnly, Writes, WritesAll};
-ghost use Rattle.hunk_commands.specs.FileKinds.{AreFile};
+ghost use Rattle.hunk_files.specs.HunkFile.{AreFile};
 ghost use Rattle.hunk_commands.specs.Inputs.{Gave};
 ghost use Rattle.hunk_commands.specs.Shown.{IsShown, file_listing};
 ghost use Rattle.hunk_commands.specs.Output.{StopsOutput};
 
+use crate::decoding::decode_file;
 use crate::fault::RunFault;
-use crate::hunk_file::HunkFile;
 use crate::input::read_whole;
+use hunk_files::HunkFile;
 use hunk_listing::{print_load_file, print_object_file};
 use hunk_words::{LongWriter, Printer, Sink, Source, WriteFault};
 use std::alloc::Global;
@@ -53,7 +54,7 @@ pub fn show<R: Source, W: Sink>(
         (λ fault. RefusesOnly fault (R.left r.old) (R.left r.new) file_bytes) }
 {
     let input = read_whole(alloc, r, file_bytes)?;
-    let file = HunkFile::decode(alloc, input.as_slice())?;
+    let file = decode_file(alloc, input.as_slice())?;
     put_listing(w, &file)?;
     Ok(())
 }

@@ -3,6 +3,7 @@ pub mod AddAt
 pub mod Completion
 pub mod Concats
 mod Examples
+mod FileKinds
 pub mod FileProgress
 pub mod FileReading
 pub mod FileText

@@ -3,6 +3,7 @@ pub mod Entries
 pub mod Fault
 pub mod FileSteps
 pub mod Findings
+pub mod HunkFile
 pub mod Hunks
 pub mod Image
 pub mod LoadFile

@@ -1,6 +1,7 @@
 //! Load files and object files of the Amiga, read from bytes and written to them.
 #![tactic(auto)]
 
+mod hunk_file;
 pub mod laws;
 mod load;
 mod object;
@@ -10,6 +11,7 @@ mod row;
 mod sniffing;
 mod writing;
 
+pub use crate::hunk_file::HunkFile;
 pub use crate::load::{ImageFault, LoadFile};
 pub use crate::object::{Finding, FindingKind, Findings, Hunk, ObjectFile, TakesFindings, Unit};
 pub use crate::row::Row;

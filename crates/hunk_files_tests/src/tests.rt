@@ -3,6 +3,7 @@
 
 mod answers;
 mod growths;
+mod hunk_file;
 mod images;
 mod large;
 mod memory;

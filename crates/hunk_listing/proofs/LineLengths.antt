@@ -10,11 +10,11 @@ use Rattle.hunk_words.specs.declared.block_word.Kind.{Kind}
 use Rattle.hunk_words.specs.declared.block_word.Kind.TheVariants as kinds
 use Rattle.hunk_words.specs.declared.size_word.Memory.{Memory}
 use Rattle.hunk_words.specs.declared.size_word.Memory.TheVariants as memories
-use Rattle.hunk_words.specs.Bits.{is_advisory, kind}
+use Rattle.hunk_words.specs.Bits.{is_advisory, is_chip, is_fast, kind}
 use Rattle.hunk_words.specs.Longs.{bytes_of}
 use Rattle.hunk_words.proofs.LongLaws.{length-bytes_of}
 use Rattle.hunk_listing.specs.BlockLines.{head}
-use Rattle.hunk_listing.specs.BlockNames.{block_flags, is_chip, is_fast, kind_name, memory_flags, type_name, where_set}
+use Rattle.hunk_listing.specs.BlockNames.{block_flags, kind_name, memory_flags, type_name, where_set}
 use Rattle.hunk_listing.specs.FileLines.{memory_text}
 use Rattle.hunk_listing.specs.Printed.{before_zero, character, hexadecimal, is_plain, name_text}
 

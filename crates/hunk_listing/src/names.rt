@@ -12,31 +12,9 @@ pub(crate) fn put_kind(line: &mut Line, kind: Kind)
     ensures text { line.new ≡ line.old ++ kind_name kind }
     ensures short { length line.new ≤ length line.old + 12 }
 {
-    match kind {
-        Kind::Unit => line.put(b"UNIT"),
-        Kind::Name => line.put(b"NAME"),
-        Kind::Code => line.put(b"CODE"),
-        Kind::Data => line.put(b"DATA"),
-        Kind::Bss => line.put(b"BSS"),
-        Kind::Reloc32 => line.put(b"RELOC32"),
-        Kind::Reloc16 => line.put(b"RELOC16"),
-        Kind::Reloc8 => line.put(b"RELOC8"),
-        Kind::Ext => line.put(b"EXT"),
-        Kind::Symbol => line.put(b"SYMBOL"),
-        Kind::Debug => line.put(b"DEBUG"),
-        Kind::End => line.put(b"END"),
-        Kind::Header => line.put(b"HEADER"),
-        Kind::Overlay => line.put(b"OVERLAY"),
-        Kind::Break => line.put(b"BREAK"),
-        Kind::Drel32 => line.put(b"DREL32"),
-        Kind::Drel16 => line.put(b"DREL16"),
-        Kind::Drel8 => line.put(b"DREL8"),
-        Kind::Lib => line.put(b"LIB"),
-        Kind::Index => line.put(b"INDEX"),
-        Kind::Reloc32Short => line.put(b"RELOC32SHORT"),
-        Kind::RelReloc32 => line.put(b"RELRELOC32"),
-        Kind::AbsReloc16 => line.put(b"ABSRELOC16"),
-        Kind::Unknown(_) => line.put(b"ADVISORY"),
+    match kind.name() {
+        Some(name) => line.put(name.as_bytes()),
+        None => line.put(b"ADVISORY"),
     }
 }
 
@@ -72,7 +50,7 @@ pub(crate) fn put_block_flags(line: &mut Line, word: BlockWord)
     ensures text { line.new ≡ line.old ++ block_flags word }
     ensures short { length line.new ≤ length line.old + 19 }
 {
-    put_where(line, word.word() >> 29 & 1 == 1, b" advisory");
+    put_where(line, word.is_advisory(), b" advisory");
     put_memory_flags(line, word);
 }
 
@@ -83,8 +61,8 @@ pub(crate) fn put_memory_flags(line: &mut Line, word: BlockWord)
     ensures text { line.new ≡ line.old ++ memory_flags word }
     ensures short { length line.new ≤ length line.old + 10 }
 {
-    put_where(line, word.word() >> 30 & 1 == 1, b" chip");
-    put_where(line, word.word() >> 31 & 1 == 1, b" fast");
+    put_where(line, word.is_chip(), b" chip");
+    put_where(line, word.is_fast(), b" fast");
 }
 
 fn put_where(line: &mut Line, flag: bool, name: &[u8])

@@ -12,3 +12,4 @@ pub mod Owing
 pub mod Placing
 pub mod Rows
 pub mod StoreContent
+pub mod UnplacedLine

@@ -3,14 +3,17 @@ ghost use Rattle.std.specs.Prelude.{◌≡◌, ◌+◌, ◌*◌, ◌<◌, ◌≤
 ghost use Rattle.hunk_files.specs.Image.{declared_bytes};
 ghost use Rattle.hunk_scatter.specs.HeaderBytes.{header_bytes};
 ghost use Rattle.hunk_scatter.specs.Placing.{AreBases, IsUnplacedFor};
+ghost use Rattle.hunk_scatter.specs.UnplacedLine.{unplaced_line};
 ghost use Rattle.hunk_scatter.specs.Rows.{row_of, entries_of, bases_of};
 
 use crate::body_loader::BodyLoader;
 use crate::body_state::BodyState;
 use crate::placer::{Placer, place_rows, unplace_rows};
 use hunk_files::Row;
-use hunk_words::{Assembler, History, Reason};
+use hunk_words::{Assembler, History, LoadFault, Reason};
 use std::alloc::{AllocError, Global};
+use std::error::Error;
+use std::fmt;
 use std::marker::Model;
 
 /// The table of a load file, which keeps to a budget. No hunk is placed.
@@ -38,12 +41,27 @@ impl Model for Declared {
     ghost invariant = { λ s. DeclaredInvariant s.rows.items s.total s.budget s.count s.history.bytes };
 }
 
-/// A table that could not be placed, as it was, and why.
-#[derive(Drop)]
+/// A table that could not be placed, as it was, and why. It is displayed as the refusal of a load that ends so,
+/// at the end of the header.
+#[derive(Debug, Drop)]
 pub struct Unplaced {
     pub declared: Declared,
     pub reason: Reason,
 }
+
+impl fmt::Display for Unplaced {
+    ghost output = { λ unplaced. Some (unplaced_line unplaced) };
+
+    fn fmt<W: fmt::Write>(&self, f: &mut fmt::Formatter<W>) -> fmt::Result {
+        let fault = LoadFault {
+            place: self.declared.header_len(),
+            reason: self.reason,
+        };
+        write!(f, "{fault}")
+    }
+}
+
+impl Error for Unplaced {}
 
 fn zero_bytes(alloc: Global, count: usize) -> Result<Vec<u8>, AllocError>
     ensures { IfOk result (λ v. v.items ≡ replicate count 0) }

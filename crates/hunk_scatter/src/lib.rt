@@ -3,6 +3,7 @@
 
 mod body_loader;
 mod body_state;
+mod debug;
 mod declared;
 mod header_loader;
 mod header_state;

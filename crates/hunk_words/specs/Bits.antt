@@ -33,6 +33,13 @@ flags word = word / 2 ^ 29
 abbrev pub is_advisory : ℕ → Bool
 is_advisory word = word / 2 ^ 29 % 2 == 1
 
+-- its memory flags, bits 30 and 31
+abbrev pub is_chip : ℕ → Bool
+is_chip word = word / 2 ^ 30 % 2 == 1
+
+abbrev pub is_fast : ℕ → Bool
+is_fast word = word / 2 ^ 31 % 2 == 1
+
 abbrev pub kind_of_number : ℕ → Kind
 kind_of_number n =
     if n == 0x3E7 then kinds.Unit

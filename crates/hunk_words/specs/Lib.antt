@@ -1,6 +1,7 @@
 pub mod Bits
 pub mod Carriers
 pub mod FaultLines
+pub mod KindNames
 pub mod Limits
 pub mod Longs
 pub mod Prints

@@ -8,7 +8,7 @@ use std::marker::Model;
 /// Makes longwords of bytes that come in pieces, however they were cut, high byte first.
 ///
 /// Contracts see the bytes that are pending, 0 to 3 of them.
-#[derive(Drop)]
+#[derive(Debug, Drop)]
 pub struct Assembler {
     bytes: ArrayVec<u8, 4>,
 }

@@ -1,7 +1,10 @@
 //! Block words.
-ghost use Rattle.std.specs.Prelude.{◌≡◌, ◌^◌, ◌<◌};
-ghost use Rattle.hunk_words.specs.Bits.{flags, kind};
+ghost use Rattle.std.specs.Prelude.{◌≡◌, ◌^◌, ◌<◌, ◌≤◌, IfSome, length};
+ghost use Rattle.std.specs.Option.{option_copied};
+ghost use Rattle.hunk_words.specs.Bits.{flags, has_both_bits, is_advisory, is_chip, is_fast, kind};
+ghost use Rattle.hunk_words.specs.KindNames.{name_of_kind};
 
+use crate::size_word::has_both_bits;
 use std::marker::Model;
 
 /// The type of a block, with the names of `dos/doshunks.h`.
@@ -33,6 +36,44 @@ pub enum Kind {
     AbsReloc16,
     /// A number that `dos/doshunks.h` gives no name, 1012 among them.
     Unknown(u32),
+}
+
+impl Kind {
+    /// The name that `dos/doshunks.h` has for it, without `HUNK_`: 3 to 12 capital letters and digits.
+    ///
+    /// `Unknown` has none.
+    pub fn name(self) -> Option<&'static str>
+        ensures value { option_copied result ≡ name_of_kind self }
+        ensures short { IfSome result (λ name. length name.now ≤ 12) }
+    {
+        let name = match self {
+            Kind::Unit => "UNIT",
+            Kind::Name => "NAME",
+            Kind::Code => "CODE",
+            Kind::Data => "DATA",
+            Kind::Bss => "BSS",
+            Kind::Reloc32 => "RELOC32",
+            Kind::Reloc16 => "RELOC16",
+            Kind::Reloc8 => "RELOC8",
+            Kind::Ext => "EXT",
+            Kind::Symbol => "SYMBOL",
+            Kind::Debug => "DEBUG",
+            Kind::End => "END",
+            Kind::Header => "HEADER",
+            Kind::Overlay => "OVERLAY",
+            Kind::Break => "BREAK",
+            Kind::Drel32 => "DREL32",
+            Kind::Drel16 => "DREL16",
+            Kind::Drel8 => "DREL8",
+            Kind::Lib => "LIB",
+            Kind::Index => "INDEX",
+            Kind::Reloc32Short => "RELOC32SHORT",
+            Kind::RelReloc32 => "RELRELOC32",
+            Kind::AbsReloc16 => "ABSRELOC16",
+            Kind::Unknown(_) => return None,
+        };
+        Some(name)
+    }
 }
 
 /// The first longword of a block: three flags and a type. Contracts see it as the longword.
@@ -74,6 +115,36 @@ impl BlockWord {
         ensures bound { result < 8 }
     {
         (self.word >> 29) as u8
+    }
+
+    /// Whether the advisory flag, bit 29, is set: a reader passes over the block where it does not know its type.
+    #[inline(always)]
+    pub fn is_advisory(self) -> bool
+        ensures { result ≡ is_advisory self }
+    {
+        (self.word >> 29) & 1 == 1
+    }
+
+    /// Whether the flag for chip memory, bit 30, is set.
+    pub fn is_chip(self) -> bool
+        ensures { result ≡ is_chip self }
+    {
+        (self.word >> 30) & 1 == 1
+    }
+
+    /// Whether the flag for fast memory, bit 31, is set.
+    pub fn is_fast(self) -> bool
+        ensures { result ≡ is_fast self }
+    {
+        (self.word >> 31) == 1
+    }
+
+    /// Whether the flags for chip and for fast memory are both set, which is refused of each block word.
+    #[inline(always)]
+    pub fn has_both_memory_bits(self) -> bool
+        ensures { result ≡ has_both_bits self }
+    {
+        has_both_bits(self.word)
     }
 
     /// The type, by the low 29 bits.

@@ -7,7 +7,7 @@ use crate::sink::Sink;
 use std::marker::Model;
 
 /// The bytes so far. A clause reads them as `bytes`.
-#[derive(Drop)]
+#[derive(Debug, Drop)]
 pub struct History {
     pub ghost bytes: { List ℕ },
 }

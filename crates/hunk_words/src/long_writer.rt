@@ -47,6 +47,15 @@ impl<W: Sink> Model for LongWriter<W> {
     ghost invariant = { λ s. s.stopped ≡ true → W.failed s.sink ≡ true };
 }
 
+impl<W: Sink> fmt::Debug for LongWriter<W> {
+    fn fmt<F: fmt::Write>(&self, f: &mut fmt::Formatter<F>) -> fmt::Result {
+        f.debug_struct("LongWriter")
+            .field("written", &self.written)
+            .field("stopped", &self.stopped)
+            .finish_non_exhaustive()
+    }
+}
+
 impl<W: Sink> LongWriter<W> {
     /// A writer that has written nothing yet.
     pub fn new(sink: W) -> LongWriter<W>

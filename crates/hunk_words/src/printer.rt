@@ -8,6 +8,7 @@ use crate::history::{History, Outset};
 use crate::long_writer::{LongWriter, WriteFault};
 use crate::page::{PAGE, Page};
 use crate::sink::Sink;
+use std::fmt;
 use std::marker::Model;
 
 /// A printer with a page for a whole text.
@@ -48,6 +49,16 @@ impl<'a, W: Sink, const ROOM: usize> Model for PagePrinter<'a, W, ROOM> {
     ghost invariant = { λ s. (s.lost ≡ false → W.failed s.out.now.sink ≡ s.outset.failed)
         × Sends s.lost s.outset.taken (W.taken s.out.now.sink)
         s.start s.out.now.written s.out.now.stopped s.history.bytes s.held };
+}
+
+impl<W: Sink, const ROOM: usize> fmt::Debug for PagePrinter<'_, W, ROOM> {
+    fn fmt<F: fmt::Write>(&self, f: &mut fmt::Formatter<F>) -> fmt::Result {
+        f.debug_struct("PagePrinter")
+            .field("out", &self.out)
+            .field("held", &self.held.as_slice().len())
+            .field("lost", &self.lost)
+            .finish_non_exhaustive()
+    }
 }
 
 impl<'a, W: Sink, const ROOM: usize> PagePrinter<'a, W, ROOM> {

@@ -3,6 +3,7 @@ ghost use Rattle.std.specs.Prelude.{◌≡◌, ℕ, ◌<◌, ◌≤◌, List, Op
 ghost use Rattle.std.specs.Io.KnownBytes.{WriteAppends};
 
 use crate::source::Failed;
+use std::fmt;
 use std::io::Write;
 use std::marker::Model;
 
@@ -39,6 +40,14 @@ impl<W> Model for FromWrite<W> {
     ghost Value = { Carrying W };
 
     ghost view = { λ s. record { writer = s.writer; failed = s.failed } };
+}
+
+impl<W> fmt::Debug for FromWrite<W> {
+    fn fmt<F: fmt::Write>(&self, f: &mut fmt::Formatter<F>) -> fmt::Result {
+        f.debug_struct("FromWrite")
+            .field("failed", &self.failed)
+            .finish_non_exhaustive()
+    }
 }
 
 impl<W: Write> FromWrite<W> {

@@ -58,6 +58,14 @@ impl SizeWord {
     pub fn has_extra(word: u32) -> bool
         ensures { result ≡ has_both_bits word }
     {
-        word >> 30 == 3
+        has_both_bits(word)
     }
+}
+
+/// Whether bits 30 and 31 of a size word or a block word are both set.
+#[inline(always)]
+pub(crate) fn has_both_bits(word: u32) -> bool
+    ensures { result ≡ has_both_bits word }
+{
+    word >> 30 == 3
 }

@@ -55,6 +55,14 @@ impl<R> Model for FromRead<R> {
     ghost view = { λ s. record { reader = s.reader; failed = s.failed } };
 }
 
+impl<R> fmt::Debug for FromRead<R> {
+    fn fmt<F: fmt::Write>(&self, f: &mut fmt::Formatter<F>) -> fmt::Result {
+        f.debug_struct("FromRead")
+            .field("failed", &self.failed)
+            .finish_non_exhaustive()
+    }
+}
+
 impl<R: Read> FromRead<R> {
     /// A source over this reader that has not failed.
     pub fn new(reader: R) -> FromRead<R>
@@ -93,7 +101,7 @@ impl<R: Read> Source for FromRead<R> {
 }
 
 /// A source over bytes at hand, which never fails. Contracts see it as the bytes that are left.
-#[derive(Drop)]
+#[derive(Debug, Drop)]
 pub struct FromSlice<'a> {
     rest: &'a [u8],
 }

@@ -1,5 +1,6 @@
 //! The findings of an object file, kept.
-ghost use Rattle.std.specs.Prelude.{◌≡◌, ◌<◌, IfOk, Some, length, slice_get};
+ghost use Rattle.std.specs.Prelude.{◌≡◌, ◌<◌, ◌↔◌, [], IfOk, IsTrue, Some, length, slice_get};
+ghost use Rattle.std.specs.Slice.Iter.{iter_rest};
 ghost use Rattle.hunk_files.specs.Findings.{findings};
 ghost use Rattle.hunk_files.specs.Collecting.{Keeps, keeps_none, keeps_more};
 
@@ -8,6 +9,7 @@ use crate::object::file::ObjectFile;
 use crate::object::taker::TakesFindings;
 use std::alloc::{AllocError, Global};
 use std::marker::Model;
+use std::slice;
 
 /// What is wrong with the offsets of an object file, in file order. Contracts see it as a list.
 #[derive(Debug, Drop)]
@@ -32,12 +34,38 @@ impl Findings {
         self.findings.len()
     }
 
+    /// Whether nothing was found.
+    pub fn is_empty(&self) -> bool
+        ensures { IsTrue result ↔ (self.now ≡ []) }
+    {
+        self.findings.is_empty()
+    }
+
+    /// The findings in turn.
+    pub fn iter(&self) -> slice::Iter<'_, Finding>
+        ensures { iter_rest result ≡ self.now }
+    {
+        self.findings.iter()
+    }
+
     /// The finding number `i`, counted from 0.
     pub fn at(&self, i: usize) -> &Finding
         requires { i < length self.now }
         ensures { slice_get self.now i ≡ Some result.now }
     {
         &self.findings[i]
+    }
+}
+
+impl<'b> IntoIterator for &'b Findings {
+    type Item = &'b Finding;
+
+    type IntoIter = slice::Iter<'b, Finding>;
+
+    ghost into_iter_gives = { λ found it. iter_rest it ≡ found.now };
+
+    fn into_iter(self) -> Self::IntoIter {
+        self.iter()
     }
 }
 

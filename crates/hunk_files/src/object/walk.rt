@@ -22,7 +22,7 @@ use crate::order::is_end;
 use crate::place::{counted_from, out_of_memory};
 use hunk_blocks::{Block, Body, Mode, Payload};
 use hunk_scan::refuse_place;
-use hunk_words::{BlockWord, FileFault, NAME_LIMIT, Reason, SizeWord, word_at};
+use hunk_words::{BlockWord, FileFault, NAME_LIMIT, Reason, word_at};
 use std::alloc::Global;
 
 /// The longword number `i`.
@@ -76,7 +76,7 @@ fn read_block<'a>(
         Ok(word) => BlockWord::of(word),
         Err(fault) => return Err(fault),
     };
-    if SizeWord::has_extra(word.word()) {
+    if word.has_both_memory_bits() {
         return Err(FileFault {
             place: 0,
             reason: Reason::BothBits,

@@ -3,8 +3,8 @@ use Rattle.std.proofs.lemmas.Result.{err_from_is_err_and}
 use Rattle.hunk_commands.specs.declared.fault.RunFault.{RunFault}
 use Rattle.hunk_commands.specs.declared.fault.RunFault.TheVariants.{Memory}
 use Rattle.hunk_commands.specs.Engine.{RefusesOnly, Writes, WritesAll}
-use Rattle.hunk_commands.specs.Rewritten.{IsRewriting, IsRewritten}
-use Rattle.hunk_commands.specs.FileKinds.{bytes_behind, file_bytes, stripped_where}
+use Rattle.hunk_files.specs.HunkFile.{bytes_behind, file_bytes}
+use Rattle.hunk_commands.specs.Rewritten.{IsRewriting, IsRewritten, stripped_where}
 use Rattle.hunk_commands.specs.Output.{StopsOutput}
 use Rattle.hunk_commands.proofs.FileLaws.{refused_not_written}
 use Rattle.hunk_commands.proofs.RewriteLaws.{rewritten}

@@ -2,7 +2,7 @@ use Rattle.std.proofs.Common.{ℕ, List, drop, refl, sym, ap, ◌∙◌, arith}
 use Rattle.hunk_words.specs.declared.block_word.Kind.{Kind}
 use Rattle.hunk_scan.specs.Standings.{refuse_standing, standing_of_kind}
 use Rattle.hunk_files.proofs.ObjectDecoding.{stands, no_block, ok_of, err_of, err_both, place_own, block_own}
-use Rattle.hunk_words.specs.Bits.{kind, has_both_bits}
+use Rattle.hunk_words.specs.Bits.{kind}
 use Rattle.hunk_words.specs.Longs.{longs}
 use Rattle.hunk_words.specs.declared.reason.Reason.TheVariants as reasons
 use Rattle.hunk_words.proofs.LongLaws.{longs-few}
@@ -27,19 +27,19 @@ returns-clause-own c = err_both c.decode.result _ _ _ c.decode.ensures.own (c.de
 pub returns-in-Err-clause-fault : goal.returns-in-Err-clause-fault
 returns-in-Err-clause-fault c place may = hunk_missing place c.args.bytes.now c.in-Err.fault (longs-few c.args.bytes.now (omega (arith, c.in-Err.ensures.short))) c.in-Err.ensures.cut
 
-pub returns-then-has_extra-clause-fault : goal.returns-then-has_extra-clause-fault
-returns-then-has_extra-clause-fault c place may =
+pub returns-then-has_both_memory_bits-clause-fault : goal.returns-then-has_both_memory_bits-clause-fault
+returns-then-has_both_memory_bits-clause-fault c place may =
     let bytes : List ℕ = c.args.bytes.now in
     let w : ℕ = c.of-word.result in
     word_ahead place c.args.has_content bytes (drop 1 (longs bytes)) w reasons.BothBits may (one_word bytes w (omega (arith, c.in-Ok.ensures.long.0)) (c.of-word.ensures ∙ c.in-Ok.ensures.long.1))
-    (both_bits w (refuse_standing c.args.has_content (standing_of_kind (kind w))) (ap has_both_bits (sym c.word.ensures) ∙ sym c.has_extra.ensures ∙ c.if-has_extra.true))
+    (both_bits w (refuse_standing c.args.has_content (standing_of_kind (kind w))) (sym c.has_both_memory_bits.ensures ∙ c.if-has_both_memory_bits.true))
 
 pub returns-in-Some-clause-fault : goal.returns-in-Some-clause-fault
 returns-in-Some-clause-fault c place may =
     let bytes : List ℕ = c.args.bytes.now in
     let w : ℕ = c.of-word.result in
     word_ahead place c.args.has_content bytes (drop 1 (longs bytes)) w c.in-Some.reason may (one_word bytes w (omega (arith, c.in-Ok.ensures.long.0)) (c.of-word.ensures ∙ c.in-Ok.ensures.long.1))
-    (misplaced c.args.has_content w c.in-Some.reason (ap has_both_bits (sym c.word.ensures) ∙ sym c.has_extra.ensures ∙ c.if-has_extra.false)
+    (misplaced c.args.has_content w c.in-Some.reason (sym c.has_both_memory_bits.ensures ∙ c.if-has_both_memory_bits.false)
     (ap (λ (k : Kind). refuse_standing c.args.has_content (standing_of_kind k)) (sym c.kind.ensures) ∙ sym c.refuse_place.ensures ∙ c.in-Some.is))
 
 pub returns-clause-fault : goal.returns-clause-fault

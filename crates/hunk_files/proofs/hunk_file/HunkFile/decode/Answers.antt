@@ -1,9 +1,9 @@
-use Rattle.std.proofs.Common.{◌≢◌, ◌∙◌, sym, inl, inr, arith}
+use Rattle.std.proofs.Common.{◌≢◌, ◌∙◌, sym, inl, inr}
 use Rattle.hunk_words.specs.Longs.{longs}
 use Rattle.hunk_scan.specs.declared.file_kind.Sniff.TheVariants.{Object}
 use Rattle.hunk_scan.specs.FileKind.{sniffed}
-use Rattle.hunk_commands.proofs.FileLaws.{none_load, none_object, on_ok, refused_load}
-use Rattle.hunk_commands.proofs.hunk_file.HunkFile.decode.Goals as goal
+use Rattle.hunk_files.proofs.FileKinds.{memory_load, none_load, none_object, refused_load}
+use Rattle.hunk_files.proofs.hunk_file.HunkFile.decode.Goals as goal
 
 pub returns-in-Object-clause-none : goal.returns-in-Object-clause-none
 returns-in-Object-clause-none c =
@@ -15,7 +15,7 @@ returns-in-Load c =
     let announced : sniffed (longs c.args.bytes.now) ≢ Object = λ object. kind (c.sniff.ensures ∙ object) in
     record {
       ok = c.decode_load.ensures.ok;
-      few = on_ok c.decode_load.result (omega (arith, c.if-bytes-gt-MOST.false));
       none = none_load c.args.bytes.now c.decode_load.result announced c.decode_load.ensures.none;
       refused = refused_load c.args.bytes.now c.decode_load.result announced c.decode_load.ensures.refused;
+      memory = memory_load c.args.bytes.now c.decode_load.result announced c.decode_load.ensures.memory;
     }

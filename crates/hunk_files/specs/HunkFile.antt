@@ -1,19 +1,18 @@
--- What the bytes of an input are: an object file, or a load file and whatever follows it.
-use Rattle.std.specs.Prelude.{◌≡◌, ◌⊎◌, ⊤, ℕ, Bool, List, length, IsTrue, if◌then◌else◌}
+-- What bytes are by their first longword: an object file, or a load file and whatever follows it.
+use Rattle.std.specs.Prelude.{◌≡◌, ◌⊎◌, ◌<◌, ℕ, List, length, IsTrue}
 use Rattle.hunk_words.specs.Longs.{bytes_of, longs}
 use Rattle.hunk_words.specs.declared.fault.Fault.{Fault}
+use Rattle.hunk_words.specs.declared.reason.Reason.{Reason}
+use Rattle.hunk_blocks.specs.Faults.{IsFrontTo}
 use Rattle.hunk_scan.specs.declared.file_kind.Sniff.{Sniff}
 use Rattle.hunk_scan.specs.declared.file_kind.Sniff.TheVariants as sniffs
-use Rattle.hunk_scan.specs.FileKind.{sniffed}
-use Rattle.hunk_files.specs.Fault.{BeginsWithLoadFile, HasFault, is_load_refusal}
+use Rattle.hunk_files.specs.Fault.{BeginsWithLoadFile, HasFault, is_load_refusal, loads}
 use Rattle.hunk_files.specs.LoadText.{text}
-use Rattle.hunk_files.specs.ObjectFault.{HasObjectFault}
+use Rattle.hunk_files.specs.ObjectFault.{HasObjectFault, objects}
 use Rattle.hunk_files.specs.ObjectFile.{ObjectFileValue, IsObjectFile, is_object_refusal, object_text}
 use Rattle.hunk_files.specs.Strip.{strip_file, strip_object}
-use Rattle.hunk_commands.specs.declared.fault.RunFault.{RunFault}
-use Rattle.hunk_commands.specs.declared.fault.RunFault.TheVariants as faults
-use Rattle.hunk_commands.specs.declared.hunk_file.HunkFile.{HunkFile}
-use Rattle.hunk_commands.specs.declared.hunk_file.HunkFile.TheVariants as files
+use Rattle.hunk_files.specs.declared.hunk_file.HunkFile.{HunkFile}
+use Rattle.hunk_files.specs.declared.hunk_file.HunkFile.TheVariants as files
 
 -- all of the bytes are the text of an object file
 pub record AreObjectFile (bytes : List ℕ) : Type 0 where
@@ -44,14 +43,19 @@ abbrev pub IsRefusal : Sniff → List ℕ → Fault → Type 0
 IsRefusal sniffs.Object bytes refusal = IsObjectRefusal bytes refusal
 IsRefusal kind bytes refusal = IsLoadRefusal bytes refusal
 
--- want of memory, or such a refusal
-abbrev pub RefusesAs : (Fault → Type 0) → RunFault → Type 0
-RefusesAs Is (faults.Refused refusal) = Is refusal
-RefusesAs Is faults.Memory = ⊤
-RefusesAs Is _ = ⊥
+-- ---- bytes for whose file memory was refused
 
-abbrev pub RefusesBytes : RunFault → List ℕ → Type 0
-RefusesBytes fault bytes = RefusesAs (IsRefusal (sniffed (longs bytes)) bytes) fault
+-- the longword here completes what a load file has, and the bytes begin with one
+abbrev pub IsLoadMemory : List ℕ → ℕ → Type 0
+IsLoadMemory bytes place = BeginsWithLoadFile bytes × IsFrontTo loads (longs bytes) place
+
+-- the longword here completes what an object file has, and a fault of the bytes stands behind it
+abbrev pub IsObjectMemory : List ℕ → ℕ → Type 0
+IsObjectMemory bytes place = IsFrontTo objects (longs bytes) place × ((at : ℕ) (reason : Reason) → HasObjectFault bytes at reason → place < at)
+
+abbrev pub IsMemory : Sniff → List ℕ → ℕ → Type 0
+IsMemory sniffs.Object bytes place = IsObjectMemory bytes place
+IsMemory kind bytes place = IsLoadMemory bytes place
 
 -- ---- the file in memory
 
@@ -64,9 +68,6 @@ file_bytes (files.Object value) = bytes_of (object_text value)
 abbrev pub stripped : HunkFile → HunkFile
 stripped (files.Load value rest) = files.Load (strip_file value) rest
 stripped (files.Object value) = files.Object (strip_object value)
-
-abbrev pub stripped_where : Bool → HunkFile → HunkFile
-stripped_where strip file = if strip then stripped file else file
 
 -- how many bytes follow it
 abbrev pub bytes_behind : HunkFile → ℕ

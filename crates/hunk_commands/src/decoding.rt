@@ -1,0 +1,46 @@
+//! The file that an input is.
+ghost use Rattle.std.specs.Prelude.{◌≡◌, ◌≢◌, ◌⊎◌, ◌^◌, ◌≤◌, IfOk, IfErr, OnOk, length};
+ghost use Rattle.hunk_words.specs.declared.reason.Reason.TheVariants as reasons;
+ghost use Rattle.hunk_files.specs.HunkFile.{AreFile, IsFileOf};
+ghost use Rattle.hunk_commands.specs.declared.fault.RunFault.TheVariants.{Memory, Refused};
+ghost use Rattle.hunk_commands.specs.Refusals.{RefusesBytes};
+
+use crate::fault::RunFault;
+use hunk_files::HunkFile;
+use hunk_words::{Fault, Reason};
+use std::alloc::Global;
+
+/// The most bytes of an input, far more than any memory has: the bytes of its listing, which are at
+/// most 64 times as many, can still be counted.
+const MOST: usize = 1 << 56;
+
+/// The file that the bytes are, or begin with, as `HunkFile::decode` has it.
+///
+/// # Errors
+///
+/// The fault of the bytes, unchanged; `Memory` where memory was refused, and for more bytes than `MOST`.
+pub(crate) fn decode_file(alloc: Global, bytes: &[u8]) -> Result<HunkFile<'_>, RunFault>
+    ensures ok { IfOk result (IsFileOf bytes.entry.now) }
+    ensures few { OnOk result (length bytes.entry.now ≤ 2 ^ 56) }
+    ensures none { IfErr result (λ fault. (fault ≡ Memory) ⊎ (AreFile bytes.entry.now → ⊥)) }
+    ensures refused { IfErr result (λ fault. RefusesBytes fault bytes.entry.now) }
+{
+    if bytes.len() > MOST {
+        return Err(RunFault::Memory);
+    }
+    match HunkFile::decode(alloc, bytes) {
+        Ok(file) => Ok(file),
+        Err(fault) => Err(refusal(fault)),
+    }
+}
+
+/// The fault, or `Memory` where memory was wanting.
+fn refusal(fault: Fault) -> RunFault
+    ensures { (result ≡ Memory)
+        ⊎ ((result ≡ Refused fault) × (fault.reason ≢ reasons.OutOfMemory)) }
+{
+    match fault.reason {
+        Reason::OutOfMemory => RunFault::Memory,
+        _ => RunFault::Refused(fault),
+    }
+}

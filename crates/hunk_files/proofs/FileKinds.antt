@@ -1,0 +1,101 @@
+-- Files by what their first longword announces.
+use Rattle.std.proofs.Common.{◌≡◌, ◌≤◌, ◌<◌, ◌≢◌, ℕ, List, [], ◌∷◌, ◌++◌, Result, Ok, Err, length, take, drop, refl, inl, inr, ap, sym, subst, ◌∙◌, arith, append_assoc, lit<}
+use Rattle.std.specs.Prelude.{IfErr}
+use Rattle.std.specs.List.{flat_map}
+use Rattle.std.proofs.lemmas.List.{take-append-drop}
+use Rattle.hunk_words.specs.Longs.{IsLong, bytes_of, longs}
+use Rattle.hunk_words.specs.declared.fault.Fault.{Fault}
+use Rattle.hunk_words.specs.declared.reason.Reason.TheVariants as reasons
+use Rattle.hunk_words.proofs.LongLaws.{bytes_of-cons, longs-bytes_of}
+use Rattle.hunk_blocks.specs.Parts.{block_text}
+use Rattle.hunk_scan.specs.declared.file_kind.Sniff.{Sniff}
+use Rattle.hunk_scan.specs.declared.file_kind.Sniff.TheVariants as sniffs
+use Rattle.hunk_scan.specs.FileKind.{sniffed}
+use Rattle.hunk_files.specs.LoadFile.{IsLoadFile, LoadFileValue}
+use Rattle.hunk_files.specs.LoadText.{text}
+use Rattle.hunk_files.specs.Fault.{BeginsWithLoadFile}
+use Rattle.hunk_files.specs.ObjectFile.{ObjectFileValue, object_text}
+use Rattle.hunk_files.specs.HunkFile.{AreFile, AreObjectFile, IsFileOf, IsLoadMemory, IsLoadRefusal, IsMemory, IsRefusal}
+use Rattle.hunk_files.specs.declared.hunk_file.HunkFile.{HunkFile}
+use Rattle.hunk_files.specs.declared.hunk_file.HunkFile.TheVariants as files
+use Rattle.hunk_files.proofs.TextParts.{after_first, first_split}
+
+-- ---- a file that was decoded
+
+pub load_of : (bytes : List ℕ) (value : LoadFileValue) (size : ℕ) → IsLoadFile value → take size bytes ≡ bytes_of (text value) → size ≤ length bytes →
+    (rest : ℕ) → rest ≡ length (drop size bytes) → IsFileOf bytes (files.Load value rest)
+load_of bytes value size is text_is whole rest rest_is = (
+  record {
+    value = value;
+    is_load_file = is;
+    rest = drop size bytes;
+    split = sym (take-append-drop size bytes) ∙ ap (λ (xs : List ℕ). xs ++ drop size bytes) text_is;
+  },
+  refl,
+  rest_is,
+)
+
+-- ---- what bytes announce
+
+first_announced : (word : ℕ) (rest : List ℕ) → IsLong word → sniffed (longs (bytes_of (word ∷ []) ++ rest)) ≡ sniffed (word ∷ longs rest)
+first_announced word rest is = ap sniffed (longs-bytes_of (word ∷ []) rest (is, tt))
+
+load_announced : (bytes : List ℕ) → BeginsWithLoadFile bytes → sniffed (longs bytes) ≡ sniffs.Load
+load_announced bytes file =
+    let split : bytes ≡ bytes_of (0x3F3 ∷ []) ++ (bytes_of (after_first file.value) ++ file.rest) =
+    file.split ∙ ap (λ (xs : List ℕ). xs ++ file.rest) (first_split file.value) ∙ append_assoc (bytes_of (0x3F3 ∷ [])) (bytes_of (after_first file.value)) file.rest in
+    ap (λ (xs : List ℕ). sniffed (longs xs)) split ∙ first_announced 0x3F3 (bytes_of (after_first file.value) ++ file.rest) (lit< tt)
+
+units_announced : (units : ObjectFileValue) → 0 < length units → sniffed (longs (bytes_of (object_text units))) ≡ sniffs.Object
+units_announced [] some = absurd (omega (arith, some))
+units_announced (unit ∷ units) some =
+    let rest : List ℕ = length unit.name ∷ unit.name ++ flat_map (flat_map block_text) unit.hunks ++ object_text units in
+    ap (λ (xs : List ℕ). sniffed (longs xs)) (bytes_of-cons 0x3E7 rest) ∙ first_announced 0x3E7 (bytes_of rest) (lit< tt)
+
+object_announced : (bytes : List ℕ) → AreObjectFile bytes → sniffed (longs bytes) ≡ sniffs.Object
+object_announced bytes file = ap (λ (xs : List ℕ). sniffed (longs xs)) file.text_is ∙ units_announced file.value file.is_object_file.some
+
+-- ---- what bytes are refused for
+
+-- where no object file is announced, the bytes are read as a load file
+load_refusal : (kind : Sniff) (bytes : List ℕ) → kind ≢ sniffs.Object → IsRefusal kind bytes ≡ IsLoadRefusal bytes
+load_refusal sniffs.Object bytes other = absurd (other refl)
+load_refusal sniffs.Load bytes other = refl
+load_refusal sniffs.Library bytes other = refl
+load_refusal sniffs.Other bytes other = refl
+
+load_memory : (kind : Sniff) (bytes : List ℕ) → kind ≢ sniffs.Object → IsMemory kind bytes ≡ IsLoadMemory bytes
+load_memory sniffs.Object bytes other = absurd (other refl)
+load_memory sniffs.Load bytes other = refl
+load_memory sniffs.Library bytes other = refl
+load_memory sniffs.Other bytes other = refl
+
+pub none_object : (bytes : List ℕ) (result : Result HunkFile Fault) → sniffed (longs bytes) ≡ sniffs.Object →
+    IfErr result (λ fault. fault.reason ≢ reasons.OutOfMemory → AreObjectFile bytes → ⊥) → IfErr result (λ fault. fault.reason ≢ reasons.OutOfMemory → AreFile bytes → ⊥)
+none_object bytes (Ok file) kind none = tt
+none_object bytes (Err fault) kind none = go
+  where
+    go : fault.reason ≢ reasons.OutOfMemory → AreFile bytes → ⊥
+    go other (inl load) = let e = load_announced bytes load in cc
+    go other (inr object) = none other object
+
+pub none_load : (bytes : List ℕ) (result : Result HunkFile Fault) → sniffed (longs bytes) ≢ sniffs.Object →
+    IfErr result (λ fault. fault.reason ≢ reasons.OutOfMemory → BeginsWithLoadFile bytes → ⊥) → IfErr result (λ fault. fault.reason ≢ reasons.OutOfMemory → AreFile bytes → ⊥)
+none_load bytes (Ok file) kind none = tt
+none_load bytes (Err fault) kind none = go
+  where
+    go : fault.reason ≢ reasons.OutOfMemory → AreFile bytes → ⊥
+    go other (inl load) = none other load
+    go other (inr object) = kind (object_announced bytes object)
+
+pub refused_load : (bytes : List ℕ) (result : Result HunkFile Fault) → sniffed (longs bytes) ≢ sniffs.Object →
+    IfErr result (λ fault. fault.reason ≢ reasons.OutOfMemory → IsLoadRefusal bytes fault) →
+    IfErr result (λ fault. fault.reason ≢ reasons.OutOfMemory → IsRefusal (sniffed (longs bytes)) bytes fault)
+refused_load bytes (Ok file) kind is = tt
+refused_load bytes (Err fault) kind is = λ other. subst (λ (Is : Fault → Type 0). Is fault) (sym (load_refusal (sniffed (longs bytes)) bytes kind)) (is other)
+
+pub memory_load : (bytes : List ℕ) (result : Result HunkFile Fault) → sniffed (longs bytes) ≢ sniffs.Object →
+    IfErr result (λ fault. fault.reason ≡ reasons.OutOfMemory → IsLoadMemory bytes fault.place) →
+    IfErr result (λ fault. fault.reason ≡ reasons.OutOfMemory → IsMemory (sniffed (longs bytes)) bytes fault.place)
+memory_load bytes (Ok file) kind is = tt
+memory_load bytes (Err fault) kind is = λ memory. subst (λ (Is : ℕ → Type 0). Is fault.place) (sym (load_memory (sniffed (longs bytes)) bytes kind)) (is memory)

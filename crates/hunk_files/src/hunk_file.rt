@@ -1,0 +1,136 @@
+//! A load file or an object file, as its first longword announces.
+ghost use Rattle.std.specs.Prelude.{◌≡◌, ◌≢◌, ◌+◌, ◌^◌, ◌<◌, ◌≤◌, true, IfErr, IfOk, IsErr, OnErr, OnOk, is_err, length};
+ghost use Rattle.hunk_words.specs.Longs.{longs};
+ghost use Rattle.hunk_words.specs.Puts.{Puts};
+ghost use Rattle.hunk_words.specs.declared.reason.Reason.TheVariants as reasons;
+ghost use Rattle.hunk_scan.specs.FileKind.{sniffed};
+ghost use Rattle.hunk_files.specs.Fault.{BeginsWithLoadFile};
+ghost use Rattle.hunk_files.specs.HunkFile.{AreFile, AreObjectFile, IsFileOf, IsLoadMemory, IsLoadRefusal, IsMemory, IsObjectMemory, IsObjectRefusal, IsRefusal, bytes_behind, file_bytes, stripped};
+
+use crate::load::LoadFile;
+use crate::object::ObjectFile;
+use crate::sniffing::sniff;
+use hunk_scan::Sniff;
+use hunk_words::{FileFault, LongWriter, Sink, WriteFault};
+use std::alloc::Global;
+
+/// A file of either kind, made by `decode`.
+#[derive(Debug, Drop)]
+pub enum HunkFile<'a> {
+    /// A load file, and the number of bytes that follow it.
+    Load { file: LoadFile<'a>, rest: u64 },
+    /// An object file, which all of the bytes are.
+    Object(ObjectFile<'a>),
+}
+
+impl<'a> HunkFile<'a> {
+    /// The file that the bytes are, or begin with.
+    ///
+    /// Where `sniff` answers `Object` it is the object file that all of the bytes are; whatever else
+    /// it answers, it is the load file that they begin with.
+    ///
+    /// # Errors
+    ///
+    /// What `ObjectFile::decode` or `LoadFile::decode` refuses the bytes for.
+    pub fn decode(alloc: Global, bytes: &'a [u8]) -> Result<HunkFile<'a>, FileFault>
+        ensures ok { IfOk result (IsFileOf bytes.entry.now) }
+        ensures none { IfErr result (λ fault. fault.reason ≢ reasons.OutOfMemory →
+            AreFile bytes.entry.now → ⊥) }
+        ensures refused { IfErr result (λ fault. fault.reason ≢ reasons.OutOfMemory →
+            IsRefusal (sniffed (longs bytes.entry.now)) bytes.entry.now fault) }
+        ensures memory { IfErr result (λ fault. fault.reason ≡ reasons.OutOfMemory →
+            IsMemory (sniffed (longs bytes.entry.now)) bytes.entry.now fault.place) }
+    {
+        match sniff(bytes) {
+            Sniff::Object => decode_object(alloc, bytes),
+            Sniff::Load | Sniff::Library | Sniff::Other => decode_load(alloc, bytes),
+        }
+    }
+
+    /// The number of bytes that follow the file.
+    pub fn rest(&self) -> u64
+        ensures { result ≡ bytes_behind self.now }
+    {
+        match self {
+            HunkFile::Load { file: _, rest } => *rest,
+            HunkFile::Object(_) => 0,
+        }
+    }
+
+    /// The file without its NAME, SYMBOL, DEBUG and ADVISORY blocks.
+    ///
+    /// It takes no memory.
+    pub fn strip(self) -> HunkFile<'a>
+        ensures value { result ≡ stripped self.entry }
+        ensures shorter { length (file_bytes result) ≤ length (file_bytes self.entry) }
+    {
+        match self {
+            HunkFile::Load { file, rest } => HunkFile::Load {
+                file: file.strip(),
+                rest,
+            },
+            HunkFile::Object(file) => HunkFile::Object(file.strip()),
+        }
+    }
+
+    /// Writes the file's text, which the writer's count has room for, without what follows the file.
+    ///
+    /// It goes out by pages, and takes no memory.
+    ///
+    /// # Errors
+    ///
+    /// A `WriteFault` where the writer's sink failed, now or before: just the first `written` bytes of
+    /// all that was ever put have gone out, and later puts write nothing and answer the same.
+    pub fn encode<W: Sink>(&self, writer: &mut LongWriter<W>) -> Result<(), WriteFault>
+        requires { writer.old.written + length (file_bytes self.now) < 2 ^ 64 }
+        ensures puts { Puts (W.taken writer.old.sink) (W.taken writer.new.sink)
+            writer.old.written writer.new.written (file_bytes self.now) }
+        ensures whole { OnOk result (writer.new.written
+            ≡ writer.old.written + length (file_bytes self.now)) }
+        ensures told { IfErr result (λ fault. fault.written ≡ writer.new.written) }
+        ensures failed { OnErr result (W.failed writer.new.sink ≡ true) }
+        ensures stops { writer.new.stopped ≡ is_err result }
+        ensures stays { writer.old.stopped ≡ true → IsErr result × (writer.new ≡ writer.old) }
+        ensures quiet { OnOk result (W.failed writer.new.sink ≡ W.failed writer.old.sink) }
+    {
+        match self {
+            HunkFile::Load { file, rest: _ } => file.encode(writer),
+            HunkFile::Object(file) => file.encode(writer),
+        }
+    }
+}
+
+/// The load file that the bytes begin with, and how many follow it.
+fn decode_load(alloc: Global, bytes: &[u8]) -> Result<HunkFile<'_>, FileFault>
+    ensures ok { IfOk result (IsFileOf bytes.entry.now) }
+    ensures none { IfErr result (λ fault. fault.reason ≢ reasons.OutOfMemory →
+        BeginsWithLoadFile bytes.entry.now → ⊥) }
+    ensures refused { IfErr result (λ fault. fault.reason ≢ reasons.OutOfMemory →
+        IsLoadRefusal bytes.entry.now fault) }
+    ensures memory { IfErr result (λ fault. fault.reason ≡ reasons.OutOfMemory →
+        IsLoadMemory bytes.entry.now fault.place) }
+{
+    match LoadFile::decode(alloc, bytes) {
+        Ok((file, size)) => {
+            let rest = (bytes.len() - size) as u64;
+            Ok(HunkFile::Load { file, rest })
+        }
+        Err(fault) => Err(fault),
+    }
+}
+
+/// The object file that the bytes are.
+fn decode_object(alloc: Global, bytes: &[u8]) -> Result<HunkFile<'_>, FileFault>
+    ensures ok { IfOk result (IsFileOf bytes.entry.now) }
+    ensures none { IfErr result (λ fault. fault.reason ≢ reasons.OutOfMemory →
+        AreObjectFile bytes.entry.now → ⊥) }
+    ensures refused { IfErr result (λ fault. fault.reason ≢ reasons.OutOfMemory →
+        IsObjectRefusal bytes.entry.now fault) }
+    ensures memory { IfErr result (λ fault. fault.reason ≡ reasons.OutOfMemory →
+        IsObjectMemory bytes.entry.now fault.place) }
+{
+    match ObjectFile::decode(alloc, bytes) {
+        Ok(file) => Ok(HunkFile::Object(file)),
+        Err(fault) => Err(fault),
+    }
+}
