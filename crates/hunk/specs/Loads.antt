@@ -1,5 +1,5 @@
 -- Load files in the caller's memory.
-use Rattle.std.specs.Prelude.{◌≡◌, ℕ, ◌<◌, ◌≤◌, List, ◌++◌, length, drop, ◌⊎◌}
+use Rattle.std.specs.Prelude.{◌≡◌, ℕ, ◌<◌, ◌≤◌, List, ◌++◌, length, drop, slice_get, ◌⊎◌}
 use Rattle.hunk_words.specs.Longs.{bytes_of}
 use Rattle.hunk_words.specs.declared.fault.Fault.{Fault}
 use Rattle.hunk_words.specs.declared.reason.Reason.TheVariants as reasons
@@ -9,7 +9,7 @@ use Rattle.hunk_files.specs.LoadFile.{TableEntry, LoadFileValue, IsLoadFile}
 use Rattle.hunk_files.specs.LoadText.{table, text}
 use Rattle.hunk_scatter.specs.HeaderBytes.{IsTable, header_bytes}
 use Rattle.hunk_scatter.specs.HeaderFaults.{CompletesRow, IsHeaderFault}
-use Rattle.hunk_scatter.specs.Placing.{Placing, AreBases, IsFirstUnplaced}
+use Rattle.hunk_scatter.specs.Placing.{Placing, packed_base, AreBases, HasBases, IsFirstUnplaced}
 use Rattle.hunk.specs.declared.answer.Answer.{Answer}
 use Rattle.hunk.specs.Answers.{refused, no_room, done}
 
@@ -30,6 +30,14 @@ abbrev pub LacksMemory : List ℕ → ℕ → Type 0
 LacksMemory bytes at = CompletesRow bytes at ⊎ ((t : List TableEntry) × BeginsWithHeader bytes t × (at ≡ length (header_bytes t)))
 
 -- ---- loads
+
+-- each hunk at the base of its number
+abbrev pub listed : List ℕ → Placing
+listed bases = λ hunk row before. slice_get bases hunk
+
+-- hunks one right behind the other from a first byte on
+abbrev pub packed : ℕ → Placing
+packed start = λ hunk row before. packed_base start row before
 
 -- The bytes begin with a load file. The memory begins with its hunks, each as it lies at its base, one right behind the other; what lies behind them is as it was.
 pub record IsLoaded (base : Placing) (bytes old new : List ℕ) (answer : Answer) : Type 0 where
@@ -55,3 +63,8 @@ pub data IsNotLoaded (base : Placing) (room : ℕ) (bytes : List ℕ) (answer : 
 -- What a load comes to.
 abbrev pub Loads : Placing → List ℕ → List ℕ → List ℕ → Answer → Type 0
 Loads base bytes old new answer = IsLoaded base bytes old new answer ⊎ (IsNotLoaded base (length old) bytes answer × (new ≡ old))
+
+-- Where the bytes begin with a load file that fits, and each of its hunks has a base, it is loaded, or memory was wanting.
+abbrev pub LoadsWhatFits : Placing → ℕ → List ℕ → Answer → Type 0
+LoadsWhatFits base room bytes answer =
+    (v : LoadFileValue) (rest : List ℕ) → IsLoadFile v → bytes ≡ bytes_of (text v) ++ rest → declared_bytes (table v) ≤ room → HasBases base (table v) → (answer.number ≡ 0) ⊎ (answer.number ≡ 31)

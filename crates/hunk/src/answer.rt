@@ -4,7 +4,7 @@ ghost use Rattle.hunk.specs.Answers.{hunk_of, no_room, refused};
 
 use hunk_words::{Fault, Reason};
 
-/// What a call answers.
+/// What a call answers: 24 bytes, with no padding.
 #[repr(C)]
 #[derive(Clone, Copy, Debug, PartialEq, Eq)]
 pub struct Answer {
@@ -14,7 +14,8 @@ pub struct Answer {
     pub hunk: u32,
     /// The number of bytes that were read; the byte that is refused where `number` is a reason's.
     pub place: u64,
-    /// How many elements of the caller's array are written, or needed where there is no room.
+    /// What the call counts, in elements of the caller's array or bytes: written, or needed where
+    /// there is no room.
     pub count: u64,
 }
 
@@ -33,6 +34,7 @@ pub(crate) fn refused(fault: Fault) -> Answer
     }
 }
 
+/// The hunk that a reason is told of; of most reasons, 0.
 fn hunk_of(reason: Reason) -> u32
     ensures { result ≡ hunk_of reason }
 {
@@ -42,7 +44,7 @@ fn hunk_of(reason: Reason) -> u32
     }
 }
 
-/// The answer where so many elements are needed.
+/// The answer where the caller's array is too small, and needs so many elements.
 pub(crate) fn no_room(hunks: u32, place: u64, count: u64) -> Answer
     ensures { result ≡ no_room hunks place count }
 {

@@ -8,11 +8,16 @@ use hunk_scatter::{BodyLoader, Image};
 use hunk_words::Fault;
 
 /// The image of the file whose body the bytes begin with, and the number of the body's bytes.
+///
+/// # Errors
+///
+/// The first fault of header and body, Truncated where the bytes end inside the body.
 pub(crate) fn read_body(loader: BodyLoader, bytes: &[u8]) -> Result<(Image, usize), Fault>
     requires room { length loader.fed + length bytes.now < 2 ^ 64 }
     requires reading { loader.refused ≡ None }
     ensures within { IfOk result (λ read. read.1 ≤ length bytes.now) }
-    ensures image { IfOk result (λ read. IsImageOf loader.rows (loader.fed ++ take read.1 bytes.now) read.0.segments) }
+    ensures image { IfOk result
+        (λ read. IsImageOf loader.rows (loader.fed ++ take read.1 bytes.now) read.0.segments) }
     ensures rows { IfOk result (λ read. read.0.rows ≡ loader.rows) }
     ensures fault { IfErr result (λ f. HasFault (loader.fed ++ bytes.now) f.place f.reason) }
 {

@@ -10,13 +10,21 @@ use hunk_words::{Fault, Reason};
 use std::alloc::Global;
 
 /// The table of the header that the bytes begin with, and the bytes behind it.
+///
+/// Memory is taken for 12 bytes of each hunk.
+///
+/// # Errors
+///
+/// The first fault of the header, Budget where it declares more than `budget` bytes, Truncated
+/// where the bytes end inside it, and OutOfMemory.
 pub(crate) fn read_header(
     alloc: Global,
     bytes: &[u8],
     budget: u64,
 ) -> Result<(Declared, &[u8]), Fault>
     ensures table { IfOk result (λ read. IsTable read.0.table) }
-    ensures split { IfOk result (λ read. bytes.entry.now ≡ header_bytes read.0.table ++ read.1.now) }
+    ensures split { IfOk result
+        (λ read. bytes.entry.now ≡ header_bytes read.0.table ++ read.1.now) }
     ensures within { IfOk result (λ read. declared_bytes read.0.table ≤ budget) }
     ensures refusal { IfErr result (IsHeaderRefusal budget bytes.entry.now) }
 {
@@ -34,7 +42,7 @@ pub(crate) fn read_header(
     }
 }
 
-/// The fault of so many bytes that go on.
+/// The fault of bytes, so many, that end inside a file.
 pub(crate) fn truncated(len: usize) -> Fault
     ensures { result ≡ record { place = 4 * (len / 4); reason = reasons.Truncated } }
 {

@@ -1,7 +1,7 @@
 //! Hunk files for programs in C: `include/hunk.h` declares what is exported here.
 //!
 //! Each export is a thin layer over a library of this repository. It keeps nothing between two
-//! calls, hands out no pointer, and needs nothing of its caller but that the slices are there.
+//! calls, hands out no pointer, and tests every number that it is given.
 #![tactic(auto)]
 
 mod answer;

@@ -1,11 +1,17 @@
 //! The names of the numbers that answers have.
-
 ghost use Rattle.hunk.specs.Names.{Names, IsNameOf};
 
 use crate::answer::{Answer, NO_ROOM, no_room};
 use hunk_words::Reason;
 
-/// Writes the name of an answer's number to the text; of a number that no call answers, none.
+/// Writes the name of an answer's number to the text, with no zero behind it.
+///
+/// 0 and numbers that no call answers have the empty name. It answers the bytes of the name, at
+/// most 17. What lies behind the name is as it was. It takes no memory.
+///
+/// # Errors
+///
+/// `NO_ROOM` where the name is longer than the text, which is then as it was.
 #[unsafe(no_mangle)]
 pub extern "C" fn hunk_reason(number: u32, text: &mut [u8]) -> Answer
     ensures { Names number text.old text.new result }
@@ -23,6 +29,7 @@ pub extern "C" fn hunk_reason(number: u32, text: &mut [u8]) -> Answer
     }
 }
 
+/// The name of an answer's number, or nothing.
 fn name_of_number(number: u32) -> &'static str
     ensures { IsNameOf number result.now }
 {

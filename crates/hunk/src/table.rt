@@ -8,7 +8,7 @@ use hunk_scatter::Declared;
 use hunk_words::SizeWord;
 use std::alloc::Global;
 
-/// What a header declares of a hunk.
+/// What a header declares of a hunk: 16 bytes, with no padding.
 #[repr(C)]
 #[derive(Clone, Copy, Debug, PartialEq, Eq)]
 pub struct TableRow {
@@ -24,9 +24,15 @@ pub struct TableRow {
 
 /// Writes the table of the header that the bytes begin with to the rows, one for each hunk.
 ///
-/// The bytes behind the header are not read: a first part of a file will do, and where it ends
-/// inside the header the refusal is Truncated. Memory is taken for 12 bytes of each hunk, and given
-/// back.
+/// Bytes behind the header are not read, so a first part of a file will do. The rows behind the
+/// table are as they were, and after a refusal all are. It answers the number of hunks, the bytes
+/// of the header, and those that the hunks declare together. Memory is taken for 12 bytes of each
+/// hunk, and given back.
+///
+/// # Errors
+///
+/// The first fault of the header; Budget where it declares more than `budget` bytes; Truncated
+/// where the bytes end inside it; `NO_ROOM` where there are fewer rows than hunks; OutOfMemory.
 #[unsafe(no_mangle)]
 pub extern "C" fn hunk_table(
     alloc: Global,
@@ -54,6 +60,7 @@ pub extern "C" fn hunk_table(
     }
 }
 
+/// Writes the row of each entry.
 fn put_rows(declared: &Declared, rows: &mut [TableRow])
     requires { length rows.old ≡ length declared.now.table }
     ensures { rows.new ≡ map row_of declared.now.table }
@@ -63,6 +70,7 @@ fn put_rows(declared: &Declared, rows: &mut [TableRow])
     }
 }
 
+/// What callers see of a size word.
 fn row_of(size: SizeWord) -> TableRow
     ensures { result ≡ row_of (record { word = size.word; extra = size.extra }) }
 {

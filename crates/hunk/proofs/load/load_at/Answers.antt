@@ -22,7 +22,7 @@ returns-then-total-memory g c =
     let size = header_size c.args.bytes.now body t c.in-Ok.ensures.split in
     inr (
       HasNoRoom t h (omega (arith, c.total.ensures.value, c.if-total-memory.true))
-          (c.no_room.ensures ∙ same_answer _ _ _ _ _ _ _ c.hunks.ensures size c.total-then-total-memory.ensures.value),
+          (c.no_room.ensures ∙ same_answer _ _ _ _ _ _ _ c.hunks.ensures size (omega (arith, c.total-then-total-memory.ensures.value))),
       refl,
     )
 
@@ -34,7 +34,7 @@ returns-in-Err-place g c =
     let size = header_size c.args.bytes.now body t c.in-Ok.ensures.split in
     inr (
       not_placed _ _ _ _ t c.in-Err-place.unplaced.reason h (omega (arith, c.total.ensures.value, c.if-total-memory.false)) c.in-Err-place.ensures.reason
-          (c.refused-in-Err-place.ensures ∙ ap (λ (n : ℕ). refused (record { place = n; reason = c.in-Err-place.unplaced.reason })) size),
+          (c.refused-in-Err-place.ensures ∙ ap (λ (n : ℕ). refused (record { place = n; reason = c.in-Err-place.unplaced.reason })) (omega (arith, size))),
       refl,
     )
 
@@ -55,7 +55,7 @@ returns-in-Ok-read_body g c =
     (omega (arith, c.total.ensures.value, c.if-total-memory.false))
     (ap (λ (xs : List ℕ). xs ++ drop (length c.joined-segments.result.now) c.args.memory.now) (c.copy_from_slice.ensures.after ∙ c.joined-segments.ensures.segments)
     ∙ ap (λ (n : ℕ). joined image.segments ++ drop n c.args.memory.now) size)
-    (same_answer _ _ _ _ _ _ _ c.hunks-in-Ok-read_body.ensures refl (c.bytes.ensures.declared ∙ ap declared_bytes entries))
+    (same_answer _ _ _ _ _ _ _ c.hunks-in-Ok-read_body.ensures (omega arith) (c.bytes.ensures.declared ∙ ap declared_bytes entries))
     )
 
 pub returns-in-Err-read_body : goal.returns-in-Err-read_body

@@ -15,7 +15,7 @@ returns-then-hunks-rows c =
     let h : BeginsWithHeader c.args.bytes.now t = record { is_table = c.in-Ok.ensures.table; rest = body; split = c.in-Ok.ensures.split } in
     let size = header_size c.args.bytes.now body t c.in-Ok.ensures.split in
     HasNoRows t h c.in-Ok.ensures.within (omega (arith, c.hunks-hunks.ensures, c.if-hunks-rows.true)) refl
-    (c.no_room.ensures ∙ same_answer _ _ _ _ _ _ _ c.hunks-hunks.ensures size c.total.ensures.value)
+    (c.no_room.ensures ∙ same_answer _ _ _ _ _ _ _ (omega (arith, c.hunks-hunks.ensures)) size c.total.ensures.value)
 
 pub returns : goal.returns
 returns c =
