@@ -1,9 +1,9 @@
 /* Load files of AmigaDOS (hunk files): their tables, loading them, the names of refusals.
  *
- * Every function here is proved to answer and to write what is said below, whatever the bytes are.
- * Each reads and writes only what its arguments point to and what malloc gives it, keeps nothing
- * between two calls, and gives back what it took before it returns. Threads may call them at the
- * same time, as long as no two write the same memory.
+ * Whatever the bytes are, each call answers one of the answers that stand below it; what of this is
+ * proved is in docs/PROVED.md. A call reads and writes only what its arguments point to and what
+ * malloc gives it, keeps nothing between two calls, and gives back what it took before it returns.
+ * Threads may call at the same time, as long as no two write the same memory.
  *
  * What the caller owes:
  * - Each pointer points to as many elements as its length says, aligned for their type. A pointer
