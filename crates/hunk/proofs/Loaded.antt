@@ -12,14 +12,15 @@ use Rattle.hunk_files.specs.LoadFile.{TableEntry, HunkValue}
 use Rattle.hunk_files.specs.LoadText.{table, text}
 use Rattle.hunk_files.specs.declared.row.Row.{Row}
 use Rattle.hunk_scatter.specs.HeaderBytes.{header_bytes}
-use Rattle.hunk_scatter.specs.HeaderFaults.{IsHeaderFaultBy}
+use Rattle.hunk_scatter.specs.HeaderFaults.{IsBudgetOrMemory, IsHeaderFaultBy}
 use Rattle.hunk_scatter.specs.LoaderValues.{IsImageOf, joined}
-use Rattle.hunk_scatter.specs.Placing.{Placing, AreBases, IsUnplacedFor}
+use Rattle.hunk_scatter.specs.Placing.{Placing, AreBases, HasBases, IsUnplacedFor}
 use Rattle.hunk_scatter.specs.Rows.{entry_of, entries_of, bases_of}
+use Rattle.hunk_scatter.proofs.HeaderFronts.{one_table}
 use Rattle.hunk_scatter.proofs.TableLimit.{never_passes}
 use Rattle.hunk.specs.declared.answer.Answer.{Answer}
 use Rattle.hunk.specs.Answers.{refused, done}
-use Rattle.hunk.specs.Loads.{BeginsWithHeader, IsHeaderRefusal, IsLoaded, IsNotLoaded, HasNoFile, HasNoBase, HasNoMemory}
+use Rattle.hunk.specs.Loads.{BeginsWithHeader, FitsAndHasBases, IsHeaderRefusal, IsLoaded, IsNotLoaded, HasNoFile, HasNoBase, HasNoMemory}
 
 -- ---- answers
 
@@ -46,20 +47,41 @@ pub header_size : (bytes body : List ℕ) (t : List TableEntry) → bytes ≡ he
 header_size bytes body t e = omega (arith, ap length e, length-append (header_bytes t) body)
 
 module _ (base : Placing) (room : ℕ) (bytes : List ℕ) (answer : Answer) where
-  header_fault : (reason : Reason) (at : ℕ) → IsHeaderFaultBy reason (2 ^ 64 - 1) bytes at → answer ≡ refused (record { place = at; reason = reason }) → IsNotLoaded base room bytes answer
-  header_fault reasons.Budget at p e = absurd (never_passes bytes at p)
-  header_fault reasons.OutOfMemory at p e = HasNoMemory at (inl p) e
-  header_fault reason at h e = HasNoFile (record { place = at; reason = reason }) (inl h) e
+  -- no header is in front, unless the refusal is the budget's or for want of memory
+  abbrev NoHeader : Reason → Type 0
+  NoHeader reason = (t : List TableEntry) → BeginsWithHeader bytes t → IsBudgetOrMemory reason
 
-  pub no_header : (f : Fault) → IsHeaderRefusal (2 ^ 64 - 1) bytes f → answer ≡ refused f → IsNotLoaded base room bytes answer
-  no_header f (inl h) e = header_fault f.reason f.place h e
-  no_header f (inr t) e = HasNoFile f (inr t) e
+  header_fault : (reason : Reason) (at : ℕ) → IsHeaderFaultBy reason (2 ^ 64 - 1) bytes at → NoHeader reason → answer ≡ refused (record { place = at; reason = reason }) → IsNotLoaded base room bytes answer
+  header_fault reasons.Budget at p k e = absurd (never_passes bytes at p)
+  header_fault reasons.OutOfMemory at p k e = HasNoMemory at (inl p) e
+  header_fault reason at h k e = HasNoFile (record { place = at; reason = reason }) (inl h) (λ t b. absurd (neither (k t b))) e
+    where
+      neither : IsBudgetOrMemory reason → ⊥
+      neither (inl e) = absurd cc
+      neither (inr e) = absurd cc
+
+  pub no_header : (f : Fault) → IsHeaderRefusal (2 ^ 64 - 1) bytes f → NoHeader f.reason → answer ≡ refused f → IsNotLoaded base room bytes answer
+  no_header f (inl h) k e = header_fault f.reason f.place h k e
+  no_header f (inr t) k e = HasNoFile f (inr t) (λ u b. absurd (neither (k u b))) e
+    where
+      neither : IsBudgetOrMemory f.reason → ⊥
+      neither (inl e) = absurd cc
+      neither (inr e) = absurd cc
 
   pub not_placed : (t : List TableEntry) (reason : Reason) → BeginsWithHeader bytes t → declared_bytes t ≤ room → IsUnplacedFor base t reason →
       answer ≡ refused (record { place = length (header_bytes t); reason = reason }) → IsNotLoaded base room bytes answer
   not_placed t (reasons.NoBase hunk) h fits u e = HasNoBase t hunk h fits u e
   not_placed t reasons.OutOfMemory h fits u e = HasNoMemory (length (header_bytes t)) (inr (t, h, refl)) e
   not_placed t _ h fits u e = absurd u
+
+-- The header that the bytes begin with is known, fits, and was placed.
+pub fits_placed : (base : Placing) (room : ℕ) (bytes : List ℕ) (t : List TableEntry) (bases : List ℕ) → BeginsWithHeader bytes t → declared_bytes t ≤ room → AreBases base t bases → FitsAndHasBases base room bytes
+fits_placed base room bytes t bases h fits placed u k =
+    let same : t ≡ u = one_table t u h.rest k.rest h.is_table k.is_table (sym h.split ∙ k.split) in
+    (
+      subst (λ (v : List TableEntry). declared_bytes v ≤ room) same fits,
+      subst (HasBases base) same (λ i inside. let each = placed.each i inside in cc),
+    )
 
 -- ---- success
 

@@ -20,7 +20,7 @@ same_table bytes t v rest h is e =
 
 module _ (base : Placing) (room : ℕ) (bytes : List ℕ) (answer : Answer) where
   none_else : IsNotLoaded base room bytes answer → (v : LoadFileValue) (rest : List ℕ) → IsLoadFile v → bytes ≡ bytes_of (text v) ++ rest → declared_bytes (table v) ≤ room → HasBases base (table v) → answer.number ≡ 31
-  none_else (HasNoFile f h e) v rest is split fits placed = absurd (no_fault bytes f.place f.reason (record { value = v; is_load_file = is; rest = rest; split = split }) h)
+  none_else (HasNoFile f h k e) v rest is split fits placed = absurd (no_fault bytes f.place f.reason (record { value = v; is_load_file = is; rest = rest; split = split }) h)
   none_else (HasNoRoom t h less e) v rest is split fits placed = absurd (omega (arith, ap declared_bytes (same_table bytes t v rest h is split), less, fits))
   none_else (HasNoBase t hunk h room_is u e) v rest is split fits placed =
       let placed_t : HasBases base t = subst (HasBases base) (same_table bytes t v rest h is split) placed in

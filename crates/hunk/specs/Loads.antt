@@ -51,9 +51,13 @@ pub record IsLoaded (base : Placing) (bytes old new : List ℕ) (answer : Answer
   pub memory : new ≡ images bases value ++ drop (declared_bytes (table value)) old
   pub answer_is : answer ≡ done (length value) (length (bytes_of (text value))) (declared_bytes (table value))
 
+-- Whichever header the bytes begin with, its hunks fit, and each has a base.
+abbrev pub FitsAndHasBases : Placing → ℕ → List ℕ → Type 0
+FitsAndHasBases base room bytes = (t : List TableEntry) → BeginsWithHeader bytes t → (declared_bytes t ≤ room) × HasBases base t
+
 -- Why a file is not loaded into memory of so many bytes.
 pub data IsNotLoaded (base : Placing) (room : ℕ) (bytes : List ℕ) (answer : Answer) : Type 0 where
-  HasNoFile : (f : Fault) → HasFault bytes f.place f.reason → answer ≡ refused f → IsNotLoaded base room bytes answer
+  HasNoFile : (f : Fault) → HasFault bytes f.place f.reason → FitsAndHasBases base room bytes → answer ≡ refused f → IsNotLoaded base room bytes answer
   HasNoRoom : (t : List TableEntry) → BeginsWithHeader bytes t → room < declared_bytes t
       → answer ≡ no_room (length t) (length (header_bytes t)) (declared_bytes t) → IsNotLoaded base room bytes answer
   HasNoBase : (t : List TableEntry) (hunk : ℕ) → BeginsWithHeader bytes t → declared_bytes t ≤ room → IsFirstUnplaced base t hunk

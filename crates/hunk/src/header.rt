@@ -1,9 +1,11 @@
 //! The header that bytes begin with.
-ghost use Rattle.std.specs.Prelude.{◌≡◌, ◌≤◌, ◌*◌, ◌/◌, ◌++◌, IfOk, IfErr};
+ghost use Rattle.std.specs.Prelude.{List, ◌≡◌, ◌≤◌, ◌*◌, ◌/◌, ◌++◌, IfOk, IfErr};
 ghost use Rattle.hunk_words.specs.declared.reason.Reason.TheVariants as reasons;
 ghost use Rattle.hunk_files.specs.Image.{declared_bytes};
+ghost use Rattle.hunk_files.specs.LoadFile.{TableEntry};
 ghost use Rattle.hunk_scatter.specs.HeaderBytes.{IsTable, header_bytes};
-ghost use Rattle.hunk.specs.Loads.{IsHeaderRefusal};
+ghost use Rattle.hunk_scatter.specs.HeaderFaults.{IsBudgetOrMemory};
+ghost use Rattle.hunk.specs.Loads.{BeginsWithHeader, IsHeaderRefusal};
 
 use hunk_scatter::{Declared, HeaderLoader};
 use hunk_words::{Fault, Reason};
@@ -27,6 +29,8 @@ pub(crate) fn read_header(
         (λ read. bytes.entry.now ≡ header_bytes read.0.table ++ read.1.now) }
     ensures within { IfOk result (λ read. declared_bytes read.0.table ≤ budget) }
     ensures refusal { IfErr result (IsHeaderRefusal budget bytes.entry.now) }
+    ensures whole { IfErr result (λ f. (t : List TableEntry) → BeginsWithHeader bytes.entry.now t →
+        IsBudgetOrMemory f.reason) }
 {
     let mut loader = HeaderLoader::new(alloc, budget);
     let taken = match loader.feed(bytes) {

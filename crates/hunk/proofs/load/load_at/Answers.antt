@@ -8,11 +8,11 @@ use Rattle.hunk_scatter.specs.Placing.{AreBases}
 use Rattle.hunk_scatter.specs.Rows.{entries_of, bases_of}
 use Rattle.hunk.specs.Answers.{refused}
 use Rattle.hunk.specs.Loads.{BeginsWithHeader, HasNoFile, HasNoRoom}
-use Rattle.hunk.proofs.Loaded.{header_size, no_header, same_answer, not_placed, loaded}
+use Rattle.hunk.proofs.Loaded.{header_size, no_header, same_answer, not_placed, fits_placed, loaded}
 use Rattle.hunk.proofs.load.load_at.Goals as goal
 
 pub returns-in-Err : goal.returns-in-Err
-returns-in-Err g c = inr (no_header _ _ _ _ c.in-Err.fault c.in-Err.ensures.refusal c.refused.ensures, refl)
+returns-in-Err g c = inr (no_header _ _ _ _ c.in-Err.fault c.in-Err.ensures.refusal c.in-Err.ensures.whole c.refused.ensures, refl)
 
 pub returns-then-total-memory : goal.returns-then-total-memory
 returns-then-total-memory g c =
@@ -63,4 +63,10 @@ returns-in-Err-read_body g c =
     let fault = c.in-Err-read_body.fault in
     let bytes : c.in-Ok-place.loader.fed ++ c.in-Ok.read.1.now ≡ c.args.bytes.now =
     ap (λ (xs : List ℕ). xs ++ c.in-Ok.read.1.now) c.in-Ok-place.ensures.fed ∙ sym c.in-Ok.ensures.split in
-    inr (HasNoFile fault (subst (λ (xs : List ℕ). HasFault xs fault.place fault.reason) bytes c.in-Err-read_body.ensures.fault) c.refused-in-Err-read_body.ensures, refl)
+    let t = c.in-Ok.read.0.table in
+    let h : BeginsWithHeader c.args.bytes.now t = record { is_table = c.in-Ok.ensures.table; rest = c.in-Ok.read.1.now; split = c.in-Ok.ensures.split } in
+    inr (
+      HasNoFile fault (subst (λ (xs : List ℕ). HasFault xs fault.place fault.reason) bytes c.in-Err-read_body.ensures.fault)
+          (fits_placed _ _ _ t _ h (omega (arith, c.total.ensures.value, c.if-total-memory.false)) c.in-Ok-place.ensures.bases) c.refused-in-Err-read_body.ensures,
+      refl,
+    )
