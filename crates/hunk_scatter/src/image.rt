@@ -134,7 +134,6 @@ impl Image {
     }
 
     /// The segments of all hunks as one slice, each right behind the one before it.
-    #[tactic(auto, using(crate::proofs::Joining::joined_cut))]
     pub fn joined(&self) -> &[u8]
         ensures segments { result.now ≡ joined self.now.segments }
         ensures size { length result.now ≡ declared_bytes (entries_of self.now.rows) }
