@@ -1,12 +1,11 @@
 -- What a load comes to, by its stages.
-use Rattle.std.proofs.Common.{◌≡◌, ℕ, ◌+◌, ◌-◌, ◌*◌, ◌/◌, ◌^◌, ◌<◌, ◌≤◌, List, ◌++◌, length, take, drop, map, sym, ap, subst, refl, ◌∙◌, append_assoc, arith, length-append, take-append-drop, inl, inr}
+use Rattle.std.proofs.Common.{◌≡◌, ℕ, ◌+◌, ◌-◌, ◌^◌, ◌<◌, ◌≤◌, List, ◌++◌, length, take, drop, map, sym, ap, subst, refl, ◌∙◌, append_assoc, arith, length-append, take-append-drop, inl, inr}
 use Rattle.std.proofs.lemmas.List.{length-map, take_all, length-take-le}
 use Rattle.std.proofs.lemmas.List.Folds.{flat_map-map}
 use Rattle.hunk_words.specs.Longs.{bytes_of}
 use Rattle.hunk_words.specs.declared.fault.Fault.{Fault}
 use Rattle.hunk_words.specs.declared.reason.Reason.{Reason}
 use Rattle.hunk_words.specs.declared.reason.Reason.TheVariants as reasons
-use Rattle.hunk_files.specs.Fault.{HasFault}
 use Rattle.hunk_files.specs.Image.{declared_bytes, image, images}
 use Rattle.hunk_files.specs.LoadFile.{TableEntry, HunkValue}
 use Rattle.hunk_files.specs.LoadText.{table, text}
@@ -77,8 +76,7 @@ module _ (base : Placing) (room : ℕ) (bytes : List ℕ) (answer : Answer) wher
 -- The header that the bytes begin with is known, fits, and was placed.
 pub fits_placed : (base : Placing) (room : ℕ) (bytes : List ℕ) (t : List TableEntry) (bases : List ℕ) → BeginsWithHeader bytes t → declared_bytes t ≤ room → AreBases base t bases → FitsAndHasBases base room bytes
 fits_placed base room bytes t bases h fits placed u k =
-    let same : t ≡ u = one_table t u h.rest k.rest h.is_table k.is_table (sym h.split ∙ k.split) in
-    (
+    let same : t ≡ u = one_table t u h.rest k.rest h.is_table k.is_table (sym h.split ∙ k.split) in (
       subst (λ (v : List TableEntry). declared_bytes v ≤ room) same fits,
       subst (HasBases base) same (λ i inside. let each = placed.each i inside in cc),
     )

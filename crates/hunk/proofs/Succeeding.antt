@@ -1,12 +1,12 @@
 -- A load file that fits is loaded, or memory was wanting.
-use Rattle.std.proofs.Common.{◌≡◌, ◌≤◌, ℕ, List, ◌++◌, length, sym, ap, subst, ◌∙◌, append_assoc, arith, ◌⊎◌, inl, inr}
+use Rattle.std.proofs.Common.{◌≡◌, ◌≤◌, ℕ, List, ◌++◌, length, sym, ap, subst, ◌∙◌, append_assoc, arith, inl, inr}
 use Rattle.hunk_words.specs.Longs.{bytes_of}
 use Rattle.hunk_files.specs.Image.{declared_bytes}
 use Rattle.hunk_files.specs.LoadFile.{TableEntry, LoadFileValue, IsLoadFile}
 use Rattle.hunk_files.specs.LoadText.{table, text}
 use Rattle.hunk_files.proofs.Scan.{no_fault}
 use Rattle.hunk_scatter.specs.HeaderBytes.{header_bytes}
-use Rattle.hunk_scatter.specs.Placing.{Placing, HasBases, base_at}
+use Rattle.hunk_scatter.specs.Placing.{Placing, HasBases}
 use Rattle.hunk_scatter.proofs.HeaderFronts.{one_table, text_header}
 use Rattle.hunk.specs.declared.answer.Answer.{Answer}
 use Rattle.hunk.specs.Loads.{BeginsWithHeader, Loads, LoadsWhatFits, IsNotLoaded, HasNoFile, HasNoRoom, HasNoBase, HasNoMemory}
