@@ -4,6 +4,9 @@ ghost use Rattle.std.specs.Prelude.{◌≡◌};
 use hunk_words::SizeWord;
 
 /// A row of the hunk table: what the header declares of a hunk, and where the hunk lies.
+///
+/// It is laid out as C does: 12 bytes, the fields in this order.
+#[repr(C)]
 #[derive(Clone, Copy, Debug, PartialEq, Eq)]
 pub struct Row {
     /// The size word: the number of longwords in the low 30 bits, the memory in bits 30 and 31.

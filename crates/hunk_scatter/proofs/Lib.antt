@@ -14,6 +14,7 @@ pub mod HeaderReads
 pub mod HeaderSteps
 pub mod HeaderStops
 pub mod HeaderTexts
+pub mod Joining
 pub mod LoadEnding
 pub mod LoadLaws
 pub mod Offsets
@@ -28,4 +29,5 @@ pub mod Scatter
 pub mod Splice
 pub mod Splits
 pub mod Starting
+pub mod TableLimit
 pub mod WholeLongs

@@ -1,6 +1,7 @@
 -- The loaders and what they make, as their callers see them.
 use Rattle.std.specs.Prelude.{◌≡◌, ℕ, ◌*◌, List, [], ◌∷◌, ◌++◌, map, take, drop, Option, MatchOption, ◌⊎◌}
 use Rattle.std.specs.Borrow.{Bor}
+use Rattle.std.specs.List.{flat_map}
 use Rattle.hunk_words.specs.Bits.{size_longs}
 use Rattle.hunk_words.specs.Longs.{bytes_of}
 use Rattle.hunk_words.specs.declared.fault.Fault.{Fault}
@@ -62,6 +63,10 @@ HasNoRefusal bytes = (at : ℕ) (reason : Reason) → HasRefusal bytes at reason
 abbrev pub cut : List ℕ → List ℕ → List (List ℕ)
 cut [] store = []
 cut (size ∷ sizes) store = take (4 * size_longs size) store ∷ cut sizes (drop (4 * size_longs size) store)
+
+-- the segments, one right behind the other
+abbrev pub joined : List (List ℕ) → List ℕ
+joined segments = flat_map (λ segment. segment) segments
 
 -- The bytes are a load file with these rows, and the segments are the images of its hunks at the rows' bases.
 pub record IsImageOf (rows : List Row) (bytes : List ℕ) (segments : List (List ℕ)) : Type 0 where

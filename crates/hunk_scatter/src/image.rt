@@ -2,7 +2,7 @@
 ghost use Rattle.std.specs.Prelude.{◌≡◌, ◌+◌, ◌*◌, ◌<◌, ◌≤◌, length, slice_get, slice_index, sum_by, Some};
 ghost use Rattle.hunk_words.specs.Limits.{most_hunks};
 ghost use Rattle.hunk_files.specs.Image.{declared_bytes};
-ghost use Rattle.hunk_scatter.specs.LoaderValues.{cut};
+ghost use Rattle.hunk_scatter.specs.LoaderValues.{cut, joined};
 ghost use Rattle.hunk_scatter.specs.Rows.{AreStarts, entries_of, words_of, bases_of};
 
 use crate::segments::Segments;
@@ -131,6 +131,14 @@ impl Image {
             rows: self.rows.as_slice(),
             rest: self.store.as_slice(),
         }
+    }
+
+    /// The segments of all hunks as one slice, each right behind the one before it.
+    pub fn joined(&self) -> &[u8]
+        ensures segments { result.now ≡ joined self.now.segments }
+        ensures size { length result.now ≡ declared_bytes (entries_of self.now.rows) }
+    {
+        self.store.as_slice()
     }
 
     /// The bytes of all hunks.

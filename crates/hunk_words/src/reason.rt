@@ -1,5 +1,5 @@
 //! The reasons of refusals.
-ghost use Rattle.std.specs.Prelude.{◌≡◌, Some};
+ghost use Rattle.std.specs.Prelude.{◌≡◌, ◌<◌, ◌⊎◌, Some, MatchOption};
 ghost use Rattle.hunk_words.specs.FaultLines.{reason_line};
 ghost use Rattle.hunk_words.specs.Reasons.{name_of, number_of};
 
@@ -110,6 +110,48 @@ impl Reason {
             Reason::NoBase(_) => 29,
             Reason::Read => 30,
             Reason::OutOfMemory => 31,
+        }
+    }
+
+    /// The reason of a number; none for a number that no reason has.
+    ///
+    /// The numbers are 1 to 31. A number does not say a hunk: 29 is `NoBase` of hunk 0.
+    pub fn from_number(number: u32) -> Option<Reason>
+        ensures { MatchOption result ((number ≡ 0) ⊎ (31 < number)) (λ reason. number_of reason ≡ number) }
+    {
+        match number {
+            1 => Some(Reason::NotLoadFile),
+            2 => Some(Reason::IsObject),
+            3 => Some(Reason::Library),
+            4 => Some(Reason::Resident),
+            5 => Some(Reason::NoHunks),
+            6 => Some(Reason::TooManyHunks),
+            7 => Some(Reason::FirstHunk),
+            8 => Some(Reason::LastHunk),
+            9 => Some(Reason::BothBits),
+            10 => Some(Reason::Advisory),
+            11 => Some(Reason::Overlay),
+            12 => Some(Reason::Break),
+            13 => Some(Reason::ShortReloc),
+            14 => Some(Reason::NotInLoadFile),
+            15 => Some(Reason::Misplaced),
+            16 => Some(Reason::UnknownBlock),
+            17 => Some(Reason::SecondContent),
+            18 => Some(Reason::BeforeContent),
+            19 => Some(Reason::NoContent),
+            20 => Some(Reason::ContentTooLong),
+            21 => Some(Reason::NameWord),
+            22 => Some(Reason::NothingToRelocate),
+            23 => Some(Reason::BadTarget),
+            24 => Some(Reason::BadOffset),
+            25 => Some(Reason::ExtKind),
+            26 => Some(Reason::Truncated),
+            27 => Some(Reason::Budget),
+            28 => Some(Reason::FileLimit),
+            29 => Some(Reason::NoBase(0)),
+            30 => Some(Reason::Read),
+            31 => Some(Reason::OutOfMemory),
+            _ => None,
         }
     }
 

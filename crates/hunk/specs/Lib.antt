@@ -1,0 +1,4 @@
+pub mod Answers
+pub mod Loads
+pub mod Names
+pub mod Tables

@@ -1,0 +1,74 @@
+-- Load files in the caller's memory.
+use Rattle.std.specs.Prelude.{◌≡◌, ℕ, ◌<◌, ◌≤◌, List, ◌++◌, length, drop, slice_get, ◌⊎◌}
+use Rattle.hunk_words.specs.Longs.{bytes_of}
+use Rattle.hunk_words.specs.declared.fault.Fault.{Fault}
+use Rattle.hunk_words.specs.declared.reason.Reason.TheVariants as reasons
+use Rattle.hunk_files.specs.Fault.{HasFault, IsTruncated}
+use Rattle.hunk_files.specs.Image.{declared_bytes, images}
+use Rattle.hunk_files.specs.LoadFile.{TableEntry, LoadFileValue, IsLoadFile}
+use Rattle.hunk_files.specs.LoadText.{table, text}
+use Rattle.hunk_scatter.specs.HeaderBytes.{IsTable, header_bytes}
+use Rattle.hunk_scatter.specs.HeaderFaults.{CompletesRow, IsHeaderFault}
+use Rattle.hunk_scatter.specs.Placing.{Placing, packed_base, AreBases, HasBases, IsFirstUnplaced}
+use Rattle.hunk.specs.declared.answer.Answer.{Answer}
+use Rattle.hunk.specs.Answers.{refused, no_room, done}
+
+-- ---- headers
+
+-- The bytes begin with the header of the table.
+pub record BeginsWithHeader (bytes : List ℕ) (t : List TableEntry) : Type 0 where
+  pub is_table : IsTable t
+  pub rest : List ℕ
+  pub split : bytes ≡ header_bytes t ++ rest
+
+-- Why a header is not read: a longword is refused, the budget is passed, memory is wanting for a row, or the bytes end.
+abbrev pub IsHeaderRefusal : ℕ → List ℕ → Fault → Type 0
+IsHeaderRefusal budget bytes f = IsHeaderFault budget bytes f ⊎ ((f.reason ≡ reasons.Truncated) × IsTruncated bytes f.place)
+
+-- Memory is wanting: for the row that the longword here completes, or, where the header ends, for the segments.
+abbrev pub LacksMemory : List ℕ → ℕ → Type 0
+LacksMemory bytes at = CompletesRow bytes at ⊎ ((t : List TableEntry) × BeginsWithHeader bytes t × (at ≡ length (header_bytes t)))
+
+-- ---- loads
+
+-- each hunk at the base of its number
+abbrev pub listed : List ℕ → Placing
+listed bases = λ hunk row before. slice_get bases hunk
+
+-- hunks one right behind the other from a first byte on
+abbrev pub packed : ℕ → Placing
+packed start = λ hunk row before. packed_base start row before
+
+-- The bytes begin with a load file. The memory begins with its hunks, each as it lies at its base, one right behind the other; what lies behind them is as it was.
+pub record IsLoaded (base : Placing) (bytes old new : List ℕ) (answer : Answer) : Type 0 where
+  pub value : LoadFileValue
+  pub is_load_file : IsLoadFile value
+  pub rest : List ℕ
+  pub split : bytes ≡ bytes_of (text value) ++ rest
+  pub bases : List ℕ
+  pub are_bases : AreBases base (table value) bases
+  pub fits : declared_bytes (table value) ≤ length old
+  pub memory : new ≡ images bases value ++ drop (declared_bytes (table value)) old
+  pub answer_is : answer ≡ done (length value) (length (bytes_of (text value))) (declared_bytes (table value))
+
+-- Whichever header the bytes begin with, its hunks fit, and each has a base.
+abbrev pub FitsAndHasBases : Placing → ℕ → List ℕ → Type 0
+FitsAndHasBases base room bytes = (t : List TableEntry) → BeginsWithHeader bytes t → (declared_bytes t ≤ room) × HasBases base t
+
+-- Why a file is not loaded into memory of so many bytes.
+pub data IsNotLoaded (base : Placing) (room : ℕ) (bytes : List ℕ) (answer : Answer) : Type 0 where
+  HasNoFile : (f : Fault) → HasFault bytes f.place f.reason → FitsAndHasBases base room bytes → answer ≡ refused f → IsNotLoaded base room bytes answer
+  HasNoRoom : (t : List TableEntry) → BeginsWithHeader bytes t → room < declared_bytes t
+      → answer ≡ no_room (length t) (length (header_bytes t)) (declared_bytes t) → IsNotLoaded base room bytes answer
+  HasNoBase : (t : List TableEntry) (hunk : ℕ) → BeginsWithHeader bytes t → declared_bytes t ≤ room → IsFirstUnplaced base t hunk
+      → answer ≡ refused (record { place = length (header_bytes t); reason = reasons.NoBase hunk }) → IsNotLoaded base room bytes answer
+  HasNoMemory : (at : ℕ) → LacksMemory bytes at → answer ≡ refused (record { place = at; reason = reasons.OutOfMemory }) → IsNotLoaded base room bytes answer
+
+-- What a load comes to.
+abbrev pub Loads : Placing → List ℕ → List ℕ → List ℕ → Answer → Type 0
+Loads base bytes old new answer = IsLoaded base bytes old new answer ⊎ (IsNotLoaded base (length old) bytes answer × (new ≡ old))
+
+-- Where the bytes begin with a load file that fits, and each of its hunks has a base, it is loaded, or memory was wanting.
+abbrev pub LoadsWhatFits : Placing → ℕ → List ℕ → Answer → Type 0
+LoadsWhatFits base room bytes answer =
+    (v : LoadFileValue) (rest : List ℕ) → IsLoadFile v → bytes ≡ bytes_of (text v) ++ rest → declared_bytes (table v) ≤ room → HasBases base (table v) → (answer.number ≡ 0) ⊎ (answer.number ≡ 31)

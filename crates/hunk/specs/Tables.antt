@@ -1,0 +1,24 @@
+-- Tables in the caller's rows.
+use Rattle.std.specs.Prelude.{◌≡◌, ℕ, ◌*◌, ◌/◌, ◌^◌, ◌<◌, ◌≤◌, List, ◌++◌, length, map, drop}
+use Rattle.hunk_words.specs.Bits.{size_longs}
+use Rattle.hunk_words.specs.declared.fault.Fault.{Fault}
+use Rattle.hunk_files.specs.Image.{declared_bytes}
+use Rattle.hunk_files.specs.LoadFile.{TableEntry}
+use Rattle.hunk_scatter.specs.HeaderBytes.{header_bytes}
+use Rattle.hunk.specs.declared.answer.Answer.{Answer}
+use Rattle.hunk.specs.declared.table.TableRow.{TableRow}
+use Rattle.hunk.specs.Answers.{refused, no_room, done}
+use Rattle.hunk.specs.Loads.{BeginsWithHeader, IsHeaderRefusal}
+
+-- what the caller sees of an entry
+abbrev pub row_of : TableEntry → TableRow
+row_of e = record { word = e.word; extra = e.extra; bytes = 4 * size_longs e.word; memory = e.word / 2 ^ 30 }
+
+-- What the reading of a table comes to. The rows begin with it, and what lies behind it is as it was; or all are as they were.
+pub data Tables (budget : ℕ) (bytes : List ℕ) (old new : List TableRow) (answer : Answer) : Type 0 where
+  HasTable : (t : List TableEntry) → BeginsWithHeader bytes t → declared_bytes t ≤ budget → length t ≤ length old
+      → new ≡ map row_of t ++ drop (length t) old
+      → answer ≡ done (length t) (length (header_bytes t)) (declared_bytes t) → Tables budget bytes old new answer
+  HasNoRows : (t : List TableEntry) → BeginsWithHeader bytes t → declared_bytes t ≤ budget → length old < length t → new ≡ old
+      → answer ≡ no_room (length t) (length (header_bytes t)) (declared_bytes t) → Tables budget bytes old new answer
+  HasNoTable : (f : Fault) → IsHeaderRefusal budget bytes f → new ≡ old → answer ≡ refused f → Tables budget bytes old new answer

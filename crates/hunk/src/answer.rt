@@ -1,0 +1,57 @@
+//! What a call answers.
+ghost use Rattle.std.specs.Prelude.{◌≡◌};
+ghost use Rattle.hunk.specs.Answers.{hunk_of, no_room, refused};
+
+use hunk_words::{Fault, Reason};
+
+/// What a call answers: 24 bytes, with no padding.
+#[repr(C)]
+#[derive(Clone, Copy, Debug, PartialEq, Eq)]
+pub struct Answer {
+    /// 0, the number of a reason, 1 to 31, or `NO_ROOM`.
+    pub number: u32,
+    /// The number of hunks; the hunk without a base where `number` is that of NoBase.
+    pub hunk: u32,
+    /// The number of bytes that were read; the byte that is refused where `number` is a reason's.
+    pub place: u64,
+    /// What the call counts, in elements of the caller's array or bytes: written, or needed where
+    /// there is no room.
+    pub count: u64,
+}
+
+/// The number which says that the caller's array has too few elements.
+pub(crate) const NO_ROOM: u32 = 32;
+
+/// The answer of a refusal.
+pub(crate) fn refused(fault: Fault) -> Answer
+    ensures { result ≡ refused fault }
+{
+    Answer {
+        number: u32::from(fault.reason.number()),
+        hunk: hunk_of(fault.reason),
+        place: fault.place,
+        count: 0,
+    }
+}
+
+/// The hunk that a reason is told of; of most reasons, 0.
+fn hunk_of(reason: Reason) -> u32
+    ensures { result ≡ hunk_of reason }
+{
+    match reason {
+        Reason::NoBase(hunk) => hunk,
+        _ => 0,
+    }
+}
+
+/// The answer where the caller's array is too small, and needs so many elements.
+pub(crate) fn no_room(hunks: u32, place: u64, count: u64) -> Answer
+    ensures { result ≡ no_room hunks place count }
+{
+    Answer {
+        number: NO_ROOM,
+        hunk: hunks,
+        place,
+        count,
+    }
+}

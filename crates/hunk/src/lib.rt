@@ -1,0 +1,19 @@
+//! Hunk files for programs in C: `include/hunk.h` declares what is exported here.
+//!
+//! Each export is a thin layer over a library of this repository. It keeps nothing between two
+//! calls, hands out no pointer, and tests every number that it is given.
+#![tactic(auto)]
+
+mod answer;
+mod body;
+mod header;
+mod load;
+mod reason;
+mod table;
+#[cfg(test)]
+mod tests;
+
+pub use crate::answer::Answer;
+pub use crate::load::{hunk_load, hunk_load_packed};
+pub use crate::reason::hunk_reason;
+pub use crate::table::{TableRow, hunk_table};

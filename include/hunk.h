@@ -1,0 +1,141 @@
+/* Load files of AmigaDOS (hunk files): their tables, loading them, the names of refusals.
+ *
+ * Whatever the bytes are, each call answers one of the answers that stand below it; what of this is
+ * proved is in docs/PROVED.md. A call reads and writes only what its arguments point to and what
+ * malloc gives it, keeps nothing between two calls, and gives back what it took before it returns.
+ * Threads may call at the same time, as long as no two write the same memory.
+ *
+ * What the caller owes:
+ * - Each pointer points to as many elements as its length says, aligned for their type. A pointer
+ *   is not NULL, also where the length is 0; any aligned address will do there.
+ * - The memory that is written overlaps no other argument.
+ * - malloc, realloc and free are of one allocator, and may be called.
+ */
+#ifndef HUNK_H
+#define HUNK_H
+
+#include <stddef.h>
+#include <stdint.h>
+
+#ifdef __cplusplus
+extern "C" {
+#endif
+
+/* The numbers of answers: 0, the number of a reason, or that of HUNK_NO_ROOM. */
+#define HUNK_OK UINT32_C(0)
+#define HUNK_NOT_LOAD_FILE UINT32_C(1)        /* the first longword is not 3F3 */
+#define HUNK_IS_OBJECT UINT32_C(2)            /* it is 3E7: an object file */
+#define HUNK_LIBRARY UINT32_C(3)              /* a library hunk, LIB or INDEX */
+#define HUNK_RESIDENT UINT32_C(4)             /* the header names resident libraries */
+#define HUNK_NO_HUNKS UINT32_C(5)             /* the table size is 0 */
+#define HUNK_TOO_MANY_HUNKS UINT32_C(6)       /* the table size is more than 65,536 */
+#define HUNK_FIRST_HUNK UINT32_C(7)           /* the first hunk is not 0 */
+#define HUNK_LAST_HUNK UINT32_C(8)            /* the last hunk is not the table size minus 1 */
+#define HUNK_BOTH_BITS UINT32_C(9)            /* a block word has bits 30 and 31 */
+#define HUNK_ADVISORY UINT32_C(10)            /* reserved: no call answers it */
+#define HUNK_OVERLAY UINT32_C(11)             /* an OVERLAY block */
+#define HUNK_BREAK UINT32_C(12)               /* a BREAK block */
+#define HUNK_SHORT_RELOC UINT32_C(13)         /* a short relocation block */
+#define HUNK_NOT_IN_LOAD_FILE UINT32_C(14)    /* a block that is kept out of load files */
+#define HUNK_MISPLACED UINT32_C(15)           /* a HEADER or UNIT block inside a file */
+#define HUNK_UNKNOWN_BLOCK UINT32_C(16)       /* a block type without a name, not advisory */
+#define HUNK_SECOND_CONTENT UINT32_C(17)      /* a second content block in a hunk */
+#define HUNK_BEFORE_CONTENT UINT32_C(18)      /* relocations before the content block */
+#define HUNK_NO_CONTENT UINT32_C(19)          /* a hunk ends without a content block */
+#define HUNK_CONTENT_TOO_LONG UINT32_C(20)    /* more content than the hunk is declared to have */
+#define HUNK_NAME_WORD UINT32_C(21)           /* the count of a name has a top byte */
+#define HUNK_NOTHING_TO_RELOCATE UINT32_C(22) /* a relocation in a hunk of 0 bytes */
+#define HUNK_BAD_TARGET UINT32_C(23)          /* the target is no hunk of the file */
+#define HUNK_BAD_OFFSET UINT32_C(24)          /* the relocated long is not within the hunk */
+#define HUNK_EXT_KIND UINT32_C(25)            /* no call of these answers it */
+#define HUNK_TRUNCATED UINT32_C(26)           /* the bytes end inside the file */
+#define HUNK_BUDGET UINT32_C(27)              /* the hunks declare more bytes than the budget */
+#define HUNK_FILE_LIMIT UINT32_C(28)          /* no call of these answers it */
+#define HUNK_NO_BASE UINT32_C(29)             /* a hunk has no base */
+#define HUNK_READ UINT32_C(30)                /* no call of these answers it */
+#define HUNK_OUT_OF_MEMORY UINT32_C(31)       /* malloc or realloc gave none */
+#define HUNK_NO_ROOM UINT32_C(32)             /* the caller's array has too few elements */
+
+/* What a call answers: 24 bytes. */
+struct hunk_answer {
+    uint32_t number; /* HUNK_OK, the number of a reason, or HUNK_NO_ROOM */
+    uint32_t hunk;   /* the number of hunks; at HUNK_NO_BASE the hunk, counted from 0; else 0 */
+    uint64_t place;  /* bytes that were read; at a reason, the byte where it stands, from 0 on */
+    uint64_t count;  /* what the call counts (below): written, or needed at HUNK_NO_ROOM; else 0 */
+};
+
+/* A row of the table of a load file: 16 bytes. */
+struct hunk_row {
+    uint32_t word;   /* the size word, as it stands in the header */
+    uint32_t extra;  /* the memory attributes where memory is 3, else 0 */
+    uint32_t bytes;  /* the bytes of the hunk in memory: 4 times the low 30 bits of the size word */
+    uint32_t memory; /* bits 30 and 31 of the size word: 0 any, 1 chip, 2 fast, 3 by attributes */
+};
+
+/* Reads the header that the bytes begin with, and writes a row for each hunk.
+ *
+ *   bytes   the file, or its first bytes: nothing behind the header is read
+ *   budget  the bytes that the hunks may have in memory together
+ *   rows    where the rows go, 1 to 65,536 of them
+ *
+ * HUNK_OK       hunk: the hunks, as many as rows were written; place: the bytes of the header;
+ *               count: the bytes that the hunks have in memory together.
+ * HUNK_NO_ROOM  there are more hunks than rows. hunk: the rows that are needed; place and count as
+ *               at HUNK_OK. With rows_len 0 this asks for the size of a table.
+ * HUNK_TRUNCATED      the header goes on behind the bytes: it needs more of the file.
+ * HUNK_BUDGET         place: the size word with which the sum first passes the budget.
+ * HUNK_OUT_OF_MEMORY  place: the longword that completes the row which found no memory.
+ * Else the first fault of the header, HUNK_NOT_LOAD_FILE to HUNK_LAST_HUNK.
+ *
+ * Rows behind the table, and at any answer but HUNK_OK all rows, are as they were. It takes 12
+ * bytes for each hunk, rounded up as a list grows.
+ */
+struct hunk_answer hunk_table(const uint8_t *bytes, size_t bytes_len, uint64_t budget,
+                              struct hunk_row *rows, size_t rows_len);
+
+/* Loads the load file that the bytes begin with, each hunk for an address of its own.
+ *
+ *   bytes   the file, whole; other bytes may follow it
+ *   bases   the address of each hunk, in their order; more than there are hunks may be given
+ *   memory  where the hunks go, one right behind the other: the content of each, zero bytes up to
+ *           its declared size, and the bases added to its longs (modulo 2^32, high byte first)
+ *
+ * HUNK_OK       hunk: the hunks; place: the bytes of the file; count: the bytes that were written.
+ * HUNK_NO_ROOM  the memory is too small. hunk: the hunks; place: the bytes of the header; count:
+ *               the bytes that are needed.
+ * HUNK_NO_BASE  hunk: the first that has no base; place: the bytes of the header.
+ * HUNK_OUT_OF_MEMORY  place: the longword that completes the row which found no memory, or the
+ *                     bytes of the header where the hunks found none.
+ * Else the first fault of the bytes, HUNK_NOT_LOAD_FILE to HUNK_BAD_OFFSET or HUNK_TRUNCATED;
+ * place: the byte of the longword that is refused, or where the first longword is missing.
+ *
+ * HUNK_NO_ROOM and HUNK_NO_BASE come before the body is looked at. A file that fits, with a base
+ * for each hunk, is loaded, or the answer is HUNK_OUT_OF_MEMORY. Memory behind the hunks, and at
+ * any answer but HUNK_OK all memory, is as it was. It takes 12 bytes for each hunk, rounded up as a
+ * list grows, and then as many bytes as the hunks have, once.
+ */
+struct hunk_answer hunk_load(const uint8_t *bytes, size_t bytes_len, const uint32_t *bases,
+                             size_t bases_len, uint8_t *memory, size_t memory_len);
+
+/* The same for hunks one right behind the other from the address `base` on, as they lie in the
+ * memory: an emulator hands in its RAM from that address on.
+ *
+ * HUNK_NO_BASE where a hunk would pass the address 2^32, or begin there. All else is as hunk_load
+ * does it.
+ */
+struct hunk_answer hunk_load_packed(const uint8_t *bytes, size_t bytes_len, uint32_t base,
+                                    uint8_t *memory, size_t memory_len);
+
+/* Writes the name of an answer's number to the text, with no zero behind it.
+ *
+ * HUNK_OK       count: the bytes of the name, at most 17; none for 0 and above 32.
+ * HUNK_NO_ROOM  count: the bytes that are needed; the text is as it was.
+ *
+ * Text behind the name is as it was. It takes no memory.
+ */
+struct hunk_answer hunk_reason(uint32_t number, uint8_t *text, size_t text_len);
+
+#ifdef __cplusplus
+}
+#endif
+#endif

@@ -1,0 +1,94 @@
+/* Whether the header says what the library has: the layout of the structs, as the crate's own tests
+ * have their sizes, and the number of each reason with its name. Status 1 where it does not. */
+#include "hunk.h"
+#include <stdio.h>
+#include <string.h>
+
+#define CHECK(name, holds) typedef char check_##name[(holds) ? 1 : -1]
+CHECK(answer_size, sizeof(struct hunk_answer) == 24);
+CHECK(answer_hunk, offsetof(struct hunk_answer, hunk) == 4);
+CHECK(answer_place, offsetof(struct hunk_answer, place) == 8);
+CHECK(answer_count, offsetof(struct hunk_answer, count) == 16);
+CHECK(row_size, sizeof(struct hunk_row) == 16);
+CHECK(row_extra, offsetof(struct hunk_row, extra) == 4);
+CHECK(row_bytes, offsetof(struct hunk_row, bytes) == 8);
+CHECK(row_memory, offsetof(struct hunk_row, memory) == 12);
+
+/* In the order of their numbers. */
+static const struct {
+    uint32_t number;
+    const char *name;
+} reasons[] = {
+    {HUNK_OK, ""},
+    {HUNK_NOT_LOAD_FILE, "NotLoadFile"},
+    {HUNK_IS_OBJECT, "IsObject"},
+    {HUNK_LIBRARY, "Library"},
+    {HUNK_RESIDENT, "Resident"},
+    {HUNK_NO_HUNKS, "NoHunks"},
+    {HUNK_TOO_MANY_HUNKS, "TooManyHunks"},
+    {HUNK_FIRST_HUNK, "FirstHunk"},
+    {HUNK_LAST_HUNK, "LastHunk"},
+    {HUNK_BOTH_BITS, "BothBits"},
+    {HUNK_ADVISORY, "Advisory"},
+    {HUNK_OVERLAY, "Overlay"},
+    {HUNK_BREAK, "Break"},
+    {HUNK_SHORT_RELOC, "ShortReloc"},
+    {HUNK_NOT_IN_LOAD_FILE, "NotInLoadFile"},
+    {HUNK_MISPLACED, "Misplaced"},
+    {HUNK_UNKNOWN_BLOCK, "UnknownBlock"},
+    {HUNK_SECOND_CONTENT, "SecondContent"},
+    {HUNK_BEFORE_CONTENT, "BeforeContent"},
+    {HUNK_NO_CONTENT, "NoContent"},
+    {HUNK_CONTENT_TOO_LONG, "ContentTooLong"},
+    {HUNK_NAME_WORD, "NameWord"},
+    {HUNK_NOTHING_TO_RELOCATE, "NothingToRelocate"},
+    {HUNK_BAD_TARGET, "BadTarget"},
+    {HUNK_BAD_OFFSET, "BadOffset"},
+    {HUNK_EXT_KIND, "ExtKind"},
+    {HUNK_TRUNCATED, "Truncated"},
+    {HUNK_BUDGET, "Budget"},
+    {HUNK_FILE_LIMIT, "FileLimit"},
+    {HUNK_NO_BASE, "NoBase"},
+    {HUNK_READ, "Read"},
+    {HUNK_OUT_OF_MEMORY, "OutOfMemory"},
+    {HUNK_NO_ROOM, "NoRoom"},
+    {33, ""},
+    {UINT32_MAX, ""},
+};
+
+static int is_zero(struct hunk_answer a)
+{
+    return a.hunk == 0 && a.place == 0;
+}
+
+/* Whether a number has this name, in text that is long enough, and in text that lacks a byte. */
+static int is_named(uint32_t number, const char *name)
+{
+    uint8_t text[20];
+    size_t len = strlen(name);
+    memset(text, '#', sizeof text);
+    if (len > 0) {
+        struct hunk_answer small = hunk_reason(number, text, len - 1);
+        if (small.number != HUNK_NO_ROOM || small.count != len || !is_zero(small) || text[0] != '#')
+            return 0;
+    }
+    struct hunk_answer told = hunk_reason(number, text, len);
+    return told.number == HUNK_OK && told.count == len && is_zero(told) &&
+           memcmp(text, name, len) == 0 && text[len] == '#';
+}
+
+int main(void)
+{
+    int status = 0;
+    for (size_t i = 0; i < sizeof reasons / sizeof *reasons; i++) {
+        if (i <= HUNK_NO_ROOM && reasons[i].number != i) {
+            fprintf(stderr, "number %u is not in its place\n", (unsigned)reasons[i].number);
+            status = 1;
+        }
+        if (!is_named(reasons[i].number, reasons[i].name)) {
+            fprintf(stderr, "number %u: not %s\n", (unsigned)reasons[i].number, reasons[i].name);
+            status = 1;
+        }
+    }
+    return status;
+}
