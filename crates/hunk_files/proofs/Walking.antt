@@ -336,6 +336,17 @@ pub passed_over : (bytes : List ℕ) → IsBytes bytes → (at n : ℕ) (p : Pos
     Walks bytes (at + n) (pass_offsets p n) entry
 passed_over bytes fit at n p entry s passed = inl (offsets_over bytes fit n at p entry s passed.few passed.whole passed.inside)
 
+-- None are passed, or such a list.
+pub walk_over : (bytes : List ℕ) → IsBytes bytes → (at n : ℕ) (p : Position) (entry : Entry) → Walks bytes at p entry → (0 < n → ArePassed (longs bytes) at p entry.longs n) →
+    Walks bytes (at + n) (pass_offsets p n) entry
+walk_over bytes fit at zero p entry w passed = subst (λ (k : ℕ). Walks bytes k p entry) (sym (none at)) w
+  where
+    none : (n : ℕ) → n + 0 ≡ n
+    none n = omega arith
+walk_over bytes fit at (suc n) p entry w passed =
+    let here = passed (omega arith) in
+    passed_over bytes fit at (suc n) p entry (stands bytes at p entry w (omega (arith, here.whole))) here
+
 -- All longwords were read, and the file goes on.
 pub walk_truncated : (bytes : List ℕ) (at : ℕ) (position : Position) (entry : Entry) → Walks bytes at position entry → length (longs bytes) ≤ at → HasFault bytes (4 * length (longs bytes)) reasons.Truncated
 walk_truncated bytes at position entry (inl s) l =

@@ -178,7 +178,8 @@ impl OpenHunk {
         ensures some { 0 < result }
         ensures bound { result < 2 ^ 35 }
     {
-        let end = if self.has_content { 1 } else { 3 };
+        // An END is to come, and before it a block of content with its size.
+        let end = 3 - 2 * u64::from(self.has_content);
         let hunks = 3 * u64::from(self.ahead);
         match phase {
             Phase::FirstBlock | Phase::BlockWord => end + hunks,

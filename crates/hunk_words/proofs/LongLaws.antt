@@ -1,5 +1,5 @@
 -- Longwords, their bytes, and their places in a list of bytes.
-use Rattle.std.proofs.Common.{◌≡◌, ℕ, zero, suc, ◌+◌, ◌*◌, ◌/◌, ◌<◌, ◌≤◌, List, [], ◌∷◌, ◌++◌, length, get_or, refl, sym, ap, ap₂, ◌∙◌, append_assoc, arith}
+use Rattle.std.proofs.Common.{◌≡◌, ℕ, zero, suc, ◌+◌, ◌-◌, ◌*◌, ◌/◌, ◌<◌, ◌≤◌, List, [], ◌∷◌, ◌++◌, length, get_or, take, drop, slice_range, refl, sym, ap, ap₂, ◌∙◌, append_assoc, arith}
 use Rattle.std.specs.Int.{w32, from_be_bytes, to_be_bytes}
 use Rattle.std.proofs.lemmas.Nat.{be_bytes_4, from_be_bytes-to_be_bytes_4}
 use Rattle.hunk_words.specs.Longs.{longs, bytes_of, IsBytes, AreLongs}
@@ -94,6 +94,26 @@ longs_fit (a ∷ b ∷ c ∷ d ∷ rest) fit = (omega (arith, fit 0, fit 1, fit 
 
 -- ---- the longword at a place
 
+four-at : (bytes : List ℕ) (i : ℕ) → 4 * i + 4 ≤ length bytes → from_be_bytes w32 (take 4 (drop (4 * i) bytes)) ≡ get_or (longs bytes) i 0
+four-at [] i within = absurd (omega (arith, within))
+four-at (a ∷ []) i within = absurd (omega (arith, within))
+four-at (a ∷ b ∷ []) i within = absurd (omega (arith, within))
+four-at (a ∷ b ∷ c ∷ []) i within = absurd (omega (arith, within))
+four-at (a ∷ b ∷ c ∷ d ∷ rest) zero within = refl
+four-at (a ∷ b ∷ c ∷ d ∷ rest) (suc i) within =
+    ap (λ (n : ℕ). from_be_bytes w32 (take 4 (drop n (a ∷ b ∷ c ∷ d ∷ rest)))) (behind i) ∙ four-at rest i (omega (arith, within))
+  where
+    behind : (i : ℕ) → 4 * suc i ≡ suc (suc (suc (suc (4 * i))))
+    behind i = omega arith
+
+pub word_is : (bytes : List ℕ) (i : ℕ) → 4 * i + 4 ≤ length bytes → from_be_bytes w32 (slice_range bytes (4 * i) (4 * i + 4)) ≡ get_or (longs bytes) i 0
+word_is bytes i within = ap (λ (n : ℕ). from_be_bytes w32 (take n (drop (4 * i) bytes))) (long-size (4 * i)) ∙ four-at bytes i within
+  where
+    long-size : (n : ℕ) → n + 4 - n ≡ 4
+    long-size n = omega arith
+
+-- ---- the same, byte by byte
+
 abbrev pub cells : List ℕ → ℕ → List ℕ
 cells bytes i = get_or bytes i 0 ∷ get_or bytes (i + 1) 0 ∷ get_or bytes (i + 2) 0 ∷ get_or bytes (i + 3) 0 ∷ []
 
@@ -104,11 +124,11 @@ cells-after a b c d rest i j e =
     at : (n m : ℕ) → m ≡ suc (suc (suc (suc n))) → get_or (a ∷ b ∷ c ∷ d ∷ rest) m 0 ≡ get_or rest n 0
     at n m e = ap (λ (k : ℕ). get_or (a ∷ b ∷ c ∷ d ∷ rest) k 0) e
 
-pub word_is : (bytes : List ℕ) (i : ℕ) → 4 * i + 4 ≤ length bytes → from_be_bytes w32 (cells bytes (4 * i)) ≡ get_or (longs bytes) i 0
-word_is [] i within = absurd (omega (arith, within))
-word_is (a ∷ []) i within = absurd (omega (arith, within))
-word_is (a ∷ b ∷ []) i within = absurd (omega (arith, within))
-word_is (a ∷ b ∷ c ∷ []) i within = absurd (omega (arith, within))
-word_is (a ∷ b ∷ c ∷ d ∷ rest) zero within = refl
-word_is (a ∷ b ∷ c ∷ d ∷ rest) (suc i) within =
-    ap (from_be_bytes w32) (cells-after a b c d rest (4 * i) (4 * suc i) (omega arith)) ∙ word_is rest i (omega (arith, within))
+pub word_of_bytes : (bytes : List ℕ) (i : ℕ) → 4 * i + 4 ≤ length bytes → from_be_bytes w32 (cells bytes (4 * i)) ≡ get_or (longs bytes) i 0
+word_of_bytes [] i within = absurd (omega (arith, within))
+word_of_bytes (a ∷ []) i within = absurd (omega (arith, within))
+word_of_bytes (a ∷ b ∷ []) i within = absurd (omega (arith, within))
+word_of_bytes (a ∷ b ∷ c ∷ []) i within = absurd (omega (arith, within))
+word_of_bytes (a ∷ b ∷ c ∷ d ∷ rest) zero within = refl
+word_of_bytes (a ∷ b ∷ c ∷ d ∷ rest) (suc i) within =
+    ap (from_be_bytes w32) (cells-after a b c d rest (4 * i) (4 * suc i) (omega arith)) ∙ word_of_bytes rest i (omega (arith, within))

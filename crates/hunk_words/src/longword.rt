@@ -10,10 +10,7 @@ pub fn word_at(bytes: &[u8], i: usize) -> u32
     ensures { result ≡ slice_index (longs bytes.now) i }
 {
     let start = 4 * i;
-    u32::from_be_bytes([
-        bytes[start],
-        bytes[start + 1],
-        bytes[start + 2],
-        bytes[start + 3],
-    ])
+    let mut long = [0; 4];
+    long.copy_from_slice(&bytes[start..start + 4]);
+    u32::from_be_bytes(long)
 }

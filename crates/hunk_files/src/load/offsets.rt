@@ -1,16 +1,40 @@
 //! The offsets of a list that are passed over at once.
-ghost use Rattle.std.specs.Prelude.{◌<◌, ◌≤◌, ◌-◌, ◌*◌, ℕ, length, slice_index};
+ghost use Rattle.std.specs.Prelude.{◌≡◌, ◌<◌, ◌≤◌, ◌+◌, ◌-◌, ◌*◌, ℕ, length, slice_index};
 ghost use Rattle.hunk_words.specs.Longs.{longs};
-ghost use Rattle.hunk_scan.specs.Positions.{EndsWithin};
+ghost use Rattle.hunk_scan.specs.Positions.{pass_offsets, EndsWithin};
 ghost use Rattle.hunk_files.specs.Passing.{ArePassed};
 
 use hunk_scan::{Position, is_outside};
 use hunk_words::word_at;
 
+/// From so many offsets on a list is passed at once: shorter ones cost less one by one.
+const MANY: u64 = 8;
+
+/// The longword behind the offsets of a long list that stand at `at` and are not refused in a hunk of so
+/// many declared longs, and the position there. Where no long list stands there, nothing is passed.
+#[inline(always)]
+pub(super) fn pass_list(
+    bytes: &[u8],
+    at: usize,
+    position: Position,
+    declared: u32,
+) -> (usize, Position)
+    ensures from { at ≤ result.0 }
+    ensures passed { at < result.0
+        → ArePassed (longs bytes.now) at position declared (result.0 - at) }
+    ensures behind { result.1 ≡ pass_offsets position (result.0 - at) }
+{
+    if position.offsets() < MANY || at >= bytes.len() / 4 {
+        return (at, position);
+    }
+    let end = behind_offsets(bytes, at, position, declared);
+    (end, position.pass_offsets((end - at) as u64))
+}
+
 /// The longword behind the offsets of a list from `at` on that lie in the bytes and are not refused
 /// in a hunk of so many declared longs.
 #[inline(always)]
-pub(super) fn behind_offsets(bytes: &[u8], at: usize, position: Position, declared: u32) -> usize
+fn behind_offsets(bytes: &[u8], at: usize, position: Position, declared: u32) -> usize
     requires { 4 * at ≤ length bytes.now }
     ensures from { at ≤ result }
     ensures passed { ArePassed (longs bytes.now) at position declared (result - at) }
@@ -55,7 +79,24 @@ fn largest(bytes: &[u8], first: usize, end: usize) -> u32
 {
     let mut largest = 0;
     'longwords: for i in first..end {
-        largest = largest.max(word_at(bytes, i));
+        largest = largest.max(join_bytes(bytes, i));
     }
     largest
+}
+
+/// The longword number `i`, put together from its bytes: where it is read so, and not by `word_at`, the
+/// compiler makes the loop four longwords wide.
+#[tactic(auto, using(hunk_words::proofs::LongLaws::word_of_bytes))]
+#[inline(always)]
+fn join_bytes(bytes: &[u8], i: usize) -> u32
+    requires { 4 * i + 4 ≤ length bytes.now }
+    ensures { result ≡ slice_index (longs bytes.now) i }
+{
+    let start = 4 * i;
+    u32::from_be_bytes([
+        bytes[start],
+        bytes[start + 1],
+        bytes[start + 2],
+        bytes[start + 3],
+    ])
 }

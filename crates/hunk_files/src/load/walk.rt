@@ -1,16 +1,15 @@
 //! The walk over the longwords of a load file, from the first on: its end, or the first fault.
-ghost use Rattle.std.specs.Prelude.{◌≡◌, ◌<◌, ◌≤◌, ◌+◌, ◌*◌, ◌^◌, length, slice_index, true, MatchResult};
+ghost use Rattle.std.specs.Prelude.{◌≡◌, ◌<◌, ◌≤◌, ◌+◌, ◌*◌, ◌^◌, length, slice_index, true, Some, None, IfOk, IfErr, OnOk, MatchResult};
 ghost use Rattle.hunk_words.specs.Longs.{longs};
 ghost use Rattle.hunk_files.specs.Fault.{HasFault, HasLoadText};
 ghost use Rattle.hunk_files.specs.Entries.{entry_behind, entry_at};
-ghost use Rattle.hunk_scan.specs.Positions.{is_between_hunks};
+ghost use Rattle.hunk_scan.specs.Positions.{is_between_hunks, role_at, step};
+ghost use Rattle.hunk_scan.specs.Roles.{refuse};
+ghost use Rattle.hunk_scan.specs.declared.position.Position.TheVariants as positions;
 
-use crate::load::offsets::behind_offsets;
-use hunk_scan::Position;
-use hunk_words::{FileFault, Reason, SizeWord, word_at};
-
-/// From so many offsets on a list is passed at once: shorter ones cost less one by one.
-const MANY: u64 = 8;
+use crate::load::offsets::pass_list;
+use hunk_scan::{OpenHunk, Phase, Position};
+use hunk_words::{BlockWord, FileFault, Kind, Reason, SizeWord, word_at};
 
 /// What the table declares of the open hunk, 0 longwords before the first.
 #[derive(Clone, Copy)]
@@ -23,7 +22,7 @@ pub(crate) struct Entry {
 /// The number of bytes of the load file that the bytes begin with, or their first fault.
 ///
 /// It takes no memory. Payloads and names are passed over at once, as no test looks at their
-/// longwords.
+/// longwords, and so are long lists of offsets, whose largest is looked at.
 pub(crate) fn walk(bytes: &[u8]) -> Result<usize, FileFault>
     ensures { MatchResult result (λ size. HasLoadText bytes.now size)
         (λ fault. HasFault bytes.now fault.place fault.reason) }
@@ -33,34 +32,105 @@ pub(crate) fn walk(bytes: &[u8]) -> Result<usize, FileFault>
     let mut entry = Entry { longs: 0, next: 5 };
     let mut at = 0;
     'walking: while at < count {
-        if position.offsets() >= MANY {
-            let behind = behind_offsets(bytes, at, position, entry.longs);
-            if behind > at {
-                position = position.pass_offsets((behind - at) as u64);
-                at = behind;
-                continue;
-            }
-        }
         let word = word_at(bytes, at);
-        if let Some(reason) = position.refuse(entry.longs, word) {
-            return Err(FileFault {
-                place: 4 * at as u64,
-                reason,
-            });
-        }
-        let behind = position.step(word);
+        let behind = match step_from(position, entry.longs, word) {
+            Ok(behind) => behind,
+            Err(reason) => {
+                return Err(FileFault {
+                    place: 4 * at as u64,
+                    reason,
+                });
+            }
+        };
         if let Position::Done = behind {
             return Ok(4 * (at + 1));
         }
         entry = open_entry(bytes, behind, entry);
         let run = behind.run();
-        position = behind.pass(run);
-        at += 1 + run as usize;
+        (at, position) = pass_list(bytes, at + 1 + run as usize, behind.pass(run), entry.longs);
     }
     Err(FileFault {
         place: 4 * count as u64,
         reason: Reason::Truncated,
     })
+}
+
+/// The position behind the longword, or why the longword is refused.
+#[inline(always)]
+fn step_at(position: Position, longs: u32, word: u32) -> Result<Position, Reason>
+    ensures steps { IfOk result (λ behind. behind ≡ step position word) }
+    ensures passes { OnOk result (refuse (role_at longs position) word ≡ None) }
+    ensures refusal { IfErr result (λ reason. refuse (role_at longs position) word ≡ Some reason) }
+{
+    if let Some(reason) = position.refuse(longs, word) {
+        return Err(reason);
+    }
+    Ok(position.step(word))
+}
+
+/// Steps from a block word. Each kind that a load file has is named here, so that whether it is refused
+/// and what follows it is compiled for that kind alone.
+#[inline(always)]
+fn step_block_word(
+    hunk: OpenHunk,
+    phase: Phase,
+    longs: u32,
+    word: u32,
+) -> Result<Position, Reason>
+    ensures steps { IfOk result (λ behind. behind ≡ step (positions.Body hunk phase) word) }
+    ensures passes { OnOk result (refuse (role_at longs (positions.Body hunk phase)) word ≡ None) }
+    ensures refusal { IfErr result
+        (λ reason. refuse (role_at longs (positions.Body hunk phase)) word ≡ Some reason) }
+{
+    let position = Position::Body(hunk, phase);
+    macro_rules! one {
+        () => {
+            step_at(position, longs, word)
+        };
+    }
+    match BlockWord::of(word).kind() {
+        Kind::Name => one!(),
+        Kind::Code => one!(),
+        Kind::Data => one!(),
+        Kind::Bss => one!(),
+        Kind::Reloc32 => one!(),
+        Kind::Symbol => one!(),
+        Kind::Debug => one!(),
+        Kind::End => one!(),
+        _ => one!(),
+    }
+}
+
+/// Steps from the position. The phases are told apart here, once for all that is asked of them.
+#[inline(always)]
+fn step_from(position: Position, longs: u32, word: u32) -> Result<Position, Reason>
+    ensures steps { IfOk result (λ behind. behind ≡ step position word) }
+    ensures passes { OnOk result (refuse (role_at longs position) word ≡ None) }
+    ensures refusal { IfErr result (λ reason. refuse (role_at longs position) word ≡ Some reason) }
+{
+    let Position::Body(hunk, phase) = position else {
+        return step_at(position, longs, word);
+    };
+    macro_rules! at {
+        ($phase:expr) => {
+            step_at(Position::Body(hunk, $phase), longs, word)
+        };
+    }
+    match phase {
+        Phase::FirstBlock | Phase::BlockWord => step_block_word(hunk, phase, longs, word),
+        Phase::NameCount => at!(Phase::NameCount),
+        Phase::LongCount => at!(Phase::LongCount),
+        Phase::ContentSize => at!(Phase::ContentSize),
+        Phase::BssSize => at!(Phase::BssSize),
+        // The walk passes over runs, and stands within none.
+        Phase::Content { .. } | Phase::Payload { .. } | Phase::Symbol { .. } => {
+            step_at(position, longs, word)
+        }
+        Phase::GroupCount => at!(Phase::GroupCount),
+        Phase::Target { owed } => at!(Phase::Target { owed }),
+        Phase::Offset { target, owed } => at!(Phase::Offset { target, owed }),
+        Phase::EntryWord => at!(Phase::EntryWord),
+    }
 }
 
 /// The entry of the hunk that is open at the position: where it opens, the next of the table.

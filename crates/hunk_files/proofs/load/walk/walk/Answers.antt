@@ -1,5 +1,6 @@
-use Rattle.std.proofs.Common.{◌≡◌, ℕ, ◌+◌, ◌-◌, ◌*◌, ◌<◌, length, arith, sym, ap, ◌∙◌, subst}
+use Rattle.std.proofs.Common.{◌≡◌, ℕ, ◌+◌, ◌-◌, ◌*◌, ◌<◌, length, arith, sym, ap, ◌∙◌, subst, Some, None, IfOk, IfErr, OnOk}
 use Rattle.hunk_words.specs.Longs.{longs, IsBytes}
+use Rattle.hunk_words.specs.declared.reason.Reason.{Reason}
 use Rattle.hunk_words.specs.declared.reason.Reason.TheVariants as reasons
 use Rattle.hunk_words.proofs.LongLaws.{length-longs}
 use Rattle.hunk_scan.specs.Roles.{refuse}
@@ -9,20 +10,21 @@ use Rattle.hunk_scan.specs.declared.position.Position.{Position}
 use Rattle.hunk_files.specs.Entries.{entry_at}
 use Rattle.hunk_files.specs.Fault.{HasFault}
 use Rattle.hunk_files.specs.declared.load.walk.Entry.{Entry}
-use Rattle.hunk_files.proofs.Walking.{Walks, start_walk, stands, walk_refused, walk_ends, entry_fits, walk_passes, passed_over, walk_truncated}
+use Rattle.hunk_files.proofs.Walking.{Walks, start_walk, stands, walk_refused, walk_ends, entry_fits, walk_passes, walk_over, walk_truncated}
 use Rattle.hunk_files.proofs.load.walk.walk.Goals as goal
 
 pub walking-init : goal.walking-init
 walking-init c = start_walk c.args.bytes.now
 
-pub returns-in-Some : goal.returns-in-Some
-returns-in-Some c =
+pub returns-in-Err : goal.returns-in-Err
+returns-in-Err c =
     let bytes = c.args.bytes.now in
     let w = c.walking in
     let fit : IsBytes bytes = λ i. omega (arith, c.type_inv.bytes i) in
     let l : w.at < length (longs bytes) = omega (arith, length-longs bytes) in
-    walk_refused bytes fit w.at w.position w.entry (stands bytes w.at w.position w.entry w.invariant l) l c.in-Some.reason
-    (sym c.in-Some.is ∙ c.refuse.ensures ∙ ap (λ (x : ℕ). refuse (role_at w.entry.longs w.position) x) c.word_at-word.ensures)
+    walk_refused bytes fit w.at w.position w.entry (stands bytes w.at w.position w.entry w.invariant l) l c.in-Err.reason
+    (sym (subst (λ r. IfErr r (λ (reason : Reason). refuse (role_at w.entry.longs w.position) c.word_at-word.result ≡ Some reason)) c.in-Err.is c.step_from.ensures.refusal)
+    ∙ ap (λ (x : ℕ). refuse (role_at w.entry.longs w.position) x) c.word_at-word.ensures)
 
 pub returns-in-Done : goal.returns-in-Done
 returns-in-Done c =
@@ -30,10 +32,11 @@ returns-in-Done c =
     let w = c.walking in
     let fit : IsBytes bytes = λ i. omega (arith, c.type_inv.bytes i) in
     let l : w.at < length (longs bytes) = omega (arith, length-longs bytes) in
-    let pass = sym c.in_default.is in
+    let pass = c.in-Ok.ensures.passes in
+    let there = c.in-Ok.ensures.steps in
     walk_ends bytes fit w.at w.position w.entry (stands bytes w.at w.position w.entry w.invariant l) l
-    (pass ∙ c.refuse.ensures ∙ ap (λ (x : ℕ). refuse (role_at w.entry.longs w.position) x) c.word_at-word.ensures)
-    (sym c.in-Done.is ∙ c.step-behind.ensures ∙ ap (λ (x : ℕ). scan.step w.position x) c.word_at-word.ensures)
+    (sym pass ∙ ap (λ (x : ℕ). refuse (role_at w.entry.longs w.position) x) c.word_at-word.ensures)
+    (sym c.in-Done.is ∙ there ∙ ap (λ (x : ℕ). scan.step w.position x) c.word_at-word.ensures)
 
 pub open_entry-entry-requires : goal.open_entry-entry-requires
 open_entry-entry-requires c between =
@@ -41,11 +44,12 @@ open_entry-entry-requires c between =
     let w = c.walking in
     let fit : IsBytes bytes = λ i. omega (arith, c.type_inv.bytes i) in
     let l : w.at < length (longs bytes) = omega (arith, length-longs bytes) in
-    let pass = sym c.in_default.is in
-    let behind = c.step-behind.ensures ∙ ap (λ (x : ℕ). scan.step w.position x) c.word_at-word.ensures in
+    let pass = c.in-Ok.ensures.passes in
+    let there = c.in-Ok.ensures.steps in
+    let behind = there ∙ ap (λ (x : ℕ). scan.step w.position x) c.word_at-word.ensures in
     entry_fits bytes fit w.at w.position w.entry (stands bytes w.at w.position w.entry w.invariant l) l
-    (pass ∙ c.refuse.ensures ∙ ap (λ (x : ℕ). refuse (role_at w.entry.longs w.position) x) c.word_at-word.ensures)
-    (λ d. c.in_default-behind.not-Done (behind ∙ d))
+    (sym pass ∙ ap (λ (x : ℕ). refuse (role_at w.entry.longs w.position) x) c.word_at-word.ensures)
+    (λ d. c.in_default.not-Done (behind ∙ d))
     (ap is_between_hunks (sym behind) ∙ between)
 
 pub walking-preserved : goal.walking-preserved
@@ -54,29 +58,27 @@ walking-preserved c =
     let w = c.walking in
     let fit : IsBytes bytes = λ i. omega (arith, c.type_inv.bytes i) in
     let l : w.at < length (longs bytes) = omega (arith, length-longs bytes) in
-    let pass = sym c.in_default.is in
-    let behind = c.step-behind.ensures ∙ ap (λ (x : ℕ). scan.step w.position x) c.word_at-word.ensures in
+    let pass = c.in-Ok.ensures.passes in
+    let there = c.in-Ok.ensures.steps in
+    let behind = there ∙ ap (λ (x : ℕ). scan.step w.position x) c.word_at-word.ensures in
     let on = walk_passes bytes fit w.at w.position w.entry (stands bytes w.at w.position w.entry w.invariant l) l
-    (pass ∙ c.refuse.ensures ∙ ap (λ (x : ℕ). refuse (role_at w.entry.longs w.position) x) c.word_at-word.ensures)
-    (λ d. c.in_default-behind.not-Done (behind ∙ d)) in
+    (sym pass ∙ ap (λ (x : ℕ). refuse (role_at w.entry.longs w.position) x) c.word_at-word.ensures)
+    (λ d. c.in_default.not-Done (behind ∙ d)) in
     let P : Position → Type 0 = λ p. Walks bytes (w.at + (1 + run p)) (scan.pass p (run p)) (entry_at (longs bytes) p w.entry) in
-    let Q : ℕ → Type 0 = λ n. Walks bytes (w.at + (1 + n)) (scan.pass c.step-behind.result n) (entry_at (longs bytes) c.step-behind.result w.entry) in
+    let Q : ℕ → Type 0 = λ n. Walks bytes (w.at + (1 + n)) (scan.pass c.in-Ok.behind n) (entry_at (longs bytes) c.in-Ok.behind w.entry) in
     let R : Position → Entry → Type 0 = λ p e. Walks bytes (w.at + (1 + c.run-run.result)) p e in
     let here = subst Q (sym c.run-run.ensures.value) (subst P (sym behind) on) in
-    subst (λ (e : Entry). R c.pass-position.result e) (sym c.open_entry-entry.ensures)
-    (subst (λ (p : Position). R p (entry_at (longs bytes) c.step-behind.result w.entry)) (sym c.pass-position.ensures) here)
-
-pub walking-preserved-then-behind-at : goal.walking-preserved-then-behind-at
-walking-preserved-then-behind-at c =
-    let bytes = c.args.bytes.now in
-    let w = c.walking in
-    let fit : IsBytes bytes = λ i. omega (arith, c.type_inv.bytes i) in
-    let l : w.at < length (longs bytes) = omega (arith, length-longs bytes) in
-    let n = c.behind_offsets-behind.result - w.at in
-    let place : w.at + n ≡ c.behind_offsets-behind.result = omega (arith, c.behind_offsets-behind.ensures.from) in
-    let here = passed_over bytes fit w.at n w.position w.entry (stands bytes w.at w.position w.entry w.invariant l) c.behind_offsets-behind.ensures.passed in
-    subst (λ (k : ℕ). Walks bytes k c.pass_offsets-position.result w.entry) place
-    (subst (λ (p : Position). Walks bytes (w.at + n) p w.entry) (sym c.pass_offsets-position.ensures) here)
+    let walked = subst (λ (e : Entry). R c.pass.result e) (sym c.open_entry-entry.ensures)
+    (subst (λ (p : Position). R p (entry_at (longs bytes) c.in-Ok.behind w.entry)) (sym c.pass.ensures) here) in
+    let entry = c.open_entry-entry.result in
+    let from = w.at + 1 + c.run-run.result in
+    let n = c.pass_list.result.0 - from in
+    let place : from + n ≡ c.pass_list.result.0 = omega (arith, c.pass_list.ensures.from) in
+    let behind-run : w.at + (1 + c.run-run.result) ≡ from = omega arith in
+    let over = walk_over bytes fit from n c.pass.result entry (subst (λ (k : ℕ). Walks bytes k c.pass.result entry) behind-run walked)
+    (λ some. c.pass_list.ensures.passed (omega (arith, some))) in
+    subst (λ (k : ℕ). Walks bytes k c.pass_list.result.1 entry) place
+    (subst (λ (p : Position). Walks bytes (from + n) p entry) (sym c.pass_list.ensures.behind) over)
 
 pub returns : goal.returns
 returns c =
