@@ -37,9 +37,10 @@ same_answer number h k p q m n e f g =
 whole-take : (n m : ℕ) → (n < m → ⊥) → m ≤ n
 whole-take n m h = omega (arith, h)
 
--- Where no byte is left over, all were taken.
-pub all_taken : (front bytes all : List ℕ) (n : ℕ) → (n < length bytes → ⊥) → all ≡ front ++ take n bytes → all ≡ front ++ bytes
-all_taken front bytes all n whole e = e ∙ ap (λ (xs : List ℕ). front ++ xs) (take_all n bytes (whole-take n (length bytes) whole))
+-- Where more is wanted, all of the bytes were taken.
+pub all_taken : (front bytes all : List ℕ) (n want : ℕ) (Whole : Type 0) → (n < length bytes → Whole) → (Whole → want ≡ 0) → 0 < want → all ≡ front ++ take n bytes → all ≡ front ++ bytes
+all_taken front bytes all n want Whole left over some e =
+    e ∙ ap (λ (xs : List ℕ). front ++ xs) (take_all n bytes (whole-take n (length bytes) (λ less. omega (arith, over (left less), some))))
 
 -- the header's bytes are those before its body
 pub header_size : (bytes body : List ℕ) (t : List TableEntry) → bytes ≡ header_bytes t ++ body → length bytes - length body ≡ length (header_bytes t)

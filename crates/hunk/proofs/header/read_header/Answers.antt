@@ -20,25 +20,19 @@ pub returns-then-want-gt0-clause-refusal : goal.returns-then-want-gt0-clause-ref
 returns-then-want-gt0-clause-refusal c =
     let fed = c.feed.new.self.fed in
     let bytes = c.args.bytes.now in
-    let reading = c.in-Ok.ensures.reading.1 in
+    let over = c.want.ensures.over c.in-Ok.ensures.reading.1 in
     let same : fed ≡ bytes =
-    all_taken c.new-loader.result.fed bytes fed c.in-Ok.taken
-    (λ less. omega (arith, c.want.ensures.over reading (c.in-Ok.ensures.all less), c.if-want-gt0.true)) c.in-Ok.ensures.taken.1
+    all_taken c.new-loader.result.fed bytes fed c.in-Ok.taken c.want.result _ c.in-Ok.ensures.all over c.if-want-gt0.true c.in-Ok.ensures.taken.1
     ∙ ap (λ (xs : List ℕ). xs ++ bytes) c.new-loader.ensures.fed in
-    let cut : IsTruncated bytes (4 * (length bytes / 4)) = subst (λ (xs : List ℕ). IsTruncated xs (4 * (length xs / 4))) same (c.want.ensures.truncated reading) in
+    let cut : IsTruncated bytes (4 * (length bytes / 4)) = subst (λ (xs : List ℕ). IsTruncated xs (4 * (length xs / 4))) same (c.want.ensures.truncated c.in-Ok.ensures.reading.1) in
     subst (λ (f : Fault). IsHeaderRefusal c.args.budget bytes f) (sym c.truncated.ensures) (inr (refl, cut))
 
 -- Of all the bytes no header is in front of more, so they would be one, and nothing would be wanted.
 pub returns-then-want-gt0-clause-whole : goal.returns-then-want-gt0-clause-whole
 returns-then-want-gt0-clause-whole c = λ t h.
-    let fed = c.feed.new.self.fed in
-    let bytes = c.args.bytes.now in
-    let reading = c.in-Ok.ensures.reading.1 in
-    let same : fed ≡ bytes =
-    all_taken c.new-loader.result.fed bytes fed c.in-Ok.taken
-    (λ less. omega (arith, c.want.ensures.over reading (c.in-Ok.ensures.all less), c.if-want-gt0.true)) c.in-Ok.ensures.taken.1
-    ∙ ap (λ (xs : List ℕ). xs ++ bytes) c.new-loader.ensures.fed in
-    let split : fed ≡ header_bytes t ++ h.rest = same ∙ h.split in
+    let over = c.want.ensures.over c.in-Ok.ensures.reading.1 in
+    let taken = all_taken c.new-loader.result.fed c.args.bytes.now c.feed.new.self.fed c.in-Ok.taken c.want.result _ c.in-Ok.ensures.all over c.if-want-gt0.true c.in-Ok.ensures.taken.1 in
+    let split : c.feed.new.self.fed ≡ header_bytes t ++ h.rest = taken ∙ ap (λ (xs : List ℕ). xs ++ c.args.bytes.now) c.new-loader.ensures.fed ∙ h.split in
     let none = c.in-Ok.ensures.within t h.rest h.is_table split in
-    let whole : fed ≡ header_bytes t = split ∙ ap (λ (xs : List ℕ). header_bytes t ++ xs) none ∙ append-nil (header_bytes t) in
-    absurd (omega (arith, c.want.ensures.over reading (t, h.is_table, whole), c.if-want-gt0.true))
+    let whole : c.feed.new.self.fed ≡ header_bytes t = split ∙ ap (λ (xs : List ℕ). header_bytes t ++ xs) none ∙ append-nil (header_bytes t) in
+    absurd (omega (arith, over (t, h.is_table, whole), c.if-want-gt0.true))
