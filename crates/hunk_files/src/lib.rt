@@ -2,6 +2,7 @@
 #![tactic(auto)]
 
 pub mod laws;
+mod append;
 mod load;
 mod object;
 mod order;

@@ -5,6 +5,7 @@ ghost use Rattle.hunk_files.specs.Fault.{BeginsWithLoadFile, HasLongAt};
 ghost use Rattle.hunk_files.specs.Hunks.{AreBlocksAt, HasNoHunk};
 ghost use Rattle.hunk_files.specs.Tables.{hunk_of, IsTable};
 
+use crate::append::append;
 use crate::order::is_end;
 use crate::place::{counted_from, out_of_memory};
 use crate::row::Row;
@@ -41,7 +42,7 @@ pub(crate) fn read_hunk<'a>(
         };
         at += size;
         let hunk_ends = is_end(&block);
-        if blocks.push(block).is_err() {
+        if append(&mut blocks, block).is_err() {
             return Err(out_of_memory(at));
         }
         if hunk_ends {

@@ -16,6 +16,7 @@ ghost use Rattle.hunk_files.specs.ObjectFile.{IsNoObjectFile, is_object_refusal,
 ghost use Rattle.hunk_files.specs.ObjectFault.{WordPlace, BetweenHunks, MayBegin, MayGoOn, blocks_from, units_from, unread};
 ghost use Rattle.hunk_files.specs.ObjectParts.{BeginsWithText, EndsUnit, MayStand};
 
+use crate::append::append;
 use crate::object::refusal::{UNIT, refuse_unit_word, truncated};
 use crate::object::unit::{Hunk, Unit};
 use crate::order::is_end;
@@ -114,7 +115,7 @@ pub(super) fn read_hunk<'a>(
         at += size;
         has_content |= is_content(&block);
         let hunk_ends = is_end(&block);
-        if blocks.push(block).is_err() {
+        if append(&mut blocks, block).is_err() {
             return Err(out_of_memory(at));
         }
         if hunk_ends {
@@ -172,7 +173,7 @@ pub(super) fn read_unit<'a>(alloc: Global, bytes: &'a [u8]) -> Result<(Unit<'a>,
             Err(fault) => return Err(counted_from(at, fault)),
         };
         at += size;
-        if hunks.push(Hunk { blocks }).is_err() {
+        if append(&mut hunks, Hunk { blocks }).is_err() {
             return Err(out_of_memory(at));
         }
     }
