@@ -2,7 +2,6 @@
 #![tactic(auto)]
 
 pub mod laws;
-mod append;
 mod load;
 mod object;
 mod order;

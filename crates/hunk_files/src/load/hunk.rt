@@ -5,11 +5,10 @@ ghost use Rattle.hunk_files.specs.Fault.{BeginsWithLoadFile, HasLongAt};
 ghost use Rattle.hunk_files.specs.Hunks.{AreBlocksAt, HasNoHunk};
 ghost use Rattle.hunk_files.specs.Tables.{hunk_of, IsTable};
 
-use crate::append::append;
 use crate::order::is_end;
 use crate::place::{counted_from, out_of_memory};
 use crate::row::Row;
-use hunk_blocks::{Block, Mode};
+use hunk_blocks::{Block, Mode, append};
 use hunk_words::FileFault;
 use std::alloc::Global;
 

@@ -16,12 +16,11 @@ ghost use Rattle.hunk_files.specs.ObjectFile.{IsNoObjectFile, is_object_refusal,
 ghost use Rattle.hunk_files.specs.ObjectFault.{WordPlace, BetweenHunks, MayBegin, MayGoOn, blocks_from, units_from, unread};
 ghost use Rattle.hunk_files.specs.ObjectParts.{BeginsWithText, EndsUnit, MayStand};
 
-use crate::append::append;
 use crate::object::refusal::{UNIT, refuse_unit_word, truncated};
 use crate::object::unit::{Hunk, Unit};
 use crate::order::is_end;
 use crate::place::{counted_from, out_of_memory};
-use hunk_blocks::{Block, Body, Mode, Payload};
+use hunk_blocks::{Block, Body, Mode, Payload, append};
 use hunk_scan::refuse_place;
 use hunk_words::{BlockWord, FileFault, NAME_LIMIT, Reason, SizeWord, word_at};
 use std::alloc::Global;

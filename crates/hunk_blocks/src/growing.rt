@@ -10,7 +10,7 @@ const FIRST_ROOM: usize = 4;
 ///
 /// An `Err` drops the item, and leaves the list as it was.
 #[inline(always)]
-pub(crate) fn append<T: Drop>(list: &mut Vec<T>, item: T) -> Result<(), AllocError>
+pub fn append<T: Drop>(list: &mut Vec<T>, item: T) -> Result<(), AllocError>
     ensures { list.new.items ≡ (if is_ok result then list.old.items ++ item ∷ [] else list.old.items) }
 {
     if list.is_empty() && list.capacity() == 0 {
