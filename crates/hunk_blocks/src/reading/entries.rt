@@ -12,6 +12,7 @@ ghost use Rattle.hunk_blocks.specs.Views.{entry_of};
 
 use crate::entries::{Entries, Entry};
 use crate::ext_shape::{ExtShape, shape_of};
+use crate::growing::append;
 use crate::longs::Longs;
 use crate::reading::long_reader::LongReader;
 use crate::reading::payloads::{read_counted, read_entry_name};
@@ -127,7 +128,7 @@ pub(crate) fn read_entries<'a>(
 {
     let mut entries = Vec::new(alloc);
     'entries: while let Some(entry) = next_entry(reader)? {
-        if entries.push(entry).is_err() {
+        if append(&mut entries, entry).is_err() {
             return Err(reader.out_of_memory());
         }
     }

@@ -10,6 +10,7 @@ ghost use Rattle.hunk_blocks.specs.Reading.{BeginsWithNo, BeginsWithNoItem, IsFr
 ghost use Rattle.hunk_blocks.specs.Views.{group_of};
 
 use crate::groups::{Group, Groups};
+use crate::growing::append;
 use crate::longs::Longs;
 use crate::reading::long_reader::LongReader;
 use hunk_words::BlockFault;
@@ -48,7 +49,7 @@ pub(crate) fn read_groups<'a>(
 {
     let mut groups = Vec::new(alloc);
     'groups: while let Some(group) = next_group(reader)? {
-        if groups.push(group).is_err() {
+        if append(&mut groups, group).is_err() {
             return Err(reader.out_of_memory());
         }
     }

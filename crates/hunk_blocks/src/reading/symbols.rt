@@ -9,6 +9,7 @@ ghost use Rattle.hunk_blocks.specs.Faults.{FaultAhead, symbols};
 ghost use Rattle.hunk_blocks.specs.Reading.{BeginsWithNo, BeginsWithNoItem, IsFrontOf, Reads, ReadsItem, cut};
 ghost use Rattle.hunk_blocks.specs.Views.{symbol_of};
 
+use crate::growing::append;
 use crate::reading::long_reader::LongReader;
 use crate::reading::payloads::read_entry_name;
 use crate::symbols::{Named, Symbols};
@@ -49,7 +50,7 @@ pub(crate) fn read_symbols<'a>(
 {
     let mut symbols = Vec::new(alloc);
     'symbols: while let Some(symbol) = next_symbol(reader)? {
-        if symbols.push(symbol).is_err() {
+        if append(&mut symbols, symbol).is_err() {
             return Err(reader.out_of_memory());
         }
     }

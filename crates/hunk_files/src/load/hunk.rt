@@ -8,7 +8,7 @@ ghost use Rattle.hunk_files.specs.Tables.{hunk_of, IsTable};
 use crate::order::is_end;
 use crate::place::{counted_from, out_of_memory};
 use crate::row::Row;
-use hunk_blocks::{Block, Mode};
+use hunk_blocks::{Block, Mode, append};
 use hunk_words::FileFault;
 use std::alloc::Global;
 
@@ -41,7 +41,7 @@ pub(crate) fn read_hunk<'a>(
         };
         at += size;
         let hunk_ends = is_end(&block);
-        if blocks.push(block).is_err() {
+        if append(&mut blocks, block).is_err() {
             return Err(out_of_memory(at));
         }
         if hunk_ends {

@@ -71,12 +71,7 @@ fn step_at(position: Position, longs: u32, word: u32) -> Result<Position, Reason
 /// Steps from a block word. Each kind that a load file has is named here, so that whether it is refused
 /// and what follows it is compiled for that kind alone.
 #[inline(always)]
-fn step_block_word(
-    hunk: OpenHunk,
-    phase: Phase,
-    longs: u32,
-    word: u32,
-) -> Result<Position, Reason>
+fn step_block_word(hunk: OpenHunk, phase: Phase, longs: u32, word: u32) -> Result<Position, Reason>
     ensures steps { IfOk result (λ behind. behind ≡ step (positions.Body hunk phase) word) }
     ensures passes { OnOk result (refuse (role_at longs (positions.Body hunk phase)) word ≡ None) }
     ensures refusal { IfErr result

@@ -20,7 +20,7 @@ use crate::object::refusal::{UNIT, refuse_unit_word, truncated};
 use crate::object::unit::{Hunk, Unit};
 use crate::order::is_end;
 use crate::place::{counted_from, out_of_memory};
-use hunk_blocks::{Block, Body, Mode, Payload};
+use hunk_blocks::{Block, Body, Mode, Payload, append};
 use hunk_scan::refuse_place;
 use hunk_words::{BlockWord, FileFault, NAME_LIMIT, Reason, word_at};
 use std::alloc::Global;
@@ -114,7 +114,7 @@ pub(super) fn read_hunk<'a>(
         at += size;
         has_content |= is_content(&block);
         let hunk_ends = is_end(&block);
-        if blocks.push(block).is_err() {
+        if append(&mut blocks, block).is_err() {
             return Err(out_of_memory(at));
         }
         if hunk_ends {
@@ -172,7 +172,7 @@ pub(super) fn read_unit<'a>(alloc: Global, bytes: &'a [u8]) -> Result<(Unit<'a>,
             Err(fault) => return Err(counted_from(at, fault)),
         };
         at += size;
-        if hunks.push(Hunk { blocks }).is_err() {
+        if append(&mut hunks, Hunk { blocks }).is_err() {
             return Err(out_of_memory(at));
         }
     }

@@ -32,7 +32,7 @@ out_of_memory-requires c =
 pub returns-then-hunk_ends-clause-found : goal.returns-then-hunk_ends-clause-found
 returns-then-hunk_ends-clause-found c =
     let bytes = c.args.bytes.now in
-    let pushed : c.push.new.self.items ≡ c.reading.blocks.items ++ c.in-Ok.decoded.0 ∷ [] = search rules in
+    let pushed : c.append.new.list.items ≡ c.reading.blocks.items ++ c.in-Ok.decoded.0 ∷ [] = search rules in
     let P : List BlockValue → Type 0 = λ bs. AreBlocksAt bytes c.args.start (c.reading.at + c.in-Ok.decoded.1) bs in
     let Q : List ℕ → Type 0 = λ rest. BeginsWithBlock modes.Load rest c.in-Ok.decoded.0 c.in-Ok.decoded.1 in
     subst P (sym pushed) (hunk_read bytes c.args.start c.reading.blocks.items c.reading.at c.reading.invariant c.in-Ok.decoded.0 c.in-Ok.decoded.1 (subst Q (take_rest bytes c.reading.at) c.in-Ok.ensures.block) (sym c.if-hunk_ends.ensures))
@@ -49,7 +49,7 @@ reading-smaller c =
 pub reading-preserved : goal.reading-preserved
 reading-preserved c =
     let bytes = c.args.bytes.now in
-    let pushed : c.push.new.self.items ≡ c.reading.blocks.items ++ c.in-Ok.decoded.0 ∷ [] = search rules in
+    let pushed : c.append.new.list.items ≡ c.reading.blocks.items ++ c.in-Ok.decoded.0 ∷ [] = search rules in
     let P : List BlockValue → Type 0 = λ bs. BlocksSoFar bytes c.args.start bs (c.reading.at + c.in-Ok.decoded.1) in
     let Q : List ℕ → Type 0 = λ rest. BeginsWithBlock modes.Load rest c.in-Ok.decoded.0 c.in-Ok.decoded.1 in
     subst P (sym pushed) (block_added bytes c.args.start c.reading.blocks.items c.reading.at c.reading.invariant c.in-Ok.decoded.0 c.in-Ok.decoded.1 (subst Q (take_rest bytes c.reading.at) c.in-Ok.ensures.block) (sym c.if-hunk_ends.ensures))

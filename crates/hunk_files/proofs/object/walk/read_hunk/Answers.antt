@@ -31,7 +31,7 @@ returns-in-Err-clause-none c ne =
 pub returns-then-hunk_ends-clause-hunk : goal.returns-then-hunk_ends-clause-hunk
 returns-then-hunk_ends-clause-hunk c =
     let bytes = c.args.bytes.now in
-    let pushed : c.push.new.self.items ≡ c.reading.blocks.items ++ c.in-Ok.read.0 ∷ [] = search rules in
+    let pushed : c.append.new.list.items ≡ c.reading.blocks.items ++ c.in-Ok.read.0 ∷ [] = search rules in
     let P : List ℕ → Type 0 = λ rest. BeginsWithBlock modes.Object rest c.in-Ok.read.0 c.in-Ok.read.1 in
     let here = subst P (take_rest bytes c.reading.at) c.in-Ok.ensures.block in
     subst IsObjectHunk (sym pushed) (hunk_ended bytes c.reading.blocks.items c.reading.has_content c.reading.at c.reading.invariant c.in-Ok.read.0 c.in-Ok.read.1 here c.in-Ok.ensures.place (sym c.if-hunk_ends.ensures))
@@ -39,7 +39,7 @@ returns-then-hunk_ends-clause-hunk c =
 pub returns-then-hunk_ends-clause-text : goal.returns-then-hunk_ends-clause-text
 returns-then-hunk_ends-clause-text c =
     let bytes = c.args.bytes.now in
-    let pushed : c.push.new.self.items ≡ c.reading.blocks.items ++ c.in-Ok.read.0 ∷ [] = search rules in
+    let pushed : c.append.new.list.items ≡ c.reading.blocks.items ++ c.in-Ok.read.0 ∷ [] = search rules in
     let P : List ℕ → Type 0 = λ rest. BeginsWithBlock modes.Object rest c.in-Ok.read.0 c.in-Ok.read.1 in
     let here = subst P (take_rest bytes c.reading.at) c.in-Ok.ensures.block in
     let Q : ObjectHunk → Type 0 = λ bs. BeginsWithText bytes (flat_map block_text bs) (c.reading.at + c.in-Ok.read.1) in
@@ -57,11 +57,11 @@ reading-smaller c =
 pub reading-preserved : goal.reading-preserved
 reading-preserved c =
     let bytes = c.args.bytes.now in
-    let pushed : c.push.new.self.items ≡ c.reading.blocks.items ++ c.in-Ok.read.0 ∷ [] = search rules in
+    let pushed : c.append.new.list.items ≡ c.reading.blocks.items ++ c.in-Ok.read.0 ∷ [] = search rules in
     let P : List ℕ → Type 0 = λ rest. BeginsWithBlock modes.Object rest c.in-Ok.read.0 c.in-Ok.read.1 in
     let here = subst P (take_rest bytes c.reading.at) c.in-Ok.ensures.block in
     let Q : ObjectHunk → Type 0 = λ bs. HunkSoFar bytes bs (c.reading.has_content || is_content (standing c.in-Ok.read.0.body)) (c.reading.at + c.in-Ok.read.1) in
-    let R : Bool → Type 0 = λ k. HunkSoFar bytes c.push.new.self.items (c.reading.has_content || k) (c.reading.at + c.in-Ok.read.1) in
+    let R : Bool → Type 0 = λ k. HunkSoFar bytes c.append.new.list.items (c.reading.has_content || k) (c.reading.at + c.in-Ok.read.1) in
     subst R (sym c.is_content-has_content.ensures)
     (subst Q (sym pushed) (block_added bytes c.reading.blocks.items c.reading.has_content c.reading.at c.reading.invariant c.in-Ok.read.0 c.in-Ok.read.1 here c.in-Ok.ensures.place (sym c.if-hunk_ends.ensures)))
 

@@ -38,7 +38,7 @@ reading-smaller c =
 pub reading-preserved : goal.reading-preserved
 reading-preserved c =
     let bytes = c.args.bytes.now in
-    let pushed : c.push.new.self.items ≡ c.reading.hunks.items ++ c.in-Ok-read_hunk.read.0.items ∷ [] = search rules in
+    let pushed : c.append.new.list.items ≡ c.reading.hunks.items ++ c.in-Ok-read_hunk.read.0.items ∷ [] = search rules in
     let P : List ℕ → Type 0 = λ rest. BeginsWithText rest (flat_map block_text c.in-Ok-read_hunk.read.0.items) c.in-Ok-read_hunk.read.1 in
     let here = subst P (take_rest bytes c.reading.at) c.in-Ok-read_hunk.ensures.text in
     let Q : List ObjectHunk → Type 0 = λ hs. UnitSoFar bytes (unit (longs c.in-Ok.read.0) hs) (c.reading.at + c.in-Ok-read_hunk.read.1) in
