@@ -5,6 +5,7 @@ mod answers;
 mod growths;
 mod images;
 mod large;
+mod load_growths;
 mod memory;
 mod object;
 mod object_findings;
