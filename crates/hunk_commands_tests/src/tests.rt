@@ -3,6 +3,7 @@ mod calls;
 mod ends;
 mod faults;
 mod hex_text;
+mod large;
 mod listing;
 mod listing_ends;
 mod memory;

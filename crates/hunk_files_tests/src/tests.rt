@@ -6,6 +6,7 @@ mod growths;
 mod hunk_file;
 mod images;
 mod large;
+mod load_growths;
 mod memory;
 mod object;
 mod object_findings;

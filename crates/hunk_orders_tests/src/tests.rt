@@ -1,2 +1,3 @@
 //! Tests of what no clause says.
 mod command_lines;
+mod memory;

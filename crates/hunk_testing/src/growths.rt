@@ -2,6 +2,9 @@
 
 use std::alloc::{AllocError, Global};
 
+/// How many pieces are taken at most.
+const PIECES: usize = 60_000;
+
 /// Takes pieces of this size until one is refused, and 10,000 at most.
 fn take_pieces(alloc: Global, size: usize, pieces: &mut Vec<Vec<u8>>) -> Result<(), AllocError> {
     for _ in 0..10_000u64 {
@@ -13,21 +16,26 @@ fn take_pieces(alloc: Global, size: usize, pieces: &mut Vec<Vec<u8>>) -> Result<
     Ok(())
 }
 
-/// All the memory that the allocator gives, in ever smaller pieces: while they are held, the next
-/// growth is refused.
+/// Takes all the memory that the allocator gives, in ever smaller pieces.
 ///
 /// The allocator keeps small pieces that were freed apart by their size, 16 bytes from one to the
 /// next, and gives them to requests of that size alone: so these are asked for, too.
-pub fn all_memory(alloc: Global) -> Result<Vec<Vec<u8>>, AllocError> {
-    let mut pieces = Vec::with_capacity(alloc, 60_000)?;
+fn take_all(alloc: Global, pieces: &mut Vec<Vec<u8>>) -> Result<(), AllocError> {
     let mut size = 1usize << 46;
     for _ in 0..44u64 {
-        take_pieces(alloc, size, &mut pieces)?;
+        take_pieces(alloc, size, pieces)?;
         size /= 2;
     }
     for k in 0..66usize {
-        take_pieces(alloc, 8 + 16 * k, &mut pieces)?;
+        take_pieces(alloc, 8 + 16 * k, pieces)?;
     }
+    Ok(())
+}
+
+/// All the memory that the allocator gives: while it is held, the next growth is refused.
+pub fn all_memory(alloc: Global) -> Result<Vec<Vec<u8>>, AllocError> {
+    let mut pieces = Vec::with_capacity(alloc, PIECES)?;
+    take_all(alloc, &mut pieces)?;
     Ok(pieces)
 }
 
@@ -49,6 +57,41 @@ pub fn all_but(alloc: Global, sizes: &[usize]) -> Result<Held, AllocError> {
     // Without the rooms, but with the list that held them: it would be one more.
     rooms.clear();
     Ok(Held { pieces, rooms })
+}
+
+/// The only memory that there is while a value is made.
+const ROOM: usize = 1 << 25;
+
+/// How many bytes the pieces have together.
+fn bytes_in(pieces: &[Vec<u8>]) -> usize {
+    let mut bytes = 0usize;
+    for piece in pieces {
+        bytes = bytes.saturating_add(piece.capacity());
+    }
+    bytes
+}
+
+/// A value made where there is no memory but a room of 32 MiB, and how many bytes the allocator gives
+/// beside it.
+///
+/// What one value leaves can be compared with what another leaves, up to 64 bytes that the allocator
+/// adds to pieces.
+pub fn left_beside<T: Drop, F: Fn() -> T>(alloc: Global, make: F) -> Result<(T, usize), AllocError>
+    requires { F.IsAlwaysCallable make }
+{
+    let mut pieces = Vec::with_capacity(alloc, PIECES)?;
+    // The allocator gives large pieces otherwise until some were given back.
+    drop(all_memory(alloc)?);
+    let held = all_but(alloc, &[ROOM])?;
+    // So that it divides the room also where the value takes nothing.
+    let front = Vec::<u8>::with_capacity(alloc, FRONT)?;
+    let value = make();
+    take_all(alloc, &mut pieces)?;
+    let left = bytes_in(&pieces);
+    drop(pieces);
+    drop(front);
+    drop(held);
+    Ok((value, left))
 }
 
 /// The bytes from one size that the allocator gives to the next.

@@ -1,10 +1,13 @@
-//! What the tests of several crates use: the bytes of longwords, and memory taken, so that growths
-//! are refused.
+//! What the tests of several crates use: the bytes of longwords, worked examples, a source that fails
+//! once, and memory taken, so that growths are refused.
 #![tactic(auto)]
 
+pub mod examples;
 mod growths;
+mod sources;
 
-pub use crate::growths::{Held, all_but, all_memory, answers_growth_by_growth};
+pub use crate::growths::{Held, all_but, all_memory, answers_growth_by_growth, left_beside};
+pub use crate::sources::FailsOnce;
 use std::alloc::{AllocError, Global};
 
 /// The bytes of the longwords.
@@ -12,6 +15,17 @@ pub fn bytes_of(alloc: Global, longs: &[u32]) -> Result<Vec<u8>, AllocError> {
     let mut bytes = Vec::new(alloc);
     for long in longs {
         bytes.extend_from_slice(&long.to_be_bytes())?;
+    }
+    Ok(bytes)
+}
+
+/// The bytes of the longwords that the text spells in hexadecimal digits; `/` only separates.
+pub fn spelled(alloc: Global, text: &str) -> Result<Vec<u8>, AllocError> {
+    let mut bytes = Vec::new(alloc);
+    for word in text.split(' ') {
+        if let Ok(long) = u32::from_str_radix(word, 16) {
+            bytes.extend_from_slice(long.to_be_bytes().as_slice())?;
+        }
     }
     Ok(bytes)
 }

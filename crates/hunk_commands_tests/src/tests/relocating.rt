@@ -3,7 +3,7 @@
 use crate::tests::ends::{Narrow, Slow, WIDTH, wide};
 use hunk_commands::{RunFault, relocate};
 use hunk_scatter::Limits;
-use hunk_testing::bytes_of;
+use hunk_testing::{bytes_of, examples, spelled};
 use hunk_words::{Fault, FromRead, FromSlice, FromWrite, LongWriter, Reason, Source};
 use std::alloc::{AllocError, Global};
 use std::test::Fail;
@@ -186,35 +186,10 @@ fn needs_a_base(rt: HostRuntime) -> Result<(), Fail> {
     Ok(())
 }
 
-/// Two hunks, of which the first has the address of the second at offset 2.
-const EXAMPLE_2: [u32; 21] = [
-    0x3F3,
-    0,
-    2,
-    0,
-    1,
-    2,
-    1,
-    0x3E9,
-    2,
-    0x4EF9_0000,
-    0x0004_4E71,
-    0x3EC,
-    1,
-    1,
-    2,
-    0,
-    0x3F2,
-    0x3EA,
-    1,
-    0x1234_5678,
-    0x3F2,
-];
-
 #[test]
 fn packs_hunks(rt: HostRuntime) -> Result<(), Fail> {
     // Example 28.
-    let bytes = bytes_of(rt.alloc(), EXAMPLE_2.as_slice())?;
+    let bytes = spelled(rt.alloc(), examples::TWO_HUNKS)?;
     let text = printed(rt.alloc(), bytes.as_slice(), 0xFFFF_FFF4)?;
     assert_eq!(rt;
         text.as_slice(),
@@ -228,25 +203,7 @@ fn packs_hunks(rt: HostRuntime) -> Result<(), Fail> {
 #[test]
 fn counts_memory_attributes_in_the_header(rt: HostRuntime) -> Result<(), Fail> {
     // Example 8: the first entry has both memory bits, so the header has 32 bytes.
-    let words = [
-        0x3F3,
-        0,
-        2,
-        0,
-        1,
-        0xC000_0002,
-        0x10004,
-        1,
-        0x3E9,
-        2,
-        0x4E71_4E71,
-        0x4E75_4E71,
-        0x3F2,
-        0x3EB,
-        1,
-        0x3F2,
-    ];
-    let bytes = bytes_of(rt.alloc(), words.as_slice())?;
+    let bytes = spelled(rt.alloc(), examples::WITH_ATTRIBUTES)?;
     let got = printed(rt.alloc(), bytes.as_slice(), 0xFFFF_FFF8).err();
     assert_eq!(rt; got, Some(refused(32, Reason::NoBase(1))));
     let text = printed(rt.alloc(), bytes.as_slice(), 0)?;

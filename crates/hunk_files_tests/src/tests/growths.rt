@@ -106,7 +106,7 @@ const OBJECT: &[u32] = &[
 const OF_OBJECT: &[u64] = &[24, 40, 64, 84, 92, 108, 116, 132, 136];
 
 /// Want of memory at these places, and then no fault.
-fn wanted(alloc: Global, places: &[u64]) -> Result<Vec<Option<FileFault>>, AllocError> {
+pub(super) fn wanted(alloc: Global, places: &[u64]) -> Result<Vec<Option<FileFault>>, AllocError> {
     let mut answers = Vec::new(alloc);
     for place in places {
         answers.push(Some(FileFault {

@@ -1,8 +1,9 @@
 //! Headers, tables and placing by themselves.
 ghost use Rattle.std.specs.Prelude.{◌≤◌, length};
 
-use crate::tests::{ONE_HUNK, TWO_HUNKS, spelled};
-use hunk_scatter::{BodyLoader, Declared, HeaderLoader, Listed, Packed, Unplaced};
+use hunk_scatter::{BodyLoader, Declared, HeaderLoader, Listed, Packed, Placer, Unplaced};
+use hunk_testing::examples::{ONE_HUNK, TWO_HUNKS};
+use hunk_testing::spelled;
 use hunk_words::{LoadFault, Memory, Reason};
 use std::alloc::Global;
 use std::process::Abort;
@@ -250,6 +251,37 @@ fn placing(rt: HostRuntime) -> Result<(), Fail> {
     let again = unplaced.map(|unplaced| unplaced.declared);
     let loader = again.and_then(|declared| declared.place(&Packed { start: 0x10000 }).ok());
     assert_eq!(rt; loader.map(|loader| loader.held()), Some(36));
+    Ok(())
+}
+
+/// The base of a hunk of a table, where the hunks lie one after another.
+fn packed_base(
+    rt: &impl Abort,
+    declared: &Declared,
+    start: u32,
+    i: u32,
+    before: u64,
+) -> Option<u32> {
+    assert!(rt; i < declared.hunks());
+    Packed { start }.base(i, &declared.row(i), before)
+}
+
+/// Example 28: hunks of 8 and 4 bytes that end at 2^32, and the same with no room for the second.
+#[test]
+fn packing(rt: HostRuntime) -> Result<(), Fail> {
+    let declared = declared(&rt, rt.alloc(), TWO_HUNKS, 28)?;
+    let rows = [
+        (0xFFFF_FFF4, 0, 0, Some(0xFFFF_FFF4)),
+        (0xFFFF_FFF4, 1, 8, Some(0xFFFF_FFFC)),
+        (0xFFFF_FFF8, 0, 0, Some(0xFFFF_FFF8)),
+        (0xFFFF_FFF8, 1, 8, None),
+    ];
+    for (start, i, before, want) in rows {
+        assert_eq!(rt; packed_base(&rt, &declared, start, i, before), want);
+    }
+    let start = 0xFFFF_FFF8;
+    let unplaced = declared.place(&Packed { start }).err();
+    came_back(&rt, unplaced.as_ref(), Reason::NoBase(1));
     Ok(())
 }
 

@@ -1,21 +1,21 @@
 //! What a load reads and holds at most.
 
 use crate::tests::loads::{START, Want, comes, front};
-use crate::tests::sources::{FailsOnce, Fed, Then};
-use crate::tests::{AMPLE, ONE_HUNK, TWO_HUNKS, outcome, spelled};
+use crate::tests::sources::{Fed, Then};
+use crate::tests::{AMPLE, outcome};
 use hunk_scatter::{Limits, Listed};
+use hunk_testing::examples::{ENDING_IN_ZEROS, ONE_HUNK, TWO_HUNKS};
+use hunk_testing::{FailsOnce, spelled};
 use hunk_words::{LoadFault, Reason};
 use std::alloc::Global;
 use std::process::Abort;
 use std::test::Fail;
 
-const TWO_ROWS: &str = "3F3 0 2 0 1 2 3 / 3E9 1 4E754E71 / 3F2 / 3EB 3 / 3F2";
-
 /// Examples 7 and 22: the text and the bytes of its front, the budget and the number of bytes that may be
 /// read, and what comes.
 const LIMITED: &[(&str, usize, u64, u64, Want<'static>, &str)] = &[
     (
-        TWO_ROWS,
+        ENDING_IN_ZEROS,
         56,
         19,
         100_000,
@@ -23,7 +23,7 @@ const LIMITED: &[(&str, usize, u64, u64, Want<'static>, &str)] = &[
         "example 7, 19",
     ),
     (
-        TWO_ROWS,
+        ENDING_IN_ZEROS,
         56,
         20,
         100_000,
@@ -153,16 +153,11 @@ fn stops(rt: HostRuntime) -> Result<(), Fail> {
 fn reads_nothing_again(rt: HostRuntime) -> Result<(), Fail> {
     let one = spelled(rt.alloc(), ONE_HUNK)?;
     for fails_at in 0..41 {
-        let mut source = FailsOnce {
-            bytes: one.as_slice(),
-            given: 0,
-            fails_at,
-            failed: false,
-        };
+        let mut source = FailsOnce::new(one.as_slice(), fails_at);
         let got = outcome(rt.alloc(), &mut source, AMPLE, &START)?;
-        assert_eq!(rt; source.given, fails_at);
+        assert_eq!(rt; source.given(), fails_at);
         if fails_at == 40 {
-            assert!(rt; got.is_ok() && !source.failed);
+            assert!(rt; got.is_ok() && !source.has_failed());
         } else {
             let fault = LoadFault {
                 place: fails_at as u64,

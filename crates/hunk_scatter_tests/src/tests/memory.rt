@@ -1,10 +1,11 @@
 //! Loads while growths are refused.
 
+use crate::tests::AMPLE;
 use crate::tests::headers::{Counted, came_back, declared};
 use crate::tests::sources::{COMPUTED, Computed, Fed, Then};
-use crate::tests::{AMPLE, TWO_HUNKS, spelled};
 use hunk_scatter::{Limits, Listed, Packed, load};
-use hunk_testing::all_memory;
+use hunk_testing::examples::TWO_HUNKS;
+use hunk_testing::{all_memory, answers_growth_by_growth, spelled};
 use hunk_words::{LoadFault, Reason};
 use std::alloc::{AllocError, Global};
 use std::process::Abort;
@@ -18,27 +19,39 @@ fn is_refused(alloc: Global, bytes: usize) -> bool {
     Vec::<u8>::with_capacity(alloc, bytes).is_err()
 }
 
-/// Why a load is refused while there is no memory but a room of so many bytes.
-fn starved(alloc: Global, text: &str, room: usize) -> Result<Option<LoadFault>, AllocError> {
-    let bytes = spelled(alloc, text)?;
-    let room = Vec::<u8>::with_capacity(alloc, room)?;
-    let pieces = all_memory(alloc)?;
-    drop(room);
-    let mut source = Fed::new(bytes.as_slice(), 0, 256, Then::Ends);
-    let bases = Listed([0x10000, 0x20000].as_slice());
-    let fault = load(alloc, &mut source, AMPLE, &bases).err();
-    drop(pieces);
-    Ok(fault)
+/// Why a load of the header, with hunks at any address, is refused memory.
+fn load_fault(alloc: Global, header: &[u8]) -> Option<LoadFault> {
+    let mut source = Fed::new(header, 0, 256, Then::Ends);
+    let fault = load(alloc, &mut source, AMPLE, &Packed { start: 0 }).err();
+    fault.filter(|fault| fault.reason == Reason::OutOfMemory)
 }
 
-/// Example 43: the rows' growth refused, and the store's, which is larger than what the rows leave of
-/// their room.
+/// Headers, and where memory is asked for: at the longword that completes the first row, at the one that
+/// completes the fifth, and for the store behind the header.
+const GROWTHS: &[(&str, &[u64])] = &[
+    ("3F3 0 2 0 1 10 1", &[20, 28]),
+    ("3F3 0 2 0 1 C0000010 10004 1", &[24, 32]),
+    ("3F3 0 4 0 3 10 1 1 1", &[20, 36]),
+    ("3F3 0 5 0 4 10 1 1 1 C0000001 10004", &[20, 40, 44]),
+];
+
+/// Sees that memory is refused at these places in turn, and not then.
+fn expect_growths(rt: &impl Abort, alloc: Global, text: &str, places: &[u64]) -> Result<(), Fail> {
+    let header = spelled(alloc, text)?;
+    let answers = answers_growth_by_growth(alloc, || load_fault(alloc, header.as_slice()))?;
+    assert_eq!(rt; answers.len(), places.len() + 1, "{text}");
+    for (place, answer) in places.iter().zip(answers.as_slice()) {
+        assert_eq!(rt; answer.map(|fault| fault.place), Some(*place), "{text}");
+    }
+    assert_eq!(rt; answers.last().copied(), Some(None), "{text}");
+    Ok(())
+}
+
+/// Example 43, whose first row is in want of memory at 20 and whose store at 28, and more headers.
 #[test]
-fn refused_growths(rt: HostRuntime) -> Result<(), Fail> {
-    let reason = Reason::OutOfMemory;
-    for (room, place) in [(0, 20), (ROWS, 28)] {
-        let fault = starved(rt.alloc(), "3F3 0 2 0 1 10 1", room)?;
-        assert_eq!(rt; fault, Some(LoadFault { place, reason }));
+fn growth_by_growth(rt: HostRuntime) -> Result<(), Fail> {
+    for (text, places) in GROWTHS {
+        expect_growths(&rt, rt.alloc(), text, places)?;
     }
     Ok(())
 }

@@ -82,37 +82,6 @@ impl Source for Fed<'_> {
     }
 }
 
-/// Gives these bytes, one a read; behind so many of them one read fails, and those after it go on.
-#[derive(Drop)]
-pub struct FailsOnce<'a> {
-    pub bytes: &'a [u8],
-    pub given: usize,
-    pub fails_at: usize,
-    pub failed: bool,
-}
-
-impl Source for FailsOnce<'_> {
-    ghost left = { λ _. None };
-
-    ghost failed = { λ s. s.failed };
-
-    fn pull(&mut self, buf: &mut [u8]) -> Result<usize, Failed> {
-        if self.given == self.fails_at && !self.failed {
-            self.failed = true;
-            return Err(Failed);
-        }
-        let Some(byte) = self.bytes.get(self.given) else {
-            return Ok(0);
-        };
-        let Some(first) = buf.first_mut() else {
-            return Ok(0);
-        };
-        *first = *byte;
-        self.given = self.given.wrapping_add(1);
-        Ok(1)
-    }
-}
-
 /// Example 1 with a DEBUG block of 262,144 zero longwords before its END, computed as it is read.
 #[derive(Drop)]
 pub struct Computed<'a> {

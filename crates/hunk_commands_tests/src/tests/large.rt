@@ -1,0 +1,161 @@
+//! `relocate` of files at their limits, which are computed as they are read.
+ghost use Rattle.std.specs.Prelude.{None, false};
+
+use hunk_commands::relocate;
+use hunk_scatter::Limits;
+use hunk_words::{Failed, FromWrite, LongWriter, Source};
+use std::alloc::{AllocError, Global};
+use std::test::Fail;
+
+const LIMITS: Limits = Limits {
+    budget: 1 << 20,
+    file_bytes: 4_000_000,
+};
+
+/// Where the first hunk lies.
+const BASE: u32 = 0x21000;
+
+/// A file that is computed.
+#[derive(Clone, Copy, Debug, PartialEq)]
+enum Large {
+    /// 65,536 hunks of a longword, to which the base of the hunk beside it is added.
+    ManyHunks,
+    /// One hunk of a MiB.
+    LargeHunk,
+}
+
+/// The longwords of the header of `ManyHunks`, and of all of it: nine more a hunk.
+const TABLE: u32 = 65_541;
+
+const MANY_HUNKS: u32 = 655_365;
+
+fn long_of_many_hunks(at: u32) -> u32 {
+    if at < TABLE {
+        return match at {
+            0 => 0x3F3,
+            1 | 3 => 0,
+            2 => 65_536,
+            4 => 65_535,
+            _ => 1,
+        };
+    }
+    let hunk = (at - TABLE) / 9;
+    let hunk_longs = [0x3E9, 1, hunk, 0x3EC, 1, hunk ^ 1, 0, 0, 0x3F2];
+    hunk_longs[(at - TABLE) as usize % 9]
+}
+
+/// The longwords of the content of `LargeHunk`, of what is before it, and of all of it.
+const CONTENT: u32 = 0x40000;
+
+const FRONT: [u32; 8] = [0x3F3, 0, 1, 0, 0, CONTENT, 0x3E9, CONTENT];
+
+const LARGE_HUNK: u32 = 0x40009;
+
+fn content(at: u32) -> u32 {
+    at.wrapping_mul(0x9E37_79B1)
+}
+
+fn long_of_large_hunk(at: u32) -> u32 {
+    match FRONT.get(at as usize) {
+        Some(long) => *long,
+        None if at == LARGE_HUNK - 1 => 0x3F2,
+        None => content(at.wrapping_sub(8)),
+    }
+}
+
+/// The file, and how many of its bytes have been read.
+#[derive(Drop)]
+struct Computed {
+    file: Large,
+    at: u32,
+}
+
+impl Computed {
+    /// The byte that comes next, where there is one.
+    fn next(&mut self) -> Option<u8> {
+        let (long, byte) = (self.at / 4, self.at as usize % 4);
+        let longs = match self.file {
+            Large::ManyHunks => MANY_HUNKS,
+            Large::LargeHunk => LARGE_HUNK,
+        };
+        if long >= longs {
+            return None;
+        }
+        self.at = self.at.wrapping_add(1);
+        let word = match self.file {
+            Large::ManyHunks => long_of_many_hunks(long),
+            Large::LargeHunk => long_of_large_hunk(long),
+        };
+        Some(word.to_be_bytes()[byte])
+    }
+}
+
+impl Source for Computed {
+    ghost left = { λ _. None };
+
+    ghost failed = { λ _. false };
+
+    fn pull(&mut self, buf: &mut [u8]) -> Result<usize, Failed> {
+        for i in 0..buf.len() {
+            match self.next() {
+                Some(byte) => buf[i] = byte,
+                None => return Ok(i),
+            }
+        }
+        Ok(buf.len())
+    }
+}
+
+/// What `relocate` prints of the file.
+fn printed(alloc: Global, file: Large) -> Result<Vec<u8>, Fail> {
+    let mut out = LongWriter::new(FromWrite::new(Vec::<u8>::new(alloc)));
+    let mut source = Computed { file, at: 0 };
+    relocate(alloc, &mut source, &mut out, LIMITS, BASE)?;
+    Ok(out.into_inner().into_inner())
+}
+
+/// The lines of a hunk of `ManyHunks`.
+fn lines_of(alloc: Global, hunk: u32) -> Result<String, AllocError> {
+    let base = BASE.wrapping_add(hunk.wrapping_mul(4));
+    let beside = BASE.wrapping_add((hunk ^ 1).wrapping_mul(4));
+    let long = hunk.wrapping_add(beside);
+    format!(in alloc; "hunk {hunk} base 0x{base:08x} 4 bytes\n  {long:08x}\n")
+}
+
+#[test]
+fn many_hunks(rt: HostRuntime) -> Result<(), Fail> {
+    let text = printed(rt.alloc(), Large::ManyHunks)?;
+    let mut rest = text.as_slice();
+    for hunk in 0..65_536u32 {
+        let want = lines_of(rt.alloc(), hunk)?;
+        let (lines, behind) = rest.split_at(want.len().min(rest.len()));
+        assert_eq!(rt; lines, want.as_bytes(), "hunk {hunk}");
+        rest = behind;
+    }
+    assert!(rt; rest.is_empty());
+    Ok(())
+}
+
+/// A row of the content of `LargeHunk`.
+fn row_of(alloc: Global, row: u32) -> Result<String, AllocError> {
+    let at = row.wrapping_mul(4);
+    let (first, second) = (content(at), content(at.wrapping_add(1)));
+    let (third, fourth) = (content(at.wrapping_add(2)), content(at.wrapping_add(3)));
+    format!(in alloc; "  {first:08x}{second:08x}{third:08x}{fourth:08x}\n")
+}
+
+#[test]
+fn one_large_hunk(rt: HostRuntime) -> Result<(), Fail> {
+    let text = printed(rt.alloc(), Large::LargeHunk)?;
+    let heading = b"hunk 0 base 0x00021000 1048576 bytes\n".as_slice();
+    assert!(rt; text.starts_with(heading));
+    let mut rest = &text[heading.len()..];
+    for row in 0..65_536u32 {
+        let want = row_of(rt.alloc(), row)?;
+        let (line, behind) = rest.split_at(want.len().min(rest.len()));
+        assert_eq!(rt; line, want.as_bytes(), "row {row}");
+        rest = behind;
+    }
+    assert!(rt; rest.is_empty());
+    Ok(())
+}

@@ -1,0 +1,118 @@
+//! What loaders hold, by what the allocator still gives beside them.
+
+use hunk_scatter::{BodyLoader, Declared, HeaderLoader, Packed};
+use hunk_testing::{bytes_of, left_beside, spelled};
+use std::alloc::{AllocError, Global};
+use std::process::Abort;
+use std::test::Fail;
+
+/// The hunks of a header of `header`.
+const HUNKS: u32 = 65;
+
+/// The bytes that they declare: 1,024 longwords for the first, and one for each other.
+const TOTAL: usize = 4_352;
+
+/// The header, up to its first `rows` rows.
+fn header(alloc: Global, rows: u32) -> Result<Vec<u8>, AllocError> {
+    let mut longs = [0x3F3, 0, HUNKS, 0, HUNKS - 1].to_vec(alloc)?;
+    for row in 0..rows {
+        longs.push(if row == 0 { 1_024 } else { 1 })?;
+    }
+    bytes_of(alloc, longs.as_slice())
+}
+
+/// Sees that beside a value as much is left as beside so many bytes.
+fn expect_left(rt: &impl Abort, alloc: Global, left: usize, held: usize) -> Result<(), Fail> {
+    let (bytes, want) = left_beside(alloc, || Vec::<u8>::with_capacity(alloc, held))?;
+    assert!(rt; bytes.is_ok());
+    assert!(rt;
+        left.abs_diff(want) <= 64,
+        "{left} beside {held}, not {want}"
+    );
+    Ok(())
+}
+
+/// A loader of headers that was fed these bytes.
+fn fed(alloc: Global, bytes: &[u8], budget: u64) -> HeaderLoader {
+    let mut loader = HeaderLoader::new(alloc, budget);
+    let _answer = loader.feed(bytes);
+    loader
+}
+
+/// The table of the header.
+fn declared(alloc: Global, header: &[u8]) -> Option<Declared> {
+    fed(alloc, header, TOTAL as u64).declared().ok()
+}
+
+/// 64 rows of 12 bytes, which is what their list has room for.
+#[test]
+fn rows_of_a_header(rt: HostRuntime) -> Result<(), Fail> {
+    let bytes = header(rt.alloc(), 64)?;
+    let alloc = rt.alloc();
+    let (loader, left) = left_beside(alloc, || fed(alloc, bytes.as_slice(), 10_000))?;
+    assert_eq!(rt; loader.held(), 768);
+    assert_eq!(rt; loader.want(), 4);
+    expect_left(&rt, alloc, left, 768)
+}
+
+/// A loader that has refused holds nothing.
+#[test]
+fn nothing_behind_a_refusal(rt: HostRuntime) -> Result<(), Fail> {
+    let bytes = header(rt.alloc(), 64)?;
+    let alloc = rt.alloc();
+    let (loader, left) = left_beside(alloc, || fed(alloc, bytes.as_slice(), 4_200))?;
+    assert_eq!(rt; (loader.want(), loader.held()), (0, 0));
+    expect_left(&rt, alloc, left, 0)
+}
+
+/// A table holds 12 bytes a hunk, not what the list had room for while it grew.
+#[test]
+fn rows_of_a_table(rt: HostRuntime) -> Result<(), Fail> {
+    let bytes = header(rt.alloc(), HUNKS)?;
+    let alloc = rt.alloc();
+    let (table, left) = left_beside(alloc, || declared(alloc, bytes.as_slice()))?;
+    assert_eq!(rt; table.map(|table| table.held()), Some(780));
+    expect_left(&rt, alloc, left, 780)
+}
+
+/// A loader of the body behind the header that was fed these bytes.
+fn loading(alloc: Global, header: &[u8], body: &[u8]) -> Option<BodyLoader> {
+    let Some(table) = declared(alloc, header) else {
+        return None;
+    };
+    let Ok(mut loader) = table.place(&Packed { start: 0 }) else {
+        return None;
+    };
+    if loader.fed() < 1_000 && body.len() < 1_000 {
+        let _answer = loader.feed(body);
+    }
+    Some(loader)
+}
+
+/// Bodies, the first of all kinds of blocks, and the last refused at its last longword.
+const BODIES: &[&str] = &[
+    "",
+    "3E8 1 61000000 / 3E9 2 4E754E71 0 / 3EC 1 1 4 0 / 3F0 1 5F6D0000 0 0 / 3F1 1 7 / 3F2 / 3EA 1",
+    "3E9 1 4E754E71 / 3F5",
+];
+
+/// The rows and one store of the bytes that are declared, whatever was fed.
+#[test]
+fn rows_and_store(rt: HostRuntime) -> Result<(), Fail> {
+    let (alloc, header) = (rt.alloc(), header(rt.alloc(), HUNKS)?);
+    for text in BODIES {
+        let body = spelled(alloc, text)?;
+        let (loader, left) = left_beside(
+            alloc,
+            || loading(alloc, header.as_slice(), body.as_slice()),
+        )?;
+        let held = 780 + TOTAL;
+        assert_eq!(rt;
+            loader.map(|loader| loader.held()),
+            Some(held as u64),
+            "{text}"
+        );
+        expect_left(&rt, alloc, left, held)?;
+    }
+    Ok(())
+}

@@ -1,0 +1,53 @@
+//! Files that several tests use, most of them worked examples: their longwords in hexadecimal digits, where
+//! `/` only separates.
+
+/// Example 1: one hunk of one CODE block of one longword.
+pub const ONE_HUNK: &str = "3F3 0 1 0 0 1 / 3E9 1 4E754E71 / 3F2";
+
+/// Example 2: two hunks, the first with the second's base in its code.
+pub const TWO_HUNKS: &str =
+    "3F3 0 2 0 1 2 1 / 3E9 2 4EF90000 00044E71 / 3EC 1 1 2 0 / 3F2 / 3EA 1 12345678 / 3F2";
+
+/// Example 5: two bases added to one longword.
+pub const TWO_BASES: &str = "3F3 0 2 0 1 1 1 / 3E9 1 10 / 3EC 1 0 0 1 1 0 0 / 3F2 / 3EB 1 / 3F2";
+
+/// Example 6: two relocated longs that overlap.
+pub const OVERLAPPING: &str = "3F3 0 1 0 0 2 / 3E9 2 0000FFFF FFFF0000 / 3EC 2 0 0 2 0 / 3F2";
+
+/// Example 6 with its offsets the other way round.
+pub const OVERLAPPING_FROM_BEHIND: &str =
+    "3F3 0 1 0 0 2 / 3E9 2 0000FFFF FFFF0000 / 3EC 2 0 2 0 0 / 3F2";
+
+/// Example 7: two hunks that have fewer bytes than they declare.
+pub const ENDING_IN_ZEROS: &str = "3F3 0 2 0 1 2 3 / 3E9 1 4E754E71 / 3F2 / 3EB 3 / 3F2";
+
+/// Example 8: two hunks, the first with memory attributes.
+pub const WITH_ATTRIBUTES: &str =
+    "3F3 0 2 0 1 C0000002 10004 1 / 3E9 2 4E714E71 4E754E71 / 3F2 / 3EB 1 / 3F2";
+
+/// Example 14: an object file with a reference and a definition.
+pub const OBJECT: &str = "3E7 1 61000000 / 3E9 2 4EB90000 00004E75 / \
+    3EF 81000001 5F660000 1 2 1000001 5F6D0000 0 0 / 3F2";
+
+/// Example 36: two relocated longs that overlap, which are no neighbours in the list.
+pub const OVERLAPPING_APART: &str = "3F3 0 1 0 0 4 / 3EB 4 / 3EC 3 0 0 8 2 0 / 3F2";
+
+/// Example 37: a relocation behind a SYMBOL block.
+pub const RELOCATED_BEHIND_SYMBOLS: &str = "3F3 0 1 0 0 1 / 3E9 1 10 / 3F0 0 / 3EC 1 0 0 0 / 3F2";
+
+/// Example 45: an object file with relative relocations and references.
+pub const RELATIVE_OBJECT: &str = "3E7 1 61000000 / 3E9 2 0 0 / 3FD 1 0 4 0 / 3FE 1 0 6 0 / \
+    3EF 88000001 5F660000 1 4 8A000001 5F670000 1 7 0 / 3F2";
+
+/// A load file of five hunks, one with relocations and symbols, one of six blocks.
+pub const FIVE_HUNKS: &str = "3F3 0 5 0 4 2 C0000001 10004 0 0 1 / \
+    3E9 2 4EF90000 44E71 / 3EC 5 4 0 1 2 3 4 0 / 3F0 1 5F6D0000 0 0 / 3F2 / \
+    3E8 1 2E740000 / 3EA 1 12345678 / 3F1 0 / 3F1 0 / 3F1 0 / 3F2 / \
+    3EB 0 / 3F2 / 3EB 0 / 3F2 / 3EB 1 / 3F2";
+
+/// An object file of two units, at 0 and 120, and of three hunks, at 12, 88 and 128, with relocations,
+/// external symbols and symbols, at 28, 48 and 96.
+pub const TWO_UNITS: &str = "3E7 1 61000000 / \
+    3E9 2 4EB90000 4E75 / 3EC 1 0 2 0 / 3EF 81000001 5F660000 1 2 1000001 5F6D0000 0 0 / 3F2 / \
+    3EB 1 / 3F0 1 5F6D0000 0 0 / 3F2 / \
+    3E7 0 / 3EB 1 / 3F2";
