@@ -1,109 +1,14 @@
 //! Each growth of each call refused in turn, on files of several hunks and units.
 
 use hunk_files::{ImageFault, LoadFile, ObjectFile};
-use hunk_testing::{all_but, answers_growth_by_growth, bytes_of};
+use hunk_testing::{all_but, answers_growth_by_growth, examples, spelled};
 use hunk_words::{FileFault, Reason};
 use std::alloc::{AllocError, Global};
 use std::test::Fail;
 
-/// A load file of five hunks, one with relocations and symbols, one of six blocks.
-const LOAD: &[u32] = &[
-    0x3F3,
-    0,
-    5,
-    0,
-    4,
-    2,
-    0xC000_0001,
-    0x10004,
-    0,
-    0,
-    1, // the header
-    0x3E9,
-    2,
-    0x4EF9_0000,
-    0x0004_4E71, // at 44
-    0x3EC,
-    5,
-    4,
-    0,
-    1,
-    2,
-    3,
-    4,
-    0, // at 60
-    0x3F0,
-    1,
-    0x5F6D_0000,
-    0,
-    0,
-    0x3F2, // at 96
-    0x3E8,
-    1,
-    0x2E74_0000, // at 120
-    0x3EA,
-    1,
-    0x1234_5678,
-    0x3F1,
-    0,
-    0x3F1,
-    0,
-    0x3F1,
-    0,
-    0x3F2, // at 132
-    0x3EB,
-    0,
-    0x3F2,
-    0x3EB,
-    0,
-    0x3F2,
-    0x3EB,
-    1,
-    0x3F2, // at 172
-];
-
-/// An object file of two units and three hunks, with relocations, external symbols and symbols.
-const OBJECT: &[u32] = &[
-    0x3E7,
-    1,
-    0x6100_0000,
-    0x3E9,
-    2,
-    0x4EB9_0000,
-    0x4E75, // at 0
-    0x3EC,
-    1,
-    0,
-    2,
-    0, // at 28
-    0x3EF,
-    0x8100_0001,
-    0x5F66_0000,
-    1,
-    2,
-    0x0100_0001,
-    0x5F6D_0000,
-    0,
-    0,
-    0x3F2, // at 48
-    0x3EB,
-    1,
-    0x3F0,
-    1,
-    0x5F6D_0000,
-    0,
-    0,
-    0x3F2, // at 88
-    0x3E7,
-    0,
-    0x3EB,
-    1,
-    0x3F2, // at 120
-];
-
-/// Where memory is asked for: for each hunk's blocks at its first, for groups, entries and symbols, for
-/// each unit's hunks at the END of its first, and for the units behind the first.
-const OF_OBJECT: &[u64] = &[24, 40, 64, 84, 92, 108, 116, 132, 136];
+/// Where memory is asked for in `TWO_UNITS`: for each hunk's blocks at its first, for groups, entries and symbols,
+/// for each unit's hunks at the END of its first, and for the units behind the first.
+const OF_TWO_UNITS: &[u64] = &[24, 40, 64, 84, 92, 108, 116, 132, 136];
 
 /// Want of memory at these places, and then no fault.
 pub(super) fn wanted(alloc: Global, places: &[u64]) -> Result<Vec<Option<FileFault>>, AllocError> {
@@ -121,20 +26,20 @@ pub(super) fn wanted(alloc: Global, places: &[u64]) -> Result<Vec<Option<FileFau
 #[test]
 fn of_an_object_file(rt: HostRuntime) -> Result<(), Fail> {
     let alloc = rt.alloc();
-    let bytes = bytes_of(alloc, OBJECT)?;
+    let bytes = spelled(alloc, examples::TWO_UNITS)?;
     let answers = answers_growth_by_growth(alloc, || ObjectFile::decode(alloc, &bytes).err())?;
-    assert_eq!(rt; answers, wanted(alloc, OF_OBJECT)?);
+    assert_eq!(rt; answers, wanted(alloc, OF_TWO_UNITS)?);
     Ok(())
 }
 
 /// Three relocations with two findings each.
-const SIX_FINDINGS: &[u32] = &[0x3E7, 0, 0x3EB, 1, 0x3EC, 3, 1, 2, 3, 4, 0, 0x3F2];
+const SIX_FINDINGS: &str = "3E7 0 / 3EB 1 / 3EC 3 1 2 3 4 0 / 3F2";
 
 /// `check` keeps four findings at first, and more at the fifth.
 #[test]
 fn of_a_check(rt: HostRuntime) -> Result<(), Fail> {
     let alloc = rt.alloc();
-    let bytes = bytes_of(alloc, SIX_FINDINGS)?;
+    let bytes = spelled(alloc, SIX_FINDINGS)?;
     let file = ObjectFile::decode(alloc, &bytes)?;
     let answers = answers_growth_by_growth(alloc, || file.check(alloc).err().map(|_| ()))?;
     assert_eq!(rt; answers.as_slice(), [Some(()), None].as_slice());
@@ -155,7 +60,7 @@ fn overlap_fault(alloc: Global, file: &LoadFile) -> Option<()> {
 #[test]
 fn of_an_overlap_and_an_image(rt: HostRuntime) -> Result<(), Fail> {
     let alloc = rt.alloc();
-    let bytes = bytes_of(alloc, LOAD)?;
+    let bytes = spelled(alloc, examples::FIVE_HUNKS)?;
     let (file, _) = LoadFile::decode(alloc, &bytes)?;
     let answers = answers_growth_by_growth(alloc, || overlap_fault(alloc, &file))?;
     assert_eq!(rt; answers.as_slice(), [Some(()), None].as_slice());
@@ -190,7 +95,10 @@ fn object_blocks(alloc: Global, file: &ObjectFile) -> Result<Vec<usize>, AllocEr
 #[test]
 fn none_of_a_strip(rt: HostRuntime) -> Result<(), Fail> {
     let alloc = rt.alloc();
-    let (load, object) = (bytes_of(alloc, LOAD)?, bytes_of(alloc, OBJECT)?);
+    let (load, object) = (
+        spelled(alloc, examples::FIVE_HUNKS)?,
+        spelled(alloc, examples::TWO_UNITS)?,
+    );
     let (load, _) = LoadFile::decode(alloc, &load)?;
     let object = ObjectFile::decode(alloc, &object)?;
     let held = all_but(alloc, &[])?;

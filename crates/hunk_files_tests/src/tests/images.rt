@@ -1,9 +1,10 @@
 //! The memory of load files, and the offsets whose longs overlap.
 
-use crate::tests::{ONE_HUNK, before_end, changed};
+use crate::tests::{before_end, changed};
 use hunk_files::{ImageFault, LoadFile};
-use hunk_testing::bytes_of;
+use hunk_testing::{bytes_of, examples, spelled};
 use std::alloc::{AllocError, Global};
+use std::process::Abort;
 use std::test::Fail;
 
 /// The image at these bases, where the bytes are a load file.
@@ -22,195 +23,100 @@ fn overlap(alloc: Global, bytes: &[u8]) -> Result<Option<Option<(u32, u32)>>, Al
     }
 }
 
-/// The worked examples of images, by their numbers: the longwords of the file, the bases, and the
-/// longwords of the image.
+/// The worked examples of images, by their numbers: the file, the bases, and the longwords of the image.
+const IMAGES: &[(u32, &str, &[u32], &[u32])] = &[
+    (1, examples::ONE_HUNK, &[0x21000], &[0x4E75_4E71]),
+    (
+        2,
+        examples::TWO_HUNKS,
+        &[0x10000, 0x20000],
+        &[0x4EF9_0002, 0x0004_4E71, 0x1234_5678],
+    ),
+    (
+        3,
+        "3F3 0 1 0 0 1 / 3E9 1 FFFFFFFC / 3EC 1 0 0 0 / 3F2",
+        &[0x1000],
+        &[0xFFC],
+    ),
+    (
+        4,
+        "3F3 0 1 0 0 3 / 3E9 1 4E754E71 / 3F2",
+        &[0x21000],
+        &[0x4E75_4E71, 0, 0],
+    ),
+    (5, examples::TWO_BASES, &[0x100, 0x200], &[0x310, 0]),
+    (6, examples::OVERLAPPING, &[1], &[0x0001_0001, 0]),
+    (6, examples::OVERLAPPING_FROM_BEHIND, &[1], &[1, 0]),
+    (
+        7,
+        examples::ENDING_IN_ZEROS,
+        &[0x21000, 0x21008],
+        &[0x4E75_4E71, 0, 0, 0, 0],
+    ),
+    (
+        11,
+        "3F3 0 1 0 0 2 / 3E9 2 0 0 / 3EC 1 0 4 0 / 3F2",
+        &[0x1000],
+        &[0, 0x1000],
+    ),
+    (
+        36,
+        examples::OVERLAPPING_APART,
+        &[0x21000],
+        &[0x0002_1002, 0x1000_0000, 0x0002_1000, 0],
+    ),
+    (37, examples::RELOCATED_BEHIND_SYMBOLS, &[0x100], &[0x110]),
+];
+
+/// Sees that an example has this image at these bases.
+fn expect_image(
+    rt: &impl Abort,
+    alloc: Global,
+    (example, text): (u32, &str),
+    bases: &[u32],
+    want: &[u32],
+) -> Result<(), Fail> {
+    let bytes = spelled(alloc, text)?;
+    let want = bytes_of(alloc, want)?;
+    let got = image(alloc, bytes.as_slice(), bases);
+    assert_eq!(rt; got, Some(Ok(want)), "example {example}");
+    Ok(())
+}
+
 #[test]
 fn images(rt: HostRuntime) -> Result<(), Fail> {
-    let rows = [
-        (
-            1,
-            ONE_HUNK.as_slice(),
-            [0x21000].as_slice(),
-            [0x4E75_4E71].as_slice(),
-        ),
-        (
-            2,
-            [
-                0x3F3,
-                0,
-                2,
-                0,
-                1,
-                2,
-                1,
-                0x3E9,
-                2,
-                0x4EF9_0000,
-                0x0004_4E71,
-                0x3EC,
-                1,
-                1,
-                2,
-                0,
-                0x3F2,
-                0x3EA,
-                1,
-                0x1234_5678,
-                0x3F2,
-            ]
-            .as_slice(),
-            [0x10000, 0x20000].as_slice(),
-            [0x4EF9_0002, 0x0004_4E71, 0x1234_5678].as_slice(),
-        ),
-        (
-            3,
-            [
-                0x3F3,
-                0,
-                1,
-                0,
-                0,
-                1,
-                0x3E9,
-                1,
-                0xFFFF_FFFC,
-                0x3EC,
-                1,
-                0,
-                0,
-                0,
-                0x3F2,
-            ]
-            .as_slice(),
-            [0x1000].as_slice(),
-            [0xFFC].as_slice(),
-        ),
-        (
-            4,
-            [0x3F3, 0, 1, 0, 0, 3, 0x3E9, 1, 0x4E75_4E71, 0x3F2].as_slice(),
-            [0x21000].as_slice(),
-            [0x4E75_4E71, 0, 0].as_slice(),
-        ),
-        (
-            5,
-            [
-                0x3F3, 0, 2, 0, 1, 1, 1, 0x3E9, 1, 0x10, 0x3EC, 1, 0, 0, 1, 1, 0, 0, 0x3F2, 0x3EB,
-                1, 0x3F2,
-            ]
-            .as_slice(),
-            [0x100, 0x200].as_slice(),
-            [0x310, 0].as_slice(),
-        ),
-        (
-            6,
-            [
-                0x3F3,
-                0,
-                1,
-                0,
-                0,
-                2,
-                0x3E9,
-                2,
-                0xFFFF,
-                0xFFFF_0000,
-                0x3EC,
-                2,
-                0,
-                0,
-                2,
-                0,
-                0x3F2,
-            ]
-            .as_slice(),
-            [1].as_slice(),
-            [0x0001_0001, 0].as_slice(),
-        ),
-        (
-            6,
-            [
-                0x3F3,
-                0,
-                1,
-                0,
-                0,
-                2,
-                0x3E9,
-                2,
-                0xFFFF,
-                0xFFFF_0000,
-                0x3EC,
-                2,
-                0,
-                2,
-                0,
-                0,
-                0x3F2,
-            ]
-            .as_slice(),
-            [1].as_slice(),
-            [1, 0].as_slice(),
-        ),
-        (
-            7,
-            [
-                0x3F3,
-                0,
-                2,
-                0,
-                1,
-                2,
-                3,
-                0x3E9,
-                1,
-                0x4E75_4E71,
-                0x3F2,
-                0x3EB,
-                3,
-                0x3F2,
-            ]
-            .as_slice(),
-            [0x21000, 0x21008].as_slice(),
-            [0x4E75_4E71, 0, 0, 0, 0].as_slice(),
-        ),
-        (
-            11,
-            [
-                0x3F3, 0, 1, 0, 0, 2, 0x3E9, 2, 0, 0, 0x3EC, 1, 0, 4, 0, 0x3F2,
-            ]
-            .as_slice(),
-            [0x1000].as_slice(),
-            [0, 0x1000].as_slice(),
-        ),
-        (
-            36,
-            [
-                0x3F3, 0, 1, 0, 0, 4, 0x3EB, 4, 0x3EC, 3, 0, 0, 8, 2, 0, 0x3F2,
-            ]
-            .as_slice(),
-            [0x21000].as_slice(),
-            [0x0002_1002, 0x1000_0000, 0x0002_1000, 0].as_slice(),
-        ),
-        (
-            37,
-            [
-                0x3F3, 0, 1, 0, 0, 1, 0x3E9, 1, 0x10, 0x3F0, 0, 0x3EC, 1, 0, 0, 0, 0x3F2,
-            ]
-            .as_slice(),
-            [0x100].as_slice(),
-            [0x110].as_slice(),
-        ),
-    ];
-    for (example, longs, bases, want) in rows {
-        let bytes = bytes_of(rt.alloc(), longs)?;
-        let want = bytes_of(rt.alloc(), want)?;
-        assert_eq!(rt;
-            image(rt.alloc(), bytes.as_slice(), bases),
-            Some(Ok(want)),
-            "example {example}"
-        );
+    for (example, text, bases, want) in IMAGES {
+        expect_image(&rt, rt.alloc(), (*example, text), bases, want)?;
     }
     Ok(())
+}
+
+/// The image at these bases of what strip leaves of a load file.
+fn stripped_image(
+    alloc: Global,
+    bytes: &[u8],
+    bases: &[u32],
+) -> Option<Result<Vec<u8>, ImageFault>> {
+    match LoadFile::decode(alloc, bytes) {
+        Ok((file, _)) => Some(file.strip().image(alloc, bases)),
+        Err(_) => None,
+    }
+}
+
+/// Example 37: what is left is relocated all the same.
+#[test]
+fn image_of_a_stripped_file(rt: HostRuntime) -> Result<(), Fail> {
+    let bytes = spelled(rt.alloc(), examples::RELOCATED_BEHIND_SYMBOLS)?;
+    let got = stripped_image(rt.alloc(), bytes.as_slice(), [0x100].as_slice());
+    assert_eq!(rt; got, Some(Ok(bytes_of(rt.alloc(), [0x110].as_slice())?)));
+    Ok(())
+}
+
+/// Example 15: END's block word 75 times within a DEBUG block, and then END.
+fn ends_within_debug(alloc: Global) -> Result<Vec<u8>, AllocError> {
+    let mut longs = [0x3F1, 75].to_vec(alloc)?;
+    longs.resize(77, 0x3F2)?;
+    before_end(alloc, longs.as_slice())
 }
 
 /// Kept flags, debug data and an advisory block leave the image as it is.
@@ -222,6 +128,7 @@ fn same_images(rt: HostRuntime) -> Result<(), Fail> {
         changed(rt.alloc(), 28, 0x8000_0001)?,
         changed(rt.alloc(), 36, 0x2000_03F2)?,
         before_end(rt.alloc(), [0x3F1, 2, 0x3F2, 0x3F2].as_slice())?,
+        ends_within_debug(rt.alloc())?,
         before_end(rt.alloc(), [0x2000_04D2, 2, 0xDEAD_BEEF, 0x3F2].as_slice())?,
     ];
     for bytes in &rows {
@@ -234,15 +141,26 @@ fn same_images(rt: HostRuntime) -> Result<(), Fail> {
     Ok(())
 }
 
+/// Lists of bases with one too few or too many, for an example of one hunk: examples 1 and 6.
+const WRONG_BASES: &[(&str, &[u32])] = &[
+    (examples::ONE_HUNK, &[]),
+    (examples::ONE_HUNK, &[0, 0]),
+    (examples::OVERLAPPING, &[]),
+    (examples::OVERLAPPING_FROM_BEHIND, &[]),
+];
+
 #[test]
 fn wrong_number_of_bases(rt: HostRuntime) -> Result<(), Fail> {
-    let bytes = bytes_of(rt.alloc(), ONE_HUNK.as_slice())?;
-    for bases in [[].as_slice(), [0, 0].as_slice()] {
-        assert_eq!(rt;
-            image(rt.alloc(), bytes.as_slice(), bases),
-            Some(Err(ImageFault::BaseCount))
-        );
+    for (text, bases) in WRONG_BASES {
+        let bytes = spelled(rt.alloc(), text)?;
+        let got = image(rt.alloc(), bytes.as_slice(), bases);
+        assert_eq!(rt; got, Some(Err(ImageFault::BaseCount)));
     }
+    Ok(())
+}
+
+#[test]
+fn texts_of_faults(rt: HostRuntime) -> Result<(), Fail> {
     let texts = [
         (ImageFault::BaseCount, "wrong number of bases"),
         (ImageFault::OutOfMemory, "out of memory"),
@@ -254,75 +172,23 @@ fn wrong_number_of_bases(rt: HostRuntime) -> Result<(), Fail> {
     Ok(())
 }
 
-/// The worked examples of overlaps.
+/// The worked examples of overlaps: 6, 36 and 5.
+const OVERLAPS: &[(&str, Option<(u32, u32)>)] = &[
+    (examples::OVERLAPPING, Some((0, 2))),
+    (examples::OVERLAPPING_FROM_BEHIND, Some((0, 2))),
+    (examples::OVERLAPPING_APART, Some((0, 2))),
+    (examples::TWO_BASES, None),
+];
+
 #[test]
 fn overlaps(rt: HostRuntime) -> Result<(), Fail> {
-    let rows = [
-        (
-            [
-                0x3F3,
-                0,
-                1,
-                0,
-                0,
-                2,
-                0x3E9,
-                2,
-                0xFFFF,
-                0xFFFF_0000,
-                0x3EC,
-                2,
-                0,
-                0,
-                2,
-                0,
-                0x3F2,
-            ]
-            .as_slice(),
-            Some((0, 2)),
-        ),
-        (
-            [
-                0x3F3,
-                0,
-                1,
-                0,
-                0,
-                2,
-                0x3E9,
-                2,
-                0xFFFF,
-                0xFFFF_0000,
-                0x3EC,
-                2,
-                0,
-                2,
-                0,
-                0,
-                0x3F2,
-            ]
-            .as_slice(),
-            Some((0, 2)),
-        ),
-        (
-            [
-                0x3F3, 0, 1, 0, 0, 4, 0x3EB, 4, 0x3EC, 3, 0, 0, 8, 2, 0, 0x3F2,
-            ]
-            .as_slice(),
-            Some((0, 2)),
-        ),
-        (
-            [
-                0x3F3, 0, 2, 0, 1, 1, 1, 0x3E9, 1, 0x10, 0x3EC, 1, 0, 0, 1, 1, 0, 0, 0x3F2, 0x3EB,
-                1, 0x3F2,
-            ]
-            .as_slice(),
-            None,
-        ),
-    ];
-    for (longs, want) in rows {
-        let bytes = bytes_of(rt.alloc(), longs)?;
-        assert_eq!(rt; overlap(rt.alloc(), bytes.as_slice())?, Some(want));
+    for (text, want) in OVERLAPS {
+        let bytes = spelled(rt.alloc(), text)?;
+        assert_eq!(rt;
+            overlap(rt.alloc(), bytes.as_slice())?,
+            Some(*want),
+            "{text}"
+        );
     }
     Ok(())
 }

@@ -1,7 +1,9 @@
 //! What `check` finds.
 
 use hunk_files::{Finding, FindingKind, ObjectFile};
-use hunk_testing::bytes_of;
+use hunk_testing::{bytes_of, examples, spelled};
+use std::alloc::Global;
+use std::process::Abort;
 use std::test::Fail;
 
 /// A finding in the first hunk of the first unit.
@@ -14,105 +16,61 @@ fn found(fault: FindingKind, offset: u32) -> Finding {
     }
 }
 
+/// The worked examples of findings, by their numbers: each a kind and an offset.
+const FINDINGS: &[(u32, &str, &[(FindingKind, u32)])] = &[
+    (14, examples::OBJECT, &[]),
+    (
+        14,
+        "3E7 1 61000000 / 3E9 2 4EB90000 4E75 / 3EF 81000001 5F660000 1 5 1000001 5F6D0000 0 0 / 3F2",
+        &[(FindingKind::OutsideHunk, 5)],
+    ),
+    (
+        29,
+        "3E7 0 / 3E9 1 0 / 3EC 1 1 2 0 / 3F2",
+        &[(FindingKind::BadTarget, 2), (FindingKind::OutsideHunk, 2)],
+    ),
+    (34, "3E7 0 / 3E7 1 62000000 / 3EB 4 / 3F2", &[]),
+    (
+        35,
+        "3E7 0 / 3EB 2 / 3EF 82000001 63000000 8 1 4 0 / 3F2",
+        &[],
+    ),
+    (
+        35,
+        "3E7 0 / 3EB 2 / 3EF 82000001 63000000 8 1 5 0 / 3F2",
+        &[(FindingKind::OutsideHunk, 5)],
+    ),
+    (
+        45,
+        examples::RELATIVE_OBJECT,
+        &[(FindingKind::OutsideHunk, 7)],
+    ),
+];
+
+/// Sees that these findings are made in the first hunk, in this order.
+fn expect(
+    rt: &impl Abort,
+    alloc: Global,
+    (example, text): (u32, &str),
+    want: &[(FindingKind, u32)],
+) -> Result<(), Fail> {
+    let bytes = spelled(alloc, text)?;
+    let findings = ObjectFile::decode(alloc, bytes.as_slice())?.check(alloc)?;
+    assert_eq!(rt; findings.len(), want.len(), "example {example}");
+    for (i, (fault, offset)) in want.iter().enumerate() {
+        assert_eq!(rt;
+            *findings.at(i),
+            found(*fault, *offset),
+            "example {example}"
+        );
+    }
+    Ok(())
+}
+
 #[test]
 fn worked_examples(rt: HostRuntime) -> Result<(), Fail> {
-    let code = |offset: u32| [
-        0x3E7,
-        1,
-        0x6100_0000,
-        0x3E9,
-        2,
-        0x4EB9_0000,
-        0x4E75,
-        0x3EF,
-        0x8100_0001,
-        0x5F66_0000,
-        1,
-        offset,
-        0x0100_0001,
-        0x5F6D_0000,
-        0,
-        0,
-        0x3F2,
-    ];
-    let common = |offset: u32| [
-        0x3E7,
-        0,
-        0x3EB,
-        2,
-        0x3EF,
-        0x8200_0001,
-        0x6300_0000,
-        8,
-        1,
-        offset,
-        0,
-        0x3F2,
-    ];
-    let (fits, passes) = (code(2), code(5));
-    let (last, behind) = (common(4), common(5));
-    let rows = [
-        (fits.as_slice(), [].as_slice()),
-        (
-            passes.as_slice(),
-            [(FindingKind::OutsideHunk, 5)].as_slice(),
-        ),
-        (
-            [0x3E7, 0, 0x3E9, 1, 0, 0x3EC, 1, 1, 2, 0, 0x3F2].as_slice(),
-            [(FindingKind::BadTarget, 2), (FindingKind::OutsideHunk, 2)].as_slice(),
-        ),
-        (
-            [0x3E7, 0, 0x3E7, 1, 0x6200_0000, 0x3EB, 4, 0x3F2].as_slice(),
-            [].as_slice(),
-        ),
-        (last.as_slice(), [].as_slice()),
-        (
-            behind.as_slice(),
-            [(FindingKind::OutsideHunk, 5)].as_slice(),
-        ),
-        (
-            [
-                0x3E7,
-                1,
-                0x6100_0000,
-                0x3E9,
-                2,
-                0,
-                0,
-                0x3FD,
-                1,
-                0,
-                4,
-                0,
-                0x3FE,
-                1,
-                0,
-                6,
-                0,
-                0x3EF,
-                0x8800_0001,
-                0x5F66_0000,
-                1,
-                4,
-                0x8A00_0001,
-                0x5F67_0000,
-                1,
-                7,
-                0,
-                0x3F2,
-            ]
-            .as_slice(),
-            [(FindingKind::OutsideHunk, 7)].as_slice(),
-        ),
-    ];
-    for (longs, want) in rows {
-        let bytes = bytes_of(rt.alloc(), longs)?;
-        let file = ObjectFile::decode(rt.alloc(), bytes.as_slice())?;
-        let findings = file.check(rt.alloc())?;
-        assert_eq!(rt; findings.len(), want.len(), "{longs:?}");
-        for (i, (fault, offset)) in want.iter().enumerate() {
-            assert_eq!(rt; *findings.at(i), found(*fault, *offset), "{longs:?}");
-        }
+    for (example, text, want) in FINDINGS {
+        expect(&rt, rt.alloc(), (*example, text), want)?;
     }
     Ok(())
 }

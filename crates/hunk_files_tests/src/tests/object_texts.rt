@@ -3,164 +3,26 @@ ghost use Rattle.std.specs.Prelude.{◌≡◌, None};
 
 use hunk_blocks::Body;
 use hunk_files::ObjectFile;
-use hunk_testing::bytes_of;
+use hunk_testing::{examples, spelled};
 use hunk_words::{Failed, FromWrite, LongWriter, Sink, WriteFault};
 use std::alloc::Global;
+use std::process::Abort;
 use std::test::Fail;
 
 /// Each text with what is left of it by `strip`.
-const TEXTS: [(&[u32], &[u32]); 6] = [
-    (&[0x3E7, 0], &[0x3E7, 0]),
+const TEXTS: &[(&str, &str)] = &[
+    ("3E7 0", "3E7 0"),
+    (examples::OBJECT, examples::OBJECT),
     (
-        &[
-            0x3E7,
-            1,
-            0x6100_0000,
-            0x3E9,
-            2,
-            0x4EB9_0000,
-            0x4E75,
-            0x3EF,
-            0x8100_0001,
-            0x5F66_0000,
-            1,
-            2,
-            0x0100_0001,
-            0x5F6D_0000,
-            0,
-            0,
-            0x3F2,
-        ],
-        &[
-            0x3E7,
-            1,
-            0x6100_0000,
-            0x3E9,
-            2,
-            0x4EB9_0000,
-            0x4E75,
-            0x3EF,
-            0x8100_0001,
-            0x5F66_0000,
-            1,
-            2,
-            0x0100_0001,
-            0x5F6D_0000,
-            0,
-            0,
-            0x3F2,
-        ],
+        "3E7 0 / 3E7 1 62000000 / 3EB 4 / 3F2",
+        "3E7 0 / 3E7 1 62000000 / 3EB 4 / 3F2",
     ),
+    (examples::RELATIVE_OBJECT, examples::RELATIVE_OBJECT),
+    ("3E7 0 / 200004D2 0 / 3EB 1 / 3F2", "3E7 0 / 3EB 1 / 3F2"),
     (
-        &[0x3E7, 0, 0x3E7, 1, 0x6200_0000, 0x3EB, 4, 0x3F2],
-        &[0x3E7, 0, 0x3E7, 1, 0x6200_0000, 0x3EB, 4, 0x3F2],
-    ),
-    (
-        &[
-            0x3E7,
-            1,
-            0x6100_0000,
-            0x3E9,
-            2,
-            0,
-            0,
-            0x3FD,
-            1,
-            0,
-            4,
-            0,
-            0x3FE,
-            1,
-            0,
-            6,
-            0,
-            0x3EF,
-            0x8800_0001,
-            0x5F66_0000,
-            1,
-            4,
-            0x8A00_0001,
-            0x5F67_0000,
-            1,
-            7,
-            0,
-            0x3F2,
-        ],
-        &[
-            0x3E7,
-            1,
-            0x6100_0000,
-            0x3E9,
-            2,
-            0,
-            0,
-            0x3FD,
-            1,
-            0,
-            4,
-            0,
-            0x3FE,
-            1,
-            0,
-            6,
-            0,
-            0x3EF,
-            0x8800_0001,
-            0x5F66_0000,
-            1,
-            4,
-            0x8A00_0001,
-            0x5F67_0000,
-            1,
-            7,
-            0,
-            0x3F2,
-        ],
-    ),
-    (
-        &[0x3E7, 0, 0x2000_04D2, 0, 0x3EB, 1, 0x3F2],
-        &[0x3E7, 0, 0x3EB, 1, 0x3F2],
-    ),
-    (
-        &[
-            0x3E7,
-            1,
-            0x6100_0000,
-            0x3E8,
-            1,
-            0x6200_0000,
-            0x8000_03EA,
-            0xC000_0001,
-            7,
-            0x3F0,
-            1,
-            0x5F6D_0000,
-            0,
-            0,
-            0x3EC,
-            1,
-            0,
-            0,
-            0,
-            0x3F1,
-            1,
-            0x3F2,
-            0x4000_03F2,
-        ],
-        &[
-            0x3E7,
-            1,
-            0x6100_0000,
-            0x8000_03EA,
-            0xC000_0001,
-            7,
-            0x3EC,
-            1,
-            0,
-            0,
-            0,
-            0x4000_03F2,
-        ],
+        "3E7 1 61000000 / 3E8 1 62000000 / 800003EA C0000001 7 / 3F0 1 5F6D0000 0 0 / \
+            3EC 1 0 0 0 / 3F1 1 3F2 / 400003F2",
+        "3E7 1 61000000 / 800003EA C0000001 7 / 3EC 1 0 0 0 / 400003F2",
     ),
 ];
 
@@ -193,32 +55,33 @@ fn no_bytes(alloc: Global) -> LongWriter<FromWrite<Vec<u8>>>
     LongWriter::new(FromWrite::new(Vec::new(alloc)))
 }
 
+/// Sees that the file is written again as it was read, and stripped as told.
+fn expect_again(rt: &impl Abort, alloc: Global, bytes: &[u8], stripped: &[u8]) -> Result<(), Fail> {
+    let file = ObjectFile::decode(alloc, bytes)?;
+    let mut writer = no_bytes(alloc);
+    assert_eq!(rt; file.encode(&mut writer), Ok(()));
+    assert_eq!(rt; writer.written(), bytes.len() as u64);
+    assert_eq!(rt; writer.into_inner().into_inner().as_slice(), bytes);
+    let mut writer = no_bytes(alloc);
+    assert_eq!(rt; file.strip().encode(&mut writer), Ok(()));
+    assert_eq!(rt; writer.into_inner().into_inner().as_slice(), stripped);
+    Ok(())
+}
+
 #[test]
 fn what_was_read(rt: HostRuntime) -> Result<(), Fail> {
-    for (longs, stripped) in TEXTS {
-        let bytes = bytes_of(rt.alloc(), longs)?;
-        let file = ObjectFile::decode(rt.alloc(), bytes.as_slice())?;
-        let mut writer = no_bytes(rt.alloc());
-        assert_eq!(rt; file.encode(&mut writer), Ok(()));
-        assert_eq!(rt; writer.written(), bytes.len() as u64);
-        let again = writer.into_inner().into_inner();
-        assert_eq!(rt; again.as_slice(), bytes.as_slice(), "{longs:?}");
-        let mut writer = no_bytes(rt.alloc());
-        assert_eq!(rt; file.strip().encode(&mut writer), Ok(()));
-        let kept = writer.into_inner().into_inner();
-        assert_eq!(rt;
-            kept.as_slice(),
-            bytes_of(rt.alloc(), stripped)?.as_slice(),
-            "{longs:?}"
-        );
+    for (text, stripped) in TEXTS {
+        let bytes = spelled(rt.alloc(), text)?;
+        let stripped = spelled(rt.alloc(), stripped)?;
+        expect_again(&rt, rt.alloc(), bytes.as_slice(), stripped.as_slice())?;
     }
     Ok(())
 }
 
 #[test]
 fn to_a_sink_that_stops(rt: HostRuntime) -> Result<(), Fail> {
-    for (longs, _) in TEXTS {
-        let bytes = bytes_of(rt.alloc(), longs)?;
+    for (text, _) in TEXTS {
+        let bytes = spelled(rt.alloc(), text)?;
         let file = ObjectFile::decode(rt.alloc(), bytes.as_slice())?;
         for room in 0..bytes.len() {
             let written = room as u64;
@@ -236,8 +99,7 @@ fn to_a_sink_that_stops(rt: HostRuntime) -> Result<(), Fail> {
 /// What a file tells of a unit, its hunk and a block.
 #[test]
 fn what_is_told(rt: HostRuntime) -> Result<(), Fail> {
-    let longs = [0x3E7, 1, 0x6100_0000, 0x3E9, 1, 0, 0x3F7, 1, 0, 0, 0, 0x3F2];
-    let bytes = bytes_of(rt.alloc(), longs.as_slice())?;
+    let bytes = spelled(rt.alloc(), "3E7 1 61000000 / 3E9 1 0 / 3F7 1 0 0 0 / 3F2")?;
     let file = ObjectFile::decode(rt.alloc(), bytes.as_slice())?;
     let unit = file.units().first().ok_or("no unit")?;
     assert_eq!(rt; unit.name().bytes(), [0x61, 0, 0, 0].as_slice());

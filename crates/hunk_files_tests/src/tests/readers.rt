@@ -2,32 +2,14 @@
 
 use crate::tests::ONE_HUNK;
 use hunk_files::{LoadFile, Row, Sniff, sniff};
-use hunk_testing::bytes_of;
+use hunk_testing::{bytes_of, examples, spelled};
 use hunk_words::{BlockWord, Memory};
 use std::test::Fail;
 
-/// A hunk with memory attributes, and an empty one.
+/// Example 8: a hunk with memory attributes, and an empty one.
 #[test]
 fn tables_and_blocks(rt: HostRuntime) -> Result<(), Fail> {
-    let longs = [
-        0x3F3,
-        0,
-        2,
-        0,
-        1,
-        0xC000_0002,
-        0x0001_0004,
-        1,
-        0x3E9,
-        2,
-        0x4E71_4E71,
-        0x4E75_4E71,
-        0x3F2,
-        0x3EB,
-        1,
-        0x3F2,
-    ];
-    let bytes = bytes_of(rt.alloc(), longs.as_slice())?;
+    let bytes = spelled(rt.alloc(), examples::WITH_ATTRIBUTES)?;
     let (file, _) = match LoadFile::decode(rt.alloc(), bytes.as_slice()) {
         Ok(decoded) => decoded,
         Err(fault) => panic!(&rt; "{fault:?}"),

@@ -3,7 +3,7 @@ ghost use Rattle.std.specs.Prelude.{None};
 
 use crate::tests::{ONE_HUNK, before_end, changed};
 use hunk_files::LoadFile;
-use hunk_testing::bytes_of;
+use hunk_testing::{bytes_of, examples, spelled};
 use hunk_words::{Failed, FromWrite, LongWriter, Sink, WriteFault};
 use std::alloc::Global;
 use std::test::Fail;
@@ -21,6 +21,10 @@ fn rewritten(alloc: Global, bytes: &[u8], strip: bool) -> Option<Vec<u8>> {
     }
 }
 
+/// Memory attributes, and relocations in two groups.
+const WITH_TWO_RELOCATIONS: &str = "3F3 0 2 0 1 C0000002 10004 1 / 3E9 2 4E714E71 4E754E71 / \
+    3EC 1 0 0 1 0 4 0 / 3F2 / 3EB 1 / 3F2";
+
 /// What was read is written again byte for byte, with its flags and its empty blocks.
 #[test]
 fn written_again(rt: HostRuntime) -> Result<(), Fail> {
@@ -31,36 +35,7 @@ fn written_again(rt: HostRuntime) -> Result<(), Fail> {
         changed(rt.alloc(), 28, 0x8000_0001)?,
         changed(rt.alloc(), 36, 0x2000_03F2)?,
         before_end(rt.alloc(), [0x3F0, 1, 0x5F6D_0000, 0, 0].as_slice())?,
-        bytes_of(
-            rt.alloc(),
-            [
-                0x3F3,
-                0,
-                2,
-                0,
-                1,
-                0xC000_0002,
-                0x0001_0004,
-                1,
-                0x3E9,
-                2,
-                0x4E71_4E71,
-                0x4E75_4E71,
-                0x3EC,
-                1,
-                0,
-                0,
-                1,
-                0,
-                4,
-                0,
-                0x3F2,
-                0x3EB,
-                1,
-                0x3F2,
-            ]
-            .as_slice(),
-        )?,
+        spelled(rt.alloc(), WITH_TWO_RELOCATIONS)?,
     ];
     for bytes in &rows {
         let again = rewritten(rt.alloc(), bytes.as_slice(), false);
@@ -82,20 +57,8 @@ fn stripped(rt: HostRuntime) -> Result<(), Fail> {
             bytes_of(rt.alloc(), ONE_HUNK.as_slice())?,
         ),
         (
-            bytes_of(
-                rt.alloc(),
-                [
-                    0x3F3, 0, 1, 0, 0, 1, 0x3E9, 1, 0x10, 0x3F0, 0, 0x3EC, 1, 0, 0, 0, 0x3F2,
-                ]
-                .as_slice(),
-            )?,
-            bytes_of(
-                rt.alloc(),
-                [
-                    0x3F3, 0, 1, 0, 0, 1, 0x3E9, 1, 0x10, 0x3EC, 1, 0, 0, 0, 0x3F2,
-                ]
-                .as_slice(),
-            )?,
+            spelled(rt.alloc(), examples::RELOCATED_BEHIND_SYMBOLS)?,
+            spelled(rt.alloc(), "3F3 0 1 0 0 1 / 3E9 1 10 / 3EC 1 0 0 0 / 3F2")?,
         ),
     ];
     for (bytes, want) in &rows {

@@ -285,6 +285,33 @@ fn packing(rt: HostRuntime) -> Result<(), Fail> {
     Ok(())
 }
 
+/// Example 20: it is displayed as the load is refused, at the end of the header.
+#[test]
+fn unplaced_text(rt: HostRuntime) -> Result<(), Fail> {
+    let declared = declared(&rt, rt.alloc(), TWO_HUNKS, 28)?;
+    let Err(unplaced) = declared.place(&Listed([0x10000].as_slice())) else {
+        panic!(rt; "placed");
+    };
+    let text = format!(in rt.alloc(); "{unplaced}")?;
+    assert_eq!(rt; text.as_str(), "refused at byte 28: NoBase (29) hunk 1");
+    Ok(())
+}
+
+/// Loaders are shown by their counts.
+#[test]
+fn debug_texts(rt: HostRuntime) -> Result<(), Fail> {
+    let header = HeaderLoader::new(rt.alloc(), 1000);
+    let text = format!(in rt.alloc(); "{header:?}")?;
+    assert_eq!(rt; text.as_str(), "HeaderLoader { held: 0, want: 24, .. }");
+    let loader = body(&rt, rt.alloc())?;
+    let text = format!(in rt.alloc(); "{loader:?}")?;
+    assert_eq!(rt;
+        text.as_str(),
+        "BodyLoader { hunks: 1, fed: 24, refused: None, .. }"
+    );
+    Ok(())
+}
+
 /// A loader of the body behind the header of example 1.
 pub(super) fn body(rt: &impl Abort, alloc: Global) -> Result<BodyLoader, Fail> {
     let declared = declared(rt, alloc, ONE_HUNK, 24)?;
