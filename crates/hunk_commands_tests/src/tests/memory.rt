@@ -36,6 +36,8 @@ fn outcome(alloc: Global, call: Call, bytes: &[u8]) -> (Option<RunFault>, u64) {
 /// What it answers with ever more of the room left, so that ever later growths are refused.
 fn outcomes(alloc: Global, call: Call, bytes: &[u8]) -> Result<Vec<(Option<RunFault>, u64)>, Fail> {
     let mut answers = vec![in alloc; (None, 0); STEPS]?;
+    // The stack grows to what a call needs while there is memory for it.
+    let (_fault, _written) = outcome(alloc, call, bytes);
     let room = Vec::<u8>::with_capacity(alloc, ROOM)?;
     let pieces = all_memory(alloc)?;
     drop(room);
