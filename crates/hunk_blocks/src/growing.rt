@@ -6,12 +6,13 @@ use std::alloc::AllocError;
 /// Room for so many is taken where a list has none.
 const FIRST_ROOM: usize = 4;
 
-/// Appends the item; a list that has no room gets its first at once, which costs half of what growing does.
+/// Appends the item; a list that has no room gets its first at once, without the call that grows a list.
 ///
 /// An `Err` drops the item, and leaves the list as it was.
 #[inline(always)]
 pub fn append<T: Drop>(list: &mut Vec<T>, item: T) -> Result<(), AllocError>
-    ensures { list.new.items ≡ (if is_ok result then list.old.items ++ item ∷ [] else list.old.items) }
+    ensures { list.new.items
+        ≡ (if is_ok result then list.old.items ++ item ∷ [] else list.old.items) }
 {
     if list.is_empty() && list.capacity() == 0 {
         *list = Vec::with_capacity(*list.allocator(), FIRST_ROOM)?;
