@@ -73,11 +73,8 @@ fn bytes_in(pieces: &[Vec<u8>]) -> usize {
 
 /// A value made where there is no memory but a room of 32 MiB, and how many bytes the allocator gives
 /// beside it.
-///
-/// What one value leaves can be compared with what another leaves, up to 64 bytes that the allocator
-/// adds to pieces.
-pub fn left_beside<T: Drop, F: Fn() -> T>(alloc: Global, make: F) -> Result<(T, usize), AllocError>
-    requires { F.IsAlwaysCallable make }
+fn left_once<T: Drop, F: Fn() -> T>(alloc: Global, make: &F) -> Result<(T, usize), AllocError>
+    requires { F.IsAlwaysCallable make.now }
 {
     let mut pieces = Vec::with_capacity(alloc, PIECES)?;
     // The allocator gives large pieces otherwise until some were given back.
@@ -92,6 +89,20 @@ pub fn left_beside<T: Drop, F: Fn() -> T>(alloc: Global, make: F) -> Result<(T, 
     drop(front);
     drop(held);
     Ok((value, left))
+}
+
+/// A value made where there is no memory but a room of 32 MiB, and how many bytes the allocator gives
+/// beside it: the most of three measures, since now and then it keeps some of the room for itself.
+///
+/// What one value leaves can be compared with what another leaves, up to 64 bytes that the allocator
+/// adds to pieces.
+pub fn left_beside<T: Drop, F: Fn() -> T>(alloc: Global, make: F) -> Result<(T, usize), AllocError>
+    requires { F.IsAlwaysCallable make }
+{
+    let (_, first) = left_once(alloc, &make)?;
+    let (_, second) = left_once(alloc, &make)?;
+    let (value, third) = left_once(alloc, &make)?;
+    Ok((value, first.max(second).max(third)))
 }
 
 /// The bytes from one size that the allocator gives to the next.
