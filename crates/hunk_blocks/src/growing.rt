@@ -1,5 +1,16 @@
 //! Lists that grow.
-ghost use Rattle.std.specs.Prelude.{◌≡◌, ◌++◌, ◌∷◌, [], is_ok, if◌then◌else◌};
+ghost use Rattle.std.specs.Prelude.{
+  ◌≡◌,
+  ◌≤◌,
+  ◌++◌,
+  ◌∷◌,
+  [],
+  OnErr,
+  is_ok,
+  if◌then◌else◌,
+  vec_capacity,
+  vec_len,
+};
 
 use std::alloc::AllocError;
 
@@ -11,8 +22,11 @@ const FIRST_ROOM: usize = 4;
 /// An `Err` drops the item, and leaves the list as it was.
 #[inline(always)]
 pub fn append<T: Drop>(list: &mut Vec<T>, item: T) -> Result<(), AllocError>
-    ensures { list.new.items
+    ensures items { list.new.items
         ≡ (if is_ok result then list.old.items ++ item ∷ [] else list.old.items) }
+
+    // Only a list without room to spare can ask for memory that isn't there.
+    ensures full { OnErr result (vec_capacity list.old ≤ vec_len list.old) }
 {
     if list.is_empty() && list.capacity() == 0 {
         *list = Vec::with_capacity(*list.allocator(), FIRST_ROOM)?;
