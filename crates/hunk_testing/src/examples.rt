@@ -8,6 +8,12 @@ pub const ONE_HUNK: &str = "3F3 0 1 0 0 1 / 3E9 1 4E754E71 / 3F2";
 pub const TWO_HUNKS: &str =
     "3F3 0 2 0 1 2 1 / 3E9 2 4EF90000 00044E71 / 3EC 1 1 2 0 / 3F2 / 3EA 1 12345678 / 3F2";
 
+/// Example 3: a base is added past 2^32.
+pub const RELOCATED: &str = "3F3 0 1 0 0 1 / 3E9 1 FFFFFFFC / 3EC 1 0 0 0 / 3F2";
+
+/// Example 4: one hunk that has fewer bytes than it declares.
+pub const ENDING_EARLY: &str = "3F3 0 1 0 0 3 / 3E9 1 4E754E71 / 3F2";
+
 /// Example 5: two bases added to one longword.
 pub const TWO_BASES: &str = "3F3 0 2 0 1 1 1 / 3E9 1 10 / 3EC 1 0 0 1 1 0 0 / 3F2 / 3EB 1 / 3F2";
 
@@ -25,15 +31,65 @@ pub const ENDING_IN_ZEROS: &str = "3F3 0 2 0 1 2 3 / 3E9 1 4E754E71 / 3F2 / 3EB 
 pub const WITH_ATTRIBUTES: &str =
     "3F3 0 2 0 1 C0000002 10004 1 / 3E9 2 4E714E71 4E754E71 / 3F2 / 3EB 1 / 3F2";
 
+/// Example 11: a relocation of a hunk's last longword; of one that passes its end; and one whose target is no hunk.
+pub const RELOCATED_AT_ITS_END: &str = "3F3 0 1 0 0 2 / 3E9 2 0 0 / 3EC 1 0 4 0 / 3F2";
+
+pub const RELOCATED_PAST_ITS_END: &str = "3F3 0 1 0 0 2 / 3E9 2 0 0 / 3EC 1 0 5 0 / 3F2";
+
+pub const RELOCATED_BY_NO_HUNK: &str = "3F3 0 1 0 0 2 / 3E9 2 0 0 / 3EC 1 1 4 0 / 3F2";
+
+/// Example 12: a relocation where nothing is, and a block of none.
+pub const NOTHING_TO_RELOCATE: &str = "3F3 0 1 0 0 0 / 3EB 0 / 3EC 1 0 0 0 / 3F2";
+
+pub const NO_RELOCATION: &str = "3F3 0 1 0 0 0 / 3EB 0 / 3EC 0 / 3F2";
+
+/// Example 13: an object file with a relocation of short words' kind.
+pub const OBJECT_WITH_DREL32: &str = "3E7 1 61000000 / 3E9 1 0 / 3F7 1 0 0 0 / 3F2";
+
 /// Example 14: an object file with a reference and a definition.
 pub const OBJECT: &str = "3E7 1 61000000 / 3E9 2 4EB90000 00004E75 / \
     3EF 81000001 5F660000 1 2 1000001 5F6D0000 0 0 / 3F2";
+
+/// Example 14 with an offset behind the hunk.
+pub const OBJECT_AMISS: &str = "3E7 1 61000000 / 3E9 2 4EB90000 00004E75 / \
+    3EF 81000001 5F660000 1 5 1000001 5F6D0000 0 0 / 3F2";
+
+/// Example 18: a symbol.
+pub const WITH_A_SYMBOL: &str = "3F3 0 1 0 0 1 / 3E9 1 4E754E71 / 3F0 1 5F6D0000 0 0 / 3F2";
+
+/// Example 19: an advisory block, in which END's block word stands.
+pub const WITH_AN_ADVISORY: &str = "3F3 0 1 0 0 1 / 3E9 1 4E754E71 / 200004D2 2 DEADBEEF 3F2 / 3F2";
+
+/// Example 24: a name with bytes that are not printed as they are.
+pub const WITH_A_NAME: &str = "3F3 0 1 0 0 1 / 3E8 1 2E740A5C / 3E9 1 4E754E71 / 3F2";
+
+/// Example 26: an object file of one unit without a hunk.
+pub const EMPTY_UNIT: &str = "3E7 0";
+
+/// Example 29: an object file with a relocation of which two things are found.
+pub const TWO_FINDINGS: &str = "3E7 0 / 3E9 1 0 / 3EC 1 1 2 0 / 3F2";
+
+/// Example 34: an object file of an empty unit and another.
+pub const EMPTY_UNIT_AND_ANOTHER: &str = "3E7 0 / 3E7 1 62000000 / 3EB 4 / 3F2";
+
+/// Example 35: an object file with a common symbol, and the same with an offset behind the hunk.
+pub const COMMON: &str = "3E7 0 / 3EB 2 / 3EF 82000001 63000000 8 1 4 0 / 3F2";
+
+pub const COMMON_AMISS: &str = "3E7 0 / 3EB 2 / 3EF 82000001 63000000 8 1 5 0 / 3F2";
 
 /// Example 36: two relocated longs that overlap, which are no neighbours in the list.
 pub const OVERLAPPING_APART: &str = "3F3 0 1 0 0 4 / 3EB 4 / 3EC 3 0 0 8 2 0 / 3F2";
 
 /// Example 37: a relocation behind a SYMBOL block.
 pub const RELOCATED_BEHIND_SYMBOLS: &str = "3F3 0 1 0 0 1 / 3E9 1 10 / 3F0 0 / 3EC 1 0 0 0 / 3F2";
+
+/// What strip leaves of example 37.
+pub const RELOCATED_ALONE: &str = "3F3 0 1 0 0 1 / 3E9 1 10 / 3EC 1 0 0 0 / 3F2";
+
+/// Example 44: an object file with an advisory block before its content, and what strip leaves of it.
+pub const OBJECT_WITH_AN_ADVISORY: &str = "3E7 0 / 200004D2 0 / 3EB 1 / 3F2";
+
+pub const OBJECT_WITHOUT_IT: &str = "3E7 0 / 3EB 1 / 3F2";
 
 /// Example 45: an object file with relative relocations and references.
 pub const RELATIVE_OBJECT: &str = "3E7 1 61000000 / 3E9 2 0 0 / 3FD 1 0 4 0 / 3FE 1 0 6 0 / \

@@ -1,13 +1,21 @@
-//! What the tests of several crates use: the bytes of longwords, worked examples, a source that fails
-//! once, and memory taken, so that growths are refused.
+//! What the tests of several crates use: the bytes of longwords, worked examples, sources and a writer that
+//! take their time and fail where they are told to, and memory taken, so that growths are refused.
 #![tactic(auto)]
 
+mod changes;
+mod computed;
 pub mod examples;
 mod growths;
 mod sources;
+mod writers;
 
-pub use crate::growths::{Held, all_but, all_memory, answers_growth_by_growth, left_beside};
-pub use crate::sources::FailsOnce;
+pub use crate::changes::{CHANGES, Change, changed};
+pub use crate::computed::{Computed, Longs};
+pub use crate::growths::{
+    Held, all_but, all_memory, answers_growth_by_growth, left_beside, memory_ends,
+};
+pub use crate::sources::{FailsOnce, Fed, Interrupted, Then};
+pub use crate::writers::{Narrow, WIDTH};
 use std::alloc::{AllocError, Global};
 
 /// The bytes of the longwords.
