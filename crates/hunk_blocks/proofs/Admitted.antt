@@ -1,8 +1,6 @@
 -- A block word that no test refuses, and one that is refused.
 use Rattle.std.proofs.Common.{◌≡◌, ◌≢◌, ℕ, ◌/◌, ◌^◌, Bool, true, false, ◌||◌, cond, eqb, ltb, Option, Some, None, refl, sym, ap, subst, ◌∙◌}
 use Rattle.std.specs.Prelude.{IsTrue, nat_lt, if◌then◌else◌}
-use Rattle.std.specs.Int.{is_in_range}
-use Rattle.std.proofs.lemmas.Bool.{eqb-true}
 use Rattle.hunk_words.specs.declared.block_word.Kind.{Kind}
 use Rattle.hunk_words.specs.declared.block_word.Kind.TheVariants as kinds
 use Rattle.hunk_words.specs.declared.reason.Reason.{Reason}
@@ -10,10 +8,10 @@ use Rattle.hunk_words.specs.declared.reason.Reason.TheVariants as reasons
 use Rattle.hunk_words.specs.Bits.{has_both_bits, is_advisory, kind}
 use Rattle.hunk_blocks.specs.declared.mode.Mode.{Mode}
 use Rattle.hunk_blocks.specs.declared.mode.Mode.TheVariants as modes
-use Rattle.hunk_blocks.specs.declared.ext_shape.ExtShape.TheVariants.{Defines, Refers, Shares, Refused}
 use Rattle.hunk_blocks.specs.declared.ext_shape.ExtShape.{ExtShape}
 use Rattle.hunk_words.specs.Limits.{name_limit}
-use Rattle.hunk_blocks.specs.Values.{ext_shape, BlockBody, Name, Code, Data, Bss, Reloc, Ext, Symbol, Debug, Advisory, End, BlockValue, is_relocation, is_unknown, FitsWord, IsBlock}
+use Rattle.hunk_blocks.specs.ExtKinds.{ext_shape}
+use Rattle.hunk_blocks.specs.Values.{BlockBody, Name, Code, Data, Bss, Reloc, Ext, Symbol, Debug, Advisory, End, BlockValue, is_relocation, is_unknown, FitsWord, IsBlock}
 use Rattle.hunk_blocks.specs.Parts.{Part, Part as parts}
 use Rattle.hunk_blocks.specs.Modes.{IsOfMode, is_block_refusal, refuse_alone_kind, refuse_alone_word, refuse_inside, refuse_shape}
 use Rattle.hunk_blocks.specs.Faults.{refuse_alone}
@@ -121,8 +119,8 @@ kind_not_for_memory mode false (kinds.Unknown n) = refl
 kind_not_for_memory modes.Load advisory _ = refl
 kind_not_for_memory modes.Object advisory _ = refl
 
-shape_not_for_memory : (s : ExtShape) → not_for_memory (refuse_shape s) ≡ true
-shape_not_for_memory Refused = refl
+shape_not_for_memory : (s : Option ExtShape) → not_for_memory (refuse_shape s) ≡ true
+shape_not_for_memory None = refl
 shape_not_for_memory _ = refl
 
 inside_not_for_memory : (part : Part) (w : ℕ) → not_for_memory (refuse_inside part w) ≡ true
@@ -151,22 +149,3 @@ pub alone_other_than_memory : (mode : Mode) (part : Part) (w : ℕ) (reason : Re
 alone_other_than_memory mode part w reason = other_than_memory (refuse_alone mode part w) reason (alone_not_for_memory mode part w)
 
 -- ---- the types of EXT entries
-
--- the types of the common blocks are in the range
-common_inside : (n : ℕ) → (eqb n 130 || eqb n 137) ≡ true → is_in_range 129 139 n ≡ true
-common_inside n e = go (eqb n 130) refl e
-  where
-    go : (b : Bool) → eqb n 130 ≡ b → (b || eqb n 137) ≡ true → is_in_range 129 139 n ≡ true
-    go true f h = ap (is_in_range 129 139) (eqb-true n 130 f)
-    go false f h = ap (is_in_range 129 139) (eqb-true n 137 h)
-
--- The types that are accepted, in two ranges.
-pub ext_type_split : (n : ℕ) → (if nat_lt n 3 then None else if is_in_range 129 139 n then None else Some reasons.ExtKind) ≡ refuse_shape (ext_shape n)
-ext_type_split n = go (ltb n 3) (eqb n 130 || eqb n 137) (is_in_range 129 139 n) (common_inside n)
-  where
-    go : (d s r : Bool) → (s ≡ true → r ≡ true) → cond d None (cond r None (Some reasons.ExtKind)) ≡ refuse_shape (cond d Defines (cond s Shares (cond r Refers Refused)))
-    go true s r h = refl
-    go false true true h = refl
-    go false true false h = let e = h refl in cc
-    go false false true h = refl
-    go false false false h = refl

@@ -1,13 +1,15 @@
 -- Whatever has been read of a block can be completed, with a zero for each longword that is owed.
-use Rattle.std.proofs.Common.{◌≡◌, ℕ, zero, suc, ◌/◌, ◌^◌, List, [], ◌∷◌, ◌++◌, refl, sym, ap, subst, ◌∙◌, append_assoc, append-nil, arith, None}
+use Rattle.std.proofs.Common.{◌≡◌, ℕ, zero, suc, ◌/◌, ◌^◌, List, [], ◌∷◌, ◌++◌, refl, sym, ap, subst, ◌∙◌, append_assoc, append-nil, arith, None, Option, Some}
 use Rattle.std.specs.List.{AllByRecursion}
 use Rattle.hunk_words.specs.Longs.{IsLong}
 use Rattle.hunk_blocks.specs.declared.ext_shape.ExtShape.{ExtShape}
-use Rattle.hunk_blocks.specs.declared.ext_shape.ExtShape.TheVariants.{Defines, Refers, Shares, Refused}
-use Rattle.hunk_blocks.specs.Values.{BlockBody, Bss, Reloc, Ext, Symbol, FitsWord, RelocGroup, ExtEntry, SymbolEntry, ext_shape}
+use Rattle.hunk_blocks.specs.declared.ext_shape.ExtShape.TheVariants.{Definition, References, Common}
+use Rattle.hunk_blocks.specs.ExtKinds.{ext_shape}
+use Rattle.hunk_blocks.specs.Values.{BlockBody, Bss, Reloc, Ext, Symbol, FitsWord, RelocGroup, ExtEntry, SymbolEntry}
 use Rattle.hunk_blocks.specs.Parts.{Part, body_parts}
 use Rattle.hunk_blocks.specs.Modes.{refuse_inside}
 use Rattle.hunk_blocks.specs.BlockSteps.{ForName, ForDebug, ForAdvisory, ForCode, ForData, ForBss, Filling, Counted, SizedCode, SizedData, Inside, AtCount, AtSize, InPayload, AtGroup, AtTarget, InOffsets, AtEntry, InName, AtValue, AtExtWord, InExtName, AtExtValue, AtExtSize, AtExtCount, InExtOffsets, BlockNext, Open, Whole, group, entry, external, part_of, step_inside, fill, filled_body, relocate, name_entry, shaped, name_external, refer, Follows}
+use Rattle.hunk_blocks.proofs.ExtLaws.{end_passes}
 use Rattle.hunk_blocks.proofs.BlockProgress.{read_inside, read_next, NextFits, step_fits, step_reads}
 
 abbrev PartGoes : Part × ℕ → Type 0
@@ -51,7 +53,7 @@ named entries word done (suc owed) = on_zero (InName entries word done owed) ref
 -- ---- external entries
 
 at_ext_word : (entries : List ExtEntry) → Completes (Open (AtExtWord entries))
-at_ext_word entries = on_zero (AtExtWord entries) refl (whole (Ext entries))
+at_ext_word entries = on_zero (AtExtWord entries) end_passes (whole (Ext entries))
 
 referred : (entries : List ExtEntry) (word : ℕ) (name : List ℕ) (value : ℕ) (done : List ℕ) (owed : ℕ) → Completes (refer entries word name value done owed)
 referred entries word name value done zero = at_ext_word (entries ++ external word name value done ∷ [])
@@ -66,11 +68,11 @@ at_ext_size entries word name = on_zero (AtExtSize entries word name) refl (at_e
 at_ext_value : (entries : List ExtEntry) (word : ℕ) (name : List ℕ) → Completes (Open (AtExtValue entries word name))
 at_ext_value entries word name = on_zero (AtExtValue entries word name) refl (at_ext_word (entries ++ external word name 0 [] ∷ []))
 
-behind_name : (s : ExtShape) (entries : List ExtEntry) (word : ℕ) (name : List ℕ) → Completes (shaped s entries word name)
-behind_name Defines entries word name = at_ext_value entries word name
-behind_name Refers entries word name = at_ext_count entries word name 0
-behind_name Shares entries word name = at_ext_size entries word name
-behind_name Refused entries word name = at_ext_word entries
+behind_name : (s : Option ExtShape) (entries : List ExtEntry) (word : ℕ) (name : List ℕ) → Completes (shaped s entries word name)
+behind_name (Some Definition) entries word name = at_ext_value entries word name
+behind_name (Some References) entries word name = at_ext_count entries word name 0
+behind_name (Some Common) entries word name = at_ext_size entries word name
+behind_name None entries word name = at_ext_word entries
 
 ext_named : (entries : List ExtEntry) (word : ℕ) (done : List ℕ) (owed : ℕ) → Completes (name_external entries word done owed)
 ext_named entries word done zero = behind_name (ext_shape (word / 2 ^ 24)) entries word done

@@ -1,10 +1,11 @@
 -- The longwords of a block are longs.
-use Rattle.std.proofs.Common.{ℕ, ◌/◌, ◌^◌, List, [], ◌∷◌, ◌++◌, sym, subst, arith}
+use Rattle.std.proofs.Common.{ℕ, ◌/◌, ◌^◌, List, [], ◌∷◌, ◌++◌, sym, subst, arith, Option, Some, None}
 use Rattle.std.specs.List.{flat_map, AllByRecursion}
 use Rattle.hunk_words.specs.Longs.{IsLong, AreLongs}
 use Rattle.hunk_blocks.specs.declared.ext_shape.ExtShape.{ExtShape}
-use Rattle.hunk_blocks.specs.declared.ext_shape.ExtShape.TheVariants.{Defines, Refers, Shares, Refused}
-use Rattle.hunk_blocks.specs.Values.{RelocGroup, ExtEntry, SymbolEntry, BlockBody, Name, Code, Data, Bss, Reloc, Ext, Symbol, Debug, Advisory, End, BlockValue, ext_shape, IsPayload, IsGroup, IsSymbolEntry, IsExtEntry, FitsWord, IsBlock}
+use Rattle.hunk_blocks.specs.declared.ext_shape.ExtShape.TheVariants.{Definition, References, Common}
+use Rattle.hunk_blocks.specs.ExtKinds.{ext_shape}
+use Rattle.hunk_blocks.specs.Values.{RelocGroup, ExtEntry, SymbolEntry, BlockBody, Name, Code, Data, Bss, Reloc, Ext, Symbol, Debug, Advisory, End, BlockValue, IsPayload, IsGroup, IsSymbolEntry, IsExtEntry, FitsWord, IsBlock}
 use Rattle.hunk_blocks.specs.Parts.{group_text, ext_text, symbol_text, list_text, block_text}
 use Rattle.hunk_blocks.proofs.GroupReading.{group_text_is}
 use Rattle.hunk_blocks.proofs.SymbolReading.{symbol_text_is}
@@ -28,11 +29,11 @@ group_longs g h = subst AreLongs (sym (group_text_is g)) (h.offsets.0, (h.target
 symbol_longs : (s : SymbolEntry) → IsSymbolEntry s → AreLongs (symbol_text s)
 symbol_longs s h = subst AreLongs (sym (symbol_text_is s)) (h.entry_word.fits, longs-append s.name (s.value ∷ []) h.entry_word.longs (h.value, tt))
 
-behind_longs : (s : ExtShape) (value : ℕ) (offsets : List ℕ) → IsLong value → IsPayload (2 ^ 32) offsets → AreLongs (behind s value offsets)
-behind_longs Defines value offsets v o = (v, tt)
-behind_longs Refers value offsets v o = o
-behind_longs Shares value offsets v o = (v, o)
-behind_longs Refused value offsets v o = tt
+behind_longs : (s : Option ExtShape) (value : ℕ) (offsets : List ℕ) → IsLong value → IsPayload (2 ^ 32) offsets → AreLongs (behind s value offsets)
+behind_longs (Some Definition) value offsets v o = (v, tt)
+behind_longs (Some References) value offsets v o = o
+behind_longs (Some Common) value offsets v o = (v, o)
+behind_longs None value offsets v o = tt
 
 entry_longs : (e : ExtEntry) → IsExtEntry e → AreLongs (ext_text e)
 entry_longs e h =

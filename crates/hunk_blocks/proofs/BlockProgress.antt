@@ -1,5 +1,5 @@
 -- What has been read of a block is the text up to there, and it fits as long as no longword was refused.
-use Rattle.std.proofs.Common.{◌≡◌, ◌≢◌, ℕ, zero, suc, ◌+◌, ◌*◌, ◌/◌, ◌%◌, ◌^◌, ◌<◌, ltb, List, [], ◌∷◌, ◌++◌, length, refl, sym, ap, subst, ◌∙◌, append_assoc, append-nil, add-zero, arith, None}
+use Rattle.std.proofs.Common.{◌≡◌, ◌≢◌, ℕ, zero, suc, ◌+◌, ◌*◌, ◌/◌, ◌%◌, ◌^◌, ◌<◌, ltb, List, [], ◌∷◌, ◌++◌, length, refl, sym, ap, subst, ◌∙◌, append_assoc, append-nil, add-zero, arith, None, Option, Some}
 use Rattle.std.specs.Prelude.{IsTrue}
 use Rattle.std.specs.List.{flat_map, AllByRecursion}
 use Rattle.std.proofs.lemmas.Bool.{ltb-true}
@@ -10,8 +10,9 @@ use Rattle.hunk_words.specs.declared.reason.Reason.TheVariants as reasons
 use Rattle.hunk_words.specs.Longs.{IsLong, AreLongs}
 use Rattle.hunk_words.specs.Bits.{kind, is_advisory}
 use Rattle.hunk_blocks.specs.declared.ext_shape.ExtShape.{ExtShape}
-use Rattle.hunk_blocks.specs.declared.ext_shape.ExtShape.TheVariants.{Defines, Refers, Shares, Refused}
-use Rattle.hunk_blocks.specs.Values.{RelocGroup, ExtEntry, SymbolEntry, FitsShape, ext_shape, FitsWord, IsGroup, IsExtEntry, IsSymbolEntry, is_unknown, is_relocation}
+use Rattle.hunk_blocks.specs.declared.ext_shape.ExtShape.TheVariants.{Definition, References, Common}
+use Rattle.hunk_blocks.specs.ExtKinds.{ext_shape}
+use Rattle.hunk_blocks.specs.Values.{RelocGroup, ExtEntry, SymbolEntry, FitsShape, FitsWord, IsGroup, IsExtEntry, IsSymbolEntry, is_unknown, is_relocation}
 use Rattle.hunk_blocks.specs.Parts.{Part, Part as parts, each, group_parts, ext_parts, ext_parts_by, symbol_parts, body_parts}
 use Rattle.hunk_blocks.specs.Modes.{refuse_inside, refuse_shape, refuse_alone_kind}
 use Rattle.hunk_blocks.specs.BlockSteps.{Counting, ForName, ForDebug, ForAdvisory, Sizing, ForCode, ForData, ForBss, Filling, Counted, SizedCode, SizedData, Inside, AtCount, AtSize, InPayload, AtGroup, AtTarget, InOffsets, AtEntry, InName, AtValue, AtExtWord, InExtName, AtExtValue, AtExtSize, AtExtCount, InExtOffsets, BlockNext, Open, Whole, group, entry, external, count_part, part_of, step_inside, fill, relocate, name_entry, sized_by, grouped, entered, shaped, name_external, refer, listed, begin}
@@ -34,8 +35,8 @@ abbrev pub external_so_far : List ExtEntry → ℕ → List ℕ → List (Part �
 external_so_far entries word name = flat_map ext_parts entries ++ (parts.ExtWord, word) ∷ each parts.EntryName name
 
 -- a common size, where the type has one
-abbrev pub size_parts : ExtShape → ℕ → List (Part × ℕ)
-size_parts Shares value = (parts.EntryValue, value) ∷ []
+abbrev pub size_parts : Option ExtShape → ℕ → List (Part × ℕ)
+size_parts (Some Common) value = (parts.EntryValue, value) ∷ []
 size_parts _ value = []
 
 abbrev pub references_so_far : List ExtEntry → ℕ → List ℕ → ℕ → ℕ → List ℕ → List (Part × ℕ)
@@ -131,13 +132,13 @@ module _ (word : ℕ) where
   abbrev pub ExternalsFit : List ExtEntry → Type 0
   ExternalsFit entries = (kind word ≡ kinds.Ext) × AllByRecursion IsExtEntry entries
 
-  abbrev pub IsShape : ℕ → ExtShape → Type 0
+  abbrev pub IsShape : ℕ → Option ExtShape → Type 0
   IsShape w s = ext_shape (w / 2 ^ 24) ≡ s
 
   -- a count of references may come after this value
-  abbrev pub MayRefer : ExtShape → ℕ → Type 0
-  MayRefer Refers value = value ≡ 0
-  MayRefer Shares value = Unit {0}
+  abbrev pub MayRefer : Option ExtShape → ℕ → Type 0
+  MayRefer (Some References) value = value ≡ 0
+  MayRefer (Some Common) value = Unit {0}
   MayRefer _ value = ⊥
 
   pub record ReferencesFit (w : ℕ) (name : List ℕ) (value : ℕ) : Type 0 where
@@ -157,8 +158,8 @@ module _ (word : ℕ) where
   Fits (AtValue entries w name) = EntriesFit entries × NameFits w name (length name)
   Fits (AtExtWord entries) = ExternalsFit entries
   Fits (InExtName entries w done owed) = ExternalsFit entries × NameFits w done (length done + suc owed) × (refuse_shape (ext_shape (w / 2 ^ 24)) ≡ None)
-  Fits (AtExtValue entries w name) = ExternalsFit entries × NameFits w name (length name) × IsShape w Defines
-  Fits (AtExtSize entries w name) = ExternalsFit entries × NameFits w name (length name) × IsShape w Shares
+  Fits (AtExtValue entries w name) = ExternalsFit entries × NameFits w name (length name) × IsShape w (Some Definition)
+  Fits (AtExtSize entries w name) = ExternalsFit entries × NameFits w name (length name) × IsShape w (Some Common)
   Fits (AtExtCount entries w name value) = ExternalsFit entries × ReferencesFit w name value
   Fits (InExtOffsets entries w name value done owed) = ExternalsFit entries × ReferencesFit w name value × (length done + suc owed < 2 ^ 32) × AreLongs done
 
@@ -186,22 +187,22 @@ module _ (word : ℕ) where
   name_fits entries w done (suc owed) g h = (g, h)
 
   -- a name is whole, and the type is one that is accepted
-  shape_fits : (s : ExtShape) (entries : List ExtEntry) (w : ℕ) (name : List ℕ) → IsShape w s → ExternalsFit entries → NameFits w name (length name) → refuse_shape s ≡ None → NextFits (shaped s entries w name)
-  shape_fits Defines entries w name e g h ok = (g, h, e)
-  shape_fits Refers entries w name e g h ok = (g, record { name_fits = h; value_fits = omega arith; refers = subst (λ (s : ExtShape). MayRefer s 0) (sym e) refl })
-  shape_fits Shares entries w name e g h ok = (g, h, e)
-  shape_fits Refused entries w name e g h ok = absurd cc
+  shape_fits : (s : Option ExtShape) (entries : List ExtEntry) (w : ℕ) (name : List ℕ) → IsShape w s → ExternalsFit entries → NameFits w name (length name) → refuse_shape s ≡ None → NextFits (shaped s entries w name)
+  shape_fits (Some Definition) entries w name e g h ok = (g, h, e)
+  shape_fits (Some References) entries w name e g h ok = (g, record { name_fits = h; value_fits = omega arith; refers = subst (λ (s : Option ExtShape). MayRefer s 0) (sym e) refl })
+  shape_fits (Some Common) entries w name e g h ok = (g, h, e)
+  shape_fits None entries w name e g h ok = absurd cc
 
   external_name_fits : (entries : List ExtEntry) (w : ℕ) (done : List ℕ) (owed : ℕ) → ExternalsFit entries → NameFits w done (length done + owed) → refuse_shape (ext_shape (w / 2 ^ 24)) ≡ None → NextFits (name_external entries w done owed)
   external_name_fits entries w done zero g h ok =
       shape_fits (ext_shape (w / 2 ^ 24)) entries w done refl g (record { fits = h.fits; goes_on = h.goes_on; counts = omega (arith, h.counts); longs_fit = h.longs_fit }) ok
   external_name_fits entries w done (suc owed) g h ok = (g, h, ok)
 
-  refers_fit : (s : ExtShape) (w : ℕ) (name : List ℕ) (value : ℕ) (done : List ℕ) → MayRefer s value → FitsShape s (external w name value done)
-  refers_fit Defines w name value done h = absurd h
-  refers_fit Refers w name value done h = h
-  refers_fit Shares w name value done h = tt
-  refers_fit Refused w name value done h = absurd h
+  refers_fit : (s : Option ExtShape) (w : ℕ) (name : List ℕ) (value : ℕ) (done : List ℕ) → MayRefer s value → FitsShape s (external w name value done)
+  refers_fit (Some Definition) w name value done h = absurd h
+  refers_fit (Some References) w name value done h = h
+  refers_fit (Some Common) w name value done h = tt
+  refers_fit None w name value done h = absurd h
 
   external_more : (entries : List ExtEntry) (w : ℕ) (name : List ℕ) (value : ℕ) (done : List ℕ) → ExternalsFit entries → NameFits w name (length name) → IsLong value → length done < 2 ^ 32 → AreLongs done → FitsShape (ext_shape (w / 2 ^ 24)) (external w name value done) →
       ExternalsFit (entries ++ external w name value done ∷ [])
@@ -270,9 +271,9 @@ module _ (word : ℕ) where
       external_name_fits entries word (done ++ w ∷ []) owed h.0
       (record { fits = h.1.fits; goes_on = h.1.goes_on; counts = more_owed done w owed ∙ h.1.counts; longs_fit = All-more IsLong done w h.1.longs_fit l }) h.2
   step_fits (AtExtValue entries word name) w h l ok =
-      external_more entries word name w [] h.0 h.1 l (omega arith) tt (subst (λ (s : ExtShape). FitsShape s (external word name w [])) (sym h.2) refl)
+      external_more entries word name w [] h.0 h.1 l (omega arith) tt (subst (λ (s : Option ExtShape). FitsShape s (external word name w [])) (sym h.2) refl)
   step_fits (AtExtSize entries word name) w h l ok =
-      (h.0, record { name_fits = h.1; value_fits = l; refers = subst (λ (s : ExtShape). MayRefer s w) (sym h.2) tt })
+      (h.0, record { name_fits = h.1; value_fits = l; refers = subst (λ (s : Option ExtShape). MayRefer s w) (sym h.2) tt })
   step_fits (AtExtCount entries word name value) w h l ok = refer_fits entries word name value [] w h.0 h.1 (omega (arith, l)) tt
   step_fits (InExtOffsets entries word name value done owed) w h l ok =
       refer_fits entries word name value (done ++ w ∷ []) owed h.0 h.1 (omega (arith, h.2, more_owed done w owed)) (All-more IsLong done w h.3 l)
@@ -303,18 +304,18 @@ begin_fits mode word _ e ok = absurd cc
 external_name_reads : (entries : List ExtEntry) (word : ℕ) (done : List ℕ) (owed : ℕ) → refuse_shape (ext_shape (word / 2 ^ 24)) ≡ None → read_next (name_external entries word done owed) ≡ external_so_far entries word done
 external_name_reads entries word done zero ok = go (ext_shape (word / 2 ^ 24)) refl ok
   where
-    go : (s : ExtShape) → ext_shape (word / 2 ^ 24) ≡ s → refuse_shape s ≡ None → read_next (shaped s entries word done) ≡ external_so_far entries word done
-    go Defines e ok = refl
-    go Refers e ok = ap (λ (t : ExtShape). external_so_far entries word done ++ size_parts t 0) e ∙ append-nil (external_so_far entries word done)
-    go Shares e ok = refl
-    go Refused e ok = absurd cc
+    go : (s : Option ExtShape) → ext_shape (word / 2 ^ 24) ≡ s → refuse_shape s ≡ None → read_next (shaped s entries word done) ≡ external_so_far entries word done
+    go (Some Definition) e ok = refl
+    go (Some References) e ok = ap (λ (t : Option ExtShape). external_so_far entries word done ++ size_parts t 0) e ∙ append-nil (external_so_far entries word done)
+    go (Some Common) e ok = refl
+    go None e ok = absurd cc
 external_name_reads entries word done (suc owed) ok = refl
 
-referring_parts : (s : ExtShape) (word : ℕ) (name : List ℕ) (value : ℕ) (done : List ℕ) → MayRefer word s value → ext_parts_by s (external word name value done) ≡ size_parts s value ++ (parts.OffsetCount, length done) ∷ each parts.Offset done
-referring_parts Defines word name value done h = absurd h
-referring_parts Refers word name value done h = refl
-referring_parts Shares word name value done h = refl
-referring_parts Refused word name value done h = absurd h
+referring_parts : (s : Option ExtShape) (word : ℕ) (name : List ℕ) (value : ℕ) (done : List ℕ) → MayRefer word s value → ext_parts_by s (external word name value done) ≡ size_parts s value ++ (parts.OffsetCount, length done) ∷ each parts.Offset done
+referring_parts (Some Definition) word name value done h = absurd h
+referring_parts (Some References) word name value done h = refl
+referring_parts (Some Common) word name value done h = refl
+referring_parts None word name value done h = absurd h
 
 refer_reads : (entries : List ExtEntry) (word : ℕ) (name : List ℕ) (value : ℕ) (done : List ℕ) (owed : ℕ) → MayRefer word (ext_shape (word / 2 ^ 24)) value →
     read_next (refer entries word name value done owed) ≡ references_so_far entries word name value (length done + owed) done
@@ -326,11 +327,11 @@ refer_reads entries word name value done zero h =
     ∙ ap (λ (n : ℕ). references_so_far entries word name value n done) (sym (add-zero (length done)))
 refer_reads entries word name value done (suc owed) h = refl
 
-external_reads : (entries : List ExtEntry) (word : ℕ) (name : List ℕ) (w : ℕ) (s : ExtShape) → ext_shape (word / 2 ^ 24) ≡ s → s ≡ Defines →
+external_reads : (entries : List ExtEntry) (word : ℕ) (name : List ℕ) (w : ℕ) (s : Option ExtShape) → ext_shape (word / 2 ^ 24) ≡ s → s ≡ Some Definition →
     flat_map ext_parts (entries ++ external word name w [] ∷ []) ≡ external_so_far entries word name ++ (parts.EntryValue, w) ∷ []
 external_reads entries word name w s e d =
     flat_map-more ext_parts entries (external word name w [])
-    ∙ ap (λ (t : ExtShape). flat_map ext_parts entries ++ ((parts.ExtWord, word) ∷ each parts.EntryName name ++ ext_parts_by t (external word name w []))) (e ∙ d)
+    ∙ ap (λ (t : Option ExtShape). flat_map ext_parts entries ++ ((parts.ExtWord, word) ∷ each parts.EntryName name ++ ext_parts_by t (external word name w []))) (e ∙ d)
     ∙ sym (append_assoc (flat_map ext_parts entries) ((parts.ExtWord, word) ∷ each parts.EntryName name) ((parts.EntryValue, w) ∷ []))
 
 -- Each step adds its longword, as the part that was expected, to the text so far.
@@ -363,7 +364,7 @@ step_reads blockword (InExtName entries word done owed) w h ok =
     ∙ ap (λ (l : List (Part × ℕ)). flat_map ext_parts entries ++ (parts.ExtWord, word) ∷ l) (map-more (λ (x : ℕ). (parts.EntryName, x)) done w)
     ∙ sym (append_assoc (flat_map ext_parts entries) ((parts.ExtWord, word) ∷ each parts.EntryName done) ((parts.EntryName, w) ∷ []))
 step_reads blockword (AtExtValue entries word name) w h ok = external_reads entries word name w (ext_shape (word / 2 ^ 24)) refl h.2
-step_reads blockword (AtExtSize entries word name) w h ok = ap (λ (t : ExtShape). external_so_far entries word name ++ size_parts t w) h.2
+step_reads blockword (AtExtSize entries word name) w h ok = ap (λ (t : Option ExtShape). external_so_far entries word name ++ size_parts t w) h.2
 step_reads blockword (AtExtCount entries word name value) w h ok =
     refer_reads entries word name value [] w h.1.refers
     ∙ ap (λ (n : ℕ). references_so_far entries word name value n []) (omega arith)

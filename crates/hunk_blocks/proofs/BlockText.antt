@@ -1,13 +1,14 @@
 -- The text of a block leads through the block, and what leads to a place in a block is the text up to there.
-use Rattle.std.proofs.Common.{◌≡◌, ◌≢◌, ℕ, zero, suc, ◌+◌, ◌*◌, ◌/◌, ◌%◌, ◌^◌, ◌<◌, List, [], ◌∷◌, ◌++◌, length, refl, sym, ap, subst, append_assoc, append-nil, arith}
+use Rattle.std.proofs.Common.{◌≡◌, ◌≢◌, ℕ, zero, suc, ◌+◌, ◌*◌, ◌/◌, ◌%◌, ◌^◌, ◌<◌, List, [], ◌∷◌, ◌++◌, length, refl, sym, ap, subst, append_assoc, append-nil, arith, Option, Some, None}
 use Rattle.std.specs.Prelude.{IsTrue}
 use Rattle.std.specs.List.{flat_map, AllByRecursion}
 use Rattle.hunk_words.specs.declared.block_word.Kind.{Kind}
 use Rattle.hunk_words.specs.declared.block_word.Kind.TheVariants as kinds
 use Rattle.hunk_words.specs.Bits.{kind}
 use Rattle.hunk_blocks.specs.declared.ext_shape.ExtShape.{ExtShape}
-use Rattle.hunk_blocks.specs.declared.ext_shape.ExtShape.TheVariants.{Defines, Refers, Shares, Refused}
-use Rattle.hunk_blocks.specs.Values.{RelocGroup, ExtEntry, SymbolEntry, FitsShape, ext_shape, BlockBody, Name, Code, Data, Bss, Reloc, Ext, Symbol, Debug, Advisory, End, FitsWord, IsGroup, IsExtEntry, IsSymbolEntry, is_unknown, is_relocation}
+use Rattle.hunk_blocks.specs.declared.ext_shape.ExtShape.TheVariants.{Definition, References, Common}
+use Rattle.hunk_blocks.specs.ExtKinds.{ext_shape}
+use Rattle.hunk_blocks.specs.Values.{RelocGroup, ExtEntry, SymbolEntry, FitsShape, BlockBody, Name, Code, Data, Bss, Reloc, Ext, Symbol, Debug, Advisory, End, FitsWord, IsGroup, IsExtEntry, IsSymbolEntry, is_unknown, is_relocation}
 use Rattle.hunk_blocks.specs.Parts.{Part, Part as parts, each, group_parts, ext_parts, ext_parts_by, symbol_parts, body_parts}
 use Rattle.hunk_blocks.specs.BlockSteps.{ForName, ForDebug, ForAdvisory, Filling, Counted, SizedCode, SizedData, AtCount, AtGroup, AtEntry, AtValue, AtExtWord, BlockNext, Open, Whole, group, entry, external, step_inside, fill, filled_body, relocate, name_entry, entered, shaped, name_external, refer, listed, begin, Follows}
 
@@ -83,13 +84,13 @@ ext_offsets_follow entries word name value done (w ∷ words) =
     (refl, subst (λ (ws : List ℕ). Follows (refer entries word name value (done ++ w ∷ []) (length words)) (each parts.Offset words) (Open (AtExtWord (entries ++ external word name value ws ∷ [])))) (append_assoc done (w ∷ []) words) (ext_offsets_follow entries word name value (done ++ w ∷ []) words))
 
 -- what follows the name, by its shape
-pub shape_follows : (s : ExtShape) (entries : List ExtEntry) (word : ℕ) (name : List ℕ) (value : ℕ) (offsets : List ℕ) → FitsShape s (external word name value offsets) →
+pub shape_follows : (s : Option ExtShape) (entries : List ExtEntry) (word : ℕ) (name : List ℕ) (value : ℕ) (offsets : List ℕ) → FitsShape s (external word name value offsets) →
     Follows (shaped s entries word name) (ext_parts_by s (external word name value offsets)) (Open (AtExtWord (entries ++ external word name value offsets ∷ [])))
-shape_follows Defines entries word name value offsets h = (refl, ap (λ (os : List ℕ). Open (AtExtWord (entries ++ external word name value os ∷ []))) (sym h))
-shape_follows Refers entries word name value offsets h =
+shape_follows (Some Definition) entries word name value offsets h = (refl, ap (λ (os : List ℕ). Open (AtExtWord (entries ++ external word name value os ∷ []))) (sym h))
+shape_follows (Some References) entries word name value offsets h =
     (refl, subst (λ (v : ℕ). Follows (refer entries word name 0 [] (length offsets)) (each parts.Offset offsets) (Open (AtExtWord (entries ++ external word name v offsets ∷ [])))) (sym h) (ext_offsets_follow entries word name 0 [] offsets))
-shape_follows Shares entries word name value offsets h = (refl, (refl, ext_offsets_follow entries word name value [] offsets))
-shape_follows Refused entries word name value offsets h = absurd h
+shape_follows (Some Common) entries word name value offsets h = (refl, (refl, ext_offsets_follow entries word name value [] offsets))
+shape_follows None entries word name value offsets h = absurd h
 
 pub external_follows : (entries : List ExtEntry) (e : ExtEntry) → IsExtEntry e → Follows (Open (AtExtWord entries)) (ext_parts e) (Open (AtExtWord (entries ++ e ∷ [])))
 external_follows entries e h = go e.word e.name e.value e.offsets h.entry_word.goes_on h.entry_word.count h.shape

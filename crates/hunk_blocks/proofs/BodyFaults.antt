@@ -11,8 +11,8 @@ use Rattle.hunk_words.specs.Bits.{kind}
 use Rattle.hunk_words.specs.Longs.{longs, IsLong}
 use Rattle.hunk_blocks.specs.declared.mode.Mode.{Mode}
 use Rattle.hunk_blocks.specs.declared.mode.Mode.TheVariants as modes
-use Rattle.hunk_blocks.specs.declared.ext_shape.ExtShape.TheVariants.{Refused}
-use Rattle.hunk_blocks.specs.Values.{BlockBody, BlockValue, Name, Bss, Reloc, Ext, Symbol, End, FitsWord, IsBlock, IsExtEntry, IsPayload, ext_shape, is_relocation}
+use Rattle.hunk_blocks.specs.ExtKinds.{ext_shape}
+use Rattle.hunk_blocks.specs.Values.{BlockBody, BlockValue, Name, Bss, Reloc, Ext, Symbol, End, FitsWord, IsBlock, IsExtEntry, IsPayload, is_relocation}
 use Rattle.hunk_blocks.specs.Parts.{Part, Part as parts, longs_of, body_parts, counted_text, ext_parts, list_text}
 use Rattle.hunk_blocks.specs.Modes.{IsOfMode, refuse_inside, refuse_alone_word, refuse_shape}
 use Rattle.hunk_blocks.specs.Begins.{BeginsWithNoBlock}
@@ -92,7 +92,7 @@ pub entries_cut : (old new : Unread) (fault : Fault) (ws : List ℕ) → Reads o
 entries_cut old new fault ws r e f =
     list_cut IsExtEntry ext_parts parts.ExtWord old fault (e ∙ sym (cut-Reads old new ws r)) (subst EntriesFront (sym r.front) f)
 
-pub type_fault : (old new : Unread) (fault : Fault) (word : ℕ) → Reads old new (word ∷ []) → fault ≡ record { place = old.place; reason = reasons.ExtKind } → ext_shape (word / 2 ^ 24) ≡ Refused → FaultAhead entries old fault
+pub type_fault : (old new : Unread) (fault : Fault) (word : ℕ) → Reads old new (word ∷ []) → fault ≡ record { place = old.place; reason = reasons.ExtKind } → ext_shape (word / 2 ^ 24) ≡ None → FaultAhead entries old fault
 type_fault old new fault word r e shape =
     refused_first entries old fault word new.rest parts.ExtWord r.front (ap (λ f. f.place) e)
     (record { value = []; is = tt; done = []; word = 0; more = []; labels = refl; begins = refl })

@@ -1,10 +1,11 @@
 -- What the longwords of an EXT entry make.
-use Rattle.std.proofs.Common.{◌≡◌, ◌≢◌, ℕ, ◌/◌, ◌%◌, ◌^◌, List, [], ◌∷◌, ◌++◌, length, refl, sym, ap, subst, ◌∙◌, append_assoc, arith}
+use Rattle.std.proofs.Common.{◌≡◌, ◌≢◌, ℕ, ◌/◌, ◌%◌, ◌^◌, List, [], ◌∷◌, ◌++◌, length, refl, sym, ap, subst, ◌∙◌, append_assoc, arith, Option, Some, None}
 use Rattle.std.proofs.lemmas.List.{map-append}
 use Rattle.hunk_words.specs.Longs.{IsLong, AreLongs}
 use Rattle.hunk_blocks.specs.declared.ext_shape.ExtShape.{ExtShape}
-use Rattle.hunk_blocks.specs.declared.ext_shape.ExtShape.TheVariants.{Defines, Refers, Shares, Refused}
-use Rattle.hunk_blocks.specs.Values.{ExtEntry, IsExtEntry, IsPayload, FitsShape, ext_shape}
+use Rattle.hunk_blocks.specs.declared.ext_shape.ExtShape.TheVariants.{Definition, References, Common}
+use Rattle.hunk_blocks.specs.ExtKinds.{ext_shape}
+use Rattle.hunk_blocks.specs.Values.{ExtEntry, IsExtEntry, IsPayload, FitsShape}
 use Rattle.hunk_blocks.specs.Parts.{Part as parts, each, longs_of, ext_parts_by, ext_text, counted_text}
 use Rattle.hunk_blocks.specs.Reading.{Unread, Reads, BeginsWithNo, BeginsWithNoItem}
 use Rattle.hunk_blocks.specs.BlockSteps.{external}
@@ -12,17 +13,17 @@ use Rattle.hunk_blocks.proofs.GroupReading.{longs_of-each}
 use Rattle.hunk_blocks.proofs.ListReading.{EndThemselves, Reads-append, append_same}
 
 -- the longwords behind the name
-abbrev pub behind : ExtShape → ℕ → List ℕ → List ℕ
-behind Defines value offsets = value ∷ []
-behind Refers value offsets = counted_text offsets
-behind Shares value offsets = value ∷ counted_text offsets
-behind Refused value offsets = []
+abbrev pub behind : Option ExtShape → ℕ → List ℕ → List ℕ
+behind (Some Definition) value offsets = value ∷ []
+behind (Some References) value offsets = counted_text offsets
+behind (Some Common) value offsets = value ∷ counted_text offsets
+behind None value offsets = []
 
-behind_is : (s : ExtShape) (e : ExtEntry) → longs_of (ext_parts_by s e) ≡ behind s e.value e.offsets
-behind_is Defines e = refl
-behind_is Refers e = ap (λ l. length e.offsets ∷ l) (longs_of-each parts.Offset e.offsets)
-behind_is Shares e = ap (λ l. e.value ∷ length e.offsets ∷ l) (longs_of-each parts.Offset e.offsets)
-behind_is Refused e = refl
+behind_is : (s : Option ExtShape) (e : ExtEntry) → longs_of (ext_parts_by s e) ≡ behind s e.value e.offsets
+behind_is (Some Definition) e = refl
+behind_is (Some References) e = ap (λ l. length e.offsets ∷ l) (longs_of-each parts.Offset e.offsets)
+behind_is (Some Common) e = ap (λ l. e.value ∷ length e.offsets ∷ l) (longs_of-each parts.Offset e.offsets)
+behind_is None e = refl
 
 pub ext_text_is : (e : ExtEntry) → ext_text e ≡ e.word ∷ (e.name ++ behind (ext_shape (e.word / 2 ^ 24)) e.value e.offsets)
 ext_text_is e =
@@ -31,41 +32,41 @@ ext_text_is e =
     ∙ ap (λ l. l ++ longs_of (ext_parts_by (ext_shape (e.word / 2 ^ 24)) e)) (longs_of-each parts.EntryName e.name)
     ∙ ap (λ l. e.name ++ l) (behind_is (ext_shape (e.word / 2 ^ 24)) e))
 
-pub entry_read : (s : ExtShape) (a b c d : Unread) (word value : ℕ) (name offsets : List ℕ) → ext_shape (word / 2 ^ 24) ≡ s → Reads b c name → Reads c d (behind s value offsets) → Reads a b (word ∷ []) →
+pub entry_read : (s : Option ExtShape) (a b c d : Unread) (word value : ℕ) (name offsets : List ℕ) → ext_shape (word / 2 ^ 24) ≡ s → Reads b c name → Reads c d (behind s value offsets) → Reads a b (word ∷ []) →
     Reads a d (ext_text (external word name value offsets))
 entry_read s a b c d word value name offsets shape k l h =
     subst (λ ws. Reads a d ws) (sym (ext_text_is (external word name value offsets)))
     (Reads-append a b d (word ∷ []) (name ++ behind (ext_shape (word / 2 ^ 24)) value offsets) h
     (Reads-append b c d name (behind (ext_shape (word / 2 ^ 24)) value offsets) k (subst (λ t. Reads c d (behind t value offsets)) (sym shape) l)))
 
-pub entry_is : (s : ExtShape) (word value : ℕ) (name offsets : List ℕ) → ext_shape (word / 2 ^ 24) ≡ s → FitsShape s (external word name value offsets) → IsLong word → word ≢ 0 → length name ≡ word % 2 ^ 24 → AreLongs name →
+pub entry_is : (s : Option ExtShape) (word value : ℕ) (name offsets : List ℕ) → ext_shape (word / 2 ^ 24) ≡ s → FitsShape s (external word name value offsets) → IsLong word → word ≢ 0 → length name ≡ word % 2 ^ 24 → AreLongs name →
     IsLong value → IsPayload (2 ^ 32) offsets → IsExtEntry (external word name value offsets)
 entry_is s word value name offsets shape fits l some n ls v o =
     record { entry_word = record { fits = l; goes_on = some; count = n; longs = ls }; value = v; offsets = o; shape = subst (λ t. FitsShape t (external word name value offsets)) (sym shape) fits }
 
 -- of two entries of one shape, with the same longwords behind the name
-same_behind : (s : ExtShape) (a b : ExtEntry) (x y : List ℕ) → FitsShape s a → FitsShape s b → behind s a.value a.offsets ++ x ≡ behind s b.value b.offsets ++ y → (a.value ≡ b.value) × (a.offsets ≡ b.offsets) × (x ≡ y)
-same_behind Defines a b x y ha hb e = (cc, cc, cc)
-same_behind Refers a b x y ha hb e =
+same_behind : (s : Option ExtShape) (a b : ExtEntry) (x y : List ℕ) → FitsShape s a → FitsShape s b → behind s a.value a.offsets ++ x ≡ behind s b.value b.offsets ++ y → (a.value ≡ b.value) × (a.offsets ≡ b.offsets) × (x ≡ y)
+same_behind (Some Definition) a b x y ha hb e = (cc, cc, cc)
+same_behind (Some References) a b x y ha hb e =
     let count : length a.offsets ≡ length b.offsets = cc in
     let tail : a.offsets ++ x ≡ b.offsets ++ y = cc in
     let same = append_same a.offsets b.offsets x y count tail in
     (ha ∙ sym hb, same.0, same.1)
-same_behind Shares a b x y ha hb e =
+same_behind (Some Common) a b x y ha hb e =
     let value : a.value ≡ b.value = cc in
     let count : length a.offsets ≡ length b.offsets = cc in
     let tail : a.offsets ++ x ≡ b.offsets ++ y = cc in
     let same = append_same a.offsets b.offsets x y count tail in
     (value, same.0, same.1)
-same_behind Refused a b x y ha hb e = absurd ha
+same_behind None a b x y ha hb e = absurd ha
 
 pub entries_end : EndThemselves IsExtEntry ext_text
 entries_end =
     record {
       one =
           λ a b x y ha hb e.
-          let shape_a : ExtShape = ext_shape (a.word / 2 ^ 24) in
-          let shape_b : ExtShape = ext_shape (b.word / 2 ^ 24) in
+          let shape_a : Option ExtShape = ext_shape (a.word / 2 ^ 24) in
+          let shape_b : Option ExtShape = ext_shape (b.word / 2 ^ 24) in
           let f : a.word ∷ ((a.name ++ behind shape_a a.value a.offsets) ++ x) ≡ b.word ∷ ((b.name ++ behind shape_b b.value b.offsets) ++ y) = ap (λ l. l ++ x) (sym (ext_text_is a)) ∙ e ∙ ap (λ l. l ++ y) (ext_text_is b) in
           let word : a.word ≡ b.word = cc in
           let count : length a.name ≡ length b.name = ha.entry_word.count ∙ ap (λ w. w % 2 ^ 24) word ∙ sym hb.entry_word.count in
@@ -91,7 +92,7 @@ no_offsets offsets e = subst (IsPayload (2 ^ 32)) (sym e) (omega arith, tt)
 -- ---- what is missing
 
 -- behind a word and a name stands no such rest
-unnamed : (s : ExtShape) (before old mid : Unread) (word : ℕ) (name : List ℕ) → ext_shape (word / 2 ^ 24) ≡ s → word ≢ 0 → length name ≡ word % 2 ^ 24 → Reads before old (word ∷ []) → Reads old mid name →
+unnamed : (s : Option ExtShape) (before old mid : Unread) (word : ℕ) (name : List ℕ) → ext_shape (word / 2 ^ 24) ≡ s → word ≢ 0 → length name ≡ word % 2 ^ 24 → Reads before old (word ∷ []) → Reads old mid name →
     ((e : ExtEntry) → IsExtEntry e → (more : List ℕ) → mid.rest ≡ behind s e.value e.offsets ++ more → ⊥) → BeginsWithNoItem IsExtEntry ext_text before.rest
 unnamed s before old mid word name shape goes n h k none =
     record {
@@ -107,12 +108,12 @@ unnamed s before old mid word name shape goes n h k none =
       end = λ more e. let f : word ∷ old.rest ≡ 0 ∷ more = sym h.front ∙ e in let z : word ≡ 0 = cc in goes z;
     }
 
-pub reference_missing : (before old mid : Unread) (word : ℕ) (name : List ℕ) → ext_shape (word / 2 ^ 24) ≡ Refers → word ≢ 0 → length name ≡ word % 2 ^ 24 → Reads before old (word ∷ []) → Reads old mid name →
+pub reference_missing : (before old mid : Unread) (word : ℕ) (name : List ℕ) → ext_shape (word / 2 ^ 24) ≡ Some References → word ≢ 0 → length name ≡ word % 2 ^ 24 → Reads before old (word ∷ []) → Reads old mid name →
     BeginsWithNo (IsPayload (2 ^ 32)) counted_text mid.rest → BeginsWithNoItem IsExtEntry ext_text before.rest
-reference_missing before old mid word name shape goes n h k none = unnamed Refers before old mid word name shape goes n h k (λ e is more f. none e.offsets is.offsets more f)
+reference_missing before old mid word name shape goes n h k none = unnamed (Some References) before old mid word name shape goes n h k (λ e is more f. none e.offsets is.offsets more f)
 
-pub common_missing : (before old mid new : Unread) (word size : ℕ) (name : List ℕ) → ext_shape (word / 2 ^ 24) ≡ Shares → word ≢ 0 → length name ≡ word % 2 ^ 24 → Reads before old (word ∷ []) → Reads old mid name → Reads mid new (size ∷ []) →
+pub common_missing : (before old mid new : Unread) (word size : ℕ) (name : List ℕ) → ext_shape (word / 2 ^ 24) ≡ Some Common → word ≢ 0 → length name ≡ word % 2 ^ 24 → Reads before old (word ∷ []) → Reads old mid name → Reads mid new (size ∷ []) →
     BeginsWithNo (IsPayload (2 ^ 32)) counted_text new.rest → BeginsWithNoItem IsExtEntry ext_text before.rest
 common_missing before old mid new word size name shape goes n h k l none =
-    unnamed Shares before old mid word name shape goes n h k
+    unnamed (Some Common) before old mid word name shape goes n h k
     (λ e is more f. let g : size ∷ new.rest ≡ e.value ∷ (counted_text e.offsets ++ more) = sym l.front ∙ f in let tail : new.rest ≡ counted_text e.offsets ++ more = cc in none e.offsets is.offsets more tail)

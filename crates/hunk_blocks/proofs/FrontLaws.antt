@@ -1,11 +1,12 @@
 -- Longwords that a payload, a group or an entry begins with, where the rest of it is missing.
-use Rattle.std.proofs.Common.{◌≡◌, ◌≢◌, ℕ, zero, suc, ◌-◌, ◌/◌, ◌%◌, ◌^◌, ◌<◌, ◌≤◌, List, [], ◌∷◌, ◌++◌, length, replicate, refl, sym, ap, subst, ◌∙◌, append_assoc, append-nil, length-append, arith}
+use Rattle.std.proofs.Common.{◌≡◌, ◌≢◌, ℕ, zero, suc, ◌-◌, ◌/◌, ◌%◌, ◌^◌, ◌<◌, ◌≤◌, List, [], ◌∷◌, ◌++◌, length, replicate, refl, sym, ap, subst, ◌∙◌, append_assoc, append-nil, length-append, arith, Option, Some, None}
 use Rattle.std.specs.List.{flat_map, AllByRecursion}
 use Rattle.std.proofs.lemmas.List.{length-replicate}
 use Rattle.hunk_words.specs.Longs.{IsLong, AreLongs}
 use Rattle.hunk_blocks.specs.declared.ext_shape.ExtShape.{ExtShape}
-use Rattle.hunk_blocks.specs.declared.ext_shape.ExtShape.TheVariants.{Defines, Refers, Shares, Refused}
-use Rattle.hunk_blocks.specs.Values.{IsPayload, IsSized, IsGroup, IsSymbolEntry, IsExtEntry, FitsShape, ext_shape}
+use Rattle.hunk_blocks.specs.declared.ext_shape.ExtShape.TheVariants.{Definition, References, Common}
+use Rattle.hunk_blocks.specs.ExtKinds.{ext_shape}
+use Rattle.hunk_blocks.specs.Values.{IsPayload, IsSized, IsGroup, IsSymbolEntry, IsExtEntry, FitsShape}
 use Rattle.hunk_blocks.specs.Parts.{counted_text, sized_text, group_text, symbol_text, ext_text, list_text}
 use Rattle.hunk_blocks.specs.Reading.{Unread, Reads, IsFrontOf}
 use Rattle.hunk_blocks.proofs.Lists.{All-append, flat_map-append}
@@ -97,7 +98,7 @@ abbrev pub EntriesFront : List ℕ → Type 0
 EntriesFront ws = IsFrontOf (AllByRecursion IsExtEntry) (list_text ext_text) ws
 
 -- an entry with such a name, and with this behind it
-entry_front : (s : ExtShape) (word value : ℕ) (name offsets ws more : List ℕ) → ext_shape (word / 2 ^ 24) ≡ s → IsExtEntry (external word name value offsets) → name ++ behind s value offsets ≡ ws ++ more → EntriesFront (word ∷ ws)
+entry_front : (s : Option ExtShape) (word value : ℕ) (name offsets ws more : List ℕ) → ext_shape (word / 2 ^ 24) ≡ s → IsExtEntry (external word name value offsets) → name ++ behind s value offsets ≡ ws ++ more → EntriesFront (word ∷ ws)
 entry_front s word value name offsets ws more shape is e =
     one_front IsExtEntry ext_text (external word name value offsets) (word ∷ ws) more is
     (ext_text_is (external word name value offsets) ∙ ap (λ t. word ∷ (name ++ behind t value offsets)) shape ∙ ap (λ l. word ∷ l) e)
@@ -105,14 +106,14 @@ entry_front s word value name offsets ws more shape is e =
 no_offsets_fit : IsPayload (2 ^ 32) []
 no_offsets_fit = (omega arith, tt)
 
-empty_fits : (s : ExtShape) (word : ℕ) (name : List ℕ) → s ≢ Refused → FitsShape s (external word name 0 [])
-empty_fits Defines word name h = refl
-empty_fits Refers word name h = refl
-empty_fits Shares word name h = tt
-empty_fits Refused word name h = absurd (h refl)
+empty_fits : (s : Option ExtShape) (word : ℕ) (name : List ℕ) → s ≢ None → FitsShape s (external word name 0 [])
+empty_fits (Some Definition) word name h = refl
+empty_fits (Some References) word name h = refl
+empty_fits (Some Common) word name h = tt
+empty_fits None word name h = absurd (h refl)
 
 -- the name is missing, or what follows it
-pub named_front : (s : ExtShape) (word : ℕ) (ws : List ℕ) → ext_shape (word / 2 ^ 24) ≡ s → s ≢ Refused → word ≢ 0 → IsLong word → length ws ≤ word % 2 ^ 24 → AreLongs ws → EntriesFront (word ∷ ws)
+pub named_front : (s : Option ExtShape) (word : ℕ) (ws : List ℕ) → ext_shape (word / 2 ^ 24) ≡ s → s ≢ None → word ≢ 0 → IsLong word → length ws ≤ word % 2 ^ 24 → AreLongs ws → EntriesFront (word ∷ ws)
 named_front s word ws shape ok some w few fit =
     let count : ℕ = word % 2 ^ 24 in
     let name : List ℕ = ws ++ missing ws count in
@@ -121,15 +122,15 @@ named_front s word ws shape ok some w few fit =
     (append_assoc ws (missing ws count) (behind s 0 []))
 
 -- the offsets are missing
-pub reference_front : (word : ℕ) (name rest : List ℕ) → ext_shape (word / 2 ^ 24) ≡ Refers → word ≢ 0 → IsLong word → length name ≡ word % 2 ^ 24 → AreLongs name → IsFrontOf (IsPayload (2 ^ 32)) counted_text rest → EntriesFront (word ∷ (name ++ rest))
+pub reference_front : (word : ℕ) (name rest : List ℕ) → ext_shape (word / 2 ^ 24) ≡ Some References → word ≢ 0 → IsLong word → length name ≡ word % 2 ^ 24 → AreLongs name → IsFrontOf (IsPayload (2 ^ 32)) counted_text rest → EntriesFront (word ∷ (name ++ rest))
 reference_front word name rest shape some w n fit f =
-    entry_front Refers word 0 name f.value (name ++ rest) f.more shape (entry_is Refers word 0 name f.value shape refl w some n fit (omega arith) f.is)
+    entry_front (Some References) word 0 name f.value (name ++ rest) f.more shape (entry_is (Some References) word 0 name f.value shape refl w some n fit (omega arith) f.is)
     (ap (λ l. name ++ l) f.begins ∙ sym (append_assoc name rest f.more))
 
-pub common_front : (word size : ℕ) (name rest : List ℕ) → ext_shape (word / 2 ^ 24) ≡ Shares → word ≢ 0 → IsLong word → IsLong size → length name ≡ word % 2 ^ 24 → AreLongs name → IsFrontOf (IsPayload (2 ^ 32)) counted_text rest →
+pub common_front : (word size : ℕ) (name rest : List ℕ) → ext_shape (word / 2 ^ 24) ≡ Some Common → word ≢ 0 → IsLong word → IsLong size → length name ≡ word % 2 ^ 24 → AreLongs name → IsFrontOf (IsPayload (2 ^ 32)) counted_text rest →
     EntriesFront (word ∷ (name ++ size ∷ rest))
 common_front word size name rest shape some w v n fit f =
-    entry_front Shares word size name f.value (name ++ size ∷ rest) f.more shape (entry_is Shares word size name f.value shape tt w some n fit v f.is)
+    entry_front (Some Common) word size name f.value (name ++ size ∷ rest) f.more shape (entry_is (Some Common) word size name f.value shape tt w some n fit v f.is)
     (ap (λ l. name ++ size ∷ l) f.begins ∙ sym (append_assoc name (size ∷ rest) f.more))
 
 -- ---- what was read in front
@@ -149,7 +150,7 @@ pub sized_missing : (rest : List ℕ) → rest ≡ [] → IsFrontOf IsSized size
 sized_missing rest e = subst (IsFrontOf IsSized sized_text) (sym e) (front_shorter IsSized sized_text [] (0 ∷ []) (sized_front 0 [] (omega arith) (omega arith) tt))
 
 -- the name of an external entry, or what follows it, is missing
-pub named_ends : (s : ExtShape) (old new : Unread) (word : ℕ) (name : List ℕ) → ext_shape (word / 2 ^ 24) ≡ s → s ≢ Refused → word ≢ 0 → IsLong word → length name ≡ word % 2 ^ 24 → AreLongs name → Reads old new name → new.rest ≡ [] →
+pub named_ends : (s : Option ExtShape) (old new : Unread) (word : ℕ) (name : List ℕ) → ext_shape (word / 2 ^ 24) ≡ s → s ≢ None → word ≢ 0 → IsLong word → length name ≡ word % 2 ^ 24 → AreLongs name → Reads old new name → new.rest ≡ [] →
     EntriesFront (word ∷ old.rest)
 named_ends s old new word name shape ok some w n fit r end =
     subst (λ l. EntriesFront (word ∷ l)) (sym (r.front ∙ ap (λ l. name ++ l) end ∙ append-nil name)) (named_front s word name shape ok some w (omega (arith, n)) fit)

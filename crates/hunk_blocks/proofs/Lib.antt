@@ -12,6 +12,7 @@ pub mod FaultLaws
 pub mod FaultScan
 pub mod FrontLaws
 pub mod EntryReading
+pub mod ExtLaws
 pub mod Fronts
 pub mod GroupReading
 pub mod ListReading

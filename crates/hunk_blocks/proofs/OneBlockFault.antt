@@ -9,13 +9,15 @@ use Rattle.hunk_words.specs.Longs.{longs}
 use Rattle.hunk_words.proofs.LongLaws.{longs-bytes_of}
 use Rattle.hunk_blocks.specs.declared.mode.Mode.{Mode}
 use Rattle.hunk_blocks.specs.declared.ext_shape.ExtShape.{ExtShape}
-use Rattle.hunk_blocks.specs.declared.ext_shape.ExtShape.TheVariants.{Defines, Refers, Shares, Refused}
-use Rattle.hunk_blocks.specs.Values.{RelocGroup, SymbolEntry, ExtEntry, BlockBody, Name, Code, Data, Bss, Reloc, Ext, Symbol, Debug, Advisory, End, FitsShape, FitsWord, IsExtEntry, ext_shape, ext_type}
+use Rattle.hunk_blocks.specs.declared.ext_shape.ExtShape.TheVariants.{Definition, References, Common}
+use Rattle.hunk_blocks.specs.ExtKinds.{ext_shape}
+use Rattle.hunk_blocks.specs.Values.{RelocGroup, SymbolEntry, ExtEntry, BlockBody, Name, Code, Data, Bss, Reloc, Ext, Symbol, Debug, Advisory, End, FitsShape, FitsWord, IsExtEntry, ext_type}
 use Rattle.hunk_blocks.specs.Parts.{Part, Part as parts, each, group_parts, symbol_parts, ext_parts, ext_parts_by, body_parts}
 use Rattle.hunk_blocks.specs.Modes.{refuse_inside, refuse_shape}
 use Rattle.hunk_blocks.specs.Begins.{BeginsWithNoBlock}
 use Rattle.hunk_blocks.specs.Faults.{HasBlockFault, HasRefusal, IsFrontTo, IsTruncatedBlock, blocks, refuse_alone}
 use Rattle.hunk_blocks.proofs.Admitted.{word_passes}
+use Rattle.hunk_blocks.proofs.ExtLaws.{end_passes}
 use Rattle.hunk_blocks.proofs.BlockLongs.{block_longs}
 use Rattle.hunk_blocks.specs.BlockSteps.{ForName, ForDebug, ForAdvisory, Inside, AtCount, BlockNext, Open, Whole, part_of, step_inside, begin, Follows}
 use Rattle.hunk_blocks.proofs.BlockText.{body_follows}
@@ -53,17 +55,17 @@ group_passes g = (((λ e. cc), refl), (((λ e. cc), refl), offsets_pass g.offset
 symbol_passes : (s : SymbolEntry) → PartsPass (symbol_parts s)
 symbol_passes s = (((λ e. cc), refl), All-append PartPasses (each parts.EntryName s.name) ((parts.EntryValue, s.value) ∷ []) (name_passes s.name) (((λ e. cc), refl), tt))
 
-shape_passes : (s : ExtShape) (e : ExtEntry) → FitsShape s e → refuse_shape s ≡ None
-shape_passes Defines e h = refl
-shape_passes Refers e h = refl
-shape_passes Shares e h = refl
-shape_passes Refused e h = absurd h
+shape_passes : (s : Option ExtShape) (e : ExtEntry) → FitsShape s e → refuse_shape s ≡ None
+shape_passes (Some Definition) e h = refl
+shape_passes (Some References) e h = refl
+shape_passes (Some Common) e h = refl
+shape_passes None e h = absurd h
 
-behind_passes : (s : ExtShape) (e : ExtEntry) → PartsPass (ext_parts_by s e)
-behind_passes Defines e = (((λ d. cc), refl), tt)
-behind_passes Refers e = (((λ d. cc), refl), offsets_pass e.offsets)
-behind_passes Shares e = (((λ d. cc), refl), (((λ d. cc), refl), offsets_pass e.offsets))
-behind_passes Refused e = tt
+behind_passes : (s : Option ExtShape) (e : ExtEntry) → PartsPass (ext_parts_by s e)
+behind_passes (Some Definition) e = (((λ d. cc), refl), tt)
+behind_passes (Some References) e = (((λ d. cc), refl), offsets_pass e.offsets)
+behind_passes (Some Common) e = (((λ d. cc), refl), (((λ d. cc), refl), offsets_pass e.offsets))
+behind_passes None e = tt
 
 entry_passes : (e : ExtEntry) → IsExtEntry e → PartsPass (ext_parts e)
 entry_passes e h =
@@ -75,7 +77,7 @@ body_passes word (Code top ws) h = (((λ e. cc), refl), payload_passes ws)
 body_passes word (Data top ws) h = (((λ e. cc), refl), payload_passes ws)
 body_passes word (Bss size) h = (((λ e. cc), refl), tt)
 body_passes word (Reloc gs) h = All-append PartPasses (flat_map group_parts gs) ((parts.GroupCount, 0) ∷ []) (flat_passes _ group_parts (λ g k. group_passes g) gs h.1) (((λ e. cc), refl), tt)
-body_passes word (Ext es) h = All-append PartPasses (flat_map ext_parts es) ((parts.ExtWord, 0) ∷ []) (flat_passes IsExtEntry ext_parts entry_passes es h.1) (((λ e. cc), refl), tt)
+body_passes word (Ext es) h = All-append PartPasses (flat_map ext_parts es) ((parts.ExtWord, 0) ∷ []) (flat_passes IsExtEntry ext_parts entry_passes es h.1) (((λ e. cc), end_passes), tt)
 body_passes word (Symbol es) h = All-append PartPasses (flat_map symbol_parts es) ((parts.EntryWord, 0) ∷ []) (flat_passes _ symbol_parts (λ s k. symbol_passes s) es h.1) (((λ e. cc), refl), tt)
 body_passes word (Debug ws) h = (((λ e. cc), refl), payload_passes ws)
 body_passes word (Advisory ws) h = (((λ e. cc), refl), payload_passes ws)

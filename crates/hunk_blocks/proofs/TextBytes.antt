@@ -1,10 +1,11 @@
 -- What has been printed of a block's parts, when their longwords and names were printed.
-use Rattle.std.proofs.Common.{◌≡◌, ℕ, ◌+◌, ◌*◌, ◌/◌, ◌^◌, List, [], ◌∷◌, ◌++◌, length, refl, sym, ap, ◌∙◌, append_assoc, append-nil}
+use Rattle.std.proofs.Common.{◌≡◌, ℕ, ◌+◌, ◌*◌, ◌/◌, ◌^◌, List, [], ◌∷◌, ◌++◌, length, refl, sym, ap, ◌∙◌, append_assoc, append-nil, Option}
 use Rattle.hunk_words.specs.Longs.{bytes_of}
 use Rattle.hunk_words.proofs.LongLaws.{bytes_of-nil, bytes_of-append, bytes_of-cons}
 use Rattle.hunk_blocks.specs.declared.body.Body.{Body}
 use Rattle.hunk_blocks.specs.declared.ext_shape.ExtShape.{ExtShape}
-use Rattle.hunk_blocks.specs.Values.{BlockBody, BlockValue, ExtEntry, RelocGroup, SymbolEntry, ext_shape}
+use Rattle.hunk_blocks.specs.ExtKinds.{ext_shape}
+use Rattle.hunk_blocks.specs.Values.{BlockBody, BlockValue, ExtEntry, RelocGroup, SymbolEntry}
 use Rattle.hunk_blocks.specs.Parts.{block_text, body_text, counted_text, ext_text, group_text, sized_text, symbol_text}
 use Rattle.hunk_blocks.specs.Views.{body_of}
 use Rattle.hunk_blocks.proofs.BodyReading.{text_of, body_text_is}
@@ -36,7 +37,7 @@ symbol_printed word value name old a b new first second third =
     ∙ ap (λ l. old ++ bytes_of l) (sym (symbol_text_is s))
 
 -- of an entry, what its shape wants is last
-pub entry_printed : (s : ExtShape) (e : ExtEntry) (old a b new : List ℕ) → ext_shape (e.word / 2 ^ 24) ≡ s → a ≡ old ++ bytes_of (e.word ∷ []) → b ≡ a ++ bytes_of e.name →
+pub entry_printed : (s : Option ExtShape) (e : ExtEntry) (old a b new : List ℕ) → ext_shape (e.word / 2 ^ 24) ≡ s → a ≡ old ++ bytes_of (e.word ∷ []) → b ≡ a ++ bytes_of e.name →
     new ≡ b ++ bytes_of (behind s e.value e.offsets) → new ≡ old ++ bytes_of (ext_text e)
 entry_printed s e old a b new shape first second third =
     let rest = behind (ext_shape (e.word / 2 ^ 24)) e.value e.offsets in

@@ -15,3 +15,8 @@ bytes_of-longs bytes fit whole =
     let s = spelled bytes fit in
     let none : s.over ≡ [] = none_over s.over (length (longs bytes)) s.few (omega (arith, whole, ap length s.split, length-append (bytes_of (longs bytes)) s.over, length-bytes_of (longs bytes))) in
     sym (s.split ∙ ap (λ (xs : List ℕ). bytes_of (longs bytes) ++ xs) none ∙ append-nil (bytes_of (longs bytes)))
+
+-- the size of a payload
+pub payload_size : (payload bytes : List ℕ) → bytes ≡ payload → bytes_of (longs bytes) ≡ bytes → length bytes ≡ 4 * length (longs payload)
+payload_size payload bytes same whole =
+    sym (ap (λ (xs : List ℕ). length xs) whole) ∙ length-bytes_of (longs bytes) ∙ ap (λ (xs : List ℕ). 4 * length (longs xs)) same

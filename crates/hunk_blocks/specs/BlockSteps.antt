@@ -1,10 +1,11 @@
 -- Reading a block, longword by longword: what has been read of an open block.
-use Rattle.std.specs.Prelude.{◌≡◌, ℕ, zero, suc, ◌/◌, ◌%◌, ◌^◌, List, [], ◌∷◌, ◌++◌}
+use Rattle.std.specs.Prelude.{◌≡◌, ℕ, zero, suc, ◌/◌, ◌%◌, ◌^◌, List, [], ◌∷◌, ◌++◌, Option, Some, None}
 use Rattle.hunk_words.specs.declared.block_word.Kind.{Kind}
 use Rattle.hunk_words.specs.declared.block_word.Kind.TheVariants as kinds
 use Rattle.hunk_blocks.specs.declared.ext_shape.ExtShape.{ExtShape}
-use Rattle.hunk_blocks.specs.declared.ext_shape.ExtShape.TheVariants.{Defines, Refers, Shares, Refused}
-use Rattle.hunk_blocks.specs.Values.{RelocGroup, ExtEntry, SymbolEntry, ext_shape, BlockBody, Name, Code, Data, Bss, Reloc, Ext, Symbol, Debug, Advisory, End}
+use Rattle.hunk_blocks.specs.declared.ext_shape.ExtShape.TheVariants.{Definition, References, Common}
+use Rattle.hunk_blocks.specs.ExtKinds.{ext_shape}
+use Rattle.hunk_blocks.specs.Values.{RelocGroup, ExtEntry, SymbolEntry, BlockBody, Name, Code, Data, Bss, Reloc, Ext, Symbol, Debug, Advisory, End}
 use Rattle.hunk_blocks.specs.Parts.{Part, Part as parts}
 
 -- what a count is for
@@ -106,11 +107,11 @@ name_entry entries word done zero = Open (AtValue entries word done)
 name_entry entries word done (suc owed) = Open (InName entries word done owed)
 
 -- what follows the name of an external entry; a refused type does not matter
-abbrev pub shaped : ExtShape → List ExtEntry → ℕ → List ℕ → BlockNext
-shaped Defines entries word name = Open (AtExtValue entries word name)
-shaped Refers entries word name = Open (AtExtCount entries word name 0)
-shaped Shares entries word name = Open (AtExtSize entries word name)
-shaped Refused entries word name = Open (AtExtWord entries)
+abbrev pub shaped : Option ExtShape → List ExtEntry → ℕ → List ℕ → BlockNext
+shaped (Some Definition) entries word name = Open (AtExtValue entries word name)
+shaped (Some References) entries word name = Open (AtExtCount entries word name 0)
+shaped (Some Common) entries word name = Open (AtExtSize entries word name)
+shaped None entries word name = Open (AtExtWord entries)
 
 abbrev pub name_external : List ExtEntry → ℕ → List ℕ → ℕ → BlockNext
 name_external entries word done zero = shaped (ext_shape (word / 2 ^ 24)) entries word done

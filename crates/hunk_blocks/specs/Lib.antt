@@ -1,5 +1,6 @@
 pub mod Begins
 pub mod BlockSteps
+pub mod ExtKinds
 pub mod Faults
 pub mod Modes
 pub mod Parts

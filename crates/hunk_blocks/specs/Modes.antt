@@ -9,8 +9,8 @@ use Rattle.hunk_words.specs.Bits.{has_both_bits, is_advisory, kind}
 use Rattle.hunk_blocks.specs.declared.mode.Mode.{Mode}
 use Rattle.hunk_blocks.specs.declared.mode.Mode.TheVariants as modes
 use Rattle.hunk_blocks.specs.declared.ext_shape.ExtShape.{ExtShape}
-use Rattle.hunk_blocks.specs.declared.ext_shape.ExtShape.TheVariants.{Refused}
-use Rattle.hunk_blocks.specs.Values.{BlockBody, Reloc, Ext, BlockValue, ext_shape, is_relocation}
+use Rattle.hunk_blocks.specs.ExtKinds.{ext_shape}
+use Rattle.hunk_blocks.specs.Values.{BlockBody, Reloc, Ext, BlockValue, is_relocation}
 use Rattle.hunk_blocks.specs.Parts.{Part, NameCount, ExtWord}
 
 -- In a load file only RELOC32 relocates, and nothing is external.
@@ -49,8 +49,8 @@ refuse_alone_kind mode advisory _ = None
 abbrev pub refuse_alone_word : Mode → ℕ → Option Reason
 refuse_alone_word mode w = if has_both_bits w then Some reasons.BothBits else refuse_alone_kind mode (is_advisory w) (kind w)
 
-abbrev pub refuse_shape : ExtShape → Option Reason
-refuse_shape Refused = Some reasons.ExtKind
+abbrev pub refuse_shape : Option ExtShape → Option Reason
+refuse_shape None = Some reasons.ExtKind
 refuse_shape _ = None
 
 -- The reasons that a block may be refused for.

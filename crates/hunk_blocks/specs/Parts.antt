@@ -1,9 +1,10 @@
 -- The text of a block by its parts, one equation a kind.
-use Rattle.std.specs.Prelude.{ℕ, ◌+◌, ◌*◌, ◌^◌, List, [], ◌∷◌, ◌++◌, length, map}
+use Rattle.std.specs.Prelude.{ℕ, ◌+◌, ◌*◌, ◌^◌, List, [], ◌∷◌, ◌++◌, length, map, Option, Some, None}
 use Rattle.std.specs.List.{flat_map}
 use Rattle.hunk_blocks.specs.declared.ext_shape.ExtShape.{ExtShape}
-use Rattle.hunk_blocks.specs.declared.ext_shape.ExtShape.TheVariants.{Defines, Refers, Shares, Refused}
-use Rattle.hunk_blocks.specs.Values.{RelocGroup, ExtEntry, SymbolEntry, BlockBody, Name, Code, Data, Bss, Reloc, Ext, Symbol, Debug, Advisory, End, BlockValue, ext_type, ext_shape}
+use Rattle.hunk_blocks.specs.declared.ext_shape.ExtShape.TheVariants.{Definition, References, Common}
+use Rattle.hunk_blocks.specs.ExtKinds.{ext_shape}
+use Rattle.hunk_blocks.specs.Values.{RelocGroup, ExtEntry, SymbolEntry, BlockBody, Name, Code, Data, Bss, Reloc, Ext, Symbol, Debug, Advisory, End, BlockValue, ext_type}
 
 -- What a longword is for, within its block.
 pub data Part : Type 0 where
@@ -39,11 +40,11 @@ abbrev pub symbol_parts : SymbolEntry → List (Part × ℕ)
 symbol_parts s = (EntryWord, s.word) ∷ each EntryName s.name ++ (EntryValue, s.value) ∷ []
 
 -- what follows the name
-abbrev pub ext_parts_by : ExtShape → ExtEntry → List (Part × ℕ)
-ext_parts_by Defines e = (EntryValue, e.value) ∷ []
-ext_parts_by Refers e = (OffsetCount, length e.offsets) ∷ each Offset e.offsets
-ext_parts_by Shares e = (EntryValue, e.value) ∷ (OffsetCount, length e.offsets) ∷ each Offset e.offsets
-ext_parts_by Refused e = []
+abbrev pub ext_parts_by : Option ExtShape → ExtEntry → List (Part × ℕ)
+ext_parts_by (Some Definition) e = (EntryValue, e.value) ∷ []
+ext_parts_by (Some References) e = (OffsetCount, length e.offsets) ∷ each Offset e.offsets
+ext_parts_by (Some Common) e = (EntryValue, e.value) ∷ (OffsetCount, length e.offsets) ∷ each Offset e.offsets
+ext_parts_by None e = []
 
 abbrev pub ext_parts : ExtEntry → List (Part × ℕ)
 ext_parts e = (ExtWord, e.word) ∷ each EntryName e.name ++ ext_parts_by (ext_shape (ext_type e)) e

@@ -1,14 +1,14 @@
 -- Block values, and which of them are blocks.
-use Rattle.std.specs.Prelude.{◌≡◌, ◌≢◌, ℕ, ◌%◌, ◌/◌, ◌^◌, ◌<◌, Bool, true, false, ◌||◌, List, [], length, ⊤, ◌==◌, nat_lt, if◌then◌else◌, IsTrue, IsFalse}
-use Rattle.std.specs.Int.{is_in_range}
+use Rattle.std.specs.Prelude.{◌≡◌, ◌≢◌, ℕ, ◌*◌, ◌%◌, ◌/◌, ◌^◌, ◌<◌, Bool, true, false, List, [], length, ⊤, IsTrue, IsFalse, Option, Some, None}
 use Rattle.std.specs.List.{AllByRecursion}
 use Rattle.hunk_words.specs.Limits.{name_limit, content_limit}
 use Rattle.hunk_words.specs.declared.block_word.Kind.{Kind}
 use Rattle.hunk_words.specs.declared.block_word.Kind.TheVariants as kinds
 use Rattle.hunk_words.specs.Longs.{IsLong, AreLongs}
-use Rattle.hunk_words.specs.Bits.{has_both_bits, is_advisory, kind}
+use Rattle.hunk_words.specs.Bits.{has_both_bits, is_advisory, kind, size_longs}
 use Rattle.hunk_blocks.specs.declared.ext_shape.ExtShape.{ExtShape}
-use Rattle.hunk_blocks.specs.declared.ext_shape.ExtShape.TheVariants.{Defines, Refers, Shares, Refused}
+use Rattle.hunk_blocks.specs.declared.ext_shape.ExtShape.TheVariants.{Definition, References, Common}
+use Rattle.hunk_blocks.specs.ExtKinds.{ext_shape}
 
 -- ---- values
 
@@ -46,18 +46,9 @@ pub record BlockValue : Type 0 where
   pub word : ℕ
   pub body : BlockBody
 
--- ---- the types of EXT entries
-
+-- the number of its type
 abbrev pub ext_type : ExtEntry → ℕ
 ext_type e = e.word / 2 ^ 24
-
--- By the number of the type: SYMB, DEF and ABS are 0 to 2, COMMON and RELCOMMON 130 and 137.
-abbrev pub ext_shape : ℕ → ExtShape
-ext_shape n =
-    if nat_lt n 3 then Defines
-    else if n == 130 || n == 137 then Shares
-    else if is_in_range 129 139 n then Refers
-    else Refused
 
 -- ---- which values are blocks
 
@@ -86,11 +77,11 @@ pub record IsSymbolEntry (s : SymbolEntry) : Type 0 where
   pub value : IsLong s.value
 
 -- An entry without a value has the value 0, one without references no offsets.
-abbrev pub FitsShape : ExtShape → ExtEntry → Type 0
-FitsShape Defines e = e.offsets ≡ []
-FitsShape Refers e = e.value ≡ 0
-FitsShape Shares e = ⊤
-FitsShape Refused e = ⊥
+abbrev pub FitsShape : Option ExtShape → ExtEntry → Type 0
+FitsShape (Some Definition) e = e.offsets ≡ []
+FitsShape (Some References) e = e.value ≡ 0
+FitsShape (Some Common) e = ⊤
+FitsShape None e = ⊥
 
 pub record IsExtEntry (e : ExtEntry) : Type 0 where
   pub entry_word : IsEntryWord e.word e.name
@@ -126,6 +117,13 @@ FitsWord word (Symbol entries) = (kind word ≡ kinds.Symbol) × AllByRecursion 
 FitsWord word (Debug words) = (kind word ≡ kinds.Debug) × IsPayload (2 ^ 32) words
 FitsWord word (Advisory words) = IsTrue (is_unknown (kind word)) × IsTrue (is_advisory word) × IsPayload (2 ^ 32) words
 FitsWord word End = kind word ≡ kinds.End
+
+-- How many bytes of content a block with this body has; none where it is no content.
+abbrev pub content_bytes : BlockBody → Option ℕ
+content_bytes (Code top words) = Some (4 * length words)
+content_bytes (Data top words) = Some (4 * length words)
+content_bytes (Bss size) = Some (4 * size_longs size)
+content_bytes _ = None
 
 pub record IsBlock (b : BlockValue) : Type 0 where
   pub word : IsLong b.word

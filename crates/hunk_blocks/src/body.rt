@@ -1,9 +1,14 @@
 //! What follows the word of a block.
+ghost use Rattle.std.specs.Prelude.{◌≡◌, ◌*◌};
+ghost use Rattle.hunk_words.specs.Bits.{size_longs};
+ghost use Rattle.hunk_blocks.specs.Values.{content_bytes};
+ghost use Rattle.hunk_blocks.specs.Views.{body_of};
 
 use crate::entries::Entries;
 use crate::groups::Groups;
 use crate::payload::Payload;
 use crate::symbols::Symbols;
+use hunk_words::SizeWord;
 
 /// What follows the word of a block, by its kind.
 ///
@@ -30,4 +35,31 @@ pub enum Body<'a> {
     End,
     /// A block of unknown kind with the advisory flag, which readers may pass over.
     Advisory(Payload<'a>),
+}
+
+impl Body<'_> {
+    /// How many bytes of content the block has: those of the payload of CODE and DATA, and 4 times the
+    /// longwords that the size of BSS says. `None` for every other block.
+    pub fn content_bytes(&self) -> Option<u64>
+        ensures { result ≡ content_bytes (body_of self.now) }
+    {
+        match self {
+            Body::Code { top: _, payload } | Body::Data { top: _, payload } => {
+                Some(payload.bytes().len() as u64)
+            }
+            Body::Bss { size } => Some(bss_bytes(*size)),
+            _ => None,
+        }
+    }
+}
+
+/// How many bytes the size word of a BSS block says.
+fn bss_bytes(size: u32) -> u64
+    ensures { result ≡ 4 * size_longs size }
+{
+    SizeWord {
+        word: size,
+        extra: 0,
+    }
+    .bytes()
 }

@@ -1,5 +1,11 @@
 //! The entries of an EXT block.
+ghost use Rattle.std.specs.Prelude.{◌≡◌};
+ghost use Rattle.hunk_blocks.specs.ExtKinds.{ext_kind, ext_shape};
+ghost use Rattle.hunk_blocks.specs.Values.{ext_type};
+ghost use Rattle.hunk_blocks.specs.Views.{entry_of};
 
+use crate::ext_kind::{ExtKind, kind_of, shape_of};
+use crate::ext_shape::ExtShape;
 use crate::list::BlockList;
 use crate::longs::Longs;
 use crate::payload::Payload;
@@ -15,6 +21,23 @@ pub struct Entry<'a> {
     pub value: u32,
     /// Where the references stand, in bytes from the start of the hunk; none in a definition.
     pub offsets: Longs<'a>,
+}
+
+impl Entry<'_> {
+    /// The type, by the top byte of the word; `None` for a number that is not accepted, which no entry
+    /// of a block has.
+    pub fn kind(&self) -> Option<ExtKind>
+        ensures { result ≡ ext_kind (ext_type (entry_of self.now)) }
+    {
+        kind_of(self.word)
+    }
+
+    /// What stands behind the name, as the type says; `None` where `kind` is.
+    pub fn shape(&self) -> Option<ExtShape>
+        ensures { result ≡ ext_shape (ext_type (entry_of self.now)) }
+    {
+        shape_of(self.word)
+    }
 }
 
 /// The entries of an EXT block.

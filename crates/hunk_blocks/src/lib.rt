@@ -4,6 +4,7 @@
 mod block;
 mod body;
 mod entries;
+mod ext_kind;
 mod ext_shape;
 mod groups;
 mod growing;
@@ -19,6 +20,8 @@ mod writing;
 pub use crate::block::Block;
 pub use crate::body::Body;
 pub use crate::entries::{Entries, Entry};
+pub use crate::ext_kind::ExtKind;
+pub use crate::ext_shape::ExtShape;
 pub use crate::groups::{Group, Groups};
 pub use crate::growing::append;
 pub use crate::list::BlockList;

@@ -2,6 +2,7 @@
 //! that stops.
 
 mod answers;
+mod ext_kinds;
 mod growths;
 mod memory;
 mod texts;

@@ -1,7 +1,7 @@
 -- The tests of an object file are those of a block that stands alone, and then that of its place in the hunk.
 use Rattle.std.proofs.Common.{◌≡◌, ℕ, ◌/◌, ◌^◌, Bool, true, false, cond, eqb, refl, ap, ◌≢◌, Option, Some, None}
-use Rattle.std.specs.Prelude.{nat_lt}
-use Rattle.std.specs.Int.{is_in_range}
+use Rattle.std.specs.Prelude.{nat_lt, is_some}
+use Rattle.std.specs.Option.{option_map}
 use Rattle.hunk_words.specs.Limits.{name_limit}
 use Rattle.hunk_words.specs.declared.block_word.Kind.{Kind}
 use Rattle.hunk_words.specs.declared.block_word.Kind.TheVariants as kinds
@@ -9,12 +9,14 @@ use Rattle.hunk_words.specs.declared.reason.Reason.{Reason}
 use Rattle.hunk_words.specs.declared.reason.Reason.TheVariants as reasons
 use Rattle.hunk_words.specs.Bits.{has_both_bits, is_advisory, kind}
 use Rattle.hunk_blocks.specs.declared.mode.Mode.TheVariants as modes
+use Rattle.hunk_blocks.specs.declared.ext_kind.ExtKind.{ExtKind}
+use Rattle.hunk_blocks.specs.ExtKinds.{ext_kind, ext_shape, shape_of_kind}
 use Rattle.hunk_blocks.specs.Parts.{Part, Part as parts}
-use Rattle.hunk_blocks.specs.Modes.{refuse_alone_kind, refuse_alone_word, refuse_inside}
-use Rattle.hunk_blocks.proofs.Admitted.{ext_type_split, not_for_memory, other_than_memory}
+use Rattle.hunk_blocks.specs.Modes.{refuse_alone_kind, refuse_alone_word, refuse_inside, refuse_shape}
+use Rattle.hunk_blocks.proofs.Admitted.{not_for_memory, other_than_memory}
 use Rattle.hunk_scan.specs.Standings.{Standing, first_of, refuse_standing, standing_of_kind}
 use Rattle.hunk_files.specs.ObjectFile.{unit_word}
-use Rattle.hunk_files.specs.ObjectFault.{WordPlace, BeforeUnits, BetweenHunks, InHunk, ObjectRole, WordAt, UnitCount, Within, role_at, has_content, refuse_kind, refuse_unit, refuse_word, refuse_object}
+use Rattle.hunk_files.specs.ObjectFault.{WordPlace, BeforeUnits, BetweenHunks, InHunk, ObjectRole, WordAt, UnitCount, Within, role_at, has_content, refuse_ext_type, refuse_kind, refuse_unit, refuse_word, refuse_object}
 
 -- ---- block words
 
@@ -45,6 +47,14 @@ word_split place w = go (has_both_bits w)
     go false = ap (cond (eqb w unit_word) (refuse_unit place)) (kind_split place (is_advisory w) (kind w))
 
 -- ---- behind a block word
+
+-- the types that are accepted have a shape
+ext_type_split : (n : ℕ) → refuse_ext_type n ≡ refuse_shape (ext_shape n)
+ext_type_split n = go (ext_kind n)
+  where
+    go : (k : Option ExtKind) → cond (is_some k) None (Some reasons.ExtKind) ≡ refuse_shape (option_map shape_of_kind k)
+    go None = refl
+    go (Some k) = refl
 
 pub within_split : (part : Part) (w : ℕ) → refuse_object (Within part) w ≡ refuse_inside part w
 within_split parts.ExtWord w = ext_type_split (w / 2 ^ 24)
@@ -92,8 +102,7 @@ object_not_for_memory (WordAt place) w =
     (chosen_not_for_memory (has_both_bits w) (Some reasons.BothBits) (refuse_kind place (is_advisory w) (kind w)) refl (kind_not_for_memory place (is_advisory w) (kind w)))
 object_not_for_memory UnitCount w = chosen_not_for_memory (nat_lt w name_limit) None (Some reasons.NameWord) refl refl
 object_not_for_memory (Within parts.NameCount) w = chosen_not_for_memory (nat_lt w name_limit) None (Some reasons.NameWord) refl refl
-object_not_for_memory (Within parts.ExtWord) w =
-    chosen_not_for_memory (nat_lt (w / 2 ^ 24) 3) None _ refl (chosen_not_for_memory (is_in_range 129 139 (w / 2 ^ 24)) None (Some reasons.ExtKind) refl refl)
+object_not_for_memory (Within parts.ExtWord) w = chosen_not_for_memory (is_some (ext_kind (w / 2 ^ 24))) None (Some reasons.ExtKind) refl refl
 object_not_for_memory _ w = refl
 
 pub object_other_than_memory : (role : ObjectRole) (w : ℕ) (reason : Reason) → refuse_object role w ≡ Some reason → reason ≢ reasons.OutOfMemory

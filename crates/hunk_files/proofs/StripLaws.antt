@@ -7,7 +7,7 @@ use Rattle.hunk_files.specs.LoadFile.{HunkValue, LoadFileValue, standing, AreInO
 use Rattle.hunk_files.specs.LoadText.{table}
 use Rattle.hunk_files.specs.Image.{block_content, block_relocations, content, relocations, filled, image, relocated}
 use Rattle.hunk_files.specs.ObjectFile.{ObjectHunk, UnitValue, ObjectFileValue, IsObjectHunk, IsUnit, IsObjectFile}
-use Rattle.hunk_files.specs.Findings.{FindingValue, Spot, content_longs, hunk_bytes, body_findings, hunk_findings, hunks_findings, unit_findings, units_findings, findings}
+use Rattle.hunk_files.specs.Findings.{FindingValue, Spot, content_size, hunk_bytes, body_findings, hunk_findings, hunks_findings, unit_findings, units_findings, findings}
 use Rattle.hunk_files.specs.Strip.{is_kept, strip_blocks, strip_hunk, strip_file, strip_unit, strip_object}
 use Rattle.hunk_files.proofs.Accepted.{All-map}
 use Rattle.hunk_files.proofs.FileText.{standings}
@@ -42,11 +42,11 @@ no_relocations : (b : BlockBody) → is_kept b ≡ false → block_relocations b
 no_relocations (Reloc groups) e = absurd cc
 no_relocations _ e = refl
 
-no_longs : (b : BlockBody) → is_kept b ≡ false → content_longs b ≡ 0
-no_longs (Code top words) e = absurd cc
-no_longs (Data top words) e = absurd cc
-no_longs (Bss size) e = absurd cc
-no_longs _ e = refl
+no_size : (b : BlockBody) → is_kept b ≡ false → content_size b ≡ 0
+no_size (Code top words) e = absurd cc
+no_size (Data top words) e = absurd cc
+no_size (Bss size) e = absurd cc
+no_size _ e = refl
 
 no_findings : (s : Spot) (word : ℕ) (b : BlockBody) → is_kept b ≡ false → body_findings s word b ≡ []
 no_findings s word (Reloc groups) e = absurd cc
@@ -83,7 +83,7 @@ images_kept v bases = each_kept (image bases) (image_kept bases) v
 -- ---- the findings of an object file
 
 bytes_kept : (h : ObjectHunk) → hunk_bytes (strip_blocks h) ≡ hunk_bytes h
-bytes_kept h = ap (λ (n : ℕ). 4 * n) (sum_from (λ b. content_longs b.body) (λ b e. no_longs b.body e) h 0)
+bytes_kept h = sum_from (λ b. content_size b.body) (λ b e. no_size b.body e) h 0
 
 abbrev spot : ℕ → ℕ → ℕ → ℕ → Spot
 spot unit hunk hunks bytes = record { unit = unit; hunk = hunk; hunks = hunks; bytes = bytes }

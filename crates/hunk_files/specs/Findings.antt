@@ -1,10 +1,12 @@
 -- What is wrong with the offsets of an object file.
-use Rattle.std.specs.Prelude.{ℕ, ◌+◌, ◌*◌, ◌||◌, List, [], ◌∷◌, ◌++◌, length, ◌==◌, nat_lt, if◌then◌else◌}
+use Rattle.std.specs.Prelude.{ℕ, ◌+◌, List, [], ◌∷◌, ◌++◌, length, nat_lt, Option, Some, None, unwrap_or, if◌then◌else◌}
 use Rattle.std.specs.List.{flat_map, sum_by}
 use Rattle.hunk_words.specs.declared.block_word.Kind.{Kind}
 use Rattle.hunk_words.specs.declared.block_word.Kind.TheVariants as kinds
-use Rattle.hunk_words.specs.Bits.{size_longs, kind}
-use Rattle.hunk_blocks.specs.Values.{RelocGroup, ExtEntry, BlockBody, Code, Data, Bss, Reloc, Ext, ext_type}
+use Rattle.hunk_words.specs.Bits.{kind}
+use Rattle.hunk_blocks.specs.declared.ext_kind.ExtKind.{ExtKind}
+use Rattle.hunk_blocks.specs.ExtKinds.{ext_kind, ext_width}
+use Rattle.hunk_blocks.specs.Values.{RelocGroup, ExtEntry, BlockBody, Reloc, Ext, content_bytes, ext_type}
 use Rattle.hunk_files.specs.declared.object.check.Finding.{Finding}
 use Rattle.hunk_files.specs.declared.object.check.FindingKind.{FindingKind}
 use Rattle.hunk_files.specs.declared.object.check.FindingKind.TheVariants.{BadTarget, OutsideHunk}
@@ -20,21 +22,20 @@ relocation_width kinds.Reloc8 = 1
 relocation_width kinds.Drel8 = 1
 relocation_width _ = 4
 
--- the same of a reference, by the number of its type
-abbrev pub reference_width : ℕ → ℕ
-reference_width n =
-    if n == 131 || n == 134 || n == 138 then 2
-    else if n == 132 || n == 135 || n == 139 then 1
-    else 4
+-- the same of an EXT entry; 0 where it has no offsets
+abbrev pub width_of : Option ExtKind → ℕ
+width_of None = 0
+width_of (Some kind) = unwrap_or (ext_width kind) 0
 
-abbrev pub content_longs : BlockBody → ℕ
-content_longs (Code top words) = length words
-content_longs (Data top words) = length words
-content_longs (Bss size) = size_longs size
-content_longs _ = 0
+abbrev pub reference_width : ExtEntry → ℕ
+reference_width e = width_of (ext_kind (ext_type e))
+
+-- the bytes of content, 0 where a block is no content
+abbrev pub content_size : BlockBody → ℕ
+content_size body = unwrap_or (content_bytes body) 0
 
 abbrev pub hunk_bytes : ObjectHunk → ℕ
-hunk_bytes h = 4 * sum_by (λ b. content_longs b.body) h
+hunk_bytes h = sum_by (λ b. content_size b.body) h
 
 abbrev pub FindingValue : Type 0
 FindingValue = Finding
@@ -52,7 +53,7 @@ abbrev pub group_findings : Spot → ℕ → RelocGroup → List FindingValue
 group_findings s width g = flat_map (relocation_findings s width g.target) g.offsets
 
 abbrev pub entry_findings : Spot → ExtEntry → List FindingValue
-entry_findings s e = flat_map (outside s (reference_width (ext_type e))) e.offsets
+entry_findings s e = flat_map (outside s (reference_width e)) e.offsets
 
 abbrev pub body_findings : Spot → ℕ → BlockBody → List FindingValue
 body_findings s word (Reloc groups) = flat_map (group_findings s (relocation_width (kind word))) groups

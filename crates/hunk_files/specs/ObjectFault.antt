@@ -1,6 +1,5 @@
 -- The longwords of an object file with their roles, the tests of them, and the first that is refused.
-use Rattle.std.specs.Prelude.{◌≡◌, ◌≢◌, ℕ, ◌*◌, ◌/◌, ◌^◌, ◌<◌, Bool, true, false, ◌||◌, ◌==◌, nat_lt, List, [], ◌∷◌, ◌++◌, length, map, ⊤, if◌then◌else◌, Option, Some, None, ◌⊎◌}
-use Rattle.std.specs.Int.{is_in_range}
+use Rattle.std.specs.Prelude.{◌≡◌, ◌≢◌, ℕ, ◌*◌, ◌/◌, ◌^◌, ◌<◌, Bool, true, false, ◌||◌, ◌==◌, nat_lt, List, [], ◌∷◌, ◌++◌, length, map, ⊤, if◌then◌else◌, Option, Some, None, is_some, ◌⊎◌}
 use Rattle.std.specs.List.{flat_map, AllByRecursion}
 use Rattle.hunk_words.specs.declared.reason.Reason.{Reason}
 use Rattle.hunk_words.specs.declared.reason.Reason.TheVariants as reasons
@@ -9,6 +8,7 @@ use Rattle.hunk_words.specs.declared.block_word.Kind.{Kind}
 use Rattle.hunk_words.specs.declared.block_word.Kind.TheVariants as kinds
 use Rattle.hunk_words.specs.Bits.{has_both_bits, is_advisory, kind}
 use Rattle.hunk_words.specs.Longs.{longs}
+use Rattle.hunk_blocks.specs.ExtKinds.{ext_kind}
 use Rattle.hunk_blocks.specs.Values.{BlockValue, IsBlock}
 use Rattle.hunk_blocks.specs.Parts.{Part, Part as parts, block_parts}
 use Rattle.hunk_blocks.specs.Begins.{first_long}
@@ -112,9 +112,9 @@ refuse_word place w =
 abbrev pub refuse_count : ℕ → Option Reason
 refuse_count w = if nat_lt w name_limit then None else Some reasons.NameWord
 
--- The test of the type of an EXT entry: SYMB, DEF and ABS, and those from REF32 to ABSREF8 are accepted.
+-- The test of the type of an EXT entry: those of the table are accepted.
 abbrev pub refuse_ext_type : ℕ → Option Reason
-refuse_ext_type n = if nat_lt n 3 then None else if is_in_range 129 139 n then None else Some reasons.ExtKind
+refuse_ext_type n = if is_some (ext_kind n) then None else Some reasons.ExtKind
 
 -- The tests of a longword of an object file.
 abbrev pub refuse_object : ObjectRole → ℕ → Option Reason

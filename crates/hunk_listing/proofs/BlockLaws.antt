@@ -5,17 +5,13 @@ use Rattle.std.specs.List.{flat_map}
 use Rattle.std.proofs.lemmas.List.{drop_more, length-map}
 use Rattle.std.proofs.lemmas.List.Sums.{sum_by-cons}
 use Rattle.std.proofs.lemmas.Option.{get_or_from_slice_get, slice_get_within}
-use Rattle.hunk_words.specs.Longs.{bytes_of, longs}
+use Rattle.hunk_words.specs.Longs.{bytes_of}
 use Rattle.hunk_words.proofs.LongLaws.{length-bytes_of}
 use Rattle.hunk_blocks.specs.declared.groups.Group.{Group}
 use Rattle.hunk_blocks.specs.Values.{RelocGroup, BlockBody, Reloc, BlockValue}
 use Rattle.hunk_blocks.specs.Parts.{Part, GroupCount, Offset, block_text, body_text, group_parts}
 use Rattle.hunk_blocks.specs.Views.{group_of}
 use Rattle.hunk_listing.specs.BlockLines.{offset_count}
-
-pub payload_size : (payload bytes : List ℕ) → bytes ≡ payload → bytes_of (longs bytes) ≡ bytes → length bytes ≡ 4 * length (longs payload)
-payload_size payload bytes same whole =
-    sym (ap (λ (xs : List ℕ). length xs) whole) ∙ length-bytes_of (longs bytes) ∙ ap (λ (xs : List ℕ). 4 * length (longs xs)) same
 
 -- the offsets of the groups from here on: those of the first, and of the others
 pub counted_at : (groups : List Group) (i : ℕ) (group : Group) → slice_get groups i ≡ Some group →

@@ -1,14 +1,17 @@
 -- The lines of a block are not much longer than its text.
-use Rattle.std.proofs.Common.{◌≡◌, ℕ, ◌+◌, ◌*◌, ◌%◌, ◌^◌, ◌<◌, ◌≤◌, Bool, true, false, List, [], ◌∷◌, length, refl, ap, arith, length-append}
-use Rattle.std.specs.Prelude.{codes, decimal, ◌==◌, ◌||◌, nat_lt}
-use Rattle.std.specs.Int.{is_in_range}
+use Rattle.std.proofs.Common.{◌≡◌, ℕ, ◌+◌, ◌*◌, ◌%◌, ◌^◌, ◌<◌, ◌≤◌, List, [], ◌∷◌, length, ap, arith, length-append, Option, Some, None}
+use Rattle.std.specs.Prelude.{codes, decimal}
 use Rattle.std.specs.List.{AllByRecursion, flat_map}
 use Rattle.std.proofs.lemmas.List.{length-map}
 use Rattle.hunk_words.specs.Bits.{size_longs}
-use Rattle.hunk_blocks.specs.Values.{BlockBody, BlockValue, ExtEntry, RelocGroup, SymbolEntry, Name, Code, Data, Bss, Reloc, Ext, Symbol, Debug, Advisory, End, FitsShape, FitsWord, IsBlock, IsExtEntry, IsGroup, IsSymbolEntry, ext_shape, ext_type}
+use Rattle.hunk_blocks.specs.declared.ext_kind.ExtKind.{ExtKind}
+use Rattle.hunk_blocks.specs.declared.ext_shape.ExtShape.{ExtShape}
+use Rattle.hunk_blocks.specs.declared.ext_shape.ExtShape.TheVariants.{Definition, Common, References}
+use Rattle.hunk_blocks.specs.ExtKinds.{ext_kind, ext_name, ext_shape, shape_of_kind}
+use Rattle.hunk_blocks.specs.Values.{BlockBody, BlockValue, ExtEntry, RelocGroup, SymbolEntry, Name, Code, Data, Bss, Reloc, Ext, Symbol, Debug, Advisory, End, FitsShape, FitsWord, IsBlock, IsExtEntry, IsGroup, IsSymbolEntry, ext_type}
 use Rattle.hunk_blocks.specs.Parts.{Part, EntryName, EntryValue, EntryWord, ExtWord, GroupCount, Offset, Payload, block_parts, body_parts, each, ext_parts, ext_parts_by, group_parts, symbol_parts}
-use Rattle.hunk_listing.specs.BlockLines.{advisory_line, block_lines, body_lines, common_line, count_line, definition_line, end_line, entry_line, entry_lines, group_lines, head, name_line, offset_count, offset_line, reference_line, relocation_line, size_line, symbol_line}
-use Rattle.hunk_listing.specs.BlockNames.{memory_flags, type_name}
+use Rattle.hunk_listing.specs.BlockLines.{advisory_line, block_lines, body_lines, common_line, count_line, definition_line, end_line, entry_line, entry_lines, group_lines, head, kind_lines, line_by, name_line, offset_count, offset_line, reference_line, relocation_line, size_line, symbol_line}
+use Rattle.hunk_listing.specs.BlockNames.{memory_flags}
 use Rattle.hunk_listing.specs.Printed.{hexadecimal, name_text}
 use Rattle.hunk_listing.proofs.BlockLaws.{offsets_within}
 use Rattle.hunk_listing.proofs.LineLengths.{fits_either, fits3, fits4, fits5, fits7, fits9, length-head, length-hexadecimal, length-memory_flags, length-name, length-number, length-type}
@@ -74,30 +77,32 @@ length-symbol_line s =
     fits5 (16 + 16 * length s.name) (codes "    ") (hexadecimal s.value) (codes " ") (name_text s.name) (codes "\n")
     (omega (arith, length-hexadecimal s.value, length-name s.name))
 
-length-definition_line : (e : ExtEntry) → length (definition_line e) ≤ 71 + 16 * length e.name
+length-definition_line : (kind : ExtKind) (e : ExtEntry) → length (definition_line kind e) ≤ 71 + 16 * length e.name
 unfolding definition_line
-length-definition_line e =
-    fits7 (71 + 16 * length e.name) (codes "    ") (type_name (ext_type e)) (codes " ") (hexadecimal e.value) (codes " ") (name_text e.name) (codes "\n")
-    (omega (arith, length-type (ext_type e), length-hexadecimal e.value, length-name e.name))
+length-definition_line kind e =
+    fits7 (71 + 16 * length e.name) (codes "    ") (ext_name kind) (codes " ") (hexadecimal e.value) (codes " ") (name_text e.name) (codes "\n")
+    (omega (arith, length-type kind, length-hexadecimal e.value, length-name e.name))
 
-length-reference_line : (e : ExtEntry) → length e.offsets < 2 ^ 32 → length (reference_line e) ≤ 71 + 16 * length e.name
+length-reference_line : (kind : ExtKind) (e : ExtEntry) → length e.offsets < 2 ^ 32 → length (reference_line kind e) ≤ 71 + 16 * length e.name
 unfolding reference_line
-length-reference_line e few =
-    fits7 (71 + 16 * length e.name) (codes "    ") (type_name (ext_type e)) (codes " ") (decimal (length e.offsets)) (codes " ") (name_text e.name) (codes "\n")
-    (omega (arith, length-type (ext_type e), length-number (length e.offsets) (omega (arith, few)), length-name e.name))
+length-reference_line kind e few =
+    fits7 (71 + 16 * length e.name) (codes "    ") (ext_name kind) (codes " ") (decimal (length e.offsets)) (codes " ") (name_text e.name) (codes "\n")
+    (omega (arith, length-type kind, length-number (length e.offsets) (omega (arith, few)), length-name e.name))
 
-length-common_line : (e : ExtEntry) → e.value < 2 ^ 32 → length e.offsets < 2 ^ 32 → length (common_line e) ≤ 71 + 16 * length e.name
+length-common_line : (kind : ExtKind) (e : ExtEntry) → e.value < 2 ^ 32 → length e.offsets < 2 ^ 32 → length (common_line kind e) ≤ 71 + 16 * length e.name
 unfolding common_line
-length-common_line e fits few =
-    fits9 (71 + 16 * length e.name) (codes "    ") (type_name (ext_type e)) (codes " ") (decimal e.value) (codes " ") (decimal (length e.offsets))
+length-common_line kind e fits few =
+    fits9 (71 + 16 * length e.name) (codes "    ") (ext_name kind) (codes " ") (decimal e.value) (codes " ") (decimal (length e.offsets))
     (codes " ") (name_text e.name) (codes "\n")
-    (omega (arith, length-type (ext_type e), length-number e.value (omega (arith, fits)), length-number (length e.offsets) (omega (arith, few)), length-name e.name))
+    (omega (arith, length-type kind, length-number e.value (omega (arith, fits)), length-number (length e.offsets) (omega (arith, few)), length-name e.name))
 
-length-entry_line : (e : ExtEntry) → e.value < 2 ^ 32 → length e.offsets < 2 ^ 32 → length (entry_line e) ≤ 71 + 16 * length e.name
-length-entry_line e fits few =
-    fits_either (71 + 16 * length e.name) (nat_lt (ext_type e) 3) (definition_line e) _ (length-definition_line e)
-    (fits_either (71 + 16 * length e.name) (ext_type e == 130 || ext_type e == 137) (common_line e) (reference_line e)
-    (length-common_line e fits few) (length-reference_line e few))
+length-entry_line : (kind : ExtKind) (e : ExtEntry) → e.value < 2 ^ 32 → length e.offsets < 2 ^ 32 → length (entry_line kind e) ≤ 71 + 16 * length e.name
+length-entry_line kind e fits few = by (shape_of_kind kind)
+  where
+    by : (s : ExtShape) → length (line_by s kind e) ≤ 71 + 16 * length e.name
+    by Definition = length-definition_line kind e
+    by Common = length-common_line kind e fits few
+    by References = length-reference_line kind e few
 
 length-offset_line : (offset : ℕ) → length (offset_line offset) ≤ 17
 unfolding offset_line
@@ -122,26 +127,19 @@ offsets_short : (offsets : List ℕ) → length (flat_map offset_line offsets) �
 offsets_short [] = omega arith
 offsets_short (offset ∷ offsets) = omega (arith, length-append (offset_line offset) (flat_map offset_line offsets), length-offset_line offset, offsets_short offsets)
 
--- the offsets of an entry are in its text
-pub references_within : (n : ℕ) (e : ExtEntry) → FitsShape (ext_shape n) e → 1 + length e.offsets ≤ length (ext_parts_by (ext_shape n) e)
-references_within n e = defined (nat_lt n 3) refl
+length-entry_lines : (e : ExtEntry) → e.value < 2 ^ 32 → length e.offsets < 2 ^ 32 → length (entry_lines e) ≤ 71 + 16 * length e.name + 17 * length e.offsets
+length-entry_lines e fits few = by (ext_kind (ext_type e))
   where
-    offsets : length (each Offset e.offsets) ≡ length e.offsets
-    offsets = length-map {B = Part × ℕ} e.offsets (λ w. (Offset, w))
+    by : (kind : Option ExtKind) → length (kind_lines kind e) ≤ 71 + 16 * length e.name + 17 * length e.offsets
+    by None = omega arith
+    by (Some kind) = omega (arith, length-append (entry_line kind e) (flat_map offset_line e.offsets), length-entry_line kind e fits few, offsets_short e.offsets)
 
-    referred : nat_lt n 3 ≡ false → (n == 130 || n == 137) ≡ false → (b : Bool) → is_in_range 129 139 n ≡ b →
-        FitsShape (ext_shape n) e → 1 + length e.offsets ≤ length (ext_parts_by (ext_shape n) e)
-    referred d s true is = rw d (rw s (rw is (λ fits. omega (arith, offsets))))
-    referred d s false is = rw d (rw s (rw is (λ fits. absurd fits)))
-
-    shared : nat_lt n 3 ≡ false → (b : Bool) → (n == 130 || n == 137) ≡ b →
-        FitsShape (ext_shape n) e → 1 + length e.offsets ≤ length (ext_parts_by (ext_shape n) e)
-    shared d true is = rw d (rw is (λ fits. omega (arith, offsets)))
-    shared d false is = referred d is (is_in_range 129 139 n) refl
-
-    defined : (b : Bool) → nat_lt n 3 ≡ b → FitsShape (ext_shape n) e → 1 + length e.offsets ≤ length (ext_parts_by (ext_shape n) e)
-    defined true is = rw is (λ fits. omega (arith, ap length fits))
-    defined false is = shared is (n == 130 || n == 137) refl
+-- the offsets of an entry are in its text
+pub references_within : (s : Option ExtShape) (e : ExtEntry) → FitsShape s e → 1 + length e.offsets ≤ length (ext_parts_by s e)
+references_within None e fits = absurd fits
+references_within (Some Definition) e fits = omega (arith, ap length fits)
+references_within (Some Common) e fits = omega (arith, length-map {B = Part × ℕ} e.offsets (λ w. (Offset, w)))
+references_within (Some References) e fits = omega (arith, length-map {B = Part × ℕ} e.offsets (λ w. (Offset, w)))
 
 pub length-ext_parts : (e : ExtEntry) → length (ext_parts e) ≡ 1 + length e.name + length (ext_parts_by (ext_shape (ext_type e)) e)
 length-ext_parts e =
@@ -155,11 +153,9 @@ entry_short : (e : ExtEntry) → IsExtEntry e → length (ext_parts e) < 2 ^ 60 
 entry_short e is few =
     omega (
       arith,
-      length-append (entry_line e) (flat_map offset_line e.offsets),
-      length-entry_line e is.value is.offsets.0,
-      offsets_short e.offsets,
+      length-entry_lines e is.value is.offsets.0,
       length-ext_parts e,
-      references_within (ext_type e) e is.shape,
+      references_within (ext_shape (ext_type e)) e is.shape,
     )
 
 symbol_short : (s : SymbolEntry) → IsSymbolEntry s → length (symbol_parts s) < 2 ^ 60 → length (symbol_line s) ≤ 96 * length (symbol_parts s)

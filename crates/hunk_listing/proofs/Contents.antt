@@ -6,7 +6,7 @@ use Rattle.hunk_blocks.specs.Values.{BlockBody, BlockValue, Name, Code, Data, Bs
 use Rattle.hunk_files.specs.LoadFile.{AreInOrder, standing}
 use Rattle.hunk_scan.specs.Standings.{Standing, Beside, Content, Relocating, Ending, is_content}
 use Rattle.hunk_files.specs.ObjectFile.{ObjectHunk}
-use Rattle.hunk_files.specs.Findings.{content_longs, hunk_bytes}
+use Rattle.hunk_files.specs.Findings.{content_size, hunk_bytes}
 
 abbrev standings : ObjectHunk → List Standing
 standings blocks = map (λ b. standing b.body) blocks
@@ -15,10 +15,10 @@ standings blocks = map (λ b. standing b.body) blocks
 abbrev pub IsOpenFrom : ObjectHunk → ℕ → Type 0
 IsOpenFrom blocks i = AreInOrder false (map (λ b. standing b.body) (drop i blocks)) × (hunk_bytes (drop i blocks) ≡ hunk_bytes blocks)
 
-bytes-cons : (b : BlockValue) (blocks : ObjectHunk) → hunk_bytes (b ∷ blocks) ≡ 4 * content_longs b.body + hunk_bytes blocks
-bytes-cons b blocks = omega (arith, sum_by-cons (λ (b : BlockValue). content_longs b.body) b blocks)
+bytes-cons : (b : BlockValue) (blocks : ObjectHunk) → hunk_bytes (b ∷ blocks) ≡ content_size b.body + hunk_bytes blocks
+bytes-cons b blocks = omega (arith, sum_by-cons (λ (b : BlockValue). content_size b.body) b blocks)
 
-beside_content : (body : BlockBody) → is_content (standing body) ≡ false → content_longs body ≡ 0
+beside_content : (body : BlockBody) → is_content (standing body) ≡ false → content_size body ≡ 0
 beside_content (Name words) other = refl
 beside_content (Code top words) other = absurd cc
 beside_content (Data top words) other = absurd cc
@@ -66,7 +66,7 @@ in_order_at : (blocks : ObjectHunk) (i : ℕ) (d : BlockValue) → i < length bl
 in_order_at blocks i d inside order = subst (λ (bs : ObjectHunk). AreInOrder false (standings bs)) (drop_more blocks i d inside) order
 
 bytes_at : (blocks : ObjectHunk) (i : ℕ) (d : BlockValue) → i < length blocks →
-    hunk_bytes (drop i blocks) ≡ 4 * content_longs (get_or blocks i d).body + hunk_bytes (drop (i + 1) blocks)
+    hunk_bytes (drop i blocks) ≡ content_size (get_or blocks i d).body + hunk_bytes (drop (i + 1) blocks)
 bytes_at blocks i d inside = ap hunk_bytes (drop_more blocks i d inside) ∙ bytes-cons (get_or blocks i d) (drop (i + 1) blocks)
 
 pub still_open : (blocks : ObjectHunk) (i : ℕ) (b : BlockValue) → i < length blocks → b ≡ get_or blocks i b → IsOpenFrom blocks i →
@@ -78,13 +78,13 @@ still_open blocks i b inside at open_ other =
     )
 
 pub found_content : (blocks : ObjectHunk) (i : ℕ) (b : BlockValue) → i < length blocks → b ≡ get_or blocks i b → IsOpenFrom blocks i →
-    is_content (standing b.body) ≡ true → (bytes : ℕ) → bytes ≡ 4 * content_longs b.body → bytes ≡ hunk_bytes blocks
+    is_content (standing b.body) ≡ true → (bytes : ℕ) → bytes ≡ content_size b.body → bytes ≡ hunk_bytes blocks
 found_content blocks i b inside at open_ is bytes bytes_are =
     let content : is_content (standing (get_or blocks i b).body) ≡ true = ap (λ (x : BlockValue). is_content (standing x.body)) (sym at) ∙ is in
     omega (
       arith,
       bytes_are,
-      ap (λ (x : BlockValue). content_longs x.body) at,
+      ap (λ (x : BlockValue). content_size x.body) at,
       bytes_at blocks i b inside,
       nothing_more (drop (i + 1) blocks) (after_content _ _ content (in_order_at blocks i b inside open_.0)),
       open_.1,

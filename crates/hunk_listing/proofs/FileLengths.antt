@@ -9,7 +9,7 @@ use Rattle.hunk_blocks.specs.Values.{BlockBody, BlockValue, Name, Code, Data, Bs
 use Rattle.hunk_blocks.specs.Parts.{Part, block_parts, block_text}
 use Rattle.hunk_scan.specs.Roles.{InBlock, Place, Role}
 use Rattle.hunk_scan.specs.Standings.{is_content}
-use Rattle.hunk_files.specs.Findings.{content_longs, hunk_bytes}
+use Rattle.hunk_files.specs.Findings.{content_size, hunk_bytes}
 use Rattle.hunk_files.specs.Image.{declared_bytes}
 use Rattle.hunk_files.specs.LoadFile.{AreInOrder, HunkValue, IsHunk, IsHunkBlock, IsLoadFile, LoadFileValue, TableEntry, declared_longs, standing}
 use Rattle.hunk_files.specs.LoadText.{blocks_labelled, header_labelled, hunk_labelled, labelled, table, text}
@@ -127,10 +127,10 @@ length-object_hunk_line number bytes fits small =
     fits5 67 (codes "hunk ") (decimal number) (codes " ") (decimal bytes) (codes " bytes\n")
     (omega (arith, length-number number (omega (arith, fits)), length-number bytes small))
 
-content_limit : (word : ℕ) (body : BlockBody) → FitsWord word body → content_longs body < 2 ^ 30
+content_limit : (word : ℕ) (body : BlockBody) → FitsWord word body → content_size body < 2 ^ 32
 content_limit word (Name words) is = omega arith
-content_limit word (Code top words) is = is.2.0
-content_limit word (Data top words) is = is.2.0
+content_limit word (Code top words) is = omega (arith, is.2.0)
+content_limit word (Data top words) is = omega (arith, is.2.0)
 content_limit word (Bss size) is = omega arith
 content_limit word (Reloc groups) is = omega arith
 content_limit word (Ext entries) is = omega arith
@@ -142,7 +142,7 @@ content_limit word End is = omega arith
 hunk_bytes_limit : (h : ObjectHunk) → AllByRecursion IsBlock h → hunk_bytes h ≤ 2 ^ 32 * length h
 hunk_bytes_limit [] are = omega arith
 hunk_bytes_limit (b ∷ h) are =
-    omega (arith, sum_by-cons (λ (b : BlockValue). content_longs b.body) b h, content_limit b.word b.body are.0.body, hunk_bytes_limit h are.1)
+    omega (arith, sum_by-cons (λ (b : BlockValue). content_size b.body) b h, content_limit b.word b.body are.0.body, hunk_bytes_limit h are.1)
 
 blocks_within : (h : ObjectHunk) → length h ≤ length (flat_map block_parts h)
 blocks_within [] = omega arith

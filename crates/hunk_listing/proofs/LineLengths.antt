@@ -13,8 +13,11 @@ use Rattle.hunk_words.specs.declared.size_word.Memory.TheVariants as memories
 use Rattle.hunk_words.specs.Bits.{is_advisory, is_chip, is_fast, kind}
 use Rattle.hunk_words.specs.Longs.{bytes_of}
 use Rattle.hunk_words.proofs.LongLaws.{length-bytes_of}
+use Rattle.hunk_blocks.specs.declared.ext_kind.ExtKind.{ExtKind}
+use Rattle.hunk_blocks.specs.declared.ext_kind.ExtKind.TheVariants.{Symb}
+use Rattle.hunk_blocks.specs.ExtKinds.{ext_name}
 use Rattle.hunk_listing.specs.BlockLines.{head}
-use Rattle.hunk_listing.specs.BlockNames.{block_flags, kind_name, memory_flags, type_name, where_set}
+use Rattle.hunk_listing.specs.BlockNames.{block_flags, kind_name, memory_flags, where_set}
 use Rattle.hunk_listing.specs.FileLines.{memory_text}
 use Rattle.hunk_listing.specs.Printed.{before_zero, character, hexadecimal, is_plain, name_text}
 
@@ -95,22 +98,9 @@ length-kind kinds.RelReloc32 = omega arith
 length-kind kinds.AbsReloc16 = omega arith
 length-kind (kinds.Unknown number) = omega arith
 
-pub length-type : (n : ℕ) → length (type_name n) ≤ 9
-length-type n =
-    fits_either 9 (n == 0) (codes "SYMB") _ (omega arith) (
-    fits_either 9 (n == 1) (codes "DEF") _ (omega arith) (
-    fits_either 9 (n == 2) (codes "ABS") _ (omega arith) (
-    fits_either 9 (n == 129) (codes "REF32") _ (omega arith) (
-    fits_either 9 (n == 130) (codes "COMMON") _ (omega arith) (
-    fits_either 9 (n == 131) (codes "REF16") _ (omega arith) (
-    fits_either 9 (n == 132) (codes "REF8") _ (omega arith) (
-    fits_either 9 (n == 133) (codes "DEXT32") _ (omega arith) (
-    fits_either 9 (n == 134) (codes "DEXT16") _ (omega arith) (
-    fits_either 9 (n == 135) (codes "DEXT8") _ (omega arith) (
-    fits_either 9 (n == 136) (codes "RELREF32") _ (omega arith) (
-    fits_either 9 (n == 137) (codes "RELCOMMON") _ (omega arith) (
-    fits_either 9 (n == 138) (codes "ABSREF16") _ (omega arith) (
-    fits_either 9 (n == 139) (codes "ABSREF8") [] (omega arith) (omega arith))))))))))))))
+pub length-type : (kind : ExtKind) → length (ext_name kind) ≤ 9
+length-type Symb = omega arith
+length-type _ = omega arith
 
 -- ---- flags and memory
 

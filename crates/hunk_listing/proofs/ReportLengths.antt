@@ -5,6 +5,7 @@ use Rattle.std.specs.List.{AllByRecursion, flat_map}
 use Rattle.std.proofs.lemmas.List.{length-map}
 use Rattle.std.proofs.lemmas.Grind.{flat_map-append}
 use Rattle.hunk_words.specs.Bits.{kind}
+use Rattle.hunk_blocks.specs.ExtKinds.{ext_shape}
 use Rattle.hunk_blocks.specs.Values.{BlockBody, ExtEntry, RelocGroup, Name, Code, Data, Bss, Reloc, Ext, Symbol, Debug, Advisory, End, FitsWord, IsBlock, IsExtEntry, ext_type}
 use Rattle.hunk_blocks.specs.Parts.{ExtWord, GroupCount, Offset, Part, block_parts, block_text, body_parts, ext_parts, group_parts}
 use Rattle.hunk_files.specs.declared.object.check.Finding.{Finding}
@@ -94,8 +95,8 @@ entries_short s (e ∷ entries) are fits =
       length-lines-append (entry_findings s e) (flat_map (entry_findings s) entries),
       length-append (ext_parts e) (flat_map ext_parts entries),
       length-ext_parts e,
-      references_within (ext_type e) e are.0.shape,
-      references_short s (reference_width (ext_type e)) e.offsets fits,
+      references_within (ext_shape (ext_type e)) e are.0.shape,
+      references_short s (reference_width e) e.offsets fits,
       entries_short s entries are.1 fits,
     )
 

@@ -1,10 +1,14 @@
 -- The lines of a block, one equation a form of line.
-use Rattle.std.specs.Prelude.{◌==◌, ◌||◌, ℕ, ◌*◌, ◌%◌, ◌^◌, nat_lt, List, ◌++◌, length, codes, decimal, if◌then◌else◌}
+use Rattle.std.specs.Prelude.{ℕ, ◌*◌, ◌%◌, ◌^◌, List, [], ◌++◌, length, codes, decimal, Option, Some, None}
 use Rattle.std.specs.List.{flat_map, sum_by}
 use Rattle.hunk_words.specs.Bits.{kind, size_longs}
+use Rattle.hunk_blocks.specs.declared.ext_kind.ExtKind.{ExtKind}
+use Rattle.hunk_blocks.specs.declared.ext_shape.ExtShape.{ExtShape}
+use Rattle.hunk_blocks.specs.declared.ext_shape.ExtShape.TheVariants.{Definition, Common, References}
+use Rattle.hunk_blocks.specs.ExtKinds.{ext_kind, ext_name, shape_of_kind}
 use Rattle.hunk_blocks.specs.Values.{RelocGroup, ExtEntry, SymbolEntry, BlockBody, Name, Code, Data, Bss, Reloc, Ext, Symbol, Debug, Advisory, End, BlockValue, ext_type}
 use Rattle.hunk_listing.specs.Printed.{hexadecimal, name_text}
-use Rattle.hunk_listing.specs.BlockNames.{block_flags, kind_name, memory_flags, type_name}
+use Rattle.hunk_listing.specs.BlockNames.{block_flags, kind_name, memory_flags}
 
 -- two spaces, the block's name and its flags
 unfoldable pub head : ℕ → List ℕ
@@ -43,34 +47,41 @@ unfoldable pub symbol_line : SymbolEntry → List ℕ
 symbol_line symbol = codes "    " ++ hexadecimal symbol.value ++ codes " " ++ name_text symbol.name ++ codes "\n"
 
 -- `    DEF X TEXT`: the value and the name
-unfoldable pub definition_line : ExtEntry → List ℕ
-definition_line entry =
-    codes "    " ++ type_name (ext_type entry) ++ codes " " ++ hexadecimal entry.value ++ codes " " ++ name_text entry.name ++ codes "\n"
+unfoldable pub definition_line : ExtKind → ExtEntry → List ℕ
+definition_line kind entry =
+    codes "    " ++ ext_name kind ++ codes " " ++ hexadecimal entry.value ++ codes " " ++ name_text entry.name ++ codes "\n"
 
 -- `    REF32 D TEXT`: the number of references and the name
-unfoldable pub reference_line : ExtEntry → List ℕ
-reference_line entry =
-    codes "    " ++ type_name (ext_type entry) ++ codes " " ++ decimal (length entry.offsets) ++ codes " " ++ name_text entry.name ++ codes "\n"
+unfoldable pub reference_line : ExtKind → ExtEntry → List ℕ
+reference_line kind entry =
+    codes "    " ++ ext_name kind ++ codes " " ++ decimal (length entry.offsets) ++ codes " " ++ name_text entry.name ++ codes "\n"
 
 -- `    COMMON D D TEXT`: the size, the number of references and the name
-unfoldable pub common_line : ExtEntry → List ℕ
-common_line entry =
-    codes "    " ++ type_name (ext_type entry) ++ codes " " ++ decimal entry.value ++ codes " " ++ decimal (length entry.offsets)
+unfoldable pub common_line : ExtKind → ExtEntry → List ℕ
+common_line kind entry =
+    codes "    " ++ ext_name kind ++ codes " " ++ decimal entry.value ++ codes " " ++ decimal (length entry.offsets)
     ++ codes " " ++ name_text entry.name ++ codes "\n"
 
--- SYMB, DEF and ABS, which are the types below 3, define; COMMON and RELCOMMON have a size
-abbrev pub entry_line : ExtEntry → List ℕ
-entry_line entry =
-    if nat_lt (ext_type entry) 3 then definition_line entry
-    else if ext_type entry == 130 || ext_type entry == 137 then common_line entry
-    else reference_line entry
+-- the line of an entry of this type
+abbrev pub line_by : ExtShape → ExtKind → ExtEntry → List ℕ
+line_by Definition kind entry = definition_line kind entry
+line_by Common kind entry = common_line kind entry
+line_by References kind entry = reference_line kind entry
+
+abbrev pub entry_line : ExtKind → ExtEntry → List ℕ
+entry_line kind entry = line_by (shape_of_kind kind) kind entry
 
 -- `      X`: where a reference stands
 unfoldable pub offset_line : ℕ → List ℕ
 offset_line offset = codes "      " ++ hexadecimal offset ++ codes "\n"
 
+-- an entry of a type that is not accepted, which no block has, has no lines
+abbrev pub kind_lines : Option ExtKind → ExtEntry → List ℕ
+kind_lines None entry = []
+kind_lines (Some kind) entry = entry_line kind entry ++ flat_map offset_line entry.offsets
+
 abbrev pub entry_lines : ExtEntry → List ℕ
-entry_lines entry = entry_line entry ++ flat_map offset_line entry.offsets
+entry_lines entry = kind_lines (ext_kind (ext_type entry)) entry
 
 -- the number of offsets in all groups
 abbrev pub offset_count : List RelocGroup → ℕ

@@ -78,7 +78,7 @@ fn print_payload_size<W: Sink>(page: &mut Printer<'_, W>, word: BlockWord, paylo
 }
 
 /// How many bytes a BSS block with this size word has.
-pub(crate) fn bss_bytes(size: u32) -> u64
+fn bss_bytes(size: u32) -> u64
     ensures { result ≡ 4 * size_longs size }
 {
     let size = SizeWord {
@@ -89,7 +89,7 @@ pub(crate) fn bss_bytes(size: u32) -> u64
 }
 
 /// How many bytes the payload has, those of whole longwords.
-pub(crate) fn payload_bytes(payload: &Payload<'_>) -> u64
+fn payload_bytes(payload: &Payload<'_>) -> u64
     ensures { result ≡ 4 * length (longs payload.now) }
 {
     payload.bytes().len() as u64

@@ -1,6 +1,6 @@
-//! The names of blocks and of their entries, and the flags of a block word.
-ghost use Rattle.std.specs.Prelude.{◌≡◌, ◌≤◌, ◌+◌, ◌/◌, ◌^◌, ◌++◌, length};
-ghost use Rattle.hunk_listing.specs.BlockNames.{block_flags, kind_name, memory_flags, type_name, where_set};
+//! The names of blocks, and the flags of a block word.
+ghost use Rattle.std.specs.Prelude.{◌≡◌, ◌≤◌, ◌+◌, ◌++◌, length};
+ghost use Rattle.hunk_listing.specs.BlockNames.{block_flags, kind_name, memory_flags, where_set};
 
 use crate::line::{LINE, Line};
 use hunk_words::{BlockWord, Kind};
@@ -15,31 +15,6 @@ pub(crate) fn put_kind(line: &mut Line, kind: Kind)
     match kind.name() {
         Some(name) => line.put(name.as_bytes()),
         None => line.put(b"ADVISORY"),
-    }
-}
-
-/// Puts the name of the type of an EXT entry with this word.
-pub(crate) fn put_type(line: &mut Line, word: u32)
-    requires { length line.old + 9 ≤ LINE }
-    ensures text { line.new ≡ line.old ++ type_name (word / 2 ^ 24) }
-    ensures short { length line.new ≤ length line.old + 9 }
-{
-    match word >> 24 {
-        0 => line.put(b"SYMB"),
-        1 => line.put(b"DEF"),
-        2 => line.put(b"ABS"),
-        129 => line.put(b"REF32"),
-        130 => line.put(b"COMMON"),
-        131 => line.put(b"REF16"),
-        132 => line.put(b"REF8"),
-        133 => line.put(b"DEXT32"),
-        134 => line.put(b"DEXT16"),
-        135 => line.put(b"DEXT8"),
-        136 => line.put(b"RELREF32"),
-        137 => line.put(b"RELCOMMON"),
-        138 => line.put(b"ABSREF16"),
-        139 => line.put(b"ABSREF8"),
-        _ => {}
     }
 }
 

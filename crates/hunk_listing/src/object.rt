@@ -1,19 +1,15 @@
 //! The lines of an object file.
-ghost use Rattle.std.specs.Prelude.{◌≡◌, ◌*◌, true, false, IfSome, IfNone};
+ghost use Rattle.std.specs.Prelude.{◌≡◌};
 ghost use Rattle.hunk_words.specs.Prints.{Prints};
 ghost use Rattle.hunk_words.specs.Longs.{longs};
-ghost use Rattle.hunk_blocks.specs.Views.{body_of};
-ghost use Rattle.hunk_files.specs.Findings.{content_longs, hunk_bytes};
-ghost use Rattle.hunk_files.specs.LoadFile.{standing};
-ghost use Rattle.hunk_scan.specs.Standings.{is_content};
+ghost use Rattle.hunk_files.specs.Findings.{hunk_bytes};
 ghost use Rattle.hunk_files.specs.ObjectFile.{IsObjectHunk};
 ghost use Rattle.hunk_listing.specs.FileLines.{numbered, object_hunk_line, object_hunk_lines, object_line, unit_line, unit_lines};
 
-use crate::block::{bss_bytes, payload_bytes};
 use crate::line::Line;
 use crate::load::print_blocks;
 use crate::text::print_name;
-use hunk_blocks::{Block, Body, Payload};
+use hunk_blocks::{Block, Payload};
 use hunk_files::{Hunk, Unit};
 use hunk_words::{Printer, Sink};
 
@@ -93,25 +89,9 @@ fn hunk_bytes(blocks: &[Block<'_>]) -> u64
     ensures { result ≡ hunk_bytes blocks.now }
 {
     'looking: for block in blocks {
-        if let Some(bytes) = content_bytes(block.body()) {
+        if let Some(bytes) = block.body().content_bytes() {
             return bytes;
         }
     }
     0
-}
-
-/// How many bytes a content block has.
-fn content_bytes(body: &Body<'_>) -> Option<u64>
-    ensures some { IfSome result
-        (λ bytes. (bytes ≡ 4 * content_longs (body_of body.now))
-        × (is_content (standing (body_of body.now)) ≡ true)) }
-    ensures none { IfNone result ((content_longs (body_of body.now) ≡ 0)
-        × (is_content (standing (body_of body.now)) ≡ false)) }
-{
-    match body {
-        Body::Code { top: _, payload } => Some(payload_bytes(payload)),
-        Body::Data { top: _, payload } => Some(payload_bytes(payload)),
-        Body::Bss { size } => Some(bss_bytes(*size)),
-        _ => None,
-    }
 }

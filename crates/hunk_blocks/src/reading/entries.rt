@@ -1,17 +1,19 @@
 //! Reading the entries of an EXT block.
-ghost use Rattle.std.specs.Prelude.{◌≡◌, ◌≢◌, ◌/◌, ◌^◌, [], ◌∷◌, IfErr, IfOk, OnErr, map, ◌⊎◌};
+ghost use Rattle.std.specs.Prelude.{◌≡◌, ◌≢◌, ◌/◌, ◌^◌, [], ◌∷◌, IfErr, IfOk, OnErr, Some, map, ◌⊎◌};
 ghost use Rattle.std.specs.List.{AllByRecursion};
 ghost use Rattle.std.specs.Option.{option_map};
 ghost use Rattle.hunk_words.specs.declared.reason.Reason.TheVariants as reasons;
 ghost use Rattle.hunk_blocks.specs.declared.ext_shape.ExtShape.TheVariants as shapes;
-ghost use Rattle.hunk_blocks.specs.Values.{IsExtEntry, ext_shape};
+ghost use Rattle.hunk_blocks.specs.ExtKinds.{ext_shape};
+ghost use Rattle.hunk_blocks.specs.Values.{IsExtEntry};
 ghost use Rattle.hunk_blocks.specs.Parts.{ext_text, list_text};
 ghost use Rattle.hunk_blocks.specs.Faults.{FaultAhead, entries};
 ghost use Rattle.hunk_blocks.specs.Reading.{BeginsWithNo, BeginsWithNoItem, IsFrontOf, Reads, ReadsItem, Unread, cut};
 ghost use Rattle.hunk_blocks.specs.Views.{entry_of};
 
 use crate::entries::{Entries, Entry};
-use crate::ext_shape::{ExtShape, shape_of};
+use crate::ext_kind::shape_of;
+use crate::ext_shape::ExtShape;
 use crate::growing::append;
 use crate::longs::Longs;
 use crate::reading::long_reader::LongReader;
@@ -22,7 +24,7 @@ use std::alloc::Global;
 /// The name and the value behind this word.
 fn definition<'a>(reader: &mut LongReader<'a>, word: u32) -> Result<Entry<'a>, BlockFault>
     requires goes_on { word ≢ 0 }
-    requires shape { ext_shape (word / 2 ^ 24) ≡ shapes.Defines }
+    requires shape { ext_shape (word / 2 ^ 24) ≡ Some shapes.Definition }
     ensures read { IfOk result (λ e. IsExtEntry (entry_of e) × ((before : Unread) →
         Reads before reader.old (word ∷ []) → Reads before reader.new (ext_text (entry_of e)))) }
     ensures none { OnErr result ((before : Unread) →
@@ -44,7 +46,7 @@ fn definition<'a>(reader: &mut LongReader<'a>, word: u32) -> Result<Entry<'a>, B
 /// The name, the count and the offsets behind this word.
 fn reference<'a>(reader: &mut LongReader<'a>, word: u32) -> Result<Entry<'a>, BlockFault>
     requires goes_on { word ≢ 0 }
-    requires shape { ext_shape (word / 2 ^ 24) ≡ shapes.Refers }
+    requires shape { ext_shape (word / 2 ^ 24) ≡ Some shapes.References }
     ensures read { IfOk result (λ e. IsExtEntry (entry_of e) × ((before : Unread) →
         Reads before reader.old (word ∷ []) → Reads before reader.new (ext_text (entry_of e)))) }
     ensures none { OnErr result ((before : Unread) →
@@ -66,7 +68,7 @@ fn reference<'a>(reader: &mut LongReader<'a>, word: u32) -> Result<Entry<'a>, Bl
 /// The name, the size, the count and the offsets behind this word.
 fn common<'a>(reader: &mut LongReader<'a>, word: u32) -> Result<Entry<'a>, BlockFault>
     requires goes_on { word ≢ 0 }
-    requires shape { ext_shape (word / 2 ^ 24) ≡ shapes.Shares }
+    requires shape { ext_shape (word / 2 ^ 24) ≡ Some shapes.Common }
     ensures read { IfOk result (λ e. IsExtEntry (entry_of e) × ((before : Unread) →
         Reads before reader.old (word ∷ []) → Reads before reader.new (ext_text (entry_of e)))) }
     ensures none { OnErr result ((before : Unread) →
@@ -101,10 +103,10 @@ fn next_entry<'a>(reader: &mut LongReader<'a>) -> Result<Option<Entry<'a>>, Bloc
         return Ok(None);
     }
     match shape_of(word) {
-        ExtShape::Defines => Ok(Some(definition(reader, word)?)),
-        ExtShape::Refers => Ok(Some(reference(reader, word)?)),
-        ExtShape::Shares => Ok(Some(common(reader, word)?)),
-        ExtShape::Refused => Err(BlockFault {
+        Some(ExtShape::Definition) => Ok(Some(definition(reader, word)?)),
+        Some(ExtShape::References) => Ok(Some(reference(reader, word)?)),
+        Some(ExtShape::Common) => Ok(Some(common(reader, word)?)),
+        None => Err(BlockFault {
             place,
             reason: Reason::ExtKind,
         }),

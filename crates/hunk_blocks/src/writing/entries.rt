@@ -8,7 +8,7 @@ ghost use Rattle.hunk_blocks.specs.Parts.{ext_text, list_text};
 ghost use Rattle.hunk_blocks.specs.Views.{entry_of};
 
 use crate::entries::Entry;
-use crate::ext_shape::{ExtShape, shape_of};
+use crate::ext_shape::ExtShape;
 use crate::writing::payloads::{print_counted, print_payload};
 use hunk_words::{PagePrinter, Sink};
 
@@ -19,14 +19,14 @@ fn print_entry<W: Sink, const ROOM: usize>(page: &mut PagePrinter<'_, W, ROOM>, 
 {
     page.print_long(entry.word);
     print_payload(page, &entry.name);
-    match shape_of(entry.word) {
-        ExtShape::Defines => page.print_long(entry.value),
-        ExtShape::Refers => print_counted(page, entry.offsets.payload()),
-        ExtShape::Shares => {
+    match entry.shape() {
+        Some(ExtShape::Definition) => page.print_long(entry.value),
+        Some(ExtShape::References) => print_counted(page, entry.offsets.payload()),
+        Some(ExtShape::Common) => {
             page.print_long(entry.value);
             print_counted(page, entry.offsets.payload());
         }
-        ExtShape::Refused => unreachable!(),
+        None => unreachable!(),
     }
 }
 

@@ -1,14 +1,14 @@
 //! What is wrong with the offsets of an object file, found by one walk.
-ghost use Rattle.std.specs.Prelude.{◌≡◌, ◌*◌, ◌/◌, ◌^◌, ◌<◌, ◌≤◌, length, map};
+ghost use Rattle.std.specs.Prelude.{◌≡◌, ◌^◌, ◌<◌, ◌≤◌, length, map};
 ghost use Rattle.std.specs.List.{flat_map};
-ghost use Rattle.hunk_blocks.specs.Views.{body_of, entry_of, group_of};
-ghost use Rattle.hunk_files.specs.Findings.{body_findings, content_longs, entry_findings, finding, findings, group_findings, hunk_bytes, hunk_findings, hunks_findings, outside, reference_width, relocation_findings, relocation_width};
+ghost use Rattle.hunk_blocks.specs.Views.{entry_of, group_of};
+ghost use Rattle.hunk_files.specs.Findings.{body_findings, content_size, entry_findings, finding, findings, group_findings, hunk_bytes, hunk_findings, hunks_findings, outside, reference_width, relocation_findings, relocation_width};
 
 use crate::object::file::ObjectFile;
 use crate::object::taker::TakesFindings;
 use crate::object::unit::{Hunk, Unit};
 use hunk_blocks::{Block, Body, Entries, Entry, Group, Groups};
-use hunk_words::{Kind, SizeWord};
+use hunk_words::Kind;
 
 /// What is wrong with an offset of an object file.
 #[derive(Clone, Copy, Debug, PartialEq, Eq)]
@@ -64,43 +64,30 @@ fn relocation_width(kind: Kind) -> u64
     }
 }
 
-/// How many bytes an offset stands for that refers, by the type in the top byte of the entry's word.
-fn reference_width(word: u32) -> u64
-    ensures value { result ≡ reference_width (word / 2 ^ 24) }
+/// How many bytes an offset of this entry stands for; 0 for a definition, which has no offsets.
+fn reference_width(entry: &Entry) -> u64
+    ensures value { result ≡ reference_width (entry_of entry.now) }
     ensures bound { result ≤ 4 }
 {
-    match word >> 24 {
-        131 | 134 | 138 => 2,
-        132 | 135 | 139 => 1,
-        _ => 4,
+    match entry.kind() {
+        Some(kind) => kind.width().unwrap_or(0),
+        None => 0,
     }
 }
 
-/// How many longwords of content a block of this body has.
-fn content_longs(body: &Body) -> u64
-    ensures { result ≡ content_longs (body_of body.now) }
-{
-    match body {
-        Body::Code { top: _, payload } | Body::Data { top: _, payload } => {
-            payload.bytes().len() as u64 / 4
-        }
-        Body::Bss { size } => SizeWord {
-            word: *size,
-            extra: 0,
-        }
-        .longs()
-        .into(),
-        _ => 0,
-    }
-}
-
-/// How many bytes the hunk has: 4 times the longwords of its content.
+/// How many bytes the hunk has: those of its content.
 fn hunk_bytes(blocks: &[Block]) -> u64
     requires { hunk_bytes blocks.now < 2 ^ 64 }
     ensures { result ≡ hunk_bytes blocks.now }
 {
-    let longs: u64 = blocks.iter().map(|block| content_longs(block.body())).sum();
-    4 * longs
+    blocks.iter().map(content_size).sum()
+}
+
+/// How many bytes of content the block has.
+fn content_size(block: &Block) -> u64
+    ensures { result ≡ content_size block.now.body }
+{
+    block.body().content_bytes().unwrap_or(0)
 }
 
 /// Hands over what is wrong with an offset of this width.
@@ -152,7 +139,7 @@ fn check_groups<T: TakesFindings>(taker: &mut T, spot: Spot, width: u64, groups:
 fn check_entry<T: TakesFindings>(taker: &mut T, spot: Spot, entry: &Entry)
     ensures { T.takes taker.old (entry_findings spot (entry_of entry.now)) taker.new }
 {
-    let width = reference_width(entry.word);
+    let width = reference_width(entry);
     for i in 0..entry.offsets.len() {
         check_offset(taker, spot, width, entry.offsets.at(i));
     }

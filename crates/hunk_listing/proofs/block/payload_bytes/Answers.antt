@@ -1,4 +1,4 @@
-use Rattle.hunk_listing.proofs.BlockLaws.{payload_size}
+use Rattle.hunk_blocks.proofs.Whole.{payload_size}
 use Rattle.hunk_listing.proofs.block.payload_bytes.Goals as goal
 
 pub returns : goal.returns

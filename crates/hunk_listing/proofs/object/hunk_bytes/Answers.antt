@@ -1,8 +1,9 @@
-use Rattle.std.proofs.Common.{◌≡◌, ◌∙◌, ◌*◌, refl, ap, sym, true, false, arith}
-use Rattle.hunk_blocks.specs.Values.{BlockBody}
+use Rattle.std.proofs.Common.{◌≡◌, ◌∙◌, ℕ, Option, Some, None, refl, ap, sym, true, false, arith}
+use Rattle.std.specs.Prelude.{is_some, unwrap_or}
+use Rattle.hunk_blocks.specs.Values.{BlockBody, content_bytes}
 use Rattle.hunk_files.specs.LoadFile.{standing}
+use Rattle.hunk_files.proofs.ContentBlocks.{content_has}
 use Rattle.hunk_scan.specs.Standings.{is_content}
-use Rattle.hunk_files.specs.Findings.{content_longs}
 use Rattle.hunk_listing.proofs.Contents.{found_content, none_open, still_open}
 use Rattle.hunk_listing.proofs.object.hunk_bytes.Goals as goal
 
@@ -11,14 +12,15 @@ looking-init c = (c.requires.order, refl)
 
 pub returns-in-Some : goal.returns-in-Some
 returns-in-Some c =
-    let body = c.body.ensures.value in
-    let is : is_content (standing c.block-item.result.body) ≡ true = ap (λ (b : BlockBody). is_content (standing b)) (sym body) ∙ c.in-Some.ensures.some.1 in
+    let has : content_bytes c.block-item.result.body ≡ Some c.in-Some.bytes = ap content_bytes (sym c.body.ensures.value) ∙ sym c.content_bytes.ensures ∙ c.in-Some.is in
+    let is : is_content (standing c.block-item.result.body) ≡ true = sym (content_has c.block-item.result.body) ∙ ap is_some has in
     found_content c.args.blocks.now c.looking.block-index c.block-item.result (omega arith) c.block-item.is c.looking.invariant is c.in-Some.bytes
-    (c.in-Some.ensures.some.0 ∙ ap (λ (b : BlockBody). 4 * content_longs b) body)
+    (sym (ap (λ (o : Option ℕ). unwrap_or o 0) has))
 
 pub looking-preserved : goal.looking-preserved
 looking-preserved c =
-    let other : is_content (standing c.block-item.result.body) ≡ false = ap (λ (b : BlockBody). is_content (standing b)) (sym c.body.ensures.value) ∙ c.in_default.ensures.none.1 in
+    let none : content_bytes c.block-item.result.body ≡ None = ap content_bytes (sym c.body.ensures.value) ∙ sym c.content_bytes.ensures ∙ c.in_default.is in
+    let other : is_content (standing c.block-item.result.body) ≡ false = sym (content_has c.block-item.result.body) ∙ ap is_some none in
     still_open c.args.blocks.now c.looking.block-index c.block-item.result (omega arith) c.block-item.is c.looking.invariant other
 
 pub returns : goal.returns

@@ -1,6 +1,6 @@
-use Rattle.std.proofs.Common.{List, arith, refl, subst, sym, ℕ, ◌^◌, ◌∷◌}
+use Rattle.std.proofs.Common.{List, arith, refl, subst, sym, ℕ, ◌^◌, ◌∷◌, Some}
 use Rattle.hunk_words.specs.Longs.{longs}
-use Rattle.hunk_blocks.specs.declared.ext_shape.ExtShape.TheVariants.{Refers}
+use Rattle.hunk_blocks.specs.declared.ext_shape.ExtShape.TheVariants.{References}
 use Rattle.hunk_blocks.specs.Values.{IsPayload}
 use Rattle.hunk_blocks.specs.Parts.{counted_text}
 use Rattle.hunk_blocks.specs.Reading.{Reads}
@@ -15,17 +15,17 @@ returns-in_err-read_counted-clause-none c = on_err c.from_residual-in_err-read_c
 
 pub returns-clause-read : goal.returns-clause-read
 returns-clause-read c = (
-  entry_is Refers c.args.word 0 (longs c.in_ok-name.name) c.of-offsets.result c.requires.shape refl (omega arith) c.requires.goes_on c.in_ok-name.ensures.count.0 c.in_ok-name.ensures.count.1 (omega arith)
+  entry_is (Some References) c.args.word 0 (longs c.in_ok-name.name) c.of-offsets.result c.requires.shape refl (omega arith) c.requires.goes_on c.in_ok-name.ensures.count.0 c.in_ok-name.ensures.count.1 (omega arith)
       (subst (IsPayload (2 ^ 32)) (sym c.of-offsets.ensures) c.in_ok-read_counted.ensures.read.0),
   λ before h.
-      entry_read Refers before c.args.reader.now c.read_entry_name.new.reader c.read_counted.new.reader c.args.word 0 (longs c.in_ok-name.name) c.of-offsets.result c.requires.shape c.in_ok-name.ensures.read
+      entry_read (Some References) before c.args.reader.now c.read_entry_name.new.reader c.read_counted.new.reader c.args.word 0 (longs c.in_ok-name.name) c.of-offsets.result c.requires.shape c.in_ok-name.ensures.read
       (subst (λ (os : List ℕ). Reads c.read_entry_name.new.reader c.read_counted.new.reader (counted_text os)) (sym c.of-offsets.ensures) c.in_ok-read_counted.ensures.read.1) h,
 )
 
 pub returns-in_err-name-clause-front : goal.returns-in_err-name-clause-front
 returns-in_err-name-clause-front c =
     on_err c.from_residual.result
-    (named_front Refers c.args.word c.args.reader.now.rest c.requires.shape (λ e. cc) c.requires.goes_on (omega arith) (omega (arith, c.in_err-name.ensures.short)) c.in_err-name.ensures.fit)
+    (named_front (Some References) c.args.word c.args.reader.now.rest c.requires.shape (λ e. cc) c.requires.goes_on (omega arith) (omega (arith, c.in_err-name.ensures.short)) c.in_err-name.ensures.fit)
 
 pub returns-in_err-read_counted-clause-front : goal.returns-in_err-read_counted-clause-front
 returns-in_err-read_counted-clause-front c =

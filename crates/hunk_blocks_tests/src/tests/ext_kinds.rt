@@ -1,0 +1,151 @@
+//! The types of EXT entries: their numbers, names, shapes and widths.
+
+use hunk_blocks::{Block, Body, ExtKind, ExtShape, Mode};
+use hunk_testing::bytes_of;
+use std::alloc::Global;
+use std::process::Abort;
+use std::test::Fail;
+
+/// Each type with its number, its name, what stands behind the name of an entry, and the width of its
+/// references.
+const TYPES: &[(ExtKind, u8, &str, ExtShape, Option<u64>)] = &[
+    (ExtKind::Symb, 0, "SYMB", ExtShape::Definition, None),
+    (ExtKind::Def, 1, "DEF", ExtShape::Definition, None),
+    (ExtKind::Abs, 2, "ABS", ExtShape::Definition, None),
+    (ExtKind::Ref32, 129, "REF32", ExtShape::References, Some(4)),
+    (ExtKind::Common, 130, "COMMON", ExtShape::Common, Some(4)),
+    (ExtKind::Ref16, 131, "REF16", ExtShape::References, Some(2)),
+    (ExtKind::Ref8, 132, "REF8", ExtShape::References, Some(1)),
+    (
+        ExtKind::Dext32,
+        133,
+        "DEXT32",
+        ExtShape::References,
+        Some(4),
+    ),
+    (
+        ExtKind::Dext16,
+        134,
+        "DEXT16",
+        ExtShape::References,
+        Some(2),
+    ),
+    (ExtKind::Dext8, 135, "DEXT8", ExtShape::References, Some(1)),
+    (
+        ExtKind::RelRef32,
+        136,
+        "RELREF32",
+        ExtShape::References,
+        Some(4),
+    ),
+    (
+        ExtKind::RelCommon,
+        137,
+        "RELCOMMON",
+        ExtShape::Common,
+        Some(4),
+    ),
+    (
+        ExtKind::AbsRef16,
+        138,
+        "ABSREF16",
+        ExtShape::References,
+        Some(2),
+    ),
+    (
+        ExtKind::AbsRef8,
+        139,
+        "ABSREF8",
+        ExtShape::References,
+        Some(1),
+    ),
+];
+
+#[test]
+fn of_each_type(rt: HostRuntime) -> Result<(), Fail> {
+    for (kind, code, name, shape, width) in TYPES {
+        assert_eq!(rt; ExtKind::from_code(*code), Some(*kind));
+        assert_eq!(rt; kind.code(), *code);
+        assert_eq!(rt; kind.name(), *name);
+        assert_eq!(rt; kind.shape(), *shape);
+        assert_eq!(rt; kind.width(), *width);
+    }
+    Ok(())
+}
+
+/// Numbers that are not accepted, RES among them.
+const REFUSED: &[u8] = &[3, 4, 127, 128, 140, 255];
+
+#[test]
+fn of_no_type(rt: HostRuntime) -> Result<(), Fail> {
+    for code in REFUSED {
+        assert_eq!(rt; ExtKind::from_code(*code), None, "{code}");
+    }
+    Ok(())
+}
+
+/// An entry of each shape: DEF, COMMON with a reference, REF8 with two.
+const ENTRIES: &[u32] = &[
+    0x3EF,
+    0x0100_0001,
+    0x5F66_0000,
+    7,
+    0x8200_0000,
+    16,
+    1,
+    4,
+    0x8400_0000,
+    2,
+    4,
+    8,
+    0,
+];
+
+#[test]
+fn of_entries(rt: HostRuntime) -> Result<(), Fail> {
+    let bytes = bytes_of(rt.alloc(), ENTRIES)?;
+    let (block, _) = Block::decode(rt.alloc(), bytes.as_slice(), Mode::Object)?;
+    match block.body() {
+        Body::Ext(entries) => {
+            assert_eq!(rt; entries.len(), 3);
+            assert_eq!(rt; entries.at(0).kind(), Some(ExtKind::Def));
+            assert_eq!(rt; entries.at(0).shape(), Some(ExtShape::Definition));
+            assert_eq!(rt; entries.at(1).kind(), Some(ExtKind::Common));
+            assert_eq!(rt; entries.at(1).shape(), Some(ExtShape::Common));
+            assert_eq!(rt; entries.at(2).kind(), Some(ExtKind::Ref8));
+            assert_eq!(rt; entries.at(2).shape(), Some(ExtShape::References));
+        }
+        _ => panic!(&rt; "EXT"),
+    }
+    Ok(())
+}
+
+/// Blocks, and how many bytes of content each has.
+const BLOCKS: &[(&[u32], Option<u64>)] = &[
+    (&[0x3E9, 2, 0, 0], Some(8)),
+    (&[0x3EA, 0x8000_0001, 0x1234_5678], Some(4)),
+    (&[0x3EB, 0x4000_0003], Some(12)),
+    (&[0x3F1, 1, 0], None),
+    (&[0x3EC, 0], None),
+    (&[0x3F2], None),
+];
+
+fn expect_content(
+    rt: &impl Abort,
+    alloc: Global,
+    longs: &[u32],
+    want: Option<u64>,
+) -> Result<(), Fail> {
+    let bytes = bytes_of(alloc, longs)?;
+    let (block, _) = Block::decode(alloc, bytes.as_slice(), Mode::Load)?;
+    assert_eq!(rt; block.body().content_bytes(), want, "{longs:?}");
+    Ok(())
+}
+
+#[test]
+fn of_content(rt: HostRuntime) -> Result<(), Fail> {
+    for (longs, want) in BLOCKS {
+        expect_content(&rt, rt.alloc(), longs, *want)?;
+    }
+    Ok(())
+}
