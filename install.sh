@@ -47,7 +47,7 @@ includedir=\${prefix}/include
 libdir=\${prefix}/lib
 
 Name: hunk
-Description: load files of AmigaDOS (hunk files)
+Description: load files and object files of AmigaDOS (hunk files)
 Version: 0
 Cflags: -I\${includedir}
 Libs: -L\${libdir} -lhunk

@@ -1,4 +1,5 @@
-/* Load files of AmigaDOS (hunk files): their tables, loading them, the names of refusals.
+/* Hunk files of AmigaDOS: tables of load files, loading them, checking and stripping load files and
+ * object files, the names of refusals.
  *
  * Whatever the bytes are, each call answers one of the answers that stand below it; what of this is
  * proved is in docs/PROVED.md. A call reads and writes only what its arguments point to and what
@@ -24,7 +25,7 @@ extern "C" {
 /* The numbers of answers: 0, the number of a reason, or that of HUNK_NO_ROOM. */
 #define HUNK_OK UINT32_C(0)
 #define HUNK_NOT_LOAD_FILE UINT32_C(1)        /* the first longword is not 3F3 */
-#define HUNK_IS_OBJECT UINT32_C(2)            /* it is 3E7: an object file */
+#define HUNK_IS_OBJECT UINT32_C(2)            /* it is 3E7: an object file; loads answer it */
 #define HUNK_LIBRARY UINT32_C(3)              /* a library hunk, LIB or INDEX */
 #define HUNK_RESIDENT UINT32_C(4)             /* the header names resident libraries */
 #define HUNK_NO_HUNKS UINT32_C(5)             /* the table size is 0 */
@@ -47,7 +48,7 @@ extern "C" {
 #define HUNK_NOTHING_TO_RELOCATE UINT32_C(22) /* a relocation in a hunk of 0 bytes */
 #define HUNK_BAD_TARGET UINT32_C(23)          /* the target is no hunk of the file */
 #define HUNK_BAD_OFFSET UINT32_C(24)          /* the relocated long is not within the hunk */
-#define HUNK_EXT_KIND UINT32_C(25)            /* no call of these answers it */
+#define HUNK_EXT_KIND UINT32_C(25)            /* an entry of an EXT block, of an unknown type */
 #define HUNK_TRUNCATED UINT32_C(26)           /* the bytes end inside the file */
 #define HUNK_BUDGET UINT32_C(27)              /* the hunks declare more bytes than the budget */
 #define HUNK_FILE_LIMIT UINT32_C(28)          /* no call of these answers it */
@@ -59,7 +60,7 @@ extern "C" {
 /* What a call answers: 24 bytes. */
 struct hunk_answer {
     uint32_t number; /* HUNK_OK, the number of a reason, or HUNK_NO_ROOM */
-    uint32_t hunk;   /* the number of hunks; at HUNK_NO_BASE the hunk, counted from 0; else 0 */
+    uint32_t hunk;   /* the hunks of a load file; at HUNK_NO_BASE the one without; else 0 */
     uint64_t place;  /* bytes that were read; at a reason, the byte where it stands, from 0 on */
     uint64_t count;  /* what the call counts (below): written, or needed at HUNK_NO_ROOM; else 0 */
 };
@@ -70,6 +71,18 @@ struct hunk_row {
     uint32_t extra;  /* the memory attributes where memory is 3, else 0 */
     uint32_t bytes;  /* the bytes of the hunk in memory: 4 times the low 30 bits of the size word */
     uint32_t memory; /* bits 30 and 31 of the size word: 0 any, 1 chip, 2 fast, 3 by attributes */
+};
+
+/* What is wrong with an offset of an object file. */
+#define HUNK_FINDING_BAD_TARGET UINT32_C(1)   /* a relocation's target is no hunk of the unit */
+#define HUNK_FINDING_OUTSIDE_HUNK UINT32_C(2) /* the bytes there go past the end of the hunk */
+
+/* Something that is wrong with an object file, and where: 24 bytes. */
+struct hunk_finding {
+    uint64_t unit;   /* the unit, counted from 0 */
+    uint64_t hunk;   /* the hunk, counted from 0 in its unit */
+    uint32_t offset; /* the offset, in bytes from the start of the hunk */
+    uint32_t fault;  /* HUNK_FINDING_BAD_TARGET or HUNK_FINDING_OUTSIDE_HUNK */
 };
 
 /* Reads the header that the bytes begin with, and writes a row for each hunk.
@@ -125,6 +138,54 @@ struct hunk_answer hunk_load(const uint8_t *bytes, size_t bytes_len, const uint3
  */
 struct hunk_answer hunk_load_packed(const uint8_t *bytes, size_t bytes_len, uint32_t base,
                                     uint8_t *memory, size_t memory_len);
+
+/* Checks the object file that the bytes are, or the load file that they begin with: bytes that
+ * begin with 3E7 are read as an object file, all others as a load file.
+ *
+ *   bytes   the file, whole; other bytes may follow a load file
+ *   rows    where the findings go: up to two for each offset of a relocation, and one for each of
+ *           an external reference
+ *
+ * HUNK_OK       hunk: the hunks of a load file, 1 or more; 0 of an object file; place: the bytes of
+ *               the file; count: the findings, as many as rows were written, in the order of the
+ *               file. A load file has none: for an offset that is wrong it is refused.
+ * HUNK_NO_ROOM  there are more findings than rows. count: the rows that are needed; hunk and place
+ *               as at HUNK_OK. With rows_len 0 this asks for their number.
+ * HUNK_OUT_OF_MEMORY  place: the longword that completes what found no memory, or the bytes of the
+ *                     object file where its findings found none.
+ * Else the first fault of the bytes, HUNK_NOT_LOAD_FILE to HUNK_TRUNCATED; place: the byte of the
+ * longword that is refused, or where the first longword is missing.
+ *
+ * A file is checked where there are rows enough, or the answer is HUNK_OUT_OF_MEMORY. Rows behind
+ * the findings, and at any answer but HUNK_OK all rows, are as they were. It takes memory for the
+ * parts of the file, its hunks, blocks, groups, entries and symbols, and for the findings, 24 bytes
+ * each; each rounded up as a list grows.
+ */
+struct hunk_answer hunk_check(const uint8_t *bytes, size_t bytes_len, struct hunk_finding *rows,
+                              size_t rows_len);
+
+/* Writes the object file that the bytes are, or the load file that they begin with, to the text,
+ * without its NAME, SYMBOL, DEBUG and ADVISORY blocks. Which of the two they are is as at
+ * hunk_check.
+ *
+ *   bytes   the file, whole; other bytes may follow a load file, and are left out
+ *   text    where the stripped file goes: as many bytes as the file has are always enough
+ *
+ * HUNK_OK       hunk: the hunks of a load file, 1 or more; 0 of an object file; place: the bytes of
+ *               the file; count: the bytes that were written.
+ * HUNK_NO_ROOM  the text is too short. count: the bytes that are needed; hunk and place as at
+ *               HUNK_OK.
+ * HUNK_OUT_OF_MEMORY  place: the longword that completes what found no memory, or the bytes of the
+ *                     file where the stripped file found none.
+ * Else the first fault of the bytes, as at hunk_check.
+ *
+ * A file is stripped where there is room, or the answer is HUNK_OUT_OF_MEMORY. Text behind what is
+ * written, and at any answer but HUNK_OK all text, is as it was. What is loaded of a stripped load
+ * file is the same, and so are the findings of a stripped object file. It takes memory for the
+ * parts of the file, as hunk_check does, and then as many bytes as the file has, once.
+ */
+struct hunk_answer hunk_strip(const uint8_t *bytes, size_t bytes_len, uint8_t *text,
+                              size_t text_len);
 
 /* Writes the name of an answer's number to the text, with no zero behind it.
  *

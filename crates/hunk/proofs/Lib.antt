@@ -1,3 +1,6 @@
+pub mod Checked
 pub mod Filling
 pub mod Loaded
+pub mod OneFile
 pub mod Succeeding
+pub mod TableRows

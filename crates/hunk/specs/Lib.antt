@@ -1,4 +1,7 @@
 pub mod Answers
+pub mod Checks
+pub mod Files
 pub mod Loads
 pub mod Names
+pub mod Strips
 pub mod Tables

@@ -1,6 +1,7 @@
 //! What a call answers.
 ghost use Rattle.std.specs.Prelude.{◌≡◌};
-ghost use Rattle.hunk.specs.Answers.{hunk_of, no_room, refused};
+ghost use Rattle.hunk_words.specs.declared.reason.Reason.TheVariants as reasons;
+ghost use Rattle.hunk.specs.Answers.{done, hunk_of, no_room, refused};
 
 use hunk_words::{Fault, Reason};
 
@@ -10,7 +11,7 @@ use hunk_words::{Fault, Reason};
 pub struct Answer {
     /// 0, the number of a reason, 1 to 31, or `NO_ROOM`.
     pub number: u32,
-    /// The number of hunks; the hunk without a base where `number` is that of NoBase.
+    /// The number of hunks of a load file; the hunk without a base where `number` is that of NoBase.
     pub hunk: u32,
     /// The number of bytes that were read; the byte that is refused where `number` is a reason's.
     pub place: u64,
@@ -53,5 +54,27 @@ pub(crate) fn no_room(hunks: u32, place: u64, count: u64) -> Answer
         hunk: hunks,
         place,
         count,
+    }
+}
+
+/// The answer where memory is wanting, at the byte that this is for.
+pub(crate) fn no_memory(place: u64) -> Answer
+    ensures { result ≡ refused (record { place = place; reason = reasons.OutOfMemory }) }
+{
+    refused(Fault {
+        place,
+        reason: Reason::OutOfMemory,
+    })
+}
+
+/// The answer where all was done: how many bytes were read, and how much was written.
+pub(crate) fn done(hunks: u32, read: u64, written: u64) -> Answer
+    ensures { result ≡ done hunks read written }
+{
+    Answer {
+        number: 0,
+        hunk: hunks,
+        place: read,
+        count: written,
     }
 }

@@ -6,14 +6,19 @@
 
 mod answer;
 mod body;
+mod check;
+mod file;
 mod header;
 mod load;
 mod reason;
+mod strip;
 mod table;
 #[cfg(test)]
 mod tests;
 
 pub use crate::answer::Answer;
+pub use crate::check::{FindingRow, hunk_check};
 pub use crate::load::{hunk_load, hunk_load_packed};
 pub use crate::reason::hunk_reason;
+pub use crate::strip::hunk_strip;
 pub use crate::table::{TableRow, hunk_table};

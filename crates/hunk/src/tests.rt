@@ -1,6 +1,9 @@
 //! What no clause says: what C programs see of worked examples. The rest is tried from C.
 
-use crate::{Answer, TableRow, hunk_load, hunk_load_packed, hunk_reason, hunk_table};
+use crate::{
+    Answer, FindingRow, TableRow, hunk_check, hunk_load, hunk_load_packed, hunk_reason, hunk_strip,
+    hunk_table,
+};
 use std::mem::size_of;
 use std::rt::HostRuntime;
 use std::test::Fail;
@@ -11,6 +14,19 @@ const TWO_HUNKS: [u8; 84] = [
     0xE9, 0, 0, 0, 2, 0x4E, 0xF9, 0, 0, 0, 4, 0x4E, 0x71, 0, 0, 3, 0xEC, 0, 0, 0, 1, 0, 0, 0, 1, 0,
     0, 0, 2, 0, 0, 0, 0, 0, 0, 3, 0xF2, 0, 0, 3, 0xEA, 0, 0, 0, 1, 0x12, 0x34, 0x56, 0x78, 0, 0, 3,
     0xF2,
+];
+
+/// The same of example 29: an object file whose relocation has no target, and no room.
+const AMISS: [u8; 44] = [
+    0, 0, 3, 0xE7, 0, 0, 0, 0, 0, 0, 3, 0xE9, 0, 0, 0, 1, 0, 0, 0, 0, 0, 0, 3, 0xEC, 0, 0, 0, 1, 0,
+    0, 0, 1, 0, 0, 0, 2, 0, 0, 0, 0, 0, 0, 3, 0xF2,
+];
+
+/// Example 18: example 1 with a symbol.
+const SYMBOL: [u8; 60] = [
+    0, 0, 3, 0xF3, 0, 0, 0, 0, 0, 0, 0, 1, 0, 0, 0, 0, 0, 0, 0, 0, 0, 0, 0, 1, 0, 0, 3, 0xE9, 0, 0,
+    0, 1, 0x4E, 0x75, 0x4E, 0x71, 0, 0, 3, 0xF0, 0, 0, 0, 1, 0x5F, 0x6D, 0, 0, 0, 0, 0, 0, 0, 0, 0,
+    0, 0, 0, 3, 0xF2,
 ];
 
 const NO_ROW: TableRow = TableRow {
@@ -62,9 +78,45 @@ fn tells_a_table_and_a_name(rt: HostRuntime) -> Result<(), Fail> {
     Ok(())
 }
 
+/// What is wrong at offset 2 of the first hunk.
+fn row(fault: u32) -> FindingRow {
+    FindingRow {
+        unit: 0,
+        hunk: 0,
+        offset: 2,
+        fault,
+    }
+}
+
+#[test]
+fn checks_an_object_file(rt: HostRuntime) -> Result<(), Fail> {
+    let mut rows = [row(7), row(8), row(9)];
+    let told = hunk_check(rt.alloc(), AMISS.as_slice(), rows.as_mut_slice());
+    assert_eq!(rt;
+        (told.number, told.hunk, told.place, told.count),
+        (0, 0, 44, 2)
+    );
+    assert_eq!(rt; rows, [row(1), row(2), row(9)]);
+    Ok(())
+}
+
+#[test]
+fn strips_a_symbol(rt: HostRuntime) -> Result<(), Fail> {
+    let mut text = [0xA5u8; 41];
+    let told = hunk_strip(rt.alloc(), SYMBOL.as_slice(), text.as_mut_slice());
+    assert_eq!(rt;
+        (told.number, told.hunk, told.place, told.count),
+        (0, 1, 60, 40)
+    );
+    assert_eq!(rt; &text[..36], &SYMBOL[..36]);
+    assert_eq!(rt; (&text[36..40], text[40]), (&SYMBOL[56..], 0xA5));
+    Ok(())
+}
+
 /// The sizes that `tests/c` finds in `hunk.h`.
 #[test]
 fn has_the_sizes_of_the_header(rt: HostRuntime) -> Result<(), Fail> {
     assert_eq!(rt; (size_of::<Answer>(), size_of::<TableRow>()), (24, 16));
+    assert_eq!(rt; size_of::<FindingRow>(), 24);
     Ok(())
 }

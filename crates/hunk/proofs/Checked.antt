@@ -1,0 +1,76 @@
+-- What a check and a strip come to.
+use Rattle.std.proofs.Common.{◌≡◌, ◌≢◌, ℕ, List, length, refl, ap, subst, ◌∙◌, arith, ◌⊎◌, inl, inr}
+use Rattle.hunk_words.specs.Longs.{longs}
+use Rattle.hunk_words.specs.declared.fault.Fault.{Fault}
+use Rattle.hunk_words.specs.declared.reason.Reason.{Reason}
+use Rattle.hunk_words.specs.declared.reason.Reason.TheVariants as reasons
+use Rattle.hunk_scan.specs.FileKind.{sniffed}
+use Rattle.hunk_files.specs.HunkFile.{AreFile, IsFileOf, IsMemory, IsRefusal, file_bytes}
+use Rattle.hunk_files.specs.LoadFile.{LoadFileValue}
+use Rattle.hunk_files.specs.declared.hunk_file.HunkFile.{HunkFile}
+use Rattle.hunk_files.specs.declared.hunk_file.HunkFile.TheVariants as files
+use Rattle.hunk.specs.declared.answer.Answer.{Answer}
+use Rattle.hunk.specs.declared.check.FindingRow.{FindingRow}
+use Rattle.hunk.specs.Answers.{refused, done}
+use Rattle.hunk.specs.Checks as checks
+use Rattle.hunk.specs.Checks.{Checks, ChecksWhatFits}
+use Rattle.hunk.specs.Files.{AreNoFile, findings_in}
+use Rattle.hunk.specs.Strips as strips
+use Rattle.hunk.specs.Strips.{Strips, StripsWhatFits, stripped_bytes}
+use Rattle.hunk.proofs.Loaded.{same_answer}
+use Rattle.hunk.proofs.OneFile.{are_file, faulted, one_file}
+
+number_is : (a b : Answer) → a ≡ b → a.number ≡ b.number
+number_is a b e = ap (λ (x : Answer). x.number) e
+
+-- ---- where a file is refused
+
+module _ (bytes : List ℕ) (answer : Answer) (f : Fault) (none : f.reason ≢ reasons.OutOfMemory → AreFile bytes → ⊥)
+    (refusal : f.reason ≢ reasons.OutOfMemory → IsRefusal (sniffed (longs bytes)) bytes f)
+    (memory : f.reason ≡ reasons.OutOfMemory → IsMemory (sniffed (longs bytes)) bytes f.place) (told : answer ≡ refused f) where
+  abbrev Fails : Type 0
+  Fails = AreNoFile bytes f ⊎ ((f.reason ≡ reasons.OutOfMemory) × IsMemory (sniffed (longs bytes)) bytes f.place)
+
+  fails : Fails
+  fails = faulted bytes f.place f.reason none refusal memory
+
+  wanting : f.reason ≡ reasons.OutOfMemory → answer ≡ refused (record { place = f.place; reason = reasons.OutOfMemory })
+  wanting e = told ∙ ap (λ (r : Reason). refused (record { place = f.place; reason = r })) e
+
+  pub check_refused : (rows : List FindingRow) → Checks bytes rows rows answer
+  check_refused rows = go fails
+    where
+      go : Fails → Checks bytes rows rows answer
+      go (inl absent) = checks.HasNoFile f absent refl told
+      go (inr (e, lacks)) = checks.HasNoMemory f.place (inl lacks) refl (wanting e)
+
+  pub strip_refused : (text : List ℕ) → Strips bytes text text answer
+  strip_refused text = go fails
+    where
+      go : Fails → Strips bytes text text answer
+      go (inl absent) = strips.HasNoFile f absent refl told
+      go (inr (e, lacks)) = strips.HasNoMemory f.place (inl lacks) refl (wanting e)
+
+-- ---- where a load file is accepted
+
+pub check_load : (bytes : List ℕ) (rows : List FindingRow) (answer : Answer) (file : HunkFile) (value : LoadFileValue) (rest hunks size : ℕ) → IsFileOf bytes file → file ≡ files.Load value rest →
+    hunks ≡ length value → size ≡ length (file_bytes file) → answer ≡ done hunks size 0 → Checks bytes rows rows answer
+check_load bytes rows answer file value rest hunks size is load count end told =
+    checks.HasFindings (files.Load value rest) (subst (λ (f : HunkFile). IsFileOf bytes f) load is) (omega arith) refl
+    (told ∙ same_answer 0 _ _ _ _ _ _ count (end ∙ ap (λ (f : HunkFile). length (file_bytes f)) load) refl)
+
+-- ---- where there is room
+
+pub checks_what_fits : (bytes : List ℕ) (old new : List FindingRow) (answer : Answer) → Checks bytes old new answer → ChecksWhatFits (length old) bytes answer
+checks_what_fits bytes old new answer (checks.HasFindings a is fits same told) b ok room = inl (number_is _ _ told)
+checks_what_fits bytes old new answer (checks.HasNoRows a is less same told) b ok room =
+    absurd (omega (arith, less, room, ap (λ (x : HunkFile). length (findings_in x)) (one_file bytes a b is ok)))
+checks_what_fits bytes old new answer (checks.HasNoFile f absent same told) b ok room = absurd (absent.1 (are_file bytes b ok))
+checks_what_fits bytes old new answer (checks.HasNoMemory at lacks same told) b ok room = inr (number_is _ _ told)
+
+pub strips_what_fits : (bytes old new : List ℕ) (answer : Answer) → Strips bytes old new answer → StripsWhatFits (length old) bytes answer
+strips_what_fits bytes old new answer (strips.HasStripped a is fits same told) b ok room = inl (number_is _ _ told)
+strips_what_fits bytes old new answer (strips.HasNoText a is less same told) b ok room =
+    absurd (omega (arith, less, room, ap (λ (x : HunkFile). length (stripped_bytes x)) (one_file bytes a b is ok)))
+strips_what_fits bytes old new answer (strips.HasNoFile f absent same told) b ok room = absurd (absent.1 (are_file bytes b ok))
+strips_what_fits bytes old new answer (strips.HasNoMemory at lacks same told) b ok room = inr (number_is _ _ told)

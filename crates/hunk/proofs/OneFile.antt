@@ -1,0 +1,116 @@
+-- Bytes are one file, or begin with one.
+use Rattle.std.proofs.Common.{◌≡◌, ◌≢◌, ℕ, ◌+◌, ◌<◌, List, [], ◌∷◌, ◌++◌, length, get_or, refl, sym, ap, ap₂, ◌∙◌, append-nil, arith, length-append, ◌⊎◌, inl, inr}
+use Rattle.std.specs.List.{flat_map}
+use Rattle.hunk_words.specs.Longs.{AreLongs, IsLong, bytes_of, longs}
+use Rattle.hunk_words.specs.declared.reason.Reason.{Reason}
+use Rattle.hunk_words.specs.declared.reason.Reason.TheVariants as reasons
+use Rattle.hunk_words.proofs.LongLaws.{longs-bytes_of}
+use Rattle.hunk_blocks.specs.Parts.{block_text}
+use Rattle.hunk_blocks.specs.Values.{IsBlock}
+use Rattle.hunk_blocks.proofs.BlockLongs.{block_longs}
+use Rattle.hunk_blocks.proofs.Lists.{All-append}
+use Rattle.hunk_scan.specs.FileKind.{sniffed}
+use Rattle.hunk_files.specs.Fault.{BeginsWithLoadFile}
+use Rattle.hunk_files.specs.HunkFile.{AreFile, AreObjectFile, IsFileOf, IsMemory, IsRefusal, bytes_behind, file_bytes}
+use Rattle.hunk_files.specs.LoadFile.{LoadFileValue}
+use Rattle.hunk_files.specs.LoadText.{text}
+use Rattle.hunk_files.specs.ObjectFile.{ObjectFileValue, ObjectHunk, UnitValue, IsObjectHunk, IsUnit, object_text, unit_header, unit_text}
+use Rattle.hunk_files.specs.declared.hunk_file.HunkFile.{HunkFile}
+use Rattle.hunk_files.specs.declared.hunk_file.HunkFile.TheVariants as files
+use Rattle.hunk_files.proofs.Accepted.{All-flat_map}
+use Rattle.hunk_files.proofs.ObjectText.{object_value}
+use Rattle.hunk_files.proofs.Scan.{begun_longs, one_value}
+use Rattle.hunk_files.proofs.TableReading.{text_is}
+use Rattle.hunk_scatter.proofs.Feeding.{fronts_of}
+use Rattle.hunk.specs.Files.{AreNoFile}
+
+-- ---- load files
+
+one_load : (bytes : List ℕ) (a b : BeginsWithLoadFile bytes) → a.value ≡ b.value
+one_load bytes a b = go (fronts_of (text a.value) (longs a.rest) (text b.value) (longs b.rest) (sym (begun_longs bytes a) ∙ begun_longs bytes b))
+  where
+    go : ((m : List ℕ) × (text a.value ≡ text b.value ++ m) × (m ++ longs a.rest ≡ longs b.rest)) ⊎ ((m : List ℕ) × (text b.value ≡ text a.value ++ m) × (longs a.rest ≡ m ++ longs b.rest)) → a.value ≡ b.value
+    go (inl (m, p, q)) = let same = one_value b.value a.value m b.is_load_file a.is_load_file (sym p) in sym same.0
+    go (inr (m, p, q)) = let same = one_value a.value b.value m a.is_load_file b.is_load_file (sym p) in same.0
+
+one_rest : (bytes : List ℕ) (a b : BeginsWithLoadFile bytes) → length a.rest ≡ length b.rest
+one_rest bytes a b = omega (
+  arith,
+  ap (λ (xs : List ℕ). length xs) a.split,
+  ap (λ (xs : List ℕ). length xs) b.split,
+  length-append (bytes_of (text a.value)) a.rest,
+  length-append (bytes_of (text b.value)) b.rest,
+  ap (λ (v : LoadFileValue). length (bytes_of (text v))) (one_load bytes a b),
+)
+
+-- ---- object files
+
+hunk_longs : (h : ObjectHunk) → IsObjectHunk h → AreLongs (flat_map block_text h)
+hunk_longs h is = All-flat_map IsBlock IsLong block_text block_longs h is.blocks
+
+unit_longs : (u : UnitValue) → IsUnit u → AreLongs (unit_text u)
+unit_longs u is =
+    All-append IsLong (unit_header u.name) (flat_map (flat_map block_text) u.hunks) (omega arith, (omega (arith, is.name.0), is.name.1))
+    (All-flat_map IsObjectHunk IsLong (flat_map block_text) hunk_longs u.hunks is.hunks)
+
+object_longs : (bytes : List ℕ) (o : AreObjectFile bytes) → longs bytes ≡ object_text o.value
+object_longs bytes o =
+    ap longs (o.text_is ∙ sym (append-nil (bytes_of (object_text o.value))))
+    ∙ longs-bytes_of (object_text o.value) [] (All-flat_map IsUnit IsLong unit_text unit_longs o.value o.is_object_file.units)
+    ∙ append-nil (object_text o.value)
+
+one_object : (bytes : List ℕ) (a b : AreObjectFile bytes) → a.value ≡ b.value
+one_object bytes a b = object_value a.value b.value a.is_object_file b.is_object_file (sym (object_longs bytes a) ∙ object_longs bytes b)
+
+-- ---- files of either kind
+
+begins_unit : (o : ObjectFileValue) (ws : List ℕ) → 0 < length o → object_text o ≡ 0x3F3 ∷ ws → ⊥
+begins_unit [] ws some e = omega (arith, some)
+begins_unit (u ∷ o) ws some e =
+    let first : ◌≡◌ {A = ℕ} 0x3E7 0x3F3 = ap (λ (xs : List ℕ). get_or xs 0 0) e in
+    omega (arith, first)
+
+not_both : (bytes : List ℕ) → BeginsWithLoadFile bytes → AreObjectFile bytes → ⊥
+not_both bytes l o =
+    begins_unit o.value _ o.is_object_file.some
+    (sym (object_longs bytes o) ∙ begun_longs bytes l ∙ ap (λ (ws : List ℕ). ws ++ longs l.rest) (text_is l.value))
+
+pub one_file : (bytes : List ℕ) (a b : HunkFile) → IsFileOf bytes a → IsFileOf bytes b → a ≡ b
+one_file bytes (files.Load v n) (files.Load w m) is ok =
+    ap₂ (λ (x : LoadFileValue) (k : ℕ). files.Load x k) (is.1 ∙ one_load bytes is.0 ok.0 ∙ sym ok.1) (is.2 ∙ one_rest bytes is.0 ok.0 ∙ sym ok.2)
+one_file bytes (files.Load v n) (files.Object w) is ok = absurd (not_both bytes is.0 ok.0)
+one_file bytes (files.Object v) (files.Load w m) is ok = absurd (not_both bytes ok.0 is.0)
+one_file bytes (files.Object v) (files.Object w) is ok = ap (λ (x : ObjectFileValue). files.Object x) (is.1 ∙ one_object bytes is.0 ok.0 ∙ sym ok.1)
+
+pub are_file : (bytes : List ℕ) (file : HunkFile) → IsFileOf bytes file → AreFile bytes
+are_file bytes (files.Load v n) is = inl is.0
+are_file bytes (files.Object v) is = inr is.0
+
+-- the file and what follows it are all of the bytes
+pub file_size : (bytes : List ℕ) (file : HunkFile) → IsFileOf bytes file → length bytes ≡ length (file_bytes file) + bytes_behind file
+file_size bytes (files.Load value rest) is = omega (
+  arith,
+  is.2,
+  ap (λ (v : LoadFileValue). length (bytes_of (text v))) is.1,
+  ap (λ (xs : List ℕ). length xs) is.0.split,
+  length-append (bytes_of (text is.0.value)) is.0.rest,
+)
+file_size bytes (files.Object value) is =
+    omega (arith, ap (λ (o : ObjectFileValue). length (bytes_of (object_text o))) is.1, ap (λ (xs : List ℕ). length xs) is.0.text_is)
+
+-- an object file is all of the bytes
+pub object_size : (bytes : List ℕ) (o : ObjectFileValue) → IsFileOf bytes (files.Object o) → length bytes ≡ length (file_bytes (files.Object o))
+object_size bytes o is = omega (arith, file_size bytes (files.Object o) is)
+
+-- ---- bytes that are refused
+
+-- They are no file, or memory is wanting.
+pub faulted : (bytes : List ℕ) (place : ℕ) (reason : Reason) → (reason ≢ reasons.OutOfMemory → AreFile bytes → ⊥) →
+    (reason ≢ reasons.OutOfMemory → IsRefusal (sniffed (longs bytes)) bytes (record { place = place; reason = reason })) →
+    (reason ≡ reasons.OutOfMemory → IsMemory (sniffed (longs bytes)) bytes place) →
+    AreNoFile bytes (record { place = place; reason = reason }) ⊎ ((reason ≡ reasons.OutOfMemory) × IsMemory (sniffed (longs bytes)) bytes place)
+faulted bytes place reasons.OutOfMemory none refused memory = inr (refl, memory refl)
+faulted bytes place reason none refused memory = inl (refused other, none other)
+  where
+    other : reason ≢ reasons.OutOfMemory
+    other e = cc
