@@ -1,84 +1,15 @@
 /* What the library answers on files, in the words of `hunkinfo relocate`: answers BASE FILE..
- * Status 1 where an answer, or what it leaves in the caller's memory, is not what hunk.h says.
- *
- * Each array that a call is given ends where a page begins that faults, since the sanitizers do not
- * see the loads and stores of the library itself. */
-#define _DEFAULT_SOURCE
-#include "hunk.h"
-#include <inttypes.h>
-#include <stdio.h>
-#include <stdlib.h>
-#include <string.h>
-#include <sys/mman.h>
+ * Status 1 where an answer, or what it leaves in the caller's memory, is not what hunk.h says. */
+#include "guarded.h"
 
 #define BUDGET (UINT64_C(1) << 24) /* that of the program */
 #define MOST_HUNKS 65536
-#define PAGE 65536
-#define MARK 0xA5
-#define BEHIND 64 /* bytes, or rows, that have to stay as they were */
 
-static int failures;
-
-static void expect(int holds, const char *file, const char *what)
-{
-    if (!holds) {
-        fprintf(stderr, "%s: %s\n", file, what);
-        failures++;
-    }
-}
-
-/* Arrays, each up to a page that faults. */
-enum array { FILE_BYTES, ROWS, BASES, MEMORY, AGAIN, ARRAYS };
-static const size_t sizes[ARRAYS] = {1 << 20, (MOST_HUNKS + BEHIND) * sizeof(struct hunk_row),
-                                     MOST_HUNKS * 4, (1 << 24) + PAGE, (1 << 24) + PAGE};
-static uint8_t *ends[ARRAYS];
-
-static int make_arrays(void)
-{
-    for (int i = 0; i < ARRAYS; i++) {
-        size_t len = (sizes[i] + PAGE - 1) / PAGE * PAGE;
-        uint8_t *at = mmap(NULL, len + PAGE, PROT_READ | PROT_WRITE, MAP_PRIVATE | MAP_ANONYMOUS,
-                           -1, 0);
-        if (at == MAP_FAILED || mprotect(at + len, PAGE, PROT_NONE) != 0)
-            return 0;
-        ends[i] = at + len;
-    }
-    return 1;
-}
-
-/* The last bytes of an array, each of them the mark. */
-static void *marked(enum array array, size_t len)
-{
-    if (len > sizes[array])
-        exit(3);
-    memset(ends[array] - len, MARK, len);
-    return ends[array] - len;
-}
-
-static int all_marked(const void *memory, size_t len)
-{
-    const uint8_t *at = memory;
-    for (size_t i = 0; i < len; i++)
-        if (at[i] != MARK)
-            return 0;
-    return 1;
-}
-
-static int same(struct hunk_answer a, struct hunk_answer b)
-{
-    return a.number == b.number && a.hunk == b.hunk && a.place == b.place && a.count == b.count;
-}
-
-static void print_refusal(struct hunk_answer a)
-{
-    uint8_t name[17];
-    struct hunk_answer n = hunk_reason(a.number, name, sizeof name);
-    printf("refused at byte %" PRIu64 ": %.*s (%" PRIu32 ")", a.place, (int)n.count, (char *)name,
-           a.number);
-    if (a.number == HUNK_NO_BASE)
-        printf(" hunk %" PRIu32, a.hunk);
-    printf("\n");
-}
+static struct guarded file_bytes = {1 << 20, NULL};
+static struct guarded row_room = {(MOST_HUNKS + BEHIND) * sizeof(struct hunk_row), NULL};
+static struct guarded base_room = {MOST_HUNKS * 4, NULL};
+static struct guarded memory_room = {(1 << 24) + PAGE, NULL};
+static struct guarded again_room = {(1 << 24) + PAGE, NULL};
 
 static void print_hunk(uint32_t h, uint64_t base, const uint8_t *bytes, uint32_t len)
 {
@@ -101,14 +32,14 @@ struct loaded {
 /* The table of a file, asked for without rows and with just as many as it has. */
 static int read_table(struct loaded *f)
 {
-    struct hunk_row *rows = marked(ROWS, 0);
+    struct hunk_row *rows = marked(&row_room, 0);
     f->table = hunk_table(f->bytes, f->len, BUDGET, rows, 0);
     if (f->table.number != HUNK_NO_ROOM) {
         expect(f->table.number != HUNK_OK, f->name, "a table without rows");
         return 0;
     }
     f->table.number = HUNK_OK;
-    rows = marked(ROWS, f->table.hunk * sizeof *rows);
+    rows = marked(&row_room, f->table.hunk * sizeof *rows);
     f->rows = rows;
     struct hunk_answer told = hunk_table(f->bytes, f->len, BUDGET, rows, f->table.hunk);
     expect(same(told, f->table), f->name, "hunk_table with and without rows");
@@ -120,7 +51,7 @@ static int read_table(struct loaded *f)
         expect(rows[h].memory == 3 || rows[h].extra == 0, f->name, "attributes");
     }
     expect(sum == f->table.count, f->name, "the sum of the rows");
-    rows = marked(ROWS, (f->table.hunk + BEHIND) * sizeof *rows);
+    rows = marked(&row_room, (f->table.hunk + BEHIND) * sizeof *rows);
     told = hunk_table(f->bytes, f->table.place, sum, rows, f->table.hunk + BEHIND);
     expect(same(told, f->table), f->name, "hunk_table of the header alone");
     expect(all_marked(rows + f->table.hunk, BEHIND * sizeof *rows), f->name, "rows behind");
@@ -132,25 +63,25 @@ static int read_table(struct loaded *f)
 static void load_listed(const struct loaded *f, struct hunk_answer packed, const uint8_t *memory)
 {
     uint32_t hunks = f->table.hunk;
-    uint32_t *bases = marked(BASES, hunks * sizeof *bases);
+    uint32_t *bases = marked(&base_room, hunks * sizeof *bases);
     uint64_t at = f->base;
     for (uint32_t h = 0; h < hunks; h++) {
         bases[h] = (uint32_t)at;
         at += f->rows[h].bytes;
     }
     size_t room = f->table.count;
-    uint8_t *again = marked(AGAIN, room);
+    uint8_t *again = marked(&again_room, room);
     struct hunk_answer listed = hunk_load(f->bytes, f->len, bases, hunks, again, room);
     expect(same(listed, packed), f->name, "hunk_load and hunk_load_packed");
     expect(memcmp(again, memory, room) == 0, f->name, "the memory of the two");
 
-    again = marked(AGAIN, room);
+    again = marked(&again_room, room);
     struct hunk_answer unplaced = hunk_load(f->bytes, f->len, bases, hunks - 1, again, room);
     struct hunk_answer no_base = {HUNK_NO_BASE, hunks - 1, f->table.place, 0};
     expect(same(unplaced, no_base), f->name, "where a base is missing");
     expect(all_marked(again, room), f->name, "memory where a base is missing");
     if (room > 0) {
-        again = marked(AGAIN, room - 1);
+        again = marked(&again_room, room - 1);
         struct hunk_answer small = hunk_load(f->bytes, f->len, bases, hunks, again, room - 1);
         struct hunk_answer no_room = {HUNK_NO_ROOM, hunks, f->table.place, room};
         expect(same(small, no_room), f->name, "where there is no room");
@@ -165,7 +96,7 @@ static void answers(struct loaded *f)
         return;
     }
     size_t room = f->table.count + BEHIND;
-    uint8_t *memory = marked(MEMORY, room);
+    uint8_t *memory = marked(&memory_room, room);
     struct hunk_answer a = hunk_load_packed(f->bytes, f->len, f->base, memory, room);
     if (a.number != HUNK_OK) {
         expect(all_marked(memory, room), f->name, "memory after a refusal");
@@ -182,10 +113,10 @@ static void answers(struct loaded *f)
     }
     load_listed(f, a, memory);
     /* All of the file is needed, and no byte behind it. */
-    uint8_t *again = marked(AGAIN, room);
+    uint8_t *again = marked(&again_room, room);
     struct hunk_answer whole = hunk_load_packed(f->bytes, a.place, f->base, again, room);
     expect(same(whole, a), f->name, "the file alone");
-    again = marked(AGAIN, room);
+    again = marked(&again_room, room);
     struct hunk_answer cut = hunk_load_packed(f->bytes, a.place - 1, f->base, again, room);
     struct hunk_answer short_of = {HUNK_TRUNCATED, 0, a.place - 4, 0};
     expect(same(cut, short_of), f->name, "the file without its last byte");
@@ -194,20 +125,14 @@ static void answers(struct loaded *f)
 
 int main(int argc, char **argv)
 {
-    static uint8_t buffer[1 << 20];
-    if (argc < 3 || !make_arrays())
+    if (argc < 3 || !make_guarded(&file_bytes) || !make_guarded(&row_room) ||
+        !make_guarded(&base_room) || !make_guarded(&memory_room) || !make_guarded(&again_room))
         return 3;
     for (int i = 2; i < argc; i++) {
-        FILE *file = fopen(argv[i], "rb");
-        if (file == NULL)
-            return 3;
-        size_t len = fread(buffer, 1, sizeof buffer, file);
-        fclose(file);
-        uint8_t *bytes = marked(FILE_BYTES, len);
-        memcpy(bytes, buffer, len);
-        struct loaded f = {argv[i], bytes, len, {0, 0, 0, 0}, NULL, 0};
+        struct loaded f = {argv[i], NULL, 0, {0, 0, 0, 0}, NULL, 0};
+        f.bytes = read_file(&file_bytes, f.name, &f.len);
         f.base = (uint32_t)strtoul(argv[1], NULL, 16);
-        printf("== %s\n", argv[i]);
+        printf("== %s\n", f.name);
         answers(&f);
     }
     return failures > 0;

@@ -13,6 +13,11 @@ CHECK(row_size, sizeof(struct hunk_row) == 16);
 CHECK(row_extra, offsetof(struct hunk_row, extra) == 4);
 CHECK(row_bytes, offsetof(struct hunk_row, bytes) == 8);
 CHECK(row_memory, offsetof(struct hunk_row, memory) == 12);
+CHECK(finding_size, sizeof(struct hunk_finding) == 24);
+CHECK(finding_unit, offsetof(struct hunk_finding, unit) == 0);
+CHECK(finding_hunk, offsetof(struct hunk_finding, hunk) == 8);
+CHECK(finding_offset, offsetof(struct hunk_finding, offset) == 16);
+CHECK(finding_fault, offsetof(struct hunk_finding, fault) == 20);
 
 /* In the order of their numbers. */
 static const struct {

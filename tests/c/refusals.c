@@ -39,28 +39,42 @@ void __wrap_free(void *at)
 
 #define HUNKS 9
 #define HEADER (20 + 4 * HUNKS) /* bytes: five longwords, and a size word for each hunk */
+#define OFFSETS 9
 #define MARK 0xA5
+#define FINDINGS (2 * OFFSETS) /* no target, and no room, at each */
 
-/* A file of nine BSS hunks of one longword. */
+/* A load file of nine BSS hunks of one longword, and an object file of one longword of code, with
+ * nine relocations. */
 static uint8_t file[HEADER + 12 * HUNKS];
+static uint8_t object[4 * (10 + OFFSETS)];
 
-static void put_long(size_t at, uint32_t word)
+static void put_long(uint8_t *bytes, size_t at, uint32_t word)
 {
     for (int i = 0; i < 4; i++)
-        file[at + i] = (uint8_t)(word >> (24 - 8 * i));
+        bytes[at + i] = (uint8_t)(word >> (24 - 8 * i));
 }
 
 static void put_file(void)
 {
-    put_long(0, 0x3F3);
-    put_long(8, HUNKS);
-    put_long(16, HUNKS - 1);
+    put_long(file, 0, 0x3F3);
+    put_long(file, 8, HUNKS);
+    put_long(file, 16, HUNKS - 1);
     for (int h = 0; h < HUNKS; h++) {
-        put_long(20 + 4 * h, 1);
-        put_long(HEADER + 12 * h, 0x3EB);
-        put_long(HEADER + 12 * h + 4, 1);
-        put_long(HEADER + 12 * h + 8, 0x3F2);
+        put_long(file, 20 + 4 * h, 1);
+        put_long(file, HEADER + 12 * h, 0x3EB);
+        put_long(file, HEADER + 12 * h + 4, 1);
+        put_long(file, HEADER + 12 * h + 8, 0x3F2);
     }
+}
+
+static void put_object(void)
+{
+    static const uint32_t front[] = {0x3E7, 0, 0x3E9, 1, 0, 0x3EC, OFFSETS, 1};
+    for (size_t i = 0; i < sizeof front / sizeof *front; i++)
+        put_long(object, 4 * i, front[i]);
+    for (size_t i = 0; i < OFFSETS; i++)
+        put_long(object, sizeof front + 4 * i, 2);
+    put_long(object, sizeof object - 4, 0x3F2);
 }
 
 static int is_marked(const void *memory, size_t len)
@@ -71,43 +85,84 @@ static int is_marked(const void *memory, size_t len)
     return len == 0;
 }
 
-/* Whether an answer says that memory was wanting for a row, or for the hunks. */
+/* Whether an answer says that memory was wanting, for what is read or for what is made of it. */
 static int is_wanting(struct hunk_answer a, uint64_t most)
 {
     return a.number == HUNK_OUT_OF_MEMORY && a.hunk == 0 && a.count == 0 && a.place % 4 == 0 &&
-           a.place >= 20 && a.place <= most;
+           a.place >= 12 && a.place <= most;
+}
+
+/* How often a call was refused memory, and for what is made of a whole file. */
+struct refusals {
+    int all;
+    int at_end;
+};
+
+/* Whether an answer is as it has to be, and all memory was given back. */
+static int counts(struct refusals *r, struct hunk_answer a, uint64_t end, int same, int done)
+{
+    if (!is_wanting(a, end))
+        return held == 0 && a.number == HUNK_OK && done;
+    r->all++;
+    r->at_end += a.place == end;
+    return held == 0 && same;
+}
+
+static int try_table(struct refusals *r)
+{
+    static struct hunk_row rows[HUNKS];
+    memset(rows, MARK, sizeof rows);
+    struct hunk_answer a = hunk_table(file, sizeof file, 4 * HUNKS, rows, HUNKS);
+    return counts(r, a, HEADER - 4, is_marked(rows, sizeof rows), a.place == HEADER);
+}
+
+static int try_load(struct refusals *r)
+{
+    static uint8_t memory[4 * HUNKS];
+    memset(memory, MARK, sizeof memory);
+    struct hunk_answer a = hunk_load_packed(file, sizeof file, 0, memory, sizeof memory);
+    int done = a.place == sizeof file && memory[0] == 0;
+    return counts(r, a, HEADER, is_marked(memory, sizeof memory), done);
+}
+
+static int try_check(struct refusals *r)
+{
+    static struct hunk_finding rows[FINDINGS];
+    memset(rows, MARK, sizeof rows);
+    struct hunk_answer a = hunk_check(object, sizeof object, rows, FINDINGS);
+    int done = a.place == sizeof object && a.count == FINDINGS && rows[0].offset == 2;
+    return counts(r, a, sizeof object, is_marked(rows, sizeof rows), done);
+}
+
+static int try_strip(struct refusals *r)
+{
+    static uint8_t text[sizeof file];
+    memset(text, MARK, sizeof text);
+    struct hunk_answer a = hunk_strip(file, sizeof file, text, sizeof text);
+    int done = a.place == sizeof file && memcmp(text, file, sizeof file) == 0;
+    return counts(r, a, sizeof file, is_marked(text, sizeof text), done);
 }
 
 int main(void)
 {
-    static struct hunk_row rows[HUNKS];
-    static uint8_t memory[4 * HUNKS];
-    int tables = 0, loads = 0, at_the_header_s_end = 0, status = 0;
+    static int (*const tries[])(struct refusals *) = {try_table, try_load, try_check, try_strip};
+    struct refusals r[4] = {{0, 0}, {0, 0}, {0, 0}, {0, 0}};
+    int status = 0;
     put_file();
-    for (refused = 1; refused <= 32; refused++) {
-        growths = held = 0;
-        memset(rows, MARK, sizeof rows);
-        struct hunk_answer t = hunk_table(file, sizeof file, 4 * HUNKS, rows, HUNKS);
-        if (is_wanting(t, HEADER - 4))
-            tables++, status |= !is_marked(rows, sizeof rows);
-        else
-            status |= t.number != HUNK_OK || t.place != HEADER;
-        status |= held != 0;
-
-        growths = held = 0;
-        memset(memory, MARK, sizeof memory);
-        struct hunk_answer a = hunk_load_packed(file, sizeof file, 0, memory, sizeof memory);
-        if (is_wanting(a, HEADER))
-            loads++, status |= !is_marked(memory, sizeof memory);
-        else
-            status |= a.number != HUNK_OK || a.place != sizeof file || memory[0] != 0;
-        at_the_header_s_end += a.number == HUNK_OUT_OF_MEMORY && a.place == HEADER;
-        status |= held != 0;
+    put_object();
+    for (refused = 1; refused <= 64; refused++) {
+        for (int i = 0; i < 4; i++) {
+            growths = held = 0;
+            status |= !tries[i](&r[i]);
+        }
     }
-    /* The rows grow more than once, and the hunks take memory once. */
-    if (tables < 2 || loads != tables + 1 || at_the_header_s_end != 1) {
-        fprintf(stderr, "refused: %d of tables, %d of loads\n", tables, loads);
+    /* The rows grow more than once, and the hunks take memory once. So do the findings, and the
+     * stripped file. */
+    if (r[0].all < 2 || r[1].all != r[0].all + 1 || r[1].at_end != 1 || r[2].at_end < 2 ||
+        r[3].all < 2 || r[3].at_end != 1)
         status = 1;
-    }
+    if (status)
+        fprintf(stderr, "refused: %d of tables, %d of loads, %d of checks, %d of strips\n",
+                r[0].all, r[1].all, r[2].all, r[3].all);
     return status;
 }

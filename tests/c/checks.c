@@ -1,0 +1,151 @@
+/* What the library finds in files and leaves of them, in the words of `hunkinfo validate` and
+ * `hunkinfo rewrite --strip`: checks OUT FILE.., where the stripped files go into the folder OUT.
+ * Status 1 where an answer, or what it leaves in the caller's memory, is not what hunk.h says. */
+#include "guarded.h"
+
+#define MOST_ROWS 65536
+
+static struct guarded file_bytes = {1 << 20, NULL};
+static struct guarded row_room = {(MOST_ROWS + BEHIND) * sizeof(struct hunk_finding), NULL};
+static struct guarded text_room = {(1 << 20) + BEHIND, NULL};
+static struct guarded again_room = {(1 << 20) + BEHIND, NULL};
+
+/* A file as it was read, and what both calls answer of it, but for `number` and `count`. */
+struct checked {
+    const char *name;
+    const uint8_t *bytes;
+    size_t len;
+    struct hunk_answer of;
+};
+
+static struct hunk_answer answer_of(const struct checked *f, uint32_t number, uint64_t count)
+{
+    struct hunk_answer a = {number, f->of.hunk, f->of.place, count};
+    return a;
+}
+
+static void print_finding(const struct checked *f, struct hunk_finding row)
+{
+    int target = row.fault == HUNK_FINDING_BAD_TARGET;
+    expect(target || row.fault == HUNK_FINDING_OUTSIDE_HUNK, f->name, "what is wrong");
+    printf("unit %" PRIu64 " hunk %" PRIu64 " offset 0x%08" PRIx32 " %s\n", row.unit, row.hunk,
+           row.offset, target ? "BadTarget" : "OutsideHunk");
+}
+
+/* The last lines: of an object file without the number of its units, which no call tells. */
+static void print_summary(const struct checked *f, uint64_t findings)
+{
+    if (f->of.hunk == 0) {
+        expect(f->of.place == f->len, f->name, "bytes of an object file");
+        printf("object file %" PRIu64 " findings\n", findings);
+        return;
+    }
+    struct hunk_row none;
+    struct hunk_answer table = hunk_table(f->bytes, f->len, UINT64_MAX, &none, 0);
+    expect(table.hunk == f->of.hunk && findings == 0, f->name, "hunks of a load file");
+    printf("load file %" PRIu32 " hunks %" PRIu64 " bytes\n", f->of.hunk, table.count);
+    if (f->len > f->of.place)
+        printf("rest %" PRIu64 " bytes\n", f->len - f->of.place);
+}
+
+/* A check without rows, with just as many as there are findings, with one fewer, and with more. */
+static int check(struct checked *f)
+{
+    struct hunk_finding *rows = marked(&row_room, 0);
+    struct hunk_answer asked = hunk_check(f->bytes, f->len, rows, 0);
+    if (asked.number != HUNK_OK && asked.number != HUNK_NO_ROOM) {
+        expect(asked.hunk == 0 && asked.count == 0, f->name, "a refusal");
+        print_refusal(asked);
+        return 0;
+    }
+    uint64_t findings = asked.count;
+    expect((asked.number == HUNK_OK) == (findings == 0), f->name, "a check without rows");
+    f->of = asked;
+    struct hunk_answer all = answer_of(f, HUNK_OK, findings);
+    rows = marked(&row_room, findings * sizeof *rows);
+    expect(same(hunk_check(f->bytes, f->len, rows, findings), all), f->name, "a check");
+    for (uint64_t i = 0; i < findings; i++)
+        print_finding(f, rows[i]);
+    if (findings > 0) {
+        rows = marked(&row_room, (findings - 1) * sizeof *rows);
+        struct hunk_answer small = hunk_check(f->bytes, f->len, rows, findings - 1);
+        expect(same(small, answer_of(f, HUNK_NO_ROOM, findings)), f->name, "a row too few");
+        expect(all_marked(rows, (findings - 1) * sizeof *rows), f->name, "rows that are too few");
+    }
+    rows = marked(&row_room, (findings + BEHIND) * sizeof *rows);
+    struct hunk_answer more = hunk_check(f->bytes, f->of.place, rows, findings + BEHIND);
+    expect(same(more, all), f->name, "a check of the file alone");
+    expect(all_marked(rows + findings, BEHIND * sizeof *rows), f->name, "rows behind");
+    print_summary(f, findings);
+    return 1;
+}
+
+static void put_stripped(const char *folder, const char *name, const uint8_t *text, size_t len)
+{
+    char path[1024];
+    snprintf(path, sizeof path, "%s/%s", folder, name);
+    FILE *out = fopen(path, "wb");
+    if (out == NULL || fwrite(text, 1, len, out) != len || fclose(out) != 0)
+        exit(3);
+}
+
+/* A strip without room, with just as much as there has to be, with a byte less, and with more; and
+ * of what is left. */
+static void strip(const struct checked *f, const char *folder)
+{
+    uint8_t *text = marked(&text_room, 0);
+    struct hunk_answer asked = hunk_strip(f->bytes, f->len, text, 0);
+    size_t len = asked.count;
+    expect(same(asked, answer_of(f, HUNK_NO_ROOM, len)), f->name, "a strip without room");
+    expect(len > 0 && len <= f->of.place, f->name, "bytes that are left");
+    struct hunk_answer all = answer_of(f, HUNK_OK, len);
+    text = marked(&text_room, len);
+    expect(same(hunk_strip(f->bytes, f->len, text, len), all), f->name, "a strip");
+    put_stripped(folder, f->name, text, len);
+
+    uint8_t *again = marked(&again_room, len - 1);
+    struct hunk_answer small = hunk_strip(f->bytes, f->len, again, len - 1);
+    expect(same(small, asked), f->name, "a byte too few");
+    expect(all_marked(again, len - 1), f->name, "text that is too short");
+    again = marked(&again_room, len + BEHIND);
+    struct hunk_answer more = hunk_strip(f->bytes, f->of.place, again, len + BEHIND);
+    expect(same(more, all), f->name, "a strip of the file alone");
+    expect(all_marked(again + len, BEHIND), f->name, "text behind");
+    expect(memcmp(again, text, len) == 0, f->name, "the texts of two strips");
+
+    again = marked(&again_room, len);
+    struct hunk_answer twice = hunk_strip(text, len, again, len);
+    all.place = len;
+    expect(same(twice, all), f->name, "a strip of what was stripped");
+    expect(memcmp(again, text, len) == 0, f->name, "what is left of it");
+    printf("wrote %zu bytes\n", len);
+    if (f->len > f->of.place)
+        printf("rest %" PRIu64 " bytes left out\n", f->len - f->of.place);
+}
+
+/* Both calls refuse what is no file for the same. */
+static void refuse_strip(const struct checked *f)
+{
+    uint8_t *text = marked(&text_room, f->len);
+    struct hunk_answer a = hunk_strip(f->bytes, f->len, text, f->len);
+    expect(a.number != HUNK_OK && a.number != HUNK_NO_ROOM, f->name, "a strip of no file");
+    expect(all_marked(text, f->len), f->name, "text after a refusal");
+    print_refusal(a);
+}
+
+int main(int argc, char **argv)
+{
+    if (argc < 3 || !make_guarded(&file_bytes) || !make_guarded(&row_room) ||
+        !make_guarded(&text_room) || !make_guarded(&again_room))
+        return 3;
+    for (int i = 2; i < argc; i++) {
+        struct checked f = {argv[i], NULL, 0, {0, 0, 0, 0}};
+        f.bytes = read_file(&file_bytes, f.name, &f.len);
+        printf("== %s\n", f.name);
+        if (check(&f))
+            strip(&f, argv[1]);
+        else
+            refuse_strip(&f);
+    }
+    return failures > 0;
+}
