@@ -1,4 +1,6 @@
+use Rattle.std.proofs.Common.{refl, ◌∙◌, arith}
 use Rattle.hunk.proofs.Checked.{check_load, check_refused, checks_what_fits}
+use Rattle.hunk.proofs.Loaded.{same_answer}
 use Rattle.hunk.proofs.check.hunk_check.Goals as goal
 
 pub returns-in-Err-clause-outcome : goal.returns-in-Err-clause-outcome
@@ -10,7 +12,8 @@ returns-in-Err-clause-succeeds c = checks_what_fits _ _ _ _ (returns-in-Err-clau
 
 pub returns-in-Load-clause-outcome : goal.returns-in-Load-clause-outcome
 returns-in-Load-clause-outcome c =
-    check_load c.args.bytes.now c.args.rows.now _ c.in-Ok.file _ _ _ _ c.in-Ok.ensures.ok c.in-Load.is c.hunks.ensures.value c.size_in-size.ensures c.done.ensures
+    check_load c.args.bytes.now c.args.rows.now _ c.in-Ok.file _ _ _ c.size_in-size.result c.in-Ok.ensures.ok c.in-Load.is c.hunks.ensures.value c.size_in-size.ensures
+    (c.done.ensures ∙ same_answer _ _ _ _ _ _ _ refl (omega arith) refl)
 
 pub returns-clause-succeeds : goal.returns-clause-succeeds
 returns-clause-succeeds c = checks_what_fits _ _ _ _ c.check_object.ensures
