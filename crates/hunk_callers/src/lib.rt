@@ -3,11 +3,13 @@
 
 mod archive;
 mod assembler;
+mod collection;
 mod emulator;
 mod symbols;
 
 pub use crate::archive::describe;
 pub use crate::assembler::write_program;
+pub use crate::collection::{Collection, survey};
 pub use crate::emulator::load_program;
 pub use crate::symbols::list_symbols;
 

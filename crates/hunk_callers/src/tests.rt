@@ -1,8 +1,11 @@
 //! The callers on files of the worked examples.
 
-use crate::{describe, list_symbols, load_program, write_program};
+use crate::{describe, list_symbols, load_program, survey, write_program};
+use hunk_commands::show;
+use hunk_orders::{Order, order};
 use hunk_testing::bytes_of;
-use hunk_words::FromWrite;
+use hunk_vectors::{OBJECTS, ObjectWant, VECTORS, Want};
+use hunk_words::{FromSlice, FromWrite, LongWriter};
 use std::test::Fail;
 
 /// A program of one longword, with a symbol.
@@ -74,5 +77,76 @@ fn writes_a_program(rt: HostRuntime) -> Result<(), Fail> {
 fn refuses_half_a_longword(rt: HostRuntime) -> Result<(), Fail> {
     let sink = FromWrite::new(Vec::new(rt.alloc()));
     assert!(rt; write_program(&[0x4E, 0x75], sink).is_err());
+    Ok(())
+}
+
+/// The conformance suite, whose load files have one symbol together.
+#[test]
+fn surveys_the_suite(rt: HostRuntime) -> Result<(), Fail> {
+    let mut texts = Vec::new(rt.alloc());
+    let (mut programs, mut bytes) = (0u64, 0u64);
+    for vector in VECTORS {
+        texts.push(vector.text)?;
+        if let Want::Accepted {
+            hunks: _,
+            bytes: declared,
+        } = vector.want
+        {
+            programs = programs.saturating_add(1);
+            bytes = bytes.saturating_add(declared);
+        }
+    }
+    let (mut objects, mut findings) = (0u64, 0u64);
+    for vector in OBJECTS {
+        texts.push(vector.text)?;
+        if let ObjectWant::Accepted {
+            units: _,
+            findings: found,
+        } = vector.want
+        {
+            objects = objects.saturating_add(1);
+            findings = findings.saturating_add(found);
+        }
+    }
+    let found = survey(rt.alloc(), texts.as_slice())?;
+    assert_eq!(rt;
+        (found.programs, found.segment_bytes, found.symbols),
+        (programs, bytes, 1)
+    );
+    assert_eq!(rt; (found.objects, found.findings), (objects, findings));
+    let files = found
+        .programs
+        .saturating_add(found.objects)
+        .saturating_add(found.rejected);
+    assert_eq!(rt; files, texts.len() as u64);
+    Ok(())
+}
+
+/// The words of a command line, and what the program prints for them.
+#[test]
+fn shows_what_the_words_ask_for(rt: HostRuntime) -> Result<(), Fail> {
+    let mut words = Vec::new(rt.alloc());
+    for word in ["hunkinfo", "show"] {
+        words.push(String::from_str(rt.alloc(), word)?)?;
+    }
+    let file = bytes_of(rt.alloc(), ONE_HUNK)?;
+    let mut out = LongWriter::new(FromWrite::new(Vec::new(rt.alloc())));
+    match order(rt.alloc(), words.as_slice())? {
+        Order::Show {
+            hex: false,
+            file: None,
+        } => {
+            show(
+                rt.alloc(),
+                &mut FromSlice::new(file.as_slice()),
+                &mut out,
+                1_000,
+            )?;
+        }
+        _ => assert!(rt; false, "another order"),
+    }
+    let text = out.into_inner().into_inner();
+    let want = b"load file 1 hunks 4 bytes\nhunk 0 4 bytes any\n  CODE 4 bytes\n  END\n";
+    assert_eq!(rt; text.as_slice(), want.as_slice());
     Ok(())
 }

@@ -32,7 +32,11 @@ fn expect(rt: &impl Abort, alloc: Global, text: &str, places: &[u64]) -> Result<
 }
 
 #[test]
-fn of_a_load_file(rt: HostRuntime) -> Result<(), Fail> {
-    expect(&rt, rt.alloc(), FOUR_HUNKS, OF_FOUR_HUNKS)?;
+fn of_four_hunks(rt: HostRuntime) -> Result<(), Fail> {
+    expect(&rt, rt.alloc(), FOUR_HUNKS, OF_FOUR_HUNKS)
+}
+
+#[test]
+fn of_six_blocks(rt: HostRuntime) -> Result<(), Fail> {
     expect(&rt, rt.alloc(), SIX_BLOCKS, OF_SIX_BLOCKS)
 }

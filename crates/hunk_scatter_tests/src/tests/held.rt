@@ -21,13 +21,33 @@ fn header(alloc: Global, rows: u32) -> Result<Vec<u8>, AllocError> {
     bytes_of(alloc, longs.as_slice())
 }
 
-/// Sees that beside a value as much is left as beside so many bytes.
-fn expect_left(rt: &impl Abort, alloc: Global, left: usize, held: usize) -> Result<(), Fail> {
-    let (bytes, want) = left_beside(alloc, || Vec::<u8>::with_capacity(alloc, held))?;
-    assert!(rt; bytes.is_ok());
+/// So many rows of 12 bytes in a list that grew with them, and gave back the room beyond them, and a
+/// store of so many bytes: what a loader has to hold, got in the same way.
+fn plain(alloc: Global, rows: u32, store: usize) -> Result<(Vec<[u8; 12]>, Vec<u8>), AllocError> {
+    let mut list = Vec::new(alloc);
+    for _ in 0..rows {
+        list.push([0u8; 12])?;
+    }
+    list.shrink_to_fit();
+    Ok((list, vec![in alloc; 0u8; store]?))
+}
+
+/// Sees that beside a value as much is left as beside so many rows and a store of so many bytes.
+///
+/// How much the allocator can give beside a list depends on where it lies, so a list of the same
+/// growth is what the value is held to.
+fn expect_left(
+    rt: &impl Abort,
+    alloc: Global,
+    left: usize,
+    rows: u32,
+    store: usize,
+) -> Result<(), Fail> {
+    let (held, want) = left_beside(alloc, || plain(alloc, rows, store))?;
+    assert!(rt; held.is_ok());
     assert!(rt;
         left.abs_diff(want) <= 64,
-        "{left} beside {held}, not {want}"
+        "{left} beside {rows} rows and {store} bytes, not {want}"
     );
     Ok(())
 }
@@ -52,7 +72,7 @@ fn rows_of_a_header(rt: HostRuntime) -> Result<(), Fail> {
     let (loader, left) = left_beside(alloc, || fed(alloc, bytes.as_slice(), 10_000))?;
     assert_eq!(rt; loader.held(), 768);
     assert_eq!(rt; loader.want(), 4);
-    expect_left(&rt, alloc, left, 768)
+    expect_left(&rt, alloc, left, 64, 0)
 }
 
 /// A loader that has refused holds nothing.
@@ -62,7 +82,7 @@ fn nothing_behind_a_refusal(rt: HostRuntime) -> Result<(), Fail> {
     let alloc = rt.alloc();
     let (loader, left) = left_beside(alloc, || fed(alloc, bytes.as_slice(), 4_200))?;
     assert_eq!(rt; (loader.want(), loader.held()), (0, 0));
-    expect_left(&rt, alloc, left, 0)
+    expect_left(&rt, alloc, left, 0, 0)
 }
 
 /// A table holds 12 bytes a hunk, not what the list had room for while it grew.
@@ -72,7 +92,7 @@ fn rows_of_a_table(rt: HostRuntime) -> Result<(), Fail> {
     let alloc = rt.alloc();
     let (table, left) = left_beside(alloc, || declared(alloc, bytes.as_slice()))?;
     assert_eq!(rt; table.map(|table| table.held()), Some(780));
-    expect_left(&rt, alloc, left, 780)
+    expect_left(&rt, alloc, left, HUNKS, 0)
 }
 
 /// A loader of the body behind the header that was fed these bytes.
@@ -112,7 +132,7 @@ fn rows_and_store(rt: HostRuntime) -> Result<(), Fail> {
             Some(held as u64),
             "{text}"
         );
-        expect_left(&rt, alloc, left, held)?;
+        expect_left(&rt, alloc, left, HUNKS, TOTAL)?;
     }
     Ok(())
 }

@@ -1,0 +1,93 @@
+//! A curator's survey of a collection of files.
+
+use hunk_blocks::{Block, Body};
+use hunk_commands::unhex;
+use hunk_files::{HunkFile, LoadFile};
+use hunk_scatter::{Limits, Packed, load};
+use hunk_words::{FromSlice, Reason};
+use std::alloc::Global;
+
+/// The most bytes that a program may have in memory, and in its file.
+const LIMITS: Limits = Limits {
+    budget: 0x0020_0000,
+    file_bytes: 0x0040_0000,
+};
+
+/// What a collection has.
+#[derive(Debug, Clone, Copy, PartialEq)]
+pub struct Collection {
+    /// Load files that were accepted.
+    pub programs: u64,
+    /// The bytes of their segments.
+    pub segment_bytes: u64,
+    /// The symbols that they carry for a debugger.
+    pub symbols: u64,
+    /// Object files that were accepted.
+    pub objects: u64,
+    /// Relocations and references of theirs that are outside what they belong to.
+    pub findings: u64,
+    /// Files that were rejected.
+    pub rejected: u64,
+}
+
+/// Surveys the files, each of which is spelled in hexadecimal digits.
+///
+/// # Errors
+///
+/// A text spells no bytes, or memory ran out. A file that is rejected is counted.
+pub fn survey(alloc: Global, texts: &[&str]) -> anyhow::Result<Collection> {
+    let mut found = Collection {
+        programs: 0,
+        segment_bytes: 0,
+        symbols: 0,
+        objects: 0,
+        findings: 0,
+        rejected: 0,
+    };
+    for text in texts {
+        let bytes = unhex(alloc, text.as_bytes())?;
+        add_file(alloc, &mut found, bytes.as_slice())?;
+    }
+    Ok(found)
+}
+
+/// Adds a file.
+fn add_file(alloc: Global, found: &mut Collection, bytes: &[u8]) -> anyhow::Result<()> {
+    match HunkFile::decode(alloc, bytes) {
+        Ok(HunkFile::Load { file, rest: _ }) => {
+            let placer = Packed { start: 0 };
+            let image = load(alloc, &mut FromSlice::new(bytes), LIMITS, &placer)?;
+            found.programs = found.programs.saturating_add(1);
+            found.segment_bytes = found.segment_bytes.saturating_add(image.bytes());
+            found.symbols = found.symbols.saturating_add(count_symbols(&file));
+        }
+        Ok(HunkFile::Object(file)) => {
+            let findings = file.check(alloc)?;
+            found.objects = found.objects.saturating_add(1);
+            found.findings = found.findings.saturating_add(findings.len() as u64);
+        }
+        Err(fault) if fault.reason == Reason::OutOfMemory => return Err(fault.into()),
+        Err(_) => found.rejected = found.rejected.saturating_add(1),
+    }
+    Ok(())
+}
+
+/// How many symbols the file has.
+fn count_symbols(file: &LoadFile<'_>) -> u64 {
+    let mut count = 0u64;
+    for i in 0..file.hunks() {
+        count = count.saturating_add(count_in(file.hunk(i)));
+    }
+    count
+}
+
+/// How many symbols the blocks have.
+fn count_in(blocks: &[Block<'_>]) -> u64 {
+    let mut count = 0u64;
+    for block in blocks {
+        if let Body::Symbol(symbols) = block.body() {
+            count = count.saturating_add(symbols.len() as u64);
+        }
+    }
+    count
+}
