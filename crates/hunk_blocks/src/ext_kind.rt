@@ -123,15 +123,23 @@ impl ExtKind {
 }
 
 /// The type of an entry with this word, by its top byte.
+#[inline(always)]
 pub(crate) fn kind_of(word: u32) -> Option<ExtKind>
     ensures { result ≡ ext_kind (word / 2 ^ 24) }
 {
     ExtKind::from_code((word >> 24) as u8)
 }
 
-/// What stands behind the name of an entry with this word.
+/// What stands behind the name of an entry with this word: the shapes of the table, without a step by way
+/// of the type, since the decoder asks it of each entry.
+#[tactic(auto, unfolding(crate::specs::ExtKinds::ext_kind))]
 pub(crate) fn shape_of(word: u32) -> Option<ExtShape>
     ensures { result ≡ ext_shape (word / 2 ^ 24) }
 {
-    kind_of(word).map(ExtKind::shape)
+    match word >> 24 {
+        0 | 1 | 2 => Some(ExtShape::Definition),
+        130 | 137 => Some(ExtShape::Common),
+        129 | 131 | 132 | 133 | 134 | 135 | 136 | 138 | 139 => Some(ExtShape::References),
+        _ => None,
+    }
 }

@@ -20,7 +20,7 @@ use crate::object::refusal::{UNIT, refuse_unit_word, truncated};
 use crate::object::unit::{Hunk, Unit};
 use crate::order::is_end;
 use crate::place::{counted_from, out_of_memory};
-use hunk_blocks::{Block, Mode, Payload, append};
+use hunk_blocks::{Block, Body, Mode, Payload, append};
 use hunk_scan::refuse_place;
 use hunk_words::{BlockWord, FileFault, NAME_LIMIT, Reason, word_at};
 use std::alloc::Global;
@@ -47,11 +47,15 @@ fn ends_unit(bytes: &[u8]) -> bool
 }
 
 /// Whether the block is the content of its hunk.
-#[tactic(auto, using(crate::proofs::ContentBlocks::content_stands))]
 fn is_content(block: &Block) -> bool
     ensures { result ≡ is_content (standing block.now.body) }
 {
-    block.body().content_bytes().is_some()
+    matches!(
+        block.body(),
+        Body::Code { top: _, payload: _ }
+            | Body::Data { top: _, payload: _ }
+            | Body::Bss { size: _ }
+    )
 }
 
 /// The block in front, which may stand in a hunk at this place, and the number of its bytes.
