@@ -21,6 +21,7 @@ pub mod Offsets
 pub mod OneByte
 pub mod Outcomes
 pub mod Owed
+pub mod PendingLaws
 pub mod PlacingLaws
 pub mod ReadWords
 pub mod Refusing
@@ -29,5 +30,6 @@ pub mod Scatter
 pub mod Splice
 pub mod Splits
 pub mod Starting
+pub mod StreamLaws
 pub mod TableLimit
 pub mod WholeLongs

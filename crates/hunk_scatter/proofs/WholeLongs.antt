@@ -18,20 +18,12 @@ use Rattle.hunk_scatter.proofs.Faults.{refusal_front}
 use Rattle.hunk_scatter.proofs.OneByte.{Going, going, room, more_read, refused_here}
 use Rattle.hunk_scatter.proofs.Runs.{read_run, take_bytes, in_place}
 
-module _ (rows : List Row) (store : List ℕ) (state : BodyState) (fed : List ℕ) (size : length store ≡ declared_bytes (entries_of rows)) (r : Reading rows store state [] fed) (more : is_done state.position ≡ false) where
+module _ (rows : List Row) (store : List ℕ) (state : BodyState) (fed : List ℕ) (r : Reading rows store state [] fed) (more : is_done state.position ≡ false) where
   gone : Going rows store state [] fed
   gone = going rows store state [] fed r more
 
-  pub in_store : IsInStore (words_of rows) (length store) state
-  in_store = room rows store state [] fed gone size
-
-  -- those of a run
-  pub run_taken : (piece : List ℕ) (n : ℕ) → IsBytes piece → n ≤ length piece → n % 4 ≡ 0 → 0 < n → n ≤ 4 * run state.position →
-      Reading rows (stored_run state (take n piece) store) (pass_body state (length (take n piece) / 4)) [] (fed ++ take n piece)
-  run_taken piece n are inside fours some fits =
-      let long : length (take n piece) ≡ n = omega (arith, length-take n piece, inside) in
-      subst (λ (k : ℕ). Reading rows (stored_run state (take n piece) store) (pass_body state (k / 4)) [] (fed ++ take n piece)) (sym long)
-      (read_run rows store state fed (take n piece) n r in_store long (take_bytes piece n are) fours some fits)
+  pub in_store : length store ≡ declared_bytes (entries_of rows) → IsInStore (words_of rows) (length store) state
+  in_store size = room rows store state [] fed gone size
 
   -- the first alone
   module _ (piece : List ℕ) (are : IsBytes piece) (four : 4 ≤ length piece) (w : ℕ) (is : IsLong w) (first : w ≡ get_or (longs piece) 0 0) where
@@ -46,14 +38,30 @@ module _ (rows : List Row) (store : List ℕ) (state : BodyState) (fed : List �
         refusal_front fed piece 4 (length fed) reason
         (refused_here rows store state [] fed gone (take 4 piece) w is spelled reason (length fed) (omega (arith, length-take 4 piece, four)) no-pass)
 
+-- those of a run
+pub run_taken : (rows : List Row) (store : List ℕ) (state : BodyState) (fed : List ℕ) → Reading rows store state [] fed → IsInStore (words_of rows) (length store) state →
+    (piece : List ℕ) (n : ℕ) → IsBytes piece → n ≤ length piece → n % 4 ≡ 0 → 0 < n → n ≤ 4 * run state.position →
+    Reading rows (stored_run state (take n piece) store) (pass_body state (length (take n piece) / 4)) [] (fed ++ take n piece)
+run_taken rows store state fed r i piece n are inside fours some fits =
+    let long : length (take n piece) ≡ n = omega (arith, length-take n piece, inside) in
+    subst (λ (k : ℕ). Reading rows (stored_run state (take n piece) store) (pass_body state (k / 4)) [] (fed ++ take n piece)) (sym long)
+    (read_run rows store state fed (take n piece) n r i long (take_bytes piece n are) fours some fits)
+
 pub read_as : (rows : List Row) (store store2 : List ℕ) (state state2 : BodyState) (fed : List ℕ) → store2 ≡ store → state2 ≡ state → Reading rows store state [] fed → Reading rows store2 state2 [] fed
 read_as rows store store2 state state2 fed e d r =
     subst (λ (xs : List ℕ). Reading rows xs state2 [] fed) (sym e) (subst (λ (s : BodyState). Reading rows store s [] fed) (sym d) r)
 
--- at the position by another name
+-- the position by another name
+pub state_at : (state : BodyState) (position : Position) → position ≡ state.position → ◌≡◌ {A = BodyState} (record { hunk = state.hunk; start = state.start; position = position }) state
+state_at state position same = ap (λ (p : Position). record { hunk = state.hunk; start = state.start; position = p }) same
+
 pub read_at : (rows : List Row) (store : List ℕ) (state : BodyState) (position : Position) (fed : List ℕ) → position ≡ state.position → Reading rows store state [] fed →
     Reading rows store (record { hunk = state.hunk; start = state.start; position = position }) [] fed
 read_at rows store state position fed same r = subst (λ (p : Position). Reading rows store (record { hunk = state.hunk; start = state.start; position = p }) [] fed) (sym same) r
+
+pub room_at : (sizes : List ℕ) (total : ℕ) (state : BodyState) (position : Position) → position ≡ state.position → IsInStore sizes total state →
+    IsInStore sizes total (record { hunk = state.hunk; start = state.start; position = position })
+room_at sizes total state position same i = subst (λ (p : Position). IsInStore sizes total (record { hunk = state.hunk; start = state.start; position = p })) (sym same) i
 
 -- Of the piece this rest is left, and what was fed goes on to its beginning.
 abbrev pub Leaves : (fed piece front rest : List ℕ) → Type 0

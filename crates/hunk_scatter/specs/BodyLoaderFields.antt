@@ -3,6 +3,7 @@ use Rattle.std.specs.Prelude.{◌≡◌, ℕ, ◌<◌, ◌≤◌, List, [], ◌+
 use Rattle.hunk_words.specs.Limits.{most_hunks}
 use Rattle.hunk_words.specs.Longs.{bytes_of}
 use Rattle.hunk_words.specs.declared.fault.Fault.{Fault}
+use Rattle.hunk_words.specs.declared.reason.Reason.{Reason}
 use Rattle.hunk_files.specs.Fault.{HasRefusal}
 use Rattle.hunk_files.specs.Image.{declared_bytes}
 use Rattle.hunk_files.specs.FileSteps.{Next, More, Finished}
@@ -39,6 +40,18 @@ pub record BodyLoaderInvariant (rows : List Row) (store : List ℕ) (state : Bod
   pub size : length store ≡ declared_bytes (entries_of rows)
   pub reading : refused ≡ None → Reading rows store state pending fed
   pub own : (f : Fault) → refused ≡ Some f → IsTrue (is_of_body f.reason)
+
+-- ---- longwords of a piece, whatever was fed before
+
+-- Where a loader stands behind bytes, with its store, it stands then behind these bytes as well.
+abbrev pub ReadsOn : List Row → List ℕ → BodyState → List ℕ → List ℕ → BodyState → Type 0
+ReadsOn rows store state bytes after behind = (fed : List ℕ) → Reading rows store state [] fed → Reading rows after behind [] (fed ++ bytes)
+
+-- Where a loader stands behind bytes, the longword is refused that the piece begins with.
+abbrev pub Refuses : List Row → List ℕ → BodyState → List ℕ → Reason → Type 0
+Refuses rows store state piece reason = (fed : List ℕ) → Reading rows store state [] fed → HasRefusal (fed ++ piece) (length fed) reason
+
+-- ---- a refusal
 
 -- the loader tells a refusal of these bytes
 abbrev pub RefusesOf : List ℕ → Option Fault → Type 0

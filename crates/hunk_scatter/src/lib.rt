@@ -11,9 +11,11 @@ mod image;
 mod limits;
 mod loading;
 mod longwords;
+mod pending;
 mod placer;
 mod segments;
 mod store;
+pub mod stream;
 
 pub use crate::body_loader::BodyLoader;
 pub use crate::declared::{Declared, Unplaced};

@@ -5,9 +5,10 @@ ghost use Rattle.hunk_files.specs.Fault.{HasRefusal};
 ghost use Rattle.hunk_files.specs.Image.{declared_bytes};
 ghost use Rattle.hunk_scan.specs.Positions.{is_done};
 ghost use Rattle.hunk_scan.specs.declared.position.Position.TheVariants as positions;
-ghost use Rattle.hunk_scatter.specs.BodyLoaderFields.{Reading};
+ghost use Rattle.hunk_scatter.specs.BodyLoaderFields.{Reading, ReadsOn, Refuses};
+ghost use Rattle.hunk_scatter.specs.BodySteps.{IsInStore};
 ghost use Rattle.hunk_scatter.specs.LoaderReasons.{is_of_body};
-ghost use Rattle.hunk_scatter.specs.Rows.{entries_of};
+ghost use Rattle.hunk_scatter.specs.Rows.{entries_of, words_of};
 
 use crate::body_state::BodyState;
 use crate::store::{run_bytes, take_offsets, take_run, take_word};
@@ -24,24 +25,22 @@ fn take_one(
     state: &mut BodyState,
     here: BodyState,
     word: u32,
-    history: &History,
     piece: &[u8],
 ) -> Result<usize, Reason>
-    requires size { length store.old ≡ declared_bytes (entries_of rows.now) }
-    requires reading { Reading rows.now store.old here [] history.now.bytes }
+    requires same { here ≡ record state.old { position = here.position } }
+    requires here { here.position ≡ state.old.position }
+    requires room { IsInStore (words_of rows.now) (length store.old) state.old }
     requires going_on { is_done here.position ≡ false }
     requires some { 4 ≤ length piece.now }
     requires front { word ≡ slice_index (longs piece.now) 0 }
     ensures some { IfOk result (λ n. 0 < n) }
     ensures inside { IfOk result (λ n. n ≤ length piece.now) }
     ensures reading { IfOk result
-        (λ n. Reading rows.now store.new state.new [] (history.now.bytes ++ take n piece.now)) }
-    ensures refusal { IfErr result
-        (λ r. HasRefusal (history.now.bytes ++ piece.now) (length history.now.bytes) r) }
+        (λ n. ReadsOn rows.now store.old state.old (take n piece.now) store.new state.new) }
+    ensures refusal { IfErr result (Refuses rows.now store.old state.old piece.now) }
     ensures own { IfErr result (λ r. IsTrue (is_of_body r)) }
 {
-    // The history and the piece are for the contract alone.
-    let _ = history;
+    // The piece is for the contract alone.
     let _ = piece;
     match take_word(store, rows, here, word) {
         Ok(next) => {
@@ -55,7 +54,6 @@ fn take_one(
 /// Takes the block word at the front of the piece, and gives its number of bytes. Each kind that a load
 /// file has is named here, so that what is asked of it, whether it is refused and what follows it, is
 /// compiled for that kind alone.
-#[tactic(auto, using(crate::proofs::WholeLongs::read_at))]
 #[inline(always)]
 fn take_block_word(
     store: &mut [u8],
@@ -63,19 +61,16 @@ fn take_block_word(
     state: &mut BodyState,
     hunk: OpenHunk,
     phase: Phase,
-    history: &History,
     piece: &[u8],
 ) -> Result<usize, Reason>
-    requires size { length store.old ≡ declared_bytes (entries_of rows.now) }
-    requires reading { Reading rows.now store.old state.old [] history.now.bytes }
+    requires room { IsInStore (words_of rows.now) (length store.old) state.old }
     requires some { 4 ≤ length piece.now }
     requires here { positions.Body hunk phase ≡ state.old.position }
     ensures some { IfOk result (λ n. 0 < n) }
     ensures inside { IfOk result (λ n. n ≤ length piece.now) }
     ensures reading { IfOk result
-        (λ n. Reading rows.now store.new state.new [] (history.now.bytes ++ take n piece.now)) }
-    ensures refusal { IfErr result
-        (λ r. HasRefusal (history.now.bytes ++ piece.now) (length history.now.bytes) r) }
+        (λ n. ReadsOn rows.now store.old state.old (take n piece.now) store.new state.new) }
+    ensures refusal { IfErr result (Refuses rows.now store.old state.old piece.now) }
     ensures own { IfErr result (λ r. IsTrue (is_of_body r)) }
 {
     let position = Position::Body(hunk, phase);
@@ -83,7 +78,7 @@ fn take_block_word(
     let word = word_at(piece, 0);
     macro_rules! one {
         () => {
-            take_one(store, rows, state, here, word, history, piece)
+            take_one(store, rows, state, here, word, piece)
         };
     }
     match BlockWord::of(word).kind() {
@@ -109,23 +104,18 @@ fn take_at(
     state: &mut BodyState,
     hunk: OpenHunk,
     phase: Phase,
-    history: &History,
     piece: &[u8],
 ) -> Result<usize, Reason>
-    requires size { length store.old ≡ declared_bytes (entries_of rows.now) }
-    requires reading { Reading rows.now store.old state.old [] history.now.bytes }
+    requires room { IsInStore (words_of rows.now) (length store.old) state.old }
     requires some { 4 ≤ length piece.now }
     requires here { positions.Body hunk phase ≡ state.old.position }
     ensures some { IfOk result (λ n. 0 < n) }
     ensures inside { IfOk result (λ n. n ≤ length piece.now) }
     ensures reading { IfOk result
-        (λ n. Reading rows.now store.new state.new [] (history.now.bytes ++ take n piece.now)) }
-    ensures refusal { IfErr result
-        (λ r. HasRefusal (history.now.bytes ++ piece.now) (length history.now.bytes) r) }
+        (λ n. ReadsOn rows.now store.old state.old (take n piece.now) store.new state.new) }
+    ensures refusal { IfErr result (Refuses rows.now store.old state.old piece.now) }
     ensures own { IfErr result (λ r. IsTrue (is_of_body r)) }
 {
-    // The history is for the contract alone.
-    let _ = history;
     let position = Position::Body(hunk, phase);
     let here = BodyState { position, ..*state };
     if position.run() > 0 {
@@ -140,43 +130,42 @@ fn take_at(
         }
         None => {
             let word = word_at(piece, 0);
-            take_one(store, rows, state, here, word, history, piece)
+            take_one(store, rows, state, here, word, piece)
         }
     }
 }
 
 /// Takes longwords from the front of the piece, and gives their number of bytes. The phases are told
 /// apart here, once for all that is asked of them.
+///
+/// It asks for room alone: what was fed before may be any bytes behind which a loader stands so.
 #[inline(always)]
-fn take_front(
+pub fn take_front(
     store: &mut [u8],
     rows: &[Row],
     state: &mut BodyState,
     hunk: OpenHunk,
     phase: Phase,
-    history: &History,
     piece: &[u8],
 ) -> Result<usize, Reason>
-    requires size { length store.old ≡ declared_bytes (entries_of rows.now) }
-    requires reading { Reading rows.now store.old state.old [] history.now.bytes }
+    requires room { IsInStore (words_of rows.now) (length store.old) state.old }
     requires here { positions.Body hunk phase ≡ state.old.position }
     requires some { 4 ≤ length piece.now }
     ensures some { IfOk result (λ n. 0 < n) }
     ensures inside { IfOk result (λ n. n ≤ length piece.now) }
     ensures reading { IfOk result
-        (λ n. Reading rows.now store.new state.new [] (history.now.bytes ++ take n piece.now)) }
-    ensures refusal { IfErr result
-        (λ r. HasRefusal (history.now.bytes ++ piece.now) (length history.now.bytes) r) }
+        (λ n. ReadsOn rows.now store.old state.old (take n piece.now) store.new state.new) }
+    ensures refusal { IfErr result (Refuses rows.now store.old state.old piece.now) }
     ensures own { IfErr result (λ r. IsTrue (is_of_body r)) }
 {
     macro_rules! at {
         ($phase:expr) => {
-            take_at(store, rows, state, hunk, $phase, history, piece)
+            take_at(store, rows, state, hunk, $phase, piece)
         };
     }
     match phase {
         Phase::FirstBlock | Phase::BlockWord => {
-            take_block_word(store, rows, state, hunk, phase, history, piece)
+            take_block_word(store, rows, state, hunk, phase, piece)
         }
         Phase::NameCount => at!(Phase::NameCount),
         Phase::LongCount => at!(Phase::LongCount),
@@ -219,7 +208,7 @@ pub fn take_longwords(
         let Position::Body(hunk, phase) = state.position else {
             return (piece.len() - rest.len(), None);
         };
-        match take_front(store, rows, state, hunk, phase, &history, rest) {
+        match take_front(store, rows, state, hunk, phase, rest) {
             Ok(count) => {
                 history = history.and(&rest[..count]);
                 rest = &rest[count..];

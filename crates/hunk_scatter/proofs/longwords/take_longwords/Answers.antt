@@ -1,8 +1,11 @@
 use Rattle.std.proofs.Common.{◌≡◌, ℕ, ◌∙◌, List, [], true, false, ap, refl, subst, sym}
 use Rattle.hunk_scan.specs.Positions.{is_done}
 use Rattle.hunk_scatter.specs.BodyLoaderFields.{Reading}
-use Rattle.hunk_scatter.proofs.WholeLongs.{leaves_rest, refused_behind}
+use Rattle.hunk_scatter.proofs.WholeLongs.{in_store, leaves_rest, refused_behind}
 use Rattle.hunk_scatter.proofs.longwords.take_longwords.Goals as goal
+
+pub take_front-requires-clause-room : goal.take_front-requires-clause-room
+take_front-requires-clause-room c = let i = c.longwords.invariant in in_store _ _ _ _ i.reading (ap is_done c.in-Body.is) (i.size ∙ c.requires.size)
 
 pub longwords-preserved : goal.longwords-preserved
 longwords-preserved c =
@@ -11,9 +14,9 @@ longwords-preserved c =
     record {
       leaves = leaves_rest _ _ _ _ _ _ c.in-Ok.count i.leaves c.in-Ok.ensures.inside fed refl;
       size = c.take_front.auto.store ∙ i.size;
-      reading = subst (λ (bs : List ℕ). Reading c.args.rows.now c.take_front.new.store c.take_front.new.state [] bs) (sym fed) c.in-Ok.ensures.reading;
+      reading = subst (λ (bs : List ℕ). Reading c.args.rows.now c.take_front.new.store c.take_front.new.state [] bs) (sym fed) (c.in-Ok.ensures.reading c.longwords.history.bytes i.reading);
       whole = λ done. absurd (let clash : true ≡ false = sym (i.whole done).1 ∙ ap is_done c.in-Body.is in cc);
     }
 
 pub returns-in-Err-clause-refusal : goal.returns-in-Err-clause-refusal
-returns-in-Err-clause-refusal c = refused_behind _ _ _ _ c.in-Err.reason c.longwords.invariant.leaves c.in-Err.ensures.refusal
+returns-in-Err-clause-refusal c = refused_behind _ _ _ _ c.in-Err.reason c.longwords.invariant.leaves (c.in-Err.ensures.refusal c.longwords.history.bytes c.longwords.invariant.reading)
