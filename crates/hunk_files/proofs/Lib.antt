@@ -2,6 +2,7 @@ pub mod Accepted
 pub mod AddAt
 pub mod Completion
 pub mod Concats
+pub mod ContentBlocks
 mod Examples
 mod FileKinds
 pub mod FileProgress
