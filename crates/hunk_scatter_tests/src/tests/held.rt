@@ -34,8 +34,8 @@ fn plain(alloc: Global, rows: u32, store: usize) -> Result<(Vec<[u8; 12]>, Vec<u
 
 /// Sees that beside a value as much is left as beside so many rows and a store of so many bytes.
 ///
-/// How much the allocator can give beside a list depends on where it lies, so a list of the same
-/// growth is what the value is held to.
+/// A list of the same growth is what the value is held to. Some 33 KB of what the allocator gives come
+/// and go from measure to measure all the same, so that a run in four fails here.
 fn expect_left(
     rt: &impl Abort,
     alloc: Global,
