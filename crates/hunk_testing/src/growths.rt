@@ -102,7 +102,9 @@ fn left_once<T: Drop, F: Fn() -> T>(alloc: Global, make: &F) -> Result<(T, usize
     requires { F.IsAlwaysCallable make.now }
 {
     let mut pieces = Vec::with_capacity(alloc, PIECES)?;
-    // The allocator gives large pieces otherwise until some were given back.
+    // The allocator gives pieces up to the largest that was given back, of 32 MiB at most, from its heap, and
+    // rounds each larger one up by a page: so what is left would depend on what came before.
+    drop(Vec::<u8>::with_capacity(alloc, ROOM - FRONT * 16)?);
     drop(all_memory(alloc)?);
     let held = all_but(alloc, &[ROOM])?;
     // So that it divides the room also where the value takes nothing.

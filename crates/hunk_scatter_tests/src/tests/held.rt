@@ -34,8 +34,8 @@ fn plain(alloc: Global, rows: u32, store: usize) -> Result<(Vec<[u8; 12]>, Vec<u
 
 /// Sees that beside a value as much is left as beside so many rows and a store of so many bytes.
 ///
-/// A list of the same growth is what the value is held to. Some 33 KB of what the allocator gives come
-/// and go from measure to measure all the same, so that a run in four fails here.
+/// A list of the same growth is what the value is held to, since the allocator keeps apart what a list
+/// leaves of its room.
 fn expect_left(
     rt: &impl Abort,
     alloc: Global,
