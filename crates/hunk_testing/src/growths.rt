@@ -84,8 +84,13 @@ pub fn all_but(alloc: Global, sizes: &[usize]) -> Result<Held, AllocError> {
     Ok(Held { pieces, rooms })
 }
 
-/// The only memory that there is while a value is made.
-const ROOM: usize = 1 << 25;
+/// The only memory that there is while a value is made: 24 MiB.
+const ROOM: usize = 3 << 23;
+
+/// A size above that of the room. The allocator maps a large piece by itself, by whole pages, until one
+/// of its size, or of up to 32 MiB, was given back; from then on it takes such a piece from its heap. So
+/// the room is a part of the heap, and what it is divided into costs no pages.
+const HEAPED: usize = (1 << 25) - (1 << 16);
 
 /// How many bytes the pieces have together.
 fn bytes_in(pieces: &[Vec<u8>]) -> usize {
@@ -96,15 +101,13 @@ fn bytes_in(pieces: &[Vec<u8>]) -> usize {
     bytes
 }
 
-/// A value made where there is no memory but a room of 32 MiB, and how many bytes the allocator gives
+/// A value made where there is no memory but a room of 24 MiB, and how many bytes the allocator gives
 /// beside it.
 fn left_once<T: Drop, F: Fn() -> T>(alloc: Global, make: &F) -> Result<(T, usize), AllocError>
     requires { F.IsAlwaysCallable make.now }
 {
     let mut pieces = Vec::with_capacity(alloc, PIECES)?;
-    // The allocator gives pieces up to the largest that was given back, of 32 MiB at most, from its heap, and
-    // rounds each larger one up by a page: so what is left would depend on what came before.
-    drop(Vec::<u8>::with_capacity(alloc, ROOM - FRONT * 16)?);
+    drop(Vec::<u8>::with_capacity(alloc, HEAPED)?);
     drop(all_memory(alloc)?);
     let held = all_but(alloc, &[ROOM])?;
     // So that it divides the room also where the value takes nothing.
@@ -118,7 +121,7 @@ fn left_once<T: Drop, F: Fn() -> T>(alloc: Global, make: &F) -> Result<(T, usize
     Ok((value, left))
 }
 
-/// A value made where there is no memory but a room of 32 MiB, and how many bytes the allocator gives
+/// A value made where there is no memory but a room of 24 MiB, and how many bytes the allocator gives
 /// beside it: the most of three measures, since now and then it keeps some of the room for itself.
 ///
 /// What one value leaves can be compared with what another leaves, up to 64 bytes that the allocator
