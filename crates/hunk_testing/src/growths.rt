@@ -65,7 +65,7 @@ fn all_is_taken(alloc: Global) -> bool {
 }
 
 /// Memory that no one else has, until it is dropped.
-#[derive(Drop)]
+#[derive(Debug, Drop)]
 pub struct Held {
     pieces: Vec<Vec<u8>>,
     rooms: Vec<Vec<u8>>,
