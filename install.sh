@@ -2,7 +2,7 @@
 # [DESTDIR=..] [PREFIX=..] ./install.sh [uninstall]: puts the program, the C library with its header, the manual page and the
 # lines for `file` where a distribution has them, below PREFIX (/usr/local), all of that below DESTDIR where one is given; or
 # takes them away. They are what `rt run` in crates/hunkinfo and `rt lib` in crates/hunk have built; PROGRAM and LIBRARY name
-# others. It wants a C compiler (CC), for libhunk.so.
+# others. It needs a C compiler (CC), for libhunk.so.
 set -eu
 cd "$(dirname "$0")"
 PREFIX=${PREFIX:-/usr/local}
@@ -23,8 +23,8 @@ lack() {
 CC=${CC:-cc}
 LIBRARY=${LIBRARY:-crates/hunk/out/libhunk.a}
 PROGRAM=${PROGRAM:-crates/hunkinfo/out/hunkinfo}
-command -v "$CC" > /dev/null || lack "a C compiler, $CC, is wanted"
-command -v rt > /dev/null || lack 'the Rattle kit, rt, is wanted: the library asks for memory by an object of it'
+command -v "$CC" > /dev/null || lack "a C compiler, $CC, is needed"
+command -v rt > /dev/null || lack 'the Rattle kit, rt, is needed: the library asks for memory by an object of it'
 [ -f "$LIBRARY" ] || lack "$LIBRARY is not there: build it with (cd crates/hunk && rt lib)"
 [ -f "$PROGRAM" ] || lack "$PROGRAM is not there: build it with (cd crates/hunkinfo && rt run < stdin)"
 

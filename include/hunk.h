@@ -6,7 +6,7 @@
  * malloc gives it, keeps nothing between two calls, and gives back what it took before it returns.
  * Threads may call at the same time, as long as no two write the same memory.
  *
- * What the caller owes:
+ * What the caller has to make sure of:
  * - Each pointer points to as many elements as its length says, aligned for their type. A pointer
  *   is not NULL, also where the length is 0; any aligned address will do there.
  * - The memory that is written overlaps no other argument.
