@@ -20,3 +20,7 @@ no_room hunks place count = record { number = 32; hunk = hunks; place = place; c
 
 abbrev pub done : ℕ → ℕ → ℕ → Answer
 done hunks place count = record { number = 0; hunk = hunks; place = place; count = count }
+
+-- the answer where the numbers of a loader are none that it may have
+abbrev pub strange : Answer
+strange = record { number = 33; hunk = 0; place = 0; count = 0 }

@@ -5,11 +5,12 @@ use Rattle.hunk_words.specs.declared.reason.Reason.{Reason}
 use Rattle.hunk.specs.declared.answer.Answer.{Answer}
 use Rattle.hunk.specs.Answers.{no_room, done}
 
--- The name of a number: that of its reason, of NoRoom, or none.
+-- The name of a number: that of its reason, of NoRoom, of Strange, or none.
 pub data IsNameOf (number : ℕ) (name : List ℕ) : Type 0 where
   OfReason : (reason : Reason) → number_of reason ≡ number → name ≡ name_of reason → IsNameOf number name
   OfNoRoom : number ≡ 32 → name ≡ codes "NoRoom" → IsNameOf number name
-  OfNone : (number ≡ 0) ⊎ (31 < number) → name ≡ [] → IsNameOf number name
+  OfStrange : number ≡ 33 → name ≡ codes "Strange" → IsNameOf number name
+  OfNone : (number ≡ 0) ⊎ (33 < number) → name ≡ [] → IsNameOf number name
 
 -- The text begins with the name, and what lies behind it is as it was; or it is too short, and as it was.
 pub data Names (number : ℕ) (old new : List ℕ) (answer : Answer) : Type 0 where

@@ -1,7 +1,7 @@
 //! What a call answers.
 ghost use Rattle.std.specs.Prelude.{◌≡◌};
 ghost use Rattle.hunk_words.specs.declared.reason.Reason.TheVariants as reasons;
-ghost use Rattle.hunk.specs.Answers.{done, hunk_of, no_room, refused};
+ghost use Rattle.hunk.specs.Answers.{done, hunk_of, no_room, refused, strange};
 
 use hunk_words::{Fault, Reason};
 
@@ -9,7 +9,7 @@ use hunk_words::{Fault, Reason};
 #[repr(C)]
 #[derive(Clone, Copy, Debug, PartialEq, Eq)]
 pub struct Answer {
-    /// 0, the number of a reason, 1 to 31, or `NO_ROOM`.
+    /// 0, the number of a reason, 1 to 31, `NO_ROOM` or `STRANGE`.
     pub number: u32,
     /// The number of hunks of a load file; the hunk without a base where `number` is that of NoBase.
     pub hunk: u32,
@@ -22,6 +22,9 @@ pub struct Answer {
 
 /// The number which says that the caller's array has too few elements.
 pub(crate) const NO_ROOM: u32 = 32;
+
+/// The number which says that the numbers of a loader are none that it may have.
+pub(crate) const STRANGE: u32 = 33;
 
 /// The answer of a refusal.
 pub(crate) fn refused(fault: Fault) -> Answer
@@ -76,5 +79,17 @@ pub(crate) fn done(hunks: u32, read: u64, written: u64) -> Answer
         hunk: hunks,
         place: read,
         count: written,
+    }
+}
+
+/// The answer where the numbers of a loader are none that it may have.
+pub(crate) fn strange() -> Answer
+    ensures { result ≡ strange }
+{
+    Answer {
+        number: STRANGE,
+        hunk: 0,
+        place: 0,
+        count: 0,
     }
 }

@@ -10,7 +10,9 @@ mod check;
 mod file;
 mod header;
 mod load;
+mod loader;
 mod reason;
+mod stream;
 mod strip;
 mod table;
 #[cfg(test)]
@@ -19,6 +21,8 @@ mod tests;
 pub use crate::answer::Answer;
 pub use crate::check::{FindingRow, hunk_check};
 pub use crate::load::{hunk_load, hunk_load_packed};
+pub use crate::loader::Loader;
 pub use crate::reason::hunk_reason;
+pub use crate::stream::{hunk_begin, hunk_end, hunk_feed};
 pub use crate::strip::hunk_strip;
 pub use crate::table::{TableRow, hunk_table};

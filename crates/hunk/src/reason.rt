@@ -1,7 +1,7 @@
 //! The names of the numbers that answers have.
 ghost use Rattle.hunk.specs.Names.{Names, IsNameOf};
 
-use crate::answer::{Answer, NO_ROOM, no_room};
+use crate::answer::{Answer, NO_ROOM, STRANGE, no_room};
 use hunk_words::Reason;
 
 /// Writes the name of an answer's number to the text, with no zero behind it.
@@ -35,6 +35,9 @@ fn name_of_number(number: u32) -> &'static str
 {
     if number == NO_ROOM {
         return "NoRoom";
+    }
+    if number == STRANGE {
+        return "Strange";
     }
     match Reason::from_number(number) {
         Some(reason) => reason.name(),

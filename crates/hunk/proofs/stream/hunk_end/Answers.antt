@@ -1,0 +1,24 @@
+use Rattle.std.proofs.Common.{◌≡◌, ℕ, true, false, Some, sym, ap, subst, ◌∙◌, arith}
+use Rattle.hunk_words.specs.declared.reason.Reason.TheVariants as reasons
+use Rattle.hunk_scatter.specs.Streaming.{EndsLoading}
+use Rattle.hunk.specs.Answers.{refused}
+use Rattle.hunk.specs.Streams.{IsWhole, IsCutShort, IsStreamed, standing_of}
+use Rattle.hunk.proofs.Streamed.{cut_short, streamed}
+use Rattle.hunk.proofs.stream.hunk_end.Goals as goal
+
+pub returns-then-is_whole : goal.returns-then-is_whole
+returns-then-is_whole c =
+    let at = c.in-Some-standing.at in
+    let told : standing_of c.args.loader.now ≡ Some at = sym c.in-Some-standing.ensures in
+    let ends : EndsLoading at true = subst (EndsLoading at) c.if-is_whole.true c.is_whole.ensures in
+    IsWhole c.in_default.ensures c.done.ensures
+    (λ rows memory fed h. subst (IsStreamed rows memory fed) (sym c.done.ensures) (streamed rows c.args.loader.now memory fed at told ends h))
+
+pub returns : goal.returns
+returns c =
+    let at = c.in-Some-standing.at in
+    let told : standing_of c.args.loader.now ≡ Some at = sym c.in-Some-standing.ensures in
+    let ends : EndsLoading at false = subst (EndsLoading at) c.if-is_whole.false c.is_whole.ensures in
+    IsCutShort c.in_default.ensures
+    (c.refused.ensures ∙ ap (λ (n : ℕ). refused (record { place = n; reason = reasons.Truncated })) (omega arith))
+    (λ rows memory fed h. cut_short rows c.args.loader.now memory fed at told ends h)

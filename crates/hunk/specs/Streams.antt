@@ -1,0 +1,155 @@
+-- A loader in numbers, which a C program keeps and feeds piece by piece.
+use Rattle.std.specs.Prelude.{◌≡◌, ℕ, ◌+◌, ◌*◌, ◌/◌, ◌^◌, ◌<◌, ◌≤◌, ◌==◌, List, ◌++◌, length, take, if◌then◌else◌, Option, Some, None}
+use Rattle.hunk_words.specs.Longs.{bytes_of}
+use Rattle.hunk_words.specs.Reasons.{number_of}
+use Rattle.hunk_words.specs.declared.fault.Fault.{Fault}
+use Rattle.hunk_words.specs.declared.reason.Reason.TheVariants as reasons
+use Rattle.hunk_scan.specs.declared.phase.OpenHunk.{OpenHunk}
+use Rattle.hunk_scan.specs.declared.phase.Phase.{Phase}
+use Rattle.hunk_scan.specs.declared.phase.Phase.TheVariants as phases
+use Rattle.hunk_scan.specs.declared.position.Position.{Position}
+use Rattle.hunk_scan.specs.declared.position.Position.TheVariants as positions
+use Rattle.hunk_files.specs.Fault.{HasFault, HasRefusal}
+use Rattle.hunk_files.specs.Image.{declared_bytes, images}
+use Rattle.hunk_files.specs.LoadFile.{LoadFileValue, IsLoadFile}
+use Rattle.hunk_files.specs.LoadText.{table, text}
+use Rattle.hunk_files.specs.declared.row.Row.{Row}
+use Rattle.hunk_scatter.specs.HeaderBytes.{IsTable, header_bytes}
+use Rattle.hunk_scatter.specs.Rows.{bases_of, entries_of}
+use Rattle.hunk_scatter.specs.Streaming.{IsFed}
+use Rattle.hunk_scatter.specs.declared.stream.Standing.{Standing}
+use Rattle.hunk.specs.declared.answer.Answer.{Answer}
+use Rattle.hunk.specs.declared.loader.Loader.{Loader}
+use Rattle.hunk.specs.Answers.{done, hunk_of, refused, strange}
+
+-- ---- numbers
+
+-- what the next longword of a hunk is for: its number, the longwords of a content or the target of offsets, and how many are owed
+abbrev pub phase_in : ℕ → ℕ → ℕ → Option Phase
+phase_in n part owed =
+    if n == 1 then Some phases.FirstBlock
+    else if n == 2 then Some phases.BlockWord
+    else if n == 3 then Some phases.NameCount
+    else if n == 4 then Some phases.LongCount
+    else if n == 5 then Some phases.ContentSize
+    else if n == 6 then Some phases.BssSize
+    else if n == 7 then Some (phases.Content part owed)
+    else if n == 8 then Some (phases.Payload owed)
+    else if n == 9 then Some phases.GroupCount
+    else if n == 10 then Some (phases.Target owed)
+    else if n == 11 then Some (phases.Offset part owed)
+    else if n == 12 then Some phases.EntryWord
+    else if n == 13 then Some (phases.Symbol owed)
+    else None
+
+-- the number of the end, where the file is whole
+abbrev pub whole : ℕ
+whole = 14
+
+abbrev pub body_in : OpenHunk → Option Phase → Option Position
+body_in hunk None = None
+body_in hunk (Some phase) = Some (positions.Body hunk phase)
+
+abbrev pub position_in : OpenHunk → ℕ → ℕ → ℕ → Option Position
+position_in hunk n part owed = if n == whole then Some positions.Done else body_in hunk (phase_in n part owed)
+
+abbrev pub position_of : Loader → Option Position
+position_of l = position_in (record { hunks = l.hunks; ahead = l.ahead; has_content = l.has_content == 1 }) l.phase l.part l.owed
+
+abbrev pub standing_at : Loader → Option Position → Option Standing
+standing_at l None = None
+standing_at l (Some position) = Some (record {
+  state = record { start = l.start; hunk = l.hunk; position = position };
+  fed = l.fed;
+  pending = record { count = l.pending; first = l.first; second = l.second; third = l.third };
+})
+
+-- where a loader stands by its numbers, where they tell it
+abbrev pub standing_of : Loader → Option Standing
+standing_of l = standing_at l (position_of l)
+
+-- The loader has refused no longword, and stands behind these bytes, header and body joined; the memory is what it has made of them.
+pub record Stands (rows : List Row) (l : Loader) (memory fed : List ℕ) : Type 0 where
+  pub unrefused : l.refused ≡ 0
+  pub at : Standing
+  pub numbers : standing_of l ≡ Some at
+  pub is_fed : IsFed rows memory at fed
+
+-- ---- the begin
+
+-- Where the rows are those of a table, its header has so many bytes, and the memory as many as it declares: the loader stands behind that header.
+abbrev pub Begins : List Row → ℕ → Loader → List ℕ → List ℕ → Type 0
+Begins rows header new memory after =
+    IsTable (entries_of rows) → header ≡ length (header_bytes (entries_of rows)) → length memory ≡ declared_bytes (entries_of rows) → Stands rows new after (header_bytes (entries_of rows))
+
+-- ---- refusals
+
+-- with this refusal, and otherwise as it was
+abbrev pub refusing : Loader → Fault → Loader
+refusing l f = record {
+  start = l.start;
+  fed = l.fed;
+  place = f.place;
+  refused = number_of f.reason;
+  refused_hunk = hunk_of f.reason;
+  hunk = l.hunk;
+  hunks = l.hunks;
+  ahead = l.ahead;
+  has_content = l.has_content;
+  phase = l.phase;
+  part = l.part;
+  owed = l.owed;
+  pending = l.pending;
+  first = l.first;
+  second = l.second;
+  third = l.third;
+}
+
+-- The answer of a loader that has refused a longword: the same again. The number of no reason is none that it may have.
+pub data TellsAgain (l : Loader) (answer : Answer) : Type 0 where
+  TellsRefusal : 0 < l.refused → l.refused ≤ 31 → answer ≡ record { number = l.refused; hunk = l.refused_hunk; place = l.place; count = 0 } → TellsAgain l answer
+  TellsNoReason : 31 < l.refused → answer ≡ strange → TellsAgain l answer
+
+-- ---- a piece
+
+-- Whatever bytes were fed before, so many of the piece are fed then.
+abbrev pub Takes : List Row → Loader → Loader → List ℕ → List ℕ → List ℕ → ℕ → Type 0
+Takes rows old new memory after piece count =
+    (fed : List ℕ) → Stands rows old memory fed → length fed + length piece < 2 ^ 64 → Stands rows new after (fed ++ take count piece)
+
+-- Whatever bytes were fed before, with the piece behind them they are refused so.
+abbrev pub Refuses : List Row → Loader → List ℕ → List ℕ → Fault → Type 0
+Refuses rows old memory piece f =
+    (fed : List ℕ) → Stands rows old memory fed → length fed + length piece < 2 ^ 64 → HasRefusal (fed ++ piece) f.place f.reason
+
+-- No loader stands so, behind any bytes.
+abbrev pub StandsNowhere : List Row → Loader → List ℕ → List ℕ → Type 0
+StandsNowhere rows old memory piece =
+    (fed : List ℕ) → Stands rows old memory fed → length fed + length piece < 2 ^ 64 → ⊥
+
+-- What the feeding of a piece comes to: it is taken, all of it or up to the end of the file; it is refused; or no byte of it is looked at, for an earlier refusal or for numbers that no loader has.
+pub data Feeds (rows : List Row) (old new : Loader) (memory after piece : List ℕ) (answer : Answer) : Type 0 where
+  HasTaken : (count : ℕ) → old.refused ≡ 0 → count ≤ length piece → (count < length piece → new.phase ≡ whole) → Takes rows old new memory after piece count
+      → answer ≡ done new.hunk new.fed count → Feeds rows old new memory after piece answer
+  HasRefused : (f : Fault) → old.refused ≡ 0 → Refuses rows old memory piece f → new ≡ refusing old f → answer ≡ refused f → Feeds rows old new memory after piece answer
+  HadRefused : TellsAgain old answer → new ≡ old → after ≡ memory → Feeds rows old new memory after piece answer
+  IsStrange : old.refused ≡ 0 → StandsNowhere rows old memory piece → new ≡ old → answer ≡ strange → Feeds rows old new memory after piece answer
+
+-- ---- the end
+
+-- The bytes are a load file with the table of the rows. The memory is its hunks, each as it lies at its row's base, one right behind the other; and so it is answered, as a load answers it.
+pub record IsStreamed (rows : List Row) (memory fed : List ℕ) (answer : Answer) : Type 0 where
+  pub value : LoadFileValue
+  pub is_load_file : IsLoadFile value
+  pub bytes_are : fed ≡ bytes_of (text value)
+  pub table_is : table value ≡ entries_of rows
+  pub memory_is : memory ≡ images (bases_of rows) value
+  pub answer_is : answer ≡ done (length value) (length (bytes_of (text value))) (declared_bytes (table value))
+
+-- What the end of a stream comes to, whatever rows, memory and bytes the loader was given: the file is whole, or cut short; or nothing is known of it, for an earlier refusal or for numbers that no loader has.
+pub data Ends (l : Loader) (answer : Answer) : Type 0 where
+  IsWhole : l.refused ≡ 0 → answer ≡ done l.hunk l.fed l.start → ((rows : List Row) (memory fed : List ℕ) → Stands rows l memory fed → IsStreamed rows memory fed answer) → Ends l answer
+  IsCutShort : l.refused ≡ 0 → answer ≡ refused (record { place = 4 * (l.fed / 4); reason = reasons.Truncated })
+      → ((rows : List Row) (memory fed : List ℕ) → Stands rows l memory fed → HasFault fed (4 * (l.fed / 4)) reasons.Truncated) → Ends l answer
+  WasRefused : TellsAgain l answer → Ends l answer
+  HasNoEnd : l.refused ≡ 0 → ((rows : List Row) (memory fed : List ℕ) → Stands rows l memory fed → ⊥) → answer ≡ strange → Ends l answer

@@ -1,0 +1,91 @@
+//! Load files that come in pieces, loaded into the caller's memory with no other memory at all.
+//!
+//! What a loader has to know between two pieces is in numbers, which the caller keeps, with rows that
+//! say where each hunk lies.
+ghost use Rattle.std.specs.Prelude.{◌≡◌, length, replicate};
+ghost use Rattle.hunk.specs.Streams.{Begins, Ends, Feeds};
+
+use crate::answer::{Answer, done, refused, strange};
+use crate::loader::Loader;
+use hunk_files::Row;
+use hunk_scatter::stream::{Stop, begin, take_piece};
+use hunk_words::{Fault, Reason};
+
+/// Makes the memory zero, and sets a loader behind the header, of so many bytes, of the table of the
+/// rows.
+///
+/// Where the rows and the header's length are those that `hunk_table` told, and the memory has just
+/// as many bytes as the hunks, the loader has taken the header; else it may answer anything, and
+/// writes nothing but its memory.
+#[unsafe(no_mangle)]
+pub extern "C" fn hunk_begin(loader: &mut Loader, rows: &[Row], header: u64, memory: &mut [u8])
+    ensures begins { Begins rows.now header loader.new memory.old memory.new }
+    ensures zero { memory.new ≡ replicate (length memory.old) 0 }
+{
+    *loader = Loader::of(begin(memory, rows, header));
+}
+
+/// Takes the piece, or up to the end of the file where that stands inside it.
+///
+/// It answers the number of whole hunks, the bytes of header and body so far, and those of the piece
+/// that were taken: fewer than there are where the file is whole. The memory is as the longwords so
+/// far leave it.
+///
+/// # Errors
+///
+/// The first fault of all that was fed, and then the same again, whatever is fed; `STRANGE` where the
+/// loader's numbers are none that a loader with these rows and this memory may have.
+#[unsafe(no_mangle)]
+pub extern "C" fn hunk_feed(
+    loader: &mut Loader,
+    rows: &[Row],
+    memory: &mut [u8],
+    piece: &[u8],
+) -> Answer
+    ensures { Feeds rows.now loader.old loader.new memory.old memory.new piece.now result }
+{
+    if let Some(answer) = loader.refusal() {
+        return answer;
+    }
+    let Some(at) = loader.standing() else {
+        return strange();
+    };
+    match take_piece(memory, rows, at, piece) {
+        Ok((to, taken)) => {
+            *loader = Loader::of(to);
+            done(loader.hunk, loader.fed, taken as u64)
+        }
+        Err(Stop::Strange) => strange(),
+        Err(Stop::Refused(fault)) => {
+            *loader = loader.refusing(fault);
+            refused(fault)
+        }
+    }
+}
+
+/// Whether the file is whole. Where it is, the memory is its hunks, one right behind the other, each as
+/// it lies at the base of its row.
+///
+/// It answers the number of hunks, the bytes of the file, and those of the hunks.
+///
+/// # Errors
+///
+/// Truncated where more of the file is to come; an earlier refusal; `STRANGE`, as a feed does.
+#[unsafe(no_mangle)]
+pub extern "C" fn hunk_end(loader: &Loader) -> Answer
+    ensures { Ends loader.now result }
+{
+    if let Some(answer) = loader.refusal() {
+        return answer;
+    }
+    let Some(at) = loader.standing() else {
+        return strange();
+    };
+    if at.is_whole() {
+        return done(loader.hunk, loader.fed, loader.start);
+    }
+    refused(Fault {
+        place: loader.fed / 4 * 4,
+        reason: Reason::Truncated,
+    })
+}
