@@ -1,5 +1,5 @@
-/* Hunk files of AmigaDOS: tables of load files, loading them, checking and stripping load files and
- * object files, the names of refusals.
+/* Hunk files of AmigaDOS: tables of load files, loading them, whole or piece by piece, checking and
+ * stripping load files and object files, the names of refusals.
  *
  * Whatever the bytes are, each call answers one of the answers that stand below it; what of this is
  * proved is in docs/PROVED.md. A call reads and writes only what its arguments point to and what
@@ -22,7 +22,7 @@
 extern "C" {
 #endif
 
-/* The numbers of answers: 0, the number of a reason, or that of HUNK_NO_ROOM. */
+/* The numbers of answers: 0, the number of a reason, HUNK_NO_ROOM or HUNK_STRANGE. */
 #define HUNK_OK UINT32_C(0)
 #define HUNK_NOT_LOAD_FILE UINT32_C(1)        /* the first longword is not 3F3 */
 #define HUNK_IS_OBJECT UINT32_C(2)            /* it is 3E7: an object file; loads answer it */
@@ -56,10 +56,11 @@ extern "C" {
 #define HUNK_READ UINT32_C(30)                /* no call of these answers it */
 #define HUNK_OUT_OF_MEMORY UINT32_C(31)       /* malloc or realloc gave none */
 #define HUNK_NO_ROOM UINT32_C(32)             /* the caller's array has too few elements */
+#define HUNK_STRANGE UINT32_C(33)             /* numbers that no struct hunk_loader may have */
 
 /* What a call answers: 24 bytes. */
 struct hunk_answer {
-    uint32_t number; /* HUNK_OK, the number of a reason, or HUNK_NO_ROOM */
+    uint32_t number; /* HUNK_OK, the number of a reason, HUNK_NO_ROOM or HUNK_STRANGE */
     uint32_t hunk;   /* the hunks of a load file; at HUNK_NO_BASE the one without; else 0 */
     uint64_t place;  /* bytes that were read; at a reason, the byte where it stands, from 0 on */
     uint64_t count;  /* what the call counts (below): written, or needed at HUNK_NO_ROOM; else 0 */
@@ -139,6 +140,92 @@ struct hunk_answer hunk_load(const uint8_t *bytes, size_t bytes_len, const uint3
 struct hunk_answer hunk_load_packed(const uint8_t *bytes, size_t bytes_len, uint32_t base,
                                     uint8_t *memory, size_t memory_len);
 
+/* ---- A load file that comes piece by piece, and is loaded with no other memory than the caller's.
+ *
+ * hunk_table reads the header, which has to be in one piece, and asks malloc for its rows; none of
+ * the three calls below takes memory. They know the file by its places, and by what the loader has:
+ * numbers alone, which may be copied and stored, and belong to one file, its places and its memory.
+ * hunk_begin sets them, hunk_feed takes the bytes behind the header in pieces of any size, and
+ * hunk_end tells whether the file is whole.
+ */
+
+/* Where a hunk lies: 12 bytes. */
+struct hunk_place {
+    uint32_t word;  /* the size word and the attributes, as in the hunk's struct hunk_row */
+    uint32_t extra;
+    uint32_t base;  /* the address of its first byte */
+};
+
+/* Where a loader stands: 64 bytes. A program has only to keep them: any numbers may stand here, and
+ * those that no loader may have are answered by HUNK_STRANGE. Zero bytes are such. */
+struct hunk_loader {
+    uint64_t start;        /* the byte of the memory where the open hunk begins */
+    uint64_t fed;          /* the bytes of header and body that were taken */
+    uint64_t place;        /* after a refusal, its byte */
+    uint32_t refused;      /* the number of its reason; 0 where there was none */
+    uint32_t refused_hunk; /* the hunk of its answer */
+    uint32_t hunk;         /* the hunks that are whole: the open one, counted from 0 */
+    uint32_t hunks;        /* the hunks of the file */
+    uint32_t ahead;        /* those behind the open one */
+    uint32_t has_content;  /* 1 where the open hunk has its content, else 0 */
+    uint32_t phase;        /* what the next longword is for, 1 to 13; 14 behind the file */
+    uint32_t part;         /* the longwords of a content; the target of offsets */
+    uint32_t owed;         /* how many longwords of its kind follow the next */
+    uint8_t pending;       /* the bytes of the next longword that have come, 0 to 3 */
+    uint8_t first;         /* and which */
+    uint8_t second;
+    uint8_t third;
+};
+
+/* Sets a loader behind the header of a file, and makes the memory zero.
+ *
+ *   places  one for each hunk, its word and extra as hunk_table wrote them, its base as the caller
+ *           likes: two hunks that overlap, or pass 2^32, are the caller's affair
+ *   header  the bytes of the header, as hunk_table answered them: its place
+ *   memory  where the hunks go, one right behind the other: just the bytes that they have together,
+ *           hunk_table's count
+ *
+ * It writes the loader and the memory, reads the places, and answers nothing. Where the places, the
+ * header or the memory are other than that, so are the answers of the calls below, perhaps
+ * HUNK_STRANGE; they still write nothing else.
+ */
+void hunk_begin(struct hunk_loader *loader, const struct hunk_place *places, size_t places_len,
+                uint64_t header, uint8_t *memory, size_t memory_len);
+
+/* Takes the next bytes of a file, those right behind what was taken before, up to the end of the
+ * file where that comes first.
+ *
+ *   places, memory  those of hunk_begin, as they were left: a program may read the memory, and
+ *                   change no byte of it
+ *   bytes           the piece, of any length, 0 too
+ *
+ * HUNK_OK       count: the bytes that were taken, all of them unless the file is whole; place: the
+ *               bytes of header and body so far; hunk: the hunks that are whole. The memory is as
+ *               the longwords so far leave it.
+ * HUNK_STRANGE  the loader's numbers are none that a loader with these places and this memory may
+ *               have, or place would pass 2^64 - 1. hunk, place and count are 0. The loader is as
+ *               it was; the memory may not be.
+ * Else the first fault of the file, HUNK_LIBRARY, or HUNK_BOTH_BITS to HUNK_BAD_OFFSET; place: the
+ * byte of the longword that is refused, from the start of the file. What the memory has then is
+ * not told. Each later call with this loader answers the same, and leaves both as they are.
+ *
+ * It reads and writes the loader and the memory, and reads the places and the piece.
+ */
+struct hunk_answer hunk_feed(struct hunk_loader *loader, const struct hunk_place *places,
+                             size_t places_len, uint8_t *memory, size_t memory_len,
+                             const uint8_t *bytes, size_t bytes_len);
+
+/* Tells whether the file is whole. It reads the loader, and writes nothing; more may be fed later.
+ *
+ * HUNK_OK       the memory has the hunks, as hunk_load would load them at the bases of the places.
+ *               hunk: the hunks; place: the bytes of the file; count: those of the hunks.
+ * HUNK_TRUNCATED  more of the file is to come; place: where the first longword is missing, 4 times
+ *                 the number of whole longwords so far.
+ * HUNK_STRANGE  the loader's numbers are none that a loader may have.
+ * Else the same as hunk_feed has answered, where it answered a fault.
+ */
+struct hunk_answer hunk_end(const struct hunk_loader *loader);
+
 /* Checks the object file that the bytes are, or the load file that they begin with: bytes that
  * begin with 3E7 are read as an object file, all others as a load file.
  *
@@ -189,7 +276,7 @@ struct hunk_answer hunk_strip(const uint8_t *bytes, size_t bytes_len, uint8_t *t
 
 /* Writes the name of an answer's number to the text, with no zero behind it.
  *
- * HUNK_OK       count: the bytes of the name, at most 17; none for 0 and above 32.
+ * HUNK_OK       count: the bytes of the name, at most 17; none for 0 and above 33.
  * HUNK_NO_ROOM  count: the bytes that are needed; the text is as it was.
  *
  * Text behind the name is as it was. It takes no memory.

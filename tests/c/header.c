@@ -18,6 +18,26 @@ CHECK(finding_unit, offsetof(struct hunk_finding, unit) == 0);
 CHECK(finding_hunk, offsetof(struct hunk_finding, hunk) == 8);
 CHECK(finding_offset, offsetof(struct hunk_finding, offset) == 16);
 CHECK(finding_fault, offsetof(struct hunk_finding, fault) == 20);
+CHECK(place_size, sizeof(struct hunk_place) == 12);
+CHECK(place_extra, offsetof(struct hunk_place, extra) == 4);
+CHECK(place_base, offsetof(struct hunk_place, base) == 8);
+CHECK(loader_size, sizeof(struct hunk_loader) == 64);
+CHECK(loader_start, offsetof(struct hunk_loader, start) == 0);
+CHECK(loader_fed, offsetof(struct hunk_loader, fed) == 8);
+CHECK(loader_place, offsetof(struct hunk_loader, place) == 16);
+CHECK(loader_refused, offsetof(struct hunk_loader, refused) == 24);
+CHECK(loader_refused_hunk, offsetof(struct hunk_loader, refused_hunk) == 28);
+CHECK(loader_hunk, offsetof(struct hunk_loader, hunk) == 32);
+CHECK(loader_hunks, offsetof(struct hunk_loader, hunks) == 36);
+CHECK(loader_ahead, offsetof(struct hunk_loader, ahead) == 40);
+CHECK(loader_has_content, offsetof(struct hunk_loader, has_content) == 44);
+CHECK(loader_phase, offsetof(struct hunk_loader, phase) == 48);
+CHECK(loader_part, offsetof(struct hunk_loader, part) == 52);
+CHECK(loader_owed, offsetof(struct hunk_loader, owed) == 56);
+CHECK(loader_pending, offsetof(struct hunk_loader, pending) == 60);
+CHECK(loader_first, offsetof(struct hunk_loader, first) == 61);
+CHECK(loader_second, offsetof(struct hunk_loader, second) == 62);
+CHECK(loader_third, offsetof(struct hunk_loader, third) == 63);
 
 /* In the order of their numbers. */
 static const struct {
@@ -57,7 +77,8 @@ static const struct {
     {HUNK_READ, "Read"},
     {HUNK_OUT_OF_MEMORY, "OutOfMemory"},
     {HUNK_NO_ROOM, "NoRoom"},
-    {33, ""},
+    {HUNK_STRANGE, "Strange"},
+    {34, ""},
     {UINT32_MAX, ""},
 };
 
@@ -86,7 +107,7 @@ int main(void)
 {
     int status = 0;
     for (size_t i = 0; i < sizeof reasons / sizeof *reasons; i++) {
-        if (i <= HUNK_NO_ROOM && reasons[i].number != i) {
+        if (i <= HUNK_STRANGE && reasons[i].number != i) {
             fprintf(stderr, "number %u is not in its place\n", (unsigned)reasons[i].number);
             status = 1;
         }

@@ -1,0 +1,233 @@
+/* Load files piece by piece: streams BASE FILE.. feeds each in pieces of several lengths, and compares
+ * with hunk_load; then it hands in loaders of any numbers, with memory between two pages that fault.
+ * Status 1 where an answer, or what it leaves in the caller's memory, is not what hunk.h says. */
+#include "guarded.h"
+
+#define BUDGET (UINT64_C(1) << 24)
+#define MOST_HUNKS 65536
+#define LOADERS 2000000
+
+static struct guarded file_bytes = {1 << 20, NULL};
+static struct guarded row_room = {MOST_HUNKS * sizeof(struct hunk_row), NULL};
+static struct guarded place_room = {MOST_HUNKS * sizeof(struct hunk_place), NULL};
+static struct guarded base_room = {MOST_HUNKS * 4, NULL};
+static struct guarded wanted_room = {1 << 24, NULL};
+static struct guarded memory_room = {1 << 24, NULL};
+static struct guarded piece_room = {PAGE, NULL};
+static struct guarded loader_room = {sizeof(struct hunk_loader), NULL};
+
+/* A file as it was read, its table, where its hunks lie, and what hunk_load makes of it. */
+struct streamed {
+    const char *name;
+    const uint8_t *bytes;
+    size_t len;
+    struct hunk_answer table;
+    const struct hunk_place *places;
+    struct hunk_answer wanted;
+    const uint8_t *image;
+};
+
+/* The table of the file, its places from the base on, and what hunk_load answers there. */
+static int read_streamed(struct streamed *f, uint32_t base)
+{
+    struct hunk_row *rows = marked(&row_room, 0);
+    f->table = hunk_table(f->bytes, f->len, BUDGET, rows, 0);
+    if (f->table.number != HUNK_NO_ROOM)
+        return 0;
+    rows = marked(&row_room, f->table.hunk * sizeof *rows);
+    hunk_table(f->bytes, f->len, BUDGET, rows, f->table.hunk);
+    struct hunk_place *places = marked(&place_room, f->table.hunk * sizeof *places);
+    uint32_t *bases = marked(&base_room, f->table.hunk * sizeof *bases);
+    for (uint32_t h = 0; h < f->table.hunk; h++) {
+        struct hunk_place place = {rows[h].word, rows[h].extra, base};
+        places[h] = place;
+        bases[h] = base;
+        base += rows[h].bytes;
+    }
+    f->places = places;
+    uint8_t *image = marked(&wanted_room, f->table.count);
+    f->wanted = hunk_load(f->bytes, f->len, bases, f->table.hunk, image, f->table.count);
+    f->image = image;
+    return 1;
+}
+
+/* A piece up to a page that faults. */
+static const uint8_t *piece_of(const uint8_t *bytes, size_t len)
+{
+    uint8_t *piece = marked(&piece_room, len);
+    memcpy(piece, bytes, len);
+    return piece;
+}
+
+/* After a refusal: whatever comes, the same, and nothing is written. */
+static void refused_for_good(const struct streamed *f, struct hunk_loader *loader, uint8_t *memory)
+{
+    struct hunk_loader before = *loader;
+    const uint8_t *piece = piece_of(f->bytes, f->len < PAGE ? f->len : PAGE);
+    memset(memory, MARK, f->table.count);
+    for (size_t len = 0; len < 9 && len <= f->len; len += 4) {
+        struct hunk_answer again = hunk_feed(loader, f->places, f->table.hunk, memory,
+                                             f->table.count, piece, len);
+        expect(same(again, f->wanted), f->name, "the same fault again");
+    }
+    expect(same(hunk_end(loader), f->wanted), f->name, "the same fault at the end");
+    expect(memcmp(loader, &before, sizeof before) == 0, f->name, "the loader after a fault");
+    expect(all_marked(memory, f->table.count), f->name, "the memory after a fault");
+}
+
+/* The whole of the bytes behind the header, in pieces of so many: what is taken, and the end. */
+static void streamed(const struct streamed *f, size_t most)
+{
+    struct hunk_loader *loader = marked(&loader_room, sizeof *loader);
+    size_t room = f->table.count, at = f->table.place;
+    uint8_t *memory = marked(&memory_room, room);
+    hunk_begin(loader, f->places, f->table.hunk, f->table.place, memory, room);
+    for (size_t i = 0; i < room; i++)
+        expect(memory[i] == 0, f->name, "zero bytes at the begin");
+    while (at < f->len) {
+        size_t len = f->len - at < most ? f->len - at : most;
+        struct hunk_answer a = hunk_feed(loader, f->places, f->table.hunk, memory, room,
+                                         piece_of(f->bytes + at, len), len);
+        if (a.number != HUNK_OK) {
+            expect(same(a, f->wanted), f->name, "the fault of a stream");
+            refused_for_good(f, loader, memory);
+            return;
+        }
+        at += a.count;
+        expect(a.place == at && a.hunk <= f->table.hunk, f->name, "how far a stream has come");
+        if (a.count < len)
+            break;
+    }
+    struct hunk_answer end = hunk_end(loader);
+    expect(same(end, f->wanted), f->name, "the end of a stream");
+    if (end.number != HUNK_OK)
+        return;
+    expect(at == end.place, f->name, "the bytes of a stream");
+    expect(memcmp(memory, f->image, room) == 0, f->name, "the memory of a stream");
+    struct hunk_answer behind = hunk_feed(loader, f->places, f->table.hunk, memory, room,
+                                          piece_of(f->bytes, 4), 4);
+    struct hunk_answer none = {HUNK_OK, end.hunk, end.place, 0};
+    expect(same(behind, none), f->name, "behind the end of a stream");
+}
+
+static uint64_t any(void)
+{
+    static uint64_t seed = 88172645463325252u;
+    seed ^= seed << 13;
+    seed ^= seed >> 7;
+    seed ^= seed << 17;
+    return seed;
+}
+
+/* Small numbers, those next to the largest, and any. */
+static uint64_t number(void)
+{
+    switch (any() % 4) {
+    case 0:
+        return any() % 16;
+    case 1:
+        return any() % 256;
+    case 2:
+        return UINT64_MAX - any() % 64;
+    default:
+        return any();
+    }
+}
+
+static void put_numbers(struct hunk_loader *l)
+{
+    l->start = any() % 2 ? 4 * (any() % 32) : number();
+    l->fed = number();
+    l->place = number();
+    l->refused = any() % 8 ? 0 : (uint32_t)number();
+    l->refused_hunk = (uint32_t)number();
+    l->hunk = (uint32_t)(any() % 8 ? any() % 4 : number());
+    l->hunks = (uint32_t)(any() % 2 ? any() % 4 : number());
+    l->ahead = (uint32_t)(any() % 2 ? any() % 4 : number());
+    l->has_content = (uint32_t)(any() % 8 ? any() % 2 : number());
+    l->phase = (uint32_t)(any() % 16 ? any() % 16 : number());
+    l->part = (uint32_t)number();
+    l->owed = (uint32_t)number();
+    l->pending = (uint8_t)(any() % 8 ? any() % 4 : any());
+    l->first = (uint8_t)(any() % 4 ? 0 : any());
+    l->second = (uint8_t)(any() % 4 ? 0 : any());
+    l->third = (uint8_t)(any() % 4 ? 0 : any());
+}
+
+/* A loader of any numbers is fed: how it answers, and that a fault stays. */
+static uint32_t fed_any(uint8_t *memory, size_t len)
+{
+    struct hunk_loader *l = marked(&loader_room, sizeof *l);
+    size_t hunks = any() % 4, size = any() % 13;
+    struct hunk_place *places = marked(&place_room, hunks * sizeof *places);
+    uint8_t *piece = marked(&piece_room, size);
+    for (size_t h = 0; h < hunks; h++) {
+        struct hunk_place place = {(uint32_t)(any() % 8 ? any() % 16 : number()), 0, 0};
+        places[h] = place;
+    }
+    for (size_t i = 0; i < size; i++)
+        piece[i] = any() % 4 ? 0 : (uint8_t)any();
+    put_numbers(l);
+    struct hunk_loader old = *l;
+    struct hunk_answer a = hunk_feed(l, places, hunks, memory, len, piece, size);
+    struct hunk_loader new = *l;
+    struct hunk_answer end = hunk_end(l);
+    if (a.number == HUNK_STRANGE) {
+        struct hunk_answer strange = {HUNK_STRANGE, 0, 0, 0};
+        expect(same(a, strange), "any numbers", "the answer to strange ones");
+        expect(memcmp(&old, &new, sizeof old) == 0, "any numbers", "strange ones are kept");
+    } else if (a.number == HUNK_OK) {
+        expect(a.count <= size && a.place == new.fed, "any numbers", "what was taken");
+        expect(end.number == HUNK_OK || end.number == HUNK_TRUNCATED, "any numbers", "the end");
+    } else {
+        struct hunk_answer again = hunk_feed(l, places, hunks, memory, len, piece, size);
+        expect(same(a, again) && same(a, end), "any numbers", "the same fault again");
+        expect(memcmp(l, &new, sizeof new) == 0, "any numbers", "the loader after a fault");
+    }
+    return a.number;
+}
+
+/* Loaders of any numbers, with memory at either end of what lies between two pages that fault. */
+static int any_numbers(void)
+{
+    static uint32_t counts[HUNK_STRANGE + 1];
+    uint8_t *at = mmap(NULL, 3 * PAGE, PROT_NONE, MAP_PRIVATE | MAP_ANONYMOUS, -1, 0);
+    if (at == MAP_FAILED || mprotect(at + PAGE, PAGE, PROT_READ | PROT_WRITE) != 0)
+        return 0;
+    for (long i = 0; i < LOADERS; i++) {
+        size_t len = any() % 129;
+        uint32_t told = fed_any(at + PAGE + (any() % 2 ? 0 : PAGE - len), len);
+        if (told > HUNK_STRANGE)
+            expect(0, "any numbers", "a number that no call answers");
+        else
+            counts[told]++;
+    }
+    /* All three kinds have to be among them. */
+    expect(counts[HUNK_OK] > LOADERS / 100, "any numbers", "some are taken");
+    expect(counts[HUNK_STRANGE] > LOADERS / 100, "any numbers", "some are strange");
+    expect(counts[HUNK_BAD_OFFSET] > 100, "any numbers", "some refuse an offset");
+    return 1;
+}
+
+int main(int argc, char **argv)
+{
+    static const size_t lengths[] = {1, 4, 13, 40, 121, 364};
+    if (argc < 3 || !make_guarded(&file_bytes) || !make_guarded(&row_room) ||
+        !make_guarded(&place_room) || !make_guarded(&base_room) || !make_guarded(&wanted_room) ||
+        !make_guarded(&memory_room) || !make_guarded(&piece_room) || !make_guarded(&loader_room))
+        return 3;
+    int faults = 0, whole = 0, cut = 0;
+    for (int i = 2; i < argc; i++) {
+        struct streamed f = {argv[i], NULL, 0, {0, 0, 0, 0}, NULL, {0, 0, 0, 0}, NULL};
+        f.bytes = read_file(&file_bytes, f.name, &f.len);
+        if (!read_streamed(&f, (uint32_t)strtoul(argv[1], NULL, 16)))
+            continue;
+        whole += f.wanted.number == HUNK_OK;
+        cut += f.wanted.number == HUNK_TRUNCATED;
+        faults += f.wanted.number != HUNK_OK && f.wanted.number != HUNK_TRUNCATED;
+        for (size_t l = 0; l < sizeof lengths / sizeof *lengths; l++)
+            streamed(&f, lengths[l]);
+    }
+    expect(whole > 100 && cut > 100 && faults > 100, "files", "whole, cut and refused ones");
+    return !any_numbers() || failures > 0;
+}
