@@ -1,9 +1,10 @@
 //! What no clause says: what C programs see of worked examples. The rest is tried from C.
 
 use crate::{
-    Answer, FindingRow, TableRow, hunk_check, hunk_load, hunk_load_packed, hunk_reason, hunk_strip,
-    hunk_table,
+    Answer, FindingRow, Loader, TableRow, hunk_begin, hunk_check, hunk_end, hunk_feed, hunk_load,
+    hunk_load_packed, hunk_reason, hunk_strip, hunk_table,
 };
+use hunk_files::Row;
 use std::mem::size_of;
 use std::rt::HostRuntime;
 use std::test::Fail;
@@ -34,6 +35,39 @@ const NO_ROW: TableRow = TableRow {
     extra: 0,
     bytes: 0,
     memory: 0,
+};
+
+/// The rows of example 2, with the hunks at 10000 and 20000.
+const PLACED: [Row; 2] = [
+    Row {
+        word: 2,
+        extra: 0,
+        base: 0x10000,
+    },
+    Row {
+        word: 1,
+        extra: 0,
+        base: 0x20000,
+    },
+];
+
+const NO_LOADER: Loader = Loader {
+    start: 0,
+    fed: 0,
+    place: 0,
+    refused: 0,
+    refused_hunk: 0,
+    hunk: 0,
+    hunks: 0,
+    ahead: 0,
+    has_content: 0,
+    phase: 0,
+    part: 0,
+    owed: 0,
+    pending: 0,
+    first: 0,
+    second: 0,
+    third: 0,
 };
 
 #[test]
@@ -75,6 +109,74 @@ fn tells_a_table_and_a_name(rt: HostRuntime) -> Result<(), Fail> {
     let mut text = [0; 9];
     let named = hunk_reason(26, text.as_mut_slice());
     assert_eq!(rt; (named.number, named.count, &text), (0, 9, b"Truncated"));
+    let strange = hunk_reason(33, text.as_mut_slice());
+    assert_eq!(rt; (strange.count, &text), (7, b"Strangeed"));
+    Ok(())
+}
+
+fn answer(number: u32, hunk: u32, place: u64, count: u64) -> Answer {
+    Answer {
+        number,
+        hunk,
+        place,
+        count,
+    }
+}
+
+#[test]
+fn streams_two_hunks(rt: HostRuntime) -> Result<(), Fail> {
+    let mut memory = [0xA5u8; 12];
+    let mut loader = NO_LOADER;
+    let rows = PLACED.as_slice();
+    hunk_begin(&mut loader, rows, 28, memory.as_mut_slice());
+    assert_eq!(rt; memory, [0; 12]);
+    // The first piece ends in the first byte of the relocations' word.
+    let first = hunk_feed(&mut loader, rows, memory.as_mut_slice(), &TWO_HUNKS[28..45]);
+    assert_eq!(rt; first, answer(0, 0, 45, 17));
+    assert_eq!(rt; hunk_end(&loader), answer(26, 0, 44, 0));
+    let second = hunk_feed(&mut loader, rows, memory.as_mut_slice(), &TWO_HUNKS[45..]);
+    assert_eq!(rt; second, answer(0, 2, 84, 39));
+    assert_eq!(rt; hunk_end(&loader), answer(0, 2, 84, 12));
+    let wanted = [0x4E, 0xF9, 0, 2, 0, 4, 0x4E, 0x71, 0x12, 0x34, 0x56, 0x78];
+    assert_eq!(rt; memory, wanted);
+    let behind = hunk_feed(&mut loader, rows, memory.as_mut_slice(), [0; 5].as_slice());
+    assert_eq!(rt; behind, answer(0, 2, 84, 0));
+    Ok(())
+}
+
+#[test]
+fn refuses_a_stream_for_good(rt: HostRuntime) -> Result<(), Fail> {
+    let mut memory = [0xA5u8; 12];
+    let mut loader = NO_LOADER;
+    let rows = PLACED.as_slice();
+    hunk_begin(&mut loader, rows, 28, memory.as_mut_slice());
+    hunk_feed(&mut loader, rows, memory.as_mut_slice(), &TWO_HUNKS[28..52]);
+    // There is no hunk 2 that a relocation could have as its target.
+    let target = [0, 0, 0, 2];
+    let bad_target = answer(23, 0, 52, 0);
+    let refused = hunk_feed(&mut loader, rows, memory.as_mut_slice(), target.as_slice());
+    assert_eq!(rt; refused, bad_target);
+    let again = hunk_feed(&mut loader, rows, memory.as_mut_slice(), &TWO_HUNKS[52..]);
+    assert_eq!(rt; again, bad_target);
+    assert_eq!(rt; hunk_end(&loader), bad_target);
+    Ok(())
+}
+
+#[test]
+fn finds_strange_numbers(rt: HostRuntime) -> Result<(), Fail> {
+    let mut memory = [0xA5u8; 12];
+    let strange = answer(33, 0, 0, 0);
+    for (phase, refused) in [(0, 0), (15, 0), (1, 32)] {
+        let mut loader = Loader {
+            phase,
+            refused,
+            ..NO_LOADER
+        };
+        let rows = PLACED.as_slice();
+        let fed = hunk_feed(&mut loader, rows, memory.as_mut_slice(), [0; 4].as_slice());
+        assert_eq!(rt; (fed, hunk_end(&loader)), (strange, strange));
+    }
+    assert_eq!(rt; memory, [0xA5u8; 12]);
     Ok(())
 }
 
@@ -121,5 +223,6 @@ fn strips_a_symbol(rt: HostRuntime) -> Result<(), Fail> {
 fn has_the_sizes_of_the_header(rt: HostRuntime) -> Result<(), Fail> {
     assert_eq!(rt; (size_of::<Answer>(), size_of::<TableRow>()), (24, 16));
     assert_eq!(rt; size_of::<FindingRow>(), 24);
+    assert_eq!(rt; (size_of::<Loader>(), size_of::<Row>()), (64, 12));
     Ok(())
 }
