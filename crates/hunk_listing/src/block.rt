@@ -2,9 +2,9 @@
 ghost use Rattle.std.specs.Prelude.{◌≡◌, ◌*◌, ◌%◌, ◌^◌, ◌<◌, ◌≤◌, ◌+◌, ◌++◌, length, map, codes, decimal};
 ghost use Rattle.hunk_words.specs.Prints.{Prints};
 ghost use Rattle.hunk_words.specs.Longs.{longs};
-ghost use Rattle.hunk_words.specs.Bits.{size_longs};
 ghost use Rattle.hunk_blocks.specs.Values.{Ext, Reloc, Symbol};
-ghost use Rattle.hunk_blocks.specs.Views.{entry_of, group_of, symbol_of};
+ghost use Rattle.hunk_blocks.specs.Views.{body_of, entry_of, group_of, symbol_of};
+ghost use Rattle.hunk_files.specs.Findings.{content_size};
 ghost use Rattle.hunk_listing.specs.BlockLines.{advisory_line, block_lines, body_lines, count_line, end_line, group_lines, head, name_line, offset_count, size_line, symbol_line};
 
 use crate::entry::print_entry;
@@ -12,7 +12,7 @@ use crate::line::{LINE, Line};
 use crate::names::{put_block_flags, put_kind, put_memory_flags};
 use crate::text::{print_name, print_offset_behind};
 use hunk_blocks::{Block, Body, Entries, Group, Groups, Named, Payload, Symbols};
-use hunk_words::{BlockWord, Printer, Sink, SizeWord};
+use hunk_words::{BlockWord, Printer, Sink};
 
 /// Prints the lines of the block.
 pub(crate) fn print_block<W: Sink>(page: &mut Printer<'_, W>, block: &Block<'_>)
@@ -23,13 +23,13 @@ pub(crate) fn print_block<W: Sink>(page: &mut Printer<'_, W>, block: &Block<'_>)
     let _size = block.encoded_len();
     match block.body() {
         Body::Name(name) => print_name_line(page, word, name),
-        Body::Code { top: _, payload } => print_payload_size(page, word, payload),
-        Body::Data { top: _, payload } => print_payload_size(page, word, payload),
-        Body::Bss { size } => print_size(page, word, bss_bytes(*size)),
+        Body::Code { top: _, payload: _ } => print_content_size(page, word, block.body()),
+        Body::Data { top: _, payload: _ } => print_content_size(page, word, block.body()),
+        Body::Bss { size: _ } => print_content_size(page, word, block.body()),
         Body::Reloc(groups) => print_relocations(page, word, groups),
         Body::Ext(entries) => print_entries(page, word, entries),
         Body::Symbol(symbols) => print_symbols(page, word, symbols),
-        Body::Debug(payload) => print_payload_size(page, word, payload),
+        Body::Debug(payload) => print_size(page, word, payload_bytes(payload)),
         Body::End => print_end(page, word),
         Body::Advisory(payload) => print_advisory(page, word, payload),
     }
@@ -71,21 +71,11 @@ fn print_size<W: Sink>(page: &mut Printer<'_, W>, word: BlockWord, size: u64)
     line.print(page);
 }
 
-fn print_payload_size<W: Sink>(page: &mut Printer<'_, W>, word: BlockWord, payload: &Payload<'_>)
-    ensures { Prints page.old page.new (size_line word (4 * length (longs payload.now))) }
+/// The line of a content block.
+fn print_content_size<W: Sink>(page: &mut Printer<'_, W>, word: BlockWord, body: &Body<'_>)
+    ensures { Prints page.old page.new (size_line word (content_size (body_of body.now))) }
 {
-    print_size(page, word, payload_bytes(payload));
-}
-
-/// How many bytes a BSS block with this size word has.
-fn bss_bytes(size: u32) -> u64
-    ensures { result ≡ 4 * size_longs size }
-{
-    let size = SizeWord {
-        word: size,
-        extra: 0,
-    };
-    size.bytes()
+    print_size(page, word, body.content_bytes().unwrap_or(0));
 }
 
 /// How many bytes the payload has, those of whole longwords.
