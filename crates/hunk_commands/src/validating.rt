@@ -2,12 +2,11 @@
 ghost use Rattle.std.specs.Prelude.{◌≡◌, ◌+◌, ◌^◌, ◌<◌, ℕ, List, Some, false, true, length, IfOk, IfErr, OnOk, OnErr};
 ghost use Rattle.hunk_words.specs.Prints.{Prints};
 ghost use Rattle.hunk_words.specs.Puts.{Puts};
-ghost use Rattle.hunk_words.specs.declared.reason.Reason.TheVariants.{FileLimit};
 ghost use Rattle.hunk_scatter.specs.LoadOutcomes.{Gives};
-ghost use Rattle.hunk_commands.specs.declared.fault.RunFault.TheVariants.{Memory, Read, Refused, Write};
+ghost use Rattle.hunk_commands.specs.declared.fault.RunFault.TheVariants.{Memory, Write};
 ghost use Rattle.hunk_commands.specs.Engine.{RefusesOnly, Writes, WritesAll};
 ghost use Rattle.hunk_files.specs.HunkFile.{AreFile};
-ghost use Rattle.hunk_commands.specs.Inputs.{Gave};
+ghost use Rattle.hunk_commands.specs.Inputs.{StopsAtLimit, StopsAtRead};
 ghost use Rattle.hunk_commands.specs.Output.{StopsOutput};
 ghost use Rattle.hunk_commands.specs.Reports.{finding_count, report};
 ghost use Rattle.hunk_commands.specs.Validated.{IsReport, IsValidated};
@@ -46,11 +45,8 @@ pub fn validate<R: Source, W: Sink>(
     ensures fails { IfErr result (StopsOutput W.taken W.failed w.old w.new) }
 
     ensures within { (given : List ℕ) × Gives (R.left r.old) (R.left r.new) file_bytes given }
-    ensures limit { IfErr result
-        (λ fault. (place : ℕ) → fault ≡ Refused (record { place = place; reason = FileLimit }) →
-        (place ≡ file_bytes) × Gave (R.left r.old) (R.left r.new) place) }
-    ensures read { IfErr result (λ fault. (place : ℕ) → fault ≡ Read place →
-        (R.failed r.new ≡ true) × Gave (R.left r.old) (R.left r.new) place) }
+    ensures limit { IfErr result (StopsAtLimit (R.left r.old) (R.left r.new) file_bytes) }
+    ensures read { IfErr result (StopsAtRead (R.left r.old) (R.left r.new) (R.failed r.new)) }
     ensures refused { IfErr result
         (λ fault. RefusesOnly fault (R.left r.old) (R.left r.new) file_bytes) }
 {
