@@ -9,6 +9,7 @@ mod limits;
 mod loads;
 mod memory;
 mod sources;
+mod streams;
 
 use hunk_scatter::{Image, Limits, Placer, load};
 use hunk_words::{LoadFault, Source};
