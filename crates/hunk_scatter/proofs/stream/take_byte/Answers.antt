@@ -11,7 +11,7 @@ returns-then-at-lt3-clause-takes c = λ fed h more.
     fed_as _ _ _ _ _ _ _ _ _ _ refl refl c.and.ensures refl kept
 
 pub returns-then-at-gt3-clause-takes : goal.returns-then-at-gt3-clause-takes
-returns-then-at-gt3-clause-takes c = λ fed h more. absurd (too_many _ _ c.args.at fed h c.if-at-gt3.true)
+returns-then-at-gt3-clause-takes c = λ fed h more. absurd (too_many _ _ c.args.at fed h (omega (arith, c.if-at-gt3.true)))
 
 pub returns-then-not-is_in_store-clause-takes : goal.returns-then-not-is_in_store-clause-takes
 returns-then-not-is_in_store-clause-takes c = λ fed h more.
