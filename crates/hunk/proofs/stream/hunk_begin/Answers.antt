@@ -1,3 +1,4 @@
+use Rattle.std.proofs.Common.{arith}
 use Rattle.hunk_scatter.specs.HeaderBytes.{header_bytes}
 use Rattle.hunk_scatter.specs.Rows.{entries_of}
 use Rattle.hunk.proofs.Streamed.{behind}
@@ -5,7 +6,7 @@ use Rattle.hunk.proofs.stream.hunk_begin.Goals as goal
 
 pub returns-clause-begins : goal.returns-clause-begins
 returns-clause-begins c = λ table header size.
-    let f = c.begin.ensures.begins table header size in
+    let f = c.begin.ensures.begins table (omega (arith, header)) size in
     record {
       unrefused = c.of.ensures.unrefused;
       at = c.begin.result;

@@ -1,8 +1,9 @@
-use Rattle.std.proofs.Common.{◌≡◌, ℕ, true, false, Some, sym, ap, subst, ◌∙◌, arith}
+use Rattle.std.proofs.Common.{◌≡◌, ℕ, true, false, Some, refl, sym, ap, subst, ◌∙◌, arith}
 use Rattle.hunk_words.specs.declared.reason.Reason.TheVariants as reasons
 use Rattle.hunk_scatter.specs.Streaming.{EndsLoading}
-use Rattle.hunk.specs.Answers.{refused}
+use Rattle.hunk.specs.Answers.{done, refused}
 use Rattle.hunk.specs.Streams.{IsWhole, IsCutShort, IsStreamed, standing_of}
+use Rattle.hunk.proofs.Loaded.{same_answer}
 use Rattle.hunk.proofs.Streamed.{cut_short, streamed}
 use Rattle.hunk.proofs.stream.hunk_end.Goals as goal
 
@@ -11,8 +12,10 @@ returns-then-is_whole c =
     let at = c.in-Some-standing.at in
     let told : standing_of c.args.loader.now ≡ Some at = sym c.in-Some-standing.ensures in
     let ends : EndsLoading at true = subst (EndsLoading at) c.if-is_whole.true c.is_whole.ensures in
-    IsWhole c.in_default.ensures c.done.ensures
-    (λ rows memory fed h. subst (IsStreamed rows memory fed) (sym c.done.ensures) (streamed rows c.args.loader.now memory fed at told ends h))
+    let answered : c.done.result ≡ done c.args.loader.now.hunk c.args.loader.now.fed c.args.loader.now.start =
+    c.done.ensures ∙ same_answer 0 _ _ _ _ _ _ refl refl (omega arith) in
+    IsWhole c.in_default.ensures answered
+    (λ rows memory fed h. subst (IsStreamed rows memory fed) (sym answered) (streamed rows c.args.loader.now memory fed at told ends h))
 
 pub returns : goal.returns
 returns c =
