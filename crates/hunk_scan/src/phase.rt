@@ -18,8 +18,7 @@ pub struct OpenHunk {
     pub has_content: bool,
 }
 
-/// What the next longword of a hunk is for. An owed number tells how many more of the kind follow
-/// the next.
+/// What the next longword of a hunk is for. `owed` is how many more of the kind follow the next.
 #[derive(Clone, Copy, Debug, PartialEq, Eq)]
 pub enum Phase {
     /// The word of the first block: the hunk opens here.
@@ -32,7 +31,7 @@ pub enum Phase {
     /// The size word of CODE or DATA.
     ContentSize,
     BssSize,
-    /// Of a content of so many longwords.
+    /// Of a content of `longs` longwords.
     Content { longs: u32, owed: u32 },
     /// Of NAME, DEBUG or an advisory block.
     Payload { owed: u32 },
@@ -158,7 +157,7 @@ impl OpenHunk {
         }
     }
 
-    /// Behind one longword of a run and so many more.
+    /// Behind one longword of a run and `more` of them.
     #[inline(always)]
     pub(crate) fn pass(self, phase: Phase, more: u32) -> Position
         requires { more < run_in phase }
@@ -212,7 +211,7 @@ impl Phase {
     }
 }
 
-/// Where so many hunks are left.
+/// Where `left` hunks are left.
 #[inline(always)]
 pub(crate) fn open_next(hunks: u32, left: u32) -> Position
     ensures { result ≡ positions.open_next hunks left }

@@ -6,8 +6,8 @@ ghost use Rattle.hunk_scan.specs.Positions.{step, run, pass, offsets, pass_offse
 use crate::phase::{OpenHunk, Phase, open_next};
 use hunk_words::SizeWord;
 
-/// What the next longword of a load file is for. In the table, an owed number tells how many
-/// entries follow the next.
+/// What the next longword of a load file is for. In the table, `owed` is how many entries
+/// follow the next.
 #[derive(Clone, Copy, Debug, PartialEq, Eq)]
 pub enum Position {
     FirstLong,
@@ -23,7 +23,7 @@ pub enum Position {
 }
 
 impl Position {
-    /// Behind the table of a file of so many hunks.
+    /// Behind the table of a file of `hunks` hunks.
     #[inline(always)]
     pub fn behind_table(hunks: u32) -> Position
         ensures { result ≡ positions.open_next hunks hunks }
@@ -105,7 +105,7 @@ impl Position {
         }
     }
 
-    /// Behind so many longwords of a run.
+    /// Behind `count` longwords of a run.
     #[inline(always)]
     pub fn pass(self, count: u64) -> Position
         requires { count ≤ run self }
@@ -129,7 +129,7 @@ impl Position {
         }
     }
 
-    /// Behind so many offsets of a list.
+    /// Behind `count` offsets of a list.
     #[inline(always)]
     pub fn pass_offsets(self, count: u64) -> Position
         requires { count ≤ offsets self }

@@ -12,8 +12,8 @@ use hunk_blocks::Mode;
 use hunk_words::{BlockWord, MOST_HUNKS, NAME_LIMIT, Reason, SizeWord};
 
 impl Position {
-    /// Why the longword is refused, where it is. In the body, the open hunk declares so many
-    /// longwords.
+    /// Why the longword is refused, where it is. `longs` is the number of longwords that the open hunk
+    /// declares; outside the body it says nothing.
     #[inline(always)]
     pub fn refuse(self, longs: u32, word: u32) -> Option<Reason>
         ensures { result ≡ refuse (role_at longs self) word }
@@ -54,7 +54,7 @@ impl OpenHunk {
     }
 }
 
-/// Whether the long at the offset passes the end of a hunk of so many declared longs.
+/// Whether the long at the offset passes the end of a hunk that declares `longs` longwords.
 #[inline(always)]
 pub fn is_outside(offset: u32, longs: u32) -> bool
     ensures { result ≡ nat_lt (4 * longs) (offset + 4) }

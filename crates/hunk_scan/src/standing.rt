@@ -4,8 +4,8 @@ ghost use Rattle.hunk_scan.specs.Standings.{refuse_standing, standing_of_kind};
 
 use hunk_words::{Kind, Reason};
 
-/// Why a block of this kind may not stand here, where it may not. The flag tells whether the hunk
-/// has its content block.
+/// Why a block of this kind may not stand here, where it may not. `has_content` says whether the
+/// hunk has its content block.
 #[inline(always)]
 pub fn refuse_place(kind: Kind, has_content: bool) -> Option<Reason>
     ensures { result ≡ refuse_standing has_content (standing_of_kind kind) }

@@ -10,7 +10,7 @@ use std::alloc::{AllocError, Global};
 /// What `ObjectFile::decode` and `check` answer.
 #[derive(Clone, Copy, Debug, PartialEq, Eq)]
 pub enum ObjectWant {
-    /// The bytes are an object file of so many units, in which so many findings are.
+    /// The bytes are an object file of that many units, with that many findings.
     Accepted { units: u64, findings: u64 },
     /// The longword at this byte is refused, for the reason of this number, or the bytes end too
     /// soon, at 4 times the number of whole longwords (number 26).

@@ -30,7 +30,7 @@ impl History {
     }
 }
 
-/// What a writer's sink had taken, where that is told, and whether it had failed.
+/// What a writer's sink had taken, where that is known, and whether it had failed.
 #[derive(Drop)]
 pub(crate) struct Outset {
     pub(crate) ghost taken: { Option (List ℕ) },

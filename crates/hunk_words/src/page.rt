@@ -6,7 +6,7 @@ use std::marker::Model;
 /// How many bytes the page of a whole text has room for: 80 KiB.
 pub(crate) const PAGE: usize = 81_920;
 
-/// A page with room for so many bytes. Contracts see it as the bytes that stand on it.
+/// A page with room for `ROOM` bytes. Contracts see it as the bytes that stand on it.
 #[derive(Drop)]
 pub(crate) struct Page<const ROOM: usize> {
     bytes: [u8; ROOM],

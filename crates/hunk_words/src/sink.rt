@@ -9,7 +9,7 @@ use std::marker::Model;
 
 /// What bytes are pushed to.
 ///
-/// `taken` is the bytes that pushes have put there so far, where they are told. `failed` says whether
+/// `taken` is the bytes that pushes have put there so far, where that is known. `failed` says whether
 /// a push has failed: an `Err` sets it, and nothing else does, for good.
 pub trait Sink {
     ghost taken: { Self → Option (List ℕ) };

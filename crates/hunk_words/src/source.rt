@@ -24,7 +24,7 @@ impl Error for Failed {}
 
 /// What bytes are pulled from.
 ///
-/// `left` is the bytes that pulls will give from here on, where they are told. `failed` says whether
+/// `left` is the bytes that pulls will give from here on, where that is known. `failed` says whether
 /// a pull has failed: an `Err` sets it, and nothing else does, for good.
 pub trait Source {
     ghost left: { Self → Option (List ℕ) };
