@@ -1,4 +1,4 @@
-//! Example 1 with one longword changed.
+//! Example 1 with one longword changed, or with more before its END.
 
 use crate::{examples, spelled};
 use hunk_words::Reason;
@@ -57,4 +57,21 @@ pub fn changed(alloc: Global, byte: usize, word: u32) -> Result<Vec<u8>, AllocEr
         }
     }
     Ok(bytes)
+}
+
+/// The bytes of example 1 with these longwords before its END.
+pub fn before_end(alloc: Global, longs: &[u32]) -> Result<Vec<u8>, AllocError> {
+    let mut bytes = spelled(alloc, examples::BEFORE_ITS_END)?;
+    for long in longs {
+        bytes.extend_from_slice(&long.to_be_bytes())?;
+    }
+    bytes.extend_from_slice(&[0, 0, 3, 0xF2])?;
+    Ok(bytes)
+}
+
+/// Example 15: END's block word 75 times within a DEBUG block, and then END.
+pub fn ends_within_debug(alloc: Global) -> Result<Vec<u8>, AllocError> {
+    let mut longs = [0x3F1, 75].to_vec(alloc)?;
+    longs.resize(77, 0x3F2)?;
+    before_end(alloc, &longs)
 }

@@ -4,6 +4,9 @@
 /// Example 1: one hunk of one CODE block of one longword.
 pub const ONE_HUNK: &str = "3F3 0 1 0 0 1 / 3E9 1 4E754E71 / 3F2";
 
+/// Example 1 without its END.
+pub const BEFORE_ITS_END: &str = "3F3 0 1 0 0 1 / 3E9 1 4E754E71";
+
 /// Example 2: two hunks, the first with the second's base in its code.
 pub const TWO_HUNKS: &str =
     "3F3 0 2 0 1 2 1 / 3E9 2 4EF90000 00044E71 / 3EC 1 1 2 0 / 3F2 / 3EA 1 12345678 / 3F2";

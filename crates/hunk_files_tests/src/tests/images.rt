@@ -1,8 +1,7 @@
 //! The memory of load files, and the offsets whose longs overlap.
 
-use crate::tests::{before_end, changed};
 use hunk_files::{ImageFault, LoadFile};
-use hunk_testing::{bytes_of, examples, spelled};
+use hunk_testing::{CHANGES, before_end, bytes_of, changed, ends_within_debug, examples, spelled};
 use std::alloc::{AllocError, Global};
 use std::process::Abort;
 use std::test::Fail;
@@ -34,13 +33,13 @@ const IMAGES: &[(u32, &str, &[u32], &[u32])] = &[
     ),
     (
         3,
-        "3F3 0 1 0 0 1 / 3E9 1 FFFFFFFC / 3EC 1 0 0 0 / 3F2",
+        examples::RELOCATED,
         &[0x1000],
         &[0xFFC],
     ),
     (
         4,
-        "3F3 0 1 0 0 3 / 3E9 1 4E754E71 / 3F2",
+        examples::ENDING_EARLY,
         &[0x21000],
         &[0x4E75_4E71, 0, 0],
     ),
@@ -55,7 +54,7 @@ const IMAGES: &[(u32, &str, &[u32], &[u32])] = &[
     ),
     (
         11,
-        "3F3 0 1 0 0 2 / 3E9 2 0 0 / 3EC 1 0 4 0 / 3F2",
+        examples::RELOCATED_AT_ITS_END,
         &[0x1000],
         &[0, 0x1000],
     ),
@@ -112,33 +111,25 @@ fn image_of_a_stripped_file(rt: HostRuntime) -> Result<(), Fail> {
     Ok(())
 }
 
-/// Example 15: END's block word 75 times within a DEBUG block, and then END.
-fn ends_within_debug(alloc: Global) -> Result<Vec<u8>, AllocError> {
-    let mut longs = [0x3F1, 75].to_vec(alloc)?;
-    longs.resize(77, 0x3F2)?;
-    before_end(alloc, longs.as_slice())
+/// Sees that the bytes have example 1's image.
+fn expect_same_image(rt: &impl Abort, alloc: Global, bytes: &[u8]) -> Result<(), Fail> {
+    let want = bytes_of(alloc, &[0x4E75_4E71])?;
+    assert_eq!(rt; image(alloc, bytes, &[0x21000]), Some(Ok(want)));
+    Ok(())
 }
 
 /// Kept flags, debug data and an advisory block leave the image as it is.
 #[test]
 fn same_images(rt: HostRuntime) -> Result<(), Fail> {
-    let rows = [
-        changed(rt.alloc(), 24, 0x2000_03E9)?,
-        changed(rt.alloc(), 24, 0x4000_03E9)?,
-        changed(rt.alloc(), 28, 0x8000_0001)?,
-        changed(rt.alloc(), 36, 0x2000_03F2)?,
-        before_end(rt.alloc(), [0x3F1, 2, 0x3F2, 0x3F2].as_slice())?,
-        ends_within_debug(rt.alloc())?,
-        before_end(rt.alloc(), [0x2000_04D2, 2, 0xDEAD_BEEF, 0x3F2].as_slice())?,
-    ];
-    for bytes in &rows {
-        let want = bytes_of(rt.alloc(), [0x4E75_4E71].as_slice())?;
-        assert_eq!(rt;
-            image(rt.alloc(), bytes.as_slice(), [0x21000].as_slice()),
-            Some(Ok(want))
-        );
+    let alloc = rt.alloc();
+    for (byte, word, fault) in CHANGES {
+        if fault.is_none() {
+            expect_same_image(&rt, alloc, &changed(alloc, *byte, *word)?)?;
+        }
     }
-    Ok(())
+    expect_same_image(&rt, alloc, &before_end(alloc, &[0x3F1, 2, 0x3F2, 0x3F2])?)?;
+    expect_same_image(&rt, alloc, &ends_within_debug(alloc)?)?;
+    expect_same_image(&rt, alloc, &spelled(alloc, examples::WITH_AN_ADVISORY)?)
 }
 
 /// Lists of bases with one too few or too many, for an example of one hunk: examples 1 and 6.
