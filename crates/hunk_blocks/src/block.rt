@@ -68,7 +68,7 @@ impl<'a> Block<'a> {
             fault.reason ≢ reasons.OutOfMemory → BeginsWithNoBlock mode bytes.entry.now) }
         ensures fault { IfErr result (λ fault. fault.reason ≢ reasons.OutOfMemory →
             HasBlockFault mode bytes.entry.now fault.place fault.reason) }
-        ensures own { IfErr result (λ fault. IsTrue (is_block_refusal fault.reason)) }
+        ensures own_reasons { IfErr result (λ fault. IsTrue (is_block_refusal fault.reason)) }
         ensures object { mode ≡ modes.Object
             → IfErr result (λ fault. fault.reason ≢ reasons.NotInLoadFile) }
         ensures memory { IfErr result (λ fault. fault.reason ≡ reasons.OutOfMemory →
@@ -134,9 +134,9 @@ impl<'a> Block<'a> {
         requires { writer.old.written + length (bytes_of (block_text self.now)) < 2 ^ 64 }
         ensures puts { Puts (W.taken writer.old.sink) (W.taken writer.new.sink)
             writer.old.written writer.new.written (bytes_of (block_text self.now)) }
-        ensures whole { OnOk result (writer.new.written ≡ writer.old.written
+        ensures written { OnOk result (writer.new.written ≡ writer.old.written
             + length (bytes_of (block_text self.now))) }
-        ensures told { IfErr result (λ fault. fault.written ≡ writer.new.written) }
+        ensures stopped { IfErr result (λ fault. fault.written ≡ writer.new.written) }
         ensures failed { OnErr result (W.failed writer.new.sink ≡ true) }
         ensures stops { writer.new.stopped ≡ is_err result }
         ensures stays { writer.old.stopped ≡ true → IsErr result × (writer.new ≡ writer.old) }
@@ -152,9 +152,9 @@ fn put_block<W: Sink>(writer: &mut LongWriter<W>, block: &Block<'_>) -> Result<(
     requires { writer.old.written + length (bytes_of (block_text block.now)) < 2 ^ 64 }
     ensures puts { Puts (W.taken writer.old.sink) (W.taken writer.new.sink)
         writer.old.written writer.new.written (bytes_of (block_text block.now)) }
-    ensures whole { OnOk result (writer.new.written ≡ writer.old.written
+    ensures written { OnOk result (writer.new.written ≡ writer.old.written
         + length (bytes_of (block_text block.now))) }
-    ensures told { IfErr result (λ fault. fault.written ≡ writer.new.written) }
+    ensures stopped { IfErr result (λ fault. fault.written ≡ writer.new.written) }
     ensures failed { OnErr result (W.failed writer.new.sink ≡ true) }
     ensures stops { writer.new.stopped ≡ is_err result }
     ensures quiet { OnOk result (W.failed writer.new.sink ≡ W.failed writer.old.sink) }

@@ -33,7 +33,7 @@ impl<'a> Payload<'a> {
     /// The bytes, those of whole longwords.
     pub fn bytes(&self) -> &'a [u8]
         ensures value { result.now ≡ self.now }
-        ensures whole { bytes_of (longs result.now) ≡ result.now }
+        ensures longwords { bytes_of (longs result.now) ≡ result.now }
     {
         self.bytes
     }

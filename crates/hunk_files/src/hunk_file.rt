@@ -85,9 +85,9 @@ impl<'a> HunkFile<'a> {
         requires { writer.old.written + length (file_bytes self.now) < 2 ^ 64 }
         ensures puts { Puts (W.taken writer.old.sink) (W.taken writer.new.sink)
             writer.old.written writer.new.written (file_bytes self.now) }
-        ensures whole { OnOk result (writer.new.written
+        ensures written { OnOk result (writer.new.written
             ≡ writer.old.written + length (file_bytes self.now)) }
-        ensures told { IfErr result (λ fault. fault.written ≡ writer.new.written) }
+        ensures stopped { IfErr result (λ fault. fault.written ≡ writer.new.written) }
         ensures failed { OnErr result (W.failed writer.new.sink ≡ true) }
         ensures stops { writer.new.stopped ≡ is_err result }
         ensures stays { writer.old.stopped ≡ true → IsErr result × (writer.new ≡ writer.old) }

@@ -61,7 +61,7 @@ impl Assembler {
     pub fn take(&mut self, piece: &[u8]) -> (usize, Option<u32>)
         ensures fits { result.0 ≤ length piece.now }
         ensures gathers { Gathers (self.old ++ take result.0 piece.now) self.new result.1 }
-        ensures whole { IfNone result.1 (result.0 ≡ length piece.now) }
+        ensures takes_all { IfNone result.1 (result.0 ≡ length piece.now) }
         ensures bound { length self.new < 4 }
     {
         // The proof learns the bound on what is pending.

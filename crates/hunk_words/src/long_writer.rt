@@ -98,8 +98,8 @@ impl<W: Sink> LongWriter<W> {
         requires { self.old.written + length bytes.now < 2 ^ 64 }
         ensures puts { Puts (W.taken self.old.sink) (W.taken self.new.sink)
             self.old.written self.new.written bytes.now }
-        ensures whole { OnOk result (self.new.written ≡ self.old.written + length bytes.now) }
-        ensures told { IfErr result (λ fault. fault.written ≡ self.new.written) }
+        ensures written { OnOk result (self.new.written ≡ self.old.written + length bytes.now) }
+        ensures stopped { IfErr result (λ fault. fault.written ≡ self.new.written) }
         ensures failed { OnErr result (W.failed self.new.sink ≡ true) }
         ensures stops { self.new.stopped ≡ is_err result }
         ensures stays { self.old.stopped ≡ true → IsErr result × (self.new ≡ self.old) }
@@ -134,8 +134,8 @@ impl<W: Sink> LongWriter<W> {
         requires { self.old.written + 4 < 2 ^ 64 }
         ensures puts { Puts (W.taken self.old.sink) (W.taken self.new.sink)
             self.old.written self.new.written (bytes_of (word ∷ [])) }
-        ensures whole { OnOk result (self.new.written ≡ self.old.written + 4) }
-        ensures told { IfErr result (λ fault. fault.written ≡ self.new.written) }
+        ensures written { OnOk result (self.new.written ≡ self.old.written + 4) }
+        ensures stopped { IfErr result (λ fault. fault.written ≡ self.new.written) }
         ensures failed { OnErr result (W.failed self.new.sink ≡ true) }
         ensures stops { self.new.stopped ≡ is_err result }
         ensures stays { self.old.stopped ≡ true → IsErr result × (self.new ≡ self.old) }

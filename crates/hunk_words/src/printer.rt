@@ -117,9 +117,9 @@ impl<'a, W: Sink, const ROOM: usize> PagePrinter<'a, W, ROOM> {
         ensures same_reference { self.new.out.ghost_name ≡ self.old.origin.name }
         ensures puts { Puts self.old.origin.taken (W.taken self.new.out.now.sink)
             self.old.origin.written self.new.out.now.written self.old.text }
-        ensures whole { OnOk result
+        ensures written { OnOk result
             (self.new.out.now.written ≡ self.old.origin.written + length self.old.text) }
-        ensures told { IfErr result (λ fault. fault.written ≡ self.new.out.now.written) }
+        ensures stopped { IfErr result (λ fault. fault.written ≡ self.new.out.now.written) }
         ensures failed { OnErr result (W.failed self.new.out.now.sink ≡ true) }
         ensures stops { self.new.out.now.stopped ≡ is_err result }
         ensures quiet { OnOk result (W.failed self.new.out.now.sink ≡ self.old.origin.failed) }

@@ -50,7 +50,7 @@ impl<'a> LoadFile<'a> {
     pub fn decode(alloc: Global, bytes: &'a [u8]) -> Result<(LoadFile<'a>, usize), FileFault>
         ensures value { IfOk result (λ r. IsLoadFile r.0) }
         ensures text { IfOk result (λ r. take r.1 bytes.entry.now ≡ bytes_of (text r.0)) }
-        ensures whole { IfOk result (λ r. r.1 ≤ length bytes.entry.now) }
+        ensures within { IfOk result (λ r. r.1 ≤ length bytes.entry.now) }
         ensures fault { IfErr result (λ fault. fault.reason ≢ reasons.OutOfMemory →
             HasFault bytes.entry.now fault.place fault.reason) }
         ensures none { IfErr result (λ fault. fault.reason ≢ reasons.OutOfMemory →
@@ -59,7 +59,7 @@ impl<'a> LoadFile<'a> {
             BeginsWithLoadFile bytes.entry.now) }
         ensures reached { IfErr result (λ fault. fault.reason ≡ reasons.OutOfMemory →
             IsFrontTo loads (longs bytes.entry.now) fault.place) }
-        ensures own { IfErr result (λ fault. IsTrue (is_load_refusal fault.reason)) }
+        ensures own_reasons { IfErr result (λ fault. IsTrue (is_load_refusal fault.reason)) }
     {
         let size = walk(bytes)?;
         let file = &bytes[..size];

@@ -60,7 +60,7 @@ impl<'a> ObjectFile<'a> {
         ensures hidden { IfErr result (λ fault. fault.reason ≡ reasons.OutOfMemory →
             (at : ℕ) (reason : Reason) →
             HasObjectFault bytes.entry.now at reason → fault.place < at) }
-        ensures own { IfErr result (λ fault. IsTrue (is_object_refusal fault.reason)) }
+        ensures own_reasons { IfErr result (λ fault. IsTrue (is_object_refusal fault.reason)) }
     {
         let mut units = Vec::new(alloc);
         let mut at = 0;

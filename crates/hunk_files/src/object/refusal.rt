@@ -15,7 +15,7 @@ pub(super) const UNIT: u32 = 0x3E7;
 pub(super) fn refuse_unit_word(word: BlockWord) -> Option<Reason>
     ensures test { result ≡ refuse_word BeforeUnits word }
     ensures unit { IsNone result ↔ (word ≡ unit_word) }
-    ensures own { IfSome result (λ reason. IsTrue (is_object_refusal reason)) }
+    ensures own_reasons { IfSome result (λ reason. IsTrue (is_object_refusal reason)) }
 {
     if word.word() == UNIT {
         return None;

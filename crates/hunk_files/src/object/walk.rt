@@ -70,7 +70,7 @@ fn read_block<'a>(
         BeginsWithNo (MayStand has_content) block_text (longs bytes.entry.now)) }
     ensures fault { (place : WordPlace) → MayGoOn place has_content bytes.entry.now →
         IfErr result (λ fault. FaultAhead (blocks_from place) (unread bytes.entry.now) fault) }
-    ensures own { IfErr result (λ fault. IsTrue (is_object_refusal fault.reason)) }
+    ensures own_reasons { IfErr result (λ fault. IsTrue (is_object_refusal fault.reason)) }
 {
     let word = match long_at(bytes, 0) {
         Ok(word) => BlockWord::of(word),
@@ -101,7 +101,7 @@ pub(super) fn read_hunk<'a>(
     ensures fault { first_long bytes.entry.now ≢ unit_word →
         IfErr result (λ fault.
         FaultAhead (blocks_from BetweenHunks) (unread bytes.entry.now) fault) }
-    ensures own { IfErr result (λ fault. IsTrue (is_object_refusal fault.reason)) }
+    ensures own_reasons { IfErr result (λ fault. IsTrue (is_object_refusal fault.reason)) }
 {
     let mut blocks = Vec::new(alloc);
     let mut has_content = false;
@@ -130,7 +130,7 @@ fn read_header(bytes: &[u8]) -> Result<(Payload<'_>, usize), FileFault>
     ensures none { OnErr result (BeginsWithNo (IsPayload name_limit) unit_header (longs bytes.entry.now)) }
     ensures fault { (place : WordPlace) → MayBegin place bytes.entry.now →
         IfErr result (λ fault. FaultAhead (units_from place) (unread bytes.entry.now) fault) }
-    ensures own { IfErr result (λ fault. IsTrue (is_object_refusal fault.reason)) }
+    ensures own_reasons { IfErr result (λ fault. IsTrue (is_object_refusal fault.reason)) }
 {
     let word = BlockWord::of(long_at(bytes, 0)?);
     if let Some(reason) = refuse_unit_word(word) {
@@ -159,7 +159,7 @@ pub(super) fn read_unit<'a>(alloc: Global, bytes: &'a [u8]) -> Result<(Unit<'a>,
         (λ fault. fault.reason ≢ reasons.OutOfMemory → IsNoObjectFile bytes.entry.now) }
     ensures fault { (place : WordPlace) → MayBegin place bytes.entry.now →
         IfErr result (λ fault. FaultAhead (units_from place) (unread bytes.entry.now) fault) }
-    ensures own { IfErr result (λ fault. IsTrue (is_object_refusal fault.reason)) }
+    ensures own_reasons { IfErr result (λ fault. IsTrue (is_object_refusal fault.reason)) }
 {
     let (name, mut at) = match read_header(bytes) {
         Ok(read) => read,

@@ -57,9 +57,9 @@ fn put_units<W: Sink>(writer: &mut LongWriter<W>, units: &[Unit<'_>]) -> Result<
     requires { writer.old.written + length (bytes_of (object_text units.now)) < 2 ^ 64 }
     ensures puts { Puts (W.taken writer.old.sink) (W.taken writer.new.sink)
         writer.old.written writer.new.written (bytes_of (object_text units.now)) }
-    ensures whole { OnOk result (writer.new.written
+    ensures written { OnOk result (writer.new.written
         ≡ writer.old.written + length (bytes_of (object_text units.now))) }
-    ensures told { IfErr result (λ fault. fault.written ≡ writer.new.written) }
+    ensures stopped { IfErr result (λ fault. fault.written ≡ writer.new.written) }
     ensures failed { OnErr result (W.failed writer.new.sink ≡ true) }
     ensures stops { writer.new.stopped ≡ is_err result }
     ensures quiet { OnOk result (W.failed writer.new.sink ≡ W.failed writer.old.sink) }
@@ -81,9 +81,9 @@ impl ObjectFile<'_> {
         requires { writer.old.written + length (bytes_of (object_text self.now)) < 2 ^ 64 }
         ensures puts { Puts (W.taken writer.old.sink) (W.taken writer.new.sink)
             writer.old.written writer.new.written (bytes_of (object_text self.now)) }
-        ensures whole { OnOk result (writer.new.written
+        ensures written { OnOk result (writer.new.written
             ≡ writer.old.written + length (bytes_of (object_text self.now))) }
-        ensures told { IfErr result (λ fault. fault.written ≡ writer.new.written) }
+        ensures stopped { IfErr result (λ fault. fault.written ≡ writer.new.written) }
         ensures failed { OnErr result (W.failed writer.new.sink ≡ true) }
         ensures stops { writer.new.stopped ≡ is_err result }
         ensures stays { writer.old.stopped ≡ true → IsErr result × (writer.new ≡ writer.old) }

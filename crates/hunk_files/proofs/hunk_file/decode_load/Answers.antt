@@ -5,7 +5,7 @@ use Rattle.hunk_files.proofs.hunk_file.decode_load.Goals as goal
 
 pub returns-in-Ok-clause-ok : goal.returns-in-Ok-clause-ok
 returns-in-Ok-clause-ok c =
-    load_of c.args.bytes.now c.in-Ok.file c.in-Ok.size c.in-Ok.ensures.value c.in-Ok.ensures.text c.in-Ok.ensures.whole _ (sym (length-drop c.in-Ok.size c.args.bytes.now))
+    load_of c.args.bytes.now c.in-Ok.file c.in-Ok.size c.in-Ok.ensures.value c.in-Ok.ensures.text c.in-Ok.ensures.within _ (sym (length-drop c.in-Ok.size c.args.bytes.now))
 
 pub returns-in-Err-clause-refused : goal.returns-in-Err-clause-refused
-returns-in-Err-clause-refused c = λ other. (c.in-Err.ensures.fault other, c.in-Err.ensures.own)
+returns-in-Err-clause-refused c = λ other. (c.in-Err.ensures.fault other, c.in-Err.ensures.own_reasons)

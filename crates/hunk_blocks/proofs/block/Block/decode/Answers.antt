@@ -20,8 +20,8 @@ pub returns-in-Some-clause-none : goal.returns-in-Some-clause-none
 returns-in-Some-clause-none c ne =
     word_refused c.args.mode c.args.bytes.now c.of-word.result c.long.new.self.rest c.in-Some.reason (first_word_read c.args.bytes.now c.new-reader.result c.long.new.self c.of-word.result c.in_ok-long.field-0 c.new-reader.ensures.rest c.in_ok-long.ensures.read c.of-word.ensures) (sym c.refuse.ensures ∙ c.in-Some.is)
 
-pub returns-in-Some-clause-own : goal.returns-in-Some-clause-own
-returns-in-Some-clause-own c = refusal_own c.args.mode c.of-word.result c.in-Some.reason (sym c.refuse.ensures ∙ c.in-Some.is)
+pub returns-in-Some-clause-own_reasons : goal.returns-in-Some-clause-own_reasons
+returns-in-Some-clause-own_reasons c = refusal_own c.args.mode c.of-word.result c.in-Some.reason (sym c.refuse.ensures ∙ c.in-Some.is)
 
 pub returns-in_err-body-clause-none : goal.returns-in_err-body-clause-none
 returns-in_err-body-clause-none c =

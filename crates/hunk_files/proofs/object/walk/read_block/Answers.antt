@@ -9,8 +9,8 @@ use Rattle.hunk_words.proofs.LongLaws.{longs-few}
 use Rattle.hunk_files.proofs.HunkFaults.{one_word, word_ahead, hunk_missing, both_bits, misplaced, refused_ahead}
 use Rattle.hunk_files.proofs.object.walk.read_block.Goals as goal
 
-pub returns-in-Some-clause-own : goal.returns-in-Some-clause-own
-returns-in-Some-clause-own c = place_own c.args.has_content (standing_of_kind c.kind.result) c.in-Some.reason (sym c.refuse_place.ensures ∙ c.in-Some.is)
+pub returns-in-Some-clause-own_reasons : goal.returns-in-Some-clause-own_reasons
+returns-in-Some-clause-own_reasons c = place_own c.args.has_content (standing_of_kind c.kind.result) c.in-Some.reason (sym c.refuse_place.ensures ∙ c.in-Some.is)
 
 pub returns-clause-place : goal.returns-clause-place
 returns-clause-place c =
@@ -21,8 +21,8 @@ returns-clause-place c =
 pub returns-clause-none : goal.returns-clause-none
 returns-clause-none c = err_of c.decode.result _ _ c.decode.ensures.none (λ fault h ne. no_block c.args.bytes.now c.args.has_content (λ i. omega (arith, c.type_inv.bytes i)) (h ne))
 
-pub returns-clause-own : goal.returns-clause-own
-returns-clause-own c = err_both c.decode.result _ _ _ c.decode.ensures.own (c.decode.ensures.object refl) (λ fault own other. block_own fault.reason own other)
+pub returns-clause-own_reasons : goal.returns-clause-own_reasons
+returns-clause-own_reasons c = err_both c.decode.result _ _ _ c.decode.ensures.own_reasons (c.decode.ensures.object refl) (λ fault own other. block_own fault.reason own other)
 
 pub returns-in-Err-clause-fault : goal.returns-in-Err-clause-fault
 returns-in-Err-clause-fault c place may = hunk_missing place c.args.bytes.now c.in-Err.fault (longs-few c.args.bytes.now (omega (arith, c.in-Err.ensures.short))) c.in-Err.ensures.cut

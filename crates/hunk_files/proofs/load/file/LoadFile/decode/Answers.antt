@@ -43,8 +43,8 @@ returns-in_err-size-clause-none c =
     let p = err_from_is_err_and c.from_residual.result c.from_residual.ensures.1 in
     rw (p.1, p.2) (λ other file. no_fault c.args.bytes.now c.in_err-size.field-0.0.place c.in_err-size.field-0.0.reason file c.in_err-size.ensures)
 
-pub returns-in_err-size-clause-own : goal.returns-in_err-size-clause-own
-returns-in_err-size-clause-own c =
+pub returns-in_err-size-clause-own_reasons : goal.returns-in_err-size-clause-own_reasons
+returns-in_err-size-clause-own_reasons c =
     let p = err_from_is_err_and c.from_residual.result c.from_residual.ensures.1 in
     rw (p.1, p.2) (fault_of_load c.args.bytes.now c.in_err-size.field-0.0.place c.in_err-size.field-0.0.reason c.in_err-size.ensures)
 
