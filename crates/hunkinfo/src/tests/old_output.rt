@@ -17,14 +17,44 @@ const DAMAGED: &str =
 
 const OLD: &[u8] = b"an old file that is longer than the one that takes its place";
 
-const INPUT: &str = "hunkinfo-test.in";
+/// The files of a run, in a folder that no other run has.
+#[derive(Drop)]
+struct Files {
+    folder: String,
+    input: String,
+    output: String,
+}
 
-const OUTPUT: &str = "hunkinfo-test.out";
+impl Files {
+    /// Makes the first folder of `hunkinfo-test-0` and so on that is not there yet.
+    fn new(rt: &HostRuntime) -> Result<Files, Fail> {
+        for number in 0..10_000u32 {
+            let folder = format!(in rt.alloc(); "hunkinfo-test-{number}")?;
+            if fs::create_dir(rt, &folder).is_ok() {
+                let input = format!(in rt.alloc(); "{folder}/in")?;
+                let output = format!(in rt.alloc(); "{folder}/out")?;
+                return Ok(Files {
+                    folder,
+                    input,
+                    output,
+                });
+            }
+        }
+        Err("no folder can be made")?
+    }
 
-/// The status of `rewrite` from INPUT to OUTPUT.
-fn rewrite(rt: &HostRuntime) -> Result<u8, Fail> {
+    fn remove(&self, rt: &HostRuntime) -> Result<(), Fail> {
+        fs::remove_file(rt, &self.input)?;
+        fs::remove_file(rt, &self.output)?;
+        fs::remove_dir(rt, &self.folder)?;
+        Ok(())
+    }
+}
+
+/// The status of `rewrite` from the input to the output.
+fn rewrite(rt: &HostRuntime, files: &Files) -> Result<u8, Fail> {
     let mut words = Vec::new(rt.alloc());
-    for word in ["hunkinfo", "rewrite", INPUT, OUTPUT] {
+    for word in ["hunkinfo", "rewrite", &files.input, &files.output] {
         words.push(String::from_str(rt.alloc(), word)?)?;
     }
     let mut out = LongWriter::new(FromWrite::new(Vec::<u8>::new(rt.alloc())));
@@ -39,19 +69,19 @@ struct After {
     output: Vec<u8>,
 }
 
-/// Rewrites a file of these bytes, where OUTPUT is an old file.
-fn rewritten(rt: &HostRuntime, bytes: &[u8]) -> Result<After, Fail> {
-    fs::write(rt, INPUT, bytes)?;
-    fs::write(rt, OUTPUT, OLD)?;
-    let status = rewrite(rt)?;
+/// Rewrites a file of these bytes, where the output is an old file.
+fn rewritten(rt: &HostRuntime, files: &Files, bytes: &[u8]) -> Result<After, Fail> {
+    fs::write(rt, &files.input, bytes)?;
+    fs::write(rt, &files.output, OLD)?;
+    let status = rewrite(rt, files)?;
     Ok(After {
         status,
-        input: fs::read(rt, INPUT)?,
-        output: fs::read(rt, OUTPUT)?,
+        input: fs::read(rt, &files.input)?,
+        output: fs::read(rt, &files.output)?,
     })
 }
 
-/// Tells whether the rewriting of these bytes ends so, and leaves these bytes in OUTPUT.
+/// Sees that the rewriting of these bytes ended so, and left the input as it was and these bytes in the output.
 fn expect(rt: &impl Abort, after: &After, bytes: &[u8], want: &[u8], status: u8) {
     assert_eq!(rt; after.status, status);
     assert_eq!(rt; after.output.as_slice(), want);
@@ -60,16 +90,15 @@ fn expect(rt: &impl Abort, after: &After, bytes: &[u8], want: &[u8], status: u8)
 
 #[test]
 fn keeps_an_old_output(rt: HostRuntime) -> Result<(), Fail> {
+    let files = Files::new(&rt)?;
     let file = unhex(rt.alloc(), FILE.as_bytes())?;
     let damaged = unhex(rt.alloc(), DAMAGED.as_bytes())?;
     // A refused IN leaves OUT as it was.
     for bytes in [b"\0\0\x03\xF3".as_slice(), damaged.as_slice()] {
-        expect(&rt, &rewritten(&rt, bytes)?, bytes, OLD, 1);
+        expect(&rt, &rewritten(&rt, &files, bytes)?, bytes, OLD, 1);
     }
     // One that is accepted takes its place.
     let bytes = file.as_slice();
-    expect(&rt, &rewritten(&rt, bytes)?, bytes, bytes, 0);
-    fs::remove_file(&rt, INPUT)?;
-    fs::remove_file(&rt, OUTPUT)?;
-    Ok(())
+    expect(&rt, &rewritten(&rt, &files, bytes)?, bytes, bytes, 0);
+    files.remove(&rt)
 }
