@@ -57,6 +57,16 @@ pub const OBJECT: &str = "3E7 1 61000000 / 3E9 2 4EB90000 00004E75 / \
 pub const OBJECT_AMISS: &str = "3E7 1 61000000 / 3E9 2 4EB90000 00004E75 / \
     3EF 81000001 5F660000 1 5 1000001 5F6D0000 0 0 / 3F2";
 
+/// Example 16: headers whose last hunk is not the last of their number, of no hunk, and of one hunk too many.
+pub const LAST_HUNK_AMISS: &str = "3F3 0 2 0 0";
+
+pub const NO_HUNKS: &str = "3F3 0 0";
+
+pub const TOO_MANY_HUNKS: &str = "3F3 0 10001";
+
+/// Example 17: the header of the largest hunk that can be declared.
+pub const LARGEST_HUNK: &str = "3F3 0 1 0 0 3FFFFFFF";
+
 /// Example 18: a symbol.
 pub const WITH_A_SYMBOL: &str = "3F3 0 1 0 0 1 / 3E9 1 4E754E71 / 3F0 1 5F6D0000 0 0 / 3F2";
 
@@ -65,6 +75,9 @@ pub const WITH_AN_ADVISORY: &str = "3F3 0 1 0 0 1 / 3E9 1 4E754E71 / 200004D2 2 
 
 /// Example 24: a name with bytes that are not printed as they are.
 pub const WITH_A_NAME: &str = "3F3 0 1 0 0 1 / 3E8 1 2E740A5C / 3E9 1 4E754E71 / 3F2";
+
+/// Example 24 with a number of longwords whose top byte is not 0, up to there.
+pub const NAME_WORD_AMISS: &str = "3F3 0 1 0 0 1 / 3E8 1000001";
 
 /// Example 26: an object file of one unit without a hunk.
 pub const EMPTY_UNIT: &str = "3E7 0";
@@ -89,6 +102,16 @@ pub const RELOCATED_BEHIND_SYMBOLS: &str = "3F3 0 1 0 0 1 / 3E9 1 10 / 3F0 0 / 3
 /// What strip leaves of example 37.
 pub const RELOCATED_ALONE: &str = "3F3 0 1 0 0 1 / 3E9 1 10 / 3EC 1 0 0 0 / 3F2";
 
+/// Example 41: the most content, the most offsets of a target that is no hunk and of one that is, and the most
+/// debug data that a file can announce, where it ends.
+pub const MOST_CONTENT: &str = "3F3 0 1 0 0 1 / 3E9 3FFFFFFF";
+
+pub const MOST_OFFSETS_BY_NO_HUNK: &str = "3F3 0 1 0 0 1 / 3E9 1 0 / 3EC FFFFFFFF 1";
+
+pub const MOST_OFFSETS: &str = "3F3 0 1 0 0 1 / 3E9 1 0 / 3EC FFFFFFFF 0";
+
+pub const MOST_DEBUG_DATA: &str = "3F3 0 1 0 0 1 / 3F1 FFFFFFFF";
+
 /// Example 44: an object file with an advisory block before its content, and what strip leaves of it.
 pub const OBJECT_WITH_AN_ADVISORY: &str = "3E7 0 / 200004D2 0 / 3EB 1 / 3F2";
 
@@ -97,6 +120,9 @@ pub const OBJECT_WITHOUT_IT: &str = "3E7 0 / 3EB 1 / 3F2";
 /// Example 45: an object file with relative relocations and references.
 pub const RELATIVE_OBJECT: &str = "3E7 1 61000000 / 3E9 2 0 0 / 3FD 1 0 4 0 / 3FE 1 0 6 0 / \
     3EF 88000001 5F660000 1 4 8A000001 5F670000 1 7 0 / 3F2";
+
+/// The front of a header of as many hunks as there can be, up to its table.
+pub const MOST_HUNKS: &str = "3F3 0 10000 0 FFFF";
 
 /// A load file of five hunks, one with relocations and symbols, one of six blocks.
 pub const FIVE_HUNKS: &str = "3F3 0 5 0 4 2 C0000001 10004 0 0 1 / \
