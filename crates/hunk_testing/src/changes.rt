@@ -47,16 +47,26 @@ pub const CHANGES: &[Change] = &[
     (36, 0x6000_04D2, Some((40, Reason::Truncated))),
 ];
 
-/// The bytes of example 1 with another longword at this byte.
-pub fn changed(alloc: Global, byte: usize, word: u32) -> Result<Vec<u8>, AllocError> {
+/// The bytes that the text spells, with another longword at this byte.
+pub fn changed_in(
+    alloc: Global,
+    text: &str,
+    byte: usize,
+    word: u32,
+) -> Result<Vec<u8>, AllocError> {
     let new = word.to_be_bytes();
-    let mut bytes = spelled(alloc, examples::ONE_HUNK)?;
+    let mut bytes = spelled(alloc, text)?;
     for (i, place) in bytes.iter_mut().enumerate() {
         if i / 4 * 4 == byte {
             *place = new[i % 4];
         }
     }
     Ok(bytes)
+}
+
+/// The bytes of example 1 with another longword at this byte.
+pub fn changed(alloc: Global, byte: usize, word: u32) -> Result<Vec<u8>, AllocError> {
+    changed_in(alloc, examples::ONE_HUNK, byte, word)
 }
 
 /// The bytes of example 1 with these longwords before its END.

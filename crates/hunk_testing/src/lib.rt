@@ -9,7 +9,7 @@ mod growths;
 mod sources;
 mod writers;
 
-pub use crate::changes::{CHANGES, Change, before_end, changed, ends_within_debug};
+pub use crate::changes::{CHANGES, Change, before_end, changed, changed_in, ends_within_debug};
 pub use crate::computed::{Computed, Longs};
 pub use crate::growths::{
     Held, all_but, all_memory, answers_growth_by_growth, left_beside, memory_ends,
