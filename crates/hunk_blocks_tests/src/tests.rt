@@ -12,8 +12,8 @@ mod writing;
 use hunk_words::{BlockFault, Reason};
 use std::alloc::{AllocError, Global};
 
-/// Longwords with the number of bytes of their block, or with the place and the reason of a refusal.
-type Row = (&'static [u32], u64, Option<Reason>);
+/// A block with the number of its bytes, or with the place and the reason of a refusal.
+type Row = (&'static str, u64, Option<Reason>);
 
 fn wanted(number: u64, reason: Option<Reason>) -> Result<usize, BlockFault> {
     match reason {

@@ -1,7 +1,7 @@
 //! The types of EXT entries: their numbers, names, shapes and widths.
 
 use hunk_blocks::{Block, Body, ExtKind, ExtShape, Mode};
-use hunk_testing::bytes_of;
+use hunk_testing::spelled;
 use std::alloc::Global;
 use std::process::Abort;
 use std::test::Fail;
@@ -85,25 +85,11 @@ fn of_no_type(rt: HostRuntime) -> Result<(), Fail> {
 }
 
 /// An entry of each shape: DEF, COMMON with a reference, REF8 with two.
-const ENTRIES: &[u32] = &[
-    0x3EF,
-    0x0100_0001,
-    0x5F66_0000,
-    7,
-    0x8200_0000,
-    16,
-    1,
-    4,
-    0x8400_0000,
-    2,
-    4,
-    8,
-    0,
-];
+const ENTRIES: &str = "3EF / 1000001 5F660000 7 / 82000000 10 1 4 / 84000000 2 4 8 / 0";
 
 #[test]
 fn of_entries(rt: HostRuntime) -> Result<(), Fail> {
-    let bytes = bytes_of(rt.alloc(), ENTRIES)?;
+    let bytes = spelled(rt.alloc(), ENTRIES)?;
     let (block, _) = Block::decode(rt.alloc(), bytes.as_slice(), Mode::Object)?;
     match block.body() {
         Body::Ext(entries) => {
@@ -121,31 +107,31 @@ fn of_entries(rt: HostRuntime) -> Result<(), Fail> {
 }
 
 /// Blocks, and how many bytes of content each has.
-const BLOCKS: &[(&[u32], Option<u64>)] = &[
-    (&[0x3E9, 2, 0, 0], Some(8)),
-    (&[0x3EA, 0x8000_0001, 0x1234_5678], Some(4)),
-    (&[0x3EB, 0x4000_0003], Some(12)),
-    (&[0x3F1, 1, 0], None),
-    (&[0x3EC, 0], None),
-    (&[0x3F2], None),
+const BLOCKS: &[(&str, Option<u64>)] = &[
+    ("3E9 2 0 0", Some(8)),
+    ("3EA 80000001 12345678", Some(4)),
+    ("3EB 40000003", Some(12)),
+    ("3F1 1 0", None),
+    ("3EC 0", None),
+    ("3F2", None),
 ];
 
 fn expect_content(
     rt: &impl Abort,
     alloc: Global,
-    longs: &[u32],
+    text: &str,
     want: Option<u64>,
 ) -> Result<(), Fail> {
-    let bytes = bytes_of(alloc, longs)?;
+    let bytes = spelled(alloc, text)?;
     let (block, _) = Block::decode(alloc, bytes.as_slice(), Mode::Load)?;
-    assert_eq!(rt; block.body().content_bytes(), want, "{longs:?}");
+    assert_eq!(rt; block.body().content_bytes(), want, "{text}");
     Ok(())
 }
 
 #[test]
 fn of_content(rt: HostRuntime) -> Result<(), Fail> {
-    for (longs, want) in BLOCKS {
-        expect_content(&rt, rt.alloc(), longs, *want)?;
+    for (text, want) in BLOCKS {
+        expect_content(&rt, rt.alloc(), text, *want)?;
     }
     Ok(())
 }

@@ -1,63 +1,25 @@
 //! Each growth of a block's list refused in turn: at the first item, and at the fifth.
 
 use hunk_blocks::{Block, Mode};
-use hunk_testing::{answers_growth_by_growth, bytes_of};
+use hunk_testing::{answers_growth_by_growth, memory_ends, spelled};
 use hunk_words::{BlockFault, Reason};
 use std::alloc::{AllocError, Global};
 use std::process::Abort;
 use std::test::Fail;
 
 /// Five definitions, references and common symbols.
-const ENTRIES: &[u32] = &[
-    0x3EF,
-    0x0100_0001,
-    0x5F61_0000,
-    7, // at 0
-    0x8100_0001,
-    0x5F62_0000,
-    2,
-    0,
-    4,
-    0x8200_0000,
-    8,
-    1,
-    0, // at 16
-    0x0100_0000,
-    9,
-    0x8100_0000,
-    1,
-    0,
-    0, // at 52
-];
+const ENTRIES: &str = "3EF / 1000001 5F610000 7 / 81000001 5F620000 2 0 4 / 82000000 8 1 0 / \
+    1000000 9 / 81000000 1 0 / 0";
 
 /// Five symbols.
-const SYMBOLS: &[u32] = &[
-    0x3F0,
-    1,
-    0x5F61_0000,
-    1,
-    1,
-    0x5F62_0000,
-    2,
-    0x0100_0000,
-    3,
-    0x0100_0000,
-    4,
-    1,
-    0x5F65_0000,
-    5,
-    0,
-];
+const SYMBOLS: &str =
+    "3F0 / 1 5F610000 1 / 1 5F620000 2 / 1000000 3 / 1000000 4 / 1 5F650000 5 / 0";
 
 /// Five groups, the last of two offsets.
-const GROUPS: &[u32] = &[0x3EC, 1, 0, 0, 1, 1, 0, 1, 2, 0, 1, 3, 0, 2, 4, 0, 4, 0];
+const GROUPS: &str = "3EC / 1 0 0 / 1 1 0 / 1 2 0 / 1 3 0 / 2 4 0 4 / 0";
 
 /// Blocks, and the longwords that complete their first and their fifth item.
-const BLOCKS: &[(&[u32], [u64; 2])] = &[
-    (ENTRIES, [12, 68]),
-    (SYMBOLS, [12, 52]),
-    (GROUPS, [12, 64]),
-];
+const BLOCKS: &[(&str, [u64; 2])] = &[(ENTRIES, [12, 68]), (SYMBOLS, [12, 52]), (GROUPS, [12, 64])];
 
 fn refused_at(place: u64) -> Option<BlockFault> {
     Some(BlockFault {
@@ -67,8 +29,8 @@ fn refused_at(place: u64) -> Option<BlockFault> {
 }
 
 /// Sees that memory is refused at these places in turn, and that the block is read then.
-fn expect(rt: &impl Abort, alloc: Global, longs: &[u32], places: [u64; 2]) -> Result<(), Fail> {
-    let bytes = bytes_of(alloc, longs)?;
+fn expect(rt: &impl Abort, alloc: Global, text: &str, places: [u64; 2]) -> Result<(), Fail> {
+    let bytes = spelled(alloc, text)?;
     let answers = answers_growth_by_growth(
         alloc,
         || Block::decode(alloc, &bytes, Mode::Object).err(),
@@ -81,8 +43,11 @@ fn expect(rt: &impl Abort, alloc: Global, longs: &[u32], places: [u64; 2]) -> Re
 
 #[test]
 fn of_lists(rt: HostRuntime) -> Result<(), Fail> {
-    for (longs, places) in BLOCKS {
-        expect(&rt, rt.alloc(), longs, *places)?;
+    if !memory_ends(&rt)? {
+        return Ok(());
+    }
+    for (text, places) in BLOCKS {
+        expect(&rt, rt.alloc(), text, *places)?;
     }
     Ok(())
 }

@@ -1,7 +1,7 @@
 //! What a block that was read tells.
 
 use hunk_blocks::{Block, Body, Groups, Mode, Payload};
-use hunk_testing::bytes_of;
+use hunk_testing::{bytes_of, spelled};
 use std::alloc::{AllocError, Global};
 use std::process::Abort;
 use std::test::Fail;
@@ -21,7 +21,7 @@ fn of_words_and_sizes(rt: HostRuntime) -> Result<(), Fail> {
         assert_eq!(rt; block.word().word(), word);
         assert!(rt; matches!(block.body(), Body::End));
     }
-    let bytes = bytes_of(rt.alloc(), [0x3EB, 0x8000_0002].as_slice())?;
+    let bytes = spelled(rt.alloc(), "3EB 80000002")?;
     let (block, _) = Block::decode(rt.alloc(), bytes.as_slice(), Mode::Object)?;
     assert!(rt; matches!(block.body(), Body::Bss { size: 0x8000_0002 }));
     Ok(())
@@ -29,7 +29,7 @@ fn of_words_and_sizes(rt: HostRuntime) -> Result<(), Fail> {
 
 #[test]
 fn of_payloads(rt: HostRuntime) -> Result<(), Fail> {
-    let bytes = bytes_of(rt.alloc(), [0x3EA, 0x8000_0001, 0x1234_5678].as_slice())?;
+    let bytes = spelled(rt.alloc(), "3EA 80000001 12345678")?;
     let (block, _) = Block::decode(rt.alloc(), bytes.as_slice(), Mode::Load)?;
     match block.body() {
         Body::Data { top, payload } => {
@@ -45,7 +45,7 @@ fn of_payloads(rt: HostRuntime) -> Result<(), Fail> {
 
 #[test]
 fn of_groups_and_symbols(rt: HostRuntime) -> Result<(), Fail> {
-    let bytes = bytes_of(rt.alloc(), [0x3EC, 2, 1, 8, 4, 1, 0, 12, 0].as_slice())?;
+    let bytes = spelled(rt.alloc(), "3EC / 2 1 8 4 / 1 0 C / 0")?;
     let (block, _) = Block::decode(rt.alloc(), bytes.as_slice(), Mode::Load)?;
     match block.body() {
         Body::Reloc(groups) => {
@@ -58,10 +58,7 @@ fn of_groups_and_symbols(rt: HostRuntime) -> Result<(), Fail> {
         }
         _ => panic!(&rt; "RELOC32"),
     }
-    let bytes = bytes_of(
-        rt.alloc(),
-        [0x3F0, 0x0500_0001, 0x5F6D_0000, 9, 0].as_slice(),
-    )?;
+    let bytes = spelled(rt.alloc(), "3F0 5000001 5F6D0000 9 0")?;
     let (block, _) = Block::decode(rt.alloc(), bytes.as_slice(), Mode::Load)?;
     match block.body() {
         Body::Symbol(symbols) => {
@@ -77,20 +74,8 @@ fn of_groups_and_symbols(rt: HostRuntime) -> Result<(), Fail> {
 
 #[test]
 fn of_entries(rt: HostRuntime) -> Result<(), Fail> {
-    let longs = [
-        0x3EF,
-        0x8200_0000,
-        8,
-        0,
-        0x8100_0001,
-        0x5F66_0000,
-        1,
-        2,
-        0x0100_0000,
-        5,
-        0,
-    ];
-    let bytes = bytes_of(rt.alloc(), longs.as_slice())?;
+    let text = "3EF / 82000000 8 0 / 81000001 5F660000 1 2 / 1000000 5 / 0";
+    let bytes = spelled(rt.alloc(), text)?;
     let (block, _) = Block::decode(rt.alloc(), bytes.as_slice(), Mode::Object)?;
     match block.body() {
         Body::Ext(entries) => {
@@ -114,8 +99,8 @@ fn of_entries(rt: HostRuntime) -> Result<(), Fail> {
 }
 
 /// The targets and offsets of a relocation block, in turn; nothing where it has no group.
-fn relocations(alloc: Global, longs: &[u32]) -> Result<Option<Vec<(u32, u32)>>, AllocError> {
-    let bytes = bytes_of(alloc, longs)?;
+fn relocations(alloc: Global, text: &str) -> Result<Option<Vec<(u32, u32)>>, AllocError> {
+    let bytes = spelled(alloc, text)?;
     match Block::decode(alloc, bytes.as_slice(), Mode::Load) {
         Ok((block, _)) => match block.body() {
             Body::Reloc(groups) if !groups.is_empty() => Ok(Some(in_turn(alloc, groups)?)),
@@ -137,11 +122,11 @@ fn in_turn(alloc: Global, groups: &Groups<'_>) -> Result<Vec<(u32, u32)>, AllocE
 
 #[test]
 fn of_groups_in_turn(rt: HostRuntime) -> Result<(), Fail> {
-    let found = relocations(rt.alloc(), &[0x3EC, 1, 0, 4, 2, 1, 8, 12, 0])?;
+    let found = relocations(rt.alloc(), "3EC / 1 0 4 / 2 1 8 C / 0")?;
     let wanted = [(0, 4), (1, 8), (1, 12)];
     assert_eq!(rt; found.as_deref(), Some(wanted.as_slice()));
-    assert_eq!(rt; relocations(rt.alloc(), &[0x3EC, 0])?, None);
-    let found = relocations(rt.alloc(), &[0x3EC, 1, 0, 0, 0])?;
+    assert_eq!(rt; relocations(rt.alloc(), "3EC 0")?, None);
+    let found = relocations(rt.alloc(), "3EC 1 0 0 0")?;
     assert_eq!(rt; found.as_deref(), Some([(0, 0)].as_slice()), "example 33");
     Ok(())
 }
@@ -168,7 +153,7 @@ fn of_empty_bodies(rt: HostRuntime) -> Result<(), Fail> {
         expect_empty(&rt, rt.alloc(), 0x2000_04D2, 1, mode)?;
         expect_empty(&rt, rt.alloc(), 0x6000_04D2, 3, mode)?;
     }
-    let bytes = bytes_of(rt.alloc(), &[0x3F7, 0])?;
+    let bytes = spelled(rt.alloc(), "3F7 0")?;
     let (block, _) = Block::decode(rt.alloc(), &bytes, Mode::Object)?;
     assert!(rt; matches!(block.body(), Body::Reloc(groups) if groups.is_empty()));
     Ok(())
