@@ -1,8 +1,8 @@
 //! A file of either kind: which it is by its first longword, what follows it, and what is written of it.
 
-use crate::tests::{ONE_HUNK, before_end};
+use crate::tests::{ENTRY_OF_NO_TYPE, WITHOUT_A_UNIT};
 use hunk_files::HunkFile;
-use hunk_testing::bytes_of;
+use hunk_testing::{examples, spelled};
 use hunk_words::{FromWrite, LongWriter};
 use std::alloc::Global;
 use std::process::Abort;
@@ -16,82 +16,29 @@ enum Answer {
     Refused { place: u64, number: u8 },
 }
 
-/// Inputs by their longwords, each with the answer: no object file is read as a load file, and what
-/// announces neither is refused as a load file is.
-const INPUTS: &[(&[u32], Answer)] = &[
-    (&ONE_HUNK, Answer::Load { rest: 0 }),
+/// Inputs that are read: no object file is read as a load file.
+const READ: &[(&str, Answer)] = &[
+    (examples::ONE_HUNK, Answer::Load { rest: 0 }),
     (
-        &[0x3F3, 0, 1, 0, 0, 0, 0x3EB, 0, 0x3F2, 0x3F3, 0x3E7],
+        "3F3 0 1 0 0 0 / 3EB 0 / 3F2 / 3F3 3E7",
         Answer::Load { rest: 8 },
     ),
-    (&[0x3E7, 0], Answer::Object),
-    (
-        &[0x3E7, 0, 0x3E7, 1, 0x6200_0000, 0x3EB, 4, 0x3F2],
-        Answer::Object,
-    ),
-    (
-        &[],
-        Answer::Refused {
-            place: 0,
-            number: 26,
-        },
-    ),
-    (
-        &[0x3E7],
-        Answer::Refused {
-            place: 4,
-            number: 26,
-        },
-    ),
-    (
-        &[0x3F3],
-        Answer::Refused {
-            place: 4,
-            number: 26,
-        },
-    ),
-    (
-        &[0x3E7, 0, 1, 0, 0, 1, 0x3E9, 1, 0x4E75_4E71, 0x3F2],
-        Answer::Refused {
-            place: 8,
-            number: 16,
-        },
-    ),
-    (
-        &[0x3E7, 0, 0x3E9, 0, 0x3EF, 0x0300_0001],
-        Answer::Refused {
-            place: 20,
-            number: 25,
-        },
-    ),
-    (
-        &[0x3FA, 0],
-        Answer::Refused {
-            place: 0,
-            number: 3,
-        },
-    ),
-    (
-        &[0x3E9, 0],
-        Answer::Refused {
-            place: 0,
-            number: 1,
-        },
-    ),
-    (
-        &[0x2000_03E7, 0],
-        Answer::Refused {
-            place: 0,
-            number: 1,
-        },
-    ),
-    (
-        &[0x3F3, 1],
-        Answer::Refused {
-            place: 4,
-            number: 4,
-        },
-    ),
+    (examples::EMPTY_UNIT, Answer::Object),
+    (examples::EMPTY_UNIT_AND_ANOTHER, Answer::Object),
+];
+
+/// Inputs that are refused: the place, and the number of the reason. What announces neither kind of file is
+/// refused as a load file is.
+const REFUSED: &[(&str, u64, u8)] = &[
+    ("", 0, 26),
+    ("3E7", 4, 26),
+    ("3F3", 4, 26),
+    ("3E7 0 1 0 0 1 / 3E9 1 4E754E71 / 3F2", 8, 16),
+    (ENTRY_OF_NO_TYPE, 20, 25),
+    ("3FA 0", 0, 3),
+    (WITHOUT_A_UNIT, 0, 1),
+    ("200003E7 0", 0, 1),
+    ("3F3 1", 4, 4),
 ];
 
 fn decoded(alloc: Global, bytes: &[u8]) -> Answer {
@@ -106,10 +53,23 @@ fn decoded(alloc: Global, bytes: &[u8]) -> Answer {
 }
 
 #[test]
-fn decoded_as_announced(rt: HostRuntime) -> Result<(), Fail> {
-    for (longs, want) in INPUTS {
-        let bytes = bytes_of(rt.alloc(), longs)?;
-        assert_eq!(rt; decoded(rt.alloc(), bytes.as_slice()), *want);
+fn read_as_announced(rt: HostRuntime) -> Result<(), Fail> {
+    for (text, want) in READ {
+        let bytes = spelled(rt.alloc(), text)?;
+        assert_eq!(rt; decoded(rt.alloc(), &bytes), *want, "{text}");
+    }
+    Ok(())
+}
+
+#[test]
+fn refused_as_announced(rt: HostRuntime) -> Result<(), Fail> {
+    for (text, place, number) in REFUSED {
+        let bytes = spelled(rt.alloc(), text)?;
+        let want = Answer::Refused {
+            place: *place,
+            number: *number,
+        };
+        assert_eq!(rt; decoded(rt.alloc(), &bytes), want, "{text}");
     }
     Ok(())
 }
@@ -128,6 +88,7 @@ fn rewritten(alloc: Global, bytes: &[u8], strip: bool) -> Option<(Vec<u8>, u64)>
     }
 }
 
+/// Sees that this text is written of the file that the bytes are, and that so many bytes follow it.
 fn expect(rt: &impl Abort, alloc: Global, input: (&[u8], bool), text: &[u8], rest: u64) {
     let (bytes, strip) = input;
     let again = rewritten(alloc, bytes, strip);
@@ -137,48 +98,24 @@ fn expect(rt: &impl Abort, alloc: Global, input: (&[u8], bool), text: &[u8], res
 /// What follows the file is counted, and not written.
 #[test]
 fn load_files_again(rt: HostRuntime) -> Result<(), Fail> {
-    let plain = bytes_of(rt.alloc(), ONE_HUNK.as_slice())?;
-    let named = before_end(rt.alloc(), [0x3F0, 1, 0x5F6D_0000, 0, 0].as_slice())?;
-    let mut followed = before_end(rt.alloc(), [0x3F0, 1, 0x5F6D_0000, 0, 0].as_slice())?;
-    followed.extend_from_slice(&[0; 7])?;
     let alloc = rt.alloc();
-    expect(&rt, alloc, (plain.as_slice(), false), plain.as_slice(), 0);
-    expect(
-        &rt,
-        alloc,
-        (followed.as_slice(), false),
-        named.as_slice(),
-        7,
-    );
-    expect(&rt, alloc, (followed.as_slice(), true), plain.as_slice(), 7);
+    let plain = spelled(alloc, examples::ONE_HUNK)?;
+    let named = spelled(alloc, examples::WITH_A_SYMBOL)?;
+    let mut followed = spelled(alloc, examples::WITH_A_SYMBOL)?;
+    followed.extend_from_slice(&[0; 7])?;
+    expect(&rt, alloc, (&plain, false), &plain, 0);
+    expect(&rt, alloc, (&followed, false), &named, 7);
+    expect(&rt, alloc, (&followed, true), &plain, 7);
     Ok(())
 }
 
 #[test]
 fn object_files_again(rt: HostRuntime) -> Result<(), Fail> {
-    let named = bytes_of(
-        rt.alloc(),
-        &[
-            0x3E7,
-            1,
-            0x6100_0000,
-            0x3E9,
-            1,
-            0x4E75_4E71,
-            0x3F0,
-            1,
-            0x5F6D_0000,
-            0,
-            0,
-            0x3F2,
-        ],
-    )?;
-    let plain = bytes_of(
-        rt.alloc(),
-        &[0x3E7, 1, 0x6100_0000, 0x3E9, 1, 0x4E75_4E71, 0x3F2],
-    )?;
     let alloc = rt.alloc();
-    expect(&rt, alloc, (named.as_slice(), false), named.as_slice(), 0);
-    expect(&rt, alloc, (named.as_slice(), true), plain.as_slice(), 0);
+    let named = "3E7 1 61000000 / 3E9 1 4E754E71 / 3F0 1 5F6D0000 0 0 / 3F2";
+    let named = spelled(alloc, named)?;
+    let plain = spelled(alloc, "3E7 1 61000000 / 3E9 1 4E754E71 / 3F2")?;
+    expect(&rt, alloc, (&named, false), &named, 0);
+    expect(&rt, alloc, (&named, true), &plain, 0);
     Ok(())
 }

@@ -2,7 +2,7 @@
 
 use crate::tests::growths::wanted;
 use hunk_files::LoadFile;
-use hunk_testing::{answers_growth_by_growth, spelled};
+use hunk_testing::{answers_growth_by_growth, memory_ends, spelled};
 use std::alloc::Global;
 use std::process::Abort;
 use std::test::Fail;
@@ -33,10 +33,16 @@ fn expect(rt: &impl Abort, alloc: Global, text: &str, places: &[u64]) -> Result<
 
 #[test]
 fn of_four_hunks(rt: HostRuntime) -> Result<(), Fail> {
+    if !memory_ends(&rt)? {
+        return Ok(());
+    }
     expect(&rt, rt.alloc(), FOUR_HUNKS, OF_FOUR_HUNKS)
 }
 
 #[test]
 fn of_six_blocks(rt: HostRuntime) -> Result<(), Fail> {
+    if !memory_ends(&rt)? {
+        return Ok(());
+    }
     expect(&rt, rt.alloc(), SIX_BLOCKS, OF_SIX_BLOCKS)
 }

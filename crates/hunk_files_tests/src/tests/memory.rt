@@ -1,15 +1,15 @@
 //! Load files while no growth is granted.
 
-use crate::tests::ONE_HUNK;
 use hunk_files::{ImageFault, LoadFile, ObjectFile};
-use hunk_testing::{all_memory, bytes_of};
+use hunk_testing::{all_memory, examples, memory_ends, spelled};
 use hunk_words::{FileFault, Reason};
 use std::alloc::{AllocError, Global};
+use std::process::Abort;
 use std::test::Fail;
 
-/// What is answered for the longwords with the next growth refused.
-fn starved(alloc: Global, longs: &[u32]) -> Result<Result<usize, FileFault>, AllocError> {
-    let bytes = bytes_of(alloc, longs)?;
+/// What is answered for the file with the next growth refused.
+fn starved(alloc: Global, text: &str) -> Result<Result<usize, FileFault>, AllocError> {
+    let bytes = spelled(alloc, text)?;
     let pieces = all_memory(alloc)?;
     let result = match LoadFile::decode(alloc, bytes.as_slice()) {
         Ok((_, count)) => Ok(count),
@@ -19,54 +19,60 @@ fn starved(alloc: Global, longs: &[u32]) -> Result<Result<usize, FileFault>, All
     Ok(result)
 }
 
+/// Files that are refused at this place with the next growth refused.
+type Refused = &'static [(&'static str, u64, Reason)];
+
+/// Sees that each of the files is refused where and why the table says.
+fn expect(rt: &impl Abort, alloc: Global, rows: Refused) -> Result<(), Fail> {
+    for (text, place, reason) in rows {
+        let want = FileFault {
+            place: *place,
+            reason: *reason,
+        };
+        assert_eq!(rt; starved(alloc, text)?, Err(want), "{text}");
+    }
+    Ok(())
+}
+
 /// No row is reserved by the number of hunks, and a fault is answered before memory is asked for.
+const AT_THE_FIRST_GROWTH: Refused = &[
+    (examples::MOST_HUNKS, 20, Reason::Truncated),
+    ("3F3 0 1 0 0 1 / 3E9 1 0 / 3EC 1 0 1", 48, Reason::BadOffset),
+];
+
 #[test]
 fn refused_at_the_first_growth(rt: HostRuntime) -> Result<(), Fail> {
-    let rows = [
-        (
-            [0x3F3, 0, 0x10000, 0, 0xFFFF].as_slice(),
-            20,
-            Reason::Truncated,
-        ),
-        (
-            [0x3F3, 0, 1, 0, 0, 1, 0x3E9, 1, 0, 0x3EC, 1, 0, 1].as_slice(),
-            48,
-            Reason::BadOffset,
-        ),
-    ];
-    for (longs, place, reason) in rows {
-        assert_eq!(rt;
-            starved(rt.alloc(), longs)?,
-            Err(FileFault { place, reason })
-        );
+    if !memory_ends(&rt)? {
+        return Ok(());
     }
-    Ok(())
+    expect(&rt, rt.alloc(), AT_THE_FIRST_GROWTH)
 }
-
-/// One hunk of nothing, with attributes of a longword of their own.
-const WITH_ATTRIBUTES: [u32; 10] = [0x3F3, 0, 1, 0, 0, 0xC000_0000, 2, 0x3EB, 0, 0x3F2];
 
 /// A row is asked for when it was read: at its size word, or at the attributes behind it.
+const AT_A_ROW: Refused = &[
+    (examples::ONE_HUNK, 20, Reason::OutOfMemory),
+    (
+        "3F3 0 1 0 0 C0000000 2 / 3EB 0 / 3F2",
+        24,
+        Reason::OutOfMemory,
+    ),
+];
+
 #[test]
 fn no_memory_for_a_row(rt: HostRuntime) -> Result<(), Fail> {
-    let rows = [(ONE_HUNK.as_slice(), 20), (WITH_ATTRIBUTES.as_slice(), 24)];
-    for (longs, place) in rows {
-        let reason = Reason::OutOfMemory;
-        assert_eq!(rt;
-            starved(rt.alloc(), longs)?,
-            Err(FileFault { place, reason })
-        );
+    if !memory_ends(&rt)? {
+        return Ok(());
     }
-    Ok(())
+    expect(&rt, rt.alloc(), AT_A_ROW)
 }
 
-/// What is answered for the longwords as an object file, with the next growth refused or not.
+/// What is answered for the file as an object file, with the next growth refused or not.
 fn object_fault(
     alloc: Global,
-    longs: &[u32],
+    text: &str,
     is_starved: bool,
 ) -> Result<Option<FileFault>, AllocError> {
-    let bytes = bytes_of(alloc, longs)?;
+    let bytes = spelled(alloc, text)?;
     let pieces = if is_starved {
         all_memory(alloc)?
     } else {
@@ -77,20 +83,27 @@ fn object_fault(
     Ok(result)
 }
 
+/// A content block and a name, each with a block behind it that is refused.
+const BEFORE_A_FAULT: &[&str] = &[
+    "3E7 0 / 3E9 1 4E754E71 / 3F5",
+    "3E7 0 / 3E8 1 61000000 / 3F5",
+];
+
 /// A block is asked for when it was read whole, at its last longword. A fault before that place is
 /// answered as ever, and one behind it is not seen.
 #[test]
 fn no_memory_for_an_object(rt: HostRuntime) -> Result<(), Fail> {
-    let content = [0x3E7, 0, 0x3E9, 1, 0x4E75_4E71, 0x3F5];
-    let name = [0x3E7, 0, 0x3E8, 1, 0x6100_0000, 0x3F5];
-    for longs in [content.as_slice(), name.as_slice()] {
-        let memory = object_fault(rt.alloc(), longs, true)?;
-        assert_eq!(rt; memory, fault_at(16, Reason::OutOfMemory));
-        let refusal = object_fault(rt.alloc(), longs, false)?;
-        assert_eq!(rt; refusal, fault_at(20, Reason::Overlay));
+    if !memory_ends(&rt)? {
+        return Ok(());
     }
-    let both_bits = [0x3E7, 0, 0xC000_03E9, 1, 0x4E75_4E71, 0x3F2];
-    let refusal = object_fault(rt.alloc(), both_bits.as_slice(), true)?;
+    for text in BEFORE_A_FAULT {
+        let memory = object_fault(rt.alloc(), text, true)?;
+        assert_eq!(rt; memory, fault_at(16, Reason::OutOfMemory), "{text}");
+        let refusal = object_fault(rt.alloc(), text, false)?;
+        assert_eq!(rt; refusal, fault_at(20, Reason::Overlay), "{text}");
+    }
+    let both_bits = "3E7 0 / C00003E9 1 4E754E71 / 3F2";
+    let refusal = object_fault(rt.alloc(), both_bits, true)?;
     assert_eq!(rt; refusal, fault_at(8, Reason::BothBits));
     Ok(())
 }
@@ -101,13 +114,10 @@ fn fault_at(place: u64, reason: Reason) -> Option<FileFault> {
 
 #[test]
 fn no_memory_for_an_image(rt: HostRuntime) -> Result<(), Fail> {
-    let bytes = bytes_of(
-        rt.alloc(),
-        [
-            0x3F3, 0, 1, 0, 0, 1, 0x3E9, 1, 0x10, 0x3EC, 1, 0, 0, 0, 0x3F2,
-        ]
-        .as_slice(),
-    )?;
+    if !memory_ends(&rt)? {
+        return Ok(());
+    }
+    let bytes = spelled(rt.alloc(), examples::RELOCATED_ALONE)?;
     let (file, _) = match LoadFile::decode(rt.alloc(), bytes.as_slice()) {
         Ok(decoded) => decoded,
         Err(fault) => panic!(&rt; "{fault:?}"),

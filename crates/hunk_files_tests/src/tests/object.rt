@@ -1,9 +1,11 @@
 //! Which object files are read, and where the others are refused and why.
 
+use crate::tests::{ENTRY_OF_NO_TYPE, WITHOUT_A_UNIT};
 use hunk_files::ObjectFile;
-use hunk_testing::bytes_of;
+use hunk_testing::{bytes_of, examples, spelled};
 use hunk_words::{FileFault, Reason};
 use std::alloc::{AllocError, Global};
+use std::process::Abort;
 use std::test::Fail;
 
 /// How many units, hunks and blocks a file has, or why it is refused.
@@ -37,42 +39,47 @@ fn answer_of(alloc: Global, longs: &[u32]) -> Result<Answer, AllocError> {
     Ok(answer(alloc, bytes.as_slice()))
 }
 
-/// The worked rows of object files, and those of advisory blocks.
+/// The worked examples that are accepted: the numbers of units, hunks and blocks.
+const ACCEPTED: &[(&str, (usize, usize, usize))] = &[
+    (examples::OBJECT_WITH_DREL32, (1, 1, 3)),
+    (examples::EMPTY_UNIT, (1, 0, 0)),
+    (examples::EMPTY_UNIT_AND_ANOTHER, (2, 1, 2)),
+    (examples::OBJECT_WITH_AN_ADVISORY, (1, 1, 3)),
+];
+
 #[test]
-fn worked_examples(rt: HostRuntime) -> Result<(), Fail> {
-    let rows = [
-        (
-            [0x3E7, 1, 0x6100_0000, 0x3E9, 1, 0, 0x3F7, 1, 0, 0, 0, 0x3F2].as_slice(),
-            Ok((1, 1, 3)),
-        ),
-        (
-            [0x3E7, 0, 0x3E9, 0, 0x3EF, 0x0300_0001].as_slice(),
-            refused(20, Reason::ExtKind),
-        ),
-        (
-            [0x3E7, 0, 0x3E9, 0, 0x3EF, 0x8800_0001].as_slice(),
-            refused(24, Reason::Truncated),
-        ),
-        ([0x3E9, 0].as_slice(), refused(0, Reason::Misplaced)),
-        ([0x3E7, 0].as_slice(), Ok((1, 0, 0))),
-        (
-            [0x3E7, 0, 0x3E7, 1, 0x6200_0000, 0x3EB, 4, 0x3F2].as_slice(),
-            Ok((2, 1, 2)),
-        ),
-        (
-            [0x3E7, 0, 0x2000_04D2, 0, 0x3EB, 1, 0x3F2].as_slice(),
-            Ok((1, 1, 3)),
-        ),
-        ([0x2000_04D2, 0].as_slice(), refused(0, Reason::Misplaced)),
-        (
-            [0x3E7, 0, 0x3EB, 0, 0x3F2, 0x2000_03E7, 0].as_slice(),
-            refused(20, Reason::Misplaced),
-        ),
-    ];
-    for (longs, want) in rows {
-        assert_eq!(rt; answer_of(rt.alloc(), longs)?, want, "{longs:?}");
+fn accepted(rt: HostRuntime) -> Result<(), Fail> {
+    for (text, want) in ACCEPTED {
+        let bytes = spelled(rt.alloc(), text)?;
+        assert_eq!(rt; answer(rt.alloc(), &bytes), Ok(*want), "{text}");
     }
     Ok(())
+}
+
+/// Files that are refused at this place.
+type Refused = &'static [(&'static str, u64, Reason)];
+
+/// Sees that each of the files is refused where and why the table says.
+fn expect_refused(rt: &impl Abort, alloc: Global, rows: Refused) -> Result<(), Fail> {
+    for (text, place, reason) in rows {
+        let bytes = spelled(alloc, text)?;
+        assert_eq!(rt; answer(alloc, &bytes), refused(*place, *reason), "{text}");
+    }
+    Ok(())
+}
+
+/// The worked examples that are refused, two of them for an advisory flag.
+const EXAMPLES: Refused = &[
+    (ENTRY_OF_NO_TYPE, 20, Reason::ExtKind),
+    ("3E7 0 / 3E9 0 / 3EF 88000001", 24, Reason::Truncated),
+    (WITHOUT_A_UNIT, 0, Reason::Misplaced),
+    ("200004D2 0", 0, Reason::Misplaced),
+    ("3E7 0 / 3EB 0 / 3F2 / 200003E7 0", 20, Reason::Misplaced),
+];
+
+#[test]
+fn refused_examples(rt: HostRuntime) -> Result<(), Fail> {
+    expect_refused(&rt, rt.alloc(), EXAMPLES)
 }
 
 /// What no hunk and no place between them takes, at a first longword and behind a unit's header.
@@ -118,87 +125,59 @@ fn refused_anywhere(rt: HostRuntime) -> Result<(), Fail> {
     Ok(())
 }
 
-/// What the place in a hunk, or before the first unit, refuses.
+/// The words of relocations and external symbols.
+const BEHIND_CONTENT: &[u32] = &[
+    0x3EC, 0x3ED, 0x3EE, 0x3F7, 0x3F8, 0x3F9, 0x3FD, 0x3FE, 0x3EF,
+];
+
+/// What stands behind content is refused before the first unit, and before a hunk's content.
 #[test]
-fn refused_by_place(rt: HostRuntime) -> Result<(), Fail> {
-    let relocations = [
-        0x3EC, 0x3ED, 0x3EE, 0x3F7, 0x3F8, 0x3F9, 0x3FD, 0x3FE, 0x3EF,
-    ];
-    for word in relocations {
-        let first = [word, 0];
-        let opens = [0x3E7, 0, word];
-        let follows = [0x3E7, 0, 0x3F1, 0, 0x8000_0000 + word, 0];
-        let early = Reason::BeforeContent;
-        assert_eq!(rt;
-            answer_of(rt.alloc(), first.as_slice())?,
-            refused(0, Reason::Misplaced)
-        );
-        assert_eq!(rt;
-            answer_of(rt.alloc(), opens.as_slice())?,
-            refused(8, early),
-            "{word:x}"
-        );
-        assert_eq!(rt;
-            answer_of(rt.alloc(), follows.as_slice())?,
-            refused(16, early),
-            "{word:x}"
-        );
-    }
-    for word in [0x3E9, 0x3EA, 0x3EB] {
-        let second = [0x3E7, 0, word, 0, 0x3F0, 0, 0x2000_0000 + word, 9];
-        let want = refused(24, Reason::SecondContent);
-        assert_eq!(rt; answer_of(rt.alloc(), second.as_slice())?, want, "{word:x}");
-    }
-    let rows = [
-        ([0x3F2].as_slice(), refused(0, Reason::Misplaced)),
-        ([0x3E8, 0].as_slice(), refused(0, Reason::Misplaced)),
-        ([0x3E7, 0, 0x3F2].as_slice(), refused(8, Reason::NoContent)),
-        (
-            [0x3E7, 0, 0x3F1, 0, 0x4000_03F2].as_slice(),
-            refused(16, Reason::NoContent),
-        ),
-        (
-            [0x3E7, 0, 0x3EB, 0, 0x3E7, 0].as_slice(),
-            refused(16, Reason::Misplaced),
-        ),
-        (
-            [0x3E7, 0x0100_0000].as_slice(),
-            refused(4, Reason::NameWord),
-        ),
-        (
-            [0x3E7, 0, 0x3E8, 0x0100_0001].as_slice(),
-            refused(12, Reason::NameWord),
-        ),
-    ];
-    for (longs, want) in rows {
-        assert_eq!(rt; answer_of(rt.alloc(), longs)?, want, "{longs:?}");
+fn refused_before_content(rt: HostRuntime) -> Result<(), Fail> {
+    let early = Reason::BeforeContent;
+    for word in BEHIND_CONTENT {
+        let first = answer_of(rt.alloc(), &[*word, 0])?;
+        assert_eq!(rt; first, refused(0, Reason::Misplaced), "{word:x}");
+        let opens = answer_of(rt.alloc(), &[0x3E7, 0, *word])?;
+        assert_eq!(rt; opens, refused(8, early), "{word:x}");
+        let follows = answer_of(rt.alloc(), &[0x3E7, 0, 0x3F1, 0, 0x8000_0000 | *word, 0])?;
+        assert_eq!(rt; follows, refused(16, early), "{word:x}");
     }
     Ok(())
 }
 
-/// Every prefix of a file of two units ends too soon, but for those that end with a unit or a hunk.
+#[test]
+fn refused_second_content(rt: HostRuntime) -> Result<(), Fail> {
+    let want = refused(24, Reason::SecondContent);
+    for word in [0x3E9, 0x3EA, 0x3EB] {
+        let second = [0x3E7, 0, word, 0, 0x3F0, 0, 0x2000_0000 | word, 9];
+        assert_eq!(rt; answer_of(rt.alloc(), &second)?, want, "{word:x}");
+    }
+    Ok(())
+}
+
+/// What the place in a hunk, or before the first unit, refuses.
+const BY_PLACE: Refused = &[
+    ("3F2", 0, Reason::Misplaced),
+    ("3E8 0", 0, Reason::Misplaced),
+    ("3E7 0 / 3F2", 8, Reason::NoContent),
+    ("3E7 0 / 3F1 0 / 400003F2", 16, Reason::NoContent),
+    ("3E7 0 / 3EB 0 / 3E7 0", 16, Reason::Misplaced),
+    ("3E7 1000000", 4, Reason::NameWord),
+    ("3E7 0 / 3E8 1000001", 12, Reason::NameWord),
+];
+
+#[test]
+fn refused_by_place(rt: HostRuntime) -> Result<(), Fail> {
+    expect_refused(&rt, rt.alloc(), BY_PLACE)
+}
+
+/// A file of two units, the first of two hunks.
+const CUT_SHORT: &str = "3E7 1 61000000 / 3EB 1 / 3F2 / 3E9 1 7 / 3EC 1 0 0 0 / 3F2 / 3E7 0";
+
+/// Every prefix of the file ends too soon, but for those that end with a unit or a hunk.
 #[test]
 fn cut_short(rt: HostRuntime) -> Result<(), Fail> {
-    let longs = [
-        0x3E7,
-        1,
-        0x6100_0000,
-        0x3EB,
-        1,
-        0x3F2,
-        0x3E9,
-        1,
-        7,
-        0x3EC,
-        1,
-        0,
-        0,
-        0,
-        0x3F2,
-        0x3E7,
-        0,
-    ];
-    let bytes = bytes_of(rt.alloc(), longs.as_slice())?;
+    let bytes = spelled(rt.alloc(), CUT_SHORT)?;
     let whole = [
         (12, (1, 0, 0)),
         (24, (1, 1, 2)),
@@ -222,7 +201,7 @@ fn cut_short(rt: HostRuntime) -> Result<(), Fail> {
 /// Bytes over, fewer than a longword.
 #[test]
 fn bytes_over(rt: HostRuntime) -> Result<(), Fail> {
-    let mut bytes = bytes_of(rt.alloc(), [0x3E7, 0].as_slice())?;
+    let mut bytes = spelled(rt.alloc(), examples::EMPTY_UNIT)?;
     for _ in 0..3u8 {
         bytes.push(0)?;
         let want = refused(8, Reason::Truncated);
@@ -248,55 +227,21 @@ fn many_units(rt: HostRuntime) -> Result<(), Fail> {
 }
 
 /// Places count from the first byte of the file, in later hunks and units, too.
+const IN_LATER_UNITS: Refused = &[
+    ("3E7 0 / 3EB 0 / 3F2 / 3F2", 20, Reason::NoContent),
+    ("3E7 0 / 3EB 0 / 3F2 / 3EC", 20, Reason::BeforeContent),
+    ("3E7 0 / 3EB 0 / 3F2 / 3E7 1000000", 24, Reason::NameWord),
+    ("3E7 0 / 3EB 0 / 3F2 / 3E7 0 / 3F2", 28, Reason::NoContent),
+    (
+        "3E7 0 / 3EB 0 / 3F2 / 3E7 0 / 3EB 0 / 3EF 1000000 0 3000000",
+        48,
+        Reason::ExtKind,
+    ),
+    ("3E7 1000000 0", 4, Reason::NameWord),
+    ("3E7 0 / 3E7 0 / 3E9 0 / 3E8 1000000", 28, Reason::NameWord),
+];
+
 #[test]
 fn refused_in_later_units(rt: HostRuntime) -> Result<(), Fail> {
-    let rows = [
-        (
-            [0x3E7, 0, 0x3EB, 0, 0x3F2, 0x3F2].as_slice(),
-            refused(20, Reason::NoContent),
-        ),
-        (
-            [0x3E7, 0, 0x3EB, 0, 0x3F2, 0x3EC].as_slice(),
-            refused(20, Reason::BeforeContent),
-        ),
-        (
-            [0x3E7, 0, 0x3EB, 0, 0x3F2, 0x3E7, 0x0100_0000].as_slice(),
-            refused(24, Reason::NameWord),
-        ),
-        (
-            [0x3E7, 0, 0x3EB, 0, 0x3F2, 0x3E7, 0, 0x3F2].as_slice(),
-            refused(28, Reason::NoContent),
-        ),
-        (
-            [
-                0x3E7,
-                0,
-                0x3EB,
-                0,
-                0x3F2,
-                0x3E7,
-                0,
-                0x3EB,
-                0,
-                0x3EF,
-                0x0100_0000,
-                0,
-                0x0300_0000,
-            ]
-            .as_slice(),
-            refused(48, Reason::ExtKind),
-        ),
-        (
-            [0x3E7, 0x0100_0000, 0].as_slice(),
-            refused(4, Reason::NameWord),
-        ),
-        (
-            [0x3E7, 0, 0x3E7, 0, 0x3E9, 0, 0x3E8, 0x0100_0000].as_slice(),
-            refused(28, Reason::NameWord),
-        ),
-    ];
-    for (longs, want) in rows {
-        assert_eq!(rt; answer_of(rt.alloc(), longs)?, want, "{longs:?}");
-    }
-    Ok(())
+    expect_refused(&rt, rt.alloc(), IN_LATER_UNITS)
 }

@@ -19,27 +19,15 @@ fn found(fault: FindingKind, offset: u32) -> Finding {
 /// The worked examples of findings, by their numbers: each a kind and an offset.
 const FINDINGS: &[(u32, &str, &[(FindingKind, u32)])] = &[
     (14, examples::OBJECT, &[]),
-    (
-        14,
-        "3E7 1 61000000 / 3E9 2 4EB90000 4E75 / 3EF 81000001 5F660000 1 5 1000001 5F6D0000 0 0 / 3F2",
-        &[(FindingKind::OutsideHunk, 5)],
-    ),
+    (14, examples::OBJECT_AMISS, &[(FindingKind::OutsideHunk, 5)]),
     (
         29,
-        "3E7 0 / 3E9 1 0 / 3EC 1 1 2 0 / 3F2",
+        examples::TWO_FINDINGS,
         &[(FindingKind::BadTarget, 2), (FindingKind::OutsideHunk, 2)],
     ),
-    (34, "3E7 0 / 3E7 1 62000000 / 3EB 4 / 3F2", &[]),
-    (
-        35,
-        "3E7 0 / 3EB 2 / 3EF 82000001 63000000 8 1 4 0 / 3F2",
-        &[],
-    ),
-    (
-        35,
-        "3E7 0 / 3EB 2 / 3EF 82000001 63000000 8 1 5 0 / 3F2",
-        &[(FindingKind::OutsideHunk, 5)],
-    ),
+    (34, examples::EMPTY_UNIT_AND_ANOTHER, &[]),
+    (35, examples::COMMON, &[]),
+    (35, examples::COMMON_AMISS, &[(FindingKind::OutsideHunk, 5)]),
     (
         45,
         examples::RELATIVE_OBJECT,
@@ -156,14 +144,15 @@ fn widths_of_references(rt: HostRuntime) -> Result<(), Fail> {
     Ok(())
 }
 
+/// Three units, the last with a relocation in its second hunk by a third, which is not there.
+const THREE_UNITS: &str = "3E7 0 / 3EB 1 / 3EC 1 1 0 0 / 3F2 / 3EB 1 / 3F2 / \
+    3E7 0 / 3EB 1 / 3F2 / \
+    3E7 0 / 3EB 1 / 3F2 / 3EB 1 / 3EC 1 2 0 0 / 3F2";
+
 /// Units and hunks are counted from 0, a target among the hunks of its own unit.
 #[test]
 fn where_findings_stand(rt: HostRuntime) -> Result<(), Fail> {
-    let longs = [
-        0x3E7, 0, 0x3EB, 1, 0x3EC, 1, 1, 0, 0, 0x3F2, 0x3EB, 1, 0x3F2, 0x3E7, 0, 0x3EB, 1, 0x3F2,
-        0x3E7, 0, 0x3EB, 1, 0x3F2, 0x3EB, 1, 0x3EC, 1, 2, 0, 0, 0x3F2,
-    ];
-    let bytes = bytes_of(rt.alloc(), longs.as_slice())?;
+    let bytes = spelled(rt.alloc(), THREE_UNITS)?;
     let findings = ObjectFile::decode(rt.alloc(), bytes.as_slice())?.check(rt.alloc())?;
     assert_eq!(rt; findings.len(), 1);
     let want = Finding {

@@ -1,49 +1,16 @@
 //! Every refusal of docs/FORMAT.md at every place of a file of two units, three hunks and an EXT block.
 
 use hunk_files::ObjectFile;
-use hunk_testing::bytes_of;
+use hunk_testing::{changed_in, spelled};
 use hunk_words::{FileFault, Reason};
 use std::alloc::{AllocError, Global};
 use std::test::Fail;
 
 /// The first unit has two hunks, the second, without a name, one.
-const LONGS: [u32; 35] = [
-    0x3E7,
-    1,
-    0x6100_0000,
-    0x3E9,
-    1,
-    0,
-    0x3EF,
-    0x8100_0001,
-    0x5F66_0000,
-    1,
-    0,
-    0x0100_0001,
-    0x5F6D_0000,
-    7,
-    0,
-    0x3F2,
-    0x3F1,
-    0,
-    0x3EB,
-    1,
-    0x3F2,
-    0x3E7,
-    0,
-    0x3E8,
-    1,
-    0x6200_0000,
-    0x3EA,
-    1,
-    7,
-    0x3EC,
-    1,
-    0,
-    0,
-    0,
-    0x3F2,
-];
+const FILE: &str = "3E7 1 61000000 / \
+    3E9 1 0 / 3EF 81000001 5F660000 1 0 1000001 5F6D0000 7 0 / 3F2 / \
+    3F1 0 / 3EB 1 / 3F2 / \
+    3E7 0 / 3E8 1 62000000 / 3EA 1 7 / 3EC 1 0 0 0 / 3F2";
 
 /// Where a block word stands.
 #[derive(Clone, Copy, Debug)]
@@ -169,18 +136,9 @@ fn lines_of_places() -> [Line; 5] {
     ]
 }
 
-/// The file with another longword at this byte.
-fn changed(alloc: Global, byte: u32, word: u32) -> Result<Vec<u8>, AllocError> {
-    let mut longs = Vec::new(alloc);
-    for (i, long) in LONGS.iter().enumerate() {
-        longs.push(if i == byte as usize / 4 { word } else { *long })?;
-    }
-    bytes_of(alloc, longs.as_slice())
-}
-
 /// Why the file with another longword at this byte is refused there, if it is.
 fn reason_at(alloc: Global, byte: u32, word: u32) -> Result<Option<Reason>, AllocError> {
-    let bytes = changed(alloc, byte, word)?;
+    let bytes = changed_in(alloc, FILE, byte as usize, word)?;
     match ObjectFile::decode(alloc, bytes.as_slice()) {
         Err(fault) if fault.place == byte as u64 => Ok(Some(fault.reason)),
         _ => Ok(None),
@@ -189,7 +147,7 @@ fn reason_at(alloc: Global, byte: u32, word: u32) -> Result<Option<Reason>, Allo
 
 /// Whether nothing before this byte is refused.
 fn is_read_up_to(alloc: Global, byte: u32, word: u32) -> Result<bool, AllocError> {
-    let bytes = changed(alloc, byte, word)?;
+    let bytes = changed_in(alloc, FILE, byte as usize, word)?;
     match ObjectFile::decode(alloc, bytes.as_slice()) {
         Err(fault) => Ok(fault.place >= byte as u64),
         Ok(_) => Ok(true),
@@ -267,7 +225,7 @@ fn types_of_entries(rt: HostRuntime) -> Result<(), Fail> {
 /// Every prefix ends too soon, but for those that end with a unit's header or a hunk.
 #[test]
 fn prefixes(rt: HostRuntime) -> Result<(), Fail> {
-    let bytes = bytes_of(rt.alloc(), LONGS.as_slice())?;
+    let bytes = spelled(rt.alloc(), FILE)?;
     for n in 0..bytes.len() + 1 {
         let got = match ObjectFile::decode(rt.alloc(), &bytes[..n]) {
             Ok(file) => Ok(file.units().len()),

@@ -1,53 +1,33 @@
 //! Object files that are written again, whole, stripped and to a sink that stops.
-ghost use Rattle.std.specs.Prelude.{◌≡◌, None};
+ghost use Rattle.std.specs.Prelude.{◌≡◌};
 
 use hunk_blocks::Body;
 use hunk_files::ObjectFile;
-use hunk_testing::{examples, spelled};
-use hunk_words::{Failed, FromWrite, LongWriter, Sink, WriteFault};
+use hunk_testing::{Narrow, examples, spelled};
+use hunk_words::{FromWrite, LongWriter, WriteFault};
 use std::alloc::Global;
 use std::process::Abort;
 use std::test::Fail;
 
 /// Each text with what is left of it by `strip`.
 const TEXTS: &[(&str, &str)] = &[
-    ("3E7 0", "3E7 0"),
+    (examples::EMPTY_UNIT, examples::EMPTY_UNIT),
     (examples::OBJECT, examples::OBJECT),
     (
-        "3E7 0 / 3E7 1 62000000 / 3EB 4 / 3F2",
-        "3E7 0 / 3E7 1 62000000 / 3EB 4 / 3F2",
+        examples::EMPTY_UNIT_AND_ANOTHER,
+        examples::EMPTY_UNIT_AND_ANOTHER,
     ),
     (examples::RELATIVE_OBJECT, examples::RELATIVE_OBJECT),
-    ("3E7 0 / 200004D2 0 / 3EB 1 / 3F2", "3E7 0 / 3EB 1 / 3F2"),
+    (
+        examples::OBJECT_WITH_AN_ADVISORY,
+        examples::OBJECT_WITHOUT_IT,
+    ),
     (
         "3E7 1 61000000 / 3E8 1 62000000 / 800003EA C0000001 7 / 3F0 1 5F6D0000 0 0 / \
             3EC 1 0 0 0 / 3F1 1 3F2 / 400003F2",
         "3E7 1 61000000 / 800003EA C0000001 7 / 3EC 1 0 0 0 / 400003F2",
     ),
 ];
-
-/// Fails once it has taken `room` bytes.
-#[derive(Drop)]
-struct Limited {
-    room: usize,
-    failed: bool,
-}
-
-impl Sink for Limited {
-    ghost taken = { λ _. None };
-
-    ghost failed = { λ s. s.failed };
-
-    fn push(&mut self, bytes: &[u8]) -> Result<usize, Failed> {
-        let n = bytes.len().min(self.room);
-        if n == 0 && !bytes.is_empty() {
-            self.failed = true;
-            return Err(Failed);
-        }
-        self.room -= n;
-        Ok(n)
-    }
-}
 
 fn no_bytes(alloc: Global) -> LongWriter<FromWrite<Vec<u8>>>
     ensures { result.written ≡ 0 }
@@ -78,20 +58,25 @@ fn what_was_read(rt: HostRuntime) -> Result<(), Fail> {
     Ok(())
 }
 
+/// Sees that a writer that stops has taken the first bytes of the file, as many as the fault says.
+fn expect_stops(rt: &impl Abort, alloc: Global, bytes: &[u8]) -> Result<(), Fail> {
+    let file = ObjectFile::decode(alloc, bytes)?;
+    for room in 0..bytes.len() {
+        let written = room as u64;
+        let mut writer = LongWriter::new(FromWrite::new(Narrow::failing(room)));
+        assert_eq!(rt; file.encode(&mut writer), Err(WriteFault { written }));
+        assert_eq!(rt; writer.written(), written);
+        let narrow = writer.into_inner().into_inner();
+        assert_eq!(rt; narrow.taken(), &bytes[..room]);
+    }
+    Ok(())
+}
+
 #[test]
 fn to_a_sink_that_stops(rt: HostRuntime) -> Result<(), Fail> {
     for (text, _) in TEXTS {
         let bytes = spelled(rt.alloc(), text)?;
-        let file = ObjectFile::decode(rt.alloc(), bytes.as_slice())?;
-        for room in 0..bytes.len() {
-            let written = room as u64;
-            let mut writer = LongWriter::new(Limited {
-                room,
-                failed: false,
-            });
-            assert_eq!(rt; file.encode(&mut writer), Err(WriteFault { written }));
-            assert_eq!(rt; writer.written(), written);
-        }
+        expect_stops(&rt, rt.alloc(), &bytes)?;
     }
     Ok(())
 }
@@ -99,7 +84,7 @@ fn to_a_sink_that_stops(rt: HostRuntime) -> Result<(), Fail> {
 /// What a file tells of a unit, its hunk and a block.
 #[test]
 fn what_is_told(rt: HostRuntime) -> Result<(), Fail> {
-    let bytes = spelled(rt.alloc(), "3E7 1 61000000 / 3E9 1 0 / 3F7 1 0 0 0 / 3F2")?;
+    let bytes = spelled(rt.alloc(), examples::OBJECT_WITH_DREL32)?;
     let file = ObjectFile::decode(rt.alloc(), bytes.as_slice())?;
     let unit = file.units().first().ok_or("no unit")?;
     assert_eq!(rt; unit.name().bytes(), [0x61, 0, 0, 0].as_slice());

@@ -1,8 +1,7 @@
 //! What the readers of a load file tell.
 
-use crate::tests::ONE_HUNK;
 use hunk_files::{LoadFile, Row, Sniff, sniff};
-use hunk_testing::{bytes_of, examples, spelled};
+use hunk_testing::{examples, spelled};
 use hunk_words::{BlockWord, Memory};
 use std::test::Fail;
 
@@ -31,20 +30,22 @@ fn tables_and_blocks(rt: HostRuntime) -> Result<(), Fail> {
     Ok(())
 }
 
+/// What files are by their first longword.
+const SNIFFS: &[(&str, Sniff)] = &[
+    ("3F3", Sniff::Load),
+    (examples::EMPTY_UNIT, Sniff::Object),
+    ("3FA", Sniff::Library),
+    ("200003E7", Sniff::Other),
+    ("", Sniff::Other),
+];
+
 #[test]
 fn sniffs_and_rows(rt: HostRuntime) -> Result<(), Fail> {
-    let rows = [
-        ([0x3F3].as_slice(), Sniff::Load),
-        ([0x3E7, 0].as_slice(), Sniff::Object),
-        ([0x3FA].as_slice(), Sniff::Library),
-        ([0x2000_03E7].as_slice(), Sniff::Other),
-        ([].as_slice(), Sniff::Other),
-    ];
-    for (longs, want) in rows {
-        let bytes = bytes_of(rt.alloc(), longs)?;
-        assert_eq!(rt; sniff(bytes.as_slice()), want);
+    for (text, want) in SNIFFS {
+        let bytes = spelled(rt.alloc(), text)?;
+        assert_eq!(rt; sniff(bytes.as_slice()), *want, "{text}");
     }
-    let bytes = bytes_of(rt.alloc(), ONE_HUNK.as_slice())?;
+    let bytes = spelled(rt.alloc(), examples::ONE_HUNK)?;
     assert_eq!(rt; bytes.len(), 40);
     assert_eq!(rt; sniff(&bytes[..3]), Sniff::Other);
     let row = Row {

@@ -40,7 +40,11 @@ fn written_again(rt: HostRuntime) -> Result<(), Fail> {
             expect_again(&rt, alloc, &changed(alloc, *byte, *word)?)?;
         }
     }
-    for text in [examples::ONE_HUNK, examples::WITH_A_SYMBOL, WITH_TWO_RELOCATIONS] {
+    for text in [
+        examples::ONE_HUNK,
+        examples::WITH_A_SYMBOL,
+        WITH_TWO_RELOCATIONS,
+    ] {
         expect_again(&rt, alloc, &spelled(alloc, text)?)?;
     }
     Ok(())
@@ -50,7 +54,10 @@ fn written_again(rt: HostRuntime) -> Result<(), Fail> {
 const STRIPPED: &[(&str, &str)] = &[
     (examples::WITH_A_SYMBOL, examples::ONE_HUNK),
     (examples::WITH_AN_ADVISORY, examples::ONE_HUNK),
-    (examples::RELOCATED_BEHIND_SYMBOLS, examples::RELOCATED_ALONE),
+    (
+        examples::RELOCATED_BEHIND_SYMBOLS,
+        examples::RELOCATED_ALONE,
+    ),
 ];
 
 #[test]
@@ -58,7 +65,10 @@ fn stripped(rt: HostRuntime) -> Result<(), Fail> {
     for (text, left) in STRIPPED {
         let want = spelled(rt.alloc(), left)?;
         let got = rewritten(rt.alloc(), &spelled(rt.alloc(), text)?, true);
-        assert!(rt; got.is_some_and(|text| text.as_slice() == want.as_slice()), "{text}");
+        assert!(rt;
+            got.is_some_and(|text| text.as_slice() == want.as_slice()),
+            "{text}"
+        );
     }
     Ok(())
 }
