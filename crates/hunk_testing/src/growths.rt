@@ -6,6 +6,9 @@ use std::io;
 /// How many pieces are taken at most.
 const PIECES: usize = 60_000;
 
+/// The size of the largest, which few allocators give.
+const LARGEST: usize = 1 << 46;
+
 /// Takes pieces of this size until one is refused, and 10,000 at most.
 fn take_pieces(alloc: Global, size: usize, pieces: &mut Vec<Vec<u8>>) -> Result<(), AllocError> {
     for _ in 0..10_000u64 {
@@ -22,7 +25,7 @@ fn take_pieces(alloc: Global, size: usize, pieces: &mut Vec<Vec<u8>>) -> Result<
 /// The allocator keeps small pieces that were freed apart by their size, 16 bytes from one to the
 /// next, and gives them to requests of that size alone: so these are asked for, too.
 fn take_all(alloc: Global, pieces: &mut Vec<Vec<u8>>) -> Result<(), AllocError> {
-    let mut size = 1usize << 46;
+    let mut size = LARGEST;
     for _ in 0..44u64 {
         take_pieces(alloc, size, pieces)?;
         size /= 2;
@@ -33,9 +36,26 @@ fn take_all(alloc: Global, pieces: &mut Vec<Vec<u8>>) -> Result<(), AllocError> 
     Ok(())
 }
 
+/// More than any call takes of the stack while memory is held.
+const DEPTH: usize = 1 << 20;
+
+/// Has the stack grow by so many bytes, and answers one of them.
+///
+/// A stack grows as its pages are used, and no more once all below it is taken: what goes deeper then ends by a
+/// signal. The bytes that are changed and answered are known at run time alone, so that the array is not left out.
+#[inline(never)]
+fn grow_stack(changed: usize, answered: usize) -> u8 {
+    let mut bytes = [1u8; DEPTH];
+    bytes[changed % DEPTH] = 2;
+    bytes[answered % DEPTH]
+}
+
 /// All the memory that the allocator gives: while it is held, the next growth is refused.
 pub fn all_memory(alloc: Global) -> Result<Vec<Vec<u8>>, AllocError> {
     let mut pieces = Vec::with_capacity(alloc, PIECES)?;
+    take_pieces(alloc, LARGEST, &mut pieces)?;
+    let byte = grow_stack(pieces.len(), pieces.len() / 2);
+    pieces.push(Vec::<u8>::with_capacity(alloc, usize::from(byte))?)?;
     take_all(alloc, &mut pieces)?;
     Ok(pieces)
 }
@@ -139,20 +159,35 @@ pub fn left_beside<T: Drop, F: Fn() -> T>(alloc: Global, make: F) -> Result<(T, 
 const STEP: usize = 16;
 
 /// In how many steps a call has to succeed.
-const STEPS: u32 = 400;
+const STEPS: usize = 400;
 
-/// The bytes before the room that `all_but_steps` leaves, so many that the allocator does not keep them
-/// for requests of their size.
+/// The bytes before a room, so many that the allocator does not keep them for requests of their size.
 const FRONT: usize = 4_096;
 
-/// Holds all memory but a room of so many steps, which serves growth after growth until it is full.
-fn all_but_steps(alloc: Global, steps: u32) -> Result<Held, AllocError> {
-    let mut rooms = Vec::with_capacity(alloc, 1)?;
-    let whole = Vec::<u8>::with_capacity(alloc, FRONT + STEP * steps as usize)?;
-    let pieces = all_memory(alloc)?;
-    drop(whole);
-    rooms.push(Vec::<u8>::with_capacity(alloc, FRONT)?)?;
-    Ok(Held { pieces, rooms })
+/// Rooms of ever more steps, from none on, each behind a front.
+fn rooms_by_steps(alloc: Global) -> Result<Vec<Vec<u8>>, AllocError> {
+    let mut rooms = Vec::with_capacity(alloc, STEPS)?;
+    for steps in 0..STEPS {
+        rooms.push(Vec::<u8>::with_capacity(alloc, FRONT + STEP * steps)?)?;
+    }
+    Ok(rooms)
+}
+
+/// What a call answers while there is no memory but this room without its front, which serves growth after
+/// growth until it is full. What is left of it is taken then.
+fn answer_in<E: Drop, F: Fn() -> Option<E>>(
+    alloc: Global,
+    room: Vec<u8>,
+    pieces: &mut Vec<Vec<u8>>,
+    call: &F,
+) -> Result<Option<E>, AllocError>
+    requires { F.IsAlwaysCallable call.now }
+{
+    drop(room);
+    pieces.push(Vec::<u8>::with_capacity(alloc, FRONT)?)?;
+    let answer = call();
+    take_all(alloc, pieces)?;
+    Ok(answer)
 }
 
 /// What a call answers while each growth that it asks for is refused in turn: its answers, of which
@@ -168,13 +203,11 @@ pub fn answers_growth_by_growth<E: PartialEq + Drop, F: Fn() -> Option<E>>(
 ) -> Result<Vec<Option<E>>, AllocError>
     requires { F.IsAlwaysCallable call }
 {
-    let mut answers = Vec::new(alloc);
-    // The stack grows to what the call needs while there is memory for it.
-    let _answer = call();
-    for steps in 0..STEPS {
-        let held = all_but_steps(alloc, steps)?;
-        let answer = call();
-        drop(held);
+    let mut answers = Vec::with_capacity(alloc, STEPS)?;
+    let rooms = rooms_by_steps(alloc)?;
+    let mut pieces = all_memory(alloc)?;
+    for room in rooms {
+        let answer = answer_in(alloc, room, &mut pieces, &call)?;
         let succeeds = answer.is_none();
         if answers.last() != Some(&answer) {
             answers.push(answer)?;
