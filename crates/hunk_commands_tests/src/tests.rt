@@ -1,6 +1,5 @@
 //! Tests of what no clause says.
 mod calls;
-mod ends;
 mod faults;
 mod hex_text;
 mod large;

@@ -15,7 +15,7 @@ pub use crate::growths::{
     Held, all_but, all_memory, answers_growth_by_growth, left_beside, memory_ends,
 };
 pub use crate::sources::{FailsOnce, Fed, Interrupted, Then};
-pub use crate::writers::{Narrow, WIDTH};
+pub use crate::writers::{Narrow, WIDTH, wide};
 use std::alloc::{AllocError, Global};
 
 /// The bytes of the longwords.

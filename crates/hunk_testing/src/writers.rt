@@ -1,6 +1,7 @@
 //! A writer that takes its time, and stops where it is told to.
-ghost use Rattle.std.specs.Prelude.{◌≤◌};
+ghost use Rattle.std.specs.Prelude.{◌≡◌, ◌≤◌};
 
+use hunk_words::{FromWrite, LongWriter};
 use std::io;
 use std::io::Write;
 
@@ -39,6 +40,13 @@ impl Narrow {
     pub fn taken(&self) -> &[u8] {
         &self.taken[..self.count]
     }
+}
+
+/// What is put goes to a `Narrow` with room for all that it can have.
+pub fn wide() -> LongWriter<FromWrite<Narrow>>
+    ensures { result.written ≡ 0 }
+{
+    LongWriter::new(FromWrite::new(Narrow::failing(WIDTH)))
 }
 
 impl Write for Narrow {

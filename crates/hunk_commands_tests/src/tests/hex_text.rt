@@ -1,6 +1,6 @@
 //! Which bytes a hexadecimal text spells.
-use crate::tests::ends::Slow;
 use hunk_commands::{RunFault, read_hex, unhex};
+use hunk_testing::{Fed, Then};
 use hunk_words::{Fault, Reason};
 use std::alloc::Global;
 use std::test::Fail;
@@ -33,16 +33,16 @@ fn spells_none(rt: HostRuntime) {
     }
 }
 
-/// What the text spells, where it comes in pieces of `step` bytes, and fails behind them where that
-/// is set; fewer than `most` bytes of it are read.
+/// What the text spells, where it comes in pieces of `step` bytes, and then what comes behind them;
+/// fewer than `most` bytes of it are read.
 fn read(
     alloc: Global,
     text: &[u8],
     step: usize,
-    fails: bool,
+    then: Then,
     most: u64,
 ) -> Result<Vec<u8>, RunFault> {
-    read_hex(alloc, &mut Slow::new(text, step, fails), most)
+    read_hex(alloc, &mut Fed::new(text, step, then), most)
 }
 
 /// The text of so many bytes, which count up, with a blank inside of each third.
@@ -69,7 +69,7 @@ fn reads_in_pieces(rt: HostRuntime) -> Result<(), Fail> {
     for count in [0, 1, 511, 512, 513, 1_025] {
         let (bytes, text) = counted(rt.alloc(), count)?;
         for step in STEPS {
-            let got = read(rt.alloc(), text.as_slice(), *step, false, 10_000)?;
+            let got = read(rt.alloc(), text.as_slice(), *step, Then::Ends, 10_000)?;
             assert!(rt; got == bytes, "{count} bytes by {step}");
         }
     }
@@ -89,11 +89,11 @@ fn refuses_at_the_end(rt: HostRuntime) -> Result<(), Fail> {
         reason: Reason::FileLimit,
     });
     for step in STEPS {
-        let got = read(rt.alloc(), text.as_slice(), *step, false, place + 1);
+        let got = read(rt.alloc(), text.as_slice(), *step, Then::Ends, place + 1);
         assert_eq!(rt; got.err(), Some(RunFault::HexText));
-        let got = read(rt.alloc(), text.as_slice(), *step, true, place + 1);
+        let got = read(rt.alloc(), text.as_slice(), *step, Then::Fails, place + 1);
         assert_eq!(rt; got.err(), Some(RunFault::Read { place }));
-        let got = read(rt.alloc(), text.as_slice(), *step, false, place);
+        let got = read(rt.alloc(), text.as_slice(), *step, Then::Ends, place);
         assert_eq!(rt; got.err(), Some(limit));
     }
     Ok(())

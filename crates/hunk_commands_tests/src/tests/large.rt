@@ -1,9 +1,9 @@
 //! `relocate` of files at their limits, which are computed as they are read.
-ghost use Rattle.std.specs.Prelude.{None, false};
 
 use hunk_commands::relocate;
 use hunk_scatter::Limits;
-use hunk_words::{Failed, FromWrite, LongWriter, Source};
+use hunk_testing::{Computed, Longs};
+use hunk_words::{FromWrite, LongWriter};
 use std::alloc::{AllocError, Global};
 use std::test::Fail;
 
@@ -14,15 +14,6 @@ const LIMITS: Limits = Limits {
 
 /// Where the first hunk lies.
 const BASE: u32 = 0x21000;
-
-/// A file that is computed.
-#[derive(Clone, Copy, Debug, PartialEq)]
-enum Large {
-    /// 65,536 hunks of a longword, to which the base of the hunk beside it is added.
-    ManyHunks,
-    /// One hunk of a MiB.
-    LargeHunk,
-}
 
 /// The longwords of the header of `ManyHunks`, and of all of it: nine more a hunk.
 const TABLE: u32 = 65_541;
@@ -63,53 +54,38 @@ fn long_of_large_hunk(at: u32) -> u32 {
     }
 }
 
-/// The file, and how many of its bytes have been read.
+/// A file of 65,536 hunks of a longword, to which the base of the hunk beside it is added.
 #[derive(Drop)]
-struct Computed {
-    file: Large,
-    at: u32,
-}
+struct ManyHunks;
 
-impl Computed {
-    /// The byte that comes next, where there is one.
-    fn next(&mut self) -> Option<u8> {
-        let (long, byte) = (self.at / 4, self.at as usize % 4);
-        let longs = match self.file {
-            Large::ManyHunks => MANY_HUNKS,
-            Large::LargeHunk => LARGE_HUNK,
-        };
-        if long >= longs {
-            return None;
-        }
-        self.at = self.at.wrapping_add(1);
-        let word = match self.file {
-            Large::ManyHunks => long_of_many_hunks(long),
-            Large::LargeHunk => long_of_large_hunk(long),
-        };
-        Some(word.to_be_bytes()[byte])
+impl Longs for ManyHunks {
+    fn count(&self) -> u32 {
+        MANY_HUNKS
+    }
+
+    fn long(&self, at: u32) -> u32 {
+        long_of_many_hunks(at)
     }
 }
 
-impl Source for Computed {
-    ghost left = { λ _. None };
+/// A file of one hunk of a MiB.
+#[derive(Drop)]
+struct LargeHunk;
 
-    ghost failed = { λ _. false };
+impl Longs for LargeHunk {
+    fn count(&self) -> u32 {
+        LARGE_HUNK
+    }
 
-    fn pull(&mut self, buf: &mut [u8]) -> Result<usize, Failed> {
-        for i in 0..buf.len() {
-            match self.next() {
-                Some(byte) => buf[i] = byte,
-                None => return Ok(i),
-            }
-        }
-        Ok(buf.len())
+    fn long(&self, at: u32) -> u32 {
+        long_of_large_hunk(at)
     }
 }
 
 /// What `relocate` prints of the file.
-fn printed(alloc: Global, file: Large) -> Result<Vec<u8>, Fail> {
+fn printed<L: Longs + Drop>(alloc: Global, file: L) -> Result<Vec<u8>, Fail> {
     let mut out = LongWriter::new(FromWrite::new(Vec::<u8>::new(alloc)));
-    let mut source = Computed { file, at: 0 };
+    let mut source = Computed::new(file);
     relocate(alloc, &mut source, &mut out, LIMITS, BASE)?;
     Ok(out.into_inner().into_inner())
 }
@@ -124,7 +100,7 @@ fn lines_of(alloc: Global, hunk: u32) -> Result<String, AllocError> {
 
 #[test]
 fn many_hunks(rt: HostRuntime) -> Result<(), Fail> {
-    let text = printed(rt.alloc(), Large::ManyHunks)?;
+    let text = printed(rt.alloc(), ManyHunks)?;
     let mut rest = text.as_slice();
     for hunk in 0..65_536u32 {
         let want = lines_of(rt.alloc(), hunk)?;
@@ -146,7 +122,7 @@ fn row_of(alloc: Global, row: u32) -> Result<String, AllocError> {
 
 #[test]
 fn one_large_hunk(rt: HostRuntime) -> Result<(), Fail> {
-    let text = printed(rt.alloc(), Large::LargeHunk)?;
+    let text = printed(rt.alloc(), LargeHunk)?;
     let heading = b"hunk 0 base 0x00021000 1048576 bytes\n".as_slice();
     assert!(rt; text.starts_with(heading));
     let mut rest = &text[heading.len()..];

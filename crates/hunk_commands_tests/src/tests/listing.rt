@@ -1,17 +1,18 @@
 //! What `show`, `validate` and `rewrite` make of the sample files.
 
-use crate::tests::samples::{AGAIN, BAD, CHECKED, SHOWN};
-use hunk_commands::{Rewritten, RunFault, rewrite, show, unhex, validate};
-use hunk_words::{Fault, FromSlice, FromWrite, LongWriter};
+use crate::tests::calls::{Call, LIMIT, made, roomy};
+use crate::tests::samples::{AGAIN, BAD, CHECKED, SHOWN, input};
+use hunk_commands::{Rewritten, RunFault, rewrite, show, validate};
+use hunk_testing::{CHANGES, changed, spelled};
+use hunk_words::{Fault, FromSlice, FromWrite, LongWriter, Reason};
+use std::alloc::Global;
+use std::process::Abort;
 use std::test::Fail;
-
-/// More than any sample has.
-const LIMIT: u64 = 100_000;
 
 #[test]
 fn shows(rt: HostRuntime) -> Result<(), Fail> {
     for sample in &SHOWN {
-        let bytes = unhex(rt.alloc(), sample.hex.as_bytes())?;
+        let bytes = input(rt.alloc(), sample.file, sample.rest)?;
         let mut source = FromSlice::new(bytes.as_slice());
         let mut out = LongWriter::new(FromWrite::new(Vec::<u8>::new(rt.alloc())));
         let answer = show(rt.alloc(), &mut source, &mut out, LIMIT);
@@ -25,7 +26,7 @@ fn shows(rt: HostRuntime) -> Result<(), Fail> {
 #[test]
 fn validates(rt: HostRuntime) -> Result<(), Fail> {
     for sample in &CHECKED {
-        let bytes = unhex(rt.alloc(), sample.hex.as_bytes())?;
+        let bytes = input(rt.alloc(), sample.file, sample.rest)?;
         let mut source = FromSlice::new(bytes.as_slice());
         let mut out = LongWriter::new(FromWrite::new(Vec::<u8>::new(rt.alloc())));
         let answer = validate(rt.alloc(), &mut source, &mut out, LIMIT);
@@ -39,19 +40,19 @@ fn validates(rt: HostRuntime) -> Result<(), Fail> {
 #[test]
 fn rewrites(rt: HostRuntime) -> Result<(), Fail> {
     for sample in &AGAIN {
-        let bytes = unhex(rt.alloc(), sample.hex.as_bytes())?;
-        let made = if sample.made.is_empty() {
-            sample.hex
+        let bytes = input(rt.alloc(), sample.file, sample.rest)?;
+        let text = if sample.made.is_empty() {
+            sample.file
         } else {
             sample.made
         };
-        let want = unhex(rt.alloc(), made.as_bytes())?;
+        let want = spelled(rt.alloc(), text)?;
         let mut source = FromSlice::new(bytes.as_slice());
         let mut out = LongWriter::new(FromWrite::new(Vec::<u8>::new(rt.alloc())));
         let answer = rewrite(rt.alloc(), &mut source, &mut out, LIMIT, sample.strip);
         let done = Rewritten {
             written: want.len() as u64,
-            rest: sample.rest,
+            rest: sample.rest as u64,
         };
         assert_eq!(rt; answer, Ok(done), "at {}", sample.name);
         assert_eq!(rt; out.into_inner().into_inner(), want, "at {}", sample.name);
@@ -59,29 +60,47 @@ fn rewrites(rt: HostRuntime) -> Result<(), Fail> {
     Ok(())
 }
 
+/// Sees that each call that reads the input whole refuses it, and writes nothing.
+fn expect_refused(rt: &impl Abort, alloc: Global, bytes: &[u8], fault: Fault) {
+    for call in [Call::Show, Call::Validate, Call::Rewrite] {
+        let got = made(alloc, call, &mut FromSlice::new(bytes), roomy());
+        let fault = Some(RunFault::Refused(fault));
+        assert_eq!(rt;
+            (got.fault, got.written),
+            (fault, 0),
+            "{call:?} of {bytes:?}"
+        );
+    }
+}
+
 #[test]
 fn refuses(rt: HostRuntime) -> Result<(), Fail> {
     for sample in &BAD {
-        let bytes = unhex(rt.alloc(), sample.hex.as_bytes())?;
-        let fault = RunFault::Refused(Fault {
-            place: sample.place,
-            reason: sample.reason,
-        });
-        let mut out = LongWriter::new(FromWrite::new(Vec::<u8>::new(rt.alloc())));
-        let mut source = FromSlice::new(bytes.as_slice());
-        let answer = show(rt.alloc(), &mut source, &mut out, LIMIT);
-        assert_eq!(rt; answer, Err(fault), "show at {}", sample.hex);
-        let mut source = FromSlice::new(bytes.as_slice());
-        if out.written() == 0 {
-            let answer = validate(rt.alloc(), &mut source, &mut out, LIMIT);
-            assert_eq!(rt; answer, Err(fault), "validate at {}", sample.hex);
+        let bytes = input(rt.alloc(), sample.file, sample.rest)?;
+        let (place, reason) = (sample.place, sample.reason);
+        expect_refused(&rt, rt.alloc(), bytes.as_slice(), Fault { place, reason });
+    }
+    Ok(())
+}
+
+/// Where it is not refused it is written again as it is.
+#[test]
+fn one_longword_changed(rt: HostRuntime) -> Result<(), Fail> {
+    for (byte, word, fault) in CHANGES {
+        let bytes = changed(rt.alloc(), *byte, *word)?;
+        match *fault {
+            // An object file for these calls, which is refused as such: it is one of `BAD`.
+            Some((0, Reason::IsObject)) => {}
+            Some((place, reason)) => {
+                expect_refused(&rt, rt.alloc(), bytes.as_slice(), Fault { place, reason });
+            }
+            None => {
+                let mut source = FromSlice::new(bytes.as_slice());
+                let got = made(rt.alloc(), Call::Rewrite, &mut source, roomy());
+                assert_eq!(rt; got.fault, None, "{word:x} at {byte}");
+                assert_eq!(rt; got.narrow.taken(), bytes.as_slice(), "{word:x} at {byte}");
+            }
         }
-        let mut source = FromSlice::new(bytes.as_slice());
-        if out.written() == 0 {
-            let answer = rewrite(rt.alloc(), &mut source, &mut out, LIMIT, false);
-            assert_eq!(rt; answer, Err(fault), "rewrite at {}", sample.hex);
-        }
-        assert_eq!(rt; out.written(), 0);
     }
     Ok(())
 }

@@ -1,71 +1,189 @@
-//! The engine functions with their growths refused one by one.
+//! The engine functions with each of their growths refused in turn.
 
-use crate::tests::ends::wide;
-use crate::tests::relocating::{EXAMPLE_1, LIMITS};
-use hunk_commands::{RunFault, relocate, rewrite, show, validate};
-use hunk_testing::{all_memory, bytes_of};
+use crate::tests::calls::{Call, Case, input_and_output, made, roomy};
+use hunk_commands::RunFault;
+use hunk_testing::{answers_growth_by_growth, examples, memory_ends};
 use hunk_words::FromSlice;
-use std::alloc::{AllocError, Global};
+use std::alloc::Global;
+use std::process::Abort;
 use std::test::Fail;
 
-/// More than each call needs on example 1, and into how many steps it is divided.
-const ROOM: usize = 65_536;
+const SHOWS: &[Case] = &[
+    Case {
+        call: Call::Show,
+        file: examples::ONE_HUNK,
+        output: "load file 1 hunks 4 bytes\nhunk 0 4 bytes any\n  CODE 4 bytes\n  END\n",
+    },
+    Case {
+        call: Call::Show,
+        file: examples::FIVE_HUNKS,
+        output: "load file 5 hunks 16 bytes\nhunk 0 8 bytes any\n  CODE 8 bytes\n  RELOC32 5\n\
+            \x20   4 0x00000000\n    4 0x00000001\n    4 0x00000002\n    4 0x00000003\n    4 0x00000004\n\
+            \x20 SYMBOL 1\n    0x00000000 _m\n  END\n\
+            hunk 1 4 bytes attributes 0x00010004\n  NAME .t\n  DATA 4 bytes\n\
+            \x20 DEBUG 0 bytes\n  DEBUG 0 bytes\n  DEBUG 0 bytes\n  END\n\
+            hunk 2 0 bytes any\n  BSS 0 bytes\n  END\nhunk 3 0 bytes any\n  BSS 0 bytes\n  END\n\
+            hunk 4 4 bytes any\n  BSS 4 bytes\n  END\n",
+    },
+    Case {
+        call: Call::Show,
+        file: examples::TWO_UNITS,
+        output: "object file 2 units\nunit 0 a\nhunk 0 8 bytes\n  CODE 8 bytes\n\
+            \x20 RELOC32 1\n    0 0x00000002\n\
+            \x20 EXT 2\n    REF32 1 _f\n      0x00000002\n    DEF 0x00000000 _m\n  END\n\
+            hunk 1 4 bytes\n  BSS 4 bytes\n  SYMBOL 1\n    0x00000000 _m\n  END\n\
+            unit 1 \nhunk 0 4 bytes\n  BSS 4 bytes\n  END\n",
+    },
+];
 
-const STEPS: usize = 1_024;
+const VALIDATIONS: &[Case] = &[
+    Case {
+        call: Call::Validate,
+        file: examples::ONE_HUNK,
+        output: "load file 1 hunks 4 bytes\n",
+    },
+    Case {
+        call: Call::Validate,
+        file: examples::FIVE_HUNKS,
+        output: "load file 5 hunks 16 bytes\n",
+    },
+    Case {
+        call: Call::Validate,
+        file: examples::TWO_UNITS,
+        output: "object file 2 units 0 findings\n",
+    },
+];
 
-#[derive(Clone, Copy, Debug)]
-enum Call {
-    Show,
-    Validate,
-    Relocate,
-    Rewrite,
-}
+const RELOCATIONS: &[Case] = &[
+    Case {
+        call: Call::Relocate,
+        file: examples::ONE_HUNK,
+        output: "hunk 0 base 0x00021000 4 bytes\n  4e754e71\n",
+    },
+    // Example 43.
+    Case {
+        call: Call::Relocate,
+        file: examples::TWO_HUNKS,
+        output: "hunk 0 base 0x00021000 8 bytes\n  4ef90002100c4e71\n\
+            hunk 1 base 0x00021008 4 bytes\n  12345678\n",
+    },
+    // The base 0002100C is added to the longwords at 0, 1, 2, 3 and 4 in turn.
+    Case {
+        call: Call::Relocate,
+        file: examples::FIVE_HUNKS,
+        output: "hunk 0 base 0x00021000 8 bytes\n  4efb121e1e226a7d\n\
+            hunk 1 base 0x00021008 4 bytes\n  12345678\n\
+            hunk 2 base 0x0002100c 0 bytes\nhunk 3 base 0x0002100c 0 bytes\n\
+            hunk 4 base 0x0002100c 4 bytes\n  00000000\n",
+    },
+];
 
-/// What the call answers on the bytes, and how many bytes it writes.
-fn outcome(alloc: Global, call: Call, bytes: &[u8]) -> (Option<RunFault>, u64) {
-    let (mut out, mut source) = (wide(), FromSlice::new(bytes));
-    let fault = match call {
-        Call::Show => show(alloc, &mut source, &mut out, 1_000).err(),
-        Call::Validate => validate(alloc, &mut source, &mut out, 1_000).err(),
-        Call::Relocate => relocate(alloc, &mut source, &mut out, LIMITS, 0x21000).err(),
-        Call::Rewrite => rewrite(alloc, &mut source, &mut out, 1_000, true).err(),
-    };
-    (fault, out.written())
-}
+const REWRITES: &[Case] = &[
+    Case {
+        call: Call::Strip,
+        file: examples::ONE_HUNK,
+        output: examples::ONE_HUNK,
+    },
+    Case {
+        call: Call::Rewrite,
+        file: examples::FIVE_HUNKS,
+        output: examples::FIVE_HUNKS,
+    },
+    Case {
+        call: Call::Strip,
+        file: examples::FIVE_HUNKS,
+        output: "3F3 0 5 0 4 2 C0000001 10004 0 0 1 / 3E9 2 4EF90000 44E71 / 3EC 5 4 0 1 2 3 4 0 / 3F2 / \
+            3EA 1 12345678 / 3F2 / 3EB 0 / 3F2 / 3EB 0 / 3F2 / 3EB 1 / 3F2",
+    },
+    Case {
+        call: Call::Rewrite,
+        file: examples::TWO_UNITS,
+        output: examples::TWO_UNITS,
+    },
+    Case {
+        call: Call::Strip,
+        file: examples::TWO_UNITS,
+        output: "3E7 1 61000000 / 3E9 2 4EB90000 4E75 / 3EC 1 0 2 0 / \
+            3EF 81000001 5F660000 1 2 1000001 5F6D0000 0 0 / 3F2 / 3EB 1 / 3F2 / 3E7 0 / 3EB 1 / 3F2",
+    },
+];
 
-/// What it answers with ever more of the room left, so that ever later growths are refused.
-fn outcomes(alloc: Global, call: Call, bytes: &[u8]) -> Result<Vec<(Option<RunFault>, u64)>, Fail> {
-    let mut answers = vec![in alloc; (None, 0); STEPS]?;
-    // The stack grows to what a call needs while there is memory for it.
-    let (_fault, _written) = outcome(alloc, call, bytes);
-    let room = Vec::<u8>::with_capacity(alloc, ROOM)?;
-    let pieces = all_memory(alloc)?;
-    drop(room);
-    for (step, answer) in answers.iter_mut().enumerate() {
-        let taken = Vec::<u8>::with_capacity(alloc, ROOM - ROOM / STEPS * step);
-        *answer = outcome(alloc, call, bytes);
-        drop(taken);
+/// The fault of a call and how many bytes it has written, or nothing where it has written all.
+fn shortfall(
+    alloc: Global,
+    call: Call,
+    input: &[u8],
+    output: &[u8],
+) -> Option<(Option<RunFault>, u64)> {
+    let got = made(alloc, call, &mut FromSlice::new(input), roomy());
+    if got.fault.is_none() && got.narrow.taken() == output {
+        return None;
     }
-    drop(pieces);
-    Ok(answers)
+    Some((got.fault, got.written))
+}
+
+/// Sees that each call answers `Memory` and writes nothing, and writes so many bytes, all of its output, once
+/// no growth is refused.
+fn expect_growths(
+    rt: &impl Abort,
+    alloc: Global,
+    cases: &[Case],
+    sizes: &[usize],
+) -> Result<(), Fail> {
+    assert_eq!(rt; RunFault::Memory.status(), 4);
+    assert_eq!(rt; cases.len(), sizes.len());
+    for (case, size) in cases.iter().zip(sizes) {
+        let (input, output) = input_and_output(alloc, case)?;
+        assert_eq!(rt; output.len(), *size);
+        let answers = answers_growth_by_growth(
+            alloc,
+            || shortfall(alloc, case.call, input.as_slice(), output.as_slice()),
+        )?;
+        let want = [Some((Some(RunFault::Memory), 0)), None];
+        assert_eq!(rt;
+            answers.as_slice(),
+            want.as_slice(),
+            "{:?} of {}",
+            case.call,
+            case.file
+        );
+    }
+    Ok(())
 }
 
 #[test]
-fn refused_growths(rt: HostRuntime) -> Result<(), Fail> {
-    let bytes = bytes_of(rt.alloc(), EXAMPLE_1.as_slice())?;
-    for (call, size) in [
-        (Call::Show, 66),
-        (Call::Validate, 26),
-        (Call::Relocate, 42),
-        (Call::Rewrite, 40),
-    ] {
-        let answers = outcomes(rt.alloc(), call, bytes.as_slice())?;
-        let (refused, done) = ((Some(RunFault::Memory), 0), (None, size));
-        assert_eq!(rt; answers.first().copied(), Some(refused), "{call:?}");
-        assert_eq!(rt; answers.last().copied(), Some(done), "{call:?}");
-        for answer in answers.as_slice() {
-            assert!(rt; *answer == refused || *answer == done, "{call:?}");
-        }
+fn of_show(rt: HostRuntime) -> Result<(), Fail> {
+    if !memory_ends(&rt)? {
+        return Ok(());
     }
-    Ok(())
+    expect_growths(&rt, rt.alloc(), SHOWS, [66, 426, 263].as_slice())
+}
+
+#[test]
+fn of_validate(rt: HostRuntime) -> Result<(), Fail> {
+    if !memory_ends(&rt)? {
+        return Ok(());
+    }
+    expect_growths(&rt, rt.alloc(), VALIDATIONS, [26, 27, 31].as_slice())
+}
+
+#[test]
+fn of_relocate(rt: HostRuntime) -> Result<(), Fail> {
+    if !memory_ends(&rt)? {
+        return Ok(());
+    }
+    expect_growths(&rt, rt.alloc(), RELOCATIONS, [42, 92, 196].as_slice())
+}
+
+#[test]
+fn of_rewrite(rt: HostRuntime) -> Result<(), Fail> {
+    if !memory_ends(&rt)? {
+        return Ok(());
+    }
+    expect_growths(
+        &rt,
+        rt.alloc(),
+        REWRITES,
+        [40, 208, 152, 140, 120].as_slice(),
+    )
 }

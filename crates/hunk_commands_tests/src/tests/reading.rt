@@ -1,9 +1,8 @@
 //! Sources that fail at each read in turn, and then would go on.
 
 use crate::tests::calls::{CASES, Call, Outcome, input_and_output, made, roomy};
-use crate::tests::ends::Interrupted;
 use hunk_commands::RunFault;
-use hunk_testing::FailsOnce;
+use hunk_testing::{FailsOnce, Interrupted};
 use hunk_words::FromRead;
 use std::alloc::Global;
 use std::process::Abort;

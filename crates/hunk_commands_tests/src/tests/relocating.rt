@@ -1,16 +1,13 @@
 //! What `relocate` prints and refuses, by the examples.
 
-use crate::tests::ends::{Narrow, Slow, WIDTH, wide};
 use hunk_commands::{RunFault, relocate};
 use hunk_scatter::Limits;
-use hunk_testing::{bytes_of, examples, spelled};
+use hunk_testing::{CHANGES, Fed, Narrow, Then, WIDTH, bytes_of, changed, examples, spelled, wide};
 use hunk_words::{Fault, FromRead, FromSlice, FromWrite, LongWriter, Reason, Source};
 use std::alloc::{AllocError, Global};
 use std::test::Fail;
 
-/// A load file of one hunk, whose code is 4E754E71.
-pub(super) const EXAMPLE_1: [u32; 10] = [0x3F3, 0, 1, 0, 0, 1, 0x3E9, 1, 0x4E75_4E71, 0x3F2];
-
+/// What `relocate` prints of example 1 at `BASE`.
 const PRINTED: &str = "hunk 0 base 0x00021000 4 bytes\n  4e754e71\n";
 
 const BASE: u32 = 0x21000;
@@ -35,8 +32,7 @@ fn refused(place: u64, reason: Reason) -> RunFault {
 #[test]
 fn fills_with_zeros(rt: HostRuntime) -> Result<(), Fail> {
     // Example 4: three longwords are declared, and one is there.
-    let words = [0x3F3, 0, 1, 0, 0, 3, 0x3E9, 1, 0x4E75_4E71, 0x3F2];
-    let bytes = bytes_of(rt.alloc(), words.as_slice())?;
+    let bytes = spelled(rt.alloc(), examples::ENDING_EARLY)?;
     let text = printed(rt.alloc(), bytes.as_slice(), BASE)?;
     assert_eq!(rt;
         text.as_slice(),
@@ -80,7 +76,7 @@ fn prints_rows_of_sixteen(rt: HostRuntime) -> Result<(), Fail> {
 
 #[test]
 fn leaves_what_follows(rt: HostRuntime) -> Result<(), Fail> {
-    let mut bytes = bytes_of(rt.alloc(), EXAMPLE_1.as_slice())?;
+    let mut bytes = spelled(rt.alloc(), examples::ONE_HUNK)?;
     bytes.extend_from_slice(b"follows")?;
     let text = printed(rt.alloc(), bytes.as_slice(), BASE)?;
     assert_eq!(rt; text.as_slice(), PRINTED.as_bytes());
@@ -104,7 +100,7 @@ fn leaves_what_follows(rt: HostRuntime) -> Result<(), Fail> {
 #[test]
 fn cut_short(rt: HostRuntime) -> Result<(), Fail> {
     // Example 9: the first n bytes of a file of 40.
-    let bytes = bytes_of(rt.alloc(), EXAMPLE_1.as_slice())?;
+    let bytes = spelled(rt.alloc(), examples::ONE_HUNK)?;
     assert_eq!(rt; bytes.len(), 40);
     for n in 0..40usize {
         let place = 4 * (n as u64 / 4);
@@ -114,60 +110,22 @@ fn cut_short(rt: HostRuntime) -> Result<(), Fail> {
     Ok(())
 }
 
+/// Where it is not refused the image is the same.
 #[test]
 fn one_longword_changed(rt: HostRuntime) -> Result<(), Fail> {
-    let table = [
-        (0, 0x3E7, Reason::IsObject),
-        (0, 0x3FA, Reason::Library),
-        (0, 0x3F2, Reason::NotLoadFile),
-        (0, 0x2000_03F3, Reason::NotLoadFile),
-        (0, 0xC000_03E7, Reason::NotLoadFile),
-        (4, 1, Reason::Resident),
-        (8, 0, Reason::NoHunks),
-        (8, 0x10001, Reason::TooManyHunks),
-        (12, 1, Reason::FirstHunk),
-        (16, 1, Reason::LastHunk),
-        (24, 0xC000_03E9, Reason::BothBits),
-        (24, 0x3EC, Reason::BeforeContent),
-        (24, 0x3F2, Reason::NoContent),
-        (28, 2, Reason::ContentTooLong),
-        (36, 0x3F5, Reason::Overlay),
-        (36, 0x3F6, Reason::Break),
-        (36, 0x3FC, Reason::ShortReloc),
-        (36, 0x3F7, Reason::ShortReloc),
-        (36, 0x3EF, Reason::NotInLoadFile),
-        (36, 0x3FD, Reason::NotInLoadFile),
-        (36, 0x3E7, Reason::Misplaced),
-        (36, 0x3F4, Reason::UnknownBlock),
-        (36, 0x3E9, Reason::SecondContent),
-        (36, 0x3FA, Reason::Library),
-    ];
-    for (place, word, reason) in table {
-        let mut words = EXAMPLE_1;
-        let i = place / 4;
-        assert!(rt; i < 10);
-        words[i] = word;
-        let bytes = bytes_of(rt.alloc(), words.as_slice())?;
-        let got = printed(rt.alloc(), bytes.as_slice(), BASE).err();
-        assert_eq!(rt;
-            got,
-            Some(refused(place as u64, reason)),
-            "{word:x} at {place}"
-        );
-    }
-    // Flags of a block word, and the top bits of a content's size, are not looked at.
-    for (i, word) in [
-        (6, 0x2000_03E9),
-        (6, 0x4000_03E9),
-        (6, 0x3EA),
-        (7, 0x8000_0001),
-        (9, 0x2000_03F2),
-    ] {
-        let mut words = EXAMPLE_1;
-        words[i] = word;
-        let bytes = bytes_of(rt.alloc(), words.as_slice())?;
-        let text = printed(rt.alloc(), bytes.as_slice(), BASE)?;
-        assert_eq!(rt; text.as_slice(), PRINTED.as_bytes(), "{word:x}");
+    for (byte, word, fault) in CHANGES {
+        let bytes = changed(rt.alloc(), *byte, *word)?;
+        let got = printed(rt.alloc(), bytes.as_slice(), BASE);
+        match *fault {
+            Some((place, reason)) => {
+                assert_eq!(rt;
+                    got.err(),
+                    Some(refused(place, reason)),
+                    "{word:x} at {byte}"
+                );
+            }
+            None => assert_eq!(rt; got?.as_slice(), PRINTED.as_bytes(), "{word:x} at {byte}"),
+        }
     }
     Ok(())
 }
@@ -175,7 +133,7 @@ fn one_longword_changed(rt: HostRuntime) -> Result<(), Fail> {
 #[test]
 fn needs_a_base(rt: HostRuntime) -> Result<(), Fail> {
     // Example 32.
-    let bytes = bytes_of(rt.alloc(), EXAMPLE_1.as_slice())?;
+    let bytes = spelled(rt.alloc(), examples::ONE_HUNK)?;
     let got = printed(rt.alloc(), bytes.as_slice(), 0xFFFF_FFFD).err();
     assert_eq!(rt; got, Some(refused(24, Reason::NoBase(0))));
     let text = printed(rt.alloc(), bytes.as_slice(), 0xFFFF_FFFC)?;
@@ -216,7 +174,7 @@ fn counts_memory_attributes_in_the_header(rt: HostRuntime) -> Result<(), Fail> {
 
 #[test]
 fn keeps_to_the_limits(rt: HostRuntime) -> Result<(), Fail> {
-    let bytes = bytes_of(rt.alloc(), EXAMPLE_1.as_slice())?;
+    let bytes = spelled(rt.alloc(), examples::ONE_HUNK)?;
     for (file_bytes, budget, want) in [
         (0, 4, Err(refused(0, Reason::FileLimit))),
         (1, 4, Err(refused(1, Reason::FileLimit))),
@@ -238,10 +196,10 @@ fn keeps_to_the_limits(rt: HostRuntime) -> Result<(), Fail> {
 
 #[test]
 fn reads_in_any_pieces(rt: HostRuntime) -> Result<(), Fail> {
-    let bytes = bytes_of(rt.alloc(), EXAMPLE_1.as_slice())?;
+    let bytes = spelled(rt.alloc(), examples::ONE_HUNK)?;
     for step in [1, 3, 7, 256] {
         let mut out = LongWriter::new(FromWrite::new(Narrow::new(WIDTH, 1, false)));
-        let mut source = Slow::new(bytes.as_slice(), step, false);
+        let mut source = Fed::new(bytes.as_slice(), step, Then::Ends);
         let got = relocate(rt.alloc(), &mut source, &mut out, LIMITS, BASE);
         assert_eq!(rt; got, Ok(()));
         assert_eq!(rt; out.into_inner().into_inner().taken(), PRINTED.as_bytes());
@@ -257,12 +215,12 @@ fn reads_in_any_pieces(rt: HostRuntime) -> Result<(), Fail> {
 
 #[test]
 fn reading_fails_in_mid_stream(rt: HostRuntime) -> Result<(), Fail> {
-    let bytes = bytes_of(rt.alloc(), EXAMPLE_1.as_slice())?;
+    let bytes = spelled(rt.alloc(), examples::ONE_HUNK)?;
     assert_eq!(rt; bytes.len(), 40);
     for n in 0..40usize {
         for step in [1, 256] {
             let mut out = wide();
-            let mut source = Slow::new(&bytes[..n], step, true);
+            let mut source = Fed::new(&bytes[..n], step, Then::Fails);
             let got = relocate(rt.alloc(), &mut source, &mut out, LIMITS, BASE);
             assert_eq!(rt; got, Err(RunFault::Read { place: n as u64 }));
             assert_eq!(rt; out.written(), 0);
@@ -270,7 +228,7 @@ fn reading_fails_in_mid_stream(rt: HostRuntime) -> Result<(), Fail> {
     }
     // A source that fails behind the file is not asked again.
     let mut out = wide();
-    let mut source = Slow::new(bytes.as_slice(), 256, true);
+    let mut source = Fed::new(bytes.as_slice(), 256, Then::Fails);
     assert_eq!(rt;
         relocate(rt.alloc(), &mut source, &mut out, LIMITS, BASE),
         Ok(())
@@ -280,7 +238,7 @@ fn reading_fails_in_mid_stream(rt: HostRuntime) -> Result<(), Fail> {
 
 #[test]
 fn writing_fails_after_each_byte(rt: HostRuntime) -> Result<(), Fail> {
-    let bytes = bytes_of(rt.alloc(), EXAMPLE_1.as_slice())?;
+    let bytes = spelled(rt.alloc(), examples::ONE_HUNK)?;
     let text = PRINTED.as_bytes();
     assert_eq!(rt; text.len(), 42);
     for n in 0..42usize {

@@ -1,8 +1,8 @@
 //! Writers that take so many bytes, and then fail or take none.
 
 use crate::tests::calls::{CASES, Call, input_and_output, made};
-use crate::tests::ends::Narrow;
 use hunk_commands::RunFault;
+use hunk_testing::Narrow;
 use hunk_words::FromSlice;
 use std::alloc::Global;
 use std::process::Abort;
@@ -37,6 +37,34 @@ fn each_write_fails(rt: HostRuntime) -> Result<(), Fail> {
                 expect_cut(&rt, rt.alloc(), case.call, both, narrow, room);
             }
         }
+    }
+    Ok(())
+}
+
+/// Sees that a writer with room for just the output takes it all.
+fn expect_whole(rt: &impl Abort, alloc: Global, call: Call, input: &[u8], output: &[u8]) {
+    let narrow = Narrow::new(output.len(), 7, false);
+    let got = made(alloc, call, &mut FromSlice::new(input), narrow);
+    assert_eq!(rt; (got.fault, got.written), (None, output.len() as u64));
+    assert_eq!(rt; got.narrow.taken(), output);
+}
+
+/// How many bytes the cases write; the first is example 42.
+const WRITTEN: [usize; 7] = [124, 93, 27, 117, 64, 44, 92];
+
+#[test]
+fn whole_writes(rt: HostRuntime) -> Result<(), Fail> {
+    assert_eq!(rt; CASES.len(), WRITTEN.len());
+    for (case, size) in CASES.iter().zip(WRITTEN) {
+        let (input, output) = input_and_output(rt.alloc(), case)?;
+        assert_eq!(rt; output.len(), size);
+        expect_whole(
+            &rt,
+            rt.alloc(),
+            case.call,
+            input.as_slice(),
+            output.as_slice(),
+        );
     }
     Ok(())
 }

@@ -1,155 +1,101 @@
 //! What `rewrite` makes of files.
 
+use crate::tests::samples::{ALL_KINDS, FLAGGED};
+use hunk_testing::examples;
+
 /// A file and what `rewrite` makes of it: nothing where it stays the same.
 pub(in crate::tests) struct Again {
     pub name: &'static str,
-    pub hex: &'static str,
+    pub file: &'static str,
+    /// How many zero bytes follow it.
+    pub rest: usize,
     pub strip: bool,
     pub made: &'static str,
-    pub rest: u64,
 }
 
-pub(in crate::tests) static AGAIN: [Again; 16] = [
+pub(in crate::tests) static AGAIN: [Again; 12] = [
     Again {
         name: "example 10",
-        hex: "000003F3 00000000 00000001 00000000 00000000 00000001 000003E9 00000001 4E754E71 \
-        000003F2 00000000 000000",
-        strip: false,
-        made: "000003F3 00000000 00000001 00000000 00000000 00000001 000003E9 00000001 4E754E71 \
-        000003F2",
+        file: examples::ONE_HUNK,
         rest: 7,
+        strip: false,
+        made: examples::ONE_HUNK,
     },
     Again {
         name: "example 14",
-        hex: "000003E7 00000001 61000000 000003E9 00000002 4EB90000 00004E75 000003EF 81000001 \
-        5F660000 00000001 00000002 01000001 5F6D0000 00000000 00000000 000003F2",
+        file: examples::OBJECT,
+        rest: 0,
         strip: false,
         made: "",
-        rest: 0,
     },
     Again {
         name: "example 14, stripped",
-        hex: "000003E7 00000001 61000000 000003E9 00000002 4EB90000 00004E75 000003EF 81000001 \
-        5F660000 00000001 00000002 01000001 5F6D0000 00000000 00000000 000003F2",
+        file: examples::OBJECT,
+        rest: 0,
         strip: true,
         made: "",
-        rest: 0,
     },
     Again {
         name: "example 18",
-        hex: "000003F3 00000000 00000001 00000000 00000000 00000001 000003E9 00000001 4E754E71 \
-        000003F0 00000001 5F6D0000 00000000 00000000 000003F2",
+        file: examples::WITH_A_SYMBOL,
+        rest: 0,
         strip: false,
         made: "",
-        rest: 0,
     },
     Again {
         name: "example 18, stripped",
-        hex: "000003F3 00000000 00000001 00000000 00000000 00000001 000003E9 00000001 4E754E71 \
-        000003F0 00000001 5F6D0000 00000000 00000000 000003F2",
-        strip: true,
-        made: "000003F3 00000000 00000001 00000000 00000000 00000001 000003E9 00000001 4E754E71 \
-        000003F2",
+        file: examples::WITH_A_SYMBOL,
         rest: 0,
+        strip: true,
+        made: examples::ONE_HUNK,
     },
     Again {
         name: "example 19, stripped",
-        hex: "000003F3 00000000 00000001 00000000 00000000 00000001 000003E9 00000001 4E754E71 \
-        200004D2 00000002 DEADBEEF 000003F2 000003F2",
-        strip: true,
-        made: "000003F3 00000000 00000001 00000000 00000000 00000001 000003E9 00000001 4E754E71 \
-        000003F2",
+        file: examples::WITH_AN_ADVISORY,
         rest: 0,
+        strip: true,
+        made: examples::ONE_HUNK,
     },
     Again {
         name: "example 24, stripped",
-        hex: "000003F3 00000000 00000001 00000000 00000000 00000001 000003E8 00000001 2E740A5C \
-        000003E9 00000001 4E754E71 000003F2",
-        strip: true,
-        made: "000003F3 00000000 00000001 00000000 00000000 00000001 000003E9 00000001 4E754E71 \
-        000003F2",
+        file: examples::WITH_A_NAME,
         rest: 0,
+        strip: true,
+        made: examples::ONE_HUNK,
     },
     Again {
         name: "example 37, stripped",
-        hex: "000003F3 00000000 00000001 00000000 00000000 00000001 000003E9 00000001 00000010 \
-        000003F0 00000000 000003EC 00000001 00000000 00000000 00000000 000003F2",
-        strip: true,
-        made: "000003F3 00000000 00000001 00000000 00000000 00000001 000003E9 00000001 00000010 \
-        000003EC 00000001 00000000 00000000 00000000 000003F2",
+        file: examples::RELOCATED_BEHIND_SYMBOLS,
         rest: 0,
+        strip: true,
+        made: examples::RELOCATED_ALONE,
     },
     Again {
         name: "example 45",
-        hex: "000003E7 00000001 61000000 000003E9 00000002 00000000 00000000 000003FD 00000001 \
-        00000000 00000004 00000000 000003FE 00000001 00000000 00000006 00000000 000003EF \
-        88000001 5F660000 00000001 00000004 8A000001 5F670000 00000001 00000007 00000000 \
-        000003F2",
+        file: examples::RELATIVE_OBJECT,
+        rest: 0,
         strip: false,
         made: "",
-        rest: 0,
     },
     Again {
         name: "blocks of load files with flags",
-        hex: "000003F3 00000000 00000003 00000000 00000002 40000002 80000001 00000001 600003E8 \
-        00000001 61000000 400003E9 80000001 00000000 A00003EC 00000002 00000001 00000000 \
-        00000004 00000001 00000002 00000000 00000000 800003F1 00000001 00000000 200003F0 \
-        00000000 400003F2 800003EA 00000000 000003F2 200003EB 40000001 600004D2 00000001 \
-        00000000 A00004D2 00000000 000003F2",
+        file: FLAGGED,
+        rest: 0,
         strip: false,
         made: "",
-        rest: 0,
     },
     Again {
         name: "all kinds of relocations and entries",
-        hex: "000003E7 00000000 000003E9 00000001 00000000 200003EC 00000000 400003ED 00000001 \
-        00000000 00000000 00000000 800003EE 00000000 000003F7 00000000 000003F8 00000000 \
-        000003F9 00000000 000003FD 00000000 000003FE 00000000 600003EF 00000001 41000000 \
-        00000005 01000000 00000007 02000001 7F1F2000 00000008 81000001 7E41005C 00000000 \
-        82000000 0000000C 00000000 83000000 00000001 00000000 84000000 00000000 85000000 \
-        00000000 86000000 00000000 87000000 00000000 88000000 00000000 89000000 00000010 \
-        00000001 00000003 8A000000 00000000 8B000000 00000000 00000000 000003F2",
+        file: ALL_KINDS,
+        rest: 0,
         strip: false,
         made: "",
-        rest: 0,
     },
     Again {
         name: "an object file with an ADVISORY block, stripped",
-        hex: "000003E7 00000000 200004D2 00000000 000003EB 00000001 000003F2",
+        file: examples::OBJECT_WITH_AN_ADVISORY,
+        rest: 0,
         strip: true,
-        made: "000003E7 00000000 000003EB 00000001 000003F2",
-        rest: 0,
-    },
-    Again {
-        name: "example 23, byte 24 200003E9",
-        hex: "000003F3 00000000 00000001 00000000 00000000 00000001 200003E9 00000001 4E754E71 \
-        000003F2",
-        strip: false,
-        made: "",
-        rest: 0,
-    },
-    Again {
-        name: "example 23, byte 24 400003E9",
-        hex: "000003F3 00000000 00000001 00000000 00000000 00000001 400003E9 00000001 4E754E71 \
-        000003F2",
-        strip: false,
-        made: "",
-        rest: 0,
-    },
-    Again {
-        name: "example 23, byte 28",
-        hex: "000003F3 00000000 00000001 00000000 00000000 00000001 000003E9 80000001 4E754E71 \
-        000003F2",
-        strip: false,
-        made: "",
-        rest: 0,
-    },
-    Again {
-        name: "example 44, byte 36",
-        hex: "000003F3 00000000 00000001 00000000 00000000 00000001 000003E9 00000001 4E754E71 \
-        200003F2",
-        strip: false,
-        made: "",
-        rest: 0,
+        made: examples::OBJECT_WITHOUT_IT,
     },
 ];

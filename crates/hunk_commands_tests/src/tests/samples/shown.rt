@@ -1,17 +1,22 @@
 //! What `show` prints of files.
 
+use crate::tests::samples::{ALL_KINDS, FLAGGED};
+use hunk_testing::examples;
+
 /// A file, and what `show` prints of it.
 pub(in crate::tests) struct Shown {
     pub name: &'static str,
-    pub hex: &'static str,
+    pub file: &'static str,
+    /// How many zero bytes follow it.
+    pub rest: usize,
     pub text: &'static str,
 }
 
 pub(in crate::tests) static SHOWN: [Shown; 16] = [
     Shown {
         name: "example 8",
-        hex: "000003F3 00000000 00000002 00000000 00000001 C0000002 00010004 00000001 000003E9 \
-        00000002 4E714E71 4E754E71 000003F2 000003EB 00000001 000003F2",
+        file: examples::WITH_ATTRIBUTES,
+        rest: 0,
         text: "load file 2 hunks 12 bytes
 hunk 0 8 bytes attributes 0x00010004
   CODE 8 bytes
@@ -23,8 +28,8 @@ hunk 1 4 bytes any
     },
     Shown {
         name: "example 10",
-        hex: "000003F3 00000000 00000001 00000000 00000000 00000001 000003E9 00000001 4E754E71 \
-        000003F2 00000000 000000",
+        file: examples::ONE_HUNK,
+        rest: 7,
         text: "load file 1 hunks 4 bytes
 hunk 0 4 bytes any
   CODE 4 bytes
@@ -34,8 +39,8 @@ rest 7 bytes
     },
     Shown {
         name: "example 13",
-        hex: "000003E7 00000001 61000000 000003E9 00000001 00000000 000003F7 00000001 00000000 \
-        00000000 00000000 000003F2",
+        file: examples::OBJECT_WITH_DREL32,
+        rest: 0,
         text: "object file 1 units
 unit 0 a
 hunk 0 4 bytes
@@ -47,8 +52,8 @@ hunk 0 4 bytes
     },
     Shown {
         name: "example 14",
-        hex: "000003E7 00000001 61000000 000003E9 00000002 4EB90000 00004E75 000003EF 81000001 \
-        5F660000 00000001 00000002 01000001 5F6D0000 00000000 00000000 000003F2",
+        file: examples::OBJECT,
+        rest: 0,
         text: "object file 1 units
 unit 0 a
 hunk 0 8 bytes
@@ -62,8 +67,8 @@ hunk 0 8 bytes
     },
     Shown {
         name: "example 18",
-        hex: "000003F3 00000000 00000001 00000000 00000000 00000001 000003E9 00000001 4E754E71 \
-        000003F0 00000001 5F6D0000 00000000 00000000 000003F2",
+        file: examples::WITH_A_SYMBOL,
+        rest: 0,
         text: "load file 1 hunks 4 bytes
 hunk 0 4 bytes any
   CODE 4 bytes
@@ -74,8 +79,8 @@ hunk 0 4 bytes any
     },
     Shown {
         name: "example 19",
-        hex: "000003F3 00000000 00000001 00000000 00000000 00000001 000003E9 00000001 4E754E71 \
-        200004D2 00000002 DEADBEEF 000003F2 000003F2",
+        file: examples::WITH_AN_ADVISORY,
+        rest: 0,
         text: "load file 1 hunks 4 bytes
 hunk 0 4 bytes any
   CODE 4 bytes
@@ -85,8 +90,8 @@ hunk 0 4 bytes any
     },
     Shown {
         name: "example 24",
-        hex: "000003F3 00000000 00000001 00000000 00000000 00000001 000003E8 00000001 2E740A5C \
-        000003E9 00000001 4E754E71 000003F2",
+        file: examples::WITH_A_NAME,
+        rest: 0,
         text: "load file 1 hunks 4 bytes
 hunk 0 4 bytes any
   NAME .t\\x0a\\x5c
@@ -96,15 +101,16 @@ hunk 0 4 bytes any
     },
     Shown {
         name: "example 26",
-        hex: "000003E7 00000000",
+        file: examples::EMPTY_UNIT,
+        rest: 0,
         text: "object file 1 units
 unit 0 
 ",
     },
     Shown {
         name: "example 29",
-        hex: "000003E7 00000000 000003E9 00000001 00000000 000003EC 00000001 00000001 00000002 \
-        00000000 000003F2",
+        file: examples::TWO_FINDINGS,
+        rest: 0,
         text: "object file 1 units
 unit 0 
 hunk 0 4 bytes
@@ -116,7 +122,8 @@ hunk 0 4 bytes
     },
     Shown {
         name: "example 34",
-        hex: "000003E7 00000000 000003E7 00000001 62000000 000003EB 00000004 000003F2",
+        file: examples::EMPTY_UNIT_AND_ANOTHER,
+        rest: 0,
         text: "object file 2 units
 unit 0 
 unit 1 b
@@ -127,8 +134,8 @@ hunk 0 16 bytes
     },
     Shown {
         name: "example 35",
-        hex: "000003E7 00000000 000003EB 00000002 000003EF 82000001 63000000 00000008 00000001 \
-        00000004 00000000 000003F2",
+        file: examples::COMMON,
+        rest: 0,
         text: "object file 1 units
 unit 0 
 hunk 0 8 bytes
@@ -141,8 +148,8 @@ hunk 0 8 bytes
     },
     Shown {
         name: "an advisory END",
-        hex: "000003F3 00000000 00000001 00000000 00000000 00000001 000003E9 00000001 4E754E71 \
-        200003F2",
+        file: "3F3 0 1 0 0 1 3E9 1 4E754E71 200003F2",
+        rest: 0,
         text: "load file 1 hunks 4 bytes
 hunk 0 4 bytes any
   CODE 4 bytes
@@ -151,7 +158,8 @@ hunk 0 4 bytes any
     },
     Shown {
         name: "an object file with an ADVISORY block",
-        hex: "000003E7 00000000 200004D2 00000000 000003EB 00000001 000003F2",
+        file: examples::OBJECT_WITH_AN_ADVISORY,
+        rest: 0,
         text: "object file 1 units
 unit 0 
 hunk 0 4 bytes
@@ -162,10 +170,8 @@ hunk 0 4 bytes
     },
     Shown {
         name: "example 45",
-        hex: "000003E7 00000001 61000000 000003E9 00000002 00000000 00000000 000003FD 00000001 \
-        00000000 00000004 00000000 000003FE 00000001 00000000 00000006 00000000 000003EF \
-        88000001 5F660000 00000001 00000004 8A000001 5F670000 00000001 00000007 00000000 \
-        000003F2",
+        file: examples::RELATIVE_OBJECT,
+        rest: 0,
         text: "object file 1 units
 unit 0 a
 hunk 0 8 bytes
@@ -184,11 +190,8 @@ hunk 0 8 bytes
     },
     Shown {
         name: "blocks of load files with flags",
-        hex: "000003F3 00000000 00000003 00000000 00000002 40000002 80000001 00000001 600003E8 \
-        00000001 61000000 400003E9 80000001 00000000 A00003EC 00000002 00000001 00000000 \
-        00000004 00000001 00000002 00000000 00000000 800003F1 00000001 00000000 200003F0 \
-        00000000 400003F2 800003EA 00000000 000003F2 200003EB 40000001 600004D2 00000001 \
-        00000000 A00004D2 00000000 000003F2",
+        file: FLAGGED,
+        rest: 0,
         text: "load file 3 hunks 16 bytes
 hunk 0 8 bytes chip
   NAME advisory chip a
@@ -212,13 +215,8 @@ hunk 2 4 bytes any
     },
     Shown {
         name: "all kinds of relocations and entries",
-        hex: "000003E7 00000000 000003E9 00000001 00000000 200003EC 00000000 400003ED 00000001 \
-        00000000 00000000 00000000 800003EE 00000000 000003F7 00000000 000003F8 00000000 \
-        000003F9 00000000 000003FD 00000000 000003FE 00000000 600003EF 00000001 41000000 \
-        00000005 01000000 00000007 02000001 7F1F2000 00000008 81000001 7E41005C 00000000 \
-        82000000 0000000C 00000000 83000000 00000001 00000000 84000000 00000000 85000000 \
-        00000000 86000000 00000000 87000000 00000000 88000000 00000000 89000000 00000010 \
-        00000001 00000003 8A000000 00000000 8B000000 00000000 00000000 000003F2",
+        file: ALL_KINDS,
+        rest: 0,
         text: "object file 1 units
 unit 0 
 hunk 0 4 bytes
