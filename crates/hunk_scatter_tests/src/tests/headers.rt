@@ -2,7 +2,10 @@
 ghost use Rattle.std.specs.Prelude.{◌≤◌, length};
 
 use hunk_scatter::{BodyLoader, Declared, HeaderLoader, Listed, Packed, Placer, Unplaced};
-use hunk_testing::examples::{ONE_HUNK, TWO_HUNKS};
+use hunk_testing::examples::{
+    ENDING_IN_ZEROS, LARGEST_HUNK, LAST_HUNK_AMISS, NO_HUNKS, ONE_HUNK, TOO_MANY_HUNKS, TWO_HUNKS,
+    WITH_ATTRIBUTES,
+};
 use hunk_testing::spelled;
 use hunk_words::{LoadFault, Memory, Reason};
 use std::alloc::Global;
@@ -95,9 +98,9 @@ fn in_pieces(
 }
 
 const IN_PIECES: &[(&str, u64, Result<(u32, u64), (u64, Reason)>)] = &[
-    ("3F3 0 2 0 1 C0000002 10004 1 / 3E9 2", 1_000, Ok((2, 12))),
-    ("3F3 0 2 0 1 2 3 / 3E9 1", 20, Ok((2, 20))),
-    ("3F3 0 2 0 1 2 3 / 3E9 1", 19, Err((24, Reason::Budget))),
+    (WITH_ATTRIBUTES, 1_000, Ok((2, 12))),
+    (ENDING_IN_ZEROS, 20, Ok((2, 20))),
+    (ENDING_IN_ZEROS, 19, Err((24, Reason::Budget))),
     ("3F3 0 2 0 0 1 1", 1_000, Err((16, Reason::LastHunk))),
 ];
 
@@ -119,7 +122,7 @@ fn expect_in_pieces(
     }
 }
 
-/// Headers of examples 7, 8 and 16 with what follows.
+/// Examples 7 and 8, and the header of example 16 with rows behind it.
 #[test]
 fn headers_in_pieces(rt: HostRuntime) -> Result<(), Fail> {
     for (text, budget, want) in IN_PIECES {
@@ -185,17 +188,13 @@ fn wants_at_most_a_buffer(rt: HostRuntime) -> Result<(), Fail> {
 
 /// Examples 7, 16 and 17: the bytes that are declared, or the place and the reason.
 const ANSWERS: &[(&str, u64, Result<u64, (u64, Reason)>)] = &[
-    ("3F3 0 2 0 1 2 3", 19, Err((24, Reason::Budget))),
-    ("3F3 0 2 0 1 2 3", 20, Ok(20)),
-    ("3F3 0 2 0 0", 1_000, Err((16, Reason::LastHunk))),
-    ("3F3 0 0", 1_000, Err((8, Reason::NoHunks))),
-    ("3F3 0 10001", 1_000, Err((8, Reason::TooManyHunks))),
-    (
-        "3F3 0 1 0 0 3FFFFFFF",
-        4_294_967_291,
-        Err((20, Reason::Budget)),
-    ),
-    ("3F3 0 1 0 0 3FFFFFFF", 4_294_967_292, Ok(4_294_967_292)),
+    (ENDING_IN_ZEROS, 19, Err((24, Reason::Budget))),
+    (ENDING_IN_ZEROS, 20, Ok(20)),
+    (LAST_HUNK_AMISS, 1_000, Err((16, Reason::LastHunk))),
+    (NO_HUNKS, 1_000, Err((8, Reason::NoHunks))),
+    (TOO_MANY_HUNKS, 1_000, Err((8, Reason::TooManyHunks))),
+    (LARGEST_HUNK, 4_294_967_291, Err((20, Reason::Budget))),
+    (LARGEST_HUNK, 4_294_967_292, Ok(4_294_967_292)),
     ("3F3 0 1 0 0 1 / 3FA", 1_000, Ok(4)),
 ];
 
@@ -222,7 +221,7 @@ fn expect_row(rt: &impl Abort, declared: &Declared, i: u32, memory: Memory, byte
 /// The table of example 8.
 #[test]
 fn tables(rt: HostRuntime) -> Result<(), Fail> {
-    let declared = declared(&rt, rt.alloc(), "3F3 0 2 0 1 C0000002 10004 1", 32)?;
+    let declared = declared(&rt, rt.alloc(), WITH_ATTRIBUTES, 32)?;
     assert_eq!(rt; declared.hunks(), 2);
     assert_eq!(rt; declared.held(), 24);
     expect_row(&rt, &declared, 0, Memory::Attributes(0x10004), 8);
@@ -335,14 +334,14 @@ fn held(rt: HostRuntime) -> Result<(), Fail> {
 /// A loader that has refused answers the same again, and takes nothing.
 #[test]
 fn stays_refused(rt: HostRuntime) -> Result<(), Fail> {
-    let header = spelled(rt.alloc(), "3F3 0 1 0 0 1")?;
+    let bytes = spelled(rt.alloc(), ONE_HUNK)?;
     let mut counted = Counted::new(rt.alloc(), 3);
     let fault = LoadFault {
         place: 20,
         reason: Reason::Budget,
     };
     for _ in 0..2u8 {
-        let fed = counted.feed(&rt, header.as_slice());
+        let fed = counted.feed(&rt, bytes.as_slice());
         assert_eq!(rt; fed, Err(fault));
     }
     assert_eq!(rt; counted.loader.want(), 0);

@@ -1,7 +1,7 @@
 //! What loaders hold, by what the allocator still gives beside them.
 
 use hunk_scatter::{BodyLoader, Declared, HeaderLoader, Packed};
-use hunk_testing::{bytes_of, left_beside, spelled};
+use hunk_testing::{bytes_of, left_beside, memory_ends, spelled};
 use std::alloc::{AllocError, Global};
 use std::process::Abort;
 use std::test::Fail;
@@ -67,6 +67,9 @@ fn declared(alloc: Global, header: &[u8]) -> Option<Declared> {
 /// 64 rows of 12 bytes, which is what their list has room for.
 #[test]
 fn rows_of_a_header(rt: HostRuntime) -> Result<(), Fail> {
+    if !memory_ends(&rt)? {
+        return Ok(());
+    }
     let bytes = header(rt.alloc(), 64)?;
     let alloc = rt.alloc();
     let (loader, left) = left_beside(alloc, || fed(alloc, bytes.as_slice(), 10_000))?;
@@ -78,6 +81,9 @@ fn rows_of_a_header(rt: HostRuntime) -> Result<(), Fail> {
 /// A loader that has refused holds nothing.
 #[test]
 fn nothing_behind_a_refusal(rt: HostRuntime) -> Result<(), Fail> {
+    if !memory_ends(&rt)? {
+        return Ok(());
+    }
     let bytes = header(rt.alloc(), 64)?;
     let alloc = rt.alloc();
     let (loader, left) = left_beside(alloc, || fed(alloc, bytes.as_slice(), 4_200))?;
@@ -88,6 +94,9 @@ fn nothing_behind_a_refusal(rt: HostRuntime) -> Result<(), Fail> {
 /// A table holds 12 bytes a hunk, not what the list had room for while it grew.
 #[test]
 fn rows_of_a_table(rt: HostRuntime) -> Result<(), Fail> {
+    if !memory_ends(&rt)? {
+        return Ok(());
+    }
     let bytes = header(rt.alloc(), HUNKS)?;
     let alloc = rt.alloc();
     let (table, left) = left_beside(alloc, || declared(alloc, bytes.as_slice()))?;
@@ -119,6 +128,9 @@ const BODIES: &[&str] = &[
 /// The rows and one store of the bytes that are declared, whatever was fed.
 #[test]
 fn rows_and_store(rt: HostRuntime) -> Result<(), Fail> {
+    if !memory_ends(&rt)? {
+        return Ok(());
+    }
     let (alloc, header) = (rt.alloc(), header(rt.alloc(), HUNKS)?);
     for text in BODIES {
         let body = spelled(alloc, text)?;

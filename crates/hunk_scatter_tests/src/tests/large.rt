@@ -1,7 +1,7 @@
 //! Files at their limits, by readers of few bytes at a time.
 
-use crate::tests::sources::{Fed, Then};
 use hunk_scatter::{Image, Limits, Packed, load};
+use hunk_testing::{Fed, Then, bytes_of};
 use std::alloc::{AllocError, Global};
 use std::process::Abort;
 use std::test::Fail;
@@ -10,13 +10,6 @@ const LIMITS: Limits = Limits {
     budget: 1 << 20,
     file_bytes: 4_000_000,
 };
-
-fn put(bytes: &mut Vec<u8>, words: &[u32]) -> Result<(), AllocError> {
-    for word in words {
-        bytes.extend_from_slice(word.to_be_bytes().as_slice())?;
-    }
-    Ok(())
-}
 
 /// The base of a hunk where each has a longword and the first lies at 0x21000.
 fn base_of(hunk: u32) -> u32 {
@@ -30,9 +23,9 @@ fn long_of(hunk: u32) -> [u8; 4] {
 
 /// Loads the bytes by a reader of so many bytes a read, which gives all of them.
 fn loaded(rt: &impl Abort, alloc: Global, bytes: &[u8], most: usize, start: u32) -> Image {
-    let mut source = Fed::new(bytes, 0, most, Then::Ends);
+    let mut source = Fed::new(bytes, most, Then::Ends);
     let answer = load(alloc, &mut source, LIMITS, &Packed { start });
-    assert!(rt; source.rest.is_empty());
+    assert!(rt; source.rest().is_empty());
     match answer {
         Ok(image) => image,
         Err(fault) => panic!(rt; "{fault:?}"),
@@ -41,16 +34,15 @@ fn loaded(rt: &impl Abort, alloc: Global, bytes: &[u8], most: usize, start: u32)
 
 /// A file of as many hunks as there can be, each of one longword to which its neighbour's base is added.
 fn most_hunks(alloc: Global) -> Result<Vec<u8>, AllocError> {
-    let mut bytes = Vec::new(alloc);
-    put(&mut bytes, [0x3F3, 0, 65_536, 0, 65_535].as_slice())?;
+    let mut longs = [0x3F3, 0, 65_536, 0, 65_535].to_vec(alloc)?;
     for _ in 0..65_536u32 {
-        put(&mut bytes, [1].as_slice())?;
+        longs.push(1)?;
     }
     for hunk in 0..65_536u32 {
-        let words = [0x3E9, 1, hunk, 0x3EC, 1, hunk ^ 1, 0, 0, 0x3F2];
-        put(&mut bytes, words.as_slice())?;
+        let of_hunk = [0x3E9, 1, hunk, 0x3EC, 1, hunk ^ 1, 0, 0, 0x3F2];
+        longs.extend_from_slice(of_hunk.as_slice())?;
     }
-    Ok(bytes)
+    bytes_of(alloc, longs.as_slice())
 }
 
 /// Sees that the segments have their bases and longwords, in turn and one by one.
@@ -77,14 +69,12 @@ fn many_hunks(rt: HostRuntime) -> Result<(), Fail> {
 
 /// A file of one hunk of a MiB, which is its content.
 fn large_hunk(alloc: Global) -> Result<Vec<u8>, AllocError> {
-    let mut bytes = Vec::new(alloc);
-    let front = [0x3F3, 0, 1, 0, 0, 0x40000, 0x3E9, 0x40000];
-    put(&mut bytes, front.as_slice())?;
+    let mut longs = [0x3F3, 0, 1, 0, 0, 0x40000, 0x3E9, 0x40000].to_vec(alloc)?;
     for i in 0..0x40000u32 {
-        put(&mut bytes, [i.wrapping_mul(0x9E37_79B1)].as_slice())?;
+        longs.push(i.wrapping_mul(0x9E37_79B1))?;
     }
-    put(&mut bytes, [0x3F2].as_slice())?;
-    Ok(bytes)
+    longs.push(0x3F2)?;
+    bytes_of(alloc, longs.as_slice())
 }
 
 #[test]

@@ -1,11 +1,10 @@
 //! What a load reads and holds at most.
 
-use crate::tests::loads::{START, Want, comes, front};
-use crate::tests::sources::{Fed, Then};
-use crate::tests::{AMPLE, outcome};
+use crate::tests::loads::{START, Want, comes};
+use crate::tests::{AMPLE, cut_at, outcome};
 use hunk_scatter::{Limits, Listed};
 use hunk_testing::examples::{ENDING_IN_ZEROS, ONE_HUNK, TWO_HUNKS};
-use hunk_testing::{FailsOnce, spelled};
+use hunk_testing::{FailsOnce, Fed, Then, spelled};
 use hunk_words::{LoadFault, Reason};
 use std::alloc::Global;
 use std::process::Abort;
@@ -72,7 +71,7 @@ fn limits(rt: HostRuntime) -> Result<(), Fail> {
             file_bytes: *file_bytes,
         };
         let bytes = spelled(rt.alloc(), text)?;
-        let front = front(bytes.as_slice(), *count);
+        let (front, _) = cut_at(bytes.as_slice(), *count);
         comes(&rt, rt.alloc(), front, limits, &START, want, example)?;
     }
     Ok(())
@@ -82,14 +81,14 @@ fn limits(rt: HostRuntime) -> Result<(), Fail> {
 #[test]
 fn no_read(rt: HostRuntime) -> Result<(), Fail> {
     let bytes = spelled(rt.alloc(), ONE_HUNK)?;
-    let mut source = Fed::new(bytes.as_slice(), 0, 256, Then::Ends);
+    let mut source = Fed::new(bytes.as_slice(), 256, Then::Ends);
     let none = Limits {
         budget: 4,
         file_bytes: 0,
     };
     let got = outcome(rt.alloc(), &mut source, none, &START)?;
     assert!(rt; got.is_err());
-    assert_eq!(rt; source.reads, 0);
+    assert_eq!(rt; source.reads(), 0);
     Ok(())
 }
 
@@ -97,11 +96,11 @@ fn no_read(rt: HostRuntime) -> Result<(), Fail> {
 #[test]
 fn no_base(rt: HostRuntime) -> Result<(), Fail> {
     let bytes = spelled(rt.alloc(), TWO_HUNKS)?;
-    let mut source = Fed::new(bytes.as_slice(), 0, 256, Then::Ends);
+    let mut source = Fed::new(bytes.as_slice(), 256, Then::Ends);
     let one = Listed([0x10000].as_slice());
     let got = outcome(rt.alloc(), &mut source, AMPLE, &one)?;
     assert!(rt; got.is_err());
-    assert_eq!(rt; source.rest.len(), 56);
+    assert_eq!(rt; source.rest().len(), 56);
     Ok(())
 }
 
@@ -127,7 +126,7 @@ fn expect_stop(
     };
     let got = outcome(alloc, source, limits, &START)?;
     assert_eq!(rt; got, Err(fault));
-    assert!(rt; source.reads <= file_bytes.saturating_add(1));
+    assert!(rt; source.reads() <= file_bytes.saturating_add(1));
     Ok(())
 }
 
@@ -140,8 +139,9 @@ fn stops(rt: HostRuntime) -> Result<(), Fail> {
             place: *place,
             reason: *reason,
         };
+        let (front, _) = cut_at(one.as_slice(), *given);
         for most in [1, 3, 256] {
-            let mut source = Fed::new(front(one.as_slice(), *given), 0, most, *then);
+            let mut source = Fed::new(front, most, *then);
             expect_stop(&rt, rt.alloc(), &mut source, *file_bytes, fault)?;
         }
     }

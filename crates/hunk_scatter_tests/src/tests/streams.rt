@@ -1,5 +1,6 @@
 //! A loader in memory that is its caller's: pieces cut at each byte, a refusal, and numbers of no loader.
 
+use crate::tests::cut_at;
 use hunk_files::Row;
 use hunk_scatter::stream::{Standing, Stop, begin, take_piece};
 use hunk_testing::examples::{
@@ -63,12 +64,6 @@ fn file_of(alloc: Global, text: &str, header: usize, table: Table) -> Result<Fil
         header,
         rows: rows_of(alloc, table)?,
     })
-}
-
-/// The bytes up to one, and those from there on.
-fn cut_at(bytes: &[u8], count: usize) -> (&[u8], &[u8]) {
-    let count = count.min(bytes.len());
-    (&bytes[..count], &bytes[count..])
 }
 
 /// Feeds a piece that is taken whole.
