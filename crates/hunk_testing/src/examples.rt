@@ -124,6 +124,11 @@ pub const RELATIVE_OBJECT: &str = "3E7 1 61000000 / 3E9 2 0 0 / 3FD 1 0 4 0 / 3F
 /// The front of a header of as many hunks as there can be, up to its table.
 pub const MOST_HUNKS: &str = "3F3 0 10000 0 FFFF";
 
+/// A load file of four hunks, at 36, 100, 112 and 128, the first with a relocation at 56 and a symbol at 76.
+pub const FOUR_HUNKS: &str = "3F3 0 4 0 3 3 1 1 1 / \
+    3E9 3 0 0 0 / 3EC 1 1 8 0 / 3F0 1 5F6D0000 0 0 / 3F2 / \
+    3EB 1 / 3F2 / 3EA 1 12345678 / 3F2 / 3EB 1 / 3F2";
+
 /// A load file of five hunks, one with relocations and symbols, one of six blocks.
 pub const FIVE_HUNKS: &str = "3F3 0 5 0 4 2 C0000001 10004 0 0 1 / \
     3E9 2 4EF90000 44E71 / 3EC 5 4 0 1 2 3 4 0 / 3F0 1 5F6D0000 0 0 / 3F2 / \

@@ -16,6 +16,13 @@ const SHOWS: &[Case] = &[
     },
     Case {
         call: Call::Show,
+        file: examples::FOUR_HUNKS,
+        output: "load file 4 hunks 24 bytes\nhunk 0 12 bytes any\n  CODE 12 bytes\n  RELOC32 1\n    1 0x00000008\n\
+            \x20 SYMBOL 1\n    0x00000000 _m\n  END\nhunk 1 4 bytes any\n  BSS 4 bytes\n  END\n\
+            hunk 2 4 bytes any\n  DATA 4 bytes\n  END\nhunk 3 4 bytes any\n  BSS 4 bytes\n  END\n",
+    },
+    Case {
+        call: Call::Show,
         file: examples::FIVE_HUNKS,
         output: "load file 5 hunks 16 bytes\nhunk 0 8 bytes any\n  CODE 8 bytes\n  RELOC32 5\n\
             \x20   4 0x00000000\n    4 0x00000001\n    4 0x00000002\n    4 0x00000003\n    4 0x00000004\n\
@@ -44,6 +51,11 @@ const VALIDATIONS: &[Case] = &[
     },
     Case {
         call: Call::Validate,
+        file: examples::FOUR_HUNKS,
+        output: "load file 4 hunks 24 bytes\n",
+    },
+    Case {
+        call: Call::Validate,
         file: examples::FIVE_HUNKS,
         output: "load file 5 hunks 16 bytes\n",
     },
@@ -67,6 +79,13 @@ const RELOCATIONS: &[Case] = &[
         output: "hunk 0 base 0x00021000 8 bytes\n  4ef90002100c4e71\n\
             hunk 1 base 0x00021008 4 bytes\n  12345678\n",
     },
+    Case {
+        call: Call::Relocate,
+        file: examples::FOUR_HUNKS,
+        output: "hunk 0 base 0x00021000 12 bytes\n  00000000000000000002100c\n\
+            hunk 1 base 0x0002100c 4 bytes\n  00000000\nhunk 2 base 0x00021010 4 bytes\n  12345678\n\
+            hunk 3 base 0x00021014 4 bytes\n  00000000\n",
+    },
     // The base 0002100C is added to the longwords at 0, 1, 2, 3 and 4 in turn.
     Case {
         call: Call::Relocate,
@@ -83,6 +102,12 @@ const REWRITES: &[Case] = &[
         call: Call::Strip,
         file: examples::ONE_HUNK,
         output: examples::ONE_HUNK,
+    },
+    Case {
+        call: Call::Strip,
+        file: examples::FOUR_HUNKS,
+        output: "3F3 0 4 0 3 3 1 1 1 / 3E9 3 0 0 0 / 3EC 1 1 8 0 / 3F2 / \
+            3EB 1 / 3F2 / 3EA 1 12345678 / 3F2 / 3EB 1 / 3F2",
     },
     Case {
         call: Call::Rewrite,
@@ -156,7 +181,7 @@ fn of_show(rt: HostRuntime) -> Result<(), Fail> {
     if !memory_ends(&rt)? {
         return Ok(());
     }
-    expect_growths(&rt, rt.alloc(), SHOWS, [66, 426, 263].as_slice())
+    expect_growths(&rt, rt.alloc(), SHOWS, [66, 245, 426, 263].as_slice())
 }
 
 #[test]
@@ -164,7 +189,7 @@ fn of_validate(rt: HostRuntime) -> Result<(), Fail> {
     if !memory_ends(&rt)? {
         return Ok(());
     }
-    expect_growths(&rt, rt.alloc(), VALIDATIONS, [26, 27, 31].as_slice())
+    expect_growths(&rt, rt.alloc(), VALIDATIONS, [26, 27, 27, 31].as_slice())
 }
 
 #[test]
@@ -172,7 +197,7 @@ fn of_relocate(rt: HostRuntime) -> Result<(), Fail> {
     if !memory_ends(&rt)? {
         return Ok(());
     }
-    expect_growths(&rt, rt.alloc(), RELOCATIONS, [42, 92, 196].as_slice())
+    expect_growths(&rt, rt.alloc(), RELOCATIONS, [42, 92, 185, 196].as_slice())
 }
 
 #[test]
@@ -184,6 +209,6 @@ fn of_rewrite(rt: HostRuntime) -> Result<(), Fail> {
         &rt,
         rt.alloc(),
         REWRITES,
-        [40, 208, 152, 140, 120].as_slice(),
+        [40, 120, 208, 152, 140, 120].as_slice(),
     )
 }
