@@ -110,13 +110,12 @@ fn decode_load(alloc: Global, bytes: &[u8]) -> Result<HunkFile<'_>, FileFault>
     ensures memory { IfErr result (λ fault. fault.reason ≡ reasons.OutOfMemory →
         IsLoadMemory bytes.entry.now fault.place) }
 {
-    match LoadFile::decode(alloc, bytes) {
-        Ok((file, size)) => {
-            let rest = (bytes.len() - size) as u64;
-            Ok(HunkFile::Load { file, rest })
-        }
-        Err(fault) => Err(fault),
-    }
+    let (file, size) = match LoadFile::decode(alloc, bytes) {
+        Ok(decoded) => decoded,
+        Err(fault) => return Err(fault),
+    };
+    let rest = (bytes.len() - size) as u64;
+    Ok(HunkFile::Load { file, rest })
 }
 
 /// The object file that the bytes are.
