@@ -56,7 +56,7 @@ extern "C" {
 #define HUNK_READ UINT32_C(30)                /* no call of these answers it */
 #define HUNK_OUT_OF_MEMORY UINT32_C(31)       /* malloc or realloc gave none */
 #define HUNK_NO_ROOM UINT32_C(32)             /* the caller's array has too few elements */
-#define HUNK_STRANGE UINT32_C(33)             /* numbers that no struct hunk_loader may have */
+#define HUNK_STRANGE UINT32_C(33)             /* numbers of no loader, or that do not fit */
 
 /* What a call answers: 24 bytes. */
 struct hunk_answer {
@@ -185,12 +185,18 @@ struct hunk_loader {
  *   memory  where the hunks go, one right behind the other: just the bytes that they have together,
  *           hunk_table's count
  *
- * It writes the loader and the memory, reads the places, and answers nothing. Where the places, the
- * header or the memory are other than that, so are the answers of the calls below, perhaps
- * HUNK_STRANGE; they still write nothing else.
+ * HUNK_OK       hunk: the hunks; place: the bytes of the header; count: the bytes of the memory.
+ * HUNK_NO_ROOM  the memory is too small. hunk and place as at HUNK_OK; count: the bytes that are
+ *               needed.
+ * HUNK_STRANGE  no header of so many bytes has these words and extras, or the memory is too large.
+ *               hunk, place and count are 0.
+ *
+ * It writes the loader and the memory, and reads the places. At any answer but HUNK_OK the memory
+ * is as it was, and the calls below answer HUNK_STRANGE to the loader.
  */
-void hunk_begin(struct hunk_loader *loader, const struct hunk_place *places, size_t places_len,
-                uint64_t header, uint8_t *memory, size_t memory_len);
+struct hunk_answer hunk_begin(struct hunk_loader *loader, const struct hunk_place *places,
+                              size_t places_len, uint64_t header, uint8_t *memory,
+                              size_t memory_len);
 
 /* Takes the next bytes of a file, those right behind what was taken before, up to the end of the
  * file where that comes first.

@@ -34,7 +34,9 @@ int main(int argc, char **argv)
         places[h] = place;
         base += rows[h].bytes;
     }
-    hunk_begin(&loader, places, t.hunk, t.place, memory, t.count);
+    struct hunk_answer begin = hunk_begin(&loader, places, t.hunk, t.place, memory, t.count);
+    if (begin.number != HUNK_OK)
+        return refuse(begin);
     const uint8_t *from = piece + t.place; /* what came with the header is the first piece */
     for (len -= t.place; len > 0; len = fread(piece, 1, sizeof piece, stdin)) {
         hunk_feed(&loader, places, t.hunk, memory, t.count, from, len);

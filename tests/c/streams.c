@@ -12,7 +12,7 @@ static struct guarded row_room = {MOST_HUNKS * sizeof(struct hunk_row), NULL};
 static struct guarded place_room = {MOST_HUNKS * sizeof(struct hunk_place), NULL};
 static struct guarded base_room = {MOST_HUNKS * 4, NULL};
 static struct guarded wanted_room = {1 << 24, NULL};
-static struct guarded memory_room = {1 << 24, NULL};
+static struct guarded memory_room = {(1 << 24) + 1, NULL};
 static struct guarded piece_room = {PAGE, NULL};
 static struct guarded loader_room = {sizeof(struct hunk_loader), NULL};
 
@@ -75,13 +75,49 @@ static void refused_for_good(const struct streamed *f, struct hunk_loader *loade
     expect(all_marked(memory, f->table.count), f->name, "the memory after a fault");
 }
 
+/* hunk_begin with what does not fit: the answer, and that a loader is left that has no file. */
+static void begins_not(const struct streamed *f, size_t hunks, uint64_t header, size_t room,
+                       struct hunk_answer wanted)
+{
+    static const struct hunk_answer strange = {HUNK_STRANGE, 0, 0, 0};
+    struct hunk_loader *loader = marked(&loader_room, sizeof *loader);
+    uint8_t *memory = marked(&memory_room, room);
+    struct hunk_answer a = hunk_begin(loader, f->places, hunks, header, memory, room);
+    expect(same(a, wanted), f->name, "the begin of what does not fit");
+    a = hunk_feed(loader, f->places, hunks, memory, room, piece_of(f->bytes, 4), 4);
+    expect(same(a, strange), f->name, "a piece without a begin");
+    expect(same(hunk_end(loader), strange), f->name, "an end without a begin");
+    expect(all_marked(memory, room), f->name, "the memory without a begin");
+}
+
+/* Memory that is too small or too large, a header of another length, and tables of none. */
+static void fits_not(const struct streamed *f)
+{
+    static const struct hunk_answer strange = {HUNK_STRANGE, 0, 0, 0};
+    size_t hunks = f->table.hunk, room = f->table.count;
+    uint64_t header = f->table.place;
+    struct hunk_answer no_room = {HUNK_NO_ROOM, f->table.hunk, header, room};
+    if (room > 0) {
+        begins_not(f, hunks, header, 0, no_room);
+        begins_not(f, hunks, header, room - 1, no_room);
+    }
+    begins_not(f, hunks, header, room + 1, strange);
+    begins_not(f, hunks, header - 4, room, strange);
+    begins_not(f, hunks, header + 1, room, strange);
+    begins_not(f, hunks - 1, header, room, strange);
+    begins_not(f, 0, 20, 0, strange);
+}
+
 /* The whole of the bytes behind the header, in pieces of so many: what is taken, and the end. */
 static void streamed(const struct streamed *f, size_t most)
 {
     struct hunk_loader *loader = marked(&loader_room, sizeof *loader);
     size_t room = f->table.count, at = f->table.place;
     uint8_t *memory = marked(&memory_room, room);
-    hunk_begin(loader, f->places, f->table.hunk, f->table.place, memory, room);
+    struct hunk_answer begun = hunk_begin(loader, f->places, f->table.hunk, f->table.place, memory,
+                                          room);
+    struct hunk_answer all = {HUNK_OK, f->table.hunk, f->table.place, room};
+    expect(same(begun, all), f->name, "the begin of a stream");
     for (size_t i = 0; i < room; i++)
         expect(memory[i] == 0, f->name, "zero bytes at the begin");
     while (at < f->len) {
@@ -225,6 +261,7 @@ int main(int argc, char **argv)
         whole += f.wanted.number == HUNK_OK;
         cut += f.wanted.number == HUNK_TRUNCATED;
         faults += f.wanted.number != HUNK_OK && f.wanted.number != HUNK_TRUNCATED;
+        fits_not(&f);
         for (size_t l = 0; l < sizeof lengths / sizeof *lengths; l++)
             streamed(&f, lengths[l]);
     }

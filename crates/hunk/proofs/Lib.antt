@@ -5,3 +5,4 @@ pub mod OneFile
 pub mod Streamed
 pub mod Succeeding
 pub mod TableRows
+pub mod TableSizes

@@ -1,5 +1,5 @@
 -- What a loader in numbers stands for, and what it comes to at the end.
-use Rattle.std.proofs.Common.{◌≡◌, ◌+◌, ◌*◌, ◌/◌, ℕ, true, false, List, length, Option, None, Some, ◌++◌, refl, sym, ap, subst, ◌∙◌, append-nil, inr}
+use Rattle.std.proofs.Common.{◌≡◌, ◌*◌, ◌/◌, ℕ, true, false, List, length, Option, None, Some, ◌++◌, refl, sym, ap, subst, ◌∙◌, append-nil, inr}
 use Rattle.hunk_words.specs.Longs.{bytes_of}
 use Rattle.hunk_words.specs.declared.reason.Reason.TheVariants as reasons
 use Rattle.hunk_scan.specs.Positions.{is_behind_header, is_done}

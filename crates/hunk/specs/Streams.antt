@@ -1,5 +1,6 @@
 -- A loader in numbers, which a C program keeps and feeds piece by piece.
-use Rattle.std.specs.Prelude.{◌≡◌, ℕ, ◌+◌, ◌*◌, ◌/◌, ◌^◌, ◌<◌, ◌≤◌, ◌==◌, List, ◌++◌, length, take, if◌then◌else◌, Option, Some, None}
+use Rattle.std.specs.Prelude.{◌≡◌, ℕ, ◌+◌, ◌*◌, ◌/◌, ◌^◌, ◌<◌, ◌≤◌, ◌==◌, List, ◌++◌, length, take, if◌then◌else◌, replicate, Option, Some, None}
+use Rattle.hunk_words.specs.Bits.{has_both_bits}
 use Rattle.hunk_words.specs.Longs.{bytes_of}
 use Rattle.hunk_words.specs.Reasons.{number_of}
 use Rattle.hunk_words.specs.declared.fault.Fault.{Fault}
@@ -11,7 +12,7 @@ use Rattle.hunk_scan.specs.declared.position.Position.{Position}
 use Rattle.hunk_scan.specs.declared.position.Position.TheVariants as positions
 use Rattle.hunk_files.specs.Fault.{HasFault, HasRefusal}
 use Rattle.hunk_files.specs.Image.{declared_bytes, images}
-use Rattle.hunk_files.specs.LoadFile.{LoadFileValue, IsLoadFile}
+use Rattle.hunk_files.specs.LoadFile.{TableEntry, LoadFileValue, IsLoadFile}
 use Rattle.hunk_files.specs.LoadText.{table, text}
 use Rattle.hunk_files.specs.declared.row.Row.{Row}
 use Rattle.hunk_scatter.specs.HeaderBytes.{IsTable, header_bytes}
@@ -20,7 +21,7 @@ use Rattle.hunk_scatter.specs.Streaming.{IsFed}
 use Rattle.hunk_scatter.specs.declared.stream.Standing.{Standing}
 use Rattle.hunk.specs.declared.answer.Answer.{Answer}
 use Rattle.hunk.specs.declared.loader.Loader.{Loader}
-use Rattle.hunk.specs.Answers.{done, hunk_of, refused, strange}
+use Rattle.hunk.specs.Answers.{done, hunk_of, no_room, refused, strange}
 
 -- ---- numbers
 
@@ -77,10 +78,45 @@ pub record Stands (rows : List Row) (l : Loader) (memory fed : List ℕ) : Type 
 
 -- ---- the begin
 
--- Where the rows are those of a table, its header has so many bytes, and the memory as many as it declares: the loader stands behind that header.
-abbrev pub Begins : List Row → ℕ → Loader → List ℕ → List ℕ → Type 0
-Begins rows header new memory after =
-    IsTable (entries_of rows) → header ≡ length (header_bytes (entries_of rows)) → length memory ≡ declared_bytes (entries_of rows) → Stands rows new after (header_bytes (entries_of rows))
+-- the bytes of an entry in a header: its size word, and the attributes that may follow it
+abbrev pub entry_bytes : ℕ → ℕ
+entry_bytes word = if has_both_bits word then 8 else 4
+
+-- The entries are a table, its header has so many bytes, and it declares so many.
+pub record HasSizes (table : List TableEntry) (header bytes : ℕ) : Type 0 where
+  pub is_table : IsTable table
+  pub header_is : header ≡ length (header_bytes table)
+  pub bytes_are : bytes ≡ declared_bytes table
+
+-- the numbers of no loader: no longword is for the phase 0
+abbrev pub no_loader : Loader
+no_loader = record {
+  start = 0;
+  fed = 0;
+  place = 0;
+  refused = 0;
+  refused_hunk = 0;
+  hunk = 0;
+  hunks = 0;
+  ahead = 0;
+  has_content = 0;
+  phase = 0;
+  part = 0;
+  owed = 0;
+  pending = 0;
+  first = 0;
+  second = 0;
+  third = 0;
+}
+
+-- What the begin of a stream comes to: the loader stands behind the header of the rows' table, and the memory is zero; or the memory is too small for what that declares; or it is too large, or the rows are not those of a table whose header has so many bytes.
+pub data Begins (rows : List Row) (header : ℕ) (new : Loader) (memory after : List ℕ) (answer : Answer) : Type 0 where
+  HasBegun : HasSizes (entries_of rows) header (length memory) → Stands rows new after (header_bytes (entries_of rows)) → after ≡ replicate (length memory) 0
+      → answer ≡ done (length rows) header (length memory) → Begins rows header new memory after answer
+  LacksRoom : (bytes : ℕ) → HasSizes (entries_of rows) header bytes → length memory < bytes → new ≡ no_loader → after ≡ memory
+      → answer ≡ no_room (length rows) header bytes → Begins rows header new memory after answer
+  FitsNot : ((bytes : ℕ) → HasSizes (entries_of rows) header bytes → length memory ≤ bytes → ⊥) → new ≡ no_loader → after ≡ memory
+      → answer ≡ strange → Begins rows header new memory after answer
 
 -- ---- refusals
 

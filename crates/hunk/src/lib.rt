@@ -11,6 +11,7 @@ mod file;
 mod header;
 mod load;
 mod loader;
+mod places;
 mod reason;
 mod stream;
 mod strip;

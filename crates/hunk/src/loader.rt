@@ -45,6 +45,26 @@ pub struct Loader {
     pub third: u8,
 }
 
+/// Numbers of no loader, which every call answers by `STRANGE`.
+pub(crate) const NO_LOADER: Loader = Loader {
+    start: 0,
+    fed: 0,
+    place: 0,
+    refused: 0,
+    refused_hunk: 0,
+    hunk: 0,
+    hunks: 0,
+    ahead: 0,
+    has_content: 0,
+    phase: 0,
+    part: 0,
+    owed: 0,
+    pending: 0,
+    first: 0,
+    second: 0,
+    third: 0,
+};
+
 /// The phase of a loader whose file is whole.
 const WHOLE: u32 = 14;
 

@@ -2,11 +2,11 @@
 //!
 //! What a loader has to know between two pieces is in numbers, which the caller keeps, with rows that
 //! say where each hunk lies.
-ghost use Rattle.std.specs.Prelude.{◌≡◌, length, replicate};
 ghost use Rattle.hunk.specs.Streams.{Begins, Ends, Feeds};
 
-use crate::answer::{Answer, done, refused, strange};
-use crate::loader::Loader;
+use crate::answer::{Answer, done, no_room, refused, strange};
+use crate::loader::{Loader, NO_LOADER};
+use crate::places::table_sizes;
 use hunk_files::Row;
 use hunk_scatter::stream::{Stop, begin, take_piece};
 use hunk_words::{Fault, Reason};
@@ -14,15 +14,38 @@ use hunk_words::{Fault, Reason};
 /// Makes the memory zero, and sets a loader behind the header, of so many bytes, of the table of the
 /// rows.
 ///
-/// Where the rows and the header's length are those that `hunk_table` told, and the memory has just
-/// as many bytes as the hunks, the loader has taken the header; else it may answer anything, and
-/// writes nothing but its memory.
+/// It answers the number of hunks, the bytes of the header, and those of the memory.
+///
+/// # Errors
+///
+/// `NO_ROOM` where the hunks have more bytes than the memory, and how many they have; `STRANGE` where
+/// they have fewer, or the rows are not those of a table whose header has so many bytes. The memory is
+/// then as it was, and the loader's numbers are those of no loader.
 #[unsafe(no_mangle)]
-pub extern "C" fn hunk_begin(loader: &mut Loader, rows: &[Row], header: u64, memory: &mut [u8])
-    ensures begins { Begins rows.now header loader.new memory.old memory.new }
-    ensures zero { memory.new ≡ replicate (length memory.old) 0 }
+pub extern "C" fn hunk_begin(
+    loader: &mut Loader,
+    rows: &[Row],
+    header: u64,
+    memory: &mut [u8],
+) -> Answer
+    ensures { Begins rows.now header loader.new memory.old memory.new result }
 {
+    *loader = NO_LOADER;
+    let Some((size, bytes)) = table_sizes(rows) else {
+        return strange();
+    };
+    if header != size {
+        return strange();
+    }
+    let room = memory.len() as u64;
+    if room < bytes {
+        return no_room(rows.len() as u32, header, bytes);
+    }
+    if room > bytes {
+        return strange();
+    }
     *loader = Loader::of(begin(memory, rows, header));
+    done(rows.len() as u32, header, bytes)
 }
 
 /// Takes the piece, or up to the end of the file where that stands inside it.

@@ -1,5 +1,6 @@
 //! What no clause says: what C programs see of worked examples. The rest is tried from C.
 
+use crate::loader::NO_LOADER;
 use crate::{
     Answer, FindingRow, Loader, TableRow, hunk_begin, hunk_check, hunk_end, hunk_feed, hunk_load,
     hunk_load_packed, hunk_reason, hunk_strip, hunk_table,
@@ -50,25 +51,6 @@ const PLACED: [Row; 2] = [
         base: 0x20000,
     },
 ];
-
-const NO_LOADER: Loader = Loader {
-    start: 0,
-    fed: 0,
-    place: 0,
-    refused: 0,
-    refused_hunk: 0,
-    hunk: 0,
-    hunks: 0,
-    ahead: 0,
-    has_content: 0,
-    phase: 0,
-    part: 0,
-    owed: 0,
-    pending: 0,
-    first: 0,
-    second: 0,
-    third: 0,
-};
 
 #[test]
 fn loads_two_hunks(rt: HostRuntime) -> Result<(), Fail> {
@@ -128,7 +110,8 @@ fn streams_two_hunks(rt: HostRuntime) -> Result<(), Fail> {
     let mut memory = [0xA5u8; 12];
     let mut loader = NO_LOADER;
     let rows = PLACED.as_slice();
-    hunk_begin(&mut loader, rows, 28, memory.as_mut_slice());
+    let begun = hunk_begin(&mut loader, rows, 28, memory.as_mut_slice());
+    assert_eq!(rt; begun, answer(0, 2, 28, 12));
     assert_eq!(rt; memory, [0; 12]);
     // The first piece ends in the first byte of the relocations' word.
     let first = hunk_feed(&mut loader, rows, memory.as_mut_slice(), &TWO_HUNKS[28..45]);
@@ -141,6 +124,55 @@ fn streams_two_hunks(rt: HostRuntime) -> Result<(), Fail> {
     assert_eq!(rt; memory, wanted);
     let behind = hunk_feed(&mut loader, rows, memory.as_mut_slice(), [0; 5].as_slice());
     assert_eq!(rt; behind, answer(0, 2, 84, 0));
+    Ok(())
+}
+
+/// What the begin of a stream answers that does not begin.
+fn begins_not(rows: &[Row], header: u64, memory: &mut [u8]) -> Option<Answer> {
+    let mut loader = Loader {
+        phase: 1,
+        ..NO_LOADER
+    };
+    let answer = hunk_begin(&mut loader, rows, header, memory);
+    if loader == NO_LOADER {
+        Some(answer)
+    } else {
+        None
+    }
+}
+
+#[test]
+fn begins_no_stream(rt: HostRuntime) -> Result<(), Fail> {
+    let mut memory = [0xA5u8; 13];
+    let rows = PLACED.as_slice();
+    let strange = Some(answer(33, 0, 0, 0));
+    let small = begins_not(rows, 28, &mut memory[..11]);
+    assert_eq!(rt; small, Some(answer(32, 2, 28, 12)));
+    let large = begins_not(rows, 28, memory.as_mut_slice());
+    assert_eq!(rt; large, strange);
+    assert_eq!(rt; begins_not(rows, 32, &mut memory[..12]), strange);
+    assert_eq!(rt; begins_not(&rows[..1], 28, &mut memory[..8]), strange);
+    assert_eq!(rt; begins_not(&[], 20, &mut memory[..0]), strange);
+    assert_eq!(rt; memory, [0xA5u8; 13]);
+    Ok(())
+}
+
+/// Attributes make a header longer where both bits of the memory are set, and else no row has them.
+#[test]
+fn begins_with_attributes(rt: HostRuntime) -> Result<(), Fail> {
+    let row = |word| Row {
+        word,
+        extra: 7,
+        base: 0,
+    };
+    let mut memory = [0xA5u8; 4];
+    let long = begins_not([row(0xC000_0001)].as_slice(), 28, memory.as_mut_slice());
+    assert_eq!(rt; (long, memory), (None, [0; 4]));
+    let strange = Some(answer(33, 0, 0, 0));
+    let plain = begins_not([row(0x8000_0001)].as_slice(), 28, memory.as_mut_slice());
+    assert_eq!(rt; plain, strange);
+    let short = begins_not([row(0x8000_0001)].as_slice(), 24, memory.as_mut_slice());
+    assert_eq!(rt; short, strange);
     Ok(())
 }
 

@@ -1,4 +1,4 @@
-use Rattle.std.proofs.Common.{◌≡◌, ◌++◌, ◌*◌, ◌/◌, ℕ, List, length, ap, sym, subst, refl, ◌∙◌, arith, inr}
+use Rattle.std.proofs.Common.{◌≡◌, ◌++◌, ◌*◌, ◌/◌, ℕ, List, length, ap, sym, subst, refl, ◌∙◌, inr}
 use Rattle.hunk_words.specs.declared.fault.Fault.{Fault}
 use Rattle.hunk_words.specs.declared.reason.Reason.TheVariants as reasons
 use Rattle.hunk_files.specs.Fault.{HasFault, IsTruncated}

@@ -1,0 +1,5 @@
+use Rattle.hunk.proofs.TableSizes.{AreSummed}
+use Rattle.hunk.proofs.places.table_sizes.Given as goal
+
+abbrev pub invariant-rows : goal.invariant-rows
+invariant-rows l = AreSummed l.fn.rows l.i l.header l.bytes

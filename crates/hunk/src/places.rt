@@ -1,0 +1,52 @@
+//! What the rows of a stream come to as a table: its header, and its hunks.
+ghost use Rattle.std.specs.Prelude.{◌≡◌, true, MatchOption};
+ghost use Rattle.hunk_files.specs.LoadFile.{IsTableEntry};
+ghost use Rattle.hunk_scatter.specs.HeaderBytes.{IsTable};
+ghost use Rattle.hunk_scatter.specs.Rows.{entries_of, entry_of};
+ghost use Rattle.hunk.specs.Streams.{HasSizes, entry_bytes};
+
+use hunk_files::Row;
+use hunk_words::{MOST_HUNKS, SizeWord};
+
+/// The bytes of a header before its table.
+const BEFORE_TABLE: u64 = 20;
+
+/// Whether a header can declare the row: attributes stand only where both bits of the memory do.
+fn is_entry(row: Row) -> bool
+    ensures sound { result ≡ true → IsTableEntry (entry_of row) }
+    ensures complete { IsTableEntry (entry_of row) → result ≡ true }
+{
+    SizeWord::has_extra(row.word) || row.extra == 0
+}
+
+/// The bytes of a size word in a header, with the attributes that may follow it.
+fn entry_bytes(word: u32) -> u64
+    ensures { result ≡ entry_bytes word }
+{
+    if SizeWord::has_extra(word) { 8 } else { 4 }
+}
+
+/// The bytes of the header whose table the rows are, and those that it declares; nothing where no
+/// header has such a table.
+pub(crate) fn table_sizes(rows: &[Row]) -> Option<(u64, u64)>
+    ensures { MatchOption result (IsTable (entries_of rows.now) → ⊥)
+        (λ sizes. HasSizes (entries_of rows.now) sizes.0 sizes.1) }
+{
+    if rows.is_empty() {
+        return None;
+    }
+    if rows.len() > MOST_HUNKS as usize {
+        return None;
+    }
+    let mut header = BEFORE_TABLE;
+    let mut bytes = 0;
+    'rows: for i in 0..rows.len() {
+        let row = rows[i];
+        if !is_entry(row) {
+            return None;
+        }
+        header += entry_bytes(row.word);
+        bytes += row.size().bytes();
+    }
+    Some((header, bytes))
+}
