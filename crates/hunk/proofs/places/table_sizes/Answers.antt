@@ -1,4 +1,4 @@
-use Rattle.std.proofs.Common.{rules, ℕ, ◌*◌, ap, refl, ◌∙◌, arith}
+use Rattle.std.proofs.Common.{rules, ℕ, ◌*◌, ap, refl, arith}
 use Rattle.hunk_words.specs.Bits.{size_longs}
 use Rattle.hunk.proofs.TableSizes.{no_table, summed_all, summed_more}
 use Rattle.hunk.proofs.places.table_sizes.Goals as goal
@@ -10,9 +10,9 @@ returns-then-not-is_entry c =
 
 pub rows-preserved : goal.rows-preserved
 rows-preserved c =
-    summed_more c.args.rows.now c.rows.i c.rows.header c.rows.bytes c.entry_bytes-header.result c.bytes-bytes.result _ _ (omega (arith, c.rows-test.true)) refl
+    summed_more c.args.rows.now c.rows.i c.rows.header c.rows.bytes c.entry_bytes-header.result _ _ _ (omega (arith, c.rows-test.true)) refl
     (c.is_entry.ensures.sound c.if-not-is_entry.false) c.entry_bytes-header.ensures
-    (c.bytes-bytes.ensures ∙ ap (λ (w : ℕ). 4 * size_longs w) c.size.ensures.word) c.rows.invariant
+    (omega (arith, c.bytes-bytes.ensures, ap (λ (w : ℕ). 4 * size_longs w) c.size.ensures.word)) c.rows.invariant
 
 pub returns : goal.returns
 returns c =
