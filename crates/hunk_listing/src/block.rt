@@ -10,7 +10,7 @@ ghost use Rattle.hunk_listing.specs.BlockLines.{advisory_line, block_lines, body
 use crate::entry::print_entry;
 use crate::line::{LINE, Line};
 use crate::names::{put_block_flags, put_kind, put_memory_flags};
-use crate::text::{print_name, print_offset_behind};
+use crate::text::{print_named, print_offset_behind};
 use hunk_blocks::{Block, Body, Entries, Group, Groups, Named, Payload, Symbols};
 use hunk_words::{BlockWord, Printer, Sink};
 
@@ -54,9 +54,7 @@ fn print_name_line<W: Sink>(page: &mut Printer<'_, W>, word: BlockWord, name: &P
     let mut line = Line::new();
     put_head(&mut line, word);
     line.put(b" ");
-    line.print(page);
-    print_name(page, name);
-    page.print(b"\n");
+    print_named(page, &line, name);
 }
 
 #[tactic(auto, unfolding(crate::specs::BlockLines::size_line))]
@@ -195,9 +193,7 @@ fn print_symbol<W: Sink>(page: &mut Printer<'_, W>, symbol: &Named<'_>)
     line.put(b"    ");
     line.put_hexadecimal(symbol.value);
     line.put(b" ");
-    line.print(page);
-    print_name(page, &symbol.name);
-    page.print(b"\n");
+    print_named(page, &line, &symbol.name);
 }
 
 fn print_entries<W: Sink>(page: &mut Printer<'_, W>, word: BlockWord, entries: &Entries<'_>)

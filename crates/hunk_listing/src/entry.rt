@@ -7,7 +7,7 @@ ghost use Rattle.hunk_blocks.specs.Views.{entry_of};
 ghost use Rattle.hunk_listing.specs.BlockLines.{common_line, definition_line, entry_line, entry_lines, offset_line, reference_line};
 
 use crate::line::Line;
-use crate::text::{print_name, print_offset_behind};
+use crate::text::{print_named, print_offset_behind};
 use hunk_blocks::{Entry, ExtKind, ExtShape, Longs};
 use hunk_words::{Printer, Sink};
 
@@ -50,9 +50,7 @@ fn print_definition<W: Sink>(page: &mut Printer<'_, W>, kind: ExtKind, entry: &E
     let mut line = begin_entry_line(kind);
     line.put_hexadecimal(entry.value);
     line.put(b" ");
-    line.print(page);
-    print_name(page, &entry.name);
-    page.print(b"\n");
+    print_named(page, &line, &entry.name);
 }
 
 #[tactic(auto, unfolding(crate::specs::BlockLines::reference_line))]
@@ -62,9 +60,7 @@ fn print_reference<W: Sink>(page: &mut Printer<'_, W>, kind: ExtKind, entry: &En
     let mut line = begin_entry_line(kind);
     line.put_decimal(entry.offsets.len() as u64);
     line.put(b" ");
-    line.print(page);
-    print_name(page, &entry.name);
-    page.print(b"\n");
+    print_named(page, &line, &entry.name);
 }
 
 #[tactic(auto, unfolding(crate::specs::BlockLines::common_line))]
@@ -76,9 +72,7 @@ fn print_common<W: Sink>(page: &mut Printer<'_, W>, kind: ExtKind, entry: &Entry
     line.put(b" ");
     line.put_decimal(entry.offsets.len() as u64);
     line.put(b" ");
-    line.print(page);
-    print_name(page, &entry.name);
-    page.print(b"\n");
+    print_named(page, &line, &entry.name);
 }
 
 #[tactic(auto, unfolding(crate::specs::BlockLines::offset_line))]

@@ -8,7 +8,7 @@ ghost use Rattle.hunk_listing.specs.FileLines.{numbered, object_hunk_line, objec
 
 use crate::line::Line;
 use crate::load::print_blocks;
-use crate::text::print_name;
+use crate::text::print_named;
 use hunk_blocks::{Block, Payload};
 use hunk_files::{Hunk, Unit};
 use hunk_words::{Printer, Sink};
@@ -49,9 +49,7 @@ fn print_unit_line<W: Sink>(page: &mut Printer<'_, W>, number: usize, name: &Pay
     line.put(b"unit ");
     line.put_decimal(number as u64);
     line.put(b" ");
-    line.print(page);
-    print_name(page, name);
-    page.print(b"\n");
+    print_named(page, &line, name);
 }
 
 fn print_hunks<W: Sink>(page: &mut Printer<'_, W>, hunks: &[Hunk<'_>])

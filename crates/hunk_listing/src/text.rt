@@ -31,9 +31,18 @@ pub(crate) fn print_offset_behind<W: Sink>(
     line.print(page);
 }
 
+/// Prints the line, the name's text behind it and the end of the line.
+pub(crate) fn print_named<W: Sink>(page: &mut Printer<'_, W>, line: &Line, name: &Payload<'_>)
+    ensures { Prints page.old page.new (line.now ++ name_text (longs name.now) ++ codes "\n") }
+{
+    line.print(page);
+    print_name(page, name);
+    page.print(b"\n");
+}
+
 /// Prints the name's text: its bytes before the first zero byte, of which those outside 0x20 to
 /// 0x7E, and the backslash, are `\x` and two hexadecimal digits.
-pub(crate) fn print_name<W: Sink>(page: &mut Printer<'_, W>, name: &Payload<'_>)
+fn print_name<W: Sink>(page: &mut Printer<'_, W>, name: &Payload<'_>)
     ensures { Prints page.old page.new (name_text (longs name.now)) }
 {
     print_characters(page, name.bytes());
