@@ -7,7 +7,7 @@ use Rattle.hunk_words.specs.Carriers.{Writing}
 use Rattle.hunk_words.specs.Puts.{Puts}
 use Rattle.hunk_commands.specs.declared.fault.RunFault.{RunFault}
 use Rattle.hunk_commands.specs.declared.fault.RunFault.TheVariants.{HexText, Memory, Read, Refused, Write}
-use Rattle.hunk_commands.specs.Engine.{RefusesOnly, Writes, WritesAll}
+use Rattle.hunk_commands.specs.Engine.{RefusesOnly, StopsAtWrite, Writes, WritesAll}
 use Rattle.hunk_commands.specs.Faults.{IsWrite}
 use Rattle.hunk_files.specs.HunkFile.{AreFile}
 use Rattle.hunk_commands.specs.Refusals.{RefusesBytes}
@@ -28,7 +28,7 @@ is_read a b most items bytes given at_end few same = subst (λ (xs : List ℕ). 
 pub handed : {T : Type 0} (P : RunFault → Type 0) (result : Result T RunFault) (fault : RunFault) → ((y : RunFault) × (result ≡ Err y) × (y ≡ fault)) → P fault → IfErr result P
 handed {T} P result fault p is = subst (λ (r : Result T RunFault). IfErr r P) (sym (p.1 ∙ ap Err p.2)) is
 
-pub refuses_only : (fault : RunFault) (a b : Option (List ℕ)) (most : ℕ) (bytes : List ℕ) → IsRead a b most bytes → RefusesBytes fault bytes → RefusesOnly fault a b most
+pub refuses_only : (fault : RunFault) (a b : Option (List ℕ)) (most : ℕ) (bytes : List ℕ) → IsRead a b most bytes → RefusesBytes fault bytes → RefusesOnly a b most fault
 refuses_only (Refused refusal) a b most bytes read is = inr (record { input = bytes; given = read.given; at_end = read.at_end; few = read.few; refuses = is })
 refuses_only Memory a b most bytes read is = tt
 refuses_only (Read place) a b most bytes read is = tt
@@ -66,8 +66,8 @@ writes_all Is a b most c d m n bytes text put read is same none puts whole =
 
 -- the first bytes have gone out
 pub written_first : {T : Type 0} (W : ℕ → Type 0) (result : Result T RunFault) (m n : ℕ) → ((y : RunFault) × (result ≡ Err y) × (y ≡ Write m)) → m ≡ n → W n →
-    IfErr result (λ fault. (written : ℕ) → fault ≡ Write written → (n ≡ written) × W written)
-written_first W result m n p told w = handed (λ fault. (written : ℕ) → fault ≡ Write written → (n ≡ written) × W written) result (Write m) p go
+    IfErr result (StopsAtWrite n W)
+written_first W result m n p told w = handed (StopsAtWrite n W) result (Write m) p go
   where
-    go : (written : ℕ) → Write m ≡ Write written → (n ≡ written) × W written
+    go : StopsAtWrite n W (Write m)
     go written e = let same : n ≡ written = sym told ∙ cc in (same, subst W same w)

@@ -1,9 +1,17 @@
 -- What was read of a source, and why it was not read to its end. Of the source a was left before and b is left now, where that is told.
-use Rattle.std.specs.Prelude.{◌≡◌, ℕ, List, Option, Bool, true, length, ⊤}
+use Rattle.std.specs.Prelude.{◌≡◌, ◌<◌, ℕ, List, Option, Some, Bool, true, length, ⊤}
 use Rattle.std.specs.Io.KnownBytes.{Consumes}
 use Rattle.hunk_words.specs.declared.reason.Reason.TheVariants as reasons
+use Rattle.hunk_files.specs.HunkFile.{AreFile}
 use Rattle.hunk_commands.specs.declared.fault.RunFault.{RunFault}
 use Rattle.hunk_commands.specs.declared.fault.RunFault.TheVariants as faults
+
+-- it has fewer than `most` bytes left, which are a file
+pub record HasFile (a : Option (List ℕ)) (most : ℕ) : Type 0 where
+  pub input : List ℕ
+  pub left : a ≡ Some input
+  pub few : length input < most
+  pub is_file : AreFile input
 
 -- it gave so many bytes
 abbrev pub Gave : Option (List ℕ) → Option (List ℕ) → ℕ → Type 0

@@ -31,7 +31,7 @@ impl RunFault {
     /// memory was wanting.
     pub fn status(&self) -> u8
         ensures value { result ≡ status_of self.now }
-        ensures known { (0 < result) × (result ≤ 4) }
+        ensures bound { (0 < result) × (result ≤ 4) }
     {
         match self {
             RunFault::Refused(_) | RunFault::HexText => 1,

@@ -1,7 +1,7 @@
 //! A source read to its end.
 ghost use Rattle.std.specs.Prelude.{◌≡◌, ◌<◌, ◌++◌, [], ℕ, List, false, length, IfOk, OnOk, IfErr};
 ghost use Rattle.std.specs.Io.KnownBytes.{Consumes, IsAtEnd};
-ghost use Rattle.hunk_scatter.specs.LoadOutcomes.{Gives};
+ghost use Rattle.hunk_scatter.specs.LoadOutcomes.{GivesAtMost};
 ghost use Rattle.hunk_commands.specs.Inputs.{ReadsInVain};
 
 use crate::fault::RunFault;
@@ -40,7 +40,7 @@ pub fn read_whole<S: Source>(alloc: Global, source: &mut S, most: u64) -> Result
     ensures bound { IfOk result (λ bytes. length bytes.items < most) }
     ensures err { IfErr result
         (λ fault. ReadsInVain fault (S.left source.old) (S.left source.new) most (S.failed source.new)) }
-    ensures within { (given : List ℕ) × Gives (S.left source.old) (S.left source.new) most given }
+    ensures within { GivesAtMost (S.left source.old) (S.left source.new) most }
     ensures sound { S.failed source.old ≡ false → OnOk result (S.failed source.new ≡ false) }
 {
     let mut held = Vec::new(alloc);
@@ -62,7 +62,7 @@ pub(crate) fn read_all<S: Source, T: Taker>(
     ensures bound { OnOk result (length (T.took taker.new) < most) }
     ensures err { IfErr result
         (λ fault. ReadsInVain fault (S.left source.old) (S.left source.new) most (S.failed source.new)) }
-    ensures within { (given : List ℕ) × Gives (S.left source.old) (S.left source.new) most given }
+    ensures within { GivesAtMost (S.left source.old) (S.left source.new) most }
     ensures sound { S.failed source.old ≡ false → OnOk result (S.failed source.new ≡ false) }
 {
     let mut buf = [0u8; PIECE];

@@ -1,22 +1,16 @@
 //! `relocate`: a load file is loaded as it comes, and its segments are printed.
-ghost use Rattle.std.specs.Prelude.{◌≡◌, ◌⊎◌, ◌+◌, ◌^◌, ◌<◌, ◌≤◌, ◌++◌, ℕ, List, Some, false, true, length, take, IfErr, IsErrAnd, IsTrue, OnOk, OnErr};
-ghost use Rattle.hunk_words.specs.Longs.{bytes_of};
+ghost use Rattle.std.specs.Prelude.{◌≡◌, ◌⊎◌, ◌+◌, ◌^◌, ◌<◌, ℕ, List, Some, false, length, take, IfErr, IsErrAnd, IsTrue, OnOk};
 ghost use Rattle.hunk_words.specs.Prints.{Prints};
-ghost use Rattle.hunk_words.specs.Puts.{Puts};
 ghost use Rattle.hunk_words.specs.declared.fault.Fault.{Fault};
 ghost use Rattle.hunk_words.specs.declared.reason.Reason.TheVariants.{Budget};
-ghost use Rattle.hunk_commands.specs.declared.fault.RunFault.TheVariants.{Memory, Read, Refused, Write};
+ghost use Rattle.hunk_commands.specs.declared.fault.RunFault.TheVariants.{Memory, Read, Refused};
 ghost use Rattle.hunk_files.specs.Fault.{HasFault};
-ghost use Rattle.hunk_files.specs.Image.{declared_bytes};
-ghost use Rattle.hunk_files.specs.LoadFile.{LoadFileValue, TableEntry, IsLoadFile};
-ghost use Rattle.hunk_files.specs.LoadText.{table, text};
 ghost use Rattle.hunk_scatter.specs.LoaderReasons.{is_of_file};
-ghost use Rattle.hunk_scatter.specs.HeaderBytes.{IsTable, header_bytes};
 ghost use Rattle.hunk_scatter.specs.HeaderFaults.{PassesBudget};
-ghost use Rattle.hunk_scatter.specs.LoadOutcomes.{Gives, IsLoadFault, IsNotPlaced, KeepsRest};
-ghost use Rattle.hunk_scatter.specs.Placing.{HasBases};
+ghost use Rattle.hunk_scatter.specs.LoadOutcomes.{Gives, GivesAtMost, HasFileWithin, IsLoadFault, StopsBehindFile, StopsBehindHeader};
+ghost use Rattle.hunk_commands.specs.Engine.{StopsAtWrite};
 ghost use Rattle.hunk_commands.specs.Faults.{IsOfLoad};
-ghost use Rattle.hunk_commands.specs.Output.{StopsOutput};
+ghost use Rattle.hunk_commands.specs.Output.{PutsText, StopsOutput};
 ghost use Rattle.hunk_commands.specs.Relocating.{ReadsShort, Relocates, RelocatesAll, image_listing, packed};
 
 use crate::fault::RunFault;
@@ -44,28 +38,19 @@ pub fn relocate<R: Source, W: Sink>(
     requires { w.old.written ≡ 0 }
     ensures ok { OnOk result (RelocatesAll base limits.budget limits.file_bytes
         (R.left r.old) (R.left r.new) (W.taken w.old.sink) (W.taken w.new.sink) w.new.written) }
-    ensures succeeds { (v : LoadFileValue) (rest : List ℕ) → IsLoadFile v
-        → R.left r.old ≡ Some (bytes_of (text v) ++ rest)
-        → length (bytes_of (text v)) ≤ limits.file_bytes → declared_bytes (table v) ≤ limits.budget
-        → HasBases (packed base) (table v)
-        → R.failed r.new ≡ false → W.failed w.new.sink ≡ false
-        → IfErr result (λ fault. fault ≡ Memory) }
+    ensures succeeds { HasFileWithin (packed base) limits (R.left r.old) → R.failed r.new ≡ false
+        → W.failed w.new.sink ≡ false → IfErr result (λ fault. fault ≡ Memory) }
 
     // What is read at most, whatever the answer: no byte behind the file, and none behind a
     // header that can't be placed.
-    ensures limit { (given : List ℕ) × Gives (R.left r.old) (R.left r.new) limits.file_bytes given }
-    ensures one_file { (v : LoadFileValue) (rest : List ℕ) → IsLoadFile v
-        → R.left r.old ≡ Some (bytes_of (text v) ++ rest)
-        → KeepsRest (R.left r.new) rest }
-    ensures header_first { (t : List TableEntry) (rest : List ℕ) → IsTable t
-        → R.left r.old ≡ Some (header_bytes t ++ rest)
-        → IsNotPlaced (packed base) limits.budget t → KeepsRest (R.left r.new) rest }
+    ensures limit { GivesAtMost (R.left r.old) (R.left r.new) limits.file_bytes }
+    ensures one_file { StopsBehindFile (R.left r.old) (R.left r.new) }
+    ensures header_first { StopsBehindHeader (packed base) limits.budget
+        (R.left r.old) (R.left r.new) }
 
     // After a fault of writing the first bytes of the text have gone out, and after another one nothing has.
-    ensures write { IfErr result
-        (λ fault. (written : ℕ) → fault ≡ Write written → (w.new.written ≡ written)
-        × Relocates base limits.budget limits.file_bytes (R.left r.old) (R.left r.new)
-        (W.taken w.old.sink) (W.taken w.new.sink) written) }
+    ensures write { IfErr result (StopsAtWrite w.new.written (Relocates base limits.budget
+        limits.file_bytes (R.left r.old) (R.left r.new) (W.taken w.old.sink) (W.taken w.new.sink))) }
     ensures fails { IfErr result (StopsOutput W.taken W.failed w.old w.new) }
 
     ensures over_budget { (input : List ℕ) (at : ℕ) → R.left r.old ≡ Some input
@@ -82,7 +67,7 @@ pub fn relocate<R: Source, W: Sink>(
         (R.left r.new) (R.failed r.new) given refusal) }
     ensures read { IfErr result (λ fault. (place : ℕ) → fault ≡ Read place
         → ReadsShort limits.budget limits.file_bytes (R.left r.old) (R.left r.new) (R.failed r.new) place) }
-    ensures own { IfErr result IsOfLoad }
+    ensures reasons { IfErr result IsOfLoad }
 {
     let image = load(alloc, r, limits, &Packed { start: base })?;
     // The bytes of the image can be counted, and so can those of its listing.
@@ -94,11 +79,7 @@ pub fn relocate<R: Source, W: Sink>(
 /// Puts the lines of each hunk's segment.
 fn put_listing<W: Sink>(w: &mut LongWriter<W>, image: &Image) -> Result<(), WriteFault>
     requires { w.old.written + length (image_listing image.now) < 2 ^ 64 }
-    ensures puts { Puts (W.taken w.old.sink) (W.taken w.new.sink)
-        w.old.written w.new.written (image_listing image.now) }
-    ensures whole { OnOk result (w.new.written ≡ w.old.written + length (image_listing image.now)) }
-    ensures told { IfErr result (λ fault. fault.written ≡ w.new.written) }
-    ensures failed { OnErr result (W.failed w.new.sink ≡ true) }
+    ensures { PutsText W.taken W.failed w.old w.new (image_listing image.now) result }
 {
     let mut page = Printer::new(w);
     print_listing(&mut page, image);

@@ -1,12 +1,11 @@
 //! `rewrite`: a file is read, and written again.
-ghost use Rattle.std.specs.Prelude.{◌≡◌, ◌+◌, ◌^◌, ◌<◌, ℕ, List, Some, false, true, length, IfOk, IfErr, OnOk, OnErr};
-ghost use Rattle.hunk_words.specs.Puts.{Puts};
-ghost use Rattle.hunk_files.specs.HunkFile.{AreFile, IsFileOf, file_bytes};
-ghost use Rattle.hunk_scatter.specs.LoadOutcomes.{Gives};
-ghost use Rattle.hunk_commands.specs.declared.fault.RunFault.TheVariants.{Memory, Write};
-ghost use Rattle.hunk_commands.specs.Engine.{RefusesOnly, Writes, WritesAll};
-ghost use Rattle.hunk_commands.specs.Inputs.{StopsAtLimit, StopsAtRead};
-ghost use Rattle.hunk_commands.specs.Output.{StopsOutput};
+ghost use Rattle.std.specs.Prelude.{◌≡◌, ◌+◌, ◌^◌, ◌<◌, false, length, IfOk, IfErr};
+ghost use Rattle.hunk_files.specs.HunkFile.{IsFileOf, file_bytes};
+ghost use Rattle.hunk_scatter.specs.LoadOutcomes.{GivesAtMost};
+ghost use Rattle.hunk_commands.specs.declared.fault.RunFault.TheVariants.{Memory};
+ghost use Rattle.hunk_commands.specs.Engine.{RefusesOnly, StopsAtWrite, Writes, WritesAll};
+ghost use Rattle.hunk_commands.specs.Inputs.{HasFile, StopsAtLimit, StopsAtRead};
+ghost use Rattle.hunk_commands.specs.Output.{PutsText, StopsOutput};
 ghost use Rattle.hunk_commands.specs.Rewritten.{IsRewriting, IsRewritten, stripped_where};
 
 use crate::decoding::decode_file;
@@ -41,22 +40,18 @@ pub fn rewrite<R: Source, W: Sink>(
     ensures ok { IfOk result (λ done. WritesAll (IsRewritten strip done.rest)
         (R.left r.old) (R.left r.new) file_bytes (W.taken w.old.sink) (W.taken w.new.sink) done.written) }
     ensures written { IfOk result (λ done. done.written ≡ w.new.written) }
-    ensures succeeds { (input : List ℕ) → R.left r.old ≡ Some input → length input < file_bytes
-        → AreFile input
-        → R.failed r.new ≡ false → W.failed w.new.sink ≡ false
-        → IfErr result (λ fault. fault ≡ Memory) }
+    ensures succeeds { HasFile (R.left r.old) file_bytes → R.failed r.new ≡ false
+        → W.failed w.new.sink ≡ false → IfErr result (λ fault. fault ≡ Memory) }
 
     // After a fault of writing the first bytes of the file have gone out, and after another one nothing has.
-    ensures write { IfErr result (λ fault. (written : ℕ) → fault ≡ Write written →
-        (w.new.written ≡ written) × Writes (IsRewriting strip)
-        (R.left r.old) (R.left r.new) file_bytes (W.taken w.old.sink) (W.taken w.new.sink) written) }
+    ensures write { IfErr result (StopsAtWrite w.new.written (Writes (IsRewriting strip)
+        (R.left r.old) (R.left r.new) file_bytes (W.taken w.old.sink) (W.taken w.new.sink))) }
     ensures fails { IfErr result (StopsOutput W.taken W.failed w.old w.new) }
 
-    ensures within { (given : List ℕ) × Gives (R.left r.old) (R.left r.new) file_bytes given }
+    ensures within { GivesAtMost (R.left r.old) (R.left r.new) file_bytes }
     ensures limit { IfErr result (StopsAtLimit (R.left r.old) (R.left r.new) file_bytes) }
     ensures read { IfErr result (StopsAtRead (R.left r.old) (R.left r.new) (R.failed r.new)) }
-    ensures refused { IfErr result
-        (λ fault. RefusesOnly fault (R.left r.old) (R.left r.new) file_bytes) }
+    ensures refused { IfErr result (RefusesOnly (R.left r.old) (R.left r.new) file_bytes) }
 {
     let input = read_whole(alloc, r, file_bytes)?;
     let file = decode_file(alloc, input.as_slice())?;
@@ -78,12 +73,8 @@ fn put_file<W: Sink>(
 ) -> Result<(), WriteFault>
     requires file { IsFileOf input.now file }
     requires room { w.old.written + length input.now < 2 ^ 64 }
-    ensures puts { Puts (W.taken w.old.sink) (W.taken w.new.sink) w.old.written w.new.written
-        (file_bytes (stripped_where strip file.entry)) }
-    ensures whole { OnOk result (w.new.written
-        ≡ w.old.written + length (file_bytes (stripped_where strip file.entry))) }
-    ensures told { IfErr result (λ fault. fault.written ≡ w.new.written) }
-    ensures failed { OnErr result (W.failed w.new.sink ≡ true) }
+    ensures { PutsText W.taken W.failed w.old w.new
+        (file_bytes (stripped_where strip file.entry)) result }
 {
     if strip {
         return file.strip().encode(w);

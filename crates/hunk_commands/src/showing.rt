@@ -1,14 +1,12 @@
 //! `show`: the hunks and blocks of a file are listed.
-ghost use Rattle.std.specs.Prelude.{◌≡◌, ◌+◌, ◌^◌, ◌<◌, ℕ, List, Some, false, true, length, IfErr, OnOk, OnErr};
+ghost use Rattle.std.specs.Prelude.{◌≡◌, ◌+◌, ◌^◌, ◌<◌, false, length, IfErr, OnOk};
 ghost use Rattle.hunk_words.specs.Prints.{Prints};
-ghost use Rattle.hunk_words.specs.Puts.{Puts};
-ghost use Rattle.hunk_scatter.specs.LoadOutcomes.{Gives};
-ghost use Rattle.hunk_commands.specs.declared.fault.RunFault.TheVariants.{Memory, Write};
-ghost use Rattle.hunk_commands.specs.Engine.{RefusesOnly, Writes, WritesAll};
-ghost use Rattle.hunk_files.specs.HunkFile.{AreFile};
-ghost use Rattle.hunk_commands.specs.Inputs.{StopsAtLimit, StopsAtRead};
+ghost use Rattle.hunk_scatter.specs.LoadOutcomes.{GivesAtMost};
+ghost use Rattle.hunk_commands.specs.declared.fault.RunFault.TheVariants.{Memory};
+ghost use Rattle.hunk_commands.specs.Engine.{RefusesOnly, StopsAtWrite, Writes, WritesAll};
+ghost use Rattle.hunk_commands.specs.Inputs.{HasFile, StopsAtLimit, StopsAtRead};
 ghost use Rattle.hunk_commands.specs.Shown.{IsShown, file_listing};
-ghost use Rattle.hunk_commands.specs.Output.{StopsOutput};
+ghost use Rattle.hunk_commands.specs.Output.{PutsText, StopsOutput};
 
 use crate::decoding::decode_file;
 use crate::fault::RunFault;
@@ -32,22 +30,18 @@ pub fn show<R: Source, W: Sink>(
     requires { w.old.written ≡ 0 }
     ensures ok { OnOk result (WritesAll IsShown
         (R.left r.old) (R.left r.new) file_bytes (W.taken w.old.sink) (W.taken w.new.sink) w.new.written) }
-    ensures succeeds { (input : List ℕ) → R.left r.old ≡ Some input → length input < file_bytes
-        → AreFile input
-        → R.failed r.new ≡ false → W.failed w.new.sink ≡ false
-        → IfErr result (λ fault. fault ≡ Memory) }
+    ensures succeeds { HasFile (R.left r.old) file_bytes → R.failed r.new ≡ false
+        → W.failed w.new.sink ≡ false → IfErr result (λ fault. fault ≡ Memory) }
 
     // After a fault of writing the first bytes of the text have gone out, and after another one nothing has.
-    ensures write { IfErr result (λ fault. (written : ℕ) → fault ≡ Write written →
-        (w.new.written ≡ written) × Writes IsShown
-        (R.left r.old) (R.left r.new) file_bytes (W.taken w.old.sink) (W.taken w.new.sink) written) }
+    ensures write { IfErr result (StopsAtWrite w.new.written (Writes IsShown
+        (R.left r.old) (R.left r.new) file_bytes (W.taken w.old.sink) (W.taken w.new.sink))) }
     ensures fails { IfErr result (StopsOutput W.taken W.failed w.old w.new) }
 
-    ensures within { (given : List ℕ) × Gives (R.left r.old) (R.left r.new) file_bytes given }
+    ensures within { GivesAtMost (R.left r.old) (R.left r.new) file_bytes }
     ensures limit { IfErr result (StopsAtLimit (R.left r.old) (R.left r.new) file_bytes) }
     ensures read { IfErr result (StopsAtRead (R.left r.old) (R.left r.new) (R.failed r.new)) }
-    ensures refused { IfErr result
-        (λ fault. RefusesOnly fault (R.left r.old) (R.left r.new) file_bytes) }
+    ensures refused { IfErr result (RefusesOnly (R.left r.old) (R.left r.new) file_bytes) }
 {
     let input = read_whole(alloc, r, file_bytes)?;
     let file = decode_file(alloc, input.as_slice())?;
@@ -58,11 +52,7 @@ pub fn show<R: Source, W: Sink>(
 /// Puts the listing of the file.
 fn put_listing<W: Sink>(w: &mut LongWriter<W>, file: &HunkFile<'_>) -> Result<(), WriteFault>
     requires { w.old.written + length (file_listing file.now) < 2 ^ 64 }
-    ensures puts { Puts (W.taken w.old.sink) (W.taken w.new.sink)
-        w.old.written w.new.written (file_listing file.now) }
-    ensures whole { OnOk result (w.new.written ≡ w.old.written + length (file_listing file.now)) }
-    ensures told { IfErr result (λ fault. fault.written ≡ w.new.written) }
-    ensures failed { OnErr result (W.failed w.new.sink ≡ true) }
+    ensures { PutsText W.taken W.failed w.old w.new (file_listing file.now) result }
 {
     let mut page = Printer::new(w);
     print_listing(&mut page, file);

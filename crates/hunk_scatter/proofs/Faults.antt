@@ -3,12 +3,14 @@ use Rattle.std.proofs.Common.{◌≡◌, ℕ, ◌+◌, ◌-◌, ◌≤◌, List,
 use Rattle.std.specs.Int.{w32, from_be_bytes}
 use Rattle.std.proofs.lemmas.List.{take_rest}
 use Rattle.std.proofs.Math.Seq.{take-add}
+use Rattle.hunk_words.specs.declared.fault.Fault.{Fault}
 use Rattle.hunk_words.specs.declared.reason.Reason.{Reason}
 use Rattle.hunk_words.specs.Longs.{longs, bytes_of}
 use Rattle.hunk_files.specs.Fault.{HasRefusal}
 use Rattle.hunk_files.specs.LoadText.{text}
 use Rattle.hunk_files.proofs.Scan.{no_fault}
 use Rattle.hunk_scatter.specs.LoaderValues.{MayGoOn}
+use Rattle.hunk_scatter.specs.LoadOutcomes.{StopsInBody}
 
 pub longs-more : (bytes more : List ℕ) → (rest : List ℕ) × (longs (bytes ++ more) ≡ longs bytes ++ rest)
 longs-more [] more = (longs more, refl)
@@ -55,9 +57,9 @@ pub fed_rest : (fed piece front : List ℕ) (n : ℕ) → front ≡ fed ++ take 
 fed_rest fed piece front n e =
     ap₂ (λ (bs rest : List ℕ). bs ++ rest) e (take_rest piece n) ∙ append_assoc fed (take n piece) (drop n piece) ∙ ap (λ (xs : List ℕ). fed ++ xs) (take-append-drop n piece)
 
--- A refusal of the rest of a piece is one of the piece.
-pub refused_rest : (fed piece front : List ℕ) (n at : ℕ) (reason : Reason) → front ≡ fed ++ take n piece → HasRefusal (front ++ take (length piece - n) (drop n piece)) at reason → HasRefusal (fed ++ piece) at reason
-refused_rest fed piece front n at reason e h = subst (λ (bs : List ℕ). HasRefusal bs at reason) (fed_rest fed piece front n e) h
+-- What stops in the rest of a piece stops in the piece.
+pub stopped_rest : (fed piece front : List ℕ) (n : ℕ) (f : Fault) → front ≡ fed ++ take n piece → StopsInBody (front ++ take (length piece - n) (drop n piece)) f → StopsInBody (fed ++ piece) f
+stopped_rest fed piece front n f e h = subst (λ (bs : List ℕ). StopsInBody bs f) (fed_rest fed piece front n e) h
 
 -- So much of a piece, and so much of its rest.
 pub fed_on : (fed piece front after : List ℕ) (n m : ℕ) → front ≡ fed ++ take n piece → after ≡ front ++ take m (take (length piece - n) (drop n piece)) → after ≡ fed ++ take (n + m) piece

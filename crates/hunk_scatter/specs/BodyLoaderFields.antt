@@ -1,5 +1,5 @@
 -- What the fields of the loader of a body keep.
-use Rattle.std.specs.Prelude.{◌≡◌, ℕ, ◌<◌, ◌≤◌, List, [], ◌++◌, length, Option, None, Some, IsTrue}
+use Rattle.std.specs.Prelude.{◌≡◌, ℕ, ◌<◌, ◌≤◌, List, [], ◌++◌, length, take, Option, None, Some, IsTrue}
 use Rattle.hunk_words.specs.Limits.{most_hunks}
 use Rattle.hunk_words.specs.Longs.{bytes_of}
 use Rattle.hunk_words.specs.declared.fault.Fault.{Fault}
@@ -14,6 +14,7 @@ use Rattle.hunk_scatter.specs.LoaderReasons.{is_of_body}
 use Rattle.hunk_scatter.specs.StoreContent.{StoreHolds}
 use Rattle.hunk_scatter.specs.Rows.{entries_of, bases_of}
 use Rattle.hunk_scatter.specs.BodyReader.{state_of}
+use Rattle.hunk_scatter.specs.LoadOutcomes.{StopsInBody}
 use Rattle.hunk_files.specs.ReaderPosition.{IsBehindHeader, table_of}
 
 -- where the file is whole no byte is pending
@@ -51,8 +52,19 @@ ReadsOn rows store state bytes after behind = (fed : List ℕ) → Reading rows 
 abbrev pub Refuses : List Row → List ℕ → BodyState → List ℕ → Reason → Type 0
 Refuses rows store state piece reason = (fed : List ℕ) → Reading rows store state [] fed → HasRefusal (fed ++ piece) (length fed) reason
 
+-- So many bytes of the piece were taken, one at least, and are read.
+pub record TakesFront (rows : List Row) (store : List ℕ) (state : BodyState) (piece after : List ℕ) (behind : BodyState) (n : ℕ) : Type 0 where
+  pub some : 0 < n
+  pub inside : n ≤ length piece
+  pub reads : ReadsOn rows store state (take n piece) after behind
+
+-- The piece is refused at its first longword.
+pub record RefusesFront (rows : List Row) (store : List ℕ) (state : BodyState) (piece : List ℕ) (reason : Reason) : Type 0 where
+  pub refuses : Refuses rows store state piece reason
+  pub own : IsTrue (is_of_body reason)
+
 -- ---- a refusal
 
 -- the loader tells a refusal of these bytes
 abbrev pub RefusesOf : List ℕ → Option Fault → Type 0
-RefusesOf bytes refused = (f : Fault) × (refused ≡ Some f) × HasRefusal bytes f.place f.reason × IsTrue (is_of_body f.reason)
+RefusesOf bytes refused = (f : Fault) × (refused ≡ Some f) × StopsInBody bytes f

@@ -1,5 +1,5 @@
 -- A load from a source.
-use Rattle.std.specs.Prelude.{◌≡◌, ℕ, ◌*◌, ◌/◌, ◌<◌, ◌≤◌, Bool, true, List, [], ◌++◌, length, map, Option, Some, None, ◌⊎◌, IsTrue, Result, MatchResult}
+use Rattle.std.specs.Prelude.{◌≡◌, ℕ, ◌*◌, ◌/◌, ◌<◌, ◌≤◌, Bool, true, false, List, [], ◌++◌, length, map, Option, Some, None, ◌⊎◌, IsTrue, Result, MatchResult, IsErrAnd}
 use Rattle.std.specs.Io.KnownBytes.{Consumes, IsAtEnd}
 use Rattle.hunk_words.specs.Longs.{bytes_of}
 use Rattle.hunk_words.specs.declared.fault.Fault.{Fault}
@@ -15,6 +15,7 @@ use Rattle.hunk_scatter.specs.HeaderFaults.{CompletesRow, PassesBudget, IsOverBu
 use Rattle.hunk_scatter.specs.LoaderValues.{ImageValue, HasNoRefusal}
 use Rattle.hunk_scatter.specs.Placing.{Placing, base_at, AreBases, HasBases, IsFirstUnplaced, IsUnplacedFor}
 use Rattle.hunk_scatter.specs.Rows.{entries_of, bases_of}
+use Rattle.hunk_scatter.specs.declared.limits.Limits.{Limits}
 
 -- ---- what a reader gives
 
@@ -23,6 +24,9 @@ pub record Gives (old new : Option (List ℕ)) (limit : ℕ) (given : List ℕ) 
   pub consumed : Consumes old new given
   pub within : length given ≤ limit
 
+abbrev pub GivesAtMost : Option (List ℕ) → Option (List ℕ) → ℕ → Type 0
+GivesAtMost old new limit = (given : List ℕ) × Gives old new limit given
+
 -- These bytes, the last of all, are still to be read.
 abbrev pub KeepsRest : Option (List ℕ) → List ℕ → Type 0
 KeepsRest left rest = (front : List ℕ) × (left ≡ Some (front ++ rest))
@@ -30,6 +34,29 @@ KeepsRest left rest = (front : List ℕ) × (left ≡ Some (front ++ rest))
 -- The table declares more than the budget, or a hunk of it has no base.
 abbrev pub IsNotPlaced : Placing → ℕ → List TableEntry → Type 0
 IsNotPlaced base budget table = (budget < declared_bytes table) ⊎ ((hunk : ℕ) × (hunk < length table) × (base_at base table hunk ≡ None))
+
+-- Where a load file was in front, all that was behind it is still to be read.
+abbrev pub StopsBehindFile : Option (List ℕ) → Option (List ℕ) → Type 0
+StopsBehindFile old new = (v : LoadFileValue) (rest : List ℕ) → IsLoadFile v → old ≡ Some (bytes_of (text v) ++ rest) → KeepsRest new rest
+
+-- Where the header of a table was in front that can't be placed, all that was behind it is.
+abbrev pub StopsBehindHeader : Placing → ℕ → Option (List ℕ) → Option (List ℕ) → Type 0
+StopsBehindHeader base budget old new =
+    (t : List TableEntry) (rest : List ℕ) → IsTable t → old ≡ Some (header_bytes t ++ rest) → IsNotPlaced base budget t → KeepsRest new rest
+
+-- A load file is in front that keeps to the limits, and each of its hunks is given a base.
+pub record HasFileWithin (base : Placing) (limits : Limits) (left : Option (List ℕ)) : Type 0 where
+  pub value : LoadFileValue
+  pub rest : List ℕ
+  pub is_load_file : IsLoadFile value
+  pub split : left ≡ Some (bytes_of (text value) ++ rest)
+  pub fits : length (bytes_of (text value)) ≤ limits.file_bytes
+  pub within : declared_bytes (table value) ≤ limits.budget
+  pub bases : HasBases base (table value)
+
+-- A reader that has come to fail is what the answer tells of.
+abbrev pub TellsFailure : {T : Type 0} → Bool → Bool → Result T Fault → Type 0
+TellsFailure old new result = old ≡ false → new ≡ true → IsErrAnd result (λ f. f.reason ≡ reasons.Read)
 
 -- ---- what is loaded
 

@@ -1,5 +1,5 @@
 -- The loaders and what they make, as their callers see them.
-use Rattle.std.specs.Prelude.{◌≡◌, ℕ, ◌*◌, List, [], ◌∷◌, ◌++◌, map, take, drop, Option, MatchOption, ◌⊎◌}
+use Rattle.std.specs.Prelude.{◌≡◌, ℕ, ◌*◌, List, [], ◌∷◌, ◌++◌, ◌≤◌, length, map, take, drop, Option, MatchOption, ◌⊎◌}
 use Rattle.std.specs.Borrow.{Bor}
 use Rattle.std.specs.List.{flat_map}
 use Rattle.hunk_words.specs.Bits.{size_longs}
@@ -34,6 +34,10 @@ pub record BodyLoaderValue : Type 0 where
 pub record ImageValue : Type 0 where
   pub rows : List Row
   pub segments : List (List ℕ)
+
+-- So many bytes of the piece were taken: they are fed behind those that were fed before.
+abbrev pub FeedsFront : List ℕ → List ℕ → List ℕ → ℕ → Type 0
+FeedsFront before piece after n = (n ≤ length piece) × (after ≡ before ++ take n piece)
 
 -- ---- files
 

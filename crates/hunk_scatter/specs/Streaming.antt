@@ -1,5 +1,5 @@
 -- A loader in memory that is its caller's: rows, a store, and numbers.
-use Rattle.std.specs.Prelude.{◌≡◌, ℕ, ◌*◌, ◌/◌, Bool, true, false, List, length, None}
+use Rattle.std.specs.Prelude.{◌≡◌, ℕ, ◌+◌, ◌*◌, ◌/◌, ◌<◌, ◌≤◌, Bool, true, false, List, ◌++◌, length, take, None, Result, MatchResult}
 use Rattle.hunk_files.specs.Fault.{HasRefusal, IsTruncated}
 use Rattle.hunk_files.specs.Image.{declared_bytes}
 use Rattle.hunk_files.specs.declared.row.Row.{Row}
@@ -20,6 +20,16 @@ IsFed rows store s fed = BodyLoaderInvariant rows store s.state (pending_of s.pe
 abbrev pub StopsAt : List ℕ → Stop → Type 0
 StopsAt bytes (stops.Refused f) = HasRefusal bytes f.place f.reason
 StopsAt bytes stops.Strange = ⊥
+
+-- Of a piece behind these bytes a first part was taken: behind both a loader stands so, with this store. Or it stops.
+abbrev pub TakesOn : List Row → List ℕ → List ℕ → List ℕ → Result (Standing × ℕ) Stop → Type 0
+TakesOn rows store fed piece result = MatchResult result (λ r. IsFed rows store r.0 (fed ++ take r.1 piece)) (StopsAt (fed ++ piece))
+
+-- So many bytes of the piece were taken, one at least, and are counted.
+pub record CountsTaken (at : Standing) (piece : List ℕ) (to : Standing) (n : ℕ) : Type 0 where
+  pub some : 0 < n
+  pub inside : n ≤ length piece
+  pub counts : to.fed ≡ at.fed + n
 
 -- Where the rows are those of a table, its header has so many bytes, and it declares as many as there is room for: behind that header a loader stands so.
 abbrev pub BeginsLoading : List Row → ℕ → ℕ → List ℕ → Standing → Type 0

@@ -7,9 +7,9 @@ ghost use Rattle.hunk_files.specs.Image.{declared_bytes};
 ghost use Rattle.hunk_files.specs.LoadFile.{LoadFileValue, IsLoadFile};
 ghost use Rattle.hunk_files.specs.LoadText.{text};
 ghost use Rattle.hunk_scatter.specs.LoaderReasons.{is_of_body};
-ghost use Rattle.hunk_scatter.specs.LoaderValues.{BodyLoaderValue, IsWholeFile, MayGoOn, HasNoRefusal, IsImageOf};
+ghost use Rattle.hunk_scatter.specs.LoaderValues.{FeedsFront, HasNoRefusal, IsImageOf, IsWholeFile, MayGoOn};
 ghost use Rattle.hunk_scatter.specs.BodyLoaderFields.{RefusesOf};
-ghost use Rattle.hunk_scatter.specs.LoadOutcomes.{IsWithinFile};
+ghost use Rattle.hunk_scatter.specs.LoadOutcomes.{IsWithinFile, StopsInBody};
 ghost use Rattle.hunk_scatter.specs.Owing.{HasToCome};
 ghost use Rattle.hunk_scatter.specs.Rows.{entries_of};
 
@@ -62,13 +62,10 @@ impl BodyLoader {
         requires room { length self.old.fed + length piece.now < 2 ^ 64 }
         requires reading { self.old.refused ≡ None }
         ensures rows { self.new.rows ≡ self.old.rows }
-        ensures taken { IfOk result
-            (λ n. (n ≤ length piece.now) × (self.new.fed ≡ self.old.fed ++ take n piece.now)) }
+        ensures taken { IfOk result (FeedsFront self.old.fed piece.now self.new.fed) }
         ensures goes_on { OnOk result (self.new.refused ≡ None) }
         ensures complete { IsWholeFile self.old.rows self.old.fed → result ≡ Ok 0 }
-        ensures refusal { IfErr result
-            (λ f. HasRefusal (self.old.fed ++ piece.now) f.place f.reason) }
-        ensures own { IfErr result (λ f. IsTrue (is_of_body f.reason)) }
+        ensures stops { IfErr result (StopsInBody (self.old.fed ++ piece.now)) }
         ensures remembers { IfErr result (λ f. self.new.refused ≡ Some f) }
     {
         if self.assembler.pending() > 0 {
@@ -99,14 +96,11 @@ impl BodyLoader {
         requires reading { self.old.refused ≡ None }
         requires some { 0 < length piece.now }
         ensures rows { self.new.rows ≡ self.old.rows }
-        ensures taken { IfOk result
-            (λ n. (n ≤ length piece.now) × (self.new.fed ≡ self.old.fed ++ take n piece.now)) }
+        ensures taken { IfOk result (FeedsFront self.old.fed piece.now self.new.fed) }
         ensures goes_on { OnOk result (self.new.refused ≡ None) }
-        ensures whole { result ≡ Ok 0 → IsWholeFile self.new.rows self.new.fed }
+        ensures ends { result ≡ Ok 0 → IsWholeFile self.new.rows self.new.fed }
         ensures complete { IsWholeFile self.old.rows self.old.fed → result ≡ Ok 0 }
-        ensures refusal { IfErr result
-            (λ f. HasRefusal (self.old.fed ++ piece.now) f.place f.reason) }
-        ensures own { IfErr result (λ f. IsTrue (is_of_body f.reason)) }
+        ensures stops { IfErr result (StopsInBody (self.old.fed ++ piece.now)) }
         ensures remembers { IfErr result (λ f. self.new.refused ≡ Some f) }
     {
         if self.state.position.is_done() {
@@ -146,13 +140,10 @@ impl BodyLoader {
         requires room { length self.old.fed + length piece.now < 2 ^ 64 }
         requires reading { self.old.refused ≡ None }
         ensures rows { self.new.rows ≡ self.old.rows }
-        ensures taken { IfOk result
-            (λ n. (n ≤ length piece.now) × (self.new.fed ≡ self.old.fed ++ take n piece.now)) }
+        ensures taken { IfOk result (FeedsFront self.old.fed piece.now self.new.fed) }
         ensures goes_on { OnOk result (self.new.refused ≡ None) }
         ensures complete { IsWholeFile self.old.rows self.old.fed → result ≡ Ok 0 }
-        ensures refusal { IfErr result
-            (λ f. HasRefusal (self.old.fed ++ piece.now) f.place f.reason) }
-        ensures own { IfErr result (λ f. IsTrue (is_of_body f.reason)) }
+        ensures stops { IfErr result (StopsInBody (self.old.fed ++ piece.now)) }
         ensures remembers { IfErr result (λ f. self.new.refused ≡ Some f) }
     {
         if self.assembler.pending() == 0 || piece.is_empty() {
@@ -168,14 +159,12 @@ impl BodyLoader {
         requires room { length self.old.fed + length piece.now < 2 ^ 64 }
         requires reading { self.old.refused ≡ None }
         ensures rows { self.new.rows ≡ self.old.rows }
-        ensures taken { IfOk result
-            (λ n. (n ≤ length piece.now) × (self.new.fed ≡ self.old.fed ++ take n piece.now)) }
+        ensures taken { IfOk result (FeedsFront self.old.fed piece.now self.new.fed) }
         ensures all { IfOk result
             (λ n. n < length piece.now → IsWholeFile self.new.rows self.new.fed) }
         ensures goes_on { OnOk result (self.new.refused ≡ None) }
         ensures complete { IsWholeFile self.old.rows self.old.fed → result ≡ Ok 0 }
-        ensures refusal { OnErr result
-            (RefusesOf (self.old.fed ++ piece.now) self.new.refused) }
+        ensures stops { OnErr result (RefusesOf (self.old.fed ++ piece.now) self.new.refused) }
     {
         let mut taken = 0;
         while taken < piece.len() {
@@ -195,14 +184,12 @@ impl BodyLoader {
         requires room { length self.old.fed + length piece.now < 2 ^ 64 }
         requires reading { self.old.refused ≡ None }
         ensures rows { self.new.rows ≡ self.old.rows }
-        ensures taken { IfOk result
-            (λ n. (n ≤ length piece.now) × (self.new.fed ≡ self.old.fed ++ take n piece.now)) }
+        ensures taken { IfOk result (FeedsFront self.old.fed piece.now self.new.fed) }
         ensures all { IfOk result
             (λ n. n < length piece.now → IsWholeFile self.new.rows self.new.fed) }
         ensures goes_on { OnOk result (self.new.refused ≡ None) }
         ensures complete { IsWholeFile self.old.rows self.old.fed → result ≡ Ok 0 }
-        ensures refusal { OnErr result
-            (RefusesOf (self.old.fed ++ piece.now) self.new.refused) }
+        ensures stops { OnErr result (RefusesOf (self.old.fed ++ piece.now) self.new.refused) }
     {
         let whole = match self.take_whole(piece) {
             Ok(whole) => whole,
@@ -223,15 +210,12 @@ impl BodyLoader {
         requires room { length self.old.fed + length piece.now < 2 ^ 64 }
         requires reading { self.old.refused ≡ None }
         ensures rows { self.new.rows ≡ self.old.rows }
-        ensures taken { IfOk result
-            (λ n. (n ≤ length piece.now) × (self.new.fed ≡ self.old.fed ++ take n piece.now)) }
+        ensures taken { IfOk result (FeedsFront self.old.fed piece.now self.new.fed) }
         ensures all { IfOk result
             (λ n. n < length piece.now → IsWholeFile self.new.rows self.new.fed) }
         ensures goes_on { OnOk result (self.new.refused ≡ None) }
         ensures complete { IsWholeFile self.old.rows self.old.fed → result ≡ Ok 0 }
-        ensures refusal { IfErr result
-            (λ f. HasRefusal (self.old.fed ++ piece.now) f.place f.reason) }
-        ensures own { IfErr result (λ f. IsTrue (is_of_body f.reason)) }
+        ensures stops { IfErr result (StopsInBody (self.old.fed ++ piece.now)) }
         ensures remembers { IfErr result (λ f. self.new.refused ≡ Some f) }
     {
         match self.take_parts(piece) {
@@ -249,15 +233,12 @@ impl BodyLoader {
         requires room { length self.old.fed + length piece.now < 2 ^ 64 }
         requires reading { self.old.refused ≡ None }
         ensures rows { self.new.rows ≡ self.old.rows }
-        ensures taken { IfOk result
-            (λ n. (n ≤ length piece.now) × (self.new.fed ≡ self.old.fed ++ take n piece.now)) }
+        ensures taken { IfOk result (FeedsFront self.old.fed piece.now self.new.fed) }
         ensures all { IfOk result
             (λ n. n < length piece.now → IsWholeFile self.new.rows self.new.fed) }
         ensures goes_on { OnOk result (self.new.refused ≡ None) }
         ensures complete { IsWholeFile self.old.rows self.old.fed → result ≡ Ok 0 }
-        ensures refusal { IfErr result
-            (λ f. HasRefusal (self.old.fed ++ piece.now) f.place f.reason) }
-        ensures own { IfErr result (λ f. IsTrue (is_of_body f.reason)) }
+        ensures stops { IfErr result (StopsInBody (self.old.fed ++ piece.now)) }
         ensures remembers { IfErr result (λ f. self.new.refused ≡ Some f) }
     {
         match self.take_gathered(piece) {
@@ -313,8 +294,7 @@ impl BodyLoader {
         ensures rows { self.new.rows ≡ self.old.rows }
 
         // Success.
-        ensures taken { IfOk result
-            (λ n. (n ≤ length piece.now) × (self.new.fed ≡ self.old.fed ++ take n piece.now)) }
+        ensures taken { IfOk result (FeedsFront self.old.fed piece.now self.new.fed) }
         ensures all { IfOk result
             (λ n. n < length piece.now → IsWholeFile self.new.rows self.new.fed) }
         ensures within { OnOk result (IsWithinFile self.new.fed) }
@@ -327,7 +307,7 @@ impl BodyLoader {
             → IfErr result (λ f. HasRefusal (self.old.fed ++ piece.now) f.place f.reason) }
         ensures accepts { self.old.refused ≡ None → MayGoOn (self.old.fed ++ piece.now)
             → IsOk result }
-        ensures own { IfErr result (λ f. IsTrue (is_of_body f.reason)) }
+        ensures reasons { IfErr result (λ f. IsTrue (is_of_body f.reason)) }
 
         // A loader that has refused.
         ensures remembers { IfErr result (λ f. self.new.refused ≡ Some f) }
@@ -373,7 +353,7 @@ impl BodyLoader {
         ensures image { IfOk result (λ image. IsImageOf self.rows self.fed image.segments) }
         ensures rows { IfOk result (λ image. image.rows ≡ self.rows) }
         ensures reading { OnOk result (self.refused ≡ None) }
-        ensures whole { self.refused ≡ None → IsWholeFile self.rows self.fed → IsOk result }
+        ensures finishes { self.refused ≡ None → IsWholeFile self.rows self.fed → IsOk result }
         ensures same { IfErr result (λ loader. loader ≡ self) }
     {
         if self.refused.is_some() {

@@ -1,5 +1,6 @@
 //! Where the loader of a body stands.
 ghost use Rattle.std.specs.Prelude.{◌≡◌, ◌+◌, ◌*◌, ◌<◌, ◌^◌, length, ℕ};
+ghost use Rattle.hunk_words.specs.Limits.{content_limit};
 ghost use Rattle.hunk_scan.specs.Positions.{open_next};
 ghost use Rattle.hunk_scatter.specs.BodySteps.{step_body, refusal, longs_at, IsInStore};
 ghost use Rattle.hunk_scatter.specs.Rows.{words_of};
@@ -21,7 +22,7 @@ pub struct BodyState {
 pub fn longs_of(rows: &[Row], hunk: u32) -> u32
     requires { hunk < length rows.now }
     ensures value { result ≡ longs_at (words_of rows.now) hunk }
-    ensures bound { result < 2 ^ 30 }
+    ensures bound { result < content_limit }
 {
     rows[hunk as usize].size().longs()
 }

@@ -9,9 +9,9 @@ ghost use Rattle.hunk_files.specs.LoadFile.{TableEntry};
 ghost use Rattle.hunk_scatter.specs.LoaderReasons.{is_of_header};
 ghost use Rattle.hunk_scatter.specs.HeaderBytes.{IsTable, header_bytes, IsHeader, MayGoOnInHeader, entries_so_far};
 ghost use Rattle.hunk_scatter.specs.HeaderFaults.{PassesBudget, IsOverBudget, IsBudgetOrMemory, IsHeaderFault};
-ghost use Rattle.hunk_scatter.specs.HeaderLoaderFields.{HeaderStop};
+ghost use Rattle.hunk_scatter.specs.HeaderLoaderFields.{StopsInPiece};
 ghost use Rattle.hunk_scatter.specs.HeaderOwing.{HasRowsToCome, HasHeaderToCome};
-ghost use Rattle.hunk_scatter.specs.LoaderValues.{HeaderLoaderValue, HasNoRefusal};
+ghost use Rattle.hunk_scatter.specs.LoaderValues.{FeedsFront, HasNoRefusal};
 ghost use Rattle.hunk_scatter.specs.LoadOutcomes.{IsWithinHeader};
 ghost use Rattle.hunk_words.specs.Longs.{longs};
 
@@ -80,14 +80,11 @@ impl HeaderLoader {
         requires reading { self.old.refused ≡ None }
         requires some { 0 < length piece.now }
         ensures budget { self.new.budget ≡ self.old.budget }
-        ensures taken { IfOk result
-            (λ n. (n ≤ length piece.now) × (self.new.fed ≡ self.old.fed ++ take n piece.now)) }
+        ensures taken { IfOk result (FeedsFront self.old.fed piece.now self.new.fed) }
         ensures goes_on { OnOk result (self.new.refused ≡ None) }
-        ensures whole { result ≡ Ok 0 → IsHeader self.new.fed }
+        ensures ends { result ≡ Ok 0 → IsHeader self.new.fed }
         ensures complete { IsHeader self.old.fed → result ≡ Ok 0 }
-        ensures refusal { IfErr result
-            (λ f. (front rest : List ℕ) × (self.old.fed ++ piece.now ≡ front ++ rest)
-            × (length self.old.fed < length front) × HeaderStop self.old.budget front f) }
+        ensures stops { IfErr result (StopsInPiece self.old.budget self.old.fed piece.now) }
         ensures remembers { IfErr result (λ f. self.new.refused ≡ Some f) }
     {
         if self.state.position.is_behind_header() {
@@ -155,14 +152,11 @@ impl HeaderLoader {
         requires room { length self.old.fed + length piece.now < 2 ^ 64 }
         requires reading { self.old.refused ≡ None }
         ensures budget { self.new.budget ≡ self.old.budget }
-        ensures taken { IfOk result
-            (λ n. (n ≤ length piece.now) × (self.new.fed ≡ self.old.fed ++ take n piece.now)) }
+        ensures taken { IfOk result (FeedsFront self.old.fed piece.now self.new.fed) }
         ensures all { IfOk result (λ n. n < length piece.now → IsHeader self.new.fed) }
         ensures complete { IsHeader self.old.fed → result ≡ Ok 0 }
         ensures reading { OnOk result (self.new.refused ≡ None) }
-        ensures refusal { IfErr result
-            (λ f. (front rest : List ℕ) × (self.old.fed ++ piece.now ≡ front ++ rest)
-            × (length self.old.fed < length front) × HeaderStop self.old.budget front f) }
+        ensures stops { IfErr result (StopsInPiece self.old.budget self.old.fed piece.now) }
         ensures remembers { IfErr result (λ f. self.new.refused ≡ Some f) }
     {
         let mut taken = 0;
@@ -187,8 +181,7 @@ impl HeaderLoader {
         ensures budget { self.new.budget ≡ self.old.budget }
 
         // Success.
-        ensures taken { IfOk result
-            (λ n. (n ≤ length piece.now) × (self.new.fed ≡ self.old.fed ++ take n piece.now)) }
+        ensures taken { IfOk result (FeedsFront self.old.fed piece.now self.new.fed) }
         ensures all { IfOk result (λ n. n < length piece.now → IsHeader self.new.fed) }
         ensures within { OnOk result (IsWithinHeader self.new.fed) }
         ensures complete { self.old.refused ≡ None → IsHeader self.old.fed → result ≡ Ok 0 }
@@ -205,7 +198,7 @@ impl HeaderLoader {
             → length self.old.fed < f.place + 4) }
         ensures accepts { self.old.refused ≡ None → MayGoOnInHeader (self.old.fed ++ piece.now)
             → IfErr result (λ f. IsBudgetOrMemory f.reason) }
-        ensures own { IfErr result (λ f. IsTrue (is_of_header f.reason)) }
+        ensures reasons { IfErr result (λ f. IsTrue (is_of_header f.reason)) }
 
         // A loader that has refused.
         ensures remembers { IfErr result (λ f. self.new.refused ≡ Some f) }
@@ -255,7 +248,7 @@ impl HeaderLoader {
         ensures budget { IfOk result (λ d. d.budget ≡ self.budget) }
         ensures within { IfOk result (λ d. declared_bytes d.table ≤ self.budget) }
         ensures reading { OnOk result (self.refused ≡ None) }
-        ensures whole { self.refused ≡ None → IsHeader self.fed → IsOk result }
+        ensures finishes { self.refused ≡ None → IsHeader self.fed → IsOk result }
         ensures same { IfErr result (λ loader. loader ≡ self) }
     {
         if self.refused.is_some() {

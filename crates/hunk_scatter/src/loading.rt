@@ -11,7 +11,8 @@ ghost use Rattle.hunk_scatter.specs.LoaderReasons.{is_of_file, is_of_load};
 ghost use Rattle.hunk_scatter.specs.HeaderBytes.{IsTable, header_bytes};
 ghost use Rattle.hunk_scatter.specs.HeaderFaults.{PassesBudget, IsOverBudget};
 ghost use Rattle.hunk_scatter.specs.LoaderValues.{IsImageOf};
-ghost use Rattle.hunk_scatter.specs.LoadOutcomes.{Gives, KeepsRest, IsNotPlaced, IsLoaded, IsLoadFault, IsHeaderWithin, IsWithinHeader, IsWithinFile, IsReadFault, IsHeaderStop, IsBodyStop, KeepsToHeader, LoadEnds};
+ghost use Rattle.hunk_scatter.specs.LoadOutcomes.{Gives, GivesAtMost, HasFileWithin, IsBodyStop, IsHeaderStop, IsLoadFault, IsLoaded, IsReadFault};
+ghost use Rattle.hunk_scatter.specs.LoadOutcomes.{IsWithinFile, IsWithinHeader, KeepsToHeader, LoadEnds, StopsBehindFile, StopsBehindHeader, TellsFailure};
 ghost use Rattle.hunk_scatter.specs.Placing.{HasBases};
 
 use crate::body_loader::BodyLoader;
@@ -42,8 +43,7 @@ fn read_piece<R: Source>(
     ensures fault { IfErr result (IsReadFault limit (R.left r.new) (R.failed r.new) count) }
     ensures nothing { OnErr result (Consumes (R.left r.old) (R.left r.new) []) }
     ensures works { OnOk result (R.failed r.new ≡ R.failed r.old) }
-    ensures read { R.failed r.old ≡ Bool.false → R.failed r.new ≡ Bool.true
-        → IsErrAnd result (λ f. f.reason ≡ reasons.Read) }
+    ensures read { TellsFailure (R.failed r.old) (R.failed r.new) result }
 {
     if count >= limit {
         return Err(LoadFault {
@@ -79,8 +79,7 @@ fn load_header<R: Source>(
         (λ declared. IsTable declared.table × (given ≡ header_bytes declared.table)
         × (declared_bytes declared.table ≤ limits.budget))
         (IsHeaderStop limits.budget limits.file_bytes (R.left r.new) (R.failed r.new) given) }
-    ensures read { R.failed r.old ≡ Bool.false → R.failed r.new ≡ Bool.true
-        → IsErrAnd result (λ f. f.reason ≡ reasons.Read) }
+    ensures read { TellsFailure (R.failed r.old) (R.failed r.new) result }
 {
     let mut loader = HeaderLoader::new(alloc, limits.budget);
     'reading: loop {
@@ -120,8 +119,7 @@ fn load_body<R: Source>(
         (λ image. IsImageOf loader.rows (loader.fed ++ more) image.segments
         × (image.rows ≡ loader.rows))
         (IsBodyStop limit (R.left r.new) (R.failed r.new) (loader.fed ++ more)) }
-    ensures read { R.failed r.old ≡ Bool.false → R.failed r.new ≡ Bool.true
-        → IsErrAnd result (λ f. f.reason ≡ reasons.Read) }
+    ensures read { TellsFailure (R.failed r.old) (R.failed r.new) result }
 {
     let mut loader = loader;
     'reading: loop {
@@ -154,8 +152,7 @@ fn load_placed<R: Source, P: Placer>(
     ensures ends { (given : List ℕ) × Gives (R.left r.old) (R.left r.new) limits.file_bytes given
         × IsWithinFile given × KeepsToHeader (P.base p.now) limits.budget given
         × LoadEnds (P.base p.now) limits.budget limits.file_bytes (R.left r.new) (R.failed r.new) given result }
-    ensures read { R.failed r.old ≡ Bool.false → R.failed r.new ≡ Bool.true
-        → IsErrAnd result (λ f. f.reason ≡ reasons.Read) }
+    ensures read { TellsFailure (R.failed r.old) (R.failed r.new) result }
 {
     let mut buf = [0u8; 256];
     let declared = match load_header(alloc, r, buf.as_mut_slice(), limits) {
@@ -198,18 +195,13 @@ pub fn load<R: Source, P: Placer>(
         × Gives (R.left r.old) (R.left r.new) limits.file_bytes (bytes_of (text v))) }
 
     // What is read at most.
-    ensures limit { (given : List ℕ) × Gives (R.left r.old) (R.left r.new) limits.file_bytes given }
-    ensures one_file { (v : LoadFileValue) (rest : List ℕ) → IsLoadFile v
-        → R.left r.old ≡ Some (bytes_of (text v) ++ rest) → KeepsRest (R.left r.new) rest }
-    ensures header_first { (t : List TableEntry) (rest : List ℕ) → IsTable t
-        → R.left r.old ≡ Some (header_bytes t ++ rest)
-        → IsNotPlaced (P.base p.now) limits.budget t → KeepsRest (R.left r.new) rest }
+    ensures limit { GivesAtMost (R.left r.old) (R.left r.new) limits.file_bytes }
+    ensures one_file { StopsBehindFile (R.left r.old) (R.left r.new) }
+    ensures header_first { StopsBehindHeader (P.base p.now) limits.budget
+        (R.left r.old) (R.left r.new) }
 
     // Success.
-    ensures succeeds { (v : LoadFileValue) (rest : List ℕ) → IsLoadFile v
-        → R.left r.old ≡ Some (bytes_of (text v) ++ rest)
-        → length (bytes_of (text v)) ≤ limits.file_bytes
-        → declared_bytes (table v) ≤ limits.budget → HasBases (P.base p.now) (table v)
+    ensures succeeds { HasFileWithin (P.base p.now) limits (R.left r.old)
         → R.failed r.new ≡ Bool.false → IfErr result (λ f. f.reason ≡ reasons.OutOfMemory) }
 
     // Refusals.
@@ -222,11 +214,10 @@ pub fn load<R: Source, P: Placer>(
     ensures fault { IfErr result
         (λ f. (given : List ℕ) × Gives (R.left r.old) (R.left r.new) limits.file_bytes given
         × IsLoadFault (P.base p.now) limits.budget limits.file_bytes (R.left r.new) (R.failed r.new) given f) }
-    ensures own { IfErr result (λ f. IsTrue (is_of_load f.reason)) }
+    ensures reasons { IfErr result (λ f. IsTrue (is_of_load f.reason)) }
 
     // A read that fails ends the load.
-    ensures read { R.failed r.old ≡ Bool.false → R.failed r.new ≡ Bool.true
-        → IsErrAnd result (λ f. f.reason ≡ reasons.Read) }
+    ensures read { TellsFailure (R.failed r.old) (R.failed r.new) result }
 {
     load_placed(alloc, r, limits, p)
 }

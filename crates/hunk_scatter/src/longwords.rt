@@ -5,7 +5,7 @@ ghost use Rattle.hunk_files.specs.Fault.{HasRefusal};
 ghost use Rattle.hunk_files.specs.Image.{declared_bytes};
 ghost use Rattle.hunk_scan.specs.Positions.{is_done};
 ghost use Rattle.hunk_scan.specs.declared.position.Position.TheVariants as positions;
-ghost use Rattle.hunk_scatter.specs.BodyLoaderFields.{Reading, ReadsOn, Refuses};
+ghost use Rattle.hunk_scatter.specs.BodyLoaderFields.{Reading, RefusesFront, TakesFront};
 ghost use Rattle.hunk_scatter.specs.BodySteps.{IsInStore};
 ghost use Rattle.hunk_scatter.specs.LoaderReasons.{is_of_body};
 ghost use Rattle.hunk_scatter.specs.Rows.{entries_of, words_of};
@@ -33,12 +33,9 @@ fn take_one(
     requires going_on { is_done here.position ≡ false }
     requires some { 4 ≤ length piece.now }
     requires front { word ≡ slice_index (longs piece.now) 0 }
-    ensures some { IfOk result (λ n. 0 < n) }
-    ensures inside { IfOk result (λ n. n ≤ length piece.now) }
-    ensures reading { IfOk result
-        (λ n. ReadsOn rows.now store.old state.old (take n piece.now) store.new state.new) }
-    ensures refusal { IfErr result (Refuses rows.now store.old state.old piece.now) }
-    ensures own { IfErr result (λ r. IsTrue (is_of_body r)) }
+    ensures takes { IfOk result
+        (TakesFront rows.now store.old state.old piece.now store.new state.new) }
+    ensures refuses { IfErr result (RefusesFront rows.now store.old state.old piece.now) }
 {
     // The piece is for the contract alone.
     let _ = piece;
@@ -66,12 +63,9 @@ fn take_block_word(
     requires room { IsInStore (words_of rows.now) (length store.old) state.old }
     requires some { 4 ≤ length piece.now }
     requires here { positions.Body hunk phase ≡ state.old.position }
-    ensures some { IfOk result (λ n. 0 < n) }
-    ensures inside { IfOk result (λ n. n ≤ length piece.now) }
-    ensures reading { IfOk result
-        (λ n. ReadsOn rows.now store.old state.old (take n piece.now) store.new state.new) }
-    ensures refusal { IfErr result (Refuses rows.now store.old state.old piece.now) }
-    ensures own { IfErr result (λ r. IsTrue (is_of_body r)) }
+    ensures takes { IfOk result
+        (TakesFront rows.now store.old state.old piece.now store.new state.new) }
+    ensures refuses { IfErr result (RefusesFront rows.now store.old state.old piece.now) }
 {
     let position = Position::Body(hunk, phase);
     let here = BodyState { position, ..*state };
@@ -109,12 +103,9 @@ fn take_at(
     requires room { IsInStore (words_of rows.now) (length store.old) state.old }
     requires some { 4 ≤ length piece.now }
     requires here { positions.Body hunk phase ≡ state.old.position }
-    ensures some { IfOk result (λ n. 0 < n) }
-    ensures inside { IfOk result (λ n. n ≤ length piece.now) }
-    ensures reading { IfOk result
-        (λ n. ReadsOn rows.now store.old state.old (take n piece.now) store.new state.new) }
-    ensures refusal { IfErr result (Refuses rows.now store.old state.old piece.now) }
-    ensures own { IfErr result (λ r. IsTrue (is_of_body r)) }
+    ensures takes { IfOk result
+        (TakesFront rows.now store.old state.old piece.now store.new state.new) }
+    ensures refuses { IfErr result (RefusesFront rows.now store.old state.old piece.now) }
 {
     let position = Position::Body(hunk, phase);
     let here = BodyState { position, ..*state };
@@ -151,12 +142,9 @@ pub fn take_front(
     requires room { IsInStore (words_of rows.now) (length store.old) state.old }
     requires here { positions.Body hunk phase ≡ state.old.position }
     requires some { 4 ≤ length piece.now }
-    ensures some { IfOk result (λ n. 0 < n) }
-    ensures inside { IfOk result (λ n. n ≤ length piece.now) }
-    ensures reading { IfOk result
-        (λ n. ReadsOn rows.now store.old state.old (take n piece.now) store.new state.new) }
-    ensures refusal { IfErr result (Refuses rows.now store.old state.old piece.now) }
-    ensures own { IfErr result (λ r. IsTrue (is_of_body r)) }
+    ensures takes { IfOk result
+        (TakesFront rows.now store.old state.old piece.now store.new state.new) }
+    ensures refuses { IfErr result (RefusesFront rows.now store.old state.old piece.now) }
 {
     macro_rules! at {
         ($phase:expr) => {
@@ -199,8 +187,8 @@ pub fn take_longwords(
         (Reading rows.now store.new state.new [] (history.now.bytes ++ take result.0 piece.now)) }
     ensures refusal { IfSome result.1
         (λ r. HasRefusal (history.now.bytes ++ piece.now) (length history.now.bytes + result.0) r) }
-    ensures own { IfSome result.1 (λ r. IsTrue (is_of_body r)) }
-    ensures whole { is_done state.old.position ≡ true → (result.0 ≡ 0) × (result.1 ≡ None) }
+    ensures reasons { IfSome result.1 (λ r. IsTrue (is_of_body r)) }
+    ensures takes_none { is_done state.old.position ≡ true → (result.0 ≡ 0) × (result.1 ≡ None) }
 {
     let mut rest = piece;
     let mut history = history.and(&[]);

@@ -84,7 +84,7 @@ pub fn take_word(
     ensures stores { OnOk result (store.new ≡ stored (bases_of rows.now) state word store.old) }
     ensures passes { OnOk result (refusal (words_of rows.now) state word ≡ None) }
     ensures refusal { IfErr result (λ r. refusal (words_of rows.now) state word ≡ Some r) }
-    ensures own { IfErr result (λ r. IsTrue (is_of_body r)) }
+    ensures reasons { IfErr result (λ r. IsTrue (is_of_body r)) }
     ensures nothing { OnErr result (store.new ≡ store.old) }
     ensures long { word < 2 ^ 32 }
 {
@@ -136,7 +136,7 @@ pub fn next_word(assembler: &mut Assembler, piece: &[u8]) -> (usize, Option<u32>
     ensures inside { result.0 ≤ length piece.now }
     ensures some { 0 < result.0 }
     ensures gathers { Gathers (assembler.old ++ take result.0 piece.now) assembler.new result.1 }
-    ensures whole { IfNone result.1 (result.0 ≡ length piece.now) }
+    ensures takes_all { IfNone result.1 (result.0 ≡ length piece.now) }
     ensures bound { length assembler.new < 4 }
 {
     if assembler.pending() == 0 && piece.len() >= 4 {

@@ -9,7 +9,7 @@ ghost use Rattle.hunk_scan.specs.Positions.{is_done};
 ghost use Rattle.hunk_scan.specs.declared.position.Position.TheVariants as positions;
 ghost use Rattle.hunk_scatter.specs.BodySteps.{IsInStore, RoomIn};
 ghost use Rattle.hunk_scatter.specs.Rows.{words_of};
-ghost use Rattle.hunk_scatter.specs.Streaming.{IsFed, StopsAt, BeginsLoading, EndsLoading};
+ghost use Rattle.hunk_scatter.specs.Streaming.{BeginsLoading, CountsTaken, EndsLoading, IsFed, StopsAt, TakesOn};
 
 pub use crate::body_state::BodyState;
 use crate::body_state::longs_of;
@@ -135,13 +135,9 @@ fn take_longs(
     requires none { at.pending.count ≡ 0 }
     requires some { 4 ≤ length piece.now }
     requires room { at.fed + length piece.now < 2 ^ 64 }
-    ensures some { IfOk result (λ r. 0 < r.1) }
-    ensures inside { IfOk result (λ r. r.1 ≤ length piece.now) }
-    ensures counts { IfOk result (λ r. r.0.fed ≡ at.fed + r.1) }
+    ensures counts { IfOk result (λ r. CountsTaken at piece.now r.0 r.1) }
     ensures takes { (fed : List ℕ) → IsFed rows.now store.old at fed
-        → is_done at.state.position ≡ false
-        → MatchResult result (λ r. IsFed rows.now store.new r.0 (fed ++ take r.1 piece.now))
-        (StopsAt (fed ++ piece.now)) }
+        → is_done at.state.position ≡ false → TakesOn rows.now store.new fed piece.now result }
 {
     let Position::Body(hunk, phase) = at.state.position else {
         return Err(Stop::Strange);
@@ -175,13 +171,9 @@ fn take_some(
 ) -> Result<(Standing, usize), Stop>
     requires some { 0 < length piece.now }
     requires room { at.fed + length piece.now < 2 ^ 64 }
-    ensures some { IfOk result (λ r. 0 < r.1) }
-    ensures inside { IfOk result (λ r. r.1 ≤ length piece.now) }
-    ensures counts { IfOk result (λ r. r.0.fed ≡ at.fed + r.1) }
+    ensures counts { IfOk result (λ r. CountsTaken at piece.now r.0 r.1) }
     ensures takes { (fed : List ℕ) → IsFed rows.now store.old at fed
-        → is_done at.state.position ≡ false
-        → MatchResult result (λ r. IsFed rows.now store.new r.0 (fed ++ take r.1 piece.now))
-        (StopsAt (fed ++ piece.now)) }
+        → is_done at.state.position ≡ false → TakesOn rows.now store.new fed piece.now result }
 {
     if at.pending.count == 0 && piece.len() >= 4 {
         return take_longs(store, rows, at, piece);
@@ -213,8 +205,7 @@ pub fn take_piece(
         (λ r. r.1 < length piece.now → is_done r.0.state.position ≡ true) }
     ensures takes { (fed : List ℕ) → IsFed rows.now store.old at fed
         → length fed + length piece.now < 2 ^ 64
-        → MatchResult result (λ r. IsFed rows.now store.new r.0 (fed ++ take r.1 piece.now))
-        (StopsAt (fed ++ piece.now)) }
+        → TakesOn rows.now store.new fed piece.now result }
 {
     if piece.len() as u64 > u64::MAX - at.fed {
         return Err(Stop::Strange);

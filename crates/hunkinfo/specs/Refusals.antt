@@ -14,8 +14,8 @@ use Rattle.hunk_commands.specs.Relocating.{packed}
 
 -- its bytes are refused, of which at most so many are read
 abbrev pub RefusesListing : Listing → Fault → Option (List ℕ) → Option (List ℕ) → ℕ → Bool → Type 0
-RefusesListing listings.Show refusal a b most failed = RefusesOnly (Refused refusal) a b most
-RefusesListing listings.Validate refusal a b most failed = RefusesOnly (Refused refusal) a b most
+RefusesListing listings.Show refusal a b most failed = RefusesOnly a b most (Refused refusal)
+RefusesListing listings.Validate refusal a b most failed = RefusesOnly a b most (Refused refusal)
 RefusesListing (listings.Relocate base budget) refusal a b most failed =
     (given : List ℕ) × Gives a b most given × IsLoadFault (packed base) budget most b failed given refusal
 

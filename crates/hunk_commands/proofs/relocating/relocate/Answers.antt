@@ -112,7 +112,7 @@ returns-clause-ok g c =
         gave = loaded.2;
         puts = subst (λ (m : ℕ). Puts before after m written lines) c.requires c.in_ok-put_listing.ensures.puts;
       },
-      omega (arith, c.in_ok-put_listing.ensures.whole, c.requires),
+      omega (arith, c.in_ok-put_listing.ensures.all, c.requires),
     )
 
 pub put_listing-requires : goal.put_listing-requires

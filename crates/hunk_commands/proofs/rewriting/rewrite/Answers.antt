@@ -12,11 +12,11 @@ use Rattle.hunk_commands.proofs.Engines.{handed, is_read, only_memory, refuses_o
 use Rattle.hunk_commands.proofs.rewriting.rewrite.Goals as goal
 
 pub returns-in_err-file-clause-succeeds : goal.returns-in_err-file-clause-succeeds
-returns-in_err-file-clause-succeeds g c = λ input known few file reads writes.
+returns-in_err-file-clause-succeeds g c = λ has reads writes.
     let read = is_read _ _ c.args.file_bytes c.in_ok-input.input.items c.as_slice.result.now c.in_ok-input.ensures.given c.in_ok-input.ensures.at_end c.in_ok-input.ensures.bound c.as_slice.ensures.value in
     handed (λ (fault : RunFault). fault ≡ Memory) c.from_residual-in_err-file.result c.in_err-file.field-0.0
     (err_from_is_err_and c.from_residual-in_err-file.result c.from_residual-in_err-file.ensures.1)
-    (only_memory _ _ _ _ _ input read c.in_err-file.ensures.none known file)
+    (only_memory _ _ _ _ _ has.input read c.in_err-file.ensures.none has.left has.is_file)
 
 pub returns-in_err-file-clause-fails : goal.returns-in_err-file-clause-fails
 returns-in_err-file-clause-fails g c =
@@ -29,7 +29,7 @@ returns-in_err-file-clause-refused g c =
     let a = g.R.Source.left c.args.r.now in
     let b = g.R.Source.left c.read_whole.new.source in
     let read = is_read a b c.args.file_bytes c.in_ok-input.input.items c.as_slice.result.now c.in_ok-input.ensures.given c.in_ok-input.ensures.at_end c.in_ok-input.ensures.bound c.as_slice.ensures.value in
-    handed (λ (fault : RunFault). RefusesOnly fault a b c.args.file_bytes) c.from_residual-in_err-file.result c.in_err-file.field-0.0
+    handed (RefusesOnly a b c.args.file_bytes) c.from_residual-in_err-file.result c.in_err-file.field-0.0
     (err_from_is_err_and c.from_residual-in_err-file.result c.from_residual-in_err-file.ensures.1)
     (refuses_only _ a b c.args.file_bytes _ read c.in_err-file.ensures.refused)
 
@@ -46,8 +46,8 @@ returns-in_err-put_file-clause-write g c =
     let read = is_read a b c.args.file_bytes c.in_ok-input.input.items bytes c.in_ok-input.ensures.given c.in_ok-input.ensures.at_end c.in_ok-input.ensures.bound c.as_slice.ensures.value in
     let file = stripped_where c.args.strip c.in_ok-file.file in
     let is = rewritten c.args.strip bytes c.in_ok-file.file c.in_ok-file.ensures.ok in
-    written_first (λ (written : ℕ). Writes (IsRewriting c.args.strip) a b c.args.file_bytes before after written) c.from_residual-in_err-put_file.result c.in_err-put_file.field-0.0.written c.put_file.new.w.written
-    (err_from_is_err_and c.from_residual-in_err-put_file.result c.from_residual-in_err-put_file.ensures.1) c.in_err-put_file.ensures.told
+    written_first (Writes (IsRewriting c.args.strip) a b c.args.file_bytes before after) c.from_residual-in_err-put_file.result c.in_err-put_file.field-0.0.written c.put_file.new.w.written
+    (err_from_is_err_and c.from_residual-in_err-put_file.result c.from_residual-in_err-put_file.ensures.1) c.in_err-put_file.ensures.counted
     (writes_of (IsRewriting c.args.strip) a b c.args.file_bytes before after c.args.w.now.written c.put_file.new.w.written bytes (file_bytes file) (file_bytes file) read (bytes_behind c.in_ok-file.file, is)
     refl c.requires c.in_err-put_file.ensures.puts)
 
@@ -63,5 +63,5 @@ returns-clause-ok g c =
     let is = rewritten c.args.strip bytes c.in_ok-file.file c.in_ok-file.ensures.ok in
     let rest_is : IsRewritten c.args.strip c.rest-rest.result bytes (file_bytes file) = subst (λ (n : ℕ). IsRewritten c.args.strip n bytes (file_bytes file)) (sym c.rest-rest.ensures) is in
     let all = writes_all (IsRewritten c.args.strip c.rest-rest.result) a b c.args.file_bytes before after c.args.w.now.written c.put_file.new.w.written bytes (file_bytes file) (file_bytes file) read rest_is
-    refl c.requires c.in_ok-put_file.ensures.puts c.in_ok-put_file.ensures.whole in
+    refl c.requires c.in_ok-put_file.ensures.puts c.in_ok-put_file.ensures.all in
     subst (λ (n : ℕ). WritesAll (IsRewritten c.args.strip c.rest-rest.result) a b c.args.file_bytes before after n) (sym c.written.ensures) all

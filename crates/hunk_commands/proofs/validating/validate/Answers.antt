@@ -1,9 +1,8 @@
 use Rattle.std.proofs.Common.{◌≡◌, ℕ, refl, subst, sym, arith}
 use Rattle.std.proofs.lemmas.Result.{err_from_is_err_and}
-use Rattle.hunk_words.specs.declared.reason.Reason.TheVariants.{FileLimit}
 use Rattle.hunk_commands.specs.declared.fault.RunFault.{RunFault}
-use Rattle.hunk_commands.specs.Inputs.{Gave}
-use Rattle.hunk_commands.specs.declared.fault.RunFault.TheVariants.{Memory, Refused}
+use Rattle.hunk_commands.specs.Inputs.{StopsAtLimit}
+use Rattle.hunk_commands.specs.declared.fault.RunFault.TheVariants.{Memory}
 use Rattle.hunk_commands.specs.Engine.{RefusesOnly, Writes, WritesAll}
 use Rattle.hunk_commands.specs.Reports.{finding_count, report}
 use Rattle.hunk_commands.specs.Validated.{IsReport, IsValidated}
@@ -14,11 +13,11 @@ use Rattle.hunk_commands.proofs.ListingLengths.{report_fits}
 use Rattle.hunk_commands.proofs.validating.validate.Goals as goal
 
 pub returns-in_err-file-clause-succeeds : goal.returns-in_err-file-clause-succeeds
-returns-in_err-file-clause-succeeds g c = λ input known few file reads writes.
+returns-in_err-file-clause-succeeds g c = λ has reads writes.
     let read = is_read _ _ c.args.file_bytes c.in_ok-input.input.items c.as_slice.result.now c.in_ok-input.ensures.given c.in_ok-input.ensures.at_end c.in_ok-input.ensures.bound c.as_slice.ensures.value in
     handed (λ (fault : RunFault). fault ≡ Memory) c.from_residual-in_err-file.result c.in_err-file.field-0.0
     (err_from_is_err_and c.from_residual-in_err-file.result c.from_residual-in_err-file.ensures.1)
-    (only_memory _ _ _ _ _ input read c.in_err-file.ensures.none known file)
+    (only_memory _ _ _ _ _ has.input read c.in_err-file.ensures.none has.left has.is_file)
 
 pub returns-in_err-file-clause-fails : goal.returns-in_err-file-clause-fails
 returns-in_err-file-clause-fails g c =
@@ -31,7 +30,7 @@ returns-in_err-file-clause-refused g c =
     let a = g.R.Source.left c.args.r.now in
     let b = g.R.Source.left c.read_whole.new.source in
     let read = is_read a b c.args.file_bytes c.in_ok-input.input.items c.as_slice.result.now c.in_ok-input.ensures.given c.in_ok-input.ensures.at_end c.in_ok-input.ensures.bound c.as_slice.ensures.value in
-    handed (λ (fault : RunFault). RefusesOnly fault a b c.args.file_bytes) c.from_residual-in_err-file.result c.in_err-file.field-0.0
+    handed (RefusesOnly a b c.args.file_bytes) c.from_residual-in_err-file.result c.in_err-file.field-0.0
     (err_from_is_err_and c.from_residual-in_err-file.result c.from_residual-in_err-file.ensures.1)
     (refuses_only _ a b c.args.file_bytes _ read c.in_err-file.ensures.refused)
 
@@ -42,10 +41,10 @@ returns-in_err-count-clause-write g c =
     let before = g.W.Sink.taken c.args.w.now.sink in
     let after = g.W.Sink.taken c.put_report.new.w.sink in
     let read = is_read a b c.args.file_bytes c.in_ok-input.input.items c.as_slice.result.now c.in_ok-input.ensures.given c.in_ok-input.ensures.at_end c.in_ok-input.ensures.bound c.as_slice.ensures.value in
-    written_first (λ (written : ℕ). Writes IsReport a b c.args.file_bytes before after written) c.from_residual-in_err-count.result c.in_err-count.field-0.0.written c.put_report.new.w.written
-    (err_from_is_err_and c.from_residual-in_err-count.result c.from_residual-in_err-count.ensures.1) c.in_err-count.ensures.told
+    written_first (Writes IsReport a b c.args.file_bytes before after) c.from_residual-in_err-count.result c.in_err-count.field-0.0.written c.put_report.new.w.written
+    (err_from_is_err_and c.from_residual-in_err-count.result c.from_residual-in_err-count.ensures.1) c.in_err-count.ensures.puts.counted
     (writes_of IsReport a b c.args.file_bytes before after c.args.w.now.written c.put_report.new.w.written c.as_slice.result.now (report c.in_ok-file.file) (report c.in_ok-file.file) read
-    (finding_count c.in_ok-file.file, validated_file c.as_slice.result.now c.in_ok-file.file c.in_ok-file.ensures.ok) refl c.requires c.in_err-count.ensures.puts)
+    (finding_count c.in_ok-file.file, validated_file c.as_slice.result.now c.in_ok-file.file c.in_ok-file.ensures.ok) refl c.requires c.in_err-count.ensures.puts.puts)
 
 pub returns-clause-ok : goal.returns-clause-ok
 returns-clause-ok g c =
@@ -57,12 +56,11 @@ returns-clause-ok g c =
     let count = finding_count c.in_ok-file.file in
     subst (λ (n : ℕ). WritesAll (IsValidated n) a b c.args.file_bytes before after c.put_report.new.w.written) (sym c.in_ok-count.ensures.count)
     (writes_all (IsValidated count) a b c.args.file_bytes before after c.args.w.now.written c.put_report.new.w.written c.as_slice.result.now (report c.in_ok-file.file) (report c.in_ok-file.file) read
-    (validated_file c.as_slice.result.now c.in_ok-file.file c.in_ok-file.ensures.ok) refl c.requires c.in_ok-count.ensures.puts c.in_ok-count.ensures.whole)
+    (validated_file c.as_slice.result.now c.in_ok-file.file c.in_ok-file.ensures.ok) refl c.requires c.in_ok-count.ensures.puts.puts c.in_ok-count.ensures.puts.all)
 
 pub returns-in_err-file-clause-limit : goal.returns-in_err-file-clause-limit
 returns-in_err-file-clause-limit g c =
-    handed (λ (fault : RunFault). (place : ℕ) → fault ≡ Refused (record { place = place; reason = FileLimit }) →
-    (place ≡ c.args.file_bytes) × Gave (g.R.Source.left c.args.r.now) (g.R.Source.left c.read_whole.new.source) place)
+    handed (StopsAtLimit (g.R.Source.left c.args.r.now) (g.R.Source.left c.read_whole.new.source) c.args.file_bytes)
     c.from_residual-in_err-file.result c.in_err-file.field-0.0 (err_from_is_err_and c.from_residual-in_err-file.result c.from_residual-in_err-file.ensures.1)
     (λ place is. absurd (refused_in_limit c.in_err-file.field-0.0 c.as_slice.result.now place c.in_err-file.ensures.refused is))
 

@@ -56,5 +56,5 @@ returns-in-Err-take_piece-clause-ends g c =
       omega (arith, ap length is, length-append c.reading.loader.fed piece, room),
       subst IsWithinFile is (file_within_more c.reading.loader.fed piece c.want-want.result c.want-want.ensures.least fits _ (c.want-want.ensures.truncated some)),
       subst (λ (bs : List ℕ). IsBodyStop c.args.limit (g.R.Source.left c.read_piece.new.r) (g.R.Source.failed c.read_piece.new.r) bs c.in-Err-take_piece.fault) is
-          (inl (record { refusal = c.in-Err-take_piece.ensures.refusal; own = c.in-Err-take_piece.ensures.own })),
+          (inl c.in-Err-take_piece.ensures.stops),
     )

@@ -12,11 +12,11 @@ longwords-preserved c =
     let i = c.longwords.invariant in
     let fed = c.and-history-in-Ok.ensures in
     record {
-      leaves = leaves_rest _ _ _ _ _ _ c.in-Ok.count i.leaves c.in-Ok.ensures.inside fed refl;
+      leaves = leaves_rest _ _ _ _ _ _ c.in-Ok.count i.leaves c.in-Ok.ensures.takes.inside fed refl;
       size = c.take_front.auto.store ∙ i.size;
-      reading = subst (λ (bs : List ℕ). Reading c.args.rows.now c.take_front.new.store c.take_front.new.state [] bs) (sym fed) (c.in-Ok.ensures.reading c.longwords.history.bytes i.reading);
+      reading = subst (λ (bs : List ℕ). Reading c.args.rows.now c.take_front.new.store c.take_front.new.state [] bs) (sym fed) (c.in-Ok.ensures.takes.reads c.longwords.history.bytes i.reading);
       whole = λ done. absurd (let clash : true ≡ false = sym (i.whole done).1 ∙ ap is_done c.in-Body.is in cc);
     }
 
 pub returns-in-Err-clause-refusal : goal.returns-in-Err-clause-refusal
-returns-in-Err-clause-refusal c = refused_behind _ _ _ _ c.in-Err.reason c.longwords.invariant.leaves (c.in-Err.ensures.refusal c.longwords.history.bytes c.longwords.invariant.reading)
+returns-in-Err-clause-refusal c = refused_behind _ _ _ _ c.in-Err.reason c.longwords.invariant.leaves (c.in-Err.ensures.refuses.refuses c.longwords.history.bytes c.longwords.invariant.reading)

@@ -11,13 +11,22 @@ take_word-requires c =
     subst (λ (s : BodyState). IsInStore (words_of c.args.rows.now) (length c.args.store.now) s)
     (sym (c.requires.same ∙ state_at c.args.state.now c.args.here.position c.requires.here)) c.requires.room
 
-pub returns-in-Ok-clause-reading : goal.returns-in-Ok-clause-reading
-returns-in-Ok-clause-reading c = λ fed r.
-    let here = subst (λ (s : BodyState). Reading c.args.rows.now c.args.store.now s [] fed) (sym (c.requires.same ∙ state_at c.args.state.now c.args.here.position c.requires.here)) r in
-    let taken = word_taken _ _ _ _ here c.requires.going_on c.args.piece.now (λ k. omega (arith, c.type_inv.piece k)) c.requires.some c.args.word c.in-Ok.ensures.long c.requires.front c.in-Ok.ensures.passes in
-    read_as _ _ _ _ _ _ c.in-Ok.ensures.stores c.in-Ok.ensures.steps taken
+pub returns-in-Ok-clause-takes : goal.returns-in-Ok-clause-takes
+returns-in-Ok-clause-takes c = record {
+  some = omega arith;
+  inside = c.requires.some;
+  reads =
+      λ fed r.
+      let here = subst (λ (s : BodyState). Reading c.args.rows.now c.args.store.now s [] fed) (sym (c.requires.same ∙ state_at c.args.state.now c.args.here.position c.requires.here)) r in
+      let taken = word_taken _ _ _ _ here c.requires.going_on c.args.piece.now (λ k. omega (arith, c.type_inv.piece k)) c.requires.some c.args.word c.in-Ok.ensures.long c.requires.front c.in-Ok.ensures.passes in
+      read_as _ _ _ _ _ _ c.in-Ok.ensures.stores c.in-Ok.ensures.steps taken;
+}
 
-pub returns-in-Err-clause-refusal : goal.returns-in-Err-clause-refusal
-returns-in-Err-clause-refusal c = λ fed r.
-    let here = subst (λ (s : BodyState). Reading c.args.rows.now c.args.store.now s [] fed) (sym (c.requires.same ∙ state_at c.args.state.now c.args.here.position c.requires.here)) r in
-    word_refused _ _ _ _ here c.requires.going_on c.args.piece.now (λ k. omega (arith, c.type_inv.piece k)) c.requires.some c.args.word c.in-Err.ensures.long c.requires.front c.in-Err.reason c.in-Err.ensures.refusal
+pub returns-in-Err-clause-refuses : goal.returns-in-Err-clause-refuses
+returns-in-Err-clause-refuses c = record {
+  refuses =
+      λ fed r.
+      let here = subst (λ (s : BodyState). Reading c.args.rows.now c.args.store.now s [] fed) (sym (c.requires.same ∙ state_at c.args.state.now c.args.here.position c.requires.here)) r in
+      word_refused _ _ _ _ here c.requires.going_on c.args.piece.now (λ k. omega (arith, c.type_inv.piece k)) c.requires.some c.args.word c.in-Err.ensures.long c.requires.front c.in-Err.reason c.in-Err.ensures.refusal;
+  own = c.in-Err.ensures.reasons;
+}

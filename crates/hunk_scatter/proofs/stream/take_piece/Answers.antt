@@ -13,8 +13,8 @@ pieces-preserved c =
     let n = c.pieces.taken in
     let m = c.in-Ok.count in
     record {
-      inside = rest_within piece n m i.inside c.in-Ok.ensures.inside;
-      counts = omega (arith, i.counts, c.in-Ok.ensures.counts);
+      inside = rest_within piece n m i.inside c.in-Ok.ensures.counts.inside;
+      counts = omega (arith, i.counts, c.in-Ok.ensures.counts.counts);
       takes = λ fed h.
           subst (λ (xs : List ℕ). IsFed c.args.rows.now c.take_some.new.store c.in-Ok.behind xs)
           (fed_on fed piece (fed ++ take n piece) _ n m refl refl)

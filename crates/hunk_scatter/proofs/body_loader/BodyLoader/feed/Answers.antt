@@ -6,7 +6,7 @@ use Rattle.hunk_scatter.proofs.Faults.{no_refusal_on}
 use Rattle.hunk_scatter.proofs.body_loader.BodyLoader.feed.Goals as goal
 
 pub returns-in-Err-clause-accepts : goal.returns-in-Err-clause-accepts
-returns-in-Err-clause-accepts c none on = absurd (no_refusal_on _ _ _ on c.in-Err.ensures.refusal)
+returns-in-Err-clause-accepts c none on = absurd (no_refusal_on _ _ _ on c.in-Err.ensures.stops.refusal)
 
 pub returns-in-Ok-clause-within : goal.returns-in-Ok-clause-within
 returns-in-Ok-clause-within c =

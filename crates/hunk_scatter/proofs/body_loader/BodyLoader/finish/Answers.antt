@@ -4,8 +4,8 @@ use Rattle.hunk_scatter.specs.Rows.{words_of}
 use Rattle.hunk_scatter.proofs.BodyFields.{image_of, not_whole, none_of}
 use Rattle.hunk_scatter.proofs.body_loader.BodyLoader.finish.Goals as goal
 
-pub returns-then-not-is_done-clause-whole : goal.returns-then-not-is_done-clause-whole
-returns-then-not-is_done-clause-whole c none w =
+pub returns-then-not-is_done-clause-finishes : goal.returns-then-not-is_done-clause-finishes
+returns-then-not-is_done-clause-finishes c none w =
     absurd (not_whole _ _ _ _ _ _ _ c.self.invariant (ap (λ (v : BodyLoaderValue). v.refused) c.self.view_is ∙ none) (sym c.is_done.ensures ∙ c.if-not-is_done.true)
     (subst (λ (v : BodyLoaderValue). IsWholeFile v.rows v.fed) (sym c.self.view_is) w))
 

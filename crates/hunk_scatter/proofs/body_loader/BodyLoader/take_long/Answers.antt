@@ -33,8 +33,8 @@ invariant_of-self-in-Ok c =
     c.and-self-inside-in-Ok.ensures
     kept
 
-pub returns-in-Err-clause-refusal : goal.returns-in-Err-clause-refusal
-returns-in-Err-clause-refusal c =
+pub returns-in-Err-clause-stops : goal.returns-in-Err-clause-stops
+returns-in-Err-clause-stops c =
     let none = ap (λ (v : BodyLoaderValue). v.refused) c.self.view_is ∙ c.requires.reading in
     let more = sym c.is_done.ensures ∙ c.if-is_done.false in
     let fed = ap (λ (v : BodyLoaderValue). v.fed) c.self.view_is in
@@ -42,9 +42,13 @@ returns-in-Err-clause-refusal c =
     let bytes = take n c.args.piece.now in
     let gathers = subst (λ (o : Option ℕ). Gathers (c.self.inside.assembler ++ bytes) c.next_word-taken.new.assembler o) c.in-Some.is c.next_word-taken.ensures.gathers in
     let long : length bytes ≡ n = omega (arith, length-take n c.args.piece.now, c.next_word-taken.ensures.inside) in
-    subst (λ (f : List ℕ). HasRefusal (f ++ c.args.piece.now) (c.self.inside.count + n - 4) c.in-Err.reason) fed
-    (refusal_front _ c.args.piece.now n _ _
-    (refusal_here _ _ _ _ _ _ _ c.self.invariant none more bytes n long c.in-Some.word c.in-Err.ensures.long gathers.0 c.in-Err.reason (rw c.as_slice.ensures.value at c.in-Err.ensures.refusal)))
+    record {
+      refusal =
+          subst (λ (f : List ℕ). HasRefusal (f ++ c.args.piece.now) (c.self.inside.count + n - 4) c.in-Err.reason) fed
+          (refusal_front _ c.args.piece.now n _ _
+          (refusal_here _ _ _ _ _ _ _ c.self.invariant none more bytes n long c.in-Some.word c.in-Err.ensures.long gathers.0 c.in-Err.reason (rw c.as_slice.ensures.value at c.in-Err.ensures.refusal)));
+      own = c.in-Err.ensures.reasons;
+    }
 
 pub overflow_sub-place : goal.overflow_sub-place
 overflow_sub-place c =
@@ -61,7 +65,7 @@ invariant_of-self-in-Err c =
     let none = ap (λ (v : BodyLoaderValue). v.refused) c.self.view_is ∙ c.requires.reading in
     let store = written c.self.inside.store.items c.take_word.new.store c.self.inside.store.len (sym c.as_mut_slice.ensures.len ∙ ap length c.as_mut_slice.ensures.value) (c.take_word.auto.store ∙ ap length c.as_mut_slice.ensures.value) in
     kept_refusal _ _ _ _ _ _ _ c.self.invariant none (sym c.is_done.ensures ∙ c.if-is_done.false) _ _ _
-    (ap length store ∙ c.take_word.auto.store ∙ ap length c.as_mut_slice.ensures.value) c.in-Err.ensures.own
+    (ap length store ∙ c.take_word.auto.store ∙ ap length c.as_mut_slice.ensures.value) c.in-Err.ensures.reasons
 
 pub returns-in_default-clause-complete : goal.returns-in_default-clause-complete
 returns-in_default-clause-complete c w =
@@ -78,7 +82,7 @@ returns-in-Err-clause-complete c w =
     absurd (not_whole _ _ _ _ _ _ _ c.self.invariant (ap (λ (v : BodyLoaderValue). v.refused) c.self.view_is ∙ c.requires.reading) (sym c.is_done.ensures ∙ c.if-is_done.false)
     (subst (λ (v : BodyLoaderValue). IsWholeFile v.rows v.fed) (sym c.self.view_is) w))
 
-pub returns-then-is_done-clause-whole : goal.returns-then-is_done-clause-whole
-returns-then-is_done-clause-whole c same =
+pub returns-then-is_done-clause-ends : goal.returns-then-is_done-clause-ends
+returns-then-is_done-clause-ends c same =
     subst (λ (v : BodyLoaderValue). IsWholeFile v.rows v.fed) c.self.view_is
     (whole_file _ _ _ _ _ _ _ c.self.invariant (ap (λ (v : BodyLoaderValue). v.refused) c.self.view_is ∙ c.requires.reading) (sym c.is_done.ensures ∙ c.if-is_done.true))

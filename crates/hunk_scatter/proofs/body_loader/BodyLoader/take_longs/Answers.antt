@@ -1,7 +1,7 @@
 use Rattle.std.proofs.Common.{◌≡◌, ◌++◌, ◌∙◌, List, ℕ, Ok, ap, sym, subst, take, append-nil}
 use Rattle.hunk_files.specs.declared.row.Row.{Row}
 use Rattle.hunk_scatter.specs.LoaderValues.{IsWholeFile}
-use Rattle.hunk_scatter.proofs.Faults.{rest_within, fed_on, refused_rest}
+use Rattle.hunk_scatter.proofs.Faults.{rest_within, fed_on, stopped_rest}
 use Rattle.hunk_scatter.proofs.body_loader.BodyLoader.take_longs.Goals as goal
 
 pub loop-taken-preserved : goal.loop-taken-preserved
@@ -21,7 +21,9 @@ loop-taken-preserved c =
       λ w. absurd (part w),
     )
 
-pub returns-in-Err-clause-refusal : goal.returns-in-Err-clause-refusal
-returns-in-Err-clause-refusal c =
-    let f = c.in-Err.field-0 in
-    (f, c.in-Err.ensures.remembers, refused_rest c.args.self.now.fed c.args.piece.now c.loop-taken.self.fed c.loop-taken.taken f.place f.reason c.loop-taken.invariant.1 c.in-Err.ensures.refusal, c.in-Err.ensures.own)
+pub returns-in-Err-clause-stops : goal.returns-in-Err-clause-stops
+returns-in-Err-clause-stops c = (
+  c.in-Err.field-0,
+  c.in-Err.ensures.remembers,
+  stopped_rest c.args.self.now.fed c.args.piece.now c.loop-taken.self.fed c.loop-taken.taken c.in-Err.field-0 c.loop-taken.invariant.1 c.in-Err.ensures.stops,
+)

@@ -7,10 +7,10 @@ pub returns-in-Some-clause-complete : goal.returns-in-Some-clause-complete
 returns-in-Some-clause-complete c w =
     let none = ap (λ (v : BodyLoaderValue). v.refused) c.self.view_is ∙ c.requires.reading in
     let done = done_if_whole _ _ _ _ _ _ _ c.self.invariant none (subst (λ (v : BodyLoaderValue). IsWholeFile v.rows v.fed) (sym c.self.view_is) w) in
-    absurd (let clash : None ≡ Some c.in-Some.reason = sym (c.take_longwords-taken.ensures.whole done).1 ∙ c.in-Some.is in cc)
+    absurd (let clash : None ≡ Some c.in-Some.reason = sym (c.take_longwords-taken.ensures.takes_none done).1 ∙ c.in-Some.is in cc)
 
 pub returns-clause-complete : goal.returns-clause-complete
 returns-clause-complete c w =
     let none = ap (λ (v : BodyLoaderValue). v.refused) c.self.view_is ∙ c.requires.reading in
     let done = done_if_whole _ _ _ _ _ _ _ c.self.invariant none (subst (λ (v : BodyLoaderValue). IsWholeFile v.rows v.fed) (sym c.self.view_is) w) in
-    ap (λ (n : ℕ). Ok n) (c.take_longwords-taken.ensures.whole done).0
+    ap (λ (n : ℕ). Ok n) (c.take_longwords-taken.ensures.takes_none done).0

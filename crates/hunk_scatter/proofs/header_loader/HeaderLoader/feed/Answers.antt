@@ -21,23 +21,23 @@ returns-in-Ok-clause-passes c none at p =
 
 pub returns-in-Err-clause-refusal : goal.returns-in-Err-clause-refusal
 returns-in-Err-clause-refusal c none =
-    let s = c.in-Err.ensures.refusal in
+    let s = c.in-Err.ensures.stops in
     subst (λ (bs : List ℕ). IsHeaderFault c.args.self.now.budget bs c.in-Err.fault) (sym s.2)
     (stop_fault _ s.0 s.1 c.in-Err.fault s.4 (rest_bytes c.args.self.now.fed c.args.piece.now s.0 s.1 (λ k. omega (arith, c.type_inv.piece k)) s.2 s.3))
 
 pub returns-in-Err-clause-passes : goal.returns-in-Err-clause-passes
 returns-in-Err-clause-passes c none at p =
-    let s = c.in-Err.ensures.refusal in
+    let s = c.in-Err.ensures.stops in
     stop_over _ s.0 s.1 c.in-Err.fault s.4 at (subst (λ (bs : List ℕ). PassesBudget c.args.self.now.budget bs at) s.2 p)
 
 pub returns-in-Err-clause-accepts : goal.returns-in-Err-clause-accepts
 returns-in-Err-clause-accepts c none m =
-    let s = c.in-Err.ensures.refusal in
+    let s = c.in-Err.ensures.stops in
     stop_accepts _ s.0 s.1 c.in-Err.fault s.4 (subst MayGoOnInHeader s.2 m)
 
 pub returns-in-Err-clause-wanting : goal.returns-in-Err-clause-wanting
 returns-in-Err-clause-wanting c none e =
-    let s = c.in-Err.ensures.refusal in
+    let s = c.in-Err.ensures.stops in
     omega (arith, s.3, stop_ends _ s.0 s.1 c.in-Err.fault s.4)
 
 pub returns-in-Ok-clause-within : goal.returns-in-Ok-clause-within

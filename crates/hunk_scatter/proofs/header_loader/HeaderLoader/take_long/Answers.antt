@@ -28,8 +28,8 @@ overflow_sub-place c =
     heading_four _ _ _ _ _ _ _ c.self.invariant (ap (λ (v : HeaderLoaderValue). v.refused) c.self.view_is ∙ c.requires.reading) (sym c.is_behind_header.ensures ∙ c.if-is_behind_header.false)
     bytes n long c.in-Some.word c.in-Err.ensures.long gathers.0
 
-pub returns-in-Err-clause-refusal : goal.returns-in-Err-clause-refusal
-returns-in-Err-clause-refusal c =
+pub returns-in-Err-clause-stops : goal.returns-in-Err-clause-stops
+returns-in-Err-clause-stops c =
     let n = c.next_word-taken.result.0 in
     let bytes = take n c.args.piece.now in
     let gathers = subst (λ (o : Option ℕ). Gathers (c.self.inside.assembler ++ bytes) c.next_word-taken.new.assembler o) c.in-Some.is c.next_word-taken.ensures.gathers in
@@ -59,8 +59,8 @@ returns-in-Err-clause-complete c w =
     absurd (heading_not_whole _ _ _ _ _ (c.self.invariant.reading (ap (λ (v : HeaderLoaderValue). v.refused) c.self.view_is ∙ c.requires.reading)) (sym c.is_behind_header.ensures ∙ c.if-is_behind_header.false)
     (subst (λ (v : HeaderLoaderValue). IsHeader v.fed) (sym c.self.view_is) w))
 
-pub returns-then-is_behind_header-clause-whole : goal.returns-then-is_behind_header-clause-whole
-returns-then-is_behind_header-clause-whole c same =
+pub returns-then-is_behind_header-clause-ends : goal.returns-then-is_behind_header-clause-ends
+returns-then-is_behind_header-clause-ends c same =
     let t =
     heading_table _ _ _ _ _ (c.self.invariant.reading (ap (λ (v : HeaderLoaderValue). v.refused) c.self.view_is ∙ c.requires.reading)) (sym c.is_behind_header.ensures ∙ c.if-is_behind_header.true) in
     subst (λ (v : HeaderLoaderValue). IsHeader v.fed) c.self.view_is (_, t.0, t.1)

@@ -22,10 +22,10 @@ loop-taken-preserved c =
       complete = λ w. absurd (part w);
     }
 
-pub returns-in-Err-clause-refusal : goal.returns-in-Err-clause-refusal
-returns-in-Err-clause-refusal c =
+pub returns-in-Err-clause-stops : goal.returns-in-Err-clause-stops
+returns-in-Err-clause-stops c =
     let i = c.loop-taken.invariant in
-    let s = c.in-Err.ensures.refusal in (
+    let s = c.in-Err.ensures.stops in (
       s.0,
       s.1,
       sym (fed_rest c.args.self.now.fed c.args.piece.now c.loop-taken.self.fed c.loop-taken.taken i.fed_is) ∙ s.2,
