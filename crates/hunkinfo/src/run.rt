@@ -44,8 +44,8 @@ pub fn run<T: Files + Input, W: Sink>(
     out: &mut LongWriter<W>,
 ) -> u8
     requires { out.old.written ≡ 0 }
-    ensures known { result ≤ 4 }
-    ensures told { TellsStatus W.taken W.failed out.old out.new result }
+    ensures bound { result ≤ 4 }
+    ensures tells { TellsStatus W.taken W.failed out.old out.new result }
 
     // Where clap takes the words: they are an order, which is done where the status is 0, or they are refused.
     ensures done { (order : Order) → takes hunkinfo (taken (map string_bytes words.now)) ≡ true
@@ -70,9 +70,9 @@ pub fn run<T: Files + Input, W: Sink>(
 /// Prints why there is no order, and gives the exit status.
 pub(crate) fn refuse<W: Sink>(fault: &OrderFault, out: &mut LongWriter<W>) -> u8
     requires { out.old.written ≡ 0 }
-    ensures known { result ≤ 4 }
+    ensures bound { result ≤ 4 }
     ensures printed { PrintsRefusal W.taken W.failed out.old out.new fault.now result }
-    ensures told { TellsStatus W.taken W.failed out.old out.new result }
+    ensures tells { TellsStatus W.taken W.failed out.old out.new result }
 {
     match fault {
         OrderFault::Line => print("command line refused\n", LINE_REFUSED, out),
@@ -88,9 +88,9 @@ fn obey<T: Files + Input, W: Sink>(
     out: &mut LongWriter<W>,
 ) -> u8
     requires { out.old.written ≡ 0 }
-    ensures known { result ≤ 4 }
+    ensures bound { result ≤ 4 }
     ensures done { result ≡ 0 → IsDone W.taken out.old out.new order.now }
-    ensures told { TellsStatus W.taken W.failed out.old out.new result }
+    ensures tells { TellsStatus W.taken W.failed out.old out.new result }
 {
     match order {
         Order::Show { hex, file } => list(rt, alloc, Listing::Show, *hex, file.as_ref(), out),
@@ -130,9 +130,9 @@ fn list<T: Files + Input, W: Sink>(
     out: &mut LongWriter<W>,
 ) -> u8
     requires { out.old.written ≡ 0 }
-    ensures known { result ≤ 4 }
+    ensures bound { result ≤ 4 }
     ensures done { result ≡ 0 → Lists W.taken out.old out.new listing }
-    ensures told { TellsStatus W.taken W.failed out.old out.new result }
+    ensures tells { TellsStatus W.taken W.failed out.old out.new result }
 {
     match list_file(rt, alloc, listing, file, hex, out) {
         Ok(status) => status,
@@ -145,8 +145,8 @@ fn list<T: Files + Input, W: Sink>(
 /// Prints the fault's line, and gives the fault's status.
 fn report<W: Sink>(alloc: Global, fault: RunFault, out: &mut LongWriter<W>) -> u8
     requires { out.old.written ≡ 0 }
-    ensures known { (0 < result) × (result ≤ 4) }
-    ensures told { TellsStatus W.taken W.failed out.old out.new result }
+    ensures bound { (0 < result) × (result ≤ 4) }
+    ensures tells { TellsStatus W.taken W.failed out.old out.new result }
 {
     match format!(in alloc; "{fault}\n") {
         Ok(line) => print(line.as_str(), fault.status(), out),
@@ -157,8 +157,8 @@ fn report<W: Sink>(alloc: Global, fault: RunFault, out: &mut LongWriter<W>) -> u
 /// Prints the text, the first on this writer, and gives the status, which is 3 where that fails.
 fn print<W: Sink>(text: &str, status: u8, out: &mut LongWriter<W>) -> u8
     requires first { out.old.written ≡ 0 }
-    requires known { status ≤ 4 }
-    ensures known { result ≤ 4 }
+    requires bound { status ≤ 4 }
+    ensures bound { result ≤ 4 }
     ensures printed { Prints W.taken W.failed out.old out.new text.now status result }
 {
     match out.put_bytes(text.as_bytes()) {

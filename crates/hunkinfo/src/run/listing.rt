@@ -41,9 +41,9 @@ pub(super) fn list_file<T: Files + Input, W: Sink>(
     out: &mut LongWriter<W>,
 ) -> Result<u8, RunFault>
     requires { out.old.written ≡ 0 }
-    ensures known { IfOk result (λ status. status ≤ 4) }
+    ensures bound { IfOk result (λ status. status ≤ 4) }
     ensures done { IfOk result (λ status. status ≡ 0 → Lists W.taken out.old out.new listing) }
-    ensures told { IfOk result (TellsStatus W.taken W.failed out.old out.new) }
+    ensures tells { IfOk result (TellsStatus W.taken W.failed out.old out.new) }
     ensures fails { IfErr result (StopsOutput W.taken W.failed out.old out.new) }
 {
     let Some(name) = file else {
@@ -67,11 +67,11 @@ fn list_source<R: Source, W: Sink>(
     out: &mut LongWriter<W>,
 ) -> Result<u8, RunFault>
     requires { out.old.written ≡ 0 }
-    ensures known { IfOk result (λ status. status ≤ 4) }
+    ensures bound { IfOk result (λ status. status ≤ 4) }
     ensures done { IfOk result
         (λ status. status ≡ 0
         → ListsSource hex listing (R.left source.old) (R.left source.new) W.taken out.old out.new) }
-    ensures told { IfOk result (TellsStatus W.taken W.failed out.old out.new) }
+    ensures tells { IfOk result (TellsStatus W.taken W.failed out.old out.new) }
     ensures fails { IfErr result (StopsOutput W.taken W.failed out.old out.new) }
     ensures refused { IfErr result (λ fault. (refusal : Fault) → fault ≡ Refused refusal
         → RefusesSource hex listing refusal (R.left source.old) (R.left source.new)
@@ -109,11 +109,11 @@ fn list_bytes<R: Source, W: Sink>(
     out: &mut LongWriter<W>,
 ) -> Result<u8, RunFault>
     requires { out.old.written ≡ 0 }
-    ensures known { IfOk result (λ status. status ≤ 4) }
+    ensures bound { IfOk result (λ status. status ≤ 4) }
     ensures done { IfOk result
         (λ status. status ≡ 0
         → ListsSource false listing (R.left source.old) (R.left source.new) W.taken out.old out.new) }
-    ensures told { IfOk result (TellsStatus W.taken W.failed out.old out.new) }
+    ensures tells { IfOk result (TellsStatus W.taken W.failed out.old out.new) }
     ensures fails { IfErr result (StopsOutput W.taken W.failed out.old out.new) }
     ensures refused { IfErr result (λ fault. (refusal : Fault) → fault ≡ Refused refusal
         → RefusesListing listing refusal (R.left source.old) (R.left source.new)

@@ -28,7 +28,7 @@ pub(super) fn rewrite_file<T: Files>(
     output: &FileName,
     strip: bool,
 ) -> Result<Rewritten, RunFault>
-    ensures told { IfOk result
+    ensures tells { IfOk result
         (λ done. TellsRewriting strip (wrote_line done.written ++ left_out_line done.rest)) }
 {
     let Ok(file) = fs::open(rt, input.as_str()) else {
@@ -50,7 +50,7 @@ fn rewrite_to<R: Source, T: Files>(
     out: &mut ToFile<'_, T>,
     strip: bool,
 ) -> Result<Rewritten, RunFault>
-    ensures told { IfOk result
+    ensures tells { IfOk result
         (λ done. TellsRewriting strip (wrote_line done.written ++ left_out_line done.rest)) }
     ensures settled { OnOk result (out.new.settled ≡ true) }
 {
@@ -68,7 +68,7 @@ fn rewrite_to<R: Source, T: Files>(
 /// which is 3 where that fails.
 pub(super) fn tell<W: Sink>(done: Rewritten, out: &mut LongWriter<W>) -> u8
     requires { out.old.written ≡ 0 }
-    ensures known { result ≤ 4 }
+    ensures bound { result ≤ 4 }
     ensures printed { Prints W.taken W.failed out.old out.new
         (wrote_line done.written ++ left_out_line done.rest) DONE result }
 {
