@@ -67,7 +67,7 @@ pub fn relocate<R: Source, W: Sink>(
         (R.left r.new) (R.failed r.new) given refusal) }
     ensures read { IfErr result (λ fault. (place : ℕ) → fault ≡ Read place
         → ReadsShort limits.budget limits.file_bytes (R.left r.old) (R.left r.new) (R.failed r.new) place) }
-    ensures reasons { IfErr result IsOfLoad }
+    ensures own_reasons { IfErr result IsOfLoad }
 {
     let image = load(alloc, r, limits, &Packed { start: base })?;
     // The bytes of the image can be counted, and so can those of its listing.

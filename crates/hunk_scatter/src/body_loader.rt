@@ -307,7 +307,7 @@ impl BodyLoader {
             → IfErr result (λ f. HasRefusal (self.old.fed ++ piece.now) f.place f.reason) }
         ensures accepts { self.old.refused ≡ None → MayGoOn (self.old.fed ++ piece.now)
             → IsOk result }
-        ensures reasons { IfErr result (λ f. IsTrue (is_of_body f.reason)) }
+        ensures own_reasons { IfErr result (λ f. IsTrue (is_of_body f.reason)) }
 
         // A loader that has refused.
         ensures remembers { IfErr result (λ f. self.new.refused ≡ Some f) }

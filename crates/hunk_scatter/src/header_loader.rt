@@ -198,7 +198,7 @@ impl HeaderLoader {
             → length self.old.fed < f.place + 4) }
         ensures accepts { self.old.refused ≡ None → MayGoOnInHeader (self.old.fed ++ piece.now)
             → IfErr result (λ f. IsBudgetOrMemory f.reason) }
-        ensures reasons { IfErr result (λ f. IsTrue (is_of_header f.reason)) }
+        ensures own_reasons { IfErr result (λ f. IsTrue (is_of_header f.reason)) }
 
         // A loader that has refused.
         ensures remembers { IfErr result (λ f. self.new.refused ≡ Some f) }

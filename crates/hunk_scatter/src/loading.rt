@@ -214,7 +214,7 @@ pub fn load<R: Source, P: Placer>(
     ensures fault { IfErr result
         (λ f. (given : List ℕ) × Gives (R.left r.old) (R.left r.new) limits.file_bytes given
         × IsLoadFault (P.base p.now) limits.budget limits.file_bytes (R.left r.new) (R.failed r.new) given f) }
-    ensures reasons { IfErr result (λ f. IsTrue (is_of_load f.reason)) }
+    ensures own_reasons { IfErr result (λ f. IsTrue (is_of_load f.reason)) }
 
     // A read that fails ends the load.
     ensures read { TellsFailure (R.failed r.old) (R.failed r.new) result }

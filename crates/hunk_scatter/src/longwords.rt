@@ -187,7 +187,7 @@ pub fn take_longwords(
         (Reading rows.now store.new state.new [] (history.now.bytes ++ take result.0 piece.now)) }
     ensures refusal { IfSome result.1
         (λ r. HasRefusal (history.now.bytes ++ piece.now) (length history.now.bytes + result.0) r) }
-    ensures reasons { IfSome result.1 (λ r. IsTrue (is_of_body r)) }
+    ensures own_reasons { IfSome result.1 (λ r. IsTrue (is_of_body r)) }
     ensures takes_none { is_done state.old.position ≡ true → (result.0 ≡ 0) × (result.1 ≡ None) }
 {
     let mut rest = piece;

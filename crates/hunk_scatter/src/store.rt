@@ -84,7 +84,7 @@ pub fn take_word(
     ensures stores { OnOk result (store.new ≡ stored (bases_of rows.now) state word store.old) }
     ensures passes { OnOk result (refusal (words_of rows.now) state word ≡ None) }
     ensures refusal { IfErr result (λ r. refusal (words_of rows.now) state word ≡ Some r) }
-    ensures reasons { IfErr result (λ r. IsTrue (is_of_body r)) }
+    ensures own_reasons { IfErr result (λ r. IsTrue (is_of_body r)) }
     ensures nothing { OnErr result (store.new ≡ store.old) }
     ensures long { word < 2 ^ 32 }
 {

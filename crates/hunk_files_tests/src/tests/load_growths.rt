@@ -2,17 +2,12 @@
 
 use crate::tests::growths::wanted;
 use hunk_files::LoadFile;
-use hunk_testing::{answers_growth_by_growth, memory_ends, spelled};
+use hunk_testing::{answers_growth_by_growth, examples, memory_ends, spelled};
 use std::alloc::Global;
 use std::process::Abort;
 use std::test::Fail;
 
-/// Four hunks, at 36, 100, 112 and 128, the first with a relocation at 56 and a symbol at 76.
-const FOUR_HUNKS: &str = "3F3 0 4 0 3 3 1 1 1 / \
-    3E9 3 0 0 0 / 3EC 1 1 8 0 / 3F0 1 5F6D0000 0 0 / 3F2 / \
-    3EB 1 / 3F2 / 3EA 1 12345678 / 3F2 / 3EB 1 / 3F2";
-
-/// Where memory is asked for: for the table at its first row; for the first hunk's blocks at the last
+/// Where memory is asked for in `FOUR_HUNKS`: for the table at its first row; for the first hunk's blocks at the last
 /// longword of its first, for groups and symbols at the offset and the value that end the first of them; for
 /// the hunks at the END of the first; and for each further hunk's blocks at the last longword of its first.
 const OF_FOUR_HUNKS: &[u64] = &[20, 52, 68, 88, 96, 104, 120, 132];
@@ -36,7 +31,7 @@ fn of_four_hunks(rt: HostRuntime) -> Result<(), Fail> {
     if !memory_ends(&rt)? {
         return Ok(());
     }
-    expect(&rt, rt.alloc(), FOUR_HUNKS, OF_FOUR_HUNKS)
+    expect(&rt, rt.alloc(), examples::FOUR_HUNKS, OF_FOUR_HUNKS)
 }
 
 #[test]

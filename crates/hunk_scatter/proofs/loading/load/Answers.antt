@@ -25,5 +25,5 @@ returns-clause-file_fault g c input d = let e = c.load_placed.ensures.ends in fi
 pub returns-clause-fault : goal.returns-clause-fault
 returns-clause-fault g c = let e = c.load_placed.ensures.ends in ends_fault _ _ _ _ _ _ e.0 c.load_placed.result e.1 e.4
 
-pub returns-clause-reasons : goal.returns-clause-reasons
-returns-clause-reasons g c = let e = c.load_placed.ensures.ends in ends_own _ _ _ _ _ e.0 c.load_placed.result e.4
+pub returns-clause-own_reasons : goal.returns-clause-own_reasons
+returns-clause-own_reasons g c = let e = c.load_placed.ensures.ends in ends_own _ _ _ _ _ e.0 c.load_placed.result e.4

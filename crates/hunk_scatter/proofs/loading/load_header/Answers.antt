@@ -53,7 +53,7 @@ returns-in-Err-feed-clause-ends g c =
           (record {
             fault = fault;
             over = λ at p. c.in-Err-feed.ensures.passes i.reading at (subst (λ (b : ℕ). PassesBudget b (c.reading.loader.fed ++ piece) at) (sym i.budget_is) p);
-            own = c.in-Err-feed.ensures.reasons;
+            own = c.in-Err-feed.ensures.own_reasons;
             begins =
                 λ e.
                 row_begins c.reading.loader.fed piece c.want-want.result c.in-Err-feed.fault.place c.want-want.ensures.least fits

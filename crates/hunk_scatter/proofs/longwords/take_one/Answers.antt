@@ -28,5 +28,5 @@ returns-in-Err-clause-refuses c = record {
       λ fed r.
       let here = subst (λ (s : BodyState). Reading c.args.rows.now c.args.store.now s [] fed) (sym (c.requires.same ∙ state_at c.args.state.now c.args.here.position c.requires.here)) r in
       word_refused _ _ _ _ here c.requires.going_on c.args.piece.now (λ k. omega (arith, c.type_inv.piece k)) c.requires.some c.args.word c.in-Err.ensures.long c.requires.front c.in-Err.reason c.in-Err.ensures.refusal;
-  own = c.in-Err.ensures.reasons;
+  own = c.in-Err.ensures.own_reasons;
 }

@@ -3,6 +3,6 @@ use Rattle.hunk_scatter.specs.Rows.{words_of}
 use Rattle.hunk_scatter.proofs.Refusing.{refused_in_body}
 use Rattle.hunk_scatter.proofs.store.take_word.Goals as goal
 
-pub returns-in-Some-clause-reasons : goal.returns-in-Some-clause-reasons
-returns-in-Some-clause-reasons c =
+pub returns-in-Some-clause-own_reasons : goal.returns-in-Some-clause-own_reasons
+returns-in-Some-clause-own_reasons c =
     refused_in_body (words_of c.args.rows.now) (length c.args.store.now) c.args.state c.args.word c.in-Some.reason c.requires (sym c.refuse.ensures.refusal ∙ c.in-Some.is)

@@ -47,7 +47,7 @@ returns-in-Err-clause-stops c =
           subst (λ (f : List ℕ). HasRefusal (f ++ c.args.piece.now) (c.self.inside.count + n - 4) c.in-Err.reason) fed
           (refusal_front _ c.args.piece.now n _ _
           (refusal_here _ _ _ _ _ _ _ c.self.invariant none more bytes n long c.in-Some.word c.in-Err.ensures.long gathers.0 c.in-Err.reason (rw c.as_slice.ensures.value at c.in-Err.ensures.refusal)));
-      own = c.in-Err.ensures.reasons;
+      own = c.in-Err.ensures.own_reasons;
     }
 
 pub overflow_sub-place : goal.overflow_sub-place
@@ -65,7 +65,7 @@ invariant_of-self-in-Err c =
     let none = ap (λ (v : BodyLoaderValue). v.refused) c.self.view_is ∙ c.requires.reading in
     let store = written c.self.inside.store.items c.take_word.new.store c.self.inside.store.len (sym c.as_mut_slice.ensures.len ∙ ap length c.as_mut_slice.ensures.value) (c.take_word.auto.store ∙ ap length c.as_mut_slice.ensures.value) in
     kept_refusal _ _ _ _ _ _ _ c.self.invariant none (sym c.is_done.ensures ∙ c.if-is_done.false) _ _ _
-    (ap length store ∙ c.take_word.auto.store ∙ ap length c.as_mut_slice.ensures.value) c.in-Err.ensures.reasons
+    (ap length store ∙ c.take_word.auto.store ∙ ap length c.as_mut_slice.ensures.value) c.in-Err.ensures.own_reasons
 
 pub returns-in_default-clause-complete : goal.returns-in_default-clause-complete
 returns-in_default-clause-complete c w =
