@@ -98,11 +98,10 @@ struct hunk_finding {
  *               at HUNK_OK. With rows_len 0 this asks for the size of a table.
  * HUNK_TRUNCATED      the header goes on behind the bytes: it needs more of the file.
  * HUNK_BUDGET         place: the size word with which the sum first passes the budget.
- * HUNK_OUT_OF_MEMORY  place: the longword that completes the row which found no memory.
  * Else the first fault of the header, HUNK_NOT_LOAD_FILE to HUNK_LAST_HUNK.
  *
- * Rows behind the table, and at any answer but HUNK_OK all rows, are as they were. It takes 12
- * bytes for each hunk, rounded up as a list grows.
+ * Rows behind the table, and at any answer but HUNK_OK all rows, are as they were. It takes no
+ * memory.
  */
 struct hunk_answer hunk_table(const uint8_t *bytes, size_t bytes_len, uint64_t budget,
                               struct hunk_row *rows, size_t rows_len);
@@ -142,11 +141,11 @@ struct hunk_answer hunk_load_packed(const uint8_t *bytes, size_t bytes_len, uint
 
 /* ---- A load file that comes piece by piece, and is loaded with no other memory than the caller's.
  *
- * hunk_table reads the header, which has to be in one piece, and asks malloc for its rows; none of
- * the three calls below takes memory. They know the file by its places, and by what the loader has:
- * numbers alone, which may be copied and stored, and belong to one file, its places and its memory.
- * hunk_begin sets them, hunk_feed takes the bytes behind the header in pieces of any size, and
- * hunk_end tells whether the file is whole.
+ * hunk_table reads the header, which has to be in one piece, into the caller's rows. Neither it nor
+ * the three calls below ask malloc for anything. They know the file by its places, and by what the
+ * loader has: numbers alone, which may be copied and stored, and belong to one file, its places and
+ * its memory. hunk_begin sets them, hunk_feed takes the bytes behind the header in pieces of any
+ * size, and hunk_end tells whether the file is whole.
  */
 
 /* Where a hunk lies: 12 bytes. */

@@ -8,11 +8,16 @@ use Rattle.hunk_scatter.specs.HeaderBytes.{header_bytes}
 use Rattle.hunk.specs.declared.answer.Answer.{Answer}
 use Rattle.hunk.specs.declared.table.TableRow.{TableRow}
 use Rattle.hunk.specs.Answers.{refused, no_room, done}
-use Rattle.hunk.specs.Loads.{BeginsWithHeader, IsHeaderRefusal}
+use Rattle.hunk_scatter.specs.HeaderSizes.{RefusesHeader}
+use Rattle.hunk.specs.Loads.{BeginsWithHeader}
 
 -- what the caller sees of an entry
 abbrev pub row_of : TableEntry → TableRow
 row_of e = record { word = e.word; extra = e.extra; bytes = 4 * size_longs e.word; memory = e.word / 2 ^ 30 }
+
+-- The bytes begin with a header of so many hunks.
+abbrev pub BeginsWithTableOf : ℕ → List ℕ → Type 0
+BeginsWithTableOf hunks bytes = (t : List TableEntry) × BeginsWithHeader bytes t × (length t ≡ hunks)
 
 -- What the reading of a table comes to. The rows begin with it, and what lies behind it is as it was; or all are as they were.
 pub data Tables (budget : ℕ) (bytes : List ℕ) (old new : List TableRow) (answer : Answer) : Type 0 where
@@ -21,4 +26,4 @@ pub data Tables (budget : ℕ) (bytes : List ℕ) (old new : List TableRow) (ans
       → answer ≡ done (length t) (length (header_bytes t)) (declared_bytes t) → Tables budget bytes old new answer
   HasNoRows : (t : List TableEntry) → BeginsWithHeader bytes t → declared_bytes t ≤ budget → length old < length t → new ≡ old
       → answer ≡ no_room (length t) (length (header_bytes t)) (declared_bytes t) → Tables budget bytes old new answer
-  HasNoTable : (f : Fault) → IsHeaderRefusal budget bytes f → new ≡ old → answer ≡ refused f → Tables budget bytes old new answer
+  HasNoTable : (f : Fault) → RefusesHeader budget bytes f → new ≡ old → answer ≡ refused f → Tables budget bytes old new answer

@@ -1,12 +1,17 @@
 //! Tables of load files, by their headers alone.
-ghost use Rattle.std.specs.Prelude.{◌≡◌, length, map};
-ghost use Rattle.hunk.specs.Tables.{Tables, row_of};
+ghost use Rattle.std.specs.Prelude.{List, ◌≡◌, ◌+◌, ◌*◌, ◌≤◌, IsTrue, if◌then◌else◌, length, map, slice_index};
+ghost use Rattle.hunk_files.specs.LoadFile.{TableEntry};
+ghost use Rattle.hunk_words.specs.Bits.{has_both_bits};
+ghost use Rattle.hunk_words.specs.Longs.{longs};
+ghost use Rattle.hunk.specs.Loads.{BeginsWithHeader};
+ghost use Rattle.hunk.specs.Tables.{BeginsWithTableOf, Tables, row_of};
 
-use crate::answer::{Answer, no_room, refused};
-use crate::header::read_header;
-use hunk_scatter::Declared;
-use hunk_words::SizeWord;
-use std::alloc::Global;
+use crate::answer::{Answer, done, no_room, refused};
+use hunk_scatter::stream::header_size;
+use hunk_words::{SizeWord, word_at};
+
+/// The longword at which the table begins, behind the number of the last hunk.
+const TABLE: usize = 5;
 
 /// What a header declares of a hunk: 16 bytes, with no padding.
 #[repr(C)]
@@ -26,48 +31,66 @@ pub struct TableRow {
 ///
 /// Bytes behind the header are not read, so a first part of a file will do. The rows behind the
 /// table are as they were, and after a refusal all are. It answers the number of hunks, the bytes
-/// of the header, and those that the hunks declare together. Memory is taken for 12 bytes of each
-/// hunk, and given back.
+/// of the header, and those that the hunks declare together. No memory is taken.
 ///
 /// # Errors
 ///
 /// The first fault of the header; Budget where it declares more than `budget` bytes; Truncated
-/// where the bytes end inside it; `NO_ROOM` where there are fewer rows than hunks; OutOfMemory.
+/// where the bytes end inside it; `NO_ROOM` where there are fewer rows than hunks.
 #[unsafe(no_mangle)]
-pub extern "C" fn hunk_table(
-    alloc: Global,
-    bytes: &[u8],
-    budget: u64,
-    rows: &mut [TableRow],
-) -> Answer
+pub extern "C" fn hunk_table(bytes: &[u8], budget: u64, rows: &mut [TableRow]) -> Answer
     ensures { Tables budget bytes.now rows.old rows.new result }
 {
-    let (declared, body) = match read_header(alloc, bytes, budget) {
-        Ok(read) => read,
+    let size = match header_size(bytes, budget) {
+        Ok(size) => size,
         Err(fault) => return refused(fault),
     };
-    let header = (bytes.len() - body.len()) as u64;
-    let hunks = declared.hunks();
-    if hunks as usize > rows.len() {
-        return no_room(hunks, header, declared.total());
+    let hunks = size.hunks as usize;
+    if hunks > rows.len() {
+        return no_room(size.hunks, size.bytes, size.declared);
     }
-    put_rows(&declared, &mut rows[..hunks as usize]);
-    Answer {
-        number: 0,
-        hunk: hunks,
-        place: header,
-        count: declared.total(),
+    put_rows(bytes, &mut rows[..hunks]);
+    done(size.hunks, size.bytes, size.declared)
+}
+
+/// Writes the rows of the table of the header that the bytes begin with.
+fn put_rows(bytes: &[u8], rows: &mut [TableRow])
+    requires { BeginsWithTableOf (length rows.old) bytes.now }
+    ensures { (t : List TableEntry) → BeginsWithHeader bytes.now t → length t ≡ length rows.old
+        → rows.new ≡ map row_of t }
+{
+    let mut at = TABLE;
+    'rows: for i in 0..rows.len() {
+        let size = size_word_at(bytes, at);
+        rows[i] = row_of(size);
+        at += longs_of(size);
     }
 }
 
-/// Writes the row of each entry.
-fn put_rows(declared: &Declared, rows: &mut [TableRow])
-    requires { length rows.old ≡ length declared.now.table }
-    ensures { rows.new ≡ map row_of declared.now.table }
+/// The size word that is the longword number `at`, with the attributes that may follow it.
+fn size_word_at(bytes: &[u8], at: usize) -> SizeWord
+    requires word { 4 * at + 4 ≤ length bytes.now }
+    requires extra { IsTrue (has_both_bits (slice_index (longs bytes.now) at)) →
+        4 * at + 8 ≤ length bytes.now }
+    ensures word { result.word ≡ slice_index (longs bytes.now) at }
+    ensures extra { result.extra ≡ (if has_both_bits (slice_index (longs bytes.now) at)
+        then slice_index (longs bytes.now) (at + 1) else 0) }
 {
-    'rows: for i in 0..declared.hunks() {
-        rows[i as usize] = row_of(declared.row(i).size());
-    }
+    let word = word_at(bytes, at);
+    let extra = if SizeWord::has_extra(word) {
+        word_at(bytes, at + 1)
+    } else {
+        0
+    };
+    SizeWord { word, extra }
+}
+
+/// How many longwords of the header the size word has.
+fn longs_of(size: SizeWord) -> usize
+    ensures value { result ≡ (if has_both_bits size.word then 2 else 1) }
+    ensures few { result ≤ 2 }
+{
+    if SizeWord::has_extra(size.word) { 2 } else { 1 }
 }
 
 /// What callers see of a size word.

@@ -82,7 +82,7 @@ fn loads_two_hunks(rt: HostRuntime) -> Result<(), Fail> {
 #[test]
 fn tells_a_table_and_a_name(rt: HostRuntime) -> Result<(), Fail> {
     let mut rows = [NO_ROW; 3];
-    let told = hunk_table(rt.alloc(), &TWO_HUNKS[..28], 12, rows.as_mut_slice());
+    let told = hunk_table(&TWO_HUNKS[..28], 12, rows.as_mut_slice());
     assert_eq!(rt;
         (told.number, told.hunk, told.place, told.count),
         (0, 2, 28, 12)

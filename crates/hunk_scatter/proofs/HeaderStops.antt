@@ -84,32 +84,34 @@ module _ (budget : ℕ) (bytes rest : List ℕ) (f : Fault) (s : HeaderStop budg
       (subst (λ (p : Position). budget < s.state.total + declares p s.word) (sym position_at) passes))
       expects_here
 
+  pub stop_refused : refuse (role_at 0 s.state.position) s.word ≡ Some f.reason → HasRefusal (bytes ++ rest) f.place f.reason
+  stop_refused e =
+      subst (λ (n : ℕ). HasRefusal (bytes ++ rest) n f.reason) (sym s.place)
+      (read_refused (bytes ++ rest) s.ws at s.word (longs rest) f.reason read_at spells (refusal_at s.word ∙ e))
+
+  pub stop_passes : budget < s.state.total + declares s.state.position s.word → PassesBudget budget (bytes ++ rest) f.place
+  stop_passes passes =
+      let x = expects_size passes in
+      let k = sum_here budget s.rows s.state s.ws s.has_read s.goes_on s.word x in
+      record {
+        before = s.ws;
+        word = s.word;
+        after = longs rest;
+        split = spells;
+        place = s.place;
+        expects = x;
+        first = s.has_read.none_passes;
+        passes = omega (arith, passes, k.0, k.1);
+      }
+
   -- It is the fault.
   pub stop_fault : IsBytes rest → IsHeaderFault budget (bytes ++ rest) f
   stop_fault fit = go s.stops
     where
-      refused : refuse (role_at 0 s.state.position) s.word ≡ Some f.reason → HasRefusal (bytes ++ rest) f.place f.reason
-      refused e =
-          subst (λ (n : ℕ). HasRefusal (bytes ++ rest) n f.reason) (sym s.place)
-          (read_refused (bytes ++ rest) s.ws at s.word (longs rest) f.reason read_at spells (refusal_at s.word ∙ e))
-
       go : StopsFor budget s.state s.word f.reason → IsHeaderFaultBy f.reason budget (bytes ++ rest) f.place
-      go (inl e) = plain_fault f.reason budget (bytes ++ rest) f.place (refusal_of_word (bytes ++ rest) f.place f.reason (refused e)) (refused e)
-      go (inr (inl o)) =
-          let x = expects_size o.passes in
-          let k = sum_here budget s.rows s.state s.ws s.has_read s.goes_on s.word x in
-          subst (λ (r : Reason). IsHeaderFaultBy r budget (bytes ++ rest) f.place) (sym o.reason_is)
-          (record {
-            before = s.ws;
-            word = s.word;
-            after = longs rest;
-            split = spells;
-            place = s.place;
-            expects = x;
-            first = s.has_read.none_passes;
-            passes = omega (arith, o.passes, k.0, k.1);
-          })
-      go (inr (inr l)) =
+      go (inl (inl e)) = plain_fault f.reason budget (bytes ++ rest) f.place (refusal_of_word (bytes ++ rest) f.place f.reason (stop_refused e)) (stop_refused e)
+      go (inl (inr o)) = subst (λ (r : Reason). IsHeaderFaultBy r budget (bytes ++ rest) f.place) (sym o.reason_is) (stop_passes o.passes)
+      go (inr l) =
           let in_table = row_in_table at s.word (subst (λ (p : Position). 0 < length (adds p s.word)) (sym position_at) l.row) in
           subst (λ (r : Reason). IsHeaderFaultBy r budget (bytes ++ rest) f.place) (sym l.reason_is)
           (record {
@@ -133,36 +135,36 @@ module _ (budget : ℕ) (bytes rest : List ℕ) (f : Fault) (s : HeaderStop budg
   stop_own = go s.stops
     where
       go : StopsFor budget s.state s.word f.reason → IsTrue (is_of_header f.reason)
-      go (inl e) = refused_in_header s.state.position s.word f.reason s.goes_on e
-      go (inr (inl o)) = ap is_of_header o.reason_is
-      go (inr (inr l)) = ap is_of_header l.reason_is
+      go (inl (inl e)) = refused_in_header s.state.position s.word f.reason s.goes_on e
+      go (inl (inr o)) = ap is_of_header o.reason_is
+      go (inr l) = ap is_of_header l.reason_is
 
   -- Where the table passes the budget, it stops there, or before it for want of memory.
   pub stop_over : (place : ℕ) → PassesBudget budget (bytes ++ rest) place → IsOverBudget place f
   stop_over place p = by_cut (cuts s.ws s.word (longs rest) p.before p.word p.after (sym spells ∙ p.split)) s.stops
     where
       by_cut : Cuts s.ws s.word p.before p.word → StopsFor budget s.state s.word f.reason → IsOverBudget place f
-      by_cut (Same e d) (inl r) =
+      by_cut (Same e d) (inl (inl r)) =
           let role : role_of at ≡ roles.SizeWord = role_here s.ws at roles.SizeWord read_at (subst (λ (xs : List ℕ). Expects xs roles.SizeWord) (sym e) p.expects) in
           let none : refuse roles.SizeWord s.word ≡ Some f.reason = ap (λ (x : Role). refuse x s.word) (sym role) ∙ refusal_at s.word ∙ r in
           absurd cc
-      by_cut (Same e d) (inr (inl o)) = inl (o.reason_is, s.place ∙ ap (λ (xs : List ℕ). 4 * length xs) e ∙ sym p.place)
-      by_cut (Same e d) (inr (inr l)) =
+      by_cut (Same e d) (inl (inr o)) = inl (o.reason_is, s.place ∙ ap (λ (xs : List ℕ). 4 * length xs) e ∙ sym p.place)
+      by_cut (Same e d) (inr l) =
           let x = subst (λ (xs : List ℕ). Expects xs roles.SizeWord) (sym e) p.expects in
           let k = sum_here budget s.rows s.state s.ws s.has_read s.goes_on s.word x in
           let front = ap (λ (xs : List ℕ). declared_bytes (entries_so_far xs)) e in
           let size = ap size_longs d in
           absurd (omega (arith, l.within, k.0, k.1, front, size, p.passes))
-      by_cut (Before m e) (inl r) =
+      by_cut (Before m e) (inl (inl r)) =
           let ok = expected_passes s.ws at s.word m roles.SizeWord read_at (subst (λ (xs : List ℕ). Expects xs roles.SizeWord) e p.expects) in
           let clash : None ≡ Some f.reason = sym ok ∙ refusal_at s.word ∙ r in
           absurd cc
-      by_cut (Before m e) (inr (inl o)) =
+      by_cut (Before m e) (inl (inr o)) =
           let x = expects_size o.passes in
           let k = sum_here budget s.rows s.state s.ws s.has_read s.goes_on s.word x in
           let le = p.first s.ws m s.word e x in
           absurd (omega (arith, le, o.passes, k.0, k.1))
-      by_cut (Before m e) (inr (inr l)) =
+      by_cut (Before m e) (inr l) =
           inr (l.reason_is, omega (arith, s.place, p.place, ap length e, length-append s.ws (s.word ∷ m)))
       by_cut (Behind m e) why =
           let le = s.has_read.none_passes p.before m p.word e p.expects in
@@ -199,6 +201,6 @@ module _ (budget : ℕ) (bytes rest : List ℕ) (f : Fault) (s : HeaderStop budg
       refused r (inr e) = by_front r (fronts s.ws s.word (longs rest) (header_words m.table) (longs m.more) (behind_text e))
 
       go : StopsFor budget s.state s.word f.reason → IsBudgetOrMemory f.reason
-      go (inl r) = refused r m.fits
-      go (inr (inl o)) = inl o.reason_is
-      go (inr (inr l)) = inr l.reason_is
+      go (inl (inl r)) = refused r m.fits
+      go (inl (inr o)) = inl o.reason_is
+      go (inr l) = inr l.reason_is

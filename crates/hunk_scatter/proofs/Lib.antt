@@ -11,6 +11,7 @@ pub mod HeaderGrows
 pub mod HeaderLeast
 pub mod HeaderOwed
 pub mod HeaderReads
+pub mod HeaderSizes
 pub mod HeaderSteps
 pub mod HeaderStops
 pub mod HeaderTexts

@@ -56,9 +56,13 @@ pub record LacksMemory (budget : ℕ) (s : HeaderState) (w : ℕ) (reason : Reas
   pub within : s.total + declares s.position w ≤ budget
   pub row : 0 < length (adds s.position w)
 
+-- The longword is refused by its own test, or by the budget.
+abbrev pub RefusesWord : ℕ → HeaderState → ℕ → Reason → Type 0
+RefusesWord budget s w reason = (refuse (role_at 0 s.position) w ≡ Some reason) ⊎ IsOver budget s w reason
+
 -- The longword is refused by its own test, by the budget, or for want of memory.
 abbrev pub StopsFor : ℕ → HeaderState → ℕ → Reason → Type 0
-StopsFor budget s w reason = (refuse (role_at 0 s.position) w ≡ Some reason) ⊎ (IsOver budget s w reason ⊎ LacksMemory budget s w reason)
+StopsFor budget s w reason = RefusesWord budget s w reason ⊎ LacksMemory budget s w reason
 
 -- ---- the fields
 

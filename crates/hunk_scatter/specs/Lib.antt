@@ -5,6 +5,7 @@ pub mod HeaderBytes
 pub mod HeaderFaults
 pub mod HeaderLoaderFields
 pub mod HeaderOwing
+pub mod HeaderSizes
 pub mod LoadOutcomes
 pub mod LoaderReasons
 pub mod LoaderValues

@@ -52,7 +52,32 @@ fn row(position: Position, word: u32) -> Option<Row>
     }
 }
 
-/// Takes a longword, or tells why it is refused: by its own test, by the budget, or for want of memory.
+/// Passes a longword, or tells why it is refused: by its own test, or by the budget.
+pub fn pass_header_word(state: HeaderState, budget: u64, word: u32) -> Result<HeaderState, Reason>
+    requires going { is_behind_header state.position ≡ false }
+    requires room { state.total + 2 ^ 32 < 2 ^ 64 }
+    ensures position { IfOk result (λ s. s.position ≡ step state.position word) }
+    ensures total { IfOk result
+        (λ s. s.total ≡ state.total + heading.declares state.position word) }
+    ensures passes { OnOk result (refuse (role_at 0 state.position) word ≡ None) }
+    ensures within { OnOk result (state.total + heading.declares state.position word ≤ budget) }
+    ensures refusal { IfErr result (heading.RefusesWord budget state word) }
+{
+    if let Some(reason) = state.position.refuse(0, word) {
+        return Err(reason);
+    }
+    let total = state.total + declares(state.position, word);
+    if total > budget {
+        return Err(Reason::Budget);
+    }
+    Ok(HeaderState {
+        position: state.position.step(word),
+        total,
+    })
+}
+
+/// Takes a longword and stores the row that it completes, or tells why it is refused: by its own test,
+/// by the budget, or for want of memory.
 pub fn take_header_word(
     rows: &mut Vec<Row>,
     state: HeaderState,
@@ -72,20 +97,14 @@ pub fn take_header_word(
     ensures refusal { IfErr result (heading.StopsFor budget state word) }
     ensures long { word < 2 ^ 32 }
 {
-    if let Some(reason) = state.position.refuse(0, word) {
-        return Err(reason);
-    }
-    let total = state.total + declares(state.position, word);
-    if total > budget {
-        return Err(Reason::Budget);
-    }
+    let next = match pass_header_word(state, budget, word) {
+        Ok(next) => next,
+        Err(reason) => return Err(reason),
+    };
     if let Some(row) = row(state.position, word) {
         if rows.push(row).is_err() {
             return Err(Reason::OutOfMemory);
         }
     }
-    Ok(HeaderState {
-        position: state.position.step(word),
-        total,
-    })
+    Ok(next)
 }

@@ -6,6 +6,7 @@ mod body_state;
 mod debug;
 mod declared;
 mod header_loader;
+mod header_size;
 mod header_state;
 mod image;
 mod limits;

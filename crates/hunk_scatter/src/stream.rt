@@ -13,6 +13,7 @@ ghost use Rattle.hunk_scatter.specs.Streaming.{BeginsLoading, CountsTaken, EndsL
 
 pub use crate::body_state::BodyState;
 use crate::body_state::longs_of;
+pub use crate::header_size::{HeaderSize, header_size};
 use crate::longwords::take_front;
 pub use crate::pending::Pending;
 use crate::store::take_word;

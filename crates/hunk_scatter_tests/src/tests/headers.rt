@@ -187,7 +187,7 @@ fn wants_at_most_a_buffer(rt: HostRuntime) -> Result<(), Fail> {
 }
 
 /// Examples 7, 16 and 17: the bytes that are declared, or the place and the reason.
-const ANSWERS: &[(&str, u64, Result<u64, (u64, Reason)>)] = &[
+pub(super) const ANSWERS: &[(&str, u64, Result<u64, (u64, Reason)>)] = &[
     (ENDING_IN_ZEROS, 19, Err((24, Reason::Budget))),
     (ENDING_IN_ZEROS, 20, Ok(20)),
     (LAST_HUNK_AMISS, 1_000, Err((16, Reason::LastHunk))),

@@ -1,18 +1,37 @@
-use Rattle.std.proofs.Common.{ℕ, map, ap₂, ◌∙◌, arith}
-use Rattle.std.proofs.lemmas.List.{length-map}
-use Rattle.hunk_scatter.specs.Rows as rows
+use Rattle.std.proofs.Common.{◌≡◌, ◌+◌, ◌<◌, ℕ, length, refl, sym, ap₂, subst, ◌∙◌, arith}
+use Rattle.hunk_words.specs.Bits.{has_both_bits}
 use Rattle.hunk.specs.Tables.{row_of}
 use Rattle.hunk.proofs.Filling.{filled_more, filled_all}
-use Rattle.hunk.proofs.TableRows.{row_seen, rows_seen}
+use Rattle.hunk.proofs.TableRows.{StandsAt, stands_first, word_room, extra_room, entry_is, stands_next}
 use Rattle.hunk.proofs.table.put_rows.Goals as goal
 
+pub rows-init : goal.rows-init
+rows-init c = λ t h e. (record { size = sym e; front = refl }, stands_first _ t h)
+
+pub size_word_at-size-requires-clause-word : goal.size_word_at-size-requires-clause-word
+size_word_at-size-requires-clause-word c =
+    let r = c.requires in
+    word_room _ r.0 r.1 c.rows.i c.rows.at (c.rows.invariant r.0 r.1 r.2).1 (omega (arith, r.2, c.rows-test.true))
+
+pub size_word_at-size-requires-clause-extra : goal.size_word_at-size-requires-clause-extra
+size_word_at-size-requires-clause-extra c both =
+    let r = c.requires in
+    extra_room _ r.0 r.1 c.rows.i c.rows.at (c.rows.invariant r.0 r.1 r.2).1 (omega (arith, r.2, c.rows-test.true)) both
+
+pub overflow_add-at : goal.overflow_add-at
+overflow_add-at c =
+    let r = c.requires in
+    omega (arith, word_room _ r.0 r.1 c.rows.i c.rows.at (c.rows.invariant r.0 r.1 r.2).1 (omega (arith, r.2, c.rows-test.true)), c.longs_of-at.ensures.few)
+
 pub rows-preserved : goal.rows-preserved
-rows-preserved c =
-    filled_more row_seen (map rows.row_of c.args.declared.now.table) c.rows.rows c.rows.i c.row.result c.row_of.result c.row.ensures
-    (c.row_of.ensures ∙ ap₂ (λ (w x : ℕ). row_of (record { word = w; extra = x })) c.size.ensures.word c.size.ensures.extra) c.rows.invariant
+rows-preserved c = λ t h e.
+    let inv = c.rows.invariant t h e in
+    let more : c.rows.i < length t = omega (arith, e, c.rows-test.true) in
+    let size = c.size_word_at-size.result in (
+      filled_more row_of t c.rows.rows c.rows.i _ c.row_of.result (entry_is _ t h c.rows.i c.rows.at inv.1 more size.word size.extra c.size_word_at-size.ensures.word c.size_word_at-size.ensures.extra) c.row_of.ensures inv.0,
+      subst (λ (n : ℕ). StandsAt c.args.bytes.now t h (c.rows.i + 1) (c.rows.at + n)) (sym c.longs_of-at.ensures.value)
+      (stands_next _ t h c.rows.i c.rows.at inv.1 more size.word size.extra c.size_word_at-size.ensures.word c.size_word_at-size.ensures.extra),
+    )
 
 pub returns : goal.returns
-returns c =
-    let t = c.args.declared.now.table in
-    filled_all row_seen (map rows.row_of t) c.rows.rows c.rows.i (omega (arith, length-map t rows.row_of, c.hunks-i-end.ensures, c.rows-test.false)) c.rows.invariant
-    ∙ rows_seen t
+returns c = λ t h e. filled_all row_of t c.rows.rows c.rows.i (omega (arith, e, c.rows-test.false)) (c.rows.invariant t h e).0

@@ -1,0 +1,131 @@
+-- A header that is read in place, with no memory for its rows.
+use Rattle.std.proofs.Common.{◌≡◌, ℕ, ◌+◌, ◌-◌, ◌*◌, ◌/◌, ◌^◌, ◌<◌, ◌≤◌, true, false, List, [], ◌∷◌, ◌++◌, length, take, drop, get_or, refl, sym, ap, subst, ◌∙◌, append-nil, arith, length-append, length-take, length-drop, take-append-drop, map, None, inl, inr}
+use Rattle.std.proofs.lemmas.List.{get_or-drop}
+use Rattle.std.proofs.Math.Seq.{take-add}
+use Rattle.hunk_words.specs.Longs.{longs, bytes_of, IsLong, IsBytes}
+use Rattle.hunk_words.specs.declared.reason.Reason.{Reason}
+use Rattle.hunk_words.proofs.LongLaws.{bytes_of-append, longs-bytes_of, length-bytes_of, length-longs}
+use Rattle.hunk_files.specs.Fault.{HasRefusal, IsTruncated}
+use Rattle.hunk_files.specs.Image.{declared_bytes}
+use Rattle.hunk_files.specs.LoadFile.{TableEntry}
+use Rattle.hunk_files.specs.declared.row.Row.{Row}
+use Rattle.hunk_scan.specs.declared.position.Position.TheVariants as positions
+use Rattle.hunk_scan.specs.Positions.{role_at, step, is_behind_header}
+use Rattle.hunk_scan.specs.Roles.{refuse}
+use Rattle.hunk_scatter.specs.declared.header_state.HeaderState.{HeaderState}
+use Rattle.hunk_scatter.specs.HeaderBytes.{IsTable, header_bytes, header_words}
+use Rattle.hunk_scatter.specs.HeaderLoaderFields.{adds, declares, RefusesWord, HeaderReading, HeaderLoaderInvariant, HeaderStop}
+use Rattle.hunk_scatter.specs.HeaderFaults.{PassesBudget}
+use Rattle.hunk_scatter.specs.HeaderSizes.{RefusesHeader}
+use Rattle.hunk_scatter.specs.Rows.{entries_of, row_of}
+use Rattle.hunk_scatter.proofs.HeaderFields.{heading_new, heading_room, heading_pending, heading_word, heading_table, heading_total, heading_truncated, heading_as}
+use Rattle.hunk_scatter.proofs.HeaderStops.{header_longs, stop_refused, stop_passes}
+use Rattle.hunk_scatter.proofs.Runs.{in_place}
+
+-- Longwords of a header were read up to this byte, and rows may be named that they complete.
+pub record HeaderSoFar (budget : ℕ) (bytes : List ℕ) (s : HeaderState) (at : ℕ) : Type 0 where
+  pub rows : List Row
+  pub inside : at ≤ length bytes
+  pub read : HeaderLoaderInvariant budget rows s [] at None (take at bytes)
+
+pub none_so_far : (budget : ℕ) (bytes : List ℕ) → HeaderSoFar budget bytes (record { position = positions.FirstLong; total = 0 }) 0
+none_so_far budget bytes = record { rows = []; inside = omega arith; read = heading_new budget }
+
+module _ (budget : ℕ) (bytes : List ℕ) (s : HeaderState) (at : ℕ) (h : HeaderSoFar budget bytes s at) where
+  pub so_far : HeaderReading budget h.rows s [] (take at bytes)
+  so_far = h.read.reading refl
+
+  pub so_far_room : s.total + 2 ^ 32 < 2 ^ 64
+  so_far_room = heading_room budget h.rows s [] (take at bytes) so_far h.read.few_rows
+
+  fours : at ≡ 4 * length so_far.ws
+  fours = omega (arith, h.read.counted, ap length so_far.spelled, length-append (bytes_of so_far.ws) [], length-bytes_of so_far.ws)
+
+  -- The header is whole.
+  pub header_whole : is_behind_header s.position ≡ true → IsTable (entries_of h.rows) × (bytes ≡ header_bytes (entries_of h.rows) ++ drop at bytes)
+  header_whole done =
+      let t = heading_table budget h.rows s [] (take at bytes) so_far done in
+      (t.0, sym (take-append-drop at bytes) ∙ ap (λ (xs : List ℕ). xs ++ drop at bytes) t.1)
+
+  pub header_total : is_behind_header s.position ≡ true → s.total ≡ declared_bytes (entries_of h.rows)
+  header_total done = heading_total budget h.rows s [] (take at bytes) so_far done
+
+  pub header_end : is_behind_header s.position ≡ true → at ≡ length (header_bytes (entries_of h.rows))
+  header_end done = h.read.counted ∙ ap length (heading_table budget h.rows s [] (take at bytes) so_far done).1
+
+  module _ (more : is_behind_header s.position ≡ false) where
+    -- The bytes end inside the next longword.
+    pub header_cut : length (drop at bytes) < 4 → IsTruncated bytes at
+    header_cut few =
+        let end = drop at bytes in
+        let all = heading_pending budget h.rows s [] at None (take at bytes) h.read refl more end end (length end) refl refl few in
+        let whole : take at bytes ++ end ≡ bytes = take-append-drop at bytes in
+        let place : 4 * (length bytes / 4) ≡ at = omega (arith, fours, few, h.inside, length-drop at bytes) in
+        subst (λ (n : ℕ). IsTruncated bytes n) place
+        (subst (λ (xs : List ℕ). IsTruncated xs (4 * (length xs / 4))) whole
+        (heading_truncated budget h.rows s end (take at bytes ++ end) (all.reading refl)))
+
+    module _ (are : IsBytes bytes) (four : 4 ≤ length (drop at bytes)) (w : ℕ) (is : IsLong w) (first : w ≡ get_or (longs (drop at bytes)) 0 0) where
+      next : List ℕ
+      next = take 4 (drop at bytes)
+
+      rest_are : IsBytes (drop at bytes)
+      rest_are k = omega (arith, get_or-drop at bytes k 0, are (at + k))
+
+      next_spelled : [] ++ next ≡ bytes_of (w ∷ [])
+      unfolding next
+      next_spelled = in_place (drop at bytes) rest_are four ∙ ap (λ (v : ℕ). bytes_of (v ∷ [])) (sym first)
+
+      next_length : length next ≡ 4
+      unfolding next
+      next_length = omega (arith, length-take 4 (drop at bytes), four)
+
+      next_end : take (at + 4) bytes ≡ take at bytes ++ next
+      unfolding next
+      next_end = take-add at 4 bytes
+
+      -- It passes.
+      pub word_passes : (s2 : HeaderState) → refuse (role_at 0 s.position) w ≡ None → s.total + declares s.position w ≤ budget → s2.position ≡ step s.position w →
+          s2.total ≡ s.total + declares s.position w → HeaderSoFar budget bytes s2 (at + 4)
+      word_passes s2 pass within position total = record {
+        rows = h.rows ++ map row_of (adds s.position w);
+        inside = omega (arith, four, h.inside, length-drop at bytes);
+        read =
+            heading_as budget _ _ _ s2 [] [] (at + 4) None _ _ refl position total refl next_end
+            (heading_word budget h.rows s [] at None (take at bytes) h.read refl more next 4 next_length w is next_spelled pass within);
+      }
+
+      stops_here : (reason : Reason) → RefusesWord budget s w reason → HeaderStop budget (take (at + 4) bytes) (record { place = at; reason = reason })
+      stops_here reason why = record {
+        ws = so_far.ws;
+        rows = h.rows;
+        state = s;
+        word = w;
+        spelled =
+            next_end
+            ∙ ap (λ (xs : List ℕ). xs ++ next) (so_far.spelled ∙ append-nil (bytes_of so_far.ws))
+            ∙ ap (λ (xs : List ℕ). bytes_of so_far.ws ++ xs) next_spelled
+            ∙ sym (bytes_of-append so_far.ws (w ∷ []));
+        long = is;
+        has_read = so_far.has_read;
+        goes_on = more;
+        place = fours;
+        stops = inl why;
+      }
+
+      whole : take (at + 4) bytes ++ drop (at + 4) bytes ≡ bytes
+      whole = take-append-drop (at + 4) bytes
+
+      -- It is refused.
+      pub word_stops : (reason : Reason) → RefusesWord budget s w reason → RefusesHeader budget bytes (record { place = at; reason = reason })
+      unfolding stops_here
+      word_stops reason (inl e) =
+          inl (subst (λ (xs : List ℕ). HasRefusal xs at reason) whole (stop_refused budget (take (at + 4) bytes) (drop (at + 4) bytes) _ (stops_here reason (inl e)) e))
+      word_stops reason (inr o) =
+          inr (inl (o.reason_is, subst (λ (xs : List ℕ). PassesBudget budget xs at) whole (stop_passes budget (take (at + 4) bytes) (drop (at + 4) bytes) _ (stops_here reason (inr o)) o.passes)))
+
+-- The number of hunks stands behind the first two longwords.
+pub hunks_in : (bytes : List ℕ) (t : List TableEntry) (rest : List ℕ) → IsTable t → bytes ≡ header_bytes t ++ rest → (get_or (longs bytes) 2 0 ≡ length t) × (12 ≤ length bytes)
+hunks_in bytes t rest is e =
+    let split : longs bytes ≡ header_words t ++ longs rest = ap longs e ∙ longs-bytes_of (header_words t) rest (header_longs t is) in
+    (ap (λ (l : List ℕ). get_or l 2 0) split, omega (arith, ap length split, length-longs bytes))

@@ -1,0 +1,26 @@
+-- The size of a header, read with no memory for its rows.
+use Rattle.std.specs.Prelude.{◌≡◌, ℕ, ◌≤◌, List, ◌++◌, length, ◌⊎◌}
+use Rattle.hunk_words.specs.declared.fault.Fault.{Fault}
+use Rattle.hunk_words.specs.declared.reason.Reason.TheVariants as reasons
+use Rattle.hunk_files.specs.Fault.{HasRefusal, IsTruncated}
+use Rattle.hunk_files.specs.Image.{declared_bytes}
+use Rattle.hunk_files.specs.LoadFile.{TableEntry}
+use Rattle.hunk_scatter.specs.HeaderBytes.{IsTable, header_bytes}
+use Rattle.hunk_scatter.specs.HeaderFaults.{PassesBudget}
+use Rattle.hunk_scatter.specs.declared.header_size.HeaderSize.{HeaderSize}
+
+-- The bytes begin with a header of this size, whose table keeps to the budget.
+pub record HasHeaderSize (budget : ℕ) (bytes : List ℕ) (size : HeaderSize) : Type 0 where
+  pub table : List TableEntry
+  pub is_table : IsTable table
+  pub rest : List ℕ
+  pub split : bytes ≡ header_bytes table ++ rest
+  pub hunks_are : size.hunks ≡ length table
+  pub bytes_are : size.bytes ≡ length (header_bytes table)
+  pub declared_are : size.declared ≡ declared_bytes table
+  pub within : declared_bytes table ≤ budget
+
+-- Why a header is refused: a longword is, or with one the declared bytes first pass the budget, or the bytes end.
+abbrev pub RefusesHeader : ℕ → List ℕ → Fault → Type 0
+RefusesHeader budget bytes f =
+    HasRefusal bytes f.place f.reason ⊎ (((f.reason ≡ reasons.Budget) × PassesBudget budget bytes f.place) ⊎ ((f.reason ≡ reasons.Truncated) × IsTruncated bytes f.place))

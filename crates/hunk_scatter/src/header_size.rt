@@ -1,0 +1,58 @@
+//! The size of a header, read with no memory for its rows.
+ghost use Rattle.std.specs.Prelude.{◌≡◌, IfOk, IfErr};
+ghost use Rattle.hunk_scatter.specs.HeaderSizes.{HasHeaderSize, RefusesHeader};
+
+use crate::header_state::{HeaderState, pass_header_word};
+use hunk_scan::Position;
+use hunk_words::{LoadFault, Reason, word_at};
+
+/// The longword of the header that has the number of hunks.
+const TABLE_SIZE: usize = 2;
+
+/// What a header says of its file, but for the rows of its table.
+#[derive(Clone, Copy, Debug, PartialEq, Eq)]
+pub struct HeaderSize {
+    /// The number of hunks.
+    pub hunks: u32,
+    /// The bytes of the header.
+    pub bytes: u64,
+    /// The bytes that the hunks declare together.
+    pub declared: u64,
+}
+
+/// The size of the header that the bytes begin with. It takes no memory.
+///
+/// Bytes behind the header are not read, so a first part of a file will do.
+///
+/// # Errors
+///
+/// The first fault of the header; Budget at the size word with which the declared bytes first pass the
+/// budget; Truncated where the bytes end inside the header.
+pub fn header_size(bytes: &[u8], budget: u64) -> Result<HeaderSize, LoadFault>
+    ensures size { IfOk result (HasHeaderSize budget bytes.now) }
+    ensures refusal { IfErr result (RefusesHeader budget bytes.now) }
+{
+    let mut state = HeaderState {
+        position: Position::FirstLong,
+        total: 0,
+    };
+    let mut at = 0;
+    'words: while !state.position.is_behind_header() {
+        let rest = &bytes[at..];
+        let place = at as u64;
+        if rest.len() < 4 {
+            let reason = Reason::Truncated;
+            return Err(LoadFault { place, reason });
+        }
+        match pass_header_word(state, budget, word_at(rest, 0)) {
+            Ok(next) => state = next,
+            Err(reason) => return Err(LoadFault { place, reason }),
+        }
+        at += 4;
+    }
+    Ok(HeaderSize {
+        hunks: word_at(bytes, TABLE_SIZE),
+        bytes: at as u64,
+        declared: state.total,
+    })
+}
