@@ -1,7 +1,4 @@
-use Rattle.std.proofs.Common.{◌≡◌, ◌++◌, ℕ, List, length, take, drop, refl, sym, ap₂, ◌∙◌, arith, length-take}
-use Rattle.hunk_scatter.specs.HeaderSizes.{HasHeaderSize}
-use Rattle.hunk_scatter.specs.declared.header_size.HeaderSize.{HeaderSize}
-use Rattle.hunk.specs.Loads.{BeginsWithHeader}
+use Rattle.std.proofs.Common.{◌++◌, ℕ, List, drop, refl, ap₂, ◌∙◌, arith, length-take}
 use Rattle.hunk.specs.Tables.{HasTable, HasNoRows, HasNoTable}
 use Rattle.hunk.specs.declared.table.TableRow.{TableRow}
 use Rattle.hunk.proofs.Loaded.{same_answer}

@@ -1,5 +1,4 @@
-use Rattle.std.proofs.Common.{◌≡◌, ◌+◌, ◌<◌, ℕ, length, refl, sym, ap₂, subst, ◌∙◌, arith}
-use Rattle.hunk_words.specs.Bits.{has_both_bits}
+use Rattle.std.proofs.Common.{◌+◌, ◌<◌, ℕ, length, refl, sym, subst, arith}
 use Rattle.hunk.specs.Tables.{row_of}
 use Rattle.hunk.proofs.Filling.{filled_more, filled_all}
 use Rattle.hunk.proofs.TableRows.{StandsAt, stands_first, word_room, extra_room, entry_is, stands_next}

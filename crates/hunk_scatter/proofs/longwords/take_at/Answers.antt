@@ -1,4 +1,4 @@
-use Rattle.std.proofs.Common.{◌<◌, refl, arith}
+use Rattle.std.proofs.Common.{◌<◌, arith}
 use Rattle.hunk_scatter.proofs.Runs.{read_offsets}
 use Rattle.hunk_scatter.proofs.WholeLongs.{room_at, read_at, run_taken, read_as}
 use Rattle.hunk_scatter.proofs.longwords.take_at.Goals as goal

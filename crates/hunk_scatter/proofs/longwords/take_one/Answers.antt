@@ -1,4 +1,4 @@
-use Rattle.std.proofs.Common.{◌≡◌, List, [], ℕ, length, sym, subst, arith, ◌∙◌}
+use Rattle.std.proofs.Common.{[], length, sym, subst, arith, ◌∙◌}
 use Rattle.hunk_scatter.specs.BodySteps.{IsInStore}
 use Rattle.hunk_scatter.specs.Rows.{words_of}
 use Rattle.hunk_scatter.specs.declared.body_state.BodyState.{BodyState}

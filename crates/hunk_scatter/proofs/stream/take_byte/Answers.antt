@@ -1,4 +1,4 @@
-use Rattle.std.proofs.Common.{◌≡◌, ◌+◌, ◌-◌, ◌++◌, ◌∷◌, [], ℕ, refl, sym, subst, ◌∙◌, arith}
+use Rattle.std.proofs.Common.{◌≡◌, ◌+◌, ◌-◌, ◌++◌, ◌∷◌, [], ℕ, refl, subst, arith}
 use Rattle.hunk_files.specs.Fault.{HasRefusal}
 use Rattle.hunk_scatter.proofs.BodyFields.{in_room, kept_none, kept_word, refusal_here}
 use Rattle.hunk_scatter.proofs.PendingLaws.{pending_more}

@@ -1,4 +1,4 @@
-use Rattle.std.proofs.Common.{◌≡◌, ◌++◌, [], true, false, ℕ, List, length, take, refl, sym, subst, ◌∙◌, arith, length-take}
+use Rattle.std.proofs.Common.{◌++◌, ℕ, List, take, refl, sym, subst, arith, length-take}
 use Rattle.hunk_files.specs.Fault.{HasRefusal}
 use Rattle.hunk_scatter.specs.BodyLoaderFields.{Reading}
 use Rattle.hunk_scatter.proofs.BodyFields.{in_room, kept_longwords, done_unless_open}

@@ -1,4 +1,4 @@
-use Rattle.std.proofs.Common.{◌≡◌, ◌+◌, ◌-◌, ◌++◌, ◌^◌, ◌<◌, ◌≤◌, ℕ, List, length, take, drop, refl, sym, subst, ◌∙◌, arith}
+use Rattle.std.proofs.Common.{◌++◌, ℕ, List, take, refl, sym, subst, ◌∙◌, arith}
 use Rattle.hunk_scatter.specs.Streaming.{IsFed, StopsAt}
 use Rattle.hunk_scatter.proofs.Faults.{rest_within, fed_on, fed_rest}
 use Rattle.hunk_scatter.proofs.stream.take_piece.Goals as goal

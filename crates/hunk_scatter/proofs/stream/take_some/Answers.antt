@@ -1,4 +1,4 @@
-use Rattle.std.proofs.Common.{◌≡◌, ◌++◌, ℕ, List, take, sym, subst}
+use Rattle.std.proofs.Common.{◌++◌, ℕ, List, subst}
 use Rattle.hunk_scatter.specs.Streaming.{IsFed, StopsAt}
 use Rattle.hunk_scatter.proofs.StreamLaws.{first_byte, stops_front}
 use Rattle.hunk_scatter.proofs.stream.take_some.Goals as goal

@@ -1,4 +1,4 @@
-use Rattle.std.proofs.Common.{rules, ◌≡◌, ◌-◌, List, ℕ, length, arith}
+use Rattle.std.proofs.Common.{rules, ◌≡◌, ◌-◌, length, arith}
 use Rattle.std.proofs.lemmas.List.{take_all}
 use Rattle.hunk_scatter.specs.LoaderValues.{joined}
 use Rattle.hunk_scatter.proofs.Joining.{joined_cut}
