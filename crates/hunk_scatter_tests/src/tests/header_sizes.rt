@@ -51,7 +51,11 @@ fn expect_truncated(rt: &impl Abort, header: &[u8]) {
         let (front, _) = cut_at(header, cut);
         let place = 4 * (cut as u64 / 4);
         let reason = Reason::Truncated;
-        assert_eq!(rt; header_size(front, 1_000), Err(LoadFault { place, reason }), "cut at {cut}");
+        assert_eq!(rt;
+            header_size(front, 1_000),
+            Err(LoadFault { place, reason }),
+            "cut at {cut}"
+        );
     }
 }
 

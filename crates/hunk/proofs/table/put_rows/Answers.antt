@@ -29,7 +29,7 @@ rows-preserved c = λ t h e.
     let size = c.size_word_at-size.result in (
       filled_more row_of t c.rows.rows c.rows.i _ c.row_of.result (entry_is _ t h c.rows.i c.rows.at inv.1 more size.word size.extra c.size_word_at-size.ensures.word c.size_word_at-size.ensures.extra) c.row_of.ensures inv.0,
       subst (λ (n : ℕ). StandsAt c.args.bytes.now t h (c.rows.i + 1) (c.rows.at + n)) (sym c.longs_of-at.ensures.value)
-      (stands_next _ t h c.rows.i c.rows.at inv.1 more size.word size.extra c.size_word_at-size.ensures.word c.size_word_at-size.ensures.extra),
+          (stands_next _ t h c.rows.i c.rows.at inv.1 more size.word size.extra c.size_word_at-size.ensures.word c.size_word_at-size.ensures.extra),
     )
 
 pub returns : goal.returns
