@@ -4,9 +4,19 @@
 # takes them away. They are what `rt run` in crates/hunkinfo and `rt lib` in crates/hunk have built; PROGRAM and LIBRARY name
 # others. It needs a C compiler (CC), for libhunk.so.
 set -eu
+# absolute PATH: where the path leads from the folder in which this is called
+absolute() {
+  case $1 in
+    /*) echo "$1" ;;
+    *) echo "$PWD/$1" ;;
+  esac
+}
+PREFIX=$(absolute "${PREFIX:-/usr/local}")
+DESTDIR=${DESTDIR:+$(absolute "$DESTDIR")}
+LIBRARY=${LIBRARY:+$(absolute "$LIBRARY")}
+PROGRAM=${PROGRAM:+$(absolute "$PROGRAM")}
 cd "$(dirname "$0")"
-PREFIX=${PREFIX:-/usr/local}
-to=${DESTDIR:-}$PREFIX
+to=$DESTDIR$PREFIX
 files="bin/hunkinfo include/hunk.h lib/libhunk.a lib/libhunk.so lib/pkgconfig/hunk.pc share/man/man1/hunkinfo.1
   share/misc/magic.d/hunk"
 if [ "${1:-}" = uninstall ]; then

@@ -12,7 +12,7 @@ pub returns-then-hunks-rows : goal.returns-then-hunks-rows
 returns-then-hunks-rows c =
     let s = c.in-Ok.ensures.size in
     HasNoRows s.table (header_in _ _ _ s) s.within (omega (arith, s.hunks_are, c.if-hunks-rows.true)) refl
-    (c.no_room.ensures ∙ same_answer _ _ _ _ _ _ _ s.hunks_are s.bytes_are s.declared_are)
+    (c.no_room.ensures ∙ same_answer _ _ _ _ _ _ _ (omega (arith, s.hunks_are)) s.bytes_are s.declared_are)
 
 pub put_rows-requires : goal.put_rows-requires
 put_rows-requires c =
