@@ -1,11 +1,14 @@
 -- A header that is read in place, with no memory for its rows.
 use Rattle.std.proofs.Common.{◌≡◌, ℕ, ◌+◌, ◌*◌, ◌/◌, ◌^◌, ◌<◌, ◌≤◌, true, false, List, [], ◌∷◌, ◌++◌, length, take, drop, get_or, refl, sym, ap, subst, ◌∙◌, append-nil, arith, length-append, length-take, length-drop, take-append-drop, map, None, inl, inr}
+use Rattle.std.specs.Prelude.{IsTrue}
 use Rattle.std.proofs.lemmas.List.{get_or-drop}
 use Rattle.std.proofs.Math.Seq.{take-add}
 use Rattle.hunk_words.specs.Longs.{longs, bytes_of, IsLong, IsBytes}
 use Rattle.hunk_words.specs.declared.reason.Reason.{Reason}
+use Rattle.hunk_words.specs.declared.reason.Reason.TheVariants as reasons
 use Rattle.hunk_words.proofs.LongLaws.{bytes_of-append, longs-bytes_of, length-bytes_of, length-longs}
-use Rattle.hunk_files.specs.Fault.{HasRefusal, IsTruncated}
+use Rattle.hunk_files.specs.Fault.{HasRefusal, IsTruncated, is_word_refusal}
+use Rattle.hunk_files.proofs.Refusals.{refusal_of_word}
 use Rattle.hunk_files.specs.Image.{declared_bytes}
 use Rattle.hunk_files.specs.LoadFile.{TableEntry}
 use Rattle.hunk_files.specs.declared.row.Row.{Row}
@@ -15,11 +18,12 @@ use Rattle.hunk_scan.specs.Roles.{refuse}
 use Rattle.hunk_scatter.specs.declared.header_state.HeaderState.{HeaderState}
 use Rattle.hunk_scatter.specs.HeaderBytes.{IsTable, header_bytes, header_words}
 use Rattle.hunk_scatter.specs.HeaderLoaderFields.{adds, declares, RefusesWord, HeaderReading, HeaderLoaderInvariant, HeaderStop}
-use Rattle.hunk_scatter.specs.HeaderFaults.{PassesBudget}
+use Rattle.hunk_scatter.specs.HeaderFaults.{PassesBudget, IsBudgetOrMemory}
 use Rattle.hunk_scatter.specs.HeaderSizes.{RefusesHeader}
 use Rattle.hunk_scatter.specs.Rows.{entries_of, row_of}
-use Rattle.hunk_scatter.proofs.HeaderFields.{heading_new, heading_room, heading_pending, heading_word, heading_table, heading_total, heading_truncated, heading_as}
-use Rattle.hunk_scatter.proofs.HeaderStops.{header_longs, stop_refused, stop_passes}
+use Rattle.hunk_scatter.proofs.HeaderFields.{heading_new, heading_room, heading_pending, heading_word, heading_table, heading_total, heading_truncated, heading_not_whole, heading_as}
+use Rattle.hunk_scatter.proofs.HeaderEnds.{heading_ends}
+use Rattle.hunk_scatter.proofs.HeaderStops.{header_longs, stop_refused, stop_passes, stop_accepts}
 use Rattle.hunk_scatter.proofs.Runs.{in_place}
 
 -- Longwords of a header were read up to this byte, and rows may be named that they complete.
@@ -64,6 +68,16 @@ module _ (budget : ℕ) (bytes : List ℕ) (s : HeaderState) (at : ℕ) (h : Hea
         subst (λ (n : ℕ). IsTruncated bytes n) place
         (subst (λ (xs : List ℕ). IsTruncated xs (4 * (length xs / 4))) whole
         (heading_truncated budget h.rows s end (take at bytes ++ end) (all.reading refl)))
+
+    -- No header is in front of bytes that end there.
+    pub none_cut : length (drop at bytes) < 4 → (t : List TableEntry) (rest : List ℕ) → IsTable t → bytes ≡ header_bytes t ++ rest → ⊥
+    none_cut few t rest is e =
+        let end = drop at bytes in
+        let all = heading_pending budget h.rows s [] at None (take at bytes) h.read refl more end end (length end) refl refl few in
+        let split : take at bytes ++ end ≡ header_bytes t ++ rest = take-append-drop at bytes ∙ e in
+        let none : rest ≡ [] = heading_ends budget h.rows s end (take at bytes ++ end) (all.reading refl) t rest is split in
+        let same : take at bytes ++ end ≡ header_bytes t = split ∙ ap (λ (xs : List ℕ). header_bytes t ++ xs) none ∙ append-nil (header_bytes t) in
+        heading_not_whole budget h.rows s end (take at bytes ++ end) (all.reading refl) more (t, is, same)
 
     module _ (are : IsBytes bytes) (four : 4 ≤ length (drop at bytes)) (w : ℕ) (is : IsLong w) (first : w ≡ get_or (longs (drop at bytes)) 0 0) where
       next : List ℕ
@@ -123,6 +137,22 @@ module _ (budget : ℕ) (bytes : List ℕ) (s : HeaderState) (at : ℕ) (h : Hea
           inl (subst (λ (xs : List ℕ). HasRefusal xs at reason) whole (stop_refused budget (take (at + 4) bytes) (drop (at + 4) bytes) _ (stops_here reason (inl e)) e))
       word_stops reason (inr o) =
           inr (inl (o.reason_is, subst (λ (xs : List ℕ). PassesBudget budget xs at) whole (stop_passes budget (take (at + 4) bytes) (drop (at + 4) bytes) _ (stops_here reason (inr o)) o.passes)))
+
+      -- Where a header is in front, the budget alone refuses it.
+      pub word_accepted : (reason : Reason) → RefusesWord budget s w reason → (t : List TableEntry) (rest : List ℕ) → IsTable t → bytes ≡ header_bytes t ++ rest → reason ≡ reasons.Budget
+      unfolding stops_here
+      word_accepted reason (inr o) t rest is e = o.reason_is
+      word_accepted reason (inl r) t rest is e =
+          by_reason (stop_accepts budget (take (at + 4) bytes) (drop (at + 4) bytes) _ (stops_here reason (inl r)) (record { table = t; is_table = is; more = rest; fits = inr (whole ∙ e) }))
+        where
+          refused : IsTrue (is_word_refusal reason)
+          refused =
+              refusal_of_word (take (at + 4) bytes ++ drop (at + 4) bytes) at reason
+              (stop_refused budget (take (at + 4) bytes) (drop (at + 4) bytes) _ (stops_here reason (inl r)) r)
+
+          by_reason : IsBudgetOrMemory reason → reason ≡ reasons.Budget
+          by_reason (inl b) = b
+          by_reason (inr m) = let no : IsTrue false = subst (λ (x : Reason). IsTrue (is_word_refusal x)) m refused in absurd cc
 
 -- The number of hunks stands behind the first two longwords.
 pub hunks_in : (bytes : List ℕ) (t : List TableEntry) (rest : List ℕ) → IsTable t → bytes ≡ header_bytes t ++ rest → (get_or (longs bytes) 2 0 ≡ length t) × (12 ≤ length bytes)

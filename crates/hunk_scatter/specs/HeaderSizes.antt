@@ -20,6 +20,10 @@ pub record HasHeaderSize (budget : ℕ) (bytes : List ℕ) (size : HeaderSize) :
   pub declared_are : size.declared ≡ declared_bytes table
   pub within : declared_bytes table ≤ budget
 
+-- The bytes begin with the header of some table.
+abbrev pub HasHeaderInFront : List ℕ → Type 0
+HasHeaderInFront bytes = (table : List TableEntry) × (rest : List ℕ) × IsTable table × (bytes ≡ header_bytes table ++ rest)
+
 -- Why a header is refused: a longword is, or with one the declared bytes first pass the budget, or the bytes end.
 abbrev pub RefusesHeader : ℕ → List ℕ → Fault → Type 0
 RefusesHeader budget bytes f =

@@ -1,6 +1,7 @@
 //! The size of a header, read with no memory for its rows.
 ghost use Rattle.std.specs.Prelude.{◌≡◌, IfOk, IfErr};
-ghost use Rattle.hunk_scatter.specs.HeaderSizes.{HasHeaderSize, RefusesHeader};
+ghost use Rattle.hunk_words.specs.declared.reason.Reason.TheVariants as reasons;
+ghost use Rattle.hunk_scatter.specs.HeaderSizes.{HasHeaderInFront, HasHeaderSize, RefusesHeader};
 
 use crate::header_state::{HeaderState, pass_header_word};
 use hunk_scan::Position;
@@ -31,6 +32,8 @@ pub struct HeaderSize {
 pub fn header_size(bytes: &[u8], budget: u64) -> Result<HeaderSize, LoadFault>
     ensures size { IfOk result (HasHeaderSize budget bytes.now) }
     ensures refusal { IfErr result (RefusesHeader budget bytes.now) }
+    ensures accepts { IfErr result
+        (λ f. HasHeaderInFront bytes.now → f.reason ≡ reasons.Budget) }
 {
     let mut state = HeaderState {
         position: Position::FirstLong,

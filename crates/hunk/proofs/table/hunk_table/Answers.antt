@@ -6,7 +6,7 @@ use Rattle.hunk.proofs.TableRows.{header_in}
 use Rattle.hunk.proofs.table.hunk_table.Goals as goal
 
 pub returns-in-Err : goal.returns-in-Err
-returns-in-Err c = HasNoTable c.in-Err.fault c.in-Err.ensures.refusal refl c.refused.ensures
+returns-in-Err c = HasNoTable c.in-Err.fault c.in-Err.ensures.refusal (λ t h. c.in-Err.ensures.accepts (t, h.rest, h.is_table, h.split)) refl c.refused.ensures
 
 pub returns-then-hunks-rows : goal.returns-then-hunks-rows
 returns-then-hunks-rows c =

@@ -2,7 +2,7 @@ use Rattle.std.proofs.Common.{◌∙◌, ℕ, List, length, drop, get_or, refl, 
 use Rattle.std.proofs.lemmas.List.{take_rest}
 use Rattle.hunk_words.specs.Longs.{longs, IsBytes}
 use Rattle.hunk_scatter.specs.Rows.{entries_of}
-use Rattle.hunk_scatter.proofs.HeaderSizes.{none_so_far, so_far_room, header_cut, header_whole, header_total, header_end, word_passes, word_stops, hunks_in}
+use Rattle.hunk_scatter.proofs.HeaderSizes.{none_so_far, none_cut, word_accepted, so_far_room, header_cut, header_whole, header_total, header_end, word_passes, word_stops, hunks_in}
 use Rattle.hunk_scatter.proofs.header_size.header_size.Goals as goal
 
 pub words-init : goal.words-init
@@ -22,6 +22,18 @@ returns-in-Err-clause-refusal c =
     word_stops _ _ _ _ c.words.invariant (sym c.is_behind_header.ensures ∙ c.words-test.true) are
     (omega (arith, ap length rest, c.if-rest-lt4.false)) c.word_at.result (omega arith) (c.word_at.ensures ∙ ap (λ (xs : List ℕ). get_or (longs xs) 0 0) rest)
     c.in-Err.reason c.in-Err.ensures.refusal
+
+pub returns-then-rest-lt4-clause-accepts : goal.returns-then-rest-lt4-clause-accepts
+returns-then-rest-lt4-clause-accepts c (t, more, is, e) =
+    absurd (none_cut _ _ _ _ c.words.invariant (sym c.is_behind_header.ensures ∙ c.words-test.true) (omega (arith, ap length (take_rest c.args.bytes.now c.words.at), c.if-rest-lt4.true)) t more is e)
+
+pub returns-in-Err-clause-accepts : goal.returns-in-Err-clause-accepts
+returns-in-Err-clause-accepts c (t, more, is, e) =
+    let are : IsBytes c.args.bytes.now = λ k. omega (arith, c.type_inv.bytes k) in
+    let rest = take_rest c.args.bytes.now c.words.at in
+    word_accepted _ _ _ _ c.words.invariant (sym c.is_behind_header.ensures ∙ c.words-test.true) are
+    (omega (arith, ap length rest, c.if-rest-lt4.false)) c.word_at.result (omega arith) (c.word_at.ensures ∙ ap (λ (xs : List ℕ). get_or (longs xs) 0 0) rest)
+    c.in-Err.reason c.in-Err.ensures.refusal t more is e
 
 pub words-preserved : goal.words-preserved
 words-preserved c =
