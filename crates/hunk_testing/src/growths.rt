@@ -158,8 +158,8 @@ pub fn left_beside<T: Drop, F: Fn() -> T>(alloc: Global, make: F) -> Result<(T, 
 /// The bytes from one size that the allocator gives to the next.
 const STEP: usize = 16;
 
-/// In how many steps a call has to succeed.
-const STEPS: usize = 400;
+/// In how many steps a call has to succeed: with 40,000 bytes, where the reader of command lines takes 28,000.
+const STEPS: usize = 2_500;
 
 /// The bytes before a room, so many that the allocator does not keep them for requests of their size.
 const FRONT: usize = 4_096;
