@@ -1,6 +1,6 @@
 -- Tables in the caller's rows.
 use Rattle.std.specs.Prelude.{◌≡◌, ℕ, ◌*◌, ◌/◌, ◌^◌, ◌<◌, ◌≤◌, List, ◌++◌, length, map, drop}
-use Rattle.hunk_words.specs.Bits.{size_longs}
+use Rattle.hunk_words.specs.Bits.{size_longs, memory_bits}
 use Rattle.hunk_words.specs.declared.fault.Fault.{Fault}
 use Rattle.hunk_words.specs.declared.reason.Reason.TheVariants as reasons
 use Rattle.hunk_files.specs.Image.{declared_bytes}
@@ -14,7 +14,7 @@ use Rattle.hunk.specs.Loads.{BeginsWithHeader}
 
 -- what the caller sees of an entry
 abbrev pub row_of : TableEntry → TableRow
-row_of e = record { word = e.word; extra = e.extra; bytes = 4 * size_longs e.word; memory = e.word / 2 ^ 30 }
+row_of e = record { word = e.word; extra = e.extra; bytes = 4 * size_longs e.word; memory = memory_bits e.word }
 
 -- The bytes begin with a header of so many hunks.
 abbrev pub BeginsWithTableOf : ℕ → List ℕ → Type 0

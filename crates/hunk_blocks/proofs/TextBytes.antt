@@ -1,12 +1,12 @@
 -- What has been printed of a block's parts, when their longwords and names were printed.
-use Rattle.std.proofs.Common.{◌≡◌, ℕ, ◌+◌, ◌*◌, ◌/◌, ◌^◌, List, [], ◌∷◌, ◌++◌, length, refl, sym, ap, ◌∙◌, append_assoc, append-nil, Option}
+use Rattle.std.proofs.Common.{◌≡◌, ℕ, ◌/◌, ◌^◌, List, [], ◌∷◌, ◌++◌, length, refl, sym, ap, ◌∙◌, append_assoc, append-nil, Option}
 use Rattle.hunk_words.specs.Longs.{bytes_of}
-use Rattle.hunk_words.proofs.LongLaws.{bytes_of-nil, bytes_of-append, bytes_of-cons}
+use Rattle.hunk_words.proofs.LongLaws.{bytes_of-nil, bytes_of-append}
 use Rattle.hunk_blocks.specs.declared.body.Body.{Body}
 use Rattle.hunk_blocks.specs.declared.ext_shape.ExtShape.{ExtShape}
 use Rattle.hunk_blocks.specs.ExtKinds.{ext_shape}
 use Rattle.hunk_blocks.specs.Values.{BlockBody, BlockValue, ExtEntry, RelocGroup, SymbolEntry}
-use Rattle.hunk_blocks.specs.Parts.{block_text, body_text, counted_text, ext_text, group_text, sized_text, symbol_text}
+use Rattle.hunk_blocks.specs.Parts.{block_text, body_text, ext_text, group_text, symbol_text}
 use Rattle.hunk_blocks.specs.Views.{body_of}
 use Rattle.hunk_blocks.proofs.BodyReading.{text_of, body_text_is}
 use Rattle.hunk_blocks.proofs.GroupReading.{group_text_is}

@@ -1,5 +1,6 @@
 -- Reading a block, longword by longword: what has been read of an open block.
-use Rattle.std.specs.Prelude.{◌≡◌, ℕ, zero, suc, ◌/◌, ◌%◌, ◌^◌, List, [], ◌∷◌, ◌++◌, Option, Some, None}
+use Rattle.std.specs.Prelude.{◌≡◌, ℕ, zero, suc, List, [], ◌∷◌, ◌++◌, Option, Some, None}
+use Rattle.hunk_words.specs.Bits.{size_longs, memory_bits, name_longs, entry_type}
 use Rattle.hunk_words.specs.declared.block_word.Kind.{Kind}
 use Rattle.hunk_words.specs.declared.block_word.Kind.TheVariants as kinds
 use Rattle.hunk_blocks.specs.declared.ext_shape.ExtShape.{ExtShape}
@@ -114,7 +115,7 @@ shaped (Some Common) entries word name = Open (AtExtSize entries word name)
 shaped None entries word name = Open (AtExtWord entries)
 
 abbrev pub name_external : List ExtEntry → ℕ → List ℕ → ℕ → BlockNext
-name_external entries word done zero = shaped (ext_shape (word / 2 ^ 24)) entries word done
+name_external entries word done zero = shaped (ext_shape (entry_type word)) entries word done
 name_external entries word done (suc owed) = Open (InExtName entries word done owed)
 
 abbrev pub refer : List ExtEntry → ℕ → List ℕ → ℕ → List ℕ → ℕ → BlockNext
@@ -123,11 +124,11 @@ refer entries word name value done (suc owed) = Open (InExtOffsets entries word 
 
 abbrev pub listed : List ExtEntry → ℕ → BlockNext
 listed entries zero = Whole (Ext entries)
-listed entries (suc w) = name_external entries (suc w) [] (suc w % 2 ^ 24)
+listed entries (suc w) = name_external entries (suc w) [] (name_longs (suc w))
 
 abbrev pub sized_by : Sizing → ℕ → BlockNext
-sized_by ForCode w = fill (SizedCode (w / 2 ^ 30)) [] (w % 2 ^ 30)
-sized_by ForData w = fill (SizedData (w / 2 ^ 30)) [] (w % 2 ^ 30)
+sized_by ForCode w = fill (SizedCode (memory_bits w)) [] (size_longs w)
+sized_by ForData w = fill (SizedData (memory_bits w)) [] (size_longs w)
 sized_by ForBss w = Whole (Bss w)
 
 abbrev pub grouped : List RelocGroup → ℕ → BlockNext
@@ -136,7 +137,7 @@ grouped groups (suc owed) = Open (AtTarget groups owed)
 
 abbrev pub entered : List SymbolEntry → ℕ → BlockNext
 entered entries zero = Whole (Symbol entries)
-entered entries (suc w) = name_entry entries (suc w) [] (suc w % 2 ^ 24)
+entered entries (suc w) = name_entry entries (suc w) [] (name_longs (suc w))
 
 abbrev pub step_inside : Inside → ℕ → BlockNext
 step_inside (AtCount c) w = fill (Counted c) [] w

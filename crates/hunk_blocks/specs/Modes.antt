@@ -1,11 +1,11 @@
 -- The blocks of load files and of object files, and what is refused in a block that stands alone.
-use Rattle.std.specs.Prelude.{◌≡◌, ℕ, ◌/◌, ◌^◌, Bool, true, false, ⊤, IsTrue, nat_lt, if◌then◌else◌, Option, Some, None, ◌⊎◌}
+use Rattle.std.specs.Prelude.{◌≡◌, ℕ, Bool, true, false, ⊤, IsTrue, nat_lt, if◌then◌else◌, Option, Some, None, ◌⊎◌}
 use Rattle.hunk_words.specs.Limits.{name_limit}
 use Rattle.hunk_words.specs.declared.block_word.Kind.{Kind}
 use Rattle.hunk_words.specs.declared.block_word.Kind.TheVariants as kinds
 use Rattle.hunk_words.specs.declared.reason.Reason.{Reason}
 use Rattle.hunk_words.specs.declared.reason.Reason.TheVariants as reasons
-use Rattle.hunk_words.specs.Bits.{has_both_bits, is_advisory, kind}
+use Rattle.hunk_words.specs.Bits.{has_both_bits, is_advisory, kind, entry_type}
 use Rattle.hunk_blocks.specs.declared.mode.Mode.{Mode}
 use Rattle.hunk_blocks.specs.declared.mode.Mode.TheVariants as modes
 use Rattle.hunk_blocks.specs.declared.ext_shape.ExtShape.{ExtShape}
@@ -85,5 +85,5 @@ MayRefuse k reason =
 -- The tests of a longword behind the block word.
 abbrev pub refuse_inside : Part → ℕ → Option Reason
 refuse_inside NameCount w = if nat_lt w name_limit then None else Some reasons.NameWord
-refuse_inside ExtWord w = refuse_shape (ext_shape (w / 2 ^ 24))
+refuse_inside ExtWord w = refuse_shape (ext_shape (entry_type w))
 refuse_inside part w = None

@@ -1,5 +1,6 @@
 -- The text of a block by its parts, one equation a kind.
-use Rattle.std.specs.Prelude.{ℕ, ◌+◌, ◌*◌, ◌^◌, List, [], ◌∷◌, ◌++◌, length, map, Option, Some, None}
+use Rattle.std.specs.Prelude.{ℕ, List, [], ◌∷◌, ◌++◌, length, map, Option, Some, None}
+use Rattle.hunk_words.specs.Bits.{size_word}
 use Rattle.std.specs.List.{flat_map}
 use Rattle.hunk_blocks.specs.declared.ext_shape.ExtShape.{ExtShape}
 use Rattle.hunk_blocks.specs.declared.ext_shape.ExtShape.TheVariants.{Definition, References, Common}
@@ -31,7 +32,7 @@ counted count words = (count, length words) ∷ each Payload words
 
 -- a size word, and as many longwords as its low 30 bits say
 abbrev pub sized : ℕ → List ℕ → List (Part × ℕ)
-sized top words = (ContentSize, top * 2 ^ 30 + length words) ∷ each Payload words
+sized top words = (ContentSize, size_word top (length words)) ∷ each Payload words
 
 abbrev pub group_parts : RelocGroup → List (Part × ℕ)
 group_parts g = (GroupCount, length g.offsets) ∷ (Target, g.target) ∷ each Offset g.offsets
@@ -80,7 +81,7 @@ counted_text words = length words ∷ words
 
 -- of the top two bits of the size word and the payload
 abbrev pub sized_text : (ℕ × List ℕ) → List ℕ
-sized_text s = (s.0 * 2 ^ 30 + length s.1) ∷ s.1
+sized_text s = size_word s.0 (length s.1) ∷ s.1
 
 abbrev pub group_text : RelocGroup → List ℕ
 group_text g = longs_of (group_parts g)

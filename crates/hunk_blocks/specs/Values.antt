@@ -1,11 +1,11 @@
 -- Block values, and which of them are blocks.
-use Rattle.std.specs.Prelude.{◌≡◌, ◌≢◌, ℕ, ◌*◌, ◌%◌, ◌/◌, ◌^◌, ◌<◌, Bool, true, false, List, [], length, ⊤, IsTrue, IsFalse, Option, Some, None}
+use Rattle.std.specs.Prelude.{◌≡◌, ◌≢◌, ℕ, ◌*◌, ◌^◌, ◌<◌, Bool, true, false, List, [], length, ⊤, IsTrue, IsFalse, Option, Some, None}
 use Rattle.std.specs.List.{AllByRecursion}
 use Rattle.hunk_words.specs.Limits.{name_limit, content_limit}
 use Rattle.hunk_words.specs.declared.block_word.Kind.{Kind}
 use Rattle.hunk_words.specs.declared.block_word.Kind.TheVariants as kinds
 use Rattle.hunk_words.specs.Longs.{IsLong, AreLongs}
-use Rattle.hunk_words.specs.Bits.{has_both_bits, is_advisory, kind, size_longs}
+use Rattle.hunk_words.specs.Bits.{has_both_bits, is_advisory, kind, size_longs, entry_type, name_longs}
 use Rattle.hunk_blocks.specs.declared.ext_shape.ExtShape.{ExtShape}
 use Rattle.hunk_blocks.specs.declared.ext_shape.ExtShape.TheVariants.{Definition, References, Common}
 use Rattle.hunk_blocks.specs.ExtKinds.{ext_shape}
@@ -48,7 +48,7 @@ pub record BlockValue : Type 0 where
 
 -- the number of its type
 abbrev pub ext_type : ExtEntry → ℕ
-ext_type e = e.word / 2 ^ 24
+ext_type e = entry_type e.word
 
 -- ---- which values are blocks
 
@@ -69,7 +69,7 @@ pub record IsGroup (g : RelocGroup) : Type 0 where
 pub record IsEntryWord (word : ℕ) (name : List ℕ) : Type 0 where
   pub fits : IsLong word
   pub goes_on : word ≢ 0
-  pub count : length name ≡ word % 2 ^ 24
+  pub count : length name ≡ name_longs word
   pub longs : AreLongs name
 
 pub record IsSymbolEntry (s : SymbolEntry) : Type 0 where

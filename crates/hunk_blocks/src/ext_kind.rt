@@ -1,5 +1,6 @@
 //! The types of EXT entries.
-ghost use Rattle.std.specs.Prelude.{◌≡◌, ◌/◌, ◌^◌, ◌<◌, ◌≤◌, IfSome, length};
+ghost use Rattle.std.specs.Prelude.{◌≡◌, ◌<◌, ◌≤◌, IfSome, length};
+ghost use Rattle.hunk_words.specs.Bits.{entry_type};
 ghost use Rattle.hunk_blocks.specs.ExtKinds.{ext_code, ext_kind, ext_name, ext_shape, ext_width, shape_of_kind};
 
 use crate::ext_shape::ExtShape;
@@ -125,7 +126,7 @@ impl ExtKind {
 /// The type of an entry with this word, by its top byte.
 #[inline(always)]
 pub(crate) fn kind_of(word: u32) -> Option<ExtKind>
-    ensures { result ≡ ext_kind (word / 2 ^ 24) }
+    ensures { result ≡ ext_kind (entry_type word) }
 {
     ExtKind::from_code((word >> 24) as u8)
 }
@@ -134,7 +135,7 @@ pub(crate) fn kind_of(word: u32) -> Option<ExtKind>
 /// of the type, since the decoder asks it of each entry.
 #[tactic(auto, unfolding(crate::specs::ExtKinds::ext_kind))]
 pub(crate) fn shape_of(word: u32) -> Option<ExtShape>
-    ensures { result ≡ ext_shape (word / 2 ^ 24) }
+    ensures { result ≡ ext_shape (entry_type word) }
 {
     match word >> 24 {
         0 | 1 | 2 => Some(ExtShape::Definition),

@@ -1,5 +1,6 @@
 -- The first longword that is refused.
 use Rattle.std.specs.Prelude.{◌≡◌, ℕ, ◌+◌, ◌≤◌, ◌*◌, ◌-◌, if◌then◌else◌, Bool, true, false, List, ◌++◌, length, take, ◌⊎◌}
+use Rattle.hunk_words.specs.Bits.{header_word}
 use Rattle.std.specs.List.{AllByRecursion}
 use Rattle.hunk_words.specs.declared.reason.Reason.{Reason}
 use Rattle.hunk_words.specs.declared.reason.Reason.TheVariants as reasons
@@ -25,7 +26,7 @@ HasRefusal bytes at reason = RefusalOf loads (longs bytes) at reason
 -- The longword that completes a load text at this role: no more hunks, names, sizes, groups or entries than were
 -- announced, an empty BSS block where the hunk has no content, and the end of the hunk.
 abbrev pub completing : Role → ℕ
-completing roles.FirstLong = 0x3F3
+completing roles.FirstLong = header_word
 completing roles.TableSize = 1
 completing (roles.LastHunk hunks) = hunks - 1
 completing (InBlock p parts.BlockWord) = if p.has_content then 0x3F2 else 0x3EB

@@ -1,7 +1,7 @@
 -- The text of a load file: its longwords, each with its role.
 use Rattle.std.specs.Prelude.{ℕ, ◌-◌, Bool, false, ◌||◌, List, [], ◌∷◌, ◌++◌, length, map, if◌then◌else◌}
 use Rattle.std.specs.List.{flat_map}
-use Rattle.hunk_words.specs.Bits.{has_both_bits}
+use Rattle.hunk_words.specs.Bits.{has_both_bits, header_word}
 use Rattle.hunk_blocks.specs.Values.{BlockValue}
 use Rattle.hunk_blocks.specs.Parts.{block_parts}
 use Rattle.hunk_files.specs.LoadFile.{TableEntry, HunkValue, LoadFileValue, declared_longs, standing}
@@ -14,7 +14,7 @@ entry_labelled e = (SizeWord, e.word) ∷ (if has_both_bits e.word then (Attribu
 -- The header of a file with this table.
 abbrev pub header_labelled : List TableEntry → List (Role × ℕ)
 header_labelled table =
-    (FirstLong, 0x3F3) ∷ (ResidentName, 0) ∷ (TableSize, length table) ∷ (FirstHunk, 0) ∷ (LastHunk (length table), length table - 1)
+    (FirstLong, header_word) ∷ (ResidentName, 0) ∷ (TableSize, length table) ∷ (FirstHunk, 0) ∷ (LastHunk (length table), length table - 1)
     ∷ flat_map entry_labelled table
 
 abbrev pub block_labelled : Place → BlockValue → List (Role × ℕ)

@@ -6,7 +6,7 @@ use Rattle.hunk_words.specs.declared.reason.Reason.TheVariants as reasons
 use Rattle.hunk_words.specs.Limits.{name_limit}
 use Rattle.hunk_words.specs.declared.block_word.Kind.{Kind}
 use Rattle.hunk_words.specs.declared.block_word.Kind.TheVariants as kinds
-use Rattle.hunk_words.specs.Bits.{has_both_bits, is_advisory, kind}
+use Rattle.hunk_words.specs.Bits.{has_both_bits, is_advisory, kind, entry_type}
 use Rattle.hunk_words.specs.Longs.{longs}
 use Rattle.hunk_blocks.specs.ExtKinds.{ext_kind}
 use Rattle.hunk_blocks.specs.Values.{BlockValue, IsBlock}
@@ -121,7 +121,7 @@ abbrev pub refuse_object : ObjectRole → ℕ → Option Reason
 refuse_object (WordAt place) w = refuse_word place w
 refuse_object UnitCount w = refuse_count w
 refuse_object (Within parts.NameCount) w = refuse_count w
-refuse_object (Within parts.ExtWord) w = refuse_ext_type (w / 2 ^ 24)
+refuse_object (Within parts.ExtWord) w = refuse_ext_type (entry_type w)
 refuse_object role w = None
 
 -- ---- the grammar

@@ -1,8 +1,8 @@
 -- Where a reader of a load file stands, in numbers alone: what the next longword is for, and what it leads to.
-use Rattle.std.specs.Prelude.{ℕ, zero, suc, ◌+◌, ◌-◌, ◌*◌, ◌%◌, ◌^◌, ◌≤◌, Bool, true, false, if◌then◌else◌}
+use Rattle.std.specs.Prelude.{ℕ, zero, suc, ◌+◌, ◌-◌, ◌*◌, ◌≤◌, Bool, true, false, if◌then◌else◌}
 use Rattle.hunk_words.specs.declared.block_word.Kind.{Kind}
 use Rattle.hunk_words.specs.declared.block_word.Kind.TheVariants as kinds
-use Rattle.hunk_words.specs.Bits.{has_both_bits, kind}
+use Rattle.hunk_words.specs.Bits.{has_both_bits, kind, name_longs, size_longs}
 use Rattle.hunk_blocks.specs.Parts.{Part, Part as parts}
 use Rattle.hunk_scan.specs.declared.phase.OpenHunk.{OpenHunk}
 use Rattle.hunk_scan.specs.declared.phase.Phase.{Phase}
@@ -97,14 +97,14 @@ owe_symbol o (suc owed) = at o (phases.Symbol owed)
 -- The name, and the value behind it; a word of 0 ends the entries.
 abbrev pub owe_symbols : OpenHunk → ℕ → Position
 owe_symbols o zero = at o phases.BlockWord
-owe_symbols o (suc w) = owe_symbol o (suc (suc w % 2 ^ 24))
+owe_symbols o (suc w) = owe_symbol o (suc (name_longs (suc w)))
 
 abbrev pub step_in : OpenHunk → Phase → ℕ → Position
 step_in o phases.FirstBlock w = begin o (kind w)
 step_in o phases.BlockWord w = begin o (kind w)
 step_in o phases.NameCount w = owe_payload o w
 step_in o phases.LongCount w = owe_payload o w
-step_in o phases.ContentSize w = owe_content o (w % 2 ^ 30) (w % 2 ^ 30)
+step_in o phases.ContentSize w = owe_content o (size_longs w) (size_longs w)
 step_in o phases.BssSize w = at (with_content o) phases.BlockWord
 step_in o (phases.Content longs owed) w = owe_content o longs owed
 step_in o (phases.Payload owed) w = owe_payload o owed

@@ -5,7 +5,7 @@ use Rattle.hunk_words.specs.declared.block_word.Kind.{Kind}
 use Rattle.hunk_words.specs.declared.block_word.Kind.TheVariants as kinds
 use Rattle.hunk_words.specs.declared.reason.Reason.{Reason}
 use Rattle.hunk_words.specs.declared.reason.Reason.TheVariants as reasons
-use Rattle.hunk_words.specs.Bits.{size_longs, has_both_bits, is_advisory, kind}
+use Rattle.hunk_words.specs.Bits.{size_longs, has_both_bits, is_advisory, kind, header_word}
 use Rattle.hunk_blocks.specs.Parts.{Part, Part as parts}
 
 -- What is known of the file and the hunk where a longword of a block stands: the number of hunks, the
@@ -70,7 +70,7 @@ refuse_part p part w = None
 -- The tests of a longword, in order; none where it is accepted.
 abbrev pub refuse : Role → ℕ → Option Reason
 refuse FirstLong w =
-    if w == 0x3F3 then None
+    if w == header_word then None
     else if w == 0x3E7 then Some reasons.IsObject
     else if w == 0x3FA then Some reasons.Library
     else Some reasons.NotLoadFile

@@ -1,5 +1,6 @@
--- The bit fields of size words and block words.
-use Rattle.std.specs.Prelude.{ℕ, ◌/◌, ◌%◌, ◌^◌, ◌==◌, Bool, if◌then◌else◌}
+-- The bit fields of size words, block words, and the words of SYMBOL and EXT entries.
+use Rattle.std.specs.Prelude.{ℕ, ◌+◌, ◌*◌, ◌/◌, ◌%◌, ◌^◌, ◌==◌, Bool, if◌then◌else◌}
+use Rattle.hunk_words.specs.Limits.{name_limit, content_limit}
 use Rattle.hunk_words.specs.declared.block_word.Kind.{Kind}
 use Rattle.hunk_words.specs.declared.block_word.Kind.TheVariants as kinds
 use Rattle.hunk_words.specs.declared.size_word.Memory.{Memory}
@@ -9,18 +10,26 @@ use Rattle.hunk_words.specs.declared.size_word.Memory.TheVariants as memories
 
 -- the number of longwords, in the low 30 bits
 abbrev pub size_longs : ℕ → ℕ
-size_longs word = word % 2 ^ 30
+size_longs word = word % content_limit
 
--- Bits 30 and 31 are both set: in a header's table one more longword follows, and no block word may have them.
+-- bits 30 and 31 above them, which ask for a memory
+abbrev pub memory_bits : ℕ → ℕ
+memory_bits word = word / content_limit
+
+-- the word of these two bits and so many longwords
+abbrev pub size_word : ℕ → ℕ → ℕ
+size_word bits longs = bits * content_limit + longs
+
+-- Both bits are set: in a header's table one more longword follows, and no block word may have them.
 abbrev pub has_both_bits : ℕ → Bool
-has_both_bits word = word / 2 ^ 30 == 3
+has_both_bits word = memory_bits word == 3
 
--- the memory that bits 30 and 31 ask for, with the longword that follows where both are set
+-- the memory that the bits ask for, with the longword that follows where both are set
 abbrev pub memory_of : ℕ → ℕ → Memory
 memory_of word extra =
-    if word / 2 ^ 30 == 0 then memories.Any
-    else if word / 2 ^ 30 == 1 then memories.Chip
-    else if word / 2 ^ 30 == 2 then memories.Fast
+    if memory_bits word == 0 then memories.Any
+    else if memory_bits word == 1 then memories.Chip
+    else if memory_bits word == 2 then memories.Fast
     else memories.Attributes extra
 
 -- ---- block words
@@ -35,10 +44,14 @@ is_advisory word = word / 2 ^ 29 % 2 == 1
 
 -- its memory flags, bits 30 and 31
 abbrev pub is_chip : ℕ → Bool
-is_chip word = word / 2 ^ 30 % 2 == 1
+is_chip word = memory_bits word % 2 == 1
 
 abbrev pub is_fast : ℕ → Bool
 is_fast word = word / 2 ^ 31 % 2 == 1
+
+-- the block word of a header, with which a load file begins
+abbrev pub header_word : ℕ
+header_word = 0x3F3
 
 abbrev pub kind_of_number : ℕ → Kind
 kind_of_number n =
@@ -54,7 +67,7 @@ kind_of_number n =
     else if n == 0x3F0 then kinds.Symbol
     else if n == 0x3F1 then kinds.Debug
     else if n == 0x3F2 then kinds.End
-    else if n == 0x3F3 then kinds.Header
+    else if n == header_word then kinds.Header
     else if n == 0x3F5 then kinds.Overlay
     else if n == 0x3F6 then kinds.Break
     else if n == 0x3F7 then kinds.Drel32
@@ -70,3 +83,13 @@ kind_of_number n =
 -- the kind of a block, by the low 29 bits of its word
 unfoldable pub kind : ℕ → Kind
 kind word = kind_of_number (word % 2 ^ 29)
+
+-- ---- words of entries
+
+-- the number of longwords of the name, in the low 24 bits
+abbrev pub name_longs : ℕ → ℕ
+name_longs word = word % name_limit
+
+-- the type of an external entry, in the 8 bits above them
+abbrev pub entry_type : ℕ → ℕ
+entry_type word = word / name_limit

@@ -1,5 +1,6 @@
 //! Size words.
-ghost use Rattle.std.specs.Prelude.{◌≡◌, ◌*◌, ◌^◌, ◌<◌};
+ghost use Rattle.std.specs.Prelude.{◌≡◌, ◌*◌, ◌<◌};
+ghost use Rattle.hunk_words.specs.Limits.{content_limit};
 ghost use Rattle.hunk_words.specs.Bits.{has_both_bits, memory_of, size_longs};
 
 /// The memory that a hunk asks for.
@@ -30,7 +31,7 @@ impl SizeWord {
     /// The number of longwords, from 0 to 1,073,741,823.
     pub fn longs(self) -> u32
         ensures value { result ≡ size_longs self.word }
-        ensures bound { result < 2 ^ 30 }
+        ensures bound { result < content_limit }
     {
         self.word & Self::LONGS
     }

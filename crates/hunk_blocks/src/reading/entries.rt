@@ -1,5 +1,6 @@
 //! Reading the entries of an EXT block.
-ghost use Rattle.std.specs.Prelude.{◌≡◌, ◌≢◌, ◌/◌, ◌^◌, [], ◌∷◌, IfErr, IfOk, OnErr, Some, map, ◌⊎◌};
+ghost use Rattle.std.specs.Prelude.{◌≡◌, ◌≢◌, [], ◌∷◌, IfErr, IfOk, OnErr, Some, map, ◌⊎◌};
+ghost use Rattle.hunk_words.specs.Bits.{entry_type};
 ghost use Rattle.std.specs.List.{AllByRecursion};
 ghost use Rattle.std.specs.Option.{option_map};
 ghost use Rattle.hunk_words.specs.declared.reason.Reason.TheVariants as reasons;
@@ -24,7 +25,7 @@ use std::alloc::Global;
 /// The name and the value behind this word.
 fn definition<'a>(reader: &mut LongReader<'a>, word: u32) -> Result<Entry<'a>, BlockFault>
     requires goes_on { word ≢ 0 }
-    requires shape { ext_shape (word / 2 ^ 24) ≡ Some shapes.Definition }
+    requires shape { ext_shape (entry_type word) ≡ Some shapes.Definition }
     ensures read { IfOk result (λ e. IsExtEntry (entry_of e) × ((before : Unread) →
         Reads before reader.old (word ∷ []) → Reads before reader.new (ext_text (entry_of e)))) }
     ensures none { OnErr result ((before : Unread) →
@@ -46,7 +47,7 @@ fn definition<'a>(reader: &mut LongReader<'a>, word: u32) -> Result<Entry<'a>, B
 /// The name, the count and the offsets behind this word.
 fn reference<'a>(reader: &mut LongReader<'a>, word: u32) -> Result<Entry<'a>, BlockFault>
     requires goes_on { word ≢ 0 }
-    requires shape { ext_shape (word / 2 ^ 24) ≡ Some shapes.References }
+    requires shape { ext_shape (entry_type word) ≡ Some shapes.References }
     ensures read { IfOk result (λ e. IsExtEntry (entry_of e) × ((before : Unread) →
         Reads before reader.old (word ∷ []) → Reads before reader.new (ext_text (entry_of e)))) }
     ensures none { OnErr result ((before : Unread) →
@@ -68,7 +69,7 @@ fn reference<'a>(reader: &mut LongReader<'a>, word: u32) -> Result<Entry<'a>, Bl
 /// The name, the size, the count and the offsets behind this word.
 fn common<'a>(reader: &mut LongReader<'a>, word: u32) -> Result<Entry<'a>, BlockFault>
     requires goes_on { word ≢ 0 }
-    requires shape { ext_shape (word / 2 ^ 24) ≡ Some shapes.Common }
+    requires shape { ext_shape (entry_type word) ≡ Some shapes.Common }
     ensures read { IfOk result (λ e. IsExtEntry (entry_of e) × ((before : Unread) →
         Reads before reader.old (word ∷ []) → Reads before reader.new (ext_text (entry_of e)))) }
     ensures none { OnErr result ((before : Unread) →

@@ -1,5 +1,6 @@
 //! Reading payloads.
-ghost use Rattle.std.specs.Prelude.{◌≡◌, ◌%◌, ◌^◌, ◌<◌, IfErr, IfOk, OnErr, length, ◌⊎◌};
+ghost use Rattle.std.specs.Prelude.{◌≡◌, ◌^◌, ◌<◌, IfErr, IfOk, OnErr, length, ◌⊎◌};
+ghost use Rattle.hunk_words.specs.Bits.{name_longs};
 ghost use Rattle.hunk_words.specs.Limits.{name_limit};
 ghost use Rattle.hunk_words.specs.declared.reason.Reason.TheVariants as reasons;
 ghost use Rattle.hunk_words.specs.Longs.{AreLongs, longs};
@@ -51,8 +52,8 @@ pub(crate) fn read_entry_name<'a>(
     word: u32,
 ) -> Result<Payload<'a>, BlockFault>
     ensures read { IfOk result (λ p. Reads reader.old reader.new (longs p)) }
-    ensures count { IfOk result (λ p. (length (longs p) ≡ word % 2 ^ 24) × AreLongs (longs p)) }
-    ensures short { OnErr result (length reader.old.rest < word % 2 ^ 24) }
+    ensures count { IfOk result (λ p. (length (longs p) ≡ name_longs word) × AreLongs (longs p)) }
+    ensures short { OnErr result (length reader.old.rest < name_longs word) }
     ensures fit { AreLongs reader.old.rest }
     ensures fault { IfErr result (λ fault. fault ≡ cut reader.old) }
 {

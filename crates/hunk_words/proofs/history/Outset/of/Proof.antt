@@ -1,16 +1,13 @@
 -- `of` makes the struct without bytes, with what its clause names.
-use Rattle.std.proofs.Common.{[], ◌∷◌, ◌++◌, refl}
+use Rattle.std.proofs.Common.{[], ◌∷◌, refl}
 use Rattle.std.proofs.raw_atomic.Walks.{proved}
 use mir.MapTy.{inst_fn}
 use mir.Syntax.{Args, a_type, dcons, dnil, named}
 use mir.Val.{vstruct, vnil}
-use base.Fml.{ftrue}
-use types.Kit.{raw, ‵, ◌⊛◌, ◌$◌, ◌∵◌, !, qed, move, keep, drop, split, suffices, done}
+use types.Kit.{raw, ‵, ◌⊛◌, ◌$◌, ◌∵◌, !, qed, move, keep, split, suffices, done}
 use types.Part.{agg}
 use types.Run.{enter, returns, no_more}
 use types.ByLocal.{alloc_all, pass_all, free_all, look_at, sets}
-use contract.BorrowLft.{◌⊑◌}
-use contract.Monad.{fact}
 use denote.Exit.{yes}
 use denote.Param.{bounded, param}
 use denote.RattleType.{RattleType, owns}
