@@ -1,7 +1,6 @@
 //! What follows the word of a block.
-ghost use Rattle.std.specs.Prelude.{◌≡◌, ◌*◌, length};
+ghost use Rattle.std.specs.Prelude.{◌≡◌, ◌*◌};
 ghost use Rattle.hunk_words.specs.Bits.{size_longs};
-ghost use Rattle.hunk_words.specs.Longs.{longs};
 ghost use Rattle.hunk_blocks.specs.Values.{content_bytes};
 ghost use Rattle.hunk_blocks.specs.Views.{body_of};
 
@@ -45,19 +44,12 @@ impl Body<'_> {
         ensures { result ≡ content_bytes (body_of self.now) }
     {
         match self {
-            Body::Code { top: _, payload } => Some(payload_bytes(payload)),
-            Body::Data { top: _, payload } => Some(payload_bytes(payload)),
+            Body::Code { top: _, payload } => Some(payload.byte_count()),
+            Body::Data { top: _, payload } => Some(payload.byte_count()),
             Body::Bss { size } => Some(bss_bytes(*size)),
             _ => None,
         }
     }
-}
-
-/// How many bytes the payload has, those of whole longwords.
-fn payload_bytes(payload: &Payload<'_>) -> u64
-    ensures { result ≡ 4 * length (longs payload.now) }
-{
-    payload.bytes().len() as u64
 }
 
 /// How many bytes the size word of a BSS block says.

@@ -1,5 +1,5 @@
 //! Payloads and names, as slices of the input.
-ghost use Rattle.std.specs.Prelude.{◌≡◌, ◌%◌, length};
+ghost use Rattle.std.specs.Prelude.{◌≡◌, ◌*◌, ◌%◌, length};
 ghost use Rattle.hunk_words.specs.Longs.{bytes_of, longs};
 
 use std::marker::Model;
@@ -36,6 +36,14 @@ impl<'a> Payload<'a> {
         ensures longwords { bytes_of (longs result.now) ≡ result.now }
     {
         self.bytes
+    }
+
+    /// The number of bytes: 4 for each longword.
+    pub fn byte_count(&self) -> u64
+        ensures { result ≡ 4 * length (longs self.now) }
+    {
+        let bytes = self.bytes();
+        bytes.len() as u64
     }
 
     /// How many longwords there are.

@@ -1,5 +1,5 @@
 -- The longwords of an object file with their roles, the tests of them, and the first that is refused.
-use Rattle.std.specs.Prelude.{◌≡◌, ◌≢◌, ℕ, ◌*◌, ◌/◌, ◌^◌, ◌<◌, Bool, true, false, ◌||◌, ◌==◌, nat_lt, List, [], ◌∷◌, ◌++◌, length, map, ⊤, if◌then◌else◌, Option, Some, None, is_some, ◌⊎◌}
+use Rattle.std.specs.Prelude.{◌≡◌, ◌≢◌, ℕ, ◌*◌, ◌<◌, Bool, true, false, ◌||◌, ◌==◌, nat_lt, List, [], ◌∷◌, ◌++◌, length, map, ⊤, if◌then◌else◌, Option, Some, None, is_some, ◌⊎◌}
 use Rattle.std.specs.List.{flat_map, AllByRecursion}
 use Rattle.hunk_words.specs.declared.reason.Reason.{Reason}
 use Rattle.hunk_words.specs.declared.reason.Reason.TheVariants as reasons

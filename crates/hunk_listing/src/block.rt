@@ -29,7 +29,7 @@ pub(crate) fn print_block<W: Sink>(page: &mut Printer<'_, W>, block: &Block<'_>)
         Body::Reloc(groups) => print_relocations(page, word, groups),
         Body::Ext(entries) => print_entries(page, word, entries),
         Body::Symbol(symbols) => print_symbols(page, word, symbols),
-        Body::Debug(payload) => print_size(page, word, payload_bytes(payload)),
+        Body::Debug(payload) => print_size(page, word, payload.byte_count()),
         Body::End => print_end(page, word),
         Body::Advisory(payload) => print_advisory(page, word, payload),
     }
@@ -76,13 +76,6 @@ fn print_content_size<W: Sink>(page: &mut Printer<'_, W>, word: BlockWord, body:
     print_size(page, word, body.content_bytes().unwrap_or(0));
 }
 
-/// How many bytes the payload has, those of whole longwords.
-fn payload_bytes(payload: &Payload<'_>) -> u64
-    ensures { result ≡ 4 * length (longs payload.now) }
-{
-    payload.bytes().len() as u64
-}
-
 #[tactic(auto, unfolding(crate::specs::BlockLines::count_line))]
 fn print_count<W: Sink>(page: &mut Printer<'_, W>, word: BlockWord, count: u64)
     ensures { Prints page.old page.new (count_line word count) }
@@ -109,7 +102,7 @@ fn print_end<W: Sink>(page: &mut Printer<'_, W>, word: BlockWord)
 fn print_advisory<W: Sink>(page: &mut Printer<'_, W>, word: BlockWord, payload: &Payload<'_>)
     ensures { Prints page.old page.new (advisory_line word (4 * length (longs payload.now))) }
 {
-    let mut line = begin_advisory_line(word, payload_bytes(payload));
+    let mut line = begin_advisory_line(word, payload.byte_count());
     put_memory_flags(&mut line, word);
     line.put(b"\n");
     line.print(page);

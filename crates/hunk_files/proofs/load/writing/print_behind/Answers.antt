@@ -1,7 +1,7 @@
-use Rattle.std.proofs.Common.{◌++◌, ◌∙◌, sym, ap, append_assoc}
+use Rattle.std.proofs.Common.{◌++◌, ◌∙◌, ap, append_assoc}
 use Rattle.hunk_words.specs.Longs.{bytes_of}
 use Rattle.hunk_files.specs.Tables.{row_texts}
-use Rattle.hunk_files.proofs.TextParts.{all_blocks, behind_split, numbers, printed_two}
+use Rattle.hunk_files.proofs.TextParts.{all_blocks, behind_split, printed_two}
 use Rattle.hunk_files.proofs.load.writing.print_behind.Goals as goal
 
 pub returns : goal.returns

@@ -1,5 +1,4 @@
 use Rattle.std.proofs.Common.{◌++◌, ◌∙◌, sym, ap}
-use Rattle.hunk_words.specs.Longs.{bytes_of}
 use Rattle.hunk_files.proofs.TextParts.{row_two, row_one, printed_two}
 use Rattle.hunk_files.proofs.load.writing.print_row.Goals as goal
 
