@@ -1,6 +1,6 @@
 /* Loads a hunk file as it comes, and prints the sum of the bytes of each hunk: stream [BASE] < FILE
  *
- * Only the table of the hunks, the first call, asks for memory. */
+ * No call of the library asks for memory. */
 #include "hunk.h"
 #include <inttypes.h>
 #include <stdio.h>
