@@ -155,8 +155,9 @@ struct hunk_place {
     uint32_t base;  /* the address of its first byte */
 };
 
-/* Where a loader stands: 64 bytes. A program has only to keep them: any numbers may stand here, and
- * those that no loader may have are answered by HUNK_STRANGE. Zero bytes are such. */
+/* Where a loader stands: 64 bytes. A program has only to keep them. Any numbers may stand here:
+ * zero bytes are answered by HUNK_STRANGE, and so are those with which a call would leave the
+ * places or the memory. Not all numbers that no loader may have are found out. */
 struct hunk_loader {
     uint64_t start;        /* the byte of the memory where the open hunk begins */
     uint64_t fed;          /* the bytes of header and body that were taken */
