@@ -10,7 +10,8 @@ use hunk_words::Fault;
 
 /// Where a loader stands between two pieces: 64 bytes, with no padding.
 ///
-/// Any numbers may stand here. Those that no loader has are answered by `STRANGE`.
+/// Any numbers may stand here. Zeros are answered by `STRANGE`, and so are those that lead out of the rows
+/// or the memory.
 #[repr(C)]
 #[derive(Clone, Copy, Debug, PartialEq, Eq)]
 pub struct Loader {

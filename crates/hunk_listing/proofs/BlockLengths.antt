@@ -14,7 +14,7 @@ use Rattle.hunk_listing.specs.BlockLines.{advisory_line, block_lines, body_lines
 use Rattle.hunk_listing.specs.BlockNames.{memory_flags}
 use Rattle.hunk_listing.specs.Printed.{hexadecimal, name_text}
 use Rattle.hunk_listing.proofs.BlockLaws.{offsets_within}
-use Rattle.hunk_listing.proofs.LineLengths.{fits_either, fits3, fits4, fits5, fits7, fits9, length-head, length-hexadecimal, length-memory_flags, length-name, length-number, length-type}
+use Rattle.hunk_listing.proofs.LineLengths.{fits3, fits4, fits5, fits7, fits9, length-head, length-hexadecimal, length-memory_flags, length-name, length-number, length-type}
 
 -- ---- lists
 

@@ -1,8 +1,8 @@
 //! A loader of a body in memory that is its caller's: the rows, the store, and a few numbers between
 //! two pieces. No call takes memory.
 //!
-//! The numbers may be any. Those of no loader with these rows and this store are found out, each in
-//! constant time, before the store is touched.
+//! The numbers may be any. Those that lead out of the rows or the store are found out, each in constant
+//! time, before the store is touched.
 ghost use Rattle.std.specs.Prelude.{◌≡◌, ◌+◌, ◌<◌, ◌≤◌, ◌^◌, ℕ, List, [], ◌∷◌, ◌++◌, length, take, true, false, IfOk, MatchResult, replicate};
 ghost use Rattle.hunk_words.specs.Limits.{most_hunks};
 ghost use Rattle.hunk_scan.specs.Positions.{is_done};

@@ -1,6 +1,6 @@
 use Rattle.std.proofs.Common.{◌≡◌, ◌∙◌, ℕ, Option, Some, None, refl, ap, sym, true, false, arith}
 use Rattle.std.specs.Prelude.{is_some, unwrap_or}
-use Rattle.hunk_blocks.specs.Values.{BlockBody, content_bytes}
+use Rattle.hunk_blocks.specs.Values.{content_bytes}
 use Rattle.hunk_files.specs.LoadFile.{standing}
 use Rattle.hunk_files.proofs.ContentBlocks.{content_has}
 use Rattle.hunk_scan.specs.Standings.{is_content}
