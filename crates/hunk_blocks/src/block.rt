@@ -1,5 +1,6 @@
 //! Blocks.
-ghost use Rattle.std.specs.Prelude.{◌≡◌, ◌≢◌, ℕ, ◌+◌, ◌*◌, ◌^◌, ◌<◌, ◌≤◌, true, Err, IfErr, IfOk, IsErr, IsTrue, OnErr, OnOk, Some, is_err, length};
+ghost use Rattle.std.specs.Prelude.{◌≡◌, ◌≢◌, ℕ, ◌+◌, ◌*◌, ◌^◌, ◌<◌, ◌≤◌, true, Err, IfErr, IfOk};
+ghost use Rattle.std.specs.Prelude.{IsErr, IsTrue, OnErr, OnOk, Some, is_err, length};
 ghost use Rattle.hunk_words.specs.declared.reason.Reason.{Reason};
 ghost use Rattle.hunk_words.specs.declared.reason.Reason.TheVariants as reasons;
 ghost use Rattle.hunk_words.specs.Longs.{bytes_of, longs};

@@ -1,5 +1,6 @@
 //! `relocate`: a load file is loaded as it comes, and its segments are printed.
-ghost use Rattle.std.specs.Prelude.{◌≡◌, ◌⊎◌, ◌+◌, ◌^◌, ◌<◌, ℕ, List, Some, false, length, take, IfErr, IsErrAnd, IsTrue, OnOk};
+ghost use Rattle.std.specs.Prelude.{◌≡◌, ◌⊎◌, ◌+◌, ◌^◌, ◌<◌, ℕ, List, Some, false, length, take};
+ghost use Rattle.std.specs.Prelude.{IfErr, IsErrAnd, IsTrue, OnOk};
 ghost use Rattle.hunk_words.specs.Prints.{Prints};
 ghost use Rattle.hunk_words.specs.declared.fault.Fault.{Fault};
 ghost use Rattle.hunk_words.specs.declared.reason.Reason.TheVariants.{Budget};
@@ -7,7 +8,8 @@ ghost use Rattle.hunk_commands.specs.declared.fault.RunFault.TheVariants.{Memory
 ghost use Rattle.hunk_files.specs.Fault.{HasFault};
 ghost use Rattle.hunk_scatter.specs.LoaderReasons.{is_of_file};
 ghost use Rattle.hunk_scatter.specs.HeaderFaults.{PassesBudget};
-ghost use Rattle.hunk_scatter.specs.LoadOutcomes.{Gives, GivesAtMost, HasFileWithin, IsLoadFault, StopsBehindFile, StopsBehindHeader};
+ghost use Rattle.hunk_scatter.specs.LoadOutcomes.{Gives, GivesAtMost, HasFileWithin, IsLoadFault};
+ghost use Rattle.hunk_scatter.specs.LoadOutcomes.{StopsBehindFile, StopsBehindHeader};
 ghost use Rattle.hunk_commands.specs.Engine.{StopsAtWrite};
 ghost use Rattle.hunk_commands.specs.Faults.{IsOfLoad};
 ghost use Rattle.hunk_commands.specs.Output.{PutsText, StopsOutput};

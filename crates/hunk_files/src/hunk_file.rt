@@ -1,11 +1,15 @@
 //! A load file or an object file, as its first longword announces.
-ghost use Rattle.std.specs.Prelude.{◌≡◌, ◌≢◌, ◌+◌, ◌^◌, ◌<◌, ◌≤◌, true, IfErr, IfOk, IsErr, OnErr, OnOk, is_err, length};
+ghost use Rattle.std.specs.Prelude.{◌≡◌, ◌≢◌, ◌+◌, ◌^◌, ◌<◌, ◌≤◌, true, IfErr, IfOk, IsErr, OnErr};
+ghost use Rattle.std.specs.Prelude.{OnOk, is_err, length};
 ghost use Rattle.hunk_words.specs.Longs.{longs};
 ghost use Rattle.hunk_words.specs.Puts.{Puts};
 ghost use Rattle.hunk_words.specs.declared.reason.Reason.TheVariants as reasons;
 ghost use Rattle.hunk_scan.specs.FileKind.{sniffed};
 ghost use Rattle.hunk_files.specs.Fault.{BeginsWithLoadFile};
-ghost use Rattle.hunk_files.specs.HunkFile.{AreFile, AreObjectFile, IsFileOf, IsLoadMemory, IsLoadRefusal, IsMemory, IsObjectMemory, IsObjectRefusal, IsRefusal, bytes_behind, file_bytes, stripped};
+ghost use Rattle.hunk_files.specs.HunkFile.{AreFile, AreObjectFile, IsFileOf, IsLoadMemory};
+ghost use Rattle.hunk_files.specs.HunkFile.{IsLoadRefusal, IsMemory, IsObjectMemory};
+ghost use Rattle.hunk_files.specs.HunkFile.{IsObjectRefusal, IsRefusal, bytes_behind, file_bytes};
+ghost use Rattle.hunk_files.specs.HunkFile.{stripped};
 
 use crate::load::LoadFile;
 use crate::object::ObjectFile;

@@ -5,7 +5,9 @@ ghost use Rattle.hunk_words.specs.Longs.{longs};
 ghost use Rattle.hunk_blocks.specs.Values.{Ext, Reloc, Symbol};
 ghost use Rattle.hunk_blocks.specs.Views.{body_of, entry_of, group_of, symbol_of};
 ghost use Rattle.hunk_files.specs.Findings.{content_size};
-ghost use Rattle.hunk_listing.specs.BlockLines.{advisory_line, block_lines, body_lines, count_line, end_line, group_lines, head, name_line, offset_count, size_line, symbol_line};
+ghost use Rattle.hunk_listing.specs.BlockLines.{advisory_line, block_lines, body_lines, count_line};
+ghost use Rattle.hunk_listing.specs.BlockLines.{end_line, group_lines, head, name_line};
+ghost use Rattle.hunk_listing.specs.BlockLines.{offset_count, size_line, symbol_line};
 
 use crate::entry::print_entry;
 use crate::line::{LINE, Line};

@@ -5,7 +5,8 @@ ghost use Rattle.std.specs.List.{flat_map};
 ghost use Rattle.hunk_words.specs.declared.size_word.Memory.TheVariants.{Attributes};
 ghost use Rattle.hunk_files.specs.Tables.{entry_of};
 ghost use Rattle.hunk_listing.specs.BlockLines.{block_lines};
-ghost use Rattle.hunk_listing.specs.FileLines.{hunk_line, hunk_lines, load_head, load_line, memory_text, numbered, rest_line};
+ghost use Rattle.hunk_listing.specs.FileLines.{hunk_line, hunk_lines, load_head, load_line};
+ghost use Rattle.hunk_listing.specs.FileLines.{memory_text, numbered, rest_line};
 
 use crate::block::print_block;
 use crate::line::{LINE, Line};

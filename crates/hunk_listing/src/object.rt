@@ -4,7 +4,8 @@ ghost use Rattle.hunk_words.specs.Prints.{Prints};
 ghost use Rattle.hunk_words.specs.Longs.{longs};
 ghost use Rattle.hunk_files.specs.Findings.{hunk_bytes};
 ghost use Rattle.hunk_files.specs.ObjectFile.{IsObjectHunk};
-ghost use Rattle.hunk_listing.specs.FileLines.{numbered, object_hunk_line, object_hunk_lines, object_line, unit_line, unit_lines};
+ghost use Rattle.hunk_listing.specs.FileLines.{numbered, object_hunk_line, object_hunk_lines};
+ghost use Rattle.hunk_listing.specs.FileLines.{object_line, unit_line, unit_lines};
 
 use crate::line::Line;
 use crate::load::print_blocks;

@@ -6,7 +6,8 @@ ghost use Rattle.clap.specs.Kinds.{IsAmong};
 ghost use Rattle.clap.specs.Faults.{fault_of as clap_fault};
 ghost use Rattle.hunk_orders.specs.Command as spec;
 ghost use Rattle.hunk_orders.specs.Asked.{IsHelp};
-ghost use Rattle.hunk_orders.specs.Line.{entered_order, order_of, relocate_order, rewrite_order, show_order, taken, validate_order};
+ghost use Rattle.hunk_orders.specs.Line.{entered_order, order_of, relocate_order, rewrite_order};
+ghost use Rattle.hunk_orders.specs.Line.{show_order, taken, validate_order};
 ghost use Rattle.hunk_orders.specs.declared.asked.OrderFault.TheVariants.{Line, Memory};
 
 mod command;

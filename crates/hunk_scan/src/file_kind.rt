@@ -2,6 +2,8 @@
 ghost use Rattle.std.specs.Prelude.{◌≡◌};
 ghost use Rattle.hunk_scan.specs.FileKind.{announced};
 
+use hunk_words::HEADER_WORD;
+
 /// The kind of file that a first longword announces.
 ///
 /// Source: the block numbers of `dos/doshunks.h`.
@@ -23,7 +25,7 @@ impl Sniff {
         ensures { result ≡ announced first }
     {
         match first {
-            0x3F3 => Sniff::Load,
+            HEADER_WORD => Sniff::Load,
             0x3E7 => Sniff::Object,
             0x3FA => Sniff::Library,
             _ => Sniff::Other,

@@ -1,7 +1,8 @@
 //! Positions in a load file.
 ghost use Rattle.std.specs.Prelude.{◌≡◌, ◌≤◌, ◌<◌, ◌^◌, false};
 ghost use Rattle.hunk_scan.specs.Positions as positions;
-ghost use Rattle.hunk_scan.specs.Positions.{step, run, pass, offsets, pass_offsets, least_longs, is_done, is_behind_header, is_between_hunks};
+ghost use Rattle.hunk_scan.specs.Positions.{step, run, pass, offsets, pass_offsets, least_longs};
+ghost use Rattle.hunk_scan.specs.Positions.{is_done, is_behind_header, is_between_hunks};
 
 use crate::phase::{OpenHunk, Phase, open_next};
 use hunk_words::SizeWord;

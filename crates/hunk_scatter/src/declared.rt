@@ -1,5 +1,6 @@
 //! A table whose hunks are not placed.
-ghost use Rattle.std.specs.Prelude.{◌≡◌, ◌+◌, ◌*◌, ◌<◌, ◌≤◌, length, map, slice_get, Some, None, replicate, IfOk, IfErr};
+ghost use Rattle.std.specs.Prelude.{◌≡◌, ◌+◌, ◌*◌, ◌<◌, ◌≤◌, length, map, slice_get, Some, None};
+ghost use Rattle.std.specs.Prelude.{replicate, IfOk, IfErr};
 ghost use Rattle.hunk_files.specs.Image.{declared_bytes};
 ghost use Rattle.hunk_scatter.specs.HeaderBytes.{header_bytes};
 ghost use Rattle.hunk_scatter.specs.Placing.{AreBases, IsUnplacedFor};

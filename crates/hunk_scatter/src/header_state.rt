@@ -1,5 +1,6 @@
 //! Where a reader of the header stands: a few numbers.
-ghost use Rattle.std.specs.Prelude.{◌≡◌, ◌+◌, ◌<◌, ◌≤◌, ◌^◌, ◌++◌, IfOk, IfErr, OnOk, IfSome, IfNone, None, Some, [], ◌∷◌, map, false};
+ghost use Rattle.std.specs.Prelude.{◌≡◌, ◌+◌, ◌<◌, ◌≤◌, ◌^◌, ◌++◌, IfOk, IfErr, OnOk, IfSome};
+ghost use Rattle.std.specs.Prelude.{IfNone, None, Some, [], ◌∷◌, map, false};
 ghost use Rattle.hunk_scan.specs.Roles.{refuse};
 ghost use Rattle.hunk_scan.specs.Positions.{role_at, step, is_behind_header};
 ghost use Rattle.hunk_scatter.specs.HeaderLoaderFields as heading;

@@ -1,5 +1,7 @@
 //! A load from a source.
-ghost use Rattle.std.specs.Prelude.{◌≡◌, ℕ, ◌*◌, ◌+◌, ◌/◌, ◌<◌, ◌≤◌, Bool, List, [], ◌++◌, length, take, None, Some, IfOk, IfErr, OnOk, OnErr, MatchResult, IsErrAnd, IsTrue};
+ghost use Rattle.std.specs.Prelude.{◌≡◌, ℕ, ◌*◌, ◌+◌, ◌/◌, ◌<◌, ◌≤◌, Bool, List, [], ◌++◌, length};
+ghost use Rattle.std.specs.Prelude.{take, None, Some, IfOk, IfErr, OnOk, OnErr, MatchResult};
+ghost use Rattle.std.specs.Prelude.{IsErrAnd, IsTrue};
 ghost use Rattle.std.specs.Io.KnownBytes.{Consumes};
 ghost use Rattle.hunk_words.specs.Longs.{bytes_of};
 ghost use Rattle.hunk_words.specs.declared.reason.Reason.TheVariants as reasons;
@@ -11,8 +13,11 @@ ghost use Rattle.hunk_scatter.specs.LoaderReasons.{is_of_file, is_of_load};
 ghost use Rattle.hunk_scatter.specs.HeaderBytes.{IsTable, header_bytes};
 ghost use Rattle.hunk_scatter.specs.HeaderFaults.{PassesBudget, IsOverBudget};
 ghost use Rattle.hunk_scatter.specs.LoaderValues.{IsImageOf};
-ghost use Rattle.hunk_scatter.specs.LoadOutcomes.{Gives, GivesAtMost, HasFileWithin, IsBodyStop, IsHeaderStop, IsLoadFault, IsLoaded, IsReadFault};
-ghost use Rattle.hunk_scatter.specs.LoadOutcomes.{IsWithinFile, IsWithinHeader, KeepsToHeader, LoadEnds, StopsBehindFile, StopsBehindHeader, TellsFailure};
+ghost use Rattle.hunk_scatter.specs.LoadOutcomes.{Gives, GivesAtMost, HasFileWithin, IsBodyStop};
+ghost use Rattle.hunk_scatter.specs.LoadOutcomes.{IsHeaderStop, IsLoadFault, IsLoaded, IsReadFault};
+ghost use Rattle.hunk_scatter.specs.LoadOutcomes.{IsWithinFile, IsWithinHeader, KeepsToHeader};
+ghost use Rattle.hunk_scatter.specs.LoadOutcomes.{LoadEnds, StopsBehindFile, StopsBehindHeader};
+ghost use Rattle.hunk_scatter.specs.LoadOutcomes.{TellsFailure};
 ghost use Rattle.hunk_scatter.specs.Placing.{HasBases};
 
 use crate::body_loader::BodyLoader;

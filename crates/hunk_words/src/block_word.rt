@@ -7,6 +7,9 @@ ghost use Rattle.hunk_words.specs.KindNames.{name_of_kind};
 use crate::size_word::has_both_bits;
 use std::marker::Model;
 
+/// The block word of a header, with which a load file begins: no flags, and the type HEADER.
+pub const HEADER_WORD: u32 = 0x3F3;
+
 /// The type of a block, with the names of `dos/doshunks.h`.
 #[derive(Clone, Copy, Debug, PartialEq, Eq)]
 pub enum Kind {
@@ -166,7 +169,7 @@ impl BlockWord {
             0x3F0 => Kind::Symbol,
             0x3F1 => Kind::Debug,
             0x3F2 => Kind::End,
-            0x3F3 => Kind::Header,
+            HEADER_WORD => Kind::Header,
             0x3F5 => Kind::Overlay,
             0x3F6 => Kind::Break,
             0x3F7 => Kind::Drel32,

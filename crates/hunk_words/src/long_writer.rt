@@ -1,5 +1,6 @@
 //! The writer of longwords.
-ghost use Rattle.std.specs.Prelude.{◌≡◌, ◌+◌, ◌^◌, ◌<◌, [], ◌∷◌, true, false, length, is_err, OnOk, IfErr, OnErr, IsErr, Some};
+ghost use Rattle.std.specs.Prelude.{◌≡◌, ◌+◌, ◌^◌, ◌<◌, [], ◌∷◌, true, false, length, is_err, OnOk};
+ghost use Rattle.std.specs.Prelude.{IfErr, OnErr, IsErr, Some};
 ghost use Rattle.hunk_words.specs.FaultLines.{write_line};
 ghost use Rattle.hunk_words.specs.Puts.{Puts};
 ghost use Rattle.hunk_words.specs.Longs.{bytes_of};

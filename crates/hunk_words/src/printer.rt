@@ -1,5 +1,6 @@
 //! A page of fixed size before a writer.
-ghost use Rattle.std.specs.Prelude.{◌≡◌, ℕ, List, Option, ◌+◌, ◌^◌, ◌<◌, ◌++◌, [], ◌∷◌, true, false, length, is_err, not, OnOk, IfErr, OnErr};
+ghost use Rattle.std.specs.Prelude.{◌≡◌, ℕ, List, Option, ◌+◌, ◌^◌, ◌<◌, ◌++◌, [], ◌∷◌, true};
+ghost use Rattle.std.specs.Prelude.{false, length, is_err, not, OnOk, IfErr, OnErr};
 ghost use Rattle.hunk_words.specs.Longs.{bytes_of};
 ghost use Rattle.hunk_words.specs.Prints.{Loses, Prints, Sends};
 ghost use Rattle.hunk_words.specs.Puts.{Puts, PutsBefore};

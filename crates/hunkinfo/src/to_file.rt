@@ -1,5 +1,6 @@
 //! A file that is created at its first byte.
-ghost use Rattle.std.specs.Prelude.{◌≡◌, ◌≤◌, ◌↔◌, true, false, length, is_err, not, IfOk, IsErr, IsErrAnd, option_and_then};
+ghost use Rattle.std.specs.Prelude.{◌≡◌, ◌≤◌, ◌↔◌, true, false, length, is_err, not, IfOk, IsErr};
+ghost use Rattle.std.specs.Prelude.{IsErrAnd, option_and_then};
 ghost use Rattle.std.specs.Io.KnownBytes.{WriteAppends};
 ghost use Rattle.hunkinfo.specs.Settling.{IsLoss};
 

@@ -1,9 +1,11 @@
 //! The memory of a load file's hunks.
-ghost use Rattle.std.specs.Prelude.{◌≡◌, ◌≢◌, ◌↔◌, ◌+◌, ◌*◌, ◌^◌, ◌<◌, ◌≤◌, ◌++◌, Err, IfOk, OnOk, length, map, vec_len};
+ghost use Rattle.std.specs.Prelude.{◌≡◌, ◌≢◌, ◌↔◌, ◌+◌, ◌*◌, ◌^◌, ◌<◌, ◌≤◌, ◌++◌, Err, IfOk, OnOk};
+ghost use Rattle.std.specs.Prelude.{length, map, vec_len};
 ghost use Rattle.std.specs.List.{flat_map};
 ghost use Rattle.hunk_words.specs.Bits.{size_longs};
 ghost use Rattle.hunk_blocks.specs.Views.{group_of};
-ghost use Rattle.hunk_files.specs.Image.{add_at, block_content, block_relocations, group_relocations, image, images, relocated, relocations};
+ghost use Rattle.hunk_files.specs.Image.{add_at, block_content, block_relocations};
+ghost use Rattle.hunk_files.specs.Image.{group_relocations, image, images, relocated, relocations};
 ghost use Rattle.hunk_files.specs.Relocating.{IsRelocatable};
 ghost use Rattle.hunk_files.specs.Tables.{hunk_of};
 ghost use Rattle.hunk_files.specs.declared.load.image.ImageFault.TheVariants as faults;

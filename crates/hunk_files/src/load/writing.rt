@@ -13,17 +13,14 @@ use crate::load::file::LoadFile;
 use crate::load::hunk::LoadHunk;
 use crate::row::Row;
 use crate::writing::print_blocks;
-use hunk_words::{LongWriter, Printer, Sink, SizeWord, WriteFault};
-
-/// The longword that a load file begins with.
-const HEADER: u32 = 0x3F3;
+use hunk_words::{HEADER_WORD, LongWriter, Printer, Sink, SizeWord, WriteFault};
 
 impl LoadFile<'_> {
     /// Prints the file's text.
     pub(super) fn print<W: Sink>(&self, page: &mut Printer<'_, W>)
         ensures { Prints page.old page.new (bytes_of (text self.now)) }
     {
-        page.print_long(HEADER);
+        page.print_long(HEADER_WORD);
         print_behind(page, &self.hunks);
     }
 

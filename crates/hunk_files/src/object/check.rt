@@ -2,7 +2,10 @@
 ghost use Rattle.std.specs.Prelude.{◌≡◌, ◌^◌, ◌<◌, ◌≤◌, length, map};
 ghost use Rattle.std.specs.List.{flat_map};
 ghost use Rattle.hunk_blocks.specs.Views.{entry_of, group_of};
-ghost use Rattle.hunk_files.specs.Findings.{body_findings, content_size, entry_findings, finding, findings, group_findings, hunk_bytes, hunk_findings, hunks_findings, outside, reference_width, relocation_findings, relocation_width};
+ghost use Rattle.hunk_files.specs.Findings.{body_findings, content_size, entry_findings, finding};
+ghost use Rattle.hunk_files.specs.Findings.{findings, group_findings, hunk_bytes, hunk_findings};
+ghost use Rattle.hunk_files.specs.Findings.{hunks_findings, outside, reference_width};
+ghost use Rattle.hunk_files.specs.Findings.{relocation_findings, relocation_width};
 
 use crate::object::file::ObjectFile;
 use crate::object::taker::TakesFindings;

@@ -1,5 +1,6 @@
 //! Reading the units, hunks and blocks of an object file, one after the other.
-ghost use Rattle.std.specs.Prelude.{◌≡◌, ◌≢◌, ◌+◌, ◌*◌, ◌^◌, ◌≤◌, ◌<◌, ◌↔◌, None, IfErr, IfOk, OnErr, IsTrue, length, drop, slice_index};
+ghost use Rattle.std.specs.Prelude.{◌≡◌, ◌≢◌, ◌+◌, ◌*◌, ◌^◌, ◌≤◌, ◌<◌, ◌↔◌, None, IfErr, IfOk};
+ghost use Rattle.std.specs.Prelude.{OnErr, IsTrue, length, drop, slice_index};
 ghost use Rattle.std.specs.List.{flat_map};
 ghost use Rattle.hunk_words.specs.Limits.{name_limit};
 ghost use Rattle.hunk_words.specs.Longs.{longs};
@@ -12,8 +13,10 @@ ghost use Rattle.hunk_blocks.specs.Faults.{FaultAhead};
 ghost use Rattle.hunk_blocks.specs.Reading.{BeginsWithNo, cut};
 ghost use Rattle.hunk_files.specs.LoadFile.{standing};
 ghost use Rattle.hunk_scan.specs.Standings.{is_content, refuse_standing};
-ghost use Rattle.hunk_files.specs.ObjectFile.{IsNoObjectFile, is_object_refusal, IsObjectHunk, IsUnit, unit_header, unit_text, unit_word};
-ghost use Rattle.hunk_files.specs.ObjectFault.{WordPlace, BetweenHunks, MayBegin, MayGoOn, blocks_from, units_from, unread};
+ghost use Rattle.hunk_files.specs.ObjectFile.{IsNoObjectFile, is_object_refusal, IsObjectHunk};
+ghost use Rattle.hunk_files.specs.ObjectFile.{IsUnit, unit_header, unit_text, unit_word};
+ghost use Rattle.hunk_files.specs.ObjectFault.{WordPlace, BetweenHunks, MayBegin, MayGoOn};
+ghost use Rattle.hunk_files.specs.ObjectFault.{blocks_from, units_from, unread};
 ghost use Rattle.hunk_files.specs.ObjectParts.{BeginsWithText, EndsUnit, MayStand};
 
 use crate::object::refusal::{UNIT, refuse_unit_word, truncated};
