@@ -24,6 +24,10 @@ size_word bits longs = bits * content_limit + longs
 abbrev pub has_both_bits : ℕ → Bool
 has_both_bits word = memory_bits word == 3
 
+-- how many longwords an entry of a table has that begins with this size word
+abbrev pub entry_longs : ℕ → ℕ
+entry_longs word = if has_both_bits word then 2 else 1
+
 -- the memory that the bits ask for, with the longword that follows where both are set
 abbrev pub memory_of : ℕ → ℕ → Memory
 memory_of word extra =

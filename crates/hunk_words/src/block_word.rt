@@ -13,31 +13,53 @@ pub const HEADER_WORD: u32 = 0x3F3;
 /// The type of a block, with the names of `dos/doshunks.h`.
 #[derive(Clone, Copy, Debug, PartialEq, Eq)]
 pub enum Kind {
+    /// 3E7: the name of a unit, with which each unit of an object file begins.
     Unit,
+    /// 3E8: the name of a hunk.
     Name,
+    /// 3E9: the content of a hunk, code.
     Code,
+    /// 3EA: the content of a hunk, data.
     Data,
+    /// 3EB: a hunk of zero bytes, of which only the size is in the file.
     Bss,
+    /// 3EC: relocations of 4 bytes.
     Reloc32,
+    /// 3ED: relocations of 2 bytes, in object files.
     Reloc16,
+    /// 3EE: relocations of 1 byte, in object files.
     Reloc8,
+    /// 3EF: definitions, references and common blocks, in object files.
     Ext,
+    /// 3F0: symbols with their values, for debuggers.
     Symbol,
+    /// 3F1: debug data.
     Debug,
+    /// 3F2: the end of a hunk.
     End,
+    /// 3F3: the header of a load file.
     Header,
+    /// 3F5: the table of an overlay.
     Overlay,
+    /// 3F6: the end of an overlay.
     Break,
-    /// Number 1015, in a load file the short relocations of V37's LoadSeg.
+    /// 3F7: relocations of 4 bytes in object files, in load files the short ones of V37's LoadSeg.
     Drel32,
+    /// 3F8: relocations of 2 bytes, in object files.
     Drel16,
+    /// 3F9: relocations of 1 byte, in object files.
     Drel8,
+    /// 3FA: a library.
     Lib,
+    /// 3FB: the index of a library.
     Index,
+    /// 3FC: relocations with offsets of 16 bits.
     Reloc32Short,
+    /// 3FD: relative relocations of 4 bytes, in object files.
     RelReloc32,
+    /// 3FE: absolute relocations of 2 bytes, in object files.
     AbsReloc16,
-    /// A number that `dos/doshunks.h` gives no name, 1012 among them.
+    /// A number that `dos/doshunks.h` gives no name, 3F4 among them.
     Unknown(u32),
 }
 

@@ -15,7 +15,9 @@ use std::fmt;
 /// header where a load is refused the memory of its segments.
 #[derive(Clone, Copy, Debug, PartialEq, Eq)]
 pub struct Fault {
+    /// The byte at which it is refused, counted from the start of the input.
     pub place: u64,
+    /// Why it is refused.
     pub reason: Reason,
 }
 

@@ -6,7 +6,7 @@ use crate::long_writer::LongWriter;
 use crate::sink::Sink;
 use std::marker::Model;
 
-/// The bytes so far. A clause reads them as `bytes`.
+/// The bytes so far, for clauses alone, which read them as `bytes`.
 #[derive(Debug, Drop)]
 pub struct History {
     pub ghost bytes: { List ℕ },
@@ -17,12 +17,14 @@ impl Model for History {
 }
 
 impl History {
+    /// A history of no bytes.
     pub fn new() -> History
         ensures { result.bytes ≡ [] }
     {
         History {}
     }
 
+    /// This history with the piece behind it. The piece is for the contract alone.
     pub fn and(&self, _piece: &[u8]) -> History
         ensures { result.bytes ≡ self.now.bytes ++ _piece.now }
     {

@@ -13,6 +13,7 @@ use std::marker::Model;
 /// Says that a put failed, and how many bytes have gone out since the writer was made.
 #[derive(Clone, Copy, Debug, PartialEq, Eq)]
 pub struct WriteFault {
+    /// The bytes that have gone out: the first of all that was put.
     pub written: u64,
 }
 
@@ -90,10 +91,12 @@ impl<W: Sink> LongWriter<W> {
         sink
     }
 
-    /// Writes the bytes.
+    /// Writes the bytes. Fewer than 2^64 bytes may be put in all.
     ///
-    /// At a `WriteFault` the sink failed, now or before, and just the first `written` bytes of all
-    /// that was ever put have gone out.
+    /// # Errors
+    ///
+    /// A `WriteFault` where the sink failed, now or before: just the first `written` bytes of all that
+    /// was ever put have gone out. Each later put writes nothing, and answers the same.
     #[tactic(auto, using(crate::proofs::PutLaws::puts_none, crate::proofs::PutLaws::puts_front))]
     pub fn put_bytes(&mut self, bytes: &[u8]) -> Result<(), WriteFault>
         requires { self.old.written + length bytes.now < 2 ^ 64 }
@@ -129,7 +132,11 @@ impl<W: Sink> LongWriter<W> {
         Ok(())
     }
 
-    /// Writes the longword, high byte first. A `WriteFault` is as in `put_bytes`.
+    /// Writes the longword, high byte first. Fewer than 2^64 bytes may be put in all.
+    ///
+    /// # Errors
+    ///
+    /// A `WriteFault`, as at `put_bytes`.
     #[tactic(auto, unfolding(crate::specs::Longs::bytes_of))]
     pub fn put_long(&mut self, word: u32) -> Result<(), WriteFault>
         requires { self.old.written + 4 < 2 ^ 64 }

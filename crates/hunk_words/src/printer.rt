@@ -12,7 +12,8 @@ use crate::sink::Sink;
 use std::fmt;
 use std::marker::Model;
 
-/// A printer with a page for a whole text.
+/// A printer with a page of 81,920 bytes, which is a part of the printer itself and so stands on the
+/// stack: few writes for a text of any length, and no memory is taken.
 pub type Printer<'a, W> = PagePrinter<'a, W, PAGE>;
 
 /// Prints a text through a page of fixed size, which goes out when it is full, and at `flush`.
@@ -63,7 +64,7 @@ impl<W: Sink, const ROOM: usize> fmt::Debug for PagePrinter<'_, W, ROOM> {
 }
 
 impl<'a, W: Sink, const ROOM: usize> PagePrinter<'a, W, ROOM> {
-    /// A printer that has printed nothing yet.
+    /// A printer that has printed nothing yet. Its `requires` only names what the sink has taken.
     pub fn new(out: &'a mut LongWriter<W>) -> PagePrinter<'a, W, ROOM>
         ghost taken: { Option (List ℕ) }
         requires { W.taken out.old.sink ≡ taken }
@@ -107,10 +108,12 @@ impl<'a, W: Sink, const ROOM: usize> PagePrinter<'a, W, ROOM> {
         self.print(word.to_be_bytes().as_slice());
     }
 
-    /// Sends what is still held.
+    /// Sends what is still held. Fewer than 2^64 bytes may be printed and put in all.
     ///
-    /// At a `WriteFault` the sink failed, now or before, and just the first `written` bytes of all
-    /// that was ever put have gone out.
+    /// # Errors
+    ///
+    /// A `WriteFault` where the sink failed, now or before: just the first `written` bytes of all that
+    /// was ever put have gone out.
     #[tactic(auto, using(crate::proofs::PrintLaws::flushing))]
     pub fn flush(&mut self) -> Result<(), WriteFault>
         requires { self.old.origin.written + length self.old.text < 2 ^ 64 }

@@ -1,7 +1,8 @@
 //! The reasons of refusals.
-ghost use Rattle.std.specs.Prelude.{◌≡◌, ◌<◌, ◌⊎◌, Some, MatchOption};
+ghost use Rattle.std.specs.Prelude.{◌≡◌, ℕ, ◌<◌, ◌⊎◌, Some, MatchOption};
 ghost use Rattle.hunk_words.specs.FaultLines.{reason_line};
 ghost use Rattle.hunk_words.specs.Reasons.{name_of, number_of};
+ghost use Rattle.hunk_words.specs.declared.reason.Reason.TheVariants as reasons;
 
 use std::error::Error;
 use std::fmt;
@@ -113,11 +114,13 @@ impl Reason {
         }
     }
 
-    /// The reason of a number; none for a number that no reason has.
+    /// The reason that has this number, or `None` where no reason has it.
     ///
-    /// The numbers are 1 to 31. A number does not say a hunk: 29 is `NoBase` of hunk 0.
+    /// The numbers are 1 to 31. A number names no hunk: 29 is `NoBase` of hunk 0.
     pub fn from_number(number: u32) -> Option<Reason>
-        ensures { MatchOption result ((number ≡ 0) ⊎ (31 < number)) (λ reason. number_of reason ≡ number) }
+        ensures value { MatchOption result ((number ≡ 0) ⊎ (31 < number))
+            (λ reason. number_of reason ≡ number) }
+        ensures no_hunk { (hunk : ℕ) → result ≡ Some (reasons.NoBase hunk) → hunk ≡ 0 }
     {
         match number {
             1 => Some(Reason::NotLoadFile),

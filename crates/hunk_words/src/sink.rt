@@ -9,8 +9,9 @@ use std::marker::Model;
 
 /// What bytes are pushed to.
 ///
-/// `taken` is the bytes that pushes have put there so far, where that is known. `failed` says whether
-/// a push has failed: an `Err` sets it, and nothing else does, for good.
+/// `taken` is the bytes that it has, those that it had before any push among them, where that is
+/// known. `failed` says whether a push has answered an `Err`: that sets it, and nothing else does,
+/// for good.
 pub trait Sink {
     ghost taken: { Self → Option (List ℕ) };
 
@@ -18,7 +19,11 @@ pub trait Sink {
 
     /// Takes a first part of the bytes and gives the number of its bytes.
     ///
-    /// Of a non-empty slice it is at least 1. An `Err` takes nothing.
+    /// Of a non-empty slice it is at least 1.
+    ///
+    /// # Errors
+    ///
+    /// `Failed` where the bytes could not be written. Nothing is taken then.
     fn push(&mut self, bytes: &[u8]) -> Result<usize, Failed>
         ensures fits { IfOk result (λ n. n ≤ length bytes.now) }
         ensures some { 0 < length bytes.now → IfOk result (λ n. 0 < n) }

@@ -1,7 +1,10 @@
 //! Size words.
-ghost use Rattle.std.specs.Prelude.{◌≡◌, ◌*◌, ◌<◌};
+ghost use Rattle.std.specs.Prelude.{◌≡◌, ◌+◌, ◌*◌, ◌<◌, ◌≤◌, IsTrue, if◌then◌else◌, length, slice_index};
 ghost use Rattle.hunk_words.specs.Limits.{content_limit};
-ghost use Rattle.hunk_words.specs.Bits.{has_both_bits, memory_of, size_longs};
+ghost use Rattle.hunk_words.specs.Bits.{entry_longs, has_both_bits, memory_of, size_longs};
+ghost use Rattle.hunk_words.specs.Longs.{longs};
+
+use crate::longword::word_at;
 
 /// The memory that a hunk asks for.
 #[derive(Clone, Copy, Debug, PartialEq, Eq)]
@@ -21,12 +24,33 @@ pub enum Memory {
 /// The low 30 bits count longwords; bits 30 and 31 name the memory (The AmigaDOS Manual; `dos/doshunks.h`).
 #[derive(Clone, Copy, Debug, PartialEq, Eq)]
 pub struct SizeWord {
+    /// The size word.
     pub word: u32,
+    /// The memory attributes, or 0 where the size word has none.
     pub extra: u32,
 }
 
 impl SizeWord {
     const LONGS: u32 = 0x3FFF_FFFF;
+
+    /// The entry of a table whose size word is the longword number `i` of the bytes, counted from 0.
+    #[inline(always)]
+    pub fn at(bytes: &[u8], i: usize) -> SizeWord
+        requires word { 4 * i + 4 ≤ length bytes.now }
+        requires extra { IsTrue (has_both_bits (slice_index (longs bytes.now) i)) →
+            4 * i + 8 ≤ length bytes.now }
+        ensures word { result.word ≡ slice_index (longs bytes.now) i }
+        ensures extra { result.extra ≡ (if has_both_bits (slice_index (longs bytes.now) i)
+            then slice_index (longs bytes.now) (i + 1) else 0) }
+    {
+        let word = word_at(bytes, i);
+        let extra = if SizeWord::has_extra(word) {
+            word_at(bytes, i + 1)
+        } else {
+            0
+        };
+        SizeWord { word, extra }
+    }
 
     /// The number of longwords, from 0 to 1,073,741,823.
     pub fn longs(self) -> u32
@@ -60,6 +84,16 @@ impl SizeWord {
         ensures { result ≡ has_both_bits word }
     {
         has_both_bits(word)
+    }
+
+    /// How many longwords the entry of a table has that begins with this size word: 2 where memory
+    /// attributes follow it, else 1.
+    #[inline(always)]
+    pub fn entry_longs(word: u32) -> usize
+        ensures value { result ≡ entry_longs word }
+        ensures bound { result ≤ 2 }
+    {
+        if SizeWord::has_extra(word) { 2 } else { 1 }
     }
 }
 

@@ -25,7 +25,7 @@ impl Error for Failed {}
 /// What bytes are pulled from.
 ///
 /// `left` is the bytes that pulls will give from here on, where that is known. `failed` says whether
-/// a pull has failed: an `Err` sets it, and nothing else does, for good.
+/// a pull has answered an `Err`: that sets it, and nothing else does, for good.
 pub trait Source {
     ghost left: { Self → Option (List ℕ) };
 
@@ -33,7 +33,12 @@ pub trait Source {
 
     /// Fills a first part of the buffer and gives the number of its bytes.
     ///
-    /// It is 0 only where none is left or the buffer is empty. An `Err` consumes nothing.
+    /// It is 0 only where none is left or the buffer is empty. What the buffer has behind that part,
+    /// and after an `Err`, is not said.
+    ///
+    /// # Errors
+    ///
+    /// `Failed` where the bytes could not be read. Nothing is consumed then.
     fn pull(&mut self, buf: &mut [u8]) -> Result<usize, Failed>
         ensures fits { ReadsAtMost result buf.new }
         ensures bytes { ReadConsumes (left self.old) (left self.new) result buf.new }
