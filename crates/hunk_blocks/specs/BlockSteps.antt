@@ -27,7 +27,9 @@ pub data Filling : Type 0 where
   SizedCode : ℕ → Filling
   SizedData : ℕ → Filling
 
--- What has been read of a block after its word. The last number tells how many more of the kind follow the next.
+-- What has been read of a block after its word. In a payload, a name or a list of offsets the last
+-- number is how many more of the kind follow the next; at a target it is one less than the number
+-- of the offsets behind it.
 pub data Inside : Type 0 where
   AtCount : Counting → Inside
   AtSize : Sizing → Inside

@@ -63,14 +63,15 @@ module _ {Value Role : Type 0} (g : Grammar Value Role) where
     pub place : at + 4 ≡ 4 * length read
     pub front : IsFront read
 
-  -- Of what a reader has before it, memory is missing for what a longword of some text completes.
+  -- Memory is out at a longword of what a reader has before it, and some text begins with the
+  -- longwords up to that one, and with it.
   pub record WantAhead (r : Unread) (fault : Fault) : Type 0 where
     pub reason : fault.reason ≡ reasons.OutOfMemory
     pub at : ℕ
     pub place : fault.place ≡ r.place + at
     pub front : IsFrontTo r.rest at
 
-  -- Of it a longword is refused, or it ends too soon, or memory is missing.
+  -- Of it a longword is refused, or it ends too soon, or memory is out.
   abbrev pub FaultAhead : Unread → Fault → Type 0
   FaultAhead r fault = RefusedAhead r fault ⊎ (((fault ≡ cut r) × IsFront r.rest) ⊎ WantAhead r fault)
 

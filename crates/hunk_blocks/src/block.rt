@@ -50,15 +50,24 @@ impl<'a> Model for Block<'a> {
 impl<'a> Block<'a> {
     /// The block that the bytes begin with, and the number of its bytes.
     ///
-    /// What needs the declared size, the number of hunks or the place in a hunk is not tested. The
-    /// longwords are tested in file order, each when it is whole: a block word that is refused is
-    /// refused at 0, a NAME count with a top byte (`NameWord`) and an EXT type that is not accepted
-    /// (`ExtKind`) at their own byte, and where the bytes end inside the block the answer is
-    /// `Truncated` at 4 times the number of whole longwords. Only the groups and entries of a
-    /// relocation kind, EXT or SYMBOL take memory, each when it was read whole: `OutOfMemory` is
-    /// answered at its last longword, and no fault of the bytes lies there or before.
+    /// What needs the declared size, the number of hunks or the place in a hunk is not tested.
+    /// Only the groups and entries of a relocation kind, EXT or SYMBOL take memory, each when it
+    /// was read whole.
     ///
     /// Source: The AmigaDOS Manual, 3rd edition, Amiga binary file structure, and `dos/doshunks.h`.
+    ///
+    /// # Errors
+    ///
+    /// The longwords are tested in file order, each when it is whole, and the first that is
+    /// rejected is answered. Its place is in bytes from the first byte of the block:
+    ///
+    /// - the reason that `Mode::refuse` has for the block word, at 0;
+    /// - `NameWord` at a NAME count whose top byte is not 0;
+    /// - `ExtKind` at an EXT word whose type is not accepted;
+    /// - `Truncated` where the bytes end inside the block, at 4 times the number of whole
+    ///   longwords;
+    /// - `OutOfMemory` in a relocation kind, EXT or SYMBOL, at the longword that completes what
+    ///   was to be kept. No fault of the bytes lies there or before.
     pub fn decode(
         alloc: Global,
         bytes: &'a [u8],
@@ -127,9 +136,13 @@ impl<'a> Block<'a> {
 
     /// Writes the block's text, which the writer's count has room for, part by part with no page.
     ///
-    /// It takes no memory. At a `WriteFault` the writer's sink failed, now or before, and just the
-    /// first `written` bytes of all that was ever put have gone out; later puts write nothing and
-    /// answer the same.
+    /// It takes no memory.
+    ///
+    /// # Errors
+    ///
+    /// A `WriteFault` where the writer's sink failed, now or before: just the first `written`
+    /// bytes of all that was ever put have gone out. Later puts write nothing and answer the same.
+    /// A writer that had failed before stays as it was.
     #[tactic(auto, using(hunk_words::proofs::PutLaws::puts_after_none))]
     pub fn encode<W: Sink>(&self, writer: &mut LongWriter<W>) -> Result<(), WriteFault>
         requires { writer.old.written + length (bytes_of (block_text self.now)) < 2 ^ 64 }

@@ -12,7 +12,8 @@ use hunk_words::SizeWord;
 
 /// What follows the word of a block, by its kind.
 ///
-/// In CODE, DATA and BSS the top two bits of the size word are kept and not interpreted.
+/// In CODE, DATA and BSS the top two bits of the size word are kept and not interpreted, and no
+/// memory attributes follow: this profile's own choice.
 #[derive(Debug, Drop)]
 pub enum Body<'a> {
     /// A NAME block: the bytes of the name, padded with zero bytes.
@@ -21,7 +22,7 @@ pub enum Body<'a> {
     Code { top: u8, payload: Payload<'a> },
     /// A DATA block. `top` is the top two bits of the size word, 0 to 3.
     Data { top: u8, payload: Payload<'a> },
-    /// A BSS block. `size` is the whole size word.
+    /// A BSS block. `size` is the whole size word; its low 30 bits count longwords.
     Bss { size: u32 },
     /// A block of any relocation kind.
     Reloc(Groups<'a>),
@@ -38,8 +39,8 @@ pub enum Body<'a> {
 }
 
 impl Body<'_> {
-    /// How many bytes of content the block has: those of the payload of CODE and DATA, and 4 times the
-    /// longwords that the size of BSS says. `None` for every other block.
+    /// How many bytes of content the block has: those of the payload of CODE and DATA, and 4 times
+    /// the longwords that the size of BSS says. `None` for every other block.
     pub fn content_bytes(&self) -> Option<u64>
         ensures { result ≡ content_bytes (body_of self.now) }
     {

@@ -24,8 +24,8 @@ pub struct Entry<'a> {
 }
 
 impl Entry<'_> {
-    /// The type, by the top byte of the word; `None` for a number that is not accepted, which no entry
-    /// of a block has.
+    /// The type, by the top byte of the word; `None` for a number that is not accepted, which no
+    /// entry of a block has.
     pub fn kind(&self) -> Option<ExtKind>
         ensures { result ≡ ext_kind (ext_type (entry_of self.now)) }
     {

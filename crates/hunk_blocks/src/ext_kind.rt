@@ -7,22 +7,39 @@ use crate::ext_shape::ExtShape;
 
 /// The type of an EXT entry, with its number and the names of `dos/doshunks.h`.
 ///
-/// RES, number 3, is none of them: AmigaDOS no longer supports it, and it is refused.
+/// RES, number 3, is none of them: AmigaDOS no longer supports it, and it is rejected.
+///
+/// Source: The AmigaDOS Manual, `dos/doshunks.h`, where no variant says otherwise.
 #[derive(Clone, Copy, Debug, PartialEq, Eq)]
 pub enum ExtKind {
+    /// 0 (0x00): a symbol, with one value. That a value follows is this profile's own choice.
     Symb,
+    /// 1 (0x01): a definition, with one value.
     Def,
+    /// 2 (0x02): an absolute definition, with one value.
     Abs,
+    /// 129 (0x81): references of 4 bytes.
     Ref32,
+    /// 130 (0x82): references of 4 bytes to a common block, with its size in bytes.
     Common,
+    /// 131 (0x83): references of 2 bytes.
     Ref16,
+    /// 132 (0x84): references of 1 byte.
     Ref8,
+    /// 133 (0x85): data-relative references of 4 bytes.
     Dext32,
+    /// 134 (0x86): data-relative references of 2 bytes.
     Dext16,
+    /// 135 (0x87): data-relative references of 1 byte.
     Dext8,
+    /// 136 (0x88): relative references of 4 bytes. The layout is this profile's own choice.
     RelRef32,
+    /// 137 (0x89): relative references of 4 bytes to a common block, with its size in bytes. The
+    /// layout is this profile's own choice.
     RelCommon,
+    /// 138 (0x8A): absolute references of 2 bytes. The layout is this profile's own choice.
     AbsRef16,
+    /// 139 (0x8B): absolute references of 1 byte. The layout is this profile's own choice.
     AbsRef8,
 }
 
@@ -85,8 +102,10 @@ impl ExtKind {
         }
     }
 
-    /// How many bytes of the hunk each offset of an entry of this type stands for: 1, 2 or 4. `None`
-    /// for a definition, which has no offsets.
+    /// How many bytes of the hunk each offset of an entry of this type stands for: 1, 2 or 4.
+    /// `None` for a definition, which has no offsets.
+    ///
+    /// The widths are this profile's own choice.
     pub fn width(self) -> Option<u64>
         ensures value { result ≡ ext_width self }
         ensures bound { IfSome result (λ width. width ≤ 4) }
@@ -99,7 +118,8 @@ impl ExtKind {
         }
     }
 
-    /// The name that `dos/doshunks.h` has for it, without `EXT_`: 3 to 9 capital letters and digits.
+    /// The name that `dos/doshunks.h` has for it, without `EXT_`: 3 to 9 capital letters and
+    /// digits.
     pub fn name(self) -> &'static str
         ensures value { result.now ≡ ext_name self }
         ensures short { length result.now ≤ 9 }
@@ -131,8 +151,8 @@ pub(crate) fn kind_of(word: u32) -> Option<ExtKind>
     ExtKind::from_code((word >> 24) as u8)
 }
 
-/// What stands behind the name of an entry with this word: the shapes of the table, without a step by way
-/// of the type, since the decoder asks it of each entry.
+/// What stands behind the name of an entry with this word: the shapes of the table, without a step
+/// by way of the type, since the decoder asks it of each entry.
 #[tactic(auto, unfolding(crate::specs::ExtKinds::ext_kind))]
 pub(crate) fn shape_of(word: u32) -> Option<ExtShape>
     ensures { result ≡ ext_shape (entry_type word) }

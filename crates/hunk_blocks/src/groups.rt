@@ -3,7 +3,7 @@
 use crate::list::BlockList;
 use crate::longs::Longs;
 
-/// Relocations to one target: the longs at these offsets are increased by its base.
+/// Relocations to one target. In a load file the longs at these offsets are increased by its base.
 #[derive(Debug, Drop)]
 pub struct Group<'a> {
     /// The number of a hunk: of the file in a load file, of the unit in an object file.

@@ -14,12 +14,16 @@ ghost use Rattle.std.specs.Prelude.{
 
 use std::alloc::AllocError;
 
-/// Room for so many is taken where a list has none.
+/// How many items a list that has no room gets room for.
 const FIRST_ROOM: usize = 4;
 
-/// Appends the item; a list that has no room gets its first at once, without the call that grows a list.
+/// Appends the item; a list that has no room gets its first at once, without the call that grows a
+/// list.
 ///
-/// An `Err` drops the item, and leaves the list as it was.
+/// # Errors
+///
+/// `AllocError` where memory is refused, which only a list without room to spare asks for. The item
+/// is dropped, and the list has the items that it had.
 #[inline(always)]
 pub fn append<T: Drop>(list: &mut Vec<T>, item: T) -> Result<(), AllocError>
     ensures items { list.new.items

@@ -18,9 +18,9 @@ pub fn block_prefix()
         block_text a ++ more ≡ block_text b → (a ≡ b) × (more ≡ []) }
 {}
 
-/// Of every list of bytes just one of three holds: it begins with a block of the mode, a longword of
-/// it is refused, or it ends too soon. The fault is one, and the first, and a longword that is not
-/// refused goes on to a block.
+/// Of every list of bytes just one of three holds: it begins with a block of the mode, a longword
+/// of it is refused, or it ends too soon. The fault is one, and the first, and a longword that is
+/// not refused goes on to a block.
 pub fn block_fault()
     ensures some { (mode : Mode) (bytes : List ℕ) → IsBytes bytes →
         ((b : BlockValue) × (size : ℕ) × BeginsWithBlock mode bytes b size)

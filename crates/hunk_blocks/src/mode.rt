@@ -14,7 +14,13 @@ pub enum Mode {
 }
 
 impl Mode {
-    /// Why this block word is refused, wherever the block stands.
+    /// Why this block word is rejected, wherever the block stands; `None` where it is not.
+    ///
+    /// Numbers and flags are those of `dos/doshunks.h`. In a load file 3F7 is the short relocation
+    /// block of V37's LoadSeg. From V39 of dos an unknown kind with the advisory flag is ignored,
+    /// so it is accepted. To reject both memory bits, overlays, libraries, short relocations and
+    /// other unknown kinds, and in load files EXT and all relocations but RELOC32, is this
+    /// profile's own choice.
     #[inline(always)]
     pub fn refuse(self, word: BlockWord) -> Option<Reason>
         ensures { result ≡ refuse_alone_word self word }

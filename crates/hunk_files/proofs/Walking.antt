@@ -130,7 +130,7 @@ module _ (ws : List ℕ) (o : OpenHunk) (h : HasRead ws (More (AtBlock o))) wher
 entries_length : (es : List TableEntry) (e : TableEntry) → length (flat_map entry_labelled (es ++ e ∷ [])) ≡ length (flat_map entry_labelled es) + length (entry_labelled e)
 entries_length es e = ap length (flat_map-more entry_labelled es e) ∙ length-append (flat_map entry_labelled es) (entry_labelled e)
 
-row_after : (es : List TableEntry) (e : TableEntry) (b : Bool) → has_both_bits e.word ≡ b → row_behind (es ++ e ∷ []) ≡ (if b then row_behind es + 2 else row_behind es + 1)
+row_after : (es : List TableEntry) (e : TableEntry) (b : Bool) → has_both_bits e.word ≡ b → row_behind (es ++ e ∷ []) ≡ row_behind es + (if b then 2 else 1)
 row_after es e true h = omega (arith, entries_length es e, length-map (entry_labelled e) (λ (x : Role × ℕ). x.1), entry_length e true h)
 row_after es e false h = omega (arith, entries_length es e, length-map (entry_labelled e) (λ (x : Role × ℕ). x.1), entry_length e false h)
 
@@ -153,7 +153,7 @@ module _ (all : List ℕ) (at : ℕ) (whole : at ≤ length all) (p : Progress) 
         ∙ get_or-take at all (row_of p) 0 (opens_inside e) in
         let extra = has_both_bits (get_or all (row_of p) 0) in
         same_entry _ _ (ap size_longs word)
-        (row_after (entries o.finished) o.entry extra (ap has_both_bits word) ∙ ap (λ (r : ℕ). if extra then r + 2 else r + 1) e)
+        (row_after (entries o.finished) o.entry extra (ap has_both_bits word) ∙ ap (λ (r : ℕ). r + (if extra then 2 else 1)) e)
 
     block_entry : (blocks : List BlockValue) → MovesTo p o blocks →
         (is_between_hunks (positions.Body (open_of o) (block_phase blocks)) ≡ true → row_of p < at)

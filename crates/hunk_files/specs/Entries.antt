@@ -1,13 +1,13 @@
 -- The entry of the open hunk, in numbers.
 use Rattle.std.specs.Prelude.{ℕ, ◌+◌, List, slice_index, if◌then◌else◌}
-use Rattle.hunk_words.specs.Bits.{size_longs, has_both_bits}
+use Rattle.hunk_words.specs.Bits.{size_longs, entry_longs}
 use Rattle.hunk_scan.specs.declared.position.Position.{Position}
 use Rattle.hunk_scan.specs.Positions.{is_between_hunks}
 use Rattle.hunk_files.specs.declared.load.walk.Entry.{Entry}
 
 -- by its size word, which stands at this longword
 abbrev pub entry_behind : ℕ → ℕ → Entry
-entry_behind word at = record { longs = size_longs word; next = if has_both_bits word then at + 2 else at + 1 }
+entry_behind word at = record { longs = size_longs word; next = at + entry_longs word }
 
 -- Where a hunk opens, its entry is the next of the table.
 abbrev pub entry_at : List ℕ → Position → Entry → Entry

@@ -45,11 +45,13 @@ IsRefusal kind bytes refusal = IsLoadRefusal bytes refusal
 
 -- ---- bytes for whose file memory was refused
 
--- the longword here completes what a load file has, and the bytes begin with one
+-- the bytes begin with a load file, and some load file begins with the longwords up to and with
+-- the one here
 abbrev pub IsLoadMemory : List ℕ → ℕ → Type 0
 IsLoadMemory bytes place = BeginsWithLoadFile bytes × IsFrontTo loads (longs bytes) place
 
--- the longword here completes what an object file has, and a fault of the bytes stands behind it
+-- some object file begins with the longwords up to and with the one here, and a fault of the
+-- bytes, if there is one, stands behind it
 abbrev pub IsObjectMemory : List ℕ → ℕ → Type 0
 IsObjectMemory bytes place = IsFrontTo objects (longs bytes) place × ((at : ℕ) (reason : Reason) → HasObjectFault bytes at reason → place < at)
 

@@ -18,7 +18,7 @@ use hunk_scan::Sniff;
 use hunk_words::{FileFault, LongWriter, Sink, WriteFault};
 use std::alloc::Global;
 
-/// A file of either kind, made by `decode`.
+/// A file of either kind, as `decode` makes it.
 #[derive(Debug, Drop)]
 pub enum HunkFile<'a> {
     /// A load file, and the number of bytes that follow it.
@@ -30,12 +30,13 @@ pub enum HunkFile<'a> {
 impl<'a> HunkFile<'a> {
     /// The file that the bytes are, or begin with.
     ///
-    /// Where `sniff` answers `Object` it is the object file that all of the bytes are; whatever else
-    /// it answers, it is the load file that they begin with.
+    /// Where `sniff` answers `Object` it is the object file that all of the bytes are; whatever
+    /// else it answers, it is the load file that they begin with.
     ///
     /// # Errors
     ///
-    /// What `ObjectFile::decode` or `LoadFile::decode` refuses the bytes for.
+    /// The fault that `ObjectFile::decode` or `LoadFile::decode` answers, with its place in bytes
+    /// from the start of the input.
     pub fn decode(alloc: Global, bytes: &'a [u8]) -> Result<HunkFile<'a>, FileFault>
         ensures ok { IfOk result (IsFileOf bytes.entry.now) }
         ensures none { IfErr result (λ fault. fault.reason ≢ reasons.OutOfMemory →
@@ -77,14 +78,16 @@ impl<'a> HunkFile<'a> {
         }
     }
 
-    /// Writes the file's text, which the writer's count has room for, without what follows the file.
+    /// Writes the file's text, which the writer's count has room for, without what follows the
+    /// file.
     ///
     /// It goes out by pages, and takes no memory.
     ///
     /// # Errors
     ///
-    /// A `WriteFault` where the writer's sink failed, now or before: just the first `written` bytes of
-    /// all that was ever put have gone out, and later puts write nothing and answer the same.
+    /// A `WriteFault` where the writer's sink failed, now or before: just the first `written` bytes
+    /// of all that was ever put have gone out. Later puts write nothing and answer the same. A
+    /// writer that had failed before stays as it was.
     pub fn encode<W: Sink>(&self, writer: &mut LongWriter<W>) -> Result<(), WriteFault>
         requires { writer.old.written + length (file_bytes self.now) < 2 ^ 64 }
         ensures puts { Puts (W.taken writer.old.sink) (W.taken writer.new.sink)

@@ -56,8 +56,9 @@ pub fn one_outcome()
         HasRefusal bytes at reason → IsTruncated bytes at2 → ⊥ }
 {}
 
-/// Where no two relocated longs overlap, the memory of a hunk is its content with the bases of each
-/// offset's targets added, and no other bytes are.
+/// Where no two offsets of a hunk's relocations are 1 to 3 bytes apart, its memory is its content
+/// with the bases of each offset's targets added, and nothing else is. An offset may be named more
+/// than once.
 pub fn sum_image()
     ensures sums { (hunks : ℕ) (h : HunkValue) (bases : List ℕ) → IsHunk hunks h →
         AreApart (offsets (relocations h)) → IsSumImage bases h (image bases h) }

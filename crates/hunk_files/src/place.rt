@@ -15,7 +15,7 @@ pub(crate) fn counted_from(at: usize, fault: FileFault) -> FileFault
     }
 }
 
-/// Want of memory for what the longword that ends here completes.
+/// Out of memory at the longword that ends at byte `end`.
 pub(crate) fn out_of_memory(end: usize) -> FileFault
     requires { 4 ≤ end }
     ensures place { result.place + 4 ≡ end }

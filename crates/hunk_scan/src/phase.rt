@@ -18,26 +18,35 @@ pub struct OpenHunk {
     pub has_content: bool,
 }
 
-/// What the next longword of a hunk is for. `owed` is how many more of the kind follow the next.
+/// What the next longword of a hunk is for.
+///
+/// `owed` is how many more of the kind follow the next, except at a `Target`: `owed` + 1 offsets
+/// follow it.
 #[derive(Clone, Copy, Debug, PartialEq, Eq)]
 pub enum Phase {
     /// The word of the first block: the hunk opens here.
     FirstBlock,
     /// The word of a further block.
     BlockWord,
+    /// The count of NAME, in longwords.
     NameCount,
-    /// The count of DEBUG or of an advisory block.
+    /// The count of DEBUG or of an advisory block, in longwords.
     LongCount,
-    /// The size word of CODE or DATA.
+    /// The size word of CODE or DATA. Its low 30 bits count longwords.
     ContentSize,
+    /// The size word of BSS. Its low 30 bits count longwords.
     BssSize,
     /// Of a content of `longs` longwords.
     Content { longs: u32, owed: u32 },
     /// Of NAME, DEBUG or an advisory block.
     Payload { owed: u32 },
+    /// The number of offsets of a group, or the 0 that ends the block.
     GroupCount,
+    /// The number of the hunk that a group relocates to.
     Target { owed: u32 },
+    /// An offset of a group, in bytes from the start of the hunk.
     Offset { target: u32, owed: u32 },
+    /// The word of a symbol, or the 0 that ends the block.
     EntryWord,
     /// The name of a symbol, and the value behind it.
     Symbol { owed: u32 },
@@ -85,7 +94,7 @@ impl OpenHunk {
         }
     }
 
-    /// So many longwords of the content are owed.
+    /// Where `owed` longwords of the content are still to come.
     #[inline(always)]
     fn owe_content(self, longs: u32, owed: u32) -> Position
         ensures { result ≡ positions.owe_content self longs owed }
@@ -211,7 +220,8 @@ impl Phase {
     }
 }
 
-/// Where `left` hunks are left.
+/// Where `left` hunks are left. The file ends with the END of its last hunk: this profile's own
+/// choice.
 #[inline(always)]
 pub(crate) fn open_next(hunks: u32, left: u32) -> Position
     ensures { result ≡ positions.open_next hunks left }

@@ -7,17 +7,27 @@ ghost use Rattle.hunk_scan.specs.Positions.{is_done, is_behind_header, is_betwee
 use crate::phase::{OpenHunk, Phase, open_next};
 use hunk_words::SizeWord;
 
-/// What the next longword of a load file is for. In the table, `owed` is how many entries
-/// follow the next.
+/// What the next longword of a load file is for.
+///
+/// `hunks` is the number of hunks of the file. `owed` is how many entries of the table follow the
+/// one that the next longword is of.
 #[derive(Clone, Copy, Debug, PartialEq, Eq)]
 pub enum Position {
+    /// The first longword, which says what kind of file it is.
     FirstLong,
+    /// The list of resident names, which has to be the 0 of an empty one.
     ResidentName,
+    /// The table size: the number of hunks.
     TableSize,
+    /// The number of the first hunk, which has to be 0.
     FirstHunk { hunks: u32 },
+    /// The number of the last hunk, which has to be one less than the number of hunks.
     LastHunk { hunks: u32 },
+    /// The size word of an entry of the table.
     SizeWord { hunks: u32, owed: u32 },
+    /// The memory attributes of an entry, behind its size word, which is `word`.
     Attributes { hunks: u32, word: u32, owed: u32 },
+    /// A longword behind the header: the hunk that it is of, and what it is for there.
     Body(OpenHunk, Phase),
     /// The file is whole.
     Done,
@@ -169,7 +179,7 @@ impl Position {
     }
 }
 
-/// So many entries of the table are owed.
+/// Where `owed` entries of the table are still to come.
 #[inline(always)]
 fn owe_entries(hunks: u32, owed: u32) -> Position
     ensures { result ≡ positions.owe_entries hunks owed }

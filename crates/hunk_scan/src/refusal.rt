@@ -12,8 +12,12 @@ use hunk_blocks::Mode;
 use hunk_words::{BlockWord, MOST_HUNKS, NAME_LIMIT, Reason, SizeWord};
 
 impl Position {
-    /// Why the longword is refused, where it is. `longs` is the number of longwords that the open hunk
-    /// declares; outside the body it says nothing.
+    /// Why the longword is rejected, where it is. `longs` is the number of longwords that the open
+    /// hunk declares; outside the body it is not used.
+    ///
+    /// The header is that of The AmigaDOS Manual and `dos/doshunks.h`. To reject resident names,
+    /// another first hunk than 0, another last hunk than the table size minus 1, and more than
+    /// 65,536 hunks is this profile's own choice.
     #[inline(always)]
     pub fn refuse(self, longs: u32, word: u32) -> Option<Reason>
         ensures { result ≡ refuse (role_at longs self) word }
@@ -34,6 +38,7 @@ impl Position {
 }
 
 impl OpenHunk {
+    /// Why the longword of the hunk is rejected, where it is.
     #[inline(always)]
     fn refuse(self, phase: Phase, longs: u32, word: u32) -> Option<Reason>
         ensures { result ≡ refuse_part (place longs self) (part_at phase) word }
@@ -54,7 +59,10 @@ impl OpenHunk {
     }
 }
 
-/// Whether the long at the offset passes the end of a hunk that declares `longs` longwords.
+/// Whether the long at the offset, in bytes from the start of a hunk that declares `longs`
+/// longwords, passes the end of the hunk.
+///
+/// That an offset may be odd, and may lie behind the content, is this profile's own choice.
 #[inline(always)]
 pub fn is_outside(offset: u32, longs: u32) -> bool
     ensures { result ≡ nat_lt (4 * longs) (offset + 4) }

@@ -89,7 +89,8 @@ fn common<'a>(reader: &mut LongReader<'a>, word: u32) -> Result<Entry<'a>, Block
     })
 }
 
-/// The next entry, or `None` behind the zero that ends the block.
+/// The next entry, or `None` behind the zero that ends the block (The AmigaDOS Manual,
+/// `dos/doshunks.h`).
 fn next_entry<'a>(reader: &mut LongReader<'a>) -> Result<Option<Entry<'a>>, BlockFault>
     ensures read { IfOk result (λ found.
         ReadsItem IsExtEntry ext_text reader.old reader.new (option_map entry_of found)) }

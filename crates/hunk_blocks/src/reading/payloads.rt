@@ -13,7 +13,10 @@ use crate::payload::Payload;
 use crate::reading::long_reader::LongReader;
 use hunk_words::{BlockFault, NAME_LIMIT, Reason};
 
-/// A count, and that many longwords.
+/// A count, and that many longwords (The AmigaDOS Manual, `dos/doshunks.h`).
+///
+/// DEBUG and ADVISORY count with all 32 bits, and a list of references may be empty: this profile's
+/// own choice.
 pub(crate) fn read_counted<'a>(reader: &mut LongReader<'a>) -> Result<Payload<'a>, BlockFault>
     ensures read { IfOk result (λ p.
         IsPayload (2 ^ 32) (longs p) × Reads reader.old reader.new (counted_text (longs p))) }
@@ -25,7 +28,10 @@ pub(crate) fn read_counted<'a>(reader: &mut LongReader<'a>) -> Result<Payload<'a
     reader.payload(count)
 }
 
-/// The count of a name, which has no top byte, and that many longwords.
+/// The count of a name, which has no top byte, and that many longwords (The AmigaDOS Manual,
+/// `dos/doshunks.h`).
+///
+/// The bytes behind the first zero byte of a name are kept: this profile's own choice.
 pub(crate) fn read_name<'a>(reader: &mut LongReader<'a>) -> Result<Payload<'a>, BlockFault>
     ensures read { IfOk result (λ p.
         IsPayload name_limit (longs p) × Reads reader.old reader.new (counted_text (longs p))) }
@@ -46,7 +52,10 @@ pub(crate) fn read_name<'a>(reader: &mut LongReader<'a>) -> Result<Payload<'a>, 
     reader.payload(count)
 }
 
-/// The name of an entry with this word, as many longwords as its low 24 bits say.
+/// The name of an entry with this word, as many longwords as its low 24 bits say (The AmigaDOS
+/// Manual, `dos/doshunks.h`).
+///
+/// Where they are 0 in a word that is not, the name is empty: this profile's own choice.
 pub(crate) fn read_entry_name<'a>(
     reader: &mut LongReader<'a>,
     word: u32,
@@ -61,6 +70,8 @@ pub(crate) fn read_entry_name<'a>(
 }
 
 /// A size word, and as many longwords as its low 30 bits say. The number is its top two bits.
+///
+/// Source: The AmigaDOS Manual, `dos/doshunks.h`.
 pub(crate) fn read_sized<'a>(reader: &mut LongReader<'a>) -> Result<(u8, Payload<'a>), BlockFault>
     ensures read { IfOk result (λ r.
         IsSized (r.0, longs r.1) × Reads reader.old reader.new (sized_text (r.0, longs r.1))) }

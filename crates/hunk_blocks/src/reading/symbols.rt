@@ -16,7 +16,8 @@ use crate::symbols::{Named, Symbols};
 use hunk_words::BlockFault;
 use std::alloc::Global;
 
-/// The next entry, or `None` behind the zero that ends the block.
+/// The next entry, or `None` behind the zero that ends the block (The AmigaDOS Manual,
+/// `dos/doshunks.h`).
 fn next_symbol<'a>(reader: &mut LongReader<'a>) -> Result<Option<Named<'a>>, BlockFault>
     ensures read { IfOk result (λ found.
         ReadsItem IsSymbolEntry symbol_text reader.old reader.new (option_map symbol_of found)) }

@@ -17,7 +17,8 @@ use hunk_words::{FileFault, SizeWord};
 use std::alloc::Global;
 use std::marker::Model;
 
-/// A load file of the input, made by `decode` alone. Contracts see it as its load-file value.
+/// A load file of the input, made by `decode` or `strip` alone. Contracts see it as its load-file
+/// value.
 #[derive(Debug, Drop)]
 pub struct LoadFile<'a> {
     pub(super) hunks: Vec<LoadHunk<'a>>,
@@ -39,14 +40,21 @@ impl<'a> LoadFile<'a> {
     /// The load file that the bytes begin with, and the number of its bytes. It ends with the END
     /// of its last hunk; what follows is not read.
     ///
-    /// A refusal names the first longword, in file order, that no load file has there, by its first
-    /// byte, and why. `Truncated` is answered where all whole longwords are those of a load file
-    /// that goes on, at 4 times their number. `OutOfMemory` is answered where memory was refused,
-    /// for a row of the table, the groups or entries of a block, a block or a hunk, at the longword
-    /// that completes it; no memory is asked for before the file was seen to be whole, so it hides
-    /// no fault.
+    /// No memory is asked for before the file was seen to be whole.
     ///
     /// Source: The AmigaDOS Manual, 3rd edition, Amiga binary file structure, and `dos/doshunks.h`.
+    ///
+    /// # Errors
+    ///
+    /// The place is in bytes from the start of the input.
+    ///
+    /// - Where a longword is rejected: the first, in file order, that no load file has there, at
+    ///   its first byte, with the reason.
+    /// - `Truncated` where all whole longwords are those of a load file that goes on, at 4 times
+    ///   their number.
+    /// - `OutOfMemory` where memory is refused for a row of the table, the groups or entries of a
+    ///   block, a block or a hunk, at the longword that completes what was to be kept. The bytes
+    ///   begin with a load file then, so it hides no fault.
     pub fn decode(alloc: Global, bytes: &'a [u8]) -> Result<(LoadFile<'a>, usize), FileFault>
         ensures value { IfOk result (λ r. IsLoadFile r.0) }
         ensures text { IfOk result (λ r. take r.1 bytes.entry.now ≡ bytes_of (text r.0)) }

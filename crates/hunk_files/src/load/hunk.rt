@@ -15,7 +15,9 @@ use std::alloc::Global;
 /// A hunk of a load file: its row of the table, and its blocks.
 #[derive(Debug, Drop)]
 pub(crate) struct LoadHunk<'a> {
+    /// What the table declares of it; its base is 0.
     pub row: Row,
+    /// Its blocks in file order, up to END.
     pub blocks: Vec<Block<'a>>,
 }
 

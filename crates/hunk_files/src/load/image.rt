@@ -34,7 +34,13 @@ impl LoadFile<'_> {
     /// offset, in file order, the base of the target added to the long there, modulo 2^32: at any
     /// offset, also where longs overlap. It takes memory for `total()` bytes.
     ///
-    /// `BaseCount` is answered just where the number of bases is not `hunks()`.
+    /// That RELOC32 adds the base of the target is from The AmigaDOS Manual and `dos/doshunks.h`. The
+    /// zero bytes, the order, odd offsets and the sum modulo 2^32 are this profile's own choice.
+    ///
+    /// # Errors
+    ///
+    /// - `BaseCount` where the number of bases is not `hunks()`, and only there.
+    /// - `OutOfMemory` where memory is refused.
     pub fn image(&self, alloc: Global, bases: &[u32]) -> Result<Vec<u8>, ImageFault>
         ensures count { (result ≡ Err faults.BaseCount) ↔ (length bases.now ≢ length self.now) }
         ensures image { IfOk result (λ memory. memory.items ≡ images bases.now self.now) }

@@ -7,11 +7,12 @@ ghost use Rattle.hunk_files.specs.Passing.{ArePassed};
 use hunk_scan::{Position, is_outside};
 use hunk_words::word_at;
 
-/// From so many offsets on a list is passed at once: shorter ones cost less one by one.
+/// From this number of offsets on a list is passed at once: shorter ones cost less one by one.
 const MANY: u64 = 8;
 
-/// The longword behind the offsets of a long list that stand at `at` and are not refused in a hunk of so
-/// many declared longs, and the position there. Where no long list stands there, nothing is passed.
+/// The longword behind the offsets of a long list that stand at `at` and are not rejected in a
+/// hunk of `declared` longs, and the position there. Where no long list stands there, nothing is
+/// passed.
 #[inline(always)]
 pub(super) fn pass_list(
     bytes: &[u8],
@@ -31,8 +32,8 @@ pub(super) fn pass_list(
     (end, position.pass_offsets((end - at) as u64))
 }
 
-/// The longword behind the offsets of a list from `at` on that lie in the bytes and are not refused
-/// in a hunk of so many declared longs.
+/// The longword behind the offsets of a list from `at` on that lie in the bytes and are not
+/// rejected in a hunk of `declared` longs.
 #[inline(always)]
 fn behind_offsets(bytes: &[u8], at: usize, position: Position, declared: u32) -> usize
     requires { 4 * at ≤ length bytes.now }
@@ -49,8 +50,8 @@ fn behind_offsets(bytes: &[u8], at: usize, position: Position, declared: u32) ->
     first_outside(bytes, at, end, declared)
 }
 
-/// The first of the offsets from `first` up to `end` whose long passes the end of a hunk of so many
-/// declared longs; `end` where none does.
+/// The first of the offsets from `first` up to `end` whose long passes the end of a hunk of
+/// `declared` longs; `end` where none does.
 #[inline(never)]
 fn first_outside(bytes: &[u8], first: usize, end: usize, declared: u32) -> usize
     requires order { first ≤ end }
@@ -84,8 +85,8 @@ fn largest(bytes: &[u8], first: usize, end: usize) -> u32
     largest
 }
 
-/// The longword number `i`, put together from its bytes: where it is read so, and not by `word_at`, the
-/// compiler makes the loop four longwords wide.
+/// The longword number `i`, put together from its bytes: where it is read so, and not by `word_at`,
+/// the compiler makes the loop four longwords wide.
 #[tactic(auto, using(hunk_words::proofs::LongLaws::word_of_bytes))]
 #[inline(always)]
 fn join_bytes(bytes: &[u8], i: usize) -> u32

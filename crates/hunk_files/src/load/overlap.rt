@@ -14,9 +14,13 @@ impl LoadFile<'_> {
     /// Two offsets of hunk `i`, counted from 0, whose longs overlap: 1 to 3 bytes apart.
     ///
     /// `None` is answered where there are none. Else the pair is the smaller and the larger of two
-    /// neighbours, among the distinct offsets of the hunk's RELOC32 blocks in rising order, that are 1
-    /// to 3 apart: the pair with the least smaller offset. It takes memory for the offsets, and no
-    /// longer than sorting them does.
+    /// neighbours, among the distinct offsets of the hunk's RELOC32 blocks in rising order, that are
+    /// 1 to 3 apart: the pair with the least smaller offset. Offsets are in bytes from the start of
+    /// the hunk. It takes memory for the offsets, 4 bytes each.
+    ///
+    /// # Errors
+    ///
+    /// `AllocError` where memory for the offsets is refused.
     pub fn overlap(&self, alloc: Global, i: u32) -> Result<Option<(u32, u32)>, AllocError>
         requires { i < length self.now }
         ensures { IfOk result (λ found. MatchOption found (AreApart (hunk_offsets self.now i))

@@ -1,8 +1,6 @@
 //! The table of a load file's header.
-ghost use Rattle.std.specs.Prelude.{◌≡◌, ◌+◌, ◌*◌, ◌≤◌, IfOk, IfErr, IsTrue, if◌then◌else◌, length, slice_index};
+ghost use Rattle.std.specs.Prelude.{◌≡◌, IfOk, IfErr};
 ghost use Rattle.hunk_words.specs.declared.reason.Reason.TheVariants as reasons;
-ghost use Rattle.hunk_words.specs.Bits.{has_both_bits};
-ghost use Rattle.hunk_words.specs.Longs.{longs};
 ghost use Rattle.hunk_files.specs.Fault.{BeginsWithLoadFile, HasLongAt};
 ghost use Rattle.hunk_files.specs.Tables.{IsTable};
 
@@ -17,7 +15,15 @@ const TABLE_SIZE: usize = 2;
 /// The longword at which the table begins, behind the number of the last hunk.
 const TABLE: usize = 5;
 
-/// The rows of the table, and the byte behind it. Each row is stored when it was read.
+/// The rows of the table, and the byte behind it, from the start of the input. Each row is stored
+/// when it was read.
+///
+/// An entry is a size word, and where both of its memory bits are set one more longword, the memory
+/// attributes (The AmigaDOS Manual, `dos/doshunks.h`).
+///
+/// # Errors
+///
+/// `OutOfMemory` where memory for a row is refused, at the longword that completes the row.
 pub(crate) fn read_table(alloc: Global, bytes: &[u8]) -> Result<(Vec<Row>, usize), FileFault>
     requires { BeginsWithLoadFile bytes.now }
     ensures table { IfOk result (λ r.
@@ -29,40 +35,22 @@ pub(crate) fn read_table(alloc: Global, bytes: &[u8]) -> Result<(Vec<Row>, usize
     let mut rows = Vec::new(alloc);
     let mut at = TABLE;
     'reading: while rows.len() < hunks {
-        let row = row_at(bytes, at);
-        at += longs_of(row);
-        if rows.push(row).is_err() {
+        let size = SizeWord::at(bytes, at);
+        at += SizeWord::entry_longs(size.word);
+        if rows.push(row_of(size)).is_err() {
             return Err(out_of_memory(4 * at));
         }
     }
     Ok((rows, 4 * at))
 }
 
-/// The row whose size word is the longword number `at`.
-fn row_at(bytes: &[u8], at: usize) -> Row
-    requires word { 4 * at + 4 ≤ length bytes.now }
-    requires extra { IsTrue (has_both_bits (slice_index (longs bytes.now) at)) →
-        4 * at + 8 ≤ length bytes.now }
-    ensures word { result.word ≡ slice_index (longs bytes.now) at }
-    ensures extra { result.extra ≡ (if has_both_bits (slice_index (longs bytes.now) at)
-        then slice_index (longs bytes.now) (at + 1) else 0) }
+/// The row of the entry, with no base yet.
+fn row_of(size: SizeWord) -> Row
+    ensures { result ≡ record { word = size.word; extra = size.extra; base = 0 } }
 {
-    let word = word_at(bytes, at);
-    let extra = if SizeWord::has_extra(word) {
-        word_at(bytes, at + 1)
-    } else {
-        0
-    };
     Row {
-        word,
-        extra,
+        word: size.word,
+        extra: size.extra,
         base: 0,
     }
-}
-
-/// How many longwords of the header the row has.
-fn longs_of(row: Row) -> usize
-    ensures { result ≡ (if has_both_bits row.word then 2 else 1) }
-{
-    if SizeWord::has_extra(row.word) { 2 } else { 1 }
 }

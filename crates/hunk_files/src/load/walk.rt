@@ -24,6 +24,11 @@ pub(crate) struct Entry {
 ///
 /// It takes no memory. Payloads and names are passed over at once, as no test looks at their
 /// longwords, and so are long lists of offsets, whose largest is looked at.
+///
+/// # Errors
+///
+/// The first fault of the bytes, at the first byte of its longword, from the start of the input;
+/// `Truncated` at 4 times the number of whole longwords.
 pub(crate) fn walk(bytes: &[u8]) -> Result<usize, FileFault>
     ensures { MatchResult result (λ size. HasLoadText bytes.now size)
         (λ fault. HasFault bytes.now fault.place fault.reason) }
@@ -69,8 +74,8 @@ fn step_at(position: Position, longs: u32, word: u32) -> Result<Position, Reason
     Ok(position.step(word))
 }
 
-/// Steps from a block word. Each kind that a load file has is named here, so that whether it is refused
-/// and what follows it is compiled for that kind alone.
+/// Steps from a block word. Each kind that a load file has is named here, so that whether it is
+/// rejected and what follows it is compiled for that kind alone.
 #[inline(always)]
 fn step_block_word(hunk: OpenHunk, phase: Phase, longs: u32, word: u32) -> Result<Position, Reason>
     ensures steps { IfOk result (λ behind. behind ≡ step (positions.Body hunk phase) word) }
@@ -149,10 +154,6 @@ fn read_entry(word: u32, at: usize) -> Entry
     let size = SizeWord { word, extra: 0 };
     Entry {
         longs: size.longs(),
-        next: if SizeWord::has_extra(word) {
-            at + 2
-        } else {
-            at + 1
-        },
+        next: at + SizeWord::entry_longs(word),
     }
 }

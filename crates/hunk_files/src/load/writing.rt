@@ -27,9 +27,13 @@ impl LoadFile<'_> {
     /// Writes the file's text, which the writer's count has room for: the bytes that it was decoded
     /// from, where it was not stripped.
     ///
-    /// It goes out by pages, and takes no memory. At a `WriteFault` the writer's sink failed, now
-    /// or before, and just the first `written` bytes of all that was ever put have gone out; later
-    /// puts write nothing and answer the same.
+    /// It goes out by pages, and takes no memory.
+    ///
+    /// # Errors
+    ///
+    /// A `WriteFault` where the writer's sink failed, now or before: just the first `written`
+    /// bytes of all that was ever put have gone out. Later puts write nothing and answer the same.
+    /// A writer that had failed before stays as it was.
     pub fn encode<W: Sink>(&self, writer: &mut LongWriter<W>) -> Result<(), WriteFault>
         requires { writer.old.written + length (bytes_of (text self.now)) < 2 ^ 64 }
         ensures puts { Puts (W.taken writer.old.sink) (W.taken writer.new.sink)

@@ -22,13 +22,16 @@ pub enum FindingKind {
     OutsideHunk,
 }
 
-/// What is wrong with an offset, and where it stands: its unit, counted from 0, and its hunk,
-/// counted from 0 in the unit. The offset is in bytes from the start of the hunk.
+/// What is wrong with an offset, and where it stands.
 #[derive(Clone, Copy, Debug, PartialEq, Eq)]
 pub struct Finding {
+    /// The unit, counted from 0.
     pub unit: u64,
+    /// The hunk, counted from 0 in its unit.
     pub hunk: u64,
+    /// What is wrong.
     pub fault: FindingKind,
+    /// The offset, in bytes from the start of the hunk.
     pub offset: u32,
 }
 
@@ -55,7 +58,7 @@ impl Spot {
     }
 }
 
-/// How many bytes an offset of this kind of relocation stands for.
+/// How many bytes an offset of this kind of relocation stands for: this profile's own choice.
 fn relocation_width(kind: Kind) -> u64
     ensures value { result ≡ relocation_width kind }
     ensures bound { result ≤ 4 }
@@ -207,8 +210,8 @@ fn check_units<T: TakesFindings>(taker: &mut T, units: &[Unit])
 }
 
 impl ObjectFile<'_> {
-    /// Hands over what is wrong with the offsets of all relocations and external references, in file
-    /// order, each finding as soon as it is found. It takes no memory.
+    /// Hands over what is wrong with the offsets of all relocations and external references, in
+    /// file order, each finding as soon as it is found. It takes no memory.
     ///
     /// For each offset there is `BadTarget` where it is a relocation's and the target is not below
     /// the unit's number of hunks, then `OutsideHunk` where the bytes that are relocated or refer

@@ -33,21 +33,30 @@ impl<'a> Model for ObjectFile<'a> {
 impl<'a> ObjectFile<'a> {
     /// The object file that the bytes are, from the first to the last.
     ///
-    /// The longwords are tested in file order, each when it is whole, and the place is the byte of
-    /// the one that is refused. Refused are a block word with both memory bits (`BothBits`), OVERLAY,
-    /// BREAK, short relocations, library hunks (`Library`), unknown blocks without the advisory flag,
-    /// HEADER, a UNIT with a flag or inside a hunk and anything else before the first UNIT
-    /// (`Misplaced`), a second content block, a relocation kind or EXT before the content block
-    /// (`BeforeContent`), END before it (`NoContent`), a name's count with a top byte (`NameWord`),
-    /// and an EXT type that is not accepted (`ExtKind`). Where the input ends while no unit has
-    /// begun, inside a block, while a hunk is open or with 1 to 3 bytes over, the answer is
-    /// `Truncated` at 4 times the number of whole longwords.
-    ///
-    /// Memory is asked for only for what was read whole. Where it is not there, the answer is
-    /// `OutOfMemory` at the longword that completes it, and no fault of the input lies there or
-    /// before.
+    /// Targets and offsets are not tested; `check` lists what is wrong with them. Memory is asked
+    /// for only for what was read whole.
     ///
     /// Source: The AmigaDOS Manual, 3rd edition, Amiga binary file structure, and `dos/doshunks.h`.
+    ///
+    /// # Errors
+    ///
+    /// The longwords are tested in file order, each when it is whole, and the first that is
+    /// rejected is answered, at its first byte, counted from the start of the input:
+    ///
+    /// - a block word with both memory bits (`BothBits`), OVERLAY (`Overlay`), BREAK (`Break`),
+    ///   short relocations (`ShortReloc`), library hunks (`Library`), an unknown block without the
+    ///   advisory flag (`UnknownBlock`);
+    /// - HEADER, a UNIT with a flag or inside a hunk, and anything else before the first UNIT
+    ///   (`Misplaced`);
+    /// - a second content block (`SecondContent`), a relocation kind or EXT before the content
+    ///   block (`BeforeContent`), END before it (`NoContent`);
+    /// - the count of a UNIT or NAME with a top byte that is not 0 (`NameWord`), and an EXT word
+    ///   with a type that is not accepted (`ExtKind`).
+    ///
+    /// `Truncated` is answered where the input ends while no unit has begun, inside a block, while
+    /// a hunk is open or with 1 to 3 bytes over, at 4 times the number of whole longwords.
+    /// `OutOfMemory` is answered where memory is refused, at the longword that completes what was
+    /// to be kept. No fault of the input lies there or before.
     pub fn decode(alloc: Global, bytes: &'a [u8]) -> Result<ObjectFile<'a>, FileFault>
         ensures file { IfOk result (λ o. IsObjectFile o) }
         ensures text { IfOk result (λ o. bytes.entry.now ≡ bytes_of (object_text o)) }

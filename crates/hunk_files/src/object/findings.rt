@@ -1,5 +1,5 @@
 //! The findings of an object file, kept.
-ghost use Rattle.std.specs.Prelude.{◌≡◌, ◌<◌, ◌↔◌, [], IfOk, IsTrue, Some, length, slice_get};
+ghost use Rattle.std.specs.Prelude.{◌≡◌, ◌≢◌, ◌<◌, ◌↔◌, [], IfOk, OnErr, IsTrue, Some, length, slice_get};
 ghost use Rattle.std.specs.Slice.Iter.{iter_rest};
 ghost use Rattle.hunk_files.specs.Findings.{findings};
 ghost use Rattle.hunk_files.specs.Collecting.{Keeps, keeps_none, keeps_more};
@@ -96,9 +96,15 @@ impl ObjectFile<'_> {
     ///
     /// For each offset there is `BadTarget` where it is a relocation's and the target is not below
     /// the unit's number of hunks, then `OutsideHunk` where the bytes that are relocated or refer
-    /// go past the end of the hunk. Fails only where memory runs out; `check_with` takes none.
+    /// go past the end of the hunk. `check_with` hands the findings over one by one instead, and
+    /// takes no memory.
+    ///
+    /// # Errors
+    ///
+    /// `AllocError` where memory for a finding is refused; never where there is nothing to find.
     pub fn check(&self, alloc: Global) -> Result<Findings, AllocError>
-        ensures { IfOk result (λ found. found ≡ findings self.now) }
+        ensures value { IfOk result (λ found. found ≡ findings self.now) }
+        ensures some { OnErr result (findings self.now ≢ []) }
     {
         let mut collector = Collector {
             found: Vec::new(alloc),

@@ -8,7 +8,7 @@ ghost use Rattle.hunk_files.specs.ObjectFault.{BeforeUnits, refuse_word};
 use hunk_blocks::Mode;
 use hunk_words::{BlockWord, FileFault, Reason};
 
-/// The word of UNIT, which has no flags.
+/// The word of UNIT. That it has no flags is this profile's own choice.
 pub(super) const UNIT: u32 = 0x3E7;
 
 /// Why this longword does not begin a unit, where it does not.
@@ -26,7 +26,7 @@ pub(super) fn refuse_unit_word(word: BlockWord) -> Option<Reason>
     }
 }
 
-/// The refusal of an input that ends too soon.
+/// The refusal of an input that ends too soon, at 4 times the number of its whole longwords.
 pub(super) fn truncated(bytes: &[u8]) -> FileFault
     ensures place { result.place ≡ 4 * length (longs bytes.now) }
     ensures reason { result.reason ≡ reasons.Truncated }

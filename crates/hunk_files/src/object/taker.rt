@@ -6,10 +6,12 @@ use crate::object::check::Finding;
 
 /// Takes findings one by one, and refuses none: what goes wrong with one is kept for the end.
 ///
-/// `takes` says that just these findings were taken, in this order, from the one state to the other.
+/// `takes` says that just these findings were taken, in this order, from the one state to the
+/// other.
 pub trait TakesFindings {
     ghost takes: { Self → List Finding → Self → Type 0 };
 
+    /// Takes this finding, behind those that were taken before.
     fn take(&mut self, finding: Finding)
         ensures { takes self.old (finding ∷ []) self.new };
 

@@ -126,7 +126,8 @@ pub(super) fn read_hunk<'a>(
     }
 }
 
-/// The name in the unit header in front, and the number of the header's bytes.
+/// The name in the unit header in front, and the number of the header's bytes (The AmigaDOS Manual,
+/// `dos/doshunks.h`).
 fn read_header(bytes: &[u8]) -> Result<(Payload<'_>, usize), FileFault>
     ensures name { IfOk result (λ r. IsPayload name_limit (longs r.0)) }
     ensures text { IfOk result (λ r. BeginsWithText bytes.entry.now (unit_header (longs r.0)) r.1) }
@@ -154,6 +155,8 @@ fn read_header(bytes: &[u8]) -> Result<(Payload<'_>, usize), FileFault>
 }
 
 /// The unit in front, up to the next unit or the end of the input, and the number of its bytes.
+///
+/// A unit may have no hunks: this profile's own choice.
 pub(super) fn read_unit<'a>(alloc: Global, bytes: &'a [u8]) -> Result<(Unit<'a>, usize), FileFault>
     ensures unit { IfOk result (λ r. IsUnit r.0) }
     ensures text { IfOk result (λ r. BeginsWithText bytes.entry.now (unit_text r.0) r.1) }
