@@ -1,11 +1,12 @@
 //! The order that the words of a command line are.
-ghost use Rattle.std.specs.Prelude.{◌≡◌, ◌⊎◌, IfOk, IfErr, map, true};
+ghost use Rattle.std.specs.Prelude.{◌≡◌, ◌⊎◌, [], ◌∷◌, IfOk, IfErr, IsErrAnd, OnOk, map, true};
 ghost use Rattle.std.specs.String.{string_bytes};
 ghost use Rattle.clap.specs.Words.{found_of, kind_of, rows_of, subcommand_of, takes};
+ghost use Rattle.clap.specs.Simple.{subcommand_rows_of};
 ghost use Rattle.clap.specs.Kinds.{IsAmong};
 ghost use Rattle.clap.specs.Faults.{fault_of as clap_fault};
 ghost use Rattle.hunk_orders.specs.Command as spec;
-ghost use Rattle.hunk_orders.specs.Asked.{IsHelp};
+ghost use Rattle.hunk_orders.specs.Asked.{IsHelp, IsHelpOrMemory};
 ghost use Rattle.hunk_orders.specs.Line.{entered_order, order_of, relocate_order, rewrite_order};
 ghost use Rattle.hunk_orders.specs.Line.{show_order, taken, validate_order};
 ghost use Rattle.hunk_orders.specs.declared.asked.OrderFault.TheVariants.{Line, Memory};
@@ -94,6 +95,7 @@ fn rewrite_order(alloc: Global, found: &ArgMatches<'_>) -> Result<Order, OrderFa
 fn fault_of(alloc: Global, error: &Error) -> OrderFault
     ensures memory { kind_of error.now ≡ ErrorKind.OutOfMemory → result ≡ Memory }
     ensures asked { IsHelp result → kind_of error.now ≡ ErrorKind.DisplayHelp }
+    ensures help { kind_of error.now ≡ ErrorKind.DisplayHelp → IsHelpOrMemory result }
 {
     match error.kind() {
         ErrorKind::DisplayHelp => match format!(in alloc; "{error}") {
@@ -102,6 +104,43 @@ fn fault_of(alloc: Global, error: &Error) -> OrderFault
         },
         ErrorKind::OutOfMemory => OrderFault::Memory,
         _ => OrderFault::Line,
+    }
+}
+
+/// What clap finds in the words.
+fn matches_in<'w, S: AsStr>(alloc: Global, words: &'w [S]) -> Result<ArgMatches<'w>, OrderFault>
+    ensures found { IfOk result (λ found. subcommand_rows_of found
+        ≡ subcommand_of spec.hunkinfo (map S.text words.entry.now)) }
+    ensures clean { OnOk result (clap_fault spec.hunkinfo (map S.text words.entry.now) ≡ []) }
+    ensures err { IfErr result
+        (λ fault. takes spec.hunkinfo (map S.text words.entry.now) ≡ true → fault ≡ Memory) }
+    ensures asked { IfErr result (λ fault. IsHelp fault
+        → IsAmong ErrorKind.DisplayHelp (clap_fault spec.hunkinfo (map S.text words.entry.now))) }
+    ensures help { clap_fault spec.hunkinfo (map S.text words.entry.now) ≡ ErrorKind.DisplayHelp ∷ []
+        → IsErrAnd result IsHelpOrMemory }
+{
+    match hunkinfo(alloc)?.try_get_matches_from(words) {
+        Ok(found) => Ok(found),
+        Err(error) => Err(fault_of(alloc, &error)),
+    }
+}
+
+/// The order of the subcommand that clap found.
+fn chosen_order(alloc: Global, found: &ArgMatches<'_>) -> Result<Order, OrderFault>
+    ensures ok { IfOk result
+        (λ order. entered_order (subcommand_rows_of found.now) ≡ Some order) }
+    ensures err { IfErr result (λ fault. (fault ≡ Memory)
+        ⊎ ((fault ≡ Line) × (entered_order (subcommand_rows_of found.now) ≡ None))) }
+{
+    match found.subcommand() {
+        Some((name, found)) => match name {
+            "show" => show_order(alloc, found),
+            "validate" => validate_order(alloc, found),
+            "relocate" => relocate_order(alloc, found),
+            "rewrite" => rewrite_order(alloc, found),
+            _ => Err(OrderFault::Line),
+        },
+        None => Err(OrderFault::Line),
     }
 }
 
@@ -114,20 +153,13 @@ fn order_in<S: AsStr>(alloc: Global, words: &[S]) -> Result<Order, OrderFault>
     ensures asked { IfErr result
         (λ fault. IsHelp fault
         → IsAmong ErrorKind.DisplayHelp (clap_fault spec.hunkinfo (map S.text words.now))) }
+    ensures clean { OnOk result (clap_fault spec.hunkinfo (map S.text words.now) ≡ []) }
+    ensures help { clap_fault spec.hunkinfo (map S.text words.now) ≡ ErrorKind.DisplayHelp ∷ []
+        → IsErrAnd result IsHelpOrMemory }
 {
-    let matches = match hunkinfo(alloc)?.try_get_matches_from(words) {
-        Ok(matches) => matches,
-        Err(error) => return Err(fault_of(alloc, &error)),
-    };
-    match matches.subcommand() {
-        Some((name, found)) => match name {
-            "show" => show_order(alloc, found),
-            "validate" => validate_order(alloc, found),
-            "relocate" => relocate_order(alloc, found),
-            "rewrite" => rewrite_order(alloc, found),
-            _ => Err(OrderFault::Line),
-        },
-        None => Err(OrderFault::Line),
+    match matches_in(alloc, words) {
+        Ok(found) => chosen_order(alloc, &found),
+        Err(fault) => Err(fault),
     }
 }
 
@@ -145,6 +177,9 @@ pub fn order(alloc: Global, words: &[String]) -> Result<Order, OrderFault>
     ensures asked { IfErr result
         (λ fault. IsHelp fault → IsAmong ErrorKind.DisplayHelp
         (clap_fault spec.hunkinfo (taken (map string_bytes words.now)))) }
+    ensures clean { OnOk result (clap_fault spec.hunkinfo (taken (map string_bytes words.now)) ≡ []) }
+    ensures help { clap_fault spec.hunkinfo (taken (map string_bytes words.now)) ≡ ErrorKind.DisplayHelp ∷ []
+        → IsErrAnd result IsHelpOrMemory }
 {
     if words.len() < 2 {
         order_in(alloc, STORED.as_slice())

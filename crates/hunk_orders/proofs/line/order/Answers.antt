@@ -1,13 +1,14 @@
-use Rattle.std.proofs.Common.{rules, ◌≡◌, ◌∙◌, ◌<◌, ◌⊎◌, ◌≤◌, List, map, length, sym, subst, arith, refl, Some, None, true}
+use Rattle.std.proofs.Common.{rules, ◌≡◌, ◌∙◌, ◌<◌, ◌⊎◌, ◌≤◌, List, [], ◌∷◌, map, length, sym, subst, arith, refl, Some, None, true}
+use Rattle.std.specs.Prelude.{IsErrAnd}
 use Rattle.std.specs.String.{string_bytes}
 use Rattle.std.proofs.lemmas.Bool.{le-ltb, lt-ltb}
 use Rattle.std.proofs.lemmas.List.{length-map}
-use Rattle.std.proofs.lemmas.Result.{IfErr-weaker, IfOk-weaker}
+use Rattle.std.proofs.lemmas.Result.{IfErr-weaker, IfOk-weaker, on_ok_weaker}
 use Rattle.clap.specs.Words.{subcommand_of, takes, Text}
 use Rattle.hunk_orders.specs.declared.asked.OrderFault.TheVariants.{Line, Memory}
 use Rattle.hunk_orders.specs.Command.{hunkinfo}
 use Rattle.hunk_orders.specs.Line as spec
-use Rattle.hunk_orders.specs.Asked.{IsHelp}
+use Rattle.hunk_orders.specs.Asked.{IsHelp, IsHelpOrMemory}
 use Rattle.clap.specs.Kinds.{IsAmong}
 use Rattle.clap.specs.Faults.{fault_of}
 use Rattle.clap.specs.declared.error.kind.ErrorKind.TheVariants as kind
@@ -30,6 +31,8 @@ returns-then-words-lt2 c =
       asked = IfErr-weaker c.order_in.result _ _
           (λ fault h. subst (λ (words : List Text). IsHelp fault → IsAmong kind.DisplayHelp (fault_of hunkinfo words)) same h)
           c.order_in.ensures.asked;
+      clean = on_ok_weaker c.order_in.result (λ h. subst (λ (words : List Text). fault_of hunkinfo words ≡ []) same h) c.order_in.ensures.clean;
+      help = subst (λ (words : List Text). fault_of hunkinfo words ≡ kind.DisplayHelp ∷ [] → IsErrAnd c.order_in.result IsHelpOrMemory) same c.order_in.ensures.help;
     }
 
 taken_long : (words : List Text) → 2 ≤ length words → spec.taken words ≡ words
@@ -48,3 +51,13 @@ returns-else-words-lt2-clause-asked c =
     IfErr-weaker c.order_in-else-words-lt2.result _ _
     (λ fault h. subst (λ (words : List Text). IsHelp fault → IsAmong kind.DisplayHelp (fault_of hunkinfo words)) same h)
     c.order_in-else-words-lt2.ensures.asked
+
+pub returns-else-words-lt2-clause-clean : goal.returns-else-words-lt2-clause-clean
+returns-else-words-lt2-clause-clean c =
+    let same = sym (taken_long (map string_bytes c.args.words.now) (simp length-map (omega arith))) in
+    on_ok_weaker c.order_in-else-words-lt2.result (λ h. subst (λ (words : List Text). fault_of hunkinfo words ≡ []) same h) c.order_in-else-words-lt2.ensures.clean
+
+pub returns-else-words-lt2-clause-help : goal.returns-else-words-lt2-clause-help
+returns-else-words-lt2-clause-help c =
+    let same = sym (taken_long (map string_bytes c.args.words.now) (simp length-map (omega arith))) in
+    subst (λ (words : List Text). fault_of hunkinfo words ≡ kind.DisplayHelp ∷ [] → IsErrAnd c.order_in-else-words-lt2.result IsHelpOrMemory) same c.order_in-else-words-lt2.ensures.help
