@@ -5,7 +5,7 @@ use Rattle.std.specs.List.{All, AllByRecursion, flat_map, sum_by}
 use Rattle.std.proofs.lemmas.List.{length-append, length-map, take_all}
 use Rattle.std.proofs.lemmas.List.Elements.{All-more, All-map, recursion_from_All}
 use Rattle.std.proofs.lemmas.List.Sums.{sum_by-cons, sum_by_more}
-use Rattle.hunk_words.specs.Bits.{has_both_bits, size_longs}
+use Rattle.hunk_words.specs.Bits.{entry_longs, has_both_bits, size_longs}
 use Rattle.hunk_words.specs.Limits.{most_hunks}
 use Rattle.hunk_words.proofs.LongLaws.{length-bytes_of}
 use Rattle.hunk_scan.specs.Roles.{Role, Role as roles}
@@ -16,16 +16,17 @@ use Rattle.hunk_files.specs.declared.row.Row.{Row}
 use Rattle.hunk_scatter.specs.HeaderBytes.{IsTable, header_bytes, header_words}
 use Rattle.hunk_scatter.specs.Rows.{entries_of, entry_of}
 use Rattle.hunk_scatter.proofs.DeclaredBytes.{declared_take}
-use Rattle.hunk.specs.Streams.{HasSizes, entry_bytes}
+use Rattle.hunk.specs.Streams.{HasSizes}
 
 -- ---- a header
 
-entry_length : (b : Bool) (w x : ℕ) → 4 * length {A = Role × ℕ} ((roles.SizeWord, w) ∷ (if b then (roles.Attributes, x) ∷ [] else [])) ≡ (if b then 8 else 4)
+entry_length : (b : Bool) (w x : ℕ) → 4 * length {A = Role × ℕ} ((roles.SizeWord, w) ∷ (if b then (roles.Attributes, x) ∷ [] else [])) ≡ 4 * (if b then 2 else 1)
 entry_length true w x = refl
 entry_length false w x = refl
 
+-- the bytes of the row's entry in a header
 abbrev row_bytes : Row → ℕ
-row_bytes r = entry_bytes r.word
+row_bytes r = 4 * entry_longs r.word
 
 entries_length : (rows : List Row) → 4 * length (flat_map entry_labelled (entries_of rows)) ≡ sum_by row_bytes rows
 entries_length [] = refl
@@ -60,14 +61,14 @@ pub record AreSummed (rows : List Row) (i header bytes : ℕ) : Type 0 where
   pub bytes_are : bytes ≡ declared_bytes (entries_of (take i rows))
   pub bytes_room : bytes ≤ 2 ^ 32 * i
 
-entry_room : (word : ℕ) → entry_bytes word ≤ 8
+entry_room : (word : ℕ) → 4 * entry_longs word ≤ 8
 entry_room word = go (has_both_bits word)
   where
-    go : (b : Bool) → (if b then 8 else 4) ≤ 8
+    go : (b : Bool) → 4 * (if b then 2 else 1) ≤ 8
     go true = omega arith
     go false = omega arith
 
-pub summed_more : (rows : List Row) (i header bytes size more : ℕ) (d r : Row) → i < length rows → r ≡ get_or rows i d → IsTableEntry (entry_of r) → size ≡ entry_bytes r.word →
+pub summed_more : (rows : List Row) (i header bytes size more : ℕ) (d r : Row) → i < length rows → r ≡ get_or rows i d → IsTableEntry (entry_of r) → size ≡ 4 * entry_longs r.word →
     more ≡ 4 * size_longs r.word → AreSummed rows i header bytes → AreSummed rows (i + 1) (header + size) (bytes + more)
 summed_more rows i header bytes size more d r inside is entry size_is more_is s =
     let next : suc i ≡ i + 1 = omega arith in

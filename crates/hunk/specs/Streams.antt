@@ -1,6 +1,5 @@
 -- A loader in numbers, which a C program keeps and feeds piece by piece.
 use Rattle.std.specs.Prelude.{◌≡◌, ℕ, ◌+◌, ◌*◌, ◌/◌, ◌^◌, ◌<◌, ◌≤◌, ◌==◌, List, ◌++◌, length, take, if◌then◌else◌, replicate, Option, Some, None}
-use Rattle.hunk_words.specs.Bits.{has_both_bits}
 use Rattle.hunk_words.specs.Longs.{bytes_of}
 use Rattle.hunk_words.specs.Reasons.{number_of}
 use Rattle.hunk_words.specs.declared.fault.Fault.{Fault}
@@ -69,6 +68,10 @@ standing_at l (Some position) = Some (record {
 abbrev pub standing_of : Loader → Option Standing
 standing_of l = standing_at l (position_of l)
 
+-- its numbers say where it stands, behind whatever bytes
+abbrev pub HasStanding : Loader → Type 0
+HasStanding l = (at : Standing) × (standing_of l ≡ Some at)
+
 -- The loader has refused no longword, and stands behind these bytes, header and body joined; the memory is what it has made of them.
 pub record Stands (rows : List Row) (l : Loader) (memory fed : List ℕ) : Type 0 where
   pub unrefused : l.refused ≡ 0
@@ -77,10 +80,6 @@ pub record Stands (rows : List Row) (l : Loader) (memory fed : List ℕ) : Type 
   pub is_fed : IsFed rows memory at fed
 
 -- ---- the begin
-
--- the bytes of an entry in a header: its size word, and the attributes that may follow it
-abbrev pub entry_bytes : ℕ → ℕ
-entry_bytes word = if has_both_bits word then 8 else 4
 
 -- The entries are a table, its header has so many bytes, and it declares so many.
 pub record HasSizes (table : List TableEntry) (header bytes : ℕ) : Type 0 where
@@ -165,9 +164,9 @@ StandsNowhere rows old memory piece =
 
 -- What the feeding of a piece comes to: it is taken, all of it or up to the end of the file; it is refused; or no byte of it is looked at, for an earlier refusal or for numbers that no loader has.
 pub data Feeds (rows : List Row) (old new : Loader) (memory after piece : List ℕ) (answer : Answer) : Type 0 where
-  HasTaken : (count : ℕ) → old.refused ≡ 0 → count ≤ length piece → (count < length piece → new.phase ≡ whole) → Takes rows old new memory after piece count
+  HasTaken : (count : ℕ) → old.refused ≡ 0 → HasStanding old → count ≤ length piece → (count < length piece → new.phase ≡ whole) → Takes rows old new memory after piece count
       → answer ≡ done new.hunk new.fed count → Feeds rows old new memory after piece answer
-  HasRefused : (f : Fault) → old.refused ≡ 0 → Refuses rows old memory piece f → new ≡ refusing old f → answer ≡ refused f → Feeds rows old new memory after piece answer
+  HasRefused : (f : Fault) → old.refused ≡ 0 → HasStanding old → Refuses rows old memory piece f → new ≡ refusing old f → answer ≡ refused f → Feeds rows old new memory after piece answer
   HadRefused : TellsAgain old answer → new ≡ old → after ≡ memory → Feeds rows old new memory after piece answer
   IsStrange : old.refused ≡ 0 → StandsNowhere rows old memory piece → new ≡ old → answer ≡ strange → Feeds rows old new memory after piece answer
 
@@ -184,8 +183,8 @@ pub record IsStreamed (rows : List Row) (memory fed : List ℕ) (answer : Answer
 
 -- What the end of a stream comes to, whatever rows, memory and bytes the loader was given: the file is whole, or cut short; or nothing is known of it, for an earlier refusal or for numbers that no loader has.
 pub data Ends (l : Loader) (answer : Answer) : Type 0 where
-  IsWhole : l.refused ≡ 0 → answer ≡ done l.hunk l.fed l.start → ((rows : List Row) (memory fed : List ℕ) → Stands rows l memory fed → IsStreamed rows memory fed answer) → Ends l answer
-  IsCutShort : l.refused ≡ 0 → answer ≡ refused (record { place = 4 * (l.fed / 4); reason = reasons.Truncated })
+  IsWhole : l.refused ≡ 0 → HasStanding l → answer ≡ done l.hunk l.fed l.start → ((rows : List Row) (memory fed : List ℕ) → Stands rows l memory fed → IsStreamed rows memory fed answer) → Ends l answer
+  IsCutShort : l.refused ≡ 0 → HasStanding l → answer ≡ refused (record { place = 4 * (l.fed / 4); reason = reasons.Truncated })
       → ((rows : List Row) (memory fed : List ℕ) → Stands rows l memory fed → HasFault fed (4 * (l.fed / 4)) reasons.Truncated) → Ends l answer
   WasRefused : TellsAgain l answer → Ends l answer
   HasNoEnd : l.refused ≡ 0 → ((rows : List Row) (memory fed : List ℕ) → Stands rows l memory fed → ⊥) → answer ≡ strange → Ends l answer

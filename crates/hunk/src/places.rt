@@ -3,7 +3,7 @@ ghost use Rattle.std.specs.Prelude.{◌≡◌, true, MatchOption};
 ghost use Rattle.hunk_files.specs.LoadFile.{IsTableEntry};
 ghost use Rattle.hunk_scatter.specs.HeaderBytes.{IsTable};
 ghost use Rattle.hunk_scatter.specs.Rows.{entries_of, entry_of};
-ghost use Rattle.hunk.specs.Streams.{HasSizes, entry_bytes};
+ghost use Rattle.hunk.specs.Streams.{HasSizes};
 
 use hunk_files::Row;
 use hunk_words::{MOST_HUNKS, SizeWord};
@@ -17,13 +17,6 @@ fn is_entry(row: Row) -> bool
     ensures complete { IsTableEntry (entry_of row) → result ≡ true }
 {
     SizeWord::has_extra(row.word) || row.extra == 0
-}
-
-/// The bytes of a size word in a header, with the attributes that may follow it.
-fn entry_bytes(word: u32) -> u64
-    ensures { result ≡ entry_bytes word }
-{
-    if SizeWord::has_extra(word) { 8 } else { 4 }
 }
 
 /// The bytes of the header whose table the rows are, and those that it declares; nothing where no
@@ -45,7 +38,7 @@ pub(crate) fn table_sizes(rows: &[Row]) -> Option<(u64, u64)>
         if !is_entry(row) {
             return None;
         }
-        header += entry_bytes(row.word);
+        header += 4 * SizeWord::entry_longs(row.word) as u64;
         bytes += row.size().bytes();
     }
     Some((header, bytes))

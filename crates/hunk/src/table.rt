@@ -1,14 +1,12 @@
 //! Tables of load files, by their headers alone.
-ghost use Rattle.std.specs.Prelude.{List, ◌≡◌, ◌+◌, ◌*◌, ◌≤◌, IsTrue, if◌then◌else◌, length, map, slice_index};
+ghost use Rattle.std.specs.Prelude.{List, ◌≡◌, length, map};
 ghost use Rattle.hunk_files.specs.LoadFile.{TableEntry};
-ghost use Rattle.hunk_words.specs.Bits.{has_both_bits};
-ghost use Rattle.hunk_words.specs.Longs.{longs};
 ghost use Rattle.hunk.specs.Loads.{BeginsWithHeader};
 ghost use Rattle.hunk.specs.Tables.{BeginsWithTableOf, Tables, row_of};
 
 use crate::answer::{Answer, done, no_room, refused};
 use hunk_scatter::stream::header_size;
-use hunk_words::{SizeWord, word_at};
+use hunk_words::SizeWord;
 
 /// The longword at which the table begins, behind the number of the last hunk.
 const TABLE: usize = 5;
@@ -61,36 +59,10 @@ fn put_rows(bytes: &[u8], rows: &mut [TableRow])
 {
     let mut at = TABLE;
     'rows: for i in 0..rows.len() {
-        let size = size_word_at(bytes, at);
+        let size = SizeWord::at(bytes, at);
         rows[i] = row_of(size);
-        at += longs_of(size);
+        at += SizeWord::entry_longs(size.word);
     }
-}
-
-/// The size word that is the longword number `at`, with the attributes that may follow it.
-fn size_word_at(bytes: &[u8], at: usize) -> SizeWord
-    requires word { 4 * at + 4 ≤ length bytes.now }
-    requires extra { IsTrue (has_both_bits (slice_index (longs bytes.now) at)) →
-        4 * at + 8 ≤ length bytes.now }
-    ensures word { result.word ≡ slice_index (longs bytes.now) at }
-    ensures extra { result.extra ≡ (if has_both_bits (slice_index (longs bytes.now) at)
-        then slice_index (longs bytes.now) (at + 1) else 0) }
-{
-    let word = word_at(bytes, at);
-    let extra = if SizeWord::has_extra(word) {
-        word_at(bytes, at + 1)
-    } else {
-        0
-    };
-    SizeWord { word, extra }
-}
-
-/// How many longwords of the header the size word has.
-fn longs_of(size: SizeWord) -> usize
-    ensures value { result ≡ (if has_both_bits size.word then 2 else 1) }
-    ensures few { result ≤ 2 }
-{
-    if SizeWord::has_extra(size.word) { 2 } else { 1 }
 }
 
 /// What callers see of a size word.

@@ -16,14 +16,14 @@ returns-in-Err c =
 
 pub returns-then-count-rows : goal.returns-then-count-rows
 returns-then-count-rows c =
-    let count = c.len-count.ensures ∙ ap (λ (xs : List FindingValue). length xs) c.in-Ok.ensures in
+    let count = c.len-count.ensures ∙ ap (λ (xs : List FindingValue). length xs) c.in-Ok.ensures.value in
     HasNoRows (files.Object c.args.file.now) c.requires (omega (arith, c.if-count-rows.true, count)) refl
     (c.no_room.ensures ∙ same_answer _ _ _ _ _ _ _ refl (omega (arith, object_size _ _ c.requires)) (omega (arith, count)))
 
 pub returns : goal.returns
 returns c =
-    let count = c.len-count.ensures ∙ ap (λ (xs : List FindingValue). length xs) c.in-Ok.ensures in
-    let rows = c.put_rows.ensures ∙ ap (λ (xs : List FindingValue). map row_of xs) c.in-Ok.ensures in
+    let count = c.len-count.ensures ∙ ap (λ (xs : List FindingValue). length xs) c.in-Ok.ensures.value in
+    let rows = c.put_rows.ensures ∙ ap (λ (xs : List FindingValue). map row_of xs) c.in-Ok.ensures.value in
     HasFindings (files.Object c.args.file.now) c.requires (omega (arith, c.if-count-rows.false, count))
     (ap₂ (λ (xs : List FindingRow) (n : ℕ). xs ++ drop n c.args.rows.now) rows count)
     (c.done.ensures ∙ same_answer _ _ _ _ _ _ _ refl (omega (arith, object_size _ _ c.requires)) (omega (arith, count)))

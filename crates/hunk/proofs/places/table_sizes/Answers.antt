@@ -10,8 +10,8 @@ returns-then-not-is_entry c =
 
 pub rows-preserved : goal.rows-preserved
 rows-preserved c =
-    summed_more c.args.rows.now c.rows.i c.rows.header c.rows.bytes c.entry_bytes-header.result _ _ _ (omega (arith, c.rows-test.true)) refl
-    (c.is_entry.ensures.sound c.if-not-is_entry.false) c.entry_bytes-header.ensures
+    summed_more c.args.rows.now c.rows.i c.rows.header c.rows.bytes _ _ _ _ (omega (arith, c.rows-test.true)) refl
+    (c.is_entry.ensures.sound c.if-not-is_entry.false) (ap (λ (n : ℕ). 4 * n) c.entry_longs.ensures.value)
     (omega (arith, c.bytes-bytes.ensures, ap (λ (w : ℕ). 4 * size_longs w) c.size.ensures.word)) c.rows.invariant
 
 pub returns : goal.returns

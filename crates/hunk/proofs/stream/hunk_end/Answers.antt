@@ -14,7 +14,7 @@ returns-then-is_whole c =
     let ends : EndsLoading at true = subst (EndsLoading at) c.if-is_whole.true c.is_whole.ensures in
     let answered : c.done.result ≡ done c.args.loader.now.hunk c.args.loader.now.fed c.args.loader.now.start =
     c.done.ensures ∙ same_answer 0 _ _ _ _ _ _ refl refl (omega arith) in
-    IsWhole c.in_default.ensures answered
+    IsWhole c.in_default.ensures (at, told) answered
     (λ rows memory fed h. subst (IsStreamed rows memory fed) (sym answered) (streamed rows c.args.loader.now memory fed at told ends h))
 
 pub returns : goal.returns
@@ -22,6 +22,6 @@ returns c =
     let at = c.in-Some-standing.at in
     let told : standing_of c.args.loader.now ≡ Some at = sym c.in-Some-standing.ensures in
     let ends : EndsLoading at false = subst (EndsLoading at) c.if-is_whole.false c.is_whole.ensures in
-    IsCutShort c.in_default.ensures
+    IsCutShort c.in_default.ensures (at, told)
     (c.refused.ensures ∙ ap (λ (n : ℕ). refused (record { place = n; reason = reasons.Truncated })) (omega arith))
     (λ rows memory fed h. cut_short rows c.args.loader.now memory fed at told ends h)

@@ -7,29 +7,29 @@ use Rattle.hunk.proofs.table.put_rows.Goals as goal
 pub rows-init : goal.rows-init
 rows-init c = λ t h e. (record { size = sym e; front = refl }, stands_first _ t h)
 
-pub size_word_at-size-requires-clause-word : goal.size_word_at-size-requires-clause-word
-size_word_at-size-requires-clause-word c =
+pub at-size-requires-clause-word : goal.at-size-requires-clause-word
+at-size-requires-clause-word c =
     let r = c.requires in
     word_room _ r.0 r.1 c.rows.i c.rows.at (c.rows.invariant r.0 r.1 r.2).1 (omega (arith, r.2, c.rows-test.true))
 
-pub size_word_at-size-requires-clause-extra : goal.size_word_at-size-requires-clause-extra
-size_word_at-size-requires-clause-extra c both =
+pub at-size-requires-clause-extra : goal.at-size-requires-clause-extra
+at-size-requires-clause-extra c both =
     let r = c.requires in
     extra_room _ r.0 r.1 c.rows.i c.rows.at (c.rows.invariant r.0 r.1 r.2).1 (omega (arith, r.2, c.rows-test.true)) both
 
 pub overflow_add-at : goal.overflow_add-at
 overflow_add-at c =
     let r = c.requires in
-    omega (arith, word_room _ r.0 r.1 c.rows.i c.rows.at (c.rows.invariant r.0 r.1 r.2).1 (omega (arith, r.2, c.rows-test.true)), c.longs_of-at.ensures.few)
+    omega (arith, word_room _ r.0 r.1 c.rows.i c.rows.at (c.rows.invariant r.0 r.1 r.2).1 (omega (arith, r.2, c.rows-test.true)), c.entry_longs-at.ensures.bound)
 
 pub rows-preserved : goal.rows-preserved
 rows-preserved c = λ t h e.
     let inv = c.rows.invariant t h e in
     let more : c.rows.i < length t = omega (arith, e, c.rows-test.true) in
-    let size = c.size_word_at-size.result in (
-      filled_more row_of t c.rows.rows c.rows.i _ c.row_of.result (entry_is _ t h c.rows.i c.rows.at inv.1 more size.word size.extra c.size_word_at-size.ensures.word c.size_word_at-size.ensures.extra) c.row_of.ensures inv.0,
-      subst (λ (n : ℕ). StandsAt c.args.bytes.now t h (c.rows.i + 1) (c.rows.at + n)) (sym c.longs_of-at.ensures.value)
-          (stands_next _ t h c.rows.i c.rows.at inv.1 more size.word size.extra c.size_word_at-size.ensures.word c.size_word_at-size.ensures.extra),
+    let size = c.at-size.result in (
+      filled_more row_of t c.rows.rows c.rows.i _ c.row_of.result (entry_is _ t h c.rows.i c.rows.at inv.1 more size.word size.extra c.at-size.ensures.word c.at-size.ensures.extra) c.row_of.ensures inv.0,
+      subst (λ (n : ℕ). StandsAt c.args.bytes.now t h (c.rows.i + 1) (c.rows.at + n)) (sym c.entry_longs-at.ensures.value)
+          (stands_next _ t h c.rows.i c.rows.at inv.1 more size.word size.extra c.at-size.ensures.word c.at-size.ensures.extra),
     )
 
 pub returns : goal.returns
