@@ -61,7 +61,7 @@ extern "C" {
 /* What a call answers: 24 bytes. */
 struct hunk_answer {
     uint32_t number; /* HUNK_OK, the number of a reason, HUNK_NO_ROOM or HUNK_STRANGE */
-    uint32_t hunk;   /* the hunks of a load file; at HUNK_NO_BASE the one without; else 0 */
+    uint32_t hunk;   /* the hunks of a load file, or as the call says; else 0 */
     uint64_t place;  /* bytes that were read; at a reason, the byte where it stands, from 0 on */
     uint64_t count;  /* what the call counts (below): written, or needed at HUNK_NO_ROOM; else 0 */
 };
@@ -90,7 +90,7 @@ struct hunk_finding {
  *
  *   bytes   the file, or its first bytes: nothing behind the header is read
  *   budget  the bytes that the hunks may have in memory together
- *   rows    where the rows go, 1 to 65,536 of them
+ *   rows    where the rows go: a table has 1 to 65,536 of them
  *
  * HUNK_OK       hunk: the hunks, as many as rows were written; place: the bytes of the header;
  *               count: the bytes that the hunks have in memory together.
@@ -165,7 +165,7 @@ struct hunk_loader {
     uint32_t refused;      /* the number of its reason; 0 where there was none */
     uint32_t refused_hunk; /* the hunk of its answer */
     uint32_t hunk;         /* the hunks that are whole: the open one, counted from 0 */
-    uint32_t hunks;        /* the hunks of the file */
+    uint32_t hunks;        /* the hunks of the file; 0 behind the file */
     uint32_t ahead;        /* those behind the open one */
     uint32_t has_content;  /* 1 where the open hunk has its content, else 0 */
     uint32_t phase;        /* what the next longword is for, 1 to 13; 14 behind the file */

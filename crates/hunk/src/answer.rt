@@ -11,7 +11,8 @@ use hunk_words::{Fault, Reason};
 pub struct Answer {
     /// 0, the number of a reason, 1 to 31, `NO_ROOM` or `STRANGE`.
     pub number: u32,
-    /// The number of hunks of a load file; the hunk without a base where `number` is that of NoBase.
+    /// The hunks of a load file, or those that are whole while it is fed; the hunk without a base
+    /// where `number` is that of NoBase.
     pub hunk: u32,
     /// The number of bytes that were read; the byte that is refused where `number` is a reason's.
     pub place: u64,

@@ -23,11 +23,11 @@ pub struct Loader {
     pub place: u64,
     /// The number of the reason for which it was, 1 to 31; 0 where none was refused.
     pub refused: u32,
-    /// The hunk that this reason is told of.
+    /// The hunk that the answer of this refusal names.
     pub refused_hunk: u32,
     /// The open hunk; behind the last, the number of hunks.
     pub hunk: u32,
-    /// The number of hunks of the file.
+    /// The number of hunks of the file; 0 where the file is whole.
     pub hunks: u32,
     /// How many hunks come after the open one.
     pub ahead: u32,
@@ -39,10 +39,13 @@ pub struct Loader {
     pub part: u32,
     /// How many longwords of its kind follow the next.
     pub owed: u32,
-    /// How many bytes of the next longword have come, 0 to 3, and which.
+    /// How many bytes of the next longword have come, 0 to 3.
     pub pending: u8,
+    /// The first of these bytes.
     pub first: u8,
+    /// The second of these bytes.
     pub second: u8,
+    /// The third of these bytes.
     pub third: u8,
 }
 
