@@ -31,7 +31,7 @@ def wrong_rows(path):
     is_object = path.endswith("objects.tsv")
     for _, name, text, *wanted in rows_of(path):
         # The library tells the kinds apart by the first longword, and that one declares more than the budget.
-        if name == "header-alone" or is_object and not text.startswith("000003E7"):
+        if name == "header-alone" or is_object and not text.startswith("000003e7"):
             continue
         if is_object and wanted[0] == "accepted":
             wanted = [wanted[0], wanted[2]]

@@ -71,7 +71,7 @@ module _ (base : Placing) (room : ℕ) (bytes : List ℕ) (answer : Answer) wher
   pub not_placed : (t : List TableEntry) (reason : Reason) → BeginsWithHeader bytes t → declared_bytes t ≤ room → IsUnplacedFor base t reason →
       answer ≡ refused (record { place = length (header_bytes t); reason = reason }) → IsNotLoaded base room bytes answer
   not_placed t (reasons.NoBase hunk) h fits u e = HasNoBase t hunk h fits u e
-  not_placed t reasons.OutOfMemory h fits u e = HasNoMemory (length (header_bytes t)) (inr (t, h, refl)) e
+  not_placed t reasons.OutOfMemory h fits u e = HasNoMemory (length (header_bytes t)) (inr (t, h, fits, u, refl)) e
   not_placed t _ h fits u e = absurd u
 
 -- The header that the bytes begin with is known, fits, and was placed.

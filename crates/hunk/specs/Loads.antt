@@ -25,9 +25,10 @@ pub record BeginsWithHeader (bytes : List ℕ) (t : List TableEntry) : Type 0 wh
 abbrev pub IsHeaderRefusal : ℕ → List ℕ → Fault → Type 0
 IsHeaderRefusal budget bytes f = IsHeaderFault budget bytes f ⊎ ((f.reason ≡ reasons.Truncated) × IsTruncated bytes f.place)
 
--- Memory is wanting: for the row that the longword here completes, or, where the header ends, for the segments.
-abbrev pub LacksMemory : List ℕ → ℕ → Type 0
-LacksMemory bytes at = CompletesRow bytes at ⊎ ((t : List TableEntry) × BeginsWithHeader bytes t × (at ≡ length (header_bytes t)))
+-- Memory ran out: for the row that the longword here completes, or, where the header ends, for segments that fit and have their bases.
+abbrev pub LacksMemory : Placing → ℕ → List ℕ → ℕ → Type 0
+LacksMemory base room bytes at =
+    CompletesRow bytes at ⊎ ((t : List TableEntry) × BeginsWithHeader bytes t × (declared_bytes t ≤ room) × HasBases base t × (at ≡ length (header_bytes t)))
 
 -- ---- loads
 
@@ -62,7 +63,7 @@ pub data IsNotLoaded (base : Placing) (room : ℕ) (bytes : List ℕ) (answer : 
       → answer ≡ no_room (length t) (length (header_bytes t)) (declared_bytes t) → IsNotLoaded base room bytes answer
   HasNoBase : (t : List TableEntry) (hunk : ℕ) → BeginsWithHeader bytes t → declared_bytes t ≤ room → IsFirstUnplaced base t hunk
       → answer ≡ refused (record { place = length (header_bytes t); reason = reasons.NoBase hunk }) → IsNotLoaded base room bytes answer
-  HasNoMemory : (at : ℕ) → LacksMemory bytes at → answer ≡ refused (record { place = at; reason = reasons.OutOfMemory }) → IsNotLoaded base room bytes answer
+  HasNoMemory : (at : ℕ) → LacksMemory base room bytes at → answer ≡ refused (record { place = at; reason = reasons.OutOfMemory }) → IsNotLoaded base room bytes answer
 
 -- What a load comes to.
 abbrev pub Loads : Placing → List ℕ → List ℕ → List ℕ → Answer → Type 0

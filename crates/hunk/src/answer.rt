@@ -61,7 +61,7 @@ pub(crate) fn no_room(hunks: u32, place: u64, count: u64) -> Answer
     }
 }
 
-/// The answer where memory is wanting, at the byte that this is for.
+/// The answer where memory ran out, at this byte.
 pub(crate) fn no_memory(place: u64) -> Answer
     ensures { result ≡ refused (record { place = place; reason = reasons.OutOfMemory }) }
 {

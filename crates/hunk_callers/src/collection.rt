@@ -3,15 +3,8 @@
 use hunk_blocks::{Block, Body};
 use hunk_commands::unhex;
 use hunk_files::{HunkFile, LoadFile};
-use hunk_scatter::{Limits, Packed, load};
-use hunk_words::{FromSlice, Reason};
+use hunk_words::Reason;
 use std::alloc::Global;
-
-/// The most bytes that a program may have in memory, and in its file.
-const LIMITS: Limits = Limits {
-    budget: 0x0020_0000,
-    file_bytes: 0x0040_0000,
-};
 
 /// What a collection has.
 #[derive(Debug, Clone, Copy, PartialEq)]
@@ -55,10 +48,8 @@ pub fn survey(alloc: Global, texts: &[&str]) -> anyhow::Result<Collection> {
 fn add_file(alloc: Global, found: &mut Collection, bytes: &[u8]) -> anyhow::Result<()> {
     match HunkFile::decode(alloc, bytes) {
         Ok(HunkFile::Load { file, rest: _ }) => {
-            let placer = Packed { start: 0 };
-            let image = load(alloc, &mut FromSlice::new(bytes), LIMITS, &placer)?;
             found.programs = found.programs.saturating_add(1);
-            found.segment_bytes = found.segment_bytes.saturating_add(image.bytes());
+            found.segment_bytes = found.segment_bytes.saturating_add(file.total());
             found.symbols = found.symbols.saturating_add(count_symbols(&file));
         }
         Ok(HunkFile::Object(file)) => {

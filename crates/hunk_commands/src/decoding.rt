@@ -18,7 +18,8 @@ const MOST: usize = 1 << 56;
 ///
 /// # Errors
 ///
-/// The fault of the bytes, unchanged; `Memory` where memory was refused, and for more bytes than `MOST`.
+/// The fault of the bytes, unchanged; `Memory` where memory was refused, and for more bytes than
+/// `MOST`.
 pub(crate) fn decode_file(alloc: Global, bytes: &[u8]) -> Result<HunkFile<'_>, RunFault>
     ensures ok { IfOk result (IsFileOf bytes.entry.now) }
     ensures few { OnOk result (length bytes.entry.now ≤ 2 ^ 56) }
@@ -34,7 +35,7 @@ pub(crate) fn decode_file(alloc: Global, bytes: &[u8]) -> Result<HunkFile<'_>, R
     }
 }
 
-/// The fault, or `Memory` where memory was wanting.
+/// The fault, or `Memory` where memory ran out.
 fn refusal(fault: Fault) -> RunFault
     ensures { (result ≡ Memory)
         ⊎ ((result ≡ Refused fault) × (fault.reason ≢ reasons.OutOfMemory)) }

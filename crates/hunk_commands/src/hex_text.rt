@@ -66,7 +66,7 @@ impl HexDecoder {
     ///
     /// # Errors
     ///
-    /// `HexText` where it spells none, and `Memory`.
+    /// `HexText` where it spells none, and `Memory` where memory is refused.
     fn finish(self) -> Result<Vec<u8>, RunFault>
         ensures spelled { IfOk result (λ bytes. Spells self bytes.items) }
         ensures refused { IfErr result
@@ -122,8 +122,10 @@ fn is_blank(byte: u8) -> bool
 /// The bytes that the text spells, two digits a byte, where its spaces, tabs, CR and LF count for
 /// nothing.
 ///
+/// # Errors
+///
 /// `HexText` where it spells none: another byte than a digit or a blank, or an odd number of
-/// digits.
+/// digits. `Memory` where memory is refused.
 pub fn unhex(alloc: Global, text: &[u8]) -> Result<Vec<u8>, RunFault>
     ensures spelled { IfOk result (λ bytes. Spells text.now bytes.items) }
     ensures refused { IfErr result
@@ -135,13 +137,20 @@ pub fn unhex(alloc: Global, text: &[u8]) -> Result<Vec<u8>, RunFault>
     decoder.finish()
 }
 
-/// The bytes that all of the source's text spells, as by `unhex`, of fewer than `most` bytes of text.
-/// The text is decoded as it is read, and not kept.
+/// The bytes that all of the source's text spells, as by `unhex`, of fewer than `most` bytes of
+/// text. The text is decoded as it is read, and not kept.
 ///
 /// # Errors
 ///
-/// Those of `read_whole`, with places in the text; and `HexText` where the text was read to its end
-/// and spells no bytes.
+/// The places are in bytes of text, from where the source stood before the call.
+///
+/// - `Refused` with `FileLimit`, at `most`, where `most` bytes of text were read, before an end is
+///   looked for.
+/// - `Read` where the source failed, at the number of bytes of text read.
+/// - `HexText` where the text was read to its end and spells no bytes.
+/// - `Memory` where memory is refused.
+///
+/// What was read of the source stays read.
 pub fn read_hex<S: Source>(alloc: Global, source: &mut S, most: u64) -> Result<Vec<u8>, RunFault>
     ensures spelled { IfOk result
         (λ bytes. ReadsHex (S.left source.old) (S.left source.new) most bytes.items) }

@@ -31,8 +31,16 @@ impl Taker for Vec<u8> {
 
 /// All that the source has left, which are fewer than `most` bytes.
 ///
-/// `FileLimit` at `most` comes where so many bytes were given, before an end is looked for, and
-/// `Read` at the number of bytes given where the source failed.
+/// # Errors
+///
+/// The places are in bytes from where the source stood before the call.
+///
+/// - `Refused` with `FileLimit`, at `most`, where that many bytes were given, before an end is
+///   looked for.
+/// - `Read` where the source failed, at the number of bytes given.
+/// - `Memory` where memory is refused.
+///
+/// What was read of the source stays read, at most `most` bytes.
 pub fn read_whole<S: Source>(alloc: Global, source: &mut S, most: u64) -> Result<Vec<u8>, RunFault>
     ensures given { IfOk result
         (λ bytes. Consumes (S.left source.old) (S.left source.new) bytes.items) }
@@ -48,8 +56,8 @@ pub fn read_whole<S: Source>(alloc: Global, source: &mut S, most: u64) -> Result
     Ok(held)
 }
 
-/// Hands all that the source has left to the taker, which has taken nothing yet. The faults are those
-/// of `read_whole`.
+/// Hands all that the source has left to the taker, which has taken nothing yet. The faults are
+/// those of `read_whole`.
 pub(crate) fn read_all<S: Source, T: Taker>(
     source: &mut S,
     most: u64,

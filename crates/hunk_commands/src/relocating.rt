@@ -27,9 +27,19 @@ use std::alloc::Global;
 /// at most `limits.budget` bytes together, and at most `limits.file_bytes` bytes are read. The
 /// source is left just behind the file.
 ///
-/// The refusals are those of `load`: a fault of the file, `Truncated`, `Budget`, `FileLimit`, and
-/// `NoBase` for the first hunk that would begin at 2^32 or pass it. `Read` comes where the source
-/// failed. Nothing is written before the file was loaded and all memory was given.
+/// # Errors
+///
+/// The places are in bytes from where the source stood before the call.
+///
+/// - `Refused` as `load` rejects the file, at the same place: the first fault of the file,
+///   `Truncated`, `Budget`, `FileLimit`, or `NoBase` for the first hunk that would begin at 2^32 or
+///   end behind it.
+/// - `Read` where the source failed, at the number of bytes read.
+/// - `Memory` where memory is refused.
+/// - `Write` where the writer failed: just the first `written` bytes of the text have gone out.
+///
+/// After every other error than `Write` nothing was written. What was read of the source stays
+/// read, at most `limits.file_bytes` bytes.
 pub fn relocate<R: Source, W: Sink>(
     alloc: Global,
     r: &mut R,
@@ -50,7 +60,8 @@ pub fn relocate<R: Source, W: Sink>(
     ensures header_first { StopsBehindHeader (packed base) limits.budget
         (R.left r.old) (R.left r.new) }
 
-    // After a fault of writing the first bytes of the text have gone out, and after another one nothing has.
+    // After a fault of writing the first bytes of the text have gone out, and after another one
+    // nothing has.
     ensures write { IfErr result (StopsAtWrite w.new.written (Relocates base limits.budget
         limits.file_bytes (R.left r.old) (R.left r.new) (W.taken w.old.sink) (W.taken w.new.sink))) }
     ensures fails { IfErr result (StopsOutput W.taken W.failed w.old w.new) }

@@ -18,17 +18,28 @@ use std::alloc::Global;
 /// What `rewrite` did.
 #[derive(Clone, Copy, Debug, PartialEq, Eq)]
 pub struct Rewritten {
-    /// The bytes that were written.
+    /// The number of bytes that were written.
     pub written: u64,
-    /// The bytes that follow the load file, which were left out.
+    /// The number of bytes that follow the load file, which were left out.
     pub rest: u64,
 }
 
 /// Reads the input to its end, and writes the object file that it is, or the load file that it
 /// begins with; where `strip` is set, without its NAME, SYMBOL, DEBUG and ADVISORY blocks.
 ///
-/// `FileLimit` comes at `file_bytes` where so many bytes were read, before an end is looked for.
-/// Nothing is written before the file was accepted and all memory was given.
+/// # Errors
+///
+/// The places are in bytes from where the source stood before the call.
+///
+/// - `Refused` with `FileLimit`, at `file_bytes`, where that many bytes were read, before an end is
+///   looked for.
+/// - `Refused` with the fault that `HunkFile::decode` answers for the input, at the same place.
+/// - `Read` where the source failed, at the number of bytes read.
+/// - `Memory` where memory is refused, or the input has more than 2^56 bytes.
+/// - `Write` where the writer failed: just the first `written` bytes of the file have gone out.
+///
+/// After every other error than `Write` nothing was written. What was read of the source stays
+/// read, at most `file_bytes` bytes.
 pub fn rewrite<R: Source, W: Sink>(
     alloc: Global,
     r: &mut R,
@@ -43,7 +54,8 @@ pub fn rewrite<R: Source, W: Sink>(
     ensures succeeds { HasFile (R.left r.old) file_bytes → R.failed r.new ≡ false
         → W.failed w.new.sink ≡ false → IfErr result (λ fault. fault ≡ Memory) }
 
-    // After a fault of writing the first bytes of the file have gone out, and after another one nothing has.
+    // After a fault of writing the first bytes of the file have gone out, and after another one
+    // nothing has.
     ensures write { IfErr result (StopsAtWrite w.new.written (Writes (IsRewriting strip)
         (R.left r.old) (R.left r.new) file_bytes (W.taken w.old.sink) (W.taken w.new.sink))) }
     ensures fails { IfErr result (StopsOutput W.taken W.failed w.old w.new) }

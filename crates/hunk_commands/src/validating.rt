@@ -18,10 +18,21 @@ use hunk_words::{LongWriter, Printer, Sink, Source, WriteFault};
 use std::alloc::Global;
 
 /// Reads the input to its end, checks the object file that it is, or the load file that it begins
-/// with, prints what it finds, and answers how much that is.
+/// with, prints what it finds, and answers the number of findings, which is 0 for a load file.
 ///
-/// `FileLimit` comes at `file_bytes` where so many bytes were read, before an end is looked for.
-/// Nothing is written before the file was accepted and all memory was given.
+/// # Errors
+///
+/// The places are in bytes from where the source stood before the call.
+///
+/// - `Refused` with `FileLimit`, at `file_bytes`, where that many bytes were read, before an end is
+///   looked for.
+/// - `Refused` with the fault that `HunkFile::decode` answers for the input, at the same place.
+/// - `Read` where the source failed, at the number of bytes read.
+/// - `Memory` where memory is refused, or the input has more than 2^56 bytes.
+/// - `Write` where the writer failed: just the first `written` bytes of the report have gone out.
+///
+/// After every other error than `Write` nothing was written. What was read of the source stays
+/// read, at most `file_bytes` bytes.
 pub fn validate<R: Source, W: Sink>(
     alloc: Global,
     r: &mut R,
@@ -34,7 +45,8 @@ pub fn validate<R: Source, W: Sink>(
     ensures succeeds { HasFile (R.left r.old) file_bytes → R.failed r.new ≡ false
         → W.failed w.new.sink ≡ false → IfErr result (λ fault. fault ≡ Memory) }
 
-    // After a fault of writing the first bytes of the text have gone out, and after another one nothing has.
+    // After a fault of writing the first bytes of the text have gone out, and after another one
+    // nothing has.
     ensures write { IfErr result (StopsAtWrite w.new.written (Writes IsReport
         (R.left r.old) (R.left r.new) file_bytes (W.taken w.old.sink) (W.taken w.new.sink))) }
     ensures fails { IfErr result (StopsOutput W.taken W.failed w.old w.new) }

@@ -8,7 +8,7 @@ use crate::object::{print_object_line, print_units};
 use hunk_files::{LoadFile, ObjectFile};
 use hunk_words::{Printer, Sink};
 
-/// Lists the hunks and blocks of a load file that so many bytes follow.
+/// Lists the hunks and blocks of a load file that `rest` bytes follow.
 pub fn print_load_file<W: Sink>(page: &mut Printer<'_, W>, file: &LoadFile<'_>, rest: u64)
     ensures { Prints page.old page.new (load_listing file.now rest) }
 {

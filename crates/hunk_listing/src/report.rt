@@ -11,7 +11,7 @@ use crate::load::{print_load_head, print_rest};
 use hunk_files::{Finding, FindingKind, LoadFile, ObjectFile, TakesFindings};
 use hunk_words::{Printer, Sink};
 
-/// Reports a load file that so many bytes follow: nothing is found in one that was accepted.
+/// Reports a load file that `rest` bytes follow: nothing is found in one that was accepted.
 pub fn print_load_summary<W: Sink>(page: &mut Printer<'_, W>, file: &LoadFile<'_>, rest: u64)
     ensures { Prints page.old page.new (load_summary file.now rest) }
 {

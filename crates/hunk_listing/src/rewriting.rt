@@ -7,7 +7,7 @@ use crate::line::Line;
 use hunk_words::{PagePrinter, Sink};
 
 /// Prints the lines that say how many bytes were written, and how many behind the file, where
-/// there are some, were left out.
+/// there are some, were left out: `written` and `rest`.
 pub fn print_rewriting<W: Sink, const ROOM: usize>(
     page: &mut PagePrinter<'_, W, ROOM>,
     written: u64,

@@ -10,7 +10,7 @@ use hunk_words::{Printer, Sink};
 /// How many bytes of a segment a row shows.
 const ROW: usize = 16;
 
-/// Prints the lines of one segment: its number, its base and its bytes.
+/// Prints the lines of one segment: its hunk's number, its address and its bytes.
 pub fn print_segment<W: Sink>(page: &mut Printer<'_, W>, number: u32, base: u32, bytes: &[u8])
     ensures { Prints page.old page.new
         (segment_lines number (record { base = base; bytes = bytes.now })) }
@@ -52,8 +52,8 @@ fn print_row<W: Sink>(page: &mut Printer<'_, W>, bytes: &[u8])
     }
 }
 
-/// Prints a row of 16 bytes: apart from a shorter one, so that all its lengths are known where it is
-/// compiled.
+/// Prints a row of 16 bytes: apart from a shorter one, so that all its lengths are known where it
+/// is compiled.
 #[tactic(auto, unfolding(crate::specs::SegmentLines::row))]
 fn print_whole_row<W: Sink>(page: &mut Printer<'_, W>, bytes: &[u8; ROW])
     ensures { Prints page.old page.new (row bytes.now) }

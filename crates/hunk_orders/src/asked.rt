@@ -47,27 +47,38 @@ impl FileName {
 pub enum Order {
     /// `show`: lists a load file or an object file.
     Show {
+        /// Whether the input is hexadecimal text.
         hex: bool,
+        /// The file to read; standard input where there is none.
         file: Option<FileName>,
     },
     /// `validate`: checks a load file or an object file.
     Validate {
+        /// Whether the input is hexadecimal text.
         hex: bool,
+        /// The file to read; standard input where there is none.
         file: Option<FileName>,
     },
     /// `relocate`: loads a load file from the address `base` on, and prints its segments, which
     /// may have at most `budget` bytes together.
     Relocate {
+        /// Whether the input is hexadecimal text.
         hex: bool,
+        /// The address of the first hunk.
         base: u32,
+        /// The most bytes that all segments may have together.
         budget: u64,
+        /// The file to read; standard input where there is none.
         file: Option<FileName>,
     },
     /// `rewrite`: writes the file `input` again, to `output`. Where `strip` is set, what a loader
     /// does not need is left out.
     Rewrite {
+        /// Whether what a loader does not need is left out.
         strip: bool,
+        /// The file to read.
         input: FileName,
+        /// The file to write.
         output: FileName,
     },
 }
@@ -79,7 +90,7 @@ pub enum OrderFault {
     Line,
     /// The words ask for help, which is this text.
     Help(String),
-    /// No memory was given.
+    /// Memory was refused.
     Memory,
 }
 

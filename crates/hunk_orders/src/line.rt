@@ -91,7 +91,7 @@ fn rewrite_order(alloc: Global, found: &ArgMatches<'_>) -> Result<Order, OrderFa
     })
 }
 
-/// What an error of clap means: the help that was asked for, want of memory, or no order.
+/// What an error of clap means: the help that was asked for, out of memory, or no order.
 fn fault_of(alloc: Global, error: &Error) -> OrderFault
     ensures memory { kind_of error.now ≡ ErrorKind.OutOfMemory → result ≡ Memory }
     ensures asked { IsHelp result → kind_of error.now ≡ ErrorKind.DisplayHelp }
@@ -166,9 +166,11 @@ fn order_in<S: AsStr>(alloc: Global, words: &[S]) -> Result<Order, OrderFault>
 /// The order that the words are, of which the first is the program's name. Where no word follows
 /// it, the words `relocate --hex --base 00000000` are taken.
 ///
+/// # Errors
+///
 /// `Help` where the words ask for help; `Line` where they are none of the program's command lines,
 /// or where HEX is not eight hexadecimal digits, or N no decimal number below 2^64; `Memory` where
-/// no memory was given.
+/// memory is refused.
 pub fn order(alloc: Global, words: &[String]) -> Result<Order, OrderFault>
     ensures ok { IfOk result (λ order. order_of (map string_bytes words.now) ≡ Some order) }
     ensures err { IfErr result

@@ -21,7 +21,7 @@ use Rattle.hunk_scatter.specs.HeaderLoaderFields.{adds, declares, RefusesWord, H
 use Rattle.hunk_scatter.specs.HeaderFaults.{PassesBudget, IsBudgetOrMemory}
 use Rattle.hunk_scatter.specs.HeaderSizes.{RefusesHeader}
 use Rattle.hunk_scatter.specs.Rows.{entries_of, row_of}
-use Rattle.hunk_scatter.proofs.HeaderFields.{heading_new, heading_room, heading_pending, heading_word, heading_table, heading_total, heading_truncated, heading_not_whole, heading_as}
+use Rattle.hunk_scatter.proofs.HeaderFields.{heading_new, heading_room, heading_pending, heading_word, heading_table, heading_total, heading_truncated, heading_within, heading_not_whole, heading_as}
 use Rattle.hunk_scatter.proofs.HeaderEnds.{heading_ends}
 use Rattle.hunk_scatter.proofs.HeaderStops.{header_longs, stop_refused, stop_passes, stop_accepts}
 use Rattle.hunk_scatter.proofs.Runs.{in_place}
@@ -68,6 +68,14 @@ module _ (budget : ℕ) (bytes : List ℕ) (s : HeaderState) (at : ℕ) (h : Hea
         subst (λ (n : ℕ). IsTruncated bytes n) place
         (subst (λ (xs : List ℕ). IsTruncated xs (4 * (length xs / 4))) whole
         (heading_truncated budget h.rows s end (take at bytes ++ end) (all.reading refl)))
+
+    -- The budget is passed nowhere in bytes that end there.
+    pub cut_within : length (drop at bytes) < 4 → (place : ℕ) → PassesBudget budget bytes place → ⊥
+    cut_within few place p =
+        let end = drop at bytes in
+        let all = heading_pending budget h.rows s [] at None (take at bytes) h.read refl more end end (length end) refl refl few in
+        heading_within budget h.rows s end (take at bytes ++ end) (all.reading refl) place
+        (subst (λ (xs : List ℕ). PassesBudget budget xs place) (sym (take-append-drop at bytes)) p)
 
     -- No header is in front of bytes that end there.
     pub none_cut : length (drop at bytes) < 4 → (t : List TableEntry) (rest : List ℕ) → IsTable t → bytes ≡ header_bytes t ++ rest → ⊥

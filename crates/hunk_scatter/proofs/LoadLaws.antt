@@ -87,7 +87,7 @@ module _ (base : Placing) (budget limit : ℕ) (left : Option (List ℕ)) (faile
 
   between : (r : Reason) (t : List TableEntry) → IsHeaderWithin budget given t → IsUnplacedFor base t r → at ≡ length given → IsLoadFaultBy r base budget limit left failed given at
   between (reasons.NoBase hunk) t h u p = (t, h, u, p)
-  between reasons.OutOfMemory t h u p = (record { table = t; is_table = h.is_table; more = []; fits = sym h.header ∙ sym (append-nil given) }, inr (t, h, p))
+  between reasons.OutOfMemory t h u p = (record { table = t; is_table = h.is_table; more = []; fits = sym h.header ∙ sym (append-nil given) }, inr (t, h, u, p))
   between _ t h u p = absurd u
 
 short_of : (budget limit : ℕ) (left : Option (List ℕ)) (failed : Bool) (given : List ℕ) (f : Fault) → StopsShort limit left failed given f → ((at : ℕ) → PassesBudget budget given at → ⊥) → IsShort budget given

@@ -24,7 +24,7 @@ pub record HasHeaderSize (budget : ℕ) (bytes : List ℕ) (size : HeaderSize) :
 abbrev pub HasHeaderInFront : List ℕ → Type 0
 HasHeaderInFront bytes = (table : List TableEntry) × (rest : List ℕ) × IsTable table × (bytes ≡ header_bytes table ++ rest)
 
--- Why a header is refused: a longword is, or with one the declared bytes first pass the budget, or the bytes end.
+-- Why a header is refused: a longword is, or with one the declared bytes first pass the budget, or the bytes end before that.
 abbrev pub RefusesHeader : ℕ → List ℕ → Fault → Type 0
 RefusesHeader budget bytes f =
-    HasRefusal bytes f.place f.reason ⊎ (((f.reason ≡ reasons.Budget) × PassesBudget budget bytes f.place) ⊎ ((f.reason ≡ reasons.Truncated) × IsTruncated bytes f.place))
+    HasRefusal bytes f.place f.reason ⊎ (((f.reason ≡ reasons.Budget) × PassesBudget budget bytes f.place) ⊎ ((f.reason ≡ reasons.Truncated) × IsTruncated bytes f.place × ((at : ℕ) → PassesBudget budget bytes at → ⊥)))

@@ -82,9 +82,9 @@ pub record IsHeaderWithin (budget : ℕ) (bytes : List ℕ) (table : List TableE
   pub header : bytes ≡ header_bytes table
   pub within : declared_bytes table ≤ budget
 
--- Memory is missing for a row, at the longword that completes it, or for the store, behind the header.
-abbrev pub WantsMemory : ℕ → List ℕ → ℕ → Type 0
-WantsMemory budget given at = CompletesRow given at ⊎ ((table : List TableEntry) × IsHeaderWithin budget given table × (at ≡ length given))
+-- Memory is missing for a row, at the longword that completes it, or for the store, behind the header of a table whose hunks all have a base.
+abbrev pub WantsMemory : Placing → ℕ → List ℕ → ℕ → Type 0
+WantsMemory base budget given at = CompletesRow given at ⊎ ((table : List TableEntry) × IsHeaderWithin budget given table × HasBases base table × (at ≡ length given))
 
 -- The fault of a load, by its reason, where the reader has given these bytes: what is left then, and whether it failed.
 abbrev pub IsLoadFaultBy : Reason → Placing → ℕ → ℕ → Option (List ℕ) → Bool → List ℕ → ℕ → Type 0
@@ -94,7 +94,7 @@ IsLoadFaultBy reasons.Read base budget limit left failed given at = (at ≡ leng
 IsLoadFaultBy reasons.Truncated base budget limit left failed given at = IsAtEnd left × IsTruncated given at × IsShort budget given
 IsLoadFaultBy (reasons.NoBase hunk) base budget limit left failed given at =
     (table : List TableEntry) × IsHeaderWithin budget given table × IsFirstUnplaced base table hunk × (at ≡ length given)
-IsLoadFaultBy reasons.OutOfMemory base budget limit left failed given at = BeginsHeader given × WantsMemory budget given at
+IsLoadFaultBy reasons.OutOfMemory base budget limit left failed given at = BeginsHeader given × WantsMemory base budget given at
 IsLoadFaultBy reason base budget limit left failed given at = HasRefusal given at reason
 
 abbrev pub IsLoadFault : Placing → ℕ → ℕ → Option (List ℕ) → Bool → List ℕ → Fault → Type 0

@@ -51,8 +51,8 @@ impl Model for BodyLoader {
         s.count s.refused s.history.bytes };
 }
 
-/// Says that a longword was refused, for what the loader then tells. It has no bytes, so that the
-/// answers of the functions that each piece goes through stay in registers.
+/// Says that a longword was rejected; the loader keeps why. It has no bytes, so that the answers of
+/// the functions that each piece goes through stay in registers.
 #[derive(Clone, Copy)]
 struct Refused;
 
@@ -154,8 +154,8 @@ impl BodyLoader {
         self.take_long(piece)
     }
 
-    /// Takes the piece, or up to the end of the file where that stands inside it, one longword after
-    /// another.
+    /// Takes the piece, or up to the end of the file where that stands inside it, one longword
+    /// after another.
     #[inline(never)]
     fn take_longs(&mut self, piece: &[u8]) -> Result<usize, Refused>
         requires room { length self.old.fed + length piece.now < 2 ^ 64 }
@@ -179,8 +179,8 @@ impl BodyLoader {
         Ok(taken)
     }
 
-    /// Takes the piece, or up to the end of the file where that stands inside it. Where no longword is
-    /// gathered, those that lie whole in the piece are taken at once.
+    /// Takes the piece, or up to the end of the file where that stands inside it. Where no longword
+    /// is gathered, those that lie whole in the piece are taken at once.
     #[inline(never)]
     fn take_parts(&mut self, piece: &[u8]) -> Result<usize, Refused>
         requires room { length self.old.fed + length piece.now < 2 ^ 64 }
@@ -206,7 +206,7 @@ impl BodyLoader {
         }
     }
 
-    /// Takes the piece as `take_parts` does, and tells the refusal.
+    /// Takes the piece as `take_parts` does, and answers the refusal.
     #[inline(always)]
     pub(crate) fn take_piece(&mut self, piece: &[u8]) -> Result<usize, LoadFault>
         requires room { length self.old.fed + length piece.now < 2 ^ 64 }
@@ -254,10 +254,10 @@ impl BodyLoader {
 
     /// How many bytes to read next, at most; 0 where nothing more is taken.
     ///
-    /// No load file with this table that begins with what was fed ends sooner than so many bytes
-    /// later. While a content, a name, a payload or a list of offsets is under way, what is still to
-    /// come of it is wanted at once, up to 256 bytes. No longword that was fed is refused before
-    /// `feed` refuses; where this is not 0 and the input ends here, the input is truncated.
+    /// Every load file with this table that begins with what was fed has at least as many bytes
+    /// more. While a content, a name, a payload or a list of offsets is under way, what is still to
+    /// come of it is wanted at once, up to 256 bytes. No longword that was fed is rejected before
+    /// `feed` answers that; where this is not 0 and the input ends here, the input is truncated.
     #[inline(always)]
     pub fn want(&self) -> usize
         ensures bound { result ≤ 256 }
@@ -286,10 +286,17 @@ impl BodyLoader {
     }
 
     /// Consumes the piece, or up to the end of the file where that stands inside it, and gives the
-    /// number of bytes consumed. A file that is whole consumes nothing.
+    /// number of bytes consumed. A file that is whole consumes nothing. Fewer than 2^64 bytes may
+    /// be fed in all. It takes no memory.
     ///
-    /// A refusal is the first fault of all that was fed, this piece included, whatever the pieces
-    /// before. It consumes nothing, and each later `feed` answers it again.
+    /// # Errors
+    ///
+    /// The first fault of all that was fed, this piece included, however it was cut. The place is
+    /// the first byte of the longword that is rejected, from the start of the file. It is never
+    /// `Truncated` and never `OutOfMemory`.
+    ///
+    /// Nothing is consumed then: `fed` stays as it was. Each later `feed` answers the same and
+    /// changes nothing, and `want` is 0.
     #[inline(never)]
     pub fn feed(&mut self, piece: &[u8]) -> Result<usize, LoadFault>
         requires { length self.old.fed + length piece.now < 2 ^ 64 }
@@ -343,14 +350,18 @@ impl BodyLoader {
         self.store.len() as u64 + 12 * self.rows.len() as u64
     }
 
-    /// The number of bytes of header and body that were consumed.
+    /// The number of bytes of header and body that were consumed. A rejected piece adds none.
     pub fn fed(&self) -> u64
         ensures { result ≡ length self.now.fed }
     {
         self.count
     }
 
-    /// The image, where the file is whole; else the loader as it was.
+    /// The image of a file that is whole.
+    ///
+    /// # Errors
+    ///
+    /// The loader as it was, where the file is not whole or a piece was rejected.
     pub fn finish(self) -> Result<Image, BodyLoader>
         ensures image { IfOk result (λ image. IsImageOf self.rows self.fed image.segments) }
         ensures rows { IfOk result (λ image. image.rows ≡ self.rows) }

@@ -12,14 +12,17 @@ use hunk_words::Reason;
 /// The position, the open hunk, and the byte of the store where its segment begins.
 #[derive(Clone, Copy, Debug, PartialEq, Eq)]
 pub struct BodyState {
+    /// The byte of the store where the segment of the open hunk begins.
     pub start: u64,
+    /// The open hunk, counted from 0.
     pub hunk: u32,
+    /// What the next longword is for.
     pub position: Position,
 }
 
-/// The declared longs of a hunk.
+/// The number of longwords that the table declares for a hunk.
 #[inline(always)]
-pub fn longs_of(rows: &[Row], hunk: u32) -> u32
+pub(crate) fn longs_of(rows: &[Row], hunk: u32) -> u32
     requires { hunk < length rows.now }
     ensures value { result ≡ longs_at (words_of rows.now) hunk }
     ensures bound { result < content_limit }
@@ -28,8 +31,8 @@ pub fn longs_of(rows: &[Row], hunk: u32) -> u32
 }
 
 impl BodyState {
-    /// Before the first block of the first of so many hunks.
-    pub fn start(hunks: u32) -> BodyState
+    /// Before the first block of the first of `hunks` hunks.
+    pub(crate) fn start(hunks: u32) -> BodyState
         ensures { result ≡ record { hunk = 0; start = 0; position = open_next hunks hunks } }
     {
         BodyState {
@@ -39,9 +42,9 @@ impl BodyState {
         }
     }
 
-    /// The refusal of the next longword.
+    /// Why the next longword is rejected; `None` where it is not.
     #[inline(always)]
-    pub fn refuse(&self, rows: &[Row], word: u32) -> Option<Reason>
+    pub(crate) fn refuse(&self, rows: &[Row], word: u32) -> Option<Reason>
         requires { self.now.hunk < length rows.now }
         ensures refusal { result ≡ refusal (words_of rows.now) self.now word }
         ensures long { word < 2 ^ 32 }
@@ -49,9 +52,9 @@ impl BodyState {
         self.position.refuse(longs_of(rows, self.hunk), word)
     }
 
-    /// Behind a longword that is not refused.
+    /// Behind a longword that is not rejected.
     #[inline(always)]
-    pub fn step(self, rows: &[Row], word: u32) -> BodyState
+    pub(crate) fn step(self, rows: &[Row], word: u32) -> BodyState
         requires rows { length rows.now < 2 ^ 32 }
         requires room { (total : ℕ) × (total < 2 ^ 64) × IsInStore (words_of rows.now) total self }
         ensures { result ≡ step_body (words_of rows.now) self word }

@@ -42,11 +42,14 @@ impl Model for Declared {
     ghost invariant = { λ s. DeclaredInvariant s.rows.items s.total s.budget s.count s.history.bytes };
 }
 
-/// A table that could not be placed, as it was, and why. It is displayed as the refusal of a load that ends so,
-/// at the end of the header.
+/// A table that could not be placed, and why.
+///
+/// It is displayed as the refusal of a load that ends so, at the end of the header.
 #[derive(Debug, Drop)]
 pub struct Unplaced {
+    /// The table as it was, every base 0.
     pub declared: Declared,
+    /// `NoBase` of the hunk without a base, or `OutOfMemory`.
     pub reason: Reason,
 }
 
@@ -78,7 +81,7 @@ impl Declared {
         self.rows.len() as u32
     }
 
-    /// The table's entry of a hunk, with base 0.
+    /// The table's entry of hunk `i`, counted from 0, with base 0.
     pub fn row(&self, i: u32) -> Row
         requires { i < length self.now.table }
         ensures { slice_get (map row_of self.now.table) i ≡ Some result }
@@ -86,7 +89,7 @@ impl Declared {
         self.rows[i as usize]
     }
 
-    /// The bytes that all hunks declare, at most the budget.
+    /// The number of bytes that all hunks declare together, at most the budget.
     pub fn total(&self) -> u64
         ensures value { result ≡ declared_bytes self.now.table }
         ensures bound { result ≤ self.now.budget }
@@ -101,7 +104,7 @@ impl Declared {
         12 * self.rows.len() as u64
     }
 
-    /// The number of bytes of the header.
+    /// The number of bytes of the header, from the start of the file to the end of the table.
     pub(crate) fn header_len(&self) -> u64
         ensures { result ≡ length (header_bytes self.now.table) }
     {
@@ -121,9 +124,12 @@ impl Declared {
 
     /// Places each hunk, and makes the store, of as many zero bytes as are declared.
     ///
-    /// The placer is asked for the hunks in rising order. The first that has no base is NoBase;
-    /// without memory for the store the answer is OutOfMemory. Either way the table comes back as
-    /// it was, every base 0.
+    /// The placer is asked for the hunks in rising order.
+    ///
+    /// # Errors
+    ///
+    /// `NoBase` of the first hunk that has no base; `OutOfMemory` where memory for the store is
+    /// refused. Either way the table comes back as it was, every base 0.
     pub fn place<P: Placer>(self, placer: &P) -> Result<BodyLoader, Unplaced>
         ensures fed { IfOk result (λ loader. loader.fed ≡ header_bytes self.table) }
         ensures rows { IfOk result (λ loader. entries_of loader.rows ≡ self.table) }

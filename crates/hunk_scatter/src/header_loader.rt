@@ -26,7 +26,7 @@ use hunk_words::{Assembler, History, LoadFault, Reason};
 use std::alloc::Global;
 use std::marker::Model;
 
-/// Takes the header of a load file, whose hunks may declare so many bytes together.
+/// Takes the header of a load file, whose hunks may declare no more bytes together than a budget.
 ///
 /// Contracts see the bytes that were consumed, the budget and the refusal. Memory is asked for rows
 /// that were read, and for nothing else.
@@ -55,7 +55,8 @@ impl Model for HeaderLoader {
 }
 
 impl HeaderLoader {
-    /// A loader that nothing was fed to. It takes no memory.
+    /// A loader that nothing was fed to. All hunks together may declare `budget` bytes. It takes no
+    /// memory.
     pub fn new(alloc: Global, budget: u64) -> HeaderLoader
         ensures fed { result.fed ≡ [] }
         ensures budget { result.budget ≡ budget }
@@ -118,10 +119,10 @@ impl HeaderLoader {
 
     /// How many bytes to read next, at most; 0 where nothing more is taken.
     ///
-    /// No header that begins with what was fed ends sooner than so many bytes later. What each one
-    /// still has that begins with the longwords fed is wanted at once, up to 256 bytes: a longword at
-    /// least of each row owed. No longword that was fed is refused before `feed` refuses; where the
-    /// input ends here, it is truncated.
+    /// Every header that begins with what was fed has at least as many bytes more. What each one
+    /// still has that begins with the longwords fed is wanted at once, up to 256 bytes: a longword
+    /// at least of each row owed. No longword that was fed is rejected before `feed` answers that;
+    /// where the input ends here, it is truncated.
     pub fn want(&self) -> usize
         ensures bound { result ≤ 256 }
         ensures least { (table : List TableEntry) (more : List ℕ) → IsTable table
@@ -172,12 +173,21 @@ impl HeaderLoader {
         Ok(taken)
     }
 
-    /// Consumes the piece, or up to the end of the header where that stands inside it, and gives the
-    /// number of bytes consumed: none behind the header. A header that is whole consumes nothing.
+    /// Consumes the piece, or up to the end of the header where that stands inside it, and gives
+    /// the number of bytes consumed: none behind the header. A header that is whole consumes
+    /// nothing. Fewer than 2^64 bytes may be fed in all.
     ///
-    /// A refusal is Budget at the size word with which the declared bytes first pass the budget,
-    /// OutOfMemory at the longword that completes a row, or the first fault of all that was fed,
-    /// this piece included. It consumes nothing, and each later `feed` answers it again.
+    /// # Errors
+    ///
+    /// The place is the first byte of a longword, from the start of the file.
+    ///
+    /// - The first fault of all that was fed, this piece included, where a longword is rejected.
+    /// - `Budget` at the size word with which the declared bytes first pass the budget.
+    /// - `OutOfMemory` at the longword that completes a row, where memory for it is refused. The
+    ///   last byte of that longword is in this piece.
+    ///
+    /// Nothing is consumed then, and no row is held. Each later `feed` answers the same and changes
+    /// nothing, and `want` is 0.
     pub fn feed(&mut self, piece: &[u8]) -> Result<usize, LoadFault>
         requires { length self.old.fed + length piece.now < 2 ^ 64 }
         ensures budget { self.new.budget ≡ self.old.budget }
@@ -227,7 +237,7 @@ impl HeaderLoader {
         }
     }
 
-    /// The bytes that are held: 12 for each row that is whole in what was fed, none after a refusal.
+    /// The bytes that are held: 12 for each row that is whole in what was fed, none after an error.
     pub fn held(&self) -> u64
         ensures exact { self.now.refused ≡ None
             → result ≡ 12 * length (entries_so_far (longs self.now.fed)) }
@@ -244,7 +254,11 @@ impl HeaderLoader {
         self.count
     }
 
-    /// The table, where the header is whole; else the loader as it was.
+    /// The table of a header that is whole.
+    ///
+    /// # Errors
+    ///
+    /// The loader as it was, where the header is not whole or a piece was rejected.
     pub fn declared(self) -> Result<Declared, HeaderLoader>
         ensures table { IfOk result (λ d. IsTable d.table × (self.fed ≡ header_bytes d.table)) }
         ensures budget { IfOk result (λ d. d.budget ≡ self.budget) }

@@ -15,9 +15,9 @@ const TABLE_SIZE: usize = 2;
 pub struct HeaderSize {
     /// The number of hunks.
     pub hunks: u32,
-    /// The bytes of the header.
+    /// The number of bytes of the header, from the start of the file.
     pub bytes: u64,
-    /// The bytes that the hunks declare together.
+    /// The number of bytes that all hunks declare together.
     pub declared: u64,
 }
 
@@ -27,8 +27,12 @@ pub struct HeaderSize {
 ///
 /// # Errors
 ///
-/// The first fault of the header; Budget at the size word with which the declared bytes first pass the
-/// budget; Truncated where the bytes end inside the header.
+/// The place is in bytes from the start of the input.
+///
+/// - Where a longword of the header is rejected: the first fault, at the first byte of its
+///   longword, with the reason.
+/// - `Budget` at the size word with which the declared bytes first pass the budget.
+/// - `Truncated` where the bytes end inside the header, at 4 times the number of whole longwords.
 pub fn header_size(bytes: &[u8], budget: u64) -> Result<HeaderSize, LoadFault>
     ensures size { IfOk result (HasHeaderSize budget bytes.now) }
     ensures refusal { IfErr result (RefusesHeader budget bytes.now) }

@@ -12,9 +12,9 @@ use hunk_words::{Reason, SizeWord};
 
 /// The position, and the bytes that the size words so far declare.
 #[derive(Clone, Copy, Debug, PartialEq, Eq)]
-pub struct HeaderState {
-    pub position: Position,
-    pub total: u64,
+pub(crate) struct HeaderState {
+    pub(crate) position: Position,
+    pub(crate) total: u64,
 }
 
 /// The bytes that a longword declares: those of a size word.
@@ -53,8 +53,12 @@ fn row(position: Position, word: u32) -> Option<Row>
     }
 }
 
-/// Passes a longword, or tells why it is refused: by its own test, or by the budget.
-pub fn pass_header_word(state: HeaderState, budget: u64, word: u32) -> Result<HeaderState, Reason>
+/// Passes a longword, or answers why it is rejected: by its own test, or by the budget.
+pub(crate) fn pass_header_word(
+    state: HeaderState,
+    budget: u64,
+    word: u32,
+) -> Result<HeaderState, Reason>
     requires going { is_behind_header state.position ≡ false }
     requires room { state.total + 2 ^ 32 < 2 ^ 64 }
     ensures position { IfOk result (λ s. s.position ≡ step state.position word) }
@@ -77,9 +81,9 @@ pub fn pass_header_word(state: HeaderState, budget: u64, word: u32) -> Result<He
     })
 }
 
-/// Takes a longword and stores the row that it completes, or tells why it is refused: by its own test,
-/// by the budget, or for want of memory.
-pub fn take_header_word(
+/// Takes a longword and stores the row that it completes, or answers why not: by its own test, by
+/// the budget, or because memory for the row is refused.
+pub(crate) fn take_header_word(
     rows: &mut Vec<Row>,
     state: HeaderState,
     budget: u64,

@@ -13,7 +13,8 @@ use std::marker::Model;
 /// How many segments an image's index has the start of.
 const STARTS: usize = 32;
 
-/// The hunks from one start of the index to the next: `STARTS` times as many are the most of a file.
+/// The hunks from one start of the index to the next: `STARTS` times as many are the most of a
+/// file.
 const HUNKS_A_START: usize = 2048;
 
 /// The segments of a load file, each as it lies at its base.
@@ -55,7 +56,7 @@ fn start_of(rows: &[Row]) -> u64
 }
 
 /// The index of an image: where every 2,048th segment begins. It is made in one pass.
-pub fn starts_of(rows: &[Row]) -> [u64; STARTS]
+pub(crate) fn starts_of(rows: &[Row]) -> [u64; STARTS]
     requires { length rows.now ≤ most_hunks }
     ensures { AreStarts rows.now result }
 {
@@ -97,7 +98,7 @@ impl Image {
         self.rows.len() as u32
     }
 
-    /// The table's entry of a hunk, and its base.
+    /// The table's entry of hunk `i`, counted from 0, and its base.
     pub fn row(&self, i: u32) -> Row
         requires { i < length self.now.rows }
         ensures { slice_get self.now.rows i ≡ Some result }
@@ -105,7 +106,7 @@ impl Image {
         self.rows[i as usize]
     }
 
-    /// The byte of memory where a hunk begins.
+    /// The address at which a hunk begins.
     pub fn base(&self, i: u32) -> u32
         requires { i < length self.now.rows }
         ensures { result ≡ slice_index (bases_of self.now.rows) i }
@@ -113,8 +114,8 @@ impl Image {
         base_of(self.rows.as_slice(), i)
     }
 
-    /// The bytes of a hunk. It is found by summing the bytes of at most 2,047 hunks: for all hunks take
-    /// `segments`.
+    /// The bytes of a hunk. It is found by summing the bytes of at most 2,047 hunks: for all hunks
+    /// take `segments`.
     pub fn segment(&self, i: u32) -> &[u8]
         requires { i < length self.now.rows }
         ensures { slice_get self.now.segments i ≡ Some result.now }
@@ -141,7 +142,7 @@ impl Image {
         self.store.as_slice()
     }
 
-    /// The bytes of all hunks.
+    /// The number of bytes of all hunks together.
     #[tactic(auto, using(crate::proofs::DeclaredBytes::cut_total))]
     pub fn bytes(&self) -> u64
         ensures declared { result ≡ declared_bytes (entries_of self.now.rows) }

@@ -1,9 +1,10 @@
 //! How much a load may hold and read.
 
-/// The limits of a load: the bytes that all segments together may have, and the bytes that may be
-/// read.
+/// The limits of a load, in bytes.
 #[derive(Clone, Copy, Debug, PartialEq, Eq)]
 pub struct Limits {
+    /// The most bytes that all segments together may have.
     pub budget: u64,
+    /// The most bytes that may be read.
     pub file_bytes: u64,
 }

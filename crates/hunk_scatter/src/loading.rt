@@ -179,15 +179,26 @@ fn load_placed<R: Source, P: Placer>(
 
 /// Loads a file from a source, as it comes, each hunk to where the placer puts it.
 ///
-/// At most `limits.budget` bytes of segments and 12 bytes for each hunk are held, beside a buffer of
-/// 256 bytes. No byte is read that cannot be one of the file's: the source is left just behind it.
-/// Memory is asked for the rows that were read, and once for the store.
+/// At most `limits.budget` bytes of segments and 12 bytes for each hunk are held, beside a buffer
+/// of 256 bytes. A file that is loaded is read to its end and no further: what follows it is still
+/// to be read. Memory is asked for the rows that were read, and once for the store.
 ///
-/// Where the file is no load file the answer is its first fault, or Truncated; Budget where its
-/// table declares more than the budget, before a hunk is placed; NoBase where a hunk has no base;
-/// FileLimit where `limits.file_bytes` were read and more is needed; Read where the source failed;
-/// OutOfMemory where memory was refused, for a row at the longword that completes it, or for the
-/// store, behind the header. After an `Err` there is no image.
+/// # Errors
+///
+/// The place is in bytes from where the source stood before the call.
+///
+/// - The first fault of the file, at the first byte of the longword that is rejected.
+/// - `Truncated` where the source ends inside the file, at 4 times the number of whole longwords.
+/// - `Budget` at the size word with which the declared bytes first pass `limits.budget`, and
+///   `NoBase`, with the number of the first hunk without a base, at the end of the header: both
+///   before a byte behind the header is read.
+/// - `FileLimit` where `limits.file_bytes` bytes were read and more are needed, at that number.
+/// - `Read` where the source failed, at the number of bytes read.
+/// - `OutOfMemory` where memory is refused: for a row at the longword that completes it, or for the
+///   store at the end of the header.
+///
+/// There is no image then. What was read of the source stays read, at most `limits.file_bytes`
+/// bytes.
 pub fn load<R: Source, P: Placer>(
     alloc: Global,
     r: &mut R,

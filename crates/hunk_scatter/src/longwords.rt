@@ -49,9 +49,9 @@ fn take_one(
     }
 }
 
-/// Takes the block word at the front of the piece, and gives its number of bytes. Each kind that a load
-/// file has is named here, so that what is asked of it, whether it is refused and what follows it, is
-/// compiled for that kind alone.
+/// Takes the block word at the front of the piece, and gives its number of bytes. Each kind that a
+/// load file has is named here, so that what is asked of it, whether it is refused and what follows
+/// it, is compiled for that kind alone.
 #[inline(always)]
 fn take_block_word(
     store: &mut [u8],
@@ -90,8 +90,8 @@ fn take_block_word(
 }
 
 /// Takes longwords from the front of the piece, and gives their number of bytes: those of a run, or
-/// of a list of offsets, at once, and else one. The state stands at this phase of this hunk; where the
-/// caller knows the phase, nothing is compiled of what it does at others.
+/// of a list of offsets, at once, and else one. The state stands at this phase of this hunk; where
+/// the caller knows the phase, nothing is compiled of what it does at others.
 #[inline(always)]
 fn take_at(
     store: &mut [u8],
@@ -127,12 +127,12 @@ fn take_at(
     }
 }
 
-/// Takes longwords from the front of the piece, and gives their number of bytes. The phases are told
-/// apart here, once for all that is asked of them.
+/// Takes longwords from the front of the piece, and gives their number of bytes. The phases are
+/// told apart here, once for all that is asked of them.
 ///
 /// It asks for room alone: what was fed before may be any bytes behind which a loader stands so.
 #[inline(always)]
-pub fn take_front(
+pub(crate) fn take_front(
     store: &mut [u8],
     rows: &[Row],
     state: &mut BodyState,
@@ -173,7 +173,7 @@ pub fn take_front(
 /// Takes the whole longwords of the piece, up to the end of the file or to one that is refused, and
 /// gives their number of bytes, and why the next is refused, where it is.
 #[inline(always)]
-pub fn take_longwords(
+pub(crate) fn take_longwords(
     store: &mut [u8],
     rows: &[Row],
     state: &mut BodyState,

@@ -6,9 +6,13 @@ ghost use Rattle.hunk_scatter.specs.PendingBytes.{pending_of};
 /// How many bytes of the next longword have come, 0 to 3, and which. Any numbers may stand here.
 #[derive(Clone, Copy, Debug, PartialEq, Eq)]
 pub struct Pending {
+    /// How many bytes have come. No loader has more than 3 here.
     pub count: u8,
+    /// The first byte, the high one of the longword, where one has come.
     pub first: u8,
+    /// The second byte, where two have come.
     pub second: u8,
+    /// The third byte, where three have come.
     pub third: u8,
 }
 

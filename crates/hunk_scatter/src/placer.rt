@@ -7,14 +7,15 @@ ghost use Rattle.hunk_scatter.specs.Rows.{entries_of, bases_of, row_of};
 
 use hunk_files::Row;
 
-/// Tells where each hunk of a load file goes.
+/// Says where each hunk of a load file goes.
 pub trait Placer {
     ghost base: { Self → ℕ → Row → ℕ → Option ℕ };
 
-    /// The byte of memory where the hunk begins; none where there is no place for it.
+    /// The address at which the hunk begins; `None` where there is no place for it.
     ///
-    /// `before` is the sum of the declared bytes of the earlier rows, and `row.base` is 0. The
-    /// answer is a function of the value and these.
+    /// `hunk` is its number, counted from 0, and `row` its entry of the table, with base 0.
+    /// `before` is the number of bytes that the earlier hunks declare together. The answer is a
+    /// function of the placer's value and these.
     fn base(&self, hunk: u32, row: &Row, before: u64) -> Option<u32>
         ensures { result ≡ base self.now hunk row.now before };
 }
@@ -22,6 +23,7 @@ pub trait Placer {
 /// Hunks one after another from `start` on, up to the end of the address space of 32 bits.
 #[derive(Clone, Copy, Debug, PartialEq, Eq)]
 pub struct Packed {
+    /// The address of the first hunk.
     pub start: u32,
 }
 
@@ -41,7 +43,8 @@ impl Placer for Packed {
     }
 }
 
-/// Hunks at these bases in turn; one past their end has none.
+/// Hunks at these addresses: that of hunk `i`, counted from 0, stands at index `i`. A hunk past
+/// their end has none.
 #[derive(Clone, Copy, Debug)]
 pub struct Listed<'a>(pub &'a [u32]);
 
@@ -54,7 +57,7 @@ impl Placer for Listed<'_> {
 }
 
 /// Gives each row its base, or answers the first hunk that has none.
-pub fn place_rows<P: Placer>(rows: &mut [Row], placer: &P) -> Result<(), u32>
+pub(crate) fn place_rows<P: Placer>(rows: &mut [Row], placer: &P) -> Result<(), u32>
     requires few { length rows.old ≤ most_hunks }
     requires unplaced { rows.old ≡ map row_of (entries_of rows.old) }
     ensures entries { entries_of rows.new ≡ entries_of rows.old }
@@ -73,8 +76,8 @@ pub fn place_rows<P: Placer>(rows: &mut [Row], placer: &P) -> Result<(), u32>
     Ok(())
 }
 
-/// Takes each row's base away.
-pub fn unplace_rows(rows: &mut [Row])
+/// Makes each row's base 0 again.
+pub(crate) fn unplace_rows(rows: &mut [Row])
     ensures { rows.new ≡ map row_of (entries_of rows.old) }
 {
     for row in rows {

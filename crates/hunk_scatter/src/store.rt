@@ -18,7 +18,7 @@ use hunk_scan::{Phase, Position, is_outside};
 use hunk_words::{Assembler, Reason, word_at};
 
 /// Puts a longword at the offset.
-pub fn put(store: &mut [u8], at: usize, word: u32)
+pub(crate) fn put(store: &mut [u8], at: usize, word: u32)
     requires { at + 4 ≤ length store.old }
     ensures { store.new ≡ put_at store.old at (to_be_bytes w32 word) }
 {
@@ -27,7 +27,7 @@ pub fn put(store: &mut [u8], at: usize, word: u32)
 
 /// Puts bytes at the offset.
 #[inline(never)]
-pub fn put_all(store: &mut [u8], at: usize, bytes: &[u8])
+pub(crate) fn put_all(store: &mut [u8], at: usize, bytes: &[u8])
     requires { at + length bytes.now ≤ length store.old }
     ensures { store.new ≡ put_slice store.old at bytes.now }
 {
@@ -35,7 +35,7 @@ pub fn put_all(store: &mut [u8], at: usize, bytes: &[u8])
 }
 
 /// Adds to the longword at the offset, modulo 2 ^ 32.
-pub fn add(store: &mut [u8], at: usize, base: u32)
+pub(crate) fn add(store: &mut [u8], at: usize, base: u32)
     requires { at + 4 ≤ length store.old }
     ensures { store.new ≡ add_at store.old at base }
 {
@@ -43,17 +43,17 @@ pub fn add(store: &mut [u8], at: usize, base: u32)
     put(store, at, long.wrapping_add(base));
 }
 
-/// Where the hunk goes.
-pub fn base_of(rows: &[Row], hunk: u32) -> u32
+/// The address at which the hunk begins.
+pub(crate) fn base_of(rows: &[Row], hunk: u32) -> u32
     requires { hunk < length rows.now }
     ensures { result ≡ get_or (bases_of rows.now) hunk 0 }
 {
     rows[hunk as usize].base
 }
 
-/// What the loader does to its store at a longword that is not refused.
+/// What the loader does to its store at a longword that is not rejected.
 #[inline(always)]
-pub fn store_word(store: &mut [u8], rows: &[Row], state: BodyState, word: u32)
+pub(crate) fn store_word(store: &mut [u8], rows: &[Row], state: BodyState, word: u32)
     requires room { IsInStore (words_of rows.now) (length store.old) state }
     requires passes { refusal (words_of rows.now) state word ≡ None }
     ensures { store.new ≡ stored (bases_of rows.now) state word store.old }
@@ -72,10 +72,10 @@ pub fn store_word(store: &mut [u8], rows: &[Row], state: BodyState, word: u32)
     }
 }
 
-/// Takes a longword, or tells why it is refused.
+/// Takes a longword, or answers why it is rejected.
 #[tactic(auto, using(crate::proofs::BodyFields::few_words))]
 #[inline(always)]
-pub fn take_word(
+pub(crate) fn take_word(
     store: &mut [u8],
     rows: &[Row],
     state: BodyState,
@@ -97,9 +97,9 @@ pub fn take_word(
     Ok(state.step(rows, word))
 }
 
-/// How many bytes of a piece of so many are longwords of a run.
+/// How many bytes of a piece of `count` bytes are longwords of a run.
 #[inline(always)]
-pub fn run_bytes(position: Position, count: usize) -> usize
+pub(crate) fn run_bytes(position: Position, count: usize) -> usize
     ensures inside { result ≤ count }
     ensures fours { result % 4 ≡ 0 }
     ensures run { result ≤ 4 * run position }
@@ -116,7 +116,7 @@ pub fn run_bytes(position: Position, count: usize) -> usize
 
 /// Takes longwords of a run at once: those of a content are copied, and the others are passed over.
 #[inline(always)]
-pub fn take_run(store: &mut [u8], rows: &[Row], state: BodyState, bytes: &[u8]) -> BodyState
+pub(crate) fn take_run(store: &mut [u8], rows: &[Row], state: BodyState, bytes: &[u8]) -> BodyState
     requires room { IsInStore (words_of rows.now) (length store.old) state }
     requires fours { length bytes.now % 4 ≡ 0 }
     requires run { length bytes.now ≤ 4 * run state.position }
@@ -131,9 +131,9 @@ pub fn take_run(store: &mut [u8], rows: &[Row], state: BodyState, bytes: &[u8]) 
     BodyState { position, ..state }
 }
 
-/// Takes bytes up to the end of a longword or of the piece, and gives their number and the longword,
-/// where one is whole. A longword that lies whole in the piece is read in place.
-pub fn next_word(assembler: &mut Assembler, piece: &[u8]) -> (usize, Option<u32>)
+/// Takes bytes up to the end of a longword or of the piece, and gives their number and the
+/// longword, where one is whole. A longword that lies whole in the piece is read in place.
+pub(crate) fn next_word(assembler: &mut Assembler, piece: &[u8]) -> (usize, Option<u32>)
     requires { 0 < length piece.now }
     ensures inside { result.0 ≤ length piece.now }
     ensures some { 0 < result.0 }
@@ -147,10 +147,10 @@ pub fn next_word(assembler: &mut Assembler, piece: &[u8]) -> (usize, Option<u32>
     assembler.take(piece)
 }
 
-/// Adds to the longwords at so many offsets at most, up to the first that passes the end of a hunk of
-/// so many declared longs, and gives their number.
+/// Adds to the longwords at the offsets, `most` of them at most, up to the first that passes the
+/// end of a hunk of `declared` longwords, and gives their number.
 #[inline(never)]
-pub fn add_all(
+pub(crate) fn add_all(
     store: &mut [u8],
     start: u64,
     declared: u32,
@@ -177,9 +177,9 @@ pub fn add_all(
 }
 
 /// Takes the offsets that lie whole in the piece, up to the last but one of their list or to the
-/// first that is refused, and gives their number; `None` where there is none.
+/// first that is rejected, and gives their number; `None` where there is none.
 #[inline(always)]
-pub fn take_offsets(
+pub(crate) fn take_offsets(
     store: &mut [u8],
     rows: &[Row],
     state: BodyState,

@@ -1,8 +1,8 @@
-//! A loader of a body in memory that is its caller's: the rows, the store, and a few numbers between
-//! two pieces. No call takes memory.
+//! A loader of a body in memory that is its caller's: the rows, the store, and a few numbers
+//! between two pieces. No call takes memory.
 //!
-//! The numbers may be any. Those that lead out of the rows or the store are found out, each in constant
-//! time, before the store is touched.
+//! The numbers may be any. Those that lead out of the rows or the store are found out, each in
+//! constant time, before the store is touched.
 ghost use Rattle.std.specs.Prelude.{◌≡◌, ◌+◌, ◌<◌, ◌≤◌, ◌^◌, ℕ, List, [], ◌∷◌, ◌++◌, length, take};
 ghost use Rattle.std.specs.Prelude.{true, false, IfOk, MatchResult, replicate};
 ghost use Rattle.hunk_words.specs.Limits.{most_hunks};
@@ -25,6 +25,7 @@ use hunk_words::{LoadFault, MOST_HUNKS};
 /// Where a loader stands between two pieces.
 #[derive(Clone, Copy, Debug, PartialEq, Eq)]
 pub struct Standing {
+    /// The open hunk, and what the next longword is for.
     pub state: BodyState,
     /// The number of bytes of header and body that were fed.
     pub fed: u64,
@@ -35,14 +36,14 @@ pub struct Standing {
 /// Why a piece is not taken.
 #[derive(Clone, Copy, Debug, PartialEq, Eq)]
 pub enum Stop {
-    /// The numbers are those of no loader with these rows and this store, or so many bytes can't be
-    /// counted.
+    /// The numbers are those of no loader with these rows and this store, or the bytes fed would be
+    /// 2^64 or more in all.
     Strange,
-    /// The bytes are refused.
+    /// The input is rejected, at a place in bytes from the start of the file.
     Refused(LoadFault),
 }
 
-/// Whether the rows have what a phase of a hunk of so many longs points to.
+/// Whether the rows have what a phase of a hunk of `longs` longwords points to.
 fn has_room(rows: &[Row], longs: u32, hunk: OpenHunk, phase: Phase) -> bool
     ensures sound { result ≡ true → RoomIn (words_of rows.now) longs (positions.Body hunk phase) }
     ensures complete { RoomIn (words_of rows.now) longs (positions.Body hunk phase)
@@ -57,7 +58,7 @@ fn has_room(rows: &[Row], longs: u32, hunk: OpenHunk, phase: Phase) -> bool
     }
 }
 
-/// Whether the state is that of an open hunk whose segment lies in a store of so many bytes.
+/// Whether the state is that of an open hunk whose segment lies in a store of `total` bytes.
 fn is_in_store(state: BodyState, rows: &[Row], total: usize) -> bool
     ensures sound { result ≡ true → IsInStore (words_of rows.now) total state }
     ensures complete { IsInStore (words_of rows.now) total state
@@ -81,8 +82,8 @@ fn is_in_store(state: BodyState, rows: &[Row], total: usize) -> bool
 impl Standing {
     /// Whether the file is whole.
     ///
-    /// Where it is, the store is the segments of the file that was fed, at the rows' bases; where it
-    /// is not, what was fed is cut short, and none of it is refused.
+    /// Where a loader stands so, and it is, the store is the segments of the file that was fed, at
+    /// the rows' bases; where it is not, what was fed is cut short, and none of it is rejected.
     pub fn is_whole(&self) -> bool
         ensures { EndsLoading self.now result }
     {
@@ -186,16 +187,21 @@ fn take_some(
     }
 }
 
-/// Takes the piece, or up to the end of the file where that stands inside it, and gives the number of
-/// bytes taken.
+/// Takes the piece, or up to the end of the file where that stands inside it, and gives the number
+/// of bytes taken.
 ///
-/// Where the numbers are those of a loader, they are then those that it has behind these bytes. A
-/// refusal is the first fault of all that was fed, this piece included; the store is then as the
-/// longwords before it left it.
+/// Where the numbers are those of a loader, they are then those that it has behind these bytes.
 ///
 /// # Errors
 ///
-/// The refusal; or that the numbers are no loader's.
+/// - `Refused` where a longword is rejected. Where the numbers are a loader's, it is the first
+///   fault of all that was fed, this piece included, at the first byte of its longword, from the
+///   start of the file.
+/// - `Strange` where the numbers are found to be no loader's, since they lead out of the rows or the
+///   store, or where the bytes fed would be 2^64 or more. For fewer bytes, the numbers of a loader
+///   are never answered so.
+///
+/// What the store has after an `Err` is not said.
 pub fn take_piece(
     store: &mut [u8],
     rows: &[Row],
@@ -229,7 +235,7 @@ pub fn take_piece(
     Ok((to, taken))
 }
 
-/// The number of rows, where a table may have so many.
+/// The number of rows, or 0 where no table has as many.
 fn hunks_of(rows: &[Row]) -> u32
     ensures { length rows.now ≤ most_hunks → result ≡ length rows.now }
 {
@@ -239,8 +245,11 @@ fn hunks_of(rows: &[Row]) -> u32
     rows.len() as u32
 }
 
-/// Makes the store zero, and gives where a loader stands behind the header, of so many bytes, of the
-/// table of the rows.
+/// Makes the store zero, and gives where a loader stands behind the header of the table of the
+/// rows.
+///
+/// `header` is the number of bytes of that header, and the store has as many bytes as the rows
+/// declare together: elsewhere the numbers are no loader's.
 pub fn begin(store: &mut [u8], rows: &[Row], header: u64) -> Standing
     ensures begins { BeginsLoading rows.now header (length store.old) store.new result }
     ensures zero { store.new ≡ replicate (length store.old) 0 }

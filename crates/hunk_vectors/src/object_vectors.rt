@@ -12,7 +12,7 @@ use std::alloc::{AllocError, Global};
 pub enum ObjectWant {
     /// The bytes are an object file of that many units, with that many findings.
     Accepted { units: u64, findings: u64 },
-    /// The longword at this byte is refused, for the reason of this number, or the bytes end too
+    /// The longword at this byte is rejected, for the reason of this number, or the bytes end too
     /// soon, at 4 times the number of whole longwords (number 26).
     Refused { place: u64, number: u8 },
 }
@@ -22,11 +22,13 @@ pub enum ObjectWant {
 pub struct ObjectVector {
     /// The number of the worked example that it is from.
     pub row: u32,
+    /// The file, in hexadecimal digits alone, two for each byte.
     pub text: &'static str,
+    /// What `ObjectFile::decode` and `check` have to answer.
     pub want: ObjectWant,
 }
 
-/// The object files of the worked examples, accepted and refused.
+/// The object files of the worked examples, accepted and rejected.
 pub const OBJECTS: [ObjectVector; 16] = [
     ObjectVector {
         row: 13,
@@ -162,7 +164,7 @@ pub const OBJECTS: [ObjectVector; 16] = [
 ///
 /// # Errors
 ///
-/// Where memory is refused.
+/// `AllocError` where memory is refused.
 pub fn object_bytes(alloc: Global, i: usize) -> Result<Vec<u8>, AllocError>
     requires { i < length OBJECT_TEXTS }
     ensures { IfOk result

@@ -8,7 +8,7 @@ use hex::FromHexError;
 use std::alloc::{AllocError, Global};
 
 /// The bytes that text `i` of a table spells.
-pub fn spelled(alloc: Global, texts: &[&str], i: usize) -> Result<Vec<u8>, AllocError>
+pub(crate) fn spelled(alloc: Global, texts: &[&str], i: usize) -> Result<Vec<u8>, AllocError>
     requires inside { i < length texts.now }
     requires texts { list_all (λ text. is_ok (decode_of text.now)) texts.now ≡ true }
     ensures { IfOk result

@@ -22,22 +22,23 @@ use hunk_words::{LongWriter, Sink};
 use std::alloc::Global;
 use std::rt::Files;
 
-/// The bytes of an input at which it is refused, and the most that hexadecimal text may have.
+/// The most bytes that are read of an input, and the most that hexadecimal text may have.
 const FILE_BYTES: u64 = 67_108_864;
 
 /// The exit status where all is done, and after help.
 const DONE: u8 = 0;
 
-/// The exit status where the command line is refused.
+/// The exit status where the command line is rejected.
 const LINE_REFUSED: u8 = 2;
 
 /// Does what the words ask for, of which the first is the program's name, and gives the exit
 /// status.
 ///
-/// 0 where it is done, and after help; 1 where the input is refused; 2 where the command line is;
-/// 3 where reading or writing failed; 4 where memory was wanting. Where `out` fails, nothing more
-/// is written.
-pub fn run<T: Files + Input, W: Sink>(
+/// 0 where it is done, and after help; 1 where the input is rejected, or `validate` found
+/// something; 2 where the command line is rejected; 3 where reading or writing failed; 4 where
+/// memory was refused. Where `out` fails, nothing more is written. `out` has written nothing
+/// before.
+pub(crate) fn run<T: Files + Input, W: Sink>(
     rt: &T,
     alloc: Global,
     words: &[String],
@@ -47,7 +48,8 @@ pub fn run<T: Files + Input, W: Sink>(
     ensures bound { result ≤ 4 }
     ensures tells { TellsStatus W.taken W.failed out.old out.new result }
 
-    // Where clap takes the words: they are an order, which is done where the status is 0, or they are refused.
+    // Where clap takes the words: they are an order, which is done where the status is 0, or they
+    // are refused.
     ensures done { (order : Order) → takes hunkinfo (taken (map string_bytes words.now)) ≡ true
         → order_of (map string_bytes words.now) ≡ Some order → result ≡ 0
         → IsDone W.taken out.old out.new order }
@@ -55,7 +57,8 @@ pub fn run<T: Files + Input, W: Sink>(
         → order_of (map string_bytes words.now) ≡ None
         → PrintsNoHelp W.taken W.failed out.old out.new result }
 
-    // Where no help is asked for, the status is 0 only where the words are an order, and it is done.
+    // Where no help is asked for, the status is 0 only where the words are an order, and it is
+    // done.
     ensures heard { (IsAmong DisplayHelp (fault_of hunkinfo (taken (map string_bytes words.now)))
         → ⊥) → result ≡ 0
         → (order : Order) × (order_of (map string_bytes words.now) ≡ Some order)

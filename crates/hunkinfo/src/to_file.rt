@@ -40,7 +40,7 @@ impl<'a, T: Files> ToFile<'a, T> {
     ///
     /// # Errors
     ///
-    /// `Failed` where some of what was pushed is lost, as where a full disk or a quota is told of
+    /// `Failed` where some of what was pushed is lost, as where a full disk or a quota is reported
     /// late.
     pub(crate) fn settle(&mut self) -> Result<(), Failed>
         ensures settled { self.new.settled ≡ not (is_err result) }
@@ -95,7 +95,8 @@ impl<T: Files> Sink for ToFile<'_, T> {
     }
 }
 
-/// Whether a file that answers so to `sync_all` keeps all that was written, as far as it keeps anything.
+/// Whether a file that answers so to `sync_all` keeps all that was written, as far as it keeps
+/// anything.
 fn keeps_all(answer: io::Result<()>) -> bool
     ensures { result ≡ false ↔ IsErrAnd answer IsLoss }
 {

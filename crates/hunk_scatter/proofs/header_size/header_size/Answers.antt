@@ -1,8 +1,8 @@
-use Rattle.std.proofs.Common.{◌∙◌, ℕ, List, length, drop, get_or, refl, sym, ap, arith, inr}
+use Rattle.std.proofs.Common.{◌∙◌, ℕ, ◌<◌, List, length, drop, get_or, refl, sym, ap, arith, inr}
 use Rattle.std.proofs.lemmas.List.{take_rest}
 use Rattle.hunk_words.specs.Longs.{longs, IsBytes}
 use Rattle.hunk_scatter.specs.Rows.{entries_of}
-use Rattle.hunk_scatter.proofs.HeaderSizes.{none_so_far, none_cut, word_accepted, so_far_room, header_cut, header_whole, header_total, header_end, word_passes, word_stops, hunks_in}
+use Rattle.hunk_scatter.proofs.HeaderSizes.{none_so_far, none_cut, cut_within, word_accepted, so_far_room, header_cut, header_whole, header_total, header_end, word_passes, word_stops, hunks_in}
 use Rattle.hunk_scatter.proofs.header_size.header_size.Goals as goal
 
 pub words-init : goal.words-init
@@ -10,7 +10,9 @@ words-init c = none_so_far c.args.budget c.args.bytes.now
 
 pub returns-then-rest-lt4-clause-refusal : goal.returns-then-rest-lt4-clause-refusal
 returns-then-rest-lt4-clause-refusal c =
-    inr (inr (refl, header_cut _ _ _ _ c.words.invariant (sym c.is_behind_header.ensures ∙ c.words-test.true) (omega (arith, ap length (take_rest c.args.bytes.now c.words.at), c.if-rest-lt4.true))))
+    let more = sym c.is_behind_header.ensures ∙ c.words-test.true in
+    let few : length (drop c.words.at c.args.bytes.now) < 4 = omega (arith, ap length (take_rest c.args.bytes.now c.words.at), c.if-rest-lt4.true) in
+    inr (inr (refl, header_cut _ _ _ _ c.words.invariant more few, cut_within _ _ _ _ c.words.invariant more few))
 
 pub pass_header_word-requires-clause-room : goal.pass_header_word-requires-clause-room
 pass_header_word-requires-clause-room c = so_far_room _ _ _ _ c.words.invariant
