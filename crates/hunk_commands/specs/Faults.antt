@@ -1,5 +1,5 @@
 -- The status and the line of each fault.
-use Rattle.std.specs.Prelude.{◌||◌, ℕ, Bool, List, [], ◌++◌, ⊤, IsTrue, codes}
+use Rattle.std.specs.Prelude.{◌||◌, ℕ, Bool, List, ◌++◌, ⊤, IsTrue, codes}
 use Rattle.std.specs.Fmt.{decimal}
 use Rattle.hunk_words.specs.declared.fault.Fault.{Fault}
 use Rattle.hunk_words.specs.declared.reason.Reason.{Reason}

@@ -1,5 +1,4 @@
-use Rattle.std.proofs.Common.{rules, ◌≡◌, ℕ, List, true, false, refl, inr, sym, subst}
-use Rattle.hunk_commands.specs.HexText.{Spells}
+use Rattle.std.proofs.Common.{rules, ◌≡◌, true, false, refl, inr}
 use Rattle.hunk_commands.proofs.HexPieces.{finished, refused_before, refused_last}
 use Rattle.hunk_commands.proofs.hex_text.HexDecoder.finish.Goals as goal
 use Rattle.hunk_commands.proofs.hex_text.HexDecoder.finish.Goals.{then-refused-via-then-refused, then-refused-via-else-refused+in_ok-append_bytes+then-not-branch}

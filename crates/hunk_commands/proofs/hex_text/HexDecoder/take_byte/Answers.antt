@@ -1,5 +1,5 @@
-use Rattle.std.proofs.Common.{rules, ◌≡◌, ◌%◌, ◌++◌, ◌∷◌, [], ℕ, List, length, not, true, false, inl, inr, arith}
-use Rattle.hunk_commands.specs.HexText.{IsDecoded, is_blank}
+use Rattle.std.proofs.Common.{rules, ◌≡◌, ◌++◌, ◌∷◌, [], length, true, false, inl, inr, arith}
+use Rattle.hunk_commands.specs.HexText.{is_blank}
 use Rattle.hunk_commands.proofs.HexPieces.{byte_passed, digit_kept, room_made}
 use Rattle.hunk_commands.proofs.hex_text.HexDecoder.take_byte.Goals as goal
 use Rattle.hunk_commands.proofs.hex_text.HexDecoder.take_byte.Goals.{then-not-self+then-not-is_blank, then-is_full+in_ok-self-inside, else-is_full, else-not-self, else-not-self-via-then-not-self+else-not-is_blank, else-not-self-via-else-not-self}
