@@ -1,8 +1,7 @@
 -- What the engine functions share: a source read to its end, a text made of its bytes and put.
-use Rattle.std.proofs.Common.{◌≡◌, ◌<◌, ◌+◌, ℕ, List, Option, Some, Result, Err, length, inl, inr, ap, sym, subst, ◌∙◌, arith}
+use Rattle.std.proofs.Common.{◌≡◌, ◌<◌, ◌+◌, ℕ, List, Option, Some, Result, Err, length, inl, inr, ap, refl, sym, subst, ◌∙◌, arith}
 use Rattle.std.specs.Prelude.{Bool, IfErr, ◌⊎◌}
 use Rattle.std.specs.Io.KnownBytes.{Consumes, IsAtEnd}
-use Rattle.std.proofs.KnownBytes.{Appends-nil}
 use Rattle.hunk_words.specs.Carriers.{Writing}
 use Rattle.hunk_words.specs.Puts.{Puts}
 use Rattle.hunk_commands.specs.declared.fault.RunFault.{RunFault}
@@ -36,8 +35,8 @@ refuses_only (Write written) a b most bytes read is = tt
 refuses_only HexText a b most bytes read is = is
 
 -- nothing was put
-pub stops_untouched : {W : Type 0} (taken : W → Option (List ℕ)) (failed : W → Bool) (old : Writing W) (fault : RunFault) → old.written ≡ 0 → ¬ IsWrite fault → StopsOutput taken failed old old fault
-stops_untouched taken failed old fault none other = record { broken = λ is. absurd (other is); unwritten = λ _. none; untouched = λ _. Appends-nil (taken old.sink) }
+pub stops_untouched : {W : Type 0} (failed : W → Bool) (old : Writing W) (fault : RunFault) → ¬ IsWrite fault → StopsOutput failed old old fault
+stops_untouched failed old fault other = record { broken = λ is. absurd (other is); untouched = λ _. refl }
 
 -- a file is never refused
 pub only_memory : (fault : RunFault) (a b : Option (List ℕ)) (most : ℕ) (bytes input : List ℕ) → IsRead a b most bytes →

@@ -48,14 +48,15 @@ pub record ReadsHex (a b : Option (List ℕ)) (most : ℕ) (bytes : List ℕ) : 
   pub few : length text < most
   pub spells : Spells text bytes
 
--- its text, read to its end, spells no bytes
-pub record SpellsNone (a b : Option (List ℕ)) : Type 0 where
+-- fewer than `most` bytes of text, read to its end, spell no bytes
+pub record SpellsNone (a b : Option (List ℕ)) (most : ℕ) : Type 0 where
   pub text : List ℕ
   pub consumed : Consumes a b text
   pub at_end : IsAtEnd b
+  pub few : length text < most
   pub none : (bytes : List ℕ) → ¬ Spells text bytes
 
 -- why no bytes were read: its text was not read to its end in fewer than `most` bytes, or spells none
 abbrev pub ReadsNoHex : RunFault → Option (List ℕ) → Option (List ℕ) → ℕ → Bool → Type 0
-ReadsNoHex faults.HexText a b most failed = SpellsNone a b
+ReadsNoHex faults.HexText a b most failed = SpellsNone a b most
 ReadsNoHex fault a b most failed = ReadsInVain fault a b most failed

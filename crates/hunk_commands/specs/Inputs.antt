@@ -1,5 +1,5 @@
 -- What was read of a source, and why it was not read to its end. Of the source a was left before and b is left now, where that is told.
-use Rattle.std.specs.Prelude.{◌≡◌, ◌<◌, ℕ, List, Option, Some, Bool, true, length, ⊤}
+use Rattle.std.specs.Prelude.{◌≡◌, ◌<◌, ℕ, List, Option, Some, Bool, true, false, length, ⊤, Result, IsErrAnd}
 use Rattle.std.specs.Io.KnownBytes.{Consumes}
 use Rattle.hunk_words.specs.declared.reason.Reason.TheVariants as reasons
 use Rattle.hunk_files.specs.HunkFile.{AreFile}
@@ -32,3 +32,7 @@ StopsAtLimit a b most fault = (place : ℕ) → fault ≡ faults.Refused (record
 -- at a fault of reading the source has failed, behind so many bytes; `failed` is whether it failed
 abbrev pub StopsAtRead : Option (List ℕ) → Option (List ℕ) → Bool → RunFault → Type 0
 StopsAtRead a b failed fault = (place : ℕ) → fault ≡ faults.Read place → (failed ≡ true) × Gave a b place
+
+-- a source that has come to fail is what the answer tells of; `old` and `new` are whether it had failed before, and has now
+abbrev pub TellsReading : {T : Type 0} → Bool → Bool → Result T RunFault → Type 0
+TellsReading old new result = old ≡ false → new ≡ true → IsErrAnd result (λ fault. (place : ℕ) × (fault ≡ faults.Read place))

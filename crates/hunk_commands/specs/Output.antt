@@ -1,5 +1,5 @@
 -- What a command does to its output, a writer that is old before it and new after it. `taken` tells the bytes that a sink has taken, and `failed` whether it has failed.
-use Rattle.std.specs.Prelude.{◌≡◌, ◌+◌, ℕ, Bool, true, List, [], length, Option, Result, IfErr, OnErr, OnOk}
+use Rattle.std.specs.Prelude.{◌≡◌, ◌+◌, ℕ, Bool, true, List, length, Option, Result, IfErr, OnErr, OnOk}
 use Rattle.std.specs.Io.KnownBytes.{Appends}
 use Rattle.hunk_words.specs.Carriers.{Writing}
 use Rattle.hunk_words.specs.Puts.{Puts}
@@ -17,9 +17,9 @@ pub record PutsText {W T : Type 0} (taken : W → Option (List ℕ)) (failed : W
   pub all : OnOk result (new.written ≡ old.written + length text)
   pub counted : IfErr result (λ fault. fault.written ≡ new.written)
   pub broken : OnErr result (failed new.sink ≡ true)
+  pub quiet : OnOk result (failed new.sink ≡ failed old.sink)
 
--- where the fault is one of writing, the output failed; at any other fault it has taken nothing
-pub record StopsOutput {W : Type 0} (taken : W → Option (List ℕ)) (failed : W → Bool) (old new : Writing W) (fault : RunFault) : Type 0 where
+-- where the fault is one of writing, the output failed; at any other fault the writer is as it was
+pub record StopsOutput {W : Type 0} (failed : W → Bool) (old new : Writing W) (fault : RunFault) : Type 0 where
   pub broken : IsWrite fault → failed new.sink ≡ true
-  pub unwritten : ¬ IsWrite fault → new.written ≡ 0
-  pub untouched : ¬ IsWrite fault → Takes taken old new []
+  pub untouched : ¬ IsWrite fault → new ≡ old

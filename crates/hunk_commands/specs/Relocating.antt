@@ -2,10 +2,11 @@
 use Rattle.std.specs.Prelude.{◌≡◌, ◌≤◌, ◌++◌, ℕ, Bool, true, List, [], ◌∷◌, Option, length, map}
 use Rattle.hunk_words.specs.Longs.{bytes_of}
 use Rattle.hunk_words.specs.Puts.{Puts}
+use Rattle.hunk_words.specs.declared.reason.Reason.TheVariants.{OutOfMemory}
 use Rattle.hunk_files.specs.LoadFile.{LoadFileValue, IsLoadFile}
 use Rattle.hunk_files.specs.LoadText.{table, text}
 use Rattle.hunk_files.specs.Image.{declared_bytes, image}
-use Rattle.hunk_scatter.specs.LoadOutcomes.{Gives, IsShort}
+use Rattle.hunk_scatter.specs.LoadOutcomes.{Gives, IsLoadFault, IsShort}
 use Rattle.hunk_scatter.specs.LoaderValues.{ImageValue}
 use Rattle.hunk_scatter.specs.Placing.{AreBases, Placing, packed_base}
 use Rattle.hunk_scatter.specs.Rows.{bases_of}
@@ -59,3 +60,10 @@ pub record ReadsShort (budget most : ℕ) (a b : Option (List ℕ)) (failed : Bo
   pub gave : Gives a b most given
   pub place_is : place ≡ length given
   pub short : IsShort budget given
+
+-- Memory was wanting where a load of the bytes that were given wants it: for a row of a header that they begin, or for the store right behind it.
+pub record LacksMemory (start budget most : ℕ) (a b : Option (List ℕ)) (failed : Bool) : Type 0 where
+  pub given : List ℕ
+  pub gave : Gives a b most given
+  pub place : ℕ
+  pub lacks : IsLoadFault (packed start) budget most b failed given (record { place = place; reason = OutOfMemory })

@@ -2,7 +2,7 @@
 ghost use Rattle.std.specs.Prelude.{◌≡◌, ◌<◌, ◌++◌, [], ℕ, List, false, length, IfOk, OnOk, IfErr};
 ghost use Rattle.std.specs.Io.KnownBytes.{Consumes, IsAtEnd};
 ghost use Rattle.hunk_scatter.specs.LoadOutcomes.{GivesAtMost};
-ghost use Rattle.hunk_commands.specs.Inputs.{ReadsInVain};
+ghost use Rattle.hunk_commands.specs.Inputs.{ReadsInVain, TellsReading};
 
 use crate::fault::RunFault;
 use hunk_words::{Fault, Reason, Source};
@@ -50,6 +50,7 @@ pub fn read_whole<S: Source>(alloc: Global, source: &mut S, most: u64) -> Result
         (λ fault. ReadsInVain fault (S.left source.old) (S.left source.new) most (S.failed source.new)) }
     ensures within { GivesAtMost (S.left source.old) (S.left source.new) most }
     ensures sound { S.failed source.old ≡ false → OnOk result (S.failed source.new ≡ false) }
+    ensures tells_read { TellsReading (S.failed source.old) (S.failed source.new) result }
 {
     let mut held = Vec::new(alloc);
     read_all(source, most, &mut held)?;
@@ -72,6 +73,7 @@ pub(crate) fn read_all<S: Source, T: Taker>(
         (λ fault. ReadsInVain fault (S.left source.old) (S.left source.new) most (S.failed source.new)) }
     ensures within { GivesAtMost (S.left source.old) (S.left source.new) most }
     ensures sound { S.failed source.old ≡ false → OnOk result (S.failed source.new ≡ false) }
+    ensures tells_read { TellsReading (S.failed source.old) (S.failed source.new) result }
 {
     let mut buf = [0u8; PIECE];
     let mut count = 0u64;

@@ -12,8 +12,10 @@ ghost use Rattle.hunk_scatter.specs.LoadOutcomes.{Gives, GivesAtMost, HasFileWit
 ghost use Rattle.hunk_scatter.specs.LoadOutcomes.{StopsBehindFile, StopsBehindHeader};
 ghost use Rattle.hunk_commands.specs.Engine.{StopsAtWrite};
 ghost use Rattle.hunk_commands.specs.Faults.{IsOfLoad};
+ghost use Rattle.hunk_commands.specs.Inputs.{TellsReading};
 ghost use Rattle.hunk_commands.specs.Output.{PutsText, StopsOutput};
-ghost use Rattle.hunk_commands.specs.Relocating.{ReadsShort, Relocates, RelocatesAll, image_listing, packed};
+ghost use Rattle.hunk_commands.specs.Relocating.{LacksMemory, ReadsShort, Relocates, RelocatesAll};
+ghost use Rattle.hunk_commands.specs.Relocating.{image_listing, packed};
 
 use crate::fault::RunFault;
 use hunk_listing::print_segment;
@@ -64,7 +66,8 @@ pub fn relocate<R: Source, W: Sink>(
     // nothing has.
     ensures write { IfErr result (StopsAtWrite w.new.written (Relocates base limits.budget
         limits.file_bytes (R.left r.old) (R.left r.new) (W.taken w.old.sink) (W.taken w.new.sink))) }
-    ensures fails { IfErr result (StopsOutput W.taken W.failed w.old w.new) }
+    ensures fails { IfErr result (StopsOutput W.failed w.old w.new) }
+    ensures quiet { OnOk result (W.failed w.new.sink ≡ W.failed w.old.sink) }
 
     ensures over_budget { (input : List ℕ) (at : ℕ) → R.left r.old ≡ Some input
         → R.failed r.new ≡ false
@@ -80,6 +83,9 @@ pub fn relocate<R: Source, W: Sink>(
         (R.left r.new) (R.failed r.new) given refusal) }
     ensures read { IfErr result (λ fault. (place : ℕ) → fault ≡ Read place
         → ReadsShort limits.budget limits.file_bytes (R.left r.old) (R.left r.new) (R.failed r.new) place) }
+    ensures tells_read { TellsReading (R.failed r.old) (R.failed r.new) result }
+    ensures memory { IfErr result (λ fault. fault ≡ Memory → LacksMemory base limits.budget
+        limits.file_bytes (R.left r.old) (R.left r.new) (R.failed r.new)) }
     ensures own_reasons { IfErr result IsOfLoad }
 {
     let image = load(alloc, r, limits, &Packed { start: base })?;

@@ -1,10 +1,10 @@
 //! `rewrite`: a file is read, and written again.
-ghost use Rattle.std.specs.Prelude.{◌≡◌, ◌+◌, ◌^◌, ◌<◌, false, length, IfOk, IfErr};
+ghost use Rattle.std.specs.Prelude.{◌≡◌, ◌+◌, ◌^◌, ◌<◌, false, length, IfOk, IfErr, OnOk};
 ghost use Rattle.hunk_files.specs.HunkFile.{IsFileOf, file_bytes};
 ghost use Rattle.hunk_scatter.specs.LoadOutcomes.{GivesAtMost};
 ghost use Rattle.hunk_commands.specs.declared.fault.RunFault.TheVariants.{Memory};
 ghost use Rattle.hunk_commands.specs.Engine.{RefusesOnly, StopsAtWrite, Writes, WritesAll};
-ghost use Rattle.hunk_commands.specs.Inputs.{HasFile, StopsAtLimit, StopsAtRead};
+ghost use Rattle.hunk_commands.specs.Inputs.{HasFile, StopsAtLimit, StopsAtRead, TellsReading};
 ghost use Rattle.hunk_commands.specs.Output.{PutsText, StopsOutput};
 ghost use Rattle.hunk_commands.specs.Rewritten.{IsRewriting, IsRewritten, stripped_where};
 
@@ -58,11 +58,13 @@ pub fn rewrite<R: Source, W: Sink>(
     // nothing has.
     ensures write { IfErr result (StopsAtWrite w.new.written (Writes (IsRewriting strip)
         (R.left r.old) (R.left r.new) file_bytes (W.taken w.old.sink) (W.taken w.new.sink))) }
-    ensures fails { IfErr result (StopsOutput W.taken W.failed w.old w.new) }
+    ensures fails { IfErr result (StopsOutput W.failed w.old w.new) }
+    ensures quiet { OnOk result (W.failed w.new.sink ≡ W.failed w.old.sink) }
 
     ensures within { GivesAtMost (R.left r.old) (R.left r.new) file_bytes }
     ensures limit { IfErr result (StopsAtLimit (R.left r.old) (R.left r.new) file_bytes) }
     ensures read { IfErr result (StopsAtRead (R.left r.old) (R.left r.new) (R.failed r.new)) }
+    ensures tells_read { TellsReading (R.failed r.old) (R.failed r.new) result }
     ensures refused { IfErr result (RefusesOnly (R.left r.old) (R.left r.new) file_bytes) }
 {
     let input = read_whole(alloc, r, file_bytes)?;

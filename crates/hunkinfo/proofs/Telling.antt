@@ -1,8 +1,7 @@
--- How what a run tells follows on an engine function that has written nothing.
-use Rattle.std.proofs.Common.{◌≡◌, ◌<◌, ◌++◌, ◌∙◌, ℕ, Bool, true, false, List, [], Option, Some, None, length, inl, inr, refl, ap, sym, subst, arith, append-nil, append_assoc}
+-- What a run lists, by what an engine function has written.
+use Rattle.std.proofs.Common.{◌≡◌, ◌<◌, ◌++◌, ◌∙◌, ℕ, Bool, true, false, List, [], Option, Some, None, length, inr, refl, ap, sym, subst, arith, append-nil, append_assoc}
 use Rattle.std.specs.Io.KnownBytes.{Consumes, IsAtEnd}
 use Rattle.std.proofs.lemmas.List.{take_all}
-use Rattle.std.proofs.KnownBytes.{Appends-trans}
 use Rattle.hunk_words.specs.Carriers.{Writing}
 use Rattle.hunk_words.specs.Longs.{bytes_of}
 use Rattle.hunk_words.specs.Puts.{Puts}
@@ -16,16 +15,6 @@ use Rattle.hunkinfo.specs.declared.run.listing.Listing.TheVariants as listings
 use Rattle.hunk_commands.specs.HexText.{Spells}
 use Rattle.hunk_commands.specs.Relocating.{RelocatesAll}
 use Rattle.hunkinfo.specs.Runs.{IsListed, ListsSource, StopsReading}
-
-pub tells_after : {W : Type 0} (taken : W → Option (List ℕ)) (failed : W → Bool) (old mid new : Writing W) (status : ℕ)
-    → Takes taken old mid [] → TellsStatus taken failed mid new status → TellsStatus taken failed old new status
-tells_after taken failed old mid new status nothing (inl done) = inl done
-tells_after taken failed old mid new status nothing (inr (inl (is, text))) = inr (inl (is, Appends-trans _ _ _ [] _ nothing text))
-tells_after taken failed old mid new status nothing (inr (inr (inl (fault, is, text)))) =
-    inr (inr (inl (fault, is, Appends-trans _ _ _ [] _ nothing text)))
-tells_after taken failed old mid new status nothing (inr (inr (inr (inl broken)))) = inr (inr (inr (inl broken)))
-tells_after taken failed old mid new status nothing (inr (inr (inr (inr (bytes, text, is, report, takes))))) =
-    inr (inr (inr (inr (bytes, text, is, report, Appends-trans _ _ _ [] _ nothing takes))))
 
 -- a text that was put whole
 takes_put : {W : Type 0} (taken : W → Option (List ℕ)) (old new : Writing W) (written : ℕ) (text : List ℕ) →

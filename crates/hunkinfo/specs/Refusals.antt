@@ -1,5 +1,5 @@
 -- Why nothing is printed of an input. Of its source a was left before and b is left now; `failed` is whether it has failed.
-use Rattle.std.specs.Prelude.{◌≡◌, ◌⊎◌, ◌+◌, ℕ, Bool, true, false, List, Option, Some}
+use Rattle.std.specs.Prelude.{◌≡◌, ◌⊎◌, ◌+◌, ◌≤◌, ℕ, Bool, true, false, List, Option, Some, length}
 use Rattle.std.specs.Io.KnownBytes.{Consumes, IsAtEnd}
 use Rattle.hunk_words.specs.declared.fault.Fault.{Fault}
 use Rattle.hunk_words.specs.declared.reason.Reason.TheVariants.{FileLimit}
@@ -19,11 +19,12 @@ RefusesListing listings.Validate refusal a b most failed = RefusesOnly a b most 
 RefusesListing (listings.Relocate base budget) refusal a b most failed =
     (given : List ℕ) × Gives a b most given × IsLoadFault (packed base) budget most b failed given refusal
 
--- its text spells bytes that are refused
+-- its text, of at most so many bytes, spells bytes that are refused
 pub record RefusesSpelled (listing : Listing) (refusal : Fault) (a b : Option (List ℕ)) (most : ℕ) : Type 0 where
   pub text : List ℕ
   pub consumed : Consumes a b text
   pub at_end : IsAtEnd b
+  pub few : length text ≤ most
   pub bytes : List ℕ
   pub spells : Spells text bytes
   pub left : Option (List ℕ)

@@ -99,4 +99,4 @@ ReadsNoText (faults.Refused refusal) a b most failed = (refusal.reason ≡ reaso
 ReadsNoText (faults.Read place) a b most failed = (failed ≡ true) × Gave a b place
 ReadsNoText faults.Memory a b most failed = ⊤
 ReadsNoText (faults.Write written) a b most failed = ⊥
-ReadsNoText faults.HexText a b most failed = SpellsNone a b
+ReadsNoText faults.HexText a b most failed = SpellsNone a b (most + 1)

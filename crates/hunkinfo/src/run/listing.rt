@@ -44,7 +44,7 @@ pub(super) fn list_file<T: Files + Input, W: Sink>(
     ensures bound { IfOk result (λ status. status ≤ 4) }
     ensures done { IfOk result (λ status. status ≡ 0 → Lists W.taken out.old out.new listing) }
     ensures tells { IfOk result (TellsStatus W.taken W.failed out.old out.new) }
-    ensures fails { IfErr result (StopsOutput W.taken W.failed out.old out.new) }
+    ensures fails { IfErr result (StopsOutput W.failed out.old out.new) }
 {
     let Some(name) = file else {
         return list_source(alloc, listing, &mut FromRead::new(rt.reader()), hex, out);
@@ -72,12 +72,13 @@ fn list_source<R: Source, W: Sink>(
         (λ status. status ≡ 0
         → ListsSource hex listing (R.left source.old) (R.left source.new) W.taken out.old out.new) }
     ensures tells { IfOk result (TellsStatus W.taken W.failed out.old out.new) }
-    ensures fails { IfErr result (StopsOutput W.taken W.failed out.old out.new) }
+    ensures fails { IfErr result (StopsOutput W.failed out.old out.new) }
     ensures refused { IfErr result (λ fault. (refusal : Fault) → fault ≡ Refused refusal
         → RefusesSource hex listing refusal (R.left source.old) (R.left source.new)
         FILE_BYTES (R.failed source.new)) }
     ensures hex_text { IfErr result
-        (λ fault. fault ≡ HexText → SpellsNone (R.left source.old) (R.left source.new)) }
+        (λ fault. fault ≡ HexText
+        → SpellsNone (R.left source.old) (R.left source.new) (FILE_BYTES + 1)) }
 {
     if !hex {
         return list_bytes(alloc, listing, source, out);
@@ -114,7 +115,7 @@ fn list_bytes<R: Source, W: Sink>(
         (λ status. status ≡ 0
         → ListsSource false listing (R.left source.old) (R.left source.new) W.taken out.old out.new) }
     ensures tells { IfOk result (TellsStatus W.taken W.failed out.old out.new) }
-    ensures fails { IfErr result (StopsOutput W.taken W.failed out.old out.new) }
+    ensures fails { IfErr result (StopsOutput W.failed out.old out.new) }
     ensures refused { IfErr result (λ fault. (refusal : Fault) → fault ≡ Refused refusal
         → RefusesListing listing refusal (R.left source.old) (R.left source.new)
         FILE_BYTES (R.failed source.new)) }

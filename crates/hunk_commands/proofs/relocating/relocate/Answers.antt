@@ -13,7 +13,7 @@ use Rattle.hunk_scatter.specs.Rows.{bases_of}
 use Rattle.hunk_commands.specs.declared.fault.RunFault.TheVariants.{Memory, Read, Refused}
 use Rattle.hunk_commands.specs.Faults.{refused_as, refused_for}
 use Rattle.hunk_listing.specs.SegmentLines.{listing}
-use Rattle.hunk_commands.specs.Relocating.{ReadsShort, image_listing, packed, segments_of}
+use Rattle.hunk_commands.specs.Relocating.{LacksMemory, ReadsShort, image_listing, packed, segments_of}
 use Rattle.hunk_commands.proofs.Engines.{handed}
 use Rattle.hunk_commands.proofs.ListingLengths.{image_listing_fits}
 use Rattle.hunk_commands.proofs.relocating.relocate.Goals as goal
@@ -35,6 +35,15 @@ same_read refusal place is = go refusal.reason refl is
     go reasons.Read there e = (there, cc)
     go reasons.OutOfMemory there e = absurd cc
     go _ there e = absurd cc
+
+-- want of memory is the load's
+same_memory : (refusal : Fault) → refused_as refusal ≡ Memory → refusal.reason ≡ reasons.OutOfMemory
+same_memory refusal is = go refusal.reason is
+  where
+    go : (reason : Reason) → refused_for reason refusal ≡ Memory → reason ≡ reasons.OutOfMemory
+    go reasons.OutOfMemory e = refl
+    go reasons.Read e = absurd cc
+    go _ e = absurd cc
 
 over_of : (at : ℕ) (refusal : Fault) → IsOverBudget at refusal → (refused_as refusal ≡ Memory) ⊎ (refused_as refusal ≡ Refused (record { place = at; reason = reasons.Budget }))
 over_of at refusal (inl (is, there)) =
@@ -86,6 +95,30 @@ returns-in_err-image-clause-read g c =
       gave = fault.1;
       place_is = sym read.1 ∙ why.0;
       short = why.2;
+    })
+
+pub returns-in_err-image-clause-tells_read : goal.returns-in_err-image-clause-tells_read
+returns-in_err-image-clause-tells_read g c = λ sound failed.
+    let refusal = c.in_err-image.field-0.0 in
+    let p = err_from_is_err_and c.from_residual.result c.from_residual.ensures.1 in
+    let is = ap (λ (r : Reason). refused_for r refusal) (c.in_err-image.ensures.read sound failed) in rw (p.1, p.2) (refusal.place, is)
+
+pub returns-in_err-image-clause-memory : goal.returns-in_err-image-clause-memory
+returns-in_err-image-clause-memory g c =
+    let refusal = c.in_err-image.field-0.0 in
+    let before = g.R.Source.left c.args.r.now in
+    let after = g.R.Source.left c.load.new.r in
+    let failed = g.R.Source.failed c.load.new.r in
+    let limits = c.args.limits in
+    handed (λ fault. fault ≡ Memory → LacksMemory c.args.base limits.budget limits.file_bytes before after failed)
+    c.from_residual.result (refused_as refusal) (err_from_is_err_and c.from_residual.result c.from_residual.ensures.1)
+    (λ is.
+    let fault = c.in_err-image.ensures.fault in
+    record {
+      given = fault.0;
+      gave = fault.1;
+      place = refusal.place;
+      lacks = subst (λ (r : Reason). IsLoadFaultBy r (packed c.args.base) limits.budget limits.file_bytes after failed fault.0 refusal.place) (same_memory refusal is) fault.2;
     })
 
 pub returns-in_err-put_listing-clause-over_budget : goal.returns-in_err-put_listing-clause-over_budget

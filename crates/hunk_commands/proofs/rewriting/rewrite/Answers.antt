@@ -20,9 +20,9 @@ returns-in_err-file-clause-succeeds g c = λ has reads writes.
 
 pub returns-in_err-file-clause-fails : goal.returns-in_err-file-clause-fails
 returns-in_err-file-clause-fails g c =
-    handed (StopsOutput g.W.Sink.taken g.W.Sink.failed c.args.w.now c.args.w.now) c.from_residual-in_err-file.result c.in_err-file.field-0.0
+    handed (StopsOutput g.W.Sink.failed c.args.w.now c.args.w.now) c.from_residual-in_err-file.result c.in_err-file.field-0.0
     (err_from_is_err_and c.from_residual-in_err-file.result c.from_residual-in_err-file.ensures.1)
-    (stops_untouched g.W.Sink.taken g.W.Sink.failed c.args.w.now _ c.requires (refused_not_written _ _ c.in_err-file.ensures.refused))
+    (stops_untouched g.W.Sink.failed c.args.w.now _ (refused_not_written _ _ c.in_err-file.ensures.refused))
 
 pub returns-in_err-file-clause-refused : goal.returns-in_err-file-clause-refused
 returns-in_err-file-clause-refused g c =

@@ -1,4 +1,4 @@
-use Rattle.std.proofs.Common.{rules, ◌≡◌, ◌∙◌, ℕ, Bool, true, false, List, Option, Some, Result, Ok, Err, inr, ap, sym, subst}
+use Rattle.std.proofs.Common.{arith, rules, ◌≡◌, ◌≤◌, ◌∙◌, length, ℕ, Bool, true, false, List, Option, Some, Result, Ok, Err, inr, ap, sym, subst}
 use Rattle.std.specs.Prelude.{IfErr, IfOk}
 use Rattle.std.specs.Io.KnownBytes.{Consumes, IsAtEnd}
 use Rattle.hunk_words.specs.Carriers.{Writing}
@@ -31,16 +31,17 @@ returns-clause-done g c =
 
 -- where the bytes are refused, the text that spells them is
 refused_where : (listing : Listing) (hex : Bool) (a b c d : Option (List ℕ)) (given bytes : List ℕ) (most : ℕ) (failed : Bool) (result : Result ℕ RunFault) →
-    hex ≡ true → Consumes a b given → IsAtEnd b → Spells given bytes → c ≡ Some bytes →
+    hex ≡ true → Consumes a b given → IsAtEnd b → length given ≤ most → Spells given bytes → c ≡ Some bytes →
     IfErr result (λ fault. (refusal : Fault) → fault ≡ Refused refusal → RefusesListing listing refusal c d most false) →
     IfErr result (λ fault. (refusal : Fault) → fault ≡ Refused refusal → RefusesSource hex listing refusal a b most failed)
-refused_where listing hex a b c d given bytes most failed (Ok status) is consumed at_end spells known refuses = tt
-refused_where listing hex a b c d given bytes most failed (Err fault) is consumed at_end spells known refuses =
+refused_where listing hex a b c d given bytes most failed (Ok status) is consumed at_end few spells known refuses = tt
+refused_where listing hex a b c d given bytes most failed (Err fault) is consumed at_end few spells known refuses =
     λ refusal same. subst (λ (h : Bool). RefusesSource h listing refusal a b most failed) (sym is)
     (inr (record {
       text = given;
       consumed = consumed;
       at_end = at_end;
+      few = few;
       bytes = bytes;
       spells = spells;
       left = d;
@@ -54,4 +55,4 @@ returns-clause-refused g c =
     let read = c.in_ok-bytes.ensures.spelled in
     let known = ap {B = Option (List ℕ)} (λ (xs : List ℕ). Some xs) (c.new.ensures ∙ c.as_slice.ensures.value) in
     refused_where c.args.listing c.args.hex _ _ _ _ read.text bytes _ _ _
-    hex read.consumed read.at_end read.spells known c.list_bytes-2.ensures.refused
+    hex read.consumed read.at_end (omega (arith, read.few)) read.spells known c.list_bytes-2.ensures.refused
