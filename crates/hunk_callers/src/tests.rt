@@ -1,41 +1,18 @@
 //! The callers on files of the worked examples.
 
+mod suite;
+
 use crate::{describe, list_symbols, load_program, survey, write_program};
 use hunk_commands::show;
 use hunk_orders::{Order, order};
-use hunk_testing::bytes_of;
+use hunk_testing::{examples, spelled};
 use hunk_vectors::{OBJECTS, ObjectWant, VECTORS, Want};
 use hunk_words::{FromSlice, FromWrite, LongWriter};
 use std::test::Fail;
 
-/// A program of one longword, with a symbol.
-const PROGRAM: &[u32] = &[
-    0x3F3,
-    0,
-    1,
-    0,
-    0,
-    1,
-    0x3E9,
-    1,
-    0x4E75_4E71,
-    0x3F0,
-    1,
-    0x5F6D_0000,
-    0,
-    0,
-    0x3F2,
-];
-
-/// The same without it.
-const ONE_HUNK: &[u32] = &[0x3F3, 0, 1, 0, 0, 1, 0x3E9, 1, 0x4E75_4E71, 0x3F2];
-
-/// An object file with a relocation whose target is no hunk, and whose offset is behind the hunk.
-const AMISS: &[u32] = &[0x3E7, 0, 0x3E9, 1, 0, 0x3EC, 1, 1, 2, 0, 0x3F2];
-
 #[test]
 fn loads_a_program(rt: HostRuntime) -> Result<(), Fail> {
-    let file = bytes_of(rt.alloc(), PROGRAM)?;
+    let file = spelled(rt.alloc(), examples::WITH_A_SYMBOL)?;
     let mut memory = Vec::new(rt.alloc());
     let first = load_program(rt.alloc(), file.as_slice(), &mut memory, 0x0002_1000)?;
     assert_eq!(rt; first, 0x0002_1000);
@@ -45,11 +22,14 @@ fn loads_a_program(rt: HostRuntime) -> Result<(), Fail> {
 
 #[test]
 fn describes_files(rt: HostRuntime) -> Result<(), Fail> {
-    for (longs, want) in [
-        (PROGRAM, "load file, 1 hunks, 0 bytes behind it"),
-        (AMISS, "object file, 1 units, 2 findings"),
+    for (text, want) in [
+        (
+            examples::WITH_A_SYMBOL,
+            "load file, 1 hunks, 0 bytes behind it",
+        ),
+        (examples::TWO_FINDINGS, "object file, 1 units, 2 findings"),
     ] {
-        let file = bytes_of(rt.alloc(), longs)?;
+        let file = spelled(rt.alloc(), text)?;
         let line = describe(rt.alloc(), file.as_slice())?;
         assert_eq!(rt; line.as_str(), want);
     }
@@ -58,7 +38,7 @@ fn describes_files(rt: HostRuntime) -> Result<(), Fail> {
 
 #[test]
 fn lists_symbols(rt: HostRuntime) -> Result<(), Fail> {
-    let file = bytes_of(rt.alloc(), PROGRAM)?;
+    let file = spelled(rt.alloc(), examples::WITH_A_SYMBOL)?;
     let found = list_symbols(rt.alloc(), file.as_slice())?;
     assert_eq!(rt; found.as_slice(), [(0, 0)].as_slice());
     Ok(())
@@ -68,7 +48,7 @@ fn lists_symbols(rt: HostRuntime) -> Result<(), Fail> {
 fn writes_a_program(rt: HostRuntime) -> Result<(), Fail> {
     let sink = FromWrite::new(Vec::new(rt.alloc()));
     let file = write_program(&[0x4E, 0x75, 0x4E, 0x71], sink)?.into_inner();
-    let want = bytes_of(rt.alloc(), ONE_HUNK)?;
+    let want = spelled(rt.alloc(), examples::ONE_HUNK)?;
     assert_eq!(rt; file.as_slice(), want.as_slice());
     Ok(())
 }
@@ -129,7 +109,7 @@ fn shows_what_the_words_ask_for(rt: HostRuntime) -> Result<(), Fail> {
     for word in ["hunkinfo", "show"] {
         words.push(String::from_str(rt.alloc(), word)?)?;
     }
-    let file = bytes_of(rt.alloc(), ONE_HUNK)?;
+    let file = spelled(rt.alloc(), examples::ONE_HUNK)?;
     let mut out = LongWriter::new(FromWrite::new(Vec::new(rt.alloc())));
     match order(rt.alloc(), words.as_slice())? {
         Order::Show {

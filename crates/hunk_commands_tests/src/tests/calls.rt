@@ -25,7 +25,8 @@ pub(super) struct Case {
     pub output: &'static str,
 }
 
-/// Calls on example 8, a load file, and on example 29, an object file in which two things are found.
+/// Calls on example 8, a load file, and on example 29, an object file in which two things are found; and a strip of example 18,
+/// a load file with a symbol.
 pub(super) const CASES: &[Case] = &[
     Case {
         call: Call::Show,
@@ -59,6 +60,11 @@ pub(super) const CASES: &[Case] = &[
         call: Call::Rewrite,
         file: examples::TWO_FINDINGS,
         output: examples::TWO_FINDINGS,
+    },
+    Case {
+        call: Call::Strip,
+        file: examples::WITH_A_SYMBOL,
+        output: examples::ONE_HUNK,
     },
     Case {
         call: Call::Relocate,

@@ -1,8 +1,9 @@
 //! Which bytes a hexadecimal text spells.
 use hunk_commands::{RunFault, read_hex, unhex};
-use hunk_testing::{Fed, Then};
+use hunk_testing::{Fed, Then, answers_growth_by_growth, memory_ends};
 use hunk_words::{Fault, Reason};
 use std::alloc::Global;
+use std::process::Abort;
 use std::test::Fail;
 
 #[test]
@@ -97,4 +98,45 @@ fn refuses_at_the_end(rt: HostRuntime) -> Result<(), Fail> {
         assert_eq!(rt; got.err(), Some(limit));
     }
     Ok(())
+}
+
+/// The fault of a call, or no fault where it answers other bytes than these; nothing where it answers these.
+fn shortfall(got: Result<Vec<u8>, RunFault>, bytes: &[u8]) -> Option<Option<RunFault>> {
+    match got {
+        Ok(got) if got.as_slice() == bytes => None,
+        Ok(_) => Some(None),
+        Err(fault) => Some(Some(fault)),
+    }
+}
+
+/// Sees that the call answers `Memory` until no growth is refused, and these bytes then.
+fn expect_growths<F: Fn() -> Result<Vec<u8>, RunFault>>(
+    rt: &impl Abort,
+    alloc: Global,
+    call: F,
+    bytes: &[u8],
+) -> Result<(), Fail>
+    requires { F.IsAlwaysCallable call }
+{
+    let answers = answers_growth_by_growth(alloc, || shortfall(call(), bytes))?;
+    let want = [Some(Some(RunFault::Memory)), None];
+    assert_eq!(rt; answers.as_slice(), want.as_slice());
+    Ok(())
+}
+
+/// The list of bytes grows as 1,024 digits are there, twice, and at the end of the text.
+#[test]
+fn each_growth_is_refused(rt: HostRuntime) -> Result<(), Fail> {
+    if !memory_ends(&rt)? {
+        return Ok(());
+    }
+    let (bytes, text) = counted(rt.alloc(), 1_025)?;
+    let (bytes, text) = (bytes.as_slice(), text.as_slice());
+    expect_growths(&rt, rt.alloc(), || unhex(rt.alloc(), text), bytes)?;
+    expect_growths(
+        &rt,
+        rt.alloc(),
+        || read(rt.alloc(), text, 256, Then::Ends, 10_000),
+        bytes,
+    )
 }

@@ -1,30 +1,40 @@
-//! `show`, `validate` and `rewrite` over input without end.
+//! The commands over input without end.
 
-use hunk_commands::{RunFault, rewrite, show, validate};
-use hunk_testing::{Fed, Then, spelled, wide};
+use crate::tests::calls::{Call, LIMIT, made, roomy};
+use hunk_commands::RunFault;
+use hunk_testing::{Fed, Then, examples, spelled};
 use hunk_words::{Fault, Reason};
+use std::alloc::Global;
+use std::process::Abort;
 use std::test::Fail;
 
-/// Example 1 up to its END.
-const FRONT: &str = "3F3 0 1 0 0 1 / 3E9 1 4E754E71";
+const CALLS: &[Call] = &[
+    Call::Show,
+    Call::Validate,
+    Call::Rewrite,
+    Call::Strip,
+    Call::Relocate,
+];
 
-/// Behind it come empty DEBUG blocks without end.
-#[test]
-fn input_without_end(rt: HostRuntime) -> Result<(), Fail> {
+/// Sees that the call reads as much as it may of what begins so, behind which empty DEBUG blocks come without end, and
+/// writes nothing.
+fn expect_limit(rt: &impl Abort, alloc: Global, call: Call, front: &[u8]) {
+    let mut endless = Fed::new(front, usize::MAX, Then::Repeats);
+    let got = made(alloc, call, &mut endless, roomy());
     let fault = RunFault::Refused(Fault {
-        place: 1_000,
+        place: LIMIT,
         reason: Reason::FileLimit,
     });
-    let front = spelled(rt.alloc(), FRONT)?;
-    let endless = || Fed::new(front.as_slice(), usize::MAX, Then::Repeats);
-    let mut out = wide();
-    let shown = show(rt.alloc(), &mut endless(), &mut out, 1_000);
-    assert_eq!(rt; (shown, out.written()), (Err(fault), 0));
-    let mut out = wide();
-    let validated = validate(rt.alloc(), &mut endless(), &mut out, 1_000);
-    assert_eq!(rt; (validated, out.written()), (Err(fault), 0));
-    let mut out = wide();
-    let rewritten = rewrite(rt.alloc(), &mut endless(), &mut out, 1_000, false);
-    assert_eq!(rt; (rewritten, out.written()), (Err(fault), 0));
+    assert_eq!(rt; got.fault, Some(fault), "{call:?}");
+    assert_eq!(rt; got.written, 0, "{call:?}");
+    assert!(rt; got.narrow.taken().is_empty(), "{call:?}");
+}
+
+#[test]
+fn input_without_end(rt: HostRuntime) -> Result<(), Fail> {
+    let front = spelled(rt.alloc(), examples::BEFORE_ITS_END)?;
+    for call in CALLS {
+        expect_limit(&rt, rt.alloc(), *call, front.as_slice());
+    }
     Ok(())
 }

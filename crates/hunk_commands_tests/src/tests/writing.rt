@@ -50,7 +50,7 @@ fn expect_whole(rt: &impl Abort, alloc: Global, call: Call, input: &[u8], output
 }
 
 /// How many bytes the cases write; the first is example 42.
-const WRITTEN: [usize; 7] = [124, 93, 27, 117, 64, 44, 92];
+const WRITTEN: [usize; 8] = [124, 93, 27, 117, 64, 44, 40, 92];
 
 #[test]
 fn whole_writes(rt: HostRuntime) -> Result<(), Fail> {

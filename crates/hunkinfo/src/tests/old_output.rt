@@ -17,7 +17,7 @@ const DAMAGED: &str =
 
 const OLD: &[u8] = b"an old file that is longer than the one that takes its place";
 
-/// The files of a run, in a folder that no other run has.
+/// The files of a run, in a folder that no other run has and that is removed whatever comes of the run.
 #[derive(Drop)]
 struct Files {
     folder: String,
@@ -42,13 +42,6 @@ impl Files {
         }
         Err("no folder can be made")?
     }
-
-    fn remove(&self, rt: &HostRuntime) -> Result<(), Fail> {
-        fs::remove_file(rt, &self.input)?;
-        fs::remove_file(rt, &self.output)?;
-        fs::remove_dir(rt, &self.folder)?;
-        Ok(())
-    }
 }
 
 /// The status of `rewrite` from the input to the output.
@@ -69,8 +62,8 @@ struct After {
     output: Vec<u8>,
 }
 
-/// Rewrites a file of these bytes, where the output is an old file.
-fn rewritten(rt: &HostRuntime, files: &Files, bytes: &[u8]) -> Result<After, Fail> {
+/// Rewrites a file of these bytes, where the output is an old file, and leaves both there.
+fn left_by(rt: &HostRuntime, files: &Files, bytes: &[u8]) -> Result<After, Fail> {
     fs::write(rt, &files.input, bytes)?;
     fs::write(rt, &files.output, OLD)?;
     let status = rewrite(rt, files)?;
@@ -79,6 +72,16 @@ fn rewritten(rt: &HostRuntime, files: &Files, bytes: &[u8]) -> Result<After, Fai
         input: fs::read(rt, &files.input)?,
         output: fs::read(rt, &files.output)?,
     })
+}
+
+/// The same, in a folder that is gone then.
+fn rewritten(rt: &HostRuntime, bytes: &[u8]) -> Result<After, Fail> {
+    let files = Files::new(rt)?;
+    let after = left_by(rt, &files, bytes);
+    let removed = fs::remove_dir_all(rt, &files.folder);
+    let after = after?;
+    removed?;
+    Ok(after)
 }
 
 /// Sees that the rewriting of these bytes ended so, and left the input as it was and these bytes in the output.
@@ -90,15 +93,14 @@ fn expect(rt: &impl Abort, after: &After, bytes: &[u8], want: &[u8], status: u8)
 
 #[test]
 fn keeps_an_old_output(rt: HostRuntime) -> Result<(), Fail> {
-    let files = Files::new(&rt)?;
     let file = unhex(rt.alloc(), FILE.as_bytes())?;
     let damaged = unhex(rt.alloc(), DAMAGED.as_bytes())?;
     // A refused IN leaves OUT as it was.
     for bytes in [b"\0\0\x03\xF3".as_slice(), damaged.as_slice()] {
-        expect(&rt, &rewritten(&rt, &files, bytes)?, bytes, OLD, 1);
+        expect(&rt, &rewritten(&rt, bytes)?, bytes, OLD, 1);
     }
     // One that is accepted takes its place.
     let bytes = file.as_slice();
-    expect(&rt, &rewritten(&rt, &files, bytes)?, bytes, bytes, 0);
-    files.remove(&rt)
+    expect(&rt, &rewritten(&rt, bytes)?, bytes, bytes, 0);
+    Ok(())
 }

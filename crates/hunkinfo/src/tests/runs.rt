@@ -97,24 +97,6 @@ fn refuses_inputs(rt: HostRuntime) -> Result<(), Fail> {
     Ok(())
 }
 
-/// The same of so many bytes `g`, which are no digits.
-fn expect_of_letters(
-    rt: &impl Abort,
-    alloc: Global,
-    length: usize,
-    want: &str,
-) -> Result<(), Fail> {
-    let text = vec![in alloc; b'g'; length]?;
-    expect(rt, alloc, &giving(text.as_slice()), "hunkinfo", want, 1)
-}
-
-#[test]
-fn limits_hexadecimal_text(rt: HostRuntime) -> Result<(), Fail> {
-    expect_of_letters(&rt, rt.alloc(), 67_108_864, "hex text refused\n")?;
-    let want = "refused at byte 67108864: FileLimit (28)\n";
-    expect_of_letters(&rt, rt.alloc(), 67_108_865, want)
-}
-
 /// The first 30 bytes of the example.
 const FRONT: &[u8] = b"\0\0\x03\xF3\0\0\0\0\0\0\0\x01\0\0\0\0\0\0\0\0\0\0\0\x01\0\0\x03\xE9\0\0";
 
