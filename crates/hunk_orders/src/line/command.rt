@@ -22,7 +22,7 @@ Limits:
   The input: fewer than 67108864 bytes (64 MiB); for relocate at most 67108864.
   File names are UTF-8; `hunkinfo show < FILE` reads a file of any name.
   relocate holds the bytes that the hunks declare, and 12 for each hunk. The
-  other commands hold the input and its lists, 1.1 to 12 times the input.
+  other commands hold the input and its lists, 1.1 to some 20 times the input.
 
 Exit status:
   0  done
