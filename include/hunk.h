@@ -4,7 +4,7 @@
  * Whatever the bytes are, each call answers one of the answers that stand below it; what of this is
  * proved is in docs/PROVED.md. A call reads and writes only what its arguments point to and what
  * malloc gives it, keeps nothing between two calls, and gives back what it took before it returns.
- * Threads may call at the same time, as long as no two write the same memory.
+ * Threads may call at the same time, as long as no call writes memory that another one uses.
  *
  * What the caller has to make sure of:
  * - Each pointer points to as many elements as its length says, aligned for their type. A pointer
@@ -54,7 +54,7 @@ extern "C" {
 #define HUNK_FILE_LIMIT UINT32_C(28)          /* no call of these answers it */
 #define HUNK_NO_BASE UINT32_C(29)             /* a hunk has no base */
 #define HUNK_READ UINT32_C(30)                /* no call of these answers it */
-#define HUNK_OUT_OF_MEMORY UINT32_C(31)       /* malloc or realloc gave none */
+#define HUNK_OUT_OF_MEMORY UINT32_C(31)       /* out of memory */
 #define HUNK_NO_ROOM UINT32_C(32)             /* the caller's array has too few elements */
 #define HUNK_STRANGE UINT32_C(33)             /* numbers of no loader, or that do not fit */
 
@@ -155,9 +155,9 @@ struct hunk_place {
     uint32_t base;  /* the address of its first byte */
 };
 
-/* Where a loader stands: 64 bytes. A program has only to keep them. Any numbers may stand here:
- * zero bytes are answered by HUNK_STRANGE, and so are those with which a call would leave the
- * places or the memory. Not all numbers that no loader may have are found out. */
+/* Where a loader stands: 64 bytes, which a program just stores. Any numbers are safe here: zero
+ * bytes are answered by HUNK_STRANGE, and so are those with which a call would leave the places or
+ * the memory. Other numbers that no loader can have may go undetected. */
 struct hunk_loader {
     uint64_t start;        /* the byte of the memory where the open hunk begins */
     uint64_t fed;          /* the bytes of header and body that were taken */
@@ -165,10 +165,10 @@ struct hunk_loader {
     uint32_t refused;      /* the number of its reason; 0 where there was none */
     uint32_t refused_hunk; /* the hunk of its answer */
     uint32_t hunk;         /* the hunks that are whole: the open one, counted from 0 */
-    uint32_t hunks;        /* the hunks of the file; 0 behind the file */
-    uint32_t ahead;        /* those behind the open one */
+    uint32_t hunks;        /* the hunks of the file; 0 after the last */
+    uint32_t ahead;        /* the hunks after the open one */
     uint32_t has_content;  /* 1 where the open hunk has its content, else 0 */
-    uint32_t phase;        /* what the next longword is for, 1 to 13; 14 behind the file */
+    uint32_t phase;        /* what the next longword is for, 1 to 13; 14 after the last */
     uint32_t part;         /* the longwords of a content; the target of offsets */
     uint32_t owed;         /* how many longwords of its kind follow the next */
     uint8_t pending;       /* the bytes of the next longword that have come, 0 to 3 */
@@ -179,8 +179,8 @@ struct hunk_loader {
 
 /* Sets a loader behind the header of a file, and makes the memory zero.
  *
- *   places  one for each hunk, its word and extra as hunk_table wrote them, its base as the caller
- *           likes: two hunks that overlap, or pass 2^32, are the caller's affair
+ *   places  one for each hunk, its word and extra as hunk_table wrote them, and its base, any
+ *           address: whether hunks overlap or pass 2^32 is not checked
  *   header  the bytes of the header, as hunk_table answered them: its place
  *   memory  where the hunks go, one right behind the other: just the bytes that they have together,
  *           hunk_table's count
@@ -188,7 +188,7 @@ struct hunk_loader {
  * HUNK_OK       hunk: the hunks; place: the bytes of the header; count: the bytes of the memory.
  * HUNK_NO_ROOM  the memory is too small. hunk and place as at HUNK_OK; count: the bytes that are
  *               needed.
- * HUNK_STRANGE  no header of so many bytes has these words and extras, or the memory is too large.
+ * HUNK_STRANGE  no header of `header` bytes has these words and extras, or the memory is too large.
  *               hunk, place and count are 0.
  *
  * It writes the loader and the memory, and reads the places. At any answer but HUNK_OK the memory
@@ -212,8 +212,8 @@ struct hunk_answer hunk_begin(struct hunk_loader *loader, const struct hunk_plac
  *               have, or place would pass 2^64 - 1. hunk, place and count are 0. The loader is as
  *               it was; the memory may not be.
  * Else the first fault of the file, HUNK_LIBRARY, or HUNK_BOTH_BITS to HUNK_BAD_OFFSET; place: the
- * byte of the longword that is refused, from the start of the file. What the memory has then is
- * not told. Each later call with this loader answers the same, and leaves both as they are.
+ * byte of the longword that is refused, from the start of the file. The contents of the memory
+ * are then unspecified. Each later call with this loader answers the same, and leaves both as they are.
  *
  * It reads and writes the loader and the memory, and reads the places and the piece.
  */
