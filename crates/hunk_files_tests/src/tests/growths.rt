@@ -47,18 +47,32 @@ fn of_a_check(rt: HostRuntime) -> Result<(), Fail> {
     let alloc = rt.alloc();
     let bytes = spelled(alloc, SIX_FINDINGS)?;
     let file = ObjectFile::decode(alloc, &bytes)?;
-    let answers = answers_growth_by_growth(alloc, || file.check(alloc).err().map(|_| ()))?;
-    assert_eq!(rt; answers.as_slice(), [Some(()), None].as_slice());
-    assert_eq!(rt; file.check(alloc)?.len(), 6);
+    let answers = answers_growth_by_growth(alloc, || check_fault(alloc, &file))?;
+    assert_eq!(rt;
+        answers.as_slice(),
+        [Some("out of memory"), None].as_slice()
+    );
     Ok(())
 }
 
-/// Whether `overlap` of the first hunk is refused memory.
-fn overlap_fault(alloc: Global, file: &LoadFile) -> Option<()> {
-    if file.hunks() > 0 && file.overlap(alloc, 0).is_err() {
-        Some(())
-    } else {
-        None
+/// What is amiss with `check` of a file with six findings.
+fn check_fault(alloc: Global, file: &ObjectFile) -> Option<&'static str> {
+    match file.check(alloc) {
+        Ok(found) if found.len() == 6 => None,
+        Ok(_) => Some("another number of findings"),
+        Err(_) => Some("out of memory"),
+    }
+}
+
+/// What is amiss with `overlap` of the first hunk, whose offsets 0 and 1 are the first that are close.
+fn overlap_fault(alloc: Global, file: &LoadFile) -> Option<&'static str> {
+    if file.hunks() == 0 {
+        return Some("no hunk");
+    }
+    match file.overlap(alloc, 0) {
+        Ok(Some((0, 1))) => None,
+        Ok(_) => Some("another pair"),
+        Err(_) => Some("out of memory"),
     }
 }
 
@@ -72,7 +86,10 @@ fn of_an_overlap_and_an_image(rt: HostRuntime) -> Result<(), Fail> {
     let bytes = spelled(alloc, examples::FIVE_HUNKS)?;
     let (file, _) = LoadFile::decode(alloc, &bytes)?;
     let answers = answers_growth_by_growth(alloc, || overlap_fault(alloc, &file))?;
-    assert_eq!(rt; answers.as_slice(), [Some(()), None].as_slice());
+    assert_eq!(rt;
+        answers.as_slice(),
+        [Some("out of memory"), None].as_slice()
+    );
     let bases = [0; 5].as_slice();
     let answers = answers_growth_by_growth(alloc, || file.image(alloc, bases).err())?;
     let refused = Some(ImageFault::OutOfMemory);

@@ -1,6 +1,7 @@
 //! Headers, tables and placing by themselves.
 ghost use Rattle.std.specs.Prelude.{◌≤◌, length};
 
+use hunk_files::Row;
 use hunk_scatter::{BodyLoader, Declared, HeaderLoader, Listed, Packed, Placer, Unplaced};
 use hunk_testing::examples::{
     ENDING_IN_ZEROS, LARGEST_HUNK, LAST_HUNK_AMISS, NO_HUNKS, ONE_HUNK, TOO_MANY_HUNKS, TWO_HUNKS,
@@ -229,15 +230,17 @@ fn tables(rt: HostRuntime) -> Result<(), Fail> {
     Ok(())
 }
 
-/// Sees that a table of two hunks came back for this reason, as it was.
+/// Sees that the table of `TWO_HUNKS` came back for this reason, as it was.
 pub(super) fn came_back(rt: &impl Abort, unplaced: Option<&Unplaced>, reason: Reason) {
     let Some(unplaced) = unplaced else {
         panic!(rt; "placed");
     };
     assert_eq!(rt; unplaced.reason, reason);
     assert_eq!(rt; unplaced.declared.hunks(), 2);
+    assert_eq!(rt; unplaced.declared.total(), 12);
     for i in 0..unplaced.declared.hunks() {
-        assert_eq!(rt; unplaced.declared.row(i).base, 0);
+        let Row { word, extra, base } = unplaced.declared.row(i);
+        assert_eq!(rt; (word, extra, base), (if i == 0 { 2 } else { 1 }, 0, 0));
     }
 }
 

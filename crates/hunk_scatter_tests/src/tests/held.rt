@@ -14,7 +14,12 @@ const TOTAL: usize = 4_352;
 
 /// The header, up to its first `rows` rows.
 fn header(alloc: Global, rows: u32) -> Result<Vec<u8>, AllocError> {
-    let mut longs = [0x3F3, 0, HUNKS, 0, HUNKS - 1].to_vec(alloc)?;
+    front(alloc, HUNKS, rows)
+}
+
+/// A header of so many hunks, up to its first `rows` rows.
+fn front(alloc: Global, hunks: u32, rows: u32) -> Result<Vec<u8>, AllocError> {
+    let mut longs = [0x3F3, 0, hunks, 0, hunks.saturating_sub(1)].to_vec(alloc)?;
     for row in 0..rows {
         longs.push(if row == 0 { 1_024 } else { 1 })?;
     }
@@ -64,17 +69,18 @@ fn declared(alloc: Global, header: &[u8]) -> Option<Declared> {
     fed(alloc, header, TOTAL as u64).declared().ok()
 }
 
-/// 64 rows of 12 bytes, which is what their list has room for.
+/// 64 rows of 12 bytes, which is what their list has room for, of a header of 65,536: a loader that
+/// reserves by the number of hunks holds more.
 #[test]
 fn rows_of_a_header(rt: HostRuntime) -> Result<(), Fail> {
     if !memory_ends(&rt)? {
         return Ok(());
     }
-    let bytes = header(rt.alloc(), 64)?;
+    let bytes = front(rt.alloc(), 65_536, 64)?;
     let alloc = rt.alloc();
     let (loader, left) = left_beside(alloc, || fed(alloc, bytes.as_slice(), 10_000))?;
     assert_eq!(rt; loader.held(), 768);
-    assert_eq!(rt; loader.want(), 4);
+    assert_eq!(rt; loader.want(), 256);
     expect_left(&rt, alloc, left, 64, 0)
 }
 

@@ -2,10 +2,10 @@
 
 use crate::tests::loads::{START, Want, comes};
 use crate::tests::{AMPLE, cut_at, outcome};
-use hunk_scatter::{Limits, Listed};
+use hunk_scatter::{Limits, Listed, load};
 use hunk_testing::examples::{ENDING_IN_ZEROS, ONE_HUNK, TWO_HUNKS};
-use hunk_testing::{FailsOnce, Fed, Then, spelled};
-use hunk_words::{LoadFault, Reason};
+use hunk_testing::{FailsOnce, Fed, Interrupted, Then, spelled};
+use hunk_words::{FromRead, LoadFault, Reason};
 use std::alloc::Global;
 use std::process::Abort;
 use std::test::Fail;
@@ -165,6 +165,22 @@ fn reads_nothing_again(rt: HostRuntime) -> Result<(), Fail> {
             };
             assert_eq!(rt; got, Err(fault));
         }
+    }
+    Ok(())
+}
+
+/// A read that is interrupted is a read that failed, wherever it comes, though the next one would go on.
+#[test]
+fn interrupted(rt: HostRuntime) -> Result<(), Fail> {
+    let bytes = spelled(rt.alloc(), ONE_HUNK)?;
+    for place in 0..bytes.len() {
+        let mut source = FromRead::new(Interrupted::new(bytes.as_slice(), place));
+        let fault = load(rt.alloc(), &mut source, AMPLE, &START).err();
+        let want = LoadFault {
+            place: place as u64,
+            reason: Reason::Read,
+        };
+        assert_eq!(rt; fault, Some(want));
     }
     Ok(())
 }
