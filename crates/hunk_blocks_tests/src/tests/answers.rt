@@ -105,8 +105,12 @@ const CUT_SHORT: &[Row] = &[
     ("3EF 82000000 8 0 8C000000", 16, Some(Reason::ExtKind)),
 ];
 
+/// In a load file the block word comes before the type.
+const IN_LOAD_FILES: &[Row] = &[("3EF 3000001", 0, Some(Reason::NotInLoadFile))];
+
 #[test]
 fn of_types_that_are_cut_short(rt: HostRuntime) -> Result<(), Fail> {
+    expect(&rt, rt.alloc(), IN_LOAD_FILES, Mode::Load)?;
     expect(&rt, rt.alloc(), CUT_SHORT, Mode::Object)
 }
 

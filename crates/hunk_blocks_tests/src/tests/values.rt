@@ -22,8 +22,10 @@ fn of_words_and_sizes(rt: HostRuntime) -> Result<(), Fail> {
         assert!(rt; matches!(block.body(), Body::End));
     }
     let bytes = spelled(rt.alloc(), "3EB 80000002")?;
-    let (block, _) = Block::decode(rt.alloc(), bytes.as_slice(), Mode::Object)?;
-    assert!(rt; matches!(block.body(), Body::Bss { size: 0x8000_0002 }));
+    for mode in [Mode::Load, Mode::Object] {
+        let (block, _) = Block::decode(rt.alloc(), bytes.as_slice(), mode)?;
+        assert!(rt; matches!(block.body(), Body::Bss { size: 0x8000_0002 }));
+    }
     Ok(())
 }
 
@@ -68,6 +70,24 @@ fn of_groups_and_symbols(rt: HostRuntime) -> Result<(), Fail> {
             assert_eq!(rt; symbol.name.bytes(), b"_m\0\0".as_slice());
         }
         _ => panic!(&rt; "SYMBOL"),
+    }
+    Ok(())
+}
+
+/// Example 33: one common block with no name and no offsets.
+#[test]
+fn of_a_common_block_alone(rt: HostRuntime) -> Result<(), Fail> {
+    let bytes = spelled(rt.alloc(), "3EF 82000000 8 0 0")?;
+    let (block, count) = Block::decode(rt.alloc(), bytes.as_slice(), Mode::Object)?;
+    assert_eq!(rt; count, 20);
+    match block.body() {
+        Body::Ext(entries) => {
+            assert_eq!(rt; entries.len(), 1);
+            let common = entries.at(0);
+            assert_eq!(rt; (common.word, common.value), (0x8200_0000, 8));
+            assert!(rt; common.name.bytes().is_empty() && common.offsets.is_empty());
+        }
+        _ => panic!(&rt; "EXT"),
     }
     Ok(())
 }
