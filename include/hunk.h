@@ -11,6 +11,7 @@
  *   is not NULL, also where the length is 0; any aligned address will do there.
  * - The memory that is written overlaps no other argument.
  * - malloc, realloc and free are of one allocator, and may be called.
+ * - There are some 100 KiB of stack: hunk_strip writes through a page of 80 KiB there.
  */
 #ifndef HUNK_H
 #define HUNK_H
