@@ -1,6 +1,7 @@
 //! The callers on files of the worked examples.
 
 mod suite;
+mod tour;
 
 use crate::{describe, list_symbols, load_program, survey, write_program};
 use hunk_commands::show;
