@@ -1,6 +1,6 @@
 #!/bin/sh
-# [DESTDIR=..] [PREFIX=..] ./install.sh [uninstall]: puts the program, the C library with its header, the manual page and the
-# lines for `file` where a distribution has them, below PREFIX (/usr/local), all of that below DESTDIR where one is given; or
+# [DESTDIR=..] [PREFIX=..] ./install.sh [uninstall]: puts the program, the C library with its header, the manual page, two pages
+# and the lines for `file` where a distribution has them, below PREFIX (/usr/local), all of that below DESTDIR where one is given; or
 # takes them away. They are what `rt run` in crates/hunkinfo and `rt lib` in crates/hunk have built; PROGRAM and LIBRARY name
 # others. It needs a C compiler (CC), for libhunk.so.
 set -eu
@@ -18,7 +18,7 @@ PROGRAM=${PROGRAM:+$(absolute "$PROGRAM")}
 cd "$(dirname "$0")"
 to=$DESTDIR$PREFIX
 files="bin/hunkinfo include/hunk.h lib/libhunk.a lib/libhunk.so lib/pkgconfig/hunk.pc share/man/man1/hunkinfo.1
-  share/misc/magic.d/hunk"
+  share/misc/magic.d/hunk share/doc/hunkinfo/OUTPUT.md share/doc/hunkinfo/FORMAT.md"
 if [ "${1:-}" = uninstall ]; then
   for file in $files; do
     rm -f "$to/$file"
@@ -73,3 +73,4 @@ install -m 755 "$work/libhunk.so" "$to/lib/libhunk.so"
 install -m 644 "$work/hunk.pc" "$to/lib/pkgconfig/hunk.pc"
 install -m 644 docs/hunkinfo.1 "$to/share/man/man1/hunkinfo.1"
 install -m 644 docs/hunk.magic "$to/share/misc/magic.d/hunk"
+install -m 644 docs/OUTPUT.md docs/FORMAT.md "$to/share/doc/hunkinfo"

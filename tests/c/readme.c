@@ -1,0 +1,35 @@
+/* The pieces of C that README.md shows, each in a function. They are compiled, and tests/pages/run sees
+ * that the page has them so. */
+#include "hunk.h"
+#include <stdio.h>
+
+void refuse(struct hunk_answer a);
+size_t next_piece(uint8_t *piece);
+void load_program(const uint8_t *file, size_t len, uint8_t *ram, size_t size, uint32_t base);
+void strip_file(const uint8_t *file, size_t len, uint8_t *text, FILE *out);
+struct hunk_answer load_pieces(const struct hunk_place *places, struct hunk_answer t, uint8_t *memory, uint8_t *piece);
+
+void load_program(const uint8_t *file, size_t len, uint8_t *ram, size_t size, uint32_t base)
+{
+    struct hunk_answer a = hunk_load_packed(file, len, base, ram + base, size - base);
+    if (a.number != HUNK_OK)
+        refuse(a);
+}
+
+void strip_file(const uint8_t *file, size_t len, uint8_t *text, FILE *out)
+{
+    struct hunk_answer a = hunk_strip(file, len, text, len);
+    if (a.number == HUNK_OK)
+        fwrite(text, 1, a.count, out);
+}
+
+struct hunk_answer load_pieces(const struct hunk_place *places, struct hunk_answer t, uint8_t *memory, uint8_t *piece)
+{
+    struct hunk_loader loader;
+    size_t len;
+    hunk_begin(&loader, places, t.hunk, t.place, memory, t.count);
+    while ((len = next_piece(piece)) > 0)
+        hunk_feed(&loader, places, t.hunk, memory, t.count, piece, len);
+    struct hunk_answer end = hunk_end(&loader);
+    return end;
+}
