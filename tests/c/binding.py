@@ -40,11 +40,20 @@ def wrong_rows(path):
             yield f"{name}: {answer} where {wanted} is wanted"
 
 
+def shown(data):
+    """The bytes of each hunk, as the README takes them."""
+    lines = []
+    for segment in hunk.load(data, base=0x21000):
+        lines.append(segment.hex())
+    return lines
+
+
 def wrong_calls(texts):
     """What other calls, and the texts of errors, are not as they must be."""
     one, two, symbol = (bytes.fromhex(texts[it]) for it in ("one-hunk", "two-hunks", "symbol"))
     calls = {
         "strip": (lambda: hunk.strip(symbol), one),
+        "readme": (lambda: shown(one), ["4e754e71"]),
         "table": (lambda: hunk.table(one[:24]), [hunk.Hunk(4, "any", 0)]),
         "bases": (lambda: hunk.load(two, [0x10000, 0x20000])[0].hex(), "4ef9000200044e71"),
         "memory": (lambda: hunk.load(memoryview(one)), [bytes.fromhex("4e754e71")]),
