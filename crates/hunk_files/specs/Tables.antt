@@ -14,8 +14,8 @@ use Rattle.hunk_files.specs.Hunks.{block_texts}
 abbrev pub row_entry : Row → TableEntry
 row_entry r = record { word = r.word; extra = r.extra }
 
-abbrev pub entry_of : SizeWord → TableEntry
-entry_of s = record { word = s.word; extra = s.extra }
+abbrev pub size_entry : SizeWord → TableEntry
+size_entry s = record { word = s.word; extra = s.extra }
 
 abbrev pub hunk_of : LoadHunk → HunkValue
 hunk_of h = record { entry = row_entry h.row; blocks = h.blocks.items }

@@ -117,10 +117,7 @@ fn decode_load(alloc: Global, bytes: &[u8]) -> Result<HunkFile<'_>, FileFault>
     ensures memory { IfErr result (λ fault. fault.reason ≡ reasons.OutOfMemory →
         IsLoadMemory bytes.entry.now fault.place) }
 {
-    let (file, size) = match LoadFile::decode(alloc, bytes) {
-        Ok(decoded) => decoded,
-        Err(fault) => return Err(fault),
-    };
+    let (file, size) = LoadFile::decode(alloc, bytes)?;
     let rest = (bytes.len() - size) as u64;
     Ok(HunkFile::Load { file, rest })
 }
@@ -135,8 +132,6 @@ fn decode_object(alloc: Global, bytes: &[u8]) -> Result<HunkFile<'_>, FileFault>
     ensures memory { IfErr result (λ fault. fault.reason ≡ reasons.OutOfMemory →
         IsObjectMemory bytes.entry.now fault.place) }
 {
-    match ObjectFile::decode(alloc, bytes) {
-        Ok(file) => Ok(HunkFile::Object(file)),
-        Err(fault) => Err(fault),
-    }
+    let file = ObjectFile::decode(alloc, bytes)?;
+    Ok(HunkFile::Object(file))
 }

@@ -3,7 +3,7 @@ ghost use Rattle.std.specs.Prelude.{◌≡◌, ◌≤◌, ◌+◌, ◌++◌, len
 ghost use Rattle.hunk_words.specs.Prints.{Prints};
 ghost use Rattle.std.specs.List.{flat_map};
 ghost use Rattle.hunk_words.specs.declared.size_word.Memory.TheVariants.{Attributes};
-ghost use Rattle.hunk_files.specs.Tables.{entry_of};
+ghost use Rattle.hunk_files.specs.Tables.{size_entry};
 ghost use Rattle.hunk_listing.specs.BlockLines.{block_lines};
 ghost use Rattle.hunk_listing.specs.FileLines.{hunk_line, hunk_lines, load_head, load_line};
 ghost use Rattle.hunk_listing.specs.FileLines.{memory_text, numbered, rest_line};
@@ -65,7 +65,7 @@ fn print_hunk<W: Sink>(
     blocks: &[Block<'_>],
 )
     ensures { Prints page.old page.new
-        (hunk_line number (entry_of entry) ++ flat_map block_lines blocks.now) }
+        (hunk_line number (size_entry entry) ++ flat_map block_lines blocks.now) }
 {
     print_hunk_line(page, number, entry);
     print_blocks(page, blocks);
@@ -73,7 +73,7 @@ fn print_hunk<W: Sink>(
 
 #[tactic(auto, unfolding(crate::specs::FileLines::hunk_line))]
 fn print_hunk_line<W: Sink>(page: &mut Printer<'_, W>, number: u32, entry: SizeWord)
-    ensures { Prints page.old page.new (hunk_line number (entry_of entry)) }
+    ensures { Prints page.old page.new (hunk_line number (size_entry entry)) }
 {
     let mut line = Line::new();
     line.put(b"hunk ");

@@ -7,7 +7,7 @@ ghost use Rattle.hunk_files.specs.LoadFile.{IsLoadFile};
 ghost use Rattle.hunk_files.specs.Image.{declared_bytes};
 ghost use Rattle.hunk_files.specs.LoadText.{table, text};
 ghost use Rattle.hunk_files.specs.Fault.{BeginsWithLoadFile, HasFault, is_load_refusal, loads};
-ghost use Rattle.hunk_files.specs.Tables.{entry_of};
+ghost use Rattle.hunk_files.specs.Tables.{size_entry};
 
 use crate::load::hunk::{LoadHunk, read_hunks};
 use crate::load::table::read_table;
@@ -87,7 +87,7 @@ impl<'a> LoadFile<'a> {
     /// What the table declares of hunk `i`, counted from 0.
     pub fn table(&self, i: u32) -> SizeWord
         requires { i < length self.now }
-        ensures { slice_get (table self.now) i ≡ Some (entry_of result) }
+        ensures { slice_get (table self.now) i ≡ Some (size_entry result) }
     {
         self.hunks[i as usize].row.size()
     }

@@ -70,10 +70,7 @@ pub(crate) fn read_hunks<'a>(
     let mut hunks = Vec::new(alloc);
     let mut at = start;
     'reading: for row in rows {
-        let (blocks, end) = match read_hunk(alloc, bytes, at) {
-            Ok(read) => read,
-            Err(fault) => return Err(fault),
-        };
+        let (blocks, end) = read_hunk(alloc, bytes, at)?;
         at = end;
         if hunks.push(LoadHunk { row: *row, blocks }).is_err() {
             return Err(out_of_memory(at));

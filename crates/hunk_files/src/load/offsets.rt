@@ -60,7 +60,8 @@ fn first_outside(bytes: &[u8], first: usize, end: usize, declared: u32) -> usize
     ensures bound { result ≤ end }
     ensures inside { (i : ℕ) → first ≤ i → i < result
         → EndsWithin (4 * declared) (slice_index (longs bytes.now) i) }
-    ensures stops { result < end → EndsWithin (4 * declared) (slice_index (longs bytes.now) result) → ⊥ }
+    ensures stops { result < end
+        → EndsWithin (4 * declared) (slice_index (longs bytes.now) result) → ⊥ }
 {
     if !is_outside(largest(bytes, first, end), declared) {
         return end;

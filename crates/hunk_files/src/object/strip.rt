@@ -45,7 +45,8 @@ impl<'a> ObjectFile<'a> {
     /// EXT blocks stay. Takes no memory.
     pub fn strip(mut self) -> ObjectFile<'a>
         ensures stripped { result ≡ strip_object self.entry }
-        ensures shorter { length (bytes_of (object_text result)) ≤ length (bytes_of (object_text self.entry)) }
+        ensures shorter { length (bytes_of (object_text result))
+            ≤ length (bytes_of (object_text self.entry)) }
     {
         strip_units(&mut self.units);
         self

@@ -75,10 +75,7 @@ fn read_block<'a>(
         IfErr result (λ fault. FaultAhead (blocks_from place) (unread bytes.entry.now) fault) }
     ensures own_reasons { IfErr result (λ fault. IsTrue (is_object_refusal fault.reason)) }
 {
-    let word = match long_at(bytes, 0) {
-        Ok(word) => BlockWord::of(word),
-        Err(fault) => return Err(fault),
-    };
+    let word = BlockWord::of(long_at(bytes, 0)?);
     if word.has_both_memory_bits() {
         return Err(FileFault {
             place: 0,
@@ -131,7 +128,8 @@ pub(super) fn read_hunk<'a>(
 fn read_header(bytes: &[u8]) -> Result<(Payload<'_>, usize), FileFault>
     ensures name { IfOk result (λ r. IsPayload name_limit (longs r.0)) }
     ensures text { IfOk result (λ r. BeginsWithText bytes.entry.now (unit_header (longs r.0)) r.1) }
-    ensures none { OnErr result (BeginsWithNo (IsPayload name_limit) unit_header (longs bytes.entry.now)) }
+    ensures none { OnErr result
+        (BeginsWithNo (IsPayload name_limit) unit_header (longs bytes.entry.now)) }
     ensures fault { (place : WordPlace) → MayBegin place bytes.entry.now →
         IfErr result (λ fault. FaultAhead (units_from place) (unread bytes.entry.now) fault) }
     ensures own_reasons { IfErr result (λ fault. IsTrue (is_object_refusal fault.reason)) }
@@ -167,10 +165,7 @@ pub(super) fn read_unit<'a>(alloc: Global, bytes: &'a [u8]) -> Result<(Unit<'a>,
         IfErr result (λ fault. FaultAhead (units_from place) (unread bytes.entry.now) fault) }
     ensures own_reasons { IfErr result (λ fault. IsTrue (is_object_refusal fault.reason)) }
 {
-    let (name, mut at) = match read_header(bytes) {
-        Ok(read) => read,
-        Err(fault) => return Err(fault),
-    };
+    let (name, mut at) = read_header(bytes)?;
     let mut hunks = Vec::new(alloc);
     'reading: while !ends_unit(&bytes[at..]) {
         let (blocks, size) = match read_hunk(alloc, &bytes[at..]) {

@@ -1,11 +1,19 @@
 use Rattle.std.proofs.Common.{sym}
 use Rattle.std.proofs.lemmas.List.{length-drop}
+use Rattle.std.proofs.lemmas.Result.{err_from_is_err_and}
 use Rattle.hunk_files.proofs.FileKinds.{load_of}
 use Rattle.hunk_files.proofs.hunk_file.decode_load.Goals as goal
 
 pub returns-clause-ok : goal.returns-clause-ok
 returns-clause-ok c =
-    load_of c.args.bytes.now c.in-Ok.decoded.0 c.in-Ok.decoded.1 c.in-Ok.ensures.value c.in-Ok.ensures.text c.in-Ok.ensures.within _ (sym (length-drop c.in-Ok.decoded.1 c.args.bytes.now))
+    load_of c.args.bytes.now c.in_ok-file.file c.in_ok-file.size c.in_ok-file.ensures.value c.in_ok-file.ensures.text c.in_ok-file.ensures.within _ (sym (length-drop c.in_ok-file.size c.args.bytes.now))
 
-pub returns-in-Err-clause-refused : goal.returns-in-Err-clause-refused
-returns-in-Err-clause-refused c = λ other. (c.in-Err.ensures.fault other, c.in-Err.ensures.own_reasons)
+pub returns-in_err-file-clause-refused : goal.returns-in_err-file-clause-refused
+returns-in_err-file-clause-refused c =
+    let p = err_from_is_err_and c.from_residual.result c.from_residual.ensures.1 in
+    rw (p.1, p.2) (λ other. (c.in_err-file.ensures.fault other, c.in_err-file.ensures.own_reasons))
+
+pub returns-in_err-file-clause-memory : goal.returns-in_err-file-clause-memory
+returns-in_err-file-clause-memory c =
+    let is = err_from_is_err_and c.from_residual.result c.from_residual.ensures.1 in
+    rw (is.1, is.2) (λ memory. (c.in_err-file.ensures.begins memory, c.in_err-file.ensures.reached memory))

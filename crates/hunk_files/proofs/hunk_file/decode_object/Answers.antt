@@ -1,9 +1,17 @@
 use Rattle.std.proofs.Common.{refl}
+use Rattle.std.proofs.lemmas.Result.{err_from_is_err_and}
 use Rattle.hunk_files.proofs.hunk_file.decode_object.Goals as goal
 
-pub returns-in-Ok-clause-ok : goal.returns-in-Ok-clause-ok
-returns-in-Ok-clause-ok c =
-    (record { value = c.in-Ok.file; is_object_file = c.in-Ok.ensures.file; text_is = c.in-Ok.ensures.text }, refl)
+pub returns-clause-ok : goal.returns-clause-ok
+returns-clause-ok c =
+    (record { value = c.in_ok-file.file; is_object_file = c.in_ok-file.ensures.file; text_is = c.in_ok-file.ensures.text }, refl)
 
-pub returns-in-Err-clause-refused : goal.returns-in-Err-clause-refused
-returns-in-Err-clause-refused c = λ other. (c.in-Err.ensures.fault other, c.in-Err.ensures.own_reasons)
+pub returns-in_err-file-clause-refused : goal.returns-in_err-file-clause-refused
+returns-in_err-file-clause-refused c =
+    let p = err_from_is_err_and c.from_residual.result c.from_residual.ensures.1 in
+    rw (p.1, p.2) (λ other. (c.in_err-file.ensures.fault other, c.in_err-file.ensures.own_reasons))
+
+pub returns-in_err-file-clause-memory : goal.returns-in_err-file-clause-memory
+returns-in_err-file-clause-memory c =
+    let is = err_from_is_err_and c.from_residual.result c.from_residual.ensures.1 in
+    rw (is.1, is.2) (λ memory. (c.in_err-file.ensures.reached memory, c.in_err-file.ensures.hidden memory))

@@ -3,6 +3,7 @@ use Rattle.hunk_words.specs.declared.block_word.Kind.{Kind}
 use Rattle.hunk_scan.specs.Standings.{refuse_standing, standing_of_kind}
 use Rattle.hunk_files.proofs.ObjectDecoding.{stands, no_block, ok_of, err_of, err_both, place_own, block_own}
 use Rattle.hunk_words.specs.Bits.{kind}
+use Rattle.hunk_blocks.proofs.ListReading.{if_err_and}
 use Rattle.hunk_words.specs.Longs.{longs}
 use Rattle.hunk_words.specs.declared.reason.Reason.TheVariants as reasons
 use Rattle.hunk_words.proofs.LongLaws.{longs-few}
@@ -15,7 +16,7 @@ returns-in-Some-clause-own_reasons c = place_own c.args.has_content (standing_of
 pub returns-clause-place : goal.returns-clause-place
 returns-clause-place c =
     ok_of c.decode.result _ _ c.decode.ensures.block
-    (λ r h. stands c.args.bytes.now c.of-word.result c.args.has_content r.0 r.1 (c.of-word.ensures ∙ c.in-Ok.ensures.long.1)
+    (λ r h. stands c.args.bytes.now c.of-word.result c.args.has_content r.0 r.1 (c.of-word.ensures ∙ c.in_ok-long_at.ensures.long.1)
     (ap (λ (k : Kind). refuse_standing c.args.has_content (standing_of_kind k)) (sym c.kind.ensures) ∙ sym c.refuse_place.ensures ∙ c.in_default.is) h)
 
 pub returns-clause-none : goal.returns-clause-none
@@ -24,21 +25,23 @@ returns-clause-none c = err_of c.decode.result _ _ c.decode.ensures.none (λ fau
 pub returns-clause-own_reasons : goal.returns-clause-own_reasons
 returns-clause-own_reasons c = err_both c.decode.result _ _ _ c.decode.ensures.own_reasons (c.decode.ensures.object refl) (λ fault own other. block_own fault.reason own other)
 
-pub returns-in-Err-clause-fault : goal.returns-in-Err-clause-fault
-returns-in-Err-clause-fault c place may = hunk_missing place c.args.bytes.now c.in-Err.fault (longs-few c.args.bytes.now (omega (arith, c.in-Err.ensures.short))) c.in-Err.ensures.cut
+pub returns-in_err-long_at-clause-fault : goal.returns-in_err-long_at-clause-fault
+returns-in_err-long_at-clause-fault c place may =
+    if_err_and c.from_residual.result _ _ c.from_residual.ensures.1
+    (λ fault same. hunk_missing place c.args.bytes.now fault (longs-few c.args.bytes.now (omega (arith, c.in_err-long_at.ensures.short))) (same ∙ c.in_err-long_at.ensures.cut))
 
 pub returns-then-has_both_memory_bits-clause-fault : goal.returns-then-has_both_memory_bits-clause-fault
 returns-then-has_both_memory_bits-clause-fault c place may =
     let bytes : List ℕ = c.args.bytes.now in
     let w : ℕ = c.of-word.result in
-    word_ahead place c.args.has_content bytes (drop 1 (longs bytes)) w reasons.BothBits may (one_word bytes w (omega (arith, c.in-Ok.ensures.long.0)) (c.of-word.ensures ∙ c.in-Ok.ensures.long.1))
+    word_ahead place c.args.has_content bytes (drop 1 (longs bytes)) w reasons.BothBits may (one_word bytes w (omega (arith, c.in_ok-long_at.ensures.long.0)) (c.of-word.ensures ∙ c.in_ok-long_at.ensures.long.1))
     (both_bits w (refuse_standing c.args.has_content (standing_of_kind (kind w))) (sym c.has_both_memory_bits.ensures ∙ c.if-has_both_memory_bits.true))
 
 pub returns-in-Some-clause-fault : goal.returns-in-Some-clause-fault
 returns-in-Some-clause-fault c place may =
     let bytes : List ℕ = c.args.bytes.now in
     let w : ℕ = c.of-word.result in
-    word_ahead place c.args.has_content bytes (drop 1 (longs bytes)) w c.in-Some.reason may (one_word bytes w (omega (arith, c.in-Ok.ensures.long.0)) (c.of-word.ensures ∙ c.in-Ok.ensures.long.1))
+    word_ahead place c.args.has_content bytes (drop 1 (longs bytes)) w c.in-Some.reason may (one_word bytes w (omega (arith, c.in_ok-long_at.ensures.long.0)) (c.of-word.ensures ∙ c.in_ok-long_at.ensures.long.1))
     (misplaced c.args.has_content w c.in-Some.reason (sym c.has_both_memory_bits.ensures ∙ c.if-has_both_memory_bits.false)
     (ap (λ (k : Kind). refuse_standing c.args.has_content (standing_of_kind k)) (sym c.kind.ensures) ∙ sym c.refuse_place.ensures ∙ c.in-Some.is))
 
@@ -47,5 +50,5 @@ returns-clause-fault c place may =
     let bytes : List ℕ = c.args.bytes.now in
     let w : ℕ = c.of-word.result in
     err_both c.decode.result _ _ _ c.decode.ensures.fault c.decode.ensures.reached
-    (λ fault refusal want. refused_ahead place c.args.has_content bytes (drop 1 (longs bytes)) w fault may (one_word bytes w (omega (arith, c.in-Ok.ensures.long.0)) (c.of-word.ensures ∙ c.in-Ok.ensures.long.1))
+    (λ fault refusal want. refused_ahead place c.args.has_content bytes (drop 1 (longs bytes)) w fault may (one_word bytes w (omega (arith, c.in_ok-long_at.ensures.long.0)) (c.of-word.ensures ∙ c.in_ok-long_at.ensures.long.1))
     (ap (λ (k : Kind). refuse_standing c.args.has_content (standing_of_kind k)) (sym c.kind.ensures) ∙ sym c.refuse_place.ensures ∙ c.in_default.is) refusal want)
