@@ -21,7 +21,7 @@ pub use crate::assembler::Assembler;
 pub use crate::block_word::{BlockWord, HEADER_WORD, Kind};
 pub use crate::fault::{BlockFault, Fault, FileFault, LoadFault};
 pub use crate::history::History;
-pub use crate::limits::{MOST_HUNKS, NAME_LIMIT};
+pub use crate::limits::{CONTENT_LIMIT, MOST_HUNKS, NAME_LIMIT};
 pub use crate::long_writer::{LongWriter, WriteFault};
 pub use crate::longword::word_at;
 pub use crate::printer::{PagePrinter, Printer};

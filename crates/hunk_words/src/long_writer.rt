@@ -1,8 +1,7 @@
 //! The writer of longwords.
-ghost use Rattle.std.specs.Prelude.{◌≡◌, ◌+◌, ◌^◌, ◌<◌, [], ◌∷◌, true, false, length, is_err, OnOk};
-ghost use Rattle.std.specs.Prelude.{IfErr, OnErr, IsErr, Some};
+ghost use Rattle.std.specs.Prelude.{◌≡◌, ◌+◌, ◌^◌, ◌<◌, [], ◌∷◌, true, false, length, IsErr, Some};
 ghost use Rattle.hunk_words.specs.FaultLines.{write_line};
-ghost use Rattle.hunk_words.specs.Puts.{Puts};
+ghost use Rattle.hunk_words.specs.Puts.{PutsText};
 ghost use Rattle.hunk_words.specs.Longs.{bytes_of};
 
 use crate::sink::Sink;
@@ -100,14 +99,8 @@ impl<W: Sink> LongWriter<W> {
     #[tactic(auto, using(crate::proofs::PutLaws::puts_none, crate::proofs::PutLaws::puts_front))]
     pub fn put_bytes(&mut self, bytes: &[u8]) -> Result<(), WriteFault>
         requires { self.old.written + length bytes.now < 2 ^ 64 }
-        ensures puts { Puts (W.taken self.old.sink) (W.taken self.new.sink)
-            self.old.written self.new.written bytes.now }
-        ensures written { OnOk result (self.new.written ≡ self.old.written + length bytes.now) }
-        ensures stopped { IfErr result (λ fault. fault.written ≡ self.new.written) }
-        ensures failed { OnErr result (W.failed self.new.sink ≡ true) }
-        ensures stops { self.new.stopped ≡ is_err result }
+        ensures puts { PutsText W.taken W.failed self.old self.new bytes.now result }
         ensures stays { self.old.stopped ≡ true → IsErr result × (self.new ≡ self.old) }
-        ensures quiet { OnOk result (W.failed self.new.sink ≡ W.failed self.old.sink) }
     {
         if self.stopped {
             return Err(WriteFault {
@@ -140,14 +133,8 @@ impl<W: Sink> LongWriter<W> {
     #[tactic(auto, unfolding(crate::specs::Longs::bytes_of))]
     pub fn put_long(&mut self, word: u32) -> Result<(), WriteFault>
         requires { self.old.written + 4 < 2 ^ 64 }
-        ensures puts { Puts (W.taken self.old.sink) (W.taken self.new.sink)
-            self.old.written self.new.written (bytes_of (word ∷ [])) }
-        ensures written { OnOk result (self.new.written ≡ self.old.written + 4) }
-        ensures stopped { IfErr result (λ fault. fault.written ≡ self.new.written) }
-        ensures failed { OnErr result (W.failed self.new.sink ≡ true) }
-        ensures stops { self.new.stopped ≡ is_err result }
+        ensures puts { PutsText W.taken W.failed self.old self.new (bytes_of (word ∷ [])) result }
         ensures stays { self.old.stopped ≡ true → IsErr result × (self.new ≡ self.old) }
-        ensures quiet { OnOk result (W.failed self.new.sink ≡ W.failed self.old.sink) }
     {
         self.put_bytes(word.to_be_bytes().as_slice())
     }

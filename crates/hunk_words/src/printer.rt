@@ -1,9 +1,9 @@
 //! A page of fixed size before a writer.
 ghost use Rattle.std.specs.Prelude.{◌≡◌, ℕ, List, Option, ◌+◌, ◌^◌, ◌<◌, ◌++◌, [], ◌∷◌, true};
-ghost use Rattle.std.specs.Prelude.{false, length, is_err, not, OnOk, IfErr, OnErr};
+ghost use Rattle.std.specs.Prelude.{false, length, not};
 ghost use Rattle.hunk_words.specs.Longs.{bytes_of};
 ghost use Rattle.hunk_words.specs.Prints.{Loses, Prints, Sends};
-ghost use Rattle.hunk_words.specs.Puts.{Puts, PutsBefore};
+ghost use Rattle.hunk_words.specs.Puts.{PutsSince};
 
 use crate::history::{History, Outset};
 use crate::long_writer::{LongWriter, WriteFault};
@@ -119,14 +119,9 @@ impl<'a, W: Sink, const ROOM: usize> PagePrinter<'a, W, ROOM> {
         requires { self.old.origin.written + length self.old.text < 2 ^ 64 }
         ensures same { Prints self.old self.new [] }
         ensures same_reference { self.new.out.ghost_name ≡ self.old.origin.name }
-        ensures puts { Puts self.old.origin.taken (W.taken self.new.out.now.sink)
-            self.old.origin.written self.new.out.now.written self.old.text }
-        ensures written { OnOk result
-            (self.new.out.now.written ≡ self.old.origin.written + length self.old.text) }
-        ensures stopped { IfErr result (λ fault. fault.written ≡ self.new.out.now.written) }
-        ensures failed { OnErr result (W.failed self.new.out.now.sink ≡ true) }
-        ensures stops { self.new.out.now.stopped ≡ is_err result }
-        ensures quiet { OnOk result (W.failed self.new.out.now.sink ≡ self.old.origin.failed) }
+        ensures puts { PutsSince W.taken W.failed
+            self.old.origin.taken self.old.origin.failed self.old.origin.written
+            self.new.out.now self.old.text result }
     {
         let _sent = self.out.written();
         let result = self.out.put_bytes(self.held.as_slice());

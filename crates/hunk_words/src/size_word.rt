@@ -4,6 +4,7 @@ ghost use Rattle.hunk_words.specs.Limits.{content_limit};
 ghost use Rattle.hunk_words.specs.Bits.{entry_longs, has_both_bits, memory_of, size_longs};
 ghost use Rattle.hunk_words.specs.Longs.{longs};
 
+use crate::limits::CONTENT_LIMIT;
 use crate::longword::word_at;
 
 /// The memory that a hunk asks for.
@@ -31,8 +32,6 @@ pub struct SizeWord {
 }
 
 impl SizeWord {
-    const LONGS: u32 = 0x3FFF_FFFF;
-
     /// The entry of a table whose size word is the longword number `i` of the bytes, counted from 0.
     #[inline(always)]
     pub fn at(bytes: &[u8], i: usize) -> SizeWord
@@ -57,7 +56,7 @@ impl SizeWord {
         ensures value { result ≡ size_longs self.word }
         ensures bound { result < content_limit }
     {
-        self.word & Self::LONGS
+        self.word % CONTENT_LIMIT
     }
 
     /// The number of bytes: 4 times the number of longwords.
