@@ -1,11 +1,11 @@
 //! Blocks.
 ghost use Rattle.std.specs.Prelude.{◌≡◌, ◌≢◌, ℕ, ◌+◌, ◌*◌, ◌^◌, ◌<◌, ◌≤◌, true, Err, IfErr, IfOk};
-ghost use Rattle.std.specs.Prelude.{IsErr, IsTrue, OnErr, OnOk, Some, is_err, length};
+ghost use Rattle.std.specs.Prelude.{IsErr, IsTrue, Some, length};
 ghost use Rattle.hunk_words.specs.declared.reason.Reason.{Reason};
 ghost use Rattle.hunk_words.specs.declared.reason.Reason.TheVariants as reasons;
 ghost use Rattle.hunk_words.specs.Longs.{bytes_of, longs};
 ghost use Rattle.hunk_words.specs.Prints.{Prints};
-ghost use Rattle.hunk_words.specs.Puts.{Puts};
+ghost use Rattle.hunk_words.specs.Puts.{PutsText};
 ghost use Rattle.hunk_words.specs.Bits.{kind};
 ghost use Rattle.hunk_blocks.specs.declared.mode.Mode.TheVariants as modes;
 ghost use Rattle.hunk_blocks.specs.Values.{IsBlock};
@@ -146,15 +146,9 @@ impl<'a> Block<'a> {
     #[tactic(auto, using(hunk_words::proofs::PutLaws::puts_after_none))]
     pub fn encode<W: Sink>(&self, writer: &mut LongWriter<W>) -> Result<(), WriteFault>
         requires { writer.old.written + length (bytes_of (block_text self.now)) < 2 ^ 64 }
-        ensures puts { Puts (W.taken writer.old.sink) (W.taken writer.new.sink)
-            writer.old.written writer.new.written (bytes_of (block_text self.now)) }
-        ensures written { OnOk result (writer.new.written ≡ writer.old.written
-            + length (bytes_of (block_text self.now))) }
-        ensures stopped { IfErr result (λ fault. fault.written ≡ writer.new.written) }
-        ensures failed { OnErr result (W.failed writer.new.sink ≡ true) }
-        ensures stops { writer.new.stopped ≡ is_err result }
+        ensures puts { PutsText W.taken W.failed writer.old writer.new
+            (bytes_of (block_text self.now)) result }
         ensures stays { writer.old.stopped ≡ true → IsErr result × (writer.new ≡ writer.old) }
-        ensures quiet { OnOk result (W.failed writer.new.sink ≡ W.failed writer.old.sink) }
     {
         writer.put_bytes(&[])?;
         put_block(writer, self)
@@ -164,14 +158,8 @@ impl<'a> Block<'a> {
 /// Puts the block's text, part by part with no page.
 fn put_block<W: Sink>(writer: &mut LongWriter<W>, block: &Block<'_>) -> Result<(), WriteFault>
     requires { writer.old.written + length (bytes_of (block_text block.now)) < 2 ^ 64 }
-    ensures puts { Puts (W.taken writer.old.sink) (W.taken writer.new.sink)
-        writer.old.written writer.new.written (bytes_of (block_text block.now)) }
-    ensures written { OnOk result (writer.new.written ≡ writer.old.written
-        + length (bytes_of (block_text block.now))) }
-    ensures stopped { IfErr result (λ fault. fault.written ≡ writer.new.written) }
-    ensures failed { OnErr result (W.failed writer.new.sink ≡ true) }
-    ensures stops { writer.new.stopped ≡ is_err result }
-    ensures quiet { OnOk result (W.failed writer.new.sink ≡ W.failed writer.old.sink) }
+    ensures { PutsText W.taken W.failed writer.old writer.new
+        (bytes_of (block_text block.now)) result }
 {
     let mut page = PagePrinter::<W, 0>::new(writer);
     block.print(&mut page);

@@ -24,7 +24,8 @@ fn next_group<'a>(reader: &mut LongReader<'a>) -> Result<Option<Group<'a>>, Bloc
     ensures read { IfOk result (λ found.
         ReadsItem IsGroup group_text reader.old reader.new (option_map group_of found)) }
     ensures none { OnErr result (BeginsWithNoItem IsGroup group_text reader.old.rest) }
-    ensures front { OnErr result (IsFrontOf (AllByRecursion IsGroup) (list_text group_text) reader.old.rest) }
+    ensures front { OnErr result
+        (IsFrontOf (AllByRecursion IsGroup) (list_text group_text) reader.old.rest) }
     ensures fault { IfErr result (λ fault. fault ≡ cut reader.old) }
 {
     let count = reader.long()?;

@@ -11,7 +11,7 @@ ghost use Rattle.hunk_blocks.specs.Faults.{FaultAhead, name};
 
 use crate::payload::Payload;
 use crate::reading::long_reader::LongReader;
-use hunk_words::{BlockFault, NAME_LIMIT, Reason};
+use hunk_words::{BlockFault, CONTENT_LIMIT, NAME_LIMIT, Reason};
 
 /// A count, and that many longwords (The AmigaDOS Manual, `dos/doshunks.h`).
 ///
@@ -80,6 +80,6 @@ pub(crate) fn read_sized<'a>(reader: &mut LongReader<'a>) -> Result<(u8, Payload
     ensures fault { IfErr result (λ fault. fault ≡ cut reader.old) }
 {
     let size = reader.long()?;
-    let payload = reader.payload(size & 0x3FFF_FFFF)?;
+    let payload = reader.payload(size % CONTENT_LIMIT)?;
     Ok(((size >> 30) as u8, payload))
 }
