@@ -1,8 +1,7 @@
 //! A load file or an object file, as its first longword announces.
-ghost use Rattle.std.specs.Prelude.{◌≡◌, ◌≢◌, ◌+◌, ◌^◌, ◌<◌, ◌≤◌, true, IfErr, IfOk, IsErr, OnErr};
-ghost use Rattle.std.specs.Prelude.{OnOk, is_err, length};
+ghost use Rattle.std.specs.Prelude.{◌≡◌, ◌≢◌, ◌+◌, ◌^◌, ◌<◌, ◌≤◌, true, IfErr, IfOk, IsErr, length};
 ghost use Rattle.hunk_words.specs.Longs.{longs};
-ghost use Rattle.hunk_words.specs.Puts.{Puts};
+ghost use Rattle.hunk_words.specs.Puts.{PutsText};
 ghost use Rattle.hunk_words.specs.declared.reason.Reason.TheVariants as reasons;
 ghost use Rattle.hunk_scan.specs.FileKind.{sniffed};
 ghost use Rattle.hunk_files.specs.Fault.{BeginsWithLoadFile};
@@ -90,15 +89,8 @@ impl<'a> HunkFile<'a> {
     /// writer that had failed before stays as it was.
     pub fn encode<W: Sink>(&self, writer: &mut LongWriter<W>) -> Result<(), WriteFault>
         requires { writer.old.written + length (file_bytes self.now) < 2 ^ 64 }
-        ensures puts { Puts (W.taken writer.old.sink) (W.taken writer.new.sink)
-            writer.old.written writer.new.written (file_bytes self.now) }
-        ensures written { OnOk result (writer.new.written
-            ≡ writer.old.written + length (file_bytes self.now)) }
-        ensures stopped { IfErr result (λ fault. fault.written ≡ writer.new.written) }
-        ensures failed { OnErr result (W.failed writer.new.sink ≡ true) }
-        ensures stops { writer.new.stopped ≡ is_err result }
+        ensures puts { PutsText W.taken W.failed writer.old writer.new (file_bytes self.now) result }
         ensures stays { writer.old.stopped ≡ true → IsErr result × (writer.new ≡ writer.old) }
-        ensures quiet { OnOk result (W.failed writer.new.sink ≡ W.failed writer.old.sink) }
     {
         match self {
             HunkFile::Load { file, rest: _ } => file.encode(writer),

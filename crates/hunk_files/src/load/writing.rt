@@ -1,10 +1,10 @@
 //! Writing load files.
-ghost use Rattle.std.specs.Prelude.{◌≡◌, ◌+◌, ◌^◌, ◌<◌, ◌≤◌, true, length, is_err, IsErr, IfErr, OnErr, OnOk};
+ghost use Rattle.std.specs.Prelude.{◌≡◌, ◌+◌, ◌^◌, ◌<◌, ◌≤◌, true, length, IsErr};
 ghost use Rattle.std.specs.List.{flat_map};
 ghost use Rattle.hunk_words.specs.Limits.{most_hunks};
 ghost use Rattle.hunk_words.specs.Longs.{bytes_of};
 ghost use Rattle.hunk_words.specs.Prints.{Prints};
-ghost use Rattle.hunk_words.specs.Puts.{Puts};
+ghost use Rattle.hunk_words.specs.Puts.{PutsText};
 ghost use Rattle.hunk_files.specs.LoadText.{text};
 ghost use Rattle.hunk_files.specs.Hunks.{block_texts};
 ghost use Rattle.hunk_files.specs.Tables.{behind_first, row_texts, row_words};
@@ -36,15 +36,9 @@ impl LoadFile<'_> {
     /// A writer that had failed before stays as it was.
     pub fn encode<W: Sink>(&self, writer: &mut LongWriter<W>) -> Result<(), WriteFault>
         requires { writer.old.written + length (bytes_of (text self.now)) < 2 ^ 64 }
-        ensures puts { Puts (W.taken writer.old.sink) (W.taken writer.new.sink)
-            writer.old.written writer.new.written (bytes_of (text self.now)) }
-        ensures written { OnOk result (writer.new.written
-            ≡ writer.old.written + length (bytes_of (text self.now))) }
-        ensures stopped { IfErr result (λ fault. fault.written ≡ writer.new.written) }
-        ensures failed { OnErr result (W.failed writer.new.sink ≡ true) }
-        ensures stops { writer.new.stopped ≡ is_err result }
+        ensures puts { PutsText W.taken W.failed writer.old writer.new
+            (bytes_of (text self.now)) result }
         ensures stays { writer.old.stopped ≡ true → IsErr result × (writer.new ≡ writer.old) }
-        ensures quiet { OnOk result (W.failed writer.new.sink ≡ W.failed writer.old.sink) }
     {
         writer.put_bytes(&[])?;
         put_file(writer, self)
@@ -54,14 +48,7 @@ impl LoadFile<'_> {
 /// Puts the file's text through a page.
 fn put_file<W: Sink>(writer: &mut LongWriter<W>, file: &LoadFile<'_>) -> Result<(), WriteFault>
     requires { writer.old.written + length (bytes_of (text file.now)) < 2 ^ 64 }
-    ensures puts { Puts (W.taken writer.old.sink) (W.taken writer.new.sink)
-        writer.old.written writer.new.written (bytes_of (text file.now)) }
-    ensures written { OnOk result (writer.new.written
-        ≡ writer.old.written + length (bytes_of (text file.now))) }
-    ensures stopped { IfErr result (λ fault. fault.written ≡ writer.new.written) }
-    ensures failed { OnErr result (W.failed writer.new.sink ≡ true) }
-    ensures stops { writer.new.stopped ≡ is_err result }
-    ensures quiet { OnOk result (W.failed writer.new.sink ≡ W.failed writer.old.sink) }
+    ensures { PutsText W.taken W.failed writer.old writer.new (bytes_of (text file.now)) result }
 {
     let mut page = Printer::new(writer);
     file.print(&mut page);

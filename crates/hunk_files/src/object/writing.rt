@@ -1,10 +1,10 @@
 //! Writing an object file.
-ghost use Rattle.std.specs.Prelude.{◌≡◌, ◌+◌, ◌^◌, ◌<◌, true, IfErr, IsErr, OnErr, OnOk, is_err, length};
+ghost use Rattle.std.specs.Prelude.{◌≡◌, ◌+◌, ◌^◌, ◌<◌, true, IsErr, length};
 ghost use Rattle.std.specs.List.{flat_map};
 ghost use Rattle.hunk_words.specs.Limits.{name_limit};
 ghost use Rattle.hunk_words.specs.Longs.{bytes_of, longs};
 ghost use Rattle.hunk_words.specs.Prints.{Prints};
-ghost use Rattle.hunk_words.specs.Puts.{Puts};
+ghost use Rattle.hunk_words.specs.Puts.{PutsText};
 ghost use Rattle.hunk_blocks.specs.Values.{IsPayload};
 ghost use Rattle.hunk_blocks.specs.Parts.{block_text};
 ghost use Rattle.hunk_files.specs.ObjectFile.{object_text, unit_header, unit_text};
@@ -55,14 +55,8 @@ fn print_units<W: Sink>(page: &mut Printer<'_, W>, units: &[Unit<'_>])
 /// Puts the text of these units through a page.
 fn put_units<W: Sink>(writer: &mut LongWriter<W>, units: &[Unit<'_>]) -> Result<(), WriteFault>
     requires { writer.old.written + length (bytes_of (object_text units.now)) < 2 ^ 64 }
-    ensures puts { Puts (W.taken writer.old.sink) (W.taken writer.new.sink)
-        writer.old.written writer.new.written (bytes_of (object_text units.now)) }
-    ensures written { OnOk result (writer.new.written
-        ≡ writer.old.written + length (bytes_of (object_text units.now))) }
-    ensures stopped { IfErr result (λ fault. fault.written ≡ writer.new.written) }
-    ensures failed { OnErr result (W.failed writer.new.sink ≡ true) }
-    ensures stops { writer.new.stopped ≡ is_err result }
-    ensures quiet { OnOk result (W.failed writer.new.sink ≡ W.failed writer.old.sink) }
+    ensures { PutsText W.taken W.failed writer.old writer.new
+        (bytes_of (object_text units.now)) result }
 {
     let mut page = Printer::new(writer);
     print_units(&mut page, units);
@@ -83,15 +77,9 @@ impl ObjectFile<'_> {
     /// A writer that had failed before stays as it was.
     pub fn encode<W: Sink>(&self, writer: &mut LongWriter<W>) -> Result<(), WriteFault>
         requires { writer.old.written + length (bytes_of (object_text self.now)) < 2 ^ 64 }
-        ensures puts { Puts (W.taken writer.old.sink) (W.taken writer.new.sink)
-            writer.old.written writer.new.written (bytes_of (object_text self.now)) }
-        ensures written { OnOk result (writer.new.written
-            ≡ writer.old.written + length (bytes_of (object_text self.now))) }
-        ensures stopped { IfErr result (λ fault. fault.written ≡ writer.new.written) }
-        ensures failed { OnErr result (W.failed writer.new.sink ≡ true) }
-        ensures stops { writer.new.stopped ≡ is_err result }
+        ensures puts { PutsText W.taken W.failed writer.old writer.new
+            (bytes_of (object_text self.now)) result }
         ensures stays { writer.old.stopped ≡ true → IsErr result × (writer.new ≡ writer.old) }
-        ensures quiet { OnOk result (W.failed writer.new.sink ≡ W.failed writer.old.sink) }
     {
         writer.put_bytes(&[])?;
         put_units(writer, self.units())
