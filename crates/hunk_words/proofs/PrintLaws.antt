@@ -7,7 +7,7 @@ use Rattle.std.specs.Io.KnownBytes.{Appends}
 use Rattle.hunk_words.specs.Carriers.{Writing}
 use Rattle.hunk_words.specs.declared.long_writer.WriteFault.{WriteFault}
 use Rattle.hunk_words.specs.Prints.{Loses, Printing, Sends}
-use Rattle.hunk_words.specs.Puts.{Puts, PutsBefore, PutsSince, PutsText}
+use Rattle.hunk_words.specs.Puts.{Puts, PutsBefore}
 use Rattle.hunk_words.proofs.PutLaws.{puts_more_after, puts_part}
 
 -- all of the front has gone out
@@ -55,12 +55,7 @@ printed lost all first a b start m n before after text held page bytes whole res
     let more = subst (λ (xs : List ℕ). Sends (not all) a b m n after (xs ++ bytes) rest) same then in
     subst (λ (xs : List ℕ). Sends (not all) first b start n after xs rest) (sym is) (sends_more (not all) first a b start m n before after text held bytes rest k more)
 
--- an answer that is no `Err`
-where_ok : {T P : Type 0} (r : Result T WriteFault) → OnOk r P → is_err r ≡ false → P
-where_ok (Ok x) p fine = p
-where_ok (Err e) p fine = cc fine
-
-module _ {W T : Type 0} (taken : W → Option (List ℕ)) (failed : W → Bool) (old new : Writing W) (r : Result T WriteFault) where
+module _ {W T : Type 0} (taken : W → Option (List ℕ)) (old new : Writing W) (r : Result T WriteFault) where
   -- what is held is put
   flush_puts : (lost : Bool) (first : Option (List ℕ)) (start : ℕ) (text held : List ℕ) →
       Sends lost first (taken old.sink) start old.written old.stopped text held → start + length text < 2 ^ 64 →
@@ -70,76 +65,74 @@ module _ {W T : Type 0} (taken : W → Option (List ℕ)) (failed : W → Bool) 
   flush_puts true first start text held (none, inl many) few puts stays = absurd (omega (arith, many, few))
   flush_puts true first start text held (none, inr (stopped, sent)) few puts stays = subst (λ (w : Writing W). Puts first (taken w.sink) start w.written text) (sym (stays stopped).1) sent
 
-  -- where the writer has not stopped nothing is lost, and what is not held has gone out
-  none_lost : (lost : Bool) (first : Option (List ℕ)) (start : ℕ) (text held : List ℕ) →
+  counted : (lost : Bool) (first : Option (List ℕ)) (start : ℕ) (text held : List ℕ) →
       Sends lost first (taken old.sink) start old.written old.stopped text held → start + length text < 2 ^ 64 →
-      (old.stopped ≡ true → ⊥) → (lost ≡ false) × (start + length text ≡ old.written + length held)
-  none_lost false first start text held (front, split, rose, gone) few open_ = (refl, omega (arith, rose, ap length split, length-append front held))
-  none_lost true first start text held (none, inl many) few open_ = absurd (omega (arith, many, few))
-  none_lost true first start text held (none, inr (stopped, sent)) few open_ = absurd (open_ stopped)
-
-  flush_since : (lost had_failed : Bool) (first : Option (List ℕ)) (start : ℕ) (text held : List ℕ) →
-      Sends lost first (taken old.sink) start old.written old.stopped text held → start + length text < 2 ^ 64 →
-      (lost ≡ false → failed old.sink ≡ had_failed) → PutsText taken failed old new held r → (old.stopped ≡ true → IsErr r × (new ≡ old)) →
-      PutsSince taken failed first had_failed start new text r
-  flush_since lost had_failed first start text held sends few quiet put stays = record {
-    puts = flush_puts lost first start text held sends few put.puts stays;
-    all = whole r refl;
-    counted = put.counted;
-    broken = put.broken;
-    stops = put.stops;
-    quiet = same r refl;
-  }
-    where
-      none : (x : T) → r ≡ Ok x → (lost ≡ false) × (start + length text ≡ old.written + length held)
-      none x is = none_lost lost first start text held sends few (λ stopped. let e : false ≡ true = subst IsErr is (stays stopped).0 in absurd cc)
-
-      whole : (s : Result T WriteFault) → r ≡ s → OnOk s (new.written ≡ start + length text)
-      whole (Ok x) is =
-          let all : new.written ≡ old.written + length held = subst (λ (s : Result T WriteFault). OnOk s (new.written ≡ old.written + length held)) is put.all in
-          omega (arith, all, (none x is).1)
-      whole (Err e) is = tt
-
-      same : (s : Result T WriteFault) → r ≡ s → OnOk s (failed new.sink ≡ had_failed)
-      same (Ok x) is = subst (λ (s : Result T WriteFault). OnOk s (failed new.sink ≡ failed old.sink)) is put.quiet ∙ quiet (none x is).0
-      same (Err e) is = tt
+      (old.stopped ≡ true → ⊥) → start + length text ≡ old.written + length held
+  counted false first start text held (front, split, rose, gone) few open_ = omega (arith, rose, ap length split, length-append front held)
+  counted true first start text held (none, inl many) few open_ = absurd (omega (arith, many, few))
+  counted true first start text held (none, inr (stopped, sent)) few open_ = absurd (open_ stopped)
 
   -- after that nothing is held, and some is lost where the put failed
-  flush_sends : (had_failed : Bool) (first : Option (List ℕ)) (start : ℕ) (text : List ℕ) → PutsSince taken failed first had_failed start new text r →
-      Sends (is_err r) first (taken new.sink) start new.written new.stopped text []
-  flush_sends had_failed first start text put = go r refl
+  flush_sends : (lost : Bool) (first : Option (List ℕ)) (start : ℕ) (text held : List ℕ) →
+      Sends lost first (taken old.sink) start old.written old.stopped text held → start + length text < 2 ^ 64 →
+      Puts (taken old.sink) (taken new.sink) old.written new.written held → OnOk r (new.written ≡ old.written + length held) → new.stopped ≡ is_err r →
+      (old.stopped ≡ true → IsErr r × (new ≡ old)) → Sends (is_err r) first (taken new.sink) start new.written new.stopped text []
+  flush_sends lost first start text held sends few puts whole stops stays = go r refl
     where
+      sent : Puts first (taken new.sink) start new.written text
+      sent = flush_puts lost first start text held sends few puts stays
+
       go : (s : Result T WriteFault) → r ≡ s → Sends (is_err s) first (taken new.sink) start new.written new.stopped text []
       go (Ok x) is =
-          let rose : new.written ≡ start + length text = subst (λ (s : Result T WriteFault). OnOk s (new.written ≡ start + length text)) is put.all in
-          (text, sym (append-nil text), rose, subst (Appends first (taken new.sink)) (take_all put.puts.count text (omega (arith, rose, put.puts.rose))) put.puts.gone)
-      go (Err e) is = (refl, inr (put.stops ∙ ap is_err is, put.puts))
+          let all : new.written ≡ old.written + length held = subst (λ (s : Result T WriteFault). OnOk s (new.written ≡ old.written + length held)) is whole in
+          let open_ : old.stopped ≡ true → ⊥ = λ stopped. let e : false ≡ true = subst IsErr is (stays stopped).0 in absurd cc in
+          let rose : new.written ≡ start + length text = omega (arith, all, counted lost first start text held sends few open_) in
+          (text, sym (append-nil text), rose, subst (Appends first (taken new.sink)) (take_all sent.count text (omega (arith, rose, sent.rose))) sent.gone)
+      go (Err e) is = (refl, inr (stops ∙ ap is_err is, sent))
+
+  went_well : (lost : Bool) (first : Option (List ℕ)) (start : ℕ) (text held : List ℕ) →
+      Sends lost first (taken old.sink) start old.written old.stopped text held → start + length text < 2 ^ 64 → (old.stopped ≡ true → ⊥) → lost ≡ false
+  went_well false first start text held sends few open_ = refl
+  went_well true first start text held (none, inl many) few open_ = absurd (omega (arith, many, few))
+  went_well true first start text held (none, inr (stopped, sent)) few open_ = absurd (open_ stopped)
+
+  quiet_too : (failed : W → Bool) (at_first lost : Bool) (first : Option (List ℕ)) (start : ℕ) (text held : List ℕ) →
+      (lost ≡ false → failed old.sink ≡ at_first) → Sends lost first (taken old.sink) start old.written old.stopped text held → start + length text < 2 ^ 64 →
+      (old.stopped ≡ true → IsErr r × (new ≡ old)) → OnOk r (failed new.sink ≡ failed old.sink) → is_err r ≡ false → failed new.sink ≡ at_first
+  quiet_too failed at_first lost first start text held quiet sends few stays same fine = go r refl
+    where
+      go : (s : Result T WriteFault) → r ≡ s → failed new.sink ≡ at_first
+      go (Ok x) is =
+          let open_ : old.stopped ≡ true → ⊥ = λ stopped. let e : false ≡ true = subst IsErr is (stays stopped).0 in absurd cc in
+          subst (λ (s : Result T WriteFault). OnOk s (failed new.sink ≡ failed old.sink)) is same ∙ quiet (went_well lost first start text held sends few open_)
+      go (Err e) is = let e : true ≡ false = sym (ap is_err is) ∙ fine in absurd cc
 
   -- the same, as a printer's callers see it
   pub flushed : (lost : Bool) (p q : Printing W) (held : List ℕ) → p ≡ q →
       Sends lost p.origin.taken (taken old.sink) p.origin.written old.written old.stopped p.text held → q.origin.written + length q.text < 2 ^ 64 →
-      (lost ≡ false → failed old.sink ≡ p.origin.failed) → PutsText taken failed old new held r → (old.stopped ≡ true → IsErr r × (new ≡ old)) →
-      PutsSince taken failed q.origin.taken q.origin.failed q.origin.written new q.text r
-  flushed lost p q held is sends few quiet put stays =
+      Puts (taken old.sink) (taken new.sink) old.written new.written held → (old.stopped ≡ true → IsErr r × (new ≡ old)) →
+      Puts q.origin.taken (taken new.sink) q.origin.written new.written q.text
+  flushed lost p q held is sends few puts stays =
       let k = subst (λ (v : Printing W). v.origin.written + length v.text < 2 ^ 64) (sym is) few in
-      subst (λ (v : Printing W). PutsSince taken failed v.origin.taken v.origin.failed v.origin.written new v.text r) is
-      (flush_since lost p.origin.failed p.origin.taken p.origin.written p.text held sends k quiet put stays)
+      subst (λ (v : Printing W). Puts v.origin.taken (taken new.sink) v.origin.written new.written v.text) is
+      (flush_puts lost p.origin.taken p.origin.written p.text held sends k puts stays)
 
   -- the same of a printer's own fields
   module _ (lost now : Bool) (first : Option (List ℕ)) (start : ℕ) (text held : List ℕ) (q : Printing W)
       (sends : Sends lost first (taken old.sink) start old.written old.stopped text held) (few : q.origin.written + length q.text < 2 ^ 64)
-      (starts : start ≡ q.origin.written) (is : text ≡ q.text) (put : PutsText taken failed old new held r)
-      (stays : old.stopped ≡ true → IsErr r × (new ≡ old)) (kept : now ≡ is_err r) where
-    since : (had_failed : Bool) → (lost ≡ false → failed old.sink ≡ had_failed) → PutsSince taken failed first had_failed start new text r
-    since had_failed quiet = flush_since lost had_failed first start text held sends (omega (arith, few, starts, ap length is)) quiet put stays
+      (starts : start ≡ q.origin.written) (is : text ≡ q.text) (stays : old.stopped ≡ true → IsErr r × (new ≡ old)) (kept : now ≡ is_err r) where
+    counts : start + length text < 2 ^ 64
+    counts = omega (arith, few, starts, ap length is)
 
-    pub flushed_page : (page : List ℕ) → page ≡ [] → Sends now first (taken new.sink) start new.written new.stopped text page
-    flushed_page page none =
+    pub flushed_page : (page : List ℕ) → Puts (taken old.sink) (taken new.sink) old.written new.written held → OnOk r (new.written ≡ old.written + length held) →
+        new.stopped ≡ is_err r → page ≡ [] → Sends now first (taken new.sink) start new.written new.stopped text page
+    flushed_page page puts whole stops none =
         subst (λ (xs : List ℕ). Sends now first (taken new.sink) start new.written new.stopped text xs) (sym none)
         (subst (λ (l : Bool). Sends l first (taken new.sink) start new.written new.stopped text []) (sym kept)
-        (flush_sends (failed old.sink) first start text (since (failed old.sink) (λ open_. refl))))
+        (flush_sends lost first start text held sends counts puts whole stops stays))
 
-    pub flushed_quiet : (had_failed : Bool) → (lost ≡ false → failed old.sink ≡ had_failed) → now ≡ false → failed new.sink ≡ had_failed
-    flushed_quiet had_failed quiet fine = where_ok r (since had_failed quiet).quiet (sym kept ∙ fine)
+    pub flushed_quiet : (failed : W → Bool) (at_first : Bool) → (lost ≡ false → failed old.sink ≡ at_first) → OnOk r (failed new.sink ≡ failed old.sink) →
+        now ≡ false → failed new.sink ≡ at_first
+    flushed_quiet failed at_first quiet same fine = quiet_too failed at_first lost first start text held quiet sends counts stays same (sym kept ∙ fine)
 
 pub ruleset flushing = (flushed, flushed_page, flushed_quiet)

@@ -1,7 +1,14 @@
-use Rattle.hunk_words.proofs.PrintLaws.{flushed}
+use Rattle.std.proofs.Common.{rules, arith}
+use Rattle.std.proofs.lemmas.Grind.{common_steps}
+use Rattle.hunk_words.proofs.PrintLaws.{flushing}
 use Rattle.hunk_words.proofs.printer.PagePrinter.flush.Goals as goal
 
 pub returns-clause-puts : goal.returns-clause-puts
-returns-clause-puts g c =
-    flushed g.W.Sink.taken g.W.Sink.failed c.self.inside.out.now c.put_bytes-result.new.self c.put_bytes-result.result c.self.inside.lost _ _ c.self.inside.held c.self.view_is
-    c.self.invariant.1 c.requires c.self.invariant.0 (rw c.as_slice.ensures at c.put_bytes-result.ensures.puts) c.put_bytes-result.ensures.stays
+returns-clause-puts g c = record {
+  puts = grind (arith, flushing);
+  all = grind (arith, common_steps);
+  counted = search rules;
+  broken = search rules;
+  stops = search rules;
+  quiet = grind (arith, common_steps);
+}
