@@ -1,5 +1,6 @@
 //! The writer of longwords.
-ghost use Rattle.std.specs.Prelude.{◌≡◌, ◌+◌, ◌^◌, ◌<◌, [], ◌∷◌, true, false, length, IsErr, Some};
+ghost use Rattle.std.specs.Prelude.{◌≡◌, ◌+◌, ◌^◌, ◌<◌, [], ◌∷◌, true, false, length, IsErr, OnOk};
+ghost use Rattle.std.specs.Prelude.{Some};
 ghost use Rattle.hunk_words.specs.FaultLines.{write_line};
 ghost use Rattle.hunk_words.specs.Puts.{PutsText};
 ghost use Rattle.hunk_words.specs.Longs.{bytes_of};
@@ -134,6 +135,7 @@ impl<W: Sink> LongWriter<W> {
     pub fn put_long(&mut self, word: u32) -> Result<(), WriteFault>
         requires { self.old.written + 4 < 2 ^ 64 }
         ensures puts { PutsText W.taken W.failed self.old self.new (bytes_of (word ∷ [])) result }
+        ensures written { OnOk result (self.new.written ≡ self.old.written + 4) }
         ensures stays { self.old.stopped ≡ true → IsErr result × (self.new ≡ self.old) }
     {
         self.put_bytes(word.to_be_bytes().as_slice())
