@@ -47,6 +47,17 @@ pub const CHANGES: &[Change] = &[
     (36, 0x6000_04D2, Some((40, Reason::Truncated))),
 ];
 
+/// The bytes with another longword at this byte.
+pub fn with_long(mut bytes: Vec<u8>, byte: usize, word: u32) -> Vec<u8> {
+    let new = word.to_be_bytes();
+    for (i, place) in bytes.iter_mut().enumerate() {
+        if i / 4 * 4 == byte {
+            *place = new[i % 4];
+        }
+    }
+    bytes
+}
+
 /// The bytes that the text spells, with another longword at this byte.
 pub fn changed_in(
     alloc: Global,
@@ -54,14 +65,7 @@ pub fn changed_in(
     byte: usize,
     word: u32,
 ) -> Result<Vec<u8>, AllocError> {
-    let new = word.to_be_bytes();
-    let mut bytes = spelled(alloc, text)?;
-    for (i, place) in bytes.iter_mut().enumerate() {
-        if i / 4 * 4 == byte {
-            *place = new[i % 4];
-        }
-    }
-    Ok(bytes)
+    Ok(with_long(spelled(alloc, text)?, byte, word))
 }
 
 /// The bytes of example 1 with another longword at this byte.
