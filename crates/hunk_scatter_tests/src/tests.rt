@@ -12,7 +12,6 @@ mod memory;
 mod streams;
 
 use hunk_scatter::{Image, Limits, Placer, load};
-use hunk_testing::{examples, spelled};
 use hunk_words::{LoadFault, Source};
 use std::alloc::{AllocError, Global};
 
@@ -28,18 +27,6 @@ const HEADER: usize = 24;
 /// The bytes up to one, and those from there on.
 fn cut_at(bytes: &[u8], count: usize) -> (&[u8], &[u8]) {
     bytes.split_at(count.min(bytes.len()))
-}
-
-/// Example 15: example 1 with a DEBUG block of 75 longwords before its END, each of them END's block word.
-fn ending_in_debug(alloc: Global) -> Result<Vec<u8>, AllocError> {
-    let one = spelled(alloc, examples::ONE_HUNK)?;
-    let (front, end) = cut_at(one.as_slice(), 36);
-    let mut bytes = front.to_vec(alloc)?;
-    bytes.extend_from_slice(spelled(alloc, "3F1 4B")?.as_slice())?;
-    for _ in 0..76u32 {
-        bytes.extend_from_slice(end)?;
-    }
-    Ok(bytes)
 }
 
 /// The segments one after another, and the bases.

@@ -91,14 +91,29 @@ pub struct Held {
     rooms: Vec<Vec<u8>>,
 }
 
+/// A piece that rooms of these sizes can be cut from, and that is not used up by them.
+fn piece_for(alloc: Global, sizes: &[usize]) -> Result<Vec<u8>, AllocError> {
+    let mut bytes = FRONT;
+    for size in sizes {
+        bytes = bytes.saturating_add(*size).saturating_add(2 * STEP);
+    }
+    Vec::<u8>::with_capacity(alloc, bytes)
+}
+
 /// Holds all memory but a room of each of these sizes. A room of up to a KiB serves one growth of just
 /// its size.
+///
+/// The rooms are cut from one piece, while all else is held. What was free before may be some bytes larger than a
+/// room, but too few for a piece of their own: it is given whole, and serves no growth of the room's size then.
 pub fn all_but(alloc: Global, sizes: &[usize]) -> Result<Held, AllocError> {
     let mut rooms = Vec::with_capacity(alloc, sizes.len())?;
+    let piece = piece_for(alloc, sizes)?;
+    let mut pieces = all_memory(alloc)?;
+    drop(piece);
     for size in sizes {
         rooms.push(Vec::<u8>::with_capacity(alloc, *size)?)?;
     }
-    let pieces = all_memory(alloc)?;
+    take_all(alloc, &mut pieces)?;
     // Without the rooms, but with the list that held them: it would be one more.
     rooms.clear();
     Ok(Held { pieces, rooms })

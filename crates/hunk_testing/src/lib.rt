@@ -7,13 +7,14 @@ mod computed;
 pub mod examples;
 mod granting;
 mod growths;
+pub mod large;
 mod sources;
 mod writers;
 
 pub use crate::changes::{
     CHANGES, Change, before_end, changed, changed_in, ends_within_debug, with_long,
 };
-pub use crate::computed::{Computed, Longs};
+pub use crate::computed::{Computed, Longs, bytes_of_file};
 pub use crate::granting::answers_one_by_one;
 pub use crate::growths::{
     Held, all_but, all_memory, answers_growth_by_growth, left_beside, memory_ends,

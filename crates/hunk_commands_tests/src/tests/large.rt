@@ -2,6 +2,7 @@
 
 use hunk_commands::relocate;
 use hunk_scatter::Limits;
+use hunk_testing::large::{LargeHunk, ManyHunks, content};
 use hunk_testing::{Computed, Longs};
 use hunk_words::{FromWrite, LongWriter};
 use std::alloc::{AllocError, Global};
@@ -14,73 +15,6 @@ const LIMITS: Limits = Limits {
 
 /// Where the first hunk lies.
 const BASE: u32 = 0x21000;
-
-/// The longwords of the header of `ManyHunks`, and of all of it: nine more a hunk.
-const TABLE: u32 = 65_541;
-
-const MANY_HUNKS: u32 = 655_365;
-
-fn long_of_many_hunks(at: u32) -> u32 {
-    if at < TABLE {
-        return match at {
-            0 => 0x3F3,
-            1 | 3 => 0,
-            2 => 65_536,
-            4 => 65_535,
-            _ => 1,
-        };
-    }
-    let hunk = (at - TABLE) / 9;
-    let hunk_longs = [0x3E9, 1, hunk, 0x3EC, 1, hunk ^ 1, 0, 0, 0x3F2];
-    hunk_longs[(at - TABLE) as usize % 9]
-}
-
-/// The longwords of the content of `LargeHunk`, of what is before it, and of all of it.
-const CONTENT: u32 = 0x40000;
-
-const FRONT: [u32; 8] = [0x3F3, 0, 1, 0, 0, CONTENT, 0x3E9, CONTENT];
-
-const LARGE_HUNK: u32 = 0x40009;
-
-fn content(at: u32) -> u32 {
-    at.wrapping_mul(0x9E37_79B1)
-}
-
-fn long_of_large_hunk(at: u32) -> u32 {
-    match FRONT.get(at as usize) {
-        Some(long) => *long,
-        None if at == LARGE_HUNK - 1 => 0x3F2,
-        None => content(at.wrapping_sub(8)),
-    }
-}
-
-/// A file of 65,536 hunks of a longword, to which the base of the hunk beside it is added.
-#[derive(Drop)]
-struct ManyHunks;
-
-impl Longs for ManyHunks {
-    fn count(&self) -> u32 {
-        MANY_HUNKS
-    }
-
-    fn long(&self, at: u32) -> u32 {
-        long_of_many_hunks(at)
-    }
-}
-
-/// A file of one hunk of a MiB.
-#[derive(Drop)]
-struct LargeHunk;
-
-impl Longs for LargeHunk {
-    fn count(&self) -> u32 {
-        LARGE_HUNK
-    }
-
-    fn long(&self, at: u32) -> u32 {
-        long_of_large_hunk(at)
-    }
-}
 
 /// What `relocate` prints of the file.
 fn printed<L: Longs + Drop>(alloc: Global, file: L) -> Result<Vec<u8>, Fail> {

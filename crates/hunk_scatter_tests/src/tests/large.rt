@@ -1,8 +1,9 @@
 //! Files at their limits, by readers of few bytes at a time.
 
 use hunk_scatter::{Image, Limits, Packed, load};
-use hunk_testing::{Fed, Then, bytes_of};
-use std::alloc::{AllocError, Global};
+use hunk_testing::large::{LargeHunk, ManyHunks};
+use hunk_testing::{Fed, Then, bytes_of_file};
+use std::alloc::Global;
 use std::process::Abort;
 use std::test::Fail;
 
@@ -16,7 +17,7 @@ fn base_of(hunk: u32) -> u32 {
     0x21000_u32.wrapping_add(hunk.wrapping_mul(4))
 }
 
-/// The segment of a hunk of `most_hunks`, of which the first lies at 0x21000.
+/// The segment of a hunk of `ManyHunks`, of which the first lies at 0x21000.
 fn long_of(hunk: u32) -> [u8; 4] {
     hunk.wrapping_add(base_of(hunk ^ 1)).to_be_bytes()
 }
@@ -30,19 +31,6 @@ fn loaded(rt: &impl Abort, alloc: Global, bytes: &[u8], most: usize, start: u32)
         Ok(image) => image,
         Err(fault) => panic!(rt; "{fault:?}"),
     }
-}
-
-/// A file of as many hunks as there can be, each of one longword to which its neighbour's base is added.
-fn most_hunks(alloc: Global) -> Result<Vec<u8>, AllocError> {
-    let mut longs = [0x3F3, 0, 65_536, 0, 65_535].to_vec(alloc)?;
-    for _ in 0..65_536u32 {
-        longs.push(1)?;
-    }
-    for hunk in 0..65_536u32 {
-        let of_hunk = [0x3E9, 1, hunk, 0x3EC, 1, hunk ^ 1, 0, 0, 0x3F2];
-        longs.extend_from_slice(of_hunk.as_slice())?;
-    }
-    bytes_of(alloc, longs.as_slice())
 }
 
 /// Sees that the segments have their bases and longwords, in turn and one by one.
@@ -59,7 +47,7 @@ fn expect_segments(rt: &impl Abort, image: &Image) {
 
 #[test]
 fn many_hunks(rt: HostRuntime) -> Result<(), Fail> {
-    let bytes = most_hunks(rt.alloc())?;
+    let bytes = bytes_of_file(rt.alloc(), &ManyHunks)?;
     for most in [1, 3, 256] {
         let image = loaded(&rt, rt.alloc(), bytes.as_slice(), most, 0x21000);
         expect_segments(&rt, &image);
@@ -67,19 +55,9 @@ fn many_hunks(rt: HostRuntime) -> Result<(), Fail> {
     Ok(())
 }
 
-/// A file of one hunk of a MiB, which is its content.
-fn large_hunk(alloc: Global) -> Result<Vec<u8>, AllocError> {
-    let mut longs = [0x3F3, 0, 1, 0, 0, 0x40000, 0x3E9, 0x40000].to_vec(alloc)?;
-    for i in 0..0x40000u32 {
-        longs.push(i.wrapping_mul(0x9E37_79B1))?;
-    }
-    longs.push(0x3F2)?;
-    bytes_of(alloc, longs.as_slice())
-}
-
 #[test]
 fn one_large_hunk(rt: HostRuntime) -> Result<(), Fail> {
-    let bytes = large_hunk(rt.alloc())?;
+    let bytes = bytes_of_file(rt.alloc(), &LargeHunk)?;
     for most in [1, 3, 256] {
         let image = loaded(&rt, rt.alloc(), bytes.as_slice(), most, 0);
         assert_eq!(rt; image.bytes(), 1 << 20);

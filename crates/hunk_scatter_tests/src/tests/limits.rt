@@ -104,21 +104,32 @@ fn no_base(rt: HostRuntime) -> Result<(), Fail> {
     Ok(())
 }
 
-/// Examples 21 and 31: how many bytes of example 1 come, what comes then, how many may be read, and the
-/// fault.
-const STOPS: &[(usize, Then, u64, u64, Reason)] = &[
-    (30, Then::Fails, 100_000, 30, Reason::Read),
-    (0, Then::Fails, 100_000, 0, Reason::Read),
-    (36, Then::Repeats, 1_000, 1_000, Reason::FileLimit),
+/// Examples 21 and 31: how many bytes of example 1 come, what comes then, how many may be read, the fault, and
+/// how many reads lead to it where 1, 3 and 256 bytes of the example come a read at most.
+///
+/// Behind the example's content a longword is read, and then two a read: the count of a DEBUG block, and what
+/// comes at least behind it.
+const STOPS: &[(usize, Then, u64, u64, Reason, [u64; 3])] = &[
+    (30, Then::Fails, 100_000, 30, Reason::Read, [31, 11, 3]),
+    (0, Then::Fails, 100_000, 0, Reason::Read, [1, 1, 1]),
+    (
+        36,
+        Then::Repeats,
+        1_000,
+        1_000,
+        Reason::FileLimit,
+        [157, 133, 123],
+    ),
 ];
 
-/// Sees that the load stops with this fault, after no more reads than bytes may be read and one.
+/// Sees that the load stops with this fault, after so many reads.
 fn expect_stop(
     rt: &impl Abort,
     alloc: Global,
     source: &mut Fed,
     file_bytes: u64,
     fault: LoadFault,
+    reads: u64,
 ) -> Result<(), Fail> {
     let limits = Limits {
         budget: 1_000,
@@ -126,7 +137,7 @@ fn expect_stop(
     };
     let got = outcome(alloc, source, limits, &START)?;
     assert_eq!(rt; got, Err(fault));
-    assert!(rt; source.reads() <= file_bytes.saturating_add(1));
+    assert_eq!(rt; source.reads(), reads);
     Ok(())
 }
 
@@ -134,15 +145,15 @@ fn expect_stop(
 #[test]
 fn stops(rt: HostRuntime) -> Result<(), Fail> {
     let one = spelled(rt.alloc(), ONE_HUNK)?;
-    for (given, then, file_bytes, place, reason) in STOPS {
+    for (given, then, file_bytes, place, reason, reads) in STOPS {
         let fault = LoadFault {
             place: *place,
             reason: *reason,
         };
         let (front, _) = cut_at(one.as_slice(), *given);
-        for most in [1, 3, 256] {
-            let mut source = Fed::new(front, most, *then);
-            expect_stop(&rt, rt.alloc(), &mut source, *file_bytes, fault)?;
+        for (most, reads) in [1, 3, 256].iter().zip(reads) {
+            let mut source = Fed::new(front, *most, *then);
+            expect_stop(&rt, rt.alloc(), &mut source, *file_bytes, fault, *reads)?;
         }
     }
     Ok(())

@@ -7,7 +7,7 @@ use hunk_files::Row;
 use hunk_scatter::{Limits, Listed, Packed, Placer, load};
 use hunk_testing::examples::{MOST_HUNKS, TWO_HUNKS};
 use hunk_testing::{
-    Computed, Fed, Longs, Then, all_memory, answers_growth_by_growth, memory_ends, spelled,
+    Computed, Fed, Longs, Then, all_but, all_memory, answers_growth_by_growth, memory_ends, spelled,
 };
 use hunk_words::{LoadFault, Reason};
 use std::alloc::{AllocError, Global};
@@ -36,12 +36,15 @@ fn memory_fault(alloc: Global, header: &[u8]) -> Option<LoadFault> {
 }
 
 /// Headers, and where memory is asked for: at the longword that completes the first row, at the one that
-/// completes the fifth, and for the store behind the header.
+/// completes the fifth, and for the store behind the header. The last two are cut, and have 65,536 hunks: no row
+/// that was not read is given memory, of which there are 40,000 bytes at most.
 const GROWTHS: &[(&str, &[u64])] = &[
     ("3F3 0 2 0 1 10 1", &[20, 28]),
     ("3F3 0 2 0 1 C0000010 10004 1", &[24, 32]),
     ("3F3 0 4 0 3 10 1 1 1", &[20, 36]),
     ("3F3 0 5 0 4 10 1 1 1 C0000001 10004", &[20, 40, 44]),
+    ("3F3 0 10000 0 FFFF 1", &[20]),
+    ("3F3 0 10000 0 FFFF 1 1 1 1 1", &[20, 36]),
 ];
 
 /// Sees that memory is refused at these places in turn, and not then.
@@ -141,20 +144,32 @@ fn refused_store(rt: HostRuntime) -> Result<(), Fail> {
     Ok(())
 }
 
-/// reserves-by-table-size: nothing is reserved by the number of hunks.
+/// Sees that a loader takes all of the bytes while there is memory for these rooms alone, and what it holds then.
+fn expect_held(
+    rt: &impl Abort,
+    alloc: Global,
+    text: &str,
+    rooms: &[usize],
+    bytes_held: u64,
+) -> Result<(), Fail> {
+    let bytes = spelled(alloc, text)?;
+    let held = all_but(alloc, rooms)?;
+    let mut counted = Counted::new(alloc, 1_000);
+    let fed = counted.feed(rt, bytes.as_slice());
+    drop(held);
+    assert_eq!(rt; fed, Ok(bytes.len()), "{text}");
+    assert_eq!(rt; counted.loader.held(), bytes_held, "{text}");
+    Ok(())
+}
+
+/// reserves-by-table-size: nothing is reserved by the number of hunks, neither behind it nor at the first row.
 #[test]
 fn no_reserve(rt: HostRuntime) -> Result<(), Fail> {
     if !memory_ends(&rt)? {
         return Ok(());
     }
-    let bytes = spelled(rt.alloc(), MOST_HUNKS)?;
-    let pieces = all_memory(rt.alloc())?;
-    let mut counted = Counted::new(rt.alloc(), 1_000);
-    let fed = counted.feed(&rt, bytes.as_slice());
-    drop(pieces);
-    assert_eq!(rt; fed, Ok(20));
-    assert_eq!(rt; counted.loader.held(), 0);
-    Ok(())
+    expect_held(&rt, rt.alloc(), MOST_HUNKS, &[], 0)?;
+    expect_held(&rt, rt.alloc(), "3F3 0 10000 0 FFFF 1", &[ROWS], 12)
 }
 
 /// Example 1 with a DEBUG block of 262,144 zero longwords before its END.
@@ -200,13 +215,9 @@ fn loads_in_two_rooms(
     alloc: Global,
     source: &mut Computed<EndingInZeros>,
 ) -> Result<(Result<u64, LoadFault>, bool), AllocError> {
-    let rows = Vec::<u8>::with_capacity(alloc, ROWS)?;
-    let store = Vec::<u8>::with_capacity(alloc, 4)?;
-    let pieces = all_memory(alloc)?;
-    drop(rows);
-    drop(store);
+    let held = all_but(alloc, &[ROWS, 4])?;
     let answer = loads_computed(alloc, source);
-    drop(pieces);
+    drop(held);
     Ok(answer)
 }
 
@@ -246,12 +257,10 @@ fn frees_rows(rt: HostRuntime) -> Result<(), Fail> {
         return Ok(());
     }
     let bytes = spelled(rt.alloc(), "3F3 0 2 0 1 2")?;
-    let room = Vec::<u8>::with_capacity(rt.alloc(), ROWS)?;
-    let pieces = all_memory(rt.alloc())?;
-    drop(room);
+    let held = all_but(rt.alloc(), &[ROWS])?;
     let mut counted = Counted::new(rt.alloc(), 8);
     let answers = fills_and_frees(&rt, rt.alloc(), &mut counted, bytes.as_slice());
-    drop(pieces);
+    drop(held);
     let reason = Reason::Budget;
     let over = LoadFault { place: 24, reason };
     assert_eq!(rt; answers, [(Ok(24), true), (Err(over), true)]);
