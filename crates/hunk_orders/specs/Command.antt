@@ -17,17 +17,17 @@ abbrev pub mandatory : Rule → Rule
 mandatory rule = record rule { required = true }
 
 -- show [--hex] [FILE], and validate
-abbrev pub listing : Text → App
-listing name = with_rule (with_rule (new_app name) (flag (codes "hex"))) (new_rule (codes "FILE"))
+abbrev pub listing_command : Text → App
+listing_command name = with_rule (with_rule (new_app name) (flag (codes "hex"))) (new_rule (codes "FILE"))
 
 -- relocate [--hex] --base HEX [--budget N] [FILE]
-abbrev pub relocate : App
-relocate = with_rule (with_rule (with_rule (with_rule (new_app (codes "relocate"))
+abbrev pub relocate_command : App
+relocate_command = with_rule (with_rule (with_rule (with_rule (new_app (codes "relocate"))
     (flag (codes "hex"))) (mandatory (option (codes "base")))) (option (codes "budget"))) (new_rule (codes "FILE"))
 
 -- rewrite [--strip] IN OUT
-abbrev pub rewrite : App
-rewrite = with_rule (with_rule (with_rule (new_app (codes "rewrite")) (flag (codes "strip")))
+abbrev pub rewrite_command : App
+rewrite_command = with_rule (with_rule (with_rule (new_app (codes "rewrite")) (flag (codes "strip")))
     (mandatory (new_rule (codes "IN")))) (mandatory (new_rule (codes "OUT")))
 
 -- the program, of which one subcommand has to be named
@@ -37,4 +37,5 @@ program = record { top = record (new_shape (codes "hunkinfo")) { subcommand_requ
 -- the program with its subcommands
 abbrev pub hunkinfo : App
 hunkinfo = with_subcommand (with_subcommand (with_subcommand (with_subcommand program
-    (listing (codes "show")).top) (listing (codes "validate")).top) relocate.top) rewrite.top
+    (listing_command (codes "show")).top) (listing_command (codes "validate")).top)
+    relocate_command.top) rewrite_command.top

@@ -116,8 +116,8 @@ fn matches_in<'w, S: AsStr>(alloc: Global, words: &'w [S]) -> Result<ArgMatches<
         (λ fault. takes spec.hunkinfo (map S.text words.entry.now) ≡ true → fault ≡ Memory) }
     ensures asked { IfErr result (λ fault. IsHelp fault
         → IsAmong ErrorKind.DisplayHelp (clap_fault spec.hunkinfo (map S.text words.entry.now))) }
-    ensures help { clap_fault spec.hunkinfo (map S.text words.entry.now) ≡ ErrorKind.DisplayHelp ∷ []
-        → IsErrAnd result IsHelpOrMemory }
+    ensures help { clap_fault spec.hunkinfo (map S.text words.entry.now)
+        ≡ ErrorKind.DisplayHelp ∷ [] → IsErrAnd result IsHelpOrMemory }
 {
     match hunkinfo(alloc)?.try_get_matches_from(words) {
         Ok(found) => Ok(found),
@@ -179,9 +179,10 @@ pub fn order(alloc: Global, words: &[String]) -> Result<Order, OrderFault>
     ensures asked { IfErr result
         (λ fault. IsHelp fault → IsAmong ErrorKind.DisplayHelp
         (clap_fault spec.hunkinfo (taken (map string_bytes words.now)))) }
-    ensures clean { OnOk result (clap_fault spec.hunkinfo (taken (map string_bytes words.now)) ≡ []) }
-    ensures help { clap_fault spec.hunkinfo (taken (map string_bytes words.now)) ≡ ErrorKind.DisplayHelp ∷ []
-        → IsErrAnd result IsHelpOrMemory }
+    ensures clean { OnOk result
+        (clap_fault spec.hunkinfo (taken (map string_bytes words.now)) ≡ []) }
+    ensures help { clap_fault spec.hunkinfo (taken (map string_bytes words.now))
+        ≡ ErrorKind.DisplayHelp ∷ [] → IsErrAnd result IsHelpOrMemory }
 {
     if words.len() < 2 {
         order_in(alloc, STORED.as_slice())

@@ -133,7 +133,7 @@ fn listing<'a>(
     about: &'a str,
     after: &'a str,
 ) -> Result<Command<'a>, AllocError>
-    ensures { IfOk result (λ command. (app_of command ≡ spec.listing name.entry.now)
+    ensures { IfOk result (λ command. (app_of command ≡ spec.listing_command name.entry.now)
         × ((fields_of command).has_globals ≡ false)) }
 {
     command(alloc, name, about, after)
@@ -142,7 +142,7 @@ fn listing<'a>(
 }
 
 fn show<'a>(alloc: Global) -> Result<Command<'a>, AllocError>
-    ensures { IfOk result (λ command. (app_of command ≡ spec.listing (codes "show"))
+    ensures { IfOk result (λ command. (app_of command ≡ spec.listing_command (codes "show"))
         × ((fields_of command).has_globals ≡ false)) }
 {
     listing(
@@ -154,7 +154,7 @@ fn show<'a>(alloc: Global) -> Result<Command<'a>, AllocError>
 }
 
 fn validate<'a>(alloc: Global) -> Result<Command<'a>, AllocError>
-    ensures { IfOk result (λ command. (app_of command ≡ spec.listing (codes "validate"))
+    ensures { IfOk result (λ command. (app_of command ≡ spec.listing_command (codes "validate"))
         × ((fields_of command).has_globals ≡ false)) }
 {
     listing(
@@ -190,7 +190,7 @@ fn budget_option<'a>(alloc: Global) -> Arg<'a>
 }
 
 fn relocate<'a>(alloc: Global) -> Result<Command<'a>, AllocError>
-    ensures { IfOk result (λ command. (app_of command ≡ spec.relocate)
+    ensures { IfOk result (λ command. (app_of command ≡ spec.relocate_command)
         × ((fields_of command).has_globals ≡ false)) }
 {
     let about = "Loads a load file at an address, and prints the bytes of its hunks";
@@ -231,7 +231,7 @@ fn output_positional<'a>(alloc: Global) -> Arg<'a>
 }
 
 fn rewrite<'a>(alloc: Global) -> Result<Command<'a>, AllocError>
-    ensures { IfOk result (λ command. (app_of command ≡ spec.rewrite)
+    ensures { IfOk result (λ command. (app_of command ≡ spec.rewrite_command)
         × ((fields_of command).has_globals ≡ false)) }
 {
     let about = "Reads a load file or an object file, and writes it again";
