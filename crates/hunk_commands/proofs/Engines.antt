@@ -1,17 +1,19 @@
 -- What the engine functions share: a source read to its end, a text made of its bytes and put.
-use Rattle.std.proofs.Common.{◌≡◌, ◌<◌, ◌+◌, ℕ, List, Option, Some, Result, Err, length, inl, inr, ap, refl, sym, subst, ◌∙◌, arith}
+use Rattle.std.proofs.Common.{◌≡◌, ◌<◌, ◌+◌, ℕ, List, Option, Some, Result, Err, length, inl, inr, ap, refl, sym, subst, ◌∙◌, arith, false, true≢false}
 use Rattle.std.specs.Prelude.{Bool, IfErr, ◌⊎◌}
 use Rattle.std.specs.Io.KnownBytes.{Consumes, IsAtEnd}
 use Rattle.hunk_words.specs.Carriers.{Writing}
 use Rattle.hunk_words.specs.Puts.{Puts}
 use Rattle.hunk_commands.specs.declared.fault.RunFault.{RunFault}
 use Rattle.hunk_commands.specs.declared.fault.RunFault.TheVariants.{HexText, Memory, Read, Refused, Write}
-use Rattle.hunk_commands.specs.Engine.{RefusesOnly, StopsAtWrite, Writes, WritesAll}
+use Rattle.hunk_commands.specs.Engine.{ReadsThenPuts, RefusesOnly, StopsAtWrite, Writes, WritesAll}
 use Rattle.hunk_commands.specs.Faults.{IsWrite}
 use Rattle.hunk_files.specs.HunkFile.{AreFile}
+use Rattle.hunk_scatter.specs.LoadOutcomes.{GivesAtMost}
 use Rattle.hunk_commands.specs.Refusals.{RefusesBytes}
 use Rattle.hunk_commands.specs.Output.{StopsOutput}
 use Rattle.hunk_commands.proofs.Consumed.{consumed_all}
+use Rattle.hunk_commands.proofs.FileLaws.{refused_in_limit, refused_not_read, refused_not_written}
 
 -- the source was read to its end, and gave the bytes
 pub record IsRead (a b : Option (List ℕ)) (most : ℕ) (bytes : List ℕ) : Type 0 where
@@ -43,6 +45,23 @@ pub only_memory : (fault : RunFault) (a b : Option (List ℕ)) (most : ℕ) (byt
     (fault ≡ Memory) ⊎ (AreFile bytes → ⊥) → a ≡ Some input → AreFile input → fault ≡ Memory
 only_memory fault a b most bytes input read (inl memory) known file = memory
 only_memory fault a b most bytes input read (inr none) known file = absurd (none (subst AreFile (consumed_all a b input bytes known read.given read.at_end) file))
+
+-- an input that is no file
+pub file_refused : {R W T : Type 0} (left : R → Option (List ℕ)) (broken : R → Bool) (x y : R) (most : ℕ) (failed : W → Bool) (out : Writing W) (bytes : List ℕ)
+    (fault : RunFault) (result : Result T RunFault) → IsRead (left x) (left y) most bytes → (broken x ≡ false → broken y ≡ false) → GivesAtMost (left x) (left y) most →
+    (fault ≡ Memory) ⊎ (AreFile bytes → ⊥) → RefusesBytes fault bytes → ((e : RunFault) × (result ≡ Err e) × (e ≡ fault)) →
+    ReadsThenPuts left broken x y most failed out out result
+file_refused {R} {W} {T} left broken x y most failed out bytes fault result read sound within none is p =
+    subst (λ (r : Result T RunFault). ReadsThenPuts left broken x y most failed out out r) (sym (p.1 ∙ ap Err p.2)) (record {
+      succeeds = λ has reads writes. only_memory fault (left x) (left y) most bytes has.input read none has.left has.is_file;
+      fails = stops_untouched failed out fault (refused_not_written _ fault is);
+      quiet = tt;
+      within = within;
+      limit = λ place at. absurd (refused_in_limit fault bytes place is at);
+      read = λ place at. absurd (refused_not_read _ fault place is at);
+      tells_read = λ before now. absurd (true≢false (sym now ∙ sound before));
+      refused = refuses_only fault (left x) (left y) most bytes read is;
+    })
 
 -- ---- a text that is put
 

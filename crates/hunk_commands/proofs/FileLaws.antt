@@ -40,6 +40,9 @@ refused_not_written Is (faults.Write count) is written = is
 refused_not_written Is faults.Memory is written = written
 refused_not_written Is faults.HexText is written = is
 
+pub refused_not_read : (Is : Fault → Type 0) (fault : RunFault) (place : ℕ) → RefusesAs Is fault → fault ≡ faults.Read place → ⊥
+refused_not_read Is fault place is read = subst (λ (f : RunFault). RefusesAs Is f) read is
+
 pub answered : (Is : Fault → Type 0) (result : RunFault) (fault : Fault) →
     ((result ≡ faults.Memory) ⊎ ((result ≡ faults.Refused fault) × (fault.reason ≢ reasons.OutOfMemory))) →
     (fault.reason ≢ reasons.OutOfMemory → Is fault) → RefusesAs Is result

@@ -1,10 +1,14 @@
 -- What an engine function reads and writes: of its source a was left before and b is left now, its sink had taken c and has taken d now, where these are told.
-use Rattle.std.specs.Prelude.{◌≡◌, ◌⊎◌, ◌<◌, ⊤, ℕ, List, Option, length}
+use Rattle.std.specs.Prelude.{◌≡◌, ◌⊎◌, ◌<◌, ⊤, ℕ, Bool, false, List, Option, Result, IfErr, OnOk, length}
 use Rattle.std.specs.Io.KnownBytes.{Consumes, IsAtEnd}
+use Rattle.hunk_words.specs.Carriers.{Writing}
 use Rattle.hunk_words.specs.declared.reason.Reason.TheVariants.{FileLimit}
 use Rattle.hunk_words.specs.Puts.{Puts}
+use Rattle.hunk_scatter.specs.LoadOutcomes.{GivesAtMost}
 use Rattle.hunk_commands.specs.declared.fault.RunFault.{RunFault}
-use Rattle.hunk_commands.specs.declared.fault.RunFault.TheVariants.{HexText, Refused, Write}
+use Rattle.hunk_commands.specs.declared.fault.RunFault.TheVariants.{HexText, Memory, Refused, Write}
+use Rattle.hunk_commands.specs.Inputs.{HasFile, StopsAtLimit, StopsAtRead, TellsReading}
+use Rattle.hunk_commands.specs.Output.{StopsOutput}
 use Rattle.hunk_commands.specs.Refusals.{RefusesBytes}
 
 -- The source was read to its end in fewer than `most` bytes. The text is one that these have, and as many of its first bytes
@@ -39,3 +43,19 @@ abbrev pub RefusesOnly : Option (List ℕ) → Option (List ℕ) → ℕ → Run
 RefusesOnly a b most (Refused refusal) = (refusal.reason ≡ FileLimit) ⊎ RefusesInput (Refused refusal) a b most
 RefusesOnly a b most HexText = ⊥
 RefusesOnly a b most fault = ⊤
+
+-- What `show`, `validate` and `rewrite` keep to, whatever text they put of a file. The source is x before and y after, of which `left` tells what is left
+-- and `broken` whether it has failed; the output is old before and new after.
+pub record ReadsThenPuts {R W T : Type 0} (left : R → Option (List ℕ)) (broken : R → Bool) (x y : R) (most : ℕ) (failed : W → Bool) (old new : Writing W)
+    (result : Result T RunFault) : Type 0 where
+  -- of a file, where neither the source nor the output fails, only memory can be wanting
+  pub succeeds : HasFile (left x) most → broken y ≡ false → failed new.sink ≡ false → IfErr result (λ fault. fault ≡ Memory)
+  -- after another fault than one of writing nothing was put
+  pub fails : IfErr result (StopsOutput failed old new)
+  -- no write has failed where all is put
+  pub quiet : OnOk result (failed new.sink ≡ failed old.sink)
+  pub within : GivesAtMost (left x) (left y) most
+  pub limit : IfErr result (StopsAtLimit (left x) (left y) most)
+  pub read : IfErr result (StopsAtRead (left x) (left y) (broken y))
+  pub tells_read : TellsReading (broken x) (broken y) result
+  pub refused : IfErr result (RefusesOnly (left x) (left y) most)

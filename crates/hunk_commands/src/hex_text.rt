@@ -1,6 +1,8 @@
 //! Bytes from hexadecimal text.
-ghost use Rattle.std.specs.Prelude.{◌≡◌, ◌⊎◌, ◌≤◌, ◌++◌, ◌∷◌, [], ℕ, List, length, IfOk, IfErr, OnOk, OnErr};
-ghost use Rattle.hunk_commands.specs.HexText.{AppendsSpelled, ReadsHex, ReadsNoHex, Spells, is_blank};
+ghost use Rattle.std.specs.Prelude.{◌≡◌, ◌⊎◌, ◌≤◌, ◌++◌, ◌∷◌, [], ℕ, List, length};
+ghost use Rattle.std.specs.Prelude.{IfOk, IfErr, OnOk, OnErr};
+ghost use Rattle.hunk_commands.specs.HexText.{AppendsSpelled, Spells, is_blank};
+ghost use Rattle.hunk_commands.specs.HexText.{ReadsHex, ReadsNoHex};
 ghost use Rattle.hunk_scatter.specs.LoadOutcomes.{GivesAtMost};
 ghost use Rattle.hunk_commands.specs.Inputs.{TellsReading};
 ghost use Rattle.hunk_commands.specs.declared.fault.RunFault.TheVariants.{HexText, Memory};
@@ -157,7 +159,8 @@ pub fn read_hex<S: Source>(alloc: Global, source: &mut S, most: u64) -> Result<V
     ensures spelled { IfOk result
         (λ bytes. ReadsHex (S.left source.old) (S.left source.new) most bytes.items) }
     ensures err { IfErr result
-        (λ fault. ReadsNoHex fault (S.left source.old) (S.left source.new) most (S.failed source.new)) }
+        (λ fault. ReadsNoHex fault (S.left source.old) (S.left source.new) most
+        (S.failed source.new)) }
     ensures within { GivesAtMost (S.left source.old) (S.left source.new) most }
     ensures tells_read { TellsReading (S.failed source.old) (S.failed source.new) result }
 {

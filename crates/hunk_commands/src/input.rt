@@ -47,7 +47,8 @@ pub fn read_whole<S: Source>(alloc: Global, source: &mut S, most: u64) -> Result
     ensures at_end { OnOk result (IsAtEnd (S.left source.new)) }
     ensures bound { IfOk result (λ bytes. length bytes.items < most) }
     ensures err { IfErr result
-        (λ fault. ReadsInVain fault (S.left source.old) (S.left source.new) most (S.failed source.new)) }
+        (λ fault. ReadsInVain fault (S.left source.old) (S.left source.new) most
+        (S.failed source.new)) }
     ensures within { GivesAtMost (S.left source.old) (S.left source.new) most }
     ensures sound { S.failed source.old ≡ false → OnOk result (S.failed source.new ≡ false) }
     ensures tells_read { TellsReading (S.failed source.old) (S.failed source.new) result }
@@ -70,7 +71,8 @@ pub(crate) fn read_all<S: Source, T: Taker>(
     ensures at_end { OnOk result (IsAtEnd (S.left source.new)) }
     ensures bound { OnOk result (length (T.took taker.new) < most) }
     ensures err { IfErr result
-        (λ fault. ReadsInVain fault (S.left source.old) (S.left source.new) most (S.failed source.new)) }
+        (λ fault. ReadsInVain fault (S.left source.old) (S.left source.new) most
+        (S.failed source.new)) }
     ensures within { GivesAtMost (S.left source.old) (S.left source.new) most }
     ensures sound { S.failed source.old ≡ false → OnOk result (S.failed source.new ≡ false) }
     ensures tells_read { TellsReading (S.failed source.old) (S.failed source.new) result }

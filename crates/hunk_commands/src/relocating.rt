@@ -64,8 +64,9 @@ pub fn relocate<R: Source, W: Sink>(
 
     // After a fault of writing the first bytes of the text have gone out, and after another one
     // nothing has.
-    ensures write { IfErr result (StopsAtWrite w.new.written (Relocates base limits.budget
-        limits.file_bytes (R.left r.old) (R.left r.new) (W.taken w.old.sink) (W.taken w.new.sink))) }
+    ensures write { IfErr result (StopsAtWrite w.new.written
+        (Relocates base limits.budget limits.file_bytes
+        (R.left r.old) (R.left r.new) (W.taken w.old.sink) (W.taken w.new.sink))) }
     ensures fails { IfErr result (StopsOutput W.failed w.old w.new) }
     ensures quiet { OnOk result (W.failed w.new.sink ≡ W.failed w.old.sink) }
 
@@ -82,7 +83,8 @@ pub fn relocate<R: Source, W: Sink>(
         × IsLoadFault (packed base) limits.budget limits.file_bytes
         (R.left r.new) (R.failed r.new) given refusal) }
     ensures read { IfErr result (λ fault. (place : ℕ) → fault ≡ Read place
-        → ReadsShort limits.budget limits.file_bytes (R.left r.old) (R.left r.new) (R.failed r.new) place) }
+        → ReadsShort limits.budget limits.file_bytes
+        (R.left r.old) (R.left r.new) (R.failed r.new) place) }
     ensures tells_read { TellsReading (R.failed r.old) (R.failed r.new) result }
     ensures memory { IfErr result (λ fault. fault ≡ Memory → LacksMemory base limits.budget
         limits.file_bytes (R.left r.old) (R.left r.new) (R.failed r.new)) }

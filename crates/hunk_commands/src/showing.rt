@@ -1,12 +1,9 @@
 //! `show`: the hunks and blocks of a file are listed.
-ghost use Rattle.std.specs.Prelude.{◌≡◌, ◌+◌, ◌^◌, ◌<◌, false, length, IfErr, OnOk};
+ghost use Rattle.std.specs.Prelude.{◌≡◌, ◌+◌, ◌^◌, ◌<◌, length, IfErr, OnOk};
 ghost use Rattle.hunk_words.specs.Prints.{Prints};
-ghost use Rattle.hunk_scatter.specs.LoadOutcomes.{GivesAtMost};
-ghost use Rattle.hunk_commands.specs.declared.fault.RunFault.TheVariants.{Memory};
-ghost use Rattle.hunk_commands.specs.Engine.{RefusesOnly, StopsAtWrite, Writes, WritesAll};
-ghost use Rattle.hunk_commands.specs.Inputs.{HasFile, StopsAtLimit, StopsAtRead, TellsReading};
+ghost use Rattle.hunk_commands.specs.Engine.{ReadsThenPuts, StopsAtWrite, Writes, WritesAll};
 ghost use Rattle.hunk_commands.specs.Shown.{IsShown, file_listing};
-ghost use Rattle.hunk_commands.specs.Output.{PutsText, StopsOutput};
+ghost use Rattle.hunk_commands.specs.Output.{PutsText};
 
 use crate::decoding::decode_file;
 use crate::fault::RunFault;
@@ -40,22 +37,14 @@ pub fn show<R: Source, W: Sink>(
 ) -> Result<(), RunFault>
     requires { w.old.written ≡ 0 }
     ensures ok { OnOk result (WritesAll IsShown
-        (R.left r.old) (R.left r.new) file_bytes (W.taken w.old.sink) (W.taken w.new.sink) w.new.written) }
-    ensures succeeds { HasFile (R.left r.old) file_bytes → R.failed r.new ≡ false
-        → W.failed w.new.sink ≡ false → IfErr result (λ fault. fault ≡ Memory) }
+        (R.left r.old) (R.left r.new) file_bytes
+        (W.taken w.old.sink) (W.taken w.new.sink) w.new.written) }
 
-    // After a fault of writing the first bytes of the text have gone out, and after another one
-    // nothing has.
+    // After a fault of writing the first bytes of the text have gone out, and by `run`, which also
+    // says what is read and when nothing fails, after another one nothing has.
     ensures write { IfErr result (StopsAtWrite w.new.written (Writes IsShown
         (R.left r.old) (R.left r.new) file_bytes (W.taken w.old.sink) (W.taken w.new.sink))) }
-    ensures fails { IfErr result (StopsOutput W.failed w.old w.new) }
-    ensures quiet { OnOk result (W.failed w.new.sink ≡ W.failed w.old.sink) }
-
-    ensures within { GivesAtMost (R.left r.old) (R.left r.new) file_bytes }
-    ensures limit { IfErr result (StopsAtLimit (R.left r.old) (R.left r.new) file_bytes) }
-    ensures read { IfErr result (StopsAtRead (R.left r.old) (R.left r.new) (R.failed r.new)) }
-    ensures tells_read { TellsReading (R.failed r.old) (R.failed r.new) result }
-    ensures refused { IfErr result (RefusesOnly (R.left r.old) (R.left r.new) file_bytes) }
+    ensures run { ReadsThenPuts R.left R.failed r.old r.new file_bytes W.failed w.old w.new result }
 {
     let input = read_whole(alloc, r, file_bytes)?;
     let file = decode_file(alloc, input.as_slice())?;

@@ -1,37 +1,18 @@
-use Rattle.std.proofs.Common.{◌≡◌, ℕ, List, length, ap, sym, refl, subst, arith}
+use Rattle.std.proofs.Common.{ℕ, List, length, ap, sym, refl, subst, arith}
 use Rattle.std.proofs.lemmas.Result.{err_from_is_err_and}
-use Rattle.hunk_commands.specs.declared.fault.RunFault.{RunFault}
-use Rattle.hunk_commands.specs.declared.fault.RunFault.TheVariants.{Memory}
-use Rattle.hunk_commands.specs.Engine.{RefusesOnly, Writes, WritesAll}
+use Rattle.hunk_commands.specs.Engine.{Writes, WritesAll}
 use Rattle.hunk_files.specs.HunkFile.{bytes_behind, file_bytes}
 use Rattle.hunk_commands.specs.Rewritten.{IsRewriting, IsRewritten, stripped_where}
-use Rattle.hunk_commands.specs.Output.{StopsOutput}
-use Rattle.hunk_commands.proofs.FileLaws.{refused_not_written}
 use Rattle.hunk_commands.proofs.RewriteLaws.{rewritten}
-use Rattle.hunk_commands.proofs.Engines.{handed, is_read, only_memory, refuses_only, stops_untouched, writes_all, writes_of, written_first}
+use Rattle.hunk_commands.proofs.Engines.{file_refused, is_read, writes_all, writes_of, written_first}
 use Rattle.hunk_commands.proofs.rewriting.rewrite.Goals as goal
 
-pub returns-in_err-file-clause-succeeds : goal.returns-in_err-file-clause-succeeds
-returns-in_err-file-clause-succeeds g c = λ has reads writes.
+pub returns-in_err-file-clause-run : goal.returns-in_err-file-clause-run
+returns-in_err-file-clause-run g c =
     let read = is_read _ _ c.args.file_bytes c.in_ok-input.input.items c.as_slice.result.now c.in_ok-input.ensures.given c.in_ok-input.ensures.at_end c.in_ok-input.ensures.bound c.as_slice.ensures.value in
-    handed (λ (fault : RunFault). fault ≡ Memory) c.from_residual-in_err-file.result c.in_err-file.field-0.0
+    file_refused g.R.Source.left g.R.Source.failed c.args.r.now c.read_whole.new.source c.args.file_bytes g.W.Sink.failed c.args.w.now c.as_slice.result.now c.in_err-file.field-0.0
+    c.from_residual-in_err-file.result read c.in_ok-input.ensures.sound c.in_ok-input.ensures.within c.in_err-file.ensures.none c.in_err-file.ensures.refused
     (err_from_is_err_and c.from_residual-in_err-file.result c.from_residual-in_err-file.ensures.1)
-    (only_memory _ _ _ _ _ has.input read c.in_err-file.ensures.none has.left has.is_file)
-
-pub returns-in_err-file-clause-fails : goal.returns-in_err-file-clause-fails
-returns-in_err-file-clause-fails g c =
-    handed (StopsOutput g.W.Sink.failed c.args.w.now c.args.w.now) c.from_residual-in_err-file.result c.in_err-file.field-0.0
-    (err_from_is_err_and c.from_residual-in_err-file.result c.from_residual-in_err-file.ensures.1)
-    (stops_untouched g.W.Sink.failed c.args.w.now _ (refused_not_written _ _ c.in_err-file.ensures.refused))
-
-pub returns-in_err-file-clause-refused : goal.returns-in_err-file-clause-refused
-returns-in_err-file-clause-refused g c =
-    let a = g.R.Source.left c.args.r.now in
-    let b = g.R.Source.left c.read_whole.new.source in
-    let read = is_read a b c.args.file_bytes c.in_ok-input.input.items c.as_slice.result.now c.in_ok-input.ensures.given c.in_ok-input.ensures.at_end c.in_ok-input.ensures.bound c.as_slice.ensures.value in
-    handed (RefusesOnly a b c.args.file_bytes) c.from_residual-in_err-file.result c.in_err-file.field-0.0
-    (err_from_is_err_and c.from_residual-in_err-file.result c.from_residual-in_err-file.ensures.1)
-    (refuses_only _ a b c.args.file_bytes _ read c.in_err-file.ensures.refused)
 
 pub put_file-requires-clause-room : goal.put_file-requires-clause-room
 put_file-requires-clause-room g c = omega (arith, c.requires, ap (λ (xs : List ℕ). length xs) c.as_slice-2.ensures.value, c.in_ok-input.ensures.bound)

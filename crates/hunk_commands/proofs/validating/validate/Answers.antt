@@ -1,38 +1,19 @@
-use Rattle.std.proofs.Common.{◌≡◌, ℕ, refl, subst, sym, arith}
+use Rattle.std.proofs.Common.{ℕ, refl, subst, sym, arith}
 use Rattle.std.proofs.lemmas.Result.{err_from_is_err_and}
-use Rattle.hunk_commands.specs.declared.fault.RunFault.{RunFault}
-use Rattle.hunk_commands.specs.Inputs.{StopsAtLimit}
-use Rattle.hunk_commands.specs.declared.fault.RunFault.TheVariants.{Memory}
-use Rattle.hunk_commands.specs.Engine.{RefusesOnly, Writes, WritesAll}
+use Rattle.hunk_commands.specs.Engine.{Writes, WritesAll}
 use Rattle.hunk_commands.specs.Reports.{finding_count, report}
 use Rattle.hunk_commands.specs.Validated.{IsReport, IsValidated}
-use Rattle.hunk_commands.specs.Output.{StopsOutput}
-use Rattle.hunk_commands.proofs.FileLaws.{refused_in_limit, refused_not_written, validated_file}
-use Rattle.hunk_commands.proofs.Engines.{handed, is_read, only_memory, refuses_only, stops_untouched, writes_all, writes_of, written_first}
+use Rattle.hunk_commands.proofs.FileLaws.{validated_file}
+use Rattle.hunk_commands.proofs.Engines.{file_refused, is_read, writes_all, writes_of, written_first}
 use Rattle.hunk_commands.proofs.ListingLengths.{report_fits}
 use Rattle.hunk_commands.proofs.validating.validate.Goals as goal
 
-pub returns-in_err-file-clause-succeeds : goal.returns-in_err-file-clause-succeeds
-returns-in_err-file-clause-succeeds g c = λ has reads writes.
+pub returns-in_err-file-clause-run : goal.returns-in_err-file-clause-run
+returns-in_err-file-clause-run g c =
     let read = is_read _ _ c.args.file_bytes c.in_ok-input.input.items c.as_slice.result.now c.in_ok-input.ensures.given c.in_ok-input.ensures.at_end c.in_ok-input.ensures.bound c.as_slice.ensures.value in
-    handed (λ (fault : RunFault). fault ≡ Memory) c.from_residual-in_err-file.result c.in_err-file.field-0.0
+    file_refused g.R.Source.left g.R.Source.failed c.args.r.now c.read_whole.new.source c.args.file_bytes g.W.Sink.failed c.args.w.now c.as_slice.result.now c.in_err-file.field-0.0
+    c.from_residual-in_err-file.result read c.in_ok-input.ensures.sound c.in_ok-input.ensures.within c.in_err-file.ensures.none c.in_err-file.ensures.refused
     (err_from_is_err_and c.from_residual-in_err-file.result c.from_residual-in_err-file.ensures.1)
-    (only_memory _ _ _ _ _ has.input read c.in_err-file.ensures.none has.left has.is_file)
-
-pub returns-in_err-file-clause-fails : goal.returns-in_err-file-clause-fails
-returns-in_err-file-clause-fails g c =
-    handed (StopsOutput g.W.Sink.failed c.args.w.now c.args.w.now) c.from_residual-in_err-file.result c.in_err-file.field-0.0
-    (err_from_is_err_and c.from_residual-in_err-file.result c.from_residual-in_err-file.ensures.1)
-    (stops_untouched g.W.Sink.failed c.args.w.now _ (refused_not_written _ _ c.in_err-file.ensures.refused))
-
-pub returns-in_err-file-clause-refused : goal.returns-in_err-file-clause-refused
-returns-in_err-file-clause-refused g c =
-    let a = g.R.Source.left c.args.r.now in
-    let b = g.R.Source.left c.read_whole.new.source in
-    let read = is_read a b c.args.file_bytes c.in_ok-input.input.items c.as_slice.result.now c.in_ok-input.ensures.given c.in_ok-input.ensures.at_end c.in_ok-input.ensures.bound c.as_slice.ensures.value in
-    handed (RefusesOnly a b c.args.file_bytes) c.from_residual-in_err-file.result c.in_err-file.field-0.0
-    (err_from_is_err_and c.from_residual-in_err-file.result c.from_residual-in_err-file.ensures.1)
-    (refuses_only _ a b c.args.file_bytes _ read c.in_err-file.ensures.refused)
 
 pub returns-in_err-count-clause-write : goal.returns-in_err-count-clause-write
 returns-in_err-count-clause-write g c =
@@ -57,12 +38,6 @@ returns-clause-ok g c =
     subst (λ (n : ℕ). WritesAll (IsValidated n) a b c.args.file_bytes before after c.put_report.new.w.written) (sym c.in_ok-count.ensures.count)
     (writes_all (IsValidated count) a b c.args.file_bytes before after c.args.w.now.written c.put_report.new.w.written c.as_slice.result.now (report c.in_ok-file.file) (report c.in_ok-file.file) read
     (validated_file c.as_slice.result.now c.in_ok-file.file c.in_ok-file.ensures.ok) refl c.requires c.in_ok-count.ensures.puts.puts c.in_ok-count.ensures.puts.all)
-
-pub returns-in_err-file-clause-limit : goal.returns-in_err-file-clause-limit
-returns-in_err-file-clause-limit g c =
-    handed (StopsAtLimit (g.R.Source.left c.args.r.now) (g.R.Source.left c.read_whole.new.source) c.args.file_bytes)
-    c.from_residual-in_err-file.result c.in_err-file.field-0.0 (err_from_is_err_and c.from_residual-in_err-file.result c.from_residual-in_err-file.ensures.1)
-    (λ place is. absurd (refused_in_limit c.in_err-file.field-0.0 c.as_slice.result.now place c.in_err-file.ensures.refused is))
 
 pub put_report-requires : goal.put_report-requires
 put_report-requires g c =
