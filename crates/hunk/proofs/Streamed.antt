@@ -14,7 +14,7 @@ use Rattle.hunk_files.specs.ReaderPosition.{IsBehindHeader, table_of}
 use Rattle.hunk_files.specs.WordsRead.{HasRead}
 use Rattle.hunk_files.specs.declared.row.Row.{Row}
 use Rattle.hunk_files.proofs.Reading.{read_ended}
-use Rattle.hunk_scatter.specs.BodyLoaderFields.{Reading, EndsWhole}
+use Rattle.hunk_scatter.specs.BodyLoaderFields.{StandsBehind, EndsWhole}
 use Rattle.hunk_scatter.specs.BodyReader.{state_at, state_of}
 use Rattle.hunk_scatter.specs.Rows.{bases_of, entries_of}
 use Rattle.hunk_scatter.specs.StoreContent.{StoreHolds}
@@ -84,7 +84,7 @@ pub record IsRead (rows : List Row) (memory fed : List ℕ) (state : BodyState) 
   pub memory_is : memory ≡ images (bases_of rows) value
   pub state_is : state ≡ state_at value positions.Done
 
-read_whole : (rows : List Row) (memory : List ℕ) (state : BodyState) (pending fed : List ℕ) → Reading rows memory state pending fed → is_done state.position ≡ true → IsRead rows memory fed state
+read_whole : (rows : List Row) (memory : List ℕ) (state : BodyState) (pending fed : List ℕ) → StandsBehind rows memory state pending fed → is_done state.position ≡ true → IsRead rows memory fed state
 read_whole rows memory state pending fed r done = go r.next r.read r.behind r.table_is r.state_is r.holds r.whole
   where
     go : (n : Next) → HasRead r.ws n → IsBehindHeader n → table_of n ≡ entries_of rows → state_of n ≡ state → StoreHolds (bases_of rows) n memory → EndsWhole n pending → IsRead rows memory fed state

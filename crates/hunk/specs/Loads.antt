@@ -7,7 +7,7 @@ use Rattle.hunk_files.specs.Fault.{HasFault, IsTruncated}
 use Rattle.hunk_files.specs.Image.{declared_bytes, images}
 use Rattle.hunk_files.specs.LoadFile.{TableEntry, LoadFileValue, IsLoadFile}
 use Rattle.hunk_files.specs.LoadText.{table, text}
-use Rattle.hunk_scatter.specs.HeaderBytes.{IsTable, header_bytes}
+use Rattle.hunk_scatter.specs.HeaderBytes.{IsHeaderTable, header_bytes}
 use Rattle.hunk_scatter.specs.HeaderFaults.{CompletesRow, IsHeaderFault}
 use Rattle.hunk_scatter.specs.Placing.{Placing, packed_base, AreBases, HasBases, IsFirstUnplaced}
 use Rattle.hunk.specs.declared.answer.Answer.{Answer}
@@ -17,7 +17,7 @@ use Rattle.hunk.specs.Answers.{refused, no_room, done}
 
 -- The bytes begin with the header of the table.
 pub record BeginsWithHeader (bytes : List ℕ) (t : List TableEntry) : Type 0 where
-  pub is_table : IsTable t
+  pub is_table : IsHeaderTable t
   pub rest : List ℕ
   pub split : bytes ≡ header_bytes t ++ rest
 

@@ -14,7 +14,7 @@ use Rattle.hunk_files.specs.Image.{declared_bytes, images}
 use Rattle.hunk_files.specs.LoadFile.{TableEntry, LoadFileValue, IsLoadFile}
 use Rattle.hunk_files.specs.LoadText.{table, text}
 use Rattle.hunk_files.specs.declared.row.Row.{Row}
-use Rattle.hunk_scatter.specs.HeaderBytes.{IsTable, header_bytes}
+use Rattle.hunk_scatter.specs.HeaderBytes.{IsHeaderTable, header_bytes}
 use Rattle.hunk_scatter.specs.Rows.{bases_of, entries_of}
 use Rattle.hunk_scatter.specs.Streaming.{IsFed}
 use Rattle.hunk_scatter.specs.declared.stream.Standing.{Standing}
@@ -83,7 +83,7 @@ pub record Stands (rows : List Row) (l : Loader) (memory fed : List ℕ) : Type 
 
 -- The entries are a table, its header has so many bytes, and it declares so many.
 pub record HasSizes (table : List TableEntry) (header bytes : ℕ) : Type 0 where
-  pub is_table : IsTable table
+  pub is_table : IsHeaderTable table
   pub header_is : header ≡ length (header_bytes table)
   pub bytes_are : bytes ≡ declared_bytes table
 

@@ -3,7 +3,7 @@ ghost use Rattle.std.specs.Prelude.{List, ◌≡◌, ◌≤◌, ◌*◌, ◌/◌
 ghost use Rattle.hunk_words.specs.declared.reason.Reason.TheVariants as reasons;
 ghost use Rattle.hunk_files.specs.Image.{declared_bytes};
 ghost use Rattle.hunk_files.specs.LoadFile.{TableEntry};
-ghost use Rattle.hunk_scatter.specs.HeaderBytes.{IsTable, header_bytes};
+ghost use Rattle.hunk_scatter.specs.HeaderBytes.{IsHeaderTable, header_bytes};
 ghost use Rattle.hunk_scatter.specs.HeaderFaults.{IsBudgetOrMemory};
 ghost use Rattle.hunk.specs.Loads.{BeginsWithHeader, IsHeaderRefusal};
 
@@ -24,7 +24,7 @@ pub(crate) fn read_header(
     bytes: &[u8],
     budget: u64,
 ) -> Result<(Declared, &[u8]), Fault>
-    ensures table { IfOk result (λ read. IsTable read.0.table) }
+    ensures table { IfOk result (λ read. IsHeaderTable read.0.table) }
     ensures split { IfOk result
         (λ read. bytes.entry.now ≡ header_bytes read.0.table ++ read.1.now) }
     ensures within { IfOk result (λ read. declared_bytes read.0.table ≤ budget) }

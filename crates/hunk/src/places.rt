@@ -1,8 +1,8 @@
 //! What the rows of a stream come to as a table: its header, and its hunks.
 ghost use Rattle.std.specs.Prelude.{◌≡◌, true, MatchOption};
 ghost use Rattle.hunk_files.specs.LoadFile.{IsTableEntry};
-ghost use Rattle.hunk_scatter.specs.HeaderBytes.{IsTable};
-ghost use Rattle.hunk_scatter.specs.Rows.{entries_of, entry_of};
+ghost use Rattle.hunk_scatter.specs.HeaderBytes.{IsHeaderTable};
+ghost use Rattle.hunk_scatter.specs.Rows.{entries_of, table_entry_of};
 ghost use Rattle.hunk.specs.Streams.{HasSizes};
 
 use hunk_files::Row;
@@ -13,8 +13,8 @@ const BEFORE_TABLE: u64 = 20;
 
 /// Whether a header can declare the row: attributes stand only where both bits of the memory do.
 fn is_entry(row: Row) -> bool
-    ensures sound { result ≡ true → IsTableEntry (entry_of row) }
-    ensures complete { IsTableEntry (entry_of row) → result ≡ true }
+    ensures sound { result ≡ true → IsTableEntry (table_entry_of row) }
+    ensures complete { IsTableEntry (table_entry_of row) → result ≡ true }
 {
     SizeWord::has_extra(row.word) || row.extra == 0
 }
@@ -22,7 +22,7 @@ fn is_entry(row: Row) -> bool
 /// The bytes of the header whose table the rows are, and those that it declares; nothing where no
 /// header has such a table.
 pub(crate) fn table_sizes(rows: &[Row]) -> Option<(u64, u64)>
-    ensures { MatchOption result (IsTable (entries_of rows.now) → ⊥)
+    ensures { MatchOption result (IsHeaderTable (entries_of rows.now) → ⊥)
         (λ sizes. HasSizes (entries_of rows.now) sizes.0 sizes.1) }
 {
     if rows.is_empty() {

@@ -9,7 +9,7 @@ use Rattle.hunk_files.specs.FileSteps.{Progress, AtBlock, InBody, Next, More, Fi
 use Rattle.hunk_files.proofs.Reading.{reads, rest_read, read_passes}
 use Rattle.hunk_files.specs.WordsRead.{HasRead, Labelled}
 use Rattle.hunk_files.proofs.Scan.{expected_place, expects_of, one_role}
-use Rattle.hunk_scatter.specs.HeaderBytes.{IsTable, header_words}
+use Rattle.hunk_scatter.specs.HeaderBytes.{IsHeaderTable, header_words}
 use Rattle.hunk_files.specs.ReaderPosition.{IsBehindHeader}
 use Rattle.hunk_scatter.proofs.Forget.{step_behind}
 use Rattle.hunk_scatter.proofs.HeaderTexts.{header_read}
@@ -36,7 +36,7 @@ no_size_word ws more n h b e =
     (stays_behind ws more n place.0 h b (record { done = e.done; run = place.1.run; accepted = place.1.accepted; all = e.begins }))
     place.1.role_is
 
-pub table_behind : (t : List TableEntry) → IsTable t → IsBehindHeader (open_hunk (length t) [] t)
+pub table_behind : (t : List TableEntry) → IsHeaderTable t → IsBehindHeader (open_hunk (length t) [] t)
 table_behind [] h = refl
 table_behind (e ∷ t) h = refl
 
@@ -52,7 +52,7 @@ expected_passes ws p w more role h e =
     read_passes ws p h e.value e.is w (more ++ e.word ∷ words e.more) (expected_text (ws ++ w ∷ more) role e ∙ append_assoc ws (w ∷ more) (e.word ∷ words e.more))
 
 -- Nor is one that a header has here.
-pub header_passes : (t : List TableEntry) → IsTable t → (ws : List ℕ) (p : Progress) (w : ℕ) (more : List ℕ) → HasRead ws (More p) → header_words t ≡ ws ++ w ∷ more → refuse (role_of p) w ≡ None
+pub header_passes : (t : List TableEntry) → IsHeaderTable t → (ws : List ℕ) (p : Progress) (w : ℕ) (more : List ℕ) → HasRead ws (More p) → header_words t ≡ ws ++ w ∷ more → refuse (role_of p) w ≡ None
 header_passes t is ws p w more h e =
     let b = begins_file (header_words t) (open_hunk (length t) [] t) (header_read t is) in
     read_passes ws p h b.value b.is w (more ++ b.more) (b.begins ∙ ap (λ (xs : List ℕ). xs ++ b.more) e ∙ append_assoc ws (w ∷ more) b.more)

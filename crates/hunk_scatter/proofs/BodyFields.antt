@@ -10,7 +10,7 @@ use Rattle.hunk_words.specs.declared.fault.Fault.{Fault}
 use Rattle.hunk_words.specs.Bits.{size_longs}
 use Rattle.hunk_words.specs.Longs.{bytes_of, longs, IsLong, AreLongs}
 use Rattle.hunk_files.specs.Fault.{HasRefusal, IsTruncated}
-use Rattle.hunk_files.specs.Image.{image}
+use Rattle.hunk_files.specs.Image.{image, images}
 use Rattle.hunk_files.specs.LoadFile.{HunkValue, LoadFileValue, IsLoadFile}
 use Rattle.hunk_files.specs.LoadText.{words, text, entries}
 use Rattle.hunk_files.specs.FileSteps.{Progress, AtBlock, InBody, Next, More, Finished, Leads}
@@ -34,9 +34,9 @@ use Rattle.hunk_files.specs.ReaderPosition.{position_of, IsBehindHeader}
 use Rattle.hunk_scatter.specs.declared.body_state.BodyState.{BodyState}
 use Rattle.hunk_scatter.specs.LoaderReasons.{is_of_body}
 use Rattle.std.specs.Prelude.{IsTrue}
-use Rattle.hunk_scatter.specs.StoreContent.{IsSized, stored_in, stored, images}
-use Rattle.hunk_scatter.specs.BodyLoaderFields.{Reading, BodyLoaderInvariant}
-use Rattle.hunk_scatter.specs.LoaderValues.{IsWholeFile, IsImageOf, HasNoRefusal, cut}
+use Rattle.hunk_scatter.specs.StoreContent.{HasSizedImage, stored_in, stored_long}
+use Rattle.hunk_scatter.specs.BodyLoaderFields.{StandsBehind, BodyLoaderInvariant}
+use Rattle.hunk_scatter.specs.LoaderValues.{IsWholeFile, IsImageOf, HasNoRefusal, segments_in}
 use Rattle.hunk_scatter.specs.BodyReader.{sizes_of, state_of}
 use Rattle.hunk_scatter.specs.BodySteps.{longs_at, refusal, step_body, IsInStore}
 use Rattle.hunk_scatter.specs.Rows.{words_of, bases_of}
@@ -83,7 +83,7 @@ module _ (rows : List Row) (store : List ℕ) (state : BodyState) (pending : Lis
 
     module _ (bytes : List ℕ) (n : ℕ) (long : length bytes ≡ n) (w : ℕ) (is : IsLong w) (gathers : pending ++ bytes ≡ bytes_of (w ∷ [])) where
       pub kept_word : refusal (words_of rows) state w ≡ None →
-          BodyLoaderInvariant rows (stored (bases_of rows) state w store) (step_body (words_of rows) state w) [] (count + n) refused (fed ++ bytes)
+          BodyLoaderInvariant rows (stored_long (bases_of rows) state w store) (step_body (words_of rows) state w) [] (count + n) refused (fed ++ bytes)
       kept_word ok = record {
         counted = omega (arith, h.counted, long, length-append fed bytes);
         size = length-stored_in (words_of rows) (bases_of rows) state.hunk state.start state.position w store in_room ok ∙ h.size;
@@ -112,7 +112,7 @@ module _ (rows : List Row) (store : List ℕ) (state : BodyState) (pending : Lis
 
     -- Longwords that lie whole in a piece are taken at once.
     pub kept_longwords : (store2 : List ℕ) (state2 : BodyState) (bytes : List ℕ) (n : ℕ) → length bytes ≡ n → length store2 ≡ length store →
-        Reading rows store2 state2 [] (fed ++ bytes) → BodyLoaderInvariant rows store2 state2 [] (count + n) refused (fed ++ bytes)
+        StandsBehind rows store2 state2 [] (fed ++ bytes) → BodyLoaderInvariant rows store2 state2 [] (count + n) refused (fed ++ bytes)
     kept_longwords store2 state2 bytes n long same r = record {
       counted = omega (arith, h.counted, long, length-append fed bytes);
       hunks = h.hunks;
@@ -192,22 +192,22 @@ module _ (rows : List Row) (store : List ℕ) (state : BodyState) (pending : Lis
 
 -- ---- the image
 
-cut_images : (bases : List ℕ) (v : List HunkValue) → AllByRecursion (IsSized bases) v → cut (sizes_of (entries v)) (images bases v) ≡ map (image bases) v
+cut_images : (bases : List ℕ) (v : List HunkValue) → AllByRecursion (HasSizedImage bases) v → segments_in (sizes_of (entries v)) (images bases v) ≡ map (image bases) v
 cut_images bases [] h = refl
 cut_images bases (x ∷ v) h =
     ap₂ (λ (s : List ℕ) (ss : List (List ℕ)). s ∷ ss) (take_at (image bases x) (images bases v) (4 * size_longs x.entry.word) h.0)
-    (ap (λ (s : List ℕ). cut (sizes_of (entries v)) s) (drop_at (image bases x) (images bases v) (4 * size_longs x.entry.word) h.0) ∙ cut_images bases v h.1)
+    (ap (λ (s : List ℕ). segments_in (sizes_of (entries v)) s) (drop_at (image bases x) (images bases v) (4 * size_longs x.entry.word) h.0) ∙ cut_images bases v h.1)
 
 module _ (rows : List Row) (store : List ℕ) (state : BodyState) (pending : List ℕ) (count : ℕ) (refused : Option Fault) (fed : List ℕ)
     (h : BodyLoaderInvariant rows store state pending count refused fed) (none : refused ≡ None) where
-  pub image_of : is_done state.position ≡ true → IsImageOf rows fed (cut (words_of rows) store)
+  pub image_of : is_done state.position ≡ true → IsImageOf rows fed (segments_in (words_of rows) store)
   image_of done =
       let e = file_read rows store state pending fed (h.reading none) done in
       record {
         value = e.0;
         file = e.1;
         images_are =
-            ap₂ cut (sym (ap sizes_of e.1.table_is ∙ sizes_are rows)) e.3
+            ap₂ segments_in (sym (ap sizes_of e.1.table_is ∙ sizes_are rows)) e.3
             ∙ cut_images (bases_of rows) e.0 e.2;
       }
 

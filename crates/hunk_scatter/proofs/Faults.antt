@@ -9,7 +9,7 @@ use Rattle.hunk_words.specs.Longs.{longs, bytes_of}
 use Rattle.hunk_files.specs.Fault.{HasRefusal}
 use Rattle.hunk_files.specs.LoadText.{text}
 use Rattle.hunk_files.proofs.Scan.{no_fault}
-use Rattle.hunk_scatter.specs.LoaderValues.{MayGoOn}
+use Rattle.hunk_scatter.specs.LoaderValues.{MayGoOnInFile}
 use Rattle.hunk_scatter.specs.LoadOutcomes.{StopsInBody}
 
 pub longs-more : (bytes more : List ℕ) → (rest : List ℕ) × (longs (bytes ++ more) ≡ longs bytes ++ rest)
@@ -37,7 +37,7 @@ refusal_more bytes more at reason h =
     }
 
 -- Bytes that go on to a load file, or begin with one, have no refusal.
-pub no_refusal_on : (bytes : List ℕ) (at : ℕ) (reason : Reason) → MayGoOn bytes → HasRefusal bytes at reason → ⊥
+pub no_refusal_on : (bytes : List ℕ) (at : ℕ) (reason : Reason) → MayGoOnInFile bytes → HasRefusal bytes at reason → ⊥
 no_refusal_on bytes at reason m h = go m.fits
   where
     go : (bytes_of (text m.value) ≡ bytes ++ m.more) ⊎ (bytes ≡ bytes_of (text m.value) ++ m.more) → ⊥

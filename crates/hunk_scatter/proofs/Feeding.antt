@@ -8,7 +8,7 @@ use Rattle.hunk_files.specs.Fault.{IsTruncated}
 use Rattle.hunk_files.specs.LoadFile.{TableEntry, LoadFileValue, IsLoadFile}
 use Rattle.hunk_files.specs.LoadText.{text}
 use Rattle.hunk_files.specs.declared.row.Row.{Row}
-use Rattle.hunk_scatter.specs.HeaderBytes.{IsTable, IsHeader, header_bytes, BeginsHeader}
+use Rattle.hunk_scatter.specs.HeaderBytes.{IsHeaderTable, IsHeader, header_bytes, BeginsHeader}
 use Rattle.hunk_scatter.specs.HeaderFaults.{CompletesRow, IsHeaderFault, IsHeaderFaultBy}
 use Rattle.hunk_words.specs.declared.fault.Fault.{Fault}
 use Rattle.hunk_words.specs.declared.reason.Reason.{Reason}
@@ -46,7 +46,7 @@ gives_none a b c limit fed g k =
 
 -- ---- in a header
 
-module _ (fed piece : List ℕ) (want : ℕ) (least : (t : List TableEntry) (more : List ℕ) → IsTable t → header_bytes t ≡ fed ++ more → want ≤ length more) (fits : length piece ≤ want) where
+module _ (fed piece : List ℕ) (want : ℕ) (least : (t : List TableEntry) (more : List ℕ) → IsHeaderTable t → header_bytes t ≡ fed ++ more → want ≤ length more) (fits : length piece ≤ want) where
   pub header_fed : (after : List ℕ) (m : ℕ) → m ≤ length piece → after ≡ fed ++ take m piece → (m < length piece → IsHeader after) → after ≡ fed ++ piece
   header_fed after m le is all =
       let whole : length piece ≤ m = no_less m (length piece) (λ lt. short (all lt) lt) in
@@ -106,7 +106,7 @@ rest_bytes fed piece front rest are e less = go (fronts_of fed piece front rest 
     go (inr (m, p, q)) = rest_are_bytes m rest (subst IsBytes q are)
 
 -- A piece with which a row is completed is that of a header.
-pub row_begins : (fed piece : List ℕ) (want at : ℕ) → ((t : List TableEntry) (more : List ℕ) → IsTable t → header_bytes t ≡ fed ++ more → want ≤ length more) → length piece ≤ want →
+pub row_begins : (fed piece : List ℕ) (want at : ℕ) → ((t : List TableEntry) (more : List ℕ) → IsHeaderTable t → header_bytes t ≡ fed ++ more → want ≤ length more) → length piece ≤ want →
     length fed < at + 4 → CompletesRow (fed ++ piece) at → BeginsHeader (fed ++ piece)
 row_begins fed piece want at least fits less h = go (fronts_of fed piece h.front h.rest h.split)
   where

@@ -20,12 +20,12 @@ use Rattle.hunk_files.specs.WordsRead.{HasRead}
 use Rattle.hunk_scan.specs.declared.position.Position.TheVariants as positions
 use Rattle.hunk_scatter.specs.declared.header_state.HeaderState.{HeaderState}
 use Rattle.hunk_scatter.specs.LoaderReasons.{is_of_header}
-use Rattle.hunk_scatter.specs.HeaderBytes.{IsTable, IsHeader, header_words, header_bytes, entries_so_far}
+use Rattle.hunk_scatter.specs.HeaderBytes.{IsHeaderTable, IsHeader, header_words, header_bytes, entries_so_far}
 use Rattle.hunk_scatter.specs.HeaderFaults.{PassesBudget}
 use Rattle.hunk_scatter.specs.HeaderLoaderFields.{adds, declares, declared_so_far, OpensFirst, StopsFor, HeaderReading, HeaderLoaderInvariant, DeclaredInvariant, HeaderStop}
 use Rattle.hunk_scan.specs.Positions.{role_at, step, is_behind_header, least_longs}
 use Rattle.hunk_scatter.specs.LoaderValues.{HasNoRefusal}
-use Rattle.hunk_scatter.specs.Rows.{entry_of, entries_of, row_of}
+use Rattle.hunk_scatter.specs.Rows.{table_entry_of, entries_of, row_of}
 use Rattle.hunk_scatter.proofs.Behind.{no_size_word, table_behind}
 use Rattle.hunk_scatter.proofs.DeclaredBytes.{declared_limit}
 use Rattle.hunk_scatter.proofs.HeaderLeast.{header_owes, least_is, opens}
@@ -50,7 +50,7 @@ total_limit : (n : Next) → declared_so_far n ≤ declared_bytes (table_of n) +
 total_limit (More (AtAttributes hunks done word owed)) = omega arith
 total_limit _ = omega arith
 
-pub header_spells : (t : List TableEntry) → IsTable t → longs (header_bytes t) ≡ header_words t
+pub header_spells : (t : List TableEntry) → IsHeaderTable t → longs (header_bytes t) ≡ header_words t
 header_spells t is = ap longs (sym (append-nil (header_bytes t))) ∙ longs-bytes_of (header_words t) [] (header_longs t is) ∙ append-nil (header_words t)
 
 -- ---- what the fields tell
@@ -74,20 +74,20 @@ module _ (budget : ℕ) (rows : List Row) (s : HeaderState) (pending fed : List 
 
   pub heading_rows : length rows ≡ length (entries_so_far (longs fed))
   heading_rows =
-      sym (length-map rows entry_of)
+      sym (length-map rows table_entry_of)
       ∙ ap length (sym r.has_read.table_is ∙ sym (rows_read r.has_read.next r.ws r.has_read.read r.has_read.opens_first))
       ∙ ap (λ (ws : List ℕ). length (entries_so_far ws)) (sym words_are)
 
   pub heading_room : length rows ≤ 65536 → s.total + 2 ^ 32 < 2 ^ 64
   heading_room few =
-      omega (arith, r.has_read.total_is, total_limit r.has_read.next, ap declared_bytes r.has_read.table_is, declared_limit (entries_of rows), length-map rows entry_of)
+      omega (arith, r.has_read.total_is, total_limit r.has_read.next, ap declared_bytes r.has_read.table_is, declared_limit (entries_of rows), length-map rows table_entry_of)
 
   -- where the header is whole
   whole_next : is_behind_header s.position ≡ true → r.has_read.next ≡ open_hunk (length (entries_of rows)) [] (entries_of rows)
   whole_next done =
       r.has_read.opens_first (ap is_behind_header r.has_read.position_is ∙ done) ∙ ap (λ (t : List TableEntry). open_hunk (length t) [] t) r.has_read.table_is
 
-  pub heading_table : is_behind_header s.position ≡ true → IsTable (entries_of rows) × (fed ≡ header_bytes (entries_of rows))
+  pub heading_table : is_behind_header s.position ≡ true → IsHeaderTable (entries_of rows) × (fed ≡ header_bytes (entries_of rows))
   heading_table done =
       let d = header_done r.ws (entries_of rows) (subst (λ (n : Next). HasRead r.ws n) (whole_next done) r.has_read.read) in (
         d.0,
@@ -98,7 +98,7 @@ module _ (budget : ℕ) (rows : List Row) (s : HeaderState) (pending fed : List 
   heading_total done = r.has_read.total_is ∙ ap declared_so_far (whole_next done) ∙ rows_total (length (entries_of rows)) (entries_of rows) 0
 
   -- the longwords of a header that begins with what was fed
-  header_split : (t : List TableEntry) (more : List ℕ) → IsTable t → header_bytes t ≡ fed ++ more → header_words t ≡ r.ws ++ longs (pending ++ more)
+  header_split : (t : List TableEntry) (more : List ℕ) → IsHeaderTable t → header_bytes t ≡ fed ++ more → header_words t ≡ r.ws ++ longs (pending ++ more)
   header_split t more is e =
       sym (append-nil (header_words t))
       ∙ sym (longs-bytes_of (header_words t) [] (header_longs t is))
@@ -113,7 +113,7 @@ module _ (budget : ℕ) (rows : List Row) (s : HeaderState) (pending fed : List 
       (one_place r.ws r.has_read.next (open_hunk (length t) [] t) r.has_read.read (subst (λ (xs : List ℕ). HasRead xs (open_hunk (length t) [] t)) same (header_read t is)))
 
   -- No header that begins with what was fed ends in fewer bytes.
-  pub heading_least : is_behind_header s.position ≡ false → (t : List TableEntry) (more : List ℕ) → IsTable t → header_bytes t ≡ fed ++ more → 4 * least_longs s.position ≤ length pending + length more
+  pub heading_least : is_behind_header s.position ≡ false → (t : List TableEntry) (more : List ℕ) → IsHeaderTable t → header_bytes t ≡ fed ++ more → 4 * least_longs s.position ≤ length pending + length more
   heading_least going t more is e =
       let d = header_split t more is e in
       let owed = header_owes r.has_read.next r.ws r.has_read.read t is (longs (pending ++ more)) d in
@@ -139,7 +139,7 @@ piece_within budget rows s pending fed piece after n r le is all at p = go (ltb 
         heading_within budget rows s pending after r at
         (record { before = p.before; word = p.word; after = word_after; split = e; place = p.place; expects = p.expects; first = p.first; passes = p.passes })
 
-    by_front : (t : List TableEntry) → IsTable t → after ≡ header_bytes t →
+    by_front : (t : List TableEntry) → IsHeaderTable t → after ≡ header_bytes t →
         ((m : List ℕ) × (header_words t ≡ p.before ++ p.word ∷ m)) ⊎ ((m : List ℕ) × (p.before ≡ header_words t ++ m)) → ⊥
     by_front t ok e (inl (m, d)) = within refl m (ap longs e ∙ header_spells t ok ∙ d)
     by_front t ok e (inr (m, d)) =
@@ -253,7 +253,7 @@ module _ (budget : ℕ) (rows : List Row) (s : HeaderState) (pending : List ℕ)
                 arith,
                 rows_few k.next (now.ws ++ w ∷ []) k.read k.opens_first,
                 ap length k.table_is,
-                length-map (rows ++ map row_of (adds s.position w)) entry_of,
+                length-map (rows ++ map row_of (adds s.position w)) table_entry_of,
               );
           reading =
               λ x. record {

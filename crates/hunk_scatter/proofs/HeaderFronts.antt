@@ -20,7 +20,7 @@ use Rattle.hunk_files.proofs.FileProgress.{ProgressFits, NextFits, step_keeps}
 use Rattle.hunk_files.proofs.FileText.{entries_fit}
 use Rattle.hunk_files.proofs.Reading.{reads, rest_read}
 use Rattle.hunk_files.proofs.Scan.{expected_place, load_reader, load_reads}
-use Rattle.hunk_scatter.specs.HeaderBytes.{IsTable, header_words, header_bytes, entries_so_far}
+use Rattle.hunk_scatter.specs.HeaderBytes.{IsHeaderTable, header_words, header_bytes, entries_so_far}
 use Rattle.hunk_scatter.specs.HeaderFaults.{IsWithinBudget, PassesBudget}
 use Rattle.hunk_scatter.specs.HeaderLoaderFields.{declares, declared_so_far, OpensFirst}
 use Rattle.hunk_scatter.specs.LoadOutcomes.{IsWithinHeader, IsWithinFile}
@@ -40,17 +40,17 @@ behind_table n c b [] run = ap table_of (sym run)
 behind_table (More q) c b (l ∷ ls) run = behind_table (step q l.1) c (step_behind q l.1 b) ls run.1 ∙ step_table q l.1 b
 behind_table (Finished v) c b (l ∷ ls) run = absurd run
 
-opened : (t : List TableEntry) → IsTable t → table_of (open_hunk (length t) [] t) ≡ t
+opened : (t : List TableEntry) → IsHeaderTable t → table_of (open_hunk (length t) [] t) ≡ t
 opened [] is = absurd (let some = is.some in omega (arith, some))
 opened (e ∷ t) is = refl
 
-longer : (t u : List TableEntry) (m : List ℕ) → IsTable t → IsTable u → header_words u ≡ header_words t ++ m → u ≡ t
+longer : (t u : List TableEntry) (m : List ℕ) → IsHeaderTable t → IsHeaderTable u → header_words u ≡ header_words t ++ m → u ≡ t
 longer t u m is ok e =
     let r = rest_read (header_words t) (open_hunk (length t) [] t) (header_read t is) (header_words u) (open_hunk (length u) [] u) (header_read u ok) m e in
     sym (opened u ok) ∙ behind_table (open_hunk (length t) [] t) (open_hunk (length u) [] u) (table_behind t is) r.0 r.1 ∙ opened t is
 
 -- Bytes begin with one header.
-pub one_table : (t u : List TableEntry) (xs ys : List ℕ) → IsTable t → IsTable u → header_bytes t ++ xs ≡ header_bytes u ++ ys → t ≡ u
+pub one_table : (t u : List TableEntry) (xs ys : List ℕ) → IsHeaderTable t → IsHeaderTable u → header_bytes t ++ xs ≡ header_bytes u ++ ys → t ≡ u
 one_table t u xs ys is ok e = go (fronts_of (header_words t) (longs xs) (header_words u) (longs ys) spelled)
   where
     spelled : header_words t ++ longs xs ≡ header_words u ++ longs ys
@@ -63,7 +63,7 @@ one_table t u xs ys is ok e = go (fronts_of (header_words t) (longs xs) (header_
 -- ---- a load text
 
 -- A load text begins with the header of its table.
-pub text_header : (v : LoadFileValue) → IsLoadFile v → IsTable (table v) × ((rest : List ℕ) × (bytes_of (text v) ≡ header_bytes (table v) ++ rest))
+pub text_header : (v : LoadFileValue) → IsLoadFile v → IsHeaderTable (table v) × ((rest : List ℕ) × (bytes_of (text v) ≡ header_bytes (table v) ++ rest))
 unfolding labelled
 text_header v is = (
   record {
@@ -89,7 +89,7 @@ within_file bytes w v more is e =
 
 -- ---- the budget
 
-module _ (t : List TableEntry) (is : IsTable t) where
+module _ (t : List TableEntry) (is : IsHeaderTable t) where
   -- a run from here to the end of the header
   abbrev TotalsTo : Next → Labelled → Type 0
   TotalsTo n ls = NextFits n → OpensFirst n → AreAccepted ls → Leads n ls (open_hunk (length t) [] t) → declared_so_far n ≤ declared_bytes t

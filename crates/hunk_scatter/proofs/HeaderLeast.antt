@@ -12,7 +12,7 @@ use Rattle.hunk_files.specs.WordsRead.{HasRead, Labelled, AreAccepted}
 use Rattle.hunk_files.proofs.Accepted.{last_accepted}
 use Rattle.hunk_files.proofs.FileProgress.{NextFits, step_keeps, zero_or_limit}
 use Rattle.hunk_files.proofs.Reading.{reads, rest_read, step_read}
-use Rattle.hunk_scatter.specs.HeaderBytes.{IsTable, header_words}
+use Rattle.hunk_scatter.specs.HeaderBytes.{IsHeaderTable, header_words}
 use Rattle.hunk_scatter.specs.HeaderLoaderFields.{OpensFirst}
 use Rattle.hunk_scatter.proofs.HeaderTexts.{header_read, header_done}
 
@@ -64,13 +64,13 @@ open_least [] = refl
 open_least (e ∷ t) = refl
 
 -- No header that begins with what was read ends in fewer longwords.
-pub header_owes : (n : Next) (ws : List ℕ) → HasRead ws n → (t : List TableEntry) → IsTable t → (more : List ℕ) → header_words t ≡ ws ++ more → header_least n ≤ length more
+pub header_owes : (n : Next) (ws : List ℕ) → HasRead ws n → (t : List TableEntry) → IsHeaderTable t → (more : List ℕ) → header_words t ≡ ws ++ more → header_least n ≤ length more
 header_owes n ws h t is more e =
     let r = rest_read ws n h (header_words t) (open_hunk (length t) [] t) (header_read t is) more e in
     omega (arith, run_least n (open_hunk (length t) [] t) r.0 (reads h).0 r.2 r.1 (open_least t), length-map r.0 (λ (x : Role × ℕ). x.1), ap length r.3)
 
 -- the first hunk of a table is not within its header
-pub opens : (n : Next) (t : List TableEntry) → is_behind_header (position_of n) ≡ false → IsTable t → n ≡ open_hunk (length t) [] t → ⊥
+pub opens : (n : Next) (t : List TableEntry) → is_behind_header (position_of n) ≡ false → IsHeaderTable t → n ≡ open_hunk (length t) [] t → ⊥
 opens n [] e is same = let some = is.some in omega (arith, some)
 opens n (x ∷ t) e is same = let clash : true ≡ false = ap (λ (m : Next). is_behind_header (position_of m)) (sym same) ∙ e in cc
 
@@ -79,7 +79,7 @@ opens n (x ∷ t) e is same = let clash : true ≡ false = ap (λ (m : Next). is
 -- A header begins with the longwords, and ends in so many further ones.
 pub record EndsIn (ws : List ℕ) (n : ℕ) : Type 0 where
   pub table : List TableEntry
-  pub is_table : IsTable table
+  pub is_table : IsHeaderTable table
   pub more : List ℕ
   pub begins : header_words table ≡ ws ++ more
   pub count : length more ≡ n

@@ -16,7 +16,7 @@ use Rattle.hunk_scan.specs.declared.position.Position.TheVariants as positions
 use Rattle.hunk_scan.specs.Positions.{role_at, step, is_behind_header}
 use Rattle.hunk_scan.specs.Roles.{refuse}
 use Rattle.hunk_scatter.specs.declared.header_state.HeaderState.{HeaderState}
-use Rattle.hunk_scatter.specs.HeaderBytes.{IsTable, header_bytes, header_words}
+use Rattle.hunk_scatter.specs.HeaderBytes.{IsHeaderTable, header_bytes, header_words}
 use Rattle.hunk_scatter.specs.HeaderLoaderFields.{adds, declares, RefusesWord, HeaderReading, HeaderLoaderInvariant, HeaderStop}
 use Rattle.hunk_scatter.specs.HeaderFaults.{PassesBudget, IsBudgetOrMemory}
 use Rattle.hunk_scatter.specs.HeaderSizes.{RefusesHeader}
@@ -46,7 +46,7 @@ module _ (budget : ℕ) (bytes : List ℕ) (s : HeaderState) (at : ℕ) (h : Hea
   fours = omega (arith, h.read.counted, ap length so_far.spelled, length-append (bytes_of so_far.ws) [], length-bytes_of so_far.ws)
 
   -- The header is whole.
-  pub header_whole : is_behind_header s.position ≡ true → IsTable (entries_of h.rows) × (bytes ≡ header_bytes (entries_of h.rows) ++ drop at bytes)
+  pub header_whole : is_behind_header s.position ≡ true → IsHeaderTable (entries_of h.rows) × (bytes ≡ header_bytes (entries_of h.rows) ++ drop at bytes)
   header_whole done =
       let t = heading_table budget h.rows s [] (take at bytes) so_far done in
       (t.0, sym (take-append-drop at bytes) ∙ ap (λ (xs : List ℕ). xs ++ drop at bytes) t.1)
@@ -78,7 +78,7 @@ module _ (budget : ℕ) (bytes : List ℕ) (s : HeaderState) (at : ℕ) (h : Hea
         (subst (λ (xs : List ℕ). PassesBudget budget xs place) (sym (take-append-drop at bytes)) p)
 
     -- No header is in front of bytes that end there.
-    pub none_cut : length (drop at bytes) < 4 → (t : List TableEntry) (rest : List ℕ) → IsTable t → bytes ≡ header_bytes t ++ rest → ⊥
+    pub none_cut : length (drop at bytes) < 4 → (t : List TableEntry) (rest : List ℕ) → IsHeaderTable t → bytes ≡ header_bytes t ++ rest → ⊥
     none_cut few t rest is e =
         let end = drop at bytes in
         let all = heading_pending budget h.rows s [] at None (take at bytes) h.read refl more end end (length end) refl refl few in
@@ -147,7 +147,7 @@ module _ (budget : ℕ) (bytes : List ℕ) (s : HeaderState) (at : ℕ) (h : Hea
           inr (inl (o.reason_is, subst (λ (xs : List ℕ). PassesBudget budget xs at) whole (stop_passes budget (take (at + 4) bytes) (drop (at + 4) bytes) _ (stops_here reason (inr o)) o.passes)))
 
       -- Where a header is in front, the budget alone refuses it.
-      pub word_accepted : (reason : Reason) → RefusesWord budget s w reason → (t : List TableEntry) (rest : List ℕ) → IsTable t → bytes ≡ header_bytes t ++ rest → reason ≡ reasons.Budget
+      pub word_accepted : (reason : Reason) → RefusesWord budget s w reason → (t : List TableEntry) (rest : List ℕ) → IsHeaderTable t → bytes ≡ header_bytes t ++ rest → reason ≡ reasons.Budget
       unfolding stops_here
       word_accepted reason (inr o) t rest is e = o.reason_is
       word_accepted reason (inl r) t rest is e =
@@ -163,7 +163,7 @@ module _ (budget : ℕ) (bytes : List ℕ) (s : HeaderState) (at : ℕ) (h : Hea
           by_reason (inr m) = let no : IsTrue false = subst (λ (x : Reason). IsTrue (is_word_refusal x)) m refused in absurd cc
 
 -- The number of hunks stands behind the first two longwords.
-pub hunks_in : (bytes : List ℕ) (t : List TableEntry) (rest : List ℕ) → IsTable t → bytes ≡ header_bytes t ++ rest → (get_or (longs bytes) 2 0 ≡ length t) × (12 ≤ length bytes)
+pub hunks_in : (bytes : List ℕ) (t : List TableEntry) (rest : List ℕ) → IsHeaderTable t → bytes ≡ header_bytes t ++ rest → (get_or (longs bytes) 2 0 ≡ length t) × (12 ≤ length bytes)
 hunks_in bytes t rest is e =
     let split : longs bytes ≡ header_words t ++ longs rest = ap longs e ∙ longs-bytes_of (header_words t) rest (header_longs t is) in
     (ap (λ (l : List ℕ). get_or l 2 0) split, omega (arith, ap length split, length-longs bytes))

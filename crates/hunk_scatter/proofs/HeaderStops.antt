@@ -23,7 +23,7 @@ use Rattle.hunk_files.proofs.Refusals.{refusal_of_word}
 use Rattle.hunk_files.proofs.Scan.{expects_of}
 use Rattle.hunk_scan.specs.declared.position.Position.{Position}
 use Rattle.hunk_scatter.specs.LoaderReasons.{is_of_header}
-use Rattle.hunk_scatter.specs.HeaderBytes.{IsTable, header_words, header_bytes, BeginsHeader, MayGoOnInHeader, entries_so_far}
+use Rattle.hunk_scatter.specs.HeaderBytes.{IsHeaderTable, header_words, header_bytes, BeginsHeader, MayGoOnInHeader, entries_so_far}
 use Rattle.hunk_scatter.specs.HeaderFaults.{PassesBudget, IsOverBudget, IsBudgetOrMemory, IsHeaderFaultBy, IsHeaderFault}
 use Rattle.hunk_scatter.specs.HeaderLoaderFields.{adds, declares, StopsFor, HeaderStop}
 use Rattle.hunk_scatter.proofs.Behind.{stays_behind, table_behind, expected_passes, header_passes, role_here}
@@ -41,7 +41,7 @@ plain_fault reasons.Budget budget bytes at n h = absurd cc
 plain_fault reasons.OutOfMemory budget bytes at n h = absurd cc
 plain_fault _ budget bytes at n h = h
 
-pub header_longs : (t : List TableEntry) → IsTable t → AreLongs (header_words t)
+pub header_longs : (t : List TableEntry) → IsHeaderTable t → AreLongs (header_words t)
 header_longs t is = accepted_longs (header_labelled t) (header_accepted t is.some is.most is.each)
 
 module _ (budget : ℕ) (bytes rest : List ℕ) (f : Fault) (s : HeaderStop budget bytes f) where

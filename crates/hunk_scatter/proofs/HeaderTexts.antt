@@ -17,19 +17,19 @@ use Rattle.hunk_files.proofs.Accepted.{header_accepted}
 use Rattle.hunk_files.proofs.FileProgress.{header_so_far, NextFits, read}
 use Rattle.hunk_files.proofs.FileText.{header_leads}
 use Rattle.hunk_files.proofs.Reading.{reads}
-use Rattle.hunk_scatter.specs.HeaderBytes.{IsTable, header_words, entries_in, entries_so_far}
+use Rattle.hunk_scatter.specs.HeaderBytes.{IsHeaderTable, header_words, entries_in, entries_so_far}
 use Rattle.hunk_scatter.specs.HeaderLoaderFields.{OpensFirst}
 
 -- ---- a header is read
 
 -- The header of a table leads to its first hunk.
-pub header_read : (t : List TableEntry) → IsTable t → HasRead (header_words t) (open_hunk (length t) [] t)
+pub header_read : (t : List TableEntry) → IsHeaderTable t → HasRead (header_words t) (open_hunk (length t) [] t)
 header_read t h = record { done = header_labelled t; run = header_leads t h.each; accepted = header_accepted t h.some h.most h.each; all = refl }
 
 -- ---- a header that was read
 
 module _ (ws : List ℕ) where
-  pub header_done : (t : List TableEntry) → HasRead ws (open_hunk (length t) [] t) → IsTable t × (ws ≡ header_words t)
+  pub header_done : (t : List TableEntry) → HasRead ws (open_hunk (length t) [] t) → IsHeaderTable t × (ws ≡ header_words t)
   header_done [] h = let some = (reads h).0.some in absurd (omega (arith, some))
   header_done (e ∷ t) h = (
     record { some = (reads h).0.front_fits.hunks_fit.0; most = (reads h).0.front_fits.hunks_fit.1; each = (reads h).0.front_fits.ahead_fit },

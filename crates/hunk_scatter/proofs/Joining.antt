@@ -4,8 +4,8 @@ use Rattle.std.proofs.lemmas.List.{take-append-drop}
 use Rattle.hunk_words.specs.Bits.{size_longs}
 use Rattle.hunk_files.specs.Image.{declared_bytes}
 use Rattle.hunk_files.specs.declared.row.Row.{Row}
-use Rattle.hunk_scatter.specs.LoaderValues.{cut, joined}
-use Rattle.hunk_scatter.specs.Rows.{entry_of, entries_of, words_of}
+use Rattle.hunk_scatter.specs.LoaderValues.{segments_in, joined}
+use Rattle.hunk_scatter.specs.Rows.{table_entry_of, entries_of, words_of}
 use Rattle.hunk_scatter.proofs.DeclaredBytes.{declared-cons}
 
 empty : (store : List ℕ) → length store ≡ 0 → store ≡ []
@@ -13,10 +13,10 @@ empty [] h = refl
 empty (x ∷ store) h = absurd (omega (arith, h))
 
 -- Together they are the store.
-pub joined_cut : (rows : List Row) (store : List ℕ) → length store ≡ declared_bytes (entries_of rows) → joined (cut (words_of rows) store) ≡ store
+pub joined_cut : (rows : List Row) (store : List ℕ) → length store ≡ declared_bytes (entries_of rows) → joined (segments_in (words_of rows) store) ≡ store
 joined_cut [] store h = sym (empty store h)
 joined_cut (r ∷ rows) store h =
     let size = 4 * size_longs r.word in
     ap (λ (xs : List ℕ). take size store ++ xs)
-    (joined_cut rows (drop size store) (omega (arith, h, length-drop size store, declared-cons (entry_of r) (entries_of rows))))
+    (joined_cut rows (drop size store) (omega (arith, h, length-drop size store, declared-cons (table_entry_of r) (entries_of rows))))
     ∙ take-append-drop size store

@@ -15,9 +15,9 @@ use Rattle.hunk_files.specs.LoadFile.{TableEntry, LoadFileValue, IsLoadFile}
 use Rattle.hunk_files.specs.LoadText.{table, text}
 use Rattle.hunk_scan.specs.Roles.{Role as roles}
 use Rattle.hunk_scatter.specs.LoaderReasons.{is_of_header, is_of_file}
-use Rattle.hunk_scatter.specs.HeaderBytes.{IsTable, header_bytes}
+use Rattle.hunk_scatter.specs.HeaderBytes.{IsHeaderTable, header_bytes}
 use Rattle.hunk_scatter.specs.HeaderFaults.{PassesBudget, IsOverBudget, IsHeaderFaultBy}
-use Rattle.hunk_scatter.specs.LoaderValues.{ImageValue, MayGoOn, IsImageOf}
+use Rattle.hunk_scatter.specs.LoaderValues.{ImageValue, MayGoOnInFile, IsImageOf}
 use Rattle.hunk_scatter.specs.LoadOutcomes.{Gives, IsHeaderWithin, IsWithinFile, IsReadFault, StopsInHeader, StopsShort, IsBodyStop, KeepsToHeader, LoadStop, InHeader, Between, InBody, LoadEnds}
 use Rattle.hunk_scatter.specs.Placing.{Placing, AreBases, HasBases, IsUnplacedFor}
 use Rattle.hunk_scatter.specs.Rows.{entries_of, bases_of}
@@ -79,7 +79,7 @@ module _ (base : Placing) (budget limit : ℕ) (old left : Option (List ℕ)) (f
             ([], sym whole ∙ sym (append-nil given), ap (λ (xs : List ℕ). xs ++ split.rest) (sym none) ∙ q)
         go (inr k) = k
 
-    on : MayGoOn given
+    on : MayGoOnInFile given
     on = record { value = v; is_load_file = is; more = front.0; fits = inl front.1 }
 
     no_refusal : (at : ℕ) (r : Reason) → HasRefusal given at r → ⊥
@@ -148,7 +148,7 @@ module _ (base : Placing) (budget limit : ℕ) (old left : Option (List ℕ)) (f
     here : PassesBudget budget (given ++ behind) at
     here = subst (λ (bs : List ℕ). PassesBudget budget bs at) around p
 
-    not_in : (t : List TableEntry) (more : List ℕ) → IsTable t → declared_bytes t ≤ budget → given ≡ header_bytes t ++ more → ⊥
+    not_in : (t : List TableEntry) (more : List ℕ) → IsHeaderTable t → declared_bytes t ≤ budget → given ≡ header_bytes t ++ more → ⊥
     not_in t more ok le e = table_within t ok budget (given ++ behind) (more ++ behind) le (ap (λ (xs : List ℕ). xs ++ behind) e ∙ append_assoc (header_bytes t) more behind) at here
 
     not_all : behind ≡ [] → ((k : ℕ) → PassesBudget budget given k → ⊥) → ⊥

@@ -11,7 +11,7 @@ use Rattle.hunk_files.specs.Image.{declared_bytes}
 use Rattle.hunk_files.specs.LoadFile.{TableEntry, LoadFileValue, IsLoadFile}
 use Rattle.hunk_files.specs.LoadText.{text}
 use Rattle.hunk_scatter.specs.LoaderReasons.{is_of_header, is_of_body, is_of_load}
-use Rattle.hunk_scatter.specs.HeaderBytes.{IsTable, header_bytes, BeginsHeader}
+use Rattle.hunk_scatter.specs.HeaderBytes.{IsHeaderTable, header_bytes, BeginsHeader}
 use Rattle.hunk_scatter.specs.HeaderFaults.{PassesBudget, IsHeaderFaultBy}
 use Rattle.hunk_scatter.specs.LoaderValues.{ImageValue}
 use Rattle.hunk_scatter.specs.LoadOutcomes.{Gives, KeepsRest, IsNotPlaced, IsLoaded, IsShort, IsHeaderWithin, IsLoadFaultBy, IsLoadFault, IsWithinFile, IsReadFault, StopsShort, KeepsToHeader, LoadStop, InHeader, Between, InBody, LoadEnds}
@@ -51,7 +51,7 @@ pub keeps_file : (old new : Option (List ℕ)) (limit : ℕ) (given : List ℕ) 
 keeps_file old new limit given g w v rest is e = keeps_behind old new given (bytes_of (text v)) rest g.consumed (λ m d. w v m is d) e
 
 pub keeps_header : (base : Placing) (budget : ℕ) (old new : Option (List ℕ)) (limit : ℕ) (given : List ℕ) → Gives old new limit given → KeepsToHeader base budget given →
-    (t : List TableEntry) (rest : List ℕ) → IsTable t → old ≡ Some (header_bytes t ++ rest) → IsNotPlaced base budget t → KeepsRest new rest
+    (t : List TableEntry) (rest : List ℕ) → IsHeaderTable t → old ≡ Some (header_bytes t ++ rest) → IsNotPlaced base budget t → KeepsRest new rest
 keeps_header base budget old new limit given g k t rest is e n = keeps_behind old new given (header_bytes t) rest g.consumed (λ m d. go m (k t m is d) n) e
   where
     go : (m : List ℕ) → (m ≡ []) ⊎ ((declared_bytes t ≤ budget) × HasBases base t) → IsNotPlaced base budget t → m ≡ []

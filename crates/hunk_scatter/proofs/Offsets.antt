@@ -7,11 +7,11 @@ use Rattle.hunk_words.proofs.LongLaws.{length-longs}
 use Rattle.hunk_blocks.proofs.Lists.{All-more}
 use Rattle.hunk_files.specs.Image.{add_at}
 use Rattle.hunk_scan.specs.Positions.{EndsWithin}
-use Rattle.hunk_scatter.specs.StoreContent.{added}
+use Rattle.hunk_scatter.specs.StoreContent.{added_at_each}
 
-added-more : (start base : ℕ) (xs : List ℕ) (y : ℕ) (store : List ℕ) → added start base (xs ++ y ∷ []) store ≡ add_at (added start base xs store) (start + y) base
-added-more start base [] y store = refl
-added-more start base (x ∷ xs) y store = added-more start base xs y (add_at store (start + x) base)
+added_at_each-more : (start base : ℕ) (xs : List ℕ) (y : ℕ) (store : List ℕ) → added_at_each start base (xs ++ y ∷ []) store ≡ add_at (added_at_each start base xs store) (start + y) base
+added_at_each-more start base [] y store = refl
+added_at_each-more start base (x ∷ xs) y store = added_at_each-more start base xs y (add_at store (start + x) base)
 
 take-more : (xs : List ℕ) (n : ℕ) → n < length xs → take (n + 1) xs ≡ take n xs ++ get_or xs n 0 ∷ []
 take-more xs n less = take-add n 1 xs ∙ ap (λ (ys : List ℕ). take n xs ++ take 1 ys) (drop-cons xs n 0 less)
@@ -20,12 +20,12 @@ module _ (bytes : List ℕ) (n : ℕ) (within : 4 * n + 4 ≤ length bytes) wher
   one_more : take (n + 1) (longs bytes) ≡ take n (longs bytes) ++ get_or (longs bytes) n 0 ∷ []
   one_more = take-more (longs bytes) n (omega (arith, within, length-longs bytes))
 
-  pub adds_more : (start base : ℕ) (first store : List ℕ) → store ≡ added start base (take n (longs bytes)) first →
-      add_at store (start + get_or (longs bytes) n 0) base ≡ added start base (take (n + 1) (longs bytes)) first
+  pub adds_more : (start base : ℕ) (first store : List ℕ) → store ≡ added_at_each start base (take n (longs bytes)) first →
+      add_at store (start + get_or (longs bytes) n 0) base ≡ added_at_each start base (take (n + 1) (longs bytes)) first
   adds_more start base first store e =
       ap (λ (xs : List ℕ). add_at xs (start + get_or (longs bytes) n 0) base) e
-      ∙ sym (added-more start base (take n (longs bytes)) (get_or (longs bytes) n 0) first)
-      ∙ ap (λ (ws : List ℕ). added start base ws first) (sym one_more)
+      ∙ sym (added_at_each-more start base (take n (longs bytes)) (get_or (longs bytes) n 0) first)
+      ∙ ap (λ (ws : List ℕ). added_at_each start base ws first) (sym one_more)
 
   pub inside_more : (limit : ℕ) → AllByRecursion (EndsWithin limit) (take n (longs bytes)) → get_or (longs bytes) n 0 + 4 ≤ limit → AllByRecursion (EndsWithin limit) (take (n + 1) (longs bytes))
   inside_more limit all less =

@@ -6,7 +6,7 @@ use Rattle.hunk_words.specs.declared.reason.Reason.{Reason}
 use Rattle.hunk_words.specs.Bits.{size_longs}
 use Rattle.hunk_words.specs.Longs.{bytes_of, longs, IsLong}
 use Rattle.hunk_files.specs.Fault.{HasRefusal}
-use Rattle.hunk_files.specs.Image.{declared_bytes}
+use Rattle.hunk_files.specs.Image.{declared_bytes, images}
 use Rattle.hunk_files.specs.LoadFile.{TableEntry, LoadFileValue}
 use Rattle.hunk_scan.specs.Roles.{refuse}
 use Rattle.hunk_files.specs.LoadText.{entries}
@@ -26,9 +26,9 @@ use Rattle.hunk_scan.specs.declared.position.Position.TheVariants as positions
 use Rattle.hunk_scan.specs.Positions.{is_done, is_behind_header}
 use Rattle.hunk_files.specs.ReaderPosition.{position_of, open_of, block_phase, open_table, table_of, IsBehindHeader}
 use Rattle.hunk_scatter.specs.declared.body_state.BodyState.{BodyState}
-use Rattle.hunk_scatter.specs.StoreContent.{StoreHolds, IsSized, stored, images}
-use Rattle.hunk_scatter.specs.BodyLoaderFields.{EndsWhole, Reading}
-use Rattle.hunk_scatter.specs.LoaderValues.{IsFileOf}
+use Rattle.hunk_scatter.specs.StoreContent.{StoreHolds, HasSizedImage, stored_long}
+use Rattle.hunk_scatter.specs.BodyLoaderFields.{EndsWhole, StandsBehind}
+use Rattle.hunk_scatter.specs.LoaderValues.{IsFileWithRows}
 use Rattle.hunk_scatter.specs.Rows.{entries_of, words_of, bases_of}
 use Rattle.hunk_scatter.specs.BodyReader.{sizes_of, state_at, state_of}
 use Rattle.hunk_scatter.specs.BodySteps.{refusal, step_body, RoomIn, IsInStore}
@@ -93,7 +93,7 @@ pub record Going (rows : List Row) (store : List ℕ) (state : BodyState) (pendi
   pub state_is : state_of (More at) ≡ state
   pub holds : StoreHolds (bases_of rows) (More at) store
 
-pub going : (rows : List Row) (store : List ℕ) (state : BodyState) (pending fed : List ℕ) → Reading rows store state pending fed → is_done state.position ≡ false → Going rows store state pending fed
+pub going : (rows : List Row) (store : List ℕ) (state : BodyState) (pending fed : List ℕ) → StandsBehind rows store state pending fed → is_done state.position ≡ false → Going rows store state pending fed
 going rows store state pending fed r more = go r.next r.read r.behind r.table_is r.state_is r.holds
   where
     go : (n : Next) → HasRead r.ws n → IsBehindHeader n → table_of n ≡ entries_of rows → state_of n ≡ state → StoreHolds (bases_of rows) n store → Going rows store state pending fed
@@ -118,7 +118,7 @@ module _ (rows : List Row) (store : List ℕ) (state : BodyState) (pending fed :
   refusal_is w = refusal_same g.at w g.in_body (reads g.read).0 ∙ ap₂ (λ (ss : List ℕ) (s : BodyState). refusal ss s w) sizes_now g.state_is
 
   -- Bytes that complete no longword.
-  pub more_pending : (bytes : List ℕ) → length (pending ++ bytes) < 4 → Reading rows store state (pending ++ bytes) (fed ++ bytes)
+  pub more_pending : (bytes : List ℕ) → length (pending ++ bytes) < 4 → StandsBehind rows store state (pending ++ bytes) (fed ++ bytes)
   more_pending bytes few = record {
     few = few;
     ws = g.ws;
@@ -141,7 +141,7 @@ module _ (rows : List Row) (store : List ℕ) (state : BodyState) (pending fed :
         ∙ sym (bytes_of-append g.ws (w ∷ []))
 
     -- Those that complete a longword that passes.
-    pub more_read : refusal (words_of rows) state w ≡ None → Reading rows (stored (bases_of rows) state w store) (step_body (words_of rows) state w) [] (fed ++ bytes)
+    pub more_read : refusal (words_of rows) state w ≡ None → StandsBehind rows (stored_long (bases_of rows) state w store) (step_body (words_of rows) state w) [] (fed ++ bytes)
     more_read ok =
         let pass : refuse (role_of g.at) w ≡ None = refusal_is w ∙ ok in
         record {
@@ -154,7 +154,7 @@ module _ (rows : List Row) (store : List ℕ) (state : BodyState) (pending fed :
           table_is = step_table g.at w g.in_body ∙ g.table_is;
           state_is = step_state g.at w g.in_body (reads g.read).0 pass ∙ ap₂ (λ (ss : List ℕ) (s : BodyState). step_body ss s w) sizes_now g.state_is;
           holds =
-              subst (λ (s : BodyState). StoreHolds (bases_of rows) (step g.at w) (stored (bases_of rows) s w store)) g.state_is
+              subst (λ (s : BodyState). StoreHolds (bases_of rows) (step g.at w) (stored_long (bases_of rows) s w store)) g.state_is
               (step_holds (bases_of rows) g.at w store (reads g.read).0 is pass g.holds);
           whole = nothing (step g.at w);
         }
@@ -178,12 +178,12 @@ module _ (rows : List Row) (store : List ℕ) (state : BodyState) (pending fed :
 -- ---- the end
 
 -- A reading that is whole has a load file.
-pub file_read : (rows : List Row) (store : List ℕ) (state : BodyState) (pending fed : List ℕ) → Reading rows store state pending fed → is_done state.position ≡ true →
-    (v : LoadFileValue) × IsFileOf rows fed v × AllByRecursion (IsSized (bases_of rows)) v × (store ≡ images (bases_of rows) v)
+pub file_read : (rows : List Row) (store : List ℕ) (state : BodyState) (pending fed : List ℕ) → StandsBehind rows store state pending fed → is_done state.position ≡ true →
+    (v : LoadFileValue) × IsFileWithRows rows fed v × AllByRecursion (HasSizedImage (bases_of rows)) v × (store ≡ images (bases_of rows) v)
 file_read rows store state pending fed r done = go r.next r.read r.behind r.table_is r.state_is r.holds r.whole
   where
     go : (n : Next) → HasRead r.ws n → IsBehindHeader n → table_of n ≡ entries_of rows → state_of n ≡ state → StoreHolds (bases_of rows) n store → EndsWhole n pending →
-        (v : LoadFileValue) × IsFileOf rows fed v × AllByRecursion (IsSized (bases_of rows)) v × (store ≡ images (bases_of rows) v)
+        (v : LoadFileValue) × IsFileWithRows rows fed v × AllByRecursion (HasSizedImage (bases_of rows)) v × (store ≡ images (bases_of rows) v)
     go (More p) read b t s h w =
         let more : is_done state.position ≡ false = ap (λ (x : BodyState). is_done x.position) (sym s) ∙ not_done p b in
         absurd (cc (done, more))

@@ -15,10 +15,10 @@ use Rattle.hunk_scan.specs.declared.position.Position.TheVariants as positions
 use Rattle.hunk_scan.specs.Positions.{is_done, run, pass, owe_content, owe_payload, owe_symbol, EndsWithin}
 use Rattle.hunk_scan.proofs.OffsetRuns.{offset_passes}
 use Rattle.hunk_scatter.specs.declared.body_state.BodyState.{BodyState}
-use Rattle.hunk_scatter.specs.BodyLoaderFields.{Reading}
+use Rattle.hunk_scatter.specs.BodyLoaderFields.{StandsBehind}
 use Rattle.hunk_scatter.specs.BodySteps.{longs_at, pass_body, IsInStore, refusal, step_body}
 use Rattle.hunk_scatter.specs.Rows.{words_of, bases_of}
-use Rattle.hunk_scatter.specs.StoreContent.{put_at, put_slice, stored_run_in, stored_run, added, TakesOffsets, stored_in}
+use Rattle.hunk_scatter.specs.StoreContent.{put_at, put_slice, stored_run_in, stored_run, added_at_each, TakesOffsets, stored_in}
 use Rattle.hunk_scatter.proofs.OneByte.{going, more_read}
 use Rattle.hunk_scatter.proofs.Splice.{length-put}
 
@@ -71,7 +71,7 @@ length-run sizes hunk start _ bytes store i fits = refl
 
 -- the reading behind so many bytes more
 abbrev Read : List Row → List ℕ → BodyState → List ℕ → List ℕ → Type 0
-Read rows store s fed ws = Reading rows store s [] (fed ++ bytes_of ws)
+Read rows store s fed ws = StandsBehind rows store s [] (fed ++ bytes_of ws)
 
 module _ (rows : List Row) (hunk start : ℕ) where
   abbrev at : Position → BodyState
@@ -80,12 +80,12 @@ module _ (rows : List Row) (hunk start : ℕ) where
   abbrev stored_at : Position → ℕ → List ℕ → List ℕ
   stored_at p w store = stored_in (bases_of rows) start p w store
 
-  read_none : (store : List ℕ) (s : BodyState) (fed : List ℕ) → Reading rows store s [] fed → Read rows store s fed []
-  read_none store s fed r = subst (λ (bs : List ℕ). Reading rows store s [] bs) (sym (append-nil fed) ∙ ap (λ (xs : List ℕ). fed ++ xs) (sym bytes_of-nil)) r
+  read_none : (store : List ℕ) (s : BodyState) (fed : List ℕ) → StandsBehind rows store s [] fed → Read rows store s fed []
+  read_none store s fed r = subst (λ (bs : List ℕ). StandsBehind rows store s [] bs) (sym (append-nil fed) ∙ ap (λ (xs : List ℕ). fed ++ xs) (sym bytes_of-nil)) r
 
   read_more : (store : List ℕ) (s : BodyState) (fed : List ℕ) (w : ℕ) (ws : List ℕ) → Read rows store s (fed ++ bytes_of (w ∷ [])) ws → Read rows store s fed (w ∷ ws)
   read_more store s fed w ws r =
-      subst (λ (bs : List ℕ). Reading rows store s [] bs)
+      subst (λ (bs : List ℕ). StandsBehind rows store s [] bs)
       (append_assoc fed (bytes_of (w ∷ [])) (bytes_of ws) ∙ ap (λ (xs : List ℕ). fed ++ xs) (sym (bytes_of-cons w ws))) r
 
   module _ (Good : ℕ → Type 0) (Room : ℕ → List ℕ → Type 0) (pos : ℕ → Position) (made : ℕ → List ℕ → List ℕ → List ℕ) where
@@ -99,7 +99,7 @@ module _ (rows : List Row) (hunk start : ℕ) where
       more : (n w : ℕ) (ws store : List ℕ) → Room (suc n) store → made n ws (stored_at (pos (suc n)) w store) ≡ made (suc n) (w ∷ ws) store
 
     list_read : Owing → (store fed : List ℕ) (n left : ℕ) (ws : List ℕ) → AreLongs ws → AllByRecursion Good ws → Room n store →
-        Reading rows store (at (pos n)) [] fed → length ws + left ≡ n → Read rows (made n ws store) (at (pos left)) fed ws
+        StandsBehind rows store (at (pos n)) [] fed → length ws + left ≡ n → Read rows (made n ws store) (at (pos left)) fed ws
     list_read o store fed n left [] l g room r e =
         let same : n ≡ left = omega (arith, e) in
         subst (λ (k : ℕ). Read rows (made n [] store) (at (pos k)) fed []) same
@@ -112,7 +112,7 @@ module _ (rows : List Row) (hunk start : ℕ) where
         subst (λ (xs : List ℕ). Read rows xs (at (pos left)) fed (w ∷ ws)) (o.more n w ws store room)
         (read_more (made n ws now) (at (pos left)) fed w ws
         (list_read o now (fed ++ bytes_of (w ∷ [])) n left ws l.1 g.1 (o.room n w store room)
-        (subst (λ (s : BodyState). Reading rows now s [] (fed ++ bytes_of (w ∷ []))) (o.moves n w) next) (omega (arith, e))))
+        (subst (λ (s : BodyState). StandsBehind rows now s [] (fed ++ bytes_of (w ∷ []))) (o.moves n w) next) (omega (arith, e))))
 
   content_owing : (o : OpenHunk) (all : ℕ) →
       Owing IsLong (λ n store. (n ≤ all) × (start + 4 * all ≤ length store)) (owe_content o all)
@@ -152,7 +152,7 @@ module _ (rows : List Row) (hunk start : ℕ) where
   -- one offset at least is still owed
   offsets_owing : (o : OpenHunk) (target : ℕ) →
       Owing (EndsWithin (4 * longs_at (words_of rows) hunk)) (λ n store. Unit {0}) (λ n. positions.Body o (phases.Offset target n))
-      (λ n ws store. added start (get_or (bases_of rows) target 0) ws store)
+      (λ n ws store. added_at_each start (get_or (bases_of rows) target 0) ws store)
   offsets_owing o target = record {
     goes_on = λ n. refl;
     passes = λ n w within. offset_passes (longs_at (words_of rows) hunk) o target n w within;
@@ -162,7 +162,7 @@ module _ (rows : List Row) (hunk start : ℕ) where
     more = λ n w ws store h. refl;
   }
 
-run_read : (rows : List Row) (hunk start : ℕ) (p : Position) (store fed ws : List ℕ) → AreLongs ws → Reading rows store (record { hunk = hunk; start = start; position = p }) [] fed →
+run_read : (rows : List Row) (hunk start : ℕ) (p : Position) (store fed ws : List ℕ) → AreLongs ws → StandsBehind rows store (record { hunk = hunk; start = start; position = p }) [] fed →
     IsInStore (words_of rows) (length store) (record { hunk = hunk; start = start; position = p }) → 0 < length ws → length ws ≤ run p →
     Read rows (stored_run_in start p (bytes_of ws) store) (record { hunk = hunk; start = start; position = pass p (length ws) }) fed ws
 run_read rows hunk start p store fed [] l r i some fits = absurd (omega (arith, some))
@@ -192,13 +192,13 @@ fours_are bytes are fours =
     s.split ∙ ap (λ (xs : List ℕ). bytes_of (longs bytes) ++ xs) (none_over s.over none) ∙ append-nil (bytes_of (longs bytes))
 
 -- What was read goes on behind the bytes of a run.
-pub read_run : (rows : List Row) (store : List ℕ) (state : BodyState) (fed bytes : List ℕ) (n : ℕ) → Reading rows store state [] fed → IsInStore (words_of rows) (length store) state →
-    length bytes ≡ n → IsBytes bytes → n % 4 ≡ 0 → 0 < n → n ≤ 4 * run state.position → Reading rows (stored_run state bytes store) (pass_body state (n / 4)) [] (fed ++ bytes)
+pub read_run : (rows : List Row) (store : List ℕ) (state : BodyState) (fed bytes : List ℕ) (n : ℕ) → StandsBehind rows store state [] fed → IsInStore (words_of rows) (length store) state →
+    length bytes ≡ n → IsBytes bytes → n % 4 ≡ 0 → 0 < n → n ≤ 4 * run state.position → StandsBehind rows (stored_run state bytes store) (pass_body state (n / 4)) [] (fed ++ bytes)
 read_run rows store state fed bytes n r i long are fours some fits =
     let same : bytes ≡ bytes_of (longs bytes) = fours_are bytes are (omega (arith, long, fours)) in
     let count : length (longs bytes) ≡ n / 4 = omega (arith, length-longs bytes, long) in
-    subst (λ (bs : List ℕ). Reading rows (stored_run state bs store) (pass_body state (n / 4)) [] (fed ++ bs)) (sym same)
-    (subst (λ (k : ℕ). Reading rows (stored_run state (bytes_of (longs bytes)) store) (pass_body state k) [] (fed ++ bytes_of (longs bytes))) count
+    subst (λ (bs : List ℕ). StandsBehind rows (stored_run state bs store) (pass_body state (n / 4)) [] (fed ++ bs)) (sym same)
+    (subst (λ (k : ℕ). StandsBehind rows (stored_run state (bytes_of (longs bytes)) store) (pass_body state k) [] (fed ++ bytes_of (longs bytes))) count
     (run_read rows state.hunk state.start state.position store fed (longs bytes) (longs_fit bytes are) r i (omega (arith, count, some, fours)) (omega (arith, count, fits, fours))))
 
 -- Where a run goes on the file does not end.
@@ -227,18 +227,18 @@ takes_some old new piece n (Some w) few some g whole =
     omega (arith, few, ap length g.0, length-append old (take n piece), length-take n piece, length-bytes_of (w ∷ []))
 
 -- What was read goes on behind so many offsets of a list.
-pub read_offsets : (rows : List Row) (store store2 : List ℕ) (state state2 : BodyState) (fed piece : List ℕ) (n : ℕ) → Reading rows store state [] fed → IsBytes piece → 4 * n ≤ length piece →
-    TakesOffsets (words_of rows) (bases_of rows) state (take n (longs piece)) store state2 store2 → Reading rows store2 state2 [] (fed ++ take (4 * n) piece)
+pub read_offsets : (rows : List Row) (store store2 : List ℕ) (state state2 : BodyState) (fed piece : List ℕ) (n : ℕ) → StandsBehind rows store state [] fed → IsBytes piece → 4 * n ≤ length piece →
+    TakesOffsets (words_of rows) (bases_of rows) state (take n (longs piece)) store state2 store2 → StandsBehind rows store2 state2 [] (fed ++ take (4 * n) piece)
 read_offsets rows store store2 state state2 fed piece n r are fits t =
     let bytes : List ℕ = take (4 * n) piece in
     let ws : List ℕ = take n (longs piece) in
     let long : length bytes ≡ 4 * n = omega (arith, length-take (4 * n) piece, fits) in
     let spells : longs bytes ≡ ws = longs-take piece n (4 * n) refl in
     let same : bytes ≡ bytes_of ws = fours_are bytes (take_bytes piece (4 * n) are) (omega (arith, long)) ∙ ap bytes_of spells in
-    subst (λ (bs : List ℕ). Reading rows store2 state2 [] (fed ++ bs)) (sym same)
+    subst (λ (bs : List ℕ). StandsBehind rows store2 state2 [] (fed ++ bs)) (sym same)
     (go state.position r (subst AreLongs spells (longs_fit bytes (take_bytes piece (4 * n) are))) t)
   where
-    go : (p : Position) → Reading rows store (record { hunk = state.hunk; start = state.start; position = p }) [] fed → AreLongs (take n (longs piece)) →
+    go : (p : Position) → StandsBehind rows store (record { hunk = state.hunk; start = state.start; position = p }) [] fed → AreLongs (take n (longs piece)) →
         TakesOffsets (words_of rows) (bases_of rows) (record { hunk = state.hunk; start = state.start; position = p }) (take n (longs piece)) store state2 store2 →
         Read rows store2 state2 fed (take n (longs piece))
     go (positions.Body o (phases.Offset target owed)) q l k =
@@ -250,12 +250,12 @@ read_offsets rows store store2 state state2 fed piece n r are fits t =
 
 -- The state behind so many offsets.
 pub offsets_taken : (sizes bases : List ℕ) (hunk start : ℕ) (p : Position) (o : OpenHunk) (target owed limit base left : ℕ) (ws store store2 : List ℕ) → positions.Body o (phases.Offset target owed) ≡ p →
-    length ws ≤ owed → AllByRecursion (EndsWithin limit) ws → limit ≡ 4 * longs_at sizes hunk → base ≡ get_or bases target 0 → left ≡ owed - length ws → store2 ≡ added start base ws store →
+    length ws ≤ owed → AllByRecursion (EndsWithin limit) ws → limit ≡ 4 * longs_at sizes hunk → base ≡ get_or bases target 0 → left ≡ owed - length ws → store2 ≡ added_at_each start base ws store →
     TakesOffsets sizes bases (record { hunk = hunk; start = start; position = p }) ws store (record { hunk = hunk; start = start; position = positions.Body o (phases.Offset target left) }) store2
 offsets_taken sizes bases hunk start p o target owed limit base left ws store store2 is fits all e f g d =
     subst (λ (q : Position). TakesOffsets sizes bases (record { hunk = hunk; start = start; position = q }) ws store (record { hunk = hunk; start = start; position = positions.Body o (phases.Offset target left) }) store2) is (
       fits,
       subst (λ (n : ℕ). AllByRecursion (EndsWithin n) ws) e all,
       ap (λ (n : ℕ). record { hunk = hunk; start = start; position = positions.Body o (phases.Offset target n) }) g,
-      d ∙ ap (λ (n : ℕ). added start n ws store) f,
+      d ∙ ap (λ (n : ℕ). added_at_each start n ws store) f,
     )

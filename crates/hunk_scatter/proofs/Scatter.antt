@@ -10,7 +10,7 @@ use Rattle.hunk_words.specs.declared.block_word.Kind.TheVariants as kinds
 use Rattle.hunk_words.specs.declared.reason.Reason.TheVariants as reasons
 use Rattle.hunk_words.specs.Bits.{size_longs, kind}
 use Rattle.hunk_words.specs.Longs.{bytes_of, IsLong}
-use Rattle.hunk_files.specs.Image.{add_at, image, filled, relocated, block_content, block_relocations}
+use Rattle.hunk_files.specs.Image.{add_at, image, images, filled, relocated, block_content, block_relocations}
 use Rattle.hunk_blocks.specs.Values.{BlockValue, Name, Code, Data, Bss, Reloc, Ext, Symbol, Debug, Advisory, End}
 use Rattle.hunk_files.specs.LoadFile.{TableEntry, HunkValue}
 use Rattle.hunk_scan.specs.Roles.{refuse, refuse_part}
@@ -21,7 +21,7 @@ use Rattle.hunk_files.proofs.HunkProgress as blocks
 use Rattle.hunk_blocks.proofs.Lists.{All-more, flat_map-more, passed_true, passed_false}
 use Rattle.hunk_files.proofs.Memory.{adds_bytes, adds_pairs, step_has, offset_adds, end_is_image}
 use Rattle.hunk_files.specs.OpenSegment.{segment_so_far, bytes_so_far, pairs_so_far, bytes_in, pairs_in}
-use Rattle.hunk_scatter.specs.StoreContent.{zeros, IsSized, images, Holds, StoreHolds, put_at, stored_in, stored}
+use Rattle.hunk_scatter.specs.StoreContent.{zeros, HasSizedImage, Holds, StoreHolds, put_at, stored_in, stored_long}
 use Rattle.hunk_files.specs.ReaderPosition.{position_of, open_of, block_phase}
 use Rattle.hunk_scan.specs.declared.phase.OpenHunk as numbers
 use Rattle.hunk_scan.specs.declared.position.Position.TheVariants as positions
@@ -57,7 +57,7 @@ nothing_added bases o x w e d =
 
 -- ---- a segment in which four bytes are replaced
 
-length-images : (bases : List ℕ) (hs : List HunkValue) → AllByRecursion (IsSized bases) hs → length (images bases hs) ≡ before hs
+length-images : (bases : List ℕ) (hs : List HunkValue) → AllByRecursion (HasSizedImage bases) hs → length (images bases hs) ≡ before hs
 length-images bases [] h = refl
 length-images bases (x ∷ hs) h =
     omega (arith, length-append (image bases x) (images bases hs), h.0, length-images bases hs h.1, sum_by-cons (λ (y : HunkValue). 4 * size_longs y.entry.word) x hs)
@@ -167,7 +167,7 @@ beside_holds bases o b store e d h =
     )) h
 
 -- the hunks with these entries are all zero so far
-zero_holds : (bases : List ℕ) (hunks : ℕ) (finished : List HunkValue) (ahead : List TableEntry) (store : List ℕ) → AllByRecursion (IsSized bases) finished →
+zero_holds : (bases : List ℕ) (hunks : ℕ) (finished : List HunkValue) (ahead : List TableEntry) (store : List ℕ) → AllByRecursion (HasSizedImage bases) finished →
     store ≡ images bases finished ++ zeros ahead → StoreHolds bases (open_hunk hunks finished ahead) store
 zero_holds bases hunks finished [] store f e = (f, e ∙ append-nil (images bases finished))
 zero_holds bases hunks finished (x ∷ ahead) store f e =
@@ -182,7 +182,7 @@ zero_holds bases hunks finished (x ∷ ahead) store f e =
 ended_holds : (bases : List ℕ) (o : OpenHunk) (word : ℕ) (store : List ℕ) → Holds bases o (Whole End) store → StoreHolds bases (close o (block word End)) store
 ended_holds bases o word store h =
     zero_holds bases o.hunks (o.finished ++ x ∷ []) o.ahead store
-    (All-more (IsSized bases) o.finished x h.front (ap length (end_is_image bases o word) ∙ h.segment))
+    (All-more (HasSizedImage bases) o.finished x h.front (ap length (end_is_image bases o word) ∙ h.segment))
     (h.store_is
     ∙ sym (append_assoc (images bases o.finished) (segment_so_far bases o (Whole End)) (zeros o.ahead))
     ∙ ap (λ (s : List ℕ). (images bases o.finished ++ s) ++ zeros o.ahead) (sym (end_is_image bases o word))
@@ -222,7 +222,7 @@ block_stores (b ∷ blocks) P bases start o w store h = h
 
 -- A longword that is not refused keeps what the store holds.
 pub step_holds : (bases : List ℕ) (p : Progress) (w : ℕ) (store : List ℕ) → ProgressFits p → IsLong w → refuse (role_of p) w ≡ None → StoreHolds bases (More p) store →
-    StoreHolds bases (step p w) (stored bases (state_of (More p)) w store)
+    StoreHolds bases (step p w) (stored_long bases (state_of (More p)) w store)
 step_holds bases (AtBlock o) w store f l ok h =
     let e = begin_empty (kind w) in
     block_stores o.blocks (StoreHolds bases (step (AtBlock o) w)) bases (before o.finished) (open_of o) w store

@@ -11,10 +11,10 @@ use Rattle.hunk_files.specs.declared.row.Row.{Row}
 use Rattle.hunk_scan.specs.Positions.{open_next}
 use Rattle.hunk_scatter.specs.BodyReader.{state_at}
 use Rattle.hunk_scatter.specs.StoreContent.{zeros}
-use Rattle.hunk_scatter.specs.BodyLoaderFields.{Reading, BodyLoaderInvariant}
-use Rattle.hunk_scatter.specs.Rows.{entry_of, entries_of, bases_of}
+use Rattle.hunk_scatter.specs.BodyLoaderFields.{StandsBehind, BodyLoaderInvariant}
+use Rattle.hunk_scatter.specs.Rows.{table_entry_of, entries_of, bases_of}
 use Rattle.std.proofs.lemmas.List.{length-map, length-replicate, take_all}
-use Rattle.hunk_scatter.specs.HeaderBytes.{IsTable, header_words, header_bytes}
+use Rattle.hunk_scatter.specs.HeaderBytes.{IsHeaderTable, header_words, header_bytes}
 use Rattle.hunk_scatter.specs.HeaderLoaderFields.{DeclaredInvariant}
 use Rattle.hunk_scatter.proofs.HeaderTexts.{header_read}
 use Rattle.hunk_scatter.proofs.Scatter.{start_holds}
@@ -31,7 +31,7 @@ zeros_are (e ∷ table) =
     ∙ ap (λ (xs : List ℕ). replicate (4 * size_longs e.word) 0 ++ xs) (zeros_are table)
 
 pub start_reading : (rows : List Row) (ws fed : List ℕ) → rows ≢ [] → fed ≡ bytes_of ws → HasRead ws (open_hunk (length (entries_of rows)) [] (entries_of rows)) →
-    Reading rows (zeros (entries_of rows)) (state_at [] (open_next (length (entries_of rows)) (length (entries_of rows)))) [] fed
+    StandsBehind rows (zeros (entries_of rows)) (state_at [] (open_next (length (entries_of rows)) (length (entries_of rows)))) [] fed
 start_reading [] ws fed some e read = absurd (some refl)
 start_reading (r ∷ rows) ws fed some e read = record {
   ws = ws;
@@ -50,17 +50,17 @@ start_reading (r ∷ rows) ws fed some e read = record {
 pub placed_loading : (old rows : List Row) (total budget count : ℕ) (fed store : List ℕ) → DeclaredInvariant old total budget count fed → entries_of rows ≡ entries_of old → store ≡ replicate total 0 →
     BodyLoaderInvariant rows store (state_at [] (open_next (length (entries_of rows)) (length (entries_of rows)))) [] count None fed
 placed_loading old rows total budget count fed store h same s =
-    let table : IsTable (entries_of rows) = subst IsTable (sym same) h.is_table in
+    let table : IsHeaderTable (entries_of rows) = subst IsHeaderTable (sym same) h.is_table in
     let zero_bytes : store ≡ zeros (entries_of rows) =
     s ∙ ap (λ (n : ℕ). replicate n 0) (h.total_is ∙ ap declared_bytes (sym same)) ∙ zeros_are (entries_of rows) in
     record {
       counted = h.counted;
-      hunks = omega (arith, table.most, length-map rows entry_of);
+      hunks = omega (arith, table.most, length-map rows table_entry_of);
       size = ap length s ∙ length-replicate total 0 ∙ h.total_is ∙ ap declared_bytes (sym same);
       reading =
           λ e.
-          subst (λ (bs : List ℕ). Reading rows bs (state_at [] (open_next (length (entries_of rows)) (length (entries_of rows)))) [] fed) (sym zero_bytes)
-          (start_reading rows (header_words (entries_of rows)) fed (λ none. omega (arith, ap length none, table.some, length-map rows entry_of)) (h.header ∙ ap header_bytes (sym same)) (header_read (entries_of rows) table));
+          subst (λ (bs : List ℕ). StandsBehind rows bs (state_at [] (open_next (length (entries_of rows)) (length (entries_of rows)))) [] fed) (sym zero_bytes)
+          (start_reading rows (header_words (entries_of rows)) fed (λ none. omega (arith, ap length none, table.some, length-map rows table_entry_of)) (h.header ∙ ap header_bytes (sym same)) (header_read (entries_of rows) table));
       own = λ f e. absurd cc;
     }
 

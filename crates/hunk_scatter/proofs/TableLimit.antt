@@ -8,7 +8,7 @@ use Rattle.hunk_files.specs.FileSteps.{open_hunk}
 use Rattle.hunk_files.specs.Image.{declared_bytes}
 use Rattle.hunk_files.specs.LoadFile.{TableEntry, LoadFileValue}
 use Rattle.hunk_files.specs.LoadText.{labelled, header_labelled, hunk_labelled, table, words}
-use Rattle.hunk_scatter.specs.HeaderBytes.{IsTable, header_words, entries_so_far}
+use Rattle.hunk_scatter.specs.HeaderBytes.{IsHeaderTable, header_words, entries_so_far}
 use Rattle.hunk_scatter.specs.HeaderFaults.{PassesBudget}
 use Rattle.hunk_scatter.proofs.Behind.{table_behind, no_size_word}
 use Rattle.hunk_scatter.proofs.DeclaredBytes.{declared_limit}
@@ -34,7 +34,7 @@ total_limit before e =
     ∙ header_first e.value in
     go t (text_header e.value e.is).0 (fronts before e.word (words e.more) (header_words t) (hunk_words_of e.value) spelled)
   where
-    go : (t : List TableEntry) → IsTable t → ((m : List ℕ) × (header_words t ≡ before ++ e.word ∷ m)) ⊎ ((m : List ℕ) × (before ≡ header_words t ++ m)) → declared_bytes (entries_so_far before) ≤ 2 ^ 48
+    go : (t : List TableEntry) → IsHeaderTable t → ((m : List ℕ) × (header_words t ≡ before ++ e.word ∷ m)) ⊎ ((m : List ℕ) × (before ≡ header_words t ++ m)) → declared_bytes (entries_so_far before) ≤ 2 ^ 48
     go t is (inl (m, d)) = omega (arith, header_within t is before m e.word d e, declared_limit t, is.most)
     go t is (inr (m, d)) = absurd (no_size_word (header_words t) m (open_hunk (length t) [] t) (header_read t is) (table_behind t is) (subst (λ (xs : List ℕ). Expects xs roles.SizeWord) d e))
 

@@ -10,15 +10,15 @@ use Rattle.hunk_files.specs.declared.row.Row.{Row}
 use Rattle.hunk_scan.specs.Positions.{is_done, run}
 use Rattle.hunk_scan.specs.declared.position.Position.{Position}
 use Rattle.hunk_scatter.specs.declared.body_state.BodyState.{BodyState}
-use Rattle.hunk_scatter.specs.BodyLoaderFields.{Reading}
+use Rattle.hunk_scatter.specs.BodyLoaderFields.{StandsBehind}
 use Rattle.hunk_scatter.specs.BodySteps.{refusal, step_body, pass_body, IsInStore}
 use Rattle.hunk_scatter.specs.Rows.{entries_of, words_of, bases_of}
-use Rattle.hunk_scatter.specs.StoreContent.{stored, stored_run}
+use Rattle.hunk_scatter.specs.StoreContent.{stored_long, stored_run}
 use Rattle.hunk_scatter.proofs.Faults.{refusal_front}
 use Rattle.hunk_scatter.proofs.OneByte.{Going, going, room, more_read, refused_here}
 use Rattle.hunk_scatter.proofs.Runs.{read_run, take_bytes, in_place}
 
-module _ (rows : List Row) (store : List ℕ) (state : BodyState) (fed : List ℕ) (r : Reading rows store state [] fed) (more : is_done state.position ≡ false) where
+module _ (rows : List Row) (store : List ℕ) (state : BodyState) (fed : List ℕ) (r : StandsBehind rows store state [] fed) (more : is_done state.position ≡ false) where
   gone : Going rows store state [] fed
   gone = going rows store state [] fed r more
 
@@ -30,7 +30,7 @@ module _ (rows : List Row) (store : List ℕ) (state : BodyState) (fed : List �
     spelled : take 4 piece ≡ bytes_of (w ∷ [])
     spelled = in_place piece are four ∙ ap (λ (v : ℕ). bytes_of (v ∷ [])) (sym first)
 
-    pub word_taken : refusal (words_of rows) state w ≡ None → Reading rows (stored (bases_of rows) state w store) (step_body (words_of rows) state w) [] (fed ++ take 4 piece)
+    pub word_taken : refusal (words_of rows) state w ≡ None → StandsBehind rows (stored_long (bases_of rows) state w store) (step_body (words_of rows) state w) [] (fed ++ take 4 piece)
     word_taken ok = more_read rows store state [] fed gone (take 4 piece) w is spelled ok
 
     pub word_refused : (reason : Reason) → refusal (words_of rows) state w ≡ Some reason → HasRefusal (fed ++ piece) (length fed) reason
@@ -39,25 +39,25 @@ module _ (rows : List Row) (store : List ℕ) (state : BodyState) (fed : List �
         (refused_here rows store state [] fed gone (take 4 piece) w is spelled reason (length fed) (omega (arith, length-take 4 piece, four)) no-pass)
 
 -- those of a run
-pub run_taken : (rows : List Row) (store : List ℕ) (state : BodyState) (fed : List ℕ) → Reading rows store state [] fed → IsInStore (words_of rows) (length store) state →
+pub run_taken : (rows : List Row) (store : List ℕ) (state : BodyState) (fed : List ℕ) → StandsBehind rows store state [] fed → IsInStore (words_of rows) (length store) state →
     (piece : List ℕ) (n : ℕ) → IsBytes piece → n ≤ length piece → n % 4 ≡ 0 → 0 < n → n ≤ 4 * run state.position →
-    Reading rows (stored_run state (take n piece) store) (pass_body state (length (take n piece) / 4)) [] (fed ++ take n piece)
+    StandsBehind rows (stored_run state (take n piece) store) (pass_body state (length (take n piece) / 4)) [] (fed ++ take n piece)
 run_taken rows store state fed r i piece n are inside fours some fits =
     let long : length (take n piece) ≡ n = omega (arith, length-take n piece, inside) in
-    subst (λ (k : ℕ). Reading rows (stored_run state (take n piece) store) (pass_body state (k / 4)) [] (fed ++ take n piece)) (sym long)
+    subst (λ (k : ℕ). StandsBehind rows (stored_run state (take n piece) store) (pass_body state (k / 4)) [] (fed ++ take n piece)) (sym long)
     (read_run rows store state fed (take n piece) n r i long (take_bytes piece n are) fours some fits)
 
-pub read_as : (rows : List Row) (store store2 : List ℕ) (state state2 : BodyState) (fed : List ℕ) → store2 ≡ store → state2 ≡ state → Reading rows store state [] fed → Reading rows store2 state2 [] fed
+pub read_as : (rows : List Row) (store store2 : List ℕ) (state state2 : BodyState) (fed : List ℕ) → store2 ≡ store → state2 ≡ state → StandsBehind rows store state [] fed → StandsBehind rows store2 state2 [] fed
 read_as rows store store2 state state2 fed e d r =
-    subst (λ (xs : List ℕ). Reading rows xs state2 [] fed) (sym e) (subst (λ (s : BodyState). Reading rows store s [] fed) (sym d) r)
+    subst (λ (xs : List ℕ). StandsBehind rows xs state2 [] fed) (sym e) (subst (λ (s : BodyState). StandsBehind rows store s [] fed) (sym d) r)
 
 -- the position by another name
 pub state_at : (state : BodyState) (position : Position) → position ≡ state.position → ◌≡◌ {A = BodyState} (record { hunk = state.hunk; start = state.start; position = position }) state
 state_at state position same = ap (λ (p : Position). record { hunk = state.hunk; start = state.start; position = p }) same
 
-pub read_at : (rows : List Row) (store : List ℕ) (state : BodyState) (position : Position) (fed : List ℕ) → position ≡ state.position → Reading rows store state [] fed →
-    Reading rows store (record { hunk = state.hunk; start = state.start; position = position }) [] fed
-read_at rows store state position fed same r = subst (λ (p : Position). Reading rows store (record { hunk = state.hunk; start = state.start; position = p }) [] fed) (sym same) r
+pub read_at : (rows : List Row) (store : List ℕ) (state : BodyState) (position : Position) (fed : List ℕ) → position ≡ state.position → StandsBehind rows store state [] fed →
+    StandsBehind rows store (record { hunk = state.hunk; start = state.start; position = position }) [] fed
+read_at rows store state position fed same r = subst (λ (p : Position). StandsBehind rows store (record { hunk = state.hunk; start = state.start; position = p }) [] fed) (sym same) r
 
 pub room_at : (sizes : List ℕ) (total : ℕ) (state : BodyState) (position : Position) → position ≡ state.position → IsInStore sizes total state →
     IsInStore sizes total (record { hunk = state.hunk; start = state.start; position = position })

@@ -8,7 +8,7 @@ use Rattle.hunk_files.specs.LoadFile.{TableEntry, IsTableEntry}
 use Rattle.hunk_files.specs.LoadText.{header_labelled, words}
 
 -- The table of some load file.
-pub record IsTable (table : List TableEntry) : Type 0 where
+pub record IsHeaderTable (table : List TableEntry) : Type 0 where
   pub some : 0 < length table
   pub most : length table ≤ most_hunks
   pub each : AllByRecursion IsTableEntry table
@@ -21,19 +21,19 @@ header_bytes table = bytes_of (header_words table)
 
 -- The bytes are the header of a table.
 abbrev pub IsHeader : List ℕ → Type 0
-IsHeader bytes = (table : List TableEntry) × IsTable table × (bytes ≡ header_bytes table)
+IsHeader bytes = (table : List TableEntry) × IsHeaderTable table × (bytes ≡ header_bytes table)
 
 -- A header begins with the bytes.
 pub record BeginsHeader (bytes : List ℕ) : Type 0 where
   pub table : List TableEntry
-  pub is_table : IsTable table
+  pub is_table : IsHeaderTable table
   pub more : List ℕ
   pub fits : header_bytes table ≡ bytes ++ more
 
 -- A header begins with the bytes, or they begin with one.
 pub record MayGoOnInHeader (bytes : List ℕ) : Type 0 where
   pub table : List TableEntry
-  pub is_table : IsTable table
+  pub is_table : IsHeaderTable table
   pub more : List ℕ
   pub fits : (header_bytes table ≡ bytes ++ more) ⊎ (bytes ≡ header_bytes table ++ more)
 

@@ -9,7 +9,7 @@ use Rattle.hunk_scan.specs.Roles.{Role as roles}
 use Rattle.hunk_files.specs.Fault.{Expects, HasRefusal}
 use Rattle.hunk_files.specs.Image.{declared_bytes}
 use Rattle.hunk_files.specs.LoadFile.{TableEntry}
-use Rattle.hunk_scatter.specs.HeaderBytes.{IsTable, header_bytes, BeginsHeader, entries_so_far}
+use Rattle.hunk_scatter.specs.HeaderBytes.{IsHeaderTable, header_bytes, BeginsHeader, entries_so_far}
 
 -- ---- the budget
 
@@ -44,7 +44,7 @@ pub record CompletesRow (bytes : List ℕ) (at : ℕ) : Type 0 where
   pub rest : List ℕ
   pub split : bytes ≡ front ++ rest
   pub ends : length front ≡ at + 4
-  pub begins : ((table : List TableEntry) (more : List ℕ) → IsTable table → header_bytes table ≡ front ++ more → length rest ≤ length more) → BeginsHeader bytes
+  pub begins : ((table : List TableEntry) (more : List ℕ) → IsHeaderTable table → header_bytes table ≡ front ++ more → length rest ≤ length more) → BeginsHeader bytes
 
 -- What the loader of a header answers: Budget where its table passes it, want of memory for a row, else the fault of the bytes.
 abbrev pub IsHeaderFaultBy : Reason → ℕ → List ℕ → ℕ → Type 0

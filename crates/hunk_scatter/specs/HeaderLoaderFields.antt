@@ -18,7 +18,7 @@ use Rattle.hunk_files.specs.ReaderPosition.{position_of, table_of}
 use Rattle.hunk_files.specs.WordsRead.{HasRead}
 use Rattle.hunk_scatter.specs.declared.header_state.HeaderState.{HeaderState}
 use Rattle.hunk_scatter.specs.LoaderReasons.{is_of_header}
-use Rattle.hunk_scatter.specs.HeaderBytes.{IsTable, header_bytes}
+use Rattle.hunk_scatter.specs.HeaderBytes.{IsHeaderTable, header_bytes}
 use Rattle.hunk_scatter.specs.HeaderFaults.{IsWithinBudget}
 use Rattle.hunk_scatter.specs.Rows.{entries_of, row_of}
 
@@ -50,7 +50,7 @@ pub record IsOver (budget : ℕ) (s : HeaderState) (w : ℕ) (reason : Reason) :
   pub reason_is : reason ≡ reasons.Budget
   pub passes : budget < s.total + declares s.position w
 
-pub record LacksMemory (budget : ℕ) (s : HeaderState) (w : ℕ) (reason : Reason) : Type 0 where
+pub record LacksRowMemory (budget : ℕ) (s : HeaderState) (w : ℕ) (reason : Reason) : Type 0 where
   pub reason_is : reason ≡ reasons.OutOfMemory
   pub accepted : refuse (role_at 0 s.position) w ≡ None
   pub within : s.total + declares s.position w ≤ budget
@@ -62,7 +62,7 @@ RefusesWord budget s w reason = (refuse (role_at 0 s.position) w ≡ Some reason
 
 -- The longword is refused by its own test, by the budget, or for want of memory.
 abbrev pub StopsFor : ℕ → HeaderState → ℕ → Reason → Type 0
-StopsFor budget s w reason = RefusesWord budget s w reason ⊎ LacksMemory budget s w reason
+StopsFor budget s w reason = RefusesWord budget s w reason ⊎ LacksRowMemory budget s w reason
 
 -- ---- the fields
 
@@ -95,7 +95,7 @@ pub record HeaderLoaderInvariant (budget : ℕ) (rows : List Row) (s : HeaderSta
 
 -- What is kept of a header that is whole.
 pub record DeclaredInvariant (rows : List Row) (total budget count : ℕ) (fed : List ℕ) : Type 0 where
-  pub is_table : IsTable (entries_of rows)
+  pub is_table : IsHeaderTable (entries_of rows)
   pub unplaced : rows ≡ map row_of (entries_of rows)
   pub total_is : total ≡ declared_bytes (entries_of rows)
   pub within : total ≤ budget

@@ -2,7 +2,7 @@
 use Rattle.std.specs.Prelude.{◌≡◌, ℕ, ◌+◌, ◌-◌, ◌*◌, ◌%◌, ◌≤◌, List, ◌++◌, length, get_or}
 use Rattle.hunk_words.specs.Longs.{longs}
 use Rattle.hunk_files.specs.LoadFile.{TableEntry}
-use Rattle.hunk_scatter.specs.HeaderBytes.{IsTable, header_words, entries_so_far}
+use Rattle.hunk_scatter.specs.HeaderBytes.{IsHeaderTable, header_words, entries_so_far}
 
 -- The rows that a header owes: as many as its third longword declares hunks, less those that are whole.
 abbrev pub rows_owed : List ℕ → ℕ
@@ -15,5 +15,5 @@ HasRowsToCome fed p = p + length fed % 4 ≡ 4 * rows_owed (longs fed)
 -- So many bytes are to come, where each header that begins with the longwords fed has so many longwords more at least.
 pub record HasHeaderToCome (fed : List ℕ) (p : ℕ) : Type 0 where
   pub owed : ℕ
-  pub least : (table : List TableEntry) (more : List ℕ) → IsTable table → header_words table ≡ longs fed ++ more → owed ≤ length more
+  pub least : (table : List TableEntry) (more : List ℕ) → IsHeaderTable table → header_words table ≡ longs fed ++ more → owed ≤ length more
   pub count : p + length fed % 4 ≡ 4 * owed

@@ -5,14 +5,14 @@ use Rattle.hunk_words.specs.declared.reason.Reason.TheVariants as reasons
 use Rattle.hunk_files.specs.Fault.{HasRefusal, IsTruncated}
 use Rattle.hunk_files.specs.Image.{declared_bytes}
 use Rattle.hunk_files.specs.LoadFile.{TableEntry}
-use Rattle.hunk_scatter.specs.HeaderBytes.{IsTable, header_bytes}
+use Rattle.hunk_scatter.specs.HeaderBytes.{IsHeaderTable, header_bytes}
 use Rattle.hunk_scatter.specs.HeaderFaults.{PassesBudget}
 use Rattle.hunk_scatter.specs.declared.header_size.HeaderSize.{HeaderSize}
 
 -- The bytes begin with a header of this size, whose table keeps to the budget.
 pub record HasHeaderSize (budget : ℕ) (bytes : List ℕ) (size : HeaderSize) : Type 0 where
   pub table : List TableEntry
-  pub is_table : IsTable table
+  pub is_table : IsHeaderTable table
   pub rest : List ℕ
   pub split : bytes ≡ header_bytes table ++ rest
   pub hunks_are : size.hunks ≡ length table
@@ -22,7 +22,7 @@ pub record HasHeaderSize (budget : ℕ) (bytes : List ℕ) (size : HeaderSize) :
 
 -- The bytes begin with the header of some table.
 abbrev pub HasHeaderInFront : List ℕ → Type 0
-HasHeaderInFront bytes = (table : List TableEntry) × (rest : List ℕ) × IsTable table × (bytes ≡ header_bytes table ++ rest)
+HasHeaderInFront bytes = (table : List TableEntry) × (rest : List ℕ) × IsHeaderTable table × (bytes ≡ header_bytes table ++ rest)
 
 -- Why a header is refused: a longword is, or with one the declared bytes first pass the budget, or the bytes end before that.
 abbrev pub RefusesHeader : ℕ → List ℕ → Fault → Type 0

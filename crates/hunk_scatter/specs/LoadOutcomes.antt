@@ -10,7 +10,7 @@ use Rattle.hunk_files.specs.Image.{declared_bytes, image}
 use Rattle.hunk_files.specs.LoadFile.{TableEntry, LoadFileValue, IsLoadFile}
 use Rattle.hunk_files.specs.LoadText.{table, text}
 use Rattle.hunk_scatter.specs.LoaderReasons.{is_of_header, is_of_body}
-use Rattle.hunk_scatter.specs.HeaderBytes.{IsTable, header_bytes, BeginsHeader}
+use Rattle.hunk_scatter.specs.HeaderBytes.{IsHeaderTable, header_bytes, BeginsHeader}
 use Rattle.hunk_scatter.specs.HeaderFaults.{CompletesRow, PassesBudget, IsOverBudget, IsHeaderFault}
 use Rattle.hunk_scatter.specs.LoaderValues.{ImageValue, HasNoRefusal}
 use Rattle.hunk_scatter.specs.Placing.{Placing, base_at, AreBases, HasBases, IsFirstUnplaced, IsUnplacedFor}
@@ -42,7 +42,7 @@ StopsBehindFile old new = (v : LoadFileValue) (rest : List ℕ) → IsLoadFile v
 -- Where the header of a table was in front that can't be placed, all that was behind it is.
 abbrev pub StopsBehindHeader : Placing → ℕ → Option (List ℕ) → Option (List ℕ) → Type 0
 StopsBehindHeader base budget old new =
-    (t : List TableEntry) (rest : List ℕ) → IsTable t → old ≡ Some (header_bytes t ++ rest) → IsNotPlaced base budget t → KeepsRest new rest
+    (t : List TableEntry) (rest : List ℕ) → IsHeaderTable t → old ≡ Some (header_bytes t ++ rest) → IsNotPlaced base budget t → KeepsRest new rest
 
 -- A load file is in front that keeps to the limits, and each of its hunks is given a base.
 pub record HasFileWithin (base : Placing) (limits : Limits) (left : Option (List ℕ)) : Type 0 where
@@ -78,7 +78,7 @@ pub record IsShort (budget : ℕ) (bytes : List ℕ) : Type 0 where
 
 -- The bytes are the header of a table that keeps to the budget.
 pub record IsHeaderWithin (budget : ℕ) (bytes : List ℕ) (table : List TableEntry) : Type 0 where
-  pub is_table : IsTable table
+  pub is_table : IsHeaderTable table
   pub header : bytes ≡ header_bytes table
   pub within : declared_bytes table ≤ budget
 
@@ -104,7 +104,7 @@ IsLoadFault base budget limit left failed given f = IsLoadFaultBy f.reason base 
 
 -- No header is in front of more.
 abbrev pub IsWithinHeader : List ℕ → Type 0
-IsWithinHeader bytes = (table : List TableEntry) (more : List ℕ) → IsTable table → bytes ≡ header_bytes table ++ more → more ≡ []
+IsWithinHeader bytes = (table : List TableEntry) (more : List ℕ) → IsHeaderTable table → bytes ≡ header_bytes table ++ more → more ≡ []
 
 -- No load text is in front of more.
 abbrev pub IsWithinFile : List ℕ → Type 0
@@ -144,7 +144,7 @@ IsBodyStop limit left failed bytes f = StopsInBody bytes f ⊎ StopsShort limit 
 -- Whichever header is in front of more keeps to the budget, and each of its hunks has a base.
 abbrev pub KeepsToHeader : Placing → ℕ → List ℕ → Type 0
 KeepsToHeader base budget bytes =
-    (table : List TableEntry) (more : List ℕ) → IsTable table → bytes ≡ header_bytes table ++ more → (more ≡ []) ⊎ ((declared_bytes table ≤ budget) × HasBases base table)
+    (table : List TableEntry) (more : List ℕ) → IsHeaderTable table → bytes ≡ header_bytes table ++ more → (more ≡ []) ⊎ ((declared_bytes table ≤ budget) × HasBases base table)
 
 -- A load stops in the header, between header and body, or in the body.
 pub data LoadStop (base : Placing) (budget limit : ℕ) (left : Option (List ℕ)) (failed : Bool) (given : List ℕ) (f : Fault) : Type 0 where

@@ -42,16 +42,16 @@ FeedsFront before piece after n = (n ≤ length piece) × (after ≡ before ++ t
 -- ---- files
 
 -- The bytes are a load file with the table of these rows.
-pub record IsFileOf (rows : List Row) (bytes : List ℕ) (v : LoadFileValue) : Type 0 where
+pub record IsFileWithRows (rows : List Row) (bytes : List ℕ) (v : LoadFileValue) : Type 0 where
   pub is_load_file : IsLoadFile v
   pub bytes_are : bytes_of (text v) ≡ bytes
   pub table_is : table v ≡ entries_of rows
 
 abbrev pub IsWholeFile : List Row → List ℕ → Type 0
-IsWholeFile rows bytes = (v : LoadFileValue) × IsFileOf rows bytes v
+IsWholeFile rows bytes = (v : LoadFileValue) × IsFileWithRows rows bytes v
 
 -- A load file begins with the bytes, or they begin with one.
-pub record MayGoOn (bytes : List ℕ) : Type 0 where
+pub record MayGoOnInFile (bytes : List ℕ) : Type 0 where
   pub value : LoadFileValue
   pub is_load_file : IsLoadFile value
   pub more : List ℕ
@@ -64,9 +64,9 @@ HasNoRefusal bytes = (at : ℕ) (reason : Reason) → HasRefusal bytes at reason
 -- ---- images
 
 -- the store cut into segments of these sizes
-abbrev pub cut : List ℕ → List ℕ → List (List ℕ)
-cut [] store = []
-cut (size ∷ sizes) store = take (4 * size_longs size) store ∷ cut sizes (drop (4 * size_longs size) store)
+abbrev pub segments_in : List ℕ → List ℕ → List (List ℕ)
+segments_in [] store = []
+segments_in (size ∷ sizes) store = take (4 * size_longs size) store ∷ segments_in sizes (drop (4 * size_longs size) store)
 
 -- the segments, one right behind the other
 abbrev pub joined : List (List ℕ) → List ℕ
@@ -75,7 +75,7 @@ joined segments = flat_map (λ segment. segment) segments
 -- The bytes are a load file with these rows, and the segments are the images of its hunks at the rows' bases.
 pub record IsImageOf (rows : List Row) (bytes : List ℕ) (segments : List (List ℕ)) : Type 0 where
   pub value : LoadFileValue
-  pub file : IsFileOf rows bytes value
+  pub file : IsFileWithRows rows bytes value
   pub images_are : segments ≡ map (image (bases_of rows)) value
 
 -- The rows and segments before a step from the front, the first of them, and those after it. After the last there is none.

@@ -3,7 +3,7 @@ use Rattle.std.specs.Prelude.{◌≡◌, ℕ, ◌+◌, ◌-◌, ◌*◌, ◌≤�
 use Rattle.std.specs.List.{flat_map, AllByRecursion}
 use Rattle.std.specs.Int.{w32, to_be_bytes}
 use Rattle.hunk_words.specs.Bits.{size_longs}
-use Rattle.hunk_files.specs.Image.{add_at, image, block_content, block_relocations}
+use Rattle.hunk_files.specs.Image.{add_at, image, images, block_content, block_relocations}
 use Rattle.hunk_files.specs.LoadFile.{TableEntry, HunkValue}
 use Rattle.hunk_blocks.specs.BlockSteps.{BlockNext, Open, Whole}
 use Rattle.hunk_blocks.specs.Values.{End}
@@ -19,15 +19,12 @@ use Rattle.hunk_scatter.specs.declared.body_state.BodyState.{BodyState}
 abbrev pub zeros : List TableEntry → List ℕ
 zeros table = flat_map (λ e. replicate (4 * size_longs e.word) 0) table
 
-abbrev pub IsSized : List ℕ → HunkValue → Type 0
-IsSized bases h = length (image bases h) ≡ 4 * size_longs h.entry.word
-
-abbrev pub images : List ℕ → List HunkValue → List ℕ
-images bases hunks = flat_map (image bases) hunks
+abbrev pub HasSizedImage : List ℕ → HunkValue → Type 0
+HasSizedImage bases h = length (image bases h) ≡ 4 * size_longs h.entry.word
 
 -- The images of the whole hunks, the open segment so far, and zero bytes.
 pub record Holds (bases : List ℕ) (o : OpenHunk) (n : BlockNext) (store : List ℕ) : Type 0 where
-  pub front : AllByRecursion (IsSized bases) o.finished
+  pub front : AllByRecursion (HasSizedImage bases) o.finished
   pub segment : length (segment_so_far bases o n) ≡ 4 * size_longs o.entry.word
   pub unplaced : o.has_content ≡ false → (flat_map (λ b. block_content b.body) o.blocks ≡ []) × (flat_map (λ b. block_relocations b.body) o.blocks ≡ [])
   pub store_is : store ≡ images bases o.finished ++ (segment_so_far bases o n ++ zeros o.ahead)
@@ -35,7 +32,7 @@ pub record Holds (bases : List ℕ) (o : OpenHunk) (n : BlockNext) (store : List
 abbrev pub StoreHolds : List ℕ → Next → List ℕ → Type 0
 StoreHolds bases (More (AtBlock o)) store = Holds bases o (Whole End) store
 StoreHolds bases (More (InBody o word x)) store = Holds bases o (Open x) store
-StoreHolds bases (Finished v) store = AllByRecursion (IsSized bases) v × (store ≡ images bases v)
+StoreHolds bases (Finished v) store = AllByRecursion (HasSizedImage bases) v × (store ≡ images bases v)
 StoreHolds bases _ store = ⊥
 
 -- four bytes at the offset are replaced
@@ -48,8 +45,8 @@ stored_in bases start (positions.Body o (phases.Content longs owed)) w store = p
 stored_in bases start (positions.Body o (phases.Offset target owed)) w store = add_at store (start + w) (get_or bases target 0)
 stored_in bases start _ w store = store
 
-abbrev pub stored : List ℕ → BodyState → ℕ → List ℕ → List ℕ
-stored bases s w store = stored_in bases s.start s.position w store
+abbrev pub stored_long : List ℕ → BodyState → ℕ → List ℕ → List ℕ
+stored_long bases s w store = stored_in bases s.start s.position w store
 
 -- so many bytes at the offset are replaced
 abbrev pub put_slice : List ℕ → ℕ → List ℕ → List ℕ
@@ -64,16 +61,16 @@ abbrev pub stored_run : BodyState → List ℕ → List ℕ → List ℕ
 stored_run s bytes store = stored_run_in s.start s.position bytes store
 
 -- the base is added at each offset
-abbrev pub added : ℕ → ℕ → List ℕ → List ℕ → List ℕ
-added start base [] store = store
-added start base (w ∷ ws) store = added start base ws (add_at store (start + w) base)
+abbrev pub added_at_each : ℕ → ℕ → List ℕ → List ℕ → List ℕ
+added_at_each start base [] store = store
+added_at_each start base (w ∷ ws) store = added_at_each start base ws (add_at store (start + w) base)
 
 -- Offsets of a list were taken, none of them refused; one at least is still owed.
 abbrev pub TakesOffsetsAt : List ℕ → List ℕ → ℕ → ℕ → Position → List ℕ → List ℕ → BodyState → List ℕ → Type 0
 TakesOffsetsAt sizes bases hunk start (positions.Body o (phases.Offset target owed)) ws store state2 store2 =
     (length ws ≤ owed) × AllByRecursion (EndsWithin (4 * longs_at sizes hunk)) ws
     × (state2 ≡ record { hunk = hunk; start = start; position = positions.Body o (phases.Offset target (owed - length ws)) })
-    × (store2 ≡ added start (get_or bases target 0) ws store)
+    × (store2 ≡ added_at_each start (get_or bases target 0) ws store)
 TakesOffsetsAt sizes bases hunk start _ ws store state2 store2 = ⊥
 
 abbrev pub TakesOffsets : List ℕ → List ℕ → BodyState → List ℕ → List ℕ → BodyState → List ℕ → Type 0

@@ -4,8 +4,8 @@ use Rattle.hunk_files.specs.Fault.{HasRefusal, IsTruncated}
 use Rattle.hunk_files.specs.Image.{declared_bytes}
 use Rattle.hunk_files.specs.declared.row.Row.{Row}
 use Rattle.hunk_scatter.specs.BodyLoaderFields.{BodyLoaderInvariant}
-use Rattle.hunk_scatter.specs.HeaderBytes.{IsTable, header_bytes}
-use Rattle.hunk_scatter.specs.LoaderValues.{IsImageOf, HasNoRefusal, cut}
+use Rattle.hunk_scatter.specs.HeaderBytes.{IsHeaderTable, header_bytes}
+use Rattle.hunk_scatter.specs.LoaderValues.{IsImageOf, HasNoRefusal, segments_in}
 use Rattle.hunk_scatter.specs.PendingBytes.{pending_of}
 use Rattle.hunk_scatter.specs.Rows.{entries_of, words_of}
 use Rattle.hunk_scatter.specs.declared.stream.Standing.{Standing}
@@ -34,9 +34,9 @@ pub record CountsTaken (at : Standing) (piece : List ℕ) (to : Standing) (n : �
 -- Where the rows are those of a table, its header has so many bytes, and it declares as many as there is room for: behind that header a loader stands so.
 abbrev pub BeginsLoading : List Row → ℕ → ℕ → List ℕ → Standing → Type 0
 BeginsLoading rows header room store s =
-    IsTable (entries_of rows) → header ≡ length (header_bytes (entries_of rows)) → room ≡ declared_bytes (entries_of rows) → IsFed rows store s (header_bytes (entries_of rows))
+    IsHeaderTable (entries_of rows) → header ≡ length (header_bytes (entries_of rows)) → room ≡ declared_bytes (entries_of rows) → IsFed rows store s (header_bytes (entries_of rows))
 
 -- Where a loader stands so behind bytes: the file is whole, and the store is its segments; or the bytes are cut short, and none of them is refused.
 abbrev pub EndsLoading : Standing → Bool → Type 0
-EndsLoading s true = (rows : List Row) (store fed : List ℕ) → IsFed rows store s fed → IsImageOf rows fed (cut (words_of rows) store)
+EndsLoading s true = (rows : List Row) (store fed : List ℕ) → IsFed rows store s fed → IsImageOf rows fed (segments_in (words_of rows) store)
 EndsLoading s false = (rows : List Row) (store fed : List ℕ) → IsFed rows store s fed → HasNoRefusal fed × IsTruncated fed (4 * (length fed / 4))

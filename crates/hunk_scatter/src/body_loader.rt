@@ -9,7 +9,8 @@ ghost use Rattle.hunk_files.specs.Image.{declared_bytes};
 ghost use Rattle.hunk_files.specs.LoadFile.{LoadFileValue, IsLoadFile};
 ghost use Rattle.hunk_files.specs.LoadText.{text};
 ghost use Rattle.hunk_scatter.specs.LoaderReasons.{is_of_body};
-ghost use Rattle.hunk_scatter.specs.LoaderValues.{FeedsFront, HasNoRefusal, IsImageOf, IsWholeFile, MayGoOn};
+ghost use Rattle.hunk_scatter.specs.LoaderValues.{FeedsFront, HasNoRefusal, IsImageOf, IsWholeFile};
+ghost use Rattle.hunk_scatter.specs.LoaderValues.{MayGoOnInFile};
 ghost use Rattle.hunk_scatter.specs.BodyLoaderFields.{RefusesOf};
 ghost use Rattle.hunk_scatter.specs.LoadOutcomes.{IsWithinFile, StopsInBody};
 ghost use Rattle.hunk_scatter.specs.Owing.{HasToCome};
@@ -45,7 +46,11 @@ impl Model for BodyLoader {
 
     ghost Value = { BodyLoaderValue };
 
-    ghost view = { λ s. record { fed = s.history.bytes; rows = s.rows.items; refused = s.refused } };
+    ghost view = { λ s. record {
+      fed = s.history.bytes;
+      rows = s.rows.items;
+      refused = s.refused;
+    } };
 
     ghost invariant = { λ s. BodyLoaderInvariant s.rows.items s.store.items s.state s.assembler
         s.count s.refused s.history.bytes };
@@ -314,7 +319,7 @@ impl BodyLoader {
         // Refusals.
         ensures refusal { self.old.refused ≡ None
             → IfErr result (λ f. HasRefusal (self.old.fed ++ piece.now) f.place f.reason) }
-        ensures accepts { self.old.refused ≡ None → MayGoOn (self.old.fed ++ piece.now)
+        ensures accepts { self.old.refused ≡ None → MayGoOnInFile (self.old.fed ++ piece.now)
             → IsOk result }
         ensures own_reasons { IfErr result (λ f. IsTrue (is_of_body f.reason)) }
 

@@ -39,7 +39,8 @@ impl Model for Declared {
 
     ghost view = { λ s. record { table = entries_of s.rows.items; budget = s.budget } };
 
-    ghost invariant = { λ s. DeclaredInvariant s.rows.items s.total s.budget s.count s.history.bytes };
+    ghost invariant = { λ s. DeclaredInvariant s.rows.items s.total s.budget s.count
+        s.history.bytes };
 }
 
 /// A table that could not be placed, and why.

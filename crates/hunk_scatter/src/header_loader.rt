@@ -9,8 +9,10 @@ ghost use Rattle.hunk_files.specs.Fault.{IsTruncated};
 ghost use Rattle.hunk_files.specs.Image.{declared_bytes};
 ghost use Rattle.hunk_files.specs.LoadFile.{TableEntry};
 ghost use Rattle.hunk_scatter.specs.LoaderReasons.{is_of_header};
-ghost use Rattle.hunk_scatter.specs.HeaderBytes.{IsTable, header_bytes, IsHeader, MayGoOnInHeader, entries_so_far};
-ghost use Rattle.hunk_scatter.specs.HeaderFaults.{PassesBudget, IsOverBudget, IsBudgetOrMemory, IsHeaderFault};
+ghost use Rattle.hunk_scatter.specs.HeaderBytes.{IsHeaderTable, header_bytes, IsHeader};
+ghost use Rattle.hunk_scatter.specs.HeaderBytes.{MayGoOnInHeader, entries_so_far};
+ghost use Rattle.hunk_scatter.specs.HeaderFaults.{PassesBudget, IsOverBudget, IsBudgetOrMemory};
+ghost use Rattle.hunk_scatter.specs.HeaderFaults.{IsHeaderFault};
 ghost use Rattle.hunk_scatter.specs.HeaderLoaderFields.{StopsInPiece};
 ghost use Rattle.hunk_scatter.specs.HeaderOwing.{HasRowsToCome, HasHeaderToCome};
 ghost use Rattle.hunk_scatter.specs.LoaderValues.{FeedsFront, HasNoRefusal};
@@ -125,7 +127,7 @@ impl HeaderLoader {
     /// where the input ends here, it is truncated.
     pub fn want(&self) -> usize
         ensures bound { result ≤ 256 }
-        ensures least { (table : List TableEntry) (more : List ℕ) → IsTable table
+        ensures least { (table : List TableEntry) (more : List ℕ) → IsHeaderTable table
             → header_bytes table ≡ self.now.fed ++ more → result ≤ length more }
         ensures to_come { self.now.refused ≡ None → (p : ℕ) → HasHeaderToCome self.now.fed p
             → (p ≤ result) ⊎ (256 ≤ result) }
@@ -260,7 +262,8 @@ impl HeaderLoader {
     ///
     /// The loader as it was, where the header is not whole or a piece was rejected.
     pub fn declared(self) -> Result<Declared, HeaderLoader>
-        ensures table { IfOk result (λ d. IsTable d.table × (self.fed ≡ header_bytes d.table)) }
+        ensures table { IfOk result
+            (λ d. IsHeaderTable d.table × (self.fed ≡ header_bytes d.table)) }
         ensures budget { IfOk result (λ d. d.budget ≡ self.budget) }
         ensures within { IfOk result (λ d. declared_bytes d.table ≤ self.budget) }
         ensures reading { OnOk result (self.refused ≡ None) }

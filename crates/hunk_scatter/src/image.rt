@@ -1,8 +1,9 @@
 //! A load file in memory.
-ghost use Rattle.std.specs.Prelude.{◌≡◌, ◌+◌, ◌*◌, ◌<◌, ◌≤◌, length, slice_get, slice_index, sum_by, Some};
+ghost use Rattle.std.specs.Prelude.{◌≡◌, ◌+◌, ◌*◌, ◌<◌, ◌≤◌, length, slice_get};
+ghost use Rattle.std.specs.Prelude.{slice_index, sum_by, Some};
 ghost use Rattle.hunk_words.specs.Limits.{most_hunks};
 ghost use Rattle.hunk_files.specs.Image.{declared_bytes};
-ghost use Rattle.hunk_scatter.specs.LoaderValues.{cut, joined};
+ghost use Rattle.hunk_scatter.specs.LoaderValues.{segments_in, joined};
 ghost use Rattle.hunk_scatter.specs.Rows.{AreStarts, entries_of, words_of, bases_of};
 
 use crate::segments::Segments;
@@ -31,12 +32,15 @@ impl Model for Image {
     ghost use Rattle.hunk_words.specs.Limits.{most_hunks};
     ghost use Rattle.std.specs.Prelude.{◌≡◌, ◌≤◌, length};
     ghost use Rattle.hunk_files.specs.Image.{declared_bytes};
-    ghost use Rattle.hunk_scatter.specs.LoaderValues.{ImageValue, cut};
+    ghost use Rattle.hunk_scatter.specs.LoaderValues.{ImageValue, segments_in};
     ghost use Rattle.hunk_scatter.specs.Rows.{AreStarts, entries_of, words_of};
 
     ghost Value = { ImageValue };
 
-    ghost view = { λ s. record { rows = s.rows.items; segments = cut (words_of s.rows.items) s.store.items } };
+    ghost view = { λ s. record {
+      rows = s.rows.items;
+      segments = segments_in (words_of s.rows.items) s.store.items;
+    } };
 
     ghost invariant = { λ s. (length s.store.items ≡ declared_bytes (entries_of s.rows.items))
         × (length s.rows.items ≤ most_hunks)
@@ -79,7 +83,7 @@ fn segment_of<'a>(rows: &[Row], starts: &[u64], store: &'a [u8], i: usize) -> &'
     requires few { length rows.now ≤ most_hunks }
     requires starts { AreStarts rows.now starts.now }
     requires size { length store.now ≡ declared_bytes (entries_of rows.now) }
-    ensures { slice_get (cut (words_of rows.now) store.entry.now) i ≡ Some result.now }
+    ensures { slice_get (segments_in (words_of rows.now) store.entry.now) i ≡ Some result.now }
 {
     let k = i / HUNKS_A_START;
     let first = k * HUNKS_A_START;

@@ -10,7 +10,7 @@ ghost use Rattle.hunk_files.specs.Image.{declared_bytes};
 ghost use Rattle.hunk_files.specs.LoadFile.{TableEntry, LoadFileValue, IsLoadFile};
 ghost use Rattle.hunk_files.specs.LoadText.{table, text};
 ghost use Rattle.hunk_scatter.specs.LoaderReasons.{is_of_file, is_of_load};
-ghost use Rattle.hunk_scatter.specs.HeaderBytes.{IsTable, header_bytes};
+ghost use Rattle.hunk_scatter.specs.HeaderBytes.{IsHeaderTable, header_bytes};
 ghost use Rattle.hunk_scatter.specs.HeaderFaults.{PassesBudget, IsOverBudget};
 ghost use Rattle.hunk_scatter.specs.LoaderValues.{IsImageOf};
 ghost use Rattle.hunk_scatter.specs.LoadOutcomes.{Gives, GivesAtMost, HasFileWithin, IsBodyStop};
@@ -81,7 +81,7 @@ fn load_header<R: Source>(
     ensures ends { (given : List ℕ) × Gives (R.left r.old) (R.left r.new) limits.file_bytes given
         × IsWithinHeader given
         × MatchResult result
-        (λ declared. IsTable declared.table × (given ≡ header_bytes declared.table)
+        (λ declared. IsHeaderTable declared.table × (given ≡ header_bytes declared.table)
         × (declared_bytes declared.table ≤ limits.budget))
         (IsHeaderStop limits.budget limits.file_bytes (R.left r.new) (R.failed r.new) given) }
     ensures read { TellsFailure (R.failed r.old) (R.failed r.new) result }
@@ -156,7 +156,8 @@ fn load_placed<R: Source, P: Placer>(
 ) -> Result<Image, LoadFault>
     ensures ends { (given : List ℕ) × Gives (R.left r.old) (R.left r.new) limits.file_bytes given
         × IsWithinFile given × KeepsToHeader (P.base p.now) limits.budget given
-        × LoadEnds (P.base p.now) limits.budget limits.file_bytes (R.left r.new) (R.failed r.new) given result }
+        × LoadEnds (P.base p.now) limits.budget limits.file_bytes
+        (R.left r.new) (R.failed r.new) given result }
     ensures read { TellsFailure (R.failed r.old) (R.failed r.new) result }
 {
     let mut buf = [0u8; 256];
@@ -229,7 +230,8 @@ pub fn load<R: Source, P: Placer>(
         → IfErr result (λ f. IsTrue (is_of_file f.reason) → HasFault input f.place f.reason) }
     ensures fault { IfErr result
         (λ f. (given : List ℕ) × Gives (R.left r.old) (R.left r.new) limits.file_bytes given
-        × IsLoadFault (P.base p.now) limits.budget limits.file_bytes (R.left r.new) (R.failed r.new) given f) }
+        × IsLoadFault (P.base p.now) limits.budget limits.file_bytes
+        (R.left r.new) (R.failed r.new) given f) }
     ensures own_reasons { IfErr result (λ f. IsTrue (is_of_load f.reason)) }
 
     // A read that fails ends the load.

@@ -6,7 +6,7 @@ ghost use Rattle.hunk_files.specs.Fault.{HasRefusal};
 ghost use Rattle.hunk_files.specs.Image.{declared_bytes};
 ghost use Rattle.hunk_scan.specs.Positions.{is_done};
 ghost use Rattle.hunk_scan.specs.declared.position.Position.TheVariants as positions;
-ghost use Rattle.hunk_scatter.specs.BodyLoaderFields.{Reading, RefusesFront, TakesFront};
+ghost use Rattle.hunk_scatter.specs.BodyLoaderFields.{StandsBehind, RefusesFront, TakesFront};
 ghost use Rattle.hunk_scatter.specs.BodySteps.{IsInStore};
 ghost use Rattle.hunk_scatter.specs.LoaderReasons.{is_of_body};
 ghost use Rattle.hunk_scatter.specs.Rows.{entries_of, words_of};
@@ -181,11 +181,12 @@ pub(crate) fn take_longwords(
     piece: &[u8],
 ) -> (usize, Option<Reason>)
     requires size { length store.old ≡ declared_bytes (entries_of rows.now) }
-    requires reading { Reading rows.now store.old state.old [] history.now.bytes }
+    requires reading { StandsBehind rows.now store.old state.old [] history.now.bytes }
     requires room { length history.now.bytes + length piece.now < 2 ^ 64 }
     ensures inside { result.0 ≤ length piece.now }
     ensures reading { IfNone result.1
-        (Reading rows.now store.new state.new [] (history.now.bytes ++ take result.0 piece.now)) }
+        (StandsBehind rows.now store.new state.new []
+        (history.now.bytes ++ take result.0 piece.now)) }
     ensures refusal { IfSome result.1
         (λ r. HasRefusal (history.now.bytes ++ piece.now) (length history.now.bytes + result.0) r) }
     ensures own_reasons { IfSome result.1 (λ r. IsTrue (is_of_body r)) }

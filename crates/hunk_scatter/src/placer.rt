@@ -61,7 +61,8 @@ pub(crate) fn place_rows<P: Placer>(rows: &mut [Row], placer: &P) -> Result<(), 
     requires few { length rows.old ≤ most_hunks }
     requires unplaced { rows.old ≡ map row_of (entries_of rows.old) }
     ensures entries { entries_of rows.new ≡ entries_of rows.old }
-    ensures given { OnOk result (AreBases (P.base placer.now) (entries_of rows.old) (bases_of rows.new)) }
+    ensures given { OnOk result
+        (AreBases (P.base placer.now) (entries_of rows.old) (bases_of rows.new)) }
     ensures missing { IfErr result (IsFirstUnplaced (P.base placer.now) (entries_of rows.old)) }
 {
     let mut before = 0;

@@ -18,12 +18,15 @@ pub struct Segments<'a> {
 impl<'a> Model for Segments<'a> {
     ghost use Rattle.std.specs.Prelude.{◌≡◌, length};
     ghost use Rattle.hunk_files.specs.Image.{declared_bytes};
-    ghost use Rattle.hunk_scatter.specs.LoaderValues.{ImageValue, cut};
+    ghost use Rattle.hunk_scatter.specs.LoaderValues.{ImageValue, segments_in};
     ghost use Rattle.hunk_scatter.specs.Rows.{entries_of, words_of};
 
     ghost Value = { ImageValue };
 
-    ghost view = { λ s. record { rows = s.rows.now; segments = cut (words_of s.rows.now) s.rest.now } };
+    ghost view = { λ s. record {
+      rows = s.rows.now;
+      segments = segments_in (words_of s.rows.now) s.rest.now;
+    } };
 
     ghost invariant = { λ s. length s.rest.now ≡ declared_bytes (entries_of s.rows.now) };
 }

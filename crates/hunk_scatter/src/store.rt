@@ -7,7 +7,8 @@ ghost use Rattle.hunk_words.specs.Longs.{Gathers, longs};
 ghost use Rattle.std.specs.List.{AllByRecursion};
 ghost use Rattle.std.specs.Int.{w32, to_be_bytes};
 ghost use Rattle.hunk_files.specs.Image.{add_at};
-ghost use Rattle.hunk_scatter.specs.StoreContent.{put_at, put_slice, stored, stored_run, added, TakesOffsets};
+ghost use Rattle.hunk_scatter.specs.StoreContent.{put_at, put_slice, stored_long, stored_run};
+ghost use Rattle.hunk_scatter.specs.StoreContent.{added_at_each, TakesOffsets};
 ghost use Rattle.hunk_scatter.specs.BodySteps.{step_body, pass_body, refusal, IsInStore};
 ghost use Rattle.hunk_scan.specs.Positions.{run, EndsWithin};
 ghost use Rattle.hunk_scatter.specs.Rows.{words_of, bases_of};
@@ -56,7 +57,7 @@ pub(crate) fn base_of(rows: &[Row], hunk: u32) -> u32
 pub(crate) fn store_word(store: &mut [u8], rows: &[Row], state: BodyState, word: u32)
     requires room { IsInStore (words_of rows.now) (length store.old) state }
     requires passes { refusal (words_of rows.now) state word ≡ None }
-    ensures { store.new ≡ stored (bases_of rows.now) state word store.old }
+    ensures { store.new ≡ stored_long (bases_of rows.now) state word store.old }
 {
     match state.position {
         Position::Body(_, Phase::Content { longs, owed }) => {
@@ -83,7 +84,8 @@ pub(crate) fn take_word(
 ) -> Result<BodyState, Reason>
     requires { IsInStore (words_of rows.now) (length store.old) state }
     ensures steps { IfOk result (λ s. s ≡ step_body (words_of rows.now) state word) }
-    ensures stores { OnOk result (store.new ≡ stored (bases_of rows.now) state word store.old) }
+    ensures stores { OnOk result
+        (store.new ≡ stored_long (bases_of rows.now) state word store.old) }
     ensures passes { OnOk result (refusal (words_of rows.now) state word ≡ None) }
     ensures refusal { IfErr result (λ r. refusal (words_of rows.now) state word ≡ Some r) }
     ensures own_reasons { IfErr result (λ r. IsTrue (is_of_body r)) }
@@ -162,7 +164,8 @@ pub(crate) fn add_all(
     requires offsets { 4 * most ≤ length offsets.now }
     ensures count { result ≤ most }
     ensures inside { AllByRecursion (EndsWithin (4 * declared)) (take result (longs offsets.now)) }
-    ensures adds { store.new ≡ added start base (take result (longs offsets.now)) store.old }
+    ensures adds { store.new
+        ≡ added_at_each start base (take result (longs offsets.now)) store.old }
 {
     let mut taken = 0;
     while taken < most {

@@ -10,7 +10,8 @@ ghost use Rattle.hunk_scan.specs.Positions.{is_done};
 ghost use Rattle.hunk_scan.specs.declared.position.Position.TheVariants as positions;
 ghost use Rattle.hunk_scatter.specs.BodySteps.{IsInStore, RoomIn};
 ghost use Rattle.hunk_scatter.specs.Rows.{words_of};
-ghost use Rattle.hunk_scatter.specs.Streaming.{BeginsLoading, CountsTaken, EndsLoading, IsFed, StopsAt, TakesOn};
+ghost use Rattle.hunk_scatter.specs.Streaming.{BeginsLoading, CountsTaken, EndsLoading, IsFed};
+ghost use Rattle.hunk_scatter.specs.Streaming.{StopsAt, TakesOn};
 
 pub use crate::body_state::BodyState;
 use crate::body_state::longs_of;
@@ -197,9 +198,9 @@ fn take_some(
 /// - `Refused` where a longword is rejected. Where the numbers are a loader's, it is the first
 ///   fault of all that was fed, this piece included, at the first byte of its longword, from the
 ///   start of the file.
-/// - `Strange` where the numbers are found to be no loader's, since they lead out of the rows or the
-///   store, or where the bytes fed would be 2^64 or more. For fewer bytes, the numbers of a loader
-///   are never answered so.
+/// - `Strange` where the numbers are found to be no loader's, since they lead out of the rows or
+///   the store, or where the bytes fed would be 2^64 or more. For fewer bytes, the numbers of a
+///   loader are never answered so.
 ///
 /// What the store has after an `Err` is not said.
 pub fn take_piece(

@@ -1,6 +1,6 @@
 use Rattle.std.proofs.Common.{◌≡◌, ℕ, ◌∙◌, List, [], true, false, ap, refl, subst, sym}
 use Rattle.hunk_scan.specs.Positions.{is_done}
-use Rattle.hunk_scatter.specs.BodyLoaderFields.{Reading}
+use Rattle.hunk_scatter.specs.BodyLoaderFields.{StandsBehind}
 use Rattle.hunk_scatter.proofs.WholeLongs.{in_store, leaves_rest, refused_behind}
 use Rattle.hunk_scatter.proofs.longwords.take_longwords.Goals as goal
 
@@ -14,7 +14,7 @@ longwords-preserved c =
     record {
       leaves = leaves_rest _ _ _ _ _ _ c.in-Ok.count i.leaves c.in-Ok.ensures.takes.inside fed refl;
       size = c.take_front.auto.store ∙ i.size;
-      reading = subst (λ (bs : List ℕ). Reading c.args.rows.now c.take_front.new.store c.take_front.new.state [] bs) (sym fed) (c.in-Ok.ensures.takes.reads c.longwords.history.bytes i.reading);
+      reading = subst (λ (bs : List ℕ). StandsBehind c.args.rows.now c.take_front.new.store c.take_front.new.state [] bs) (sym fed) (c.in-Ok.ensures.takes.reads c.longwords.history.bytes i.reading);
       whole = λ done. absurd (let clash : true ≡ false = sym (i.whole done).1 ∙ ap is_done c.in-Body.is in cc);
     }
 

@@ -2,7 +2,7 @@ use Rattle.std.proofs.Common.{[], length, sym, subst, arith, ◌∙◌}
 use Rattle.hunk_scatter.specs.BodySteps.{IsInStore}
 use Rattle.hunk_scatter.specs.Rows.{words_of}
 use Rattle.hunk_scatter.specs.declared.body_state.BodyState.{BodyState}
-use Rattle.hunk_scatter.specs.BodyLoaderFields.{Reading}
+use Rattle.hunk_scatter.specs.BodyLoaderFields.{StandsBehind}
 use Rattle.hunk_scatter.proofs.WholeLongs.{state_at, word_taken, word_refused, read_as}
 use Rattle.hunk_scatter.proofs.longwords.take_one.Goals as goal
 
@@ -17,7 +17,7 @@ returns-in-Ok-clause-takes c = record {
   inside = c.requires.some;
   reads =
       λ fed r.
-      let here = subst (λ (s : BodyState). Reading c.args.rows.now c.args.store.now s [] fed) (sym (c.requires.same ∙ state_at c.args.state.now c.args.here.position c.requires.here)) r in
+      let here = subst (λ (s : BodyState). StandsBehind c.args.rows.now c.args.store.now s [] fed) (sym (c.requires.same ∙ state_at c.args.state.now c.args.here.position c.requires.here)) r in
       let taken = word_taken _ _ _ _ here c.requires.going_on c.args.piece.now (λ k. omega (arith, c.type_inv.piece k)) c.requires.some c.args.word c.in-Ok.ensures.long c.requires.front c.in-Ok.ensures.passes in
       read_as _ _ _ _ _ _ c.in-Ok.ensures.stores c.in-Ok.ensures.steps taken;
 }
@@ -26,7 +26,7 @@ pub returns-in-Err-clause-refuses : goal.returns-in-Err-clause-refuses
 returns-in-Err-clause-refuses c = record {
   refuses =
       λ fed r.
-      let here = subst (λ (s : BodyState). Reading c.args.rows.now c.args.store.now s [] fed) (sym (c.requires.same ∙ state_at c.args.state.now c.args.here.position c.requires.here)) r in
+      let here = subst (λ (s : BodyState). StandsBehind c.args.rows.now c.args.store.now s [] fed) (sym (c.requires.same ∙ state_at c.args.state.now c.args.here.position c.requires.here)) r in
       word_refused _ _ _ _ here c.requires.going_on c.args.piece.now (λ k. omega (arith, c.type_inv.piece k)) c.requires.some c.args.word c.in-Err.ensures.long c.requires.front c.in-Err.reason c.in-Err.ensures.refusal;
   own = c.in-Err.ensures.own_reasons;
 }

@@ -3,10 +3,10 @@ use Rattle.std.proofs.lemmas.List.{length-map}
 use Rattle.hunk_files.specs.Image.{declared_bytes}
 use Rattle.hunk_files.specs.LoadFile.{TableEntry}
 use Rattle.hunk_scan.specs.Positions.{open_next}
-use Rattle.hunk_scatter.specs.HeaderBytes.{IsTable, header_bytes}
+use Rattle.hunk_scatter.specs.HeaderBytes.{IsHeaderTable, header_bytes}
 use Rattle.hunk_scatter.specs.HeaderLoaderFields.{DeclaredInvariant}
 use Rattle.hunk_scatter.specs.BodyReader.{state_at}
-use Rattle.hunk_scatter.specs.Rows.{entry_of, entries_of, row_of}
+use Rattle.hunk_scatter.specs.Rows.{table_entry_of, entries_of, row_of}
 use Rattle.hunk_scatter.proofs.HeaderReads.{entries-rows}
 use Rattle.hunk_scatter.proofs.Starting.{placed_loading}
 use Rattle.hunk_scatter.proofs.StreamLaws.{fed_as}
@@ -19,7 +19,7 @@ returns-clause-begins c = λ table header size.
     let total = declared_bytes t in
     let same = entries-rows t in
     let tabled : DeclaredInvariant (map row_of t) total total c.args.header (header_bytes t) = record {
-      is_table = subst IsTable (sym same) table;
+      is_table = subst IsHeaderTable (sym same) table;
       unplaced = ap (λ (u : List TableEntry). map row_of u) (sym same);
       total_is = ap declared_bytes (sym same);
       within = omega arith;
@@ -29,7 +29,7 @@ returns-clause-begins c = λ table header size.
     let filled : c.fill.new.self ≡ replicate (length c.args.store.now) 0 = c.fill.ensures.after (λ y e. e) in
     let zeros : c.fill.new.self ≡ replicate total 0 = filled ∙ ap (λ (n : ℕ). replicate {A = ℕ} n 0) size in
     let loading = placed_loading (map row_of t) rows total total c.args.header (header_bytes t) c.fill.new.self tabled (sym same) zeros in
-    let count : c.hunks_of.result ≡ length t = c.hunks_of.ensures (omega (arith, table.most, length-map rows entry_of)) ∙ sym (length-map rows entry_of) in
+    let count : c.hunks_of.result ≡ length t = c.hunks_of.ensures (omega (arith, table.most, length-map rows table_entry_of)) ∙ sym (length-map rows table_entry_of) in
     let state : c.start.result ≡ state_at [] (open_next (length t) (length t)) = c.start.ensures ∙ ap (λ (n : ℕ). state_at [] (open_next n n)) count in
     fed_as _ _ _ _ _ _ _ _ _ _ refl state c.none.ensures refl loading
 

@@ -1,5 +1,5 @@
 use Rattle.std.proofs.Common.{◌≡◌, List, sym, ap, subst, ◌∙◌}
-use Rattle.hunk_scatter.specs.HeaderBytes.{IsHeader, IsTable, header_bytes}
+use Rattle.hunk_scatter.specs.HeaderBytes.{IsHeader, IsHeaderTable, header_bytes}
 use Rattle.hunk_scatter.specs.LoaderValues.{HeaderLoaderValue}
 use Rattle.hunk_scatter.proofs.HeaderFields.{heading_not_whole, table_declared}
 use Rattle.hunk_scatter.proofs.BodyFields.{none_of}
@@ -23,6 +23,6 @@ returns-clause-table c =
     let t =
     table_declared _ _ _ _ _ _ _ c.self.invariant (none_of c.self.inside.refused (sym c.is_some.ensures ∙ c.if-is_some.false)) (sym c.is_behind_header.ensures ∙ c.if-not-is_behind_header.false) in
     let same : entries_of c.self.inside.rows.items ≡ entries_of c.shrink_to_fit.new.self.items = ap entries_of (sym c.shrink_to_fit.ensures.items) in (
-      subst IsTable same t.is_table,
+      subst IsHeaderTable same t.is_table,
       subst (λ (v : HeaderLoaderValue). v.fed ≡ header_bytes (entries_of c.shrink_to_fit.new.self.items)) c.self.view_is (t.header ∙ ap header_bytes same),
     )
