@@ -8,7 +8,7 @@ use Rattle.hunk_words.specs.declared.reason.Reason.{Reason}
 use Rattle.hunk_words.specs.declared.reason.Reason.TheVariants as reasons
 use Rattle.hunk_scan.specs.declared.position.Position.{Position}
 use Rattle.hunk_scan.specs.declared.position.Position.TheVariants as positions
-use Rattle.hunk_scan.specs.Positions.{role_at, is_behind_header}
+use Rattle.hunk_scan.specs.Positions.{role_at, step, is_behind_header}
 use Rattle.hunk_scan.specs.Roles.{refuse}
 use Rattle.hunk_files.specs.declared.row.Row.{Row}
 use Rattle.hunk_files.specs.Image.{declared_bytes}
@@ -43,6 +43,13 @@ declared_so_far n = declared_bytes (table_of n)
 -- Where the header is whole, its first hunk opens next.
 abbrev pub OpensFirst : Next → Type 0
 OpensFirst n = is_behind_header (position_of n) ≡ true → n ≡ open_hunk (length (table_of n)) [] (table_of n)
+
+-- The longword is accepted by its own test and keeps to the budget, and behind it the state is the next.
+pub record PassesWord (budget : ℕ) (s : HeaderState) (w : ℕ) (next : HeaderState) : Type 0 where
+  pub accepted : refuse (role_at 0 s.position) w ≡ None
+  pub within : s.total + declares s.position w ≤ budget
+  pub position_is : next.position ≡ step s.position w
+  pub total_is : next.total ≡ s.total + declares s.position w
 
 -- ---- a stop
 

@@ -248,13 +248,9 @@ impl BodyLoader {
         ensures stops { IfErr result (StopsInBody (self.old.fed ++ piece.now)) }
         ensures remembers { IfErr result (λ f. self.new.refused ≡ Some f) }
     {
-        match self.take_gathered(piece) {
-            Ok(first) => match self.take_piece(&piece[first..]) {
-                Ok(more) => Ok(first + more),
-                Err(fault) => Err(fault),
-            },
-            Err(fault) => Err(fault),
-        }
+        let first = self.take_gathered(piece)?;
+        let more = self.take_piece(&piece[first..])?;
+        Ok(first + more)
     }
 
     /// How many bytes to read next, at most; 0 where nothing more is taken.

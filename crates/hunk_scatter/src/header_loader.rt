@@ -166,10 +166,9 @@ impl HeaderLoader {
     {
         let mut taken = 0;
         while taken < piece.len() {
-            match self.take_long(&piece[taken..]) {
-                Ok(0) => return Ok(taken),
-                Ok(part) => taken += part,
-                Err(fault) => return Err(fault),
+            match self.take_long(&piece[taken..])? {
+                0 => return Ok(taken),
+                part => taken += part,
             }
         }
         Ok(taken)

@@ -1,8 +1,7 @@
 //! Where a reader of the header stands: a few numbers.
 ghost use Rattle.std.specs.Prelude.{◌≡◌, ◌+◌, ◌<◌, ◌≤◌, ◌^◌, ◌++◌, IfOk, IfErr, OnOk, IfSome};
-ghost use Rattle.std.specs.Prelude.{IfNone, None, Some, [], ◌∷◌, map, false};
-ghost use Rattle.hunk_scan.specs.Roles.{refuse};
-ghost use Rattle.hunk_scan.specs.Positions.{role_at, step, is_behind_header};
+ghost use Rattle.std.specs.Prelude.{IfNone, [], ◌∷◌, map, false};
+ghost use Rattle.hunk_scan.specs.Positions.{is_behind_header};
 ghost use Rattle.hunk_scatter.specs.HeaderLoaderFields as heading;
 ghost use Rattle.hunk_scatter.specs.Rows.{row_of};
 
@@ -61,11 +60,7 @@ pub(crate) fn pass_header_word(
 ) -> Result<HeaderState, Reason>
     requires going { is_behind_header state.position ≡ false }
     requires room { state.total + 2 ^ 32 < 2 ^ 64 }
-    ensures position { IfOk result (λ s. s.position ≡ step state.position word) }
-    ensures total { IfOk result
-        (λ s. s.total ≡ state.total + heading.declares state.position word) }
-    ensures passes { OnOk result (refuse (role_at 0 state.position) word ≡ None) }
-    ensures within { OnOk result (state.total + heading.declares state.position word ≤ budget) }
+    ensures passes { IfOk result (heading.PassesWord budget state word) }
     ensures refusal { IfErr result (heading.RefusesWord budget state word) }
 {
     if let Some(reason) = state.position.refuse(0, word) {
@@ -92,20 +87,13 @@ pub(crate) fn take_header_word(
     requires going { is_behind_header state.position ≡ false }
     requires room { state.total + 2 ^ 32 < 2 ^ 64 }
     requires within { state.total ≤ budget }
-    ensures position { IfOk result (λ s. s.position ≡ step state.position word) }
-    ensures total { IfOk result
-        (λ s. s.total ≡ state.total + heading.declares state.position word) }
     ensures rows { OnOk result (rows.new.items ≡ rows.old.items
         ++ map row_of (heading.adds state.position word)) }
-    ensures passes { OnOk result (refuse (role_at 0 state.position) word ≡ None) }
-    ensures within { OnOk result (state.total + heading.declares state.position word ≤ budget) }
+    ensures passes { IfOk result (heading.PassesWord budget state word) }
     ensures refusal { IfErr result (heading.StopsFor budget state word) }
     ensures long { word < 2 ^ 32 }
 {
-    let next = match pass_header_word(state, budget, word) {
-        Ok(next) => next,
-        Err(reason) => return Err(reason),
-    };
+    let next = pass_header_word(state, budget, word)?;
     if let Some(row) = row(state.position, word) {
         if rows.push(row).is_err() {
             return Err(Reason::OutOfMemory);

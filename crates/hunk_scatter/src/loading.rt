@@ -92,14 +92,8 @@ fn load_header<R: Source>(
         if want == 0 {
             break 'reading;
         }
-        let n = match read_piece(r, buf, want, loader.fed(), limits.file_bytes) {
-            Ok(n) => n,
-            Err(fault) => return Err(fault),
-        };
-        match loader.feed(&buf[..n]) {
-            Ok(_) => {}
-            Err(fault) => return Err(fault),
-        }
+        let n = read_piece(r, buf, want, loader.fed(), limits.file_bytes)?;
+        loader.feed(&buf[..n])?;
     }
     match loader.declared() {
         Ok(declared) => Ok(declared),
@@ -132,14 +126,8 @@ fn load_body<R: Source>(
         if want == 0 {
             break 'reading;
         }
-        let n = match read_piece(r, buf, want, loader.fed(), limit) {
-            Ok(n) => n,
-            Err(fault) => return Err(fault),
-        };
-        match loader.take_piece(&buf[..n]) {
-            Ok(_) => {}
-            Err(fault) => return Err(fault),
-        }
+        let n = read_piece(r, buf, want, loader.fed(), limit)?;
+        loader.take_piece(&buf[..n])?;
     }
     match loader.finish() {
         Ok(image) => Ok(image),
@@ -161,10 +149,7 @@ fn load_placed<R: Source, P: Placer>(
     ensures read { TellsFailure (R.failed r.old) (R.failed r.new) result }
 {
     let mut buf = [0u8; 256];
-    let declared = match load_header(alloc, r, buf.as_mut_slice(), limits) {
-        Ok(declared) => declared,
-        Err(fault) => return Err(fault),
-    };
+    let declared = load_header(alloc, r, buf.as_mut_slice(), limits)?;
     let place = declared.header_len();
     let loader = match declared.place(p) {
         Ok(loader) => loader,

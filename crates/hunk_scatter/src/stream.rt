@@ -182,10 +182,8 @@ fn take_some(
     if at.pending.count == 0 && piece.len() >= 4 {
         return take_longs(store, rows, at, piece);
     }
-    match take_byte(store, rows, at, piece[0]) {
-        Ok(to) => Ok((to, 1)),
-        Err(stop) => Err(stop),
-    }
+    let to = take_byte(store, rows, at, piece[0])?;
+    Ok((to, 1))
 }
 
 /// Takes the piece, or up to the end of the file where that stands inside it, and gives the number
@@ -225,13 +223,9 @@ pub fn take_piece(
         if to.state.position.is_done() {
             return Ok((to, taken));
         }
-        match take_some(store, rows, to, &piece[taken..]) {
-            Ok((behind, count)) => {
-                to = behind;
-                taken += count;
-            }
-            Err(stop) => return Err(stop),
-        }
+        let (behind, count) = take_some(store, rows, to, &piece[taken..])?;
+        to = behind;
+        taken += count;
     }
     Ok((to, taken))
 }

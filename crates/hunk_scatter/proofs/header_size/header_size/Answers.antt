@@ -43,7 +43,7 @@ words-preserved c =
     let rest = take_rest c.args.bytes.now c.words.at in
     word_passes _ _ _ _ c.words.invariant (sym c.is_behind_header.ensures ∙ c.words-test.true) are
     (omega (arith, ap length rest, c.if-rest-lt4.false)) c.word_at.result (omega arith) (c.word_at.ensures ∙ ap (λ (xs : List ℕ). get_or (longs xs) 0 0) rest)
-    c.in-Ok.next c.in-Ok.ensures.passes c.in-Ok.ensures.within c.in-Ok.ensures.position c.in-Ok.ensures.total
+    c.in-Ok.next c.in-Ok.ensures.passes.accepted c.in-Ok.ensures.passes.within c.in-Ok.ensures.passes.position_is c.in-Ok.ensures.passes.total_is
 
 pub word_at-requires-2 : goal.word_at-requires-2
 word_at-requires-2 c =

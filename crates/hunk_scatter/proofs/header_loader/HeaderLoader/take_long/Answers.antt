@@ -15,9 +15,9 @@ invariant_of-self-in-Ok c =
     let bytes = take n c.args.piece.now in
     let gathers = subst (λ (o : Option ℕ). Gathers (c.self.inside.assembler ++ bytes) c.next_word-taken.new.assembler o) c.in-Some.is c.next_word-taken.ensures.gathers in
     let long : length bytes ≡ n = omega (arith, length-take n c.args.piece.now, c.next_word-taken.ensures.inside) in
-    heading_as _ _ _ _ _ _ _ _ _ _ _ c.in-Ok.ensures.rows c.in-Ok.ensures.position c.in-Ok.ensures.total gathers.1 c.and-self-inside-in-Ok.ensures
+    heading_as _ _ _ _ _ _ _ _ _ _ _ c.in-Ok.ensures.rows c.in-Ok.ensures.passes.position_is c.in-Ok.ensures.passes.total_is gathers.1 c.and-self-inside-in-Ok.ensures
     (heading_word _ _ _ _ _ _ _ c.self.invariant (ap (λ (v : HeaderLoaderValue). v.refused) c.self.view_is ∙ c.requires.reading) (sym c.is_behind_header.ensures ∙ c.if-is_behind_header.false)
-    bytes n long c.in-Some.word c.in-Ok.ensures.long gathers.0 c.in-Ok.ensures.passes c.in-Ok.ensures.within)
+    bytes n long c.in-Some.word c.in-Ok.ensures.long gathers.0 c.in-Ok.ensures.passes.accepted c.in-Ok.ensures.passes.within)
 
 pub overflow_sub-place : goal.overflow_sub-place
 overflow_sub-place c =
