@@ -89,7 +89,7 @@ struct hunk_finding {
 
 /* Reads the header that the bytes begin with, and writes a row for each hunk.
  *
- *   bytes   the file, or its first bytes: nothing behind the header is read
+ *   bytes   the file, or its first bytes: nothing after the header is read
  *   budget  the bytes that the hunks may have in memory together
  *   rows    where the rows go: a table has 1 to 65,536 of them
  *
@@ -97,11 +97,11 @@ struct hunk_finding {
  *               count: the bytes that the hunks have in memory together.
  * HUNK_NO_ROOM  there are more hunks than rows. hunk: the rows that are needed; place and count as
  *               at HUNK_OK. With rows_len 0 this asks for the size of a table.
- * HUNK_TRUNCATED      the header goes on behind the bytes: it needs more of the file.
+ * HUNK_TRUNCATED      the header goes on after the bytes: it needs more of the file.
  * HUNK_BUDGET         place: the size word with which the sum first passes the budget.
  * Else the first fault of the header, HUNK_NOT_LOAD_FILE to HUNK_LAST_HUNK.
  *
- * Rows behind the table, and at any answer but HUNK_OK all rows, are as they were. It takes no
+ * Rows after the table, and at any answer but HUNK_OK all rows, are as they were. It takes no
  * memory.
  */
 struct hunk_answer hunk_table(const uint8_t *bytes, size_t bytes_len, uint64_t budget,
@@ -111,7 +111,7 @@ struct hunk_answer hunk_table(const uint8_t *bytes, size_t bytes_len, uint64_t b
  *
  *   bytes   the file, whole; other bytes may follow it
  *   bases   the address of each hunk, in their order; more than there are hunks may be given
- *   memory  where the hunks go, one right behind the other: the content of each, zero bytes up to
+ *   memory  where the hunks go, one right after the other: the content of each, zero bytes up to
  *           its declared size, and the bases added to its longs (modulo 2^32, high byte first)
  *
  * HUNK_OK       hunk: the hunks; place: the bytes of the file; count: the bytes that were written.
@@ -124,14 +124,14 @@ struct hunk_answer hunk_table(const uint8_t *bytes, size_t bytes_len, uint64_t b
  * place: the byte of the longword that is refused, or where the first longword is missing.
  *
  * HUNK_NO_ROOM and HUNK_NO_BASE come before the body is looked at. A file that fits, with a base
- * for each hunk, is loaded, or the answer is HUNK_OUT_OF_MEMORY. Memory behind the hunks, and at
+ * for each hunk, is loaded, or the answer is HUNK_OUT_OF_MEMORY. Memory after the hunks, and at
  * any answer but HUNK_OK all memory, is as it was. It takes 12 bytes for each hunk, rounded up as a
  * list grows, and then as many bytes as the hunks have, once.
  */
 struct hunk_answer hunk_load(const uint8_t *bytes, size_t bytes_len, const uint32_t *bases,
                              size_t bases_len, uint8_t *memory, size_t memory_len);
 
-/* The same for hunks one right behind the other from the address `base` on, as they lie in the
+/* The same for hunks one right after the other from the address `base` on, as they lie in the
  * memory: an emulator hands in its RAM from that address on.
  *
  * HUNK_NO_BASE where a hunk would pass the address 2^32, or begin there. All else is as hunk_load
@@ -145,7 +145,7 @@ struct hunk_answer hunk_load_packed(const uint8_t *bytes, size_t bytes_len, uint
  * hunk_table reads the header, which has to be in one piece, into the caller's rows. Neither it nor
  * the three calls below ask malloc for anything. They know the file by its places, and by what the
  * loader has: numbers alone, which may be copied and stored, and belong to one file, its places and
- * its memory. hunk_begin sets them, hunk_feed takes the bytes behind the header in pieces of any
+ * its memory. hunk_begin sets them, hunk_feed takes the bytes after the header in pieces of any
  * size, and hunk_end tells whether the file is whole.
  */
 
@@ -178,12 +178,12 @@ struct hunk_loader {
     uint8_t third;
 };
 
-/* Sets a loader behind the header of a file, and makes the memory zero.
+/* Sets a loader to the end of the header of a file, and makes the memory zero.
  *
  *   places  one for each hunk, its word and extra as hunk_table wrote them, and its base, any
  *           address: whether hunks overlap or pass 2^32 is not checked
  *   header  the bytes of the header, as hunk_table answered them: its place
- *   memory  where the hunks go, one right behind the other: just the bytes that they have together,
+ *   memory  where the hunks go, one right after the other: just the bytes that they have together,
  *           hunk_table's count
  *
  * HUNK_OK       hunk: the hunks; place: the bytes of the header; count: the bytes of the memory.
@@ -199,7 +199,7 @@ struct hunk_answer hunk_begin(struct hunk_loader *loader, const struct hunk_plac
                               size_t places_len, uint64_t header, uint8_t *memory,
                               size_t memory_len);
 
-/* Takes the next bytes of a file, those right behind what was taken before, up to the end of the
+/* Takes the next bytes of a file, those right after what was taken before, up to the end of the
  * file where that comes first.
  *
  *   places, memory  those of hunk_begin, as they were left: a program may read the memory, and
@@ -250,7 +250,7 @@ struct hunk_answer hunk_end(const struct hunk_loader *loader);
  * Else the first fault of the bytes, HUNK_NOT_LOAD_FILE to HUNK_TRUNCATED; place: the byte of the
  * longword that is refused, or where the first longword is missing.
  *
- * A file is checked where there are rows enough, or the answer is HUNK_OUT_OF_MEMORY. Rows behind
+ * A file is checked where there are rows enough, or the answer is HUNK_OUT_OF_MEMORY. Rows after
  * the findings, and at any answer but HUNK_OK all rows, are as they were. It takes memory for the
  * parts of the file, its hunks, blocks, groups, entries and symbols, and for the findings, 24 bytes
  * each; each rounded up as a list grows.
@@ -273,7 +273,7 @@ struct hunk_answer hunk_check(const uint8_t *bytes, size_t bytes_len, struct hun
  *                     file where the stripped file found none.
  * Else the first fault of the bytes, as at hunk_check.
  *
- * A file is stripped where there is room, or the answer is HUNK_OUT_OF_MEMORY. Text behind what is
+ * A file is stripped where there is room, or the answer is HUNK_OUT_OF_MEMORY. Text after what is
  * written, and at any answer but HUNK_OK all text, is as it was. What is loaded of a stripped load
  * file is the same, and so are the findings of a stripped object file. It takes memory for the
  * parts of the file, as hunk_check does, and then as many bytes as the file has, once.
@@ -281,12 +281,12 @@ struct hunk_answer hunk_check(const uint8_t *bytes, size_t bytes_len, struct hun
 struct hunk_answer hunk_strip(const uint8_t *bytes, size_t bytes_len, uint8_t *text,
                               size_t text_len);
 
-/* Writes the name of an answer's number to the text, with no zero behind it.
+/* Writes the name of an answer's number to the text, with no zero after it.
  *
  * HUNK_OK       count: the bytes of the name, at most 17; none for 0 and above 33.
  * HUNK_NO_ROOM  count: the bytes that are needed; the text is as it was.
  *
- * Text behind the name is as it was. It takes no memory.
+ * Text after the name is as it was. It takes no memory.
  */
 struct hunk_answer hunk_reason(uint32_t number, uint8_t *text, size_t text_len);
 
