@@ -19,7 +19,7 @@ use Rattle.hunk_scatter.proofs.HeaderFronts.{one_table}
 use Rattle.hunk_scatter.proofs.TableLimit.{never_passes}
 use Rattle.hunk.specs.declared.answer.Answer.{Answer}
 use Rattle.hunk.specs.Answers.{refused, done}
-use Rattle.hunk.specs.Loads.{BeginsWithHeader, FitsAndHasBases, IsHeaderRefusal, IsLoaded, IsNotLoaded, HasNoFile, HasNoBase, HasNoMemory}
+use Rattle.hunk.specs.Loads.{AcceptsHeaderWithMemory, BeginsWithHeader, FitsAndHasBases, IsHeaderRefusal, IsLoaded, IsNotLoaded, HasNoFile, HasNoBase, HasNoMemory}
 
 -- ---- answers
 
@@ -47,11 +47,7 @@ pub header_size : (bytes body : List ℕ) (t : List TableEntry) → bytes ≡ he
 header_size bytes body t e = omega (arith, ap length e, length-append (header_bytes t) body)
 
 module _ (base : Placing) (room : ℕ) (bytes : List ℕ) (answer : Answer) where
-  -- no header is in front, unless the refusal is the budget's or for want of memory
-  abbrev NoHeader : Reason → Type 0
-  NoHeader reason = (t : List TableEntry) → BeginsWithHeader bytes t → IsBudgetOrMemory reason
-
-  header_fault : (reason : Reason) (at : ℕ) → IsHeaderFaultBy reason (2 ^ 64 - 1) bytes at → NoHeader reason → answer ≡ refused (record { place = at; reason = reason }) → IsNotLoaded base room bytes answer
+  header_fault : (reason : Reason) (at : ℕ) → IsHeaderFaultBy reason (2 ^ 64 - 1) bytes at → AcceptsHeaderWithMemory bytes reason → answer ≡ refused (record { place = at; reason = reason }) → IsNotLoaded base room bytes answer
   header_fault reasons.Budget at p k e = absurd (never_passes bytes at p)
   header_fault reasons.OutOfMemory at p k e = HasNoMemory at (inl p) e
   header_fault reason at h k e = HasNoFile (record { place = at; reason = reason }) (inl h) (λ t b. absurd (neither (k t b))) e
@@ -60,7 +56,7 @@ module _ (base : Placing) (room : ℕ) (bytes : List ℕ) (answer : Answer) wher
       neither (inl e) = absurd cc
       neither (inr e) = absurd cc
 
-  pub no_header : (f : Fault) → IsHeaderRefusal (2 ^ 64 - 1) bytes f → NoHeader f.reason → answer ≡ refused f → IsNotLoaded base room bytes answer
+  pub no_header : (f : Fault) → IsHeaderRefusal (2 ^ 64 - 1) bytes f → AcceptsHeaderWithMemory bytes f.reason → answer ≡ refused f → IsNotLoaded base room bytes answer
   no_header f (inl h) k e = header_fault f.reason f.place h k e
   no_header f (inr t) k e = HasNoFile f (inr t) (λ u b. absurd (neither (k u b))) e
     where
@@ -71,7 +67,7 @@ module _ (base : Placing) (room : ℕ) (bytes : List ℕ) (answer : Answer) wher
   pub not_placed : (t : List TableEntry) (reason : Reason) → BeginsWithHeader bytes t → declared_bytes t ≤ room → IsUnplacedFor base t reason →
       answer ≡ refused (record { place = length (header_bytes t); reason = reason }) → IsNotLoaded base room bytes answer
   not_placed t (reasons.NoBase hunk) h fits u e = HasNoBase t hunk h fits u e
-  not_placed t reasons.OutOfMemory h fits u e = HasNoMemory (length (header_bytes t)) (inr (t, h, fits, u, refl)) e
+  not_placed t reasons.OutOfMemory h fits u e = HasNoMemory (length (header_bytes t)) (inr (t, h, (fits, u), refl)) e
   not_placed t _ h fits u e = absurd u
 
 -- The header that the bytes begin with is known, fits, and was placed.

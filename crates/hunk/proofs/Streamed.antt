@@ -26,7 +26,7 @@ use Rattle.hunk_scatter.proofs.Forget.{before_is}
 use Rattle.hunk_scatter.proofs.OneByte.{not_done}
 use Rattle.hunk.specs.declared.loader.Loader.{Loader}
 use Rattle.hunk.specs.Answers.{done}
-use Rattle.hunk.specs.Streams.{IsStreamed, Stands, position_of, standing_at, standing_of}
+use Rattle.hunk.specs.Streams.{IsStreamed, Stands, loader_position, standing_at, standing_of}
 use Rattle.hunk.proofs.Loaded.{same_answer}
 
 -- ---- where a loader stands
@@ -61,7 +61,7 @@ pub record Tells (l : Loader) (at : Standing) : Type 0 where
   pub fed : at.fed ≡ l.fed
 
 pub tells : (l : Loader) (at : Standing) → standing_of l ≡ Some at → Tells l at
-tells l at e = go (position_of l) e
+tells l at e = go (loader_position l) e
   where
     go : (o : Option Position) → standing_at l o ≡ Some at → Tells l at
     go None d = absurd cc

@@ -19,22 +19,22 @@ kind_number BadTarget = 1
 kind_number OutsideHunk = 2
 
 -- what the caller sees of a finding
-abbrev pub row_of : FindingValue → FindingRow
-row_of f = record { unit = f.unit; hunk = f.hunk; offset = f.offset; fault = kind_number f.fault }
+abbrev pub finding_row : FindingValue → FindingRow
+finding_row f = record { unit = f.unit; hunk = f.hunk; offset = f.offset; fault = kind_number f.fault }
 
 -- Memory is wanting: for what the longword here completes, or, at the end of an object file, for what is wrong with it.
-abbrev pub LacksMemory : List ℕ → ℕ → Type 0
-LacksMemory bytes at = IsMemory (sniffed (longs bytes)) bytes at ⊎ (AreObjectFile bytes × (at ≡ length bytes))
+abbrev pub LacksMemoryToCheck : List ℕ → ℕ → Type 0
+LacksMemoryToCheck bytes at = IsMemory (sniffed (longs bytes)) bytes at ⊎ (AreObjectFile bytes × (at ≡ length bytes))
 
 -- What a check comes to. The rows begin with what is wrong with the file, and what lies behind that is as it was; or all are as they were.
 pub data Checks (bytes : List ℕ) (old new : List FindingRow) (answer : Answer) : Type 0 where
   HasFindings : (file : HunkFile) → IsFileOf bytes file → length (findings_in file) ≤ length old
-      → new ≡ map row_of (findings_in file) ++ drop (length (findings_in file)) old
+      → new ≡ map finding_row (findings_in file) ++ drop (length (findings_in file)) old
       → answer ≡ done (hunks_in file) (length (file_bytes file)) (length (findings_in file)) → Checks bytes old new answer
   HasNoRows : (file : HunkFile) → IsFileOf bytes file → length old < length (findings_in file) → new ≡ old
       → answer ≡ no_room (hunks_in file) (length (file_bytes file)) (length (findings_in file)) → Checks bytes old new answer
   HasNoFile : (f : Fault) → AreNoFile bytes f → new ≡ old → answer ≡ refused f → Checks bytes old new answer
-  HasNoMemory : (at : ℕ) → LacksMemory bytes at → new ≡ old
+  HasNoMemory : (at : ℕ) → LacksMemoryToCheck bytes at → new ≡ old
       → answer ≡ refused (record { place = at; reason = reasons.OutOfMemory }) → Checks bytes old new answer
 
 -- Where a file is in front, and there is a row for each thing that is wrong with it, it is checked, or memory was wanting.

@@ -2,13 +2,14 @@
 use Rattle.std.specs.Prelude.{◌≡◌, ℕ, ◌<◌, ◌≤◌, List, ◌++◌, length, drop, slice_get, ◌⊎◌}
 use Rattle.hunk_words.specs.Longs.{bytes_of}
 use Rattle.hunk_words.specs.declared.fault.Fault.{Fault}
+use Rattle.hunk_words.specs.declared.reason.Reason.{Reason}
 use Rattle.hunk_words.specs.declared.reason.Reason.TheVariants as reasons
-use Rattle.hunk_files.specs.Fault.{HasFault, IsTruncated}
+use Rattle.hunk_files.specs.Fault.{BeginsWithLoadFile, HasFault, IsTruncated}
 use Rattle.hunk_files.specs.Image.{declared_bytes, images}
 use Rattle.hunk_files.specs.LoadFile.{TableEntry, LoadFileValue, IsLoadFile}
 use Rattle.hunk_files.specs.LoadText.{table, text}
 use Rattle.hunk_scatter.specs.HeaderBytes.{IsHeaderTable, header_bytes}
-use Rattle.hunk_scatter.specs.HeaderFaults.{CompletesRow, IsHeaderFault}
+use Rattle.hunk_scatter.specs.HeaderFaults.{CompletesRow, IsBudgetOrMemory, IsHeaderFault}
 use Rattle.hunk_scatter.specs.Placing.{Placing, packed_base, AreBases, HasBases, IsFirstUnplaced}
 use Rattle.hunk.specs.declared.answer.Answer.{Answer}
 use Rattle.hunk.specs.Answers.{refused, no_room, done}
@@ -25,22 +26,30 @@ pub record BeginsWithHeader (bytes : List ℕ) (t : List TableEntry) : Type 0 wh
 abbrev pub IsHeaderRefusal : ℕ → List ℕ → Fault → Type 0
 IsHeaderRefusal budget bytes f = IsHeaderFault budget bytes f ⊎ ((f.reason ≡ reasons.Truncated) × IsTruncated bytes f.place)
 
--- Memory ran out: for the row that the longword here completes, or, where the header ends, for segments that fit and have their bases.
-abbrev pub LacksMemory : Placing → ℕ → List ℕ → ℕ → Type 0
-LacksMemory base room bytes at =
-    CompletesRow bytes at ⊎ ((t : List TableEntry) × BeginsWithHeader bytes t × (declared_bytes t ≤ room) × HasBases base t × (at ≡ length (header_bytes t)))
+-- Where the bytes begin with a header, only the budget or memory refuses it.
+abbrev pub AcceptsHeaderWithMemory : List ℕ → Reason → Type 0
+AcceptsHeaderWithMemory bytes reason = (t : List TableEntry) → BeginsWithHeader bytes t → IsBudgetOrMemory reason
+
+-- The hunks of the table fit, and each has a base.
+abbrev pub HavePlaces : Placing → ℕ → List TableEntry → Type 0
+HavePlaces base room t = (declared_bytes t ≤ room) × HasBases base t
+
+-- Memory ran out: for the row that the longword here completes, or, where the header ends, for segments that have their places.
+abbrev pub LacksMemoryToLoad : Placing → ℕ → List ℕ → ℕ → Type 0
+LacksMemoryToLoad base room bytes at =
+    CompletesRow bytes at ⊎ ((t : List TableEntry) × BeginsWithHeader bytes t × HavePlaces base room t × (at ≡ length (header_bytes t)))
 
 -- ---- loads
 
 -- each hunk at the base of its number
-abbrev pub listed : List ℕ → Placing
-listed bases = λ hunk row before. slice_get bases hunk
+abbrev pub listed_in : List ℕ → Placing
+listed_in bases = λ hunk row before. slice_get bases hunk
 
 -- hunks one right behind the other from a first byte on
-abbrev pub packed : ℕ → Placing
-packed start = λ hunk row before. packed_base start row before
+abbrev pub packed_from : ℕ → Placing
+packed_from start = λ hunk row before. packed_base start row before
 
--- The bytes begin with a load file. The memory begins with its hunks, each as it lies at its base, one right behind the other; what lies behind them is as it was.
+-- The bytes begin with a load file. The memory begins with its hunks, each as it lies at its base, one right after the other; the rest of it is as it was.
 pub record IsLoaded (base : Placing) (bytes old new : List ℕ) (answer : Answer) : Type 0 where
   pub value : LoadFileValue
   pub is_load_file : IsLoadFile value
@@ -54,16 +63,18 @@ pub record IsLoaded (base : Placing) (bytes old new : List ℕ) (answer : Answer
 
 -- Whichever header the bytes begin with, its hunks fit, and each has a base.
 abbrev pub FitsAndHasBases : Placing → ℕ → List ℕ → Type 0
-FitsAndHasBases base room bytes = (t : List TableEntry) → BeginsWithHeader bytes t → (declared_bytes t ≤ room) × HasBases base t
+FitsAndHasBases base room bytes = (t : List TableEntry) → BeginsWithHeader bytes t → HavePlaces base room t
 
 -- Why a file is not loaded into memory of so many bytes.
 pub data IsNotLoaded (base : Placing) (room : ℕ) (bytes : List ℕ) (answer : Answer) : Type 0 where
-  HasNoFile : (f : Fault) → HasFault bytes f.place f.reason → FitsAndHasBases base room bytes → answer ≡ refused f → IsNotLoaded base room bytes answer
+  HasNoFile : (f : Fault) → HasFault bytes f.place f.reason → FitsAndHasBases base room bytes
+      → answer ≡ refused f → IsNotLoaded base room bytes answer
   HasNoRoom : (t : List TableEntry) → BeginsWithHeader bytes t → room < declared_bytes t
       → answer ≡ no_room (length t) (length (header_bytes t)) (declared_bytes t) → IsNotLoaded base room bytes answer
   HasNoBase : (t : List TableEntry) (hunk : ℕ) → BeginsWithHeader bytes t → declared_bytes t ≤ room → IsFirstUnplaced base t hunk
       → answer ≡ refused (record { place = length (header_bytes t); reason = reasons.NoBase hunk }) → IsNotLoaded base room bytes answer
-  HasNoMemory : (at : ℕ) → LacksMemory base room bytes at → answer ≡ refused (record { place = at; reason = reasons.OutOfMemory }) → IsNotLoaded base room bytes answer
+  HasNoMemory : (at : ℕ) → LacksMemoryToLoad base room bytes at
+      → answer ≡ refused (record { place = at; reason = reasons.OutOfMemory }) → IsNotLoaded base room bytes answer
 
 -- What a load comes to.
 abbrev pub Loads : Placing → List ℕ → List ℕ → List ℕ → Answer → Type 0
@@ -72,4 +83,4 @@ Loads base bytes old new answer = IsLoaded base bytes old new answer ⊎ (IsNotL
 -- Where the bytes begin with a load file that fits, and each of its hunks has a base, it is loaded, or memory was wanting.
 abbrev pub LoadsWhatFits : Placing → ℕ → List ℕ → Answer → Type 0
 LoadsWhatFits base room bytes answer =
-    (v : LoadFileValue) (rest : List ℕ) → IsLoadFile v → bytes ≡ bytes_of (text v) ++ rest → declared_bytes (table v) ≤ room → HasBases base (table v) → (answer.number ≡ 0) ⊎ (answer.number ≡ 31)
+    (file : BeginsWithLoadFile bytes) → HavePlaces base room (table file.value) → (answer.number ≡ 0) ⊎ (answer.number ≡ 31)

@@ -53,8 +53,8 @@ body_in hunk (Some phase) = Some (positions.Body hunk phase)
 abbrev pub position_in : OpenHunk → ℕ → ℕ → ℕ → Option Position
 position_in hunk n part owed = if n == whole then Some positions.Done else body_in hunk (phase_in n part owed)
 
-abbrev pub position_of : Loader → Option Position
-position_of l = position_in (record { hunks = l.hunks; ahead = l.ahead; has_content = l.has_content == 1 }) l.phase l.part l.owed
+abbrev pub loader_position : Loader → Option Position
+loader_position l = position_in (record { hunks = l.hunks; ahead = l.ahead; has_content = l.has_content == 1 }) l.phase l.part l.owed
 
 abbrev pub standing_at : Loader → Option Position → Option Standing
 standing_at l None = None
@@ -66,7 +66,7 @@ standing_at l (Some position) = Some (record {
 
 -- where a loader stands by its numbers, where they tell it
 abbrev pub standing_of : Loader → Option Standing
-standing_of l = standing_at l (position_of l)
+standing_of l = standing_at l (loader_position l)
 
 -- its numbers say where it stands, behind whatever bytes
 abbrev pub HasStanding : Loader → Type 0
@@ -108,9 +108,12 @@ no_loader = record {
   third = 0;
 }
 
--- What the begin of a stream comes to: the loader stands behind the header of the rows' table, and the memory is zero; or the memory is too small for what that declares; or it is too large, or the rows are not those of a table whose header has so many bytes.
+-- What the begin of a stream comes to: the loader stands behind the header of the rows' table, and the memory is zero;
+-- or the memory is too small for what that declares;
+-- or it is too large, or the rows are not those of a table whose header has so many bytes.
 pub data Begins (rows : List Row) (header : ℕ) (new : Loader) (memory after : List ℕ) (answer : Answer) : Type 0 where
-  HasBegun : HasSizes (entries_of rows) header (length memory) → Stands rows new after (header_bytes (entries_of rows)) → after ≡ replicate (length memory) 0
+  HasBegun : HasSizes (entries_of rows) header (length memory)
+      → Stands rows new after (header_bytes (entries_of rows)) → after ≡ replicate (length memory) 0
       → answer ≡ done (length rows) header (length memory) → Begins rows header new memory after answer
   LacksRoom : (bytes : ℕ) → HasSizes (entries_of rows) header bytes → length memory < bytes → new ≡ no_loader → after ≡ memory
       → answer ≡ no_room (length rows) header bytes → Begins rows header new memory after answer
@@ -142,19 +145,20 @@ refusing l f = record {
 
 -- The answer of a loader that has refused a longword: the same again. The number of no reason is none that it may have.
 pub data TellsAgain (l : Loader) (answer : Answer) : Type 0 where
-  TellsRefusal : 0 < l.refused → l.refused ≤ 31 → answer ≡ record { number = l.refused; hunk = l.refused_hunk; place = l.place; count = 0 } → TellsAgain l answer
+  TellsRefusal : 0 < l.refused → l.refused ≤ 31
+      → answer ≡ record { number = l.refused; hunk = l.refused_hunk; place = l.place; count = 0 } → TellsAgain l answer
   TellsNoReason : 31 < l.refused → answer ≡ strange → TellsAgain l answer
 
 -- ---- a piece
 
 -- Whatever bytes were fed before, so many of the piece are fed then.
-abbrev pub Takes : List Row → Loader → Loader → List ℕ → List ℕ → List ℕ → ℕ → Type 0
-Takes rows old new memory after piece count =
+abbrev pub TakesPiece : List Row → Loader → Loader → List ℕ → List ℕ → List ℕ → ℕ → Type 0
+TakesPiece rows old new memory after piece count =
     (fed : List ℕ) → Stands rows old memory fed → length fed + length piece < 2 ^ 64 → Stands rows new after (fed ++ take count piece)
 
 -- Whatever bytes were fed before, with the piece behind them they are refused so.
-abbrev pub Refuses : List Row → Loader → List ℕ → List ℕ → Fault → Type 0
-Refuses rows old memory piece f =
+abbrev pub RefusesPiece : List Row → Loader → List ℕ → List ℕ → Fault → Type 0
+RefusesPiece rows old memory piece f =
     (fed : List ℕ) → Stands rows old memory fed → length fed + length piece < 2 ^ 64 → HasRefusal (fed ++ piece) f.place f.reason
 
 -- No loader stands so, behind any bytes.
@@ -162,17 +166,21 @@ abbrev pub StandsNowhere : List Row → Loader → List ℕ → List ℕ → Typ
 StandsNowhere rows old memory piece =
     (fed : List ℕ) → Stands rows old memory fed → length fed + length piece < 2 ^ 64 → ⊥
 
--- What the feeding of a piece comes to: it is taken, all of it or up to the end of the file; it is refused; or no byte of it is looked at, for an earlier refusal or for numbers that no loader has.
+-- What the feeding of a piece comes to: it is taken, all of it or up to the end of the file; it is refused;
+-- or no byte of it is looked at, for an earlier refusal or for numbers that no loader has.
 pub data Feeds (rows : List Row) (old new : Loader) (memory after piece : List ℕ) (answer : Answer) : Type 0 where
-  HasTaken : (count : ℕ) → old.refused ≡ 0 → HasStanding old → count ≤ length piece → (count < length piece → new.phase ≡ whole) → Takes rows old new memory after piece count
+  HasTaken : (count : ℕ) → old.refused ≡ 0 → HasStanding old → count ≤ length piece
+      → (count < length piece → new.phase ≡ whole) → TakesPiece rows old new memory after piece count
       → answer ≡ done new.hunk new.fed count → Feeds rows old new memory after piece answer
-  HasRefused : (f : Fault) → old.refused ≡ 0 → HasStanding old → Refuses rows old memory piece f → new ≡ refusing old f → answer ≡ refused f → Feeds rows old new memory after piece answer
+  HasRefused : (f : Fault) → old.refused ≡ 0 → HasStanding old → RefusesPiece rows old memory piece f → new ≡ refusing old f
+      → answer ≡ refused f → Feeds rows old new memory after piece answer
   HadRefused : TellsAgain old answer → new ≡ old → after ≡ memory → Feeds rows old new memory after piece answer
   IsStrange : old.refused ≡ 0 → StandsNowhere rows old memory piece → new ≡ old → answer ≡ strange → Feeds rows old new memory after piece answer
 
 -- ---- the end
 
--- The bytes are a load file with the table of the rows. The memory is its hunks, each as it lies at its row's base, one right behind the other; and so it is answered, as a load answers it.
+-- The bytes are a load file with the table of the rows. The memory is its hunks, each as it lies at its row's base,
+-- one right after the other; and so it is answered, as a load answers it.
 pub record IsStreamed (rows : List Row) (memory fed : List ℕ) (answer : Answer) : Type 0 where
   pub value : LoadFileValue
   pub is_load_file : IsLoadFile value
@@ -181,10 +189,23 @@ pub record IsStreamed (rows : List Row) (memory fed : List ℕ) (answer : Answer
   pub memory_is : memory ≡ images (bases_of rows) value
   pub answer_is : answer ≡ done (length value) (length (bytes_of (text value))) (declared_bytes (table value))
 
--- What the end of a stream comes to, whatever rows, memory and bytes the loader was given: the file is whole, or cut short; or nothing is known of it, for an earlier refusal or for numbers that no loader has.
+-- The file is whole, whatever rows, memory and bytes the loader was given.
+abbrev pub EndsWholly : Loader → Answer → Type 0
+EndsWholly l answer = (rows : List Row) (memory fed : List ℕ) → Stands rows l memory fed → IsStreamed rows memory fed answer
+
+-- The bytes end at so many inside the file, whatever rows, memory and bytes the loader was given.
+abbrev pub EndsInside : Loader → ℕ → Type 0
+EndsInside l at = (rows : List Row) (memory fed : List ℕ) → Stands rows l memory fed → HasFault fed at reasons.Truncated
+
+-- No loader stands so, with any rows, memory and bytes.
+abbrev pub IsNoLoader : Loader → Type 0
+IsNoLoader l = (rows : List Row) (memory fed : List ℕ) → Stands rows l memory fed → ⊥
+
+-- What the end of a stream comes to: the file is whole, or cut short;
+-- or nothing is known of it, for an earlier refusal or for numbers that no loader has.
 pub data Ends (l : Loader) (answer : Answer) : Type 0 where
-  IsWhole : l.refused ≡ 0 → HasStanding l → answer ≡ done l.hunk l.fed l.start → ((rows : List Row) (memory fed : List ℕ) → Stands rows l memory fed → IsStreamed rows memory fed answer) → Ends l answer
-  IsCutShort : l.refused ≡ 0 → HasStanding l → answer ≡ refused (record { place = 4 * (l.fed / 4); reason = reasons.Truncated })
-      → ((rows : List Row) (memory fed : List ℕ) → Stands rows l memory fed → HasFault fed (4 * (l.fed / 4)) reasons.Truncated) → Ends l answer
+  IsWhole : l.refused ≡ 0 → HasStanding l → answer ≡ done l.hunk l.fed l.start → EndsWholly l answer → Ends l answer
+  IsCutShort : l.refused ≡ 0 → HasStanding l → EndsInside l (4 * (l.fed / 4))
+      → answer ≡ refused (record { place = 4 * (l.fed / 4); reason = reasons.Truncated }) → Ends l answer
   WasRefused : TellsAgain l answer → Ends l answer
-  HasNoEnd : l.refused ≡ 0 → ((rows : List Row) (memory fed : List ℕ) → Stands rows l memory fed → ⊥) → answer ≡ strange → Ends l answer
+  HasNoEnd : l.refused ≡ 0 → IsNoLoader l → answer ≡ strange → Ends l answer

@@ -15,8 +15,8 @@ abbrev pub stripped_bytes : HunkFile → List ℕ
 stripped_bytes file = file_bytes (stripped file)
 
 -- Memory is wanting: for what the longword here completes, or, where the file ends, for what is left of it.
-abbrev pub LacksMemory : List ℕ → ℕ → Type 0
-LacksMemory bytes at = IsMemory (sniffed (longs bytes)) bytes at ⊎ ((file : HunkFile) × IsFileOf bytes file × (at ≡ length (file_bytes file)))
+abbrev pub LacksMemoryToStrip : List ℕ → ℕ → Type 0
+LacksMemoryToStrip bytes at = IsMemory (sniffed (longs bytes)) bytes at ⊎ ((file : HunkFile) × IsFileOf bytes file × (at ≡ length (file_bytes file)))
 
 -- What a strip comes to. The text begins with the stripped file, and what lies behind that is as it was; or all is as it was.
 pub data Strips (bytes old new : List ℕ) (answer : Answer) : Type 0 where
@@ -26,7 +26,7 @@ pub data Strips (bytes old new : List ℕ) (answer : Answer) : Type 0 where
   HasNoText : (file : HunkFile) → IsFileOf bytes file → length old < length (stripped_bytes file) → new ≡ old
       → answer ≡ no_room (hunks_in file) (length (file_bytes file)) (length (stripped_bytes file)) → Strips bytes old new answer
   HasNoFile : (f : Fault) → AreNoFile bytes f → new ≡ old → answer ≡ refused f → Strips bytes old new answer
-  HasNoMemory : (at : ℕ) → LacksMemory bytes at → new ≡ old
+  HasNoMemory : (at : ℕ) → LacksMemoryToStrip bytes at → new ≡ old
       → answer ≡ refused (record { place = at; reason = reasons.OutOfMemory }) → Strips bytes old new answer
 
 -- Where a file is in front, and there is room for it without those blocks, it is stripped, or memory was wanting.

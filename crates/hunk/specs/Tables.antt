@@ -1,5 +1,5 @@
 -- Tables in the caller's rows.
-use Rattle.std.specs.Prelude.{◌≡◌, ℕ, ◌*◌, ◌/◌, ◌^◌, ◌<◌, ◌≤◌, List, ◌++◌, length, map, drop}
+use Rattle.std.specs.Prelude.{◌≡◌, ℕ, ◌*◌, ◌<◌, ◌≤◌, List, ◌++◌, length, map, drop}
 use Rattle.hunk_words.specs.Bits.{size_longs, memory_bits}
 use Rattle.hunk_words.specs.declared.fault.Fault.{Fault}
 use Rattle.hunk_words.specs.declared.reason.Reason.TheVariants as reasons
@@ -13,8 +13,8 @@ use Rattle.hunk_scatter.specs.HeaderSizes.{RefusesHeader}
 use Rattle.hunk.specs.Loads.{BeginsWithHeader}
 
 -- what the caller sees of an entry
-abbrev pub row_of : TableEntry → TableRow
-row_of e = record { word = e.word; extra = e.extra; bytes = 4 * size_longs e.word; memory = memory_bits e.word }
+abbrev pub table_row : TableEntry → TableRow
+table_row e = record { word = e.word; extra = e.extra; bytes = 4 * size_longs e.word; memory = memory_bits e.word }
 
 -- The bytes begin with a header of so many hunks.
 abbrev pub BeginsWithTableOf : ℕ → List ℕ → Type 0
@@ -27,8 +27,9 @@ AcceptsHeader bytes f = (t : List TableEntry) → BeginsWithHeader bytes t → f
 -- What the reading of a table comes to. The rows begin with it, and what lies behind it is as it was; or all are as they were.
 pub data Tables (budget : ℕ) (bytes : List ℕ) (old new : List TableRow) (answer : Answer) : Type 0 where
   HasTable : (t : List TableEntry) → BeginsWithHeader bytes t → declared_bytes t ≤ budget → length t ≤ length old
-      → new ≡ map row_of t ++ drop (length t) old
+      → new ≡ map table_row t ++ drop (length t) old
       → answer ≡ done (length t) (length (header_bytes t)) (declared_bytes t) → Tables budget bytes old new answer
   HasNoRows : (t : List TableEntry) → BeginsWithHeader bytes t → declared_bytes t ≤ budget → length old < length t → new ≡ old
       → answer ≡ no_room (length t) (length (header_bytes t)) (declared_bytes t) → Tables budget bytes old new answer
-  HasNoTable : (f : Fault) → RefusesHeader budget bytes f → AcceptsHeader bytes f → new ≡ old → answer ≡ refused f → Tables budget bytes old new answer
+  HasNoTable : (f : Fault) → RefusesHeader budget bytes f → AcceptsHeader bytes f → new ≡ old
+      → answer ≡ refused f → Tables budget bytes old new answer

@@ -22,15 +22,12 @@ pub(crate) fn read_body(loader: BodyLoader, bytes: &[u8]) -> Result<(Image, usiz
     ensures fault { IfErr result (λ f. HasFault (loader.fed ++ bytes.now) f.place f.reason) }
 {
     let mut loader = loader;
-    let taken = match loader.feed(bytes) {
-        Ok(taken) => taken,
-        Err(fault) => return Err(fault),
-    };
+    let taken = loader.feed(bytes)?;
     if loader.want() > 0 {
         return Err(truncated(loader.fed() as usize));
     }
-    match loader.finish() {
-        Ok(image) => Ok((image, taken)),
-        Err(_) => unreachable!(),
-    }
+    let Ok(image) = loader.finish() else {
+        unreachable!()
+    };
+    Ok((image, taken))
 }

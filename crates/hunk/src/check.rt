@@ -2,7 +2,7 @@
 ghost use Rattle.std.specs.Prelude.{◌≡◌, length, map};
 ghost use Rattle.hunk_files.specs.HunkFile.{IsFileOf};
 ghost use Rattle.hunk_files.specs.declared.hunk_file.HunkFile.TheVariants as files;
-ghost use Rattle.hunk.specs.Checks.{Checks, ChecksWhatFits, kind_number, row_of};
+ghost use Rattle.hunk.specs.Checks.{Checks, ChecksWhatFits, finding_row, kind_number};
 
 use crate::answer::{Answer, done, no_memory, no_room, refused};
 use crate::file::size_in;
@@ -75,16 +75,16 @@ fn check_object(
 /// Writes the row of each finding.
 fn put_rows(found: &Findings, rows: &mut [FindingRow])
     requires { length rows.old ≡ length found.now }
-    ensures { rows.new ≡ map row_of found.now }
+    ensures { rows.new ≡ map finding_row found.now }
 {
     'rows: for i in 0..found.len() {
-        rows[i] = row_of(found.at(i));
+        rows[i] = finding_row(found.at(i));
     }
 }
 
 /// What callers see of a finding.
-fn row_of(finding: &Finding) -> FindingRow
-    ensures { result ≡ row_of finding.now }
+fn finding_row(finding: &Finding) -> FindingRow
+    ensures { result ≡ finding_row finding.now }
 {
     FindingRow {
         unit: finding.unit,

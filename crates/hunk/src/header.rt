@@ -1,11 +1,9 @@
 //! The header that bytes begin with.
-ghost use Rattle.std.specs.Prelude.{List, ◌≡◌, ◌≤◌, ◌*◌, ◌/◌, ◌++◌, IfOk, IfErr};
+ghost use Rattle.std.specs.Prelude.{◌≡◌, ◌≤◌, ◌*◌, ◌/◌, ◌++◌, IfOk, IfErr};
 ghost use Rattle.hunk_words.specs.declared.reason.Reason.TheVariants as reasons;
 ghost use Rattle.hunk_files.specs.Image.{declared_bytes};
-ghost use Rattle.hunk_files.specs.LoadFile.{TableEntry};
 ghost use Rattle.hunk_scatter.specs.HeaderBytes.{IsHeaderTable, header_bytes};
-ghost use Rattle.hunk_scatter.specs.HeaderFaults.{IsBudgetOrMemory};
-ghost use Rattle.hunk.specs.Loads.{BeginsWithHeader, IsHeaderRefusal};
+ghost use Rattle.hunk.specs.Loads.{AcceptsHeaderWithMemory, IsHeaderRefusal};
 
 use hunk_scatter::{Declared, HeaderLoader};
 use hunk_words::{Fault, Reason};
@@ -29,21 +27,17 @@ pub(crate) fn read_header(
         (λ read. bytes.entry.now ≡ header_bytes read.0.table ++ read.1.now) }
     ensures within { IfOk result (λ read. declared_bytes read.0.table ≤ budget) }
     ensures refusal { IfErr result (IsHeaderRefusal budget bytes.entry.now) }
-    ensures whole { IfErr result (λ f. (t : List TableEntry) → BeginsWithHeader bytes.entry.now t →
-        IsBudgetOrMemory f.reason) }
+    ensures accepts { IfErr result (λ f. AcceptsHeaderWithMemory bytes.entry.now f.reason) }
 {
     let mut loader = HeaderLoader::new(alloc, budget);
-    let taken = match loader.feed(bytes) {
-        Ok(taken) => taken,
-        Err(fault) => return Err(fault),
-    };
+    let taken = loader.feed(bytes)?;
     if loader.want() > 0 {
         return Err(truncated(bytes.len()));
     }
-    match loader.declared() {
-        Ok(declared) => Ok((declared, &bytes[taken..])),
-        Err(_) => unreachable!(),
-    }
+    let Ok(declared) = loader.declared() else {
+        unreachable!()
+    };
+    Ok((declared, &bytes[taken..]))
 }
 
 /// The fault of bytes, so many, that end inside a file.

@@ -1,6 +1,6 @@
 //! Load files, loaded into the caller's memory.
 ghost use Rattle.std.specs.Prelude.{length};
-ghost use Rattle.hunk.specs.Loads.{Loads, LoadsWhatFits, listed, packed};
+ghost use Rattle.hunk.specs.Loads.{Loads, LoadsWhatFits, listed_in, packed_from};
 
 use crate::answer::{Answer, no_room, refused};
 use crate::body::read_body;
@@ -22,8 +22,8 @@ use std::alloc::Global;
 /// NoBase of the first hunk that has no base, both before a byte of the body is read; OutOfMemory.
 #[unsafe(no_mangle)]
 pub extern "C" fn hunk_load(alloc: Global, bytes: &[u8], bases: &[u32], memory: &mut [u8]) -> Answer
-    ensures outcome { Loads (listed bases.now) bytes.now memory.old memory.new result }
-    ensures succeeds { LoadsWhatFits (listed bases.now) (length memory.old) bytes.now result }
+    ensures outcome { Loads (listed_in bases.now) bytes.now memory.old memory.new result }
+    ensures succeeds { LoadsWhatFits (listed_in bases.now) (length memory.old) bytes.now result }
 {
     load_at(alloc, bytes, memory, &Listed(bases))
 }
@@ -40,8 +40,8 @@ pub extern "C" fn hunk_load_packed(
     base: u32,
     memory: &mut [u8],
 ) -> Answer
-    ensures outcome { Loads (packed base) bytes.now memory.old memory.new result }
-    ensures succeeds { LoadsWhatFits (packed base) (length memory.old) bytes.now result }
+    ensures outcome { Loads (packed_from base) bytes.now memory.old memory.new result }
+    ensures succeeds { LoadsWhatFits (packed_from base) (length memory.old) bytes.now result }
 {
     load_at(alloc, bytes, memory, &Packed { start: base })
 }

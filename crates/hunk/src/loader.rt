@@ -1,7 +1,7 @@
 //! A loader in numbers, which its caller keeps.
 ghost use Rattle.std.specs.Prelude.{◌≡◌, true, Some, MatchOption};
 ghost use Rattle.hunk_scan.specs.Positions.{is_behind_header, is_done};
-ghost use Rattle.hunk.specs.Streams.{TellsAgain, phase_in, position_in, position_of, refusing, standing_of, whole};
+ghost use Rattle.hunk.specs.Streams.{TellsAgain, loader_position, phase_in, position_in, refusing, standing_of, whole};
 
 use crate::answer::{Answer, refused, strange};
 use hunk_scan::{OpenHunk, Phase, Position};
@@ -80,7 +80,7 @@ impl Loader {
     pub(crate) fn of(at: Standing) -> Loader
         ensures standing { is_behind_header at.state.position ≡ true
             → standing_of result ≡ Some at }
-        ensures whole { is_done at.state.position ≡ true → result.phase ≡ whole }
+        ensures ends { is_done at.state.position ≡ true → result.phase ≡ whole }
         ensures unrefused { result.refused ≡ 0 }
     {
         let (hunk, phase, part, owed) = numbers_of(at.state.position);
@@ -160,7 +160,7 @@ impl Loader {
 
     /// What the next longword is for.
     fn position(&self) -> Option<Position>
-        ensures { result ≡ position_of self.now }
+        ensures { result ≡ loader_position self.now }
     {
         if self.phase == WHOLE {
             return Some(Position::Done);
@@ -225,7 +225,7 @@ fn phase_numbers(phase: Phase) -> (u32, u32, u32)
 fn numbers_of(position: Position) -> (OpenHunk, u32, u32, u32)
     ensures standing { is_behind_header position ≡ true
         → position_in result.0 result.1 result.2 result.3 ≡ Some position }
-    ensures whole { is_done position ≡ true → result.1 ≡ whole }
+    ensures ends { is_done position ≡ true → result.1 ≡ whole }
 {
     let none = OpenHunk {
         hunks: 0,

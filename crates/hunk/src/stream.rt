@@ -101,10 +101,10 @@ pub extern "C" fn hunk_end(loader: &Loader) -> Answer
     if let Some(answer) = loader.refusal() {
         return answer;
     }
-    let Some(at) = loader.standing() else {
+    let Some(here) = loader.standing() else {
         return strange();
     };
-    if at.is_whole() {
+    if here.is_whole() {
         return done(loader.hunk, loader.fed, loader.start);
     }
     refused(Fault {

@@ -2,7 +2,7 @@
 ghost use Rattle.std.specs.Prelude.{List, ◌≡◌, length, map};
 ghost use Rattle.hunk_files.specs.LoadFile.{TableEntry};
 ghost use Rattle.hunk.specs.Loads.{BeginsWithHeader};
-ghost use Rattle.hunk.specs.Tables.{BeginsWithTableOf, Tables, row_of};
+ghost use Rattle.hunk.specs.Tables.{BeginsWithTableOf, Tables, table_row};
 
 use crate::answer::{Answer, done, no_room, refused};
 use hunk_scatter::stream::header_size;
@@ -55,19 +55,19 @@ pub extern "C" fn hunk_table(bytes: &[u8], budget: u64, rows: &mut [TableRow]) -
 fn put_rows(bytes: &[u8], rows: &mut [TableRow])
     requires { BeginsWithTableOf (length rows.old) bytes.now }
     ensures { (t : List TableEntry) → BeginsWithHeader bytes.now t → length t ≡ length rows.old
-        → rows.new ≡ map row_of t }
+        → rows.new ≡ map table_row t }
 {
     let mut at = TABLE;
     'rows: for i in 0..rows.len() {
         let size = SizeWord::at(bytes, at);
-        rows[i] = row_of(size);
+        rows[i] = table_row(size);
         at += SizeWord::entry_longs(size.word);
     }
 }
 
 /// What callers see of a size word.
-fn row_of(size: SizeWord) -> TableRow
-    ensures { result ≡ row_of (record { word = size.word; extra = size.extra }) }
+fn table_row(size: SizeWord) -> TableRow
+    ensures { result ≡ table_row (record { word = size.word; extra = size.extra }) }
 {
     TableRow {
         word: size.word,

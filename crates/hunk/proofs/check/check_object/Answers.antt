@@ -3,7 +3,7 @@ use Rattle.hunk_words.specs.declared.reason.Reason.TheVariants as reasons
 use Rattle.hunk_files.specs.Findings.{FindingValue}
 use Rattle.hunk_files.specs.declared.hunk_file.HunkFile.TheVariants as files
 use Rattle.hunk.specs.Answers.{refused}
-use Rattle.hunk.specs.Checks.{HasFindings, HasNoRows, HasNoMemory, row_of}
+use Rattle.hunk.specs.Checks.{HasFindings, HasNoRows, HasNoMemory, finding_row}
 use Rattle.hunk.specs.declared.check.FindingRow.{FindingRow}
 use Rattle.hunk.proofs.Loaded.{same_answer}
 use Rattle.hunk.proofs.OneFile.{object_size}
@@ -23,7 +23,7 @@ returns-then-count-rows c =
 pub returns : goal.returns
 returns c =
     let count = c.len-count.ensures ∙ ap (λ (xs : List FindingValue). length xs) c.in-Ok.ensures.value in
-    let rows = c.put_rows.ensures ∙ ap (λ (xs : List FindingValue). map row_of xs) c.in-Ok.ensures.value in
+    let rows = c.put_rows.ensures ∙ ap (λ (xs : List FindingValue). map finding_row xs) c.in-Ok.ensures.value in
     HasFindings (files.Object c.args.file.now) c.requires (omega (arith, c.if-count-rows.false, count))
     (ap₂ (λ (xs : List FindingRow) (n : ℕ). xs ++ drop n c.args.rows.now) rows count)
     (c.done.ensures ∙ same_answer _ _ _ _ _ _ _ refl (omega (arith, object_size _ _ c.requires)) (omega (arith, count)))

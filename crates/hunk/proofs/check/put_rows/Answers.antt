@@ -1,11 +1,11 @@
 use Rattle.std.proofs.Common.{arith}
-use Rattle.hunk.specs.Checks.{row_of}
+use Rattle.hunk.specs.Checks.{finding_row}
 use Rattle.hunk.proofs.Filling.{filled_more, filled_all}
 use Rattle.hunk.proofs.check.put_rows.Goals as goal
 
 pub rows-preserved : goal.rows-preserved
 rows-preserved c =
-    filled_more row_of c.args.found.now c.rows.rows c.rows.i c.at.result.now c.row_of.result c.at.ensures c.row_of.ensures c.rows.invariant
+    filled_more finding_row c.args.found.now c.rows.rows c.rows.i c.at.result.now c.finding_row.result c.at.ensures c.finding_row.ensures c.rows.invariant
 
 pub returns : goal.returns
-returns c = filled_all row_of c.args.found.now c.rows.rows c.rows.i (omega (arith, c.len-i-end.ensures, c.rows-test.false)) c.rows.invariant
+returns c = filled_all finding_row c.args.found.now c.rows.rows c.rows.i (omega (arith, c.len-i-end.ensures, c.rows-test.false)) c.rows.invariant

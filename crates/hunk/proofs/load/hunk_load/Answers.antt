@@ -1,12 +1,12 @@
 use Rattle.std.proofs.Common.{rules, List, ℕ, ◌-◌, length, subst, arith}
 use Rattle.std.proofs.lemmas.List.{take_all}
-use Rattle.hunk.specs.Loads.{Loads, listed}
+use Rattle.hunk.specs.Loads.{Loads, listed_in}
 use Rattle.hunk.proofs.Succeeding.{what_fits}
 use Rattle.hunk.proofs.load.hunk_load.Goals as goal
 
 pub returns-clause-outcome : goal.returns-clause-outcome
 returns-clause-outcome c =
-    subst (λ (bases : List ℕ). Loads (listed bases) c.args.bytes.now c.args.memory.now c.load_at.new.memory c.load_at.result) (search (rules, take_all (length c.args.bases.now - 0) c.args.bases.now (omega arith)))
+    subst (λ (bases : List ℕ). Loads (listed_in bases) c.args.bytes.now c.args.memory.now c.load_at.new.memory c.load_at.result) (search (rules, take_all (length c.args.bases.now - 0) c.args.bases.now (omega arith)))
     c.load_at.ensures
 
 pub returns-clause-succeeds : goal.returns-clause-succeeds

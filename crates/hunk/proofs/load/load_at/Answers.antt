@@ -12,7 +12,7 @@ use Rattle.hunk.proofs.Loaded.{header_size, no_header, same_answer, not_placed, 
 use Rattle.hunk.proofs.load.load_at.Goals as goal
 
 pub returns-in-Err : goal.returns-in-Err
-returns-in-Err g c = inr (no_header _ _ _ _ c.in-Err.fault c.in-Err.ensures.refusal c.in-Err.ensures.whole c.refused.ensures, refl)
+returns-in-Err g c = inr (no_header _ _ _ _ c.in-Err.fault c.in-Err.ensures.refusal c.in-Err.ensures.accepts c.refused.ensures, refl)
 
 pub returns-then-total-memory : goal.returns-then-total-memory
 returns-then-total-memory g c =

@@ -9,7 +9,7 @@ use Rattle.hunk.proofs.stream.hunk_end.Goals as goal
 
 pub returns-then-is_whole : goal.returns-then-is_whole
 returns-then-is_whole c =
-    let at = c.in-Some-standing.at in
+    let at = c.in-Some-standing.here in
     let told : standing_of c.args.loader.now ≡ Some at = sym c.in-Some-standing.ensures in
     let ends : EndsLoading at true = subst (EndsLoading at) c.if-is_whole.true c.is_whole.ensures in
     let answered : c.done.result ≡ done c.args.loader.now.hunk c.args.loader.now.fed c.args.loader.now.start =
@@ -19,9 +19,8 @@ returns-then-is_whole c =
 
 pub returns : goal.returns
 returns c =
-    let at = c.in-Some-standing.at in
+    let at = c.in-Some-standing.here in
     let told : standing_of c.args.loader.now ≡ Some at = sym c.in-Some-standing.ensures in
     let ends : EndsLoading at false = subst (EndsLoading at) c.if-is_whole.false c.is_whole.ensures in
-    IsCutShort c.in_default.ensures (at, told)
+    IsCutShort c.in_default.ensures (at, told) (λ rows memory fed h. cut_short rows c.args.loader.now memory fed at told ends h)
     (c.refused.ensures ∙ ap (λ (n : ℕ). refused (record { place = n; reason = reasons.Truncated })) (omega arith))
-    (λ rows memory fed h. cut_short rows c.args.loader.now memory fed at told ends h)

@@ -9,7 +9,7 @@ use Rattle.hunk.proofs.stream.hunk_feed.Goals as goal
 pub returns-in-Ok : goal.returns-in-Ok
 returns-in-Ok c =
     let told : standing_of c.args.loader.now ≡ Some c.in-Some-standing.at = sym c.in-Some-standing.ensures in
-    HasTaken c.in-Ok.taken c.in_default.ensures (c.in-Some-standing.at, told) c.in-Ok.ensures.inside (λ less. c.of.ensures.whole (c.in-Ok.ensures.all less))
+    HasTaken c.in-Ok.taken c.in_default.ensures (c.in-Some-standing.at, told) c.in-Ok.ensures.inside (λ less. c.of.ensures.ends (c.in-Ok.ensures.all less))
     (λ fed h room.
     let k = c.in-Ok.ensures.takes fed (stands_at c.args.rows.now c.args.loader.now c.args.memory.now fed c.in-Some-standing.at told h) room in
     record {

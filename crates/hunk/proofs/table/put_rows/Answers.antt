@@ -1,5 +1,5 @@
 use Rattle.std.proofs.Common.{◌+◌, ◌<◌, ℕ, length, refl, sym, subst, arith}
-use Rattle.hunk.specs.Tables.{row_of}
+use Rattle.hunk.specs.Tables.{table_row}
 use Rattle.hunk.proofs.Filling.{filled_more, filled_all}
 use Rattle.hunk.proofs.TableRows.{StandsAt, stands_first, word_room, extra_room, entry_is, stands_next}
 use Rattle.hunk.proofs.table.put_rows.Goals as goal
@@ -27,10 +27,10 @@ rows-preserved c = λ t h e.
     let inv = c.rows.invariant t h e in
     let more : c.rows.i < length t = omega (arith, e, c.rows-test.true) in
     let size = c.at-size.result in (
-      filled_more row_of t c.rows.rows c.rows.i _ c.row_of.result (entry_is _ t h c.rows.i c.rows.at inv.1 more size.word size.extra c.at-size.ensures.word c.at-size.ensures.extra) c.row_of.ensures inv.0,
+      filled_more table_row t c.rows.rows c.rows.i _ c.table_row.result (entry_is _ t h c.rows.i c.rows.at inv.1 more size.word size.extra c.at-size.ensures.word c.at-size.ensures.extra) c.table_row.ensures inv.0,
       subst (λ (n : ℕ). StandsAt c.args.bytes.now t h (c.rows.i + 1) (c.rows.at + n)) (sym c.entry_longs-at.ensures.value)
           (stands_next _ t h c.rows.i c.rows.at inv.1 more size.word size.extra c.at-size.ensures.word c.at-size.ensures.extra),
     )
 
 pub returns : goal.returns
-returns c = λ t h e. filled_all row_of t c.rows.rows c.rows.i (omega (arith, e, c.rows-test.false)) (c.rows.invariant t h e).0
+returns c = λ t h e. filled_all table_row t c.rows.rows c.rows.i (omega (arith, e, c.rows-test.false)) (c.rows.invariant t h e).0

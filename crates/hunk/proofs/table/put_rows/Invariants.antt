@@ -1,10 +1,10 @@
 use Rattle.std.specs.Prelude.{◌≡◌, List, length}
 use Rattle.hunk_files.specs.LoadFile.{TableEntry}
 use Rattle.hunk.specs.Loads.{BeginsWithHeader}
-use Rattle.hunk.specs.Tables.{row_of}
+use Rattle.hunk.specs.Tables.{table_row}
 use Rattle.hunk.proofs.Filling.{AreFilledTo}
 use Rattle.hunk.proofs.TableRows.{StandsAt}
 use Rattle.hunk.proofs.table.put_rows.Given as goal
 
 abbrev pub invariant-rows : goal.invariant-rows
-invariant-rows l = (t : List TableEntry) (h : BeginsWithHeader l.bytes t) → length t ≡ length l.fn.rows → AreFilledTo row_of t l.rows l.i × StandsAt l.bytes t h l.i l.at
+invariant-rows l = (t : List TableEntry) (h : BeginsWithHeader l.bytes t) → length t ≡ length l.fn.rows → AreFilledTo table_row t l.rows l.i × StandsAt l.bytes t h l.i l.at
