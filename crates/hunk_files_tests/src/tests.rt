@@ -13,6 +13,7 @@ mod object_findings;
 mod object_refusals;
 mod object_texts;
 mod readers;
+mod stops;
 mod writing;
 
 /// Example 25: an object file with an entry of no type.

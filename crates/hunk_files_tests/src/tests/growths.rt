@@ -1,9 +1,10 @@
 //! Each growth of each call refused in turn, on files of several hunks and units.
 
-use hunk_files::{ImageFault, LoadFile, ObjectFile};
-use hunk_testing::{all_but, answers_growth_by_growth, examples, memory_ends, spelled};
+use hunk_files::{HunkFile, ImageFault, LoadFile, ObjectFile};
+use hunk_testing::{all_but, answers_growth_by_growth, examples, memory_ends, spelled, wide};
 use hunk_words::{FileFault, Reason};
 use std::alloc::{AllocError, Global};
+use std::process::Abort;
 use std::test::Fail;
 
 /// Where memory is asked for in `TWO_UNITS`: for each hunk's blocks at its first, for groups, entries and symbols,
@@ -141,5 +142,70 @@ fn none_of_a_strip(rt: HostRuntime) -> Result<(), Fail> {
         object_blocks(alloc, &object)?.as_slice(),
         [4, 2, 2].as_slice()
     );
+    Ok(())
+}
+
+/// Sees that the load file is written with no memory, by itself and as a file of either kind.
+fn expect_load_written(rt: &impl Abort, alloc: Global, text: &str) -> Result<(), Fail> {
+    let bytes = spelled(alloc, text)?;
+    let (file, _) = LoadFile::decode(alloc, &bytes)?;
+    let either = HunkFile::decode(alloc, &bytes)?;
+    let (mut first, mut second) = (wide(), wide());
+    let held = all_but(alloc, &[])?;
+    let answers = (file.encode(&mut first), either.encode(&mut second));
+    drop(held);
+    assert_eq!(rt; answers, (Ok(()), Ok(())));
+    assert_eq!(rt; first.into_inner().into_inner().taken(), bytes.as_slice());
+    assert_eq!(rt; second.into_inner().into_inner().taken(), bytes.as_slice());
+    Ok(())
+}
+
+/// Sees the same of an object file.
+fn expect_object_written(rt: &impl Abort, alloc: Global, text: &str) -> Result<(), Fail> {
+    let bytes = spelled(alloc, text)?;
+    let file = ObjectFile::decode(alloc, &bytes)?;
+    let either = HunkFile::decode(alloc, &bytes)?;
+    let (mut first, mut second) = (wide(), wide());
+    let held = all_but(alloc, &[])?;
+    let answers = (file.encode(&mut first), either.encode(&mut second));
+    drop(held);
+    assert_eq!(rt; answers, (Ok(()), Ok(())));
+    assert_eq!(rt; first.into_inner().into_inner().taken(), bytes.as_slice());
+    assert_eq!(rt; second.into_inner().into_inner().taken(), bytes.as_slice());
+    Ok(())
+}
+
+/// Writing takes no memory: a page stands on the stack.
+#[test]
+fn none_of_a_text(rt: HostRuntime) -> Result<(), Fail> {
+    if !memory_ends(&rt)? {
+        return Ok(());
+    }
+    for text in [examples::ONE_HUNK, examples::FIVE_HUNKS] {
+        expect_load_written(&rt, rt.alloc(), text)?;
+    }
+    for text in [examples::EMPTY_UNIT, examples::TWO_UNITS] {
+        expect_object_written(&rt, rt.alloc(), text)?;
+    }
+    Ok(())
+}
+
+/// An image of another number of bases is refused before memory is asked for.
+#[test]
+fn none_of_an_image_that_is_refused(rt: HostRuntime) -> Result<(), Fail> {
+    if !memory_ends(&rt)? {
+        return Ok(());
+    }
+    let alloc = rt.alloc();
+    let bytes = spelled(alloc, examples::FIVE_HUNKS)?;
+    let (file, _) = LoadFile::decode(alloc, &bytes)?;
+    let held = all_but(alloc, &[])?;
+    let fewer = file.image(alloc, [0; 4].as_slice()).err();
+    let more = file.image(alloc, [0; 6].as_slice()).err();
+    let as_many = file.image(alloc, [0; 5].as_slice()).err();
+    drop(held);
+    let amiss = Some(ImageFault::BaseCount);
+    assert_eq!(rt; (fewer, more), (amiss, amiss));
+    assert_eq!(rt; as_many, Some(ImageFault::OutOfMemory));
     Ok(())
 }

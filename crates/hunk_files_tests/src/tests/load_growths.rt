@@ -2,7 +2,7 @@
 
 use crate::tests::growths::wanted;
 use hunk_files::LoadFile;
-use hunk_testing::{answers_growth_by_growth, examples, memory_ends, spelled};
+use hunk_testing::{answers_growth_by_growth, answers_one_by_one, examples, memory_ends, spelled};
 use std::alloc::Global;
 use std::process::Abort;
 use std::test::Fail;
@@ -40,4 +40,31 @@ fn of_six_blocks(rt: HostRuntime) -> Result<(), Fail> {
         return Ok(());
     }
     expect(&rt, rt.alloc(), SIX_BLOCKS, OF_SIX_BLOCKS)
+}
+
+/// Five hunks, at 44, 112, 160, 184 and 204: the first with a NAME block and two groups of relocations, the second
+/// with two symbols, the third with its DEBUG block first, the fourth with relocations of no group, the last of six
+/// blocks.
+const FIVE: &str = "3F3 0 5 0 4 2 C0000001 10004 0 1 1 / \
+    3E8 1 2E740000 / 3E9 2 4EF90000 44E71 / 3EC 2 4 0 2 1 0 4 0 / 3F2 / \
+    3EA 1 12345678 / 3F0 1 5F6D0000 0 1 5F6E0000 4 0 / 3F2 / \
+    3F1 1 3F2 / 3EB 0 / 3F2 / 3EB 1 / 3EC 0 / 3F2 / \
+    3EB 1 / 3F1 0 / 3F1 0 / 3F1 0 / 3F1 0 / 3F2";
+
+/// The table at its first row and again at the fifth; each hunk's blocks at the last longword of the first, and the
+/// last hunk's again at that of the fifth; groups and symbols at the last longword of the first; and the hunks at the
+/// first END and again at the fifth.
+const OF_FIVE: &[u64] = &[20, 40, 52, 88, 108, 120, 136, 168, 188, 208, 240, 244];
+
+/// A list that grows gives back the memory that it had, so each growth has a piece of its own here.
+#[test]
+fn of_five_hunks(rt: HostRuntime) -> Result<(), Fail> {
+    if !memory_ends(&rt)? {
+        return Ok(());
+    }
+    let alloc = rt.alloc();
+    let bytes = spelled(alloc, FIVE)?;
+    let answers = answers_one_by_one(alloc, || LoadFile::decode(alloc, &bytes).err())?;
+    assert_eq!(rt; answers, wanted(alloc, OF_FIVE)?);
+    Ok(())
 }

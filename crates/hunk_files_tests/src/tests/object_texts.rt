@@ -1,16 +1,16 @@
-//! Object files that are written again, whole, stripped and to a sink that stops.
+//! Object files that are written again, whole and stripped.
 ghost use Rattle.std.specs.Prelude.{◌≡◌};
 
 use hunk_blocks::Body;
 use hunk_files::ObjectFile;
-use hunk_testing::{Narrow, examples, spelled};
-use hunk_words::{FromWrite, LongWriter, WriteFault};
+use hunk_testing::{examples, spelled};
+use hunk_words::{FromWrite, LongWriter};
 use std::alloc::Global;
 use std::process::Abort;
 use std::test::Fail;
 
 /// Each text with what is left of it by `strip`.
-const TEXTS: &[(&str, &str)] = &[
+pub(super) const TEXTS: &[(&str, &str)] = &[
     (examples::EMPTY_UNIT, examples::EMPTY_UNIT),
     (examples::OBJECT, examples::OBJECT),
     (
@@ -54,29 +54,6 @@ fn what_was_read(rt: HostRuntime) -> Result<(), Fail> {
         let bytes = spelled(rt.alloc(), text)?;
         let stripped = spelled(rt.alloc(), stripped)?;
         expect_again(&rt, rt.alloc(), bytes.as_slice(), stripped.as_slice())?;
-    }
-    Ok(())
-}
-
-/// Sees that a writer that stops has taken the first bytes of the file, as many as the fault says.
-fn expect_stops(rt: &impl Abort, alloc: Global, bytes: &[u8]) -> Result<(), Fail> {
-    let file = ObjectFile::decode(alloc, bytes)?;
-    for room in 0..bytes.len() {
-        let written = room as u64;
-        let mut writer = LongWriter::new(FromWrite::new(Narrow::failing(room)));
-        assert_eq!(rt; file.encode(&mut writer), Err(WriteFault { written }));
-        assert_eq!(rt; writer.written(), written);
-        let narrow = writer.into_inner().into_inner();
-        assert_eq!(rt; narrow.taken(), &bytes[..room]);
-    }
-    Ok(())
-}
-
-#[test]
-fn to_a_sink_that_stops(rt: HostRuntime) -> Result<(), Fail> {
-    for (text, _) in TEXTS {
-        let bytes = spelled(rt.alloc(), text)?;
-        expect_stops(&rt, rt.alloc(), &bytes)?;
     }
     Ok(())
 }
