@@ -2,6 +2,7 @@
 ghost use Rattle.std.specs.Prelude.{◌≡◌, ◌⊎◌, ◌+◌, ◌^◌, ◌<◌, ℕ, List, Some, false, length, take};
 ghost use Rattle.std.specs.Prelude.{IfErr, IsErrAnd, IsTrue, OnOk};
 ghost use Rattle.hunk_words.specs.Prints.{Prints};
+ghost use Rattle.hunk_words.specs.Puts.{PutsText};
 ghost use Rattle.hunk_words.specs.declared.fault.Fault.{Fault};
 ghost use Rattle.hunk_words.specs.declared.reason.Reason.TheVariants.{Budget};
 ghost use Rattle.hunk_commands.specs.declared.fault.RunFault.TheVariants.{Memory, Read, Refused};
@@ -13,7 +14,7 @@ ghost use Rattle.hunk_scatter.specs.LoadOutcomes.{StopsBehindFile, StopsBehindHe
 ghost use Rattle.hunk_commands.specs.Engine.{StopsAtWrite};
 ghost use Rattle.hunk_commands.specs.Faults.{IsOfLoad};
 ghost use Rattle.hunk_commands.specs.Inputs.{TellsReading};
-ghost use Rattle.hunk_commands.specs.Output.{PutsText, StopsOutput};
+ghost use Rattle.hunk_commands.specs.Output.{StopsOutput};
 ghost use Rattle.hunk_commands.specs.Relocating.{LacksMemory, ReadsShort, Relocates, RelocatesAll};
 ghost use Rattle.hunk_commands.specs.Relocating.{image_listing, packed};
 

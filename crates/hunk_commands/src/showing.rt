@@ -1,9 +1,9 @@
 //! `show`: the hunks and blocks of a file are listed.
 ghost use Rattle.std.specs.Prelude.{◌≡◌, ◌+◌, ◌^◌, ◌<◌, length, IfErr, OnOk};
 ghost use Rattle.hunk_words.specs.Prints.{Prints};
+ghost use Rattle.hunk_words.specs.Puts.{PutsText};
 ghost use Rattle.hunk_commands.specs.Engine.{ReadsThenPuts, StopsAtWrite, Writes, WritesAll};
 ghost use Rattle.hunk_commands.specs.Shown.{IsShown, file_listing};
-ghost use Rattle.hunk_commands.specs.Output.{PutsText};
 
 use crate::decoding::decode_file;
 use crate::fault::RunFault;

@@ -1,8 +1,8 @@
 //! `validate`: a file is checked.
 ghost use Rattle.std.specs.Prelude.{◌≡◌, ◌+◌, ◌^◌, ◌<◌, length, IfOk, IfErr};
 ghost use Rattle.hunk_words.specs.Prints.{Prints};
+ghost use Rattle.hunk_words.specs.Puts.{PutsText};
 ghost use Rattle.hunk_commands.specs.Engine.{ReadsThenPuts, StopsAtWrite, Writes, WritesAll};
-ghost use Rattle.hunk_commands.specs.Output.{PutsText};
 ghost use Rattle.hunk_commands.specs.Reports.{finding_count, report};
 ghost use Rattle.hunk_commands.specs.Validated.{IsReport, IsValidated};
 
