@@ -92,7 +92,8 @@ fn spelled_bytes<R: Source>(alloc: Global, source: &mut R) -> Result<Vec<u8>, Ru
     ensures spelled { IfOk result
         (λ bytes. ReadsHex (R.left source.old) (R.left source.new) (FILE_BYTES + 1) bytes.items) }
     ensures err { IfErr result
-        (λ fault. ReadsNoText fault (R.left source.old) (R.left source.new) FILE_BYTES (R.failed source.new)) }
+        (λ fault. ReadsNoText fault (R.left source.old) (R.left source.new) FILE_BYTES
+        (R.failed source.new)) }
 {
     match read_hex(alloc, source, FILE_BYTES + 1) {
         Err(RunFault::Refused(Fault { place: _, reason })) => Err(RunFault::Refused(Fault {
@@ -113,7 +114,8 @@ fn list_bytes<R: Source, W: Sink>(
     ensures bound { IfOk result (λ status. status ≤ 4) }
     ensures done { IfOk result
         (λ status. status ≡ 0
-        → ListsSource false listing (R.left source.old) (R.left source.new) W.taken out.old out.new) }
+        → ListsSource false listing (R.left source.old) (R.left source.new)
+        W.taken out.old out.new) }
     ensures tells { IfOk result (TellsStatus W.taken W.failed out.old out.new) }
     ensures fails { IfErr result (StopsOutput W.failed out.old out.new) }
     ensures refused { IfErr result (λ fault. (refusal : Fault) → fault ≡ Refused refusal
