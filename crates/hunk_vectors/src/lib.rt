@@ -6,8 +6,6 @@ mod load_vectors;
 mod object_texts;
 mod object_vectors;
 mod spelling;
-#[cfg(test)]
-mod tests;
 
 pub use crate::load_texts::LOAD_TEXTS;
 pub use crate::load_vectors::{VECTORS, Vector, Want, bytes};

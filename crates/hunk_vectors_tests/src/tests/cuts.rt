@@ -1,7 +1,7 @@
 //! Each load file in two pieces, cut at every byte, and each front of it.
 
 use crate::tests::readings::agrees;
-use crate::{LOAD_TEXTS, bytes};
+use hunk_vectors::{LOAD_TEXTS, bytes};
 use std::test::Fail;
 
 #[test]

@@ -1,7 +1,7 @@
 //! Each object file, and each front of it that is one, checked and written again.
 
-use crate::{OBJECT_TEXTS, OBJECTS, ObjectWant, object_bytes};
 use hunk_files::ObjectFile;
+use hunk_vectors::{OBJECT_TEXTS, OBJECTS, ObjectWant, object_bytes};
 use hunk_words::{FromWrite, LongWriter};
 use std::alloc::Global;
 use std::test::Fail;

@@ -1,9 +1,9 @@
 //! A load by a reader of two pieces, beside the decoder of whole files.
-ghost use Rattle.std.specs.Prelude.{None, false};
 
 use hunk_files::LoadFile;
 use hunk_scatter::{Image, Limits, Packed, load};
-use hunk_words::{Failed, SizeWord, Source, word_at};
+use hunk_testing::Fed;
+use hunk_words::{SizeWord, word_at};
 use std::alloc::{AllocError, Global};
 
 /// The bytes that the suite's loads may declare.
@@ -11,42 +11,6 @@ const BUDGET: u64 = 1_000;
 
 /// Where the suite's loads lie in memory.
 const START: u32 = 0x21000;
-
-/// Gives its bytes in two pieces, the first of `cut` bytes.
-#[derive(Drop)]
-struct InTwo<'a> {
-    bytes: &'a [u8],
-    cut: usize,
-    given: usize,
-}
-
-impl<'a> Source for InTwo<'a> {
-    ghost left = { λ _. None };
-
-    ghost failed = { λ _. false };
-
-    fn pull(&mut self, buf: &mut [u8]) -> Result<usize, Failed> {
-        let end = if self.given < self.cut {
-            self.cut.min(self.bytes.len())
-        } else {
-            self.bytes.len()
-        };
-        let rest = self.bytes.get(self.given..end).unwrap_or(&[]);
-        let count = rest.len().min(buf.len());
-        buf[..count].copy_from_slice(&rest[..count]);
-        self.given += count;
-        Ok(count)
-    }
-}
-
-/// The segments one after another.
-fn joined(alloc: Global, image: &Image) -> Result<Vec<u8>, AllocError> {
-    let mut bytes = Vec::new(alloc);
-    for (_, segment) in image.segments() {
-        bytes.extend_from_slice(segment)?;
-    }
-    Ok(bytes)
-}
 
 fn bases(alloc: Global, image: &Image) -> Result<Vec<u32>, AllocError> {
     let mut bases = Vec::new(alloc);
@@ -82,11 +46,7 @@ pub fn agrees(alloc: Global, bytes: &[u8], cut: usize) -> Result<bool, AllocErro
         budget: BUDGET,
         file_bytes: 100_000,
     };
-    let mut source = InTwo {
-        bytes,
-        cut,
-        given: 0,
-    };
+    let mut source = Fed::in_two(bytes, cut);
     let decoded = LoadFile::decode(alloc, bytes);
     match load(alloc, &mut source, limits, &Packed { start: START }) {
         Ok(image) => {
@@ -94,8 +54,11 @@ pub fn agrees(alloc: Global, bytes: &[u8], cut: usize) -> Result<bool, AllocErro
                 return Ok(false);
             };
             let bases = bases(alloc, &image)?;
-            let joined = joined(alloc, &image)?;
-            Ok(count == source.given && file.image(alloc, bases.as_slice()) == Ok(joined))
+            let memory = file.image(alloc, bases.as_slice());
+            Ok(
+                bytes.get(count..) == Some(source.rest())
+                    && memory.is_ok_and(|memory| memory.as_slice() == image.joined()),
+            )
         }
         Err(fault) => match fault.reason.number() {
             1..=24 | 26 => Ok(decoded.err() == Some(fault)),

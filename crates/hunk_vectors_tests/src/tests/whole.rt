@@ -1,8 +1,8 @@
 //! Each load file whole, and what each is to be answered with.
 
 use crate::tests::readings::agrees;
-use crate::{LOAD_TEXTS, VECTORS, Want, bytes};
 use hunk_files::LoadFile;
+use hunk_vectors::{LOAD_TEXTS, VECTORS, Want, bytes};
 use std::alloc::{AllocError, Global};
 use std::test::Fail;
 
