@@ -77,8 +77,8 @@ fn put_rows(found: &Findings, rows: &mut [FindingRow])
     requires { length rows.old ≡ length found.now }
     ensures { rows.new ≡ map finding_row found.now }
 {
-    'rows: for i in 0..found.len() {
-        rows[i] = finding_row(found.at(i));
+    'rows: for (i, row) in rows.iter_mut().enumerate() {
+        *row = finding_row(found.at(i));
     }
 }
 

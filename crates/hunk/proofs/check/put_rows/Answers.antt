@@ -8,4 +8,4 @@ rows-preserved c =
     filled_more finding_row c.args.found.now c.rows.rows c.rows.i c.at.result.now c.finding_row.result c.at.ensures c.finding_row.ensures c.rows.invariant
 
 pub returns : goal.returns
-returns c = filled_all finding_row c.args.found.now c.rows.rows c.rows.i (omega (arith, c.len-i-end.ensures, c.rows-test.false)) c.rows.invariant
+returns c = filled_all finding_row c.args.found.now c.rows.rows c.rows.i (omega (arith, c.requires, c.rows.invariant.size, c.rows-test.false)) c.rows.invariant
