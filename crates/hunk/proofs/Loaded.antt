@@ -14,7 +14,8 @@ use Rattle.hunk_scatter.specs.HeaderBytes.{header_bytes}
 use Rattle.hunk_scatter.specs.HeaderFaults.{IsBudgetOrMemory, IsHeaderFaultBy}
 use Rattle.hunk_scatter.specs.LoaderValues.{IsImageOf, joined}
 use Rattle.hunk_scatter.specs.Placing.{Placing, AreBases, HasBases, IsUnplacedFor}
-use Rattle.hunk_scatter.specs.Rows.{table_entry_of, entries_of, bases_of}
+use Rattle.hunk_files.specs.Tables.{row_entry}
+use Rattle.hunk_scatter.specs.Rows.{entries_of, bases_of}
 use Rattle.hunk_scatter.proofs.HeaderFronts.{one_table}
 use Rattle.hunk_scatter.proofs.TableLimit.{never_passes}
 use Rattle.hunk.specs.declared.answer.Answer.{Answer}
@@ -90,7 +91,7 @@ pub loaded : (base : Placing) (bytes body old new : List ℕ) (t : List TableEnt
 loaded base bytes body old new t rows segments taken answer split within entries placed i fits memory answered =
     let v = i.value in
     let same : table v ≡ t = i.file.table_is ∙ entries in
-    let hunks : length rows ≡ length v = sym (length-map rows table_entry_of) ∙ ap length entries ∙ ap length (sym same) ∙ length-map v (λ (h : HunkValue). h.entry) in
+    let hunks : length rows ≡ length v = sym (length-map rows row_entry) ∙ ap length entries ∙ ap length (sym same) ∙ length-map v (λ (h : HunkValue). h.entry) in
     let size : length bytes - length body + taken ≡ length (bytes_of (text v)) =
     omega (arith, ap length split, length-append (header_bytes t) body, ap length i.file.bytes_are, length-append (header_bytes t) (take taken body), length-take-le taken body within) in
     record {

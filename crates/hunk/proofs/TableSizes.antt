@@ -14,7 +14,8 @@ use Rattle.hunk_files.specs.LoadFile.{IsTableEntry}
 use Rattle.hunk_files.specs.LoadText.{entry_labelled, header_labelled}
 use Rattle.hunk_files.specs.declared.row.Row.{Row}
 use Rattle.hunk_scatter.specs.HeaderBytes.{IsHeaderTable, header_bytes, header_words}
-use Rattle.hunk_scatter.specs.Rows.{entries_of, table_entry_of}
+use Rattle.hunk_files.specs.Tables.{row_entry}
+use Rattle.hunk_scatter.specs.Rows.{entries_of}
 use Rattle.hunk_scatter.proofs.DeclaredBytes.{declared_take}
 use Rattle.hunk.specs.Streams.{HasSizes}
 
@@ -33,7 +34,7 @@ entries_length [] = refl
 entries_length (r ∷ rows) =
     omega (
       arith,
-      length-append (entry_labelled (table_entry_of r)) (flat_map entry_labelled (entries_of rows)),
+      length-append (entry_labelled (row_entry r)) (flat_map entry_labelled (entries_of rows)),
       entry_length (has_both_bits r.word) r.word r.extra,
       sum_by-cons row_bytes r rows,
       entries_length rows,
@@ -51,7 +52,7 @@ header_length rows =
 -- ---- the first rows
 
 abbrev IsEntry : Row → Type 0
-IsEntry r = IsTableEntry (table_entry_of r)
+IsEntry r = IsTableEntry (row_entry r)
 
 -- So many rows are entries, and come to so many bytes in a header and so many that they declare.
 pub record AreSummed (rows : List Row) (i header bytes : ℕ) : Type 0 where
@@ -68,7 +69,7 @@ entry_room word = go (has_both_bits word)
     go true = omega arith
     go false = omega arith
 
-pub summed_more : (rows : List Row) (i header bytes size more : ℕ) (d r : Row) → i < length rows → r ≡ get_or rows i d → IsTableEntry (table_entry_of r) → size ≡ 4 * entry_longs r.word →
+pub summed_more : (rows : List Row) (i header bytes size more : ℕ) (d r : Row) → i < length rows → r ≡ get_or rows i d → IsTableEntry (row_entry r) → size ≡ 4 * entry_longs r.word →
     more ≡ 4 * size_longs r.word → AreSummed rows i header bytes → AreSummed rows (i + 1) (header + size) (bytes + more)
 summed_more rows i header bytes size more d r inside is entry size_is more_is s =
     let next : suc i ≡ i + 1 = omega arith in
@@ -93,9 +94,9 @@ summed_all rows i header bytes e some most s =
     let whole : take i rows ≡ rows = take_all i rows (omega (arith, e)) in
     record {
       is_table = record {
-        some = omega (arith, some, length-map rows table_entry_of);
-        most = omega (arith, most, length-map rows table_entry_of);
-        each = recursion_from_All IsTableEntry (entries_of rows) (All-map IsTableEntry table_entry_of rows (subst (All IsEntry) whole s.each));
+        some = omega (arith, some, length-map rows row_entry);
+        most = omega (arith, most, length-map rows row_entry);
+        each = recursion_from_All IsTableEntry (entries_of rows) (All-map IsTableEntry row_entry rows (subst (All IsEntry) whole s.each));
       };
       header_is = omega (arith, s.header_is, ap (sum_by row_bytes) whole, header_length rows);
       bytes_are = s.bytes_are ∙ ap (λ (rs : List Row). declared_bytes (entries_of rs)) whole;
@@ -108,5 +109,5 @@ entry_at [] i d inside all = absurd (omega arith)
 entry_at (r ∷ rows) zero d inside all = all.0
 entry_at (r ∷ rows) (suc i) d inside all = entry_at rows i d (omega arith) all.1
 
-pub no_table : (rows : List Row) (i : ℕ) (d r : Row) → i < length rows → r ≡ get_or rows i d → (IsTableEntry (table_entry_of r) → ⊥) → IsHeaderTable (entries_of rows) → ⊥
+pub no_table : (rows : List Row) (i : ℕ) (d r : Row) → i < length rows → r ≡ get_or rows i d → (IsTableEntry (row_entry r) → ⊥) → IsHeaderTable (entries_of rows) → ⊥
 no_table rows i d r inside is none t = none (subst IsEntry (sym is) (entry_at rows i d inside t.each))

@@ -2,7 +2,8 @@
 ghost use Rattle.std.specs.Prelude.{◌≡◌, true, MatchOption};
 ghost use Rattle.hunk_files.specs.LoadFile.{IsTableEntry};
 ghost use Rattle.hunk_scatter.specs.HeaderBytes.{IsHeaderTable};
-ghost use Rattle.hunk_scatter.specs.Rows.{entries_of, table_entry_of};
+ghost use Rattle.hunk_files.specs.Tables.{row_entry};
+ghost use Rattle.hunk_scatter.specs.Rows.{entries_of};
 ghost use Rattle.hunk.specs.Streams.{HasSizes};
 
 use hunk_files::Row;
@@ -13,8 +14,8 @@ const BEFORE_TABLE: u64 = 20;
 
 /// Whether a header can declare the row: attributes stand only where both bits of the memory do.
 fn is_entry(row: Row) -> bool
-    ensures sound { result ≡ true → IsTableEntry (table_entry_of row) }
-    ensures complete { IsTableEntry (table_entry_of row) → result ≡ true }
+    ensures sound { result ≡ true → IsTableEntry (row_entry row) }
+    ensures complete { IsTableEntry (row_entry row) → result ≡ true }
 {
     SizeWord::has_extra(row.word) || row.extra == 0
 }

@@ -12,7 +12,8 @@ use Rattle.hunk_files.specs.LoadFile.{HunkValue, IsLoadFile, LoadFileValue}
 use Rattle.hunk_files.specs.LoadText.{table, text}
 use Rattle.hunk_files.specs.ObjectFile.{ObjectFileValue, object_text}
 use Rattle.hunk_scatter.specs.LoaderValues.{ImageValue}
-use Rattle.hunk_scatter.specs.Rows.{bases_of, entries_of, table_entry_of}
+use Rattle.hunk_files.specs.Tables.{row_entry}
+use Rattle.hunk_scatter.specs.Rows.{bases_of, entries_of}
 use Rattle.hunk_scatter.proofs.DeclaredBytes.{declared_limit}
 use Rattle.hunk_listing.specs.FileLines.{load_listing, object_listing}
 use Rattle.hunk_listing.specs.ReportLines.{count_line, finding_line, load_summary, object_report}
@@ -79,7 +80,7 @@ pub image_listing_fits : (v : LoadFileValue) (image : ImageValue) (bytes : ℕ) 
     bytes ≡ declared_bytes (entries_of image.rows) → bytes ≡ sum_by length image.segments → length (image_listing image) < 2 ^ 64
 image_listing_fits v image bytes is table_is declared together =
     let segments = segments_of (bases_of image.rows) image.segments in
-    let hunks : length v ≡ length image.rows = sym (length-map v (λ (h : HunkValue). h.entry)) ∙ ap length table_is ∙ length-map image.rows table_entry_of in
+    let hunks : length v ≡ length image.rows = sym (length-map v (λ (h : HunkValue). h.entry)) ∙ ap length table_is ∙ length-map image.rows row_entry in
     let few : length segments ≤ 65536 =
     omega (arith, is.most, hunks, length-segments_of (bases_of image.rows) image.segments, length-map image.rows (λ (r : Row). r.base)) in
     let small : total segments ≤ 2 ^ 48 =
@@ -90,7 +91,7 @@ image_listing_fits v image bytes is table_is declared together =
       declared,
       together,
       declared_limit (entries_of image.rows),
-      length-map image.rows table_entry_of,
+      length-map image.rows row_entry,
       total-segments_of (bases_of image.rows) image.segments,
     ) in
     omega (arith, few, small, length-lines 0 segments (omega (arith, few)) (omega (arith, small)))

@@ -9,7 +9,8 @@ use Rattle.hunk_files.specs.LoadFile.{TableEntry}
 use Rattle.hunk_files.specs.Image.{declared_bytes}
 use Rattle.hunk_files.specs.declared.row.Row.{Row}
 use Rattle.hunk_scatter.specs.LoaderValues.{segments_in}
-use Rattle.hunk_scatter.specs.Rows.{AreStarts, table_entry_of, entries_of, words_of}
+use Rattle.hunk_files.specs.Tables.{row_entry}
+use Rattle.hunk_scatter.specs.Rows.{AreStarts, entries_of, words_of}
 
 pub declared-cons : (e : TableEntry) (table : List TableEntry) → declared_bytes (e ∷ table) ≡ 4 * size_longs e.word + declared_bytes table
 declared-cons e table = sum_by-cons (λ (x : TableEntry). 4 * size_longs x.word) e table
@@ -30,12 +31,12 @@ declared_limit (e ∷ table) = omega (arith, declared-cons e table, declared_lim
 pub declared_take : (rows : List Row) (i : ℕ) (d : Row) → i < length rows →
     declared_bytes (entries_of (take (suc i) rows)) ≡ declared_bytes (entries_of (take i rows)) + 4 * size_longs (get_or rows i d).word
 declared_take [] i d h = absurd (omega arith)
-declared_take (r ∷ rows) zero d h = omega (arith, declared-cons (table_entry_of r) [])
+declared_take (r ∷ rows) zero d h = omega (arith, declared-cons (row_entry r) [])
 declared_take (r ∷ rows) (suc i) d h =
     omega (
       arith,
-      declared-cons (table_entry_of r) (entries_of (take (suc i) rows)),
-      declared-cons (table_entry_of r) (entries_of (take i rows)),
+      declared-cons (row_entry r) (entries_of (take (suc i) rows)),
+      declared-cons (row_entry r) (entries_of (take i rows)),
       declared_take rows i d (omega arith),
     )
 
@@ -43,7 +44,7 @@ pub declared_front : (rows : List Row) (i : ℕ) → declared_bytes (entries_of 
 declared_front rows zero = omega arith
 declared_front [] (suc i) = omega arith
 declared_front (r ∷ rows) (suc i) =
-    omega (arith, declared-cons (table_entry_of r) (entries_of (take i rows)), declared-cons (table_entry_of r) (entries_of rows), declared_front rows i)
+    omega (arith, declared-cons (row_entry r) (entries_of (take i rows)), declared-cons (row_entry r) (entries_of rows), declared_front rows i)
 
 -- The segment of a hunk begins behind those before it.
 pub cut_at : (rows : List Row) (store : List ℕ) (i : ℕ) (d : Row) → i < length rows →
@@ -54,7 +55,7 @@ cut_at (r ∷ rows) store (suc i) d h =
     cut_at rows (drop (4 * size_longs r.word) store) i d (omega arith)
     ∙ ap (λ (s : List ℕ). Some (take (4 * size_longs (get_or rows i d).word) s))
     (drop-drop (declared_bytes (entries_of (take i rows))) (4 * size_longs r.word) store
-    ∙ ap (λ (n : ℕ). drop n store) (sym (declared-cons (table_entry_of r) (entries_of (take i rows)))))
+    ∙ ap (λ (n : ℕ). drop n store) (sym (declared-cons (row_entry r) (entries_of (take i rows)))))
 
 -- The segment of a hunk lies in the store.
 pub segment_within : (rows : List Row) (i start size : ℕ) (d : Row) → i < length rows → start ≡ declared_bytes (entries_of (take i rows)) → size ≡ 4 * size_longs (get_or rows i d).word →
@@ -62,13 +63,13 @@ pub segment_within : (rows : List Row) (i start size : ℕ) (d : Row) → i < le
 segment_within rows i start size d h e f = omega (arith, e, f, declared_take rows i d h, declared_front rows (suc i))
 
 pub table_fits : (rows : List Row) → length rows ≤ 65536 → declared_bytes (entries_of rows) < 2 ^ 49
-table_fits rows few = omega (arith, declared_limit (entries_of rows), length-map rows table_entry_of)
+table_fits rows few = omega (arith, declared_limit (entries_of rows), length-map rows row_entry)
 
 -- the rows in front, and so many behind them
 pub declared_range : (rows : List Row) (a n : ℕ) → declared_bytes (entries_of (take (a + n) rows)) ≡ declared_bytes (entries_of (take a rows)) + declared_bytes (entries_of (take n (drop a rows)))
 declared_range rows a n =
     ap (λ (xs : List Row). declared_bytes (entries_of xs)) (take-add a n rows)
-    ∙ ap declared_bytes (map-append table_entry_of (take a rows) (take n (drop a rows)))
+    ∙ ap declared_bytes (map-append row_entry (take a rows) (take n (drop a rows)))
     ∙ declared-append (entries_of (take a rows)) (entries_of (take n (drop a rows)))
 
 -- Where the next segments begin, behind so many rows more at most.
@@ -106,6 +107,6 @@ pub cut_total : (rows : List Row) (store : List ℕ) → length store ≡ declar
 cut_total [] store e = sym e
 cut_total (r ∷ rows) store e =
     let size = 4 * size_longs r.word in
-    let first = declared-cons (table_entry_of r) (entries_of rows) in
+    let first = declared-cons (row_entry r) (entries_of rows) in
     let rest = cut_total rows (drop size store) (omega (arith, e, first, length-drop size store)) in
     omega (arith, e, first, rest, length-drop size store, length-take size store, sum_by-cons length (take size store) (segments_in (words_of rows) (drop size store)))

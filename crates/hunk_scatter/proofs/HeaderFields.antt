@@ -25,7 +25,8 @@ use Rattle.hunk_scatter.specs.HeaderFaults.{PassesBudget}
 use Rattle.hunk_scatter.specs.HeaderLoaderFields.{adds, declares, declared_so_far, OpensFirst, StopsFor, HeaderReading, HeaderLoaderInvariant, DeclaredInvariant, HeaderStop}
 use Rattle.hunk_scan.specs.Positions.{role_at, step, is_behind_header, least_longs}
 use Rattle.hunk_scatter.specs.LoaderValues.{HasNoRefusal}
-use Rattle.hunk_scatter.specs.Rows.{table_entry_of, entries_of, row_of}
+use Rattle.hunk_files.specs.Tables.{row_entry}
+use Rattle.hunk_scatter.specs.Rows.{entries_of, row_of}
 use Rattle.hunk_scatter.proofs.Behind.{no_size_word, table_behind}
 use Rattle.hunk_scatter.proofs.DeclaredBytes.{declared_limit}
 use Rattle.hunk_scatter.proofs.HeaderLeast.{header_owes, least_is, opens}
@@ -74,13 +75,13 @@ module _ (budget : ℕ) (rows : List Row) (s : HeaderState) (pending fed : List 
 
   pub heading_rows : length rows ≡ length (entries_so_far (longs fed))
   heading_rows =
-      sym (length-map rows table_entry_of)
+      sym (length-map rows row_entry)
       ∙ ap length (sym r.has_read.table_is ∙ sym (rows_read r.has_read.next r.ws r.has_read.read r.has_read.opens_first))
       ∙ ap (λ (ws : List ℕ). length (entries_so_far ws)) (sym words_are)
 
   pub heading_room : length rows ≤ 65536 → s.total + 2 ^ 32 < 2 ^ 64
   heading_room few =
-      omega (arith, r.has_read.total_is, total_limit r.has_read.next, ap declared_bytes r.has_read.table_is, declared_limit (entries_of rows), length-map rows table_entry_of)
+      omega (arith, r.has_read.total_is, total_limit r.has_read.next, ap declared_bytes r.has_read.table_is, declared_limit (entries_of rows), length-map rows row_entry)
 
   -- where the header is whole
   whole_next : is_behind_header s.position ≡ true → r.has_read.next ≡ open_hunk (length (entries_of rows)) [] (entries_of rows)
@@ -253,7 +254,7 @@ module _ (budget : ℕ) (rows : List Row) (s : HeaderState) (pending : List ℕ)
                 arith,
                 rows_few k.next (now.ws ++ w ∷ []) k.read k.opens_first,
                 ap length k.table_is,
-                length-map (rows ++ map row_of (adds s.position w)) table_entry_of,
+                length-map (rows ++ map row_of (adds s.position w)) row_entry,
               );
           reading =
               λ x. record {

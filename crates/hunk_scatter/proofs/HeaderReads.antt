@@ -20,7 +20,8 @@ use Rattle.hunk_scatter.specs.declared.header_state.HeaderState.{HeaderState}
 use Rattle.hunk_scatter.specs.HeaderBytes.{entries_so_far}
 use Rattle.hunk_scatter.specs.HeaderFaults.{IsWithinBudget}
 use Rattle.hunk_scatter.specs.HeaderLoaderFields.{adds, declares, declared_so_far, HasReadHeader}
-use Rattle.hunk_scatter.specs.Rows.{table_entry_of, entries_of, row_of}
+use Rattle.hunk_files.specs.Tables.{row_entry}
+use Rattle.hunk_scatter.specs.Rows.{entries_of, row_of}
 use Rattle.hunk_scatter.proofs.Behind.{role_here}
 use Rattle.hunk_scatter.proofs.HeaderSteps.{IsInHeader, refusal_here, size_word, step_adds, step_declares, step_opens}
 use Rattle.hunk_scatter.proofs.HeaderTexts.{rows_read}
@@ -33,7 +34,7 @@ entries-rows [] = refl
 entries-rows (e ∷ table) = ap (λ (t : List TableEntry). e ∷ t) (entries-rows table)
 
 pub entries-more : (rows : List Row) (more : List TableEntry) → entries_of (rows ++ map row_of more) ≡ entries_of rows ++ more
-entries-more rows more = map-append table_entry_of rows (map row_of more) ∙ ap (λ (t : List TableEntry). entries_of rows ++ t) (entries-rows more)
+entries-more rows more = map-append row_entry rows (map row_of more) ∙ ap (λ (t : List TableEntry). entries_of rows ++ t) (entries-rows more)
 
 unplaced_more : (rows : List Row) (more : List TableEntry) → rows ≡ map row_of (entries_of rows) → rows ++ map row_of more ≡ map row_of (entries_of (rows ++ map row_of more))
 unplaced_more rows more e =

@@ -5,7 +5,8 @@ use Rattle.hunk_words.specs.Bits.{size_longs}
 use Rattle.hunk_files.specs.Image.{declared_bytes}
 use Rattle.hunk_files.specs.declared.row.Row.{Row}
 use Rattle.hunk_scatter.specs.LoaderValues.{segments_in, joined}
-use Rattle.hunk_scatter.specs.Rows.{table_entry_of, entries_of, words_of}
+use Rattle.hunk_files.specs.Tables.{row_entry}
+use Rattle.hunk_scatter.specs.Rows.{entries_of, words_of}
 use Rattle.hunk_scatter.proofs.DeclaredBytes.{declared-cons}
 
 empty : (store : List ℕ) → length store ≡ 0 → store ≡ []
@@ -18,5 +19,5 @@ joined_cut [] store h = sym (empty store h)
 joined_cut (r ∷ rows) store h =
     let size = 4 * size_longs r.word in
     ap (λ (xs : List ℕ). take size store ++ xs)
-    (joined_cut rows (drop size store) (omega (arith, h, length-drop size store, declared-cons (table_entry_of r) (entries_of rows))))
+    (joined_cut rows (drop size store) (omega (arith, h, length-drop size store, declared-cons (row_entry r) (entries_of rows))))
     ∙ take-append-drop size store

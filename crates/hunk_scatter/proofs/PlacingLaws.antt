@@ -8,7 +8,8 @@ use Rattle.hunk_files.specs.declared.row.Row.{Row}
 use Rattle.hunk_files.specs.Image.{declared_bytes}
 use Rattle.hunk_files.specs.LoadFile.{TableEntry}
 use Rattle.hunk_scatter.specs.Placing.{Placing, base_at, ArePlacedTo}
-use Rattle.hunk_scatter.specs.Rows.{table_entry_of, entries_of, row_of, bases_of}
+use Rattle.hunk_files.specs.Tables.{row_entry}
+use Rattle.hunk_scatter.specs.Rows.{entries_of, row_of, bases_of}
 use Rattle.hunk_scatter.proofs.DeclaredBytes.{declared_limit, declared-append, declared-one}
 
 abbrev no_entry : TableEntry
@@ -16,14 +17,14 @@ no_entry = record { word = 0; extra = 0 }
 
 module _ (base : Placing) (old rows : List Row) (i before : ℕ) (d : Row) (inside : i < length old) (unplaced : old ≡ map row_of (entries_of old)) (p : ArePlacedTo base (entries_of old) old rows i before) where
   counts : length rows ≡ length old
-  counts = sym (length-map rows table_entry_of) ∙ ap length p.entries ∙ length-map old table_entry_of
+  counts = sym (length-map rows row_entry) ∙ ap length p.entries ∙ length-map old row_entry
 
   -- the row that is asked for
   pub asked : get_or rows i d ≡ row_of (get_or (entries_of old) i no_entry)
   asked =
       p.later i (λ less. omega (arith, less)) d
       ∙ ap (λ (rs : List Row). get_or rs i d) unplaced
-      ∙ get_or-map row_of (entries_of old) i no_entry d (omega (arith, length-map old table_entry_of, inside))
+      ∙ get_or-map row_of (entries_of old) i no_entry d (omega (arith, length-map old row_entry, inside))
 
   pub answer_is : base i (get_or rows i d) before ≡ base_at base (entries_of old) i
   answer_is = ap₂ (λ (r : Row) (n : ℕ). base i r n) asked p.before_is
@@ -32,10 +33,10 @@ module _ (base : Placing) (old rows : List Row) (i before : ℕ) (d : Row) (insi
   size_is = ap (λ (r : Row). 4 * size_longs r.word) asked
 
   -- One more hunk is placed.
-  pub placed_more : (b : ℕ) (row : Row) → base_at base (entries_of old) i ≡ Some b → row.base ≡ b → table_entry_of row ≡ table_entry_of (get_or rows i d) →
+  pub placed_more : (b : ℕ) (row : Row) → base_at base (entries_of old) i ≡ Some b → row.base ≡ b → row_entry row ≡ row_entry (get_or rows i d) →
       ArePlacedTo base (entries_of old) old (set rows i row) (suc i) (before + 4 * size_longs (get_or rows i d).word)
   placed_more b row is e same = record {
-    entries = map-set_same table_entry_of rows i row d same ∙ p.entries;
+    entries = map-set_same row_entry rows i row d same ∙ p.entries;
     later = λ k no x. get_or-set_other rows i k row x (λ same. no (omega (arith, same))) ∙ p.later k (λ less. no (omega (arith, less))) x;
     given = λ k less. at k less (ltb k i) refl;
     before_is =
@@ -43,7 +44,7 @@ module _ (base : Placing) (old rows : List Row) (i before : ℕ) (d : Row) (insi
           arith,
           p.before_is,
           size_is,
-          ap declared_bytes (take-suc (entries_of old) i no_entry (omega (arith, inside, length-map old table_entry_of))),
+          ap declared_bytes (take-suc (entries_of old) i no_entry (omega (arith, inside, length-map old row_entry))),
           declared-append (take i (entries_of old)) (get_or (entries_of old) i no_entry ∷ []),
           declared-one (get_or (entries_of old) i no_entry),
         );
@@ -73,7 +74,7 @@ module _ (base : Placing) (old rows : List Row) (i before : ℕ) (d : Row) (insi
         p.before_is,
         declared_limit (take i (entries_of old)),
         length-take i (entries_of old),
-        length-map old table_entry_of,
+        length-map old row_entry,
       )
 
 abbrev pub no_row : Row
@@ -107,4 +108,4 @@ unplaced_next old items i j inside f e = ap (λ (xs : List Row). set xs i (with_
         set (map row_of (entries_of (take n rs)) ++ drop n rs) n (with_base (get_or (map row_of (entries_of (take n rs)) ++ drop n rs) n no_row) 0) ≡ map row_of (entries_of (take (suc n) rs)) ++ drop (suc n) rs
     go [] n less = absurd (omega (arith, less))
     go (r ∷ rs) zero less = refl
-    go (r ∷ rs) (suc n) less = ap (λ (xs : List Row). row_of (table_entry_of r) ∷ xs) (go rs n (omega (arith, less)))
+    go (r ∷ rs) (suc n) less = ap (λ (xs : List Row). row_of (row_entry r) ∷ xs) (go rs n (omega (arith, less)))

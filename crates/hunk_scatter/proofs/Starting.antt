@@ -12,7 +12,8 @@ use Rattle.hunk_scan.specs.Positions.{open_next}
 use Rattle.hunk_scatter.specs.BodyReader.{state_at}
 use Rattle.hunk_scatter.specs.StoreContent.{zeros}
 use Rattle.hunk_scatter.specs.BodyLoaderFields.{StandsBehind, BodyLoaderInvariant}
-use Rattle.hunk_scatter.specs.Rows.{table_entry_of, entries_of, bases_of}
+use Rattle.hunk_files.specs.Tables.{row_entry}
+use Rattle.hunk_scatter.specs.Rows.{entries_of, bases_of}
 use Rattle.std.proofs.lemmas.List.{length-map, length-replicate, take_all}
 use Rattle.hunk_scatter.specs.HeaderBytes.{IsHeaderTable, header_words, header_bytes}
 use Rattle.hunk_scatter.specs.HeaderLoaderFields.{DeclaredInvariant}
@@ -55,12 +56,12 @@ placed_loading old rows total budget count fed store h same s =
     s ∙ ap (λ (n : ℕ). replicate n 0) (h.total_is ∙ ap declared_bytes (sym same)) ∙ zeros_are (entries_of rows) in
     record {
       counted = h.counted;
-      hunks = omega (arith, table.most, length-map rows table_entry_of);
+      hunks = omega (arith, table.most, length-map rows row_entry);
       size = ap length s ∙ length-replicate total 0 ∙ h.total_is ∙ ap declared_bytes (sym same);
       reading =
           λ e.
           subst (λ (bs : List ℕ). StandsBehind rows bs (state_at [] (open_next (length (entries_of rows)) (length (entries_of rows)))) [] fed) (sym zero_bytes)
-          (start_reading rows (header_words (entries_of rows)) fed (λ none. omega (arith, ap length none, table.some, length-map rows table_entry_of)) (h.header ∙ ap header_bytes (sym same)) (header_read (entries_of rows) table));
+          (start_reading rows (header_words (entries_of rows)) fed (λ none. omega (arith, ap length none, table.some, length-map rows row_entry)) (h.header ∙ ap header_bytes (sym same)) (header_read (entries_of rows) table));
       own = λ f e. absurd cc;
     }
 

@@ -2,13 +2,11 @@
 use Rattle.std.specs.Prelude.{◌≡◌, ℕ, ◌*◌, ◌<◌, List, length, map, take, slice_index}
 use Rattle.hunk_files.specs.Image.{declared_bytes}
 use Rattle.hunk_files.specs.LoadFile.{TableEntry}
+use Rattle.hunk_files.specs.Tables.{row_entry}
 use Rattle.hunk_files.specs.declared.row.Row.{Row}
 
-abbrev pub table_entry_of : Row → TableEntry
-table_entry_of row = record { word = row.word; extra = row.extra }
-
 abbrev pub entries_of : List Row → List TableEntry
-entries_of rows = map table_entry_of rows
+entries_of rows = map row_entry rows
 
 -- the row of an entry whose hunk is not placed
 abbrev pub row_of : TableEntry → Row

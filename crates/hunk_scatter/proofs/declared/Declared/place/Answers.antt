@@ -4,7 +4,8 @@ use Rattle.hunk_scatter.specs.BodyLoaderFields.{BodyLoaderInvariant}
 use Rattle.std.proofs.lemmas.List.{length-map}
 use Rattle.hunk_scan.specs.Positions.{open_next}
 use Rattle.hunk_scatter.specs.BodyReader.{state_at}
-use Rattle.hunk_scatter.specs.Rows.{table_entry_of, entries_of}
+use Rattle.hunk_files.specs.Tables.{row_entry}
+use Rattle.hunk_scatter.specs.Rows.{entries_of}
 use Rattle.hunk_scatter.proofs.BodyFields.{loading_as}
 use Rattle.hunk_scatter.proofs.Starting.{placed_loading, written_rows}
 use Rattle.hunk_scatter.proofs.declared.Declared.place.Goals as goal
@@ -16,7 +17,7 @@ invariant_of-result g c =
     (c.place_rows.auto.rows ∙ ap length c.as_mut_slice.ensures.value) in
     let entries = c.in_default.ensures.entries ∙ ap entries_of c.as_mut_slice.ensures.value in
     let hunks : c.len.result ≡ length (entries_of c.place_rows.new.rows) =
-    omega (arith, c.len.ensures, ap length rows, length-map c.place_rows.new.rows table_entry_of) in
+    omega (arith, c.len.ensures, ap length rows, length-map c.place_rows.new.rows row_entry) in
     subst (λ (rs : List Row). BodyLoaderInvariant rs c.in-Ok.store.items c.start.result c.new.result c.table.inside.count None c.table.inside.history.bytes) (sym rows)
     (loading_as _ _ _ _ _ _ _ _ _ _ _ refl (c.start.ensures ∙ ap (λ (n : ℕ). state_at [] (open_next n n)) hunks) c.new.ensures refl
     (placed_loading c.table.inside.rows.items c.place_rows.new.rows c.table.inside.total c.table.inside.budget c.table.inside.count c.table.inside.history.bytes c.in-Ok.store.items
