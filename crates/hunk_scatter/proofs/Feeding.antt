@@ -4,6 +4,7 @@ use Rattle.std.proofs.lemmas.List.{take_all, drop_all}
 use Rattle.std.proofs.KnownBytes.{Consumes-trans}
 use Rattle.std.specs.Io.KnownBytes.{Consumes}
 use Rattle.hunk_words.specs.Longs.{bytes_of, IsBytes}
+use Rattle.hunk_words.proofs.LongLaws.{length-bytes_of}
 use Rattle.hunk_files.specs.Fault.{IsTruncated}
 use Rattle.hunk_files.specs.LoadFile.{TableEntry, LoadFileValue, IsLoadFile}
 use Rattle.hunk_files.specs.LoadText.{text}
@@ -108,10 +109,14 @@ rest_bytes fed piece front rest are e less = go (fronts_of fed piece front rest 
 -- A piece with which a row is completed is that of a header.
 pub row_begins : (fed piece : List ℕ) (want at : ℕ) → ((t : List TableEntry) (more : List ℕ) → IsHeaderTable t → header_bytes t ≡ fed ++ more → want ≤ length more) → length piece ≤ want →
     length fed < at + 4 → CompletesRow (fed ++ piece) at → BeginsHeader (fed ++ piece)
-row_begins fed piece want at least fits less h = go (fronts_of fed piece h.front h.rest h.split)
+row_begins fed piece want at least fits less h = go (fronts_of fed piece (bytes_of (h.before ++ h.word ∷ [])) h.rest h.split)
   where
-    go : ((m : List ℕ) × (fed ≡ h.front ++ m) × (m ++ piece ≡ h.rest)) ⊎ ((m : List ℕ) × (h.front ≡ fed ++ m) × (piece ≡ m ++ h.rest)) → BeginsHeader (fed ++ piece)
-    go (inl (m, p, q)) = absurd (omega (arith, less, ap length p, length-append h.front m, h.ends))
+    ends : length (bytes_of (h.before ++ h.word ∷ [])) ≡ at + 4
+    ends = omega (arith, h.place, length-bytes_of (h.before ++ h.word ∷ []), length-append h.before (h.word ∷ []))
+
+    go : ((m : List ℕ) × (fed ≡ bytes_of (h.before ++ h.word ∷ []) ++ m) × (m ++ piece ≡ h.rest)) ⊎ ((m : List ℕ) × (bytes_of (h.before ++ h.word ∷ []) ≡ fed ++ m) × (piece ≡ m ++ h.rest))
+        → BeginsHeader (fed ++ piece)
+    go (inl (m, p, q)) = absurd (omega (arith, less, ap length p, length-append (bytes_of (h.before ++ h.word ∷ [])) m, ends))
     go (inr (m, p, q)) =
         h.begins
         (λ t k is e.

@@ -1,5 +1,5 @@
 -- What stops the loader of a header is the fault of the bytes, or the budget, or want of memory.
-use Rattle.std.proofs.Common.{◌≡◌, ℕ, ◌+◌, ◌*◌, ◌<◌, List, [], ◌∷◌, ◌++◌, length, refl, sym, ap, subst, ◌∙◌, append_assoc, append-nil, arith, length-append, Some, None, ◌⊎◌, inl, inr}
+use Rattle.std.proofs.Common.{◌≡◌, true, false, ℕ, ◌+◌, ◌*◌, ◌<◌, List, [], ◌∷◌, ◌++◌, length, sym, ap, subst, ◌∙◌, append_assoc, append-nil, arith, length-append, Some, None, ◌⊎◌, inl, inr}
 use Rattle.std.specs.Prelude.{IsTrue}
 use Rattle.hunk_words.specs.Bits.{size_longs}
 use Rattle.hunk_words.specs.Longs.{longs, IsLong, AreLongs, IsBytes}
@@ -15,7 +15,7 @@ use Rattle.hunk_files.specs.LoadText.{header_labelled}
 use Rattle.hunk_scan.specs.Roles.{Role, Role as roles, refuse}
 use Rattle.hunk_files.proofs.Accepted.{header_accepted}
 use Rattle.hunk_files.specs.FileSteps.{Progress, More, open_hunk, role_of, step}
-use Rattle.hunk_files.specs.ReaderPosition.{position_of}
+use Rattle.hunk_files.specs.ReaderPosition.{position_of, table_of}
 use Rattle.hunk_scan.specs.Positions.{role_at, is_behind_header}
 use Rattle.hunk_files.proofs.Reading.{reads, step_read, read_refused}
 use Rattle.hunk_files.specs.WordsRead.{HasRead}
@@ -29,8 +29,8 @@ use Rattle.hunk_scatter.specs.HeaderLoaderFields.{adds, declares, StopsFor, Head
 use Rattle.hunk_scatter.proofs.Behind.{stays_behind, table_behind, expected_passes, header_passes, role_here}
 use Rattle.hunk_scatter.proofs.HeaderGrows.{row_in_table, table_grows}
 use Rattle.hunk_scatter.proofs.HeaderReads.{here, read_here, position_here, refusal_is, sum_here}
-use Rattle.hunk_scatter.proofs.HeaderSteps.{IsInHeader, not_in_body, declares_some, step_opens}
-use Rattle.hunk_scatter.proofs.HeaderTexts.{header_read}
+use Rattle.hunk_scatter.proofs.HeaderSteps.{IsInHeader, not_in_body, declares_some, step_adds, step_opens}
+use Rattle.hunk_scatter.proofs.HeaderTexts.{header_read, rows_read}
 use Rattle.hunk_scatter.proofs.ReadWords.{read_longs, accepted_longs}
 use Rattle.hunk_scatter.proofs.Refusing.{refused_in_header}
 use Rattle.hunk_scatter.proofs.Splits.{Cuts, Same, Before, Behind, cuts, fronts}
@@ -112,18 +112,23 @@ module _ (budget : ℕ) (bytes rest : List ℕ) (f : Fault) (s : HeaderStop budg
       go (inl (inl e)) = plain_fault f.reason budget (bytes ++ rest) f.place (refusal_of_word (bytes ++ rest) f.place f.reason (stop_refused e)) (stop_refused e)
       go (inl (inr o)) = subst (λ (r : Reason). IsHeaderFaultBy r budget (bytes ++ rest) f.place) (sym o.reason_is) (stop_passes o.passes)
       go (inr l) =
-          let in_table = row_in_table at s.word (subst (λ (p : Position). 0 < length (adds p s.word)) (sym position_at) l.row) in
+          let some = subst (λ (p : Position). 0 < length (adds p s.word)) (sym position_at) l.row in
+          let read_more = step_read s.ws at s.word read_at s.long (refusal_at s.word ∙ l.accepted) in
+          let opens = step_opens at s.word header_at (reads read_at).0 in
+          let rows_before = rows_read (More at) s.ws read_at (λ e. let clash : false ≡ true = sym header_at ∙ e in absurd cc) in
+          let rows_here = rows_read (step at s.word) (s.ws ++ s.word ∷ []) read_more opens in
           subst (λ (r : Reason). IsHeaderFaultBy r budget (bytes ++ rest) f.place) (sym l.reason_is)
           (record {
-            front = bytes;
+            before = s.ws;
+            word = s.word;
             rest = rest;
-            split = refl;
-            ends = omega (arith, s.place, ap length s.spelled, length-bytes_of (s.ws ++ s.word ∷ []), length-append s.ws (s.word ∷ []));
+            split = ap (λ (bs : List ℕ). bs ++ rest) s.spelled;
+            place = s.place;
+            row = omega (arith, some, ap length rows_before, ap length rows_here, ap length (step_adds at s.word header_at), length-append (table_of (More at)) (adds (position_of (More at)) s.word));
             begins =
                 λ fits.
                 subst (λ (bs : List ℕ). BeginsHeader (bs ++ rest)) (sym s.spelled)
-                (table_grows (step at s.word) (s.ws ++ s.word ∷ []) rest in_table (step_read s.ws at s.word read_at s.long (refusal_at s.word ∙ l.accepted)) (step_opens at s.word header_at (reads read_at).0) fit
-                (λ t k is e. fits t k is (e ∙ ap (λ (bs : List ℕ). bs ++ k) (sym s.spelled))));
+                (table_grows (step at s.word) (s.ws ++ s.word ∷ []) rest (row_in_table at s.word some) read_more opens fit fits);
           })
 
   -- It ends the bytes.

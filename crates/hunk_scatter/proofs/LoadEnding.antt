@@ -7,7 +7,7 @@ use Rattle.hunk_words.specs.Longs.{longs, bytes_of}
 use Rattle.hunk_words.specs.declared.fault.Fault.{Fault}
 use Rattle.hunk_words.specs.declared.reason.Reason.{Reason}
 use Rattle.hunk_words.specs.declared.reason.Reason.TheVariants as reasons
-use Rattle.hunk_words.proofs.LongLaws.{length-longs}
+use Rattle.hunk_words.proofs.LongLaws.{length-bytes_of, length-longs}
 use Rattle.hunk_files.specs.declared.row.Row.{Row}
 use Rattle.hunk_files.specs.Fault.{Expects, HasRefusal, HasFault, IsTruncated}
 use Rattle.hunk_files.specs.Image.{declared_bytes, image as image_at}
@@ -179,9 +179,11 @@ module _ (base : Placing) (budget limit : ℕ) (old left : Option (List ℕ)) (f
             ap length d,
             length-append (longs given) m,
             length-longs given,
-            h.ends,
+            h.place,
             ap length h.split,
-            length-append h.front h.rest,
+            length-append (bytes_of (h.before ++ h.word ∷ [])) h.rest,
+            length-bytes_of (h.before ++ h.word ∷ []),
+            length-append h.before (h.word ∷ []),
           ),
         )
     outside f _ e o h m d = absurd (refused_front given f.place _ m h (subst (λ (xs : List ℕ). Expects xs roles.SizeWord) d here.expects))

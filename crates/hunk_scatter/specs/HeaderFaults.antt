@@ -1,7 +1,7 @@
 -- What the loader of a header refuses: its first fault, or the budget, or want of memory.
-use Rattle.std.specs.Prelude.{◌≡◌, ℕ, ◌+◌, ◌*◌, ◌<◌, ◌≤◌, List, ◌∷◌, ◌++◌, length, ◌⊎◌}
+use Rattle.std.specs.Prelude.{◌≡◌, ℕ, ◌+◌, ◌*◌, ◌<◌, ◌≤◌, List, [], ◌∷◌, ◌++◌, length, ◌⊎◌}
 use Rattle.hunk_words.specs.Bits.{size_longs}
-use Rattle.hunk_words.specs.Longs.{longs}
+use Rattle.hunk_words.specs.Longs.{bytes_of, longs}
 use Rattle.hunk_words.specs.declared.fault.Fault.{Fault}
 use Rattle.hunk_words.specs.declared.reason.Reason.{Reason}
 use Rattle.hunk_words.specs.declared.reason.Reason.TheVariants as reasons
@@ -38,13 +38,16 @@ IsBudgetOrMemory reason = (reason ≡ reasons.Budget) ⊎ (reason ≡ reasons.Ou
 
 -- ---- faults
 
--- The longword at the place completes a row: a header begins with the bytes, where no header that begins so far ends before them.
+-- The longword at the place completes a row: there is one more with it than before it. A header begins with the bytes, where no header that begins so far ends before them.
 pub record CompletesRow (bytes : List ℕ) (at : ℕ) : Type 0 where
-  pub front : List ℕ
+  pub before : List ℕ
+  pub word : ℕ
   pub rest : List ℕ
-  pub split : bytes ≡ front ++ rest
-  pub ends : length front ≡ at + 4
-  pub begins : ((table : List TableEntry) (more : List ℕ) → IsHeaderTable table → header_bytes table ≡ front ++ more → length rest ≤ length more) → BeginsHeader bytes
+  pub split : bytes ≡ bytes_of (before ++ word ∷ []) ++ rest
+  pub place : at ≡ 4 * length before
+  pub row : length (entries_so_far before) < length (entries_so_far (before ++ word ∷ []))
+  pub begins : ((table : List TableEntry) (more : List ℕ) → IsHeaderTable table → header_bytes table ≡ bytes_of (before ++ word ∷ []) ++ more → length rest ≤ length more)
+      → BeginsHeader bytes
 
 -- What the loader of a header answers: Budget where its table passes it, want of memory for a row, else the fault of the bytes.
 abbrev pub IsHeaderFaultBy : Reason → ℕ → List ℕ → ℕ → Type 0
