@@ -1,5 +1,5 @@
 -- A loader in numbers, which a C program keeps and feeds piece by piece.
-use Rattle.std.specs.Prelude.{◌≡◌, ℕ, ◌+◌, ◌*◌, ◌/◌, ◌^◌, ◌<◌, ◌≤◌, ◌==◌, List, ◌++◌, length, take, if◌then◌else◌, replicate, Option, Some, None}
+use Rattle.std.specs.Prelude.{◌≡◌, ℕ, ◌+◌, ◌*◌, ◌/◌, ◌^◌, ◌<◌, ◌≤◌, ◌==◌, List, ◌++◌, length, take, if◌then◌else◌, replicate, Option, Some, None, IsTrue}
 use Rattle.hunk_words.specs.Longs.{bytes_of}
 use Rattle.hunk_words.specs.Reasons.{number_of}
 use Rattle.hunk_words.specs.declared.fault.Fault.{Fault}
@@ -15,6 +15,7 @@ use Rattle.hunk_files.specs.LoadFile.{TableEntry, LoadFileValue, IsLoadFile}
 use Rattle.hunk_files.specs.LoadText.{table, text}
 use Rattle.hunk_files.specs.declared.row.Row.{Row}
 use Rattle.hunk_scatter.specs.HeaderBytes.{IsHeaderTable, header_bytes}
+use Rattle.hunk_scatter.specs.LoaderReasons.{is_of_body}
 use Rattle.hunk_scatter.specs.Rows.{bases_of, entries_of}
 use Rattle.hunk_scatter.specs.Streaming.{IsFed}
 use Rattle.hunk_scatter.specs.declared.stream.Standing.{Standing}
@@ -166,14 +167,14 @@ abbrev pub StandsNowhere : List Row → Loader → List ℕ → List ℕ → Typ
 StandsNowhere rows old memory piece =
     (fed : List ℕ) → Stands rows old memory fed → length fed + length piece < 2 ^ 64 → ⊥
 
--- What the feeding of a piece comes to: it is taken, all of it or up to the end of the file; it is refused;
+-- What the feeding of a piece comes to: it is taken, all of it or up to the end of the file; it is refused, for a reason of a body;
 -- or no byte of it is looked at, for an earlier refusal or for numbers that no loader has.
 pub data Feeds (rows : List Row) (old new : Loader) (memory after piece : List ℕ) (answer : Answer) : Type 0 where
   HasTaken : (count : ℕ) → old.refused ≡ 0 → HasStanding old → count ≤ length piece
       → (count < length piece → new.phase ≡ whole) → TakesPiece rows old new memory after piece count
       → answer ≡ done new.hunk new.fed count → Feeds rows old new memory after piece answer
-  HasRefused : (f : Fault) → old.refused ≡ 0 → HasStanding old → RefusesPiece rows old memory piece f → new ≡ refusing old f
-      → answer ≡ refused f → Feeds rows old new memory after piece answer
+  HasRefused : (f : Fault) → old.refused ≡ 0 → HasStanding old → IsTrue (is_of_body f.reason) → RefusesPiece rows old memory piece f
+      → new ≡ refusing old f → answer ≡ refused f → Feeds rows old new memory after piece answer
   HadRefused : TellsAgain old answer → new ≡ old → after ≡ memory → Feeds rows old new memory after piece answer
   IsStrange : old.refused ≡ 0 → StandsNowhere rows old memory piece → new ≡ old → answer ≡ strange → Feeds rows old new memory after piece answer
 

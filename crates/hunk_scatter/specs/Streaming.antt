@@ -1,10 +1,11 @@
 -- A loader in memory that is its caller's: rows, a store, and numbers.
-use Rattle.std.specs.Prelude.{◌≡◌, ℕ, ◌+◌, ◌*◌, ◌/◌, ◌<◌, ◌≤◌, Bool, true, false, List, ◌++◌, length, take, None, Result, MatchResult}
+use Rattle.std.specs.Prelude.{◌≡◌, ℕ, ◌+◌, ◌*◌, ◌/◌, ◌<◌, ◌≤◌, Bool, true, false, List, ◌++◌, length, take, None, Result, MatchResult, IsTrue, ⊤}
 use Rattle.hunk_files.specs.Fault.{HasRefusal, IsTruncated}
 use Rattle.hunk_files.specs.Image.{declared_bytes}
 use Rattle.hunk_files.specs.declared.row.Row.{Row}
 use Rattle.hunk_scatter.specs.BodyLoaderFields.{BodyLoaderInvariant}
 use Rattle.hunk_scatter.specs.HeaderBytes.{IsHeaderTable, header_bytes}
+use Rattle.hunk_scatter.specs.LoaderReasons.{is_of_body}
 use Rattle.hunk_scatter.specs.LoaderValues.{IsImageOf, HasNoRefusal, segments_in}
 use Rattle.hunk_scatter.specs.PendingBytes.{pending_of}
 use Rattle.hunk_scatter.specs.Rows.{entries_of, words_of}
@@ -20,6 +21,11 @@ IsFed rows store s fed = BodyLoaderInvariant rows store s.state (pending_of s.pe
 abbrev pub StopsAt : List ℕ → Stop → Type 0
 StopsAt bytes (stops.Refused f) = HasRefusal bytes f.place f.reason
 StopsAt bytes stops.Strange = ⊥
+
+-- A refusal is for a reason of a body.
+abbrev pub StopsForBody : Stop → Type 0
+StopsForBody (stops.Refused f) = IsTrue (is_of_body f.reason)
+StopsForBody stops.Strange = ⊤
 
 -- Of a piece behind these bytes a first part was taken: behind both a loader stands so, with this store. Or it stops.
 abbrev pub TakesOn : List Row → List ℕ → List ℕ → List ℕ → Result (Standing × ℕ) Stop → Type 0

@@ -4,14 +4,14 @@
 //! The numbers may be any. Those that lead out of the rows or the store are found out, each in
 //! constant time, before the store is touched.
 ghost use Rattle.std.specs.Prelude.{◌≡◌, ◌+◌, ◌<◌, ◌≤◌, ◌^◌, ℕ, List, [], ◌∷◌, ◌++◌, length, take};
-ghost use Rattle.std.specs.Prelude.{true, false, IfOk, MatchResult, replicate};
+ghost use Rattle.std.specs.Prelude.{true, false, IfErr, IfOk, MatchResult, replicate};
 ghost use Rattle.hunk_words.specs.Limits.{most_hunks};
 ghost use Rattle.hunk_scan.specs.Positions.{is_done};
 ghost use Rattle.hunk_scan.specs.declared.position.Position.TheVariants as positions;
 ghost use Rattle.hunk_scatter.specs.BodySteps.{IsInStore, RoomIn};
 ghost use Rattle.hunk_scatter.specs.Rows.{words_of};
 ghost use Rattle.hunk_scatter.specs.Streaming.{BeginsLoading, CountsTaken, EndsLoading, IsFed};
-ghost use Rattle.hunk_scatter.specs.Streaming.{StopsAt, TakesOn};
+ghost use Rattle.hunk_scatter.specs.Streaming.{StopsAt, StopsForBody, TakesOn};
 
 pub use crate::body_state::BodyState;
 use crate::body_state::longs_of;
@@ -100,6 +100,7 @@ fn take_byte(store: &mut [u8], rows: &[Row], at: Standing, byte: u8) -> Result<S
         → is_done at.state.position ≡ false
         → MatchResult result (λ to. IsFed rows.now store.new to (fed ++ byte ∷ []))
         (StopsAt (fed ++ byte ∷ [])) }
+    ensures own_reasons { IfErr result StopsForBody }
 {
     if at.pending.count < 3 {
         return Ok(Standing {
@@ -142,6 +143,7 @@ fn take_longs(
     ensures counts { IfOk result (λ r. CountsTaken at piece.now r.0 r.1) }
     ensures takes { (fed : List ℕ) → IsFed rows.now store.old at fed
         → is_done at.state.position ≡ false → TakesOn rows.now store.new fed piece.now result }
+    ensures own_reasons { IfErr result StopsForBody }
 {
     let Position::Body(hunk, phase) = at.state.position else {
         return Err(Stop::Strange);
@@ -178,6 +180,7 @@ fn take_some(
     ensures counts { IfOk result (λ r. CountsTaken at piece.now r.0 r.1) }
     ensures takes { (fed : List ℕ) → IsFed rows.now store.old at fed
         → is_done at.state.position ≡ false → TakesOn rows.now store.new fed piece.now result }
+    ensures own_reasons { IfErr result StopsForBody }
 {
     if at.pending.count == 0 && piece.len() >= 4 {
         return take_longs(store, rows, at, piece);
@@ -213,6 +216,7 @@ pub fn take_piece(
     ensures takes { (fed : List ℕ) → IsFed rows.now store.old at fed
         → length fed + length piece.now < 2 ^ 64
         → TakesOn rows.now store.new fed piece.now result }
+    ensures own_reasons { IfErr result StopsForBody }
 {
     if piece.len() as u64 > u64::MAX - at.fed {
         return Err(Stop::Strange);

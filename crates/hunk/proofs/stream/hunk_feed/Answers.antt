@@ -1,5 +1,5 @@
 use Rattle.std.proofs.Common.{◌≡◌, ◌++◌, take, Some, refl, sym, subst, ◌∙◌, arith}
-use Rattle.hunk_scatter.specs.Streaming.{StopsAt}
+use Rattle.hunk_scatter.specs.Streaming.{StopsAt, StopsForBody}
 use Rattle.hunk_scatter.specs.declared.stream.Stop.{Stop}
 use Rattle.hunk.specs.Streams.{HasTaken, HasRefused, standing_of}
 use Rattle.hunk.proofs.Loaded.{same_answer}
@@ -24,6 +24,7 @@ pub returns-in-Err-Refused : goal.returns-in-Err-Refused
 returns-in-Err-Refused c =
     let told : standing_of c.args.loader.now ≡ Some c.in-Some-standing.at = sym c.in-Some-standing.ensures in
     HasRefused c.in-Err-Refused.fault c.in_default.ensures (c.in-Some-standing.at, told)
+    (subst StopsForBody c.in-Err-Refused.field-0-is c.in-Err-Refused.ensures.own_reasons)
     (λ fed h room.
     subst (λ (s : Stop). StopsAt (fed ++ c.args.piece.now) s) c.in-Err-Refused.field-0-is
     (c.in-Err-Refused.ensures.takes fed (stands_at c.args.rows.now c.args.loader.now c.args.memory.now fed c.in-Some-standing.at told h) room))
