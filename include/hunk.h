@@ -1,8 +1,8 @@
 /* Hunk files of AmigaDOS: tables of load files, loading them, whole or piece by piece, checking and
  * stripping load files and object files, the names of refusals.
  *
- * Whatever the bytes are, each call answers one of the answers that stand below it; what of this is
- * proved is in docs/PROVED.md. A call reads and writes only what its arguments point to and what
+ * Whatever the bytes are, each call gives one of the answers listed with it; what of this is proved
+ * is in docs/PROVED.md. A call reads and writes only what its arguments point to and what
  * malloc gives it, keeps nothing between two calls, and gives back what it took before it returns.
  * Threads may call at the same time, as long as no call writes memory that another one uses.
  *
@@ -26,7 +26,7 @@ extern "C" {
 /* The numbers of answers: 0, the number of a reason, HUNK_NO_ROOM or HUNK_STRANGE. */
 #define HUNK_OK UINT32_C(0)
 #define HUNK_NOT_LOAD_FILE UINT32_C(1)        /* the first longword is not 3F3 */
-#define HUNK_IS_OBJECT UINT32_C(2)            /* it is 3E7: an object file; loads answer it */
+#define HUNK_IS_OBJECT UINT32_C(2)            /* it is 3E7: an object file */
 #define HUNK_LIBRARY UINT32_C(3)              /* a library hunk, LIB or INDEX */
 #define HUNK_RESIDENT UINT32_C(4)             /* the header names resident libraries */
 #define HUNK_NO_HUNKS UINT32_C(5)             /* the table size is 0 */
@@ -42,10 +42,10 @@ extern "C" {
 #define HUNK_MISPLACED UINT32_C(15)           /* a HEADER or UNIT block inside a file */
 #define HUNK_UNKNOWN_BLOCK UINT32_C(16)       /* a block type without a name, not advisory */
 #define HUNK_SECOND_CONTENT UINT32_C(17)      /* a second content block in a hunk */
-#define HUNK_BEFORE_CONTENT UINT32_C(18)      /* relocations before the content block */
+#define HUNK_BEFORE_CONTENT UINT32_C(18)      /* relocations or EXT before the content block */
 #define HUNK_NO_CONTENT UINT32_C(19)          /* a hunk ends without a content block */
 #define HUNK_CONTENT_TOO_LONG UINT32_C(20)    /* more content than the hunk is declared to have */
-#define HUNK_NAME_WORD UINT32_C(21)           /* the count of a name has a top byte */
+#define HUNK_NAME_WORD UINT32_C(21)           /* the top byte of a name's length is not 0 */
 #define HUNK_NOTHING_TO_RELOCATE UINT32_C(22) /* a relocation in a hunk of 0 bytes */
 #define HUNK_BAD_TARGET UINT32_C(23)          /* the target is no hunk of the file */
 #define HUNK_BAD_OFFSET UINT32_C(24)          /* the relocated long is not within the hunk */
@@ -213,8 +213,8 @@ struct hunk_answer hunk_begin(struct hunk_loader *loader, const struct hunk_plac
  *               have, or place would pass 2^64 - 1. hunk, place and count are 0. The loader is as
  *               it was; the memory may not be.
  * Else the first fault of the file, HUNK_LIBRARY, or HUNK_BOTH_BITS to HUNK_BAD_OFFSET; place: the
- * byte of the longword that is refused, from the start of the file. The contents of the memory
- * are then unspecified. Each later call with this loader answers the same, and leaves both as they are.
+ * byte of the longword that is refused, from the start of the file. The contents of the memory are
+ * then unspecified. Each later call with this loader answers the same, and leaves both as they are.
  *
  * It reads and writes the loader and the memory, and reads the places and the piece.
  */
