@@ -1,7 +1,7 @@
 //! An assembler's output.
 
 use anyhow::ensure;
-use hunk_words::{LongWriter, Sink};
+use hunk_words::{CONTENT_LIMIT, HEADER_WORD, LongWriter, Sink};
 
 /// Writes a load file of one hunk, whose code these bytes are.
 ///
@@ -12,9 +12,9 @@ use hunk_words::{LongWriter, Sink};
 pub fn write_program<W: Sink + Drop>(code: &[u8], sink: W) -> anyhow::Result<W> {
     ensure!(code.len() % 4 == 0, "code of {} bytes", code.len());
     let size = u32::try_from(code.len() / 4)?;
-    ensure!(size < 1 << 30, "code of {size} longwords");
+    ensure!(size < CONTENT_LIMIT, "code of {size} longwords");
     let mut out = LongWriter::new(sink);
-    for long in [0x3F3, 0, 1, 0, 0, size, 0x3E9, size] {
+    for long in [HEADER_WORD, 0, 1, 0, 0, size, 0x3E9, size] {
         out.put_long(long)?;
     }
     out.put_bytes(code)?;

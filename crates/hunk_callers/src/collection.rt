@@ -4,7 +4,9 @@ use hunk_blocks::{Block, Body};
 use hunk_commands::unhex;
 use hunk_files::{HunkFile, LoadFile};
 use hunk_words::Reason;
-use std::alloc::Global;
+use std::alloc::{AllocGlobal, Global};
+use std::fs;
+use std::rt::Files;
 
 /// What a collection has.
 #[derive(Debug, Clone, Copy, PartialEq)]
@@ -23,20 +25,43 @@ pub struct Collection {
     pub rejected: u64,
 }
 
+/// What a collection of no files has.
+const NOTHING: Collection = Collection {
+    programs: 0,
+    segment_bytes: 0,
+    symbols: 0,
+    objects: 0,
+    findings: 0,
+    rejected: 0,
+};
+
+/// Surveys the files of a folder, each of which is read whole. Folders in it are passed over.
+///
+/// # Errors
+///
+/// The folder or a file of it can't be read, or memory ran out. A file that is rejected is counted.
+pub fn survey_folder<R>(rt: &R, folder: &str) -> anyhow::Result<Collection>
+where
+    R: Files + AllocGlobal + Clone + Drop,
+{
+    let mut found = NOTHING;
+    for entry in fs::read_dir(rt, folder)? {
+        let entry = entry?;
+        if entry.file_type()?.is_file() {
+            let bytes = fs::read(rt, entry.path())?;
+            add_file(rt.alloc(), &mut found, &bytes)?;
+        }
+    }
+    Ok(found)
+}
+
 /// Surveys the files, each of which is spelled in hexadecimal digits.
 ///
 /// # Errors
 ///
 /// A text spells no bytes, or memory ran out. A file that is rejected is counted.
 pub fn survey(alloc: Global, texts: &[&str]) -> anyhow::Result<Collection> {
-    let mut found = Collection {
-        programs: 0,
-        segment_bytes: 0,
-        symbols: 0,
-        objects: 0,
-        findings: 0,
-        rejected: 0,
-    };
+    let mut found = NOTHING;
     for text in texts {
         let bytes = unhex(alloc, text.as_bytes())?;
         add_file(alloc, &mut found, bytes.as_slice())?;

@@ -5,13 +5,17 @@ mod archive;
 mod assembler;
 mod collection;
 mod emulator;
+mod libraries;
 mod symbols;
+mod upload;
 
 pub use crate::archive::describe;
 pub use crate::assembler::write_program;
-pub use crate::collection::{Collection, survey};
+pub use crate::collection::{Collection, survey, survey_folder};
 pub use crate::emulator::load_program;
+pub use crate::libraries::{Seen, tour};
 pub use crate::symbols::list_symbols;
+pub use crate::upload::has_header;
 
 #[cfg(test)]
 mod tests;

@@ -1,14 +1,15 @@
 //! The callers on files of the worked examples.
 
+mod folder;
 mod suite;
 mod tour;
 
-use crate::{describe, list_symbols, load_program, survey, write_program};
+use crate::{describe, has_header, list_symbols, load_program, survey, write_program};
 use hunk_commands::show;
 use hunk_orders::{Order, order};
 use hunk_testing::{examples, spelled};
 use hunk_vectors::{OBJECTS, ObjectWant, VECTORS, Want};
-use hunk_words::{FromSlice, FromWrite, LongWriter};
+use hunk_words::{FromSlice, FromWrite, LongWriter, Reason};
 use std::test::Fail;
 
 #[test]
@@ -42,6 +43,23 @@ fn lists_symbols(rt: HostRuntime) -> Result<(), Fail> {
     let file = spelled(rt.alloc(), examples::WITH_A_SYMBOL)?;
     let found = list_symbols(rt.alloc(), file.as_slice())?;
     assert_eq!(rt; found.as_slice(), [(0, 0)].as_slice());
+    Ok(())
+}
+
+/// A whole header, one that may go on, and one that is no load file's.
+#[test]
+fn looks_at_an_upload(rt: HostRuntime) -> Result<(), Fail> {
+    for (text, want) in [
+        ("3F3 0 1 0 0 1 3E9", Ok(true)),
+        ("3F3 0 1 0 0 1", Ok(true)),
+        ("3F3 0 2 0 1 1", Ok(false)),
+        ("", Ok(false)),
+        ("3E7 0", Err(Reason::IsObject)),
+        ("3F3 0 1 0 1", Err(Reason::LastHunk)),
+    ] {
+        let front = spelled(rt.alloc(), text)?;
+        assert_eq!(rt; has_header(&front), want);
+    }
     Ok(())
 }
 
