@@ -2,6 +2,7 @@
 //! and refused memory.
 
 mod bodies;
+mod growths;
 mod header_sizes;
 mod headers;
 mod held;

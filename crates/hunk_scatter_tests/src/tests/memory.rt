@@ -6,9 +6,7 @@ use crate::tests::headers::{Counted, came_back, declared};
 use hunk_files::Row;
 use hunk_scatter::{Limits, Listed, Packed, Placer, load};
 use hunk_testing::examples::{MOST_HUNKS, TWO_HUNKS};
-use hunk_testing::{
-    Computed, Fed, Longs, Then, all_but, all_memory, answers_growth_by_growth, memory_ends, spelled,
-};
+use hunk_testing::{Computed, Fed, Longs, Then, all_but, all_memory, memory_ends, spelled};
 use hunk_words::{LoadFault, Reason};
 use std::alloc::{AllocError, Global};
 use std::cell::Cell;
@@ -27,49 +25,6 @@ fn is_refused(alloc: Global, bytes: usize) -> bool {
 fn load_fault<P: Placer>(alloc: Global, bytes: &[u8], placer: &P) -> Option<LoadFault> {
     let mut source = Fed::new(bytes, 256, Then::Ends);
     load(alloc, &mut source, AMPLE, placer).err()
-}
-
-/// Why a load of the header, with hunks at any address, is refused memory.
-fn memory_fault(alloc: Global, header: &[u8]) -> Option<LoadFault> {
-    let fault = load_fault(alloc, header, &Packed { start: 0 });
-    fault.filter(|fault| fault.reason == Reason::OutOfMemory)
-}
-
-/// Headers, and where memory is asked for: at the longword that completes the first row, at the one that
-/// completes the fifth, and for the store behind the header. The last two are cut, and have 65,536 hunks: no row
-/// that was not read is given memory, of which there are 40,000 bytes at most.
-const GROWTHS: &[(&str, &[u64])] = &[
-    ("3F3 0 2 0 1 10 1", &[20, 28]),
-    ("3F3 0 2 0 1 C0000010 10004 1", &[24, 32]),
-    ("3F3 0 4 0 3 10 1 1 1", &[20, 36]),
-    ("3F3 0 5 0 4 10 1 1 1 C0000001 10004", &[20, 40, 44]),
-    ("3F3 0 10000 0 FFFF 1", &[20]),
-    ("3F3 0 10000 0 FFFF 1 1 1 1 1", &[20, 36]),
-];
-
-/// Sees that memory is refused at these places in turn, and not then.
-fn expect_growths(rt: &impl Abort, alloc: Global, text: &str, places: &[u64]) -> Result<(), Fail> {
-    let header = spelled(alloc, text)?;
-    let answers = answers_growth_by_growth(alloc, || memory_fault(alloc, header.as_slice()))?;
-    assert_eq!(rt; answers.len(), places.len() + 1, "{text}");
-    for (place, answer) in places.iter().zip(answers.as_slice()) {
-        assert_eq!(rt; answer.map(|fault| fault.place), Some(*place), "{text}");
-    }
-    assert_eq!(rt; answers.last().copied(), Some(None), "{text}");
-    Ok(())
-}
-
-/// A header as that of example 43, whose first row is refused memory at 20 and whose store at 28, and more headers.
-/// Their stores are larger than what the rows give back of their memory.
-#[test]
-fn growth_by_growth(rt: HostRuntime) -> Result<(), Fail> {
-    if !memory_ends(&rt)? {
-        return Ok(());
-    }
-    for (text, places) in GROWTHS {
-        expect_growths(&rt, rt.alloc(), text, places)?;
-    }
-    Ok(())
 }
 
 /// The bases of example 43.
