@@ -2,6 +2,7 @@
 
 use hunk_scatter::{BodyLoader, Declared, HeaderLoader, Packed};
 use hunk_testing::{bytes_of, left_beside, memory_ends, spelled};
+use hunk_words::{LoadFault, Reason};
 use std::alloc::{AllocError, Global};
 use std::process::Abort;
 use std::test::Fail;
@@ -110,26 +111,54 @@ fn rows_of_a_table(rt: HostRuntime) -> Result<(), Fail> {
     expect_left(&rt, alloc, left, HUNKS, 0)
 }
 
-/// A loader of the body behind the header that was fed these bytes.
-fn loading(alloc: Global, header: &[u8], body: &[u8]) -> Option<BodyLoader> {
+/// What a loader of a body holds and answers.
+type Loading = (BodyLoader, Result<usize, LoadFault>);
+
+/// A loader of the body behind the header that was fed these bytes, and what it answered.
+fn loading(alloc: Global, header: &[u8], body: &[u8]) -> Option<Loading> {
     let Some(table) = declared(alloc, header) else {
         return None;
     };
     let Ok(mut loader) = table.place(&Packed { start: 0 }) else {
         return None;
     };
-    if loader.fed() < 1_000 && body.len() < 1_000 {
-        let _answer = loader.feed(body);
+    if loader.fed() >= 1_000 || body.len() >= 1_000 {
+        return None;
     }
-    Some(loader)
+    let answer = loader.feed(body);
+    Some((loader, answer))
 }
 
-/// Bodies, the first of all kinds of blocks, and the last refused at its last longword.
-const BODIES: &[&str] = &[
-    "",
-    "3E8 1 61000000 / 3E9 2 4E754E71 0 / 3EC 1 1 4 0 / 3F0 1 5F6D0000 0 0 / 3F1 1 7 / 3F2 / 3EA 1",
-    "3E9 1 4E754E71 / 3F5",
+/// Bodies behind the 280 bytes of the header, and what is answered: no byte, the front of one of seven kinds of
+/// blocks, all of which is taken, and one that is refused at its last longword.
+const BODIES: &[(&str, Result<usize, LoadFault>)] = &[
+    ("", Ok(0)),
+    (
+        "3E8 1 61000000 / 3E9 2 4E754E71 0 / 3EC 1 1 4 0 / 3F0 1 5F6D0000 0 0 / 3F1 1 7 / 3F2 / 3EA 1",
+        Ok(92),
+    ),
+    (
+        "3E9 1 4E754E71 / 3F5",
+        Err(LoadFault {
+            place: 292,
+            reason: Reason::Overlay,
+        }),
+    ),
 ];
+
+/// Sees what a loader that was fed the body answered, and that it holds the rows and the store.
+fn expect_loading(
+    rt: &impl Abort,
+    loading: Option<&Loading>,
+    want: &Result<usize, LoadFault>,
+    text: &str,
+) {
+    let Some((loader, answer)) = loading else {
+        panic!(rt; "no loader");
+    };
+    assert_eq!(rt; *answer, *want, "{text}");
+    assert_eq!(rt; loader.held(), 780 + TOTAL as u64, "{text}");
+}
 
 /// The rows and one store of the bytes that are declared, whatever was fed.
 #[test]
@@ -138,18 +167,13 @@ fn rows_and_store(rt: HostRuntime) -> Result<(), Fail> {
         return Ok(());
     }
     let (alloc, header) = (rt.alloc(), header(rt.alloc(), HUNKS)?);
-    for text in BODIES {
+    for (text, want) in BODIES {
         let body = spelled(alloc, text)?;
-        let (loader, left) = left_beside(
+        let (loading, left) = left_beside(
             alloc,
             || loading(alloc, header.as_slice(), body.as_slice()),
         )?;
-        let held = 780 + TOTAL;
-        assert_eq!(rt;
-            loader.map(|loader| loader.held()),
-            Some(held as u64),
-            "{text}"
-        );
+        expect_loading(&rt, loading.as_ref(), want, text);
         expect_left(&rt, alloc, left, HUNKS, TOTAL)?;
     }
     Ok(())
