@@ -1,13 +1,17 @@
 //! The conformance suite beside the examples of hunk_testing, and its bytes while memory is refused.
 
 use hunk_commands::unhex;
-use hunk_testing::{answers_growth_by_growth, ends_within_debug, examples, memory_ends, spelled};
-use hunk_vectors::{LOAD_TEXTS, OBJECT_TEXTS, bytes, object_bytes};
+use hunk_testing::{
+    CHANGES, Change, answers_growth_by_growth, changed, ends_within_debug, examples, memory_ends,
+    spelled,
+};
+use hunk_vectors::{LOAD_TEXTS, OBJECT_TEXTS, VECTORS, Want, bytes, object_bytes};
 use std::alloc::{AllocError, Global};
 use std::process::Abort;
 use std::test::Fail;
 
-/// The load files of the suite that stand among the examples, too, each by its place in `LOAD_TEXTS`.
+/// The load files of the suite as the examples spell them, each by its place in `LOAD_TEXTS`; those of examples 9 and
+/// 24 that no other test needs stand here alone. Example 1 with one longword changed comes below.
 const LOADS: &[(usize, &str)] = &[
     (0, examples::ONE_HUNK),
     (1, examples::TWO_HUNKS),
@@ -18,6 +22,7 @@ const LOADS: &[(usize, &str)] = &[
     (6, examples::OVERLAPPING_FROM_BEHIND),
     (7, examples::ENDING_IN_ZEROS),
     (8, examples::WITH_ATTRIBUTES),
+    (9, ""),
     (11, examples::RELOCATED_AT_ITS_END),
     (12, examples::RELOCATED_PAST_ITS_END),
     (13, examples::RELOCATED_BY_NO_HUNK),
@@ -30,6 +35,10 @@ const LOADS: &[(usize, &str)] = &[
     (22, examples::WITH_A_SYMBOL),
     (23, examples::WITH_AN_ADVISORY),
     (47, examples::WITH_A_NAME),
+    (
+        48,
+        "3F3 0 1 0 0 1 / 3E8 1000001 2E740A5C / 3E9 1 4E754E71 / 3F2",
+    ),
     (49, examples::OVERLAPPING_APART),
     (50, examples::RELOCATED_BEHIND_SYMBOLS),
     (51, examples::MOST_CONTENT),
@@ -38,19 +47,39 @@ const LOADS: &[(usize, &str)] = &[
     (54, examples::MOST_DEBUG_DATA),
 ];
 
-/// The object files, by their places in `OBJECT_TEXTS`.
+/// The object files, by their places in `OBJECT_TEXTS`; those of examples 25, 26 and 44 that are refused stand here
+/// alone.
 const OBJECTS: &[(usize, &str)] = &[
     (0, examples::OBJECT_WITH_DREL32),
     (1, examples::OBJECT),
     (2, examples::OBJECT_AMISS),
+    (3, "3E7 0 / 3E9 0 / 3EF 3000001"),
+    (4, "3E7 0 / 3E9 0 / 3EF 88000001"),
+    (5, "3E9 0"),
     (6, examples::EMPTY_UNIT),
     (8, examples::TWO_FINDINGS),
     (9, examples::EMPTY_UNIT_AND_ANOTHER),
     (10, examples::COMMON),
     (11, examples::COMMON_AMISS),
     (12, examples::OBJECT_WITH_AN_ADVISORY),
+    (13, "200004D2 0"),
+    (14, "3E7 0 / 3EB 0 / 3F2 / 200003E7 0"),
     (15, examples::RELATIVE_OBJECT),
 ];
+
+/// Sees that the text at this place spells the bytes.
+fn expect_text(
+    rt: &impl Abort,
+    alloc: Global,
+    texts: &[&str],
+    place: usize,
+    want: &[u8],
+) -> Result<(), Fail> {
+    let text = texts.get(place).copied().unwrap_or("none");
+    let bytes = unhex(alloc, text.as_bytes())?;
+    assert_eq!(rt; bytes.as_slice(), want, "at {place}");
+    Ok(())
+}
 
 /// Sees that the texts at these places spell the examples.
 fn expect_examples(
@@ -60,10 +89,8 @@ fn expect_examples(
     examples: &[(usize, &str)],
 ) -> Result<(), Fail> {
     for (place, example) in examples {
-        let text = texts.get(*place).copied().unwrap_or("none");
-        let bytes = unhex(alloc, text.as_bytes())?;
         let want = spelled(alloc, example)?;
-        assert_eq!(rt; bytes.as_slice(), want.as_slice(), "at {place}");
+        expect_text(rt, alloc, texts, *place, want.as_slice())?;
     }
     Ok(())
 }
@@ -72,6 +99,67 @@ fn expect_examples(
 fn is_spelled_twice(rt: HostRuntime) -> Result<(), Fail> {
     expect_examples(&rt, rt.alloc(), &LOAD_TEXTS, LOADS)?;
     expect_examples(&rt, rt.alloc(), &OBJECT_TEXTS, OBJECTS)
+}
+
+/// Example 10, which is example 1 and seven zero bytes; example 15; and of example 26 a unit and two bytes.
+#[test]
+fn is_computed_too(rt: HostRuntime) -> Result<(), Fail> {
+    let mut behind = spelled(rt.alloc(), examples::ONE_HUNK)?;
+    behind.resize(47, 0)?;
+    expect_text(&rt, rt.alloc(), &LOAD_TEXTS, 10, behind.as_slice())?;
+    let debug = ends_within_debug(rt.alloc())?;
+    expect_text(&rt, rt.alloc(), &LOAD_TEXTS, 17, debug.as_slice())?;
+    let mut unit = spelled(rt.alloc(), examples::EMPTY_UNIT)?;
+    unit.resize(10, 0)?;
+    expect_text(&rt, rt.alloc(), &OBJECT_TEXTS, 7, unit.as_slice())
+}
+
+/// The load files of the suite that are example 1 with one longword changed: those of examples 13 and 23, and the two
+/// with a block that is for object files only.
+const CHANGED: &[usize] = &[
+    16, 24, 25, 26, 27, 28, 29, 30, 31, 32, 33, 34, 35, 36, 37, 38, 39, 40, 41, 42, 43, 44, 45, 46,
+];
+
+/// What the suite has to answer for example 1 with this change.
+fn answer_of(change: &Change) -> Want {
+    match change.2 {
+        Some((place, reason)) => Want::Refused {
+            place,
+            number: reason.number(),
+        },
+        None => Want::Accepted { hunks: 1, bytes: 4 },
+    }
+}
+
+/// What has to be answered for these bytes by each change of example 1 that makes them of it.
+fn answers_of_changes(alloc: Global, bytes: &[u8]) -> Result<Vec<Want>, AllocError> {
+    let mut answers = Vec::new(alloc);
+    for change in CHANGES {
+        if changed(alloc, change.0, change.1)?.as_slice() == bytes {
+            answers.push(answer_of(change))?;
+        }
+    }
+    Ok(answers)
+}
+
+/// Sees that just one change makes the bytes of the suite's load file at this place, with the suite's answer.
+fn expect_change(rt: &impl Abort, alloc: Global, place: usize) -> Result<(), Fail> {
+    let Some(vector) = VECTORS.get(place) else {
+        panic!(rt; "no load file at {place}");
+    };
+    let bytes = unhex(alloc, vector.text.as_bytes())?;
+    let answers = answers_of_changes(alloc, bytes.as_slice())?;
+    assert_eq!(rt; answers.as_slice(), [vector.want].as_slice(), "at {place}");
+    Ok(())
+}
+
+/// The changes of example 1 stand in the suite and in `CHANGES`, with the same answers.
+#[test]
+fn changes_stand_twice(rt: HostRuntime) -> Result<(), Fail> {
+    for place in CHANGED {
+        expect_change(&rt, rt.alloc(), *place)?;
+    }
+    Ok(())
 }
 
 /// The fault of a call, or none where it answers other bytes than these; nothing where it answers these.
