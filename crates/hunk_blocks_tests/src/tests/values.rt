@@ -6,24 +6,47 @@ use std::alloc::{AllocError, Global};
 use std::process::Abort;
 use std::test::Fail;
 
+/// The words of END blocks, and the flags that they have.
+const ENDS: &[(u32, u8)] = &[
+    (0x3F2, 0),
+    (0x2000_03F2, 1),
+    (0x4000_03F2, 2),
+    (0x8000_03F2, 4),
+];
+
+/// Sees that this word is an END block with these flags, in 4 bytes.
+fn expect_end(
+    rt: &impl Abort,
+    alloc: Global,
+    word: u32,
+    flags: u8,
+    mode: Mode,
+) -> Result<(), Fail> {
+    let bytes = bytes_of(alloc, &[word])?;
+    let (block, count) = Block::decode(alloc, &bytes, mode)?;
+    assert_eq!(rt; (count, block.word().flags()), (4, flags), "{word:x}");
+    assert_eq!(rt; block.word().word(), word);
+    assert!(rt; matches!(block.body(), Body::End));
+    Ok(())
+}
+
+/// Examples 33 and 44: a block word keeps its flags in both modes.
 #[test]
-fn of_words_and_sizes(rt: HostRuntime) -> Result<(), Fail> {
-    let rows = [
-        (0x3F2, 0),
-        (0x2000_03F2, 1),
-        (0x4000_03F2, 2),
-        (0x8000_03F2, 4),
-    ];
-    for (word, flags) in rows {
-        let bytes = bytes_of(rt.alloc(), [word].as_slice())?;
-        let (block, _) = Block::decode(rt.alloc(), bytes.as_slice(), Mode::Load)?;
-        assert_eq!(rt; block.word().flags(), flags);
-        assert_eq!(rt; block.word().word(), word);
-        assert!(rt; matches!(block.body(), Body::End));
+fn of_words(rt: HostRuntime) -> Result<(), Fail> {
+    for (word, flags) in ENDS {
+        expect_end(&rt, rt.alloc(), *word, *flags, Mode::Load)?;
+        expect_end(&rt, rt.alloc(), *word, *flags, Mode::Object)?;
     }
+    Ok(())
+}
+
+/// Example 33: a size word keeps its top bits in both modes.
+#[test]
+fn of_sizes(rt: HostRuntime) -> Result<(), Fail> {
     let bytes = spelled(rt.alloc(), "3EB 80000002")?;
     for mode in [Mode::Load, Mode::Object] {
-        let (block, _) = Block::decode(rt.alloc(), bytes.as_slice(), mode)?;
+        let (block, count) = Block::decode(rt.alloc(), bytes.as_slice(), mode)?;
+        assert_eq!(rt; count, 8);
         assert!(rt; matches!(block.body(), Body::Bss { size: 0x8000_0002 }));
     }
     Ok(())
