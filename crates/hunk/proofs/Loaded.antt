@@ -10,7 +10,7 @@ use Rattle.hunk_files.specs.Image.{declared_bytes, image, images}
 use Rattle.hunk_files.specs.LoadFile.{TableEntry, HunkValue}
 use Rattle.hunk_files.specs.LoadText.{table, text}
 use Rattle.hunk_files.specs.declared.row.Row.{Row}
-use Rattle.hunk_scatter.specs.HeaderBytes.{header_bytes}
+use Rattle.hunk_scatter.specs.HeaderBytes.{BeginsWithHeader, header_bytes}
 use Rattle.hunk_scatter.specs.HeaderFaults.{IsBudgetOrMemory, IsHeaderFaultBy}
 use Rattle.hunk_scatter.specs.LoaderValues.{IsImageOf, joined}
 use Rattle.hunk_scatter.specs.Placing.{Placing, AreBases, HasBases, IsUnplacedFor}
@@ -20,7 +20,7 @@ use Rattle.hunk_scatter.proofs.HeaderFronts.{one_table}
 use Rattle.hunk_scatter.proofs.TableLimit.{never_passes}
 use Rattle.hunk.specs.declared.answer.Answer.{Answer}
 use Rattle.hunk.specs.Answers.{refused, done}
-use Rattle.hunk.specs.Loads.{AcceptsHeaderWithMemory, BeginsWithHeader, FitsAndHasBases, IsHeaderRefusal, IsLoaded, IsNotLoaded, HasNoFile, HasNoBase, HasNoMemory}
+use Rattle.hunk.specs.Loads.{AcceptsHeaderWithMemory, FitsAndHasBases, IsHeaderRefusal, IsLoadedInto, IsNotLoaded, HasNoFile, HasNoBase, HasNoMemory}
 
 -- ---- answers
 
@@ -87,7 +87,7 @@ joined-images bases v = flat_map-map (λ (segment : List ℕ). segment) (image b
 pub loaded : (base : Placing) (bytes body old new : List ℕ) (t : List TableEntry) (rows : List Row) (segments : List (List ℕ)) (taken : ℕ) (answer : Answer) →
     bytes ≡ header_bytes t ++ body → taken ≤ length body → entries_of rows ≡ t → AreBases base t (bases_of rows) → IsImageOf rows (header_bytes t ++ take taken body) segments →
     declared_bytes t ≤ length old → new ≡ joined segments ++ drop (declared_bytes t) old → answer ≡ done (length rows) (length bytes - length body + taken) (declared_bytes t) →
-    IsLoaded base bytes old new answer
+    IsLoadedInto base bytes old new answer
 loaded base bytes body old new t rows segments taken answer split within entries placed i fits memory answered =
     let v = i.value in
     let same : table v ≡ t = i.file.table_is ∙ entries in

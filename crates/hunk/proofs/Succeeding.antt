@@ -5,11 +5,11 @@ use Rattle.hunk_files.specs.Image.{declared_bytes}
 use Rattle.hunk_files.specs.LoadFile.{TableEntry}
 use Rattle.hunk_files.specs.LoadText.{table}
 use Rattle.hunk_files.proofs.Scan.{no_fault}
-use Rattle.hunk_scatter.specs.HeaderBytes.{header_bytes}
+use Rattle.hunk_scatter.specs.HeaderBytes.{BeginsWithHeader, header_bytes}
 use Rattle.hunk_scatter.specs.Placing.{Placing, HasBases}
 use Rattle.hunk_scatter.proofs.HeaderFronts.{one_table, text_header}
 use Rattle.hunk.specs.declared.answer.Answer.{Answer}
-use Rattle.hunk.specs.Loads.{BeginsWithHeader, HavePlaces, Loads, LoadsWhatFits, IsNotLoaded, HasNoFile, HasNoRoom, HasNoBase, HasNoMemory}
+use Rattle.hunk.specs.Loads.{HavePlaces, Loads, LoadsWhatFits, IsNotLoaded, HasNoFile, HasNoRoom, HasNoBase, HasNoMemory}
 
 -- The header that a load file begins with is that of its table.
 same_table : (bytes : List ℕ) (t : List TableEntry) (file : BeginsWithLoadFile bytes) → BeginsWithHeader bytes t → table file.value ≡ t

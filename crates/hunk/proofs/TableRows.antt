@@ -7,11 +7,8 @@ use Rattle.hunk_words.specs.Longs.{longs}
 use Rattle.hunk_words.proofs.LongLaws.{longs-bytes_of, length-longs}
 use Rattle.hunk_files.specs.LoadFile.{TableEntry, IsTableEntry}
 use Rattle.hunk_files.proofs.TableReading.{entries_words, entries_more, entry_words}
-use Rattle.hunk_scatter.specs.HeaderBytes.{header_words}
-use Rattle.hunk_scatter.specs.HeaderSizes.{HasHeaderSize}
-use Rattle.hunk_scatter.specs.declared.header_size.HeaderSize.{HeaderSize}
+use Rattle.hunk_scatter.specs.HeaderBytes.{BeginsWithHeader, header_words}
 use Rattle.hunk_scatter.proofs.HeaderStops.{header_longs}
-use Rattle.hunk.specs.Loads.{BeginsWithHeader}
 
 -- an entry, and those behind it
 record EntryAt (t : List TableEntry) (i : ℕ) : Type 0 where
@@ -99,7 +96,3 @@ module _ (bytes : List ℕ) (t : List TableEntry) (h : BeginsWithHeader bytes t)
         by_bits : (b : Bool) → has_both_bits word ≡ b → StandsAt bytes t h (suc i) (at + (if b then 2 else 1))
         by_bits true both = sym (drop-drop 2 at (longs bytes)) ∙ ap (λ (l : List ℕ). drop 2 l) (here true (ap has_both_bits (sym word_at) ∙ both))
         by_bits false both = sym (drop-drop 1 at (longs bytes)) ∙ ap (λ (l : List ℕ). drop 1 l) (here false (ap has_both_bits (sym word_at) ∙ both))
-
--- The header whose size was read.
-pub header_in : (budget : ℕ) (bytes : List ℕ) (size : HeaderSize) → (h : HasHeaderSize budget bytes size) → BeginsWithHeader bytes h.table
-header_in budget bytes size h = record { is_table = h.is_table; rest = h.rest; split = h.split }

@@ -1,26 +1,44 @@
 -- What calls answer.
-use Rattle.std.specs.Prelude.{ℕ}
+use Rattle.std.specs.Prelude.{◌≡◌, ◌⊎◌, ℕ}
 use Rattle.hunk_words.specs.Reasons.{number_of}
 use Rattle.hunk_words.specs.declared.fault.Fault.{Fault}
 use Rattle.hunk_words.specs.declared.reason.Reason.{Reason}
 use Rattle.hunk_words.specs.declared.reason.Reason.TheVariants as reasons
 use Rattle.hunk.specs.declared.answer.Answer.{Answer}
 
-abbrev pub hunk_of : Reason → ℕ
-hunk_of (reasons.NoBase hunk) = hunk
-hunk_of _ = 0
+-- the hunk that a reason names; 0 of most
+abbrev pub refused_hunk : Reason → ℕ
+refused_hunk (reasons.NoBase hunk) = hunk
+refused_hunk _ = 0
 
 -- the answer of a refusal
 abbrev pub refused : Fault → Answer
-refused f = record { number = number_of f.reason; hunk = hunk_of f.reason; place = f.place; count = 0 }
+refused f = record { number = number_of f.reason; hunk = refused_hunk f.reason; place = f.place; count = 0 }
 
--- the answer where the caller's array needs so many elements
+-- the number that says that the caller's array has too few elements
+abbrev pub no_room_number : ℕ
+no_room_number = 32
+
+-- the answer where it needs so many
 abbrev pub no_room : ℕ → ℕ → ℕ → Answer
-no_room hunks place count = record { number = 32; hunk = hunks; place = place; count = count }
+no_room hunks place count = record { number = no_room_number; hunk = hunks; place = place; count = count }
 
 abbrev pub done : ℕ → ℕ → ℕ → Answer
 done hunks place count = record { number = 0; hunk = hunks; place = place; count = count }
 
--- the answer where the numbers of a loader are none that it may have
+-- All was done, or memory ran out.
+abbrev pub IsDoneOrOutOfMemory : Answer → Type 0
+IsDoneOrOutOfMemory answer = (answer.number ≡ 0) ⊎ (answer.number ≡ number_of reasons.OutOfMemory)
+
+-- ---- the numbers of a loader
+
+-- the largest number of a reason
+abbrev pub last_reason : ℕ
+last_reason = 31
+
+-- the number that says that they are none that it may have
+abbrev pub strange_number : ℕ
+strange_number = 33
+
 abbrev pub strange : Answer
-strange = record { number = 33; hunk = 0; place = 0; count = 0 }
+strange = record { number = strange_number; hunk = 0; place = 0; count = 0 }

@@ -11,7 +11,7 @@ use Rattle.hunk_files.specs.declared.object.check.FindingKind.{FindingKind}
 use Rattle.hunk_files.specs.declared.object.check.FindingKind.TheVariants.{BadTarget, OutsideHunk}
 use Rattle.hunk.specs.declared.answer.Answer.{Answer}
 use Rattle.hunk.specs.declared.check.FindingRow.{FindingRow}
-use Rattle.hunk.specs.Answers.{refused, no_room, done}
+use Rattle.hunk.specs.Answers.{refused, no_room, done, IsDoneOrOutOfMemory}
 use Rattle.hunk.specs.Files.{AreNoFile, findings_in, hunks_in}
 
 abbrev pub kind_number : FindingKind → ℕ
@@ -40,4 +40,4 @@ pub data Checks (bytes : List ℕ) (old new : List FindingRow) (answer : Answer)
 -- Where a file is in front, and there is a row for each thing that is wrong with it, it is checked, or memory was wanting.
 abbrev pub ChecksWhatFits : ℕ → List ℕ → Answer → Type 0
 ChecksWhatFits room bytes answer =
-    (file : HunkFile) → IsFileOf bytes file → length (findings_in file) ≤ room → (answer.number ≡ 0) ⊎ (answer.number ≡ 31)
+    (file : HunkFile) → IsFileOf bytes file → length (findings_in file) ≤ room → IsDoneOrOutOfMemory answer

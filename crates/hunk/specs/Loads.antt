@@ -1,5 +1,5 @@
 -- Load files in the caller's memory.
-use Rattle.std.specs.Prelude.{◌≡◌, ℕ, ◌<◌, ◌≤◌, List, ◌++◌, length, drop, slice_get, ◌⊎◌}
+use Rattle.std.specs.Prelude.{◌≡◌, ℕ, ◌<◌, ◌≤◌, List, ◌++◌, length, drop, ◌⊎◌}
 use Rattle.hunk_words.specs.Longs.{bytes_of}
 use Rattle.hunk_words.specs.declared.fault.Fault.{Fault}
 use Rattle.hunk_words.specs.declared.reason.Reason.{Reason}
@@ -8,21 +8,15 @@ use Rattle.hunk_files.specs.Fault.{BeginsWithLoadFile, HasFault, IsTruncated}
 use Rattle.hunk_files.specs.Image.{declared_bytes, images}
 use Rattle.hunk_files.specs.LoadFile.{TableEntry, LoadFileValue, IsLoadFile}
 use Rattle.hunk_files.specs.LoadText.{table, text}
-use Rattle.hunk_scatter.specs.HeaderBytes.{IsHeaderTable, header_bytes}
+use Rattle.hunk_scatter.specs.HeaderBytes.{BeginsWithHeader, header_bytes}
 use Rattle.hunk_scatter.specs.HeaderFaults.{CompletesRow, IsBudgetOrMemory, IsHeaderFault}
-use Rattle.hunk_scatter.specs.Placing.{Placing, packed_base, AreBases, HasBases, IsFirstUnplaced}
+use Rattle.hunk_scatter.specs.Placing.{Placing, AreBases, HasBases, IsFirstUnplaced}
 use Rattle.hunk.specs.declared.answer.Answer.{Answer}
-use Rattle.hunk.specs.Answers.{refused, no_room, done}
+use Rattle.hunk.specs.Answers.{refused, no_room, done, IsDoneOrOutOfMemory}
 
 -- ---- headers
 
--- The bytes begin with the header of the table.
-pub record BeginsWithHeader (bytes : List ℕ) (t : List TableEntry) : Type 0 where
-  pub is_table : IsHeaderTable t
-  pub rest : List ℕ
-  pub split : bytes ≡ header_bytes t ++ rest
-
--- Why a header is not read: a longword is refused, the budget is passed, memory is wanting for a row, or the bytes end.
+-- Why a header is not read: a longword is refused, the budget is passed, memory runs out for a row, or the bytes end.
 abbrev pub IsHeaderRefusal : ℕ → List ℕ → Fault → Type 0
 IsHeaderRefusal budget bytes f = IsHeaderFault budget bytes f ⊎ ((f.reason ≡ reasons.Truncated) × IsTruncated bytes f.place)
 
@@ -41,16 +35,8 @@ LacksMemoryToLoad base room bytes at =
 
 -- ---- loads
 
--- each hunk at the base of its number
-abbrev pub listed_in : List ℕ → Placing
-listed_in bases = λ hunk row before. slice_get bases hunk
-
--- hunks one right behind the other from a first byte on
-abbrev pub packed_from : ℕ → Placing
-packed_from start = λ hunk row before. packed_base start row before
-
 -- The bytes begin with a load file. The memory begins with its hunks, each as it lies at its base, one right after the other; the rest of it is as it was.
-pub record IsLoaded (base : Placing) (bytes old new : List ℕ) (answer : Answer) : Type 0 where
+pub record IsLoadedInto (base : Placing) (bytes old new : List ℕ) (answer : Answer) : Type 0 where
   pub value : LoadFileValue
   pub is_load_file : IsLoadFile value
   pub rest : List ℕ
@@ -78,9 +64,9 @@ pub data IsNotLoaded (base : Placing) (room : ℕ) (bytes : List ℕ) (answer : 
 
 -- What a load comes to.
 abbrev pub Loads : Placing → List ℕ → List ℕ → List ℕ → Answer → Type 0
-Loads base bytes old new answer = IsLoaded base bytes old new answer ⊎ (IsNotLoaded base (length old) bytes answer × (new ≡ old))
+Loads base bytes old new answer = IsLoadedInto base bytes old new answer ⊎ (IsNotLoaded base (length old) bytes answer × (new ≡ old))
 
--- Where the bytes begin with a load file that fits, and each of its hunks has a base, it is loaded, or memory was wanting.
+-- Where the bytes begin with a load file that fits, and each of its hunks has a base, it is loaded, or memory ran out.
 abbrev pub LoadsWhatFits : Placing → ℕ → List ℕ → Answer → Type 0
 LoadsWhatFits base room bytes answer =
-    (file : BeginsWithLoadFile bytes) → HavePlaces base room (table file.value) → (answer.number ≡ 0) ⊎ (answer.number ≡ 31)
+    (file : BeginsWithLoadFile bytes) → HavePlaces base room (table file.value) → IsDoneOrOutOfMemory answer

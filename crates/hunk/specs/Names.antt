@@ -3,14 +3,14 @@ use Rattle.std.specs.Prelude.{◌≡◌, ℕ, ◌<◌, ◌≤◌, List, [], ◌+
 use Rattle.hunk_words.specs.Reasons.{number_of, name_of}
 use Rattle.hunk_words.specs.declared.reason.Reason.{Reason}
 use Rattle.hunk.specs.declared.answer.Answer.{Answer}
-use Rattle.hunk.specs.Answers.{no_room, done}
+use Rattle.hunk.specs.Answers.{done, no_room, no_room_number, strange_number}
 
 -- The name of a number: that of its reason, of NoRoom, of Strange, or none.
 pub data IsNameOf (number : ℕ) (name : List ℕ) : Type 0 where
   OfReason : (reason : Reason) → number_of reason ≡ number → name ≡ name_of reason → IsNameOf number name
-  OfNoRoom : number ≡ 32 → name ≡ codes "NoRoom" → IsNameOf number name
-  OfStrange : number ≡ 33 → name ≡ codes "Strange" → IsNameOf number name
-  OfNone : (number ≡ 0) ⊎ (33 < number) → name ≡ [] → IsNameOf number name
+  OfNoRoom : number ≡ no_room_number → name ≡ codes "NoRoom" → IsNameOf number name
+  OfStrange : number ≡ strange_number → name ≡ codes "Strange" → IsNameOf number name
+  OfNone : (number ≡ 0) ⊎ (strange_number < number) → name ≡ [] → IsNameOf number name
 
 -- The text begins with the name, and what lies behind it is as it was; or it is too short, and as it was.
 pub data Names (number : ℕ) (old new : List ℕ) (answer : Answer) : Type 0 where

@@ -21,7 +21,7 @@ use Rattle.hunk_scatter.specs.Streaming.{IsFed}
 use Rattle.hunk_scatter.specs.declared.stream.Standing.{Standing}
 use Rattle.hunk.specs.declared.answer.Answer.{Answer}
 use Rattle.hunk.specs.declared.loader.Loader.{Loader}
-use Rattle.hunk.specs.Answers.{done, hunk_of, no_room, refused, strange}
+use Rattle.hunk.specs.Answers.{done, last_reason, no_room, refused, refused_hunk, strange}
 
 -- ---- numbers
 
@@ -130,7 +130,7 @@ refusing l f = record {
   fed = l.fed;
   place = f.place;
   refused = number_of f.reason;
-  refused_hunk = hunk_of f.reason;
+  refused_hunk = refused_hunk f.reason;
   hunk = l.hunk;
   hunks = l.hunks;
   ahead = l.ahead;
@@ -146,9 +146,9 @@ refusing l f = record {
 
 -- The answer of a loader that has refused a longword: the same again. The number of no reason is none that it may have.
 pub data TellsAgain (l : Loader) (answer : Answer) : Type 0 where
-  TellsRefusal : 0 < l.refused → l.refused ≤ 31
+  TellsRefusal : 0 < l.refused → l.refused ≤ last_reason
       → answer ≡ record { number = l.refused; hunk = l.refused_hunk; place = l.place; count = 0 } → TellsAgain l answer
-  TellsNoReason : 31 < l.refused → answer ≡ strange → TellsAgain l answer
+  TellsNoReason : last_reason < l.refused → answer ≡ strange → TellsAgain l answer
 
 -- ---- a piece
 

@@ -7,7 +7,7 @@ use Rattle.hunk_scan.specs.FileKind.{sniffed}
 use Rattle.hunk_files.specs.HunkFile.{IsFileOf, IsMemory, file_bytes, stripped}
 use Rattle.hunk_files.specs.declared.hunk_file.HunkFile.{HunkFile}
 use Rattle.hunk.specs.declared.answer.Answer.{Answer}
-use Rattle.hunk.specs.Answers.{refused, no_room, done}
+use Rattle.hunk.specs.Answers.{refused, no_room, done, IsDoneOrOutOfMemory}
 use Rattle.hunk.specs.Files.{AreNoFile, hunks_in}
 
 -- the bytes of the file without its NAME, SYMBOL, DEBUG and ADVISORY blocks
@@ -32,4 +32,4 @@ pub data Strips (bytes old new : List ℕ) (answer : Answer) : Type 0 where
 -- Where a file is in front, and there is room for it without those blocks, it is stripped, or memory was wanting.
 abbrev pub StripsWhatFits : ℕ → List ℕ → Answer → Type 0
 StripsWhatFits room bytes answer =
-    (file : HunkFile) → IsFileOf bytes file → length (stripped_bytes file) ≤ room → (answer.number ≡ 0) ⊎ (answer.number ≡ 31)
+    (file : HunkFile) → IsFileOf bytes file → length (stripped_bytes file) ≤ room → IsDoneOrOutOfMemory answer

@@ -5,12 +5,11 @@ use Rattle.hunk_words.specs.declared.fault.Fault.{Fault}
 use Rattle.hunk_words.specs.declared.reason.Reason.TheVariants as reasons
 use Rattle.hunk_files.specs.Image.{declared_bytes}
 use Rattle.hunk_files.specs.LoadFile.{TableEntry}
-use Rattle.hunk_scatter.specs.HeaderBytes.{header_bytes}
+use Rattle.hunk_scatter.specs.HeaderBytes.{BeginsWithHeader, header_bytes}
 use Rattle.hunk.specs.declared.answer.Answer.{Answer}
 use Rattle.hunk.specs.declared.table.TableRow.{TableRow}
 use Rattle.hunk.specs.Answers.{refused, no_room, done}
 use Rattle.hunk_scatter.specs.HeaderSizes.{RefusesHeader}
-use Rattle.hunk.specs.Loads.{BeginsWithHeader}
 
 -- what the caller sees of an entry
 abbrev pub table_row : TableEntry → TableRow

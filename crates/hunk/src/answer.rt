@@ -1,7 +1,7 @@
 //! What a call answers.
 ghost use Rattle.std.specs.Prelude.{◌≡◌};
 ghost use Rattle.hunk_words.specs.declared.reason.Reason.TheVariants as reasons;
-ghost use Rattle.hunk.specs.Answers.{done, hunk_of, no_room, refused, strange};
+ghost use Rattle.hunk.specs.Answers.{done, refused_hunk, no_room, refused, strange};
 
 use hunk_words::{Fault, Reason};
 
@@ -33,15 +33,15 @@ pub(crate) fn refused(fault: Fault) -> Answer
 {
     Answer {
         number: u32::from(fault.reason.number()),
-        hunk: hunk_of(fault.reason),
+        hunk: refused_hunk(fault.reason),
         place: fault.place,
         count: 0,
     }
 }
 
 /// The hunk that a reason is told of; of most reasons, 0.
-fn hunk_of(reason: Reason) -> u32
-    ensures { result ≡ hunk_of reason }
+fn refused_hunk(reason: Reason) -> u32
+    ensures { result ≡ refused_hunk reason }
 {
     match reason {
         Reason::NoBase(hunk) => hunk,

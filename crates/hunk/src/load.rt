@@ -1,6 +1,7 @@
 //! Load files, loaded into the caller's memory.
 ghost use Rattle.std.specs.Prelude.{length};
-ghost use Rattle.hunk.specs.Loads.{Loads, LoadsWhatFits, listed_in, packed_from};
+ghost use Rattle.hunk_scatter.specs.Placing.{listed_in, packed_from};
+ghost use Rattle.hunk.specs.Loads.{Loads, LoadsWhatFits};
 
 use crate::answer::{Answer, no_room, refused};
 use crate::body::read_body;

@@ -139,23 +139,21 @@ impl Loader {
     pub(crate) fn standing(&self) -> Option<Standing>
         ensures { result ≡ standing_of self.now }
     {
-        match self.position() {
-            Some(position) => Some(Standing {
-                state: BodyState {
-                    start: self.start,
-                    hunk: self.hunk,
-                    position,
-                },
-                fed: self.fed,
-                pending: Pending {
-                    count: self.pending,
-                    first: self.first,
-                    second: self.second,
-                    third: self.third,
-                },
-            }),
-            None => None,
-        }
+        let position = self.position()?;
+        Some(Standing {
+            state: BodyState {
+                start: self.start,
+                hunk: self.hunk,
+                position,
+            },
+            fed: self.fed,
+            pending: Pending {
+                count: self.pending,
+                first: self.first,
+                second: self.second,
+                third: self.third,
+            },
+        })
     }
 
     /// What the next longword is for.
@@ -170,10 +168,8 @@ impl Loader {
             ahead: self.ahead,
             has_content: self.has_content == 1,
         };
-        match phase_in(self.phase, self.part, self.owed) {
-            Some(phase) => Some(Position::Body(hunk, phase)),
-            None => None,
-        }
+        let phase = phase_in(self.phase, self.part, self.owed)?;
+        Some(Position::Body(hunk, phase))
     }
 }
 

@@ -1,7 +1,7 @@
 //! Tables of load files, by their headers alone.
 ghost use Rattle.std.specs.Prelude.{List, ◌≡◌, length, map};
 ghost use Rattle.hunk_files.specs.LoadFile.{TableEntry};
-ghost use Rattle.hunk.specs.Loads.{BeginsWithHeader};
+ghost use Rattle.hunk_scatter.specs.HeaderBytes.{BeginsWithHeader};
 ghost use Rattle.hunk.specs.Tables.{BeginsWithTableOf, Tables, table_row};
 
 use crate::answer::{Answer, done, no_room, refused};

@@ -9,7 +9,7 @@ use Rattle.hunk_files.specs.Fault.{IsTruncated}
 use Rattle.hunk_files.specs.LoadFile.{TableEntry, LoadFileValue, IsLoadFile}
 use Rattle.hunk_files.specs.LoadText.{text}
 use Rattle.hunk_files.specs.declared.row.Row.{Row}
-use Rattle.hunk_scatter.specs.HeaderBytes.{IsHeaderTable, IsHeader, header_bytes, BeginsHeader}
+use Rattle.hunk_scatter.specs.HeaderBytes.{IsHeaderTable, IsHeader, header_bytes, IsHeaderFront}
 use Rattle.hunk_scatter.specs.HeaderFaults.{CompletesRow, IsHeaderFault, IsHeaderFaultBy}
 use Rattle.hunk_words.specs.declared.fault.Fault.{Fault}
 use Rattle.hunk_words.specs.declared.reason.Reason.{Reason}
@@ -108,14 +108,14 @@ rest_bytes fed piece front rest are e less = go (fronts_of fed piece front rest 
 
 -- A piece with which a row is completed is that of a header.
 pub row_begins : (fed piece : List ℕ) (want at : ℕ) → ((t : List TableEntry) (more : List ℕ) → IsHeaderTable t → header_bytes t ≡ fed ++ more → want ≤ length more) → length piece ≤ want →
-    length fed < at + 4 → CompletesRow (fed ++ piece) at → BeginsHeader (fed ++ piece)
+    length fed < at + 4 → CompletesRow (fed ++ piece) at → IsHeaderFront (fed ++ piece)
 row_begins fed piece want at least fits less h = go (fronts_of fed piece (bytes_of (h.before ++ h.word ∷ [])) h.rest h.split)
   where
     ends : length (bytes_of (h.before ++ h.word ∷ [])) ≡ at + 4
     ends = omega (arith, h.place, length-bytes_of (h.before ++ h.word ∷ []), length-append h.before (h.word ∷ []))
 
     go : ((m : List ℕ) × (fed ≡ bytes_of (h.before ++ h.word ∷ []) ++ m) × (m ++ piece ≡ h.rest)) ⊎ ((m : List ℕ) × (bytes_of (h.before ++ h.word ∷ []) ≡ fed ++ m) × (piece ≡ m ++ h.rest))
-        → BeginsHeader (fed ++ piece)
+        → IsHeaderFront (fed ++ piece)
     go (inl (m, p, q)) = absurd (omega (arith, less, ap length p, length-append (bytes_of (h.before ++ h.word ∷ [])) m, ends))
     go (inr (m, p, q)) =
         h.begins

@@ -10,7 +10,7 @@ use Rattle.hunk_files.specs.FileSteps.{table_entry, Progress, AtFirst, AtResiden
 use Rattle.hunk_files.specs.ReaderPosition.{position_of}
 use Rattle.hunk_files.specs.WordsRead.{HasRead}
 use Rattle.hunk_files.proofs.Reading.{reads, step_read}
-use Rattle.hunk_scatter.specs.HeaderBytes.{IsHeaderTable, header_bytes, BeginsHeader}
+use Rattle.hunk_scatter.specs.HeaderBytes.{IsHeaderTable, header_bytes, IsHeaderFront}
 use Rattle.hunk_scatter.specs.HeaderLoaderFields.{adds, OpensFirst}
 use Rattle.hunk_scatter.proofs.HeaderLeast.{header_least, header_ends, header_falls}
 use Rattle.hunk_scatter.proofs.HeaderSteps.{IsInHeader, step_opens}
@@ -106,7 +106,7 @@ padded zs h =
 
 -- Behind a row a header has whatever bytes follow, as far as headers go on.
 pub table_grows : (n : Next) (ws more : List ℕ) → IsInTable n → HasRead ws n → OpensFirst n → IsBytes more →
-    ((t : List TableEntry) (k : List ℕ) → IsHeaderTable t → header_bytes t ≡ bytes_of ws ++ k → length more ≤ length k) → BeginsHeader (bytes_of ws ++ more)
+    ((t : List TableEntry) (k : List ℕ) → IsHeaderTable t → header_bytes t ≡ bytes_of ws ++ k → length more ≤ length k) → IsHeaderFront (bytes_of ws ++ more)
 table_grows n ws more i h o fit fits =
     let end = header_ends n ws h o in
     let room = fits end.table (bytes_of end.more) end.is_table (ap bytes_of end.begins ∙ bytes_of-append ws end.more) in

@@ -23,7 +23,7 @@ use Rattle.hunk_files.proofs.Refusals.{refusal_of_word}
 use Rattle.hunk_files.proofs.Scan.{expects_of}
 use Rattle.hunk_scan.specs.declared.position.Position.{Position}
 use Rattle.hunk_scatter.specs.LoaderReasons.{is_of_header}
-use Rattle.hunk_scatter.specs.HeaderBytes.{IsHeaderTable, header_words, header_bytes, BeginsHeader, MayGoOnInHeader, entries_so_far}
+use Rattle.hunk_scatter.specs.HeaderBytes.{IsHeaderTable, header_words, header_bytes, IsHeaderFront, MayGoOnInHeader, entries_so_far}
 use Rattle.hunk_scatter.specs.HeaderFaults.{PassesBudget, IsOverBudget, IsBudgetOrMemory, IsHeaderFaultBy, IsHeaderFault}
 use Rattle.hunk_scatter.specs.HeaderLoaderFields.{adds, declares, StopsFor, HeaderStop}
 use Rattle.hunk_scatter.proofs.Behind.{stays_behind, table_behind, expected_passes, header_passes, role_here}
@@ -127,7 +127,7 @@ module _ (budget : ℕ) (bytes rest : List ℕ) (f : Fault) (s : HeaderStop budg
             row = omega (arith, some, ap length rows_before, ap length rows_here, ap length (step_adds at s.word header_at), length-append (table_of (More at)) (adds (position_of (More at)) s.word));
             begins =
                 λ fits.
-                subst (λ (bs : List ℕ). BeginsHeader (bs ++ rest)) (sym s.spelled)
+                subst (λ (bs : List ℕ). IsHeaderFront (bs ++ rest)) (sym s.spelled)
                 (table_grows (step at s.word) (s.ws ++ s.word ∷ []) rest (row_in_table at s.word some) read_more opens fit fits);
           })
 

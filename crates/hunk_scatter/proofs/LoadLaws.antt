@@ -11,7 +11,7 @@ use Rattle.hunk_files.specs.Image.{declared_bytes}
 use Rattle.hunk_files.specs.LoadFile.{TableEntry, LoadFileValue, IsLoadFile}
 use Rattle.hunk_files.specs.LoadText.{text}
 use Rattle.hunk_scatter.specs.LoaderReasons.{is_of_header, is_of_body, is_of_load}
-use Rattle.hunk_scatter.specs.HeaderBytes.{IsHeaderTable, header_bytes, BeginsHeader}
+use Rattle.hunk_scatter.specs.HeaderBytes.{IsHeaderTable, header_bytes, IsHeaderFront}
 use Rattle.hunk_scatter.specs.HeaderFaults.{PassesBudget, IsHeaderFaultBy}
 use Rattle.hunk_scatter.specs.LoaderValues.{ImageValue}
 use Rattle.hunk_scatter.specs.LoadOutcomes.{Gives, KeepsRest, IsNotPlaced, IsLoaded, IsShort, IsHeaderWithin, IsLoadFaultBy, IsLoadFault, IsWithinFile, IsReadFault, StopsShort, KeepsToHeader, LoadStop, InHeader, Between, InBody, LoadEnds}
@@ -67,7 +67,7 @@ as_reason : (base : Placing) (budget limit : ℕ) (left : Option (List ℕ)) (fa
 as_reason base budget limit left failed given at r s e h = subst (λ (x : Reason). IsLoadFaultBy x base budget limit left failed given at) (sym e) h
 
 module _ (base : Placing) (budget limit : ℕ) (left : Option (List ℕ)) (failed : Bool) (given : List ℕ) (at : ℕ) where
-  by_header : (r : Reason) → IsTrue (is_of_header r) → IsHeaderFaultBy r budget given at → (r ≡ reasons.OutOfMemory → BeginsHeader given) → IsLoadFaultBy r base budget limit left failed given at
+  by_header : (r : Reason) → IsTrue (is_of_header r) → IsHeaderFaultBy r budget given at → (r ≡ reasons.OutOfMemory → IsHeaderFront given) → IsLoadFaultBy r base budget limit left failed given at
   by_header reasons.Budget o h m = h
   by_header reasons.OutOfMemory o h m = (m refl, inl h)
   by_header reasons.FileLimit o h m = absurd cc

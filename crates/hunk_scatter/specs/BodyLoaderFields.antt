@@ -1,5 +1,5 @@
 -- What the fields of the loader of a body keep.
-use Rattle.std.specs.Prelude.{◌≡◌, ℕ, ◌<◌, ◌≤◌, List, [], ◌++◌, length, take, Option, None, Some, IsTrue}
+use Rattle.std.specs.Prelude.{◌≡◌, ℕ, ◌<◌, ◌≤◌, List, [], ◌++◌, length, take, Option, None, Some, Result, Ok, IfOk, OnOk, IsTrue}
 use Rattle.hunk_words.specs.Limits.{most_hunks}
 use Rattle.hunk_words.specs.Longs.{bytes_of}
 use Rattle.hunk_words.specs.declared.fault.Fault.{Fault}
@@ -14,6 +14,7 @@ use Rattle.hunk_scatter.specs.LoaderReasons.{is_of_body}
 use Rattle.hunk_scatter.specs.StoreContent.{StoreHolds}
 use Rattle.hunk_scatter.specs.Rows.{entries_of, bases_of}
 use Rattle.hunk_scatter.specs.BodyReader.{state_of}
+use Rattle.hunk_scatter.specs.LoaderValues.{BodyLoaderValue, FeedsFront, IsWholeFile}
 use Rattle.hunk_scatter.specs.LoadOutcomes.{StopsInBody}
 use Rattle.hunk_files.specs.ReaderPosition.{IsBehindHeader, table_of}
 
@@ -62,6 +63,15 @@ pub record TakesFront (rows : List Row) (store : List ℕ) (state : BodyState) (
 pub record RefusesFront (rows : List Row) (store : List ℕ) (state : BodyState) (piece : List ℕ) (reason : Reason) : Type 0 where
   pub refuses : RefusesFirstLong rows store state piece reason
   pub own : IsTrue (is_of_body reason)
+
+-- ---- a piece
+
+-- What the feeding of a piece keeps to, whether it is taken or refused: a front of it is fed, and none where the file is whole.
+pub record FeedsPiece {E : Type 0} (old new : BodyLoaderValue) (piece : List ℕ) (result : Result ℕ E) : Type 0 where
+  pub rows : new.rows ≡ old.rows
+  pub taken : IfOk result (FeedsFront old.fed piece new.fed)
+  pub goes_on : OnOk result (new.refused ≡ None)
+  pub complete : IsWholeFile old.rows old.fed → result ≡ Ok 0
 
 -- ---- a refusal
 

@@ -23,8 +23,14 @@ header_bytes table = bytes_of (header_words table)
 abbrev pub IsHeader : List ℕ → Type 0
 IsHeader bytes = (table : List TableEntry) × IsHeaderTable table × (bytes ≡ header_bytes table)
 
+-- The bytes begin with the header of the table.
+pub record BeginsWithHeader (bytes : List ℕ) (table : List TableEntry) : Type 0 where
+  pub is_table : IsHeaderTable table
+  pub rest : List ℕ
+  pub split : bytes ≡ header_bytes table ++ rest
+
 -- A header begins with the bytes.
-pub record BeginsHeader (bytes : List ℕ) : Type 0 where
+pub record IsHeaderFront (bytes : List ℕ) : Type 0 where
   pub table : List TableEntry
   pub is_table : IsHeaderTable table
   pub more : List ℕ

@@ -9,7 +9,7 @@ use Rattle.hunk_scan.specs.Roles.{Role as roles}
 use Rattle.hunk_files.specs.Fault.{Expects, HasRefusal}
 use Rattle.hunk_files.specs.Image.{declared_bytes}
 use Rattle.hunk_files.specs.LoadFile.{TableEntry}
-use Rattle.hunk_scatter.specs.HeaderBytes.{IsHeaderTable, header_bytes, BeginsHeader, entries_so_far}
+use Rattle.hunk_scatter.specs.HeaderBytes.{IsHeaderTable, header_bytes, IsHeaderFront, entries_so_far}
 
 -- ---- the budget
 
@@ -47,7 +47,7 @@ pub record CompletesRow (bytes : List ℕ) (at : ℕ) : Type 0 where
   pub place : at ≡ 4 * length before
   pub row : length (entries_so_far before) < length (entries_so_far (before ++ word ∷ []))
   pub begins : ((table : List TableEntry) (more : List ℕ) → IsHeaderTable table → header_bytes table ≡ bytes_of (before ++ word ∷ []) ++ more → length rest ≤ length more)
-      → BeginsHeader bytes
+      → IsHeaderFront bytes
 
 -- What the loader of a header answers: Budget where its table passes it, want of memory for a row, else the fault of the bytes.
 abbrev pub IsHeaderFaultBy : Reason → ℕ → List ℕ → ℕ → Type 0

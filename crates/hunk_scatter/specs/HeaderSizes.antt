@@ -1,20 +1,18 @@
 -- The size of a header, read with no memory for its rows.
-use Rattle.std.specs.Prelude.{◌≡◌, ℕ, ◌≤◌, List, ◌++◌, length, ◌⊎◌}
+use Rattle.std.specs.Prelude.{◌≡◌, ℕ, ◌≤◌, List, length, ◌⊎◌}
 use Rattle.hunk_words.specs.declared.fault.Fault.{Fault}
 use Rattle.hunk_words.specs.declared.reason.Reason.TheVariants as reasons
 use Rattle.hunk_files.specs.Fault.{HasRefusal, IsTruncated}
 use Rattle.hunk_files.specs.Image.{declared_bytes}
 use Rattle.hunk_files.specs.LoadFile.{TableEntry}
-use Rattle.hunk_scatter.specs.HeaderBytes.{IsHeaderTable, header_bytes}
+use Rattle.hunk_scatter.specs.HeaderBytes.{BeginsWithHeader, header_bytes}
 use Rattle.hunk_scatter.specs.HeaderFaults.{PassesBudget}
 use Rattle.hunk_scatter.specs.declared.header_size.HeaderSize.{HeaderSize}
 
 -- The bytes begin with a header of this size, whose table keeps to the budget.
 pub record HasHeaderSize (budget : ℕ) (bytes : List ℕ) (size : HeaderSize) : Type 0 where
   pub table : List TableEntry
-  pub is_table : IsHeaderTable table
-  pub rest : List ℕ
-  pub split : bytes ≡ header_bytes table ++ rest
+  pub header : BeginsWithHeader bytes table
   pub hunks_are : size.hunks ≡ length table
   pub bytes_are : size.bytes ≡ length (header_bytes table)
   pub declared_are : size.declared ≡ declared_bytes table
@@ -22,7 +20,7 @@ pub record HasHeaderSize (budget : ℕ) (bytes : List ℕ) (size : HeaderSize) :
 
 -- The bytes begin with the header of some table.
 abbrev pub HasHeaderInFront : List ℕ → Type 0
-HasHeaderInFront bytes = (table : List TableEntry) × (rest : List ℕ) × IsHeaderTable table × (bytes ≡ header_bytes table ++ rest)
+HasHeaderInFront bytes = (table : List TableEntry) × BeginsWithHeader bytes table
 
 -- Why a header is refused: a longword is, or with one the declared bytes first pass the budget, or the bytes end before that.
 abbrev pub RefusesHeader : ℕ → List ℕ → Fault → Type 0

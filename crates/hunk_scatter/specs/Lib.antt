@@ -14,5 +14,6 @@ pub mod PendingBytes
 pub mod Placing
 pub mod Rows
 pub mod StoreContent
+pub mod StopLine
 pub mod Streaming
 pub mod UnplacedLine

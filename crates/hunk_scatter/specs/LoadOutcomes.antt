@@ -10,7 +10,7 @@ use Rattle.hunk_files.specs.Image.{declared_bytes, image}
 use Rattle.hunk_files.specs.LoadFile.{TableEntry, LoadFileValue, IsLoadFile}
 use Rattle.hunk_files.specs.LoadText.{table, text}
 use Rattle.hunk_scatter.specs.LoaderReasons.{is_of_header, is_of_body}
-use Rattle.hunk_scatter.specs.HeaderBytes.{IsHeaderTable, header_bytes, BeginsHeader}
+use Rattle.hunk_scatter.specs.HeaderBytes.{IsHeaderTable, header_bytes, IsHeaderFront}
 use Rattle.hunk_scatter.specs.HeaderFaults.{CompletesRow, PassesBudget, IsOverBudget, IsHeaderFault}
 use Rattle.hunk_scatter.specs.LoaderValues.{ImageValue, HasNoRefusal}
 use Rattle.hunk_scatter.specs.Placing.{Placing, base_at, AreBases, HasBases, IsFirstUnplaced, IsUnplacedFor}
@@ -83,8 +83,8 @@ pub record IsHeaderWithin (budget : ℕ) (bytes : List ℕ) (table : List TableE
   pub within : declared_bytes table ≤ budget
 
 -- Memory is missing for a row, at the longword that completes it, or for the store, behind the header of a table whose hunks all have a base.
-abbrev pub WantsMemory : Placing → ℕ → List ℕ → ℕ → Type 0
-WantsMemory base budget given at = CompletesRow given at ⊎ ((table : List TableEntry) × IsHeaderWithin budget given table × HasBases base table × (at ≡ length given))
+abbrev pub LacksMemoryAt : Placing → ℕ → List ℕ → ℕ → Type 0
+LacksMemoryAt base budget given at = CompletesRow given at ⊎ ((table : List TableEntry) × IsHeaderWithin budget given table × HasBases base table × (at ≡ length given))
 
 -- The fault of a load, by its reason, where the reader has given these bytes: what is left then, and whether it failed.
 abbrev pub IsLoadFaultBy : Reason → Placing → ℕ → ℕ → Option (List ℕ) → Bool → List ℕ → ℕ → Type 0
@@ -94,7 +94,7 @@ IsLoadFaultBy reasons.Read base budget limit left failed given at = (at ≡ leng
 IsLoadFaultBy reasons.Truncated base budget limit left failed given at = IsAtEnd left × IsTruncated given at × IsShort budget given
 IsLoadFaultBy (reasons.NoBase hunk) base budget limit left failed given at =
     (table : List TableEntry) × IsHeaderWithin budget given table × IsFirstUnplaced base table hunk × (at ≡ length given)
-IsLoadFaultBy reasons.OutOfMemory base budget limit left failed given at = BeginsHeader given × WantsMemory base budget given at
+IsLoadFaultBy reasons.OutOfMemory base budget limit left failed given at = IsHeaderFront given × LacksMemoryAt base budget given at
 IsLoadFaultBy reason base budget limit left failed given at = HasRefusal given at reason
 
 abbrev pub IsLoadFault : Placing → ℕ → ℕ → Option (List ℕ) → Bool → List ℕ → Fault → Type 0
@@ -121,7 +121,7 @@ pub record StopsInHeader (budget : ℕ) (bytes : List ℕ) (f : Fault) : Type 0 
   pub fault : IsHeaderFault budget bytes f
   pub over : (at : ℕ) → PassesBudget budget bytes at → IsOverBudget at f
   pub own : IsTrue (is_of_header f.reason)
-  pub begins : f.reason ≡ reasons.OutOfMemory → BeginsHeader bytes
+  pub begins : f.reason ≡ reasons.OutOfMemory → IsHeaderFront bytes
 
 -- The loader of the body has.
 pub record StopsInBody (bytes : List ℕ) (f : Fault) : Type 0 where

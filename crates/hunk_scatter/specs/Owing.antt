@@ -6,6 +6,10 @@ use Rattle.hunk_files.specs.LoadFile.{LoadFileValue, IsLoadFile}
 use Rattle.hunk_files.specs.LoadText.{labelled, words}
 use Rattle.hunk_scan.specs.Roles.{Role, InBlock}
 
+-- the most bytes that a loader wants at a time
+abbrev pub most_want : ℕ
+most_want = 256
+
 -- a longword of a content, a name, a payload or a list of offsets
 abbrev pub is_listed : Role → Bool
 is_listed (InBlock p parts.Payload) = true

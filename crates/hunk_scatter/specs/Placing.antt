@@ -1,5 +1,5 @@
 -- What placers answer, and what it makes of a table.
-use Rattle.std.specs.Prelude.{◌≡◌, ℕ, ◌+◌, ◌*◌, ◌^◌, ◌<◌, List, length, take, get_or, nat_le, nat_lt, if◌then◌else◌, Option, Some, None, IsSome}
+use Rattle.std.specs.Prelude.{◌≡◌, ℕ, ◌+◌, ◌*◌, ◌^◌, ◌<◌, List, length, take, get_or, slice_get, nat_le, nat_lt, if◌then◌else◌, Option, Some, None, IsSome}
 use Rattle.hunk_words.specs.Bits.{size_longs}
 use Rattle.hunk_words.specs.declared.reason.Reason.{Reason}
 use Rattle.hunk_words.specs.declared.reason.Reason.TheVariants as reasons
@@ -18,6 +18,14 @@ packed_base start row before =
     if nat_le (2 ^ 32) (start + before) then None
     else if nat_lt (2 ^ 32) (start + before + 4 * size_longs row.word) then None
     else Some (start + before)
+
+-- each hunk at the base of its number
+abbrev pub listed_in : List ℕ → Placing
+listed_in bases = λ hunk row before. slice_get bases hunk
+
+-- hunks one right behind the other from a first byte on
+abbrev pub packed_from : ℕ → Placing
+packed_from start = λ hunk row before. packed_base start row before
 
 -- what is answered for a hunk of a table
 abbrev pub base_at : Placing → List TableEntry → ℕ → Option ℕ

@@ -11,13 +11,14 @@ ghost use Rattle.hunk_files.specs.LoadText.{text};
 ghost use Rattle.hunk_scatter.specs.LoaderReasons.{is_of_body};
 ghost use Rattle.hunk_scatter.specs.LoaderValues.{FeedsFront, HasNoRefusal, IsImageOf, IsWholeFile};
 ghost use Rattle.hunk_scatter.specs.LoaderValues.{MayGoOnInFile};
-ghost use Rattle.hunk_scatter.specs.BodyLoaderFields.{RefusesOf};
+ghost use Rattle.hunk_scatter.specs.BodyLoaderFields.{FeedsPiece, RefusesOf};
 ghost use Rattle.hunk_scatter.specs.LoadOutcomes.{IsWithinFile, StopsInBody};
-ghost use Rattle.hunk_scatter.specs.Owing.{HasToCome};
+ghost use Rattle.hunk_scatter.specs.Owing.{HasToCome, most_want};
 ghost use Rattle.hunk_scatter.specs.Rows.{entries_of};
 
 use crate::body_state::BodyState;
 use crate::image::{Image, starts_of};
+use crate::limits::MOST_WANT;
 use crate::longwords::take_longwords;
 use crate::store::{next_word, take_word};
 use hunk_files::Row;
@@ -68,10 +69,7 @@ impl BodyLoader {
     fn take_whole(&mut self, piece: &[u8]) -> Result<usize, LoadFault>
         requires room { length self.old.fed + length piece.now < 2 ^ 64 }
         requires reading { self.old.refused ≡ None }
-        ensures rows { self.new.rows ≡ self.old.rows }
-        ensures taken { IfOk result (FeedsFront self.old.fed piece.now self.new.fed) }
-        ensures goes_on { OnOk result (self.new.refused ≡ None) }
-        ensures complete { IsWholeFile self.old.rows self.old.fed → result ≡ Ok 0 }
+        ensures feeds { FeedsPiece self.old self.new piece.now result }
         ensures stops { IfErr result (StopsInBody (self.old.fed ++ piece.now)) }
         ensures remembers { IfErr result (λ f. self.new.refused ≡ Some f) }
     {
@@ -102,11 +100,8 @@ impl BodyLoader {
         requires room { length self.old.fed + length piece.now < 2 ^ 64 }
         requires reading { self.old.refused ≡ None }
         requires some { 0 < length piece.now }
-        ensures rows { self.new.rows ≡ self.old.rows }
-        ensures taken { IfOk result (FeedsFront self.old.fed piece.now self.new.fed) }
-        ensures goes_on { OnOk result (self.new.refused ≡ None) }
+        ensures feeds { FeedsPiece self.old self.new piece.now result }
         ensures ends { result ≡ Ok 0 → IsWholeFile self.new.rows self.new.fed }
-        ensures complete { IsWholeFile self.old.rows self.old.fed → result ≡ Ok 0 }
         ensures stops { IfErr result (StopsInBody (self.old.fed ++ piece.now)) }
         ensures remembers { IfErr result (λ f. self.new.refused ≡ Some f) }
     {
@@ -146,10 +141,7 @@ impl BodyLoader {
     fn take_gathered(&mut self, piece: &[u8]) -> Result<usize, LoadFault>
         requires room { length self.old.fed + length piece.now < 2 ^ 64 }
         requires reading { self.old.refused ≡ None }
-        ensures rows { self.new.rows ≡ self.old.rows }
-        ensures taken { IfOk result (FeedsFront self.old.fed piece.now self.new.fed) }
-        ensures goes_on { OnOk result (self.new.refused ≡ None) }
-        ensures complete { IsWholeFile self.old.rows self.old.fed → result ≡ Ok 0 }
+        ensures feeds { FeedsPiece self.old self.new piece.now result }
         ensures stops { IfErr result (StopsInBody (self.old.fed ++ piece.now)) }
         ensures remembers { IfErr result (λ f. self.new.refused ≡ Some f) }
     {
@@ -165,12 +157,9 @@ impl BodyLoader {
     fn take_longs(&mut self, piece: &[u8]) -> Result<usize, Refused>
         requires room { length self.old.fed + length piece.now < 2 ^ 64 }
         requires reading { self.old.refused ≡ None }
-        ensures rows { self.new.rows ≡ self.old.rows }
-        ensures taken { IfOk result (FeedsFront self.old.fed piece.now self.new.fed) }
+        ensures feeds { FeedsPiece self.old self.new piece.now result }
         ensures all { IfOk result
             (λ n. n < length piece.now → IsWholeFile self.new.rows self.new.fed) }
-        ensures goes_on { OnOk result (self.new.refused ≡ None) }
-        ensures complete { IsWholeFile self.old.rows self.old.fed → result ≡ Ok 0 }
         ensures stops { OnErr result (RefusesOf (self.old.fed ++ piece.now) self.new.refused) }
     {
         let mut taken = 0;
@@ -190,12 +179,9 @@ impl BodyLoader {
     fn take_parts(&mut self, piece: &[u8]) -> Result<usize, Refused>
         requires room { length self.old.fed + length piece.now < 2 ^ 64 }
         requires reading { self.old.refused ≡ None }
-        ensures rows { self.new.rows ≡ self.old.rows }
-        ensures taken { IfOk result (FeedsFront self.old.fed piece.now self.new.fed) }
+        ensures feeds { FeedsPiece self.old self.new piece.now result }
         ensures all { IfOk result
             (λ n. n < length piece.now → IsWholeFile self.new.rows self.new.fed) }
-        ensures goes_on { OnOk result (self.new.refused ≡ None) }
-        ensures complete { IsWholeFile self.old.rows self.old.fed → result ≡ Ok 0 }
         ensures stops { OnErr result (RefusesOf (self.old.fed ++ piece.now) self.new.refused) }
     {
         let whole = match self.take_whole(piece) {
@@ -216,12 +202,9 @@ impl BodyLoader {
     pub(crate) fn take_piece(&mut self, piece: &[u8]) -> Result<usize, LoadFault>
         requires room { length self.old.fed + length piece.now < 2 ^ 64 }
         requires reading { self.old.refused ≡ None }
-        ensures rows { self.new.rows ≡ self.old.rows }
-        ensures taken { IfOk result (FeedsFront self.old.fed piece.now self.new.fed) }
+        ensures feeds { FeedsPiece self.old self.new piece.now result }
         ensures all { IfOk result
             (λ n. n < length piece.now → IsWholeFile self.new.rows self.new.fed) }
-        ensures goes_on { OnOk result (self.new.refused ≡ None) }
-        ensures complete { IsWholeFile self.old.rows self.old.fed → result ≡ Ok 0 }
         ensures stops { IfErr result (StopsInBody (self.old.fed ++ piece.now)) }
         ensures remembers { IfErr result (λ f. self.new.refused ≡ Some f) }
     {
@@ -239,12 +222,9 @@ impl BodyLoader {
     fn take_bytes(&mut self, piece: &[u8]) -> Result<usize, LoadFault>
         requires room { length self.old.fed + length piece.now < 2 ^ 64 }
         requires reading { self.old.refused ≡ None }
-        ensures rows { self.new.rows ≡ self.old.rows }
-        ensures taken { IfOk result (FeedsFront self.old.fed piece.now self.new.fed) }
+        ensures feeds { FeedsPiece self.old self.new piece.now result }
         ensures all { IfOk result
             (λ n. n < length piece.now → IsWholeFile self.new.rows self.new.fed) }
-        ensures goes_on { OnOk result (self.new.refused ≡ None) }
-        ensures complete { IsWholeFile self.old.rows self.old.fed → result ≡ Ok 0 }
         ensures stops { IfErr result (StopsInBody (self.old.fed ++ piece.now)) }
         ensures remembers { IfErr result (λ f. self.new.refused ≡ Some f) }
     {
@@ -261,11 +241,11 @@ impl BodyLoader {
     /// `feed` answers that; where this is not 0 and the input ends here, the input is truncated.
     #[inline(always)]
     pub fn want(&self) -> usize
-        ensures bound { result ≤ 256 }
+        ensures bound { result ≤ most_want }
         ensures least { (v : LoadFileValue) (more : List ℕ) → IsLoadFile v
             → bytes_of (text v) ≡ self.now.fed ++ more → result ≤ length more }
         ensures to_come { self.now.refused ≡ None → (p : ℕ) → HasToCome self.now.fed p
-            → (p ≤ result) ⊎ (256 ≤ result) }
+            → (p ≤ result) ⊎ (most_want ≤ result) }
         ensures over { self.now.refused ≡ None → IsWholeFile self.now.rows self.now.fed
             → result ≡ 0 }
         ensures some { self.now.refused ≡ None → result ≡ 0
@@ -283,7 +263,11 @@ impl BodyLoader {
         };
         let longs = Position::Body(hunk, phase).least_longs();
         let bytes = 4 * longs - self.assembler.pending() as u64;
-        if bytes < 256 { bytes as usize } else { 256 }
+        if bytes < MOST_WANT as u64 {
+            bytes as usize
+        } else {
+            MOST_WANT
+        }
     }
 
     /// Consumes the piece, or up to the end of the file where that stands inside it, and gives the

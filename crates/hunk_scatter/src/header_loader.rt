@@ -15,12 +15,14 @@ ghost use Rattle.hunk_scatter.specs.HeaderFaults.{PassesBudget, IsOverBudget, Is
 ghost use Rattle.hunk_scatter.specs.HeaderFaults.{IsHeaderFault};
 ghost use Rattle.hunk_scatter.specs.HeaderLoaderFields.{StopsInPiece};
 ghost use Rattle.hunk_scatter.specs.HeaderOwing.{HasRowsToCome, HasHeaderToCome};
+ghost use Rattle.hunk_scatter.specs.Owing.{most_want};
 ghost use Rattle.hunk_scatter.specs.LoaderValues.{FeedsFront, HasNoRefusal};
 ghost use Rattle.hunk_scatter.specs.LoadOutcomes.{IsWithinHeader};
 ghost use Rattle.hunk_words.specs.Longs.{longs};
 
 use crate::declared::Declared;
 use crate::header_state::{HeaderState, take_header_word};
+use crate::limits::MOST_WANT;
 use crate::store::next_word;
 use hunk_files::Row;
 use hunk_scan::Position;
@@ -126,13 +128,13 @@ impl HeaderLoader {
     /// at least of each row owed. No longword that was fed is rejected before `feed` answers that;
     /// where the input ends here, it is truncated.
     pub fn want(&self) -> usize
-        ensures bound { result ≤ 256 }
+        ensures bound { result ≤ most_want }
         ensures least { (table : List TableEntry) (more : List ℕ) → IsHeaderTable table
             → header_bytes table ≡ self.now.fed ++ more → result ≤ length more }
         ensures to_come { self.now.refused ≡ None → (p : ℕ) → HasHeaderToCome self.now.fed p
-            → (p ≤ result) ⊎ (256 ≤ result) }
+            → (p ≤ result) ⊎ (most_want ≤ result) }
         ensures rows { self.now.refused ≡ None → (p : ℕ) → HasRowsToCome self.now.fed p
-            → (p ≤ result) ⊎ (256 ≤ result) }
+            → (p ≤ result) ⊎ (most_want ≤ result) }
         ensures over { self.now.refused ≡ None → IsHeader self.now.fed → result ≡ 0 }
         ensures some { self.now.refused ≡ None → result ≡ 0 → IsHeader self.now.fed }
         ensures refused { (f : Fault) → self.now.refused ≡ Some f → result ≡ 0 }
@@ -149,7 +151,11 @@ impl HeaderLoader {
             return 0;
         }
         let bytes = 4 * self.state.position.least_longs() - self.assembler.pending() as u64;
-        if bytes < 256 { bytes as usize } else { 256 }
+        if bytes < MOST_WANT as u64 {
+            bytes as usize
+        } else {
+            MOST_WANT
+        }
     }
 
     /// Takes the longwords of a piece in turn.
@@ -206,7 +212,7 @@ impl HeaderLoader {
         ensures passes { self.old.refused ≡ None → (at : ℕ)
             → PassesBudget self.old.budget (self.old.fed ++ piece.now) at
             → IsErrAnd result (IsOverBudget at) }
-        ensures wanting { self.old.refused ≡ None
+        ensures out_of_memory { self.old.refused ≡ None
             → IfErr result (λ f. f.reason ≡ reasons.OutOfMemory
             → length self.old.fed < f.place + 4) }
         ensures accepts { self.old.refused ≡ None → MayGoOnInHeader (self.old.fed ++ piece.now)

@@ -1,5 +1,8 @@
 //! How much a load may hold and read.
 
+/// The most bytes that a loader wants at a time, and the size of the buffer of a load.
+pub(crate) const MOST_WANT: usize = 256;
+
 /// The limits of a load, in bytes.
 #[derive(Clone, Copy, Debug, PartialEq, Eq)]
 pub struct Limits {

@@ -18,13 +18,14 @@ ghost use Rattle.hunk_scatter.specs.LoadOutcomes.{IsHeaderStop, IsLoadFault, IsL
 ghost use Rattle.hunk_scatter.specs.LoadOutcomes.{IsWithinFile, IsWithinHeader, KeepsToHeader};
 ghost use Rattle.hunk_scatter.specs.LoadOutcomes.{LoadEnds, StopsBehindFile, StopsBehindHeader};
 ghost use Rattle.hunk_scatter.specs.LoadOutcomes.{TellsFailure};
+ghost use Rattle.hunk_scatter.specs.Owing.{most_want};
 ghost use Rattle.hunk_scatter.specs.Placing.{HasBases};
 
 use crate::body_loader::BodyLoader;
 use crate::declared::Declared;
 use crate::header_loader::HeaderLoader;
 use crate::image::Image;
-use crate::limits::Limits;
+use crate::limits::{Limits, MOST_WANT};
 use crate::placer::Placer;
 use hunk_words::{LoadFault, Reason, Source};
 use std::alloc::Global;
@@ -77,7 +78,7 @@ fn load_header<R: Source>(
     buf: &mut [u8],
     limits: Limits,
 ) -> Result<Declared, LoadFault>
-    requires { length buf.old ≡ 256 }
+    requires { length buf.old ≡ most_want }
     ensures ends { (given : List ℕ) × Gives (R.left r.old) (R.left r.new) limits.file_bytes given
         × IsWithinHeader given
         × MatchResult result
@@ -108,7 +109,7 @@ fn load_body<R: Source>(
     loader: BodyLoader,
     limit: u64,
 ) -> Result<Image, LoadFault>
-    requires buffer { length buf.old ≡ 256 }
+    requires buffer { length buf.old ≡ most_want }
     requires reading { loader.refused ≡ None }
     requires within { length loader.fed ≤ limit }
     requires in_file { IsWithinFile loader.fed }
@@ -148,7 +149,7 @@ fn load_placed<R: Source, P: Placer>(
         (R.left r.new) (R.failed r.new) given result }
     ensures read { TellsFailure (R.failed r.old) (R.failed r.new) result }
 {
-    let mut buf = [0u8; 256];
+    let mut buf = [0u8; MOST_WANT];
     let declared = load_header(alloc, r, buf.as_mut_slice(), limits)?;
     let place = declared.header_len();
     let loader = match declared.place(p) {

@@ -1,8 +1,8 @@
 //! Where hunks go.
-ghost use Rattle.std.specs.Prelude.{◌≡◌, ℕ, ◌<◌, ◌≤◌, length, map, Option, slice_get, IfErr, OnOk};
+ghost use Rattle.std.specs.Prelude.{◌≡◌, ℕ, ◌<◌, ◌≤◌, length, map, Option, IfErr, OnOk};
 ghost use Rattle.hunk_words.specs.Limits.{most_hunks};
 ghost use Rattle.hunk_files.specs.declared.row.Row.{Row};
-ghost use Rattle.hunk_scatter.specs.Placing.{packed_base, AreBases, IsFirstUnplaced};
+ghost use Rattle.hunk_scatter.specs.Placing.{AreBases, IsFirstUnplaced, listed_in, packed_from};
 ghost use Rattle.hunk_scatter.specs.Rows.{entries_of, bases_of, row_of};
 
 use hunk_files::Row;
@@ -28,7 +28,7 @@ pub struct Packed {
 }
 
 impl Placer for Packed {
-    ghost base = { λ s hunk row before. packed_base s.start row before };
+    ghost base = { λ s. packed_from s.start };
 
     fn base(&self, _hunk: u32, row: &Row, before: u64) -> Option<u32> {
         const END: u64 = 1 << 32;
@@ -49,7 +49,7 @@ impl Placer for Packed {
 pub struct Listed<'a>(pub &'a [u32]);
 
 impl Placer for Listed<'_> {
-    ghost base = { λ s hunk row before. slice_get s.0.now hunk };
+    ghost base = { λ s. listed_in s.0.now };
 
     fn base(&self, hunk: u32, _row: &Row, _before: u64) -> Option<u32> {
         self.0.get(hunk as usize).copied()

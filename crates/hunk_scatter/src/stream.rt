@@ -4,12 +4,13 @@
 //! The numbers may be any. Those that lead out of the rows or the store are found out, each in
 //! constant time, before the store is touched.
 ghost use Rattle.std.specs.Prelude.{◌≡◌, ◌+◌, ◌<◌, ◌≤◌, ◌^◌, ℕ, List, [], ◌∷◌, ◌++◌, length, take};
-ghost use Rattle.std.specs.Prelude.{true, false, IfErr, IfOk, MatchResult, replicate};
+ghost use Rattle.std.specs.Prelude.{true, false, IfErr, IfOk, MatchResult, Some, replicate};
 ghost use Rattle.hunk_words.specs.Limits.{most_hunks};
 ghost use Rattle.hunk_scan.specs.Positions.{is_done};
 ghost use Rattle.hunk_scan.specs.declared.position.Position.TheVariants as positions;
 ghost use Rattle.hunk_scatter.specs.BodySteps.{IsInStore, RoomIn};
 ghost use Rattle.hunk_scatter.specs.Rows.{words_of};
+ghost use Rattle.hunk_scatter.specs.StopLine.{stop_line};
 ghost use Rattle.hunk_scatter.specs.Streaming.{BeginsLoading, CountsTaken, EndsLoading, IsFed};
 ghost use Rattle.hunk_scatter.specs.Streaming.{StopsAt, StopsForBody, TakesOn};
 
@@ -22,6 +23,8 @@ use crate::store::take_word;
 use hunk_files::Row;
 use hunk_scan::{OpenHunk, Phase, Position};
 use hunk_words::{LoadFault, MOST_HUNKS};
+use std::error::Error;
+use std::fmt;
 
 /// Where a loader stands between two pieces.
 #[derive(Clone, Copy, Debug, PartialEq, Eq)]
@@ -43,6 +46,19 @@ pub enum Stop {
     /// The input is rejected, at a place in bytes from the start of the file.
     Refused(LoadFault),
 }
+
+impl fmt::Display for Stop {
+    ghost output = { λ stop. Some (stop_line stop) };
+
+    fn fmt<W: fmt::Write>(&self, f: &mut fmt::Formatter<W>) -> fmt::Result {
+        match self {
+            Stop::Strange => f.write_str("the numbers are those of no loader"),
+            Stop::Refused(fault) => write!(f, "{fault}"),
+        }
+    }
+}
+
+impl Error for Stop {}
 
 /// Whether the rows have what a phase of a hunk of `longs` longwords points to.
 fn has_room(rows: &[Row], longs: u32, hunk: OpenHunk, phase: Phase) -> bool

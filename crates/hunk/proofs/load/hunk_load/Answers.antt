@@ -1,6 +1,7 @@
 use Rattle.std.proofs.Common.{rules, List, ℕ, ◌-◌, length, subst, arith}
 use Rattle.std.proofs.lemmas.List.{take_all}
-use Rattle.hunk.specs.Loads.{Loads, listed_in}
+use Rattle.hunk_scatter.specs.Placing.{listed_in}
+use Rattle.hunk.specs.Loads.{Loads}
 use Rattle.hunk.proofs.Succeeding.{what_fits}
 use Rattle.hunk.proofs.load.hunk_load.Goals as goal
 

@@ -1,5 +1,6 @@
 use Rattle.std.proofs.Common.{ℕ, subst, arith}
-use Rattle.hunk.specs.Loads.{Loads, packed_from}
+use Rattle.hunk_scatter.specs.Placing.{packed_from}
+use Rattle.hunk.specs.Loads.{Loads}
 use Rattle.hunk.proofs.Succeeding.{what_fits}
 use Rattle.hunk.proofs.load.hunk_load_packed.Goals as goal
 

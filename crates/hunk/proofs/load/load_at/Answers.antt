@@ -2,12 +2,12 @@ use Rattle.std.proofs.Common.{◌≡◌, ◌++◌, ℕ, List, length, take, drop
 use Rattle.hunk_files.specs.Fault.{HasFault}
 use Rattle.hunk_files.specs.Image.{declared_bytes}
 use Rattle.hunk_files.specs.declared.row.Row.{Row}
-use Rattle.hunk_scatter.specs.HeaderBytes.{header_bytes}
+use Rattle.hunk_scatter.specs.HeaderBytes.{BeginsWithHeader, header_bytes}
 use Rattle.hunk_scatter.specs.LoaderValues.{IsImageOf, joined}
 use Rattle.hunk_scatter.specs.Placing.{AreBases}
 use Rattle.hunk_scatter.specs.Rows.{entries_of, bases_of}
 use Rattle.hunk.specs.Answers.{refused}
-use Rattle.hunk.specs.Loads.{BeginsWithHeader, HasNoFile, HasNoRoom}
+use Rattle.hunk.specs.Loads.{HasNoFile, HasNoRoom}
 use Rattle.hunk.proofs.Loaded.{header_size, no_header, same_answer, not_placed, fits_placed, loaded}
 use Rattle.hunk.proofs.load.load_at.Goals as goal
 

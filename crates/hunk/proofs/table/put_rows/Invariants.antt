@@ -1,6 +1,6 @@
 use Rattle.std.specs.Prelude.{◌≡◌, List, length}
 use Rattle.hunk_files.specs.LoadFile.{TableEntry}
-use Rattle.hunk.specs.Loads.{BeginsWithHeader}
+use Rattle.hunk_scatter.specs.HeaderBytes.{BeginsWithHeader}
 use Rattle.hunk.specs.Tables.{table_row}
 use Rattle.hunk.proofs.Filling.{AreFilledTo}
 use Rattle.hunk.proofs.TableRows.{StandsAt}

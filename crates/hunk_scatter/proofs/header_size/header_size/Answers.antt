@@ -26,16 +26,16 @@ returns-in-Err-clause-refusal c =
     c.in-Err.reason c.in-Err.ensures.refusal
 
 pub returns-then-rest-lt4-clause-accepts : goal.returns-then-rest-lt4-clause-accepts
-returns-then-rest-lt4-clause-accepts c (t, more, is, e) =
-    absurd (none_cut _ _ _ _ c.words.invariant (sym c.is_behind_header.ensures ∙ c.words-test.true) (omega (arith, ap length (take_rest c.args.bytes.now c.words.at), c.if-rest-lt4.true)) t more is e)
+returns-then-rest-lt4-clause-accepts c (t, h) =
+    absurd (none_cut _ _ _ _ c.words.invariant (sym c.is_behind_header.ensures ∙ c.words-test.true) (omega (arith, ap length (take_rest c.args.bytes.now c.words.at), c.if-rest-lt4.true)) t h.rest h.is_table h.split)
 
 pub returns-in-Err-clause-accepts : goal.returns-in-Err-clause-accepts
-returns-in-Err-clause-accepts c (t, more, is, e) =
+returns-in-Err-clause-accepts c (t, h) =
     let are : IsBytes c.args.bytes.now = λ k. omega (arith, c.type_inv.bytes k) in
     let rest = take_rest c.args.bytes.now c.words.at in
     word_accepted _ _ _ _ c.words.invariant (sym c.is_behind_header.ensures ∙ c.words-test.true) are
     (omega (arith, ap length rest, c.if-rest-lt4.false)) c.word_at.result (omega arith) (c.word_at.ensures ∙ ap (λ (xs : List ℕ). get_or (longs xs) 0 0) rest)
-    c.in-Err.reason c.in-Err.ensures.refusal t more is e
+    c.in-Err.reason c.in-Err.ensures.refusal t h.rest h.is_table h.split
 
 pub words-preserved : goal.words-preserved
 words-preserved c =
@@ -58,9 +58,7 @@ returns-clause-size c =
     let w = header_whole _ _ _ _ h done in
     record {
       table = entries_of h.rows;
-      is_table = w.0;
-      rest = drop c.words.at c.args.bytes.now;
-      split = w.1;
+      header = record { is_table = w.0; rest = drop c.words.at c.args.bytes.now; split = w.1 };
       hunks_are = c.word_at-2.ensures ∙ (hunks_in c.args.bytes.now (entries_of h.rows) (drop c.words.at c.args.bytes.now) w.0 w.1).0;
       bytes_are = header_end _ _ _ _ h done;
       declared_are = header_total _ _ _ _ h done;

@@ -62,7 +62,7 @@ returns-in_err-feed-clause-ends g c =
             begins =
                 λ e.
                 row_begins c.reading.loader.fed piece c.want-want.result c.in_err-feed.field-0.0.place c.want-want.ensures.least fits
-                (c.in_err-feed.ensures.wanting i.reading e)
+                (c.in_err-feed.ensures.out_of_memory i.reading e)
                 (header_wants c.in_err-feed.field-0.0 c.args.limits.budget (c.reading.loader.fed ++ piece) e fault);
           }),
     )

@@ -11,4 +11,4 @@ returns-in-Err-clause-accepts c none on = absurd (no_refusal_on _ _ _ on c.in-Er
 pub returns-in-Ok-clause-within : goal.returns-in-Ok-clause-within
 returns-in-Ok-clause-within c =
     subst IsWithinFile (ap (λ (v : BodyLoaderValue). v.fed) c.self-2.view_is)
-    (fed_within _ _ _ _ _ _ _ c.self-2.invariant (ap (λ (v : BodyLoaderValue). v.refused) c.self-2.view_is ∙ c.in-Ok.ensures.goes_on))
+    (fed_within _ _ _ _ _ _ _ c.self-2.invariant (ap (λ (v : BodyLoaderValue). v.refused) c.self-2.view_is ∙ c.in-Ok.ensures.feeds.goes_on))

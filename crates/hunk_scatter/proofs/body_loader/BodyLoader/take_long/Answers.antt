@@ -1,4 +1,4 @@
-use Rattle.std.proofs.Common.{◌≡◌, ℕ, ◌+◌, ◌-◌, Option, List, ◌++◌, length, take, length-take, arith, sym, ap, subst, ◌∙◌}
+use Rattle.std.proofs.Common.{rules, ◌≡◌, ℕ, ◌+◌, ◌-◌, Option, List, ◌++◌, length, take, length-take, arith, sym, ap, subst, ◌∙◌}
 use Rattle.hunk_words.specs.Longs.{Gathers}
 use Rattle.hunk_files.specs.Fault.{HasRefusal}
 use Rattle.hunk_files.specs.declared.row.Row.{Row}
@@ -67,20 +67,35 @@ invariant_of-self-in-Err c =
     kept_refusal _ _ _ _ _ _ _ c.self.invariant none (sym c.is_done.ensures ∙ c.if-is_done.false) _ _ _
     (ap length store ∙ c.take_word.auto.store ∙ ap length c.as_mut_slice.ensures.value) c.in-Err.ensures.own_reasons
 
-pub returns-in_default-clause-complete : goal.returns-in_default-clause-complete
-returns-in_default-clause-complete c w =
-    absurd (not_whole _ _ _ _ _ _ _ c.self.invariant (ap (λ (v : BodyLoaderValue). v.refused) c.self.view_is ∙ c.requires.reading) (sym c.is_done.ensures ∙ c.if-is_done.false)
-    (subst (λ (v : BodyLoaderValue). IsWholeFile v.rows v.fed) (sym c.self.view_is) w))
+pub returns-in_default-clause-feeds : goal.returns-in_default-clause-feeds
+returns-in_default-clause-feeds c = record {
+  rows = search rules;
+  taken = search rules;
+  goes_on = search rules;
+  complete = λ w.
+      absurd (not_whole _ _ _ _ _ _ _ c.self.invariant (ap (λ (v : BodyLoaderValue). v.refused) c.self.view_is ∙ c.requires.reading) (sym c.is_done.ensures ∙ c.if-is_done.false)
+      (subst (λ (v : BodyLoaderValue). IsWholeFile v.rows v.fed) (sym c.self.view_is) w));
+}
 
-pub returns-in-Ok-clause-complete : goal.returns-in-Ok-clause-complete
-returns-in-Ok-clause-complete c w =
-    absurd (not_whole _ _ _ _ _ _ _ c.self.invariant (ap (λ (v : BodyLoaderValue). v.refused) c.self.view_is ∙ c.requires.reading) (sym c.is_done.ensures ∙ c.if-is_done.false)
-    (subst (λ (v : BodyLoaderValue). IsWholeFile v.rows v.fed) (sym c.self.view_is) w))
+pub returns-in-Ok-clause-feeds : goal.returns-in-Ok-clause-feeds
+returns-in-Ok-clause-feeds c = record {
+  rows = search rules;
+  taken = search rules;
+  goes_on = search rules;
+  complete = λ w.
+      absurd (not_whole _ _ _ _ _ _ _ c.self.invariant (ap (λ (v : BodyLoaderValue). v.refused) c.self.view_is ∙ c.requires.reading) (sym c.is_done.ensures ∙ c.if-is_done.false)
+      (subst (λ (v : BodyLoaderValue). IsWholeFile v.rows v.fed) (sym c.self.view_is) w));
+}
 
-pub returns-in-Err-clause-complete : goal.returns-in-Err-clause-complete
-returns-in-Err-clause-complete c w =
-    absurd (not_whole _ _ _ _ _ _ _ c.self.invariant (ap (λ (v : BodyLoaderValue). v.refused) c.self.view_is ∙ c.requires.reading) (sym c.is_done.ensures ∙ c.if-is_done.false)
-    (subst (λ (v : BodyLoaderValue). IsWholeFile v.rows v.fed) (sym c.self.view_is) w))
+pub returns-in-Err-clause-feeds : goal.returns-in-Err-clause-feeds
+returns-in-Err-clause-feeds c = record {
+  rows = search rules;
+  taken = search rules;
+  goes_on = search rules;
+  complete = λ w.
+      absurd (not_whole _ _ _ _ _ _ _ c.self.invariant (ap (λ (v : BodyLoaderValue). v.refused) c.self.view_is ∙ c.requires.reading) (sym c.is_done.ensures ∙ c.if-is_done.false)
+      (subst (λ (v : BodyLoaderValue). IsWholeFile v.rows v.fed) (sym c.self.view_is) w));
+}
 
 pub returns-then-is_done-clause-ends : goal.returns-then-is_done-clause-ends
 returns-then-is_done-clause-ends c same =

@@ -35,8 +35,8 @@ returns-in-Err-clause-accepts c none m =
     let s = c.in-Err.ensures.stops in
     stop_accepts _ s.0 s.1 c.in-Err.fault s.4 (subst MayGoOnInHeader s.2 m)
 
-pub returns-in-Err-clause-wanting : goal.returns-in-Err-clause-wanting
-returns-in-Err-clause-wanting c none e =
+pub returns-in-Err-clause-out_of_memory : goal.returns-in-Err-clause-out_of_memory
+returns-in-Err-clause-out_of_memory c none e =
     let s = c.in-Err.ensures.stops in
     omega (arith, s.3, stop_ends _ s.0 s.1 c.in-Err.fault s.4)
 
