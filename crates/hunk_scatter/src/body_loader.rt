@@ -184,17 +184,14 @@ impl BodyLoader {
             (λ n. n < length piece.now → IsWholeFile self.new.rows self.new.fed) }
         ensures stops { OnErr result (RefusesOf (self.old.fed ++ piece.now) self.new.refused) }
     {
-        let whole = match self.take_whole(piece) {
-            Ok(whole) => whole,
-            Err(_) => return Err(Refused),
+        let Ok(whole) = self.take_whole(piece) else {
+            return Err(Refused);
         };
         if whole == piece.len() {
             return Ok(whole);
         }
-        match self.take_longs(&piece[whole..]) {
-            Ok(more) => Ok(whole + more),
-            Err(_) => Err(Refused),
-        }
+        let more = self.take_longs(&piece[whole..])?;
+        Ok(whole + more)
     }
 
     /// Takes the piece as `take_parts` does, and answers the refusal.
