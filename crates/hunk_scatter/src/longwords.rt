@@ -40,13 +40,9 @@ fn take_one(
 {
     // The piece is for the contract alone.
     let _ = piece;
-    match take_word(store, rows, here, word) {
-        Ok(next) => {
-            *state = next;
-            Ok(4)
-        }
-        Err(reason) => Err(reason),
-    }
+    let next = take_word(store, rows, here, word)?;
+    *state = next;
+    Ok(4)
 }
 
 /// Takes the block word at the front of the piece, and gives its number of bytes. Each kind that a

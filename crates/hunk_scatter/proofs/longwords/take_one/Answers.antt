@@ -1,4 +1,5 @@
 use Rattle.std.proofs.Common.{[], length, sym, subst, arith, ◌∙◌}
+use Rattle.std.proofs.lemmas.Result.{err_from_is_err_and}
 use Rattle.hunk_scatter.specs.BodySteps.{IsInStore}
 use Rattle.hunk_scatter.specs.Rows.{words_of}
 use Rattle.hunk_scatter.specs.declared.body_state.BodyState.{BodyState}
@@ -11,22 +12,24 @@ take_word-requires c =
     subst (λ (s : BodyState). IsInStore (words_of c.args.rows.now) (length c.args.store.now) s)
     (sym (c.requires.same ∙ state_at c.args.state.now c.args.here.position c.requires.here)) c.requires.room
 
-pub returns-in-Ok-clause-takes : goal.returns-in-Ok-clause-takes
-returns-in-Ok-clause-takes c = record {
+pub returns-clause-takes : goal.returns-clause-takes
+returns-clause-takes c = record {
   some = omega arith;
   inside = c.requires.some;
   reads =
       λ fed r.
       let here = subst (λ (s : BodyState). StandsBehind c.args.rows.now c.args.store.now s [] fed) (sym (c.requires.same ∙ state_at c.args.state.now c.args.here.position c.requires.here)) r in
-      let taken = word_taken _ _ _ _ here c.requires.going_on c.args.piece.now (λ k. omega (arith, c.type_inv.piece k)) c.requires.some c.args.word c.in-Ok.ensures.long c.requires.front c.in-Ok.ensures.passes in
-      read_as _ _ _ _ _ _ c.in-Ok.ensures.stores c.in-Ok.ensures.steps taken;
+      let taken = word_taken _ _ _ _ here c.requires.going_on c.args.piece.now (λ k. omega (arith, c.type_inv.piece k)) c.requires.some c.args.word c.in_ok-next.ensures.long c.requires.front c.in_ok-next.ensures.passes in
+      read_as _ _ _ _ _ _ c.in_ok-next.ensures.stores c.in_ok-next.ensures.steps taken;
 }
 
-pub returns-in-Err-clause-refuses : goal.returns-in-Err-clause-refuses
-returns-in-Err-clause-refuses c = record {
-  refuses =
-      λ fed r.
-      let here = subst (λ (s : BodyState). StandsBehind c.args.rows.now c.args.store.now s [] fed) (sym (c.requires.same ∙ state_at c.args.state.now c.args.here.position c.requires.here)) r in
-      word_refused _ _ _ _ here c.requires.going_on c.args.piece.now (λ k. omega (arith, c.type_inv.piece k)) c.requires.some c.args.word c.in-Err.ensures.long c.requires.front c.in-Err.reason c.in-Err.ensures.refusal;
-  own = c.in-Err.ensures.own_reasons;
-}
+pub returns-in_err-next-clause-refuses : goal.returns-in_err-next-clause-refuses
+returns-in_err-next-clause-refuses c =
+    let p = err_from_is_err_and c.from_residual.result c.from_residual.ensures.1 in
+    rw (p.1, p.2) (record {
+      refuses =
+          λ fed r.
+          let here = subst (λ (s : BodyState). StandsBehind c.args.rows.now c.args.store.now s [] fed) (sym (c.requires.same ∙ state_at c.args.state.now c.args.here.position c.requires.here)) r in
+          word_refused _ _ _ _ here c.requires.going_on c.args.piece.now (λ k. omega (arith, c.type_inv.piece k)) c.requires.some c.args.word c.in_err-next.ensures.long c.requires.front c.in_err-next.field-0.0 c.in_err-next.ensures.refusal;
+      own = c.in_err-next.ensures.own_reasons;
+    })
