@@ -86,8 +86,8 @@ static int is_marked(const void *memory, size_t len)
     return len == 0;
 }
 
-/* Whether an answer says that memory was wanting, for what is read or for what is made of it. */
-static int is_wanting(struct hunk_answer a, uint64_t most)
+/* Whether an answer says that memory ran out, for what is read or for what is made of it. */
+static int is_out_of_memory(struct hunk_answer a, uint64_t most)
 {
     return a.number == HUNK_OUT_OF_MEMORY && a.hunk == 0 && a.count == 0 && a.place % 4 == 0 &&
            a.place >= 12 && a.place <= most;
@@ -102,7 +102,7 @@ struct refusals {
 /* Whether an answer is as it has to be, and all memory was given back. */
 static int counts(struct refusals *r, struct hunk_answer a, uint64_t end, int same, int done)
 {
-    if (!is_wanting(a, end))
+    if (!is_out_of_memory(a, end))
         return held == 0 && a.number == HUNK_OK && done;
     r->all++;
     r->at_end += a.place == end;

@@ -34,22 +34,22 @@ module _ (bytes : List ℕ) (answer : Answer) (f : Fault) (none : f.reason ≢ r
   fails : Fails
   fails = faulted bytes f.place f.reason none refusal memory
 
-  wanting : f.reason ≡ reasons.OutOfMemory → answer ≡ refused (record { place = f.place; reason = reasons.OutOfMemory })
-  wanting e = told ∙ ap (λ (r : Reason). refused (record { place = f.place; reason = r })) e
+  out_of_memory : f.reason ≡ reasons.OutOfMemory → answer ≡ refused (record { place = f.place; reason = reasons.OutOfMemory })
+  out_of_memory e = told ∙ ap (λ (r : Reason). refused (record { place = f.place; reason = r })) e
 
   pub check_refused : (rows : List FindingRow) → Checks bytes rows rows answer
   check_refused rows = go fails
     where
       go : Fails → Checks bytes rows rows answer
       go (inl absent) = checks.HasNoFile f absent refl told
-      go (inr (e, lacks)) = checks.HasNoMemory f.place (inl lacks) refl (wanting e)
+      go (inr (e, lacks)) = checks.HasNoMemory f.place (inl lacks) refl (out_of_memory e)
 
   pub strip_refused : (text : List ℕ) → Strips bytes text text answer
   strip_refused text = go fails
     where
       go : Fails → Strips bytes text text answer
       go (inl absent) = strips.HasNoFile f absent refl told
-      go (inr (e, lacks)) = strips.HasNoMemory f.place (inl lacks) refl (wanting e)
+      go (inr (e, lacks)) = strips.HasNoMemory f.place (inl lacks) refl (out_of_memory e)
 
 -- ---- where a load file is accepted
 

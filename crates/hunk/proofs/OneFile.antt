@@ -104,7 +104,7 @@ object_size bytes o is = omega (arith, file_size bytes (files.Object o) is)
 
 -- ---- bytes that are refused
 
--- They are no file, or memory is wanting.
+-- They are no file, or memory ran out.
 pub faulted : (bytes : List ℕ) (place : ℕ) (reason : Reason) → (reason ≢ reasons.OutOfMemory → AreFile bytes → ⊥) →
     (reason ≢ reasons.OutOfMemory → IsRefusal (sniffed (longs bytes)) bytes (record { place = place; reason = reason })) →
     (reason ≡ reasons.OutOfMemory → IsMemory (sniffed (longs bytes)) bytes place) →

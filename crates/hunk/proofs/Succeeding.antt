@@ -1,4 +1,4 @@
--- A load file that fits is loaded, or memory was wanting.
+-- A load file that fits is loaded, or memory ran out.
 use Rattle.std.proofs.Common.{◌≡◌, ℕ, List, ◌++◌, length, sym, ap, subst, ◌∙◌, append_assoc, arith, inl, inr}
 use Rattle.hunk_files.specs.Fault.{BeginsWithLoadFile}
 use Rattle.hunk_files.specs.Image.{declared_bytes}

@@ -22,7 +22,7 @@ kind_number OutsideHunk = 2
 abbrev pub finding_row : FindingValue → FindingRow
 finding_row f = record { unit = f.unit; hunk = f.hunk; offset = f.offset; fault = kind_number f.fault }
 
--- Memory is wanting: for what the longword here completes, or, at the end of an object file, for what is wrong with it.
+-- Memory ran out: for what the longword here completes, or, at the end of an object file, for what is wrong with it.
 abbrev pub LacksMemoryToCheck : List ℕ → ℕ → Type 0
 LacksMemoryToCheck bytes at = IsMemory (sniffed (longs bytes)) bytes at ⊎ (AreObjectFile bytes × (at ≡ length bytes))
 
@@ -37,7 +37,7 @@ pub data Checks (bytes : List ℕ) (old new : List FindingRow) (answer : Answer)
   HasNoMemory : (at : ℕ) → LacksMemoryToCheck bytes at → new ≡ old
       → answer ≡ refused (record { place = at; reason = reasons.OutOfMemory }) → Checks bytes old new answer
 
--- Where a file is in front, and there is a row for each thing that is wrong with it, it is checked, or memory was wanting.
+-- Where a file is in front, and there is a row for each thing that is wrong with it, it is checked, or memory ran out.
 abbrev pub ChecksWhatFits : ℕ → List ℕ → Answer → Type 0
 ChecksWhatFits room bytes answer =
     (file : HunkFile) → IsFileOf bytes file → length (findings_in file) ≤ room → IsDoneOrOutOfMemory answer

@@ -14,7 +14,7 @@ use Rattle.hunk.specs.Files.{AreNoFile, hunks_in}
 abbrev pub stripped_bytes : HunkFile → List ℕ
 stripped_bytes file = file_bytes (stripped file)
 
--- Memory is wanting: for what the longword here completes, or, where the file ends, for what is left of it.
+-- Memory ran out: for what the longword here completes, or, where the file ends, for what is left of it.
 abbrev pub LacksMemoryToStrip : List ℕ → ℕ → Type 0
 LacksMemoryToStrip bytes at = IsMemory (sniffed (longs bytes)) bytes at ⊎ ((file : HunkFile) × IsFileOf bytes file × (at ≡ length (file_bytes file)))
 
@@ -29,7 +29,7 @@ pub data Strips (bytes old new : List ℕ) (answer : Answer) : Type 0 where
   HasNoMemory : (at : ℕ) → LacksMemoryToStrip bytes at → new ≡ old
       → answer ≡ refused (record { place = at; reason = reasons.OutOfMemory }) → Strips bytes old new answer
 
--- Where a file is in front, and there is room for it without those blocks, it is stripped, or memory was wanting.
+-- Where a file is in front, and there is room for it without those blocks, it is stripped, or memory ran out.
 abbrev pub StripsWhatFits : ℕ → List ℕ → Answer → Type 0
 StripsWhatFits room bytes answer =
     (file : HunkFile) → IsFileOf bytes file → length (stripped_bytes file) ≤ room → IsDoneOrOutOfMemory answer

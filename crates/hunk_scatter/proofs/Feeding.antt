@@ -92,7 +92,7 @@ module _ (fed piece : List ℕ) (want : ℕ) (least : (v : LoadFileValue) (more 
           let far = least v m ok p in
           drop_all 0 more (omega (arith, far, ap length q, length-append m more))
 
--- ---- want of memory
+-- ---- out of memory
 
 rest_are_bytes : (m rest : List ℕ) → IsBytes (m ++ rest) → IsBytes rest
 rest_are_bytes [] rest h i = h i

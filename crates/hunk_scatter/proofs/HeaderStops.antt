@@ -1,4 +1,4 @@
--- What stops the loader of a header is the fault of the bytes, or the budget, or want of memory.
+-- What stops the loader of a header is the fault of the bytes, the budget, or that memory ran out.
 use Rattle.std.proofs.Common.{◌≡◌, true, false, ℕ, ◌+◌, ◌*◌, ◌<◌, List, [], ◌∷◌, ◌++◌, length, sym, ap, subst, ◌∙◌, append_assoc, append-nil, arith, length-append, Some, None, ◌⊎◌, inl, inr}
 use Rattle.std.specs.Prelude.{IsTrue}
 use Rattle.hunk_words.specs.Bits.{size_longs}
@@ -144,7 +144,7 @@ module _ (budget : ℕ) (bytes rest : List ℕ) (f : Fault) (s : HeaderStop budg
       go (inl (inr o)) = ap is_of_header o.reason_is
       go (inr l) = ap is_of_header l.reason_is
 
-  -- Where the table passes the budget, it stops there, or before it for want of memory.
+  -- Where the table passes the budget, it stops there, or before it since memory runs out.
   pub stop_over : (place : ℕ) → PassesBudget budget (bytes ++ rest) place → IsOverBudget place f
   stop_over place p = by_cut (cuts s.ws s.word (longs rest) p.before p.word p.after (sym spells ∙ p.split)) s.stops
     where

@@ -198,7 +198,7 @@ module _ (base : Placing) (budget limit : ℕ) (old left : Option (List ℕ)) (f
     over f (Between t h u q) = absurd (not_in t [] h.is_table h.within (h.header ∙ sym (append-nil (header_bytes t))))
     over f (InBody t header more h e s) = absurd (not_in t more h.is_table h.within (e ∙ ap (λ (xs : List ℕ). xs ++ more) h.header))
 
-    -- It stops there, or before it for want of memory.
+    -- It stops there, or before it since memory runs out.
     pub budget_stops : (result : Result ImageValue Fault) → LoadEnds base budget limit left failed given result → IsErrAnd result (IsOverBudget at)
     budget_stops (Ok placed) (v, loaded, e) =
         let k = text_header v loaded.is_load_file in

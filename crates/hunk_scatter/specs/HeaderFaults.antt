@@ -1,4 +1,4 @@
--- What the loader of a header refuses: its first fault, or the budget, or want of memory.
+-- What the loader of a header refuses: its first fault, what passes the budget, or a row for which memory ran out.
 use Rattle.std.specs.Prelude.{◌≡◌, ℕ, ◌+◌, ◌*◌, ◌<◌, ◌≤◌, List, [], ◌∷◌, ◌++◌, length, ◌⊎◌}
 use Rattle.hunk_words.specs.Bits.{size_longs}
 use Rattle.hunk_words.specs.Longs.{bytes_of, longs}
@@ -29,7 +29,7 @@ pub record PassesBudget (budget : ℕ) (bytes : List ℕ) (at : ℕ) : Type 0 wh
   pub first : IsWithinBudget budget before
   pub passes : budget < declared_bytes (entries_so_far before) + 4 * size_longs word
 
--- Budget at the place, or want of memory before it.
+-- Budget at the place, or OutOfMemory before it.
 abbrev pub IsOverBudget : ℕ → Fault → Type 0
 IsOverBudget at f = ((f.reason ≡ reasons.Budget) × (f.place ≡ at)) ⊎ ((f.reason ≡ reasons.OutOfMemory) × (f.place < at))
 
@@ -49,7 +49,7 @@ pub record CompletesRow (bytes : List ℕ) (at : ℕ) : Type 0 where
   pub begins : ((table : List TableEntry) (more : List ℕ) → IsHeaderTable table → header_bytes table ≡ bytes_of (before ++ word ∷ []) ++ more → length rest ≤ length more)
       → IsHeaderFront bytes
 
--- What the loader of a header answers: Budget where its table passes it, want of memory for a row, else the fault of the bytes.
+-- What the loader of a header answers: Budget where its table passes it, OutOfMemory where memory ran out for a row, else the fault of the bytes.
 abbrev pub IsHeaderFaultBy : Reason → ℕ → List ℕ → ℕ → Type 0
 IsHeaderFaultBy reasons.Budget budget bytes at = PassesBudget budget bytes at
 IsHeaderFaultBy reasons.OutOfMemory budget bytes at = CompletesRow bytes at

@@ -67,7 +67,7 @@ pub record LacksRowMemory (budget : ℕ) (s : HeaderState) (w : ℕ) (reason : R
 abbrev pub RefusesWord : ℕ → HeaderState → ℕ → Reason → Type 0
 RefusesWord budget s w reason = (refuse (role_at 0 s.position) w ≡ Some reason) ⊎ IsOver budget s w reason
 
--- The longword is refused by its own test, by the budget, or for want of memory.
+-- The longword is refused by its own test, by the budget, or since memory ran out.
 abbrev pub StopsFor : ℕ → HeaderState → ℕ → Reason → Type 0
 StopsFor budget s w reason = RefusesWord budget s w reason ⊎ LacksRowMemory budget s w reason
 

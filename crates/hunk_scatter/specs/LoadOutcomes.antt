@@ -82,7 +82,7 @@ pub record IsHeaderWithin (budget : ℕ) (bytes : List ℕ) (table : List TableE
   pub header : bytes ≡ header_bytes table
   pub within : declared_bytes table ≤ budget
 
--- Memory is missing for a row, at the longword that completes it, or for the store, behind the header of a table whose hunks all have a base.
+-- Memory ran out for a row, at the longword that completes it, or for the store, behind the header of a table whose hunks all have a base.
 abbrev pub LacksMemoryAt : Placing → ℕ → List ℕ → ℕ → Type 0
 LacksMemoryAt base budget given at = CompletesRow given at ⊎ ((table : List TableEntry) × IsHeaderWithin budget given table × HasBases base table × (at ≡ length given))
 
