@@ -34,9 +34,8 @@ pub(crate) fn table_sizes(rows: &[Row]) -> Option<(u64, u64)>
     }
     let mut header = BEFORE_TABLE;
     let mut bytes = 0;
-    'rows: for i in 0..rows.len() {
-        let row = rows[i];
-        if !is_entry(row) {
+    'rows: for row in rows {
+        if !is_entry(*row) {
             return None;
         }
         header += 4 * SizeWord::entry_longs(row.word) as u64;

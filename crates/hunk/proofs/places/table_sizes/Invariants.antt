@@ -2,4 +2,4 @@ use Rattle.hunk.proofs.TableSizes.{AreSummed}
 use Rattle.hunk.proofs.places.table_sizes.Given as goal
 
 abbrev pub invariant-rows : goal.invariant-rows
-invariant-rows l = AreSummed l.fn.rows l.i l.header l.bytes
+invariant-rows l = AreSummed l.fn.rows l.row-index l.header l.bytes
