@@ -58,9 +58,9 @@ fn put_rows(bytes: &[u8], rows: &mut [TableRow])
         → rows.new ≡ map table_row t }
 {
     let mut at = TABLE;
-    'rows: for i in 0..rows.len() {
+    'rows: for row in rows {
         let size = SizeWord::at(bytes, at);
-        rows[i] = table_row(size);
+        *row = table_row(size);
         at += SizeWord::entry_longs(size.word);
     }
 }

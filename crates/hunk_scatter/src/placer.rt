@@ -66,11 +66,10 @@ pub(crate) fn place_rows<P: Placer>(rows: &mut [Row], placer: &P) -> Result<(), 
     ensures missing { IfErr result (IsFirstUnplaced (P.base placer.now) (entries_of rows.old)) }
 {
     let mut before = 0;
-    for i in 0..rows.len() {
-        let row = rows[i];
-        match placer.base(i as u32, &row, before) {
-            Some(base) => rows[i].base = base,
-            None => return Err(i as u32),
+    for (hunk, row) in rows.iter_mut().enumerate() {
+        match placer.base(hunk as u32, row, before) {
+            Some(base) => row.base = base,
+            None => return Err(hunk as u32),
         }
         before += row.size().bytes();
     }

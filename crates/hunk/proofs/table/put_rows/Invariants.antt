@@ -7,4 +7,4 @@ use Rattle.hunk.proofs.TableRows.{StandsAt}
 use Rattle.hunk.proofs.table.put_rows.Given as goal
 
 abbrev pub invariant-rows : goal.invariant-rows
-invariant-rows l = (t : List TableEntry) (h : BeginsWithHeader l.bytes t) → length t ≡ length l.fn.rows → AreFilledTo table_row t l.rows l.i × StandsAt l.bytes t h l.i l.at
+invariant-rows l = (t : List TableEntry) (h : BeginsWithHeader l.bytes t) → length t ≡ length l.fn.rows → AreFilledTo table_row t l.row-items l.row-index × StandsAt l.bytes t h l.row-index l.at
