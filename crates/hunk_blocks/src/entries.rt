@@ -26,6 +26,7 @@ pub struct Entry<'a> {
 impl Entry<'_> {
     /// The type, by the top byte of the word; `None` for a number that is not accepted, which no
     /// entry of a block has.
+    #[inline(always)]
     pub fn kind(&self) -> Option<ExtKind>
         ensures { result ≡ ext_kind (ext_type (entry_of self.now)) }
     {
@@ -33,6 +34,7 @@ impl Entry<'_> {
     }
 
     /// What stands behind the name, as the type says; `None` where `kind` is.
+    #[inline(always)]
     pub fn shape(&self) -> Option<ExtShape>
         ensures { result ≡ ext_shape (ext_type (entry_of self.now)) }
     {

@@ -71,19 +71,14 @@ fn relocation_width(kind: Kind) -> u64
 }
 
 /// How many bytes an offset of this entry stands for; 0 for a definition, which has no offsets.
-///
-/// These are the widths of `ExtKind`, by the numbers of the types, since it is asked of each entry.
-#[tactic(auto, unfolding(hunk_blocks::specs::ExtKinds::ext_kind))]
 fn reference_width(entry: &Entry) -> u64
     ensures value { result ≡ reference_width (entry_of entry.now) }
     ensures bound { result ≤ 4 }
 {
-    match entry.word >> 24 {
-        129 | 130 | 133 | 136 | 137 => 4,
-        131 | 134 | 138 => 2,
-        132 | 135 | 139 => 1,
-        _ => 0,
-    }
+    let Some(kind) = entry.kind() else {
+        return 0;
+    };
+    kind.width().unwrap_or(0)
 }
 
 /// How many bytes the hunk has: those of its content.
