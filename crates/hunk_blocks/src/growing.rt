@@ -35,8 +35,6 @@ pub fn append<T: Drop>(list: &mut Vec<T>, item: T) -> Result<(), AllocError>
     if list.is_empty() && list.capacity() == 0 {
         *list = Vec::with_capacity(*list.allocator(), FIRST_ROOM)?;
     }
-    match list.push(item) {
-        Ok(()) => Ok(()),
-        Err(_) => Err(AllocError),
-    }
+    list.push(item)?;
+    Ok(())
 }

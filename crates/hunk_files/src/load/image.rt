@@ -27,6 +27,14 @@ pub enum ImageFault {
     OutOfMemory,
 }
 
+impl From<AllocError> for ImageFault {
+    ghost from_gives = { λ _ fault. fault ≡ faults.OutOfMemory };
+
+    fn from(_: AllocError) -> ImageFault {
+        ImageFault::OutOfMemory
+    }
+}
+
 impl LoadFile<'_> {
     /// The memory of all hunks, one after the other, where hunk number i lies at `bases[i]`.
     ///
@@ -48,13 +56,9 @@ impl LoadFile<'_> {
         if bases.len() != self.hunks.len() {
             return Err(ImageFault::BaseCount);
         }
-        let Ok(mut memory) = Vec::with_capacity(alloc, self.total() as usize) else {
-            return Err(ImageFault::OutOfMemory);
-        };
+        let mut memory = Vec::with_capacity(alloc, self.total() as usize)?;
         'hunks: for hunk in &self.hunks {
-            if push_image(&mut memory, hunk, bases).is_err() {
-                return Err(ImageFault::OutOfMemory);
-            }
+            push_image(&mut memory, hunk, bases)?;
         }
         Ok(memory)
     }

@@ -20,10 +20,7 @@ pub(super) fn refuse_unit_word(word: BlockWord) -> Option<Reason>
     if word.word() == UNIT {
         return None;
     }
-    match Mode::Object.refuse(word) {
-        Some(reason) => Some(reason),
-        None => Some(Reason::Misplaced),
-    }
+    Mode::Object.refuse(word).or(Some(Reason::Misplaced))
 }
 
 /// The refusal of an input that ends too soon, at 4 times the number of its whole longwords.
