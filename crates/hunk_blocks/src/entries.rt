@@ -11,6 +11,9 @@ use crate::longs::Longs;
 use crate::payload::Payload;
 
 /// An entry of an EXT block: a definition, or references.
+///
+/// Source: The AmigaDOS Manual, `dos/doshunks.h`. `ExtKind` says of which types the layout is this
+/// profile's own choice.
 #[derive(Debug, Drop)]
 pub struct Entry<'a> {
     /// The type in the top byte, and the number of longwords of the name in the low 24 bits.
@@ -42,5 +45,5 @@ impl Entry<'_> {
     }
 }
 
-/// The entries of an EXT block.
+/// The entries of an EXT block, in file order.
 pub type Entries<'a> = BlockList<Entry<'a>>;

@@ -34,7 +34,7 @@ module _ {S : Type 0} (Takes : S → List FindingValue → S → Type 0) (more :
       taken_on a b c (f x) (flat_map f (drop (i + 1) xs)) (flat_map f (drop i xs)) (flat_map f xs)
       (ap (λ (ys : List A). flat_map f ys) (drop_more xs i d l) ∙ ap (λ (y : A). f y ++ flat_map f (drop (i + 1) xs)) (sym e)) t h
 
-  -- by the element that the list tells at the place
+  -- by the element of the list at the place
   pub told_on : {A : Type 0} (f : A → List FindingValue) (xs : List A) (i : ℕ) (x : A) (a b c : S) → slice_get xs i ≡ Some x → TakenOf Takes f xs i a b → Takes b (f x) c → TakenOf Takes f xs (i + 1) a c
   told_on f xs i x a b c g t h = each_on f xs i x x a b c (slice_get_within xs i x g) (sym (get_or_from_slice_get xs i x x g)) t h
 

@@ -42,8 +42,8 @@ impl LoadFile<'_> {
     /// offset, in file order, the base of the target added to the long there, modulo 2^32: at any
     /// offset, also where longs overlap. It takes memory for `total()` bytes.
     ///
-    /// That RELOC32 adds the base of the target is from The AmigaDOS Manual and `dos/doshunks.h`. The
-    /// zero bytes, the order, odd offsets and the sum modulo 2^32 are this profile's own choice.
+    /// That RELOC32 adds the base of the target is from The AmigaDOS Manual and `dos/doshunks.h`.
+    /// The zero bytes, the order, odd offsets and the sum modulo 2^32 are this profile's own choice.
     ///
     /// # Errors
     ///

@@ -14,9 +14,9 @@ impl LoadFile<'_> {
     /// Two offsets of hunk `i`, counted from 0, whose longs overlap: 1 to 3 bytes apart.
     ///
     /// `None` is answered where there are none. Else the pair is the smaller and the larger of two
-    /// neighbours, among the distinct offsets of the hunk's RELOC32 blocks in rising order, that are
-    /// 1 to 3 apart: the pair with the least smaller offset. Offsets are in bytes from the start of
-    /// the hunk. It takes memory for the offsets, 4 bytes each.
+    /// neighbours, among the distinct offsets of the hunk's RELOC32 blocks in rising order, that
+    /// are 1 to 3 apart: the pair with the least smaller offset. Offsets are in bytes from the
+    /// start of the hunk. It takes memory for the offsets, 4 bytes each.
     ///
     /// # Errors
     ///
