@@ -67,8 +67,8 @@ fn push_offsets(rising: &mut Vec<u32>, groups: &Groups<'_>) -> Result<(), AllocE
     ensures { OnOk result (rising.new.items ≡ rising.old.items
         ++ offsets (flat_map group_relocations (map group_of groups.now))) }
 {
-    'pushing: for number in 0..groups.len() {
-        push_longs(rising, &groups.at(number).offsets)?;
+    'pushing: for group in groups {
+        push_longs(rising, &group.offsets)?;
     }
     Ok(())
 }
@@ -77,8 +77,8 @@ fn push_offsets(rising: &mut Vec<u32>, groups: &Groups<'_>) -> Result<(), AllocE
 fn push_longs(rising: &mut Vec<u32>, longs: &Longs<'_>) -> Result<(), AllocError>
     ensures { OnOk result (rising.new.items ≡ rising.old.items ++ longs.now) }
 {
-    'pushing: for number in 0..longs.len() {
-        rising.push(longs.at(number))?;
+    'pushing: for long in longs {
+        rising.push(long)?;
     }
     Ok(())
 }

@@ -127,8 +127,8 @@ fn check_group<T: TakesFindings>(taker: &mut T, spot: Spot, width: u64, group: &
     requires { width ≤ 4 }
     ensures { T.takes taker.old (group_findings spot width (group_of group.now)) taker.new }
 {
-    for i in 0..group.offsets.len() {
-        check_relocation(taker, spot, width, group.target, group.offsets.at(i));
+    for offset in &group.offsets {
+        check_relocation(taker, spot, width, group.target, offset);
     }
 }
 
@@ -137,8 +137,8 @@ fn check_groups<T: TakesFindings>(taker: &mut T, spot: Spot, width: u64, groups:
     ensures { T.takes taker.old
         (flat_map (group_findings spot width) (map group_of groups.now)) taker.new }
 {
-    for i in 0..groups.len() {
-        check_group(taker, spot, width, groups.at(i));
+    for group in groups {
+        check_group(taker, spot, width, group);
     }
 }
 
@@ -146,8 +146,8 @@ fn check_entry<T: TakesFindings>(taker: &mut T, spot: Spot, entry: &Entry)
     ensures { T.takes taker.old (entry_findings spot (entry_of entry.now)) taker.new }
 {
     let width = reference_width(entry);
-    for i in 0..entry.offsets.len() {
-        check_offset(taker, spot, width, entry.offsets.at(i));
+    for offset in &entry.offsets {
+        check_offset(taker, spot, width, offset);
     }
 }
 
@@ -155,8 +155,8 @@ fn check_entries<T: TakesFindings>(taker: &mut T, spot: Spot, entries: &Entries)
     ensures { T.takes taker.old
         (flat_map (entry_findings spot) (map entry_of entries.now)) taker.new }
 {
-    for i in 0..entries.len() {
-        check_entry(taker, spot, entries.at(i));
+    for entry in entries {
+        check_entry(taker, spot, entry);
     }
 }
 
