@@ -107,7 +107,7 @@ word_own mode word = go (has_both_bits word)
 pub refusal_own : (mode : Mode) (word : ℕ) (reason : Reason) → refuse_alone_word mode word ≡ Some reason → IsTrue (is_block_refusal reason)
 refusal_own mode word reason e = sym (ap own_or_none e) ∙ word_own mode word
 
--- ---- no longword is refused for want of memory
+-- ---- no longword is refused as out of memory
 
 abbrev pub not_for_memory : Option Reason → Bool
 not_for_memory (Some reasons.OutOfMemory) = false

@@ -45,7 +45,7 @@ decoded mode bytes old mid new word long body fit begins zero h same is_long ok 
       whole = omega (arith, n, front.1);
     }
 
--- so many bytes as the block's text has
+-- as many bytes as the block's text has
 pub begins_size : (mode : Mode) (bytes : List ℕ) (b : BlockValue) (n : ℕ) → BeginsWithBlock mode bytes b n → n ≡ length (bytes_of (block_text b))
 begins_size mode bytes b n h = omega (arith, ap length h.text, length-take n bytes, h.whole)
 

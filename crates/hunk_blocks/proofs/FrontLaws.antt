@@ -26,7 +26,7 @@ zeros_fit : (n : ℕ) → AreLongs (replicate n 0)
 zeros_fit zero = tt
 zeros_fit (suc n) = (omega arith, zeros_fit n)
 
--- zeros that are missing of so many longwords
+-- the zeros that are missing of a number of longwords
 abbrev missing : List ℕ → ℕ → List ℕ
 missing ws count = replicate (count - length ws) 0
 

@@ -14,7 +14,7 @@ pub All-right : {A : Type 0} (P : A → Type 0) (xs ys : List A) → AllByRecurs
 All-right P [] ys h = h
 All-right P (x ∷ xs) ys h = All-right P xs ys h.1
 
--- bytes cut behind so many longwords
+-- bytes cut behind a number of longwords
 pub longs-cut : (bytes front rest : List ℕ) (count : ℕ) → front ≡ take (4 * count) bytes → rest ≡ drop (4 * count) bytes → longs bytes ≡ longs front ++ longs rest
 longs-cut bytes front rest count f r =
     sym (take-append-drop count (longs bytes)) ∙ ap₂ (λ xs ys. xs ++ ys) (sym (longs-take bytes count (4 * count) refl)) (sym (longs-drop bytes count (4 * count) refl)) ∙ ap₂ (λ xs ys. longs xs ++ longs ys) (sym f) (sym r)

@@ -8,7 +8,7 @@ use Rattle.hunk_blocks.specs.Parts.{list_text}
 use Rattle.hunk_blocks.specs.Reading.{Unread, Reads, BeginsWithNo, BeginsWithNoItem, cut}
 use Rattle.hunk_blocks.proofs.Lists.{All-more, flat_map-more}
 
--- one list in front of another is told by its length
+-- one list in front of another is known by its length
 pub append_same : {A : Type 0} (xs ys us vs : List A) → length xs ≡ length ys → xs ++ us ≡ ys ++ vs → (xs ≡ ys) × (us ≡ vs)
 append_same xs ys us vs n e = (
   sym (take-append_seam xs us) ∙ ap (λ l. take (length xs) l) e ∙ ap (λ (k : ℕ). take k (ys ++ vs)) n ∙ take-append_seam ys vs,
@@ -32,7 +32,7 @@ cut-Reads a b xs h = λ i. record { place = ends i; reason = reasons.Truncated }
     ends : a.place + 4 * length a.rest ≡ b.place + 4 * length b.rest
     ends = omega (arith, h.further, ap length h.front, length-append xs b.rest)
 
--- The values tell by their texts where they end, and none of them is a zero.
+-- The texts of the values show where they end, and none of them is a zero.
 pub record EndThemselves {A : Type 0} (Is : A → Type 0) (text : A → List ℕ) : Type 0 where
   pub one : (a b : A) (x y : List ℕ) → Is a → Is b → text a ++ x ≡ text b ++ y → (a ≡ b) × (x ≡ y)
   pub goes_on : (a : A) (x y : List ℕ) → Is a → text a ++ x ≡ 0 ∷ y → ⊥
@@ -63,7 +63,7 @@ module _ {A : Type 0} (Is : A → Type 0) (text : A → List ℕ) where
           at [] k f = none.end more f
           at (y ∷ ys) k f = none.item y k.0 (list_text text ys ++ more) (f ∙ ap (λ l. l ++ more) (append_assoc (text y) (flat_map text ys) (0 ∷ [])) ∙ append_assoc (text y) (list_text text ys) more)
 
-  -- so many values were read
+  -- this number of values was read
   pub record HasRead (old new : Unread) (done : List A) : Type 0 where
     pub are : AllByRecursion Is done
     pub reads : Reads old new (flat_map text done)

@@ -96,7 +96,7 @@ filled_body (Counted c) words = counted_body c words
 filled_body (SizedCode top) words = Code top words
 filled_body (SizedData top) words = Data top words
 
--- so many longwords of a payload, a list of offsets, a name, are owed
+-- this number of longwords of a payload, a list of offsets, a name, is owed
 abbrev pub fill : Filling → List ℕ → ℕ → BlockNext
 fill f done zero = Whole (filled_body f done)
 fill f done (suc owed) = Open (InPayload f done owed)

@@ -119,6 +119,7 @@ impl<'a> Block<'a> {
     {
         &self.body
     }
+
     /// The length of the block's text in bytes.
     pub fn encoded_len(&self) -> u64
         ensures { result ≡ length (bytes_of (block_text self.now)) }
@@ -126,7 +127,7 @@ impl<'a> Block<'a> {
         self.len
     }
 
-    /// Prints the block's text. Who writes many blocks prints them on one page.
+    /// Prints the block's text. To write many blocks, print them on one page.
     pub fn print<W: Sink, const ROOM: usize>(&self, page: &mut PagePrinter<'_, W, ROOM>)
         ensures { Prints page.old page.new (bytes_of (block_text self.now)) }
     {

@@ -12,8 +12,9 @@ use hunk_words::SizeWord;
 
 /// What follows the word of a block, by its kind.
 ///
-/// In CODE, DATA and BSS the top two bits of the size word are kept and not interpreted, and no
-/// memory attributes follow: this profile's own choice.
+/// Source: The AmigaDOS Manual, `dos/doshunks.h`. In CODE, DATA and BSS the top two bits of the
+/// size word are kept and not interpreted, and no memory attributes follow: this profile's own
+/// choice.
 #[derive(Debug, Drop)]
 pub enum Body<'a> {
     /// A NAME block: the bytes of the name, padded with zero bytes.

@@ -11,6 +11,9 @@ use crate::longs::Longs;
 use crate::payload::Payload;
 
 /// An entry of an EXT block: a definition, or references.
+///
+/// Source: The AmigaDOS Manual, `dos/doshunks.h`. `ExtKind` says of which types the layout is this
+/// profile's own choice.
 #[derive(Debug, Drop)]
 pub struct Entry<'a> {
     /// The type in the top byte, and the number of longwords of the name in the low 24 bits.
@@ -26,6 +29,7 @@ pub struct Entry<'a> {
 impl Entry<'_> {
     /// The type, by the top byte of the word; `None` for a number that is not accepted, which no
     /// entry of a block has.
+    #[inline(always)]
     pub fn kind(&self) -> Option<ExtKind>
         ensures { result ≡ ext_kind (ext_type (entry_of self.now)) }
     {
@@ -33,6 +37,7 @@ impl Entry<'_> {
     }
 
     /// What stands behind the name, as the type says; `None` where `kind` is.
+    #[inline(always)]
     pub fn shape(&self) -> Option<ExtShape>
         ensures { result ≡ ext_shape (ext_type (entry_of self.now)) }
     {
@@ -40,5 +45,5 @@ impl Entry<'_> {
     }
 }
 
-/// The entries of an EXT block.
+/// The entries of an EXT block, in file order.
 pub type Entries<'a> = BlockList<Entry<'a>>;

@@ -46,6 +46,7 @@ pub enum ExtKind {
 impl ExtKind {
     /// The type of a number; `None` for a number that is not accepted.
     #[tactic(auto, unfolding(crate::specs::ExtKinds::ext_kind))]
+    #[inline(always)]
     pub fn from_code(code: u8) -> Option<ExtKind>
         ensures { result ≡ ext_kind code }
     {
@@ -92,6 +93,7 @@ impl ExtKind {
     }
 
     /// What stands behind the name of an entry of this type.
+    #[inline(always)]
     pub fn shape(self) -> ExtShape
         ensures { result ≡ shape_of_kind self }
     {
@@ -106,6 +108,7 @@ impl ExtKind {
     /// `None` for a definition, which has no offsets.
     ///
     /// The widths are this profile's own choice.
+    #[inline(always)]
     pub fn width(self) -> Option<u64>
         ensures value { result ≡ ext_width self }
         ensures bound { IfSome result (λ width. width ≤ 4) }
@@ -151,16 +154,10 @@ pub(crate) fn kind_of(word: u32) -> Option<ExtKind>
     ExtKind::from_code((word >> 24) as u8)
 }
 
-/// What stands behind the name of an entry with this word: the shapes of the table, without a step
-/// by way of the type, since the decoder asks it of each entry.
-#[tactic(auto, unfolding(crate::specs::ExtKinds::ext_kind))]
+/// What stands behind the name of an entry with this word, by its type.
+#[inline(always)]
 pub(crate) fn shape_of(word: u32) -> Option<ExtShape>
     ensures { result ≡ ext_shape (entry_type word) }
 {
-    match word >> 24 {
-        0 | 1 | 2 => Some(ExtShape::Definition),
-        130 | 137 => Some(ExtShape::Common),
-        129 | 131 | 132 | 133 | 134 | 135 | 136 | 138 | 139 => Some(ExtShape::References),
-        _ => None,
-    }
+    Some(kind_of(word)?.shape())
 }

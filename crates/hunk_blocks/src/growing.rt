@@ -29,14 +29,12 @@ pub fn append<T: Drop>(list: &mut Vec<T>, item: T) -> Result<(), AllocError>
     ensures items { list.new.items
         ≡ (if is_ok result then list.old.items ++ item ∷ [] else list.old.items) }
 
-    // Only a list without room to spare can ask for memory that isn't there.
+    // Only a list without room to spare asks for memory.
     ensures full { OnErr result (vec_capacity list.old ≤ vec_len list.old) }
 {
     if list.is_empty() && list.capacity() == 0 {
         *list = Vec::with_capacity(*list.allocator(), FIRST_ROOM)?;
     }
-    match list.push(item) {
-        Ok(()) => Ok(()),
-        Err(_) => Err(AllocError),
-    }
+    list.push(item)?;
+    Ok(())
 }

@@ -1,10 +1,8 @@
 -- Findings that are looked for one by one.
 use Rattle.std.proofs.Common.{◌≡◌, ℕ, ◌+◌, ◌*◌, ◌^◌, ◌<◌, ◌≤◌, Bool, true, false, if◌then◌else◌, List, [], ◌∷◌, ◌++◌, length, map, drop, get_or, refl, sym, ap, subst, ◌∙◌, append_assoc, append-nil, arith}
-use Rattle.std.specs.Prelude.{slice_get, Some}
 use Rattle.std.specs.List.{flat_map, fold, AllByRecursion}
 use Rattle.std.proofs.lemmas.List.{drop_more, drop_all}
 use Rattle.std.proofs.lemmas.List.Folds.{flat_map-map}
-use Rattle.std.proofs.lemmas.Option.{get_or_from_slice_get, slice_get_within}
 use Rattle.hunk_words.specs.Bits.{size_longs}
 use Rattle.hunk_blocks.specs.Values.{BlockBody, Name, Code, Data, Bss, Reloc, Ext, Symbol, Debug, Advisory, End, FitsWord, IsBlock}
 use Rattle.hunk_files.specs.LoadFile.{standing, AreInOrder}
@@ -21,6 +19,13 @@ TakenUpTo Takes a b rest all = (done : List FindingValue) × Takes a done b × (
 abbrev pub TakenOf : {S A : Type 0} → (S → List FindingValue → S → Type 0) → (A → List FindingValue) → List A → ℕ → S → S → Type 0
 TakenOf Takes f xs i a b = TakenUpTo Takes a b (flat_map f (drop i xs)) (flat_map f xs)
 
+-- those of each element but these, which are left
+abbrev pub TakenBut : {S A : Type 0} → (S → List FindingValue → S → Type 0) → (A → List FindingValue) → List A → List A → S → S → Type 0
+TakenBut Takes f left xs a b = TakenUpTo Takes a b (flat_map f left) (flat_map f xs)
+
+pub none_taken : {S A : Type 0} (Takes : S → List FindingValue → S → Type 0) (none : (s : S) → Takes s [] s) (f : A → List FindingValue) (xs left : List A) (a : S) → left ≡ xs → TakenBut Takes f left xs a a
+none_taken {A = A} Takes none f xs left a e = ([], none a, ap (λ (ys : List A). flat_map f ys) e)
+
 pub taken_all : {S : Type 0} (Takes : S → List FindingValue → S → Type 0) (a b : S) (left all : List FindingValue) → left ≡ [] → TakenUpTo Takes a b left all → Takes a all b
 taken_all Takes a b left all e t = subst (λ (xs : List FindingValue). Takes a xs b) (sym (append-nil t.0) ∙ ap (λ (xs : List FindingValue). t.0 ++ xs) (sym e) ∙ t.2) t.1
 
@@ -34,16 +39,20 @@ module _ {S : Type 0} (Takes : S → List FindingValue → S → Type 0) (more :
       taken_on a b c (f x) (flat_map f (drop (i + 1) xs)) (flat_map f (drop i xs)) (flat_map f xs)
       (ap (λ (ys : List A). flat_map f ys) (drop_more xs i d l) ∙ ap (λ (y : A). f y ++ flat_map f (drop (i + 1) xs)) (sym e)) t h
 
-  -- by the element that the list tells at the place
-  pub told_on : {A : Type 0} (f : A → List FindingValue) (xs : List A) (i : ℕ) (x : A) (a b c : S) → slice_get xs i ≡ Some x → TakenOf Takes f xs i a b → Takes b (f x) c → TakenOf Takes f xs (i + 1) a c
-  told_on f xs i x a b c g t h = each_on f xs i x x a b c (slice_get_within xs i x g) (sym (get_or_from_slice_get xs i x x g)) t h
+  -- by the first of the elements that are left
+  pub first_on : {A : Type 0} (f : A → List FindingValue) (xs left rest : List A) (x : A) (a b c : S) → left ≡ x ∷ rest → TakenBut Takes f left xs a b → Takes b (f x) c → TakenBut Takes f rest xs a c
+  first_on {A} f xs left rest x a b c e t h = taken_on a b c (f x) (flat_map f rest) (flat_map f left) (flat_map f xs) (ap (λ (ys : List A). flat_map f ys) e) t h
+
+nothing_left : {A : Type 0} (f : A → List FindingValue) (left : List A) → length left ≡ 0 → flat_map f left ≡ []
+nothing_left f [] e = refl
+nothing_left f (x ∷ left) e = absurd cc
 
 -- all were taken of what the elements stand for
-pub viewed_all : {S A B : Type 0} (Takes : S → List FindingValue → S → Type 0) (f : B → List FindingValue) (view : A → B) (xs : List A) (i : ℕ) (a b : S) → length xs ≤ i →
-    TakenOf Takes (λ x. f (view x)) xs i a b → Takes a (flat_map f (map view xs)) b
-viewed_all {A = A} Takes f view xs i a b l t =
+pub viewed_all : {S A B : Type 0} (Takes : S → List FindingValue → S → Type 0) (f : B → List FindingValue) (view : A → B) (xs left : List A) (a b : S) → length left ≡ 0 →
+    TakenBut Takes (λ x. f (view x)) left xs a b → Takes a (flat_map f (map view xs)) b
+viewed_all Takes f view xs left a b e t =
     subst (λ (fs : List FindingValue). Takes a fs b) (sym (flat_map-map f view xs))
-    (taken_all Takes a b (flat_map (λ x. f (view x)) (drop i xs)) (flat_map (λ x. f (view x)) xs) (ap (λ (ys : List A). flat_map (λ x. f (view x)) ys) (drop_all i xs l)) t)
+    (taken_all Takes a b (flat_map (λ x. f (view x)) left) (flat_map (λ x. f (view x)) xs) (nothing_left (λ x. f (view x)) left e) t)
 
 -- ---- the hunks of a unit, the units of a file
 

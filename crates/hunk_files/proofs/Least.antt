@@ -68,7 +68,7 @@ closed_least o word body ne = go (standing body) ne
     go Content n = rw (or-true o.has_content) (omega arith)
     go Ending n = absurd (n refl)
 
--- so many longwords and what is behind are owed at least
+-- this number of longwords and what is behind are owed at least
 abbrev Owes : OpenHunk → ℕ → ℕ → Bool → BlockNext → Type 0
 Owes o word n content next = n + behind o content ≤ least_next (after o word next)
 
@@ -178,7 +178,7 @@ block_least : (o : OpenHunk) (blocks : List BlockValue) → least (AtBlock o) �
 block_least o [] = refl
 block_least o (b ∷ blocks) = refl
 
--- Behind the header the position tells the least number.
+-- Behind the header the position determines the least number.
 pub least_same : (p : Progress) → is_behind_header (position_of (More p)) ≡ true → ProgressFits p → least p ≡ least_longs (position_of (More p))
 least_same (AtBlock o) b f = block_least o o.blocks
 least_same (InBody o word x) b f =

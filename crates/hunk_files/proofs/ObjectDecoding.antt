@@ -158,7 +158,7 @@ block_own _ h ne = absurd cc
 
 -- ---- the blocks of a hunk
 
--- These blocks may follow one another, and none of them ends the hunk. The flags tell whether the content block came before them, and whether it came then.
+-- These blocks may follow one another, and none of them ends the hunk. The flags say whether the content block came before them, and whether it came then.
 abbrev pub Leads : Bool → List Standing → Bool → Type 0
 Leads a [] b = a ≡ b
 Leads a (Beside ∷ rest) b = Leads a rest b

@@ -49,7 +49,7 @@ pub record BehindUnits (ws tail : List ℕ) : Type 0 where
   pub are_units : AllByRecursion IsUnit units
   pub words_are : ws ≡ object_text units ++ tail
 
--- the longwords of a name, of which so many are to come behind the next
+-- the longwords of a name, and how many are to come behind the next
 pub record InUnitName (owed : ℕ) (ws : List ℕ) : Type 0 where
   pub name : List ℕ
   pub count : ℕ

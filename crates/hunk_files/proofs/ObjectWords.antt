@@ -75,7 +75,7 @@ within_role place parts.EntryName ne = refl
 within_role place parts.EntryValue ne = refl
 within_role place parts.OffsetCount ne = refl
 
--- ---- no longword is refused for want of memory
+-- ---- no longword is refused as out of memory
 
 kind_not_for_memory : (place : WordPlace) (advisory : Bool) (k : Kind) → not_for_memory (refuse_kind place advisory k) ≡ true
 kind_not_for_memory BeforeUnits true (kinds.Unknown n) = refl

@@ -1,5 +1,5 @@
 -- The offsets of relocations.
-use Rattle.std.proofs.Common.{◌≡◌, ℕ, ◌+◌, ◌<◌, List, [], ◌∷◌, ◌++◌, length, map, get_or, take, refl, sym, ap, ◌∙◌, append_assoc, append-nil}
+use Rattle.std.proofs.Common.{◌≡◌, ℕ, List, [], ◌∷◌, ◌++◌, length, map, refl, sym, ap, ◌∙◌, append_assoc, append-nil}
 use Rattle.std.specs.Prelude.{slice_get, unwrap_or, Some, Option}
 use Rattle.std.specs.Option.{option_map}
 use Rattle.std.specs.List.{flat_map}
@@ -9,7 +9,6 @@ use Rattle.hunk_blocks.specs.Values.{RelocGroup}
 use Rattle.hunk_files.specs.LoadFile.{HunkValue, LoadFileValue}
 use Rattle.hunk_files.specs.Image.{group_relocations, relocations, offsets}
 use Rattle.hunk_files.specs.Overlap.{hunk_offsets}
-use Rattle.hunk_files.proofs.Concats.{flat_map-next}
 
 pub group_offsets : (g : RelocGroup) → offsets (group_relocations g) ≡ g.offsets
 group_offsets g = go g.offsets
@@ -18,12 +17,18 @@ group_offsets g = go g.offsets
     go [] = refl
     go (o ∷ os) = ap (λ (xs : List ℕ). o ∷ xs) (go os)
 
--- one part more
-pub offsets_more : {A : Type 0} (f : A → List (ℕ × ℕ)) (xs : List A) (i : ℕ) (x : A) (held new old : List ℕ) → i < length xs → x ≡ get_or xs i x → held ≡ old ++ offsets (flat_map f (take i xs)) → new ≡ held ++ offsets (f x) →
-    new ≡ old ++ offsets (flat_map f (take (i + 1) xs))
-offsets_more f xs i x held new old inside is h n =
-    n ∙ ap (λ (l : List ℕ). l ++ offsets (f x)) h ∙ append_assoc old (offsets (flat_map f (take i xs))) (offsets (f x))
-    ∙ ap (λ (l : List ℕ). old ++ l) (sym (map-append (λ (p : ℕ × ℕ). p.0) (flat_map f (take i xs)) (f x)) ∙ ap offsets (sym (flat_map-next f xs i x inside is)))
+-- those of the first element, and of the rest
+pub offsets_first : {A : Type 0} (f : A → List (ℕ × ℕ)) (left rest : List A) (x : A) (held new : List ℕ) → left ≡ x ∷ rest → new ≡ held ++ offsets (f x) →
+    new ++ offsets (flat_map f rest) ≡ held ++ offsets (flat_map f left)
+offsets_first {A} f left rest x held new e n =
+    ap (λ (l : List ℕ). l ++ offsets (flat_map f rest)) n ∙ append_assoc held (offsets (f x)) (offsets (flat_map f rest))
+    ∙ ap (λ (l : List ℕ). held ++ l) (sym (map-append (λ (p : ℕ × ℕ). p.0) (f x) (flat_map f rest)))
+    ∙ ap (λ (ys : List A). held ++ offsets (flat_map f ys)) (sym e)
+
+-- no element is left
+pub offsets_done : {A : Type 0} (f : A → List (ℕ × ℕ)) (left : List A) (held : List ℕ) → length left ≡ 0 → held ≡ held ++ offsets (flat_map f left)
+offsets_done f [] held e = sym (append-nil held)
+offsets_done f (x ∷ left) held e = absurd cc
 
 -- a block of another kind has none
 pub no_offsets : (held old : List ℕ) → held ≡ old → held ≡ old ++ []

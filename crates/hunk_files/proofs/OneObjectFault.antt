@@ -30,7 +30,7 @@ use Rattle.hunk_files.proofs.UnitReading.{no_kind, unit_kind, text_longs}
 -- ---- the machine
 
 -- What has to be known of the longwords of an object file that were read. A place is that of the next block word,
--- a number tells how many longwords of the name follow the next.
+-- a number says how many longwords of the name follow the next.
 pub data ObjectState : Type 0 where
   AtWord : WordPlace → ObjectState
   AtCount : ObjectState

@@ -37,7 +37,7 @@ block_same : (o : OpenHunk) (w : ℕ) (blocks : List BlockValue) → refuse (rol
 block_same o w [] = refl
 block_same o w (b ∷ blocks) = refl
 
--- The position and the declared longs tell the refusal.
+-- The position and the declared longs determine the refusal.
 pub refuse_same : (p : Progress) (w : ℕ) → ProgressFits p → refuse (role_of p) w ≡ refuse (role_at (longs_of p) (position_of (More p))) w
 refuse_same AtFirst w f = refl
 refuse_same (AtBlock o) w f = block_same o w o.blocks
@@ -57,7 +57,7 @@ further_block (c ∷ blocks) b = refl
 whole_block : (o : OpenHunk) (h : numbers.OpenHunk) (b : BlockValue) → positions.Body h (block_phase (o.blocks ++ b ∷ [])) ≡ positions.Body h phases.BlockWord
 whole_block o h b = ap (λ (p : Phase). positions.Body h p) (further_block o.blocks b)
 
--- so many of the longwords of a payload are owed
+-- this number of longwords of a payload is owed
 abbrev fill_left : OpenHunk → Filling → ℕ → ℕ → Position
 fill_left o (Counted c) longs owed = scan.owe_payload (open_of o) owed
 fill_left o (SizedCode top) longs owed = scan.owe_content (open_of o) longs owed

@@ -35,7 +35,7 @@ step_read ws p w h l ok =
       all = map-append (λ (x : Role × ℕ). x.1) h.done ((role_of p, w) ∷ []) ∙ ap (λ (xs : List ℕ). xs ++ w ∷ []) h.all;
     }
 
--- The longwords alone tell where they lead.
+-- The longwords alone determine where they lead.
 pub one_place : (ws : List ℕ) (n m : Next) → HasRead ws n → HasRead ws m → n ≡ m
 one_place ws n m h k = (Leads-same (More AtFirst) n m h.done k.done h.run k.run (h.all ∙ sym k.all)).1
 

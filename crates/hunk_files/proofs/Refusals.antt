@@ -92,7 +92,7 @@ pub fault_of_load : (bytes : List ℕ) (at : ℕ) (reason : Reason) → HasFault
 fault_of_load bytes at reason (inl h) = of_load_file reason (refusal_of_word bytes at reason h)
 fault_of_load bytes at reason (inr h) = subst (λ (r : Reason). IsTrue (is_load_refusal r)) (sym h.0) refl
 
--- and none is want of memory
+-- and none is out of memory
 pub fault_not_memory : (bytes : List ℕ) (at : ℕ) (reason : Reason) → HasFault bytes at reason → reason ≢ reasons.OutOfMemory
 fault_not_memory bytes at reason (inl h) e = let clash : false ≡ true = subst IsWordRefusal e (refusal_of_word bytes at reason h) in cc
 fault_not_memory bytes at reason (inr h) e = let clash : reasons.Truncated ≡ reasons.OutOfMemory = sym h.0 ∙ e in cc

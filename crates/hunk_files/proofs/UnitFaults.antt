@@ -232,7 +232,7 @@ object_fault bytes fault none other (inr (inl f)) =
     inr (ap (λ x. x.reason) f.0, record { place = ap (λ x. x.place) f.0 ∙ omega arith; not_whole = none; front = f.1 })
 object_fault bytes fault none other (inr (inr w)) = absurd (other w.reason)
 
--- ---- want of memory
+-- ---- out of memory
 
 -- Where memory is missing, an object file goes on up to there.
 pub object_front : (bytes : List ℕ) (fault : Fault) → fault.reason ≡ reasons.OutOfMemory → FaultAhead objects (unread bytes) fault → IsFrontTo objects (longs bytes) fault.place

@@ -108,7 +108,7 @@ hunks_left (h ∷ hs) (k ∷ ks) x y hh hk starts e =
     (blocks_peel h k (flat_map (flat_map block_text) hs ++ x) (flat_map (flat_map block_text) ks ++ y) hh.0.blocks (order_ends false h hh.0.order) hk.0.blocks (order_ends false k hk.0.order)
     (sym (append_assoc (flat_map block_text h) (flat_map (flat_map block_text) hs) x) ∙ e ∙ append_assoc (flat_map block_text k) (flat_map (flat_map block_text) ks) y)).1
 
--- One header in front of another is told by its length.
+-- One header in front of another is known by its length.
 pub header_same : (name other x y : List ℕ) → unit_header name ++ x ≡ unit_header other ++ y → (name ≡ other) × (x ≡ y)
 header_same name other x y e =
     let count : length name ≡ length other = cc in

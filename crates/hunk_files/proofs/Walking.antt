@@ -310,7 +310,7 @@ fewer : (o : numbers.OpenHunk) (target owed n : ℕ) → n ≤ suc owed → pass
 fewer o target owed zero l = let e : suc owed ≡ suc owed - 0 = omega arith in ap (λ (k : ℕ). scan.owe_offsets o target k) e
 fewer o target owed (suc n) l = let e : owed - n ≡ suc owed - suc n = omega arith in ap (λ (k : ℕ). scan.owe_offsets o target k) e
 
--- so many lead to as many fewer
+-- a number of them leads to as many fewer
 offsets_over : (bytes : List ℕ) → IsBytes bytes → (n at : ℕ) (p : Position) (entry : Entry) → StandsAt bytes at p entry → n ≤ offsets p → at + n ≤ length (longs bytes) →
     ((i : ℕ) → i < n → EndsWithin (4 * entry.longs) (get_or (longs bytes) (at + i) 0)) → StandsAt bytes (at + n) (pass_offsets p n) entry
 offsets_over bytes fit zero at p entry s few whole inside =

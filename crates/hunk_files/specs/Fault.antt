@@ -83,7 +83,7 @@ pub record HasLongAt (bytes : List ℕ) (at : ℕ) : Type 0 where
   pub place : at ≡ 4 * number
   pub inside : at + 4 ≤ length bytes
 
--- The first so many bytes are a load text.
+-- The first bytes, as many as the number says, are a load text.
 pub record HasLoadText (bytes : List ℕ) (size : ℕ) : Type 0 where
   pub value : LoadFileValue
   pub is_load_file : IsLoadFile value

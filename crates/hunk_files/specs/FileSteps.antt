@@ -26,7 +26,7 @@ pub record OpenHunk : Type 0 where
   pub has_content : Bool
   pub ahead : List TableEntry
 
--- What has been read of a load file that is not whole. In the table, the last number tells how many entries follow.
+-- What has been read of a load file that is not whole. In the table, the last number says how many entries follow.
 pub data Progress : Type 0 where
   AtFirst : Progress
   AtResident : Progress
@@ -64,7 +64,7 @@ open_hunk hunks finished [] = Finished finished
 open_hunk hunks finished (entry ∷ ahead) =
     More (AtBlock (record { hunks = hunks; finished = finished; entry = entry; blocks = []; has_content = false; ahead = ahead }))
 
--- so many entries are owed
+-- this number of entries is owed
 abbrev pub rows : ℕ → List TableEntry → ℕ → Next
 rows hunks done zero = open_hunk hunks [] done
 rows hunks done (suc owed) = More (AtSizeWord hunks done owed)

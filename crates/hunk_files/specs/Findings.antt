@@ -63,7 +63,7 @@ body_findings s word _ = []
 abbrev pub hunk_findings : Spot → ObjectHunk → List FindingValue
 hunk_findings s h = flat_map (λ b. body_findings s b.word b.body) h
 
--- the hunks from this number on, of a unit of so many
+-- the hunks from this number on, of a unit with that number of hunks
 abbrev pub hunks_findings : ℕ → ℕ → ℕ → List ObjectHunk → List FindingValue
 hunks_findings unit hunks number [] = []
 hunks_findings unit hunks number (h ∷ rest) =

@@ -40,7 +40,7 @@ standing (Debug words) = Beside
 standing (Advisory words) = Beside
 standing End = Ending
 
--- One content block, relocations only after it, and END last. The flag tells whether the content block came before.
+-- One content block, relocations only after it, and END last. The flag says whether the content block came before.
 abbrev pub AreInOrder : Bool → List Standing → Type 0
 AreInOrder has_content [] = ⊥
 AreInOrder has_content (Beside ∷ rest) = AreInOrder has_content rest
@@ -58,7 +58,7 @@ IsInside longs offset = offset + 4 ≤ 4 * longs
 abbrev pub FitsGroup : ℕ → ℕ → RelocGroup → Type 0
 FitsGroup hunks longs g = (g.target < hunks) × AllByRecursion (IsInside longs) g.offsets
 
--- The body fits a hunk of so many declared longs in a file of so many hunks.
+-- The body fits a hunk of this number of declared longs, in a file of this number of hunks.
 abbrev pub FitsHunk : ℕ → ℕ → BlockBody → Type 0
 FitsHunk hunks longs (Code top words) = length words ≤ longs
 FitsHunk hunks longs (Data top words) = length words ≤ longs

@@ -20,7 +20,7 @@ header_labelled table =
 abbrev pub block_labelled : Place → BlockValue → List (Role × ℕ)
 block_labelled p b = map (λ x. (InBlock p x.0, x.1)) (block_parts b)
 
--- The blocks of a hunk; the flag tells whether its content block came before them.
+-- The blocks of a hunk; the flag says whether its content block came before them.
 abbrev pub blocks_labelled : ℕ → ℕ → Bool → List BlockValue → List (Role × ℕ)
 blocks_labelled hunks longs has_content [] = []
 blocks_labelled hunks longs has_content (b ∷ rest) =

@@ -20,7 +20,7 @@ use Rattle.hunk_files.specs.ObjectFile.{ObjectHunk, UnitValue, ObjectFileValue, 
 
 -- ---- roles
 
--- Where a block word stands. The flag of an open hunk tells whether it has its content block.
+-- Where a block word stands. The flag of an open hunk says whether it has its content block.
 pub data WordPlace : Type 0 where
   BeforeUnits : WordPlace
   BetweenHunks : WordPlace

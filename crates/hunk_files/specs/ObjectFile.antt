@@ -5,6 +5,7 @@ use Rattle.hunk_words.specs.Limits.{name_limit}
 use Rattle.hunk_words.specs.declared.reason.Reason.{Reason}
 use Rattle.hunk_words.specs.declared.reason.Reason.TheVariants as reasons
 use Rattle.hunk_words.specs.Longs.{bytes_of}
+pub use Rattle.hunk_words.specs.Bits.{unit_word}
 use Rattle.hunk_blocks.specs.Values.{BlockValue, IsBlock, IsPayload}
 use Rattle.hunk_blocks.specs.Parts.{block_text}
 use Rattle.hunk_files.specs.LoadFile.{standing, AreInOrder}
@@ -35,9 +36,6 @@ pub record IsObjectFile (o : ObjectFileValue) : Type 0 where
   pub units : AllByRecursion IsUnit o
 
 -- ---- text
-
-abbrev pub unit_word : ℕ
-unit_word = 0x3E7
 
 abbrev pub unit_header : List ℕ → List ℕ
 unit_header name = unit_word ∷ length name ∷ name

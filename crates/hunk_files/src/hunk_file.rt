@@ -89,7 +89,8 @@ impl<'a> HunkFile<'a> {
     /// writer that had failed before stays as it was.
     pub fn encode<W: Sink>(&self, writer: &mut LongWriter<W>) -> Result<(), WriteFault>
         requires { writer.old.written + length (file_bytes self.now) < 2 ^ 64 }
-        ensures puts { PutsText W.taken W.failed writer.old writer.new (file_bytes self.now) result }
+        ensures puts { PutsText W.taken W.failed writer.old writer.new
+            (file_bytes self.now) result }
         ensures stays { writer.old.stopped ≡ true → IsErr result × (writer.new ≡ writer.old) }
     {
         match self {

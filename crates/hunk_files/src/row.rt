@@ -5,7 +5,7 @@ use hunk_words::SizeWord;
 
 /// A row of the hunk table: what the header declares of a hunk, and where the hunk lies.
 ///
-/// It is laid out as C does: 12 bytes, the fields in this order.
+/// It is laid out as in C: 12 bytes, the fields in this order.
 #[repr(C)]
 #[derive(Clone, Copy, Debug, PartialEq, Eq)]
 pub struct Row {

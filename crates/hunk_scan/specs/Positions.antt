@@ -31,7 +31,7 @@ part_at (phases.Offset target owed) = parts.Offset
 part_at phases.EntryWord = parts.EntryWord
 part_at (phases.Symbol owed) = parts.EntryName
 
--- The role of the next longword, where the open hunk declares so many longs. Behind the end nothing is refused.
+-- The role of the next longword, where the open hunk declares this number of longs. Behind the end nothing is refused.
 abbrev pub role_at : ℕ → Position → Role
 role_at longs positions.FirstLong = roles.FirstLong
 role_at longs positions.ResidentName = roles.ResidentName
@@ -51,12 +51,12 @@ at o phase = positions.Body o phase
 abbrev pub with_content : OpenHunk → OpenHunk
 with_content o = record { hunks = o.hunks; ahead = o.ahead; has_content = true }
 
--- so many hunks are left
+-- this number of hunks is left
 abbrev pub open_next : ℕ → ℕ → Position
 open_next hunks zero = positions.Done
 open_next hunks (suc ahead) = positions.Body (record { hunks = hunks; ahead = ahead; has_content = false }) phases.FirstBlock
 
--- so many entries of the table are owed
+-- this number of entries of the table is owed
 abbrev pub owe_entries : ℕ → ℕ → Position
 owe_entries hunks zero = open_next hunks hunks
 owe_entries hunks (suc owed) = positions.SizeWord hunks owed
@@ -73,7 +73,7 @@ begin o kinds.Debug = at o phases.LongCount
 begin o (kinds.Unknown n) = at o phases.LongCount
 begin o _ = open_next o.hunks o.ahead
 
--- so many longwords of the kind are owed
+-- this number of longwords of the kind is owed
 abbrev pub owe_content : OpenHunk → ℕ → ℕ → Position
 owe_content o longs zero = at (with_content o) phases.BlockWord
 owe_content o longs (suc owed) = at o (phases.Content longs owed)
@@ -145,7 +145,7 @@ is_between_hunks _ = false
 
 -- ---- runs
 
--- so many longwords come at least that no test looks at
+-- the number of longwords that come at least and that no test looks at
 abbrev pub run_in : Phase → ℕ
 run_in (phases.Content longs owed) = suc owed
 run_in (phases.Payload owed) = suc owed
@@ -156,7 +156,7 @@ abbrev pub run : Position → ℕ
 run (positions.Body o phase) = run_in phase
 run _ = 0
 
--- behind one longword of a run and so many more
+-- behind one longword of a run and this number of further ones
 abbrev pub pass_in : OpenHunk → Phase → ℕ → Position
 pass_in o (phases.Content longs owed) n = owe_content o longs (owed - n)
 pass_in o (phases.Payload owed) n = owe_payload o (owed - n)
@@ -170,18 +170,18 @@ pass p (suc n) = p
 
 -- ---- lists of offsets
 
--- so many offsets of one list come at least
+-- the number of offsets of one list that come at least
 abbrev pub offsets : Position → ℕ
 offsets (positions.Body o (phases.Offset target owed)) = suc owed
 offsets _ = 0
 
--- behind so many of them
+-- behind this number of them
 abbrev pub pass_offsets : Position → ℕ → Position
 pass_offsets p zero = p
 pass_offsets (positions.Body o (phases.Offset target owed)) (suc n) = owe_offsets o target (owed - n)
 pass_offsets p (suc n) = p
 
--- a long at the offset ends within so many bytes
+-- a long at the offset ends within this number of bytes
 abbrev pub EndsWithin : ℕ → ℕ → Type 0
 EndsWithin limit offset = offset + 4 ≤ limit
 

@@ -5,7 +5,7 @@ use Rattle.hunk_words.specs.declared.block_word.Kind.{Kind}
 use Rattle.hunk_words.specs.declared.block_word.Kind.TheVariants as kinds
 use Rattle.hunk_words.specs.declared.reason.Reason.{Reason}
 use Rattle.hunk_words.specs.declared.reason.Reason.TheVariants as reasons
-use Rattle.hunk_words.specs.Bits.{size_longs, has_both_bits, is_advisory, kind, header_word}
+use Rattle.hunk_words.specs.Bits.{size_longs, has_both_bits, is_advisory, kind, header_word, unit_word, library_word}
 use Rattle.hunk_blocks.specs.Parts.{Part, Part as parts}
 
 -- What is known of the file and the hunk where a longword of a block stands: the number of hunks, the
@@ -71,8 +71,8 @@ refuse_part p part w = None
 abbrev pub refuse : Role → ℕ → Option Reason
 refuse FirstLong w =
     if w == header_word then None
-    else if w == 0x3E7 then Some reasons.IsObject
-    else if w == 0x3FA then Some reasons.Library
+    else if w == unit_word then Some reasons.IsObject
+    else if w == library_word then Some reasons.Library
     else Some reasons.NotLoadFile
 refuse ResidentName w = if w == 0 then None else Some reasons.Resident
 refuse TableSize w = if w == 0 then Some reasons.NoHunks else if nat_lt most_hunks w then Some reasons.TooManyHunks else None

@@ -37,7 +37,7 @@ standing_of_kind kinds.AbsReloc16 = Relocating
 standing_of_kind kinds.End = Ending
 standing_of_kind _ = Beside
 
--- The test of a block's place. The flag tells whether the hunk has its content block.
+-- The test of a block's place. The flag says whether the hunk has its content block.
 abbrev pub refuse_standing : Bool → Standing → Option Reason
 refuse_standing true Content = Some reasons.SecondContent
 refuse_standing false Relocating = Some reasons.BeforeContent

@@ -2,7 +2,7 @@
 ghost use Rattle.std.specs.Prelude.{◌≡◌};
 ghost use Rattle.hunk_scan.specs.FileKind.{announced};
 
-use hunk_words::HEADER_WORD;
+use hunk_words::{HEADER_WORD, LIBRARY_WORD, UNIT_WORD};
 
 /// The kind of file that a first longword announces.
 ///
@@ -26,8 +26,8 @@ impl Sniff {
     {
         match first {
             HEADER_WORD => Sniff::Load,
-            0x3E7 => Sniff::Object,
-            0x3FA => Sniff::Library,
+            UNIT_WORD => Sniff::Object,
+            LIBRARY_WORD => Sniff::Library,
             _ => Sniff::Other,
         }
     }

@@ -4,12 +4,14 @@
 #![tactic(auto)]
 
 mod file_kind;
+mod header;
 mod phase;
 mod position;
 mod refusal;
 mod standing;
 
 pub use crate::file_kind::Sniff;
+pub use crate::header::{TABLE_AT, TABLE_SIZE_AT};
 pub use crate::phase::{OpenHunk, Phase};
 pub use crate::position::Position;
 pub use crate::refusal::is_outside;

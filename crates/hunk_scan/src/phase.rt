@@ -53,6 +53,7 @@ pub enum Phase {
 }
 
 impl OpenHunk {
+    /// The position at this phase of the hunk.
     #[inline(always)]
     fn at(self, phase: Phase) -> Position
         ensures { result ≡ positions.at self phase }
@@ -60,6 +61,7 @@ impl OpenHunk {
         Position::Body(self, phase)
     }
 
+    /// The same hunk, behind its content block.
     #[inline(always)]
     fn with_content(self) -> OpenHunk
         ensures { result ≡ positions.with_content self }
@@ -109,6 +111,7 @@ impl OpenHunk {
         }
     }
 
+    /// Where `owed` longwords of a payload are still to come.
     #[inline(always)]
     fn owe_payload(self, owed: u32) -> Position
         ensures { result ≡ positions.owe_payload self owed }
@@ -120,6 +123,7 @@ impl OpenHunk {
         }
     }
 
+    /// Where `owed` offsets to this target are still to come.
     #[inline(always)]
     pub(crate) fn owe_offsets(self, target: u32, owed: u32) -> Position
         ensures { result ≡ positions.owe_offsets self target owed }
@@ -134,6 +138,7 @@ impl OpenHunk {
         }
     }
 
+    /// Where `owed` longwords of a symbol's name and value are still to come.
     #[inline(always)]
     fn owe_symbol(self, owed: u32) -> Position
         ensures { result ≡ positions.owe_symbol self owed }

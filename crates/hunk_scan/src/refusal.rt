@@ -16,8 +16,8 @@ impl Position {
     /// hunk declares; outside the body it is not used.
     ///
     /// The header is that of The AmigaDOS Manual and `dos/doshunks.h`. To reject resident names,
-    /// another first hunk than 0, another last hunk than the table size minus 1, and more than
-    /// 65,536 hunks is this profile's own choice.
+    /// another first hunk than 0, another last hunk than the table size minus 1, and more hunks
+    /// than `MOST_HUNKS` is this profile's own choice.
     #[inline(always)]
     pub fn refuse(self, longs: u32, word: u32) -> Option<Reason>
         ensures { result ≡ refuse (role_at longs self) word }
@@ -70,6 +70,7 @@ pub fn is_outside(offset: u32, longs: u32) -> bool
     u64::from(offset) + 4 > u64::from(longs) * 4
 }
 
+/// The reason, where the longword is rejected for it.
 #[inline(always)]
 fn refuse_if(refused: bool, reason: Reason) -> Option<Reason>
     ensures { result ≡ (if refused then Some reason else None) }
@@ -77,6 +78,9 @@ fn refuse_if(refused: bool, reason: Reason) -> Option<Reason>
     if refused { Some(reason) } else { None }
 }
 
+/// Why the longword does not begin a load file, where it does not.
+///
+/// Source: the block numbers of `dos/doshunks.h`.
 fn refuse_first(word: u32) -> Option<Reason>
     ensures { result ≡ refuse roles.FirstLong word }
 {
@@ -88,7 +92,8 @@ fn refuse_first(word: u32) -> Option<Reason>
     }
 }
 
-/// A block word is refused wherever its block stands, or else for its place in the hunk.
+/// Why the block word is rejected, where it is: wherever its block stands, or else for its place in
+/// the hunk.
 #[tactic(auto, using(crate::proofs::BlockWords::word_split))]
 #[inline(always)]
 fn refuse_block_word(has_content: bool, word: u32) -> Option<Reason>

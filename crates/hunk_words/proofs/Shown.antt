@@ -22,7 +22,7 @@ pub shown_all : {A : Type 0} (lines : A → List ℕ) (xs : List A) (i : ℕ) (n
     length xs ≤ i → ShownUpTo lines xs i now old → now ≡ old ++ flat_map lines xs
 shown_all {A} lines xs i now old l h = sym (append-nil now) ∙ ap (λ (ys : List A). now ++ flat_map lines ys) (sym (drop_all i xs l)) ∙ h
 
--- the element that a list tells at a place
+-- the element of a list at a place
 pub shown_told : {A : Type 0} (lines : A → List ℕ) (xs : List A) (i : ℕ) (x : A) (now next old : List ℕ) →
     slice_get xs i ≡ Some x → ShownUpTo lines xs i now old → next ≡ now ++ lines x → ShownUpTo lines xs (i + 1) next old
 shown_told lines xs i x now next old g h e =

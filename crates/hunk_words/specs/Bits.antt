@@ -16,7 +16,7 @@ size_longs word = word % content_limit
 abbrev pub memory_bits : ℕ → ℕ
 memory_bits word = word / content_limit
 
--- the word of these two bits and so many longwords
+-- the word of these two bits and this number of longwords
 abbrev pub size_word : ℕ → ℕ → ℕ
 size_word bits longs = bits * content_limit + longs
 
@@ -57,9 +57,17 @@ is_fast word = word / 2 ^ 31 % 2 == 1
 abbrev pub header_word : ℕ
 header_word = 0x3F3
 
+-- the block word with which each unit of an object file begins
+abbrev pub unit_word : ℕ
+unit_word = 0x3E7
+
+-- the block word with which a library begins
+abbrev pub library_word : ℕ
+library_word = 0x3FA
+
 abbrev pub kind_of_number : ℕ → Kind
 kind_of_number n =
-    if n == 0x3E7 then kinds.Unit
+    if n == unit_word then kinds.Unit
     else if n == 0x3E8 then kinds.Name
     else if n == 0x3E9 then kinds.Code
     else if n == 0x3EA then kinds.Data
@@ -77,7 +85,7 @@ kind_of_number n =
     else if n == 0x3F7 then kinds.Drel32
     else if n == 0x3F8 then kinds.Drel16
     else if n == 0x3F9 then kinds.Drel8
-    else if n == 0x3FA then kinds.Lib
+    else if n == library_word then kinds.Lib
     else if n == 0x3FB then kinds.Index
     else if n == 0x3FC then kinds.Reloc32Short
     else if n == 0x3FD then kinds.RelReloc32

@@ -8,9 +8,23 @@ use crate::size_word::has_both_bits;
 use std::marker::Model;
 
 /// The block word of a header, with which a load file begins: no flags, and the type HEADER.
+///
+/// Source: The AmigaDOS Manual, `dos/doshunks.h`. That it has no flags is this profile's own choice.
 pub const HEADER_WORD: u32 = 0x3F3;
 
-/// The type of a block, with the names of `dos/doshunks.h`.
+/// The block word with which each unit of an object file begins: no flags, and the type UNIT.
+///
+/// Source: The AmigaDOS Manual, `dos/doshunks.h`. That it has no flags is this profile's own choice.
+pub const UNIT_WORD: u32 = 0x3E7;
+
+/// The block word with which a library begins: no flags, and the type LIB.
+///
+/// Source: `dos/doshunks.h`.
+pub const LIBRARY_WORD: u32 = 0x3FA;
+
+/// The type of a block, with its number in hexadecimal digits and the names of `dos/doshunks.h`.
+///
+/// Source: The AmigaDOS Manual, `dos/doshunks.h`.
 #[derive(Clone, Copy, Debug, PartialEq, Eq)]
 pub enum Kind {
     /// 3E7: the name of a unit, with which each unit of an object file begins.
@@ -59,12 +73,15 @@ pub enum Kind {
     RelReloc32,
     /// 3FE: absolute relocations of 2 bytes, in object files.
     AbsReloc16,
-    /// A number that `dos/doshunks.h` gives no name, 3F4 among them.
+    /// A number that `dos/doshunks.h` gives no name, 3F4 among them: the low 29 bits of the word.
+    ///
+    /// That a number outside of the table is of an unknown kind is this profile's own choice.
     Unknown(u32),
 }
 
 impl Kind {
-    /// The name that `dos/doshunks.h` has for it, without `HUNK_`: 3 to 12 capital letters and digits.
+    /// The name that `dos/doshunks.h` has for it, without `HUNK_`: 3 to 12 capital letters and
+    /// digits.
     ///
     /// `Unknown` has none.
     pub fn name(self) -> Option<&'static str>
@@ -102,6 +119,9 @@ impl Kind {
 }
 
 /// The first longword of a block: three flags and a type. Contracts see it as the longword.
+///
+/// The flags are in the top three bits, the type in the low 29 bits: this profile's own reading of
+/// the bits that `dos/doshunks.h` names.
 #[derive(Clone, Copy, Debug, PartialEq, Eq)]
 pub struct BlockWord {
     word: u32,
@@ -142,7 +162,10 @@ impl BlockWord {
         (self.word >> 29) as u8
     }
 
-    /// Whether the advisory flag, bit 29, is set: a reader passes over the block where it does not know its type.
+    /// Whether the advisory flag, bit 29, is set: a reader passes over the block where it does not
+    /// know its type.
+    ///
+    /// Source: `dos/doshunks.h`. From V39 of dos such a block is ignored.
     #[inline(always)]
     pub fn is_advisory(self) -> bool
         ensures { result ≡ is_advisory self }
@@ -150,21 +173,22 @@ impl BlockWord {
         (self.word >> 29) & 1 == 1
     }
 
-    /// Whether the flag for chip memory, bit 30, is set.
+    /// Whether the flag for chip memory, bit 30, is set (`dos/doshunks.h`).
     pub fn is_chip(self) -> bool
         ensures { result ≡ is_chip self }
     {
         (self.word >> 30) & 1 == 1
     }
 
-    /// Whether the flag for fast memory, bit 31, is set.
+    /// Whether the flag for fast memory, bit 31, is set (`dos/doshunks.h`).
     pub fn is_fast(self) -> bool
         ensures { result ≡ is_fast self }
     {
         (self.word >> 31) == 1
     }
 
-    /// Whether the flags for chip and for fast memory are both set, which is refused of each block word.
+    /// Whether the flags for chip and for fast memory are both set, for which each block word is
+    /// rejected: this profile's own choice.
     #[inline(always)]
     pub fn has_both_memory_bits(self) -> bool
         ensures { result ≡ has_both_bits self }
@@ -179,7 +203,7 @@ impl BlockWord {
         ensures { result ≡ kind self }
     {
         match self.word & Self::TYPE {
-            0x3E7 => Kind::Unit,
+            UNIT_WORD => Kind::Unit,
             0x3E8 => Kind::Name,
             0x3E9 => Kind::Code,
             0x3EA => Kind::Data,
@@ -197,7 +221,7 @@ impl BlockWord {
             0x3F7 => Kind::Drel32,
             0x3F8 => Kind::Drel16,
             0x3F9 => Kind::Drel8,
-            0x3FA => Kind::Lib,
+            LIBRARY_WORD => Kind::Lib,
             0x3FB => Kind::Index,
             0x3FC => Kind::Reloc32Short,
             0x3FD => Kind::RelReloc32,

@@ -11,8 +11,8 @@ use std::fmt;
 /// `place` is the byte, counted from the start of the input, of the longword that is refused. For
 /// `Truncated` it is 4 times the number of whole longwords, for `FileLimit` the limit, for `Read`
 /// the number of bytes that came before, and for `NoBase` the length of the header. For
-/// `OutOfMemory` it is that of the longword that completes what was to be kept, or the length of the
-/// header where a load is refused the memory of its segments.
+/// `OutOfMemory` it is that of the longword that completes what was to be kept, or the length of
+/// the header where a load is refused the memory of its segments.
 #[derive(Clone, Copy, Debug, PartialEq, Eq)]
 pub struct Fault {
     /// The byte at which it is refused, counted from the start of the input.

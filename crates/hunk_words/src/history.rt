@@ -44,6 +44,7 @@ impl Model for Outset {
 }
 
 impl Outset {
+    /// What this writer's sink has taken, and whether it has failed.
     pub(crate) fn of<W: Sink>(_writer: &LongWriter<W>) -> Outset
         ensures { (result.taken ≡ W.taken _writer.now.sink)
             × (result.failed ≡ W.failed _writer.now.sink) }

@@ -18,7 +18,7 @@ mod size_word;
 mod source;
 
 pub use crate::assembler::Assembler;
-pub use crate::block_word::{BlockWord, HEADER_WORD, Kind};
+pub use crate::block_word::{BlockWord, HEADER_WORD, Kind, LIBRARY_WORD, UNIT_WORD};
 pub use crate::fault::{BlockFault, Fault, FileFault, LoadFault};
 pub use crate::history::History;
 pub use crate::limits::{CONTENT_LIMIT, MOST_HUNKS, NAME_LIMIT};

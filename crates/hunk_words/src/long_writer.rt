@@ -95,8 +95,8 @@ impl<W: Sink> LongWriter<W> {
     ///
     /// # Errors
     ///
-    /// A `WriteFault` where the sink failed, now or before: just the first `written` bytes of all that
-    /// was ever put have gone out. Each later put writes nothing, and answers the same.
+    /// A `WriteFault` where the sink failed, now or before: just the first `written` bytes of all
+    /// that was ever put have gone out. Each later put writes nothing, and answers the same.
     #[tactic(auto, using(crate::proofs::PutLaws::puts_none, crate::proofs::PutLaws::puts_front))]
     pub fn put_bytes(&mut self, bytes: &[u8]) -> Result<(), WriteFault>
         requires { self.old.written + length bytes.now < 2 ^ 64 }

@@ -12,8 +12,8 @@ use crate::sink::Sink;
 use std::fmt;
 use std::marker::Model;
 
-/// A printer with a page of 81,920 bytes, which is a part of the printer itself and so stands on the
-/// stack: few writes for a text of any length, and no memory is taken.
+/// A printer with a page of 81,920 bytes, which is a part of the printer itself and so stands on
+/// the stack: few writes for a text of any length, and no memory is taken.
 pub type Printer<'a, W> = PagePrinter<'a, W, PAGE>;
 
 /// Prints a text through a page of fixed size, which goes out when it is full, and at `flush`.
@@ -112,8 +112,8 @@ impl<'a, W: Sink, const ROOM: usize> PagePrinter<'a, W, ROOM> {
     ///
     /// # Errors
     ///
-    /// A `WriteFault` where the sink failed, now or before: just the first `written` bytes of all that
-    /// was ever put have gone out.
+    /// A `WriteFault` where the sink failed, now or before: just the first `written` bytes of all
+    /// that was ever put have gone out.
     #[tactic(auto, using(crate::proofs::PrintLaws::flushing))]
     pub fn flush(&mut self) -> Result<(), WriteFault>
         requires { self.old.origin.written + length self.old.text < 2 ^ 64 }

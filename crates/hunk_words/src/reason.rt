@@ -20,7 +20,7 @@ pub enum Reason {
     Resident,
     /// The table size is 0.
     NoHunks,
-    /// The table size is more than 65,536.
+    /// The table size is more than 65,536, `MOST_HUNKS`.
     TooManyHunks,
     /// The first hunk is not 0.
     FirstHunk,
@@ -66,7 +66,7 @@ pub enum Reason {
     Budget,
     /// The input has as many bytes as may be read.
     FileLimit,
-    /// The hunk of this number has no base.
+    /// The hunk of this number, counted from 0, has no base.
     NoBase(u32),
     /// The input could not be read.
     Read,

@@ -7,7 +7,7 @@ ghost use Rattle.hunk_words.specs.Longs.{longs};
 use crate::limits::CONTENT_LIMIT;
 use crate::longword::word_at;
 
-/// The memory that a hunk asks for.
+/// The memory that a hunk asks for (The AmigaDOS Manual, `dos/doshunks.h`).
 #[derive(Clone, Copy, Debug, PartialEq, Eq)]
 pub enum Memory {
     /// Any memory: neither bit 30 nor bit 31 is set.
@@ -16,13 +16,17 @@ pub enum Memory {
     Chip,
     /// Fast memory: bit 31 alone is set.
     Fast,
-    /// Both bits are set. These are the memory attributes that follow, which are kept and not interpreted.
+    /// Both bits are set. These are the memory attributes that follow, which are kept and not
+    /// interpreted.
     Attributes(u32),
 }
 
-/// An entry of a header's table: a size word, and the memory attributes that follow it, 0 where there are none.
+/// An entry of a header's table: a size word, and the memory attributes that follow it, 0 where
+/// there are none.
 ///
-/// The low 30 bits count longwords; bits 30 and 31 name the memory (The AmigaDOS Manual; `dos/doshunks.h`).
+/// The low 30 bits count longwords; bits 30 and 31 name the memory.
+///
+/// Source: The AmigaDOS Manual, `dos/doshunks.h`.
 #[derive(Clone, Copy, Debug, PartialEq, Eq)]
 pub struct SizeWord {
     /// The size word.
@@ -32,7 +36,8 @@ pub struct SizeWord {
 }
 
 impl SizeWord {
-    /// The entry of a table whose size word is the longword number `i` of the bytes, counted from 0.
+    /// The entry of a table whose size word is the longword number `i` of the bytes, counted from
+    /// 0.
     #[inline(always)]
     pub fn at(bytes: &[u8], i: usize) -> SizeWord
         requires word { 4 * i + 4 ≤ length bytes.now }
@@ -78,7 +83,8 @@ impl SizeWord {
         }
     }
 
-    /// Whether bits 30 and 31 of a size word are both set, so that memory attributes follow it in a table.
+    /// Whether bits 30 and 31 of a size word are both set, so that memory attributes follow it in a
+    /// table.
     pub fn has_extra(word: u32) -> bool
         ensures { result ≡ has_both_bits word }
     {
@@ -96,7 +102,7 @@ impl SizeWord {
     }
 }
 
-/// Whether bits 30 and 31 of a size word or a block word are both set.
+/// Whether bits 30 and 31 of a size word or of a block word are both set.
 #[inline(always)]
 pub(crate) fn has_both_bits(word: u32) -> bool
     ensures { result ≡ has_both_bits word }

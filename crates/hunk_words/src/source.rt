@@ -24,8 +24,8 @@ impl Error for Failed {}
 
 /// What bytes are pulled from.
 ///
-/// `left` is the bytes that pulls will give from here on, where that is known. `failed` says whether
-/// a pull has answered an `Err`: that sets it, and nothing else does, for good.
+/// `left` is the bytes that pulls will give from here on, where that is known. `failed` says
+/// whether a pull has answered an `Err`: that sets it, and nothing else does, for good.
 pub trait Source {
     ghost left: { Self → Option (List ℕ) };
 
@@ -33,8 +33,8 @@ pub trait Source {
 
     /// Fills a first part of the buffer and gives the number of its bytes.
     ///
-    /// It is 0 only where none is left or the buffer is empty. What the buffer has behind that part,
-    /// and after an `Err`, is not said.
+    /// It is 0 only where none is left or the buffer is empty. What the buffer has behind that
+    /// part, and after an `Err`, is not said.
     ///
     /// # Errors
     ///

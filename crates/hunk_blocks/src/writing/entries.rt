@@ -12,7 +12,7 @@ use crate::ext_shape::ExtShape;
 use crate::writing::payloads::{print_counted, print_payload};
 use hunk_words::{PagePrinter, Sink};
 
-/// The word, the name, and what the type wants behind it.
+/// The word, the name, and what stands behind it in an entry of its type.
 fn print_entry<W: Sink, const ROOM: usize>(page: &mut PagePrinter<'_, W, ROOM>, entry: &Entry<'_>)
     requires { IsExtEntry (entry_of entry.now) }
     ensures { Prints page.old page.new (bytes_of (ext_text (entry_of entry.now))) }

@@ -76,7 +76,7 @@ impl<'a> LoadFile<'a> {
         Ok((LoadFile { hunks }, size))
     }
 
-    /// The number of hunks, from 1 to 65,536.
+    /// The number of hunks, from 1 to 65,536, `MOST_HUNKS`.
     pub fn hunks(&self) -> u32
         ensures value { result ≡ length self.now }
         ensures file { IsLoadFile self.now }

@@ -27,6 +27,14 @@ pub enum ImageFault {
     OutOfMemory,
 }
 
+impl From<AllocError> for ImageFault {
+    ghost from_gives = { λ _ fault. fault ≡ faults.OutOfMemory };
+
+    fn from(_: AllocError) -> ImageFault {
+        ImageFault::OutOfMemory
+    }
+}
+
 impl LoadFile<'_> {
     /// The memory of all hunks, one after the other, where hunk number i lies at `bases[i]`.
     ///
@@ -34,8 +42,8 @@ impl LoadFile<'_> {
     /// offset, in file order, the base of the target added to the long there, modulo 2^32: at any
     /// offset, also where longs overlap. It takes memory for `total()` bytes.
     ///
-    /// That RELOC32 adds the base of the target is from The AmigaDOS Manual and `dos/doshunks.h`. The
-    /// zero bytes, the order, odd offsets and the sum modulo 2^32 are this profile's own choice.
+    /// That RELOC32 adds the base of the target is from The AmigaDOS Manual and `dos/doshunks.h`.
+    /// The zero bytes, the order, odd offsets and the sum modulo 2^32 are this profile's own choice.
     ///
     /// # Errors
     ///
@@ -48,13 +56,9 @@ impl LoadFile<'_> {
         if bases.len() != self.hunks.len() {
             return Err(ImageFault::BaseCount);
         }
-        let Ok(mut memory) = Vec::with_capacity(alloc, self.total() as usize) else {
-            return Err(ImageFault::OutOfMemory);
-        };
+        let mut memory = Vec::with_capacity(alloc, self.total() as usize)?;
         'hunks: for hunk in &self.hunks {
-            if push_image(&mut memory, hunk, bases).is_err() {
-                return Err(ImageFault::OutOfMemory);
-            }
+            push_image(&mut memory, hunk, bases)?;
         }
         Ok(memory)
     }

@@ -14,9 +14,9 @@ impl LoadFile<'_> {
     /// Two offsets of hunk `i`, counted from 0, whose longs overlap: 1 to 3 bytes apart.
     ///
     /// `None` is answered where there are none. Else the pair is the smaller and the larger of two
-    /// neighbours, among the distinct offsets of the hunk's RELOC32 blocks in rising order, that are
-    /// 1 to 3 apart: the pair with the least smaller offset. Offsets are in bytes from the start of
-    /// the hunk. It takes memory for the offsets, 4 bytes each.
+    /// neighbours, among the distinct offsets of the hunk's RELOC32 blocks in rising order, that
+    /// are 1 to 3 apart: the pair with the least smaller offset. Offsets are in bytes from the
+    /// start of the hunk. It takes memory for the offsets, 4 bytes each.
     ///
     /// # Errors
     ///
@@ -67,8 +67,8 @@ fn push_offsets(rising: &mut Vec<u32>, groups: &Groups<'_>) -> Result<(), AllocE
     ensures { OnOk result (rising.new.items ≡ rising.old.items
         ++ offsets (flat_map group_relocations (map group_of groups.now))) }
 {
-    'pushing: for number in 0..groups.len() {
-        push_longs(rising, &groups.at(number).offsets)?;
+    'pushing: for group in groups {
+        push_longs(rising, &group.offsets)?;
     }
     Ok(())
 }
@@ -77,8 +77,8 @@ fn push_offsets(rising: &mut Vec<u32>, groups: &Groups<'_>) -> Result<(), AllocE
 fn push_longs(rising: &mut Vec<u32>, longs: &Longs<'_>) -> Result<(), AllocError>
     ensures { OnOk result (rising.new.items ≡ rising.old.items ++ longs.now) }
 {
-    'pushing: for number in 0..longs.len() {
-        rising.push(longs.at(number))?;
+    'pushing: for long in longs {
+        rising.push(long)?;
     }
     Ok(())
 }

@@ -24,6 +24,7 @@ impl<'a> LoadFile<'a> {
     }
 }
 
+/// The hunks without what is not loaded.
 fn strip_hunks(hunks: &mut [LoadHunk<'_>])
     ensures { map hunk_of hunks.new ≡ strip_file (map hunk_of hunks.old) }
 {
@@ -32,6 +33,7 @@ fn strip_hunks(hunks: &mut [LoadHunk<'_>])
     }
 }
 
+/// The hunk without what is not loaded.
 fn strip_hunk(hunk: &mut LoadHunk<'_>)
     ensures { hunk_of hunk.new ≡ strip_hunk (hunk_of hunk.old) }
 {

@@ -6,14 +6,9 @@ ghost use Rattle.hunk_files.specs.Tables.{IsTable};
 
 use crate::place::out_of_memory;
 use crate::row::Row;
+use hunk_scan::{TABLE_AT, TABLE_SIZE_AT};
 use hunk_words::{FileFault, SizeWord, word_at};
 use std::alloc::Global;
-
-/// The longword of the header that has the number of hunks.
-const TABLE_SIZE: usize = 2;
-
-/// The longword at which the table begins, behind the number of the last hunk.
-const TABLE: usize = 5;
 
 /// The rows of the table, and the byte behind it, from the start of the input. Each row is stored
 /// when it was read.
@@ -31,9 +26,9 @@ pub(crate) fn read_table(alloc: Global, bytes: &[u8]) -> Result<(Vec<Row>, usize
     ensures memory { IfErr result (λ fault. fault.reason ≡ reasons.OutOfMemory) }
     ensures reached { IfErr result (λ fault. HasLongAt bytes.entry.now fault.place) }
 {
-    let hunks = word_at(bytes, TABLE_SIZE) as usize;
+    let hunks = word_at(bytes, TABLE_SIZE_AT) as usize;
     let mut rows = Vec::new(alloc);
-    let mut at = TABLE;
+    let mut at = TABLE_AT;
     'reading: while rows.len() < hunks {
         let size = SizeWord::at(bytes, at);
         at += SizeWord::entry_longs(size.word);

@@ -9,14 +9,15 @@ ghost use Rattle.hunk_scan.specs.Roles.{refuse};
 ghost use Rattle.hunk_scan.specs.declared.position.Position.TheVariants as positions;
 
 use crate::load::offsets::pass_list;
-use hunk_scan::{OpenHunk, Phase, Position};
+use hunk_scan::{OpenHunk, Phase, Position, TABLE_AT};
 use hunk_words::{BlockWord, FileFault, Kind, Reason, SizeWord, word_at};
 
 /// What the table declares of the open hunk, 0 longwords before the first.
 #[derive(Clone, Copy)]
 pub(crate) struct Entry {
+    /// The longwords of memory that it declares.
     pub longs: u32,
-    /// The longword at which the next entry stands.
+    /// The longword, counted from 0, at which the next entry stands.
     pub next: usize,
 }
 
@@ -35,7 +36,10 @@ pub(crate) fn walk(bytes: &[u8]) -> Result<usize, FileFault>
 {
     let count = bytes.len() / 4;
     let mut position = Position::FirstLong;
-    let mut entry = Entry { longs: 0, next: 5 };
+    let mut entry = Entry {
+        longs: 0,
+        next: TABLE_AT,
+    };
     let mut at = 0;
     'walking: while at < count {
         let word = word_at(bytes, at);
@@ -102,7 +106,8 @@ fn step_block_word(hunk: OpenHunk, phase: Phase, longs: u32, word: u32) -> Resul
     }
 }
 
-/// Steps from the position. The phases are told apart here, once for all that is asked of them.
+/// Steps from the position. The phases are distinguished here, once for all that is asked of
+/// them.
 #[inline(always)]
 fn step_from(position: Position, longs: u32, word: u32) -> Result<Position, Reason>
     ensures steps { IfOk result (λ behind. behind ≡ step position word) }

@@ -69,6 +69,7 @@ fn print_behind<W: Sink>(page: &mut Printer<'_, W>, hunks: &[LoadHunk<'_>])
     print_hunks(page, hunks);
 }
 
+/// The longwords.
 fn print_longs<W: Sink>(page: &mut Printer<'_, W>, longs: &[u32])
     ensures { Prints page.old page.new (bytes_of longs.now) }
 {

@@ -71,19 +71,14 @@ fn relocation_width(kind: Kind) -> u64
 }
 
 /// How many bytes an offset of this entry stands for; 0 for a definition, which has no offsets.
-///
-/// These are the widths of `ExtKind`, by the numbers of the types, since it is asked of each entry.
-#[tactic(auto, unfolding(hunk_blocks::specs::ExtKinds::ext_kind))]
 fn reference_width(entry: &Entry) -> u64
     ensures value { result ≡ reference_width (entry_of entry.now) }
     ensures bound { result ≤ 4 }
 {
-    match entry.word >> 24 {
-        129 | 130 | 133 | 136 | 137 => 4,
-        131 | 134 | 138 => 2,
-        132 | 135 | 139 => 1,
-        _ => 0,
-    }
+    let Some(kind) = entry.kind() else {
+        return 0;
+    };
+    kind.width().unwrap_or(0)
 }
 
 /// How many bytes the hunk has: those of its content.
@@ -132,8 +127,8 @@ fn check_group<T: TakesFindings>(taker: &mut T, spot: Spot, width: u64, group: &
     requires { width ≤ 4 }
     ensures { T.takes taker.old (group_findings spot width (group_of group.now)) taker.new }
 {
-    for i in 0..group.offsets.len() {
-        check_relocation(taker, spot, width, group.target, group.offsets.at(i));
+    for offset in &group.offsets {
+        check_relocation(taker, spot, width, group.target, offset);
     }
 }
 
@@ -142,8 +137,8 @@ fn check_groups<T: TakesFindings>(taker: &mut T, spot: Spot, width: u64, groups:
     ensures { T.takes taker.old
         (flat_map (group_findings spot width) (map group_of groups.now)) taker.new }
 {
-    for i in 0..groups.len() {
-        check_group(taker, spot, width, groups.at(i));
+    for group in groups {
+        check_group(taker, spot, width, group);
     }
 }
 
@@ -151,8 +146,8 @@ fn check_entry<T: TakesFindings>(taker: &mut T, spot: Spot, entry: &Entry)
     ensures { T.takes taker.old (entry_findings spot (entry_of entry.now)) taker.new }
 {
     let width = reference_width(entry);
-    for i in 0..entry.offsets.len() {
-        check_offset(taker, spot, width, entry.offsets.at(i));
+    for offset in &entry.offsets {
+        check_offset(taker, spot, width, offset);
     }
 }
 
@@ -160,8 +155,8 @@ fn check_entries<T: TakesFindings>(taker: &mut T, spot: Spot, entries: &Entries)
     ensures { T.takes taker.old
         (flat_map (entry_findings spot) (map entry_of entries.now)) taker.new }
 {
-    for i in 0..entries.len() {
-        check_entry(taker, spot, entries.at(i));
+    for entry in entries {
+        check_entry(taker, spot, entry);
     }
 }
 

@@ -6,10 +6,7 @@ ghost use Rattle.hunk_files.specs.ObjectFile.{is_object_refusal, unit_word};
 ghost use Rattle.hunk_files.specs.ObjectFault.{BeforeUnits, refuse_word};
 
 use hunk_blocks::Mode;
-use hunk_words::{BlockWord, FileFault, Reason};
-
-/// The word of UNIT. That it has no flags is this profile's own choice.
-pub(super) const UNIT: u32 = 0x3E7;
+use hunk_words::{BlockWord, FileFault, Reason, UNIT_WORD};
 
 /// Why this longword does not begin a unit, where it does not.
 pub(super) fn refuse_unit_word(word: BlockWord) -> Option<Reason>
@@ -17,13 +14,10 @@ pub(super) fn refuse_unit_word(word: BlockWord) -> Option<Reason>
     ensures unit { IsNone result ↔ (word ≡ unit_word) }
     ensures own_reasons { IfSome result (λ reason. IsTrue (is_object_refusal reason)) }
 {
-    if word.word() == UNIT {
+    if word.word() == UNIT_WORD {
         return None;
     }
-    match Mode::Object.refuse(word) {
-        Some(reason) => Some(reason),
-        None => Some(Reason::Misplaced),
-    }
+    Mode::Object.refuse(word).or(Some(Reason::Misplaced))
 }
 
 /// The refusal of an input that ends too soon, at 4 times the number of its whole longwords.

@@ -9,6 +9,7 @@ use crate::object::unit::{Hunk, Unit};
 use crate::order::is_kept;
 
 impl Hunk<'_> {
+    /// Drops the blocks that only name, describe or comment the hunk.
     fn strip(&mut self)
         ensures { self.new ≡ strip_blocks self.old }
     {
@@ -17,6 +18,7 @@ impl Hunk<'_> {
 }
 
 impl Unit<'_> {
+    /// Drops the same of each hunk; the name of the unit stays.
     fn strip(&mut self)
         ensures { self.new ≡ strip_unit self.old }
     {
@@ -24,6 +26,7 @@ impl Unit<'_> {
     }
 }
 
+/// Strips each of the hunks.
 fn strip_hunks(hunks: &mut Vec<Hunk>)
     ensures { hunks.new.items ≡ map strip_blocks hunks.old.items }
 {
@@ -32,6 +35,7 @@ fn strip_hunks(hunks: &mut Vec<Hunk>)
     }
 }
 
+/// Strips each of the units.
 fn strip_units(units: &mut Vec<Unit>)
     ensures { units.new.items ≡ strip_object units.old.items }
 {

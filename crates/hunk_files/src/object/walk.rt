@@ -19,16 +19,16 @@ ghost use Rattle.hunk_files.specs.ObjectFault.{WordPlace, BetweenHunks, MayBegin
 ghost use Rattle.hunk_files.specs.ObjectFault.{blocks_from, units_from, unread};
 ghost use Rattle.hunk_files.specs.ObjectParts.{BeginsWithText, EndsUnit, MayStand};
 
-use crate::object::refusal::{UNIT, refuse_unit_word, truncated};
+use crate::object::refusal::{refuse_unit_word, truncated};
 use crate::object::unit::{Hunk, Unit};
 use crate::order::is_end;
 use crate::place::{counted_from, out_of_memory};
 use hunk_blocks::{Block, Body, Mode, Payload, append};
 use hunk_scan::refuse_place;
-use hunk_words::{BlockWord, FileFault, NAME_LIMIT, Reason, word_at};
+use hunk_words::{BlockWord, FileFault, NAME_LIMIT, Reason, UNIT_WORD, word_at};
 use std::alloc::Global;
 
-/// The longword number `i`.
+/// The longword number `i`, counted from 0.
 fn long_at(bytes: &[u8], i: usize) -> Result<u32, FileFault>
     requires { i < 2 ^ 32 }
     ensures long { IfOk result
@@ -46,7 +46,7 @@ fn long_at(bytes: &[u8], i: usize) -> Result<u32, FileFault>
 fn ends_unit(bytes: &[u8]) -> bool
     ensures { IsTrue result ↔ EndsUnit bytes.now }
 {
-    bytes.is_empty() || (bytes.len() >= 4 && word_at(bytes, 0) == UNIT)
+    bytes.is_empty() || (bytes.len() >= 4 && word_at(bytes, 0) == UNIT_WORD)
 }
 
 /// Whether the block is the content of its hunk.

@@ -10,11 +10,10 @@ ghost use Rattle.hunk_blocks.specs.Parts.{block_text};
 ghost use Rattle.hunk_files.specs.ObjectFile.{object_text, unit_header, unit_text};
 
 use crate::object::file::ObjectFile;
-use crate::object::refusal::UNIT;
 use crate::object::unit::{Hunk, Unit};
 use crate::writing::print_blocks;
 use hunk_blocks::Payload;
-use hunk_words::{LongWriter, Printer, Sink, WriteFault};
+use hunk_words::{LongWriter, Printer, Sink, UNIT_WORD, WriteFault};
 
 /// The blocks of the hunks.
 fn print_hunks<W: Sink>(page: &mut Printer<'_, W>, hunks: &[Hunk<'_>])
@@ -31,7 +30,7 @@ fn print_header<W: Sink>(page: &mut Printer<'_, W>, name: &Payload<'_>)
     ensures { Prints page.old page.new (bytes_of (unit_header (longs name.now))) }
 {
     let bytes = name.bytes();
-    page.print_long(UNIT);
+    page.print_long(UNIT_WORD);
     page.print_long((bytes.len() / 4) as u32);
     page.print(bytes);
 }
@@ -44,6 +43,7 @@ fn print_unit<W: Sink>(page: &mut Printer<'_, W>, unit: &Unit<'_>)
     print_hunks(page, unit.hunks());
 }
 
+/// The units, one after the other.
 fn print_units<W: Sink>(page: &mut Printer<'_, W>, units: &[Unit<'_>])
     ensures { Prints page.old page.new (bytes_of (object_text units.now)) }
 {

@@ -1,9 +1,12 @@
-use Rattle.std.proofs.Common.{◌≡◌, ◌++◌, take}
+use Rattle.std.proofs.Common.{◌≡◌, ◌++◌}
 use Rattle.std.specs.List.{flat_map}
+use Rattle.std.specs.Slice.Iter.{iter_rest}
 use Rattle.hunk_blocks.specs.declared.groups.Group.{Group}
 use Rattle.hunk_blocks.specs.Views.{group_of}
 use Rattle.hunk_files.specs.Image.{offsets, group_relocations}
 use Rattle.hunk_files.proofs.load.overlap.push_offsets.Given as goal
 
 abbrev pub invariant-pushing : goal.invariant-pushing
-invariant-pushing l = l.rising.items ≡ l.fn.rising.items ++ offsets (flat_map (λ (g : Group). group_relocations (group_of g)) (take l.number l.groups))
+invariant-pushing l =
+    l.rising.items ++ offsets (flat_map (λ (g : Group). group_relocations (group_of g)) (iter_rest l.group-iterator))
+    ≡ l.fn.rising.items ++ offsets (flat_map (λ (g : Group). group_relocations (group_of g)) l.groups)
