@@ -4,7 +4,7 @@ use Rattle.std.proofs.lemmas.List.Elements.{filter-append}
 use Rattle.std.specs.Prelude.{◌⊎◌}
 use Rattle.hex.specs.Hex.{decode_of, decode_pairs}
 use Rattle.hex.proofs.HexLemmas.{decode_of-ok}
-use Rattle.hunk_commands.specs.HexText.{AppendsSpelled, IsDecoded, Spells, SpellsBefore, SpellsNever, is_blank, without_blanks}
+use Rattle.hunk_commands.specs.HexText.{AppendsSpelled, IsDecoded, SpellsHex, SpellsBefore, SpellsNever, is_blank, without_blanks}
 use Rattle.hunk_commands.proofs.HexJoin.{decoded_joined, never_decoded}
 
 without_append : (text more : List ℕ) → without_blanks (text ++ more) ≡ without_blanks text ++ without_blanks more
@@ -33,7 +33,7 @@ digit_taken text bytes held byte is before = (
 
 pub never_taken : (text : List ℕ) (byte : ℕ) → SpellsNever text → SpellsNever (text ++ byte ∷ [])
 never_taken text byte never more bytes spells =
-    never (byte ∷ more) bytes (subst (λ (xs : List ℕ). Spells xs bytes) (append_assoc text (byte ∷ []) more) spells)
+    never (byte ∷ more) bytes (subst (λ (xs : List ℕ). SpellsHex xs bytes) (append_assoc text (byte ∷ []) more) spells)
 
 -- ---- the held digits are decoded
 
@@ -49,10 +49,10 @@ held_refused text bytes held before even none more all spells =
 
 -- ---- the end
 
-pub spelled_whole : (text bytes held more : List ℕ) → SpellsBefore text bytes held → decode_of held ≡ Ok more → Spells text (bytes ++ more)
+pub spelled_whole : (text bytes held more : List ℕ) → SpellsBefore text bytes held → decode_of held ≡ Ok more → SpellsHex text (bytes ++ more)
 spelled_whole text bytes held more before decoded = ap decode_of before.1 ∙ decoded_joined before.0 held bytes more before.2 decoded
 
-pub none_spelled : (text bytes held : List ℕ) → SpellsBefore text bytes held → ((more : List ℕ) → ¬ (decode_of held ≡ Ok more)) → (all : List ℕ) → ¬ Spells text all
+pub none_spelled : (text bytes held : List ℕ) → SpellsBefore text bytes held → ((more : List ℕ) → ¬ (decode_of held ≡ Ok more)) → (all : List ℕ) → ¬ SpellsHex text all
 none_spelled text bytes held before none all spells =
     let whole = decode_of-ok (without_blanks text) all spells in
     let front = decode_of-ok before.0 bytes before.2 in
@@ -60,8 +60,8 @@ none_spelled text bytes held before none all spells =
     never_decoded before.0 held [] all even none
     (ap (λ (xs : List ℕ). decode_of (before.0 ++ xs)) (append-nil held) ∙ ap decode_of (sym before.1) ∙ spells)
 
-pub none_ever : (text : List ℕ) → SpellsNever text → (all : List ℕ) → ¬ Spells text all
-none_ever text never all spells = never [] all (subst (λ (xs : List ℕ). Spells xs all) (sym (append-nil text)) spells)
+pub none_ever : (text : List ℕ) → SpellsNever text → (all : List ℕ) → ¬ SpellsHex text all
+none_ever text never all spells = never [] all (subst (λ (xs : List ℕ). SpellsHex xs all) (sym (append-nil text)) spells)
 
 -- ---- what a decoder knows
 
@@ -87,17 +87,17 @@ room_made false true text bytes held new is even known appended =
     subst (λ (xs : List ℕ). SpellsBefore text xs []) (sym appended.2) (held_decoded text bytes held appended.0 known appended.1)
 room_made false false text bytes held new is even known none = held_refused text bytes held known even none
 
-pub finished : (refused spelled : Bool) (text bytes held new : List ℕ) → refused ≡ false → spelled ≡ true → IsDecoded refused text bytes held → AppendsSpelled spelled held bytes new → Spells text new
+pub finished : (refused spelled : Bool) (text bytes held new : List ℕ) → refused ≡ false → spelled ≡ true → IsDecoded refused text bytes held → AppendsSpelled spelled held bytes new → SpellsHex text new
 finished true spelled text bytes held new is done known appended = cc is
 finished false false text bytes held new is done known appended = cc done
 finished false true text bytes held new is done known appended =
-    subst (λ (xs : List ℕ). Spells text xs) (sym appended.2) (spelled_whole text bytes held appended.0 known appended.1)
+    subst (λ (xs : List ℕ). SpellsHex text xs) (sym appended.2) (spelled_whole text bytes held appended.0 known appended.1)
 
-pub refused_before : (refused : Bool) (text bytes held : List ℕ) → refused ≡ true → IsDecoded refused text bytes held → (all : List ℕ) → ¬ Spells text all
+pub refused_before : (refused : Bool) (text bytes held : List ℕ) → refused ≡ true → IsDecoded refused text bytes held → (all : List ℕ) → ¬ SpellsHex text all
 refused_before true text bytes held is known = none_ever text known
 refused_before false text bytes held is known = cc is
 
-pub refused_last : (refused spelled : Bool) (text bytes held new : List ℕ) → refused ≡ false → spelled ≡ false → IsDecoded refused text bytes held → AppendsSpelled spelled held bytes new → (all : List ℕ) → ¬ Spells text all
+pub refused_last : (refused spelled : Bool) (text bytes held new : List ℕ) → refused ≡ false → spelled ≡ false → IsDecoded refused text bytes held → AppendsSpelled spelled held bytes new → (all : List ℕ) → ¬ SpellsHex text all
 refused_last true spelled text bytes held new is none known appended = cc is
 refused_last false true text bytes held new is none known appended = cc none
 refused_last false false text bytes held new is none known appended = none_spelled text bytes held known appended

@@ -16,7 +16,7 @@ use Rattle.hunk_files.specs.Tables.{row_entry}
 use Rattle.hunk_scatter.specs.Rows.{bases_of, entries_of}
 use Rattle.hunk_scatter.proofs.DeclaredBytes.{declared_limit}
 use Rattle.hunk_listing.specs.FileLines.{load_listing, object_listing}
-use Rattle.hunk_listing.specs.ReportLines.{count_line, finding_line, load_summary, object_report}
+use Rattle.hunk_listing.specs.ReportLines.{finding_line, load_summary, object_report, totals_line}
 use Rattle.hunk_listing.proofs.FileLengths.{load_listing_fits, load_summary_fits, object_listing_fits}
 use Rattle.hunk_listing.proofs.ReportLengths.{findings_within, object_report_fits}
 use Rattle.hunk_listing.proofs.SegmentLengths.{length-lines, total}
@@ -60,7 +60,7 @@ report_fits bytes (files.Object value) is few =
 pub count_fits : (file : HunkFile) → length (report file) < 2 ^ 64 → finding_count file < 2 ^ 64
 count_fits (files.Load value rest) fits = omega arith
 count_fits (files.Object value) fits =
-    omega (arith, fits, findings_within (findings value), length-append (flat_map finding_line (findings value)) (count_line (length value) (length (findings value))))
+    omega (arith, fits, findings_within (findings value), length-append (flat_map finding_line (findings value)) (totals_line (length value) (length (findings value))))
 
 -- ---- of an image
 

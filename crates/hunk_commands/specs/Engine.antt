@@ -1,13 +1,12 @@
 -- What an engine function reads and writes: of its source a was left before and b is left now, its sink had taken c and has taken d now, where these are told.
-use Rattle.std.specs.Prelude.{◌≡◌, ◌⊎◌, ◌<◌, ⊤, ℕ, Bool, false, List, Option, Result, IfErr, OnOk, length}
-use Rattle.std.specs.Io.KnownBytes.{Consumes, IsAtEnd}
+use Rattle.std.specs.Prelude.{◌≡◌, ◌⊎◌, ⊤, ℕ, Bool, false, List, Option, Result, IfErr, OnOk, length}
 use Rattle.hunk_words.specs.Carriers.{Writing}
 use Rattle.hunk_words.specs.declared.reason.Reason.TheVariants.{FileLimit}
 use Rattle.hunk_words.specs.Puts.{Puts}
 use Rattle.hunk_scatter.specs.LoadOutcomes.{GivesAtMost}
 use Rattle.hunk_commands.specs.declared.fault.RunFault.{RunFault}
 use Rattle.hunk_commands.specs.declared.fault.RunFault.TheVariants.{HexText, Memory, Refused, Write}
-use Rattle.hunk_commands.specs.Inputs.{HasFile, StopsAtLimit, StopsAtRead, TellsReading}
+use Rattle.hunk_commands.specs.Inputs.{HasFile, ReadsWhole, StopsAtLimit, StopsAtRead, TellsReading}
 use Rattle.hunk_commands.specs.Output.{StopsOutput}
 use Rattle.hunk_commands.specs.Refusals.{RefusesBytes}
 
@@ -15,9 +14,7 @@ use Rattle.hunk_commands.specs.Refusals.{RefusesBytes}
 -- have gone out as `written` says.
 pub record Writes (IsTextOf : List ℕ → List ℕ → Type 0) (a b : Option (List ℕ)) (most : ℕ) (c d : Option (List ℕ)) (written : ℕ) : Type 0 where
   pub input : List ℕ
-  pub given : Consumes a b input
-  pub at_end : IsAtEnd b
-  pub few : length input < most
+  pub read : ReadsWhole a b most input
   pub text : List ℕ
   pub is_text : IsTextOf input text
   pub puts : Puts c d 0 written text
@@ -33,9 +30,7 @@ StopsAtWrite count Holds fault = (written : ℕ) → fault ≡ Write written →
 -- The source was read to its end in fewer than `most` bytes, and for these the run answers the fault.
 pub record RefusesInput (fault : RunFault) (a b : Option (List ℕ)) (most : ℕ) : Type 0 where
   pub input : List ℕ
-  pub given : Consumes a b input
-  pub at_end : IsAtEnd b
-  pub few : length input < most
+  pub read : ReadsWhole a b most input
   pub refuses : RefusesBytes fault input
 
 -- An input is refused at the limit of its bytes, or since its bytes are no file.
@@ -48,7 +43,7 @@ RefusesOnly a b most fault = ⊤
 -- and `broken` whether it has failed; the output is old before and new after.
 pub record ReadsThenPuts {R W T : Type 0} (left : R → Option (List ℕ)) (broken : R → Bool) (x y : R) (most : ℕ) (failed : W → Bool) (old new : Writing W)
     (result : Result T RunFault) : Type 0 where
-  -- of a file, where neither the source nor the output fails, only memory can be wanting
+  -- of a file, where neither the source nor the output fails, only memory can run out
   pub succeeds : HasFile (left x) most → broken y ≡ false → failed new.sink ≡ false → IfErr result (λ fault. fault ≡ Memory)
   -- after another fault than one of writing nothing was put
   pub fails : IfErr result (StopsOutput failed old new)

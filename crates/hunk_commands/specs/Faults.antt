@@ -31,7 +31,7 @@ abbrev pub IsWrite : RunFault → Type 0
 IsWrite (Write written) = ⊤
 IsWrite _ = ⊥
 
--- What a refusal is to a run: want of memory and a failed read are no faults of the input.
+-- What a refusal is to a run: out of memory and a failed read are no faults of the input.
 abbrev pub refused_for : Reason → Fault → RunFault
 refused_for reasons.OutOfMemory refusal = Memory
 refused_for reasons.Read refusal = Read refusal.place
@@ -44,8 +44,8 @@ refused_as refusal = refused_for refusal.reason refusal
 abbrev pub is_of_input : Reason → Bool
 is_of_input r = between 1 9 (number_of r) || between 11 24 (number_of r) || between 26 29 (number_of r)
 
--- the faults of a load: reading, writing and memory, and the refusals of an input
-abbrev pub IsOfLoad : RunFault → Type 0
-IsOfLoad (Refused refusal) = IsTrue (is_of_input refusal.reason)
-IsOfLoad HexText = ⊥
-IsOfLoad _ = ⊤
+-- a fault that `relocate` may answer: of reading, of writing, of memory, or a refusal of an input
+abbrev pub IsRelocateFault : RunFault → Type 0
+IsRelocateFault (Refused refusal) = IsTrue (is_of_input refusal.reason)
+IsRelocateFault HexText = ⊥
+IsRelocateFault _ = ⊤

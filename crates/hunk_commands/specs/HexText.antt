@@ -1,9 +1,8 @@
 -- Hexadecimal text with blanks in it.
-use Rattle.std.specs.Prelude.{◌==◌, ◌||◌, ◌≡◌, ◌<◌, ◌++◌, ℕ, Bool, true, false, not, List, Option, Ok, length}
+use Rattle.std.specs.Prelude.{◌==◌, ◌||◌, ◌≡◌, ◌++◌, ℕ, Bool, true, false, not, List, Option, Ok}
 use Rattle.std.specs.List.{filter}
-use Rattle.std.specs.Io.KnownBytes.{Consumes, IsAtEnd}
 use Rattle.hex.specs.Hex.{decode_of}
-use Rattle.hunk_commands.specs.Inputs.{ReadsInVain}
+use Rattle.hunk_commands.specs.Inputs.{ReadsInVain, ReadsWhole}
 use Rattle.hunk_commands.specs.declared.fault.RunFault.{RunFault}
 use Rattle.hunk_commands.specs.declared.fault.RunFault.TheVariants as faults
 
@@ -15,8 +14,8 @@ abbrev pub without_blanks : List ℕ → List ℕ
 without_blanks text = filter (λ byte. not (is_blank byte)) text
 
 -- the text, without its blanks, is hexadecimal text of the bytes
-abbrev pub Spells : List ℕ → List ℕ → Type 0
-Spells text bytes = decode_of (without_blanks text) ≡ Ok bytes
+abbrev pub SpellsHex : List ℕ → List ℕ → Type 0
+SpellsHex text bytes = decode_of (without_blanks text) ≡ Ok bytes
 
 -- ---- text that comes by pieces
 
@@ -26,7 +25,7 @@ SpellsBefore text bytes held = (digits : List ℕ) × (without_blanks text ≡ d
 
 -- no text that begins so spells any bytes
 abbrev pub SpellsNever : List ℕ → Type 0
-SpellsNever text = (more bytes : List ℕ) → ¬ Spells (text ++ more) bytes
+SpellsNever text = (more bytes : List ℕ) → ¬ SpellsHex (text ++ more) bytes
 
 -- what is known of the text so far, which is refused or not
 abbrev pub IsDecoded : Bool → List ℕ → List ℕ → List ℕ → Type 0
@@ -43,18 +42,14 @@ AppendsSpelled false digits old new = (more : List ℕ) → ¬ (decode_of digits
 -- fewer than `most` bytes of text, read to its end, spell the bytes
 pub record ReadsHex (a b : Option (List ℕ)) (most : ℕ) (bytes : List ℕ) : Type 0 where
   pub text : List ℕ
-  pub consumed : Consumes a b text
-  pub at_end : IsAtEnd b
-  pub few : length text < most
-  pub spells : Spells text bytes
+  pub read : ReadsWhole a b most text
+  pub spells : SpellsHex text bytes
 
 -- fewer than `most` bytes of text, read to its end, spell no bytes
 pub record SpellsNone (a b : Option (List ℕ)) (most : ℕ) : Type 0 where
   pub text : List ℕ
-  pub consumed : Consumes a b text
-  pub at_end : IsAtEnd b
-  pub few : length text < most
-  pub none : (bytes : List ℕ) → ¬ Spells text bytes
+  pub read : ReadsWhole a b most text
+  pub none : (bytes : List ℕ) → ¬ SpellsHex text bytes
 
 -- why no bytes were read: its text was not read to its end in fewer than `most` bytes, or spells none
 abbrev pub ReadsNoHex : RunFault → Option (List ℕ) → Option (List ℕ) → ℕ → Bool → Type 0

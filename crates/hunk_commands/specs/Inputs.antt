@@ -1,10 +1,17 @@
 -- What was read of a source, and why it was not read to its end. Of the source a was left before and b is left now, where that is told.
-use Rattle.std.specs.Prelude.{◌≡◌, ◌<◌, ℕ, List, Option, Some, Bool, true, false, length, ⊤, Result, IsErrAnd}
-use Rattle.std.specs.Io.KnownBytes.{Consumes}
+use Rattle.std.specs.Prelude.{◌≡◌, ◌<◌, ℕ, List, Option, Some, Bool, true, false, length, ⊤, Result, IfErr, IsErrAnd, OnOk}
+use Rattle.std.specs.Io.KnownBytes.{Consumes, IsAtEnd}
 use Rattle.hunk_words.specs.declared.reason.Reason.TheVariants as reasons
 use Rattle.hunk_files.specs.HunkFile.{AreFile}
+use Rattle.hunk_scatter.specs.LoadOutcomes.{GivesAtMost}
 use Rattle.hunk_commands.specs.declared.fault.RunFault.{RunFault}
 use Rattle.hunk_commands.specs.declared.fault.RunFault.TheVariants as faults
+
+-- it was read to its end, and gave these bytes, fewer than `most`
+pub record ReadsWhole (a b : Option (List ℕ)) (most : ℕ) (bytes : List ℕ) : Type 0 where
+  pub given : Consumes a b bytes
+  pub at_end : IsAtEnd b
+  pub few : length bytes < most
 
 -- it has fewer than `most` bytes left, which are a file
 pub record HasFile (a : Option (List ℕ)) (most : ℕ) : Type 0 where
@@ -36,3 +43,12 @@ StopsAtRead a b failed fault = (place : ℕ) → fault ≡ faults.Read place →
 -- a source that has come to fail is what the answer tells of; `old` and `new` are whether it had failed before, and has now
 abbrev pub TellsReading : {T : Type 0} → Bool → Bool → Result T RunFault → Type 0
 TellsReading old new result = old ≡ false → new ≡ true → IsErrAnd result (λ fault. (place : ℕ) × (fault ≡ faults.Read place))
+
+-- What a reading to the end keeps to, whatever becomes of the bytes. The source is x before and y after, of which `left` tells what is left
+-- and `broken` whether it has failed.
+pub record ReadsAtMost {R T : Type 0} (left : R → Option (List ℕ)) (broken : R → Bool) (x y : R) (most : ℕ) (result : Result T RunFault) : Type 0 where
+  pub err : IfErr result (λ fault. ReadsInVain fault (left x) (left y) most (broken y))
+  pub within : GivesAtMost (left x) (left y) most
+  -- it has not come to fail where all was read
+  pub sound : broken x ≡ false → OnOk result (broken y ≡ false)
+  pub tells_read : TellsReading (broken x) (broken y) result

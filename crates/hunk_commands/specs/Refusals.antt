@@ -7,7 +7,7 @@ use Rattle.hunk_files.specs.HunkFile.{IsRefusal}
 use Rattle.hunk_commands.specs.declared.fault.RunFault.{RunFault}
 use Rattle.hunk_commands.specs.declared.fault.RunFault.TheVariants as faults
 
--- want of memory, or such a refusal
+-- out of memory, or such a refusal
 abbrev pub RefusesAs : (Fault → Type 0) → RunFault → Type 0
 RefusesAs Is (faults.Refused refusal) = Is refusal
 RefusesAs Is faults.Memory = ⊤

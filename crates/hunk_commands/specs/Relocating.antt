@@ -10,7 +10,7 @@ use Rattle.hunk_scatter.specs.LoadOutcomes.{Gives, IsLoadFault, IsShort}
 use Rattle.hunk_scatter.specs.LoaderValues.{ImageValue}
 use Rattle.hunk_scatter.specs.Placing.{AreBases, Placing, packed_base}
 use Rattle.hunk_scatter.specs.Rows.{bases_of}
-use Rattle.hunk_listing.specs.SegmentLines.{Segment, listing}
+use Rattle.hunk_listing.specs.SegmentLines.{Segment, segment_listing}
 
 -- the hunks lie one behind the other from the start on
 abbrev pub packed : ℕ → Placing
@@ -23,7 +23,7 @@ segments_of _ _ = []
 
 -- the listing of an image
 abbrev pub image_listing : ImageValue → List ℕ
-image_listing image = listing (segments_of (bases_of image.rows) image.segments)
+image_listing image = segment_listing (segments_of (bases_of image.rows) image.segments)
 
 -- The load file keeps to the budget, all its hunks have bases from the start on, and the text is the listing of its segments, each relocated by the bases of all.
 pub record IsListingAt (start budget : ℕ) (file : LoadFileValue) (written : List ℕ) : Type 0 where
@@ -31,7 +31,7 @@ pub record IsListingAt (start budget : ℕ) (file : LoadFileValue) (written : Li
   pub within : declared_bytes (table file) ≤ budget
   pub bases : List ℕ
   pub are_bases : AreBases (packed start) (table file) bases
-  pub listing_is : written ≡ listing (segments_of bases (map (image bases) file))
+  pub listing_is : written ≡ segment_listing (segments_of bases (map (image bases) file))
 
 -- The input begins with a load file of which this is the listing.
 pub record IsRelocated (start budget : ℕ) (input written : List ℕ) : Type 0 where
@@ -61,7 +61,7 @@ pub record ReadsShort (budget most : ℕ) (a b : Option (List ℕ)) (failed : Bo
   pub place_is : place ≡ length given
   pub short : IsShort budget given
 
--- Memory was wanting where a load of the bytes that were given wants it: for a row of a header that they begin, or for the store right behind it.
+-- Memory ran out where a load of the bytes that were given takes some: for a row of a header that they begin, or for the store right behind it.
 pub record LacksMemory (start budget most : ℕ) (a b : Option (List ℕ)) (failed : Bool) : Type 0 where
   pub given : List ℕ
   pub gave : Gives a b most given

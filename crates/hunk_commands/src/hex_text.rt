@@ -1,7 +1,7 @@
 //! Bytes from hexadecimal text.
 ghost use Rattle.std.specs.Prelude.{◌≡◌, ◌⊎◌, ◌≤◌, ◌++◌, ◌∷◌, [], ℕ, List, length};
 ghost use Rattle.std.specs.Prelude.{IfOk, IfErr, OnOk, OnErr};
-ghost use Rattle.hunk_commands.specs.HexText.{AppendsSpelled, Spells, is_blank};
+ghost use Rattle.hunk_commands.specs.HexText.{AppendsSpelled, SpellsHex, is_blank};
 ghost use Rattle.hunk_commands.specs.HexText.{ReadsHex, ReadsNoHex};
 ghost use Rattle.hunk_scatter.specs.LoadOutcomes.{GivesAtMost};
 ghost use Rattle.hunk_commands.specs.Inputs.{TellsReading};
@@ -72,10 +72,10 @@ impl HexDecoder {
     ///
     /// `HexText` where it spells none, and `Memory` where memory is refused.
     fn finish(self) -> Result<Vec<u8>, RunFault>
-        ensures spelled { IfOk result (λ bytes. Spells self bytes.items) }
+        ensures spelled { IfOk result (λ bytes. SpellsHex self bytes.items) }
         ensures refused { IfErr result
             (λ fault. (fault ≡ Memory)
-            ⊎ ((fault ≡ HexText) × ((bytes : List ℕ) → ¬ Spells self bytes))) }
+            ⊎ ((fault ≡ HexText) × ((bytes : List ℕ) → ¬ SpellsHex self bytes))) }
     {
         let HexDecoder {
             mut bytes,
@@ -131,10 +131,10 @@ fn is_blank(byte: u8) -> bool
 /// `HexText` where it spells none: another byte than a digit or a blank, or an odd number of
 /// digits. `Memory` where memory is refused.
 pub fn unhex(alloc: Global, text: &[u8]) -> Result<Vec<u8>, RunFault>
-    ensures spelled { IfOk result (λ bytes. Spells text.now bytes.items) }
+    ensures spelled { IfOk result (λ bytes. SpellsHex text.now bytes.items) }
     ensures refused { IfErr result
         (λ fault. (fault ≡ Memory)
-        ⊎ ((fault ≡ HexText) × ((bytes : List ℕ) → ¬ Spells text.now bytes))) }
+        ⊎ ((fault ≡ HexText) × ((bytes : List ℕ) → ¬ SpellsHex text.now bytes))) }
 {
     let mut decoder = HexDecoder::new(alloc);
     decoder.take(text)?;

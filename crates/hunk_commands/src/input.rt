@@ -1,8 +1,6 @@
 //! A source read to its end.
-ghost use Rattle.std.specs.Prelude.{◌≡◌, ◌<◌, ◌++◌, [], ℕ, List, false, length, IfOk, OnOk, IfErr};
-ghost use Rattle.std.specs.Io.KnownBytes.{Consumes, IsAtEnd};
-ghost use Rattle.hunk_scatter.specs.LoadOutcomes.{GivesAtMost};
-ghost use Rattle.hunk_commands.specs.Inputs.{ReadsInVain, TellsReading};
+ghost use Rattle.std.specs.Prelude.{◌≡◌, ◌++◌, [], ℕ, List, IfOk, OnOk};
+ghost use Rattle.hunk_commands.specs.Inputs.{ReadsAtMost, ReadsWhole};
 
 use crate::fault::RunFault;
 use hunk_words::{Fault, Reason, Source};
@@ -42,16 +40,9 @@ impl Taker for Vec<u8> {
 ///
 /// What was read of the source stays read, at most `most` bytes.
 pub fn read_whole<S: Source>(alloc: Global, source: &mut S, most: u64) -> Result<Vec<u8>, RunFault>
-    ensures given { IfOk result
-        (λ bytes. Consumes (S.left source.old) (S.left source.new) bytes.items) }
-    ensures at_end { OnOk result (IsAtEnd (S.left source.new)) }
-    ensures bound { IfOk result (λ bytes. length bytes.items < most) }
-    ensures err { IfErr result
-        (λ fault. ReadsInVain fault (S.left source.old) (S.left source.new) most
-        (S.failed source.new)) }
-    ensures within { GivesAtMost (S.left source.old) (S.left source.new) most }
-    ensures sound { S.failed source.old ≡ false → OnOk result (S.failed source.new ≡ false) }
-    ensures tells_read { TellsReading (S.failed source.old) (S.failed source.new) result }
+    ensures reads { IfOk result
+        (λ bytes. ReadsWhole (S.left source.old) (S.left source.new) most bytes.items) }
+    ensures run { ReadsAtMost S.left S.failed source.old source.new most result }
 {
     let mut held = Vec::new(alloc);
     read_all(source, most, &mut held)?;
@@ -66,16 +57,9 @@ pub(crate) fn read_all<S: Source, T: Taker>(
     taker: &mut T,
 ) -> Result<(), RunFault>
     requires { T.took taker.old ≡ [] }
-    ensures given { OnOk result
-        (Consumes (S.left source.old) (S.left source.new) (T.took taker.new)) }
-    ensures at_end { OnOk result (IsAtEnd (S.left source.new)) }
-    ensures bound { OnOk result (length (T.took taker.new) < most) }
-    ensures err { IfErr result
-        (λ fault. ReadsInVain fault (S.left source.old) (S.left source.new) most
-        (S.failed source.new)) }
-    ensures within { GivesAtMost (S.left source.old) (S.left source.new) most }
-    ensures sound { S.failed source.old ≡ false → OnOk result (S.failed source.new ≡ false) }
-    ensures tells_read { TellsReading (S.failed source.old) (S.failed source.new) result }
+    ensures reads { OnOk result
+        (ReadsWhole (S.left source.old) (S.left source.new) most (T.took taker.new)) }
+    ensures run { ReadsAtMost S.left S.failed source.old source.new most result }
 {
     let mut buf = [0u8; PIECE];
     let mut count = 0u64;

@@ -12,7 +12,7 @@ ghost use Rattle.hunk_scatter.specs.HeaderFaults.{PassesBudget};
 ghost use Rattle.hunk_scatter.specs.LoadOutcomes.{Gives, GivesAtMost, HasFileWithin, IsLoadFault};
 ghost use Rattle.hunk_scatter.specs.LoadOutcomes.{StopsBehindFile, StopsBehindHeader};
 ghost use Rattle.hunk_commands.specs.Engine.{StopsAtWrite};
-ghost use Rattle.hunk_commands.specs.Faults.{IsOfLoad};
+ghost use Rattle.hunk_commands.specs.Faults.{IsRelocateFault};
 ghost use Rattle.hunk_commands.specs.Inputs.{TellsReading};
 ghost use Rattle.hunk_commands.specs.Output.{StopsOutput};
 ghost use Rattle.hunk_commands.specs.Relocating.{LacksMemory, ReadsShort, Relocates, RelocatesAll};
@@ -89,7 +89,7 @@ pub fn relocate<R: Source, W: Sink>(
     ensures tells_read { TellsReading (R.failed r.old) (R.failed r.new) result }
     ensures memory { IfErr result (λ fault. fault ≡ Memory → LacksMemory base limits.budget
         limits.file_bytes (R.left r.old) (R.left r.new) (R.failed r.new)) }
-    ensures own_reasons { IfErr result IsOfLoad }
+    ensures own_reasons { IfErr result IsRelocateFault }
 {
     let image = load(alloc, r, limits, &Packed { start: base })?;
     // The bytes of the image can be counted, and so can those of its listing.

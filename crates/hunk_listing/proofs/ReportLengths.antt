@@ -14,7 +14,7 @@ use Rattle.hunk_files.specs.declared.object.check.FindingKind.TheVariants.{BadTa
 use Rattle.hunk_files.specs.Findings.{body_findings, entry_findings, finding, findings, group_findings, hunk_bytes, hunk_findings, hunks_findings, outside, reference_width, relocation_findings, relocation_width, unit_findings, units_findings}
 use Rattle.hunk_files.specs.ObjectFile.{IsObjectFile, IsObjectHunk, IsUnit, ObjectFileValue, ObjectHunk, object_text, unit_header, unit_text}
 use Rattle.hunk_listing.specs.Printed.{hexadecimal}
-use Rattle.hunk_listing.specs.ReportLines.{count_line, finding_line, finding_name, object_report}
+use Rattle.hunk_listing.specs.ReportLines.{finding_line, finding_name, object_report, totals_line}
 use Rattle.hunk_listing.proofs.BlockLengths.{length-ext_parts, references_within}
 use Rattle.hunk_listing.proofs.FileLengths.{hunks_within, length-blocks, units_within}
 use Rattle.hunk_listing.proofs.LineLengths.{fits5, fits9, length-hexadecimal, length-number}
@@ -161,9 +161,9 @@ pub findings_within : (found : List Finding) → length found ≤ length (lines 
 findings_within [] = omega arith
 findings_within (f ∷ found) = omega (arith, length-append (finding_line f) (lines found), some_byte f, findings_within found)
 
-length-count_line : (units count : ℕ) → units < 2 ^ 64 → count < 2 ^ 88 → length (count_line units count) ≤ 96
-unfolding count_line
-length-count_line units count few fits =
+length-totals_line : (units count : ℕ) → units < 2 ^ 64 → count < 2 ^ 88 → length (totals_line units count) ≤ 96
+unfolding totals_line
+length-totals_line units count few fits =
     fits5 96 (codes "object file ") (decimal units) (codes " units ") (decimal count) (codes " findings\n")
     (omega (arith, length-number units (omega (arith, few)), length-number count fits))
 
@@ -176,6 +176,6 @@ object_report_fits o is few =
       arith,
       few,
       short,
-      length-append (lines (findings o)) (count_line (length o) (length (findings o))),
-      length-count_line (length o) (length (findings o)) (omega (arith, few, most)) (omega (arith, few, short, count)),
+      length-append (lines (findings o)) (totals_line (length o) (length (findings o))),
+      length-totals_line (length o) (length (findings o)) (omega (arith, few, most)) (omega (arith, few, short, count)),
     )

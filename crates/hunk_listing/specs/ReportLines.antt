@@ -24,9 +24,9 @@ finding_line finding =
     codes "unit " ++ decimal finding.unit ++ codes " hunk " ++ decimal finding.hunk ++ codes " offset " ++ hexadecimal finding.offset
     ++ codes " " ++ finding_name finding.fault ++ codes "\n"
 
--- `object file D units D findings`
-unfoldable pub count_line : ℕ → ℕ → List ℕ
-count_line units count = codes "object file " ++ decimal units ++ codes " units " ++ decimal count ++ codes " findings\n"
+-- `object file D units D findings`: how many units, and how much is found in them
+unfoldable pub totals_line : ℕ → ℕ → List ℕ
+totals_line units count = codes "object file " ++ decimal units ++ codes " units " ++ decimal count ++ codes " findings\n"
 
 abbrev pub object_report : ObjectFileValue → List ℕ
-object_report file = flat_map finding_line (findings file) ++ count_line (length file) (length (findings file))
+object_report file = flat_map finding_line (findings file) ++ totals_line (length file) (length (findings file))

@@ -34,8 +34,8 @@ fn encode(bytes: &[u8], digits: &mut [u8])
     requires { length digits.old ≡ 2 * length bytes.now }
     ensures { digits.new ≡ encode_lower bytes.now }
 {
-    'bytes: for i in 0..bytes.len() {
-        let pair = 2 * bytes[i] as usize;
+    'bytes: for (i, byte) in bytes.iter().enumerate() {
+        let pair = 2 * *byte as usize;
         let (high, low) = (PAIRS[pair], PAIRS[pair + 1]);
         digits[2 * i] = high;
         digits[2 * i + 1] = low;

@@ -112,7 +112,7 @@ fn put_attributes(line: &mut Line, attributes: u32)
 pub(crate) fn print_blocks<W: Sink>(page: &mut Printer<'_, W>, blocks: &[Block<'_>])
     ensures { Prints page.old page.new (flat_map block_lines blocks.now) }
 {
-    'listing: for block in blocks {
+    'lines: for block in blocks {
         print_block(page, block);
     }
 }

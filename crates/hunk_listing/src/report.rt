@@ -3,7 +3,8 @@ ghost use Rattle.std.specs.Prelude.{◌≡◌, ◌<◌, ◌≤◌, ◌^◌, ◌+
 ghost use Rattle.std.proofs.Common.{◌∙◌, refl};
 ghost use Rattle.hunk_words.specs.Prints.{Prints};
 ghost use Rattle.hunk_files.specs.Findings.{findings};
-ghost use Rattle.hunk_listing.specs.ReportLines.{count_line, finding_line, finding_name, load_summary, object_report};
+ghost use Rattle.hunk_listing.specs.ReportLines.{finding_line, finding_name, load_summary};
+ghost use Rattle.hunk_listing.specs.ReportLines.{object_report, totals_line};
 ghost use Rattle.hunk_listing.specs.Reporting.{Reports, reports_none, reports_more};
 
 use crate::line::Line;
@@ -29,7 +30,7 @@ pub fn print_object_report<W: Sink>(page: &mut Printer<'_, W>, file: &ObjectFile
     let mut lines = FindingLines { page, count: 0 };
     file.check_with(&mut lines);
     let FindingLines { page, count } = lines;
-    print_count(page, file.units().len(), count);
+    print_totals(page, file.units().len(), count);
     count
 }
 
@@ -83,9 +84,9 @@ fn finding_end(fault: FindingKind) -> &'static str
     }
 }
 
-#[tactic(auto, unfolding(crate::specs::ReportLines::count_line))]
-fn print_count<W: Sink>(page: &mut Printer<'_, W>, units: usize, count: u64)
-    ensures { Prints page.old page.new (count_line units count) }
+#[tactic(auto, unfolding(crate::specs::ReportLines::totals_line))]
+fn print_totals<W: Sink>(page: &mut Printer<'_, W>, units: usize, count: u64)
+    ensures { Prints page.old page.new (totals_line units count) }
 {
     let mut line = Line::new();
     line.put(b"object file ");

@@ -1,7 +1,7 @@
 //! The lines that `relocate` prints of its segments.
 ghost use Rattle.std.specs.Prelude.{◌≡◌, ◌≤◌, length, codes, decimal};
 ghost use Rattle.hunk_words.specs.Prints.{Prints};
-ghost use Rattle.hunk_listing.specs.SegmentLines.{dump, heading, row, segment_lines};
+ghost use Rattle.hunk_listing.specs.SegmentLines.{dump, dump_row, segment_line, segment_lines};
 
 use crate::digits::put_digits;
 use crate::line::Line;
@@ -15,13 +15,13 @@ pub fn print_segment<W: Sink>(page: &mut Printer<'_, W>, number: u32, base: u32,
     ensures { Prints page.old page.new
         (segment_lines number (record { base = base; bytes = bytes.now })) }
 {
-    print_heading(page, number, base, bytes.len());
+    print_segment_line(page, number, base, bytes.len());
     print_dump(page, bytes);
 }
 
-#[tactic(auto, unfolding(crate::specs::SegmentLines::heading))]
-fn print_heading<W: Sink>(page: &mut Printer<'_, W>, number: u32, base: u32, len: usize)
-    ensures { Prints page.old page.new (heading number base len) }
+#[tactic(auto, unfolding(crate::specs::SegmentLines::segment_line))]
+fn print_segment_line<W: Sink>(page: &mut Printer<'_, W>, number: u32, base: u32, len: usize)
+    ensures { Prints page.old page.new (segment_line number base len) }
 {
     let mut line = Line::new();
     line.put(b"hunk ");
@@ -44,7 +44,7 @@ fn print_dump<W: Sink>(page: &mut Printer<'_, W>, bytes: &[u8])
 
 fn print_row<W: Sink>(page: &mut Printer<'_, W>, bytes: &[u8])
     requires { length bytes.now ≤ ROW }
-    ensures { Prints page.old page.new (row bytes.now) }
+    ensures { Prints page.old page.new (dump_row bytes.now) }
 {
     match bytes.first_chunk::<ROW>() {
         Some(whole) => print_whole_row(page, whole),
@@ -54,19 +54,19 @@ fn print_row<W: Sink>(page: &mut Printer<'_, W>, bytes: &[u8])
 
 /// Prints a row of 16 bytes: apart from a shorter one, so that all its lengths are known where it
 /// is compiled.
-#[tactic(auto, unfolding(crate::specs::SegmentLines::row))]
+#[tactic(auto, unfolding(crate::specs::SegmentLines::dump_row))]
 fn print_whole_row<W: Sink>(page: &mut Printer<'_, W>, bytes: &[u8; ROW])
-    ensures { Prints page.old page.new (row bytes.now) }
+    ensures { Prints page.old page.new (dump_row bytes.now) }
 {
     let mut line = *b"  00000000000000000000000000000000\n";
     put_digits(line.as_mut_slice(), 2, bytes);
     page.print(&line);
 }
 
-#[tactic(auto, unfolding(crate::specs::SegmentLines::row))]
+#[tactic(auto, unfolding(crate::specs::SegmentLines::dump_row))]
 fn print_short_row<W: Sink>(page: &mut Printer<'_, W>, bytes: &[u8])
     requires { length bytes.now ≤ ROW }
-    ensures { Prints page.old page.new (row bytes.now) }
+    ensures { Prints page.old page.new (dump_row bytes.now) }
 {
     let mut line = [b' '; 2 * ROW + 3];
     let end = 2 + 2 * bytes.len();

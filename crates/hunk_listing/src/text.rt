@@ -1,8 +1,10 @@
 //! Numbers and names, printed.
-ghost use Rattle.std.specs.Prelude.{◌≡◌, ◌≤◌, ◌<◌, ◌+◌, ◌*◌, ◌++◌, false, length, take, drop, slice_index, codes};
+ghost use Rattle.std.specs.Prelude.{◌≡◌, ◌≤◌, ◌<◌, ◌+◌, ◌*◌, ◌++◌, false, length, take, drop};
+ghost use Rattle.std.specs.Prelude.{codes, slice_index};
 ghost use Rattle.hunk_words.specs.Prints.{Prints};
 ghost use Rattle.hunk_words.specs.Longs.{longs};
-ghost use Rattle.hunk_listing.specs.Printed.{character, characters, hexadecimal, is_plain, name_text};
+ghost use Rattle.hunk_listing.specs.Printed.{character, characters, hexadecimal, is_plain};
+ghost use Rattle.hunk_listing.specs.Printed.{name_text};
 
 use crate::digits::put_digits;
 use crate::line::{LINE, Line};
@@ -72,8 +74,8 @@ fn plain_length(bytes: &[u8]) -> usize
     ensures within { result ≤ length bytes.now }
     ensures end { result < length bytes.now → is_plain (slice_index bytes.now result) ≡ false }
 {
-    'bytes: for i in 0..bytes.len() {
-        if !is_plain(bytes[i]) {
+    'bytes: for (i, byte) in bytes.iter().enumerate() {
+        if !is_plain(*byte) {
             return i;
         }
     }

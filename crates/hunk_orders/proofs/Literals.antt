@@ -1,4 +1,4 @@
--- Words that are taken, and the orders that they are.
+-- Words that are words_read, and the orders that they are.
 use Rattle.std.proofs.Common.{◌≡◌, List, Some, None, true, false, refl, codes, [], ◌∷◌}
 use Rattle.clap.specs.Words.{Text, takes}
 use Rattle.clap.specs.Faults.{fault_of}
@@ -6,9 +6,9 @@ use Rattle.clap.specs.declared.error.kind.ErrorKind.TheVariants as kind
 use Rattle.clap.proofs.OnLiterals.{clap_on_literals}
 use Rattle.hunk_orders.specs.declared.asked.Order.TheVariants.{Relocate, Rewrite, Show}
 use Rattle.hunk_orders.specs.Command.{hunkinfo}
-use Rattle.hunk_orders.specs.Line.{order_of, taken}
+use Rattle.hunk_orders.specs.Line.{order_of, words_read}
 
-stored_taken : takes hunkinfo (taken []) ≡ true
+stored_taken : takes hunkinfo (words_read []) ≡ true
 unfolding clap_on_literals
 stored_taken = refl
 
@@ -19,7 +19,7 @@ stored_order = refl
 abbrev show_words : List Text
 show_words = codes "hunkinfo" ∷ codes "show" ∷ codes "--hex" ∷ codes "a" ∷ []
 
-show_taken : takes hunkinfo (taken show_words) ≡ true
+show_taken : takes hunkinfo (words_read show_words) ≡ true
 unfolding clap_on_literals
 show_taken = refl
 
@@ -32,11 +32,11 @@ rewrite_order : order_of (codes "x" ∷ codes "rewrite" ∷ codes "a" ∷ codes 
 unfolding clap_on_literals
 rewrite_order = refl
 
--- words that are taken and no order
+-- words that are words_read and no order
 abbrev short_base : List Text
 short_base = codes "hunkinfo" ∷ codes "relocate" ∷ codes "--base" ∷ codes "1000" ∷ []
 
-short_base_taken : takes hunkinfo (taken short_base) ≡ true
+short_base_taken : takes hunkinfo (words_read short_base) ≡ true
 unfolding clap_on_literals
 short_base_taken = refl
 
@@ -44,14 +44,14 @@ short_base_none : order_of short_base ≡ None
 unfolding clap_on_literals
 short_base_none = refl
 
--- a misspelt subcommand is not taken, and fails by no help
+-- a misspelt subcommand is not words_read, and fails by no help
 abbrev bogus : List Text
 bogus = codes "hunkinfo" ∷ codes "bogus" ∷ []
 
-bogus_not_taken : takes hunkinfo (taken bogus) ≡ false
+bogus_not_taken : takes hunkinfo (words_read bogus) ≡ false
 unfolding clap_on_literals
 bogus_not_taken = refl
 
-bogus_fails : fault_of hunkinfo (taken bogus) ≡ kind.UnknownArgument ∷ kind.InvalidSubcommand ∷ []
+bogus_fails : fault_of hunkinfo (words_read bogus) ≡ kind.UnknownArgument ∷ kind.InvalidSubcommand ∷ []
 unfolding clap_on_literals
 bogus_fails = refl

@@ -15,8 +15,8 @@ abbrev pub stored : List Text
 stored = codes "hunkinfo" ∷ codes "relocate" ∷ codes "--hex" ∷ codes "--base" ∷ codes "00000000" ∷ []
 
 -- the words that are read: the stored ones where at most the program's name is there
-abbrev pub taken : List Text → List Text
-taken words = if nat_lt (length words) 2 then stored else words
+abbrev pub words_read : List Text → List Text
+words_read words = if nat_lt (length words) 2 then stored else words
 
 -- the flag is there
 abbrev pub is_set : Text → List Row → Bool
@@ -72,4 +72,4 @@ entered_order entered = option_and_then (λ p. named_order p.0 p.1) entered
 
 -- the order that these words are, where they are one
 abbrev pub order_of : List Text → Option Order
-order_of words = entered_order (subcommand_of hunkinfo (taken words))
+order_of words = entered_order (subcommand_of hunkinfo (words_read words))

@@ -1,15 +1,14 @@
 //! The order that the words of a command line are.
-ghost use Rattle.std.specs.Prelude.{◌≡◌, ◌⊎◌, [], ◌∷◌, IfOk, IfErr, IsErrAnd, OnOk, map, true};
+ghost use Rattle.std.specs.Prelude.{◌≡◌, IfOk, IfErr, map, true};
 ghost use Rattle.std.specs.String.{string_bytes};
 ghost use Rattle.clap.specs.Words.{found_of, kind_of, rows_of, subcommand_of, takes};
 ghost use Rattle.clap.specs.Simple.{subcommand_rows_of};
-ghost use Rattle.clap.specs.Kinds.{IsAmong};
-ghost use Rattle.clap.specs.Faults.{fault_of as clap_fault};
 ghost use Rattle.hunk_orders.specs.Command as spec;
-ghost use Rattle.hunk_orders.specs.Asked.{IsHelp, IsHelpOrMemory};
+ghost use Rattle.hunk_orders.specs.Asked.{AnswersOrder, FollowsClap, IsHelp, IsHelpOrMemory};
+ghost use Rattle.hunk_orders.specs.Asked.{RefusesOrder};
 ghost use Rattle.hunk_orders.specs.Line.{entered_order, order_of, relocate_order, rewrite_order};
-ghost use Rattle.hunk_orders.specs.Line.{show_order, taken, validate_order};
-ghost use Rattle.hunk_orders.specs.declared.asked.OrderFault.TheVariants.{Line, Memory};
+ghost use Rattle.hunk_orders.specs.Line.{show_order, validate_order, words_read};
+ghost use Rattle.hunk_orders.specs.declared.asked.OrderFault.TheVariants.{Memory};
 
 mod command;
 mod matches;
@@ -31,8 +30,7 @@ const DEFAULT_BUDGET: u64 = 16_777_216;
 static STORED: [&str; 5] = ["hunkinfo", "relocate", "--hex", "--base", "00000000"];
 
 fn show_order(alloc: Global, found: &ArgMatches<'_>) -> Result<Order, OrderFault>
-    ensures ok { IfOk result (λ order. show_order (rows_of (found_of found.now)) ≡ Some order) }
-    ensures err { IfErr result (λ fault. fault ≡ Memory) }
+    ensures { AnswersOrder (show_order (rows_of (found_of found.now))) result }
 {
     Ok(Order::Show {
         hex: is_set(found, "hex"),
@@ -41,8 +39,7 @@ fn show_order(alloc: Global, found: &ArgMatches<'_>) -> Result<Order, OrderFault
 }
 
 fn validate_order(alloc: Global, found: &ArgMatches<'_>) -> Result<Order, OrderFault>
-    ensures ok { IfOk result (λ order. validate_order (rows_of (found_of found.now)) ≡ Some order) }
-    ensures err { IfErr result (λ fault. fault ≡ Memory) }
+    ensures { AnswersOrder (validate_order (rows_of (found_of found.now))) result }
 {
     Ok(Order::Validate {
         hex: is_set(found, "hex"),
@@ -51,10 +48,7 @@ fn validate_order(alloc: Global, found: &ArgMatches<'_>) -> Result<Order, OrderF
 }
 
 fn relocate_order(alloc: Global, found: &ArgMatches<'_>) -> Result<Order, OrderFault>
-    ensures ok { IfOk result (λ order. relocate_order (rows_of (found_of found.now)) ≡ Some order) }
-    ensures err { IfErr result
-        (λ fault. (fault ≡ Memory)
-        ⊎ ((fault ≡ Line) × (relocate_order (rows_of (found_of found.now)) ≡ None))) }
+    ensures { AnswersOrder (relocate_order (rows_of (found_of found.now))) result }
 {
     let base = match text_of(found, "base") {
         Some(text) => base_of(text).ok_or(OrderFault::Line)?,
@@ -73,10 +67,7 @@ fn relocate_order(alloc: Global, found: &ArgMatches<'_>) -> Result<Order, OrderF
 }
 
 fn rewrite_order(alloc: Global, found: &ArgMatches<'_>) -> Result<Order, OrderFault>
-    ensures ok { IfOk result (λ order. rewrite_order (rows_of (found_of found.now)) ≡ Some order) }
-    ensures err { IfErr result
-        (λ fault. (fault ≡ Memory)
-        ⊎ ((fault ≡ Line) × (rewrite_order (rows_of (found_of found.now)) ≡ None))) }
+    ensures { AnswersOrder (rewrite_order (rows_of (found_of found.now))) result }
 {
     let Some(input) = name_of(alloc, found, "IN")? else {
         return Err(OrderFault::Line);
@@ -111,13 +102,9 @@ fn fault_of(alloc: Global, error: &Error) -> OrderFault
 fn matches_in<'w, S: AsStr>(alloc: Global, words: &'w [S]) -> Result<ArgMatches<'w>, OrderFault>
     ensures found { IfOk result (λ found. subcommand_rows_of found
         ≡ subcommand_of spec.hunkinfo (map S.text words.entry.now)) }
-    ensures clean { OnOk result (clap_fault spec.hunkinfo (map S.text words.entry.now) ≡ []) }
     ensures err { IfErr result
         (λ fault. takes spec.hunkinfo (map S.text words.entry.now) ≡ true → fault ≡ Memory) }
-    ensures asked { IfErr result (λ fault. IsHelp fault
-        → IsAmong ErrorKind.DisplayHelp (clap_fault spec.hunkinfo (map S.text words.entry.now))) }
-    ensures help { clap_fault spec.hunkinfo (map S.text words.entry.now)
-        ≡ ErrorKind.DisplayHelp ∷ [] → IsErrAnd result IsHelpOrMemory }
+    ensures clap { FollowsClap (map S.text words.entry.now) result }
 {
     match hunkinfo(alloc)?.try_get_matches_from(words) {
         Ok(found) => Ok(found),
@@ -127,10 +114,7 @@ fn matches_in<'w, S: AsStr>(alloc: Global, words: &'w [S]) -> Result<ArgMatches<
 
 /// The order of the subcommand that clap found.
 fn chosen_order(alloc: Global, found: &ArgMatches<'_>) -> Result<Order, OrderFault>
-    ensures ok { IfOk result
-        (λ order. entered_order (subcommand_rows_of found.now) ≡ Some order) }
-    ensures err { IfErr result (λ fault. (fault ≡ Memory)
-        ⊎ ((fault ≡ Line) × (entered_order (subcommand_rows_of found.now) ≡ None))) }
+    ensures { AnswersOrder (entered_order (subcommand_rows_of found.now)) result }
 {
     match found.subcommand() {
         Some((name, found)) => match name {
@@ -148,19 +132,11 @@ fn order_in<S: AsStr>(alloc: Global, words: &[S]) -> Result<Order, OrderFault>
     ensures ok { IfOk result
         (λ order. entered_order (subcommand_of spec.hunkinfo (map S.text words.now)) ≡ Some order) }
     ensures err { IfErr result (λ fault. takes spec.hunkinfo (map S.text words.now) ≡ true
-        → (fault ≡ Memory) ⊎ ((fault ≡ Line)
-        × (entered_order (subcommand_of spec.hunkinfo (map S.text words.now)) ≡ None))) }
-    ensures asked { IfErr result
-        (λ fault. IsHelp fault
-        → IsAmong ErrorKind.DisplayHelp (clap_fault spec.hunkinfo (map S.text words.now))) }
-    ensures clean { OnOk result (clap_fault spec.hunkinfo (map S.text words.now) ≡ []) }
-    ensures help { clap_fault spec.hunkinfo (map S.text words.now) ≡ ErrorKind.DisplayHelp ∷ []
-        → IsErrAnd result IsHelpOrMemory }
+        → RefusesOrder (entered_order (subcommand_of spec.hunkinfo (map S.text words.now))) fault) }
+    ensures clap { FollowsClap (map S.text words.now) result }
 {
-    match matches_in(alloc, words) {
-        Ok(found) => chosen_order(alloc, &found),
-        Err(fault) => Err(fault),
-    }
+    let found = matches_in(alloc, words)?;
+    chosen_order(alloc, &found)
 }
 
 /// The order that the words are, of which the first is the program's name. Where no word follows
@@ -174,15 +150,9 @@ fn order_in<S: AsStr>(alloc: Global, words: &[S]) -> Result<Order, OrderFault>
 pub fn order(alloc: Global, words: &[String]) -> Result<Order, OrderFault>
     ensures ok { IfOk result (λ order. order_of (map string_bytes words.now) ≡ Some order) }
     ensures err { IfErr result
-        (λ fault. takes spec.hunkinfo (taken (map string_bytes words.now)) ≡ true
-        → (fault ≡ Memory) ⊎ ((fault ≡ Line) × (order_of (map string_bytes words.now) ≡ None))) }
-    ensures asked { IfErr result
-        (λ fault. IsHelp fault → IsAmong ErrorKind.DisplayHelp
-        (clap_fault spec.hunkinfo (taken (map string_bytes words.now)))) }
-    ensures clean { OnOk result
-        (clap_fault spec.hunkinfo (taken (map string_bytes words.now)) ≡ []) }
-    ensures help { clap_fault spec.hunkinfo (taken (map string_bytes words.now))
-        ≡ ErrorKind.DisplayHelp ∷ [] → IsErrAnd result IsHelpOrMemory }
+        (λ fault. takes spec.hunkinfo (words_read (map string_bytes words.now)) ≡ true
+        → RefusesOrder (order_of (map string_bytes words.now)) fault) }
+    ensures clap { FollowsClap (words_read (map string_bytes words.now)) result }
 {
     if words.len() < 2 {
         order_in(alloc, STORED.as_slice())

@@ -12,7 +12,7 @@ use Rattle.hunk_commands.specs.Output.{Takes}
 use Rattle.hunkinfo.specs.Status.{TellsStatus}
 use Rattle.hunkinfo.specs.declared.run.listing.Listing.{Listing}
 use Rattle.hunkinfo.specs.declared.run.listing.Listing.TheVariants as listings
-use Rattle.hunk_commands.specs.HexText.{Spells}
+use Rattle.hunk_commands.specs.HexText.{SpellsHex}
 use Rattle.hunk_commands.specs.Relocating.{RelocatesAll}
 use Rattle.hunkinfo.specs.Runs.{IsListed, ListsSource, StopsReading}
 
@@ -38,8 +38,8 @@ pub lists_source : {W : Type 0} (taken : W → Option (List ℕ)) (old new : Wri
     WritesAll Is a b most (taken old.sink) (taken new.sink) written → ListsSource false listing a b taken old new
 lists_source taken old new listing Is a b most written listed at_end all = record {
   given = all.0.input;
-  consumed = all.0.given;
-  stops = at_end all.0.input all.0.at_end;
+  consumed = all.0.read.given;
+  stops = at_end all.0.input all.0.read.at_end;
   input = all.0.input;
   is_input = refl;
   text = all.0.text;
@@ -86,7 +86,7 @@ listed_slice listing bytes given written None consumed stops is = absurd consume
 
 -- the text of a source spells the bytes of which this is printed
 pub lists_text : {W : Type 0} (taken : W → Option (List ℕ)) (old new : Writing W) (listing : Listing) (a b c d : Option (List ℕ)) (given bytes : List ℕ) →
-    Consumes a b given → IsAtEnd b → Spells given bytes → c ≡ Some bytes → ListsSource false listing c d taken old new → ListsSource true listing a b taken old new
+    Consumes a b given → IsAtEnd b → SpellsHex given bytes → c ≡ Some bytes → ListsSource false listing c d taken old new → ListsSource true listing a b taken old new
 lists_text taken old new listing a b c d given bytes consumed at_end spells known lists = record {
   given = given;
   consumed = consumed;

@@ -1,6 +1,5 @@
 -- Why nothing is printed of an input. Of its source a was left before and b is left now; `failed` is whether it has failed.
-use Rattle.std.specs.Prelude.{◌≡◌, ◌⊎◌, ◌+◌, ◌≤◌, ℕ, Bool, true, false, List, Option, Some, length}
-use Rattle.std.specs.Io.KnownBytes.{Consumes, IsAtEnd}
+use Rattle.std.specs.Prelude.{◌≡◌, ◌⊎◌, ◌+◌, ℕ, Bool, true, false, List, Option, Some}
 use Rattle.hunk_words.specs.declared.fault.Fault.{Fault}
 use Rattle.hunk_words.specs.declared.reason.Reason.TheVariants.{FileLimit}
 use Rattle.hunk_scatter.specs.LoadOutcomes.{Gives, IsLoadFault}
@@ -8,7 +7,7 @@ use Rattle.hunk_commands.specs.declared.fault.RunFault.TheVariants.{Refused}
 use Rattle.hunkinfo.specs.declared.run.listing.Listing.{Listing}
 use Rattle.hunkinfo.specs.declared.run.listing.Listing.TheVariants as listings
 use Rattle.hunk_commands.specs.Engine.{RefusesOnly}
-use Rattle.hunk_commands.specs.HexText.{Spells}
+use Rattle.hunk_commands.specs.HexText.{ReadsHex}
 use Rattle.hunk_commands.specs.Inputs.{Gave}
 use Rattle.hunk_commands.specs.Relocating.{packed}
 
@@ -21,12 +20,8 @@ RefusesListing (listings.Relocate base budget) refusal a b most failed =
 
 -- its text, of at most so many bytes, spells bytes that are refused
 pub record RefusesSpelled (listing : Listing) (refusal : Fault) (a b : Option (List ℕ)) (most : ℕ) : Type 0 where
-  pub text : List ℕ
-  pub consumed : Consumes a b text
-  pub at_end : IsAtEnd b
-  pub few : length text ≤ most
   pub bytes : List ℕ
-  pub spells : Spells text bytes
+  pub read : ReadsHex a b (most + 1) bytes
   pub left : Option (List ℕ)
   pub refuses : RefusesListing listing refusal (Some bytes) left most false
 

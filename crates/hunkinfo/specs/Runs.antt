@@ -1,5 +1,5 @@
 -- What a run has done: its output is a writer that is old before it and new after it. `taken` tells the bytes that a sink has taken, and `failed` whether it has failed.
-use Rattle.std.specs.Prelude.{◌≡◌, ◌⊎◌, ◌+◌, ◌++◌, ⊤, ℕ, Bool, true, false, List, Option, length, codes, string_bytes}
+use Rattle.std.specs.Prelude.{◌≡◌, ◌⊎◌, ◌+◌, ◌++◌, ℕ, Bool, true, false, List, Option, length, codes, string_bytes}
 use Rattle.std.specs.Io.KnownBytes.{Consumes, IsAtEnd}
 use Rattle.hunk_words.specs.Carriers.{Writing}
 use Rattle.hunk_words.specs.Longs.{bytes_of}
@@ -15,7 +15,7 @@ use Rattle.hunk_commands.specs.declared.fault.RunFault.TheVariants as faults
 use Rattle.hunkinfo.specs.declared.run.listing.Listing.{Listing}
 use Rattle.hunkinfo.specs.declared.run.listing.Listing.TheVariants as listings
 use Rattle.hunk_commands.specs.Faults.{line_of}
-use Rattle.hunk_commands.specs.HexText.{Spells, SpellsNone}
+use Rattle.hunk_commands.specs.HexText.{ReadsNoHex, SpellsHex}
 use Rattle.hunk_commands.specs.Inputs.{Gave}
 use Rattle.hunk_commands.specs.Shown.{IsShown}
 use Rattle.hunk_commands.specs.Output.{Takes}
@@ -23,13 +23,13 @@ use Rattle.hunk_commands.specs.Relocating.{IsRelocated}
 use Rattle.hunk_commands.specs.Rewritten.{IsRewritten}
 use Rattle.hunk_commands.specs.Validated.{IsValidated}
 use Rattle.hunk_listing.specs.RewritingLines.{left_out_line, wrote_line}
-use Rattle.hunkinfo.specs.Status.{Prints, with_newline}
+use Rattle.hunkinfo.specs.Status.{PrintsOrFails, with_newline}
 
 -- what is printed where the words are no order, and the status
 abbrev pub PrintsRefusal : {W : Type 0} → (W → Option (List ℕ)) → (W → Bool) → Writing W → Writing W → OrderFault → ℕ → Type 0
-PrintsRefusal taken failed old new Line status = Prints taken failed old new (with_newline (codes "command line refused")) 2 status
-PrintsRefusal taken failed old new (Help text) status = Prints taken failed old new (string_bytes text) 0 status
-PrintsRefusal taken failed old new Memory status = Prints taken failed old new (with_newline (line_of faults.Memory)) 4 status
+PrintsRefusal taken failed old new Line status = PrintsOrFails taken failed old new (with_newline (codes "command line refused")) 2 status
+PrintsRefusal taken failed old new (Help text) status = PrintsOrFails taken failed old new (string_bytes text) 0 status
+PrintsRefusal taken failed old new Memory status = PrintsOrFails taken failed old new (with_newline (line_of faults.Memory)) 4 status
 
 -- what is printed of an input in which nothing is amiss
 abbrev pub IsListed : Listing → List ℕ → List ℕ → Type 0
@@ -65,14 +65,14 @@ IsDone taken old new (orders.Validate hex file) = Lists taken old new listings.V
 IsDone taken old new (orders.Relocate hex base budget file) = Lists taken old new (listings.Relocate base budget)
 IsDone taken old new (orders.Rewrite strip input output) = Rewrites taken old new strip
 
--- the words are no order, or memory was wanting; no help is printed
+-- the words are no order, or memory ran out; no help is printed
 abbrev pub PrintsNoHelp : {W : Type 0} → (W → Option (List ℕ)) → (W → Bool) → Writing W → Writing W → ℕ → Type 0
 PrintsNoHelp taken failed old new status =
     PrintsRefusal taken failed old new Line status ⊎ PrintsRefusal taken failed old new Memory status
 
 -- the bytes of the input, which what was given is, or where `hex` is set spells
 abbrev pub IsInput : Bool → List ℕ → List ℕ → Type 0
-IsInput true given input = Spells given input
+IsInput true given input = SpellsHex given input
 IsInput false given input = input ≡ given
 
 -- Where the reading stops: at the end of the source, or right behind a load file that is loaded as it comes.
@@ -96,7 +96,4 @@ pub record ListsSource {W : Type 0} (hex : Bool) (listing : Listing) (a b : Opti
 -- why no bytes were read that a text of at most so many bytes spells; `failed` is whether the source failed
 abbrev pub ReadsNoText : RunFault → Option (List ℕ) → Option (List ℕ) → ℕ → Bool → Type 0
 ReadsNoText (faults.Refused refusal) a b most failed = (refusal.reason ≡ reasons.FileLimit) × (refusal.place ≡ most) × Gave a b (most + 1)
-ReadsNoText (faults.Read place) a b most failed = (failed ≡ true) × Gave a b place
-ReadsNoText faults.Memory a b most failed = ⊤
-ReadsNoText (faults.Write written) a b most failed = ⊥
-ReadsNoText faults.HexText a b most failed = SpellsNone a b (most + 1)
+ReadsNoText fault a b most failed = ReadsNoHex fault a b (most + 1) failed

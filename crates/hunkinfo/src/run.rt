@@ -6,9 +6,9 @@ ghost use Rattle.clap.specs.Kinds.{IsAmong};
 ghost use Rattle.clap.specs.Faults.{fault_of};
 ghost use Rattle.clap.specs.declared.error.kind.ErrorKind.TheVariants.{DisplayHelp};
 ghost use Rattle.hunk_orders.specs.declared.asked.Order.{Order};
-ghost use Rattle.hunkinfo.specs.Status.{Prints, TellsStatus};
+ghost use Rattle.hunkinfo.specs.Status.{PrintsOrFails, TellsStatus};
 ghost use Rattle.hunk_orders.specs.Command.{hunkinfo};
-ghost use Rattle.hunk_orders.specs.Line.{order_of, taken};
+ghost use Rattle.hunk_orders.specs.Line.{order_of, words_read};
 ghost use Rattle.hunkinfo.specs.Runs.{IsDone, Lists, PrintsNoHelp, PrintsRefusal};
 
 mod listing;
@@ -50,17 +50,17 @@ pub(crate) fn run<T: Files + Input, W: Sink>(
 
     // Where clap takes the words: they are an order, which is done where the status is 0, or they
     // are refused.
-    ensures done { (order : Order) → takes hunkinfo (taken (map string_bytes words.now)) ≡ true
+    ensures done { (order : Order) → takes hunkinfo (words_read (map string_bytes words.now)) ≡ true
         → order_of (map string_bytes words.now) ≡ Some order → result ≡ 0
         → IsDone W.taken out.old out.new order }
-    ensures refused { takes hunkinfo (taken (map string_bytes words.now)) ≡ true
+    ensures refused { takes hunkinfo (words_read (map string_bytes words.now)) ≡ true
         → order_of (map string_bytes words.now) ≡ None
         → PrintsNoHelp W.taken W.failed out.old out.new result }
 
     // Where no help is asked for, the status is 0 only where the words are an order, and it is
     // done.
-    ensures heard { (IsAmong DisplayHelp (fault_of hunkinfo (taken (map string_bytes words.now)))
-        → ⊥) → result ≡ 0
+    ensures heard { (IsAmong DisplayHelp
+        (fault_of hunkinfo (words_read (map string_bytes words.now))) → ⊥) → result ≡ 0
         → (order : Order) × (order_of (map string_bytes words.now) ≡ Some order)
         × IsDone W.taken out.old out.new order }
 {
@@ -70,7 +70,7 @@ pub(crate) fn run<T: Files + Input, W: Sink>(
     }
 }
 
-/// Prints why there is no order, and gives the exit status.
+/// PrintsOrFails why there is no order, and gives the exit status.
 pub(crate) fn refuse<W: Sink>(fault: &OrderFault, out: &mut LongWriter<W>) -> u8
     requires { out.old.written ≡ 0 }
     ensures bound { result ≤ 4 }
@@ -123,7 +123,7 @@ fn obey<T: Files + Input, W: Sink>(
     }
 }
 
-/// Prints what is listed, or why it can't be.
+/// PrintsOrFails what is listed, or why it can't be.
 fn list<T: Files + Input, W: Sink>(
     rt: &T,
     alloc: Global,
@@ -145,7 +145,7 @@ fn list<T: Files + Input, W: Sink>(
     }
 }
 
-/// Prints the fault's line, and gives the fault's status.
+/// PrintsOrFails the fault's line, and gives the fault's status.
 fn report<W: Sink>(alloc: Global, fault: RunFault, out: &mut LongWriter<W>) -> u8
     requires { out.old.written ≡ 0 }
     ensures bound { (0 < result) × (result ≤ 4) }
@@ -157,12 +157,12 @@ fn report<W: Sink>(alloc: Global, fault: RunFault, out: &mut LongWriter<W>) -> u
     }
 }
 
-/// Prints the text, the first on this writer, and gives the status, which is 3 where that fails.
+/// PrintsOrFails the text, the first on this writer, and gives the status, which is 3 where that fails.
 fn print<W: Sink>(text: &str, status: u8, out: &mut LongWriter<W>) -> u8
     requires first { out.old.written ≡ 0 }
     requires bound { status ≤ 4 }
     ensures bound { result ≤ 4 }
-    ensures printed { Prints W.taken W.failed out.old out.new text.now status result }
+    ensures printed { PrintsOrFails W.taken W.failed out.old out.new text.now status result }
 {
     match out.put_bytes(text.as_bytes()) {
         Ok(()) => status,

@@ -58,7 +58,7 @@ To rewrite a file in its own place, rename what was written where that succeeds:
 Example, without names, symbols and debug data:
   hunkinfo rewrite --strip prog prog.stripped";
 
-// `--name`.
+/// `--name`.
 fn flag<'a>(alloc: Global, name: &'a str, help: &'a str) -> Arg<'a>
     ensures rule { rule_of result ≡ spec.flag name.entry.now }
     ensures local { result.global ≡ false }
@@ -69,7 +69,7 @@ fn flag<'a>(alloc: Global, name: &'a str, help: &'a str) -> Arg<'a>
         .help(help)
 }
 
-// `--name VALUE`.
+/// `--name VALUE`.
 fn option<'a>(alloc: Global, name: &'a str, value: &'a str, help: &'a str) -> Arg<'a>
     ensures rule { rule_of result ≡ spec.option name.entry.now }
     ensures local { result.global ≡ false }

@@ -2,7 +2,7 @@
 ghost use Rattle.std.specs.Prelude.{◌≡◌, ◌==◌, slice_index};
 ghost use Rattle.hunk_orders.specs.Line.{base_spelled, budget_spelled};
 
-// `from_str_radix` and `parse` pass over a plus.
+/// Whether the text begins with a plus, which `from_str_radix` and `parse` pass over.
 fn has_plus(text: &str) -> bool
     ensures { result ≡ (slice_index text.now 0 == 43) }
 {

@@ -1,10 +1,9 @@
 //! The commands that print what they find in one input.
-ghost use Rattle.std.specs.Prelude.{◌≡◌, ◌≢◌, ◌≤◌, ◌+◌, IfErr, IfOk, false};
+ghost use Rattle.std.specs.Prelude.{◌≡◌, ◌≢◌, ◌+◌, IfErr, IfOk, false};
 ghost use Rattle.hunk_words.specs.declared.fault.Fault.{Fault};
 ghost use Rattle.hunk_commands.specs.declared.fault.RunFault.TheVariants.{HexText, Refused};
 ghost use Rattle.hunk_commands.specs.HexText.{ReadsHex, SpellsNone};
-ghost use Rattle.hunk_commands.specs.Output.{StopsOutput};
-ghost use Rattle.hunkinfo.specs.Status.{TellsStatus};
+ghost use Rattle.hunkinfo.specs.Status.{TellsOutcome};
 ghost use Rattle.hunkinfo.specs.Refusals.{RefusesListing, RefusesSource};
 ghost use Rattle.hunkinfo.specs.Runs.{Lists, ListsSource, ReadsNoText};
 
@@ -41,10 +40,8 @@ pub(super) fn list_file<T: Files + Input, W: Sink>(
     out: &mut LongWriter<W>,
 ) -> Result<u8, RunFault>
     requires { out.old.written ≡ 0 }
-    ensures bound { IfOk result (λ status. status ≤ 4) }
+    ensures outcome { TellsOutcome W.taken W.failed out.old out.new result }
     ensures done { IfOk result (λ status. status ≡ 0 → Lists W.taken out.old out.new listing) }
-    ensures tells { IfOk result (TellsStatus W.taken W.failed out.old out.new) }
-    ensures fails { IfErr result (StopsOutput W.failed out.old out.new) }
 {
     let Some(name) = file else {
         return list_source(alloc, listing, &mut FromRead::new(rt.reader()), hex, out);
@@ -67,12 +64,10 @@ fn list_source<R: Source, W: Sink>(
     out: &mut LongWriter<W>,
 ) -> Result<u8, RunFault>
     requires { out.old.written ≡ 0 }
-    ensures bound { IfOk result (λ status. status ≤ 4) }
+    ensures outcome { TellsOutcome W.taken W.failed out.old out.new result }
     ensures done { IfOk result
         (λ status. status ≡ 0
         → ListsSource hex listing (R.left source.old) (R.left source.new) W.taken out.old out.new) }
-    ensures tells { IfOk result (TellsStatus W.taken W.failed out.old out.new) }
-    ensures fails { IfErr result (StopsOutput W.failed out.old out.new) }
     ensures refused { IfErr result (λ fault. (refusal : Fault) → fault ≡ Refused refusal
         → RefusesSource hex listing refusal (R.left source.old) (R.left source.new)
         FILE_BYTES (R.failed source.new)) }
@@ -111,13 +106,11 @@ fn list_bytes<R: Source, W: Sink>(
     out: &mut LongWriter<W>,
 ) -> Result<u8, RunFault>
     requires { out.old.written ≡ 0 }
-    ensures bound { IfOk result (λ status. status ≤ 4) }
+    ensures outcome { TellsOutcome W.taken W.failed out.old out.new result }
     ensures done { IfOk result
         (λ status. status ≡ 0
         → ListsSource false listing (R.left source.old) (R.left source.new)
         W.taken out.old out.new) }
-    ensures tells { IfOk result (TellsStatus W.taken W.failed out.old out.new) }
-    ensures fails { IfErr result (StopsOutput W.failed out.old out.new) }
     ensures refused { IfErr result (λ fault. (refusal : Fault) → fault ≡ Refused refusal
         → RefusesListing listing refusal (R.left source.old) (R.left source.new)
         FILE_BYTES (R.failed source.new)) }

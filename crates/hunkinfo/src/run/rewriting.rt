@@ -2,7 +2,7 @@
 ghost use Rattle.std.specs.Prelude.{◌≡◌, ◌≤◌, ◌++◌, true, IfOk, OnOk};
 ghost use Rattle.hunk_listing.specs.RewritingLines.{left_out_line, wrote_line};
 ghost use Rattle.hunkinfo.specs.Runs.{TellsRewriting};
-ghost use Rattle.hunkinfo.specs.Status.{Prints};
+ghost use Rattle.hunkinfo.specs.Status.{PrintsOrFails};
 
 use crate::run::{DONE, FILE_BYTES};
 use crate::to_file::ToFile;
@@ -64,12 +64,12 @@ fn rewrite_to<R: Source, T: Files>(
     }
 }
 
-/// Prints the lines that say how much was written, the first on this writer, and gives the status,
+/// PrintsOrFails the lines that say how much was written, the first on this writer, and gives the status,
 /// which is 3 where that fails.
 pub(super) fn tell<W: Sink>(done: Rewritten, out: &mut LongWriter<W>) -> u8
     requires { out.old.written ≡ 0 }
     ensures bound { result ≤ 4 }
-    ensures printed { Prints W.taken W.failed out.old out.new
+    ensures printed { PrintsOrFails W.taken W.failed out.old out.new
         (wrote_line done.written ++ left_out_line done.rest) DONE result }
 {
     let mut page = PagePrinter::<W, LINES>::new(out);

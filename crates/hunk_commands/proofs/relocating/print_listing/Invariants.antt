@@ -1,7 +1,8 @@
 use Rattle.std.proofs.Common.{◌≡◌, ◌+◌, ◌++◌, length}
 use Rattle.std.specs.Iterator.Adapters.{zip_first, zip_second}
 use Rattle.hunk_scatter.specs.Rows.{bases_of}
-use Rattle.hunk_listing.specs.SegmentLines.{lines_from}
+use Rattle.hunk_listing.specs.FileLines.{numbered}
+use Rattle.hunk_listing.specs.SegmentLines.{segment_lines}
 use Rattle.hunk_commands.specs.Relocating.{image_listing, segments_of}
 use Rattle.hunk_commands.proofs.relocating.print_listing.Given as goal
 
@@ -12,6 +13,6 @@ invariant-hunks g l =
     let left = zip_second l.hunk-iterator in
     record {
       same : l.page.origin ≡ l.fn.page.origin;
-      lines : l.page.text ++ lines_from hunks.start (segments_of (bases_of left.rows) left.segments) ≡ l.fn.page.text ++ image_listing l.image;
+      lines : l.page.text ++ numbered segment_lines hunks.start (segments_of (bases_of left.rows) left.segments) ≡ l.fn.page.text ++ image_listing l.image;
       count : hunks.start + length left.rows ≡ hunks.end;
     }

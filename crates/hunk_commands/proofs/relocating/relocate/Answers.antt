@@ -12,7 +12,7 @@ use Rattle.hunk_scatter.specs.LoadOutcomes.{Gives, IsLoadFault, IsLoadFaultBy}
 use Rattle.hunk_scatter.specs.Rows.{bases_of}
 use Rattle.hunk_commands.specs.declared.fault.RunFault.TheVariants.{Memory, Read, Refused}
 use Rattle.hunk_commands.specs.Faults.{refused_as, refused_for}
-use Rattle.hunk_listing.specs.SegmentLines.{listing}
+use Rattle.hunk_listing.specs.SegmentLines.{segment_listing}
 use Rattle.hunk_commands.specs.Relocating.{LacksMemory, ReadsShort, image_listing, packed, segments_of}
 use Rattle.hunk_commands.proofs.Engines.{handed}
 use Rattle.hunk_commands.proofs.ListingLengths.{image_listing_fits}
@@ -36,7 +36,7 @@ same_read refusal place is = go refusal.reason refl is
     go reasons.OutOfMemory there e = absurd cc
     go _ there e = absurd cc
 
--- want of memory is the load's
+-- out of memory is the load's
 same_memory : (refusal : Fault) → refused_as refusal ≡ Memory → refusal.reason ≡ reasons.OutOfMemory
 same_memory refusal is = go refusal.reason is
   where
@@ -140,7 +140,7 @@ returns-clause-ok g c =
           within = loaded.1.within;
           bases = bases;
           are_bases = loaded.1.bases;
-          listing_is = ap (λ (ss : List (List ℕ)). listing (segments_of bases ss)) loaded.1.segments;
+          listing_is = ap (λ (ss : List (List ℕ)). segment_listing (segments_of bases ss)) loaded.1.segments;
         };
         gave = loaded.2;
         puts = subst (λ (m : ℕ). Puts before after m written lines) c.requires c.in_ok-put_listing.ensures.puts;

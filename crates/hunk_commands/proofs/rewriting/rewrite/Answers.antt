@@ -9,13 +9,13 @@ use Rattle.hunk_commands.proofs.rewriting.rewrite.Goals as goal
 
 pub returns-in_err-file-clause-run : goal.returns-in_err-file-clause-run
 returns-in_err-file-clause-run g c =
-    let read = is_read _ _ c.args.file_bytes c.in_ok-input.input.items c.as_slice.result.now c.in_ok-input.ensures.given c.in_ok-input.ensures.at_end c.in_ok-input.ensures.bound c.as_slice.ensures.value in
+    let read = is_read _ _ c.args.file_bytes c.in_ok-input.input.items c.as_slice.result.now c.in_ok-input.ensures.reads c.as_slice.ensures.value in
     file_refused g.R.Source.left g.R.Source.failed c.args.r.now c.read_whole.new.source c.args.file_bytes g.W.Sink.failed c.args.w.now c.as_slice.result.now c.in_err-file.field-0.0
-    c.from_residual-in_err-file.result read c.in_ok-input.ensures.sound c.in_ok-input.ensures.within c.in_err-file.ensures.none c.in_err-file.ensures.refused
+    c.from_residual-in_err-file.result read c.in_ok-input.ensures.run.sound c.in_ok-input.ensures.run.within c.in_err-file.ensures.none c.in_err-file.ensures.refused
     (err_from_is_err_and c.from_residual-in_err-file.result c.from_residual-in_err-file.ensures.1)
 
 pub put_file-requires-clause-room : goal.put_file-requires-clause-room
-put_file-requires-clause-room g c = omega (arith, c.requires, ap (λ (xs : List ℕ). length xs) c.as_slice-2.ensures.value, c.in_ok-input.ensures.bound)
+put_file-requires-clause-room g c = omega (arith, c.requires, ap (λ (xs : List ℕ). length xs) c.as_slice-2.ensures.value, c.in_ok-input.ensures.reads.few)
 
 pub returns-in_err-put_file-clause-write : goal.returns-in_err-put_file-clause-write
 returns-in_err-put_file-clause-write g c =
@@ -24,7 +24,7 @@ returns-in_err-put_file-clause-write g c =
     let before = g.W.Sink.taken c.args.w.now.sink in
     let after = g.W.Sink.taken c.put_file.new.w.sink in
     let bytes = c.as_slice.result.now in
-    let read = is_read a b c.args.file_bytes c.in_ok-input.input.items bytes c.in_ok-input.ensures.given c.in_ok-input.ensures.at_end c.in_ok-input.ensures.bound c.as_slice.ensures.value in
+    let read = is_read a b c.args.file_bytes c.in_ok-input.input.items bytes c.in_ok-input.ensures.reads c.as_slice.ensures.value in
     let file = stripped_where c.args.strip c.in_ok-file.file in
     let is = rewritten c.args.strip bytes c.in_ok-file.file c.in_ok-file.ensures.ok in
     written_first (Writes (IsRewriting c.args.strip) a b c.args.file_bytes before after) c.from_residual-in_err-put_file.result c.in_err-put_file.field-0.0.written c.put_file.new.w.written
@@ -39,7 +39,7 @@ returns-clause-ok g c =
     let before = g.W.Sink.taken c.args.w.now.sink in
     let after = g.W.Sink.taken c.put_file.new.w.sink in
     let bytes = c.as_slice.result.now in
-    let read = is_read a b c.args.file_bytes c.in_ok-input.input.items bytes c.in_ok-input.ensures.given c.in_ok-input.ensures.at_end c.in_ok-input.ensures.bound c.as_slice.ensures.value in
+    let read = is_read a b c.args.file_bytes c.in_ok-input.input.items bytes c.in_ok-input.ensures.reads c.as_slice.ensures.value in
     let file = stripped_where c.args.strip c.in_ok-file.file in
     let is = rewritten c.args.strip bytes c.in_ok-file.file c.in_ok-file.ensures.ok in
     let rest_is : IsRewritten c.args.strip c.rest-rest.result bytes (file_bytes file) = subst (λ (n : ℕ). IsRewritten c.args.strip n bytes (file_bytes file)) (sym c.rest-rest.ensures) is in

@@ -9,9 +9,9 @@ use Rattle.hunk_commands.proofs.showing.show.Goals as goal
 
 pub returns-in_err-file-clause-run : goal.returns-in_err-file-clause-run
 returns-in_err-file-clause-run g c =
-    let read = is_read _ _ c.args.file_bytes c.in_ok-input.input.items c.as_slice.result.now c.in_ok-input.ensures.given c.in_ok-input.ensures.at_end c.in_ok-input.ensures.bound c.as_slice.ensures.value in
+    let read = is_read _ _ c.args.file_bytes c.in_ok-input.input.items c.as_slice.result.now c.in_ok-input.ensures.reads c.as_slice.ensures.value in
     file_refused g.R.Source.left g.R.Source.failed c.args.r.now c.read_whole.new.source c.args.file_bytes g.W.Sink.failed c.args.w.now c.as_slice.result.now c.in_err-file.field-0.0
-    c.from_residual-in_err-file.result read c.in_ok-input.ensures.sound c.in_ok-input.ensures.within c.in_err-file.ensures.none c.in_err-file.ensures.refused
+    c.from_residual-in_err-file.result read c.in_ok-input.ensures.run.sound c.in_ok-input.ensures.run.within c.in_err-file.ensures.none c.in_err-file.ensures.refused
     (err_from_is_err_and c.from_residual-in_err-file.result c.from_residual-in_err-file.ensures.1)
 
 pub returns-in_err-put_listing-clause-write : goal.returns-in_err-put_listing-clause-write
@@ -20,7 +20,7 @@ returns-in_err-put_listing-clause-write g c =
     let b = g.R.Source.left c.read_whole.new.source in
     let before = g.W.Sink.taken c.args.w.now.sink in
     let after = g.W.Sink.taken c.put_listing.new.w.sink in
-    let read = is_read a b c.args.file_bytes c.in_ok-input.input.items c.as_slice.result.now c.in_ok-input.ensures.given c.in_ok-input.ensures.at_end c.in_ok-input.ensures.bound c.as_slice.ensures.value in
+    let read = is_read a b c.args.file_bytes c.in_ok-input.input.items c.as_slice.result.now c.in_ok-input.ensures.reads c.as_slice.ensures.value in
     written_first (Writes IsShown a b c.args.file_bytes before after) c.from_residual-in_err-put_listing.result c.in_err-put_listing.field-0.0.written c.put_listing.new.w.written
     (err_from_is_err_and c.from_residual-in_err-put_listing.result c.from_residual-in_err-put_listing.ensures.1) c.in_err-put_listing.ensures.counted
     (writes_of IsShown a b c.args.file_bytes before after c.args.w.now.written c.put_listing.new.w.written c.as_slice.result.now (file_listing c.in_ok-file.file) (file_listing c.in_ok-file.file) read (shown_file c.as_slice.result.now c.in_ok-file.file c.in_ok-file.ensures.ok)
@@ -32,7 +32,7 @@ returns-clause-ok g c =
     let b = g.R.Source.left c.read_whole.new.source in
     let before = g.W.Sink.taken c.args.w.now.sink in
     let after = g.W.Sink.taken c.put_listing.new.w.sink in
-    let read = is_read a b c.args.file_bytes c.in_ok-input.input.items c.as_slice.result.now c.in_ok-input.ensures.given c.in_ok-input.ensures.at_end c.in_ok-input.ensures.bound c.as_slice.ensures.value in
+    let read = is_read a b c.args.file_bytes c.in_ok-input.input.items c.as_slice.result.now c.in_ok-input.ensures.reads c.as_slice.ensures.value in
     writes_all IsShown a b c.args.file_bytes before after c.args.w.now.written c.put_listing.new.w.written c.as_slice.result.now (file_listing c.in_ok-file.file) (file_listing c.in_ok-file.file) read (shown_file c.as_slice.result.now c.in_ok-file.file c.in_ok-file.ensures.ok)
     refl c.requires c.in_ok-put_listing.ensures.puts c.in_ok-put_listing.ensures.all
 

@@ -10,9 +10,9 @@ use Rattle.hunk_commands.proofs.validating.validate.Goals as goal
 
 pub returns-in_err-file-clause-run : goal.returns-in_err-file-clause-run
 returns-in_err-file-clause-run g c =
-    let read = is_read _ _ c.args.file_bytes c.in_ok-input.input.items c.as_slice.result.now c.in_ok-input.ensures.given c.in_ok-input.ensures.at_end c.in_ok-input.ensures.bound c.as_slice.ensures.value in
+    let read = is_read _ _ c.args.file_bytes c.in_ok-input.input.items c.as_slice.result.now c.in_ok-input.ensures.reads c.as_slice.ensures.value in
     file_refused g.R.Source.left g.R.Source.failed c.args.r.now c.read_whole.new.source c.args.file_bytes g.W.Sink.failed c.args.w.now c.as_slice.result.now c.in_err-file.field-0.0
-    c.from_residual-in_err-file.result read c.in_ok-input.ensures.sound c.in_ok-input.ensures.within c.in_err-file.ensures.none c.in_err-file.ensures.refused
+    c.from_residual-in_err-file.result read c.in_ok-input.ensures.run.sound c.in_ok-input.ensures.run.within c.in_err-file.ensures.none c.in_err-file.ensures.refused
     (err_from_is_err_and c.from_residual-in_err-file.result c.from_residual-in_err-file.ensures.1)
 
 pub returns-in_err-count-clause-write : goal.returns-in_err-count-clause-write
@@ -21,7 +21,7 @@ returns-in_err-count-clause-write g c =
     let b = g.R.Source.left c.read_whole.new.source in
     let before = g.W.Sink.taken c.args.w.now.sink in
     let after = g.W.Sink.taken c.put_report.new.w.sink in
-    let read = is_read a b c.args.file_bytes c.in_ok-input.input.items c.as_slice.result.now c.in_ok-input.ensures.given c.in_ok-input.ensures.at_end c.in_ok-input.ensures.bound c.as_slice.ensures.value in
+    let read = is_read a b c.args.file_bytes c.in_ok-input.input.items c.as_slice.result.now c.in_ok-input.ensures.reads c.as_slice.ensures.value in
     written_first (Writes IsReport a b c.args.file_bytes before after) c.from_residual-in_err-count.result c.in_err-count.field-0.0.written c.put_report.new.w.written
     (err_from_is_err_and c.from_residual-in_err-count.result c.from_residual-in_err-count.ensures.1) c.in_err-count.ensures.puts.counted
     (writes_of IsReport a b c.args.file_bytes before after c.args.w.now.written c.put_report.new.w.written c.as_slice.result.now (report c.in_ok-file.file) (report c.in_ok-file.file) read
@@ -33,7 +33,7 @@ returns-clause-ok g c =
     let b = g.R.Source.left c.read_whole.new.source in
     let before = g.W.Sink.taken c.args.w.now.sink in
     let after = g.W.Sink.taken c.put_report.new.w.sink in
-    let read = is_read a b c.args.file_bytes c.in_ok-input.input.items c.as_slice.result.now c.in_ok-input.ensures.given c.in_ok-input.ensures.at_end c.in_ok-input.ensures.bound c.as_slice.ensures.value in
+    let read = is_read a b c.args.file_bytes c.in_ok-input.input.items c.as_slice.result.now c.in_ok-input.ensures.reads c.as_slice.ensures.value in
     let count = finding_count c.in_ok-file.file in
     subst (λ (n : ℕ). WritesAll (IsValidated n) a b c.args.file_bytes before after c.put_report.new.w.written) (sym c.in_ok-count.ensures.count)
     (writes_all (IsValidated count) a b c.args.file_bytes before after c.args.w.now.written c.put_report.new.w.written c.as_slice.result.now (report c.in_ok-file.file) (report c.in_ok-file.file) read

@@ -1,6 +1,6 @@
 use Rattle.std.proofs.Common.{◌++◌, List, ℕ, sym, ap, ◌∙◌, arith, append-nil, append_assoc}
 use Rattle.std.specs.Slice.Iter.{chunks_rest}
-use Rattle.hunk_listing.specs.SegmentLines.{dump, row}
+use Rattle.hunk_listing.specs.SegmentLines.{dump, dump_row}
 use Rattle.hunk_listing.proofs.RowLaws.{dump-nil, dump-append}
 use Rattle.hunk_listing.proofs.segment.print_dump.Goals as goal
 
@@ -16,7 +16,7 @@ loop-part-preserved g c =
       sixteen = steps.0 ∙ c.loop-part.invariant.sixteen;
       rows =
           ap (λ (xs : List ℕ). xs ++ dump rest) c.print_row.ensures.1
-          ∙ append_assoc before (row part) (dump rest) ∙ ap (λ (xs : List ℕ). before ++ xs) (sym rows) ∙ c.loop-part.invariant.rows;
+          ∙ append_assoc before (dump_row part) (dump rest) ∙ ap (λ (xs : List ℕ). before ++ xs) (sym rows) ∙ c.loop-part.invariant.rows;
     }
 
 pub returns : goal.returns

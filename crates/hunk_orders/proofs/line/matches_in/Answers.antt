@@ -29,23 +29,19 @@ simple : is_simple_and_free hunkinfo ≡ true
 unfolding clap_on_literals
 simple = refl
 
-pub returns-in-Err-clause-asked : goal.returns-in-Err-clause-asked
-returns-in-Err-clause-asked g c = λ help.
-    let words = map g.S.AsStr.text c.args.words.now in
-    among (fault_of hunkinfo words) c.in-Err.error (c.fault_of.ensures.asked help)
-    (subst (λ (a : App). HasKind (fault_of a words) c.in-Err.error) c.in_ok-hunkinfo.ensures
-    (c.in-Err.ensures.kinds (ap is_simple_and_free c.in_ok-hunkinfo.ensures ∙ simple)))
-
-pub returns-in-Ok-clause-clean : goal.returns-in-Ok-clause-clean
-returns-in-Ok-clause-clean g c =
-    subst (λ (a : App). fault_of a (map g.S.AsStr.text c.args.words.now) ≡ []) c.in_ok-hunkinfo.ensures
-    (c.in-Ok.ensures.kinds (ap is_simple_and_free c.in_ok-hunkinfo.ensures ∙ simple))
-
 no_kind : {k : ErrorKind} → [] ≡ k ∷ [] → ⊥
 no_kind e = cc
 
-pub returns-in-Ok-clause-help : goal.returns-in-Ok-clause-help
-returns-in-Ok-clause-help g c = λ help. absurd (no_kind (sym (returns-in-Ok-clause-clean g c) ∙ help))
+pub returns-in-Ok-clause-clap : goal.returns-in-Ok-clause-clap
+returns-in-Ok-clause-clap g c =
+    let clean : fault_of hunkinfo (map g.S.AsStr.text c.args.words.now) ≡ [] =
+    subst (λ (a : App). fault_of a (map g.S.AsStr.text c.args.words.now) ≡ []) c.in_ok-hunkinfo.ensures
+    (c.in-Ok.ensures.kinds (ap is_simple_and_free c.in_ok-hunkinfo.ensures ∙ simple)) in
+    record {
+      clean = clean;
+      asked = tt;
+      help = λ help. absurd (no_kind (sym clean ∙ help));
+    }
 
 only_help : (e : Error) → HasKind (kind.DisplayHelp ∷ []) e → (kind_of e ≡ kind.OutOfMemory) ⊎ (kind_of e ≡ kind.DisplayHelp)
 only_help e (inl memory) = inl memory
@@ -57,11 +53,16 @@ answered : (e : Error) (fault : OrderFault) → (kind_of e ≡ kind.OutOfMemory 
 answered e fault memory help (inl is) = inr (memory is)
 answered e fault memory help (inr is) = help is
 
-pub returns-in-Err-clause-help : goal.returns-in-Err-clause-help
-returns-in-Err-clause-help g c = λ help.
+pub returns-in-Err-clause-clap : goal.returns-in-Err-clause-clap
+returns-in-Err-clause-clap g c =
     let words = map g.S.AsStr.text c.args.words.now in
     let kinds : HasKind (fault_of hunkinfo words) c.in-Err.error =
     subst (λ (a : App). HasKind (fault_of a words) c.in-Err.error) c.in_ok-hunkinfo.ensures
     (c.in-Err.ensures.kinds (ap is_simple_and_free c.in_ok-hunkinfo.ensures ∙ simple)) in
-    answered c.in-Err.error c.fault_of.result c.fault_of.ensures.memory c.fault_of.ensures.help
-    (only_help c.in-Err.error (subst (λ (ks : Kinds). HasKind ks c.in-Err.error) help kinds))
+    record {
+      clean = tt;
+      asked = λ help. among (fault_of hunkinfo words) c.in-Err.error (c.fault_of.ensures.asked help) kinds;
+      help = λ help.
+          answered c.in-Err.error c.fault_of.result c.fault_of.ensures.memory c.fault_of.ensures.help
+          (only_help c.in-Err.error (subst (λ (ks : Kinds). HasKind ks c.in-Err.error) help kinds));
+    }
