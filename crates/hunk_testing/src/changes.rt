@@ -59,6 +59,10 @@ pub fn with_long(mut bytes: Vec<u8>, byte: usize, word: u32) -> Vec<u8> {
 }
 
 /// The bytes that the text spells, with another longword at this byte.
+///
+/// # Errors
+///
+/// `AllocError` where memory is refused.
 pub fn changed_in(
     alloc: Global,
     text: &str,
@@ -69,11 +73,19 @@ pub fn changed_in(
 }
 
 /// The bytes of example 1 with another longword at this byte.
+///
+/// # Errors
+///
+/// `AllocError` where memory is refused.
 pub fn changed(alloc: Global, byte: usize, word: u32) -> Result<Vec<u8>, AllocError> {
     changed_in(alloc, examples::ONE_HUNK, byte, word)
 }
 
 /// The bytes of example 1 with these longwords before its END.
+///
+/// # Errors
+///
+/// `AllocError` where memory is refused.
 pub fn before_end(alloc: Global, longs: &[u32]) -> Result<Vec<u8>, AllocError> {
     let mut bytes = spelled(alloc, examples::BEFORE_ITS_END)?;
     for long in longs {
@@ -84,6 +96,10 @@ pub fn before_end(alloc: Global, longs: &[u32]) -> Result<Vec<u8>, AllocError> {
 }
 
 /// Example 15: END's block word 75 times within a DEBUG block, and then END.
+///
+/// # Errors
+///
+/// `AllocError` where memory is refused.
 pub fn ends_within_debug(alloc: Global) -> Result<Vec<u8>, AllocError> {
     let mut longs = [0x3F1, 75].to_vec(alloc)?;
     longs.resize(77, 0x3F2)?;

@@ -2,7 +2,6 @@
 ghost use Rattle.std.specs.Prelude.{None, false};
 
 use hunk_words::{Failed, Source};
-use std::alloc::{AllocError, Global};
 
 /// The longwords of a file.
 pub trait Longs {
@@ -13,17 +12,8 @@ pub trait Longs {
     fn long(&self, at: u32) -> u32;
 }
 
-/// The bytes of all the longwords.
-pub fn bytes_of_file<L: Longs>(alloc: Global, longs: &L) -> Result<Vec<u8>, AllocError> {
-    let mut bytes = Vec::new(alloc);
-    for at in 0..longs.count() {
-        bytes.extend_from_slice(longs.long(at).to_be_bytes().as_slice())?;
-    }
-    Ok(bytes)
-}
-
 /// Gives the bytes of the longwords, which are computed as they are read.
-#[derive(Drop)]
+#[derive(Debug, Drop)]
 pub struct Computed<L> {
     longs: L,
     given: u32,

@@ -76,10 +76,17 @@ pub const WITH_AN_ADVISORY: &str = "3F3 0 1 0 0 1 / 3E9 1 4E754E71 / 200004D2 2 
 /// Example 24: a name with bytes that are not printed as they are.
 pub const WITH_A_NAME: &str = "3F3 0 1 0 0 1 / 3E8 1 2E740A5C / 3E9 1 4E754E71 / 3F2";
 
-/// Example 24 with a number of longwords whose top byte is not 0, up to there.
-pub const NAME_WORD_AMISS: &str = "3F3 0 1 0 0 1 / 3E8 1000001";
+/// Example 24 with a number of longwords whose top byte is not 0.
+pub const NAME_WORD_AMISS: &str = "3F3 0 1 0 0 1 / 3E8 1000001 2E740A5C / 3E9 1 4E754E71 / 3F2";
 
-/// Example 26: an object file of one unit without a hunk.
+/// Example 25: an object file with an entry of no type, and one that ends before the name of an entry.
+pub const ENTRY_OF_NO_TYPE: &str = "3E7 0 / 3E9 0 / 3EF 3000001";
+
+pub const ENTRY_CUT_SHORT: &str = "3E7 0 / 3E9 0 / 3EF 88000001";
+
+/// Example 26: what does not begin with a unit, and an object file of one unit without a hunk.
+pub const WITHOUT_A_UNIT: &str = "3E9 0";
+
 pub const EMPTY_UNIT: &str = "3E7 0";
 
 /// Example 29: an object file with a relocation of which two things are found.
@@ -117,6 +124,22 @@ pub const OBJECT_WITH_AN_ADVISORY: &str = "3E7 0 / 200004D2 0 / 3EB 1 / 3F2";
 
 pub const OBJECT_WITHOUT_IT: &str = "3E7 0 / 3EB 1 / 3F2";
 
+/// Example 44: blocks of an unknown kind, with the advisory flag, with that of chip memory, and with both; and an END
+/// with the advisory flag.
+pub const ADVISORY: &str = "200004D2 0";
+
+pub const NO_ADVISORY: &str = "400004D2 0";
+
+pub const ADVISORY_WITH_CHIP: &str = "600004D2 0";
+
+pub const END_WITH_ADVISORY_FLAG: &str = "200003F2";
+
+/// Example 44: example 1 with this END.
+pub const ENDING_WITH_ADVISORY_FLAG: &str = "3F3 0 1 0 0 1 / 3E9 1 4E754E71 / 200003F2";
+
+/// Example 44: an object file whose second unit has the advisory flag, at 20.
+pub const UNIT_WITH_ADVISORY_FLAG: &str = "3E7 0 / 3EB 0 / 3F2 / 200003E7 0";
+
 /// Example 45: an object file with relative relocations and references.
 pub const RELATIVE_OBJECT: &str = "3E7 1 61000000 / 3E9 2 0 0 / 3FD 1 0 4 0 / 3FE 1 0 6 0 / \
     3EF 88000001 5F660000 1 4 8A000001 5F670000 1 7 0 / 3F2";
@@ -141,3 +164,22 @@ pub const TWO_UNITS: &str = "3E7 1 61000000 / \
     3E9 2 4EB90000 4E75 / 3EC 1 0 2 0 / 3EF 81000001 5F660000 1 2 1000001 5F6D0000 0 0 / 3F2 / \
     3EB 1 / 3F0 1 5F6D0000 0 0 / 3F2 / \
     3E7 0 / 3EB 1 / 3F2";
+
+/// An object file of five units, at 0, 120, 140, 152 and 324. The first two are those of `TWO_UNITS`, with hunks at
+/// 12, 88 and 128; the third and the fifth have no hunk; the fourth has five, at 160, 172, 184, 196 and 212, the last
+/// of six blocks, at 212, 224, 232, 304, 312 and 320, with five groups of relocations behind 232.
+pub const FIVE_UNITS: &str = "3E7 1 61000000 / \
+    3E9 2 4EB90000 4E75 / 3EC 1 0 2 0 / 3EF 81000001 5F660000 1 2 1000001 5F6D0000 0 0 / 3F2 / \
+    3EB 1 / 3F0 1 5F6D0000 0 0 / 3F2 / \
+    3E7 0 / 3EB 1 / 3F2 / \
+    3E7 1 63000000 / \
+    3E7 0 / 3EB 1 / 3F2 / 3EB 1 / 3F2 / 3EB 1 / 3F2 / 3E9 1 4E754E71 / 3F2 / \
+    3E8 1 2E740000 / 3EB 8 / 3EC 1 0 0 1 1 4 1 2 8 1 3 C 2 4 10 14 0 / 3F1 0 / 3F1 0 / 3F2 / \
+    3E7 0";
+
+/// An object file of two units, at 0 and 8, the first without a hunk, and of two hunks, at 16 and 28, the second with
+/// five symbols, at 44, and five external symbols, at 108.
+pub const FIVE_SYMBOLS: &str = "3E7 0 / 3E7 0 / 3EB 0 / 3F2 / \
+    3E9 2 4EB90000 4E75 / \
+    3F0 1 5F610000 0 1 5F620000 2 1000000 4 5000001 5F640000 6 1 5F650000 8 0 / \
+    3EF 1000001 5F610000 7 81000001 5F620000 2 0 4 82000000 8 1 0 1000000 9 81000000 1 0 0 / 3F2";

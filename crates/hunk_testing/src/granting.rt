@@ -129,6 +129,10 @@ fn grant<E: PartialEq + Drop, F: Fn() -> Option<E>>(
 ///
 /// Unlike `answers_growth_by_growth` it sees those behind a list that doubles, too. Only a growth of the size of
 /// a piece that the call gave back before takes that one, and is not seen.
+///
+/// # Errors
+///
+/// `AllocError` where there is no memory for the pieces and the answers. What the call is refused is an answer.
 pub fn answers_one_by_one<E: PartialEq + Drop, F: Fn() -> Option<E>>(
     alloc: Global,
     call: F,

@@ -51,6 +51,10 @@ fn grow_stack(changed: usize, answered: usize) -> u8 {
 }
 
 /// All the memory that the allocator gives: while it is held, the next growth is refused.
+///
+/// # Errors
+///
+/// `AllocError` where memory is refused for the list of what is held, which comes first.
 pub fn all_memory(alloc: Global) -> Result<Vec<Vec<u8>>, AllocError> {
     let mut pieces = Vec::with_capacity(alloc, PIECES)?;
     take_pieces(alloc, LARGEST, &mut pieces)?;
@@ -64,6 +68,10 @@ pub fn all_memory(alloc: Global) -> Result<Vec<Vec<u8>>, AllocError> {
 ///
 /// It has none under the sanitizer of `rt try`, whose list of pieces is full before. There a line says that what
 /// needs it is skipped.
+///
+/// # Errors
+///
+/// That of the output, where the line cannot be printed.
 pub fn memory_ends(rt: &(impl AllocGlobal + Print)) -> io::Result<bool> {
     let ends = all_is_taken(rt.alloc());
     if !ends {
@@ -105,6 +113,10 @@ fn piece_for(alloc: Global, sizes: &[usize]) -> Result<Vec<u8>, AllocError> {
 ///
 /// The rooms are cut from one piece, while all else is held. What was free before may be some bytes larger than a
 /// room, but too few for a piece of their own: it is given whole, and serves no growth of the room's size then.
+///
+/// # Errors
+///
+/// `AllocError` where there is no memory for the rooms, or for the lists of what is held.
 pub fn all_but(alloc: Global, sizes: &[usize]) -> Result<Held, AllocError> {
     let mut rooms = Vec::with_capacity(alloc, sizes.len())?;
     let piece = piece_for(alloc, sizes)?;
@@ -161,6 +173,10 @@ fn left_once<T: Drop, F: Fn() -> T>(alloc: Global, make: &F) -> Result<(T, usize
 ///
 /// What one value leaves can be compared with what another leaves, up to 64 bytes that the allocator
 /// adds to pieces.
+///
+/// # Errors
+///
+/// `AllocError` where there is no memory for the room, or for the lists of what is held.
 pub fn left_beside<T: Drop, F: Fn() -> T>(alloc: Global, make: F) -> Result<(T, usize), AllocError>
     requires { F.IsAlwaysCallable make }
 {
@@ -212,6 +228,10 @@ fn answer_in<E: Drop, F: Fn() -> Option<E>>(
 /// once the first that is refused, up to the first that is asked for behind a list that doubles: the
 /// allocator keeps what a list leaves of the room, when it grows in its place, for requests of that
 /// size alone.
+///
+/// # Errors
+///
+/// `AllocError` where there is no memory for the rooms and the answers. What the call is refused is an answer.
 pub fn answers_growth_by_growth<E: PartialEq + Drop, F: Fn() -> Option<E>>(
     alloc: Global,
     call: F,

@@ -23,7 +23,7 @@ fn long_of_many_hunks(at: u32) -> u32 {
 }
 
 /// A load file of 65,536 hunks of a longword, its hunk's number, to which the base of the hunk beside it is added.
-#[derive(Drop)]
+#[derive(Debug, Drop)]
 pub struct ManyHunks;
 
 impl Longs for ManyHunks {
@@ -49,7 +49,7 @@ pub fn content(at: u32) -> u32 {
 }
 
 /// A load file of one hunk of a MiB, which is its content.
-#[derive(Drop)]
+#[derive(Debug, Drop)]
 pub struct LargeHunk;
 
 impl Longs for LargeHunk {

@@ -14,7 +14,7 @@ mod writers;
 pub use crate::changes::{
     CHANGES, Change, before_end, changed, changed_in, ends_within_debug, with_long,
 };
-pub use crate::computed::{Computed, Longs, bytes_of_file};
+pub use crate::computed::{Computed, Longs};
 pub use crate::granting::answers_one_by_one;
 pub use crate::growths::{
     Held, all_but, all_memory, answers_growth_by_growth, left_beside, memory_ends,
@@ -24,6 +24,10 @@ pub use crate::writers::{Narrow, WIDTH, wide};
 use std::alloc::{AllocError, Global};
 
 /// The bytes of the longwords.
+///
+/// # Errors
+///
+/// `AllocError` where memory is refused.
 pub fn bytes_of(alloc: Global, longs: &[u32]) -> Result<Vec<u8>, AllocError> {
     let mut bytes = Vec::new(alloc);
     for long in longs {
@@ -33,6 +37,10 @@ pub fn bytes_of(alloc: Global, longs: &[u32]) -> Result<Vec<u8>, AllocError> {
 }
 
 /// The bytes of the longwords that the text spells in hexadecimal digits; `/` only separates.
+///
+/// # Errors
+///
+/// `AllocError` where memory is refused.
 pub fn spelled(alloc: Global, text: &str) -> Result<Vec<u8>, AllocError> {
     let mut bytes = Vec::new(alloc);
     for word in text.split(' ') {

@@ -17,7 +17,7 @@ fn give(rest: &mut &[u8], buf: &mut [u8], most: usize) -> usize
 }
 
 /// Gives these bytes, one a read; behind so many of them one read fails, and those after it go on.
-#[derive(Drop)]
+#[derive(Debug, Drop)]
 pub struct FailsOnce<'a> {
     rest: &'a [u8],
     given: usize,
@@ -63,7 +63,7 @@ impl Source for FailsOnce<'_> {
 }
 
 /// Reads these bytes, one a read; behind so many of them one read is interrupted, and those after it go on.
-#[derive(Drop)]
+#[derive(Debug, Drop)]
 pub struct Interrupted<'a> {
     rest: &'a [u8],
     before: usize,
@@ -102,13 +102,14 @@ pub enum Then {
 }
 
 /// Gives these bytes in pieces, and then what comes behind them.
-#[derive(Drop)]
+#[derive(Debug, Drop)]
 pub struct Fed<'a> {
     rest: &'a [u8],
     cut: usize,
     most: usize,
     then: Then,
     reads: u64,
+    given: usize,
     repeated: usize,
     failed: bool,
 }
@@ -122,6 +123,7 @@ impl<'a> Fed<'a> {
             most,
             then,
             reads: 0,
+            given: 0,
             repeated: 0,
             failed: false,
         }
@@ -137,6 +139,11 @@ impl<'a> Fed<'a> {
     /// The bytes that it has not given.
     pub fn rest(&self) -> &'a [u8] {
         self.rest
+    }
+
+    /// How many bytes it has given, with those that come behind its own.
+    pub fn given(&self) -> usize {
+        self.given.wrapping_add(self.repeated)
     }
 
     /// How many reads were made.
@@ -182,6 +189,7 @@ impl Source for Fed<'_> {
         let most = if self.cut > 0 { self.cut } else { self.most };
         let count = give(&mut self.rest, buf, most.max(1));
         self.cut = self.cut.saturating_sub(count);
+        self.given = self.given.wrapping_add(count);
         Ok(count)
     }
 }

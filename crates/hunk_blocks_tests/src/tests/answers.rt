@@ -2,7 +2,7 @@
 
 use crate::tests::{Row, wanted};
 use hunk_blocks::{Block, Mode};
-use hunk_testing::{bytes_of, spelled};
+use hunk_testing::{bytes_of, examples, spelled};
 use hunk_words::{BlockFault, Reason};
 use std::alloc::{AllocError, Global};
 use std::process::Abort;
@@ -44,18 +44,18 @@ const IN_BOTH_MODES: &[Row] = &[
     ("E00004D2", 0, Some(Reason::BothBits)),
     ("200003F5", 0, Some(Reason::Overlay)),
     ("200003F3", 0, Some(Reason::Misplaced)),
-    ("400004D2 0", 0, Some(Reason::UnknownBlock)),
+    (examples::NO_ADVISORY, 0, Some(Reason::UnknownBlock)),
     ("3E8 1000001", 4, Some(Reason::NameWord)),
     ("3E8 FFFFFF", 8, Some(Reason::Truncated)),
     ("3E9 2 0", 12, Some(Reason::Truncated)),
     ("3F1 FFFFFFFF", 8, Some(Reason::Truncated)),
     ("3EC 1 0 0 0", 20, None),
     ("3F0 1 5F6D0000 0 0", 20, None),
-    ("200003F2", 4, None),
+    (examples::END_WITH_ADVISORY_FLAG, 4, None),
     ("400003F2", 4, None),
     ("3EB 80000002", 8, None),
-    ("200004D2 0", 8, None),
-    ("600004D2 0", 8, None),
+    (examples::ADVISORY, 8, None),
+    (examples::ADVISORY_WITH_CHIP, 8, None),
 ];
 
 #[test]

@@ -1,5 +1,7 @@
 //! A text of each kind of block.
 
+use hunk_testing::examples;
+
 /// Texts that stand in object files, each a whole block.
 pub(crate) const TEXTS: &[&str] = &[
     "3E8 2 61626364 65000000",
@@ -16,6 +18,6 @@ pub(crate) const TEXTS: &[&str] = &[
     "3F0 0",
     "3F1 3 3F2 3F2 3F2",
     "3F2",
-    "200003F2",
+    examples::END_WITH_ADVISORY_FLAG,
     "200004D2 2 DEADBEEF 3F2",
 ];

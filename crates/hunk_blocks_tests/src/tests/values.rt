@@ -1,53 +1,70 @@
 //! What a block that was read tells.
 
 use hunk_blocks::{Block, Body, Groups, Mode, Payload};
-use hunk_testing::{bytes_of, spelled};
+use hunk_testing::{examples, spelled};
 use std::alloc::{AllocError, Global};
 use std::process::Abort;
 use std::test::Fail;
 
-/// The words of END blocks, and the flags that they have.
-const ENDS: &[(u32, u8)] = &[
-    (0x3F2, 0),
-    (0x2000_03F2, 1),
-    (0x4000_03F2, 2),
-    (0x8000_03F2, 4),
-];
-
-/// Sees that this word is an END block with these flags, in 4 bytes.
-fn expect_end(
-    rt: &impl Abort,
-    alloc: Global,
-    word: u32,
-    flags: u8,
-    mode: Mode,
-) -> Result<(), Fail> {
-    let bytes = bytes_of(alloc, &[word])?;
-    let (block, count) = Block::decode(alloc, &bytes, mode)?;
-    assert_eq!(rt; (count, block.word().flags()), (4, flags), "{word:x}");
-    assert_eq!(rt; block.word().word(), word);
-    assert!(rt; matches!(block.body(), Body::End));
-    Ok(())
+/// What stands behind a block word.
+#[derive(Clone, Copy, Debug, PartialEq)]
+enum Behind {
+    Nothing,
+    Size(u32),
+    NoPayload,
 }
 
-/// Examples 33 and 44: a block word keeps its flags in both modes.
-#[test]
-fn of_words(rt: HostRuntime) -> Result<(), Fail> {
-    for (word, flags) in ENDS {
-        expect_end(&rt, rt.alloc(), *word, *flags, Mode::Load)?;
-        expect_end(&rt, rt.alloc(), *word, *flags, Mode::Object)?;
+fn behind_word(body: &Body<'_>) -> Option<Behind> {
+    match body {
+        Body::End => Some(Behind::Nothing),
+        Body::Bss { size } => Some(Behind::Size(*size)),
+        Body::Advisory(payload) if payload.bytes().is_empty() => Some(Behind::NoPayload),
+        _ => None,
+    }
+}
+
+/// Sees that the text is a block in both modes, to its last byte, whose word is kept with its flags.
+fn expect(
+    rt: &impl Abort,
+    alloc: Global,
+    text: &str,
+    (word, flags): (u32, u8),
+    want: Behind,
+) -> Result<(), Fail> {
+    let bytes = spelled(alloc, text)?;
+    for mode in [Mode::Load, Mode::Object] {
+        let (block, count) = Block::decode(alloc, &bytes, mode)?;
+        assert_eq!(rt; count, bytes.len(), "{text}");
+        assert_eq!(rt; (block.word().word(), block.word().flags()), (word, flags));
+        assert_eq!(rt; behind_word(block.body()), Some(want), "{text}");
     }
     Ok(())
 }
 
-/// Example 33: a size word keeps its top bits in both modes.
+/// Examples 33 and 44: words of END, of BSS and of advisory blocks without a payload, with their flags, the top
+/// three bits, and what is behind them. A size word keeps its top bits.
+const BLOCKS: &[(&str, (u32, u8), Behind)] = &[
+    ("3F2", (0x3F2, 0), Behind::Nothing),
+    (
+        examples::END_WITH_ADVISORY_FLAG,
+        (0x2000_03F2, 1),
+        Behind::Nothing,
+    ),
+    ("400003F2", (0x4000_03F2, 2), Behind::Nothing),
+    ("800003F2", (0x8000_03F2, 4), Behind::Nothing),
+    ("3EB 80000002", (0x3EB, 0), Behind::Size(0x8000_0002)),
+    (examples::ADVISORY, (0x2000_04D2, 1), Behind::NoPayload),
+    (
+        examples::ADVISORY_WITH_CHIP,
+        (0x6000_04D2, 3),
+        Behind::NoPayload,
+    ),
+];
+
 #[test]
-fn of_sizes(rt: HostRuntime) -> Result<(), Fail> {
-    let bytes = spelled(rt.alloc(), "3EB 80000002")?;
-    for mode in [Mode::Load, Mode::Object] {
-        let (block, count) = Block::decode(rt.alloc(), bytes.as_slice(), mode)?;
-        assert_eq!(rt; count, 8);
-        assert!(rt; matches!(block.body(), Body::Bss { size: 0x8000_0002 }));
+fn of_words_and_sizes(rt: HostRuntime) -> Result<(), Fail> {
+    for (text, word, want) in BLOCKS {
+        expect(&rt, rt.alloc(), text, *word, *want)?;
     }
     Ok(())
 }
@@ -174,28 +191,9 @@ fn of_groups_in_turn(rt: HostRuntime) -> Result<(), Fail> {
     Ok(())
 }
 
-/// Sees that an advisory block of this word with a count of 0 has these flags and no payload.
-fn expect_empty(
-    rt: &impl Abort,
-    alloc: Global,
-    word: u32,
-    flags: u8,
-    mode: Mode,
-) -> Result<(), Fail> {
-    let bytes = bytes_of(alloc, &[word, 0])?;
-    let (block, _) = Block::decode(alloc, &bytes, mode)?;
-    assert_eq!(rt; block.word().flags(), flags);
-    assert!(rt; matches!(block.body(), Body::Advisory(payload) if payload.bytes().is_empty()));
-    Ok(())
-}
-
-/// Examples 44 and 33: advisory blocks without a payload, and a relocation block without a group.
+/// Example 33: a relocation block without a group.
 #[test]
-fn of_empty_bodies(rt: HostRuntime) -> Result<(), Fail> {
-    for mode in [Mode::Load, Mode::Object] {
-        expect_empty(&rt, rt.alloc(), 0x2000_04D2, 1, mode)?;
-        expect_empty(&rt, rt.alloc(), 0x6000_04D2, 3, mode)?;
-    }
+fn of_no_group(rt: HostRuntime) -> Result<(), Fail> {
     let bytes = spelled(rt.alloc(), "3F7 0")?;
     let (block, _) = Block::decode(rt.alloc(), &bytes, Mode::Object)?;
     assert!(rt; matches!(block.body(), Body::Reloc(groups) if groups.is_empty()));

@@ -2,6 +2,7 @@
 
 use crate::tests::relocating::LIMITS;
 use hunk_commands::{RunFault, relocate, rewrite, show, validate};
+use hunk_scatter::Limits;
 use hunk_testing::{Narrow, WIDTH, examples, spelled};
 use hunk_words::{FromWrite, LongWriter, Source};
 use std::alloc::{AllocError, Global};
@@ -25,8 +26,8 @@ pub(super) struct Case {
     pub output: &'static str,
 }
 
-/// Calls on example 8, a load file, and on example 29, an object file in which two things are found; and a strip of example 18,
-/// a load file with a symbol.
+/// Calls on example 8, a load file, and on example 29, an object file in which two things are found; and a strip of
+/// example 18, a load file with a symbol.
 pub(super) const CASES: &[Case] = &[
     Case {
         call: Call::Show,
@@ -88,13 +89,28 @@ pub(super) fn made<R: Source>(
     source: &mut R,
     narrow: Narrow,
 ) -> Outcome {
+    made_within(alloc, call, source, narrow, LIMIT)
+}
+
+/// The same where so many bytes may be read.
+pub(super) fn made_within<R: Source>(
+    alloc: Global,
+    call: Call,
+    source: &mut R,
+    narrow: Narrow,
+    file_bytes: u64,
+) -> Outcome {
     let mut out = LongWriter::new(FromWrite::new(narrow));
+    let limits = Limits {
+        budget: LIMITS.budget,
+        file_bytes,
+    };
     let fault = match call {
-        Call::Show => show(alloc, source, &mut out, LIMIT).err(),
-        Call::Validate => validate(alloc, source, &mut out, LIMIT).err(),
-        Call::Rewrite => rewrite(alloc, source, &mut out, LIMIT, false).err(),
-        Call::Strip => rewrite(alloc, source, &mut out, LIMIT, true).err(),
-        Call::Relocate => relocate(alloc, source, &mut out, LIMITS, 0x21000).err(),
+        Call::Show => show(alloc, source, &mut out, file_bytes).err(),
+        Call::Validate => validate(alloc, source, &mut out, file_bytes).err(),
+        Call::Rewrite => rewrite(alloc, source, &mut out, file_bytes, false).err(),
+        Call::Strip => rewrite(alloc, source, &mut out, file_bytes, true).err(),
+        Call::Relocate => relocate(alloc, source, &mut out, limits, 0x21000).err(),
     };
     Outcome {
         fault,

@@ -7,10 +7,6 @@ use std::alloc::{AllocError, Global};
 use std::process::Abort;
 use std::test::Fail;
 
-/// Where memory is asked for in `TWO_UNITS`: for each hunk's blocks at its first, for groups, entries and symbols,
-/// for each unit's hunks at the END of its first, and for the units behind the first.
-const OF_TWO_UNITS: &[u64] = &[24, 40, 64, 84, 92, 108, 116, 132, 136];
-
 /// Want of memory at these places, and then no fault.
 pub(super) fn wanted(alloc: Global, places: &[u64]) -> Result<Vec<Option<FileFault>>, AllocError> {
     let mut answers = Vec::new(alloc);
@@ -22,18 +18,6 @@ pub(super) fn wanted(alloc: Global, places: &[u64]) -> Result<Vec<Option<FileFau
     }
     answers.push(None)?;
     Ok(answers)
-}
-
-#[test]
-fn of_an_object_file(rt: HostRuntime) -> Result<(), Fail> {
-    if !memory_ends(&rt)? {
-        return Ok(());
-    }
-    let alloc = rt.alloc();
-    let bytes = spelled(alloc, examples::TWO_UNITS)?;
-    let answers = answers_growth_by_growth(alloc, || ObjectFile::decode(alloc, &bytes).err())?;
-    assert_eq!(rt; answers, wanted(alloc, OF_TWO_UNITS)?);
-    Ok(())
 }
 
 /// Three relocations with two findings each.

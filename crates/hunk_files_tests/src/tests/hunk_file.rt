@@ -1,6 +1,5 @@
 //! A file of either kind: which it is by its first longword, what follows it, and what is written of it.
 
-use crate::tests::{ENTRY_OF_NO_TYPE, WITHOUT_A_UNIT};
 use hunk_files::HunkFile;
 use hunk_testing::{examples, spelled};
 use hunk_words::{FromWrite, LongWriter};
@@ -34,9 +33,9 @@ const REFUSED: &[(&str, u64, u8)] = &[
     ("3E7", 4, 26),
     ("3F3", 4, 26),
     ("3E7 0 1 0 0 1 / 3E9 1 4E754E71 / 3F2", 8, 16),
-    (ENTRY_OF_NO_TYPE, 20, 25),
+    (examples::ENTRY_OF_NO_TYPE, 20, 25),
     ("3FA 0", 0, 3),
-    (WITHOUT_A_UNIT, 0, 1),
+    (examples::WITHOUT_A_UNIT, 0, 1),
     ("200003E7 0", 0, 1),
     ("3F3 1", 4, 4),
 ];

@@ -1,6 +1,5 @@
 //! Which object files are read, and where the others are refused and why.
 
-use crate::tests::{ENTRY_OF_NO_TYPE, WITHOUT_A_UNIT};
 use hunk_files::ObjectFile;
 use hunk_testing::{bytes_of, examples, spelled};
 use hunk_words::{FileFault, Reason};
@@ -70,11 +69,11 @@ fn expect_refused(rt: &impl Abort, alloc: Global, rows: Refused) -> Result<(), F
 
 /// The worked examples that are refused, two of them for an advisory flag.
 const EXAMPLES: Refused = &[
-    (ENTRY_OF_NO_TYPE, 20, Reason::ExtKind),
-    ("3E7 0 / 3E9 0 / 3EF 88000001", 24, Reason::Truncated),
-    (WITHOUT_A_UNIT, 0, Reason::Misplaced),
-    ("200004D2 0", 0, Reason::Misplaced),
-    ("3E7 0 / 3EB 0 / 3F2 / 200003E7 0", 20, Reason::Misplaced),
+    (examples::ENTRY_OF_NO_TYPE, 20, Reason::ExtKind),
+    (examples::ENTRY_CUT_SHORT, 24, Reason::Truncated),
+    (examples::WITHOUT_A_UNIT, 0, Reason::Misplaced),
+    (examples::ADVISORY, 0, Reason::Misplaced),
+    (examples::UNIT_WITH_ADVISORY_FLAG, 20, Reason::Misplaced),
 ];
 
 #[test]

@@ -148,7 +148,7 @@ hunk 0 8 bytes
     },
     Shown {
         name: "an advisory END",
-        file: "3F3 0 1 0 0 1 3E9 1 4E754E71 200003F2",
+        file: examples::ENDING_WITH_ADVISORY_FLAG,
         rest: 0,
         text: "load file 1 hunks 4 bytes
 hunk 0 4 bytes any
