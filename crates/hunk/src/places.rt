@@ -7,10 +7,8 @@ ghost use Rattle.hunk_scatter.specs.Rows.{entries_of};
 ghost use Rattle.hunk.specs.Streams.{HasSizes};
 
 use hunk_files::Row;
+use hunk_scan::TABLE_AT;
 use hunk_words::{MOST_HUNKS, SizeWord};
-
-/// The bytes of a header before its table.
-const BEFORE_TABLE: u64 = 20;
 
 /// Whether a header can declare the row: attributes stand only where both bits of the memory do.
 fn is_entry(row: Row) -> bool
@@ -32,7 +30,7 @@ pub(crate) fn table_sizes(rows: &[Row]) -> Option<(u64, u64)>
     if rows.len() > MOST_HUNKS as usize {
         return None;
     }
-    let mut header = BEFORE_TABLE;
+    let mut header = 4 * TABLE_AT as u64;
     let mut bytes = 0;
     'rows: for row in rows {
         if !is_entry(*row) {

@@ -5,11 +5,9 @@ ghost use Rattle.hunk_scatter.specs.HeaderBytes.{BeginsWithHeader};
 ghost use Rattle.hunk.specs.Tables.{BeginsWithTableOf, Tables, table_row};
 
 use crate::answer::{Answer, done, no_room, refused};
+use hunk_scan::TABLE_AT;
 use hunk_scatter::stream::header_size;
 use hunk_words::SizeWord;
-
-/// The longword at which the table begins, behind the number of the last hunk.
-const TABLE: usize = 5;
 
 /// What a header declares of a hunk: 16 bytes, with no padding.
 #[repr(C)]
@@ -57,7 +55,7 @@ fn put_rows(bytes: &[u8], rows: &mut [TableRow])
     ensures { (t : List TableEntry) → BeginsWithHeader bytes.now t → length t ≡ length rows.old
         → rows.new ≡ map table_row t }
 {
-    let mut at = TABLE;
+    let mut at = TABLE_AT;
     'rows: for row in rows {
         let size = SizeWord::at(bytes, at);
         *row = table_row(size);

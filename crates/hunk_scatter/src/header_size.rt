@@ -4,11 +4,8 @@ ghost use Rattle.hunk_words.specs.declared.reason.Reason.TheVariants as reasons;
 ghost use Rattle.hunk_scatter.specs.HeaderSizes.{HasHeaderInFront, HasHeaderSize, RefusesHeader};
 
 use crate::header_state::{HeaderState, pass_header_word};
-use hunk_scan::Position;
+use hunk_scan::{Position, TABLE_SIZE_AT};
 use hunk_words::{LoadFault, Reason, word_at};
-
-/// The longword of the header that has the number of hunks.
-const TABLE_SIZE: usize = 2;
 
 /// What a header says of its file, but for the rows of its table.
 #[derive(Clone, Copy, Debug, PartialEq, Eq)]
@@ -58,7 +55,7 @@ pub fn header_size(bytes: &[u8], budget: u64) -> Result<HeaderSize, LoadFault>
         at += 4;
     }
     Ok(HeaderSize {
-        hunks: word_at(bytes, TABLE_SIZE),
+        hunks: word_at(bytes, TABLE_SIZE_AT),
         bytes: at as u64,
         declared: state.total,
     })
