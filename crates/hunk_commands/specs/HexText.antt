@@ -1,5 +1,5 @@
 -- Hexadecimal text with blanks in it.
-use Rattle.std.specs.Prelude.{◌==◌, ◌||◌, ◌≡◌, ◌++◌, ℕ, Bool, true, false, not, List, Option, Ok}
+use Rattle.std.specs.Prelude.{◌==◌, ◌||◌, ◌≡◌, ◌⊎◌, ◌++◌, ℕ, Bool, true, false, not, List, Option, Ok}
 use Rattle.std.specs.List.{filter}
 use Rattle.hex.specs.Hex.{decode_of}
 use Rattle.hunk_commands.specs.Inputs.{ReadsInVain, ReadsWhole}
@@ -16,6 +16,14 @@ without_blanks text = filter (λ byte. not (is_blank byte)) text
 -- the text, without its blanks, is hexadecimal text of the bytes
 abbrev pub SpellsHex : List ℕ → List ℕ → Type 0
 SpellsHex text bytes = decode_of (without_blanks text) ≡ Ok bytes
+
+-- the text, without its blanks, is not hexadecimal text
+abbrev pub IsNotHex : List ℕ → Type 0
+IsNotHex text = (bytes : List ℕ) → ¬ SpellsHex text bytes
+
+-- why no bytes are answered: it is not, or memory ran out
+abbrev pub RefusesHex : List ℕ → RunFault → Type 0
+RefusesHex text fault = (fault ≡ faults.Memory) ⊎ ((fault ≡ faults.HexText) × IsNotHex text)
 
 -- ---- text that comes by pieces
 
@@ -49,7 +57,7 @@ pub record ReadsHex (a b : Option (List ℕ)) (most : ℕ) (bytes : List ℕ) : 
 pub record SpellsNone (a b : Option (List ℕ)) (most : ℕ) : Type 0 where
   pub text : List ℕ
   pub read : ReadsWhole a b most text
-  pub none : (bytes : List ℕ) → ¬ SpellsHex text bytes
+  pub none : IsNotHex text
 
 -- why no bytes were read: its text was not read to its end in fewer than `most` bytes, or spells none
 abbrev pub ReadsNoHex : RunFault → Option (List ℕ) → Option (List ℕ) → ℕ → Bool → Type 0

@@ -1,13 +1,11 @@
 //! The file that an input is.
-ghost use Rattle.std.specs.Prelude.{◌≡◌, ◌≢◌, ◌⊎◌, ◌^◌, ◌≤◌, IfOk, IfErr, OnOk, length};
-ghost use Rattle.hunk_words.specs.declared.reason.Reason.TheVariants as reasons;
+ghost use Rattle.std.specs.Prelude.{◌≡◌, ◌⊎◌, ◌^◌, ◌≤◌, IfOk, IfErr, OnOk, length};
 ghost use Rattle.hunk_files.specs.HunkFile.{AreFile, IsFileOf};
-ghost use Rattle.hunk_commands.specs.declared.fault.RunFault.TheVariants.{Memory, Refused};
+ghost use Rattle.hunk_commands.specs.declared.fault.RunFault.TheVariants.{Memory};
 ghost use Rattle.hunk_commands.specs.Refusals.{RefusesBytes};
 
 use crate::fault::RunFault;
 use hunk_files::HunkFile;
-use hunk_words::{Fault, Reason};
 use std::alloc::Global;
 
 /// The most bytes of an input, far more than any memory has: the bytes of its listing, which are at
@@ -29,19 +27,5 @@ pub(crate) fn decode_file(alloc: Global, bytes: &[u8]) -> Result<HunkFile<'_>, R
     if bytes.len() > MOST {
         return Err(RunFault::Memory);
     }
-    match HunkFile::decode(alloc, bytes) {
-        Ok(file) => Ok(file),
-        Err(fault) => Err(refusal(fault)),
-    }
-}
-
-/// The fault, or `Memory` where memory ran out.
-fn refusal(fault: Fault) -> RunFault
-    ensures { (result ≡ Memory)
-        ⊎ ((result ≡ Refused fault) × (fault.reason ≢ reasons.OutOfMemory)) }
-{
-    match fault.reason {
-        Reason::OutOfMemory => RunFault::Memory,
-        _ => RunFault::Refused(fault),
-    }
+    Ok(HunkFile::decode(alloc, bytes)?)
 }

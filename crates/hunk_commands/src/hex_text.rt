@@ -1,11 +1,10 @@
 //! Bytes from hexadecimal text.
-ghost use Rattle.std.specs.Prelude.{◌≡◌, ◌⊎◌, ◌≤◌, ◌++◌, ◌∷◌, [], ℕ, List, length};
+ghost use Rattle.std.specs.Prelude.{◌≡◌, ◌≤◌, ◌++◌, ◌∷◌, [], ℕ, List, length};
 ghost use Rattle.std.specs.Prelude.{IfOk, IfErr, OnOk, OnErr};
 ghost use Rattle.hunk_commands.specs.HexText.{AppendsSpelled, SpellsHex, is_blank};
-ghost use Rattle.hunk_commands.specs.HexText.{ReadsHex, ReadsNoHex};
+ghost use Rattle.hunk_commands.specs.HexText.{ReadsHex, ReadsNoHex, RefusesHex};
 ghost use Rattle.hunk_scatter.specs.LoadOutcomes.{GivesAtMost};
 ghost use Rattle.hunk_commands.specs.Inputs.{TellsReading};
-ghost use Rattle.hunk_commands.specs.declared.fault.RunFault.TheVariants.{HexText, Memory};
 
 use crate::fault::RunFault;
 use crate::input::{Taker, read_all};
@@ -73,9 +72,7 @@ impl HexDecoder {
     /// `HexText` where it spells none, and `Memory` where memory is refused.
     fn finish(self) -> Result<Vec<u8>, RunFault>
         ensures spelled { IfOk result (λ bytes. SpellsHex self bytes.items) }
-        ensures refused { IfErr result
-            (λ fault. (fault ≡ Memory)
-            ⊎ ((fault ≡ HexText) × ((bytes : List ℕ) → ¬ SpellsHex self bytes))) }
+        ensures refused { IfErr result (RefusesHex self) }
     {
         let HexDecoder {
             mut bytes,
@@ -132,9 +129,7 @@ fn is_blank(byte: u8) -> bool
 /// digits. `Memory` where memory is refused.
 pub fn unhex(alloc: Global, text: &[u8]) -> Result<Vec<u8>, RunFault>
     ensures spelled { IfOk result (λ bytes. SpellsHex text.now bytes.items) }
-    ensures refused { IfErr result
-        (λ fault. (fault ≡ Memory)
-        ⊎ ((fault ≡ HexText) × ((bytes : List ℕ) → ¬ SpellsHex text.now bytes))) }
+    ensures refused { IfErr result (RefusesHex text.now) }
 {
     let mut decoder = HexDecoder::new(alloc);
     decoder.take(text)?;
