@@ -70,7 +70,7 @@ pub(crate) fn run<T: Files + Input, W: Sink>(
     }
 }
 
-/// PrintsOrFails why there is no order, and gives the exit status.
+/// Prints why there is no order, and gives the exit status.
 pub(crate) fn refuse<W: Sink>(fault: &OrderFault, out: &mut LongWriter<W>) -> u8
     requires { out.old.written ≡ 0 }
     ensures bound { result ≤ 4 }
@@ -123,7 +123,7 @@ fn obey<T: Files + Input, W: Sink>(
     }
 }
 
-/// PrintsOrFails what is listed, or why it can't be.
+/// Prints what is listed, or why it can't be.
 fn list<T: Files + Input, W: Sink>(
     rt: &T,
     alloc: Global,
@@ -145,7 +145,7 @@ fn list<T: Files + Input, W: Sink>(
     }
 }
 
-/// PrintsOrFails the fault's line, and gives the fault's status.
+/// Prints the fault's line, and gives the fault's status.
 fn report<W: Sink>(alloc: Global, fault: RunFault, out: &mut LongWriter<W>) -> u8
     requires { out.old.written ≡ 0 }
     ensures bound { (0 < result) × (result ≤ 4) }
@@ -157,7 +157,7 @@ fn report<W: Sink>(alloc: Global, fault: RunFault, out: &mut LongWriter<W>) -> u
     }
 }
 
-/// PrintsOrFails the text, the first on this writer, and gives the status, which is 3 where that fails.
+/// Prints the text, the first on this writer, and gives the status, which is 3 where that fails.
 fn print<W: Sink>(text: &str, status: u8, out: &mut LongWriter<W>) -> u8
     requires first { out.old.written ≡ 0 }
     requires bound { status ≤ 4 }

@@ -64,7 +64,7 @@ fn rewrite_to<R: Source, T: Files>(
     }
 }
 
-/// PrintsOrFails the lines that say how much was written, the first on this writer, and gives the status,
+/// Prints the lines that say how much was written, the first on this writer, and gives the status,
 /// which is 3 where that fails.
 pub(super) fn tell<W: Sink>(done: Rewritten, out: &mut LongWriter<W>) -> u8
     requires { out.old.written ≡ 0 }
