@@ -13,7 +13,7 @@ use Rattle.hunk_blocks.specs.Values.{RelocGroup, SymbolEntry, BlockBody, BlockVa
 use Rattle.hunk_blocks.specs.Parts.{Part, Part as parts, each, group_parts, symbol_parts, body_parts, block_parts}
 use Rattle.hunk_blocks.specs.Modes.{IsOfLoad}
 use Rattle.hunk_files.specs.LoadFile.{TableEntry, LoadFileValue, IsTableEntry, standing, AreInOrder, IsInside, FitsGroup, FitsHunk, IsHunkBlock, IsHunk, IsLoadFile, declared_longs}
-use Rattle.hunk_scan.specs.Standings.{Standing, Beside, Content, Relocating, Ending, is_content}
+use Rattle.hunk_scan.specs.Standings.{BlockStanding, Beside, Content, Relocating, Ending, is_content}
 use Rattle.hunk_scan.specs.Roles.{Place, InBlock, refuse, refuse_part, refuse_kind, Role as roles}
 use Rattle.hunk_files.specs.LoadText.{entry_labelled, header_labelled, block_labelled, blocks_labelled, hunk_labelled, table, labelled}
 use Rattle.hunk_files.proofs.FileText.{standings, entries_fit}
@@ -97,15 +97,15 @@ module _ (p : Place) where
 
 -- ---- the block word, where the block may stand
 
-not_yet : (has_content : Bool) (later : List Standing) → AreInOrder has_content (Content ∷ later) → has_content ≡ false
+not_yet : (has_content : Bool) (later : List BlockStanding) → AreInOrder has_content (Content ∷ later) → has_content ≡ false
 not_yet true later o = absurd o
 not_yet false later o = refl
 
-already : (has_content : Bool) (later : List Standing) → AreInOrder has_content (Relocating ∷ later) → has_content ≡ true
+already : (has_content : Bool) (later : List BlockStanding) → AreInOrder has_content (Relocating ∷ later) → has_content ≡ true
 already true later o = refl
 already false later o = absurd o
 
-at_end : (has_content : Bool) (later : List Standing) → AreInOrder has_content (Ending ∷ later) → has_content ≡ true
+at_end : (has_content : Bool) (later : List BlockStanding) → AreInOrder has_content (Ending ∷ later) → has_content ≡ true
 at_end true later o = refl
 at_end false later o = absurd o
 
@@ -113,7 +113,7 @@ unknown_passes : (has_content advisory : Bool) (k : Kind) → IsTrue (is_unknown
 unknown_passes has_content advisory (kinds.Unknown n) u a = passes_then advisory None (Some reasons.UnknownBlock) a
 unknown_passes has_content advisory _ u a = absurd cc
 
-kind_passes : (has_content : Bool) (word : ℕ) (body : BlockBody) (later : List Standing) → FitsWord word body → IsOfLoad word body →
+kind_passes : (has_content : Bool) (word : ℕ) (body : BlockBody) (later : List BlockStanding) → FitsWord word body → IsOfLoad word body →
     AreInOrder has_content (standing body ∷ later) → refuse_kind has_content (is_advisory word) (kind word) ≡ None
 kind_passes has_content word (Code top ws) later h m o = rw h.0 (passes_else has_content (Some reasons.SecondContent) None (not_yet has_content later o))
 kind_passes has_content word (Data top ws) later h m o = rw h.0 (passes_else has_content (Some reasons.SecondContent) None (not_yet has_content later o))
@@ -124,20 +124,20 @@ kind_passes has_content word (Advisory ws) later h m o = unknown_passes has_cont
 kind_passes has_content word End later h m o = rw h (passes_then has_content None (Some reasons.NoContent) (at_end has_content later o))
 kind_passes has_content word _ later h m o = rw h.0 refl
 
-block_passes : (p : Place) (b : BlockValue) (later : List Standing) → IsHunkBlock p.hunks p.longs b → AreInOrder p.has_content (standing b.body ∷ later) → PartsPass p (block_parts b)
+block_passes : (p : Place) (b : BlockValue) (later : List BlockStanding) → IsHunkBlock p.hunks p.longs b → AreInOrder p.has_content (standing b.body ∷ later) → PartsPass p (block_parts b)
 block_passes p b later h o = (
   (h.block.word, passes_else (has_both_bits b.word) (Some reasons.BothBits) _ h.block.bits ∙ kind_passes p.has_content b.word b.body later h.block.body h.mode o),
   body_passes p b.word b.body h.block.body h.mode h.fits,
 )
 
-block_accepted : (p : Place) (b : BlockValue) (later : List Standing) → IsHunkBlock p.hunks p.longs b → AreInOrder p.has_content (standing b.body ∷ later) → AreAccepted (block_labelled p b)
+block_accepted : (p : Place) (b : BlockValue) (later : List BlockStanding) → IsHunkBlock p.hunks p.longs b → AreInOrder p.has_content (standing b.body ∷ later) → AreAccepted (block_labelled p b)
 block_accepted p b later h o = All-map (PartPasses p) IsAccepted (λ (x : Part × ℕ). (InBlock p x.0, x.1)) (λ x k. k) (block_parts b) (block_passes p b later h o)
 
 module _ (hunks longs : ℕ) where
   abbrev RestPasses : List BlockValue → Type 0
   RestPasses more = (has_content : Bool) → AreInOrder has_content (standings more) → AreAccepted (blocks_labelled hunks longs has_content more)
 
-  rest_passes : (s : Standing) (has_content : Bool) (more : List BlockValue) → AreInOrder has_content (s ∷ standings more) → RestPasses more → AreAccepted (blocks_labelled hunks longs (has_content || is_content s) more)
+  rest_passes : (s : BlockStanding) (has_content : Bool) (more : List BlockValue) → AreInOrder has_content (s ∷ standings more) → RestPasses more → AreAccepted (blocks_labelled hunks longs (has_content || is_content s) more)
   rest_passes Beside true more o rest = rest true o
   rest_passes Beside false more o rest = rest false o
   rest_passes Content false more o rest = rest true o

@@ -9,7 +9,7 @@ use Rattle.hunk_words.specs.Longs.{IsLong}
 use Rattle.hunk_blocks.specs.Values.{RelocGroup, BlockBody, BlockValue, Name, Code, Data, Bss, Reloc, Symbol, Debug, Advisory, End}
 use Rattle.hunk_blocks.specs.Parts.{Part, Part as parts, each}
 use Rattle.hunk_files.specs.LoadFile.{TableEntry, HunkValue, LoadFileValue, standing}
-use Rattle.hunk_scan.specs.Standings.{Standing, Beside, Content, Relocating, Ending, is_content}
+use Rattle.hunk_scan.specs.Standings.{BlockStanding, Beside, Content, Relocating, Ending, is_content}
 use Rattle.hunk_scan.specs.Roles.{Place, Role, InBlock, refuse, refuse_part}
 use Rattle.hunk_files.specs.LoadText.{words}
 use Rattle.hunk_files.specs.Fault.{completing}
@@ -142,7 +142,7 @@ open_completes o = go o.has_content refl
     go true e = end_completes o (empty_hunks (length o.ahead)) e (hunks_complete o.hunks _ o.ahead)
     go false e = filled_and_ended o (empty_hunks (length o.ahead)) e (hunks_complete o.hunks _ o.ahead)
 
-close_completes : (o : OpenHunk) (b : BlockValue) (s : Standing) → s ≢ Ending → Completes (close_by o b s) (end_of_hunk (o.has_content || is_content s) ++ empty_hunks (length o.ahead))
+close_completes : (o : OpenHunk) (b : BlockValue) (s : BlockStanding) → s ≢ Ending → Completes (close_by o b s) (end_of_hunk (o.has_content || is_content s) ++ empty_hunks (length o.ahead))
 close_completes o b Beside ne = Completes-as (close_by o b Beside) (ap (λ (c : Bool). end_of_hunk c ++ empty_hunks (length o.ahead)) (sym (or-false o.has_content))) (open_completes (with_block o b o.has_content))
 close_completes o b Relocating ne = Completes-as (close_by o b Relocating) (ap (λ (c : Bool). end_of_hunk c ++ empty_hunks (length o.ahead)) (sym (or-false o.has_content))) (open_completes (with_block o b o.has_content))
 close_completes o b Content ne = Completes-as (close_by o b Content) (ap (λ (c : Bool). end_of_hunk c ++ empty_hunks (length o.ahead)) (sym (or-true o.has_content))) (open_completes (with_block o b true))

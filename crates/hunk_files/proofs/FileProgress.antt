@@ -12,7 +12,7 @@ use Rattle.hunk_words.specs.Longs.{IsLong}
 use Rattle.hunk_blocks.specs.Values.{BlockBody, BlockValue, Name, Code, Data, Bss, Reloc, Ext, Symbol, Debug, Advisory, End}
 use Rattle.hunk_blocks.specs.Parts.{Part, Part as parts}
 use Rattle.hunk_files.specs.LoadFile.{TableEntry, HunkValue, IsTableEntry, standing, AreInOrder, IsHunkBlock, IsHunk, IsLoadFile}
-use Rattle.hunk_scan.specs.Standings.{Standing, Content, Relocating, Ending, is_content}
+use Rattle.hunk_scan.specs.Standings.{BlockStanding, Content, Relocating, Ending, is_content}
 use Rattle.hunk_scan.specs.Roles.{Place, Role, InBlock, refuse, refuse_part, refuse_kind, Role as roles}
 use Rattle.hunk_files.specs.LoadText.{entry_labelled, block_labelled, blocks_labelled, hunk_labelled, labelled, entries}
 use Rattle.hunk_blocks.specs.BlockSteps.{BlockNext, Open, Whole, part_of, step_inside, begin}
@@ -94,7 +94,7 @@ pub record OpenFits (o : OpenHunk) : Type 0 where
   pub front_fits : FrontFits o.hunks o.finished (o.entry ∷ o.ahead)
   pub blocks_fit : AllByRecursion (IsHunkBlock o.hunks (size_longs o.entry.word)) o.blocks
   pub content_is : o.has_content ≡ content_in false o.blocks
-  pub in_order : (later : List Standing) → AreInOrder o.has_content later → AreInOrder false (standings o.blocks ++ later)
+  pub in_order : (later : List BlockStanding) → AreInOrder o.has_content later → AreInOrder false (standings o.blocks ++ later)
 
 abbrev pub IsAdmitted : OpenHunk → ℕ → Type 0
 IsAdmitted o word = IsLong word × (refuse_part (place_of o) parts.BlockWord word ≡ None)
@@ -154,21 +154,21 @@ module _ (o : OpenHunk) (h : OpenFits o) (b : BlockValue) (fits : IsHunkBlock o.
       ∙ ap (λ (c : Bool). blocks_labelled o.hunks (size_longs o.entry.word) false o.blocks ++ block_labelled (place_in o.hunks (size_longs o.entry.word) c) b) (sym h.content_is)
 
   still_open : (has_content : Bool) → has_content ≡ o.has_content || is_content (standing b.body) →
-      ((later : List Standing) → AreInOrder has_content later → AreInOrder o.has_content (standing b.body ∷ later)) →
+      ((later : List BlockStanding) → AreInOrder has_content later → AreInOrder o.has_content (standing b.body ∷ later)) →
       Reads (More (AtBlock (with_block o b has_content))) (open_so_far o ++ block_labelled (place_of o) b)
   still_open has_content e order = (
     record {
       front_fits = h.front_fits;
       blocks_fit = All-more (IsHunkBlock o.hunks (size_longs o.entry.word)) o.blocks b h.blocks_fit fits;
       content_is = e ∙ ap (λ (c : Bool). c || is_content (standing b.body)) h.content_is ∙ sym (content_in-more false o.blocks b);
-      in_order = λ later ok. subst (λ (s : List Standing). AreInOrder false s) (sym (in_standings later)) (h.in_order (standing b.body ∷ later) (order later ok));
+      in_order = λ later ok. subst (λ (s : List BlockStanding). AreInOrder false s) (sym (in_standings later)) (h.in_order (standing b.body ∷ later) (order later ok));
     },
     ap (λ (l : Labelled). front o.hunks (entries o.finished ++ o.entry ∷ o.ahead) o.finished ++ l) one_more_reads
         ∙ sym (append_assoc (front o.hunks (entries o.finished ++ o.entry ∷ o.ahead) o.finished) (blocks_labelled o.hunks (size_longs o.entry.word) false o.blocks) (block_labelled (place_of o) b)),
   )
     where
-      in_standings : (later : List Standing) → standings (o.blocks ++ b ∷ []) ++ later ≡ standings o.blocks ++ standing b.body ∷ later
-      in_standings later = ap (λ (s : List Standing). s ++ later) (map-more (λ (c : BlockValue). standing c.body) o.blocks b) ∙ append_assoc (standings o.blocks) (standing b.body ∷ []) later
+      in_standings : (later : List BlockStanding) → standings (o.blocks ++ b ∷ []) ++ later ≡ standings o.blocks ++ standing b.body ∷ later
+      in_standings later = ap (λ (s : List BlockStanding). s ++ later) (map-more (λ (c : BlockValue). standing c.body) o.blocks b) ∙ append_assoc (standings o.blocks) (standing b.body ∷ []) later
 
   now_whole : AreInOrder o.has_content (standing b.body ∷ []) →
       Reads (open_hunk o.hunks (o.finished ++ hunk o.entry (o.blocks ++ b ∷ []) ∷ []) o.ahead) (open_so_far o ++ block_labelled (place_of o) b)
@@ -200,7 +200,7 @@ module _ (o : OpenHunk) (h : OpenFits o) (b : BlockValue) (fits : IsHunkBlock o.
       whole = record {
         entry = h.front_fits.ahead_fit.0;
         blocks = All-more (IsHunkBlock o.hunks (size_longs o.entry.word)) o.blocks b h.blocks_fit fits;
-        order = subst (λ (s : List Standing). AreInOrder false s) (sym (map-more (λ (c : BlockValue). standing c.body) o.blocks b)) (h.in_order (standing b.body ∷ []) order);
+        order = subst (λ (s : List BlockStanding). AreInOrder false s) (sym (map-more (λ (c : BlockValue). standing c.body) o.blocks b)) (h.in_order (standing b.body ∷ []) order);
       }
 
 pub kind_admitted : (o : OpenHunk) (word : ℕ) → IsAdmitted o word → (has_both_bits word ≡ false) × (refuse_kind o.has_content (is_advisory word) (kind word) ≡ None)
@@ -212,11 +212,11 @@ block_fits o word body a f = record { block = record { word = a.0; bits = (kind_
 pub kind_is : (o : OpenHunk) (word : ℕ) (k : Kind) → IsAdmitted o word → kind word ≡ k → refuse_kind o.has_content (is_advisory word) k ≡ None
 kind_is o word k a e = subst (λ (x : Kind). refuse_kind o.has_content (is_advisory word) x ≡ None) e (kind_admitted o word a).1
 
-content_order : (has_content : Bool) → has_content ≡ false → (later : List Standing) → AreInOrder true later → AreInOrder has_content (Content ∷ later)
+content_order : (has_content : Bool) → has_content ≡ false → (later : List BlockStanding) → AreInOrder true later → AreInOrder has_content (Content ∷ later)
 content_order true e later ok = absurd cc
 content_order false e later ok = ok
 
-reloc_order : (has_content : Bool) → has_content ≡ true → (later : List Standing) → AreInOrder has_content later → AreInOrder has_content (Relocating ∷ later)
+reloc_order : (has_content : Bool) → has_content ≡ true → (later : List BlockStanding) → AreInOrder has_content later → AreInOrder has_content (Relocating ∷ later)
 reloc_order true e later ok = ok
 reloc_order false e later ok = absurd cc
 

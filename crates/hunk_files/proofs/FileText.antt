@@ -7,7 +7,7 @@ use Rattle.hunk_words.specs.Bits.{kind, has_both_bits, size_longs}
 use Rattle.hunk_blocks.specs.Values.{BlockValue}
 use Rattle.hunk_blocks.specs.Parts.{Part, body_parts}
 use Rattle.hunk_files.specs.LoadFile.{TableEntry, HunkValue, LoadFileValue, IsTableEntry, standing, AreInOrder, IsHunkBlock, IsHunk, IsLoadFile}
-use Rattle.hunk_scan.specs.Standings.{Standing, Beside, Content, Relocating, Ending, is_content}
+use Rattle.hunk_scan.specs.Standings.{BlockStanding, Beside, Content, Relocating, Ending, is_content}
 use Rattle.hunk_scan.specs.Roles.{Place, Role, InBlock, Role as roles}
 use Rattle.hunk_files.specs.LoadText.{entries, entry_labelled, header_labelled, block_labelled, blocks_labelled, hunk_labelled, table, labelled}
 use Rattle.hunk_blocks.specs.BlockSteps.{BlockNext, Open, Whole, step_inside, begin, Follows}
@@ -32,7 +32,7 @@ pub block_leads : (hunks longs : ℕ) (o : OpenHunk) (b : BlockValue) → IsHunk
 block_leads hunks longs o b h = (refl, Follows-leads o b.word (begin (kind b.word)) (Whole b.body) (body_parts b.body) (body_follows b.word b.body h.block.body))
 
 -- the blocks of a hunk from an open place in it
-abbrev pub standings : List BlockValue → List Standing
+abbrev pub standings : List BlockValue → List BlockStanding
 standings bs = map (λ b. standing b.body) bs
 
 abbrev opened : ℕ → List HunkValue → TableEntry → List BlockValue → Bool → List TableEntry → OpenHunk
@@ -59,7 +59,7 @@ module _ (hunks : ℕ) (finished : List HunkValue) (entry : TableEntry) (ahead :
   one_more has_content done b more o reads =
       subst (λ (bs : List BlockValue). Leads (More (AtBlock (at (done ++ b ∷ []) has_content))) (labels has_content more) (behind bs)) (append_assoc done (b ∷ []) more) (reads has_content (done ++ b ∷ []) o)
 
-  block_closed : (s : Standing) (has_content : Bool) (done : List BlockValue) (b : BlockValue) (more : List BlockValue) → AreInOrder has_content (s ∷ standings more) → AreRead more →
+  block_closed : (s : BlockStanding) (has_content : Bool) (done : List BlockValue) (b : BlockValue) (more : List BlockValue) → AreInOrder has_content (s ∷ standings more) → AreRead more →
       Leads (close_by (at done has_content) b s) (labels (has_content || is_content s) more) (behind (done ++ b ∷ more))
   block_closed Beside true done b more o reads = one_more true done b more o reads
   block_closed Beside false done b more o reads = one_more false done b more o reads

@@ -27,7 +27,7 @@ use Rattle.hunk_blocks.proofs.FaultLaws.{Embeds, ahead_embedded, expects_embedde
 use Rattle.hunk_blocks.proofs.Lists.{All-append, passes_else, passes_then}
 use Rattle.hunk_blocks.proofs.OneBlockFault.{alone_inside, part_not_word}
 use Rattle.hunk_files.specs.LoadFile.{standing, AreInOrder}
-use Rattle.hunk_scan.specs.Standings.{Standing, Beside, Content, Relocating, Ending, is_content, refuse_standing, standing_of_kind, first_of}
+use Rattle.hunk_scan.specs.Standings.{BlockStanding, Beside, Content, Relocating, Ending, is_content, refuse_standing, standing_of_kind, first_of}
 use Rattle.hunk_files.specs.ObjectFile.{ObjectHunk, unit_word}
 use Rattle.hunk_files.specs.ObjectParts.{BeginsWithText}
 use Rattle.hunk_files.specs.ObjectFault.{WordPlace, BeforeUnits, BetweenHunks, InHunk, ObjectRole, WordAt, has_content, behind_block, role_at, block_labelled, blocks_labelled, refuse_unit, refuse_word, refuse_object, blocks_from, unread, MayGoOn}
@@ -57,15 +57,15 @@ rest_goes true = ((end_is, tt), refl)
 rest_goes false = ((bss_is, (end_is, tt)), refl)
 
 -- the rest behind a block that may stand here
-tail_of : Bool → Standing → ObjectHunk
+tail_of : Bool → BlockStanding → ObjectHunk
 tail_of has Ending = []
 tail_of has s = rest_of_hunk (has || is_content s)
 
-tail_goes : (has : Bool) (b : BlockValue) (s : Standing) → IsBlock b → standing b.body ≡ s → refuse_standing has s ≡ None → Goes has (b ∷ tail_of has s)
+tail_goes : (has : Bool) (b : BlockValue) (s : BlockStanding) → IsBlock b → standing b.body ≡ s → refuse_standing has s ≡ None → Goes has (b ∷ tail_of has s)
 unfolding tail_of
-tail_goes has b s is e ok = subst (λ (t : Standing). AllByRecursion IsBlock (b ∷ tail_of has s) × AreInOrder has (t ∷ standings (tail_of has s))) (sym e) (go has s ok)
+tail_goes has b s is e ok = subst (λ (t : BlockStanding). AllByRecursion IsBlock (b ∷ tail_of has s) × AreInOrder has (t ∷ standings (tail_of has s))) (sym e) (go has s ok)
   where
-    go : (k : Bool) (t : Standing) → refuse_standing k t ≡ None → AllByRecursion IsBlock (b ∷ tail_of k t) × AreInOrder k (t ∷ standings (tail_of k t))
+    go : (k : Bool) (t : BlockStanding) → refuse_standing k t ≡ None → AllByRecursion IsBlock (b ∷ tail_of k t) × AreInOrder k (t ∷ standings (tail_of k t))
     go true Beside ok = ((is, (rest_goes true).0), (rest_goes true).1)
     go false Beside ok = ((is, (rest_goes false).0), (rest_goes false).1)
     go true Content ok = absurd cc
@@ -340,7 +340,7 @@ content_behind : (place : WordPlace) (bs : ObjectHunk) (has : Bool) → Leads (h
 content_behind place [] has h = h
 content_behind place (b ∷ bs) has h = content_behind (behind_block place (standing b.body)) bs has (go (has_content place) (standing b.body) h)
   where
-    go : (k : Bool) (s : Standing) → Leads k (s ∷ standings bs) has → Leads (k || is_content s) (standings bs) has
+    go : (k : Bool) (s : BlockStanding) → Leads k (s ∷ standings bs) has → Leads (k || is_content s) (standings bs) has
     go true Beside l = l
     go false Beside l = l
     go false Content l = l

@@ -8,7 +8,7 @@ use Rattle.hunk_words.specs.Longs.{IsLong}
 use Rattle.hunk_words.specs.Bits.{kind, is_advisory, has_both_bits}
 use Rattle.hunk_blocks.specs.Values.{BlockValue, ExtEntry, SymbolEntry, BlockBody, Name, Code, Data, Bss, Reloc, Ext, Symbol, Debug, Advisory, End}
 use Rattle.hunk_files.specs.LoadFile.{TableEntry, LoadFileValue, IsLoadFile, HunkValue, standing}
-use Rattle.hunk_scan.specs.Standings.{Standing, Beside, Content, Relocating, Ending, is_content}
+use Rattle.hunk_scan.specs.Standings.{BlockStanding, Beside, Content, Relocating, Ending, is_content}
 use Rattle.hunk_scan.specs.declared.position.Position.TheVariants as positions
 use Rattle.hunk_scan.specs.Positions.{end_least, is_behind_header, least_longs}
 use Rattle.hunk_files.specs.ReaderPosition.{open_of, block_phase, position_of}
@@ -62,7 +62,7 @@ behind o content = end_least (o.has_content || content) + 3 * length o.ahead
 closed_least : (o : OpenHunk) (word : ℕ) (body : BlockBody) → standing body ≢ Ending → behind o (is_content (standing body)) ≤ least_next (close o (block word body))
 closed_least o word body ne = go (standing body) ne
   where
-    go : (s : Standing) → s ≢ Ending → behind o (is_content s) ≤ least_next (close_by o (block word body) s)
+    go : (s : BlockStanding) → s ≢ Ending → behind o (is_content s) ≤ least_next (close_by o (block word body) s)
     go Beside n = rw (or-false o.has_content) (omega arith)
     go Relocating n = rw (or-false o.has_content) (omega arith)
     go Content n = rw (or-true o.has_content) (omega arith)

@@ -21,7 +21,7 @@ use Rattle.hunk_blocks.proofs.Lists.{map-more, flat_map-more, All-more, All-appe
 use Rattle.hunk_blocks.proofs.BlockLongs.{block_longs}
 use Rattle.hunk_blocks.proofs.BlockPrefix.{block_same}
 use Rattle.hunk_files.specs.LoadFile.{standing, AreInOrder}
-use Rattle.hunk_scan.specs.Standings.{Standing, Beside, Content, Relocating, Ending, is_content, is_ending, refuse_standing, standing_of_kind}
+use Rattle.hunk_scan.specs.Standings.{BlockStanding, Beside, Content, Relocating, Ending, is_content, is_ending, refuse_standing, standing_of_kind}
 use Rattle.hunk_files.specs.ObjectFile.{is_object_refusal, ObjectHunk, UnitValue, ObjectFileValue, IsObjectHunk, IsUnit, unit_header, unit_text, object_text}
 use Rattle.hunk_files.specs.ObjectParts.{BeginsWithText, MayStand}
 use Rattle.hunk_files.proofs.Accepted.{All-flat_map}
@@ -134,7 +134,7 @@ err_both (Err e) P Q R h k f = f e h k
 
 -- ---- reasons
 
-pub place_own : (has : Bool) (s : Standing) (reason : Reason) → refuse_standing has s ≡ Some reason → IsTrue (is_object_refusal reason)
+pub place_own : (has : Bool) (s : BlockStanding) (reason : Reason) → refuse_standing has s ≡ Some reason → IsTrue (is_object_refusal reason)
 place_own true Content reason e = let same : reasons.SecondContent ≡ reason = cc in subst (λ (x : Reason). IsTrue (is_object_refusal x)) same refl
 place_own false Relocating reason e = let same : reasons.BeforeContent ≡ reason = cc in subst (λ (x : Reason). IsTrue (is_object_refusal x)) same refl
 place_own false Ending reason e = let same : reasons.NoContent ≡ reason = cc in subst (λ (x : Reason). IsTrue (is_object_refusal x)) same refl
@@ -159,7 +159,7 @@ block_own _ h ne = absurd cc
 -- ---- the blocks of a hunk
 
 -- These blocks may follow one another, and none of them ends the hunk. The flags say whether the content block came before them, and whether it came then.
-abbrev pub Leads : Bool → List Standing → Bool → Type 0
+abbrev pub Leads : Bool → List BlockStanding → Bool → Type 0
 Leads a [] b = a ≡ b
 Leads a (Beside ∷ rest) b = Leads a rest b
 Leads false (Content ∷ rest) b = Leads true rest b
@@ -168,7 +168,7 @@ Leads true (Relocating ∷ rest) b = Leads true rest b
 Leads false (Relocating ∷ rest) b = ⊥
 Leads a (Ending ∷ rest) b = ⊥
 
-abbrev pub standings : List BlockValue → List Standing
+abbrev pub standings : List BlockValue → List BlockStanding
 standings bs = map (λ b. standing b.body) bs
 
 pub record HunkSoFar (bytes : List ℕ) (bs : ObjectHunk) (has : Bool) (at : ℕ) : Type 0 where
@@ -181,14 +181,14 @@ unfolding bytes_of
 no_blocks bytes = record { blocks = tt; leads = refl; text = text_none bytes refl }
 
 -- what may stand here leads on, unless it is END
-pub leads_one : (has : Bool) (s : Standing) → refuse_standing has s ≡ None → is_ending s ≡ false → Leads has (s ∷ []) (has || is_content s)
+pub leads_one : (has : Bool) (s : BlockStanding) → refuse_standing has s ≡ None → is_ending s ≡ false → Leads has (s ∷ []) (has || is_content s)
 leads_one true Beside ok no_end = refl
 leads_one false Beside ok no_end = refl
 leads_one false Content ok no_end = refl
 leads_one true Relocating ok no_end = refl
 leads_one _ _ ok no_end = absurd cc
 
-pub leads_more : (a b c : Bool) (xs ys : List Standing) → Leads a xs b → Leads b ys c → Leads a (xs ++ ys) c
+pub leads_more : (a b c : Bool) (xs ys : List BlockStanding) → Leads a xs b → Leads b ys c → Leads a (xs ++ ys) c
 leads_more a b c [] ys h k = subst (λ (x : Bool). Leads x ys c) (sym h) k
 leads_more true b c (Beside ∷ xs) ys h k = leads_more true b c xs ys h k
 leads_more false b c (Beside ∷ xs) ys h k = leads_more false b c xs ys h k
@@ -196,7 +196,7 @@ leads_more false b c (Content ∷ xs) ys h k = leads_more true b c xs ys h k
 leads_more true b c (Relocating ∷ xs) ys h k = leads_more true b c xs ys h k
 leads_more _ b c (_ ∷ xs) ys h k = absurd h
 
-pub leads_end : (a b : Bool) (xs ys : List Standing) → Leads a xs b → AreInOrder b ys → AreInOrder a (xs ++ ys)
+pub leads_end : (a b : Bool) (xs ys : List BlockStanding) → Leads a xs b → AreInOrder b ys → AreInOrder a (xs ++ ys)
 leads_end a b [] ys h k = subst (λ (x : Bool). AreInOrder x ys) (sym h) k
 leads_end true b (Beside ∷ xs) ys h k = leads_end true b xs ys h k
 leads_end false b (Beside ∷ xs) ys h k = leads_end false b xs ys h k
@@ -204,7 +204,7 @@ leads_end false b (Content ∷ xs) ys h k = leads_end true b xs ys h k
 leads_end true b (Relocating ∷ xs) ys h k = leads_end true b xs ys h k
 leads_end _ b (_ ∷ xs) ys h k = absurd h
 
-pub end_stands : (has : Bool) (s : Standing) → refuse_standing has s ≡ None → is_ending s ≡ true → AreInOrder has (s ∷ [])
+pub end_stands : (has : Bool) (s : BlockStanding) → refuse_standing has s ≡ None → is_ending s ≡ true → AreInOrder has (s ∷ [])
 end_stands true Ending ok e = refl
 end_stands false Ending ok e = absurd cc
 end_stands _ _ ok e = absurd cc
@@ -220,7 +220,7 @@ module _ (bytes : List ℕ) (bs : ObjectHunk) (has : Bool) (at : ℕ) (h : HunkS
       record {
         blocks = All-more IsBlock bs b h.blocks r.block;
         leads =
-            subst (λ (ss : List Standing). Leads false ss (has || is_content (standing b.body))) (sym (map-more (λ c. standing c.body) bs b))
+            subst (λ (ss : List BlockStanding). Leads false ss (has || is_content (standing b.body))) (sym (map-more (λ c. standing c.body) bs b))
             (leads_more false has (has || is_content (standing b.body)) (standings bs) (standing b.body ∷ []) h.leads (leads_one has (standing b.body) ok e));
         text = text_with;
       }
@@ -256,14 +256,14 @@ left_of (b ∷ bs) (c ∷ cs) a has x y hb hc leads order e =
     (sym (append_assoc (block_text b) (flat_map block_text bs) x) ∙ e ∙ append_assoc (block_text c) (flat_map block_text cs) y) in
     go a (standing b.body) leads (subst (λ (d : BlockValue). AreInOrder a (standing d.body ∷ standings cs)) (sym same.0) order) (λ k l o. left_of bs cs k has x y hb.1 hc.1 l o same.1)
   where
-    go : (k : Bool) (s : Standing) → Leads k (s ∷ standings bs) has → AreInOrder k (s ∷ standings cs) → ((m : Bool) → Leads m (standings bs) has → AreInOrder m (standings cs) → Left has x y) → Left has x y
+    go : (k : Bool) (s : BlockStanding) → Leads k (s ∷ standings bs) has → AreInOrder k (s ∷ standings cs) → ((m : Bool) → Leads m (standings bs) has → AreInOrder m (standings cs) → Left has x y) → Left has x y
     go true Beside l o all = all true l o
     go false Beside l o all = all false l o
     go false Content l o all = all true l o
     go true Relocating l o all = all true l o
     go _ _ l o all = absurd l
 
-first_stands : (has : Bool) (s : Standing) (rest : List Standing) → AreInOrder has (s ∷ rest) → refuse_standing has s ≡ None
+first_stands : (has : Bool) (s : BlockStanding) (rest : List BlockStanding) → AreInOrder has (s ∷ rest) → refuse_standing has s ≡ None
 first_stands true Content rest o = absurd o
 first_stands false Relocating rest o = absurd o
 first_stands false Ending rest o = absurd o

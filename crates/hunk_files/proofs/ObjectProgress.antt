@@ -19,7 +19,7 @@ use Rattle.hunk_blocks.proofs.BlockProgress.{read_inside}
 use Rattle.hunk_blocks.proofs.Lists.{All-more, All-append, flat_map-more, map-more, more_owed, passed_true}
 use Rattle.hunk_blocks.proofs.OneBlockFault.{part_not_word}
 use Rattle.hunk_files.specs.LoadFile.{standing, AreInOrder}
-use Rattle.hunk_scan.specs.Standings.{Standing, Beside, Content, Relocating, Ending, is_content, is_ending, refuse_standing, standing_of_kind, first_of}
+use Rattle.hunk_scan.specs.Standings.{BlockStanding, Beside, Content, Relocating, Ending, is_content, is_ending, refuse_standing, standing_of_kind, first_of}
 use Rattle.hunk_files.specs.ObjectFile.{ObjectHunk, UnitValue, ObjectFileValue, IsObjectFile, IsObjectHunk, IsUnit, unit_word, unit_header, unit_text, object_text}
 use Rattle.hunk_files.specs.ObjectFault.{WordPlace, BeforeUnits, BetweenHunks, InHunk, ObjectRole, WordAt, UnitCount, UnitName, Within, has_content, behind_block, role_at, refuse_unit, refuse_word, refuse_object, blocks_from, units_from, objects}
 use Rattle.hunk_files.proofs.HunkFaults.{blocks_at, expects_block, expects_word, expects_within, expects_behind, place_behind, opened}
@@ -129,7 +129,7 @@ name_expected place count name owed fit few counts =
     names [] = refl
     names (x ∷ xs) = ap (λ ys. x ∷ ys) (names xs)
 
-standing_goes : (place : WordPlace) (s : Standing) → refuse_place place s ≡ None → refuse_standing (has_content place) s ≡ None
+standing_goes : (place : WordPlace) (s : BlockStanding) → refuse_place place s ≡ None → refuse_standing (has_content place) s ≡ None
 standing_goes BeforeUnits s ok = absurd cc
 standing_goes BetweenHunks s ok = ok
 standing_goes (InHunk has) s ok = ok
@@ -229,7 +229,7 @@ block_closed place ws b h is ok e =
       is_unit = h.is_unit;
       are_blocks = All-more IsBlock h.blocks b h.are_blocks is;
       leads =
-          subst (λ (ss : List Standing). Leads false ss (has || is_content (standing b.body))) (sym (map-more (λ c. standing c.body) h.blocks b))
+          subst (λ (ss : List BlockStanding). Leads false ss (has || is_content (standing b.body))) (sym (map-more (λ c. standing c.body) h.blocks b))
           (leads_more false has (has || is_content (standing b.body)) (standings h.blocks) (standing b.body ∷ []) h.leads (leads_one has (standing b.body) ok e));
       place_is = place_more BetweenHunks h.blocks b ∙ ap (λ (p : WordPlace). behind_block p (standing b.body)) h.place_is;
       words_are =
@@ -241,11 +241,11 @@ block_closed place ws b h is ok e =
 closed : (place : WordPlace) (ws : List ℕ) (b : BlockValue) → InUnit place ws (block_text b) → IsBlock b → refuse_standing (has_content place) (standing b.body) ≡ None → SoFarAt (place_next place (standing b.body)) ws
 closed place ws b h is ok = go (standing b.body) refl
   where
-    go : (s : Standing) → standing b.body ≡ s → SoFarAt (place_next place s) ws
+    go : (s : BlockStanding) → standing b.body ≡ s → SoFarAt (place_next place s) ws
     go Ending e = hunk_closed place ws b h is ok (ap is_ending e)
-    go Beside e = subst (λ (s : Standing). InUnit (behind_block place s) ws []) e (block_closed place ws b h is ok (ap is_ending e))
-    go Content e = subst (λ (s : Standing). InUnit (behind_block place s) ws []) e (block_closed place ws b h is ok (ap is_ending e))
-    go Relocating e = subst (λ (s : Standing). InUnit (behind_block place s) ws []) e (block_closed place ws b h is ok (ap is_ending e))
+    go Beside e = subst (λ (s : BlockStanding). InUnit (behind_block place s) ws []) e (block_closed place ws b h is ok (ap is_ending e))
+    go Content e = subst (λ (s : BlockStanding). InUnit (behind_block place s) ws []) e (block_closed place ws b h is ok (ap is_ending e))
+    go Relocating e = subst (λ (s : BlockStanding). InUnit (behind_block place s) ws []) e (block_closed place ws b h is ok (ap is_ending e))
 
 -- A block word and what was read behind it.
 in_block_so_far : (place : WordPlace) (ws tail : List ℕ) (w : ℕ) (n : BlockNext) → InUnit place ws tail → Inner modes.Object n w tail → refuse_place place (standing_of_kind (kind w)) ≡ None → SoFar (in_block (place_next place (standing_of_kind (kind w))) n) ws
@@ -253,7 +253,7 @@ in_block_so_far place ws tail w (Open x) h i ok = record { place = place; word =
 in_block_so_far place ws tail w (Whole b) h i ok =
     let is = (block_is modes.Object w b i.fits i.ok i.inside).0 in
     let same : standing b ≡ standing_of_kind (kind w) = standing_is w b i.inside in
-    subst (λ (s : Standing). SoFarAt (place_next place s) ws) same
+    subst (λ (s : BlockStanding). SoFarAt (place_next place s) ws) same
     (closed place ws (block w b) (subst (InUnit place ws) i.words_are h) is (ap (refuse_standing (has_content place)) same ∙ standing_goes place (standing_of_kind (kind w)) ok))
 
 -- ---- each longword that is not refused

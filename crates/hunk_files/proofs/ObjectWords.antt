@@ -14,14 +14,14 @@ use Rattle.hunk_blocks.specs.ExtKinds.{ext_kind, ext_shape, shape_of_kind}
 use Rattle.hunk_blocks.specs.Parts.{Part, Part as parts}
 use Rattle.hunk_blocks.specs.Modes.{refuse_alone_kind, refuse_alone_word, refuse_inside, refuse_shape}
 use Rattle.hunk_blocks.proofs.Admitted.{not_for_memory, other_than_memory}
-use Rattle.hunk_scan.specs.Standings.{Standing, first_of, refuse_standing, standing_of_kind}
+use Rattle.hunk_scan.specs.Standings.{BlockStanding, first_of, refuse_standing, standing_of_kind}
 use Rattle.hunk_files.specs.ObjectFile.{unit_word}
 use Rattle.hunk_files.specs.ObjectFault.{WordPlace, BeforeUnits, BetweenHunks, InHunk, ObjectRole, WordAt, UnitCount, Within, role_at, has_content, refuse_ext_type, refuse_kind, refuse_unit, refuse_word, refuse_object}
 
 -- ---- block words
 
 -- The test of the place of a block that is no unit.
-abbrev pub refuse_place : WordPlace → Standing → Option Reason
+abbrev pub refuse_place : WordPlace → BlockStanding → Option Reason
 refuse_place BeforeUnits s = Some reasons.Misplaced
 refuse_place place s = refuse_standing (has_content place) s
 

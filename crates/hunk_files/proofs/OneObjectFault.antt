@@ -19,7 +19,7 @@ use Rattle.hunk_blocks.proofs.FaultScan.{Machine, Leads, Leads-append, Passes, R
 use Rattle.hunk_blocks.proofs.Lists.{All-append, passes_then, passes_else}
 use Rattle.hunk_blocks.proofs.OneBlockFault.{PartsPass, body_passes, part_not_word}
 use Rattle.hunk_files.specs.LoadFile.{standing, AreInOrder}
-use Rattle.hunk_scan.specs.Standings.{Standing, Beside, Content, Relocating, Ending, is_content, refuse_standing, standing_of_kind, first_of}
+use Rattle.hunk_scan.specs.Standings.{BlockStanding, Beside, Content, Relocating, Ending, is_content, refuse_standing, standing_of_kind, first_of}
 use Rattle.hunk_files.specs.ObjectFile.{ObjectHunk, UnitValue, ObjectFileValue, IsObjectFile, IsObjectHunk, IsUnit, IsNoObjectFile, unit_word}
 use Rattle.hunk_files.specs.ObjectFault.{WordPlace, BeforeUnits, BetweenHunks, InHunk, ObjectRole, WordAt, UnitCount, UnitName, Within, has_content, behind_block, role_at, block_labelled, blocks_labelled, hunk_labelled, header_labelled, unit_labelled, units_labelled, refuse_unit, refuse_word, refuse_object, objects, IsTruncatedObject, HasObjectFault}
 use Rattle.hunk_files.proofs.ObjectDecoding.{standing_is, standings}
@@ -44,7 +44,7 @@ expects (InName owed) = Some UnitName
 expects (InBlock next x) = Some (Within (part_of x))
 
 -- the place behind a block that stands here
-abbrev pub place_next : WordPlace → Standing → WordPlace
+abbrev pub place_next : WordPlace → BlockStanding → WordPlace
 place_next place Ending = BetweenHunks
 place_next place s = behind_block place s
 
@@ -81,7 +81,7 @@ block_leads place b is =
     let next : WordPlace = place_next place (standing b.body) in
     let goes : step (AtWord place) b.word ≡ in_block next (begin (kind b.word)) =
     passes_else (eqb b.word unit_word) AtCount _ (ne_eqb b.word unit_word (no_unit_word b is))
-    ∙ ap (λ (s : Standing). in_block (place_next place s) (begin (kind b.word))) (sym (standing_is b.word b.body is.body)) in
+    ∙ ap (λ (s : BlockStanding). in_block (place_next place s) (begin (kind b.word))) (sym (standing_is b.word b.body is.body)) in
     (refl, subst (λ (s : ObjectState). Leads reader s (relabel (role_at place) (body_parts b.body)) (AtWord next)) (sym goes) (body_leads place next (begin (kind b.word)) (body_parts b.body) b.body (body_follows b.word b.body is.body)))
 
 parts_pass : (place : WordPlace) (ps : List (Part × ℕ)) → PartsPass ps → Passes reader refuse_object (relabel (role_at place) ps)
@@ -107,24 +107,24 @@ IsInUnit BeforeUnits = ⊥
 IsInUnit BetweenHunks = Unit {0}
 IsInUnit (InHunk has) = Unit {0}
 
-placed : (place : WordPlace) (s : Standing) → IsInUnit place → refuse_standing (has_content place) s ≡ None → refuse_place place s ≡ None
+placed : (place : WordPlace) (s : BlockStanding) → IsInUnit place → refuse_standing (has_content place) s ≡ None → refuse_place place s ≡ None
 placed BeforeUnits s h ok = absurd h
 placed BetweenHunks s h ok = ok
 placed (InHunk has) s h ok = ok
 
 -- what the order of the blocks says of the first
-pub record Next (place : WordPlace) (s : Standing) (bs : ObjectHunk) : Type 0 where
+pub record Next (place : WordPlace) (s : BlockStanding) (bs : ObjectHunk) : Type 0 where
   pub stands : refuse_standing (has_content place) s ≡ None
   pub goes : ((bs ≡ []) × (place_next place s ≡ BetweenHunks)) ⊎ ((place_next place s ≡ behind_block place s) × AreInOrder (has_content place || is_content s) (standings bs))
 
-order_next : (place : WordPlace) (s : Standing) (bs : ObjectHunk) → AreInOrder (has_content place) (s ∷ standings bs) → Next place s bs
+order_next : (place : WordPlace) (s : BlockStanding) (bs : ObjectHunk) → AreInOrder (has_content place) (s ∷ standings bs) → Next place s bs
 order_next place s bs h = go (has_content place) s h refl
   where
     none : (cs : ObjectHunk) → standings cs ≡ [] → cs ≡ []
     none [] e = refl
     none (c ∷ cs) e = absurd cc
 
-    go : (k : Bool) (t : Standing) → AreInOrder k (t ∷ standings bs) → has_content place ≡ k → Next place t bs
+    go : (k : Bool) (t : BlockStanding) → AreInOrder k (t ∷ standings bs) → has_content place ≡ k → Next place t bs
     go true Beside h e = record { stands = ap (λ (c : Bool). refuse_standing c Beside) e; goes = inr (refl, subst (λ (c : Bool). AreInOrder (c || false) (standings bs)) (sym e) h) }
     go false Beside h e = record { stands = ap (λ (c : Bool). refuse_standing c Beside) e; goes = inr (refl, subst (λ (c : Bool). AreInOrder (c || false) (standings bs)) (sym e) h) }
     go false Content h e = record { stands = ap (λ (c : Bool). refuse_standing c Content) e; goes = inr (refl, subst (λ (c : Bool). AreInOrder (c || true) (standings bs)) (sym e) h) }
@@ -144,7 +144,7 @@ runs_on a b c ks ls h k = (Leads-append reader a b c ks ls h.0 k.0, All-append _
 blocks_run : (place : WordPlace) (bs : ObjectHunk) → IsInUnit place → AllByRecursion IsBlock bs → AreInOrder (has_content place) (standings bs) → Runs (AtWord place) (blocks_labelled place bs) (AtWord BetweenHunks)
 blocks_run place [] h are order = absurd order
 blocks_run place (b ∷ bs) h are order =
-    let s : Standing = standing b.body in
+    let s : BlockStanding = standing b.body in
     let n = order_next place s bs order in
     let one : Runs (AtWord place) (block_labelled place b) (AtWord (place_next place s)) = (block_leads place b are.0, block_passes place b are.0 (placed place s h n.stands)) in
     elim n.goes [

@@ -16,7 +16,7 @@ use Rattle.hunk_scan.specs.Positions as scan
 use Rattle.hunk_scan.specs.Positions.{role_at, run, pass, is_between_hunks}
 use Rattle.hunk_scan.specs.Roles.{refuse, refuse_kind}
 use Rattle.hunk_files.specs.LoadFile.{TableEntry, HunkValue, standing}
-use Rattle.hunk_scan.specs.Standings.{Standing, Beside, Content, Relocating, Ending}
+use Rattle.hunk_scan.specs.Standings.{BlockStanding, Beside, Content, Relocating, Ending}
 use Rattle.hunk_files.specs.LoadText.{entries}
 use Rattle.hunk_files.proofs.Reading.{next_after, all_pass}
 use Rattle.hunk_files.specs.ReaderPosition.{open_of, block_phase, phase_of, position_of, longs_of, opened}
@@ -264,7 +264,7 @@ after_moves : (p : Progress) (o : OpenHunk) (word : ℕ) (n : BlockNext) → Sta
 after_moves p o word (Open x) s = s
 after_moves p o word (Whole body) s = go (standing body)
   where
-    go : (t : Standing) → Moves p (close_by o (block word body) t)
+    go : (t : BlockStanding) → Moves p (close_by o (block word body) t)
     go Beside = block_moves p (with_block o (block word body) o.has_content) o.blocks (block word body) s
     go Relocating = block_moves p (with_block o (block word body) o.has_content) o.blocks (block word body) s
     go Content = block_moves p (with_block o (block word body) true) o.blocks (block word body) s

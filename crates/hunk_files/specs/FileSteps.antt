@@ -4,7 +4,7 @@ use Rattle.hunk_words.specs.Bits.{size_longs, has_both_bits, kind}
 use Rattle.hunk_blocks.specs.Values.{BlockBody, BlockValue}
 use Rattle.hunk_blocks.specs.Parts.{Part as parts}
 use Rattle.hunk_files.specs.LoadFile.{TableEntry, HunkValue, LoadFileValue, standing}
-use Rattle.hunk_scan.specs.Standings.{Standing, Beside, Content, Relocating, Ending}
+use Rattle.hunk_scan.specs.Standings.{BlockStanding, Beside, Content, Relocating, Ending}
 use Rattle.hunk_scan.specs.Roles.{Place, Role, InBlock, Role as roles}
 use Rattle.hunk_blocks.specs.BlockSteps.{Inside, BlockNext, Open, Whole, part_of, step_inside, begin}
 
@@ -73,7 +73,7 @@ abbrev pub with_block : OpenHunk → BlockValue → Bool → OpenHunk
 with_block o b has_content =
     record { hunks = o.hunks; finished = o.finished; entry = o.entry; blocks = o.blocks ++ b ∷ []; has_content = has_content; ahead = o.ahead }
 
-abbrev pub close_by : OpenHunk → BlockValue → Standing → Next
+abbrev pub close_by : OpenHunk → BlockValue → BlockStanding → Next
 close_by o b Beside = More (AtBlock (with_block o b o.has_content))
 close_by o b Relocating = More (AtBlock (with_block o b o.has_content))
 close_by o b Content = More (AtBlock (with_block o b true))

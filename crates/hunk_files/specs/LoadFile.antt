@@ -7,7 +7,7 @@ use Rattle.hunk_words.specs.Bits.{size_longs, has_both_bits}
 use Rattle.hunk_blocks.specs.declared.mode.Mode.TheVariants as modes
 use Rattle.hunk_blocks.specs.Values.{RelocGroup, BlockBody, BlockValue, Name, Code, Data, Bss, Reloc, Ext, Symbol, Debug, Advisory, End, IsBlock}
 use Rattle.hunk_blocks.specs.Modes.{IsOfMode}
-use Rattle.hunk_scan.specs.Standings.{Standing, Beside, Content, Relocating, Ending}
+use Rattle.hunk_scan.specs.Standings.{BlockStanding, Beside, Content, Relocating, Ending}
 
 -- A size word of the table, and the memory attributes where both of its memory bits are set, else 0.
 pub record TableEntry : Type 0 where
@@ -28,7 +28,7 @@ abbrev pub IsTableEntry : TableEntry → Type 0
 IsTableEntry e = IsLong e.word × IsLong e.extra × (IsFalse (has_both_bits e.word) → e.extra ≡ 0)
 
 -- where a block may stand in its hunk
-abbrev pub standing : BlockBody → Standing
+abbrev pub standing : BlockBody → BlockStanding
 standing (Name words) = Beside
 standing (Code top words) = Content
 standing (Data top words) = Content
@@ -41,7 +41,7 @@ standing (Advisory words) = Beside
 standing End = Ending
 
 -- One content block, relocations only after it, and END last. The flag says whether the content block came before.
-abbrev pub AreInOrder : Bool → List Standing → Type 0
+abbrev pub AreInOrder : Bool → List BlockStanding → Type 0
 AreInOrder has_content [] = ⊥
 AreInOrder has_content (Beside ∷ rest) = AreInOrder has_content rest
 AreInOrder false (Content ∷ rest) = AreInOrder true rest

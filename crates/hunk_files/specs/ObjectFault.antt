@@ -15,7 +15,7 @@ use Rattle.hunk_blocks.specs.Begins.{first_long}
 use Rattle.hunk_blocks.specs.Reading.{Unread}
 use Rattle.hunk_blocks.specs.Faults.{Grammar, HasRefusal, IsFront}
 use Rattle.hunk_files.specs.LoadFile.{standing, AreInOrder}
-use Rattle.hunk_scan.specs.Standings.{Standing, is_content}
+use Rattle.hunk_scan.specs.Standings.{BlockStanding, is_content}
 use Rattle.hunk_files.specs.ObjectFile.{ObjectHunk, UnitValue, ObjectFileValue, IsUnit, IsNoObjectFile, unit_word}
 
 -- ---- roles
@@ -38,7 +38,7 @@ has_content (InHunk has) = has
 has_content _ = false
 
 -- where the next block word stands
-abbrev pub behind_block : WordPlace → Standing → WordPlace
+abbrev pub behind_block : WordPlace → BlockStanding → WordPlace
 behind_block place s = InHunk (has_content place || is_content s)
 
 abbrev pub role_at : WordPlace → Part → ObjectRole

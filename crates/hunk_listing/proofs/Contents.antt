@@ -4,11 +4,11 @@ use Rattle.std.proofs.lemmas.List.{drop_all, drop_more}
 use Rattle.std.proofs.lemmas.List.Sums.{sum_by-cons}
 use Rattle.hunk_blocks.specs.Values.{BlockBody, BlockValue, Name, Code, Data, Bss, Reloc, Ext, Symbol, Debug, Advisory, End}
 use Rattle.hunk_files.specs.LoadFile.{AreInOrder, standing}
-use Rattle.hunk_scan.specs.Standings.{Standing, Beside, Content, Relocating, Ending, is_content}
+use Rattle.hunk_scan.specs.Standings.{BlockStanding, Beside, Content, Relocating, Ending, is_content}
 use Rattle.hunk_files.specs.ObjectFile.{ObjectHunk}
 use Rattle.hunk_files.specs.Findings.{content_size, hunk_bytes}
 
-abbrev standings : ObjectHunk → List Standing
+abbrev standings : ObjectHunk → List BlockStanding
 standings blocks = map (λ b. standing b.body) blocks
 
 -- no block before this number is the content block
@@ -30,13 +30,13 @@ beside_content (Debug words) other = refl
 beside_content (Advisory words) other = refl
 beside_content End other = refl
 
-after_content : (s : Standing) (rest : List Standing) → is_content s ≡ true → AreInOrder false (s ∷ rest) → AreInOrder true rest
+after_content : (s : BlockStanding) (rest : List BlockStanding) → is_content s ≡ true → AreInOrder false (s ∷ rest) → AreInOrder true rest
 after_content Content rest is order = order
 after_content Beside rest is order = absurd cc
 after_content Relocating rest is order = absurd cc
 after_content Ending rest is order = absurd cc
 
-before_content : (s : Standing) (rest : List Standing) → is_content s ≡ false → AreInOrder false (s ∷ rest) → AreInOrder false rest
+before_content : (s : BlockStanding) (rest : List BlockStanding) → is_content s ≡ false → AreInOrder false (s ∷ rest) → AreInOrder false rest
 before_content Content rest other order = absurd cc
 before_content Beside rest other order = order
 before_content Relocating rest other order = absurd order
@@ -50,7 +50,7 @@ no_bytes [] e = refl
 no_bytes (b ∷ blocks) e = absurd cc
 
 nothing_here : (b : BlockValue) (blocks : ObjectHunk) → (AreInOrder true (standings blocks) → hunk_bytes blocks ≡ 0) →
-    (s : Standing) → standing b.body ≡ s → AreInOrder true (s ∷ standings blocks) → hunk_bytes (b ∷ blocks) ≡ 0
+    (s : BlockStanding) → standing b.body ≡ s → AreInOrder true (s ∷ standings blocks) → hunk_bytes (b ∷ blocks) ≡ 0
 nothing_here b blocks more Beside is order = nothing_beside b blocks (ap is_content is) (more order)
 nothing_here b blocks more Relocating is order = nothing_beside b blocks (ap is_content is) (more order)
 nothing_here b blocks more Content is order = absurd order

@@ -6,22 +6,22 @@ use Rattle.hunk_words.specs.declared.reason.Reason.{Reason}
 use Rattle.hunk_words.specs.declared.reason.Reason.TheVariants as reasons
 
 -- Anywhere, or once, or only behind the content block, or at the end.
-pub data Standing : Type 0 where
-  Beside : Standing
-  Content : Standing
-  Relocating : Standing
-  Ending : Standing
+pub data BlockStanding : Type 0 where
+  Beside : BlockStanding
+  Content : BlockStanding
+  Relocating : BlockStanding
+  Ending : BlockStanding
 
-abbrev pub is_content : Standing → Bool
+abbrev pub is_content : BlockStanding → Bool
 is_content Content = true
 is_content _ = false
 
-abbrev pub is_ending : Standing → Bool
+abbrev pub is_ending : BlockStanding → Bool
 is_ending Ending = true
 is_ending _ = false
 
 -- where a block of this kind may stand
-abbrev pub standing_of_kind : Kind → Standing
+abbrev pub standing_of_kind : Kind → BlockStanding
 standing_of_kind kinds.Code = Content
 standing_of_kind kinds.Data = Content
 standing_of_kind kinds.Bss = Content
@@ -38,7 +38,7 @@ standing_of_kind kinds.End = Ending
 standing_of_kind _ = Beside
 
 -- The test of a block's place. The flag says whether the hunk has its content block.
-abbrev pub refuse_standing : Bool → Standing → Option Reason
+abbrev pub refuse_standing : Bool → BlockStanding → Option Reason
 refuse_standing true Content = Some reasons.SecondContent
 refuse_standing false Relocating = Some reasons.BeforeContent
 refuse_standing false Ending = Some reasons.NoContent

@@ -6,7 +6,7 @@ use Rattle.hunk_words.specs.Bits.{size_longs, kind}
 use Rattle.hunk_blocks.specs.Values.{BlockValue}
 use Rattle.hunk_files.specs.Image.{declared_bytes}
 use Rattle.hunk_files.specs.LoadFile.{TableEntry, HunkValue, standing}
-use Rattle.hunk_scan.specs.Standings.{Standing, Ending}
+use Rattle.hunk_scan.specs.Standings.{BlockStanding, Ending}
 use Rattle.hunk_files.specs.LoadText.{entries}
 use Rattle.hunk_blocks.specs.BlockSteps.{BlockNext, Open, Whole, step_inside, begin}
 use Rattle.hunk_files.specs.FileSteps.{hunk, block, OpenHunk, Progress, AtBlock, InBody, Next, More, Finished, role_of, open_hunk, close_by, after, step}
@@ -124,7 +124,7 @@ after_keeps : (o : OpenHunk) (word : ℕ) (n : BlockNext) → Keeps (open_table 
 after_keeps o word (Open x) = (refl, refl)
 after_keeps o word (Whole body) = go (standing body)
   where
-    go : (s : Standing) → Keeps (open_table o) (close_by o (block word body) s)
+    go : (s : BlockStanding) → Keeps (open_table o) (close_by o (block word body) s)
     go Ending = open_keeps o.hunks o.finished (hunk o.entry (o.blocks ++ block word body ∷ [])) o.ahead
     go _ = (refl, refl)
 
