@@ -8,13 +8,9 @@ use Rattle.hunk_files.specs.LoadText.{table, text}
 use Rattle.hunk_files.specs.Image.{declared_bytes, image}
 use Rattle.hunk_scatter.specs.LoadOutcomes.{Gives, IsLoadFault, IsShort}
 use Rattle.hunk_scatter.specs.LoaderValues.{ImageValue}
-use Rattle.hunk_scatter.specs.Placing.{AreBases, Placing, packed_base}
+use Rattle.hunk_scatter.specs.Placing.{AreBases, packed_from}
 use Rattle.hunk_scatter.specs.Rows.{bases_of}
 use Rattle.hunk_listing.specs.SegmentLines.{Segment, segment_listing}
-
--- the hunks lie one behind the other from the start on
-abbrev pub packed : ℕ → Placing
-packed start = λ hunk row before. packed_base start row before
 
 -- each segment at its base
 abbrev pub segments_of : List ℕ → List (List ℕ) → List Segment
@@ -30,7 +26,7 @@ pub record IsListingAt (start budget : ℕ) (file : LoadFileValue) (written : Li
   pub is_file : IsLoadFile file
   pub within : declared_bytes (table file) ≤ budget
   pub bases : List ℕ
-  pub are_bases : AreBases (packed start) (table file) bases
+  pub are_bases : AreBases (packed_from start) (table file) bases
   pub listing_is : written ≡ segment_listing (segments_of bases (map (image bases) file))
 
 -- The input begins with a load file of which this is the listing.
@@ -66,4 +62,4 @@ pub record LacksMemory (start budget most : ℕ) (a b : Option (List ℕ)) (fail
   pub given : List ℕ
   pub gave : Gives a b most given
   pub place : ℕ
-  pub lacks : IsLoadFault (packed start) budget most b failed given (record { place = place; reason = OutOfMemory })
+  pub lacks : IsLoadFault (packed_from start) budget most b failed given (record { place = place; reason = OutOfMemory })

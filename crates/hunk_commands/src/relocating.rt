@@ -16,7 +16,8 @@ ghost use Rattle.hunk_commands.specs.Faults.{IsRelocateFault};
 ghost use Rattle.hunk_commands.specs.Inputs.{TellsReading};
 ghost use Rattle.hunk_commands.specs.Output.{StopsOutput};
 ghost use Rattle.hunk_commands.specs.Relocating.{LacksMemory, ReadsShort, Relocates, RelocatesAll};
-ghost use Rattle.hunk_commands.specs.Relocating.{image_listing, packed};
+ghost use Rattle.hunk_scatter.specs.Placing.{packed_from};
+ghost use Rattle.hunk_commands.specs.Relocating.{image_listing};
 
 use crate::fault::RunFault;
 use hunk_listing::print_segment;
@@ -53,14 +54,14 @@ pub fn relocate<R: Source, W: Sink>(
     requires { w.old.written ≡ 0 }
     ensures ok { OnOk result (RelocatesAll base limits.budget limits.file_bytes
         (R.left r.old) (R.left r.new) (W.taken w.old.sink) (W.taken w.new.sink) w.new.written) }
-    ensures succeeds { HasFileWithin (packed base) limits (R.left r.old) → R.failed r.new ≡ false
+    ensures succeeds { HasFileWithin (packed_from base) limits (R.left r.old) → R.failed r.new ≡ false
         → W.failed w.new.sink ≡ false → IfErr result (λ fault. fault ≡ Memory) }
 
     // What is read at most, whatever the answer: no byte behind the file, and none behind a
     // header that can't be placed.
     ensures limit { GivesAtMost (R.left r.old) (R.left r.new) limits.file_bytes }
     ensures one_file { StopsBehindFile (R.left r.old) (R.left r.new) }
-    ensures header_first { StopsBehindHeader (packed base) limits.budget
+    ensures header_first { StopsBehindHeader (packed_from base) limits.budget
         (R.left r.old) (R.left r.new) }
 
     // After a fault of writing the first bytes of the text have gone out, and after another one
@@ -81,7 +82,7 @@ pub fn relocate<R: Source, W: Sink>(
         → IsTrue (is_of_file refusal.reason) → HasFault input refusal.place refusal.reason) }
     ensures refused { IfErr result (λ fault. (refusal : Fault) → fault ≡ Refused refusal
         → (given : List ℕ) × Gives (R.left r.old) (R.left r.new) limits.file_bytes given
-        × IsLoadFault (packed base) limits.budget limits.file_bytes
+        × IsLoadFault (packed_from base) limits.budget limits.file_bytes
         (R.left r.new) (R.failed r.new) given refusal) }
     ensures read { IfErr result (λ fault. (place : ℕ) → fault ≡ Read place
         → ReadsShort limits.budget limits.file_bytes

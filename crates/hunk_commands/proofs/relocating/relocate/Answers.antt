@@ -13,7 +13,8 @@ use Rattle.hunk_scatter.specs.Rows.{bases_of}
 use Rattle.hunk_commands.specs.declared.fault.RunFault.TheVariants.{Memory, Read, Refused}
 use Rattle.hunk_commands.specs.Faults.{refused_as, refused_for}
 use Rattle.hunk_listing.specs.SegmentLines.{segment_listing}
-use Rattle.hunk_commands.specs.Relocating.{LacksMemory, ReadsShort, image_listing, packed, segments_of}
+use Rattle.hunk_scatter.specs.Placing.{packed_from}
+use Rattle.hunk_commands.specs.Relocating.{LacksMemory, ReadsShort, image_listing, segments_of}
 use Rattle.hunk_commands.proofs.Engines.{handed}
 use Rattle.hunk_commands.proofs.ListingLengths.{image_listing_fits}
 use Rattle.hunk_commands.proofs.relocating.relocate.Goals as goal
@@ -71,10 +72,10 @@ returns-in_err-image-clause-refused g c =
     let failed = g.R.Source.failed c.load.new.r in
     let limits = c.args.limits in
     handed (λ fault. (x : Fault) → fault ≡ Refused x → (given : List ℕ) × Gives before after limits.file_bytes given
-    × IsLoadFault (packed c.args.base) limits.budget limits.file_bytes after failed given x)
+    × IsLoadFault (packed_from c.args.base) limits.budget limits.file_bytes after failed given x)
     c.from_residual.result (refused_as refusal) (err_from_is_err_and c.from_residual.result c.from_residual.ensures.1)
     (λ x is. subst (λ (y : Fault). (given : List ℕ) × Gives before after limits.file_bytes given
-    × IsLoadFault (packed c.args.base) limits.budget limits.file_bytes after failed given y) (same_refusal refusal x is) c.in_err-image.ensures.fault)
+    × IsLoadFault (packed_from c.args.base) limits.budget limits.file_bytes after failed given y) (same_refusal refusal x is) c.in_err-image.ensures.fault)
 
 pub returns-in_err-image-clause-read : goal.returns-in_err-image-clause-read
 returns-in_err-image-clause-read g c =
@@ -88,7 +89,7 @@ returns-in_err-image-clause-read g c =
     (λ place is.
     let read = same_read refusal place is in
     let fault = c.in_err-image.ensures.fault in
-    let why = subst (λ (r : Reason). IsLoadFaultBy r (packed c.args.base) limits.budget limits.file_bytes after failed fault.0 refusal.place) read.0 fault.2 in
+    let why = subst (λ (r : Reason). IsLoadFaultBy r (packed_from c.args.base) limits.budget limits.file_bytes after failed fault.0 refusal.place) read.0 fault.2 in
     record {
       broken = why.1;
       given = fault.0;
@@ -118,7 +119,7 @@ returns-in_err-image-clause-memory g c =
       given = fault.0;
       gave = fault.1;
       place = refusal.place;
-      lacks = subst (λ (r : Reason). IsLoadFaultBy r (packed c.args.base) limits.budget limits.file_bytes after failed fault.0 refusal.place) (same_memory refusal is) fault.2;
+      lacks = subst (λ (r : Reason). IsLoadFaultBy r (packed_from c.args.base) limits.budget limits.file_bytes after failed fault.0 refusal.place) (same_memory refusal is) fault.2;
     })
 
 pub returns-in_err-put_listing-clause-over_budget : goal.returns-in_err-put_listing-clause-over_budget
