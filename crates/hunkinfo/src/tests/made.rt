@@ -12,9 +12,10 @@ use std::rt::Files;
 pub(super) const OTHER: &[u8; 44] = b"\0\0\x03\xF3\0\0\0\0\0\0\0\x01\0\0\0\0\0\0\0\0\0\0\0\x02\
     \0\0\x03\xE9\0\0\0\x02\x4E\x75\x4E\x71\x4E\x71\x4E\x75\0\0\x03\xF2";
 
-/// A runtime whose standard input and whose files but `other` give the same bytes, and where `fails` is
-/// set fail once those are given. The file `missing` can't be opened, the file `full` takes 6 bytes,
-/// the file `lost` takes all and keeps none, and the files `pipe` and `terminal` have nothing to keep.
+/// A runtime whose standard input and whose files but `other` give the same bytes, and where
+/// `fails` is set fail once those are given. The file `missing` can't be opened, the file `full`
+/// takes 6 bytes, the file `lost` takes all and keeps none, and the files `pipe` and `terminal`
+/// have nothing to keep.
 #[derive(Drop)]
 pub(super) struct Made<'a> {
     pub bytes: &'a [u8],

@@ -17,7 +17,8 @@ const DAMAGED: &str =
 
 const OLD: &[u8] = b"an old file that is longer than the one that takes its place";
 
-/// The files of a run, in a folder that no other run has and that is removed whatever comes of the run.
+/// The files of a run, in a folder that no other run has and that is removed whatever comes of the
+/// run.
 #[derive(Drop)]
 struct Files {
     folder: String,
@@ -84,7 +85,8 @@ fn rewritten(rt: &HostRuntime, bytes: &[u8]) -> Result<After, Fail> {
     Ok(after)
 }
 
-/// Sees that the rewriting of these bytes ended so, and left the input as it was and these bytes in the output.
+/// Sees that the rewriting of these bytes ended so, and left the input as it was and these bytes in
+/// the output.
 fn expect(rt: &impl Abort, after: &After, bytes: &[u8], want: &[u8], status: u8) {
     assert_eq!(rt; after.status, status);
     assert_eq!(rt; after.output.as_slice(), want);
