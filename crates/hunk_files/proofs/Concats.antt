@@ -1,9 +1,7 @@
 -- Lists that are made of a part for each element, one more at a time.
-use Rattle.std.proofs.Common.{◌≡◌, ℕ, ◌+◌, ◌<◌, ◌≤◌, List, ◌++◌, length, get_or, take, sym, ap, ◌∙◌, Some}
-use Rattle.std.specs.Prelude.{slice_get}
+use Rattle.std.proofs.Common.{◌≡◌, ℕ, ◌+◌, ◌<◌, ◌≤◌, List, ◌++◌, length, get_or, take, sym, ap, ◌∙◌}
 use Rattle.std.specs.List.{flat_map}
 use Rattle.std.proofs.lemmas.List.{take_all, take_more}
-use Rattle.std.proofs.lemmas.Option.{get_or_from_slice_get}
 use Rattle.hunk_blocks.proofs.Lists.{flat_map-more}
 
 -- the parts of the first elements and of the next
@@ -13,7 +11,3 @@ flat_map-next {A} f xs i x inside is =
 
 pub flat_map-whole : {A B : Type 0} (f : A → List B) (xs : List A) (i : ℕ) → length xs ≤ i → flat_map f (take i xs) ≡ flat_map f xs
 flat_map-whole f xs i all = ap (flat_map f) (take_all i xs all)
-
--- the element is the one at the index
-pub element_at : {A : Type 0} (xs : List A) (i : ℕ) (x : A) → slice_get xs i ≡ Some x → x ≡ get_or xs i x
-element_at xs i x e = sym (get_or_from_slice_get xs i x x e)

@@ -1,7 +1,6 @@
 -- Relocations, one part after another.
 use Rattle.std.proofs.Common.{◌≡◌, ℕ, zero, suc, ◌+◌, ◌*◌, ◌<◌, ◌≤◌, Bool, true, false, List, [], ◌∷◌, ◌++◌, length, map, get_or, take, refl, sym, ap, subst, ◌∙◌, length-append, arith}
 use Rattle.std.specs.List.{flat_map, AllByRecursion}
-use Rattle.std.proofs.lemmas.List.{take_more, get_or-map, length-map}
 use Rattle.hunk_words.specs.Longs.{bytes_of}
 use Rattle.hunk_words.proofs.LongLaws.{length-bytes_of}
 use Rattle.hunk_blocks.specs.Values.{RelocGroup, BlockBody, BlockValue, Name, Code, Data, Bss, Reloc, Ext, Symbol, Debug, Advisory, End}
@@ -19,18 +18,7 @@ relocated-append bases s (p ∷ ps) qs = relocated-append bases (add_at s p.0 (g
 
 -- ---- one part more
 
--- one offset of a group
-pub group_more : (bases s now : List ℕ) (g : RelocGroup) (i o : ℕ) → i < length g.offsets → o ≡ get_or g.offsets i 0 → now ≡ relocated bases s (take i (group_relocations g)) →
-    add_at now o (get_or bases g.target 0) ≡ relocated bases s (take (i + 1) (group_relocations g))
-group_more bases s now g i o inside is e =
-    let f : ℕ → ℕ × ℕ = λ x. (x, g.target) in
-    let next : take (i + 1) (map f g.offsets) ≡ take i (map f g.offsets) ++ (o, g.target) ∷ [] =
-    take_more (map f g.offsets) i (0, 0) (omega (arith, inside, length-map g.offsets f))
-    ∙ ap (λ (p : ℕ × ℕ). take i (map f g.offsets) ++ p ∷ []) (get_or-map f g.offsets i 0 (0, 0) inside ∙ ap f (sym is))
-    in
-    ap (λ (l : List ℕ). add_at l o (get_or bases g.target 0)) e ∙ sym (ap (relocated bases s) next ∙ relocated-append bases s (take i (map f g.offsets)) ((o, g.target) ∷ []))
-
--- a group of some, or a block
+-- a block
 pub part_more : {A : Type 0} (f : A → List (ℕ × ℕ)) (bases s now new : List ℕ) (xs : List A) (i : ℕ) (x : A) → i < length xs → x ≡ get_or xs i x → now ≡ relocated bases s (flat_map f (take i xs)) → new ≡ relocated bases now (f x) →
     new ≡ relocated bases s (flat_map f (take (i + 1) xs))
 part_more f bases s now new xs i x inside is e n =
@@ -47,14 +35,42 @@ part_room {A} f size size' bases xs i x same h inside is = subst (λ (n : ℕ). 
     go (y ∷ xs) zero h l e = subst (λ (z : A). IsRelocatable size bases (f z)) (sym e) (All-left (λ (p : ℕ × ℕ). (p.0 + 4 ≤ size) × (p.1 < bases)) (f y) (flat_map f xs) h)
     go (y ∷ xs) (suc i) h l e = go xs i (All-right (λ (p : ℕ × ℕ). (p.0 + 4 ≤ size) × (p.1 < bases)) (f y) (flat_map f xs) h) (omega (arith, l)) e
 
--- of one offset
-pub offset_room : (size bases : ℕ) (g : RelocGroup) (i : ℕ) → IsRelocatable size bases (group_relocations g) → i < length g.offsets → (get_or g.offsets i 0 + 4 ≤ size) × (g.target < bases)
-offset_room size bases g i h inside = go g.offsets i h inside
-  where
-    go : (os : List ℕ) (i : ℕ) → IsRelocatable size bases (map (λ o. (o, g.target)) os) → i < length os → (get_or os i 0 + 4 ≤ size) × (g.target < bases)
-    go [] i h l = absurd (omega (arith, l))
-    go (o ∷ os) zero h l = h.0
-    go (o ∷ os) (suc i) h l = go os i h.1 (omega (arith, l))
+-- ---- the first of the parts that are left
+
+-- all of the rest come to the same behind it
+pub part_first : {A : Type 0} (f : A → List (ℕ × ℕ)) (bases now new all : List ℕ) (left rest : List A) (x : A) → left ≡ x ∷ rest → relocated bases now (flat_map f left) ≡ all → new ≡ relocated bases now (f x) →
+    relocated bases new (flat_map f rest) ≡ all
+part_first {A} f bases now new all left rest x e h n =
+    ap (λ (l : List ℕ). relocated bases l (flat_map f rest)) n
+    ∙ sym (relocated-append bases now (f x) (flat_map f rest))
+    ∙ ap (λ (ys : List A). relocated bases now (flat_map f ys)) (sym e)
+    ∙ h
+
+-- no part is left
+pub parts_done : {A : Type 0} (f : A → List (ℕ × ℕ)) (bases now all : List ℕ) (left : List A) → length left ≡ 0 → relocated bases now (flat_map f left) ≡ all → now ≡ all
+parts_done f bases now all [] e h = h
+parts_done f bases now all (x ∷ left) e h = absurd cc
+
+-- there is room for it and for the rest
+pub first_room : {A : Type 0} (f : A → List (ℕ × ℕ)) (size bases : ℕ) (left rest : List A) (x : A) → left ≡ x ∷ rest → IsRelocatable size bases (flat_map f left) → IsRelocatable size bases (f x) × IsRelocatable size bases (flat_map f rest)
+first_room {A} f size bases left rest x e h =
+    let both : IsRelocatable size bases (f x ++ flat_map f rest) = subst (λ (ys : List A). IsRelocatable size bases (flat_map f ys)) e h in
+    (All-left (λ (p : ℕ × ℕ). (p.0 + 4 ≤ size) × (p.1 < bases)) (f x) (flat_map f rest) both, All-right (λ (p : ℕ × ℕ). (p.0 + 4 ≤ size) × (p.1 < bases)) (f x) (flat_map f rest) both)
+
+-- the same of the offsets of a group
+abbrev pub to_target : ℕ → List ℕ → List (ℕ × ℕ)
+to_target target offsets = map (λ o. (o, target)) offsets
+
+pub offset_first : (bases now new all : List ℕ) (target o : ℕ) (left rest : List ℕ) (at base : ℕ) → left ≡ o ∷ rest → relocated bases now (to_target target left) ≡ all → new ≡ add_at now at base → at ≡ o → base ≡ get_or bases target 0 →
+    relocated bases new (to_target target rest) ≡ all
+offset_first bases now new all target o left rest at base e h n same_place same_base =
+    ap (λ (l : List ℕ). relocated bases l (to_target target rest))
+    (n ∙ ap (λ (x : ℕ). add_at now x base) same_place ∙ ap (λ (x : ℕ). add_at now o x) same_base)
+    ∙ ap (λ (os : List ℕ). relocated bases now (to_target target os)) (sym e)
+    ∙ h
+
+pub offset_room : (size bases target o : ℕ) (left rest : List ℕ) → left ≡ o ∷ rest → IsRelocatable size bases (to_target target left) → ((o + 4 ≤ size) × (target < bases)) × IsRelocatable size bases (to_target target rest)
+offset_room size bases target o left rest e h = subst (λ (os : List ℕ). IsRelocatable size bases (to_target target os)) e h
 
 group_fits : (hunks longs : ℕ) (g : RelocGroup) → FitsGroup hunks longs g → IsRelocatable (4 * longs) hunks (group_relocations g)
 group_fits hunks longs g h = All-map (IsInside longs) (λ (p : ℕ × ℕ). (p.0 + 4 ≤ 4 * longs) × (p.1 < hunks)) (λ (o : ℕ). (o, g.target)) (λ o l. (l, h.0)) g.offsets h.1

@@ -117,8 +117,8 @@ fn relocate_groups(memory: &mut [u8], groups: &Groups<'_>, bases: &[u32])
     ensures { memory.new ≡ relocated bases.now memory.old
         (flat_map group_relocations (map group_of groups.now)) }
 {
-    'relocating: for number in 0..groups.len() {
-        relocate_group(memory, groups.at(number), bases);
+    'relocating: for group in groups {
+        relocate_group(memory, group, bases);
     }
 }
 
@@ -128,12 +128,8 @@ fn relocate_group(memory: &mut [u8], group: &Group<'_>, bases: &[u32])
         (group_relocations (group_of group.now)) }
     ensures { memory.new ≡ relocated bases.now memory.old (group_relocations (group_of group.now)) }
 {
-    'relocating: for number in 0..group.offsets.len() {
-        add_base(
-            memory,
-            group.offsets.at(number) as usize,
-            bases[group.target as usize],
-        );
+    'relocating: for offset in &group.offsets {
+        add_base(memory, offset as usize, bases[group.target as usize]);
     }
 }
 
