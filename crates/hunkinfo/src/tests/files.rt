@@ -1,6 +1,8 @@
 //! Which files are read and written, and what is printed of them.
 use crate::tests::{EXAMPLE, OBJECT, expect, giving};
 use hunk_commands::unhex;
+use std::alloc::Global;
+use std::process::Abort;
 use std::test::Fail;
 
 const LISTING: &str = "load file 1 hunks 4 bytes\nhunk 0 4 bytes any\n  CODE 4 bytes\n  END\n";
@@ -49,7 +51,18 @@ fn lists(rt: HostRuntime) -> Result<(), Fail> {
     Ok(())
 }
 
-const REWRITTEN: &[(&str, &str, u8)] = &[
+/// The words of a command, what it prints and its status.
+type Row = (&'static str, &'static str, u8);
+
+/// Sees that each of the commands, over these bytes, prints what its row says and ends with its status.
+fn expect_each(rt: &impl Abort, alloc: Global, bytes: &[u8], rows: &[Row]) -> Result<(), Fail> {
+    for (line, want, status) in rows {
+        expect(rt, alloc, &giving(bytes), line, want, *status)?;
+    }
+    Ok(())
+}
+
+const REWRITTEN: &[Row] = &[
     ("hunkinfo rewrite a b", "wrote 40 bytes\n", 0),
     ("hunkinfo rewrite --strip a b", "wrote 40 bytes\n", 0),
     (
@@ -78,33 +91,40 @@ const REWRITTEN: &[(&str, &str, u8)] = &[
 
 #[test]
 fn rewrites(rt: HostRuntime) -> Result<(), Fail> {
-    let mut bytes = unhex(rt.alloc(), EXAMPLE.as_bytes())?;
-    for (line, want, status) in REWRITTEN {
-        expect(
-            &rt,
-            rt.alloc(),
-            &giving(bytes.as_slice()),
-            line,
-            want,
-            *status,
-        )?;
-    }
-    bytes.extend_from_slice(&[0; 7])?;
-    let want = "wrote 40 bytes\nrest 7 bytes left out\n";
-    expect(
-        &rt,
-        rt.alloc(),
-        &giving(bytes.as_slice()),
+    let bytes = unhex(rt.alloc(), EXAMPLE.as_bytes())?;
+    expect_each(&rt, rt.alloc(), &bytes, REWRITTEN)
+}
+
+/// Example 10: what follows a file is told, and is no fault.
+const FOLLOWED: &[Row] = &[
+    (
         "hunkinfo rewrite a b",
-        want,
+        "wrote 40 bytes\nrest 7 bytes left out\n",
         0,
-    )
+    ),
+    (
+        "hunkinfo validate",
+        "load file 1 hunks 4 bytes\nrest 7 bytes\n",
+        0,
+    ),
+    (
+        "hunkinfo validate a",
+        "load file 1 hunks 4 bytes\nrest 7 bytes\n",
+        0,
+    ),
+];
+
+#[test]
+fn tells_what_follows(rt: HostRuntime) -> Result<(), Fail> {
+    let mut bytes = unhex(rt.alloc(), EXAMPLE.as_bytes())?;
+    bytes.extend_from_slice(&[0; 7])?;
+    expect_each(&rt, rt.alloc(), &bytes, FOLLOWED)
 }
 
 const OTHER_LISTING: &str =
     "load file 1 hunks 8 bytes\nhunk 0 8 bytes any\n  CODE 8 bytes\n  END\n";
 
-const NAMED: &[(&str, &str, u8)] = &[
+const NAMED: &[Row] = &[
     ("hunkinfo show other", OTHER_LISTING, 0),
     ("hunkinfo validate other", "load file 1 hunks 8 bytes\n", 0),
     ("hunkinfo validate", "load file 1 hunks 4 bytes\n", 0),
@@ -122,17 +142,7 @@ const NAMED: &[(&str, &str, u8)] = &[
 #[test]
 fn reads_the_file_that_is_named(rt: HostRuntime) -> Result<(), Fail> {
     let bytes = unhex(rt.alloc(), EXAMPLE.as_bytes())?;
-    for (line, want, status) in NAMED {
-        expect(
-            &rt,
-            rt.alloc(),
-            &giving(bytes.as_slice()),
-            line,
-            want,
-            *status,
-        )?;
-    }
-    Ok(())
+    expect_each(&rt, rt.alloc(), &bytes, NAMED)
 }
 
 const REFUSED_FIRST: &[(&[u8], &str)] = &[
