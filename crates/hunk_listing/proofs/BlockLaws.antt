@@ -1,10 +1,8 @@
 -- The numbers that the lines of a block have.
-use Rattle.std.proofs.Common.{◌≡◌, ℕ, ◌+◌, ◌^◌, ◌<◌, ◌≤◌, List, [], ◌∷◌, ◌++◌, length, map, drop, get_or, sym, ap, ◌∙◌, arith, length-append}
-use Rattle.std.specs.Prelude.{slice_get, Some}
+use Rattle.std.proofs.Common.{◌≡◌, ℕ, ◌+◌, ◌^◌, ◌<◌, ◌≤◌, List, [], ◌∷◌, ◌++◌, length, map, sym, ap, ◌∙◌, arith, length-append}
 use Rattle.std.specs.List.{flat_map}
-use Rattle.std.proofs.lemmas.List.{drop_more, length-map}
+use Rattle.std.proofs.lemmas.List.{length-map}
 use Rattle.std.proofs.lemmas.List.Sums.{sum_by-cons}
-use Rattle.std.proofs.lemmas.Option.{get_or_from_slice_get, slice_get_within}
 use Rattle.hunk_words.specs.Longs.{bytes_of}
 use Rattle.hunk_words.proofs.LongLaws.{length-bytes_of}
 use Rattle.hunk_blocks.specs.declared.groups.Group.{Group}
@@ -13,13 +11,10 @@ use Rattle.hunk_blocks.specs.Parts.{Part, GroupCount, Offset, block_text, body_t
 use Rattle.hunk_blocks.specs.Views.{group_of}
 use Rattle.hunk_listing.specs.BlockLines.{offset_count}
 
--- the offsets of the groups from here on: those of the first, and of the others
-pub counted_at : (groups : List Group) (i : ℕ) (group : Group) → slice_get groups i ≡ Some group →
-    offset_count (map group_of (drop i groups)) ≡ length group.offsets + offset_count (map group_of (drop (i + 1) groups))
-counted_at groups i group told =
-    ap (λ (gs : List Group). offset_count (map group_of gs)) (drop_more groups i group (slice_get_within groups i group told))
-    ∙ sum_by-cons (λ g. length g.offsets) (group_of (get_or groups i group)) (map group_of (drop (i + 1) groups))
-    ∙ ap (λ (g : Group). length g.offsets + offset_count (map group_of (drop (i + 1) groups))) (get_or_from_slice_get groups i group group told)
+-- the offsets of the groups: those of the first, and of the others
+pub counted_first : (groups more : List Group) (group : Group) → groups ≡ group ∷ more → offset_count (map group_of groups) ≡ length group.offsets + offset_count (map group_of more)
+counted_first groups more group first =
+    ap (λ (gs : List Group). offset_count (map group_of gs)) first ∙ sum_by-cons (λ g. length g.offsets) (group_of group) (map group_of more)
 
 -- each offset is a longword of the text
 pub offsets_within : (groups : List RelocGroup) → offset_count groups ≤ length (flat_map group_parts groups)

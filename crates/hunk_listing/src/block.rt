@@ -132,8 +132,8 @@ fn print_relocations<W: Sink>(page: &mut Printer<'_, W>, word: BlockWord, groups
     ensures { Prints page.old page.new (body_lines word (Reloc (map group_of groups.now))) }
 {
     print_count(page, word, offset_count(groups));
-    'groups: for i in 0..groups.len() {
-        print_group(page, groups.at(i));
+    'groups: for group in groups {
+        print_group(page, group);
     }
 }
 
@@ -143,8 +143,8 @@ fn offset_count(groups: &Groups<'_>) -> u64
     ensures { result ≡ offset_count (map group_of groups.now) }
 {
     let mut count = 0;
-    'groups: for i in 0..groups.len() {
-        count += groups.at(i).offsets.len() as u64;
+    'groups: for group in groups {
+        count += group.offsets.len() as u64;
     }
     count
 }
@@ -155,8 +155,8 @@ fn print_group<W: Sink>(page: &mut Printer<'_, W>, group: &Group<'_>)
 {
     let mut line = begin_relocation_line(group.target);
     let start = line.len();
-    'offsets: for i in 0..group.offsets.len() {
-        print_offset_behind(page, &mut line, start, group.offsets.at(i));
+    'offsets: for offset in &group.offsets {
+        print_offset_behind(page, &mut line, start, offset);
     }
 }
 
@@ -176,8 +176,8 @@ fn print_symbols<W: Sink>(page: &mut Printer<'_, W>, word: BlockWord, symbols: &
     ensures { Prints page.old page.new (body_lines word (Symbol (map symbol_of symbols.now))) }
 {
     print_count(page, word, symbols.len() as u64);
-    'symbols: for i in 0..symbols.len() {
-        print_symbol(page, symbols.at(i));
+    'symbols: for symbol in symbols {
+        print_symbol(page, symbol);
     }
 }
 
@@ -196,7 +196,7 @@ fn print_entries<W: Sink>(page: &mut Printer<'_, W>, word: BlockWord, entries: &
     ensures { Prints page.old page.new (body_lines word (Ext (map entry_of entries.now))) }
 {
     print_count(page, word, entries.len() as u64);
-    'entries: for i in 0..entries.len() {
-        print_entry(page, entries.at(i));
+    'entries: for entry in entries {
+        print_entry(page, entry);
     }
 }

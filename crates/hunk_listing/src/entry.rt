@@ -82,7 +82,7 @@ fn print_offsets<W: Sink>(page: &mut Printer<'_, W>, offsets: &Longs<'_>)
 {
     let mut line = Line::new();
     line.put(b"      ");
-    'offsets: for i in 0..offsets.len() {
-        print_offset_behind(page, &mut line, 6, offsets.at(i));
+    'offsets: for offset in offsets {
+        print_offset_behind(page, &mut line, 6, offset);
     }
 }

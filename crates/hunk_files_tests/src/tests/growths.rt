@@ -7,7 +7,7 @@ use std::alloc::{AllocError, Global};
 use std::process::Abort;
 use std::test::Fail;
 
-/// Want of memory at these places, and then no fault.
+/// `OutOfMemory` at these places, and then no fault.
 pub(super) fn wanted(alloc: Global, places: &[u64]) -> Result<Vec<Option<FileFault>>, AllocError> {
     let mut answers = Vec::new(alloc);
     for place in places {

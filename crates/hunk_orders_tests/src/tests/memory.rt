@@ -77,7 +77,7 @@ fn line_of(alloc: Global, words: &[&str], added: usize) -> Result<Vec<String>, A
     Ok(line)
 }
 
-/// Sees that words are in want of memory until there is enough of it, and then are what is wanted.
+/// Sees that memory runs out for the words until there is enough of it, and that they are then what is wanted.
 fn expect(
     rt: &impl Abort,
     alloc: Global,

@@ -1,13 +1,13 @@
-use Rattle.std.proofs.Common.{◌≡◌, ◌≤◌, length, take}
+use Rattle.std.proofs.Common.{◌≡◌, ◌≤◌, ◌++◌, length, take}
+use Rattle.std.specs.List.{flat_map}
 use Rattle.std.specs.Prelude.{codes}
 use Rattle.hunk_listing.specs.BlockLines.{offset_line}
-use Rattle.hunk_listing.proofs.Lines.{ShownUpTo}
 use Rattle.hunk_listing.proofs.entry.print_offsets.Given as goal
 
 abbrev pub invariant-offsets : goal.invariant-offsets
 invariant-offsets g l = record {
   same : l.page.origin ≡ l.fn.page.origin;
-  shown : ShownUpTo offset_line l.offsets l.i l.page.text l.fn.page.text;
+  shown : l.page.text ++ flat_map offset_line l.offset-iterator ≡ l.fn.page.text ++ flat_map offset_line l.offsets;
   within : 6 ≤ length l.line;
   kept : take 6 l.line ≡ codes "      ";
 }
