@@ -186,6 +186,19 @@ pub fn left_beside<T: Drop, F: Fn() -> T>(alloc: Global, make: F) -> Result<(T, 
     Ok((value, first.max(second).max(third)))
 }
 
+/// The size of the largest piece that the allocator gives now, up to 32 MiB, but for at most 8 bytes.
+pub fn largest_piece(alloc: Global) -> usize {
+    let (mut found, mut step) = (0usize, 1usize << 25);
+    for _ in 0..22 {
+        step /= 2;
+        let more = found.saturating_add(step);
+        if Vec::<u8>::with_capacity(alloc, more).is_ok() {
+            found = more;
+        }
+    }
+    found
+}
+
 /// The bytes from one size that the allocator gives to the next.
 const STEP: usize = 16;
 

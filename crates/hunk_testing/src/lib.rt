@@ -17,7 +17,7 @@ pub use crate::changes::{
 pub use crate::computed::{Computed, Longs};
 pub use crate::granting::answers_one_by_one;
 pub use crate::growths::{
-    Held, all_but, all_memory, answers_growth_by_growth, left_beside, memory_ends,
+    Held, all_but, all_memory, answers_growth_by_growth, largest_piece, left_beside, memory_ends,
 };
 pub use crate::sources::{FailsOnce, Fed, Interrupted, Then};
 pub use crate::writers::{Narrow, WIDTH, wide};

@@ -10,8 +10,8 @@ use std::alloc::{AllocError, Global};
 use std::process::Abort;
 use std::test::Fail;
 
-/// The load files of the suite as the examples spell them, each by its place in `LOAD_TEXTS`; those of examples 9 and
-/// 24 that no other test needs stand here alone. Example 1 with one longword changed comes below.
+/// The load files of the suite as the examples spell them, each by its place in `LOAD_TEXTS`; that of example 9 has no
+/// byte. Example 1 with one longword changed comes below.
 const LOADS: &[(usize, &str)] = &[
     (0, examples::ONE_HUNK),
     (1, examples::TWO_HUNKS),
@@ -35,10 +35,7 @@ const LOADS: &[(usize, &str)] = &[
     (22, examples::WITH_A_SYMBOL),
     (23, examples::WITH_AN_ADVISORY),
     (47, examples::WITH_A_NAME),
-    (
-        48,
-        "3F3 0 1 0 0 1 / 3E8 1000001 2E740A5C / 3E9 1 4E754E71 / 3F2",
-    ),
+    (48, examples::NAME_WORD_AMISS),
     (49, examples::OVERLAPPING_APART),
     (50, examples::RELOCATED_BEHIND_SYMBOLS),
     (51, examples::MOST_CONTENT),
@@ -47,23 +44,22 @@ const LOADS: &[(usize, &str)] = &[
     (54, examples::MOST_DEBUG_DATA),
 ];
 
-/// The object files, by their places in `OBJECT_TEXTS`; those of examples 25, 26 and 44 that are refused stand here
-/// alone.
+/// The object files, by their places in `OBJECT_TEXTS`.
 const OBJECTS: &[(usize, &str)] = &[
     (0, examples::OBJECT_WITH_DREL32),
     (1, examples::OBJECT),
     (2, examples::OBJECT_AMISS),
-    (3, "3E7 0 / 3E9 0 / 3EF 3000001"),
-    (4, "3E7 0 / 3E9 0 / 3EF 88000001"),
-    (5, "3E9 0"),
+    (3, examples::ENTRY_OF_NO_TYPE),
+    (4, examples::ENTRY_CUT_SHORT),
+    (5, examples::WITHOUT_A_UNIT),
     (6, examples::EMPTY_UNIT),
     (8, examples::TWO_FINDINGS),
     (9, examples::EMPTY_UNIT_AND_ANOTHER),
     (10, examples::COMMON),
     (11, examples::COMMON_AMISS),
     (12, examples::OBJECT_WITH_AN_ADVISORY),
-    (13, "200004D2 0"),
-    (14, "3E7 0 / 3EB 0 / 3F2 / 200003E7 0"),
+    (13, examples::ADVISORY),
+    (14, examples::UNIT_WITH_ADVISORY_FLAG),
     (15, examples::RELATIVE_OBJECT),
 ];
 

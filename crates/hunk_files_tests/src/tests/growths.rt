@@ -20,8 +20,13 @@ pub(super) fn wanted(alloc: Global, places: &[u64]) -> Result<Vec<Option<FileFau
     Ok(answers)
 }
 
-/// Three relocations with two findings each.
-const SIX_FINDINGS: &str = "3E7 0 / 3EB 1 / 3EC 3 1 2 3 4 0 / 3F2";
+/// Object files with six findings: three relocations with two each; and in two units a relocation by no hunk and a
+/// symbol with two references past the end of its hunk, then two such relocations and a symbol with one reference.
+const SIX_FINDINGS: &[&str] = &[
+    "3E7 0 / 3EB 1 / 3EC 3 1 2 3 4 0 / 3F2",
+    "3E7 0 / 3EB 1 / 3EC 1 1 0 0 / 3EF 81000001 5F660000 2 1 2 0 / 3F2 / \
+        3E7 0 / 3EB 1 / 3F2 / 3EB 1 / 3EC 2 2 0 0 0 / 3EF 83000001 5F660000 1 3 0 / 3F2",
+];
 
 /// `check` keeps four findings at first, and more at the fifth.
 #[test]
@@ -29,18 +34,23 @@ fn of_a_check(rt: HostRuntime) -> Result<(), Fail> {
     if !memory_ends(&rt)? {
         return Ok(());
     }
-    let alloc = rt.alloc();
-    let bytes = spelled(alloc, SIX_FINDINGS)?;
-    let file = ObjectFile::decode(alloc, &bytes)?;
-    let answers = answers_growth_by_growth(alloc, || check_fault(alloc, &file))?;
-    assert_eq!(rt;
-        answers.as_slice(),
-        [Some("out of memory"), None].as_slice()
-    );
+    for text in SIX_FINDINGS {
+        expect_check(&rt, rt.alloc(), text)?;
+    }
     Ok(())
 }
 
-/// What is amiss with `check` of a file with six findings.
+/// Sees that `check` of a file with six findings runs out of memory until there is enough of it, and then succeeds.
+fn expect_check(rt: &impl Abort, alloc: Global, text: &str) -> Result<(), Fail> {
+    let bytes = spelled(alloc, text)?;
+    let file = ObjectFile::decode(alloc, &bytes)?;
+    let answers = answers_growth_by_growth(alloc, || check_fault(alloc, &file))?;
+    let want = [Some("out of memory"), None];
+    assert_eq!(rt; answers.as_slice(), want.as_slice(), "{text}");
+    Ok(())
+}
+
+/// What is wrong with `check` of a file with six findings.
 fn check_fault(alloc: Global, file: &ObjectFile) -> Option<&'static str> {
     match file.check(alloc) {
         Ok(found) if found.len() == 6 => None,

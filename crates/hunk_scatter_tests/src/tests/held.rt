@@ -1,8 +1,8 @@
 //! What loaders hold, by what the allocator still gives beside them.
 
-use hunk_scatter::{BodyLoader, Declared, HeaderLoader, Packed};
-use hunk_testing::{bytes_of, left_beside, memory_ends, spelled};
-use hunk_words::{LoadFault, Reason};
+use hunk_scatter::{BodyLoader, Declared, HeaderLoader, Image, Limits, Packed, load};
+use hunk_testing::{bytes_of, largest_piece, left_beside, memory_ends, spelled};
+use hunk_words::{Failed, LoadFault, Reason, Source};
 use std::alloc::{AllocError, Global};
 use std::process::Abort;
 use std::test::Fail;
@@ -176,5 +176,83 @@ fn rows_and_store(rt: HostRuntime) -> Result<(), Fail> {
         expect_loading(&rt, loading.as_ref(), want, text);
         expect_left(&rt, alloc, left, HUNKS, TOTAL)?;
     }
+    Ok(())
+}
+
+/// The file of the header: BSS blocks alone.
+fn file(alloc: Global) -> Result<Vec<u8>, AllocError> {
+    let mut bytes = header(alloc, HUNKS)?;
+    for hunk in 0..HUNKS {
+        let longs = if hunk == 0 { 1_024 } else { 1 };
+        bytes.extend_from_slice(bytes_of(alloc, [0x3EB, longs, 0x3F2].as_slice())?.as_slice())?;
+    }
+    Ok(bytes)
+}
+
+/// A source of bytes that sees, at its last read, how large a piece the allocator gives beside what its reader holds.
+#[derive(Drop)]
+struct Measuring<'a> {
+    rest: &'a [u8],
+    alloc: Global,
+    largest: usize,
+}
+
+impl Source for Measuring<'_> {
+    ghost left = { λ _. None };
+
+    ghost failed = { λ _. false };
+
+    fn pull(&mut self, buf: &mut [u8]) -> Result<usize, Failed> {
+        let count = buf.len().min(self.rest.len());
+        let (front, rest) = self.rest.split_at(count);
+        buf[..count].copy_from_slice(front);
+        self.rest = rest;
+        if rest.is_empty() {
+            self.largest = largest_piece(self.alloc);
+        }
+        Ok(count)
+    }
+}
+
+/// What a load of the bytes gives, and how large a piece there was beside it at its last read.
+fn loaded(alloc: Global, bytes: &[u8]) -> (Option<Image>, usize) {
+    let limits = Limits {
+        budget: TOTAL as u64,
+        file_bytes: 10_000,
+    };
+    let mut source = Measuring {
+        rest: bytes,
+        alloc,
+        largest: 0,
+    };
+    let image = load(alloc, &mut source, limits, &Packed { start: 0 }).ok();
+    (image, source.largest)
+}
+
+/// How large a piece there is beside the rows and the store of `header`.
+fn largest_beside(alloc: Global) -> Option<usize> {
+    let held = plain(alloc, HUNKS, TOTAL).ok()?;
+    let largest = largest_piece(alloc);
+    drop(held);
+    Some(largest)
+}
+
+/// A load holds the rows and the store while it reads its last bytes, and so does the image that it gives.
+#[test]
+fn rows_and_store_of_a_load(rt: HostRuntime) -> Result<(), Fail> {
+    if !memory_ends(&rt)? {
+        return Ok(());
+    }
+    let (alloc, bytes) = (rt.alloc(), file(rt.alloc())?);
+    let ((image, largest), left) = left_beside(alloc, || loaded(alloc, bytes.as_slice()))?;
+    let held = image.map(|image| (image.hunks(), image.held()));
+    assert_eq!(rt; held, Some((HUNKS, 780 + TOTAL as u64)));
+    expect_left(&rt, alloc, left, HUNKS, TOTAL)?;
+    let (want, _) = left_beside(alloc, || largest_beside(alloc))?;
+    assert!(rt; largest > 1 << 24, "{largest}");
+    assert!(rt;
+        want.is_some_and(|want| largest.abs_diff(want) <= 64),
+        "{largest}, not {want:?}"
+    );
     Ok(())
 }
