@@ -14,13 +14,13 @@ use Rattle.hunk_blocks.specs.Values.{BlockBody, Reloc, Ext, BlockValue, is_reloc
 use Rattle.hunk_blocks.specs.Parts.{Part, NameCount, ExtWord}
 
 -- In a load file only RELOC32 relocates, and nothing is external.
-abbrev pub IsOfLoad : ℕ → BlockBody → Type 0
-IsOfLoad word (Reloc groups) = kind word ≡ kinds.Reloc32
-IsOfLoad word (Ext entries) = ⊥
-IsOfLoad word body = ⊤
+abbrev pub IsOfLoadMode : ℕ → BlockBody → Type 0
+IsOfLoadMode word (Reloc groups) = kind word ≡ kinds.Reloc32
+IsOfLoadMode word (Ext entries) = ⊥
+IsOfLoadMode word body = ⊤
 
 abbrev pub IsOfMode : Mode → BlockValue → Type 0
-IsOfMode modes.Load b = IsOfLoad b.word b.body
+IsOfMode modes.Load b = IsOfLoadMode b.word b.body
 IsOfMode modes.Object b = ⊤
 
 -- ---- what is refused

@@ -11,7 +11,7 @@ use Rattle.hunk_words.specs.Bits.{kind, is_advisory, size_longs, has_both_bits}
 use Rattle.hunk_words.specs.Longs.{IsLong, AreLongs}
 use Rattle.hunk_blocks.specs.Values.{RelocGroup, SymbolEntry, BlockBody, BlockValue, Name, Code, Data, Bss, Reloc, Ext, Symbol, Debug, Advisory, End, FitsWord, IsGroup, IsSymbolEntry, is_unknown}
 use Rattle.hunk_blocks.specs.Parts.{Part, Part as parts, each, group_parts, symbol_parts, body_parts, block_parts}
-use Rattle.hunk_blocks.specs.Modes.{IsOfLoad}
+use Rattle.hunk_blocks.specs.Modes.{IsOfLoadMode}
 use Rattle.hunk_files.specs.LoadFile.{TableEntry, LoadFileValue, IsTableEntry, standing, AreInOrder, IsInside, FitsGroup, FitsHunk, IsHunkBlock, IsHunk, IsLoadFile, declared_longs}
 use Rattle.hunk_scan.specs.Standings.{BlockStanding, Beside, Content, Relocating, Ending, is_content}
 use Rattle.hunk_scan.specs.Roles.{Place, InBlock, refuse, refuse_part, refuse_kind, Role as roles}
@@ -82,7 +82,7 @@ module _ (p : Place) where
   symbol_passes : (s : SymbolEntry) → IsSymbolEntry s → PartsPass (symbol_parts s)
   symbol_passes s h = ((h.entry_word.fits, refl), All-append PartPasses (each parts.EntryName s.name) ((parts.EntryValue, s.value) ∷ []) (names_pass s.name h.entry_word.longs) ((h.value, refl), tt))
 
-  body_passes : (word : ℕ) (body : BlockBody) → FitsWord word body → IsOfLoad word body → FitsHunk p.hunks p.longs body → PartsPass (body_parts body)
+  body_passes : (word : ℕ) (body : BlockBody) → FitsWord word body → IsOfLoadMode word body → FitsHunk p.hunks p.longs body → PartsPass (body_parts body)
   body_passes word (Name ws) h m f = ((omega (arith, h.1.0), passes_then (ltb (length ws) (2 ^ 24)) None (Some reasons.NameWord) (lt-ltb (length ws) (2 ^ 24) h.1.0)), payload_passes ws h.1.1)
   body_passes word (Code top ws) h m f = (sized_size_passes top (length ws) h.1 h.2.0 f, payload_passes ws h.2.1)
   body_passes word (Data top ws) h m f = (sized_size_passes top (length ws) h.1 h.2.0 f, payload_passes ws h.2.1)
@@ -113,7 +113,7 @@ unknown_passes : (has_content advisory : Bool) (k : Kind) → IsTrue (is_unknown
 unknown_passes has_content advisory (kinds.Unknown n) u a = passes_then advisory None (Some reasons.UnknownBlock) a
 unknown_passes has_content advisory _ u a = absurd cc
 
-kind_passes : (has_content : Bool) (word : ℕ) (body : BlockBody) (later : List BlockStanding) → FitsWord word body → IsOfLoad word body →
+kind_passes : (has_content : Bool) (word : ℕ) (body : BlockBody) (later : List BlockStanding) → FitsWord word body → IsOfLoadMode word body →
     AreInOrder has_content (standing body ∷ later) → refuse_kind has_content (is_advisory word) (kind word) ≡ None
 kind_passes has_content word (Code top ws) later h m o = rw h.0 (passes_else has_content (Some reasons.SecondContent) None (not_yet has_content later o))
 kind_passes has_content word (Data top ws) later h m o = rw h.0 (passes_else has_content (Some reasons.SecondContent) None (not_yet has_content later o))

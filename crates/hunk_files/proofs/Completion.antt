@@ -17,7 +17,7 @@ use Rattle.hunk_blocks.specs.BlockSteps.{ForName, ForDebug, ForAdvisory, ForCode
 use Rattle.hunk_blocks.proofs.BlockText.{Follows-append, payload_follows, offsets_follow, name_follows}
 use Rattle.hunk_files.proofs.HunkProgress.{Fits, Within}
 use Rattle.hunk_files.proofs.FileText.{in_place, Follows-leads, Leads-append}
-use Rattle.hunk_files.specs.FileSteps.{table_entry, hunk, block, OpenHunk, Progress, AtFirst, AtResident, AtTableSize, AtFirstHunk, AtLastHunk, AtSizeWord, AtAttributes, AtBlock, InBody, Next, More, Finished, place_of, role_of, open_hunk, rows, with_block, close_by, close, step, Leads}
+use Rattle.hunk_files.specs.FileSteps.{table_entry, hunk, block, HunkSoFar, Progress, AtFirst, AtResident, AtTableSize, AtFirstHunk, AtLastHunk, AtSizeWord, AtAttributes, AtBlock, InBody, Next, More, Finished, place_of, role_of, open_hunk, rows, with_block, close_by, close, step, Leads}
 use Rattle.hunk_files.proofs.FileProgress.{ProgressFits, NextFits}
 use Rattle.hunk_blocks.proofs.Lists.{more_owed, passes_else, passes_then, All-append}
 use Rattle.hunk_files.specs.WordsRead.{Labelled, IsAccepted}
@@ -116,12 +116,12 @@ on_run a b ls ws run ok c = record {
 size_zero_passes : (p : Place) → refuse_part p parts.ContentSize 0 ≡ None
 size_zero_passes p = passes_else (ltb p.longs 0) (Some reasons.ContentTooLong) None (le-ltb p.longs 0 (omega arith))
 
-end_completes : (o : OpenHunk) (ws : List ℕ) → o.has_content ≡ true →
+end_completes : (o : HunkSoFar) (ws : List ℕ) → o.has_content ≡ true →
     Completes (open_hunk o.hunks (o.finished ++ hunk o.entry (o.blocks ++ block 0x3F2 End ∷ []) ∷ []) o.ahead) ws → Completes (More (AtBlock o)) (0x3F2 ∷ ws)
 unfolding kind
 end_completes o ws e c = on_step (AtBlock o) 0x3F2 ws (omega arith) (passes_then o.has_content None (Some reasons.NoContent) e) (sym (passes_then o.has_content 0x3F2 0x3EB e)) c
 
-filled_and_ended : (o : OpenHunk) (ws : List ℕ) → o.has_content ≡ false →
+filled_and_ended : (o : HunkSoFar) (ws : List ℕ) → o.has_content ≡ false →
     Completes (open_hunk o.hunks (o.finished ++ hunk o.entry ((o.blocks ++ block 0x3EB (Bss 0) ∷ []) ++ block 0x3F2 End ∷ []) ∷ []) o.ahead) ws → Completes (More (AtBlock o)) (0x3EB ∷ 0 ∷ 0x3F2 ∷ ws)
 unfolding kind
 filled_and_ended o ws e c =
@@ -135,14 +135,14 @@ hunks_complete hunks finished (e ∷ ahead) =
     filled_and_ended (record { hunks = hunks; finished = finished; entry = e; blocks = []; has_content = false; ahead = ahead }) (empty_hunks (length ahead)) refl
     (hunks_complete hunks (finished ++ hunk e (block 0x3EB (Bss 0) ∷ block 0x3F2 End ∷ []) ∷ []) ahead)
 
-open_completes : (o : OpenHunk) → Completes (More (AtBlock o)) (end_of_hunk o.has_content ++ empty_hunks (length o.ahead))
+open_completes : (o : HunkSoFar) → Completes (More (AtBlock o)) (end_of_hunk o.has_content ++ empty_hunks (length o.ahead))
 open_completes o = go o.has_content refl
   where
     go : (b : Bool) → o.has_content ≡ b → Completes (More (AtBlock o)) (end_of_hunk b ++ empty_hunks (length o.ahead))
     go true e = end_completes o (empty_hunks (length o.ahead)) e (hunks_complete o.hunks _ o.ahead)
     go false e = filled_and_ended o (empty_hunks (length o.ahead)) e (hunks_complete o.hunks _ o.ahead)
 
-close_completes : (o : OpenHunk) (b : BlockValue) (s : BlockStanding) → s ≢ Ending → Completes (close_by o b s) (end_of_hunk (o.has_content || is_content s) ++ empty_hunks (length o.ahead))
+close_completes : (o : HunkSoFar) (b : BlockValue) (s : BlockStanding) → s ≢ Ending → Completes (close_by o b s) (end_of_hunk (o.has_content || is_content s) ++ empty_hunks (length o.ahead))
 close_completes o b Beside ne = Completes-as (close_by o b Beside) (ap (λ (c : Bool). end_of_hunk c ++ empty_hunks (length o.ahead)) (sym (or-false o.has_content))) (open_completes (with_block o b o.has_content))
 close_completes o b Relocating ne = Completes-as (close_by o b Relocating) (ap (λ (c : Bool). end_of_hunk c ++ empty_hunks (length o.ahead)) (sym (or-false o.has_content))) (open_completes (with_block o b o.has_content))
 close_completes o b Content ne = Completes-as (close_by o b Content) (ap (λ (c : Bool). end_of_hunk c ++ empty_hunks (length o.ahead)) (sym (or-true o.has_content))) (open_completes (with_block o b true))
@@ -252,7 +252,7 @@ words_in_place : (p : Place) (ps : List (Part × ℕ)) → words (in_place p ps)
 words_in_place p [] = refl
 words_in_place p (x ∷ ps) = ap (λ (ws : List ℕ). x.1 ∷ ws) (words_in_place p ps)
 
-body_completes : (o : OpenHunk) (word : ℕ) (x : Inside) → 0 < o.hunks → Fits (place_of o) word x → Completes (More (InBody o word x)) (owed (InBody o word x))
+body_completes : (o : HunkSoFar) (word : ℕ) (x : Inside) → 0 < o.hunks → Fits (place_of o) word x → Completes (More (InBody o word x)) (owed (InBody o word x))
 body_completes o word x k h =
     let c = closes (place_of o) word x h.1 in
     let tail = end_of_hunk (o.has_content || gives_content x) ++ empty_hunks (length o.ahead) in

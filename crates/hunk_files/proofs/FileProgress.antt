@@ -20,7 +20,7 @@ use Rattle.hunk_blocks.proofs.BlockProgress.{read_inside, read_next, step_reads,
 use Rattle.hunk_files.proofs.HunkProgress.{BodyFits, begin_fits, step_fits, alone_passes}
 use Rattle.hunk_files.proofs.HunkProgress as blocks
 use Rattle.hunk_files.proofs.FileText.{in_place, standings}
-use Rattle.hunk_files.specs.FileSteps.{table_entry, hunk, block, OpenHunk, Progress, AtFirst, AtResident, AtTableSize, AtFirstHunk, AtLastHunk, AtSizeWord, AtAttributes, AtBlock, InBody, Next, More, Finished, place_of, role_of, open_hunk, rows, with_block, close, after, sized_row, step}
+use Rattle.hunk_files.specs.FileSteps.{table_entry, hunk, block, HunkSoFar, Progress, AtFirst, AtResident, AtTableSize, AtFirstHunk, AtLastHunk, AtSizeWord, AtAttributes, AtBlock, InBody, Next, More, Finished, place_of, role_of, open_hunk, rows, with_block, close, after, sized_row, step}
 use Rattle.hunk_blocks.proofs.Lists.{All-more, map-more, flat_map-more, more_owed, passed_false, passed_true, passed_both, passes_else, passes_then}
 use Rattle.std.proofs.Math.Bool.{or-false, or-true}
 use Rattle.hunk_files.specs.WordsRead.{Labelled}
@@ -36,7 +36,7 @@ header_so_far hunks done =
 abbrev pub front : ℕ → List TableEntry → List HunkValue → List (Role × ℕ)
 front hunks t finished = header_so_far hunks t ++ flat_map (hunk_labelled hunks) finished
 
-abbrev pub open_so_far : OpenHunk → List (Role × ℕ)
+abbrev pub open_so_far : HunkSoFar → List (Role × ℕ)
 open_so_far o =
     front o.hunks (entries o.finished ++ o.entry ∷ o.ahead) o.finished ++ blocks_labelled o.hunks (size_longs o.entry.word) false o.blocks
 
@@ -90,13 +90,13 @@ pub record FrontFits (hunks : ℕ) (finished : List HunkValue) (ahead : List Tab
   pub finished_fit : AllByRecursion (IsHunk hunks) finished
   pub ahead_fit : AllByRecursion IsTableEntry ahead
 
-pub record OpenFits (o : OpenHunk) : Type 0 where
+pub record OpenFits (o : HunkSoFar) : Type 0 where
   pub front_fits : FrontFits o.hunks o.finished (o.entry ∷ o.ahead)
   pub blocks_fit : AllByRecursion (IsHunkBlock o.hunks (size_longs o.entry.word)) o.blocks
   pub content_is : o.has_content ≡ content_in false o.blocks
   pub in_order : (later : List BlockStanding) → AreInOrder o.has_content later → AreInOrder false (standings o.blocks ++ later)
 
-abbrev pub IsAdmitted : OpenHunk → ℕ → Type 0
+abbrev pub IsAdmitted : HunkSoFar → ℕ → Type 0
 IsAdmitted o word = IsLong word × (refuse_part (place_of o) parts.BlockWord word ≡ None)
 
 abbrev pub ProgressFits : Progress → Type 0
@@ -147,7 +147,7 @@ rows_read hunks done (suc owed) h = (h, refl)
 -- ---- a block that is whole
 
 -- the blocks with one more
-module _ (o : OpenHunk) (h : OpenFits o) (b : BlockValue) (fits : IsHunkBlock o.hunks (size_longs o.entry.word) b) where
+module _ (o : HunkSoFar) (h : OpenFits o) (b : BlockValue) (fits : IsHunkBlock o.hunks (size_longs o.entry.word) b) where
   one_more_reads : blocks_labelled o.hunks (size_longs o.entry.word) false (o.blocks ++ b ∷ []) ≡ blocks_labelled o.hunks (size_longs o.entry.word) false o.blocks ++ block_labelled (place_of o) b
   one_more_reads =
       blocks-more o.hunks (size_longs o.entry.word) false o.blocks b
@@ -203,13 +203,13 @@ module _ (o : OpenHunk) (h : OpenFits o) (b : BlockValue) (fits : IsHunkBlock o.
         order = subst (λ (s : List BlockStanding). AreInOrder false s) (sym (map-more (λ (c : BlockValue). standing c.body) o.blocks b)) (h.in_order (standing b.body ∷ []) order);
       }
 
-pub kind_admitted : (o : OpenHunk) (word : ℕ) → IsAdmitted o word → (has_both_bits word ≡ false) × (refuse_kind o.has_content (is_advisory word) (kind word) ≡ None)
+pub kind_admitted : (o : HunkSoFar) (word : ℕ) → IsAdmitted o word → (has_both_bits word ≡ false) × (refuse_kind o.has_content (is_advisory word) (kind word) ≡ None)
 kind_admitted o word a = passed_both (has_both_bits word) reasons.BothBits (refuse_kind o.has_content (is_advisory word) (kind word)) a.1
 
-block_fits : (o : OpenHunk) (word : ℕ) (body : BlockBody) → IsAdmitted o word → BodyFits (place_of o) word body → IsHunkBlock o.hunks (size_longs o.entry.word) (block word body)
+block_fits : (o : HunkSoFar) (word : ℕ) (body : BlockBody) → IsAdmitted o word → BodyFits (place_of o) word body → IsHunkBlock o.hunks (size_longs o.entry.word) (block word body)
 block_fits o word body a f = record { block = record { word = a.0; bits = (kind_admitted o word a).0; body = f.fits_word }; mode = f.of_load; fits = f.fits_hunk }
 
-pub kind_is : (o : OpenHunk) (word : ℕ) (k : Kind) → IsAdmitted o word → kind word ≡ k → refuse_kind o.has_content (is_advisory word) k ≡ None
+pub kind_is : (o : HunkSoFar) (word : ℕ) (k : Kind) → IsAdmitted o word → kind word ≡ k → refuse_kind o.has_content (is_advisory word) k ≡ None
 kind_is o word k a e = subst (λ (x : Kind). refuse_kind o.has_content (is_advisory word) x ≡ None) e (kind_admitted o word a).1
 
 content_order : (has_content : Bool) → has_content ≡ false → (later : List BlockStanding) → AreInOrder true later → AreInOrder has_content (Content ∷ later)
@@ -224,7 +224,7 @@ end_order : (has_content : Bool) → has_content ≡ true → AreInOrder has_con
 end_order true e = refl
 end_order false e = absurd cc
 
-close_reads : (o : OpenHunk) (word : ℕ) (body : BlockBody) → OpenFits o → IsAdmitted o word → BodyFits (place_of o) word body →
+close_reads : (o : HunkSoFar) (word : ℕ) (body : BlockBody) → OpenFits o → IsAdmitted o word → BodyFits (place_of o) word body →
     Reads (close o (block word body)) (open_so_far o ++ block_labelled (place_of o) (block word body))
 close_reads o word (Name ws) h a f = still_open o h (block word (Name ws)) (block_fits o word (Name ws) a f) o.has_content (sym (or-false o.has_content)) (λ later ok. ok)
 close_reads o word (Code top ws) h a f =
@@ -242,7 +242,7 @@ close_reads o word (Advisory ws) h a f = still_open o h (block word (Advisory ws
 close_reads o word End h a f =
     now_whole o h (block word End) (block_fits o word End a f) (end_order o.has_content (passed_true o.has_content reasons.NoContent (kind_is o word kinds.End a f.fits_word)))
 
-after_reads : (o : OpenHunk) (word : ℕ) (n : BlockNext) → OpenFits o → IsAdmitted o word → blocks.NextFits (place_of o) word n →
+after_reads : (o : HunkSoFar) (word : ℕ) (n : BlockNext) → OpenFits o → IsAdmitted o word → blocks.NextFits (place_of o) word n →
     Reads (after o word n) (open_so_far o ++ in_place (place_of o) ((parts.BlockWord, word) ∷ read_next n))
 after_reads o word (Open x) h a f = ((h, a, f), refl)
 after_reads o word (Whole body) h a f = close_reads o word body h a f

@@ -13,7 +13,7 @@ use Rattle.hunk_files.specs.declared.row.Row.{Row}
 use Rattle.hunk_files.specs.LoadFile.{TableEntry, HunkValue, LoadFileValue, IsHunk}
 use Rattle.hunk_files.specs.LoadText.{table, text}
 use Rattle.hunk_blocks.specs.Faults.{IsFrontTo}
-use Rattle.hunk_files.specs.Fault.{BeginsWithLoadFile, HasLoadText, HasLongAt, loads}
+use Rattle.hunk_files.specs.Fault.{BeginsWithLoadFile, HasLoadText, HasLongAt, load_files}
 use Rattle.hunk_files.specs.Hunks.{block_texts, EndsOnce, IsLoadBlock, AreHunkBlocks, AreBlocksAt, HasNoHunk}
 use Rattle.hunk_files.specs.Tables.{row_entry, hunk_texts, IsTable}
 use Rattle.hunk_files.specs.FileSteps.{hunk}
@@ -155,7 +155,7 @@ abbrev pub whole_file : (bytes : List ℕ) (size : ℕ) → HasLoadText bytes si
 whole_file bytes size h = record { value = h.value; is_load_file = h.is_load_file; rest = []; split = h.text_is ∙ sym (append-nil (bytes_of (text h.value))) }
 
 -- A load text begins with the longwords up to one that lies within the file.
-pub front_within : (bytes : List ℕ) (size place : ℕ) → HasLoadText bytes size → HasLongAt (take size bytes) place → IsFrontTo loads (longs bytes) place
+pub front_within : (bytes : List ℕ) (size place : ℕ) → HasLoadText bytes size → HasLongAt (take size bytes) place → IsFrontTo load_files (longs bytes) place
 front_within bytes size place h at =
     let ws = text h.value in
     let rest = longs (drop size bytes) in

@@ -12,7 +12,7 @@ use Rattle.hunk_scan.specs.Roles.{Place, Role, InBlock, Role as roles}
 use Rattle.hunk_files.specs.LoadText.{entries, entry_labelled, header_labelled, block_labelled, blocks_labelled, hunk_labelled, table, labelled}
 use Rattle.hunk_blocks.specs.BlockSteps.{BlockNext, Open, Whole, step_inside, begin, Follows}
 use Rattle.hunk_blocks.proofs.BlockText.{body_follows}
-use Rattle.hunk_files.specs.FileSteps.{table_entry, hunk, OpenHunk, AtFirst, AtSizeWord, AtBlock, Next, More, Finished, place_of, open_hunk, rows, close_by, close, after, sized_row, step, Leads}
+use Rattle.hunk_files.specs.FileSteps.{table_entry, hunk, HunkSoFar, AtFirst, AtSizeWord, AtBlock, Next, More, Finished, place_of, open_hunk, rows, close_by, close, after, sized_row, step, Leads}
 
 pub Leads-append : (a b c : Next) (ls ms : List (Role × ℕ)) → Leads a ls b → Leads b ms c → Leads a (ls ++ ms) c
 Leads-append a b c [] ms h k = subst (λ (x : Next). Leads x ms c) (sym h) k
@@ -23,24 +23,24 @@ abbrev pub in_place : Place → List (Part × ℕ) → List (Role × ℕ)
 in_place p ps = map (λ x. (InBlock p x.0, x.1)) ps
 
 -- a run in a block is one in the file
-pub Follows-leads : (o : OpenHunk) (word : ℕ) (a b : BlockNext) (ps : List (Part × ℕ)) → Follows a ps b → Leads (after o word a) (in_place (place_of o) ps) (after o word b)
+pub Follows-leads : (o : HunkSoFar) (word : ℕ) (a b : BlockNext) (ps : List (Part × ℕ)) → Follows a ps b → Leads (after o word a) (in_place (place_of o) ps) (after o word b)
 Follows-leads o word a b [] h = ap (λ (x : BlockNext). after o word x) h
 Follows-leads o word (Open x) b (p ∷ ps) h = (ap (λ (part : Part). InBlock (place_of o) part) h.0, Follows-leads o word (step_inside x p.1) b ps h.1)
 Follows-leads o word (Whole x) b (p ∷ ps) h = absurd h
 
-pub block_leads : (hunks longs : ℕ) (o : OpenHunk) (b : BlockValue) → IsHunkBlock hunks longs b → Leads (More (AtBlock o)) (block_labelled (place_of o) b) (close o b)
+pub block_leads : (hunks longs : ℕ) (o : HunkSoFar) (b : BlockValue) → IsHunkBlock hunks longs b → Leads (More (AtBlock o)) (block_labelled (place_of o) b) (close o b)
 block_leads hunks longs o b h = (refl, Follows-leads o b.word (begin (kind b.word)) (Whole b.body) (body_parts b.body) (body_follows b.word b.body h.block.body))
 
 -- the blocks of a hunk from an open place in it
 abbrev pub standings : List BlockValue → List BlockStanding
 standings bs = map (λ b. standing b.body) bs
 
-abbrev opened : ℕ → List HunkValue → TableEntry → List BlockValue → Bool → List TableEntry → OpenHunk
+abbrev opened : ℕ → List HunkValue → TableEntry → List BlockValue → Bool → List TableEntry → HunkSoFar
 opened hunks finished entry blocks has_content ahead =
     record { hunks = hunks; finished = finished; entry = entry; blocks = blocks; has_content = has_content; ahead = ahead }
 
 module _ (hunks : ℕ) (finished : List HunkValue) (entry : TableEntry) (ahead : List TableEntry) where
-  abbrev at : List BlockValue → Bool → OpenHunk
+  abbrev at : List BlockValue → Bool → HunkSoFar
   at blocks has_content = opened hunks finished entry blocks has_content ahead
 
   -- the place behind a hunk of these blocks

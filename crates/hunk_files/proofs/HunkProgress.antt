@@ -10,7 +10,7 @@ use Rattle.hunk_words.specs.Bits.{kind, is_advisory, size_longs}
 use Rattle.hunk_words.specs.Longs.{IsLong}
 use Rattle.hunk_blocks.specs.Values.{RelocGroup, SymbolEntry, BlockBody, FitsWord}
 use Rattle.hunk_blocks.specs.Parts.{Part as parts}
-use Rattle.hunk_blocks.specs.Modes.{IsOfLoad, refuse_inside, refuse_alone_kind}
+use Rattle.hunk_blocks.specs.Modes.{IsOfLoadMode, refuse_inside, refuse_alone_kind}
 use Rattle.hunk_scan.specs.Roles.{Place, refuse_part, refuse_kind}
 use Rattle.hunk_files.specs.LoadFile.{FitsGroup, FitsHunk, IsInside}
 use Rattle.hunk_blocks.specs.BlockSteps.{ForName, Sizing, ForCode, ForData, ForBss, Filling, Counted, SizedCode, SizedData, Inside, AtCount, AtSize, InPayload, AtGroup, AtTarget, InOffsets, AtEntry, InName, AtValue, AtExtWord, BlockNext, Open, Whole, group, part_of, step_inside, fill, relocate, name_entry, sized_by, grouped, entered, begin}
@@ -44,14 +44,14 @@ module _ (p : Place) (word : ℕ) where
 
   abbrev pub NextWithin : BlockNext → Type 0
   NextWithin (Open x) = Within x
-  NextWithin (Whole body) = IsOfLoad word body × FitsHunk p.hunks p.longs body
+  NextWithin (Whole body) = IsOfLoadMode word body × FitsHunk p.hunks p.longs body
 
   abbrev pub Fits : Inside → Type 0
   Fits x = blocks.Fits word x × Within x
 
   pub record BodyFits (body : BlockBody) : Type 0 where
     pub fits_word : FitsWord word body
-    pub of_load : IsOfLoad word body
+    pub of_load : IsOfLoadMode word body
     pub fits_hunk : FitsHunk p.hunks p.longs body
 
   abbrev pub NextFits : BlockNext → Type 0

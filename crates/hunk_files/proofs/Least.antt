@@ -16,7 +16,7 @@ use Rattle.hunk_files.proofs.InsideCases.{by_inside}
 use Rattle.hunk_scan.specs.Roles.{Role, refuse, refuse_kind}
 use Rattle.hunk_files.specs.LoadText.{text}
 use Rattle.hunk_blocks.specs.BlockSteps.{ForName, ForDebug, ForAdvisory, ForCode, ForData, ForBss, Filling, Counted, SizedCode, SizedData, Inside, AtCount, AtSize, InPayload, AtGroup, AtTarget, InOffsets, AtEntry, InName, AtValue, AtExtWord, InExtName, AtExtValue, AtExtSize, AtExtCount, InExtOffsets, BlockNext, step_inside, begin, fill, name_entry, name_external}
-use Rattle.hunk_files.specs.FileSteps.{place_of, table_entry, block, OpenHunk, Progress, AtFirst, AtResident, AtTableSize, AtFirstHunk, AtLastHunk, AtSizeWord, AtAttributes, AtBlock, InBody, Next, More, Finished, role_of, open_hunk, rows, close, close_by, after, sized_row, step, Leads}
+use Rattle.hunk_files.specs.FileSteps.{place_of, table_entry, block, HunkSoFar, Progress, AtFirst, AtResident, AtTableSize, AtFirstHunk, AtLastHunk, AtSizeWord, AtAttributes, AtBlock, InBody, Next, More, Finished, role_of, open_hunk, rows, close, close_by, after, sized_row, step, Leads}
 use Rattle.hunk_files.proofs.Shapes.{by_shape}
 use Rattle.hunk_files.proofs.FileProgress.{ProgressFits, NextFits, kind_admitted, zero_or_limit, step_keeps}
 use Rattle.hunk_files.proofs.Completion.{gives_content, filling_content}
@@ -55,11 +55,11 @@ least_next (Finished v) = 0
 
 -- ---- within a block: what is behind a whole block depends on the content alone
 
-abbrev behind : OpenHunk → Bool → ℕ
+abbrev behind : HunkSoFar → Bool → ℕ
 behind o content = end_least (o.has_content || content) + 3 * length o.ahead
 
 -- a whole block that is not END
-closed_least : (o : OpenHunk) (word : ℕ) (body : BlockBody) → standing body ≢ Ending → behind o (is_content (standing body)) ≤ least_next (close o (block word body))
+closed_least : (o : HunkSoFar) (word : ℕ) (body : BlockBody) → standing body ≢ Ending → behind o (is_content (standing body)) ≤ least_next (close o (block word body))
 closed_least o word body ne = go (standing body) ne
   where
     go : (s : BlockStanding) → s ≢ Ending → behind o (is_content s) ≤ least_next (close_by o (block word body) s)
@@ -69,10 +69,10 @@ closed_least o word body ne = go (standing body) ne
     go Ending n = absurd (n refl)
 
 -- this number of longwords and what is behind are owed at least
-abbrev Owes : OpenHunk → ℕ → ℕ → Bool → BlockNext → Type 0
+abbrev Owes : HunkSoFar → ℕ → ℕ → Bool → BlockNext → Type 0
 Owes o word n content next = n + behind o content ≤ least_next (after o word next)
 
-fill_owes : (o : OpenHunk) (word : ℕ) (f : Filling) (done : List ℕ) (owed : ℕ) → Owes o word owed (filling_content f) (fill f done owed)
+fill_owes : (o : HunkSoFar) (word : ℕ) (f : Filling) (done : List ℕ) (owed : ℕ) → Owes o word owed (filling_content f) (fill f done owed)
 fill_owes o word (Counted ForName) done zero = omega (arith, closed_least o word (Name done) (λ e. cc))
 fill_owes o word (Counted ForDebug) done zero = omega (arith, closed_least o word (Debug done) (λ e. cc))
 fill_owes o word (Counted ForAdvisory) done zero = omega (arith, closed_least o word (Advisory done) (λ e. cc))
@@ -80,16 +80,16 @@ fill_owes o word (SizedCode top) done zero = omega (arith, closed_least o word (
 fill_owes o word (SizedData top) done zero = omega (arith, closed_least o word (Data top done) (λ e. cc))
 fill_owes o word f done (suc owed) = omega arith
 
-name_owes : (o : OpenHunk) (word : ℕ) (entries : List SymbolEntry) (w : ℕ) (done : List ℕ) (owed : ℕ) → Owes o word (owed + 2) false (name_entry entries w done owed)
+name_owes : (o : HunkSoFar) (word : ℕ) (entries : List SymbolEntry) (w : ℕ) (done : List ℕ) (owed : ℕ) → Owes o word (owed + 2) false (name_entry entries w done owed)
 name_owes o word entries w done zero = omega arith
 name_owes o word entries w done (suc owed) = omega arith
 
-external_owes : (o : OpenHunk) (word : ℕ) (entries : List ExtEntry) (w : ℕ) (done : List ℕ) (owed : ℕ) → Owes o word (owed + 1) false (name_external entries w done owed)
+external_owes : (o : HunkSoFar) (word : ℕ) (entries : List ExtEntry) (w : ℕ) (done : List ℕ) (owed : ℕ) → Owes o word (owed + 1) false (name_external entries w done owed)
 external_owes o word entries w done zero = by_shape (Owes o word 1 false) (w / 2 ^ 24) entries w done (omega arith) (omega arith) (omega arith) (omega arith)
 external_owes o word entries w done (suc owed) = omega arith
 
 -- one step takes one longword at most off what is owed
-inside_falls : (o : OpenHunk) (word : ℕ) (x : Inside) (w : ℕ) → inside_least x + behind o (gives_content x) ≤ suc (least_next (after o word (step_inside x w)))
+inside_falls : (o : HunkSoFar) (word : ℕ) (x : Inside) (w : ℕ) → inside_least x + behind o (gives_content x) ≤ suc (least_next (after o word (step_inside x w)))
 inside_falls o word (AtCount c) w = omega (arith, fill_owes o word (Counted c) [] w)
 inside_falls o word (AtSize ForCode) w = omega (arith, fill_owes o word (SizedCode (w / 2 ^ 30)) [] (w % 2 ^ 30))
 inside_falls o word (AtSize ForData) w = omega (arith, fill_owes o word (SizedData (w / 2 ^ 30)) [] (w % 2 ^ 30))
@@ -109,10 +109,10 @@ inside_falls o word _ w = omega arith
 
 -- ---- between blocks
 
-behind_false : (o : OpenHunk) → behind o false ≡ end_least o.has_content + 3 * length o.ahead
+behind_false : (o : HunkSoFar) → behind o false ≡ end_least o.has_content + 3 * length o.ahead
 behind_false o = ap (λ (b : Bool). end_least b + 3 * length o.ahead) (or-false o.has_content)
 
-behind_true : (o : OpenHunk) → behind o true ≡ 1 + 3 * length o.ahead
+behind_true : (o : HunkSoFar) → behind o true ≡ 1 + 3 * length o.ahead
 behind_true o = ap (λ (b : Bool). end_least b + 3 * length o.ahead) (or-true o.has_content)
 
 end_most : (b : Bool) → end_least b ≤ 3
@@ -123,7 +123,7 @@ open_hunk_least : (hunks : ℕ) (finished : List HunkValue) (ahead : List TableE
 open_hunk_least hunks finished [] = omega arith
 open_hunk_least hunks finished (e ∷ ahead) = omega arith
 
-block_falls : (o : OpenHunk) (w : ℕ) (k : Kind) → refuse_kind o.has_content (is_advisory w) k ≡ None → end_least o.has_content + 3 * length o.ahead ≤ suc (least_next (after o w (begin k)))
+block_falls : (o : HunkSoFar) (w : ℕ) (k : Kind) → refuse_kind o.has_content (is_advisory w) k ≡ None → end_least o.has_content + 3 * length o.ahead ≤ suc (least_next (after o w (begin k)))
 block_falls o w kinds.Name ok = omega (arith, behind_false o)
 block_falls o w kinds.Code ok = omega (arith, behind_true o, end_most o.has_content)
 block_falls o w kinds.Data ok = omega (arith, behind_true o, end_most o.has_content)
@@ -174,7 +174,7 @@ owes_least ws n h v is more e =
 
 -- ---- by the position
 
-block_least : (o : OpenHunk) (blocks : List BlockValue) → least (AtBlock o) ≡ least_longs (positions.Body (open_of o) (block_phase blocks))
+block_least : (o : HunkSoFar) (blocks : List BlockValue) → least (AtBlock o) ≡ least_longs (positions.Body (open_of o) (block_phase blocks))
 block_least o [] = refl
 block_least o (b ∷ blocks) = refl
 

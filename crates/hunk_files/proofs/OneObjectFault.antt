@@ -21,7 +21,7 @@ use Rattle.hunk_blocks.proofs.OneBlockFault.{PartsPass, body_passes, part_not_wo
 use Rattle.hunk_files.specs.LoadFile.{standing, AreInOrder}
 use Rattle.hunk_scan.specs.Standings.{BlockStanding, Beside, Content, Relocating, Ending, is_content, refuse_standing, standing_of_kind, first_of}
 use Rattle.hunk_files.specs.ObjectFile.{ObjectHunk, UnitValue, ObjectFileValue, IsObjectFile, IsObjectHunk, IsUnit, IsNoObjectFile, unit_word}
-use Rattle.hunk_files.specs.ObjectFault.{WordPlace, BeforeUnits, BetweenHunks, InHunk, ObjectRole, WordAt, UnitCount, UnitName, Within, has_content, behind_block, role_at, block_labelled, blocks_labelled, hunk_labelled, header_labelled, unit_labelled, units_labelled, refuse_unit, refuse_word, refuse_object, objects, IsTruncatedObject, HasObjectFault}
+use Rattle.hunk_files.specs.ObjectFault.{WordPlace, BeforeUnits, BetweenHunks, InHunk, ObjectRole, WordAt, UnitCount, UnitName, Within, has_content, behind_block, role_at, block_labelled, blocks_labelled, hunk_labelled, unit_header_labelled, unit_labelled, units_labelled, refuse_unit, refuse_word, refuse_object, objects, IsTruncatedObject, HasObjectFault}
 use Rattle.hunk_files.proofs.ObjectDecoding.{standing_is, standings}
 use Rattle.hunk_files.proofs.ObjectWords.{refuse_place, within_role, within_split, word_split}
 use Rattle.hunk_files.proofs.UnitFaults.{units_words}
@@ -175,14 +175,14 @@ unit_goes BeforeUnits h = refl
 unit_goes BetweenHunks h = refl
 unit_goes (InHunk has) h = absurd h
 
-header_runs : (place : WordPlace) (name : List ℕ) → Begins place → length name < 2 ^ 24 → Runs (AtWord place) (header_labelled place name) (AtWord BetweenHunks)
+header_runs : (place : WordPlace) (name : List ℕ) → Begins place → length name < 2 ^ 24 → Runs (AtWord place) (unit_header_labelled place name) (AtWord BetweenHunks)
 header_runs place name h few =
     let r = name_runs name in
     ((refl, (refl, r.0)), (unit_goes place h, (passes_then (ltb (length name) (2 ^ 24)) None (Some reasons.NameWord) (lt-ltb (length name) (2 ^ 24) few), r.1)))
 
 unit_runs : (place : WordPlace) (u : UnitValue) → Begins place → IsUnit u → Runs (AtWord place) (unit_labelled place u) (AtWord BetweenHunks)
 unit_runs place u h is =
-    runs_on (AtWord place) (AtWord BetweenHunks) (AtWord BetweenHunks) (header_labelled place u.name) (flat_map hunk_labelled u.hunks) (header_runs place u.name h is.name.0) (hunks_run u.hunks is.hunks)
+    runs_on (AtWord place) (AtWord BetweenHunks) (AtWord BetweenHunks) (unit_header_labelled place u.name) (flat_map hunk_labelled u.hunks) (header_runs place u.name h is.name.0) (hunks_run u.hunks is.hunks)
 
 units_run : (us : ObjectFileValue) → AllByRecursion IsUnit us → Runs (AtWord BetweenHunks) (units_labelled BetweenHunks us) (AtWord BetweenHunks)
 units_run [] are = (refl, tt)

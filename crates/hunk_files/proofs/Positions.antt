@@ -19,26 +19,26 @@ use Rattle.hunk_files.specs.LoadFile.{TableEntry, HunkValue, standing}
 use Rattle.hunk_scan.specs.Standings.{BlockStanding, Beside, Content, Relocating, Ending}
 use Rattle.hunk_files.specs.LoadText.{entries}
 use Rattle.hunk_files.proofs.Reading.{next_after, all_pass}
-use Rattle.hunk_files.specs.ReaderPosition.{open_of, block_phase, phase_of, position_of, longs_of, opened}
-use Rattle.hunk_files.specs.FileSteps.{OpenHunk, Progress, AtFirst, AtLastHunk, AtSizeWord, AtAttributes, AtBlock, InBody, Next, More, Finished, role_of, place_of, step, rows, open_hunk, with_block, close_by, sized_row, after, hunk, block, table_entry}
+use Rattle.hunk_files.specs.ReaderPosition.{open_of, block_phase, phase_of, position_of, open_longs, opened}
+use Rattle.hunk_files.specs.FileSteps.{HunkSoFar, Progress, AtFirst, AtLastHunk, AtSizeWord, AtAttributes, AtBlock, InBody, Next, More, Finished, role_of, place_of, step, rows, open_hunk, with_block, close_by, sized_row, after, hunk, block, table_entry}
 use Rattle.hunk_files.proofs.FileProgress.{ProgressFits}
 use Rattle.hunk_files.proofs.HunkProgress.{Within}
 use Rattle.hunk_files.proofs.InsideCases.{by_inside}
 
 -- ---- refusals
 
-part_same : (o : OpenHunk) (word : ℕ) (x : Inside) (w : ℕ) → Within (place_of o) word x → refuse (role_of (InBody o word x)) w ≡ refuse (role_at (size_longs o.entry.word) (position_of (More (InBody o word x)))) w
+part_same : (o : HunkSoFar) (word : ℕ) (x : Inside) (w : ℕ) → Within (place_of o) word x → refuse (role_of (InBody o word x)) w ≡ refuse (role_at (size_longs o.entry.word) (position_of (More (InBody o word x)))) w
 part_same o word x w h =
     by_inside (place_of o) word (λ (y : Inside). refuse (role_of (InBody o word y)) w ≡ refuse (role_at (size_longs o.entry.word) (position_of (More (InBody o word y)))) w)
     refl refl refl refl refl refl (λ c done owed. refl) (λ top done owed. refl) (λ top done owed. refl)
     (λ gs. refl) (λ gs owed. refl) (λ gs target done owed. refl) (λ es. refl) (λ es w2 done owed. refl) (λ es w2 name. refl) x h
 
-block_same : (o : OpenHunk) (w : ℕ) (blocks : List BlockValue) → refuse (role_of (AtBlock o)) w ≡ refuse (role_at (size_longs o.entry.word) (positions.Body (open_of o) (block_phase blocks))) w
+block_same : (o : HunkSoFar) (w : ℕ) (blocks : List BlockValue) → refuse (role_of (AtBlock o)) w ≡ refuse (role_at (size_longs o.entry.word) (positions.Body (open_of o) (block_phase blocks))) w
 block_same o w [] = refl
 block_same o w (b ∷ blocks) = refl
 
 -- The position and the declared longs determine the refusal.
-pub refuse_same : (p : Progress) (w : ℕ) → ProgressFits p → refuse (role_of p) w ≡ refuse (role_at (longs_of p) (position_of (More p))) w
+pub refuse_same : (p : Progress) (w : ℕ) → ProgressFits p → refuse (role_of p) w ≡ refuse (role_at (open_longs p) (position_of (More p))) w
 refuse_same AtFirst w f = refl
 refuse_same (AtBlock o) w f = block_same o w o.blocks
 refuse_same (InBody o word x) w f = part_same o word x w f.2.1
@@ -48,17 +48,17 @@ refuse_same _ w f = refl
 
 -- the open hunk stays
 abbrev pub Stays : Progress → Progress → Type 0
-Stays p q = (longs_of q ≡ longs_of p) × (opened q ≡ opened p)
+Stays p q = (open_longs q ≡ open_longs p) × (opened q ≡ opened p)
 
 further_block : (blocks : List BlockValue) (b : BlockValue) → block_phase (blocks ++ b ∷ []) ≡ phases.BlockWord
 further_block [] b = refl
 further_block (c ∷ blocks) b = refl
 
-whole_block : (o : OpenHunk) (h : numbers.OpenHunk) (b : BlockValue) → positions.Body h (block_phase (o.blocks ++ b ∷ [])) ≡ positions.Body h phases.BlockWord
+whole_block : (o : HunkSoFar) (h : numbers.OpenHunk) (b : BlockValue) → positions.Body h (block_phase (o.blocks ++ b ∷ [])) ≡ positions.Body h phases.BlockWord
 whole_block o h b = ap (λ (p : Phase). positions.Body h p) (further_block o.blocks b)
 
 -- this number of longwords of a payload is owed
-abbrev fill_left : OpenHunk → Filling → ℕ → ℕ → Position
+abbrev fill_left : HunkSoFar → Filling → ℕ → ℕ → Position
 fill_left o (Counted c) longs owed = scan.owe_payload (open_of o) owed
 fill_left o (SizedCode top) longs owed = scan.owe_content (open_of o) longs owed
 fill_left o (SizedData top) longs owed = scan.owe_content (open_of o) longs owed
@@ -71,7 +71,7 @@ pub record Passes (p : Progress) (n : Next) (ws : List ℕ) (position : Position
   pub position_is : position_of (More next) ≡ position
   pub stays : Stays p next
 
-module _ (o : OpenHunk) (word : ℕ) (p : Progress) (longs_are : size_longs o.entry.word ≡ longs_of p) (opened_are : entries o.finished ++ o.entry ∷ [] ≡ opened p) where
+module _ (o : HunkSoFar) (word : ℕ) (p : Progress) (longs_are : size_longs o.entry.word ≡ open_longs p) (opened_are : entries o.finished ++ o.entry ∷ [] ≡ opened p) where
   open_passes : (x : Inside) → Passes p (More (InBody o word x)) [] (positions.Body (open_of o) (phase_of x))
   open_passes x = record { next = InBody o word x; leads = refl; passes = refl; position_is = refl; stays = (longs_are, opened_are) }
 
@@ -118,7 +118,7 @@ module _ (o : OpenHunk) (word : ℕ) (p : Progress) (longs_are : size_longs o.en
       let r = name_passes es w (done ++ x ∷ []) owed ws left (omega (arith, e)) in
       record { next = r.next; leads = r.leads; passes = r.passes; position_is = r.position_is; stays = r.stays }
 
-fill_run : (o : OpenHunk) (word : ℕ) (f : Filling) (done : List ℕ) (owed w : ℕ) (ws : List ℕ) → length ws ≤ owed →
+fill_run : (o : HunkSoFar) (word : ℕ) (f : Filling) (done : List ℕ) (owed w : ℕ) (ws : List ℕ) → length ws ≤ owed →
     Passes (InBody o word (InPayload f done owed)) (More (InBody o word (InPayload f done owed))) (w ∷ ws) (fill_left o f (length done + suc owed) (owed - length ws))
 fill_run o word f done owed w ws l =
     let r = fill_passes o word (InBody o word (InPayload f done owed)) refl refl f (done ++ w ∷ []) owed ws (owed - length ws) (omega (arith, l)) in
@@ -158,7 +158,7 @@ sized_position : (hunks : ℕ) (done : List TableEntry) (w owed : ℕ) (b : Bool
 sized_position hunks done w owed true e = refl
 sized_position hunks done w owed false e = rows_position hunks (done ++ table_entry w 0 ∷ []) owed (more_owed done (table_entry w 0) owed ∙ e)
 
-module _ (o : OpenHunk) (word : ℕ) where
+module _ (o : HunkSoFar) (word : ℕ) where
   fill_position : (f : Filling) (done : List ℕ) (owed : ℕ) → position_of (after o word (fill f done owed)) ≡ fill_left o f (length done + owed) owed
   fill_position f done owed = let r = fill_here o word (AtBlock o) refl refl f done owed in ap position_of r.leads ∙ r.position_is
 
@@ -234,7 +234,7 @@ inside_open (AtSize ForCode) o = refl
 inside_open (InPayload (SizedCode top) done owed) o = refl
 inside_open _ o = refl
 
-abbrev pub MovesTo : Progress → OpenHunk → List BlockValue → Type 0
+abbrev pub MovesTo : Progress → HunkSoFar → List BlockValue → Type 0
 MovesTo p o [] = entries o.finished ≡ opened p
 MovesTo p o (b ∷ blocks) = Stays p (AtBlock o)
 
@@ -248,19 +248,19 @@ open_moves : (p : Progress) (hunks : ℕ) (finished : List HunkValue) (ahead : L
 open_moves p hunks finished [] e = e
 open_moves p hunks finished (x ∷ ahead) e = e
 
-row_moves : (p : Progress) (hunks : ℕ) (done : List TableEntry) (owed : ℕ) → 0 ≡ longs_of p → [] ≡ opened p → Moves p (rows hunks done owed)
+row_moves : (p : Progress) (hunks : ℕ) (done : List TableEntry) (owed : ℕ) → 0 ≡ open_longs p → [] ≡ opened p → Moves p (rows hunks done owed)
 row_moves p hunks done zero l r = open_moves p hunks [] done r
 row_moves p hunks done (suc owed) l r = (l, r)
 
-sized_moves : (p : Progress) (hunks : ℕ) (done : List TableEntry) (w owed : ℕ) (b : Bool) → 0 ≡ longs_of p → [] ≡ opened p → Moves p (sized_row hunks done w owed b)
+sized_moves : (p : Progress) (hunks : ℕ) (done : List TableEntry) (w owed : ℕ) (b : Bool) → 0 ≡ open_longs p → [] ≡ opened p → Moves p (sized_row hunks done w owed b)
 sized_moves p hunks done w owed true l r = (l, r)
 sized_moves p hunks done w owed false l r = row_moves p hunks (done ++ table_entry w 0 ∷ []) owed l r
 
-block_moves : (p : Progress) (o : OpenHunk) (blocks : List BlockValue) (b : BlockValue) → Stays p (AtBlock o) → MovesTo p o (blocks ++ b ∷ [])
+block_moves : (p : Progress) (o : HunkSoFar) (blocks : List BlockValue) (b : BlockValue) → Stays p (AtBlock o) → MovesTo p o (blocks ++ b ∷ [])
 block_moves p o [] b s = s
 block_moves p o (c ∷ blocks) b s = s
 
-after_moves : (p : Progress) (o : OpenHunk) (word : ℕ) (n : BlockNext) → Stays p (AtBlock o) → Moves p (after o word n)
+after_moves : (p : Progress) (o : HunkSoFar) (word : ℕ) (n : BlockNext) → Stays p (AtBlock o) → Moves p (after o word n)
 after_moves p o word (Open x) s = s
 after_moves p o word (Whole body) s = go (standing body)
   where

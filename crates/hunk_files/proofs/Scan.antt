@@ -11,7 +11,7 @@ use Rattle.hunk_files.specs.LoadText.{words, text, labelled}
 use Rattle.hunk_blocks.proofs.FaultScan.{Machine, Leads as LeadsOf, Reads as ReadsOf, one_fault as one_of, front_passes, whole_passes}
 use Rattle.hunk_blocks.proofs.Outcomes.{Keeps, run, front, judged}
 use Rattle.hunk_blocks.specs.Faults.{IsFront}
-use Rattle.hunk_files.specs.Fault.{Expects, HasRefusal, BeginsWithLoadFile, IsTruncated, HasFault, IsCompleted, completing, loads}
+use Rattle.hunk_files.specs.Fault.{Expects, HasRefusal, BeginsWithLoadFile, IsTruncated, HasFault, IsCompleted, completing, load_files}
 use Rattle.hunk_files.specs.FileSteps.{Progress, AtFirst, Next, More, Finished, role_of, step, Leads}
 use Rattle.hunk_files.proofs.FileText.{file_leads}
 use Rattle.hunk_files.proofs.FileProgress.{Reads, step_keeps}
@@ -201,13 +201,13 @@ leads_to n end [] h = h
 leads_to (More p) end (l ∷ ls) h = (ap (λ (r : Role). Some r) h.0, leads_to (step p l.1) end ls h.1)
 leads_to (Finished v) end (l ∷ ls) h = absurd h
 
-pub load_reads : ReadsOf loads load_reader
+pub load_reads : ReadsOf load_files load_reader
 load_reads = record { end = λ v. Finished v; leads = λ v h. leads_to (More AtFirst) (Finished v) (labelled v) (file_leads v h); passes = none_refused }
 
 abbrev SoFar : Next → List ℕ → Type 0
 SoFar n ws = (done : Labelled) × Reads n done × (words done ≡ ws)
 
-pub keeps : Keeps loads load_reader
+pub keeps : Keeps load_files load_reader
 keeps = record { SoFar = SoFar; begins = ([], (tt, refl), refl); expects = expected; goes_on = go; ends = ended }
   where
     expected : (s : Next) (before : List ℕ) (role : Role) → SoFar s before → expects s ≡ Some role → Expects before role
@@ -231,9 +231,9 @@ keeps = record { SoFar = SoFar; begins = ([], (tt, refl), refl); expects = expec
     ended (Finished v) before h e = (v, h.1.0, ap words h.1.1 ∙ h.2)
 
 -- Some load text begins with what was read.
-pub read_front : (n : Next) (done : Labelled) → Reads n done → IsFront loads (words done)
+pub read_front : (n : Next) (done : Labelled) → Reads n done → IsFront load_files (words done)
 unfolding keeps
-read_front n done h = front loads load_reader keeps n (words done) (done, h, refl)
+read_front n done h = front load_files load_reader keeps n (words done) (done, h, refl)
 
 -- ---- one of the three holds
 
@@ -276,7 +276,7 @@ begins_with bytes fit v is rest e =
 -- Bytes begin with a load file or have a fault.
 pub some_outcome : (bytes : List ℕ) → IsBytes bytes → BeginsWithLoadFile bytes ⊎ ((at : ℕ) × (reason : Reason) × HasFault bytes at reason)
 unfolding keeps
-some_outcome bytes fit = elim (judged loads load_reader keeps (longs bytes) (longs_fit bytes fit)) [
+some_outcome bytes fit = elim (judged load_files load_reader keeps (longs bytes) (longs_fit bytes fit)) [
   | inl h ↦ inl (begins_with bytes fit h.value h.is h.rest h.split)
   | inr (inl h) ↦ inr (h.at, h.reason, inl h.refusal)
   | inr (inr h) ↦ all_read (run load_reader (More AtFirst) (longs bytes)) h
@@ -288,14 +288,14 @@ some_outcome bytes fit = elim (judged loads load_reader keeps (longs bytes) (lon
 
 -- A longword is refused, or the input is too short: not both.
 pub not_truncated : (bytes : List ℕ) (at : ℕ) (reason : Reason) (at' : ℕ) → HasRefusal bytes at reason → IsTruncated bytes at' → ⊥
-not_truncated bytes at reason at' h t = front_passes loads load_reader load_reads (longs bytes) at reason h t.front
+not_truncated bytes at reason at' h t = front_passes load_files load_reader load_reads (longs bytes) at reason h t.front
 
 -- They have one fault.
 pub one_fault : (bytes : List ℕ) (at : ℕ) (reason : Reason) (at' : ℕ) (reason' : Reason) → HasFault bytes at reason → HasFault bytes at' reason' → (at ≡ at') × (reason ≡ reason')
-one_fault bytes at reason at' reason' = one_of loads load_reader load_reads (longs bytes) (IsTruncated bytes) (λ n t. (t.place, t.front)) at at' reason reason'
+one_fault bytes at reason at' reason' = one_of load_files load_reader load_reads (longs bytes) (IsTruncated bytes) (λ n t. (t.place, t.front)) at at' reason reason'
 
 -- And none where they begin with a load file.
 pub no_fault : (bytes : List ℕ) (at : ℕ) (reason : Reason) → BeginsWithLoadFile bytes → HasFault bytes at reason → ⊥
 unfolding load_reads
-no_fault bytes at reason h (inl k) = whole_passes loads load_reader load_reads h.value h.is_load_file refl (longs bytes) (longs h.rest) at reason (begun_longs bytes h) k
+no_fault bytes at reason h (inl k) = whole_passes load_files load_reader load_reads h.value h.is_load_file refl (longs bytes) (longs h.rest) at reason (begun_longs bytes h) k
 no_fault bytes at reason h (inr k) = k.1.not_whole h

@@ -26,12 +26,12 @@ use Rattle.hunk_scan.specs.declared.phase.OpenHunk as numbers
 use Rattle.hunk_scan.specs.declared.phase.Phase.TheVariants as phases
 use Rattle.hunk_scan.proofs.OffsetRuns.{offset_passes}
 use Rattle.hunk_files.specs.Passing.{ArePassed}
-use Rattle.hunk_files.specs.FileSteps.{OpenHunk, Progress, AtFirst, AtBlock, InBody, Next, More, Finished, role_of, step}
+use Rattle.hunk_files.specs.FileSteps.{HunkSoFar, Progress, AtFirst, AtBlock, InBody, Next, More, Finished, role_of, step}
 use Rattle.hunk_files.proofs.FileProgress.{header_so_far, open_so_far}
 use Rattle.hunk_files.specs.WordsRead.{Labelled, HasRead}
 use Rattle.hunk_files.proofs.Reading.{reads, start_read, step_read, passing_from, read_refused, read_ended, read_truncated}
 use Rattle.hunk_files.proofs.Positions.{inside_open, Moves, MovesTo, refuse_same, step_position, not_done, step_moves, run_passes}
-use Rattle.hunk_files.specs.ReaderPosition.{open_of, block_phase, position_of, longs_of, opened}
+use Rattle.hunk_files.specs.ReaderPosition.{open_of, block_phase, position_of, open_longs, opened}
 use Rattle.hunk_blocks.specs.Values.{BlockValue}
 use Rattle.hunk_blocks.proofs.Fronts.{All-left, All-right}
 use Rattle.hunk_files.proofs.TableReading.{entry_length}
@@ -46,7 +46,7 @@ row_of p = row_behind (opened p)
 
 -- the entry of the open hunk
 abbrev pub entry_of : Progress → Entry
-entry_of p = record { longs = longs_of p; next = row_of p }
+entry_of p = record { longs = open_longs p; next = row_of p }
 
 -- What the walk has read, up to a longword: it stands there, with the entry of the open hunk.
 pub record StandsAt (bytes : List ℕ) (at : ℕ) (position : Position) (entry : Entry) : Type 0 where
@@ -95,7 +95,7 @@ header_split hunks es ahead e = (
   ap (λ (l : Labelled). (roles.FirstLong, 0x3F3) ∷ (roles.ResidentName, 0) ∷ (roles.TableSize, hunks) ∷ (roles.FirstHunk, 0) ∷ (roles.LastHunk hunks, hunks - 1) ∷ l) (flat_map-append entry_labelled es (e ∷ ahead)),
 )
 
-open_split : (o : OpenHunk) → (more : Labelled) × (open_so_far o ≡ header_so_far o.hunks (entries o.finished) ++ (roles.SizeWord, o.entry.word) ∷ more)
+open_split : (o : HunkSoFar) → (more : Labelled) × (open_so_far o ≡ header_so_far o.hunks (entries o.finished) ++ (roles.SizeWord, o.entry.word) ∷ more)
 open_split o =
     let h = header_split o.hunks (entries o.finished) o.ahead o.entry in
     let hunks = flat_map (hunk_labelled o.hunks) o.finished in
@@ -106,7 +106,7 @@ open_split o =
           ∙ append_assoc (header_so_far o.hunks (entries o.finished)) (((roles.SizeWord, o.entry.word) ∷ h.0) ++ hunks) blocks,
     )
 
-module _ (ws : List ℕ) (o : OpenHunk) (h : HasRead ws (More (AtBlock o))) where
+module _ (ws : List ℕ) (o : HunkSoFar) (h : HasRead ws (More (AtBlock o))) where
   behind_length : length (words (header_so_far o.hunks (entries o.finished))) ≡ row_behind (entries o.finished)
   behind_length = omega (arith, length-map (header_so_far o.hunks (entries o.finished)) (λ (x : Role × ℕ). x.1))
 
@@ -141,7 +141,7 @@ same_entry e d l n = λ i. record { longs = l i; next = n i }
 
 -- behind these longwords of the input, where the last was read at p
 module _ (all : List ℕ) (at : ℕ) (whole : at ≤ length all) (p : Progress) where
-  module _ (o : OpenHunk) (read : HasRead (take at all) (More (AtBlock o))) where
+  module _ (o : HunkSoFar) (read : HasRead (take at all) (More (AtBlock o))) where
     opens_inside : row_behind (entries o.finished) ≡ row_of p → row_of p < at
     opens_inside e = omega (arith, e, row_inside (take at all) o read, length-take-le at all whole)
 

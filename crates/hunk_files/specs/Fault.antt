@@ -12,16 +12,16 @@ use Rattle.hunk_scan.specs.Roles.{Role, Role as roles, InBlock, refuse}
 use Rattle.hunk_files.specs.LoadText.{labelled, words, text}
 
 -- Load files.
-abbrev pub loads : Grammar LoadFileValue Role
-loads = record { Is = IsLoadFile; labelled = labelled; refuse = refuse }
+abbrev pub load_files : Grammar LoadFileValue Role
+load_files = record { Is = IsLoadFile; labelled = labelled; refuse = refuse }
 
 -- Some load text begins with these longwords, and then has a longword of this role.
 abbrev pub Expects : List ℕ → Role → Type 0
-Expects before role = ExpectsOf loads before role
+Expects before role = ExpectsOf load_files before role
 
 -- A longword stands where this role is expected, and is refused.
 abbrev pub HasRefusal : List ℕ → ℕ → Reason → Type 0
-HasRefusal bytes at reason = RefusalOf loads (longs bytes) at reason
+HasRefusal bytes at reason = RefusalOf load_files (longs bytes) at reason
 
 -- The longword that completes a load text at this role: no more hunks, names, sizes, groups or entries than were
 -- announced, an empty BSS block where the hunk has no content, and the end of the hunk.
@@ -53,7 +53,7 @@ pub record BeginsWithLoadFile (bytes : List ℕ) : Type 0 where
 pub record IsTruncated (bytes : List ℕ) (at : ℕ) : Type 0 where
   pub place : at ≡ 4 * length (longs bytes)
   pub not_whole : BeginsWithLoadFile bytes → ⊥
-  pub front : IsFront loads (longs bytes)
+  pub front : IsFront load_files (longs bytes)
 
 -- The fault of bytes that do not begin with a load file.
 abbrev pub HasFault : List ℕ → ℕ → Reason → Type 0

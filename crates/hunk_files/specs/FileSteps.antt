@@ -18,7 +18,7 @@ abbrev pub block : ℕ → BlockBody → BlockValue
 block word body = record { word = word; body = body }
 
 -- A hunk that is open: the hunks before it, its entry and whole blocks, and the entries of the hunks after it.
-pub record OpenHunk : Type 0 where
+pub record HunkSoFar : Type 0 where
   pub hunks : ℕ
   pub finished : List HunkValue
   pub entry : TableEntry
@@ -35,14 +35,14 @@ pub data Progress : Type 0 where
   AtLastHunk : ℕ → Progress
   AtSizeWord : ℕ → List TableEntry → ℕ → Progress
   AtAttributes : ℕ → List TableEntry → ℕ → ℕ → Progress
-  AtBlock : OpenHunk → Progress
-  InBody : OpenHunk → ℕ → Inside → Progress
+  AtBlock : HunkSoFar → Progress
+  InBody : HunkSoFar → ℕ → Inside → Progress
 
 pub data Next : Type 0 where
   More : Progress → Next
   Finished : LoadFileValue → Next
 
-abbrev pub place_of : OpenHunk → Place
+abbrev pub place_of : HunkSoFar → Place
 place_of o = record { hunks = o.hunks; longs = size_longs o.entry.word; has_content = o.has_content }
 
 abbrev pub role_of : Progress → Role
@@ -69,21 +69,21 @@ abbrev pub rows : ℕ → List TableEntry → ℕ → Next
 rows hunks done zero = open_hunk hunks [] done
 rows hunks done (suc owed) = More (AtSizeWord hunks done owed)
 
-abbrev pub with_block : OpenHunk → BlockValue → Bool → OpenHunk
+abbrev pub with_block : HunkSoFar → BlockValue → Bool → HunkSoFar
 with_block o b has_content =
     record { hunks = o.hunks; finished = o.finished; entry = o.entry; blocks = o.blocks ++ b ∷ []; has_content = has_content; ahead = o.ahead }
 
-abbrev pub close_by : OpenHunk → BlockValue → BlockStanding → Next
+abbrev pub close_by : HunkSoFar → BlockValue → BlockStanding → Next
 close_by o b Beside = More (AtBlock (with_block o b o.has_content))
 close_by o b Relocating = More (AtBlock (with_block o b o.has_content))
 close_by o b Content = More (AtBlock (with_block o b true))
 close_by o b Ending = open_hunk o.hunks (o.finished ++ hunk o.entry (o.blocks ++ b ∷ []) ∷ []) o.ahead
 
 -- a block is whole
-abbrev pub close : OpenHunk → BlockValue → Next
+abbrev pub close : HunkSoFar → BlockValue → Next
 close o b = close_by o b (standing b.body)
 
-abbrev pub after : OpenHunk → ℕ → BlockNext → Next
+abbrev pub after : HunkSoFar → ℕ → BlockNext → Next
 after o word (Open x) = More (InBody o word x)
 after o word (Whole body) = close o (block word body)
 

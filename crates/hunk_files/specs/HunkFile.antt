@@ -6,7 +6,7 @@ use Rattle.hunk_words.specs.declared.reason.Reason.{Reason}
 use Rattle.hunk_blocks.specs.Faults.{IsFrontTo}
 use Rattle.hunk_scan.specs.declared.file_kind.Sniff.{Sniff}
 use Rattle.hunk_scan.specs.declared.file_kind.Sniff.TheVariants as sniffs
-use Rattle.hunk_files.specs.Fault.{BeginsWithLoadFile, HasFault, is_load_refusal, loads}
+use Rattle.hunk_files.specs.Fault.{BeginsWithLoadFile, HasFault, is_load_refusal, load_files}
 use Rattle.hunk_files.specs.LoadText.{text}
 use Rattle.hunk_files.specs.ObjectFault.{HasObjectFault, objects}
 use Rattle.hunk_files.specs.ObjectFile.{ObjectFileValue, IsObjectFile, is_object_refusal, object_text}
@@ -48,7 +48,7 @@ IsRefusal kind bytes refusal = IsLoadRefusal bytes refusal
 -- the bytes begin with a load file, and some load file begins with the longwords up to and with
 -- the one here
 abbrev pub IsLoadMemory : List ℕ → ℕ → Type 0
-IsLoadMemory bytes place = BeginsWithLoadFile bytes × IsFrontTo loads (longs bytes) place
+IsLoadMemory bytes place = BeginsWithLoadFile bytes × IsFrontTo load_files (longs bytes) place
 
 -- some object file begins with the longwords up to and with the one here, and a fault of the
 -- bytes, if there is one, stands behind it

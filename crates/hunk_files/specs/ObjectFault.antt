@@ -56,11 +56,11 @@ blocks_labelled place (b ∷ rest) = block_labelled place b ++ blocks_labelled (
 abbrev pub hunk_labelled : ObjectHunk → List (ObjectRole × ℕ)
 hunk_labelled h = blocks_labelled BetweenHunks h
 
-abbrev pub header_labelled : WordPlace → List ℕ → List (ObjectRole × ℕ)
-header_labelled place name = (WordAt place, unit_word) ∷ (UnitCount, length name) ∷ map (λ w. (UnitName, w)) name
+abbrev pub unit_header_labelled : WordPlace → List ℕ → List (ObjectRole × ℕ)
+unit_header_labelled place name = (WordAt place, unit_word) ∷ (UnitCount, length name) ∷ map (λ w. (UnitName, w)) name
 
 abbrev pub unit_labelled : WordPlace → UnitValue → List (ObjectRole × ℕ)
-unit_labelled place u = header_labelled place u.name ++ flat_map hunk_labelled u.hunks
+unit_labelled place u = unit_header_labelled place u.name ++ flat_map hunk_labelled u.hunks
 
 -- the units, the first of which begins at this place
 abbrev pub units_labelled : WordPlace → ObjectFileValue → List (ObjectRole × ℕ)

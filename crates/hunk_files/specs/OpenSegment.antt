@@ -5,7 +5,7 @@ use Rattle.hunk_words.specs.Bits.{size_longs}
 use Rattle.hunk_words.specs.Longs.{bytes_of}
 use Rattle.hunk_blocks.specs.BlockSteps.{Filling, Counted, SizedCode, SizedData, Inside, InPayload, AtGroup, AtTarget, InOffsets, BlockNext, Open, Whole}
 use Rattle.hunk_files.specs.Image.{block_content, block_relocations, group_relocations, filled, relocated}
-use Rattle.hunk_files.specs.FileSteps.{OpenHunk}
+use Rattle.hunk_files.specs.FileSteps.{HunkSoFar}
 
 abbrev pub filling_bytes : Filling → List ℕ → List ℕ
 filling_bytes (Counted c) ws = []
@@ -36,11 +36,11 @@ pairs_so_far (Whole body) = block_relocations body
 
 -- ---- the open hunk
 
-abbrev pub open_bytes : OpenHunk → BlockNext → List ℕ
+abbrev pub open_bytes : HunkSoFar → BlockNext → List ℕ
 open_bytes o n = flat_map (λ b. block_content b.body) o.blocks ++ bytes_so_far n
 
-abbrev pub open_pairs : OpenHunk → BlockNext → List (ℕ × ℕ)
+abbrev pub open_pairs : HunkSoFar → BlockNext → List (ℕ × ℕ)
 open_pairs o n = flat_map (λ b. block_relocations b.body) o.blocks ++ pairs_so_far n
 
-abbrev pub segment_so_far : List ℕ → OpenHunk → BlockNext → List ℕ
+abbrev pub segment_so_far : List ℕ → HunkSoFar → BlockNext → List ℕ
 segment_so_far bases o n = relocated bases (filled (4 * size_longs o.entry.word) (open_bytes o n)) (open_pairs o n)

@@ -11,9 +11,9 @@ use Rattle.hunk_scan.specs.declared.position.Position.TheVariants as positions
 use Rattle.hunk_scan.specs.Positions.{is_behind_header}
 use Rattle.hunk_files.specs.LoadFile.{TableEntry}
 use Rattle.hunk_files.specs.LoadText.{entries}
-use Rattle.hunk_files.specs.FileSteps.{OpenHunk, Progress, AtFirst, AtResident, AtTableSize, AtFirstHunk, AtLastHunk, AtSizeWord, AtAttributes, AtBlock, InBody, Next, More, Finished}
+use Rattle.hunk_files.specs.FileSteps.{HunkSoFar, Progress, AtFirst, AtResident, AtTableSize, AtFirstHunk, AtLastHunk, AtSizeWord, AtAttributes, AtBlock, InBody, Next, More, Finished}
 
-abbrev pub open_of : OpenHunk → numbers.OpenHunk
+abbrev pub open_of : HunkSoFar → numbers.OpenHunk
 open_of o = record { hunks = o.hunks; ahead = length o.ahead; has_content = o.has_content }
 
 -- behind these blocks of a hunk
@@ -54,10 +54,10 @@ position_of (More (InBody o word x)) = positions.Body (open_of o) (phase_of x)
 position_of (Finished v) = positions.Done
 
 -- the longs that the open hunk declares
-abbrev pub longs_of : Progress → ℕ
-longs_of (AtBlock o) = size_longs o.entry.word
-longs_of (InBody o word x) = size_longs o.entry.word
-longs_of _ = 0
+abbrev pub open_longs : Progress → ℕ
+open_longs (AtBlock o) = size_longs o.entry.word
+open_longs (InBody o word x) = size_longs o.entry.word
+open_longs _ = 0
 
 -- the entries of the hunks that were opened
 abbrev pub opened : Progress → List TableEntry
@@ -65,7 +65,7 @@ opened (AtBlock o) = entries o.finished ++ o.entry ∷ []
 opened (InBody o word x) = entries o.finished ++ o.entry ∷ []
 opened _ = []
 
-abbrev pub open_table : OpenHunk → List TableEntry
+abbrev pub open_table : HunkSoFar → List TableEntry
 open_table o = entries o.finished ++ o.entry ∷ o.ahead
 
 -- the table, as far as it was read

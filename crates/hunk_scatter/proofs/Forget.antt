@@ -9,10 +9,10 @@ use Rattle.hunk_files.specs.LoadFile.{TableEntry, HunkValue, standing}
 use Rattle.hunk_scan.specs.Standings.{BlockStanding, Ending}
 use Rattle.hunk_files.specs.LoadText.{entries}
 use Rattle.hunk_blocks.specs.BlockSteps.{BlockNext, Open, Whole, step_inside, begin}
-use Rattle.hunk_files.specs.FileSteps.{hunk, block, OpenHunk, Progress, AtBlock, InBody, Next, More, Finished, role_of, open_hunk, close_by, after, step}
+use Rattle.hunk_files.specs.FileSteps.{hunk, block, HunkSoFar, Progress, AtBlock, InBody, Next, More, Finished, role_of, open_hunk, close_by, after, step}
 use Rattle.hunk_files.proofs.FileProgress.{ProgressFits}
 use Rattle.hunk_files.proofs.Positions.{Moves, MovesTo, step_moves, step_position, refuse_same, inside_open}
-use Rattle.hunk_files.specs.ReaderPosition.{position_of, open_of, block_phase, longs_of, opened, open_table, table_of, IsBehindHeader}
+use Rattle.hunk_files.specs.ReaderPosition.{position_of, open_of, block_phase, open_longs, opened, open_table, table_of, IsBehindHeader}
 use Rattle.hunk_blocks.proofs.Lists.{map-more}
 use Rattle.hunk_scan.specs.Roles.{refuse}
 use Rattle.hunk_scan.specs.declared.position.Position.{Position}
@@ -53,7 +53,7 @@ last_bytes es e =
     )
 
 -- from the open hunk
-module _ (o : OpenHunk) where
+module _ (o : HunkSoFar) where
   here : Position → BodyState
   here position = state_at o.finished position
 
@@ -94,8 +94,8 @@ module _ (o : OpenHunk) where
       state_next : Position → BodyState
       state_next p = record { hunk = length o.finished + 1; start = before o.finished + 4 * longs_at (sizes_of (open_table o)) (length o.finished); position = p }
 
-  module _ (p : Progress) (opened_is : opened p ≡ entries o.finished ++ o.entry ∷ []) (longs_is : longs_of p ≡ size_longs o.entry.word) where
-    block_state : (q : OpenHunk) (blocks : List BlockValue) → MovesTo p q blocks →
+  module _ (p : Progress) (opened_is : opened p ≡ entries o.finished ++ o.entry ∷ []) (longs_is : open_longs p ≡ size_longs o.entry.word) where
+    block_state : (q : HunkSoFar) (blocks : List BlockValue) → MovesTo p q blocks →
         (let at = positions.Body (open_of q) (block_phase blocks) in state_at q.finished at ≡ move_to (sizes_of (open_table o)) (state_at o.finished at) at)
     block_state q [] m = next_state q.finished _ (m ∙ opened_is) refl
     block_state q (b ∷ blocks) m = same_hunk q.finished q.entry _ (m.1 ∙ opened_is) (m.0 ∙ longs_is) refl
@@ -120,7 +120,7 @@ open_keeps hunks finished x (e ∷ ahead) = (
   refl,
 )
 
-after_keeps : (o : OpenHunk) (word : ℕ) (n : BlockNext) → Keeps (open_table o) (after o word n)
+after_keeps : (o : HunkSoFar) (word : ℕ) (n : BlockNext) → Keeps (open_table o) (after o word n)
 after_keeps o word (Open x) = (refl, refl)
 after_keeps o word (Whole body) = go (standing body)
   where

@@ -9,7 +9,7 @@ use Rattle.hunk_words.specs.declared.reason.Reason.{Reason}
 use Rattle.hunk_scan.specs.Positions.{is_behind_header}
 use Rattle.hunk_scan.specs.Roles.{Role, Role as roles, refuse}
 use Rattle.hunk_blocks.proofs.FaultScan.{front_passes}
-use Rattle.hunk_files.specs.Fault.{Expects, HasRefusal, loads}
+use Rattle.hunk_files.specs.Fault.{Expects, HasRefusal, load_files}
 use Rattle.hunk_files.specs.Image.{declared_bytes}
 use Rattle.hunk_files.specs.LoadFile.{TableEntry, LoadFileValue, IsLoadFile}
 use Rattle.hunk_files.specs.LoadText.{labelled, header_labelled, hunk_labelled, table, text, words}
@@ -173,7 +173,7 @@ passes_front budget bytes more at p = go (fronts p.before p.word p.after (longs 
 -- No size word is expected behind a longword that is refused.
 pub refused_front : (bytes : List ℕ) (at : ℕ) (reason : Reason) (m : List ℕ) → HasRefusal bytes at reason → Expects (longs bytes ++ m) roles.SizeWord → ⊥
 refused_front bytes at reason m h e =
-    front_passes loads load_reader load_reads (longs bytes) at reason h
+    front_passes load_files load_reader load_reads (longs bytes) at reason h
     (record {
       value = e.value;
       is = e.is;

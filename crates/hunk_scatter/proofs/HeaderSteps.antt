@@ -7,7 +7,7 @@ use Rattle.hunk_scan.specs.Positions.{role_at, is_behind_header}
 use Rattle.hunk_files.specs.Image.{declared_bytes}
 use Rattle.hunk_files.specs.LoadFile.{TableEntry}
 use Rattle.hunk_files.specs.FileSteps.{table_entry, Progress, AtLastHunk, AtSizeWord, AtAttributes, AtBlock, InBody, More, role_of, rows, sized_row, step}
-use Rattle.hunk_files.specs.ReaderPosition.{position_of, longs_of, table_of, IsBehindHeader}
+use Rattle.hunk_files.specs.ReaderPosition.{position_of, open_longs, table_of, IsBehindHeader}
 use Rattle.hunk_files.proofs.FileProgress.{ProgressFits}
 use Rattle.hunk_files.proofs.Positions.{refuse_same}
 use Rattle.hunk_scatter.specs.HeaderLoaderFields.{adds, declares, declared_so_far, OpensFirst}
@@ -22,7 +22,7 @@ pub not_in_body : (p : Progress) → IsInHeader p → IsBehindHeader (More p) �
 not_in_body p e b = let clash : false ≡ true = sym e ∙ b in cc
 
 -- no hunk is open
-none_open : (p : Progress) → IsInHeader p → longs_of p ≡ 0
+none_open : (p : Progress) → IsInHeader p → open_longs p ≡ 0
 none_open (AtBlock o) e = absurd cc
 none_open (InBody o word x) e = absurd cc
 none_open _ e = refl

@@ -11,7 +11,7 @@ use Rattle.hunk_files.specs.LoadFile.{TableEntry, LoadFileValue}
 use Rattle.hunk_scan.specs.Roles.{refuse}
 use Rattle.hunk_files.specs.LoadText.{entries}
 use Rattle.hunk_blocks.specs.BlockSteps.{Inside}
-use Rattle.hunk_files.specs.FileSteps.{OpenHunk, Progress, AtBlock, InBody, Next, More, Finished, place_of, role_of, step}
+use Rattle.hunk_files.specs.FileSteps.{HunkSoFar, Progress, AtBlock, InBody, Next, More, Finished, place_of, role_of, step}
 use Rattle.hunk_files.proofs.FileProgress.{OpenFits, ProgressFits}
 use Rattle.hunk_files.proofs.HunkProgress as blocks
 use Rattle.hunk_files.proofs.InsideCases.{by_inside}
@@ -38,7 +38,7 @@ use Rattle.hunk_scatter.proofs.Scatter.{step_holds}
 
 -- ---- room
 
-open_in_store : (o : OpenHunk) (p : Position) → OpenFits o → is_behind_header p ≡ true → RoomIn (sizes_of (open_table o)) (size_longs o.entry.word) p → IsInStore (sizes_of (open_table o)) (declared_bytes (open_table o)) (state_at o.finished p)
+open_in_store : (o : HunkSoFar) (p : Position) → OpenFits o → is_behind_header p ≡ true → RoomIn (sizes_of (open_table o)) (size_longs o.entry.word) p → IsInStore (sizes_of (open_table o)) (declared_bytes (open_table o)) (state_at o.finished p)
 open_in_store o p f b room = record {
   in_body = b;
   hunks = omega (arith, sizes-length o.finished o.entry o.ahead, f.front_fits.counts, f.front_fits.hunks_fit.1);
@@ -54,7 +54,7 @@ open_in_store o p f b room = record {
   room = subst (λ (n : ℕ). RoomIn (sizes_of (open_table o)) n p) (sym (ap size_longs (sizes-at o.finished o.entry o.ahead))) room;
 }
 
-block_room : (o : OpenHunk) (blocks : List BlockValue) → RoomIn (sizes_of (open_table o)) (size_longs o.entry.word) (positions.Body (open_of o) (block_phase blocks))
+block_room : (o : HunkSoFar) (blocks : List BlockValue) → RoomIn (sizes_of (open_table o)) (size_longs o.entry.word) (positions.Body (open_of o) (block_phase blocks))
 block_room o [] = tt
 block_room o (b ∷ blocks) = tt
 

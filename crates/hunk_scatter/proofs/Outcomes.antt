@@ -5,7 +5,7 @@ use Rattle.hunk_words.proofs.LongLaws.{length-longs}
 use Rattle.hunk_words.proofs.GatherLaws.{gathered-all}
 use Rattle.hunk_blocks.specs.Faults.{HasRefusal as RefusalOf, IsFront}
 use Rattle.hunk_blocks.proofs.FaultScan.{front_passes}
-use Rattle.hunk_files.specs.Fault.{IsTruncated, loads}
+use Rattle.hunk_files.specs.Fault.{IsTruncated, load_files}
 use Rattle.hunk_files.specs.FileSteps.{Progress, Next, More}
 use Rattle.hunk_files.proofs.Reading.{reads}
 use Rattle.hunk_files.specs.WordsRead.{HasRead}
@@ -14,15 +14,15 @@ use Rattle.hunk_scatter.specs.LoaderValues.{HasNoRefusal}
 use Rattle.hunk_scatter.proofs.ReadWords.{read_longs}
 
 -- Some load text begins with what was read.
-pub begins_file : (ws : List ℕ) (n : Next) → HasRead ws n → IsFront loads ws
-begins_file ws n h = subst (IsFront loads) h.all (read_front n h.done (reads h))
+pub begins_file : (ws : List ℕ) (n : Next) → HasRead ws n → IsFront load_files ws
+begins_file ws n h = subst (IsFront load_files) h.all (read_front n h.done (reads h))
 
 module _ (ws : List ℕ) (n : Next) (pending fed : List ℕ) (read : HasRead ws n) (few : length pending < 4) (spelled : fed ≡ bytes_of ws ++ pending) where
   pub longs_are : longs fed ≡ ws
   longs_are = gathered-all fed pending ws (read_longs ws n read) few spelled
 
   pub read_clean : HasNoRefusal fed
-  read_clean at reason h = front_passes loads load_reader load_reads ws at reason (subst (λ (xs : List ℕ). RefusalOf loads xs at reason) longs_are h) (begins_file ws n read)
+  read_clean at reason h = front_passes load_files load_reader load_reads ws at reason (subst (λ (xs : List ℕ). RefusalOf load_files xs at reason) longs_are h) (begins_file ws n read)
 
 -- What was read goes on.
 pub read_truncated : (ws : List ℕ) (p : Progress) (pending fed : List ℕ) → HasRead ws (More p) → length pending < 4 → fed ≡ bytes_of ws ++ pending → IsTruncated fed (4 * (length fed / 4))

@@ -4,13 +4,13 @@ use Rattle.hunk_blocks.specs.Values.{ExtEntry, SymbolEntry, RelocGroup}
 use Rattle.hunk_blocks.specs.BlockSteps.{ForName, ForDebug, ForAdvisory, Filling, Counted, SizedCode, SizedData, Inside, AtCount, AtSize, InPayload, AtGroup, AtTarget, InOffsets, AtEntry, InName, AtValue, AtExtWord, InExtName, AtExtValue, AtExtSize, AtExtCount, InExtOffsets, fill, relocate, name_entry, name_external, refer}
 use Rattle.hunk_files.specs.LoadFile.{LoadFileValue, IsLoadFile}
 use Rattle.hunk_files.specs.LoadText.{words, labelled}
-use Rattle.hunk_files.specs.FileSteps.{OpenHunk, Progress, AtFirst, AtResident, AtTableSize, AtFirstHunk, AtLastHunk, AtSizeWord, AtAttributes, AtBlock, InBody, Next, More, Finished, role_of, after, step, Leads}
+use Rattle.hunk_files.specs.FileSteps.{HunkSoFar, Progress, AtFirst, AtResident, AtTableSize, AtFirstHunk, AtLastHunk, AtSizeWord, AtAttributes, AtBlock, InBody, Next, More, Finished, role_of, after, step, Leads}
 use Rattle.hunk_files.proofs.FileText.{file_leads}
 use Rattle.hunk_files.proofs.Shapes.{by_shape}
 use Rattle.hunk_files.proofs.Runs.{Leads-split, Leads-same}
 use Rattle.hunk_files.specs.WordsRead.{HasRead, Labelled}
 use Rattle.hunk_files.proofs.Least.{least}
-use Rattle.hunk_scatter.specs.Owing.{is_listed, run_of}
+use Rattle.hunk_scatter.specs.Owing.{is_in_run, run_of}
 
 abbrev pub run_in : Inside → ℕ
 run_in (InPayload f done owed) = suc owed
@@ -24,7 +24,7 @@ abbrev pub run_at : Next → ℕ
 run_at (More (InBody o word x)) = run_in x
 run_at _ = 0
 
-fill_run : (o : OpenHunk) (word : ℕ) (f : Filling) (done : List ℕ) (owed : ℕ) → run_at (after o word (fill f done owed)) ≡ owed
+fill_run : (o : HunkSoFar) (word : ℕ) (f : Filling) (done : List ℕ) (owed : ℕ) → run_at (after o word (fill f done owed)) ≡ owed
 fill_run o word (Counted ForName) done zero = refl
 fill_run o word (Counted ForDebug) done zero = refl
 fill_run o word (Counted ForAdvisory) done zero = refl
@@ -32,24 +32,24 @@ fill_run o word (SizedCode top) done zero = refl
 fill_run o word (SizedData top) done zero = refl
 fill_run o word f done (suc owed) = refl
 
-offsets_run : (o : OpenHunk) (word : ℕ) (groups : List RelocGroup) (target : ℕ) (done : List ℕ) (owed : ℕ) → run_at (after o word (relocate groups target done owed)) ≡ owed
+offsets_run : (o : HunkSoFar) (word : ℕ) (groups : List RelocGroup) (target : ℕ) (done : List ℕ) (owed : ℕ) → run_at (after o word (relocate groups target done owed)) ≡ owed
 offsets_run o word groups target done zero = refl
 offsets_run o word groups target done (suc owed) = refl
 
-name_run : (o : OpenHunk) (word : ℕ) (es : List SymbolEntry) (w : ℕ) (done : List ℕ) (owed : ℕ) → run_at (after o word (name_entry es w done owed)) ≡ owed
+name_run : (o : HunkSoFar) (word : ℕ) (es : List SymbolEntry) (w : ℕ) (done : List ℕ) (owed : ℕ) → run_at (after o word (name_entry es w done owed)) ≡ owed
 name_run o word es w done zero = refl
 name_run o word es w done (suc owed) = refl
 
-external_run : (o : OpenHunk) (word : ℕ) (es : List ExtEntry) (w : ℕ) (done : List ℕ) (owed : ℕ) → run_at (after o word (name_external es w done owed)) ≡ owed
+external_run : (o : HunkSoFar) (word : ℕ) (es : List ExtEntry) (w : ℕ) (done : List ℕ) (owed : ℕ) → run_at (after o word (name_external es w done owed)) ≡ owed
 external_run o word es w done zero = by_shape (λ n. run_at (after o word n) ≡ 0) (w / 2 ^ 24) es w done refl refl refl refl
 external_run o word es w done (suc owed) = refl
 
-refer_run : (o : OpenHunk) (word : ℕ) (es : List ExtEntry) (w : ℕ) (name : List ℕ) (value : ℕ) (done : List ℕ) (owed : ℕ) → run_at (after o word (refer es w name value done owed)) ≡ owed
+refer_run : (o : HunkSoFar) (word : ℕ) (es : List ExtEntry) (w : ℕ) (name : List ℕ) (value : ℕ) (done : List ℕ) (owed : ℕ) → run_at (after o word (refer es w name value done owed)) ≡ owed
 refer_run o word es w name value done zero = refl
 refer_run o word es w name value done (suc owed) = refl
 
 -- One longword takes one off what is to come, or none is.
-one_off : (p : Progress) (w : ℕ) → cond (is_listed (role_of p)) (suc (run_at (step p w))) 0 ≡ run_at (More p)
+one_off : (p : Progress) (w : ℕ) → cond (is_in_run (role_of p)) (suc (run_at (step p w))) 0 ≡ run_at (More p)
 one_off (InBody o word (AtCount ForName)) w = refl
 one_off (InBody o word (AtCount ForDebug)) w = refl
 one_off (InBody o word (AtCount ForAdvisory)) w = refl
@@ -81,7 +81,7 @@ run_is (More p) [] v run = absurd cc
 run_is (Finished u) [] v run = refl
 run_is (Finished u) (l ∷ ls) v run = absurd run
 run_is (More p) (l ∷ ls) v run =
-    ap₂ (λ r n. cond (is_listed r) (suc n) 0) (sym run.0) (run_is (step p l.1) ls v run.1) ∙ one_off p l.1
+    ap₂ (λ r n. cond (is_in_run r) (suc n) 0) (sym run.0) (run_is (step p l.1) ls v run.1) ∙ one_off p l.1
 
 run_least : (p : Progress) → run_at (More p) ≤ least p
 run_least (InBody o word (InPayload f done owed)) = omega arith

@@ -15,7 +15,7 @@ use Rattle.hunk_blocks.specs.Values.{BlockValue, Name, Code, Data, Bss, Reloc, E
 use Rattle.hunk_files.specs.LoadFile.{TableEntry, HunkValue}
 use Rattle.hunk_scan.specs.Roles.{refuse, refuse_part}
 use Rattle.hunk_blocks.specs.BlockSteps.{ForName, ForCode, SizedCode, SizedData, Inside, AtCount, AtSize, InPayload, InOffsets, BlockNext, Open, Whole, part_of, step_inside, begin}
-use Rattle.hunk_files.specs.FileSteps.{hunk, block, OpenHunk, Progress, AtBlock, InBody, More, place_of, role_of, with_block, open_hunk, close, after, step}
+use Rattle.hunk_files.specs.FileSteps.{hunk, block, HunkSoFar, Progress, AtBlock, InBody, More, place_of, role_of, with_block, open_hunk, close, after, step}
 use Rattle.hunk_files.proofs.FileProgress.{ProgressFits, IsAdmitted, kind_admitted, kind_is}
 use Rattle.hunk_files.proofs.HunkProgress as blocks
 use Rattle.hunk_blocks.proofs.Lists.{All-more, flat_map-more, passed_true, passed_false}
@@ -29,15 +29,15 @@ use Rattle.hunk_scatter.specs.BodyReader.{state_of, before}
 use Rattle.hunk_scatter.proofs.Splice.{put-join, add-join, length-put, long_fills}
 use Rattle.hunk_words.proofs.LongLaws.{length-bytes_of, bytes_of-one}
 
-abbrev contents_of : OpenHunk → List ℕ
+abbrev contents_of : HunkSoFar → List ℕ
 contents_of o = flat_map (λ b. block_content b.body) o.blocks
 
-abbrev pairs_of : OpenHunk → List (ℕ × ℕ)
+abbrev pairs_of : HunkSoFar → List (ℕ × ℕ)
 pairs_of o = flat_map (λ b. block_relocations b.body) o.blocks
 
 -- ---- a segment that is as it was
 
-holds_as : (bases : List ℕ) (o : OpenHunk) (n m : BlockNext) (store : List ℕ) → segment_so_far bases o m ≡ segment_so_far bases o n → Holds bases o n store → Holds bases o m store
+holds_as : (bases : List ℕ) (o : HunkSoFar) (n m : BlockNext) (store : List ℕ) → segment_so_far bases o m ≡ segment_so_far bases o n → Holds bases o n store → Holds bases o m store
 holds_as bases o n m store e h = record {
   front = h.front;
   segment = ap length e ∙ h.segment;
@@ -45,11 +45,11 @@ holds_as bases o n m store e h = record {
   store_is = h.store_is ∙ ap (λ (s : List ℕ). images bases o.finished ++ (s ++ zeros o.ahead)) (sym e);
 }
 
-same_parts : (bases : List ℕ) (o : OpenHunk) (n m : BlockNext) → bytes_so_far m ≡ bytes_so_far n → pairs_so_far m ≡ pairs_so_far n → segment_so_far bases o m ≡ segment_so_far bases o n
+same_parts : (bases : List ℕ) (o : HunkSoFar) (n m : BlockNext) → bytes_so_far m ≡ bytes_so_far n → pairs_so_far m ≡ pairs_so_far n → segment_so_far bases o m ≡ segment_so_far bases o n
 same_parts bases o n m e d =
     ap₂ (λ (bs : List ℕ) (ps : List (ℕ × ℕ)). relocated bases (filled (4 * size_longs o.entry.word) (contents_of o ++ bs)) (pairs_of o ++ ps)) e d
 
-nothing_added : (bases : List ℕ) (o : OpenHunk) (x : Inside) (w : ℕ) → adds_bytes x w ≡ [] → adds_pairs x w ≡ [] → segment_so_far bases o (step_inside x w) ≡ segment_so_far bases o (Open x)
+nothing_added : (bases : List ℕ) (o : HunkSoFar) (x : Inside) (w : ℕ) → adds_bytes x w ≡ [] → adds_pairs x w ≡ [] → segment_so_far bases o (step_inside x w) ≡ segment_so_far bases o (Open x)
 nothing_added bases o x w e d =
     same_parts bases o (Open x) (step_inside x w)
     ((step_has x w).0 ∙ ap (λ (bs : List ℕ). bytes_in x ++ bs) e ∙ append-nil (bytes_in x))
@@ -62,7 +62,7 @@ length-images bases [] h = refl
 length-images bases (x ∷ hs) h =
     omega (arith, length-append (image bases x) (images bases hs), h.0, length-images bases hs h.1, sum_by-cons (λ (y : HunkValue). 4 * size_longs y.entry.word) x hs)
 
-put_holds : (bases : List ℕ) (o : OpenHunk) (n m : BlockNext) (store : List ℕ) (k : ℕ) (four : List ℕ) → length four ≡ 4 → k + 4 ≤ 4 * size_longs o.entry.word →
+put_holds : (bases : List ℕ) (o : HunkSoFar) (n m : BlockNext) (store : List ℕ) (k : ℕ) (four : List ℕ) → length four ≡ 4 → k + 4 ≤ 4 * size_longs o.entry.word →
     segment_so_far bases o m ≡ put_at (segment_so_far bases o n) k four → Holds bases o n store → Holds bases o m (put_at store (before o.finished + k) four)
 put_holds bases o n m store k four l fits e h =
     let inside : k + 4 ≤ length (segment_so_far bases o n) = omega (arith, h.segment) in
@@ -76,7 +76,7 @@ put_holds bases o n m store k four l fits e h =
           ∙ ap (λ (s : List ℕ). images bases o.finished ++ (s ++ zeros o.ahead)) (sym e);
     }
 
-add_holds : (bases : List ℕ) (o : OpenHunk) (n m : BlockNext) (store : List ℕ) (k base : ℕ) → k + 4 ≤ 4 * size_longs o.entry.word →
+add_holds : (bases : List ℕ) (o : HunkSoFar) (n m : BlockNext) (store : List ℕ) (k base : ℕ) → k + 4 ≤ 4 * size_longs o.entry.word →
     segment_so_far bases o m ≡ add_at (segment_so_far bases o n) k base → Holds bases o n store → Holds bases o m (add_at store (before o.finished + k) base)
 add_holds bases o n m store k base fits e h =
     let inside : k + 4 ≤ length (segment_so_far bases o n) = omega (arith, h.segment) in
@@ -93,14 +93,14 @@ add_holds bases o n m store k base fits e h =
 -- ---- within a block
 
 -- while the content comes, the segment is what has come of it
-content_only : (bases : List ℕ) (o : OpenHunk) (n : BlockNext) (c : List ℕ) → contents_of o ≡ [] → pairs_of o ≡ [] → bytes_so_far n ≡ c → pairs_so_far n ≡ [] →
+content_only : (bases : List ℕ) (o : HunkSoFar) (n : BlockNext) (c : List ℕ) → contents_of o ≡ [] → pairs_of o ≡ [] → bytes_so_far n ≡ c → pairs_so_far n ≡ [] →
     segment_so_far bases o n ≡ filled (4 * size_longs o.entry.word) c
 content_only bases o n c e d f g =
     ap₂ (λ (bs : List ℕ) (ps : List (ℕ × ℕ)). relocated bases (filled (4 * size_longs o.entry.word) bs) ps)
     (ap₂ (λ (xs ys : List ℕ). xs ++ ys) e f)
     (ap₂ (λ (xs ys : List (ℕ × ℕ)). xs ++ ys) d g)
 
-inside_holds : (bases : List ℕ) (o : OpenHunk) (word : ℕ) (x : Inside) (w : ℕ) (store : List ℕ) → IsAdmitted o word → blocks.Fits (place_of o) word x →
+inside_holds : (bases : List ℕ) (o : HunkSoFar) (word : ℕ) (x : Inside) (w : ℕ) (store : List ℕ) → IsAdmitted o word → blocks.Fits (place_of o) word x →
     refuse_part (place_of o) (part_of x) w ≡ None → Holds bases o (Open x) store → Holds bases o (step_inside x w) (stored_in bases (before o.finished) (position_of (More (InBody o word x))) w store)
 inside_holds bases o word x w store a f ok h = go x f ok h
   where
@@ -141,7 +141,7 @@ inside_holds bases o word x w store a f ok h = go x f ok h
 
 -- ---- between blocks
 
-closed_holds : (bases : List ℕ) (o : OpenHunk) (b : BlockValue) (c : Bool) (store : List ℕ) →
+closed_holds : (bases : List ℕ) (o : HunkSoFar) (b : BlockValue) (c : Bool) (store : List ℕ) →
     (c ≡ false → (flat_map (λ (x : BlockValue). block_content x.body) (o.blocks ++ b ∷ []) ≡ []) × (flat_map (λ (x : BlockValue). block_relocations x.body) (o.blocks ++ b ∷ []) ≡ [])) →
     Holds bases o (Whole b.body) store → Holds bases (with_block o b c) (Whole End) store
 closed_holds bases o b c store u h =
@@ -157,7 +157,7 @@ closed_holds bases o b c store u h =
     }
 
 -- a block that has neither content nor relocations
-beside_holds : (bases : List ℕ) (o : OpenHunk) (b : BlockValue) (store : List ℕ) → block_content b.body ≡ [] → block_relocations b.body ≡ [] →
+beside_holds : (bases : List ℕ) (o : HunkSoFar) (b : BlockValue) (store : List ℕ) → block_content b.body ≡ [] → block_relocations b.body ≡ [] →
     Holds bases o (Whole b.body) store → Holds bases (with_block o b o.has_content) (Whole End) store
 beside_holds bases o b store e d h =
     closed_holds bases o b o.has_content store
@@ -179,7 +179,7 @@ zero_holds bases hunks finished (x ∷ ahead) store f e =
       store_is = e ∙ ap (λ (n : ℕ). images bases finished ++ (replicate n 0 ++ zeros ahead)) (sym size);
     }
 
-ended_holds : (bases : List ℕ) (o : OpenHunk) (word : ℕ) (store : List ℕ) → Holds bases o (Whole End) store → StoreHolds bases (close o (block word End)) store
+ended_holds : (bases : List ℕ) (o : HunkSoFar) (word : ℕ) (store : List ℕ) → Holds bases o (Whole End) store → StoreHolds bases (close o (block word End)) store
 ended_holds bases o word store h =
     zero_holds bases o.hunks (o.finished ++ x ∷ []) o.ahead store
     (All-more (HasSizedImage bases) o.finished x h.front (ap length (end_is_image bases o word) ∙ h.segment))
@@ -191,7 +191,7 @@ ended_holds bases o word store h =
     x : HunkValue
     x = hunk o.entry (o.blocks ++ block word End ∷ [])
 
-after_holds : (bases : List ℕ) (o : OpenHunk) (word : ℕ) (n : BlockNext) (store : List ℕ) → IsAdmitted o word → blocks.NextFits (place_of o) word n →
+after_holds : (bases : List ℕ) (o : HunkSoFar) (word : ℕ) (n : BlockNext) (store : List ℕ) → IsAdmitted o word → blocks.NextFits (place_of o) word n →
     Holds bases o n store → StoreHolds bases (after o word n) store
 after_holds bases o word (Open x) store a f h = h
 after_holds bases o word (Whole (Name ws)) store a f h = beside_holds bases o (block word (Name ws)) store refl refl h

@@ -11,16 +11,16 @@ abbrev pub most_want : ℕ
 most_want = 256
 
 -- a longword of a content, a name, a payload or a list of offsets
-abbrev pub is_listed : Role → Bool
-is_listed (InBlock p parts.Payload) = true
-is_listed (InBlock p parts.Offset) = true
-is_listed (InBlock p parts.EntryName) = true
-is_listed _ = false
+abbrev pub is_in_run : Role → Bool
+is_in_run (InBlock p parts.Payload) = true
+is_in_run (InBlock p parts.Offset) = true
+is_in_run (InBlock p parts.EntryName) = true
+is_in_run _ = false
 
 -- so many of them come next
 abbrev pub run_of : List (Role × ℕ) → ℕ
 run_of [] = 0
-run_of (l ∷ ls) = if is_listed l.0 then suc (run_of ls) else 0
+run_of (l ∷ ls) = if is_in_run l.0 then suc (run_of ls) else 0
 
 -- A load text begins with the bytes, and so many bytes of a content, a name, a payload or a list of offsets are to come in it.
 pub record HasToCome (fed : List ℕ) (p : ℕ) : Type 0 where

@@ -7,7 +7,7 @@ use Rattle.hunk_files.specs.Image.{add_at, image, images, block_content, block_r
 use Rattle.hunk_files.specs.LoadFile.{TableEntry, HunkValue}
 use Rattle.hunk_blocks.specs.BlockSteps.{BlockNext, Open, Whole}
 use Rattle.hunk_blocks.specs.Values.{End}
-use Rattle.hunk_files.specs.FileSteps.{OpenHunk, Next, More, Finished, AtBlock, InBody}
+use Rattle.hunk_files.specs.FileSteps.{HunkSoFar, Next, More, Finished, AtBlock, InBody}
 use Rattle.hunk_files.specs.OpenSegment.{segment_so_far}
 use Rattle.hunk_scan.specs.declared.phase.Phase.TheVariants as phases
 use Rattle.hunk_scan.specs.declared.position.Position.{Position}
@@ -23,7 +23,7 @@ abbrev pub HasSizedImage : List ℕ → HunkValue → Type 0
 HasSizedImage bases h = length (image bases h) ≡ 4 * size_longs h.entry.word
 
 -- The images of the whole hunks, the open segment so far, and zero bytes.
-pub record Holds (bases : List ℕ) (o : OpenHunk) (n : BlockNext) (store : List ℕ) : Type 0 where
+pub record Holds (bases : List ℕ) (o : HunkSoFar) (n : BlockNext) (store : List ℕ) : Type 0 where
   pub front : AllByRecursion (HasSizedImage bases) o.finished
   pub segment : length (segment_so_far bases o n) ≡ 4 * size_longs o.entry.word
   pub unplaced : o.has_content ≡ false → (flat_map (λ b. block_content b.body) o.blocks ≡ []) × (flat_map (λ b. block_relocations b.body) o.blocks ≡ [])

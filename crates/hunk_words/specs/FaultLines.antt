@@ -8,12 +8,12 @@ use Rattle.hunk_words.specs.declared.reason.Reason.TheVariants as reasons
 use Rattle.hunk_words.specs.Reasons.{name_of, number_of}
 
 -- the hunk that has no base, where that is the reason
-abbrev pub hunk_of : Reason → List ℕ
-hunk_of (reasons.NoBase hunk) = codes " hunk " ++ decimal hunk
-hunk_of _ = []
+abbrev pub hunk_suffix : Reason → List ℕ
+hunk_suffix (reasons.NoBase hunk) = codes " hunk " ++ decimal hunk
+hunk_suffix _ = []
 
 abbrev pub reason_line : Reason → List ℕ
-reason_line reason = name_of reason ++ codes " (" ++ decimal (number_of reason) ++ codes ")" ++ hunk_of reason
+reason_line reason = name_of reason ++ codes " (" ++ decimal (number_of reason) ++ codes ")" ++ hunk_suffix reason
 
 abbrev pub refusal_line : Fault → List ℕ
 refusal_line fault = codes "refused at byte " ++ decimal fault.place ++ codes ": " ++ reason_line fault.reason

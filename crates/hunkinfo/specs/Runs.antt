@@ -59,11 +59,11 @@ pub record Rewrites {W : Type 0} (taken : W → Option (List ℕ)) (old new : Wr
   pub takes : Takes taken old new text
 
 -- what the order asks for is done
-abbrev pub IsDone : {W : Type 0} → (W → Option (List ℕ)) → Writing W → Writing W → Order → Type 0
-IsDone taken old new (orders.Show hex file) = Lists taken old new listings.Show
-IsDone taken old new (orders.Validate hex file) = Lists taken old new listings.Validate
-IsDone taken old new (orders.Relocate hex base budget file) = Lists taken old new (listings.Relocate base budget)
-IsDone taken old new (orders.Rewrite strip input output) = Rewrites taken old new strip
+abbrev pub IsOrderDone : {W : Type 0} → (W → Option (List ℕ)) → Writing W → Writing W → Order → Type 0
+IsOrderDone taken old new (orders.Show hex file) = Lists taken old new listings.Show
+IsOrderDone taken old new (orders.Validate hex file) = Lists taken old new listings.Validate
+IsOrderDone taken old new (orders.Relocate hex base budget file) = Lists taken old new (listings.Relocate base budget)
+IsOrderDone taken old new (orders.Rewrite strip input output) = Rewrites taken old new strip
 
 -- the words are no order, or memory ran out; no help is printed
 abbrev pub PrintsNoHelp : {W : Type 0} → (W → Option (List ℕ)) → (W → Bool) → Writing W → Writing W → ℕ → Type 0

@@ -9,7 +9,7 @@ ghost use Rattle.hunk_orders.specs.declared.asked.Order.{Order};
 ghost use Rattle.hunkinfo.specs.Status.{PrintsOrFails, TellsStatus};
 ghost use Rattle.hunk_orders.specs.Command.{hunkinfo};
 ghost use Rattle.hunk_orders.specs.Line.{order_of, words_read};
-ghost use Rattle.hunkinfo.specs.Runs.{IsDone, Lists, PrintsNoHelp, PrintsRefusal};
+ghost use Rattle.hunkinfo.specs.Runs.{IsOrderDone, Lists, PrintsNoHelp, PrintsRefusal};
 
 mod listing;
 mod rewriting;
@@ -52,7 +52,7 @@ pub(crate) fn run<T: Files + Input, W: Sink>(
     // are refused.
     ensures done { (order : Order) → takes hunkinfo (words_read (map string_bytes words.now)) ≡ true
         → order_of (map string_bytes words.now) ≡ Some order → result ≡ 0
-        → IsDone W.taken out.old out.new order }
+        → IsOrderDone W.taken out.old out.new order }
     ensures refused { takes hunkinfo (words_read (map string_bytes words.now)) ≡ true
         → order_of (map string_bytes words.now) ≡ None
         → PrintsNoHelp W.taken W.failed out.old out.new result }
@@ -62,7 +62,7 @@ pub(crate) fn run<T: Files + Input, W: Sink>(
     ensures heard { (IsAmong DisplayHelp
         (fault_of hunkinfo (words_read (map string_bytes words.now))) → ⊥) → result ≡ 0
         → (order : Order) × (order_of (map string_bytes words.now) ≡ Some order)
-        × IsDone W.taken out.old out.new order }
+        × IsOrderDone W.taken out.old out.new order }
 {
     match order(alloc, words) {
         Ok(order) => obey(rt, alloc, &order, out),
@@ -92,7 +92,7 @@ fn obey<T: Files + Input, W: Sink>(
 ) -> u8
     requires { out.old.written ≡ 0 }
     ensures bound { result ≤ 4 }
-    ensures done { result ≡ 0 → IsDone W.taken out.old out.new order.now }
+    ensures done { result ≡ 0 → IsOrderDone W.taken out.old out.new order.now }
     ensures tells { TellsStatus W.taken W.failed out.old out.new result }
 {
     match order {

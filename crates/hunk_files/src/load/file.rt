@@ -6,7 +6,7 @@ ghost use Rattle.hunk_blocks.specs.Faults.{IsFrontTo};
 ghost use Rattle.hunk_files.specs.LoadFile.{IsLoadFile};
 ghost use Rattle.hunk_files.specs.Image.{declared_bytes};
 ghost use Rattle.hunk_files.specs.LoadText.{table, text};
-ghost use Rattle.hunk_files.specs.Fault.{BeginsWithLoadFile, HasFault, is_load_refusal, loads};
+ghost use Rattle.hunk_files.specs.Fault.{BeginsWithLoadFile, HasFault, is_load_refusal, load_files};
 ghost use Rattle.hunk_files.specs.Tables.{size_entry};
 
 use crate::load::hunk::{LoadHunk, read_hunks};
@@ -66,7 +66,7 @@ impl<'a> LoadFile<'a> {
         ensures begins { IfErr result (λ fault. fault.reason ≡ reasons.OutOfMemory →
             BeginsWithLoadFile bytes.entry.now) }
         ensures reached { IfErr result (λ fault. fault.reason ≡ reasons.OutOfMemory →
-            IsFrontTo loads (longs bytes.entry.now) fault.place) }
+            IsFrontTo load_files (longs bytes.entry.now) fault.place) }
         ensures own_reasons { IfErr result (λ fault. IsTrue (is_load_refusal fault.reason)) }
     {
         let size = walk(bytes)?;
