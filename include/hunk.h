@@ -2,9 +2,9 @@
  * stripping load files and object files, the names of refusals.
  *
  * Whatever the bytes are, each call gives one of the answers listed with it; what of this is proved
- * is in docs/PROVED.md. A call reads and writes only what its arguments point to and what
- * malloc gives it, keeps nothing between two calls, and gives back what it took before it returns.
- * Threads may call at the same time, as long as no call writes memory that another one uses.
+ * is in docs/PROVED.md of the source tree. A call reads and writes only what its arguments point to
+ * and what malloc gives it, keeps nothing between two calls, and gives back what it took before it
+ * returns. Threads may call at the same time, as long as no call writes memory that another one uses.
  *
  * What the caller has to make sure of:
  * - Each pointer points to as many elements as its length says, aligned for their type. A pointer

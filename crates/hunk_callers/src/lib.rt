@@ -14,7 +14,7 @@ pub use crate::assembler::write_program;
 pub use crate::collection::{Collection, survey, survey_folder};
 pub use crate::emulator::load_program;
 pub use crate::libraries::{Seen, tour};
-pub use crate::symbols::list_symbols;
+pub use crate::symbols::{Symbol, list_symbols};
 pub use crate::upload::has_header;
 
 #[cfg(test)]
