@@ -1,5 +1,5 @@
 -- What the fields of the loader of a body keep.
-use Rattle.std.specs.Prelude.{◌≡◌, ℕ, ◌<◌, ◌≤◌, List, [], ◌++◌, length, take, Option, None, Some, Result, Ok, IfOk, OnOk, IsTrue}
+use Rattle.std.specs.Prelude.{◌≡◌, ℕ, ◌<◌, ◌≤◌, List, [], ◌++◌, length, take, Option, None, Some, Result, Ok, IfOk, IfErr, OnOk, IsTrue}
 use Rattle.hunk_words.specs.Limits.{most_hunks}
 use Rattle.hunk_words.specs.Longs.{bytes_of}
 use Rattle.hunk_words.specs.declared.fault.Fault.{Fault}
@@ -64,6 +64,11 @@ pub record RefusesFront (rows : List Row) (store : List ℕ) (state : BodyState)
   pub refuses : RefusesFirstLong rows store state piece reason
   pub own : IsTrue (is_of_body reason)
 
+-- A front of the piece is taken, or the piece is refused at its first longword.
+pub record TakesOrRefuses (rows : List Row) (store : List ℕ) (state : BodyState) (piece after : List ℕ) (behind : BodyState) (result : Result ℕ Reason) : Type 0 where
+  pub takes : IfOk result (TakesFront rows store state piece after behind)
+  pub refuses : IfErr result (RefusesFront rows store state piece)
+
 -- ---- a piece
 
 -- What the feeding of a piece keeps to, whether it is taken or refused: a front of it is fed, and none where the file is whole.
@@ -72,6 +77,12 @@ pub record FeedsPiece {E : Type 0} (old new : BodyLoaderValue) (piece : List ℕ
   pub taken : IfOk result (FeedsFront old.fed piece new.fed)
   pub goes_on : OnOk result (new.refused ≡ None)
   pub complete : IsWholeFile old.rows old.fed → result ≡ Ok 0
+
+-- A piece is fed, or the loader stops at a fault of it, and remembers that fault.
+pub record FeedsOrStops (old new : BodyLoaderValue) (piece : List ℕ) (result : Result ℕ Fault) : Type 0 where
+  pub feeds : FeedsPiece old new piece result
+  pub stops : IfErr result (StopsInBody (old.fed ++ piece))
+  pub remembers : IfErr result (λ (f : Fault). new.refused ≡ Some f)
 
 -- ---- a refusal
 

@@ -1,5 +1,5 @@
 -- What the fields of the loader of a header keep of what was read.
-use Rattle.std.specs.Prelude.{◌≡◌, ℕ, ◌+◌, ◌*◌, ◌<◌, ◌≤◌, true, false, List, [], ◌∷◌, ◌++◌, length, map, if◌then◌else◌, Option, None, Some, IsTrue, ◌⊎◌}
+use Rattle.std.specs.Prelude.{◌≡◌, ℕ, ◌+◌, ◌*◌, ◌<◌, ◌≤◌, true, false, List, [], ◌∷◌, ◌++◌, length, map, if◌then◌else◌, Option, None, Some, Result, Ok, IfOk, IfErr, OnOk, IsTrue, ◌⊎◌}
 use Rattle.hunk_words.specs.Limits.{most_hunks}
 use Rattle.hunk_words.specs.Bits.{has_both_bits, size_longs}
 use Rattle.hunk_words.specs.Longs.{bytes_of, IsLong}
@@ -18,8 +18,9 @@ use Rattle.hunk_files.specs.ReaderPosition.{position_of, table_of}
 use Rattle.hunk_files.specs.WordsRead.{HasRead}
 use Rattle.hunk_scatter.specs.declared.header_state.HeaderState.{HeaderState}
 use Rattle.hunk_scatter.specs.LoaderReasons.{is_of_header}
-use Rattle.hunk_scatter.specs.HeaderBytes.{IsHeaderTable, header_bytes}
+use Rattle.hunk_scatter.specs.HeaderBytes.{IsHeader, IsHeaderTable, header_bytes}
 use Rattle.hunk_scatter.specs.HeaderFaults.{IsWithinBudget}
+use Rattle.hunk_scatter.specs.LoaderValues.{FeedsFront, HeaderLoaderValue}
 use Rattle.hunk_scatter.specs.Rows.{entries_of, row_of}
 
 -- ---- a step
@@ -125,3 +126,14 @@ pub record HeaderStop (budget : ℕ) (bytes : List ℕ) (f : Fault) : Type 0 whe
 -- The loader is stopped at a longword of what was fed and the piece, one that ends in the piece.
 abbrev pub StopsInPiece : ℕ → List ℕ → List ℕ → Fault → Type 0
 StopsInPiece budget fed piece f = (front rest : List ℕ) × (fed ++ piece ≡ front ++ rest) × (length fed < length front) × HeaderStop budget front f
+
+-- ---- a piece
+
+-- A piece is fed, or the loader stops at a fault that ends in it, and remembers that fault.
+pub record FeedsHeaderOrStops (old new : HeaderLoaderValue) (piece : List ℕ) (result : Result ℕ Fault) : Type 0 where
+  pub budget : new.budget ≡ old.budget
+  pub taken : IfOk result (FeedsFront old.fed piece new.fed)
+  pub goes_on : OnOk result (new.refused ≡ None)
+  pub complete : IsHeader old.fed → result ≡ Ok 0
+  pub stops : IfErr result (StopsInPiece old.budget old.fed piece)
+  pub remembers : IfErr result (λ (f : Fault). new.refused ≡ Some f)

@@ -11,8 +11,8 @@ ghost use Rattle.hunk_files.specs.LoadText.{text};
 ghost use Rattle.hunk_scatter.specs.LoaderReasons.{is_of_body};
 ghost use Rattle.hunk_scatter.specs.LoaderValues.{FeedsFront, HasNoRefusal, IsImageOf, IsWholeFile};
 ghost use Rattle.hunk_scatter.specs.LoaderValues.{MayGoOnInFile};
-ghost use Rattle.hunk_scatter.specs.BodyLoaderFields.{FeedsPiece, RefusesOf};
-ghost use Rattle.hunk_scatter.specs.LoadOutcomes.{IsWithinFile, StopsInBody};
+ghost use Rattle.hunk_scatter.specs.BodyLoaderFields.{FeedsOrStops, FeedsPiece, RefusesOf};
+ghost use Rattle.hunk_scatter.specs.LoadOutcomes.{IsWithinFile};
 ghost use Rattle.hunk_scatter.specs.Owing.{HasToCome, most_want};
 ghost use Rattle.hunk_scatter.specs.Rows.{entries_of};
 
@@ -69,9 +69,7 @@ impl BodyLoader {
     fn take_whole(&mut self, piece: &[u8]) -> Result<usize, LoadFault>
         requires room { length self.old.fed + length piece.now < 2 ^ 64 }
         requires reading { self.old.refused ≡ None }
-        ensures feeds { FeedsPiece self.old self.new piece.now result }
-        ensures stops { IfErr result (StopsInBody (self.old.fed ++ piece.now)) }
-        ensures remembers { IfErr result (λ f. self.new.refused ≡ Some f) }
+        ensures { FeedsOrStops self.old self.new piece.now result }
     {
         if self.assembler.pending() > 0 {
             return Ok(0);
@@ -100,10 +98,8 @@ impl BodyLoader {
         requires room { length self.old.fed + length piece.now < 2 ^ 64 }
         requires reading { self.old.refused ≡ None }
         requires some { 0 < length piece.now }
-        ensures feeds { FeedsPiece self.old self.new piece.now result }
+        ensures feeds_or_stops { FeedsOrStops self.old self.new piece.now result }
         ensures ends { result ≡ Ok 0 → IsWholeFile self.new.rows self.new.fed }
-        ensures stops { IfErr result (StopsInBody (self.old.fed ++ piece.now)) }
-        ensures remembers { IfErr result (λ f. self.new.refused ≡ Some f) }
     {
         if self.state.position.is_done() {
             return Ok(0);
@@ -141,9 +137,7 @@ impl BodyLoader {
     fn take_gathered(&mut self, piece: &[u8]) -> Result<usize, LoadFault>
         requires room { length self.old.fed + length piece.now < 2 ^ 64 }
         requires reading { self.old.refused ≡ None }
-        ensures feeds { FeedsPiece self.old self.new piece.now result }
-        ensures stops { IfErr result (StopsInBody (self.old.fed ++ piece.now)) }
-        ensures remembers { IfErr result (λ f. self.new.refused ≡ Some f) }
+        ensures { FeedsOrStops self.old self.new piece.now result }
     {
         if self.assembler.pending() == 0 || piece.is_empty() {
             return Ok(0);
@@ -199,11 +193,9 @@ impl BodyLoader {
     pub(crate) fn take_piece(&mut self, piece: &[u8]) -> Result<usize, LoadFault>
         requires room { length self.old.fed + length piece.now < 2 ^ 64 }
         requires reading { self.old.refused ≡ None }
-        ensures feeds { FeedsPiece self.old self.new piece.now result }
+        ensures feeds_or_stops { FeedsOrStops self.old self.new piece.now result }
         ensures all { IfOk result
             (λ n. n < length piece.now → IsWholeFile self.new.rows self.new.fed) }
-        ensures stops { IfErr result (StopsInBody (self.old.fed ++ piece.now)) }
-        ensures remembers { IfErr result (λ f. self.new.refused ≡ Some f) }
     {
         match self.take_parts(piece) {
             Ok(taken) => Ok(taken),
@@ -219,11 +211,9 @@ impl BodyLoader {
     fn take_bytes(&mut self, piece: &[u8]) -> Result<usize, LoadFault>
         requires room { length self.old.fed + length piece.now < 2 ^ 64 }
         requires reading { self.old.refused ≡ None }
-        ensures feeds { FeedsPiece self.old self.new piece.now result }
+        ensures feeds_or_stops { FeedsOrStops self.old self.new piece.now result }
         ensures all { IfOk result
             (λ n. n < length piece.now → IsWholeFile self.new.rows self.new.fed) }
-        ensures stops { IfErr result (StopsInBody (self.old.fed ++ piece.now)) }
-        ensures remembers { IfErr result (λ f. self.new.refused ≡ Some f) }
     {
         let first = self.take_gathered(piece)?;
         let more = self.take_piece(&piece[first..])?;

@@ -13,7 +13,7 @@ ghost use Rattle.hunk_scatter.specs.HeaderBytes.{IsHeaderTable, header_bytes, Is
 ghost use Rattle.hunk_scatter.specs.HeaderBytes.{MayGoOnInHeader, entries_so_far};
 ghost use Rattle.hunk_scatter.specs.HeaderFaults.{PassesBudget, IsOverBudget, IsBudgetOrMemory};
 ghost use Rattle.hunk_scatter.specs.HeaderFaults.{IsHeaderFault};
-ghost use Rattle.hunk_scatter.specs.HeaderLoaderFields.{StopsInPiece};
+ghost use Rattle.hunk_scatter.specs.HeaderLoaderFields.{FeedsHeaderOrStops};
 ghost use Rattle.hunk_scatter.specs.HeaderOwing.{HasRowsToCome, HasHeaderToCome};
 ghost use Rattle.hunk_scatter.specs.Owing.{most_want};
 ghost use Rattle.hunk_scatter.specs.LoaderValues.{FeedsFront, HasNoRefusal};
@@ -86,13 +86,8 @@ impl HeaderLoader {
         requires room { length self.old.fed + length piece.now < 2 ^ 64 }
         requires reading { self.old.refused ≡ None }
         requires some { 0 < length piece.now }
-        ensures budget { self.new.budget ≡ self.old.budget }
-        ensures taken { IfOk result (FeedsFront self.old.fed piece.now self.new.fed) }
-        ensures goes_on { OnOk result (self.new.refused ≡ None) }
+        ensures feeds_or_stops { FeedsHeaderOrStops self.old self.new piece.now result }
         ensures ends { result ≡ Ok 0 → IsHeader self.new.fed }
-        ensures complete { IsHeader self.old.fed → result ≡ Ok 0 }
-        ensures stops { IfErr result (StopsInPiece self.old.budget self.old.fed piece.now) }
-        ensures remembers { IfErr result (λ f. self.new.refused ≡ Some f) }
     {
         if self.state.position.is_behind_header() {
             return Ok(0);
@@ -162,13 +157,8 @@ impl HeaderLoader {
     fn take_longs(&mut self, piece: &[u8]) -> Result<usize, LoadFault>
         requires room { length self.old.fed + length piece.now < 2 ^ 64 }
         requires reading { self.old.refused ≡ None }
-        ensures budget { self.new.budget ≡ self.old.budget }
-        ensures taken { IfOk result (FeedsFront self.old.fed piece.now self.new.fed) }
+        ensures feeds_or_stops { FeedsHeaderOrStops self.old self.new piece.now result }
         ensures all { IfOk result (λ n. n < length piece.now → IsHeader self.new.fed) }
-        ensures complete { IsHeader self.old.fed → result ≡ Ok 0 }
-        ensures reading { OnOk result (self.new.refused ≡ None) }
-        ensures stops { IfErr result (StopsInPiece self.old.budget self.old.fed piece.now) }
-        ensures remembers { IfErr result (λ f. self.new.refused ≡ Some f) }
     {
         let mut taken = 0;
         while taken < piece.len() {

@@ -1,12 +1,12 @@
 //! The longwords that lie whole in a piece of a body.
 ghost use Rattle.std.specs.Prelude.{◌≡◌, ◌+◌, ◌<◌, ◌≤◌, ◌^◌, ◌++◌, [], length, take, slice_index};
-ghost use Rattle.std.specs.Prelude.{true, false, None, Some, IfNone, IfSome, IfOk, IfErr, IsTrue};
+ghost use Rattle.std.specs.Prelude.{true, false, None, Some, IfNone, IfSome, IsTrue};
 ghost use Rattle.hunk_words.specs.Longs.{longs};
 ghost use Rattle.hunk_files.specs.Fault.{HasRefusal};
 ghost use Rattle.hunk_files.specs.Image.{declared_bytes};
 ghost use Rattle.hunk_scan.specs.Positions.{is_done};
 ghost use Rattle.hunk_scan.specs.declared.position.Position.TheVariants as positions;
-ghost use Rattle.hunk_scatter.specs.BodyLoaderFields.{StandsBehind, RefusesFront, TakesFront};
+ghost use Rattle.hunk_scatter.specs.BodyLoaderFields.{StandsBehind, TakesOrRefuses};
 ghost use Rattle.hunk_scatter.specs.BodySteps.{IsInStore};
 ghost use Rattle.hunk_scatter.specs.LoaderReasons.{is_of_body};
 ghost use Rattle.hunk_scatter.specs.Rows.{entries_of, words_of};
@@ -34,9 +34,7 @@ fn take_one(
     requires going_on { is_done here.position ≡ false }
     requires some { 4 ≤ length piece.now }
     requires front { word ≡ slice_index (longs piece.now) 0 }
-    ensures takes { IfOk result
-        (TakesFront rows.now store.old state.old piece.now store.new state.new) }
-    ensures refuses { IfErr result (RefusesFront rows.now store.old state.old piece.now) }
+    ensures { TakesOrRefuses rows.now store.old state.old piece.now store.new state.new result }
 {
     // The piece is for the contract alone.
     let _ = piece;
@@ -60,9 +58,7 @@ fn take_block_word(
     requires room { IsInStore (words_of rows.now) (length store.old) state.old }
     requires some { 4 ≤ length piece.now }
     requires here { positions.Body hunk phase ≡ state.old.position }
-    ensures takes { IfOk result
-        (TakesFront rows.now store.old state.old piece.now store.new state.new) }
-    ensures refuses { IfErr result (RefusesFront rows.now store.old state.old piece.now) }
+    ensures { TakesOrRefuses rows.now store.old state.old piece.now store.new state.new result }
 {
     let position = Position::Body(hunk, phase);
     let here = BodyState { position, ..*state };
@@ -100,9 +96,7 @@ fn take_at(
     requires room { IsInStore (words_of rows.now) (length store.old) state.old }
     requires some { 4 ≤ length piece.now }
     requires here { positions.Body hunk phase ≡ state.old.position }
-    ensures takes { IfOk result
-        (TakesFront rows.now store.old state.old piece.now store.new state.new) }
-    ensures refuses { IfErr result (RefusesFront rows.now store.old state.old piece.now) }
+    ensures { TakesOrRefuses rows.now store.old state.old piece.now store.new state.new result }
 {
     let position = Position::Body(hunk, phase);
     let here = BodyState { position, ..*state };
@@ -139,9 +133,7 @@ pub(crate) fn take_front(
     requires room { IsInStore (words_of rows.now) (length store.old) state.old }
     requires here { positions.Body hunk phase ≡ state.old.position }
     requires some { 4 ≤ length piece.now }
-    ensures takes { IfOk result
-        (TakesFront rows.now store.old state.old piece.now store.new state.new) }
-    ensures refuses { IfErr result (RefusesFront rows.now store.old state.old piece.now) }
+    ensures { TakesOrRefuses rows.now store.old state.old piece.now store.new state.new result }
 {
     macro_rules! at {
         ($phase:expr) => {

@@ -6,38 +6,41 @@ use Rattle.hunk_scatter.proofs.longwords.take_at.Goals as goal
 pub take_run-requires-clause-room : goal.take_run-requires-clause-room
 take_run-requires-clause-room c = room_at _ _ _ _ c.requires.here c.requires.room
 
-pub returns-then-run-gt0-clause-takes : goal.returns-then-run-gt0-clause-takes
-returns-then-run-gt0-clause-takes c =
+pub returns-then-run-gt0 : goal.returns-then-run-gt0
+returns-then-run-gt0 c =
     let e = c.run_bytes-count.ensures in
     let some : 0 < c.run_bytes-count.result = e.some c.requires.some (omega (arith, c.run.ensures.value, c.if-run-gt0.true)) in
     record {
-      some = some;
-      inside = e.inside;
-      reads =
-          λ fed r.
-          let here = read_at _ _ _ _ _ c.requires.here r in
-          let taken = run_taken _ _ _ _ here (room_at _ _ _ _ c.requires.here c.requires.room) c.args.piece.now c.run_bytes-count.result (λ k. omega (arith, c.type_inv.piece k)) e.inside e.fours some e.run in
-          read_as _ _ _ _ _ _ c.take_run.ensures.stores c.take_run.ensures.steps taken;
+      takes = record {
+        some = some;
+        inside = e.inside;
+        reads =
+            λ fed r.
+            let here = read_at _ _ _ _ _ c.requires.here r in
+            let taken = run_taken _ _ _ _ here (room_at _ _ _ _ c.requires.here c.requires.room) c.args.piece.now c.run_bytes-count.result (λ k. omega (arith, c.type_inv.piece k)) e.inside e.fours some e.run in
+            read_as _ _ _ _ _ _ c.take_run.ensures.stores c.take_run.ensures.steps taken;
+      };
+      refuses = tt;
     }
 
 pub take_offsets-requires : goal.take_offsets-requires
 take_offsets-requires c = room_at _ _ _ _ c.requires.here c.requires.room
 
-pub returns-in-Some-clause-takes : goal.returns-in-Some-clause-takes
-returns-in-Some-clause-takes c = record {
-  some = omega (arith, c.in-Some.ensures.some);
-  inside = c.in-Some.ensures.inside;
-  reads =
-      λ fed r.
-      read_offsets c.args.rows.now c.args.store.now c.take_offsets.new.store _ c.in-Some.next fed c.args.piece.now c.in-Some.count
-      (read_at _ _ _ _ _ c.requires.here r) (λ k. omega (arith, c.type_inv.piece k)) c.in-Some.ensures.inside c.in-Some.ensures.offsets;
+pub returns-in-Some : goal.returns-in-Some
+returns-in-Some c = record {
+  takes = record {
+    some = omega (arith, c.in-Some.ensures.some);
+    inside = c.in-Some.ensures.inside;
+    reads =
+        λ fed r.
+        read_offsets c.args.rows.now c.args.store.now c.take_offsets.new.store _ c.in-Some.next fed c.args.piece.now c.in-Some.count
+        (read_at _ _ _ _ _ c.requires.here r) (λ k. omega (arith, c.type_inv.piece k)) c.in-Some.ensures.inside c.in-Some.ensures.offsets;
+  };
+  refuses = tt;
 }
 
 pub take_one-requires-clause-room : goal.take_one-requires-clause-room
 take_one-requires-clause-room c = rw c.in-None.ensures.none c.requires.room
 
-pub returns-in-None-clause-takes : goal.returns-in-None-clause-takes
-returns-in-None-clause-takes c = rw c.in-None.ensures.none at c.take_one.ensures.takes
-
-pub returns-in-None-clause-refuses : goal.returns-in-None-clause-refuses
-returns-in-None-clause-refuses c = rw c.in-None.ensures.none at c.take_one.ensures.refuses
+pub returns-in-None : goal.returns-in-None
+returns-in-None c = rw c.in-None.ensures.none at c.take_one.ensures

@@ -12,24 +12,30 @@ take_word-requires c =
     subst (λ (s : BodyState). IsInStore (words_of c.args.rows.now) (length c.args.store.now) s)
     (sym (c.requires.same ∙ state_at c.args.state.now c.args.here.position c.requires.here)) c.requires.room
 
-pub returns-clause-takes : goal.returns-clause-takes
-returns-clause-takes c = record {
-  some = omega arith;
-  inside = c.requires.some;
-  reads =
-      λ fed r.
-      let here = subst (λ (s : BodyState). StandsBehind c.args.rows.now c.args.store.now s [] fed) (sym (c.requires.same ∙ state_at c.args.state.now c.args.here.position c.requires.here)) r in
-      let taken = word_taken _ _ _ _ here c.requires.going_on c.args.piece.now (λ k. omega (arith, c.type_inv.piece k)) c.requires.some c.args.word c.in_ok-next.ensures.long c.requires.front c.in_ok-next.ensures.passes in
-      read_as _ _ _ _ _ _ c.in_ok-next.ensures.stores c.in_ok-next.ensures.steps taken;
+pub returns : goal.returns
+returns c = record {
+  takes = record {
+    some = omega arith;
+    inside = c.requires.some;
+    reads =
+        λ fed r.
+        let here = subst (λ (s : BodyState). StandsBehind c.args.rows.now c.args.store.now s [] fed) (sym (c.requires.same ∙ state_at c.args.state.now c.args.here.position c.requires.here)) r in
+        let taken = word_taken _ _ _ _ here c.requires.going_on c.args.piece.now (λ k. omega (arith, c.type_inv.piece k)) c.requires.some c.args.word c.in_ok-next.ensures.long c.requires.front c.in_ok-next.ensures.passes in
+        read_as _ _ _ _ _ _ c.in_ok-next.ensures.stores c.in_ok-next.ensures.steps taken;
+  };
+  refuses = tt;
 }
 
-pub returns-in_err-next-clause-refuses : goal.returns-in_err-next-clause-refuses
-returns-in_err-next-clause-refuses c =
+pub returns-in_err-next : goal.returns-in_err-next
+returns-in_err-next c =
     let p = err_from_is_err_and c.from_residual.result c.from_residual.ensures.1 in
     rw (p.1, p.2) (record {
-      refuses =
-          λ fed r.
-          let here = subst (λ (s : BodyState). StandsBehind c.args.rows.now c.args.store.now s [] fed) (sym (c.requires.same ∙ state_at c.args.state.now c.args.here.position c.requires.here)) r in
-          word_refused _ _ _ _ here c.requires.going_on c.args.piece.now (λ k. omega (arith, c.type_inv.piece k)) c.requires.some c.args.word c.in_err-next.ensures.long c.requires.front c.in_err-next.field-0.0 c.in_err-next.ensures.refusal;
-      own = c.in_err-next.ensures.own_reasons;
+      takes = tt;
+      refuses = record {
+        refuses =
+            λ fed r.
+            let here = subst (λ (s : BodyState). StandsBehind c.args.rows.now c.args.store.now s [] fed) (sym (c.requires.same ∙ state_at c.args.state.now c.args.here.position c.requires.here)) r in
+            word_refused _ _ _ _ here c.requires.going_on c.args.piece.now (λ k. omega (arith, c.type_inv.piece k)) c.requires.some c.args.word c.in_err-next.ensures.long c.requires.front c.in_err-next.field-0.0 c.in_err-next.ensures.refusal;
+        own = c.in_err-next.ensures.own_reasons;
+      };
     })

@@ -6,9 +6,9 @@ use Rattle.hunk_scatter.proofs.Faults.{no_refusal_on}
 use Rattle.hunk_scatter.proofs.body_loader.BodyLoader.feed.Goals as goal
 
 pub returns-in-Err-clause-accepts : goal.returns-in-Err-clause-accepts
-returns-in-Err-clause-accepts c none on = absurd (no_refusal_on _ _ _ on c.in-Err.ensures.stops.refusal)
+returns-in-Err-clause-accepts c none on = absurd (no_refusal_on _ _ _ on c.in-Err.ensures.feeds_or_stops.stops.refusal)
 
 pub returns-in-Ok-clause-within : goal.returns-in-Ok-clause-within
 returns-in-Ok-clause-within c =
     subst IsWithinFile (ap (λ (v : BodyLoaderValue). v.fed) c.self-2.view_is)
-    (fed_within _ _ _ _ _ _ _ c.self-2.invariant (ap (λ (v : BodyLoaderValue). v.refused) c.self-2.view_is ∙ c.in-Ok.ensures.feeds.goes_on))
+    (fed_within _ _ _ _ _ _ _ c.self-2.invariant (ap (λ (v : BodyLoaderValue). v.refused) c.self-2.view_is ∙ c.in-Ok.ensures.feeds_or_stops.feeds.goes_on))

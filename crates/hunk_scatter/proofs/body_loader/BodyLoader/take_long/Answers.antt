@@ -33,23 +33,6 @@ invariant_of-self-in-Ok c =
     c.and-self-inside-in-Ok.ensures
     kept
 
-pub returns-in-Err-clause-stops : goal.returns-in-Err-clause-stops
-returns-in-Err-clause-stops c =
-    let none = ap (λ (v : BodyLoaderValue). v.refused) c.self.view_is ∙ c.requires.reading in
-    let more = sym c.is_done.ensures ∙ c.if-is_done.false in
-    let fed = ap (λ (v : BodyLoaderValue). v.fed) c.self.view_is in
-    let n = c.next_word-taken.result.0 in
-    let bytes = take n c.args.piece.now in
-    let gathers = subst (λ (o : Option ℕ). Gathers (c.self.inside.assembler ++ bytes) c.next_word-taken.new.assembler o) c.in-Some.is c.next_word-taken.ensures.gathers in
-    let long : length bytes ≡ n = omega (arith, length-take n c.args.piece.now, c.next_word-taken.ensures.inside) in
-    record {
-      refusal =
-          subst (λ (f : List ℕ). HasRefusal (f ++ c.args.piece.now) (c.self.inside.count + n - 4) c.in-Err.reason) fed
-          (refusal_front _ c.args.piece.now n _ _
-          (refusal_here _ _ _ _ _ _ _ c.self.invariant none more bytes n long c.in-Some.word c.in-Err.ensures.long gathers.0 c.in-Err.reason (rw c.as_slice.ensures.value at c.in-Err.ensures.refusal)));
-      own = c.in-Err.ensures.own_reasons;
-    }
-
 pub overflow_sub-place : goal.overflow_sub-place
 overflow_sub-place c =
     let none = ap (λ (v : BodyLoaderValue). v.refused) c.self.view_is ∙ c.requires.reading in
@@ -67,34 +50,60 @@ invariant_of-self-in-Err c =
     kept_refusal _ _ _ _ _ _ _ c.self.invariant none (sym c.is_done.ensures ∙ c.if-is_done.false) _ _ _
     (ap length store ∙ c.take_word.auto.store ∙ ap length c.as_mut_slice.ensures.value) c.in-Err.ensures.own_reasons
 
-pub returns-in_default-clause-feeds : goal.returns-in_default-clause-feeds
-returns-in_default-clause-feeds c = record {
-  rows = search rules;
-  taken = search rules;
-  goes_on = search rules;
-  complete = λ w.
-      absurd (not_whole _ _ _ _ _ _ _ c.self.invariant (ap (λ (v : BodyLoaderValue). v.refused) c.self.view_is ∙ c.requires.reading) (sym c.is_done.ensures ∙ c.if-is_done.false)
-      (subst (λ (v : BodyLoaderValue). IsWholeFile v.rows v.fed) (sym c.self.view_is) w));
+pub returns-in_default-clause-feeds_or_stops : goal.returns-in_default-clause-feeds_or_stops
+returns-in_default-clause-feeds_or_stops c = record {
+  feeds = record {
+    rows = search rules;
+    taken = search rules;
+    goes_on = search rules;
+    complete = λ w.
+        absurd (not_whole _ _ _ _ _ _ _ c.self.invariant (ap (λ (v : BodyLoaderValue). v.refused) c.self.view_is ∙ c.requires.reading) (sym c.is_done.ensures ∙ c.if-is_done.false)
+        (subst (λ (v : BodyLoaderValue). IsWholeFile v.rows v.fed) (sym c.self.view_is) w));
+  };
+  stops = search rules;
+  remembers = search rules;
 }
 
-pub returns-in-Ok-clause-feeds : goal.returns-in-Ok-clause-feeds
-returns-in-Ok-clause-feeds c = record {
-  rows = search rules;
-  taken = search rules;
-  goes_on = search rules;
-  complete = λ w.
-      absurd (not_whole _ _ _ _ _ _ _ c.self.invariant (ap (λ (v : BodyLoaderValue). v.refused) c.self.view_is ∙ c.requires.reading) (sym c.is_done.ensures ∙ c.if-is_done.false)
-      (subst (λ (v : BodyLoaderValue). IsWholeFile v.rows v.fed) (sym c.self.view_is) w));
+pub returns-in-Ok-clause-feeds_or_stops : goal.returns-in-Ok-clause-feeds_or_stops
+returns-in-Ok-clause-feeds_or_stops c = record {
+  feeds = record {
+    rows = search rules;
+    taken = search rules;
+    goes_on = search rules;
+    complete = λ w.
+        absurd (not_whole _ _ _ _ _ _ _ c.self.invariant (ap (λ (v : BodyLoaderValue). v.refused) c.self.view_is ∙ c.requires.reading) (sym c.is_done.ensures ∙ c.if-is_done.false)
+        (subst (λ (v : BodyLoaderValue). IsWholeFile v.rows v.fed) (sym c.self.view_is) w));
+  };
+  stops = search rules;
+  remembers = search rules;
 }
 
-pub returns-in-Err-clause-feeds : goal.returns-in-Err-clause-feeds
-returns-in-Err-clause-feeds c = record {
-  rows = search rules;
-  taken = search rules;
-  goes_on = search rules;
-  complete = λ w.
-      absurd (not_whole _ _ _ _ _ _ _ c.self.invariant (ap (λ (v : BodyLoaderValue). v.refused) c.self.view_is ∙ c.requires.reading) (sym c.is_done.ensures ∙ c.if-is_done.false)
-      (subst (λ (v : BodyLoaderValue). IsWholeFile v.rows v.fed) (sym c.self.view_is) w));
+pub returns-in-Err-clause-feeds_or_stops : goal.returns-in-Err-clause-feeds_or_stops
+returns-in-Err-clause-feeds_or_stops c = record {
+  feeds = record {
+    rows = search rules;
+    taken = search rules;
+    goes_on = search rules;
+    complete = λ w.
+        absurd (not_whole _ _ _ _ _ _ _ c.self.invariant (ap (λ (v : BodyLoaderValue). v.refused) c.self.view_is ∙ c.requires.reading) (sym c.is_done.ensures ∙ c.if-is_done.false)
+        (subst (λ (v : BodyLoaderValue). IsWholeFile v.rows v.fed) (sym c.self.view_is) w));
+  };
+  stops =
+      let none = ap (λ (v : BodyLoaderValue). v.refused) c.self.view_is ∙ c.requires.reading in
+      let more = sym c.is_done.ensures ∙ c.if-is_done.false in
+      let fed = ap (λ (v : BodyLoaderValue). v.fed) c.self.view_is in
+      let n = c.next_word-taken.result.0 in
+      let bytes = take n c.args.piece.now in
+      let gathers = subst (λ (o : Option ℕ). Gathers (c.self.inside.assembler ++ bytes) c.next_word-taken.new.assembler o) c.in-Some.is c.next_word-taken.ensures.gathers in
+      let long : length bytes ≡ n = omega (arith, length-take n c.args.piece.now, c.next_word-taken.ensures.inside) in
+      record {
+        refusal =
+            subst (λ (f : List ℕ). HasRefusal (f ++ c.args.piece.now) (c.self.inside.count + n - 4) c.in-Err.reason) fed
+            (refusal_front _ c.args.piece.now n _ _
+            (refusal_here _ _ _ _ _ _ _ c.self.invariant none more bytes n long c.in-Some.word c.in-Err.ensures.long gathers.0 c.in-Err.reason (rw c.as_slice.ensures.value at c.in-Err.ensures.refusal)));
+        own = c.in-Err.ensures.own_reasons;
+      };
+  remembers = search rules;
 }
 
 pub returns-then-is_done-clause-ends : goal.returns-then-is_done-clause-ends

@@ -1,4 +1,4 @@
-use Rattle.std.proofs.Common.{◌≡◌, ℕ, ◌+◌, ◌-◌, ◌<◌, Option, List, ◌++◌, length, take, drop, length-take, length-append, take-append-drop, append_assoc, arith, sym, ap, subst, ◌∙◌}
+use Rattle.std.proofs.Common.{rules, ◌≡◌, ℕ, ◌+◌, ◌-◌, ◌<◌, Option, List, ◌++◌, length, take, drop, length-take, length-append, take-append-drop, append_assoc, arith, sym, ap, subst, ◌∙◌}
 use Rattle.hunk_words.specs.Longs.{Gathers}
 use Rattle.hunk_scatter.specs.HeaderBytes.{IsHeader}
 use Rattle.hunk_scatter.specs.HeaderLoaderFields.{HeaderStop}
@@ -28,36 +28,54 @@ overflow_sub-place c =
     heading_four _ _ _ _ _ _ _ c.self.invariant (ap (λ (v : HeaderLoaderValue). v.refused) c.self.view_is ∙ c.requires.reading) (sym c.is_behind_header.ensures ∙ c.if-is_behind_header.false)
     bytes n long c.in-Some.word c.in-Err.ensures.long gathers.0
 
-pub returns-in-Err-clause-stops : goal.returns-in-Err-clause-stops
-returns-in-Err-clause-stops c =
-    let n = c.next_word-taken.result.0 in
-    let bytes = take n c.args.piece.now in
-    let gathers = subst (λ (o : Option ℕ). Gathers (c.self.inside.assembler ++ bytes) c.next_word-taken.new.assembler o) c.in-Some.is c.next_word-taken.ensures.gathers in
-    let long : length bytes ≡ n = omega (arith, length-take n c.args.piece.now, c.next_word-taken.ensures.inside) in
-    let some : 0 < n = c.next_word-taken.ensures.some in (
-      c.args.self.now.fed ++ bytes,
-      drop n c.args.piece.now,
-      ap (λ (bs : List ℕ). c.args.self.now.fed ++ bs) (sym (take-append-drop n c.args.piece.now)) ∙ sym (append_assoc c.args.self.now.fed bytes (drop n c.args.piece.now)),
-      omega (arith, length-append c.args.self.now.fed bytes, long, some),
-      subst (λ (v : HeaderLoaderValue). HeaderStop v.budget (v.fed ++ bytes) (record { place = c.self.inside.count + n - 4; reason = c.in-Err.reason })) c.self.view_is
-          (heading_stop _ _ _ _ _ _ _ c.self.invariant (ap (λ (v : HeaderLoaderValue). v.refused) c.self.view_is ∙ c.requires.reading) (sym c.is_behind_header.ensures ∙ c.if-is_behind_header.false)
-          bytes n long c.in-Some.word c.in-Err.ensures.long gathers.0 c.in-Err.reason c.in-Err.ensures.refusal),
-    )
+pub returns-in_default-clause-feeds_or_stops : goal.returns-in_default-clause-feeds_or_stops
+returns-in_default-clause-feeds_or_stops c = record {
+  budget = search rules;
+  taken = search rules;
+  goes_on = search rules;
+  complete = λ w.
+      absurd (heading_not_whole _ _ _ _ _ (c.self.invariant.reading (ap (λ (v : HeaderLoaderValue). v.refused) c.self.view_is ∙ c.requires.reading)) (sym c.is_behind_header.ensures ∙ c.if-is_behind_header.false)
+      (subst (λ (v : HeaderLoaderValue). IsHeader v.fed) (sym c.self.view_is) w));
+  stops = search rules;
+  remembers = search rules;
+}
 
-pub returns-in_default-clause-complete : goal.returns-in_default-clause-complete
-returns-in_default-clause-complete c w =
-    absurd (heading_not_whole _ _ _ _ _ (c.self.invariant.reading (ap (λ (v : HeaderLoaderValue). v.refused) c.self.view_is ∙ c.requires.reading)) (sym c.is_behind_header.ensures ∙ c.if-is_behind_header.false)
-    (subst (λ (v : HeaderLoaderValue). IsHeader v.fed) (sym c.self.view_is) w))
+pub returns-in-Ok-clause-feeds_or_stops : goal.returns-in-Ok-clause-feeds_or_stops
+returns-in-Ok-clause-feeds_or_stops c = record {
+  budget = search rules;
+  taken = search rules;
+  goes_on = search rules;
+  complete = λ w.
+      absurd (heading_not_whole _ _ _ _ _ (c.self.invariant.reading (ap (λ (v : HeaderLoaderValue). v.refused) c.self.view_is ∙ c.requires.reading)) (sym c.is_behind_header.ensures ∙ c.if-is_behind_header.false)
+      (subst (λ (v : HeaderLoaderValue). IsHeader v.fed) (sym c.self.view_is) w));
+  stops = search rules;
+  remembers = search rules;
+}
 
-pub returns-in-Ok-clause-complete : goal.returns-in-Ok-clause-complete
-returns-in-Ok-clause-complete c w =
-    absurd (heading_not_whole _ _ _ _ _ (c.self.invariant.reading (ap (λ (v : HeaderLoaderValue). v.refused) c.self.view_is ∙ c.requires.reading)) (sym c.is_behind_header.ensures ∙ c.if-is_behind_header.false)
-    (subst (λ (v : HeaderLoaderValue). IsHeader v.fed) (sym c.self.view_is) w))
-
-pub returns-in-Err-clause-complete : goal.returns-in-Err-clause-complete
-returns-in-Err-clause-complete c w =
-    absurd (heading_not_whole _ _ _ _ _ (c.self.invariant.reading (ap (λ (v : HeaderLoaderValue). v.refused) c.self.view_is ∙ c.requires.reading)) (sym c.is_behind_header.ensures ∙ c.if-is_behind_header.false)
-    (subst (λ (v : HeaderLoaderValue). IsHeader v.fed) (sym c.self.view_is) w))
+pub returns-in-Err-clause-feeds_or_stops : goal.returns-in-Err-clause-feeds_or_stops
+returns-in-Err-clause-feeds_or_stops c = record {
+  budget = search rules;
+  taken = search rules;
+  goes_on = search rules;
+  complete = λ w.
+      absurd (heading_not_whole _ _ _ _ _ (c.self.invariant.reading (ap (λ (v : HeaderLoaderValue). v.refused) c.self.view_is ∙ c.requires.reading)) (sym c.is_behind_header.ensures ∙ c.if-is_behind_header.false)
+      (subst (λ (v : HeaderLoaderValue). IsHeader v.fed) (sym c.self.view_is) w));
+  stops =
+      let n = c.next_word-taken.result.0 in
+      let bytes = take n c.args.piece.now in
+      let gathers = subst (λ (o : Option ℕ). Gathers (c.self.inside.assembler ++ bytes) c.next_word-taken.new.assembler o) c.in-Some.is c.next_word-taken.ensures.gathers in
+      let long : length bytes ≡ n = omega (arith, length-take n c.args.piece.now, c.next_word-taken.ensures.inside) in
+      let some : 0 < n = c.next_word-taken.ensures.some in (
+        c.args.self.now.fed ++ bytes,
+        drop n c.args.piece.now,
+        ap (λ (bs : List ℕ). c.args.self.now.fed ++ bs) (sym (take-append-drop n c.args.piece.now)) ∙ sym (append_assoc c.args.self.now.fed bytes (drop n c.args.piece.now)),
+        omega (arith, length-append c.args.self.now.fed bytes, long, some),
+        subst (λ (v : HeaderLoaderValue). HeaderStop v.budget (v.fed ++ bytes) (record { place = c.self.inside.count + n - 4; reason = c.in-Err.reason })) c.self.view_is
+            (heading_stop _ _ _ _ _ _ _ c.self.invariant (ap (λ (v : HeaderLoaderValue). v.refused) c.self.view_is ∙ c.requires.reading) (sym c.is_behind_header.ensures ∙ c.if-is_behind_header.false)
+            bytes n long c.in-Some.word c.in-Err.ensures.long gathers.0 c.in-Err.reason c.in-Err.ensures.refusal),
+      );
+  remembers = search rules;
+}
 
 pub returns-then-is_behind_header-clause-ends : goal.returns-then-is_behind_header-clause-ends
 returns-then-is_behind_header-clause-ends c same =
