@@ -2,7 +2,7 @@
 
 /// The most hunks that a load file has: 65,536.
 ///
-/// This limit is this profile's own choice.
+/// This limit is this project's own choice.
 pub const MOST_HUNKS: u32 = 65_536;
 
 /// A name has fewer longwords than this, 2^24, since its count has 24 bits.
