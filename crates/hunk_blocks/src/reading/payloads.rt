@@ -81,5 +81,5 @@ pub(crate) fn read_sized<'a>(reader: &mut LongReader<'a>) -> Result<(u8, Payload
 {
     let size = reader.long()?;
     let payload = reader.payload(size % CONTENT_LIMIT)?;
-    Ok(((size >> 30) as u8, payload))
+    Ok(((size / CONTENT_LIMIT) as u8, payload))
 }
