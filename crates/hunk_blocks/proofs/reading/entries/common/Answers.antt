@@ -52,15 +52,14 @@ returns-in_err-read_counted c =
 pub returns : goal.returns
 returns c =
     record {
-      read =
-          (
-          entry_is (Some Common) c.args.word c.in_ok-value.value (longs c.in_ok-name.name) c.of-offsets.result c.requires.shape tt (omega arith) c.requires.goes_on c.in_ok-name.ensures.count.0 c.in_ok-name.ensures.count.1 (omega arith)
-          (subst (IsPayload (2 ^ 32)) (sym c.of-offsets.ensures) c.in_ok-read_counted.ensures.read.0),
-          λ before h.
-          entry_read (Some Common) before c.args.reader.now c.read_entry_name.new.reader c.read_counted.new.reader c.args.word c.in_ok-value.value (longs c.in_ok-name.name) c.of-offsets.result c.requires.shape c.in_ok-name.ensures.read
-          (Reads-append c.read_entry_name.new.reader c.long.new.self c.read_counted.new.reader (c.in_ok-value.value ∷ []) (counted_text c.of-offsets.result) c.in_ok-value.ensures.read
-          (subst (λ (os : List ℕ). Reads c.long.new.self c.read_counted.new.reader (counted_text os)) (sym c.of-offsets.ensures) c.in_ok-read_counted.ensures.read.1)) h,
-          );
+      read = (
+        entry_is (Some Common) c.args.word c.in_ok-value.value (longs c.in_ok-name.name) c.of-offsets.result c.requires.shape tt (omega arith) c.requires.goes_on c.in_ok-name.ensures.count.0 c.in_ok-name.ensures.count.1 (omega arith)
+            (subst (IsPayload (2 ^ 32)) (sym c.of-offsets.ensures) c.in_ok-read_counted.ensures.read.0),
+        λ before h.
+            entry_read (Some Common) before c.args.reader.now c.read_entry_name.new.reader c.read_counted.new.reader c.args.word c.in_ok-value.value (longs c.in_ok-name.name) c.of-offsets.result c.requires.shape c.in_ok-name.ensures.read
+            (Reads-append c.read_entry_name.new.reader c.long.new.self c.read_counted.new.reader (c.in_ok-value.value ∷ []) (counted_text c.of-offsets.result) c.in_ok-value.ensures.read
+            (subst (λ (os : List ℕ). Reads c.long.new.self c.read_counted.new.reader (counted_text os)) (sym c.of-offsets.ensures) c.in_ok-read_counted.ensures.read.1)) h,
+      );
       none = search rules;
       front = search rules;
       fault = search rules;

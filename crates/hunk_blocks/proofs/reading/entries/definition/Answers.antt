@@ -32,12 +32,11 @@ returns-in_err-value c =
 pub returns : goal.returns
 returns c =
     record {
-      read =
-          (
-          entry_is (Some Definition) c.args.word c.in_ok-value.value (longs c.in_ok-name.name) c.none.result c.requires.shape c.none.ensures (omega arith) c.requires.goes_on c.in_ok-name.ensures.count.0 c.in_ok-name.ensures.count.1 (omega arith) (no_offsets c.none.result c.none.ensures),
-          λ before h.
-          entry_read (Some Definition) before c.args.reader.now c.read_entry_name.new.reader c.long.new.self c.args.word c.in_ok-value.value (longs c.in_ok-name.name) c.none.result c.requires.shape c.in_ok-name.ensures.read c.in_ok-value.ensures.read h,
-          );
+      read = (
+        entry_is (Some Definition) c.args.word c.in_ok-value.value (longs c.in_ok-name.name) c.none.result c.requires.shape c.none.ensures (omega arith) c.requires.goes_on c.in_ok-name.ensures.count.0 c.in_ok-name.ensures.count.1 (omega arith) (no_offsets c.none.result c.none.ensures),
+        λ before h.
+            entry_read (Some Definition) before c.args.reader.now c.read_entry_name.new.reader c.long.new.self c.args.word c.in_ok-value.value (longs c.in_ok-name.name) c.none.result c.requires.shape c.in_ok-name.ensures.read c.in_ok-value.ensures.read h,
+      );
       none = search rules;
       front = search rules;
       fault = search rules;

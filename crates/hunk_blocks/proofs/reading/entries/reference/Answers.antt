@@ -38,14 +38,13 @@ returns-in_err-read_counted c =
 pub returns : goal.returns
 returns c =
     record {
-      read =
-          (
-          entry_is (Some References) c.args.word 0 (longs c.in_ok-name.name) c.of-offsets.result c.requires.shape refl (omega arith) c.requires.goes_on c.in_ok-name.ensures.count.0 c.in_ok-name.ensures.count.1 (omega arith)
-          (subst (IsPayload (2 ^ 32)) (sym c.of-offsets.ensures) c.in_ok-read_counted.ensures.read.0),
-          λ before h.
-          entry_read (Some References) before c.args.reader.now c.read_entry_name.new.reader c.read_counted.new.reader c.args.word 0 (longs c.in_ok-name.name) c.of-offsets.result c.requires.shape c.in_ok-name.ensures.read
-          (subst (λ (os : List ℕ). Reads c.read_entry_name.new.reader c.read_counted.new.reader (counted_text os)) (sym c.of-offsets.ensures) c.in_ok-read_counted.ensures.read.1) h,
-          );
+      read = (
+        entry_is (Some References) c.args.word 0 (longs c.in_ok-name.name) c.of-offsets.result c.requires.shape refl (omega arith) c.requires.goes_on c.in_ok-name.ensures.count.0 c.in_ok-name.ensures.count.1 (omega arith)
+            (subst (IsPayload (2 ^ 32)) (sym c.of-offsets.ensures) c.in_ok-read_counted.ensures.read.0),
+        λ before h.
+            entry_read (Some References) before c.args.reader.now c.read_entry_name.new.reader c.read_counted.new.reader c.args.word 0 (longs c.in_ok-name.name) c.of-offsets.result c.requires.shape c.in_ok-name.ensures.read
+            (subst (λ (os : List ℕ). Reads c.read_entry_name.new.reader c.read_counted.new.reader (counted_text os)) (sym c.of-offsets.ensures) c.in_ok-read_counted.ensures.read.1) h,
+      );
       none = search rules;
       front = search rules;
       fault = search rules;
