@@ -146,7 +146,7 @@ struct hunk_answer hunk_load_packed(const uint8_t *bytes, size_t bytes_len, uint
  * the three calls below ask malloc for anything. They know the file by its places, and by what the
  * loader has: numbers alone, which may be copied and stored, and belong to one file, its places and
  * its memory. hunk_begin sets them, hunk_feed takes the bytes after the header in pieces of any
- * size, and hunk_end tells whether the file is whole.
+ * size, and hunk_end says whether the file is whole.
  */
 
 /* Where a hunk lies: 12 bytes. */
@@ -222,7 +222,7 @@ struct hunk_answer hunk_feed(struct hunk_loader *loader, const struct hunk_place
                              size_t places_len, uint8_t *memory, size_t memory_len,
                              const uint8_t *bytes, size_t bytes_len);
 
-/* Tells whether the file is whole. It reads the loader, and writes nothing; more may be fed later.
+/* Says whether the file is whole. It reads the loader, and writes nothing; more may be fed later.
  *
  * HUNK_OK       the memory has the hunks, as hunk_load would load them at the bases of the places.
  *               hunk: the hunks; place: the bytes of the file; count: those of the hunks.

@@ -39,7 +39,7 @@ pub(crate) fn refused(fault: Fault) -> Answer
     }
 }
 
-/// The hunk that a reason is told of; of most reasons, 0.
+/// The hunk that a reason names; of most reasons, 0.
 fn refused_hunk(reason: Reason) -> u32
     ensures { result ≡ refused_hunk reason }
 {
@@ -49,7 +49,7 @@ fn refused_hunk(reason: Reason) -> u32
     }
 }
 
-/// The answer where the caller's array is too small, and needs so many elements.
+/// The answer where the caller's array is too small, and needs `count` elements.
 pub(crate) fn no_room(hunks: u32, place: u64, count: u64) -> Answer
     ensures { result ≡ no_room hunks place count }
 {

@@ -27,8 +27,8 @@ pub struct FindingRow {
 ///
 /// Of an object file it writes a row for each finding, in file order; a load file that is accepted
 /// has none. The rows behind them are as they were, and after a refusal all are. It answers the
-/// number of hunks of a load file, and 0 of an object file, the bytes of the file, and the number of
-/// findings. Memory is taken for the parts of the file and for the findings, and given back.
+/// number of hunks of a load file, and 0 of an object file, the bytes of the file, and the number
+/// of findings. Memory is taken for the parts of the file and for the findings, and given back.
 ///
 /// # Errors
 ///

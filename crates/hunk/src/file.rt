@@ -1,4 +1,4 @@
-//! What answers tell of a file of either kind.
+//! What answers say of a file of either kind.
 ghost use Rattle.std.specs.Prelude.{◌≡◌, length};
 ghost use Rattle.hunk_files.specs.HunkFile.{IsFileOf, file_bytes};
 ghost use Rattle.hunk.specs.Files.{hunks_in};

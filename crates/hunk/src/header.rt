@@ -40,7 +40,7 @@ pub(crate) fn read_header(
     Ok((declared, &bytes[taken..]))
 }
 
-/// The fault of bytes, so many, that end inside a file.
+/// The fault of `len` bytes that end inside a file.
 pub(crate) fn truncated(len: usize) -> Fault
     ensures { result ≡ record { place = 4 * (len / 4); reason = reasons.Truncated } }
 {

@@ -10,8 +10,8 @@ use hunk_words::Fault;
 
 /// Where a loader stands between two pieces: 64 bytes, with no padding.
 ///
-/// Any numbers may stand here. Zeros are answered by `STRANGE`, and so are those that lead out of the rows
-/// or the memory.
+/// Any numbers may stand here. Zeros are answered by `STRANGE`, and so are those that lead out of
+/// the rows or the memory.
 #[repr(C)]
 #[derive(Clone, Copy, Debug, PartialEq, Eq)]
 pub struct Loader {
@@ -135,7 +135,7 @@ impl Loader {
         })
     }
 
-    /// Where the loader stands; nothing where its numbers do not tell it.
+    /// Where the loader stands; `None` where its numbers give no position.
     pub(crate) fn standing(&self) -> Option<Standing>
         ensures { result ≡ standing_of self.now }
     {
@@ -173,7 +173,8 @@ impl Loader {
     }
 }
 
-/// The phase of a number, with the longwords of a content or the target of offsets, and what is owed.
+/// The phase of a number, with the longwords of a content or the target of offsets, and what is
+/// owed.
 fn phase_in(number: u32, part: u32, owed: u32) -> Option<Phase>
     ensures { result ≡ phase_in number part owed }
 {
@@ -195,7 +196,8 @@ fn phase_in(number: u32, part: u32, owed: u32) -> Option<Phase>
     }
 }
 
-/// The number of a phase, with the longwords of a content or the target of offsets, and what is owed.
+/// The number of a phase, with the longwords of a content or the target of offsets, and what is
+/// owed.
 fn phase_numbers(phase: Phase) -> (u32, u32, u32)
     ensures { phase_in result.0 result.1 result.2 ≡ Some phase }
 {

@@ -1,7 +1,7 @@
 //! Load files that come in pieces, loaded into the caller's memory with no other memory at all.
 //!
-//! What a loader has to know between two pieces is in numbers, which the caller keeps, with rows that
-//! say where each hunk lies.
+//! What a loader has to know between two pieces is in numbers, which the caller keeps, with rows
+//! that say where each hunk lies.
 ghost use Rattle.hunk.specs.Streams.{Begins, Ends, Feeds};
 
 use crate::answer::{Answer, done, no_room, refused, strange};
@@ -11,16 +11,16 @@ use hunk_files::Row;
 use hunk_scatter::stream::{Stop, begin, take_piece};
 use hunk_words::{Fault, Reason};
 
-/// Makes the memory zero, and sets a loader behind the header, of so many bytes, of the table of the
-/// rows.
+/// Fills the memory with zero bytes, and sets a loader to the end of the header of the table in
+/// `rows`; `header` is the length of that header in bytes.
 ///
 /// It answers the number of hunks, the bytes of the header, and those of the memory.
 ///
 /// # Errors
 ///
-/// `NO_ROOM` where the hunks have more bytes than the memory, and how many they have; `STRANGE` where
-/// they have fewer, or the rows are not those of a table whose header has so many bytes. The memory is
-/// then as it was, and the loader's numbers are those of no loader.
+/// `NO_ROOM` where the hunks have more bytes than the memory, and how many they have; `STRANGE`
+/// where they have fewer, or the rows are not those of a table whose header is `header` bytes long.
+/// The memory is then as it was, and the loader's numbers are those of no loader.
 #[unsafe(no_mangle)]
 pub extern "C" fn hunk_begin(
     loader: &mut Loader,
@@ -50,14 +50,14 @@ pub extern "C" fn hunk_begin(
 
 /// Takes the piece, or up to the end of the file where that stands inside it.
 ///
-/// It answers the number of whole hunks, the bytes of header and body so far, and those of the piece
-/// that were taken: fewer than there are where the file is whole. The memory is as the longwords so
-/// far leave it.
+/// It answers the number of whole hunks, the bytes of header and body so far, and those of the
+/// piece that were taken: fewer than there are where the file is whole. The memory is as the
+/// longwords so far leave it.
 ///
 /// # Errors
 ///
-/// The first fault of all that was fed, and then the same again, whatever is fed; `STRANGE` where the
-/// loader's numbers are none that a loader with these rows and this memory may have.
+/// The first fault of all that was fed, and then the same again, whatever is fed; `STRANGE` where
+/// the loader's numbers are none that a loader with these rows and this memory may have.
 #[unsafe(no_mangle)]
 pub extern "C" fn hunk_feed(
     loader: &mut Loader,
@@ -86,8 +86,8 @@ pub extern "C" fn hunk_feed(
     }
 }
 
-/// Whether the file is whole. Where it is, the memory is its hunks, one right behind the other, each as
-/// it lies at the base of its row.
+/// Whether the file is whole. Where it is, the memory is its hunks, one right behind the other, each
+/// as it lies at the base of its row.
 ///
 /// It answers the number of hunks, the bytes of the file, and those of the hunks.
 ///

@@ -13,8 +13,8 @@ use std::alloc::{AllocError, Global};
 /// without its NAME, SYMBOL, DEBUG and ADVISORY blocks.
 ///
 /// What follows a load file is left out. The text behind what is written is as it was, and after a
-/// refusal all of it is. It answers the number of hunks of a load file, and 0 of an object file, the
-/// bytes of the file, and those of what was written, which are no more. Memory is taken for the
+/// refusal all of it is. It answers the number of hunks of a load file, and 0 of an object file,
+/// the bytes of the file, and those of what was written, which are no more. Memory is taken for the
 /// parts of the file, and then for as many bytes as it has, once, and given back.
 ///
 /// # Errors
@@ -43,7 +43,7 @@ pub extern "C" fn hunk_strip(alloc: Global, bytes: &[u8], text: &mut [u8]) -> An
     done(hunks, size as u64, left.len() as u64)
 }
 
-/// The text of the file without those blocks, for which memory of so many bytes is taken at once.
+/// The text of the file without those blocks, for which memory of `room` bytes is taken at once.
 fn stripped_text(alloc: Global, file: HunkFile<'_>, room: usize) -> Result<Vec<u8>, AllocError>
     requires { length (file_bytes file) < 2 ^ 64 }
     ensures { IfOk result (λ text. text.items ≡ stripped_bytes file.entry) }

@@ -7,7 +7,7 @@ ghost use Rattle.hunk.specs.Tables.{BeginsWithTableOf, Tables, table_row};
 use crate::answer::{Answer, done, no_room, refused};
 use hunk_scan::TABLE_AT;
 use hunk_scatter::stream::header_size;
-use hunk_words::SizeWord;
+use hunk_words::{CONTENT_LIMIT, SizeWord};
 
 /// What a header declares of a hunk: 16 bytes, with no padding.
 #[repr(C)]
@@ -71,6 +71,6 @@ fn table_row(size: SizeWord) -> TableRow
         word: size.word,
         extra: size.extra,
         bytes: 4 * size.longs(),
-        memory: size.word >> 30,
+        memory: size.word / CONTENT_LIMIT,
     }
 }

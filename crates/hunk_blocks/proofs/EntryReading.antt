@@ -1,5 +1,5 @@
 -- What the longwords of an EXT entry make.
-use Rattle.std.proofs.Common.{◌≡◌, ◌≢◌, ℕ, ◌/◌, ◌%◌, ◌^◌, List, [], ◌∷◌, ◌++◌, length, refl, sym, ap, subst, ◌∙◌, append_assoc, arith, Option, Some, None}
+use Rattle.std.proofs.Common.{◌≡◌, ◌≢◌, ℕ, ◌/◌, ◌%◌, ◌^◌, List, [], ◌∷◌, ◌++◌, length, refl, sym, ap, subst, ◌∙◌, append_assoc, length-append, arith, ◌<◌, Option, Some, None}
 use Rattle.std.proofs.lemmas.List.{map-append}
 use Rattle.hunk_words.specs.Longs.{IsLong, AreLongs}
 use Rattle.hunk_blocks.specs.declared.ext_shape.ExtShape.{ExtShape}
@@ -107,6 +107,29 @@ unnamed s before old mid word name shape goes n h k none =
           none e is more (cut.1 ∙ ap (λ t. behind t e.value e.offsets ++ more) (ap (λ w. ext_shape (w / 2 ^ 24)) (sym same) ∙ shape));
       end = λ more e. let f : word ∷ old.rest ≡ 0 ∷ more = sym h.front ∙ e in let z : word ≡ 0 = cc in goes z;
     }
+
+-- the name is not whole
+pub name_missing : (before old : Unread) (word : ℕ) → word ≢ 0 → length old.rest < word % 2 ^ 24 → Reads before old (word ∷ []) → BeginsWithNoItem IsExtEntry ext_text before.rest
+name_missing before old word goes short h =
+    record {
+      item =
+          λ e is more eq.
+          let last : List ℕ = behind (ext_shape (e.word / 2 ^ 24)) e.value e.offsets in
+          let f : word ∷ old.rest ≡ e.word ∷ ((e.name ++ last) ++ more) = sym h.front ∙ eq ∙ ap (λ l. l ++ more) (ext_text_is e) in
+          let same : word ≡ e.word = cc in
+          let tail : old.rest ≡ (e.name ++ last) ++ more = cc in
+          let count : length e.name ≡ word % 2 ^ 24 = is.entry_word.count ∙ ap (λ w. w % 2 ^ 24) (sym same) in
+          omega (arith, short, count, ap length tail, length-append (e.name ++ last) more, length-append e.name last);
+      end = λ more e. let f : word ∷ old.rest ≡ 0 ∷ more = sym h.front ∙ e in let z : word ≡ 0 = cc in goes z;
+    }
+
+-- the value is missing
+pub value_missing : (s : ExtShape) (before old mid : Unread) (word : ℕ) (name : List ℕ) → s ≢ References → ext_shape (word / 2 ^ 24) ≡ Some s → word ≢ 0 → length name ≡ word % 2 ^ 24 → Reads before old (word ∷ []) → Reads old mid name → mid.rest ≡ [] →
+    BeginsWithNoItem IsExtEntry ext_text before.rest
+value_missing Definition before old mid word name valued shape goes n h k end = unnamed (Some Definition) before old mid word name shape goes n h k (λ e is more f. let g : [] ≡ e.value ∷ more = sym end ∙ f in cc)
+value_missing Common before old mid word name valued shape goes n h k end =
+    unnamed (Some Common) before old mid word name shape goes n h k (λ e is more f. let g : [] ≡ e.value ∷ (counted_text e.offsets ++ more) = sym end ∙ f in cc)
+value_missing References before old mid word name valued shape goes n h k end = absurd (valued refl)
 
 pub reference_missing : (before old mid : Unread) (word : ℕ) (name : List ℕ) → ext_shape (word / 2 ^ 24) ≡ Some References → word ≢ 0 → length name ≡ word % 2 ^ 24 → Reads before old (word ∷ []) → Reads old mid name →
     BeginsWithNo (IsPayload (2 ^ 32)) counted_text mid.rest → BeginsWithNoItem IsExtEntry ext_text before.rest

@@ -1,5 +1,6 @@
 pub mod Begins
 pub mod BlockSteps
+pub mod Entries
 pub mod ExtKinds
 pub mod Faults
 pub mod Modes

@@ -13,7 +13,7 @@ use hunk_words::SizeWord;
 /// What follows the word of a block, by its kind.
 ///
 /// Source: The AmigaDOS Manual, `dos/doshunks.h`. In CODE, DATA and BSS the top two bits of the
-/// size word are kept and not interpreted, and no memory attributes follow: this profile's own
+/// size word are kept and not interpreted, and no memory attributes follow: this project's own
 /// choice.
 #[derive(Debug, Drop)]
 pub enum Body<'a> {

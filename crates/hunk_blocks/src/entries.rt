@@ -13,7 +13,7 @@ use crate::payload::Payload;
 /// An entry of an EXT block: a definition, or references.
 ///
 /// Source: The AmigaDOS Manual, `dos/doshunks.h`. `ExtKind` says of which types the layout is this
-/// profile's own choice.
+/// project's own choice.
 #[derive(Debug, Drop)]
 pub struct Entry<'a> {
     /// The type in the top byte, and the number of longwords of the name in the low 24 bits.

@@ -12,7 +12,7 @@ use crate::ext_shape::ExtShape;
 /// Source: The AmigaDOS Manual, `dos/doshunks.h`, where no variant says otherwise.
 #[derive(Clone, Copy, Debug, PartialEq, Eq)]
 pub enum ExtKind {
-    /// 0 (0x00): a symbol, with one value. That a value follows is this profile's own choice.
+    /// 0 (0x00): a symbol, with one value. That a value follows is this project's own choice.
     Symb,
     /// 1 (0x01): a definition, with one value.
     Def,
@@ -32,14 +32,14 @@ pub enum ExtKind {
     Dext16,
     /// 135 (0x87): data-relative references of 1 byte.
     Dext8,
-    /// 136 (0x88): relative references of 4 bytes. The layout is this profile's own choice.
+    /// 136 (0x88): relative references of 4 bytes. The layout is this project's own choice.
     RelRef32,
     /// 137 (0x89): relative references of 4 bytes to a common block, with its size in bytes. The
-    /// layout is this profile's own choice.
+    /// layout is this project's own choice.
     RelCommon,
-    /// 138 (0x8A): absolute references of 2 bytes. The layout is this profile's own choice.
+    /// 138 (0x8A): absolute references of 2 bytes. The layout is this project's own choice.
     AbsRef16,
-    /// 139 (0x8B): absolute references of 1 byte. The layout is this profile's own choice.
+    /// 139 (0x8B): absolute references of 1 byte. The layout is this project's own choice.
     AbsRef8,
 }
 
@@ -107,7 +107,7 @@ impl ExtKind {
     /// How many bytes of the hunk each offset of an entry of this type stands for: 1, 2 or 4.
     /// `None` for a definition, which has no offsets.
     ///
-    /// The widths are this profile's own choice.
+    /// The widths are this project's own choice.
     #[inline(always)]
     pub fn width(self) -> Option<u64>
         ensures value { result ≡ ext_width self }

@@ -20,7 +20,7 @@ impl Mode {
     /// block of V37's LoadSeg. From V39 of dos an unknown kind with the advisory flag is ignored,
     /// so it is accepted. To reject both memory bits, overlays, libraries, short relocations and
     /// other unknown kinds, and in load files EXT and all relocations but RELOC32, is this
-    /// profile's own choice.
+    /// project's own choice.
     #[inline(always)]
     pub fn refuse(self, word: BlockWord) -> Option<Reason>
         ensures { result ≡ refuse_alone_word self word }

@@ -6,7 +6,7 @@ use crate::payload::Payload;
 /// An entry of a SYMBOL block.
 ///
 /// Source: The AmigaDOS Manual, `dos/doshunks.h`. That an empty name does not end the block, and
-/// that what stands behind the first zero byte of a name is kept, is this profile's own choice.
+/// that what stands behind the first zero byte of a name is kept, is this project's own choice.
 #[derive(Debug, Drop)]
 pub struct Named<'a> {
     /// The number of longwords of the name in the low 24 bits; the top byte is kept.

@@ -3,7 +3,7 @@
 use hunk_files::{LoadFile, ObjectFile, Sniff, sniff};
 use std::alloc::Global;
 
-/// A line on a file: what it is, and what is amiss with it.
+/// A line on a file: what it is, and what is wrong with it.
 ///
 /// # Errors
 ///

@@ -7,8 +7,8 @@ use hunk_words::{CONTENT_LIMIT, HEADER_WORD, LongWriter, Sink};
 ///
 /// # Errors
 ///
-/// The code is no whole number of longwords, or has more than a hunk can have, or the writer failed,
-/// after as many bytes as the error says.
+/// The code is no whole number of longwords, or has more than a hunk can have, or the writer
+/// failed, after as many bytes as the error says.
 pub fn write_program<W: Sink + Drop>(code: &[u8], sink: W) -> anyhow::Result<W> {
     ensure!(code.len() % 4 == 0, "code of {} bytes", code.len());
     let size = u32::try_from(code.len() / 4)?;

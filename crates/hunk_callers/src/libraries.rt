@@ -26,8 +26,8 @@ pub struct Seen {
     pub report: Vec<u8>,
 }
 
-/// Goes through the load file that the text spells, where the words of the command line are those of
-/// `hunkinfo validate --hex`.
+/// Goes through the load file that the text spells, where the words of the command line are those
+/// of `hunkinfo validate --hex`.
 ///
 /// # Errors
 ///

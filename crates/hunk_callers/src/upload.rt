@@ -3,8 +3,8 @@
 use hunk_scan::Position;
 use hunk_words::{Reason, word_at};
 
-/// Whether the first bytes of a file hold a whole header of a load file; false where they may still go
-/// on to one. It takes no memory.
+/// Whether the first bytes of a file hold a whole header of a load file; false where they may still
+/// go on to one. It takes no memory.
 ///
 /// # Errors
 ///

@@ -22,6 +22,9 @@ pub struct OpenHunk {
 ///
 /// `owed` is how many more of the kind follow the next, except at a `Target`: `owed` + 1 offsets
 /// follow it.
+///
+/// Source: The AmigaDOS Manual, `dos/doshunks.h`. Each rule that `docs/FORMAT.md` marks "own" is
+/// this project's own choice.
 #[derive(Clone, Copy, Debug, PartialEq, Eq)]
 pub enum Phase {
     /// The word of the first block: the hunk opens here.
@@ -225,7 +228,7 @@ impl Phase {
     }
 }
 
-/// Where `left` hunks are left. The file ends with the END of its last hunk: this profile's own
+/// Where `left` hunks are left. The file ends with the END of its last hunk: this project's own
 /// choice.
 #[inline(always)]
 pub(crate) fn open_next(hunks: u32, left: u32) -> Position

@@ -17,7 +17,7 @@ impl Position {
     ///
     /// The header is that of The AmigaDOS Manual and `dos/doshunks.h`. To reject resident names,
     /// another first hunk than 0, another last hunk than the table size minus 1, and more hunks
-    /// than `MOST_HUNKS` is this profile's own choice.
+    /// than `MOST_HUNKS` is this project's own choice.
     #[inline(always)]
     pub fn refuse(self, longs: u32, word: u32) -> Option<Reason>
         ensures { result ≡ refuse (role_at longs self) word }
@@ -62,7 +62,7 @@ impl OpenHunk {
 /// Whether the long at the offset, in bytes from the start of a hunk that declares `longs`
 /// longwords, passes the end of the hunk.
 ///
-/// That an offset may be odd, and may lie behind the content, is this profile's own choice.
+/// That an offset may be odd, and may lie behind the content, is this project's own choice.
 #[inline(always)]
 pub fn is_outside(offset: u32, longs: u32) -> bool
     ensures { result ≡ nat_lt (4 * longs) (offset + 4) }

@@ -7,7 +7,7 @@ use hunk_words::{Kind, Reason};
 /// Why a block of this kind may not stand here, where it may not. `has_content` says whether the
 /// hunk has its content block.
 ///
-/// Just one content block, relocations and EXT only behind it, END last: this profile's own choice.
+/// Just one content block, relocations and EXT only behind it, END last: this project's own choice.
 #[inline(always)]
 pub fn refuse_place(kind: Kind, has_content: bool) -> Option<Reason>
     ensures { result ≡ refuse_standing has_content (standing_of_kind kind) }

@@ -1,6 +1,7 @@
 //! Files at their limits, which are computed as they are read.
 
 use crate::computed::Longs;
+use hunk_words::{HEADER_WORD, MOST_HUNKS};
 
 /// The longwords of the header of `ManyHunks`, and of all of it: nine more a hunk.
 const TABLE: u32 = 65_541;
@@ -10,10 +11,10 @@ const MANY_HUNKS: u32 = 655_365;
 fn long_of_many_hunks(at: u32) -> u32 {
     if at < TABLE {
         return match at {
-            0 => 0x3F3,
+            0 => HEADER_WORD,
             1 | 3 => 0,
-            2 => 65_536,
-            4 => 65_535,
+            2 => MOST_HUNKS,
+            4 => MOST_HUNKS - 1,
             _ => 1,
         };
     }
@@ -39,7 +40,7 @@ impl Longs for ManyHunks {
 /// The longwords of the content of `LargeHunk`, of what is before it, and of all of it.
 const CONTENT: u32 = 0x40000;
 
-const FRONT: [u32; 8] = [0x3F3, 0, 1, 0, 0, CONTENT, 0x3E9, CONTENT];
+const FRONT: [u32; 8] = [HEADER_WORD, 0, 1, 0, 0, CONTENT, 0x3E9, CONTENT];
 
 const LARGE_HUNK: u32 = 0x40009;
 

@@ -9,12 +9,14 @@ use std::marker::Model;
 
 /// The block word of a header, with which a load file begins: no flags, and the type HEADER.
 ///
-/// Source: The AmigaDOS Manual, `dos/doshunks.h`. That it has no flags is this profile's own choice.
+/// Source: The AmigaDOS Manual, `dos/doshunks.h`. That it has no flags is this project's own
+/// choice.
 pub const HEADER_WORD: u32 = 0x3F3;
 
 /// The block word with which each unit of an object file begins: no flags, and the type UNIT.
 ///
-/// Source: The AmigaDOS Manual, `dos/doshunks.h`. That it has no flags is this profile's own choice.
+/// Source: The AmigaDOS Manual, `dos/doshunks.h`. That it has no flags is this project's own
+/// choice.
 pub const UNIT_WORD: u32 = 0x3E7;
 
 /// The block word with which a library begins: no flags, and the type LIB.
@@ -75,7 +77,7 @@ pub enum Kind {
     AbsReloc16,
     /// A number that `dos/doshunks.h` gives no name, 3F4 among them: the low 29 bits of the word.
     ///
-    /// That a number outside of the table is of an unknown kind is this profile's own choice.
+    /// That a number outside of the table is of an unknown kind is this project's own choice.
     Unknown(u32),
 }
 
@@ -120,7 +122,7 @@ impl Kind {
 
 /// The first longword of a block: three flags and a type. Contracts see it as the longword.
 ///
-/// The flags are in the top three bits, the type in the low 29 bits: this profile's own reading of
+/// The flags are in the top three bits, the type in the low 29 bits: this project's own reading of
 /// the bits that `dos/doshunks.h` names.
 #[derive(Clone, Copy, Debug, PartialEq, Eq)]
 pub struct BlockWord {
@@ -188,7 +190,7 @@ impl BlockWord {
     }
 
     /// Whether the flags for chip and for fast memory are both set, for which each block word is
-    /// rejected: this profile's own choice.
+    /// rejected: this project's own choice.
     #[inline(always)]
     pub fn has_both_memory_bits(self) -> bool
         ensures { result ≡ has_both_bits self }

@@ -36,7 +36,7 @@ pub enum Reason {
     Break,
     /// A short relocation block.
     ShortReloc,
-    /// A block that this profile keeps out of load files.
+    /// A block that this project keeps out of load files.
     NotInLoadFile,
     /// A HEADER or UNIT block in a place where none may stand, or another before the first UNIT.
     Misplaced,

@@ -5,11 +5,12 @@ ghost use Rattle.std.specs.List.{AllByRecursion};
 ghost use Rattle.std.specs.Option.{option_map};
 ghost use Rattle.hunk_words.specs.declared.reason.Reason.TheVariants as reasons;
 ghost use Rattle.hunk_blocks.specs.declared.ext_shape.ExtShape.TheVariants as shapes;
+ghost use Rattle.hunk_blocks.specs.Entries.{ReadsEntry};
 ghost use Rattle.hunk_blocks.specs.ExtKinds.{ext_shape};
 ghost use Rattle.hunk_blocks.specs.Values.{IsExtEntry};
 ghost use Rattle.hunk_blocks.specs.Parts.{ext_text, list_text};
 ghost use Rattle.hunk_blocks.specs.Faults.{FaultAhead, entries};
-ghost use Rattle.hunk_blocks.specs.Reading.{BeginsWithNo, BeginsWithNoItem, IsFrontOf, Reads, ReadsItem, Unread, cut};
+ghost use Rattle.hunk_blocks.specs.Reading.{BeginsWithNo, BeginsWithNoItem, Reads, ReadsItem, cut};
 ghost use Rattle.hunk_blocks.specs.Views.{entry_of};
 
 use crate::entries::{Entries, Entry};
@@ -26,13 +27,7 @@ use std::alloc::Global;
 fn definition<'a>(reader: &mut LongReader<'a>, word: u32) -> Result<Entry<'a>, BlockFault>
     requires goes_on { word ≢ 0 }
     requires shape { ext_shape (entry_type word) ≡ Some shapes.Definition }
-    ensures read { IfOk result (λ e. IsExtEntry (entry_of e) × ((before : Unread) →
-        Reads before reader.old (word ∷ []) → Reads before reader.new (ext_text (entry_of e)))) }
-    ensures none { OnErr result ((before : Unread) →
-        Reads before reader.old (word ∷ []) → BeginsWithNoItem IsExtEntry ext_text before.rest) }
-    ensures front { OnErr result
-        (IsFrontOf (AllByRecursion IsExtEntry) (list_text ext_text) (word ∷ reader.old.rest)) }
-    ensures fault { IfErr result (λ fault. fault ≡ cut reader.old) }
+    ensures { ReadsEntry reader.old reader.new word result }
 {
     let name = read_entry_name(reader, word)?;
     let value = reader.long()?;
@@ -48,13 +43,7 @@ fn definition<'a>(reader: &mut LongReader<'a>, word: u32) -> Result<Entry<'a>, B
 fn reference<'a>(reader: &mut LongReader<'a>, word: u32) -> Result<Entry<'a>, BlockFault>
     requires goes_on { word ≢ 0 }
     requires shape { ext_shape (entry_type word) ≡ Some shapes.References }
-    ensures read { IfOk result (λ e. IsExtEntry (entry_of e) × ((before : Unread) →
-        Reads before reader.old (word ∷ []) → Reads before reader.new (ext_text (entry_of e)))) }
-    ensures none { OnErr result ((before : Unread) →
-        Reads before reader.old (word ∷ []) → BeginsWithNoItem IsExtEntry ext_text before.rest) }
-    ensures front { OnErr result
-        (IsFrontOf (AllByRecursion IsExtEntry) (list_text ext_text) (word ∷ reader.old.rest)) }
-    ensures fault { IfErr result (λ fault. fault ≡ cut reader.old) }
+    ensures { ReadsEntry reader.old reader.new word result }
 {
     let name = read_entry_name(reader, word)?;
     let offsets = Longs::of(read_counted(reader)?);
@@ -70,13 +59,7 @@ fn reference<'a>(reader: &mut LongReader<'a>, word: u32) -> Result<Entry<'a>, Bl
 fn common<'a>(reader: &mut LongReader<'a>, word: u32) -> Result<Entry<'a>, BlockFault>
     requires goes_on { word ≢ 0 }
     requires shape { ext_shape (entry_type word) ≡ Some shapes.Common }
-    ensures read { IfOk result (λ e. IsExtEntry (entry_of e) × ((before : Unread) →
-        Reads before reader.old (word ∷ []) → Reads before reader.new (ext_text (entry_of e)))) }
-    ensures none { OnErr result ((before : Unread) →
-        Reads before reader.old (word ∷ []) → BeginsWithNoItem IsExtEntry ext_text before.rest) }
-    ensures front { OnErr result
-        (IsFrontOf (AllByRecursion IsExtEntry) (list_text ext_text) (word ∷ reader.old.rest)) }
-    ensures fault { IfErr result (λ fault. fault ≡ cut reader.old) }
+    ensures { ReadsEntry reader.old reader.new word result }
 {
     let name = read_entry_name(reader, word)?;
     let value = reader.long()?;

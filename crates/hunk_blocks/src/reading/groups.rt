@@ -19,7 +19,7 @@ use std::alloc::Global;
 /// The next group, or `None` behind the count 0 that ends the block (The AmigaDOS Manual,
 /// `dos/doshunks.h`).
 ///
-/// The count has all 32 bits: this profile's own choice.
+/// The count has all 32 bits: this project's own choice.
 fn next_group<'a>(reader: &mut LongReader<'a>) -> Result<Option<Group<'a>>, BlockFault>
     ensures read { IfOk result (λ found.
         ReadsItem IsGroup group_text reader.old reader.new (option_map group_of found)) }

@@ -15,7 +15,7 @@ use hunk_words::{BlockFault, CONTENT_LIMIT, NAME_LIMIT, Reason};
 
 /// A count, and that many longwords (The AmigaDOS Manual, `dos/doshunks.h`).
 ///
-/// DEBUG and ADVISORY count with all 32 bits, and a list of references may be empty: this profile's
+/// DEBUG and ADVISORY count with all 32 bits, and a list of references may be empty: this project's
 /// own choice.
 pub(crate) fn read_counted<'a>(reader: &mut LongReader<'a>) -> Result<Payload<'a>, BlockFault>
     ensures read { IfOk result (λ p.
@@ -31,7 +31,7 @@ pub(crate) fn read_counted<'a>(reader: &mut LongReader<'a>) -> Result<Payload<'a
 /// The count of a name, which has no top byte, and that many longwords (The AmigaDOS Manual,
 /// `dos/doshunks.h`).
 ///
-/// The bytes behind the first zero byte of a name are kept: this profile's own choice.
+/// The bytes behind the first zero byte of a name are kept: this project's own choice.
 pub(crate) fn read_name<'a>(reader: &mut LongReader<'a>) -> Result<Payload<'a>, BlockFault>
     ensures read { IfOk result (λ p.
         IsPayload name_limit (longs p) × Reads reader.old reader.new (counted_text (longs p))) }
@@ -55,7 +55,7 @@ pub(crate) fn read_name<'a>(reader: &mut LongReader<'a>) -> Result<Payload<'a>, 
 /// The name of an entry with this word, as many longwords as its low 24 bits say (The AmigaDOS
 /// Manual, `dos/doshunks.h`).
 ///
-/// Where they are 0 in a word that is not, the name is empty: this profile's own choice.
+/// Where they are 0 in a word that is not, the name is empty: this project's own choice.
 pub(crate) fn read_entry_name<'a>(
     reader: &mut LongReader<'a>,
     word: u32,
@@ -81,5 +81,5 @@ pub(crate) fn read_sized<'a>(reader: &mut LongReader<'a>) -> Result<(u8, Payload
 {
     let size = reader.long()?;
     let payload = reader.payload(size % CONTENT_LIMIT)?;
-    Ok(((size >> 30) as u8, payload))
+    Ok(((size / CONTENT_LIMIT) as u8, payload))
 }

@@ -6,7 +6,7 @@ ghost use Rattle.hunk_blocks.specs.Values.{IsPayload, IsSized};
 ghost use Rattle.hunk_blocks.specs.Parts.{counted_text, sized_text};
 
 use crate::payload::Payload;
-use hunk_words::{PagePrinter, Sink};
+use hunk_words::{CONTENT_LIMIT, PagePrinter, Sink};
 
 /// The longwords of the payload.
 pub(crate) fn print_payload<W: Sink, const ROOM: usize>(
@@ -41,7 +41,7 @@ pub(crate) fn print_sized<W: Sink, const ROOM: usize>(
     requires { IsSized (top, longs payload.now) }
     ensures { Prints page.old page.new (bytes_of (sized_text (top, longs payload.now))) }
 {
-    let size = ((top as u32) << 30) + payload.count() as u32;
+    let size = (top as u32) * CONTENT_LIMIT + payload.count() as u32;
     page.print_long(size);
     print_payload(page, payload);
 }

@@ -43,7 +43,8 @@ impl LoadFile<'_> {
     /// offset, also where longs overlap. It takes memory for `total()` bytes.
     ///
     /// That RELOC32 adds the base of the target is from The AmigaDOS Manual and `dos/doshunks.h`.
-    /// The zero bytes, the order, odd offsets and the sum modulo 2^32 are this profile's own choice.
+    /// The zero bytes, the order, odd offsets and the sum modulo 2^32 are this project's own
+    /// choice.
     ///
     /// # Errors
     ///

@@ -58,7 +58,7 @@ impl Spot {
     }
 }
 
-/// How many bytes an offset of this kind of relocation stands for: this profile's own choice.
+/// How many bytes an offset of this kind of relocation stands for: this project's own choice.
 fn relocation_width(kind: Kind) -> u64
     ensures value { result ≡ relocation_width kind }
     ensures bound { result ≤ 4 }

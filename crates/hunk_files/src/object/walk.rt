@@ -154,7 +154,7 @@ fn read_header(bytes: &[u8]) -> Result<(Payload<'_>, usize), FileFault>
 
 /// The unit in front, up to the next unit or the end of the input, and the number of its bytes.
 ///
-/// A unit may have no hunks: this profile's own choice.
+/// A unit may have no hunks: this project's own choice.
 pub(super) fn read_unit<'a>(alloc: Global, bytes: &'a [u8]) -> Result<(Unit<'a>, usize), FileFault>
     ensures unit { IfOk result (λ r. IsUnit r.0) }
     ensures text { IfOk result (λ r. BeginsWithText bytes.entry.now (unit_text r.0) r.1) }
