@@ -1,6 +1,6 @@
 -- The first longword that is refused.
 use Rattle.std.specs.Prelude.{◌≡◌, ℕ, ◌+◌, ◌≤◌, ◌*◌, ◌-◌, if◌then◌else◌, Bool, true, false, List, ◌++◌, length, take, ◌⊎◌}
-use Rattle.hunk_words.specs.Bits.{header_word}
+use Rattle.hunk_words.specs.Bits.{bss_word, end_word, header_word}
 use Rattle.std.specs.List.{AllByRecursion}
 use Rattle.hunk_words.specs.declared.reason.Reason.{Reason}
 use Rattle.hunk_words.specs.declared.reason.Reason.TheVariants as reasons
@@ -29,7 +29,7 @@ abbrev pub completing : Role → ℕ
 completing roles.FirstLong = header_word
 completing roles.TableSize = 1
 completing (roles.LastHunk hunks) = hunks - 1
-completing (InBlock p parts.BlockWord) = if p.has_content then 0x3F2 else 0x3EB
+completing (InBlock p parts.BlockWord) = if p.has_content then end_word else bss_word
 completing _ = 0
 
 -- A load text begins with these longwords, and goes on as it is completed.

@@ -65,20 +65,28 @@ unit_word = 0x3E7
 abbrev pub library_word : ℕ
 library_word = 0x3FA
 
+-- the block word of a BSS block, without flags
+abbrev pub bss_word : ℕ
+bss_word = 0x3EB
+
+-- the block word with which each hunk ends, without flags
+abbrev pub end_word : ℕ
+end_word = 0x3F2
+
 abbrev pub kind_of_number : ℕ → Kind
 kind_of_number n =
     if n == unit_word then kinds.Unit
     else if n == 0x3E8 then kinds.Name
     else if n == 0x3E9 then kinds.Code
     else if n == 0x3EA then kinds.Data
-    else if n == 0x3EB then kinds.Bss
+    else if n == bss_word then kinds.Bss
     else if n == 0x3EC then kinds.Reloc32
     else if n == 0x3ED then kinds.Reloc16
     else if n == 0x3EE then kinds.Reloc8
     else if n == 0x3EF then kinds.Ext
     else if n == 0x3F0 then kinds.Symbol
     else if n == 0x3F1 then kinds.Debug
-    else if n == 0x3F2 then kinds.End
+    else if n == end_word then kinds.End
     else if n == header_word then kinds.Header
     else if n == 0x3F5 then kinds.Overlay
     else if n == 0x3F6 then kinds.Break
