@@ -1,4 +1,5 @@
 //! What loaders hold, by what the allocator still gives beside them.
+ghost use Rattle.std.specs.Prelude.{None, false};
 
 use hunk_scatter::{BodyLoader, Declared, HeaderLoader, Image, Limits, Packed, load};
 use hunk_testing::{bytes_of, largest_piece, left_beside, memory_ends, spelled};
