@@ -15,7 +15,7 @@ use hunk_words::Fault;
 pub(crate) fn read_body(loader: BodyLoader, bytes: &[u8]) -> Result<(Image, usize), Fault>
     requires room { length loader.fed + length bytes.now < 2 ^ 64 }
     requires reading { loader.refused ≡ None }
-    ensures within { IfOk result (λ read. read.1 ≤ length bytes.now) }
+    ensures inside { IfOk result (λ read. read.1 ≤ length bytes.now) }
     ensures image { IfOk result
         (λ read. IsImageOf loader.rows (loader.fed ++ take read.1 bytes.now) read.0.segments) }
     ensures rows { IfOk result (λ read. read.0.rows ≡ loader.rows) }

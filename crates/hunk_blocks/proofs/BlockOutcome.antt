@@ -11,7 +11,7 @@ use Rattle.hunk_blocks.specs.Parts.{Part, Part as parts, body_parts, block_parts
 use Rattle.hunk_blocks.specs.Modes.{IsOfMode, refuse_inside, refuse_alone_word}
 use Rattle.hunk_blocks.specs.Begins.{BeginsWithBlock, BeginsWithNoBlock}
 use Rattle.hunk_blocks.specs.Faults.{words, Expects, IsFront, refuse_alone, blocks, HasBlockFault}
-use Rattle.hunk_blocks.specs.BlockSteps.{Inside, BlockNext, Open, Whole, part_of, step_inside, begin, Follows}
+use Rattle.hunk_blocks.specs.BlockSteps.{Inside, BlockNext, Open, Whole, part_of, step_inside, begin_body, Follows}
 use Rattle.hunk_blocks.proofs.Admitted.{block, kind_admitted, of_mode}
 use Rattle.hunk_blocks.proofs.BlockCompletion.{completes, run_fits}
 use Rattle.hunk_blocks.proofs.BlockLongs.{block_longs}
@@ -70,7 +70,7 @@ module _ (mode : Mode) where
             ∙ ap (λ ys. word ∷ ys) (sym (words-append (read_inside x) ((part_of x, w) ∷ [])) ∙ sym (ap words (step_reads word x w h.inside ok)));
       }
 
-  pub begins_inside : (w : ℕ) → IsLong w → refuse_alone_word mode w ≡ None → Inner mode (begin (kind w)) w (w ∷ [])
+  pub begins_inside : (w : ℕ) → IsLong w → refuse_alone_word mode w ≡ None → Inner mode (begin_body (kind w)) w (w ∷ [])
   begins_inside w l ok =
       record {
         fits = l;
@@ -94,7 +94,7 @@ module _ (mode : Mode) where
       go : (s : Alone) (before : List ℕ) (role : Part) (w : ℕ) → SoFar s before → alone.expects s ≡ Some role → IsLong w → refuse_alone mode role w ≡ None → SoFar (alone.step s w) (before ++ w ∷ [])
       go AtWord before role w h e l ok =
           let same : parts.BlockWord ≡ role = cc in
-          (w, subst (λ ws. Inner mode (begin (kind w)) w (ws ++ w ∷ [])) (sym h) (begins_inside w l (ap (λ (r : Part). refuse_alone mode r w) same ∙ ok)))
+          (w, subst (λ ws. Inner mode (begin_body (kind w)) w (ws ++ w ∷ [])) (sym h) (begins_inside w l (ap (λ (r : Part). refuse_alone mode r w) same ∙ ok)))
       go (Behind (Open x)) before role w h e l ok =
           let same : part_of x ≡ role = cc in
           (h.0, steps_inside x h.0 before w h.1 l (sym (alone_inside mode (part_of x) w (part_not_word x)) ∙ ap (λ (r : Part). refuse_alone mode r w) same ∙ ok))

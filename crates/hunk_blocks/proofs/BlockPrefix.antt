@@ -3,7 +3,7 @@ use Rattle.std.proofs.Common.{◌≡◌, ℕ, List, [], ◌∷◌, ◌++◌, sym
 use Rattle.hunk_words.specs.Bits.{kind}
 use Rattle.hunk_blocks.specs.Values.{BlockBody, BlockValue, IsBlock}
 use Rattle.hunk_blocks.specs.Parts.{Part, longs_of, body_parts, block_text}
-use Rattle.hunk_blocks.specs.BlockSteps.{BlockNext, Open, Whole, step_inside, begin, Follows}
+use Rattle.hunk_blocks.specs.BlockSteps.{BlockNext, Open, Whole, step_inside, begin_body, Follows}
 use Rattle.hunk_blocks.proofs.BlockText.{body_follows}
 
 abbrev Parts : Type 0
@@ -29,9 +29,9 @@ block_same a b more other ha hb e =
     let word : a.word ≡ b.word = cc in
     let rest : longs_of (body_parts a.body) ++ more ≡ longs_of (body_parts b.body) ++ other = cc in
     let end =
-    whole_is_end (begin (kind a.word)) a.body b.body (body_parts a.body) (body_parts b.body) more other
+    whole_is_end (begin_body (kind a.word)) a.body b.body (body_parts a.body) (body_parts b.body) more other
     (body_follows a.word a.body ha.body)
-    (subst (λ (w : ℕ). Follows (begin (kind w)) (body_parts b.body) (Whole b.body)) (sym word) (body_follows b.word b.body hb.body))
+    (subst (λ (w : ℕ). Follows (begin_body (kind w)) (body_parts b.body) (Whole b.body)) (sym word) (body_follows b.word b.body hb.body))
     rest in
     ((λ i. record { word = word i; body = end.0 i }), end.1)
 

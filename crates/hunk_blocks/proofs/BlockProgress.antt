@@ -15,7 +15,7 @@ use Rattle.hunk_blocks.specs.ExtKinds.{ext_shape}
 use Rattle.hunk_blocks.specs.Values.{RelocGroup, ExtEntry, SymbolEntry, FitsShape, FitsWord, IsGroup, IsExtEntry, IsSymbolEntry, is_unknown, is_relocation}
 use Rattle.hunk_blocks.specs.Parts.{Part, Part as parts, each, group_parts, ext_parts, ext_parts_by, symbol_parts, body_parts}
 use Rattle.hunk_blocks.specs.Modes.{refuse_inside, refuse_shape, refuse_alone_kind}
-use Rattle.hunk_blocks.specs.BlockSteps.{Counting, ForName, ForDebug, ForAdvisory, Sizing, ForCode, ForData, ForBss, Filling, Counted, SizedCode, SizedData, Inside, AtCount, AtSize, InPayload, AtGroup, AtTarget, InOffsets, AtEntry, InName, AtValue, AtExtWord, InExtName, AtExtValue, AtExtSize, AtExtCount, InExtOffsets, BlockNext, Open, Whole, group, entry, external, count_part, part_of, step_inside, fill, relocate, name_entry, sized_by, grouped, entered, shaped, name_external, refer, listed, begin}
+use Rattle.hunk_blocks.specs.BlockSteps.{Counting, ForName, ForDebug, ForAdvisory, Sizing, ForCode, ForData, ForBss, Filling, Counted, SizedCode, SizedData, Inside, AtCount, AtSize, InPayload, AtGroup, AtTarget, InOffsets, AtEntry, InName, AtValue, AtExtWord, InExtName, AtExtValue, AtExtSize, AtExtCount, InExtOffsets, BlockNext, Open, Whole, group, entry, external, count_part, part_of, step_inside, fill, relocate, name_entry, sized_by, grouped, entered, shaped, name_external, refer, listed, begin_body}
 use Rattle.hunk_blocks.proofs.Lists.{All-more, map-more, flat_map-more, more_owed, more-not-nil, passed_true}
 
 -- ---- the text so far
@@ -279,7 +279,7 @@ module _ (word : ℕ) where
       refer_fits entries word name value (done ++ w ∷ []) owed h.0 h.1 (omega (arith, h.2, more_owed done w owed)) (All-more IsLong done w h.3 l)
 
 -- Behind a block word that is not refused the block fits.
-pub begin_fits : (mode : Mode) (word : ℕ) (k : Kind) → kind word ≡ k → refuse_alone_kind mode (is_advisory word) k ≡ None → NextFits word (begin k)
+pub begin_fits : (mode : Mode) (word : ℕ) (k : Kind) → kind word ≡ k → refuse_alone_kind mode (is_advisory word) k ≡ None → NextFits word (begin_body k)
 begin_fits mode word kinds.Name e ok = e
 begin_fits mode word kinds.Code e ok = e
 begin_fits mode word kinds.Data e ok = e
@@ -374,7 +374,7 @@ step_reads blockword (InExtOffsets entries word name value done owed) w h ok =
     ∙ ap (λ (l : List (Part × ℕ)). external_so_far entries word name ++ size_parts (ext_shape (word / 2 ^ 24)) value ++ (parts.OffsetCount, length done + suc owed) ∷ l) (map-more (λ (x : ℕ). (parts.Offset, x)) done w)
     ∙ sym (append_assoc (external_so_far entries word name ++ size_parts (ext_shape (word / 2 ^ 24)) value) ((parts.OffsetCount, length done + suc owed) ∷ each parts.Offset done) ((parts.Offset, w) ∷ []))
 
-pub begin_reads : (k : Kind) → read_next (begin k) ≡ []
+pub begin_reads : (k : Kind) → read_next (begin_body k) ≡ []
 begin_reads kinds.Name = refl
 begin_reads kinds.Code = refl
 begin_reads kinds.Data = refl

@@ -10,7 +10,7 @@ use Rattle.hunk_blocks.specs.declared.ext_shape.ExtShape.TheVariants.{Definition
 use Rattle.hunk_blocks.specs.ExtKinds.{ext_shape}
 use Rattle.hunk_blocks.specs.Values.{RelocGroup, ExtEntry, SymbolEntry, FitsShape, BlockBody, Name, Code, Data, Bss, Reloc, Ext, Symbol, Debug, Advisory, End, FitsWord, IsGroup, IsExtEntry, IsSymbolEntry, is_unknown, is_relocation}
 use Rattle.hunk_blocks.specs.Parts.{Part, Part as parts, each, group_parts, ext_parts, ext_parts_by, symbol_parts, body_parts}
-use Rattle.hunk_blocks.specs.BlockSteps.{ForName, ForDebug, ForAdvisory, Filling, Counted, SizedCode, SizedData, AtCount, AtGroup, AtEntry, AtValue, AtExtWord, BlockNext, Open, Whole, group, entry, external, step_inside, fill, filled_body, relocate, name_entry, entered, shaped, name_external, refer, listed, begin, Follows}
+use Rattle.hunk_blocks.specs.BlockSteps.{ForName, ForDebug, ForAdvisory, Filling, Counted, SizedCode, SizedData, AtCount, AtGroup, AtEntry, AtValue, AtExtWord, BlockNext, Open, Whole, group, entry, external, step_inside, fill, filled_body, relocate, name_entry, entered, shaped, name_external, refer, listed, begin_body, Follows}
 
 pub Follows-append : (a b c : BlockNext) (ps qs : List (Part × ℕ)) → Follows a ps b → Follows b qs c → Follows a (ps ++ qs) c
 Follows-append a b c [] qs h k = subst (λ (x : BlockNext). Follows x qs c) (sym h) k
@@ -113,7 +113,7 @@ externals_follow entries (e ∷ more) h =
 
 -- ---- every body
 
-begin_relocation : (k : Kind) → IsTrue (is_relocation k) → begin k ≡ Open (AtGroup [])
+begin_relocation : (k : Kind) → IsTrue (is_relocation k) → begin_body k ≡ Open (AtGroup [])
 begin_relocation kinds.Reloc32 h = refl
 begin_relocation kinds.Reloc16 h = refl
 begin_relocation kinds.Reloc8 h = refl
@@ -124,7 +124,7 @@ begin_relocation kinds.RelReloc32 h = refl
 begin_relocation kinds.AbsReloc16 h = refl
 begin_relocation _ h = absurd cc
 
-begin_unknown : (k : Kind) → IsTrue (is_unknown k) → begin k ≡ Open (AtCount ForAdvisory)
+begin_unknown : (k : Kind) → IsTrue (is_unknown k) → begin_body k ≡ Open (AtCount ForAdvisory)
 begin_unknown (kinds.Unknown n) h = refl
 begin_unknown kinds.Unit h = absurd cc
 begin_unknown _ h = absurd cc
@@ -137,7 +137,7 @@ longs_of_size : (top n : ℕ) → n < 2 ^ 30 → (top * 2 ^ 30 + n) % 2 ^ 30 ≡
 longs_of_size top n h = omega arith
 
 -- The text of a body leads from the block's word to the whole block.
-pub body_follows : (word : ℕ) (body : BlockBody) → FitsWord word body → Follows (begin (kind word)) (body_parts body) (Whole body)
+pub body_follows : (word : ℕ) (body : BlockBody) → FitsWord word body → Follows (begin_body (kind word)) (body_parts body) (Whole body)
 body_follows word (Name words) h = rw h.0 (refl, payload_follows (Counted ForName) [] words)
 body_follows word (Code top words) h =
     rw h.0 (refl, rw (top_of_size top (length words) h.2.0, longs_of_size top (length words) h.2.0) (payload_follows (SizedCode top) [] words))

@@ -19,7 +19,7 @@ use Rattle.hunk_blocks.specs.Faults.{HasBlockFault, HasRefusal, IsFrontTo, IsTru
 use Rattle.hunk_blocks.proofs.Admitted.{word_passes}
 use Rattle.hunk_blocks.proofs.ExtLaws.{end_passes}
 use Rattle.hunk_blocks.proofs.BlockLongs.{block_longs}
-use Rattle.hunk_blocks.specs.BlockSteps.{ForName, ForDebug, ForAdvisory, Inside, AtCount, BlockNext, Open, Whole, part_of, step_inside, begin, Follows}
+use Rattle.hunk_blocks.specs.BlockSteps.{ForName, ForDebug, ForAdvisory, Inside, AtCount, BlockNext, Open, Whole, part_of, step_inside, begin_body, Follows}
 use Rattle.hunk_blocks.proofs.BlockText.{body_follows}
 use Rattle.hunk_blocks.proofs.FaultScan.{Machine, Leads, Passes, Reads, one_fault as one_of, fault_behind, front_passes, whole_passes}
 use Rattle.hunk_blocks.proofs.Lists.{All-append, passes_then}
@@ -95,7 +95,7 @@ expects (Behind (Open x)) = Some (part_of x)
 expects (Behind (Whole b)) = None
 
 abbrev pub step : Alone → ℕ → Alone
-step AtWord w = Behind (begin (kind w))
+step AtWord w = Behind (begin_body (kind w))
 step (Behind (Open x)) w = Behind (step_inside x w)
 step (Behind (Whole b)) w = Behind (Whole b)
 
@@ -137,7 +137,7 @@ pub block_reads : (mode : Mode) → Reads (blocks mode) alone
 block_reads mode =
     record {
       end = λ b. Behind (Whole b.body);
-      leads = λ b h. (refl, follows_leads (begin (kind b.word)) (Whole b.body) (body_parts b.body) (body_follows b.word b.body h.0.body));
+      leads = λ b h. (refl, follows_leads (begin_body (kind b.word)) (Whole b.body) (body_parts b.body) (body_follows b.word b.body h.0.body));
       passes = λ b h. (word_passes mode b h.0 h.1, alone_passes mode (body_parts b.body) (body_passes b.word b.body h.0.body));
     }
 

@@ -159,24 +159,24 @@ step_inside (AtExtCount entries word name value) w = refer entries word name val
 step_inside (InExtOffsets entries word name value done owed) w = refer entries word name value (done ++ w ∷ []) owed
 
 -- after the word of a block; the kinds that are refused do not matter
-abbrev pub begin : Kind → BlockNext
-begin kinds.Name = Open (AtCount ForName)
-begin kinds.Code = Open (AtSize ForCode)
-begin kinds.Data = Open (AtSize ForData)
-begin kinds.Bss = Open (AtSize ForBss)
-begin kinds.Reloc32 = Open (AtGroup [])
-begin kinds.Reloc16 = Open (AtGroup [])
-begin kinds.Reloc8 = Open (AtGroup [])
-begin kinds.Drel32 = Open (AtGroup [])
-begin kinds.Drel16 = Open (AtGroup [])
-begin kinds.Drel8 = Open (AtGroup [])
-begin kinds.RelReloc32 = Open (AtGroup [])
-begin kinds.AbsReloc16 = Open (AtGroup [])
-begin kinds.Ext = Open (AtExtWord [])
-begin kinds.Symbol = Open (AtEntry [])
-begin kinds.Debug = Open (AtCount ForDebug)
-begin (kinds.Unknown n) = Open (AtCount ForAdvisory)
-begin _ = Whole End
+abbrev pub begin_body : Kind → BlockNext
+begin_body kinds.Name = Open (AtCount ForName)
+begin_body kinds.Code = Open (AtSize ForCode)
+begin_body kinds.Data = Open (AtSize ForData)
+begin_body kinds.Bss = Open (AtSize ForBss)
+begin_body kinds.Reloc32 = Open (AtGroup [])
+begin_body kinds.Reloc16 = Open (AtGroup [])
+begin_body kinds.Reloc8 = Open (AtGroup [])
+begin_body kinds.Drel32 = Open (AtGroup [])
+begin_body kinds.Drel16 = Open (AtGroup [])
+begin_body kinds.Drel8 = Open (AtGroup [])
+begin_body kinds.RelReloc32 = Open (AtGroup [])
+begin_body kinds.AbsReloc16 = Open (AtGroup [])
+begin_body kinds.Ext = Open (AtExtWord [])
+begin_body kinds.Symbol = Open (AtEntry [])
+begin_body kinds.Debug = Open (AtCount ForDebug)
+begin_body (kinds.Unknown n) = Open (AtCount ForAdvisory)
+begin_body _ = Whole End
 
 -- ---- runs
 

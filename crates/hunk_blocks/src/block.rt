@@ -90,7 +90,7 @@ impl<'a> Block<'a> {
             HasBlockFault mode bytes.entry.now at reason → fault.place < at) }
         ensures truncated { IfErr result (λ fault. fault.reason ≡ reasons.Truncated →
             fault.place ≡ 4 * length (longs bytes.entry.now)) }
-        ensures word { (reason : Reason) → 4 ≤ length bytes.entry.now →
+        ensures first_word { (reason : Reason) → 4 ≤ length bytes.entry.now →
             refuse_alone_word mode (first_long bytes.entry.now) ≡ Some reason →
             result ≡ Err (record { place = 0; reason = reason }) }
     {

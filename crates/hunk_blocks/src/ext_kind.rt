@@ -125,7 +125,7 @@ impl ExtKind {
     /// digits.
     pub fn name(self) -> &'static str
         ensures value { result.now ≡ ext_name self }
-        ensures short { length result.now ≤ 9 }
+        ensures bound { length result.now ≤ 9 }
     {
         match self {
             ExtKind::Symb => "SYMB",

@@ -5,8 +5,9 @@ use Rattle.hunk_blocks.specs.Values.{BlockValue}
 use Rattle.hunk_blocks.specs.Parts.{block_text}
 use Rattle.hunk_words.specs.Longs.{bytes_of}
 use Rattle.hunk_words.proofs.LongLaws.{length-bytes_of}
+use Rattle.hunk_blocks.specs.Faults.{words}
 use Rattle.hunk_files.specs.LoadFile.{LoadFileValue, TableEntry}
-use Rattle.hunk_files.specs.LoadText.{header_labelled, table, text, words}
+use Rattle.hunk_files.specs.LoadText.{header_labelled, table, text}
 use Rattle.hunk_files.specs.Hunks.{block_texts}
 use Rattle.hunk_files.specs.Tables.{hunk_texts}
 use Rattle.hunk_files.specs.ObjectFile.{ObjectFileValue, ObjectHunk, object_text, unit_header, unit_text}

@@ -19,8 +19,8 @@ const MOST: usize = 1 << 56;
 /// The fault of the bytes, unchanged; `Memory` where memory was refused, and for more bytes than
 /// `MOST`.
 pub(crate) fn decode_file(alloc: Global, bytes: &[u8]) -> Result<HunkFile<'_>, RunFault>
-    ensures ok { IfOk result (IsFileOf bytes.entry.now) }
-    ensures few { OnOk result (length bytes.entry.now ≤ 2 ^ 56) }
+    ensures file { IfOk result (IsFileOf bytes.entry.now) }
+    ensures bound { OnOk result (length bytes.entry.now ≤ 2 ^ 56) }
     ensures none { IfErr result (λ fault. (fault ≡ Memory) ⊎ (AreFile bytes.entry.now → ⊥)) }
     ensures refused { IfErr result (λ fault. RefusesBytes fault bytes.entry.now) }
 {

@@ -153,7 +153,7 @@ pub fn unhex(alloc: Global, text: &[u8]) -> Result<Vec<u8>, RunFault>
 pub fn read_hex<S: Source>(alloc: Global, source: &mut S, most: u64) -> Result<Vec<u8>, RunFault>
     ensures spelled { IfOk result
         (λ bytes. ReadsHex (S.left source.old) (S.left source.new) most bytes.items) }
-    ensures err { IfErr result
+    ensures refuses { IfErr result
         (λ fault. ReadsNoHex fault (S.left source.old) (S.left source.new) most
         (S.failed source.new)) }
     ensures within { GivesAtMost (S.left source.old) (S.left source.new) most }

@@ -42,7 +42,7 @@ impl Taker for Vec<u8> {
 pub fn read_whole<S: Source>(alloc: Global, source: &mut S, most: u64) -> Result<Vec<u8>, RunFault>
     ensures reads { IfOk result
         (λ bytes. ReadsWhole (S.left source.old) (S.left source.new) most bytes.items) }
-    ensures run { ReadsAtMost S.left S.failed source.old source.new most result }
+    ensures reads_at_most { ReadsAtMost S.left S.failed source.old source.new most result }
 {
     let mut held = Vec::new(alloc);
     read_all(source, most, &mut held)?;
@@ -59,7 +59,7 @@ pub(crate) fn read_all<S: Source, T: Taker>(
     requires { T.took taker.old ≡ [] }
     ensures reads { OnOk result
         (ReadsWhole (S.left source.old) (S.left source.new) most (T.took taker.new)) }
-    ensures run { ReadsAtMost S.left S.failed source.old source.new most result }
+    ensures reads_at_most { ReadsAtMost S.left S.failed source.old source.new most result }
 {
     let mut buf = [0u8; PIECE];
     let mut count = 0u64;

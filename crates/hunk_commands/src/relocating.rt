@@ -52,7 +52,7 @@ pub fn relocate<R: Source, W: Sink>(
     base: u32,
 ) -> Result<(), RunFault>
     requires { w.old.written ≡ 0 }
-    ensures ok { OnOk result (RelocatesAll base limits.budget limits.file_bytes
+    ensures relocates { OnOk result (RelocatesAll base limits.budget limits.file_bytes
         (R.left r.old) (R.left r.new) (W.taken w.old.sink) (W.taken w.new.sink) w.new.written) }
     ensures succeeds { HasFileWithin (packed_from base) limits (R.left r.old) → R.failed r.new ≡ false
         → W.failed w.new.sink ≡ false → IfErr result (λ fault. fault ≡ Memory) }
@@ -70,7 +70,7 @@ pub fn relocate<R: Source, W: Sink>(
         (Relocates base limits.budget limits.file_bytes
         (R.left r.old) (R.left r.new) (W.taken w.old.sink) (W.taken w.new.sink))) }
     ensures fails { IfErr result (StopsOutput W.failed w.old w.new) }
-    ensures quiet { OnOk result (W.failed w.new.sink ≡ W.failed w.old.sink) }
+    ensures no_failure { OnOk result (W.failed w.new.sink ≡ W.failed w.old.sink) }
 
     ensures over_budget { (input : List ℕ) (at : ℕ) → R.left r.old ≡ Some input
         → R.failed r.new ≡ false

@@ -45,7 +45,7 @@ pub fn rewrite<R: Source, W: Sink>(
     strip: bool,
 ) -> Result<Rewritten, RunFault>
     requires { w.old.written ≡ 0 }
-    ensures ok { IfOk result (λ done. WritesAll (IsRewritten strip done.rest)
+    ensures rewrites { IfOk result (λ done. WritesAll (IsRewritten strip done.rest)
         (R.left r.old) (R.left r.new) file_bytes
         (W.taken w.old.sink) (W.taken w.new.sink) done.written) }
     ensures written { IfOk result (λ done. done.written ≡ w.new.written) }
@@ -54,7 +54,7 @@ pub fn rewrite<R: Source, W: Sink>(
     // says what is read and when nothing fails, after another one nothing has.
     ensures write { IfErr result (StopsAtWrite w.new.written (Writes (IsRewriting strip)
         (R.left r.old) (R.left r.new) file_bytes (W.taken w.old.sink) (W.taken w.new.sink))) }
-    ensures run { ReadsThenPuts R.left R.failed r.old r.new file_bytes W.failed w.old w.new result }
+    ensures reads_then_puts { ReadsThenPuts R.left R.failed r.old r.new file_bytes W.failed w.old w.new result }
 {
     let input = read_whole(alloc, r, file_bytes)?;
     let file = decode_file(alloc, input.as_slice())?;

@@ -36,7 +36,7 @@ pub fn show<R: Source, W: Sink>(
     file_bytes: u64,
 ) -> Result<(), RunFault>
     requires { w.old.written ≡ 0 }
-    ensures ok { OnOk result (WritesAll IsShown
+    ensures shows { OnOk result (WritesAll IsShown
         (R.left r.old) (R.left r.new) file_bytes
         (W.taken w.old.sink) (W.taken w.new.sink) w.new.written) }
 
@@ -44,7 +44,7 @@ pub fn show<R: Source, W: Sink>(
     // says what is read and when nothing fails, after another one nothing has.
     ensures write { IfErr result (StopsAtWrite w.new.written (Writes IsShown
         (R.left r.old) (R.left r.new) file_bytes (W.taken w.old.sink) (W.taken w.new.sink))) }
-    ensures run { ReadsThenPuts R.left R.failed r.old r.new file_bytes W.failed w.old w.new result }
+    ensures reads_then_puts { ReadsThenPuts R.left R.failed r.old r.new file_bytes W.failed w.old w.new result }
 {
     let input = read_whole(alloc, r, file_bytes)?;
     let file = decode_file(alloc, input.as_slice())?;

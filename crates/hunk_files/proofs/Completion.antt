@@ -8,16 +8,16 @@ use Rattle.hunk_words.specs.Bits.{kind}
 use Rattle.hunk_words.specs.Longs.{IsLong}
 use Rattle.hunk_blocks.specs.Values.{RelocGroup, BlockBody, BlockValue, Name, Code, Data, Bss, Reloc, Symbol, Debug, Advisory, End}
 use Rattle.hunk_blocks.specs.Parts.{Part, Part as parts, each}
+use Rattle.hunk_blocks.specs.Faults.{words}
 use Rattle.hunk_files.specs.LoadFile.{TableEntry, HunkValue, LoadFileValue, standing}
 use Rattle.hunk_scan.specs.Standings.{BlockStanding, Beside, Content, Relocating, Ending, is_content}
 use Rattle.hunk_scan.specs.Roles.{Place, Role, InBlock, refuse, refuse_part}
-use Rattle.hunk_files.specs.LoadText.{words}
 use Rattle.hunk_files.specs.Fault.{completing}
 use Rattle.hunk_blocks.specs.BlockSteps.{ForName, ForDebug, ForAdvisory, ForCode, ForData, ForBss, Filling, Counted, SizedCode, SizedData, Inside, AtCount, AtSize, InPayload, AtGroup, AtTarget, InOffsets, AtEntry, InName, AtValue, Open, Whole, group, count_part, fill, filled_body, relocate, name_entry, Follows}
 use Rattle.hunk_blocks.proofs.BlockText.{Follows-append, payload_follows, offsets_follow, name_follows}
 use Rattle.hunk_files.proofs.HunkProgress.{Fits, Within}
 use Rattle.hunk_files.proofs.FileText.{in_place, Follows-leads, Leads-append}
-use Rattle.hunk_files.specs.FileSteps.{table_entry, hunk, block, HunkSoFar, Progress, AtFirst, AtResident, AtTableSize, AtFirstHunk, AtLastHunk, AtSizeWord, AtAttributes, AtBlock, InBody, Next, More, Finished, place_of, role_of, open_hunk, rows, with_block, close_by, close, step, Leads}
+use Rattle.hunk_files.specs.FileSteps.{table_entry, hunk, block, HunkSoFar, Progress, AtFirst, AtResident, AtTableSize, AtFirstHunk, AtLastHunk, AtSizeWord, AtAttributes, AtBlock, InBody, Next, More, Finished, place_of, role_of, open_hunk, rows, with_block, close_by, close, step_file, Leads}
 use Rattle.hunk_files.proofs.FileProgress.{ProgressFits, NextFits}
 use Rattle.hunk_blocks.proofs.Lists.{more_owed, passes_else, passes_then, All-append}
 use Rattle.hunk_files.specs.WordsRead.{Labelled, IsAccepted}
@@ -93,7 +93,7 @@ pub record Completes (n : Next) (ws : List ℕ) : Type 0 where
 Completes-as : (n : Next) {ws xs : List ℕ} → ws ≡ xs → Completes n ws → Completes n xs
 Completes-as n {ws} {xs} e c = subst (λ (ys : List ℕ). Completes n ys) e c
 
-on_step : (p : Progress) (w : ℕ) (ws : List ℕ) → IsLong w → refuse (role_of p) w ≡ None → w ≡ completing (role_of p) → Completes (step p w) ws → Completes (More p) (w ∷ ws)
+on_step : (p : Progress) (w : ℕ) (ws : List ℕ) → IsLong w → refuse (role_of p) w ≡ None → w ≡ completing (role_of p) → Completes (step_file p w) ws → Completes (More p) (w ∷ ws)
 on_step p w ws l ok e c = record {
   value = c.value;
   labels = (role_of p, w) ∷ c.labels;

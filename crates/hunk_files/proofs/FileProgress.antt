@@ -14,13 +14,13 @@ use Rattle.hunk_blocks.specs.Parts.{Part, Part as parts}
 use Rattle.hunk_files.specs.LoadFile.{TableEntry, HunkValue, IsTableEntry, standing, AreInOrder, IsHunkBlock, IsHunk, IsLoadFile}
 use Rattle.hunk_scan.specs.Standings.{BlockStanding, Content, Relocating, Ending, is_content}
 use Rattle.hunk_scan.specs.Roles.{Place, Role, InBlock, refuse, refuse_part, refuse_kind, Role as roles}
-use Rattle.hunk_files.specs.LoadText.{entry_labelled, block_labelled, blocks_labelled, hunk_labelled, labelled, entries}
-use Rattle.hunk_blocks.specs.BlockSteps.{BlockNext, Open, Whole, part_of, step_inside, begin}
+use Rattle.hunk_files.specs.LoadText.{entry_labelled, block_labelled, blocks_labelled, hunk_labelled, labelled, table}
+use Rattle.hunk_blocks.specs.BlockSteps.{BlockNext, Open, Whole, part_of, step_inside, begin_body}
 use Rattle.hunk_blocks.proofs.BlockProgress.{read_inside, read_next, step_reads, begin_reads}
 use Rattle.hunk_files.proofs.HunkProgress.{BodyFits, begin_fits, step_fits, alone_passes}
 use Rattle.hunk_files.proofs.HunkProgress as blocks
 use Rattle.hunk_files.proofs.FileText.{in_place, standings}
-use Rattle.hunk_files.specs.FileSteps.{table_entry, hunk, block, HunkSoFar, Progress, AtFirst, AtResident, AtTableSize, AtFirstHunk, AtLastHunk, AtSizeWord, AtAttributes, AtBlock, InBody, Next, More, Finished, place_of, role_of, open_hunk, rows, with_block, close, after, sized_row, step}
+use Rattle.hunk_files.specs.FileSteps.{table_entry, hunk, block, HunkSoFar, Progress, AtFirst, AtResident, AtTableSize, AtFirstHunk, AtLastHunk, AtSizeWord, AtAttributes, AtBlock, InBody, Next, More, Finished, place_of, role_of, open_hunk, rows, with_block, close, after, sized_row, step_file}
 use Rattle.hunk_blocks.proofs.Lists.{All-more, map-more, flat_map-more, more_owed, passed_false, passed_true, passed_both, passes_else, passes_then}
 use Rattle.std.proofs.Math.Bool.{or-false, or-true}
 use Rattle.hunk_files.specs.WordsRead.{Labelled}
@@ -38,7 +38,7 @@ front hunks t finished = header_so_far hunks t ++ flat_map (hunk_labelled hunks)
 
 abbrev pub open_so_far : HunkSoFar → List (Role × ℕ)
 open_so_far o =
-    front o.hunks (entries o.finished ++ o.entry ∷ o.ahead) o.finished ++ blocks_labelled o.hunks (size_longs o.entry.word) false o.blocks
+    front o.hunks (table o.finished ++ o.entry ∷ o.ahead) o.finished ++ blocks_labelled o.hunks (size_longs o.entry.word) false o.blocks
 
 abbrev pub read_progress : Progress → List (Role × ℕ)
 read_progress AtFirst = []
@@ -121,22 +121,22 @@ Reads n ls = NextFits n × (read n ≡ ls)
 Reads-as : (n : Next) {ls ms : Labelled} → ls ≡ ms → Reads n ls → Reads n ms
 Reads-as n e h = (h.0, h.1 ∙ e)
 
-finished_reads : (hunks : ℕ) (finished : List HunkValue) → length finished ≡ hunks → labelled finished ≡ front hunks (entries finished) finished
+finished_reads : (hunks : ℕ) (finished : List HunkValue) → length finished ≡ hunks → labelled finished ≡ front hunks (table finished) finished
 unfolding labelled
 finished_reads hunks finished e =
-    ap (λ (n : ℕ). header_so_far n (entries finished) ++ flat_map (hunk_labelled (length finished)) finished) (length-map finished (λ h. h.entry))
-    ∙ ap (λ (n : ℕ). front n (entries finished) finished) e
+    ap (λ (n : ℕ). header_so_far n (table finished) ++ flat_map (hunk_labelled (length finished)) finished) (length-map finished (λ h. h.entry))
+    ∙ ap (λ (n : ℕ). front n (table finished) finished) e
 
-open_hunk_reads : (hunks : ℕ) (finished : List HunkValue) (ahead : List TableEntry) → FrontFits hunks finished ahead → Reads (open_hunk hunks finished ahead) (front hunks (entries finished ++ ahead) finished)
+open_hunk_reads : (hunks : ℕ) (finished : List HunkValue) (ahead : List TableEntry) → FrontFits hunks finished ahead → Reads (open_hunk hunks finished ahead) (front hunks (table finished ++ ahead) finished)
 open_hunk_reads hunks finished [] h = (
   go hunks (omega (arith, h.counts)) h.hunks_fit h.finished_fit,
-  finished_reads hunks finished (omega (arith, h.counts)) ∙ ap (λ (t : List TableEntry). front hunks t finished) (sym (append-nil (entries finished))),
+  finished_reads hunks finished (omega (arith, h.counts)) ∙ ap (λ (t : List TableEntry). front hunks t finished) (sym (append-nil (table finished))),
 )
   where
     go : (n : ℕ) → length finished ≡ n → HunksFit n → AllByRecursion (IsHunk n) finished → IsLoadFile finished
     go n e f all = record { some = omega (arith, f.0); most = omega (arith, f.1); each = subst (λ (m : ℕ). AllByRecursion (IsHunk m) finished) (sym e) all }
 open_hunk_reads hunks finished (e ∷ ahead) h =
-    (record { front_fits = h; blocks_fit = tt; content_is = refl; in_order = λ later o. o }, append-nil (front hunks (entries finished ++ e ∷ ahead) finished))
+    (record { front_fits = h; blocks_fit = tt; content_is = refl; in_order = λ later o. o }, append-nil (front hunks (table finished ++ e ∷ ahead) finished))
 
 rows_read : (hunks : ℕ) (done : List TableEntry) (owed : ℕ) → RowsFit hunks done owed → Reads (rows hunks done owed) (header_so_far hunks done)
 rows_read hunks done zero h =
@@ -163,8 +163,8 @@ module _ (o : HunkSoFar) (h : OpenFits o) (b : BlockValue) (fits : IsHunkBlock o
       content_is = e ∙ ap (λ (c : Bool). c || is_content (standing b.body)) h.content_is ∙ sym (content_in-more false o.blocks b);
       in_order = λ later ok. subst (λ (s : List BlockStanding). AreInOrder false s) (sym (in_standings later)) (h.in_order (standing b.body ∷ later) (order later ok));
     },
-    ap (λ (l : Labelled). front o.hunks (entries o.finished ++ o.entry ∷ o.ahead) o.finished ++ l) one_more_reads
-        ∙ sym (append_assoc (front o.hunks (entries o.finished ++ o.entry ∷ o.ahead) o.finished) (blocks_labelled o.hunks (size_longs o.entry.word) false o.blocks) (block_labelled (place_of o) b)),
+    ap (λ (l : Labelled). front o.hunks (table o.finished ++ o.entry ∷ o.ahead) o.finished ++ l) one_more_reads
+        ∙ sym (append_assoc (front o.hunks (table o.finished ++ o.entry ∷ o.ahead) o.finished) (blocks_labelled o.hunks (size_longs o.entry.word) false o.blocks) (block_labelled (place_of o) b)),
   )
     where
       in_standings : (later : List BlockStanding) → standings (o.blocks ++ b ∷ []) ++ later ≡ standings o.blocks ++ standing b.body ∷ later
@@ -191,10 +191,10 @@ module _ (o : HunkSoFar) (h : OpenFits o) (b : BlockValue) (fits : IsHunkBlock o
       x = hunk o.entry (o.blocks ++ b ∷ [])
 
       t : List TableEntry
-      t = entries o.finished ++ o.entry ∷ o.ahead
+      t = table o.finished ++ o.entry ∷ o.ahead
 
-      same_table : entries (o.finished ++ x ∷ []) ++ o.ahead ≡ t
-      same_table = ap (λ (es : List TableEntry). es ++ o.ahead) (map-more (λ (y : HunkValue). y.entry) o.finished x) ∙ append_assoc (entries o.finished) (o.entry ∷ []) o.ahead
+      same_table : table (o.finished ++ x ∷ []) ++ o.ahead ≡ t
+      same_table = ap (λ (es : List TableEntry). es ++ o.ahead) (map-more (λ (y : HunkValue). y.entry) o.finished x) ∙ append_assoc (table o.finished) (o.entry ∷ []) o.ahead
 
       whole : IsHunk o.hunks x
       whole = record {
@@ -295,7 +295,7 @@ last_hunk_reads hunks w h e =
     (rows_read hunks [] hunks (record { hunks_fit = h; counts = omega arith; rows_fit = tt }))
 
 -- A longword that is not refused leads on to what it adds to the text.
-pub step_keeps : (p : Progress) (w : ℕ) → ProgressFits p → IsLong w → refuse (role_of p) w ≡ None → Reads (step p w) (read_progress p ++ (role_of p, w) ∷ [])
+pub step_keeps : (p : Progress) (w : ℕ) → ProgressFits p → IsLong w → refuse (role_of p) w ≡ None → Reads (step_file p w) (read_progress p ++ (role_of p, w) ∷ [])
 step_keeps AtFirst w h l ok = (tt, ap (λ (n : ℕ). (roles.FirstLong, n) ∷ []) (is_header_word w ok))
 step_keeps AtResident w h l ok = (tt, ap (λ (n : ℕ). read_progress AtResident ++ (roles.ResidentName, n) ∷ []) (is_zero w reasons.Resident ok))
 step_keeps AtTableSize w h l ok = (zero_or_limit w ok, refl)
@@ -304,8 +304,8 @@ step_keeps (AtLastHunk hunks) w h l ok = last_hunk_reads hunks w h (eqb-true (w 
 step_keeps (AtSizeWord hunks done owed) w h l ok = size_word_reads hunks done w owed (has_both_bits w) refl h l
 step_keeps (AtAttributes hunks done word owed) w h l ok = attributes_read hunks done word w owed h.0 h.1 h.2 l
 step_keeps (AtBlock o) w h l ok =
-    Reads-as (after o w (begin (kind w))) (ap (λ (ps : List (Part × ℕ)). open_so_far o ++ in_place (place_of o) ((parts.BlockWord, w) ∷ ps)) (begin_reads (kind w)))
-    (after_reads o w (begin (kind w)) h (l, ok) (begin_fits (place_of o) w (kind w) refl (kind_admitted o w (l, ok)).1))
+    Reads-as (after o w (begin_body (kind w))) (ap (λ (ps : List (Part × ℕ)). open_so_far o ++ in_place (place_of o) ((parts.BlockWord, w) ∷ ps)) (begin_reads (kind w)))
+    (after_reads o w (begin_body (kind w)) h (l, ok) (begin_fits (place_of o) w (kind w) refl (kind_admitted o w (l, ok)).1))
 step_keeps (InBody o word x) w h l ok =
     Reads-as (after o word (step_inside x w))
     (ap (λ (ps : List (Part × ℕ)). open_so_far o ++ in_place (place_of o) ((parts.BlockWord, word) ∷ ps)) (step_reads word x w h.2.0 (alone_passes (place_of o) word x w h.2.1 ok))

@@ -9,14 +9,14 @@ use Rattle.hunk_blocks.specs.Parts.{Part, body_parts}
 use Rattle.hunk_files.specs.LoadFile.{TableEntry, HunkValue, LoadFileValue, IsTableEntry, standing, AreInOrder, IsHunkBlock, IsHunk, IsLoadFile}
 use Rattle.hunk_scan.specs.Standings.{BlockStanding, Beside, Content, Relocating, Ending, is_content}
 use Rattle.hunk_scan.specs.Roles.{Place, Role, InBlock, Role as roles}
-use Rattle.hunk_files.specs.LoadText.{entries, entry_labelled, header_labelled, block_labelled, blocks_labelled, hunk_labelled, table, labelled}
-use Rattle.hunk_blocks.specs.BlockSteps.{BlockNext, Open, Whole, step_inside, begin, Follows}
+use Rattle.hunk_files.specs.LoadText.{table, entry_labelled, header_labelled, block_labelled, blocks_labelled, hunk_labelled, labelled}
+use Rattle.hunk_blocks.specs.BlockSteps.{BlockNext, Open, Whole, step_inside, begin_body, Follows}
 use Rattle.hunk_blocks.proofs.BlockText.{body_follows}
-use Rattle.hunk_files.specs.FileSteps.{table_entry, hunk, HunkSoFar, AtFirst, AtSizeWord, AtBlock, Next, More, Finished, place_of, open_hunk, rows, close_by, close, after, sized_row, step, Leads}
+use Rattle.hunk_files.specs.FileSteps.{table_entry, hunk, HunkSoFar, AtFirst, AtSizeWord, AtBlock, Next, More, Finished, place_of, open_hunk, rows, close_by, close, after, sized_row, step_file, Leads}
 
 pub Leads-append : (a b c : Next) (ls ms : List (Role × ℕ)) → Leads a ls b → Leads b ms c → Leads a (ls ++ ms) c
 Leads-append a b c [] ms h k = subst (λ (x : Next). Leads x ms c) (sym h) k
-Leads-append (More p) b c (l ∷ ls) ms h k = (h.0, Leads-append (step p l.1) b c ls ms h.1 k)
+Leads-append (More p) b c (l ∷ ls) ms h k = (h.0, Leads-append (step_file p l.1) b c ls ms h.1 k)
 Leads-append (Finished v) b c (l ∷ ls) ms h k = absurd h
 
 abbrev pub in_place : Place → List (Part × ℕ) → List (Role × ℕ)
@@ -29,7 +29,7 @@ Follows-leads o word (Open x) b (p ∷ ps) h = (ap (λ (part : Part). InBlock (p
 Follows-leads o word (Whole x) b (p ∷ ps) h = absurd h
 
 pub block_leads : (hunks longs : ℕ) (o : HunkSoFar) (b : BlockValue) → IsHunkBlock hunks longs b → Leads (More (AtBlock o)) (block_labelled (place_of o) b) (close o b)
-block_leads hunks longs o b h = (refl, Follows-leads o b.word (begin (kind b.word)) (Whole b.body) (body_parts b.body) (body_follows b.word b.body h.block.body))
+block_leads hunks longs o b h = (refl, Follows-leads o b.word (begin_body (kind b.word)) (Whole b.body) (body_parts b.body) (body_follows b.word b.body h.block.body))
 
 -- the blocks of a hunk from an open place in it
 abbrev pub standings : List BlockValue → List BlockStanding
@@ -77,12 +77,12 @@ module _ (hunks : ℕ) (finished : List HunkValue) (entry : TableEntry) (ahead :
       (block_closed (standing b.body) has_content done b more o (λ has other order. blocks_lead more h.1 has other order))
 
 pub hunks_lead : (hunks : ℕ) (finished more : List HunkValue) → AllByRecursion (IsHunk hunks) more →
-    Leads (open_hunk hunks finished (entries more)) (flat_map (hunk_labelled hunks) more) (Finished (finished ++ more))
+    Leads (open_hunk hunks finished (table more)) (flat_map (hunk_labelled hunks) more) (Finished (finished ++ more))
 hunks_lead hunks finished [] h = ap (λ (v : LoadFileValue). Finished v) (sym (append-nil finished))
 hunks_lead hunks finished (x ∷ more) h =
-    Leads-append (open_hunk hunks finished (entries (x ∷ more))) (open_hunk hunks (finished ++ x ∷ []) (entries more)) _ (hunk_labelled hunks x) _
-    (blocks_lead hunks finished x.entry (entries more) x.blocks h.0.blocks false [] h.0.order)
-    (subst (λ (v : LoadFileValue). Leads (open_hunk hunks (finished ++ x ∷ []) (entries more)) (flat_map (hunk_labelled hunks) more) (Finished v)) (append_assoc finished (x ∷ []) more) (hunks_lead hunks (finished ++ x ∷ []) more h.1))
+    Leads-append (open_hunk hunks finished (table (x ∷ more))) (open_hunk hunks (finished ++ x ∷ []) (table more)) _ (hunk_labelled hunks x) _
+    (blocks_lead hunks finished x.entry (table more) x.blocks h.0.blocks false [] h.0.order)
+    (subst (λ (v : LoadFileValue). Leads (open_hunk hunks (finished ++ x ∷ []) (table more)) (flat_map (hunk_labelled hunks) more) (Finished v)) (append_assoc finished (x ∷ []) more) (hunks_lead hunks (finished ++ x ∷ []) more h.1))
 
 -- ---- the table
 
@@ -103,7 +103,7 @@ table_leads hunks done (e ∷ more) h =
 pub header_leads : (t : List TableEntry) → AllByRecursion IsTableEntry t → Leads (More AtFirst) (header_labelled t) (open_hunk (length t) [] t)
 header_leads t h = (refl, (refl, (refl, (refl, (refl, table_leads (length t) [] t h)))))
 
-pub entries_fit : (hunks : ℕ) (hs : List HunkValue) → AllByRecursion (IsHunk hunks) hs → AllByRecursion IsTableEntry (entries hs)
+pub entries_fit : (hunks : ℕ) (hs : List HunkValue) → AllByRecursion (IsHunk hunks) hs → AllByRecursion IsTableEntry (table hs)
 entries_fit hunks [] h = tt
 entries_fit hunks (x ∷ hs) h = (h.0.entry, entries_fit hunks hs h.1)
 
@@ -111,6 +111,6 @@ entries_fit hunks (x ∷ hs) h = (h.0.entry, entries_fit hunks hs h.1)
 pub file_leads : (v : LoadFileValue) → IsLoadFile v → Leads (More AtFirst) (labelled v) (Finished v)
 unfolding labelled
 file_leads v h =
-    Leads-append (More AtFirst) (open_hunk (length v) [] (entries v)) _ (header_labelled (table v)) _
-    (subst (λ (n : ℕ). Leads (More AtFirst) (header_labelled (table v)) (open_hunk n [] (entries v))) (length-map v (λ h. h.entry)) (header_leads (entries v) (entries_fit (length v) v h.each)))
+    Leads-append (More AtFirst) (open_hunk (length v) [] (table v)) _ (header_labelled (table v)) _
+    (subst (λ (n : ℕ). Leads (More AtFirst) (header_labelled (table v)) (open_hunk n [] (table v))) (length-map v (λ h. h.entry)) (header_leads (table v) (entries_fit (length v) v h.each)))
     (hunks_lead (length v) [] v h.each)

@@ -19,7 +19,7 @@ use Rattle.hunk_blocks.specs.Begins.{BeginsWithBlock, first_long}
 use Rattle.hunk_blocks.specs.Reading.{Unread, Reads, cut}
 use Rattle.hunk_blocks.specs.Faults.{Grammar, words, Expects, HasRefusal, IsFront, IsFrontTo, FaultAhead, blocks, refuse_alone, HasBlockFault}
 use Rattle.hunk_blocks.proofs.Admitted.{block}
-use Rattle.hunk_blocks.specs.BlockSteps.{BlockNext, Open, Whole, step_inside, begin, Follows}
+use Rattle.hunk_blocks.specs.BlockSteps.{BlockNext, Open, Whole, step_inside, begin_body, Follows}
 use Rattle.hunk_blocks.proofs.BlockLongs.{block_longs}
 use Rattle.hunk_blocks.proofs.BlockText.{body_follows}
 use Rattle.hunk_blocks.proofs.BodyFaults.{end_block, end_is}
@@ -30,7 +30,7 @@ use Rattle.hunk_files.specs.LoadFile.{standing, AreInOrder}
 use Rattle.hunk_scan.specs.Standings.{BlockStanding, Beside, Content, Relocating, Ending, is_content, refuse_standing, standing_of_kind, first_of}
 use Rattle.hunk_files.specs.ObjectFile.{ObjectHunk, unit_word}
 use Rattle.hunk_files.specs.ObjectParts.{BeginsWithText}
-use Rattle.hunk_files.specs.ObjectFault.{WordPlace, BeforeUnits, BetweenHunks, InHunk, ObjectRole, WordAt, has_content, behind_block, role_at, block_labelled, blocks_labelled, refuse_unit, refuse_word, refuse_object, blocks_from, unread, MayGoOn}
+use Rattle.hunk_files.specs.ObjectFault.{WordPlace, BeforeUnits, BetweenHunks, InHunk, ObjectRole, WordAt, has_content, behind_block, object_role_at, object_block_labelled, object_blocks_labelled, refuse_unit, refuse_object_word, refuse_object, blocks_from, unread, MayGoOn}
 use Rattle.hunk_files.proofs.PartFaults.{is_memory, fault_behind, value_wanted}
 use Rattle.hunk_files.proofs.ObjectWords.{refuse_place, within_role, within_split, word_split}
 use Rattle.hunk_files.proofs.ObjectDecoding.{HunkSoFar, Leads, leads_end, hunk_longs, standings, standing_is, text_size}
@@ -80,7 +80,7 @@ abbrev pub blocks_at : WordPlace → Grammar BlockValue ObjectRole
 blocks_at place =
     record {
       Is = λ b. IsBlock b × (refuse_standing (has_content place) (standing b.body) ≡ None);
-      labelled = block_labelled place;
+      labelled = object_block_labelled place;
       refuse = refuse_object;
     }
 
@@ -89,9 +89,9 @@ block_embeds place =
     record {
       into = λ b. b ∷ tail_of (has_content place) (standing b.body);
       role = λ r. r;
-      behind = λ b. blocks_labelled (behind_block place (standing b.body)) (tail_of (has_content place) (standing b.body));
+      behind = λ b. object_blocks_labelled (behind_block place (standing b.body)) (tail_of (has_content place) (standing b.body));
       is = λ b h. tail_goes (has_content place) b (standing b.body) h.0 refl h.1;
-      labels = λ b h. ap (λ ls. ls ++ blocks_labelled (behind_block place (standing b.body)) (tail_of (has_content place) (standing b.body))) (sym (same-labels (block_labelled place b)));
+      labels = λ b h. ap (λ ls. ls ++ object_blocks_labelled (behind_block place (standing b.body)) (tail_of (has_content place) (standing b.body))) (sym (same-labels (object_block_labelled place b)));
       refuses = λ r w reason h. h;
     }
 
@@ -119,7 +119,7 @@ one_word bytes w some is = go (longs bytes) (omega (arith, some, length-longs by
 pub hunk_missing : (place : WordPlace) (bytes : List ℕ) (fault : Fault) → longs bytes ≡ [] → fault ≡ cut (unread bytes) → FaultAhead (blocks_from place) (unread bytes) fault
 hunk_missing place bytes fault none e =
     let rest : ObjectHunk = rest_of_hunk (has_content place) in
-    inr (inl (e, subst (IsFront (blocks_from place)) (sym none) (record { value = rest; is = rest_goes (has_content place); more = words (blocks_labelled place rest); begins = refl })))
+    inr (inl (e, subst (IsFront (blocks_from place)) (sym none) (record { value = rest; is = rest_goes (has_content place); more = words (object_blocks_labelled place rest); begins = refl })))
 
 content_is : (place : WordPlace) (has : Bool) (bytes : List ℕ) → MayGoOn place has bytes → has_content place ≡ has
 content_is BeforeUnits has bytes m = absurd m
@@ -132,7 +132,7 @@ unit_alone = refl
 
 -- The tests of a block word that is no UNIT between hunks.
 refuse_here : (place : WordPlace) (has : Bool) (bytes rest : List ℕ) (w : ℕ) (reason : Reason) → MayGoOn place has bytes → longs bytes ≡ w ∷ rest → first_of (refuse_alone_word modes.Object w) (refuse_standing has (standing_of_kind (kind w))) ≡ Some reason →
-    refuse_word place w ≡ Some reason
+    refuse_object_word place w ≡ Some reason
 refuse_here place has bytes rest w reason m e refused = word_split place w ∙ go place m (eqb w unit_word) refl
   where
     first : first_long bytes ≡ w
@@ -156,7 +156,7 @@ stands_here false = (bss_block, bss_is, refl)
 pub expects_word : (place : WordPlace) → Expects (blocks_at place) [] (WordAt place)
 expects_word place =
     let b = stands_here (has_content place) in
-    record { value = b.0; is = (b.1, b.2); done = []; word = b.0.word; more = relabel (role_at place) (body_parts b.0.body); labels = refl; begins = refl }
+    record { value = b.0; is = (b.1, b.2); done = []; word = b.0.word; more = relabel (object_role_at place) (body_parts b.0.body); labels = refl; begins = refl }
 
 -- A block word that is refused.
 pub word_fault : (place : WordPlace) (has : Bool) (bytes rest : List ℕ) (w : ℕ) (reason : Reason) → MayGoOn place has bytes → longs bytes ≡ w ∷ rest → first_of (refuse_alone_word modes.Object w) (refuse_standing has (standing_of_kind (kind w))) ≡ Some reason →
@@ -205,7 +205,7 @@ no_second_word (Open x) (p ∷ ps) more part w end h e = no_second_word (step_in
 no_second_word (Whole b) [] more part w end h e = absurd h
 no_second_word (Whole b) (p ∷ ps) more part w end h e = absurd h
 
-refused_within : (place : WordPlace) (part : Part) (w : ℕ) (reason : Reason) → part ≢ parts.BlockWord → refuse_alone modes.Object part w ≡ Some reason → refuse_object (role_at place part) w ≡ Some reason
+refused_within : (place : WordPlace) (part : Part) (w : ℕ) (reason : Reason) → part ≢ parts.BlockWord → refuse_alone modes.Object part w ≡ Some reason → refuse_object (object_role_at place part) w ≡ Some reason
 refused_within place part w reason ne h =
     ap (λ (r : ObjectRole). refuse_object r w) (within_role place part ne) ∙ within_split part w ∙ sym (alone_inside modes.Object part w ne) ∙ h
 
@@ -214,10 +214,10 @@ module _ (place : WordPlace) (w : ℕ) (ok : refuse_standing (has_content place)
   may_stand : (b : BlockValue) → IsBlock b → b.word ≡ w → refuse_standing (has_content place) (standing b.body) ≡ None
   may_stand b is e = ap (refuse_standing (has_content place)) (standing_is b.word b.body is.body ∙ ap (λ (v : ℕ). standing_of_kind (kind v)) e) ∙ ok
 
-  pub expects_within : (before : List ℕ) (part : Part) → Expects (blocks modes.Object) (w ∷ before) part → Expects (blocks_at place) (w ∷ before) (role_at place part) × (part ≢ parts.BlockWord)
+  pub expects_within : (before : List ℕ) (part : Part) → Expects (blocks modes.Object) (w ∷ before) part → Expects (blocks_at place) (w ∷ before) (object_role_at place part) × (part ≢ parts.BlockWord)
   expects_within before part e = go e.done e.labels e.begins
     where
-      go : (done : List (Part × ℕ)) → block_parts e.value ≡ done ++ (part, e.word) ∷ e.more → words done ≡ w ∷ before → Expects (blocks_at place) (w ∷ before) (role_at place part) × (part ≢ parts.BlockWord)
+      go : (done : List (Part × ℕ)) → block_parts e.value ≡ done ++ (part, e.word) ∷ e.more → words done ≡ w ∷ before → Expects (blocks_at place) (w ∷ before) (object_role_at place part) × (part ≢ parts.BlockWord)
       go [] labels begins = absurd cc
       go (d ∷ ds) labels begins =
           let first : e.value.word ≡ w = cc in
@@ -225,13 +225,13 @@ module _ (place : WordPlace) (w : ℕ) (ok : refuse_standing (has_content place)
             record {
               value = e.value;
               is = (e.is.0, may_stand e.value e.is.0 first);
-              done = relabel (role_at place) (d ∷ ds);
+              done = relabel (object_role_at place) (d ∷ ds);
               word = e.word;
-              more = relabel (role_at place) e.more;
-              labels = ap (relabel (role_at place)) labels ∙ map-append (λ (l : Part × ℕ). (role_at place l.0, l.1)) (d ∷ ds) ((part, e.word) ∷ e.more);
-              begins = words-relabel (role_at place) (d ∷ ds) ∙ begins;
+              more = relabel (object_role_at place) e.more;
+              labels = ap (relabel (object_role_at place)) labels ∙ map-append (λ (l : Part × ℕ). (object_role_at place l.0, l.1)) (d ∷ ds) ((part, e.word) ∷ e.more);
+              begins = words-relabel (object_role_at place) (d ∷ ds) ∙ begins;
             },
-            no_second_word (begin (kind e.value.word)) ds e.more part e.word e.value.body (subst (λ (ps : List (Part × ℕ)). Follows (begin (kind e.value.word)) ps (Whole e.value.body)) inside (body_follows e.value.word e.value.body e.is.0.body)),
+            no_second_word (begin_body (kind e.value.word)) ds e.more part e.word e.value.body (subst (λ (ps : List (Part × ℕ)). Follows (begin_body (kind e.value.word)) ps (Whole e.value.body)) inside (body_follows e.value.word e.value.body e.is.0.body)),
           )
 
 -- The fault of a block in front, which may stand here, is one of the hunk.
@@ -265,10 +265,10 @@ block_ahead place has bytes rest w fault m e ok (inl r) = in_hunk place (unread 
           before = b ∷ before;
           word = r.word;
           after = r.after;
-          role = role_at place r.role;
+          role = object_role_at place r.role;
           split = split;
           place = at;
-          expects = subst (λ (v : ℕ). Expects (blocks_at place) (v ∷ before) (role_at place r.role)) (sym same) within.0;
+          expects = subst (λ (v : ℕ). Expects (blocks_at place) (v ∷ before) (object_role_at place r.role)) (sym same) within.0;
           refuses = refused_within place r.role r.word fault.reason within.1 r.refuses;
         }
 block_ahead place has bytes rest w fault m e ok (inr (reason, t)) =
@@ -283,7 +283,7 @@ block_ahead place has bytes rest w fault m e ok (inr (reason, t)) =
         value = b;
         is = (t.front.is.0, may_stand place w stands b t.front.is.0 first);
         more = t.front.more;
-        begins = words-relabel (role_at place) (block_parts b) ∙ t.front.begins;
+        begins = words-relabel (object_role_at place) (block_parts b) ∙ t.front.begins;
       },
     )))
 
@@ -305,7 +305,7 @@ want_ahead place has bytes rest w fault m e ok reason f = in_hunk place (unread 
           value = f.front.value;
           is = (f.front.is.0, may_stand place w stands f.front.value f.front.is.0 (word f.read (omega (arith, f.place)) f.split f.front.begins));
           more = f.front.more;
-          begins = words-relabel (role_at place) (block_parts f.front.value) ∙ f.front.begins;
+          begins = words-relabel (object_role_at place) (block_parts f.front.value) ∙ f.front.begins;
         }
 
 -- What a block in front is refused for, which may stand here, the hunk is refused for.
@@ -323,17 +323,17 @@ abbrev pub place_behind : WordPlace → ObjectHunk → WordPlace
 place_behind place [] = place
 place_behind place (b ∷ bs) = place_behind (behind_block place (standing b.body)) bs
 
-blocks-append : (place : WordPlace) (bs cs : ObjectHunk) → blocks_labelled place (bs ++ cs) ≡ blocks_labelled place bs ++ blocks_labelled (place_behind place bs) cs
+blocks-append : (place : WordPlace) (bs cs : ObjectHunk) → object_blocks_labelled place (bs ++ cs) ≡ object_blocks_labelled place bs ++ object_blocks_labelled (place_behind place bs) cs
 blocks-append place [] cs = refl
 blocks-append place (b ∷ bs) cs =
-    ap (λ ls. block_labelled place b ++ ls) (blocks-append (behind_block place (standing b.body)) bs cs)
-    ∙ sym (append_assoc (block_labelled place b) (blocks_labelled (behind_block place (standing b.body)) bs) (blocks_labelled (place_behind (behind_block place (standing b.body)) bs) cs))
+    ap (λ ls. object_block_labelled place b ++ ls) (blocks-append (behind_block place (standing b.body)) bs cs)
+    ∙ sym (append_assoc (object_block_labelled place b) (object_blocks_labelled (behind_block place (standing b.body)) bs) (object_blocks_labelled (place_behind (behind_block place (standing b.body)) bs) cs))
 
-pub blocks_words : (place : WordPlace) (bs : ObjectHunk) → words (blocks_labelled place bs) ≡ flat_map block_text bs
+pub blocks_words : (place : WordPlace) (bs : ObjectHunk) → words (object_blocks_labelled place bs) ≡ flat_map block_text bs
 blocks_words place [] = refl
 blocks_words place (b ∷ bs) =
-    map-append (λ l. l.1) (block_labelled place b) (blocks_labelled (behind_block place (standing b.body)) bs)
-    ∙ ap₂ (λ xs ys. xs ++ ys) (words-relabel (role_at place) (block_parts b)) (blocks_words (behind_block place (standing b.body)) bs)
+    map-append (λ l. l.1) (object_block_labelled place b) (object_blocks_labelled (behind_block place (standing b.body)) bs)
+    ∙ ap₂ (λ xs ys. xs ++ ys) (words-relabel (object_role_at place) (block_parts b)) (blocks_words (behind_block place (standing b.body)) bs)
 
 -- whether there is a content block then
 content_behind : (place : WordPlace) (bs : ObjectHunk) (has : Bool) → Leads (has_content place) (standings bs) has → has_content (place_behind place bs) ≡ has
@@ -365,9 +365,9 @@ may_go_on (b ∷ bs) has bytes at h ne =
     let same : o.0 ≡ has = ap has_content (sym o.1) ∙ content_behind BetweenHunks (b ∷ bs) has h.leads in
     subst (λ (p : WordPlace). MayGoOn p has (drop at bytes)) (sym o.1) same
 
-blocks_embed : (bs : ObjectHunk) (has : Bool) → AllByRecursion IsBlock bs → Leads false (standings bs) has → Embeds (blocks_from (place_behind BetweenHunks bs)) (blocks_from BetweenHunks) (blocks_labelled BetweenHunks bs)
+blocks_embed : (bs : ObjectHunk) (has : Bool) → AllByRecursion IsBlock bs → Leads false (standings bs) has → Embeds (blocks_from (place_behind BetweenHunks bs)) (blocks_from BetweenHunks) (object_blocks_labelled BetweenHunks bs)
 blocks_embed bs has are leads =
-    embeds_same (blocks_from (place_behind BetweenHunks bs)) (blocks_from BetweenHunks) (blocks_labelled BetweenHunks bs) (λ cs. bs ++ cs)
+    embeds_same (blocks_from (place_behind BetweenHunks bs)) (blocks_from BetweenHunks) (object_blocks_labelled BetweenHunks bs) (λ cs. bs ++ cs)
     (λ cs h. (
       All-append IsBlock bs cs are h.0,
       subst (AreInOrder false) (sym (map-append (λ b. standing b.body) bs cs))
@@ -381,14 +381,14 @@ pub expects_behind : (bs : ObjectHunk) (has : Bool) → AllByRecursion IsBlock b
 unfolding blocks_embed embeds_same
 expects_behind bs has are leads before role e =
     subst (λ ws. Expects (blocks_from BetweenHunks) (ws ++ before) role) (blocks_words BetweenHunks bs)
-    (expects_embedded (blocks_from (place_behind BetweenHunks bs)) (blocks_from BetweenHunks) (blocks_labelled BetweenHunks bs) (blocks_embed bs has are leads) before role e)
+    (expects_embedded (blocks_from (place_behind BetweenHunks bs)) (blocks_from BetweenHunks) (object_blocks_labelled BetweenHunks bs) (blocks_embed bs has are leads) before role e)
 
 -- A fault behind these blocks is one of the hunk.
 pub hunk_ahead : (bytes : List ℕ) (bs : ObjectHunk) (has : Bool) (at : ℕ) (fault whole : Fault) → HunkSoFar bytes bs has at → whole.place ≡ at + fault.place → whole.reason ≡ fault.reason →
     FaultAhead (blocks_from (place_behind BetweenHunks bs)) (unread (drop at bytes)) fault → FaultAhead (blocks_from BetweenHunks) (unread bytes) whole
 hunk_ahead bytes bs has at fault whole h p r f =
     let same = sym (blocks_words BetweenHunks bs) in
-    fault_behind (blocks_from (place_behind BetweenHunks bs)) (blocks_from BetweenHunks) (blocks_labelled BetweenHunks bs) (blocks_embed bs has h.blocks h.leads) bytes at fault whole
+    fault_behind (blocks_from (place_behind BetweenHunks bs)) (blocks_from BetweenHunks) (object_blocks_labelled BetweenHunks bs) (blocks_embed bs has h.blocks h.leads) bytes at fault whole
     (subst AreLongs same (hunk_longs bs h.blocks)) (subst (λ (ws : List ℕ). BeginsWithText bytes ws at) same h.text) p r f
 
 -- Memory is missing for one more block, which was read.
@@ -396,7 +396,7 @@ pub block_wanted : (bytes : List ℕ) (bs : ObjectHunk) (has : Bool) (at : ℕ) 
     whole.reason ≡ reasons.OutOfMemory → FaultAhead (blocks_from BetweenHunks) (unread bytes) whole
 block_wanted bytes bs has at b size whole h r ok p reason =
     let place = place_behind BetweenHunks bs in
-    let same = sym (words-relabel (role_at place) (block_parts b)) in
+    let same = sym (words-relabel (object_role_at place) (block_parts b)) in
     let here : Fault = record { place = size - 4; reason = reasons.OutOfMemory } in
     let text : BeginsWithText (drop at bytes) (block_text b) size = record { text = r.text; whole = r.whole } in
     let long : size ≡ 4 * length (block_text b) = text_size (drop at bytes) (block_text b) size text in

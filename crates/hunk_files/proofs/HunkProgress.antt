@@ -13,7 +13,7 @@ use Rattle.hunk_blocks.specs.Parts.{Part as parts}
 use Rattle.hunk_blocks.specs.Modes.{IsOfLoadMode, refuse_inside, refuse_alone_kind}
 use Rattle.hunk_scan.specs.Roles.{Place, refuse_part, refuse_kind}
 use Rattle.hunk_files.specs.LoadFile.{FitsGroup, FitsHunk, IsInside}
-use Rattle.hunk_blocks.specs.BlockSteps.{ForName, Sizing, ForCode, ForData, ForBss, Filling, Counted, SizedCode, SizedData, Inside, AtCount, AtSize, InPayload, AtGroup, AtTarget, InOffsets, AtEntry, InName, AtValue, AtExtWord, BlockNext, Open, Whole, group, part_of, step_inside, fill, relocate, name_entry, sized_by, grouped, entered, begin}
+use Rattle.hunk_blocks.specs.BlockSteps.{ForName, Sizing, ForCode, ForData, ForBss, Filling, Counted, SizedCode, SizedData, Inside, AtCount, AtSize, InPayload, AtGroup, AtTarget, InOffsets, AtEntry, InName, AtValue, AtExtWord, BlockNext, Open, Whole, group, part_of, step_inside, fill, relocate, name_entry, sized_by, grouped, entered, begin_body}
 use Rattle.hunk_blocks.proofs.BlockProgress as blocks
 use Rattle.hunk_blocks.proofs.Lists.{All-more, more_owed, passed_false, passed_true}
 
@@ -117,8 +117,8 @@ module _ (p : Place) (word : ℕ) where
   step_fits x w h l ok = both (step_inside x w) (blocks.step_fits word x w h.0 l (alone_passes x w h.1 ok)) (step_within x w h.1 ok)
 
 -- Behind a block word that is not refused the block fits.
-pub begin_fits : (p : Place) (word : ℕ) (k : Kind) → kind word ≡ k → refuse_kind p.has_content (is_advisory word) k ≡ None → NextFits p word (begin k)
-begin_fits p word k e ok = both p word (begin k) (blocks.begin_fits modes.Load word k e (alone k ok)) (within k e ok)
+pub begin_fits : (p : Place) (word : ℕ) (k : Kind) → kind word ≡ k → refuse_kind p.has_content (is_advisory word) k ≡ None → NextFits p word (begin_body k)
+begin_fits p word k e ok = both p word (begin_body k) (blocks.begin_fits modes.Load word k e (alone k ok)) (within k e ok)
   where
     alone : (k : Kind) → refuse_kind p.has_content (is_advisory word) k ≡ None → refuse_alone_kind modes.Load (is_advisory word) k ≡ None
     alone kinds.Code ok = refl
@@ -128,7 +128,7 @@ begin_fits p word k e ok = both p word (begin k) (blocks.begin_fits modes.Load w
     alone kinds.End ok = refl
     alone _ ok = ok
 
-    within : (k : Kind) → kind word ≡ k → refuse_kind p.has_content (is_advisory word) k ≡ None → NextWithin p word (begin k)
+    within : (k : Kind) → kind word ≡ k → refuse_kind p.has_content (is_advisory word) k ≡ None → NextWithin p word (begin_body k)
     within kinds.Name e ok = tt
     within kinds.Code e ok = tt
     within kinds.Data e ok = tt

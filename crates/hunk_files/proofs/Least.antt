@@ -15,8 +15,8 @@ use Rattle.hunk_files.specs.ReaderPosition.{open_of, block_phase, position_of}
 use Rattle.hunk_files.proofs.InsideCases.{by_inside}
 use Rattle.hunk_scan.specs.Roles.{Role, refuse, refuse_kind}
 use Rattle.hunk_files.specs.LoadText.{text}
-use Rattle.hunk_blocks.specs.BlockSteps.{ForName, ForDebug, ForAdvisory, ForCode, ForData, ForBss, Filling, Counted, SizedCode, SizedData, Inside, AtCount, AtSize, InPayload, AtGroup, AtTarget, InOffsets, AtEntry, InName, AtValue, AtExtWord, InExtName, AtExtValue, AtExtSize, AtExtCount, InExtOffsets, BlockNext, step_inside, begin, fill, name_entry, name_external}
-use Rattle.hunk_files.specs.FileSteps.{place_of, table_entry, block, HunkSoFar, Progress, AtFirst, AtResident, AtTableSize, AtFirstHunk, AtLastHunk, AtSizeWord, AtAttributes, AtBlock, InBody, Next, More, Finished, role_of, open_hunk, rows, close, close_by, after, sized_row, step, Leads}
+use Rattle.hunk_blocks.specs.BlockSteps.{ForName, ForDebug, ForAdvisory, ForCode, ForData, ForBss, Filling, Counted, SizedCode, SizedData, Inside, AtCount, AtSize, InPayload, AtGroup, AtTarget, InOffsets, AtEntry, InName, AtValue, AtExtWord, InExtName, AtExtValue, AtExtSize, AtExtCount, InExtOffsets, BlockNext, step_inside, begin_body, fill, name_entry, name_external}
+use Rattle.hunk_files.specs.FileSteps.{place_of, table_entry, block, HunkSoFar, Progress, AtFirst, AtResident, AtTableSize, AtFirstHunk, AtLastHunk, AtSizeWord, AtAttributes, AtBlock, InBody, Next, More, Finished, role_of, open_hunk, rows, close, close_by, after, sized_row, step_file, Leads}
 use Rattle.hunk_files.proofs.Shapes.{by_shape}
 use Rattle.hunk_files.proofs.FileProgress.{ProgressFits, NextFits, kind_admitted, zero_or_limit, step_keeps}
 use Rattle.hunk_files.proofs.Completion.{gives_content, filling_content}
@@ -123,7 +123,7 @@ open_hunk_least : (hunks : ℕ) (finished : List HunkValue) (ahead : List TableE
 open_hunk_least hunks finished [] = omega arith
 open_hunk_least hunks finished (e ∷ ahead) = omega arith
 
-block_falls : (o : HunkSoFar) (w : ℕ) (k : Kind) → refuse_kind o.has_content (is_advisory w) k ≡ None → end_least o.has_content + 3 * length o.ahead ≤ suc (least_next (after o w (begin k)))
+block_falls : (o : HunkSoFar) (w : ℕ) (k : Kind) → refuse_kind o.has_content (is_advisory w) k ≡ None → end_least o.has_content + 3 * length o.ahead ≤ suc (least_next (after o w (begin_body k)))
 block_falls o w kinds.Name ok = omega (arith, behind_false o)
 block_falls o w kinds.Code ok = omega (arith, behind_true o, end_most o.has_content)
 block_falls o w kinds.Data ok = omega (arith, behind_true o, end_most o.has_content)
@@ -148,7 +148,7 @@ sized_least : (hunks : ℕ) (done : List TableEntry) (w owed : ℕ) (b : Bool) �
 sized_least hunks done w owed true e = omega arith
 sized_least hunks done w owed false e = rows_least hunks (done ++ table_entry w 0 ∷ []) owed (more_owed done (table_entry w 0) owed ∙ e)
 
-step_falls : (p : Progress) (w : ℕ) → ProgressFits p → IsLong w → refuse (role_of p) w ≡ None → least p ≤ suc (least_next (step p w))
+step_falls : (p : Progress) (w : ℕ) → ProgressFits p → IsLong w → refuse (role_of p) w ≡ None → least p ≤ suc (least_next (step_file p w))
 step_falls AtTableSize w h l ok = omega (arith, zero_or_limit w ok)
 step_falls (AtLastHunk hunks) w h l ok = omega (arith, rows_least hunks [] hunks (omega arith))
 step_falls (AtSizeWord hunks done owed) w h l ok = omega (arith, sized_least hunks done w owed (has_both_bits w) h.counts)
@@ -163,7 +163,7 @@ run_least (Finished u) [] v h ok run = omega arith
 run_least (Finished u) (l ∷ ls) v h ok run = absurd run
 run_least (More p) (l ∷ ls) v h ok run =
     let pass = ap (λ (r : Role). refuse r l.1) run.0 ∙ ok.0.1 in
-    let rest = run_least (step p l.1) ls v (step_keeps p l.1 h ok.0.0 pass).0 ok.1 run.1 in
+    let rest = run_least (step_file p l.1) ls v (step_keeps p l.1 h ok.0.0 pass).0 ok.1 run.1 in
     omega (arith, step_falls p l.1 h ok.0.0 pass)
 
 -- No load text that begins with what was read ends in fewer longwords.

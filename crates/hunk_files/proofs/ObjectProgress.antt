@@ -12,7 +12,7 @@ use Rattle.hunk_blocks.specs.Values.{BlockValue, IsBlock, IsPayload}
 use Rattle.hunk_blocks.specs.Parts.{block_text}
 use Rattle.hunk_blocks.specs.Modes.{refuse_alone_word, refuse_inside}
 use Rattle.hunk_blocks.specs.Faults.{words, Expects, blocks}
-use Rattle.hunk_blocks.specs.BlockSteps.{Inside, BlockNext, Open, Whole, part_of, step_inside, begin}
+use Rattle.hunk_blocks.specs.BlockSteps.{Inside, BlockNext, Open, Whole, part_of, step_inside, begin_body}
 use Rattle.hunk_blocks.proofs.Admitted.{block}
 use Rattle.hunk_blocks.proofs.BlockOutcome.{Inner, block_is, expects_inside, steps_inside, begins_inside}
 use Rattle.hunk_blocks.proofs.BlockProgress.{read_inside}
@@ -21,7 +21,7 @@ use Rattle.hunk_blocks.proofs.OneBlockFault.{part_not_word}
 use Rattle.hunk_files.specs.LoadFile.{standing, AreInOrder}
 use Rattle.hunk_scan.specs.Standings.{BlockStanding, Beside, Content, Relocating, Ending, is_content, is_ending, refuse_standing, standing_of_kind, first_of}
 use Rattle.hunk_files.specs.ObjectFile.{ObjectHunk, UnitValue, ObjectFileValue, IsObjectFile, IsObjectHunk, IsUnit, unit_word, unit_header, unit_text, object_text}
-use Rattle.hunk_files.specs.ObjectFault.{WordPlace, BeforeUnits, BetweenHunks, InHunk, ObjectRole, WordAt, UnitCount, UnitName, Within, has_content, behind_block, role_at, refuse_unit, refuse_word, refuse_object, blocks_from, units_from, objects}
+use Rattle.hunk_files.specs.ObjectFault.{WordPlace, BeforeUnits, BetweenHunks, InHunk, ObjectRole, WordAt, UnitCount, UnitName, Within, has_content, behind_block, object_role_at, refuse_unit, refuse_object_word, refuse_object, blocks_from, units_from, objects}
 use Rattle.hunk_files.proofs.HunkFaults.{blocks_at, expects_block, expects_word, expects_within, expects_behind, place_behind, opened}
 use Rattle.hunk_files.proofs.ObjectDecoding.{Leads, leads_one, leads_more, leads_end, end_stands, standings, standing_is}
 use Rattle.hunk_files.proofs.OneObjectFault.{ObjectState, AtWord, AtCount, InName, InBlock, place_next, in_block, behind_name, reader}
@@ -138,7 +138,7 @@ inside_expected : (next : WordPlace) (x : Inside) (ws : List ℕ) → InUnitBloc
 inside_expected next x ws h =
     let before : List ℕ = words (read_inside x) in
     let alone : Expects (blocks modes.Object) (h.word ∷ before) (part_of x) = subst (λ ys. Expects (blocks modes.Object) ys (part_of x)) h.inner.words_are (expects_inside modes.Object x h.word h.tail h.inner) in
-    let here : Expects (blocks_at h.place) (h.word ∷ before) (role_at h.place (part_of x)) = (expects_within h.place h.word (standing_goes h.place (standing_of_kind (kind h.word)) h.stands) before (part_of x) alone).0 in
+    let here : Expects (blocks_at h.place) (h.word ∷ before) (object_role_at h.place (part_of x)) = (expects_within h.place h.word (standing_goes h.place (standing_of_kind (kind h.word)) h.stands) before (part_of x) alone).0 in
     let within = subst (Expects (blocks_at h.place) (h.word ∷ before)) (within_role h.place (part_of x) (part_not_word x)) here in
     in_open h.place ws h.tail (Within (part_of x)) h.in_unit
     (expects_block h.place h.tail (Within (part_of x)) (subst (λ ys. Expects (blocks_at h.place) ys (Within (part_of x))) (sym h.inner.words_are) within))
@@ -270,16 +270,16 @@ unit_begins BetweenHunks ws w h e ok =
     record { units = o.0; are_units = o.1.units; words_are = ap (λ ys. ys ++ w ∷ []) o.2 ∙ ap (λ (v : ℕ). object_text o.0 ++ v ∷ []) e }
 unit_begins (InHunk has) ws w h e ok = absurd cc
 
-block_begins : (place : WordPlace) (ws : List ℕ) (w : ℕ) → SoFarAt place ws → IsLong w → refuse_alone_word modes.Object w ≡ None → refuse_place place (standing_of_kind (kind w)) ≡ None → SoFar (in_block (place_next place (standing_of_kind (kind w))) (begin (kind w))) (ws ++ w ∷ [])
+block_begins : (place : WordPlace) (ws : List ℕ) (w : ℕ) → SoFarAt place ws → IsLong w → refuse_alone_word modes.Object w ≡ None → refuse_place place (standing_of_kind (kind w)) ≡ None → SoFar (in_block (place_next place (standing_of_kind (kind w))) (begin_body (kind w))) (ws ++ w ∷ [])
 block_begins BeforeUnits ws w h l alone ok = absurd cc
-block_begins BetweenHunks ws w h l alone ok = in_block_so_far BetweenHunks (ws ++ w ∷ []) (w ∷ []) w (begin (kind w)) (read_more BetweenHunks ws [] w h) (begins_inside modes.Object w l alone) ok
-block_begins (InHunk has) ws w h l alone ok = in_block_so_far (InHunk has) (ws ++ w ∷ []) (w ∷ []) w (begin (kind w)) (read_more (InHunk has) ws [] w h) (begins_inside modes.Object w l alone) ok
+block_begins BetweenHunks ws w h l alone ok = in_block_so_far BetweenHunks (ws ++ w ∷ []) (w ∷ []) w (begin_body (kind w)) (read_more BetweenHunks ws [] w h) (begins_inside modes.Object w l alone) ok
+block_begins (InHunk has) ws w h l alone ok = in_block_so_far (InHunk has) (ws ++ w ∷ []) (w ∷ []) w (begin_body (kind w)) (read_more (InHunk has) ws [] w h) (begins_inside modes.Object w l alone) ok
 
-word_goes_on : (place : WordPlace) (ws : List ℕ) (w : ℕ) → SoFarAt place ws → IsLong w → refuse_word place w ≡ None → SoFar (reader.step (AtWord place) w) (ws ++ w ∷ [])
+word_goes_on : (place : WordPlace) (ws : List ℕ) (w : ℕ) → SoFarAt place ws → IsLong w → refuse_object_word place w ≡ None → SoFar (reader.step (AtWord place) w) (ws ++ w ∷ [])
 word_goes_on place ws w h l ok = go (eqb w unit_word) refl (sym (word_split place w) ∙ ok)
   where
     goes : ObjectState
-    goes = in_block (place_next place (standing_of_kind (kind w))) (begin (kind w))
+    goes = in_block (place_next place (standing_of_kind (kind w))) (begin_body (kind w))
 
     go : (b : Bool) → eqb w unit_word ≡ b → cond b (refuse_unit place) (first_of (refuse_alone_word modes.Object w) (refuse_place place (standing_of_kind (kind w)))) ≡ None → SoFar (cond b AtCount goes) (ws ++ w ∷ [])
     go true e pass = unit_begins place ws w h (eqb-true w unit_word e) pass

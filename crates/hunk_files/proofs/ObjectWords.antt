@@ -16,7 +16,7 @@ use Rattle.hunk_blocks.specs.Modes.{refuse_alone_kind, refuse_alone_word, refuse
 use Rattle.hunk_blocks.proofs.Admitted.{not_for_memory, other_than_memory}
 use Rattle.hunk_scan.specs.Standings.{BlockStanding, first_of, refuse_standing, standing_of_kind}
 use Rattle.hunk_files.specs.ObjectFile.{unit_word}
-use Rattle.hunk_files.specs.ObjectFault.{WordPlace, BeforeUnits, BetweenHunks, InHunk, ObjectRole, WordAt, UnitCount, Within, role_at, has_content, refuse_ext_type, refuse_kind, refuse_unit, refuse_word, refuse_object}
+use Rattle.hunk_files.specs.ObjectFault.{WordPlace, BeforeUnits, BetweenHunks, InHunk, ObjectRole, WordAt, UnitCount, Within, object_role_at, has_content, refuse_ext_type, refuse_object_kind, refuse_unit, refuse_object_word, refuse_object}
 
 -- ---- block words
 
@@ -25,7 +25,7 @@ abbrev pub refuse_place : WordPlace → BlockStanding → Option Reason
 refuse_place BeforeUnits s = Some reasons.Misplaced
 refuse_place place s = refuse_standing (has_content place) s
 
-pub kind_split : (place : WordPlace) (advisory : Bool) (k : Kind) → refuse_kind place advisory k ≡ first_of (refuse_alone_kind modes.Object advisory k) (refuse_place place (standing_of_kind k))
+pub kind_split : (place : WordPlace) (advisory : Bool) (k : Kind) → refuse_object_kind place advisory k ≡ first_of (refuse_alone_kind modes.Object advisory k) (refuse_place place (standing_of_kind k))
 kind_split BeforeUnits true (kinds.Unknown n) = refl
 kind_split BetweenHunks true (kinds.Unknown n) = refl
 kind_split (InHunk true) true (kinds.Unknown n) = refl
@@ -37,11 +37,11 @@ kind_split (InHunk true) advisory _ = refl
 kind_split (InHunk false) advisory _ = refl
 
 -- The test of a block word, by its two parts.
-pub word_split : (place : WordPlace) (w : ℕ) → refuse_word place w ≡ cond (eqb w unit_word) (refuse_unit place) (first_of (refuse_alone_word modes.Object w) (refuse_place place (standing_of_kind (kind w))))
+pub word_split : (place : WordPlace) (w : ℕ) → refuse_object_word place w ≡ cond (eqb w unit_word) (refuse_unit place) (first_of (refuse_alone_word modes.Object w) (refuse_place place (standing_of_kind (kind w))))
 word_split place w = go (has_both_bits w)
   where
     go : (b : Bool) →
-        cond (eqb w unit_word) (refuse_unit place) (cond b (Some reasons.BothBits) (refuse_kind place (is_advisory w) (kind w)))
+        cond (eqb w unit_word) (refuse_unit place) (cond b (Some reasons.BothBits) (refuse_object_kind place (is_advisory w) (kind w)))
         ≡ cond (eqb w unit_word) (refuse_unit place) (first_of (cond b (Some reasons.BothBits) (refuse_alone_kind modes.Object (is_advisory w) (kind w))) (refuse_place place (standing_of_kind (kind w))))
     go true = refl
     go false = ap (cond (eqb w unit_word) (refuse_unit place)) (kind_split place (is_advisory w) (kind w))
@@ -60,7 +60,7 @@ pub within_split : (part : Part) (w : ℕ) → refuse_object (Within part) w ≡
 within_split parts.ExtWord w = ext_type_split (w / 2 ^ 24)
 within_split _ w = refl
 
-pub within_role : (place : WordPlace) (part : Part) → part ≢ parts.BlockWord → role_at place part ≡ Within part
+pub within_role : (place : WordPlace) (part : Part) → part ≢ parts.BlockWord → object_role_at place part ≡ Within part
 within_role place parts.BlockWord ne = absurd (ne refl)
 within_role place parts.ContentSize ne = refl
 within_role place parts.NameCount ne = refl
@@ -77,7 +77,7 @@ within_role place parts.OffsetCount ne = refl
 
 -- ---- no longword is refused as out of memory
 
-kind_not_for_memory : (place : WordPlace) (advisory : Bool) (k : Kind) → not_for_memory (refuse_kind place advisory k) ≡ true
+kind_not_for_memory : (place : WordPlace) (advisory : Bool) (k : Kind) → not_for_memory (refuse_object_kind place advisory k) ≡ true
 kind_not_for_memory BeforeUnits true (kinds.Unknown n) = refl
 kind_not_for_memory BetweenHunks true (kinds.Unknown n) = refl
 kind_not_for_memory (InHunk true) true (kinds.Unknown n) = refl
@@ -99,7 +99,7 @@ chosen_not_for_memory false x y h k = k
 object_not_for_memory : (role : ObjectRole) (w : ℕ) → not_for_memory (refuse_object role w) ≡ true
 object_not_for_memory (WordAt place) w =
     chosen_not_for_memory (eqb w unit_word) (refuse_unit place) _ (unit_not_for_memory place)
-    (chosen_not_for_memory (has_both_bits w) (Some reasons.BothBits) (refuse_kind place (is_advisory w) (kind w)) refl (kind_not_for_memory place (is_advisory w) (kind w)))
+    (chosen_not_for_memory (has_both_bits w) (Some reasons.BothBits) (refuse_object_kind place (is_advisory w) (kind w)) refl (kind_not_for_memory place (is_advisory w) (kind w)))
 object_not_for_memory UnitCount w = chosen_not_for_memory (nat_lt w name_limit) None (Some reasons.NameWord) refl refl
 object_not_for_memory (Within parts.NameCount) w = chosen_not_for_memory (nat_lt w name_limit) None (Some reasons.NameWord) refl refl
 object_not_for_memory (Within parts.ExtWord) w = chosen_not_for_memory (is_some (ext_kind (w / 2 ^ 24))) None (Some reasons.ExtKind) refl refl

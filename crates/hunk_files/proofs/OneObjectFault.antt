@@ -12,7 +12,7 @@ use Rattle.hunk_blocks.specs.Values.{BlockBody, BlockValue, IsBlock}
 use Rattle.hunk_blocks.specs.Parts.{Part, body_parts}
 use Rattle.hunk_blocks.specs.Faults.{HasRefusal, IsFrontTo}
 use Rattle.hunk_blocks.proofs.Admitted.{word_passes}
-use Rattle.hunk_blocks.specs.BlockSteps.{Inside, BlockNext, Open, Whole, part_of, step_inside, begin, Follows}
+use Rattle.hunk_blocks.specs.BlockSteps.{Inside, BlockNext, Open, Whole, part_of, step_inside, begin_body, Follows}
 use Rattle.hunk_blocks.proofs.BlockText.{body_follows}
 use Rattle.hunk_blocks.proofs.FaultLaws.{relabel}
 use Rattle.hunk_blocks.proofs.FaultScan.{Machine, Leads, Leads-append, Passes, Reads, one_fault as one_of, fault_behind, front_passes}
@@ -21,7 +21,7 @@ use Rattle.hunk_blocks.proofs.OneBlockFault.{PartsPass, body_passes, part_not_wo
 use Rattle.hunk_files.specs.LoadFile.{standing, AreInOrder}
 use Rattle.hunk_scan.specs.Standings.{BlockStanding, Beside, Content, Relocating, Ending, is_content, refuse_standing, standing_of_kind, first_of}
 use Rattle.hunk_files.specs.ObjectFile.{ObjectHunk, UnitValue, ObjectFileValue, IsObjectFile, IsObjectHunk, IsUnit, IsNoObjectFile, unit_word}
-use Rattle.hunk_files.specs.ObjectFault.{WordPlace, BeforeUnits, BetweenHunks, InHunk, ObjectRole, WordAt, UnitCount, UnitName, Within, has_content, behind_block, role_at, block_labelled, blocks_labelled, hunk_labelled, unit_header_labelled, unit_labelled, units_labelled, refuse_unit, refuse_word, refuse_object, objects, IsTruncatedObject, HasObjectFault}
+use Rattle.hunk_files.specs.ObjectFault.{WordPlace, BeforeUnits, BetweenHunks, InHunk, ObjectRole, WordAt, UnitCount, UnitName, Within, has_content, behind_block, object_role_at, object_block_labelled, object_blocks_labelled, object_hunk_labelled, unit_header_labelled, unit_labelled, units_labelled, refuse_unit, refuse_object_word, refuse_object, objects, IsTruncatedObject, HasObjectFault}
 use Rattle.hunk_files.proofs.ObjectDecoding.{standing_is, standings}
 use Rattle.hunk_files.proofs.ObjectWords.{refuse_place, within_role, within_split, word_split}
 use Rattle.hunk_files.proofs.UnitFaults.{units_words}
@@ -57,7 +57,7 @@ behind_name zero = AtWord BetweenHunks
 behind_name (suc owed) = InName owed
 
 abbrev pub step : ObjectState → ℕ → ObjectState
-step (AtWord place) w = cond (eqb w unit_word) AtCount (in_block (place_next place (standing_of_kind (kind w))) (begin (kind w)))
+step (AtWord place) w = cond (eqb w unit_word) AtCount (in_block (place_next place (standing_of_kind (kind w))) (begin_body (kind w)))
 step AtCount w = behind_name w
 step (InName owed) w = behind_name owed
 step (InBlock next x) w = in_block next (step_inside x w)
@@ -70,25 +70,25 @@ reader = record { start = AtWord BeforeUnits; expects = expects; step = step }
 no_unit_word : (b : BlockValue) → IsBlock b → b.word ≢ unit_word
 no_unit_word b is e = no_kind b.word b.body is.body (ap kind e ∙ unit_kind)
 
-body_leads : (place next : WordPlace) (n : BlockNext) (ps : List (Part × ℕ)) (b : BlockBody) → Follows n ps (Whole b) → Leads reader (in_block next n) (relabel (role_at place) ps) (AtWord next)
+body_leads : (place next : WordPlace) (n : BlockNext) (ps : List (Part × ℕ)) (b : BlockBody) → Follows n ps (Whole b) → Leads reader (in_block next n) (relabel (object_role_at place) ps) (AtWord next)
 body_leads place next n [] b h = ap (in_block next) h
 body_leads place next (Open x) (p ∷ ps) b h =
-    (ap (λ (r : ObjectRole). Some r) (sym (within_role place (part_of x) (part_not_word x)) ∙ ap (role_at place) h.0), body_leads place next (step_inside x p.1) ps b h.1)
+    (ap (λ (r : ObjectRole). Some r) (sym (within_role place (part_of x) (part_not_word x)) ∙ ap (object_role_at place) h.0), body_leads place next (step_inside x p.1) ps b h.1)
 body_leads place next (Whole c) (p ∷ ps) b h = absurd h
 
-block_leads : (place : WordPlace) (b : BlockValue) → IsBlock b → Leads reader (AtWord place) (block_labelled place b) (AtWord (place_next place (standing b.body)))
+block_leads : (place : WordPlace) (b : BlockValue) → IsBlock b → Leads reader (AtWord place) (object_block_labelled place b) (AtWord (place_next place (standing b.body)))
 block_leads place b is =
     let next : WordPlace = place_next place (standing b.body) in
-    let goes : step (AtWord place) b.word ≡ in_block next (begin (kind b.word)) =
+    let goes : step (AtWord place) b.word ≡ in_block next (begin_body (kind b.word)) =
     passes_else (eqb b.word unit_word) AtCount _ (ne_eqb b.word unit_word (no_unit_word b is))
-    ∙ ap (λ (s : BlockStanding). in_block (place_next place s) (begin (kind b.word))) (sym (standing_is b.word b.body is.body)) in
-    (refl, subst (λ (s : ObjectState). Leads reader s (relabel (role_at place) (body_parts b.body)) (AtWord next)) (sym goes) (body_leads place next (begin (kind b.word)) (body_parts b.body) b.body (body_follows b.word b.body is.body)))
+    ∙ ap (λ (s : BlockStanding). in_block (place_next place s) (begin_body (kind b.word))) (sym (standing_is b.word b.body is.body)) in
+    (refl, subst (λ (s : ObjectState). Leads reader s (relabel (object_role_at place) (body_parts b.body)) (AtWord next)) (sym goes) (body_leads place next (begin_body (kind b.word)) (body_parts b.body) b.body (body_follows b.word b.body is.body)))
 
-parts_pass : (place : WordPlace) (ps : List (Part × ℕ)) → PartsPass ps → Passes reader refuse_object (relabel (role_at place) ps)
+parts_pass : (place : WordPlace) (ps : List (Part × ℕ)) → PartsPass ps → Passes reader refuse_object (relabel (object_role_at place) ps)
 parts_pass place [] h = tt
 parts_pass place (p ∷ ps) h = (ap (λ (r : ObjectRole). refuse_object r p.1) (within_role place p.0 h.0.0) ∙ within_split p.0 p.1 ∙ h.0.1, parts_pass place ps h.1)
 
-word_goes : (place : WordPlace) (b : BlockValue) → IsBlock b → refuse_place place (standing b.body) ≡ None → refuse_word place b.word ≡ None
+word_goes : (place : WordPlace) (b : BlockValue) → IsBlock b → refuse_place place (standing b.body) ≡ None → refuse_object_word place b.word ≡ None
 word_goes place b is ok =
     word_split place b.word
     ∙ passes_else (eqb b.word unit_word) (refuse_unit place) _ (ne_eqb b.word unit_word (no_unit_word b is))
@@ -96,7 +96,7 @@ word_goes place b is ok =
     ∙ ap (refuse_place place) (sym (standing_is b.word b.body is.body))
     ∙ ok
 
-block_passes : (place : WordPlace) (b : BlockValue) → IsBlock b → refuse_place place (standing b.body) ≡ None → Passes reader refuse_object (block_labelled place b)
+block_passes : (place : WordPlace) (b : BlockValue) → IsBlock b → refuse_place place (standing b.body) ≡ None → Passes reader refuse_object (object_block_labelled place b)
 block_passes place b is ok = (word_goes place b is ok, parts_pass place (body_parts b.body) (body_passes b.word b.body is.body))
 
 -- ---- hunks
@@ -141,22 +141,22 @@ Runs s ls t = Leads reader s ls t × Passes reader refuse_object ls
 runs_on : (a b c : ObjectState) (ks ls : List (ObjectRole × ℕ)) → Runs a ks b → Runs b ls c → Runs a (ks ++ ls) c
 runs_on a b c ks ls h k = (Leads-append reader a b c ks ls h.0 k.0, All-append _ ks ls h.1 k.1)
 
-blocks_run : (place : WordPlace) (bs : ObjectHunk) → IsInUnit place → AllByRecursion IsBlock bs → AreInOrder (has_content place) (standings bs) → Runs (AtWord place) (blocks_labelled place bs) (AtWord BetweenHunks)
+blocks_run : (place : WordPlace) (bs : ObjectHunk) → IsInUnit place → AllByRecursion IsBlock bs → AreInOrder (has_content place) (standings bs) → Runs (AtWord place) (object_blocks_labelled place bs) (AtWord BetweenHunks)
 blocks_run place [] h are order = absurd order
 blocks_run place (b ∷ bs) h are order =
     let s : BlockStanding = standing b.body in
     let n = order_next place s bs order in
-    let one : Runs (AtWord place) (block_labelled place b) (AtWord (place_next place s)) = (block_leads place b are.0, block_passes place b are.0 (placed place s h n.stands)) in
+    let one : Runs (AtWord place) (object_block_labelled place b) (AtWord (place_next place s)) = (block_leads place b are.0, block_passes place b are.0 (placed place s h n.stands)) in
     elim n.goes [
-      | inl last ↦ runs_on (AtWord place) (AtWord (place_next place s)) (AtWord BetweenHunks) (block_labelled place b) (blocks_labelled (behind_block place s) bs) one
-          (subst (λ (cs : ObjectHunk). Runs (AtWord (place_next place s)) (blocks_labelled (behind_block place s) cs) (AtWord BetweenHunks)) (sym last.0) (ap (λ (p : WordPlace). AtWord p) last.1, tt))
-      | inr more ↦ runs_on (AtWord place) (AtWord (place_next place s)) (AtWord BetweenHunks) (block_labelled place b) (blocks_labelled (behind_block place s) bs) one
-          (subst (λ (p : WordPlace). Runs (AtWord p) (blocks_labelled (behind_block place s) bs) (AtWord BetweenHunks)) (sym more.0) (blocks_run (behind_block place s) bs tt are.1 more.1))
+      | inl last ↦ runs_on (AtWord place) (AtWord (place_next place s)) (AtWord BetweenHunks) (object_block_labelled place b) (object_blocks_labelled (behind_block place s) bs) one
+          (subst (λ (cs : ObjectHunk). Runs (AtWord (place_next place s)) (object_blocks_labelled (behind_block place s) cs) (AtWord BetweenHunks)) (sym last.0) (ap (λ (p : WordPlace). AtWord p) last.1, tt))
+      | inr more ↦ runs_on (AtWord place) (AtWord (place_next place s)) (AtWord BetweenHunks) (object_block_labelled place b) (object_blocks_labelled (behind_block place s) bs) one
+          (subst (λ (p : WordPlace). Runs (AtWord p) (object_blocks_labelled (behind_block place s) bs) (AtWord BetweenHunks)) (sym more.0) (blocks_run (behind_block place s) bs tt are.1 more.1))
     ]
 
-hunks_run : (hs : List ObjectHunk) → AllByRecursion IsObjectHunk hs → Runs (AtWord BetweenHunks) (flat_map hunk_labelled hs) (AtWord BetweenHunks)
+hunks_run : (hs : List ObjectHunk) → AllByRecursion IsObjectHunk hs → Runs (AtWord BetweenHunks) (flat_map object_hunk_labelled hs) (AtWord BetweenHunks)
 hunks_run [] h = (refl, tt)
-hunks_run (x ∷ hs) h = runs_on (AtWord BetweenHunks) (AtWord BetweenHunks) (AtWord BetweenHunks) (hunk_labelled x) (flat_map hunk_labelled hs) (blocks_run BetweenHunks x tt h.0.blocks h.0.order) (hunks_run hs h.1)
+hunks_run (x ∷ hs) h = runs_on (AtWord BetweenHunks) (AtWord BetweenHunks) (AtWord BetweenHunks) (object_hunk_labelled x) (flat_map object_hunk_labelled hs) (blocks_run BetweenHunks x tt h.0.blocks h.0.order) (hunks_run hs h.1)
 
 -- ---- units
 
@@ -170,7 +170,7 @@ Begins BeforeUnits = Unit {0}
 Begins BetweenHunks = Unit {0}
 Begins (InHunk has) = ⊥
 
-unit_goes : (place : WordPlace) → Begins place → refuse_word place unit_word ≡ None
+unit_goes : (place : WordPlace) → Begins place → refuse_object_word place unit_word ≡ None
 unit_goes BeforeUnits h = refl
 unit_goes BetweenHunks h = refl
 unit_goes (InHunk has) h = absurd h
@@ -182,7 +182,7 @@ header_runs place name h few =
 
 unit_runs : (place : WordPlace) (u : UnitValue) → Begins place → IsUnit u → Runs (AtWord place) (unit_labelled place u) (AtWord BetweenHunks)
 unit_runs place u h is =
-    runs_on (AtWord place) (AtWord BetweenHunks) (AtWord BetweenHunks) (unit_header_labelled place u.name) (flat_map hunk_labelled u.hunks) (header_runs place u.name h is.name.0) (hunks_run u.hunks is.hunks)
+    runs_on (AtWord place) (AtWord BetweenHunks) (AtWord BetweenHunks) (unit_header_labelled place u.name) (flat_map object_hunk_labelled u.hunks) (header_runs place u.name h is.name.0) (hunks_run u.hunks is.hunks)
 
 units_run : (us : ObjectFileValue) → AllByRecursion IsUnit us → Runs (AtWord BetweenHunks) (units_labelled BetweenHunks us) (AtWord BetweenHunks)
 units_run [] are = (refl, tt)

@@ -4,10 +4,11 @@ use Rattle.std.specs.List.{AllByRecursion}
 use Rattle.std.proofs.lemmas.List.{map-append}
 use Rattle.hunk_blocks.specs.Values.{BlockBody, BlockValue, Name, Code, Data, Bss, Reloc, Ext, Symbol, Debug, Advisory, End, IsBlock}
 use Rattle.hunk_blocks.specs.Parts.{Part, block_text, block_parts}
+use Rattle.hunk_blocks.specs.Faults.{words}
 use Rattle.hunk_files.specs.LoadFile.{HunkValue, IsHunk, IsHunkBlock, AreInOrder, standing, declared_longs}
 use Rattle.hunk_scan.specs.Standings.{is_content}
 use Rattle.hunk_scan.specs.Roles.{Place, Role, InBlock}
-use Rattle.hunk_files.specs.LoadText.{block_labelled, blocks_labelled, hunk_labelled, words}
+use Rattle.hunk_files.specs.LoadText.{block_labelled, blocks_labelled, hunk_labelled}
 use Rattle.hunk_blocks.proofs.BlockPrefix.{block_same}
 use Rattle.hunk_files.specs.Hunks.{is_end, block_texts, EndsOnce, IsLoadBlock, AreHunkBlocks}
 use Rattle.hunk_files.proofs.FileText.{standings}

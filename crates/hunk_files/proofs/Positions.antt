@@ -5,7 +5,7 @@ use Rattle.hunk_words.specs.declared.block_word.Kind.TheVariants as kinds
 use Rattle.hunk_words.specs.declared.reason.Reason.TheVariants as reasons
 use Rattle.hunk_words.specs.Bits.{size_longs, has_both_bits, is_advisory, kind}
 use Rattle.hunk_blocks.specs.Values.{SymbolEntry, BlockValue, End}
-use Rattle.hunk_blocks.specs.BlockSteps.{entry, ForName, ForDebug, ForAdvisory, ForCode, ForData, ForBss, Filling, Counted, SizedCode, SizedData, Inside, AtCount, AtSize, InPayload, AtGroup, AtTarget, InOffsets, AtEntry, InName, AtValue, BlockNext, Open, Whole, begin, step_inside, fill, name_entry}
+use Rattle.hunk_blocks.specs.BlockSteps.{entry, ForName, ForDebug, ForAdvisory, ForCode, ForData, ForBss, Filling, Counted, SizedCode, SizedData, Inside, AtCount, AtSize, InPayload, AtGroup, AtTarget, InOffsets, AtEntry, InName, AtValue, BlockNext, Open, Whole, begin_body, step_inside, fill, name_entry}
 use Rattle.hunk_blocks.proofs.Lists.{map-more, more_owed, passed_both}
 use Rattle.hunk_scan.specs.declared.phase.OpenHunk as numbers
 use Rattle.hunk_scan.specs.declared.phase.Phase.{Phase}
@@ -17,10 +17,10 @@ use Rattle.hunk_scan.specs.Positions.{role_at, run, pass, is_between_hunks}
 use Rattle.hunk_scan.specs.Roles.{refuse, refuse_kind}
 use Rattle.hunk_files.specs.LoadFile.{TableEntry, HunkValue, standing}
 use Rattle.hunk_scan.specs.Standings.{BlockStanding, Beside, Content, Relocating, Ending}
-use Rattle.hunk_files.specs.LoadText.{entries}
+use Rattle.hunk_files.specs.LoadText.{table}
 use Rattle.hunk_files.proofs.Reading.{next_after, all_pass}
 use Rattle.hunk_files.specs.ReaderPosition.{open_of, block_phase, phase_of, position_of, open_longs, opened}
-use Rattle.hunk_files.specs.FileSteps.{HunkSoFar, Progress, AtFirst, AtLastHunk, AtSizeWord, AtAttributes, AtBlock, InBody, Next, More, Finished, role_of, place_of, step, rows, open_hunk, with_block, close_by, sized_row, after, hunk, block, table_entry}
+use Rattle.hunk_files.specs.FileSteps.{HunkSoFar, Progress, AtFirst, AtLastHunk, AtSizeWord, AtAttributes, AtBlock, InBody, Next, More, Finished, role_of, place_of, step_file, rows, open_hunk, with_block, close_by, sized_row, after, hunk, block, table_entry}
 use Rattle.hunk_files.proofs.FileProgress.{ProgressFits}
 use Rattle.hunk_files.proofs.HunkProgress.{Within}
 use Rattle.hunk_files.proofs.InsideCases.{by_inside}
@@ -71,7 +71,7 @@ pub record Passes (p : Progress) (n : Next) (ws : List ℕ) (position : Position
   pub position_is : position_of (More next) ≡ position
   pub stays : Stays p next
 
-module _ (o : HunkSoFar) (word : ℕ) (p : Progress) (longs_are : size_longs o.entry.word ≡ open_longs p) (opened_are : entries o.finished ++ o.entry ∷ [] ≡ opened p) where
+module _ (o : HunkSoFar) (word : ℕ) (p : Progress) (longs_are : size_longs o.entry.word ≡ open_longs p) (opened_are : table o.finished ++ o.entry ∷ [] ≡ opened p) where
   open_passes : (x : Inside) → Passes p (More (InBody o word x)) [] (positions.Body (open_of o) (phase_of x))
   open_passes x = record { next = InBody o word x; leads = refl; passes = refl; position_is = refl; stays = (longs_are, opened_are) }
 
@@ -193,7 +193,7 @@ module _ (o : HunkSoFar) (word : ℕ) where
   inside_position _ w h = absurd h
 
   -- the kinds that are refused do not matter
-  begin_position : (advisory : Bool) (k : Kind) → refuse_kind o.has_content advisory k ≡ None → position_of (after o word (begin k)) ≡ scan.begin (open_of o) k
+  begin_position : (advisory : Bool) (k : Kind) → refuse_kind o.has_content advisory k ≡ None → position_of (after o word (begin_body k)) ≡ scan.begin (open_of o) k
   begin_position a kinds.Name ok = refl
   begin_position a kinds.Code ok = refl
   begin_position a kinds.Data ok = refl
@@ -210,7 +210,7 @@ block_step o w [] = refl
 block_step o w (b ∷ blocks) = refl
 
 -- A step of the reader is a step of its position.
-pub step_position : (p : Progress) (w : ℕ) → ProgressFits p → refuse (role_of p) w ≡ None → position_of (step p w) ≡ scan.step (position_of (More p)) w
+pub step_position : (p : Progress) (w : ℕ) → ProgressFits p → refuse (role_of p) w ≡ None → position_of (step_file p w) ≡ scan.step (position_of (More p)) w
 step_position (AtLastHunk hunks) w f ok = rows_position hunks [] hunks (omega arith)
 step_position (AtSizeWord hunks done owed) w f ok = sized_position hunks done w owed (has_both_bits w) f.counts
 step_position (AtAttributes hunks done word owed) w f ok = rows_position hunks (done ++ table_entry word w ∷ []) owed (more_owed done (table_entry word w) owed ∙ f.0.counts)
@@ -235,16 +235,16 @@ inside_open (InPayload (SizedCode top) done owed) o = refl
 inside_open _ o = refl
 
 abbrev pub MovesTo : Progress → HunkSoFar → List BlockValue → Type 0
-MovesTo p o [] = entries o.finished ≡ opened p
+MovesTo p o [] = table o.finished ≡ opened p
 MovesTo p o (b ∷ blocks) = Stays p (AtBlock o)
 
 -- The open hunk stays, or it ends and the next opens.
 abbrev pub Moves : Progress → Next → Type 0
 Moves p (More (AtBlock o)) = MovesTo p o o.blocks
 Moves p (More q) = Stays p q
-Moves p (Finished v) = entries v ≡ opened p
+Moves p (Finished v) = table v ≡ opened p
 
-open_moves : (p : Progress) (hunks : ℕ) (finished : List HunkValue) (ahead : List TableEntry) → entries finished ≡ opened p → Moves p (open_hunk hunks finished ahead)
+open_moves : (p : Progress) (hunks : ℕ) (finished : List HunkValue) (ahead : List TableEntry) → table finished ≡ opened p → Moves p (open_hunk hunks finished ahead)
 open_moves p hunks finished [] e = e
 open_moves p hunks finished (x ∷ ahead) e = e
 
@@ -272,10 +272,10 @@ after_moves p o word (Whole body) s = go (standing body)
         open_moves p o.hunks (o.finished ++ hunk o.entry (o.blocks ++ block word body ∷ []) ∷ []) o.ahead
         (map-more (λ (h : HunkValue). h.entry) o.finished (hunk o.entry (o.blocks ++ block word body ∷ [])) ∙ s.1)
 
-pub step_moves : (p : Progress) (w : ℕ) → Moves p (step p w)
+pub step_moves : (p : Progress) (w : ℕ) → Moves p (step_file p w)
 step_moves (AtLastHunk hunks) w = row_moves (AtLastHunk hunks) hunks [] hunks refl refl
 step_moves (AtSizeWord hunks done owed) w = sized_moves (AtSizeWord hunks done owed) hunks done w owed (has_both_bits w) refl refl
 step_moves (AtAttributes hunks done word owed) w = row_moves (AtAttributes hunks done word owed) hunks (done ++ table_entry word w ∷ []) owed refl refl
-step_moves (AtBlock o) w = after_moves (AtBlock o) o w (begin (kind w)) (refl, refl)
+step_moves (AtBlock o) w = after_moves (AtBlock o) o w (begin_body (kind w)) (refl, refl)
 step_moves (InBody o word x) w = after_moves (InBody o word x) o word (step_inside x w) (refl, refl)
 step_moves _ w = (refl, refl)

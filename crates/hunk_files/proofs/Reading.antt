@@ -4,11 +4,12 @@ use Rattle.std.proofs.lemmas.List.{map-append}
 use Rattle.std.proofs.lemmas.Bool.{and_parts}
 use Rattle.hunk_words.specs.declared.reason.Reason.{Reason}
 use Rattle.hunk_words.specs.Longs.{longs, IsLong, AreLongs}
+use Rattle.hunk_blocks.specs.Faults.{words}
 use Rattle.hunk_files.specs.LoadFile.{LoadFileValue, IsLoadFile}
 use Rattle.hunk_scan.specs.Roles.{Role, refuse}
-use Rattle.hunk_files.specs.LoadText.{words, text, labelled}
+use Rattle.hunk_files.specs.LoadText.{text, labelled}
 use Rattle.hunk_files.specs.Fault.{Expects, HasRefusal, IsTruncated}
-use Rattle.hunk_files.specs.FileSteps.{Progress, AtFirst, Next, More, Finished, role_of, step, Leads}
+use Rattle.hunk_files.specs.FileSteps.{Progress, AtFirst, Next, More, Finished, role_of, step_file, Leads}
 use Rattle.hunk_files.proofs.FileText.{file_leads, Leads-append}
 use Rattle.hunk_files.proofs.FileProgress.{Reads}
 use Rattle.hunk_files.proofs.Runs.{Leads-keeps, Leads-split, Leads-same}
@@ -26,11 +27,11 @@ pub start_read : HasRead [] (More AtFirst)
 start_read = record { done = []; run = refl; accepted = tt; all = refl }
 
 -- One more longword is read.
-pub step_read : (ws : List ℕ) (p : Progress) (w : ℕ) → HasRead ws (More p) → IsLong w → refuse (role_of p) w ≡ None → HasRead (ws ++ w ∷ []) (step p w)
+pub step_read : (ws : List ℕ) (p : Progress) (w : ℕ) → HasRead ws (More p) → IsLong w → refuse (role_of p) w ≡ None → HasRead (ws ++ w ∷ []) (step_file p w)
 step_read ws p w h l ok =
     record {
       done = h.done ++ (role_of p, w) ∷ [];
-      run = Leads-append (More AtFirst) (More p) (step p w) h.done ((role_of p, w) ∷ []) h.run (refl, refl);
+      run = Leads-append (More AtFirst) (More p) (step_file p w) h.done ((role_of p, w) ∷ []) h.run (refl, refl);
       accepted = All-append IsAccepted h.done ((role_of p, w) ∷ []) h.accepted ((l, ok), tt);
       all = map-append (λ (x : Role × ℕ). x.1) h.done ((role_of p, w) ∷ []) ∙ ap (λ (xs : List ℕ). xs ++ w ∷ []) h.all;
     }
@@ -107,13 +108,13 @@ read_goes_on ws p h v is more e nil =
 abbrev pub next_after : Next → List ℕ → Next
 next_after n [] = n
 next_after (Finished v) (w ∷ ws) = Finished v
-next_after (More p) (w ∷ ws) = next_after (step p w) ws
+next_after (More p) (w ∷ ws) = next_after (step_file p w) ws
 
 -- whether all longwords are read, and none is refused
 abbrev pub all_pass : Next → List ℕ → Bool
 all_pass n [] = true
 all_pass (Finished v) (w ∷ ws) = false
-all_pass (More p) (w ∷ ws) = is_none (refuse (role_of p) w) && all_pass (step p w) ws
+all_pass (More p) (w ∷ ws) = is_none (refuse (role_of p) w) && all_pass (step_file p w) ws
 
 none_is : {A : Type 0} (o : Option A) → is_none o ≡ true → o ≡ None
 none_is (Some x) e = absurd cc
@@ -124,6 +125,6 @@ pub passing_from : (before : List ℕ) (n : Next) (ws : List ℕ) → HasRead be
 passing_from before n [] h l ok = subst (λ (xs : List ℕ). HasRead xs n) (sym (append-nil before)) h
 passing_from before (Finished v) (w ∷ ws) h l ok = absurd cc
 passing_from before (More p) (w ∷ ws) h l ok =
-    let both = and_parts (is_none (refuse (role_of p) w)) (all_pass (step p w) ws) ok in
-    subst (λ (xs : List ℕ). HasRead xs (next_after (step p w) ws)) (append_assoc before (w ∷ []) ws)
-    (passing_from (before ++ w ∷ []) (step p w) ws (step_read before p w h l.0 (none_is (refuse (role_of p) w) both.0)) l.1 both.1)
+    let both = and_parts (is_none (refuse (role_of p) w)) (all_pass (step_file p w) ws) ok in
+    subst (λ (xs : List ℕ). HasRead xs (next_after (step_file p w) ws)) (append_assoc before (w ∷ []) ws)
+    (passing_from (before ++ w ∷ []) (step_file p w) ws (step_read before p w h l.0 (none_is (refuse (role_of p) w) both.0)) l.1 both.1)

@@ -1,15 +1,15 @@
 -- Runs of the reader: cut in two, determined by their longwords, and keeping what fits.
 use Rattle.std.proofs.Common.{◌≡◌, ℕ, [], ◌∷◌, ◌++◌, refl, sym, ap₂, subst, ◌∙◌, append_assoc, append-nil, None}
 use Rattle.hunk_scan.specs.Roles.{Role, refuse}
-use Rattle.hunk_files.specs.LoadText.{words}
+use Rattle.hunk_blocks.specs.Faults.{words}
 use Rattle.hunk_files.specs.WordsRead.{Labelled, AreAccepted}
-use Rattle.hunk_files.specs.FileSteps.{Next, More, Finished, role_of, step, Leads}
+use Rattle.hunk_files.specs.FileSteps.{Next, More, Finished, role_of, step_file, Leads}
 use Rattle.hunk_files.proofs.FileProgress.{Reads, step_keeps}
 
 pub Leads-split : (a c : Next) (ls ms : Labelled) → Leads a (ls ++ ms) c → (b : Next) × Leads a ls b × Leads b ms c
 Leads-split a c [] ms h = (a, refl, h)
 Leads-split (More p) c (l ∷ ls) ms h =
-    let rest = Leads-split (step p l.1) c ls ms h.1 in
+    let rest = Leads-split (step_file p l.1) c ls ms h.1 in
     (rest.0, (h.0, rest.1), rest.2)
 Leads-split (Finished v) c (l ∷ ls) ms h = absurd h
 
@@ -22,7 +22,7 @@ Leads-same (Finished v) b c (l ∷ ls) (m ∷ ms) h k e = absurd h
 Leads-same (More p) b c (l ∷ ls) (m ∷ ms) h k e =
     let head : l.1 ≡ m.1 = cc in
     let tail : words ls ≡ words ms = cc in
-    let rest = Leads-same (step p l.1) b c ls ms h.1 (subst (λ (w : ℕ). Leads (step p w) ms c) (sym head) k.1) tail in
+    let rest = Leads-same (step_file p l.1) b c ls ms h.1 (subst (λ (w : ℕ). Leads (step_file p w) ms c) (sym head) k.1) tail in
     (ap₂ (λ (x : Role × ℕ) (xs : Labelled). x ∷ xs) (λ i. ((sym h.0 ∙ k.0) i, head i)) rest.0, rest.1)
 
 -- A run over longwords that pass keeps what fits, and adds them to the text.
@@ -33,6 +33,6 @@ Leads-keeps (More p) b before (l ∷ ls) h ok run =
     let role : role_of p ≡ l.0 = run.0 in
     let one = step_keeps p l.1 h.0 ok.0.0 (subst (λ (r : Role). refuse r l.1 ≡ None) (sym role) ok.0.1) in
     subst (λ (ms : Labelled). Reads b ms) (append_assoc before (l ∷ []) ls)
-    (Leads-keeps (step p l.1) b (before ++ l ∷ []) ls
+    (Leads-keeps (step_file p l.1) b (before ++ l ∷ []) ls
     (one.0, one.1 ∙ ap₂ (λ (ms : Labelled) (r : Role). ms ++ (r, l.1) ∷ []) h.1 role)
     ok.1 run.1)

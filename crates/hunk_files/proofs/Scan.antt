@@ -7,12 +7,12 @@ use Rattle.hunk_words.specs.declared.reason.Reason.{Reason}
 use Rattle.hunk_words.specs.Longs.{longs, bytes_of, IsLong, AreLongs, IsBytes}
 use Rattle.hunk_files.specs.LoadFile.{LoadFileValue, IsLoadFile}
 use Rattle.hunk_scan.specs.Roles.{Role, refuse}
-use Rattle.hunk_files.specs.LoadText.{words, text, labelled}
+use Rattle.hunk_files.specs.LoadText.{text, labelled}
 use Rattle.hunk_blocks.proofs.FaultScan.{Machine, Leads as LeadsOf, Reads as ReadsOf, one_fault as one_of, front_passes, whole_passes}
 use Rattle.hunk_blocks.proofs.Outcomes.{Keeps, run, front, judged}
-use Rattle.hunk_blocks.specs.Faults.{IsFront}
+use Rattle.hunk_blocks.specs.Faults.{IsFront, words}
 use Rattle.hunk_files.specs.Fault.{Expects, HasRefusal, BeginsWithLoadFile, IsTruncated, HasFault, IsCompleted, completing, load_files}
-use Rattle.hunk_files.specs.FileSteps.{Progress, AtFirst, Next, More, Finished, role_of, step, Leads}
+use Rattle.hunk_files.specs.FileSteps.{Progress, AtFirst, Next, More, Finished, role_of, step_file, Leads}
 use Rattle.hunk_files.proofs.FileText.{file_leads}
 use Rattle.hunk_files.proofs.FileProgress.{Reads, step_keeps}
 use Rattle.hunk_files.proofs.Runs.{Leads-split, Leads-same, Leads-keeps}
@@ -161,9 +161,9 @@ completed before role word e l ok =
     let r = place.1 in
     let k = step_keeps p word r.reads.0 l (ap (λ (x : Role). refuse x word) r.role_is ∙ ok) in
     let done : Labelled = e.done ++ (role_of p, word) ∷ [] in
-    let kept : Reads (step p word) done = (k.0, k.1 ∙ ap (λ (ls : Labelled). ls ++ (role_of p, word) ∷ []) r.reads.1) in
-    let c = completes_next (step p word) kept.0 in
-    let end = ends_in (step p word) done c.labels c.value kept c.accepted c.run in
+    let kept : Reads (step_file p word) done = (k.0, k.1 ∙ ap (λ (ls : Labelled). ls ++ (role_of p, word) ∷ []) r.reads.1) in
+    let c = completes_next (step_file p word) kept.0 in
+    let end = ends_in (step_file p word) done c.labels c.value kept c.accepted c.run in
     record {
       value = c.value;
       is_load_file = end.0;
@@ -190,7 +190,7 @@ expects (Finished v) = None
 
 -- nothing is read behind the end
 abbrev next : Next → ℕ → Next
-next (More p) w = step p w
+next (More p) w = step_file p w
 next (Finished v) w = Finished v
 
 abbrev pub load_reader : Machine Next Role
@@ -198,7 +198,7 @@ load_reader = record { start = More AtFirst; expects = expects; step = next }
 
 leads_to : (n end : Next) (ls : Labelled) → Leads n ls end → LeadsOf load_reader n ls end
 leads_to n end [] h = h
-leads_to (More p) end (l ∷ ls) h = (ap (λ (r : Role). Some r) h.0, leads_to (step p l.1) end ls h.1)
+leads_to (More p) end (l ∷ ls) h = (ap (λ (r : Role). Some r) h.0, leads_to (step_file p l.1) end ls h.1)
 leads_to (Finished v) end (l ∷ ls) h = absurd h
 
 pub load_reads : ReadsOf load_files load_reader

@@ -2,8 +2,9 @@
 use Rattle.std.proofs.Common.{ℕ, ◌≤◌, List, [], ◌∷◌, length, ap, length-append, arith}
 use Rattle.hunk_words.specs.Longs.{bytes_of}
 use Rattle.hunk_words.proofs.LongLaws.{length-bytes_of}
+use Rattle.hunk_blocks.specs.Faults.{words}
 use Rattle.hunk_files.specs.LoadFile.{LoadFileValue, TableEntry}
-use Rattle.hunk_files.specs.LoadText.{header_labelled, table, text, words}
+use Rattle.hunk_files.specs.LoadText.{header_labelled, table, text}
 use Rattle.hunk_files.specs.Hunks.{block_texts}
 use Rattle.hunk_files.specs.Strip.{strip_blocks, strip_file}
 use Rattle.hunk_files.specs.Tables.{hunk_texts}

@@ -7,10 +7,11 @@ use Rattle.hunk_words.specs.Longs.{longs, bytes_of}
 use Rattle.hunk_words.specs.Bits.{has_both_bits}
 use Rattle.hunk_words.proofs.LongLaws.{bytes_of-append, length-bytes_of, length-longs}
 use Rattle.hunk_blocks.proofs.Lists.{flat_map-more}
+use Rattle.hunk_blocks.specs.Faults.{words}
 use Rattle.hunk_files.specs.declared.row.Row.{Row}
 use Rattle.hunk_files.specs.LoadFile.{TableEntry, LoadFileValue, IsTableEntry}
 use Rattle.hunk_scan.specs.Roles.{Role, Role as roles}
-use Rattle.hunk_files.specs.LoadText.{entry_labelled, header_labelled, hunk_labelled, labelled, table, words, text}
+use Rattle.hunk_files.specs.LoadText.{entry_labelled, header_labelled, hunk_labelled, labelled, table, text}
 use Rattle.hunk_files.specs.Fault.{BeginsWithLoadFile}
 use Rattle.hunk_files.specs.Tables.{row_entry, hunk_texts, IsTable}
 use Rattle.hunk_files.proofs.FileProgress.{header_so_far}

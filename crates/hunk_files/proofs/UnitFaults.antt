@@ -18,7 +18,7 @@ use Rattle.hunk_blocks.proofs.Fronts.{All-right}
 use Rattle.hunk_blocks.proofs.Lists.{All-append, flat_map-append, passes_else}
 use Rattle.hunk_files.specs.ObjectFile.{ObjectHunk, UnitValue, ObjectFileValue, IsObjectHunk, IsUnit, IsNoObjectFile, unit_word, unit_header, unit_text, object_text}
 use Rattle.hunk_files.specs.ObjectParts.{BeginsWithText, EndsUnit}
-use Rattle.hunk_files.specs.ObjectFault.{WordPlace, BeforeUnits, BetweenHunks, InHunk, ObjectRole, WordAt, UnitCount, UnitName, refuse_word, unit_header_labelled, hunk_labelled, unit_labelled, units_labelled, blocks_from, units_from, objects, unread, MayBegin, HasObjectFault}
+use Rattle.hunk_files.specs.ObjectFault.{WordPlace, BeforeUnits, BetweenHunks, InHunk, ObjectRole, WordAt, UnitCount, UnitName, refuse_object_word, unit_header_labelled, object_hunk_labelled, unit_labelled, units_labelled, blocks_from, units_from, objects, unread, MayBegin, HasObjectFault}
 use Rattle.hunk_files.proofs.PartFaults.{fault_behind, value_wanted}
 use Rattle.hunk_files.proofs.HunkFaults.{blocks_words}
 use Rattle.hunk_files.proofs.ObjectDecoding.{hunk_longs, text_size, unit_longs, object_longs}
@@ -34,12 +34,12 @@ names_words (w ∷ name) = ap (λ ws. w ∷ ws) (names_words name)
 header_words : (place : WordPlace) (name : List ℕ) → words (unit_header_labelled place name) ≡ unit_header name
 header_words place name = ap (λ ws. unit_word ∷ length name ∷ ws) (names_words name)
 
-hunks_words : (hs : List ObjectHunk) → words (flat_map hunk_labelled hs) ≡ flat_map (flat_map block_text) hs
+hunks_words : (hs : List ObjectHunk) → words (flat_map object_hunk_labelled hs) ≡ flat_map (flat_map block_text) hs
 hunks_words [] = refl
-hunks_words (h ∷ hs) = words-append (hunk_labelled h) (flat_map hunk_labelled hs) ∙ ap₂ (λ xs ys. xs ++ ys) (blocks_words BetweenHunks h) (hunks_words hs)
+hunks_words (h ∷ hs) = words-append (object_hunk_labelled h) (flat_map object_hunk_labelled hs) ∙ ap₂ (λ xs ys. xs ++ ys) (blocks_words BetweenHunks h) (hunks_words hs)
 
 unit_words : (place : WordPlace) (u : UnitValue) → words (unit_labelled place u) ≡ unit_text u
-unit_words place u = words-append (unit_header_labelled place u.name) (flat_map hunk_labelled u.hunks) ∙ ap₂ (λ xs ys. xs ++ ys) (header_words place u.name) (hunks_words u.hunks)
+unit_words place u = words-append (unit_header_labelled place u.name) (flat_map object_hunk_labelled u.hunks) ∙ ap₂ (λ xs ys. xs ++ ys) (header_words place u.name) (hunks_words u.hunks)
 
 pub units_words : (place : WordPlace) (us : ObjectFileValue) → words (units_labelled place us) ≡ object_text us
 units_words place [] = refl
@@ -106,7 +106,7 @@ expects_unit place = record { value = one_unit []; is = one_is [] no_name; done 
 pub expects_count : (place : WordPlace) → Expects (units_from place) (unit_word ∷ []) UnitCount
 expects_count place = record { value = one_unit []; is = one_is [] no_name; done = (WordAt place, unit_word) ∷ []; word = 0; more = []; labels = refl; begins = refl }
 
-pub no_unit_word : (place : WordPlace) (bytes : List ℕ) (w : ℕ) (rest : List ℕ) (reason : Reason) → MayBegin place bytes → longs bytes ≡ w ∷ rest → w ≢ unit_word → refuse_word BeforeUnits w ≡ Some reason →
+pub no_unit_word : (place : WordPlace) (bytes : List ℕ) (w : ℕ) (rest : List ℕ) (reason : Reason) → MayBegin place bytes → longs bytes ≡ w ∷ rest → w ≢ unit_word → refuse_object_word BeforeUnits w ≡ Some reason →
     FaultAhead (units_from place) (unread bytes) (record { place = 0; reason = reason })
 no_unit_word BetweenHunks bytes w rest reason may e ne refused = absurd (ne (sym (ap (λ ws. get_or ws 0 0) e) ∙ may))
 no_unit_word (InHunk has) bytes w rest reason may e ne refused = absurd may
@@ -164,9 +164,9 @@ hunk_embeds place u is =
       is = λ h k. (omega arith, (record { name = is.name; hunks = All-append IsObjectHunk u.hunks (h ∷ []) is.hunks (record { blocks = k.0; order = k.1 }, tt) }, tt));
       labels = λ h k.
           append-nil (unit_labelled place (unit u.name (u.hunks ++ h ∷ [])))
-          ∙ ap (λ ls. unit_header_labelled place u.name ++ ls) (flat_map-append hunk_labelled u.hunks (h ∷ []))
-          ∙ sym (append_assoc (unit_header_labelled place u.name) (flat_map hunk_labelled u.hunks) (hunk_labelled h ++ []))
-          ∙ ap (λ ls. unit_labelled place u ++ (ls ++ [])) (sym (same-labels (hunk_labelled h)));
+          ∙ ap (λ ls. unit_header_labelled place u.name ++ ls) (flat_map-append object_hunk_labelled u.hunks (h ∷ []))
+          ∙ sym (append_assoc (unit_header_labelled place u.name) (flat_map object_hunk_labelled u.hunks) (object_hunk_labelled h ++ []))
+          ∙ ap (λ ls. unit_labelled place u ++ (ls ++ [])) (sym (same-labels (object_hunk_labelled h)));
       refuses = λ r w reason h. h;
     }
 

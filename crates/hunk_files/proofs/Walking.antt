@@ -12,21 +12,22 @@ use Rattle.hunk_words.specs.Longs.{IsBytes, IsLong, AreLongs, longs, bytes_of}
 use Rattle.hunk_words.specs.Bits.{size_longs, has_both_bits}
 use Rattle.hunk_words.proofs.LongLaws.{spelled, longs_fit, bytes_of-append, length-bytes_of, length-longs}
 use Rattle.hunk_blocks.proofs.Lists.{flat_map-more}
+use Rattle.hunk_blocks.specs.Faults.{words}
 use Rattle.hunk_files.specs.LoadFile.{TableEntry, LoadFileValue}
 use Rattle.hunk_scan.specs.Roles.{Role, refuse, Role as roles}
-use Rattle.hunk_files.specs.LoadText.{words, entry_labelled, hunk_labelled, blocks_labelled, entries}
+use Rattle.hunk_files.specs.LoadText.{entry_labelled, hunk_labelled, blocks_labelled, table}
 use Rattle.hunk_files.specs.Fault.{HasFault, HasLoadText}
 use Rattle.hunk_files.specs.declared.load.walk.Entry.{Entry}
 use Rattle.hunk_files.specs.Entries.{entry_behind, entry_at}
 use Rattle.hunk_scan.specs.declared.position.Position.{Position}
 use Rattle.hunk_scan.specs.declared.position.Position.TheVariants as positions
 use Rattle.hunk_scan.specs.Positions as scan
-use Rattle.hunk_scan.specs.Positions.{role_at, run, offsets, pass_offsets, is_between_hunks, EndsWithin}
+use Rattle.hunk_scan.specs.Positions.{role_at, run, offsets_to_come, pass_offsets, is_between_hunks, EndsWithin}
 use Rattle.hunk_scan.specs.declared.phase.OpenHunk as numbers
 use Rattle.hunk_scan.specs.declared.phase.Phase.TheVariants as phases
 use Rattle.hunk_scan.proofs.OffsetRuns.{offset_passes}
 use Rattle.hunk_files.specs.Passing.{ArePassed}
-use Rattle.hunk_files.specs.FileSteps.{HunkSoFar, Progress, AtFirst, AtBlock, InBody, Next, More, Finished, role_of, step}
+use Rattle.hunk_files.specs.FileSteps.{HunkSoFar, Progress, AtFirst, AtBlock, InBody, Next, More, Finished, role_of, step_file}
 use Rattle.hunk_files.proofs.FileProgress.{header_so_far, open_so_far}
 use Rattle.hunk_files.specs.WordsRead.{Labelled, HasRead}
 use Rattle.hunk_files.proofs.Reading.{reads, start_read, step_read, passing_from, read_refused, read_ended, read_truncated}
@@ -95,37 +96,37 @@ header_split hunks es ahead e = (
   ap (λ (l : Labelled). (roles.FirstLong, 0x3F3) ∷ (roles.ResidentName, 0) ∷ (roles.TableSize, hunks) ∷ (roles.FirstHunk, 0) ∷ (roles.LastHunk hunks, hunks - 1) ∷ l) (flat_map-append entry_labelled es (e ∷ ahead)),
 )
 
-open_split : (o : HunkSoFar) → (more : Labelled) × (open_so_far o ≡ header_so_far o.hunks (entries o.finished) ++ (roles.SizeWord, o.entry.word) ∷ more)
+open_split : (o : HunkSoFar) → (more : Labelled) × (open_so_far o ≡ header_so_far o.hunks (table o.finished) ++ (roles.SizeWord, o.entry.word) ∷ more)
 open_split o =
-    let h = header_split o.hunks (entries o.finished) o.ahead o.entry in
+    let h = header_split o.hunks (table o.finished) o.ahead o.entry in
     let hunks = flat_map (hunk_labelled o.hunks) o.finished in
     let blocks = blocks_labelled o.hunks (size_longs o.entry.word) false o.blocks in (
       (h.0 ++ hunks) ++ blocks,
       ap (λ (l : Labelled). (l ++ hunks) ++ blocks) h.1
-          ∙ ap (λ (l : Labelled). l ++ blocks) (append_assoc (header_so_far o.hunks (entries o.finished)) ((roles.SizeWord, o.entry.word) ∷ h.0) hunks)
-          ∙ append_assoc (header_so_far o.hunks (entries o.finished)) (((roles.SizeWord, o.entry.word) ∷ h.0) ++ hunks) blocks,
+          ∙ ap (λ (l : Labelled). l ++ blocks) (append_assoc (header_so_far o.hunks (table o.finished)) ((roles.SizeWord, o.entry.word) ∷ h.0) hunks)
+          ∙ append_assoc (header_so_far o.hunks (table o.finished)) (((roles.SizeWord, o.entry.word) ∷ h.0) ++ hunks) blocks,
     )
 
 module _ (ws : List ℕ) (o : HunkSoFar) (h : HasRead ws (More (AtBlock o))) where
-  behind_length : length (words (header_so_far o.hunks (entries o.finished))) ≡ row_behind (entries o.finished)
-  behind_length = omega (arith, length-map (header_so_far o.hunks (entries o.finished)) (λ (x : Role × ℕ). x.1))
+  behind_length : length (words (header_so_far o.hunks (table o.finished))) ≡ row_behind (table o.finished)
+  behind_length = omega (arith, length-map (header_so_far o.hunks (table o.finished)) (λ (x : Role × ℕ). x.1))
 
-  read_split : ws ≡ words (header_so_far o.hunks (entries o.finished)) ++ o.entry.word ∷ words (open_split o).0
-  read_split = sym h.all ∙ ap words (sym (reads h).1 ∙ (open_split o).1) ∙ map-append (λ (x : Role × ℕ). x.1) (header_so_far o.hunks (entries o.finished)) ((roles.SizeWord, o.entry.word) ∷ (open_split o).0)
+  read_split : ws ≡ words (header_so_far o.hunks (table o.finished)) ++ o.entry.word ∷ words (open_split o).0
+  read_split = sym h.all ∙ ap words (sym (reads h).1 ∙ (open_split o).1) ∙ map-append (λ (x : Role × ℕ). x.1) (header_so_far o.hunks (table o.finished)) ((roles.SizeWord, o.entry.word) ∷ (open_split o).0)
 
-  row_inside : row_behind (entries o.finished) < length ws
+  row_inside : row_behind (table o.finished) < length ws
   row_inside =
       omega (
         arith,
         ap length read_split,
-        length-append (words (header_so_far o.hunks (entries o.finished))) (o.entry.word ∷ words (open_split o).0),
+        length-append (words (header_so_far o.hunks (table o.finished))) (o.entry.word ∷ words (open_split o).0),
         behind_length,
       )
 
-  row_word : get_or ws (row_behind (entries o.finished)) 0 ≡ o.entry.word
+  row_word : get_or ws (row_behind (table o.finished)) 0 ≡ o.entry.word
   row_word =
-      ap (λ (l : List ℕ). get_or l (row_behind (entries o.finished)) 0) read_split
-      ∙ get_or_at (words (header_so_far o.hunks (entries o.finished))) o.entry.word (words (open_split o).0) 0 (row_behind (entries o.finished)) behind_length
+      ap (λ (l : List ℕ). get_or l (row_behind (table o.finished)) 0) read_split
+      ∙ get_or_at (words (header_so_far o.hunks (table o.finished))) o.entry.word (words (open_split o).0) 0 (row_behind (table o.finished)) behind_length
 
 entries_length : (es : List TableEntry) (e : TableEntry) → length (flat_map entry_labelled (es ++ e ∷ [])) ≡ length (flat_map entry_labelled es) + length (entry_labelled e)
 entries_length es e = ap length (flat_map-more entry_labelled es e) ∙ length-append (flat_map entry_labelled es) (entry_labelled e)
@@ -142,10 +143,10 @@ same_entry e d l n = λ i. record { longs = l i; next = n i }
 -- behind these longwords of the input, where the last was read at p
 module _ (all : List ℕ) (at : ℕ) (whole : at ≤ length all) (p : Progress) where
   module _ (o : HunkSoFar) (read : HasRead (take at all) (More (AtBlock o))) where
-    opens_inside : row_behind (entries o.finished) ≡ row_of p → row_of p < at
+    opens_inside : row_behind (table o.finished) ≡ row_of p → row_of p < at
     opens_inside e = omega (arith, e, row_inside (take at all) o read, length-take-le at all whole)
 
-    opened_entry : row_behind (entries o.finished) ≡ row_of p → entry_of (AtBlock o) ≡ entry_behind (get_or all (row_of p) 0) (row_of p)
+    opened_entry : row_behind (table o.finished) ≡ row_of p → entry_of (AtBlock o) ≡ entry_behind (get_or all (row_of p) 0) (row_of p)
     opened_entry e =
         let word : o.entry.word ≡ get_or all (row_of p) 0 =
         sym (row_word (take at all) o read)
@@ -153,7 +154,7 @@ module _ (all : List ℕ) (at : ℕ) (whole : at ≤ length all) (p : Progress) 
         ∙ get_or-take at all (row_of p) 0 (opens_inside e) in
         let extra = has_both_bits (get_or all (row_of p) 0) in
         same_entry _ _ (ap size_longs word)
-        (row_after (entries o.finished) o.entry extra (ap has_both_bits word) ∙ ap (λ (r : ℕ). r + (if extra then 2 else 1)) e)
+        (row_after (table o.finished) o.entry extra (ap has_both_bits word) ∙ ap (λ (r : ℕ). r + (if extra then 2 else 1)) e)
 
     block_entry : (blocks : List BlockValue) → MovesTo p o blocks →
         (is_between_hunks (positions.Body (open_of o) (block_phase blocks)) ≡ true → row_of p < at)
@@ -231,19 +232,19 @@ module _ (bytes : List ℕ) (fit : IsBytes bytes) (at : ℕ) (position : Positio
     accepted : refuse (role_of s.progress) (get_or (longs bytes) at 0) ≡ None
     accepted = refusal_here ∙ sym pass
 
-    read_on : HasRead (take (at + 1) (longs bytes)) (step s.progress (get_or (longs bytes) at 0))
+    read_on : HasRead (take (at + 1) (longs bytes)) (step_file s.progress (get_or (longs bytes) at 0))
     read_on =
         let ws = longs bytes in
-        let P : List ℕ → Type 0 = λ r. HasRead r (step s.progress (get_or ws at 0)) in
+        let P : List ℕ → Type 0 = λ r. HasRead r (step_file s.progress (get_or ws at 0)) in
         subst P (sym (take_more ws at 0 l)) (step_read (take at ws) s.progress (get_or ws at 0) s.has_read (All-from_recursion IsLong ws (longs_fit bytes fit) at 0 l) accepted)
 
-    position_on : position_of (step s.progress (get_or (longs bytes) at 0)) ≡ scan.step position (get_or (longs bytes) at 0)
+    position_on : position_of (step_file s.progress (get_or (longs bytes) at 0)) ≡ scan.step position (get_or (longs bytes) at 0)
     position_on =
         step_position s.progress (get_or (longs bytes) at 0) (reads s.has_read).0 accepted
         ∙ ap (λ (p : Position). scan.step p (get_or (longs bytes) at 0)) s.position_is
 
     pub walk_ends : positions.Done ≡ scan.step position (get_or (longs bytes) at 0) → HasLoadText bytes (4 * (at + 1))
-    walk_ends e = go (step s.progress (get_or (longs bytes) at 0)) read_on (position_on ∙ sym e)
+    walk_ends e = go (step_file s.progress (get_or (longs bytes) at 0)) read_on (position_on ∙ sym e)
       where
         text_ends : (v : LoadFileValue) → HasRead (take (at + 1) (longs bytes)) (Finished v) → HasLoadText bytes (4 * (at + 1))
         text_ends v h =
@@ -266,7 +267,7 @@ module _ (bytes : List ℕ) (fit : IsBytes bytes) (at : ℕ) (position : Positio
         (is_between_hunks behind ≡ true → entry.next < at + 1) × StandsAt bytes (at + 1) behind (entry_at (longs bytes) behind entry)
 
     walk_on : (scan.step position (get_or (longs bytes) at 0) ≡ positions.Done → ⊥) → Onward
-    walk_on more = go (step s.progress (get_or (longs bytes) at 0)) read_on (step_moves s.progress (get_or (longs bytes) at 0)) position_on
+    walk_on more = go (step_file s.progress (get_or (longs bytes) at 0)) read_on (step_moves s.progress (get_or (longs bytes) at 0)) position_on
       where
         go : (n : Next) → HasRead (take (at + 1) (longs bytes)) n → Moves s.progress n → position_of n ≡ scan.step position (get_or (longs bytes) at 0) → Onward
         go (Finished v) h m e = absurd (more (sym e))
@@ -311,7 +312,7 @@ fewer o target owed zero l = let e : suc owed ≡ suc owed - 0 = omega arith in 
 fewer o target owed (suc n) l = let e : owed - n ≡ suc owed - suc n = omega arith in ap (λ (k : ℕ). scan.owe_offsets o target k) e
 
 -- a number of them leads to as many fewer
-offsets_over : (bytes : List ℕ) → IsBytes bytes → (n at : ℕ) (p : Position) (entry : Entry) → StandsAt bytes at p entry → n ≤ offsets p → at + n ≤ length (longs bytes) →
+offsets_over : (bytes : List ℕ) → IsBytes bytes → (n at : ℕ) (p : Position) (entry : Entry) → StandsAt bytes at p entry → n ≤ offsets_to_come p → at + n ≤ length (longs bytes) →
     ((i : ℕ) → i < n → EndsWithin (4 * entry.longs) (get_or (longs bytes) (at + i) 0)) → StandsAt bytes (at + n) (pass_offsets p n) entry
 offsets_over bytes fit zero at p entry s few whole inside =
     let same : at ≡ at + 0 = omega arith in subst (λ (k : ℕ). StandsAt bytes k p entry) same s

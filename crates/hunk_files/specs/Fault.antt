@@ -6,10 +6,10 @@ use Rattle.hunk_words.specs.declared.reason.Reason.{Reason}
 use Rattle.hunk_words.specs.declared.reason.Reason.TheVariants as reasons
 use Rattle.hunk_words.specs.Longs.{longs, bytes_of}
 use Rattle.hunk_blocks.specs.Parts.{Part as parts}
-use Rattle.hunk_blocks.specs.Faults.{Grammar, Expects as ExpectsOf, HasRefusal as RefusalOf, IsFront}
+use Rattle.hunk_blocks.specs.Faults.{Grammar, Expects as ExpectsOf, HasRefusal as RefusalOf, IsFront, words}
 use Rattle.hunk_files.specs.LoadFile.{LoadFileValue, IsLoadFile}
 use Rattle.hunk_scan.specs.Roles.{Role, Role as roles, InBlock, refuse}
-use Rattle.hunk_files.specs.LoadText.{labelled, words, text}
+use Rattle.hunk_files.specs.LoadText.{labelled, text}
 
 -- Load files.
 abbrev pub load_files : Grammar LoadFileValue Role

@@ -6,7 +6,7 @@ use Rattle.hunk_blocks.specs.Parts.{Part as parts}
 use Rattle.hunk_files.specs.LoadFile.{TableEntry, HunkValue, LoadFileValue, standing}
 use Rattle.hunk_scan.specs.Standings.{BlockStanding, Beside, Content, Relocating, Ending}
 use Rattle.hunk_scan.specs.Roles.{Place, Role, InBlock, Role as roles}
-use Rattle.hunk_blocks.specs.BlockSteps.{Inside, BlockNext, Open, Whole, part_of, step_inside, begin}
+use Rattle.hunk_blocks.specs.BlockSteps.{Inside, BlockNext, Open, Whole, part_of, step_inside, begin_body}
 
 abbrev pub table_entry : ℕ → ℕ → TableEntry
 table_entry word extra = record { word = word; extra = extra }
@@ -91,21 +91,21 @@ abbrev pub sized_row : ℕ → List TableEntry → ℕ → ℕ → Bool → Next
 sized_row hunks done word owed true = More (AtAttributes hunks done word owed)
 sized_row hunks done word owed false = rows hunks (done ++ table_entry word 0 ∷ []) owed
 
-abbrev pub step : Progress → ℕ → Next
-step AtFirst w = More AtResident
-step AtResident w = More AtTableSize
-step AtTableSize w = More (AtFirstHunk w)
-step (AtFirstHunk hunks) w = More (AtLastHunk hunks)
-step (AtLastHunk hunks) w = rows hunks [] hunks
-step (AtSizeWord hunks done owed) w = sized_row hunks done w owed (has_both_bits w)
-step (AtAttributes hunks done word owed) w = rows hunks (done ++ table_entry word w ∷ []) owed
-step (AtBlock o) w = after o w (begin (kind w))
-step (InBody o word x) w = after o word (step_inside x w)
+abbrev pub step_file : Progress → ℕ → Next
+step_file AtFirst w = More AtResident
+step_file AtResident w = More AtTableSize
+step_file AtTableSize w = More (AtFirstHunk w)
+step_file (AtFirstHunk hunks) w = More (AtLastHunk hunks)
+step_file (AtLastHunk hunks) w = rows hunks [] hunks
+step_file (AtSizeWord hunks done owed) w = sized_row hunks done w owed (has_both_bits w)
+step_file (AtAttributes hunks done word owed) w = rows hunks (done ++ table_entry word w ∷ []) owed
+step_file (AtBlock o) w = after o w (begin_body (kind w))
+step_file (InBody o word x) w = after o word (step_inside x w)
 
 -- ---- runs
 
 -- From one state these longwords, each with the role that is expected, lead to another.
 abbrev pub Leads : Next → List (Role × ℕ) → Next → Type 0
 Leads start [] end = start ≡ end
-Leads (More p) (l ∷ ls) end = (role_of p ≡ l.0) × Leads (step p l.1) ls end
+Leads (More p) (l ∷ ls) end = (role_of p ≡ l.0) × Leads (step_file p l.1) ls end
 Leads (Finished v) (l ∷ ls) end = ⊥

@@ -4,6 +4,7 @@ use Rattle.std.specs.List.{flat_map}
 use Rattle.hunk_words.specs.Bits.{has_both_bits, header_word}
 use Rattle.hunk_blocks.specs.Values.{BlockValue}
 use Rattle.hunk_blocks.specs.Parts.{block_parts}
+use Rattle.hunk_blocks.specs.Faults.{words}
 use Rattle.hunk_files.specs.LoadFile.{TableEntry, HunkValue, LoadFileValue, declared_longs, standing}
 use Rattle.hunk_scan.specs.Standings.{is_content}
 use Rattle.hunk_scan.specs.Roles.{Place, Role, FirstLong, ResidentName, TableSize, FirstHunk, LastHunk, SizeWord, Attributes, InBlock}
@@ -30,19 +31,13 @@ blocks_labelled hunks longs has_content (b ∷ rest) =
 abbrev pub hunk_labelled : ℕ → HunkValue → List (Role × ℕ)
 hunk_labelled hunks h = blocks_labelled hunks (declared_longs h) false h.blocks
 
--- what the table has of hunks
-abbrev pub entries : List HunkValue → List TableEntry
-entries hunks = map (λ h. h.entry) hunks
-
+-- What the table of a file with these hunks has.
 abbrev pub table : LoadFileValue → List TableEntry
-table v = entries v
+table hunks = map (λ h. h.entry) hunks
 
 -- The longwords of a load file, each with its role: the header, then the blocks of each hunk.
 unfoldable pub labelled : LoadFileValue → List (Role × ℕ)
 labelled v = header_labelled (table v) ++ flat_map (hunk_labelled (length v)) v
-
-abbrev pub words : List (Role × ℕ) → List ℕ
-words ls = map (λ x. x.1) ls
 
 -- The longwords of a load file.
 abbrev pub text : LoadFileValue → List ℕ

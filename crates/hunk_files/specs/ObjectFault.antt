@@ -41,26 +41,26 @@ has_content _ = false
 abbrev pub behind_block : WordPlace → BlockStanding → WordPlace
 behind_block place s = InHunk (has_content place || is_content s)
 
-abbrev pub role_at : WordPlace → Part → ObjectRole
-role_at place parts.BlockWord = WordAt place
-role_at place part = Within part
+abbrev pub object_role_at : WordPlace → Part → ObjectRole
+object_role_at place parts.BlockWord = WordAt place
+object_role_at place part = Within part
 
-abbrev pub block_labelled : WordPlace → BlockValue → List (ObjectRole × ℕ)
-block_labelled place b = map (λ x. (role_at place x.0, x.1)) (block_parts b)
+abbrev pub object_block_labelled : WordPlace → BlockValue → List (ObjectRole × ℕ)
+object_block_labelled place b = map (λ x. (object_role_at place x.0, x.1)) (block_parts b)
 
 -- the blocks of a hunk, from this place on
-abbrev pub blocks_labelled : WordPlace → ObjectHunk → List (ObjectRole × ℕ)
-blocks_labelled place [] = []
-blocks_labelled place (b ∷ rest) = block_labelled place b ++ blocks_labelled (behind_block place (standing b.body)) rest
+abbrev pub object_blocks_labelled : WordPlace → ObjectHunk → List (ObjectRole × ℕ)
+object_blocks_labelled place [] = []
+object_blocks_labelled place (b ∷ rest) = object_block_labelled place b ++ object_blocks_labelled (behind_block place (standing b.body)) rest
 
-abbrev pub hunk_labelled : ObjectHunk → List (ObjectRole × ℕ)
-hunk_labelled h = blocks_labelled BetweenHunks h
+abbrev pub object_hunk_labelled : ObjectHunk → List (ObjectRole × ℕ)
+object_hunk_labelled h = object_blocks_labelled BetweenHunks h
 
 abbrev pub unit_header_labelled : WordPlace → List ℕ → List (ObjectRole × ℕ)
 unit_header_labelled place name = (WordAt place, unit_word) ∷ (UnitCount, length name) ∷ map (λ w. (UnitName, w)) name
 
 abbrev pub unit_labelled : WordPlace → UnitValue → List (ObjectRole × ℕ)
-unit_labelled place u = unit_header_labelled place u.name ++ flat_map hunk_labelled u.hunks
+unit_labelled place u = unit_header_labelled place u.name ++ flat_map object_hunk_labelled u.hunks
 
 -- the units, the first of which begins at this place
 abbrev pub units_labelled : WordPlace → ObjectFileValue → List (ObjectRole × ℕ)
@@ -70,31 +70,31 @@ units_labelled place (u ∷ us) = unit_labelled place u ++ units_labelled Betwee
 -- ---- the tests, to be read beside docs/FORMAT.md
 
 -- The test of a block word by its kind: the first line that fits. A UNIT stands here where it has a flag.
-abbrev pub refuse_kind : WordPlace → Bool → Kind → Option Reason
-refuse_kind place advisory kinds.Overlay = Some reasons.Overlay
-refuse_kind place advisory kinds.Break = Some reasons.Break
-refuse_kind place advisory kinds.Reloc32Short = Some reasons.ShortReloc
-refuse_kind place advisory kinds.Lib = Some reasons.Library
-refuse_kind place advisory kinds.Index = Some reasons.Library
-refuse_kind place advisory kinds.Header = Some reasons.Misplaced
-refuse_kind place false (kinds.Unknown n) = Some reasons.UnknownBlock
-refuse_kind place advisory kinds.Unit = Some reasons.Misplaced
-refuse_kind BeforeUnits advisory k = Some reasons.Misplaced
-refuse_kind (InHunk true) advisory kinds.Code = Some reasons.SecondContent
-refuse_kind (InHunk true) advisory kinds.Data = Some reasons.SecondContent
-refuse_kind (InHunk true) advisory kinds.Bss = Some reasons.SecondContent
-refuse_kind (InHunk true) advisory k = None
-refuse_kind place advisory kinds.Ext = Some reasons.BeforeContent
-refuse_kind place advisory kinds.Reloc32 = Some reasons.BeforeContent
-refuse_kind place advisory kinds.Reloc16 = Some reasons.BeforeContent
-refuse_kind place advisory kinds.Reloc8 = Some reasons.BeforeContent
-refuse_kind place advisory kinds.Drel32 = Some reasons.BeforeContent
-refuse_kind place advisory kinds.Drel16 = Some reasons.BeforeContent
-refuse_kind place advisory kinds.Drel8 = Some reasons.BeforeContent
-refuse_kind place advisory kinds.RelReloc32 = Some reasons.BeforeContent
-refuse_kind place advisory kinds.AbsReloc16 = Some reasons.BeforeContent
-refuse_kind place advisory kinds.End = Some reasons.NoContent
-refuse_kind place advisory k = None
+abbrev pub refuse_object_kind : WordPlace → Bool → Kind → Option Reason
+refuse_object_kind place advisory kinds.Overlay = Some reasons.Overlay
+refuse_object_kind place advisory kinds.Break = Some reasons.Break
+refuse_object_kind place advisory kinds.Reloc32Short = Some reasons.ShortReloc
+refuse_object_kind place advisory kinds.Lib = Some reasons.Library
+refuse_object_kind place advisory kinds.Index = Some reasons.Library
+refuse_object_kind place advisory kinds.Header = Some reasons.Misplaced
+refuse_object_kind place false (kinds.Unknown n) = Some reasons.UnknownBlock
+refuse_object_kind place advisory kinds.Unit = Some reasons.Misplaced
+refuse_object_kind BeforeUnits advisory k = Some reasons.Misplaced
+refuse_object_kind (InHunk true) advisory kinds.Code = Some reasons.SecondContent
+refuse_object_kind (InHunk true) advisory kinds.Data = Some reasons.SecondContent
+refuse_object_kind (InHunk true) advisory kinds.Bss = Some reasons.SecondContent
+refuse_object_kind (InHunk true) advisory k = None
+refuse_object_kind place advisory kinds.Ext = Some reasons.BeforeContent
+refuse_object_kind place advisory kinds.Reloc32 = Some reasons.BeforeContent
+refuse_object_kind place advisory kinds.Reloc16 = Some reasons.BeforeContent
+refuse_object_kind place advisory kinds.Reloc8 = Some reasons.BeforeContent
+refuse_object_kind place advisory kinds.Drel32 = Some reasons.BeforeContent
+refuse_object_kind place advisory kinds.Drel16 = Some reasons.BeforeContent
+refuse_object_kind place advisory kinds.Drel8 = Some reasons.BeforeContent
+refuse_object_kind place advisory kinds.RelReloc32 = Some reasons.BeforeContent
+refuse_object_kind place advisory kinds.AbsReloc16 = Some reasons.BeforeContent
+refuse_object_kind place advisory kinds.End = Some reasons.NoContent
+refuse_object_kind place advisory k = None
 
 -- The test of UNIT without a flag.
 abbrev pub refuse_unit : WordPlace → Option Reason
@@ -102,11 +102,11 @@ refuse_unit (InHunk has) = Some reasons.Misplaced
 refuse_unit place = None
 
 -- The tests of a block word.
-abbrev pub refuse_word : WordPlace → ℕ → Option Reason
-refuse_word place w =
+abbrev pub refuse_object_word : WordPlace → ℕ → Option Reason
+refuse_object_word place w =
     if w == unit_word then refuse_unit place
     else if has_both_bits w then Some reasons.BothBits
-    else refuse_kind place (is_advisory w) (kind w)
+    else refuse_object_kind place (is_advisory w) (kind w)
 
 -- The test of the count of a UNIT's or NAME's name.
 abbrev pub refuse_count : ℕ → Option Reason
@@ -118,7 +118,7 @@ refuse_ext_type n = if is_some (ext_kind n) then None else Some reasons.ExtKind
 
 -- The tests of a longword of an object file.
 abbrev pub refuse_object : ObjectRole → ℕ → Option Reason
-refuse_object (WordAt place) w = refuse_word place w
+refuse_object (WordAt place) w = refuse_object_word place w
 refuse_object UnitCount w = refuse_count w
 refuse_object (Within parts.NameCount) w = refuse_count w
 refuse_object (Within parts.ExtWord) w = refuse_ext_type (entry_type w)
@@ -131,7 +131,7 @@ abbrev pub blocks_from : WordPlace → Grammar ObjectHunk ObjectRole
 blocks_from place =
     record {
       Is = λ bs. AllByRecursion IsBlock bs × AreInOrder (has_content place) (map (λ b. standing b.body) bs);
-      labelled = blocks_labelled place;
+      labelled = object_blocks_labelled place;
       refuse = refuse_object;
     }
 

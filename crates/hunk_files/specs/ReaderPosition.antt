@@ -10,7 +10,7 @@ use Rattle.hunk_scan.specs.declared.position.Position.{Position}
 use Rattle.hunk_scan.specs.declared.position.Position.TheVariants as positions
 use Rattle.hunk_scan.specs.Positions.{is_behind_header}
 use Rattle.hunk_files.specs.LoadFile.{TableEntry}
-use Rattle.hunk_files.specs.LoadText.{entries}
+use Rattle.hunk_files.specs.LoadText.{table}
 use Rattle.hunk_files.specs.FileSteps.{HunkSoFar, Progress, AtFirst, AtResident, AtTableSize, AtFirstHunk, AtLastHunk, AtSizeWord, AtAttributes, AtBlock, InBody, Next, More, Finished}
 
 abbrev pub open_of : HunkSoFar → numbers.OpenHunk
@@ -61,12 +61,12 @@ open_longs _ = 0
 
 -- the entries of the hunks that were opened
 abbrev pub opened : Progress → List TableEntry
-opened (AtBlock o) = entries o.finished ++ o.entry ∷ []
-opened (InBody o word x) = entries o.finished ++ o.entry ∷ []
+opened (AtBlock o) = table o.finished ++ o.entry ∷ []
+opened (InBody o word x) = table o.finished ++ o.entry ∷ []
 opened _ = []
 
 abbrev pub open_table : HunkSoFar → List TableEntry
-open_table o = entries o.finished ++ o.entry ∷ o.ahead
+open_table o = table o.finished ++ o.entry ∷ o.ahead
 
 -- the table, as far as it was read
 abbrev pub table_of : Next → List TableEntry
@@ -74,7 +74,7 @@ table_of (More (AtSizeWord hunks done owed)) = done
 table_of (More (AtAttributes hunks done word owed)) = done
 table_of (More (AtBlock o)) = open_table o
 table_of (More (InBody o word x)) = open_table o
-table_of (Finished v) = entries v
+table_of (Finished v) = table v
 table_of _ = []
 
 -- the header was read

@@ -3,10 +3,11 @@ use Rattle.std.specs.Prelude.{◌≡◌, ℕ, ◌-◌, ◌≤◌, List, [], ◌�
 use Rattle.std.specs.List.{flat_map}
 use Rattle.hunk_words.specs.Longs.{bytes_of}
 use Rattle.hunk_words.specs.declared.size_word.SizeWord.{SizeWord}
+use Rattle.hunk_blocks.specs.Faults.{words}
 use Rattle.hunk_files.specs.declared.row.Row.{Row}
 use Rattle.hunk_files.specs.declared.load.hunk.LoadHunk.{LoadHunk}
 use Rattle.hunk_files.specs.LoadFile.{TableEntry, HunkValue, LoadFileValue}
-use Rattle.hunk_files.specs.LoadText.{entry_labelled, table, words}
+use Rattle.hunk_files.specs.LoadText.{entry_labelled, table}
 use Rattle.hunk_files.specs.Fault.{BeginsWithLoadFile}
 use Rattle.hunk_files.specs.Hunks.{block_texts}
 

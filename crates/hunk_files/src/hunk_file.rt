@@ -37,7 +37,7 @@ impl<'a> HunkFile<'a> {
     /// The fault that `ObjectFile::decode` or `LoadFile::decode` answers, with its place in bytes
     /// from the start of the input.
     pub fn decode(alloc: Global, bytes: &'a [u8]) -> Result<HunkFile<'a>, FileFault>
-        ensures ok { IfOk result (IsFileOf bytes.entry.now) }
+        ensures file { IfOk result (IsFileOf bytes.entry.now) }
         ensures none { IfErr result (λ fault. fault.reason ≢ reasons.OutOfMemory →
             AreFile bytes.entry.now → ⊥) }
         ensures refused { IfErr result (λ fault. fault.reason ≢ reasons.OutOfMemory →
@@ -102,7 +102,7 @@ impl<'a> HunkFile<'a> {
 
 /// The load file that the bytes begin with, and how many follow it.
 fn decode_load(alloc: Global, bytes: &[u8]) -> Result<HunkFile<'_>, FileFault>
-    ensures ok { IfOk result (IsFileOf bytes.entry.now) }
+    ensures file { IfOk result (IsFileOf bytes.entry.now) }
     ensures none { IfErr result (λ fault. fault.reason ≢ reasons.OutOfMemory →
         BeginsWithLoadFile bytes.entry.now → ⊥) }
     ensures refused { IfErr result (λ fault. fault.reason ≢ reasons.OutOfMemory →
@@ -117,7 +117,7 @@ fn decode_load(alloc: Global, bytes: &[u8]) -> Result<HunkFile<'_>, FileFault>
 
 /// The object file that the bytes are.
 fn decode_object(alloc: Global, bytes: &[u8]) -> Result<HunkFile<'_>, FileFault>
-    ensures ok { IfOk result (IsFileOf bytes.entry.now) }
+    ensures file { IfOk result (IsFileOf bytes.entry.now) }
     ensures none { IfErr result (λ fault. fault.reason ≢ reasons.OutOfMemory →
         AreObjectFile bytes.entry.now → ⊥) }
     ensures refused { IfErr result (λ fault. fault.reason ≢ reasons.OutOfMemory →

@@ -69,7 +69,7 @@ pub fn sum_image()
 /// What is stripped is a load file with the same table, content and relocations, and so with the
 /// same memory wherever the hunks lie.
 pub fn strip_image()
-    ensures value { (v : LoadFileValue) → IsLoadFile v → IsLoadFile (strip_file v) }
+    ensures valid { (v : LoadFileValue) → IsLoadFile v → IsLoadFile (strip_file v) }
     ensures table { (v : LoadFileValue) → table (strip_file v) ≡ table v }
     ensures content { (v : LoadFileValue) → map content (strip_file v) ≡ map content v }
     ensures relocations { (v : LoadFileValue) → map relocations (strip_file v) ≡ map relocations v }
@@ -85,7 +85,7 @@ pub fn object_value()
 
 /// What is stripped is an object file with the same findings.
 pub fn strip_findings()
-    ensures value { (o : ObjectFileValue) → IsObjectFile o → IsObjectFile (strip_object o) }
+    ensures valid { (o : ObjectFileValue) → IsObjectFile o → IsObjectFile (strip_object o) }
     ensures findings { (o : ObjectFileValue) → findings (strip_object o) ≡ findings o }
 {}
 

@@ -43,7 +43,7 @@ pub(crate) fn print_block<W: Sink>(page: &mut Printer<'_, W>, block: &Block<'_>)
 fn put_head(line: &mut Line, word: BlockWord)
     requires { length line.old + 33 ≤ LINE }
     ensures text { line.new ≡ line.old ++ head word }
-    ensures short { length line.new ≤ length line.old + 33 }
+    ensures bound { length line.new ≤ length line.old + 33 }
 {
     line.put(b"  ");
     put_kind(line, word.kind());
@@ -115,7 +115,7 @@ fn print_advisory<W: Sink>(page: &mut Printer<'_, W>, word: BlockWord, payload: 
 fn begin_advisory_line(word: BlockWord, size: u64) -> Line
     ensures text { result ≡ codes "  ADVISORY " ++ decimal (word % 2 ^ 29)
         ++ codes " " ++ decimal size ++ codes " bytes" }
-    ensures short { length result ≤ 58 }
+    ensures bound { length result ≤ 58 }
 {
     let mut line = Line::new();
     line.put(b"  ADVISORY ");
@@ -163,7 +163,7 @@ fn print_group<W: Sink>(page: &mut Printer<'_, W>, group: &Group<'_>)
 /// The line of a relocation up to its offset.
 fn begin_relocation_line(target: u32) -> Line
     ensures text { result ≡ codes "    " ++ decimal target ++ codes " " }
-    ensures short { length result ≤ 25 }
+    ensures bound { length result ≤ 25 }
 {
     let mut line = Line::new();
     line.put(b"    ");

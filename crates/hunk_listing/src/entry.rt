@@ -35,7 +35,7 @@ fn print_entry_line<W: Sink>(page: &mut Printer<'_, W>, kind: ExtKind, entry: &E
 /// A line that begins with four spaces and the name of the type.
 fn begin_entry_line(kind: ExtKind) -> Line
     ensures text { result ≡ codes "    " ++ ext_name kind ++ codes " " }
-    ensures short { length result ≤ 14 }
+    ensures bound { length result ≤ 14 }
 {
     let mut line = Line::new();
     line.put(b"    ");

@@ -71,7 +71,7 @@ impl Line {
     pub(crate) fn put_decimal(&mut self, number: u64)
         requires { length self.old + 20 ≤ LINE }
         ensures text { self.new ≡ self.old ++ decimal number }
-        ensures short { length self.new ≤ length self.old + 20 }
+        ensures bound { length self.new ≤ length self.old + 20 }
     {
         let end = self.len + decimal_length(number);
         write_digits(number, &mut self.bytes, end);
@@ -100,7 +100,7 @@ impl Line {
 /// How many decimal digits the number has.
 fn decimal_length(number: u64) -> usize
     ensures digits { result ≡ length (decimal number) }
-    ensures short { result ≤ 20 }
+    ensures bound { result ≤ 20 }
 {
     let mut rest = number;
     let mut count = 1;

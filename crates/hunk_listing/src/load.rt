@@ -89,7 +89,7 @@ fn print_hunk_line<W: Sink>(page: &mut Printer<'_, W>, number: u32, entry: SizeW
 fn put_memory(line: &mut Line, memory: Memory)
     requires { length line.old + 21 ≤ LINE }
     ensures text { line.new ≡ line.old ++ memory_text memory }
-    ensures short { length line.new ≤ length line.old + 21 }
+    ensures bound { length line.new ≤ length line.old + 21 }
 {
     match memory {
         Memory::Any => line.put(b"any"),
@@ -102,7 +102,7 @@ fn put_memory(line: &mut Line, memory: Memory)
 fn put_attributes(line: &mut Line, attributes: u32)
     requires { length line.old + 21 ≤ LINE }
     ensures text { line.new ≡ line.old ++ memory_text (Attributes attributes) }
-    ensures short { length line.new ≤ length line.old + 21 }
+    ensures bound { length line.new ≤ length line.old + 21 }
 {
     line.put(b"attributes ");
     line.put_hexadecimal(attributes);

@@ -10,7 +10,7 @@ use hunk_words::{BlockWord, Kind};
 pub(crate) fn put_kind(line: &mut Line, kind: Kind)
     requires { length line.old + 12 ≤ LINE }
     ensures text { line.new ≡ line.old ++ kind_name kind }
-    ensures short { length line.new ≤ length line.old + 12 }
+    ensures bound { length line.new ≤ length line.old + 12 }
 {
     match kind.name() {
         Some(name) => line.put(name.as_bytes()),
@@ -23,7 +23,7 @@ pub(crate) fn put_kind(line: &mut Line, kind: Kind)
 pub(crate) fn put_block_flags(line: &mut Line, word: BlockWord)
     requires { length line.old + 19 ≤ LINE }
     ensures text { line.new ≡ line.old ++ block_flags word }
-    ensures short { length line.new ≤ length line.old + 19 }
+    ensures bound { length line.new ≤ length line.old + 19 }
 {
     put_where(line, word.is_advisory(), b" advisory");
     put_memory_flags(line, word);
@@ -34,7 +34,7 @@ pub(crate) fn put_block_flags(line: &mut Line, word: BlockWord)
 pub(crate) fn put_memory_flags(line: &mut Line, word: BlockWord)
     requires { length line.old + 10 ≤ LINE }
     ensures text { line.new ≡ line.old ++ memory_flags word }
-    ensures short { length line.new ≤ length line.old + 10 }
+    ensures bound { length line.new ≤ length line.old + 10 }
 {
     put_where(line, word.is_chip(), b" chip");
     put_where(line, word.is_fast(), b" fast");
@@ -43,7 +43,7 @@ pub(crate) fn put_memory_flags(line: &mut Line, word: BlockWord)
 fn put_where(line: &mut Line, flag: bool, name: &[u8])
     requires { length line.old + length name.now ≤ LINE }
     ensures text { line.new ≡ line.old ++ where_set flag name.now }
-    ensures short { length line.new ≤ length line.old + length name.now }
+    ensures bound { length line.new ≤ length line.old + length name.now }
 {
     if flag {
         line.put(name);

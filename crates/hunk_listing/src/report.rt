@@ -76,7 +76,7 @@ fn print_finding<W: Sink>(page: &mut Printer<'_, W>, finding: Finding)
 /// What is wrong, at the end of a line.
 fn finding_end(fault: FindingKind) -> &'static str
     ensures text { result.now ≡ finding_name fault ++ codes "\n" }
-    ensures short { length result.now ≤ 12 }
+    ensures bound { length result.now ≤ 12 }
 {
     match fault {
         FindingKind::BadTarget => "BadTarget\n",

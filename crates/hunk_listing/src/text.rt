@@ -20,12 +20,12 @@ pub(crate) fn print_offset_behind<W: Sink>(
     start: usize,
     offset: u32,
 )
-    requires within { start ≤ length line.old }
+    requires inside { start ≤ length line.old }
     requires room { start + 11 ≤ LINE }
     ensures prints { Prints page.old page.new
         (take start line.old ++ hexadecimal offset ++ codes "\n") }
     ensures kept { take start line.new ≡ take start line.old }
-    ensures within { start ≤ length line.new }
+    ensures inside { start ≤ length line.new }
 {
     line.truncate(start);
     line.put_hexadecimal(offset);
@@ -69,9 +69,9 @@ fn print_characters<W: Sink>(page: &mut Printer<'_, W>, bytes: &[u8])
 /// How many bytes stand for themselves before the first that does not.
 #[tactic(auto, unfolding(crate::specs::Printed::character))]
 fn plain_length(bytes: &[u8]) -> usize
-    ensures run { characters bytes.now
+    ensures splits { characters bytes.now
         ≡ take result bytes.now ++ characters (drop result bytes.now) }
-    ensures within { result ≤ length bytes.now }
+    ensures inside { result ≤ length bytes.now }
     ensures end { result < length bytes.now → is_plain (slice_index bytes.now result) ≡ false }
 {
     'bytes: for (i, byte) in bytes.iter().enumerate() {

@@ -102,7 +102,7 @@ fn fault_of(alloc: Global, error: &Error) -> OrderFault
 fn matches_in<'w, S: AsStr>(alloc: Global, words: &'w [S]) -> Result<ArgMatches<'w>, OrderFault>
     ensures found { IfOk result (λ found. subcommand_rows_of found
         ≡ subcommand_of spec.hunkinfo (map S.text words.entry.now)) }
-    ensures err { IfErr result
+    ensures refuses { IfErr result
         (λ fault. takes spec.hunkinfo (map S.text words.entry.now) ≡ true → fault ≡ Memory) }
     ensures clap { FollowsClap (map S.text words.entry.now) result }
 {
@@ -129,9 +129,9 @@ fn chosen_order(alloc: Global, found: &ArgMatches<'_>) -> Result<Order, OrderFau
 }
 
 fn order_in<S: AsStr>(alloc: Global, words: &[S]) -> Result<Order, OrderFault>
-    ensures ok { IfOk result
+    ensures order { IfOk result
         (λ order. entered_order (subcommand_of spec.hunkinfo (map S.text words.now)) ≡ Some order) }
-    ensures err { IfErr result (λ fault. takes spec.hunkinfo (map S.text words.now) ≡ true
+    ensures refuses { IfErr result (λ fault. takes spec.hunkinfo (map S.text words.now) ≡ true
         → RefusesOrder (entered_order (subcommand_of spec.hunkinfo (map S.text words.now))) fault) }
     ensures clap { FollowsClap (map S.text words.now) result }
 {
@@ -148,8 +148,8 @@ fn order_in<S: AsStr>(alloc: Global, words: &[S]) -> Result<Order, OrderFault>
 /// or where HEX is not eight hexadecimal digits, or N no decimal number below 2^64; `Memory` where
 /// memory is refused.
 pub fn order(alloc: Global, words: &[String]) -> Result<Order, OrderFault>
-    ensures ok { IfOk result (λ order. order_of (map string_bytes words.now) ≡ Some order) }
-    ensures err { IfErr result
+    ensures order { IfOk result (λ order. order_of (map string_bytes words.now) ≡ Some order) }
+    ensures refuses { IfErr result
         (λ fault. takes spec.hunkinfo (words_read (map string_bytes words.now)) ≡ true
         → RefusesOrder (order_of (map string_bytes words.now)) fault) }
     ensures clap { FollowsClap (words_read (map string_bytes words.now)) result }

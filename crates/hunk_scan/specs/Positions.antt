@@ -171,9 +171,9 @@ pass p (suc n) = p
 -- ---- lists of offsets
 
 -- the number of offsets of one list that come at least
-abbrev pub offsets : Position → ℕ
-offsets (positions.Body o (phases.Offset target owed)) = suc owed
-offsets _ = 0
+abbrev pub offsets_to_come : Position → ℕ
+offsets_to_come (positions.Body o (phases.Offset target owed)) = suc owed
+offsets_to_come _ = 0
 
 -- behind this number of them
 abbrev pub pass_offsets : Position → ℕ → Position

@@ -191,7 +191,7 @@ impl OpenHunk {
     /// The least number of longwords up to the end of the file.
     pub(crate) fn least_longs(self, phase: Phase) -> u64
         ensures value { result ≡ positions.least_in self phase }
-        ensures some { 0 < result }
+        ensures positive { 0 < result }
         ensures bound { result < 2 ^ 35 }
     {
         // An END is to come, and before it a block of content with its size.

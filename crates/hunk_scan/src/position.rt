@@ -1,7 +1,7 @@
 //! Positions in a load file.
 ghost use Rattle.std.specs.Prelude.{◌≡◌, ◌≤◌, ◌<◌, ◌^◌, false};
 ghost use Rattle.hunk_scan.specs.Positions as positions;
-ghost use Rattle.hunk_scan.specs.Positions.{step, run, pass, offsets, pass_offsets, least_longs};
+ghost use Rattle.hunk_scan.specs.Positions.{step, run, pass, offsets_to_come, pass_offsets, least_longs};
 ghost use Rattle.hunk_scan.specs.Positions.{is_done, is_behind_header, is_between_hunks};
 
 use crate::phase::{OpenHunk, Phase, open_next};
@@ -130,8 +130,8 @@ impl Position {
 
     /// How many offsets of one list come at least.
     #[inline(always)]
-    pub fn offsets(self) -> u64
-        ensures value { result ≡ offsets self }
+    pub fn offsets_to_come(self) -> u64
+        ensures value { result ≡ offsets_to_come self }
         ensures bound { result ≤ 2 ^ 32 }
     {
         match self {
@@ -143,7 +143,7 @@ impl Position {
     /// Behind `count` offsets of a list.
     #[inline(always)]
     pub fn pass_offsets(self, count: u64) -> Position
-        requires { count ≤ offsets self }
+        requires { count ≤ offsets_to_come self }
         ensures { result ≡ pass_offsets self count }
     {
         match self {
@@ -158,7 +158,7 @@ impl Position {
     /// file.
     pub fn least_longs(self) -> u64
         ensures value { result ≡ least_longs self }
-        ensures some { is_done self ≡ false → 0 < result }
+        ensures positive { is_done self ≡ false → 0 < result }
         ensures bound { result < 2 ^ 35 }
     {
         match self {

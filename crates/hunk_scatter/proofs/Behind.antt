@@ -1,11 +1,12 @@
 -- Behind the header no longword has the role of a size word, and before its end none is refused that a header has there.
 use Rattle.std.proofs.Common.{◌≡◌, ℕ, List, [], ◌∷◌, ◌++◌, length, refl, ap, subst, ◌∙◌, append_assoc, None}
 use Rattle.std.proofs.lemmas.List.{map-append}
+use Rattle.hunk_blocks.specs.Faults.{words}
 use Rattle.hunk_files.specs.Fault.{Expects}
 use Rattle.hunk_files.specs.LoadFile.{TableEntry}
-use Rattle.hunk_files.specs.LoadText.{words, text}
+use Rattle.hunk_files.specs.LoadText.{text}
 use Rattle.hunk_scan.specs.Roles.{Role, Role as roles, refuse}
-use Rattle.hunk_files.specs.FileSteps.{Progress, AtBlock, InBody, Next, More, Finished, open_hunk, role_of, step, Leads}
+use Rattle.hunk_files.specs.FileSteps.{Progress, AtBlock, InBody, Next, More, Finished, open_hunk, role_of, step_file, Leads}
 use Rattle.hunk_files.proofs.Reading.{reads, rest_read, read_passes}
 use Rattle.hunk_files.specs.WordsRead.{HasRead, Labelled}
 use Rattle.hunk_files.proofs.Scan.{expected_place, expects_of, one_role}
@@ -17,7 +18,7 @@ use Rattle.hunk_scatter.proofs.Outcomes.{begins_file}
 
 behind_leads : (n : Next) → IsBehindHeader n → (ls : Labelled) (p : Progress) → Leads n ls (More p) → IsBehindHeader (More p)
 behind_leads n b [] p run = subst IsBehindHeader run b
-behind_leads (More q) b (l ∷ ls) p run = behind_leads (step q l.1) (step_behind q l.1 b) ls p run.1
+behind_leads (More q) b (l ∷ ls) p run = behind_leads (step_file q l.1) (step_behind q l.1 b) ls p run.1
 behind_leads (Finished v) b (l ∷ ls) p run = absurd run
 
 -- What follows a header is read in the body.

@@ -9,10 +9,11 @@ use Rattle.hunk_words.specs.declared.reason.Reason.TheVariants as reasons
 use Rattle.hunk_words.specs.declared.fault.Fault.{Fault}
 use Rattle.hunk_words.specs.Bits.{size_longs}
 use Rattle.hunk_words.specs.Longs.{bytes_of, longs, IsLong, AreLongs}
+use Rattle.hunk_blocks.specs.Faults.{words}
 use Rattle.hunk_files.specs.Fault.{HasRefusal, IsTruncated}
 use Rattle.hunk_files.specs.Image.{image, images}
 use Rattle.hunk_files.specs.LoadFile.{HunkValue, LoadFileValue, IsLoadFile}
-use Rattle.hunk_files.specs.LoadText.{words, text, entries}
+use Rattle.hunk_files.specs.LoadText.{text, table}
 use Rattle.hunk_files.specs.FileSteps.{Progress, AtBlock, InBody, Next, More, Finished, Leads}
 use Rattle.hunk_files.specs.WordsRead.{HasRead, Labelled}
 use Rattle.hunk_scan.specs.Roles.{Role}
@@ -192,11 +193,11 @@ module _ (rows : List Row) (store : List ℕ) (state : BodyState) (pending : Lis
 
 -- ---- the image
 
-cut_images : (bases : List ℕ) (v : List HunkValue) → AllByRecursion (HasSizedImage bases) v → segments_in (sizes_of (entries v)) (images bases v) ≡ map (image bases) v
+cut_images : (bases : List ℕ) (v : List HunkValue) → AllByRecursion (HasSizedImage bases) v → segments_in (sizes_of (table v)) (images bases v) ≡ map (image bases) v
 cut_images bases [] h = refl
 cut_images bases (x ∷ v) h =
     ap₂ (λ (s : List ℕ) (ss : List (List ℕ)). s ∷ ss) (take_at (image bases x) (images bases v) (4 * size_longs x.entry.word) h.0)
-    (ap (λ (s : List ℕ). segments_in (sizes_of (entries v)) s) (drop_at (image bases x) (images bases v) (4 * size_longs x.entry.word) h.0) ∙ cut_images bases v h.1)
+    (ap (λ (s : List ℕ). segments_in (sizes_of (table v)) s) (drop_at (image bases x) (images bases v) (4 * size_longs x.entry.word) h.0) ∙ cut_images bases v h.1)
 
 module _ (rows : List Row) (store : List ℕ) (state : BodyState) (pending : List ℕ) (count : ℕ) (refused : Option Fault) (fed : List ℕ)
     (h : BodyLoaderInvariant rows store state pending count refused fed) (none : refused ≡ None) where

@@ -7,9 +7,9 @@ use Rattle.hunk_blocks.specs.Values.{BlockValue}
 use Rattle.hunk_files.specs.Image.{declared_bytes}
 use Rattle.hunk_files.specs.LoadFile.{TableEntry, HunkValue, standing}
 use Rattle.hunk_scan.specs.Standings.{BlockStanding, Ending}
-use Rattle.hunk_files.specs.LoadText.{entries}
-use Rattle.hunk_blocks.specs.BlockSteps.{BlockNext, Open, Whole, step_inside, begin}
-use Rattle.hunk_files.specs.FileSteps.{hunk, block, HunkSoFar, Progress, AtBlock, InBody, Next, More, Finished, role_of, open_hunk, close_by, after, step}
+use Rattle.hunk_files.specs.LoadText.{table}
+use Rattle.hunk_blocks.specs.BlockSteps.{BlockNext, Open, Whole, step_inside, begin_body}
+use Rattle.hunk_files.specs.FileSteps.{hunk, block, HunkSoFar, Progress, AtBlock, InBody, Next, More, Finished, role_of, open_hunk, close_by, after, step_file}
 use Rattle.hunk_files.proofs.FileProgress.{ProgressFits}
 use Rattle.hunk_files.proofs.Positions.{Moves, MovesTo, step_moves, step_position, refuse_same, inside_open}
 use Rattle.hunk_files.specs.ReaderPosition.{position_of, open_of, block_phase, open_longs, opened, open_table, table_of, IsBehindHeader}
@@ -24,22 +24,22 @@ use Rattle.hunk_scatter.specs.BodySteps.{longs_at, refusal, move_to, step_body}
 
 -- ---- the table at the open hunk
 
-pub sizes-at : (finished : List HunkValue) (e : TableEntry) (ahead : List TableEntry) → get_or (sizes_of (entries finished ++ e ∷ ahead)) (length finished) 0 ≡ e.word
+pub sizes-at : (finished : List HunkValue) (e : TableEntry) (ahead : List TableEntry) → get_or (sizes_of (table finished ++ e ∷ ahead)) (length finished) 0 ≡ e.word
 sizes-at finished e ahead =
-    ap (λ (xs : List ℕ). get_or xs (length finished) 0) (map-append (λ (x : TableEntry). x.word) (entries finished) (e ∷ ahead))
-    ∙ get_or_at (sizes_of (entries finished)) e.word (sizes_of ahead) 0 (length finished)
-    (length-map (entries finished) (λ (x : TableEntry). x.word) ∙ length-map finished (λ (h : HunkValue). h.entry))
+    ap (λ (xs : List ℕ). get_or xs (length finished) 0) (map-append (λ (x : TableEntry). x.word) (table finished) (e ∷ ahead))
+    ∙ get_or_at (sizes_of (table finished)) e.word (sizes_of ahead) 0 (length finished)
+    (length-map (table finished) (λ (x : TableEntry). x.word) ∙ length-map finished (λ (h : HunkValue). h.entry))
 
-pub sizes-length : (finished : List HunkValue) (e : TableEntry) (ahead : List TableEntry) → length (sizes_of (entries finished ++ e ∷ ahead)) ≡ length finished + 1 + length ahead
+pub sizes-length : (finished : List HunkValue) (e : TableEntry) (ahead : List TableEntry) → length (sizes_of (table finished ++ e ∷ ahead)) ≡ length finished + 1 + length ahead
 sizes-length finished e ahead =
-    length-map (entries finished ++ e ∷ ahead) (λ (x : TableEntry). x.word) ∙ omega (arith, length-append (entries finished) (e ∷ ahead), length-map finished (λ (h : HunkValue). h.entry))
+    length-map (table finished ++ e ∷ ahead) (λ (x : TableEntry). x.word) ∙ omega (arith, length-append (table finished) (e ∷ ahead), length-map finished (λ (h : HunkValue). h.entry))
 
 -- ---- each step
 
-pub before_is : (hs : List HunkValue) → declared_bytes (entries hs) ≡ before hs
+pub before_is : (hs : List HunkValue) → declared_bytes (table hs) ≡ before hs
 before_is [] = refl
 before_is (h ∷ hs) =
-    omega (arith, before_is hs, sum_by-cons (λ (e : TableEntry). 4 * size_longs e.word) h.entry (entries hs), sum_by-cons (λ (x : HunkValue). 4 * size_longs x.entry.word) h hs)
+    omega (arith, before_is hs, sum_by-cons (λ (e : TableEntry). 4 * size_longs e.word) h.entry (table hs), sum_by-cons (λ (x : HunkValue). 4 * size_longs x.entry.word) h hs)
 
 same_state : (h k s t : ℕ) (p : Position) → h ≡ k → s ≡ t → ◌≡◌ {A = BodyState} (record { hunk = h; start = s; position = p }) (record { hunk = k; start = t; position = p })
 same_state h k s t p e f = λ i. record { hunk = e i; start = f i; position = p }
@@ -61,12 +61,12 @@ module _ (o : HunkSoFar) where
   declared = ap size_longs (sizes-at o.finished o.entry o.ahead)
 
   -- the next opens, or the file is whole
-  next_state : (hs : List HunkValue) (p : Position) → entries hs ≡ entries o.finished ++ o.entry ∷ [] → is_between_hunks p ≡ true → state_at hs p ≡ move_to (sizes_of (open_table o)) (state_at o.finished p) p
+  next_state : (hs : List HunkValue) (p : Position) → table hs ≡ table o.finished ++ o.entry ∷ [] → is_between_hunks p ≡ true → state_at hs p ≡ move_to (sizes_of (open_table o)) (state_at o.finished p) p
   next_state hs p e b =
       let hunks : length hs ≡ length o.finished + 1 =
-      omega (arith, ap length e, length-append (entries o.finished) (o.entry ∷ []), length-map hs (λ (h : HunkValue). h.entry), length-map o.finished (λ (h : HunkValue). h.entry)) in
+      omega (arith, ap length e, length-append (table o.finished) (o.entry ∷ []), length-map hs (λ (h : HunkValue). h.entry), length-map o.finished (λ (h : HunkValue). h.entry)) in
       let bytes : before hs ≡ before o.finished + 4 * longs_at (sizes_of (open_table o)) (length o.finished) =
-      omega (arith, before_is hs, ap declared_bytes e, last_bytes (entries o.finished) o.entry, before_is o.finished, declared) in
+      omega (arith, before_is hs, ap declared_bytes e, last_bytes (table o.finished) o.entry, before_is o.finished, declared) in
       same_state _ _ _ _ p hunks bytes
       ∙ ap (λ (t : Bool). cond t (state_next p) (state_at o.finished p)) (sym b)
     where
@@ -74,27 +74,27 @@ module _ (o : HunkSoFar) where
       state_next p = record { hunk = length o.finished + 1; start = before o.finished + 4 * longs_at (sizes_of (open_table o)) (length o.finished); position = p }
 
   -- the hunk stays
-  same_hunk : (hs : List HunkValue) (e : TableEntry) (p : Position) → entries hs ++ e ∷ [] ≡ entries o.finished ++ o.entry ∷ [] → size_longs e.word ≡ size_longs o.entry.word → is_between_hunks p ≡ false →
+  same_hunk : (hs : List HunkValue) (e : TableEntry) (p : Position) → table hs ++ e ∷ [] ≡ table o.finished ++ o.entry ∷ [] → size_longs e.word ≡ size_longs o.entry.word → is_between_hunks p ≡ false →
       state_at hs p ≡ move_to (sizes_of (open_table o)) (state_at o.finished p) p
   same_hunk hs e p same longs b =
       let hunks : length hs ≡ length o.finished =
       omega (
         arith,
         ap length same,
-        length-append (entries o.finished) (o.entry ∷ []),
-        length-append (entries hs) (e ∷ []),
+        length-append (table o.finished) (o.entry ∷ []),
+        length-append (table hs) (e ∷ []),
         length-map hs (λ (h : HunkValue). h.entry),
         length-map o.finished (λ (h : HunkValue). h.entry),
       ) in
       let bytes : before hs ≡ before o.finished =
-      omega (arith, before_is hs, ap declared_bytes same, last_bytes (entries o.finished) o.entry, last_bytes (entries hs) e, before_is o.finished, longs) in
+      omega (arith, before_is hs, ap declared_bytes same, last_bytes (table o.finished) o.entry, last_bytes (table hs) e, before_is o.finished, longs) in
       same_state _ _ _ _ p hunks bytes
       ∙ ap (λ (t : Bool). cond t (state_next p) (state_at o.finished p)) (sym b)
     where
       state_next : Position → BodyState
       state_next p = record { hunk = length o.finished + 1; start = before o.finished + 4 * longs_at (sizes_of (open_table o)) (length o.finished); position = p }
 
-  module _ (p : Progress) (opened_is : opened p ≡ entries o.finished ++ o.entry ∷ []) (longs_is : open_longs p ≡ size_longs o.entry.word) where
+  module _ (p : Progress) (opened_is : opened p ≡ table o.finished ++ o.entry ∷ []) (longs_is : open_longs p ≡ size_longs o.entry.word) where
     block_state : (q : HunkSoFar) (blocks : List BlockValue) → MovesTo p q blocks →
         (let at = positions.Body (open_of q) (block_phase blocks) in state_at q.finished at ≡ move_to (sizes_of (open_table o)) (state_at o.finished at) at)
     block_state q [] m = next_state q.finished _ (m ∙ opened_is) refl
@@ -113,10 +113,10 @@ abbrev Keeps : List TableEntry → Next → Type 0
 Keeps table n = (table_of n ≡ table) × IsBehindHeader n
 
 open_keeps : (hunks : ℕ) (finished : List HunkValue) (x : HunkValue) (ahead : List TableEntry) →
-    Keeps (entries finished ++ x.entry ∷ ahead) (open_hunk hunks (finished ++ x ∷ []) ahead)
+    Keeps (table finished ++ x.entry ∷ ahead) (open_hunk hunks (finished ++ x ∷ []) ahead)
 open_keeps hunks finished x [] = (map-more (λ (h : HunkValue). h.entry) finished x, refl)
 open_keeps hunks finished x (e ∷ ahead) = (
-  ap (λ (es : List TableEntry). es ++ e ∷ ahead) (map-more (λ (h : HunkValue). h.entry) finished x) ∙ append_assoc (entries finished) (x.entry ∷ []) (e ∷ ahead),
+  ap (λ (es : List TableEntry). es ++ e ∷ ahead) (map-more (λ (h : HunkValue). h.entry) finished x) ∙ append_assoc (table finished) (x.entry ∷ []) (e ∷ ahead),
   refl,
 )
 
@@ -128,24 +128,24 @@ after_keeps o word (Whole body) = go (standing body)
     go Ending = open_keeps o.hunks o.finished (hunk o.entry (o.blocks ++ block word body ∷ [])) o.ahead
     go _ = (refl, refl)
 
-step_keeps : (p : Progress) (w : ℕ) → IsBehindHeader (More p) → Keeps (table_of (More p)) (step p w)
-step_keeps (AtBlock o) w h = after_keeps o w (begin (kind w))
+step_keeps : (p : Progress) (w : ℕ) → IsBehindHeader (More p) → Keeps (table_of (More p)) (step_file p w)
+step_keeps (AtBlock o) w h = after_keeps o w (begin_body (kind w))
 step_keeps (InBody o word x) w h = after_keeps o word (step_inside x w)
 step_keeps _ w h = absurd cc
 
-pub step_table : (p : Progress) (w : ℕ) → IsBehindHeader (More p) → table_of (step p w) ≡ table_of (More p)
+pub step_table : (p : Progress) (w : ℕ) → IsBehindHeader (More p) → table_of (step_file p w) ≡ table_of (More p)
 step_table p w h = (step_keeps p w h).0
 
-pub step_behind : (p : Progress) (w : ℕ) → IsBehindHeader (More p) → IsBehindHeader (step p w)
+pub step_behind : (p : Progress) (w : ℕ) → IsBehindHeader (More p) → IsBehindHeader (step_file p w)
 step_behind p w h = (step_keeps p w h).1
 
 -- A step of the reader is a step of the state.
-pub step_state : (p : Progress) (w : ℕ) → IsBehindHeader (More p) → ProgressFits p → refuse (role_of p) w ≡ None → state_of (step p w) ≡ step_body (sizes_of (table_of (More p))) (state_of (More p)) w
+pub step_state : (p : Progress) (w : ℕ) → IsBehindHeader (More p) → ProgressFits p → refuse (role_of p) w ≡ None → state_of (step_file p w) ≡ step_body (sizes_of (table_of (More p))) (state_of (More p)) w
 step_state (AtBlock o) w b f ok =
-    after_state o (AtBlock o) refl refl (step (AtBlock o) w) (step_behind (AtBlock o) w b) (step_moves (AtBlock o) w)
+    after_state o (AtBlock o) refl refl (step_file (AtBlock o) w) (step_behind (AtBlock o) w b) (step_moves (AtBlock o) w)
     ∙ ap (λ (p : Position). move_to (sizes_of (open_table o)) (state_at o.finished p) p) (step_position (AtBlock o) w f ok)
 step_state (InBody o word x) w b f ok =
-    after_state o (InBody o word x) refl refl (step (InBody o word x) w) (step_behind (InBody o word x) w b) (step_moves (InBody o word x) w)
+    after_state o (InBody o word x) refl refl (step_file (InBody o word x) w) (step_behind (InBody o word x) w b) (step_moves (InBody o word x) w)
     ∙ ap (λ (p : Position). move_to (sizes_of (open_table o)) (state_at o.finished p) p) (step_position (InBody o word x) w f ok)
 step_state _ w b f ok = absurd cc
 

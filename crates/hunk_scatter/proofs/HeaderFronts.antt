@@ -9,11 +9,12 @@ use Rattle.hunk_words.specs.declared.reason.Reason.{Reason}
 use Rattle.hunk_scan.specs.Positions.{is_behind_header}
 use Rattle.hunk_scan.specs.Roles.{Role, Role as roles, refuse}
 use Rattle.hunk_blocks.proofs.FaultScan.{front_passes}
+use Rattle.hunk_blocks.specs.Faults.{words}
 use Rattle.hunk_files.specs.Fault.{Expects, HasRefusal, load_files}
 use Rattle.hunk_files.specs.Image.{declared_bytes}
 use Rattle.hunk_files.specs.LoadFile.{TableEntry, LoadFileValue, IsLoadFile}
-use Rattle.hunk_files.specs.LoadText.{labelled, header_labelled, hunk_labelled, table, text, words}
-use Rattle.hunk_files.specs.FileSteps.{Progress, AtSizeWord, Next, More, Finished, open_hunk, role_of, step, Leads}
+use Rattle.hunk_files.specs.LoadText.{labelled, header_labelled, hunk_labelled, table, text}
+use Rattle.hunk_files.specs.FileSteps.{Progress, AtSizeWord, Next, More, Finished, open_hunk, role_of, step_file, Leads}
 use Rattle.hunk_files.specs.ReaderPosition.{position_of, table_of, IsBehindHeader}
 use Rattle.hunk_files.specs.WordsRead.{HasRead, Labelled, AreAccepted}
 use Rattle.hunk_files.proofs.FileProgress.{ProgressFits, NextFits, step_keeps}
@@ -37,7 +38,7 @@ use Rattle.hunk_scatter.proofs.Splits.{fronts}
 
 behind_table : (n c : Next) → IsBehindHeader n → (ls : Labelled) → Leads n ls c → table_of c ≡ table_of n
 behind_table n c b [] run = ap table_of (sym run)
-behind_table (More q) c b (l ∷ ls) run = behind_table (step q l.1) c (step_behind q l.1 b) ls run.1 ∙ step_table q l.1 b
+behind_table (More q) c b (l ∷ ls) run = behind_table (step_file q l.1) c (step_behind q l.1 b) ls run.1 ∙ step_table q l.1 b
 behind_table (Finished v) c b (l ∷ ls) run = absurd run
 
 opened : (t : List TableEntry) → IsHeaderTable t → table_of (open_hunk (length t) [] t) ≡ t
@@ -94,7 +95,7 @@ module _ (t : List TableEntry) (is : IsHeaderTable t) where
   abbrev TotalsTo : Next → Labelled → Type 0
   TotalsTo n ls = NextFits n → OpensFirst n → AreAccepted ls → Leads n ls (open_hunk (length t) [] t) → declared_so_far n ≤ declared_bytes t
 
-  word_total : (p : Progress) (l : Role × ℕ) (ls : Labelled) → TotalsTo (step p l.1) ls → ProgressFits p → AreAccepted (l ∷ ls) → Leads (More p) (l ∷ ls) (open_hunk (length t) [] t) → IsInHeader p →
+  word_total : (p : Progress) (l : Role × ℕ) (ls : Labelled) → TotalsTo (step_file p l.1) ls → ProgressFits p → AreAccepted (l ∷ ls) → Leads (More p) (l ∷ ls) (open_hunk (length t) [] t) → IsInHeader p →
       declared_so_far (More p) + declares (position_of (More p)) l.1 ≤ declared_bytes t
   word_total p l ls rest f ok run e =
       let pass = ap (λ (r : Role). refuse r l.1) run.0 ∙ ok.0.1 in
@@ -110,9 +111,9 @@ module _ (t : List TableEntry) (is : IsHeaderTable t) where
   run_total : (ls : Labelled) (n : Next) → TotalsTo n ls
   run_total [] n f o ok run = omega (arith, ap declared_so_far run, rows_total (length t) t 0)
   run_total (l ∷ ls) (Finished v) f o ok run = absurd run
-  run_total (l ∷ ls) (More p) f o ok run = go (run_total ls (step p l.1)) (is_behind_header (position_of (More p))) refl
+  run_total (l ∷ ls) (More p) f o ok run = go (run_total ls (step_file p l.1)) (is_behind_header (position_of (More p))) refl
     where
-      go : TotalsTo (step p l.1) ls → (b : Bool) → is_behind_header (position_of (More p)) ≡ b → declared_so_far (More p) ≤ declared_bytes t
+      go : TotalsTo (step_file p l.1) ls → (b : Bool) → is_behind_header (position_of (More p)) ≡ b → declared_so_far (More p) ≤ declared_bytes t
       go rest true e = past_total p (l ∷ ls) o e run
       go rest false e = let le = word_total p l ls rest f ok run e in omega (arith, le)
 
@@ -123,7 +124,7 @@ module _ (t : List TableEntry) (is : IsHeaderTable t) where
   first_word (AtSizeWord hunks done owed) before word after h role (l ∷ ls) ok e run =
       let same : l.1 ≡ word = cc in
       let rows = rows_read (More (AtSizeWord hunks done owed)) before h (λ b. absurd cc) in
-      let le = word_total (AtSizeWord hunks done owed) l ls (run_total ls (step (AtSizeWord hunks done owed) l.1)) (reads h).0 ok run refl in
+      let le = word_total (AtSizeWord hunks done owed) l ls (run_total ls (step_file (AtSizeWord hunks done owed) l.1)) (reads h).0 ok run refl in
       omega (arith, le, ap declared_bytes rows, ap size_longs same)
   first_word _ before word after h role (l ∷ ls) ok e run = absurd cc
 

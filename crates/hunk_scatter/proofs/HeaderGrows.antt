@@ -6,7 +6,7 @@ use Rattle.hunk_words.specs.Longs.{longs, bytes_of, IsLong, AreLongs, IsBytes}
 use Rattle.hunk_words.proofs.LongLaws.{spelled, longs_fit, length-bytes_of, bytes_of-append}
 use Rattle.hunk_scan.specs.Roles.{refuse}
 use Rattle.hunk_files.specs.LoadFile.{TableEntry}
-use Rattle.hunk_files.specs.FileSteps.{table_entry, Progress, AtFirst, AtResident, AtTableSize, AtFirstHunk, AtLastHunk, AtSizeWord, AtAttributes, AtBlock, InBody, Next, More, Finished, role_of, rows, sized_row, step}
+use Rattle.hunk_files.specs.FileSteps.{table_entry, Progress, AtFirst, AtResident, AtTableSize, AtFirstHunk, AtLastHunk, AtSizeWord, AtAttributes, AtBlock, InBody, Next, More, Finished, role_of, rows, sized_row, step_file}
 use Rattle.hunk_files.specs.ReaderPosition.{position_of}
 use Rattle.hunk_files.specs.WordsRead.{HasRead}
 use Rattle.hunk_files.proofs.Reading.{reads, step_read}
@@ -35,7 +35,7 @@ sized_in_table hunks done w owed true = tt
 sized_in_table hunks done w owed false = rows_in_table hunks (done ++ table_entry w 0 ∷ []) owed
 
 -- behind a longword that completes a row
-pub row_in_table : (p : Progress) (w : ℕ) → 0 < length (adds (position_of (More p)) w) → IsInTable (step p w)
+pub row_in_table : (p : Progress) (w : ℕ) → 0 < length (adds (position_of (More p)) w) → IsInTable (step_file p w)
 row_in_table (AtSizeWord hunks done owed) w some = sized_in_table hunks done w owed (has_both_bits w)
 row_in_table (AtAttributes hunks done word owed) w some = rows_in_table hunks (done ++ table_entry word w ∷ []) owed
 row_in_table _ w some = absurd (omega (arith, some))
@@ -50,7 +50,7 @@ abbrev GoOn : List ℕ → Next → List ℕ → Type 0
 GoOn xs n ws = IsInTable n → HasRead ws n → OpensFirst n → length xs ≤ header_least n → GoesOn (ws ++ xs)
 
 -- behind one longword
-further : (x : ℕ) (xs : List ℕ) → IsLong x → (p : Progress) (ws : List ℕ) → GoOn xs (step p x) (ws ++ x ∷ []) → IsInHeader p → IsInTable (step p x) → refuse (role_of p) x ≡ None →
+further : (x : ℕ) (xs : List ℕ) → IsLong x → (p : Progress) (ws : List ℕ) → GoOn xs (step_file p x) (ws ++ x ∷ []) → IsInHeader p → IsInTable (step_file p x) → refuse (role_of p) x ≡ None →
     HasRead ws (More p) → length (x ∷ xs) ≤ header_least (More p) → GoesOn (ws ++ x ∷ xs)
 further x xs l p ws rest e i pass h le =
     subst GoesOn (append_assoc ws (x ∷ []) xs) (rest i (step_read ws p x h l pass) (step_opens p x e (reads h).0) (omega (arith, le, header_falls p x pass)))
@@ -58,9 +58,9 @@ further x xs l p ws rest e i pass h le =
 rows_go_on : (xs : List ℕ) → AreLongs xs → (n : Next) (ws : List ℕ) → GoOn xs n ws
 rows_go_on [] l n ws i h o le = record { next = n; read = subst (λ (us : List ℕ). HasRead us n) (sym (append-nil ws)) h; opens_first = o }
 rows_go_on (x ∷ xs) l (More (AtSizeWord hunks done owed)) ws i h o le =
-    further x xs l.0 (AtSizeWord hunks done owed) ws (rows_go_on xs l.1 (step (AtSizeWord hunks done owed) x) (ws ++ x ∷ [])) refl (sized_in_table hunks done x owed (has_both_bits x)) refl h le
+    further x xs l.0 (AtSizeWord hunks done owed) ws (rows_go_on xs l.1 (step_file (AtSizeWord hunks done owed) x) (ws ++ x ∷ [])) refl (sized_in_table hunks done x owed (has_both_bits x)) refl h le
 rows_go_on (x ∷ xs) l (More (AtAttributes hunks done word owed)) ws i h o le =
-    further x xs l.0 (AtAttributes hunks done word owed) ws (rows_go_on xs l.1 (step (AtAttributes hunks done word owed) x) (ws ++ x ∷ [])) refl (rows_in_table hunks (done ++ table_entry word x ∷ []) owed) refl h le
+    further x xs l.0 (AtAttributes hunks done word owed) ws (rows_go_on xs l.1 (step_file (AtAttributes hunks done word owed) x) (ws ++ x ∷ [])) refl (rows_in_table hunks (done ++ table_entry word x ∷ []) owed) refl h le
 rows_go_on (x ∷ xs) l (More (AtBlock p)) ws i h o le = absurd (omega (arith, le))
 rows_go_on (x ∷ xs) l (More (InBody p word y)) ws i h o le = absurd (omega (arith, le))
 rows_go_on (x ∷ xs) l (Finished v) ws i h o le = absurd (omega (arith, le))

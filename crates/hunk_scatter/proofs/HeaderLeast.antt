@@ -6,7 +6,7 @@ use Rattle.hunk_blocks.proofs.Lists.{more_owed}
 use Rattle.hunk_scan.specs.Positions.{is_behind_header, least_longs}
 use Rattle.hunk_scan.specs.Roles.{Role, refuse}
 use Rattle.hunk_files.specs.LoadFile.{TableEntry}
-use Rattle.hunk_files.specs.FileSteps.{table_entry, Progress, AtFirst, AtResident, AtTableSize, AtFirstHunk, AtLastHunk, AtSizeWord, AtAttributes, AtBlock, InBody, Next, More, Finished, role_of, open_hunk, rows, sized_row, step, Leads}
+use Rattle.hunk_files.specs.FileSteps.{table_entry, Progress, AtFirst, AtResident, AtTableSize, AtFirstHunk, AtLastHunk, AtSizeWord, AtAttributes, AtBlock, InBody, Next, More, Finished, role_of, open_hunk, rows, sized_row, step_file, Leads}
 use Rattle.hunk_files.specs.ReaderPosition.{position_of, table_of}
 use Rattle.hunk_files.specs.WordsRead.{HasRead, Labelled, AreAccepted}
 use Rattle.hunk_files.proofs.Accepted.{last_accepted}
@@ -40,7 +40,7 @@ sized_least hunks done w owed true = omega arith
 sized_least hunks done w owed false = rows_least hunks (done ++ table_entry w 0 ∷ []) owed
 
 -- one step takes one longword at most off what is owed
-pub header_falls : (p : Progress) (w : ℕ) → refuse (role_of p) w ≡ None → header_least (More p) ≤ suc (header_least (step p w))
+pub header_falls : (p : Progress) (w : ℕ) → refuse (role_of p) w ≡ None → header_least (More p) ≤ suc (header_least (step_file p w))
 header_falls AtFirst w ok = omega arith
 header_falls AtResident w ok = omega arith
 header_falls AtTableSize w ok = omega (arith, zero_or_limit w ok)
@@ -56,7 +56,7 @@ run_least n last [] f ok run e = omega (arith, e, ap header_least run)
 run_least (Finished v) last (l ∷ ls) f ok run e = absurd run
 run_least (More p) last (l ∷ ls) f ok run e =
     let pass = ap (λ (r : Role). refuse r l.1) run.0 ∙ ok.0.1 in
-    let rest = run_least (step p l.1) last ls (step_keeps p l.1 f ok.0.0 pass).0 ok.1 run.1 e in
+    let rest = run_least (step_file p l.1) last ls (step_keeps p l.1 f ok.0.0 pass).0 ok.1 run.1 e in
     omega (arith, header_falls p l.1 pass)
 
 open_least : (t : List TableEntry) → header_least (open_hunk (length t) [] t) ≡ 0

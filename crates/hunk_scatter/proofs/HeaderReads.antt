@@ -11,7 +11,7 @@ use Rattle.hunk_files.specs.declared.row.Row.{Row}
 use Rattle.hunk_files.specs.Fault.{Expects}
 use Rattle.hunk_files.specs.Image.{declared_bytes}
 use Rattle.hunk_files.specs.LoadFile.{TableEntry}
-use Rattle.hunk_files.specs.FileSteps.{Progress, Next, More, Finished, role_of, step}
+use Rattle.hunk_files.specs.FileSteps.{Progress, Next, More, Finished, role_of, step_file}
 use Rattle.hunk_files.specs.ReaderPosition.{position_of, table_of}
 use Rattle.hunk_files.specs.WordsRead.{HasRead}
 use Rattle.hunk_files.proofs.Positions.{step_position}
@@ -104,7 +104,7 @@ module _ (budget : ℕ) (rows : List Row) (s : HeaderState) (ws : List ℕ) (h :
     word_read is pass =
         let ok : refuse (role_of here) w ≡ None = refusal_is w ∙ pass in
         record {
-          next = step here w;
+          next = step_file here w;
           read = step_read ws here w read_here is ok;
           opens_first = step_opens here w in_header (reads read_here).0;
           position_is = step_position here w (reads read_here).0 ok ∙ ap (λ (p : Position). scan.step p w) position_here;

@@ -6,7 +6,7 @@ use Rattle.hunk_scan.specs.Roles.{Role as roles, refuse}
 use Rattle.hunk_scan.specs.Positions.{role_at, is_behind_header}
 use Rattle.hunk_files.specs.Image.{declared_bytes}
 use Rattle.hunk_files.specs.LoadFile.{TableEntry}
-use Rattle.hunk_files.specs.FileSteps.{table_entry, Progress, AtLastHunk, AtSizeWord, AtAttributes, AtBlock, InBody, More, role_of, rows, sized_row, step}
+use Rattle.hunk_files.specs.FileSteps.{table_entry, Progress, AtLastHunk, AtSizeWord, AtAttributes, AtBlock, InBody, More, role_of, rows, sized_row, step_file}
 use Rattle.hunk_files.specs.ReaderPosition.{position_of, open_longs, table_of, IsBehindHeader}
 use Rattle.hunk_files.proofs.FileProgress.{ProgressFits}
 use Rattle.hunk_files.proofs.Positions.{refuse_same}
@@ -53,7 +53,7 @@ sized_table hunks done w owed true = sym (append-nil done)
 sized_table hunks done w owed false = rows_table hunks (done ++ table_entry w 0 ∷ []) owed
 
 -- A longword adds a row, or none.
-pub step_adds : (p : Progress) (w : ℕ) → IsInHeader p → table_of (step p w) ≡ table_of (More p) ++ adds (position_of (More p)) w
+pub step_adds : (p : Progress) (w : ℕ) → IsInHeader p → table_of (step_file p w) ≡ table_of (More p) ++ adds (position_of (More p)) w
 step_adds (AtLastHunk hunks) w e = rows_table hunks [] hunks
 step_adds (AtSizeWord hunks done owed) w e = sized_table hunks done w owed (has_both_bits w)
 step_adds (AtAttributes hunks done word owed) w e = rows_table hunks (done ++ table_entry word w ∷ []) owed
@@ -76,7 +76,7 @@ sized_total hunks done w owed true = refl
 sized_total hunks done w owed false = one_more hunks done (table_entry w 0) owed
 
 -- A longword adds what it declares.
-pub step_declares : (p : Progress) (w : ℕ) → IsInHeader p → declared_so_far (step p w) ≡ declared_so_far (More p) + declares (position_of (More p)) w
+pub step_declares : (p : Progress) (w : ℕ) → IsInHeader p → declared_so_far (step_file p w) ≡ declared_so_far (More p) + declares (position_of (More p)) w
 step_declares (AtLastHunk hunks) w e = rows_total hunks [] hunks ∙ omega arith
 step_declares (AtSizeWord hunks done owed) w e = sized_total hunks done w owed (has_both_bits w)
 step_declares (AtAttributes hunks done word owed) w e = one_more hunks done (table_entry word w) owed ∙ omega arith
@@ -96,7 +96,7 @@ sized_open hunks done w owed true e b = absurd cc
 sized_open hunks done w owed false e b = rows_open hunks (done ++ table_entry w 0 ∷ []) owed (more_owed done (table_entry w 0) owed ∙ e) b
 
 -- Behind the last longword the first hunk opens.
-pub step_opens : (p : Progress) (w : ℕ) → IsInHeader p → ProgressFits p → OpensFirst (step p w)
+pub step_opens : (p : Progress) (w : ℕ) → IsInHeader p → ProgressFits p → OpensFirst (step_file p w)
 step_opens (AtLastHunk hunks) w e f = rows_open hunks [] hunks (omega arith)
 step_opens (AtSizeWord hunks done owed) w e f = sized_open hunks done w owed (has_both_bits w) f.counts
 step_opens (AtAttributes hunks done word owed) w e f = rows_open hunks (done ++ table_entry word w ∷ []) owed (more_owed done (table_entry word w) owed ∙ f.0.counts)

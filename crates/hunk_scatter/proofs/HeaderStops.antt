@@ -14,7 +14,7 @@ use Rattle.hunk_files.specs.LoadFile.{TableEntry}
 use Rattle.hunk_files.specs.LoadText.{header_labelled}
 use Rattle.hunk_scan.specs.Roles.{Role, Role as roles, refuse}
 use Rattle.hunk_files.proofs.Accepted.{header_accepted}
-use Rattle.hunk_files.specs.FileSteps.{Progress, More, open_hunk, role_of, step}
+use Rattle.hunk_files.specs.FileSteps.{Progress, More, open_hunk, role_of, step_file}
 use Rattle.hunk_files.specs.ReaderPosition.{position_of, table_of}
 use Rattle.hunk_scan.specs.Positions.{role_at, is_behind_header}
 use Rattle.hunk_files.proofs.Reading.{reads, step_read, read_refused}
@@ -116,7 +116,7 @@ module _ (budget : ℕ) (bytes rest : List ℕ) (f : Fault) (s : HeaderStop budg
           let read_more = step_read s.ws at s.word read_at s.long (refusal_at s.word ∙ l.accepted) in
           let opens = step_opens at s.word header_at (reads read_at).0 in
           let rows_before = rows_read (More at) s.ws read_at (λ e. let clash : false ≡ true = sym header_at ∙ e in absurd cc) in
-          let rows_here = rows_read (step at s.word) (s.ws ++ s.word ∷ []) read_more opens in
+          let rows_here = rows_read (step_file at s.word) (s.ws ++ s.word ∷ []) read_more opens in
           subst (λ (r : Reason). IsHeaderFaultBy r budget (bytes ++ rest) f.place) (sym l.reason_is)
           (record {
             before = s.ws;
@@ -128,7 +128,7 @@ module _ (budget : ℕ) (bytes rest : List ℕ) (f : Fault) (s : HeaderStop budg
             begins =
                 λ fits.
                 subst (λ (bs : List ℕ). IsHeaderFront (bs ++ rest)) (sym s.spelled)
-                (table_grows (step at s.word) (s.ws ++ s.word ∷ []) rest (row_in_table at s.word some) read_more opens fit fits);
+                (table_grows (step_file at s.word) (s.ws ++ s.word ∷ []) rest (row_in_table at s.word some) read_more opens fit fits);
           })
 
   -- It ends the bytes.

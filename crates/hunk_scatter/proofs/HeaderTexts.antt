@@ -8,8 +8,9 @@ use Rattle.hunk_words.specs.Bits.{has_both_bits}
 use Rattle.hunk_blocks.proofs.Lists.{passes_else, passes_then}
 use Rattle.hunk_scan.specs.Positions.{is_behind_header}
 use Rattle.hunk_scan.specs.Roles.{Role, Role as roles}
+use Rattle.hunk_blocks.specs.Faults.{words}
 use Rattle.hunk_files.specs.LoadFile.{TableEntry, IsTableEntry}
-use Rattle.hunk_files.specs.LoadText.{entry_labelled, header_labelled, words}
+use Rattle.hunk_files.specs.LoadText.{entry_labelled, header_labelled}
 use Rattle.hunk_files.specs.FileSteps.{table_entry, AtSizeWord, AtAttributes, AtBlock, InBody, Next, More, Finished, open_hunk}
 use Rattle.hunk_files.specs.ReaderPosition.{position_of, table_of}
 use Rattle.hunk_files.specs.WordsRead.{Labelled, HasRead}

@@ -9,9 +9,9 @@ use Rattle.hunk_files.specs.Fault.{HasRefusal}
 use Rattle.hunk_files.specs.Image.{declared_bytes, images}
 use Rattle.hunk_files.specs.LoadFile.{TableEntry, LoadFileValue}
 use Rattle.hunk_scan.specs.Roles.{refuse}
-use Rattle.hunk_files.specs.LoadText.{entries}
+use Rattle.hunk_files.specs.LoadText.{table}
 use Rattle.hunk_blocks.specs.BlockSteps.{Inside}
-use Rattle.hunk_files.specs.FileSteps.{HunkSoFar, Progress, AtBlock, InBody, Next, More, Finished, place_of, role_of, step}
+use Rattle.hunk_files.specs.FileSteps.{HunkSoFar, Progress, AtBlock, InBody, Next, More, Finished, place_of, role_of, step_file}
 use Rattle.hunk_files.proofs.FileProgress.{OpenFits, ProgressFits}
 use Rattle.hunk_files.proofs.HunkProgress as blocks
 use Rattle.hunk_files.proofs.InsideCases.{by_inside}
@@ -48,7 +48,7 @@ open_in_store o p f b room = record {
         arith,
         ap size_longs (sizes-at o.finished o.entry o.ahead),
         before_is o.finished,
-        sum_by-append (λ (e : TableEntry). 4 * size_longs e.word) (entries o.finished) (o.entry ∷ o.ahead),
+        sum_by-append (λ (e : TableEntry). 4 * size_longs e.word) (table o.finished) (o.entry ∷ o.ahead),
         sum_by-cons (λ (e : TableEntry). 4 * size_longs e.word) o.entry o.ahead,
       );
   room = subst (λ (n : ℕ). RoomIn (sizes_of (open_table o)) n p) (sym (ap size_longs (sizes-at o.finished o.entry o.ahead))) room;
@@ -147,16 +147,16 @@ module _ (rows : List Row) (store : List ℕ) (state : BodyState) (pending fed :
         record {
           few = omega arith;
           ws = g.ws ++ w ∷ [];
-          next = step g.at w;
+          next = step_file g.at w;
           spelled = spells ∙ sym (append-nil (bytes_of (g.ws ++ w ∷ [])));
           read = step_read g.ws g.at w g.read is pass;
           behind = step_behind g.at w g.in_body;
           table_is = step_table g.at w g.in_body ∙ g.table_is;
           state_is = step_state g.at w g.in_body (reads g.read).0 pass ∙ ap₂ (λ (ss : List ℕ) (s : BodyState). step_body ss s w) sizes_now g.state_is;
           holds =
-              subst (λ (s : BodyState). StoreHolds (bases_of rows) (step g.at w) (stored_long (bases_of rows) s w store)) g.state_is
+              subst (λ (s : BodyState). StoreHolds (bases_of rows) (step_file g.at w) (stored_long (bases_of rows) s w store)) g.state_is
               (step_holds (bases_of rows) g.at w store (reads g.read).0 is pass g.holds);
-          whole = nothing (step g.at w);
+          whole = nothing (step_file g.at w);
         }
       where
         nothing : (n : Next) → EndsWhole n []

@@ -2,9 +2,10 @@
 use Rattle.std.proofs.Common.{◌≡◌, ℕ, zero, suc, ◌/◌, ◌^◌, ◌≤◌, cond, List, [], ◌∷◌, ◌++◌, refl, sym, ap, ap₂, subst, ◌∙◌, arith}
 use Rattle.hunk_blocks.specs.Values.{ExtEntry, SymbolEntry, RelocGroup}
 use Rattle.hunk_blocks.specs.BlockSteps.{ForName, ForDebug, ForAdvisory, Filling, Counted, SizedCode, SizedData, Inside, AtCount, AtSize, InPayload, AtGroup, AtTarget, InOffsets, AtEntry, InName, AtValue, AtExtWord, InExtName, AtExtValue, AtExtSize, AtExtCount, InExtOffsets, fill, relocate, name_entry, name_external, refer}
+use Rattle.hunk_blocks.specs.Faults.{words}
 use Rattle.hunk_files.specs.LoadFile.{LoadFileValue, IsLoadFile}
-use Rattle.hunk_files.specs.LoadText.{words, labelled}
-use Rattle.hunk_files.specs.FileSteps.{HunkSoFar, Progress, AtFirst, AtResident, AtTableSize, AtFirstHunk, AtLastHunk, AtSizeWord, AtAttributes, AtBlock, InBody, Next, More, Finished, role_of, after, step, Leads}
+use Rattle.hunk_files.specs.LoadText.{labelled}
+use Rattle.hunk_files.specs.FileSteps.{HunkSoFar, Progress, AtFirst, AtResident, AtTableSize, AtFirstHunk, AtLastHunk, AtSizeWord, AtAttributes, AtBlock, InBody, Next, More, Finished, role_of, after, step_file, Leads}
 use Rattle.hunk_files.proofs.FileText.{file_leads}
 use Rattle.hunk_files.proofs.Shapes.{by_shape}
 use Rattle.hunk_files.proofs.Runs.{Leads-split, Leads-same}
@@ -49,7 +50,7 @@ refer_run o word es w name value done zero = refl
 refer_run o word es w name value done (suc owed) = refl
 
 -- One longword takes one off what is to come, or none is.
-one_off : (p : Progress) (w : ℕ) → cond (is_in_run (role_of p)) (suc (run_at (step p w))) 0 ≡ run_at (More p)
+one_off : (p : Progress) (w : ℕ) → cond (is_in_run (role_of p)) (suc (run_at (step_file p w))) 0 ≡ run_at (More p)
 one_off (InBody o word (AtCount ForName)) w = refl
 one_off (InBody o word (AtCount ForDebug)) w = refl
 one_off (InBody o word (AtCount ForAdvisory)) w = refl
@@ -81,7 +82,7 @@ run_is (More p) [] v run = absurd cc
 run_is (Finished u) [] v run = refl
 run_is (Finished u) (l ∷ ls) v run = absurd run
 run_is (More p) (l ∷ ls) v run =
-    ap₂ (λ r n. cond (is_in_run r) (suc n) 0) (sym run.0) (run_is (step p l.1) ls v run.1) ∙ one_off p l.1
+    ap₂ (λ r n. cond (is_in_run r) (suc n) 0) (sym run.0) (run_is (step_file p l.1) ls v run.1) ∙ one_off p l.1
 
 run_least : (p : Progress) → run_at (More p) ≤ least p
 run_least (InBody o word (InPayload f done owed)) = omega arith

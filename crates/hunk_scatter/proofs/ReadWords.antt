@@ -1,8 +1,9 @@
 -- The longwords that were read, and those of a load text, are below 2 ^ 32.
 use Rattle.std.proofs.Common.{ℕ, List, [], ◌∷◌, subst}
 use Rattle.hunk_words.specs.Longs.{AreLongs}
+use Rattle.hunk_blocks.specs.Faults.{words}
 use Rattle.hunk_files.specs.LoadFile.{LoadFileValue, IsLoadFile}
-use Rattle.hunk_files.specs.LoadText.{labelled, words, text}
+use Rattle.hunk_files.specs.LoadText.{labelled, text}
 use Rattle.hunk_files.specs.FileSteps.{Next}
 use Rattle.hunk_files.specs.WordsRead.{Labelled, AreAccepted, HasRead}
 use Rattle.hunk_files.proofs.Accepted.{labelled_accepted}

@@ -14,8 +14,8 @@ use Rattle.hunk_files.specs.Image.{add_at, image, images, filled, relocated, blo
 use Rattle.hunk_blocks.specs.Values.{BlockValue, Name, Code, Data, Bss, Reloc, Ext, Symbol, Debug, Advisory, End}
 use Rattle.hunk_files.specs.LoadFile.{TableEntry, HunkValue}
 use Rattle.hunk_scan.specs.Roles.{refuse, refuse_part}
-use Rattle.hunk_blocks.specs.BlockSteps.{ForName, ForCode, SizedCode, SizedData, Inside, AtCount, AtSize, InPayload, InOffsets, BlockNext, Open, Whole, part_of, step_inside, begin}
-use Rattle.hunk_files.specs.FileSteps.{hunk, block, HunkSoFar, Progress, AtBlock, InBody, More, place_of, role_of, with_block, open_hunk, close, after, step}
+use Rattle.hunk_blocks.specs.BlockSteps.{ForName, ForCode, SizedCode, SizedData, Inside, AtCount, AtSize, InPayload, InOffsets, BlockNext, Open, Whole, part_of, step_inside, begin_body}
+use Rattle.hunk_files.specs.FileSteps.{hunk, block, HunkSoFar, Progress, AtBlock, InBody, More, place_of, role_of, with_block, open_hunk, close, after, step_file}
 use Rattle.hunk_files.proofs.FileProgress.{ProgressFits, IsAdmitted, kind_admitted, kind_is}
 use Rattle.hunk_files.proofs.HunkProgress as blocks
 use Rattle.hunk_blocks.proofs.Lists.{All-more, flat_map-more, passed_true, passed_false}
@@ -211,7 +211,7 @@ after_holds bases o word (Whole (Reloc gs)) store a f h =
 after_holds bases o word (Whole (Ext es)) store a f h = absurd f.of_load
 after_holds bases o word (Whole End) store a f h = ended_holds bases o word store h
 
-begin_empty : (k : Kind) → (bytes_so_far (begin k) ≡ []) × (pairs_so_far (begin k) ≡ [])
+begin_empty : (k : Kind) → (bytes_so_far (begin_body k) ≡ []) × (pairs_so_far (begin_body k) ≡ [])
 begin_empty kinds.Name = (refl, refl)
 begin_empty _ = (refl, refl)
 
@@ -222,12 +222,12 @@ block_stores (b ∷ blocks) P bases start o w store h = h
 
 -- A longword that is not refused keeps what the store holds.
 pub step_holds : (bases : List ℕ) (p : Progress) (w : ℕ) (store : List ℕ) → ProgressFits p → IsLong w → refuse (role_of p) w ≡ None → StoreHolds bases (More p) store →
-    StoreHolds bases (step p w) (stored_long bases (state_of (More p)) w store)
+    StoreHolds bases (step_file p w) (stored_long bases (state_of (More p)) w store)
 step_holds bases (AtBlock o) w store f l ok h =
     let e = begin_empty (kind w) in
-    block_stores o.blocks (StoreHolds bases (step (AtBlock o) w)) bases (before o.finished) (open_of o) w store
-    (after_holds bases o w (begin (kind w)) store (l, ok) (blocks.begin_fits (place_of o) w (kind w) refl (kind_admitted o w (l, ok)).1)
-    (holds_as bases o (Whole End) (begin (kind w)) store (same_parts bases o (Whole End) (begin (kind w)) e.0 e.1) h))
+    block_stores o.blocks (StoreHolds bases (step_file (AtBlock o) w)) bases (before o.finished) (open_of o) w store
+    (after_holds bases o w (begin_body (kind w)) store (l, ok) (blocks.begin_fits (place_of o) w (kind w) refl (kind_admitted o w (l, ok)).1)
+    (holds_as bases o (Whole End) (begin_body (kind w)) store (same_parts bases o (Whole End) (begin_body (kind w)) e.0 e.1) h))
 step_holds bases (InBody o word x) w store f l ok h =
     after_holds bases o word (step_inside x w) (stored_in bases (before o.finished) (position_of (More (InBody o word x))) w store) f.1 (blocks.step_fits (place_of o) word x w f.2 l ok)
     (inside_holds bases o word x w store f.1 f.2 ok h)

@@ -3,11 +3,12 @@ use Rattle.std.proofs.Common.{◌≡◌, ℕ, ◌^◌, ◌-◌, ◌≤◌, List,
 use Rattle.std.specs.List.{flat_map}
 use Rattle.std.proofs.lemmas.List.{map-append}
 use Rattle.hunk_scan.specs.Roles.{Role, Role as roles}
+use Rattle.hunk_blocks.specs.Faults.{words}
 use Rattle.hunk_files.specs.Fault.{Expects}
 use Rattle.hunk_files.specs.FileSteps.{open_hunk}
 use Rattle.hunk_files.specs.Image.{declared_bytes}
 use Rattle.hunk_files.specs.LoadFile.{TableEntry, LoadFileValue}
-use Rattle.hunk_files.specs.LoadText.{labelled, header_labelled, hunk_labelled, table, words}
+use Rattle.hunk_files.specs.LoadText.{labelled, header_labelled, hunk_labelled, table}
 use Rattle.hunk_scatter.specs.HeaderBytes.{IsHeaderTable, header_words, entries_so_far}
 use Rattle.hunk_scatter.specs.HeaderFaults.{PassesBudget}
 use Rattle.hunk_scatter.proofs.Behind.{table_behind, no_size_word}

@@ -4,8 +4,9 @@ use Rattle.std.specs.List.{AllByRecursion}
 use Rattle.hunk_words.specs.Limits.{most_hunks}
 use Rattle.hunk_words.specs.Bits.{has_both_bits}
 use Rattle.hunk_words.specs.Longs.{bytes_of}
+use Rattle.hunk_blocks.specs.Faults.{words}
 use Rattle.hunk_files.specs.LoadFile.{TableEntry, IsTableEntry}
-use Rattle.hunk_files.specs.LoadText.{header_labelled, words}
+use Rattle.hunk_files.specs.LoadText.{header_labelled}
 
 -- The table of some load file.
 pub record IsHeaderTable (table : List TableEntry) : Type 0 where

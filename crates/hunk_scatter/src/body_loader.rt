@@ -97,7 +97,7 @@ impl BodyLoader {
     fn take_long(&mut self, piece: &[u8]) -> Result<usize, LoadFault>
         requires room { length self.old.fed + length piece.now < 2 ^ 64 }
         requires reading { self.old.refused ≡ None }
-        requires some { 0 < length piece.now }
+        requires nonempty { 0 < length piece.now }
         ensures feeds_or_stops { FeedsOrStops self.old self.new piece.now result }
         ensures ends { result ≡ Ok 0 → IsWholeFile self.new.rows self.new.fed }
     {
@@ -235,9 +235,9 @@ impl BodyLoader {
             → (p ≤ result) ⊎ (most_want ≤ result) }
         ensures over { self.now.refused ≡ None → IsWholeFile self.now.rows self.now.fed
             → result ≡ 0 }
-        ensures some { self.now.refused ≡ None → result ≡ 0
+        ensures finished { self.now.refused ≡ None → result ≡ 0
             → IsWholeFile self.now.rows self.now.fed }
-        ensures refused { (f : Fault) → self.now.refused ≡ Some f → result ≡ 0 }
+        ensures wants_nothing { (f : Fault) → self.now.refused ≡ Some f → result ≡ 0 }
         ensures clean { self.now.refused ≡ None → HasNoRefusal self.now.fed }
         ensures truncated { 0 < result → IsTruncated self.now.fed (4 * (length self.now.fed / 4)) }
     {
@@ -279,7 +279,7 @@ impl BodyLoader {
         ensures all { IfOk result
             (λ n. n < length piece.now → IsWholeFile self.new.rows self.new.fed) }
         ensures within { OnOk result (IsWithinFile self.new.fed) }
-        ensures complete { self.old.refused ≡ None → IsWholeFile self.old.rows self.old.fed
+        ensures takes_no_more { self.old.refused ≡ None → IsWholeFile self.old.rows self.old.fed
             → result ≡ Ok 0 }
         ensures reading { OnOk result ((self.old.refused ≡ None) × (self.new.refused ≡ None)) }
 

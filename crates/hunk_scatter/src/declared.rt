@@ -136,7 +136,7 @@ impl Declared {
         ensures rows { IfOk result (λ loader. entries_of loader.rows ≡ self.table) }
         ensures bases { IfOk result
             (λ loader. AreBases (P.base placer.now) self.table (bases_of loader.rows)) }
-        ensures open { IfOk result (λ loader. loader.refused ≡ None) }
+        ensures unrefused { IfOk result (λ loader. loader.refused ≡ None) }
         ensures reason { IfErr result
             (λ unplaced. IsUnplacedFor (P.base placer.now) self.table unplaced.reason) }
         ensures same { IfErr result (λ unplaced. unplaced.declared ≡ self) }

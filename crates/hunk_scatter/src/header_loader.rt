@@ -64,7 +64,7 @@ impl HeaderLoader {
     pub fn new(alloc: Global, budget: u64) -> HeaderLoader
         ensures fed { result.fed ≡ [] }
         ensures budget { result.budget ≡ budget }
-        ensures open { result.refused ≡ None }
+        ensures unrefused { result.refused ≡ None }
     {
         HeaderLoader {
             alloc,
@@ -85,7 +85,7 @@ impl HeaderLoader {
     fn take_long(&mut self, piece: &[u8]) -> Result<usize, LoadFault>
         requires room { length self.old.fed + length piece.now < 2 ^ 64 }
         requires reading { self.old.refused ≡ None }
-        requires some { 0 < length piece.now }
+        requires nonempty { 0 < length piece.now }
         ensures feeds_or_stops { FeedsHeaderOrStops self.old self.new piece.now result }
         ensures ends { result ≡ Ok 0 → IsHeader self.new.fed }
     {
@@ -131,8 +131,8 @@ impl HeaderLoader {
         ensures rows { self.now.refused ≡ None → (p : ℕ) → HasRowsToCome self.now.fed p
             → (p ≤ result) ⊎ (most_want ≤ result) }
         ensures over { self.now.refused ≡ None → IsHeader self.now.fed → result ≡ 0 }
-        ensures some { self.now.refused ≡ None → result ≡ 0 → IsHeader self.now.fed }
-        ensures refused { (f : Fault) → self.now.refused ≡ Some f → result ≡ 0 }
+        ensures finished { self.now.refused ≡ None → result ≡ 0 → IsHeader self.now.fed }
+        ensures wants_nothing { (f : Fault) → self.now.refused ≡ Some f → result ≡ 0 }
         ensures clean { self.now.refused ≡ None → HasNoRefusal self.now.fed }
         ensures truncated { self.now.refused ≡ None
             → IsTruncated self.now.fed (4 * (length self.now.fed / 4)) }
@@ -193,13 +193,13 @@ impl HeaderLoader {
         ensures taken { IfOk result (FeedsFront self.old.fed piece.now self.new.fed) }
         ensures all { IfOk result (λ n. n < length piece.now → IsHeader self.new.fed) }
         ensures within { OnOk result (IsWithinHeader self.new.fed) }
-        ensures complete { self.old.refused ≡ None → IsHeader self.old.fed → result ≡ Ok 0 }
+        ensures takes_no_more { self.old.refused ≡ None → IsHeader self.old.fed → result ≡ Ok 0 }
         ensures reading { OnOk result ((self.old.refused ≡ None) × (self.new.refused ≡ None)) }
 
         // Refusals.
         ensures refusal { self.old.refused ≡ None
             → IfErr result (IsHeaderFault self.old.budget (self.old.fed ++ piece.now)) }
-        ensures passes { self.old.refused ≡ None → (at : ℕ)
+        ensures passes_budget { self.old.refused ≡ None → (at : ℕ)
             → PassesBudget self.old.budget (self.old.fed ++ piece.now) at
             → IsErrAnd result (IsOverBudget at) }
         ensures out_of_memory { self.old.refused ≡ None

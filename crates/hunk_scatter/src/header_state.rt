@@ -30,7 +30,7 @@ fn declares(position: Position, word: u32) -> u64
 /// The row that a longword completes, where it completes one. Its hunk is not placed.
 fn row(position: Position, word: u32) -> Option<Row>
     ensures row { IfSome result (λ row. map row_of (heading.adds position word) ≡ row ∷ []) }
-    ensures none { IfNone result (heading.adds position word ≡ []) }
+    ensures adds_nothing { IfNone result (heading.adds position word ≡ []) }
 {
     match position {
         Position::SizeWord { hunks: _, owed: _ } if SizeWord::has_extra(word) => None,
@@ -58,7 +58,7 @@ pub(crate) fn pass_header_word(
     budget: u64,
     word: u32,
 ) -> Result<HeaderState, Reason>
-    requires going { is_behind_header state.position ≡ false }
+    requires goes_on { is_behind_header state.position ≡ false }
     requires room { state.total + 2 ^ 32 < 2 ^ 64 }
     ensures passes { IfOk result (heading.PassesWord budget state word) }
     ensures refusal { IfErr result (heading.RefusesWord budget state word) }
@@ -84,7 +84,7 @@ pub(crate) fn take_header_word(
     budget: u64,
     word: u32,
 ) -> Result<HeaderState, Reason>
-    requires going { is_behind_header state.position ≡ false }
+    requires goes_on { is_behind_header state.position ≡ false }
     requires room { state.total + 2 ^ 32 < 2 ^ 64 }
     requires within { state.total ≤ budget }
     ensures rows { OnOk result (rows.new.items ≡ rows.old.items

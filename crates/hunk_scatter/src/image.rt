@@ -150,7 +150,7 @@ impl Image {
     #[tactic(auto, using(crate::proofs::DeclaredBytes::cut_total))]
     pub fn bytes(&self) -> u64
         ensures declared { result ≡ declared_bytes (entries_of self.now.rows) }
-        ensures together { result ≡ sum_by length self.now.segments }
+        ensures sum { result ≡ sum_by length self.now.segments }
     {
         self.store.len() as u64
     }

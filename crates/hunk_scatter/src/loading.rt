@@ -39,16 +39,16 @@ fn read_piece<R: Source>(
     count: u64,
     limit: u64,
 ) -> Result<usize, LoadFault>
-    requires some { 0 < want }
-    requires room { want ≤ length buf.old }
+    requires nonempty { 0 < want }
+    requires buffer { want ≤ length buf.old }
     requires within { count ≤ limit }
-    ensures some { IfOk result (λ n. 0 < n) }
+    ensures nonempty { IfOk result (λ n. 0 < n) }
     ensures most { IfOk result (λ n. n ≤ want) }
     ensures limit { IfOk result (λ n. count + n ≤ limit) }
     ensures piece { IfOk result (λ n. Consumes (R.left r.old) (R.left r.new) (take n buf.new)) }
     ensures fault { IfErr result (IsReadFault limit (R.left r.new) (R.failed r.new) count) }
     ensures nothing { OnErr result (Consumes (R.left r.old) (R.left r.new) []) }
-    ensures works { OnOk result (R.failed r.new ≡ R.failed r.old) }
+    ensures no_failure { OnOk result (R.failed r.new ≡ R.failed r.old) }
     ensures read { TellsFailure (R.failed r.old) (R.failed r.new) result }
 {
     if count >= limit {

@@ -30,10 +30,10 @@ fn take_one(
 ) -> Result<usize, Reason>
     requires same { here ≡ record state.old { position = here.position } }
     requires here { here.position ≡ state.old.position }
-    requires room { IsInStore (words_of rows.now) (length store.old) state.old }
-    requires going_on { is_done here.position ≡ false }
-    requires some { 4 ≤ length piece.now }
-    requires front { word ≡ slice_index (longs piece.now) 0 }
+    requires in_store { IsInStore (words_of rows.now) (length store.old) state.old }
+    requires goes_on { is_done here.position ≡ false }
+    requires whole_long { 4 ≤ length piece.now }
+    requires first_long { word ≡ slice_index (longs piece.now) 0 }
     ensures { TakesOrRefuses rows.now store.old state.old piece.now store.new state.new result }
 {
     // The piece is for the contract alone.
@@ -55,8 +55,8 @@ fn take_block_word(
     phase: Phase,
     piece: &[u8],
 ) -> Result<usize, Reason>
-    requires room { IsInStore (words_of rows.now) (length store.old) state.old }
-    requires some { 4 ≤ length piece.now }
+    requires in_store { IsInStore (words_of rows.now) (length store.old) state.old }
+    requires whole_long { 4 ≤ length piece.now }
     requires here { positions.Body hunk phase ≡ state.old.position }
     ensures { TakesOrRefuses rows.now store.old state.old piece.now store.new state.new result }
 {
@@ -93,8 +93,8 @@ fn take_at(
     phase: Phase,
     piece: &[u8],
 ) -> Result<usize, Reason>
-    requires room { IsInStore (words_of rows.now) (length store.old) state.old }
-    requires some { 4 ≤ length piece.now }
+    requires in_store { IsInStore (words_of rows.now) (length store.old) state.old }
+    requires whole_long { 4 ≤ length piece.now }
     requires here { positions.Body hunk phase ≡ state.old.position }
     ensures { TakesOrRefuses rows.now store.old state.old piece.now store.new state.new result }
 {
@@ -130,9 +130,9 @@ pub(crate) fn take_front(
     phase: Phase,
     piece: &[u8],
 ) -> Result<usize, Reason>
-    requires room { IsInStore (words_of rows.now) (length store.old) state.old }
+    requires in_store { IsInStore (words_of rows.now) (length store.old) state.old }
     requires here { positions.Body hunk phase ≡ state.old.position }
-    requires some { 4 ≤ length piece.now }
+    requires whole_long { 4 ≤ length piece.now }
     ensures { TakesOrRefuses rows.now store.old state.old piece.now store.new state.new result }
 {
     macro_rules! at {
@@ -169,10 +169,10 @@ pub(crate) fn take_longwords(
     piece: &[u8],
 ) -> (usize, Option<Reason>)
     requires size { length store.old ≡ declared_bytes (entries_of rows.now) }
-    requires reading { StandsBehind rows.now store.old state.old [] history.now.bytes }
+    requires stands { StandsBehind rows.now store.old state.old [] history.now.bytes }
     requires room { length history.now.bytes + length piece.now < 2 ^ 64 }
     ensures inside { result.0 ≤ length piece.now }
-    ensures reading { IfNone result.1
+    ensures stands { IfNone result.1
         (StandsBehind rows.now store.new state.new []
         (history.now.bytes ++ take result.0 piece.now)) }
     ensures refusal { IfSome result.1

@@ -55,7 +55,7 @@ pub(crate) fn base_of(rows: &[Row], hunk: u32) -> u32
 /// What the loader does to its store at a longword that is not rejected.
 #[inline(always)]
 pub(crate) fn store_word(store: &mut [u8], rows: &[Row], state: BodyState, word: u32)
-    requires room { IsInStore (words_of rows.now) (length store.old) state }
+    requires in_store { IsInStore (words_of rows.now) (length store.old) state }
     requires passes { refusal (words_of rows.now) state word ≡ None }
     ensures { store.new ≡ stored_long (bases_of rows.now) state word store.old }
 {
@@ -102,10 +102,10 @@ pub(crate) fn take_word(
 /// How many bytes of a piece of `count` bytes are longwords of a run.
 #[inline(always)]
 pub(crate) fn run_bytes(position: Position, count: usize) -> usize
-    ensures inside { result ≤ count }
+    ensures bound { result ≤ count }
     ensures fours { result % 4 ≡ 0 }
     ensures run { result ≤ 4 * run position }
-    ensures some { 4 ≤ count → 0 < run position → 0 < result }
+    ensures positive { 4 ≤ count → 0 < run position → 0 < result }
 {
     let run = 4 * position.run();
     let whole = count - count % 4;
@@ -119,7 +119,7 @@ pub(crate) fn run_bytes(position: Position, count: usize) -> usize
 /// Takes longwords of a run at once: those of a content are copied, and the others are passed over.
 #[inline(always)]
 pub(crate) fn take_run(store: &mut [u8], rows: &[Row], state: BodyState, bytes: &[u8]) -> BodyState
-    requires room { IsInStore (words_of rows.now) (length store.old) state }
+    requires in_store { IsInStore (words_of rows.now) (length store.old) state }
     requires fours { length bytes.now % 4 ≡ 0 }
     requires run { length bytes.now ≤ 4 * run state.position }
     ensures steps { result ≡ pass_body state (length bytes.now / 4) }
@@ -138,7 +138,7 @@ pub(crate) fn take_run(store: &mut [u8], rows: &[Row], state: BodyState, bytes: 
 pub(crate) fn next_word(assembler: &mut Assembler, piece: &[u8]) -> (usize, Option<u32>)
     requires { 0 < length piece.now }
     ensures inside { result.0 ≤ length piece.now }
-    ensures some { 0 < result.0 }
+    ensures positive { 0 < result.0 }
     ensures gathers { Gathers (assembler.old ++ take result.0 piece.now) assembler.new result.1 }
     ensures takes_all { IfNone result.1 (result.0 ≡ length piece.now) }
     ensures bound { length assembler.new < 4 }
@@ -162,8 +162,8 @@ pub(crate) fn add_all(
 ) -> usize
     requires room { start + 4 * declared ≤ length store.old }
     requires offsets { 4 * most ≤ length offsets.now }
-    ensures count { result ≤ most }
-    ensures inside { AllByRecursion (EndsWithin (4 * declared)) (take result (longs offsets.now)) }
+    ensures bound { result ≤ most }
+    ensures ends_within { AllByRecursion (EndsWithin (4 * declared)) (take result (longs offsets.now)) }
     ensures adds { store.new
         ≡ added_at_each start base (take result (longs offsets.now)) store.old }
 {
@@ -190,8 +190,8 @@ pub(crate) fn take_offsets(
 ) -> Option<(BodyState, usize)>
     requires { IsInStore (words_of rows.now) (length store.old) state }
     ensures inside { IfSome result (λ r. 4 * r.1 ≤ length piece.now) }
-    ensures some { IfSome result (λ r. 0 < r.1) }
-    ensures none { IfNone result (store.new ≡ store.old) }
+    ensures positive { IfSome result (λ r. 0 < r.1) }
+    ensures stores_nothing { IfNone result (store.new ≡ store.old) }
     ensures offsets { IfSome result (λ r. TakesOffsets (words_of rows.now) (bases_of rows.now) state
         (take r.1 (longs piece.now)) store.old r.0 store.new) }
 {

@@ -153,8 +153,8 @@ fn take_longs(
     at: Standing,
     piece: &[u8],
 ) -> Result<(Standing, usize), Stop>
-    requires none { at.pending.count ≡ 0 }
-    requires some { 4 ≤ length piece.now }
+    requires gathers_none { at.pending.count ≡ 0 }
+    requires whole_long { 4 ≤ length piece.now }
     requires room { at.fed + length piece.now < 2 ^ 64 }
     ensures counts { IfOk result (λ r. CountsTaken at piece.now r.0 r.1) }
     ensures takes { (fed : List ℕ) → IsFed rows.now store.old at fed
@@ -191,7 +191,7 @@ fn take_some(
     at: Standing,
     piece: &[u8],
 ) -> Result<(Standing, usize), Stop>
-    requires some { 0 < length piece.now }
+    requires nonempty { 0 < length piece.now }
     requires room { at.fed + length piece.now < 2 ^ 64 }
     ensures counts { IfOk result (λ r. CountsTaken at piece.now r.0 r.1) }
     ensures takes { (fed : List ℕ) → IsFed rows.now store.old at fed

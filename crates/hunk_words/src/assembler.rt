@@ -59,7 +59,7 @@ impl Assembler {
     /// Takes bytes until a longword is whole or the slice ends, and gives the number of bytes taken
     /// and the longword, where one is whole.
     pub fn take(&mut self, piece: &[u8]) -> (usize, Option<u32>)
-        ensures fits { result.0 ≤ length piece.now }
+        ensures inside { result.0 ≤ length piece.now }
         ensures gathers { Gathers (self.old ++ take result.0 piece.now) self.new result.1 }
         ensures takes_all { IfNone result.1 (result.0 ≡ length piece.now) }
         ensures bound { length self.new < 4 }

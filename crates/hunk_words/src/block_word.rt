@@ -88,7 +88,7 @@ impl Kind {
     /// `Unknown` has none.
     pub fn name(self) -> Option<&'static str>
         ensures value { option_copied result ≡ name_of_kind self }
-        ensures short { IfSome result (λ name. length name.now ≤ 12) }
+        ensures bound { IfSome result (λ name. length name.now ≤ 12) }
     {
         let name = match self {
             Kind::Unit => "UNIT",

@@ -62,8 +62,8 @@ impl<W: Sink> LongWriter<W> {
     /// A writer that has written nothing yet.
     pub fn new(sink: W) -> LongWriter<W>
         ensures holds { result.sink ≡ sink }
-        ensures none { result.written ≡ 0 }
-        ensures open { result.stopped ≡ false }
+        ensures unwritten { result.written ≡ 0 }
+        ensures unstopped { result.stopped ≡ false }
     {
         LongWriter {
             sink,

@@ -43,7 +43,7 @@ impl<const ROOM: usize> Page<ROOM> {
 
     /// Appends the bytes where they have room, and answers whether they have.
     pub(crate) fn append(&mut self, bytes: &[u8]) -> bool
-        ensures room { result ≡ true → self.new ≡ self.old ++ bytes.now }
+        ensures appends { result ≡ true → self.new ≡ self.old ++ bytes.now }
         ensures full { result ≡ false → self.new ≡ self.old }
     {
         if self.bytes.len() - self.count < bytes.len() {

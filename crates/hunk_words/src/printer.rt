@@ -74,7 +74,7 @@ impl<'a, W: Sink, const ROOM: usize> PagePrinter<'a, W, ROOM> {
           failed = W.failed out.old.sink;
           written = out.old.written;
         } }
-        ensures text { result.text ≡ [] }
+        ensures empty { result.text ≡ [] }
     {
         let start = out.written();
         let outset = Outset::of(out);
@@ -117,7 +117,7 @@ impl<'a, W: Sink, const ROOM: usize> PagePrinter<'a, W, ROOM> {
     #[tactic(auto, using(crate::proofs::PrintLaws::flushing))]
     pub fn flush(&mut self) -> Result<(), WriteFault>
         requires { self.old.origin.written + length self.old.text < 2 ^ 64 }
-        ensures same { Prints self.old self.new [] }
+        ensures prints_nothing { Prints self.old self.new [] }
         ensures same_reference { self.new.out.ghost_name ≡ self.old.origin.name }
         ensures puts { PutsSince W.taken W.failed
             self.old.origin.taken self.old.origin.failed self.old.origin.written
@@ -150,7 +150,7 @@ fn send_on<W: Sink, const ROOM: usize>(
     ensures sends { Sends (not result) (W.taken out.old.sink) (W.taken out.new.sink)
         out.old.written out.new.written out.new.stopped
         (held.old ++ bytes.now) held.new }
-    ensures quiet { result ≡ true → W.failed out.new.sink ≡ W.failed out.old.sink }
+    ensures no_failure { result ≡ true → W.failed out.new.sink ≡ W.failed out.old.sink }
 {
     let sent = send(out, held.as_slice());
     held.clear();
@@ -161,7 +161,7 @@ fn send_on<W: Sink, const ROOM: usize>(
 fn send<W: Sink>(out: &mut LongWriter<W>, bytes: &[u8]) -> bool
     ensures sends { Sends (not result) (W.taken out.old.sink) (W.taken out.new.sink)
         out.old.written out.new.written out.new.stopped bytes.now [] }
-    ensures quiet { result ≡ true → W.failed out.new.sink ≡ W.failed out.old.sink }
+    ensures no_failure { result ≡ true → W.failed out.new.sink ≡ W.failed out.old.sink }
 {
     if u64::MAX - out.written() < bytes.len() as u64 {
         return false;

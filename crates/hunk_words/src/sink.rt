@@ -25,8 +25,8 @@ pub trait Sink {
     ///
     /// `Failed` where the bytes could not be written. Nothing is taken then.
     fn push(&mut self, bytes: &[u8]) -> Result<usize, Failed>
-        ensures fits { IfOk result (λ n. n ≤ length bytes.now) }
-        ensures some { 0 < length bytes.now → IfOk result (λ n. 0 < n) }
+        ensures inside { IfOk result (λ n. n ≤ length bytes.now) }
+        ensures positive { 0 < length bytes.now → IfOk result (λ n. 0 < n) }
         ensures bytes { WriteAppends (taken self.old) (taken self.new) result bytes.now }
         ensures fails { failed self.new ≡ (failed self.old || is_err result) };
 }

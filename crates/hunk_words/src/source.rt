@@ -40,7 +40,7 @@ pub trait Source {
     ///
     /// `Failed` where the bytes could not be read. Nothing is consumed then.
     fn pull(&mut self, buf: &mut [u8]) -> Result<usize, Failed>
-        ensures fits { ReadsAtMost result buf.new }
+        ensures inside { ReadsAtMost result buf.new }
         ensures bytes { ReadConsumes (left self.old) (left self.new) result buf.new }
         ensures fails { failed self.new ≡ (failed self.old || is_err result) };
 }

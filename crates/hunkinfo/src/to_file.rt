@@ -59,7 +59,7 @@ impl<'a, T: Files> ToFile<'a, T> {
     }
 
     fn write(&mut self, bytes: &[u8]) -> io::Result<usize>
-        ensures fits { IfOk result (λ n. n ≤ length bytes.now) }
+        ensures inside { IfOk result (λ n. n ≤ length bytes.now) }
         ensures same { self.new.failed ≡ self.old.failed }
         ensures bytes { WriteAppends (option_and_then
             (λ f. T.File.contents f) self.old.file) (option_and_then

@@ -74,7 +74,7 @@ impl<'a> LongReader<'a> {
         ensures read { IfOk result (λ p. Reads self.old self.new (longs p)) }
         ensures count { IfOk result (λ p. (length (longs p) ≡ count) × AreLongs (longs p)) }
         ensures short { OnErr result (length self.old.rest < count) }
-        ensures fit { AreLongs self.old.rest }
+        ensures longs { AreLongs self.old.rest }
         ensures fault { IfErr result (λ fault. fault ≡ cut self.old) }
     {
         let length = 4 * count as usize;

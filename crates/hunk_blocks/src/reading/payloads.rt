@@ -63,7 +63,7 @@ pub(crate) fn read_entry_name<'a>(
     ensures read { IfOk result (λ p. Reads reader.old reader.new (longs p)) }
     ensures count { IfOk result (λ p. (length (longs p) ≡ name_longs word) × AreLongs (longs p)) }
     ensures short { OnErr result (length reader.old.rest < name_longs word) }
-    ensures fit { AreLongs reader.old.rest }
+    ensures longs { AreLongs reader.old.rest }
     ensures fault { IfErr result (λ fault. fault ≡ cut reader.old) }
 {
     reader.payload(word % NAME_LIMIT)

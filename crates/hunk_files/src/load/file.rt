@@ -56,9 +56,9 @@ impl<'a> LoadFile<'a> {
     ///   block, a block or a hunk, at the longword that completes what was to be kept. The bytes
     ///   begin with a load file then, so it hides no fault.
     pub fn decode(alloc: Global, bytes: &'a [u8]) -> Result<(LoadFile<'a>, usize), FileFault>
-        ensures value { IfOk result (λ r. IsLoadFile r.0) }
+        ensures valid { IfOk result (λ r. IsLoadFile r.0) }
         ensures text { IfOk result (λ r. take r.1 bytes.entry.now ≡ bytes_of (text r.0)) }
-        ensures within { IfOk result (λ r. r.1 ≤ length bytes.entry.now) }
+        ensures inside { IfOk result (λ r. r.1 ≤ length bytes.entry.now) }
         ensures fault { IfErr result (λ fault. fault.reason ≢ reasons.OutOfMemory →
             HasFault bytes.entry.now fault.place fault.reason) }
         ensures none { IfErr result (λ fault. fault.reason ≢ reasons.OutOfMemory →

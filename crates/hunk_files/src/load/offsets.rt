@@ -25,7 +25,7 @@ pub(super) fn pass_list(
         → ArePassed (longs bytes.now) at position declared (result.0 - at) }
     ensures behind { result.1 ≡ pass_offsets position (result.0 - at) }
 {
-    if position.offsets() < MANY || at >= bytes.len() / 4 {
+    if position.offsets_to_come() < MANY || at >= bytes.len() / 4 {
         return (at, position);
     }
     let end = behind_offsets(bytes, at, position, declared);
@@ -40,7 +40,7 @@ fn behind_offsets(bytes: &[u8], at: usize, position: Position, declared: u32) ->
     ensures from { at ≤ result }
     ensures passed { ArePassed (longs bytes.now) at position declared (result - at) }
 {
-    let offsets = position.offsets();
+    let offsets = position.offsets_to_come();
     let whole = bytes.len() / 4;
     let end = if offsets < (whole - at) as u64 {
         at + offsets as usize
@@ -58,7 +58,7 @@ fn first_outside(bytes: &[u8], first: usize, end: usize, declared: u32) -> usize
     requires bytes { 4 * end ≤ length bytes.now }
     ensures from { first ≤ result }
     ensures bound { result ≤ end }
-    ensures inside { (i : ℕ) → first ≤ i → i < result
+    ensures before { (i : ℕ) → first ≤ i → i < result
         → EndsWithin (4 * declared) (slice_index (longs bytes.now) i) }
     ensures stops { result < end
         → EndsWithin (4 * declared) (slice_index (longs bytes.now) result) → ⊥ }

@@ -59,7 +59,7 @@ fn put_file<W: Sink>(writer: &mut LongWriter<W>, file: &LoadFile<'_>) -> Result<
 
 /// All that stands behind the first longword.
 fn print_behind<W: Sink>(page: &mut Printer<'_, W>, hunks: &[LoadHunk<'_>])
-    requires some { 0 < length hunks.now }
+    requires nonempty { 0 < length hunks.now }
     requires most { length hunks.now ≤ most_hunks }
     ensures { Prints page.old page.new (bytes_of (behind_first hunks.now)) }
 {

@@ -104,7 +104,7 @@ impl ObjectFile<'_> {
     /// `AllocError` where memory for a finding is refused; never where there is nothing to find.
     pub fn check(&self, alloc: Global) -> Result<Findings, AllocError>
         ensures value { IfOk result (λ found. found ≡ findings self.now) }
-        ensures some { OnErr result (findings self.now ≢ []) }
+        ensures finds { OnErr result (findings self.now ≢ []) }
     {
         let mut collector = Collector {
             found: Vec::new(alloc),

@@ -3,14 +3,14 @@ ghost use Rattle.std.specs.Prelude.{◌≡◌, ◌+◌, ◌*◌, ◌≤◌, ◌�
 ghost use Rattle.hunk_words.specs.Longs.{longs};
 ghost use Rattle.hunk_words.specs.declared.reason.Reason.TheVariants as reasons;
 ghost use Rattle.hunk_files.specs.ObjectFile.{is_object_refusal, unit_word};
-ghost use Rattle.hunk_files.specs.ObjectFault.{BeforeUnits, refuse_word};
+ghost use Rattle.hunk_files.specs.ObjectFault.{BeforeUnits, refuse_object_word};
 
 use hunk_blocks::Mode;
 use hunk_words::{BlockWord, FileFault, Reason, UNIT_WORD};
 
 /// Why this longword does not begin a unit, where it does not.
 pub(super) fn refuse_unit_word(word: BlockWord) -> Option<Reason>
-    ensures test { result ≡ refuse_word BeforeUnits word }
+    ensures test { result ≡ refuse_object_word BeforeUnits word }
     ensures unit { IsNone result ↔ (word ≡ unit_word) }
     ensures own_reasons { IfSome result (λ reason. IsTrue (is_object_refusal reason)) }
 {

@@ -68,7 +68,7 @@ fn read_block<'a>(
     has_content: bool,
 ) -> Result<(Block<'a>, usize), FileFault>
     ensures block { IfOk result (λ r. BeginsWithBlock modes.Object bytes.entry.now r.0 r.1) }
-    ensures place { IfOk result (λ r. refuse_standing has_content (standing r.0.body) ≡ None) }
+    ensures standing { IfOk result (λ r. refuse_standing has_content (standing r.0.body) ≡ None) }
     ensures none { IfErr result (λ fault. fault.reason ≢ reasons.OutOfMemory →
         BeginsWithNo (MayStand has_content) block_text (longs bytes.entry.now)) }
     ensures fault { (place : WordPlace) → MayGoOn place has_content bytes.entry.now →

@@ -11,7 +11,7 @@ const TEXT: &[u8] = b"0123456789abcdefghi";
 
 /// Prints the text through a page of 8 bytes, in two pieces, the first of `cut` bytes.
 fn print_by_8<W: Sink>(out: &mut LongWriter<W>, cut: usize) -> Result<(), WriteFault>
-    requires first { out.old.written ≡ 0 }
+    requires unwritten { out.old.written ≡ 0 }
     requires inside { cut ≤ 19 }
 {
     let mut page: PagePrinter<'_, W, 8> = PagePrinter::new(out);
@@ -22,7 +22,7 @@ fn print_by_8<W: Sink>(out: &mut LongWriter<W>, cut: usize) -> Result<(), WriteF
 
 /// The same through a page of 16 bytes.
 fn print_by_16<W: Sink>(out: &mut LongWriter<W>, cut: usize) -> Result<(), WriteFault>
-    requires first { out.old.written ≡ 0 }
+    requires unwritten { out.old.written ≡ 0 }
     requires inside { cut ≤ 19 }
 {
     let mut page: PagePrinter<'_, W, 16> = PagePrinter::new(out);
@@ -33,7 +33,7 @@ fn print_by_16<W: Sink>(out: &mut LongWriter<W>, cut: usize) -> Result<(), Write
 
 /// The same through the wider page of the two, or the other.
 fn print_text<W: Sink>(wide: bool, out: &mut LongWriter<W>, cut: usize) -> Result<(), WriteFault>
-    requires first { out.old.written ≡ 0 }
+    requires unwritten { out.old.written ≡ 0 }
     requires inside { cut ≤ 19 }
 {
     if wide {

@@ -86,7 +86,7 @@ fn list_source<R: Source, W: Sink>(
 fn spelled_bytes<R: Source>(alloc: Global, source: &mut R) -> Result<Vec<u8>, RunFault>
     ensures spelled { IfOk result
         (λ bytes. ReadsHex (R.left source.old) (R.left source.new) (FILE_BYTES + 1) bytes.items) }
-    ensures err { IfErr result
+    ensures refuses { IfErr result
         (λ fault. ReadsNoText fault (R.left source.old) (R.left source.new) FILE_BYTES
         (R.failed source.new)) }
 {

@@ -12,7 +12,7 @@ returns-in-Err-clause-succeeds c = checks_what_fits _ _ _ _ (returns-in-Err-clau
 
 pub returns-in-Load-clause-outcome : goal.returns-in-Load-clause-outcome
 returns-in-Load-clause-outcome c =
-    check_load c.args.bytes.now c.args.rows.now _ c.in-Ok.file _ _ _ c.size_in-size.result c.in-Ok.ensures.ok c.in-Load.is c.hunks.ensures.value c.size_in-size.ensures
+    check_load c.args.bytes.now c.args.rows.now _ c.in-Ok.file _ _ _ c.size_in-size.result c.in-Ok.ensures.file c.in-Load.is c.hunks.ensures.value c.size_in-size.ensures
     (c.done.ensures ∙ same_answer _ _ _ _ _ _ _ refl (omega arith) refl)
 
 pub returns-clause-succeeds : goal.returns-clause-succeeds

@@ -12,7 +12,7 @@ pub returns-in_err-taken-clause-accepts : goal.returns-in_err-taken-clause-accep
 returns-in_err-taken-clause-accepts c =
     if_err_and c.from_residual.result _ _ c.from_residual.ensures.1
     (λ fault same t h. subst (λ (f : Fault). IsBudgetOrMemory f.reason) (sym same)
-    (c.in_err-taken.ensures.accepts c.new-loader.ensures.open
+    (c.in_err-taken.ensures.accepts c.new-loader.ensures.unrefused
     (record {
       table = t;
       is_table = h.is_table;

@@ -48,7 +48,7 @@ returns-in-Ok-read_body g c =
     let entries : entries_of image.rows ≡ t = ap entries_of c.in-Ok-read_body.ensures.rows ∙ c.in-Ok-place.ensures.rows in
     let size : length c.joined-segments.result.now ≡ declared_bytes t = c.joined-segments.ensures.size ∙ ap declared_bytes entries in
     inl (
-    loaded _ c.args.bytes.now body c.args.memory.now _ t image.rows image.segments taken _ c.in-Ok.ensures.split c.in-Ok-read_body.ensures.within entries
+    loaded _ c.args.bytes.now body c.args.memory.now _ t image.rows image.segments taken _ c.in-Ok.ensures.split c.in-Ok-read_body.ensures.inside entries
     (subst (λ (rows : List Row). AreBases (g.P.Placer.base c.args.placer.now) t (bases_of rows)) (sym c.in-Ok-read_body.ensures.rows) c.in-Ok-place.ensures.bases)
     (subst (λ (rows : List Row). IsImageOf rows (header_bytes t ++ take taken body) image.segments) (sym c.in-Ok-read_body.ensures.rows)
     (subst (λ (xs : List ℕ). IsImageOf loader.rows (xs ++ take taken body) image.segments) c.in-Ok-place.ensures.fed c.in-Ok-read_body.ensures.image))

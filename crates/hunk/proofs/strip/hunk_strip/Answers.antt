@@ -15,14 +15,14 @@ returns-in-Err-clause-succeeds c = strips_what_fits _ _ _ _ (returns-in-Err-clau
 
 pub returns-in-Err-stripped_text-clause-outcome : goal.returns-in-Err-stripped_text-clause-outcome
 returns-in-Err-stripped_text-clause-outcome c =
-    HasNoMemory c.size_in-size.result (inr (c.in-Ok.file, c.in-Ok.ensures.ok, c.size_in-size.ensures)) refl
+    HasNoMemory c.size_in-size.result (inr (c.in-Ok.file, c.in-Ok.ensures.file, c.size_in-size.ensures)) refl
     (c.no_memory.ensures ∙ ap (λ (n : ℕ). refused (record { place = n; reason = reasons.OutOfMemory })) (omega arith))
 
 pub returns-then-left-text-clause-outcome : goal.returns-then-left-text-clause-outcome
 returns-then-left-text-clause-outcome c =
     let left : c.as_slice-left.result.now ≡ stripped_bytes c.in-Ok.file = c.as_slice-left.ensures.value ∙ c.in-Ok-stripped_text.ensures in
     let count = ap (λ (xs : List ℕ). length xs) left in
-    HasNoText c.in-Ok.file c.in-Ok.ensures.ok (omega (arith, c.if-left-text.true, count)) refl
+    HasNoText c.in-Ok.file c.in-Ok.ensures.file (omega (arith, c.if-left-text.true, count)) refl
     (c.no_room.ensures ∙ same_answer _ _ _ _ _ _ _ c.hunks_in-hunks.ensures (omega (arith, c.size_in-size.ensures)) (omega (arith, count)))
 
 pub returns-then-left-text-clause-succeeds : goal.returns-then-left-text-clause-succeeds
@@ -32,6 +32,6 @@ pub returns-clause-outcome : goal.returns-clause-outcome
 returns-clause-outcome c =
     let left : c.as_slice-left.result.now ≡ stripped_bytes c.in-Ok.file = c.as_slice-left.ensures.value ∙ c.in-Ok-stripped_text.ensures in
     let count = ap (λ (xs : List ℕ). length xs) left in
-    HasStripped c.in-Ok.file c.in-Ok.ensures.ok (omega (arith, c.if-left-text.false, count))
+    HasStripped c.in-Ok.file c.in-Ok.ensures.file (omega (arith, c.if-left-text.false, count))
     (ap₂ (λ (xs : List ℕ) (n : ℕ). xs ++ drop n c.args.text.now) (c.copy_from_slice.ensures.after ∙ left) count)
     (c.done.ensures ∙ same_answer _ _ _ _ _ _ _ c.hunks_in-hunks.ensures (omega (arith, c.size_in-size.ensures)) (omega (arith, count)))

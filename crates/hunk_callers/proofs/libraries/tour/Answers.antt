@@ -6,7 +6,7 @@ use Rattle.hunk_callers.proofs.libraries.tour.Goals as goal
 
 pub flush-requires : goal.flush-requires
 flush-requires c =
-    let written = ap (λ (o : Origin). o.written) (c.print_load_summary.ensures.0 ∙ c.new-page.ensures.origin) ∙ c.new-out.ensures.none in
+    let written = ap (λ (o : Origin). o.written) (c.print_load_summary.ensures.0 ∙ c.new-page.ensures.origin) ∙ c.new-out.ensures.unwritten in
     let rest = c.len.result - c.in_ok-file.size in
     let text = ap length c.print_load_summary.ensures.1 in
     omega (
@@ -14,6 +14,6 @@ flush-requires c =
       written,
       text,
       length-append c.new-page.result.text (load_summary c.in_ok-file.file rest),
-      ap length c.new-page.ensures.text,
-      load_summary_fits c.in_ok-file.file rest c.in_ok-file.ensures.value (omega (arith, c.len.type_inv)),
+      ap length c.new-page.ensures.empty,
+      load_summary_fits c.in_ok-file.file rest c.in_ok-file.ensures.valid (omega (arith, c.len.type_inv)),
     )

@@ -3,8 +3,8 @@ use Rattle.std.proofs.KnownBytes.{Consumes-trans}
 use Rattle.hunk_commands.proofs.input.read_all.Goals as goal
 use Rattle.hunk_commands.proofs.input.read_all.Goals.{then-room, else-room}
 
-pub returns-in_err-take-in-Ok-clause-run : goal.returns-in_err-take-in-Ok-clause-run
-returns-in_err-take-in-Ok-clause-run g c =
+pub returns-in_err-take-in-Ok-clause-reads_at_most : goal.returns-in_err-take-in-Ok-clause-reads_at_most
+returns-in_err-take-in-Ok-clause-reads_at_most g c =
     let held = g.T.Taker.took c.reading.taker in
     let piece = take c.in-Ok.n c.pull.new.buf in
     let asked : c.reading.count + c.if-room.ask ≤ c.args.most = elim c.if-room.branch [

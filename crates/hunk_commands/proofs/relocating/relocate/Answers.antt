@@ -125,8 +125,8 @@ returns-in_err-image-clause-memory g c =
 pub returns-in_err-put_listing-clause-over_budget : goal.returns-in_err-put_listing-clause-over_budget
 returns-in_err-put_listing-clause-over_budget g c = λ input at known sound passes. absurd (c.in_ok-image.ensures.over_budget input at known sound passes)
 
-pub returns-clause-ok : goal.returns-clause-ok
-returns-clause-ok g c =
+pub returns-clause-relocates : goal.returns-clause-relocates
+returns-clause-relocates g c =
     let loaded = c.in_ok-image.ensures.loaded in
     let bases = bases_of c.in_ok-image.image.rows in
     let before = g.W.Sink.taken c.args.w.now.sink in
@@ -152,4 +152,4 @@ returns-clause-ok g c =
 pub put_listing-requires : goal.put_listing-requires
 put_listing-requires g c =
     let loaded = c.in_ok-image.ensures.loaded in
-    omega (arith, c.requires, image_listing_fits loaded.0 c.in_ok-image.image c.bytes-bytes.result loaded.1.is_load_file loaded.1.table_is c.bytes-bytes.ensures.declared c.bytes-bytes.ensures.together)
+    omega (arith, c.requires, image_listing_fits loaded.0 c.in_ok-image.image c.bytes-bytes.result loaded.1.is_load_file loaded.1.table_is c.bytes-bytes.ensures.declared c.bytes-bytes.ensures.sum)

@@ -4,9 +4,9 @@ use Rattle.std.proofs.lemmas.Result.{err_from_is_err_and}
 use Rattle.hunk_files.proofs.FileKinds.{load_of}
 use Rattle.hunk_files.proofs.hunk_file.decode_load.Goals as goal
 
-pub returns-clause-ok : goal.returns-clause-ok
-returns-clause-ok c =
-    load_of c.args.bytes.now c.in_ok-file.file c.in_ok-file.size c.in_ok-file.ensures.value c.in_ok-file.ensures.text c.in_ok-file.ensures.within _ (sym (length-drop c.in_ok-file.size c.args.bytes.now))
+pub returns-clause-file : goal.returns-clause-file
+returns-clause-file c =
+    load_of c.args.bytes.now c.in_ok-file.file c.in_ok-file.size c.in_ok-file.ensures.valid c.in_ok-file.ensures.text c.in_ok-file.ensures.inside _ (sym (length-drop c.in_ok-file.size c.args.bytes.now))
 
 pub returns-in_err-file-clause-refused : goal.returns-in_err-file-clause-refused
 returns-in_err-file-clause-refused c =

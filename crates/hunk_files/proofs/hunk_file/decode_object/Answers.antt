@@ -2,8 +2,8 @@ use Rattle.std.proofs.Common.{refl}
 use Rattle.std.proofs.lemmas.Result.{err_from_is_err_and}
 use Rattle.hunk_files.proofs.hunk_file.decode_object.Goals as goal
 
-pub returns-clause-ok : goal.returns-clause-ok
-returns-clause-ok c =
+pub returns-clause-file : goal.returns-clause-file
+returns-clause-file c =
     (record { value = c.in_ok-file.file; is_object_file = c.in_ok-file.ensures.file; text_is = c.in_ok-file.ensures.text }, refl)
 
 pub returns-in_err-file-clause-refused : goal.returns-in_err-file-clause-refused

@@ -1,8 +1,8 @@
 use Rattle.hunk_files.proofs.StripLaws.{file_kept, table_kept, contents_kept, all_relocations_kept, images_kept}
 use Rattle.hunk_files.proofs.laws.strip_image.Goals as goal
 
-pub returns-clause-value : goal.returns-clause-value
-returns-clause-value c = file_kept
+pub returns-clause-valid : goal.returns-clause-valid
+returns-clause-valid c = file_kept
 
 pub returns-clause-table : goal.returns-clause-table
 returns-clause-table c = table_kept

@@ -19,7 +19,7 @@ digits-preserved c = record {
 pub returns-clause-digits : goal.returns-clause-digits
 returns-clause-digits c = omega (arith, c.digits.invariant.digits, length_digit c.digits.rest (omega arith))
 
-pub returns-clause-short : goal.returns-clause-short
-returns-clause-short c =
+pub returns-clause-bound : goal.returns-clause-bound
+returns-clause-bound c =
     let number = c.ranges.number.fits in
     omega (arith, c.digits.invariant.digits, length_digit c.digits.rest (omega arith), length-decimal-le 20 c.args.number (omega arith) (omega (arith, number)) number)

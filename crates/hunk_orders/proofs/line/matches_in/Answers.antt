@@ -13,8 +13,8 @@ use Rattle.hunk_orders.specs.declared.asked.OrderFault.TheVariants.{Memory}
 use Rattle.hunk_orders.specs.Command.{hunkinfo}
 use Rattle.hunk_orders.proofs.line.matches_in.Goals as goal
 
-pub returns-in-Err-clause-err : goal.returns-in-Err-clause-err
-returns-in-Err-clause-err g c = λ taken.
+pub returns-in-Err-clause-refuses : goal.returns-in-Err-clause-refuses
+returns-in-Err-clause-refuses g c = λ taken.
     c.fault_of.ensures.memory (c.in-Err.ensures.passes (ap (λ (a : App). takes a (map g.S.AsStr.text c.args.words.now)) c.in_ok-hunkinfo.ensures ∙ taken))
 
 abbrev IsDisplayHelp : ErrorKind → Type 0

@@ -17,24 +17,24 @@ returns-then-words-lt2 c =
     let words_are : map (λ s. s.now) c.as_slice.result.now ≡ spec.stored = search rules in
     let same = words_are ∙ sym (read_short (map string_bytes c.args.words.now) (simp length-map (omega arith))) in
     record {
-      ok = IfOk-weaker c.order_in.result _ _
+      order = IfOk-weaker c.order_in.result _ _
           (λ order h. subst (λ (words : List Text). spec.entered_order (subcommand_of hunkinfo words) ≡ Some order) same h)
-          c.order_in.ensures.ok;
-      err = IfErr-weaker c.order_in.result _ _
+          c.order_in.ensures.order;
+      refuses = IfErr-weaker c.order_in.result _ _
           (λ fault h. subst (λ (words : List Text). takes hunkinfo words ≡ true → RefusesOrder (spec.entered_order (subcommand_of hunkinfo words)) fault) same h)
-          c.order_in.ensures.err;
+          c.order_in.ensures.refuses;
       clap = subst (λ (words : List Text). FollowsClap words c.order_in.result) same c.order_in.ensures.clap;
     }
 
 read_long : (words : List Text) → 2 ≤ length words → spec.words_read words ≡ words
 read_long words long = rw (le-ltb (length words) 2 long) refl
 
-pub returns-else-words-lt2-clause-err : goal.returns-else-words-lt2-clause-err
-returns-else-words-lt2-clause-err c =
+pub returns-else-words-lt2-clause-refuses : goal.returns-else-words-lt2-clause-refuses
+returns-else-words-lt2-clause-refuses c =
     let same = sym (read_long (map string_bytes c.args.words.now) (simp length-map (omega arith))) in
     IfErr-weaker c.order_in-else-words-lt2.result _ _
     (λ fault h. subst (λ (words : List Text). takes hunkinfo words ≡ true → RefusesOrder (spec.entered_order (subcommand_of hunkinfo words)) fault) same h)
-    c.order_in-else-words-lt2.ensures.err
+    c.order_in-else-words-lt2.ensures.refuses
 
 pub returns-else-words-lt2-clause-clap : goal.returns-else-words-lt2-clause-clap
 returns-else-words-lt2-clause-clap c =

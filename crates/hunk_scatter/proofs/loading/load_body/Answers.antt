@@ -35,7 +35,7 @@ reading-preserved g c =
     let all = file_fed c.reading.loader.fed piece c.want-want.result c.want-want.ensures.least fits c.take_piece.new.self.rows c.take_piece.new.self.fed c.in_ok-take_piece.field-0 c.in_ok-take_piece.ensures.feeds_or_stops.feeds.taken.0 c.in_ok-take_piece.ensures.feeds_or_stops.feeds.taken.1 c.in_ok-take_piece.ensures.all in
     record {
       reading = c.in_ok-take_piece.ensures.feeds_or_stops.feeds.goes_on;
-      works = λ e. c.in_ok-n.ensures.works ∙ i.works e;
+      works = λ e. c.in_ok-n.ensures.no_failure ∙ i.works e;
       rows_are = c.in_ok-take_piece.ensures.feeds_or_stops.feeds.rows ∙ i.rows_are;
       given = (
         i.given.0 ++ piece,

@@ -33,7 +33,7 @@ reading-preserved g c =
     let some : 0 < c.want-want.result = omega arith in
     record {
       reading = c.in_ok-feed.ensures.reading.1;
-      works = λ e. c.in_ok-n.ensures.works ∙ i.works e;
+      works = λ e. c.in_ok-n.ensures.no_failure ∙ i.works e;
       budget_is = c.in_ok-feed.ensures.budget ∙ i.budget_is;
       given = gives_more _ _ _ _ c.reading.loader.fed piece c.feed.new.self.fed i.given c.in_ok-n.ensures.piece room all;
       in_header =
@@ -57,7 +57,7 @@ returns-in_err-feed-clause-ends g c =
       inl
           (record {
             fault = fault;
-            over = λ at p. c.in_err-feed.ensures.passes i.reading at (subst (λ (b : ℕ). PassesBudget b (c.reading.loader.fed ++ piece) at) (sym i.budget_is) p);
+            over = λ at p. c.in_err-feed.ensures.passes_budget i.reading at (subst (λ (b : ℕ). PassesBudget b (c.reading.loader.fed ++ piece) at) (sym i.budget_is) p);
             own = c.in_err-feed.ensures.own_reasons;
             begins =
                 λ e.

@@ -4,8 +4,8 @@ use Rattle.hunk_scatter.specs.BodyLoaderFields.{StandsBehind}
 use Rattle.hunk_scatter.proofs.WholeLongs.{in_store, leaves_rest, refused_behind}
 use Rattle.hunk_scatter.proofs.longwords.take_longwords.Goals as goal
 
-pub take_front-requires-clause-room : goal.take_front-requires-clause-room
-take_front-requires-clause-room c = let i = c.longwords.invariant in in_store _ _ _ _ i.reading (ap is_done c.in-Body.is) (i.size ∙ c.requires.size)
+pub take_front-requires-clause-in_store : goal.take_front-requires-clause-in_store
+take_front-requires-clause-in_store c = let i = c.longwords.invariant in in_store _ _ _ _ i.reading (ap is_done c.in-Body.is) (i.size ∙ c.requires.size)
 
 pub longwords-preserved : goal.longwords-preserved
 longwords-preserved c =

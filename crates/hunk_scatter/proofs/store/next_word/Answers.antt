@@ -11,6 +11,6 @@ returns-then-piece-ge4-clause-gathers c =
       none,
     )
 
-pub returns-clause-some : goal.returns-clause-some
-returns-clause-some c =
+pub returns-clause-positive : goal.returns-clause-positive
+returns-clause-positive c =
     takes_some c.args.assembler.now c.take.new.self c.args.piece.now c.take.result.0 c.take.result.1 (omega (arith, c.pending.ensures.value, c.pending.ensures.bound)) c.requires c.take.ensures.gathers c.take.ensures.takes_all

@@ -18,7 +18,7 @@ returns-clause-offsets c =
       | then-owed-whole w ↦ (omega (arith, w.most-is, w.if-owed-whole), omega (arith, w.most-is, w.if-owed-whole))
       | else-owed-whole w ↦ (omega (arith, w.most-is, w.if-owed-whole), omega (arith, w.most-is, w.if-owed-whole))
     ] in
-    let count : length (take n (longs piece)) ≡ n = omega (arith, length-take n (longs piece), length-longs piece, most.1, c.add_all-taken.ensures.count) in
+    let count : length (take n (longs piece)) ≡ n = omega (arith, length-take n (longs piece), length-longs piece, most.1, c.add_all-taken.ensures.bound) in
     let at = ap (λ (f : Phase). positions.Body c.in-Body.hunk f) (sym c.in-Offset.is) ∙ sym c.in-Body.is in
     offsets_taken (words_of c.args.rows.now) (bases_of c.args.rows.now) c.args.state.hunk c.args.state.start c.args.state.position c.in-Body.hunk c.in-Offset.target owed _ _ _ (take n (longs piece)) c.args.store.now c.add_all-taken.new.store
-    at (omega (arith, count, most.0, c.add_all-taken.ensures.count)) c.add_all-taken.ensures.inside (omega (arith, c.longs_of-declared.ensures.value)) c.base_of-base.ensures (omega (arith, count)) c.add_all-taken.ensures.adds
+    at (omega (arith, count, most.0, c.add_all-taken.ensures.bound)) c.add_all-taken.ensures.ends_within (omega (arith, c.longs_of-declared.ensures.value)) c.base_of-base.ensures (omega (arith, count)) c.add_all-taken.ensures.adds

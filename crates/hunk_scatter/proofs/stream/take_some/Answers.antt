@@ -6,7 +6,7 @@ use Rattle.hunk_scatter.proofs.stream.take_some.Goals as goal
 
 pub returns-clause-takes : goal.returns-clause-takes
 returns-clause-takes c = λ fed h more.
-    subst (λ (xs : List ℕ). IsFed c.args.rows.now c.take_byte.new.store c.in_ok-to.to (fed ++ xs)) (first_byte c.args.piece.now c.requires.some) (c.in_ok-to.ensures.takes fed h more)
+    subst (λ (xs : List ℕ). IsFed c.args.rows.now c.take_byte.new.store c.in_ok-to.to (fed ++ xs)) (first_byte c.args.piece.now c.requires.nonempty) (c.in_ok-to.ensures.takes fed h more)
 
 pub returns-in_err-to-clause-takes : goal.returns-in_err-to-clause-takes
 returns-in_err-to-clause-takes c =
@@ -14,4 +14,4 @@ returns-in_err-to-clause-takes c =
     rw (p.1, p.2)
     (λ fed h more.
     stops_front fed c.args.piece.now 1 c.in_err-to.field-0.0
-    (subst (λ (xs : List ℕ). StopsAt (fed ++ xs) c.in_err-to.field-0.0) (first_byte c.args.piece.now c.requires.some) (c.in_err-to.ensures.takes fed h more)))
+    (subst (λ (xs : List ℕ). StopsAt (fed ++ xs) c.in_err-to.field-0.0) (first_byte c.args.piece.now c.requires.nonempty) (c.in_err-to.ensures.takes fed h more)))

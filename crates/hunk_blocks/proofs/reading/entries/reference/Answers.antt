@@ -16,7 +16,7 @@ returns-in_err-name c =
       none = on_err c.from_residual.result (λ before h. name_missing before c.args.reader.now c.args.word c.requires.goes_on (omega (arith, c.in_err-name.ensures.short)) h);
       front =
           on_err c.from_residual.result
-          (named_front (Some References) c.args.word c.args.reader.now.rest c.requires.shape (λ e. cc) c.requires.goes_on (omega arith) (omega (arith, c.in_err-name.ensures.short)) c.in_err-name.ensures.fit);
+          (named_front (Some References) c.args.word c.args.reader.now.rest c.requires.shape (λ e. cc) c.requires.goes_on (omega arith) (omega (arith, c.in_err-name.ensures.short)) c.in_err-name.ensures.longs);
       fault = search rules;
     }
 

@@ -33,4 +33,4 @@ returns-in_err-payload-clause-front c =
     on_err c.from_residual-in_err-payload.result
     (front_read (AllByRecursion IsGroup) (list_text group_text) c.args.reader.now c.long-2.new.self (count ∷ target ∷ [])
     (Reads-append c.args.reader.now c.long.new.self c.long-2.new.self (count ∷ []) (target ∷ []) c.in_ok-count.ensures.read c.in_ok-target.ensures.read)
-    (group_front count target c.long-2.new.self.rest c.if-count-eq0.false (omega arith) (omega arith) (omega (arith, c.in_err-payload.ensures.short)) c.in_err-payload.ensures.fit))
+    (group_front count target c.long-2.new.self.rest c.if-count-eq0.false (omega arith) (omega arith) (omega (arith, c.in_err-payload.ensures.short)) c.in_err-payload.ensures.longs))

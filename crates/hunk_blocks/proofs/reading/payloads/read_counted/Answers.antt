@@ -12,4 +12,4 @@ pub returns-clause-front : goal.returns-clause-front
 returns-clause-front c =
     on_err_of c.payload.result c.payload.ensures.short
     (λ few. front_read (IsPayload (2 ^ 32)) counted_text c.args.reader.now c.long.new.self (c.in_ok-count.count ∷ []) c.in_ok-count.ensures.read
-    (counted_front (2 ^ 32) c.in_ok-count.count c.long.new.self.rest (omega arith) (omega (arith, few)) c.payload.ensures.fit))
+    (counted_front (2 ^ 32) c.in_ok-count.count c.long.new.self.rest (omega arith) (omega (arith, few)) c.payload.ensures.longs))

@@ -21,4 +21,4 @@ returns-clause-first c =
     if_err_with c.payload.result _ _ c.payload.ensures.short c.payload.ensures.fault
     (λ fault few same. name_cut c.args.reader.now fault (same ∙ sym (cut-Reads c.args.reader.now c.long.new.self (c.in_ok-count.count ∷ []) c.in_ok-count.ensures.read))
     (front_read (IsPayload (2 ^ 24)) counted_text c.args.reader.now c.long.new.self (c.in_ok-count.count ∷ []) c.in_ok-count.ensures.read
-    (counted_front (2 ^ 24) c.in_ok-count.count c.long.new.self.rest (omega arith) (omega (arith, few)) c.payload.ensures.fit)))
+    (counted_front (2 ^ 24) c.in_ok-count.count c.long.new.self.rest (omega arith) (omega (arith, few)) c.payload.ensures.longs)))

@@ -12,4 +12,4 @@ pub returns-in_err-payload-clause-front : goal.returns-in_err-payload-clause-fro
 returns-in_err-payload-clause-front c =
     on_err c.from_residual-in_err-payload.result
     (front_read IsSized sized_text c.args.reader.now c.long.new.self (c.in_ok-size.size ∷ []) c.in_ok-size.ensures.read
-    (sized_front c.in_ok-size.size c.long.new.self.rest (omega arith) (omega (arith, c.in_err-payload.ensures.short)) c.in_err-payload.ensures.fit))
+    (sized_front c.in_ok-size.size c.long.new.self.rest (omega arith) (omega (arith, c.in_err-payload.ensures.short)) c.in_err-payload.ensures.longs))

@@ -21,7 +21,7 @@ pub returns-in_err-name-clause-front : goal.returns-in_err-name-clause-front
 returns-in_err-name-clause-front c =
     on_err c.from_residual-in_err-name.result
     (front_read (AllByRecursion IsSymbolEntry) (list_text symbol_text) c.args.reader.now c.long.new.self (c.in_ok-word.word ∷ []) c.in_ok-word.ensures.read
-    (symbol_front c.in_ok-word.word c.long.new.self.rest c.if-word-eq0.false (omega arith) (omega (arith, c.in_err-name.ensures.short)) c.in_err-name.ensures.fit))
+    (symbol_front c.in_ok-word.word c.long.new.self.rest c.if-word-eq0.false (omega arith) (omega (arith, c.in_err-name.ensures.short)) c.in_err-name.ensures.longs))
 
 pub returns-in_err-value-clause-front : goal.returns-in_err-value-clause-front
 returns-in_err-value-clause-front c =

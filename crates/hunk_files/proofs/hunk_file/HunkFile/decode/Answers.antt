@@ -14,7 +14,7 @@ returns-in-Load c =
     let kind : c.sniff.result ≢ Object = λ object. elim c.in-Load.is [ inl load ↦ cc | inr others ↦ elim others [ inl library ↦ cc | inr other ↦ cc ] ] in
     let announced : sniffed (longs c.args.bytes.now) ≢ Object = λ object. kind (c.sniff.ensures ∙ object) in
     record {
-      ok = c.decode_load.ensures.ok;
+      file = c.decode_load.ensures.file;
       none = none_load c.args.bytes.now c.decode_load.result announced c.decode_load.ensures.none;
       refused = refused_load c.args.bytes.now c.decode_load.result announced c.decode_load.ensures.refused;
       memory = memory_load c.args.bytes.now c.decode_load.result announced c.decode_load.ensures.memory;

@@ -13,8 +13,8 @@ use Rattle.hunk_files.proofs.object.walk.read_block.Goals as goal
 pub returns-in-Some-clause-own_reasons : goal.returns-in-Some-clause-own_reasons
 returns-in-Some-clause-own_reasons c = place_own c.args.has_content (standing_of_kind c.kind.result) c.in-Some.reason (sym c.refuse_place.ensures ∙ c.in-Some.is)
 
-pub returns-clause-place : goal.returns-clause-place
-returns-clause-place c =
+pub returns-clause-standing : goal.returns-clause-standing
+returns-clause-standing c =
     ok_of c.decode.result _ _ c.decode.ensures.block
     (λ r h. stands c.args.bytes.now c.of-word.result c.args.has_content r.0 r.1 (c.of-word.ensures ∙ c.in_ok-long_at.ensures.long.1)
     (ap (λ (k : Kind). refuse_standing c.args.has_content (standing_of_kind k)) (sym c.kind.ensures) ∙ sym c.refuse_place.ensures ∙ c.in_default.is) h)

@@ -34,7 +34,7 @@ returns-then-hunk_ends-clause-hunk c =
     let pushed : c.append.new.list.items ≡ c.reading.blocks.items ++ c.in-Ok.read.0 ∷ [] = search rules in
     let P : List ℕ → Type 0 = λ rest. BeginsWithBlock modes.Object rest c.in-Ok.read.0 c.in-Ok.read.1 in
     let here = subst P (take_rest bytes c.reading.at) c.in-Ok.ensures.block in
-    subst IsObjectHunk (sym pushed) (hunk_ended bytes c.reading.blocks.items c.reading.has_content c.reading.at c.reading.invariant c.in-Ok.read.0 c.in-Ok.read.1 here c.in-Ok.ensures.place (sym c.if-hunk_ends.ensures))
+    subst IsObjectHunk (sym pushed) (hunk_ended bytes c.reading.blocks.items c.reading.has_content c.reading.at c.reading.invariant c.in-Ok.read.0 c.in-Ok.read.1 here c.in-Ok.ensures.standing (sym c.if-hunk_ends.ensures))
 
 pub returns-then-hunk_ends-clause-text : goal.returns-then-hunk_ends-clause-text
 returns-then-hunk_ends-clause-text c =
@@ -43,15 +43,15 @@ returns-then-hunk_ends-clause-text c =
     let P : List ℕ → Type 0 = λ rest. BeginsWithBlock modes.Object rest c.in-Ok.read.0 c.in-Ok.read.1 in
     let here = subst P (take_rest bytes c.reading.at) c.in-Ok.ensures.block in
     let Q : ObjectHunk → Type 0 = λ bs. BeginsWithText bytes (flat_map block_text bs) (c.reading.at + c.in-Ok.read.1) in
-    subst Q (sym pushed) (text_with bytes c.reading.blocks.items c.reading.has_content c.reading.at c.reading.invariant c.in-Ok.read.0 c.in-Ok.read.1 here c.in-Ok.ensures.place)
+    subst Q (sym pushed) (text_with bytes c.reading.blocks.items c.reading.has_content c.reading.at c.reading.invariant c.in-Ok.read.0 c.in-Ok.read.1 here c.in-Ok.ensures.standing)
 
 pub reading-smaller : goal.reading-smaller
 reading-smaller c =
     let bytes = c.args.bytes.now in
     let P : List ℕ → Type 0 = λ rest. BeginsWithBlock modes.Object rest c.in-Ok.read.0 c.in-Ok.read.1 in
     let here = subst P (take_rest bytes c.reading.at) c.in-Ok.ensures.block in
-    let grows = goes_further bytes c.reading.blocks.items c.reading.has_content c.reading.at c.reading.invariant c.in-Ok.read.0 c.in-Ok.read.1 here c.in-Ok.ensures.place in
-    let inside = still_inside bytes c.reading.blocks.items c.reading.has_content c.reading.at c.reading.invariant c.in-Ok.read.0 c.in-Ok.read.1 here c.in-Ok.ensures.place in
+    let grows = goes_further bytes c.reading.blocks.items c.reading.has_content c.reading.at c.reading.invariant c.in-Ok.read.0 c.in-Ok.read.1 here c.in-Ok.ensures.standing in
+    let inside = still_inside bytes c.reading.blocks.items c.reading.has_content c.reading.at c.reading.invariant c.in-Ok.read.0 c.in-Ok.read.1 here c.in-Ok.ensures.standing in
     omega (arith, grows, inside)
 
 pub reading-preserved : goal.reading-preserved
@@ -63,7 +63,7 @@ reading-preserved c =
     let Q : ObjectHunk → Type 0 = λ bs. HunkSoFar bytes bs (c.reading.has_content || is_content (standing c.in-Ok.read.0.body)) (c.reading.at + c.in-Ok.read.1) in
     let R : Bool → Type 0 = λ k. HunkSoFar bytes c.append.new.list.items (c.reading.has_content || k) (c.reading.at + c.in-Ok.read.1) in
     subst R (sym c.is_content-has_content.ensures)
-    (subst Q (sym pushed) (block_added bytes c.reading.blocks.items c.reading.has_content c.reading.at c.reading.invariant c.in-Ok.read.0 c.in-Ok.read.1 here c.in-Ok.ensures.place (sym c.if-hunk_ends.ensures)))
+    (subst Q (sym pushed) (block_added bytes c.reading.blocks.items c.reading.has_content c.reading.at c.reading.invariant c.in-Ok.read.0 c.in-Ok.read.1 here c.in-Ok.ensures.standing (sym c.if-hunk_ends.ensures)))
 
 pub returns-in-Err-clause-fault : goal.returns-in-Err-clause-fault
 returns-in-Err-clause-fault c no_unit =
@@ -80,11 +80,11 @@ out_of_memory-requires c =
     let bytes = c.args.bytes.now in
     let P : List ℕ → Type 0 = λ rest. BeginsWithBlock modes.Object rest c.in-Ok.read.0 c.in-Ok.read.1 in
     let here = subst P (take_rest bytes c.reading.at) c.in-Ok.ensures.block in
-    omega (arith, goes_further bytes c.reading.blocks.items c.reading.has_content c.reading.at c.reading.invariant c.in-Ok.read.0 c.in-Ok.read.1 here c.in-Ok.ensures.place)
+    omega (arith, goes_further bytes c.reading.blocks.items c.reading.has_content c.reading.at c.reading.invariant c.in-Ok.read.0 c.in-Ok.read.1 here c.in-Ok.ensures.standing)
 
 pub returns-then-is_err-clause-fault : goal.returns-then-is_err-clause-fault
 returns-then-is_err-clause-fault c no_unit =
     let bytes = c.args.bytes.now in
     let P : List ℕ → Type 0 = λ rest. BeginsWithBlock modes.Object rest c.in-Ok.read.0 c.in-Ok.read.1 in
     let here = subst P (take_rest bytes c.reading.at) c.in-Ok.ensures.block in
-    block_wanted bytes c.reading.blocks.items c.reading.has_content c.reading.at c.in-Ok.read.0 c.in-Ok.read.1 c.out_of_memory.result c.reading.invariant here c.in-Ok.ensures.place c.out_of_memory.ensures.place c.out_of_memory.ensures.reason
+    block_wanted bytes c.reading.blocks.items c.reading.has_content c.reading.at c.in-Ok.read.0 c.in-Ok.read.1 c.out_of_memory.result c.reading.invariant here c.in-Ok.ensures.standing c.out_of_memory.ensures.place c.out_of_memory.ensures.reason

@@ -8,7 +8,7 @@ use Rattle.hunk_files_tests.proofs.tests.writing.rewritten.Goals as goal
 pub encode-requires : goal.encode-requires
 encode-requires c =
     let bytes = c.args.bytes.now in
-    let long : length (bytes_of (text c.in-Ok.file)) ≤ length bytes = omega (arith, ap length c.in-Ok.ensures.text, length-take-le c.in-Ok.field-0-1 bytes c.in-Ok.ensures.within, c.in-Ok.ensures.within) in
+    let long : length (bytes_of (text c.in-Ok.file)) ≤ length bytes = omega (arith, ap length c.in-Ok.ensures.text, length-take-le c.in-Ok.field-0-1 bytes c.in-Ok.ensures.inside, c.in-Ok.ensures.inside) in
     elim c.if-strip.branch [
       | then-strip w ↦ omega (arith, long, w.strip-file.ensures.shorter, ap (λ v. length (bytes_of (text v))) w.file-is)
       | else-strip w ↦ omega (arith, long, ap (λ v. length (bytes_of (text v))) w.file-is)

@@ -53,8 +53,8 @@ returns-else-bytes-clause-clean c none =
     subst (λ (l : BodyLoaderValue). HasNoRefusal l.fed) c.self.view_is
     (fed_clean _ _ _ _ _ _ _ c.self.invariant (none_of c.self.inside.refused (sym c.is_some.ensures ∙ c.if-is_some.false)))
 
-pub returns-in_default-clause-some : goal.returns-in_default-clause-some
-returns-in_default-clause-some c none same =
+pub returns-in_default-clause-finished : goal.returns-in_default-clause-finished
+returns-in_default-clause-finished c none same =
     subst (λ (v : BodyLoaderValue). IsWholeFile v.rows v.fed) c.self.view_is
     (whole_file _ _ _ _ _ _ _ c.self.invariant (ap (λ (v : BodyLoaderValue). v.refused) c.self.view_is ∙ none) (done_unless_open _ _ _ _ _ _ _ c.self.invariant (none_of c.self.inside.refused (sym c.is_some.ensures ∙ c.if-is_some.false)) c.in_default.not-Body))
 

@@ -9,8 +9,8 @@ use Rattle.hunk_scatter.proofs.HeaderFields.{piece_within}
 use Rattle.hunk_scatter.proofs.HeaderStops.{stop_ends, stop_fault, stop_over, stop_accepts}
 use Rattle.hunk_scatter.proofs.header_loader.HeaderLoader.feed.Goals as goal
 
-pub returns-in-Ok-clause-passes : goal.returns-in-Ok-clause-passes
-returns-in-Ok-clause-passes c none at p =
+pub returns-in-Ok-clause-passes_budget : goal.returns-in-Ok-clause-passes_budget
+returns-in-Ok-clause-passes_budget c none at p =
     let fed = ap (λ (v : HeaderLoaderValue). v.fed) c.self-2.view_is in
     let budget = ap (λ (v : HeaderLoaderValue). v.budget) c.self-2.view_is ∙ c.in-Ok.ensures.feeds_or_stops.budget in
     piece_within _ _ _ _ c.args.self.now.fed c.args.piece.now _ c.in-Ok.taken
@@ -25,8 +25,8 @@ returns-in-Err-clause-refusal c none =
     subst (λ (bs : List ℕ). IsHeaderFault c.args.self.now.budget bs c.in-Err.fault) (sym s.2)
     (stop_fault _ s.0 s.1 c.in-Err.fault s.4 (rest_bytes c.args.self.now.fed c.args.piece.now s.0 s.1 (λ k. omega (arith, c.type_inv.piece k)) s.2 s.3))
 
-pub returns-in-Err-clause-passes : goal.returns-in-Err-clause-passes
-returns-in-Err-clause-passes c none at p =
+pub returns-in-Err-clause-passes_budget : goal.returns-in-Err-clause-passes_budget
+returns-in-Err-clause-passes_budget c none at p =
     let s = c.in-Err.ensures.feeds_or_stops.stops in
     stop_over _ s.0 s.1 c.in-Err.fault s.4 at (subst (λ (bs : List ℕ). PassesBudget c.args.self.now.budget bs at) s.2 p)
 

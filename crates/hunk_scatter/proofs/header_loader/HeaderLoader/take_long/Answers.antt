@@ -65,7 +65,7 @@ returns-in-Err-clause-feeds_or_stops c = record {
       let bytes = take n c.args.piece.now in
       let gathers = subst (λ (o : Option ℕ). Gathers (c.self.inside.assembler ++ bytes) c.next_word-taken.new.assembler o) c.in-Some.is c.next_word-taken.ensures.gathers in
       let long : length bytes ≡ n = omega (arith, length-take n c.args.piece.now, c.next_word-taken.ensures.inside) in
-      let some : 0 < n = c.next_word-taken.ensures.some in (
+      let some : 0 < n = c.next_word-taken.ensures.positive in (
         c.args.self.now.fed ++ bytes,
         drop n c.args.piece.now,
         ap (λ (bs : List ℕ). c.args.self.now.fed ++ bs) (sym (take-append-drop n c.args.piece.now)) ∙ sym (append_assoc c.args.self.now.fed bytes (drop n c.args.piece.now)),

@@ -67,8 +67,8 @@ returns-else-bytes-clause-least c t more is e =
     (e ∙ ap (λ (v : HeaderLoaderValue). v.fed ++ more) (sym c.self.view_is)) in
     omega (arith, o, c.least_longs.ensures.value, c.pending.ensures.value)
 
-pub returns-then-is_behind_header-clause-some : goal.returns-then-is_behind_header-clause-some
-returns-then-is_behind_header-clause-some c none same =
+pub returns-then-is_behind_header-clause-finished : goal.returns-then-is_behind_header-clause-finished
+returns-then-is_behind_header-clause-finished c none same =
     let t =
     heading_table _ _ _ _ _ (c.self.invariant.reading (ap (λ (v : HeaderLoaderValue). v.refused) c.self.view_is ∙ none)) (sym c.is_behind_header.ensures ∙ c.if-is_behind_header.true) in
     subst (λ (v : HeaderLoaderValue). IsHeader v.fed) c.self.view_is (_, t.0, t.1)

@@ -10,11 +10,11 @@ use Rattle.hunkinfo.proofs.run.listing.list_bytes.Goals as goal
 pub returns-in-Ok-clause-done : goal.returns-in-Ok-clause-done
 returns-in-Ok-clause-done g c = λ done.
     subst (λ (l : Listing). ListsSource false l (g.R.Source.left c.args.source.now) (g.R.Source.left c.show.new.r) g.W.Sink.taken c.args.out.now c.show.new.w) (sym c.in-Show.is)
-    (lists_source g.W.Sink.taken c.args.out.now c.show.new.w listings.Show IsShown _ _ _ _ (λ input text is. is) (λ given at_end. at_end) c.in-Ok.ensures.ok)
+    (lists_source g.W.Sink.taken c.args.out.now c.show.new.w listings.Show IsShown _ _ _ _ (λ input text is. is) (λ given at_end. at_end) c.in-Ok.ensures.shows)
 
 pub returns-in-Ok-eq0-clause-done : goal.returns-in-Ok-eq0-clause-done
 returns-in-Ok-eq0-clause-done g c = λ done.
     let none : c.in-Ok-eq0.field-0 ≡ 0 = search rules in
     subst (λ (l : Listing). ListsSource false l (g.R.Source.left c.args.source.now) (g.R.Source.left c.validate.new.r) g.W.Sink.taken c.args.out.now c.validate.new.w) (sym c.in-Validate.is)
     (lists_source g.W.Sink.taken c.args.out.now c.validate.new.w listings.Validate (IsValidated c.in-Ok-eq0.field-0) _ _ _ _
-    (λ input text is. subst (λ (n : ℕ). IsValidated n input text) none is) (λ given at_end. at_end) c.in-Ok-eq0.ensures.ok)
+    (λ input text is. subst (λ (n : ℕ). IsValidated n input text) none is) (λ given at_end. at_end) c.in-Ok-eq0.ensures.validates)

@@ -27,8 +27,8 @@ invariant_of-result c =
     let file = whole_file c.args.bytes.now c.in_ok-size.size c.in_ok-size.ensures in
     subst IsLoadFile (sym (c.in_ok-hunks.ensures.hunks file)) file.is_load_file
 
-pub returns-clause-value : goal.returns-clause-value
-returns-clause-value c =
+pub returns-clause-valid : goal.returns-clause-valid
+returns-clause-valid c =
     let file = whole_file c.args.bytes.now c.in_ok-size.size c.in_ok-size.ensures in
     subst IsLoadFile (sym (c.in_ok-hunks.ensures.hunks file)) file.is_load_file
 
