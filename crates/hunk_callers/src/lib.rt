@@ -6,6 +6,8 @@ mod assembler;
 mod collection;
 mod emulator;
 mod libraries;
+mod pieces;
+mod program;
 mod symbols;
 mod upload;
 
@@ -14,6 +16,8 @@ pub use crate::assembler::write_program;
 pub use crate::collection::{Collection, survey, survey_folder};
 pub use crate::emulator::load_program;
 pub use crate::libraries::{Seen, tour};
+pub use crate::pieces::load_pieces;
+pub use crate::program::show_file;
 pub use crate::symbols::{Symbol, list_symbols};
 pub use crate::upload::has_header;
 

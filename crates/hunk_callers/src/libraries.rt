@@ -1,6 +1,7 @@
 //! A little of each library.
 
 use anyhow::{bail, ensure};
+use hunk_blocks::Body;
 use hunk_commands::unhex;
 use hunk_files::{LoadFile, sniff};
 use hunk_listing::print_load_summary;
@@ -18,8 +19,8 @@ const LIMITS: Limits = Limits {
 /// What a tour has seen of a load file.
 #[derive(Debug, Drop)]
 pub struct Seen {
-    /// The sizes of the content blocks of its first hunk.
-    pub content: u64,
+    /// The bytes of code that its first hunk has.
+    pub code: u64,
     /// The bytes of its segments.
     pub loaded: u64,
     /// The lines that `hunkinfo validate` prints of it.
@@ -39,9 +40,11 @@ pub fn tour(alloc: Global, words: &[String], text: &str) -> anyhow::Result<Seen>
     let bytes = unhex(alloc, text.as_bytes())?;
     ensure!(sniff(&bytes) == Sniff::Load, "no load file");
     let (file, size) = LoadFile::decode(alloc, &bytes)?;
-    let mut content = 0u64;
+    let mut code = 0u64;
     for block in file.hunk(0) {
-        content = content.saturating_add(block.body().content_bytes().unwrap_or(0));
+        if let Body::Code { top: _, payload } = block.body() {
+            code = code.saturating_add(payload.bytes().len() as u64);
+        }
     }
     let mut source = FromSlice::new(&bytes);
     let image = load(alloc, &mut source, LIMITS, &Packed { start: 0 })?;
@@ -52,7 +55,7 @@ pub fn tour(alloc: Global, words: &[String], text: &str) -> anyhow::Result<Seen>
     let loaded = image.bytes();
     let report = out.into_inner().into_inner();
     Ok(Seen {
-        content,
+        code,
         loaded,
         report,
     })

@@ -4,12 +4,13 @@ mod folder;
 mod suite;
 mod tour;
 
-use crate::{describe, has_header, list_symbols, load_program, survey, write_program};
-use hunk_commands::show;
+use crate::{
+    describe, has_header, list_symbols, load_pieces, load_program, show_file, survey, write_program,
+};
 use hunk_orders::{Order, order};
 use hunk_testing::{examples, spelled};
 use hunk_vectors::{OBJECTS, ObjectWant, VECTORS, Want};
-use hunk_words::{FromSlice, FromWrite, LongWriter, Reason};
+use hunk_words::{FromWrite, Reason};
 use std::test::Fail;
 
 #[test]
@@ -128,24 +129,52 @@ fn shows_what_the_words_ask_for(rt: HostRuntime) -> Result<(), Fail> {
     for word in ["hunkinfo", "show"] {
         words.push(String::from_str(rt.alloc(), word)?)?;
     }
+    let asked = order(rt.alloc(), words.as_slice())?;
+    assert!(rt;
+        matches!(
+            asked,
+            Order::Show {
+                hex: false,
+                file: None
+            }
+        )
+    );
     let file = spelled(rt.alloc(), examples::ONE_HUNK)?;
-    let mut out = LongWriter::new(FromWrite::new(Vec::new(rt.alloc())));
-    match order(rt.alloc(), words.as_slice())? {
-        Order::Show {
-            hex: false,
-            file: None,
-        } => {
-            show(
-                rt.alloc(),
-                &mut FromSlice::new(file.as_slice()),
-                &mut out,
-                1_000,
-            )?;
-        }
-        _ => assert!(rt; false, "another order"),
-    }
-    let text = out.into_inner().into_inner();
+    let text = show_file(rt.alloc(), file.as_slice())?;
     let want = b"load file 1 hunks 4 bytes\nhunk 0 4 bytes any\n  CODE 4 bytes\n  END\n";
     assert_eq!(rt; text.as_slice(), want.as_slice());
+    Ok(())
+}
+
+/// Example 2, whose header has 28 bytes, cut behind it and in the middle of a longword, with a byte
+/// behind the file.
+#[test]
+fn loads_pieces(rt: HostRuntime) -> Result<(), Fail> {
+    let mut file = spelled(rt.alloc(), examples::TWO_HUNKS)?;
+    file.push(0xFF)?;
+    let (first, rest) = file.split_at(31);
+    let (second, third) = rest.split_at(20);
+    let image = load_pieces(rt.alloc(), first, &[second, third], 0x0001_0000)?;
+    assert_eq!(rt; (image.base(0), image.base(1)), (0x0001_0000, 0x0001_0008));
+    let want = [0x4E, 0xF9, 0, 1, 0, 0x0C, 0x4E, 0x71];
+    assert_eq!(rt; image.segment(0), want.as_slice());
+    assert_eq!(rt; image.segment(1), [0x12, 0x34, 0x56, 0x78].as_slice());
+    // Behind byte 51 a file has the rest of a count, an END, a BSS of two longwords and its END.
+    for (pieces, start, want) in [
+        (&[second][..], 0, "at least 17 bytes are to come"),
+        (
+            &[second, third],
+            0xFFFF_FFFC,
+            "refused at byte 28: NoBase (29) hunk 0",
+        ),
+    ] {
+        match load_pieces(rt.alloc(), first, pieces, start) {
+            Ok(_) => assert!(rt; false, "{want}"),
+            Err(error) => {
+                let text = format!(in rt.alloc(); "{error}")?;
+                assert_eq!(rt; text.as_str(), want);
+            }
+        }
+    }
     Ok(())
 }

@@ -19,7 +19,7 @@ fn words(alloc: Global, line: &[&str]) -> Result<Vec<String>, AllocError> {
 fn of_one_hunk(rt: HostRuntime) -> Result<(), Fail> {
     let line = words(rt.alloc(), &["hunkinfo", "validate", "--hex"])?;
     let seen = tour(rt.alloc(), line.as_slice(), VECTORS[0].text)?;
-    assert_eq!(rt; (seen.content, seen.loaded), (4, 4));
+    assert_eq!(rt; (seen.code, seen.loaded), (4, 4));
     assert_eq!(rt;
         seen.report.as_slice(),
         b"load file 1 hunks 4 bytes\n".as_slice()
