@@ -4,9 +4,10 @@ use anyhow::{bail, ensure};
 use hunk_scatter::{HeaderLoader, Image, Packed};
 use std::alloc::Global;
 
-/// The most bytes that a program may have in memory, and in its file.
+/// The most bytes that a program may have in memory.
 const BUDGET: u64 = 0x0020_0000;
 
+/// The most bytes that its file may have before the last piece.
 const FILE_BYTES: u64 = 0x0040_0000;
 
 /// Loads a program to the address `start`, where the first piece of its file has the whole header.

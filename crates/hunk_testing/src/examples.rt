@@ -34,19 +34,22 @@ pub const ENDING_IN_ZEROS: &str = "3F3 0 2 0 1 2 3 / 3E9 1 4E754E71 / 3F2 / 3EB 
 pub const WITH_ATTRIBUTES: &str =
     "3F3 0 2 0 1 C0000002 10004 1 / 3E9 2 4E714E71 4E754E71 / 3F2 / 3EB 1 / 3F2";
 
-/// Example 11: a relocation of a hunk's last longword; of one that passes its end; and one whose target is no hunk.
+/// Example 11: a relocation of a hunk's last longword.
 pub const RELOCATED_AT_ITS_END: &str = "3F3 0 1 0 0 2 / 3E9 2 0 0 / 3EC 1 0 4 0 / 3F2";
 
+/// Example 11: a relocation of a long that passes the end of its hunk.
 pub const RELOCATED_PAST_ITS_END: &str = "3F3 0 1 0 0 2 / 3E9 2 0 0 / 3EC 1 0 5 0 / 3F2";
 
+/// Example 11: a relocation whose target is no hunk.
 pub const RELOCATED_BY_NO_HUNK: &str = "3F3 0 1 0 0 2 / 3E9 2 0 0 / 3EC 1 1 4 0 / 3F2";
 
-/// Example 12: a relocation where nothing is, and a block of none.
+/// Example 12: a relocation in a hunk of no bytes.
 pub const NOTHING_TO_RELOCATE: &str = "3F3 0 1 0 0 0 / 3EB 0 / 3EC 1 0 0 0 / 3F2";
 
+/// Example 12: a RELOC32 block of no relocation.
 pub const NO_RELOCATION: &str = "3F3 0 1 0 0 0 / 3EB 0 / 3EC 0 / 3F2";
 
-/// Example 13: an object file with a relocation of short words' kind.
+/// Example 13: an object file with a DREL32 block.
 pub const OBJECT_WITH_DREL32: &str = "3E7 1 61000000 / 3E9 1 0 / 3F7 1 0 0 0 / 3F2";
 
 /// Example 14: an object file with a reference and a definition.
@@ -57,11 +60,13 @@ pub const OBJECT: &str = "3E7 1 61000000 / 3E9 2 4EB90000 00004E75 / \
 pub const OBJECT_AMISS: &str = "3E7 1 61000000 / 3E9 2 4EB90000 00004E75 / \
     3EF 81000001 5F660000 1 5 1000001 5F6D0000 0 0 / 3F2";
 
-/// Example 16: headers whose last hunk is not the last of their number, of no hunk, and of one hunk too many.
+/// Example 16: a header whose last hunk is not the last of their number.
 pub const LAST_HUNK_AMISS: &str = "3F3 0 2 0 0";
 
+/// Example 16: a header of no hunk.
 pub const NO_HUNKS: &str = "3F3 0 0";
 
+/// Example 16: a header of one hunk more than a file may have.
 pub const TOO_MANY_HUNKS: &str = "3F3 0 10001";
 
 /// Example 17: the header of the largest hunk that can be declared.
@@ -79,14 +84,16 @@ pub const WITH_A_NAME: &str = "3F3 0 1 0 0 1 / 3E8 1 2E740A5C / 3E9 1 4E754E71 /
 /// Example 24 with a number of longwords whose top byte is not 0.
 pub const NAME_WORD_AMISS: &str = "3F3 0 1 0 0 1 / 3E8 1000001 2E740A5C / 3E9 1 4E754E71 / 3F2";
 
-/// Example 25: an object file with an entry of no type, and one that ends before the name of an entry.
+/// Example 25: an object file with an EXT entry of no type.
 pub const ENTRY_OF_NO_TYPE: &str = "3E7 0 / 3E9 0 / 3EF 3000001";
 
+/// Example 25: an object file that ends before the name of an entry.
 pub const ENTRY_CUT_SHORT: &str = "3E7 0 / 3E9 0 / 3EF 88000001";
 
-/// Example 26: what does not begin with a unit, and an object file of one unit without a hunk.
+/// Example 26: bytes that do not begin with a unit.
 pub const WITHOUT_A_UNIT: &str = "3E9 0";
 
+/// Example 26: an object file of one unit without a hunk.
 pub const EMPTY_UNIT: &str = "3E7 0";
 
 /// Example 29: an object file with a relocation of which two things are found.
@@ -95,9 +102,10 @@ pub const TWO_FINDINGS: &str = "3E7 0 / 3E9 1 0 / 3EC 1 1 2 0 / 3F2";
 /// Example 34: an object file of an empty unit and another.
 pub const EMPTY_UNIT_AND_ANOTHER: &str = "3E7 0 / 3E7 1 62000000 / 3EB 4 / 3F2";
 
-/// Example 35: an object file with a common symbol, and the same with an offset behind the hunk.
+/// Example 35: an object file with a common symbol.
 pub const COMMON: &str = "3E7 0 / 3EB 2 / 3EF 82000001 63000000 8 1 4 0 / 3F2";
 
+/// Example 35 with an offset behind the hunk.
 pub const COMMON_AMISS: &str = "3E7 0 / 3EB 2 / 3EF 82000001 63000000 8 1 5 0 / 3F2";
 
 /// Example 36: two relocated longs that overlap, which are no neighbours in the list.
@@ -109,29 +117,34 @@ pub const RELOCATED_BEHIND_SYMBOLS: &str = "3F3 0 1 0 0 1 / 3E9 1 10 / 3F0 0 / 3
 /// What strip leaves of example 37.
 pub const RELOCATED_ALONE: &str = "3F3 0 1 0 0 1 / 3E9 1 10 / 3EC 1 0 0 0 / 3F2";
 
-/// Example 41: the most content, the most offsets of a target that is no hunk and of one that is, and the most
-/// debug data that a file can announce, where it ends.
+/// Example 41: the most content that a block can announce, where the file ends.
 pub const MOST_CONTENT: &str = "3F3 0 1 0 0 1 / 3E9 3FFFFFFF";
 
+/// Example 41: the most offsets that a target can have, which is no hunk.
 pub const MOST_OFFSETS_BY_NO_HUNK: &str = "3F3 0 1 0 0 1 / 3E9 1 0 / 3EC FFFFFFFF 1";
 
+/// Example 41: the most offsets that a target can have.
 pub const MOST_OFFSETS: &str = "3F3 0 1 0 0 1 / 3E9 1 0 / 3EC FFFFFFFF 0";
 
+/// Example 41: the most debug data that a block can announce.
 pub const MOST_DEBUG_DATA: &str = "3F3 0 1 0 0 1 / 3F1 FFFFFFFF";
 
-/// Example 44: an object file with an advisory block before its content, and what strip leaves of it.
+/// Example 44: an object file with an advisory block before its content.
 pub const OBJECT_WITH_AN_ADVISORY: &str = "3E7 0 / 200004D2 0 / 3EB 1 / 3F2";
 
+/// Example 44: what strip leaves of that.
 pub const OBJECT_WITHOUT_IT: &str = "3E7 0 / 3EB 1 / 3F2";
 
-/// Example 44: blocks of an unknown kind, with the advisory flag, with that of chip memory, and with both; and an END
-/// with the advisory flag.
+/// Example 44: a block of an unknown kind with the advisory flag.
 pub const ADVISORY: &str = "200004D2 0";
 
+/// Example 44: the same with the flag of chip memory.
 pub const NO_ADVISORY: &str = "400004D2 0";
 
+/// Example 44: the same with both flags.
 pub const ADVISORY_WITH_CHIP: &str = "600004D2 0";
 
+/// Example 44: an END with the advisory flag.
 pub const END_WITH_ADVISORY_FLAG: &str = "200003F2";
 
 /// Example 44: example 1 with this END.
