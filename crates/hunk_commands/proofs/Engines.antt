@@ -49,7 +49,7 @@ file_refused {R} {W} {T} left broken x y most failed out bytes fault result read
     subst (λ (r : Result T RunFault). ReadsThenPuts left broken x y most failed out out r) (sym (p.1 ∙ ap Err p.2)) (record {
       succeeds = λ has reads writes. only_memory fault (left x) (left y) most bytes has.input read none has.left has.is_file;
       fails = stops_untouched failed out fault (refused_not_written _ fault is);
-      quiet = tt;
+      no_failure = tt;
       within = within;
       limit = λ place at. absurd (refused_in_limit fault bytes place is at);
       read = λ place at. absurd (refused_not_read _ fault place is at);

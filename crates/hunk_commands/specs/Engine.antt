@@ -48,7 +48,7 @@ pub record ReadsThenPuts {R W T : Type 0} (left : R → Option (List ℕ)) (brok
   -- after another fault than one of writing nothing was put
   pub fails : IfErr result (StopsOutput failed old new)
   -- no write has failed where all is put
-  pub quiet : OnOk result (failed new.sink ≡ failed old.sink)
+  pub no_failure : OnOk result (failed new.sink ≡ failed old.sink)
   pub within : GivesAtMost (left x) (left y) most
   pub limit : IfErr result (StopsAtLimit (left x) (left y) most)
   pub read : IfErr result (StopsAtRead (left x) (left y) (broken y))

@@ -41,11 +41,12 @@ pub fn validate<R: Source, W: Sink>(
         (R.left r.old) (R.left r.new) file_bytes
         (W.taken w.old.sink) (W.taken w.new.sink) w.new.written) }
 
-    // After a fault of writing the first bytes of the text have gone out, and by `run`, which also
-    // says what is read and when nothing fails, after another one nothing has.
+    // After a fault of writing the first bytes of the text have gone out, and after another one
+    // nothing has, by `reads_then_puts`, which also says what is read and when nothing fails.
     ensures write { IfErr result (StopsAtWrite w.new.written (Writes IsReport
         (R.left r.old) (R.left r.new) file_bytes (W.taken w.old.sink) (W.taken w.new.sink))) }
-    ensures reads_then_puts { ReadsThenPuts R.left R.failed r.old r.new file_bytes W.failed w.old w.new result }
+    ensures reads_then_puts { ReadsThenPuts R.left R.failed r.old r.new file_bytes
+        W.failed w.old w.new result }
 {
     let input = read_whole(alloc, r, file_bytes)?;
     let file = decode_file(alloc, input.as_slice())?;

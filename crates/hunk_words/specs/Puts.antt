@@ -22,7 +22,7 @@ pub record PutsSince {W T : Type 0} (taken : W → Option (List ℕ)) (failed : 
   pub counted : IfErr result (λ fault. fault.written ≡ new.written)
   pub broken : OnErr result (failed new.sink ≡ true)
   pub stops : new.stopped ≡ is_err result
-  pub quiet : OnOk result (failed new.sink ≡ had_failed)
+  pub no_failure : OnOk result (failed new.sink ≡ had_failed)
 
 -- this text was put on a writer that is old before it and new after it
 abbrev pub PutsText : {W T : Type 0} → (W → Option (List ℕ)) → (W → Bool) → Writing W → Writing W → List ℕ → Result T WriteFault → Type 0

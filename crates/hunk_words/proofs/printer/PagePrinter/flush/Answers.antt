@@ -10,5 +10,5 @@ returns-clause-puts g c = record {
   counted = search rules;
   broken = search rules;
   stops = search rules;
-  quiet = grind (arith, common_steps);
+  no_failure = grind (arith, common_steps);
 }
