@@ -6,30 +6,15 @@ use crate::{
     hunk_load_packed, hunk_reason, hunk_strip, hunk_table,
 };
 use hunk_files::Row;
+use hunk_testing::{examples, spelled};
 use std::mem::size_of;
 use std::rt::HostRuntime;
 use std::test::Fail;
 
-/// The longwords that the text of example 2 spells, as bytes.
-const TWO_HUNKS: [u8; 84] = [
-    0, 0, 3, 0xF3, 0, 0, 0, 0, 0, 0, 0, 2, 0, 0, 0, 0, 0, 0, 0, 1, 0, 0, 0, 2, 0, 0, 0, 1, 0, 0, 3,
-    0xE9, 0, 0, 0, 2, 0x4E, 0xF9, 0, 0, 0, 4, 0x4E, 0x71, 0, 0, 3, 0xEC, 0, 0, 0, 1, 0, 0, 0, 1, 0,
-    0, 0, 2, 0, 0, 0, 0, 0, 0, 3, 0xF2, 0, 0, 3, 0xEA, 0, 0, 0, 1, 0x12, 0x34, 0x56, 0x78, 0, 0, 3,
-    0xF2,
-];
-
-/// The same of example 29: an object file whose relocation has no target, and no room.
-const AMISS: [u8; 44] = [
-    0, 0, 3, 0xE7, 0, 0, 0, 0, 0, 0, 3, 0xE9, 0, 0, 0, 1, 0, 0, 0, 0, 0, 0, 3, 0xEC, 0, 0, 0, 1, 0,
-    0, 0, 1, 0, 0, 0, 2, 0, 0, 0, 0, 0, 0, 3, 0xF2,
-];
-
-/// Example 18: example 1 with a symbol.
-const SYMBOL: [u8; 60] = [
-    0, 0, 3, 0xF3, 0, 0, 0, 0, 0, 0, 0, 1, 0, 0, 0, 0, 0, 0, 0, 0, 0, 0, 0, 1, 0, 0, 3, 0xE9, 0, 0,
-    0, 1, 0x4E, 0x75, 0x4E, 0x71, 0, 0, 3, 0xF0, 0, 0, 0, 1, 0x5F, 0x6D, 0, 0, 0, 0, 0, 0, 0, 0, 0,
-    0, 0, 0, 3, 0xF2,
-];
+/// The bytes from one place up to another, which are both in the file.
+fn part(file: &[u8], from: usize, to: usize) -> &[u8] {
+    file.get(from..to).unwrap_or(&[])
+}
 
 const NO_ROW: TableRow = TableRow {
     word: 0,
@@ -55,10 +40,11 @@ const PLACED: [Row; 2] = [
 #[test]
 fn loads_two_hunks(rt: HostRuntime) -> Result<(), Fail> {
     let alloc = rt.alloc();
+    let file = spelled(alloc, examples::TWO_HUNKS)?;
     let mut memory = [0xA5u8; 14];
     let loaded = hunk_load(
         alloc,
-        TWO_HUNKS.as_slice(),
+        file.as_slice(),
         [0x10000, 0x20000].as_slice(),
         memory.as_mut_slice(),
     );
@@ -73,7 +59,7 @@ fn loads_two_hunks(rt: HostRuntime) -> Result<(), Fail> {
         0x4E, 0xF9, 0, 2, 0, 4, 0x4E, 0x71, 0x12, 0x34, 0x56, 0x78, 0xA5, 0xA5,
     ];
     assert_eq!(rt; memory, wanted);
-    let packed = hunk_load_packed(alloc, TWO_HUNKS.as_slice(), 0x10000, memory.as_mut_slice());
+    let packed = hunk_load_packed(alloc, file.as_slice(), 0x10000, memory.as_mut_slice());
     assert_eq!(rt; packed, answer);
     assert_eq!(rt; (memory[2], memory[3], memory[4]), (0, 1, 0));
     Ok(())
@@ -81,8 +67,9 @@ fn loads_two_hunks(rt: HostRuntime) -> Result<(), Fail> {
 
 #[test]
 fn tells_a_table_and_a_name(rt: HostRuntime) -> Result<(), Fail> {
+    let file = spelled(rt.alloc(), examples::TWO_HUNKS)?;
     let mut rows = [NO_ROW; 3];
-    let told = hunk_table(&TWO_HUNKS[..28], 12, rows.as_mut_slice());
+    let told = hunk_table(part(&file, 0, 28), 12, rows.as_mut_slice());
     assert_eq!(rt;
         (told.number, told.hunk, told.place, told.count),
         (0, 2, 28, 12)
@@ -107,6 +94,7 @@ fn answer(number: u32, hunk: u32, place: u64, count: u64) -> Answer {
 
 #[test]
 fn streams_two_hunks(rt: HostRuntime) -> Result<(), Fail> {
+    let file = spelled(rt.alloc(), examples::TWO_HUNKS)?;
     let mut memory = [0xA5u8; 12];
     let mut loader = NO_LOADER;
     let rows = PLACED.as_slice();
@@ -114,10 +102,20 @@ fn streams_two_hunks(rt: HostRuntime) -> Result<(), Fail> {
     assert_eq!(rt; begun, answer(0, 2, 28, 12));
     assert_eq!(rt; memory, [0; 12]);
     // The first piece ends in the first byte of the relocations' word.
-    let first = hunk_feed(&mut loader, rows, memory.as_mut_slice(), &TWO_HUNKS[28..45]);
+    let first = hunk_feed(
+        &mut loader,
+        rows,
+        memory.as_mut_slice(),
+        part(&file, 28, 45),
+    );
     assert_eq!(rt; first, answer(0, 0, 45, 17));
     assert_eq!(rt; hunk_end(&loader), answer(26, 0, 44, 0));
-    let second = hunk_feed(&mut loader, rows, memory.as_mut_slice(), &TWO_HUNKS[45..]);
+    let second = hunk_feed(
+        &mut loader,
+        rows,
+        memory.as_mut_slice(),
+        part(&file, 45, 84),
+    );
     assert_eq!(rt; second, answer(0, 2, 84, 39));
     assert_eq!(rt; hunk_end(&loader), answer(0, 2, 84, 12));
     let wanted = [0x4E, 0xF9, 0, 2, 0, 4, 0x4E, 0x71, 0x12, 0x34, 0x56, 0x78];
@@ -178,17 +176,28 @@ fn begins_with_attributes(rt: HostRuntime) -> Result<(), Fail> {
 
 #[test]
 fn refuses_a_stream_for_good(rt: HostRuntime) -> Result<(), Fail> {
+    let file = spelled(rt.alloc(), examples::TWO_HUNKS)?;
     let mut memory = [0xA5u8; 12];
     let mut loader = NO_LOADER;
     let rows = PLACED.as_slice();
     hunk_begin(&mut loader, rows, 28, memory.as_mut_slice());
-    hunk_feed(&mut loader, rows, memory.as_mut_slice(), &TWO_HUNKS[28..52]);
+    hunk_feed(
+        &mut loader,
+        rows,
+        memory.as_mut_slice(),
+        part(&file, 28, 52),
+    );
     // There is no hunk 2 that a relocation could have as its target.
     let target = [0, 0, 0, 2];
     let bad_target = answer(23, 0, 52, 0);
     let refused = hunk_feed(&mut loader, rows, memory.as_mut_slice(), target.as_slice());
     assert_eq!(rt; refused, bad_target);
-    let again = hunk_feed(&mut loader, rows, memory.as_mut_slice(), &TWO_HUNKS[52..]);
+    let again = hunk_feed(
+        &mut loader,
+        rows,
+        memory.as_mut_slice(),
+        part(&file, 52, 84),
+    );
     assert_eq!(rt; again, bad_target);
     assert_eq!(rt; hunk_end(&loader), bad_target);
     Ok(())
@@ -225,7 +234,8 @@ fn row(fault: u32) -> FindingRow {
 #[test]
 fn checks_an_object_file(rt: HostRuntime) -> Result<(), Fail> {
     let mut rows = [row(7), row(8), row(9)];
-    let told = hunk_check(rt.alloc(), AMISS.as_slice(), rows.as_mut_slice());
+    let file = spelled(rt.alloc(), examples::TWO_FINDINGS)?;
+    let told = hunk_check(rt.alloc(), file.as_slice(), rows.as_mut_slice());
     assert_eq!(rt;
         (told.number, told.hunk, told.place, told.count),
         (0, 0, 44, 2)
@@ -237,16 +247,15 @@ fn checks_an_object_file(rt: HostRuntime) -> Result<(), Fail> {
 #[test]
 fn strips_a_symbol(rt: HostRuntime) -> Result<(), Fail> {
     let mut text = [0xA5u8; 41];
-    let told = hunk_strip(rt.alloc(), SYMBOL.as_slice(), text.as_mut_slice());
+    let file = spelled(rt.alloc(), examples::WITH_A_SYMBOL)?;
+    let told = hunk_strip(rt.alloc(), file.as_slice(), text.as_mut_slice());
     assert_eq!(rt;
         (told.number, told.hunk, told.place, told.count),
         (0, 1, 60, 40)
     );
-    let wanted = [
-        0, 0, 3, 0xF3, 0, 0, 0, 0, 0, 0, 0, 1, 0, 0, 0, 0, 0, 0, 0, 0, 0, 0, 0, 1, 0, 0, 3, 0xE9,
-        0, 0, 0, 1, 0x4E, 0x75, 0x4E, 0x71, 0, 0, 3, 0xF2, 0xA5,
-    ];
-    assert_eq!(rt; text, wanted);
+    // What is left is example 1, of 40 bytes.
+    let stripped = spelled(rt.alloc(), examples::ONE_HUNK)?;
+    assert_eq!(rt; (&text[..40], text[40]), (stripped.as_slice(), 0xA5));
     Ok(())
 }
 
