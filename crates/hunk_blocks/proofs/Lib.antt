@@ -11,6 +11,7 @@ pub mod Decoding
 pub mod FaultLaws
 pub mod FaultScan
 pub mod FrontLaws
+pub mod EntryMissing
 pub mod EntryReading
 pub mod ExtLaws
 pub mod Fronts

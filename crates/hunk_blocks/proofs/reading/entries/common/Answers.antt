@@ -4,50 +4,32 @@ use Rattle.hunk_blocks.specs.declared.ext_shape.ExtShape.TheVariants.{Common}
 use Rattle.hunk_blocks.specs.Values.{IsPayload}
 use Rattle.hunk_blocks.specs.Parts.{counted_text}
 use Rattle.hunk_blocks.specs.Reading.{Reads}
-use Rattle.hunk_blocks.proofs.ListReading.{on_err, if_err_and, cut-Reads, Reads-append}
-use Rattle.hunk_blocks.proofs.EntryReading.{name_missing, value_missing, entry_read, entry_is, common_missing}
-use Rattle.hunk_blocks.proofs.FrontLaws.{EntriesFront, named_front, named_ends, common_front}
+use Rattle.hunk_blocks.proofs.ListReading.{cut-Reads, Reads-append}
+use Rattle.hunk_blocks.proofs.EntryMissing.{missing, without_name, without_value}
+use Rattle.hunk_blocks.proofs.EntryReading.{entry_read, entry_is, common_missing}
+use Rattle.hunk_blocks.proofs.FrontLaws.{EntriesFront, common_front}
 use Rattle.hunk_blocks.proofs.reading.entries.common.Goals as goal
 
 pub returns-in_err-name : goal.returns-in_err-name
 returns-in_err-name c =
-    record {
-      read = search rules;
-      none = on_err c.from_residual.result (λ before h. name_missing before c.args.reader.now c.args.word c.requires.goes_on (omega (arith, c.in_err-name.ensures.short)) h);
-      front =
-          on_err c.from_residual.result
-          (named_front (Some Common) c.args.word c.args.reader.now.rest c.requires.shape (λ e. cc) c.requires.goes_on (omega arith) (omega (arith, c.in_err-name.ensures.short)) c.in_err-name.ensures.longs);
-      fault = search rules;
-    }
+    without_name c.args.reader.now _ c.args.word c.from_residual.result _ c.from_residual.ensures.1 Common c.requires.shape c.requires.goes_on (omega arith) c.in_err-name.ensures.short c.in_err-name.ensures.longs c.in_err-name.ensures.fault
 
 pub returns-in_err-value : goal.returns-in_err-value
 returns-in_err-value c =
-    record {
-      read = search rules;
-      none = on_err c.from_residual-in_err-value.result (λ before h. value_missing Common before c.args.reader.now c.read_entry_name.new.reader c.args.word (longs c.in_ok-name.name) (λ e. cc) c.requires.shape c.requires.goes_on c.in_ok-name.ensures.count.0 h c.in_ok-name.ensures.read c.in_err-value.ensures.short);
-      front =
-          on_err c.from_residual-in_err-value.result
-          (named_ends (Some Common) c.args.reader.now c.read_entry_name.new.reader c.args.word (longs c.in_ok-name.name) c.requires.shape (λ e. cc) c.requires.goes_on (omega arith) c.in_ok-name.ensures.count.0 c.in_ok-name.ensures.count.1
-          c.in_ok-name.ensures.read c.in_err-value.ensures.short);
-      fault = search rules;
-    }
+    without_value c.args.reader.now _ c.args.word c.from_residual-in_err-value.result _ c.from_residual-in_err-value.ensures.1 Common c.requires.shape c.requires.goes_on (omega arith) c.read_entry_name.new.reader (longs c.in_ok-name.name)
+    c.in_ok-name.ensures.count.0 c.in_ok-name.ensures.count.1 c.in_ok-name.ensures.read (λ e. cc) c.in_err-value.ensures.short c.in_err-value.ensures.fault
 
 pub returns-in_err-read_counted : goal.returns-in_err-read_counted
 returns-in_err-read_counted c =
-    record {
-      read = search rules;
-      none =
-          on_err c.from_residual-in_err-read_counted.result (λ before h.
-          common_missing before c.args.reader.now c.read_entry_name.new.reader c.long.new.self c.args.word c.in_ok-value.value (longs c.in_ok-name.name) c.requires.shape c.requires.goes_on c.in_ok-name.ensures.count.0 h c.in_ok-name.ensures.read c.in_ok-value.ensures.read
-          c.in_err-read_counted.ensures.none);
-      front =
-          let P : List ℕ → Type 0 = λ l. EntriesFront (c.args.word ∷ l) in
-          let name : List ℕ = longs c.in_ok-name.name in
-          on_err c.from_residual-in_err-read_counted.result
-          (subst P (sym (c.in_ok-name.ensures.read.front ∙ ap (λ l. name ++ l) c.in_ok-value.ensures.read.front))
-          (common_front c.args.word c.in_ok-value.value name c.long.new.self.rest c.requires.shape c.requires.goes_on (omega arith) (omega arith) c.in_ok-name.ensures.count.0 c.in_ok-name.ensures.count.1 c.in_err-read_counted.ensures.front));
-      fault = if_err_and c.from_residual-in_err-read_counted.result _ _ c.from_residual-in_err-read_counted.ensures.1 (λ fault same. same ∙ c.in_err-read_counted.ensures.fault ∙ sym (cut-Reads c.args.reader.now c.read_entry_name.new.reader (longs c.in_ok-name.name) c.in_ok-name.ensures.read ∙ cut-Reads c.read_entry_name.new.reader c.long.new.self (c.in_ok-value.value ∷ []) c.in_ok-value.ensures.read));
-    }
+    let name : List ℕ = longs c.in_ok-name.name in
+    missing c.args.reader.now _ c.args.word c.from_residual-in_err-read_counted.result _ c.from_residual-in_err-read_counted.ensures.1
+    (λ before h.
+    common_missing before c.args.reader.now c.read_entry_name.new.reader c.long.new.self c.args.word c.in_ok-value.value name c.requires.shape c.requires.goes_on c.in_ok-name.ensures.count.0 h c.in_ok-name.ensures.read c.in_ok-value.ensures.read
+    c.in_err-read_counted.ensures.none)
+    (subst (λ l. EntriesFront (c.args.word ∷ l)) (sym (c.in_ok-name.ensures.read.front ∙ ap (λ l. name ++ l) c.in_ok-value.ensures.read.front))
+    (common_front c.args.word c.in_ok-value.value name c.long.new.self.rest c.requires.shape c.requires.goes_on (omega arith) (omega arith) c.in_ok-name.ensures.count.0 c.in_ok-name.ensures.count.1 c.in_err-read_counted.ensures.front))
+    (c.in_err-read_counted.ensures.fault
+    ∙ sym (cut-Reads c.args.reader.now c.read_entry_name.new.reader name c.in_ok-name.ensures.read ∙ cut-Reads c.read_entry_name.new.reader c.long.new.self (c.in_ok-value.value ∷ []) c.in_ok-value.ensures.read))
 
 pub returns : goal.returns
 returns c =

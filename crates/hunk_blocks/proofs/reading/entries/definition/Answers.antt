@@ -1,33 +1,18 @@
 use Rattle.std.proofs.Common.{rules, arith, Some}
 use Rattle.hunk_words.specs.Longs.{longs}
 use Rattle.hunk_blocks.specs.declared.ext_shape.ExtShape.TheVariants.{Definition}
-use Rattle.hunk_blocks.proofs.EntryReading.{name_missing, value_missing, entry_read, entry_is, no_offsets}
-use Rattle.hunk_blocks.proofs.FrontLaws.{named_front, named_ends}
-use Rattle.hunk_blocks.proofs.ListReading.{on_err}
+use Rattle.hunk_blocks.proofs.EntryMissing.{without_name, without_value}
+use Rattle.hunk_blocks.proofs.EntryReading.{entry_read, entry_is, no_offsets}
 use Rattle.hunk_blocks.proofs.reading.entries.definition.Goals as goal
 
 pub returns-in_err-name : goal.returns-in_err-name
 returns-in_err-name c =
-    record {
-      read = search rules;
-      none = on_err c.from_residual.result (λ before h. name_missing before c.args.reader.now c.args.word c.requires.goes_on (omega (arith, c.in_err-name.ensures.short)) h);
-      front =
-          on_err c.from_residual.result
-          (named_front (Some Definition) c.args.word c.args.reader.now.rest c.requires.shape (λ e. cc) c.requires.goes_on (omega arith) (omega (arith, c.in_err-name.ensures.short)) c.in_err-name.ensures.longs);
-      fault = search rules;
-    }
+    without_name c.args.reader.now _ c.args.word c.from_residual.result _ c.from_residual.ensures.1 Definition c.requires.shape c.requires.goes_on (omega arith) c.in_err-name.ensures.short c.in_err-name.ensures.longs c.in_err-name.ensures.fault
 
 pub returns-in_err-value : goal.returns-in_err-value
 returns-in_err-value c =
-    record {
-      read = search rules;
-      none = on_err c.from_residual-in_err-value.result (λ before h. value_missing Definition before c.args.reader.now c.read_entry_name.new.reader c.args.word (longs c.in_ok-name.name) (λ e. cc) c.requires.shape c.requires.goes_on c.in_ok-name.ensures.count.0 h c.in_ok-name.ensures.read c.in_err-value.ensures.short);
-      front =
-          on_err c.from_residual-in_err-value.result
-          (named_ends (Some Definition) c.args.reader.now c.read_entry_name.new.reader c.args.word (longs c.in_ok-name.name) c.requires.shape (λ e. cc) c.requires.goes_on (omega arith) c.in_ok-name.ensures.count.0 c.in_ok-name.ensures.count.1
-          c.in_ok-name.ensures.read c.in_err-value.ensures.short);
-      fault = search rules;
-    }
+    without_value c.args.reader.now _ c.args.word c.from_residual-in_err-value.result _ c.from_residual-in_err-value.ensures.1 Definition c.requires.shape c.requires.goes_on (omega arith) c.read_entry_name.new.reader (longs c.in_ok-name.name)
+    c.in_ok-name.ensures.count.0 c.in_ok-name.ensures.count.1 c.in_ok-name.ensures.read (λ e. cc) c.in_err-value.ensures.short c.in_err-value.ensures.fault
 
 pub returns : goal.returns
 returns c =

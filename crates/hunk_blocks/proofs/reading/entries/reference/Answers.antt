@@ -4,36 +4,24 @@ use Rattle.hunk_blocks.specs.declared.ext_shape.ExtShape.TheVariants.{References
 use Rattle.hunk_blocks.specs.Values.{IsPayload}
 use Rattle.hunk_blocks.specs.Parts.{counted_text}
 use Rattle.hunk_blocks.specs.Reading.{Reads}
-use Rattle.hunk_blocks.proofs.ListReading.{on_err, if_err_and, cut-Reads}
-use Rattle.hunk_blocks.proofs.EntryReading.{name_missing, entry_read, entry_is, reference_missing}
-use Rattle.hunk_blocks.proofs.FrontLaws.{EntriesFront, named_front, reference_front}
+use Rattle.hunk_blocks.proofs.ListReading.{cut-Reads}
+use Rattle.hunk_blocks.proofs.EntryMissing.{missing, without_name}
+use Rattle.hunk_blocks.proofs.EntryReading.{entry_read, entry_is, reference_missing}
+use Rattle.hunk_blocks.proofs.FrontLaws.{EntriesFront, reference_front}
 use Rattle.hunk_blocks.proofs.reading.entries.reference.Goals as goal
 
 pub returns-in_err-name : goal.returns-in_err-name
 returns-in_err-name c =
-    record {
-      read = search rules;
-      none = on_err c.from_residual.result (λ before h. name_missing before c.args.reader.now c.args.word c.requires.goes_on (omega (arith, c.in_err-name.ensures.short)) h);
-      front =
-          on_err c.from_residual.result
-          (named_front (Some References) c.args.word c.args.reader.now.rest c.requires.shape (λ e. cc) c.requires.goes_on (omega arith) (omega (arith, c.in_err-name.ensures.short)) c.in_err-name.ensures.longs);
-      fault = search rules;
-    }
+    without_name c.args.reader.now _ c.args.word c.from_residual.result _ c.from_residual.ensures.1 References c.requires.shape c.requires.goes_on (omega arith) c.in_err-name.ensures.short c.in_err-name.ensures.longs c.in_err-name.ensures.fault
 
 pub returns-in_err-read_counted : goal.returns-in_err-read_counted
 returns-in_err-read_counted c =
-    record {
-      read = search rules;
-      none =
-          on_err c.from_residual-in_err-read_counted.result (λ before h.
-          reference_missing before c.args.reader.now c.read_entry_name.new.reader c.args.word (longs c.in_ok-name.name) c.requires.shape c.requires.goes_on c.in_ok-name.ensures.count.0 h c.in_ok-name.ensures.read c.in_err-read_counted.ensures.none);
-      front =
-          let P : List ℕ → Type 0 = λ l. EntriesFront (c.args.word ∷ l) in
-          on_err c.from_residual-in_err-read_counted.result
-          (subst P (sym c.in_ok-name.ensures.read.front)
-          (reference_front c.args.word (longs c.in_ok-name.name) c.read_entry_name.new.reader.rest c.requires.shape c.requires.goes_on (omega arith) c.in_ok-name.ensures.count.0 c.in_ok-name.ensures.count.1 c.in_err-read_counted.ensures.front));
-      fault = if_err_and c.from_residual-in_err-read_counted.result _ _ c.from_residual-in_err-read_counted.ensures.1 (λ fault same. same ∙ c.in_err-read_counted.ensures.fault ∙ sym (cut-Reads c.args.reader.now c.read_entry_name.new.reader (longs c.in_ok-name.name) c.in_ok-name.ensures.read));
-    }
+    missing c.args.reader.now _ c.args.word c.from_residual-in_err-read_counted.result _ c.from_residual-in_err-read_counted.ensures.1
+    (λ before h.
+    reference_missing before c.args.reader.now c.read_entry_name.new.reader c.args.word (longs c.in_ok-name.name) c.requires.shape c.requires.goes_on c.in_ok-name.ensures.count.0 h c.in_ok-name.ensures.read c.in_err-read_counted.ensures.none)
+    (subst (λ l. EntriesFront (c.args.word ∷ l)) (sym c.in_ok-name.ensures.read.front)
+    (reference_front c.args.word (longs c.in_ok-name.name) c.read_entry_name.new.reader.rest c.requires.shape c.requires.goes_on (omega arith) c.in_ok-name.ensures.count.0 c.in_ok-name.ensures.count.1 c.in_err-read_counted.ensures.front))
+    (c.in_err-read_counted.ensures.fault ∙ sym (cut-Reads c.args.reader.now c.read_entry_name.new.reader (longs c.in_ok-name.name) c.in_ok-name.ensures.read))
 
 pub returns : goal.returns
 returns c =
