@@ -3,6 +3,7 @@
 use hunk_words::{
     Assembler, BlockWord, Failed, Fault, Kind, Memory, Reason, SizeWord, WriteFault, word_at,
 };
+use std::alloc::AllocError;
 use std::test::Fail;
 
 #[test]
@@ -59,6 +60,24 @@ fn reasons(rt: HostRuntime) -> Result<(), Fail> {
     Ok(())
 }
 
+/// Takes a piece of at most nine bytes, and puts the longwords that it completes behind `words`.
+fn take_all(
+    assembler: &mut Assembler,
+    piece: &[u8],
+    words: &mut Vec<u32>,
+) -> Result<(), AllocError> {
+    let mut rest = piece;
+    // At most two longwords end in nine bytes, so that the third call takes what is left.
+    for _ in 0..3 {
+        let (taken, word) = assembler.take(rest);
+        rest = &rest[taken..];
+        if let Some(word) = word {
+            words.push(word)?;
+        }
+    }
+    Ok(())
+}
+
 #[test]
 fn longwords(rt: HostRuntime) -> Result<(), Fail> {
     let bytes = [0, 0, 3, 0xF3, 0x4E, 0x75, 0x4E, 0x71, 9];
@@ -68,18 +87,10 @@ fn longwords(rt: HostRuntime) -> Result<(), Fail> {
     for cut in 0..10usize {
         let (front, back) = bytes.as_slice().split_at(cut);
         let mut assembler = Assembler::new();
-        let mut words = [0u32; 2];
-        let mut count = 0;
-        for piece in [front, back] {
-            for byte in piece {
-                if let Some(word) = assembler.push(*byte) {
-                    assert!(rt; count < 2);
-                    words[count] = word;
-                    count += 1;
-                }
-            }
-        }
-        assert_eq!(rt; words, [0x3F3, 0x4E75_4E71]);
+        let mut words = Vec::new(rt.alloc());
+        take_all(&mut assembler, front, &mut words)?;
+        take_all(&mut assembler, back, &mut words)?;
+        assert_eq!(rt; words.as_slice(), [0x3F3, 0x4E75_4E71].as_slice());
         assert_eq!(rt; assembler.pending(), 1);
     }
     let mut assembler = Assembler::new();
