@@ -49,8 +49,8 @@ pub body_printed : (body known : Body) (old new : List ℕ) → body ≡ known �
 body_printed body known old new is printed =
     printed ∙ ap (λ l. old ++ bytes_of l) (sym (ap (λ b. body_text (body_of b)) is ∙ body_text_is (body_of known)))
 
-pub none_printed : (old : List ℕ) → old ≡ old ++ bytes_of []
-none_printed old = sym (ap (λ l. old ++ l) bytes_of-nil ∙ append-nil old)
+pub no_bytes : (old : List ℕ) → old ≡ old ++ bytes_of []
+no_bytes old = sym (ap (λ l. old ++ l) bytes_of-nil ∙ append-nil old)
 
 -- the word of a block, and its body
 pub block_printed : (word n : ℕ) (body : BlockBody) (b : BlockValue) (old mid new : List ℕ) → record { word = word; body = body } ≡ b → n ≡ word → mid ≡ old ++ bytes_of (n ∷ []) →

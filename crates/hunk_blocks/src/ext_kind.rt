@@ -4,6 +4,7 @@ ghost use Rattle.hunk_words.specs.Bits.{entry_type};
 ghost use Rattle.hunk_blocks.specs.ExtKinds.{ext_code, ext_kind, ext_name, ext_shape, ext_width, shape_of_kind};
 
 use crate::ext_shape::ExtShape;
+use hunk_words::NAME_LIMIT;
 
 /// The type of an EXT entry, with its number and the names of `dos/doshunks.h`.
 ///
@@ -151,7 +152,7 @@ impl ExtKind {
 pub(crate) fn kind_of(word: u32) -> Option<ExtKind>
     ensures { result ≡ ext_kind (entry_type word) }
 {
-    ExtKind::from_code((word >> 24) as u8)
+    ExtKind::from_code((word / NAME_LIMIT) as u8)
 }
 
 /// What stands behind the name of an entry with this word, by its type.

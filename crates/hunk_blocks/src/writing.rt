@@ -18,7 +18,7 @@ use crate::writing::symbols::print_symbols;
 use hunk_words::{BlockWord, PagePrinter, Sink};
 
 /// What follows this block word.
-#[tactic(auto, using(crate::proofs::TextBytes::body_printed, crate::proofs::TextBytes::none_printed))]
+#[tactic(auto, using(crate::proofs::TextBytes::body_printed, crate::proofs::TextBytes::no_bytes))]
 pub(crate) fn print_body<W: Sink, const ROOM: usize>(
     page: &mut PagePrinter<'_, W, ROOM>,
     word: BlockWord,
