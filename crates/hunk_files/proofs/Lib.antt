@@ -3,6 +3,7 @@ pub mod AddAt
 pub mod Completion
 pub mod Concats
 pub mod ContentBlocks
+mod Counted
 mod Examples
 mod FileKinds
 pub mod FileProgress

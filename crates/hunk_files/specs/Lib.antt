@@ -14,6 +14,7 @@ pub mod ObjectParts
 pub mod OpenSegment
 pub mod Overlap
 pub mod Passing
+pub mod Places
 pub mod ReaderPosition
 pub mod Relocating
 pub mod Strip

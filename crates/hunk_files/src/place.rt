@@ -1,6 +1,7 @@
 //! Places in the whole file.
-ghost use Rattle.std.specs.Prelude.{◌≡◌, ◌+◌, ◌^◌, ◌<◌, ◌≤◌};
+ghost use Rattle.std.specs.Prelude.{◌≡◌, ◌+◌, ◌^◌, ◌<◌, ◌≤◌, IfErr, IfOk, IsErrAnd, Ok};
 ghost use Rattle.hunk_words.specs.declared.reason.Reason.TheVariants as reasons;
+ghost use Rattle.hunk_files.specs.Places.{IsCountedFrom};
 
 use hunk_words::{FileFault, Reason};
 
@@ -12,6 +13,18 @@ pub(crate) fn counted_from(at: usize, fault: FileFault) -> FileFault
     FileFault {
         place: (at as u64).saturating_add(fault.place),
         reason: fault.reason,
+    }
+}
+
+/// What was read from byte `at` on; the place of its refusal counts from there, and is counted from
+/// the start.
+pub(crate) fn read_from<T>(at: usize, read: Result<T, FileFault>) -> Result<T, FileFault>
+    ensures value { IfOk result (λ value. read ≡ Ok value) }
+    ensures fault { IfErr result (λ fault. IsErrAnd read (λ here. IsCountedFrom at here fault)) }
+{
+    match read {
+        Ok(value) => Ok(value),
+        Err(fault) => Err(counted_from(at, fault)),
     }
 }
 
