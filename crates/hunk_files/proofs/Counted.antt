@@ -1,5 +1,5 @@
 -- What was read from a byte on, and what is known where it was refused.
-use Rattle.std.specs.Prelude.{◌≡◌, ◌≢◌, ℕ, IfErr, IsErrAnd, IsTrue, Bool}
+use Rattle.std.specs.Prelude.{◌≢◌, ℕ, IfErr, IsErrAnd, IsTrue, Bool}
 use Rattle.std.proofs.Common.{Result, Ok, Err, ◌∙◌, subst, sym}
 use Rattle.hunk_words.specs.declared.fault.Fault.{Fault}
 use Rattle.hunk_words.specs.declared.reason.Reason.{Reason}

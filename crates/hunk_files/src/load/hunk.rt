@@ -6,7 +6,7 @@ ghost use Rattle.hunk_files.specs.Hunks.{AreBlocksAt, HasNoHunk};
 ghost use Rattle.hunk_files.specs.Tables.{hunk_of, IsTable};
 
 use crate::order::is_end;
-use crate::place::{out_of_memory, read_from};
+use crate::place::{counted_from, out_of_memory};
 use crate::row::Row;
 use hunk_blocks::{Block, Mode, append};
 use hunk_words::FileFault;
@@ -37,7 +37,7 @@ pub(crate) fn read_hunk<'a>(
     let mut blocks = Vec::new(alloc);
     let mut at = start;
     'reading: loop {
-        let (block, size) = read_from(at, Block::decode(alloc, &bytes[at..], Mode::Load))?;
+        let (block, size) = counted_from(at, Block::decode(alloc, &bytes[at..], Mode::Load))?;
         at += size;
         let hunk_ends = is_end(&block);
         if append(&mut blocks, block).is_err() {

@@ -9,7 +9,7 @@ ghost use Rattle.hunk_files.specs.ObjectFault.{HasObjectFault, objects};
 
 use crate::object::unit::Unit;
 use crate::object::walk::read_unit;
-use crate::place::{out_of_memory, read_from};
+use crate::place::{counted_from, out_of_memory};
 use hunk_words::FileFault;
 use std::alloc::Global;
 use std::marker::Model;
@@ -74,7 +74,7 @@ impl<'a> ObjectFile<'a> {
         let mut units = Vec::new(alloc);
         let mut at = 0;
         'reading: loop {
-            let (unit, size) = read_from(at, read_unit(alloc, &bytes[at..]))?;
+            let (unit, size) = counted_from(at, read_unit(alloc, &bytes[at..]))?;
             at += size;
             if units.push(unit).is_err() {
                 return Err(out_of_memory(at));

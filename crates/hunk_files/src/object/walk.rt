@@ -107,10 +107,7 @@ pub(super) fn read_hunk<'a>(
     let mut has_content = false;
     let mut at = 0;
     'reading: loop {
-        let (block, size) = match read_block(alloc, &bytes[at..], has_content) {
-            Ok(read) => read,
-            Err(fault) => return Err(counted_from(at, fault)),
-        };
+        let (block, size) = counted_from(at, read_block(alloc, &bytes[at..], has_content))?;
         at += size;
         has_content |= is_content(&block);
         let hunk_ends = is_end(&block);
@@ -168,10 +165,7 @@ pub(super) fn read_unit<'a>(alloc: Global, bytes: &'a [u8]) -> Result<(Unit<'a>,
     let (name, mut at) = read_header(bytes)?;
     let mut hunks = Vec::new(alloc);
     'reading: while !ends_unit(&bytes[at..]) {
-        let (blocks, size) = match read_hunk(alloc, &bytes[at..]) {
-            Ok(read) => read,
-            Err(fault) => return Err(counted_from(at, fault)),
-        };
+        let (blocks, size) = counted_from(at, read_hunk(alloc, &bytes[at..]))?;
         at += size;
         if append(&mut hunks, Hunk { blocks }).is_err() {
             return Err(out_of_memory(at));
