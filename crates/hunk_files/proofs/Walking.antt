@@ -68,7 +68,7 @@ Walks bytes at position entry = StandsAt bytes at position entry ⊎ HasPassed b
 pub start_walk : (bytes : List ℕ) → Walks bytes 0 positions.FirstLong (record { longs = 0; next = 5 })
 start_walk bytes = inl (record { progress = AtFirst; has_read = start_read; position_is = refl; entry_is = refl })
 
-pub stands : (bytes : List ℕ) (at : ℕ) (position : Position) (entry : Entry) → Walks bytes at position entry → at < length (longs bytes) → StandsAt bytes at position entry
+stands : (bytes : List ℕ) (at : ℕ) (position : Position) (entry : Entry) → Walks bytes at position entry → at < length (longs bytes) → StandsAt bytes at position entry
 stands bytes at position entry (inl s) l = s
 stands bytes at position entry (inr p) l = absurd (omega (arith, p.beyond, l))
 
@@ -219,7 +219,7 @@ module _ (bytes : List ℕ) (fit : IsBytes bytes) (at : ℕ) (position : Positio
       refuse_same s.progress (get_or (longs bytes) at 0) (reads s.has_read).0
       ∙ ap₂ (λ (e : Entry) (p : Position). refuse (role_at e.longs p) (get_or (longs bytes) at 0)) s.entry_is s.position_is
 
-  pub walk_refused : (reason : Reason) → Some reason ≡ refuse (role_at entry.longs position) (get_or (longs bytes) at 0) → HasFault bytes (4 * at) reason
+  walk_refused : (reason : Reason) → Some reason ≡ refuse (role_at entry.longs position) (get_or (longs bytes) at 0) → HasFault bytes (4 * at) reason
   walk_refused reason e =
       let ws = longs bytes in
       let P : ℕ → Type 0 = λ n. HasFault bytes (4 * n) reason in
@@ -243,7 +243,7 @@ module _ (bytes : List ℕ) (fit : IsBytes bytes) (at : ℕ) (position : Positio
         step_position s.progress (get_or (longs bytes) at 0) (reads s.has_read).0 accepted
         ∙ ap (λ (p : Position). scan.step p (get_or (longs bytes) at 0)) s.position_is
 
-    pub walk_ends : positions.Done ≡ scan.step position (get_or (longs bytes) at 0) → HasLoadText bytes (4 * (at + 1))
+    walk_ends : positions.Done ≡ scan.step position (get_or (longs bytes) at 0) → HasLoadText bytes (4 * (at + 1))
     walk_ends e = go (step_file s.progress (get_or (longs bytes) at 0)) read_on (position_on ∙ sym e)
       where
         text_ends : (v : LoadFileValue) → HasRead (take (at + 1) (longs bytes)) (Finished v) → HasLoadText bytes (4 * (at + 1))
@@ -278,16 +278,46 @@ module _ (bytes : List ℕ) (fit : IsBytes bytes) (at : ℕ) (position : Positio
             (y.0, record { progress = q; has_read = h; position_is = e; entry_is = y.1 })
 
     -- The entry of a hunk that opens was read.
-    pub entry_fits : (scan.step position (get_or (longs bytes) at 0) ≡ positions.Done → ⊥) → is_between_hunks (scan.step position (get_or (longs bytes) at 0)) ≡ true → 4 * entry.next + 4 ≤ length bytes
+    entry_fits : (scan.step position (get_or (longs bytes) at 0) ≡ positions.Done → ⊥) → is_between_hunks (scan.step position (get_or (longs bytes) at 0)) ≡ true → 4 * entry.next + 4 ≤ length bytes
     entry_fits more between = omega (arith, (walk_on more).0 between, l, length-longs bytes)
 
-    pub walk_passes : (scan.step position (get_or (longs bytes) at 0) ≡ positions.Done → ⊥) →
+    walk_passes : (scan.step position (get_or (longs bytes) at 0) ≡ positions.Done → ⊥) →
         (let behind = scan.step position (get_or (longs bytes) at 0) in Walks bytes (at + (1 + run behind)) (scan.pass behind (run behind)) (entry_at (longs bytes) behind entry))
     walk_passes more =
         let behind = scan.step position (get_or (longs bytes) at 0) in
         let place : at + 1 + run behind ≡ at + (1 + run behind) = omega arith in
         let P : ℕ → Type 0 = λ i. Walks bytes i (scan.pass behind (run behind)) (entry_at (longs bytes) behind entry) in
         subst P place (passes_over bytes fit (at + 1) behind (entry_at (longs bytes) behind entry) (walk_on more).1 (omega (arith, l)))
+
+-- ---- the longword at which the walk stands
+
+module _ (bytes : List ℕ) (fit : IsBytes bytes) (at : ℕ) (position : Position) (entry : Entry) (w : Walks bytes at position entry) (l : at < length (longs bytes)) where
+  module _ (word : ℕ) (is : word ≡ get_or (longs bytes) at 0) where
+    same_refusal : refuse (role_at entry.longs position) word ≡ refuse (role_at entry.longs position) (get_or (longs bytes) at 0)
+    same_refusal = ap (λ (x : ℕ). refuse (role_at entry.longs position) x) is
+
+    -- It is refused.
+    pub word_refused : (reason : Reason) → refuse (role_at entry.longs position) word ≡ Some reason → HasFault bytes (4 * at) reason
+    word_refused reason e = walk_refused bytes fit at position entry (stands bytes at position entry w l) l reason (sym e ∙ same_refusal)
+
+    module _ (behind : Position) (steps : behind ≡ scan.step position word) (passes : refuse (role_at entry.longs position) word ≡ None) where
+      here : behind ≡ scan.step position (get_or (longs bytes) at 0)
+      here = steps ∙ ap (λ (x : ℕ). scan.step position x) is
+
+      -- It ends the file.
+      pub word_ends : behind ≡ positions.Done → HasLoadText bytes (4 * (at + 1))
+      word_ends e = walk_ends bytes fit at position entry (stands bytes at position entry w l) l (sym passes ∙ same_refusal) (sym e ∙ here)
+
+      -- A hunk opens behind it, and its entry was read.
+      pub word_opens : (behind ≡ positions.Done → ⊥) → is_between_hunks behind ≡ true → 4 * entry.next + 4 ≤ length bytes
+      word_opens more between =
+          entry_fits bytes fit at position entry (stands bytes at position entry w l) l (sym passes ∙ same_refusal) (λ d. more (here ∙ d)) (ap is_between_hunks (sym here) ∙ between)
+
+      -- The walk goes on behind it and its run.
+      pub word_passes : (behind ≡ positions.Done → ⊥) → Walks bytes (at + (1 + run behind)) (scan.pass behind (run behind)) (entry_at (longs bytes) behind entry)
+      word_passes more =
+          let P : Position → Type 0 = λ p. Walks bytes (at + (1 + run p)) (scan.pass p (run p)) (entry_at (longs bytes) p entry) in
+          subst P (sym here) (walk_passes bytes fit at position entry (stands bytes at position entry w l) l (sym passes ∙ same_refusal) (λ d. more (here ∙ d)))
 
 -- ---- offsets
 

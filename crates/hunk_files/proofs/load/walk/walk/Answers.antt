@@ -10,7 +10,7 @@ use Rattle.hunk_scan.specs.declared.position.Position.{Position}
 use Rattle.hunk_files.specs.Entries.{entry_at}
 use Rattle.hunk_files.specs.Fault.{HasFault}
 use Rattle.hunk_files.specs.declared.load.walk.Entry.{Entry}
-use Rattle.hunk_files.proofs.Walking.{Walks, start_walk, stands, walk_refused, walk_ends, entry_fits, walk_passes, walk_over, walk_truncated}
+use Rattle.hunk_files.proofs.Walking.{Walks, start_walk, word_refused, word_ends, word_opens, word_passes, walk_over, walk_truncated}
 use Rattle.hunk_files.proofs.load.walk.walk.Goals as goal
 
 pub walking-init : goal.walking-init
@@ -20,54 +20,34 @@ pub returns-in-Err : goal.returns-in-Err
 returns-in-Err c =
     let bytes = c.args.bytes.now in
     let w = c.walking in
-    let fit : IsBytes bytes = λ i. omega (arith, c.type_inv.bytes i) in
-    let l : w.at < length (longs bytes) = omega (arith, length-longs bytes) in
-    walk_refused bytes fit w.at w.position w.entry (stands bytes w.at w.position w.entry w.invariant l) l c.in-Err.reason
-    (sym (subst (λ r. IfErr r (λ (reason : Reason). refuse (role_at w.entry.longs w.position) c.word_at-word.result ≡ Some reason)) c.in-Err.is c.step_from.ensures.refusal)
-    ∙ ap (λ (x : ℕ). refuse (role_at w.entry.longs w.position) x) c.word_at-word.ensures)
+    word_refused bytes (λ i. omega (arith, c.type_inv.bytes i)) w.at w.position w.entry w.invariant (omega (arith, length-longs bytes)) c.word_at-word.result c.word_at-word.ensures c.in-Err.reason
+    (subst (λ r. IfErr r (λ (reason : Reason). refuse (role_at w.entry.longs w.position) c.word_at-word.result ≡ Some reason)) c.in-Err.is c.step_from.ensures.refusal)
 
 pub returns-in-Done : goal.returns-in-Done
 returns-in-Done c =
     let bytes = c.args.bytes.now in
     let w = c.walking in
-    let fit : IsBytes bytes = λ i. omega (arith, c.type_inv.bytes i) in
-    let l : w.at < length (longs bytes) = omega (arith, length-longs bytes) in
-    let pass = c.in-Ok.ensures.passes in
-    let there = c.in-Ok.ensures.steps in
-    walk_ends bytes fit w.at w.position w.entry (stands bytes w.at w.position w.entry w.invariant l) l
-    (sym pass ∙ ap (λ (x : ℕ). refuse (role_at w.entry.longs w.position) x) c.word_at-word.ensures)
-    (sym c.in-Done.is ∙ there ∙ ap (λ (x : ℕ). scan.step w.position x) c.word_at-word.ensures)
+    word_ends bytes (λ i. omega (arith, c.type_inv.bytes i)) w.at w.position w.entry w.invariant (omega (arith, length-longs bytes)) c.word_at-word.result c.word_at-word.ensures
+    c.in-Ok.behind c.in-Ok.ensures.steps c.in-Ok.ensures.passes c.in-Done.is
 
 pub open_entry-entry-requires : goal.open_entry-entry-requires
-open_entry-entry-requires c between =
+open_entry-entry-requires c =
     let bytes = c.args.bytes.now in
     let w = c.walking in
-    let fit : IsBytes bytes = λ i. omega (arith, c.type_inv.bytes i) in
-    let l : w.at < length (longs bytes) = omega (arith, length-longs bytes) in
-    let pass = c.in-Ok.ensures.passes in
-    let there = c.in-Ok.ensures.steps in
-    let behind = there ∙ ap (λ (x : ℕ). scan.step w.position x) c.word_at-word.ensures in
-    entry_fits bytes fit w.at w.position w.entry (stands bytes w.at w.position w.entry w.invariant l) l
-    (sym pass ∙ ap (λ (x : ℕ). refuse (role_at w.entry.longs w.position) x) c.word_at-word.ensures)
-    (λ d. c.in_default.not-Done (behind ∙ d))
-    (ap is_between_hunks (sym behind) ∙ between)
+    word_opens bytes (λ i. omega (arith, c.type_inv.bytes i)) w.at w.position w.entry w.invariant (omega (arith, length-longs bytes)) c.word_at-word.result c.word_at-word.ensures
+    c.in-Ok.behind c.in-Ok.ensures.steps c.in-Ok.ensures.passes c.in_default.not-Done
 
 pub walking-preserved : goal.walking-preserved
 walking-preserved c =
     let bytes = c.args.bytes.now in
     let w = c.walking in
     let fit : IsBytes bytes = λ i. omega (arith, c.type_inv.bytes i) in
-    let l : w.at < length (longs bytes) = omega (arith, length-longs bytes) in
-    let pass = c.in-Ok.ensures.passes in
-    let there = c.in-Ok.ensures.steps in
-    let behind = there ∙ ap (λ (x : ℕ). scan.step w.position x) c.word_at-word.ensures in
-    let on = walk_passes bytes fit w.at w.position w.entry (stands bytes w.at w.position w.entry w.invariant l) l
-    (sym pass ∙ ap (λ (x : ℕ). refuse (role_at w.entry.longs w.position) x) c.word_at-word.ensures)
-    (λ d. c.in_default.not-Done (behind ∙ d)) in
-    let P : Position → Type 0 = λ p. Walks bytes (w.at + (1 + run p)) (scan.pass p (run p)) (entry_at (longs bytes) p w.entry) in
+    let on =
+    word_passes bytes fit w.at w.position w.entry w.invariant (omega (arith, length-longs bytes)) c.word_at-word.result c.word_at-word.ensures
+    c.in-Ok.behind c.in-Ok.ensures.steps c.in-Ok.ensures.passes c.in_default.not-Done in
     let Q : ℕ → Type 0 = λ n. Walks bytes (w.at + (1 + n)) (scan.pass c.in-Ok.behind n) (entry_at (longs bytes) c.in-Ok.behind w.entry) in
     let R : Position → Entry → Type 0 = λ p e. Walks bytes (w.at + (1 + c.run-run.result)) p e in
-    let here = subst Q (sym c.run-run.ensures.value) (subst P (sym behind) on) in
+    let here = subst Q (sym c.run-run.ensures.value) on in
     let walked = subst (λ (e : Entry). R c.pass.result e) (sym c.open_entry-entry.ensures)
     (subst (λ (p : Position). R p (entry_at (longs bytes) c.in-Ok.behind w.entry)) (sym c.pass.ensures) here) in
     let entry = c.open_entry-entry.result in
