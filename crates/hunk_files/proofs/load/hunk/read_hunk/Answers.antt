@@ -23,7 +23,7 @@ returns-in_err-block-clause-none c =
     let P : List ℕ → Type 0 = λ rest. BeginsWithNoBlock modes.Load rest in
     let p = err_from_is_err_and c.from_residual.result c.from_residual.ensures.1 in
     rw (p.1, p.2) (λ other. no_hunk bytes c.args.start c.reading.blocks.items c.reading.at c.reading.invariant
-    (subst P (take_rest bytes c.reading.at) (not_there c.reading.at c.in_err-block.field-0.0 c.decode.result c.in_err-block.ensures.fault c.decode.ensures.none other)))
+    (subst P (take_rest bytes c.reading.at) (not_there _ c.in_err-block.field-0.0 c.decode.result c.in_err-block.ensures.fault c.decode.ensures.none other)))
 
 pub out_of_memory-requires : goal.out_of_memory-requires
 out_of_memory-requires c =

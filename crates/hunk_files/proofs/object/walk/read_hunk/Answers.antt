@@ -29,7 +29,7 @@ returns-in_err-block-clause-none c =
     let P : List ℕ → Type 0 = λ rest. BeginsWithNo (MayStand c.reading.has_content) block_text (longs rest) in
     let p = err_from_is_err_and c.from_residual.result c.from_residual.ensures.1 in
     rw (p.1, p.2) (λ other. no_hunk c.args.bytes.now c.reading.blocks.items c.reading.has_content c.reading.at c.reading.invariant
-    (subst P (take_rest c.args.bytes.now c.reading.at) (not_there c.reading.at c.in_err-block.field-0.0 c.read_block.result c.in_err-block.ensures.fault c.read_block.ensures.none other)))
+    (subst P (take_rest c.args.bytes.now c.reading.at) (not_there _ c.in_err-block.field-0.0 c.read_block.result c.in_err-block.ensures.fault c.read_block.ensures.none other)))
 
 pub returns-then-hunk_ends-clause-hunk : goal.returns-then-hunk_ends-clause-hunk
 returns-then-hunk_ends-clause-hunk c =
@@ -89,7 +89,7 @@ returns-in_err-block-clause-fault c =
 pub returns-in_err-block-clause-own_reasons : goal.returns-in_err-block-clause-own_reasons
 returns-in_err-block-clause-own_reasons c =
     let p = err_from_is_err_and c.from_residual.result c.from_residual.ensures.1 in
-    rw (p.1, p.2) (own_reason is_object_refusal c.reading.at c.in_err-block.field-0.0 c.read_block.result c.in_err-block.ensures.fault c.read_block.ensures.own_reasons)
+    rw (p.1, p.2) (own_reason _ is_object_refusal c.in_err-block.field-0.0 c.read_block.result c.in_err-block.ensures.fault c.read_block.ensures.own_reasons)
 
 pub out_of_memory-requires : goal.out_of_memory-requires
 out_of_memory-requires c =

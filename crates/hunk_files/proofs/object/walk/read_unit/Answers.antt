@@ -28,7 +28,7 @@ returns-in_err-blocks-clause-none c =
     let p = err_from_is_err_and c.from_residual-in_err-blocks.result c.from_residual-in_err-blocks.ensures.1 in
     rw (p.1, p.2) (λ other. no_object bytes (longs c.in_ok-name.name) c.reading.hunks.items c.reading.at c.reading.invariant (λ i. omega (arith, c.type_inv.bytes i))
     (subst Q (take_rest bytes c.reading.at) (λ ends. let there = c.ends_unit.ensures.1 ends in let not_there = c.reading-test.true in cc))
-    (subst P (take_rest bytes c.reading.at) (not_there c.reading.at c.in_err-blocks.field-0.0 c.read_hunk.result c.in_err-blocks.ensures.fault c.read_hunk.ensures.none other)))
+    (subst P (take_rest bytes c.reading.at) (not_there _ c.in_err-blocks.field-0.0 c.read_hunk.result c.in_err-blocks.ensures.fault c.read_hunk.ensures.none other)))
 
 pub reading-smaller : goal.reading-smaller
 reading-smaller c =
@@ -72,7 +72,7 @@ returns-in_err-blocks-clause-fault c place may =
 pub returns-in_err-blocks-clause-own_reasons : goal.returns-in_err-blocks-clause-own_reasons
 returns-in_err-blocks-clause-own_reasons c =
     let p = err_from_is_err_and c.from_residual-in_err-blocks.result c.from_residual-in_err-blocks.ensures.1 in
-    rw (p.1, p.2) (own_reason is_object_refusal c.reading.at c.in_err-blocks.field-0.0 c.read_hunk.result c.in_err-blocks.ensures.fault c.read_hunk.ensures.own_reasons)
+    rw (p.1, p.2) (own_reason _ is_object_refusal c.in_err-blocks.field-0.0 c.read_hunk.result c.in_err-blocks.ensures.fault c.read_hunk.ensures.own_reasons)
 
 -- the hunk that was read last
 here : (c : goal.After-drop-hunks-then-is_err) → BeginsWithText (drop c.reading.at c.args.bytes.now) (flat_map block_text c.in_ok-blocks.blocks.items) c.in_ok-blocks.size

@@ -52,7 +52,7 @@ reading-preserved c =
 refused : (c : goal.After-drop-units) → c.in_err-unit.field-0.0.reason ≢ reasons.OutOfMemory → IsNoObjectFile c.args.bytes.now
 refused c other =
     no_more_units c.args.bytes.now c.reading.units.items c.reading.at c.reading.invariant
-    (subst IsNoObjectFile (take_rest c.args.bytes.now c.reading.at) (not_there c.reading.at c.in_err-unit.field-0.0 c.read_unit.result c.in_err-unit.ensures.fault c.read_unit.ensures.none other))
+    (subst IsNoObjectFile (take_rest c.args.bytes.now c.reading.at) (not_there _ c.in_err-unit.field-0.0 c.read_unit.result c.in_err-unit.ensures.fault c.read_unit.ensures.none other))
 
 -- what the unit is refused for, as a fault of the file
 ahead : (c : goal.After-drop-units) → FaultAhead objects (unread c.args.bytes.now) c.in_err-unit.field-0.0
@@ -90,7 +90,7 @@ returns-in_err-unit-clause-hidden c =
 pub returns-in_err-unit-clause-own_reasons : goal.returns-in_err-unit-clause-own_reasons
 returns-in_err-unit-clause-own_reasons c =
     let p = err_from_is_err_and c.from_residual.result c.from_residual.ensures.1 in
-    rw (p.1, p.2) (own_reason is_object_refusal c.reading.at c.in_err-unit.field-0.0 c.read_unit.result c.in_err-unit.ensures.fault c.read_unit.ensures.own_reasons)
+    rw (p.1, p.2) (own_reason _ is_object_refusal c.in_err-unit.field-0.0 c.read_unit.result c.in_err-unit.ensures.fault c.read_unit.ensures.own_reasons)
 
 -- the unit that was read last
 last : (c : goal.After-drop-units-then-is_err) → BeginsWithText (drop c.reading.at c.args.bytes.now) (unit_text c.in_ok-unit.unit) c.in_ok-unit.size
