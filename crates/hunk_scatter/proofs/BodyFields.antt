@@ -1,5 +1,5 @@
 -- What the fields of the loader of a body keep, and what they tell.
-use Rattle.std.proofs.Common.{◌≡◌, ℕ, ◌+◌, ◌-◌, ◌*◌, ◌/◌, ◌^◌, ◌≤◌, ◌<◌, Bool, true, false, List, [], ◌∷◌, ◌++◌, length, map, take, drop, refl, sym, ap, ap₂, subst, ◌∙◌, append_assoc, append-nil, arith, length-append, drop_of_length-le, is_some, Option, ltb, None, Some}
+use Rattle.std.proofs.Common.{◌≡◌, ℕ, ◌+◌, ◌-◌, ◌*◌, ◌/◌, ◌^◌, ◌≤◌, ◌<◌, Bool, true, false, List, [], ◌∷◌, ◌++◌, length, map, take, drop, refl, sym, ap, ap₂, subst, ◌∙◌, append_assoc, append-nil, arith, length-append, drop_of_length-le, is_some, Option, ltb, None, Some, Result, Ok}
 use Rattle.std.specs.List.{AllByRecursion}
 use Rattle.std.specs.Int.{w32, to_be_bytes}
 use Rattle.std.proofs.lemmas.List.{map-append, length-map, take_all, take_at, drop_at}
@@ -36,8 +36,8 @@ use Rattle.hunk_scatter.specs.declared.body_state.BodyState.{BodyState}
 use Rattle.hunk_scatter.specs.LoaderReasons.{is_of_body}
 use Rattle.std.specs.Prelude.{IsTrue}
 use Rattle.hunk_scatter.specs.StoreContent.{HasSizedImage, stored_in, stored_long}
-use Rattle.hunk_scatter.specs.BodyLoaderFields.{StandsBehind, BodyLoaderInvariant}
-use Rattle.hunk_scatter.specs.LoaderValues.{IsWholeFile, IsImageOf, HasNoRefusal, segments_in}
+use Rattle.hunk_scatter.specs.BodyLoaderFields.{StandsBehind, BodyLoaderInvariant, FeedsOrStops}
+use Rattle.hunk_scatter.specs.LoaderValues.{BodyLoaderValue, FeedsFront, IsWholeFile, IsImageOf, HasNoRefusal, segments_in}
 use Rattle.hunk_scatter.specs.BodyReader.{sizes_of, state_of}
 use Rattle.hunk_scatter.specs.BodySteps.{longs_at, refusal, step_body, IsInStore}
 use Rattle.hunk_scatter.specs.Rows.{words_of, bases_of}
@@ -228,6 +228,41 @@ module _ (rows : List Row) (store : List ℕ) (state : BodyState) (pending : Lis
       go : (b : Bool) → is_done state.position ≡ b → is_done state.position ≡ true
       go true done = done
       go false more = absurd (not_whole more w)
+
+-- ---- what is seen of a loader that has refused nothing
+
+module _ (rows : List Row) (store : List ℕ) (state : BodyState) (pending : List ℕ) (count : ℕ) (refused : Option Fault) (fed : List ℕ)
+    (h : BodyLoaderInvariant rows store state pending count refused fed)
+    (self : BodyLoaderValue) (view : ◌≡◌ {A = BodyLoaderValue} (record { fed = fed; rows = rows; refused = refused }) self) (reading : self.refused ≡ None) where
+  pub none_refused : refused ≡ None
+  none_refused = ap (λ (v : BodyLoaderValue). v.refused) view ∙ reading
+
+  pub seen_whole : is_done state.position ≡ true → IsWholeFile self.rows self.fed
+  seen_whole done =
+      subst (λ (v : BodyLoaderValue). IsWholeFile v.rows v.fed) view
+      (whole_file rows store state pending count refused fed h none_refused done)
+
+  pub seen_done : IsWholeFile self.rows self.fed → is_done state.position ≡ true
+  seen_done w =
+      done_if_whole rows store state pending count refused fed h none_refused
+      (subst (λ (v : BodyLoaderValue). IsWholeFile v.rows v.fed) (sym view) w)
+
+  pub seen_not_whole : is_done state.position ≡ false → IsWholeFile self.rows self.fed → ⊥
+  seen_not_whole more w = let clash : true ≡ false = sym (seen_done w) ∙ more in cc
+
+-- So many bytes are taken.
+pub feeds_more : (old new : BodyLoaderValue) (piece : List ℕ) (n : ℕ) → new.rows ≡ old.rows → FeedsFront old.fed piece new.fed n → new.refused ≡ None →
+    (IsWholeFile old.rows old.fed → ◌≡◌ {A = Result ℕ Fault} (Ok n) (Ok 0)) → FeedsOrStops old new piece (Ok n)
+feeds_more old new piece n rows taken goes_on complete = record {
+  feeds = record {
+    rows = rows;
+    taken = taken;
+    goes_on = goes_on;
+    complete = complete;
+  };
+  stops = tt;
+  remembers = tt;
+}
 
 pub none_of : (o : Option Fault) → is_some o ≡ false → o ≡ None
 none_of None e = refl

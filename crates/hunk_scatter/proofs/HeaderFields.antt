@@ -1,5 +1,5 @@
 -- What the fields of the loader of a header keep, and what they tell.
-use Rattle.std.proofs.Common.{◌≡◌, ℕ, ◌+◌, ◌-◌, ◌*◌, ◌/◌, ◌^◌, ◌<◌, ◌≤◌, Bool, true, false, List, [], ◌∷◌, ◌++◌, length, map, refl, sym, ap, subst, ◌∙◌, append_assoc, append-nil, arith, length-append, Option, Some, None, ◌⊎◌, inl, inr, ltb, take, drop, take-append-drop}
+use Rattle.std.proofs.Common.{◌≡◌, ℕ, ◌+◌, ◌-◌, ◌*◌, ◌/◌, ◌^◌, ◌<◌, ◌≤◌, Bool, true, false, List, [], ◌∷◌, ◌++◌, length, map, refl, sym, ap, subst, ◌∙◌, append_assoc, append-nil, arith, length-append, Option, Some, None, Ok, ◌⊎◌, inl, inr, ltb, take, drop, take-append-drop}
 use Rattle.std.specs.Prelude.{IsTrue}
 use Rattle.std.proofs.lemmas.Bool.{ltb-true, ltb-false}
 use Rattle.std.proofs.lemmas.List.{length-map, take_all}
@@ -22,9 +22,9 @@ use Rattle.hunk_scatter.specs.declared.header_state.HeaderState.{HeaderState}
 use Rattle.hunk_scatter.specs.LoaderReasons.{is_of_header}
 use Rattle.hunk_scatter.specs.HeaderBytes.{IsHeaderTable, IsHeader, header_words, header_bytes, entries_so_far}
 use Rattle.hunk_scatter.specs.HeaderFaults.{PassesBudget}
-use Rattle.hunk_scatter.specs.HeaderLoaderFields.{adds, declares, declared_so_far, OpensFirst, StopsFor, HeaderReading, HeaderLoaderInvariant, DeclaredInvariant, HeaderStop}
+use Rattle.hunk_scatter.specs.HeaderLoaderFields.{adds, declares, declared_so_far, OpensFirst, StopsFor, HeaderReading, HeaderLoaderInvariant, DeclaredInvariant, HeaderStop, FeedsHeaderOrStops}
 use Rattle.hunk_scan.specs.Positions.{role_at, step, is_behind_header, least_longs}
-use Rattle.hunk_scatter.specs.LoaderValues.{HasNoRefusal}
+use Rattle.hunk_scatter.specs.LoaderValues.{HeaderLoaderValue, FeedsFront, HasNoRefusal}
 use Rattle.hunk_files.specs.Tables.{row_entry}
 use Rattle.hunk_scatter.specs.Rows.{entries_of, row_of}
 use Rattle.hunk_scatter.proofs.Behind.{no_size_word, table_behind}
@@ -126,6 +126,36 @@ module _ (budget : ℕ) (rows : List Row) (s : HeaderState) (pending fed : List 
         length-append pending more,
         length-longs (pending ++ more),
       )
+
+-- ---- what is seen of a loader that has refused nothing
+
+module _ (budget : ℕ) (rows : List Row) (s : HeaderState) (pending : List ℕ) (count : ℕ) (refused : Option Fault) (fed : List ℕ)
+    (h : HeaderLoaderInvariant budget rows s pending count refused fed)
+    (self : HeaderLoaderValue) (view : ◌≡◌ {A = HeaderLoaderValue} (record { fed = fed; budget = budget; refused = refused }) self) (reading : self.refused ≡ None) where
+  pub heading_unrefused : refused ≡ None
+  heading_unrefused = ap (λ (v : HeaderLoaderValue). v.refused) view ∙ reading
+
+  pub heading_seen_whole : is_behind_header s.position ≡ true → IsHeader self.fed
+  heading_seen_whole done =
+      let t = heading_table budget rows s pending fed (h.reading heading_unrefused) done in
+      subst (λ (v : HeaderLoaderValue). IsHeader v.fed) view (_, t.0, t.1)
+
+  pub heading_seen_not_whole : is_behind_header s.position ≡ false → IsHeader self.fed → ⊥
+  heading_seen_not_whole more w =
+      heading_not_whole budget rows s pending fed (h.reading heading_unrefused) more
+      (subst (λ (v : HeaderLoaderValue). IsHeader v.fed) (sym view) w)
+
+-- Bytes are taken where the header is not whole.
+pub heading_feeds : (old new : HeaderLoaderValue) (piece : List ℕ) (n : ℕ) → new.budget ≡ old.budget → FeedsFront old.fed piece new.fed n → new.refused ≡ None → (IsHeader old.fed → ⊥) →
+    FeedsHeaderOrStops old new piece (Ok n)
+heading_feeds old new piece n budget taken goes_on more = record {
+  budget = budget;
+  taken = taken;
+  goes_on = goes_on;
+  complete = λ w. absurd (more w);
+  stops = tt;
+  remembers = tt;
+}
 
 -- What was consumed of a piece keeps to the budget, and so does the piece.
 pub piece_within : (budget : ℕ) (rows : List Row) (s : HeaderState) (pending fed piece after : List ℕ) (n : ℕ) → HeaderReading budget rows s pending after →

@@ -1,5 +1,6 @@
 pub mod Behind
 pub mod BodyFields
+pub mod Completing
 pub mod DeclaredBytes
 pub mod Faults
 pub mod Feeding
