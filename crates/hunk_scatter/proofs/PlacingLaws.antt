@@ -100,9 +100,13 @@ next_room base old rows i before w size inside unplaced p few v s =
 
 -- ---- bases taken away
 
-pub unplaced_next : (old items : List Row) (i j : ℕ) → i < length old → j ≡ suc i → items ≡ map row_of (entries_of (take i old)) ++ drop i old →
-    set items i (with_base (get_or items i no_row) 0) ≡ map row_of (entries_of (take j old)) ++ drop j old
-unplaced_next old items i j inside f e = ap (λ (xs : List Row). set xs i (with_base (get_or xs i no_row) 0)) e ∙ go old i inside ∙ ap (λ (n : ℕ). map row_of (entries_of (take n old)) ++ drop n old) (sym f)
+pub unplaced_next : (old items : List Row) (i j base : ℕ) → base ≡ 0 → i < length old → j ≡ suc i → items ≡ map row_of (entries_of (take i old)) ++ drop i old →
+    set items i (with_base (get_or items i no_row) base) ≡ map row_of (entries_of (take j old)) ++ drop j old
+unplaced_next old items i j base none inside f e =
+    ap (λ (b : ℕ). set items i (with_base (get_or items i no_row) b)) none
+    ∙ ap (λ (xs : List Row). set xs i (with_base (get_or xs i no_row) 0)) e
+    ∙ go old i inside
+    ∙ ap (λ (n : ℕ). map row_of (entries_of (take n old)) ++ drop n old) (sym f)
   where
     go : (rs : List Row) (n : ℕ) → n < length rs →
         set (map row_of (entries_of (take n rs)) ++ drop n rs) n (with_base (get_or (map row_of (entries_of (take n rs)) ++ drop n rs) n no_row) 0) ≡ map row_of (entries_of (take (suc n) rs)) ++ drop (suc n) rs
