@@ -16,7 +16,8 @@ use Rattle.hunk_scatter.specs.HeaderBytes.{IsHeaderTable, header_bytes, IsHeader
 -- With no size word among the longwords do the declared bytes pass the budget.
 abbrev pub IsWithinBudget : ℕ → List ℕ → Type 0
 IsWithinBudget budget ws =
-    (before after : List ℕ) (word : ℕ) → ws ≡ before ++ word ∷ after → Expects before roles.SizeWord → declared_bytes (entries_so_far before) + 4 * size_longs word ≤ budget
+    (before after : List ℕ) (word : ℕ) → ws ≡ before ++ word ∷ after → Expects before roles.SizeWord
+    → declared_bytes (entries_so_far before) + 4 * size_longs word ≤ budget
 
 -- The longword at the place is the size word with which the declared bytes of a table first pass the budget.
 pub record PassesBudget (budget : ℕ) (bytes : List ℕ) (at : ℕ) : Type 0 where
@@ -29,6 +30,10 @@ pub record PassesBudget (budget : ℕ) (bytes : List ℕ) (at : ℕ) : Type 0 wh
   pub first : IsWithinBudget budget before
   pub passes : budget < declared_bytes (entries_so_far before) + 4 * size_longs word
 
+-- With no longword do the declared bytes pass the budget.
+abbrev pub KeepsToBudget : ℕ → List ℕ → Type 0
+KeepsToBudget budget bytes = (at : ℕ) → PassesBudget budget bytes at → ⊥
+
 -- Budget at the place, or OutOfMemory before it.
 abbrev pub IsOverBudget : ℕ → Fault → Type 0
 IsOverBudget at f = ((f.reason ≡ reasons.Budget) × (f.place ≡ at)) ⊎ ((f.reason ≡ reasons.OutOfMemory) × (f.place < at))
@@ -38,7 +43,8 @@ IsBudgetOrMemory reason = (reason ≡ reasons.Budget) ⊎ (reason ≡ reasons.Ou
 
 -- ---- faults
 
--- The longword at the place completes a row: there is one more with it than before it. A header begins with the bytes, where no header that begins so far ends before them.
+-- The longword at the place completes a row: there is one more with it than before it. A header begins with the bytes,
+-- where no header that begins so far ends before them.
 pub record CompletesRow (bytes : List ℕ) (at : ℕ) : Type 0 where
   pub before : List ℕ
   pub word : ℕ
@@ -46,10 +52,12 @@ pub record CompletesRow (bytes : List ℕ) (at : ℕ) : Type 0 where
   pub split : bytes ≡ bytes_of (before ++ word ∷ []) ++ rest
   pub place : at ≡ 4 * length before
   pub row : length (entries_so_far before) < length (entries_so_far (before ++ word ∷ []))
-  pub begins : ((table : List TableEntry) (more : List ℕ) → IsHeaderTable table → header_bytes table ≡ bytes_of (before ++ word ∷ []) ++ more → length rest ≤ length more)
+  pub begins : ((table : List TableEntry) (more : List ℕ) → IsHeaderTable table
+      → header_bytes table ≡ bytes_of (before ++ word ∷ []) ++ more → length rest ≤ length more)
       → IsHeaderFront bytes
 
--- What the loader of a header answers: Budget where its table passes it, OutOfMemory where memory ran out for a row, else the fault of the bytes.
+-- What the loader of a header answers: Budget where its table passes it, OutOfMemory where memory ran out for a row, else
+-- the fault of the bytes.
 abbrev pub IsHeaderFaultBy : Reason → ℕ → List ℕ → ℕ → Type 0
 IsHeaderFaultBy reasons.Budget budget bytes at = PassesBudget budget bytes at
 IsHeaderFaultBy reasons.OutOfMemory budget bytes at = CompletesRow bytes at

@@ -6,7 +6,7 @@ use Rattle.hunk_files.specs.Fault.{HasRefusal, IsTruncated}
 use Rattle.hunk_files.specs.Image.{declared_bytes}
 use Rattle.hunk_files.specs.LoadFile.{TableEntry}
 use Rattle.hunk_scatter.specs.HeaderBytes.{BeginsWithHeader, header_bytes}
-use Rattle.hunk_scatter.specs.HeaderFaults.{PassesBudget}
+use Rattle.hunk_scatter.specs.HeaderFaults.{PassesBudget, KeepsToBudget}
 use Rattle.hunk_scatter.specs.declared.header_size.HeaderSize.{HeaderSize}
 
 -- The bytes begin with a header of this size, whose table keeps to the budget.
@@ -22,7 +22,10 @@ pub record HasHeaderSize (budget : ℕ) (bytes : List ℕ) (size : HeaderSize) :
 abbrev pub HasHeaderInFront : List ℕ → Type 0
 HasHeaderInFront bytes = (table : List TableEntry) × BeginsWithHeader bytes table
 
--- Why a header is refused: a longword is, or with one the declared bytes first pass the budget, or the bytes end before that.
+-- Why a header is refused: a longword is, or with one the declared bytes first pass the budget, or the bytes end before
+-- that.
 abbrev pub RefusesHeader : ℕ → List ℕ → Fault → Type 0
 RefusesHeader budget bytes f =
-    HasRefusal bytes f.place f.reason ⊎ (((f.reason ≡ reasons.Budget) × PassesBudget budget bytes f.place) ⊎ ((f.reason ≡ reasons.Truncated) × IsTruncated bytes f.place × ((at : ℕ) → PassesBudget budget bytes at → ⊥)))
+    HasRefusal bytes f.place f.reason
+    ⊎ (((f.reason ≡ reasons.Budget) × PassesBudget budget bytes f.place)
+    ⊎ ((f.reason ≡ reasons.Truncated) × IsTruncated bytes f.place × KeepsToBudget budget bytes))

@@ -11,7 +11,7 @@ use Rattle.hunk_files.specs.LoadFile.{TableEntry, LoadFileValue, IsLoadFile}
 use Rattle.hunk_files.specs.LoadText.{table, text}
 use Rattle.hunk_scatter.specs.LoaderReasons.{is_of_header, is_of_body}
 use Rattle.hunk_scatter.specs.HeaderBytes.{IsHeaderTable, header_bytes, IsHeaderFront}
-use Rattle.hunk_scatter.specs.HeaderFaults.{CompletesRow, PassesBudget, IsOverBudget, IsHeaderFault}
+use Rattle.hunk_scatter.specs.HeaderFaults.{CompletesRow, PassesBudget, KeepsToBudget, IsOverBudget, IsHeaderFault}
 use Rattle.hunk_scatter.specs.LoaderValues.{ImageValue, HasNoRefusal}
 use Rattle.hunk_scatter.specs.Placing.{Placing, base_at, AreBases, HasBases, IsFirstUnplaced, IsUnplacedFor}
 use Rattle.hunk_scatter.specs.Rows.{entries_of, bases_of}
@@ -33,16 +33,19 @@ KeepsRest left rest = (front : List ℕ) × (left ≡ Some (front ++ rest))
 
 -- The table declares more than the budget, or a hunk of it has no base.
 abbrev pub IsNotPlaced : Placing → ℕ → List TableEntry → Type 0
-IsNotPlaced base budget table = (budget < declared_bytes table) ⊎ ((hunk : ℕ) × (hunk < length table) × (base_at base table hunk ≡ None))
+IsNotPlaced base budget table =
+    (budget < declared_bytes table) ⊎ ((hunk : ℕ) × (hunk < length table) × (base_at base table hunk ≡ None))
 
 -- Where a load file was in front, all that was behind it is still to be read.
 abbrev pub StopsBehindFile : Option (List ℕ) → Option (List ℕ) → Type 0
-StopsBehindFile old new = (v : LoadFileValue) (rest : List ℕ) → IsLoadFile v → old ≡ Some (bytes_of (text v) ++ rest) → KeepsRest new rest
+StopsBehindFile old new =
+    (v : LoadFileValue) (rest : List ℕ) → IsLoadFile v → old ≡ Some (bytes_of (text v) ++ rest) → KeepsRest new rest
 
 -- Where the header of a table was in front that can't be placed, all that was behind it is.
 abbrev pub StopsBehindHeader : Placing → ℕ → Option (List ℕ) → Option (List ℕ) → Type 0
 StopsBehindHeader base budget old new =
-    (t : List TableEntry) (rest : List ℕ) → IsHeaderTable t → old ≡ Some (header_bytes t ++ rest) → IsNotPlaced base budget t → KeepsRest new rest
+    (t : List TableEntry) (rest : List ℕ) → IsHeaderTable t → old ≡ Some (header_bytes t ++ rest)
+    → IsNotPlaced base budget t → KeepsRest new rest
 
 -- A load file is in front that keeps to the limits, and each of its hunks is given a base.
 pub record HasFileWithin (base : Placing) (limits : Limits) (left : Option (List ℕ)) : Type 0 where
@@ -60,7 +63,8 @@ TellsFailure old new result = old ≡ false → new ≡ true → IsErrAnd result
 
 -- ---- what is loaded
 
--- The image is that of the load file: its table, within the budget, the bases that the placer gave, and each segment as it lies there.
+-- The image is that of the load file: its table, within the budget, the bases that the placer gave, and each segment as it
+-- lies there.
 pub record IsLoaded (base : Placing) (budget : ℕ) (v : LoadFileValue) (placed : ImageValue) : Type 0 where
   pub is_load_file : IsLoadFile v
   pub table_is : table v ≡ entries_of placed.rows
@@ -74,7 +78,7 @@ pub record IsLoaded (base : Placing) (budget : ℕ) (v : LoadFileValue) (placed 
 pub record IsShort (budget : ℕ) (bytes : List ℕ) : Type 0 where
   pub clean : HasNoRefusal bytes
   pub truncated : IsTruncated bytes (4 * (length bytes / 4))
-  pub none_passes : (at : ℕ) → PassesBudget budget bytes at → ⊥
+  pub none_passes : KeepsToBudget budget bytes
 
 -- The bytes are the header of a table that keeps to the budget.
 pub record IsHeaderWithin (budget : ℕ) (bytes : List ℕ) (table : List TableEntry) : Type 0 where
@@ -82,19 +86,26 @@ pub record IsHeaderWithin (budget : ℕ) (bytes : List ℕ) (table : List TableE
   pub header : bytes ≡ header_bytes table
   pub within : declared_bytes table ≤ budget
 
--- Memory ran out for a row, at the longword that completes it, or for the store, behind the header of a table whose hunks all have a base.
+-- Memory ran out for a row, at the longword that completes it, or for the store, behind the header of a table whose hunks
+-- all have a base.
 abbrev pub LacksMemoryAt : Placing → ℕ → List ℕ → ℕ → Type 0
-LacksMemoryAt base budget given at = CompletesRow given at ⊎ ((table : List TableEntry) × IsHeaderWithin budget given table × HasBases base table × (at ≡ length given))
+LacksMemoryAt base budget given at =
+    CompletesRow given at
+    ⊎ ((table : List TableEntry) × IsHeaderWithin budget given table × HasBases base table × (at ≡ length given))
 
 -- The fault of a load, by its reason, where the reader has given these bytes: what is left then, and whether it failed.
 abbrev pub IsLoadFaultBy : Reason → Placing → ℕ → ℕ → Option (List ℕ) → Bool → List ℕ → ℕ → Type 0
 IsLoadFaultBy reasons.Budget base budget limit left failed given at = PassesBudget budget given at
-IsLoadFaultBy reasons.FileLimit base budget limit left failed given at = (at ≡ limit) × (length given ≡ limit) × IsShort budget given
-IsLoadFaultBy reasons.Read base budget limit left failed given at = (at ≡ length given) × (failed ≡ true) × IsShort budget given
-IsLoadFaultBy reasons.Truncated base budget limit left failed given at = IsAtEnd left × IsTruncated given at × IsShort budget given
+IsLoadFaultBy reasons.FileLimit base budget limit left failed given at =
+    (at ≡ limit) × (length given ≡ limit) × IsShort budget given
+IsLoadFaultBy reasons.Read base budget limit left failed given at =
+    (at ≡ length given) × (failed ≡ true) × IsShort budget given
+IsLoadFaultBy reasons.Truncated base budget limit left failed given at =
+    IsAtEnd left × IsTruncated given at × IsShort budget given
 IsLoadFaultBy (reasons.NoBase hunk) base budget limit left failed given at =
     (table : List TableEntry) × IsHeaderWithin budget given table × IsFirstUnplaced base table hunk × (at ≡ length given)
-IsLoadFaultBy reasons.OutOfMemory base budget limit left failed given at = IsHeaderFront given × LacksMemoryAt base budget given at
+IsLoadFaultBy reasons.OutOfMemory base budget limit left failed given at =
+    IsHeaderFront given × LacksMemoryAt base budget given at
 IsLoadFaultBy reason base budget limit left failed given at = HasRefusal given at reason
 
 abbrev pub IsLoadFault : Placing → ℕ → ℕ → Option (List ℕ) → Bool → List ℕ → Fault → Type 0
@@ -104,7 +115,8 @@ IsLoadFault base budget limit left failed given f = IsLoadFaultBy f.reason base 
 
 -- No header is in front of more.
 abbrev pub IsWithinHeader : List ℕ → Type 0
-IsWithinHeader bytes = (table : List TableEntry) (more : List ℕ) → IsHeaderTable table → bytes ≡ header_bytes table ++ more → more ≡ []
+IsWithinHeader bytes =
+    (table : List TableEntry) (more : List ℕ) → IsHeaderTable table → bytes ≡ header_bytes table ++ more → more ≡ []
 
 -- No load text is in front of more.
 abbrev pub IsWithinFile : List ℕ → Type 0
@@ -114,7 +126,8 @@ IsWithinFile bytes = (v : LoadFileValue) (more : List ℕ) → IsLoadFile v → 
 abbrev pub IsReadFault : ℕ → Option (List ℕ) → Bool → ℕ → Fault → Type 0
 IsReadFault limit left failed count f =
     ((f.reason ≡ reasons.FileLimit) × (f.place ≡ limit) × (count ≡ limit))
-    ⊎ (((f.reason ≡ reasons.Read) × (f.place ≡ count) × (failed ≡ true)) ⊎ ((f.reason ≡ reasons.Truncated) × (f.place ≡ 4 * (count / 4)) × IsAtEnd left))
+    ⊎ (((f.reason ≡ reasons.Read) × (f.place ≡ count) × (failed ≡ true))
+    ⊎ ((f.reason ≡ reasons.Truncated) × (f.place ≡ 4 * (count / 4)) × IsAtEnd left))
 
 -- The loader of the header has stopped.
 pub record StopsInHeader (budget : ℕ) (bytes : List ℕ) (f : Fault) : Type 0 where
@@ -136,7 +149,7 @@ pub record StopsShort (limit : ℕ) (left : Option (List ℕ)) (failed : Bool) (
 
 abbrev pub IsHeaderStop : ℕ → ℕ → Option (List ℕ) → Bool → List ℕ → Fault → Type 0
 IsHeaderStop budget limit left failed bytes f =
-    StopsInHeader budget bytes f ⊎ (StopsShort limit left failed bytes f × ((at : ℕ) → PassesBudget budget bytes at → ⊥))
+    StopsInHeader budget bytes f ⊎ (StopsShort limit left failed bytes f × KeepsToBudget budget bytes)
 
 abbrev pub IsBodyStop : ℕ → Option (List ℕ) → Bool → List ℕ → Fault → Type 0
 IsBodyStop limit left failed bytes f = StopsInBody bytes f ⊎ StopsShort limit left failed bytes f
@@ -144,15 +157,21 @@ IsBodyStop limit left failed bytes f = StopsInBody bytes f ⊎ StopsShort limit 
 -- Whichever header is in front of more keeps to the budget, and each of its hunks has a base.
 abbrev pub KeepsToHeader : Placing → ℕ → List ℕ → Type 0
 KeepsToHeader base budget bytes =
-    (table : List TableEntry) (more : List ℕ) → IsHeaderTable table → bytes ≡ header_bytes table ++ more → (more ≡ []) ⊎ ((declared_bytes table ≤ budget) × HasBases base table)
+    (table : List TableEntry) (more : List ℕ) → IsHeaderTable table → bytes ≡ header_bytes table ++ more
+    → (more ≡ []) ⊎ ((declared_bytes table ≤ budget) × HasBases base table)
 
 -- A load stops in the header, between header and body, or in the body.
 pub data LoadStop (base : Placing) (budget limit : ℕ) (left : Option (List ℕ)) (failed : Bool) (given : List ℕ) (f : Fault) : Type 0 where
   InHeader : IsHeaderStop budget limit left failed given f → LoadStop base budget limit left failed given f
-  Between : (table : List TableEntry) → IsHeaderWithin budget given table → IsUnplacedFor base table f.reason → f.place ≡ length given → LoadStop base budget limit left failed given f
-  InBody : (table : List TableEntry) (header more : List ℕ) → IsHeaderWithin budget header table → given ≡ header ++ more → IsBodyStop limit left failed given f → LoadStop base budget limit left failed given f
+  Between : (table : List TableEntry) → IsHeaderWithin budget given table → IsUnplacedFor base table f.reason
+      → f.place ≡ length given → LoadStop base budget limit left failed given f
+  InBody : (table : List TableEntry) (header more : List ℕ) → IsHeaderWithin budget header table
+      → given ≡ header ++ more → IsBodyStop limit left failed given f
+      → LoadStop base budget limit left failed given f
 
 -- What a load comes to.
 abbrev pub LoadEnds : Placing → ℕ → ℕ → Option (List ℕ) → Bool → List ℕ → Result ImageValue Fault → Type 0
 LoadEnds base budget limit left failed given result =
-    MatchResult result (λ placed. (v : LoadFileValue) × IsLoaded base budget v placed × (given ≡ bytes_of (text v))) (λ f. LoadStop base budget limit left failed given f)
+    MatchResult result
+    (λ placed. (v : LoadFileValue) × IsLoaded base budget v placed × (given ≡ bytes_of (text v)))
+    (λ f. LoadStop base budget limit left failed given f)

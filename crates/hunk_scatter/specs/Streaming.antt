@@ -29,7 +29,8 @@ StopsForBody stops.Strange = ⊤
 
 -- Of a piece behind these bytes a first part was taken: behind both a loader stands so, with this store. Or it stops.
 abbrev pub TakesOn : List Row → List ℕ → List ℕ → List ℕ → Result (Standing × ℕ) Stop → Type 0
-TakesOn rows store fed piece result = MatchResult result (λ r. IsFed rows store r.0 (fed ++ take r.1 piece)) (StopsAt (fed ++ piece))
+TakesOn rows store fed piece result =
+    MatchResult result (λ r. IsFed rows store r.0 (fed ++ take r.1 piece)) (StopsAt (fed ++ piece))
 
 -- So many bytes of the piece were taken, one at least, and are counted.
 pub record CountsTaken (at : Standing) (piece : List ℕ) (to : Standing) (n : ℕ) : Type 0 where
@@ -37,12 +38,19 @@ pub record CountsTaken (at : Standing) (piece : List ℕ) (to : Standing) (n : �
   pub inside : n ≤ length piece
   pub counts : to.fed ≡ at.fed + n
 
--- Where the rows are those of a table, its header has so many bytes, and it declares as many as there is room for: behind that header a loader stands so.
+-- Where the rows are those of a table, its header has so many bytes, and it declares as many as there is room for: behind
+-- that header a loader stands so.
 abbrev pub BeginsLoading : List Row → ℕ → ℕ → List ℕ → Standing → Type 0
 BeginsLoading rows header room store s =
-    IsHeaderTable (entries_of rows) → header ≡ length (header_bytes (entries_of rows)) → room ≡ declared_bytes (entries_of rows) → IsFed rows store s (header_bytes (entries_of rows))
+    IsHeaderTable (entries_of rows) → header ≡ length (header_bytes (entries_of rows))
+    → room ≡ declared_bytes (entries_of rows) → IsFed rows store s (header_bytes (entries_of rows))
 
--- Where a loader stands so behind bytes: the file is whole, and the store is its segments; or the bytes are cut short, and none of them is refused.
+-- Where a loader stands so behind bytes: the file is whole, and the store is its segments; or the bytes are cut short, and
+-- none of them is refused.
 abbrev pub EndsLoading : Standing → Bool → Type 0
-EndsLoading s true = (rows : List Row) (store fed : List ℕ) → IsFed rows store s fed → IsImageOf rows fed (segments_in (words_of rows) store)
-EndsLoading s false = (rows : List Row) (store fed : List ℕ) → IsFed rows store s fed → HasNoRefusal fed × IsTruncated fed (4 * (length fed / 4))
+EndsLoading s true =
+    (rows : List Row) (store fed : List ℕ) → IsFed rows store s fed
+    → IsImageOf rows fed (segments_in (words_of rows) store)
+EndsLoading s false =
+    (rows : List Row) (store fed : List ℕ) → IsFed rows store s fed
+    → HasNoRefusal fed × IsTruncated fed (4 * (length fed / 4))

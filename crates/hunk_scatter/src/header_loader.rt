@@ -12,6 +12,7 @@ ghost use Rattle.hunk_scatter.specs.LoaderReasons.{is_of_header};
 ghost use Rattle.hunk_scatter.specs.HeaderBytes.{IsHeaderTable, header_bytes, IsHeader};
 ghost use Rattle.hunk_scatter.specs.HeaderBytes.{MayGoOnInHeader, entries_so_far};
 ghost use Rattle.hunk_scatter.specs.HeaderFaults.{PassesBudget, IsOverBudget, IsBudgetOrMemory};
+ghost use Rattle.hunk_scatter.specs.HeaderFaults.{KeepsToBudget};
 ghost use Rattle.hunk_scatter.specs.HeaderFaults.{IsHeaderFault};
 ghost use Rattle.hunk_scatter.specs.HeaderLoaderFields.{FeedsHeaderOrStops};
 ghost use Rattle.hunk_scatter.specs.HeaderOwing.{HasRowsToCome, HasHeaderToCome};
@@ -136,8 +137,7 @@ impl HeaderLoader {
         ensures clean { self.now.refused ≡ None → HasNoRefusal self.now.fed }
         ensures truncated { self.now.refused ≡ None
             → IsTruncated self.now.fed (4 * (length self.now.fed / 4)) }
-        ensures within { self.now.refused ≡ None → (at : ℕ)
-            → PassesBudget self.now.budget self.now.fed at → ⊥ }
+        ensures within { self.now.refused ≡ None → KeepsToBudget self.now.budget self.now.fed }
     {
         if self.refused.is_some() {
             return 0;
