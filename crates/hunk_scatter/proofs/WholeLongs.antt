@@ -8,6 +8,7 @@ use Rattle.hunk_files.specs.Fault.{HasRefusal}
 use Rattle.hunk_files.specs.Image.{declared_bytes}
 use Rattle.hunk_files.specs.declared.row.Row.{Row}
 use Rattle.hunk_scan.specs.Positions.{is_done, run}
+use Rattle.hunk_scan.specs.declared.position.Position.{Position}
 use Rattle.hunk_scatter.specs.declared.body_state.BodyState.{BodyState}
 use Rattle.hunk_scatter.specs.BodyLoaderFields.{StandsBehind}
 use Rattle.hunk_scatter.specs.BodySteps.{refusal, step_body, pass_body, IsInStore}
@@ -50,9 +51,17 @@ pub read_as : (rows : List Row) (store store2 : List ℕ) (state state2 : BodySt
 read_as rows store store2 state state2 fed e d r =
     subst (λ (xs : List ℕ). StandsBehind rows xs state2 [] fed) (sym e) (subst (λ (s : BodyState). StandsBehind rows store s [] fed) (sym d) r)
 
--- the state by another name
-pub stands_here : (rows : List Row) (store : List ℕ) (state here : BodyState) (fed : List ℕ) → here ≡ state → StandsBehind rows store state [] fed → StandsBehind rows store here [] fed
-stands_here rows store state here fed same r = subst (λ (s : BodyState). StandsBehind rows store s [] fed) (sym same) r
+-- the position by another name
+pub state_at : (state : BodyState) (position : Position) → position ≡ state.position → ◌≡◌ {A = BodyState} (record { hunk = state.hunk; start = state.start; position = position }) state
+state_at state position same = ap (λ (p : Position). record { hunk = state.hunk; start = state.start; position = p }) same
+
+pub read_at : (rows : List Row) (store : List ℕ) (state : BodyState) (position : Position) (fed : List ℕ) → position ≡ state.position → StandsBehind rows store state [] fed →
+    StandsBehind rows store (record { hunk = state.hunk; start = state.start; position = position }) [] fed
+read_at rows store state position fed same r = subst (λ (p : Position). StandsBehind rows store (record { hunk = state.hunk; start = state.start; position = p }) [] fed) (sym same) r
+
+pub room_at : (sizes : List ℕ) (total : ℕ) (state : BodyState) (position : Position) → position ≡ state.position → IsInStore sizes total state →
+    IsInStore sizes total (record { hunk = state.hunk; start = state.start; position = position })
+room_at sizes total state position same i = subst (λ (p : Position). IsInStore sizes total (record { hunk = state.hunk; start = state.start; position = p })) (sym same) i
 
 -- Of the piece this rest is left, and what was fed goes on to its beginning.
 abbrev pub Leaves : (fed piece front rest : List ℕ) → Type 0

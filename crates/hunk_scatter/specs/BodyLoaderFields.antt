@@ -1,5 +1,5 @@
 -- What the fields of the loader of a body keep.
-use Rattle.std.specs.Prelude.{◌≡◌, ℕ, ◌<◌, ◌≤◌, false, List, [], ◌++◌, length, take, Option, None, Some, Result, Ok, IfOk, IfErr, OnOk, IsTrue}
+use Rattle.std.specs.Prelude.{◌≡◌, ℕ, ◌<◌, ◌≤◌, List, [], ◌++◌, length, take, Option, None, Some, Result, Ok, IfOk, IfErr, OnOk, IsTrue}
 use Rattle.hunk_words.specs.Limits.{most_hunks}
 use Rattle.hunk_words.specs.Longs.{bytes_of}
 use Rattle.hunk_words.specs.declared.fault.Fault.{Fault}
@@ -9,7 +9,7 @@ use Rattle.hunk_files.specs.Image.{declared_bytes}
 use Rattle.hunk_files.specs.FileSteps.{Next, More, Finished}
 use Rattle.hunk_files.specs.WordsRead.{HasRead}
 use Rattle.hunk_files.specs.declared.row.Row.{Row}
-use Rattle.hunk_scan.specs.Positions.{is_done}
+use Rattle.hunk_scan.specs.declared.position.Position.{Position}
 use Rattle.hunk_scatter.specs.declared.body_state.BodyState.{BodyState}
 use Rattle.hunk_scatter.specs.LoaderReasons.{is_of_body}
 use Rattle.hunk_scatter.specs.StoreContent.{StoreHolds}
@@ -55,11 +55,10 @@ ReadsOn rows store state bytes after behind = (fed : List ℕ) → StandsBehind 
 abbrev pub RefusesFirstLong : List Row → List ℕ → BodyState → List ℕ → Reason → Type 0
 RefusesFirstLong rows store state piece reason = (fed : List ℕ) → StandsBehind rows store state [] fed → HasRefusal (fed ++ piece) (length fed) reason
 
--- The state is this one, of a hunk whose segment lies in the store; a longword is to come, and one lies whole in the piece.
-pub record ReadyAt (rows : List Row) (store : List ℕ) (state here : BodyState) (piece : List ℕ) : Type 0 where
-  pub here_is : here ≡ state
-  pub in_store : IsInStore (words_of rows) (length store) here
-  pub goes_on : is_done here.position ≡ false
+-- The state is at this position, its segment lies in the store, and a longword lies whole in the piece.
+pub record ReadyAt (rows : List Row) (store : List ℕ) (state : BodyState) (position : Position) (piece : List ℕ) : Type 0 where
+  pub position_is : position ≡ state.position
+  pub in_store : IsInStore (words_of rows) (length store) state
   pub whole_long : 4 ≤ length piece
 
 -- So many bytes of the piece were taken, one at least, and are read.

@@ -2,12 +2,11 @@
 ghost use Rattle.std.specs.Prelude.{◌≡◌, ◌+◌, ◌*◌, ◌<◌, ◌^◌, length, ℕ};
 ghost use Rattle.hunk_words.specs.Limits.{content_limit};
 ghost use Rattle.hunk_scan.specs.Positions.{open_next};
-ghost use Rattle.hunk_scan.specs.declared.position.Position.TheVariants as positions;
 ghost use Rattle.hunk_scatter.specs.BodySteps.{step_body, refusal, longs_at, IsInStore};
 ghost use Rattle.hunk_scatter.specs.Rows.{words_of};
 
 use hunk_files::Row;
-use hunk_scan::{OpenHunk, Phase, Position};
+use hunk_scan::Position;
 use hunk_words::Reason;
 
 /// The position, the open hunk, and the byte of the store where its segment begins.
@@ -41,17 +40,6 @@ impl BodyState {
             start: 0,
             position: Position::behind_table(hunks),
         }
-    }
-
-    /// The state, which is at this phase of this hunk, with both as the caller has them: where it
-    /// has the phase written out, what is done with the answer is compiled for that phase alone.
-    #[inline(always)]
-    pub(crate) fn at(&self, hunk: OpenHunk, phase: Phase) -> BodyState
-        requires { positions.Body hunk phase ≡ self.now.position }
-        ensures { result ≡ self.now }
-    {
-        let position = Position::Body(hunk, phase);
-        BodyState { position, ..*self }
     }
 
     /// Why the next longword is rejected; `None` where it is not.

@@ -7,9 +7,8 @@ ghost use Rattle.hunk_files.specs.Image.{declared_bytes};
 ghost use Rattle.hunk_scan.specs.Positions.{is_done};
 ghost use Rattle.hunk_scan.specs.declared.position.Position.TheVariants as positions;
 ghost use Rattle.hunk_scatter.specs.BodyLoaderFields.{ReadyAt, StandsBehind, TakesOrRefuses};
-ghost use Rattle.hunk_scatter.specs.BodySteps.{IsInStore};
 ghost use Rattle.hunk_scatter.specs.LoaderReasons.{is_of_body};
-ghost use Rattle.hunk_scatter.specs.Rows.{entries_of, words_of};
+ghost use Rattle.hunk_scatter.specs.Rows.{entries_of};
 
 use crate::body_state::BodyState;
 use crate::store::{run_bytes, take_offsets, take_run, take_word};
@@ -28,7 +27,9 @@ fn take_one(
     word: u32,
     piece: &[u8],
 ) -> Result<usize, Reason>
-    requires ready { ReadyAt rows.now store.old state.old here piece.now }
+    requires same { here ≡ record state.old { position = here.position } }
+    requires ready { ReadyAt rows.now store.old state.old here.position piece.now }
+    requires goes_on { is_done here.position ≡ false }
     requires first_long { word ≡ slice_index (longs piece.now) 0 }
     ensures { TakesOrRefuses rows.now store.old state.old piece.now store.new state.new result }
 {
@@ -47,12 +48,15 @@ fn take_block_word(
     store: &mut [u8],
     rows: &[Row],
     state: &mut BodyState,
-    here: BodyState,
+    hunk: OpenHunk,
+    phase: Phase,
     piece: &[u8],
 ) -> Result<usize, Reason>
-    requires ready { ReadyAt rows.now store.old state.old here piece.now }
+    requires { ReadyAt rows.now store.old state.old (positions.Body hunk phase) piece.now }
     ensures { TakesOrRefuses rows.now store.old state.old piece.now store.new state.new result }
 {
+    let position = Position::Body(hunk, phase);
+    let here = BodyState { position, ..*state };
     let word = word_at(piece, 0);
     macro_rules! one {
         () => {
@@ -73,21 +77,24 @@ fn take_block_word(
 }
 
 /// Takes longwords from the front of the piece, and gives their number of bytes: those of a run, or
-/// of a list of offsets, at once, and else one. The state stands here; where the caller has the
-/// phase written out, nothing is compiled of what it does at others.
+/// of a list of offsets, at once, and else one. The state stands at this phase of this hunk; where
+/// the caller knows the phase, nothing is compiled of what it does at others.
 #[inline(always)]
 fn take_at(
     store: &mut [u8],
     rows: &[Row],
     state: &mut BodyState,
-    here: BodyState,
+    hunk: OpenHunk,
+    phase: Phase,
     piece: &[u8],
 ) -> Result<usize, Reason>
-    requires ready { ReadyAt rows.now store.old state.old here piece.now }
+    requires { ReadyAt rows.now store.old state.old (positions.Body hunk phase) piece.now }
     ensures { TakesOrRefuses rows.now store.old state.old piece.now store.new state.new result }
 {
-    if here.position.run() > 0 {
-        let count = run_bytes(here.position, piece.len());
+    let position = Position::Body(hunk, phase);
+    let here = BodyState { position, ..*state };
+    if position.run() > 0 {
+        let count = run_bytes(position, piece.len());
         *state = take_run(store, rows, here, &piece[..count]);
         return Ok(count);
     }
@@ -116,21 +123,17 @@ pub(crate) fn take_front(
     phase: Phase,
     piece: &[u8],
 ) -> Result<usize, Reason>
-    requires in_store { IsInStore (words_of rows.now) (length store.old) state.old }
-    requires here { positions.Body hunk phase ≡ state.old.position }
-    requires whole_long { 4 ≤ length piece.now }
+    requires { ReadyAt rows.now store.old state.old (positions.Body hunk phase) piece.now }
     ensures { TakesOrRefuses rows.now store.old state.old piece.now store.new state.new result }
 {
     macro_rules! at {
-        ($phase:expr) => {{
-            let here = state.at(hunk, $phase);
-            take_at(store, rows, state, here, piece)
-        }};
+        ($phase:expr) => {
+            take_at(store, rows, state, hunk, $phase, piece)
+        };
     }
     match phase {
         Phase::FirstBlock | Phase::BlockWord => {
-            let here = state.at(hunk, phase);
-            take_block_word(store, rows, state, here, piece)
+            take_block_word(store, rows, state, hunk, phase, piece)
         }
         Phase::NameCount => at!(Phase::NameCount),
         Phase::LongCount => at!(Phase::LongCount),

@@ -1,11 +1,17 @@
-use Rattle.std.proofs.Common.{◌≡◌, ℕ, ◌∙◌, List, [], true, false, ap, refl, subst, sym}
+use Rattle.std.proofs.Common.{rules, ◌≡◌, ℕ, ◌∙◌, List, [], true, false, ap, refl, subst, sym}
 use Rattle.hunk_scan.specs.Positions.{is_done}
 use Rattle.hunk_scatter.specs.BodyLoaderFields.{StandsBehind}
 use Rattle.hunk_scatter.proofs.WholeLongs.{in_store, leaves_rest, refused_behind}
 use Rattle.hunk_scatter.proofs.longwords.take_longwords.Goals as goal
 
-pub take_front-requires-clause-in_store : goal.take_front-requires-clause-in_store
-take_front-requires-clause-in_store c = let i = c.longwords.invariant in in_store _ _ _ _ i.reading (ap is_done c.in-Body.is) (i.size ∙ c.requires.size)
+pub take_front-requires : goal.take_front-requires
+take_front-requires c =
+    let i = c.longwords.invariant in
+    record {
+      position_is = sym c.in-Body.is;
+      in_store = in_store _ _ _ _ i.reading (ap is_done c.in-Body.is) (i.size ∙ c.requires.size);
+      whole_long = search rules;
+    }
 
 pub longwords-preserved : goal.longwords-preserved
 longwords-preserved c =

@@ -1,7 +1,16 @@
-use Rattle.std.proofs.Common.{arith}
+use Rattle.std.proofs.Common.{[], length, sym, subst, arith, ◌∙◌}
 use Rattle.std.proofs.lemmas.Result.{err_from_is_err_and}
-use Rattle.hunk_scatter.proofs.WholeLongs.{stands_here, word_taken, word_refused, read_as}
+use Rattle.hunk_scatter.specs.BodySteps.{IsInStore}
+use Rattle.hunk_scatter.specs.Rows.{words_of}
+use Rattle.hunk_scatter.specs.declared.body_state.BodyState.{BodyState}
+use Rattle.hunk_scatter.specs.BodyLoaderFields.{StandsBehind}
+use Rattle.hunk_scatter.proofs.WholeLongs.{state_at, word_taken, word_refused, read_as}
 use Rattle.hunk_scatter.proofs.longwords.take_one.Goals as goal
+
+pub take_word-requires : goal.take_word-requires
+take_word-requires c =
+    subst (λ (s : BodyState). IsInStore (words_of c.args.rows.now) (length c.args.store.now) s)
+    (sym (c.requires.same ∙ state_at c.args.state.now c.args.here.position c.requires.ready.position_is)) c.requires.ready.in_store
 
 pub returns : goal.returns
 returns c = record {
@@ -10,8 +19,8 @@ returns c = record {
     inside = c.requires.ready.whole_long;
     reads =
         λ fed r.
-        let here = stands_here _ _ _ _ _ c.requires.ready.here_is r in
-        let taken = word_taken _ _ _ _ here c.requires.ready.goes_on c.args.piece.now (λ k. omega (arith, c.type_inv.piece k)) c.requires.ready.whole_long c.args.word c.in_ok-next.ensures.long c.requires.first_long c.in_ok-next.ensures.passes in
+        let here = subst (λ (s : BodyState). StandsBehind c.args.rows.now c.args.store.now s [] fed) (sym (c.requires.same ∙ state_at c.args.state.now c.args.here.position c.requires.ready.position_is)) r in
+        let taken = word_taken _ _ _ _ here c.requires.goes_on c.args.piece.now (λ k. omega (arith, c.type_inv.piece k)) c.requires.ready.whole_long c.args.word c.in_ok-next.ensures.long c.requires.first_long c.in_ok-next.ensures.passes in
         read_as _ _ _ _ _ _ c.in_ok-next.ensures.stores c.in_ok-next.ensures.steps taken;
   };
   refuses = tt;
@@ -25,8 +34,8 @@ returns-in_err-next c =
       refuses = record {
         refuses =
             λ fed r.
-            let here = stands_here _ _ _ _ _ c.requires.ready.here_is r in
-            word_refused _ _ _ _ here c.requires.ready.goes_on c.args.piece.now (λ k. omega (arith, c.type_inv.piece k)) c.requires.ready.whole_long c.args.word c.in_err-next.ensures.long c.requires.first_long c.in_err-next.field-0.0 c.in_err-next.ensures.refusal;
+            let here = subst (λ (s : BodyState). StandsBehind c.args.rows.now c.args.store.now s [] fed) (sym (c.requires.same ∙ state_at c.args.state.now c.args.here.position c.requires.ready.position_is)) r in
+            word_refused _ _ _ _ here c.requires.goes_on c.args.piece.now (λ k. omega (arith, c.type_inv.piece k)) c.requires.ready.whole_long c.args.word c.in_err-next.ensures.long c.requires.first_long c.in_err-next.field-0.0 c.in_err-next.ensures.refusal;
         own = c.in_err-next.ensures.own_reasons;
       };
     })
