@@ -25,7 +25,8 @@ abbrev pub EndsWhole : Next → List ℕ → Type 0
 EndsWhole (More p) pending = Unit {0}
 EndsWhole (Finished v) pending = pending ≡ []
 
--- A loader stands behind these bytes: longwords were read and bytes are pending; the numbers and the store are those of what was read.
+-- A loader stands behind these bytes: longwords were read and bytes are pending; the numbers and the store are those of
+-- what was read.
 pub record StandsBehind (rows : List Row) (store : List ℕ) (state : BodyState) (pending fed : List ℕ) : Type 0 where
   pub ws : List ℕ
   pub next : Next
@@ -49,11 +50,13 @@ pub record BodyLoaderInvariant (rows : List Row) (store : List ℕ) (state : Bod
 
 -- Where a loader stands behind bytes, with its store, it stands then behind these bytes as well.
 abbrev pub ReadsOn : List Row → List ℕ → BodyState → List ℕ → List ℕ → BodyState → Type 0
-ReadsOn rows store state bytes after behind = (fed : List ℕ) → StandsBehind rows store state [] fed → StandsBehind rows after behind [] (fed ++ bytes)
+ReadsOn rows store state bytes after behind =
+    (fed : List ℕ) → StandsBehind rows store state [] fed → StandsBehind rows after behind [] (fed ++ bytes)
 
 -- Where a loader stands behind bytes, the longword is refused that the piece begins with.
 abbrev pub RefusesFirstLong : List Row → List ℕ → BodyState → List ℕ → Reason → Type 0
-RefusesFirstLong rows store state piece reason = (fed : List ℕ) → StandsBehind rows store state [] fed → HasRefusal (fed ++ piece) (length fed) reason
+RefusesFirstLong rows store state piece reason =
+    (fed : List ℕ) → StandsBehind rows store state [] fed → HasRefusal (fed ++ piece) (length fed) reason
 
 -- The state is at this position, its segment lies in the store, and a longword lies whole in the piece.
 pub record ReadyAt (rows : List Row) (store : List ℕ) (state : BodyState) (position : Position) (piece : List ℕ) : Type 0 where
@@ -79,7 +82,8 @@ pub record TakesOrRefuses (rows : List Row) (store : List ℕ) (state : BodyStat
 
 -- ---- a piece
 
--- What the feeding of a piece keeps to, whether it is taken or refused: a front of it is fed, and none where the file is whole.
+-- What the feeding of a piece keeps to, whether it is taken or refused: a front of it is fed, and none where the file is
+-- whole.
 pub record FeedsPiece {E : Type 0} (old new : BodyLoaderValue) (piece : List ℕ) (result : Result ℕ E) : Type 0 where
   pub rows : new.rows ≡ old.rows
   pub taken : IfOk result (FeedsFront old.fed piece new.fed)

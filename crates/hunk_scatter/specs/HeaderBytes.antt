@@ -51,7 +51,8 @@ abbrev pub entries_in : List ℕ → List TableEntry
 entries_in [] = []
 entries_in (w ∷ []) = if has_both_bits w then [] else record { word = w; extra = 0 } ∷ []
 entries_in (w ∷ x ∷ rest) =
-    if has_both_bits w then record { word = w; extra = x } ∷ entries_in rest else record { word = w; extra = 0 } ∷ entries_in (x ∷ rest)
+    if has_both_bits w then record { word = w; extra = x } ∷ entries_in rest
+    else record { word = w; extra = 0 } ∷ entries_in (x ∷ rest)
 
 -- the entries that are whole in the longwords of a header, of which five stand before the table
 abbrev pub entries_so_far : List ℕ → List TableEntry

@@ -125,7 +125,8 @@ pub record HeaderStop (budget : ℕ) (bytes : List ℕ) (f : Fault) : Type 0 whe
 
 -- The loader is stopped at a longword of what was fed and the piece, one that ends in the piece.
 abbrev pub StopsInPiece : ℕ → List ℕ → List ℕ → Fault → Type 0
-StopsInPiece budget fed piece f = (front rest : List ℕ) × (fed ++ piece ≡ front ++ rest) × (length fed < length front) × HeaderStop budget front f
+StopsInPiece budget fed piece f =
+    (front rest : List ℕ) × (fed ++ piece ≡ front ++ rest) × (length fed < length front) × HeaderStop budget front f
 
 -- ---- a piece
 

@@ -15,5 +15,6 @@ HasRowsToCome fed p = p + length fed % 4 ≡ 4 * rows_owed (longs fed)
 -- So many bytes are to come, where each header that begins with the longwords fed has so many longwords more at least.
 pub record HasHeaderToCome (fed : List ℕ) (p : ℕ) : Type 0 where
   pub owed : ℕ
-  pub least : (table : List TableEntry) (more : List ℕ) → IsHeaderTable table → header_words table ≡ longs fed ++ more → owed ≤ length more
+  pub least : (table : List TableEntry) (more : List ℕ) → IsHeaderTable table
+      → header_words table ≡ longs fed ++ more → owed ≤ length more
   pub count : p + length fed % 4 ≡ 4 * owed

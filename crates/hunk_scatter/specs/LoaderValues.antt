@@ -81,4 +81,5 @@ pub record IsImageOf (rows : List Row) (bytes : List ℕ) (segments : List (List
 -- The rows and segments before a step from the front, the first of them, and those after it. After the last there is none.
 abbrev pub GivesSegment : ImageValue → Option (Row × Bor (List ℕ)) → ImageValue → Type 0
 GivesSegment before first after =
-    MatchOption first ((before.rows ≡ []) × (before.segments ≡ []) × (after ≡ before)) (λ x. (before.rows ≡ x.0 ∷ after.rows) × (before.segments ≡ x.1.now ∷ after.segments))
+    MatchOption first ((before.rows ≡ []) × (before.segments ≡ []) × (after ≡ before))
+    (λ x. (before.rows ≡ x.0 ∷ after.rows) × (before.segments ≡ x.1.now ∷ after.segments))

@@ -23,7 +23,8 @@ abbrev pub run_of : List (Role × ℕ) → ℕ
 run_of [] = 0
 run_of (l ∷ ls) = if is_in_run l.0 then suc (run_of ls) else 0
 
--- A load text begins with the bytes, and so many bytes of a content, a name, a payload or a list of offsets are to come in it.
+-- A load text begins with the bytes, and so many bytes of a content, a name, a payload or a list of offsets are to come
+-- in it.
 pub record HasToCome (fed : List ℕ) (p : ℕ) : Type 0 where
   pub value : LoadFileValue
   pub is_load_file : IsLoadFile value

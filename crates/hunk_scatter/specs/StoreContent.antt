@@ -26,7 +26,8 @@ HasSizedImage bases h = length (image bases h) ≡ 4 * size_longs h.entry.word
 pub record Holds (bases : List ℕ) (o : HunkSoFar) (n : BlockNext) (store : List ℕ) : Type 0 where
   pub front : AllByRecursion (HasSizedImage bases) o.finished
   pub segment : length (segment_so_far bases o n) ≡ 4 * size_longs o.entry.word
-  pub unplaced : o.has_content ≡ false → (flat_map (λ b. block_content b.body) o.blocks ≡ []) × (flat_map (λ b. block_relocations b.body) o.blocks ≡ [])
+  pub unplaced : o.has_content ≡ false
+      → (flat_map (λ b. block_content b.body) o.blocks ≡ []) × (flat_map (λ b. block_relocations b.body) o.blocks ≡ [])
   pub store_is : store ≡ images bases o.finished ++ (segment_so_far bases o n ++ zeros o.ahead)
 
 abbrev pub StoreHolds : List ℕ → Next → List ℕ → Type 0
@@ -41,8 +42,10 @@ put_at bytes offset four = take offset bytes ++ four ++ drop (offset + 4) bytes
 
 -- What the loader does to its store at a longword.
 abbrev pub stored_in : List ℕ → ℕ → Position → ℕ → List ℕ → List ℕ
-stored_in bases start (positions.Body o (phases.Content longs owed)) w store = put_at store (start + 4 * (longs - owed - 1)) (to_be_bytes w32 w)
-stored_in bases start (positions.Body o (phases.Offset target owed)) w store = add_at store (start + w) (get_or bases target 0)
+stored_in bases start (positions.Body o (phases.Content longs owed)) w store =
+    put_at store (start + 4 * (longs - owed - 1)) (to_be_bytes w32 w)
+stored_in bases start (positions.Body o (phases.Offset target owed)) w store =
+    add_at store (start + w) (get_or bases target 0)
 stored_in bases start _ w store = store
 
 abbrev pub stored_long : List ℕ → BodyState → ℕ → List ℕ → List ℕ
@@ -54,7 +57,8 @@ put_slice bytes offset part = take offset bytes ++ part ++ drop (offset + length
 
 -- What the loader does to its store at the bytes of longwords of a run: those of a content go to where it goes on.
 abbrev pub stored_run_in : ℕ → Position → List ℕ → List ℕ → List ℕ
-stored_run_in start (positions.Body o (phases.Content longs owed)) bytes store = put_slice store (start + 4 * (longs - owed - 1)) bytes
+stored_run_in start (positions.Body o (phases.Content longs owed)) bytes store =
+    put_slice store (start + 4 * (longs - owed - 1)) bytes
 stored_run_in start _ bytes store = store
 
 abbrev pub stored_run : BodyState → List ℕ → List ℕ → List ℕ
@@ -74,4 +78,5 @@ TakesOffsetsAt sizes bases hunk start (positions.Body o (phases.Offset target ow
 TakesOffsetsAt sizes bases hunk start _ ws store state2 store2 = ⊥
 
 abbrev pub TakesOffsets : List ℕ → List ℕ → BodyState → List ℕ → List ℕ → BodyState → List ℕ → Type 0
-TakesOffsets sizes bases s ws store state2 store2 = TakesOffsetsAt sizes bases s.hunk s.start s.position ws store state2 store2
+TakesOffsets sizes bases s ws store state2 store2 =
+    TakesOffsetsAt sizes bases s.hunk s.start s.position ws store state2 store2

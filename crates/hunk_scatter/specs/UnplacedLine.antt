@@ -5,4 +5,5 @@ use Rattle.hunk_scatter.specs.HeaderBytes.{header_bytes}
 use Rattle.hunk_scatter.specs.declared.declared.Unplaced.{Unplaced}
 
 abbrev pub unplaced_line : Unplaced → List ℕ
-unplaced_line unplaced = refusal_line (record { place = length (header_bytes unplaced.declared.table); reason = unplaced.reason })
+unplaced_line unplaced =
+    refusal_line (record { place = length (header_bytes unplaced.declared.table); reason = unplaced.reason })
