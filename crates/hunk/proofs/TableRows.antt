@@ -24,7 +24,7 @@ entry_at (e ∷ t) (suc i) inside =
     let k = entry_at t i (omega arith) in
     record { entry = k.entry; is = k.is; behind = k.behind; fits = λ all. k.fits all.1 }
 
--- So many rows were read, and the next stands at this longword.
+-- This many rows were read, and the next stands at this longword.
 abbrev pub StandsAt : (bytes : List ℕ) (t : List TableEntry) → BeginsWithHeader bytes t → ℕ → ℕ → Type 0
 StandsAt bytes t h i at = drop at (longs bytes) ≡ entries_words (drop i t) ++ longs h.rest
 

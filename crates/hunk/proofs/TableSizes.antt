@@ -54,7 +54,7 @@ header_length rows =
 abbrev IsEntry : Row → Type 0
 IsEntry r = IsTableEntry (row_entry r)
 
--- So many rows are entries, and come to so many bytes in a header and so many that they declare.
+-- This many rows are entries, and come to this many bytes in a header and this many that they declare.
 pub record AreSummed (rows : List Row) (i header bytes : ℕ) : Type 0 where
   pub each : All IsEntry (take i rows)
   pub header_is : header ≡ 20 + sum_by row_bytes (take i rows)

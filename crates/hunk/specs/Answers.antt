@@ -19,7 +19,7 @@ refused f = record { number = number_of f.reason; hunk = refused_hunk f.reason; 
 abbrev pub no_room_number : ℕ
 no_room_number = 32
 
--- the answer where it needs so many
+-- the answer where it needs this many
 abbrev pub no_room : ℕ → ℕ → ℕ → Answer
 no_room hunks place count = record { number = no_room_number; hunk = hunks; place = place; count = count }
 

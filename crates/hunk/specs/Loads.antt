@@ -51,7 +51,7 @@ pub record IsLoadedInto (base : Placing) (bytes old new : List ℕ) (answer : An
 abbrev pub FitsAndHasBases : Placing → ℕ → List ℕ → Type 0
 FitsAndHasBases base room bytes = (t : List TableEntry) → BeginsWithHeader bytes t → HavePlaces base room t
 
--- Why a file is not loaded into memory of so many bytes.
+-- Why a file is not loaded into memory of this many bytes.
 pub data IsNotLoaded (base : Placing) (room : ℕ) (bytes : List ℕ) (answer : Answer) : Type 0 where
   HasNoFile : (f : Fault) → HasFault bytes f.place f.reason → FitsAndHasBases base room bytes
       → answer ≡ refused f → IsNotLoaded base room bytes answer

@@ -82,7 +82,7 @@ pub record Stands (rows : List Row) (l : Loader) (memory fed : List ℕ) : Type 
 
 -- ---- the begin
 
--- The entries are a table, its header has so many bytes, and it declares so many.
+-- The entries are a table, its header has this many bytes, and it declares this many.
 pub record HasSizes (table : List TableEntry) (header bytes : ℕ) : Type 0 where
   pub is_table : IsHeaderTable table
   pub header_is : header ≡ length (header_bytes table)
@@ -111,7 +111,7 @@ no_loader = record {
 
 -- What the begin of a stream comes to: the loader stands behind the header of the rows' table, and the memory is zero;
 -- or the memory is too small for what that declares;
--- or it is too large, or the rows are not those of a table whose header has so many bytes.
+-- or it is too large, or the rows are not those of a table whose header has this many bytes.
 pub data Begins (rows : List Row) (header : ℕ) (new : Loader) (memory after : List ℕ) (answer : Answer) : Type 0 where
   HasBegun : HasSizes (entries_of rows) header (length memory)
       → Stands rows new after (header_bytes (entries_of rows)) → after ≡ replicate (length memory) 0
@@ -152,7 +152,7 @@ pub data TellsAgain (l : Loader) (answer : Answer) : Type 0 where
 
 -- ---- a piece
 
--- Whatever bytes were fed before, so many of the piece are fed then.
+-- Whatever bytes were fed before, this many of the piece are fed then.
 abbrev pub TakesPiece : List Row → Loader → Loader → List ℕ → List ℕ → List ℕ → ℕ → Type 0
 TakesPiece rows old new memory after piece count =
     (fed : List ℕ) → Stands rows old memory fed → length fed + length piece < 2 ^ 64 → Stands rows new after (fed ++ take count piece)
@@ -194,7 +194,7 @@ pub record IsStreamed (rows : List Row) (memory fed : List ℕ) (answer : Answer
 abbrev pub EndsWholly : Loader → Answer → Type 0
 EndsWholly l answer = (rows : List Row) (memory fed : List ℕ) → Stands rows l memory fed → IsStreamed rows memory fed answer
 
--- The bytes end at so many inside the file, whatever rows, memory and bytes the loader was given.
+-- The bytes end at this many inside the file, whatever rows, memory and bytes the loader was given.
 abbrev pub EndsInside : Loader → ℕ → Type 0
 EndsInside l at = (rows : List Row) (memory fed : List ℕ) → Stands rows l memory fed → HasFault fed at reasons.Truncated
 

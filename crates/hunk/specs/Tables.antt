@@ -15,7 +15,7 @@ use Rattle.hunk_scatter.specs.HeaderSizes.{RefusesHeader}
 abbrev pub table_row : TableEntry → TableRow
 table_row e = record { word = e.word; extra = e.extra; bytes = 4 * size_longs e.word; memory = memory_bits e.word }
 
--- The bytes begin with a header of so many hunks.
+-- The bytes begin with a header of this many hunks.
 abbrev pub BeginsWithTableOf : ℕ → List ℕ → Type 0
 BeginsWithTableOf hunks bytes = (t : List TableEntry) × BeginsWithHeader bytes t × (length t ≡ hunks)
 

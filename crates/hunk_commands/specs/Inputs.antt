@@ -20,7 +20,7 @@ pub record HasFile (a : Option (List ℕ)) (most : ℕ) : Type 0 where
   pub few : length input < most
   pub is_file : AreFile input
 
--- it gave so many bytes
+-- it gave this many bytes
 abbrev pub Gave : Option (List ℕ) → Option (List ℕ) → ℕ → Type 0
 Gave a b count = (bytes : List ℕ) × Consumes a b bytes × (length bytes ≡ count)
 
@@ -32,11 +32,11 @@ ReadsInVain faults.Memory a b most failed = ⊤
 ReadsInVain (faults.Write written) a b most failed = ⊥
 ReadsInVain faults.HexText a b most failed = ⊥
 
--- a fault of the limit is at that number, and so many bytes were given
+-- a fault of the limit is at that number, and this many bytes were given
 abbrev pub StopsAtLimit : Option (List ℕ) → Option (List ℕ) → ℕ → RunFault → Type 0
 StopsAtLimit a b most fault = (place : ℕ) → fault ≡ faults.Refused (record { place = place; reason = reasons.FileLimit }) → (place ≡ most) × Gave a b place
 
--- at a fault of reading the source has failed, behind so many bytes; `failed` is whether it failed
+-- at a fault of reading the source has failed, behind this many bytes; `failed` is whether it failed
 abbrev pub StopsAtRead : Option (List ℕ) → Option (List ℕ) → Bool → RunFault → Type 0
 StopsAtRead a b failed fault = (place : ℕ) → fault ≡ faults.Read place → (failed ≡ true) × Gave a b place
 

@@ -49,7 +49,7 @@ pub record Relocates (start budget most : ℕ) (a b c d : Option (List ℕ)) (wr
 abbrev pub RelocatesAll : ℕ → ℕ → ℕ → Option (List ℕ) → Option (List ℕ) → Option (List ℕ) → Option (List ℕ) → ℕ → Type 0
 RelocatesAll start budget most a b c d written = (relocates : Relocates start budget most a b c d written) × (written ≡ length relocates.lines)
 
--- The source failed after so many bytes, which are no whole load file and in which nothing is amiss.
+-- The source failed after this many bytes, which are no whole load file and in which nothing is amiss.
 pub record ReadsShort (budget most : ℕ) (a b : Option (List ℕ)) (failed : Bool) (place : ℕ) : Type 0 where
   pub broken : failed ≡ true
   pub given : List ℕ

@@ -11,7 +11,7 @@ use Rattle.hunk_files.specs.declared.hunk_file.HunkFile.{HunkFile}
 abbrev pub stripped_where : Bool → HunkFile → HunkFile
 stripped_where strip file = if strip then stripped file else file
 
--- The output is the text of the file that the bytes are, or begin with, stripped where that is asked for. So many bytes follow the file.
+-- The output is the text of the file that the bytes are, or begin with, stripped where that is asked for. This many bytes follow the file.
 abbrev pub IsRewritten : Bool → ℕ → List ℕ → List ℕ → Type 0
 IsRewritten strip rest bytes output =
     ((file : BeginsWithLoadFile bytes) × (rest ≡ length file.rest) × (output ≡ bytes_of (text (if strip then strip_file file.value else file.value))))

@@ -5,7 +5,7 @@ use Rattle.hunk_files.specs.Findings.{findings}
 use Rattle.hunk_listing.specs.ReportLines.{load_summary, object_report}
 use Rattle.hunk_files.specs.HunkFile.{AreObjectFile}
 
--- The text is printed of the bytes, of which there are so many findings.
+-- The text is printed of the bytes, of which there are this many findings.
 abbrev pub IsValidated : ℕ → List ℕ → List ℕ → Type 0
 IsValidated count bytes text =
     ((file : BeginsWithLoadFile bytes) × (count ≡ 0) × (text ≡ load_summary file.value (length file.rest)))

@@ -19,7 +19,7 @@ use Rattle.hunk_listing.proofs.BlockLengths.{length-ext_parts, references_within
 use Rattle.hunk_listing.proofs.FileLengths.{hunks_within, length-blocks, units_within}
 use Rattle.hunk_listing.proofs.LineLengths.{fits5, fits9, length-hexadecimal, length-number}
 
--- the lines of findings, at most so many of 96 bytes for each
+-- the lines of findings, at most this many of 96 bytes for each
 abbrev lines : List Finding → List ℕ
 lines found = flat_map finding_line found
 

@@ -22,7 +22,7 @@ name_line word name = head word ++ codes " " ++ name_text name ++ codes "\n"
 unfoldable pub size_line : ℕ → ℕ → List ℕ
 size_line word size = head word ++ codes " " ++ decimal size ++ codes " bytes\n"
 
--- `  RELOC32 D`, `  SYMBOL D` and `  EXT D`, before a line or more for each of so many
+-- `  RELOC32 D`, `  SYMBOL D` and `  EXT D`, before a line or more for each of this many
 unfoldable pub count_line : ℕ → ℕ → List ℕ
 count_line word count = head word ++ codes " " ++ decimal count ++ codes "\n"
 

@@ -16,7 +16,7 @@ segment_line number base size = codes "hunk " ++ decimal number ++ codes " base 
 unfoldable pub dump_row : List ℕ → List ℕ
 dump_row bytes = codes "  " ++ encode_lower bytes ++ codes "\n"
 
--- so many rows of sixteen bytes, of which the last may be shorter
+-- this many rows of sixteen bytes, of which the last may be shorter
 unfoldable pub dump_rows : ℕ → List ℕ → List ℕ
 dump_rows zero bytes = []
 dump_rows (suc count) bytes = dump_row (take 16 bytes) ++ dump_rows count (drop 16 bytes)

@@ -4,7 +4,7 @@ use hunk_scan::{Phase, Position, Sniff, refuse_place};
 use hunk_words::{Kind, Reason};
 use std::test::Fail;
 
-/// Where the longwords lead, or which is refused first and why. Each hunk declares so many longs.
+/// Where the longwords lead, or which is refused first and why. Each hunk declares this many longs.
 fn follow(words: &[u32], longs: u32) -> Result<Position, (usize, Reason)> {
     follow_changed(words, longs, words.len(), 0)
 }

@@ -250,7 +250,7 @@ module _ (rows : List Row) (store : List ℕ) (state : BodyState) (pending : Lis
   pub seen_not_whole : is_done state.position ≡ false → IsWholeFile self.rows self.fed → ⊥
   seen_not_whole more w = let clash : true ≡ false = sym (seen_done w) ∙ more in cc
 
--- So many bytes are taken.
+-- This many bytes are taken.
 pub feeds_more : (old new : BodyLoaderValue) (piece : List ℕ) (n : ℕ) → new.rows ≡ old.rows → FeedsFront old.fed piece new.fed n → new.refused ≡ None →
     (IsWholeFile old.rows old.fed → ◌≡◌ {A = Result ℕ Fault} (Ok n) (Ok 0)) → FeedsOrStops old new piece (Ok n)
 feeds_more old new piece n rows taken goes_on complete = record {

@@ -65,14 +65,14 @@ segment_within rows i start size d h e f = omega (arith, e, f, declared_take row
 pub table_fits : (rows : List Row) → length rows ≤ 65536 → declared_bytes (entries_of rows) < 2 ^ 49
 table_fits rows few = omega (arith, declared_limit (entries_of rows), length-map rows row_entry)
 
--- the rows in front, and so many behind them
+-- the rows in front, and this many behind them
 pub declared_range : (rows : List Row) (a n : ℕ) → declared_bytes (entries_of (take (a + n) rows)) ≡ declared_bytes (entries_of (take a rows)) + declared_bytes (entries_of (take n (drop a rows)))
 declared_range rows a n =
     ap (λ (xs : List Row). declared_bytes (entries_of xs)) (take-add a n rows)
     ∙ ap declared_bytes (map-append row_entry (take a rows) (take n (drop a rows)))
     ∙ declared-append (entries_of (take a rows)) (entries_of (take n (drop a rows)))
 
--- Where the next segments begin, behind so many rows more at most.
+-- Where the next segments begin, behind this many rows more at most.
 pub next_rows : (rows rest front behind : List Row) (a b m n total more : ℕ) → rest ≡ drop a rows → m ≡ min n (length rest) → front ≡ take m rest → behind ≡ drop m rest → a + n ≡ b →
     total ≡ declared_bytes (entries_of (take a rows)) → more ≡ declared_bytes (entries_of front) → (behind ≡ drop b rows) × (total + more ≡ declared_bytes (entries_of (take b rows)))
 next_rows rows rest front behind a b m n total more e f g h s t u =

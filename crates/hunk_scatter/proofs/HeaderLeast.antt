@@ -76,7 +76,7 @@ opens n (x ∷ t) e is same = let clash : true ≡ false = ap (λ (m : Next). is
 
 -- ---- and just so soon
 
--- A header begins with the longwords, and ends in so many further ones.
+-- A header begins with the longwords, and ends in this many further ones.
 pub record EndsIn (ws : List ℕ) (n : ℕ) : Type 0 where
   pub table : List TableEntry
   pub is_table : IsHeaderTable table

@@ -69,7 +69,7 @@ length-run sizes hunk start _ bytes store i fits = refl
 
 -- ---- the state
 
--- the reading behind so many bytes more
+-- the reading behind this many bytes more
 abbrev Read : List Row → List ℕ → BodyState → List ℕ → List ℕ → Type 0
 Read rows store s fed ws = StandsBehind rows store s [] (fed ++ bytes_of ws)
 
@@ -89,7 +89,7 @@ module _ (rows : List Row) (hunk start : ℕ) where
       (append_assoc fed (bytes_of (w ∷ [])) (bytes_of ws) ∙ ap (λ (xs : List ℕ). fed ++ xs) (sym (bytes_of-cons w ws))) r
 
   module _ (Good : ℕ → Type 0) (Room : ℕ → List ℕ → Type 0) (pos : ℕ → Position) (made : ℕ → List ℕ → List ℕ → List ℕ) where
-    -- Longwords of a list, by the number that is owed: each that is good leads to one fewer, and so many make this of the store.
+    -- Longwords of a list, by the number that is owed: each that is good leads to one fewer, and this many make this of the store.
     record Owing : Type 0 where
       goes_on : (n : ℕ) → is_done (pos (suc n)) ≡ false
       passes : (n w : ℕ) → Good w → refusal (words_of rows) (at (pos (suc n))) w ≡ None
@@ -226,7 +226,7 @@ takes_some old new piece n None few some g whole = omega (arith, some, whole)
 takes_some old new piece n (Some w) few some g whole =
     omega (arith, few, ap length g.0, length-append old (take n piece), length-take n piece, length-bytes_of (w ∷ []))
 
--- What was read goes on behind so many offsets of a list.
+-- What was read goes on behind this many offsets of a list.
 pub read_offsets : (rows : List Row) (store store2 : List ℕ) (state state2 : BodyState) (fed piece : List ℕ) (n : ℕ) → StandsBehind rows store state [] fed → IsBytes piece → 4 * n ≤ length piece →
     TakesOffsets (words_of rows) (bases_of rows) state (take n (longs piece)) store state2 store2 → StandsBehind rows store2 state2 [] (fed ++ take (4 * n) piece)
 read_offsets rows store store2 state state2 fed piece n r are fits t =
@@ -248,7 +248,7 @@ read_offsets rows store store2 state state2 fed piece n r are fits t =
         l k.1 tt q (omega (arith, k.0))))
     go _ q l k = absurd k
 
--- The state behind so many offsets.
+-- The state behind this many offsets.
 pub offsets_taken : (sizes bases : List ℕ) (hunk start : ℕ) (p : Position) (o : OpenHunk) (target owed limit base left : ℕ) (ws store store2 : List ℕ) → positions.Body o (phases.Offset target owed) ≡ p →
     length ws ≤ owed → AllByRecursion (EndsWithin limit) ws → limit ≡ 4 * longs_at sizes hunk → base ≡ get_or bases target 0 → left ≡ owed - length ws → store2 ≡ added_at_each start base ws store →
     TakesOffsets sizes bases (record { hunk = hunk; start = start; position = p }) ws store (record { hunk = hunk; start = start; position = positions.Body o (phases.Offset target left) }) store2

@@ -64,7 +64,7 @@ pub record ReadyAt (rows : List Row) (store : List ℕ) (state : BodyState) (pos
   pub in_store : IsInStore (words_of rows) (length store) state
   pub whole_long : 4 ≤ length piece
 
--- So many bytes of the piece were taken, one at least, and are read.
+-- This many bytes of the piece were taken, one at least, and are read.
 pub record TakesFront (rows : List Row) (store : List ℕ) (state : BodyState) (piece after : List ℕ) (behind : BodyState) (n : ℕ) : Type 0 where
   pub some : 0 < n
   pub inside : n ≤ length piece

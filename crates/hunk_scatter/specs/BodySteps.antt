@@ -27,17 +27,17 @@ move_to sizes s p =
 abbrev pub step_body : List ℕ → BodyState → ℕ → BodyState
 step_body sizes s w = move_to sizes s (step s.position w)
 
--- Behind so many longwords of a run; the hunk stays.
+-- Behind this many longwords of a run; the hunk stays.
 abbrev pub pass_body : BodyState → ℕ → BodyState
 pass_body s n = record { hunk = s.hunk; start = s.start; position = pass s.position n }
 
--- Room for what a longword does, in a hunk of so many longs.
+-- Room for what a longword does, in a hunk of this many longs.
 abbrev pub RoomIn : List ℕ → ℕ → Position → Type 0
 RoomIn sizes longs (positions.Body o (phases.Content all owed)) = (owed < all) × (all ≤ longs)
 RoomIn sizes longs (positions.Body o (phases.Offset target owed)) = target < length sizes
 RoomIn sizes longs _ = Unit {0}
 
--- The state is that of an open hunk whose segment lies in a store of so many bytes.
+-- The state is that of an open hunk whose segment lies in a store of this many bytes.
 pub record IsInStore (sizes : List ℕ) (total : ℕ) (s : BodyState) : Type 0 where
   pub hunks : length sizes ≤ most_hunks
   pub hunk : s.hunk < length sizes

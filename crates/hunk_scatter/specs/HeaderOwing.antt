@@ -8,11 +8,11 @@ use Rattle.hunk_scatter.specs.HeaderBytes.{IsHeaderTable, header_words, entries_
 abbrev pub rows_owed : List ℕ → ℕ
 rows_owed ws = get_or ws 2 0 - length (entries_so_far ws)
 
--- So many bytes are to come, where each row owed has one longword more, of which the pending bytes have come.
+-- This many bytes are to come, where each row owed has one longword more, of which the pending bytes have come.
 abbrev pub HasRowsToCome : List ℕ → ℕ → Type 0
 HasRowsToCome fed p = p + length fed % 4 ≡ 4 * rows_owed (longs fed)
 
--- So many bytes are to come, where each header that begins with the longwords fed has so many longwords more at least.
+-- This many bytes are to come, where each header that begins with the longwords fed has this many longwords more at least.
 pub record HasHeaderToCome (fed : List ℕ) (p : ℕ) : Type 0 where
   pub owed : ℕ
   pub least : (table : List TableEntry) (more : List ℕ) → IsHeaderTable table

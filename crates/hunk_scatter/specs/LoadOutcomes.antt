@@ -122,7 +122,7 @@ IsWithinHeader bytes =
 abbrev pub IsWithinFile : List ℕ → Type 0
 IsWithinFile bytes = (v : LoadFileValue) (more : List ℕ) → IsLoadFile v → bytes ≡ bytes_of (text v) ++ more → more ≡ []
 
--- Where so many bytes were given: the limit, a failed read, or the end.
+-- Where this many bytes were given: the limit, a failed read, or the end.
 abbrev pub IsReadFault : ℕ → Option (List ℕ) → Bool → ℕ → Fault → Type 0
 IsReadFault limit left failed count f =
     ((f.reason ≡ reasons.FileLimit) × (f.place ≡ limit) × (count ≡ limit))

@@ -35,7 +35,7 @@ pub record ImageValue : Type 0 where
   pub rows : List Row
   pub segments : List (List ℕ)
 
--- So many bytes of the piece were taken: they are fed behind those that were fed before.
+-- This many bytes of the piece were taken: they are fed behind those that were fed before.
 abbrev pub FeedsFront : List ℕ → List ℕ → List ℕ → ℕ → Type 0
 FeedsFront before piece after n = (n ≤ length piece) × (after ≡ before ++ take n piece)
 

@@ -18,12 +18,12 @@ is_in_run (InBlock p parts.Offset) = true
 is_in_run (InBlock p parts.EntryName) = true
 is_in_run _ = false
 
--- so many of them come next
+-- this many of them come next
 abbrev pub run_of : List (Role × ℕ) → ℕ
 run_of [] = 0
 run_of (l ∷ ls) = if is_in_run l.0 then suc (run_of ls) else 0
 
--- A load text begins with the bytes, and so many bytes of a content, a name, a payload or a list of offsets are to come
+-- A load text begins with the bytes, and this many bytes of a content, a name, a payload or a list of offsets are to come
 -- in it.
 pub record HasToCome (fed : List ℕ) (p : ℕ) : Type 0 where
   pub value : LoadFileValue

@@ -27,7 +27,7 @@ start_count = 32
 abbrev pub hunks_a_start : ℕ
 hunks_a_start = 2048
 
--- an index: where every so many segments one begins
+-- an index: where each of a row of segments begins, a fixed number apart
 pub record AreStarts (rows : List Row) (starts : List ℕ) : Type 0 where
   pub count : length starts ≡ start_count
   pub start : (k : ℕ) → k < start_count → slice_index starts k ≡ declared_bytes (entries_of (take (hunks_a_start * k) rows))

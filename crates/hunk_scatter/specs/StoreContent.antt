@@ -51,7 +51,7 @@ stored_in bases start _ w store = store
 abbrev pub stored_long : List ℕ → BodyState → ℕ → List ℕ → List ℕ
 stored_long bases s w store = stored_in bases s.start s.position w store
 
--- so many bytes at the offset are replaced
+-- this many bytes at the offset are replaced
 abbrev pub put_slice : List ℕ → ℕ → List ℕ → List ℕ
 put_slice bytes offset part = take offset bytes ++ part ++ drop (offset + length part) bytes
 

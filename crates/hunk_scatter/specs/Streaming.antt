@@ -32,13 +32,13 @@ abbrev pub TakesOn : List Row → List ℕ → List ℕ → List ℕ → Result 
 TakesOn rows store fed piece result =
     MatchResult result (λ r. IsFed rows store r.0 (fed ++ take r.1 piece)) (StopsAt (fed ++ piece))
 
--- So many bytes of the piece were taken, one at least, and are counted.
+-- This many bytes of the piece were taken, one at least, and are counted.
 pub record CountsTaken (at : Standing) (piece : List ℕ) (to : Standing) (n : ℕ) : Type 0 where
   pub some : 0 < n
   pub inside : n ≤ length piece
   pub counts : to.fed ≡ at.fed + n
 
--- Where the rows are those of a table, its header has so many bytes, and it declares as many as there is room for: behind
+-- Where the rows are those of a table, its header has this many bytes, and it declares as many as there is room for: behind
 -- that header a loader stands so.
 abbrev pub BeginsLoading : List Row → ℕ → ℕ → List ℕ → Standing → Type 0
 BeginsLoading rows header room store s =

@@ -57,11 +57,11 @@ pub const OBJECT: &str = "3E7 1 61000000 / 3E9 2 4EB90000 00004E75 / \
     3EF 81000001 5F660000 1 2 1000001 5F6D0000 0 0 / 3F2";
 
 /// Example 14 with an offset behind the hunk.
-pub const OBJECT_AMISS: &str = "3E7 1 61000000 / 3E9 2 4EB90000 00004E75 / \
+pub const OBJECT_WITH_AN_OFFSET_OUTSIDE: &str = "3E7 1 61000000 / 3E9 2 4EB90000 00004E75 / \
     3EF 81000001 5F660000 1 5 1000001 5F6D0000 0 0 / 3F2";
 
 /// Example 16: a header whose last hunk is not the last of their number.
-pub const LAST_HUNK_AMISS: &str = "3F3 0 2 0 0";
+pub const WRONG_LAST_HUNK: &str = "3F3 0 2 0 0";
 
 /// Example 16: a header of no hunk.
 pub const NO_HUNKS: &str = "3F3 0 0";
@@ -82,7 +82,7 @@ pub const WITH_AN_ADVISORY: &str = "3F3 0 1 0 0 1 / 3E9 1 4E754E71 / 200004D2 2 
 pub const WITH_A_NAME: &str = "3F3 0 1 0 0 1 / 3E8 1 2E740A5C / 3E9 1 4E754E71 / 3F2";
 
 /// Example 24 with a number of longwords whose top byte is not 0.
-pub const NAME_WORD_AMISS: &str = "3F3 0 1 0 0 1 / 3E8 1000001 2E740A5C / 3E9 1 4E754E71 / 3F2";
+pub const WRONG_NAME_WORD: &str = "3F3 0 1 0 0 1 / 3E8 1000001 2E740A5C / 3E9 1 4E754E71 / 3F2";
 
 /// Example 25: an object file with an EXT entry of no type.
 pub const ENTRY_OF_NO_TYPE: &str = "3E7 0 / 3E9 0 / 3EF 3000001";
@@ -106,7 +106,8 @@ pub const EMPTY_UNIT_AND_ANOTHER: &str = "3E7 0 / 3E7 1 62000000 / 3EB 4 / 3F2";
 pub const COMMON: &str = "3E7 0 / 3EB 2 / 3EF 82000001 63000000 8 1 4 0 / 3F2";
 
 /// Example 35 with an offset behind the hunk.
-pub const COMMON_AMISS: &str = "3E7 0 / 3EB 2 / 3EF 82000001 63000000 8 1 5 0 / 3F2";
+pub const COMMON_WITH_AN_OFFSET_OUTSIDE: &str =
+    "3E7 0 / 3EB 2 / 3EF 82000001 63000000 8 1 5 0 / 3F2";
 
 /// Example 36: two relocated longs that overlap, which are no neighbours in the list.
 pub const OVERLAPPING_APART: &str = "3F3 0 1 0 0 4 / 3EB 4 / 3EC 3 0 0 8 2 0 / 3F2";

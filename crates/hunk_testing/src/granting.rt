@@ -27,7 +27,7 @@ struct Room {
     granted: usize,
 }
 
-/// Takes pieces of this size, up to so many in all.
+/// Takes pieces of this size, up to this many in all.
 fn fill(
     alloc: Global,
     pieces: &mut Vec<Vec<u8>>,

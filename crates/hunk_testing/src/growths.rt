@@ -39,7 +39,7 @@ fn take_all(alloc: Global, pieces: &mut Vec<Vec<u8>>) -> Result<(), AllocError> 
 /// More than any call takes of the stack while memory is held.
 const DEPTH: usize = 1 << 20;
 
-/// Has the stack grow by so many bytes, and answers one of them.
+/// Has the stack grow by this many bytes, and answers one of them.
 ///
 /// A stack grows as its pages are used, and no more once all below it is taken: what goes deeper then ends by a
 /// signal. The bytes that are changed and answered are known at run time alone, so that the array is not left out.

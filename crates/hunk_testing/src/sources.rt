@@ -5,7 +5,7 @@ use hunk_words::{Failed, Source};
 use std::io;
 use std::io::Read;
 
-/// Moves the first bytes to the buffer, at most so many, and tells how many they are.
+/// Moves the first bytes to the buffer, at most this many, and tells how many they are.
 fn give(rest: &mut &[u8], buf: &mut [u8], most: usize) -> usize
     ensures { result ≤ length buf.new }
 {
@@ -16,7 +16,7 @@ fn give(rest: &mut &[u8], buf: &mut [u8], most: usize) -> usize
     count
 }
 
-/// Gives these bytes, one a read; behind so many of them one read fails, and those after it go on.
+/// Gives these bytes, one a read; behind this many of them one read fails, and those after it go on.
 #[derive(Debug, Drop)]
 pub struct FailsOnce<'a> {
     rest: &'a [u8],
@@ -62,7 +62,7 @@ impl Source for FailsOnce<'_> {
     }
 }
 
-/// Reads these bytes, one a read; behind so many of them one read is interrupted, and those after it go on.
+/// Reads these bytes, one a read; behind this many of them one read is interrupted, and those after it go on.
 #[derive(Debug, Drop)]
 pub struct Interrupted<'a> {
     rest: &'a [u8],
@@ -115,7 +115,7 @@ pub struct Fed<'a> {
 }
 
 impl<'a> Fed<'a> {
-    /// At most so many bytes a read.
+    /// At most this many bytes a read.
     pub fn new(bytes: &'a [u8], most: usize, then: Then) -> Fed<'a> {
         Fed {
             rest: bytes,
@@ -152,7 +152,7 @@ impl<'a> Fed<'a> {
     }
 }
 
-/// Goes on with `3F1 0` behind so many bytes of it, and tells how many bytes there are then.
+/// Goes on with `3F1 0` behind this many bytes of it, and tells how many bytes there are then.
 fn repeat(from: usize, buf: &mut [u8]) -> usize {
     let mut at = from;
     for byte in buf {

@@ -11,14 +11,14 @@ use Rattle.hunk_commands.specs.HexText.{ReadsHex}
 use Rattle.hunk_commands.specs.Inputs.{Gave}
 use Rattle.hunk_scatter.specs.Placing.{packed_from}
 
--- its bytes are refused, of which at most so many are read
+-- its bytes are refused, of which at most this many are read
 abbrev pub RefusesListing : Listing → Fault → Option (List ℕ) → Option (List ℕ) → ℕ → Bool → Type 0
 RefusesListing listings.Show refusal a b most failed = RefusesOnly a b most (Refused refusal)
 RefusesListing listings.Validate refusal a b most failed = RefusesOnly a b most (Refused refusal)
 RefusesListing (listings.Relocate base budget) refusal a b most failed =
     (given : List ℕ) × Gives a b most given × IsLoadFault (packed_from base) budget most b failed given refusal
 
--- its text, of at most so many bytes, spells bytes that are refused
+-- its text, of at most this many bytes, spells bytes that are refused
 pub record RefusesSpelled (listing : Listing) (refusal : Fault) (a b : Option (List ℕ)) (most : ℕ) : Type 0 where
   pub bytes : List ℕ
   pub read : ReadsHex a b (most + 1) bytes

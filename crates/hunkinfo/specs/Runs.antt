@@ -93,7 +93,7 @@ pub record ListsSource {W : Type 0} (hex : Bool) (listing : Listing) (a b : Opti
   pub is_listed : IsListed listing input text
   pub takes : Takes taken old new text
 
--- why no bytes were read that a text of at most so many bytes spells; `failed` is whether the source failed
+-- why no bytes were read that a text of at most this many bytes spells; `failed` is whether the source failed
 abbrev pub ReadsNoText : RunFault → Option (List ℕ) → Option (List ℕ) → ℕ → Bool → Type 0
 ReadsNoText (faults.Refused refusal) a b most failed = (refusal.reason ≡ reasons.FileLimit) × (refusal.place ≡ most) × Gave a b (most + 1)
 ReadsNoText fault a b most failed = ReadsNoHex fault a b (most + 1) failed

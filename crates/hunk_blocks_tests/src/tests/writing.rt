@@ -47,7 +47,7 @@ fn what_was_read(rt: HostRuntime) -> Result<(), Fail> {
     Ok(())
 }
 
-/// Sees that a writer with room for so many bytes of the text has taken them, that the fault says how many they
+/// Sees that a writer with room for this many bytes of the text has taken them, that the fault says how many they
 /// are, and that a further put writes nothing.
 fn expect_stop(rt: &impl Abort, block: &Block<'_>, text: &[u8], room: usize, takes_none: bool) {
     let written = room as u64;

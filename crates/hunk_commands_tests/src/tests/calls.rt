@@ -92,7 +92,7 @@ pub(super) fn made<R: Source>(
     made_within(alloc, call, source, narrow, LIMIT)
 }
 
-/// The same where so many bytes may be read.
+/// The same where this many bytes may be read.
 pub(super) fn made_within<R: Source>(
     alloc: Global,
     call: Call,

@@ -46,7 +46,7 @@ fn read(
     read_hex(alloc, &mut Fed::new(text, step, then), most)
 }
 
-/// The text of so many bytes, which count up, with a blank inside of each third.
+/// The text of this many bytes, which count up, with a blank inside of each third.
 fn counted(alloc: Global, count: usize) -> Result<(Vec<u8>, Vec<u8>), Fail> {
     let (mut bytes, mut text) = (Vec::new(alloc), Vec::new(alloc));
     for i in 0..count {

@@ -16,7 +16,7 @@ const LOADING: &[Call] = &[Call::Relocate];
 /// How many bytes may be read: few, and more than a command reads at once.
 const FILE_BYTES: &[u64] = &[1_000, LIMIT];
 
-/// Sees that the call was refused where so many bytes had been read, and wrote nothing.
+/// Sees that the call was refused where this many bytes had been read, and wrote nothing.
 fn expect_limit(rt: &impl Abort, got: &Outcome, file_bytes: u64, given: usize) {
     let fault = RunFault::Refused(Fault {
         place: file_bytes,
@@ -55,7 +55,7 @@ fn input_without_end(rt: HostRuntime) -> Result<(), Fail> {
     Ok(())
 }
 
-/// Example 1 with a DEBUG block of so many longwords before its END: 48 bytes and these.
+/// Example 1 with a DEBUG block of this many longwords before its END: 48 bytes and these.
 fn with_debug_data(alloc: Global, longs: u32) -> Result<Vec<u8>, AllocError> {
     let mut behind = [0x3F1, longs].to_vec(alloc)?;
     behind.resize(2 + longs as usize, 0)?;

@@ -147,7 +147,7 @@ fn shortfall(
     Some((got.fault, got.written))
 }
 
-/// Sees that each call answers `Memory` and writes nothing, and writes so many bytes, all of its output, once
+/// Sees that each call answers `Memory` and writes nothing, and writes this many bytes, all of its output, once
 /// no growth is refused.
 fn expect_growths(
     rt: &impl Abort,

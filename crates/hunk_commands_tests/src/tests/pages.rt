@@ -27,7 +27,7 @@ impl Write for First {
     }
 }
 
-/// A load file with so many relocations at offset 0, which are a line each.
+/// A load file with this many relocations at offset 0, which are a line each.
 fn file(alloc: Global, count: u32) -> Result<Vec<u8>, AllocError> {
     let head = [0x3F3, 0, 1, 0, 0, 1, 0x3E9, 1, 0, 0x3EC, count, 0];
     let mut bytes = bytes_of(alloc, head.as_slice())?;

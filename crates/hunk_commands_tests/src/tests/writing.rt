@@ -1,4 +1,4 @@
-//! Writers that take so many bytes, and then fail or take none.
+//! Writers that take this many bytes, and then fail or take none.
 
 use crate::tests::calls::{CASES, Call, input_and_output, made};
 use hunk_commands::RunFault;

@@ -87,7 +87,7 @@ fn rewritten(alloc: Global, bytes: &[u8], strip: bool) -> Option<(Vec<u8>, u64)>
     }
 }
 
-/// Sees that this text is written of the file that the bytes are, and that so many bytes follow it.
+/// Sees that this text is written of the file that the bytes are, and that this many bytes follow it.
 fn expect(rt: &impl Abort, alloc: Global, input: (&[u8], bool), text: &[u8], rest: u64) {
     let (bytes, strip) = input;
     let again = rewritten(alloc, bytes, strip);

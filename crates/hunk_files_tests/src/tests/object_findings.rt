@@ -19,7 +19,11 @@ fn found(fault: FindingKind, offset: u32) -> Finding {
 /// The worked examples of findings, by their numbers: each a kind and an offset.
 const FINDINGS: &[(u32, &str, &[(FindingKind, u32)])] = &[
     (14, examples::OBJECT, &[]),
-    (14, examples::OBJECT_AMISS, &[(FindingKind::OutsideHunk, 5)]),
+    (
+        14,
+        examples::OBJECT_WITH_AN_OFFSET_OUTSIDE,
+        &[(FindingKind::OutsideHunk, 5)],
+    ),
     (
         29,
         examples::TWO_FINDINGS,
@@ -27,7 +31,11 @@ const FINDINGS: &[(u32, &str, &[(FindingKind, u32)])] = &[
     ),
     (34, examples::EMPTY_UNIT_AND_ANOTHER, &[]),
     (35, examples::COMMON, &[]),
-    (35, examples::COMMON_AMISS, &[(FindingKind::OutsideHunk, 5)]),
+    (
+        35,
+        examples::COMMON_WITH_AN_OFFSET_OUTSIDE,
+        &[(FindingKind::OutsideHunk, 5)],
+    ),
     (
         45,
         examples::RELATIVE_OBJECT,

@@ -21,7 +21,7 @@ const WAYS: &[(usize, bool)] = &[
 /// What was answered by a call to a writer, and the writer.
 type Stopped = (Result<(), WriteFault>, LongWriter<FromWrite<Narrow>>);
 
-/// Sees that the writer has taken the first bytes of these, so many as it has room for, and that their number is
+/// Sees that the writer has taken the first bytes of these, as many as it has room for, and that their number is
 /// answered.
 fn expect_front(rt: &impl Abort, stopped: Stopped, bytes: &[u8], room: usize) {
     let (answer, writer) = stopped;

@@ -117,7 +117,7 @@ const FED: &[(&str, &[u64], u64)] = &[
     ("3F3 0 10000 0 FFFF 1 1 1 1 1", &[20, 36], 60),
 ];
 
-/// What a loader of headers answers, and what it holds then, but where it takes all of the header and holds so many
+/// What a loader of headers answers, and what it holds then, but where it takes all of the header and holds this many
 /// bytes.
 fn feeding(alloc: Global, header: &[u8], held: u64) -> Option<(Result<usize, LoadFault>, u64)> {
     let mut loader = HeaderLoader::new(alloc, 1_000);

@@ -4,8 +4,8 @@ ghost use Rattle.std.specs.Prelude.{◌≤◌, length};
 use hunk_files::Row;
 use hunk_scatter::{BodyLoader, Declared, HeaderLoader, Listed, Packed, Placer, Unplaced};
 use hunk_testing::examples::{
-    ENDING_IN_ZEROS, LARGEST_HUNK, LAST_HUNK_AMISS, NO_HUNKS, ONE_HUNK, TOO_MANY_HUNKS, TWO_HUNKS,
-    WITH_ATTRIBUTES,
+    ENDING_IN_ZEROS, LARGEST_HUNK, NO_HUNKS, ONE_HUNK, TOO_MANY_HUNKS, TWO_HUNKS, WITH_ATTRIBUTES,
+    WRONG_LAST_HUNK,
 };
 use hunk_testing::spelled;
 use hunk_words::{LoadFault, Memory, Reason};
@@ -54,7 +54,7 @@ fn answer(alloc: Global, text: &str, budget: u64) -> Result<Result<u64, LoadFaul
     }
 }
 
-/// The table of the header that the text begins with, of so many bytes.
+/// The table of the header that the text begins with, of this many bytes.
 pub(super) fn declared(
     rt: &impl Abort,
     alloc: Global,
@@ -72,7 +72,7 @@ pub(super) fn declared(
 }
 
 /// The number of hunks and the bytes that they declare, or why the header is refused, where a first
-/// piece of it has so many bytes, and each further one so many at most.
+/// piece of it has this many bytes, and each further one this many at most.
 fn in_pieces(
     rt: &impl Abort,
     alloc: Global,
@@ -191,7 +191,7 @@ fn wants_at_most_a_buffer(rt: HostRuntime) -> Result<(), Fail> {
 pub(super) const ANSWERS: &[(&str, u64, Result<u64, (u64, Reason)>)] = &[
     (ENDING_IN_ZEROS, 19, Err((24, Reason::Budget))),
     (ENDING_IN_ZEROS, 20, Ok(20)),
-    (LAST_HUNK_AMISS, 1_000, Err((16, Reason::LastHunk))),
+    (WRONG_LAST_HUNK, 1_000, Err((16, Reason::LastHunk))),
     (NO_HUNKS, 1_000, Err((8, Reason::NoHunks))),
     (TOO_MANY_HUNKS, 1_000, Err((8, Reason::TooManyHunks))),
     (LARGEST_HUNK, 4_294_967_291, Err((20, Reason::Budget))),

@@ -19,7 +19,7 @@ fn header(alloc: Global, rows: u32) -> Result<Vec<u8>, AllocError> {
     front(alloc, HUNKS, rows)
 }
 
-/// A header of so many hunks, up to its first `rows` rows.
+/// A header of this many hunks, up to its first `rows` rows.
 fn front(alloc: Global, hunks: u32, rows: u32) -> Result<Vec<u8>, AllocError> {
     let mut longs = [0x3F3, 0, hunks, 0, hunks.saturating_sub(1)].to_vec(alloc)?;
     for row in 0..rows {
@@ -28,8 +28,8 @@ fn front(alloc: Global, hunks: u32, rows: u32) -> Result<Vec<u8>, AllocError> {
     bytes_of(alloc, longs.as_slice())
 }
 
-/// So many rows of 12 bytes in a list that grew with them, and gave back the room beyond them, and a
-/// store of so many bytes: what a loader has to hold, got in the same way.
+/// This many rows of 12 bytes in a list that grew with them, and gave back the room beyond them, and a
+/// store of this many bytes: what a loader has to hold, got in the same way.
 fn plain(alloc: Global, rows: u32, store: usize) -> Result<(Vec<[u8; 12]>, Vec<u8>), AllocError> {
     let mut list = Vec::new(alloc);
     for _ in 0..rows {
@@ -39,7 +39,7 @@ fn plain(alloc: Global, rows: u32, store: usize) -> Result<(Vec<[u8; 12]>, Vec<u
     Ok((list, vec![in alloc; 0u8; store]?))
 }
 
-/// Sees that beside a value as much is left as beside so many rows and a store of so many bytes.
+/// Sees that beside a value as much is left as beside this many rows and a store of this many bytes.
 ///
 /// A list of the same growth is what the value is held to, since the allocator keeps apart what a list
 /// leaves of its room.

@@ -19,7 +19,7 @@ const MANY_HUNKS: u32 = 2_621_460;
 
 const LARGE_HUNK: u32 = 1_048_612;
 
-/// Gives the bytes of a computed file, so many a read at most.
+/// Gives the bytes of a computed file, this many a read at most.
 #[derive(Drop)]
 struct InPieces<L> {
     file: Computed<L>,
@@ -47,7 +47,7 @@ fn long_of(hunk: u32) -> [u8; 4] {
     hunk.wrapping_add(base_of(hunk ^ 1)).to_be_bytes()
 }
 
-/// Loads the file by a reader of so many bytes a read, which gives all of its bytes.
+/// Loads the file by a reader of this many bytes a read, which gives all of its bytes.
 fn loaded<L: Longs + Drop>(
     rt: &impl Abort,
     alloc: Global,

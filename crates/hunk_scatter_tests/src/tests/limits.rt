@@ -122,7 +122,7 @@ const STOPS: &[(usize, Then, u64, u64, Reason, [u64; 3])] = &[
     ),
 ];
 
-/// Sees that the load stops with this fault, after so many reads.
+/// Sees that the load stops with this fault, after this many reads.
 fn expect_stop(
     rt: &impl Abort,
     alloc: Global,

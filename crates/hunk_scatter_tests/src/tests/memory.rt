@@ -16,7 +16,7 @@ use std::test::Fail;
 /// The bytes of the first growth of a table's rows: room for four of them.
 const ROWS: usize = 48;
 
-/// Whether a growth of so many bytes is refused now.
+/// Whether a growth of this many bytes is refused now.
 fn is_refused(alloc: Global, bytes: usize) -> bool {
     Vec::<u8>::with_capacity(alloc, bytes).is_err()
 }

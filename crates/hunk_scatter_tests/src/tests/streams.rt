@@ -77,7 +77,7 @@ fn takes(rt: &impl Abort, store: &mut [u8], rows: &[Row], at: Standing, piece: &
     }
 }
 
-/// Sees what the store comes to in two pieces of the body, the first of so many bytes.
+/// Sees what the store comes to in two pieces of the body, the first of this many bytes.
 fn expect_store(rt: &impl Abort, file: &File, cut: usize, store: &mut [u8], want: &[u8]) {
     let rows = file.rows.as_slice();
     let (_, body) = cut_at(file.bytes.as_slice(), file.header);

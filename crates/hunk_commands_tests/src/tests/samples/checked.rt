@@ -48,7 +48,7 @@ rest 7 bytes
     },
     Checked {
         name: "example 14 with offset 5",
-        file: examples::OBJECT_AMISS,
+        file: examples::OBJECT_WITH_AN_OFFSET_OUTSIDE,
         rest: 0,
         count: 1,
         text: "unit 0 hunk 0 offset 0x00000005 OutsideHunk
@@ -75,7 +75,7 @@ object file 1 units 2 findings
     },
     Checked {
         name: "example 35 with offset 5",
-        file: examples::COMMON_AMISS,
+        file: examples::COMMON_WITH_AN_OFFSET_OUTSIDE,
         rest: 0,
         count: 1,
         text: "unit 0 hunk 0 offset 0x00000005 OutsideHunk
