@@ -71,7 +71,14 @@ rows hunks done (suc owed) = More (AtSizeWord hunks done owed)
 
 abbrev pub with_block : HunkSoFar → BlockValue → Bool → HunkSoFar
 with_block o b has_content =
-    record { hunks = o.hunks; finished = o.finished; entry = o.entry; blocks = o.blocks ++ b ∷ []; has_content = has_content; ahead = o.ahead }
+    record {
+      hunks = o.hunks;
+      finished = o.finished;
+      entry = o.entry;
+      blocks = o.blocks ++ b ∷ [];
+      has_content = has_content;
+      ahead = o.ahead;
+    }
 
 abbrev pub close_by : HunkSoFar → BlockValue → BlockStanding → Next
 close_by o b Beside = More (AtBlock (with_block o b o.has_content))

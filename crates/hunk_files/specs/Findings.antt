@@ -47,7 +47,8 @@ abbrev pub outside : Spot → ℕ → ℕ → List FindingValue
 outside s width offset = if nat_lt s.bytes (offset + width) then finding s OutsideHunk offset ∷ [] else []
 
 abbrev pub relocation_findings : Spot → ℕ → ℕ → ℕ → List FindingValue
-relocation_findings s width target offset = (if nat_lt target s.hunks then [] else finding s BadTarget offset ∷ []) ++ outside s width offset
+relocation_findings s width target offset =
+    (if nat_lt target s.hunks then [] else finding s BadTarget offset ∷ []) ++ outside s width offset
 
 abbrev pub group_findings : Spot → ℕ → RelocGroup → List FindingValue
 group_findings s width g = flat_map (relocation_findings s width g.target) g.offsets
@@ -67,7 +68,8 @@ hunk_findings s h = flat_map (λ b. body_findings s b.word b.body) h
 abbrev pub hunks_findings : ℕ → ℕ → ℕ → List ObjectHunk → List FindingValue
 hunks_findings unit hunks number [] = []
 hunks_findings unit hunks number (h ∷ rest) =
-    hunk_findings (record { unit = unit; hunk = number; hunks = hunks; bytes = hunk_bytes h }) h ++ hunks_findings unit hunks (number + 1) rest
+    hunk_findings (record { unit = unit; hunk = number; hunks = hunks; bytes = hunk_bytes h }) h
+    ++ hunks_findings unit hunks (number + 1) rest
 
 abbrev pub unit_findings : ℕ → UnitValue → List FindingValue
 unit_findings number u = hunks_findings number (length u.hunks) 0 u.hunks

@@ -53,7 +53,9 @@ IsLoadMemory bytes place = BeginsWithLoadFile bytes × IsFrontTo load_files (lon
 -- some object file begins with the longwords up to and with the one here, and a fault of the
 -- bytes, if there is one, stands behind it
 abbrev pub IsObjectMemory : List ℕ → ℕ → Type 0
-IsObjectMemory bytes place = IsFrontTo objects (longs bytes) place × ((at : ℕ) (reason : Reason) → HasObjectFault bytes at reason → place < at)
+IsObjectMemory bytes place =
+    IsFrontTo objects (longs bytes) place
+    × ((at : ℕ) (reason : Reason) → HasObjectFault bytes at reason → place < at)
 
 abbrev pub IsMemory : Sniff → List ℕ → ℕ → Type 0
 IsMemory sniffs.Object bytes place = IsObjectMemory bytes place

@@ -15,7 +15,8 @@ entry_labelled e = (SizeWord, e.word) ∷ (if has_both_bits e.word then (Attribu
 -- The header of a file with this table.
 abbrev pub header_labelled : List TableEntry → List (Role × ℕ)
 header_labelled table =
-    (FirstLong, header_word) ∷ (ResidentName, 0) ∷ (TableSize, length table) ∷ (FirstHunk, 0) ∷ (LastHunk (length table), length table - 1)
+    (FirstLong, header_word) ∷ (ResidentName, 0) ∷ (TableSize, length table)
+    ∷ (FirstHunk, 0) ∷ (LastHunk (length table), length table - 1)
     ∷ flat_map entry_labelled table
 
 abbrev pub block_labelled : Place → BlockValue → List (Role × ℕ)

@@ -51,7 +51,8 @@ object_block_labelled place b = map (λ x. (object_role_at place x.0, x.1)) (blo
 -- the blocks of a hunk, from this place on
 abbrev pub object_blocks_labelled : WordPlace → ObjectHunk → List (ObjectRole × ℕ)
 object_blocks_labelled place [] = []
-object_blocks_labelled place (b ∷ rest) = object_block_labelled place b ++ object_blocks_labelled (behind_block place (standing b.body)) rest
+object_blocks_labelled place (b ∷ rest) =
+    object_block_labelled place b ++ object_blocks_labelled (behind_block place (standing b.body)) rest
 
 abbrev pub object_hunk_labelled : ObjectHunk → List (ObjectRole × ℕ)
 object_hunk_labelled h = object_blocks_labelled BetweenHunks h
@@ -137,7 +138,8 @@ blocks_from place =
 
 -- the units from this place on
 abbrev pub units_from : WordPlace → Grammar ObjectFileValue ObjectRole
-units_from place = record { Is = λ us. (0 < length us) × AllByRecursion IsUnit us; labelled = units_labelled place; refuse = refuse_object }
+units_from place =
+    record { Is = λ us. (0 < length us) × AllByRecursion IsUnit us; labelled = units_labelled place; refuse = refuse_object }
 
 -- Object files.
 abbrev pub objects : Grammar ObjectFileValue ObjectRole
@@ -151,7 +153,8 @@ pub record IsTruncatedObject (bytes : List ℕ) (at : ℕ) : Type 0 where
 
 -- The fault of bytes that are no object file.
 abbrev pub HasObjectFault : List ℕ → ℕ → Reason → Type 0
-HasObjectFault bytes at reason = HasRefusal objects (longs bytes) at reason ⊎ ((reason ≡ reasons.Truncated) × IsTruncatedObject bytes at)
+HasObjectFault bytes at reason =
+    HasRefusal objects (longs bytes) at reason ⊎ ((reason ≡ reasons.Truncated) × IsTruncatedObject bytes at)
 
 -- ---- parts of the input
 

@@ -3,7 +3,8 @@ use Rattle.std.specs.Prelude.{ℕ, ◌+◌, ◌*◌, ◌<◌, ◌≤◌, List, l
 use Rattle.hunk_scan.specs.declared.position.Position.{Position}
 use Rattle.hunk_scan.specs.Positions.{offsets_to_come, EndsWithin}
 
--- This number of longwords from the given one on are offsets that come at the position, and their longs end in a hunk of the declared number of longs.
+-- This number of longwords from the given one on are offsets that come at the position, and their longs end in a hunk of
+-- the declared number of longs.
 pub record ArePassed (ws : List ℕ) (at : ℕ) (p : Position) (longs count : ℕ) : Type 0 where
   pub few : count ≤ offsets_to_come p
   pub whole : at + count ≤ length ws

@@ -40,4 +40,6 @@ row_texts hunks = flat_map (λ h. row_words h.row) hunks
 
 -- What stands behind the first longword of a file: the numbers of its header, the table and the blocks.
 abbrev pub behind_first : List LoadHunk → List ℕ
-behind_first hunks = (0 ∷ length hunks ∷ 0 ∷ (length hunks - 1) ∷ []) ++ (row_texts hunks ++ flat_map (λ h. block_texts h.blocks.items) hunks)
+behind_first hunks =
+    (0 ∷ length hunks ∷ 0 ∷ (length hunks - 1) ∷ [])
+    ++ (row_texts hunks ++ flat_map (λ h. block_texts h.blocks.items) hunks)
