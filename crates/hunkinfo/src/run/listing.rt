@@ -7,7 +7,7 @@ ghost use Rattle.hunkinfo.specs.Status.{TellsOutcome};
 ghost use Rattle.hunkinfo.specs.Refusals.{RefusesListing, RefusesSource};
 ghost use Rattle.hunkinfo.specs.Runs.{Lists, ListsSource, ReadsNoText};
 
-use crate::run::FILE_BYTES;
+use crate::run::{DONE, FILE_BYTES};
 use hunk_commands::{RunFault, read_hex, relocate, show, validate};
 use hunk_orders::FileName;
 use hunk_scatter::Limits;
@@ -16,6 +16,9 @@ use std::alloc::Global;
 use std::fs;
 use std::io::BufReader;
 use std::rt::Files;
+
+/// The exit status where `validate` found something.
+const FOUND: u8 = 1;
 
 /// What is printed of an input.
 #[derive(Clone, Copy, Debug)]
@@ -117,24 +120,21 @@ fn list_bytes<R: Source, W: Sink>(
     ensures hex_text { IfErr result (λ fault. fault ≢ HexText) }
 {
     match listing {
-        Listing::Show => match show(alloc, source, out, FILE_BYTES) {
-            Ok(()) => Ok(0),
-            Err(fault) => Err(fault),
-        },
-        Listing::Validate => match validate(alloc, source, out, FILE_BYTES) {
-            Ok(0) => Ok(0),
-            Ok(_) => Ok(1),
-            Err(fault) => Err(fault),
+        Listing::Show => {
+            show(alloc, source, out, FILE_BYTES)?;
+            Ok(DONE)
+        }
+        Listing::Validate => match validate(alloc, source, out, FILE_BYTES)? {
+            0 => Ok(DONE),
+            _ => Ok(FOUND),
         },
         Listing::Relocate { base, budget } => {
             let limits = Limits {
                 budget,
                 file_bytes: FILE_BYTES,
             };
-            match relocate(alloc, source, out, limits, base) {
-                Ok(()) => Ok(0),
-                Err(fault) => Err(fault),
-            }
+            relocate(alloc, source, out, limits, base)?;
+            Ok(DONE)
         }
     }
 }
