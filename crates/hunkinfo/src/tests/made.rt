@@ -3,33 +3,80 @@ ghost use Rattle.std.specs.Prelude.{◌≡◌, ◌≤◌, None, length, IsErr};
 
 use hunk_words::{Failed, Sink};
 use std::alloc::{Allocator, Global};
+use std::cell::RefCell;
 use std::fs::{Metadata, OpenFile, OpenOptions};
 use std::io;
 use std::io::{BufRead, Empty, Lines, Read, Seek, SeekFrom, Write};
 use std::rt::Files;
 
-/// What the file `other` gives: a load file of one hunk, whose code is 4E754E71 4E714E75.
-pub(super) const OTHER: &[u8; 44] = b"\0\0\x03\xF3\0\0\0\0\0\0\0\x01\0\0\0\0\0\0\0\0\0\0\0\x02\
-    \0\0\x03\xE9\0\0\0\x02\x4E\x75\x4E\x71\x4E\x71\x4E\x75\0\0\x03\xF2";
-
-/// A runtime whose standard input and whose files but `other` give the same bytes, and where
-/// `fails` is set fail once those are given. The file `missing` can't be opened, the file `full`
-/// takes 6 bytes, the file `lost` takes all and keeps none, and the files `pipe` and `terminal`
-/// have nothing to keep.
-#[derive(Drop)]
-pub(super) struct Made<'a> {
-    pub bytes: &'a [u8],
+/// What a run can read: standard input, and the files that are there, by their names. Where `fails`
+/// is set, reading fails once the bytes are given.
+#[derive(Clone, Copy)]
+pub(super) struct Given<'a> {
+    pub input: &'a [u8],
+    pub files: &'a [(&'a str, &'a [u8])],
     pub fails: bool,
 }
 
-/// What a `Made` reads from.
+/// A runtime of what is given, which keeps the names of the files that are created, each with a
+/// colon and what is written to it.
+///
+/// A file is read as it was given, whatever is written to its name. The file `denied` can't be
+/// created, the file `full` takes 6 bytes, the file `lost` has lost at the end what it took, and
+/// the files `pipe` and `terminal` have nothing to keep.
+#[derive(Drop)]
+pub(super) struct Made<'a> {
+    pub given: Given<'a>,
+    pub created: &'a RefCell<Vec<u8>>,
+}
+
+impl<'a> Made<'a> {
+    fn tape(&self, rest: &'a [u8]) -> Tape<'a> {
+        Tape {
+            rest,
+            fails: self.given.fails,
+            created: self.created,
+            room: usize::MAX,
+            loss: None,
+        }
+    }
+
+    /// A file of this name, to which is written.
+    fn create(&self, path: &str) -> io::Result<Tape<'a>> {
+        keep(self.created, path.as_bytes())?;
+        keep(self.created, b":")?;
+        let mut tape = self.tape(&[]);
+        match path {
+            "full" => tape.room = 6,
+            "lost" => tape.loss = Some(io::ErrorKind::QuotaExceeded),
+            "pipe" => tape.loss = Some(io::ErrorKind::InvalidInput),
+            "terminal" => tape.loss = Some(io::ErrorKind::Unsupported),
+            _ => {}
+        }
+        Ok(tape)
+    }
+}
+
+/// What a `Made` reads from, or writes to.
 #[derive(Drop)]
 pub(super) struct Tape<'a> {
     rest: &'a [u8],
     fails: bool,
+    created: &'a RefCell<Vec<u8>>,
     room: usize,
     // What `sync_all` fails with.
     loss: Option<io::ErrorKind>,
+}
+
+/// Puts these bytes behind those that were kept.
+fn keep(created: &RefCell<Vec<u8>>, bytes: &[u8]) -> io::Result<()> {
+    let Ok(mut kept) = created.try_borrow_mut() else {
+        return unsupported();
+    };
+    match kept.extend_from_slice(bytes) {
+        Ok(()) => Ok(()),
+        Err(_) => unsupported(),
+    }
 }
 
 fn unsupported<T: Drop>() -> io::Result<T>
@@ -65,6 +112,7 @@ impl BufRead for Tape<'_> {
 impl Write for Tape<'_> {
     fn write(&mut self, buf: &[u8]) -> io::Result<usize> {
         let count = buf.len().min(self.room);
+        keep(self.created, &buf[..count])?;
         self.room -= count;
         Ok(count)
     }
@@ -108,19 +156,15 @@ impl<'a> Files for Made<'a> {
 
     fn open_file(&self, how: &OpenOptions, path: &str) -> io::Result<Tape<'a>> {
         how.check()?;
-        if path == "missing" {
-            return unsupported();
+        if how.asks_write() && path != "denied" {
+            return self.create(path);
         }
-        let mut tape = self.reader();
-        match path {
-            "full" => tape.room = 6,
-            "other" => tape.rest = OTHER.as_slice(),
-            "lost" => tape.loss = Some(io::ErrorKind::QuotaExceeded),
-            "pipe" => tape.loss = Some(io::ErrorKind::InvalidInput),
-            "terminal" => tape.loss = Some(io::ErrorKind::Unsupported),
-            _ => {}
+        for (name, bytes) in self.given.files {
+            if *name == path {
+                return Ok(self.tape(bytes));
+            }
         }
-        Ok(tape)
+        unsupported()
     }
 
     fn open_dir(&self, _path: &str) -> io::Result<Empty> {
@@ -172,12 +216,7 @@ impl<'a> Input for Made<'a> {
     }
 
     fn reader(&self) -> Tape<'a> {
-        Tape {
-            rest: self.bytes,
-            fails: self.fails,
-            room: usize::MAX,
-            loss: None,
-        }
+        self.tape(self.given.input)
     }
 }
 

@@ -1,19 +1,11 @@
 //! What becomes of an OUT that is there, with files.
 
 use crate::run::run;
-use hunk_commands::unhex;
+use hunk_testing::{examples, spelled};
 use hunk_words::{FromWrite, LongWriter};
 use std::fs;
 use std::process::Abort;
 use std::test::Fail;
-
-/// A load file of one hunk, whose code is 4E754E71.
-const FILE: &str =
-    "000003F3 00000000 00000001 00000000 00000000 00000001 000003E9 00000001 4E754E71 000003F2";
-
-/// The same with no END, but a longword that is no block word.
-const DAMAGED: &str =
-    "000003F3 00000000 00000001 00000000 00000000 00000001 000003E9 00000001 4E754E71 000003F4";
 
 const OLD: &[u8] = b"an old file that is longer than the one that takes its place";
 
@@ -95,8 +87,8 @@ fn expect(rt: &impl Abort, after: &After, bytes: &[u8], want: &[u8], status: u8)
 
 #[test]
 fn keeps_an_old_output(rt: HostRuntime) -> Result<(), Fail> {
-    let file = unhex(rt.alloc(), FILE.as_bytes())?;
-    let damaged = unhex(rt.alloc(), DAMAGED.as_bytes())?;
+    let file = spelled(rt.alloc(), examples::ONE_HUNK)?;
+    let damaged = hunk_testing::changed(rt.alloc(), 36, 0x3F4)?;
     // A refused IN leaves OUT as it was.
     for bytes in [b"\0\0\x03\xF3".as_slice(), damaged.as_slice()] {
         expect(&rt, &rewritten(&rt, bytes)?, bytes, OLD, 1);
