@@ -54,8 +54,9 @@ pub fn relocate<R: Source, W: Sink>(
     requires { w.old.written ≡ 0 }
     ensures relocates { OnOk result (RelocatesAll base limits.budget limits.file_bytes
         (R.left r.old) (R.left r.new) (W.taken w.old.sink) (W.taken w.new.sink) w.new.written) }
-    ensures succeeds { HasFileWithin (packed_from base) limits (R.left r.old) → R.failed r.new ≡ false
-        → W.failed w.new.sink ≡ false → IfErr result (λ fault. fault ≡ Memory) }
+    ensures succeeds { HasFileWithin (packed_from base) limits (R.left r.old)
+        → R.failed r.new ≡ false → W.failed w.new.sink ≡ false
+        → IfErr result (λ fault. fault ≡ Memory) }
 
     // What is read at most, whatever the answer: no byte behind the file, and none behind a
     // header that can't be placed.

@@ -163,7 +163,8 @@ pub(crate) fn add_all(
     requires room { start + 4 * declared ≤ length store.old }
     requires offsets { 4 * most ≤ length offsets.now }
     ensures bound { result ≤ most }
-    ensures ends_within { AllByRecursion (EndsWithin (4 * declared)) (take result (longs offsets.now)) }
+    ensures ends_within { AllByRecursion (EndsWithin (4 * declared))
+        (take result (longs offsets.now)) }
     ensures adds { store.new
         ≡ added_at_each start base (take result (longs offsets.now)) store.old }
 {

@@ -160,7 +160,7 @@ fn report<W: Sink>(alloc: Global, fault: RunFault, out: &mut LongWriter<W>) -> u
 /// Prints the text, the first on this writer, and gives the status, which is 3 where that fails.
 fn print<W: Sink>(text: &str, status: u8, out: &mut LongWriter<W>) -> u8
     requires unwritten { out.old.written ≡ 0 }
-    requires bound { status ≤ 4 }
+    requires status { status ≤ 4 }
     ensures bound { result ≤ 4 }
     ensures printed { PrintsOrFails W.taken W.failed out.old out.new text.now status result }
 {
