@@ -1,5 +1,5 @@
 -- What a run lists, by what an engine function has written.
-use Rattle.std.proofs.Common.{◌≡◌, ◌<◌, ◌++◌, ◌∙◌, ℕ, Bool, true, false, List, [], Option, Some, None, length, inr, refl, ap, sym, subst, arith, append-nil, append_assoc}
+use Rattle.std.proofs.Common.{◌≡◌, ◌⊎◌, ◌<◌, ◌++◌, ◌∙◌, ℕ, Bool, true, false, List, [], Option, Some, None, length, inl, inr, refl, ap, sym, subst, arith, append-nil, append_assoc}
 use Rattle.std.specs.Io.KnownBytes.{Consumes, IsAtEnd}
 use Rattle.std.proofs.lemmas.List.{take_all}
 use Rattle.hunk_words.specs.Carriers.{Writing}
@@ -13,7 +13,12 @@ use Rattle.hunkinfo.specs.Status.{TellsStatus}
 use Rattle.hunkinfo.specs.declared.run.listing.Listing.{Listing}
 use Rattle.hunkinfo.specs.declared.run.listing.Listing.TheVariants as listings
 use Rattle.hunk_commands.specs.HexText.{SpellsHex}
-use Rattle.hunk_commands.specs.Relocating.{RelocatesAll}
+use Rattle.hunk_commands.specs.declared.fault.RunFault.{RunFault}
+use Rattle.hunk_commands.specs.declared.fault.RunFault.TheVariants.{HexText, Memory, Read, Refused, Write}
+use Rattle.hunk_commands.specs.Faults.{IsWrite}
+use Rattle.hunk_commands.specs.Inputs.{StopsAtRead}
+use Rattle.hunk_commands.specs.Output.{StopsOutput}
+use Rattle.hunk_commands.specs.Relocating.{ReadsShort, RelocatesAll}
 use Rattle.hunkinfo.specs.Runs.{IsListed, ListsSource, StopsReading}
 
 -- a text that was put whole
@@ -63,6 +68,13 @@ lists_loaded taken old new base budget most a b written all =
       takes = takes_put taken old new written all.0.lines all.0.puts all.1;
     }
 
+-- where a load came short, the reading stopped at the place that is told
+pub stops_short : (budget most : ℕ) (a b : Option (List ℕ)) (failed : Bool) (fault : RunFault) →
+    ((place : ℕ) → fault ≡ Read place → ReadsShort budget most a b failed place) → StopsAtRead a b failed fault
+stops_short budget most a b failed fault short place same =
+    let stop = short place same in
+    (stop.broken, (stop.given, stop.gave.consumed, sym stop.place_is))
+
 -- what is printed of a front is printed of the bytes, where the reading stops behind it
 listed_front : (listing : Listing) (bytes given written rest : List ℕ) → bytes ≡ given ++ rest → StopsReading false listing given (Some rest) →
     IsListed listing given written → IsListed listing bytes written
@@ -98,3 +110,16 @@ lists_text taken old new listing a b c d given bytes consumed at_end spells know
       (subst (λ (xs : List ℕ). IsListed listing xs lists.text) lists.is_input lists.is_listed);
   takes = lists.takes;
 }
+
+-- where nothing was put, the output has not come to fail
+sound_still : {W : Type 0} (failed : W → Bool) (old new : Writing W) → new ≡ old → failed old.sink ≡ false → failed new.sink ≡ false
+sound_still {W} failed old new same sound = ap (λ (w : Writing W). failed w.sink) same ∙ sound
+
+-- where only memory can run out, or else the output fails, the fault is of one or the other
+pub only_writing : {W : Type 0} (failed : W → Bool) (old new : Writing W) (fault : RunFault) → StopsOutput failed old new fault → failed old.sink ≡ false →
+    (failed new.sink ≡ false → fault ≡ Memory) → (fault ≡ Memory) ⊎ IsWrite fault
+only_writing failed old new (Write written) stops sound only = inr tt
+only_writing failed old new Memory stops sound only = inl refl
+only_writing failed old new (Read place) stops sound only = inl (only (sound_still failed old new (stops.untouched (λ is. is)) sound))
+only_writing failed old new (Refused refusal) stops sound only = inl (only (sound_still failed old new (stops.untouched (λ is. is)) sound))
+only_writing failed old new HexText stops sound only = inl (only (sound_still failed old new (stops.untouched (λ is. is)) sound))

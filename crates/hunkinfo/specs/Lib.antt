@@ -1,3 +1,4 @@
+pub mod Inputs
 pub mod Refusals
 pub mod Runs
 pub mod Settling

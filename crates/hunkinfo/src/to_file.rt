@@ -25,7 +25,9 @@ pub(crate) struct ToFile<'a, T: Files> {
 
 impl<'a, T: Files> ToFile<'a, T> {
     /// A sink to the file of this name, which is not touched yet.
-    pub(crate) fn new(rt: &'a T, name: &'a str) -> ToFile<'a, T> {
+    pub(crate) fn new(rt: &'a T, name: &'a str) -> ToFile<'a, T>
+        ensures { result.failed ≡ false }
+    {
         ToFile {
             rt,
             name,

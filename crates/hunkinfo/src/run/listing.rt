@@ -1,8 +1,10 @@
 //! The commands that print what they find in one input.
 ghost use Rattle.std.specs.Prelude.{◌≡◌, ◌≢◌, ◌+◌, IfErr, IfOk, false};
 ghost use Rattle.hunk_words.specs.declared.fault.Fault.{Fault};
-ghost use Rattle.hunk_commands.specs.declared.fault.RunFault.TheVariants.{HexText, Refused};
+ghost use Rattle.hunk_commands.specs.declared.fault.RunFault.TheVariants.{HexText, Memory, Refused};
 ghost use Rattle.hunk_commands.specs.HexText.{ReadsHex, SpellsNone};
+ghost use Rattle.hunk_commands.specs.Inputs.{StopsAtRead};
+ghost use Rattle.hunkinfo.specs.Inputs.{HasInput, HasListed};
 ghost use Rattle.hunkinfo.specs.Status.{TellsOutcome};
 ghost use Rattle.hunkinfo.specs.Refusals.{RefusesListing, RefusesSource};
 ghost use Rattle.hunkinfo.specs.Runs.{Lists, ListsSource, ReadsNoText};
@@ -71,6 +73,11 @@ fn list_source<R: Source, W: Sink>(
     ensures done { IfOk result
         (λ status. status ≡ 0
         → ListsSource hex listing (R.left source.old) (R.left source.new) W.taken out.old out.new) }
+    ensures succeeds { HasInput hex listing (R.left source.old) FILE_BYTES
+        → R.failed source.new ≡ false → W.failed out.new.sink ≡ false
+        → IfErr result (λ fault. fault ≡ Memory) }
+    ensures read { IfErr result
+        (StopsAtRead (R.left source.old) (R.left source.new) (R.failed source.new)) }
     ensures refused { IfErr result (λ fault. (refusal : Fault) → fault ≡ Refused refusal
         → RefusesSource hex listing refusal (R.left source.old) (R.left source.new)
         FILE_BYTES (R.failed source.new)) }
@@ -114,6 +121,11 @@ fn list_bytes<R: Source, W: Sink>(
         (λ status. status ≡ 0
         → ListsSource false listing (R.left source.old) (R.left source.new)
         W.taken out.old out.new) }
+    ensures succeeds { HasListed listing (R.left source.old) FILE_BYTES
+        → R.failed source.new ≡ false → W.failed out.new.sink ≡ false
+        → IfErr result (λ fault. fault ≡ Memory) }
+    ensures read { IfErr result
+        (StopsAtRead (R.left source.old) (R.left source.new) (R.failed source.new)) }
     ensures refused { IfErr result (λ fault. (refusal : Fault) → fault ≡ Refused refusal
         → RefusesListing listing refusal (R.left source.old) (R.left source.new)
         FILE_BYTES (R.failed source.new)) }

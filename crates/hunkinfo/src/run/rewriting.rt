@@ -1,6 +1,10 @@
 //! The command `rewrite`, from one file to another.
-ghost use Rattle.std.specs.Prelude.{◌≡◌, ◌≤◌, ◌++◌, true, IfOk, OnOk};
+ghost use Rattle.std.specs.Prelude.{◌≡◌, ◌⊎◌, ◌≤◌, ◌++◌, true, false, IfErr, IfOk, OnOk};
 ghost use Rattle.hunk_listing.specs.RewritingLines.{left_out_line, wrote_line};
+ghost use Rattle.hunk_commands.specs.declared.fault.RunFault.TheVariants.{Memory};
+ghost use Rattle.hunk_commands.specs.Engine.{RefusesOnly};
+ghost use Rattle.hunk_commands.specs.Faults.{IsWrite};
+ghost use Rattle.hunk_commands.specs.Inputs.{HasFile, StopsAtRead};
 ghost use Rattle.hunkinfo.specs.Runs.{TellsRewriting};
 ghost use Rattle.hunkinfo.specs.Status.{PrintsOrFails};
 
@@ -53,6 +57,13 @@ fn rewrite_to<R: Source, T: Files>(
     ensures tells { IfOk result
         (λ done. TellsRewriting strip (wrote_line done.written ++ left_out_line done.rest)) }
     ensures settled { OnOk result (out.new.settled ≡ true) }
+    ensures succeeds { HasFile (R.left source.old) FILE_BYTES
+        → R.failed source.new ≡ false → out.old.failed ≡ false
+        → IfErr result (λ fault. (fault ≡ Memory) ⊎ IsWrite fault) }
+    ensures read { IfErr result
+        (StopsAtRead (R.left source.old) (R.left source.new) (R.failed source.new)) }
+    ensures refused { IfErr result
+        (RefusesOnly (R.left source.old) (R.left source.new) FILE_BYTES) }
 {
     let mut writer = LongWriter::new(&mut *out);
     let done = rewrite(alloc, source, &mut writer, FILE_BYTES, strip)?;
