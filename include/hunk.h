@@ -4,7 +4,8 @@
  * Whatever the bytes are, each call gives one of the answers listed with it; what of this is proved
  * is in docs/PROVED.md of the source tree. A call reads and writes only what its arguments point to
  * and what malloc gives it, keeps nothing between two calls, and gives back what it took before it
- * returns. Threads may call at the same time, as long as no call writes memory that another one uses.
+ * returns. So threads may call at the same time, as long as no call writes memory that another one
+ * uses.
  *
  * What the caller has to make sure of:
  * - Each pointer points to as many elements as its length says, aligned for their type. A pointer
@@ -165,7 +166,7 @@ struct hunk_loader {
     uint64_t place;        /* after a refusal, its byte */
     uint32_t refused;      /* the number of its reason; 0 where there was none */
     uint32_t refused_hunk; /* the hunk of its answer */
-    uint32_t hunk;         /* the hunks that are whole: the open one, counted from 0 */
+    uint32_t hunk;         /* how many hunks are complete: the open one's number, from 0 */
     uint32_t hunks;        /* the hunks of the file; 0 after the last */
     uint32_t ahead;        /* the hunks after the open one */
     uint32_t has_content;  /* 1 where the open hunk has its content, else 0 */

@@ -26,7 +26,7 @@ finding_row f = record { unit = f.unit; hunk = f.hunk; offset = f.offset; fault 
 abbrev pub LacksMemoryToCheck : List ℕ → ℕ → Type 0
 LacksMemoryToCheck bytes at = IsMemory (sniffed (longs bytes)) bytes at ⊎ (AreObjectFile bytes × (at ≡ length bytes))
 
--- What a check comes to. The rows begin with what is wrong with the file, and what lies behind that is as it was; or all are as they were.
+-- What a check comes to. The rows begin with what is wrong with the file, and what lies after that is as it was; or all are as they were.
 pub data Checks (bytes : List ℕ) (old new : List FindingRow) (answer : Answer) : Type 0 where
   HasFindings : (file : HunkFile) → IsFileOf bytes file → length (findings_in file) ≤ length old
       → new ≡ map finding_row (findings_in file) ++ drop (length (findings_in file)) old

@@ -12,7 +12,7 @@ pub data IsNameOf (number : ℕ) (name : List ℕ) : Type 0 where
   OfStrange : number ≡ strange_number → name ≡ codes "Strange" → IsNameOf number name
   OfNone : (number ≡ 0) ⊎ (strange_number < number) → name ≡ [] → IsNameOf number name
 
--- The text begins with the name, and what lies behind it is as it was; or it is too short, and as it was.
+-- The text begins with the name, and what lies after it is as it was; or it is too short, and as it was.
 pub data Names (number : ℕ) (old new : List ℕ) (answer : Answer) : Type 0 where
   HasName : (name : List ℕ) → IsNameOf number name → length name ≤ length old
       → new ≡ name ++ drop (length name) old → answer ≡ done 0 0 (length name) → Names number old new answer

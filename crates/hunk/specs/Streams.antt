@@ -69,11 +69,11 @@ standing_at l (Some position) = Some (record {
 abbrev pub standing_of : Loader → Option Standing
 standing_of l = standing_at l (loader_position l)
 
--- its numbers say where it stands, behind whatever bytes
+-- its numbers say where it stands, after whatever bytes
 abbrev pub HasStanding : Loader → Type 0
 HasStanding l = (at : Standing) × (standing_of l ≡ Some at)
 
--- The loader has refused no longword, and stands behind these bytes, header and body joined; the memory is what it has made of them.
+-- The loader has refused no longword, and stands after these bytes, header and body joined; the memory is what it has made of them.
 pub record Stands (rows : List Row) (l : Loader) (memory fed : List ℕ) : Type 0 where
   pub unrefused : l.refused ≡ 0
   pub at : Standing
@@ -109,7 +109,7 @@ no_loader = record {
   third = 0;
 }
 
--- What the begin of a stream comes to: the loader stands behind the header of the rows' table, and the memory is zero;
+-- What the begin of a stream comes to: the loader stands after the header of the rows' table, and the memory is zero;
 -- or the memory is too small for what that declares;
 -- or it is too large, or the rows are not those of a table whose header has this many bytes.
 pub data Begins (rows : List Row) (header : ℕ) (new : Loader) (memory after : List ℕ) (answer : Answer) : Type 0 where
@@ -157,12 +157,12 @@ abbrev pub TakesPiece : List Row → Loader → Loader → List ℕ → List ℕ
 TakesPiece rows old new memory after piece count =
     (fed : List ℕ) → Stands rows old memory fed → length fed + length piece < 2 ^ 64 → Stands rows new after (fed ++ take count piece)
 
--- Whatever bytes were fed before, with the piece behind them they are refused so.
+-- Whatever bytes were fed before, with the piece after them they are refused so.
 abbrev pub RefusesPiece : List Row → Loader → List ℕ → List ℕ → Fault → Type 0
 RefusesPiece rows old memory piece f =
     (fed : List ℕ) → Stands rows old memory fed → length fed + length piece < 2 ^ 64 → HasRefusal (fed ++ piece) f.place f.reason
 
--- No loader stands so, behind any bytes.
+-- No loader stands so, after any bytes.
 abbrev pub StandsNowhere : List Row → Loader → List ℕ → List ℕ → Type 0
 StandsNowhere rows old memory piece =
     (fed : List ℕ) → Stands rows old memory fed → length fed + length piece < 2 ^ 64 → ⊥

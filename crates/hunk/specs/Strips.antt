@@ -18,7 +18,7 @@ stripped_bytes file = file_bytes (stripped file)
 abbrev pub LacksMemoryToStrip : List ℕ → ℕ → Type 0
 LacksMemoryToStrip bytes at = IsMemory (sniffed (longs bytes)) bytes at ⊎ ((file : HunkFile) × IsFileOf bytes file × (at ≡ length (file_bytes file)))
 
--- What a strip comes to. The text begins with the stripped file, and what lies behind that is as it was; or all is as it was.
+-- What a strip comes to. The text begins with the stripped file, and what lies after that is as it was; or all is as it was.
 pub data Strips (bytes old new : List ℕ) (answer : Answer) : Type 0 where
   HasStripped : (file : HunkFile) → IsFileOf bytes file → length (stripped_bytes file) ≤ length old
       → new ≡ stripped_bytes file ++ drop (length (stripped_bytes file)) old

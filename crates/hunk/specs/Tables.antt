@@ -23,7 +23,7 @@ BeginsWithTableOf hunks bytes = (t : List TableEntry) × BeginsWithHeader bytes 
 abbrev pub AcceptsHeader : List ℕ → Fault → Type 0
 AcceptsHeader bytes f = (t : List TableEntry) → BeginsWithHeader bytes t → f.reason ≡ reasons.Budget
 
--- What the reading of a table comes to. The rows begin with it, and what lies behind it is as it was; or all are as they were.
+-- What the reading of a table comes to. The rows begin with it, and what lies after it is as it was; or all are as they were.
 pub data Tables (budget : ℕ) (bytes : List ℕ) (old new : List TableRow) (answer : Answer) : Type 0 where
   HasTable : (t : List TableEntry) → BeginsWithHeader bytes t → declared_bytes t ≤ budget → length t ≤ length old
       → new ≡ map table_row t ++ drop (length t) old

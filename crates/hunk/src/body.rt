@@ -1,4 +1,4 @@
-//! The body behind a header.
+//! The body after a header.
 ghost use Rattle.std.specs.Prelude.{◌≡◌, ◌≤◌, ◌+◌, ◌<◌, ◌^◌, ◌++◌, length, take, None, IfOk, IfErr};
 ghost use Rattle.hunk_files.specs.Fault.{HasFault};
 ghost use Rattle.hunk_scatter.specs.LoaderValues.{IsImageOf};

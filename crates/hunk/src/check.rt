@@ -26,7 +26,7 @@ pub struct FindingRow {
 /// Checks the object file that the bytes are, or the load file that they begin with.
 ///
 /// Of an object file it writes a row for each finding, in file order; a load file that is accepted
-/// has none. The rows behind them are as they were, and after a refusal all are. It answers the
+/// has none. The rows after them are as they were, and after a refusal all are. It answers the
 /// number of hunks of a load file, and 0 of an object file, the bytes of the file, and the number
 /// of findings. Memory is taken for the parts of the file and for the findings, and given back.
 ///
@@ -94,6 +94,7 @@ fn finding_row(finding: &Finding) -> FindingRow
     }
 }
 
+/// The number of a finding in `include/hunk.h`.
 fn kind_number(kind: FindingKind) -> u32
     ensures { result ≡ kind_number kind }
 {

@@ -9,7 +9,7 @@ use hunk_scatter::{Declared, HeaderLoader};
 use hunk_words::{Fault, Reason};
 use std::alloc::Global;
 
-/// The table of the header that the bytes begin with, and the bytes behind it.
+/// The table of the header that the bytes begin with, and the bytes after it.
 ///
 /// Memory is taken for 12 bytes of each hunk.
 ///
@@ -25,7 +25,7 @@ pub(crate) fn read_header(
     ensures table { IfOk result (λ read. IsHeaderTable read.0.table) }
     ensures split { IfOk result
         (λ read. bytes.entry.now ≡ header_bytes read.0.table ++ read.1.now) }
-    ensures within { IfOk result (λ read. declared_bytes read.0.table ≤ budget) }
+    ensures keeps_to_budget { IfOk result (λ read. declared_bytes read.0.table ≤ budget) }
     ensures refusal { IfErr result (IsHeaderRefusal budget bytes.entry.now) }
     ensures accepts { IfErr result (λ f. AcceptsHeaderWithMemory bytes.entry.now f.reason) }
 {

@@ -12,7 +12,7 @@ use std::alloc::Global;
 
 /// Loads the load file that the bytes begin with, each hunk for the base of its number in `bases`.
 ///
-/// The segments go to the memory, one right behind the other; what lies behind them is as it was,
+/// The segments go to the memory, one right after the other; what lies after them is as it was,
 /// and after a refusal all of it is. It answers the number of hunks, the bytes of the file, and
 /// those of the segments. Memory is taken for 12 bytes of each hunk and for the segments, once, and
 /// given back.
@@ -29,7 +29,7 @@ pub extern "C" fn hunk_load(alloc: Global, bytes: &[u8], bases: &[u32], memory: 
     load_at(alloc, bytes, memory, &Listed(bases))
 }
 
-/// Loads the load file that the bytes begin with, for hunks one right behind the other from `base`
+/// Loads the load file that the bytes begin with, for hunks one right after the other from `base`
 /// on, as they then lie in the memory.
 ///
 /// All else is as `hunk_load` does it. NoBase is the answer for the first hunk that passes the end

@@ -15,7 +15,7 @@ use hunk_words::Fault;
 #[repr(C)]
 #[derive(Clone, Copy, Debug, PartialEq, Eq)]
 pub struct Loader {
-    /// The byte of the memory where the open hunk begins; behind the last hunk, the bytes of all.
+    /// The byte of the memory where the open hunk begins; after the last hunk, the bytes of all.
     pub start: u64,
     /// The bytes of header and body that were taken.
     pub fed: u64,
@@ -25,7 +25,7 @@ pub struct Loader {
     pub refused: u32,
     /// The hunk that the answer of this refusal names.
     pub refused_hunk: u32,
-    /// The open hunk; behind the last, the number of hunks.
+    /// The open hunk; after the last, the number of hunks.
     pub hunk: u32,
     /// The number of hunks of the file; 0 where the file is whole.
     pub hunks: u32,

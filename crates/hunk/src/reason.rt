@@ -4,10 +4,10 @@ ghost use Rattle.hunk.specs.Names.{Names, IsNameOf};
 use crate::answer::{Answer, NO_ROOM, STRANGE, no_room};
 use hunk_words::Reason;
 
-/// Writes the name of an answer's number to the text, with no zero behind it.
+/// Writes the name of an answer's number to the text, with no zero after it.
 ///
 /// 0 and numbers that no call answers have the empty name. It answers the bytes of the name, at
-/// most 17. What lies behind the name is as it was. It takes no memory.
+/// most 17. What lies after the name is as it was. It takes no memory.
 ///
 /// # Errors
 ///

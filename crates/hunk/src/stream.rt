@@ -86,7 +86,7 @@ pub extern "C" fn hunk_feed(
     }
 }
 
-/// Whether the file is whole. Where it is, the memory is its hunks, one right behind the other, each
+/// Whether the file is whole. Where it is, the memory is its hunks, one right after the other, each
 /// as it lies at the base of its row.
 ///
 /// It answers the number of hunks, the bytes of the file, and those of the hunks.

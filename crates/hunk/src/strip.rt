@@ -12,7 +12,7 @@ use std::alloc::{AllocError, Global};
 /// Writes the object file that the bytes are, or the load file that they begin with, to the text,
 /// without its NAME, SYMBOL, DEBUG and ADVISORY blocks.
 ///
-/// What follows a load file is left out. The text behind what is written is as it was, and after a
+/// What follows a load file is left out. The text after what is written is as it was, and after a
 /// refusal all of it is. It answers the number of hunks of a load file, and 0 of an object file,
 /// the bytes of the file, and those of what was written, which are no more. Memory is taken for the
 /// parts of the file, and then for as many bytes as it has, once, and given back.

@@ -25,7 +25,7 @@ pub struct TableRow {
 
 /// Writes the table of the header that the bytes begin with to the rows, one for each hunk.
 ///
-/// Bytes behind the header are not read, so a first part of a file will do. The rows behind the
+/// Bytes after the header are not read, so a first part of a file will do. The rows after the
 /// table are as they were, and after a refusal all are. It answers the number of hunks, the bytes
 /// of the header, and those that the hunks declare together. No memory is taken.
 ///

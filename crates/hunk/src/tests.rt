@@ -66,7 +66,7 @@ fn loads_two_hunks(rt: HostRuntime) -> Result<(), Fail> {
 }
 
 #[test]
-fn tells_a_table_and_a_name(rt: HostRuntime) -> Result<(), Fail> {
+fn reads_a_table_and_a_name(rt: HostRuntime) -> Result<(), Fail> {
     let file = spelled(rt.alloc(), examples::TWO_HUNKS)?;
     let mut rows = [NO_ROW; 3];
     let told = hunk_table(part(&file, 0, 28), 12, rows.as_mut_slice());

@@ -16,5 +16,5 @@ pub fn describe(alloc: Global, bytes: &[u8]) -> anyhow::Result<String> {
     }
     let (file, size) = LoadFile::decode(alloc, bytes)?;
     let (hunks, rest) = (file.hunks(), bytes.len() - size);
-    Ok(format!(in alloc; "load file, {hunks} hunks, {rest} bytes behind it")?)
+    Ok(format!(in alloc; "load file, {hunks} hunks, {rest} bytes after it")?)
 }

@@ -11,7 +11,7 @@ const LIMITS: Limits = Limits {
     file_bytes: 0x0040_0000,
 };
 
-/// Loads a program behind what the memory has already, which is where the address `start` is. Gives
+/// Loads a program after what the memory has already, which is where the address `start` is. Gives
 /// the address that it begins at.
 ///
 /// # Errors

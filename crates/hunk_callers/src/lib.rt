@@ -8,6 +8,7 @@ mod emulator;
 mod libraries;
 mod pieces;
 mod program;
+mod rom;
 mod symbols;
 mod upload;
 
@@ -17,7 +18,8 @@ pub use crate::collection::{Collection, survey, survey_folder};
 pub use crate::emulator::load_program;
 pub use crate::libraries::{Seen, tour};
 pub use crate::pieces::load_pieces;
-pub use crate::program::show_file;
+pub use crate::program::{show_file, strip_file};
+pub use crate::rom::place_in_rom;
 pub use crate::symbols::{Symbol, list_symbols};
 pub use crate::upload::has_header;
 

@@ -11,11 +11,11 @@ const BUDGET: u64 = 0x0020_0000;
 const FILE_BYTES: u64 = 0x0040_0000;
 
 /// Loads a program to the address `start`, where the first piece of its file has the whole header.
-/// Bytes behind the file are left alone.
+/// Bytes after the file are left alone.
 ///
 /// # Errors
 ///
-/// A piece is rejected, the header or the file goes on behind its piece, a hunk has no base, or
+/// A piece is rejected, the header or the file goes on after its piece, a hunk has no base, or
 /// memory ran out.
 pub fn load_pieces(
     alloc: Global,
@@ -26,7 +26,7 @@ pub fn load_pieces(
     let mut header = HeaderLoader::new(alloc, BUDGET);
     let taken = header.feed(first)?;
     let Ok(declared) = header.declared() else {
-        bail!("the header goes on behind the first piece");
+        bail!("the header goes on after the first piece");
     };
     let mut body = declared.place(&Packed { start })?;
     body.feed(&first[taken..])?;

@@ -1,34 +1,60 @@
 //! A debugger's list of symbols.
 
-use hunk_blocks::{Block, Body};
+use hunk_blocks::{Block, Body, Symbols};
 use hunk_files::LoadFile;
 use std::alloc::{AllocError, Global};
 
-/// A symbol's hunk, and its value there.
-pub type Symbol = (u32, u32);
+/// A symbol of a load file.
+#[derive(Debug, Clone, Copy, PartialEq)]
+pub struct Symbol<'a> {
+    /// The number of its hunk.
+    pub hunk: u32,
+    /// Its name, with zero bytes up to a whole longword.
+    pub name: &'a [u8],
+    /// Its value, in bytes from the start of the hunk.
+    pub value: u32,
+}
 
-/// The symbols of a load file.
+/// The symbols of a load file. Their names are slices of its bytes.
 ///
 /// # Errors
 ///
 /// The file is rejected, with the place and the reason, or memory ran out.
-pub fn list_symbols(alloc: Global, bytes: &[u8]) -> anyhow::Result<Vec<Symbol>> {
+pub fn list_symbols<'a>(alloc: Global, bytes: &'a [u8]) -> anyhow::Result<Vec<Symbol<'a>>> {
     let (file, _) = LoadFile::decode(alloc, bytes)?;
     let mut found = Vec::new(alloc);
     for i in 0..file.hunks() {
-        add_symbols(i, file.hunk(i), &mut found)?;
+        add_hunk(i, file.hunk(i), &mut found)?;
     }
     Ok(found)
 }
 
-/// Adds those of a hunk.
-fn add_symbols(hunk: u32, blocks: &[Block<'_>], found: &mut Vec<Symbol>) -> Result<(), AllocError> {
+/// Adds the symbols of a hunk.
+fn add_hunk<'a>(
+    hunk: u32,
+    blocks: &[Block<'a>],
+    found: &mut Vec<Symbol<'a>>,
+) -> Result<(), AllocError> {
     for block in blocks {
         if let Body::Symbol(symbols) = block.body() {
-            for symbol in symbols {
-                found.push((hunk, symbol.value))?;
-            }
+            add_block(hunk, symbols, found)?;
         }
+    }
+    Ok(())
+}
+
+/// Adds those of a SYMBOL block.
+fn add_block<'a>(
+    hunk: u32,
+    symbols: &Symbols<'a>,
+    found: &mut Vec<Symbol<'a>>,
+) -> Result<(), AllocError> {
+    for symbol in symbols {
+        found.push(Symbol {
+            hunk,
+            name: symbol.name.bytes(),
+            value: symbol.value,
+        })?;
     }
     Ok(())
 }

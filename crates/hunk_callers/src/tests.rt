@@ -5,7 +5,8 @@ mod suite;
 mod tour;
 
 use crate::{
-    describe, has_header, list_symbols, load_pieces, load_program, show_file, survey, write_program,
+    Symbol, describe, has_header, list_symbols, load_pieces, load_program, place_in_rom, show_file,
+    strip_file, survey, write_program,
 };
 use hunk_orders::{Order, order};
 use hunk_testing::{examples, spelled};
@@ -28,7 +29,7 @@ fn describes_files(rt: HostRuntime) -> Result<(), Fail> {
     for (text, want) in [
         (
             examples::WITH_A_SYMBOL,
-            "load file, 1 hunks, 0 bytes behind it",
+            "load file, 1 hunks, 0 bytes after it",
         ),
         (examples::TWO_FINDINGS, "object file, 1 units, 2 findings"),
     ] {
@@ -43,7 +44,51 @@ fn describes_files(rt: HostRuntime) -> Result<(), Fail> {
 fn lists_symbols(rt: HostRuntime) -> Result<(), Fail> {
     let file = spelled(rt.alloc(), examples::WITH_A_SYMBOL)?;
     let found = list_symbols(rt.alloc(), file.as_slice())?;
-    assert_eq!(rt; found.as_slice(), [(0, 0)].as_slice());
+    let want = Symbol {
+        hunk: 0,
+        name: b"_m\0\0",
+        value: 0,
+    };
+    assert_eq!(rt; found.as_slice(), [want].as_slice());
+    Ok(())
+}
+
+/// Example 2, whose second hunk lies at 00FC0000, which is added to the 4 in the first.
+#[test]
+fn places_in_a_rom(rt: HostRuntime) -> Result<(), Fail> {
+    let file = spelled(rt.alloc(), examples::TWO_HUNKS)?;
+    let bases = [0x00F8_0000, 0x00FC_0000];
+    let image = place_in_rom(rt.alloc(), file.as_slice(), &bases)?;
+    let want = [
+        0x4E, 0xF9, 0, 0xFC, 0, 4, 0x4E, 0x71, 0x12, 0x34, 0x56, 0x78,
+    ];
+    assert_eq!(rt; image.as_slice(), want.as_slice());
+    for (text, want) in [
+        (examples::TWO_HUNKS, "wrong number of bases"),
+        (
+            examples::OVERLAPPING_APART,
+            "the relocations at 0 and 2 of hunk 0 overlap",
+        ),
+    ] {
+        let file = spelled(rt.alloc(), text)?;
+        match place_in_rom(rt.alloc(), file.as_slice(), &bases[..1]) {
+            Ok(_) => assert!(rt; false, "{want}"),
+            Err(error) => {
+                let text = format!(in rt.alloc(); "{error}")?;
+                assert_eq!(rt; text.as_str(), want);
+            }
+        }
+    }
+    Ok(())
+}
+
+/// Example 18 without its symbol is example 1.
+#[test]
+fn strips_a_file(rt: HostRuntime) -> Result<(), Fail> {
+    let file = spelled(rt.alloc(), examples::WITH_A_SYMBOL)?;
+    let stripped = strip_file(rt.alloc(), file.as_slice())?;
+    let want = spelled(rt.alloc(), examples::ONE_HUNK)?;
+    assert_eq!(rt; stripped.as_slice(), want.as_slice());
     Ok(())
 }
 
@@ -151,8 +196,8 @@ fn part(file: &[u8], from: usize, to: usize) -> &[u8] {
     file.get(from..to).unwrap_or(&[])
 }
 
-/// Example 2, whose header has 28 bytes, cut behind it and in the middle of a longword, with a byte
-/// behind the file.
+/// Example 2, whose header has 28 bytes, cut after it and in the middle of a longword, with a byte
+/// after the file.
 #[test]
 fn loads_pieces(rt: HostRuntime) -> Result<(), Fail> {
     let mut file = spelled(rt.alloc(), examples::TWO_HUNKS)?;
@@ -169,7 +214,7 @@ fn loads_pieces(rt: HostRuntime) -> Result<(), Fail> {
         0x4E, 0xF9, 0, 1, 0, 0x0C, 0x4E, 0x71, 0x12, 0x34, 0x56, 0x78,
     ];
     assert_eq!(rt; memory.as_slice(), want.as_slice());
-    // Behind byte 51 a file has the rest of a count, an END, a BSS of two longwords and its END.
+    // After byte 51 a file has the rest of a count, an END, a BSS of two longwords and its END.
     for (pieces, start, want) in [
         (&[second][..], 0, "at least 17 bytes are to come"),
         (

@@ -50,8 +50,8 @@ file_refused {R} {W} {T} left broken x y most failed out bytes fault result read
       succeeds = λ has reads writes. only_memory fault (left x) (left y) most bytes has.input read none has.left has.is_file;
       fails = stops_untouched failed out fault (refused_not_written _ fault is);
       no_failure = tt;
-      within = within;
-      limit = λ place at. absurd (refused_in_limit fault bytes place is at);
+      limit = within;
+      file_limit = λ place at. absurd (refused_in_limit fault bytes place is at);
       read = λ place at. absurd (refused_not_read _ fault place is at);
       tells_read = λ before now. absurd (true≢false (sym now ∙ sound before));
       refused = refuses_only fault (left x) (left y) most bytes read is;

@@ -49,8 +49,8 @@ pub record ReadsThenPuts {R W T : Type 0} (left : R → Option (List ℕ)) (brok
   pub fails : IfErr result (StopsOutput failed old new)
   -- no write has failed where all is put
   pub no_failure : OnOk result (failed new.sink ≡ failed old.sink)
-  pub within : GivesAtMost (left x) (left y) most
-  pub limit : IfErr result (StopsAtLimit (left x) (left y) most)
+  pub limit : GivesAtMost (left x) (left y) most
+  pub file_limit : IfErr result (StopsAtLimit (left x) (left y) most)
   pub read : IfErr result (StopsAtRead (left x) (left y) (broken y))
   pub tells_read : TellsReading (broken x) (broken y) result
   pub refused : IfErr result (RefusesOnly (left x) (left y) most)

@@ -36,7 +36,7 @@ ReadsInVain faults.HexText a b most failed = ⊥
 abbrev pub StopsAtLimit : Option (List ℕ) → Option (List ℕ) → ℕ → RunFault → Type 0
 StopsAtLimit a b most fault = (place : ℕ) → fault ≡ faults.Refused (record { place = place; reason = reasons.FileLimit }) → (place ≡ most) × Gave a b place
 
--- at a fault of reading the source has failed, behind this many bytes; `failed` is whether it failed
+-- at a fault of reading the source has failed, after this many bytes; `failed` is whether it failed
 abbrev pub StopsAtRead : Option (List ℕ) → Option (List ℕ) → Bool → RunFault → Type 0
 StopsAtRead a b failed fault = (place : ℕ) → fault ≡ faults.Read place → (failed ≡ true) × Gave a b place
 
@@ -48,7 +48,7 @@ TellsReading old new result = old ≡ false → new ≡ true → IsErrAnd result
 -- and `broken` whether it has failed.
 pub record ReadsAtMost {R T : Type 0} (left : R → Option (List ℕ)) (broken : R → Bool) (x y : R) (most : ℕ) (result : Result T RunFault) : Type 0 where
   pub err : IfErr result (λ fault. ReadsInVain fault (left x) (left y) most (broken y))
-  pub within : GivesAtMost (left x) (left y) most
+  pub limit : GivesAtMost (left x) (left y) most
   -- it has not come to fail where all was read
   pub sound : broken x ≡ false → OnOk result (broken y ≡ false)
   pub tells_read : TellsReading (broken x) (broken y) result

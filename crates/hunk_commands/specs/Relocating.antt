@@ -57,7 +57,7 @@ pub record ReadsShort (budget most : ℕ) (a b : Option (List ℕ)) (failed : Bo
   pub place_is : place ≡ length given
   pub short : IsShort budget given
 
--- Memory ran out where a load of the bytes that were given takes some: for a row of a header that they begin, or for the store right behind it.
+-- Memory ran out where a load of the bytes that were given takes some: for a row of a header that they begin, or for the store right after it.
 pub record LacksMemory (start budget most : ℕ) (a b : Option (List ℕ)) (failed : Bool) : Type 0 where
   pub given : List ℕ
   pub gave : Gives a b most given

@@ -114,6 +114,7 @@ fn append_bytes(bytes: &mut Vec<u8>, digits: &[u8]) -> Result<bool, AllocError>
     Ok(true)
 }
 
+/// Whether the byte may stand between digits.
 fn is_blank(byte: u8) -> bool
     ensures { result ≡ is_blank byte }
 {
@@ -153,10 +154,10 @@ pub fn unhex(alloc: Global, text: &[u8]) -> Result<Vec<u8>, RunFault>
 pub fn read_hex<S: Source>(alloc: Global, source: &mut S, most: u64) -> Result<Vec<u8>, RunFault>
     ensures spelled { IfOk result
         (λ bytes. ReadsHex (S.left source.old) (S.left source.new) most bytes.items) }
-    ensures refuses { IfErr result
+    ensures refused { IfErr result
         (λ fault. ReadsNoHex fault (S.left source.old) (S.left source.new) most
         (S.failed source.new)) }
-    ensures within { GivesAtMost (S.left source.old) (S.left source.new) most }
+    ensures limit { GivesAtMost (S.left source.old) (S.left source.new) most }
     ensures tells_read { TellsReading (S.failed source.old) (S.failed source.new) result }
 {
     let mut decoder = HexDecoder::new(alloc);

@@ -27,9 +27,9 @@ use std::alloc::Global;
 
 /// Loads a load file from the source as it comes, and prints its segments.
 ///
-/// The first hunk lies at `base`, each other one right behind the one before it. The segments have
+/// The first hunk lies at `base`, each other one right after the one before it. The segments have
 /// at most `limits.budget` bytes together, and at most `limits.file_bytes` bytes are read. The
-/// source is left just behind the file.
+/// source is left just after the file.
 ///
 /// # Errors
 ///
@@ -37,7 +37,7 @@ use std::alloc::Global;
 ///
 /// - `Refused` as `load` rejects the file, at the same place: the first fault of the file,
 ///   `Truncated`, `Budget`, `FileLimit`, or `NoBase` for the first hunk that would begin at 2^32 or
-///   end behind it.
+///   end after it.
 /// - `Read` where the source failed, at the number of bytes read.
 /// - `Memory` where memory is refused.
 /// - `Write` where the writer failed: just the first `written` bytes of the text have gone out.
@@ -58,7 +58,7 @@ pub fn relocate<R: Source, W: Sink>(
         → R.failed r.new ≡ false → W.failed w.new.sink ≡ false
         → IfErr result (λ fault. fault ≡ Memory) }
 
-    // What is read at most, whatever the answer: no byte behind the file, and none behind a
+    // What is read at most, whatever the answer: no byte after the file, and none after a
     // header that can't be placed.
     ensures limit { GivesAtMost (R.left r.old) (R.left r.new) limits.file_bytes }
     ensures one_file { StopsBehindFile (R.left r.old) (R.left r.new) }
@@ -112,6 +112,7 @@ fn put_listing<W: Sink>(w: &mut LongWriter<W>, image: &Image) -> Result<(), Writ
     result
 }
 
+/// Prints the segments of the image.
 fn print_listing<W: Sink>(page: &mut Printer<'_, W>, image: &Image)
     ensures { Prints page.old page.new (image_listing image.now) }
 {

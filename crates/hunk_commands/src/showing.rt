@@ -65,6 +65,7 @@ fn put_listing<W: Sink>(w: &mut LongWriter<W>, file: &HunkFile<'_>) -> Result<()
     result
 }
 
+/// Prints the hunks of the file, and its blocks.
 fn print_listing<W: Sink>(page: &mut Printer<'_, W>, file: &HunkFile<'_>)
     ensures { Prints page.old page.new (file_listing file.now) }
 {

@@ -68,6 +68,7 @@ fn put_report<W: Sink>(w: &mut LongWriter<W>, file: &HunkFile<'_>) -> Result<u64
     Ok(count)
 }
 
+/// Prints the report on the file, and answers how many findings it has.
 fn print_report<W: Sink>(page: &mut Printer<'_, W>, file: &HunkFile<'_>) -> u64
     requires { finding_count file.now < 2 ^ 64 }
     ensures prints { Prints page.old page.new (report file.now) }

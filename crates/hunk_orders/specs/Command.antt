@@ -17,8 +17,8 @@ abbrev pub mandatory : Rule → Rule
 mandatory rule = record rule { required = true }
 
 -- show [--hex] [FILE], and validate
-abbrev pub listing_command : Text → App
-listing_command name = with_rule (with_rule (new_app name) (flag (codes "hex"))) (new_rule (codes "FILE"))
+abbrev pub plain_command : Text → App
+plain_command name = with_rule (with_rule (new_app name) (flag (codes "hex"))) (new_rule (codes "FILE"))
 
 -- relocate [--hex] --base HEX [--budget N] [FILE]
 abbrev pub relocate_command : App
@@ -37,5 +37,5 @@ program = record { top = record (new_shape (codes "hunkinfo")) { subcommand_requ
 -- the program with its subcommands
 abbrev pub hunkinfo : App
 hunkinfo = with_subcommand (with_subcommand (with_subcommand (with_subcommand program
-    (listing_command (codes "show")).top) (listing_command (codes "validate")).top)
+    (plain_command (codes "show")).top) (plain_command (codes "validate")).top)
     relocate_command.top) rewrite_command.top

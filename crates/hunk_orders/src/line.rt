@@ -29,6 +29,7 @@ const DEFAULT_BUDGET: u64 = 16_777_216;
 /// The words that stand for none.
 static STORED: [&str; 5] = ["hunkinfo", "relocate", "--hex", "--base", "00000000"];
 
+/// `show`, by what clap has found.
 fn show_order(alloc: Global, found: &ArgMatches<'_>) -> Result<Order, OrderFault>
     ensures { AnswersOrder (show_order (rows_of (found_of found.now))) result }
 {
@@ -38,6 +39,7 @@ fn show_order(alloc: Global, found: &ArgMatches<'_>) -> Result<Order, OrderFault
     })
 }
 
+/// `validate`.
 fn validate_order(alloc: Global, found: &ArgMatches<'_>) -> Result<Order, OrderFault>
     ensures { AnswersOrder (validate_order (rows_of (found_of found.now))) result }
 {
@@ -47,13 +49,12 @@ fn validate_order(alloc: Global, found: &ArgMatches<'_>) -> Result<Order, OrderF
     })
 }
 
+/// `relocate`: its base is mandatory, and its budget has a default.
 fn relocate_order(alloc: Global, found: &ArgMatches<'_>) -> Result<Order, OrderFault>
     ensures { AnswersOrder (relocate_order (rows_of (found_of found.now))) result }
 {
-    let base = match text_of(found, "base") {
-        Some(text) => base_of(text).ok_or(OrderFault::Line)?,
-        None => return Err(OrderFault::Line),
-    };
+    let base = text_of(found, "base").ok_or(OrderFault::Line)?;
+    let base = base_of(base).ok_or(OrderFault::Line)?;
     let budget = match text_of(found, "budget") {
         Some(text) => budget_of(text).ok_or(OrderFault::Line)?,
         None => DEFAULT_BUDGET,
@@ -66,15 +67,12 @@ fn relocate_order(alloc: Global, found: &ArgMatches<'_>) -> Result<Order, OrderF
     })
 }
 
+/// `rewrite`, with both of its files.
 fn rewrite_order(alloc: Global, found: &ArgMatches<'_>) -> Result<Order, OrderFault>
     ensures { AnswersOrder (rewrite_order (rows_of (found_of found.now))) result }
 {
-    let Some(input) = name_of(alloc, found, "IN")? else {
-        return Err(OrderFault::Line);
-    };
-    let Some(output) = name_of(alloc, found, "OUT")? else {
-        return Err(OrderFault::Line);
-    };
+    let input = name_of(alloc, found, "IN")?.ok_or(OrderFault::Line)?;
+    let output = name_of(alloc, found, "OUT")?.ok_or(OrderFault::Line)?;
     Ok(Order::Rewrite {
         strip: is_set(found, "strip"),
         input,

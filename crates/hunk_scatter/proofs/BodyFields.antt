@@ -79,7 +79,7 @@ module _ (rows : List Row) (store : List ℕ) (state : BodyState) (pending : Lis
       hunks = h.hunks;
       size = h.size;
       reading = λ e. more_pending rows store state pending fed gone bytes few;
-      own = h.own;
+      own_reasons = h.own_reasons;
     }
 
     module _ (bytes : List ℕ) (n : ℕ) (long : length bytes ≡ n) (w : ℕ) (is : IsLong w) (gathers : pending ++ bytes ≡ bytes_of (w ∷ [])) where
@@ -90,7 +90,7 @@ module _ (rows : List Row) (store : List ℕ) (state : BodyState) (pending : Lis
         size = length-stored_in (words_of rows) (bases_of rows) state.hunk state.start state.position w store in_room ok ∙ h.size;
         hunks = h.hunks;
         reading = λ e. more_read rows store state pending fed gone bytes w is gathers ok;
-        own = h.own;
+        own_reasons = h.own_reasons;
       }
 
       pub four_before : 4 ≤ count + n
@@ -119,7 +119,7 @@ module _ (rows : List Row) (store : List ℕ) (state : BodyState) (pending : Lis
       hunks = h.hunks;
       size = same ∙ h.size;
       reading = λ e. r;
-      own = h.own;
+      own_reasons = h.own_reasons;
     }
 
     -- A refusal leaves what was fed.
@@ -129,7 +129,7 @@ module _ (rows : List Row) (store : List ℕ) (state : BodyState) (pending : Lis
       hunks = h.hunks;
       size = same ∙ h.size;
       reading = λ e. absurd cc;
-      own = λ g e. let d : f ≡ g = cc in subst (λ (x : Fault). IsTrue (is_of_body x.reason)) d own;
+      own_reasons = λ g e. let d : f ≡ g = cc in subst (λ (x : Fault). IsTrue (is_of_body x.reason)) d own;
     }
 
 -- a Vec whose elements were written through a slice

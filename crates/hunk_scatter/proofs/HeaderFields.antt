@@ -223,7 +223,7 @@ heading_new budget = record {
           none_passes = λ before after word d x. absurd (empty before word after d);
         };
       };
-  own = λ f e. absurd cc;
+  own_reasons = λ f e. absurd cc;
   cleared = λ f e. absurd cc;
 }
   where
@@ -249,7 +249,7 @@ module _ (budget : ℕ) (rows : List Row) (s : HeaderState) (pending : List ℕ)
           whole = λ done. let clash : true ≡ false = sym done ∙ more in absurd cc;
           has_read = now.has_read;
         };
-    own = h.own;
+    own_reasons = h.own_reasons;
     cleared = h.cleared;
   }
 
@@ -294,7 +294,7 @@ module _ (budget : ℕ) (rows : List Row) (s : HeaderState) (pending : List ℕ)
                 whole = λ done. refl;
                 has_read = k;
               };
-          own = h.own;
+          own_reasons = h.own_reasons;
           cleared = λ f e. absurd (let d : None ≡ Some f = sym none ∙ e in cc);
         }
 
@@ -320,7 +320,7 @@ heading_refused budget rows s pending count fed f counted cleared own = record {
   counted = counted;
   few_rows = omega (arith, ap length cleared);
   reading = λ e. absurd cc;
-  own = λ g e. let d : f ≡ g = cc in subst (λ (x : Fault). IsTrue (is_of_header x.reason)) d own;
+  own_reasons = λ g e. let d : f ≡ g = cc in subst (λ (x : Fault). IsTrue (is_of_header x.reason)) d own;
   cleared = λ g e. cleared;
 }
 

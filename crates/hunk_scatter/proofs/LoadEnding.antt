@@ -115,7 +115,7 @@ module _ (base : Placing) (budget limit : ℕ) (old left : Option (List ℕ)) (f
     missing t _ e u = absurd u
 
     stops : (f : Fault) → LoadStop base budget limit left failed given f → f.reason ≡ reasons.OutOfMemory
-    stops f (InHeader (inl s)) = by_header f.reason f.place s.own s.fault
+    stops f (InHeader (inl s)) = by_header f.reason f.place s.own_reasons s.fault
     stops f (InHeader (inr (s, n))) = not_short f s
     stops f (Between t h u p) =
         let k = text_header v is in
@@ -190,7 +190,7 @@ module _ (base : Placing) (budget limit : ℕ) (old left : Option (List ℕ)) (f
 
     in_header : (f : Fault) → StopsInHeader budget given f → PassesBudget budget given at ⊎ ((m : List ℕ) × (here.before ≡ longs given ++ m)) → IsOverBudget at f
     in_header f s (inl q) = s.over at q
-    in_header f s (inr (m, d)) = outside f f.reason refl s.own s.fault m d
+    in_header f s (inr (m, d)) = outside f f.reason refl s.own_reasons s.fault m d
 
     over : (f : Fault) → LoadStop base budget limit left failed given f → IsOverBudget at f
     over f (InHeader (inl s)) = in_header f s (passes_front budget given behind at here)
@@ -235,7 +235,7 @@ module _ (old left : Option (List ℕ)) (limit : ℕ) (failed : Bool) (given : L
           inr (e, subst (λ (n : ℕ). IsTruncated input n) (sym p) (subst (λ (bs : List ℕ). IsTruncated bs (4 * (length given / 4))) all s.truncated))
 
   file_stop : (base : Placing) (budget : ℕ) (f : Fault) → IsTrue (is_of_file f.reason) → LoadStop base budget limit left failed given f → HasFault input f.place f.reason
-  file_stop base budget f o (InHeader (inl s)) = refused f.place f.reason (file_header budget given f.reason f.place o s.own s.fault)
+  file_stop base budget f o (InHeader (inl s)) = refused f.place f.reason (file_header budget given f.reason f.place o s.own_reasons s.fault)
   file_stop base budget f o (InHeader (inr (s, n))) = short f o s
   file_stop base budget f o (Between t h u p) = absurd (place_not base t f.reason o u)
   file_stop base budget f o (InBody t header more h e (inl s)) = refused f.place f.reason s.refusal

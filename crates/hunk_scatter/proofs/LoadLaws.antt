@@ -109,10 +109,10 @@ header_within_of budget t header more given h e at p = table_within t h.is_table
 
 -- Each answer is as its reason says.
 pub stop_is : (base : Placing) (budget limit : ℕ) (left : Option (List ℕ)) (failed : Bool) (given : List ℕ) (f : Fault) → LoadStop base budget limit left failed given f → IsLoadFault base budget limit left failed given f
-stop_is base budget limit left failed given f (InHeader (inl s)) = by_header base budget limit left failed given f.place f.reason s.own s.fault s.begins
+stop_is base budget limit left failed given f (InHeader (inl s)) = by_header base budget limit left failed given f.place f.reason s.own_reasons s.fault s.begins
 stop_is base budget limit left failed given f (InHeader (inr (s, n))) = short_fault base budget limit left failed given f s n
 stop_is base budget limit left failed given f (Between t h u p) = between base budget limit left failed given f.place f.reason t h u p
-stop_is base budget limit left failed given f (InBody t header more h e (inl s)) = by_body base budget limit left failed given f.place f.reason s.own s.refusal
+stop_is base budget limit left failed given f (InBody t header more h e (inl s)) = by_body base budget limit left failed given f.place f.reason s.own_reasons s.refusal
 stop_is base budget limit left failed given f (InBody t header more h e (inr s)) = short_fault base budget limit left failed given f s (header_within_of budget t header more given h e)
 
 -- ---- the reasons that are answered
@@ -141,10 +141,10 @@ short_own limit left failed given f s = go s.why
     go (inr (inr w)) = ap is_of_load w.0
 
 pub stop_own : (base : Placing) (budget limit : ℕ) (left : Option (List ℕ)) (failed : Bool) (given : List ℕ) (f : Fault) → LoadStop base budget limit left failed given f → IsTrue (is_of_load f.reason)
-stop_own base budget limit left failed given f (InHeader (inl s)) = header_own f.reason s.own
+stop_own base budget limit left failed given f (InHeader (inl s)) = header_own f.reason s.own_reasons
 stop_own base budget limit left failed given f (InHeader (inr (s, n))) = short_own limit left failed given f s
 stop_own base budget limit left failed given f (Between t h u p) = place_own base t f.reason u
-stop_own base budget limit left failed given f (InBody t header more h e (inl s)) = body_own f.reason s.own
+stop_own base budget limit left failed given f (InBody t header more h e (inl s)) = body_own f.reason s.own_reasons
 stop_own base budget limit left failed given f (InBody t header more h e (inr s)) = short_own limit left failed given f s
 
 -- ---- of an end

@@ -62,7 +62,7 @@ placed_loading old rows total budget count fed store h same s =
           λ e.
           subst (λ (bs : List ℕ). StandsBehind rows bs (state_at [] (open_next (length (entries_of rows)) (length (entries_of rows)))) [] fed) (sym zero_bytes)
           (start_reading rows (header_words (entries_of rows)) fed (λ none. omega (arith, ap length none, table.some, length-map rows row_entry)) (h.header ∙ ap header_bytes (sym same)) (header_read (entries_of rows) table));
-      own = λ f e. absurd cc;
+      own_reasons = λ f e. absurd cc;
     }
 
 -- a Vec whose elements were written through a slice

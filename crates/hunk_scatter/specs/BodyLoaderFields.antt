@@ -25,7 +25,7 @@ abbrev pub EndsWhole : Next → List ℕ → Type 0
 EndsWhole (More p) pending = Unit {0}
 EndsWhole (Finished v) pending = pending ≡ []
 
--- A loader stands behind these bytes: longwords were read and bytes are pending; the numbers and the store are those of
+-- A loader stands after these bytes: longwords were read and bytes are pending; the numbers and the store are those of
 -- what was read.
 pub record StandsBehind (rows : List Row) (store : List ℕ) (state : BodyState) (pending fed : List ℕ) : Type 0 where
   pub ws : List ℕ
@@ -44,16 +44,16 @@ pub record BodyLoaderInvariant (rows : List Row) (store : List ℕ) (state : Bod
   pub hunks : length rows ≤ most_hunks
   pub size : length store ≡ declared_bytes (entries_of rows)
   pub reading : refused ≡ None → StandsBehind rows store state pending fed
-  pub own : (f : Fault) → refused ≡ Some f → IsTrue (is_of_body f.reason)
+  pub own_reasons : (f : Fault) → refused ≡ Some f → IsTrue (is_of_body f.reason)
 
 -- ---- longwords of a piece, whatever was fed before
 
--- Where a loader stands behind bytes, with its store, it stands then behind these bytes as well.
+-- Where a loader stands after bytes, with its store, it stands then after these bytes as well.
 abbrev pub ReadsOn : List Row → List ℕ → BodyState → List ℕ → List ℕ → BodyState → Type 0
 ReadsOn rows store state bytes after behind =
     (fed : List ℕ) → StandsBehind rows store state [] fed → StandsBehind rows after behind [] (fed ++ bytes)
 
--- Where a loader stands behind bytes, the longword is refused that the piece begins with.
+-- Where a loader stands after bytes, the longword is refused that the piece begins with.
 abbrev pub RefusesFirstLong : List Row → List ℕ → BodyState → List ℕ → Reason → Type 0
 RefusesFirstLong rows store state piece reason =
     (fed : List ℕ) → StandsBehind rows store state [] fed → HasRefusal (fed ++ piece) (length fed) reason
@@ -73,7 +73,7 @@ pub record TakesFront (rows : List Row) (store : List ℕ) (state : BodyState) (
 -- The piece is refused at its first longword.
 pub record RefusesFront (rows : List Row) (store : List ℕ) (state : BodyState) (piece : List ℕ) (reason : Reason) : Type 0 where
   pub refuses : RefusesFirstLong rows store state piece reason
-  pub own : IsTrue (is_of_body reason)
+  pub own_reasons : IsTrue (is_of_body reason)
 
 -- A front of the piece is taken, or the piece is refused at its first longword.
 pub record TakesOrRefuses (rows : List Row) (store : List ℕ) (state : BodyState) (piece after : List ℕ) (behind : BodyState) (result : Result ℕ Reason) : Type 0 where

@@ -16,7 +16,7 @@ sizes_of table = map (λ e. e.word) table
 abbrev pub before : List HunkValue → ℕ
 before finished = sum_by (λ h. 4 * size_longs h.entry.word) finished
 
--- behind these hunks
+-- after these hunks
 abbrev pub state_at : List HunkValue → Position → BodyState
 state_at finished position = record { hunk = length finished; start = before finished; position = position }
 

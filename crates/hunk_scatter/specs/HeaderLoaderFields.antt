@@ -45,7 +45,7 @@ declared_so_far n = declared_bytes (table_of n)
 abbrev pub OpensFirst : Next → Type 0
 OpensFirst n = is_behind_header (position_of n) ≡ true → n ≡ open_hunk (length (table_of n)) [] (table_of n)
 
--- The longword is accepted by its own test and keeps to the budget, and behind it the state is the next.
+-- The longword is accepted by its own test and keeps to the budget, and after it the state is the next.
 pub record PassesWord (budget : ℕ) (s : HeaderState) (w : ℕ) (next : HeaderState) : Type 0 where
   pub accepted : refuse (role_at 0 s.position) w ≡ None
   pub within : s.total + declares s.position w ≤ budget
@@ -98,7 +98,7 @@ pub record HeaderLoaderInvariant (budget : ℕ) (rows : List Row) (s : HeaderSta
   pub counted : count ≡ length fed
   pub few_rows : length rows ≤ most_hunks
   pub reading : refused ≡ None → HeaderReading budget rows s pending fed
-  pub own : (f : Fault) → refused ≡ Some f → IsTrue (is_of_header f.reason)
+  pub own_reasons : (f : Fault) → refused ≡ Some f → IsTrue (is_of_header f.reason)
   pub cleared : (f : Fault) → refused ≡ Some f → rows ≡ []
 
 -- What is kept of a header that is whole.

@@ -36,12 +36,12 @@ abbrev pub IsNotPlaced : Placing → ℕ → List TableEntry → Type 0
 IsNotPlaced base budget table =
     (budget < declared_bytes table) ⊎ ((hunk : ℕ) × (hunk < length table) × (base_at base table hunk ≡ None))
 
--- Where a load file was in front, all that was behind it is still to be read.
+-- Where a load file was in front, all that was after it is still to be read.
 abbrev pub StopsBehindFile : Option (List ℕ) → Option (List ℕ) → Type 0
 StopsBehindFile old new =
     (v : LoadFileValue) (rest : List ℕ) → IsLoadFile v → old ≡ Some (bytes_of (text v) ++ rest) → KeepsRest new rest
 
--- Where the header of a table was in front that can't be placed, all that was behind it is.
+-- Where the header of a table was in front that can't be placed, all that was after it is.
 abbrev pub StopsBehindHeader : Placing → ℕ → Option (List ℕ) → Option (List ℕ) → Type 0
 StopsBehindHeader base budget old new =
     (t : List TableEntry) (rest : List ℕ) → IsHeaderTable t → old ≡ Some (header_bytes t ++ rest)
@@ -86,7 +86,7 @@ pub record IsHeaderWithin (budget : ℕ) (bytes : List ℕ) (table : List TableE
   pub header : bytes ≡ header_bytes table
   pub within : declared_bytes table ≤ budget
 
--- Memory ran out for a row, at the longword that completes it, or for the store, behind the header of a table whose hunks
+-- Memory ran out for a row, at the longword that completes it, or for the store, after the header of a table whose hunks
 -- all have a base.
 abbrev pub LacksMemoryAt : Placing → ℕ → List ℕ → ℕ → Type 0
 LacksMemoryAt base budget given at =
@@ -133,13 +133,13 @@ IsReadFault limit left failed count f =
 pub record StopsInHeader (budget : ℕ) (bytes : List ℕ) (f : Fault) : Type 0 where
   pub fault : IsHeaderFault budget bytes f
   pub over : (at : ℕ) → PassesBudget budget bytes at → IsOverBudget at f
-  pub own : IsTrue (is_of_header f.reason)
+  pub own_reasons : IsTrue (is_of_header f.reason)
   pub begins : f.reason ≡ reasons.OutOfMemory → IsHeaderFront bytes
 
 -- The loader of the body has.
 pub record StopsInBody (bytes : List ℕ) (f : Fault) : Type 0 where
   pub refusal : HasRefusal bytes f.place f.reason
-  pub own : IsTrue (is_of_body f.reason)
+  pub own_reasons : IsTrue (is_of_body f.reason)
 
 -- The reading has.
 pub record StopsShort (limit : ℕ) (left : Option (List ℕ)) (failed : Bool) (bytes : List ℕ) (f : Fault) : Type 0 where

@@ -35,7 +35,7 @@ pub record ImageValue : Type 0 where
   pub rows : List Row
   pub segments : List (List ℕ)
 
--- This many bytes of the piece were taken: they are fed behind those that were fed before.
+-- This many bytes of the piece were taken: they are fed after those that were fed before.
 abbrev pub FeedsFront : List ℕ → List ℕ → List ℕ → ℕ → Type 0
 FeedsFront before piece after n = (n ≤ length piece) × (after ≡ before ++ take n piece)
 
@@ -68,7 +68,7 @@ abbrev pub segments_in : List ℕ → List ℕ → List (List ℕ)
 segments_in [] store = []
 segments_in (size ∷ sizes) store = take (4 * size_longs size) store ∷ segments_in sizes (drop (4 * size_longs size) store)
 
--- the segments, one right behind the other
+-- the segments, one right after the other
 abbrev pub joined : List (List ℕ) → List ℕ
 joined segments = flat_map (λ segment. segment) segments
 

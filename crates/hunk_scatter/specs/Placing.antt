@@ -23,7 +23,7 @@ packed_base start row before =
 abbrev pub listed_in : List ℕ → Placing
 listed_in bases = λ hunk row before. slice_get bases hunk
 
--- hunks one right behind the other from a first byte on
+-- hunks one right after the other from a first byte on
 abbrev pub packed_from : ℕ → Placing
 packed_from start = λ hunk row before. packed_base start row before
 

@@ -13,11 +13,11 @@ use Rattle.hunk_scatter.specs.declared.stream.Standing.{Standing}
 use Rattle.hunk_scatter.specs.declared.stream.Stop.{Stop}
 use Rattle.hunk_scatter.specs.declared.stream.Stop.TheVariants as stops
 
--- A loader with these rows stands so behind the bytes, header and body joined, and has made this store of them.
+-- A loader with these rows stands so after the bytes, header and body joined, and has made this store of them.
 abbrev pub IsFed : List Row → List ℕ → Standing → List ℕ → Type 0
 IsFed rows store s fed = BodyLoaderInvariant rows store s.state (pending_of s.pending) s.fed None fed
 
--- A loader that stood behind bytes stops for a refusal alone.
+-- A loader that stood after bytes stops for a refusal alone.
 abbrev pub StopsAt : List ℕ → Stop → Type 0
 StopsAt bytes (stops.Refused f) = HasRefusal bytes f.place f.reason
 StopsAt bytes stops.Strange = ⊥
@@ -27,7 +27,7 @@ abbrev pub StopsForBody : Stop → Type 0
 StopsForBody (stops.Refused f) = IsTrue (is_of_body f.reason)
 StopsForBody stops.Strange = ⊤
 
--- Of a piece behind these bytes a first part was taken: behind both a loader stands so, with this store. Or it stops.
+-- Of a piece after these bytes a first part was taken: after both a loader stands so, with this store. Or it stops.
 abbrev pub TakesOn : List Row → List ℕ → List ℕ → List ℕ → Result (Standing × ℕ) Stop → Type 0
 TakesOn rows store fed piece result =
     MatchResult result (λ r. IsFed rows store r.0 (fed ++ take r.1 piece)) (StopsAt (fed ++ piece))
@@ -38,14 +38,14 @@ pub record CountsTaken (at : Standing) (piece : List ℕ) (to : Standing) (n : �
   pub inside : n ≤ length piece
   pub counts : to.fed ≡ at.fed + n
 
--- Where the rows are those of a table, its header has this many bytes, and it declares as many as there is room for: behind
+-- Where the rows are those of a table, its header has this many bytes, and it declares as many as there is room for: after
 -- that header a loader stands so.
 abbrev pub BeginsLoading : List Row → ℕ → ℕ → List ℕ → Standing → Type 0
 BeginsLoading rows header room store s =
     IsHeaderTable (entries_of rows) → header ≡ length (header_bytes (entries_of rows))
     → room ≡ declared_bytes (entries_of rows) → IsFed rows store s (header_bytes (entries_of rows))
 
--- Where a loader stands so behind bytes: the file is whole, and the store is its segments; or the bytes are cut short, and
+-- Where a loader stands so after bytes: the file is whole, and the store is its segments; or the bytes are cut short, and
 -- none of them is refused.
 abbrev pub EndsLoading : Standing → Bool → Type 0
 EndsLoading s true =

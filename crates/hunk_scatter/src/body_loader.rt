@@ -278,7 +278,7 @@ impl BodyLoader {
         ensures taken { IfOk result (FeedsFront self.old.fed piece.now self.new.fed) }
         ensures all { IfOk result
             (λ n. n < length piece.now → IsWholeFile self.new.rows self.new.fed) }
-        ensures within { OnOk result (IsWithinFile self.new.fed) }
+        ensures inside_file { OnOk result (IsWithinFile self.new.fed) }
         ensures takes_no_more { self.old.refused ≡ None → IsWholeFile self.old.rows self.old.fed
             → result ≡ Ok 0 }
         ensures reading { OnOk result ((self.old.refused ≡ None) × (self.new.refused ≡ None)) }

@@ -56,7 +56,8 @@ impl BodyState {
     #[inline(always)]
     pub(crate) fn step(self, rows: &[Row], word: u32) -> BodyState
         requires rows { length rows.now < 2 ^ 32 }
-        requires in_store { (total : ℕ) × (total < 2 ^ 64) × IsInStore (words_of rows.now) total self }
+        requires in_store { (total : ℕ) × (total < 2 ^ 64)
+            × IsInStore (words_of rows.now) total self }
         ensures { result ≡ step_body (words_of rows.now) self word }
     {
         let position = self.position.step(word);

@@ -68,6 +68,7 @@ impl fmt::Display for Unplaced {
 
 impl Error for Unplaced {}
 
+/// That many bytes, all of them 0.
 fn zero_bytes(alloc: Global, count: usize) -> Result<Vec<u8>, AllocError>
     ensures { IfOk result (λ v. v.items ≡ replicate count 0) }
 {

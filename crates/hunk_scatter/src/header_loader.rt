@@ -137,7 +137,8 @@ impl HeaderLoader {
         ensures clean { self.now.refused ≡ None → HasNoRefusal self.now.fed }
         ensures truncated { self.now.refused ≡ None
             → IsTruncated self.now.fed (4 * (length self.now.fed / 4)) }
-        ensures within { self.now.refused ≡ None → KeepsToBudget self.now.budget self.now.fed }
+        ensures keeps_to_budget { self.now.refused ≡ None
+            → KeepsToBudget self.now.budget self.now.fed }
     {
         if self.refused.is_some() {
             return 0;
@@ -171,7 +172,7 @@ impl HeaderLoader {
     }
 
     /// Consumes the piece, or up to the end of the header where that stands inside it, and gives
-    /// the number of bytes consumed: none behind the header. A header that is whole consumes
+    /// the number of bytes consumed: none after the header. A header that is whole consumes
     /// nothing. Fewer than 2^64 bytes may be fed in all.
     ///
     /// # Errors
@@ -192,7 +193,7 @@ impl HeaderLoader {
         // Success.
         ensures taken { IfOk result (FeedsFront self.old.fed piece.now self.new.fed) }
         ensures all { IfOk result (λ n. n < length piece.now → IsHeader self.new.fed) }
-        ensures within { OnOk result (IsWithinHeader self.new.fed) }
+        ensures inside_header { OnOk result (IsWithinHeader self.new.fed) }
         ensures takes_no_more { self.old.refused ≡ None → IsHeader self.old.fed → result ≡ Ok 0 }
         ensures reading { OnOk result ((self.old.refused ≡ None) × (self.new.refused ≡ None)) }
 
@@ -260,7 +261,7 @@ impl HeaderLoader {
         ensures table { IfOk result
             (λ d. IsHeaderTable d.table × (self.fed ≡ header_bytes d.table)) }
         ensures budget { IfOk result (λ d. d.budget ≡ self.budget) }
-        ensures within { IfOk result (λ d. declared_bytes d.table ≤ self.budget) }
+        ensures keeps_to_budget { IfOk result (λ d. declared_bytes d.table ≤ self.budget) }
         ensures reading { OnOk result (self.refused ≡ None) }
         ensures finishes { self.refused ≡ None → IsHeader self.fed → IsOk result }
         ensures same { IfErr result (λ loader. loader ≡ self) }

@@ -20,7 +20,7 @@ pub struct HeaderSize {
 
 /// The size of the header that the bytes begin with. It takes no memory.
 ///
-/// Bytes behind the header are not read, so a first part of a file will do.
+/// Bytes after the header are not read, so a first part of a file will do.
 ///
 /// # Errors
 ///

@@ -78,6 +78,7 @@ pub(crate) fn starts_of(rows: &[Row]) -> [u64; STARTS]
     starts
 }
 
+/// The bytes of a hunk in the store.
 fn segment_of<'a>(rows: &[Row], starts: &[u64], store: &'a [u8], i: usize) -> &'a [u8]
     requires hunk { i < length rows.now }
     requires few { length rows.now ≤ most_hunks }
@@ -138,7 +139,7 @@ impl Image {
         }
     }
 
-    /// The segments of all hunks as one slice, each right behind the one before it.
+    /// The segments of all hunks as one slice, each right after the one before it.
     pub fn joined(&self) -> &[u8]
         ensures segments { result.now ≡ joined self.now.segments }
         ensures size { length result.now ≡ declared_bytes (entries_of self.now.rows) }

@@ -41,7 +41,7 @@ fn read_piece<R: Source>(
 ) -> Result<usize, LoadFault>
     requires nonempty { 0 < want }
     requires buffer { want ≤ length buf.old }
-    requires within { count ≤ limit }
+    requires below_limit { count ≤ limit }
     ensures nonempty { IfOk result (λ n. 0 < n) }
     ensures most { IfOk result (λ n. n ≤ want) }
     ensures limit { IfOk result (λ n. count + n ≤ limit) }
@@ -49,7 +49,7 @@ fn read_piece<R: Source>(
     ensures fault { IfErr result (IsReadFault limit (R.left r.new) (R.failed r.new) count) }
     ensures nothing { OnErr result (Consumes (R.left r.old) (R.left r.new) []) }
     ensures no_failure { OnOk result (R.failed r.new ≡ R.failed r.old) }
-    ensures read { TellsFailure (R.failed r.old) (R.failed r.new) result }
+    ensures tells_read { TellsFailure (R.failed r.old) (R.failed r.new) result }
 {
     if count >= limit {
         return Err(LoadFault {
@@ -85,7 +85,7 @@ fn load_header<R: Source>(
         (λ declared. IsHeaderTable declared.table × (given ≡ header_bytes declared.table)
         × (declared_bytes declared.table ≤ limits.budget))
         (IsHeaderStop limits.budget limits.file_bytes (R.left r.new) (R.failed r.new) given) }
-    ensures read { TellsFailure (R.failed r.old) (R.failed r.new) result }
+    ensures tells_read { TellsFailure (R.failed r.old) (R.failed r.new) result }
 {
     let mut loader = HeaderLoader::new(alloc, limits.budget);
     'reading: loop {
@@ -102,7 +102,7 @@ fn load_header<R: Source>(
     }
 }
 
-/// Reads the body behind its header.
+/// Reads the body after its header.
 fn load_body<R: Source>(
     r: &mut R,
     buf: &mut [u8],
@@ -111,7 +111,7 @@ fn load_body<R: Source>(
 ) -> Result<Image, LoadFault>
     requires buffer { length buf.old ≡ most_want }
     requires reading { loader.refused ≡ None }
-    requires within { length loader.fed ≤ limit }
+    requires below_limit { length loader.fed ≤ limit }
     requires in_file { IsWithinFile loader.fed }
     ensures ends { (more : List ℕ) × Consumes (R.left r.old) (R.left r.new) more
         × (length (loader.fed ++ more) ≤ limit) × IsWithinFile (loader.fed ++ more)
@@ -119,7 +119,7 @@ fn load_body<R: Source>(
         (λ image. IsImageOf loader.rows (loader.fed ++ more) image.segments
         × (image.rows ≡ loader.rows))
         (IsBodyStop limit (R.left r.new) (R.failed r.new) (loader.fed ++ more)) }
-    ensures read { TellsFailure (R.failed r.old) (R.failed r.new) result }
+    ensures tells_read { TellsFailure (R.failed r.old) (R.failed r.new) result }
 {
     let mut loader = loader;
     'reading: loop {
@@ -147,7 +147,7 @@ fn load_placed<R: Source, P: Placer>(
         × IsWithinFile given × KeepsToHeader (P.base p.now) limits.budget given
         × LoadEnds (P.base p.now) limits.budget limits.file_bytes
         (R.left r.new) (R.failed r.new) given result }
-    ensures read { TellsFailure (R.failed r.old) (R.failed r.new) result }
+    ensures tells_read { TellsFailure (R.failed r.old) (R.failed r.new) result }
 {
     let mut buf = [0u8; MOST_WANT];
     let declared = load_header(alloc, r, buf.as_mut_slice(), limits)?;
@@ -178,7 +178,7 @@ fn load_placed<R: Source, P: Placer>(
 /// - `Truncated` where the source ends inside the file, at 4 times the number of whole longwords.
 /// - `Budget` at the size word with which the declared bytes first pass `limits.budget`, and
 ///   `NoBase`, with the number of the first hunk without a base, at the end of the header: both
-///   before a byte behind the header is read.
+///   before a byte after the header is read.
 /// - `FileLimit` where `limits.file_bytes` bytes were read and more are needed, at that number.
 /// - `Read` where the source failed, at the number of bytes read.
 /// - `OutOfMemory` where memory is refused: for a row at the longword that completes it, or for the
@@ -221,7 +221,7 @@ pub fn load<R: Source, P: Placer>(
     ensures own_reasons { IfErr result (λ f. IsTrue (is_of_load f.reason)) }
 
     // A read that fails ends the load.
-    ensures read { TellsFailure (R.failed r.old) (R.failed r.new) result }
+    ensures tells_read { TellsFailure (R.failed r.old) (R.failed r.new) result }
 {
     load_placed(alloc, r, limits, p)
 }

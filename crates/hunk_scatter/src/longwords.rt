@@ -113,7 +113,7 @@ fn take_at(
 /// Takes longwords from the front of the piece, and gives their number of bytes. The phases are
 /// told apart here, once for all that is asked of them.
 ///
-/// It asks for room alone: what was fed before may be any bytes behind which a loader stands so.
+/// It asks for room alone: what was fed before may be any bytes after which a loader stands so.
 #[inline(always)]
 pub(crate) fn take_front(
     store: &mut [u8],

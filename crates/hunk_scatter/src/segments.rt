@@ -38,7 +38,7 @@ impl<'a> Iterator for Segments<'a> {
 
     ghost remaining = { λ s. at_most (length s.rows) };
 
-    /// The next segment, behind its row.
+    /// The next segment, after its row.
     fn next(&mut self) -> Option<(Row, &'a [u8])> {
         let (row, rows) = self.rows.split_first()?;
         let (segment, rest) = self.rest.split_at(row.size().bytes() as usize);

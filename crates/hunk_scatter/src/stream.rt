@@ -208,7 +208,7 @@ fn take_some(
 /// Takes the piece, or up to the end of the file where that stands inside it, and gives the number
 /// of bytes taken.
 ///
-/// Where the numbers are those of a loader, they are then those that it has behind these bytes.
+/// Where the numbers are those of a loader, they are then those that it has after these bytes.
 ///
 /// # Errors
 ///
@@ -260,7 +260,7 @@ fn hunks_of(rows: &[Row]) -> u32
     rows.len() as u32
 }
 
-/// Makes the store zero, and gives where a loader stands behind the header of the table of the
+/// Makes the store zero, and gives where a loader stands after the header of the table of the
 /// rows.
 ///
 /// `header` is the number of bytes of that header, and the store has as many bytes as the rows

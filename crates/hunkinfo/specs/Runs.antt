@@ -1,5 +1,5 @@
 -- What a run has done: its output is a writer that is old before it and new after it. `taken` tells the bytes that a sink has taken, and `failed` whether it has failed.
-use Rattle.std.specs.Prelude.{◌≡◌, ◌⊎◌, ◌+◌, ◌++◌, ℕ, Bool, true, false, List, Option, length, codes, string_bytes}
+use Rattle.std.specs.Prelude.{◌≡◌, ◌⊎◌, ◌+◌, ◌++◌, ℕ, Bool, true, false, List, Option, length, string_bytes}
 use Rattle.std.specs.Io.KnownBytes.{Consumes, IsAtEnd}
 use Rattle.hunk_words.specs.Carriers.{Writing}
 use Rattle.hunk_words.specs.Longs.{bytes_of}
@@ -10,6 +10,7 @@ use Rattle.hunk_orders.specs.declared.asked.Order.{Order}
 use Rattle.hunk_orders.specs.declared.asked.Order.TheVariants as orders
 use Rattle.hunk_orders.specs.declared.asked.OrderFault.{OrderFault}
 use Rattle.hunk_orders.specs.declared.asked.OrderFault.TheVariants.{Help, Line, Memory}
+use Rattle.hunk_orders.specs.FaultTexts.{fault_text}
 use Rattle.hunk_commands.specs.declared.fault.RunFault.{RunFault}
 use Rattle.hunk_commands.specs.declared.fault.RunFault.TheVariants as faults
 use Rattle.hunkinfo.specs.declared.run.listing.Listing.{Listing}
@@ -27,7 +28,7 @@ use Rattle.hunkinfo.specs.Status.{PrintsOrFails, with_newline}
 
 -- what is printed where the words are no order, and the status
 abbrev pub PrintsRefusal : {W : Type 0} → (W → Option (List ℕ)) → (W → Bool) → Writing W → Writing W → OrderFault → ℕ → Type 0
-PrintsRefusal taken failed old new Line status = PrintsOrFails taken failed old new (with_newline (codes "command line refused")) 2 status
+PrintsRefusal taken failed old new Line status = PrintsOrFails taken failed old new (with_newline (fault_text Line)) 2 status
 PrintsRefusal taken failed old new (Help text) status = PrintsOrFails taken failed old new (string_bytes text) 0 status
 PrintsRefusal taken failed old new Memory status = PrintsOrFails taken failed old new (with_newline (line_of faults.Memory)) 4 status
 
@@ -45,12 +46,12 @@ pub record Lists {W : Type 0} (taken : W → Option (List ℕ)) (old new : Writi
   pub takes : Takes taken old new text
 
 -- Some input was rewritten, and the text says how many bytes were written and how many left out.
-pub record TellsRewriting (strip : Bool) (told : List ℕ) : Type 0 where
+pub record TellsRewriting (strip : Bool) (text : List ℕ) : Type 0 where
   pub input : List ℕ
   pub rest : ℕ
   pub output : List ℕ
   pub is_rewritten : IsRewritten strip rest input output
-  pub told_is : told ≡ wrote_line (length output) ++ left_out_line rest
+  pub text_is : text ≡ wrote_line (length output) ++ left_out_line rest
 
 -- the output has taken what is printed of some rewriting, and nothing else
 pub record Rewrites {W : Type 0} (taken : W → Option (List ℕ)) (old new : Writing W) (strip : Bool) : Type 0 where
@@ -75,7 +76,7 @@ abbrev pub IsInput : Bool → List ℕ → List ℕ → Type 0
 IsInput true given input = SpellsHex given input
 IsInput false given input = input ≡ given
 
--- Where the reading stops: at the end of the source, or right behind a load file that is loaded as it comes.
+-- Where the reading stops: at the end of the source, or right after a load file that is loaded as it comes.
 abbrev pub StopsReading : Bool → Listing → List ℕ → Option (List ℕ) → Type 0
 StopsReading true listing given b = IsAtEnd b
 StopsReading false listings.Show given b = IsAtEnd b

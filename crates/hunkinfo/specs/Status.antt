@@ -1,6 +1,8 @@
 -- What the exit status of a run tells of its output, a writer that is old before it and new after it. `taken` tells the bytes that a sink has taken, and `failed` whether it has failed.
-use Rattle.std.specs.Prelude.{◌≡◌, ◌⊎◌, ◌≤◌, ℕ, Bool, true, List, [], ◌∷◌, ◌++◌, Option, Result, IfErr, IfOk, codes}
+use Rattle.std.specs.Prelude.{◌≡◌, ◌⊎◌, ◌≤◌, ℕ, Bool, true, List, [], ◌∷◌, ◌++◌, Option, Result, IfErr, IfOk}
 use Rattle.hunk_words.specs.Carriers.{Writing}
+use Rattle.hunk_orders.specs.declared.asked.OrderFault.TheVariants.{Line}
+use Rattle.hunk_orders.specs.FaultTexts.{fault_text}
 use Rattle.hunk_commands.specs.declared.fault.RunFault.{RunFault}
 use Rattle.hunk_commands.specs.Faults.{line_of, status_of}
 use Rattle.hunk_commands.specs.Output.{StopsOutput, Takes}
@@ -19,7 +21,7 @@ PrintsOrFails taken failed old new text status result =
 abbrev pub TellsStatus : {W : Type 0} → (W → Option (List ℕ)) → (W → Bool) → Writing W → Writing W → ℕ → Type 0
 TellsStatus taken failed old new status =
     (status ≡ 0)
-    ⊎ ((status ≡ 2) × Takes taken old new (with_newline (codes "command line refused")))
+    ⊎ ((status ≡ 2) × Takes taken old new (with_newline (fault_text Line)))
     ⊎ ((fault : RunFault) × (status ≡ status_of fault) × Takes taken old new (with_newline (line_of fault)))
     ⊎ ((status ≡ 3) × (failed new.sink ≡ true))
     ⊎ ((bytes : List ℕ) × (text : List ℕ) × (status ≡ 1) × IsFound bytes text × Takes taken old new text)

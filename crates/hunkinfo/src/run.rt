@@ -84,6 +84,7 @@ pub(crate) fn refuse<W: Sink>(fault: &OrderFault, out: &mut LongWriter<W>) -> u8
     }
 }
 
+/// Does what the order asks for, and gives the exit status.
 fn obey<T: Files + Input, W: Sink>(
     rt: &T,
     alloc: Global,

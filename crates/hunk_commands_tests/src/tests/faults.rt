@@ -1,7 +1,7 @@
 //! The lines and statuses of faults.
 use hunk_commands::RunFault;
 use hunk_words::{Fault, Reason};
-use std::alloc::{AllocError, Global};
+use std::alloc::AllocError;
 use std::test::Fail;
 
 const fn refused(place: u64, reason: Reason) -> RunFault {
@@ -48,15 +48,16 @@ fn lines_and_statuses(rt: HostRuntime) -> Result<(), Fail> {
     Ok(())
 }
 
-fn pushed(alloc: Global) -> Result<Vec<u8>, RunFault> {
-    let mut bytes = Vec::new(alloc);
-    bytes.push(7)?;
-    Ok(bytes)
+/// What a call answers by `?` to a growth like this.
+fn answer(growth: Result<(), AllocError>) -> Result<(), RunFault> {
+    growth?;
+    Ok(())
 }
 
 #[test]
-fn want_of_memory(rt: HostRuntime) -> Result<(), Fail> {
+fn out_of_memory(rt: HostRuntime) -> Result<(), Fail> {
     assert_eq!(rt; RunFault::from(AllocError), RunFault::Memory);
-    assert_eq!(rt; pushed(rt.alloc())?.as_slice(), [7].as_slice());
+    assert_eq!(rt; answer(Err(AllocError)), Err(RunFault::Memory));
+    assert_eq!(rt; answer(Ok(())), Ok(()));
     Ok(())
 }

@@ -34,7 +34,7 @@ fn spells_none(rt: HostRuntime) {
     }
 }
 
-/// What the text spells, where it comes in pieces of `step` bytes, and then what comes behind them;
+/// What the text spells, where it comes in pieces of `step` bytes, and then what comes after them;
 /// fewer than `most` bytes of it are read.
 fn read(
     alloc: Global,

@@ -44,7 +44,7 @@ fn each_is_limited(
     }
 }
 
-/// Example 1 without its END, behind which empty DEBUG blocks come without end.
+/// Example 1 without its END, after which empty DEBUG blocks come without end.
 #[test]
 fn input_without_end(rt: HostRuntime) -> Result<(), Fail> {
     let front = spelled(rt.alloc(), examples::BEFORE_ITS_END)?;

@@ -8,7 +8,7 @@ use std::alloc::Global;
 use std::process::Abort;
 use std::test::Fail;
 
-/// Sees that the call failed reading behind this many bytes, and wrote nothing.
+/// Sees that the call failed reading after this many bytes, and wrote nothing.
 fn expect_unread(rt: &impl Abort, got: &Outcome, place: usize) {
     let fault = RunFault::Read {
         place: place as u64,
@@ -24,7 +24,7 @@ fn expect_done(rt: &impl Abort, got: &Outcome, output: &[u8]) {
     assert_eq!(rt; got.narrow.taken(), output);
 }
 
-/// The input comes one byte a read, and one read fails: behind this many bytes, and at the input's end.
+/// The input comes one byte a read, and one read fails: after this many bytes, and at the input's end.
 fn one_read_fails(
     rt: &impl Abort,
     alloc: Global,

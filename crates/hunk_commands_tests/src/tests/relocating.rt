@@ -226,7 +226,7 @@ fn reading_fails_in_mid_stream(rt: HostRuntime) -> Result<(), Fail> {
             assert_eq!(rt; out.written(), 0);
         }
     }
-    // A source that fails behind the file is not asked again.
+    // A source that fails after the file is not asked again.
     let mut out = wide();
     let mut source = Fed::new(bytes.as_slice(), 256, Then::Fails);
     assert_eq!(rt;

@@ -25,7 +25,7 @@ const ALL_KINDS: &str = "3E7 0 / 3E9 1 0 / \
     82000000 C 0 / 83000000 1 0 / 84000000 0 / 85000000 0 / 86000000 0 / 87000000 0 / \
     88000000 0 / 89000000 10 1 3 / 8A000000 0 / 8B000000 0 / 0 / 3F2";
 
-/// The bytes of the file, and this many zero bytes behind them.
+/// The bytes of the file, and this many zero bytes after them.
 pub(super) fn input(alloc: Global, file: &str, rest: usize) -> Result<Vec<u8>, AllocError> {
     let mut bytes = spelled(alloc, file)?;
     for _ in 0..rest {

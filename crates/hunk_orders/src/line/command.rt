@@ -19,10 +19,12 @@ Examples:
   hunkinfo COMMAND --help
 
 Limits:
-  The input: fewer than 67108864 bytes (64 MiB); for relocate at most 67108864.
+  The input: fewer than 67108864 bytes (64 MiB); for relocate, and as text of
+  --hex, at most 67108864.
   File names are UTF-8; `hunkinfo show < FILE` reads a file of any name.
   relocate holds the bytes that the hunks declare, and 12 for each hunk. The
-  other commands hold the input and its lists, 1.1 to some 20 times the input.
+  other commands hold the input and lists of its parts: 1.1 to some 20 times
+  the input. With --hex the bytes that the text spells are held in addition.
 
 Exit status:
   0  done
@@ -44,15 +46,15 @@ Example:
   hunkinfo validate part.o";
 
 const AFTER_RELOCATE: &str = "\
-The memory of all hunks is taken at once, as soon as the header was read: a small
-file may take the whole budget.
+The memory of all hunks is allocated at once, when the header has been read: a
+small file may take the whole budget.
 
 Example, at the address 0x00021000 and in at most 65536 bytes:
   hunkinfo relocate --base 00021000 --budget 65536 prog";
 
 const AFTER_REWRITE: &str = "\
-OUT is overwritten in its place, and left incomplete where writing it fails.
-To rewrite a file in its own place, rename what was written where that succeeds:
+OUT is overwritten, and left incomplete if writing fails. To replace a file,
+write a new one, and rename it if that succeeded:
   hunkinfo rewrite IN IN.new && mv IN.new IN
 
 Example, without names, symbols and debug data:
@@ -118,7 +120,7 @@ fn file_positional<'a>(alloc: Global) -> Arg<'a>
     )
 }
 
-/// A command that does not have its arguments yet, with what its help says before and behind them.
+/// A command that does not have its arguments yet, with what its help says before and after them.
 fn command<'a>(alloc: Global, name: &'a str, about: &'a str, after: &'a str) -> Command<'a>
     ensures app { app_of result ≡ new_app name.entry.now }
     ensures local { (fields_of result).has_globals ≡ false }
@@ -126,14 +128,14 @@ fn command<'a>(alloc: Global, name: &'a str, about: &'a str, after: &'a str) -> 
     Command::new(alloc, name).about(about).after_help(after)
 }
 
-/// A command that only reads: NAME [--hex] [FILE].
-fn listing<'a>(
+/// A command that has no options of its own: NAME [--hex] [FILE].
+fn plain_command<'a>(
     alloc: Global,
     name: &'a str,
     about: &'a str,
     after: &'a str,
 ) -> Result<Command<'a>, AllocError>
-    ensures { IfOk result (λ command. (app_of command ≡ spec.listing_command name.entry.now)
+    ensures { IfOk result (λ command. (app_of command ≡ spec.plain_command name.entry.now)
         × ((fields_of command).has_globals ≡ false)) }
 {
     command(alloc, name, about, after)
@@ -142,10 +144,10 @@ fn listing<'a>(
 }
 
 fn show<'a>(alloc: Global) -> Result<Command<'a>, AllocError>
-    ensures { IfOk result (λ command. (app_of command ≡ spec.listing_command (codes "show"))
+    ensures { IfOk result (λ command. (app_of command ≡ spec.plain_command (codes "show"))
         × ((fields_of command).has_globals ≡ false)) }
 {
-    listing(
+    plain_command(
         alloc,
         "show",
         "Lists the hunks and blocks of a load file or an object file",
@@ -154,10 +156,10 @@ fn show<'a>(alloc: Global) -> Result<Command<'a>, AllocError>
 }
 
 fn validate<'a>(alloc: Global) -> Result<Command<'a>, AllocError>
-    ensures { IfOk result (λ command. (app_of command ≡ spec.listing_command (codes "validate"))
+    ensures { IfOk result (λ command. (app_of command ≡ spec.plain_command (codes "validate"))
         × ((fields_of command).has_globals ≡ false)) }
 {
-    listing(
+    plain_command(
         alloc,
         "validate",
         "Checks a file, and lists relocations and references that are out of range",

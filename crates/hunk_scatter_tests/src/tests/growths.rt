@@ -26,7 +26,7 @@ fn shortfall(
 }
 
 /// Headers, where memory is asked for, and where they are cut: at the longword that completes the first row, at the
-/// one that completes the fifth, and for the store behind the header. The last two have 65,536 hunks: no row
+/// one that completes the fifth, and for the store after the header. The last two have 65,536 hunks: no row
 /// that was not read is given memory, of which there are 40,000 bytes at most.
 const HEADERS: &[(&str, &[u64], u64)] = &[
     ("3F3 0 2 0 1 10 1", &[20, 28], 28),

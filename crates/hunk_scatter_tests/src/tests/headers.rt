@@ -123,7 +123,7 @@ fn expect_in_pieces(
     }
 }
 
-/// Examples 7 and 8, and the header of example 16 with rows behind it.
+/// Examples 7 and 8, and the header of example 16 with rows after it.
 #[test]
 fn headers_in_pieces(rt: HostRuntime) -> Result<(), Fail> {
     for (text, budget, want) in IN_PIECES {
@@ -163,7 +163,7 @@ fn wants_what_rows_still_have(rt: HostRuntime) -> Result<(), Fail> {
     Ok(())
 }
 
-/// What is wanted behind each piece of a header of 65 hunks.
+/// What is wanted after each piece of a header of 65 hunks.
 const OF_65_HUNKS: &[(&str, usize)] = &[
     ("3F3 0", 16),
     ("41", 256),
@@ -314,7 +314,7 @@ fn debug_texts(rt: HostRuntime) -> Result<(), Fail> {
     Ok(())
 }
 
-/// A loader of the body behind the header of example 1.
+/// A loader of the body after the header of example 1.
 pub(super) fn body(rt: &impl Abort, alloc: Global) -> Result<BodyLoader, Fail> {
     let declared = declared(rt, alloc, ONE_HUNK, 24)?;
     match declared.place(&Packed { start: 0x21000 }) {

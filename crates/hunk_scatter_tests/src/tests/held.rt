@@ -115,7 +115,7 @@ fn rows_of_a_table(rt: HostRuntime) -> Result<(), Fail> {
 /// What a loader of a body holds and answers.
 type Loading = (BodyLoader, Result<usize, LoadFault>);
 
-/// A loader of the body behind the header that was fed these bytes, and what it answered.
+/// A loader of the body after the header that was fed these bytes, and what it answered.
 fn loading(alloc: Global, header: &[u8], body: &[u8]) -> Option<Loading> {
     let Some(table) = declared(alloc, header) else {
         return None;
@@ -130,7 +130,7 @@ fn loading(alloc: Global, header: &[u8], body: &[u8]) -> Option<Loading> {
     Some((loader, answer))
 }
 
-/// Bodies behind the 280 bytes of the header, and what is answered: no byte, the front of one of seven kinds of
+/// Bodies after the 280 bytes of the header, and what is answered: no byte, the front of one of seven kinds of
 /// blocks, all of which is taken, and one that is refused at its last longword.
 const BODIES: &[(&str, Result<usize, LoadFault>)] = &[
     ("", Ok(0)),

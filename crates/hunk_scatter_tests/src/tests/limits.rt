@@ -108,7 +108,7 @@ fn no_base(rt: HostRuntime) -> Result<(), Fail> {
 /// how many reads lead to it where 1, 3 and 256 bytes of the example come a read at most.
 ///
 /// Behind the example's content a longword is read, and then two a read: the count of a DEBUG block, and what
-/// comes at least behind it.
+/// comes at least after it.
 const STOPS: &[(usize, Then, u64, u64, Reason, [u64; 3])] = &[
     (30, Then::Fails, 100_000, 30, Reason::Read, [31, 11, 3]),
     (0, Then::Fails, 100_000, 0, Reason::Read, [1, 1, 1]),

@@ -117,7 +117,7 @@ fn expect_held(
     Ok(())
 }
 
-/// reserves-by-table-size: nothing is reserved by the number of hunks, neither behind it nor at the first row.
+/// reserves-by-table-size: nothing is reserved by the number of hunks, neither after it nor at the first row.
 #[test]
 fn no_reserve(rt: HostRuntime) -> Result<(), Fail> {
     if !memory_ends(&rt)? {
@@ -191,7 +191,7 @@ fn two_growths(rt: HostRuntime) -> Result<(), Fail> {
 }
 
 /// What a header's loader answers for its table and for one size more, and whether the rows' room is
-/// taken behind the first and free behind the second.
+/// taken after the first and free after the second.
 fn fills_and_frees(
     rt: &impl Abort,
     alloc: Global,

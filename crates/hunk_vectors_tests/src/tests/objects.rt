@@ -30,6 +30,7 @@ fn is_written_again(alloc: Global, bytes: &[u8]) -> bool {
 
 #[test]
 fn answers(rt: HostRuntime) -> Result<(), Fail> {
+    assert_eq!(rt; OBJECTS.len(), OBJECT_TEXTS.len());
     for i in 0..OBJECT_TEXTS.len() {
         let vector = OBJECTS[i];
         assert_eq!(rt; vector.text, OBJECT_TEXTS[i]);

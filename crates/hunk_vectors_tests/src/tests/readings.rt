@@ -53,8 +53,8 @@ fn budget_passes_at(bytes: &[u8]) -> Option<u64> {
 /// The fault that a load has to answer for these bytes, if any, where the decoder of whole files answers this one.
 ///
 /// Longwords are tested in file order, and a row of the table is tested for the budget alone. So a fault of the
-/// header before the row that passes it comes first, and that row before all else: what the decoder rejects behind
-/// it, an input that ends behind it, and a file that the decoder accepts.
+/// header before the row that passes it comes first, and that row before all else: what the decoder rejects after
+/// it, an input that ends after it, and a file that the decoder accepts.
 fn wanted(bytes: &[u8], decoded: Option<LoadFault>) -> Option<LoadFault> {
     let Some(place) = budget_passes_at(bytes) else {
         return decoded;
@@ -109,8 +109,8 @@ type Answer = Option<(u64, Reason)>;
 /// A file, what the decoder answers for it, and what a load has to answer.
 type Row = (&'static str, Answer, Answer);
 
-/// The budget is passed at the first row, which declares 1,004 bytes, or at the second behind one of 1,000: in files
-/// that the decoder accepts, or rejects behind that row.
+/// The budget is passed at the first row, which declares 1,004 bytes, or at the second after one of 1,000: in files
+/// that the decoder accepts, or rejects after that row.
 const PASSED: &[Row] = &[
     (
         "3F3 0 1 0 0 FB / 3E9 0 / 3F2",

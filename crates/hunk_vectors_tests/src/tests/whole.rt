@@ -22,6 +22,7 @@ fn answer(alloc: Global, bytes: &[u8]) -> Want {
 
 #[test]
 fn answers(rt: HostRuntime) -> Result<(), Fail> {
+    assert_eq!(rt; VECTORS.len(), LOAD_TEXTS.len());
     for i in 0..LOAD_TEXTS.len() {
         let vector = VECTORS[i];
         assert_eq!(rt; vector.text, LOAD_TEXTS[i]);

@@ -109,6 +109,7 @@ fn spelled_bytes<R: Source>(alloc: Global, source: &mut R) -> Result<Vec<u8>, Ru
     }
 }
 
+/// The same of the bytes that the source has.
 fn list_bytes<R: Source, W: Sink>(
     alloc: Global,
     listing: Listing,

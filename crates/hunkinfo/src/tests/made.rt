@@ -68,7 +68,7 @@ pub(super) struct Tape<'a> {
     loss: Option<io::ErrorKind>,
 }
 
-/// Puts these bytes behind those that were kept.
+/// Puts these bytes after those that were kept.
 fn keep(created: &RefCell<Vec<u8>>, bytes: &[u8]) -> io::Result<()> {
     let Ok(mut kept) = created.try_borrow_mut() else {
         return unsupported();

@@ -89,11 +89,36 @@ const ADDRESS: &[Row] = &[
     ),
 ];
 
+/// The same where the input is text.
+const ADDRESS_OF_TEXT: &[Row] = &[
+    (
+        "hunkinfo relocate --hex --base 00001000",
+        At::Input,
+        "hunk 0 base 0x00001000 4 bytes\n  00000ffc\n",
+        0,
+    ),
+    (
+        "hunkinfo relocate --hex --base 00001000 a",
+        At::File,
+        "hunk 0 base 0x00001000 4 bytes\n  00000ffc\n",
+        0,
+    ),
+];
+
+/// The file of example 30 as text, with blanks and line ends.
+const ADDRESS_IN_TEXT: &str = "000003F3 00000000 00000001 00000000 00000000 00000001\n\
+    000003E9 00000001 FFFFFFFC\n\
+    000003EC 00000001 00000000 00000000 00000000\n\
+    000003F2\n";
+
 #[test]
 fn relocates_an_address(rt: HostRuntime) -> Result<(), Fail> {
     let file = spelled(rt.alloc(), examples::RELOCATED)?;
     for row in ADDRESS {
         expect(&rt, rt.alloc(), &file, row)?;
+    }
+    for row in ADDRESS_OF_TEXT {
+        expect(&rt, rt.alloc(), ADDRESS_IN_TEXT.as_bytes(), row)?;
     }
     Ok(())
 }

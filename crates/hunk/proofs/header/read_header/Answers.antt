@@ -37,6 +37,6 @@ returns-then-want-gt0-clause-accepts c = λ t h.
     let over = c.want.ensures.over c.in_ok-taken.ensures.reading.1 in
     let taken = all_taken c.new-loader.result.fed c.args.bytes.now c.feed.new.self.fed c.in_ok-taken.taken c.want.result _ c.in_ok-taken.ensures.all over c.if-want-gt0.true c.in_ok-taken.ensures.taken.1 in
     let split : c.feed.new.self.fed ≡ header_bytes t ++ h.rest = taken ∙ ap (λ (xs : List ℕ). xs ++ c.args.bytes.now) c.new-loader.ensures.fed ∙ h.split in
-    let none = c.in_ok-taken.ensures.within t h.rest h.is_table split in
+    let none = c.in_ok-taken.ensures.inside_header t h.rest h.is_table split in
     let whole : c.feed.new.self.fed ≡ header_bytes t = split ∙ ap (λ (xs : List ℕ). header_bytes t ++ xs) none ∙ append-nil (header_bytes t) in
     absurd (omega (arith, over (t, h.is_table, whole), c.if-want-gt0.true))

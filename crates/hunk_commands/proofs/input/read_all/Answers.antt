@@ -14,7 +14,7 @@ returns-in_err-take-in-Ok-clause-reads_at_most g c =
     let few : length piece ≤ c.if-room.ask = search rules in
     record {
       err = search rules;
-      within = (
+      limit = (
         held ++ piece,
         record {
           consumed = Consumes-trans _ _ _ held piece c.reading.invariant.2 c.in-Ok.ensures.bytes.0;

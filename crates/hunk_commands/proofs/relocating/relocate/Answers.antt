@@ -102,7 +102,7 @@ pub returns-in_err-image-clause-tells_read : goal.returns-in_err-image-clause-te
 returns-in_err-image-clause-tells_read g c = λ sound failed.
     let refusal = c.in_err-image.field-0.0 in
     let p = err_from_is_err_and c.from_residual.result c.from_residual.ensures.1 in
-    let is = ap (λ (r : Reason). refused_for r refusal) (c.in_err-image.ensures.read sound failed) in rw (p.1, p.2) (refusal.place, is)
+    let is = ap (λ (r : Reason). refused_for r refusal) (c.in_err-image.ensures.tells_read sound failed) in rw (p.1, p.2) (refusal.place, is)
 
 pub returns-in_err-image-clause-memory : goal.returns-in_err-image-clause-memory
 returns-in_err-image-clause-memory g c =

@@ -11,7 +11,7 @@ pub returns-in_err-file-clause-reads_then_puts : goal.returns-in_err-file-clause
 returns-in_err-file-clause-reads_then_puts g c =
     let read = is_read _ _ c.args.file_bytes c.in_ok-input.input.items c.as_slice.result.now c.in_ok-input.ensures.reads c.as_slice.ensures.value in
     file_refused g.R.Source.left g.R.Source.failed c.args.r.now c.read_whole.new.source c.args.file_bytes g.W.Sink.failed c.args.w.now c.as_slice.result.now c.in_err-file.field-0.0
-    c.from_residual-in_err-file.result read c.in_ok-input.ensures.reads_at_most.sound c.in_ok-input.ensures.reads_at_most.within c.in_err-file.ensures.none c.in_err-file.ensures.refused
+    c.from_residual-in_err-file.result read c.in_ok-input.ensures.reads_at_most.sound c.in_ok-input.ensures.reads_at_most.limit c.in_err-file.ensures.none c.in_err-file.ensures.refused
     (err_from_is_err_and c.from_residual-in_err-file.result c.from_residual-in_err-file.ensures.1)
 
 pub returns-in_err-put_listing-clause-write : goal.returns-in_err-put_listing-clause-write

@@ -19,7 +19,7 @@ returns-in_err-n-clause-ends g c =
           truncated = c.want-want.ensures.truncated i.reading;
           why = subst (λ (n : ℕ). IsReadFault c.args.limits.file_bytes (g.R.Source.left c.read_piece.new.r) (g.R.Source.failed c.read_piece.new.r) n c.in_err-n.field-0.0) c.fed.ensures c.in_err-n.ensures.fault;
         },
-        λ at p. c.want-want.ensures.within i.reading at (subst (λ (b : ℕ). PassesBudget b c.reading.loader.fed at) (sym i.budget_is) p),
+        λ at p. c.want-want.ensures.keeps_to_budget i.reading at (subst (λ (b : ℕ). PassesBudget b c.reading.loader.fed at) (sym i.budget_is) p),
       ),
     )
 
@@ -58,7 +58,7 @@ returns-in_err-feed-clause-ends g c =
           (record {
             fault = fault;
             over = λ at p. c.in_err-feed.ensures.passes_budget i.reading at (subst (λ (b : ℕ). PassesBudget b (c.reading.loader.fed ++ piece) at) (sym i.budget_is) p);
-            own = c.in_err-feed.ensures.own_reasons;
+            own_reasons = c.in_err-feed.ensures.own_reasons;
             begins =
                 λ e.
                 row_begins c.reading.loader.fed piece c.want-want.result c.in_err-feed.field-0.0.place c.want-want.ensures.least fits

@@ -48,5 +48,5 @@ not_true : (b : Bool) → (b ≡ true → ⊥) → b ≡ false
 not_true true h = absurd (h refl)
 not_true false h = refl
 
-pub returns-clause-read : goal.returns-clause-read
-returns-clause-read g c = λ fresh fails. c.load_body.ensures.read (not_true _ (λ e. c.in_ok-declared.ensures.read fresh e)) fails
+pub returns-clause-tells_read : goal.returns-clause-tells_read
+returns-clause-tells_read g c = λ fresh fails. c.load_body.ensures.tells_read (not_true _ (λ e. c.in_ok-declared.ensures.tells_read fresh e)) fails

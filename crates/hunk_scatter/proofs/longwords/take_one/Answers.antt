@@ -36,6 +36,6 @@ returns-in_err-next c =
             λ fed r.
             let here = subst (λ (s : BodyState). StandsBehind c.args.rows.now c.args.store.now s [] fed) (sym (c.requires.same ∙ state_at c.args.state.now c.args.here.position c.requires.ready.position_is)) r in
             word_refused _ _ _ _ here c.requires.goes_on c.args.piece.now (λ k. omega (arith, c.type_inv.piece k)) c.requires.ready.whole_long c.args.word c.in_err-next.ensures.long c.requires.first_long c.in_err-next.field-0.0 c.in_err-next.ensures.refusal;
-        own = c.in_err-next.ensures.own_reasons;
+        own_reasons = c.in_err-next.ensures.own_reasons;
       };
     })

@@ -9,7 +9,7 @@ top_of a = a.top
 
 pub returns : goal.returns
 returns c =
-    let one : app_of c.in_ok-subcommand.field-0 ≡ with_subcommand spec.program (spec.listing_command (codes "show")).top =
+    let one : app_of c.in_ok-subcommand.field-0 ≡ with_subcommand spec.program (spec.plain_command (codes "show")).top =
     c.in_ok-subcommand.ensures.shape c.in_ok-show.ensures.1 ∙ ap₂ with_subcommand c.program.ensures.app (ap top_of c.in_ok-show.ensures.0) in
     let two = c.in_ok-subcommand-2.ensures.shape c.in_ok-validate.ensures.1 ∙ ap₂ with_subcommand one (ap top_of c.in_ok-validate.ensures.0) in
     let three = c.in_ok-subcommand-3.ensures.shape c.in_ok-relocate.ensures.1 ∙ ap₂ with_subcommand two (ap top_of c.in_ok-relocate.ensures.0) in

@@ -8,7 +8,7 @@ use Rattle.hunk_scatter.proofs.body_loader.BodyLoader.feed.Goals as goal
 pub returns-in-Err-clause-accepts : goal.returns-in-Err-clause-accepts
 returns-in-Err-clause-accepts c none on = absurd (no_refusal_on _ _ _ on c.in-Err.ensures.feeds_or_stops.stops.refusal)
 
-pub returns-in-Ok-clause-within : goal.returns-in-Ok-clause-within
-returns-in-Ok-clause-within c =
+pub returns-in-Ok-clause-inside_file : goal.returns-in-Ok-clause-inside_file
+returns-in-Ok-clause-inside_file c =
     subst IsWithinFile (ap (λ (v : BodyLoaderValue). v.fed) c.self-2.view_is)
     (fed_within _ _ _ _ _ _ _ c.self-2.invariant (ap (λ (v : BodyLoaderValue). v.refused) c.self-2.view_is ∙ c.in-Ok.ensures.feeds_or_stops.feeds.goes_on))

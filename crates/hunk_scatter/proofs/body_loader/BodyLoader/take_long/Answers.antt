@@ -68,7 +68,7 @@ returns-in-Err-clause-feeds_or_stops c =
             subst (λ (f : List ℕ). HasRefusal (f ++ c.args.piece.now) (c.self.inside.count + c.next_word-taken.result.0 - 4) c.in-Err.reason) (ap (λ (v : BodyLoaderValue). v.fed) c.self.view_is)
             (refusal_front _ c.args.piece.now c.next_word-taken.result.0 _ _
             (refusal_here _ _ _ _ _ _ _ c.self.invariant none more _ _ front.long c.in-Some.word c.in-Err.ensures.long front.spelled c.in-Err.reason (rw c.as_slice.ensures.value at c.in-Err.ensures.refusal)));
-        own = c.in-Err.ensures.own_reasons;
+        own_reasons = c.in-Err.ensures.own_reasons;
       };
       remembers = search rules;
     }

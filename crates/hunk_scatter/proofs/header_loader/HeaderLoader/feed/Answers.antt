@@ -40,7 +40,7 @@ returns-in-Err-clause-out_of_memory c none e =
     let s = c.in-Err.ensures.feeds_or_stops.stops in
     omega (arith, s.3, stop_ends _ s.0 s.1 c.in-Err.fault s.4)
 
-pub returns-in-Ok-clause-within : goal.returns-in-Ok-clause-within
-returns-in-Ok-clause-within c =
+pub returns-in-Ok-clause-inside_header : goal.returns-in-Ok-clause-inside_header
+returns-in-Ok-clause-inside_header c =
     subst IsWithinHeader (ap (λ (v : HeaderLoaderValue). v.fed) c.self-2.view_is)
     (heading_ends _ _ _ _ _ (c.self-2.invariant.reading (ap (λ (v : HeaderLoaderValue). v.refused) c.self-2.view_is ∙ c.in-Ok.ensures.feeds_or_stops.goes_on)))

@@ -16,8 +16,8 @@ pub returns-then-is_behind_header-clause-truncated : goal.returns-then-is_behind
 returns-then-is_behind_header-clause-truncated c none =
     subst (λ (v : HeaderLoaderValue). IsTruncated v.fed (4 * (length v.fed / 4))) c.self.view_is (heading_truncated _ _ _ _ _ (c.self.invariant.reading (ap (λ (v : HeaderLoaderValue). v.refused) c.self.view_is ∙ none)))
 
-pub returns-then-is_behind_header-clause-within : goal.returns-then-is_behind_header-clause-within
-returns-then-is_behind_header-clause-within c none at p =
+pub returns-then-is_behind_header-clause-keeps_to_budget : goal.returns-then-is_behind_header-clause-keeps_to_budget
+returns-then-is_behind_header-clause-keeps_to_budget c none at p =
     heading_within _ _ _ _ _ (c.self.invariant.reading (ap (λ (v : HeaderLoaderValue). v.refused) c.self.view_is ∙ none)) at
     (subst (λ (v : HeaderLoaderValue). PassesBudget v.budget v.fed at) (sym c.self.view_is) p)
 
@@ -28,8 +28,8 @@ pub returns-then-bytes-clause-truncated : goal.returns-then-bytes-clause-truncat
 returns-then-bytes-clause-truncated c none =
     subst (λ (v : HeaderLoaderValue). IsTruncated v.fed (4 * (length v.fed / 4))) c.self.view_is (heading_truncated _ _ _ _ _ (c.self.invariant.reading (ap (λ (v : HeaderLoaderValue). v.refused) c.self.view_is ∙ none)))
 
-pub returns-then-bytes-clause-within : goal.returns-then-bytes-clause-within
-returns-then-bytes-clause-within c none at p =
+pub returns-then-bytes-clause-keeps_to_budget : goal.returns-then-bytes-clause-keeps_to_budget
+returns-then-bytes-clause-keeps_to_budget c none at p =
     heading_within _ _ _ _ _ (c.self.invariant.reading (ap (λ (v : HeaderLoaderValue). v.refused) c.self.view_is ∙ none)) at
     (subst (λ (v : HeaderLoaderValue). PassesBudget v.budget v.fed at) (sym c.self.view_is) p)
 
@@ -40,8 +40,8 @@ pub returns-else-bytes-clause-truncated : goal.returns-else-bytes-clause-truncat
 returns-else-bytes-clause-truncated c none =
     subst (λ (v : HeaderLoaderValue). IsTruncated v.fed (4 * (length v.fed / 4))) c.self.view_is (heading_truncated _ _ _ _ _ (c.self.invariant.reading (ap (λ (v : HeaderLoaderValue). v.refused) c.self.view_is ∙ none)))
 
-pub returns-else-bytes-clause-within : goal.returns-else-bytes-clause-within
-returns-else-bytes-clause-within c none at p =
+pub returns-else-bytes-clause-keeps_to_budget : goal.returns-else-bytes-clause-keeps_to_budget
+returns-else-bytes-clause-keeps_to_budget c none at p =
     heading_within _ _ _ _ _ (c.self.invariant.reading (ap (λ (v : HeaderLoaderValue). v.refused) c.self.view_is ∙ none)) at
     (subst (λ (v : HeaderLoaderValue). PassesBudget v.budget v.fed at) (sym c.self.view_is) p)
 
