@@ -50,6 +50,20 @@ fn grow_stack(changed: usize, answered: usize) -> u8 {
     bytes[answered % DEPTH]
 }
 
+/// More than by how much of the stack one call that takes all memory lies below another in a test.
+const BELOW: usize = 1 << 18;
+
+/// The same from this much further down.
+///
+/// The allocator keeps some of what it was given back, and this may be right below the stack: no page is
+/// added to that then. So the stack has all its pages before memory is taken for the first time.
+#[inline(never)]
+fn grow_deeper(changed: usize, answered: usize) -> u8 {
+    let mut bytes = [1u8; BELOW];
+    bytes[changed % BELOW] = grow_stack(changed, answered);
+    bytes[answered % BELOW]
+}
+
 /// All the memory that the allocator gives: while it is held, the next growth is refused.
 ///
 /// # Errors
@@ -80,11 +94,13 @@ pub fn memory_ends(rt: &(impl AllocGlobal + Print)) -> io::Result<bool> {
     Ok(ends)
 }
 
-/// Whether a byte more is refused while all memory is held.
+/// Whether a byte or two more are refused while all memory is held.
 fn all_is_taken(alloc: Global) -> bool {
+    let given = usize::from(Vec::<u8>::with_capacity(alloc, LARGEST).is_ok());
+    let more = usize::from(grow_deeper(given, given / 2));
     match all_memory(alloc) {
         Ok(pieces) => {
-            let is_refused = Vec::<u8>::with_capacity(alloc, 1).is_err();
+            let is_refused = Vec::<u8>::with_capacity(alloc, more).is_err();
             drop(pieces);
             is_refused
         }
