@@ -9,11 +9,18 @@ mod texts;
 mod values;
 mod writing;
 
+use hunk_blocks::{Block, Mode};
 use hunk_words::{BlockFault, Reason};
-use std::alloc::{AllocError, Global};
+use std::alloc::Global;
 
 /// A block with the number of its bytes, or with the place and the reason of a refusal.
 type Row = (&'static str, u64, Option<Reason>);
+
+/// What `Block::decode` answers, without the block.
+fn answer(alloc: Global, bytes: &[u8], mode: Mode) -> Result<usize, BlockFault> {
+    let (_, count) = Block::decode(alloc, bytes, mode)?;
+    Ok(count)
+}
 
 fn wanted(number: u64, reason: Option<Reason>) -> Result<usize, BlockFault> {
     match reason {

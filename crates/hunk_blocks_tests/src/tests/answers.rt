@@ -1,20 +1,12 @@
 //! How many bytes a block has, or where it is refused and why.
 
-use crate::tests::{Row, wanted};
-use hunk_blocks::{Block, Mode};
+use crate::tests::{Row, answer, wanted};
+use hunk_blocks::Mode;
 use hunk_testing::{bytes_of, examples, spelled};
 use hunk_words::{BlockFault, Reason};
 use std::alloc::{AllocError, Global};
 use std::process::Abort;
 use std::test::Fail;
-
-/// What `Block::decode` answers, without the block.
-fn answer(alloc: Global, bytes: &[u8], mode: Mode) -> Result<usize, BlockFault> {
-    match Block::decode(alloc, bytes, mode) {
-        Ok((_, count)) => Ok(count),
-        Err(fault) => Err(fault),
-    }
-}
 
 /// Sees that each block is answered in this mode as its row says.
 fn expect(rt: &impl Abort, alloc: Global, rows: &[Row], mode: Mode) -> Result<(), Fail> {

@@ -1,7 +1,7 @@
 //! Blocks while no growth is granted.
 
-use crate::tests::{Row, wanted};
-use hunk_blocks::{Block, Mode};
+use crate::tests::{Row, answer, wanted};
+use hunk_blocks::Mode;
 use hunk_testing::{all_memory, memory_ends, spelled};
 use hunk_words::{BlockFault, Reason};
 use std::alloc::{AllocError, Global};
@@ -12,10 +12,7 @@ use std::test::Fail;
 fn starved(alloc: Global, text: &str, mode: Mode) -> Result<Result<usize, BlockFault>, AllocError> {
     let bytes = spelled(alloc, text)?;
     let pieces = all_memory(alloc)?;
-    let result = match Block::decode(alloc, bytes.as_slice(), mode) {
-        Ok((_, count)) => Ok(count),
-        Err(fault) => Err(fault),
-    };
+    let result = answer(alloc, &bytes, mode);
     drop(pieces);
     Ok(result)
 }

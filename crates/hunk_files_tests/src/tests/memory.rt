@@ -7,14 +7,17 @@ use std::alloc::{AllocError, Global};
 use std::process::Abort;
 use std::test::Fail;
 
+/// How many bytes `LoadFile::decode` consumes.
+fn consumed(alloc: Global, bytes: &[u8]) -> Result<usize, FileFault> {
+    let (_, count) = LoadFile::decode(alloc, bytes)?;
+    Ok(count)
+}
+
 /// What is answered for the file with the next growth refused.
 fn starved(alloc: Global, text: &str) -> Result<Result<usize, FileFault>, AllocError> {
     let bytes = spelled(alloc, text)?;
     let pieces = all_memory(alloc)?;
-    let result = match LoadFile::decode(alloc, bytes.as_slice()) {
-        Ok((_, count)) => Ok(count),
-        Err(fault) => Err(fault),
-    };
+    let result = consumed(alloc, &bytes);
     drop(pieces);
     Ok(result)
 }

@@ -27,10 +27,7 @@ fn counts(file: &ObjectFile) -> (usize, usize, usize) {
 }
 
 fn answer(alloc: Global, bytes: &[u8]) -> Answer {
-    match ObjectFile::decode(alloc, bytes) {
-        Ok(file) => Ok(counts(&file)),
-        Err(fault) => Err(fault),
-    }
+    Ok(counts(&ObjectFile::decode(alloc, bytes)?))
 }
 
 fn answer_of(alloc: Global, longs: &[u32]) -> Result<Answer, AllocError> {

@@ -53,12 +53,10 @@ fn expect(
     let bytes = spelled(alloc, text)?;
     let findings = ObjectFile::decode(alloc, bytes.as_slice())?.check(alloc)?;
     assert_eq!(rt; findings.len(), want.len(), "example {example}");
-    for (i, (fault, offset)) in want.iter().enumerate() {
-        assert_eq!(rt;
-            *findings.at(i),
-            found(*fault, *offset),
-            "example {example}"
-        );
+    let mut want = want.iter();
+    for finding in &findings {
+        let next = want.next().map(|(fault, offset)| found(*fault, *offset));
+        assert_eq!(rt; Some(*finding), next, "example {example}");
     }
     Ok(())
 }

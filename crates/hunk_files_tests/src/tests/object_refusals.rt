@@ -222,15 +222,17 @@ fn types_of_entries(rt: HostRuntime) -> Result<(), Fail> {
     Ok(())
 }
 
+/// How many units the object file has.
+fn units_in(alloc: Global, bytes: &[u8]) -> Result<usize, FileFault> {
+    Ok(ObjectFile::decode(alloc, bytes)?.units().len())
+}
+
 /// Every prefix ends too soon, but for those that end with a unit's header or a hunk.
 #[test]
 fn prefixes(rt: HostRuntime) -> Result<(), Fail> {
     let bytes = spelled(rt.alloc(), FILE)?;
     for n in 0..bytes.len() + 1 {
-        let got = match ObjectFile::decode(rt.alloc(), &bytes[..n]) {
-            Ok(file) => Ok(file.units().len()),
-            Err(fault) => Err(fault),
-        };
+        let got = units_in(rt.alloc(), &bytes[..n]);
         let want = match n {
             12 | 64 | 84 => Ok(1),
             92 | 140 => Ok(2),

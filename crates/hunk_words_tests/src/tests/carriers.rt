@@ -1,38 +1,13 @@
 //! Sources and sinks over readers and writers, and over references to them.
 ghost use Rattle.std.specs.Prelude.{IsErr, None};
 
+use hunk_testing::{Interrupted, Narrow};
 use hunk_words::{Failed, FromRead, FromSlice, FromWrite, LongWriter, Sink, Source, WriteFault};
 use std::io;
-use std::io::{Read, Write};
+use std::io::Write;
 use std::test::Fail;
 
-/// A reader whose every read fails as `Interrupted`, and a writer that takes nothing or fails.
-#[derive(Drop)]
-struct Broken {
-    takes_none: bool,
-}
-
-impl Read for Broken {
-    fn read(&mut self, _buf: &mut [u8]) -> io::Result<usize> {
-        Err(io::Error::from(io::ErrorKind::Interrupted))
-    }
-}
-
-impl Write for Broken {
-    fn write(&mut self, _buf: &[u8]) -> io::Result<usize> {
-        if self.takes_none {
-            Ok(0)
-        } else {
-            Err(io::Error::from(io::ErrorKind::Interrupted))
-        }
-    }
-
-    fn flush(&mut self) -> io::Result<()> {
-        Ok(())
-    }
-}
-
-/// A reader, a writer and a sink that fail once, or take none once, and then go on.
+/// A writer and a sink that fail once, or take none once, and then go on.
 #[derive(Drop)]
 struct Once {
     over: bool,
@@ -47,16 +22,6 @@ impl Once {
             takes_none,
             failed: false,
         }
-    }
-}
-
-impl Read for Once {
-    fn read(&mut self, buf: &mut [u8]) -> io::Result<usize> {
-        if self.over {
-            return Ok(buf.len().min(1));
-        }
-        self.over = true;
-        Err(io::Error::from(io::ErrorKind::Interrupted))
     }
 }
 
@@ -96,7 +61,8 @@ impl Sink for Once {
 #[test]
 fn nothing_is_tried_again(rt: HostRuntime) -> Result<(), Fail> {
     let mut buf = [0u8; 3];
-    assert_eq!(rt; FromRead::new(Once::of(false)).pull(&mut buf), Err(Failed));
+    let mut source = FromRead::new(Interrupted::new(b"abc".as_slice(), 0));
+    assert_eq!(rt; source.pull(&mut buf), Err(Failed));
     for takes_none in [false, true] {
         let mut sink = FromWrite::new(Once::of(takes_none));
         assert_eq!(rt; sink.push(b"ab".as_slice()), Err(Failed));
@@ -137,14 +103,12 @@ fn pushes(rt: HostRuntime) -> Result<(), Fail> {
 
 #[test]
 fn every_error_is_failed(rt: HostRuntime) -> Result<(), Fail> {
-    let mut buf = [0u8; 3];
-    let mut source = FromRead::new(Broken { takes_none: false });
-    assert_eq!(rt; source.pull(&mut buf), Err(Failed));
     for takes_none in [false, true] {
-        let mut sink = FromWrite::new(Broken { takes_none });
-        assert_eq!(rt; sink.push(b"ab".as_slice()), Err(Failed));
+        let mut sink = FromWrite::new(Narrow::new(1, 1, takes_none));
+        assert_eq!(rt; sink.push(b"ab".as_slice()), Ok(1));
+        assert_eq!(rt; sink.push(b"b".as_slice()), Err(Failed));
     }
-    let mut sink = FromWrite::new(Broken { takes_none: true });
+    let mut sink = FromWrite::new(Narrow::new(0, 1, true));
     assert_eq!(rt; sink.push(b"".as_slice()), Ok(0));
     Ok(())
 }

@@ -1,7 +1,7 @@
 //! A text that is longer than its page, to writers that stop after each number of bytes.
 ghost use Rattle.std.specs.Prelude.{◌≡◌, ◌≤◌};
 
-use crate::tests::writing::Limited;
+use hunk_testing::Narrow;
 use hunk_words::{FromWrite, LongWriter, PagePrinter, Sink, WriteFault};
 use std::process::Abort;
 use std::test::Fail;
@@ -64,15 +64,15 @@ fn expect(
     );
 }
 
-/// To a sink that takes `room` bytes, five at most at a time, and then fails.
+/// To a writer that takes `room` bytes, five at most at a time, and then fails.
 fn fails_after(rt: &impl Abort, wide: bool, cut: usize, room: usize)
     requires { cut ≤ 19 }
 {
-    let mut out = LongWriter::new(Limited::of(room, 5));
+    let mut out = LongWriter::new(FromWrite::new(Narrow::new(room, 5, false)));
     let answer = print_text(wide, &mut out, cut);
     let written = out.written();
-    let sink = out.into_inner();
-    expect(rt, answer, written, sink.taken(), room);
+    let writer = out.into_inner().into_inner();
+    expect(rt, answer, written, writer.taken(), room);
 }
 
 /// To a writer that takes `room` bytes, and then none.
