@@ -53,10 +53,12 @@ fn expect(
     let bytes = spelled(alloc, text)?;
     let findings = ObjectFile::decode(alloc, bytes.as_slice())?.check(alloc)?;
     assert_eq!(rt; findings.len(), want.len(), "example {example}");
-    let mut want = want.iter();
-    for finding in &findings {
-        let next = want.next().map(|(fault, offset)| found(*fault, *offset));
-        assert_eq!(rt; Some(*finding), next, "example {example}");
+    for (i, (fault, offset)) in want.iter().enumerate() {
+        assert_eq!(rt;
+            *findings.at(i),
+            found(*fault, *offset),
+            "example {example}"
+        );
     }
     Ok(())
 }
@@ -66,6 +68,20 @@ fn worked_examples(rt: HostRuntime) -> Result<(), Fail> {
     for (example, text, want) in FINDINGS {
         expect(&rt, rt.alloc(), (*example, text), want)?;
     }
+    Ok(())
+}
+
+/// Example 29: `&Findings` gives each finding once, and no other.
+#[test]
+fn one_by_one(rt: HostRuntime) -> Result<(), Fail> {
+    let bytes = spelled(rt.alloc(), examples::TWO_FINDINGS)?;
+    let findings = ObjectFile::decode(rt.alloc(), bytes.as_slice())?.check(rt.alloc())?;
+    let mut kinds = [FindingKind::BadTarget, FindingKind::OutsideHunk].iter();
+    for finding in &findings {
+        let want = kinds.next().map(|kind| found(*kind, 2));
+        assert_eq!(rt; Some(*finding), want);
+    }
+    assert_eq!(rt; kinds.next(), None);
     Ok(())
 }
 

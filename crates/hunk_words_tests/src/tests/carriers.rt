@@ -103,6 +103,10 @@ fn pushes(rt: HostRuntime) -> Result<(), Fail> {
 
 #[test]
 fn every_error_is_failed(rt: HostRuntime) -> Result<(), Fail> {
+    let mut buf = [0u8; 3];
+    let mut source = FromRead::new(Interrupted::new(b"abc".as_slice(), 1));
+    assert_eq!(rt; source.pull(&mut buf), Ok(1));
+    assert_eq!(rt; source.pull(&mut buf), Err(Failed));
     for takes_none in [false, true] {
         let mut sink = FromWrite::new(Narrow::new(1, 1, takes_none));
         assert_eq!(rt; sink.push(b"ab".as_slice()), Ok(1));

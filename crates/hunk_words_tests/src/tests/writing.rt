@@ -9,8 +9,8 @@ use std::test::Fail;
 /// Three longwords.
 const TEXT: &[u8; 12] = &[0, 0, 3, 0xF3, 0, 0, 0, 0, 0, 0, 0, 1];
 
-/// To a writer that takes `room` bytes, `step` at most at a time, and then fails: nothing is put
-/// once it has failed.
+/// To a writer that takes `room` bytes, `step` at most at a time, and then fails: each later put is
+/// answered as the one that failed.
 fn fails_after(rt: &impl Abort, room: usize, step: usize)
     requires { room ≤ 12 }
 {
