@@ -1,5 +1,5 @@
 -- How what is printed follows what was printed.
-use Rattle.std.proofs.Common.{◌≡◌, ℕ, ◌+◌, ◌^◌, ◌<◌, Bool, true, false, List, [], ◌++◌, Option, length, inl, inr, refl, sym, ap, subst, ◌∙◌, append_assoc, append-nil, length-append, arith}
+use Rattle.std.proofs.Common.{◌≡◌, ℕ, ◌+◌, ◌^◌, ◌<◌, ◌≤◌, Bool, true, false, List, [], ◌++◌, Option, length, inl, inr, refl, sym, ap, subst, ◌∙◌, append_assoc, append-nil, length-append, arith}
 use Rattle.std.specs.Prelude.{Result, Ok, Err, IsErr, OnOk, is_err, not}
 use Rattle.std.proofs.lemmas.List.{take_all}
 use Rattle.std.proofs.KnownBytes.{Appends-trans}
@@ -39,6 +39,11 @@ sends_more true a b c m n o before after text held bytes rest (front, split, ros
 sends_more true a b c m n o before after text held bytes rest (front, split, rose, gone) (none, inr (stops, puts)) =
     let all : text ++ bytes ≡ front ++ (held ++ bytes) = ap (λ xs. xs ++ bytes) split ∙ append_assoc front held bytes in
     (none, inr (stops, puts_behind a b c m n o (text ++ bytes) (held ++ bytes) (front, all, rose, gone) puts))
+
+-- what is held is a part of what was printed
+pub held_most : (lost : Bool) (a b : Option (List ℕ)) (m n : ℕ) (stopped : Bool) (text held : List ℕ) → Sends lost a b m n stopped text held → length held ≤ length text
+held_most false a b m n stopped text held (front, split, rose, gone) = omega (arith, ap length split, length-append front held)
+held_most true a b m n stopped text held (none, loses) = omega (arith, ap length none)
 
 -- all that was held has gone out, and so have the bytes behind it, or they are lost
 pub sent_behind : (sent all : Bool) (a b c : Option (List ℕ)) (m n o : ℕ) (before after : Bool) (held bytes page : List ℕ) →

@@ -1,5 +1,5 @@
 //! A page of fixed size, filled from its front.
-ghost use Rattle.std.specs.Prelude.{◌≡◌, ◌++◌, [], true, false};
+ghost use Rattle.std.specs.Prelude.{◌≡◌, ◌+◌, ◌<◌, ◌++◌, [], length, true, false};
 
 use std::marker::Model;
 
@@ -44,7 +44,8 @@ impl<const ROOM: usize> Page<ROOM> {
     /// Appends the bytes where they have room, and answers whether they have.
     pub(crate) fn append(&mut self, bytes: &[u8]) -> bool
         ensures appends { result ≡ true → self.new ≡ self.old ++ bytes.now }
-        ensures full { result ≡ false → self.new ≡ self.old }
+        ensures full { result ≡ false → ROOM < length self.old + length bytes.now }
+        ensures same { result ≡ false → self.new ≡ self.old }
     {
         if self.bytes.len() - self.count < bytes.len() {
             return false;

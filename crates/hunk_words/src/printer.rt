@@ -1,6 +1,6 @@
 //! A page of fixed size before a writer.
-ghost use Rattle.std.specs.Prelude.{◌≡◌, ℕ, List, Option, ◌+◌, ◌^◌, ◌<◌, ◌++◌, [], ◌∷◌, true};
-ghost use Rattle.std.specs.Prelude.{false, length, not};
+ghost use Rattle.std.specs.Prelude.{◌≡◌, ℕ, List, Option, ◌+◌, ◌^◌, ◌<◌, ◌≤◌, ◌++◌, [], ◌∷◌};
+ghost use Rattle.std.specs.Prelude.{true, false, length, not};
 ghost use Rattle.hunk_words.specs.Longs.{bytes_of};
 ghost use Rattle.hunk_words.specs.Prints.{Loses, Prints, Sends};
 ghost use Rattle.hunk_words.specs.Puts.{PutsSince};
@@ -88,10 +88,11 @@ impl<'a, W: Sink, const ROOM: usize> PagePrinter<'a, W, ROOM> {
         }
     }
 
-    /// Prints the bytes.
-    #[tactic(auto, using(crate::proofs::PrintLaws::printed))]
+    /// Prints the bytes. The writer gets none as long as all that was printed has room on the page.
+    #[tactic(auto, using(crate::proofs::PrintLaws::printed, crate::proofs::PrintLaws::held_most))]
     pub fn print(&mut self, bytes: &[u8])
-        ensures { Prints self.old self.new bytes.now }
+        ensures prints { Prints self.old self.new bytes.now }
+        ensures kept { length self.new.text ≤ ROOM → self.new.out ≡ self.old.out }
     {
         self.history = self.history.and(bytes);
         if self.lost || self.held.append(bytes) {
@@ -100,10 +101,11 @@ impl<'a, W: Sink, const ROOM: usize> PagePrinter<'a, W, ROOM> {
         self.lost = !send_on(self.out, &mut self.held, bytes);
     }
 
-    /// Prints the longword, high byte first.
+    /// Prints the longword, high byte first, as `print`.
     #[tactic(auto, unfolding(crate::specs::Longs::bytes_of))]
     pub fn print_long(&mut self, word: u32)
-        ensures { Prints self.old self.new (bytes_of (word ∷ [])) }
+        ensures prints { Prints self.old self.new (bytes_of (word ∷ [])) }
+        ensures kept { length self.new.text ≤ ROOM → self.new.out ≡ self.old.out }
     {
         self.print(word.to_be_bytes().as_slice());
     }

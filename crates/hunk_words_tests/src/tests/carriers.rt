@@ -58,6 +58,40 @@ impl Sink for Once {
     }
 }
 
+/// A writer that takes one byte, fails once, and then goes on. It counts what is written to it.
+#[derive(Drop)]
+struct Stumbles {
+    writes: usize,
+}
+
+impl Write for Stumbles {
+    fn write(&mut self, buf: &[u8]) -> io::Result<usize> {
+        self.writes = self.writes.wrapping_add(1);
+        match self.writes {
+            1 => Ok(buf.len().min(1)),
+            2 => Err(io::Error::from(io::ErrorKind::Interrupted)),
+            _ => Ok(buf.len()),
+        }
+    }
+
+    fn flush(&mut self) -> io::Result<()> {
+        Ok(())
+    }
+}
+
+#[test]
+fn a_push_writes_once(rt: HostRuntime) -> Result<(), Fail> {
+    let mut sink = FromWrite::new(Stumbles { writes: 0 });
+    assert_eq!(rt; sink.push(b"abc".as_slice()), Ok(1));
+    assert_eq!(rt; sink.into_inner().writes, 1);
+    let mut out = LongWriter::new(FromWrite::new(Stumbles { writes: 0 }));
+    let fault = WriteFault { written: 1 };
+    assert_eq!(rt; out.put_bytes(b"abc".as_slice()), Err(fault));
+    assert_eq!(rt; out.put_bytes(b"d".as_slice()), Err(fault));
+    assert_eq!(rt; out.into_inner().into_inner().writes, 2);
+    Ok(())
+}
+
 #[test]
 fn nothing_is_tried_again(rt: HostRuntime) -> Result<(), Fail> {
     let mut buf = [0u8; 3];

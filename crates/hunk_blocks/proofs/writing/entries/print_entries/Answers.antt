@@ -10,6 +10,6 @@ print_entry-requires g c = (search rules, all_at IsExtEntry entry_of c.args.entr
 
 pub returns : goal.returns
 returns g c = (
-  c.print_long.ensures.0 ∙ c.entries.invariant.0,
-  list_shown entry_of ext_text c.args.entries.now c.entries.entry-index _ _ _ (omega (arith, c.entries-test.false)) c.entries.invariant.1 c.print_long.ensures.1,
+  c.print_long.ensures.prints.0 ∙ c.entries.invariant.0,
+  list_shown entry_of ext_text c.args.entries.now c.entries.entry-index _ _ _ (omega (arith, c.entries-test.false)) c.entries.invariant.1 c.print_long.ensures.prints.1,
 )

@@ -10,6 +10,6 @@ print_group-requires g c = (search rules, all_at IsGroup group_of c.args.groups.
 
 pub returns : goal.returns
 returns g c = (
-  c.print_long.ensures.0 ∙ c.groups.invariant.0,
-  list_shown group_of group_text c.args.groups.now c.groups.group-index _ _ _ (omega (arith, c.groups-test.false)) c.groups.invariant.1 c.print_long.ensures.1,
+  c.print_long.ensures.prints.0 ∙ c.groups.invariant.0,
+  list_shown group_of group_text c.args.groups.now c.groups.group-index _ _ _ (omega (arith, c.groups-test.false)) c.groups.invariant.1 c.print_long.ensures.prints.1,
 )

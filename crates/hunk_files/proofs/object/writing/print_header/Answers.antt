@@ -19,8 +19,8 @@ pub returns : goal.returns
 returns g c =
     let name = c.args.name.now in
     let bytes = c.bytes-bytes.result.now in (
-      c.print.ensures.0 ∙ c.print_long-2.ensures.0 ∙ c.print_long.ensures.0,
-      word_printed unit_word unit_word _ _ _ _ refl c.print_long.ensures.1
-          (word_printed (length (longs name)) (length bytes / 4) (longs name) _ _ _ (count_is name bytes c.bytes-bytes.ensures.value) c.print_long-2.ensures.1
-          (c.print.ensures.1 ∙ ap (λ l. c.print_long-2.new.self.text ++ l) (name_is name bytes c.bytes-bytes.ensures.value c.bytes-bytes.ensures.longwords))),
+      c.print.ensures.prints.0 ∙ c.print_long-2.ensures.prints.0 ∙ c.print_long.ensures.prints.0,
+      word_printed unit_word unit_word _ _ _ _ refl c.print_long.ensures.prints.1
+          (word_printed (length (longs name)) (length bytes / 4) (longs name) _ _ _ (count_is name bytes c.bytes-bytes.ensures.value) c.print_long-2.ensures.prints.1
+          (c.print.ensures.prints.1 ∙ ap (λ l. c.print_long-2.new.self.text ++ l) (name_is name bytes c.bytes-bytes.ensures.value c.bytes-bytes.ensures.longwords))),
     )
