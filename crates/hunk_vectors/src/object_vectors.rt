@@ -1,5 +1,7 @@
 //! The object files of the suite.
-ghost use Rattle.std.specs.Prelude.{◌≡◌, ◌<◌, length, map, slice_get, IfOk, IfSome};
+ghost use Rattle.std.specs.Prelude.{◌≡◌, ◌<◌, true, length, is_ok, map, slice_get, IfOk, IfSome};
+ghost use Rattle.std.specs.List.{list_all};
+ghost use Rattle.hex.specs.Hex.{decode_of};
 ghost use Rattle.hunk_vectors.specs.Texts.{Spells};
 
 use crate::object_texts as text;
@@ -171,5 +173,16 @@ pub fn object_bytes(alloc: Global, i: usize) -> Result<Vec<u8>, AllocError>
         (λ bytes. IfSome (slice_get (map (λ text. text.now) OBJECT_TEXTS) i)
         (λ text. Spells text bytes.items)) }
 {
-    spelled(alloc, &OBJECT_TEXTS, i)
+    row_bytes(alloc, &OBJECTS, i)
+}
+
+/// The bytes that the text of row `i` spells.
+fn row_bytes(alloc: Global, rows: &[ObjectVector], i: usize) -> Result<Vec<u8>, AllocError>
+    requires inside { i < length rows.now }
+    requires texts { list_all (λ row. is_ok (decode_of row.text.now)) rows.now ≡ true }
+    ensures { IfOk result
+        (λ bytes. IfSome (slice_get (map (λ row. row.text.now) rows.now) i)
+        (λ text. Spells text bytes.items)) }
+{
+    spelled(alloc, rows[i].text)
 }

@@ -3,6 +3,10 @@ use Rattle.hex.proofs.OnLiterals.{hex_on_literals}
 use Rattle.hunk_vectors.proofs.load_vectors.bytes.Goals as goal
 
 -- Each text of the table is hexadecimal text, as computing it shows.
-pub spelled-requires-clause-texts : goal.spelled-requires-clause-texts
+pub row_bytes-requires-clause-texts : goal.row_bytes-requires-clause-texts
 unfolding hex_on_literals
-spelled-requires-clause-texts c = refl
+row_bytes-requires-clause-texts c = refl
+
+-- The texts of the table are those of `LOAD_TEXTS`, in the same order.
+pub returns : goal.returns
+returns c = c.row_bytes.ensures
