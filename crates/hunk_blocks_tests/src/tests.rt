@@ -4,6 +4,7 @@
 mod answers;
 mod ext_kinds;
 mod growths;
+mod large;
 mod memory;
 mod texts;
 mod values;

@@ -1,107 +1,138 @@
-//! Files at their limits, which are computed as they are read, few bytes at a time.
-ghost use Rattle.std.specs.Prelude.{None, false};
+//! Files with many hunks and relocations, and large stores: no loader gives up on them.
 
+use crate::tests::cut_at;
+use hunk_files::Row;
+use hunk_scatter::stream::{begin, take_piece};
 use hunk_scatter::{Image, Limits, Packed, load};
-use hunk_testing::large::{LargeHunk, ManyHunks, content};
-use hunk_testing::{Computed, Longs};
-use hunk_words::{Failed, Source, word_at};
+use hunk_testing::large::{
+    HUNKS, LARGE, LOAD_FILE, MANY, SHORT_OF_16_MIB, SHORT_OF_64_MIB, bytes_of_runs, large_load_file,
+};
+use hunk_testing::{Fed, Then, spelled};
 use std::alloc::Global;
 use std::process::Abort;
 use std::test::Fail;
 
 const LIMITS: Limits = Limits {
-    budget: 1 << 20,
-    file_bytes: 4_000_000,
+    budget: 1 << 26,
+    file_bytes: 1 << 26,
 };
 
-/// The bytes of the files of `ManyHunks` and of `LargeHunk`: 655,365 and 262,153 longwords.
-const MANY_HUNKS: u32 = 2_621_460;
+/// The bytes of the hunk of the large load file.
+const LARGE_HUNK: usize = LARGE - 36;
 
-const LARGE_HUNK: u32 = 1_048_612;
+/// The first hunk lies at 0x21000, and has 8 bytes; each other has 4.
+const START: u32 = 0x21000;
 
-/// Gives the bytes of a computed file, this many a read at most.
-#[derive(Drop)]
-struct InPieces<L> {
-    file: Computed<L>,
-    most: usize,
-}
+const SECOND: u32 = START + 8;
 
-impl<L: Longs + Drop> Source for InPieces<L> {
-    ghost left = { λ _. None };
-
-    ghost failed = { λ _. false };
-
-    fn pull(&mut self, buf: &mut [u8]) -> Result<usize, Failed> {
-        let count = buf.len().min(self.most);
-        self.file.pull(&mut buf[..count])
-    }
-}
-
-/// The base of a hunk where each has a longword and the first lies at 0x21000.
-fn base_of(hunk: u32) -> u32 {
-    0x21000_u32.wrapping_add(hunk.wrapping_mul(4))
-}
-
-/// The segment of a hunk of `ManyHunks`, of which the first lies at 0x21000.
-fn long_of(hunk: u32) -> [u8; 4] {
-    hunk.wrapping_add(base_of(hunk ^ 1)).to_be_bytes()
-}
-
-/// Loads the file by a reader of this many bytes a read, which gives all of its bytes.
-fn loaded<L: Longs + Drop>(
-    rt: &impl Abort,
-    alloc: Global,
-    file: L,
-    bytes: u32,
-    most: usize,
-) -> Image {
-    let file = Computed::new(file);
-    let mut source = InPieces { file, most };
-    let answer = load(alloc, &mut source, LIMITS, &Packed { start: 0x21000 });
-    assert_eq!(rt; source.file.given(), bytes);
+/// Loads the file by a reader of this many bytes a read, which gives all of them.
+fn loaded(rt: &impl Abort, alloc: Global, bytes: &[u8], most: usize) -> Image {
+    let mut source = Fed::new(bytes, most, Then::Fails);
+    let answer = load(alloc, &mut source, LIMITS, &Packed { start: START });
+    assert_eq!(rt; source.rest().len(), 0);
     match answer {
         Ok(image) => image,
         Err(fault) => panic!(rt; "{fault:?}"),
     }
 }
 
-/// Sees that the segments have their bases and longwords, in turn and one by one.
+/// The longwords of the first hunk: to each the base of the second was added this often.
+fn first_segment() -> [u8; 8] {
+    let [a, b, c, d] = MANY.wrapping_mul(SECOND).to_be_bytes();
+    [a, b, c, d, a, b, c, d]
+}
+
+/// Sees that the segments have their bases and longwords.
 fn expect_segments(rt: &impl Abort, image: &Image) {
-    assert_eq!(rt; image.hunks(), 65_536);
-    for (hunk, (row, segment)) in (0..image.hunks()).zip(image.segments()) {
-        assert_eq!(rt; row.base, base_of(hunk));
-        assert_eq!(rt; segment, long_of(hunk).as_slice());
+    assert_eq!(rt; image.hunks(), HUNKS);
+    let mut base = START as u64;
+    for (row, segment) in image.segments() {
+        assert_eq!(rt; row.base as u64, base);
+        if row.base == START {
+            assert_eq!(rt; segment, first_segment().as_slice());
+        } else {
+            assert_eq!(rt; segment, [0; 4].as_slice());
+        }
+        base = base.wrapping_add(segment.len() as u64);
     }
-    for hunk in [0, 1, 2_047, 2_048, 2_049, 4_095, 40_000, 65_535] {
-        assert_eq!(rt; image.segment(hunk), long_of(hunk).as_slice());
+    for hunk in [1, 2_047, 2_048, 2_049, 4_095, 40_000, 65_535] {
+        assert_eq!(rt;
+            image.base(hunk),
+            hunk.wrapping_mul(4).wrapping_add(START + 4)
+        );
     }
 }
 
 #[test]
 fn many_hunks(rt: HostRuntime) -> Result<(), Fail> {
-    for most in [1, 3, 256] {
-        let image = loaded(&rt, rt.alloc(), ManyHunks, MANY_HUNKS, most);
+    let bytes = bytes_of_runs(rt.alloc(), LOAD_FILE)?;
+    for most in [5, 256] {
+        let image = loaded(&rt, rt.alloc(), &bytes, most);
         expect_segments(&rt, &image);
     }
     Ok(())
 }
 
-/// Sees that the only segment is the content of `LargeHunk`.
-fn expect_content(rt: &impl Abort, image: &Image) {
-    assert_eq!(rt; image.hunks(), 1);
-    assert_eq!(rt; image.bytes(), 1 << 20);
-    let segment = image.joined();
-    assert_eq!(rt; segment.len(), 1 << 20);
-    for at in 0..segment.len() / 4 {
-        assert_eq!(rt; word_at(segment, at), content(at as u32));
-    }
+#[test]
+fn large_stores(rt: HostRuntime) -> Result<(), Fail> {
+    let alloc = rt.alloc();
+    let image = loaded(&rt, alloc, &spelled(alloc, SHORT_OF_16_MIB)?, 1);
+    assert_eq!(rt; image.bytes(), 1 << 24);
+    let image = loaded(&rt, alloc, &spelled(alloc, SHORT_OF_64_MIB)?, 1);
+    assert_eq!(rt; image.bytes(), 1 << 26);
+    let image = loaded(&rt, alloc, &large_load_file(alloc)?, 256);
+    assert_eq!(rt; image.bytes(), LARGE_HUNK as u64);
+    Ok(())
+}
+
+/// The bytes of the header of the load file with many hunks, and of a file of one hunk.
+const HEADER: usize = 20 + 4 * HUNKS as usize;
+
+/// Sees that a stream whose first piece has this many bytes takes all that is behind the header.
+fn expect_streamed(
+    rt: &impl Abort,
+    rows: &[Row],
+    store: &mut [u8],
+    bytes: &[u8],
+    header: usize,
+    cut: usize,
+) {
+    let (_, body) = cut_at(bytes, header);
+    let (front, rest) = cut_at(body, cut);
+    let at = begin(store, rows, header as u64);
+    let Ok((at, _)) = take_piece(store, rows, at, front) else {
+        panic!(rt; "the first piece");
+    };
+    let Ok((at, _)) = take_piece(store, rows, at, rest) else {
+        panic!(rt; "the second piece");
+    };
+    assert_eq!(rt; (at.is_whole(), at.fed), (true, bytes.len() as u64));
 }
 
 #[test]
-fn one_large_hunk(rt: HostRuntime) -> Result<(), Fail> {
-    for most in [1, 3, 256] {
-        let image = loaded(&rt, rt.alloc(), LargeHunk, LARGE_HUNK, most);
-        expect_content(&rt, &image);
+fn many_hunks_in_two_pieces(rt: HostRuntime) -> Result<(), Fail> {
+    let alloc = rt.alloc();
+    let bytes = bytes_of_runs(alloc, LOAD_FILE)?;
+    let image = loaded(&rt, alloc, &bytes, 256);
+    let mut rows = Vec::new(alloc);
+    for (row, _) in image.segments() {
+        rows.push(row)?;
     }
+    let mut store = vec![in alloc; 0xA5u8; 4 * HUNKS as usize + 4]?;
+    expect_streamed(&rt, &rows, &mut store, &bytes, HEADER, 100_001);
+    assert!(rt; store.as_slice() == image.joined());
+    Ok(())
+}
+
+#[test]
+fn a_large_hunk_in_two_pieces(rt: HostRuntime) -> Result<(), Fail> {
+    let bytes = large_load_file(rt.alloc())?;
+    let mut store = vec![in rt.alloc(); 0xA5u8; LARGE_HUNK]?;
+    let row = Row {
+        word: LARGE_HUNK as u32 / 4,
+        extra: 0,
+        base: START,
+    };
+    expect_streamed(&rt, &[row], &mut store, &bytes, 24, 100_001);
     Ok(())
 }
