@@ -1,45 +1,66 @@
 #!/bin/sh
 # [DESTDIR=..] [PREFIX=..] ./install.sh [uninstall]: puts the program, the C library with its header, the manual page, two pages
 # and the lines for `file` where a distribution has them, below PREFIX (/usr/local), all of that below DESTDIR where one is given; or
-# takes them away. They are what `rt run` in crates/hunkinfo and `rt lib` in crates/hunk have built; PROGRAM and LIBRARY name
-# others. It needs a C compiler (CC), for libhunk.so.
+# takes them away, with the folders that it made, where these are empty then. They are what `rt run` in crates/hunkinfo and `rt lib`
+# in crates/hunk have built; PROGRAM and LIBRARY name others. It needs a C compiler (CC, with options or without), for libhunk.so.
 set -eu
+umask 022
+lack() {
+  printf 'install.sh: %s\n' "$1" >&2
+  exit "${2:-1}"
+}
 # absolute PATH: where the path leads from the folder in which this is called
 absolute() {
   case $1 in
-    /*) echo "$1" ;;
-    *) echo "$PWD/$1" ;;
+    /*) printf '%s\n' "$1" ;;
+    *) printf '%s\n' "$PWD/$1" ;;
   esac
 }
+case $#:${1:-} in
+  0: | 1:uninstall) ;;
+  *) lack 'usage: [DESTDIR=..] [PREFIX=..] ./install.sh [uninstall]' 2 ;;
+esac
 PREFIX=$(absolute "${PREFIX:-/usr/local}")
 DESTDIR=${DESTDIR:+$(absolute "$DESTDIR")}
 LIBRARY=${LIBRARY:+$(absolute "$LIBRARY")}
 PROGRAM=${PROGRAM:+$(absolute "$PROGRAM")}
-cd "$(dirname "$0")"
+cd "$(dirname "$(realpath "$0")")"
 to=$DESTDIR$PREFIX
 files="bin/hunkinfo include/hunk.h lib/libhunk.a lib/libhunk.so lib/pkgconfig/hunk.pc share/man/man1/hunkinfo.1
   share/misc/magic.d/hunk share/doc/hunkinfo/OUTPUT.md share/doc/hunkinfo/FORMAT.md"
-if [ "${1:-}" = uninstall ]; then
+# The folders below PREFIX that were made, PREFIX itself as /, each one before the one that it is in.
+record=$to/share/doc/hunkinfo/folders
+if [ $# = 1 ]; then
+  status=0
+  made=$(cat "$record" 2> /dev/null) || made=
   for file in $files; do
-    rm -f "$to/$file"
+    rm -f "$to/$file" || status=1
   done
-  exit 0
+  rm -f "$record" || status=1
+  for folder in $made; do
+    rmdir "$to/$folder" 2> /dev/null || true
+  done
+  exit $status
 fi
 
-lack() {
-  echo "install.sh: $1"
-  exit 1
-}
-CC=${CC:-cc}
 LIBRARY=${LIBRARY:-crates/hunk/out/libhunk.a}
 PROGRAM=${PROGRAM:-crates/hunkinfo/out/hunkinfo}
-command -v "$CC" > /dev/null || lack "a C compiler, $CC, is needed"
+CC=${CC:-cc}
+command -v "${CC%% *}" > /dev/null || lack "a C compiler, $CC, is needed"
 command -v rt > /dev/null || lack 'the Rattle kit, rt, is needed: the library asks for memory by an object of it'
 [ -f "$LIBRARY" ] || lack "$LIBRARY is not there: build it with (cd crates/hunk && rt lib)"
 [ -f "$PROGRAM" ] || lack "$PROGRAM is not there: build it with (cd crates/hunkinfo && rt run < stdin)"
+case $PREFIX in
+  *[\$\#]* | *[[:space:]] | *'
+'*) lack "hunk.pc can't name a PREFIX with a \$, a # or a line end, or with a space at its end" ;;
+esac
+for file in $files; do
+  [ ! -d "$to/$file" ] || lack "$to/$file is a folder"
+done
 
 work=$(mktemp -d)
 trap 'rm -rf "$work"' EXIT
+trap 'exit 1' HUP INT TERM
 # One archive: the library, and the kit's three calls of malloc, realloc and free.
 cp "$LIBRARY" "$work/libhunk.a"
 chmod u+w "$work/libhunk.a"
@@ -49,23 +70,29 @@ chmod u+w "$work/libhunk.a"
   ar rs libhunk.a ./*.o 2> /dev/null
 )
 echo '{ global: hunk_*; local: *; };' > "$work/exports"
-"$CC" -shared -o "$work/libhunk.so" -Wl,-soname,libhunk.so -Wl,--version-script="$work/exports" \
+# shellcheck disable=SC2086
+$CC -shared -o "$work/libhunk.so" -Wl,-soname,libhunk.so -Wl,--version-script="$work/exports" \
   -Wl,--whole-archive "$work/libhunk.a" -Wl,--no-whole-archive
 cat > "$work/hunk.pc" << END
-prefix=$PREFIX
+prefix=$(printf '%s\n' "$PREFIX" | sed 's/[\\"]/\\&/g')
 includedir=\${prefix}/include
 libdir=\${prefix}/lib
 
 Name: hunk
 Description: load files and object files of AmigaDOS (hunk files)
 Version: 0
-Cflags: -I\${includedir}
-Libs: -L\${libdir} -lhunk
+Cflags: -I"\${includedir}"
+Libs: -L"\${libdir}" -lhunk
 END
 
-for file in $files; do
-  mkdir -p "$to/$(dirname "$file")"
+made=
+for folder in / bin include lib lib/pkgconfig share share/man share/man/man1 share/misc share/misc/magic.d share/doc \
+  share/doc/hunkinfo; do
+  [ -d "$to/$folder" ] || made="$folder $made"
+  mkdir -p "$to/$folder"
 done
+[ ! -f "$record" ] || made="$made$(cat "$record")"
+echo "$made" > "$record"
 install -m 755 "$PROGRAM" "$to/bin/hunkinfo"
 install -m 644 include/hunk.h "$to/include/hunk.h"
 install -m 644 "$work/libhunk.a" "$to/lib/libhunk.a"

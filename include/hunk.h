@@ -124,10 +124,11 @@ struct hunk_answer hunk_table(const uint8_t *bytes, size_t bytes_len, uint64_t b
  * Else the first fault of the bytes, HUNK_NOT_LOAD_FILE to HUNK_BAD_OFFSET or HUNK_TRUNCATED;
  * place: the byte of the longword that is refused, or where the first longword is missing.
  *
- * HUNK_NO_ROOM and HUNK_NO_BASE come before the body is looked at. A file that fits, with a base
- * for each hunk, is loaded, or the answer is HUNK_OUT_OF_MEMORY. Memory after the hunks, and at
- * any answer but HUNK_OK all memory, is as it was. It takes 12 bytes for each hunk, rounded up as a
- * list grows, and then as many bytes as the hunks have, once.
+ * HUNK_NO_ROOM and HUNK_NO_BASE come before the body is looked at, HUNK_NO_ROOM first where both
+ * apply. A file that fits, with a base for each hunk, is loaded, or the answer is
+ * HUNK_OUT_OF_MEMORY. Memory after the hunks, and at any answer but HUNK_OK all memory, is as it
+ * was. It takes 12 bytes for each hunk, rounded up as a list grows, and then as many bytes as the
+ * hunks have, once.
  */
 struct hunk_answer hunk_load(const uint8_t *bytes, size_t bytes_len, const uint32_t *bases,
                              size_t bases_len, uint8_t *memory, size_t memory_len);

@@ -5,8 +5,9 @@
     for segment in hunk.load(data, base=0x21000):
         ...
 
-`data` is a bytes-like object. Bytes that are rejected raise a HunkError, which says why and at which byte; MemoryError is
-raised where memory runs out. libhunk.so is looked for where the system keeps libraries, or is what LIBHUNK names.
+`data` is a bytes-like object; anything else raises a TypeError. Bytes that are rejected raise a HunkError, which says why
+and at which byte; MemoryError is raised where memory runs out. libhunk.so is looked for where the system keeps libraries,
+or is what LIBHUNK names.
 
     python3 hunk.py FILE [BASE]
 
@@ -97,6 +98,11 @@ def _accepted(answer):
     return answer
 
 
+def _bytes(data):
+    """The bytes of a bytes-like object. What `bytes` would make of a number or a list is a TypeError."""
+    return data if isinstance(data, bytes) else memoryview(data).tobytes()
+
+
 def _number(value, bits, what):
     """The value, where it is a number of so many bits."""
     if not 0 <= value < 1 << bits:
@@ -122,7 +128,7 @@ def _rows(call, kind, counted, *words):
 
 def table(data, budget=BUDGET):
     """The hunks that the header at the front of the bytes declares, as a list of Hunk. Bytes behind it are not read."""
-    data = bytes(data)
+    data = _bytes(data)
     rows = _rows(_table, _Row, "hunk", data, len(data), _number(budget, 64, "budget"))
     return [Hunk(row.bytes, _MEMORY[row.memory], row.extra) for row in rows]
 
@@ -131,7 +137,7 @@ def load(data, base=0x1000, budget=BUDGET):
     """The bytes of each hunk of the load file at the front of the bytes, relocated, as a list of bytes.
 
     `base` is the address of the first hunk, and the others lie right behind it; or a list with an address for each."""
-    data = bytes(data)
+    data = _bytes(data)
     sizes = [hunk.size for hunk in table(data, budget)]
     memory = _array(c_uint8, sum(sizes))
     if isinstance(base, int):
@@ -146,14 +152,14 @@ def load(data, base=0x1000, budget=BUDGET):
 
 def check(data):
     """What is wrong with the offsets of an object file, as a list of Finding; of a load file nothing, or it is rejected."""
-    data = bytes(data)
+    data = _bytes(data)
     rows = _rows(_check, _Finding, "count", data, len(data))
     return [Finding(row.unit, row.hunk, row.offset, _FAULTS[row.fault]) for row in rows]
 
 
 def strip(data):
     """The object file that the bytes are, or the load file that they begin with, without names, symbols and debug data."""
-    data = bytes(data)
+    data = _bytes(data)
     text = _array(c_uint8, len(data))
     written = _accepted(_strip(data, len(data), text, len(data))).count
     return bytes(memoryview(text)[:written])

@@ -2,6 +2,7 @@
 
 Prints each row with another answer, and ends with status 1 where there is one."""
 
+import itertools
 import pathlib
 import sys
 
@@ -72,6 +73,11 @@ def wrong_calls(texts):
         except ValueError as error:
             if str(error) != wanted:
                 yield f"{error} where the error is wanted: {wanted}"
+    for call, data in itertools.product((hunk.table, hunk.load, hunk.check, hunk.strip), (5, list(one), "text")):
+        try:
+            yield f"{call.__name__} of {data} answers {call(data)} where a TypeError is wanted"
+        except TypeError:
+            pass
 
 
 def main(paths):
