@@ -71,13 +71,25 @@ const IN_ONE_MODE: &[(u32, u64, Option<Reason>)] = &[
     (0x2000_03EF, 0, Some(Reason::NotInLoadFile)),
 ];
 
+fn expect_in_one_mode(
+    rt: &impl Abort,
+    alloc: Global,
+    word: u32,
+    load: Result<usize, BlockFault>,
+) -> Result<(), Fail> {
+    let bytes = bytes_of(alloc, &[word, 0])?;
+    let answers = (
+        answer(alloc, &bytes, Mode::Load),
+        answer(alloc, &bytes, Mode::Object),
+    );
+    assert_eq!(rt; answers, (load, Ok(8)), "{word:x}");
+    Ok(())
+}
+
 #[test]
 fn in_one_mode(rt: HostRuntime) -> Result<(), Fail> {
     for (word, number, reason) in IN_ONE_MODE {
-        let bytes = bytes_of(rt.alloc(), &[*word, 0])?;
-        let load = wanted(*number, *reason);
-        assert_eq!(rt; answer(rt.alloc(), &bytes, Mode::Load), load, "{word:x}");
-        assert_eq!(rt; answer(rt.alloc(), &bytes, Mode::Object), Ok(8), "{word:x}");
+        expect_in_one_mode(&rt, rt.alloc(), *word, wanted(*number, *reason))?;
     }
     Ok(())
 }

@@ -1,8 +1,9 @@
 //! The types of EXT entries: their numbers, names, shapes and widths.
 
-use hunk_blocks::{Block, Body, ExtKind, ExtShape, Mode};
+use hunk_blocks::{Block, Body, Entries, ExtKind, ExtShape, Mode};
 use hunk_testing::spelled;
-use std::alloc::Global;
+use hunk_words::BlockFault;
+use std::alloc::{AllocError, Global};
 use std::process::Abort;
 use std::test::Fail;
 
@@ -64,11 +65,14 @@ const TYPES: &[(ExtKind, u8, &str, ExtShape, Option<u64>)] = &[
 #[test]
 fn of_each_type(rt: HostRuntime) -> Result<(), Fail> {
     for (kind, code, name, shape, width) in TYPES {
-        assert_eq!(rt; ExtKind::from_code(*code), Some(*kind));
-        assert_eq!(rt; kind.code(), *code);
-        assert_eq!(rt; kind.name(), *name);
-        assert_eq!(rt; kind.shape(), *shape);
-        assert_eq!(rt; kind.width(), *width);
+        assert_eq!(rt;
+            (ExtKind::from_code(*code), kind.code()),
+            (Some(*kind), *code)
+        );
+        assert_eq!(rt;
+            (kind.name(), kind.shape(), kind.width()),
+            (*name, *shape, *width)
+        );
     }
     Ok(())
 }
@@ -87,22 +91,37 @@ fn of_no_type(rt: HostRuntime) -> Result<(), Fail> {
 /// An entry of each shape: DEF, COMMON with a reference, REF8 with two.
 const ENTRIES: &str = "3EF / 1000001 5F660000 7 / 82000000 10 1 4 / 84000000 2 4 8 / 0";
 
+/// The type and the shape of each entry.
+type Shaped = (Option<ExtKind>, Option<ExtShape>);
+
+const SHAPED: &[Shaped] = &[
+    (Some(ExtKind::Def), Some(ExtShape::Definition)),
+    (Some(ExtKind::Common), Some(ExtShape::Common)),
+    (Some(ExtKind::Ref8), Some(ExtShape::References)),
+];
+
+fn shapes_of(alloc: Global, entries: &Entries<'_>) -> Result<Vec<Shaped>, AllocError> {
+    let mut found = Vec::new(alloc);
+    for entry in entries {
+        found.push((entry.kind(), entry.shape()))?;
+    }
+    Ok(found)
+}
+
+/// The types and shapes in an EXT block; none of another block.
+fn shapes_in(alloc: Global, bytes: &[u8]) -> Result<Vec<Shaped>, Fail> {
+    let (block, _) = Block::decode(alloc, bytes, Mode::Object)?;
+    match block.body() {
+        Body::Ext(entries) => Ok(shapes_of(alloc, entries)?),
+        _ => Ok(Vec::new(alloc)),
+    }
+}
+
 #[test]
 fn of_entries(rt: HostRuntime) -> Result<(), Fail> {
     let bytes = spelled(rt.alloc(), ENTRIES)?;
-    let (block, _) = Block::decode(rt.alloc(), bytes.as_slice(), Mode::Object)?;
-    match block.body() {
-        Body::Ext(entries) => {
-            assert_eq!(rt; entries.len(), 3);
-            assert_eq!(rt; entries.at(0).kind(), Some(ExtKind::Def));
-            assert_eq!(rt; entries.at(0).shape(), Some(ExtShape::Definition));
-            assert_eq!(rt; entries.at(1).kind(), Some(ExtKind::Common));
-            assert_eq!(rt; entries.at(1).shape(), Some(ExtShape::Common));
-            assert_eq!(rt; entries.at(2).kind(), Some(ExtKind::Ref8));
-            assert_eq!(rt; entries.at(2).shape(), Some(ExtShape::References));
-        }
-        _ => panic!(&rt; "EXT"),
-    }
+    let found = shapes_in(rt.alloc(), &bytes)?;
+    assert_eq!(rt; found.as_slice(), SHAPED);
     Ok(())
 }
 
@@ -116,6 +135,11 @@ const BLOCKS: &[(&str, Option<u64>)] = &[
     ("3F2", None),
 ];
 
+fn content_of(alloc: Global, bytes: &[u8]) -> Result<Option<u64>, BlockFault> {
+    let (block, _) = Block::decode(alloc, bytes, Mode::Load)?;
+    Ok(block.body().content_bytes())
+}
+
 fn expect_content(
     rt: &impl Abort,
     alloc: Global,
@@ -123,8 +147,7 @@ fn expect_content(
     want: Option<u64>,
 ) -> Result<(), Fail> {
     let bytes = spelled(alloc, text)?;
-    let (block, _) = Block::decode(alloc, bytes.as_slice(), Mode::Load)?;
-    assert_eq!(rt; block.body().content_bytes(), want, "{text}");
+    assert_eq!(rt; content_of(alloc, &bytes), Ok(want), "{text}");
     Ok(())
 }
 

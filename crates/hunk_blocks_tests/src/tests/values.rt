@@ -1,201 +1,251 @@
 //! What a block that was read tells.
 
-use hunk_blocks::{Block, Body, Groups, Mode, Payload};
+use hunk_blocks::{Block, Body, Entries, Entry, Group, Groups, Longs, Mode, Payload, Symbols};
 use hunk_testing::{examples, spelled};
 use std::alloc::{AllocError, Global};
 use std::process::Abort;
 use std::test::Fail;
 
-/// What stands behind a block word.
+/// A block word, its flags, the top three bits, and which body stands behind it.
+type Front = (u32, u8, Behind);
+
+/// Which body stands behind a block word.
 #[derive(Clone, Copy, Debug, PartialEq)]
 enum Behind {
     Nothing,
-    Size(u32),
+    Size,
+    TopAndBytes,
+    Groups,
+    NoGroups,
+    Symbols,
+    Entries,
     NoPayload,
+    Other,
 }
 
-fn behind_word(body: &Body<'_>) -> Option<Behind> {
+fn behind_word(body: &Body<'_>) -> Behind {
     match body {
-        Body::End => Some(Behind::Nothing),
-        Body::Bss { size } => Some(Behind::Size(*size)),
-        Body::Advisory(payload) if payload.bytes().is_empty() => Some(Behind::NoPayload),
-        _ => None,
+        Body::End => Behind::Nothing,
+        Body::Bss { size: _ } => Behind::Size,
+        Body::Data { top: _, payload: _ } => Behind::TopAndBytes,
+        Body::Reloc(groups) if groups.is_empty() => Behind::NoGroups,
+        Body::Reloc(_) => Behind::Groups,
+        Body::Symbol(_) => Behind::Symbols,
+        Body::Ext(_) => Behind::Entries,
+        Body::Advisory(payload) if payload.bytes().is_empty() => Behind::NoPayload,
+        _ => Behind::Other,
     }
 }
 
-/// Sees that the text is a block in both modes, to its last byte, whose word is kept with its flags.
-fn expect(
-    rt: &impl Abort,
-    alloc: Global,
-    text: &str,
-    (word, flags): (u32, u8),
-    want: Behind,
-) -> Result<(), Fail> {
-    let bytes = spelled(alloc, text)?;
-    for mode in [Mode::Load, Mode::Object] {
-        let (block, count) = Block::decode(alloc, &bytes, mode)?;
-        assert_eq!(rt; count, bytes.len(), "{text}");
-        assert_eq!(rt; (block.word().word(), block.word().flags()), (word, flags));
-        assert_eq!(rt; behind_word(block.body()), Some(want), "{text}");
+/// Adds how many bytes there are, and each of them.
+fn put_bytes(found: &mut Vec<u64>, bytes: &[u8]) -> Result<(), AllocError> {
+    found.push(bytes.len() as u64)?;
+    for byte in bytes {
+        found.push(u64::from(*byte))?;
     }
     Ok(())
 }
 
-/// Examples 33 and 44: words of END, of BSS and of advisory blocks without a payload, with their flags, the top
-/// three bits, and what is behind them. A size word keeps its top bits.
-const BLOCKS: &[(&str, (u32, u8), Behind)] = &[
-    ("3F2", (0x3F2, 0), Behind::Nothing),
-    (
-        examples::END_WITH_ADVISORY_FLAG,
-        (0x2000_03F2, 1),
-        Behind::Nothing,
-    ),
-    ("400003F2", (0x4000_03F2, 2), Behind::Nothing),
-    ("800003F2", (0x8000_03F2, 4), Behind::Nothing),
-    ("3EB 80000002", (0x3EB, 0), Behind::Size(0x8000_0002)),
-    (examples::ADVISORY, (0x2000_04D2, 1), Behind::NoPayload),
-    (
-        examples::ADVISORY_WITH_CHIP,
-        (0x6000_04D2, 3),
-        Behind::NoPayload,
-    ),
-];
-
-#[test]
-fn of_words_and_sizes(rt: HostRuntime) -> Result<(), Fail> {
-    for (text, word, want) in BLOCKS {
-        expect(&rt, rt.alloc(), text, *word, *want)?;
+/// Adds how many longwords there are, and each of them, by its place.
+fn put_longs(found: &mut Vec<u64>, longs: &Longs<'_>) -> Result<(), AllocError> {
+    found.push(longs.len() as u64)?;
+    for i in 0..longs.len() {
+        found.push(u64::from(longs.at(i)))?;
     }
     Ok(())
 }
 
-#[test]
-fn of_payloads(rt: HostRuntime) -> Result<(), Fail> {
-    let bytes = spelled(rt.alloc(), "3EA 80000001 12345678")?;
-    let (block, _) = Block::decode(rt.alloc(), bytes.as_slice(), Mode::Load)?;
-    match block.body() {
-        Body::Data { top, payload } => {
-            assert_eq!(rt; *top, 2);
-            assert_eq!(rt; payload.bytes(), [0x12, 0x34, 0x56, 0x78].as_slice());
-        }
-        _ => panic!(&rt; "DATA"),
-    }
-    let payload = Payload::of(b"name".as_slice());
-    assert_eq!(rt; payload.bytes(), b"name".as_slice());
-    Ok(())
-}
-
-#[test]
-fn of_groups_and_symbols(rt: HostRuntime) -> Result<(), Fail> {
-    let bytes = spelled(rt.alloc(), "3EC / 2 1 8 4 / 1 0 C / 0")?;
-    let (block, _) = Block::decode(rt.alloc(), bytes.as_slice(), Mode::Load)?;
-    match block.body() {
-        Body::Reloc(groups) => {
-            assert_eq!(rt; groups.len(), 2);
-            let (first, second) = (groups.at(0), groups.at(1));
-            assert_eq!(rt; (first.target, first.offsets.len()), (1, 2));
-            assert_eq!(rt; (first.offsets.at(0), first.offsets.at(1)), (8, 4));
-            assert_eq!(rt; (second.target, second.offsets.len()), (0, 1));
-            assert_eq!(rt; second.offsets.at(0), 12);
-        }
-        _ => panic!(&rt; "RELOC32"),
-    }
-    let bytes = spelled(rt.alloc(), "3F0 5000001 5F6D0000 9 0")?;
-    let (block, _) = Block::decode(rt.alloc(), bytes.as_slice(), Mode::Load)?;
-    match block.body() {
-        Body::Symbol(symbols) => {
-            assert_eq!(rt; symbols.len(), 1);
-            let symbol = symbols.at(0);
-            assert_eq!(rt; (symbol.word, symbol.value), (0x0500_0001, 9));
-            assert_eq!(rt; symbol.name.bytes(), b"_m\0\0".as_slice());
-        }
-        _ => panic!(&rt; "SYMBOL"),
+/// Adds the target of a group, and its offsets.
+fn put_group(found: &mut Vec<u64>, group: &Group<'_>) -> Result<(), AllocError> {
+    found.push(u64::from(group.target))?;
+    found.push(group.offsets.len() as u64)?;
+    for offset in &group.offsets {
+        found.push(u64::from(offset))?;
     }
     Ok(())
 }
 
-/// Example 33: one common block with no name and no offsets.
-#[test]
-fn of_a_common_block_alone(rt: HostRuntime) -> Result<(), Fail> {
-    let bytes = spelled(rt.alloc(), "3EF 82000000 8 0 0")?;
-    let (block, count) = Block::decode(rt.alloc(), bytes.as_slice(), Mode::Object)?;
-    assert_eq!(rt; count, 20);
-    match block.body() {
-        Body::Ext(entries) => {
-            assert_eq!(rt; entries.len(), 1);
-            let common = entries.at(0);
-            assert_eq!(rt; (common.word, common.value), (0x8200_0000, 8));
-            assert!(rt; common.name.bytes().is_empty() && common.offsets.is_empty());
-        }
-        _ => panic!(&rt; "EXT"),
-    }
-    Ok(())
-}
-
-#[test]
-fn of_entries(rt: HostRuntime) -> Result<(), Fail> {
-    let text = "3EF / 82000000 8 0 / 81000001 5F660000 1 2 / 1000000 5 / 0";
-    let bytes = spelled(rt.alloc(), text)?;
-    let (block, _) = Block::decode(rt.alloc(), bytes.as_slice(), Mode::Object)?;
-    match block.body() {
-        Body::Ext(entries) => {
-            assert_eq!(rt; entries.len(), 3);
-            let (common, reference, definition) = (entries.at(0), entries.at(1), entries.at(2));
-            assert_eq!(rt;
-                (common.word, common.value, common.offsets.len()),
-                (0x8200_0000, 8, 0)
-            );
-            assert_eq!(rt; common.name.bytes(), [].as_slice());
-            assert_eq!(rt; (reference.value, reference.offsets.len()), (0, 1));
-            assert_eq!(rt; reference.offsets.at(0), 2);
-            assert_eq!(rt; reference.name.bytes(), b"_f\0\0".as_slice());
-            assert_eq!(rt; (definition.value, definition.offsets.len()), (5, 0));
-            assert!(rt; definition.offsets.is_empty());
-            assert_eq!(rt; entries.iter().count(), 3);
-        }
-        _ => panic!(&rt; "EXT"),
-    }
-    Ok(())
-}
-
-/// The targets and offsets of a relocation block, in turn; nothing where it has no group.
-fn relocations(alloc: Global, text: &str) -> Result<Option<Vec<(u32, u32)>>, AllocError> {
-    let bytes = spelled(alloc, text)?;
-    match Block::decode(alloc, bytes.as_slice(), Mode::Load) {
-        Ok((block, _)) => match block.body() {
-            Body::Reloc(groups) if !groups.is_empty() => Ok(Some(in_turn(alloc, groups)?)),
-            _ => Ok(None),
-        },
-        Err(_) => Ok(None),
-    }
-}
-
-fn in_turn(alloc: Global, groups: &Groups<'_>) -> Result<Vec<(u32, u32)>, AllocError> {
+fn numbers_of_groups(alloc: Global, groups: &Groups<'_>) -> Result<Vec<u64>, AllocError> {
     let mut found = Vec::new(alloc);
     for group in groups {
-        for offset in &group.offsets {
-            found.push((group.target, offset))?;
-        }
+        put_group(&mut found, group)?;
     }
     Ok(found)
 }
 
-#[test]
-fn of_groups_in_turn(rt: HostRuntime) -> Result<(), Fail> {
-    let found = relocations(rt.alloc(), "3EC / 1 0 4 / 2 1 8 C / 0")?;
-    let wanted = [(0, 4), (1, 8), (1, 12)];
-    assert_eq!(rt; found.as_deref(), Some(wanted.as_slice()));
-    assert_eq!(rt; relocations(rt.alloc(), "3EC 0")?, None);
-    let found = relocations(rt.alloc(), "3EC 1 0 0 0")?;
-    assert_eq!(rt; found.as_deref(), Some([(0, 0)].as_slice()), "example 33");
+/// The word, value and name of each symbol.
+fn numbers_of_symbols(alloc: Global, symbols: &Symbols<'_>) -> Result<Vec<u64>, AllocError> {
+    let mut found = Vec::new(alloc);
+    for i in 0..symbols.len() {
+        let symbol = symbols.at(i);
+        found.push(u64::from(symbol.word))?;
+        found.push(u64::from(symbol.value))?;
+        put_bytes(&mut found, symbol.name.bytes())?;
+    }
+    Ok(found)
+}
+
+/// Adds the word, value and name of an entry, and its offsets where it has any.
+fn put_entry(found: &mut Vec<u64>, entry: &Entry<'_>) -> Result<(), AllocError> {
+    found.push(u64::from(entry.word))?;
+    found.push(u64::from(entry.value))?;
+    put_bytes(found, entry.name.bytes())?;
+    if entry.offsets.is_empty() {
+        return Ok(());
+    }
+    put_longs(found, &entry.offsets)
+}
+
+fn numbers_of_entries(alloc: Global, entries: &Entries<'_>) -> Result<Vec<u64>, AllocError> {
+    let mut found = Vec::new(alloc);
+    for i in 0..entries.len() {
+        put_entry(&mut found, entries.at(i))?;
+    }
+    Ok(found)
+}
+
+/// The top bits, and the bytes of the payload.
+fn numbers_of_data(alloc: Global, top: u8, bytes: &[u8]) -> Result<Vec<u64>, AllocError> {
+    let mut found = Vec::new(alloc);
+    found.push(u64::from(top))?;
+    put_bytes(&mut found, bytes)?;
+    Ok(found)
+}
+
+/// What stands behind a block word, in turn.
+fn numbers_of(alloc: Global, body: &Body<'_>) -> Result<Vec<u64>, AllocError> {
+    match body {
+        Body::Bss { size } => [u64::from(*size)].to_vec(alloc),
+        Body::Data { top, payload } => numbers_of_data(alloc, *top, payload.bytes()),
+        Body::Reloc(groups) => numbers_of_groups(alloc, groups),
+        Body::Symbol(symbols) => numbers_of_symbols(alloc, symbols),
+        Body::Ext(entries) => numbers_of_entries(alloc, entries),
+        _ => Ok(Vec::new(alloc)),
+    }
+}
+
+fn front_of(block: &Block<'_>) -> Front {
+    let word = block.word();
+    (word.word(), word.flags(), behind_word(block.body()))
+}
+
+/// What the block of these bytes tells, and how many of them it has.
+fn told(alloc: Global, bytes: &[u8], mode: Mode) -> Result<(usize, Front, Vec<u64>), Fail> {
+    let (block, count) = Block::decode(alloc, bytes, mode)?;
+    Ok((count, front_of(&block), numbers_of(alloc, block.body())?))
+}
+
+/// Sees that the text is a block in this mode, to its last byte, whose word is kept with its flags.
+fn expect(
+    rt: &impl Abort,
+    alloc: Global,
+    (text, front, numbers): &Row,
+    mode: Mode,
+) -> Result<(), Fail> {
+    let bytes = spelled(alloc, text)?;
+    let (count, got_front, got) = told(alloc, &bytes, mode)?;
+    assert_eq!(rt; (count, got_front), (bytes.len(), *front), "{text}");
+    assert_eq!(rt; got.as_slice(), *numbers, "{text}");
     Ok(())
 }
 
-/// Example 33: a relocation block without a group.
+/// A text, what its block begins with, and what stands behind the block word.
+type Row = (&'static str, Front, &'static [u64]);
+
+/// Examples 33 and 44: words of END, of BSS and of advisory blocks without a payload, with their flags, the top
+/// three bits, and what is behind them. A size word keeps its top bits.
+const IN_BOTH_MODES: &[Row] = &[
+    ("3F2", (0x3F2, 0, Behind::Nothing), &[]),
+    (
+        examples::END_WITH_ADVISORY_FLAG,
+        (0x2000_03F2, 1, Behind::Nothing),
+        &[],
+    ),
+    ("400003F2", (0x4000_03F2, 2, Behind::Nothing), &[]),
+    ("800003F2", (0x8000_03F2, 4, Behind::Nothing), &[]),
+    ("3EB 80000002", (0x3EB, 0, Behind::Size), &[0x8000_0002]),
+    (examples::ADVISORY, (0x2000_04D2, 1, Behind::NoPayload), &[]),
+    (
+        examples::ADVISORY_WITH_CHIP,
+        (0x6000_04D2, 3, Behind::NoPayload),
+        &[],
+    ),
+    (
+        "3EA 80000001 12345678",
+        (0x3EA, 0, Behind::TopAndBytes),
+        &[2, 4, 0x12, 0x34, 0x56, 0x78],
+    ),
+    (
+        "3EC / 2 1 8 4 / 1 0 C / 0",
+        (0x3EC, 0, Behind::Groups),
+        &[1, 2, 8, 4, 0, 1, 12],
+    ),
+    (
+        "3EC / 1 0 4 / 2 1 8 C / 0",
+        (0x3EC, 0, Behind::Groups),
+        &[0, 1, 4, 1, 2, 8, 12],
+    ),
+    ("3EC 1 0 0 0", (0x3EC, 0, Behind::Groups), &[0, 1, 0]),
+    ("3EC 0", (0x3EC, 0, Behind::NoGroups), &[]),
+    (
+        "3F0 5000001 5F6D0000 9 0",
+        (0x3F0, 0, Behind::Symbols),
+        &[0x0500_0001, 9, 4, 0x5F, 0x6D, 0, 0],
+    ),
+];
+
 #[test]
-fn of_no_group(rt: HostRuntime) -> Result<(), Fail> {
-    let bytes = spelled(rt.alloc(), "3F7 0")?;
-    let (block, _) = Block::decode(rt.alloc(), &bytes, Mode::Object)?;
-    assert!(rt; matches!(block.body(), Body::Reloc(groups) if groups.is_empty()));
+fn in_both_modes(rt: HostRuntime) -> Result<(), Fail> {
+    for row in IN_BOTH_MODES {
+        expect(&rt, rt.alloc(), row, Mode::Load)?;
+        expect(&rt, rt.alloc(), row, Mode::Object)?;
+    }
+    Ok(())
+}
+
+/// Example 33: a relocation block without a group, and one common block with no name and no offsets. Then a
+/// common block without offsets, a reference and a definition.
+const IN_OBJECT_FILES: &[Row] = &[
+    ("3F7 0", (0x3F7, 0, Behind::NoGroups), &[]),
+    (
+        "3EF 82000000 8 0 0",
+        (0x3EF, 0, Behind::Entries),
+        &[0x8200_0000, 8, 0],
+    ),
+    (
+        "3EF / 82000000 8 0 / 81000001 5F660000 1 2 / 1000000 5 / 0",
+        (0x3EF, 0, Behind::Entries),
+        &[
+            0x8200_0000,
+            8,
+            0,
+            0x8100_0001,
+            0,
+            4,
+            0x5F,
+            0x66,
+            0,
+            0,
+            1,
+            2,
+            0x0100_0000,
+            5,
+            0,
+        ],
+    ),
+];
+
+#[test]
+fn in_object_files(rt: HostRuntime) -> Result<(), Fail> {
+    for row in IN_OBJECT_FILES {
+        expect(&rt, rt.alloc(), row, Mode::Object)?;
+    }
+    Ok(())
+}
+
+#[test]
+fn of_a_payload(rt: HostRuntime) -> Result<(), Fail> {
+    let payload = Payload::of(b"name".as_slice());
+    assert_eq!(rt; payload.bytes(), b"name".as_slice());
     Ok(())
 }

@@ -22,17 +22,26 @@ fn expect_cut_short(rt: &impl Abort, alloc: Global, bytes: &[u8]) {
     }
 }
 
+/// What is written of the block.
+fn written_of(rt: &impl Abort, alloc: Global, block: &Block<'_>) -> Vec<u8> {
+    let mut writer = LongWriter::new(FromWrite::new(Vec::<u8>::new(alloc)));
+    assert!(rt; block.encoded_len() < 1000);
+    assert_eq!(rt; block.encode(&mut writer), Ok(()));
+    writer.into_inner().into_inner()
+}
+
+/// How many bytes the block has by its reader and by its length, and what is written of it.
+fn again(rt: &impl Abort, alloc: Global, bytes: &[u8]) -> Result<(usize, u64, Vec<u8>), Fail> {
+    let (block, count) = Block::decode(alloc, bytes, Mode::Object)?;
+    Ok((count, block.encoded_len(), written_of(rt, alloc, &block)))
+}
+
 /// Sees that the text is read, whatever follows it, and written again.
 fn expect_again(rt: &impl Abort, alloc: Global, text: &[u8]) -> Result<(), Fail> {
     let mut bytes = text.to_vec(alloc)?;
     bytes.extend_from_slice(b"further".as_slice())?;
-    let (block, count) = Block::decode(alloc, bytes.as_slice(), Mode::Object)?;
-    assert_eq!(rt; count, text.len());
-    assert_eq!(rt; block.encoded_len(), text.len() as u64);
-    let mut writer = LongWriter::new(FromWrite::new(Vec::<u8>::new(alloc)));
-    assert!(rt; block.encoded_len() < 1000);
-    assert_eq!(rt; block.encode(&mut writer), Ok(()));
-    let again = writer.into_inner().into_inner();
+    let (count, len, again) = again(rt, alloc, &bytes)?;
+    assert_eq!(rt; (count, len), (text.len(), text.len() as u64));
     assert_eq!(rt; again.as_slice(), text);
     Ok(())
 }
@@ -47,17 +56,26 @@ fn what_was_read(rt: HostRuntime) -> Result<(), Fail> {
     Ok(())
 }
 
+/// What putting the block answers, how many bytes have gone out then, and what a further put answers.
+fn answers(
+    rt: &impl Abort,
+    writer: &mut LongWriter<FromWrite<Narrow>>,
+    block: &Block<'_>,
+) -> (Result<(), WriteFault>, u64, Result<(), WriteFault>) {
+    assert!(rt; block.encoded_len() < 1000 && writer.written() < 1000);
+    let encoded = block.encode(writer);
+    let written = writer.written();
+    assert!(rt; written < 1000);
+    (encoded, written, writer.put_long(1))
+}
+
 /// Sees that a writer with room for this many bytes of the text has taken them, that the fault says how many they
 /// are, and that a further put writes nothing.
 fn expect_stop(rt: &impl Abort, block: &Block<'_>, text: &[u8], room: usize, takes_none: bool) {
     let written = room as u64;
-    let narrow = Narrow::new(room, WIDTH, takes_none);
-    let mut writer = LongWriter::new(FromWrite::new(narrow));
-    assert!(rt; block.encoded_len() < 1000);
-    assert_eq!(rt; block.encode(&mut writer), Err(WriteFault { written }));
-    assert_eq!(rt; writer.written(), written);
-    assert!(rt; written < 1000);
-    assert_eq!(rt; writer.put_long(1), Err(WriteFault { written }));
+    let fault = Err(WriteFault { written });
+    let mut writer = LongWriter::new(FromWrite::new(Narrow::new(room, WIDTH, takes_none)));
+    assert_eq!(rt; answers(rt, &mut writer, block), (fault, written, fault));
     let narrow = writer.into_inner().into_inner();
     assert!(rt; room <= text.len());
     assert_eq!(rt; narrow.taken(), &text[..room]);
@@ -87,12 +105,7 @@ fn to_a_sink_that_stops(rt: HostRuntime) -> Result<(), Fail> {
 fn six_bytes(rt: HostRuntime) -> Result<(), Fail> {
     let bytes = spelled(rt.alloc(), "3E9 1 4E754E71")?;
     let (block, _) = Block::decode(rt.alloc(), bytes.as_slice(), Mode::Load)?;
-    let mut writer = LongWriter::new(FromWrite::new(Narrow::failing(6)));
-    assert!(rt; block.encoded_len() == 12);
-    assert_eq!(rt; block.encode(&mut writer), Err(WriteFault { written: 6 }));
-    assert!(rt; writer.written() == 6);
-    assert_eq!(rt; writer.put_long(1), Err(WriteFault { written: 6 }));
-    let narrow = writer.into_inner().into_inner();
-    assert_eq!(rt; narrow.taken(), [0, 0, 3, 0xE9, 0, 0].as_slice());
+    assert_eq!(rt; block.encoded_len(), 12);
+    expect_stop(&rt, &block, &[0, 0, 3, 0xE9, 0, 0], 6, false);
     Ok(())
 }

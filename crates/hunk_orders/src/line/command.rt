@@ -1,6 +1,6 @@
 //! The command that clap reads the words by, with its help.
-ghost use Rattle.std.specs.Prelude.{◌≡◌, IfOk, codes, false};
-ghost use Rattle.clap.specs.Words.{app_of, new_app, new_rule, rule_of};
+ghost use Rattle.std.specs.Prelude.{◌≡◌, IfOk, IsOkAnd, codes, false};
+ghost use Rattle.clap.specs.Words.{app_of, new_app, new_rule, rule_of, with_subcommand};
 ghost use Rattle.clap.specs.declared.builder.command.Command.TheViews.{out-Command as fields_of};
 ghost use Rattle.hunk_orders.specs.Command as spec;
 
@@ -135,8 +135,8 @@ fn plain_command<'a>(
     about: &'a str,
     after: &'a str,
 ) -> Result<Command<'a>, AllocError>
-    ensures { IfOk result (λ command. (app_of command ≡ spec.plain_command name.entry.now)
-        × ((fields_of command).has_globals ≡ false)) }
+    ensures app { IfOk result (λ command. app_of command ≡ spec.plain_command name.entry.now) }
+    ensures local { IfOk result (λ command. (fields_of command).has_globals ≡ false) }
 {
     command(alloc, name, about, after)
         .arg(hex_flag(alloc))?
@@ -144,8 +144,8 @@ fn plain_command<'a>(
 }
 
 fn show<'a>(alloc: Global) -> Result<Command<'a>, AllocError>
-    ensures { IfOk result (λ command. (app_of command ≡ spec.plain_command (codes "show"))
-        × ((fields_of command).has_globals ≡ false)) }
+    ensures app { IfOk result (λ command. app_of command ≡ spec.plain_command (codes "show")) }
+    ensures local { IfOk result (λ command. (fields_of command).has_globals ≡ false) }
 {
     plain_command(
         alloc,
@@ -156,8 +156,8 @@ fn show<'a>(alloc: Global) -> Result<Command<'a>, AllocError>
 }
 
 fn validate<'a>(alloc: Global) -> Result<Command<'a>, AllocError>
-    ensures { IfOk result (λ command. (app_of command ≡ spec.plain_command (codes "validate"))
-        × ((fields_of command).has_globals ≡ false)) }
+    ensures app { IfOk result (λ command. app_of command ≡ spec.plain_command (codes "validate")) }
+    ensures local { IfOk result (λ command. (fields_of command).has_globals ≡ false) }
 {
     plain_command(
         alloc,
@@ -192,8 +192,8 @@ fn budget_option<'a>(alloc: Global) -> Arg<'a>
 }
 
 fn relocate<'a>(alloc: Global) -> Result<Command<'a>, AllocError>
-    ensures { IfOk result (λ command. (app_of command ≡ spec.relocate_command)
-        × ((fields_of command).has_globals ≡ false)) }
+    ensures app { IfOk result (λ command. app_of command ≡ spec.relocate_command) }
+    ensures local { IfOk result (λ command. (fields_of command).has_globals ≡ false) }
 {
     let about = "Loads a load file at an address, and prints the bytes of its hunks";
     command(alloc, "relocate", about, AFTER_RELOCATE)
@@ -233,8 +233,8 @@ fn output_positional<'a>(alloc: Global) -> Arg<'a>
 }
 
 fn rewrite<'a>(alloc: Global) -> Result<Command<'a>, AllocError>
-    ensures { IfOk result (λ command. (app_of command ≡ spec.rewrite_command)
-        × ((fields_of command).has_globals ≡ false)) }
+    ensures app { IfOk result (λ command. app_of command ≡ spec.rewrite_command) }
+    ensures local { IfOk result (λ command. (fields_of command).has_globals ≡ false) }
 {
     let about = "Reads a load file or an object file, and writes it again";
     command(alloc, "rewrite", about, AFTER_REWRITE)
@@ -254,13 +254,24 @@ fn program<'a>(alloc: Global) -> Command<'a>
         .subcommand_required(true)
 }
 
+/// The program with a subcommand more, where there was memory for both.
+fn extended<'a>(
+    program: Command<'a>,
+    subcommand: Result<Command<'a>, AllocError>,
+) -> Result<Command<'a>, AllocError>
+    requires local { IfOk subcommand (λ command. (fields_of command).has_globals ≡ false) }
+    ensures { IfOk result (λ grown. IsOkAnd subcommand.entry
+        (λ command. app_of grown ≡ with_subcommand (app_of program.entry) (app_of command).top)) }
+{
+    program.subcommand(subcommand?)
+}
+
 /// The whole command line: one subcommand, with its flags, options and file names.
 pub(super) fn hunkinfo<'a>(alloc: Global) -> Result<Command<'a>, AllocError>
     ensures { IfOk result (λ command. app_of command ≡ spec.hunkinfo) }
 {
-    program(alloc)
-        .subcommand(show(alloc)?)?
-        .subcommand(validate(alloc)?)?
-        .subcommand(relocate(alloc)?)?
-        .subcommand(rewrite(alloc)?)
+    let program = extended(program(alloc), show(alloc))?;
+    let program = extended(program, validate(alloc))?;
+    let program = extended(program, relocate(alloc))?;
+    extended(program, rewrite(alloc))
 }
