@@ -144,7 +144,8 @@ static void large_load_file(void)
     len = 0;
     PUT(1, 0x3F3, 0, 1, 0, 0, CONTENT / 4, 0x3E9, CONTENT / 4);
     PUT(CONTENT / 4, 7);
-    size_t kept = len + put_lists();
+    size_t kept = len;
+    kept += put_lists();
     fill();
     expect(len == LARGE, "a large load file", "its bytes");
     loaded("a large load file", (struct hunk_answer){HUNK_OK, 1, 24, CONTENT},
@@ -159,7 +160,8 @@ static void many_hunks(void)
     PUT(1, 0x3F3, 0, MOST_HUNKS, 0, MOST_HUNKS - 1);
     PUT(MOST_HUNKS, 1);
     PUT(1, 0x3EB, 1);
-    size_t kept = len + put_lists();
+    size_t kept = len;
+    kept += put_lists();
     PUT(MANY, 0x3F1, 0);
     size_t behind = len;
     PUT(1, 0x3F2);
@@ -173,7 +175,8 @@ static void large_object_file(void)
     len = 0;
     PUT(1, 0x3E7, 0, 0x3E9, CONTENT / 4);
     PUT(CONTENT / 4, 7);
-    size_t kept = len + put_lists();
+    size_t kept = len;
+    kept += put_lists();
     kept += put_entries();
     fill();
     expect(len == LARGE, "a large object file", "its bytes");
@@ -184,7 +187,8 @@ static void many_units(void)
 {
     len = 0;
     PUT(1, 0x3E7, 0, 0x3EB, 2);
-    size_t kept = len + put_lists();
+    size_t kept = len;
+    kept += put_lists();
     kept += put_entries();
     PUT(MANY, 0x3F1, 0);
     size_t behind = len;
