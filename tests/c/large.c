@@ -3,7 +3,7 @@
  * what hunk.h says. */
 #include "guarded.h"
 
-#define MANY 5000
+#define MANY 100000
 #define LARGE 67108860 /* bytes of a file */
 #define CONTENT (1 << 25)
 #define MEMORY (1 << 26)
