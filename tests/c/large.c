@@ -1,18 +1,19 @@
-/* Files with many of each part, and files as large as the program takes, through each call: none runs
- * out of memory. Status 1 where an answer, or what it leaves in the caller's memory, is not what hunk.h
- * says. */
+/* Files with many of each part, and files as large as the program takes, through each call: none
+ * runs out of memory. Status 1 where an answer, or what it leaves in the caller's memory, is not
+ * what hunk.h says. */
 #include "guarded.h"
 
-#define MANY 5000
+#define MANY 100000
 #define LARGE 67108860 /* bytes of a file */
 #define CONTENT (1 << 25)
+#define MEMORY (1 << 26)
 #define MOST_HUNKS 65536
 #define BASE UINT32_C(0x21000)
 
 static struct guarded file_room = {LARGE, NULL};
 static struct guarded text_room = {LARGE, NULL};
-static struct guarded memory_room = {CONTENT, NULL};
-static struct guarded again_room = {CONTENT, NULL};
+static struct guarded memory_room = {MEMORY, NULL};
+static struct guarded again_room = {MEMORY, NULL};
 static struct hunk_row rows[MOST_HUNKS];
 static struct hunk_place places[MOST_HUNKS];
 static uint32_t bases[MOST_HUNKS];
@@ -38,8 +39,8 @@ static void put(size_t times, const uint32_t *longs, size_t count)
 #define PUT(times, ...) \
     put(times, (const uint32_t[]){__VA_ARGS__}, sizeof(const uint32_t[]){__VA_ARGS__} / 4)
 
-/* RELOC32 blocks of many groups and of many offsets: the base of hunk 0 is added to the first longword so
- * often. Then many symbols. How many bytes of them stripping leaves. */
+/* RELOC32 blocks of many groups and of many offsets: the base of hunk 0 is added to the first
+ * longword so often. Then many symbols. How many bytes of them stripping leaves. */
 static size_t put_lists(void)
 {
     size_t from = len;
@@ -76,8 +77,8 @@ static void fill(void)
     PUT(1, 0x3F2);
 }
 
-/* hunk_check, with so many findings, each of offset 5 in the first hunk, and hunk_strip, which leaves so
- * many bytes. */
+/* hunk_check, with so many findings, each of offset 5 in the first hunk, and hunk_strip, which
+ * leaves so many bytes. */
 static void checked(const char *name, uint32_t hunks, size_t count, size_t left)
 {
     struct hunk_answer a = hunk_check(file, len, findings, MANY);
@@ -99,18 +100,18 @@ static void streamed(const char *name, struct hunk_answer table, const uint8_t *
     size_t half = len / 2 > table.place ? len / 2 : table.place;
     struct hunk_answer a = hunk_begin(&loader, places, table.hunk, table.place, again, table.count);
     expect(same(a, table), name, "hunk_begin");
-    hunk_feed(&loader, places, table.hunk, again, table.count, file + table.place, half - table.place);
-    hunk_feed(&loader, places, table.hunk, again, table.count, file + half, len - half);
+    const uint8_t *from = file + table.place, *cut = file + half;
+    hunk_feed(&loader, places, table.hunk, again, table.count, from, half - table.place);
+    hunk_feed(&loader, places, table.hunk, again, table.count, cut, len - half);
     a = hunk_end(&loader);
     expect(same(a, (struct hunk_answer){HUNK_OK, table.hunk, len, table.count}), name, "hunk_end");
     expect(memcmp(again, memory, table.count) == 0, name, "the memory of a stream");
 }
 
-/* hunk_table and the loads of a file of so many hunks, which have so many bytes; the first longword is
- * then this one, and all others are as they were before. */
+/* hunk_table and the loads, whose memory is the same. The first longword is then this one. */
 static void loaded(const char *name, struct hunk_answer table, uint32_t first)
 {
-    struct hunk_answer a = hunk_table(file, len, CONTENT, rows, MOST_HUNKS);
+    struct hunk_answer a = hunk_table(file, len, MEMORY, rows, MOST_HUNKS);
     expect(same(a, table), name, "hunk_table");
     uint32_t base = BASE;
     for (uint32_t h = 0; h < table.hunk; h++) {
@@ -130,13 +131,13 @@ static void loaded(const char *name, struct hunk_answer table, uint32_t first)
     streamed(name, table, memory);
 }
 
-/* The default budget of the program, declared in 36 bytes. */
-static void short_file(void)
+/* So many bytes, declared in 36. */
+static void short_file(const char *name, uint32_t bytes)
 {
     len = 0;
-    PUT(1, 0x3F3, 0, 1, 0, 0, 0x400000, 0x3EB, 0x400000, 0x3F2);
-    loaded("16 MiB", (struct hunk_answer){HUNK_OK, 1, 24, 1 << 24}, 0);
-    checked("16 MiB", 1, 0, len);
+    PUT(1, 0x3F3, 0, 1, 0, 0, bytes / 4, 0x3EB, bytes / 4, 0x3F2);
+    loaded(name, (struct hunk_answer){HUNK_OK, 1, 24, bytes}, 0);
+    checked(name, 1, 0, len);
 }
 
 static void large_load_file(void)
@@ -144,7 +145,8 @@ static void large_load_file(void)
     len = 0;
     PUT(1, 0x3F3, 0, 1, 0, 0, CONTENT / 4, 0x3E9, CONTENT / 4);
     PUT(CONTENT / 4, 7);
-    size_t kept = len + put_lists();
+    size_t kept = len;
+    kept += put_lists();
     fill();
     expect(len == LARGE, "a large load file", "its bytes");
     loaded("a large load file", (struct hunk_answer){HUNK_OK, 1, 24, CONTENT},
@@ -159,7 +161,8 @@ static void many_hunks(void)
     PUT(1, 0x3F3, 0, MOST_HUNKS, 0, MOST_HUNKS - 1);
     PUT(MOST_HUNKS, 1);
     PUT(1, 0x3EB, 1);
-    size_t kept = len + put_lists();
+    size_t kept = len;
+    kept += put_lists();
     PUT(MANY, 0x3F1, 0);
     size_t behind = len;
     PUT(1, 0x3F2);
@@ -173,7 +176,8 @@ static void large_object_file(void)
     len = 0;
     PUT(1, 0x3E7, 0, 0x3E9, CONTENT / 4);
     PUT(CONTENT / 4, 7);
-    size_t kept = len + put_lists();
+    size_t kept = len;
+    kept += put_lists();
     kept += put_entries();
     fill();
     expect(len == LARGE, "a large object file", "its bytes");
@@ -184,7 +188,8 @@ static void many_units(void)
 {
     len = 0;
     PUT(1, 0x3E7, 0, 0x3EB, 2);
-    size_t kept = len + put_lists();
+    size_t kept = len;
+    kept += put_lists();
     kept += put_entries();
     PUT(MANY, 0x3F1, 0);
     size_t behind = len;
@@ -200,7 +205,8 @@ int main(void)
         !make_guarded(&again_room))
         return 3;
     file = marked(&file_room, LARGE);
-    short_file();
+    short_file("16 MiB", 1 << 24);
+    short_file("64 MiB", MEMORY);
     large_load_file();
     many_hunks();
     large_object_file();

@@ -1,7 +1,7 @@
 /* Each growth of memory is refused in turn: the answer is HUNK_OUT_OF_MEMORY where it says, or the
  * same as with none refused, the caller's memory stays as it was, and all that was taken is given
- * back. A table and a load in pieces ask for none. Linked with --wrap for malloc, realloc and free.
- * Status 1 where it is not so. */
+ * back. A load asks for its rows and its hunks alone; a table and a load in pieces ask for none.
+ * Linked with --wrap for malloc, realloc and free. Status 1 where it is not so. */
 #include "hunk.h"
 #include <stdio.h>
 #include <stdlib.h>
@@ -42,6 +42,7 @@ void __wrap_free(void *at)
 #define HEADER (20 + 4 * HUNKS) /* bytes: five longwords, and a size word for each hunk */
 #define OFFSETS 9
 #define MARK 0xA5
+#define REQUESTS 5 /* of a load: rows for 4 hunks, for 8, for 16 and for just 9, and the hunks */
 #define FINDINGS (2 * OFFSETS) /* no target, and no room, at each */
 
 /* A load file of nine BSS hunks of one longword, and an object file of one longword of code, with
@@ -134,7 +135,7 @@ static int try_load(struct refusals *r)
     static uint8_t memory[4 * HUNKS];
     memset(memory, MARK, sizeof memory);
     struct hunk_answer a = hunk_load_packed(file, sizeof file, 0, memory, sizeof memory);
-    int done = a.place == sizeof file && memory[0] == 0;
+    int done = a.place == sizeof file && memory[0] == 0 && growths == REQUESTS;
     return counts(r, a, HEADER, is_marked(memory, sizeof memory), done);
 }
 
