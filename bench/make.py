@@ -1,13 +1,14 @@
 #!/usr/bin/env python3
 """make.py KIND MIB OUT: a valid hunk file of about MIB MiB, the same at each call.
 
-Load files: code, debug, offsets, hunks (65,536 of them), symbols, blocks (DEBUG blocks of nothing).
-Object files: units, findings (relocations at no hunk, outside theirs)."""
+Load files: code, debug, offsets, hunks (65,536 of them from 2 MiB on), symbols, blocks (DEBUG blocks of nothing).
+Object files: units, findings (relocations at no hunk, outside theirs).
+For memory: entry, symbol, group (blocks with one of these), unit and hunk (the smallest ones)."""
 import array
 import random
 import sys
 
-UNIT, CODE, RELOC32, EXT = 0x3E7, 0x3E9, 0x3EC, 0x3EF
+UNIT, CODE, BSS, RELOC32, EXT = 0x3E7, 0x3E9, 0x3EB, 0x3EC, 0x3EF
 SYMBOL, DEBUG, END, HEADER = 0x3F0, 0x3F1, 0x3F2, 0x3F3
 
 # one hunk of one longword, open behind its code
@@ -41,7 +42,7 @@ def offsets(longs, content):
 
 
 def hunks(longs, content):
-    count = 65536
+    count = min(65536, longs // 8 + 8)
     size = max(1, longs // count - 8)
     yield [HEADER, 0, count, 0, count - 1] + [size] * count
     for i in range(count):
@@ -74,7 +75,18 @@ def findings(longs, content):
     yield [0, END]
 
 
-KINDS = {make.__name__: make for make in (code, debug, offsets, hunks, symbols, blocks, units, findings)}
+def repeated(front, part, back):
+    """The kind of a file with this part over and over."""
+    return lambda longs, _: iter([front, part * (longs // len(part)), back])
+
+
+KINDS = {make.__name__: make for make in (code, debug, offsets, hunks, symbols, blocks, units, findings)} | {
+    "entry": repeated([UNIT, 0, CODE, 1, 0], [EXT, 0x01000000, 0, 0], [END]),
+    "symbol": repeated(ONE_HUNK, [SYMBOL, 1, 0x61000000, 0, 0], [END]),
+    "group": repeated(ONE_HUNK, [RELOC32, 1, 0, 0, 0], [END]),
+    "unit": repeated([], [UNIT, 0, BSS, 0, END], []),
+    "hunk": repeated([UNIT, 0], [BSS, 0, END], []),
+}
 
 
 def main():

@@ -1,7 +1,7 @@
 /*
  * Refuses a program its memory: the growth whose number REFUSE gives, counted from 1. Where COUNT names a file, the
- * number of growths that were asked for is written to it at the end. A reallocation that fits in what was given is no
- * growth. Made for the GNU C library, by `cc -shared -fPIC`, and put before a program by LD_PRELOAD.
+ * number of growths and of the bytes that were asked for is written to it at the end. A reallocation that fits in what
+ * was given is no growth. Made for the GNU C library, by `cc -shared -fPIC`, and put before a program by LD_PRELOAD.
  */
 #define _GNU_SOURCE
 #include <dlfcn.h>
@@ -14,7 +14,7 @@
 
 static void *(*give)(size_t);
 static void *(*give_again)(void *, size_t);
-static long count, refused;
+static long count, bytes, refused;
 
 static void begin(void)
 {
@@ -28,10 +28,11 @@ static void begin(void)
     refused = number ? atol(number) : 0;
 }
 
-static int is_refused(void)
+static int is_refused(size_t size)
 {
     begin();
     count++;
+    bytes += size;
     if (count != refused)
         return 0;
     errno = ENOMEM;
@@ -40,7 +41,7 @@ static int is_refused(void)
 
 void *malloc(size_t size)
 {
-    return is_refused() ? 0 : give(size);
+    return is_refused(size) ? 0 : give(size);
 }
 
 void *realloc(void *old, size_t size)
@@ -48,18 +49,18 @@ void *realloc(void *old, size_t size)
     begin();
     if (old && size <= malloc_usable_size(old))
         return give_again(old, size);
-    return is_refused() ? 0 : give_again(old, size);
+    return is_refused(size) ? 0 : give_again(old, size);
 }
 
 __attribute__((destructor)) static void end(void)
 {
-    char text[24];
+    char text[48];
     const char *path = getenv("COUNT");
     int length, file;
 
     if (!path)
         return;
-    length = snprintf(text, sizeof text, "%ld\n", count);
+    length = snprintf(text, sizeof text, "%ld %ld\n", count, bytes);
     file = open(path, O_WRONLY | O_CREAT | O_TRUNC, 0666);
     if (file < 0 || write(file, text, length) != length)
         _exit(99);

@@ -51,6 +51,7 @@ pub fn read_whole<S: Source>(alloc: Global, source: &mut S, most: u64) -> Result
 
 /// Hands all that the source has left to the taker, which has taken nothing yet. The faults are
 /// those of `read_whole`.
+#[inline(never)]
 pub(crate) fn read_all<S: Source, T: Taker>(
     source: &mut S,
     most: u64,

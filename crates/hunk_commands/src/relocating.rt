@@ -101,6 +101,7 @@ pub fn relocate<R: Source, W: Sink>(
 }
 
 /// Puts the lines of each hunk's segment.
+#[inline(never)]
 fn put_listing<W: Sink>(w: &mut LongWriter<W>, image: &Image) -> Result<(), WriteFault>
     requires { w.old.written + length (image_listing image.now) < 2 ^ 64 }
     ensures { PutsText W.taken W.failed w.old w.new (image_listing image.now) result }

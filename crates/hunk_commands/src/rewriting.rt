@@ -69,6 +69,7 @@ pub fn rewrite<R: Source, W: Sink>(
 
 /// Writes the file that the input is, or begins with. Where nothing is stripped, its text is what
 /// was read.
+#[inline(never)]
 fn put_file<W: Sink>(
     w: &mut LongWriter<W>,
     file: HunkFile<'_>,

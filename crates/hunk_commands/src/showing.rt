@@ -54,6 +54,7 @@ pub fn show<R: Source, W: Sink>(
 }
 
 /// Puts the listing of the file.
+#[inline(never)]
 fn put_listing<W: Sink>(w: &mut LongWriter<W>, file: &HunkFile<'_>) -> Result<(), WriteFault>
     requires { w.old.written + length (file_listing file.now) < 2 ^ 64 }
     ensures { PutsText W.taken W.failed w.old w.new (file_listing file.now) result }

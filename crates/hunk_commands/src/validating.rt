@@ -55,6 +55,7 @@ pub fn validate<R: Source, W: Sink>(
 }
 
 /// Puts the report of the file, and answers how much is found in it.
+#[inline(never)]
 fn put_report<W: Sink>(w: &mut LongWriter<W>, file: &HunkFile<'_>) -> Result<u64, WriteFault>
     requires { w.old.written + length (report file.now) < 2 ^ 64 }
     ensures puts { PutsText W.taken W.failed w.old w.new (report file.now) result }
