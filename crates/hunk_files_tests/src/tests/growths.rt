@@ -1,7 +1,9 @@
 //! Each growth of each call refused in turn, on files of several hunks and units.
 
 use hunk_files::{HunkFile, ImageFault, LoadFile, ObjectFile};
-use hunk_testing::{all_but, answers_growth_by_growth, examples, memory_ends, spelled, wide};
+use hunk_testing::{
+    Narrow, all_but, answers_growth_by_growth, examples, memory_ends, spelled, wide,
+};
 use hunk_words::{FileFault, Reason};
 use std::alloc::{AllocError, Global};
 use std::process::Abort;
@@ -71,24 +73,37 @@ fn overlap_fault(alloc: Global, file: &LoadFile) -> Option<&'static str> {
     }
 }
 
+/// What `overlap` of the first hunk answers growth by growth.
+fn overlap_answers(alloc: Global, bytes: &[u8]) -> Result<Vec<Option<&'static str>>, Fail> {
+    let (file, _) = LoadFile::decode(alloc, bytes)?;
+    Ok(answers_growth_by_growth(alloc, || overlap_fault(alloc, &file))?)
+}
+
+/// What `image` at these bases answers growth by growth.
+fn image_answers(
+    alloc: Global,
+    bytes: &[u8],
+    bases: &[u32],
+) -> Result<Vec<Option<ImageFault>>, Fail> {
+    let (file, _) = LoadFile::decode(alloc, bytes)?;
+    Ok(answers_growth_by_growth(alloc, || file.image(alloc, bases).err())?)
+}
+
 /// `overlap` takes memory for five offsets in two growths, and `image` in one for all it makes.
 #[test]
 fn of_an_overlap_and_an_image(rt: HostRuntime) -> Result<(), Fail> {
     if !memory_ends(&rt)? {
         return Ok(());
     }
-    let alloc = rt.alloc();
-    let bytes = spelled(alloc, examples::FIVE_HUNKS)?;
-    let (file, _) = LoadFile::decode(alloc, &bytes)?;
-    let answers = answers_growth_by_growth(alloc, || overlap_fault(alloc, &file))?;
+    let bytes = spelled(rt.alloc(), examples::FIVE_HUNKS)?;
+    let overlaps = overlap_answers(rt.alloc(), &bytes)?;
     assert_eq!(rt;
-        answers.as_slice(),
+        overlaps.as_slice(),
         [Some("out of memory"), None].as_slice()
     );
-    let bases = [0; 5].as_slice();
-    let answers = answers_growth_by_growth(alloc, || file.image(alloc, bases).err())?;
+    let images = image_answers(rt.alloc(), &bytes, &[0; 5])?;
     let refused = Some(ImageFault::OutOfMemory);
-    assert_eq!(rt; answers.as_slice(), [refused, None].as_slice());
+    assert_eq!(rt; images.as_slice(), [refused, None].as_slice());
     Ok(())
 }
 
@@ -112,60 +127,83 @@ fn object_blocks(alloc: Global, file: &ObjectFile) -> Result<Vec<usize>, AllocEr
     Ok(blocks)
 }
 
+/// How many blocks each hunk of the load file has once it was stripped with no memory left.
+fn stripped_load(alloc: Global, bytes: &[u8]) -> Result<Vec<usize>, Fail> {
+    let (file, _) = LoadFile::decode(alloc, bytes)?;
+    let held = all_but(alloc, &[])?;
+    let file = file.strip();
+    drop(held);
+    Ok(load_blocks(alloc, &file)?)
+}
+
+/// The same of an object file.
+fn stripped_object(alloc: Global, bytes: &[u8]) -> Result<Vec<usize>, Fail> {
+    let file = ObjectFile::decode(alloc, bytes)?;
+    let held = all_but(alloc, &[])?;
+    let file = file.strip();
+    drop(held);
+    Ok(object_blocks(alloc, &file)?)
+}
+
 /// Stripping takes no memory, and leaves nothing in for want of it.
 #[test]
 fn none_of_a_strip(rt: HostRuntime) -> Result<(), Fail> {
     if !memory_ends(&rt)? {
         return Ok(());
     }
-    let alloc = rt.alloc();
-    let (load, object) = (
-        spelled(alloc, examples::FIVE_HUNKS)?,
-        spelled(alloc, examples::TWO_UNITS)?,
-    );
-    let (load, _) = LoadFile::decode(alloc, &load)?;
-    let object = ObjectFile::decode(alloc, &object)?;
-    let held = all_but(alloc, &[])?;
-    let (load, object) = (load.strip(), object.strip());
-    drop(held);
-    assert_eq!(rt;
-        load_blocks(alloc, &load)?.as_slice(),
-        [3, 2, 2, 2, 2].as_slice()
-    );
-    assert_eq!(rt;
-        object_blocks(alloc, &object)?.as_slice(),
-        [4, 2, 2].as_slice()
-    );
+    let load = stripped_load(rt.alloc(), &spelled(rt.alloc(), examples::FIVE_HUNKS)?)?;
+    assert_eq!(rt; load.as_slice(), [3, 2, 2, 2, 2].as_slice());
+    let object = stripped_object(rt.alloc(), &spelled(rt.alloc(), examples::TWO_UNITS)?)?;
+    assert_eq!(rt; object.as_slice(), [4, 2, 2].as_slice());
     Ok(())
 }
 
-/// Sees that the load file is written with no memory, by itself and as a file of either kind.
+/// What is written of the load file with no memory left.
+fn load_written(alloc: Global, bytes: &[u8]) -> Result<Narrow, Fail> {
+    let (file, _) = LoadFile::decode(alloc, bytes)?;
+    let mut writer = wide();
+    let held = all_but(alloc, &[])?;
+    let answer = file.encode(&mut writer);
+    drop(held);
+    answer?;
+    Ok(writer.into_inner().into_inner())
+}
+
+/// The same of an object file.
+fn object_written(alloc: Global, bytes: &[u8]) -> Result<Narrow, Fail> {
+    let file = ObjectFile::decode(alloc, bytes)?;
+    let mut writer = wide();
+    let held = all_but(alloc, &[])?;
+    let answer = file.encode(&mut writer);
+    drop(held);
+    answer?;
+    Ok(writer.into_inner().into_inner())
+}
+
+/// The same of a file of either kind.
+fn either_written(alloc: Global, bytes: &[u8]) -> Result<Narrow, Fail> {
+    let file = HunkFile::decode(alloc, bytes)?;
+    let mut writer = wide();
+    let held = all_but(alloc, &[])?;
+    let answer = file.encode(&mut writer);
+    drop(held);
+    answer?;
+    Ok(writer.into_inner().into_inner())
+}
+
+/// Sees that the load file is written so, by itself and as a file of either kind.
 fn expect_load_written(rt: &impl Abort, alloc: Global, text: &str) -> Result<(), Fail> {
     let bytes = spelled(alloc, text)?;
-    let (file, _) = LoadFile::decode(alloc, &bytes)?;
-    let either = HunkFile::decode(alloc, &bytes)?;
-    let (mut first, mut second) = (wide(), wide());
-    let held = all_but(alloc, &[])?;
-    let answers = (file.encode(&mut first), either.encode(&mut second));
-    drop(held);
-    assert_eq!(rt; answers, (Ok(()), Ok(())));
-    assert_eq!(rt; first.into_inner().into_inner().taken(), bytes.as_slice());
-    assert_eq!(rt; second.into_inner().into_inner().taken(), bytes.as_slice());
+    assert_eq!(rt; load_written(alloc, &bytes)?.taken(), bytes.as_slice());
+    assert_eq!(rt; either_written(alloc, &bytes)?.taken(), bytes.as_slice());
     Ok(())
 }
 
 /// Sees the same of an object file.
 fn expect_object_written(rt: &impl Abort, alloc: Global, text: &str) -> Result<(), Fail> {
     let bytes = spelled(alloc, text)?;
-    let file = ObjectFile::decode(alloc, &bytes)?;
-    let either = HunkFile::decode(alloc, &bytes)?;
-    let (mut first, mut second) = (wide(), wide());
-    let held = all_but(alloc, &[])?;
-    let answers = (file.encode(&mut first), either.encode(&mut second));
-    drop(held);
-    assert_eq!(rt; answers, (Ok(()), Ok(())));
-    assert_eq!(rt; first.into_inner().into_inner().taken(), bytes.as_slice());
-    assert_eq!(rt; second.into_inner().into_inner().taken(), bytes.as_slice());
+    assert_eq!(rt; object_written(alloc, &bytes)?.taken(), bytes.as_slice());
+    assert_eq!(rt; either_written(alloc, &bytes)?.taken(), bytes.as_slice());
     Ok(())
 }
 
@@ -184,22 +222,26 @@ fn none_of_a_text(rt: HostRuntime) -> Result<(), Fail> {
     Ok(())
 }
 
+/// What `image` at three lists of bases answers with no memory left.
+fn starved_images(alloc: Global, bytes: &[u8]) -> Result<[Option<ImageFault>; 3], Fail> {
+    let (file, _) = LoadFile::decode(alloc, bytes)?;
+    let held = all_but(alloc, &[])?;
+    let fewer = file.image(alloc, &[0; 4]).err();
+    let more = file.image(alloc, &[0; 6]).err();
+    let as_many = file.image(alloc, &[0; 5]).err();
+    drop(held);
+    Ok([fewer, more, as_many])
+}
+
 /// An image of another number of bases is refused before memory is asked for.
 #[test]
 fn none_of_an_image_that_is_refused(rt: HostRuntime) -> Result<(), Fail> {
     if !memory_ends(&rt)? {
         return Ok(());
     }
-    let alloc = rt.alloc();
-    let bytes = spelled(alloc, examples::FIVE_HUNKS)?;
-    let (file, _) = LoadFile::decode(alloc, &bytes)?;
-    let held = all_but(alloc, &[])?;
-    let fewer = file.image(alloc, [0; 4].as_slice()).err();
-    let more = file.image(alloc, [0; 6].as_slice()).err();
-    let as_many = file.image(alloc, [0; 5].as_slice()).err();
-    drop(held);
+    let bytes = spelled(rt.alloc(), examples::FIVE_HUNKS)?;
+    let got = starved_images(rt.alloc(), &bytes)?;
     let amiss = Some(ImageFault::BaseCount);
-    assert_eq!(rt; (fewer, more), (amiss, amiss));
-    assert_eq!(rt; as_many, Some(ImageFault::OutOfMemory));
+    assert_eq!(rt; got, [amiss, amiss, Some(ImageFault::OutOfMemory)]);
     Ok(())
 }

@@ -78,45 +78,51 @@ fn refused_examples(rt: HostRuntime) -> Result<(), Fail> {
     expect_refused(&rt, rt.alloc(), EXAMPLES)
 }
 
-/// What no hunk and no place between them takes, at a first longword and behind a unit's header.
+/// Words that no hunk and no place between them takes, with the reason.
+const ANYWHERE: &[(u32, Reason)] = &[
+    (0xC000_03E9, Reason::BothBits),
+    (0xC000_03E7, Reason::BothBits),
+    (0xE000_04D2, Reason::BothBits),
+    (0x3F5, Reason::Overlay),
+    (0x2000_03F5, Reason::Overlay),
+    (0x3F6, Reason::Break),
+    (0x3FC, Reason::ShortReloc),
+    (0x3FA, Reason::Library),
+    (0x3FB, Reason::Library),
+    (0x3F3, Reason::Misplaced),
+    (0x2000_03F3, Reason::Misplaced),
+    (0x3F4, Reason::UnknownBlock),
+    (0x4000_04D2, Reason::UnknownBlock),
+    (0x2000_03E7, Reason::Misplaced),
+    (0x4000_03E7, Reason::Misplaced),
+];
+
+/// Sees that the file of these longwords is refused so.
+fn expect(
+    rt: &impl Abort,
+    alloc: Global,
+    longs: &[u32],
+    place: u64,
+    reason: Reason,
+) -> Result<(), Fail> {
+    let got = answer_of(alloc, longs)?;
+    assert_eq!(rt; got, refused(place, reason), "{longs:?}");
+    Ok(())
+}
+
+/// At a first longword, behind a unit's header, and behind a hunk's content.
 #[test]
 fn refused_anywhere(rt: HostRuntime) -> Result<(), Fail> {
-    let rows = [
-        (0xC000_03E9, Reason::BothBits),
-        (0xC000_03E7, Reason::BothBits),
-        (0xE000_04D2, Reason::BothBits),
-        (0x3F5, Reason::Overlay),
-        (0x2000_03F5, Reason::Overlay),
-        (0x3F6, Reason::Break),
-        (0x3FC, Reason::ShortReloc),
-        (0x3FA, Reason::Library),
-        (0x3FB, Reason::Library),
-        (0x3F3, Reason::Misplaced),
-        (0x2000_03F3, Reason::Misplaced),
-        (0x3F4, Reason::UnknownBlock),
-        (0x4000_04D2, Reason::UnknownBlock),
-        (0x2000_03E7, Reason::Misplaced),
-        (0x4000_03E7, Reason::Misplaced),
-    ];
-    for (word, reason) in rows {
-        let first = [word, 0];
-        let behind = [0x3E7, 0, word, 0];
-        let inside = [0x3E7, 0, 0x3EB, 0, word, 0];
-        assert_eq!(rt;
-            answer_of(rt.alloc(), first.as_slice())?,
-            refused(0, reason),
-            "{word:x}"
-        );
-        assert_eq!(rt;
-            answer_of(rt.alloc(), behind.as_slice())?,
-            refused(8, reason),
-            "{word:x}"
-        );
-        assert_eq!(rt;
-            answer_of(rt.alloc(), inside.as_slice())?,
-            refused(16, reason),
-            "{word:x}"
-        );
+    for (word, reason) in ANYWHERE {
+        expect(&rt, rt.alloc(), &[*word, 0], 0, *reason)?;
+        expect(&rt, rt.alloc(), &[0x3E7, 0, *word, 0], 8, *reason)?;
+        expect(
+            &rt,
+            rt.alloc(),
+            &[0x3E7, 0, 0x3EB, 0, *word, 0],
+            16,
+            *reason,
+        )?;
     }
     Ok(())
 }
@@ -131,22 +137,19 @@ const BEHIND_CONTENT: &[u32] = &[
 fn refused_before_content(rt: HostRuntime) -> Result<(), Fail> {
     let early = Reason::BeforeContent;
     for word in BEHIND_CONTENT {
-        let first = answer_of(rt.alloc(), &[*word, 0])?;
-        assert_eq!(rt; first, refused(0, Reason::Misplaced), "{word:x}");
-        let opens = answer_of(rt.alloc(), &[0x3E7, 0, *word])?;
-        assert_eq!(rt; opens, refused(8, early), "{word:x}");
-        let follows = answer_of(rt.alloc(), &[0x3E7, 0, 0x3F1, 0, 0x8000_0000 | *word, 0])?;
-        assert_eq!(rt; follows, refused(16, early), "{word:x}");
+        expect(&rt, rt.alloc(), &[*word, 0], 0, Reason::Misplaced)?;
+        expect(&rt, rt.alloc(), &[0x3E7, 0, *word], 8, early)?;
+        let follows = [0x3E7, 0, 0x3F1, 0, 0x8000_0000 | *word, 0];
+        expect(&rt, rt.alloc(), &follows, 16, early)?;
     }
     Ok(())
 }
 
 #[test]
 fn refused_second_content(rt: HostRuntime) -> Result<(), Fail> {
-    let want = refused(24, Reason::SecondContent);
     for word in [0x3E9, 0x3EA, 0x3EB] {
         let second = [0x3E7, 0, word, 0, 0x3F0, 0, 0x2000_0000 | word, 9];
-        assert_eq!(rt; answer_of(rt.alloc(), &second)?, want, "{word:x}");
+        expect(&rt, rt.alloc(), &second, 24, Reason::SecondContent)?;
     }
     Ok(())
 }
@@ -170,26 +173,28 @@ fn refused_by_place(rt: HostRuntime) -> Result<(), Fail> {
 /// A file of two units, the first of two hunks.
 const CUT_SHORT: &str = "3E7 1 61000000 / 3EB 1 / 3F2 / 3E9 1 7 / 3EC 1 0 0 0 / 3F2 / 3E7 0";
 
+/// Where it ends with a unit or a hunk: the bytes, and the units, hunks and blocks before them.
+const WHOLE: &[(usize, (usize, usize, usize))] = &[
+    (12, (1, 0, 0)),
+    (24, (1, 1, 2)),
+    (60, (1, 2, 5)),
+    (68, (2, 2, 5)),
+];
+
 /// Every prefix of the file ends too soon, but for those that end with a unit or a hunk.
+fn answer_to_front(n: usize) -> Answer {
+    match WHOLE.iter().find(|row| row.0 == n) {
+        Some(row) => Ok(row.1),
+        None => refused(n as u64 / 4 * 4, Reason::Truncated),
+    }
+}
+
 #[test]
 fn cut_short(rt: HostRuntime) -> Result<(), Fail> {
     let bytes = spelled(rt.alloc(), CUT_SHORT)?;
-    let whole = [
-        (12, (1, 0, 0)),
-        (24, (1, 1, 2)),
-        (60, (1, 2, 5)),
-        (68, (2, 2, 5)),
-    ];
     for n in 0..bytes.len() + 1 {
         let got = answer(rt.alloc(), &bytes[..n]);
-        match whole.iter().find(|row| row.0 == n) {
-            Some(row) => assert_eq!(rt; got, Ok(row.1), "{n} bytes"),
-            None => assert_eq!(rt;
-                got,
-                refused(n as u64 / 4 * 4, Reason::Truncated),
-                "{n} bytes"
-            ),
-        }
+        assert_eq!(rt; got, answer_to_front(n), "{n} bytes");
     }
     Ok(())
 }
@@ -206,19 +211,29 @@ fn bytes_over(rt: HostRuntime) -> Result<(), Fail> {
     Ok(())
 }
 
-#[test]
-fn many_units(rt: HostRuntime) -> Result<(), Fail> {
-    let mut bytes = Vec::new(rt.alloc());
-    for number in 0..500u32 {
-        let unit = [0x3E7, 1, number, 0x3EB, number, 0x3F2, 0x3EB, 0, 0x3F2];
-        bytes.extend_from_slice(bytes_of(rt.alloc(), unit.as_slice())?.as_slice())?;
+/// As many units, each with its number as its name, and two hunks.
+fn units(alloc: Global, count: u32) -> Result<Vec<u8>, AllocError> {
+    let mut longs = Vec::new(alloc);
+    for number in 0..count {
+        longs.extend_from_slice(&[0x3E7, 1, number, 0x3EB, number, 0x3F2, 0x3EB, 0, 0x3F2])?;
     }
-    let file = ObjectFile::decode(rt.alloc(), bytes.as_slice())?;
-    assert_eq!(rt; counts(&file), (500, 1000, 2000));
+    bytes_of(alloc, &longs)
+}
+
+/// Sees that each unit has its number as its name.
+fn expect_names(rt: &impl Abort, file: &ObjectFile) {
     for (number, unit) in file.units().iter().enumerate() {
         let name = (number as u64).to_be_bytes();
         assert_eq!(rt; unit.name().bytes(), &name[4..]);
     }
+}
+
+#[test]
+fn many_units(rt: HostRuntime) -> Result<(), Fail> {
+    let bytes = units(rt.alloc(), 500)?;
+    let file = ObjectFile::decode(rt.alloc(), &bytes)?;
+    assert_eq!(rt; counts(&file), (500, 1000, 2000));
+    expect_names(&rt, &file);
     Ok(())
 }
 

@@ -2,7 +2,7 @@
 
 use hunk_files::{Finding, FindingKind, ObjectFile};
 use hunk_testing::{bytes_of, examples, spelled};
-use std::alloc::Global;
+use std::alloc::{AllocError, Global};
 use std::process::Abort;
 use std::test::Fail;
 
@@ -43,6 +43,37 @@ const FINDINGS: &[(u32, &str, &[(FindingKind, u32)])] = &[
     ),
 ];
 
+/// What is found in the object file that the bytes are, by place.
+fn findings_in(alloc: Global, bytes: &[u8]) -> Result<Vec<Finding>, Fail> {
+    let findings = ObjectFile::decode(alloc, bytes)?.check(alloc)?;
+    let mut found = Vec::new(alloc);
+    for i in 0..findings.len() {
+        found.push(*findings.at(i))?;
+    }
+    Ok(found)
+}
+
+/// Sees that these findings are made, in this order.
+fn expect_findings(
+    rt: &impl Abort,
+    alloc: Global,
+    bytes: &[u8],
+    want: &[Finding],
+) -> Result<(), Fail> {
+    let found = findings_in(alloc, bytes)?;
+    assert_eq!(rt; found.as_slice(), want);
+    Ok(())
+}
+
+/// Findings in the first hunk.
+fn all_found(alloc: Global, rows: &[(FindingKind, u32)]) -> Result<Vec<Finding>, AllocError> {
+    let mut findings = Vec::new(alloc);
+    for (fault, offset) in rows {
+        findings.push(found(*fault, *offset))?;
+    }
+    Ok(findings)
+}
+
 /// Sees that these findings are made in the first hunk, in this order.
 fn expect(
     rt: &impl Abort,
@@ -51,15 +82,9 @@ fn expect(
     want: &[(FindingKind, u32)],
 ) -> Result<(), Fail> {
     let bytes = spelled(alloc, text)?;
-    let findings = ObjectFile::decode(alloc, bytes.as_slice())?.check(alloc)?;
-    assert_eq!(rt; findings.len(), want.len(), "example {example}");
-    for (i, (fault, offset)) in want.iter().enumerate() {
-        assert_eq!(rt;
-            *findings.at(i),
-            found(*fault, *offset),
-            "example {example}"
-        );
-    }
+    let want = all_found(alloc, want)?;
+    let found = findings_in(alloc, &bytes)?;
+    assert_eq!(rt; found, want, "example {example}");
     Ok(())
 }
 
@@ -85,83 +110,75 @@ fn one_by_one(rt: HostRuntime) -> Result<(), Fail> {
     Ok(())
 }
 
-/// The last offset that a hunk of 8 bytes has room for, by the kind of the relocation.
+/// Sees that these offsets are found past the end of the first hunk, and nothing else.
+fn expect_outside(
+    rt: &impl Abort,
+    alloc: Global,
+    longs: &[u32],
+    offsets: &[u32],
+) -> Result<(), Fail> {
+    let bytes = bytes_of(alloc, longs)?;
+    let mut want = Vec::new(alloc);
+    for offset in offsets {
+        want.push(found(FindingKind::OutsideHunk, *offset))?;
+    }
+    expect_findings(rt, alloc, &bytes, &want)
+}
+
+/// The kinds of relocations, with the last offset that a hunk of 8 bytes has room for.
+const RELOCATIONS: &[(u32, u32)] = &[
+    (0x3EC, 4),
+    (0x3ED, 6),
+    (0x3EE, 7),
+    (0x3F7, 4),
+    (0x3F8, 6),
+    (0x3F9, 7),
+    (0x3FD, 4),
+    (0x3FE, 6),
+];
+
 #[test]
 fn widths_of_relocations(rt: HostRuntime) -> Result<(), Fail> {
-    let rows = [
-        (0x3EC, 4),
-        (0x3ED, 6),
-        (0x3EE, 7),
-        (0x3F7, 4),
-        (0x3F8, 6),
-        (0x3F9, 7),
-        (0x3FD, 4),
-        (0x3FE, 6),
-    ];
-    for (word, last) in rows {
-        let longs = [
-            0x3E7,
-            0,
-            0x3EB,
-            2,
-            word,
-            3,
-            0,
-            last,
-            last + 1,
-            0xFFFF_FFFF,
-            0,
-            0x3F2,
-        ];
-        let bytes = bytes_of(rt.alloc(), longs.as_slice())?;
-        let findings = ObjectFile::decode(rt.alloc(), bytes.as_slice())?.check(rt.alloc())?;
-        assert_eq!(rt; findings.len(), 2, "{word:x}");
-        assert_eq!(rt;
-            *findings.at(0),
-            found(FindingKind::OutsideHunk, last + 1),
-            "{word:x}"
-        );
+    for (word, last) in RELOCATIONS {
+        let outside = [last.wrapping_add(1), 0xFFFF_FFFF];
+        let [next, most] = outside;
+        let longs = [0x3E7, 0, 0x3EB, 2, *word, 3, 0, *last, next, most, 0, 0x3F2];
+        expect_outside(&rt, rt.alloc(), &longs, &outside)?;
     }
     Ok(())
 }
 
-/// The same, by the type of the reference.
+/// The same, by the word of an entry of references.
+const REFERENCES: &[(u32, u32)] = &[
+    (0x8100_0000, 4),
+    (0x8300_0000, 6),
+    (0x8400_0000, 7),
+    (0x8500_0000, 4),
+    (0x8600_0000, 6),
+    (0x8700_0000, 7),
+    (0x8800_0000, 4),
+    (0x8A00_0000, 6),
+    (0x8B00_0000, 7),
+];
+
 #[test]
 fn widths_of_references(rt: HostRuntime) -> Result<(), Fail> {
-    let references = [
-        (129, 4),
-        (131, 6),
-        (132, 7),
-        (133, 4),
-        (134, 6),
-        (135, 7),
-        (136, 4),
-        (138, 6),
-        (139, 7),
-    ];
-    for (number, last) in references {
-        let word = number * 0x0100_0000;
-        let longs = [0x3E7, 0, 0x3EB, 2, 0x3EF, word, 2, last, last + 1, 0, 0x3F2];
-        let bytes = bytes_of(rt.alloc(), longs.as_slice())?;
-        let findings = ObjectFile::decode(rt.alloc(), bytes.as_slice())?.check(rt.alloc())?;
-        assert_eq!(rt; findings.len(), 1, "{number}");
-        assert_eq!(rt;
-            *findings.at(0),
-            found(FindingKind::OutsideHunk, last + 1),
-            "{number}"
-        );
+    for (word, last) in REFERENCES {
+        let outside = last.wrapping_add(1);
+        let longs = [
+            0x3E7, 0, 0x3EB, 2, 0x3EF, *word, 2, *last, outside, 0, 0x3F2,
+        ];
+        expect_outside(&rt, rt.alloc(), &longs, &[outside])?;
     }
-    for number in [130, 137] {
-        let word = number * 0x0100_0000;
+    Ok(())
+}
+
+/// Common symbols, whose references have the width of a longword.
+#[test]
+fn widths_of_commons(rt: HostRuntime) -> Result<(), Fail> {
+    for word in [0x8200_0000, 0x8900_0000] {
         let longs = [0x3E7, 0, 0x3EB, 2, 0x3EF, word, 99, 2, 4, 5, 0, 0x3F2];
-        let bytes = bytes_of(rt.alloc(), longs.as_slice())?;
-        let findings = ObjectFile::decode(rt.alloc(), bytes.as_slice())?.check(rt.alloc())?;
-        assert_eq!(rt; findings.len(), 1, "{number}");
-        assert_eq!(rt;
-            *findings.at(0),
-            found(FindingKind::OutsideHunk, 5),
-            "{number}"
-        );
+        expect_outside(&rt, rt.alloc(), &longs, &[5])?;
     }
     Ok(())
 }
@@ -175,14 +192,11 @@ const THREE_UNITS: &str = "3E7 0 / 3EB 1 / 3EC 1 1 0 0 / 3F2 / 3EB 1 / 3F2 / \
 #[test]
 fn where_findings_stand(rt: HostRuntime) -> Result<(), Fail> {
     let bytes = spelled(rt.alloc(), THREE_UNITS)?;
-    let findings = ObjectFile::decode(rt.alloc(), bytes.as_slice())?.check(rt.alloc())?;
-    assert_eq!(rt; findings.len(), 1);
     let want = Finding {
         unit: 2,
         hunk: 1,
         fault: FindingKind::BadTarget,
         offset: 0,
     };
-    assert_eq!(rt; *findings.at(0), want);
-    Ok(())
+    expect_findings(&rt, rt.alloc(), &bytes, &[want])
 }

@@ -35,16 +35,24 @@ fn no_bytes(alloc: Global) -> LongWriter<FromWrite<Vec<u8>>>
     LongWriter::new(FromWrite::new(Vec::new(alloc)))
 }
 
-/// Sees that the file is written again as it was read, and stripped as told.
-fn expect_again(rt: &impl Abort, alloc: Global, bytes: &[u8], stripped: &[u8]) -> Result<(), Fail> {
+/// What is written of the file that the bytes are, stripped first where that is asked, and the number of its bytes.
+fn rewritten(alloc: Global, bytes: &[u8], strip: bool) -> Result<(u64, Vec<u8>), Fail> {
     let file = ObjectFile::decode(alloc, bytes)?;
+    let file = if strip { file.strip() } else { file };
     let mut writer = no_bytes(alloc);
-    assert_eq!(rt; file.encode(&mut writer), Ok(()));
-    assert_eq!(rt; writer.written(), bytes.len() as u64);
-    assert_eq!(rt; writer.into_inner().into_inner().as_slice(), bytes);
-    let mut writer = no_bytes(alloc);
-    assert_eq!(rt; file.strip().encode(&mut writer), Ok(()));
-    assert_eq!(rt; writer.into_inner().into_inner().as_slice(), stripped);
+    file.encode(&mut writer)?;
+    Ok((writer.written(), writer.into_inner().into_inner()))
+}
+
+/// Sees that this is written of the file, which is stripped first where that is asked.
+fn expect(
+    rt: &impl Abort,
+    alloc: Global,
+    (bytes, strip): (&[u8], bool),
+    want: &[u8],
+) -> Result<(), Fail> {
+    let (count, text) = rewritten(alloc, bytes, strip)?;
+    assert_eq!(rt; (count, text.as_slice()), (want.len() as u64, want));
     Ok(())
 }
 
@@ -53,28 +61,37 @@ fn what_was_read(rt: HostRuntime) -> Result<(), Fail> {
     for (text, stripped) in TEXTS {
         let bytes = spelled(rt.alloc(), text)?;
         let stripped = spelled(rt.alloc(), stripped)?;
-        expect_again(&rt, rt.alloc(), bytes.as_slice(), stripped.as_slice())?;
+        expect(&rt, rt.alloc(), (&bytes, false), &bytes)?;
+        expect(&rt, rt.alloc(), (&bytes, true), &stripped)?;
     }
     Ok(())
+}
+
+/// The target and the offset of a block of one relocation.
+fn only_relocation(body: &Body<'_>) -> Option<(u32, u32)> {
+    match body {
+        Body::Reloc(groups) if groups.len() == 1 => match groups.at(0).offsets.len() {
+            1 => Some((groups.at(0).target, groups.at(0).offsets.at(0))),
+            _ => None,
+        },
+        _ => None,
+    }
+}
+
+/// The name of the first unit, and the relocation that the second block of its first hunk is.
+fn told<'a>(file: &'a ObjectFile<'_>) -> Option<(&'a [u8], Option<(u32, u32)>)> {
+    let unit = file.units().first()?;
+    let hunk = unit.hunks().first()?;
+    let block = hunk.blocks().get(1)?;
+    Some((unit.name().bytes(), only_relocation(block.body())))
 }
 
 /// What a file tells of a unit, its hunk and a block.
 #[test]
 fn what_is_told(rt: HostRuntime) -> Result<(), Fail> {
     let bytes = spelled(rt.alloc(), examples::OBJECT_WITH_DREL32)?;
-    let file = ObjectFile::decode(rt.alloc(), bytes.as_slice())?;
-    let unit = file.units().first().ok_or("no unit")?;
-    assert_eq!(rt; unit.name().bytes(), [0x61, 0, 0, 0].as_slice());
-    let hunk = unit.hunks().first().ok_or("no hunk")?;
-    let block = hunk.blocks().get(1).ok_or("no second block")?;
-    match block.body() {
-        Body::Reloc(groups) => {
-            assert_eq!(rt; groups.len(), 1);
-            let group = groups.at(0);
-            assert_eq!(rt; (group.target, group.offsets.len()), (0, 1));
-            assert_eq!(rt; group.offsets.at(0), 0);
-        }
-        _ => panic!(&rt; "DREL32"),
-    }
+    let file = ObjectFile::decode(rt.alloc(), &bytes)?;
+    let want = ([0x61, 0, 0, 0].as_slice(), Some((0, 0)));
+    assert_eq!(rt; told(&file), Some(want));
     Ok(())
 }

@@ -3,30 +3,42 @@
 use hunk_files::{LoadFile, Row, Sniff, sniff};
 use hunk_testing::{examples, spelled};
 use hunk_words::{BlockWord, Memory};
+use std::alloc::{AllocError, Global};
 use std::test::Fail;
+
+/// The memory and the bytes that the table has for a hunk, how many blocks it has, and the word of the first.
+type Told = (Memory, u64, usize, Option<BlockWord>);
+
+fn hunks_of(alloc: Global, file: &LoadFile<'_>) -> Result<Vec<Told>, AllocError> {
+    let mut found = Vec::new(alloc);
+    for i in 0..file.hunks() {
+        let (size, blocks) = (file.table(i), file.hunk(i));
+        let first = blocks.first().map(|block| block.word());
+        found.push((size.memory(), size.bytes(), blocks.len(), first))?;
+    }
+    Ok(found)
+}
+
+fn hunks_in(alloc: Global, bytes: &[u8]) -> Result<Vec<Told>, Fail> {
+    let (file, _) = LoadFile::decode(alloc, bytes)?;
+    Ok(hunks_of(alloc, &file)?)
+}
 
 /// Example 8: a hunk with memory attributes, and an empty one.
 #[test]
 fn tables_and_blocks(rt: HostRuntime) -> Result<(), Fail> {
     let bytes = spelled(rt.alloc(), examples::WITH_ATTRIBUTES)?;
-    let (file, _) = match LoadFile::decode(rt.alloc(), bytes.as_slice()) {
-        Ok(decoded) => decoded,
-        Err(fault) => panic!(&rt; "{fault:?}"),
-    };
-    assert_eq!(rt; file.hunks(), 2);
-    let rows = [(0, Memory::Attributes(0x10004), 8), (1, Memory::Any, 4)];
-    for (i, memory, size) in rows {
-        assert!(rt; i < file.hunks());
-        assert_eq!(rt; file.table(i).memory(), memory);
-        assert_eq!(rt; file.table(i).bytes(), size);
-        assert_eq!(rt; file.hunk(i).len(), 2);
-    }
-    let words = [(0, 0x3E9), (1, 0x3EB)];
-    for (i, word) in words {
-        assert!(rt; i < file.hunks());
-        let first = file.hunk(i).first().map(|block| block.word());
-        assert_eq!(rt; first, Some(BlockWord::of(word)));
-    }
+    let found = hunks_in(rt.alloc(), &bytes)?;
+    let want = [
+        (
+            Memory::Attributes(0x10004),
+            8,
+            2,
+            Some(BlockWord::of(0x3E9)),
+        ),
+        (Memory::Any, 4, 2, Some(BlockWord::of(0x3EB))),
+    ];
+    assert_eq!(rt; found.as_slice(), want.as_slice());
     Ok(())
 }
 
@@ -40,20 +52,32 @@ const SNIFFS: &[(&str, Sniff)] = &[
 ];
 
 #[test]
-fn sniffs_and_rows(rt: HostRuntime) -> Result<(), Fail> {
+fn sniffs(rt: HostRuntime) -> Result<(), Fail> {
     for (text, want) in SNIFFS {
         let bytes = spelled(rt.alloc(), text)?;
         assert_eq!(rt; sniff(bytes.as_slice()), *want, "{text}");
     }
-    let bytes = spelled(rt.alloc(), examples::ONE_HUNK)?;
-    assert_eq!(rt; bytes.len(), 40);
-    assert_eq!(rt; sniff(&bytes[..3]), Sniff::Other);
+    Ok(())
+}
+
+/// The first three bytes of a load file announce none.
+#[test]
+fn sniffs_no_longword(rt: HostRuntime) -> Result<(), Fail> {
+    assert_eq!(rt; sniff(&[0, 0, 3]), Sniff::Other);
+    Ok(())
+}
+
+#[test]
+fn rows(rt: HostRuntime) -> Result<(), Fail> {
     let row = Row {
         word: 0xC000_0002,
         extra: 0x10004,
         base: 0x21000,
     };
-    assert_eq!(rt; row.size().memory(), Memory::Attributes(0x10004));
-    assert_eq!(rt; row.size().bytes(), 8);
+    let size = row.size();
+    assert_eq!(rt;
+        (size.memory(), size.bytes()),
+        (Memory::Attributes(0x10004), 8)
+    );
     Ok(())
 }
