@@ -1,5 +1,6 @@
 -- What a run lists, by what an engine function has written.
-use Rattle.std.proofs.Common.{◌≡◌, ◌⊎◌, ◌<◌, ◌++◌, ◌∙◌, ℕ, Bool, true, false, List, [], Option, Some, None, length, inl, inr, refl, ap, sym, subst, arith, append-nil, append_assoc}
+use Rattle.std.proofs.Common.{◌≡◌, ◌<◌, ◌++◌, ◌∙◌, ℕ, Bool, true, false, List, [], Option, Some, None, length, inl, inr, refl, ap, sym, subst, arith, append-nil, append_assoc}
+use Rattle.std.specs.Prelude.{Result, Ok, Err}
 use Rattle.std.specs.Io.KnownBytes.{Consumes, IsAtEnd}
 use Rattle.std.proofs.lemmas.List.{take_all}
 use Rattle.hunk_words.specs.Carriers.{Writing}
@@ -9,15 +10,14 @@ use Rattle.hunk_files.specs.LoadText.{text}
 use Rattle.hunk_commands.specs.Engine.{WritesAll}
 use Rattle.hunk_commands.specs.Validated.{IsValidated}
 use Rattle.hunk_commands.specs.Output.{Takes}
-use Rattle.hunkinfo.specs.Status.{TellsStatus}
+use Rattle.hunkinfo.specs.OutFile.{OutFile}
+use Rattle.hunkinfo.specs.Status.{EndsListing, PrintsFault, TellsOutcome, TellsStatus}
 use Rattle.hunkinfo.specs.declared.run.listing.Listing.{Listing}
 use Rattle.hunkinfo.specs.declared.run.listing.Listing.TheVariants as listings
 use Rattle.hunk_commands.specs.HexText.{SpellsHex}
 use Rattle.hunk_commands.specs.declared.fault.RunFault.{RunFault}
 use Rattle.hunk_commands.specs.declared.fault.RunFault.TheVariants.{HexText, Memory, Read, Refused, Write}
-use Rattle.hunk_commands.specs.Faults.{IsWrite}
 use Rattle.hunk_commands.specs.Inputs.{StopsAtRead}
-use Rattle.hunk_commands.specs.Output.{StopsOutput}
 use Rattle.hunk_commands.specs.Relocating.{ReadsShort, RelocatesAll}
 use Rattle.hunkinfo.specs.Runs.{IsListed, ListsSource, StopsReading}
 
@@ -111,15 +111,35 @@ lists_text taken old new listing a b c d given bytes consumed at_end spells know
   takes = lists.takes;
 }
 
--- where nothing was put, the output has not come to fail
-sound_still : {W : Type 0} (failed : W → Bool) (old new : Writing W) → new ≡ old → failed old.sink ≡ false → failed new.sink ≡ false
-sound_still {W} failed old new same sound = ap (λ (w : Writing W). failed w.sink) same ∙ sound
+-- OUT has taken all that was written, and has it when it is settled
+pub writes_since : {F : Type 0} (Is : List ℕ → List ℕ → Type 0) (a b : Option (List ℕ)) (most : ℕ) (old sent kept out settled : OutFile F) (written : ℕ) →
+    WritesAll Is a b most (Some old.taken) (Some sent.taken) written → old ≡ out → kept ≡ sent → settled.taken ≡ kept.taken →
+    WritesAll Is a b most (Some out.taken) (Some settled.taken) written
+writes_since {F} Is a b most old sent kept out settled written all before handed same =
+    subst (λ (o : OutFile F). WritesAll Is a b most (Some o.taken) (Some settled.taken) written) before
+    (subst (λ (xs : List ℕ). WritesAll Is a b most (Some old.taken) (Some xs) written)
+    (sym (same ∙ ap (λ (o : OutFile F). o.taken) handed)) all)
 
--- where only memory can run out, or else the output fails, the fault is of one or the other
-pub only_writing : {W : Type 0} (failed : W → Bool) (old new : Writing W) (fault : RunFault) → StopsOutput failed old new fault → failed old.sink ≡ false →
-    (failed new.sink ≡ false → fault ≡ Memory) → (fault ≡ Memory) ⊎ IsWrite fault
-only_writing failed old new (Write written) stops sound only = inr tt
-only_writing failed old new Memory stops sound only = inl refl
-only_writing failed old new (Read place) stops sound only = inl (only (sound_still failed old new (stops.untouched (λ is. is)) sound))
-only_writing failed old new (Refused refusal) stops sound only = inl (only (sound_still failed old new (stops.untouched (λ is. is)) sound))
-only_writing failed old new HexText stops sound only = inl (only (sound_still failed old new (stops.untouched (λ is. is)) sound))
+-- what a run prints of a fault
+tells_fault : {W : Type 0} (taken : W → Option (List ℕ)) (failed : W → Bool) (old new : Writing W) (fault : RunFault) (status : ℕ) →
+    PrintsFault taken failed old new fault status → TellsStatus taken failed old new status
+tells_fault taken failed old new fault status (inl (inl (is, takes))) = inr (inr (inl (fault, is, takes)))
+tells_fault taken failed old new fault status (inl (inr broken)) = inr (inr (inr (inl broken)))
+tells_fault taken failed old new fault status (inr (inl (is, takes))) = inr (inr (inl (Memory, is, takes)))
+tells_fault taken failed old new fault status (inr (inr broken)) = inr (inr (inr (inl broken)))
+
+-- what a run has printed that was to list an input; the output is mid behind what was listed
+module _ {W : Type 0} (taken : W → Option (List ℕ)) (failed : W → Bool) (old mid new : Writing W) (result : ℕ) where
+  tells_since : (fault : RunFault) → mid ≡ old → PrintsFault taken failed mid new fault result → TellsStatus taken failed old new result
+  tells_since fault same prints = subst (λ (w : Writing W). TellsStatus taken failed w new result) same (tells_fault taken failed mid new fault result prints)
+
+  pub tells_listing : (answer : Result ℕ RunFault) → TellsOutcome taken failed old mid answer → EndsListing taken failed mid new answer result →
+      TellsStatus taken failed old new result
+  tells_listing (Ok status) outcome (is, same) =
+      subst (λ (w : Writing W). TellsStatus taken failed old w result) (sym same)
+      (subst (λ (n : ℕ). TellsStatus taken failed old mid n) (sym is) outcome.tells)
+  tells_listing (Err (Write written)) outcome (is, same) = inr (inr (inr (inl (is, ap (λ (w : Writing W). failed w.sink) same ∙ outcome.fails.broken tt))))
+  tells_listing (Err Memory) outcome ends = tells_since Memory (outcome.fails.untouched (λ is. is)) ends
+  tells_listing (Err HexText) outcome ends = tells_since HexText (outcome.fails.untouched (λ is. is)) ends
+  tells_listing (Err (Read place)) outcome ends = tells_since (Read place) (outcome.fails.untouched (λ is. is)) ends
+  tells_listing (Err (Refused refusal)) outcome ends = tells_since (Refused refusal) (outcome.fails.untouched (λ is. is)) ends

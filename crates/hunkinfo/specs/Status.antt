@@ -1,12 +1,15 @@
 -- What the exit status of a run tells of its output, a writer that is old before it and new after it. `taken` tells the bytes that a sink has taken, and `failed` whether it has failed.
-use Rattle.std.specs.Prelude.{◌≡◌, ◌⊎◌, ◌≤◌, ℕ, Bool, true, List, [], ◌∷◌, ◌++◌, Option, Result, IfErr, IfOk}
+use Rattle.std.specs.Prelude.{◌≡◌, ◌⊎◌, ◌≤◌, ℕ, Bool, true, List, [], ◌∷◌, ◌++◌, Option, Result, Ok, Err, IfErr, IfOk}
 use Rattle.hunk_words.specs.Carriers.{Writing}
 use Rattle.hunk_orders.specs.declared.asked.OrderFault.TheVariants.{Line}
 use Rattle.hunk_orders.specs.FaultTexts.{fault_text}
 use Rattle.hunk_commands.specs.declared.fault.RunFault.{RunFault}
+use Rattle.hunk_commands.specs.declared.fault.RunFault.TheVariants.{Memory, Write}
+use Rattle.hunk_commands.specs.declared.rewriting.Rewritten.{Rewritten}
 use Rattle.hunk_commands.specs.Faults.{line_of, status_of}
 use Rattle.hunk_commands.specs.Output.{StopsOutput, Takes}
 use Rattle.hunk_commands.specs.Validated.{IsFound}
+use Rattle.hunk_listing.specs.RewritingLines.{left_out_line, wrote_line}
 
 -- the line with its end, LF
 abbrev pub with_newline : List ℕ → List ℕ
@@ -16,6 +19,23 @@ with_newline line = line ++ 10 ∷ []
 abbrev pub PrintsOrFails : {W : Type 0} → (W → Option (List ℕ)) → (W → Bool) → Writing W → Writing W → List ℕ → ℕ → ℕ → Type 0
 PrintsOrFails taken failed old new text status result =
     ((result ≡ status) × Takes taken old new text) ⊎ ((result ≡ 3) × (failed new.sink ≡ true))
+
+-- the output has taken the line of the fault, or where memory for it is refused that of memory, and the status is the one of the line; or the output failed and the status is 3
+abbrev pub PrintsFault : {W : Type 0} → (W → Option (List ℕ)) → (W → Bool) → Writing W → Writing W → RunFault → ℕ → Type 0
+PrintsFault taken failed old new fault result =
+    PrintsOrFails taken failed old new (with_newline (line_of fault)) (status_of fault) result
+    ⊎ PrintsOrFails taken failed old new (with_newline (line_of Memory)) (status_of Memory) result
+
+-- how a run ends that has listed an input, or not: where the output failed nothing more is written
+abbrev pub EndsListing : {W : Type 0} → (W → Option (List ℕ)) → (W → Bool) → Writing W → Writing W → Result ℕ RunFault → ℕ → Type 0
+EndsListing taken failed old new (Ok status) result = (result ≡ status) × (new ≡ old)
+EndsListing taken failed old new (Err (Write written)) result = (result ≡ 3) × (new ≡ old)
+EndsListing taken failed old new (Err fault) result = PrintsFault taken failed old new fault result
+
+-- how a run ends that has rewritten a file, or not
+abbrev pub EndsRewriting : {W : Type 0} → (W → Option (List ℕ)) → (W → Bool) → Writing W → Writing W → Result Rewritten RunFault → ℕ → Type 0
+EndsRewriting taken failed old new (Ok done) result = PrintsOrFails taken failed old new (wrote_line done.written ++ left_out_line done.rest) 0 result
+EndsRewriting taken failed old new (Err fault) result = PrintsFault taken failed old new fault result
 
 -- the status is 0, or the output has taken one line that says why it is not, or the output failed, or the output has taken a report of findings and the status is 1
 abbrev pub TellsStatus : {W : Type 0} → (W → Option (List ℕ)) → (W → Bool) → Writing W → Writing W → ℕ → Type 0

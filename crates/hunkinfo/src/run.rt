@@ -1,11 +1,13 @@
 //! A run: the words are read, what they ask for is done, and one text is printed, once.
-ghost use Rattle.std.specs.Prelude.{◌≡◌, ◌<◌, ◌≤◌, map, true, Some, None};
+ghost use Rattle.std.specs.Prelude.{◌≡◌, ◌≤◌, map, true, Some, None, IfErr};
 ghost use Rattle.std.specs.String.{string_bytes};
 ghost use Rattle.clap.specs.Words.{takes};
 ghost use Rattle.clap.specs.Kinds.{IsAmong};
 ghost use Rattle.clap.specs.Faults.{fault_of};
 ghost use Rattle.clap.specs.declared.error.kind.ErrorKind.TheVariants.{DisplayHelp};
+ghost use Rattle.hunk_commands.specs.Faults.{IsWrite};
 ghost use Rattle.hunk_orders.specs.declared.asked.Order.{Order};
+ghost use Rattle.hunkinfo.specs.Status.{EndsListing, EndsRewriting, PrintsFault};
 ghost use Rattle.hunkinfo.specs.Status.{PrintsOrFails, TellsStatus};
 ghost use Rattle.hunk_orders.specs.Command.{hunkinfo};
 ghost use Rattle.hunk_orders.specs.Line.{order_of, words_read};
@@ -16,7 +18,7 @@ mod rewriting;
 
 use crate::run::listing::{Listing, list_file};
 use crate::run::rewriting::{rewrite_file, tell};
-use hunk_commands::{OUT_OF_MEMORY, RunFault};
+use hunk_commands::{OUT_OF_MEMORY, Rewritten, RunFault};
 use hunk_orders::{FileName, Order, OrderFault, order};
 use hunk_words::{LongWriter, Sink};
 use std::alloc::Global;
@@ -117,10 +119,7 @@ fn obey<T: Files + Input, W: Sink>(
             strip,
             input,
             output,
-        } => match rewrite_file(rt, alloc, input, output, *strip) {
-            Ok(done) => tell(done, out),
-            Err(fault) => report(alloc, fault, out),
-        },
+        } => end_rewriting(alloc, rewrite_file(rt, alloc, input, output, *strip), out),
     }
 }
 
@@ -138,7 +137,16 @@ fn list<T: Files + Input, W: Sink>(
     ensures done { result ≡ 0 → Lists W.taken out.old out.new listing }
     ensures tells { TellsStatus W.taken W.failed out.old out.new result }
 {
-    match list_file(rt, alloc, listing, file, hex, out) {
+    let answer = list_file(rt, alloc, listing, file, hex, out);
+    end_listing(alloc, answer, out)
+}
+
+/// Ends the run that was to list an input, and gives the exit status.
+fn end_listing<W: Sink>(alloc: Global, answer: Result<u8, RunFault>, out: &mut LongWriter<W>) -> u8
+    requires { IfErr answer (λ fault. ¬ IsWrite fault → out.old.written ≡ 0) }
+    ensures { EndsListing W.taken W.failed out.old out.new answer result }
+{
+    match answer {
         Ok(status) => status,
         // The output failed, so nothing more is written.
         Err(fault @ RunFault::Write { .. }) => fault.status(),
@@ -146,11 +154,26 @@ fn list<T: Files + Input, W: Sink>(
     }
 }
 
-/// Prints the fault's line, and gives the fault's status.
+/// Ends the run that was to rewrite a file, and gives the exit status.
+fn end_rewriting<W: Sink>(
+    alloc: Global,
+    answer: Result<Rewritten, RunFault>,
+    out: &mut LongWriter<W>,
+) -> u8
+    requires { out.old.written ≡ 0 }
+    ensures { EndsRewriting W.taken W.failed out.old out.new answer result }
+{
+    match answer {
+        Ok(done) => tell(done, out),
+        Err(fault) => report(alloc, fault, out),
+    }
+}
+
+/// Prints the fault's line, or that of memory where there is none for it, and gives the status of
+/// what is printed.
 fn report<W: Sink>(alloc: Global, fault: RunFault, out: &mut LongWriter<W>) -> u8
     requires { out.old.written ≡ 0 }
-    ensures bound { (0 < result) × (result ≤ 4) }
-    ensures tells { TellsStatus W.taken W.failed out.old out.new result }
+    ensures { PrintsFault W.taken W.failed out.old out.new fault result }
 {
     match format!(in alloc; "{fault}\n") {
         Ok(line) => print(line.as_str(), fault.status(), out),

@@ -1,37 +1,64 @@
 //! A file that is created at its first byte.
-ghost use Rattle.std.specs.Prelude.{◌≡◌, ◌≤◌, ◌↔◌, true, false, length, is_err, not, IfOk, IsErr};
-ghost use Rattle.std.specs.Prelude.{IsErrAnd, option_and_then};
+ghost use Rattle.std.specs.Prelude.{◌≡◌, ◌≤◌, ◌↔◌, ◌||◌, [], false, length, is_err, not, IfOk, IsErrAnd};
+ghost use Rattle.std.specs.Prelude.{IsTrue, None, Some};
+ghost use Rattle.std.specs.Fs.{file_type, IsFile};
 ghost use Rattle.std.specs.Io.KnownBytes.{WriteAppends};
+ghost use Rattle.hunkinfo.specs.OutFile.{HasTaken};
 ghost use Rattle.hunkinfo.specs.Settling.{IsLoss};
 
-use hunk_words::{Failed, Sink};
-use std::fs::OpenFile;
+use hunk_words::{Failed, History, Sink};
+use std::fs::{Metadata, OpenFile};
 use std::io::Write;
+use std::marker::Model;
+use std::os::unix::fs::MetadataExt;
 use std::rt::Files;
 use std::{fs, io};
 
+/// The name by which the system tells of the file that standard output is.
+const OUTPUT: &str = "/dev/stdout";
+
 /// A sink that creates its file, or empties it where it is there, at its first `push`.
 ///
-/// An error of creating or writing, and a write that takes none of a non-empty slice, is `Failed`.
-/// What was pushed is settled once the file has answered for it: `settle`.
+/// An error of creating or writing, and a write that takes none of a non-empty slice, is `Failed`;
+/// so is a file that standard output is too. What was pushed is settled once the file has answered
+/// for it: `settle`.
 #[derive(Drop)]
 pub(crate) struct ToFile<'a, T: Files> {
     rt: &'a T,
     name: &'a str,
     file: Option<T::File>,
+    taken: History,
     failed: bool,
     settled: bool,
+}
+
+impl<'a, T: Files> Model for ToFile<'a, T> {
+    ghost use Rattle.hunkinfo.specs.OutFile.{HasTaken, OutFile};
+
+    ghost Value = { OutFile T.File };
+
+    ghost view = { λ s. record {
+      file = s.file;
+      taken = s.taken.bytes;
+      failed = s.failed;
+      settled = s.settled;
+    } };
+
+    ghost invariant = { λ s. HasTaken (λ f. T.File.contents f) s.file s.taken.bytes };
 }
 
 impl<'a, T: Files> ToFile<'a, T> {
     /// A sink to the file of this name, which is not touched yet.
     pub(crate) fn new(rt: &'a T, name: &'a str) -> ToFile<'a, T>
-        ensures { result.failed ≡ false }
+        ensures untouched { result.file ≡ None }
+        ensures empty { result.taken ≡ [] }
+        ensures sound { result.failed ≡ false }
     {
         ToFile {
             rt,
             name,
             file: None,
+            taken: History::new(),
             failed: false,
             settled: false,
         }
@@ -46,7 +73,9 @@ impl<'a, T: Files> ToFile<'a, T> {
     /// late.
     pub(crate) fn settle(&mut self) -> Result<(), Failed>
         ensures settled { self.new.settled ≡ not (is_err result) }
-        ensures failed { IsErr result → self.new.failed ≡ true }
+        ensures failed { self.new.failed ≡ (self.old.failed || is_err result) }
+        ensures same { self.new.taken ≡ self.old.taken }
+        ensures taken { HasTaken (λ f. T.File.contents f) self.new.file self.new.taken }
     {
         let kept = match &self.file {
             Some(file) => keeps_all(file.sync_all()),
@@ -60,25 +89,26 @@ impl<'a, T: Files> ToFile<'a, T> {
         Err(Failed)
     }
 
+    /// Writes to the file, which is created first where it is not there yet.
     fn write(&mut self, bytes: &[u8]) -> io::Result<usize>
         ensures inside { IfOk result (λ n. n ≤ length bytes.now) }
         ensures same { self.new.failed ≡ self.old.failed }
-        ensures bytes { WriteAppends (option_and_then
-            (λ f. T.File.contents f) self.old.file) (option_and_then
-            (λ f. T.File.contents f) self.new.file) result bytes.now }
+        ensures bytes { WriteAppends (Some self.old.taken) (Some self.new.taken) result bytes.now }
     {
         if self.file.is_none() {
-            self.file = Some(fs::create(self.rt, self.name)?);
+            self.file = Some(create(self.rt, self.name)?);
         }
-        match &mut self.file {
-            Some(file) => file.write(bytes),
-            None => Ok(0),
-        }
+        let Some(file) = &mut self.file else {
+            return Ok(0);
+        };
+        let count = file.write(bytes)?;
+        self.taken = self.taken.and(&bytes[..count]);
+        Ok(count)
     }
 }
 
 impl<T: Files> Sink for ToFile<'_, T> {
-    ghost taken = { λ s. option_and_then (λ f. T.File.contents f) s.file };
+    ghost taken = { λ s. Some s.taken };
 
     ghost failed = { λ s. s.failed };
 
@@ -95,6 +125,31 @@ impl<T: Files> Sink for ToFile<'_, T> {
             }
         }
     }
+}
+
+/// Creates the file of this name, or empties it, but for the one that standard output is: what is
+/// printed there would take the place of what is written to it.
+fn create<T: Files>(rt: &T, name: &str) -> io::Result<T::File> {
+    if is_output(rt, name) {
+        return Err(io::Error::from(io::ErrorKind::PermissionDenied));
+    }
+    fs::create(rt, name)
+}
+
+/// Whether the file of this name is the regular file that standard output is. Where the system
+/// does not tell of both, it is not.
+fn is_output<T: Files>(rt: &T, name: &str) -> bool {
+    match (fs::metadata(rt, name), fs::metadata(rt, OUTPUT)) {
+        (Ok(file), Ok(output)) => is_one_file(&file, &output),
+        _ => false,
+    }
+}
+
+/// Whether these are of one regular file, which has a number above 0 on its device.
+fn is_one_file(one: &Metadata, other: &Metadata) -> bool
+    ensures { IsTrue result → IsFile (file_type one.now) }
+{
+    one.is_file() && one.ino() > 0 && one.ino() == other.ino() && one.dev() == other.dev()
 }
 
 /// Whether a file that answers so to `sync_all` keeps all that was written, as far as it keeps

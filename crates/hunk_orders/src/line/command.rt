@@ -53,8 +53,9 @@ Example, at the address 0x00021000 and in at most 65536 bytes:
   hunkinfo relocate --base 00021000 --budget 65536 prog";
 
 const AFTER_REWRITE: &str = "\
-OUT is overwritten, and left incomplete if writing fails. To replace a file,
-write a new one, and rename it if that succeeded:
+OUT is overwritten, and left incomplete if writing fails. It must not be the
+file that standard output goes to. To replace a file, write a new one, and
+rename it if that succeeded:
   hunkinfo rewrite IN IN.new && mv IN.new IN
 
 Example, without names, symbols and debug data:

@@ -3,7 +3,7 @@ ghost use Rattle.std.specs.Prelude.{◌≡◌, ◌≢◌, ◌+◌, IfErr, IfOk, 
 ghost use Rattle.hunk_words.specs.declared.fault.Fault.{Fault};
 ghost use Rattle.hunk_commands.specs.declared.fault.RunFault.TheVariants.{HexText, Memory, Refused};
 ghost use Rattle.hunk_commands.specs.HexText.{ReadsHex, SpellsNone};
-ghost use Rattle.hunk_commands.specs.Inputs.{StopsAtRead};
+ghost use Rattle.hunk_commands.specs.Inputs.{StopsAtRead, TellsReading};
 ghost use Rattle.hunkinfo.specs.Inputs.{HasInput, HasListed};
 ghost use Rattle.hunkinfo.specs.Status.{TellsOutcome};
 ghost use Rattle.hunkinfo.specs.Refusals.{RefusesListing, RefusesSource};
@@ -78,6 +78,7 @@ fn list_source<R: Source, W: Sink>(
         → IfErr result (λ fault. fault ≡ Memory) }
     ensures read { IfErr result
         (StopsAtRead (R.left source.old) (R.left source.new) (R.failed source.new)) }
+    ensures tells_read { TellsReading (R.failed source.old) (R.failed source.new) result }
     ensures refused { IfErr result (λ fault. (refusal : Fault) → fault ≡ Refused refusal
         → RefusesSource hex listing refusal (R.left source.old) (R.left source.new)
         FILE_BYTES (R.failed source.new)) }
@@ -99,6 +100,7 @@ fn spelled_bytes<R: Source>(alloc: Global, source: &mut R) -> Result<Vec<u8>, Ru
     ensures refuses { IfErr result
         (λ fault. ReadsNoText fault (R.left source.old) (R.left source.new) FILE_BYTES
         (R.failed source.new)) }
+    ensures tells_read { TellsReading (R.failed source.old) (R.failed source.new) result }
 {
     match read_hex(alloc, source, FILE_BYTES + 1) {
         Err(RunFault::Refused(Fault { place: _, reason })) => Err(RunFault::Refused(Fault {
@@ -127,6 +129,7 @@ fn list_bytes<R: Source, W: Sink>(
         → IfErr result (λ fault. fault ≡ Memory) }
     ensures read { IfErr result
         (StopsAtRead (R.left source.old) (R.left source.new) (R.failed source.new)) }
+    ensures tells_read { TellsReading (R.failed source.old) (R.failed source.new) result }
     ensures refused { IfErr result (λ fault. (refusal : Fault) → fault ≡ Refused refusal
         → RefusesListing listing refusal (R.left source.old) (R.left source.new)
         FILE_BYTES (R.failed source.new)) }

@@ -23,7 +23,8 @@ pub(super) struct Given<'a> {
 ///
 /// A file is read as it was given, whatever is written to its name. The file `denied` can't be
 /// created, the file `full` takes 6 bytes, the file `lost` has lost at the end what it took, and
-/// the files `pipe` and `terminal` have nothing to keep.
+/// the files `pipe` and `terminal` have nothing to keep. Each name is told to be a regular file, of
+/// no number.
 #[derive(Drop)]
 pub(super) struct Made<'a> {
     pub given: Given<'a>,
@@ -172,7 +173,7 @@ impl<'a> Files for Made<'a> {
     }
 
     fn metadata(&self, _path: &str) -> io::Result<Metadata> {
-        unsupported()
+        Ok(Metadata::of_file(0))
     }
 
     fn symlink_metadata(&self, _path: &str) -> io::Result<Metadata> {

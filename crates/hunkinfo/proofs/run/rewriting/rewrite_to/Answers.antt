@@ -1,8 +1,7 @@
-use Rattle.std.proofs.Common.{rules}
-use Rattle.hunkinfo.proofs.Telling.{only_writing}
+use Rattle.hunkinfo.proofs.Telling.{writes_since}
 use Rattle.hunkinfo.proofs.run.rewriting.rewrite_to.Goals as goal
 
-pub returns-in_err-done-clause-succeeds : goal.returns-in_err-done-clause-succeeds
-returns-in_err-done-clause-succeeds g c = λ has reads sound.
-    let only = only_writing _ c.new-writer.result c.rewrite.new.w c.in_err-done.field-0.0 c.in_err-done.ensures.reads_then_puts.fails (search rules) (λ writes. c.in_err-done.ensures.reads_then_puts.succeeds has reads writes) in
-    search rules
+pub returns-in-Ok-settle-clause-rewrites : goal.returns-in-Ok-settle-clause-rewrites
+returns-in-Ok-settle-clause-rewrites g c =
+    writes_since _ _ _ _ c.new-writer.result.sink c.rewrite-answer.new.w.sink c.into_inner-out.result c.args.out c.settle.new.self _
+    c.in-Ok.ensures.rewrites c.new-writer.ensures.holds c.into_inner-out.ensures c.settle.ensures.same
