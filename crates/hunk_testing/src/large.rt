@@ -13,7 +13,7 @@ pub const HUNKS: u32 = 65_536;
 pub type Run = (u32, &'static [u32]);
 
 /// Empty DEBUG blocks.
-pub const BLOCKS: &[Run] = &[(MANY, &[0x3F1, 0])];
+const BLOCKS: &[Run] = &[(MANY, &[0x3F1, 0])];
 
 /// A RELOC32 of groups, each of the offset 0.
 pub const GROUPS: &[Run] = &[(1, &[0x3EC]), (MANY, &[1, 1, 0]), (1, &[0])];

@@ -3,7 +3,6 @@
 #![tactic(auto)]
 
 mod changes;
-mod computed;
 pub mod examples;
 mod granting;
 mod growths;
@@ -14,7 +13,6 @@ mod writers;
 pub use crate::changes::{
     CHANGES, Change, before_end, changed, changed_in, ends_within_debug, with_long,
 };
-pub use crate::computed::{Computed, Longs};
 pub use crate::granting::answers_one_by_one;
 pub use crate::growths::{
     Held, all_but, all_memory, answers_growth_by_growth, largest_piece, left_beside, memory_ends,

@@ -6,7 +6,7 @@ use crate::tests::headers::{Counted, came_back, declared};
 use hunk_files::Row;
 use hunk_scatter::{Limits, Listed, Packed, Placer, load};
 use hunk_testing::examples::{MOST_HUNKS, TWO_HUNKS};
-use hunk_testing::{Computed, Fed, Longs, Then, all_but, all_memory, memory_ends, spelled};
+use hunk_testing::{Fed, Then, all_but, all_memory, before_end, memory_ends, spelled};
 use hunk_words::{LoadFault, Reason};
 use std::alloc::{AllocError, Global};
 use std::cell::Cell;
@@ -128,33 +128,14 @@ fn no_reserve(rt: HostRuntime) -> Result<(), Fail> {
 }
 
 /// Example 1 with a DEBUG block of 262,144 zero longwords before its END.
-#[derive(Drop)]
-struct EndingInZeros;
-
-/// Its longwords up to the zeros, and how many it has.
-const FRONT: [u32; 11] = [0x3F3, 0, 1, 0, 0, 1, 0x3E9, 1, 0x4E75_4E71, 0x3F1, 0x40000];
-
-const COUNT: u32 = 262_156;
-
-impl Longs for EndingInZeros {
-    fn count(&self) -> u32 {
-        COUNT
-    }
-
-    fn long(&self, at: u32) -> u32 {
-        match FRONT.get(at as usize) {
-            Some(long) => *long,
-            None if at == COUNT - 1 => 0x3F2,
-            None => 0,
-        }
-    }
+fn ending_in_zeros(alloc: Global) -> Result<Vec<u8>, AllocError> {
+    let mut longs = [0x3F1, 0x40000].to_vec(alloc)?;
+    longs.resize(0x40002, 0)?;
+    before_end(alloc, &longs)
 }
 
-/// The bytes of the image of the computed file, and whether a further growth is refused beside it.
-fn loads_computed(
-    alloc: Global,
-    source: &mut Computed<EndingInZeros>,
-) -> (Result<u64, LoadFault>, bool) {
+/// The bytes of the image of the file, and whether a further growth is refused beside it.
+fn loads_file(alloc: Global, source: &mut Fed<'_>) -> (Result<u64, LoadFault>, bool) {
     let limits = Limits {
         budget: 1_000,
         file_bytes: 2_000_000,
@@ -168,10 +149,10 @@ fn loads_computed(
 /// The same while there is no memory but a room for the rows and one for the store.
 fn loads_in_two_rooms(
     alloc: Global,
-    source: &mut Computed<EndingInZeros>,
+    source: &mut Fed<'_>,
 ) -> Result<(Result<u64, LoadFault>, bool), AllocError> {
     let held = all_but(alloc, &[ROWS, 4])?;
-    let answer = loads_computed(alloc, source);
+    let answer = loads_file(alloc, source);
     drop(held);
     Ok(answer)
 }
@@ -183,7 +164,8 @@ fn two_growths(rt: HostRuntime) -> Result<(), Fail> {
     if !memory_ends(&rt)? {
         return Ok(());
     }
-    let mut source = Computed::new(EndingInZeros);
+    let bytes = ending_in_zeros(rt.alloc())?;
+    let mut source = Fed::new(&bytes, 256, Then::Fails);
     let answer = loads_in_two_rooms(rt.alloc(), &mut source)?;
     assert_eq!(rt; answer, (Ok(4), true));
     assert_eq!(rt; source.given(), 1_048_624);
