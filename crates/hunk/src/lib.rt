@@ -16,8 +16,6 @@ mod reason;
 mod stream;
 mod strip;
 mod table;
-#[cfg(test)]
-mod tests;
 
 pub use crate::answer::Answer;
 pub use crate::check::{FindingRow, hunk_check};

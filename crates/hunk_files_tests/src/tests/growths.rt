@@ -127,22 +127,21 @@ fn object_blocks(alloc: Global, file: &ObjectFile) -> Result<Vec<usize>, AllocEr
     Ok(blocks)
 }
 
-/// How many blocks each hunk of the load file has once it was stripped with no memory left.
-fn stripped_load(alloc: Global, bytes: &[u8]) -> Result<Vec<usize>, Fail> {
-    let (file, _) = LoadFile::decode(alloc, bytes)?;
-    let held = all_but(alloc, &[])?;
-    let file = file.strip();
-    drop(held);
-    Ok(load_blocks(alloc, &file)?)
+/// How many blocks each hunk of the file has.
+fn blocks(alloc: Global, file: &HunkFile) -> Result<Vec<usize>, AllocError> {
+    match file {
+        HunkFile::Load { file, rest: _ } => load_blocks(alloc, file),
+        HunkFile::Object(file) => object_blocks(alloc, file),
+    }
 }
 
-/// The same of an object file.
-fn stripped_object(alloc: Global, bytes: &[u8]) -> Result<Vec<usize>, Fail> {
-    let file = ObjectFile::decode(alloc, bytes)?;
+/// How many blocks each hunk of the file has once it was stripped with no memory left.
+fn stripped(alloc: Global, bytes: &[u8]) -> Result<Vec<usize>, Fail> {
+    let file = HunkFile::decode(alloc, bytes)?;
     let held = all_but(alloc, &[])?;
     let file = file.strip();
     drop(held);
-    Ok(object_blocks(alloc, &file)?)
+    Ok(blocks(alloc, &file)?)
 }
 
 /// Stripping takes no memory, and leaves nothing in for want of it.
@@ -151,37 +150,15 @@ fn none_of_a_strip(rt: HostRuntime) -> Result<(), Fail> {
     if !memory_ends(&rt)? {
         return Ok(());
     }
-    let load = stripped_load(rt.alloc(), &spelled(rt.alloc(), examples::FIVE_HUNKS)?)?;
+    let load = stripped(rt.alloc(), &spelled(rt.alloc(), examples::FIVE_HUNKS)?)?;
     assert_eq!(rt; load.as_slice(), [3, 2, 2, 2, 2].as_slice());
-    let object = stripped_object(rt.alloc(), &spelled(rt.alloc(), examples::TWO_UNITS)?)?;
+    let object = stripped(rt.alloc(), &spelled(rt.alloc(), examples::TWO_UNITS)?)?;
     assert_eq!(rt; object.as_slice(), [4, 2, 2].as_slice());
     Ok(())
 }
 
-/// What is written of the load file with no memory left.
-fn load_written(alloc: Global, bytes: &[u8]) -> Result<Narrow, Fail> {
-    let (file, _) = LoadFile::decode(alloc, bytes)?;
-    let mut writer = wide();
-    let held = all_but(alloc, &[])?;
-    let answer = file.encode(&mut writer);
-    drop(held);
-    answer?;
-    Ok(writer.into_inner().into_inner())
-}
-
-/// The same of an object file.
-fn object_written(alloc: Global, bytes: &[u8]) -> Result<Narrow, Fail> {
-    let file = ObjectFile::decode(alloc, bytes)?;
-    let mut writer = wide();
-    let held = all_but(alloc, &[])?;
-    let answer = file.encode(&mut writer);
-    drop(held);
-    answer?;
-    Ok(writer.into_inner().into_inner())
-}
-
-/// The same of a file of either kind.
-fn either_written(alloc: Global, bytes: &[u8]) -> Result<Narrow, Fail> {
+/// What is written of the file with no memory left.
+fn written(alloc: Global, bytes: &[u8]) -> Result<Narrow, Fail> {
     let file = HunkFile::decode(alloc, bytes)?;
     let mut writer = wide();
     let held = all_but(alloc, &[])?;
@@ -191,33 +168,20 @@ fn either_written(alloc: Global, bytes: &[u8]) -> Result<Narrow, Fail> {
     Ok(writer.into_inner().into_inner())
 }
 
-/// Sees that the load file is written so, by itself and as a file of either kind.
-fn expect_load_written(rt: &impl Abort, alloc: Global, text: &str) -> Result<(), Fail> {
-    let bytes = spelled(alloc, text)?;
-    assert_eq!(rt; load_written(alloc, &bytes)?.taken(), bytes.as_slice());
-    assert_eq!(rt; either_written(alloc, &bytes)?.taken(), bytes.as_slice());
-    Ok(())
-}
-
-/// Sees the same of an object file.
-fn expect_object_written(rt: &impl Abort, alloc: Global, text: &str) -> Result<(), Fail> {
-    let bytes = spelled(alloc, text)?;
-    assert_eq!(rt; object_written(alloc, &bytes)?.taken(), bytes.as_slice());
-    assert_eq!(rt; either_written(alloc, &bytes)?.taken(), bytes.as_slice());
-    Ok(())
-}
-
 /// Writing takes no memory: a page stands on the stack.
 #[test]
 fn none_of_a_text(rt: HostRuntime) -> Result<(), Fail> {
     if !memory_ends(&rt)? {
         return Ok(());
     }
-    for text in [examples::ONE_HUNK, examples::FIVE_HUNKS] {
-        expect_load_written(&rt, rt.alloc(), text)?;
-    }
-    for text in [examples::EMPTY_UNIT, examples::TWO_UNITS] {
-        expect_object_written(&rt, rt.alloc(), text)?;
+    for text in [
+        examples::ONE_HUNK,
+        examples::FIVE_HUNKS,
+        examples::EMPTY_UNIT,
+        examples::TWO_UNITS,
+    ] {
+        let bytes = spelled(rt.alloc(), text)?;
+        assert_eq!(rt; written(rt.alloc(), &bytes)?.taken(), bytes.as_slice());
     }
     Ok(())
 }

@@ -74,7 +74,7 @@ fn refused_as_announced(rt: HostRuntime) -> Result<(), Fail> {
 }
 
 /// The file that the bytes are, stripped where that is asked, written again; and what follows it.
-fn rewritten(alloc: Global, bytes: &[u8], strip: bool) -> Option<(Vec<u8>, u64)> {
+pub(super) fn rewritten(alloc: Global, bytes: &[u8], strip: bool) -> Option<(Vec<u8>, u64)> {
     let Ok(file) = HunkFile::decode(alloc, bytes) else {
         return None;
     };
@@ -88,7 +88,7 @@ fn rewritten(alloc: Global, bytes: &[u8], strip: bool) -> Option<(Vec<u8>, u64)>
 }
 
 /// Sees that this text is written of the file that the bytes are, and that this many bytes follow it.
-fn expect(rt: &impl Abort, alloc: Global, input: (&[u8], bool), text: &[u8], rest: u64) {
+pub(super) fn expect(rt: &impl Abort, alloc: Global, input: (&[u8], bool), text: &[u8], rest: u64) {
     let (bytes, strip) = input;
     let again = rewritten(alloc, bytes, strip);
     assert!(rt; again.is_some_and(|again| again.0.as_slice() == text && again.1 == rest));

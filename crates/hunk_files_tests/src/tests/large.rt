@@ -1,31 +1,15 @@
 //! Files with many of each part, and large ones: no call gives up on them.
 
-use hunk_files::{HunkFile, LoadFile, ObjectFile};
+use crate::tests::hunk_file::{expect, rewritten};
+use hunk_files::{LoadFile, ObjectFile};
 use hunk_testing::large::{
     HUNKS, LARGE, LOAD_FILE, MANY, OBJECT_FILE, Run, SHORT_OF_64_MIB, STRIPPED_LOAD_FILE,
     STRIPPED_OBJECT_FILE, bytes_of_runs, large_load_file, large_object_file,
 };
 use hunk_testing::{bytes_of, spelled};
-use hunk_words::{FromWrite, LongWriter};
 use std::alloc::Global;
 use std::process::Abort;
 use std::test::Fail;
-
-/// Sees that this text is written of the file that the bytes are, which is stripped first where that is asked.
-fn expect_text(
-    rt: &impl Abort,
-    alloc: Global,
-    bytes: &[u8],
-    strip: bool,
-    text: &[u8],
-) -> Result<(), Fail> {
-    let file = HunkFile::decode(alloc, bytes)?;
-    let file = if strip { file.strip() } else { file };
-    let mut writer = LongWriter::new(FromWrite::new(Vec::<u8>::new(alloc)));
-    assert!(rt; file.encode(&mut writer).is_ok());
-    assert!(rt; writer.into_inner().into_inner().as_slice() == text);
-    Ok(())
-}
 
 /// Files of many parts, and what stripping leaves of them.
 const FILES: &[(&[&[Run]], &[&[Run]])] = &[
@@ -38,8 +22,8 @@ fn many_parts_again(rt: HostRuntime) -> Result<(), Fail> {
     let alloc = rt.alloc();
     for (whole, left) in FILES {
         let bytes = bytes_of_runs(alloc, whole)?;
-        expect_text(&rt, alloc, &bytes, false, &bytes)?;
-        expect_text(&rt, alloc, &bytes, true, &bytes_of_runs(alloc, left)?)?;
+        expect(&rt, alloc, (&bytes, false), &bytes, 0);
+        expect(&rt, alloc, (&bytes, true), &bytes_of_runs(alloc, left)?, 0);
     }
     Ok(())
 }
@@ -73,19 +57,16 @@ fn many_findings(rt: HostRuntime) -> Result<(), Fail> {
 }
 
 /// Sees that the file that the bytes are is written in as many bytes, stripped too: none of it can be left out.
-fn expect_length(rt: &impl Abort, alloc: Global, bytes: &[u8]) -> Result<(), Fail> {
-    let file = HunkFile::decode(alloc, bytes)?;
-    let text = Vec::with_capacity(alloc, bytes.len())?;
-    let mut writer = LongWriter::new(FromWrite::new(text));
-    assert!(rt; file.strip().encode(&mut writer).is_ok());
-    assert_eq!(rt; writer.into_inner().into_inner().len(), bytes.len());
-    Ok(())
+fn expect_length(rt: &impl Abort, alloc: Global, bytes: &[u8]) {
+    let again = rewritten(alloc, bytes, true);
+    assert!(rt; again.is_some_and(|again| again.0.len() == bytes.len()));
 }
 
 #[test]
 fn large_files_again(rt: HostRuntime) -> Result<(), Fail> {
-    expect_length(&rt, rt.alloc(), &large_load_file(rt.alloc())?)?;
-    expect_length(&rt, rt.alloc(), &large_object_file(rt.alloc())?)
+    expect_length(&rt, rt.alloc(), &large_load_file(rt.alloc())?);
+    expect_length(&rt, rt.alloc(), &large_object_file(rt.alloc())?);
+    Ok(())
 }
 
 /// Sees that the load file's hunk has this many bytes.
