@@ -1,7 +1,7 @@
 """What the gate's scripts know of the crates that `rt ci` has proved: rattle is called for one of them over the libraries below it as
 they stand in out/, so that no proof of theirs is made again.
 
-built.py CRATE FILE: proves the static library of this name and builds it, as FILE."""
+built.py CRATE: proves the static library of this name and builds it, over what out/ keeps of an earlier proof of it."""
 
 import pathlib
 import shutil
@@ -49,7 +49,17 @@ def rattle(verb, crate, *words):
     return [*map(str, made), *words, "src/main.rt" if main.exists() else "src/lib.rt"]
 
 
+def build_static(crate):
+    """Proves the static library of this name and builds it, over what an earlier build has kept, and gives the folder that keeps it."""
+    folder = ROOT / "crates" / crate
+    kept = folder / "out/incremental"
+    kept.mkdir(parents=True, exist_ok=True)
+    words = ["--toolchain", str(KIT / "toolchain"), "--backend", "llvm", "--incremental", str(kept), "-o", f"out/lib{crate}.a"]
+    ran = subprocess.run(rattle("build", crate, *words), cwd=folder, stdin=subprocess.DEVNULL, capture_output=True, text=True)
+    if ran.returncode:
+        sys.exit(ran.stdout + ran.stderr)
+    return kept
+
+
 if __name__ == "__main__":
-    crate, file = sys.argv[1:]
-    words = ["--toolchain", str(KIT / "toolchain"), "--backend", "llvm", "-o", str(pathlib.Path(file).resolve())]
-    sys.exit(subprocess.run(rattle("build", crate, *words), cwd=ROOT / "crates" / crate, stdin=subprocess.DEVNULL).returncode)
+    build_static(*sys.argv[1:])

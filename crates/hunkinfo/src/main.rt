@@ -1,9 +1,6 @@
 //! The program hunkinfo: lists, checks, relocates and rewrites AmigaDOS hunk files.
 #![tactic(auto)]
 
-mod run;
-mod to_file;
-
 use hunk_orders::OrderFault;
 use hunk_words::{FromWrite, LongWriter};
 use std::process::ExitCode;
@@ -23,11 +20,8 @@ fn words_of(rt: &HostRuntime) -> Result<Vec<String>, OrderFault> {
 fn main(rt: HostRuntime) -> ExitCode {
     let mut out = LongWriter::new(FromWrite::new(io::writer(&rt)));
     let status = match words_of(&rt) {
-        Ok(words) => run::run(&rt, rt.alloc(), words.as_slice(), &mut out),
-        Err(fault) => run::refuse(&fault, &mut out),
+        Ok(words) => hunk_run::run(&rt, rt.alloc(), words.as_slice(), &mut out),
+        Err(fault) => hunk_run::refuse(&fault, &mut out),
     };
     ExitCode::from(status)
 }
-
-#[cfg(test)]
-mod tests;

@@ -1,0 +1,198 @@
+//! A run of the program hunkinfo: the words are read, what they ask for is done, and one text is printed, once.
+#![tactic(auto)]
+
+ghost use Rattle.std.specs.Prelude.{◌≡◌, ◌≤◌, map, true, Some, None, IfErr};
+ghost use Rattle.std.specs.String.{string_bytes};
+ghost use Rattle.clap.specs.Words.{takes};
+ghost use Rattle.clap.specs.Kinds.{IsAmong};
+ghost use Rattle.clap.specs.Faults.{fault_of};
+ghost use Rattle.clap.specs.declared.error.kind.ErrorKind.TheVariants.{DisplayHelp};
+ghost use Rattle.hunk_commands.specs.Faults.{IsWrite};
+ghost use Rattle.hunk_orders.specs.declared.asked.Order.{Order};
+ghost use Rattle.hunk_run.specs.Status.{EndsListing, EndsRewriting, PrintsFault};
+ghost use Rattle.hunk_run.specs.Status.{PrintsOrFails, TellsStatus};
+ghost use Rattle.hunk_orders.specs.Command.{hunkinfo};
+ghost use Rattle.hunk_orders.specs.Line.{order_of, words_read};
+ghost use Rattle.hunk_run.specs.Runs.{IsOrderDone, Lists, PrintsNoHelp, PrintsRefusal};
+
+mod listing;
+mod rewriting;
+mod to_file;
+
+use crate::listing::{Listing, list_file};
+use crate::rewriting::{rewrite_file, tell};
+use hunk_commands::{OUT_OF_MEMORY, Rewritten, RunFault};
+use hunk_orders::{FileName, Order, OrderFault, order};
+use hunk_words::{LongWriter, Sink};
+use std::alloc::Global;
+use std::rt::Files;
+
+/// The most bytes that are read of an input, and the most that hexadecimal text may have.
+const FILE_BYTES: u64 = 67_108_864;
+
+/// The exit status where all is done, and after help.
+const DONE: u8 = 0;
+
+/// The exit status where the command line is rejected.
+const LINE_REFUSED: u8 = 2;
+
+/// Does what the words ask for, of which the first is the program's name, and gives the exit
+/// status.
+///
+/// 0 where it is done, and after help; 1 where the input is rejected, or `validate` found
+/// something; 2 where the command line is rejected; 3 where reading or writing failed; 4 where
+/// memory was refused. Where `out` fails, nothing more is written. `out` has written nothing
+/// before.
+pub fn run<T: Files + Input, W: Sink>(
+    rt: &T,
+    alloc: Global,
+    words: &[String],
+    out: &mut LongWriter<W>,
+) -> u8
+    requires { out.old.written ≡ 0 }
+    ensures bound { result ≤ 4 }
+    ensures tells { TellsStatus W.taken W.failed out.old out.new result }
+
+    // Where clap takes the words: they are an order, which is done where the status is 0, or they
+    // are refused.
+    ensures done { (order : Order) → takes hunkinfo (words_read (map string_bytes words.now)) ≡ true
+        → order_of (map string_bytes words.now) ≡ Some order → result ≡ 0
+        → IsOrderDone W.taken out.old out.new order }
+    ensures refused { takes hunkinfo (words_read (map string_bytes words.now)) ≡ true
+        → order_of (map string_bytes words.now) ≡ None
+        → PrintsNoHelp W.taken W.failed out.old out.new result }
+
+    // Where no help is asked for, the status is 0 only where the words are an order, and it is
+    // done.
+    ensures heard { (IsAmong DisplayHelp
+        (fault_of hunkinfo (words_read (map string_bytes words.now))) → ⊥) → result ≡ 0
+        → (order : Order) × (order_of (map string_bytes words.now) ≡ Some order)
+        × IsOrderDone W.taken out.old out.new order }
+{
+    match order(alloc, words) {
+        Ok(order) => obey(rt, alloc, &order, out),
+        Err(fault) => refuse(&fault, out),
+    }
+}
+
+/// Prints why there is no order, and gives the exit status.
+pub fn refuse<W: Sink>(fault: &OrderFault, out: &mut LongWriter<W>) -> u8
+    requires { out.old.written ≡ 0 }
+    ensures bound { result ≤ 4 }
+    ensures printed { PrintsRefusal W.taken W.failed out.old out.new fault.now result }
+    ensures tells { TellsStatus W.taken W.failed out.old out.new result }
+{
+    match fault {
+        OrderFault::Line => print("command line refused\n", LINE_REFUSED, out),
+        OrderFault::Help(text) => print(text.as_str(), DONE, out),
+        OrderFault::Memory => print(OUT_OF_MEMORY, RunFault::Memory.status(), out),
+    }
+}
+
+/// Does what the order asks for, and gives the exit status.
+fn obey<T: Files + Input, W: Sink>(
+    rt: &T,
+    alloc: Global,
+    order: &Order,
+    out: &mut LongWriter<W>,
+) -> u8
+    requires { out.old.written ≡ 0 }
+    ensures bound { result ≤ 4 }
+    ensures done { result ≡ 0 → IsOrderDone W.taken out.old out.new order.now }
+    ensures tells { TellsStatus W.taken W.failed out.old out.new result }
+{
+    match order {
+        Order::Show { hex, file } => list(rt, alloc, Listing::Show, *hex, file.as_ref(), out),
+        Order::Validate { hex, file } => {
+            list(rt, alloc, Listing::Validate, *hex, file.as_ref(), out)
+        }
+        Order::Relocate {
+            hex,
+            base,
+            budget,
+            file,
+        } => {
+            let listing = Listing::Relocate {
+                base: *base,
+                budget: *budget,
+            };
+            list(rt, alloc, listing, *hex, file.as_ref(), out)
+        }
+        Order::Rewrite {
+            strip,
+            input,
+            output,
+        } => end_rewriting(alloc, rewrite_file(rt, alloc, input, output, *strip), out),
+    }
+}
+
+/// Prints what is listed, or why it can't be.
+fn list<T: Files + Input, W: Sink>(
+    rt: &T,
+    alloc: Global,
+    listing: Listing,
+    hex: bool,
+    file: Option<&FileName>,
+    out: &mut LongWriter<W>,
+) -> u8
+    requires { out.old.written ≡ 0 }
+    ensures bound { result ≤ 4 }
+    ensures done { result ≡ 0 → Lists W.taken out.old out.new listing }
+    ensures tells { TellsStatus W.taken W.failed out.old out.new result }
+{
+    let answer = list_file(rt, alloc, listing, file, hex, out);
+    end_listing(alloc, answer, out)
+}
+
+/// Ends the run that was to list an input, and gives the exit status.
+fn end_listing<W: Sink>(alloc: Global, answer: Result<u8, RunFault>, out: &mut LongWriter<W>) -> u8
+    requires { IfErr answer (λ fault. ¬ IsWrite fault → out.old.written ≡ 0) }
+    ensures { EndsListing W.taken W.failed out.old out.new answer result }
+{
+    match answer {
+        Ok(status) => status,
+        // The output failed, so nothing more is written.
+        Err(fault @ RunFault::Write { .. }) => fault.status(),
+        Err(fault) => report(alloc, fault, out),
+    }
+}
+
+/// Ends the run that was to rewrite a file, and gives the exit status.
+fn end_rewriting<W: Sink>(
+    alloc: Global,
+    answer: Result<Rewritten, RunFault>,
+    out: &mut LongWriter<W>,
+) -> u8
+    requires { out.old.written ≡ 0 }
+    ensures { EndsRewriting W.taken W.failed out.old out.new answer result }
+{
+    match answer {
+        Ok(done) => tell(done, out),
+        Err(fault) => report(alloc, fault, out),
+    }
+}
+
+/// Prints the fault's line, or that of memory where there is none for it, and gives the status of
+/// what is printed.
+fn report<W: Sink>(alloc: Global, fault: RunFault, out: &mut LongWriter<W>) -> u8
+    requires { out.old.written ≡ 0 }
+    ensures { PrintsFault W.taken W.failed out.old out.new fault result }
+{
+    match format!(in alloc; "{fault}\n") {
+        Ok(line) => print(line.as_str(), fault.status(), out),
+        Err(_) => print(OUT_OF_MEMORY, RunFault::Memory.status(), out),
+    }
+}
+
+/// Prints the text, the first on this writer, and gives the status, which is 3 where that fails.
+fn print<W: Sink>(text: &str, status: u8, out: &mut LongWriter<W>) -> u8
+    requires unwritten { out.old.written ≡ 0 }
+    requires status { status ≤ 4 }
+    ensures bound { result ≤ 4 }
+    ensures printed { PrintsOrFails W.taken W.failed out.old out.new text.now status result }
+{
+    match out.put_bytes(text.as_bytes()) {
+        Ok(()) => status,
+        Err(fault) => RunFault::from(fault).status(),
+    }
+}

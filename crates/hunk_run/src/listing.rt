@@ -1,0 +1,156 @@
+//! The commands that print what they find in one input.
+ghost use Rattle.std.specs.Prelude.{◌≡◌, ◌≢◌, ◌+◌, IfErr, IfOk, false};
+ghost use Rattle.hunk_words.specs.declared.fault.Fault.{Fault};
+ghost use Rattle.hunk_commands.specs.declared.fault.RunFault.TheVariants.{HexText, Memory, Refused};
+ghost use Rattle.hunk_commands.specs.HexText.{ReadsHex, SpellsNone};
+ghost use Rattle.hunk_commands.specs.Inputs.{StopsAtRead, TellsReading};
+ghost use Rattle.hunk_run.specs.Inputs.{HasInput, HasListed};
+ghost use Rattle.hunk_run.specs.Status.{TellsOutcome};
+ghost use Rattle.hunk_run.specs.Refusals.{RefusesListing, RefusesSource};
+ghost use Rattle.hunk_run.specs.Runs.{Lists, ListsSource, ReadsNoText};
+
+use crate::{DONE, FILE_BYTES};
+use hunk_commands::{RunFault, read_hex, relocate, show, validate};
+use hunk_orders::FileName;
+use hunk_scatter::Limits;
+use hunk_words::{Fault, FromRead, FromSlice, LongWriter, Sink, Source};
+use std::alloc::Global;
+use std::fs;
+use std::io::BufReader;
+use std::rt::Files;
+
+/// The exit status where `validate` found something.
+const FOUND: u8 = 1;
+
+/// What is printed of an input.
+#[derive(Clone, Copy, Debug)]
+pub(crate) enum Listing {
+    /// The hunks and blocks.
+    Show,
+    /// The findings.
+    Validate,
+    /// The segments, of which the first lies at `base`, with at most `budget` bytes together.
+    Relocate { base: u32, budget: u64 },
+}
+
+/// Prints it of the file, or of standard input, and gives the exit status: 1 where something was
+/// found. A file is read through a buffer, since little may be asked for at a time; standard input
+/// is not, so that what follows stays for the next reader.
+pub(crate) fn list_file<T: Files + Input, W: Sink>(
+    rt: &T,
+    alloc: Global,
+    listing: Listing,
+    file: Option<&FileName>,
+    hex: bool,
+    out: &mut LongWriter<W>,
+) -> Result<u8, RunFault>
+    requires { out.old.written ≡ 0 }
+    ensures outcome { TellsOutcome W.taken W.failed out.old out.new result }
+    ensures done { IfOk result (λ status. status ≡ 0 → Lists W.taken out.old out.new listing) }
+{
+    let Some(name) = file else {
+        return list_source(alloc, listing, &mut FromRead::new(rt.reader()), hex, out);
+    };
+    let Ok(file) = fs::open(rt, name.as_str()) else {
+        return Err(RunFault::Read { place: 0 });
+    };
+    let Ok(reader) = BufReader::new(alloc, file) else {
+        return Err(RunFault::Memory);
+    };
+    list_source(alloc, listing, &mut FromRead::new(reader), hex, out)
+}
+
+/// The same of the bytes of the source, or of those that its text spells.
+fn list_source<R: Source, W: Sink>(
+    alloc: Global,
+    listing: Listing,
+    source: &mut R,
+    hex: bool,
+    out: &mut LongWriter<W>,
+) -> Result<u8, RunFault>
+    requires { out.old.written ≡ 0 }
+    ensures outcome { TellsOutcome W.taken W.failed out.old out.new result }
+    ensures done { IfOk result
+        (λ status. status ≡ 0
+        → ListsSource hex listing (R.left source.old) (R.left source.new) W.taken out.old out.new) }
+    ensures succeeds { HasInput hex listing (R.left source.old) FILE_BYTES
+        → R.failed source.new ≡ false → W.failed out.new.sink ≡ false
+        → IfErr result (λ fault. fault ≡ Memory) }
+    ensures read { IfErr result
+        (StopsAtRead (R.left source.old) (R.left source.new) (R.failed source.new)) }
+    ensures tells_read { TellsReading (R.failed source.old) (R.failed source.new) result }
+    ensures refused { IfErr result (λ fault. (refusal : Fault) → fault ≡ Refused refusal
+        → RefusesSource hex listing refusal (R.left source.old) (R.left source.new)
+        FILE_BYTES (R.failed source.new)) }
+    ensures hex_text { IfErr result
+        (λ fault. fault ≡ HexText
+        → SpellsNone (R.left source.old) (R.left source.new) (FILE_BYTES + 1)) }
+{
+    if !hex {
+        return list_bytes(alloc, listing, source, out);
+    }
+    let bytes = spelled_bytes(alloc, source)?;
+    list_bytes(alloc, listing, &mut FromSlice::new(bytes.as_slice()), out)
+}
+
+/// The bytes that all of the source's text spells, which may have `FILE_BYTES` bytes and no more.
+fn spelled_bytes<R: Source>(alloc: Global, source: &mut R) -> Result<Vec<u8>, RunFault>
+    ensures spelled { IfOk result
+        (λ bytes. ReadsHex (R.left source.old) (R.left source.new) (FILE_BYTES + 1) bytes.items) }
+    ensures refuses { IfErr result
+        (λ fault. ReadsNoText fault (R.left source.old) (R.left source.new) FILE_BYTES
+        (R.failed source.new)) }
+    ensures tells_read { TellsReading (R.failed source.old) (R.failed source.new) result }
+{
+    match read_hex(alloc, source, FILE_BYTES + 1) {
+        Err(RunFault::Refused(Fault { place: _, reason })) => Err(RunFault::Refused(Fault {
+            place: FILE_BYTES,
+            reason,
+        })),
+        read => read,
+    }
+}
+
+/// The same of the bytes that the source has.
+fn list_bytes<R: Source, W: Sink>(
+    alloc: Global,
+    listing: Listing,
+    source: &mut R,
+    out: &mut LongWriter<W>,
+) -> Result<u8, RunFault>
+    requires { out.old.written ≡ 0 }
+    ensures outcome { TellsOutcome W.taken W.failed out.old out.new result }
+    ensures done { IfOk result
+        (λ status. status ≡ 0
+        → ListsSource false listing (R.left source.old) (R.left source.new)
+        W.taken out.old out.new) }
+    ensures succeeds { HasListed listing (R.left source.old) FILE_BYTES
+        → R.failed source.new ≡ false → W.failed out.new.sink ≡ false
+        → IfErr result (λ fault. fault ≡ Memory) }
+    ensures read { IfErr result
+        (StopsAtRead (R.left source.old) (R.left source.new) (R.failed source.new)) }
+    ensures tells_read { TellsReading (R.failed source.old) (R.failed source.new) result }
+    ensures refused { IfErr result (λ fault. (refusal : Fault) → fault ≡ Refused refusal
+        → RefusesListing listing refusal (R.left source.old) (R.left source.new)
+        FILE_BYTES (R.failed source.new)) }
+    ensures hex_text { IfErr result (λ fault. fault ≢ HexText) }
+{
+    match listing {
+        Listing::Show => {
+            show(alloc, source, out, FILE_BYTES)?;
+            Ok(DONE)
+        }
+        Listing::Validate => match validate(alloc, source, out, FILE_BYTES)? {
+            0 => Ok(DONE),
+            _ => Ok(FOUND),
+        },
+        Listing::Relocate { base, budget } => {
+            let limits = Limits {
+                budget,
+                file_bytes: FILE_BYTES,
+            };
+            relocate(alloc, source, out, limits, base)?;
+            Ok(DONE)
+        }
+    }
+}

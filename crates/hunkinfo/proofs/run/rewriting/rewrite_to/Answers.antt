@@ -1,7 +1,0 @@
-use Rattle.hunkinfo.proofs.Telling.{writes_since}
-use Rattle.hunkinfo.proofs.run.rewriting.rewrite_to.Goals as goal
-
-pub returns-in-Ok-settle-clause-rewrites : goal.returns-in-Ok-settle-clause-rewrites
-returns-in-Ok-settle-clause-rewrites g c =
-    writes_since _ _ _ _ c.new-writer.result.sink c.rewrite-answer.new.w.sink c.into_inner-out.result c.args.out c.settle.new.self _
-    c.in-Ok.ensures.rewrites c.new-writer.ensures.holds c.into_inner-out.ensures c.settle.ensures.same
