@@ -1,5 +1,7 @@
 //! What no clause says: places and reasons, images and texts from outside, refused memory, a sink
 //! that stops.
+ghost use Rattle.std.specs.Prelude.{◌≡◌, ◌<◌, ◌≤◌, ◌^◌, length};
+ghost use Rattle.hunk_files.specs.HunkFile.{file_bytes};
 
 mod answers;
 mod growths;
@@ -16,3 +18,67 @@ mod object_texts;
 mod readers;
 mod stops;
 mod writing;
+
+use hunk_files::{HunkFile, ImageFault, LoadFile, ObjectFile};
+use hunk_testing::Narrow;
+use hunk_words::{FileFault, FromWrite, LongWriter};
+use std::alloc::{AllocError, Global};
+use std::process::Abort;
+
+/// The load file that the bytes begin with.
+fn load_file<'a>(rt: &impl Abort, alloc: Global, bytes: &'a [u8]) -> LoadFile<'a> {
+    let (file, _) = LoadFile::decode(alloc, bytes).expect(rt, "no load file");
+    file
+}
+
+/// Where and why the bytes are refused as a load file, if they are.
+fn load_fault(alloc: Global, bytes: &[u8]) -> Option<FileFault> {
+    LoadFile::decode(alloc, bytes).err()
+}
+
+/// The image at these bases.
+fn image(alloc: Global, file: &LoadFile, bases: &[u32]) -> Result<Vec<u8>, ImageFault> {
+    file.image(alloc, bases)
+}
+
+/// The overlap in the first hunk.
+fn overlap(
+    rt: &impl Abort,
+    alloc: Global,
+    file: &LoadFile,
+) -> Result<Option<(u32, u32)>, AllocError> {
+    assert!(rt; file.hunks() > 0);
+    file.overlap(alloc, 0)
+}
+
+/// The object file that the bytes are.
+fn object_file<'a>(rt: &impl Abort, alloc: Global, bytes: &'a [u8]) -> ObjectFile<'a> {
+    ObjectFile::decode(alloc, bytes).expect(rt, "no object file")
+}
+
+/// Where and why the bytes are refused as an object file, if they are.
+fn object_fault(alloc: Global, bytes: &[u8]) -> Option<FileFault> {
+    ObjectFile::decode(alloc, bytes).err()
+}
+
+/// The file of either kind that the bytes are, or begin with.
+fn either_file<'a>(rt: &impl Abort, alloc: Global, bytes: &'a [u8]) -> HunkFile<'a>
+    ensures { length (file_bytes result) < 2 ^ 64 }
+{
+    HunkFile::decode(alloc, bytes).expect(rt, "no file")
+}
+
+/// The file as `strip` leaves it.
+fn stripped(file: HunkFile<'_>) -> HunkFile<'_>
+    ensures { length (file_bytes result) ≤ length (file_bytes file.entry) }
+{
+    file.strip()
+}
+
+/// What is put goes to a writer with room for this many bytes, that takes at most so many at a time, and then takes
+/// none, or fails.
+fn narrow(room: usize, way: (usize, bool)) -> LongWriter<FromWrite<Narrow>>
+    ensures { result.written ≡ 0 }
+{
+    LongWriter::new(FromWrite::new(Narrow::new(room, way.0, way.1)))
+}

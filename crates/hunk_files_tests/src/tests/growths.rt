@@ -1,5 +1,6 @@
 //! Each growth of each call refused in turn, on files of several hunks and units.
 
+use crate::tests::{either_file, image, load_file, object_file, overlap, stripped};
 use hunk_files::{HunkFile, ImageFault, LoadFile, ObjectFile};
 use hunk_testing::{
     Narrow, all_but, answers_growth_by_growth, examples, memory_ends, spelled, wide,
@@ -45,7 +46,7 @@ fn of_a_check(rt: HostRuntime) -> Result<(), Fail> {
 /// Sees that `check` of a file with six findings runs out of memory until there is enough of it, and then succeeds.
 fn expect_check(rt: &impl Abort, alloc: Global, text: &str) -> Result<(), Fail> {
     let bytes = spelled(alloc, text)?;
-    let file = ObjectFile::decode(alloc, &bytes)?;
+    let file = object_file(rt, alloc, &bytes);
     let answers = answers_growth_by_growth(alloc, || check_fault(alloc, &file))?;
     let want = [Some("out of memory"), None];
     assert_eq!(rt; answers.as_slice(), want.as_slice(), "{text}");
@@ -62,11 +63,8 @@ fn check_fault(alloc: Global, file: &ObjectFile) -> Option<&'static str> {
 }
 
 /// What is amiss with `overlap` of the first hunk, whose offsets 0 and 1 are the first that are close.
-fn overlap_fault(alloc: Global, file: &LoadFile) -> Option<&'static str> {
-    if file.hunks() == 0 {
-        return Some("no hunk");
-    }
-    match file.overlap(alloc, 0) {
+fn overlap_fault(rt: &impl Abort, alloc: Global, file: &LoadFile) -> Option<&'static str> {
+    match overlap(rt, alloc, file) {
         Ok(Some((0, 1))) => None,
         Ok(_) => Some("another pair"),
         Err(_) => Some("out of memory"),
@@ -74,19 +72,24 @@ fn overlap_fault(alloc: Global, file: &LoadFile) -> Option<&'static str> {
 }
 
 /// What `overlap` of the first hunk answers growth by growth.
-fn overlap_answers(alloc: Global, bytes: &[u8]) -> Result<Vec<Option<&'static str>>, Fail> {
-    let (file, _) = LoadFile::decode(alloc, bytes)?;
-    Ok(answers_growth_by_growth(alloc, || overlap_fault(alloc, &file))?)
+fn overlap_answers(
+    rt: &impl Abort,
+    alloc: Global,
+    bytes: &[u8],
+) -> Result<Vec<Option<&'static str>>, AllocError> {
+    let file = load_file(rt, alloc, bytes);
+    answers_growth_by_growth(alloc, || overlap_fault(rt, alloc, &file))
 }
 
 /// What `image` at these bases answers growth by growth.
 fn image_answers(
+    rt: &impl Abort,
     alloc: Global,
     bytes: &[u8],
     bases: &[u32],
-) -> Result<Vec<Option<ImageFault>>, Fail> {
-    let (file, _) = LoadFile::decode(alloc, bytes)?;
-    Ok(answers_growth_by_growth(alloc, || file.image(alloc, bases).err())?)
+) -> Result<Vec<Option<ImageFault>>, AllocError> {
+    let file = load_file(rt, alloc, bytes);
+    answers_growth_by_growth(alloc, || image(alloc, &file, bases).err())
 }
 
 /// `overlap` takes memory for five offsets in two growths, and `image` in one for all it makes.
@@ -96,12 +99,12 @@ fn of_an_overlap_and_an_image(rt: HostRuntime) -> Result<(), Fail> {
         return Ok(());
     }
     let bytes = spelled(rt.alloc(), examples::FIVE_HUNKS)?;
-    let overlaps = overlap_answers(rt.alloc(), &bytes)?;
+    let overlaps = overlap_answers(&rt, rt.alloc(), &bytes)?;
     assert_eq!(rt;
         overlaps.as_slice(),
         [Some("out of memory"), None].as_slice()
     );
-    let images = image_answers(rt.alloc(), &bytes, &[0; 5])?;
+    let images = image_answers(&rt, rt.alloc(), &bytes, &[0; 5])?;
     let refused = Some(ImageFault::OutOfMemory);
     assert_eq!(rt; images.as_slice(), [refused, None].as_slice());
     Ok(())
@@ -136,12 +139,12 @@ fn blocks(alloc: Global, file: &HunkFile) -> Result<Vec<usize>, AllocError> {
 }
 
 /// How many blocks each hunk of the file has once it was stripped with no memory left.
-fn stripped(alloc: Global, bytes: &[u8]) -> Result<Vec<usize>, Fail> {
-    let file = HunkFile::decode(alloc, bytes)?;
-    let held = all_but(alloc, &[])?;
-    let file = file.strip();
+fn blocks_left(rt: &impl Abort, alloc: Global, bytes: &[u8]) -> Result<Vec<usize>, AllocError> {
+    let file = either_file(rt, alloc, bytes);
+    let held = all_but(alloc, &[]).expect(rt, "no memory");
+    let file = stripped(file);
     drop(held);
-    Ok(blocks(alloc, &file)?)
+    blocks(alloc, &file)
 }
 
 /// Stripping takes no memory, and leaves nothing in for want of it.
@@ -150,22 +153,22 @@ fn none_of_a_strip(rt: HostRuntime) -> Result<(), Fail> {
     if !memory_ends(&rt)? {
         return Ok(());
     }
-    let load = stripped(rt.alloc(), &spelled(rt.alloc(), examples::FIVE_HUNKS)?)?;
+    let load = blocks_left(&rt, rt.alloc(), &spelled(rt.alloc(), examples::FIVE_HUNKS)?)?;
     assert_eq!(rt; load.as_slice(), [3, 2, 2, 2, 2].as_slice());
-    let object = stripped(rt.alloc(), &spelled(rt.alloc(), examples::TWO_UNITS)?)?;
+    let object = blocks_left(&rt, rt.alloc(), &spelled(rt.alloc(), examples::TWO_UNITS)?)?;
     assert_eq!(rt; object.as_slice(), [4, 2, 2].as_slice());
     Ok(())
 }
 
 /// What is written of the file with no memory left.
-fn written(alloc: Global, bytes: &[u8]) -> Result<Narrow, Fail> {
-    let file = HunkFile::decode(alloc, bytes)?;
+fn written(rt: &impl Abort, alloc: Global, bytes: &[u8]) -> Narrow {
+    let file = either_file(rt, alloc, bytes);
     let mut writer = wide();
-    let held = all_but(alloc, &[])?;
+    let held = all_but(alloc, &[]).expect(rt, "no memory");
     let answer = file.encode(&mut writer);
     drop(held);
-    answer?;
-    Ok(writer.into_inner().into_inner())
+    answer.expect(rt, "not written");
+    writer.into_inner().into_inner()
 }
 
 /// Writing takes no memory: a page stands on the stack.
@@ -181,20 +184,20 @@ fn none_of_a_text(rt: HostRuntime) -> Result<(), Fail> {
         examples::TWO_UNITS,
     ] {
         let bytes = spelled(rt.alloc(), text)?;
-        assert_eq!(rt; written(rt.alloc(), &bytes)?.taken(), bytes.as_slice());
+        assert_eq!(rt; written(&rt, rt.alloc(), &bytes).taken(), bytes.as_slice());
     }
     Ok(())
 }
 
 /// What `image` at three lists of bases answers with no memory left.
-fn starved_images(alloc: Global, bytes: &[u8]) -> Result<[Option<ImageFault>; 3], Fail> {
-    let (file, _) = LoadFile::decode(alloc, bytes)?;
-    let held = all_but(alloc, &[])?;
-    let fewer = file.image(alloc, &[0; 4]).err();
-    let more = file.image(alloc, &[0; 6]).err();
-    let as_many = file.image(alloc, &[0; 5]).err();
+fn starved_images(rt: &impl Abort, alloc: Global, bytes: &[u8]) -> [Option<ImageFault>; 3] {
+    let file = load_file(rt, alloc, bytes);
+    let held = all_but(alloc, &[]).expect(rt, "no memory");
+    let fewer = image(alloc, &file, &[0; 4]).err();
+    let more = image(alloc, &file, &[0; 6]).err();
+    let as_many = image(alloc, &file, &[0; 5]).err();
     drop(held);
-    Ok([fewer, more, as_many])
+    [fewer, more, as_many]
 }
 
 /// An image of another number of bases is refused before memory is asked for.
@@ -204,7 +207,7 @@ fn none_of_an_image_that_is_refused(rt: HostRuntime) -> Result<(), Fail> {
         return Ok(());
     }
     let bytes = spelled(rt.alloc(), examples::FIVE_HUNKS)?;
-    let got = starved_images(rt.alloc(), &bytes)?;
+    let got = starved_images(&rt, rt.alloc(), &bytes);
     let amiss = Some(ImageFault::BaseCount);
     assert_eq!(rt; got, [amiss, amiss, Some(ImageFault::OutOfMemory)]);
     Ok(())

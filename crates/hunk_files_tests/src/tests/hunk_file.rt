@@ -1,5 +1,6 @@
 //! A file of either kind: which it is by its first longword, what follows it, and what is written of it.
 
+use crate::tests::{either_file, stripped};
 use hunk_files::HunkFile;
 use hunk_testing::{examples, spelled};
 use hunk_words::{FromWrite, LongWriter};
@@ -8,7 +9,7 @@ use std::process::Abort;
 use std::test::Fail;
 
 /// What `HunkFile::decode` answers.
-#[derive(Clone, Copy, Debug, PartialEq, Eq)]
+#[derive(Clone, Copy, PartialEq, Eq)]
 enum Answer {
     Load { rest: u64 },
     Object,
@@ -51,11 +52,17 @@ fn decoded(alloc: Global, bytes: &[u8]) -> Answer {
     }
 }
 
+/// Sees that this is answered for the bytes that the text spells.
+fn expect_answer(rt: &impl Abort, alloc: Global, text: &str, want: Answer) -> Result<(), Fail> {
+    let bytes = spelled(alloc, text)?;
+    assert!(rt; decoded(alloc, &bytes) == want, "{text}");
+    Ok(())
+}
+
 #[test]
 fn read_as_announced(rt: HostRuntime) -> Result<(), Fail> {
     for (text, want) in READ {
-        let bytes = spelled(rt.alloc(), text)?;
-        assert_eq!(rt; decoded(rt.alloc(), &bytes), *want, "{text}");
+        expect_answer(&rt, rt.alloc(), text, *want)?;
     }
     Ok(())
 }
@@ -63,35 +70,35 @@ fn read_as_announced(rt: HostRuntime) -> Result<(), Fail> {
 #[test]
 fn refused_as_announced(rt: HostRuntime) -> Result<(), Fail> {
     for (text, place, number) in REFUSED {
-        let bytes = spelled(rt.alloc(), text)?;
         let want = Answer::Refused {
             place: *place,
             number: *number,
         };
-        assert_eq!(rt; decoded(rt.alloc(), &bytes), want, "{text}");
+        expect_answer(&rt, rt.alloc(), text, want)?;
     }
     Ok(())
 }
 
 /// The file that the bytes are, stripped where that is asked, written again; and what follows it.
-pub(super) fn rewritten(alloc: Global, bytes: &[u8], strip: bool) -> Option<(Vec<u8>, u64)> {
-    let Ok(file) = HunkFile::decode(alloc, bytes) else {
-        return None;
-    };
-    let file = if strip { file.strip() } else { file };
+pub(super) fn rewritten(
+    rt: &impl Abort,
+    alloc: Global,
+    bytes: &[u8],
+    strip: bool,
+) -> (Vec<u8>, u64) {
+    let file = either_file(rt, alloc, bytes);
+    let file = if strip { stripped(file) } else { file };
     let rest = file.rest();
     let mut writer = LongWriter::new(FromWrite::new(Vec::<u8>::new(alloc)));
-    match file.encode(&mut writer) {
-        Ok(()) => Some((writer.into_inner().into_inner(), rest)),
-        Err(_) => None,
-    }
+    file.encode(&mut writer).expect(rt, "not written");
+    (writer.into_inner().into_inner(), rest)
 }
 
 /// Sees that this text is written of the file that the bytes are, and that this many bytes follow it.
 pub(super) fn expect(rt: &impl Abort, alloc: Global, input: (&[u8], bool), text: &[u8], rest: u64) {
     let (bytes, strip) = input;
-    let again = rewritten(alloc, bytes, strip);
-    assert!(rt; again.is_some_and(|again| again.0.as_slice() == text && again.1 == rest));
+    let again = rewritten(rt, alloc, bytes, strip);
+    assert!(rt; again.0.as_slice() == text && again.1 == rest);
 }
 
 /// What follows the file is counted, and not written.

@@ -1,25 +1,29 @@
 //! The memory of load files, and the offsets whose longs overlap.
 
-use hunk_files::{ImageFault, LoadFile};
+use crate::tests::{image, load_file, overlap};
+use hunk_files::ImageFault;
 use hunk_testing::{CHANGES, before_end, bytes_of, changed, ends_within_debug, examples, spelled};
 use std::alloc::{AllocError, Global};
 use std::process::Abort;
 use std::test::Fail;
 
-/// The image at these bases, where the bytes are a load file.
-fn image(alloc: Global, bytes: &[u8], bases: &[u32]) -> Option<Result<Vec<u8>, ImageFault>> {
-    match LoadFile::decode(alloc, bytes) {
-        Ok((file, _)) => Some(file.image(alloc, bases)),
-        Err(_) => None,
-    }
+/// The image at these bases of the load file that the bytes are.
+pub(super) fn image_of(
+    rt: &impl Abort,
+    alloc: Global,
+    bytes: &[u8],
+    bases: &[u32],
+) -> Result<Vec<u8>, ImageFault> {
+    image(alloc, &load_file(rt, alloc, bytes), bases)
 }
 
-/// The overlap in the first hunk, where the bytes are a load file.
-fn overlap(alloc: Global, bytes: &[u8]) -> Result<Option<Option<(u32, u32)>>, AllocError> {
-    match LoadFile::decode(alloc, bytes) {
-        Ok((file, _)) if file.hunks() > 0 => Ok(Some(file.overlap(alloc, 0)?)),
-        _ => Ok(None),
-    }
+/// The overlap in the first hunk of the load file that the bytes are.
+pub(super) fn overlap_of(
+    rt: &impl Abort,
+    alloc: Global,
+    bytes: &[u8],
+) -> Result<Option<(u32, u32)>, AllocError> {
+    overlap(rt, alloc, &load_file(rt, alloc, bytes))
 }
 
 /// The worked examples of images, by their numbers: the file, the bases, and the longwords of the image.
@@ -62,8 +66,8 @@ fn expect_image(
 ) -> Result<(), Fail> {
     let bytes = spelled(alloc, text)?;
     let want = bytes_of(alloc, want)?;
-    let got = image(alloc, bytes.as_slice(), bases);
-    assert_eq!(rt; got, Some(Ok(want)), "example {example}");
+    let got = image_of(rt, alloc, &bytes, bases);
+    assert_eq!(rt; got, Ok(want), "example {example}");
     Ok(())
 }
 
@@ -75,31 +79,20 @@ fn images(rt: HostRuntime) -> Result<(), Fail> {
     Ok(())
 }
 
-/// The image at these bases of what strip leaves of a load file.
-fn stripped_image(
-    alloc: Global,
-    bytes: &[u8],
-    bases: &[u32],
-) -> Option<Result<Vec<u8>, ImageFault>> {
-    match LoadFile::decode(alloc, bytes) {
-        Ok((file, _)) => Some(file.strip().image(alloc, bases)),
-        Err(_) => None,
-    }
-}
-
 /// Example 37: what is left is relocated all the same.
 #[test]
 fn image_of_a_stripped_file(rt: HostRuntime) -> Result<(), Fail> {
     let bytes = spelled(rt.alloc(), examples::RELOCATED_BEHIND_SYMBOLS)?;
-    let got = stripped_image(rt.alloc(), bytes.as_slice(), [0x100].as_slice());
-    assert_eq!(rt; got, Some(Ok(bytes_of(rt.alloc(), [0x110].as_slice())?)));
+    let stripped = load_file(&rt, rt.alloc(), &bytes).strip();
+    let got = image(rt.alloc(), &stripped, &[0x100]);
+    assert_eq!(rt; got, Ok(bytes_of(rt.alloc(), &[0x110])?));
     Ok(())
 }
 
 /// Sees that the bytes have example 1's image.
 fn expect_same_image(rt: &impl Abort, alloc: Global, bytes: &[u8]) -> Result<(), Fail> {
     let want = bytes_of(alloc, &[0x4E75_4E71])?;
-    assert_eq!(rt; image(alloc, bytes, &[0x21000]), Some(Ok(want)));
+    assert_eq!(rt; image_of(rt, alloc, bytes, &[0x21000]), Ok(want));
     Ok(())
 }
 
@@ -129,21 +122,22 @@ const WRONG_BASES: &[(&str, &[u32])] = &[
 fn wrong_number_of_bases(rt: HostRuntime) -> Result<(), Fail> {
     for (text, bases) in WRONG_BASES {
         let bytes = spelled(rt.alloc(), text)?;
-        let got = image(rt.alloc(), bytes.as_slice(), bases);
-        assert_eq!(rt; got, Some(Err(ImageFault::BaseCount)));
+        let got = image_of(&rt, rt.alloc(), &bytes, bases);
+        assert_eq!(rt; got, Err(ImageFault::BaseCount));
     }
     Ok(())
 }
 
+const TEXTS_OF_FAULTS: &[(ImageFault, &str)] = &[
+    (ImageFault::BaseCount, "wrong number of bases"),
+    (ImageFault::OutOfMemory, "out of memory"),
+];
+
 #[test]
 fn texts_of_faults(rt: HostRuntime) -> Result<(), Fail> {
-    let texts = [
-        (ImageFault::BaseCount, "wrong number of bases"),
-        (ImageFault::OutOfMemory, "out of memory"),
-    ];
-    for (fault, want) in texts {
+    for (fault, want) in TEXTS_OF_FAULTS {
         let text = format!(in rt.alloc(); "{fault}")?;
-        assert_eq!(rt; text.as_str(), want);
+        assert_eq!(rt; text.as_str(), *want);
     }
     Ok(())
 }
@@ -160,11 +154,8 @@ const OVERLAPS: &[(&str, Option<(u32, u32)>)] = &[
 fn overlaps(rt: HostRuntime) -> Result<(), Fail> {
     for (text, want) in OVERLAPS {
         let bytes = spelled(rt.alloc(), text)?;
-        assert_eq!(rt;
-            overlap(rt.alloc(), bytes.as_slice())?,
-            Some(*want),
-            "{text}"
-        );
+        let got = overlap_of(&rt, rt.alloc(), &bytes)?;
+        assert_eq!(rt; got, *want, "{text}");
     }
     Ok(())
 }

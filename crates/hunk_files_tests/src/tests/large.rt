@@ -1,13 +1,16 @@
 //! Files with many of each part, and large ones: no call gives up on them.
 
+use crate::tests::answers;
 use crate::tests::hunk_file::{expect, rewritten};
-use hunk_files::{LoadFile, ObjectFile};
+use crate::tests::images::{image_of, overlap_of};
+use crate::tests::object_findings::checked;
+use crate::tests::object_refusals::units_in;
 use hunk_testing::large::{
     HUNKS, LARGE, LOAD_FILE, MANY, OBJECT_FILE, Run, SHORT_OF_64_MIB, STRIPPED_LOAD_FILE,
     STRIPPED_OBJECT_FILE, bytes_of_runs, large_load_file, large_object_file,
 };
 use hunk_testing::{bytes_of, spelled};
-use std::alloc::Global;
+use std::alloc::{AllocError, Global};
 use std::process::Abort;
 use std::test::Fail;
 
@@ -28,20 +31,38 @@ fn many_parts_again(rt: HostRuntime) -> Result<(), Fail> {
     Ok(())
 }
 
-/// Many offsets are looked at for an overlap, of which there is none, and many bases are added: that of the second
-/// hunk to both longwords of the first.
+/// How many bytes the load file's image has: two longwords of the first hunk, and one of each other.
+const SIZE: usize = 262_148;
+
+/// The image with the base 1 of each hunk: that of the second is added to both longwords of the first.
+fn image_of_many(alloc: Global) -> Result<Vec<u8>, AllocError> {
+    let mut image = bytes_of(alloc, &[MANY, MANY])?;
+    image.resize(SIZE, 0)?;
+    Ok(image)
+}
+
+/// Sees that the load file has this image with the base 1 of each of as many hunks.
+fn expect_image(
+    rt: &impl Abort,
+    alloc: Global,
+    (bytes, count): (&[u8], usize),
+    want: &[u8],
+) -> Result<(), AllocError> {
+    let bases = vec![in alloc; 1u32; count]?;
+    let image = image_of(rt, alloc, bytes, &bases).expect(rt, "no image");
+    assert!(rt; image.as_slice() == want);
+    Ok(())
+}
+
+/// Many offsets are looked at for an overlap, of which there is none, and many bases are added.
 #[test]
 fn many_relocations(rt: HostRuntime) -> Result<(), Fail> {
     let alloc = rt.alloc();
     let bytes = bytes_of_runs(alloc, LOAD_FILE)?;
-    let (file, count) = LoadFile::decode(alloc, &bytes)?;
-    assert_eq!(rt; file.hunks(), HUNKS);
-    assert_eq!(rt; count, bytes.len());
-    assert_eq!(rt; file.overlap(alloc, 0)?, None);
-    let image = file.image(alloc, &vec![in alloc; 1u32; HUNKS as usize]?)?;
-    let mut want = bytes_of(alloc, &[MANY, MANY])?;
-    want.resize(4 * (HUNKS as usize + 1), 0)?;
-    assert!(rt; image == want);
+    let counts = (HUNKS, SIZE as u64, bytes.len());
+    answers::expect(&rt, alloc, &bytes, Ok(counts));
+    assert_eq!(rt; overlap_of(&rt, alloc, &bytes)?, None);
+    expect_image(&rt, alloc, (&bytes, HUNKS as usize), &image_of_many(alloc)?)?;
     Ok(())
 }
 
@@ -49,17 +70,15 @@ fn many_relocations(rt: HostRuntime) -> Result<(), Fail> {
 fn many_findings(rt: HostRuntime) -> Result<(), Fail> {
     let alloc = rt.alloc();
     let bytes = bytes_of_runs(alloc, OBJECT_FILE)?;
-    let file = ObjectFile::decode(alloc, &bytes)?;
-    assert_eq!(rt; file.units().len(), MANY as usize);
-    let found = file.check(alloc)?;
-    assert_eq!(rt; found.len(), MANY as usize);
+    assert_eq!(rt; units_in(alloc, &bytes), Ok(MANY as usize));
+    assert_eq!(rt; checked(&rt, alloc, &bytes).len(), MANY as usize);
     Ok(())
 }
 
 /// Sees that the file that the bytes are is written in as many bytes, stripped too: none of it can be left out.
 fn expect_length(rt: &impl Abort, alloc: Global, bytes: &[u8]) {
-    let again = rewritten(alloc, bytes, true);
-    assert!(rt; again.is_some_and(|again| again.0.len() == bytes.len()));
+    let (again, _) = rewritten(rt, alloc, bytes, true);
+    assert_eq!(rt; again.len(), bytes.len());
 }
 
 #[test]
@@ -70,15 +89,15 @@ fn large_files_again(rt: HostRuntime) -> Result<(), Fail> {
 }
 
 /// Sees that the load file's hunk has this many bytes.
-fn expect_image(rt: &impl Abort, alloc: Global, bytes: &[u8], size: usize) -> Result<(), Fail> {
-    let (file, _) = LoadFile::decode(alloc, bytes)?;
-    assert_eq!(rt; file.image(alloc, &[0])?.len(), size);
-    Ok(())
+fn expect_size(rt: &impl Abort, alloc: Global, bytes: &[u8], size: usize) {
+    let image = image_of(rt, alloc, bytes, &[0]).expect(rt, "no image");
+    assert_eq!(rt; image.len(), size);
 }
 
 #[test]
 fn large_images(rt: HostRuntime) -> Result<(), Fail> {
     let alloc = rt.alloc();
-    expect_image(&rt, alloc, &large_load_file(alloc)?, LARGE - 36)?;
-    expect_image(&rt, alloc, &spelled(alloc, SHORT_OF_64_MIB)?, 1 << 26)
+    expect_size(&rt, alloc, &large_load_file(alloc)?, LARGE - 36);
+    expect_size(&rt, alloc, &spelled(alloc, SHORT_OF_64_MIB)?, 1 << 26);
+    Ok(())
 }

@@ -1,7 +1,7 @@
 //! Each growth of `LoadFile::decode` refused in turn, with the place of the refusal.
 
 use crate::tests::growths::wanted;
-use hunk_files::LoadFile;
+use crate::tests::load_fault;
 use hunk_testing::{answers_growth_by_growth, answers_one_by_one, examples, memory_ends, spelled};
 use std::alloc::Global;
 use std::process::Abort;
@@ -21,7 +21,7 @@ const OF_SIX_BLOCKS: &[u64] = &[20, 28, 60, 64];
 /// Sees that memory is refused at these places in turn, and that the file is read then.
 fn expect(rt: &impl Abort, alloc: Global, text: &str, places: &[u64]) -> Result<(), Fail> {
     let bytes = spelled(alloc, text)?;
-    let answers = answers_growth_by_growth(alloc, || LoadFile::decode(alloc, &bytes).err())?;
+    let answers = answers_growth_by_growth(alloc, || load_fault(alloc, &bytes))?;
     assert_eq!(rt; answers, wanted(alloc, places)?);
     Ok(())
 }
@@ -64,7 +64,7 @@ fn of_five_hunks(rt: HostRuntime) -> Result<(), Fail> {
     }
     let alloc = rt.alloc();
     let bytes = spelled(alloc, FIVE)?;
-    let answers = answers_one_by_one(alloc, || LoadFile::decode(alloc, &bytes).err())?;
+    let answers = answers_one_by_one(alloc, || load_fault(alloc, &bytes))?;
     assert_eq!(rt; answers, wanted(alloc, OF_FIVE)?);
     Ok(())
 }

@@ -1,6 +1,7 @@
 //! Load files while no growth is granted.
 
-use hunk_files::{ImageFault, LoadFile, ObjectFile};
+use crate::tests::{image, load_file, object_fault, overlap};
+use hunk_files::{ImageFault, LoadFile};
 use hunk_testing::{all_memory, examples, memory_ends, spelled};
 use hunk_words::{FileFault, Reason};
 use std::alloc::{AllocError, Global};
@@ -70,18 +71,14 @@ fn no_memory_for_a_row(rt: HostRuntime) -> Result<(), Fail> {
 }
 
 /// What is answered for the file as an object file, with the next growth refused or not.
-fn object_fault(
-    alloc: Global,
-    text: &str,
-    is_starved: bool,
-) -> Result<Option<FileFault>, AllocError> {
+fn answered(alloc: Global, text: &str, is_starved: bool) -> Result<Option<FileFault>, AllocError> {
     let bytes = spelled(alloc, text)?;
     let pieces = if is_starved {
         all_memory(alloc)?
     } else {
         Vec::new(alloc)
     };
-    let result = ObjectFile::decode(alloc, bytes.as_slice()).err();
+    let result = object_fault(alloc, &bytes);
     drop(pieces);
     Ok(result)
 }
@@ -100,13 +97,13 @@ fn no_memory_for_an_object(rt: HostRuntime) -> Result<(), Fail> {
         return Ok(());
     }
     for text in BEFORE_A_FAULT {
-        let memory = object_fault(rt.alloc(), text, true)?;
+        let memory = answered(rt.alloc(), text, true)?;
         assert_eq!(rt; memory, fault_at(16, Reason::OutOfMemory), "{text}");
-        let refusal = object_fault(rt.alloc(), text, false)?;
+        let refusal = answered(rt.alloc(), text, false)?;
         assert_eq!(rt; refusal, fault_at(20, Reason::Overlay), "{text}");
     }
     let both_bits = "3E7 0 / C00003E9 1 4E754E71 / 3F2";
-    let refusal = object_fault(rt.alloc(), both_bits, true)?;
+    let refusal = answered(rt.alloc(), both_bits, true)?;
     assert_eq!(rt; refusal, fault_at(8, Reason::BothBits));
     Ok(())
 }
@@ -115,22 +112,24 @@ fn fault_at(place: u64, reason: Reason) -> Option<FileFault> {
     Some(FileFault { place, reason })
 }
 
+/// What is wrong with `image` of a file of one hunk and whether `overlap` is refused, with the next growth refused.
+fn starved_image(rt: &impl Abort, alloc: Global, bytes: &[u8]) -> (Option<ImageFault>, bool) {
+    let file = load_file(rt, alloc, bytes);
+    assert_eq!(rt; file.hunks(), 1);
+    let pieces = all_memory(alloc).expect(rt, "no memory");
+    let image = image(alloc, &file, &[0x21000]).err();
+    let overlap = overlap(rt, alloc, &file).is_err();
+    drop(pieces);
+    (image, overlap)
+}
+
 #[test]
 fn no_memory_for_an_image(rt: HostRuntime) -> Result<(), Fail> {
     if !memory_ends(&rt)? {
         return Ok(());
     }
     let bytes = spelled(rt.alloc(), examples::RELOCATED_ALONE)?;
-    let (file, _) = match LoadFile::decode(rt.alloc(), bytes.as_slice()) {
-        Ok(decoded) => decoded,
-        Err(fault) => panic!(&rt; "{fault:?}"),
-    };
-    assert_eq!(rt; file.hunks(), 1);
-    let pieces = all_memory(rt.alloc())?;
-    let image = file.image(rt.alloc(), [0x21000].as_slice());
-    let overlap = file.overlap(rt.alloc(), 0);
-    drop(pieces);
-    assert_eq!(rt; image, Err(ImageFault::OutOfMemory));
-    assert!(rt; overlap.is_err());
+    let got = starved_image(&rt, rt.alloc(), &bytes);
+    assert_eq!(rt; got, (Some(ImageFault::OutOfMemory), true));
     Ok(())
 }

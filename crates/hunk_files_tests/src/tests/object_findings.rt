@@ -1,6 +1,7 @@
 //! What `check` finds.
 
-use hunk_files::{Finding, FindingKind, ObjectFile};
+use crate::tests::object_file;
+use hunk_files::{Finding, FindingKind, Findings};
 use hunk_testing::{bytes_of, examples, spelled};
 use std::alloc::{AllocError, Global};
 use std::process::Abort;
@@ -43,12 +44,33 @@ const FINDINGS: &[(u32, &str, &[(FindingKind, u32)])] = &[
     ),
 ];
 
-/// What is found in the object file that the bytes are, by place.
-fn findings_in(alloc: Global, bytes: &[u8]) -> Result<Vec<Finding>, Fail> {
-    let findings = ObjectFile::decode(alloc, bytes)?.check(alloc)?;
+/// What `check` finds in the object file that the bytes are.
+pub(super) fn checked(rt: &impl Abort, alloc: Global, bytes: &[u8]) -> Findings {
+    object_file(rt, alloc, bytes)
+        .check(alloc)
+        .expect(rt, "no memory")
+}
+
+/// The same, by place.
+fn findings_in(rt: &impl Abort, alloc: Global, bytes: &[u8]) -> Result<Vec<Finding>, AllocError> {
+    let findings = checked(rt, alloc, bytes);
     let mut found = Vec::new(alloc);
     for i in 0..findings.len() {
         found.push(*findings.at(i))?;
+    }
+    Ok(found)
+}
+
+/// The same, one after the other.
+fn findings_in_turn(
+    rt: &impl Abort,
+    alloc: Global,
+    bytes: &[u8],
+) -> Result<Vec<Finding>, AllocError> {
+    let findings = checked(rt, alloc, bytes);
+    let mut found = Vec::new(alloc);
+    for finding in &findings {
+        found.push(*finding)?;
     }
     Ok(found)
 }
@@ -60,7 +82,7 @@ fn expect_findings(
     bytes: &[u8],
     want: &[Finding],
 ) -> Result<(), Fail> {
-    let found = findings_in(alloc, bytes)?;
+    let found = findings_in(rt, alloc, bytes)?;
     assert_eq!(rt; found.as_slice(), want);
     Ok(())
 }
@@ -83,7 +105,7 @@ fn expect(
 ) -> Result<(), Fail> {
     let bytes = spelled(alloc, text)?;
     let want = all_found(alloc, want)?;
-    let found = findings_in(alloc, &bytes)?;
+    let found = findings_in(rt, alloc, &bytes)?;
     assert_eq!(rt; found, want, "example {example}");
     Ok(())
 }
@@ -100,13 +122,9 @@ fn worked_examples(rt: HostRuntime) -> Result<(), Fail> {
 #[test]
 fn one_by_one(rt: HostRuntime) -> Result<(), Fail> {
     let bytes = spelled(rt.alloc(), examples::TWO_FINDINGS)?;
-    let findings = ObjectFile::decode(rt.alloc(), bytes.as_slice())?.check(rt.alloc())?;
-    let mut kinds = [FindingKind::BadTarget, FindingKind::OutsideHunk].iter();
-    for finding in &findings {
-        let want = kinds.next().map(|kind| found(*kind, 2));
-        assert_eq!(rt; Some(*finding), want);
-    }
-    assert_eq!(rt; kinds.next(), None);
+    let found = findings_in_turn(&rt, rt.alloc(), &bytes)?;
+    let want = [(FindingKind::BadTarget, 2), (FindingKind::OutsideHunk, 2)];
+    assert!(rt; found == all_found(rt.alloc(), &want)?);
     Ok(())
 }
 

@@ -1,7 +1,7 @@
 //! Each growth of `ObjectFile::decode` refused in turn, with the place of the refusal.
 
 use crate::tests::growths::wanted;
-use hunk_files::ObjectFile;
+use crate::tests::object_fault;
 use hunk_testing::{answers_growth_by_growth, answers_one_by_one, examples, memory_ends, spelled};
 use std::alloc::Global;
 use std::process::Abort;
@@ -18,7 +18,7 @@ fn of_two_units(rt: HostRuntime) -> Result<(), Fail> {
     }
     let alloc = rt.alloc();
     let bytes = spelled(alloc, examples::TWO_UNITS)?;
-    let answers = answers_growth_by_growth(alloc, || ObjectFile::decode(alloc, &bytes).err())?;
+    let answers = answers_growth_by_growth(alloc, || object_fault(alloc, &bytes))?;
     assert_eq!(rt; answers, wanted(alloc, OF_TWO_UNITS)?);
     Ok(())
 }
@@ -28,7 +28,7 @@ fn of_two_units(rt: HostRuntime) -> Result<(), Fail> {
 /// A list that grows gives back the memory that it had, so each growth has a piece of its own here.
 fn expect(rt: &impl Abort, alloc: Global, text: &str, places: &[u64]) -> Result<(), Fail> {
     let bytes = spelled(alloc, text)?;
-    let answers = answers_one_by_one(alloc, || ObjectFile::decode(alloc, &bytes).err())?;
+    let answers = answers_one_by_one(alloc, || object_fault(alloc, &bytes))?;
     assert_eq!(rt; answers, wanted(alloc, places)?);
     Ok(())
 }

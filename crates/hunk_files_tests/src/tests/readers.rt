@@ -1,9 +1,11 @@
 //! What the readers of a load file tell.
 
+use crate::tests::load_file;
 use hunk_files::{LoadFile, Row, Sniff, sniff};
 use hunk_testing::{examples, spelled};
 use hunk_words::{BlockWord, Memory};
 use std::alloc::{AllocError, Global};
+use std::process::Abort;
 use std::test::Fail;
 
 /// The memory and the bytes that the table has for a hunk, how many blocks it has, and the word of the first.
@@ -19,16 +21,15 @@ fn hunks_of(alloc: Global, file: &LoadFile<'_>) -> Result<Vec<Told>, AllocError>
     Ok(found)
 }
 
-fn hunks_in(alloc: Global, bytes: &[u8]) -> Result<Vec<Told>, Fail> {
-    let (file, _) = LoadFile::decode(alloc, bytes)?;
-    Ok(hunks_of(alloc, &file)?)
+fn hunks_in(rt: &impl Abort, alloc: Global, bytes: &[u8]) -> Result<Vec<Told>, AllocError> {
+    hunks_of(alloc, &load_file(rt, alloc, bytes))
 }
 
 /// Example 8: a hunk with memory attributes, and an empty one.
 #[test]
 fn tables_and_blocks(rt: HostRuntime) -> Result<(), Fail> {
     let bytes = spelled(rt.alloc(), examples::WITH_ATTRIBUTES)?;
-    let found = hunks_in(rt.alloc(), &bytes)?;
+    let found = hunks_in(&rt, rt.alloc(), &bytes)?;
     let want = [
         (
             Memory::Attributes(0x10004),

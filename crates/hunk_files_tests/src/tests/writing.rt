@@ -1,8 +1,10 @@
 //! What is written again, and what strip leaves.
 
+use crate::tests::narrow;
+use crate::tests::stops::expect_front;
 use hunk_files::LoadFile;
-use hunk_testing::{CHANGES, Narrow, changed, examples, spelled};
-use hunk_words::{FromWrite, LongWriter, WriteFault};
+use hunk_testing::{CHANGES, WIDTH, changed, examples, spelled};
+use hunk_words::{FromWrite, LongWriter};
 use std::alloc::Global;
 use std::process::Abort;
 use std::test::Fail;
@@ -31,6 +33,13 @@ fn expect_again(rt: &impl Abort, alloc: Global, bytes: &[u8]) -> Result<(), Fail
     Ok(())
 }
 
+/// Files that are written again as they are.
+const WHOLE: &[&str] = &[
+    examples::ONE_HUNK,
+    examples::WITH_A_SYMBOL,
+    WITH_TWO_RELOCATIONS,
+];
+
 /// Example 1 is written again with its flags, other files with their empty blocks.
 #[test]
 fn written_again(rt: HostRuntime) -> Result<(), Fail> {
@@ -40,11 +49,7 @@ fn written_again(rt: HostRuntime) -> Result<(), Fail> {
             expect_again(&rt, alloc, &changed(alloc, *byte, *word)?)?;
         }
     }
-    for text in [
-        examples::ONE_HUNK,
-        examples::WITH_A_SYMBOL,
-        WITH_TWO_RELOCATIONS,
-    ] {
+    for text in WHOLE {
         expect_again(&rt, alloc, &spelled(alloc, text)?)?;
     }
     Ok(())
@@ -78,10 +83,8 @@ fn stripped(rt: HostRuntime) -> Result<(), Fail> {
 fn stops_within(rt: HostRuntime) -> Result<(), Fail> {
     let bytes = spelled(rt.alloc(), examples::ONE_HUNK)?;
     let (file, _) = LoadFile::decode(rt.alloc(), &bytes)?;
-    let mut writer = LongWriter::new(FromWrite::new(Narrow::failing(6)));
-    assert_eq!(rt; file.encode(&mut writer), Err(WriteFault { written: 6 }));
-    assert_eq!(rt; writer.written(), 6);
-    let taken = writer.into_inner().into_inner();
-    assert_eq!(rt; taken.taken(), [0, 0, 3, 0xF3, 0, 0].as_slice());
+    let mut writer = narrow(6, (WIDTH, false));
+    let answer = file.encode(&mut writer);
+    expect_front(&rt, (answer, writer), &[0, 0, 3, 0xF3, 0, 0], 6);
     Ok(())
 }
