@@ -12,6 +12,8 @@ mod loads;
 mod memory;
 mod streams;
 
+use hunk_files::Row;
+use hunk_scatter::stream::{Standing, Stop, take_piece};
 use hunk_scatter::{Image, Limits, Placer, load};
 use hunk_words::{LoadFault, Source};
 use std::alloc::{AllocError, Global};
@@ -47,6 +49,36 @@ fn gathered(alloc: Global, image: &Image) -> Result<Joined, AllocError> {
     Ok(Joined { bytes, bases })
 }
 
+/// What `load` answers. The proofs of its callers are short, since this promises none of what `load` does.
+fn loaded<R: Source, P: Placer>(
+    alloc: Global,
+    source: &mut R,
+    limits: Limits,
+    placer: &P,
+) -> Result<Image, LoadFault> {
+    load(alloc, source, limits, placer)
+}
+
+/// What `take_piece` answers. This promises nothing, either.
+fn piece_taken(
+    store: &mut [u8],
+    rows: &[Row],
+    at: Standing,
+    piece: &[u8],
+) -> Result<(Standing, usize), Stop> {
+    take_piece(store, rows, at, piece)
+}
+
+/// Why a load is refused, if it is.
+fn load_fault<R: Source, P: Placer>(
+    alloc: Global,
+    source: &mut R,
+    limits: Limits,
+    placer: &P,
+) -> Option<LoadFault> {
+    loaded(alloc, source, limits, placer).err()
+}
+
 /// What a load comes to.
 fn outcome<R: Source, P: Placer>(
     alloc: Global,
@@ -54,7 +86,7 @@ fn outcome<R: Source, P: Placer>(
     limits: Limits,
     placer: &P,
 ) -> Result<Result<Joined, LoadFault>, AllocError> {
-    match load(alloc, source, limits, placer) {
+    match loaded(alloc, source, limits, placer) {
         Ok(image) => Ok(Ok(gathered(alloc, &image)?)),
         Err(fault) => Ok(Err(fault)),
     }

@@ -1,8 +1,8 @@
 //! Loads and loaders of headers while each growth that they ask for is refused in turn.
 
-use crate::tests::AMPLE;
+use crate::tests::headers::fed;
 use crate::tests::loads::START;
-use hunk_scatter::{HeaderLoader, load};
+use crate::tests::{AMPLE, loaded};
 use hunk_testing::{Fed, Then, answers_growth_by_growth, memory_ends, spelled};
 use hunk_words::{LoadFault, Reason};
 use std::alloc::Global;
@@ -17,11 +17,15 @@ fn shortfall(
     want: &Result<Vec<u8>, LoadFault>,
 ) -> Option<Option<LoadFault>> {
     let mut source = Fed::new(bytes, 256, Then::Ends);
-    match (load(alloc, &mut source, AMPLE, &START), want) {
-        (Ok(image), Ok(bytes)) if image.joined() == bytes.as_slice() => None,
-        (Ok(_), _) => Some(None),
-        (Err(fault), Err(wanted)) if fault == *wanted => None,
-        (Err(fault), _) => Some(Some(fault)),
+    match loaded(alloc, &mut source, AMPLE, &START) {
+        Ok(image) => match want {
+            Ok(bytes) if image.joined() == bytes.as_slice() => None,
+            _ => Some(None),
+        },
+        Err(fault) => match want {
+            Err(wanted) if fault == *wanted => None,
+            _ => Some(Some(fault)),
+        },
     }
 }
 
@@ -120,12 +124,12 @@ const FED: &[(&str, &[u64], u64)] = &[
 /// What a loader of headers answers, and what it holds then, but where it takes all of the header and holds this many
 /// bytes.
 fn feeding(alloc: Global, header: &[u8], held: u64) -> Option<(Result<usize, LoadFault>, u64)> {
-    let mut loader = HeaderLoader::new(alloc, 1_000);
-    let answer = loader.feed(header);
-    if answer == Ok(header.len()) && loader.held() == held {
+    let (loader, answer) = fed(alloc, header, 1_000);
+    let answers = (answer, loader.held());
+    if answers == (Ok(header.len()), held) {
         return None;
     }
-    Some((answer, loader.held()))
+    Some(answers)
 }
 
 /// Sees that a loader of headers is refused memory at these places in turn, and holds nothing then, and that it takes

@@ -36,13 +36,29 @@ impl Counted {
         self.given += piece.len() as u64;
         answer
     }
+
+    /// How many bytes the loader wants next, and how many it holds.
+    pub(super) fn counts(&self) -> (usize, u64) {
+        (self.loader.want(), self.loader.held())
+    }
+}
+
+/// A loader that was fed a header, and what it answered.
+pub(super) fn fed(
+    alloc: Global,
+    header: &[u8],
+    budget: u64,
+) -> (HeaderLoader, Result<usize, LoadFault>) {
+    let mut loader = HeaderLoader::new(alloc, budget);
+    let answer = loader.feed(header);
+    (loader, answer)
 }
 
 /// Why a header is refused, if it is, or the bytes that its hunks declare.
 fn answer(alloc: Global, text: &str, budget: u64) -> Result<Result<u64, LoadFault>, Fail> {
     let bytes = spelled(alloc, text)?;
-    let mut loader = HeaderLoader::new(alloc, budget);
-    if let Err(fault) = loader.feed(bytes.as_slice()) {
+    let (loader, answer) = fed(alloc, bytes.as_slice(), budget);
+    if let Err(fault) = answer {
         return Ok(Err(fault));
     }
     match loader.declared() {
@@ -62,9 +78,8 @@ pub(super) fn declared(
     header: usize,
 ) -> Result<Declared, Fail> {
     let bytes = spelled(alloc, text)?;
-    let mut loader = HeaderLoader::new(alloc, 1_000);
-    assert!(rt; bytes.len() < 1_000);
-    assert_eq!(rt; loader.feed(bytes.as_slice()), Ok(header));
+    let (loader, answer) = fed(alloc, bytes.as_slice(), 1_000);
+    assert_eq!(rt; answer, Ok(header));
     match loader.declared() {
         Ok(declared) => Ok(declared),
         Err(_) => panic!(rt; "no table"),
@@ -145,7 +160,7 @@ const WANTS: &[usize] = &[
 fn expect_wants(rt: &impl Abort, counted: &mut Counted, bytes: &[u8], wants: &[usize]) {
     assert_eq!(rt; bytes.len(), wants.len());
     for (byte, want) in bytes.iter().zip(wants) {
-        assert_eq!(rt; counted.loader.want(), *want);
+        assert_eq!(rt; counted.counts().0, *want);
         assert_eq!(rt; counted.feed(rt, &[*byte]), Ok(1));
     }
 }
@@ -157,7 +172,7 @@ fn wants_what_rows_still_have(rt: HostRuntime) -> Result<(), Fail> {
     let bytes = spelled(rt.alloc(), "3F3 0 3 0 2 1 C0000002 10004 1")?;
     let mut counted = Counted::new(rt.alloc(), 1_000);
     expect_wants(&rt, &mut counted, bytes.as_slice(), WANTS);
-    assert_eq!(rt; counted.loader.want(), 0);
+    assert_eq!(rt; counted.counts().0, 0);
     assert_eq!(rt; counted.feed(&rt, b"follows"), Ok(0));
     assert!(rt; counted.loader.declared().is_ok());
     Ok(())
@@ -180,10 +195,10 @@ fn wants_at_most_a_buffer(rt: HostRuntime) -> Result<(), Fail> {
     for (text, want) in OF_65_HUNKS {
         let piece = spelled(rt.alloc(), text)?;
         assert_eq!(rt; counted.feed(&rt, piece.as_slice()), Ok(piece.len()));
-        assert_eq!(rt; counted.loader.want(), *want, "behind {text}");
+        assert_eq!(rt; counted.counts().0, *want, "behind {text}");
     }
     assert_eq!(rt; counted.feed(&rt, [0].as_slice()), Ok(1));
-    assert_eq!(rt; counted.loader.want(), 239);
+    assert_eq!(rt; counted.counts().0, 239);
     Ok(())
 }
 
@@ -347,8 +362,7 @@ fn stays_refused(rt: HostRuntime) -> Result<(), Fail> {
         let fed = counted.feed(&rt, bytes.as_slice());
         assert_eq!(rt; fed, Err(fault));
     }
-    assert_eq!(rt; counted.loader.want(), 0);
-    assert_eq!(rt; counted.loader.held(), 0);
+    assert_eq!(rt; counted.counts(), (0, 0));
     assert!(rt; counted.loader.declared().is_err());
     Ok(())
 }

@@ -1,7 +1,8 @@
 //! What loaders hold, by what the allocator still gives beside them.
 ghost use Rattle.std.specs.Prelude.{None, false};
 
-use hunk_scatter::{BodyLoader, Declared, HeaderLoader, Image, Limits, Packed, load};
+use crate::tests::{headers, loaded};
+use hunk_scatter::{BodyLoader, Declared, HeaderLoader, Image, Limits, Packed};
 use hunk_testing::{bytes_of, largest_piece, left_beside, memory_ends, spelled};
 use hunk_words::{Failed, LoadFault, Reason, Source};
 use std::alloc::{AllocError, Global};
@@ -61,8 +62,7 @@ fn expect_left(
 
 /// A loader of headers that was fed these bytes.
 fn fed(alloc: Global, bytes: &[u8], budget: u64) -> HeaderLoader {
-    let mut loader = HeaderLoader::new(alloc, budget);
-    let _answer = loader.feed(bytes);
+    let (loader, _) = headers::fed(alloc, bytes, budget);
     loader
 }
 
@@ -216,7 +216,7 @@ impl Source for Measuring<'_> {
 }
 
 /// What a load of the bytes gives, and how large a piece there was beside it at its last read.
-fn loaded(alloc: Global, bytes: &[u8]) -> (Option<Image>, usize) {
+fn image_of(alloc: Global, bytes: &[u8]) -> (Option<Image>, usize) {
     let limits = Limits {
         budget: TOTAL as u64,
         file_bytes: 10_000,
@@ -226,16 +226,16 @@ fn loaded(alloc: Global, bytes: &[u8]) -> (Option<Image>, usize) {
         alloc,
         largest: 0,
     };
-    let image = load(alloc, &mut source, limits, &Packed { start: 0 }).ok();
+    let image = loaded(alloc, &mut source, limits, &Packed { start: 0 }).ok();
     (image, source.largest)
 }
 
 /// How large a piece there is beside the rows and the store of `header`.
-fn largest_beside(alloc: Global) -> Option<usize> {
-    let held = plain(alloc, HUNKS, TOTAL).ok()?;
+fn largest_beside(alloc: Global) -> Result<usize, AllocError> {
+    let held = plain(alloc, HUNKS, TOTAL)?;
     let largest = largest_piece(alloc);
     drop(held);
-    Some(largest)
+    Ok(largest)
 }
 
 /// A load holds the rows and the store while it reads its last bytes, and so does the image that it gives.
@@ -245,15 +245,15 @@ fn rows_and_store_of_a_load(rt: HostRuntime) -> Result<(), Fail> {
         return Ok(());
     }
     let (alloc, bytes) = (rt.alloc(), file(rt.alloc())?);
-    let ((image, largest), left) = left_beside(alloc, || loaded(alloc, bytes.as_slice()))?;
-    let held = image.map(|image| (image.hunks(), image.held()));
-    assert_eq!(rt; held, Some((HUNKS, 780 + TOTAL as u64)));
+    let ((image, largest), left) = left_beside(alloc, || image_of(alloc, bytes.as_slice()))?;
+    let Some(image) = image else {
+        panic!(rt; "no image");
+    };
+    assert_eq!(rt; (image.hunks(), image.held()), (HUNKS, 780 + TOTAL as u64));
     expect_left(&rt, alloc, left, HUNKS, TOTAL)?;
     let (want, _) = left_beside(alloc, || largest_beside(alloc))?;
+    let want = want?;
     assert!(rt; largest > 1 << 24, "{largest}");
-    assert!(rt;
-        want.is_some_and(|want| largest.abs_diff(want) <= 64),
-        "{largest}, not {want:?}"
-    );
+    assert!(rt; largest.abs_diff(want) <= 64, "{largest}, not {want}");
     Ok(())
 }

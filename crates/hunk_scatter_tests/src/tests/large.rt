@@ -1,14 +1,15 @@
 //! Files with many hunks and relocations, and large stores: no loader gives up on them.
 
-use crate::tests::cut_at;
+use crate::tests::{cut_at, loaded, piece_taken};
 use hunk_files::Row;
-use hunk_scatter::stream::{begin, take_piece};
-use hunk_scatter::{Image, Limits, Packed, load};
+use hunk_scatter::stream::begin;
+use hunk_scatter::{Image, Limits, Packed};
 use hunk_testing::large::{
-    HUNKS, LARGE, LOAD_FILE, MANY, SHORT_OF_16_MIB, SHORT_OF_64_MIB, bytes_of_runs, large_load_file,
+    HUNKS, LARGE, LOAD_FILE, SHORT_OF_16_MIB, SHORT_OF_64_MIB, bytes_of_runs, large_load_file,
 };
 use hunk_testing::{Fed, Then, spelled};
-use std::alloc::Global;
+use hunk_words::word_at;
+use std::alloc::{AllocError, Global};
 use std::process::Abort;
 use std::test::Fail;
 
@@ -23,23 +24,18 @@ const LARGE_HUNK: usize = LARGE - 36;
 /// The first hunk lies at 0x21000, and has 8 bytes; each other has 4.
 const START: u32 = 0x21000;
 
-const SECOND: u32 = START + 8;
+/// Each longword of the first hunk: to it the base of the second, 0x21008, was added 5,000 times.
+const ADDED: u32 = 675_880_000;
 
 /// Loads the file by a reader of this many bytes a read, which gives all of them.
-fn loaded(rt: &impl Abort, alloc: Global, bytes: &[u8], most: usize) -> Image {
+fn image_of(rt: &impl Abort, alloc: Global, bytes: &[u8], most: usize) -> Image {
     let mut source = Fed::new(bytes, most, Then::Fails);
-    let answer = load(alloc, &mut source, LIMITS, &Packed { start: START });
+    let answer = loaded(alloc, &mut source, LIMITS, &Packed { start: START });
     assert_eq!(rt; source.rest().len(), 0);
     match answer {
         Ok(image) => image,
         Err(fault) => panic!(rt; "{fault:?}"),
     }
-}
-
-/// The longwords of the first hunk: to each the base of the second was added this often.
-fn first_segment() -> [u8; 8] {
-    let [a, b, c, d] = MANY.wrapping_mul(SECOND).to_be_bytes();
-    [a, b, c, d, a, b, c, d]
 }
 
 /// Sees that the segments have their bases and longwords.
@@ -49,7 +45,8 @@ fn expect_segments(rt: &impl Abort, image: &Image) {
     for (row, segment) in image.segments() {
         assert_eq!(rt; row.base as u64, base);
         if row.base == START {
-            assert_eq!(rt; segment, first_segment().as_slice());
+            assert_eq!(rt; segment.len(), 8);
+            assert_eq!(rt; (word_at(segment, 0), word_at(segment, 1)), (ADDED, ADDED));
         } else {
             assert_eq!(rt; segment, [0; 4].as_slice());
         }
@@ -67,7 +64,7 @@ fn expect_segments(rt: &impl Abort, image: &Image) {
 fn many_hunks(rt: HostRuntime) -> Result<(), Fail> {
     let bytes = bytes_of_runs(rt.alloc(), LOAD_FILE)?;
     for most in [5, 256] {
-        let image = loaded(&rt, rt.alloc(), &bytes, most);
+        let image = image_of(&rt, rt.alloc(), &bytes, most);
         expect_segments(&rt, &image);
     }
     Ok(())
@@ -76,17 +73,20 @@ fn many_hunks(rt: HostRuntime) -> Result<(), Fail> {
 #[test]
 fn large_stores(rt: HostRuntime) -> Result<(), Fail> {
     let alloc = rt.alloc();
-    let image = loaded(&rt, alloc, &spelled(alloc, SHORT_OF_16_MIB)?, 1);
+    let image = image_of(&rt, alloc, &spelled(alloc, SHORT_OF_16_MIB)?, 1);
     assert_eq!(rt; image.bytes(), 1 << 24);
-    let image = loaded(&rt, alloc, &spelled(alloc, SHORT_OF_64_MIB)?, 1);
+    let image = image_of(&rt, alloc, &spelled(alloc, SHORT_OF_64_MIB)?, 1);
     assert_eq!(rt; image.bytes(), 1 << 26);
-    let image = loaded(&rt, alloc, &large_load_file(alloc)?, 256);
+    let image = image_of(&rt, alloc, &large_load_file(alloc)?, 256);
     assert_eq!(rt; image.bytes(), LARGE_HUNK as u64);
     Ok(())
 }
 
-/// The bytes of the header of the load file with many hunks, and of a file of one hunk.
+/// The bytes of the header of the load file with many hunks.
 const HEADER: usize = 20 + 4 * HUNKS as usize;
+
+/// The bytes that it declares.
+const STORE: usize = 4 * HUNKS as usize + 4;
 
 /// Sees that a stream whose first piece has this many bytes takes all that is behind the header.
 fn expect_streamed(
@@ -100,25 +100,30 @@ fn expect_streamed(
     let (_, body) = cut_at(bytes, header);
     let (front, rest) = cut_at(body, cut);
     let at = begin(store, rows, header as u64);
-    let Ok((at, _)) = take_piece(store, rows, at, front) else {
+    let Ok((at, _)) = piece_taken(store, rows, at, front) else {
         panic!(rt; "the first piece");
     };
-    let Ok((at, _)) = take_piece(store, rows, at, rest) else {
+    let Ok((at, _)) = piece_taken(store, rows, at, rest) else {
         panic!(rt; "the second piece");
     };
     assert_eq!(rt; (at.is_whole(), at.fed), (true, bytes.len() as u64));
+}
+
+fn rows_of(alloc: Global, image: &Image) -> Result<Vec<Row>, AllocError> {
+    let mut rows = Vec::new(alloc);
+    for (row, _) in image.segments() {
+        rows.push(row)?;
+    }
+    Ok(rows)
 }
 
 #[test]
 fn many_hunks_in_two_pieces(rt: HostRuntime) -> Result<(), Fail> {
     let alloc = rt.alloc();
     let bytes = bytes_of_runs(alloc, LOAD_FILE)?;
-    let image = loaded(&rt, alloc, &bytes, 256);
-    let mut rows = Vec::new(alloc);
-    for (row, _) in image.segments() {
-        rows.push(row)?;
-    }
-    let mut store = vec![in alloc; 0xA5u8; 4 * HUNKS as usize + 4]?;
+    let image = image_of(&rt, alloc, &bytes, 256);
+    let rows = rows_of(alloc, &image)?;
+    let mut store = vec![in alloc; 0xA5u8; STORE]?;
     expect_streamed(&rt, &rows, &mut store, &bytes, HEADER, 100_001);
     assert!(rt; store.as_slice() == image.joined());
     Ok(())

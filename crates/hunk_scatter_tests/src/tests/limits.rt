@@ -1,8 +1,8 @@
 //! What a load reads and holds at most.
 
 use crate::tests::loads::{START, Want, comes};
-use crate::tests::{AMPLE, cut_at, outcome};
-use hunk_scatter::{Limits, Listed, load};
+use crate::tests::{AMPLE, cut_at, load_fault};
+use hunk_scatter::{Limits, Listed};
 use hunk_testing::examples::{ENDING_IN_ZEROS, ONE_HUNK, TWO_HUNKS};
 use hunk_testing::{FailsOnce, Fed, Interrupted, Then, spelled};
 use hunk_words::{FromRead, LoadFault, Reason};
@@ -86,8 +86,8 @@ fn no_read(rt: HostRuntime) -> Result<(), Fail> {
         budget: 4,
         file_bytes: 0,
     };
-    let got = outcome(rt.alloc(), &mut source, none, &START)?;
-    assert!(rt; got.is_err());
+    let fault = load_fault(rt.alloc(), &mut source, none, &START);
+    assert!(rt; fault.is_some());
     assert_eq!(rt; source.reads(), 0);
     Ok(())
 }
@@ -98,8 +98,8 @@ fn no_base(rt: HostRuntime) -> Result<(), Fail> {
     let bytes = spelled(rt.alloc(), TWO_HUNKS)?;
     let mut source = Fed::new(bytes.as_slice(), 256, Then::Ends);
     let one = Listed([0x10000].as_slice());
-    let got = outcome(rt.alloc(), &mut source, AMPLE, &one)?;
-    assert!(rt; got.is_err());
+    let fault = load_fault(rt.alloc(), &mut source, AMPLE, &one);
+    assert!(rt; fault.is_some());
     assert_eq!(rt; source.rest().len(), 56);
     Ok(())
 }
@@ -130,15 +130,13 @@ fn expect_stop(
     file_bytes: u64,
     fault: LoadFault,
     reads: u64,
-) -> Result<(), Fail> {
+) {
     let limits = Limits {
         budget: 1_000,
         file_bytes,
     };
-    let got = outcome(alloc, source, limits, &START)?;
-    assert_eq!(rt; got, Err(fault));
-    assert_eq!(rt; source.reads(), reads);
-    Ok(())
+    let got = load_fault(alloc, source, limits, &START);
+    assert_eq!(rt; (got, source.reads()), (Some(fault), reads));
 }
 
 /// A reader that fails, and one without end.
@@ -153,10 +151,18 @@ fn stops(rt: HostRuntime) -> Result<(), Fail> {
         let (front, _) = cut_at(one.as_slice(), *given);
         for (most, reads) in [1, 3, 256].iter().zip(reads) {
             let mut source = Fed::new(front, *most, *then);
-            expect_stop(&rt, rt.alloc(), &mut source, *file_bytes, fault, *reads)?;
+            expect_stop(&rt, rt.alloc(), &mut source, *file_bytes, fault, *reads);
         }
     }
     Ok(())
+}
+
+/// The fault of a load whose read fails behind this many bytes.
+fn failed_at(given: usize) -> Option<LoadFault> {
+    Some(LoadFault {
+        place: given as u64,
+        reason: Reason::Read,
+    })
 }
 
 /// Example 1, whose 40 bytes come one a read: a read that fails ends the load, though the next would go on.
@@ -165,16 +171,12 @@ fn reads_nothing_again(rt: HostRuntime) -> Result<(), Fail> {
     let one = spelled(rt.alloc(), ONE_HUNK)?;
     for fails_at in 0..41 {
         let mut source = FailsOnce::new(one.as_slice(), fails_at);
-        let got = outcome(rt.alloc(), &mut source, AMPLE, &START)?;
+        let fault = load_fault(rt.alloc(), &mut source, AMPLE, &START);
         assert_eq!(rt; source.given(), fails_at);
         if fails_at == 40 {
-            assert!(rt; got.is_ok() && !source.has_failed());
+            assert!(rt; fault.is_none() && !source.has_failed());
         } else {
-            let fault = LoadFault {
-                place: fails_at as u64,
-                reason: Reason::Read,
-            };
-            assert_eq!(rt; got, Err(fault));
+            assert_eq!(rt; fault, failed_at(fails_at));
         }
     }
     Ok(())
@@ -186,12 +188,8 @@ fn interrupted(rt: HostRuntime) -> Result<(), Fail> {
     let bytes = spelled(rt.alloc(), ONE_HUNK)?;
     for place in 0..bytes.len() {
         let mut source = FromRead::new(Interrupted::new(bytes.as_slice(), place));
-        let fault = load(rt.alloc(), &mut source, AMPLE, &START).err();
-        let want = LoadFault {
-            place: place as u64,
-            reason: Reason::Read,
-        };
-        assert_eq!(rt; fault, Some(want));
+        let fault = load_fault(rt.alloc(), &mut source, AMPLE, &START);
+        assert_eq!(rt; fault, failed_at(place));
     }
     Ok(())
 }

@@ -1,10 +1,10 @@
 //! Loads while growths are refused.
 ghost use Rattle.std.specs.Prelude.{Option, slice_get};
 
-use crate::tests::AMPLE;
-use crate::tests::headers::{Counted, came_back, declared};
+use crate::tests::headers::{Counted, came_back, declared, fed};
+use crate::tests::{AMPLE, load_fault, loaded};
 use hunk_files::Row;
-use hunk_scatter::{Limits, Listed, Packed, Placer, load};
+use hunk_scatter::{Limits, Listed, Packed, Placer};
 use hunk_testing::examples::{MOST_HUNKS, TWO_HUNKS};
 use hunk_testing::{Fed, Then, all_but, all_memory, before_end, memory_ends, spelled};
 use hunk_words::{LoadFault, Reason};
@@ -19,12 +19,6 @@ const ROWS: usize = 48;
 /// Whether a growth of this many bytes is refused now.
 fn is_refused(alloc: Global, bytes: usize) -> bool {
     Vec::<u8>::with_capacity(alloc, bytes).is_err()
-}
-
-/// Why a load of the bytes is refused, if it is.
-fn load_fault<P: Placer>(alloc: Global, bytes: &[u8], placer: &P) -> Option<LoadFault> {
-    let mut source = Fed::new(bytes, 256, Then::Ends);
-    load(alloc, &mut source, AMPLE, placer).err()
 }
 
 /// The bases of example 43.
@@ -58,8 +52,9 @@ fn refused_first_growth(rt: HostRuntime) -> Result<(), Fail> {
         return Ok(());
     }
     let bytes = spelled(rt.alloc(), TWO_HUNKS)?;
+    let mut source = Fed::new(&bytes, 256, Then::Ends);
     let pieces = all_memory(rt.alloc())?;
-    let fault = load_fault(rt.alloc(), bytes.as_slice(), &BASES);
+    let fault = load_fault(rt.alloc(), &mut source, AMPLE, &BASES);
     drop(pieces);
     let reason = Reason::OutOfMemory;
     assert_eq!(rt; fault, Some(LoadFault { place: 20, reason }));
@@ -78,7 +73,8 @@ fn refused_last_growth(rt: HostRuntime) -> Result<(), Fail> {
         bases: BASES,
         pieces: Cell::new(Vec::new(rt.alloc())),
     };
-    let fault = load_fault(rt.alloc(), bytes.as_slice(), &placer);
+    let mut source = Fed::new(&bytes, 256, Then::Ends);
+    let fault = load_fault(rt.alloc(), &mut source, AMPLE, &placer);
     drop(placer);
     let reason = Reason::OutOfMemory;
     assert_eq!(rt; fault, Some(LoadFault { place: 28, reason }));
@@ -99,6 +95,18 @@ fn refused_store(rt: HostRuntime) -> Result<(), Fail> {
     Ok(())
 }
 
+/// What a loader answers for a header while there is memory for these rooms alone, and how many bytes it holds then.
+fn held_in(
+    alloc: Global,
+    header: &[u8],
+    rooms: &[usize],
+) -> Result<(Result<usize, LoadFault>, u64), AllocError> {
+    let memory = all_but(alloc, rooms)?;
+    let (loader, answer) = fed(alloc, header, 1_000);
+    drop(memory);
+    Ok((answer, loader.held()))
+}
+
 /// Sees that a loader takes all of the bytes while there is memory for these rooms alone, and what it holds then.
 fn expect_held(
     rt: &impl Abort,
@@ -108,12 +116,8 @@ fn expect_held(
     bytes_held: u64,
 ) -> Result<(), Fail> {
     let bytes = spelled(alloc, text)?;
-    let held = all_but(alloc, rooms)?;
-    let mut counted = Counted::new(alloc, 1_000);
-    let fed = counted.feed(rt, bytes.as_slice());
-    drop(held);
-    assert_eq!(rt; fed, Ok(bytes.len()), "{text}");
-    assert_eq!(rt; counted.loader.held(), bytes_held, "{text}");
+    let held = held_in(alloc, bytes.as_slice(), rooms)?;
+    assert_eq!(rt; held, (Ok(bytes.len()), bytes_held), "{text}");
     Ok(())
 }
 
@@ -140,7 +144,7 @@ fn loads_file(alloc: Global, source: &mut Fed<'_>) -> (Result<u64, LoadFault>, b
         budget: 1_000,
         file_bytes: 2_000_000,
     };
-    match load(alloc, source, limits, &Packed { start: 0x21000 }) {
+    match loaded(alloc, source, limits, &Packed { start: 0x21000 }) {
         Ok(image) => (Ok(image.bytes()), is_refused(alloc, ROWS)),
         Err(fault) => (Err(fault), false),
     }

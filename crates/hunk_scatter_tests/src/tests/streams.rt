@@ -1,8 +1,8 @@
 //! A loader in memory that is its caller's: pieces cut at each byte, a refusal, and numbers of no loader.
 
-use crate::tests::cut_at;
+use crate::tests::{cut_at, piece_taken};
 use hunk_files::Row;
-use hunk_scatter::stream::{Standing, Stop, begin, take_piece};
+use hunk_scatter::stream::{Standing, Stop, begin};
 use hunk_testing::examples::{
     ENDING_EARLY, ONE_HUNK, OVERLAPPING, OVERLAPPING_FROM_BEHIND, RELOCATED, RELOCATED_BY_NO_HUNK,
     RELOCATED_PAST_ITS_END, TWO_BASES, TWO_HUNKS, WITH_ATTRIBUTES,
@@ -68,7 +68,7 @@ fn file_of(alloc: Global, text: &str, header: usize, table: Table) -> Result<Fil
 
 /// Feeds a piece that is taken whole.
 fn takes(rt: &impl Abort, store: &mut [u8], rows: &[Row], at: Standing, piece: &[u8]) -> Standing {
-    match take_piece(store, rows, at, piece) {
+    match piece_taken(store, rows, at, piece) {
         Ok((to, taken)) => {
             assert_eq!(rt; taken, piece.len());
             to
@@ -90,7 +90,7 @@ fn expect_store(rt: &impl Abort, file: &File, cut: usize, store: &mut [u8], want
     assert!(rt; third.is_whole());
     assert_eq!(rt; third.fed, file.bytes.len() as u64);
     // Nothing is taken of what follows the file.
-    assert_eq!(rt; take_piece(store, rows, third, b"follows"), Ok((third, 0)));
+    assert_eq!(rt; piece_taken(store, rows, third, b"follows"), Ok((third, 0)));
     assert_eq!(rt; &*store, want);
 }
 
@@ -118,10 +118,10 @@ fn expect_refusal(rt: &impl Abort, file: &File, cut: usize, fault: LoadFault) {
     let (_, body) = cut_at(file.bytes.as_slice(), file.header);
     let (front, rest) = cut_at(body, cut);
     let first = begin(store.as_mut_slice(), rows, file.header as u64);
-    match take_piece(store.as_mut_slice(), rows, first, front) {
+    match piece_taken(store.as_mut_slice(), rows, first, front) {
         Ok((second, _)) => {
             assert!(rt; second.fed < fault.place.saturating_add(4));
-            let stop = take_piece(store.as_mut_slice(), rows, second, rest);
+            let stop = piece_taken(store.as_mut_slice(), rows, second, rest);
             assert_eq!(rt; stop, Err(Stop::Refused(fault)));
         }
         Err(stop) => assert_eq!(rt; stop, Stop::Refused(fault)),
@@ -145,7 +145,7 @@ fn refused_in_two_pieces(rt: HostRuntime) -> Result<(), Fail> {
 
 /// Sees that numbers are found out, and nothing is written.
 fn expect_strange(rt: &impl Abort, rows: &[Row], store: &mut [u8], at: Standing) {
-    let stop = take_piece(store, rows, at, b"\0\0\x03\xE9");
+    let stop = piece_taken(store, rows, at, b"\0\0\x03\xE9");
     assert_eq!(rt; stop, Err(Stop::Strange));
     for byte in store {
         assert_eq!(rt; *byte, 0);

@@ -1,9 +1,10 @@
 //! Each object file, and each front of it that is one, checked and written again.
 
 use hunk_files::ObjectFile;
-use hunk_vectors::{OBJECT_TEXTS, OBJECTS, ObjectWant, object_bytes};
+use hunk_vectors::{OBJECT_TEXTS, OBJECTS, ObjectVector, ObjectWant, object_bytes};
 use hunk_words::{FromWrite, LongWriter};
 use std::alloc::Global;
+use std::process::Abort;
 use std::test::Fail;
 
 fn answer(alloc: Global, bytes: &[u8]) -> Result<ObjectWant, Fail> {
@@ -28,15 +29,31 @@ fn is_written_again(alloc: Global, bytes: &[u8]) -> bool {
     file.encode(&mut writer).is_ok() && writer.into_inner().into_inner().as_slice() == bytes
 }
 
+/// Sees that the file of this number in the table has this text and these bytes, and that the decoder and the check
+/// answer what the table says.
+fn expect(
+    rt: &impl Abort,
+    alloc: Global,
+    table: &[ObjectVector],
+    i: usize,
+    text: &str,
+    bytes: &[u8],
+) -> Result<(), Fail> {
+    let Some(vector) = table.get(i) else {
+        panic!(rt; "no {i}");
+    };
+    assert_eq!(rt; vector.text, text);
+    assert_eq!(rt; 2 * bytes.len(), text.len());
+    assert_eq!(rt; answer(alloc, bytes)?, vector.want, "{i}");
+    Ok(())
+}
+
 #[test]
 fn answers(rt: HostRuntime) -> Result<(), Fail> {
     assert_eq!(rt; OBJECTS.len(), OBJECT_TEXTS.len());
     for i in 0..OBJECT_TEXTS.len() {
-        let vector = OBJECTS[i];
-        assert_eq!(rt; vector.text, OBJECT_TEXTS[i]);
         let bytes = object_bytes(rt.alloc(), i)?;
-        assert_eq!(rt; 2 * bytes.len(), vector.text.len());
-        assert_eq!(rt; answer(rt.alloc(), bytes.as_slice())?, vector.want, "{i}");
+        expect(&rt, rt.alloc(), &OBJECTS, i, OBJECT_TEXTS[i], &bytes)?;
     }
     Ok(())
 }

@@ -2,8 +2,9 @@
 
 use crate::tests::readings::agrees;
 use hunk_files::LoadFile;
-use hunk_vectors::{LOAD_TEXTS, VECTORS, Want, bytes};
-use std::alloc::{AllocError, Global};
+use hunk_vectors::{LOAD_TEXTS, VECTORS, Vector, Want, bytes};
+use std::alloc::Global;
+use std::process::Abort;
 use std::test::Fail;
 
 /// What the decoder of whole files answers.
@@ -20,16 +21,32 @@ fn answer(alloc: Global, bytes: &[u8]) -> Want {
     }
 }
 
+/// Sees that the file of this number in the table has this text and these bytes, that the decoder answers what the
+/// table says, and that a load agrees with it.
+fn expect(
+    rt: &impl Abort,
+    alloc: Global,
+    table: &[Vector],
+    i: usize,
+    text: &str,
+    bytes: &[u8],
+) -> Result<(), Fail> {
+    let Some(vector) = table.get(i) else {
+        panic!(rt; "no {i}");
+    };
+    assert_eq!(rt; vector.text, text);
+    assert_eq!(rt; 2 * bytes.len(), text.len());
+    assert_eq!(rt; answer(alloc, bytes), vector.want, "{i}");
+    assert!(rt; agrees(alloc, bytes, bytes.len())?, "{i}");
+    Ok(())
+}
+
 #[test]
 fn answers(rt: HostRuntime) -> Result<(), Fail> {
     assert_eq!(rt; VECTORS.len(), LOAD_TEXTS.len());
     for i in 0..LOAD_TEXTS.len() {
-        let vector = VECTORS[i];
-        assert_eq!(rt; vector.text, LOAD_TEXTS[i]);
         let bytes = bytes(rt.alloc(), i)?;
-        assert_eq!(rt; 2 * bytes.len(), vector.text.len());
-        assert_eq!(rt; answer(rt.alloc(), bytes.as_slice()), vector.want, "{i}");
-        assert!(rt; agrees(rt.alloc(), bytes.as_slice(), bytes.len())?, "{i}");
+        expect(&rt, rt.alloc(), &VECTORS, i, LOAD_TEXTS[i], &bytes)?;
     }
     Ok(())
 }
