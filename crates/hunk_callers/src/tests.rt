@@ -8,11 +8,44 @@ use crate::{
     Symbol, describe, has_header, list_symbols, load_pieces, load_program, place_in_rom, show_file,
     strip_file, survey, write_program,
 };
-use hunk_orders::{Order, order};
+use hunk_orders::{Order, OrderFault, order};
 use hunk_testing::{examples, spelled};
-use hunk_vectors::{OBJECTS, ObjectWant, VECTORS, Want};
+use hunk_vectors::{OBJECTS, ObjectVector, ObjectWant, VECTORS, Vector, Want};
 use hunk_words::{FromWrite, Reason};
+use std::alloc::{AllocError, Global};
+use std::process::Abort;
 use std::test::Fail;
+
+/// The words of a command line.
+fn words(alloc: Global, line: &[&str]) -> Result<Vec<String>, AllocError> {
+    let mut words = Vec::new(alloc);
+    for word in line {
+        words.push(String::from_str(alloc, word)?)?;
+    }
+    Ok(words)
+}
+
+/// The load files of the suite.
+fn load_files() -> &'static [Vector] {
+    &VECTORS
+}
+
+/// Sees that a call fails, with an error of this text.
+fn expect_error<T: Drop>(
+    rt: &impl Abort,
+    alloc: Global,
+    got: anyhow::Result<T>,
+    want: &str,
+) -> Result<(), AllocError> {
+    match got {
+        Ok(_) => assert!(rt; false, "{want}"),
+        Err(error) => {
+            let text = format!(in alloc; "{error}")?;
+            assert_eq!(rt; text.as_str(), want);
+        }
+    }
+    Ok(())
+}
 
 #[test]
 fn loads_a_program(rt: HostRuntime) -> Result<(), Fail> {
@@ -24,18 +57,21 @@ fn loads_a_program(rt: HostRuntime) -> Result<(), Fail> {
     Ok(())
 }
 
+/// Files, and the lines on them.
+const LINES: &[(&str, &str)] = &[
+    (
+        examples::WITH_A_SYMBOL,
+        "load file, 1 hunks, 0 bytes after it",
+    ),
+    (examples::TWO_FINDINGS, "object file, 1 units, 2 findings"),
+];
+
 #[test]
 fn describes_files(rt: HostRuntime) -> Result<(), Fail> {
-    for (text, want) in [
-        (
-            examples::WITH_A_SYMBOL,
-            "load file, 1 hunks, 0 bytes after it",
-        ),
-        (examples::TWO_FINDINGS, "object file, 1 units, 2 findings"),
-    ] {
+    for (text, want) in LINES {
         let file = spelled(rt.alloc(), text)?;
         let line = describe(rt.alloc(), file.as_slice())?;
-        assert_eq!(rt; line.as_str(), want);
+        assert_eq!(rt; line.as_str(), *want);
     }
     Ok(())
 }
@@ -53,32 +89,26 @@ fn lists_symbols(rt: HostRuntime) -> Result<(), Fail> {
     Ok(())
 }
 
+/// The bytes in a ROM of the file that the text spells.
+fn placed(alloc: Global, text: &str, bases: &[u32]) -> anyhow::Result<Vec<u8>> {
+    place_in_rom(alloc, &spelled(alloc, text)?, bases)
+}
+
 /// Example 2, whose second hunk lies at 00FC0000, which is added to the 4 in the first.
 #[test]
 fn places_in_a_rom(rt: HostRuntime) -> Result<(), Fail> {
-    let file = spelled(rt.alloc(), examples::TWO_HUNKS)?;
+    let alloc = rt.alloc();
     let bases = [0x00F8_0000, 0x00FC_0000];
-    let image = place_in_rom(rt.alloc(), file.as_slice(), &bases)?;
+    let image = placed(alloc, examples::TWO_HUNKS, &bases)?;
     let want = [
         0x4E, 0xF9, 0, 0xFC, 0, 4, 0x4E, 0x71, 0x12, 0x34, 0x56, 0x78,
     ];
     assert_eq!(rt; image.as_slice(), want.as_slice());
-    for (text, want) in [
-        (examples::TWO_HUNKS, "wrong number of bases"),
-        (
-            examples::OVERLAPPING_APART,
-            "the relocations at 0 and 2 of hunk 0 overlap",
-        ),
-    ] {
-        let file = spelled(rt.alloc(), text)?;
-        match place_in_rom(rt.alloc(), file.as_slice(), &bases[..1]) {
-            Ok(_) => assert!(rt; false, "{want}"),
-            Err(error) => {
-                let text = format!(in rt.alloc(); "{error}")?;
-                assert_eq!(rt; text.as_str(), want);
-            }
-        }
-    }
+    let got = placed(alloc, examples::TWO_HUNKS, &bases[..1]);
+    expect_error(&rt, alloc, got, "wrong number of bases")?;
+    let got = placed(alloc, examples::OVERLAPPING_APART, &bases[..1]);
+    let want = "the relocations at 0 and 2 of hunk 0 overlap";
+    expect_error(&rt, alloc, got, want)?;
     Ok(())
 }
 
@@ -93,18 +123,20 @@ fn strips_a_file(rt: HostRuntime) -> Result<(), Fail> {
 }
 
 /// A whole header, one that may go on, and one that is no load file's.
+const FRONTS: &[(&str, Result<bool, Reason>)] = &[
+    ("3F3 0 1 0 0 1 3E9", Ok(true)),
+    ("3F3 0 1 0 0 1", Ok(true)),
+    ("3F3 0 2 0 1 1", Ok(false)),
+    ("", Ok(false)),
+    ("3E7 0", Err(Reason::IsObject)),
+    ("3F3 0 1 0 1", Err(Reason::LastHunk)),
+];
+
 #[test]
 fn looks_at_an_upload(rt: HostRuntime) -> Result<(), Fail> {
-    for (text, want) in [
-        ("3F3 0 1 0 0 1 3E9", Ok(true)),
-        ("3F3 0 1 0 0 1", Ok(true)),
-        ("3F3 0 2 0 1 1", Ok(false)),
-        ("", Ok(false)),
-        ("3E7 0", Err(Reason::IsObject)),
-        ("3F3 0 1 0 1", Err(Reason::LastHunk)),
-    ] {
+    for (text, want) in FRONTS {
         let front = spelled(rt.alloc(), text)?;
-        assert_eq!(rt; has_header(&front), want);
+        assert_eq!(rt; has_header(&front), *want);
     }
     Ok(())
 }
@@ -125,12 +157,13 @@ fn refuses_half_a_longword(rt: HostRuntime) -> Result<(), Fail> {
     Ok(())
 }
 
-/// The conformance suite, whose load files have one symbol together.
-#[test]
-fn surveys_the_suite(rt: HostRuntime) -> Result<(), Fail> {
-    let mut texts = Vec::new(rt.alloc());
+/// How many load files are accepted, and how many bytes they declare. Their texts are added.
+fn add_load_files(
+    vectors: &[Vector],
+    texts: &mut Vec<&'static str>,
+) -> Result<(u64, u64), AllocError> {
     let (mut programs, mut bytes) = (0u64, 0u64);
-    for vector in VECTORS {
+    for vector in vectors {
         texts.push(vector.text)?;
         if let Want::Accepted {
             hunks: _,
@@ -141,8 +174,16 @@ fn surveys_the_suite(rt: HostRuntime) -> Result<(), Fail> {
             bytes = bytes.saturating_add(declared);
         }
     }
+    Ok((programs, bytes))
+}
+
+/// How many object files are accepted, and how much is found in them. Their texts are added.
+fn add_object_files(
+    vectors: &[ObjectVector],
+    texts: &mut Vec<&'static str>,
+) -> Result<(u64, u64), AllocError> {
     let (mut objects, mut findings) = (0u64, 0u64);
-    for vector in OBJECTS {
+    for vector in vectors {
         texts.push(vector.text)?;
         if let ObjectWant::Accepted {
             units: _,
@@ -153,12 +194,19 @@ fn surveys_the_suite(rt: HostRuntime) -> Result<(), Fail> {
             findings = findings.saturating_add(found);
         }
     }
+    Ok((objects, findings))
+}
+
+/// The conformance suite, whose load files have one symbol together.
+#[test]
+fn surveys_the_suite(rt: HostRuntime) -> Result<(), Fail> {
+    let mut texts = Vec::new(rt.alloc());
+    let programs = add_load_files(load_files(), &mut texts)?;
+    let objects = add_object_files(&OBJECTS, &mut texts)?;
     let found = survey(rt.alloc(), texts.as_slice())?;
-    assert_eq!(rt;
-        (found.programs, found.segment_bytes, found.symbols),
-        (programs, bytes, 1)
-    );
-    assert_eq!(rt; (found.objects, found.findings), (objects, findings));
+    assert_eq!(rt; (found.programs, found.segment_bytes), programs);
+    assert_eq!(rt; found.symbols, 1);
+    assert_eq!(rt; (found.objects, found.findings), objects);
     let files = found
         .programs
         .saturating_add(found.objects)
@@ -167,23 +215,23 @@ fn surveys_the_suite(rt: HostRuntime) -> Result<(), Fail> {
     Ok(())
 }
 
+/// Whether the words ask for `show` of standard input, which is no hexadecimal text.
+fn asks_to_show(alloc: Global, words: &[String]) -> Result<bool, OrderFault> {
+    let asked = order(alloc, words)?;
+    Ok(matches!(
+        asked,
+        Order::Show {
+            hex: false,
+            file: None
+        }
+    ))
+}
+
 /// The words of a command line, and what the program prints for them.
 #[test]
 fn shows_what_the_words_ask_for(rt: HostRuntime) -> Result<(), Fail> {
-    let mut words = Vec::new(rt.alloc());
-    for word in ["hunkinfo", "show"] {
-        words.push(String::from_str(rt.alloc(), word)?)?;
-    }
-    let asked = order(rt.alloc(), words.as_slice())?;
-    assert!(rt;
-        matches!(
-            asked,
-            Order::Show {
-                hex: false,
-                file: None
-            }
-        )
-    );
+    let line = words(rt.alloc(), &["hunkinfo", "show"])?;
+    assert!(rt; asks_to_show(rt.alloc(), &line)?);
     let file = spelled(rt.alloc(), examples::ONE_HUNK)?;
     let text = show_file(rt.alloc(), file.as_slice())?;
     let want = b"load file 1 hunks 4 bytes\nhunk 0 4 bytes any\n  CODE 4 bytes\n  END\n";
@@ -196,6 +244,16 @@ fn part(file: &[u8], from: usize, to: usize) -> &[u8] {
     file.get(from..to).unwrap_or(&[])
 }
 
+/// The memory of a program that is loaded in pieces.
+fn pieces_in_memory(alloc: Global, first: &[u8], more: &[&[u8]]) -> anyhow::Result<Vec<u8>> {
+    let image = load_pieces(alloc, first, more, 0x0001_0000)?;
+    let mut memory = Vec::new(alloc);
+    for (_, segment) in image.segments() {
+        memory.extend_from_slice(segment)?;
+    }
+    Ok(memory)
+}
+
 /// Example 2, whose header has 28 bytes, cut after it and in the middle of a longword, with a byte
 /// after the file.
 #[test]
@@ -204,32 +262,17 @@ fn loads_pieces(rt: HostRuntime) -> Result<(), Fail> {
     file.push(0xFF)?;
     let first = part(&file, 0, 31);
     let (second, third) = (part(&file, 31, 51), part(&file, 51, 85));
-    let image = load_pieces(rt.alloc(), first, &[second, third], 0x0001_0000)?;
-    let mut memory = Vec::new(rt.alloc());
-    for (_, segment) in image.segments() {
-        memory.extend_from_slice(segment)?;
-    }
+    let memory = pieces_in_memory(rt.alloc(), first, &[second, third])?;
     // The second hunk lies at 0001_0008, which is added to the 4 in the first.
     let want = [
         0x4E, 0xF9, 0, 1, 0, 0x0C, 0x4E, 0x71, 0x12, 0x34, 0x56, 0x78,
     ];
     assert_eq!(rt; memory.as_slice(), want.as_slice());
     // After byte 51 a file has the rest of a count, an END, a BSS of two longwords and its END.
-    for (pieces, start, want) in [
-        (&[second][..], 0, "at least 17 bytes are to come"),
-        (
-            &[second, third],
-            0xFFFF_FFFC,
-            "refused at byte 28: NoBase (29) hunk 0",
-        ),
-    ] {
-        match load_pieces(rt.alloc(), first, pieces, start) {
-            Ok(_) => assert!(rt; false, "{want}"),
-            Err(error) => {
-                let text = format!(in rt.alloc(); "{error}")?;
-                assert_eq!(rt; text.as_str(), want);
-            }
-        }
-    }
+    let got = load_pieces(rt.alloc(), first, &[second], 0);
+    expect_error(&rt, rt.alloc(), got, "at least 17 bytes are to come")?;
+    let got = load_pieces(rt.alloc(), first, &[second, third], 0xFFFF_FFFC);
+    let want = "refused at byte 28: NoBase (29) hunk 0";
+    expect_error(&rt, rt.alloc(), got, want)?;
     Ok(())
 }

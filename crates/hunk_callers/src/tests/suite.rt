@@ -1,11 +1,12 @@
 //! The conformance suite beside the examples of hunk_testing, and its bytes while memory is refused.
 
+use crate::tests::load_files;
 use hunk_commands::unhex;
 use hunk_testing::{
     CHANGES, Change, answers_growth_by_growth, changed, ends_within_debug, examples, memory_ends,
     spelled,
 };
-use hunk_vectors::{LOAD_TEXTS, OBJECT_TEXTS, VECTORS, Want, bytes, object_bytes};
+use hunk_vectors::{LOAD_TEXTS, OBJECT_TEXTS, Want, bytes, object_bytes};
 use std::alloc::{AllocError, Global};
 use std::process::Abort;
 use std::test::Fail;
@@ -140,7 +141,7 @@ fn answers_of_changes(alloc: Global, bytes: &[u8]) -> Result<Vec<Want>, AllocErr
 
 /// Sees that just one change makes the bytes of the suite's load file at this place, with the suite's answer.
 fn expect_change(rt: &impl Abort, alloc: Global, place: usize) -> Result<(), Fail> {
-    let Some(vector) = VECTORS.get(place) else {
+    let Some(vector) = load_files().get(place) else {
         panic!(rt; "no load file at {place}");
     };
     let bytes = unhex(alloc, vector.text.as_bytes())?;

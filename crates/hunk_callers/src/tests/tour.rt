@@ -1,18 +1,9 @@
 //! A little of each library, on the suite.
 
+use crate::tests::words;
 use crate::tour;
 use hunk_vectors::{VECTORS, Want};
-use std::alloc::{AllocError, Global};
 use std::test::Fail;
-
-/// The words of a command line.
-fn words(alloc: Global, line: &[&str]) -> Result<Vec<String>, AllocError> {
-    let mut words = Vec::new(alloc);
-    for word in line {
-        words.push(String::from_str(alloc, word)?)?;
-    }
-    Ok(words)
-}
 
 /// A hunk of code, and words that are another order.
 #[test]

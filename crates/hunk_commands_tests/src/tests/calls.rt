@@ -1,11 +1,13 @@
 //! The commands on files of both kinds, by any source and to a writer that may fail.
 
-use crate::tests::relocating::LIMITS;
+use crate::tests::relocating::{BASE, LIMITS};
 use hunk_commands::{RunFault, relocate, rewrite, show, validate};
 use hunk_scatter::Limits;
 use hunk_testing::{Narrow, WIDTH, examples, spelled};
-use hunk_words::{FromWrite, LongWriter, Source};
+use hunk_words::{FromSlice, FromWrite, LongWriter, Source};
 use std::alloc::{AllocError, Global};
+use std::io::Write;
+use std::process::Abort;
 
 /// More than any of the files has.
 pub(super) const LIMIT: u64 = 100_000;
@@ -74,6 +76,26 @@ pub(super) const CASES: &[Case] = &[
     },
 ];
 
+/// The fault of a call on what the source gives, how many bytes it wrote, and the writer that took them.
+pub(super) fn called<R: Source, W: Write + Drop>(
+    alloc: Global,
+    call: Call,
+    source: &mut R,
+    writer: W,
+    limits: Limits,
+) -> (Option<RunFault>, u64, W) {
+    let mut out = LongWriter::new(FromWrite::new(writer));
+    let most = limits.file_bytes;
+    let fault = match call {
+        Call::Show => show(alloc, source, &mut out, most).err(),
+        Call::Validate => validate(alloc, source, &mut out, most).err(),
+        Call::Rewrite => rewrite(alloc, source, &mut out, most, false).err(),
+        Call::Strip => rewrite(alloc, source, &mut out, most, true).err(),
+        Call::Relocate => relocate(alloc, source, &mut out, limits, BASE).err(),
+    };
+    (fault, out.written(), out.into_inner().into_inner())
+}
+
 /// What a call answers, and the writer behind it.
 #[derive(Drop)]
 pub(super) struct Outcome {
@@ -100,23 +122,31 @@ pub(super) fn made_within<R: Source>(
     narrow: Narrow,
     file_bytes: u64,
 ) -> Outcome {
-    let mut out = LongWriter::new(FromWrite::new(narrow));
-    let limits = Limits {
-        budget: LIMITS.budget,
-        file_bytes,
-    };
-    let fault = match call {
-        Call::Show => show(alloc, source, &mut out, file_bytes).err(),
-        Call::Validate => validate(alloc, source, &mut out, file_bytes).err(),
-        Call::Rewrite => rewrite(alloc, source, &mut out, file_bytes, false).err(),
-        Call::Strip => rewrite(alloc, source, &mut out, file_bytes, true).err(),
-        Call::Relocate => relocate(alloc, source, &mut out, limits, 0x21000).err(),
-    };
+    let budget = LIMITS.budget;
+    let limits = Limits { budget, file_bytes };
+    let (fault, written, narrow) = called(alloc, call, source, narrow, limits);
     Outcome {
         fault,
-        written: out.written(),
-        narrow: out.into_inner().into_inner(),
+        written,
+        narrow,
     }
+}
+
+/// What it comes to on these bytes.
+pub(super) fn made_of(alloc: Global, call: Call, bytes: &[u8], narrow: Narrow) -> Outcome {
+    made(alloc, call, &mut FromSlice::new(bytes), narrow)
+}
+
+/// Sees that a call answered this, and wrote just the output.
+pub(super) fn expect_outcome(
+    rt: &impl Abort,
+    got: &Outcome,
+    fault: Option<RunFault>,
+    output: &[u8],
+) {
+    assert_eq!(rt; got.fault, fault);
+    assert_eq!(rt; got.written, output.len() as u64);
+    assert_eq!(rt; got.narrow.taken(), output);
 }
 
 /// A writer with room for all.

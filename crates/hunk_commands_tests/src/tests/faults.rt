@@ -1,49 +1,61 @@
 //! The lines and statuses of faults.
 use hunk_commands::RunFault;
 use hunk_words::{Fault, Reason};
-use std::alloc::AllocError;
+use std::alloc::{AllocError, Global};
+use std::process::Abort;
 use std::test::Fail;
 
-const fn refused(place: u64, reason: Reason) -> RunFault {
-    RunFault::Refused(Fault { place, reason })
+/// The places and reasons of refusals, and their lines.
+const REFUSALS: &[(u64, Reason, &str)] = &[
+    (0, Reason::Truncated, "refused at byte 0: Truncated (26)"),
+    (20, Reason::Budget, "refused at byte 20: Budget (27)"),
+    (
+        24,
+        Reason::NoBase(0),
+        "refused at byte 24: NoBase (29) hunk 0",
+    ),
+    (
+        18_446_744_073_709_551_615,
+        Reason::NoBase(65_535),
+        "refused at byte 18446744073709551615: NoBase (29) hunk 65535",
+    ),
+];
+
+/// Other faults, their lines and their statuses.
+const FAULTS: &[(RunFault, &str, u8)] = &[
+    (RunFault::HexText, "hex text refused", 1),
+    (RunFault::Read { place: 30 }, "reading failed at byte 30", 3),
+    (
+        RunFault::Write { written: 6 },
+        "writing failed after 6 bytes",
+        3,
+    ),
+    (RunFault::Memory, "out of memory", 4),
+];
+
+/// Sees that the fault has this line, and this status.
+fn expect_line(
+    rt: &impl Abort,
+    alloc: Global,
+    fault: RunFault,
+    line: &str,
+    status: u8,
+) -> Result<(), AllocError> {
+    let got = format!(in alloc; "{fault}")?;
+    assert_eq!(rt; got.as_str(), line);
+    assert_eq!(rt; fault.status(), status, "at {line}");
+    Ok(())
 }
 
 #[test]
 fn lines_and_statuses(rt: HostRuntime) -> Result<(), Fail> {
-    let table = [
-        (
-            refused(0, Reason::Truncated),
-            "refused at byte 0: Truncated (26)",
-            1,
-        ),
-        (
-            refused(20, Reason::Budget),
-            "refused at byte 20: Budget (27)",
-            1,
-        ),
-        (
-            refused(24, Reason::NoBase(0)),
-            "refused at byte 24: NoBase (29) hunk 0",
-            1,
-        ),
-        (
-            refused(18_446_744_073_709_551_615, Reason::NoBase(65_535)),
-            "refused at byte 18446744073709551615: NoBase (29) hunk 65535",
-            1,
-        ),
-        (RunFault::HexText, "hex text refused", 1),
-        (RunFault::Read { place: 30 }, "reading failed at byte 30", 3),
-        (
-            RunFault::Write { written: 6 },
-            "writing failed after 6 bytes",
-            3,
-        ),
-        (RunFault::Memory, "out of memory", 4),
-    ];
-    for (fault, line, status) in table {
-        let got = format!(in rt.alloc(); "{fault}")?;
-        assert_eq!(rt; got.as_str(), line);
-        assert_eq!(rt; fault.status(), status, "at {line}");
+    for (place, reason, line) in REFUSALS {
+        let (place, reason) = (*place, *reason);
+        let fault = RunFault::Refused(Fault { place, reason });
+        expect_line(&rt, rt.alloc(), fault, line, 1)?;
+    }
+    for (fault, line, status) in FAULTS {
+        expect_line(&rt, rt.alloc(), *fault, line, *status)?;
     }
     Ok(())
 }

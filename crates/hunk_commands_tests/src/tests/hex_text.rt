@@ -6,29 +6,34 @@ use std::alloc::Global;
 use std::process::Abort;
 use std::test::Fail;
 
+/// Texts, and the bytes that they spell.
+const SPELLED: &[(&str, &[u8])] = &[
+    ("", &[]),
+    (" \t\r\n", &[]),
+    ("4e71", &[0x4E, 0x71]),
+    ("4E714e71", &[0x4E, 0x71, 0x4E, 0x71]),
+    ("aAbBcCdDeEfF", &[0xAA, 0xBB, 0xCC, 0xDD, 0xEE, 0xFF]),
+    ("0 0", &[0]),
+    ("\n4 E\t7\r\n1 ", &[0x4E, 0x71]),
+];
+
 #[test]
 fn spells(rt: HostRuntime) -> Result<(), Fail> {
-    let table: [(&str, &[u8]); 7] = [
-        ("", &[]),
-        (" \t\r\n", &[]),
-        ("4e71", &[0x4E, 0x71]),
-        ("4E714e71", &[0x4E, 0x71, 0x4E, 0x71]),
-        ("aAbBcCdDeEfF", &[0xAA, 0xBB, 0xCC, 0xDD, 0xEE, 0xFF]),
-        ("0 0", &[0]),
-        ("\n4 E\t7\r\n1 ", &[0x4E, 0x71]),
-    ];
-    for (text, want) in table {
+    for (text, want) in SPELLED {
         let got = unhex(rt.alloc(), text.as_bytes())?;
-        assert_eq!(rt; got.as_slice(), want, "at {text:?}");
+        assert_eq!(rt; got.as_slice(), *want, "at {text:?}");
     }
     Ok(())
 }
 
+/// Texts that spell none.
+const UNSPELLED: &[&str] = &[
+    "0", "000", "0x00", "4g", "0 0 0", "00\x0b00", "00\x0c00", "00\0", "+0", "00,00", "é",
+];
+
 #[test]
 fn spells_none(rt: HostRuntime) {
-    for text in [
-        "0", "000", "0x00", "4g", "0 0 0", "00\x0b00", "00\x0c00", "00\0", "+0", "00,00", "é",
-    ] {
+    for text in UNSPELLED {
         let got = unhex(rt.alloc(), text.as_bytes()).err();
         assert_eq!(rt; got, Some(RunFault::HexText), "at {text:?}");
     }
@@ -77,6 +82,11 @@ fn reads_in_pieces(rt: HostRuntime) -> Result<(), Fail> {
     Ok(())
 }
 
+/// Why a text that comes so is refused, if it is.
+fn refusal(alloc: Global, text: &[u8], step: usize, then: Then, most: u64) -> Option<RunFault> {
+    read(alloc, text, step, then, most).err()
+}
+
 /// The text is read to its end before it is refused, so a failure and the limit come first.
 #[test]
 fn refuses_at_the_end(rt: HostRuntime) -> Result<(), Fail> {
@@ -89,13 +99,14 @@ fn refuses_at_the_end(rt: HostRuntime) -> Result<(), Fail> {
         place,
         reason: Reason::FileLimit,
     });
+    let alloc = rt.alloc();
     for step in STEPS {
-        let got = read(rt.alloc(), text.as_slice(), *step, Then::Ends, place + 1);
-        assert_eq!(rt; got.err(), Some(RunFault::HexText));
-        let got = read(rt.alloc(), text.as_slice(), *step, Then::Fails, place + 1);
-        assert_eq!(rt; got.err(), Some(RunFault::Read { place }));
-        let got = read(rt.alloc(), text.as_slice(), *step, Then::Ends, place);
-        assert_eq!(rt; got.err(), Some(limit));
+        let got = refusal(alloc, &text, *step, Then::Ends, place + 1);
+        assert_eq!(rt; got, Some(RunFault::HexText));
+        let got = refusal(alloc, &text, *step, Then::Fails, place + 1);
+        assert_eq!(rt; got, Some(RunFault::Read { place }));
+        let got = refusal(alloc, &text, *step, Then::Ends, place);
+        assert_eq!(rt; got, Some(limit));
     }
     Ok(())
 }

@@ -1,75 +1,99 @@
 //! What `show`, `validate` and `rewrite` make of the sample files.
 
-use crate::tests::calls::{Call, LIMIT, made, roomy};
-use crate::tests::samples::{AGAIN, BAD, CHECKED, SHOWN, input};
-use hunk_commands::{Rewritten, RunFault, rewrite, show, validate};
-use hunk_testing::{CHANGES, changed, spelled};
-use hunk_words::{Fault, FromSlice, FromWrite, LongWriter, Reason};
+use crate::tests::calls::{Call, LIMIT, expect_outcome, made_of, roomy};
+use crate::tests::samples::{AGAIN, Again, BAD, CHECKED, SHOWN, input};
+use hunk_commands::{Rewritten, RunFault, rewrite, validate};
+use hunk_testing::{CHANGES, changed, spelled, wide};
+use hunk_words::{Fault, FromSlice, Reason};
 use std::alloc::Global;
 use std::process::Abort;
 use std::test::Fail;
+
+/// Sees that the call is done with the bytes of this sample, and writes just the output.
+fn expect_done(
+    rt: &(impl Abort + AllocGlobal),
+    call: Call,
+    name: &str,
+    bytes: &[u8],
+    output: &[u8],
+) {
+    let got = made_of(rt.alloc(), call, bytes, roomy());
+    assert_eq!(rt; got.fault, None, "at {name}");
+    assert_eq!(rt; got.narrow.taken(), output, "at {name}");
+}
+
+/// The same where the output is text.
+fn expect_text(rt: &(impl Abort + AllocGlobal), call: Call, name: &str, bytes: &[u8], text: &str) {
+    expect_done(rt, call, name, bytes, text.as_bytes());
+}
 
 #[test]
 fn shows(rt: HostRuntime) -> Result<(), Fail> {
     for sample in &SHOWN {
         let bytes = input(rt.alloc(), sample.file, sample.rest)?;
-        let mut source = FromSlice::new(bytes.as_slice());
-        let mut out = LongWriter::new(FromWrite::new(Vec::<u8>::new(rt.alloc())));
-        let answer = show(rt.alloc(), &mut source, &mut out, LIMIT);
-        let text = String::from_utf8(out.into_inner().into_inner())?;
-        assert_eq!(rt; answer, Ok(()), "at {}", sample.name);
-        assert_eq!(rt; text.as_str(), sample.text, "at {}", sample.name);
+        expect_text(&rt, Call::Show, sample.name, &bytes, sample.text);
     }
     Ok(())
+}
+
+/// How much `validate` finds in the bytes.
+fn count_findings(alloc: Global, bytes: &[u8]) -> Result<u64, RunFault> {
+    validate(alloc, &mut FromSlice::new(bytes), &mut wide(), LIMIT)
 }
 
 #[test]
 fn validates(rt: HostRuntime) -> Result<(), Fail> {
     for sample in &CHECKED {
         let bytes = input(rt.alloc(), sample.file, sample.rest)?;
-        let mut source = FromSlice::new(bytes.as_slice());
-        let mut out = LongWriter::new(FromWrite::new(Vec::<u8>::new(rt.alloc())));
-        let answer = validate(rt.alloc(), &mut source, &mut out, LIMIT);
-        let text = String::from_utf8(out.into_inner().into_inner())?;
-        assert_eq!(rt; answer, Ok(sample.count), "at {}", sample.name);
-        assert_eq!(rt; text.as_str(), sample.text, "at {}", sample.name);
+        let count = count_findings(rt.alloc(), &bytes);
+        assert_eq!(rt; count, Ok(sample.count), "at {}", sample.name);
+        expect_text(&rt, Call::Validate, sample.name, &bytes, sample.text);
     }
     Ok(())
+}
+
+/// What `rewrite` tells of the bytes.
+fn rewritten(alloc: Global, bytes: &[u8], strip: bool) -> Result<Rewritten, RunFault> {
+    rewrite(alloc, &mut FromSlice::new(bytes), &mut wide(), LIMIT, strip)
+}
+
+/// Sees that `rewrite` makes this of the bytes, and tells of as many that follow.
+fn expect_rewritten(rt: &(impl Abort + AllocGlobal), sample: &Again, bytes: &[u8], want: &[u8]) {
+    let done = Rewritten {
+        written: want.len() as u64,
+        rest: sample.rest as u64,
+    };
+    let got = rewritten(rt.alloc(), bytes, sample.strip);
+    assert_eq!(rt; got, Ok(done), "at {}", sample.name);
+    let call = if sample.strip {
+        Call::Strip
+    } else {
+        Call::Rewrite
+    };
+    expect_done(rt, call, sample.name, bytes, want);
 }
 
 #[test]
 fn rewrites(rt: HostRuntime) -> Result<(), Fail> {
     for sample in &AGAIN {
         let bytes = input(rt.alloc(), sample.file, sample.rest)?;
-        let text = if sample.made.is_empty() {
+        let made = if sample.made.is_empty() {
             sample.file
         } else {
             sample.made
         };
-        let want = spelled(rt.alloc(), text)?;
-        let mut source = FromSlice::new(bytes.as_slice());
-        let mut out = LongWriter::new(FromWrite::new(Vec::<u8>::new(rt.alloc())));
-        let answer = rewrite(rt.alloc(), &mut source, &mut out, LIMIT, sample.strip);
-        let done = Rewritten {
-            written: want.len() as u64,
-            rest: sample.rest as u64,
-        };
-        assert_eq!(rt; answer, Ok(done), "at {}", sample.name);
-        assert_eq!(rt; out.into_inner().into_inner(), want, "at {}", sample.name);
+        let want = spelled(rt.alloc(), made)?;
+        expect_rewritten(&rt, sample, &bytes, &want);
     }
     Ok(())
 }
 
 /// Sees that each call that reads the input whole refuses it, and writes nothing.
-fn expect_refused(rt: &impl Abort, alloc: Global, bytes: &[u8], fault: Fault) {
+fn expect_refused(rt: &impl Abort, alloc: Global, bytes: &[u8], place: u64, reason: Reason) {
+    let fault = RunFault::Refused(Fault { place, reason });
     for call in [Call::Show, Call::Validate, Call::Rewrite] {
-        let got = made(alloc, call, &mut FromSlice::new(bytes), roomy());
-        let fault = Some(RunFault::Refused(fault));
-        assert_eq!(rt;
-            (got.fault, got.written),
-            (fault, 0),
-            "{call:?} of {bytes:?}"
-        );
+        let got = made_of(alloc, call, bytes, roomy());
+        expect_outcome(rt, &got, Some(fault), &[]);
     }
 }
 
@@ -77,8 +101,7 @@ fn expect_refused(rt: &impl Abort, alloc: Global, bytes: &[u8], fault: Fault) {
 fn refuses(rt: HostRuntime) -> Result<(), Fail> {
     for sample in &BAD {
         let bytes = input(rt.alloc(), sample.file, sample.rest)?;
-        let (place, reason) = (sample.place, sample.reason);
-        expect_refused(&rt, rt.alloc(), bytes.as_slice(), Fault { place, reason });
+        expect_refused(&rt, rt.alloc(), &bytes, sample.place, sample.reason);
     }
     Ok(())
 }
@@ -89,16 +112,15 @@ fn one_longword_changed(rt: HostRuntime) -> Result<(), Fail> {
     for (byte, word, fault) in CHANGES {
         let bytes = changed(rt.alloc(), *byte, *word)?;
         match *fault {
-            // An object file for these calls, which is refused as such: it is one of `BAD`.
-            Some((0, Reason::IsObject)) => {}
             Some((place, reason)) => {
-                expect_refused(&rt, rt.alloc(), bytes.as_slice(), Fault { place, reason });
+                // An object file for these calls, which is refused as such: it is one of `BAD`.
+                if reason != Reason::IsObject {
+                    expect_refused(&rt, rt.alloc(), &bytes, place, reason);
+                }
             }
             None => {
-                let mut source = FromSlice::new(bytes.as_slice());
-                let got = made(rt.alloc(), Call::Rewrite, &mut source, roomy());
-                assert_eq!(rt; got.fault, None, "{word:x} at {byte}");
-                assert_eq!(rt; got.narrow.taken(), bytes.as_slice(), "{word:x} at {byte}");
+                let got = made_of(rt.alloc(), Call::Rewrite, &bytes, roomy());
+                expect_outcome(&rt, &got, None, &bytes);
             }
         }
     }

@@ -1,6 +1,6 @@
 //! The commands over input that is longer than they may read.
 
-use crate::tests::calls::{Call, LIMIT, Outcome, made_within, roomy};
+use crate::tests::calls::{Call, LIMIT, Outcome, expect_outcome, made_within, roomy};
 use hunk_commands::RunFault;
 use hunk_testing::{Fed, Then, before_end, examples, spelled};
 use hunk_words::{Fault, Reason};
@@ -22,10 +22,8 @@ fn expect_limit(rt: &impl Abort, got: &Outcome, file_bytes: u64, given: usize) {
         place: file_bytes,
         reason: Reason::FileLimit,
     });
-    assert_eq!(rt; got.fault, Some(fault));
+    expect_outcome(rt, got, Some(fault), &[]);
     assert_eq!(rt; given as u64, file_bytes);
-    assert_eq!(rt; got.written, 0);
-    assert!(rt; got.narrow.taken().is_empty());
 }
 
 /// Sees that each call reads as much as it may, and no more, of what the source gives.
@@ -62,13 +60,18 @@ fn with_debug_data(alloc: Global, longs: u32) -> Result<Vec<u8>, AllocError> {
     before_end(alloc, &behind)
 }
 
+/// The fault of a call on these bytes, where 1,000 may be read, and how many it reads.
+fn fault_and_given(alloc: Global, call: Call, bytes: &[u8]) -> (Option<RunFault>, usize) {
+    let mut fed = Fed::new(bytes, usize::MAX, Then::Ends);
+    let got = made_within(alloc, call, &mut fed, roomy(), 1_000);
+    (got.fault, fed.given())
+}
+
 /// Sees that each call is done with these bytes, where 1,000 may be read.
 fn each_is_done(rt: &impl Abort, alloc: Global, calls: &[Call], bytes: &[u8]) {
     for call in calls {
-        let mut fed = Fed::new(bytes, usize::MAX, Then::Ends);
-        let got = made_within(alloc, *call, &mut fed, roomy(), 1_000);
-        assert_eq!(rt; got.fault, None, "{call:?}");
-        assert_eq!(rt; fed.given(), bytes.len(), "{call:?}");
+        let got = fault_and_given(alloc, *call, bytes);
+        assert_eq!(rt; got, (None, bytes.len()), "{call:?}");
     }
 }
 

@@ -1,9 +1,8 @@
 //! The engine functions with each of their growths refused in turn.
 
-use crate::tests::calls::{Call, Case, input_and_output, made, roomy};
+use crate::tests::calls::{Call, Case, Outcome, input_and_output, made_of, roomy};
 use hunk_commands::RunFault;
 use hunk_testing::{answers_growth_by_growth, examples, memory_ends};
-use hunk_words::FromSlice;
 use std::alloc::Global;
 use std::process::Abort;
 use std::test::Fail;
@@ -133,6 +132,11 @@ const REWRITES: &[Case] = &[
     },
 ];
 
+/// Whether a call was done, and wrote this.
+fn is_done(got: &Outcome, output: &[u8]) -> bool {
+    got.fault.is_none() && got.narrow.taken() == output
+}
+
 /// The fault of a call and how many bytes it has written, or nothing where it has written all.
 fn shortfall(
     alloc: Global,
@@ -140,11 +144,12 @@ fn shortfall(
     input: &[u8],
     output: &[u8],
 ) -> Option<(Option<RunFault>, u64)> {
-    let got = made(alloc, call, &mut FromSlice::new(input), roomy());
-    if got.fault.is_none() && got.narrow.taken() == output {
-        return None;
+    let got = made_of(alloc, call, input, roomy());
+    if is_done(&got, output) {
+        None
+    } else {
+        Some((got.fault, got.written))
     }
-    Some((got.fault, got.written))
 }
 
 /// Sees that each call answers `Memory` and writes nothing, and writes this many bytes, all of its output, once

@@ -6,6 +6,7 @@ use hunk_words::{FromSlice, FromWrite, LongWriter};
 use std::alloc::{AllocError, Global};
 use std::io;
 use std::io::Write;
+use std::process::Abort;
 use std::test::Fail;
 
 /// Takes all, and keeps how much was first written at once.
@@ -38,6 +39,13 @@ fn file(alloc: Global, count: u32) -> Result<Vec<u8>, AllocError> {
     Ok(bytes)
 }
 
+/// How many bytes `show` writes of these bytes, and how many of them first.
+fn sizes(alloc: Global, bytes: &[u8]) -> Result<(u64, usize), RunFault> {
+    let mut out = LongWriter::new(FromWrite::new(First { count: 0 }));
+    show(alloc, &mut FromSlice::new(bytes), &mut out, 100_000)?;
+    Ok((out.written(), out.into_inner().into_inner().count))
+}
+
 /// What `show` answers of these bytes, to a writer that takes as many as there is room and then
 /// none, and how many it wrote.
 fn shown(alloc: Global, bytes: &[u8], room: &mut [u8]) -> (Option<RunFault>, u64) {
@@ -46,32 +54,33 @@ fn shown(alloc: Global, bytes: &[u8], room: &mut [u8]) -> (Option<RunFault>, u64
     (answer.err(), out.written())
 }
 
+/// Sees that a writer with this much room takes just the front of the listing.
+fn expect_front(
+    rt: &(impl Abort + AllocGlobal),
+    bytes: &[u8],
+    whole: &[u8],
+    room: usize,
+) -> Result<(), AllocError> {
+    let mut taken = vec![in rt.alloc(); 0u8; room]?;
+    let written = room as u64;
+    let fault = RunFault::Write { written };
+    let got = shown(rt.alloc(), bytes, taken.as_mut_slice());
+    assert_eq!(rt; got, (Some(fault), written));
+    assert!(rt; whole.starts_with(taken.as_slice()), "at {room}");
+    Ok(())
+}
+
 #[test]
 fn stops_where_a_page_ends(rt: HostRuntime) -> Result<(), Fail> {
     let bytes = file(rt.alloc(), 8_000)?;
-    let mut first = LongWriter::new(FromWrite::new(First { count: 0 }));
-    show(
-        rt.alloc(),
-        &mut FromSlice::new(bytes.as_slice()),
-        &mut first,
-        100_000,
-    )?;
-    let (size, page) = (first.written(), first.into_inner().into_inner().count);
+    let (size, page) = sizes(rt.alloc(), &bytes)?;
     let mut whole = vec![in rt.alloc(); 0u8; size as usize]?;
     assert_eq!(rt;
         shown(rt.alloc(), bytes.as_slice(), whole.as_mut_slice()),
         (None, size)
     );
     for room in [page.saturating_sub(1), page, page.saturating_add(1)] {
-        let mut taken = vec![in rt.alloc(); 0u8; room]?;
-        let fault = RunFault::Write {
-            written: room as u64,
-        };
-        assert_eq!(rt;
-            shown(rt.alloc(), bytes.as_slice(), taken.as_mut_slice()),
-            (Some(fault), room as u64)
-        );
-        assert!(rt; whole.starts_with(taken.as_slice()), "at {room}");
+        expect_front(&rt, &bytes, &whole, room)?;
     }
     Ok(())
 }

@@ -1,6 +1,6 @@
 //! Sources that fail at each read in turn, and then would go on.
 
-use crate::tests::calls::{CASES, Call, Outcome, input_and_output, made, roomy};
+use crate::tests::calls::{CASES, Call, Outcome, expect_outcome, input_and_output, made, roomy};
 use hunk_commands::RunFault;
 use hunk_testing::{FailsOnce, Interrupted};
 use hunk_words::FromRead;
@@ -13,15 +13,7 @@ fn expect_unread(rt: &impl Abort, got: &Outcome, place: usize) {
     let fault = RunFault::Read {
         place: place as u64,
     };
-    assert_eq!(rt; got.fault, Some(fault));
-    assert_eq!(rt; got.written, 0);
-    assert!(rt; got.narrow.taken().is_empty());
-}
-
-/// Sees that the call was done, and wrote this.
-fn expect_done(rt: &impl Abort, got: &Outcome, output: &[u8]) {
-    assert_eq!(rt; got.fault, None);
-    assert_eq!(rt; got.narrow.taken(), output);
+    expect_outcome(rt, got, Some(fault), &[]);
 }
 
 /// The input comes one byte a read, and one read fails: after this many bytes, and at the input's end.
@@ -45,7 +37,7 @@ fn one_read_fails(
             expect_unread(rt, &got, place);
             assert_eq!(rt; source.given(), place);
         } else {
-            expect_done(rt, &got, output);
+            expect_outcome(rt, &got, None, output);
         }
     }
     Ok(())

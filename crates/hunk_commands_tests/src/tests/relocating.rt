@@ -1,28 +1,70 @@
 //! What `relocate` prints and refuses, by the examples.
 
+use crate::tests::calls::{Outcome, expect_outcome, roomy};
 use hunk_commands::{RunFault, relocate};
 use hunk_scatter::Limits;
-use hunk_testing::{CHANGES, Fed, Narrow, Then, WIDTH, bytes_of, changed, examples, spelled, wide};
+use hunk_testing::{CHANGES, Fed, Narrow, Then, WIDTH, changed, examples, spelled};
 use hunk_words::{Fault, FromRead, FromSlice, FromWrite, LongWriter, Reason, Source};
-use std::alloc::{AllocError, Global};
+use std::alloc::Global;
+use std::process::Abort;
 use std::test::Fail;
 
 /// What `relocate` prints of example 1 at `BASE`.
 const PRINTED: &str = "hunk 0 base 0x00021000 4 bytes\n  4e754e71\n";
 
-const BASE: u32 = 0x21000;
+/// Where the first hunk lies.
+pub(super) const BASE: u32 = 0x21000;
 
 pub(super) const LIMITS: Limits = Limits {
     budget: 1_000,
     file_bytes: 100_000,
 };
 
-/// What `relocate` prints of these bytes at this base.
-fn printed(alloc: Global, bytes: &[u8], base: u32) -> Result<Vec<u8>, RunFault> {
-    let mut out = LongWriter::new(FromWrite::new(Vec::<u8>::new(alloc)));
+/// What `relocate` comes to on what the source gives, to this writer.
+fn relocated<R: Source>(
+    alloc: Global,
+    source: &mut R,
+    narrow: Narrow,
+    limits: Limits,
+    base: u32,
+) -> Outcome {
+    let mut out = LongWriter::new(FromWrite::new(narrow));
+    let fault = relocate(alloc, source, &mut out, limits, base).err();
+    Outcome {
+        fault,
+        written: out.written(),
+        narrow: out.into_inner().into_inner(),
+    }
+}
+
+/// Sees that `relocate` answers this of these bytes, with these limits and base, and prints just the text.
+fn expect(
+    rt: &(impl Abort + AllocGlobal),
+    bytes: &[u8],
+    (limits, base): (Limits, u32),
+    fault: Option<RunFault>,
+    text: &str,
+) {
     let mut source = FromSlice::new(bytes);
-    relocate(alloc, &mut source, &mut out, LIMITS, base)?;
-    Ok(out.into_inner().into_inner())
+    let got = relocated(rt.alloc(), &mut source, roomy(), limits, base);
+    expect_outcome(rt, &got, fault, text.as_bytes());
+}
+
+/// Sees that it prints this text.
+fn expect_printed(rt: &(impl Abort + AllocGlobal), bytes: &[u8], base: u32, text: &str) {
+    expect(rt, bytes, (LIMITS, base), None, text);
+}
+
+/// Sees that it refuses them, and prints nothing.
+fn expect_refused(
+    rt: &(impl Abort + AllocGlobal),
+    bytes: &[u8],
+    base: u32,
+    place: u64,
+    reason: Reason,
+) {
+    let fault = refused(place, reason);
+    expect(rt, bytes, (LIMITS, base), Some(fault), "");
 }
 
 fn refused(place: u64, reason: Reason) -> RunFault {
@@ -33,66 +75,69 @@ fn refused(place: u64, reason: Reason) -> RunFault {
 fn fills_with_zeros(rt: HostRuntime) -> Result<(), Fail> {
     // Example 4: three longwords are declared, and one is there.
     let bytes = spelled(rt.alloc(), examples::ENDING_EARLY)?;
-    let text = printed(rt.alloc(), bytes.as_slice(), BASE)?;
-    assert_eq!(rt;
-        text.as_slice(),
-        b"hunk 0 base 0x00021000 12 bytes\n  4e754e710000000000000000\n".as_slice()
-    );
+    let text = "hunk 0 base 0x00021000 12 bytes\n  4e754e710000000000000000\n";
+    expect_printed(&rt, &bytes, BASE, text);
     Ok(())
 }
 
+/// Files of one hunk, which has none of its longwords or four, and what is printed of them.
+const ROWS: &[(&str, &str)] = &[
+    (
+        "3F3 0 1 0 0 0 / 3E9 0 / 3F2",
+        "hunk 0 base 0x00021000 0 bytes\n",
+    ),
+    (
+        "3F3 0 1 0 0 4 / 3E9 4 10203 4050607 809FAFB FCFDFEFF / 3F2",
+        "hunk 0 base 0x00021000 16 bytes\n  00010203040506070809fafbfcfdfeff\n",
+    ),
+    (
+        "3F3 0 1 0 0 5 / 3E9 4 10203 4050607 809FAFB FCFDFEFF / 3F2",
+        "hunk 0 base 0x00021000 20 bytes\n  00010203040506070809fafbfcfdfeff\n  00000000\n",
+    ),
+    (
+        "3F3 0 1 0 0 8 / 3E9 4 10203 4050607 809FAFB FCFDFEFF / 3F2",
+        "hunk 0 base 0x00021000 32 bytes\n  00010203040506070809fafbfcfdfeff\n\
+            \x20 00000000000000000000000000000000\n",
+    ),
+];
+
 #[test]
 fn prints_rows_of_sixteen(rt: HostRuntime) -> Result<(), Fail> {
-    let header = "hunk 0 base 0x00021000 ";
     let row = "  00010203040506070809fafbfcfdfeff\n";
-    let table = [
-        (0, 0, "0 bytes\n"),
-        (4, 4, "16 bytes\n  00010203040506070809fafbfcfdfeff\n"),
-        (
-            4,
-            5,
-            "20 bytes\n  00010203040506070809fafbfcfdfeff\n  00000000\n",
-        ),
-        (
-            4,
-            8,
-            "32 bytes\n  00010203040506070809fafbfcfdfeff\n  00000000000000000000000000000000\n",
-        ),
-    ];
     assert_eq!(rt; row.len(), 35);
-    for (content, declared, rest) in table {
-        let mut words = Vec::new(rt.alloc());
-        words.extend_from_slice(&[0x3F3, 0, 1, 0, 0, declared, 0x3E9, content])?;
-        let all = [0x0001_0203, 0x0405_0607, 0x0809_FAFB, 0xFCFD_FEFF];
-        words.extend_from_slice(&all[..content as usize])?;
-        words.push(0x3F2)?;
-        let bytes = bytes_of(rt.alloc(), words.as_slice())?;
-        let text = printed(rt.alloc(), bytes.as_slice(), BASE)?;
-        let want = format!(in rt.alloc(); "{header}{rest}")?;
-        assert_eq!(rt; text.as_slice(), want.as_bytes());
+    for (file, text) in ROWS {
+        let bytes = spelled(rt.alloc(), file)?;
+        expect_printed(&rt, &bytes, BASE, text);
     }
     Ok(())
 }
+
+/// Whether a call is done, and how many bytes the next reader has then.
+fn left_behind(alloc: Global, bytes: &[u8], budget: u64, base: u32) -> (bool, Option<usize>) {
+    let limits = Limits { budget, ..LIMITS };
+    let mut source = FromSlice::new(bytes);
+    let got = relocated(alloc, &mut source, roomy(), limits, base);
+    let mut rest = [0; 64];
+    (got.fault.is_none(), source.pull(&mut rest).ok())
+}
+
+/// Bases and budgets, and how many bytes the next reader has: all that follows; and all of the body, where the
+/// header can't be placed.
+const LEFT: &[(u32, u64, usize)] = &[
+    (BASE, 4, 7),
+    (BASE, 3, 23),
+    (0xFFFF_FFFC, 4, 7),
+    (0xFFFF_FFFD, 4, 23),
+];
 
 #[test]
 fn leaves_what_follows(rt: HostRuntime) -> Result<(), Fail> {
     let mut bytes = spelled(rt.alloc(), examples::ONE_HUNK)?;
     bytes.extend_from_slice(b"follows")?;
-    let text = printed(rt.alloc(), bytes.as_slice(), BASE)?;
-    assert_eq!(rt; text.as_slice(), PRINTED.as_bytes());
-    // The next reader has all of it; and all of the body, where the header can't be placed.
-    for (base, budget, left) in [
-        (BASE, 4, 7),
-        (BASE, 3, 23),
-        (0xFFFF_FFFC, 4, 7),
-        (0xFFFF_FFFD, 4, 23),
-    ] {
-        let limits = Limits { budget, ..LIMITS };
-        let mut source = FromSlice::new(bytes.as_slice());
-        let got = relocate(rt.alloc(), &mut source, &mut wide(), limits, base);
-        assert_eq!(rt; got.is_ok(), left == 7);
-        let mut rest = [0; 64];
-        assert_eq!(rt; source.pull(rest.as_mut_slice()), Ok(left));
+    expect_printed(&rt, &bytes, BASE, PRINTED);
+    for (base, budget, left) in LEFT {
+        let got = left_behind(rt.alloc(), &bytes, *budget, *base);
+        assert_eq!(rt; got, (*left == 7, Some(*left)));
     }
     Ok(())
 }
@@ -104,8 +149,7 @@ fn cut_short(rt: HostRuntime) -> Result<(), Fail> {
     assert_eq!(rt; bytes.len(), 40);
     for n in 0..40usize {
         let place = 4 * (n as u64 / 4);
-        let got = printed(rt.alloc(), &bytes[..n], BASE).err();
-        assert_eq!(rt; got, Some(refused(place, Reason::Truncated)), "at {n}");
+        expect_refused(&rt, &bytes[..n], BASE, place, Reason::Truncated);
     }
     Ok(())
 }
@@ -115,16 +159,9 @@ fn cut_short(rt: HostRuntime) -> Result<(), Fail> {
 fn one_longword_changed(rt: HostRuntime) -> Result<(), Fail> {
     for (byte, word, fault) in CHANGES {
         let bytes = changed(rt.alloc(), *byte, *word)?;
-        let got = printed(rt.alloc(), bytes.as_slice(), BASE);
         match *fault {
-            Some((place, reason)) => {
-                assert_eq!(rt;
-                    got.err(),
-                    Some(refused(place, reason)),
-                    "{word:x} at {byte}"
-                );
-            }
-            None => assert_eq!(rt; got?.as_slice(), PRINTED.as_bytes(), "{word:x} at {byte}"),
+            Some((place, reason)) => expect_refused(&rt, &bytes, BASE, place, reason),
+            None => expect_printed(&rt, &bytes, BASE, PRINTED),
         }
     }
     Ok(())
@@ -134,13 +171,9 @@ fn one_longword_changed(rt: HostRuntime) -> Result<(), Fail> {
 fn needs_a_base(rt: HostRuntime) -> Result<(), Fail> {
     // Example 32.
     let bytes = spelled(rt.alloc(), examples::ONE_HUNK)?;
-    let got = printed(rt.alloc(), bytes.as_slice(), 0xFFFF_FFFD).err();
-    assert_eq!(rt; got, Some(refused(24, Reason::NoBase(0))));
-    let text = printed(rt.alloc(), bytes.as_slice(), 0xFFFF_FFFC)?;
-    assert_eq!(rt;
-        text.as_slice(),
-        b"hunk 0 base 0xfffffffc 4 bytes\n  4e754e71\n".as_slice()
-    );
+    expect_refused(&rt, &bytes, 0xFFFF_FFFD, 24, Reason::NoBase(0));
+    let text = "hunk 0 base 0xfffffffc 4 bytes\n  4e754e71\n";
+    expect_printed(&rt, &bytes, 0xFFFF_FFFC, text);
     Ok(())
 }
 
@@ -148,13 +181,10 @@ fn needs_a_base(rt: HostRuntime) -> Result<(), Fail> {
 fn packs_hunks(rt: HostRuntime) -> Result<(), Fail> {
     // Example 28.
     let bytes = spelled(rt.alloc(), examples::TWO_HUNKS)?;
-    let text = printed(rt.alloc(), bytes.as_slice(), 0xFFFF_FFF4)?;
-    assert_eq!(rt;
-        text.as_slice(),
-        b"hunk 0 base 0xfffffff4 8 bytes\n  4ef9000000004e71\nhunk 1 base 0xfffffffc 4 bytes\n  12345678\n".as_slice()
-    );
-    let got = printed(rt.alloc(), bytes.as_slice(), 0xFFFF_FFF8).err();
-    assert_eq!(rt; got, Some(refused(28, Reason::NoBase(1))));
+    let text = "hunk 0 base 0xfffffff4 8 bytes\n  4ef9000000004e71\n\
+        hunk 1 base 0xfffffffc 4 bytes\n  12345678\n";
+    expect_printed(&rt, &bytes, 0xFFFF_FFF4, text);
+    expect_refused(&rt, &bytes, 0xFFFF_FFF8, 28, Reason::NoBase(1));
     Ok(())
 }
 
@@ -162,54 +192,60 @@ fn packs_hunks(rt: HostRuntime) -> Result<(), Fail> {
 fn counts_memory_attributes_in_the_header(rt: HostRuntime) -> Result<(), Fail> {
     // Example 8: the first entry has both memory bits, so the header has 32 bytes.
     let bytes = spelled(rt.alloc(), examples::WITH_ATTRIBUTES)?;
-    let got = printed(rt.alloc(), bytes.as_slice(), 0xFFFF_FFF8).err();
-    assert_eq!(rt; got, Some(refused(32, Reason::NoBase(1))));
-    let text = printed(rt.alloc(), bytes.as_slice(), 0)?;
-    assert_eq!(rt;
-        text.as_slice(),
-        b"hunk 0 base 0x00000000 8 bytes\n  4e714e714e754e71\nhunk 1 base 0x00000008 4 bytes\n  00000000\n".as_slice()
-    );
+    expect_refused(&rt, &bytes, 0xFFFF_FFF8, 32, Reason::NoBase(1));
+    let text = "hunk 0 base 0x00000000 8 bytes\n  4e714e714e754e71\n\
+        hunk 1 base 0x00000008 4 bytes\n  00000000\n";
+    expect_printed(&rt, &bytes, 0, text);
     Ok(())
+}
+
+/// How many bytes may be read and held, where example 1 is refused then, and why.
+const LIMITED: &[(u64, u64, u64, Reason)] = &[
+    (0, 4, 0, Reason::FileLimit),
+    (1, 4, 1, Reason::FileLimit),
+    (39, 4, 39, Reason::FileLimit),
+    (40, 3, 20, Reason::Budget),
+    (24, 3, 20, Reason::Budget),
+    (23, 3, 23, Reason::FileLimit),
+];
+
+fn limits(file_bytes: u64, budget: u64) -> Limits {
+    Limits { budget, file_bytes }
 }
 
 #[test]
 fn keeps_to_the_limits(rt: HostRuntime) -> Result<(), Fail> {
     let bytes = spelled(rt.alloc(), examples::ONE_HUNK)?;
-    for (file_bytes, budget, want) in [
-        (0, 4, Err(refused(0, Reason::FileLimit))),
-        (1, 4, Err(refused(1, Reason::FileLimit))),
-        (39, 4, Err(refused(39, Reason::FileLimit))),
-        (40, 4, Ok(())),
-        (40, 3, Err(refused(20, Reason::Budget))),
-        (24, 3, Err(refused(20, Reason::Budget))),
-        (23, 3, Err(refused(23, Reason::FileLimit))),
-    ] {
-        let limits = Limits { budget, file_bytes };
-        let mut out = wide();
-        let mut source = FromSlice::new(bytes.as_slice());
-        let got = relocate(rt.alloc(), &mut source, &mut out, limits, BASE);
-        assert_eq!(rt; got, want);
-        assert_eq!(rt; out.written(), if got.is_ok() { 42 } else { 0 });
+    for (file_bytes, budget, place, reason) in LIMITED {
+        let within = (limits(*file_bytes, *budget), BASE);
+        expect(&rt, &bytes, within, Some(refused(*place, *reason)), "");
     }
+    expect(&rt, &bytes, (limits(40, 4), BASE), None, PRINTED);
     Ok(())
+}
+
+/// Sees what `relocate` answers of what the source gives to this writer, which then has taken just the text.
+fn expect_taken<R: Source>(
+    rt: &(impl Abort + AllocGlobal),
+    source: &mut R,
+    narrow: Narrow,
+    fault: Option<RunFault>,
+    text: &[u8],
+) {
+    let got = relocated(rt.alloc(), source, narrow, LIMITS, BASE);
+    expect_outcome(rt, &got, fault, text);
 }
 
 #[test]
 fn reads_in_any_pieces(rt: HostRuntime) -> Result<(), Fail> {
     let bytes = spelled(rt.alloc(), examples::ONE_HUNK)?;
+    let text = PRINTED.as_bytes();
     for step in [1, 3, 7, 256] {
-        let mut out = LongWriter::new(FromWrite::new(Narrow::new(WIDTH, 1, false)));
-        let mut source = Fed::new(bytes.as_slice(), step, Then::Ends);
-        let got = relocate(rt.alloc(), &mut source, &mut out, LIMITS, BASE);
-        assert_eq!(rt; got, Ok(()));
-        assert_eq!(rt; out.into_inner().into_inner().taken(), PRINTED.as_bytes());
+        let mut source = Fed::new(&bytes, step, Then::Ends);
+        expect_taken(&rt, &mut source, Narrow::new(WIDTH, 1, false), None, text);
     }
-    let mut out = wide();
     let mut source = FromRead::new(bytes.as_slice());
-    assert_eq!(rt;
-        relocate(rt.alloc(), &mut source, &mut out, LIMITS, BASE),
-        Ok(())
-    );
+    expect_taken(&rt, &mut source, roomy(), None, text);
     Ok(())
 }
 
@@ -218,21 +254,15 @@ fn reading_fails_in_mid_stream(rt: HostRuntime) -> Result<(), Fail> {
     let bytes = spelled(rt.alloc(), examples::ONE_HUNK)?;
     assert_eq!(rt; bytes.len(), 40);
     for n in 0..40usize {
+        let fault = RunFault::Read { place: n as u64 };
         for step in [1, 256] {
-            let mut out = wide();
             let mut source = Fed::new(&bytes[..n], step, Then::Fails);
-            let got = relocate(rt.alloc(), &mut source, &mut out, LIMITS, BASE);
-            assert_eq!(rt; got, Err(RunFault::Read { place: n as u64 }));
-            assert_eq!(rt; out.written(), 0);
+            expect_taken(&rt, &mut source, roomy(), Some(fault), &[]);
         }
     }
     // A source that fails after the file is not asked again.
-    let mut out = wide();
-    let mut source = Fed::new(bytes.as_slice(), 256, Then::Fails);
-    assert_eq!(rt;
-        relocate(rt.alloc(), &mut source, &mut out, LIMITS, BASE),
-        Ok(())
-    );
+    let mut source = Fed::new(&bytes, 256, Then::Fails);
+    expect_taken(&rt, &mut source, roomy(), None, PRINTED.as_bytes());
     Ok(())
 }
 
@@ -242,14 +272,12 @@ fn writing_fails_after_each_byte(rt: HostRuntime) -> Result<(), Fail> {
     let text = PRINTED.as_bytes();
     assert_eq!(rt; text.len(), 42);
     for n in 0..42usize {
+        let fault = RunFault::Write { written: n as u64 };
         for step in [1, 5, WIDTH] {
             for takes_none in [false, true] {
-                let writer = FromWrite::new(Narrow::new(n, step, takes_none));
-                let mut out = LongWriter::new(writer);
-                let mut source = FromSlice::new(bytes.as_slice());
-                let got = relocate(rt.alloc(), &mut source, &mut out, LIMITS, BASE);
-                assert_eq!(rt; got, Err(RunFault::Write { written: n as u64 }));
-                assert_eq!(rt; out.into_inner().into_inner().taken(), &text[..n]);
+                let mut source = FromSlice::new(&bytes);
+                let narrow = Narrow::new(n, step, takes_none);
+                expect_taken(&rt, &mut source, narrow, Some(fault), &text[..n]);
             }
         }
     }

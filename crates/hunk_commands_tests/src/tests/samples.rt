@@ -5,7 +5,7 @@ mod bad;
 mod checked;
 mod shown;
 
-pub(super) use again::AGAIN;
+pub(super) use again::{AGAIN, Again};
 pub(super) use bad::BAD;
 pub(super) use checked::CHECKED;
 use hunk_testing::spelled;

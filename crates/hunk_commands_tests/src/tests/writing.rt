@@ -1,10 +1,9 @@
 //! Writers that take this many bytes, and then fail or take none.
 
-use crate::tests::calls::{CASES, Call, input_and_output, made};
+use crate::tests::calls::{CASES, Call, Case, expect_outcome, input_and_output, made_of};
 use hunk_commands::RunFault;
 use hunk_testing::Narrow;
-use hunk_words::FromSlice;
-use std::alloc::Global;
+use std::alloc::{AllocError, Global};
 use std::process::Abort;
 use std::test::Fail;
 
@@ -18,12 +17,10 @@ fn expect_cut(
     narrow: Narrow,
     room: usize,
 ) {
-    let got = made(alloc, call, &mut FromSlice::new(input), narrow);
+    let got = made_of(alloc, call, input, narrow);
     let written = room as u64;
-    assert_eq!(rt; got.fault, Some(RunFault::Write { written }));
-    assert_eq!(rt; got.written, written);
     assert!(rt; room <= output.len());
-    assert_eq!(rt; got.narrow.taken(), &output[..room]);
+    expect_outcome(rt, &got, Some(RunFault::Write { written }), &output[..room]);
 }
 
 #[test]
@@ -41,30 +38,29 @@ fn each_write_fails(rt: HostRuntime) -> Result<(), Fail> {
     Ok(())
 }
 
-/// Sees that a writer with room for just the output takes it all.
-fn expect_whole(rt: &impl Abort, alloc: Global, call: Call, input: &[u8], output: &[u8]) {
-    let narrow = Narrow::new(output.len(), 7, false);
-    let got = made(alloc, call, &mut FromSlice::new(input), narrow);
-    assert_eq!(rt; (got.fault, got.written), (None, output.len() as u64));
-    assert_eq!(rt; got.narrow.taken(), output);
+/// Sees that the output has this size, and that a writer with room for just that takes it all.
+fn expect_whole(
+    rt: &impl Abort,
+    alloc: Global,
+    case: &Case,
+    size: usize,
+) -> Result<(), AllocError> {
+    let (input, output) = input_and_output(alloc, case)?;
+    assert_eq!(rt; output.len(), size);
+    let narrow = Narrow::new(size, 7, false);
+    let got = made_of(alloc, case.call, &input, narrow);
+    expect_outcome(rt, &got, None, &output);
+    Ok(())
 }
 
 /// How many bytes the cases write; the first is example 42.
-const WRITTEN: [usize; 8] = [124, 93, 27, 117, 64, 44, 40, 92];
+const WRITTEN: &[usize] = &[124, 93, 27, 117, 64, 44, 40, 92];
 
 #[test]
 fn whole_writes(rt: HostRuntime) -> Result<(), Fail> {
     assert_eq!(rt; CASES.len(), WRITTEN.len());
     for (case, size) in CASES.iter().zip(WRITTEN) {
-        let (input, output) = input_and_output(rt.alloc(), case)?;
-        assert_eq!(rt; output.len(), size);
-        expect_whole(
-            &rt,
-            rt.alloc(),
-            case.call,
-            input.as_slice(),
-            output.as_slice(),
-        );
+        expect_whole(&rt, rt.alloc(), case, *size)?;
     }
     Ok(())
 }
