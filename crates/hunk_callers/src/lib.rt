@@ -22,6 +22,3 @@ pub use crate::program::{show_file, strip_file};
 pub use crate::rom::place_in_rom;
 pub use crate::symbols::{Symbol, list_symbols};
 pub use crate::upload::has_header;
-
-#[cfg(test)]
-mod tests;

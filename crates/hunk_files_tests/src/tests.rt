@@ -20,7 +20,7 @@ mod stops;
 mod writing;
 
 use hunk_files::{HunkFile, ImageFault, LoadFile, ObjectFile};
-use hunk_testing::Narrow;
+use hunk_testing::{Narrow, assert_true};
 use hunk_words::{FileFault, FromWrite, LongWriter};
 use std::alloc::{AllocError, Global};
 use std::process::Abort;
@@ -47,7 +47,7 @@ fn overlap(
     alloc: Global,
     file: &LoadFile,
 ) -> Result<Option<(u32, u32)>, AllocError> {
-    assert!(rt; file.hunks() > 0);
+    assert_true(rt, file.hunks() > 0);
     file.overlap(alloc, 0)
 }
 

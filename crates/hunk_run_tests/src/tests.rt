@@ -6,6 +6,7 @@ mod runs;
 
 use crate::tests::made::{Given, Kept, Made};
 use hunk_run::run;
+use hunk_testing::{assert_equal_at, assert_true_at};
 use hunk_words::LongWriter;
 use std::alloc::Global;
 use std::cell::RefCell;
@@ -85,8 +86,8 @@ fn expect_of(
     want_status: u8,
 ) -> Result<(), Fail> {
     let ran = ran(alloc, given, ANY, line)?;
-    assert_eq!(rt; ran.text.as_str(), want, "at {line}");
-    assert_eq!(rt; ran.status, want_status, "at {line}");
-    assert!(rt; ran.created.is_empty(), "at {line}");
+    assert_equal_at(rt, ran.text.as_str(), want, line);
+    assert_equal_at(rt, ran.status, want_status, line);
+    assert_true_at(rt, ran.created.is_empty(), line);
     Ok(())
 }

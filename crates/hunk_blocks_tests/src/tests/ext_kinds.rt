@@ -1,7 +1,7 @@
 //! The types of EXT entries: their numbers, names, shapes and widths.
 
 use hunk_blocks::{Block, Body, Entries, ExtKind, ExtShape, Mode};
-use hunk_testing::spelled;
+use hunk_testing::{assert_equal, assert_equal_at, spelled};
 use hunk_words::BlockFault;
 use std::alloc::{AllocError, Global};
 use std::process::Abort;
@@ -65,13 +65,15 @@ const TYPES: &[(ExtKind, u8, &str, ExtShape, Option<u64>)] = &[
 #[test]
 fn of_each_type(rt: HostRuntime) -> Result<(), Fail> {
     for (kind, code, name, shape, width) in TYPES {
-        assert_eq!(rt;
+        assert_equal(
+            &rt,
             (ExtKind::from_code(*code), kind.code()),
-            (Some(*kind), *code)
+            (Some(*kind), *code),
         );
-        assert_eq!(rt;
+        assert_equal(
+            &rt,
             (kind.name(), kind.shape(), kind.width()),
-            (*name, *shape, *width)
+            (*name, *shape, *width),
         );
     }
     Ok(())
@@ -83,7 +85,7 @@ const REFUSED: &[u8] = &[3, 4, 127, 128, 140, 255];
 #[test]
 fn of_no_type(rt: HostRuntime) -> Result<(), Fail> {
     for code in REFUSED {
-        assert_eq!(rt; ExtKind::from_code(*code), None, "{code}");
+        assert_equal_at(&rt, ExtKind::from_code(*code), None, code);
     }
     Ok(())
 }
@@ -121,7 +123,7 @@ fn shapes_in(alloc: Global, bytes: &[u8]) -> Result<Vec<Shaped>, Fail> {
 fn of_entries(rt: HostRuntime) -> Result<(), Fail> {
     let bytes = spelled(rt.alloc(), ENTRIES)?;
     let found = shapes_in(rt.alloc(), &bytes)?;
-    assert_eq!(rt; found.as_slice(), SHAPED);
+    assert_equal(&rt, found.as_slice(), SHAPED);
     Ok(())
 }
 
@@ -147,7 +149,7 @@ fn expect_content(
     want: Option<u64>,
 ) -> Result<(), Fail> {
     let bytes = spelled(alloc, text)?;
-    assert_eq!(rt; content_of(alloc, &bytes), Ok(want), "{text}");
+    assert_equal_at(rt, content_of(alloc, &bytes), Ok(want), text);
     Ok(())
 }
 

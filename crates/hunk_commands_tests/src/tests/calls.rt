@@ -1,10 +1,11 @@
 //! The commands on files of both kinds, by any source and to a writer that may fail.
+ghost use Rattle.std.specs.Prelude.{◌≡◌};
 
 use crate::tests::relocating::{BASE, LIMITS};
 use hunk_commands::{RunFault, relocate, rewrite, show, validate};
 use hunk_scatter::Limits;
-use hunk_testing::{Narrow, WIDTH, examples, spelled};
-use hunk_words::{FromSlice, FromWrite, LongWriter, Source};
+use hunk_testing::{Narrow, WIDTH, assert_equal, examples, spelled};
+use hunk_words::{FromSlice, FromWrite, LongWriter, Sink, Source};
 use std::alloc::{AllocError, Global};
 use std::io::Write;
 use std::process::Abort;
@@ -76,6 +77,26 @@ pub(super) const CASES: &[Case] = &[
     },
 ];
 
+/// The fault of a call on what the source gives.
+fn fault_of<R: Source, S: Sink>(
+    alloc: Global,
+    call: Call,
+    source: &mut R,
+    out: &mut LongWriter<S>,
+    limits: Limits,
+) -> Option<RunFault>
+    requires { out.old.written ≡ 0 }
+{
+    let most = limits.file_bytes;
+    match call {
+        Call::Show => show(alloc, source, out, most).err(),
+        Call::Validate => validate(alloc, source, out, most).err(),
+        Call::Rewrite => rewrite(alloc, source, out, most, false).err(),
+        Call::Strip => rewrite(alloc, source, out, most, true).err(),
+        Call::Relocate => relocate(alloc, source, out, limits, BASE).err(),
+    }
+}
+
 /// The fault of a call on what the source gives, how many bytes it wrote, and the writer that took them.
 pub(super) fn called<R: Source, W: Write + Drop>(
     alloc: Global,
@@ -85,14 +106,7 @@ pub(super) fn called<R: Source, W: Write + Drop>(
     limits: Limits,
 ) -> (Option<RunFault>, u64, W) {
     let mut out = LongWriter::new(FromWrite::new(writer));
-    let most = limits.file_bytes;
-    let fault = match call {
-        Call::Show => show(alloc, source, &mut out, most).err(),
-        Call::Validate => validate(alloc, source, &mut out, most).err(),
-        Call::Rewrite => rewrite(alloc, source, &mut out, most, false).err(),
-        Call::Strip => rewrite(alloc, source, &mut out, most, true).err(),
-        Call::Relocate => relocate(alloc, source, &mut out, limits, BASE).err(),
-    };
+    let fault = fault_of(alloc, call, source, &mut out, limits);
     (fault, out.written(), out.into_inner().into_inner())
 }
 
@@ -144,9 +158,9 @@ pub(super) fn expect_outcome(
     fault: Option<RunFault>,
     output: &[u8],
 ) {
-    assert_eq!(rt; got.fault, fault);
-    assert_eq!(rt; got.written, output.len() as u64);
-    assert_eq!(rt; got.narrow.taken(), output);
+    assert_equal(rt, got.fault, fault);
+    assert_equal(rt, got.written, output.len() as u64);
+    assert_equal(rt, got.narrow.taken(), output);
 }
 
 /// A writer with room for all.

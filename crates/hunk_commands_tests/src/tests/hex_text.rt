@@ -1,6 +1,8 @@
 //! Which bytes a hexadecimal text spells.
 use hunk_commands::{RunFault, read_hex, unhex};
-use hunk_testing::{Fed, Then, answers_growth_by_growth, memory_ends};
+use hunk_testing::{
+    Fed, Then, answers_growth_by_growth, assert_equal, assert_equal_at, assert_true_at, memory_ends,
+};
 use hunk_words::{Fault, Reason};
 use std::alloc::Global;
 use std::process::Abort;
@@ -21,7 +23,7 @@ const SPELLED: &[(&str, &[u8])] = &[
 fn spells(rt: HostRuntime) -> Result<(), Fail> {
     for (text, want) in SPELLED {
         let got = unhex(rt.alloc(), text.as_bytes())?;
-        assert_eq!(rt; got.as_slice(), *want, "at {text:?}");
+        assert_equal_at(&rt, got.as_slice(), *want, text);
     }
     Ok(())
 }
@@ -35,7 +37,7 @@ const UNSPELLED: &[&str] = &[
 fn spells_none(rt: HostRuntime) {
     for text in UNSPELLED {
         let got = unhex(rt.alloc(), text.as_bytes()).err();
-        assert_eq!(rt; got, Some(RunFault::HexText), "at {text:?}");
+        assert_equal_at(&rt, got, Some(RunFault::HexText), text);
     }
 }
 
@@ -76,7 +78,7 @@ fn reads_in_pieces(rt: HostRuntime) -> Result<(), Fail> {
         let (bytes, text) = counted(rt.alloc(), count)?;
         for step in STEPS {
             let got = read(rt.alloc(), text.as_slice(), *step, Then::Ends, 10_000)?;
-            assert!(rt; got == bytes, "{count} bytes by {step}");
+            assert_true_at(&rt, got == bytes, (count, step));
         }
     }
     Ok(())
@@ -102,11 +104,11 @@ fn refuses_at_the_end(rt: HostRuntime) -> Result<(), Fail> {
     let alloc = rt.alloc();
     for step in STEPS {
         let got = refusal(alloc, &text, *step, Then::Ends, place + 1);
-        assert_eq!(rt; got, Some(RunFault::HexText));
+        assert_equal(&rt, got, Some(RunFault::HexText));
         let got = refusal(alloc, &text, *step, Then::Fails, place + 1);
-        assert_eq!(rt; got, Some(RunFault::Read { place }));
+        assert_equal(&rt, got, Some(RunFault::Read { place }));
         let got = refusal(alloc, &text, *step, Then::Ends, place);
-        assert_eq!(rt; got, Some(limit));
+        assert_equal(&rt, got, Some(limit));
     }
     Ok(())
 }
@@ -131,7 +133,7 @@ fn expect_growths<F: Fn() -> Result<Vec<u8>, RunFault>>(
 {
     let answers = answers_growth_by_growth(alloc, || shortfall(call(), bytes))?;
     let want = [Some(Some(RunFault::Memory)), None];
-    assert_eq!(rt; answers.as_slice(), want.as_slice());
+    assert_equal(rt, answers.as_slice(), want.as_slice());
     Ok(())
 }
 

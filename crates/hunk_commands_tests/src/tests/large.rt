@@ -7,7 +7,7 @@ use hunk_testing::large::{
     HUNKS, LARGE, LOAD_FILE, OBJECT_FILE, Run, SHORT_OF_16_MIB, STRIPPED_LOAD_FILE,
     STRIPPED_OBJECT_FILE, bytes_of_runs, large_load_file, large_object_file,
 };
-use hunk_testing::spelled;
+use hunk_testing::{assert_equal_at, assert_true_at, spelled};
 use hunk_words::FromSlice;
 use std::alloc::{AllocError, Global};
 use std::io;
@@ -24,8 +24,8 @@ const LIMITS: Limits = Limits {
 fn expect(rt: &impl Abort, alloc: Global, call: Call, bytes: &[u8], want: &[u8]) {
     let mut source = FromSlice::new(bytes);
     let (fault, _, text) = called(alloc, call, &mut source, Vec::<u8>::new(alloc), LIMITS);
-    assert_eq!(rt; fault, None, "{call:?}");
-    assert!(rt; text.as_slice() == want, "{call:?}");
+    assert_equal_at(rt, fault, None, call);
+    assert_true_at(rt, text.as_slice() == want, call);
 }
 
 /// Text for each number from one up to below another: a front, and behind it the number and a rest, if there is one.
@@ -118,17 +118,39 @@ const FILES: &[(&[&[Run]], &[Lines], &[Lines], &[&[Run]])] = &[
     ),
 ];
 
+/// Sees that a call prints these lines of a file.
+fn expect_lines(
+    rt: &impl Abort,
+    alloc: Global,
+    call: Call,
+    file: &[&[Run]],
+    lines: &[Lines],
+) -> Result<(), Fail> {
+    let bytes = bytes_of_runs(alloc, file)?;
+    expect(rt, alloc, call, &bytes, text_of(alloc, lines)?.as_bytes());
+    Ok(())
+}
+
+/// Sees that a call writes this of a file.
+fn expect_file(
+    rt: &impl Abort,
+    alloc: Global,
+    call: Call,
+    file: &[&[Run]],
+    want: &[&[Run]],
+) -> Result<(), Fail> {
+    let bytes = bytes_of_runs(alloc, file)?;
+    expect(rt, alloc, call, &bytes, &bytes_of_runs(alloc, want)?);
+    Ok(())
+}
+
 #[test]
 fn many_parts(rt: HostRuntime) -> Result<(), Fail> {
-    let alloc = rt.alloc();
     for (file, lines, report, left) in FILES {
-        let bytes = bytes_of_runs(alloc, file)?;
-        let (shown, told) = (text_of(alloc, lines)?, text_of(alloc, report)?);
-        expect(&rt, alloc, Call::Show, &bytes, shown.as_bytes());
-        expect(&rt, alloc, Call::Validate, &bytes, told.as_bytes());
-        expect(&rt, alloc, Call::Rewrite, &bytes, &bytes);
-        let stripped = bytes_of_runs(alloc, left)?;
-        expect(&rt, alloc, Call::Strip, &bytes, &stripped);
+        expect_lines(&rt, rt.alloc(), Call::Show, file, lines)?;
+        expect_lines(&rt, rt.alloc(), Call::Validate, file, report)?;
+        expect_file(&rt, rt.alloc(), Call::Rewrite, file, file)?;
+        expect_file(&rt, rt.alloc(), Call::Strip, file, left)?;
     }
     Ok(())
 }
@@ -178,7 +200,7 @@ const LARGE_OBJECT_REPORT: &[u8] = b"object file 1 units 0 findings\n";
 /// Sees that a call puts this many bytes.
 fn expect_count(rt: &impl Abort, alloc: Global, call: Call, bytes: &[u8], want: usize) {
     let (fault, count, _) = called(alloc, call, &mut FromSlice::new(bytes), io::sink(), LIMITS);
-    assert_eq!(rt; (fault, count), (None, want as u64), "{call:?}");
+    assert_equal_at(rt, (fault, count), (None, want as u64), call);
 }
 
 #[test]

@@ -2,7 +2,7 @@
 
 use crate::tests::calls::{Call, LIMIT, Outcome, expect_outcome, made_within, roomy};
 use hunk_commands::RunFault;
-use hunk_testing::{Fed, Then, before_end, examples, spelled};
+use hunk_testing::{Fed, Then, assert_equal, assert_equal_at, before_end, examples, spelled};
 use hunk_words::{Fault, Reason};
 use std::alloc::{AllocError, Global};
 use std::process::Abort;
@@ -23,7 +23,7 @@ fn expect_limit(rt: &impl Abort, got: &Outcome, file_bytes: u64, given: usize) {
         reason: Reason::FileLimit,
     });
     expect_outcome(rt, got, Some(fault), &[]);
-    assert_eq!(rt; given as u64, file_bytes);
+    assert_equal(rt, given as u64, file_bytes);
 }
 
 /// Sees that each call reads as much as it may, and no more, of what the source gives.
@@ -71,7 +71,7 @@ fn fault_and_given(alloc: Global, call: Call, bytes: &[u8]) -> (Option<RunFault>
 fn each_is_done(rt: &impl Abort, alloc: Global, calls: &[Call], bytes: &[u8]) {
     for call in calls {
         let got = fault_and_given(alloc, *call, bytes);
-        assert_eq!(rt; got, (None, bytes.len()), "{call:?}");
+        assert_equal_at(rt, got, (None, bytes.len()), call);
     }
 }
 
@@ -81,9 +81,10 @@ fn files_of_about_the_limit(rt: HostRuntime) -> Result<(), Fail> {
     let alloc = rt.alloc();
     let (longer, as_long) = (with_debug_data(alloc, 239)?, with_debug_data(alloc, 238)?);
     let shorter = with_debug_data(alloc, 237)?;
-    assert_eq!(rt;
+    assert_equal(
+        &rt,
         (longer.len(), as_long.len(), shorter.len()),
-        (1_004, 1_000, 996)
+        (1_004, 1_000, 996),
     );
     each_is_limited(&rt, alloc, WHOLE, (&longer, Then::Ends), 1_000);
     each_is_limited(&rt, alloc, LOADING, (&longer, Then::Ends), 1_000);

@@ -2,7 +2,9 @@
 
 use crate::tests::calls::{Call, Case, Outcome, input_and_output, made_of, roomy};
 use hunk_commands::RunFault;
-use hunk_testing::{answers_growth_by_growth, examples, memory_ends};
+use hunk_testing::{
+    answers_growth_by_growth, assert_equal, assert_equal_at, examples, memory_ends,
+};
 use std::alloc::Global;
 use std::process::Abort;
 use std::test::Fail;
@@ -160,22 +162,21 @@ fn expect_growths(
     cases: &[Case],
     sizes: &[usize],
 ) -> Result<(), Fail> {
-    assert_eq!(rt; RunFault::Memory.status(), 4);
-    assert_eq!(rt; cases.len(), sizes.len());
+    assert_equal(rt, RunFault::Memory.status(), 4);
+    assert_equal(rt, cases.len(), sizes.len());
     for (case, size) in cases.iter().zip(sizes) {
         let (input, output) = input_and_output(alloc, case)?;
-        assert_eq!(rt; output.len(), *size);
+        assert_equal(rt, output.len(), *size);
         let answers = answers_growth_by_growth(
             alloc,
             || shortfall(alloc, case.call, input.as_slice(), output.as_slice()),
         )?;
         let want = [Some((Some(RunFault::Memory), 0)), None];
-        assert_eq!(rt;
+        assert_equal_at(
+            rt,
             answers.as_slice(),
             want.as_slice(),
-            "{:?} of {}",
-            case.call,
-            case.file
+            (case.call, case.file),
         );
     }
     Ok(())

@@ -2,7 +2,7 @@
 
 use crate::tests::calls::{CASES, Call, Outcome, expect_outcome, input_and_output, made, roomy};
 use hunk_commands::RunFault;
-use hunk_testing::{FailsOnce, Interrupted};
+use hunk_testing::{FailsOnce, Interrupted, assert_equal};
 use hunk_words::FromRead;
 use std::alloc::Global;
 use std::process::Abort;
@@ -35,7 +35,7 @@ fn one_read_fails(
         };
         if place < reads {
             expect_unread(rt, &got, place);
-            assert_eq!(rt; source.given(), place);
+            assert_equal(rt, source.given(), place);
         } else {
             expect_outcome(rt, &got, None, output);
         }

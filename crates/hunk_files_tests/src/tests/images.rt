@@ -2,7 +2,10 @@
 
 use crate::tests::{image, load_file, overlap};
 use hunk_files::ImageFault;
-use hunk_testing::{CHANGES, before_end, bytes_of, changed, ends_within_debug, examples, spelled};
+use hunk_testing::{
+    CHANGES, assert_equal, assert_equal_at, before_end, bytes_of, changed, ends_within_debug,
+    examples, spelled,
+};
 use std::alloc::{AllocError, Global};
 use std::process::Abort;
 use std::test::Fail;
@@ -67,7 +70,7 @@ fn expect_image(
     let bytes = spelled(alloc, text)?;
     let want = bytes_of(alloc, want)?;
     let got = image_of(rt, alloc, &bytes, bases);
-    assert_eq!(rt; got, Ok(want), "example {example}");
+    assert_equal_at(rt, got, Ok(want), example);
     Ok(())
 }
 
@@ -85,14 +88,14 @@ fn image_of_a_stripped_file(rt: HostRuntime) -> Result<(), Fail> {
     let bytes = spelled(rt.alloc(), examples::RELOCATED_BEHIND_SYMBOLS)?;
     let stripped = load_file(&rt, rt.alloc(), &bytes).strip();
     let got = image(rt.alloc(), &stripped, &[0x100]);
-    assert_eq!(rt; got, Ok(bytes_of(rt.alloc(), &[0x110])?));
+    assert_equal(&rt, got, Ok(bytes_of(rt.alloc(), &[0x110])?));
     Ok(())
 }
 
 /// Sees that the bytes have example 1's image.
 fn expect_same_image(rt: &impl Abort, alloc: Global, bytes: &[u8]) -> Result<(), Fail> {
     let want = bytes_of(alloc, &[0x4E75_4E71])?;
-    assert_eq!(rt; image_of(rt, alloc, bytes, &[0x21000]), Ok(want));
+    assert_equal(rt, image_of(rt, alloc, bytes, &[0x21000]), Ok(want));
     Ok(())
 }
 
@@ -123,7 +126,7 @@ fn wrong_number_of_bases(rt: HostRuntime) -> Result<(), Fail> {
     for (text, bases) in WRONG_BASES {
         let bytes = spelled(rt.alloc(), text)?;
         let got = image_of(&rt, rt.alloc(), &bytes, bases);
-        assert_eq!(rt; got, Err(ImageFault::BaseCount));
+        assert_equal(&rt, got, Err(ImageFault::BaseCount));
     }
     Ok(())
 }
@@ -137,7 +140,7 @@ const TEXTS_OF_FAULTS: &[(ImageFault, &str)] = &[
 fn texts_of_faults(rt: HostRuntime) -> Result<(), Fail> {
     for (fault, want) in TEXTS_OF_FAULTS {
         let text = format!(in rt.alloc(); "{fault}")?;
-        assert_eq!(rt; text.as_str(), *want);
+        assert_equal(&rt, text.as_str(), *want);
     }
     Ok(())
 }
@@ -155,7 +158,7 @@ fn overlaps(rt: HostRuntime) -> Result<(), Fail> {
     for (text, want) in OVERLAPS {
         let bytes = spelled(rt.alloc(), text)?;
         let got = overlap_of(&rt, rt.alloc(), &bytes)?;
-        assert_eq!(rt; got, *want, "{text}");
+        assert_equal_at(&rt, got, *want, text);
     }
     Ok(())
 }

@@ -1,7 +1,7 @@
 //! Which object files are read, and where the others are refused and why.
 
 use hunk_files::ObjectFile;
-use hunk_testing::{bytes_of, examples, spelled};
+use hunk_testing::{assert_equal, assert_equal_at, bytes_of, examples, spelled};
 use hunk_words::{FileFault, Reason};
 use std::alloc::{AllocError, Global};
 use std::process::Abort;
@@ -47,7 +47,7 @@ const ACCEPTED: &[(&str, (usize, usize, usize))] = &[
 fn accepted(rt: HostRuntime) -> Result<(), Fail> {
     for (text, want) in ACCEPTED {
         let bytes = spelled(rt.alloc(), text)?;
-        assert_eq!(rt; answer(rt.alloc(), &bytes), Ok(*want), "{text}");
+        assert_equal_at(&rt, answer(rt.alloc(), &bytes), Ok(*want), text);
     }
     Ok(())
 }
@@ -59,7 +59,7 @@ type Refused = &'static [(&'static str, u64, Reason)];
 fn expect_refused(rt: &impl Abort, alloc: Global, rows: Refused) -> Result<(), Fail> {
     for (text, place, reason) in rows {
         let bytes = spelled(alloc, text)?;
-        assert_eq!(rt; answer(alloc, &bytes), refused(*place, *reason), "{text}");
+        assert_equal_at(rt, answer(alloc, &bytes), refused(*place, *reason), text);
     }
     Ok(())
 }
@@ -106,7 +106,7 @@ fn expect(
     reason: Reason,
 ) -> Result<(), Fail> {
     let got = answer_of(alloc, longs)?;
-    assert_eq!(rt; got, refused(place, reason), "{longs:?}");
+    assert_equal_at(rt, got, refused(place, reason), longs);
     Ok(())
 }
 
@@ -194,7 +194,7 @@ fn cut_short(rt: HostRuntime) -> Result<(), Fail> {
     let bytes = spelled(rt.alloc(), CUT_SHORT)?;
     for n in 0..bytes.len() + 1 {
         let got = answer(rt.alloc(), &bytes[..n]);
-        assert_eq!(rt; got, answer_to_front(n), "{n} bytes");
+        assert_equal_at(&rt, got, answer_to_front(n), n);
     }
     Ok(())
 }
@@ -206,7 +206,7 @@ fn bytes_over(rt: HostRuntime) -> Result<(), Fail> {
     for _ in 0..3u8 {
         bytes.push(0)?;
         let want = refused(8, Reason::Truncated);
-        assert_eq!(rt; answer(rt.alloc(), bytes.as_slice()), want);
+        assert_equal(&rt, answer(rt.alloc(), bytes.as_slice()), want);
     }
     Ok(())
 }
@@ -224,7 +224,7 @@ fn units(alloc: Global, count: u32) -> Result<Vec<u8>, AllocError> {
 fn expect_names(rt: &impl Abort, file: &ObjectFile) {
     for (number, unit) in file.units().iter().enumerate() {
         let name = (number as u64).to_be_bytes();
-        assert_eq!(rt; unit.name().bytes(), &name[4..]);
+        assert_equal(rt, unit.name().bytes(), &name[4..]);
     }
 }
 
@@ -232,7 +232,7 @@ fn expect_names(rt: &impl Abort, file: &ObjectFile) {
 fn many_units(rt: HostRuntime) -> Result<(), Fail> {
     let bytes = units(rt.alloc(), 500)?;
     let file = ObjectFile::decode(rt.alloc(), &bytes)?;
-    assert_eq!(rt; counts(&file), (500, 1000, 2000));
+    assert_equal(&rt, counts(&file), (500, 1000, 2000));
     expect_names(&rt, &file);
     Ok(())
 }

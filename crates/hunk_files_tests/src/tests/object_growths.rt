@@ -2,7 +2,9 @@
 
 use crate::tests::growths::wanted;
 use crate::tests::object_fault;
-use hunk_testing::{answers_growth_by_growth, answers_one_by_one, examples, memory_ends, spelled};
+use hunk_testing::{
+    answers_growth_by_growth, answers_one_by_one, assert_equal, examples, memory_ends, spelled,
+};
 use std::alloc::Global;
 use std::process::Abort;
 use std::test::Fail;
@@ -19,7 +21,7 @@ fn of_two_units(rt: HostRuntime) -> Result<(), Fail> {
     let alloc = rt.alloc();
     let bytes = spelled(alloc, examples::TWO_UNITS)?;
     let answers = answers_growth_by_growth(alloc, || object_fault(alloc, &bytes))?;
-    assert_eq!(rt; answers, wanted(alloc, OF_TWO_UNITS)?);
+    assert_equal(&rt, answers, wanted(alloc, OF_TWO_UNITS)?);
     Ok(())
 }
 
@@ -29,7 +31,7 @@ fn of_two_units(rt: HostRuntime) -> Result<(), Fail> {
 fn expect(rt: &impl Abort, alloc: Global, text: &str, places: &[u64]) -> Result<(), Fail> {
     let bytes = spelled(alloc, text)?;
     let answers = answers_one_by_one(alloc, || object_fault(alloc, &bytes))?;
-    assert_eq!(rt; answers, wanted(alloc, places)?);
+    assert_equal(rt, answers, wanted(alloc, places)?);
     Ok(())
 }
 

@@ -2,7 +2,7 @@
 
 use crate::tests::object_fault;
 use hunk_files::ObjectFile;
-use hunk_testing::{changed_in, spelled};
+use hunk_testing::{assert_equal_at, assert_true_at, changed_in, spelled};
 use hunk_words::{FileFault, Reason};
 use std::alloc::{AllocError, Global};
 use std::process::Abort;
@@ -146,7 +146,7 @@ fn expect(
 ) -> Result<(), AllocError> {
     let bytes = changed_in(alloc, FILE, byte as usize, word)?;
     let fault = object_fault(alloc, &bytes);
-    assert!(rt; is_answered(fault, byte as u64, want), "{word:x} at {byte}");
+    assert_true_at(rt, is_answered(fault, byte as u64, want), (word, byte));
     Ok(())
 }
 
@@ -241,7 +241,7 @@ fn prefixes(rt: HostRuntime) -> Result<(), Fail> {
                 reason: Reason::Truncated,
             }),
         };
-        assert_eq!(rt; got, want, "{n} bytes");
+        assert_equal_at(&rt, got, want, n);
     }
     Ok(())
 }

@@ -7,7 +7,7 @@ use hunk_testing::examples::{
     ENDING_IN_ZEROS, LARGEST_HUNK, NO_HUNKS, ONE_HUNK, TOO_MANY_HUNKS, TWO_HUNKS, WITH_ATTRIBUTES,
     WRONG_LAST_HUNK,
 };
-use hunk_testing::spelled;
+use hunk_testing::{assert_equal, assert_equal_at, assert_true, spelled};
 use hunk_words::{LoadFault, Memory, Reason};
 use std::alloc::Global;
 use std::process::Abort;
@@ -31,7 +31,7 @@ impl Counted {
 
     /// Feeds a piece, and gives the number of bytes taken of it.
     pub(super) fn feed(&mut self, rt: &impl Abort, piece: &[u8]) -> Result<usize, LoadFault> {
-        assert!(rt; self.given < 1_000 && piece.len() < 1_000);
+        assert_true(rt, self.given < 1_000 && piece.len() < 1_000);
         let answer = self.loader.feed(piece);
         self.given += piece.len() as u64;
         answer
@@ -79,7 +79,7 @@ pub(super) fn declared(
 ) -> Result<Declared, Fail> {
     let bytes = spelled(alloc, text)?;
     let (loader, answer) = fed(alloc, bytes.as_slice(), 1_000);
-    assert_eq!(rt; answer, Ok(header));
+    assert_equal(rt, answer, Ok(header));
     match loader.declared() {
         Ok(declared) => Ok(declared),
         Err(_) => panic!(rt; "no table"),
@@ -130,11 +130,11 @@ fn expect_in_pieces(
 ) {
     for most in [1, 3, 256] {
         let got = in_pieces(rt, alloc, bytes, budget, most, most);
-        assert_eq!(rt; got, *want, "{most} bytes a piece");
+        assert_equal_at(rt, got, *want, most);
     }
     for cut in 1..bytes.len() {
         let got = in_pieces(rt, alloc, bytes, budget, cut, 256);
-        assert_eq!(rt; got, *want, "cut at {cut}");
+        assert_equal_at(rt, got, *want, cut);
     }
 }
 
@@ -158,10 +158,10 @@ const WANTS: &[usize] = &[
 
 /// Feeds the bytes one by one, and sees what is wanted before each.
 fn expect_wants(rt: &impl Abort, counted: &mut Counted, bytes: &[u8], wants: &[usize]) {
-    assert_eq!(rt; bytes.len(), wants.len());
+    assert_equal(rt, bytes.len(), wants.len());
     for (byte, want) in bytes.iter().zip(wants) {
-        assert_eq!(rt; counted.counts().0, *want);
-        assert_eq!(rt; counted.feed(rt, &[*byte]), Ok(1));
+        assert_equal(rt, counted.counts().0, *want);
+        assert_equal(rt, counted.feed(rt, &[*byte]), Ok(1));
     }
 }
 
@@ -172,9 +172,9 @@ fn wants_what_rows_still_have(rt: HostRuntime) -> Result<(), Fail> {
     let bytes = spelled(rt.alloc(), "3F3 0 3 0 2 1 C0000002 10004 1")?;
     let mut counted = Counted::new(rt.alloc(), 1_000);
     expect_wants(&rt, &mut counted, bytes.as_slice(), WANTS);
-    assert_eq!(rt; counted.counts().0, 0);
-    assert_eq!(rt; counted.feed(&rt, b"follows"), Ok(0));
-    assert!(rt; counted.loader.declared().is_ok());
+    assert_equal(&rt, counted.counts().0, 0);
+    assert_equal(&rt, counted.feed(&rt, b"follows"), Ok(0));
+    assert_true(&rt, counted.loader.declared().is_ok());
     Ok(())
 }
 
@@ -194,11 +194,11 @@ fn wants_at_most_a_buffer(rt: HostRuntime) -> Result<(), Fail> {
     let mut counted = Counted::new(rt.alloc(), 1_000);
     for (text, want) in OF_65_HUNKS {
         let piece = spelled(rt.alloc(), text)?;
-        assert_eq!(rt; counted.feed(&rt, piece.as_slice()), Ok(piece.len()));
-        assert_eq!(rt; counted.counts().0, *want, "behind {text}");
+        assert_equal(&rt, counted.feed(&rt, piece.as_slice()), Ok(piece.len()));
+        assert_equal_at(&rt, counted.counts().0, *want, text);
     }
-    assert_eq!(rt; counted.feed(&rt, [0].as_slice()), Ok(1));
-    assert_eq!(rt; counted.counts().0, 239);
+    assert_equal(&rt, counted.feed(&rt, [0].as_slice()), Ok(1));
+    assert_equal(&rt, counted.counts().0, 239);
     Ok(())
 }
 
@@ -221,25 +221,25 @@ fn answers(rt: HostRuntime) -> Result<(), Fail> {
             Ok(bytes) => Ok(bytes),
             Err(fault) => Err((fault.place, fault.reason)),
         };
-        assert_eq!(rt; got, *want, "{text}");
+        assert_equal_at(&rt, got, *want, text);
     }
     Ok(())
 }
 
 fn expect_row(rt: &impl Abort, declared: &Declared, i: u32, memory: Memory, bytes: u64) {
-    assert!(rt; i < declared.hunks());
+    assert_true(rt, i < declared.hunks());
     let row = declared.row(i);
-    assert_eq!(rt; row.size().memory(), memory);
-    assert_eq!(rt; row.size().bytes(), bytes);
-    assert_eq!(rt; row.base, 0);
+    assert_equal(rt, row.size().memory(), memory);
+    assert_equal(rt, row.size().bytes(), bytes);
+    assert_equal(rt, row.base, 0);
 }
 
 /// The table of example 8.
 #[test]
 fn tables(rt: HostRuntime) -> Result<(), Fail> {
     let declared = declared(&rt, rt.alloc(), WITH_ATTRIBUTES, 32)?;
-    assert_eq!(rt; declared.hunks(), 2);
-    assert_eq!(rt; declared.held(), 24);
+    assert_equal(&rt, declared.hunks(), 2);
+    assert_equal(&rt, declared.held(), 24);
     expect_row(&rt, &declared, 0, Memory::Attributes(0x10004), 8);
     expect_row(&rt, &declared, 1, Memory::Any, 4);
     Ok(())
@@ -250,12 +250,12 @@ pub(super) fn came_back(rt: &impl Abort, unplaced: Option<&Unplaced>, reason: Re
     let Some(unplaced) = unplaced else {
         panic!(rt; "placed");
     };
-    assert_eq!(rt; unplaced.reason, reason);
-    assert_eq!(rt; unplaced.declared.hunks(), 2);
-    assert_eq!(rt; unplaced.declared.total(), 12);
+    assert_equal(rt, unplaced.reason, reason);
+    assert_equal(rt, unplaced.declared.hunks(), 2);
+    assert_equal(rt, unplaced.declared.total(), 12);
     for i in 0..unplaced.declared.hunks() {
         let Row { word, extra, base } = unplaced.declared.row(i);
-        assert_eq!(rt; (word, extra, base), (if i == 0 { 2 } else { 1 }, 0, 0));
+        assert_equal(rt, (word, extra, base), (if i == 0 { 2 } else { 1 }, 0, 0));
     }
 }
 
@@ -267,7 +267,7 @@ fn placing(rt: HostRuntime) -> Result<(), Fail> {
     came_back(&rt, unplaced.as_ref(), Reason::NoBase(1));
     let again = unplaced.map(|unplaced| unplaced.declared);
     let loader = again.and_then(|declared| declared.place(&Packed { start: 0x10000 }).ok());
-    assert_eq!(rt; loader.map(|loader| loader.held()), Some(36));
+    assert_equal(&rt, loader.map(|loader| loader.held()), Some(36));
     Ok(())
 }
 
@@ -279,7 +279,7 @@ fn packed_base(
     i: u32,
     before: u64,
 ) -> Option<u32> {
-    assert!(rt; i < declared.hunks());
+    assert_true(rt, i < declared.hunks());
     Packed { start }.base(i, &declared.row(i), before)
 }
 
@@ -294,7 +294,7 @@ fn packing(rt: HostRuntime) -> Result<(), Fail> {
         (0xFFFF_FFF8, 1, 8, None),
     ];
     for (start, i, before, want) in rows {
-        assert_eq!(rt; packed_base(&rt, &declared, start, i, before), want);
+        assert_equal(&rt, packed_base(&rt, &declared, start, i, before), want);
     }
     let start = 0xFFFF_FFF8;
     let unplaced = declared.place(&Packed { start }).err();
@@ -310,7 +310,7 @@ fn unplaced_text(rt: HostRuntime) -> Result<(), Fail> {
         panic!(rt; "placed");
     };
     let text = format!(in rt.alloc(); "{unplaced}")?;
-    assert_eq!(rt; text.as_str(), "refused at byte 28: NoBase (29) hunk 1");
+    assert_equal(&rt, text.as_str(), "refused at byte 28: NoBase (29) hunk 1");
     Ok(())
 }
 
@@ -319,12 +319,13 @@ fn unplaced_text(rt: HostRuntime) -> Result<(), Fail> {
 fn debug_texts(rt: HostRuntime) -> Result<(), Fail> {
     let header = HeaderLoader::new(rt.alloc(), 1000);
     let text = format!(in rt.alloc(); "{header:?}")?;
-    assert_eq!(rt; text.as_str(), "HeaderLoader { held: 0, want: 24, .. }");
+    assert_equal(&rt, text.as_str(), "HeaderLoader { held: 0, want: 24, .. }");
     let loader = body(&rt, rt.alloc())?;
     let text = format!(in rt.alloc(); "{loader:?}")?;
-    assert_eq!(rt;
+    assert_equal(
+        &rt,
         text.as_str(),
-        "BodyLoader { hunks: 1, fed: 24, refused: None, .. }"
+        "BodyLoader { hunks: 1, fed: 24, refused: None, .. }",
     );
     Ok(())
 }
@@ -342,10 +343,10 @@ pub(super) fn body(rt: &impl Abort, alloc: Global) -> Result<BodyLoader, Fail> {
 #[test]
 fn held(rt: HostRuntime) -> Result<(), Fail> {
     let loader = body(&rt, rt.alloc())?;
-    assert_eq!(rt; loader.held(), 16);
-    assert_eq!(rt; loader.fed(), 24);
-    assert!(rt; loader.want() > 0);
-    assert!(rt; loader.finish().is_err());
+    assert_equal(&rt, loader.held(), 16);
+    assert_equal(&rt, loader.fed(), 24);
+    assert_true(&rt, loader.want() > 0);
+    assert_true(&rt, loader.finish().is_err());
     Ok(())
 }
 
@@ -360,9 +361,9 @@ fn stays_refused(rt: HostRuntime) -> Result<(), Fail> {
     };
     for _ in 0..2u8 {
         let fed = counted.feed(&rt, bytes.as_slice());
-        assert_eq!(rt; fed, Err(fault));
+        assert_equal(&rt, fed, Err(fault));
     }
-    assert_eq!(rt; counted.counts(), (0, 0));
-    assert!(rt; counted.loader.declared().is_err());
+    assert_equal(&rt, counted.counts(), (0, 0));
+    assert_true(&rt, counted.loader.declared().is_err());
     Ok(())
 }

@@ -2,6 +2,7 @@
 
 use crate::tests::readings::agrees;
 use hunk_files::LoadFile;
+use hunk_testing::{assert_equal, assert_equal_at, assert_true_at};
 use hunk_vectors::{LOAD_TEXTS, VECTORS, Vector, Want, bytes};
 use std::alloc::Global;
 use std::process::Abort;
@@ -34,16 +35,16 @@ fn expect(
     let Some(vector) = table.get(i) else {
         panic!(rt; "no {i}");
     };
-    assert_eq!(rt; vector.text, text);
-    assert_eq!(rt; 2 * bytes.len(), text.len());
-    assert_eq!(rt; answer(alloc, bytes), vector.want, "{i}");
-    assert!(rt; agrees(alloc, bytes, bytes.len())?, "{i}");
+    assert_equal(rt, vector.text, text);
+    assert_equal(rt, 2 * bytes.len(), text.len());
+    assert_equal_at(rt, answer(alloc, bytes), vector.want, i);
+    assert_true_at(rt, agrees(alloc, bytes, bytes.len())?, i);
     Ok(())
 }
 
 #[test]
 fn answers(rt: HostRuntime) -> Result<(), Fail> {
-    assert_eq!(rt; VECTORS.len(), LOAD_TEXTS.len());
+    assert_equal(&rt, VECTORS.len(), LOAD_TEXTS.len());
     for i in 0..LOAD_TEXTS.len() {
         let bytes = bytes(rt.alloc(), i)?;
         expect(&rt, rt.alloc(), &VECTORS, i, LOAD_TEXTS[i], &bytes)?;

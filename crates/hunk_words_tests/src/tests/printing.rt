@@ -1,7 +1,7 @@
 //! A text that is longer than its page, to writers that stop after each number of bytes.
 ghost use Rattle.std.specs.Prelude.{◌≡◌, ◌≤◌};
 
-use hunk_testing::Narrow;
+use hunk_testing::{Narrow, assert_equal, assert_true_at};
 use hunk_words::{FromWrite, LongWriter, PagePrinter, Sink, WriteFault};
 use std::process::Abort;
 use std::test::Fail;
@@ -53,15 +53,12 @@ fn expect(
 ) {
     let count = room as u64;
     if room < TEXT.len() {
-        assert_eq!(rt; answer, Err(WriteFault { written: count }));
+        assert_equal(rt, answer, Err(WriteFault { written: count }));
     } else {
-        assert_eq!(rt; answer, Ok(()));
+        assert_equal(rt, answer, Ok(()));
     }
-    assert_eq!(rt; written, count);
-    assert!(rt;
-        taken.len() == room && TEXT.starts_with(taken),
-        "after {room}"
-    );
+    assert_equal(rt, written, count);
+    assert_true_at(rt, taken.len() == room && TEXT.starts_with(taken), room);
 }
 
 /// To a writer that takes `room` bytes, five at most at a time, and then fails.
