@@ -11,3 +11,10 @@ mod reading;
 mod relocating;
 mod samples;
 mod writing;
+
+use hunk_testing::assertions;
+
+/// Assertions, each a call.
+struct Assert;
+
+assertions!(Assert);

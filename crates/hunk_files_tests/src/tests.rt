@@ -20,10 +20,15 @@ mod stops;
 mod writing;
 
 use hunk_files::{HunkFile, ImageFault, LoadFile, ObjectFile};
-use hunk_testing::{Narrow, assert_true};
+use hunk_testing::{Narrow, assertions};
 use hunk_words::{FileFault, FromWrite, LongWriter};
 use std::alloc::{AllocError, Global};
 use std::process::Abort;
+
+/// Assertions, each a call.
+struct Assert;
+
+assertions!(Assert);
 
 /// The load file that the bytes begin with.
 fn load_file<'a>(rt: &impl Abort, alloc: Global, bytes: &'a [u8]) -> LoadFile<'a> {
@@ -47,7 +52,7 @@ fn overlap(
     alloc: Global,
     file: &LoadFile,
 ) -> Result<Option<(u32, u32)>, AllocError> {
-    assert_true(rt, file.hunks() > 0);
+    assert!(rt; file.hunks() > 0);
     file.overlap(alloc, 0)
 }
 

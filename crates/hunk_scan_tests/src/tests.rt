@@ -1,9 +1,14 @@
 //! Load files by their longwords, one after the other.
 
 use hunk_scan::{Phase, Position, Sniff, refuse_place};
-use hunk_testing::{assert_equal, assert_true, assert_true_at, changed_in, examples, spelled};
+use hunk_testing::{assertions, changed_in, examples, spelled};
 use hunk_words::{Kind, Reason, word_at};
 use std::test::Fail;
+
+/// Assertions, each a call.
+struct Assert;
+
+assertions!(Assert);
 
 /// Where the longwords lead, or at which byte one is refused first and why. Each hunk declares this
 /// many longs.
@@ -22,10 +27,10 @@ fn follow(bytes: &[u8], longs: u32) -> Result<Position, (usize, Reason)> {
 #[test]
 fn whole_files(rt: HostRuntime) -> Result<(), Fail> {
     let bytes = spelled(rt.alloc(), examples::ONE_HUNK)?;
-    assert_equal(&rt, follow(&bytes, 1), Ok(Position::Done));
+    Assert::equal(&rt, follow(&bytes, 1), Ok(Position::Done));
     for n in 0..bytes.len() {
         let position = follow(&bytes[..n], 1);
-        assert_true_at(&rt, matches!(position, Ok(p) if !p.is_done()), n);
+        assert!(rt; matches!(position, Ok(p) if !p.is_done()), "at {n:?}");
     }
     Ok(())
 }
@@ -59,10 +64,10 @@ const REFUSALS: &[(usize, u32, Reason)] = &[
 fn refusals(rt: HostRuntime) -> Result<(), Fail> {
     for (byte, word, reason) in REFUSALS {
         let bytes = changed_in(rt.alloc(), examples::RELOCATED_AT_ITS_END, *byte, *word)?;
-        assert_equal(&rt, follow(&bytes, 2), Err((*byte, *reason)));
+        Assert::equal(&rt, follow(&bytes, 2), Err((*byte, *reason)));
     }
     let bytes = spelled(rt.alloc(), examples::RELOCATED_AT_ITS_END)?;
-    assert_equal(&rt, follow(&bytes, 2), Ok(Position::Done));
+    Assert::equal(&rt, follow(&bytes, 2), Ok(Position::Done));
     Ok(())
 }
 
@@ -76,34 +81,31 @@ fn runs(rt: HostRuntime) -> Result<(), Fail> {
     for (text, next) in table {
         let bytes = spelled(rt.alloc(), text)?;
         let position = follow(&bytes, 1).unwrap_or(Position::Done);
-        assert_true(&rt, position.run() == 3);
+        assert!(rt; position.run() == 3);
         let behind = position.pass(3);
-        assert_true(
-            &rt,
-            matches!(behind, Position::Body(_, phase) if phase == next),
-        );
-        assert_equal(&rt, position.pass(2), position.step(0).step(0));
+        assert!(rt; matches!(behind, Position::Body(_, phase) if phase == next));
+        Assert::equal(&rt, position.pass(2), position.step(0).step(0));
     }
     Ok(())
 }
 
 #[test]
 fn kinds(rt: HostRuntime) -> Result<(), Fail> {
-    assert_equal(&rt, Sniff::of(0x3F3), Sniff::Load);
-    assert_equal(&rt, Sniff::of(0x3E7), Sniff::Object);
-    assert_equal(&rt, Sniff::of(0x3FA), Sniff::Library);
-    assert_equal(&rt, Sniff::of(0x2000_03E7), Sniff::Other);
-    assert_equal(
+    Assert::equal(&rt, Sniff::of(0x3F3), Sniff::Load);
+    Assert::equal(&rt, Sniff::of(0x3E7), Sniff::Object);
+    Assert::equal(&rt, Sniff::of(0x3FA), Sniff::Library);
+    Assert::equal(&rt, Sniff::of(0x2000_03E7), Sniff::Other);
+    Assert::equal(
         &rt,
         refuse_place(Kind::Data, true),
         Some(Reason::SecondContent),
     );
-    assert_equal(
+    Assert::equal(
         &rt,
         refuse_place(Kind::Ext, false),
         Some(Reason::BeforeContent),
     );
-    assert_equal(&rt, refuse_place(Kind::End, false), Some(Reason::NoContent));
-    assert_equal(&rt, refuse_place(Kind::Name, false), None);
+    Assert::equal(&rt, refuse_place(Kind::End, false), Some(Reason::NoContent));
+    Assert::equal(&rt, refuse_place(Kind::Name, false), None);
     Ok(())
 }

@@ -1,34 +1,27 @@
 //! Assertions that are functions: what calls them has no branch for each, and so a shorter proof.
-ghost use Rattle.std.specs.Prelude.{◌≡◌, true};
 
-use std::fmt::Debug;
-use std::process::Abort;
+/// Writes them for a type of the crate that tests, since no library may end the process: `equal`, which aborts with both values where
+/// they differ, and `equal_at`, which also prints what they were tried at.
+#[macro_export]
+macro_rules! assertions {
+    ($type:ident) => {
+        impl $type {
+            fn equal<T: PartialEq + std::fmt::Debug + Drop>(
+                rt: &impl std::process::Abort,
+                got: T,
+                want: T,
+            ) {
+                assert_eq!(rt; got, want);
+            }
 
-/// Aborts with both values where they differ.
-pub fn assert_equal<T: PartialEq + Debug + Drop>(rt: &impl Abort, got: T, want: T) {
-    assert_eq!(rt; got, want);
-}
-
-/// The same, which also prints what it was tried at.
-pub fn assert_equal_at<T: PartialEq + Debug + Drop, C: Debug + Drop>(
-    rt: &impl Abort,
-    got: T,
-    want: T,
-    case: C,
-) {
-    assert_eq!(rt; got, want, "at {case:?}");
-}
-
-/// Aborts where this does not hold.
-pub fn assert_true(rt: &impl Abort, holds: bool)
-    ensures { holds ≡ true }
-{
-    assert!(rt; holds);
-}
-
-/// The same, which also prints what it was tried at.
-pub fn assert_true_at<C: Debug + Drop>(rt: &impl Abort, holds: bool, case: C)
-    ensures { holds ≡ true }
-{
-    assert!(rt; holds, "at {case:?}");
+            fn equal_at<T: PartialEq + std::fmt::Debug + Drop, C: std::fmt::Debug + Drop>(
+                rt: &impl std::process::Abort,
+                got: T,
+                want: T,
+                case: C,
+            ) {
+                assert_eq!(rt; got, want, "at {case:?}");
+            }
+        }
+    };
 }

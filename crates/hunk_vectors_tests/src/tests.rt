@@ -5,3 +5,10 @@ mod cuts;
 mod objects;
 mod readings;
 mod whole;
+
+use hunk_testing::assertions;
+
+/// Assertions, each a call.
+struct Assert;
+
+assertions!(Assert);

@@ -4,3 +4,10 @@ mod carriers;
 mod fields;
 mod printing;
 mod writing;
+
+use hunk_testing::assertions;
+
+/// Assertions, each a call.
+struct Assert;
+
+assertions!(Assert);

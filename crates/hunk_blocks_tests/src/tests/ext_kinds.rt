@@ -1,7 +1,8 @@
 //! The types of EXT entries: their numbers, names, shapes and widths.
 
+use crate::tests::Assert;
 use hunk_blocks::{Block, Body, Entries, ExtKind, ExtShape, Mode};
-use hunk_testing::{assert_equal, assert_equal_at, spelled};
+use hunk_testing::spelled;
 use hunk_words::BlockFault;
 use std::alloc::{AllocError, Global};
 use std::process::Abort;
@@ -65,12 +66,12 @@ const TYPES: &[(ExtKind, u8, &str, ExtShape, Option<u64>)] = &[
 #[test]
 fn of_each_type(rt: HostRuntime) -> Result<(), Fail> {
     for (kind, code, name, shape, width) in TYPES {
-        assert_equal(
+        Assert::equal(
             &rt,
             (ExtKind::from_code(*code), kind.code()),
             (Some(*kind), *code),
         );
-        assert_equal(
+        Assert::equal(
             &rt,
             (kind.name(), kind.shape(), kind.width()),
             (*name, *shape, *width),
@@ -85,7 +86,7 @@ const REFUSED: &[u8] = &[3, 4, 127, 128, 140, 255];
 #[test]
 fn of_no_type(rt: HostRuntime) -> Result<(), Fail> {
     for code in REFUSED {
-        assert_equal_at(&rt, ExtKind::from_code(*code), None, code);
+        Assert::equal_at(&rt, ExtKind::from_code(*code), None, code);
     }
     Ok(())
 }
@@ -123,7 +124,7 @@ fn shapes_in(alloc: Global, bytes: &[u8]) -> Result<Vec<Shaped>, Fail> {
 fn of_entries(rt: HostRuntime) -> Result<(), Fail> {
     let bytes = spelled(rt.alloc(), ENTRIES)?;
     let found = shapes_in(rt.alloc(), &bytes)?;
-    assert_equal(&rt, found.as_slice(), SHAPED);
+    Assert::equal(&rt, found.as_slice(), SHAPED);
     Ok(())
 }
 
@@ -149,7 +150,7 @@ fn expect_content(
     want: Option<u64>,
 ) -> Result<(), Fail> {
     let bytes = spelled(alloc, text)?;
-    assert_equal_at(rt, content_of(alloc, &bytes), Ok(want), text);
+    Assert::equal_at(rt, content_of(alloc, &bytes), Ok(want), text);
     Ok(())
 }
 

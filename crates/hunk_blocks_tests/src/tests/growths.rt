@@ -1,7 +1,8 @@
 //! Each growth of a block's list refused in turn: at the first item, and at the fifth.
 
+use crate::tests::Assert;
 use hunk_blocks::{Block, Mode};
-use hunk_testing::{answers_growth_by_growth, assert_equal, memory_ends, spelled};
+use hunk_testing::{answers_growth_by_growth, memory_ends, spelled};
 use hunk_words::{BlockFault, Reason};
 use std::alloc::{AllocError, Global};
 use std::process::Abort;
@@ -37,7 +38,7 @@ fn expect(rt: &impl Abort, alloc: Global, text: &str, places: [u64; 2]) -> Resul
     )?;
     let [first, fifth] = places;
     let want = [refused_at(first), refused_at(fifth), None];
-    assert_equal(rt, answers.as_slice(), want.as_slice());
+    Assert::equal(rt, answers.as_slice(), want.as_slice());
     Ok(())
 }
 

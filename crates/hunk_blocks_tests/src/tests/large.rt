@@ -1,7 +1,6 @@
 //! Blocks of many items: no list gives up.
 
 use hunk_blocks::{Block, Mode};
-use hunk_testing::assert_true;
 use hunk_testing::large::{ENTRIES, GROUPS, OFFSETS, Run, SYMBOLS, bytes_of_runs};
 use hunk_words::{BlockFault, FromWrite, LongWriter};
 use std::alloc::Global;
@@ -24,10 +23,7 @@ fn of_many_items(rt: HostRuntime) -> Result<(), Fail> {
     for runs in LARGE_BLOCKS {
         let bytes = bytes_of_runs(rt.alloc(), &[*runs])?;
         let text = again(rt.alloc(), &bytes)?;
-        assert_true(
-            &rt,
-            text.is_some_and(|text| text.as_slice() == bytes.as_slice()),
-        );
+        assert!(rt; text.is_some_and(|text| text.as_slice() == bytes.as_slice()));
     }
     Ok(())
 }

@@ -1,8 +1,8 @@
 //! Blocks while no growth is granted.
 
-use crate::tests::{Row, answer, wanted};
+use crate::tests::{Assert, Row, answer, wanted};
 use hunk_blocks::Mode;
-use hunk_testing::{all_memory, assert_equal_at, memory_ends, spelled};
+use hunk_testing::{all_memory, memory_ends, spelled};
 use hunk_words::{BlockFault, Reason};
 use std::alloc::{AllocError, Global};
 use std::process::Abort;
@@ -21,7 +21,7 @@ fn starved(alloc: Global, text: &str, mode: Mode) -> Result<Result<usize, BlockF
 fn expect(rt: &impl Abort, alloc: Global, rows: &[Row], mode: Mode) -> Result<(), Fail> {
     for (text, number, reason) in rows {
         let got = starved(alloc, text, mode)?;
-        assert_equal_at(rt, got, wanted(*number, *reason), text);
+        Assert::equal_at(rt, got, wanted(*number, *reason), text);
     }
     Ok(())
 }

@@ -1,7 +1,8 @@
 //! A survey of a folder, with files.
 
+use crate::tests::Assert;
 use hunk_callers::{Collection, survey_folder};
-use hunk_testing::{assert_equal, assert_true, examples, spelled};
+use hunk_testing::{examples, spelled};
 use std::fs;
 use std::process::Abort;
 use std::test::Fail;
@@ -50,16 +51,16 @@ fn surveys_a_folder(rt: HostRuntime) -> Result<(), Fail> {
     let removed = fs::remove_dir_all(&rt, &folder);
     let found = found?;
     removed?;
-    assert_equal(
+    Assert::equal(
         &rt,
         (found.programs, found.segment_bytes, found.symbols),
         (2, 16, 1),
     );
-    assert_equal(
+    Assert::equal(
         &rt,
         (found.objects, found.findings, found.rejected),
         (1, 2, 1),
     );
-    assert_true(&rt, !surveys_none(&rt, &folder)?);
+    assert!(rt; !surveys_none(&rt, &folder)?);
     Ok(())
 }

@@ -1,8 +1,7 @@
 //! Which bytes a hexadecimal text spells.
+use crate::tests::Assert;
 use hunk_commands::{RunFault, read_hex, unhex};
-use hunk_testing::{
-    Fed, Then, answers_growth_by_growth, assert_equal, assert_equal_at, assert_true_at, memory_ends,
-};
+use hunk_testing::{Fed, Then, answers_growth_by_growth, memory_ends};
 use hunk_words::{Fault, Reason};
 use std::alloc::Global;
 use std::process::Abort;
@@ -23,7 +22,7 @@ const SPELLED: &[(&str, &[u8])] = &[
 fn spells(rt: HostRuntime) -> Result<(), Fail> {
     for (text, want) in SPELLED {
         let got = unhex(rt.alloc(), text.as_bytes())?;
-        assert_equal_at(&rt, got.as_slice(), *want, text);
+        Assert::equal_at(&rt, got.as_slice(), *want, text);
     }
     Ok(())
 }
@@ -37,7 +36,7 @@ const UNSPELLED: &[&str] = &[
 fn spells_none(rt: HostRuntime) {
     for text in UNSPELLED {
         let got = unhex(rt.alloc(), text.as_bytes()).err();
-        assert_equal_at(&rt, got, Some(RunFault::HexText), text);
+        Assert::equal_at(&rt, got, Some(RunFault::HexText), text);
     }
 }
 
@@ -78,7 +77,7 @@ fn reads_in_pieces(rt: HostRuntime) -> Result<(), Fail> {
         let (bytes, text) = counted(rt.alloc(), count)?;
         for step in STEPS {
             let got = read(rt.alloc(), text.as_slice(), *step, Then::Ends, 10_000)?;
-            assert_true_at(&rt, got == bytes, (count, step));
+            assert!(rt; got == bytes, "at {:?}", (count, step));
         }
     }
     Ok(())
@@ -104,11 +103,11 @@ fn refuses_at_the_end(rt: HostRuntime) -> Result<(), Fail> {
     let alloc = rt.alloc();
     for step in STEPS {
         let got = refusal(alloc, &text, *step, Then::Ends, place + 1);
-        assert_equal(&rt, got, Some(RunFault::HexText));
+        Assert::equal(&rt, got, Some(RunFault::HexText));
         let got = refusal(alloc, &text, *step, Then::Fails, place + 1);
-        assert_equal(&rt, got, Some(RunFault::Read { place }));
+        Assert::equal(&rt, got, Some(RunFault::Read { place }));
         let got = refusal(alloc, &text, *step, Then::Ends, place);
-        assert_equal(&rt, got, Some(limit));
+        Assert::equal(&rt, got, Some(limit));
     }
     Ok(())
 }
@@ -133,7 +132,7 @@ fn expect_growths<F: Fn() -> Result<Vec<u8>, RunFault>>(
 {
     let answers = answers_growth_by_growth(alloc, || shortfall(call(), bytes))?;
     let want = [Some(Some(RunFault::Memory)), None];
-    assert_equal(rt, answers.as_slice(), want.as_slice());
+    Assert::equal(rt, answers.as_slice(), want.as_slice());
     Ok(())
 }
 

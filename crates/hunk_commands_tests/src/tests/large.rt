@@ -1,5 +1,6 @@
 //! The commands on files with many of each part, and on large ones: none gives up.
 
+use crate::tests::Assert;
 use crate::tests::calls::{Call, called};
 use crate::tests::relocating::BASE;
 use hunk_scatter::Limits;
@@ -7,7 +8,7 @@ use hunk_testing::large::{
     HUNKS, LARGE, LOAD_FILE, OBJECT_FILE, Run, SHORT_OF_16_MIB, STRIPPED_LOAD_FILE,
     STRIPPED_OBJECT_FILE, bytes_of_runs, large_load_file, large_object_file,
 };
-use hunk_testing::{assert_equal_at, assert_true_at, spelled};
+use hunk_testing::spelled;
 use hunk_words::FromSlice;
 use std::alloc::{AllocError, Global};
 use std::io;
@@ -24,8 +25,8 @@ const LIMITS: Limits = Limits {
 fn expect(rt: &impl Abort, alloc: Global, call: Call, bytes: &[u8], want: &[u8]) {
     let mut source = FromSlice::new(bytes);
     let (fault, _, text) = called(alloc, call, &mut source, Vec::<u8>::new(alloc), LIMITS);
-    assert_equal_at(rt, fault, None, call);
-    assert_true_at(rt, text.as_slice() == want, call);
+    Assert::equal_at(rt, fault, None, call);
+    assert!(rt; text.as_slice() == want, "at {call:?}");
 }
 
 /// Text for each number from one up to below another: a front, and behind it the number and a rest, if there is one.
@@ -200,7 +201,7 @@ const LARGE_OBJECT_REPORT: &[u8] = b"object file 1 units 0 findings\n";
 /// Sees that a call puts this many bytes.
 fn expect_count(rt: &impl Abort, alloc: Global, call: Call, bytes: &[u8], want: usize) {
     let (fault, count, _) = called(alloc, call, &mut FromSlice::new(bytes), io::sink(), LIMITS);
-    assert_equal_at(rt, (fault, count), (None, want as u64), call);
+    Assert::equal_at(rt, (fault, count), (None, want as u64), call);
 }
 
 #[test]

@@ -1,10 +1,9 @@
 //! The engine functions with each of their growths refused in turn.
 
+use crate::tests::Assert;
 use crate::tests::calls::{Call, Case, Outcome, input_and_output, made_of, roomy};
 use hunk_commands::RunFault;
-use hunk_testing::{
-    answers_growth_by_growth, assert_equal, assert_equal_at, examples, memory_ends,
-};
+use hunk_testing::{answers_growth_by_growth, examples, memory_ends};
 use std::alloc::Global;
 use std::process::Abort;
 use std::test::Fail;
@@ -162,17 +161,17 @@ fn expect_growths(
     cases: &[Case],
     sizes: &[usize],
 ) -> Result<(), Fail> {
-    assert_equal(rt, RunFault::Memory.status(), 4);
-    assert_equal(rt, cases.len(), sizes.len());
+    Assert::equal(rt, RunFault::Memory.status(), 4);
+    Assert::equal(rt, cases.len(), sizes.len());
     for (case, size) in cases.iter().zip(sizes) {
         let (input, output) = input_and_output(alloc, case)?;
-        assert_equal(rt, output.len(), *size);
+        Assert::equal(rt, output.len(), *size);
         let answers = answers_growth_by_growth(
             alloc,
             || shortfall(alloc, case.call, input.as_slice(), output.as_slice()),
         )?;
         let want = [Some((Some(RunFault::Memory), 0)), None];
-        assert_equal_at(
+        Assert::equal_at(
             rt,
             answers.as_slice(),
             want.as_slice(),

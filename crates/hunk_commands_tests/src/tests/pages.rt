@@ -1,7 +1,8 @@
 //! A listing of more than a page, to writers that stop where its pages end.
 
+use crate::tests::Assert;
 use hunk_commands::{RunFault, show};
-use hunk_testing::{assert_equal, assert_true_at, bytes_of};
+use hunk_testing::bytes_of;
 use hunk_words::{FromSlice, FromWrite, LongWriter};
 use std::alloc::{AllocError, Global};
 use std::io;
@@ -65,8 +66,8 @@ fn expect_front(
     let written = room as u64;
     let fault = RunFault::Write { written };
     let got = shown(rt.alloc(), bytes, taken.as_mut_slice());
-    assert_equal(rt, got, (Some(fault), written));
-    assert_true_at(rt, whole.starts_with(taken.as_slice()), room);
+    Assert::equal(rt, got, (Some(fault), written));
+    assert!(rt; whole.starts_with(taken.as_slice()), "at {room:?}");
     Ok(())
 }
 
@@ -75,7 +76,7 @@ fn stops_where_a_page_ends(rt: HostRuntime) -> Result<(), Fail> {
     let bytes = file(rt.alloc(), 8_000)?;
     let (size, page) = sizes(rt.alloc(), &bytes)?;
     let mut whole = vec![in rt.alloc(); 0u8; size as usize]?;
-    assert_equal(
+    Assert::equal(
         &rt,
         shown(rt.alloc(), bytes.as_slice(), whole.as_mut_slice()),
         (None, size),

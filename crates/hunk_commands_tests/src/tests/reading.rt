@@ -1,8 +1,9 @@
 //! Sources that fail at each read in turn, and then would go on.
 
+use crate::tests::Assert;
 use crate::tests::calls::{CASES, Call, Outcome, expect_outcome, input_and_output, made, roomy};
 use hunk_commands::RunFault;
-use hunk_testing::{FailsOnce, Interrupted, assert_equal};
+use hunk_testing::{FailsOnce, Interrupted};
 use hunk_words::FromRead;
 use std::alloc::Global;
 use std::process::Abort;
@@ -35,7 +36,7 @@ fn one_read_fails(
         };
         if place < reads {
             expect_unread(rt, &got, place);
-            assert_equal(rt, source.given(), place);
+            Assert::equal(rt, source.given(), place);
         } else {
             expect_outcome(rt, &got, None, output);
         }

@@ -1,11 +1,10 @@
 //! What `relocate` prints and refuses, by the examples.
 
+use crate::tests::Assert;
 use crate::tests::calls::{Outcome, expect_outcome, roomy};
 use hunk_commands::{RunFault, relocate};
 use hunk_scatter::Limits;
-use hunk_testing::{
-    CHANGES, Fed, Narrow, Then, WIDTH, assert_equal, assert_true, changed, examples, spelled,
-};
+use hunk_testing::{CHANGES, Fed, Narrow, Then, WIDTH, changed, examples, spelled};
 use hunk_words::{Fault, FromRead, FromSlice, FromWrite, LongWriter, Reason, Source};
 use std::alloc::Global;
 use std::process::Abort;
@@ -137,7 +136,7 @@ fn leaves_what_follows(rt: HostRuntime) -> Result<(), Fail> {
     expect_printed(&rt, &bytes, BASE, PRINTED);
     for (base, budget, left) in LEFT {
         let got = left_behind(rt.alloc(), &bytes, *budget, *base);
-        assert_equal(&rt, got, (*left == 7, Some(*left)));
+        Assert::equal(&rt, got, (*left == 7, Some(*left)));
     }
     Ok(())
 }
@@ -146,7 +145,7 @@ fn leaves_what_follows(rt: HostRuntime) -> Result<(), Fail> {
 fn cut_short(rt: HostRuntime) -> Result<(), Fail> {
     // Example 9: the first n bytes of a file of 40.
     let bytes = spelled(rt.alloc(), examples::ONE_HUNK)?;
-    assert_true(&rt, bytes.len() == 40);
+    assert!(rt; bytes.len() == 40);
     for n in 0..40usize {
         let place = 4 * (n as u64 / 4);
         expect_refused(&rt, &bytes[..n], BASE, place, Reason::Truncated);
@@ -252,7 +251,7 @@ fn reads_in_any_pieces(rt: HostRuntime) -> Result<(), Fail> {
 #[test]
 fn reading_fails_in_mid_stream(rt: HostRuntime) -> Result<(), Fail> {
     let bytes = spelled(rt.alloc(), examples::ONE_HUNK)?;
-    assert_true(&rt, bytes.len() == 40);
+    assert!(rt; bytes.len() == 40);
     for n in 0..40usize {
         let fault = RunFault::Read { place: n as u64 };
         for step in [1, 256] {
@@ -270,7 +269,7 @@ fn reading_fails_in_mid_stream(rt: HostRuntime) -> Result<(), Fail> {
 fn writing_fails_after_each_byte(rt: HostRuntime) -> Result<(), Fail> {
     let bytes = spelled(rt.alloc(), examples::ONE_HUNK)?;
     let text = PRINTED.as_bytes();
-    assert_equal(&rt, text.len(), 42);
+    Assert::equal(&rt, text.len(), 42);
     for n in 0..42usize {
         let fault = RunFault::Write { written: n as u64 };
         for step in [1, 5, WIDTH] {

@@ -1,8 +1,9 @@
 //! Writers that take this many bytes, and then fail or take none.
 
+use crate::tests::Assert;
 use crate::tests::calls::{CASES, Call, Case, expect_outcome, input_and_output, made_of};
 use hunk_commands::RunFault;
-use hunk_testing::{Narrow, assert_equal, assert_true};
+use hunk_testing::Narrow;
 use std::alloc::{AllocError, Global};
 use std::process::Abort;
 use std::test::Fail;
@@ -19,7 +20,7 @@ fn expect_cut(
 ) {
     let got = made_of(alloc, call, input, narrow);
     let written = room as u64;
-    assert_true(rt, room <= output.len());
+    assert!(rt; room <= output.len());
     expect_outcome(rt, &got, Some(RunFault::Write { written }), &output[..room]);
 }
 
@@ -46,7 +47,7 @@ fn expect_whole(
     size: usize,
 ) -> Result<(), AllocError> {
     let (input, output) = input_and_output(alloc, case)?;
-    assert_equal(rt, output.len(), size);
+    Assert::equal(rt, output.len(), size);
     let narrow = Narrow::new(size, 7, false);
     let got = made_of(alloc, case.call, &input, narrow);
     expect_outcome(rt, &got, None, &output);
@@ -58,7 +59,7 @@ const WRITTEN: &[usize] = &[124, 93, 27, 117, 64, 44, 40, 92];
 
 #[test]
 fn whole_writes(rt: HostRuntime) -> Result<(), Fail> {
-    assert_equal(&rt, CASES.len(), WRITTEN.len());
+    Assert::equal(&rt, CASES.len(), WRITTEN.len());
     for (case, size) in CASES.iter().zip(WRITTEN) {
         expect_whole(&rt, rt.alloc(), case, *size)?;
     }

@@ -1,10 +1,9 @@
 //! Each growth of each call refused in turn, on files of several hunks and units.
 
-use crate::tests::{either_file, image, load_file, object_file, overlap, stripped};
+use crate::tests::{Assert, either_file, image, load_file, object_file, overlap, stripped};
 use hunk_files::{HunkFile, ImageFault, LoadFile, ObjectFile};
 use hunk_testing::{
-    Narrow, all_but, answers_growth_by_growth, assert_equal, assert_equal_at, examples,
-    memory_ends, spelled, wide,
+    Narrow, all_but, answers_growth_by_growth, examples, memory_ends, spelled, wide,
 };
 use hunk_words::{FileFault, Reason};
 use std::alloc::{AllocError, Global};
@@ -50,7 +49,7 @@ fn expect_check(rt: &impl Abort, alloc: Global, text: &str) -> Result<(), Fail> 
     let file = object_file(rt, alloc, &bytes);
     let answers = answers_growth_by_growth(alloc, || check_fault(alloc, &file))?;
     let want = [Some("out of memory"), None];
-    assert_equal_at(rt, answers.as_slice(), want.as_slice(), text);
+    Assert::equal_at(rt, answers.as_slice(), want.as_slice(), text);
     Ok(())
 }
 
@@ -101,14 +100,14 @@ fn of_an_overlap_and_an_image(rt: HostRuntime) -> Result<(), Fail> {
     }
     let bytes = spelled(rt.alloc(), examples::FIVE_HUNKS)?;
     let overlaps = overlap_answers(&rt, rt.alloc(), &bytes)?;
-    assert_equal(
+    Assert::equal(
         &rt,
         overlaps.as_slice(),
         [Some("out of memory"), None].as_slice(),
     );
     let images = image_answers(&rt, rt.alloc(), &bytes, &[0; 5])?;
     let refused = Some(ImageFault::OutOfMemory);
-    assert_equal(&rt, images.as_slice(), [refused, None].as_slice());
+    Assert::equal(&rt, images.as_slice(), [refused, None].as_slice());
     Ok(())
 }
 
@@ -156,9 +155,9 @@ fn none_of_a_strip(rt: HostRuntime) -> Result<(), Fail> {
         return Ok(());
     }
     let load = blocks_left(&rt, rt.alloc(), &spelled(rt.alloc(), examples::FIVE_HUNKS)?)?;
-    assert_equal(&rt, load.as_slice(), [3, 2, 2, 2, 2].as_slice());
+    Assert::equal(&rt, load.as_slice(), [3, 2, 2, 2, 2].as_slice());
     let object = blocks_left(&rt, rt.alloc(), &spelled(rt.alloc(), examples::TWO_UNITS)?)?;
-    assert_equal(&rt, object.as_slice(), [4, 2, 2].as_slice());
+    Assert::equal(&rt, object.as_slice(), [4, 2, 2].as_slice());
     Ok(())
 }
 
@@ -186,7 +185,7 @@ fn none_of_a_text(rt: HostRuntime) -> Result<(), Fail> {
         examples::TWO_UNITS,
     ] {
         let bytes = spelled(rt.alloc(), text)?;
-        assert_equal(
+        Assert::equal(
             &rt,
             written(&rt, rt.alloc(), &bytes).taken(),
             bytes.as_slice(),
@@ -215,6 +214,6 @@ fn none_of_an_image_that_is_refused(rt: HostRuntime) -> Result<(), Fail> {
     let bytes = spelled(rt.alloc(), examples::FIVE_HUNKS)?;
     let got = starved_images(&rt, rt.alloc(), &bytes);
     let amiss = Some(ImageFault::BaseCount);
-    assert_equal(&rt, got, [amiss, amiss, Some(ImageFault::OutOfMemory)]);
+    Assert::equal(&rt, got, [amiss, amiss, Some(ImageFault::OutOfMemory)]);
     Ok(())
 }

@@ -2,7 +2,7 @@
 
 use crate::tests::{either_file, stripped};
 use hunk_files::HunkFile;
-use hunk_testing::{assert_true, assert_true_at, examples, spelled};
+use hunk_testing::{examples, spelled};
 use hunk_words::{FromWrite, LongWriter};
 use std::alloc::Global;
 use std::process::Abort;
@@ -55,7 +55,7 @@ fn decoded(alloc: Global, bytes: &[u8]) -> Answer {
 /// Sees that this is answered for the bytes that the text spells.
 fn expect_answer(rt: &impl Abort, alloc: Global, text: &str, want: Answer) -> Result<(), Fail> {
     let bytes = spelled(alloc, text)?;
-    assert_true_at(rt, decoded(alloc, &bytes) == want, text);
+    assert!(rt; decoded(alloc, &bytes) == want, "at {text:?}");
     Ok(())
 }
 
@@ -98,7 +98,7 @@ pub(super) fn rewritten(
 pub(super) fn expect(rt: &impl Abort, alloc: Global, input: (&[u8], bool), text: &[u8], rest: u64) {
     let (bytes, strip) = input;
     let again = rewritten(rt, alloc, bytes, strip);
-    assert_true(rt, again.0.as_slice() == text && again.1 == rest);
+    assert!(rt; again.0.as_slice() == text && again.1 == rest);
 }
 
 /// What follows the file is counted, and not written.

@@ -1,11 +1,8 @@
 //! The memory of load files, and the offsets whose longs overlap.
 
-use crate::tests::{image, load_file, overlap};
+use crate::tests::{Assert, image, load_file, overlap};
 use hunk_files::ImageFault;
-use hunk_testing::{
-    CHANGES, assert_equal, assert_equal_at, before_end, bytes_of, changed, ends_within_debug,
-    examples, spelled,
-};
+use hunk_testing::{CHANGES, before_end, bytes_of, changed, ends_within_debug, examples, spelled};
 use std::alloc::{AllocError, Global};
 use std::process::Abort;
 use std::test::Fail;
@@ -70,7 +67,7 @@ fn expect_image(
     let bytes = spelled(alloc, text)?;
     let want = bytes_of(alloc, want)?;
     let got = image_of(rt, alloc, &bytes, bases);
-    assert_equal_at(rt, got, Ok(want), example);
+    Assert::equal_at(rt, got, Ok(want), example);
     Ok(())
 }
 
@@ -88,14 +85,14 @@ fn image_of_a_stripped_file(rt: HostRuntime) -> Result<(), Fail> {
     let bytes = spelled(rt.alloc(), examples::RELOCATED_BEHIND_SYMBOLS)?;
     let stripped = load_file(&rt, rt.alloc(), &bytes).strip();
     let got = image(rt.alloc(), &stripped, &[0x100]);
-    assert_equal(&rt, got, Ok(bytes_of(rt.alloc(), &[0x110])?));
+    Assert::equal(&rt, got, Ok(bytes_of(rt.alloc(), &[0x110])?));
     Ok(())
 }
 
 /// Sees that the bytes have example 1's image.
 fn expect_same_image(rt: &impl Abort, alloc: Global, bytes: &[u8]) -> Result<(), Fail> {
     let want = bytes_of(alloc, &[0x4E75_4E71])?;
-    assert_equal(rt, image_of(rt, alloc, bytes, &[0x21000]), Ok(want));
+    Assert::equal(rt, image_of(rt, alloc, bytes, &[0x21000]), Ok(want));
     Ok(())
 }
 
@@ -126,7 +123,7 @@ fn wrong_number_of_bases(rt: HostRuntime) -> Result<(), Fail> {
     for (text, bases) in WRONG_BASES {
         let bytes = spelled(rt.alloc(), text)?;
         let got = image_of(&rt, rt.alloc(), &bytes, bases);
-        assert_equal(&rt, got, Err(ImageFault::BaseCount));
+        Assert::equal(&rt, got, Err(ImageFault::BaseCount));
     }
     Ok(())
 }
@@ -140,7 +137,7 @@ const TEXTS_OF_FAULTS: &[(ImageFault, &str)] = &[
 fn texts_of_faults(rt: HostRuntime) -> Result<(), Fail> {
     for (fault, want) in TEXTS_OF_FAULTS {
         let text = format!(in rt.alloc(); "{fault}")?;
-        assert_equal(&rt, text.as_str(), *want);
+        Assert::equal(&rt, text.as_str(), *want);
     }
     Ok(())
 }
@@ -158,7 +155,7 @@ fn overlaps(rt: HostRuntime) -> Result<(), Fail> {
     for (text, want) in OVERLAPS {
         let bytes = spelled(rt.alloc(), text)?;
         let got = overlap_of(&rt, rt.alloc(), &bytes)?;
-        assert_equal_at(&rt, got, *want, text);
+        Assert::equal_at(&rt, got, *want, text);
     }
     Ok(())
 }

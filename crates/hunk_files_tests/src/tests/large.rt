@@ -1,15 +1,15 @@
 //! Files with many of each part, and large ones: no call gives up on them.
 
-use crate::tests::answers;
 use crate::tests::hunk_file::{expect, rewritten};
 use crate::tests::images::{image_of, overlap_of};
 use crate::tests::object_findings::checked;
 use crate::tests::object_refusals::units_in;
+use crate::tests::{Assert, answers};
 use hunk_testing::large::{
     HUNKS, LARGE, LOAD_FILE, MANY, OBJECT_FILE, Run, SHORT_OF_64_MIB, STRIPPED_LOAD_FILE,
     STRIPPED_OBJECT_FILE, bytes_of_runs, large_load_file, large_object_file,
 };
-use hunk_testing::{assert_equal, assert_true, bytes_of, spelled};
+use hunk_testing::{bytes_of, spelled};
 use std::alloc::{AllocError, Global};
 use std::process::Abort;
 use std::test::Fail;
@@ -50,7 +50,7 @@ fn expect_image(
 ) -> Result<(), AllocError> {
     let bases = vec![in alloc; 1u32; count]?;
     let image = image_of(rt, alloc, bytes, &bases).expect(rt, "no image");
-    assert_true(rt, image.as_slice() == want);
+    assert!(rt; image.as_slice() == want);
     Ok(())
 }
 
@@ -61,7 +61,7 @@ fn many_relocations(rt: HostRuntime) -> Result<(), Fail> {
     let bytes = bytes_of_runs(alloc, LOAD_FILE)?;
     let counts = (HUNKS, SIZE as u64, bytes.len());
     answers::expect(&rt, alloc, &bytes, Ok(counts));
-    assert_equal(&rt, overlap_of(&rt, alloc, &bytes)?, None);
+    Assert::equal(&rt, overlap_of(&rt, alloc, &bytes)?, None);
     expect_image(&rt, alloc, (&bytes, HUNKS as usize), &image_of_many(alloc)?)?;
     Ok(())
 }
@@ -70,15 +70,15 @@ fn many_relocations(rt: HostRuntime) -> Result<(), Fail> {
 fn many_findings(rt: HostRuntime) -> Result<(), Fail> {
     let alloc = rt.alloc();
     let bytes = bytes_of_runs(alloc, OBJECT_FILE)?;
-    assert_equal(&rt, units_in(alloc, &bytes), Ok(MANY as usize));
-    assert_equal(&rt, checked(&rt, alloc, &bytes).len(), MANY as usize);
+    Assert::equal(&rt, units_in(alloc, &bytes), Ok(MANY as usize));
+    Assert::equal(&rt, checked(&rt, alloc, &bytes).len(), MANY as usize);
     Ok(())
 }
 
 /// Sees that the file that the bytes are is written in as many bytes, stripped too: none of it can be left out.
 fn expect_length(rt: &impl Abort, alloc: Global, bytes: &[u8]) {
     let (again, _) = rewritten(rt, alloc, bytes, true);
-    assert_equal(rt, again.len(), bytes.len());
+    Assert::equal(rt, again.len(), bytes.len());
 }
 
 #[test]
@@ -91,7 +91,7 @@ fn large_files_again(rt: HostRuntime) -> Result<(), Fail> {
 /// Sees that the load file's hunk has this many bytes.
 fn expect_size(rt: &impl Abort, alloc: Global, bytes: &[u8], size: usize) {
     let image = image_of(rt, alloc, bytes, &[0]).expect(rt, "no image");
-    assert_equal(rt, image.len(), size);
+    Assert::equal(rt, image.len(), size);
 }
 
 #[test]

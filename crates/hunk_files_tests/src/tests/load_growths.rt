@@ -1,10 +1,8 @@
 //! Each growth of `LoadFile::decode` refused in turn, with the place of the refusal.
 
 use crate::tests::growths::wanted;
-use crate::tests::load_fault;
-use hunk_testing::{
-    answers_growth_by_growth, answers_one_by_one, assert_equal, examples, memory_ends, spelled,
-};
+use crate::tests::{Assert, load_fault};
+use hunk_testing::{answers_growth_by_growth, answers_one_by_one, examples, memory_ends, spelled};
 use std::alloc::Global;
 use std::process::Abort;
 use std::test::Fail;
@@ -24,7 +22,7 @@ const OF_SIX_BLOCKS: &[u64] = &[20, 28, 60, 64];
 fn expect(rt: &impl Abort, alloc: Global, text: &str, places: &[u64]) -> Result<(), Fail> {
     let bytes = spelled(alloc, text)?;
     let answers = answers_growth_by_growth(alloc, || load_fault(alloc, &bytes))?;
-    assert_equal(rt, answers, wanted(alloc, places)?);
+    Assert::equal(rt, answers, wanted(alloc, places)?);
     Ok(())
 }
 
@@ -67,6 +65,6 @@ fn of_five_hunks(rt: HostRuntime) -> Result<(), Fail> {
     let alloc = rt.alloc();
     let bytes = spelled(alloc, FIVE)?;
     let answers = answers_one_by_one(alloc, || load_fault(alloc, &bytes))?;
-    assert_equal(&rt, answers, wanted(alloc, OF_FIVE)?);
+    Assert::equal(&rt, answers, wanted(alloc, OF_FIVE)?);
     Ok(())
 }

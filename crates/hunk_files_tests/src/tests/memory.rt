@@ -1,8 +1,8 @@
 //! Load files while no growth is granted.
 
-use crate::tests::{image, load_file, object_fault, overlap};
+use crate::tests::{Assert, image, load_file, object_fault, overlap};
 use hunk_files::{ImageFault, LoadFile};
-use hunk_testing::{all_memory, assert_equal, assert_equal_at, examples, memory_ends, spelled};
+use hunk_testing::{all_memory, examples, memory_ends, spelled};
 use hunk_words::{FileFault, Reason};
 use std::alloc::{AllocError, Global};
 use std::process::Abort;
@@ -33,7 +33,7 @@ fn expect(rt: &impl Abort, alloc: Global, rows: Refused) -> Result<(), Fail> {
             place: *place,
             reason: *reason,
         };
-        assert_equal_at(rt, starved(alloc, text)?, Err(want), text);
+        Assert::equal_at(rt, starved(alloc, text)?, Err(want), text);
     }
     Ok(())
 }
@@ -98,13 +98,13 @@ fn no_memory_for_an_object(rt: HostRuntime) -> Result<(), Fail> {
     }
     for text in BEFORE_A_FAULT {
         let memory = answered(rt.alloc(), text, true)?;
-        assert_equal_at(&rt, memory, fault_at(16, Reason::OutOfMemory), text);
+        Assert::equal_at(&rt, memory, fault_at(16, Reason::OutOfMemory), text);
         let refusal = answered(rt.alloc(), text, false)?;
-        assert_equal_at(&rt, refusal, fault_at(20, Reason::Overlay), text);
+        Assert::equal_at(&rt, refusal, fault_at(20, Reason::Overlay), text);
     }
     let both_bits = "3E7 0 / C00003E9 1 4E754E71 / 3F2";
     let refusal = answered(rt.alloc(), both_bits, true)?;
-    assert_equal(&rt, refusal, fault_at(8, Reason::BothBits));
+    Assert::equal(&rt, refusal, fault_at(8, Reason::BothBits));
     Ok(())
 }
 
@@ -115,7 +115,7 @@ fn fault_at(place: u64, reason: Reason) -> Option<FileFault> {
 /// What is wrong with `image` of a file of one hunk and whether `overlap` is refused, with the next growth refused.
 fn starved_image(rt: &impl Abort, alloc: Global, bytes: &[u8]) -> (Option<ImageFault>, bool) {
     let file = load_file(rt, alloc, bytes);
-    assert_equal(rt, file.hunks(), 1);
+    Assert::equal(rt, file.hunks(), 1);
     let pieces = all_memory(alloc).expect(rt, "no memory");
     let image = image(alloc, &file, &[0x21000]).err();
     let overlap = overlap(rt, alloc, &file).is_err();
@@ -130,6 +130,6 @@ fn no_memory_for_an_image(rt: HostRuntime) -> Result<(), Fail> {
     }
     let bytes = spelled(rt.alloc(), examples::RELOCATED_ALONE)?;
     let got = starved_image(&rt, rt.alloc(), &bytes);
-    assert_equal(&rt, got, (Some(ImageFault::OutOfMemory), true));
+    Assert::equal(&rt, got, (Some(ImageFault::OutOfMemory), true));
     Ok(())
 }

@@ -1,8 +1,8 @@
 //! What `check` finds.
 
-use crate::tests::object_file;
+use crate::tests::{Assert, object_file};
 use hunk_files::{Finding, FindingKind, Findings};
-use hunk_testing::{assert_equal, assert_equal_at, assert_true, bytes_of, examples, spelled};
+use hunk_testing::{bytes_of, examples, spelled};
 use std::alloc::{AllocError, Global};
 use std::process::Abort;
 use std::test::Fail;
@@ -83,7 +83,7 @@ fn expect_findings(
     want: &[Finding],
 ) -> Result<(), Fail> {
     let found = findings_in(rt, alloc, bytes)?;
-    assert_equal(rt, found.as_slice(), want);
+    Assert::equal(rt, found.as_slice(), want);
     Ok(())
 }
 
@@ -106,7 +106,7 @@ fn expect(
     let bytes = spelled(alloc, text)?;
     let want = all_found(alloc, want)?;
     let found = findings_in(rt, alloc, &bytes)?;
-    assert_equal_at(rt, found, want, example);
+    Assert::equal_at(rt, found, want, example);
     Ok(())
 }
 
@@ -124,7 +124,7 @@ fn one_by_one(rt: HostRuntime) -> Result<(), Fail> {
     let bytes = spelled(rt.alloc(), examples::TWO_FINDINGS)?;
     let found = findings_in_turn(&rt, rt.alloc(), &bytes)?;
     let want = [(FindingKind::BadTarget, 2), (FindingKind::OutsideHunk, 2)];
-    assert_true(&rt, found == all_found(rt.alloc(), &want)?);
+    assert!(rt; found == all_found(rt.alloc(), &want)?);
     Ok(())
 }
 

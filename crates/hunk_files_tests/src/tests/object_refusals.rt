@@ -1,8 +1,8 @@
 //! Every refusal of docs/FORMAT.md at every place of a file of two units, three hunks and an EXT block.
 
-use crate::tests::object_fault;
+use crate::tests::{Assert, object_fault};
 use hunk_files::ObjectFile;
-use hunk_testing::{assert_equal_at, assert_true_at, changed_in, spelled};
+use hunk_testing::{changed_in, spelled};
 use hunk_words::{FileFault, Reason};
 use std::alloc::{AllocError, Global};
 use std::process::Abort;
@@ -146,7 +146,11 @@ fn expect(
 ) -> Result<(), AllocError> {
     let bytes = changed_in(alloc, FILE, byte as usize, word)?;
     let fault = object_fault(alloc, &bytes);
-    assert_true_at(rt, is_answered(fault, byte as u64, want), (word, byte));
+    assert!(rt;
+        is_answered(fault, byte as u64, want),
+        "at {:?}",
+        (word, byte)
+    );
     Ok(())
 }
 
@@ -241,7 +245,7 @@ fn prefixes(rt: HostRuntime) -> Result<(), Fail> {
                 reason: Reason::Truncated,
             }),
         };
-        assert_equal_at(&rt, got, want, n);
+        Assert::equal_at(&rt, got, want, n);
     }
     Ok(())
 }

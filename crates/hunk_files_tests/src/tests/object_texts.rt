@@ -1,10 +1,10 @@
 //! Object files that are written again, whole and stripped.
 ghost use Rattle.std.specs.Prelude.{◌≡◌};
 
-use crate::tests::object_file;
+use crate::tests::{Assert, object_file};
 use hunk_blocks::Body;
 use hunk_files::ObjectFile;
-use hunk_testing::{assert_equal, assert_true, examples, spelled};
+use hunk_testing::{examples, spelled};
 use hunk_words::{FromWrite, LongWriter};
 use std::alloc::Global;
 use std::process::Abort;
@@ -53,7 +53,7 @@ fn expect(
     want: &[u8],
 ) -> Result<(), Fail> {
     let (count, text) = rewritten(alloc, bytes, strip)?;
-    assert_equal(rt, (count, text.as_slice()), (want.len() as u64, want));
+    Assert::equal(rt, (count, text.as_slice()), (want.len() as u64, want));
     Ok(())
 }
 
@@ -93,6 +93,6 @@ fn what_is_told(rt: HostRuntime) -> Result<(), Fail> {
     let bytes = spelled(rt.alloc(), examples::OBJECT_WITH_DREL32)?;
     let got = told(&object_file(&rt, rt.alloc(), &bytes));
     let want = ([0x61, 0, 0, 0].as_slice(), Some((0, 0)));
-    assert_true(&rt, got == Some(want));
+    assert!(rt; got == Some(want));
     Ok(())
 }

@@ -3,7 +3,7 @@
 use crate::tests::object_texts::TEXTS;
 use crate::tests::{either_file, narrow};
 use hunk_files::{LoadFile, ObjectFile};
-use hunk_testing::{Narrow, WIDTH, assert_true, examples, spelled};
+use hunk_testing::{Narrow, WIDTH, examples, spelled};
 use hunk_words::{FromWrite, LongWriter, WriteFault};
 use std::alloc::Global;
 use std::process::Abort;
@@ -32,10 +32,10 @@ fn has_front(narrow: &Narrow, bytes: &[u8], room: usize) -> bool {
 pub(super) fn expect_front(rt: &impl Abort, stopped: Stopped, bytes: &[u8], room: usize) {
     let (answer, writer) = stopped;
     let written = room as u64;
-    assert_true(rt, answer == Err(WriteFault { written }));
-    assert_true(rt, writer.written() == written);
+    assert!(rt; answer == Err(WriteFault { written }));
+    assert!(rt; writer.written() == written);
     let narrow = writer.into_inner().into_inner();
-    assert_true(rt, has_front(&narrow, bytes, room));
+    assert!(rt; has_front(&narrow, bytes, room));
 }
 
 /// Load files of one hunk, with an advisory block, and of five hunks with memory attributes, relocations and symbols.

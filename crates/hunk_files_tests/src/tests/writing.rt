@@ -3,7 +3,7 @@
 use crate::tests::narrow;
 use crate::tests::stops::expect_front;
 use hunk_files::LoadFile;
-use hunk_testing::{CHANGES, WIDTH, assert_true, assert_true_at, changed, examples, spelled};
+use hunk_testing::{CHANGES, WIDTH, changed, examples, spelled};
 use hunk_words::{FromWrite, LongWriter};
 use std::alloc::Global;
 use std::process::Abort;
@@ -29,7 +29,7 @@ const WITH_TWO_RELOCATIONS: &str = "3F3 0 2 0 1 C0000002 10004 1 / 3E9 2 4E714E7
 /// Sees that what was read is written again byte for byte.
 fn expect_again(rt: &impl Abort, alloc: Global, bytes: &[u8]) -> Result<(), Fail> {
     let again = rewritten(alloc, bytes, false);
-    assert_true(rt, again.is_some_and(|text| text.as_slice() == bytes));
+    assert!(rt; again.is_some_and(|text| text.as_slice() == bytes));
     Ok(())
 }
 
@@ -70,10 +70,9 @@ fn stripped(rt: HostRuntime) -> Result<(), Fail> {
     for (text, left) in STRIPPED {
         let want = spelled(rt.alloc(), left)?;
         let got = rewritten(rt.alloc(), &spelled(rt.alloc(), text)?, true);
-        assert_true_at(
-            &rt,
+        assert!(rt;
             got.is_some_and(|text| text.as_slice() == want.as_slice()),
-            text,
+            "at {text:?}"
         );
     }
     Ok(())

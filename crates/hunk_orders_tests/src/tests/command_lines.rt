@@ -1,6 +1,5 @@
 //! Which words are which orders.
 use hunk_orders::{FileName, Order, OrderFault, order};
-use hunk_testing::{assert_equal, assert_equal_at};
 use std::alloc::{AllocError, Global};
 use std::process::Abort;
 use std::test::Fail;
@@ -67,7 +66,7 @@ fn asked(alloc: Global, words: &[&str]) -> Result<String, AllocError> {
 /// Tells whether the words after the program's name are this order.
 fn expect(rt: &impl Abort, alloc: Global, words: &[&str], want: &str) -> Result<(), Fail> {
     let got = asked(alloc, words)?;
-    assert_equal_at(rt, got.as_str(), want, words);
+    assert_eq!(rt; got.as_str(), want, "at {words:?}");
     Ok(())
 }
 
@@ -125,10 +124,9 @@ fn orders(rt: HostRuntime) -> Result<(), Fail> {
 #[test]
 fn no_word_at_all(rt: HostRuntime) -> Result<(), Fail> {
     let got = told(rt.alloc(), &[])?;
-    assert_equal(
-        &rt,
+    assert_eq!(rt;
         got.as_str(),
-        "relocate true 00000000 16777216 (standard input)",
+        "relocate true 00000000 16777216 (standard input)"
     );
     Ok(())
 }

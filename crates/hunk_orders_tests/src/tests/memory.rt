@@ -4,7 +4,7 @@
 //! ones fit into what was given back by then: that they are refused, too, is tried on the built program, by
 //! `tests/growths/run`.
 use hunk_orders::{OrderFault, order};
-use hunk_testing::{answers_growth_by_growth, assert_equal_at, memory_ends};
+use hunk_testing::{answers_growth_by_growth, memory_ends};
 use std::alloc::{AllocError, Global};
 use std::process::Abort;
 use std::test::Fail;
@@ -91,7 +91,7 @@ fn expect(
             || unwanted(alloc, line.as_slice(), *wanted),
         )?;
         let want = [Some(Answer::Memory), None];
-        assert_equal_at(rt, answers.as_slice(), want.as_slice(), words);
+        assert_eq!(rt; answers.as_slice(), want.as_slice(), "at {words:?}");
     }
     Ok(())
 }

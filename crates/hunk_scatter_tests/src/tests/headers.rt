@@ -1,13 +1,14 @@
 //! Headers, tables and placing by themselves.
 ghost use Rattle.std.specs.Prelude.{◌≤◌, length};
 
+use crate::tests::Assert;
 use hunk_files::Row;
 use hunk_scatter::{BodyLoader, Declared, HeaderLoader, Listed, Packed, Placer, Unplaced};
 use hunk_testing::examples::{
     ENDING_IN_ZEROS, LARGEST_HUNK, NO_HUNKS, ONE_HUNK, TOO_MANY_HUNKS, TWO_HUNKS, WITH_ATTRIBUTES,
     WRONG_LAST_HUNK,
 };
-use hunk_testing::{assert_equal, assert_equal_at, assert_true, spelled};
+use hunk_testing::spelled;
 use hunk_words::{LoadFault, Memory, Reason};
 use std::alloc::Global;
 use std::process::Abort;
@@ -31,7 +32,7 @@ impl Counted {
 
     /// Feeds a piece, and gives the number of bytes taken of it.
     pub(super) fn feed(&mut self, rt: &impl Abort, piece: &[u8]) -> Result<usize, LoadFault> {
-        assert_true(rt, self.given < 1_000 && piece.len() < 1_000);
+        assert!(rt; self.given < 1_000 && piece.len() < 1_000);
         let answer = self.loader.feed(piece);
         self.given += piece.len() as u64;
         answer
@@ -79,7 +80,7 @@ pub(super) fn declared(
 ) -> Result<Declared, Fail> {
     let bytes = spelled(alloc, text)?;
     let (loader, answer) = fed(alloc, bytes.as_slice(), 1_000);
-    assert_equal(rt, answer, Ok(header));
+    Assert::equal(rt, answer, Ok(header));
     match loader.declared() {
         Ok(declared) => Ok(declared),
         Err(_) => panic!(rt; "no table"),
@@ -130,11 +131,11 @@ fn expect_in_pieces(
 ) {
     for most in [1, 3, 256] {
         let got = in_pieces(rt, alloc, bytes, budget, most, most);
-        assert_equal_at(rt, got, *want, most);
+        Assert::equal_at(rt, got, *want, most);
     }
     for cut in 1..bytes.len() {
         let got = in_pieces(rt, alloc, bytes, budget, cut, 256);
-        assert_equal_at(rt, got, *want, cut);
+        Assert::equal_at(rt, got, *want, cut);
     }
 }
 
@@ -158,10 +159,10 @@ const WANTS: &[usize] = &[
 
 /// Feeds the bytes one by one, and sees what is wanted before each.
 fn expect_wants(rt: &impl Abort, counted: &mut Counted, bytes: &[u8], wants: &[usize]) {
-    assert_equal(rt, bytes.len(), wants.len());
+    Assert::equal(rt, bytes.len(), wants.len());
     for (byte, want) in bytes.iter().zip(wants) {
-        assert_equal(rt, counted.counts().0, *want);
-        assert_equal(rt, counted.feed(rt, &[*byte]), Ok(1));
+        Assert::equal(rt, counted.counts().0, *want);
+        Assert::equal(rt, counted.feed(rt, &[*byte]), Ok(1));
     }
 }
 
@@ -172,9 +173,9 @@ fn wants_what_rows_still_have(rt: HostRuntime) -> Result<(), Fail> {
     let bytes = spelled(rt.alloc(), "3F3 0 3 0 2 1 C0000002 10004 1")?;
     let mut counted = Counted::new(rt.alloc(), 1_000);
     expect_wants(&rt, &mut counted, bytes.as_slice(), WANTS);
-    assert_equal(&rt, counted.counts().0, 0);
-    assert_equal(&rt, counted.feed(&rt, b"follows"), Ok(0));
-    assert_true(&rt, counted.loader.declared().is_ok());
+    Assert::equal(&rt, counted.counts().0, 0);
+    Assert::equal(&rt, counted.feed(&rt, b"follows"), Ok(0));
+    assert!(rt; counted.loader.declared().is_ok());
     Ok(())
 }
 
@@ -194,11 +195,11 @@ fn wants_at_most_a_buffer(rt: HostRuntime) -> Result<(), Fail> {
     let mut counted = Counted::new(rt.alloc(), 1_000);
     for (text, want) in OF_65_HUNKS {
         let piece = spelled(rt.alloc(), text)?;
-        assert_equal(&rt, counted.feed(&rt, piece.as_slice()), Ok(piece.len()));
-        assert_equal_at(&rt, counted.counts().0, *want, text);
+        Assert::equal(&rt, counted.feed(&rt, piece.as_slice()), Ok(piece.len()));
+        Assert::equal_at(&rt, counted.counts().0, *want, text);
     }
-    assert_equal(&rt, counted.feed(&rt, [0].as_slice()), Ok(1));
-    assert_equal(&rt, counted.counts().0, 239);
+    Assert::equal(&rt, counted.feed(&rt, [0].as_slice()), Ok(1));
+    Assert::equal(&rt, counted.counts().0, 239);
     Ok(())
 }
 
@@ -221,25 +222,25 @@ fn answers(rt: HostRuntime) -> Result<(), Fail> {
             Ok(bytes) => Ok(bytes),
             Err(fault) => Err((fault.place, fault.reason)),
         };
-        assert_equal_at(&rt, got, *want, text);
+        Assert::equal_at(&rt, got, *want, text);
     }
     Ok(())
 }
 
 fn expect_row(rt: &impl Abort, declared: &Declared, i: u32, memory: Memory, bytes: u64) {
-    assert_true(rt, i < declared.hunks());
+    assert!(rt; i < declared.hunks());
     let row = declared.row(i);
-    assert_equal(rt, row.size().memory(), memory);
-    assert_equal(rt, row.size().bytes(), bytes);
-    assert_equal(rt, row.base, 0);
+    Assert::equal(rt, row.size().memory(), memory);
+    Assert::equal(rt, row.size().bytes(), bytes);
+    Assert::equal(rt, row.base, 0);
 }
 
 /// The table of example 8.
 #[test]
 fn tables(rt: HostRuntime) -> Result<(), Fail> {
     let declared = declared(&rt, rt.alloc(), WITH_ATTRIBUTES, 32)?;
-    assert_equal(&rt, declared.hunks(), 2);
-    assert_equal(&rt, declared.held(), 24);
+    Assert::equal(&rt, declared.hunks(), 2);
+    Assert::equal(&rt, declared.held(), 24);
     expect_row(&rt, &declared, 0, Memory::Attributes(0x10004), 8);
     expect_row(&rt, &declared, 1, Memory::Any, 4);
     Ok(())
@@ -250,12 +251,12 @@ pub(super) fn came_back(rt: &impl Abort, unplaced: Option<&Unplaced>, reason: Re
     let Some(unplaced) = unplaced else {
         panic!(rt; "placed");
     };
-    assert_equal(rt, unplaced.reason, reason);
-    assert_equal(rt, unplaced.declared.hunks(), 2);
-    assert_equal(rt, unplaced.declared.total(), 12);
+    Assert::equal(rt, unplaced.reason, reason);
+    Assert::equal(rt, unplaced.declared.hunks(), 2);
+    Assert::equal(rt, unplaced.declared.total(), 12);
     for i in 0..unplaced.declared.hunks() {
         let Row { word, extra, base } = unplaced.declared.row(i);
-        assert_equal(rt, (word, extra, base), (if i == 0 { 2 } else { 1 }, 0, 0));
+        Assert::equal(rt, (word, extra, base), (if i == 0 { 2 } else { 1 }, 0, 0));
     }
 }
 
@@ -267,7 +268,7 @@ fn placing(rt: HostRuntime) -> Result<(), Fail> {
     came_back(&rt, unplaced.as_ref(), Reason::NoBase(1));
     let again = unplaced.map(|unplaced| unplaced.declared);
     let loader = again.and_then(|declared| declared.place(&Packed { start: 0x10000 }).ok());
-    assert_equal(&rt, loader.map(|loader| loader.held()), Some(36));
+    Assert::equal(&rt, loader.map(|loader| loader.held()), Some(36));
     Ok(())
 }
 
@@ -279,7 +280,7 @@ fn packed_base(
     i: u32,
     before: u64,
 ) -> Option<u32> {
-    assert_true(rt, i < declared.hunks());
+    assert!(rt; i < declared.hunks());
     Packed { start }.base(i, &declared.row(i), before)
 }
 
@@ -294,7 +295,7 @@ fn packing(rt: HostRuntime) -> Result<(), Fail> {
         (0xFFFF_FFF8, 1, 8, None),
     ];
     for (start, i, before, want) in rows {
-        assert_equal(&rt, packed_base(&rt, &declared, start, i, before), want);
+        Assert::equal(&rt, packed_base(&rt, &declared, start, i, before), want);
     }
     let start = 0xFFFF_FFF8;
     let unplaced = declared.place(&Packed { start }).err();
@@ -310,7 +311,7 @@ fn unplaced_text(rt: HostRuntime) -> Result<(), Fail> {
         panic!(rt; "placed");
     };
     let text = format!(in rt.alloc(); "{unplaced}")?;
-    assert_equal(&rt, text.as_str(), "refused at byte 28: NoBase (29) hunk 1");
+    Assert::equal(&rt, text.as_str(), "refused at byte 28: NoBase (29) hunk 1");
     Ok(())
 }
 
@@ -319,10 +320,10 @@ fn unplaced_text(rt: HostRuntime) -> Result<(), Fail> {
 fn debug_texts(rt: HostRuntime) -> Result<(), Fail> {
     let header = HeaderLoader::new(rt.alloc(), 1000);
     let text = format!(in rt.alloc(); "{header:?}")?;
-    assert_equal(&rt, text.as_str(), "HeaderLoader { held: 0, want: 24, .. }");
+    Assert::equal(&rt, text.as_str(), "HeaderLoader { held: 0, want: 24, .. }");
     let loader = body(&rt, rt.alloc())?;
     let text = format!(in rt.alloc(); "{loader:?}")?;
-    assert_equal(
+    Assert::equal(
         &rt,
         text.as_str(),
         "BodyLoader { hunks: 1, fed: 24, refused: None, .. }",
@@ -343,10 +344,10 @@ pub(super) fn body(rt: &impl Abort, alloc: Global) -> Result<BodyLoader, Fail> {
 #[test]
 fn held(rt: HostRuntime) -> Result<(), Fail> {
     let loader = body(&rt, rt.alloc())?;
-    assert_equal(&rt, loader.held(), 16);
-    assert_equal(&rt, loader.fed(), 24);
-    assert_true(&rt, loader.want() > 0);
-    assert_true(&rt, loader.finish().is_err());
+    Assert::equal(&rt, loader.held(), 16);
+    Assert::equal(&rt, loader.fed(), 24);
+    assert!(rt; loader.want() > 0);
+    assert!(rt; loader.finish().is_err());
     Ok(())
 }
 
@@ -361,9 +362,9 @@ fn stays_refused(rt: HostRuntime) -> Result<(), Fail> {
     };
     for _ in 0..2u8 {
         let fed = counted.feed(&rt, bytes.as_slice());
-        assert_equal(&rt, fed, Err(fault));
+        Assert::equal(&rt, fed, Err(fault));
     }
-    assert_equal(&rt, counted.counts(), (0, 0));
-    assert_true(&rt, counted.loader.declared().is_err());
+    Assert::equal(&rt, counted.counts(), (0, 0));
+    assert!(rt; counted.loader.declared().is_err());
     Ok(())
 }

@@ -1,12 +1,9 @@
 //! What loaders hold, by what the allocator still gives beside them.
 ghost use Rattle.std.specs.Prelude.{None, false};
 
-use crate::tests::{headers, loaded};
+use crate::tests::{Assert, headers, loaded};
 use hunk_scatter::{BodyLoader, Declared, HeaderLoader, Image, Limits, Packed};
-use hunk_testing::{
-    assert_equal, assert_equal_at, assert_true, assert_true_at, bytes_of, largest_piece,
-    left_beside, memory_ends, spelled,
-};
+use hunk_testing::{bytes_of, largest_piece, left_beside, memory_ends, spelled};
 use hunk_words::{Failed, LoadFault, Reason, Source};
 use std::alloc::{AllocError, Global};
 use std::process::Abort;
@@ -55,8 +52,12 @@ fn expect_left(
     store: usize,
 ) -> Result<(), Fail> {
     let (held, want) = left_beside(alloc, || plain(alloc, rows, store))?;
-    assert_true(rt, held.is_ok());
-    assert_true_at(rt, left.abs_diff(want) <= 64, (left, rows, store, want));
+    assert!(rt; held.is_ok());
+    assert!(rt;
+        left.abs_diff(want) <= 64,
+        "at {:?}",
+        (left, rows, store, want)
+    );
     Ok(())
 }
 
@@ -81,8 +82,8 @@ fn rows_of_a_header(rt: HostRuntime) -> Result<(), Fail> {
     let bytes = front(rt.alloc(), 65_536, 64)?;
     let alloc = rt.alloc();
     let (loader, left) = left_beside(alloc, || fed(alloc, bytes.as_slice(), 10_000))?;
-    assert_equal(&rt, loader.held(), 768);
-    assert_equal(&rt, loader.want(), 256);
+    Assert::equal(&rt, loader.held(), 768);
+    Assert::equal(&rt, loader.want(), 256);
     expect_left(&rt, alloc, left, 64, 0)
 }
 
@@ -95,7 +96,7 @@ fn nothing_behind_a_refusal(rt: HostRuntime) -> Result<(), Fail> {
     let bytes = header(rt.alloc(), 64)?;
     let alloc = rt.alloc();
     let (loader, left) = left_beside(alloc, || fed(alloc, bytes.as_slice(), 4_200))?;
-    assert_equal(&rt, (loader.want(), loader.held()), (0, 0));
+    Assert::equal(&rt, (loader.want(), loader.held()), (0, 0));
     expect_left(&rt, alloc, left, 0, 0)
 }
 
@@ -108,7 +109,7 @@ fn rows_of_a_table(rt: HostRuntime) -> Result<(), Fail> {
     let bytes = header(rt.alloc(), HUNKS)?;
     let alloc = rt.alloc();
     let (table, left) = left_beside(alloc, || declared(alloc, bytes.as_slice()))?;
-    assert_equal(&rt, table.map(|table| table.held()), Some(780));
+    Assert::equal(&rt, table.map(|table| table.held()), Some(780));
     expect_left(&rt, alloc, left, HUNKS, 0)
 }
 
@@ -157,8 +158,8 @@ fn expect_loading(
     let Some((loader, answer)) = loading else {
         panic!(rt; "no loader");
     };
-    assert_equal_at(rt, *answer, *want, text);
-    assert_equal_at(rt, loader.held(), 780 + TOTAL as u64, text);
+    Assert::equal_at(rt, *answer, *want, text);
+    Assert::equal_at(rt, loader.held(), 780 + TOTAL as u64, text);
 }
 
 /// The rows and one store of the bytes that are declared, whatever was fed.
@@ -249,7 +250,7 @@ fn rows_and_store_of_a_load(rt: HostRuntime) -> Result<(), Fail> {
     let Some(image) = image else {
         panic!(rt; "no image");
     };
-    assert_equal(
+    Assert::equal(
         &rt,
         (image.hunks(), image.held()),
         (HUNKS, 780 + TOTAL as u64),
@@ -257,7 +258,7 @@ fn rows_and_store_of_a_load(rt: HostRuntime) -> Result<(), Fail> {
     expect_left(&rt, alloc, left, HUNKS, TOTAL)?;
     let (want, _) = left_beside(alloc, || largest_beside(alloc))?;
     let want = want?;
-    assert_true_at(&rt, largest > 1 << 24, largest);
-    assert_true_at(&rt, largest.abs_diff(want) <= 64, (largest, want));
+    assert!(rt; largest > 1 << 24, "at {largest:?}");
+    assert!(rt; largest.abs_diff(want) <= 64, "at {:?}", (largest, want));
     Ok(())
 }

@@ -1,13 +1,13 @@
 //! Files with many hunks and relocations, and large stores: no loader gives up on them.
 
-use crate::tests::{cut_at, loaded, piece_taken};
+use crate::tests::{Assert, cut_at, loaded, piece_taken};
 use hunk_files::Row;
 use hunk_scatter::stream::begin;
 use hunk_scatter::{Image, Limits, Packed};
 use hunk_testing::large::{
     HUNKS, LARGE, LOAD_FILE, SHORT_OF_16_MIB, SHORT_OF_64_MIB, bytes_of_runs, large_load_file,
 };
-use hunk_testing::{Fed, Then, assert_equal, assert_true, spelled};
+use hunk_testing::{Fed, Then, spelled};
 use hunk_words::word_at;
 use std::alloc::{AllocError, Global};
 use std::process::Abort;
@@ -31,7 +31,7 @@ const ADDED: u32 = 675_880_000;
 fn image_of(rt: &impl Abort, alloc: Global, bytes: &[u8], most: usize) -> Image {
     let mut source = Fed::new(bytes, most, Then::Fails);
     let answer = loaded(alloc, &mut source, LIMITS, &Packed { start: START });
-    assert_equal(rt, source.rest().len(), 0);
+    Assert::equal(rt, source.rest().len(), 0);
     match answer {
         Ok(image) => image,
         Err(fault) => panic!(rt; "{fault:?}"),
@@ -40,24 +40,24 @@ fn image_of(rt: &impl Abort, alloc: Global, bytes: &[u8], most: usize) -> Image 
 
 /// Sees that the segments have their bases and longwords.
 fn expect_segments(rt: &impl Abort, image: &Image) {
-    assert_true(rt, image.hunks() == HUNKS);
+    assert!(rt; image.hunks() == HUNKS);
     let mut base = START as u64;
     for (row, segment) in image.segments() {
-        assert_equal(rt, row.base as u64, base);
+        Assert::equal(rt, row.base as u64, base);
         if row.base == START {
-            assert_true(rt, segment.len() == 8);
-            assert_equal(
+            assert!(rt; segment.len() == 8);
+            Assert::equal(
                 rt,
                 (word_at(segment, 0), word_at(segment, 1)),
                 (ADDED, ADDED),
             );
         } else {
-            assert_equal(rt, segment, [0; 4].as_slice());
+            Assert::equal(rt, segment, [0; 4].as_slice());
         }
         base = base.wrapping_add(segment.len() as u64);
     }
     for hunk in [1, 2_047, 2_048, 2_049, 4_095, 40_000, 65_535] {
-        assert_equal(
+        Assert::equal(
             rt,
             image.base(hunk),
             hunk.wrapping_mul(4).wrapping_add(START + 4),
@@ -79,11 +79,11 @@ fn many_hunks(rt: HostRuntime) -> Result<(), Fail> {
 fn large_stores(rt: HostRuntime) -> Result<(), Fail> {
     let alloc = rt.alloc();
     let image = image_of(&rt, alloc, &spelled(alloc, SHORT_OF_16_MIB)?, 1);
-    assert_equal(&rt, image.bytes(), 1 << 24);
+    Assert::equal(&rt, image.bytes(), 1 << 24);
     let image = image_of(&rt, alloc, &spelled(alloc, SHORT_OF_64_MIB)?, 1);
-    assert_equal(&rt, image.bytes(), 1 << 26);
+    Assert::equal(&rt, image.bytes(), 1 << 26);
     let image = image_of(&rt, alloc, &large_load_file(alloc)?, 256);
-    assert_equal(&rt, image.bytes(), LARGE_HUNK as u64);
+    Assert::equal(&rt, image.bytes(), LARGE_HUNK as u64);
     Ok(())
 }
 
@@ -111,7 +111,7 @@ fn expect_streamed(
     let Ok((at, _)) = piece_taken(store, rows, at, rest) else {
         panic!(rt; "the second piece");
     };
-    assert_equal(rt, (at.is_whole(), at.fed), (true, bytes.len() as u64));
+    Assert::equal(rt, (at.is_whole(), at.fed), (true, bytes.len() as u64));
 }
 
 fn rows_of(alloc: Global, image: &Image) -> Result<Vec<Row>, AllocError> {
@@ -130,7 +130,7 @@ fn many_hunks_in_two_pieces(rt: HostRuntime) -> Result<(), Fail> {
     let rows = rows_of(alloc, &image)?;
     let mut store = vec![in alloc; 0xA5u8; STORE]?;
     expect_streamed(&rt, &rows, &mut store, &bytes, HEADER, 100_001);
-    assert_true(&rt, store.as_slice() == image.joined());
+    assert!(rt; store.as_slice() == image.joined());
     Ok(())
 }
 

@@ -1,10 +1,10 @@
 //! What a load reads and holds at most.
 
 use crate::tests::loads::{START, Want, comes};
-use crate::tests::{AMPLE, cut_at, load_fault};
+use crate::tests::{AMPLE, Assert, cut_at, load_fault};
 use hunk_scatter::{Limits, Listed};
 use hunk_testing::examples::{ENDING_IN_ZEROS, ONE_HUNK, TWO_HUNKS};
-use hunk_testing::{FailsOnce, Fed, Interrupted, Then, assert_equal, assert_true, spelled};
+use hunk_testing::{FailsOnce, Fed, Interrupted, Then, spelled};
 use hunk_words::{FromRead, LoadFault, Reason};
 use std::alloc::Global;
 use std::process::Abort;
@@ -87,8 +87,8 @@ fn no_read(rt: HostRuntime) -> Result<(), Fail> {
         file_bytes: 0,
     };
     let fault = load_fault(rt.alloc(), &mut source, none, &START);
-    assert_true(&rt, fault.is_some());
-    assert_equal(&rt, source.reads(), 0);
+    assert!(rt; fault.is_some());
+    Assert::equal(&rt, source.reads(), 0);
     Ok(())
 }
 
@@ -99,8 +99,8 @@ fn no_base(rt: HostRuntime) -> Result<(), Fail> {
     let mut source = Fed::new(bytes.as_slice(), 256, Then::Ends);
     let one = Listed([0x10000].as_slice());
     let fault = load_fault(rt.alloc(), &mut source, AMPLE, &one);
-    assert_true(&rt, fault.is_some());
-    assert_equal(&rt, source.rest().len(), 56);
+    assert!(rt; fault.is_some());
+    Assert::equal(&rt, source.rest().len(), 56);
     Ok(())
 }
 
@@ -136,7 +136,7 @@ fn expect_stop(
         file_bytes,
     };
     let got = load_fault(alloc, source, limits, &START);
-    assert_equal(rt, (got, source.reads()), (Some(fault), reads));
+    Assert::equal(rt, (got, source.reads()), (Some(fault), reads));
 }
 
 /// A reader that fails, and one without end.
@@ -172,11 +172,11 @@ fn reads_nothing_again(rt: HostRuntime) -> Result<(), Fail> {
     for fails_at in 0..41 {
         let mut source = FailsOnce::new(one.as_slice(), fails_at);
         let fault = load_fault(rt.alloc(), &mut source, AMPLE, &START);
-        assert_equal(&rt, source.given(), fails_at);
+        Assert::equal(&rt, source.given(), fails_at);
         if fails_at == 40 {
-            assert_true(&rt, fault.is_none() && !source.has_failed());
+            assert!(rt; fault.is_none() && !source.has_failed());
         } else {
-            assert_equal(&rt, fault, failed_at(fails_at));
+            Assert::equal(&rt, fault, failed_at(fails_at));
         }
     }
     Ok(())
@@ -189,7 +189,7 @@ fn interrupted(rt: HostRuntime) -> Result<(), Fail> {
     for place in 0..bytes.len() {
         let mut source = FromRead::new(Interrupted::new(bytes.as_slice(), place));
         let fault = load_fault(rt.alloc(), &mut source, AMPLE, &START);
-        assert_equal(&rt, fault, failed_at(place));
+        Assert::equal(&rt, fault, failed_at(place));
     }
     Ok(())
 }

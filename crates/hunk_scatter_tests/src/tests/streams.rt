@@ -1,13 +1,13 @@
 //! A loader in memory that is its caller's: pieces cut at each byte, a refusal, and numbers of no loader.
 
-use crate::tests::{cut_at, piece_taken};
+use crate::tests::{Assert, cut_at, piece_taken};
 use hunk_files::Row;
 use hunk_scatter::stream::{Standing, Stop, begin};
 use hunk_testing::examples::{
     ENDING_EARLY, ONE_HUNK, OVERLAPPING, OVERLAPPING_FROM_BEHIND, RELOCATED, RELOCATED_BY_NO_HUNK,
     RELOCATED_PAST_ITS_END, TWO_BASES, TWO_HUNKS, WITH_ATTRIBUTES,
 };
-use hunk_testing::{assert_equal, assert_true, spelled};
+use hunk_testing::spelled;
 use hunk_words::{LoadFault, Reason};
 use std::alloc::{AllocError, Global};
 use std::process::Abort;
@@ -70,7 +70,7 @@ fn file_of(alloc: Global, text: &str, header: usize, table: Table) -> Result<Fil
 fn takes(rt: &impl Abort, store: &mut [u8], rows: &[Row], at: Standing, piece: &[u8]) -> Standing {
     match piece_taken(store, rows, at, piece) {
         Ok((to, taken)) => {
-            assert_equal(rt, taken, piece.len());
+            Assert::equal(rt, taken, piece.len());
             to
         }
         Err(stop) => panic!(rt; "{stop:?}"),
@@ -83,19 +83,19 @@ fn expect_store(rt: &impl Abort, file: &File, cut: usize, store: &mut [u8], want
     let (_, body) = cut_at(file.bytes.as_slice(), file.header);
     let (front, rest) = cut_at(body, cut);
     let first = begin(store, rows, file.header as u64);
-    assert_true(rt, !first.is_whole());
+    assert!(rt; !first.is_whole());
     let second = takes(rt, store, rows, first, front);
-    assert_equal(rt, second.is_whole(), rest.is_empty());
+    Assert::equal(rt, second.is_whole(), rest.is_empty());
     let third = takes(rt, store, rows, second, rest);
-    assert_true(rt, third.is_whole());
-    assert_equal(rt, third.fed, file.bytes.len() as u64);
+    assert!(rt; third.is_whole());
+    Assert::equal(rt, third.fed, file.bytes.len() as u64);
     // Nothing is taken of what follows the file.
-    assert_equal(
+    Assert::equal(
         rt,
         piece_taken(store, rows, third, b"follows"),
         Ok((third, 0)),
     );
-    assert_equal(rt, &*store, want);
+    Assert::equal(rt, &*store, want);
 }
 
 /// The store is the same, wherever a file is cut, and whatever it had before.
@@ -124,11 +124,11 @@ fn expect_refusal(rt: &impl Abort, file: &File, cut: usize, fault: LoadFault) {
     let first = begin(store.as_mut_slice(), rows, file.header as u64);
     match piece_taken(store.as_mut_slice(), rows, first, front) {
         Ok((second, _)) => {
-            assert_true(rt, second.fed < fault.place.saturating_add(4));
+            assert!(rt; second.fed < fault.place.saturating_add(4));
             let stop = piece_taken(store.as_mut_slice(), rows, second, rest);
-            assert_equal(rt, stop, Err(Stop::Refused(fault)));
+            Assert::equal(rt, stop, Err(Stop::Refused(fault)));
         }
-        Err(stop) => assert_equal(rt, stop, Stop::Refused(fault)),
+        Err(stop) => Assert::equal(rt, stop, Stop::Refused(fault)),
     }
 }
 
@@ -150,9 +150,9 @@ fn refused_in_two_pieces(rt: HostRuntime) -> Result<(), Fail> {
 /// Sees that numbers are found out, and nothing is written.
 fn expect_strange(rt: &impl Abort, rows: &[Row], store: &mut [u8], at: Standing) {
     let stop = piece_taken(store, rows, at, b"\0\0\x03\xE9");
-    assert_equal(rt, stop, Err(Stop::Strange));
+    Assert::equal(rt, stop, Err(Stop::Strange));
     for byte in store {
-        assert_equal(rt, *byte, 0);
+        Assert::equal(rt, *byte, 0);
     }
 }
 

@@ -1,7 +1,7 @@
 //! Each load file with each of its longwords changed in turn.
 
 use crate::tests::readings::agrees;
-use hunk_testing::{assert_true_at, with_long};
+use hunk_testing::with_long;
 use hunk_vectors::{LOAD_TEXTS, bytes};
 use std::test::Fail;
 
@@ -23,10 +23,10 @@ fn one_longword(rt: HostRuntime) -> Result<(), Fail> {
         for k in 0..bytes.len() / 4 {
             for word in WORDS {
                 let changed = with_long(bytes.as_slice().to_vec(rt.alloc())?, 4 * k, word);
-                assert_true_at(
-                    &rt,
+                assert!(rt;
                     agrees(rt.alloc(), changed.as_slice(), changed.len())?,
-                    (i, k, word),
+                    "at {:?}",
+                    (i, k, word)
                 );
             }
         }

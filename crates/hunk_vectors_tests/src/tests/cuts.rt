@@ -1,7 +1,6 @@
 //! Each load file in two pieces, cut at every byte, and each front of it.
 
 use crate::tests::readings::agrees;
-use hunk_testing::assert_true_at;
 use hunk_vectors::{LOAD_TEXTS, bytes};
 use std::test::Fail;
 
@@ -10,7 +9,11 @@ fn two_pieces(rt: HostRuntime) -> Result<(), Fail> {
     for i in 0..LOAD_TEXTS.len() {
         let bytes = bytes(rt.alloc(), i)?;
         for cut in 0..bytes.len() {
-            assert_true_at(&rt, agrees(rt.alloc(), bytes.as_slice(), cut)?, (i, cut));
+            assert!(rt;
+                agrees(rt.alloc(), bytes.as_slice(), cut)?,
+                "at {:?}",
+                (i, cut)
+            );
         }
     }
     Ok(())
@@ -21,7 +24,7 @@ fn fronts(rt: HostRuntime) -> Result<(), Fail> {
     for i in 0..LOAD_TEXTS.len() {
         let bytes = bytes(rt.alloc(), i)?;
         for n in 0..bytes.len() {
-            assert_true_at(&rt, agrees(rt.alloc(), &bytes[..n], n)?, (n, i));
+            assert!(rt; agrees(rt.alloc(), &bytes[..n], n)?, "at {:?}", (n, i));
         }
     }
     Ok(())

@@ -1,9 +1,10 @@
 //! A load by a reader of two pieces, beside the decoder of whole files.
 
+use crate::tests::Assert;
 use hunk_files::LoadFile;
 use hunk_scatter::{Image, Limits, Packed, load};
 use hunk_testing::examples::{ONE_HUNK, WITH_ATTRIBUTES};
-use hunk_testing::{Fed, assert_equal_at, assert_true, assert_true_at, spelled};
+use hunk_testing::{Fed, spelled};
 use hunk_words::{LoadFault, Reason, SizeWord, word_at};
 use std::alloc::{AllocError, Global};
 use std::process::Abort;
@@ -204,12 +205,12 @@ fn fits_only(
 
 /// Sees that of no fault, the decoder's, and the budget at each byte just those fit that are this one.
 fn expect_fits(rt: &impl Abort, bytes: &[u8], decoded: Option<LoadFault>, want: Option<LoadFault>) {
-    assert_true(rt, fits(bytes, decoded, want));
-    assert_true(rt, fits_only(bytes, decoded, None, want));
-    assert_true(rt, fits_only(bytes, decoded, decoded, want));
+    assert!(rt; fits(bytes, decoded, want));
+    assert!(rt; fits_only(bytes, decoded, None, want));
+    assert!(rt; fits_only(bytes, decoded, decoded, want));
     for place in 0..bytes.len() as u64 {
         let budget = fault_of(Some((place, Reason::Budget)));
-        assert_true_at(rt, fits_only(bytes, decoded, budget, want), place);
+        assert!(rt; fits_only(bytes, decoded, budget, want), "at {place:?}");
     }
 }
 
@@ -218,10 +219,10 @@ fn expect_fits(rt: &impl Abort, bytes: &[u8], decoded: Option<LoadFault>, want: 
 fn expect(rt: &impl Abort, alloc: Global, (text, decodes, loads): &Row) -> Result<(), Fail> {
     let bytes = spelled(alloc, text)?;
     let decoded = LoadFile::decode(alloc, &bytes).err();
-    assert_equal_at(rt, decoded, fault_of(*decodes), text);
+    Assert::equal_at(rt, decoded, fault_of(*decodes), text);
     expect_fits(rt, &bytes, decoded, fault_of(*loads));
     for cut in 0..bytes.len() {
-        assert_true_at(rt, agrees(alloc, &bytes, cut)?, (text, cut));
+        assert!(rt; agrees(alloc, &bytes, cut)?, "at {:?}", (text, cut));
     }
     Ok(())
 }
@@ -247,7 +248,7 @@ fn expect_passes(rt: &impl Abort, bytes: &[u8], place: u64) {
         } else {
             None
         };
-        assert_equal_at(rt, budget_passes_at(&bytes[..n]), want, n);
+        Assert::equal_at(rt, budget_passes_at(&bytes[..n]), want, n);
     }
 }
 

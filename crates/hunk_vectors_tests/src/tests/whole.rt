@@ -1,8 +1,8 @@
 //! Each load file whole, and what each is to be answered with.
 
+use crate::tests::Assert;
 use crate::tests::readings::agrees;
 use hunk_files::LoadFile;
-use hunk_testing::{assert_equal, assert_equal_at, assert_true_at};
 use hunk_vectors::{LOAD_TEXTS, VECTORS, Vector, Want, bytes};
 use std::alloc::Global;
 use std::process::Abort;
@@ -35,16 +35,16 @@ fn expect(
     let Some(vector) = table.get(i) else {
         panic!(rt; "no {i}");
     };
-    assert_equal(rt, vector.text, text);
-    assert_equal(rt, 2 * bytes.len(), text.len());
-    assert_equal_at(rt, answer(alloc, bytes), vector.want, i);
-    assert_true_at(rt, agrees(alloc, bytes, bytes.len())?, i);
+    Assert::equal(rt, vector.text, text);
+    Assert::equal(rt, 2 * bytes.len(), text.len());
+    Assert::equal_at(rt, answer(alloc, bytes), vector.want, i);
+    assert!(rt; agrees(alloc, bytes, bytes.len())?, "at {i:?}");
     Ok(())
 }
 
 #[test]
 fn answers(rt: HostRuntime) -> Result<(), Fail> {
-    assert_equal(&rt, VECTORS.len(), LOAD_TEXTS.len());
+    Assert::equal(&rt, VECTORS.len(), LOAD_TEXTS.len());
     for i in 0..LOAD_TEXTS.len() {
         let bytes = bytes(rt.alloc(), i)?;
         expect(&rt, rt.alloc(), &VECTORS, i, LOAD_TEXTS[i], &bytes)?;

@@ -1,7 +1,8 @@
 //! A text that is longer than its page, to writers that stop after each number of bytes.
 ghost use Rattle.std.specs.Prelude.{◌≡◌, ◌≤◌};
 
-use hunk_testing::{Narrow, assert_equal, assert_true_at};
+use crate::tests::Assert;
+use hunk_testing::Narrow;
 use hunk_words::{FromWrite, LongWriter, PagePrinter, Sink, WriteFault};
 use std::process::Abort;
 use std::test::Fail;
@@ -53,12 +54,15 @@ fn expect(
 ) {
     let count = room as u64;
     if room < TEXT.len() {
-        assert_equal(rt, answer, Err(WriteFault { written: count }));
+        Assert::equal(rt, answer, Err(WriteFault { written: count }));
     } else {
-        assert_equal(rt, answer, Ok(()));
+        Assert::equal(rt, answer, Ok(()));
     }
-    assert_equal(rt, written, count);
-    assert_true_at(rt, taken.len() == room && TEXT.starts_with(taken), room);
+    Assert::equal(rt, written, count);
+    assert!(rt;
+        taken.len() == room && TEXT.starts_with(taken),
+        "at {room:?}"
+    );
 }
 
 /// To a writer that takes `room` bytes, five at most at a time, and then fails.

@@ -1,7 +1,8 @@
 //! Puts to a writer that takes a few bytes at a time and then fails, and to a `Vec`.
 ghost use Rattle.std.specs.Prelude.{◌≤◌};
 
-use hunk_testing::{Narrow, assert_equal, assert_true};
+use crate::tests::Assert;
+use hunk_testing::Narrow;
 use hunk_words::{FromWrite, LongWriter, WriteFault};
 use std::process::Abort;
 use std::test::Fail;
@@ -19,15 +20,15 @@ fn fails_after(rt: &impl Abort, room: usize, step: usize)
     let written = room as u64;
     if room < TEXT.len() {
         let fault = Err(WriteFault { written });
-        assert_true(rt, result == fault);
-        assert_equal(rt, out.put_long(1), fault);
-        assert_equal(rt, out.put_bytes(b"x".as_slice()), fault);
+        assert!(rt; result == fault);
+        Assert::equal(rt, out.put_long(1), fault);
+        Assert::equal(rt, out.put_bytes(b"x".as_slice()), fault);
     } else {
-        assert_equal(rt, result, Ok(()));
+        Assert::equal(rt, result, Ok(()));
     }
-    assert_equal(rt, out.written(), written);
+    Assert::equal(rt, out.written(), written);
     let writer = out.into_inner().into_inner();
-    assert_equal(rt, writer.taken(), &TEXT[..room]);
+    Assert::equal(rt, writer.taken(), &TEXT[..room]);
 }
 
 #[test]
@@ -43,10 +44,10 @@ fn stops_after_each_number_of_bytes(rt: HostRuntime) -> Result<(), Fail> {
 #[test]
 fn writes_to_a_vec(rt: HostRuntime) -> Result<(), Fail> {
     let mut out = LongWriter::new(FromWrite::new(Vec::<u8>::new(rt.alloc())));
-    assert_equal(&rt, out.put_long(0x3E9), Ok(()));
-    assert_equal(&rt, out.put_bytes(b"xy".as_slice()), Ok(()));
-    assert_equal(&rt, out.written(), 6);
+    Assert::equal(&rt, out.put_long(0x3E9), Ok(()));
+    Assert::equal(&rt, out.put_bytes(b"xy".as_slice()), Ok(()));
+    Assert::equal(&rt, out.written(), 6);
     let bytes = out.into_inner().into_inner();
-    assert_equal(&rt, bytes.as_slice(), [0, 0, 3, 0xE9, 120, 121].as_slice());
+    Assert::equal(&rt, bytes.as_slice(), [0, 0, 3, 0xE9, 120, 121].as_slice());
     Ok(())
 }
