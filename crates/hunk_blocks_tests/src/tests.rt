@@ -2,6 +2,7 @@
 //! that stops.
 
 mod answers;
+mod asserts;
 mod ext_kinds;
 mod growths;
 mod large;
@@ -11,14 +12,8 @@ mod values;
 mod writing;
 
 use hunk_blocks::{Block, Mode};
-use hunk_testing::assertions;
 use hunk_words::{BlockFault, Reason};
 use std::alloc::Global;
-
-/// Assertions, each a call.
-struct Assert;
-
-assertions!(Assert);
 
 /// A block with the number of its bytes, or with the place and the reason of a refusal.
 type Row = (&'static str, u64, Option<Reason>);

@@ -1,25 +1,22 @@
 //! The callers on files of the worked examples.
 
+mod asserts;
 mod folder;
 mod suite;
 mod tour;
 
+use crate::tests::asserts::assert_equal;
 use hunk_callers::{
     Symbol, describe, has_header, list_symbols, load_pieces, load_program, place_in_rom, show_file,
     strip_file, survey, write_program,
 };
 use hunk_orders::{Order, OrderFault, order};
-use hunk_testing::{assertions, examples, spelled};
+use hunk_testing::{examples, spelled};
 use hunk_vectors::{OBJECTS, ObjectVector, ObjectWant, VECTORS, Vector, Want};
 use hunk_words::{FromWrite, Reason};
 use std::alloc::{AllocError, Global};
 use std::process::Abort;
 use std::test::Fail;
-
-/// Assertions, each a call.
-struct Assert;
-
-assertions!(Assert);
 
 /// The words of a command line.
 fn words(alloc: Global, line: &[&str]) -> Result<Vec<String>, AllocError> {
@@ -46,7 +43,7 @@ fn expect_error<T: Drop>(
         Ok(_) => panic!(rt; "{want}"),
         Err(error) => {
             let text = format!(in alloc; "{error}")?;
-            Assert::equal(rt, text.as_str(), want);
+            assert_equal(rt, text.as_str(), want);
         }
     }
     Ok(())
@@ -57,8 +54,8 @@ fn loads_a_program(rt: HostRuntime) -> Result<(), Fail> {
     let file = spelled(rt.alloc(), examples::WITH_A_SYMBOL)?;
     let mut memory = Vec::new(rt.alloc());
     let first = load_program(rt.alloc(), file.as_slice(), &mut memory, 0x0002_1000)?;
-    Assert::equal(&rt, first, 0x0002_1000);
-    Assert::equal(&rt, memory.as_slice(), [0x4E, 0x75, 0x4E, 0x71].as_slice());
+    assert_equal(&rt, first, 0x0002_1000);
+    assert_equal(&rt, memory.as_slice(), [0x4E, 0x75, 0x4E, 0x71].as_slice());
     Ok(())
 }
 
@@ -76,7 +73,7 @@ fn describes_files(rt: HostRuntime) -> Result<(), Fail> {
     for (text, want) in LINES {
         let file = spelled(rt.alloc(), text)?;
         let line = describe(rt.alloc(), file.as_slice())?;
-        Assert::equal(&rt, line.as_str(), *want);
+        assert_equal(&rt, line.as_str(), *want);
     }
     Ok(())
 }
@@ -90,7 +87,7 @@ fn lists_symbols(rt: HostRuntime) -> Result<(), Fail> {
         name: b"_m\0\0",
         value: 0,
     };
-    Assert::equal(&rt, found.as_slice(), [want].as_slice());
+    assert_equal(&rt, found.as_slice(), [want].as_slice());
     Ok(())
 }
 
@@ -108,7 +105,7 @@ fn places_in_a_rom(rt: HostRuntime) -> Result<(), Fail> {
     let want = [
         0x4E, 0xF9, 0, 0xFC, 0, 4, 0x4E, 0x71, 0x12, 0x34, 0x56, 0x78,
     ];
-    Assert::equal(&rt, image.as_slice(), want.as_slice());
+    assert_equal(&rt, image.as_slice(), want.as_slice());
     let got = placed(alloc, examples::TWO_HUNKS, &bases[..1]);
     expect_error(&rt, alloc, got, "wrong number of bases")?;
     let got = placed(alloc, examples::OVERLAPPING_APART, &bases[..1]);
@@ -123,7 +120,7 @@ fn strips_a_file(rt: HostRuntime) -> Result<(), Fail> {
     let file = spelled(rt.alloc(), examples::WITH_A_SYMBOL)?;
     let stripped = strip_file(rt.alloc(), file.as_slice())?;
     let want = spelled(rt.alloc(), examples::ONE_HUNK)?;
-    Assert::equal(&rt, stripped.as_slice(), want.as_slice());
+    assert_equal(&rt, stripped.as_slice(), want.as_slice());
     Ok(())
 }
 
@@ -141,7 +138,7 @@ const FRONTS: &[(&str, Result<bool, Reason>)] = &[
 fn looks_at_an_upload(rt: HostRuntime) -> Result<(), Fail> {
     for (text, want) in FRONTS {
         let front = spelled(rt.alloc(), text)?;
-        Assert::equal(&rt, has_header(&front), *want);
+        assert_equal(&rt, has_header(&front), *want);
     }
     Ok(())
 }
@@ -151,7 +148,7 @@ fn writes_a_program(rt: HostRuntime) -> Result<(), Fail> {
     let sink = FromWrite::new(Vec::new(rt.alloc()));
     let file = write_program(&[0x4E, 0x75, 0x4E, 0x71], sink)?.into_inner();
     let want = spelled(rt.alloc(), examples::ONE_HUNK)?;
-    Assert::equal(&rt, file.as_slice(), want.as_slice());
+    assert_equal(&rt, file.as_slice(), want.as_slice());
     Ok(())
 }
 
@@ -209,14 +206,14 @@ fn surveys_the_suite(rt: HostRuntime) -> Result<(), Fail> {
     let programs = add_load_files(load_files(), &mut texts)?;
     let objects = add_object_files(&OBJECTS, &mut texts)?;
     let found = survey(rt.alloc(), texts.as_slice())?;
-    Assert::equal(&rt, (found.programs, found.segment_bytes), programs);
-    Assert::equal(&rt, found.symbols, 1);
-    Assert::equal(&rt, (found.objects, found.findings), objects);
+    assert_equal(&rt, (found.programs, found.segment_bytes), programs);
+    assert_equal(&rt, found.symbols, 1);
+    assert_equal(&rt, (found.objects, found.findings), objects);
     let files = found
         .programs
         .saturating_add(found.objects)
         .saturating_add(found.rejected);
-    Assert::equal(&rt, files, texts.len() as u64);
+    assert_equal(&rt, files, texts.len() as u64);
     Ok(())
 }
 
@@ -240,7 +237,7 @@ fn shows_what_the_words_ask_for(rt: HostRuntime) -> Result<(), Fail> {
     let file = spelled(rt.alloc(), examples::ONE_HUNK)?;
     let text = show_file(rt.alloc(), file.as_slice())?;
     let want = b"load file 1 hunks 4 bytes\nhunk 0 4 bytes any\n  CODE 4 bytes\n  END\n";
-    Assert::equal(&rt, text.as_slice(), want.as_slice());
+    assert_equal(&rt, text.as_slice(), want.as_slice());
     Ok(())
 }
 
@@ -272,7 +269,7 @@ fn loads_pieces(rt: HostRuntime) -> Result<(), Fail> {
     let want = [
         0x4E, 0xF9, 0, 1, 0, 0x0C, 0x4E, 0x71, 0x12, 0x34, 0x56, 0x78,
     ];
-    Assert::equal(&rt, memory.as_slice(), want.as_slice());
+    assert_equal(&rt, memory.as_slice(), want.as_slice());
     // After byte 51 a file has the rest of a count, an END, a BSS of two longwords and its END.
     let got = load_pieces(rt.alloc(), first, &[second], 0);
     expect_error(&rt, rt.alloc(), got, "at least 17 bytes are to come")?;

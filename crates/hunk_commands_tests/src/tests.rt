@@ -1,4 +1,5 @@
 //! Tests of what no clause says.
+mod asserts;
 mod calls;
 mod faults;
 mod hex_text;
@@ -11,10 +12,3 @@ mod reading;
 mod relocating;
 mod samples;
 mod writing;
-
-use hunk_testing::assertions;
-
-/// Assertions, each a call.
-struct Assert;
-
-assertions!(Assert);

@@ -4,6 +4,7 @@ ghost use Rattle.std.specs.Prelude.{◌≡◌, ◌<◌, ◌≤◌, ◌^◌, leng
 ghost use Rattle.hunk_files.specs.HunkFile.{file_bytes};
 
 mod answers;
+mod asserts;
 mod growths;
 mod hunk_file;
 mod images;
@@ -20,15 +21,10 @@ mod stops;
 mod writing;
 
 use hunk_files::{HunkFile, ImageFault, LoadFile, ObjectFile};
-use hunk_testing::{Narrow, assertions};
+use hunk_testing::Narrow;
 use hunk_words::{FileFault, FromWrite, LongWriter};
 use std::alloc::{AllocError, Global};
 use std::process::Abort;
-
-/// Assertions, each a call.
-struct Assert;
-
-assertions!(Assert);
 
 /// The load file that the bytes begin with.
 fn load_file<'a>(rt: &impl Abort, alloc: Global, bytes: &'a [u8]) -> LoadFile<'a> {

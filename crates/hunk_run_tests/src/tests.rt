@@ -1,22 +1,18 @@
 //! Tests of what no clause says.
+mod asserts;
 mod files;
 mod made;
 mod old_output;
 mod runs;
 
+use crate::tests::asserts::assert_equal_at;
 use crate::tests::made::{Given, Kept, Made};
 use hunk_run::run;
-use hunk_testing::assertions;
 use hunk_words::LongWriter;
 use std::alloc::Global;
 use std::cell::RefCell;
 use std::process::Abort;
 use std::test::Fail;
-
-/// Assertions, each a call.
-struct Assert;
-
-assertions!(Assert);
 
 const ANY: usize = usize::MAX;
 
@@ -91,8 +87,8 @@ fn expect_of(
     want_status: u8,
 ) -> Result<(), Fail> {
     let ran = ran(alloc, given, ANY, line)?;
-    Assert::equal_at(rt, ran.text.as_str(), want, line);
-    Assert::equal_at(rt, ran.status, want_status, line);
+    assert_equal_at(rt, ran.text.as_str(), want, line);
+    assert_equal_at(rt, ran.status, want_status, line);
     assert!(rt; ran.created.is_empty(), "at {line:?}");
     Ok(())
 }

@@ -1,14 +1,12 @@
 //! Load files by their longwords, one after the other.
 
+mod asserts;
+
+use crate::tests::asserts::assert_equal;
 use hunk_scan::{Phase, Position, Sniff, refuse_place};
-use hunk_testing::{assertions, changed_in, examples, spelled};
+use hunk_testing::{changed_in, examples, spelled};
 use hunk_words::{Kind, Reason, word_at};
 use std::test::Fail;
-
-/// Assertions, each a call.
-struct Assert;
-
-assertions!(Assert);
 
 /// Where the longwords lead, or at which byte one is refused first and why. Each hunk declares this
 /// many longs.
@@ -27,7 +25,7 @@ fn follow(bytes: &[u8], longs: u32) -> Result<Position, (usize, Reason)> {
 #[test]
 fn whole_files(rt: HostRuntime) -> Result<(), Fail> {
     let bytes = spelled(rt.alloc(), examples::ONE_HUNK)?;
-    Assert::equal(&rt, follow(&bytes, 1), Ok(Position::Done));
+    assert_equal(&rt, follow(&bytes, 1), Ok(Position::Done));
     for n in 0..bytes.len() {
         let position = follow(&bytes[..n], 1);
         assert!(rt; matches!(position, Ok(p) if !p.is_done()), "at {n:?}");
@@ -64,10 +62,10 @@ const REFUSALS: &[(usize, u32, Reason)] = &[
 fn refusals(rt: HostRuntime) -> Result<(), Fail> {
     for (byte, word, reason) in REFUSALS {
         let bytes = changed_in(rt.alloc(), examples::RELOCATED_AT_ITS_END, *byte, *word)?;
-        Assert::equal(&rt, follow(&bytes, 2), Err((*byte, *reason)));
+        assert_equal(&rt, follow(&bytes, 2), Err((*byte, *reason)));
     }
     let bytes = spelled(rt.alloc(), examples::RELOCATED_AT_ITS_END)?;
-    Assert::equal(&rt, follow(&bytes, 2), Ok(Position::Done));
+    assert_equal(&rt, follow(&bytes, 2), Ok(Position::Done));
     Ok(())
 }
 
@@ -84,28 +82,28 @@ fn runs(rt: HostRuntime) -> Result<(), Fail> {
         assert!(rt; position.run() == 3);
         let behind = position.pass(3);
         assert!(rt; matches!(behind, Position::Body(_, phase) if phase == next));
-        Assert::equal(&rt, position.pass(2), position.step(0).step(0));
+        assert_equal(&rt, position.pass(2), position.step(0).step(0));
     }
     Ok(())
 }
 
 #[test]
 fn kinds(rt: HostRuntime) -> Result<(), Fail> {
-    Assert::equal(&rt, Sniff::of(0x3F3), Sniff::Load);
-    Assert::equal(&rt, Sniff::of(0x3E7), Sniff::Object);
-    Assert::equal(&rt, Sniff::of(0x3FA), Sniff::Library);
-    Assert::equal(&rt, Sniff::of(0x2000_03E7), Sniff::Other);
-    Assert::equal(
+    assert_equal(&rt, Sniff::of(0x3F3), Sniff::Load);
+    assert_equal(&rt, Sniff::of(0x3E7), Sniff::Object);
+    assert_equal(&rt, Sniff::of(0x3FA), Sniff::Library);
+    assert_equal(&rt, Sniff::of(0x2000_03E7), Sniff::Other);
+    assert_equal(
         &rt,
         refuse_place(Kind::Data, true),
         Some(Reason::SecondContent),
     );
-    Assert::equal(
+    assert_equal(
         &rt,
         refuse_place(Kind::Ext, false),
         Some(Reason::BeforeContent),
     );
-    Assert::equal(&rt, refuse_place(Kind::End, false), Some(Reason::NoContent));
-    Assert::equal(&rt, refuse_place(Kind::Name, false), None);
+    assert_equal(&rt, refuse_place(Kind::End, false), Some(Reason::NoContent));
+    assert_equal(&rt, refuse_place(Kind::Name, false), None);
     Ok(())
 }

@@ -1,6 +1,7 @@
 //! What no clause says: images and faults from outside by readers of all kinds, the number of reads,
 //! and refused memory.
 
+mod asserts;
 mod bodies;
 mod growths;
 mod header_sizes;
@@ -15,14 +16,8 @@ mod streams;
 use hunk_files::Row;
 use hunk_scatter::stream::{Standing, Stop, take_piece};
 use hunk_scatter::{Image, Limits, Placer, load};
-use hunk_testing::assertions;
 use hunk_words::{LoadFault, Source};
 use std::alloc::{AllocError, Global};
-
-/// Assertions, each a call.
-struct Assert;
-
-assertions!(Assert);
 
 /// Limits that no example meets.
 const AMPLE: Limits = Limits {

@@ -1,6 +1,7 @@
 //! How many bytes a block has, or where it is refused and why.
 
-use crate::tests::{Assert, Row, answer, wanted};
+use crate::tests::asserts::assert_equal_at;
+use crate::tests::{Row, answer, wanted};
 use hunk_blocks::Mode;
 use hunk_testing::{bytes_of, examples, spelled};
 use hunk_words::{BlockFault, Reason};
@@ -13,7 +14,7 @@ fn expect(rt: &impl Abort, alloc: Global, rows: &[Row], mode: Mode) -> Result<()
     for (text, number, reason) in rows {
         let bytes = spelled(alloc, text)?;
         let want = wanted(*number, *reason);
-        Assert::equal_at(rt, answer(alloc, &bytes, mode), want, text);
+        assert_equal_at(rt, answer(alloc, &bytes, mode), want, text);
     }
     Ok(())
 }
@@ -82,7 +83,7 @@ fn expect_in_one_mode(
         answer(alloc, &bytes, Mode::Load),
         answer(alloc, &bytes, Mode::Object),
     );
-    Assert::equal_at(rt, answers, (load, Ok(8)), word);
+    assert_equal_at(rt, answers, (load, Ok(8)), word);
     Ok(())
 }
 
@@ -149,7 +150,7 @@ fn of_each_type_of_entry(rt: HostRuntime) -> Result<(), Fail> {
             _ => (DEFINITION, wanted(4, Some(Reason::ExtKind))),
         };
         let got = answer_of_entry(rt.alloc(), number, behind)?;
-        Assert::equal_at(&rt, got, want, number);
+        assert_equal_at(&rt, got, want, number);
     }
     Ok(())
 }

@@ -1,6 +1,6 @@
 //! The types of EXT entries: their numbers, names, shapes and widths.
 
-use crate::tests::Assert;
+use crate::tests::asserts::{assert_equal, assert_equal_at};
 use hunk_blocks::{Block, Body, Entries, ExtKind, ExtShape, Mode};
 use hunk_testing::spelled;
 use hunk_words::BlockFault;
@@ -66,12 +66,12 @@ const TYPES: &[(ExtKind, u8, &str, ExtShape, Option<u64>)] = &[
 #[test]
 fn of_each_type(rt: HostRuntime) -> Result<(), Fail> {
     for (kind, code, name, shape, width) in TYPES {
-        Assert::equal(
+        assert_equal(
             &rt,
             (ExtKind::from_code(*code), kind.code()),
             (Some(*kind), *code),
         );
-        Assert::equal(
+        assert_equal(
             &rt,
             (kind.name(), kind.shape(), kind.width()),
             (*name, *shape, *width),
@@ -86,7 +86,7 @@ const REFUSED: &[u8] = &[3, 4, 127, 128, 140, 255];
 #[test]
 fn of_no_type(rt: HostRuntime) -> Result<(), Fail> {
     for code in REFUSED {
-        Assert::equal_at(&rt, ExtKind::from_code(*code), None, code);
+        assert_equal_at(&rt, ExtKind::from_code(*code), None, code);
     }
     Ok(())
 }
@@ -124,7 +124,7 @@ fn shapes_in(alloc: Global, bytes: &[u8]) -> Result<Vec<Shaped>, Fail> {
 fn of_entries(rt: HostRuntime) -> Result<(), Fail> {
     let bytes = spelled(rt.alloc(), ENTRIES)?;
     let found = shapes_in(rt.alloc(), &bytes)?;
-    Assert::equal(&rt, found.as_slice(), SHAPED);
+    assert_equal(&rt, found.as_slice(), SHAPED);
     Ok(())
 }
 
@@ -150,7 +150,7 @@ fn expect_content(
     want: Option<u64>,
 ) -> Result<(), Fail> {
     let bytes = spelled(alloc, text)?;
-    Assert::equal_at(rt, content_of(alloc, &bytes), Ok(want), text);
+    assert_equal_at(rt, content_of(alloc, &bytes), Ok(want), text);
     Ok(())
 }
 

@@ -1,6 +1,6 @@
 //! Each growth of a block's list refused in turn: at the first item, and at the fifth.
 
-use crate::tests::Assert;
+use crate::tests::asserts::assert_equal;
 use hunk_blocks::{Block, Mode};
 use hunk_testing::{answers_growth_by_growth, memory_ends, spelled};
 use hunk_words::{BlockFault, Reason};
@@ -38,7 +38,7 @@ fn expect(rt: &impl Abort, alloc: Global, text: &str, places: [u64; 2]) -> Resul
     )?;
     let [first, fifth] = places;
     let want = [refused_at(first), refused_at(fifth), None];
-    Assert::equal(rt, answers.as_slice(), want.as_slice());
+    assert_equal(rt, answers.as_slice(), want.as_slice());
     Ok(())
 }
 

@@ -1,6 +1,7 @@
 //! Blocks while no growth is granted.
 
-use crate::tests::{Assert, Row, answer, wanted};
+use crate::tests::asserts::assert_equal_at;
+use crate::tests::{Row, answer, wanted};
 use hunk_blocks::Mode;
 use hunk_testing::{all_memory, memory_ends, spelled};
 use hunk_words::{BlockFault, Reason};
@@ -21,7 +22,7 @@ fn starved(alloc: Global, text: &str, mode: Mode) -> Result<Result<usize, BlockF
 fn expect(rt: &impl Abort, alloc: Global, rows: &[Row], mode: Mode) -> Result<(), Fail> {
     for (text, number, reason) in rows {
         let got = starved(alloc, text, mode)?;
-        Assert::equal_at(rt, got, wanted(*number, *reason), text);
+        assert_equal_at(rt, got, wanted(*number, *reason), text);
     }
     Ok(())
 }

@@ -1,6 +1,6 @@
 //! What a block that was read tells.
 
-use crate::tests::Assert;
+use crate::tests::asserts::{assert_equal, assert_equal_at};
 use hunk_blocks::{Block, Body, Entries, Entry, Group, Groups, Longs, Mode, Payload, Symbols};
 use hunk_testing::{examples, spelled};
 use std::alloc::{AllocError, Global};
@@ -145,8 +145,8 @@ fn expect(
 ) -> Result<(), Fail> {
     let bytes = spelled(alloc, text)?;
     let (count, got_front, got) = told(alloc, &bytes, mode)?;
-    Assert::equal_at(rt, (count, got_front), (bytes.len(), *front), text);
-    Assert::equal_at(rt, got.as_slice(), *numbers, text);
+    assert_equal_at(rt, (count, got_front), (bytes.len(), *front), text);
+    assert_equal_at(rt, got.as_slice(), *numbers, text);
     Ok(())
 }
 
@@ -247,6 +247,6 @@ fn in_object_files(rt: HostRuntime) -> Result<(), Fail> {
 #[test]
 fn of_a_payload(rt: HostRuntime) -> Result<(), Fail> {
     let payload = Payload::of(b"name".as_slice());
-    Assert::equal(&rt, payload.bytes(), b"name".as_slice());
+    assert_equal(&rt, payload.bytes(), b"name".as_slice());
     Ok(())
 }

@@ -1,6 +1,6 @@
 //! Texts that are written again, whole and to sinks that stop.
 
-use crate::tests::Assert;
+use crate::tests::asserts::assert_equal;
 use crate::tests::texts::TEXTS;
 use hunk_blocks::{Block, Mode};
 use hunk_testing::{Narrow, WIDTH, spelled};
@@ -18,7 +18,7 @@ fn expect_cut_short(rt: &impl Abort, alloc: Global, bytes: &[u8]) {
         };
         match Block::decode(alloc, &bytes[..n], Mode::Object) {
             Ok(_) => panic!(rt; "a block of {n} bytes"),
-            Err(fault) => Assert::equal(rt, fault, want),
+            Err(fault) => assert_equal(rt, fault, want),
         }
     }
 }
@@ -27,7 +27,7 @@ fn expect_cut_short(rt: &impl Abort, alloc: Global, bytes: &[u8]) {
 fn written_of(rt: &impl Abort, alloc: Global, block: &Block<'_>) -> Vec<u8> {
     let mut writer = LongWriter::new(FromWrite::new(Vec::<u8>::new(alloc)));
     assert!(rt; block.encoded_len() < 1000);
-    Assert::equal(rt, block.encode(&mut writer), Ok(()));
+    assert_equal(rt, block.encode(&mut writer), Ok(()));
     writer.into_inner().into_inner()
 }
 
@@ -42,8 +42,8 @@ fn expect_again(rt: &impl Abort, alloc: Global, text: &[u8]) -> Result<(), Fail>
     let mut bytes = text.to_vec(alloc)?;
     bytes.extend_from_slice(b"further".as_slice())?;
     let (count, len, again) = again(rt, alloc, &bytes)?;
-    Assert::equal(rt, (count, len), (text.len(), text.len() as u64));
-    Assert::equal(rt, again.as_slice(), text);
+    assert_equal(rt, (count, len), (text.len(), text.len() as u64));
+    assert_equal(rt, again.as_slice(), text);
     Ok(())
 }
 
@@ -76,10 +76,10 @@ fn expect_stop(rt: &impl Abort, block: &Block<'_>, text: &[u8], room: usize, tak
     let written = room as u64;
     let fault = Err(WriteFault { written });
     let mut writer = LongWriter::new(FromWrite::new(Narrow::new(room, WIDTH, takes_none)));
-    Assert::equal(rt, answers(rt, &mut writer, block), (fault, written, fault));
+    assert_equal(rt, answers(rt, &mut writer, block), (fault, written, fault));
     let narrow = writer.into_inner().into_inner();
     assert!(rt; room <= text.len());
-    Assert::equal(rt, narrow.taken(), &text[..room]);
+    assert_equal(rt, narrow.taken(), &text[..room]);
 }
 
 /// Sees the same of each room that is too small, of a writer that fails then and of one that takes none.
@@ -106,7 +106,7 @@ fn to_a_sink_that_stops(rt: HostRuntime) -> Result<(), Fail> {
 fn six_bytes(rt: HostRuntime) -> Result<(), Fail> {
     let bytes = spelled(rt.alloc(), "3E9 1 4E754E71")?;
     let (block, _) = Block::decode(rt.alloc(), bytes.as_slice(), Mode::Load)?;
-    Assert::equal(&rt, block.encoded_len(), 12);
+    assert_equal(&rt, block.encoded_len(), 12);
     expect_stop(&rt, &block, &[0, 0, 3, 0xE9, 0, 0], 6, false);
     Ok(())
 }

@@ -1,6 +1,6 @@
 //! A survey of a folder, with files.
 
-use crate::tests::Assert;
+use crate::tests::asserts::assert_equal;
 use hunk_callers::{Collection, survey_folder};
 use hunk_testing::{examples, spelled};
 use std::fs;
@@ -51,12 +51,12 @@ fn surveys_a_folder(rt: HostRuntime) -> Result<(), Fail> {
     let removed = fs::remove_dir_all(&rt, &folder);
     let found = found?;
     removed?;
-    Assert::equal(
+    assert_equal(
         &rt,
         (found.programs, found.segment_bytes, found.symbols),
         (2, 16, 1),
     );
-    Assert::equal(
+    assert_equal(
         &rt,
         (found.objects, found.findings, found.rejected),
         (1, 2, 1),

@@ -1,6 +1,7 @@
 //! The conformance suite beside the examples of hunk_testing, and its bytes while memory is refused.
 
-use crate::tests::{Assert, load_files};
+use crate::tests::asserts::{assert_equal, assert_equal_at};
+use crate::tests::load_files;
 use hunk_commands::unhex;
 use hunk_testing::{
     CHANGES, Change, answers_growth_by_growth, changed, ends_within_debug, examples, memory_ends,
@@ -74,7 +75,7 @@ fn expect_text(
 ) -> Result<(), Fail> {
     let text = texts.get(place).copied().unwrap_or("none");
     let bytes = unhex(alloc, text.as_bytes())?;
-    Assert::equal_at(rt, bytes.as_slice(), want, place);
+    assert_equal_at(rt, bytes.as_slice(), want, place);
     Ok(())
 }
 
@@ -146,7 +147,7 @@ fn expect_change(rt: &impl Abort, alloc: Global, place: usize) -> Result<(), Fai
     };
     let bytes = unhex(alloc, vector.text.as_bytes())?;
     let answers = answers_of_changes(alloc, bytes.as_slice())?;
-    Assert::equal_at(rt, answers.as_slice(), [vector.want].as_slice(), place);
+    assert_equal_at(rt, answers.as_slice(), [vector.want].as_slice(), place);
     Ok(())
 }
 
@@ -179,7 +180,7 @@ fn expect_growths<F: Fn() -> Result<Vec<u8>, AllocError>>(
 {
     let answers = answers_growth_by_growth(alloc, || shortfall(call(), want))?;
     let refused = Some(Some(AllocError));
-    Assert::equal(rt, answers.as_slice(), [refused, None].as_slice());
+    assert_equal(rt, answers.as_slice(), [refused, None].as_slice());
     Ok(())
 }
 

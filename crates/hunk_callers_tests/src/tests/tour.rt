@@ -1,6 +1,7 @@
 //! A little of each library, on the suite.
 
-use crate::tests::{Assert, load_files, words};
+use crate::tests::asserts::{assert_equal, assert_equal_at};
+use crate::tests::{load_files, words};
 use hunk_callers::{Seen, tour};
 use hunk_vectors::{Vector, Want};
 use std::alloc::Global;
@@ -21,9 +22,9 @@ const ONE_HUNK: &str =
 fn of_one_hunk(rt: HostRuntime) -> Result<(), Fail> {
     let line = ["hunkinfo", "validate", "--hex"].as_slice();
     let seen = toured(rt.alloc(), line, ONE_HUNK)?;
-    Assert::equal(&rt, (seen.code, seen.loaded), (4, 4));
+    assert_equal(&rt, (seen.code, seen.loaded), (4, 4));
     let report = seen.report.as_slice();
-    Assert::equal(&rt, report, b"load file 1 hunks 4 bytes\n".as_slice());
+    assert_equal(&rt, report, b"load file 1 hunks 4 bytes\n".as_slice());
     let line = ["hunkinfo", "show", "--hex"].as_slice();
     let other = toured(rt.alloc(), line, ONE_HUNK);
     assert!(rt; other.is_err());
@@ -50,7 +51,7 @@ fn of_the_suite(rt: HostRuntime) -> Result<(), Fail> {
     let line = ["hunkinfo", "validate", "--hex"].as_slice();
     for vector in load_files() {
         let got = loaded(rt.alloc(), line, vector.text);
-        Assert::equal_at(&rt, got, declared(vector), vector.text);
+        assert_equal_at(&rt, got, declared(vector), vector.text);
     }
     Ok(())
 }

@@ -1,7 +1,7 @@
 //! The commands on files of both kinds, by any source and to a writer that may fail.
 ghost use Rattle.std.specs.Prelude.{◌≡◌};
 
-use crate::tests::Assert;
+use crate::tests::asserts::assert_equal;
 use crate::tests::relocating::{BASE, LIMITS};
 use hunk_commands::{RunFault, relocate, rewrite, show, validate};
 use hunk_scatter::Limits;
@@ -159,9 +159,9 @@ pub(super) fn expect_outcome(
     fault: Option<RunFault>,
     output: &[u8],
 ) {
-    Assert::equal(rt, got.fault, fault);
-    Assert::equal(rt, got.written, output.len() as u64);
-    Assert::equal(rt, got.narrow.taken(), output);
+    assert_equal(rt, got.fault, fault);
+    assert_equal(rt, got.written, output.len() as u64);
+    assert_equal(rt, got.narrow.taken(), output);
 }
 
 /// A writer with room for all.

@@ -1,5 +1,5 @@
 //! The lines and statuses of faults.
-use crate::tests::Assert;
+use crate::tests::asserts::{assert_equal, assert_equal_at};
 use hunk_commands::RunFault;
 use hunk_words::{Fault, Reason};
 use std::alloc::{AllocError, Global};
@@ -43,8 +43,8 @@ fn expect_line(
     status: u8,
 ) -> Result<(), AllocError> {
     let got = format!(in alloc; "{fault}")?;
-    Assert::equal(rt, got.as_str(), line);
-    Assert::equal_at(rt, fault.status(), status, line);
+    assert_equal(rt, got.as_str(), line);
+    assert_equal_at(rt, fault.status(), status, line);
     Ok(())
 }
 
@@ -69,8 +69,8 @@ fn answer(growth: Result<(), AllocError>) -> Result<(), RunFault> {
 
 #[test]
 fn out_of_memory(rt: HostRuntime) -> Result<(), Fail> {
-    Assert::equal(&rt, RunFault::from(AllocError), RunFault::Memory);
-    Assert::equal(&rt, answer(Err(AllocError)), Err(RunFault::Memory));
-    Assert::equal(&rt, answer(Ok(())), Ok(()));
+    assert_equal(&rt, RunFault::from(AllocError), RunFault::Memory);
+    assert_equal(&rt, answer(Err(AllocError)), Err(RunFault::Memory));
+    assert_equal(&rt, answer(Ok(())), Ok(()));
     Ok(())
 }

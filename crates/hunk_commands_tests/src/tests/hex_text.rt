@@ -1,5 +1,5 @@
 //! Which bytes a hexadecimal text spells.
-use crate::tests::Assert;
+use crate::tests::asserts::{assert_equal, assert_equal_at};
 use hunk_commands::{RunFault, read_hex, unhex};
 use hunk_testing::{Fed, Then, answers_growth_by_growth, memory_ends};
 use hunk_words::{Fault, Reason};
@@ -22,7 +22,7 @@ const SPELLED: &[(&str, &[u8])] = &[
 fn spells(rt: HostRuntime) -> Result<(), Fail> {
     for (text, want) in SPELLED {
         let got = unhex(rt.alloc(), text.as_bytes())?;
-        Assert::equal_at(&rt, got.as_slice(), *want, text);
+        assert_equal_at(&rt, got.as_slice(), *want, text);
     }
     Ok(())
 }
@@ -36,7 +36,7 @@ const UNSPELLED: &[&str] = &[
 fn spells_none(rt: HostRuntime) {
     for text in UNSPELLED {
         let got = unhex(rt.alloc(), text.as_bytes()).err();
-        Assert::equal_at(&rt, got, Some(RunFault::HexText), text);
+        assert_equal_at(&rt, got, Some(RunFault::HexText), text);
     }
 }
 
@@ -103,11 +103,11 @@ fn refuses_at_the_end(rt: HostRuntime) -> Result<(), Fail> {
     let alloc = rt.alloc();
     for step in STEPS {
         let got = refusal(alloc, &text, *step, Then::Ends, place + 1);
-        Assert::equal(&rt, got, Some(RunFault::HexText));
+        assert_equal(&rt, got, Some(RunFault::HexText));
         let got = refusal(alloc, &text, *step, Then::Fails, place + 1);
-        Assert::equal(&rt, got, Some(RunFault::Read { place }));
+        assert_equal(&rt, got, Some(RunFault::Read { place }));
         let got = refusal(alloc, &text, *step, Then::Ends, place);
-        Assert::equal(&rt, got, Some(limit));
+        assert_equal(&rt, got, Some(limit));
     }
     Ok(())
 }
@@ -132,7 +132,7 @@ fn expect_growths<F: Fn() -> Result<Vec<u8>, RunFault>>(
 {
     let answers = answers_growth_by_growth(alloc, || shortfall(call(), bytes))?;
     let want = [Some(Some(RunFault::Memory)), None];
-    Assert::equal(rt, answers.as_slice(), want.as_slice());
+    assert_equal(rt, answers.as_slice(), want.as_slice());
     Ok(())
 }
 

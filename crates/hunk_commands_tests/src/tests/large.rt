@@ -1,6 +1,6 @@
 //! The commands on files with many of each part, and on large ones: none gives up.
 
-use crate::tests::Assert;
+use crate::tests::asserts::assert_equal_at;
 use crate::tests::calls::{Call, called};
 use crate::tests::relocating::BASE;
 use hunk_scatter::Limits;
@@ -25,7 +25,7 @@ const LIMITS: Limits = Limits {
 fn expect(rt: &impl Abort, alloc: Global, call: Call, bytes: &[u8], want: &[u8]) {
     let mut source = FromSlice::new(bytes);
     let (fault, _, text) = called(alloc, call, &mut source, Vec::<u8>::new(alloc), LIMITS);
-    Assert::equal_at(rt, fault, None, call);
+    assert_equal_at(rt, fault, None, call);
     assert!(rt; text.as_slice() == want, "at {call:?}");
 }
 
@@ -201,7 +201,7 @@ const LARGE_OBJECT_REPORT: &[u8] = b"object file 1 units 0 findings\n";
 /// Sees that a call puts this many bytes.
 fn expect_count(rt: &impl Abort, alloc: Global, call: Call, bytes: &[u8], want: usize) {
     let (fault, count, _) = called(alloc, call, &mut FromSlice::new(bytes), io::sink(), LIMITS);
-    Assert::equal_at(rt, (fault, count), (None, want as u64), call);
+    assert_equal_at(rt, (fault, count), (None, want as u64), call);
 }
 
 #[test]

@@ -1,6 +1,6 @@
 //! What `show`, `validate` and `rewrite` make of the sample files.
 
-use crate::tests::Assert;
+use crate::tests::asserts::assert_equal_at;
 use crate::tests::calls::{Call, LIMIT, expect_outcome, made_of, roomy};
 use crate::tests::samples::{AGAIN, Again, BAD, CHECKED, SHOWN, input};
 use hunk_commands::{Rewritten, RunFault, rewrite, validate};
@@ -19,8 +19,8 @@ fn expect_done(
     output: &[u8],
 ) {
     let got = made_of(rt.alloc(), call, bytes, roomy());
-    Assert::equal_at(rt, got.fault, None, name);
-    Assert::equal_at(rt, got.narrow.taken(), output, name);
+    assert_equal_at(rt, got.fault, None, name);
+    assert_equal_at(rt, got.narrow.taken(), output, name);
 }
 
 /// The same where the output is text.
@@ -47,7 +47,7 @@ fn validates(rt: HostRuntime) -> Result<(), Fail> {
     for sample in &CHECKED {
         let bytes = input(rt.alloc(), sample.file, sample.rest)?;
         let count = count_findings(rt.alloc(), &bytes);
-        Assert::equal_at(&rt, count, Ok(sample.count), sample.name);
+        assert_equal_at(&rt, count, Ok(sample.count), sample.name);
         expect_text(&rt, Call::Validate, sample.name, &bytes, sample.text);
     }
     Ok(())
@@ -65,7 +65,7 @@ fn expect_rewritten(rt: &(impl Abort + AllocGlobal), sample: &Again, bytes: &[u8
         rest: sample.rest as u64,
     };
     let got = rewritten(rt.alloc(), bytes, sample.strip);
-    Assert::equal_at(rt, got, Ok(done), sample.name);
+    assert_equal_at(rt, got, Ok(done), sample.name);
     let call = if sample.strip {
         Call::Strip
     } else {

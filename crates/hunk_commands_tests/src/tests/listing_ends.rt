@@ -1,6 +1,6 @@
 //! The commands over input that is longer than they may read.
 
-use crate::tests::Assert;
+use crate::tests::asserts::{assert_equal, assert_equal_at};
 use crate::tests::calls::{Call, LIMIT, Outcome, expect_outcome, made_within, roomy};
 use hunk_commands::RunFault;
 use hunk_testing::{Fed, Then, before_end, examples, spelled};
@@ -24,7 +24,7 @@ fn expect_limit(rt: &impl Abort, got: &Outcome, file_bytes: u64, given: usize) {
         reason: Reason::FileLimit,
     });
     expect_outcome(rt, got, Some(fault), &[]);
-    Assert::equal(rt, given as u64, file_bytes);
+    assert_equal(rt, given as u64, file_bytes);
 }
 
 /// Sees that each call reads as much as it may, and no more, of what the source gives.
@@ -72,7 +72,7 @@ fn fault_and_given(alloc: Global, call: Call, bytes: &[u8]) -> (Option<RunFault>
 fn each_is_done(rt: &impl Abort, alloc: Global, calls: &[Call], bytes: &[u8]) {
     for call in calls {
         let got = fault_and_given(alloc, *call, bytes);
-        Assert::equal_at(rt, got, (None, bytes.len()), call);
+        assert_equal_at(rt, got, (None, bytes.len()), call);
     }
 }
 
@@ -82,7 +82,7 @@ fn files_of_about_the_limit(rt: HostRuntime) -> Result<(), Fail> {
     let alloc = rt.alloc();
     let (longer, as_long) = (with_debug_data(alloc, 239)?, with_debug_data(alloc, 238)?);
     let shorter = with_debug_data(alloc, 237)?;
-    Assert::equal(
+    assert_equal(
         &rt,
         (longer.len(), as_long.len(), shorter.len()),
         (1_004, 1_000, 996),

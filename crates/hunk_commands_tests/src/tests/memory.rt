@@ -1,6 +1,6 @@
 //! The engine functions with each of their growths refused in turn.
 
-use crate::tests::Assert;
+use crate::tests::asserts::{assert_equal, assert_equal_at};
 use crate::tests::calls::{Call, Case, Outcome, input_and_output, made_of, roomy};
 use hunk_commands::RunFault;
 use hunk_testing::{answers_growth_by_growth, examples, memory_ends};
@@ -161,17 +161,17 @@ fn expect_growths(
     cases: &[Case],
     sizes: &[usize],
 ) -> Result<(), Fail> {
-    Assert::equal(rt, RunFault::Memory.status(), 4);
-    Assert::equal(rt, cases.len(), sizes.len());
+    assert_equal(rt, RunFault::Memory.status(), 4);
+    assert_equal(rt, cases.len(), sizes.len());
     for (case, size) in cases.iter().zip(sizes) {
         let (input, output) = input_and_output(alloc, case)?;
-        Assert::equal(rt, output.len(), *size);
+        assert_equal(rt, output.len(), *size);
         let answers = answers_growth_by_growth(
             alloc,
             || shortfall(alloc, case.call, input.as_slice(), output.as_slice()),
         )?;
         let want = [Some((Some(RunFault::Memory), 0)), None];
-        Assert::equal_at(
+        assert_equal_at(
             rt,
             answers.as_slice(),
             want.as_slice(),

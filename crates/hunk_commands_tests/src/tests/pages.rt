@@ -1,6 +1,6 @@
 //! A listing of more than a page, to writers that stop where its pages end.
 
-use crate::tests::Assert;
+use crate::tests::asserts::assert_equal;
 use hunk_commands::{RunFault, show};
 use hunk_testing::bytes_of;
 use hunk_words::{FromSlice, FromWrite, LongWriter};
@@ -66,7 +66,7 @@ fn expect_front(
     let written = room as u64;
     let fault = RunFault::Write { written };
     let got = shown(rt.alloc(), bytes, taken.as_mut_slice());
-    Assert::equal(rt, got, (Some(fault), written));
+    assert_equal(rt, got, (Some(fault), written));
     assert!(rt; whole.starts_with(taken.as_slice()), "at {room:?}");
     Ok(())
 }
@@ -76,7 +76,7 @@ fn stops_where_a_page_ends(rt: HostRuntime) -> Result<(), Fail> {
     let bytes = file(rt.alloc(), 8_000)?;
     let (size, page) = sizes(rt.alloc(), &bytes)?;
     let mut whole = vec![in rt.alloc(); 0u8; size as usize]?;
-    Assert::equal(
+    assert_equal(
         &rt,
         shown(rt.alloc(), bytes.as_slice(), whole.as_mut_slice()),
         (None, size),

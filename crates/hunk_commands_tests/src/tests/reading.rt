@@ -1,6 +1,6 @@
 //! Sources that fail at each read in turn, and then would go on.
 
-use crate::tests::Assert;
+use crate::tests::asserts::assert_equal;
 use crate::tests::calls::{CASES, Call, Outcome, expect_outcome, input_and_output, made, roomy};
 use hunk_commands::RunFault;
 use hunk_testing::{FailsOnce, Interrupted};
@@ -36,7 +36,7 @@ fn one_read_fails(
         };
         if place < reads {
             expect_unread(rt, &got, place);
-            Assert::equal(rt, source.given(), place);
+            assert_equal(rt, source.given(), place);
         } else {
             expect_outcome(rt, &got, None, output);
         }

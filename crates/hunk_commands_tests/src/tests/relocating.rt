@@ -1,6 +1,6 @@
 //! What `relocate` prints and refuses, by the examples.
 
-use crate::tests::Assert;
+use crate::tests::asserts::assert_equal;
 use crate::tests::calls::{Outcome, expect_outcome, roomy};
 use hunk_commands::{RunFault, relocate};
 use hunk_scatter::Limits;
@@ -136,7 +136,7 @@ fn leaves_what_follows(rt: HostRuntime) -> Result<(), Fail> {
     expect_printed(&rt, &bytes, BASE, PRINTED);
     for (base, budget, left) in LEFT {
         let got = left_behind(rt.alloc(), &bytes, *budget, *base);
-        Assert::equal(&rt, got, (*left == 7, Some(*left)));
+        assert_equal(&rt, got, (*left == 7, Some(*left)));
     }
     Ok(())
 }
@@ -269,7 +269,7 @@ fn reading_fails_in_mid_stream(rt: HostRuntime) -> Result<(), Fail> {
 fn writing_fails_after_each_byte(rt: HostRuntime) -> Result<(), Fail> {
     let bytes = spelled(rt.alloc(), examples::ONE_HUNK)?;
     let text = PRINTED.as_bytes();
-    Assert::equal(&rt, text.len(), 42);
+    assert_equal(&rt, text.len(), 42);
     for n in 0..42usize {
         let fault = RunFault::Write { written: n as u64 };
         for step in [1, 5, WIDTH] {

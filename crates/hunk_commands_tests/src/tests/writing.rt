@@ -1,6 +1,6 @@
 //! Writers that take this many bytes, and then fail or take none.
 
-use crate::tests::Assert;
+use crate::tests::asserts::assert_equal;
 use crate::tests::calls::{CASES, Call, Case, expect_outcome, input_and_output, made_of};
 use hunk_commands::RunFault;
 use hunk_testing::Narrow;
@@ -47,7 +47,7 @@ fn expect_whole(
     size: usize,
 ) -> Result<(), AllocError> {
     let (input, output) = input_and_output(alloc, case)?;
-    Assert::equal(rt, output.len(), size);
+    assert_equal(rt, output.len(), size);
     let narrow = Narrow::new(size, 7, false);
     let got = made_of(alloc, case.call, &input, narrow);
     expect_outcome(rt, &got, None, &output);
@@ -59,7 +59,7 @@ const WRITTEN: &[usize] = &[124, 93, 27, 117, 64, 44, 40, 92];
 
 #[test]
 fn whole_writes(rt: HostRuntime) -> Result<(), Fail> {
-    Assert::equal(&rt, CASES.len(), WRITTEN.len());
+    assert_equal(&rt, CASES.len(), WRITTEN.len());
     for (case, size) in CASES.iter().zip(WRITTEN) {
         expect_whole(&rt, rt.alloc(), case, *size)?;
     }

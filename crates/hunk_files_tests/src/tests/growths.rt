@@ -1,6 +1,7 @@
 //! Each growth of each call refused in turn, on files of several hunks and units.
 
-use crate::tests::{Assert, either_file, image, load_file, object_file, overlap, stripped};
+use crate::tests::asserts::{assert_equal, assert_equal_at};
+use crate::tests::{either_file, image, load_file, object_file, overlap, stripped};
 use hunk_files::{HunkFile, ImageFault, LoadFile, ObjectFile};
 use hunk_testing::{
     Narrow, all_but, answers_growth_by_growth, examples, memory_ends, spelled, wide,
@@ -49,7 +50,7 @@ fn expect_check(rt: &impl Abort, alloc: Global, text: &str) -> Result<(), Fail> 
     let file = object_file(rt, alloc, &bytes);
     let answers = answers_growth_by_growth(alloc, || check_fault(alloc, &file))?;
     let want = [Some("out of memory"), None];
-    Assert::equal_at(rt, answers.as_slice(), want.as_slice(), text);
+    assert_equal_at(rt, answers.as_slice(), want.as_slice(), text);
     Ok(())
 }
 
@@ -100,14 +101,14 @@ fn of_an_overlap_and_an_image(rt: HostRuntime) -> Result<(), Fail> {
     }
     let bytes = spelled(rt.alloc(), examples::FIVE_HUNKS)?;
     let overlaps = overlap_answers(&rt, rt.alloc(), &bytes)?;
-    Assert::equal(
+    assert_equal(
         &rt,
         overlaps.as_slice(),
         [Some("out of memory"), None].as_slice(),
     );
     let images = image_answers(&rt, rt.alloc(), &bytes, &[0; 5])?;
     let refused = Some(ImageFault::OutOfMemory);
-    Assert::equal(&rt, images.as_slice(), [refused, None].as_slice());
+    assert_equal(&rt, images.as_slice(), [refused, None].as_slice());
     Ok(())
 }
 
@@ -155,9 +156,9 @@ fn none_of_a_strip(rt: HostRuntime) -> Result<(), Fail> {
         return Ok(());
     }
     let load = blocks_left(&rt, rt.alloc(), &spelled(rt.alloc(), examples::FIVE_HUNKS)?)?;
-    Assert::equal(&rt, load.as_slice(), [3, 2, 2, 2, 2].as_slice());
+    assert_equal(&rt, load.as_slice(), [3, 2, 2, 2, 2].as_slice());
     let object = blocks_left(&rt, rt.alloc(), &spelled(rt.alloc(), examples::TWO_UNITS)?)?;
-    Assert::equal(&rt, object.as_slice(), [4, 2, 2].as_slice());
+    assert_equal(&rt, object.as_slice(), [4, 2, 2].as_slice());
     Ok(())
 }
 
@@ -185,7 +186,7 @@ fn none_of_a_text(rt: HostRuntime) -> Result<(), Fail> {
         examples::TWO_UNITS,
     ] {
         let bytes = spelled(rt.alloc(), text)?;
-        Assert::equal(
+        assert_equal(
             &rt,
             written(&rt, rt.alloc(), &bytes).taken(),
             bytes.as_slice(),
@@ -214,6 +215,6 @@ fn none_of_an_image_that_is_refused(rt: HostRuntime) -> Result<(), Fail> {
     let bytes = spelled(rt.alloc(), examples::FIVE_HUNKS)?;
     let got = starved_images(&rt, rt.alloc(), &bytes);
     let amiss = Some(ImageFault::BaseCount);
-    Assert::equal(&rt, got, [amiss, amiss, Some(ImageFault::OutOfMemory)]);
+    assert_equal(&rt, got, [amiss, amiss, Some(ImageFault::OutOfMemory)]);
     Ok(())
 }

@@ -1,6 +1,7 @@
 //! The memory of load files, and the offsets whose longs overlap.
 
-use crate::tests::{Assert, image, load_file, overlap};
+use crate::tests::asserts::{assert_equal, assert_equal_at};
+use crate::tests::{image, load_file, overlap};
 use hunk_files::ImageFault;
 use hunk_testing::{CHANGES, before_end, bytes_of, changed, ends_within_debug, examples, spelled};
 use std::alloc::{AllocError, Global};
@@ -67,7 +68,7 @@ fn expect_image(
     let bytes = spelled(alloc, text)?;
     let want = bytes_of(alloc, want)?;
     let got = image_of(rt, alloc, &bytes, bases);
-    Assert::equal_at(rt, got, Ok(want), example);
+    assert_equal_at(rt, got, Ok(want), example);
     Ok(())
 }
 
@@ -85,14 +86,14 @@ fn image_of_a_stripped_file(rt: HostRuntime) -> Result<(), Fail> {
     let bytes = spelled(rt.alloc(), examples::RELOCATED_BEHIND_SYMBOLS)?;
     let stripped = load_file(&rt, rt.alloc(), &bytes).strip();
     let got = image(rt.alloc(), &stripped, &[0x100]);
-    Assert::equal(&rt, got, Ok(bytes_of(rt.alloc(), &[0x110])?));
+    assert_equal(&rt, got, Ok(bytes_of(rt.alloc(), &[0x110])?));
     Ok(())
 }
 
 /// Sees that the bytes have example 1's image.
 fn expect_same_image(rt: &impl Abort, alloc: Global, bytes: &[u8]) -> Result<(), Fail> {
     let want = bytes_of(alloc, &[0x4E75_4E71])?;
-    Assert::equal(rt, image_of(rt, alloc, bytes, &[0x21000]), Ok(want));
+    assert_equal(rt, image_of(rt, alloc, bytes, &[0x21000]), Ok(want));
     Ok(())
 }
 
@@ -123,7 +124,7 @@ fn wrong_number_of_bases(rt: HostRuntime) -> Result<(), Fail> {
     for (text, bases) in WRONG_BASES {
         let bytes = spelled(rt.alloc(), text)?;
         let got = image_of(&rt, rt.alloc(), &bytes, bases);
-        Assert::equal(&rt, got, Err(ImageFault::BaseCount));
+        assert_equal(&rt, got, Err(ImageFault::BaseCount));
     }
     Ok(())
 }
@@ -137,7 +138,7 @@ const TEXTS_OF_FAULTS: &[(ImageFault, &str)] = &[
 fn texts_of_faults(rt: HostRuntime) -> Result<(), Fail> {
     for (fault, want) in TEXTS_OF_FAULTS {
         let text = format!(in rt.alloc(); "{fault}")?;
-        Assert::equal(&rt, text.as_str(), *want);
+        assert_equal(&rt, text.as_str(), *want);
     }
     Ok(())
 }
@@ -155,7 +156,7 @@ fn overlaps(rt: HostRuntime) -> Result<(), Fail> {
     for (text, want) in OVERLAPS {
         let bytes = spelled(rt.alloc(), text)?;
         let got = overlap_of(&rt, rt.alloc(), &bytes)?;
-        Assert::equal_at(&rt, got, *want, text);
+        assert_equal_at(&rt, got, *want, text);
     }
     Ok(())
 }

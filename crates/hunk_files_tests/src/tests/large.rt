@@ -1,10 +1,11 @@
 //! Files with many of each part, and large ones: no call gives up on them.
 
+use crate::tests::answers;
+use crate::tests::asserts::assert_equal;
 use crate::tests::hunk_file::{expect, rewritten};
 use crate::tests::images::{image_of, overlap_of};
 use crate::tests::object_findings::checked;
 use crate::tests::object_refusals::units_in;
-use crate::tests::{Assert, answers};
 use hunk_testing::large::{
     HUNKS, LARGE, LOAD_FILE, MANY, OBJECT_FILE, Run, SHORT_OF_64_MIB, STRIPPED_LOAD_FILE,
     STRIPPED_OBJECT_FILE, bytes_of_runs, large_load_file, large_object_file,
@@ -61,7 +62,7 @@ fn many_relocations(rt: HostRuntime) -> Result<(), Fail> {
     let bytes = bytes_of_runs(alloc, LOAD_FILE)?;
     let counts = (HUNKS, SIZE as u64, bytes.len());
     answers::expect(&rt, alloc, &bytes, Ok(counts));
-    Assert::equal(&rt, overlap_of(&rt, alloc, &bytes)?, None);
+    assert_equal(&rt, overlap_of(&rt, alloc, &bytes)?, None);
     expect_image(&rt, alloc, (&bytes, HUNKS as usize), &image_of_many(alloc)?)?;
     Ok(())
 }
@@ -70,15 +71,15 @@ fn many_relocations(rt: HostRuntime) -> Result<(), Fail> {
 fn many_findings(rt: HostRuntime) -> Result<(), Fail> {
     let alloc = rt.alloc();
     let bytes = bytes_of_runs(alloc, OBJECT_FILE)?;
-    Assert::equal(&rt, units_in(alloc, &bytes), Ok(MANY as usize));
-    Assert::equal(&rt, checked(&rt, alloc, &bytes).len(), MANY as usize);
+    assert_equal(&rt, units_in(alloc, &bytes), Ok(MANY as usize));
+    assert_equal(&rt, checked(&rt, alloc, &bytes).len(), MANY as usize);
     Ok(())
 }
 
 /// Sees that the file that the bytes are is written in as many bytes, stripped too: none of it can be left out.
 fn expect_length(rt: &impl Abort, alloc: Global, bytes: &[u8]) {
     let (again, _) = rewritten(rt, alloc, bytes, true);
-    Assert::equal(rt, again.len(), bytes.len());
+    assert_equal(rt, again.len(), bytes.len());
 }
 
 #[test]
@@ -91,7 +92,7 @@ fn large_files_again(rt: HostRuntime) -> Result<(), Fail> {
 /// Sees that the load file's hunk has this many bytes.
 fn expect_size(rt: &impl Abort, alloc: Global, bytes: &[u8], size: usize) {
     let image = image_of(rt, alloc, bytes, &[0]).expect(rt, "no image");
-    Assert::equal(rt, image.len(), size);
+    assert_equal(rt, image.len(), size);
 }
 
 #[test]

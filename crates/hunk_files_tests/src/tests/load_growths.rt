@@ -1,7 +1,8 @@
 //! Each growth of `LoadFile::decode` refused in turn, with the place of the refusal.
 
+use crate::tests::asserts::assert_equal;
 use crate::tests::growths::wanted;
-use crate::tests::{Assert, load_fault};
+use crate::tests::load_fault;
 use hunk_testing::{answers_growth_by_growth, answers_one_by_one, examples, memory_ends, spelled};
 use std::alloc::Global;
 use std::process::Abort;
@@ -22,7 +23,7 @@ const OF_SIX_BLOCKS: &[u64] = &[20, 28, 60, 64];
 fn expect(rt: &impl Abort, alloc: Global, text: &str, places: &[u64]) -> Result<(), Fail> {
     let bytes = spelled(alloc, text)?;
     let answers = answers_growth_by_growth(alloc, || load_fault(alloc, &bytes))?;
-    Assert::equal(rt, answers, wanted(alloc, places)?);
+    assert_equal(rt, answers, wanted(alloc, places)?);
     Ok(())
 }
 
@@ -65,6 +66,6 @@ fn of_five_hunks(rt: HostRuntime) -> Result<(), Fail> {
     let alloc = rt.alloc();
     let bytes = spelled(alloc, FIVE)?;
     let answers = answers_one_by_one(alloc, || load_fault(alloc, &bytes))?;
-    Assert::equal(&rt, answers, wanted(alloc, OF_FIVE)?);
+    assert_equal(&rt, answers, wanted(alloc, OF_FIVE)?);
     Ok(())
 }

@@ -1,6 +1,7 @@
 //! Load files while no growth is granted.
 
-use crate::tests::{Assert, image, load_file, object_fault, overlap};
+use crate::tests::asserts::{assert_equal, assert_equal_at};
+use crate::tests::{image, load_file, object_fault, overlap};
 use hunk_files::{ImageFault, LoadFile};
 use hunk_testing::{all_memory, examples, memory_ends, spelled};
 use hunk_words::{FileFault, Reason};
@@ -33,7 +34,7 @@ fn expect(rt: &impl Abort, alloc: Global, rows: Refused) -> Result<(), Fail> {
             place: *place,
             reason: *reason,
         };
-        Assert::equal_at(rt, starved(alloc, text)?, Err(want), text);
+        assert_equal_at(rt, starved(alloc, text)?, Err(want), text);
     }
     Ok(())
 }
@@ -98,13 +99,13 @@ fn no_memory_for_an_object(rt: HostRuntime) -> Result<(), Fail> {
     }
     for text in BEFORE_A_FAULT {
         let memory = answered(rt.alloc(), text, true)?;
-        Assert::equal_at(&rt, memory, fault_at(16, Reason::OutOfMemory), text);
+        assert_equal_at(&rt, memory, fault_at(16, Reason::OutOfMemory), text);
         let refusal = answered(rt.alloc(), text, false)?;
-        Assert::equal_at(&rt, refusal, fault_at(20, Reason::Overlay), text);
+        assert_equal_at(&rt, refusal, fault_at(20, Reason::Overlay), text);
     }
     let both_bits = "3E7 0 / C00003E9 1 4E754E71 / 3F2";
     let refusal = answered(rt.alloc(), both_bits, true)?;
-    Assert::equal(&rt, refusal, fault_at(8, Reason::BothBits));
+    assert_equal(&rt, refusal, fault_at(8, Reason::BothBits));
     Ok(())
 }
 
@@ -115,7 +116,7 @@ fn fault_at(place: u64, reason: Reason) -> Option<FileFault> {
 /// What is wrong with `image` of a file of one hunk and whether `overlap` is refused, with the next growth refused.
 fn starved_image(rt: &impl Abort, alloc: Global, bytes: &[u8]) -> (Option<ImageFault>, bool) {
     let file = load_file(rt, alloc, bytes);
-    Assert::equal(rt, file.hunks(), 1);
+    assert_equal(rt, file.hunks(), 1);
     let pieces = all_memory(alloc).expect(rt, "no memory");
     let image = image(alloc, &file, &[0x21000]).err();
     let overlap = overlap(rt, alloc, &file).is_err();
@@ -130,6 +131,6 @@ fn no_memory_for_an_image(rt: HostRuntime) -> Result<(), Fail> {
     }
     let bytes = spelled(rt.alloc(), examples::RELOCATED_ALONE)?;
     let got = starved_image(&rt, rt.alloc(), &bytes);
-    Assert::equal(&rt, got, (Some(ImageFault::OutOfMemory), true));
+    assert_equal(&rt, got, (Some(ImageFault::OutOfMemory), true));
     Ok(())
 }

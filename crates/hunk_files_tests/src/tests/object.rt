@@ -1,6 +1,6 @@
 //! Which object files are read, and where the others are refused and why.
 
-use crate::tests::Assert;
+use crate::tests::asserts::{assert_equal, assert_equal_at};
 use hunk_files::ObjectFile;
 use hunk_testing::{bytes_of, examples, spelled};
 use hunk_words::{FileFault, Reason};
@@ -48,7 +48,7 @@ const ACCEPTED: &[(&str, (usize, usize, usize))] = &[
 fn accepted(rt: HostRuntime) -> Result<(), Fail> {
     for (text, want) in ACCEPTED {
         let bytes = spelled(rt.alloc(), text)?;
-        Assert::equal_at(&rt, answer(rt.alloc(), &bytes), Ok(*want), text);
+        assert_equal_at(&rt, answer(rt.alloc(), &bytes), Ok(*want), text);
     }
     Ok(())
 }
@@ -60,7 +60,7 @@ type Refused = &'static [(&'static str, u64, Reason)];
 fn expect_refused(rt: &impl Abort, alloc: Global, rows: Refused) -> Result<(), Fail> {
     for (text, place, reason) in rows {
         let bytes = spelled(alloc, text)?;
-        Assert::equal_at(rt, answer(alloc, &bytes), refused(*place, *reason), text);
+        assert_equal_at(rt, answer(alloc, &bytes), refused(*place, *reason), text);
     }
     Ok(())
 }
@@ -107,7 +107,7 @@ fn expect(
     reason: Reason,
 ) -> Result<(), Fail> {
     let got = answer_of(alloc, longs)?;
-    Assert::equal_at(rt, got, refused(place, reason), longs);
+    assert_equal_at(rt, got, refused(place, reason), longs);
     Ok(())
 }
 
@@ -195,7 +195,7 @@ fn cut_short(rt: HostRuntime) -> Result<(), Fail> {
     let bytes = spelled(rt.alloc(), CUT_SHORT)?;
     for n in 0..bytes.len() + 1 {
         let got = answer(rt.alloc(), &bytes[..n]);
-        Assert::equal_at(&rt, got, answer_to_front(n), n);
+        assert_equal_at(&rt, got, answer_to_front(n), n);
     }
     Ok(())
 }
@@ -207,7 +207,7 @@ fn bytes_over(rt: HostRuntime) -> Result<(), Fail> {
     for _ in 0..3u8 {
         bytes.push(0)?;
         let want = refused(8, Reason::Truncated);
-        Assert::equal(&rt, answer(rt.alloc(), bytes.as_slice()), want);
+        assert_equal(&rt, answer(rt.alloc(), bytes.as_slice()), want);
     }
     Ok(())
 }
@@ -225,7 +225,7 @@ fn units(alloc: Global, count: u32) -> Result<Vec<u8>, AllocError> {
 fn expect_names(rt: &impl Abort, file: &ObjectFile) {
     for (number, unit) in file.units().iter().enumerate() {
         let name = (number as u64).to_be_bytes();
-        Assert::equal(rt, unit.name().bytes(), &name[4..]);
+        assert_equal(rt, unit.name().bytes(), &name[4..]);
     }
 }
 
@@ -233,7 +233,7 @@ fn expect_names(rt: &impl Abort, file: &ObjectFile) {
 fn many_units(rt: HostRuntime) -> Result<(), Fail> {
     let bytes = units(rt.alloc(), 500)?;
     let file = ObjectFile::decode(rt.alloc(), &bytes)?;
-    Assert::equal(&rt, counts(&file), (500, 1000, 2000));
+    assert_equal(&rt, counts(&file), (500, 1000, 2000));
     expect_names(&rt, &file);
     Ok(())
 }

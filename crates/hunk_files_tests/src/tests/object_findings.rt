@@ -1,6 +1,7 @@
 //! What `check` finds.
 
-use crate::tests::{Assert, object_file};
+use crate::tests::asserts::{assert_equal, assert_equal_at};
+use crate::tests::object_file;
 use hunk_files::{Finding, FindingKind, Findings};
 use hunk_testing::{bytes_of, examples, spelled};
 use std::alloc::{AllocError, Global};
@@ -83,7 +84,7 @@ fn expect_findings(
     want: &[Finding],
 ) -> Result<(), Fail> {
     let found = findings_in(rt, alloc, bytes)?;
-    Assert::equal(rt, found.as_slice(), want);
+    assert_equal(rt, found.as_slice(), want);
     Ok(())
 }
 
@@ -106,7 +107,7 @@ fn expect(
     let bytes = spelled(alloc, text)?;
     let want = all_found(alloc, want)?;
     let found = findings_in(rt, alloc, &bytes)?;
-    Assert::equal_at(rt, found, want, example);
+    assert_equal_at(rt, found, want, example);
     Ok(())
 }
 

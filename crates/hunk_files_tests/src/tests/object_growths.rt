@@ -1,7 +1,8 @@
 //! Each growth of `ObjectFile::decode` refused in turn, with the place of the refusal.
 
+use crate::tests::asserts::assert_equal;
 use crate::tests::growths::wanted;
-use crate::tests::{Assert, object_fault};
+use crate::tests::object_fault;
 use hunk_testing::{answers_growth_by_growth, answers_one_by_one, examples, memory_ends, spelled};
 use std::alloc::Global;
 use std::process::Abort;
@@ -19,7 +20,7 @@ fn of_two_units(rt: HostRuntime) -> Result<(), Fail> {
     let alloc = rt.alloc();
     let bytes = spelled(alloc, examples::TWO_UNITS)?;
     let answers = answers_growth_by_growth(alloc, || object_fault(alloc, &bytes))?;
-    Assert::equal(&rt, answers, wanted(alloc, OF_TWO_UNITS)?);
+    assert_equal(&rt, answers, wanted(alloc, OF_TWO_UNITS)?);
     Ok(())
 }
 
@@ -29,7 +30,7 @@ fn of_two_units(rt: HostRuntime) -> Result<(), Fail> {
 fn expect(rt: &impl Abort, alloc: Global, text: &str, places: &[u64]) -> Result<(), Fail> {
     let bytes = spelled(alloc, text)?;
     let answers = answers_one_by_one(alloc, || object_fault(alloc, &bytes))?;
-    Assert::equal(rt, answers, wanted(alloc, places)?);
+    assert_equal(rt, answers, wanted(alloc, places)?);
     Ok(())
 }
 

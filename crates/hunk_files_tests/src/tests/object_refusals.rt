@@ -1,6 +1,7 @@
 //! Every refusal of docs/FORMAT.md at every place of a file of two units, three hunks and an EXT block.
 
-use crate::tests::{Assert, object_fault};
+use crate::tests::asserts::assert_equal_at;
+use crate::tests::object_fault;
 use hunk_files::ObjectFile;
 use hunk_testing::{changed_in, spelled};
 use hunk_words::{FileFault, Reason};
@@ -245,7 +246,7 @@ fn prefixes(rt: HostRuntime) -> Result<(), Fail> {
                 reason: Reason::Truncated,
             }),
         };
-        Assert::equal_at(&rt, got, want, n);
+        assert_equal_at(&rt, got, want, n);
     }
     Ok(())
 }

@@ -1,7 +1,8 @@
 //! Object files that are written again, whole and stripped.
 ghost use Rattle.std.specs.Prelude.{◌≡◌};
 
-use crate::tests::{Assert, object_file};
+use crate::tests::asserts::assert_equal;
+use crate::tests::object_file;
 use hunk_blocks::Body;
 use hunk_files::ObjectFile;
 use hunk_testing::{examples, spelled};
@@ -53,7 +54,7 @@ fn expect(
     want: &[u8],
 ) -> Result<(), Fail> {
     let (count, text) = rewritten(alloc, bytes, strip)?;
-    Assert::equal(rt, (count, text.as_slice()), (want.len() as u64, want));
+    assert_equal(rt, (count, text.as_slice()), (want.len() as u64, want));
     Ok(())
 }
 

@@ -1,6 +1,7 @@
 //! What the readers of a load file tell.
 
-use crate::tests::{Assert, load_file};
+use crate::tests::asserts::{assert_equal, assert_equal_at};
+use crate::tests::load_file;
 use hunk_files::{LoadFile, Row, Sniff, sniff};
 use hunk_testing::{examples, spelled};
 use hunk_words::{BlockWord, Memory};
@@ -39,7 +40,7 @@ fn tables_and_blocks(rt: HostRuntime) -> Result<(), Fail> {
         ),
         (Memory::Any, 4, 2, Some(BlockWord::of(0x3EB))),
     ];
-    Assert::equal(&rt, found.as_slice(), want.as_slice());
+    assert_equal(&rt, found.as_slice(), want.as_slice());
     Ok(())
 }
 
@@ -56,7 +57,7 @@ const SNIFFS: &[(&str, Sniff)] = &[
 fn sniffs(rt: HostRuntime) -> Result<(), Fail> {
     for (text, want) in SNIFFS {
         let bytes = spelled(rt.alloc(), text)?;
-        Assert::equal_at(&rt, sniff(bytes.as_slice()), *want, text);
+        assert_equal_at(&rt, sniff(bytes.as_slice()), *want, text);
     }
     Ok(())
 }
@@ -64,7 +65,7 @@ fn sniffs(rt: HostRuntime) -> Result<(), Fail> {
 /// The first three bytes of a load file announce none.
 #[test]
 fn sniffs_no_longword(rt: HostRuntime) -> Result<(), Fail> {
-    Assert::equal(&rt, sniff(&[0, 0, 3]), Sniff::Other);
+    assert_equal(&rt, sniff(&[0, 0, 3]), Sniff::Other);
     Ok(())
 }
 
@@ -76,7 +77,7 @@ fn rows(rt: HostRuntime) -> Result<(), Fail> {
         base: 0x21000,
     };
     let size = row.size();
-    Assert::equal(
+    assert_equal(
         &rt,
         (size.memory(), size.bytes()),
         (Memory::Attributes(0x10004), 8),

@@ -1,6 +1,7 @@
 //! Which files are read and written, and what is printed of them.
+use crate::tests::asserts::assert_equal_at;
 use crate::tests::made::Given;
-use crate::tests::{ANY, Assert, At, OTHER, Row, expect, expect_of, ran};
+use crate::tests::{ANY, At, OTHER, Row, expect, expect_of, ran};
 use hunk_testing::{examples, spelled};
 use std::alloc::Global;
 use std::process::Abort;
@@ -216,11 +217,11 @@ fn expect_rewritten(
     };
     for (line, printed, status, name, count) in rows {
         let ran = ran(alloc, given, ANY, line)?;
-        Assert::equal_at(rt, ran.text.as_str(), *printed, line);
-        Assert::equal_at(rt, ran.status, *status, line);
+        assert_equal_at(rt, ran.text.as_str(), *printed, line);
+        assert_equal_at(rt, ran.status, *status, line);
         let mut created = name.as_bytes().to_vec(alloc)?;
         created.extend_from_slice(&want[..want.len().min(*count)])?;
-        Assert::equal_at(rt, ran.created, created, line);
+        assert_equal_at(rt, ran.created, created, line);
     }
     Ok(())
 }

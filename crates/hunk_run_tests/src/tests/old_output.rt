@@ -1,6 +1,6 @@
 //! What becomes of an OUT that is there, with files.
 
-use crate::tests::Assert;
+use crate::tests::asserts::assert_equal;
 use hunk_run::run;
 use hunk_testing::{examples, spelled};
 use hunk_words::{FromWrite, LongWriter};
@@ -81,9 +81,9 @@ fn rewritten(rt: &HostRuntime, bytes: &[u8]) -> Result<After, Fail> {
 /// Sees that the rewriting of these bytes ended so, and left the input as it was and these bytes in
 /// the output.
 fn expect(rt: &impl Abort, after: &After, bytes: &[u8], want: &[u8], status: u8) {
-    Assert::equal(rt, after.status, status);
-    Assert::equal(rt, after.output.as_slice(), want);
-    Assert::equal(rt, after.input.as_slice(), bytes);
+    assert_equal(rt, after.status, status);
+    assert_equal(rt, after.output.as_slice(), want);
+    assert_equal(rt, after.input.as_slice(), bytes);
 }
 
 #[test]

@@ -1,6 +1,7 @@
 //! What runs print, and the statuses that they end with.
+use crate::tests::asserts::assert_equal_at;
 use crate::tests::made::Given;
-use crate::tests::{ANY, Assert, At, OTHER, Row, expect, expect_of, ran};
+use crate::tests::{ANY, At, OTHER, Row, expect, expect_of, ran};
 use hunk_testing::{examples, spelled};
 use std::alloc::Global;
 use std::process::Abort;
@@ -256,7 +257,7 @@ fn expect_unwritten(
     let whole = ran(alloc, given, ANY, line)?.text;
     for room in [0, 1, 10, whole.len() - whole.len().min(1)] {
         let part = ran(alloc, given, room, line)?;
-        Assert::equal_at(rt, part.status, 3, line);
+        assert_equal_at(rt, part.status, 3, line);
         assert!(rt;
             part.text.len() == room && whole.starts_with(part.text.as_str()),
             "at {line:?}"
@@ -316,7 +317,7 @@ fn expect_help(rt: &impl Abort, alloc: Global, line: &str, parts: &[&str]) -> Re
         fails: false,
     };
     let ran = ran(alloc, given, ANY, line)?;
-    Assert::equal_at(rt, ran.status, 0, line);
+    assert_equal_at(rt, ran.status, 0, line);
     for part in parts {
         assert!(rt; ran.text.contains(*part), "at {:?}", (part, line));
     }

@@ -1,8 +1,9 @@
 //! Loads and loaders of headers while each growth that they ask for is refused in turn.
 
+use crate::tests::asserts::assert_equal_at;
 use crate::tests::headers::fed;
 use crate::tests::loads::START;
-use crate::tests::{AMPLE, Assert, loaded};
+use crate::tests::{AMPLE, loaded};
 use hunk_testing::{Fed, Then, answers_growth_by_growth, memory_ends, spelled};
 use hunk_words::{LoadFault, Reason};
 use std::alloc::Global;
@@ -69,13 +70,13 @@ fn expect_growths(
 ) -> Result<(), Fail> {
     let bytes = spelled(alloc, text)?;
     let answers = answers_growth_by_growth(alloc, || shortfall(alloc, bytes.as_slice(), want))?;
-    Assert::equal_at(rt, answers.len(), places.len() + 1, text);
+    assert_equal_at(rt, answers.len(), places.len() + 1, text);
     let reason = Reason::OutOfMemory;
     for (place, answer) in places.iter().zip(answers.as_slice()) {
         let place = *place;
-        Assert::equal_at(rt, *answer, Some(Some(LoadFault { place, reason })), text);
+        assert_equal_at(rt, *answer, Some(Some(LoadFault { place, reason })), text);
     }
-    Assert::equal_at(rt, answers.last().copied(), Some(None), text);
+    assert_equal_at(rt, answers.last().copied(), Some(None), text);
     Ok(())
 }
 
@@ -143,14 +144,14 @@ fn expect_feeds(
 ) -> Result<(), Fail> {
     let header = spelled(alloc, text)?;
     let answers = answers_growth_by_growth(alloc, || feeding(alloc, header.as_slice(), held))?;
-    Assert::equal_at(rt, answers.len(), places.len() + 1, text);
+    assert_equal_at(rt, answers.len(), places.len() + 1, text);
     let reason = Reason::OutOfMemory;
     for (place, answer) in places.iter().zip(answers.as_slice()) {
         let place = *place;
         let refused = Err(LoadFault { place, reason });
-        Assert::equal_at(rt, *answer, Some((refused, 0)), text);
+        assert_equal_at(rt, *answer, Some((refused, 0)), text);
     }
-    Assert::equal_at(rt, answers.last().copied(), Some(None), text);
+    assert_equal_at(rt, answers.last().copied(), Some(None), text);
     Ok(())
 }
 

@@ -1,7 +1,8 @@
 //! The size of a header, read in place.
 
+use crate::tests::asserts::{assert_equal, assert_equal_at};
+use crate::tests::cut_at;
 use crate::tests::headers::ANSWERS;
-use crate::tests::{Assert, cut_at};
 use hunk_scatter::stream::{HeaderSize, header_size};
 use hunk_testing::examples::{FIVE_HUNKS, ONE_HUNK, TWO_HUNKS, WITH_ATTRIBUTES};
 use hunk_testing::spelled;
@@ -51,7 +52,7 @@ fn expect_truncated(rt: &impl Abort, header: &[u8]) {
         let (front, _) = cut_at(header, cut);
         let place = 4 * (cut as u64 / 4);
         let reason = Reason::Truncated;
-        Assert::equal_at(
+        assert_equal_at(
             rt,
             header_size(front, 1_000),
             Err(LoadFault { place, reason }),
@@ -63,16 +64,16 @@ fn expect_truncated(rt: &impl Abort, header: &[u8]) {
 /// Sees the size of the file's header, of the header alone, of a part of it, and by a byte less than
 /// its hunks declare.
 fn expect_size(rt: &impl Abort, file: &[u8], want: HeaderSize) {
-    Assert::equal(rt, header_size(file, want.declared), Ok(want));
+    assert_equal(rt, header_size(file, want.declared), Ok(want));
     let (header, _) = cut_at(file, want.bytes as usize);
-    Assert::equal(rt, header_size(header, want.declared), Ok(want));
+    assert_equal(rt, header_size(header, want.declared), Ok(want));
     expect_truncated(rt, header);
     let budget = want.declared.saturating_sub(1);
     let last = LoadFault {
         place: want.bytes.saturating_sub(4),
         reason: Reason::Budget,
     };
-    Assert::equal(rt, header_size(file, budget), Err(last));
+    assert_equal(rt, header_size(file, budget), Err(last));
 }
 
 #[test]
@@ -93,7 +94,7 @@ fn answers_in_place(rt: HostRuntime) -> Result<(), Fail> {
             Ok(size) => Ok(size.declared),
             Err(fault) => Err((fault.place, fault.reason)),
         };
-        Assert::equal_at(&rt, got, *want, text);
+        assert_equal_at(&rt, got, *want, text);
     }
     Ok(())
 }

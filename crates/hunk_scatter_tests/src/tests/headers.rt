@@ -1,7 +1,7 @@
 //! Headers, tables and placing by themselves.
 ghost use Rattle.std.specs.Prelude.{◌≤◌, length};
 
-use crate::tests::Assert;
+use crate::tests::asserts::{assert_equal, assert_equal_at};
 use hunk_files::Row;
 use hunk_scatter::{BodyLoader, Declared, HeaderLoader, Listed, Packed, Placer, Unplaced};
 use hunk_testing::examples::{
@@ -80,7 +80,7 @@ pub(super) fn declared(
 ) -> Result<Declared, Fail> {
     let bytes = spelled(alloc, text)?;
     let (loader, answer) = fed(alloc, bytes.as_slice(), 1_000);
-    Assert::equal(rt, answer, Ok(header));
+    assert_equal(rt, answer, Ok(header));
     match loader.declared() {
         Ok(declared) => Ok(declared),
         Err(_) => panic!(rt; "no table"),
@@ -131,11 +131,11 @@ fn expect_in_pieces(
 ) {
     for most in [1, 3, 256] {
         let got = in_pieces(rt, alloc, bytes, budget, most, most);
-        Assert::equal_at(rt, got, *want, most);
+        assert_equal_at(rt, got, *want, most);
     }
     for cut in 1..bytes.len() {
         let got = in_pieces(rt, alloc, bytes, budget, cut, 256);
-        Assert::equal_at(rt, got, *want, cut);
+        assert_equal_at(rt, got, *want, cut);
     }
 }
 
@@ -159,10 +159,10 @@ const WANTS: &[usize] = &[
 
 /// Feeds the bytes one by one, and sees what is wanted before each.
 fn expect_wants(rt: &impl Abort, counted: &mut Counted, bytes: &[u8], wants: &[usize]) {
-    Assert::equal(rt, bytes.len(), wants.len());
+    assert_equal(rt, bytes.len(), wants.len());
     for (byte, want) in bytes.iter().zip(wants) {
-        Assert::equal(rt, counted.counts().0, *want);
-        Assert::equal(rt, counted.feed(rt, &[*byte]), Ok(1));
+        assert_equal(rt, counted.counts().0, *want);
+        assert_equal(rt, counted.feed(rt, &[*byte]), Ok(1));
     }
 }
 
@@ -173,8 +173,8 @@ fn wants_what_rows_still_have(rt: HostRuntime) -> Result<(), Fail> {
     let bytes = spelled(rt.alloc(), "3F3 0 3 0 2 1 C0000002 10004 1")?;
     let mut counted = Counted::new(rt.alloc(), 1_000);
     expect_wants(&rt, &mut counted, bytes.as_slice(), WANTS);
-    Assert::equal(&rt, counted.counts().0, 0);
-    Assert::equal(&rt, counted.feed(&rt, b"follows"), Ok(0));
+    assert_equal(&rt, counted.counts().0, 0);
+    assert_equal(&rt, counted.feed(&rt, b"follows"), Ok(0));
     assert!(rt; counted.loader.declared().is_ok());
     Ok(())
 }
@@ -195,11 +195,11 @@ fn wants_at_most_a_buffer(rt: HostRuntime) -> Result<(), Fail> {
     let mut counted = Counted::new(rt.alloc(), 1_000);
     for (text, want) in OF_65_HUNKS {
         let piece = spelled(rt.alloc(), text)?;
-        Assert::equal(&rt, counted.feed(&rt, piece.as_slice()), Ok(piece.len()));
-        Assert::equal_at(&rt, counted.counts().0, *want, text);
+        assert_equal(&rt, counted.feed(&rt, piece.as_slice()), Ok(piece.len()));
+        assert_equal_at(&rt, counted.counts().0, *want, text);
     }
-    Assert::equal(&rt, counted.feed(&rt, [0].as_slice()), Ok(1));
-    Assert::equal(&rt, counted.counts().0, 239);
+    assert_equal(&rt, counted.feed(&rt, [0].as_slice()), Ok(1));
+    assert_equal(&rt, counted.counts().0, 239);
     Ok(())
 }
 
@@ -222,7 +222,7 @@ fn answers(rt: HostRuntime) -> Result<(), Fail> {
             Ok(bytes) => Ok(bytes),
             Err(fault) => Err((fault.place, fault.reason)),
         };
-        Assert::equal_at(&rt, got, *want, text);
+        assert_equal_at(&rt, got, *want, text);
     }
     Ok(())
 }
@@ -230,17 +230,17 @@ fn answers(rt: HostRuntime) -> Result<(), Fail> {
 fn expect_row(rt: &impl Abort, declared: &Declared, i: u32, memory: Memory, bytes: u64) {
     assert!(rt; i < declared.hunks());
     let row = declared.row(i);
-    Assert::equal(rt, row.size().memory(), memory);
-    Assert::equal(rt, row.size().bytes(), bytes);
-    Assert::equal(rt, row.base, 0);
+    assert_equal(rt, row.size().memory(), memory);
+    assert_equal(rt, row.size().bytes(), bytes);
+    assert_equal(rt, row.base, 0);
 }
 
 /// The table of example 8.
 #[test]
 fn tables(rt: HostRuntime) -> Result<(), Fail> {
     let declared = declared(&rt, rt.alloc(), WITH_ATTRIBUTES, 32)?;
-    Assert::equal(&rt, declared.hunks(), 2);
-    Assert::equal(&rt, declared.held(), 24);
+    assert_equal(&rt, declared.hunks(), 2);
+    assert_equal(&rt, declared.held(), 24);
     expect_row(&rt, &declared, 0, Memory::Attributes(0x10004), 8);
     expect_row(&rt, &declared, 1, Memory::Any, 4);
     Ok(())
@@ -251,12 +251,12 @@ pub(super) fn came_back(rt: &impl Abort, unplaced: Option<&Unplaced>, reason: Re
     let Some(unplaced) = unplaced else {
         panic!(rt; "placed");
     };
-    Assert::equal(rt, unplaced.reason, reason);
-    Assert::equal(rt, unplaced.declared.hunks(), 2);
-    Assert::equal(rt, unplaced.declared.total(), 12);
+    assert_equal(rt, unplaced.reason, reason);
+    assert_equal(rt, unplaced.declared.hunks(), 2);
+    assert_equal(rt, unplaced.declared.total(), 12);
     for i in 0..unplaced.declared.hunks() {
         let Row { word, extra, base } = unplaced.declared.row(i);
-        Assert::equal(rt, (word, extra, base), (if i == 0 { 2 } else { 1 }, 0, 0));
+        assert_equal(rt, (word, extra, base), (if i == 0 { 2 } else { 1 }, 0, 0));
     }
 }
 
@@ -268,7 +268,7 @@ fn placing(rt: HostRuntime) -> Result<(), Fail> {
     came_back(&rt, unplaced.as_ref(), Reason::NoBase(1));
     let again = unplaced.map(|unplaced| unplaced.declared);
     let loader = again.and_then(|declared| declared.place(&Packed { start: 0x10000 }).ok());
-    Assert::equal(&rt, loader.map(|loader| loader.held()), Some(36));
+    assert_equal(&rt, loader.map(|loader| loader.held()), Some(36));
     Ok(())
 }
 
@@ -295,7 +295,7 @@ fn packing(rt: HostRuntime) -> Result<(), Fail> {
         (0xFFFF_FFF8, 1, 8, None),
     ];
     for (start, i, before, want) in rows {
-        Assert::equal(&rt, packed_base(&rt, &declared, start, i, before), want);
+        assert_equal(&rt, packed_base(&rt, &declared, start, i, before), want);
     }
     let start = 0xFFFF_FFF8;
     let unplaced = declared.place(&Packed { start }).err();
@@ -311,7 +311,7 @@ fn unplaced_text(rt: HostRuntime) -> Result<(), Fail> {
         panic!(rt; "placed");
     };
     let text = format!(in rt.alloc(); "{unplaced}")?;
-    Assert::equal(&rt, text.as_str(), "refused at byte 28: NoBase (29) hunk 1");
+    assert_equal(&rt, text.as_str(), "refused at byte 28: NoBase (29) hunk 1");
     Ok(())
 }
 
@@ -320,10 +320,10 @@ fn unplaced_text(rt: HostRuntime) -> Result<(), Fail> {
 fn debug_texts(rt: HostRuntime) -> Result<(), Fail> {
     let header = HeaderLoader::new(rt.alloc(), 1000);
     let text = format!(in rt.alloc(); "{header:?}")?;
-    Assert::equal(&rt, text.as_str(), "HeaderLoader { held: 0, want: 24, .. }");
+    assert_equal(&rt, text.as_str(), "HeaderLoader { held: 0, want: 24, .. }");
     let loader = body(&rt, rt.alloc())?;
     let text = format!(in rt.alloc(); "{loader:?}")?;
-    Assert::equal(
+    assert_equal(
         &rt,
         text.as_str(),
         "BodyLoader { hunks: 1, fed: 24, refused: None, .. }",
@@ -344,8 +344,8 @@ pub(super) fn body(rt: &impl Abort, alloc: Global) -> Result<BodyLoader, Fail> {
 #[test]
 fn held(rt: HostRuntime) -> Result<(), Fail> {
     let loader = body(&rt, rt.alloc())?;
-    Assert::equal(&rt, loader.held(), 16);
-    Assert::equal(&rt, loader.fed(), 24);
+    assert_equal(&rt, loader.held(), 16);
+    assert_equal(&rt, loader.fed(), 24);
     assert!(rt; loader.want() > 0);
     assert!(rt; loader.finish().is_err());
     Ok(())
@@ -362,9 +362,9 @@ fn stays_refused(rt: HostRuntime) -> Result<(), Fail> {
     };
     for _ in 0..2u8 {
         let fed = counted.feed(&rt, bytes.as_slice());
-        Assert::equal(&rt, fed, Err(fault));
+        assert_equal(&rt, fed, Err(fault));
     }
-    Assert::equal(&rt, counted.counts(), (0, 0));
+    assert_equal(&rt, counted.counts(), (0, 0));
     assert!(rt; counted.loader.declared().is_err());
     Ok(())
 }

@@ -1,7 +1,8 @@
 //! What loaders hold, by what the allocator still gives beside them.
 ghost use Rattle.std.specs.Prelude.{None, false};
 
-use crate::tests::{Assert, headers, loaded};
+use crate::tests::asserts::{assert_equal, assert_equal_at};
+use crate::tests::{headers, loaded};
 use hunk_scatter::{BodyLoader, Declared, HeaderLoader, Image, Limits, Packed};
 use hunk_testing::{bytes_of, largest_piece, left_beside, memory_ends, spelled};
 use hunk_words::{Failed, LoadFault, Reason, Source};
@@ -82,8 +83,8 @@ fn rows_of_a_header(rt: HostRuntime) -> Result<(), Fail> {
     let bytes = front(rt.alloc(), 65_536, 64)?;
     let alloc = rt.alloc();
     let (loader, left) = left_beside(alloc, || fed(alloc, bytes.as_slice(), 10_000))?;
-    Assert::equal(&rt, loader.held(), 768);
-    Assert::equal(&rt, loader.want(), 256);
+    assert_equal(&rt, loader.held(), 768);
+    assert_equal(&rt, loader.want(), 256);
     expect_left(&rt, alloc, left, 64, 0)
 }
 
@@ -96,7 +97,7 @@ fn nothing_behind_a_refusal(rt: HostRuntime) -> Result<(), Fail> {
     let bytes = header(rt.alloc(), 64)?;
     let alloc = rt.alloc();
     let (loader, left) = left_beside(alloc, || fed(alloc, bytes.as_slice(), 4_200))?;
-    Assert::equal(&rt, (loader.want(), loader.held()), (0, 0));
+    assert_equal(&rt, (loader.want(), loader.held()), (0, 0));
     expect_left(&rt, alloc, left, 0, 0)
 }
 
@@ -109,7 +110,7 @@ fn rows_of_a_table(rt: HostRuntime) -> Result<(), Fail> {
     let bytes = header(rt.alloc(), HUNKS)?;
     let alloc = rt.alloc();
     let (table, left) = left_beside(alloc, || declared(alloc, bytes.as_slice()))?;
-    Assert::equal(&rt, table.map(|table| table.held()), Some(780));
+    assert_equal(&rt, table.map(|table| table.held()), Some(780));
     expect_left(&rt, alloc, left, HUNKS, 0)
 }
 
@@ -158,8 +159,8 @@ fn expect_loading(
     let Some((loader, answer)) = loading else {
         panic!(rt; "no loader");
     };
-    Assert::equal_at(rt, *answer, *want, text);
-    Assert::equal_at(rt, loader.held(), 780 + TOTAL as u64, text);
+    assert_equal_at(rt, *answer, *want, text);
+    assert_equal_at(rt, loader.held(), 780 + TOTAL as u64, text);
 }
 
 /// The rows and one store of the bytes that are declared, whatever was fed.
@@ -250,7 +251,7 @@ fn rows_and_store_of_a_load(rt: HostRuntime) -> Result<(), Fail> {
     let Some(image) = image else {
         panic!(rt; "no image");
     };
-    Assert::equal(
+    assert_equal(
         &rt,
         (image.hunks(), image.held()),
         (HUNKS, 780 + TOTAL as u64),

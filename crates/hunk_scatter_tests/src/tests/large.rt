@@ -1,6 +1,7 @@
 //! Files with many hunks and relocations, and large stores: no loader gives up on them.
 
-use crate::tests::{Assert, cut_at, loaded, piece_taken};
+use crate::tests::asserts::assert_equal;
+use crate::tests::{cut_at, loaded, piece_taken};
 use hunk_files::Row;
 use hunk_scatter::stream::begin;
 use hunk_scatter::{Image, Limits, Packed};
@@ -31,7 +32,7 @@ const ADDED: u32 = 675_880_000;
 fn image_of(rt: &impl Abort, alloc: Global, bytes: &[u8], most: usize) -> Image {
     let mut source = Fed::new(bytes, most, Then::Fails);
     let answer = loaded(alloc, &mut source, LIMITS, &Packed { start: START });
-    Assert::equal(rt, source.rest().len(), 0);
+    assert_equal(rt, source.rest().len(), 0);
     match answer {
         Ok(image) => image,
         Err(fault) => panic!(rt; "{fault:?}"),
@@ -43,21 +44,21 @@ fn expect_segments(rt: &impl Abort, image: &Image) {
     assert!(rt; image.hunks() == HUNKS);
     let mut base = START as u64;
     for (row, segment) in image.segments() {
-        Assert::equal(rt, row.base as u64, base);
+        assert_equal(rt, row.base as u64, base);
         if row.base == START {
             assert!(rt; segment.len() == 8);
-            Assert::equal(
+            assert_equal(
                 rt,
                 (word_at(segment, 0), word_at(segment, 1)),
                 (ADDED, ADDED),
             );
         } else {
-            Assert::equal(rt, segment, [0; 4].as_slice());
+            assert_equal(rt, segment, [0; 4].as_slice());
         }
         base = base.wrapping_add(segment.len() as u64);
     }
     for hunk in [1, 2_047, 2_048, 2_049, 4_095, 40_000, 65_535] {
-        Assert::equal(
+        assert_equal(
             rt,
             image.base(hunk),
             hunk.wrapping_mul(4).wrapping_add(START + 4),
@@ -79,11 +80,11 @@ fn many_hunks(rt: HostRuntime) -> Result<(), Fail> {
 fn large_stores(rt: HostRuntime) -> Result<(), Fail> {
     let alloc = rt.alloc();
     let image = image_of(&rt, alloc, &spelled(alloc, SHORT_OF_16_MIB)?, 1);
-    Assert::equal(&rt, image.bytes(), 1 << 24);
+    assert_equal(&rt, image.bytes(), 1 << 24);
     let image = image_of(&rt, alloc, &spelled(alloc, SHORT_OF_64_MIB)?, 1);
-    Assert::equal(&rt, image.bytes(), 1 << 26);
+    assert_equal(&rt, image.bytes(), 1 << 26);
     let image = image_of(&rt, alloc, &large_load_file(alloc)?, 256);
-    Assert::equal(&rt, image.bytes(), LARGE_HUNK as u64);
+    assert_equal(&rt, image.bytes(), LARGE_HUNK as u64);
     Ok(())
 }
 
@@ -111,7 +112,7 @@ fn expect_streamed(
     let Ok((at, _)) = piece_taken(store, rows, at, rest) else {
         panic!(rt; "the second piece");
     };
-    Assert::equal(rt, (at.is_whole(), at.fed), (true, bytes.len() as u64));
+    assert_equal(rt, (at.is_whole(), at.fed), (true, bytes.len() as u64));
 }
 
 fn rows_of(alloc: Global, image: &Image) -> Result<Vec<Row>, AllocError> {

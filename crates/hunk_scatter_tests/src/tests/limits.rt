@@ -1,7 +1,8 @@
 //! What a load reads and holds at most.
 
+use crate::tests::asserts::assert_equal;
 use crate::tests::loads::{START, Want, comes};
-use crate::tests::{AMPLE, Assert, cut_at, load_fault};
+use crate::tests::{AMPLE, cut_at, load_fault};
 use hunk_scatter::{Limits, Listed};
 use hunk_testing::examples::{ENDING_IN_ZEROS, ONE_HUNK, TWO_HUNKS};
 use hunk_testing::{FailsOnce, Fed, Interrupted, Then, spelled};
@@ -88,7 +89,7 @@ fn no_read(rt: HostRuntime) -> Result<(), Fail> {
     };
     let fault = load_fault(rt.alloc(), &mut source, none, &START);
     assert!(rt; fault.is_some());
-    Assert::equal(&rt, source.reads(), 0);
+    assert_equal(&rt, source.reads(), 0);
     Ok(())
 }
 
@@ -100,7 +101,7 @@ fn no_base(rt: HostRuntime) -> Result<(), Fail> {
     let one = Listed([0x10000].as_slice());
     let fault = load_fault(rt.alloc(), &mut source, AMPLE, &one);
     assert!(rt; fault.is_some());
-    Assert::equal(&rt, source.rest().len(), 56);
+    assert_equal(&rt, source.rest().len(), 56);
     Ok(())
 }
 
@@ -136,7 +137,7 @@ fn expect_stop(
         file_bytes,
     };
     let got = load_fault(alloc, source, limits, &START);
-    Assert::equal(rt, (got, source.reads()), (Some(fault), reads));
+    assert_equal(rt, (got, source.reads()), (Some(fault), reads));
 }
 
 /// A reader that fails, and one without end.
@@ -172,11 +173,11 @@ fn reads_nothing_again(rt: HostRuntime) -> Result<(), Fail> {
     for fails_at in 0..41 {
         let mut source = FailsOnce::new(one.as_slice(), fails_at);
         let fault = load_fault(rt.alloc(), &mut source, AMPLE, &START);
-        Assert::equal(&rt, source.given(), fails_at);
+        assert_equal(&rt, source.given(), fails_at);
         if fails_at == 40 {
             assert!(rt; fault.is_none() && !source.has_failed());
         } else {
-            Assert::equal(&rt, fault, failed_at(fails_at));
+            assert_equal(&rt, fault, failed_at(fails_at));
         }
     }
     Ok(())
@@ -189,7 +190,7 @@ fn interrupted(rt: HostRuntime) -> Result<(), Fail> {
     for place in 0..bytes.len() {
         let mut source = FromRead::new(Interrupted::new(bytes.as_slice(), place));
         let fault = load_fault(rt.alloc(), &mut source, AMPLE, &START);
-        Assert::equal(&rt, fault, failed_at(place));
+        assert_equal(&rt, fault, failed_at(place));
     }
     Ok(())
 }

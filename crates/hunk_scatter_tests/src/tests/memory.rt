@@ -1,8 +1,9 @@
 //! Loads while growths are refused.
 ghost use Rattle.std.specs.Prelude.{Option, slice_get};
 
+use crate::tests::asserts::{assert_equal, assert_equal_at};
 use crate::tests::headers::{Counted, came_back, declared, fed};
-use crate::tests::{AMPLE, Assert, load_fault, loaded};
+use crate::tests::{AMPLE, load_fault, loaded};
 use hunk_files::Row;
 use hunk_scatter::{Limits, Listed, Packed, Placer};
 use hunk_testing::examples::{MOST_HUNKS, TWO_HUNKS};
@@ -57,7 +58,7 @@ fn refused_first_growth(rt: HostRuntime) -> Result<(), Fail> {
     let fault = load_fault(rt.alloc(), &mut source, AMPLE, &BASES);
     drop(pieces);
     let reason = Reason::OutOfMemory;
-    Assert::equal(&rt, fault, Some(LoadFault { place: 20, reason }));
+    assert_equal(&rt, fault, Some(LoadFault { place: 20, reason }));
     Ok(())
 }
 
@@ -77,7 +78,7 @@ fn refused_last_growth(rt: HostRuntime) -> Result<(), Fail> {
     let fault = load_fault(rt.alloc(), &mut source, AMPLE, &placer);
     drop(placer);
     let reason = Reason::OutOfMemory;
-    Assert::equal(&rt, fault, Some(LoadFault { place: 28, reason }));
+    assert_equal(&rt, fault, Some(LoadFault { place: 28, reason }));
     Ok(())
 }
 
@@ -117,7 +118,7 @@ fn expect_held(
 ) -> Result<(), Fail> {
     let bytes = spelled(alloc, text)?;
     let held = held_in(alloc, bytes.as_slice(), rooms)?;
-    Assert::equal_at(rt, held, (Ok(bytes.len()), bytes_held), text);
+    assert_equal_at(rt, held, (Ok(bytes.len()), bytes_held), text);
     Ok(())
 }
 
@@ -171,8 +172,8 @@ fn two_growths(rt: HostRuntime) -> Result<(), Fail> {
     let bytes = ending_in_zeros(rt.alloc())?;
     let mut source = Fed::new(&bytes, 256, Then::Fails);
     let answer = loads_in_two_rooms(rt.alloc(), &mut source)?;
-    Assert::equal(&rt, answer, (Ok(4), true));
-    Assert::equal(&rt, source.given(), 1_048_624);
+    assert_equal(&rt, answer, (Ok(4), true));
+    assert_equal(&rt, source.given(), 1_048_624);
     Ok(())
 }
 
@@ -204,6 +205,6 @@ fn frees_rows(rt: HostRuntime) -> Result<(), Fail> {
     drop(held);
     let reason = Reason::Budget;
     let over = LoadFault { place: 24, reason };
-    Assert::equal(&rt, answers, [(Ok(24), true), (Err(over), true)]);
+    assert_equal(&rt, answers, [(Ok(24), true), (Err(over), true)]);
     Ok(())
 }

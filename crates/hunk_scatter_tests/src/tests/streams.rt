@@ -1,6 +1,7 @@
 //! A loader in memory that is its caller's: pieces cut at each byte, a refusal, and numbers of no loader.
 
-use crate::tests::{Assert, cut_at, piece_taken};
+use crate::tests::asserts::assert_equal;
+use crate::tests::{cut_at, piece_taken};
 use hunk_files::Row;
 use hunk_scatter::stream::{Standing, Stop, begin};
 use hunk_testing::examples::{
@@ -70,7 +71,7 @@ fn file_of(alloc: Global, text: &str, header: usize, table: Table) -> Result<Fil
 fn takes(rt: &impl Abort, store: &mut [u8], rows: &[Row], at: Standing, piece: &[u8]) -> Standing {
     match piece_taken(store, rows, at, piece) {
         Ok((to, taken)) => {
-            Assert::equal(rt, taken, piece.len());
+            assert_equal(rt, taken, piece.len());
             to
         }
         Err(stop) => panic!(rt; "{stop:?}"),
@@ -85,17 +86,17 @@ fn expect_store(rt: &impl Abort, file: &File, cut: usize, store: &mut [u8], want
     let first = begin(store, rows, file.header as u64);
     assert!(rt; !first.is_whole());
     let second = takes(rt, store, rows, first, front);
-    Assert::equal(rt, second.is_whole(), rest.is_empty());
+    assert_equal(rt, second.is_whole(), rest.is_empty());
     let third = takes(rt, store, rows, second, rest);
     assert!(rt; third.is_whole());
-    Assert::equal(rt, third.fed, file.bytes.len() as u64);
+    assert_equal(rt, third.fed, file.bytes.len() as u64);
     // Nothing is taken of what follows the file.
-    Assert::equal(
+    assert_equal(
         rt,
         piece_taken(store, rows, third, b"follows"),
         Ok((third, 0)),
     );
-    Assert::equal(rt, &*store, want);
+    assert_equal(rt, &*store, want);
 }
 
 /// The store is the same, wherever a file is cut, and whatever it had before.
@@ -126,9 +127,9 @@ fn expect_refusal(rt: &impl Abort, file: &File, cut: usize, fault: LoadFault) {
         Ok((second, _)) => {
             assert!(rt; second.fed < fault.place.saturating_add(4));
             let stop = piece_taken(store.as_mut_slice(), rows, second, rest);
-            Assert::equal(rt, stop, Err(Stop::Refused(fault)));
+            assert_equal(rt, stop, Err(Stop::Refused(fault)));
         }
-        Err(stop) => Assert::equal(rt, stop, Stop::Refused(fault)),
+        Err(stop) => assert_equal(rt, stop, Stop::Refused(fault)),
     }
 }
 
@@ -150,9 +151,9 @@ fn refused_in_two_pieces(rt: HostRuntime) -> Result<(), Fail> {
 /// Sees that numbers are found out, and nothing is written.
 fn expect_strange(rt: &impl Abort, rows: &[Row], store: &mut [u8], at: Standing) {
     let stop = piece_taken(store, rows, at, b"\0\0\x03\xE9");
-    Assert::equal(rt, stop, Err(Stop::Strange));
+    assert_equal(rt, stop, Err(Stop::Strange));
     for byte in store {
-        Assert::equal(rt, *byte, 0);
+        assert_equal(rt, *byte, 0);
     }
 }
 

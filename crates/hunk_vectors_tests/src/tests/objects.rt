@@ -1,6 +1,6 @@
 //! Each object file, and each front of it that is one, checked and written again.
 
-use crate::tests::Assert;
+use crate::tests::asserts::{assert_equal, assert_equal_at};
 use hunk_files::ObjectFile;
 use hunk_vectors::{OBJECT_TEXTS, OBJECTS, ObjectVector, ObjectWant, object_bytes};
 use hunk_words::{FromWrite, LongWriter};
@@ -43,15 +43,15 @@ fn expect(
     let Some(vector) = table.get(i) else {
         panic!(rt; "no {i}");
     };
-    Assert::equal(rt, vector.text, text);
-    Assert::equal(rt, 2 * bytes.len(), text.len());
-    Assert::equal_at(rt, answer(alloc, bytes)?, vector.want, i);
+    assert_equal(rt, vector.text, text);
+    assert_equal(rt, 2 * bytes.len(), text.len());
+    assert_equal_at(rt, answer(alloc, bytes)?, vector.want, i);
     Ok(())
 }
 
 #[test]
 fn answers(rt: HostRuntime) -> Result<(), Fail> {
-    Assert::equal(&rt, OBJECTS.len(), OBJECT_TEXTS.len());
+    assert_equal(&rt, OBJECTS.len(), OBJECT_TEXTS.len());
     for i in 0..OBJECT_TEXTS.len() {
         let bytes = object_bytes(rt.alloc(), i)?;
         expect(&rt, rt.alloc(), &OBJECTS, i, OBJECT_TEXTS[i], &bytes)?;

@@ -1,6 +1,6 @@
 //! A load by a reader of two pieces, beside the decoder of whole files.
 
-use crate::tests::Assert;
+use crate::tests::asserts::assert_equal_at;
 use hunk_files::LoadFile;
 use hunk_scatter::{Image, Limits, Packed, load};
 use hunk_testing::examples::{ONE_HUNK, WITH_ATTRIBUTES};
@@ -219,7 +219,7 @@ fn expect_fits(rt: &impl Abort, bytes: &[u8], decoded: Option<LoadFault>, want: 
 fn expect(rt: &impl Abort, alloc: Global, (text, decodes, loads): &Row) -> Result<(), Fail> {
     let bytes = spelled(alloc, text)?;
     let decoded = LoadFile::decode(alloc, &bytes).err();
-    Assert::equal_at(rt, decoded, fault_of(*decodes), text);
+    assert_equal_at(rt, decoded, fault_of(*decodes), text);
     expect_fits(rt, &bytes, decoded, fault_of(*loads));
     for cut in 0..bytes.len() {
         assert!(rt; agrees(alloc, &bytes, cut)?, "at {:?}", (text, cut));
@@ -248,7 +248,7 @@ fn expect_passes(rt: &impl Abort, bytes: &[u8], place: u64) {
         } else {
             None
         };
-        Assert::equal_at(rt, budget_passes_at(&bytes[..n]), want, n);
+        assert_equal_at(rt, budget_passes_at(&bytes[..n]), want, n);
     }
 }
 

@@ -1,6 +1,6 @@
 //! Each load file whole, and what each is to be answered with.
 
-use crate::tests::Assert;
+use crate::tests::asserts::{assert_equal, assert_equal_at};
 use crate::tests::readings::agrees;
 use hunk_files::LoadFile;
 use hunk_vectors::{LOAD_TEXTS, VECTORS, Vector, Want, bytes};
@@ -35,16 +35,16 @@ fn expect(
     let Some(vector) = table.get(i) else {
         panic!(rt; "no {i}");
     };
-    Assert::equal(rt, vector.text, text);
-    Assert::equal(rt, 2 * bytes.len(), text.len());
-    Assert::equal_at(rt, answer(alloc, bytes), vector.want, i);
+    assert_equal(rt, vector.text, text);
+    assert_equal(rt, 2 * bytes.len(), text.len());
+    assert_equal_at(rt, answer(alloc, bytes), vector.want, i);
     assert!(rt; agrees(alloc, bytes, bytes.len())?, "at {i:?}");
     Ok(())
 }
 
 #[test]
 fn answers(rt: HostRuntime) -> Result<(), Fail> {
-    Assert::equal(&rt, VECTORS.len(), LOAD_TEXTS.len());
+    assert_equal(&rt, VECTORS.len(), LOAD_TEXTS.len());
     for i in 0..LOAD_TEXTS.len() {
         let bytes = bytes(rt.alloc(), i)?;
         expect(&rt, rt.alloc(), &VECTORS, i, LOAD_TEXTS[i], &bytes)?;

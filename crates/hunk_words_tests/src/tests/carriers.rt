@@ -1,7 +1,7 @@
 //! Sources and sinks over readers and writers, and over references to them.
 ghost use Rattle.std.specs.Prelude.{IsErr, None};
 
-use crate::tests::Assert;
+use crate::tests::asserts::assert_equal;
 use hunk_testing::{Interrupted, Narrow};
 use hunk_words::{Failed, FromRead, FromSlice, FromWrite, LongWriter, Sink, Source, WriteFault};
 use std::io;
@@ -83,13 +83,13 @@ impl Write for Stumbles {
 #[test]
 fn a_push_writes_once(rt: HostRuntime) -> Result<(), Fail> {
     let mut sink = FromWrite::new(Stumbles { writes: 0 });
-    Assert::equal(&rt, sink.push(b"abc".as_slice()), Ok(1));
-    Assert::equal(&rt, sink.into_inner().writes, 1);
+    assert_equal(&rt, sink.push(b"abc".as_slice()), Ok(1));
+    assert_equal(&rt, sink.into_inner().writes, 1);
     let mut out = LongWriter::new(FromWrite::new(Stumbles { writes: 0 }));
     let fault = WriteFault { written: 1 };
-    Assert::equal(&rt, out.put_bytes(b"abc".as_slice()), Err(fault));
-    Assert::equal(&rt, out.put_bytes(b"d".as_slice()), Err(fault));
-    Assert::equal(&rt, out.into_inner().into_inner().writes, 2);
+    assert_equal(&rt, out.put_bytes(b"abc".as_slice()), Err(fault));
+    assert_equal(&rt, out.put_bytes(b"d".as_slice()), Err(fault));
+    assert_equal(&rt, out.into_inner().into_inner().writes, 2);
     Ok(())
 }
 
@@ -97,13 +97,13 @@ fn a_push_writes_once(rt: HostRuntime) -> Result<(), Fail> {
 fn nothing_is_tried_again(rt: HostRuntime) -> Result<(), Fail> {
     let mut buf = [0u8; 3];
     let mut source = FromRead::new(Interrupted::new(b"abc".as_slice(), 0));
-    Assert::equal(&rt, source.pull(&mut buf), Err(Failed));
+    assert_equal(&rt, source.pull(&mut buf), Err(Failed));
     for takes_none in [false, true] {
         let mut sink = FromWrite::new(Once::of(takes_none));
-        Assert::equal(&rt, sink.push(b"ab".as_slice()), Err(Failed));
+        assert_equal(&rt, sink.push(b"ab".as_slice()), Err(Failed));
     }
     let mut out = LongWriter::new(Once::of(false));
-    Assert::equal(
+    assert_equal(
         &rt,
         out.put_bytes(b"ab".as_slice()),
         Err(WriteFault { written: 0 }),
@@ -115,25 +115,25 @@ fn nothing_is_tried_again(rt: HostRuntime) -> Result<(), Fail> {
 fn pulls(rt: HostRuntime) -> Result<(), Fail> {
     let mut source = FromRead::new(b"abcde".as_slice());
     let mut buf = [0u8; 3];
-    Assert::equal(&rt, source.pull(&mut buf), Ok(3));
-    Assert::equal(&rt, &buf, b"abc");
-    Assert::equal(&rt, source.pull(&mut buf), Ok(2));
-    Assert::equal(&rt, &buf[..2], b"de".as_slice());
-    Assert::equal(&rt, source.pull(&mut buf), Ok(0));
-    Assert::equal(&rt, source.into_inner(), b"".as_slice());
+    assert_equal(&rt, source.pull(&mut buf), Ok(3));
+    assert_equal(&rt, &buf, b"abc");
+    assert_equal(&rt, source.pull(&mut buf), Ok(2));
+    assert_equal(&rt, &buf[..2], b"de".as_slice());
+    assert_equal(&rt, source.pull(&mut buf), Ok(0));
+    assert_equal(&rt, source.into_inner(), b"".as_slice());
     let mut source = FromSlice::new(b"abcde".as_slice());
-    Assert::equal(&rt, (&mut source).pull(&mut buf), Ok(3));
-    Assert::equal(&rt, source.pull(&mut buf), Ok(2));
-    Assert::equal(&rt, source.pull(&mut buf), Ok(0));
+    assert_equal(&rt, (&mut source).pull(&mut buf), Ok(3));
+    assert_equal(&rt, source.pull(&mut buf), Ok(2));
+    assert_equal(&rt, source.pull(&mut buf), Ok(0));
     Ok(())
 }
 
 #[test]
 fn pushes(rt: HostRuntime) -> Result<(), Fail> {
     let mut sink = FromWrite::new(Vec::<u8>::new(rt.alloc()));
-    Assert::equal(&rt, (&mut sink).push(b"ab".as_slice()), Ok(2));
-    Assert::equal(&rt, sink.push(b"c".as_slice()), Ok(1));
-    Assert::equal(&rt, sink.into_inner().as_slice(), b"abc".as_slice());
+    assert_equal(&rt, (&mut sink).push(b"ab".as_slice()), Ok(2));
+    assert_equal(&rt, sink.push(b"c".as_slice()), Ok(1));
+    assert_equal(&rt, sink.into_inner().as_slice(), b"abc".as_slice());
     Ok(())
 }
 
@@ -141,14 +141,14 @@ fn pushes(rt: HostRuntime) -> Result<(), Fail> {
 fn every_error_is_failed(rt: HostRuntime) -> Result<(), Fail> {
     let mut buf = [0u8; 3];
     let mut source = FromRead::new(Interrupted::new(b"abc".as_slice(), 1));
-    Assert::equal(&rt, source.pull(&mut buf), Ok(1));
-    Assert::equal(&rt, source.pull(&mut buf), Err(Failed));
+    assert_equal(&rt, source.pull(&mut buf), Ok(1));
+    assert_equal(&rt, source.pull(&mut buf), Err(Failed));
     for takes_none in [false, true] {
         let mut sink = FromWrite::new(Narrow::new(1, 1, takes_none));
-        Assert::equal(&rt, sink.push(b"ab".as_slice()), Ok(1));
-        Assert::equal(&rt, sink.push(b"b".as_slice()), Err(Failed));
+        assert_equal(&rt, sink.push(b"ab".as_slice()), Ok(1));
+        assert_equal(&rt, sink.push(b"b".as_slice()), Err(Failed));
     }
     let mut sink = FromWrite::new(Narrow::new(0, 1, true));
-    Assert::equal(&rt, sink.push(b"".as_slice()), Ok(0));
+    assert_equal(&rt, sink.push(b"".as_slice()), Ok(0));
     Ok(())
 }

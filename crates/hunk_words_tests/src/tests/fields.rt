@@ -1,6 +1,6 @@
 //! Fields of longwords, by values from the table of block types and the examples of size words.
 
-use crate::tests::Assert;
+use crate::tests::asserts::assert_equal;
 use hunk_words::{
     Assembler, BlockWord, Failed, Fault, Kind, Memory, Reason, SizeWord, WriteFault, word_at,
 };
@@ -18,9 +18,9 @@ fn size_words(rt: HostRuntime) -> Result<(), Fail> {
     ];
     for (word, extra, bytes, memory) in table {
         let size = SizeWord { word, extra };
-        Assert::equal(&rt, size.bytes(), bytes);
-        Assert::equal(&rt, size.memory(), memory);
-        Assert::equal(&rt, SizeWord::has_extra(word), word == 0xC000_0002);
+        assert_equal(&rt, size.bytes(), bytes);
+        assert_equal(&rt, size.memory(), memory);
+        assert_equal(&rt, SizeWord::has_extra(word), word == 0xC000_0002);
     }
     Ok(())
 }
@@ -38,9 +38,9 @@ fn block_words(rt: HostRuntime) -> Result<(), Fail> {
     ];
     for (word, flags, kind) in table {
         let block = BlockWord::of(word);
-        Assert::equal(&rt, block.word(), word);
-        Assert::equal(&rt, block.flags(), flags);
-        Assert::equal(&rt, block.kind(), kind);
+        assert_equal(&rt, block.word(), word);
+        assert_equal(&rt, block.flags(), flags);
+        assert_equal(&rt, block.kind(), kind);
     }
     Ok(())
 }
@@ -55,8 +55,8 @@ fn reasons(rt: HostRuntime) -> Result<(), Fail> {
         (Reason::OutOfMemory, 31, "OutOfMemory"),
     ];
     for (reason, number, name) in table {
-        Assert::equal(&rt, reason.number(), number);
-        Assert::equal(&rt, reason.name(), name);
+        assert_equal(&rt, reason.number(), number);
+        assert_equal(&rt, reason.name(), name);
     }
     Ok(())
 }
@@ -82,8 +82,8 @@ fn take_all(
 #[test]
 fn longwords(rt: HostRuntime) -> Result<(), Fail> {
     let bytes = [0, 0, 3, 0xF3, 0x4E, 0x75, 0x4E, 0x71, 9];
-    Assert::equal(&rt, word_at(bytes.as_slice(), 0), 0x3F3);
-    Assert::equal(&rt, word_at(bytes.as_slice(), 1), 0x4E75_4E71);
+    assert_equal(&rt, word_at(bytes.as_slice(), 0), 0x3F3);
+    assert_equal(&rt, word_at(bytes.as_slice(), 1), 0x4E75_4E71);
     // However the nine bytes are cut in two, the longwords are the same and one byte is pending.
     for cut in 0..10usize {
         let (front, back) = bytes.as_slice().split_at(cut);
@@ -91,17 +91,17 @@ fn longwords(rt: HostRuntime) -> Result<(), Fail> {
         let mut words = Vec::new(rt.alloc());
         take_all(&mut assembler, front, &mut words)?;
         take_all(&mut assembler, back, &mut words)?;
-        Assert::equal(&rt, words.as_slice(), [0x3F3, 0x4E75_4E71].as_slice());
-        Assert::equal(&rt, assembler.pending(), 1);
+        assert_equal(&rt, words.as_slice(), [0x3F3, 0x4E75_4E71].as_slice());
+        assert_equal(&rt, assembler.pending(), 1);
     }
     let mut assembler = Assembler::new();
-    Assert::equal(&rt, assembler.take([0, 0, 3].as_slice()), (3, None));
-    Assert::equal(
+    assert_equal(&rt, assembler.take([0, 0, 3].as_slice()), (3, None));
+    assert_equal(
         &rt,
         assembler.take([0xE9, 1, 2].as_slice()),
         (1, Some(0x3E9)),
     );
-    Assert::equal(&rt, assembler.pending(), 0);
+    assert_equal(&rt, assembler.pending(), 0);
     Ok(())
 }
 
@@ -116,13 +116,13 @@ fn fault_texts(rt: HostRuntime) -> Result<(), Fail> {
         reason: Reason::NoBase(1),
     };
     let text = format!(in rt.alloc(); "{bad_offset}")?;
-    Assert::equal(&rt, text.as_str(), "refused at byte 52: BadOffset (24)");
+    assert_equal(&rt, text.as_str(), "refused at byte 52: BadOffset (24)");
     let text = format!(in rt.alloc(); "{no_base}")?;
-    Assert::equal(&rt, text.as_str(), "refused at byte 56: NoBase (29) hunk 1");
+    assert_equal(&rt, text.as_str(), "refused at byte 56: NoBase (29) hunk 1");
     let text = format!(in rt.alloc(); "{}", no_base.reason)?;
-    Assert::equal(&rt, text.as_str(), "NoBase (29) hunk 1");
+    assert_equal(&rt, text.as_str(), "NoBase (29) hunk 1");
     let text = format!(in rt.alloc(); "{}, {Failed}", WriteFault { written: 6 })?;
-    Assert::equal(
+    assert_equal(
         &rt,
         text.as_str(),
         "writing failed after 6 bytes, reading or writing failed",

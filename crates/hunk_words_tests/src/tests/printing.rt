@@ -1,7 +1,7 @@
 //! A text that is longer than its page, to writers that stop after each number of bytes.
 ghost use Rattle.std.specs.Prelude.{◌≡◌, ◌≤◌};
 
-use crate::tests::Assert;
+use crate::tests::asserts::assert_equal;
 use hunk_testing::Narrow;
 use hunk_words::{FromWrite, LongWriter, PagePrinter, Sink, WriteFault};
 use std::process::Abort;
@@ -54,11 +54,11 @@ fn expect(
 ) {
     let count = room as u64;
     if room < TEXT.len() {
-        Assert::equal(rt, answer, Err(WriteFault { written: count }));
+        assert_equal(rt, answer, Err(WriteFault { written: count }));
     } else {
-        Assert::equal(rt, answer, Ok(()));
+        assert_equal(rt, answer, Ok(()));
     }
-    Assert::equal(rt, written, count);
+    assert_equal(rt, written, count);
     assert!(rt;
         taken.len() == room && TEXT.starts_with(taken),
         "at {room:?}"

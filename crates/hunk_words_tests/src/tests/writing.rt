@@ -1,7 +1,7 @@
 //! Puts to a writer that takes a few bytes at a time and then fails, and to a `Vec`.
 ghost use Rattle.std.specs.Prelude.{◌≤◌};
 
-use crate::tests::Assert;
+use crate::tests::asserts::assert_equal;
 use hunk_testing::Narrow;
 use hunk_words::{FromWrite, LongWriter, WriteFault};
 use std::process::Abort;
@@ -21,14 +21,14 @@ fn fails_after(rt: &impl Abort, room: usize, step: usize)
     if room < TEXT.len() {
         let fault = Err(WriteFault { written });
         assert!(rt; result == fault);
-        Assert::equal(rt, out.put_long(1), fault);
-        Assert::equal(rt, out.put_bytes(b"x".as_slice()), fault);
+        assert_equal(rt, out.put_long(1), fault);
+        assert_equal(rt, out.put_bytes(b"x".as_slice()), fault);
     } else {
-        Assert::equal(rt, result, Ok(()));
+        assert_equal(rt, result, Ok(()));
     }
-    Assert::equal(rt, out.written(), written);
+    assert_equal(rt, out.written(), written);
     let writer = out.into_inner().into_inner();
-    Assert::equal(rt, writer.taken(), &TEXT[..room]);
+    assert_equal(rt, writer.taken(), &TEXT[..room]);
 }
 
 #[test]
@@ -44,10 +44,10 @@ fn stops_after_each_number_of_bytes(rt: HostRuntime) -> Result<(), Fail> {
 #[test]
 fn writes_to_a_vec(rt: HostRuntime) -> Result<(), Fail> {
     let mut out = LongWriter::new(FromWrite::new(Vec::<u8>::new(rt.alloc())));
-    Assert::equal(&rt, out.put_long(0x3E9), Ok(()));
-    Assert::equal(&rt, out.put_bytes(b"xy".as_slice()), Ok(()));
-    Assert::equal(&rt, out.written(), 6);
+    assert_equal(&rt, out.put_long(0x3E9), Ok(()));
+    assert_equal(&rt, out.put_bytes(b"xy".as_slice()), Ok(()));
+    assert_equal(&rt, out.written(), 6);
     let bytes = out.into_inner().into_inner();
-    Assert::equal(&rt, bytes.as_slice(), [0, 0, 3, 0xE9, 120, 121].as_slice());
+    assert_equal(&rt, bytes.as_slice(), [0, 0, 3, 0xE9, 120, 121].as_slice());
     Ok(())
 }
