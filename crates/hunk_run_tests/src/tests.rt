@@ -89,6 +89,6 @@ fn expect_of(
     let ran = ran(alloc, given, ANY, line)?;
     assert_equal_at(rt, ran.text.as_str(), want, line);
     assert_equal_at(rt, ran.status, want_status, line);
-    assert!(rt; ran.created.is_empty(), "at {line:?}");
+    assert!(rt; ran.created.is_empty(), "at {line}");
     Ok(())
 }

@@ -6,3 +6,12 @@ mod cuts;
 mod objects;
 mod readings;
 mod whole;
+
+use crate::tests::asserts::assert_equal;
+use std::process::Abort;
+
+/// Sees that a row of the suite has this text, which has two digits for each of the bytes.
+fn expect_text(rt: &impl Abort, row: &str, text: &str, bytes: &[u8]) {
+    assert_equal(rt, row, text);
+    assert_equal(rt, 2 * bytes.len(), text.len());
+}

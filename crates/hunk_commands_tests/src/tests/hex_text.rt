@@ -77,7 +77,7 @@ fn reads_in_pieces(rt: HostRuntime) -> Result<(), Fail> {
         let (bytes, text) = counted(rt.alloc(), count)?;
         for step in STEPS {
             let got = read(rt.alloc(), text.as_slice(), *step, Then::Ends, 10_000)?;
-            assert!(rt; got == bytes, "at {:?}", (count, step));
+            assert!(rt; got == bytes, "{count} bytes by {step}");
         }
     }
     Ok(())

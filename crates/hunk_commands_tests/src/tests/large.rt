@@ -26,7 +26,7 @@ fn expect(rt: &impl Abort, alloc: Global, call: Call, bytes: &[u8], want: &[u8])
     let mut source = FromSlice::new(bytes);
     let (fault, _, text) = called(alloc, call, &mut source, Vec::<u8>::new(alloc), LIMITS);
     assert_equal_at(rt, fault, None, call);
-    assert!(rt; text.as_slice() == want, "at {call:?}");
+    assert!(rt; text.as_slice() == want, "{call:?}");
 }
 
 /// Text for each number from one up to below another: a front, and behind it the number and a rest, if there is one.

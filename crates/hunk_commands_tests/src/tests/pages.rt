@@ -67,7 +67,7 @@ fn expect_front(
     let fault = RunFault::Write { written };
     let got = shown(rt.alloc(), bytes, taken.as_mut_slice());
     assert_equal(rt, got, (Some(fault), written));
-    assert!(rt; whole.starts_with(taken.as_slice()), "at {room:?}");
+    assert!(rt; whole.starts_with(taken.as_slice()), "at {room}");
     Ok(())
 }
 

@@ -55,7 +55,7 @@ fn decoded(alloc: Global, bytes: &[u8]) -> Answer {
 /// Sees that this is answered for the bytes that the text spells.
 fn expect_answer(rt: &impl Abort, alloc: Global, text: &str, want: Answer) -> Result<(), Fail> {
     let bytes = spelled(alloc, text)?;
-    assert!(rt; decoded(alloc, &bytes) == want, "at {text:?}");
+    assert!(rt; decoded(alloc, &bytes) == want, "{text}");
     Ok(())
 }
 

@@ -147,11 +147,7 @@ fn expect(
 ) -> Result<(), AllocError> {
     let bytes = changed_in(alloc, FILE, byte as usize, word)?;
     let fault = object_fault(alloc, &bytes);
-    assert!(rt;
-        is_answered(fault, byte as u64, want),
-        "at {:?}",
-        (word, byte)
-    );
+    assert!(rt; is_answered(fault, byte as u64, want), "{word:x} at {byte}");
     Ok(())
 }
 

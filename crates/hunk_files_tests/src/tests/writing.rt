@@ -72,7 +72,7 @@ fn stripped(rt: HostRuntime) -> Result<(), Fail> {
         let got = rewritten(rt.alloc(), &spelled(rt.alloc(), text)?, true);
         assert!(rt;
             got.is_some_and(|text| text.as_slice() == want.as_slice()),
-            "at {text:?}"
+            "{text}"
         );
     }
     Ok(())

@@ -91,7 +91,7 @@ fn expect(
             || unwanted(alloc, line.as_slice(), *wanted),
         )?;
         let want = [Some(Answer::Memory), None];
-        assert_eq!(rt; answers.as_slice(), want.as_slice(), "at {words:?}");
+        assert_eq!(rt; answers.as_slice(), want.as_slice(), "{words:?}");
     }
     Ok(())
 }

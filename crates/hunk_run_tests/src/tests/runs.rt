@@ -260,7 +260,7 @@ fn expect_unwritten(
         assert_equal_at(rt, part.status, 3, line);
         assert!(rt;
             part.text.len() == room && whole.starts_with(part.text.as_str()),
-            "at {line:?}"
+            "at {line}"
         );
     }
     Ok(())
@@ -319,7 +319,7 @@ fn expect_help(rt: &impl Abort, alloc: Global, line: &str, parts: &[&str]) -> Re
     let ran = ran(alloc, given, ANY, line)?;
     assert_equal_at(rt, ran.status, 0, line);
     for part in parts {
-        assert!(rt; ran.text.contains(*part), "at {:?}", (part, line));
+        assert!(rt; ran.text.contains(*part), "{part} at {line}");
     }
     Ok(())
 }

@@ -56,8 +56,7 @@ fn expect_left(
     assert!(rt; held.is_ok());
     assert!(rt;
         left.abs_diff(want) <= 64,
-        "at {:?}",
-        (left, rows, store, want)
+        "{left} beside {rows} rows and {store} bytes, not {want}"
     );
     Ok(())
 }
@@ -259,7 +258,7 @@ fn rows_and_store_of_a_load(rt: HostRuntime) -> Result<(), Fail> {
     expect_left(&rt, alloc, left, HUNKS, TOTAL)?;
     let (want, _) = left_beside(alloc, || largest_beside(alloc))?;
     let want = want?;
-    assert!(rt; largest > 1 << 24, "at {largest:?}");
-    assert!(rt; largest.abs_diff(want) <= 64, "at {:?}", (largest, want));
+    assert!(rt; largest > 1 << 24, "{largest}");
+    assert!(rt; largest.abs_diff(want) <= 64, "{largest}, not {want}");
     Ok(())
 }

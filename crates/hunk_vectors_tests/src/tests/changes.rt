@@ -25,8 +25,7 @@ fn one_longword(rt: HostRuntime) -> Result<(), Fail> {
                 let changed = with_long(bytes.as_slice().to_vec(rt.alloc())?, 4 * k, word);
                 assert!(rt;
                     agrees(rt.alloc(), changed.as_slice(), changed.len())?,
-                    "at {:?}",
-                    (i, k, word)
+                    "{i} at {k}: {word:x}"
                 );
             }
         }

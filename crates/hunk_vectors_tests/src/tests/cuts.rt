@@ -11,8 +11,7 @@ fn two_pieces(rt: HostRuntime) -> Result<(), Fail> {
         for cut in 0..bytes.len() {
             assert!(rt;
                 agrees(rt.alloc(), bytes.as_slice(), cut)?,
-                "at {:?}",
-                (i, cut)
+                "{i} cut at {cut}"
             );
         }
     }
@@ -24,7 +23,7 @@ fn fronts(rt: HostRuntime) -> Result<(), Fail> {
     for i in 0..LOAD_TEXTS.len() {
         let bytes = bytes(rt.alloc(), i)?;
         for n in 0..bytes.len() {
-            assert!(rt; agrees(rt.alloc(), &bytes[..n], n)?, "at {:?}", (n, i));
+            assert!(rt; agrees(rt.alloc(), &bytes[..n], n)?, "{n} bytes of {i}");
         }
     }
     Ok(())

@@ -1,6 +1,7 @@
 //! Each object file, and each front of it that is one, checked and written again.
 
 use crate::tests::asserts::{assert_equal, assert_equal_at};
+use crate::tests::expect_text;
 use hunk_files::ObjectFile;
 use hunk_vectors::{OBJECT_TEXTS, OBJECTS, ObjectVector, ObjectWant, object_bytes};
 use hunk_words::{FromWrite, LongWriter};
@@ -43,8 +44,7 @@ fn expect(
     let Some(vector) = table.get(i) else {
         panic!(rt; "no {i}");
     };
-    assert_equal(rt, vector.text, text);
-    assert_equal(rt, 2 * bytes.len(), text.len());
+    expect_text(rt, vector.text, text, bytes);
     assert_equal_at(rt, answer(alloc, bytes)?, vector.want, i);
     Ok(())
 }
@@ -66,8 +66,7 @@ fn fronts_again(rt: HostRuntime) -> Result<(), Fail> {
         for n in 0..=bytes.len() {
             assert!(rt;
                 is_written_again(rt.alloc(), &bytes[..n]),
-                "at {:?}",
-                (n, i)
+                "{n} bytes of {i}"
             );
         }
     }

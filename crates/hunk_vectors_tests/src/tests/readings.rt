@@ -210,7 +210,7 @@ fn expect_fits(rt: &impl Abort, bytes: &[u8], decoded: Option<LoadFault>, want: 
     assert!(rt; fits_only(bytes, decoded, decoded, want));
     for place in 0..bytes.len() as u64 {
         let budget = fault_of(Some((place, Reason::Budget)));
-        assert!(rt; fits_only(bytes, decoded, budget, want), "at {place:?}");
+        assert!(rt; fits_only(bytes, decoded, budget, want), "{place}");
     }
 }
 
@@ -222,7 +222,7 @@ fn expect(rt: &impl Abort, alloc: Global, (text, decodes, loads): &Row) -> Resul
     assert_equal_at(rt, decoded, fault_of(*decodes), text);
     expect_fits(rt, &bytes, decoded, fault_of(*loads));
     for cut in 0..bytes.len() {
-        assert!(rt; agrees(alloc, &bytes, cut)?, "at {:?}", (text, cut));
+        assert!(rt; agrees(alloc, &bytes, cut)?, "{text} cut at {cut}");
     }
     Ok(())
 }

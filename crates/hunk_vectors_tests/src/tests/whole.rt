@@ -1,6 +1,7 @@
 //! Each load file whole, and what each is to be answered with.
 
 use crate::tests::asserts::{assert_equal, assert_equal_at};
+use crate::tests::expect_text;
 use crate::tests::readings::agrees;
 use hunk_files::LoadFile;
 use hunk_vectors::{LOAD_TEXTS, VECTORS, Vector, Want, bytes};
@@ -35,10 +36,9 @@ fn expect(
     let Some(vector) = table.get(i) else {
         panic!(rt; "no {i}");
     };
-    assert_equal(rt, vector.text, text);
-    assert_equal(rt, 2 * bytes.len(), text.len());
+    expect_text(rt, vector.text, text, bytes);
     assert_equal_at(rt, answer(alloc, bytes), vector.want, i);
-    assert!(rt; agrees(alloc, bytes, bytes.len())?, "at {i:?}");
+    assert!(rt; agrees(alloc, bytes, bytes.len())?, "{i}");
     Ok(())
 }
 

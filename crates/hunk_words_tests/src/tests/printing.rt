@@ -61,7 +61,7 @@ fn expect(
     assert_equal(rt, written, count);
     assert!(rt;
         taken.len() == room && TEXT.starts_with(taken),
-        "at {room:?}"
+        "after {room}"
     );
 }
 
