@@ -1,19 +1,24 @@
 -- What a loader in numbers stands for, and what it comes to at the end.
-use Rattle.std.proofs.Common.{◌≡◌, ◌*◌, ◌/◌, ℕ, true, false, List, length, Option, None, Some, ◌++◌, refl, sym, ap, subst, ◌∙◌, append-nil, inr}
+use Rattle.std.proofs.Common.{◌≡◌, ◌*◌, ◌/◌, ℕ, Bool, true, false, not, List, [], ◌∷◌, length, Option, None, Some, ◌++◌, refl, sym, ap, subst, ◌∙◌, append-nil, inr}
 use Rattle.hunk_words.specs.Longs.{bytes_of}
 use Rattle.hunk_words.specs.declared.reason.Reason.TheVariants as reasons
-use Rattle.hunk_scan.specs.Positions.{is_behind_header, is_done}
+use Rattle.hunk_scan.specs.Positions.{is_done}
 use Rattle.hunk_scan.specs.declared.position.Position.{Position}
 use Rattle.hunk_scan.specs.declared.position.Position.TheVariants as positions
 use Rattle.hunk_files.specs.Fault.{HasFault, IsTruncated}
-use Rattle.hunk_files.specs.FileSteps.{AtBlock, InBody, Next, More, Finished}
+use Rattle.hunk_blocks.specs.BlockSteps.{ForName, ForDebug, ForAdvisory, ForCode, ForData, ForBss, Counted, SizedCode, SizedData, Inside, AtCount, AtSize, InPayload, AtGroup, AtTarget, InOffsets, AtEntry, InName, AtValue}
+use Rattle.hunk_blocks.specs.Values.{BlockValue}
+use Rattle.hunk_scan.specs.Roles.{Place}
+use Rattle.hunk_files.specs.FileSteps.{AtBlock, InBody, Next, More, Finished, place_of}
 use Rattle.hunk_files.specs.Image.{images}
 use Rattle.hunk_files.specs.LoadFile.{LoadFileValue, IsLoadFile}
 use Rattle.hunk_files.specs.LoadText.{table, text}
-use Rattle.hunk_files.specs.ReaderPosition.{IsBehindHeader, table_of}
+use Rattle.hunk_files.specs.ReaderPosition.{IsBehindHeader, block_phase, phase_of, table_of}
 use Rattle.hunk_files.specs.WordsRead.{HasRead}
 use Rattle.hunk_files.specs.declared.row.Row.{Row}
-use Rattle.hunk_files.proofs.Reading.{read_ended}
+use Rattle.hunk_files.proofs.FileProgress.{Reads}
+use Rattle.hunk_files.proofs.HunkProgress.{Within}
+use Rattle.hunk_files.proofs.Reading.{read_ended, reads}
 use Rattle.hunk_scatter.specs.BodyLoaderFields.{StandsBehind, EndsWhole}
 use Rattle.hunk_scatter.specs.BodyReader.{state_at, state_of}
 use Rattle.hunk_scatter.specs.Rows.{bases_of, entries_of}
@@ -26,20 +31,42 @@ use Rattle.hunk_scatter.proofs.Forget.{before_is}
 use Rattle.hunk_scatter.proofs.OneByte.{not_done}
 use Rattle.hunk.specs.declared.loader.Loader.{Loader}
 use Rattle.hunk.specs.Answers.{done}
-use Rattle.hunk.specs.Streams.{IsStreamed, Stands, loader_position, standing_at, standing_of}
+use Rattle.hunk.specs.Streams.{IsStreamed, Stands, is_external, loader_position, standing_at, standing_of, stands_in_body}
 use Rattle.hunk.proofs.Loaded.{same_answer}
 
 -- ---- where a loader stands
 
--- A loader of a body stands behind the header.
-pub behind : (rows : List Row) (memory : List ℕ) (s : Standing) (fed : List ℕ) → IsFed rows memory s fed → is_behind_header s.state.position ≡ true
-behind rows memory s fed h = let r = h.reading refl in go r.next r.behind r.state_is
+-- A loader of a body stands in it, and in no EXT.
+pub behind : (rows : List Row) (memory : List ℕ) (s : Standing) (fed : List ℕ) → IsFed rows memory s fed → stands_in_body s.state.position ≡ true
+behind rows memory s fed h = let r = h.reading refl in go r.next (reads r.read) r.behind r.state_is
   where
-    go : (n : Next) → IsBehindHeader n → state_of n ≡ s.state → is_behind_header s.state.position ≡ true
-    go (More (AtBlock o)) b e = ap (λ (x : BodyState). is_behind_header x.position) (sym e)
-    go (More (InBody o word x)) b e = ap (λ (x : BodyState). is_behind_header x.position) (sym e)
-    go (Finished v) b e = ap (λ (x : BodyState). is_behind_header x.position) (sym e)
-    go _ b e = absurd cc
+    inside : (p : Place) (word : ℕ) (x : Inside) → Within p word x → not (is_external (phase_of x)) ≡ true
+    inside p word (AtCount ForName) w = refl
+    inside p word (AtCount ForDebug) w = refl
+    inside p word (AtCount ForAdvisory) w = refl
+    inside p word (AtSize ForCode) w = refl
+    inside p word (AtSize ForData) w = refl
+    inside p word (AtSize ForBss) w = refl
+    inside p word (InPayload (Counted c) done owed) w = refl
+    inside p word (InPayload (SizedCode top) done owed) w = refl
+    inside p word (InPayload (SizedData top) done owed) w = refl
+    inside p word (AtGroup groups) w = refl
+    inside p word (AtTarget groups owed) w = refl
+    inside p word (InOffsets groups target done owed) w = refl
+    inside p word (AtEntry entries) w = refl
+    inside p word (InName entries v done owed) w = refl
+    inside p word (AtValue entries v name) w = refl
+    inside p word _ w = absurd w
+
+    block : (blocks : List BlockValue) → not (is_external (block_phase blocks)) ≡ true
+    block [] = refl
+    block (b ∷ blocks) = refl
+
+    go : (n : Next) → Reads n (h.reading refl).read.done → IsBehindHeader n → state_of n ≡ s.state → stands_in_body s.state.position ≡ true
+    go (More (AtBlock o)) r b e = ap (λ (x : BodyState). stands_in_body x.position) (sym e) ∙ block o.blocks
+    go (More (InBody o word x)) r b e = ap (λ (x : BodyState). stands_in_body x.position) (sym e) ∙ inside (place_of o) word x r.0.2.1
+    go (Finished v) r b e = ap (λ (x : BodyState). stands_in_body x.position) (sym e)
+    go _ r b e = absurd cc
 
 some_is : (a b : Standing) → Some a ≡ Some b → a ≡ b
 some_is a b e = cc

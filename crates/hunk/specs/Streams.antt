@@ -1,12 +1,12 @@
 -- A loader in numbers, which a C program keeps and feeds piece by piece.
-use Rattle.std.specs.Prelude.{◌≡◌, ℕ, ◌+◌, ◌*◌, ◌/◌, ◌^◌, ◌<◌, ◌≤◌, ◌==◌, List, ◌++◌, length, take, if◌then◌else◌, replicate, Option, Some, None, IsTrue}
+use Rattle.std.specs.Prelude.{◌≡◌, ℕ, ◌+◌, ◌*◌, ◌/◌, ◌^◌, ◌<◌, ◌≤◌, ◌==◌, List, ◌++◌, length, take, if◌then◌else◌, replicate, Bool, true, false, not, Option, Some, None, IsTrue}
 use Rattle.hunk_words.specs.Longs.{bytes_of}
 use Rattle.hunk_words.specs.Reasons.{number_of}
 use Rattle.hunk_words.specs.declared.fault.Fault.{Fault}
 use Rattle.hunk_words.specs.declared.reason.Reason.TheVariants as reasons
 use Rattle.hunk_scan.specs.declared.phase.OpenHunk.{OpenHunk}
-use Rattle.hunk_scan.specs.declared.phase.Phase.{Phase}
-use Rattle.hunk_scan.specs.declared.phase.Phase.TheVariants as phases
+use Rattle.hunk_blocks.specs.declared.phase.Phase.{Phase}
+use Rattle.hunk_blocks.specs.declared.phase.Phase.TheVariants as phases
 use Rattle.hunk_scan.specs.declared.position.Position.{Position}
 use Rattle.hunk_scan.specs.declared.position.Position.TheVariants as positions
 use Rattle.hunk_files.specs.Fault.{HasFault, HasRefusal}
@@ -24,6 +24,20 @@ use Rattle.hunk.specs.declared.loader.Loader.{Loader}
 use Rattle.hunk.specs.Answers.{done, last_reason, no_room, refused, refused_hunk, strange}
 
 -- ---- numbers
+
+-- The phases of EXT, which no load file has and no number stands for.
+abbrev pub is_external : Phase → Bool
+is_external phases.ExtWord = true
+is_external (phases.ExtFront owed) = true
+is_external phases.ExtCount = true
+is_external (phases.ExtRest owed) = true
+is_external _ = false
+
+-- The position is one behind the header of a load file.
+abbrev pub stands_in_body : Position → Bool
+stands_in_body (positions.Body hunk phase) = not (is_external phase)
+stands_in_body positions.Done = true
+stands_in_body _ = false
 
 -- what the next longword of a hunk is for: its number, the longwords of a content or the target of offsets, and how many are owed
 abbrev pub phase_in : ℕ → ℕ → ℕ → Option Phase

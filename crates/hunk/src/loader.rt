@@ -1,7 +1,8 @@
 //! A loader in numbers, which its caller keeps.
-ghost use Rattle.std.specs.Prelude.{◌≡◌, true, Some, MatchOption};
-ghost use Rattle.hunk_scan.specs.Positions.{is_behind_header, is_done};
-ghost use Rattle.hunk.specs.Streams.{TellsAgain, loader_position, phase_in, position_in, refusing, standing_of, whole};
+ghost use Rattle.std.specs.Prelude.{◌≡◌, true, false, Some, MatchOption};
+ghost use Rattle.hunk_scan.specs.Positions.{is_done};
+ghost use Rattle.hunk.specs.Streams.{TellsAgain, is_external, loader_position, phase_in, position_in, refusing};
+ghost use Rattle.hunk.specs.Streams.{standing_of, stands_in_body, whole};
 
 use crate::answer::{Answer, refused, strange};
 use hunk_scan::{OpenHunk, Phase, Position};
@@ -78,8 +79,7 @@ const LAST_REASON: u32 = 31;
 impl Loader {
     /// The numbers of where a loader stands.
     pub(crate) fn of(at: Standing) -> Loader
-        ensures standing { is_behind_header at.state.position ≡ true
-            → standing_of result ≡ Some at }
+        ensures standing { stands_in_body at.state.position ≡ true → standing_of result ≡ Some at }
         ensures ends { is_done at.state.position ≡ true → result.phase ≡ whole }
         ensures unrefused { result.refused ≡ 0 }
     {
@@ -199,7 +199,7 @@ fn phase_in(number: u32, part: u32, owed: u32) -> Option<Phase>
 /// The number of a phase, with the longwords of a content or the target of offsets, and what is
 /// owed.
 fn phase_numbers(phase: Phase) -> (u32, u32, u32)
-    ensures { phase_in result.0 result.1 result.2 ≡ Some phase }
+    ensures { is_external phase ≡ false → phase_in result.0 result.1 result.2 ≡ Some phase }
 {
     match phase {
         Phase::FirstBlock => (1, 0, 0),
@@ -215,13 +215,17 @@ fn phase_numbers(phase: Phase) -> (u32, u32, u32)
         Phase::Offset { target, owed } => (11, target, owed),
         Phase::EntryWord => (12, 0, 0),
         Phase::Symbol { owed } => (13, 0, owed),
+        // Nothing is external in a load file: the number of no phase.
+        Phase::ExtWord | Phase::ExtFront { .. } | Phase::ExtCount | Phase::ExtRest { .. } => {
+            (0, 0, 0)
+        }
     }
 }
 
-/// The open hunk, and the numbers of its phase. In a header, where no loader of a body stands, the
-/// number is that of no phase.
+/// The open hunk, and the numbers of its phase. In a header and in EXT, where no loader of a body
+/// stands, the number is that of no phase.
 fn numbers_of(position: Position) -> (OpenHunk, u32, u32, u32)
-    ensures standing { is_behind_header position ≡ true
+    ensures standing { stands_in_body position ≡ true
         → position_in result.0 result.1 result.2 result.3 ≡ Some position }
     ensures ends { is_done position ≡ true → result.1 ≡ whole }
 {

@@ -1,6 +1,6 @@
 -- A block word that no test refuses, and one that is refused.
-use Rattle.std.proofs.Common.{◌≡◌, ◌≢◌, ℕ, ◌/◌, ◌^◌, Bool, true, false, cond, Option, Some, None, refl, sym, ap, subst, ◌∙◌}
-use Rattle.std.specs.Prelude.{IsTrue, nat_lt}
+use Rattle.std.proofs.Common.{◌≡◌, ◌≢◌, ℕ, Bool, true, false, Option, Some, None, refl, sym, ap, subst, ◌∙◌}
+use Rattle.std.specs.Prelude.{IsTrue}
 use Rattle.hunk_words.specs.declared.block_word.Kind.{Kind}
 use Rattle.hunk_words.specs.declared.block_word.Kind.TheVariants as kinds
 use Rattle.hunk_words.specs.declared.reason.Reason.{Reason}
@@ -8,13 +8,8 @@ use Rattle.hunk_words.specs.declared.reason.Reason.TheVariants as reasons
 use Rattle.hunk_words.specs.Bits.{has_both_bits, is_advisory, kind}
 use Rattle.hunk_blocks.specs.declared.mode.Mode.{Mode}
 use Rattle.hunk_blocks.specs.declared.mode.Mode.TheVariants as modes
-use Rattle.hunk_blocks.specs.declared.ext_shape.ExtShape.{ExtShape}
-use Rattle.hunk_words.specs.Limits.{name_limit}
-use Rattle.hunk_blocks.specs.ExtKinds.{ext_shape}
 use Rattle.hunk_blocks.specs.Values.{BlockBody, Name, Code, Data, Bss, Reloc, Ext, Symbol, Debug, Advisory, End, BlockValue, is_relocation, is_unknown, FitsWord, IsBlock}
-use Rattle.hunk_blocks.specs.Parts.{Part, Part as parts}
-use Rattle.hunk_blocks.specs.Modes.{IsOfMode, is_block_refusal, refuse_alone_kind, refuse_alone_word, refuse_inside, refuse_shape}
-use Rattle.hunk_blocks.specs.Faults.{refuse_alone}
+use Rattle.hunk_blocks.specs.Modes.{IsOfMode, refuse_alone_kind, refuse_alone_word}
 use Rattle.hunk_blocks.proofs.Lists.{passed_true, passed_both, passes_else, passes_then}
 
 abbrev pub block : ℕ → BlockBody → BlockValue
@@ -87,65 +82,12 @@ advisory_admitted mode word n k ok =
 
 -- ---- the reasons are a block's own
 
-abbrev own_or_none : Option Reason → Bool
-own_or_none None = true
-own_or_none (Some reason) = is_block_refusal reason
-
-kind_own : (mode : Mode) (advisory : Bool) (k : Kind) → own_or_none (refuse_alone_kind mode advisory k) ≡ true
-kind_own mode true (kinds.Unknown n) = refl
-kind_own mode false (kinds.Unknown n) = refl
-kind_own modes.Load advisory _ = refl
-kind_own modes.Object advisory _ = refl
-
-word_own : (mode : Mode) (word : ℕ) → own_or_none (refuse_alone_word mode word) ≡ true
-word_own mode word = go (has_both_bits word)
-  where
-    go : (b : Bool) → own_or_none (cond b (Some reasons.BothBits) (refuse_alone_kind mode (is_advisory word) (kind word))) ≡ true
-    go true = refl
-    go false = kind_own mode (is_advisory word) (kind word)
-
-pub refusal_own : (mode : Mode) (word : ℕ) (reason : Reason) → refuse_alone_word mode word ≡ Some reason → IsTrue (is_block_refusal reason)
-refusal_own mode word reason e = sym (ap own_or_none e) ∙ word_own mode word
-
 -- ---- no longword is refused as out of memory
-
 abbrev pub not_for_memory : Option Reason → Bool
 not_for_memory (Some reasons.OutOfMemory) = false
 not_for_memory _ = true
 
-kind_not_for_memory : (mode : Mode) (advisory : Bool) (k : Kind) → not_for_memory (refuse_alone_kind mode advisory k) ≡ true
-kind_not_for_memory mode true (kinds.Unknown n) = refl
-kind_not_for_memory mode false (kinds.Unknown n) = refl
-kind_not_for_memory modes.Load advisory _ = refl
-kind_not_for_memory modes.Object advisory _ = refl
-
-shape_not_for_memory : (s : Option ExtShape) → not_for_memory (refuse_shape s) ≡ true
-shape_not_for_memory None = refl
-shape_not_for_memory _ = refl
-
-inside_not_for_memory : (part : Part) (w : ℕ) → not_for_memory (refuse_inside part w) ≡ true
-inside_not_for_memory parts.NameCount w = go (nat_lt w name_limit)
-  where
-    go : (b : Bool) → not_for_memory (cond b None (Some reasons.NameWord)) ≡ true
-    go true = refl
-    go false = refl
-inside_not_for_memory parts.ExtWord w = shape_not_for_memory (ext_shape (w / 2 ^ 24))
-inside_not_for_memory _ w = refl
-
-alone_not_for_memory : (mode : Mode) (part : Part) (w : ℕ) → not_for_memory (refuse_alone mode part w) ≡ true
-alone_not_for_memory mode parts.BlockWord w = go (has_both_bits w)
-  where
-    go : (b : Bool) → not_for_memory (cond b (Some reasons.BothBits) (refuse_alone_kind mode (is_advisory w) (kind w))) ≡ true
-    go true = refl
-    go false = kind_not_for_memory mode (is_advisory w) (kind w)
-alone_not_for_memory mode parts.NameCount w = inside_not_for_memory parts.NameCount w
-alone_not_for_memory mode parts.ExtWord w = inside_not_for_memory parts.ExtWord w
-alone_not_for_memory mode _ w = refl
-
 pub other_than_memory : (o : Option Reason) (reason : Reason) → not_for_memory o ≡ true → o ≡ Some reason → reason ≢ reasons.OutOfMemory
 other_than_memory o reason h e m = let clash : false ≡ true = ap not_for_memory (ap (λ (r : Reason). Some r) (sym m) ∙ sym e) ∙ h in cc
-
-pub alone_other_than_memory : (mode : Mode) (part : Part) (w : ℕ) (reason : Reason) → refuse_alone mode part w ≡ Some reason → reason ≢ reasons.OutOfMemory
-alone_other_than_memory mode part w reason = other_than_memory (refuse_alone mode part w) reason (alone_not_for_memory mode part w)
 
 -- ---- the types of EXT entries

@@ -33,7 +33,7 @@ pub record Inner (mode : Mode) (n : BlockNext) (word : ℕ) (ws : List ℕ) : Ty
   pub words_are : ws ≡ word ∷ words (read_next n)
 
 module _ (mode : Mode) where
-  abbrev SoFar : Alone → List ℕ → Type 0
+  abbrev pub SoFar : Alone → List ℕ → Type 0
   SoFar AtWord ws = ws ≡ []
   SoFar (Behind n) ws = (word : ℕ) × Inner mode n word ws
 
@@ -79,7 +79,7 @@ module _ (mode : Mode) where
         words_are = ap (λ ys. w ∷ words ys) (sym (begin_reads (kind w)));
       }
 
-  keeps : Keeps (blocks mode) alone
+  unfoldable pub keeps : Keeps (blocks mode) alone
   keeps = record { SoFar = SoFar; begins = refl; expects = expected; goes_on = go; ends = ended }
     where
       expected : (s : Alone) (before : List ℕ) (role : Part) → SoFar s before → alone.expects s ≡ Some role → Expects (blocks mode) before role
@@ -117,7 +117,7 @@ begun mode bytes b rest fit is m e =
     (b, 4 * length (block_text b), record { block = is; of_mode = m; text = f.0; whole = f.1 })
 
 -- Where a block goes on, none begins.
-goes_on_none : (mode : Mode) (bytes : List ℕ) (role : Part) → Expects (blocks mode) (longs bytes) role → BeginsWithNoBlock mode bytes
+pub goes_on_none : (mode : Mode) (bytes : List ℕ) (role : Part) → Expects (blocks mode) (longs bytes) role → BeginsWithNoBlock mode bytes
 goes_on_none mode bytes role e =
     no_block mode bytes
     (λ b is m more split.

@@ -1,10 +1,9 @@
 -- Where longwords alone determine their roles, the first that is refused is one.
-use Rattle.std.proofs.Common.{◌≡◌, ℕ, ◌+◌, ◌*◌, ◌<◌, ◌≤◌, List, [], ◌∷◌, ◌++◌, length, refl, sym, ap, ap₂, subst, ◌∙◌, length-append, arith, Option, Some, None, ◌⊎◌, inl, inr}
+use Rattle.std.proofs.Common.{◌≡◌, ℕ, ◌+◌, ◌*◌, List, [], ◌∷◌, ◌++◌, length, refl, sym, ap, subst, ◌∙◌, arith, Option, Some, None, ◌⊎◌, inl, inr}
 use Rattle.std.specs.List.{AllByRecursion}
-use Rattle.std.proofs.lemmas.Bool.{cases_lt}
 use Rattle.hunk_words.specs.declared.reason.Reason.{Reason}
 use Rattle.hunk_words.specs.declared.reason.Reason.TheVariants as reasons
-use Rattle.hunk_blocks.specs.Faults.{Grammar, words, HasRefusal, IsFront, IsFrontTo}
+use Rattle.hunk_blocks.specs.Faults.{Grammar, words, HasRefusal, IsFront}
 
 -- What is expected in a state, and where a longword leads from it.
 pub record Machine (State Role : Type 0) : Type 0 where
@@ -78,17 +77,6 @@ pub record Reads {Value State Role : Type 0} (g : Grammar Value Role) (m : Machi
   pub leads : (v : Value) → g.Is v → Leads m m.start (g.labelled v) (end v)
   pub passes : (v : Value) → g.Is v → Passes m g.refuse (g.labelled v)
 
--- a longword that stands in front of a place stands in what is before it
-put_in : (xs : List ℕ) (x : ℕ) (us ys vs : List ℕ) → xs ++ x ∷ us ≡ ys ++ vs → length xs < length ys → (more : List ℕ) × (ys ≡ xs ++ x ∷ more)
-put_in [] x us [] vs e few = absurd (omega (arith, few))
-put_in [] x us (y ∷ ys) vs e few = let same : y ≡ x = cc in (ys, ap (λ (z : ℕ). z ∷ ys) same)
-put_in (z ∷ xs) x us [] vs e few = absurd (omega (arith, few))
-put_in (z ∷ xs) x us (y ∷ ys) vs e few =
-    let same : y ≡ z = cc in
-    let tail : xs ++ x ∷ us ≡ ys ++ vs = cc in
-    let p = put_in xs x us ys vs tail (omega (arith, few)) in
-    (p.0, ap₂ (λ (a : ℕ) (l : List ℕ). a ∷ l) same p.1)
-
 module _ {Value State Role : Type 0} (g : Grammar Value Role) (m : Machine State Role) (r : Reads g m) where
   refused_is : (ws : List ℕ) (at : ℕ) (reason : Reason) → HasRefusal g ws at reason → first_refused m g.refuse m.start 0 ws ≡ Some (at, reason)
   refused_is ws at reason h =
@@ -113,18 +101,6 @@ module _ {Value State Role : Type 0} (g : Grammar Value Role) (m : Machine State
       let clash : ◌≡◌ {A = Option (ℕ × Reason)} None (Some (at, reason)) = sym none ∙ some in
       cc
 
-  -- So none lies at or before a longword up to which a text goes.
-  refused_behind : (ws : List ℕ) (at at2 : ℕ) (reason : Reason) → IsFrontTo g ws at → HasRefusal g ws at2 reason → at < at2
-  refused_behind ws at at2 reason f h = elim (cases_lt at at2) [
-    | inl less ↦ less
-    | inr more ↦ absurd (within more)
-  ]
-    where
-      within : at2 ≤ at → ⊥
-      within more =
-          let p = put_in h.before h.word h.after f.read f.after (sym h.split ∙ f.split) (omega (arith, more, h.place, f.place)) in
-          front_passes f.read at2 reason (record { before = h.before; word = h.word; after = p.0; role = h.role; split = p.1; place = h.place; expects = h.expects; refuses = h.refuses }) f.front
-
   -- Where an input ends too soon, a text begins with all its longwords.
   module _ (ws : List ℕ) (IsShort : ℕ → Type 0) (short : (at : ℕ) → IsShort at → (at ≡ 4 * length ws) × IsFront g ws) where
     abbrev IsFault : ℕ → Reason → Type 0
@@ -135,10 +111,6 @@ module _ {Value State Role : Type 0} (g : Grammar Value Role) (m : Machine State
     one_fault at at2 reason reason2 (inl h) (inr k) = absurd (front_passes ws at reason h (short at2 k.1).1)
     one_fault at at2 reason reason2 (inr h) (inl k) = absurd (front_passes ws at2 reason2 k (short at h.1).1)
     one_fault at at2 reason reason2 (inr h) (inr k) = ((short at h.1).0 ∙ sym (short at2 k.1).0, h.0 ∙ sym k.0)
-
-    pub fault_behind : (at at2 : ℕ) (reason : Reason) → IsFrontTo g ws at → IsFault at2 reason → at < at2
-    fault_behind at at2 reason f (inl h) = refused_behind ws at at2 reason f h
-    fault_behind at at2 reason f (inr h) = omega (arith, (short at2 h.1).0, f.place, ap length f.split, length-append f.read f.after)
 
   -- nor of what has a text in front, behind which nothing is expected
   pub whole_passes : (v : Value) → g.Is v → m.expects (r.end v) ≡ None → (ws rest : List ℕ) (at : ℕ) (reason : Reason) → ws ≡ words (g.labelled v) ++ rest → HasRefusal g ws at reason → ⊥

@@ -1,4 +1,5 @@
 pub mod Admitted
+pub mod Along
 pub mod BlockCompletion
 pub mod BlockLongs
 pub mod BlockOutcome
@@ -10,7 +11,6 @@ pub mod BodyReading
 pub mod Decoding
 pub mod FaultLaws
 pub mod FaultScan
-pub mod FrontLaws
 pub mod EntryMissing
 pub mod EntryReading
 pub mod ExtLaws
@@ -24,3 +24,7 @@ pub mod Outcomes
 pub mod Whole
 pub mod TextBytes
 pub mod ListWriting
+pub mod BlockPhases
+pub mod BlockWalks
+pub mod KeptWalks
+pub mod BlockWhole

@@ -1,11 +1,11 @@
 -- Reading the groups or entries of a block one after another, up to the zero that ends them.
-use Rattle.std.proofs.Common.{◌≡◌, ℕ, ◌+◌, ◌*◌, List, [], ◌∷◌, ◌++◌, length, take, drop, refl, sym, ap, subst, ◌∙◌, append_assoc, length-append, arith}
+use Rattle.std.proofs.Common.{◌≡◌, ℕ, ◌+◌, ◌*◌, ◌-◌, ◌<◌, List, [], ◌∷◌, ◌++◌, length, take, drop, sym, ap, subst, ◌∙◌, append_assoc, length-append, arith}
 use Rattle.std.specs.List.{flat_map, AllByRecursion}
 use Rattle.std.proofs.Math.Seq.{take-append_seam, drop-append_seam}
 use Rattle.std.specs.Prelude.{Result, Ok, Err, IfErr, OnErr, IsErrAnd}
 use Rattle.hunk_words.specs.declared.reason.Reason.TheVariants as reasons
 use Rattle.hunk_blocks.specs.Parts.{list_text}
-use Rattle.hunk_blocks.specs.Reading.{Unread, Reads, BeginsWithNo, BeginsWithNoItem, cut}
+use Rattle.hunk_blocks.specs.Reading.{Unread, Reads, BeginsWithNo, BeginsWithNoItem, HasLongIn, cut}
 use Rattle.hunk_blocks.proofs.Lists.{All-more, flat_map-more}
 
 -- one list in front of another is known by its length
@@ -21,9 +21,6 @@ Reads-append a b c xs ys h k =
       front = h.front ∙ ap (λ l. xs ++ l) k.front ∙ sym (append_assoc xs ys c.rest);
       further = omega (arith, h.further, k.further, length-append xs ys);
     }
-
-pub Reads-nil : (a : Unread) → Reads a a []
-Reads-nil a = record { front = refl; further = omega arith }
 
 -- What is read leaves the end of the input where it is.
 pub cut-Reads : (a b : Unread) (xs : List ℕ) → Reads a b xs → cut a ≡ cut b
@@ -90,10 +87,11 @@ pub if_err_and : {T E : Type 0} (r : Result T E) (Q P : E → Type 0) → IsErrA
 if_err_and (Ok x) Q P q h = tt
 if_err_and (Err e) Q P q h = h e q
 
-pub on_err_of : {T E P Q : Type 0} (r : Result T E) → OnErr r P → (P → Q) → OnErr r Q
-on_err_of (Ok x) h f = tt
-on_err_of (Err e) h f = f h
-
-pub if_err_with : {T E Q : Type 0} (r : Result T E) (P R : E → Type 0) → OnErr r Q → IfErr r P → ((e : E) → Q → P e → R e) → IfErr r R
-if_err_with (Ok x) P R q h f = tt
-if_err_with (Err e) P R q h f = f e q h
+-- the longword that was read last
+pub long_read : (a b c : Unread) (ws vs : List ℕ) (place : ℕ) → Reads a b ws → Reads b c vs → 0 < length vs → place + 4 ≡ c.place → HasLongIn a place
+long_read a b c ws vs place h k some e =
+    record {
+      number = length ws + length vs - 1;
+      place = omega (arith, e, h.further, k.further, some);
+      inside = omega (arith, some, ap length h.front, ap length k.front, length-append ws b.rest, length-append vs c.rest);
+    }

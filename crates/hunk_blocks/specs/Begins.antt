@@ -20,3 +20,8 @@ pub record BeginsWithBlock (mode : Mode) (bytes : List ℕ) (b : BlockValue) (n 
 -- No prefix of the bytes is the text of a block of the mode.
 unfoldable pub BeginsWithNoBlock : Mode → List ℕ → Type 0
 BeginsWithNoBlock mode bytes = (b : BlockValue) → IsBlock b → IsOfMode mode b → (rest : List ℕ) → bytes ≡ bytes_of (block_text b) ++ rest → ⊥
+
+-- The first bytes, this number of them, are the text of some block of the mode.
+pub record HasBlockText (mode : Mode) (bytes : List ℕ) (size : ℕ) : Type 0 where
+  pub value : BlockValue
+  pub begins : BeginsWithBlock mode bytes value size

@@ -1,16 +1,13 @@
 -- The first longword that is refused, of bytes that are read as a text whose longwords have roles.
-use Rattle.std.specs.Prelude.{◌≡◌, ℕ, ◌+◌, ◌*◌, List, [], ◌∷◌, ◌++◌, length, map, Option, Some, ◌⊎◌}
-use Rattle.std.specs.List.{flat_map, AllByRecursion}
-use Rattle.hunk_words.specs.Limits.{name_limit}
-use Rattle.hunk_words.specs.declared.fault.Fault.{Fault}
+use Rattle.std.specs.Prelude.{◌≡◌, ℕ, ◌+◌, ◌*◌, List, ◌∷◌, ◌++◌, length, map, Option, Some, ◌⊎◌}
 use Rattle.hunk_words.specs.declared.reason.Reason.{Reason}
 use Rattle.hunk_words.specs.declared.reason.Reason.TheVariants as reasons
 use Rattle.hunk_words.specs.Longs.{longs}
 use Rattle.hunk_blocks.specs.declared.mode.Mode.{Mode}
-use Rattle.hunk_blocks.specs.Values.{BlockBody, BlockValue, ExtEntry, FitsWord, IsBlock, IsExtEntry, IsGroup, IsPayload, IsSymbolEntry, RelocGroup, SymbolEntry}
-use Rattle.hunk_blocks.specs.Parts.{Part, Part as parts, counted, body_parts, block_parts, ext_parts, group_parts, symbol_parts}
+use Rattle.hunk_blocks.specs.Values.{BlockValue, IsBlock}
+use Rattle.hunk_blocks.specs.Parts.{Part, Part as parts, block_parts}
 use Rattle.hunk_blocks.specs.Modes.{IsOfMode, refuse_alone_word, refuse_inside}
-use Rattle.hunk_blocks.specs.Reading.{Unread, IsFrontOf, cut}
+use Rattle.hunk_blocks.specs.Reading.{IsFrontOf}
 use Rattle.hunk_blocks.specs.Begins.{BeginsWithNoBlock}
 
 -- The values, the longwords of each with their roles, and the test of a longword by its role.
@@ -49,12 +46,6 @@ module _ {Value Role : Type 0} (g : Grammar Value Role) where
   abbrev pub IsFront : List ℕ → Type 0
   IsFront ws = IsFrontOf g.Is (λ v. words (g.labelled v)) ws
 
-  -- Of what a reader has before it, a longword is refused.
-  pub record RefusedAhead (r : Unread) (fault : Fault) : Type 0 where
-    pub at : ℕ
-    pub place : fault.place ≡ r.place + at
-    pub refusal : HasRefusal r.rest at fault.reason
-
   -- Some text begins with these longwords up to the one at byte `at`, and with that.
   pub record IsFrontTo (ws : List ℕ) (at : ℕ) : Type 0 where
     pub read : List ℕ
@@ -63,43 +54,7 @@ module _ {Value Role : Type 0} (g : Grammar Value Role) where
     pub place : at + 4 ≡ 4 * length read
     pub front : IsFront read
 
-  -- Memory is out at a longword of what a reader has before it, and some text begins with the
-  -- longwords up to that one, and with it.
-  pub record WantAhead (r : Unread) (fault : Fault) : Type 0 where
-    pub reason : fault.reason ≡ reasons.OutOfMemory
-    pub at : ℕ
-    pub place : fault.place ≡ r.place + at
-    pub front : IsFrontTo r.rest at
-
-  -- Of it a longword is refused, or it ends too soon, or memory is out.
-  abbrev pub FaultAhead : Unread → Fault → Type 0
-  FaultAhead r fault = RefusedAhead r fault ⊎ (((fault ≡ cut r) × IsFront r.rest) ⊎ WantAhead r fault)
-
 -- ---- blocks
-
--- a name and its count
-abbrev pub name : Grammar (List ℕ) Part
-name = record { Is = IsPayload name_limit; labelled = counted parts.NameCount; refuse = refuse_inside }
-
--- a list of such values, which a zero of this part ends
-abbrev pub list_of : {A : Type 0} → (A → Type 0) → (A → List (Part × ℕ)) → Part → Grammar (List A) Part
-list_of Is parts_of part = record { Is = AllByRecursion Is; labelled = λ xs. flat_map parts_of xs ++ (part, 0) ∷ []; refuse = refuse_inside }
-
--- the groups of a relocation block
-abbrev pub groups : Grammar (List RelocGroup) Part
-groups = list_of IsGroup group_parts parts.GroupCount
-
--- the entries of an EXT block
-abbrev pub entries : Grammar (List ExtEntry) Part
-entries = list_of IsExtEntry ext_parts parts.ExtWord
-
--- the entries of a SYMBOL block
-abbrev pub symbols : Grammar (List SymbolEntry) Part
-symbols = list_of IsSymbolEntry symbol_parts parts.EntryWord
-
--- what follows this block word
-abbrev pub body_behind : ℕ → Grammar BlockBody Part
-body_behind word = record { Is = FitsWord word; labelled = body_parts; refuse = refuse_inside }
 
 -- The tests of a longword of a block that stands alone.
 abbrev pub refuse_alone : Mode → Part → ℕ → Option Reason

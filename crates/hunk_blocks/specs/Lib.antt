@@ -1,3 +1,4 @@
+pub mod Along
 pub mod Begins
 pub mod BlockSteps
 pub mod Entries
@@ -5,6 +6,7 @@ pub mod ExtKinds
 pub mod Faults
 pub mod Modes
 pub mod Parts
+pub mod PhaseSteps
 pub mod Reading
 pub mod Values
 pub mod Views

@@ -1,5 +1,5 @@
 -- What a reader of longwords has before it, and what was read of it.
-use Rattle.std.specs.Prelude.{◌≡◌, ℕ, ◌+◌, ◌*◌, List, [], ◌∷◌, ◌++◌, length, Option, None, Some}
+use Rattle.std.specs.Prelude.{◌≡◌, ℕ, ◌+◌, ◌*◌, ◌<◌, List, [], ◌∷◌, ◌++◌, length, Option, None, Some}
 use Rattle.hunk_words.specs.declared.fault.Fault.{Fault}
 use Rattle.hunk_words.specs.declared.reason.Reason.TheVariants as reasons
 
@@ -37,3 +37,9 @@ pub record IsFrontOf {A : Type 0} (Is : A → Type 0) (text : A → List ℕ) (w
 -- the refusal where the input ends too soon
 abbrev pub cut : Unread → Fault
 cut r = record { place = r.place + 4 * length r.rest; reason = reasons.Truncated }
+
+-- One of the longwords still to come stands at this byte.
+pub record HasLongIn (r : Unread) (at : ℕ) : Type 0 where
+  pub number : ℕ
+  pub place : at ≡ r.place + 4 * number
+  pub inside : number < length r.rest

@@ -13,11 +13,13 @@ ghost use Rattle.hunk_blocks.specs.Parts.{block_text};
 ghost use Rattle.hunk_blocks.specs.Modes.{is_block_refusal, refuse_alone_word, takes_memory};
 ghost use Rattle.hunk_blocks.specs.Faults.{HasBlockFault, IsFrontTo, blocks};
 ghost use Rattle.hunk_blocks.specs.Begins.{BeginsWithBlock, BeginsWithNoBlock, first_long};
+ghost use Rattle.hunk_blocks.specs.Reading.{HasLongIn};
 ghost use Rattle.hunk_blocks.specs.Views.{body_of};
 
 use crate::body::Body;
 use crate::mode::Mode;
 use crate::reading::{LongReader, read_body};
+use crate::walk::walk_block;
 use crate::writing::print_body;
 use hunk_words::{BlockFault, BlockWord, LongWriter, PagePrinter, Sink, WriteFault};
 use std::alloc::Global;
@@ -93,6 +95,30 @@ impl<'a> Block<'a> {
         ensures first_word { (reason : Reason) → 4 ≤ length bytes.entry.now →
             refuse_alone_word mode (first_long bytes.entry.now) ≡ Some reason →
             result ≡ Err (record { place = 0; reason = reason }) }
+    {
+        let size = walk_block(bytes, mode)?;
+        Block::read(alloc, &bytes[..size], mode)
+    }
+
+    /// The block that the bytes begin with, and the number of its bytes, for a reader that has seen
+    /// that they begin with one: it does not find the first fault.
+    ///
+    /// # Errors
+    ///
+    /// `OutOfMemory` at the longword that completes what was to be kept; anything else where no
+    /// block begins.
+    pub fn read(
+        alloc: Global,
+        bytes: &'a [u8],
+        mode: Mode,
+    ) -> Result<(Block<'a>, usize), BlockFault>
+        ensures block { IfOk result (λ r. BeginsWithBlock mode bytes.entry.now r.0 r.1) }
+        ensures none { IfErr result (λ fault.
+            fault.reason ≢ reasons.OutOfMemory → BeginsWithNoBlock mode bytes.entry.now) }
+        ensures memory { IfErr result (λ fault. fault.reason ≡ reasons.OutOfMemory →
+            IsTrue (takes_memory (kind (first_long bytes.entry.now)))) }
+        ensures reached { IfErr result (λ fault. fault.reason ≡ reasons.OutOfMemory →
+            HasLongIn (record { rest = longs bytes.entry.now; place = 0 }) fault.place) }
     {
         let mut reader = LongReader::new(bytes);
         let word = BlockWord::of(reader.long()?);

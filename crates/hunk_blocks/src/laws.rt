@@ -5,9 +5,12 @@ ghost use Rattle.hunk_blocks.specs.declared.mode.Mode.{Mode};
 ghost use Rattle.hunk_blocks.specs.Begins.{BeginsWithBlock, BeginsWithNoBlock};
 ghost use Rattle.hunk_blocks.specs.Faults.{Expects, HasBlockFault, HasRefusal, IsFront};
 ghost use Rattle.hunk_blocks.specs.Faults.{IsTruncatedBlock, blocks, refuse_alone};
-ghost use Rattle.std.specs.Prelude.{◌≡◌, List, [], ◌∷◌, ◌++◌, ℕ, None, ◌⊎◌};
+ghost use Rattle.std.specs.Prelude.{◌≡◌, List, [], ◌∷◌, ◌++◌, ℕ, Some, None, ◌⊎◌};
 ghost use Rattle.hunk_blocks.specs.Values.{BlockValue, IsBlock};
-ghost use Rattle.hunk_blocks.specs.Parts.{Part, block_text};
+ghost use Rattle.hunk_blocks.specs.Parts.{Part, block_parts, block_text};
+ghost use Rattle.hunk_blocks.specs.Along.{GoesAlong, refuse_at, step_on};
+ghost use Rattle.hunk_blocks.specs.Modes.{IsOfMode};
+ghost use Rattle.hunk_blocks.specs.declared.phase.Phase.TheVariants as phases;
 
 /// No block begins another, and one text has one block.
 ///
@@ -35,4 +38,12 @@ pub fn block_fault()
     ensures complete { (mode : Mode) (before : List ℕ) (role : Part) (word : ℕ) →
         Expects (blocks mode) before role → IsLong word → refuse_alone mode role word ≡ None →
         IsFront (blocks mode) (before ++ word ∷ []) }
+{}
+
+/// `Phase` is the machine of the format: along the text of each block its test is that of each
+/// longword's part, its steps lead on, and behind the last longword no phase is left.
+pub fn block_machine()
+    ensures { (mode : Mode) (b : BlockValue) → IsBlock b → IsOfMode mode b →
+        GoesAlong (refuse_at mode) (refuse_alone mode) step_on
+            (Some phases.BlockWord) (block_parts b) None }
 {}

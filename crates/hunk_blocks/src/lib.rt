@@ -13,8 +13,10 @@ mod list;
 mod longs;
 mod mode;
 mod payload;
+mod phase;
 mod reading;
 mod symbols;
+mod walk;
 mod writing;
 
 pub use crate::block::Block;
@@ -28,4 +30,6 @@ pub use crate::list::BlockList;
 pub use crate::longs::{Longs, LongsIter};
 pub use crate::mode::Mode;
 pub use crate::payload::Payload;
+pub use crate::phase::{Phase, content_longs};
 pub use crate::symbols::{Named, Symbols};
+pub use crate::walk::walk_block;

@@ -5,8 +5,7 @@ ghost use Rattle.hunk_words.specs.Bits.{kind};
 ghost use Rattle.hunk_blocks.specs.Values.{FitsWord};
 ghost use Rattle.hunk_blocks.specs.Parts.{body_text};
 ghost use Rattle.hunk_blocks.specs.Modes.{MayRefuse, refuse_alone_word};
-ghost use Rattle.hunk_blocks.specs.Faults.{FaultAhead, body_behind};
-ghost use Rattle.hunk_blocks.specs.Reading.{BeginsWithNo, Reads, cut};
+ghost use Rattle.hunk_blocks.specs.Reading.{HasLongIn, BeginsWithNo, Reads, cut};
 ghost use Rattle.hunk_blocks.specs.Views.{body_of};
 
 mod entries;
@@ -37,7 +36,8 @@ pub(crate) fn read_body<'a>(
         FitsWord word (body_of body) × Reads reader.old reader.new (body_text (body_of body))) }
     ensures none { IfErr result (λ fault. fault.reason ≢ reasons.OutOfMemory →
         BeginsWithNo (FitsWord word) body_text reader.old.rest) }
-    ensures first { IfErr result (λ fault. FaultAhead (body_behind word) reader.old fault) }
+    ensures reached { IfErr result (λ fault. fault.reason ≡ reasons.OutOfMemory →
+        HasLongIn reader.old fault.place) }
     ensures fault { IfErr result (λ fault.
         (fault ≡ cut reader.old) ⊎ MayRefuse (kind word) fault.reason) }
 {

@@ -11,7 +11,8 @@ use Rattle.hunk_blocks.specs.Begins.{BeginsWithBlock, BeginsWithNoBlock}
 use Rattle.hunk_blocks.proofs.BlockPrefix.{block_same}
 use Rattle.hunk_blocks.proofs.BlockLongs.{block_longs}
 use Rattle.hunk_blocks.proofs.Lists.{All-more, flat_map-more}
-use Rattle.hunk_blocks.specs.Faults.{IsFrontTo, blocks}
+use Rattle.hunk_blocks.specs.Faults.{blocks}
+use Rattle.hunk_blocks.specs.Reading.{HasLongIn}
 use Rattle.hunk_files.specs.Fault.{HasLongAt}
 use Rattle.hunk_files.specs.Hunks.{is_end, block_texts, EndsOnce, IsLoadBlock, StandsAt, AreBlocksAt, HasNoHunk}
 
@@ -90,13 +91,13 @@ module _ (bytes : List ℕ) (start : ℕ) (bs : List BlockValue) (at : ℕ) (s :
       }
 
 -- A longword of what follows the blocks.
-pub behind_reached : (bytes : List ℕ) (start at : ℕ) (bs : List BlockValue) → BlocksSoFar bytes start bs at → (number inner place : ℕ) → start ≤ length bytes → start ≡ 4 * number → IsFrontTo (blocks modes.Load) (longs (drop at bytes)) inner → place ≡ at + inner → HasLongAt bytes place
+pub behind_reached : (bytes : List ℕ) (start at : ℕ) (bs : List BlockValue) → BlocksSoFar bytes start bs at → (number inner place : ℕ) → start ≤ length bytes → start ≡ 4 * number → HasLongIn (record { rest = longs (drop at bytes); place = 0 }) inner → place ≡ at + inner → HasLongAt bytes place
 behind_reached bytes start at bs s number inner place inside whole f p =
     let long : at ≡ start + 4 * length (block_texts bs) = stands_size bytes start at (block_texts bs) inside s.texts in
     record {
-      number = number + length (block_texts bs) + length f.read - 1;
+      number = number + length (block_texts bs) + f.number;
       place = omega (arith, whole, p, long, f.place);
-      inside = omega (arith, p, f.place, ap length f.split, length-append f.read f.after, length-longs (drop at bytes), length-drop at bytes, s.texts.inside);
+      inside = omega (arith, p, f.place, f.inside, length-longs (drop at bytes), length-drop at bytes, s.texts.inside);
     }
 
 -- Where no block follows, no blocks up to END stand in front.

@@ -12,18 +12,20 @@ pub mod FileText
 pub mod FileViews
 mod FindingSteps
 pub mod HunkProgress
-mod PartFaults
 mod HunkFaults
 pub mod HunkReading
 pub mod ImageParts
 pub mod InsideCases
 pub mod Least
+pub mod Machines
 pub mod Memory
 pub mod Positions
 mod ObjectDecoding
 mod ObjectOutcome
 mod ObjectProgress
 pub mod ObjectText
+mod ObjectReached
+mod ObjectWalks
 mod ObjectWords
 pub mod OffsetLists
 pub mod Peel

@@ -1,20 +1,17 @@
 -- What a decoder that reads an object file part by part has to know.
-use Rattle.std.proofs.Common.{◌≡◌, ◌≢◌, ℕ, zero, suc, ◌+◌, ◌*◌, ◌^◌, ◌<◌, ◌≤◌, Bool, true, false, List, [], ◌∷◌, ◌++◌, length, map, drop, get_or, refl, sym, ap, ap₂, subst, ◌∙◌, append_assoc, arith, Some, None, Result, Ok, Err}
+use Rattle.std.proofs.Common.{◌≡◌, ℕ, zero, suc, ◌+◌, ◌*◌, ◌^◌, ◌<◌, ◌≤◌, Bool, true, false, List, [], ◌∷◌, ◌++◌, length, map, drop, get_or, refl, sym, ap, ap₂, subst, ◌∙◌, append_assoc, arith, None, Result, Ok, Err}
 use Rattle.std.specs.Prelude.{◌||◌, IsTrue, IfOk, IfErr}
 use Rattle.std.specs.List.{flat_map, AllByRecursion}
 use Rattle.std.proofs.lemmas.List.{take-append-drop, length-drop, length-take-le}
 use Rattle.std.proofs.Math.Seq.{take-add}
 use Rattle.hunk_words.specs.declared.block_word.Kind.{Kind}
 use Rattle.hunk_words.specs.declared.block_word.Kind.TheVariants as kinds
-use Rattle.hunk_words.specs.declared.reason.Reason.{Reason}
-use Rattle.hunk_words.specs.declared.reason.Reason.TheVariants as reasons
 use Rattle.hunk_words.specs.Bits.{kind}
 use Rattle.hunk_words.specs.Longs.{longs, bytes_of, IsBytes, AreLongs, IsLong}
 use Rattle.hunk_words.proofs.LongLaws.{bytes_of-append, length-bytes_of, longs-bytes_of, spelled, longs-few}
 use Rattle.hunk_blocks.specs.declared.mode.Mode.TheVariants as modes
 use Rattle.hunk_blocks.specs.Values.{BlockBody, BlockValue, Reloc, Advisory, End, FitsWord, IsBlock, IsPayload, is_relocation, is_unknown}
 use Rattle.hunk_blocks.specs.Parts.{block_text}
-use Rattle.hunk_blocks.specs.Modes.{is_block_refusal}
 use Rattle.hunk_blocks.specs.Begins.{BeginsWithBlock, BeginsWithNoBlock, first_long}
 use Rattle.hunk_blocks.specs.Reading.{BeginsWithNo}
 use Rattle.hunk_blocks.proofs.Lists.{map-more, flat_map-more, All-more, All-append}
@@ -22,7 +19,7 @@ use Rattle.hunk_blocks.proofs.BlockLongs.{block_longs}
 use Rattle.hunk_blocks.proofs.BlockPrefix.{block_same}
 use Rattle.hunk_files.specs.LoadFile.{standing, AreInOrder}
 use Rattle.hunk_scan.specs.Standings.{BlockStanding, Beside, Content, Relocating, Ending, is_content, is_ending, refuse_standing, standing_of_kind}
-use Rattle.hunk_files.specs.ObjectFile.{is_object_refusal, ObjectHunk, UnitValue, ObjectFileValue, IsObjectHunk, IsUnit, unit_header, unit_text, object_text}
+use Rattle.hunk_files.specs.ObjectFile.{ObjectHunk, UnitValue, ObjectFileValue, IsObjectHunk, IsUnit, unit_header, unit_text, object_text}
 use Rattle.hunk_files.specs.ObjectParts.{BeginsWithText, MayStand}
 use Rattle.hunk_files.proofs.Accepted.{All-flat_map}
 
@@ -128,36 +125,8 @@ pub err_of : {A E : Type 0} (r : Result A E) (P : E → Type 0) (Q : E → Type 
 err_of (Ok x) P Q h f = h
 err_of (Err e) P Q h f = f e h
 
-pub err_both : {A E : Type 0} (r : Result A E) (P Q R : E → Type 0) → IfErr r P → IfErr r Q → ((x : E) → P x → Q x → R x) → IfErr r R
-err_both (Ok x) P Q R h k f = h
-err_both (Err e) P Q R h k f = f e h k
-
 -- ---- reasons
-
-pub place_own : (has : Bool) (s : BlockStanding) (reason : Reason) → refuse_standing has s ≡ Some reason → IsTrue (is_object_refusal reason)
-place_own true Content reason e = let same : reasons.SecondContent ≡ reason = cc in subst (λ (x : Reason). IsTrue (is_object_refusal x)) same refl
-place_own false Relocating reason e = let same : reasons.BeforeContent ≡ reason = cc in subst (λ (x : Reason). IsTrue (is_object_refusal x)) same refl
-place_own false Ending reason e = let same : reasons.NoContent ≡ reason = cc in subst (λ (x : Reason). IsTrue (is_object_refusal x)) same refl
-place_own true Beside reason e = absurd cc
-place_own _ _ reason e = absurd cc
-
-pub block_own : (reason : Reason) → IsTrue (is_block_refusal reason) → reason ≢ reasons.NotInLoadFile → IsTrue (is_object_refusal reason)
-block_own reasons.NotInLoadFile h ne = absurd (ne refl)
-block_own reasons.Library h ne = refl
-block_own reasons.BothBits h ne = refl
-block_own reasons.Overlay h ne = refl
-block_own reasons.Break h ne = refl
-block_own reasons.ShortReloc h ne = refl
-block_own reasons.Misplaced h ne = refl
-block_own reasons.UnknownBlock h ne = refl
-block_own reasons.NameWord h ne = refl
-block_own reasons.ExtKind h ne = refl
-block_own reasons.Truncated h ne = refl
-block_own reasons.OutOfMemory h ne = refl
-block_own _ h ne = absurd cc
-
 -- ---- the blocks of a hunk
-
 -- These blocks may follow one another, and none of them ends the hunk. The flags say whether the content block came before them, and whether it came then.
 abbrev pub Leads : Bool → List BlockStanding → Bool → Type 0
 Leads a [] b = a ≡ b

@@ -14,11 +14,11 @@ use Rattle.hunk_files.proofs.OneObjectFault.{ObjectState, AtWord, AtCount, InNam
 use Rattle.hunk_files.proofs.UnitFaults.{units_words}
 use Rattle.hunk_files.proofs.UnitReading.{text_longs}
 
-keeps : Keeps objects reader
+unfoldable pub keeps : Keeps objects reader
 keeps = record { SoFar = SoFar; begins = refl; expects = expected; goes_on = goes_on; ends = λ s before h e. absurd (never s e) }
 
 -- The longwords of an object file lead between hunks, and nowhere else.
-leads_there : (bytes : List ℕ) (o : ObjectFileValue) → IsObjectFile o → bytes ≡ bytes_of (object_text o) → run reader (AtWord BeforeUnits) (longs bytes) ≡ AtWord BetweenHunks
+pub leads_there : (bytes : List ℕ) (o : ObjectFileValue) → IsObjectFile o → bytes ≡ bytes_of (object_text o) → run reader (AtWord BeforeUnits) (longs bytes) ≡ AtWord BetweenHunks
 leads_there bytes o is e =
     ap (run reader (AtWord BeforeUnits)) (text_longs bytes o is.units e ∙ sym (units_words BeforeUnits o))
     ∙ leads_run reader (AtWord BeforeUnits) (AtWord BetweenHunks) (units_labelled BeforeUnits o) (file_leads o is)

@@ -14,16 +14,12 @@ use Rattle.hunk_blocks.specs.ExtKinds.{ext_kind, ext_shape, shape_of_kind}
 use Rattle.hunk_blocks.specs.Parts.{Part, Part as parts}
 use Rattle.hunk_blocks.specs.Modes.{refuse_alone_kind, refuse_alone_word, refuse_inside, refuse_shape}
 use Rattle.hunk_blocks.proofs.Admitted.{not_for_memory, other_than_memory}
-use Rattle.hunk_scan.specs.Standings.{BlockStanding, first_of, refuse_standing, standing_of_kind}
+use Rattle.hunk_scan.specs.Standings.{first_of, standing_of_kind}
 use Rattle.hunk_files.specs.ObjectFile.{unit_word}
-use Rattle.hunk_files.specs.ObjectFault.{WordPlace, BeforeUnits, BetweenHunks, InHunk, ObjectRole, WordAt, UnitCount, Within, object_role_at, has_content, refuse_ext_type, refuse_object_kind, refuse_unit, refuse_object_word, refuse_object}
+pub use Rattle.hunk_files.specs.ObjectSteps.{refuse_place}
+use Rattle.hunk_files.specs.ObjectFault.{WordPlace, BeforeUnits, BetweenHunks, InHunk, ObjectRole, WordAt, UnitCount, Within, object_role_at, refuse_ext_type, refuse_object_kind, refuse_unit, refuse_object_word, refuse_object}
 
 -- ---- block words
-
--- The test of the place of a block that is no unit.
-abbrev pub refuse_place : WordPlace → BlockStanding → Option Reason
-refuse_place BeforeUnits s = Some reasons.Misplaced
-refuse_place place s = refuse_standing (has_content place) s
 
 pub kind_split : (place : WordPlace) (advisory : Bool) (k : Kind) → refuse_object_kind place advisory k ≡ first_of (refuse_alone_kind modes.Object advisory k) (refuse_place place (standing_of_kind k))
 kind_split BeforeUnits true (kinds.Unknown n) = refl

@@ -10,18 +10,19 @@ use Rattle.hunk_words.specs.Longs.{longs}
 use Rattle.hunk_blocks.specs.declared.mode.Mode.TheVariants as modes
 use Rattle.hunk_blocks.specs.Values.{BlockBody, BlockValue, IsBlock}
 use Rattle.hunk_blocks.specs.Parts.{Part, body_parts}
-use Rattle.hunk_blocks.specs.Faults.{HasRefusal, IsFrontTo}
+use Rattle.hunk_blocks.specs.Faults.{HasRefusal}
 use Rattle.hunk_blocks.proofs.Admitted.{word_passes}
 use Rattle.hunk_blocks.specs.BlockSteps.{Inside, BlockNext, Open, Whole, part_of, step_inside, begin_body, Follows}
 use Rattle.hunk_blocks.proofs.BlockText.{body_follows}
 use Rattle.hunk_blocks.proofs.FaultLaws.{relabel}
-use Rattle.hunk_blocks.proofs.FaultScan.{Machine, Leads, Leads-append, Passes, Reads, one_fault as one_of, fault_behind, front_passes}
+use Rattle.hunk_blocks.proofs.FaultScan.{Machine, Leads, Leads-append, Passes, Reads, one_fault as one_of, front_passes}
 use Rattle.hunk_blocks.proofs.Lists.{All-append, passes_then, passes_else}
 use Rattle.hunk_blocks.proofs.OneBlockFault.{PartsPass, body_passes, part_not_word}
 use Rattle.hunk_files.specs.LoadFile.{standing, AreInOrder}
 use Rattle.hunk_scan.specs.Standings.{BlockStanding, Beside, Content, Relocating, Ending, is_content, refuse_standing, standing_of_kind, first_of}
 use Rattle.hunk_files.specs.ObjectFile.{ObjectHunk, UnitValue, ObjectFileValue, IsObjectFile, IsObjectHunk, IsUnit, IsNoObjectFile, unit_word}
 use Rattle.hunk_files.specs.ObjectFault.{WordPlace, BeforeUnits, BetweenHunks, InHunk, ObjectRole, WordAt, UnitCount, UnitName, Within, has_content, behind_block, object_role_at, object_block_labelled, object_blocks_labelled, object_hunk_labelled, unit_header_labelled, unit_labelled, units_labelled, refuse_unit, refuse_object_word, refuse_object, objects, IsTruncatedObject, HasObjectFault}
+pub use Rattle.hunk_files.specs.ObjectSteps.{place_next}
 use Rattle.hunk_files.proofs.ObjectDecoding.{standing_is, standings}
 use Rattle.hunk_files.proofs.ObjectWords.{refuse_place, within_role, within_split, word_split}
 use Rattle.hunk_files.proofs.UnitFaults.{units_words}
@@ -42,11 +43,6 @@ expects (AtWord place) = Some (WordAt place)
 expects AtCount = Some UnitCount
 expects (InName owed) = Some UnitName
 expects (InBlock next x) = Some (Within (part_of x))
-
--- the place behind a block that stands here
-abbrev pub place_next : WordPlace → BlockStanding → WordPlace
-place_next place Ending = BetweenHunks
-place_next place s = behind_block place s
 
 abbrev pub in_block : WordPlace → BlockNext → ObjectState
 in_block next (Open x) = InBlock next x
@@ -213,10 +209,6 @@ not_truncated bytes at reason at2 h k = front_passes objects reader object_reads
 
 pub one_fault : (bytes : List ℕ) (at at2 : ℕ) (reason reason2 : Reason) → HasObjectFault bytes at reason → HasObjectFault bytes at2 reason2 → (at ≡ at2) × (reason ≡ reason2)
 one_fault bytes = one_of objects reader object_reads (longs bytes) (IsTruncatedObject bytes) (λ at t. (t.place, t.front))
-
--- No fault lies at or before a longword up to which an object file goes.
-pub fault_further : (bytes : List ℕ) (at at2 : ℕ) (reason : Reason) → IsFrontTo objects (longs bytes) at → HasObjectFault bytes at2 reason → at < at2
-fault_further bytes = fault_behind objects reader object_reads (longs bytes) (IsTruncatedObject bytes) (λ at t. (t.place, t.front))
 
 pub no_object : (bytes : List ℕ) (at : ℕ) (reason : Reason) → HasObjectFault bytes at reason → IsNoObjectFile bytes
 no_object bytes at reason (inr h) o is e = h.1.not_whole o is e

@@ -8,8 +8,8 @@ use Rattle.hunk_blocks.specs.Values.{SymbolEntry, BlockValue, End}
 use Rattle.hunk_blocks.specs.BlockSteps.{entry, ForName, ForDebug, ForAdvisory, ForCode, ForData, ForBss, Filling, Counted, SizedCode, SizedData, Inside, AtCount, AtSize, InPayload, AtGroup, AtTarget, InOffsets, AtEntry, InName, AtValue, BlockNext, Open, Whole, begin_body, step_inside, fill, name_entry}
 use Rattle.hunk_blocks.proofs.Lists.{map-more, more_owed, passed_both}
 use Rattle.hunk_scan.specs.declared.phase.OpenHunk as numbers
-use Rattle.hunk_scan.specs.declared.phase.Phase.{Phase}
-use Rattle.hunk_scan.specs.declared.phase.Phase.TheVariants as phases
+use Rattle.hunk_blocks.specs.declared.phase.Phase.{Phase}
+use Rattle.hunk_blocks.specs.declared.phase.Phase.TheVariants as phases
 use Rattle.hunk_scan.specs.declared.position.Position.{Position}
 use Rattle.hunk_scan.specs.declared.position.Position.TheVariants as positions
 use Rattle.hunk_scan.specs.Positions as scan

@@ -217,7 +217,7 @@ unfolding bytes_of
 no_units bytes = record { are = tt; text = text_none bytes refl; next = inl refl }
 
 module _ (bytes : List ℕ) (us : ObjectFileValue) (at : ℕ) (s : UnitsSoFar bytes us at) (u : UnitValue) (size : ℕ) (is : IsUnit u) (t : BeginsWithText (drop at bytes) (unit_text u) size) where
-  units_text : BeginsWithText bytes (object_text (us ++ u ∷ [])) (at + size)
+  pub units_text : BeginsWithText bytes (object_text (us ++ u ∷ [])) (at + size)
   units_text = subst (λ (ws : List ℕ). BeginsWithText bytes ws (at + size)) (sym (flat_map-more unit_text us u)) (text_more bytes (object_text us) (unit_text u) at size s.text t)
 
   pub units_inside : at + size ≤ length bytes

@@ -24,7 +24,7 @@ use Rattle.hunk_scan.specs.declared.position.Position.TheVariants as positions
 use Rattle.hunk_scan.specs.Positions as scan
 use Rattle.hunk_scan.specs.Positions.{role_at, run, offsets_to_come, pass_offsets, is_between_hunks, EndsWithin}
 use Rattle.hunk_scan.specs.declared.phase.OpenHunk as numbers
-use Rattle.hunk_scan.specs.declared.phase.Phase.TheVariants as phases
+use Rattle.hunk_blocks.specs.declared.phase.Phase.TheVariants as phases
 use Rattle.hunk_scan.proofs.OffsetRuns.{offset_passes}
 use Rattle.hunk_files.specs.Passing.{ArePassed}
 use Rattle.hunk_files.specs.FileSteps.{HunkSoFar, Progress, AtFirst, AtBlock, InBody, Next, More, Finished, role_of, step_file}

@@ -8,9 +8,11 @@ pub mod Hunks
 pub mod Image
 pub mod LoadFile
 pub mod LoadText
+pub mod Machines
 pub mod ObjectFault
 pub mod ObjectFile
 pub mod ObjectParts
+pub mod ObjectSteps
 pub mod OpenSegment
 pub mod Overlap
 pub mod Passing

@@ -1,5 +1,5 @@
 -- The longwords of an object file with their roles, the tests of them, and the first that is refused.
-use Rattle.std.specs.Prelude.{◌≡◌, ◌≢◌, ℕ, ◌*◌, ◌<◌, Bool, true, false, ◌||◌, ◌==◌, nat_lt, List, [], ◌∷◌, ◌++◌, length, map, ⊤, if◌then◌else◌, Option, Some, None, is_some, ◌⊎◌}
+use Rattle.std.specs.Prelude.{◌≡◌, ℕ, ◌*◌, ◌<◌, Bool, true, false, ◌||◌, ◌==◌, nat_lt, List, [], ◌∷◌, ◌++◌, length, map, if◌then◌else◌, Option, Some, None, is_some, ◌⊎◌}
 use Rattle.std.specs.List.{flat_map, AllByRecursion}
 use Rattle.hunk_words.specs.declared.reason.Reason.{Reason}
 use Rattle.hunk_words.specs.declared.reason.Reason.TheVariants as reasons
@@ -11,20 +11,14 @@ use Rattle.hunk_words.specs.Longs.{longs}
 use Rattle.hunk_blocks.specs.ExtKinds.{ext_kind}
 use Rattle.hunk_blocks.specs.Values.{BlockValue, IsBlock}
 use Rattle.hunk_blocks.specs.Parts.{Part, Part as parts, block_parts}
-use Rattle.hunk_blocks.specs.Begins.{first_long}
-use Rattle.hunk_blocks.specs.Reading.{Unread}
 use Rattle.hunk_blocks.specs.Faults.{Grammar, HasRefusal, IsFront}
 use Rattle.hunk_files.specs.LoadFile.{standing, AreInOrder}
 use Rattle.hunk_scan.specs.Standings.{BlockStanding, is_content}
+pub use Rattle.hunk_files.specs.declared.object.position.WordPlace.{WordPlace}
+pub use Rattle.hunk_files.specs.declared.object.position.WordPlace.TheVariants.{BeforeUnits, BetweenHunks, InHunk}
 use Rattle.hunk_files.specs.ObjectFile.{ObjectHunk, UnitValue, ObjectFileValue, IsUnit, IsNoObjectFile, unit_word}
 
 -- ---- roles
-
--- Where a block word stands. The flag of an open hunk says whether it has its content block.
-pub data WordPlace : Type 0 where
-  BeforeUnits : WordPlace
-  BetweenHunks : WordPlace
-  InHunk : Bool → WordPlace
 
 -- What a longword of an object file is for.
 pub data ObjectRole : Type 0 where
@@ -155,21 +149,3 @@ pub record IsTruncatedObject (bytes : List ℕ) (at : ℕ) : Type 0 where
 abbrev pub HasObjectFault : List ℕ → ℕ → Reason → Type 0
 HasObjectFault bytes at reason =
     HasRefusal objects (longs bytes) at reason ⊎ ((reason ≡ reasons.Truncated) × IsTruncatedObject bytes at)
-
--- ---- parts of the input
-
--- all the longwords of a part of the input, and places that count from its start
-abbrev pub unread : List ℕ → Unread
-unread bytes = record { rest = longs bytes; place = 0 }
-
--- A hunk that has its content block, or has it not, may go on with these bytes at this place.
-abbrev pub MayGoOn : WordPlace → Bool → List ℕ → Type 0
-MayGoOn BeforeUnits has bytes = ⊥
-MayGoOn BetweenHunks has bytes = (has ≡ false) × (first_long bytes ≢ unit_word)
-MayGoOn (InHunk with) has bytes = with ≡ has
-
--- A unit may be expected in front of these bytes.
-abbrev pub MayBegin : WordPlace → List ℕ → Type 0
-MayBegin BeforeUnits bytes = ⊤
-MayBegin BetweenHunks bytes = first_long bytes ≡ unit_word
-MayBegin (InHunk has) bytes = ⊥

@@ -16,6 +16,13 @@ ghost use Rattle.hunk_files.specs.ObjectFault.{HasObjectFault, IsTruncatedObject
 ghost use Rattle.hunk_blocks.specs.Faults.{Expects as ExpectsOf, HasRefusal as RefusalOf, IsFront};
 ghost use Rattle.hunk_files.specs.Findings.{findings};
 ghost use Rattle.hunk_files.specs.Strip.{strip_file, strip_object};
+ghost use Rattle.hunk_blocks.specs.Along.{GoesAlong};
+ghost use Rattle.hunk_files.specs.Machines.{refuse_in_load, refuse_in_object};
+ghost use Rattle.hunk_files.specs.ObjectFault.{BeforeUnits, BetweenHunks, units_labelled};
+ghost use Rattle.hunk_files.specs.ObjectSteps as object;
+ghost use Rattle.hunk_files.specs.declared.object.position.ObjectPosition.TheVariants as places;
+ghost use Rattle.hunk_scan.specs.Positions as load;
+ghost use Rattle.hunk_scan.specs.declared.position.Position.TheVariants as positions;
 
 /// No load text is a proper prefix of another, one text has one value, and the longwords before a
 /// place determine its role.
@@ -106,4 +113,14 @@ pub fn object_fault()
     ensures complete { (before : List ℕ) (role : ObjectRole) (word : ℕ) →
         ExpectsOf objects before role → IsLong word → refuse_object role word ≡ None →
         IsFront objects (before ++ word ∷ []) }
+{}
+
+/// The machines of positions are those of the formats: along the text of each file the test is that
+/// of each longword's role, the steps lead on, and the end is where a file may end.
+pub fn machines()
+    ensures load { (v : LoadFileValue) → IsLoadFile v →
+        GoesAlong refuse_in_load refuse load.step positions.FirstLong (labelled v) positions.Done }
+    ensures object { (o : ObjectFileValue) → IsObjectFile o →
+        GoesAlong refuse_in_object refuse_object object.step
+            (places.Word BeforeUnits) (units_labelled BeforeUnits o) (places.Word BetweenHunks) }
 {}

@@ -13,7 +13,9 @@ mod writing;
 
 pub use crate::hunk_file::HunkFile;
 pub use crate::load::{ImageFault, LoadFile};
-pub use crate::object::{Finding, FindingKind, Findings, Hunk, ObjectFile, TakesFindings, Unit};
+pub use crate::object::{
+    Finding, FindingKind, Findings, Hunk, ObjectFile, TakesFindings, Unit, walk_object,
+};
 pub use crate::row::Row;
 pub use crate::sniffing::sniff;
 pub use hunk_scan::Sniff;

@@ -3,11 +3,13 @@
 mod check;
 mod file;
 mod findings;
+mod position;
 mod refusal;
 mod strip;
 mod taker;
 mod unit;
 mod walk;
+mod whole;
 mod writing;
 
 pub use crate::object::check::{Finding, FindingKind};
@@ -15,3 +17,4 @@ pub use crate::object::file::ObjectFile;
 pub use crate::object::findings::Findings;
 pub use crate::object::taker::TakesFindings;
 pub use crate::object::unit::{Hunk, Unit};
+pub use crate::object::whole::walk_object;

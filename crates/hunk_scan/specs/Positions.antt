@@ -1,35 +1,20 @@
 -- Where a reader of a load file stands, in numbers alone: what the next longword is for, and what it leads to.
-use Rattle.std.specs.Prelude.{ℕ, zero, suc, ◌+◌, ◌-◌, ◌*◌, ◌≤◌, Bool, true, false, if◌then◌else◌}
+use Rattle.std.specs.Prelude.{ℕ, zero, suc, ◌+◌, ◌-◌, ◌*◌, ◌≤◌, Bool, true, false, if◌then◌else◌, Option, Some, None}
 use Rattle.hunk_words.specs.declared.block_word.Kind.{Kind}
-use Rattle.hunk_words.specs.declared.block_word.Kind.TheVariants as kinds
-use Rattle.hunk_words.specs.Bits.{has_both_bits, kind, name_longs, size_longs}
-use Rattle.hunk_blocks.specs.Parts.{Part, Part as parts}
+use Rattle.hunk_words.specs.Bits.{has_both_bits}
 use Rattle.hunk_scan.specs.declared.phase.OpenHunk.{OpenHunk}
-use Rattle.hunk_scan.specs.declared.phase.Phase.{Phase}
-use Rattle.hunk_scan.specs.declared.phase.Phase.TheVariants as phases
+use Rattle.hunk_blocks.specs.declared.phase.Phase.{Phase}
+use Rattle.hunk_blocks.specs.declared.phase.Phase.TheVariants as phases
 use Rattle.hunk_scan.specs.declared.position.Position.{Position}
 use Rattle.hunk_scan.specs.declared.position.Position.TheVariants as positions
+use Rattle.hunk_blocks.specs.PhaseSteps as inside
+pub use Rattle.hunk_blocks.specs.PhaseSteps.{part_at}
 use Rattle.hunk_scan.specs.Roles.{Place, Role, Role as roles, InBlock}
 
 -- ---- roles
 
 abbrev pub place : ℕ → OpenHunk → Place
 place longs o = record { hunks = o.hunks; longs = longs; has_content = o.has_content }
-
-abbrev pub part_at : Phase → Part
-part_at phases.FirstBlock = parts.BlockWord
-part_at phases.BlockWord = parts.BlockWord
-part_at phases.NameCount = parts.NameCount
-part_at phases.LongCount = parts.LongCount
-part_at phases.ContentSize = parts.ContentSize
-part_at phases.BssSize = parts.ContentSize
-part_at (phases.Content longs owed) = parts.Payload
-part_at (phases.Payload owed) = parts.Payload
-part_at phases.GroupCount = parts.GroupCount
-part_at (phases.Target owed) = parts.Target
-part_at (phases.Offset target owed) = parts.Offset
-part_at phases.EntryWord = parts.EntryWord
-part_at (phases.Symbol owed) = parts.EntryName
 
 -- The role of the next longword, where the open hunk declares this number of longs. Behind the end nothing is refused.
 abbrev pub role_at : ℕ → Position → Role
@@ -61,58 +46,43 @@ abbrev pub owe_entries : ℕ → ℕ → Position
 owe_entries hunks zero = open_next hunks hunks
 owe_entries hunks (suc owed) = positions.SizeWord hunks owed
 
--- the kinds that are refused do not matter
+-- Behind a longword of a block: inside it, or here where it is whole.
+abbrev pub onward : OpenHunk → Position → Option Phase → Position
+onward o here (Some phase) = at o phase
+onward o here None = here
+
+-- Behind the END of the hunk.
+abbrev pub close : OpenHunk → Position
+close o = open_next o.hunks o.ahead
+
+-- Behind a block whose last longword stands at this phase.
+abbrev pub behind : OpenHunk → Phase → Position
+behind o phases.FirstBlock = close o
+behind o phases.BlockWord = close o
+behind o phases.ContentSize = at (with_content o) phases.BlockWord
+behind o phases.BssSize = at (with_content o) phases.BlockWord
+behind o (phases.Content longs owed) = at (with_content o) phases.BlockWord
+behind o phase = at o phases.BlockWord
+
+-- behind a block word
 abbrev pub begin : OpenHunk → Kind → Position
-begin o kinds.Name = at o phases.NameCount
-begin o kinds.Code = at o phases.ContentSize
-begin o kinds.Data = at o phases.ContentSize
-begin o kinds.Bss = at o phases.BssSize
-begin o kinds.Reloc32 = at o phases.GroupCount
-begin o kinds.Symbol = at o phases.EntryWord
-begin o kinds.Debug = at o phases.LongCount
-begin o (kinds.Unknown n) = at o phases.LongCount
-begin o _ = open_next o.hunks o.ahead
+begin o k = onward o (close o) (inside.begin k)
 
 -- this number of longwords of the kind is owed
 abbrev pub owe_content : OpenHunk → ℕ → ℕ → Position
-owe_content o longs zero = at (with_content o) phases.BlockWord
-owe_content o longs (suc owed) = at o (phases.Content longs owed)
+owe_content o longs owed = onward o (at (with_content o) phases.BlockWord) (inside.owe_content longs owed)
 
 abbrev pub owe_payload : OpenHunk → ℕ → Position
-owe_payload o zero = at o phases.BlockWord
-owe_payload o (suc owed) = at o (phases.Payload owed)
-
-abbrev pub owe_targets : OpenHunk → ℕ → Position
-owe_targets o zero = at o phases.BlockWord
-owe_targets o (suc owed) = at o (phases.Target owed)
+owe_payload o owed = onward o (at o phases.BlockWord) (inside.owe_payload owed)
 
 abbrev pub owe_offsets : OpenHunk → ℕ → ℕ → Position
-owe_offsets o target zero = at o phases.GroupCount
-owe_offsets o target (suc owed) = at o (phases.Offset target owed)
+owe_offsets o target owed = onward o (at o phases.BlockWord) (inside.owe_offsets target owed)
 
 abbrev pub owe_symbol : OpenHunk → ℕ → Position
-owe_symbol o zero = at o phases.EntryWord
-owe_symbol o (suc owed) = at o (phases.Symbol owed)
-
--- The name, and the value behind it; a word of 0 ends the entries.
-abbrev pub owe_symbols : OpenHunk → ℕ → Position
-owe_symbols o zero = at o phases.BlockWord
-owe_symbols o (suc w) = owe_symbol o (suc (name_longs (suc w)))
+owe_symbol o owed = onward o (at o phases.BlockWord) (inside.owe_symbol owed)
 
 abbrev pub step_in : OpenHunk → Phase → ℕ → Position
-step_in o phases.FirstBlock w = begin o (kind w)
-step_in o phases.BlockWord w = begin o (kind w)
-step_in o phases.NameCount w = owe_payload o w
-step_in o phases.LongCount w = owe_payload o w
-step_in o phases.ContentSize w = owe_content o (size_longs w) (size_longs w)
-step_in o phases.BssSize w = at (with_content o) phases.BlockWord
-step_in o (phases.Content longs owed) w = owe_content o longs owed
-step_in o (phases.Payload owed) w = owe_payload o owed
-step_in o phases.GroupCount w = owe_targets o w
-step_in o (phases.Target owed) w = at o (phases.Offset w owed)
-step_in o (phases.Offset target owed) w = owe_offsets o target owed
-step_in o phases.EntryWord w = owe_symbols o w
-step_in o (phases.Symbol owed) w = owe_symbol o owed
+step_in o phase w = onward o (behind o phase) (inside.step phase w)
 
 -- Behind a longword that is not refused.
 abbrev pub step : Position → ℕ → Position
@@ -147,10 +117,7 @@ is_between_hunks _ = false
 
 -- the number of longwords that come at least and that no test looks at
 abbrev pub run_in : Phase → ℕ
-run_in (phases.Content longs owed) = suc owed
-run_in (phases.Payload owed) = suc owed
-run_in (phases.Symbol owed) = suc owed
-run_in _ = 0
+run_in phase = inside.run phase
 
 abbrev pub run : Position → ℕ
 run (positions.Body o phase) = run_in phase
@@ -158,10 +125,7 @@ run _ = 0
 
 -- behind one longword of a run and this number of further ones
 abbrev pub pass_in : OpenHunk → Phase → ℕ → Position
-pass_in o (phases.Content longs owed) n = owe_content o longs (owed - n)
-pass_in o (phases.Payload owed) n = owe_payload o (owed - n)
-pass_in o (phases.Symbol owed) n = owe_symbol o (owed - n)
-pass_in o phase n = at o phase
+pass_in o phase n = onward o (behind o phase) (inside.pass phase n)
 
 abbrev pub pass : Position → ℕ → Position
 pass p zero = p
@@ -206,6 +170,10 @@ least_in o (phases.Target owed) = owed + 3 + end_least o.has_content + 3 * o.ahe
 least_in o (phases.Offset target owed) = owed + 2 + end_least o.has_content + 3 * o.ahead
 least_in o phases.EntryWord = 1 + end_least o.has_content + 3 * o.ahead
 least_in o (phases.Symbol owed) = owed + 2 + end_least o.has_content + 3 * o.ahead
+least_in o phases.ExtWord = 1 + end_least o.has_content + 3 * o.ahead
+least_in o (phases.ExtFront owed) = owed + 3 + end_least o.has_content + 3 * o.ahead
+least_in o phases.ExtCount = 2 + end_least o.has_content + 3 * o.ahead
+least_in o (phases.ExtRest owed) = owed + 2 + end_least o.has_content + 3 * o.ahead
 
 -- Up to the end of the header, or behind it up to the end of the file.
 abbrev pub least_longs : Position → ℕ

@@ -12,7 +12,8 @@ mod standing;
 
 pub use crate::file_kind::Sniff;
 pub use crate::header::{TABLE_AT, TABLE_SIZE_AT};
-pub use crate::phase::{OpenHunk, Phase};
+pub use crate::phase::OpenHunk;
 pub use crate::position::Position;
 pub use crate::refusal::is_outside;
 pub use crate::standing::refuse_place;
+pub use hunk_blocks::Phase;

@@ -4,7 +4,8 @@ ghost use Rattle.hunk_scan.specs.Positions as positions;
 ghost use Rattle.hunk_scan.specs.Positions.{step, run, pass, offsets_to_come, pass_offsets, least_longs};
 ghost use Rattle.hunk_scan.specs.Positions.{is_done, is_behind_header, is_between_hunks};
 
-use crate::phase::{OpenHunk, Phase, open_next};
+use crate::phase::{OpenHunk, open_next};
+use hunk_blocks::Phase;
 use hunk_words::SizeWord;
 
 /// What the next longword of a load file is for.

@@ -2,13 +2,14 @@
 ghost use Rattle.std.specs.Prelude.{◌≡◌, ◌+◌, ◌*◌, nat_lt, Some, None, if◌then◌else◌};
 ghost use Rattle.hunk_blocks.specs.Parts.{Part as parts};
 ghost use Rattle.hunk_scan.specs.Roles.{Role as roles, refuse, refuse_part, refuse_word};
-ghost use Rattle.hunk_scan.specs.Positions.{role_at, part_at, place};
+ghost use Rattle.hunk_blocks.specs.PhaseSteps.{part_at};
+ghost use Rattle.hunk_scan.specs.Positions.{role_at, place};
 
 use crate::file_kind::Sniff;
-use crate::phase::{OpenHunk, Phase, content_longs};
+use crate::phase::OpenHunk;
 use crate::position::Position;
 use crate::standing::refuse_place;
-use hunk_blocks::Mode;
+use hunk_blocks::{Mode, Phase, content_longs};
 use hunk_words::{BlockWord, MOST_HUNKS, NAME_LIMIT, Reason, SizeWord};
 
 impl Position {

@@ -9,10 +9,11 @@ use Rattle.hunk_words.proofs.PartLaws.{longs-take}
 use Rattle.std.specs.List.{AllByRecursion}
 use Rattle.hunk_files.specs.declared.row.Row.{Row}
 use Rattle.hunk_scan.specs.declared.phase.OpenHunk.{OpenHunk}
-use Rattle.hunk_scan.specs.declared.phase.Phase.TheVariants as phases
+use Rattle.hunk_blocks.specs.declared.phase.Phase.TheVariants as phases
 use Rattle.hunk_scan.specs.declared.position.Position.{Position}
 use Rattle.hunk_scan.specs.declared.position.Position.TheVariants as positions
-use Rattle.hunk_scan.specs.Positions.{is_done, run, pass, owe_content, owe_payload, owe_symbol, EndsWithin}
+use Rattle.hunk_blocks.specs.PhaseSteps as inside
+use Rattle.hunk_scan.specs.Positions.{onward, is_done, run, pass, owe_content, owe_payload, owe_symbol, EndsWithin}
 use Rattle.hunk_scan.proofs.OffsetRuns.{offset_passes}
 use Rattle.hunk_scatter.specs.declared.body_state.BodyState.{BodyState}
 use Rattle.hunk_scatter.specs.BodyLoaderFields.{StandsBehind}
@@ -149,6 +150,22 @@ module _ (rows : List Row) (hunk start : ℕ) where
       moves zero w = refl
       moves (suc n) w = refl
 
+  front_owing : (o : OpenHunk) → Owing IsLong (λ n store. Unit {0}) (λ n. onward o (positions.Body o phases.BlockWord) (inside.owe_front n)) (λ n ws store. store)
+  front_owing o =
+      record { goes_on = λ n. refl; passes = λ n w l. refl; moves = moves; room = λ n w store h. tt; none = λ n store. refl; more = λ n w ws store h. refl }
+    where
+      moves : (n w : ℕ) → step_body (words_of rows) (at (onward o (positions.Body o phases.BlockWord) (inside.owe_front (suc n)))) w ≡ at (onward o (positions.Body o phases.BlockWord) (inside.owe_front n))
+      moves zero w = refl
+      moves (suc n) w = refl
+
+  rest_owing : (o : OpenHunk) → Owing IsLong (λ n store. Unit {0}) (λ n. onward o (positions.Body o phases.BlockWord) (inside.owe_rest n)) (λ n ws store. store)
+  rest_owing o =
+      record { goes_on = λ n. refl; passes = λ n w l. refl; moves = moves; room = λ n w store h. tt; none = λ n store. refl; more = λ n w ws store h. refl }
+    where
+      moves : (n w : ℕ) → step_body (words_of rows) (at (onward o (positions.Body o phases.BlockWord) (inside.owe_rest (suc n)))) w ≡ at (onward o (positions.Body o phases.BlockWord) (inside.owe_rest n))
+      moves zero w = refl
+      moves (suc n) w = refl
+
   -- one offset at least is still owed
   offsets_owing : (o : OpenHunk) (target : ℕ) →
       Owing (EndsWithin (4 * longs_at (words_of rows) hunk)) (λ n store. Unit {0}) (λ n. positions.Body o (phases.Offset target n))
@@ -176,6 +193,10 @@ run_read rows hunk start (positions.Body o (phases.Payload owed)) store fed (w �
     list_read rows hunk start _ _ _ _ (payload_owing rows hunk start o) store fed (suc owed) (owed - length ws) (w ∷ ws) l l tt r (omega (arith, fits))
 run_read rows hunk start (positions.Body o (phases.Symbol owed)) store fed (w ∷ ws) l r i some fits =
     list_read rows hunk start _ _ _ _ (symbol_owing rows hunk start o) store fed (suc owed) (owed - length ws) (w ∷ ws) l l tt r (omega (arith, fits))
+run_read rows hunk start (positions.Body o (phases.ExtFront owed)) store fed (w ∷ ws) l r i some fits =
+    list_read rows hunk start _ _ _ _ (front_owing rows hunk start o) store fed (suc owed) (owed - length ws) (w ∷ ws) l l tt r (omega (arith, fits))
+run_read rows hunk start (positions.Body o (phases.ExtRest owed)) store fed (w ∷ ws) l r i some fits =
+    list_read rows hunk start _ _ _ _ (rest_owing rows hunk start o) store fed (suc owed) (owed - length ws) (w ∷ ws) l l tt r (omega (arith, fits))
 run_read rows hunk start _ store fed (w ∷ ws) l r i some fits = absurd (omega (arith, fits))
 
 -- ---- bytes

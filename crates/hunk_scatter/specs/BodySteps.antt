@@ -3,7 +3,7 @@ use Rattle.std.specs.Prelude.{◌≡◌, ℕ, ◌+◌, ◌*◌, ◌<◌, ◌≤�
 use Rattle.hunk_words.specs.Limits.{most_hunks}
 use Rattle.hunk_words.specs.declared.reason.Reason.{Reason}
 use Rattle.hunk_words.specs.Bits.{size_longs}
-use Rattle.hunk_scan.specs.declared.phase.Phase.TheVariants as phases
+use Rattle.hunk_blocks.specs.declared.phase.Phase.TheVariants as phases
 use Rattle.hunk_scan.specs.declared.position.Position.{Position}
 use Rattle.hunk_scan.specs.declared.position.Position.TheVariants as positions
 use Rattle.hunk_scan.specs.Positions.{role_at, step, pass, is_between_hunks, is_behind_header}

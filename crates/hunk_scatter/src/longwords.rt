@@ -146,6 +146,10 @@ pub(crate) fn take_front(
         Phase::Offset { target, owed } => at!(Phase::Offset { target, owed }),
         Phase::EntryWord => at!(Phase::EntryWord),
         Phase::Symbol { owed } => at!(Phase::Symbol { owed }),
+        // Nothing is external in a load file.
+        Phase::ExtWord | Phase::ExtFront { .. } | Phase::ExtCount | Phase::ExtRest { .. } => {
+            at!(phase)
+        }
     }
 }
 

@@ -1,5 +1,5 @@
 //! Reading the entries of an EXT block.
-ghost use Rattle.std.specs.Prelude.{◌≡◌, ◌≢◌, [], ◌∷◌, IfErr, IfOk, OnErr, Some, map, ◌⊎◌};
+ghost use Rattle.std.specs.Prelude.{◌≡◌, ◌≢◌, IfErr, IfOk, OnErr, Some, map, ◌⊎◌};
 ghost use Rattle.hunk_words.specs.Bits.{entry_type};
 ghost use Rattle.std.specs.List.{AllByRecursion};
 ghost use Rattle.std.specs.Option.{option_map};
@@ -9,8 +9,7 @@ ghost use Rattle.hunk_blocks.specs.Entries.{ReadsEntry};
 ghost use Rattle.hunk_blocks.specs.ExtKinds.{ext_shape};
 ghost use Rattle.hunk_blocks.specs.Values.{IsExtEntry};
 ghost use Rattle.hunk_blocks.specs.Parts.{ext_text, list_text};
-ghost use Rattle.hunk_blocks.specs.Faults.{FaultAhead, entries};
-ghost use Rattle.hunk_blocks.specs.Reading.{BeginsWithNo, BeginsWithNoItem, Reads, ReadsItem, cut};
+ghost use Rattle.hunk_blocks.specs.Reading.{HasLongIn, BeginsWithNo, BeginsWithNoItem, Reads, ReadsItem, cut};
 ghost use Rattle.hunk_blocks.specs.Views.{entry_of};
 
 use crate::entries::{Entries, Entry};
@@ -78,7 +77,6 @@ fn next_entry<'a>(reader: &mut LongReader<'a>) -> Result<Option<Entry<'a>>, Bloc
     ensures read { IfOk result (λ found.
         ReadsItem IsExtEntry ext_text reader.old reader.new (option_map entry_of found)) }
     ensures none { OnErr result (BeginsWithNoItem IsExtEntry ext_text reader.old.rest) }
-    ensures first { IfErr result (λ fault. FaultAhead entries reader.old fault) }
     ensures fault { IfErr result (λ fault.
         (fault ≡ cut reader.old) ⊎ (fault.reason ≡ reasons.ExtKind)) }
 {
@@ -108,7 +106,8 @@ pub(crate) fn read_entries<'a>(
         Reads reader.old reader.new (list_text ext_text (map entry_of entries))) }
     ensures none { IfErr result (λ fault. fault.reason ≢ reasons.OutOfMemory →
         BeginsWithNo (AllByRecursion IsExtEntry) (list_text ext_text) reader.old.rest) }
-    ensures first { IfErr result (λ fault. FaultAhead entries reader.old fault) }
+    ensures reached { IfErr result (λ fault. fault.reason ≡ reasons.OutOfMemory →
+        HasLongIn reader.old fault.place) }
     ensures fault { IfErr result (λ fault.
         (fault ≡ cut reader.old) ⊎ (fault.reason ≡ reasons.ExtKind) ⊎
         (fault.reason ≡ reasons.OutOfMemory)) }

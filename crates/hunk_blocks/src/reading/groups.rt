@@ -5,8 +5,7 @@ ghost use Rattle.std.specs.Option.{option_map};
 ghost use Rattle.hunk_words.specs.declared.reason.Reason.TheVariants as reasons;
 ghost use Rattle.hunk_blocks.specs.Values.{IsGroup};
 ghost use Rattle.hunk_blocks.specs.Parts.{group_text, list_text};
-ghost use Rattle.hunk_blocks.specs.Faults.{FaultAhead, groups};
-ghost use Rattle.hunk_blocks.specs.Reading.{BeginsWithNo, BeginsWithNoItem, IsFrontOf, Reads, ReadsItem, cut};
+ghost use Rattle.hunk_blocks.specs.Reading.{HasLongIn, BeginsWithNo, BeginsWithNoItem, Reads, ReadsItem, cut};
 ghost use Rattle.hunk_blocks.specs.Views.{group_of};
 
 use crate::groups::{Group, Groups};
@@ -24,8 +23,6 @@ fn next_group<'a>(reader: &mut LongReader<'a>) -> Result<Option<Group<'a>>, Bloc
     ensures read { IfOk result (λ found.
         ReadsItem IsGroup group_text reader.old reader.new (option_map group_of found)) }
     ensures none { OnErr result (BeginsWithNoItem IsGroup group_text reader.old.rest) }
-    ensures front { OnErr result
-        (IsFrontOf (AllByRecursion IsGroup) (list_text group_text) reader.old.rest) }
     ensures fault { IfErr result (λ fault. fault ≡ cut reader.old) }
 {
     let count = reader.long()?;
@@ -47,7 +44,8 @@ pub(crate) fn read_groups<'a>(
         Reads reader.old reader.new (list_text group_text (map group_of groups))) }
     ensures none { IfErr result (λ fault. fault.reason ≢ reasons.OutOfMemory →
         BeginsWithNo (AllByRecursion IsGroup) (list_text group_text) reader.old.rest) }
-    ensures first { IfErr result (λ fault. FaultAhead groups reader.old fault) }
+    ensures reached { IfErr result (λ fault. fault.reason ≡ reasons.OutOfMemory →
+        HasLongIn reader.old fault.place) }
     ensures fault { IfErr result (λ fault.
         (fault ≡ cut reader.old) ⊎ (fault.reason ≡ reasons.OutOfMemory)) }
 {

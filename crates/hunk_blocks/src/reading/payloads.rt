@@ -6,8 +6,7 @@ ghost use Rattle.hunk_words.specs.declared.reason.Reason.TheVariants as reasons;
 ghost use Rattle.hunk_words.specs.Longs.{AreLongs, longs};
 ghost use Rattle.hunk_blocks.specs.Values.{IsPayload, IsSized};
 ghost use Rattle.hunk_blocks.specs.Parts.{counted_text, sized_text};
-ghost use Rattle.hunk_blocks.specs.Reading.{BeginsWithNo, IsFrontOf, Reads, cut};
-ghost use Rattle.hunk_blocks.specs.Faults.{FaultAhead, name};
+ghost use Rattle.hunk_blocks.specs.Reading.{BeginsWithNo, Reads, cut};
 
 use crate::payload::Payload;
 use crate::reading::long_reader::LongReader;
@@ -21,7 +20,6 @@ pub(crate) fn read_counted<'a>(reader: &mut LongReader<'a>) -> Result<Payload<'a
     ensures read { IfOk result (λ p.
         IsPayload (2 ^ 32) (longs p) × Reads reader.old reader.new (counted_text (longs p))) }
     ensures none { OnErr result (BeginsWithNo (IsPayload (2 ^ 32)) counted_text reader.old.rest) }
-    ensures front { OnErr result (IsFrontOf (IsPayload (2 ^ 32)) counted_text reader.old.rest) }
     ensures fault { IfErr result (λ fault. fault ≡ cut reader.old) }
 {
     let count = reader.long()?;
@@ -36,7 +34,6 @@ pub(crate) fn read_name<'a>(reader: &mut LongReader<'a>) -> Result<Payload<'a>, 
     ensures read { IfOk result (λ p.
         IsPayload name_limit (longs p) × Reads reader.old reader.new (counted_text (longs p))) }
     ensures none { OnErr result (BeginsWithNo (IsPayload name_limit) counted_text reader.old.rest) }
-    ensures first { IfErr result (λ fault. FaultAhead name reader.old fault) }
     ensures fault { IfErr result (λ fault.
         (fault ≡ cut reader.old) ⊎
         (fault ≡ record { place = reader.old.place; reason = reasons.NameWord })) }
@@ -76,7 +73,6 @@ pub(crate) fn read_sized<'a>(reader: &mut LongReader<'a>) -> Result<(u8, Payload
     ensures read { IfOk result (λ r.
         IsSized (r.0, longs r.1) × Reads reader.old reader.new (sized_text (r.0, longs r.1))) }
     ensures none { OnErr result (BeginsWithNo IsSized sized_text reader.old.rest) }
-    ensures front { OnErr result (IsFrontOf IsSized sized_text reader.old.rest) }
     ensures fault { IfErr result (λ fault. fault ≡ cut reader.old) }
 {
     let size = reader.long()?;

@@ -5,8 +5,7 @@ ghost use Rattle.std.specs.Option.{option_map};
 ghost use Rattle.hunk_words.specs.declared.reason.Reason.TheVariants as reasons;
 ghost use Rattle.hunk_blocks.specs.Values.{IsSymbolEntry};
 ghost use Rattle.hunk_blocks.specs.Parts.{list_text, symbol_text};
-ghost use Rattle.hunk_blocks.specs.Faults.{FaultAhead, symbols};
-ghost use Rattle.hunk_blocks.specs.Reading.{BeginsWithNo, BeginsWithNoItem, IsFrontOf, Reads, ReadsItem, cut};
+ghost use Rattle.hunk_blocks.specs.Reading.{HasLongIn, BeginsWithNo, BeginsWithNoItem, Reads, ReadsItem, cut};
 ghost use Rattle.hunk_blocks.specs.Views.{symbol_of};
 
 use crate::growing::append;
@@ -22,8 +21,6 @@ fn next_symbol<'a>(reader: &mut LongReader<'a>) -> Result<Option<Named<'a>>, Blo
     ensures read { IfOk result (λ found.
         ReadsItem IsSymbolEntry symbol_text reader.old reader.new (option_map symbol_of found)) }
     ensures none { OnErr result (BeginsWithNoItem IsSymbolEntry symbol_text reader.old.rest) }
-    ensures front { OnErr result
-        (IsFrontOf (AllByRecursion IsSymbolEntry) (list_text symbol_text) reader.old.rest) }
     ensures fault { IfErr result (λ fault. fault ≡ cut reader.old) }
 {
     let word = reader.long()?;
@@ -45,7 +42,8 @@ pub(crate) fn read_symbols<'a>(
         Reads reader.old reader.new (list_text symbol_text (map symbol_of symbols))) }
     ensures none { IfErr result (λ fault. fault.reason ≢ reasons.OutOfMemory →
         BeginsWithNo (AllByRecursion IsSymbolEntry) (list_text symbol_text) reader.old.rest) }
-    ensures first { IfErr result (λ fault. FaultAhead symbols reader.old fault) }
+    ensures reached { IfErr result (λ fault. fault.reason ≡ reasons.OutOfMemory →
+        HasLongIn reader.old fault.place) }
     ensures fault { IfErr result (λ fault.
         (fault ≡ cut reader.old) ⊎ (fault.reason ≡ reasons.OutOfMemory)) }
 {

@@ -2,19 +2,20 @@
 
 use crate::tests::asserts::assert_equal_at;
 use crate::tests::{Row, answer, wanted};
-use hunk_blocks::Mode;
+use hunk_blocks::{Mode, walk_block};
 use hunk_testing::{bytes_of, examples, spelled};
 use hunk_words::{BlockFault, Reason};
 use std::alloc::{AllocError, Global};
 use std::process::Abort;
 use std::test::Fail;
 
-/// Sees that each block is answered in this mode as its row says.
+/// Sees that each block is answered in this mode as its row says, walked over and decoded.
 fn expect(rt: &impl Abort, alloc: Global, rows: &[Row], mode: Mode) -> Result<(), Fail> {
     for (text, number, reason) in rows {
         let bytes = spelled(alloc, text)?;
         let want = wanted(*number, *reason);
-        assert_equal_at(rt, answer(alloc, &bytes, mode), want, text);
+        let answers = (walk_block(&bytes, mode), answer(alloc, &bytes, mode));
+        assert_equal_at(rt, answers, (want, want), text);
     }
     Ok(())
 }

@@ -27,8 +27,8 @@ fn expect(rt: &impl Abort, alloc: Global, rows: &[Row], mode: Mode) -> Result<()
     Ok(())
 }
 
-/// Only groups and entries that stand in the input take memory, at their last longword, and no
-/// count does.
+/// Only groups and entries of a whole block take memory, at their last longword, and no count does.
+/// Memory hides no fault behind.
 const WITHOUT_MEMORY: &[Row] = &[
     ("3E8 1 61000000", 12, None),
     ("3E9 1 4E754E71", 12, None),
@@ -41,6 +41,8 @@ const WITHOUT_MEMORY: &[Row] = &[
     ("3EC 1 0 0 0", 12, Some(Reason::OutOfMemory)),
     ("3F0 1 5F6D0000 0 0", 12, Some(Reason::OutOfMemory)),
     ("3EF 81000000 1 4 0", 12, Some(Reason::OutOfMemory)),
+    ("3EF 81000000 1 4 3000000", 16, Some(Reason::ExtKind)),
+    ("3EC 1 0 0 5", 20, Some(Reason::Truncated)),
     ("3EC FFFFFFFF 0 1 2", 20, Some(Reason::Truncated)),
     ("3F0 FFFFFF 0 1 2", 20, Some(Reason::Truncated)),
     ("3EF 81FFFFFF 0 1 2", 20, Some(Reason::Truncated)),

@@ -37,7 +37,7 @@ pub(crate) fn read_hunk<'a>(
     let mut blocks = Vec::new(alloc);
     let mut at = start;
     'reading: loop {
-        let (block, size) = counted_from(at, Block::decode(alloc, &bytes[at..], Mode::Load))?;
+        let (block, size) = counted_from(at, Block::read(alloc, &bytes[at..], Mode::Load))?;
         at += size;
         let hunk_ends = is_end(&block);
         if append(&mut blocks, block).is_err() {

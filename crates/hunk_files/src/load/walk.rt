@@ -132,6 +132,10 @@ fn step_from(position: Position, longs: u32, word: u32) -> Result<Position, Reas
         Phase::Content { .. } | Phase::Payload { .. } | Phase::Symbol { .. } => {
             step_at(position, longs, word)
         }
+        // Nothing is external in a load file.
+        Phase::ExtWord | Phase::ExtFront { .. } | Phase::ExtCount | Phase::ExtRest { .. } => {
+            step_at(position, longs, word)
+        }
         Phase::GroupCount => at!(Phase::GroupCount),
         Phase::Target { owed } => at!(Phase::Target { owed }),
         Phase::Offset { target, owed } => at!(Phase::Offset { target, owed }),

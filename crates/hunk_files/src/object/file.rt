@@ -5,10 +5,12 @@ ghost use Rattle.hunk_blocks.specs.Faults.{IsFrontTo};
 ghost use Rattle.hunk_words.specs.declared.reason.Reason.{Reason};
 ghost use Rattle.hunk_words.specs.declared.reason.Reason.TheVariants as reasons;
 ghost use Rattle.hunk_files.specs.ObjectFile.{IsNoObjectFile, is_object_refusal, IsObjectFile, object_text};
+ghost use Rattle.hunk_files.specs.HunkFile.{AreObjectFile};
 ghost use Rattle.hunk_files.specs.ObjectFault.{HasObjectFault, objects};
 
 use crate::object::unit::Unit;
 use crate::object::walk::read_unit;
+use crate::object::whole::walk_object;
 use crate::place::{counted_from, out_of_memory};
 use hunk_words::FileFault;
 use std::alloc::Global;
@@ -33,8 +35,8 @@ impl<'a> Model for ObjectFile<'a> {
 impl<'a> ObjectFile<'a> {
     /// The object file that the bytes are, from the first to the last.
     ///
-    /// Targets and offsets are not tested; `check` lists what is wrong with them. Memory is asked
-    /// for only for what was read whole.
+    /// Targets and offsets are not tested; `check` lists what is wrong with them. No memory is asked
+    /// for before the file was seen to be whole.
     ///
     /// Source: The AmigaDOS Manual, 3rd edition, Amiga binary file structure, and `dos/doshunks.h`.
     ///
@@ -56,7 +58,7 @@ impl<'a> ObjectFile<'a> {
     /// `Truncated` is answered where the input ends while no unit has begun, inside a block, while
     /// a hunk is open or with 1 to 3 bytes over, at 4 times the number of whole longwords.
     /// `OutOfMemory` is answered where memory is refused, at the longword that completes what was
-    /// to be kept. No fault of the input lies there or before.
+    /// to be kept. The bytes are an object file then, so it hides no fault.
     pub fn decode(alloc: Global, bytes: &'a [u8]) -> Result<ObjectFile<'a>, FileFault>
         ensures file { IfOk result (λ o. IsObjectFile o) }
         ensures text { IfOk result (λ o. bytes.entry.now ≡ bytes_of (object_text o)) }
@@ -66,11 +68,14 @@ impl<'a> ObjectFile<'a> {
             HasObjectFault bytes.entry.now fault.place fault.reason) }
         ensures reached { IfErr result (λ fault. fault.reason ≡ reasons.OutOfMemory →
             IsFrontTo objects (longs bytes.entry.now) fault.place) }
+        ensures whole { IfErr result (λ fault. fault.reason ≡ reasons.OutOfMemory →
+            AreObjectFile bytes.entry.now) }
         ensures hidden { IfErr result (λ fault. fault.reason ≡ reasons.OutOfMemory →
             (at : ℕ) (reason : Reason) →
             HasObjectFault bytes.entry.now at reason → fault.place < at) }
         ensures own_reasons { IfErr result (λ fault. IsTrue (is_object_refusal fault.reason)) }
     {
+        walk_object(bytes)?;
         let mut units = Vec::new(alloc);
         let mut at = 0;
         'reading: loop {

@@ -8,15 +8,13 @@ ghost use Rattle.hunk_words.specs.declared.reason.Reason.TheVariants as reasons;
 ghost use Rattle.hunk_blocks.specs.declared.mode.Mode.TheVariants as modes;
 ghost use Rattle.hunk_blocks.specs.Values.{IsPayload};
 ghost use Rattle.hunk_blocks.specs.Parts.{block_text};
-ghost use Rattle.hunk_blocks.specs.Begins.{BeginsWithBlock, first_long};
-ghost use Rattle.hunk_blocks.specs.Faults.{FaultAhead};
-ghost use Rattle.hunk_blocks.specs.Reading.{BeginsWithNo, cut};
+ghost use Rattle.hunk_blocks.specs.Begins.{BeginsWithBlock};
+ghost use Rattle.hunk_blocks.specs.Reading.{BeginsWithNo};
+ghost use Rattle.hunk_files.specs.Fault.{HasLongAt};
 ghost use Rattle.hunk_files.specs.LoadFile.{standing};
 ghost use Rattle.hunk_scan.specs.Standings.{is_content, refuse_standing};
-ghost use Rattle.hunk_files.specs.ObjectFile.{IsNoObjectFile, is_object_refusal, IsObjectHunk};
-ghost use Rattle.hunk_files.specs.ObjectFile.{IsUnit, unit_header, unit_text, unit_word};
-ghost use Rattle.hunk_files.specs.ObjectFault.{WordPlace, BetweenHunks, MayBegin, MayGoOn};
-ghost use Rattle.hunk_files.specs.ObjectFault.{blocks_from, units_from, unread};
+ghost use Rattle.hunk_files.specs.ObjectFile.{IsNoObjectFile, IsObjectHunk};
+ghost use Rattle.hunk_files.specs.ObjectFile.{IsUnit, unit_header, unit_text};
 ghost use Rattle.hunk_files.specs.ObjectParts.{BeginsWithText, EndsUnit, MayStand};
 
 use crate::object::refusal::{refuse_unit_word, truncated};
@@ -34,7 +32,7 @@ fn long_at(bytes: &[u8], i: usize) -> Result<u32, FileFault>
     ensures long { IfOk result
         (λ word. (4 * i + 4 ≤ length bytes.now) × (word ≡ slice_index (longs bytes.now) i)) }
     ensures short { OnErr result (length bytes.now < 4 * i + 4) }
-    ensures cut { IfErr result (λ fault. fault ≡ cut (unread bytes.now)) }
+    ensures other { IfErr result (λ fault. fault.reason ≢ reasons.OutOfMemory) }
 {
     if bytes.len() < 4 * i + 4 {
         return Err(truncated(bytes));
@@ -71,9 +69,8 @@ fn read_block<'a>(
     ensures standing { IfOk result (λ r. refuse_standing has_content (standing r.0.body) ≡ None) }
     ensures none { IfErr result (λ fault. fault.reason ≢ reasons.OutOfMemory →
         BeginsWithNo (MayStand has_content) block_text (longs bytes.entry.now)) }
-    ensures fault { (place : WordPlace) → MayGoOn place has_content bytes.entry.now →
-        IfErr result (λ fault. FaultAhead (blocks_from place) (unread bytes.entry.now) fault) }
-    ensures own_reasons { IfErr result (λ fault. IsTrue (is_object_refusal fault.reason)) }
+    ensures reached { IfErr result (λ fault. fault.reason ≡ reasons.OutOfMemory →
+        HasLongAt bytes.entry.now fault.place) }
 {
     let word = BlockWord::of(long_at(bytes, 0)?);
     if word.has_both_memory_bits() {
@@ -85,7 +82,7 @@ fn read_block<'a>(
     if let Some(reason) = refuse_place(word.kind(), has_content) {
         return Err(FileFault { place: 0, reason });
     }
-    Block::decode(alloc, bytes, Mode::Object)
+    Block::read(alloc, bytes, Mode::Object)
 }
 
 /// The blocks of the hunk in front, up to its END, and the number of their bytes.
@@ -98,10 +95,8 @@ pub(super) fn read_hunk<'a>(
         (λ r. BeginsWithText bytes.entry.now (flat_map block_text r.0.items) r.1) }
     ensures none { IfErr result (λ fault. fault.reason ≢ reasons.OutOfMemory →
         BeginsWithNo IsObjectHunk (flat_map block_text) (longs bytes.entry.now)) }
-    ensures fault { first_long bytes.entry.now ≢ unit_word →
-        IfErr result (λ fault.
-        FaultAhead (blocks_from BetweenHunks) (unread bytes.entry.now) fault) }
-    ensures own_reasons { IfErr result (λ fault. IsTrue (is_object_refusal fault.reason)) }
+    ensures reached { IfErr result (λ fault. fault.reason ≡ reasons.OutOfMemory →
+        HasLongAt bytes.entry.now fault.place) }
 {
     let mut blocks = Vec::new(alloc);
     let mut has_content = false;
@@ -127,9 +122,7 @@ fn read_header(bytes: &[u8]) -> Result<(Payload<'_>, usize), FileFault>
     ensures text { IfOk result (λ r. BeginsWithText bytes.entry.now (unit_header (longs r.0)) r.1) }
     ensures none { OnErr result
         (BeginsWithNo (IsPayload name_limit) unit_header (longs bytes.entry.now)) }
-    ensures fault { (place : WordPlace) → MayBegin place bytes.entry.now →
-        IfErr result (λ fault. FaultAhead (units_from place) (unread bytes.entry.now) fault) }
-    ensures own_reasons { IfErr result (λ fault. IsTrue (is_object_refusal fault.reason)) }
+    ensures other { IfErr result (λ fault. fault.reason ≢ reasons.OutOfMemory) }
 {
     let word = BlockWord::of(long_at(bytes, 0)?);
     if let Some(reason) = refuse_unit_word(word) {
@@ -158,9 +151,8 @@ pub(super) fn read_unit<'a>(alloc: Global, bytes: &'a [u8]) -> Result<(Unit<'a>,
     ensures end { IfOk result (λ r. EndsUnit (drop r.1 bytes.entry.now)) }
     ensures none { IfErr result
         (λ fault. fault.reason ≢ reasons.OutOfMemory → IsNoObjectFile bytes.entry.now) }
-    ensures fault { (place : WordPlace) → MayBegin place bytes.entry.now →
-        IfErr result (λ fault. FaultAhead (units_from place) (unread bytes.entry.now) fault) }
-    ensures own_reasons { IfErr result (λ fault. IsTrue (is_object_refusal fault.reason)) }
+    ensures reached { IfErr result (λ fault. fault.reason ≡ reasons.OutOfMemory →
+        HasLongAt bytes.entry.now fault.place) }
 {
     let (name, mut at) = read_header(bytes)?;
     let mut hunks = Vec::new(alloc);

@@ -71,14 +71,10 @@ fn no_memory_for_a_row(rt: HostRuntime) -> Result<(), Fail> {
     expect(&rt, rt.alloc(), AT_A_ROW)
 }
 
-/// What is answered for the file as an object file, with the next growth refused or not.
-fn answered(alloc: Global, text: &str, is_starved: bool) -> Result<Option<FileFault>, AllocError> {
+/// What is answered for the file as an object file, with the next growth refused.
+fn starved_object(alloc: Global, text: &str) -> Result<Option<FileFault>, AllocError> {
     let bytes = spelled(alloc, text)?;
-    let pieces = if is_starved {
-        all_memory(alloc)?
-    } else {
-        Vec::new(alloc)
-    };
+    let pieces = all_memory(alloc)?;
     let result = object_fault(alloc, &bytes);
     drop(pieces);
     Ok(result)
@@ -90,22 +86,19 @@ const BEFORE_A_FAULT: &[&str] = &[
     "3E7 0 / 3E8 1 61000000 / 3F5",
 ];
 
-/// A block is asked for when it was read whole, at its last longword. A fault before that place is
-/// answered as ever, and one behind it is not seen.
+/// No memory is asked for before the file was seen to be whole, so a fault is answered without any. A block of a whole
+/// file asks for it at its last longword.
 #[test]
 fn no_memory_for_an_object(rt: HostRuntime) -> Result<(), Fail> {
     if !memory_ends(&rt)? {
         return Ok(());
     }
     for text in BEFORE_A_FAULT {
-        let memory = answered(rt.alloc(), text, true)?;
-        assert_equal_at(&rt, memory, fault_at(16, Reason::OutOfMemory), text);
-        let refusal = answered(rt.alloc(), text, false)?;
+        let refusal = starved_object(rt.alloc(), text)?;
         assert_equal_at(&rt, refusal, fault_at(20, Reason::Overlay), text);
     }
-    let both_bits = "3E7 0 / C00003E9 1 4E754E71 / 3F2";
-    let refusal = answered(rt.alloc(), both_bits, true)?;
-    assert_equal(&rt, refusal, fault_at(8, Reason::BothBits));
+    let memory = starved_object(rt.alloc(), "3E7 0 / 3E9 1 4E754E71 / 3F2")?;
+    assert_equal(&rt, memory, fault_at(16, Reason::OutOfMemory));
     Ok(())
 }
 

@@ -1,14 +1,11 @@
-use Rattle.std.proofs.Common.{◌^◌, ◌∙◌, refl, ap, subst, sym, map}
+use Rattle.std.proofs.Common.{◌∙◌, refl, ap, subst, sym, map}
 use Rattle.std.specs.Prelude.{IsTrue}
 use Rattle.hunk_words.specs.Longs.{longs}
-use Rattle.hunk_blocks.specs.Values.{IsPayload, IsSized, Name, Code, Data, Reloc, Ext, Symbol, Debug, Advisory, is_relocation, is_unknown}
+use Rattle.hunk_blocks.specs.Values.{Name, Code, Data, Reloc, Ext, Symbol, Debug, Advisory, is_relocation, is_unknown}
 use Rattle.hunk_blocks.specs.Views.{group_of, entry_of, symbol_of}
 use Rattle.hunk_blocks.proofs.ListReading.{if_err, if_err_and}
 use Rattle.hunk_blocks.proofs.Admitted.{advisory_admitted}
 use Rattle.hunk_blocks.proofs.BodyReading.{no_name, no_code, no_data, no_groups, no_entries, no_symbols, no_debug, no_advisory, relocation_of, body_read}
-use Rattle.hunk_blocks.specs.Faults.{FaultAhead, name, groups, entries, symbols}
-use Rattle.hunk_blocks.specs.Parts.{counted_text, sized_text}
-use Rattle.hunk_blocks.proofs.BodyFaults.{body_cut, bss_cut, name_body, groups_body, entries_body, symbols_body}
 use Rattle.hunk_blocks.proofs.reading.read_body.Goals as goal
 
 pub returns-in_err-read_name-in-Name-clause-none : goal.returns-in_err-read_name-in-Name-clause-none
@@ -83,30 +80,3 @@ returns-in_ok-read_counted-in-Unknown-clause-read c =
       (ap is_unknown k, advisory_admitted c.args.mode c.args.word c.in-Unknown.field-0 k c.requires, c.in_ok-read_counted-in-Unknown.ensures.read.0),
       body_read c.args.reader.now c.read_counted-in-Unknown.new.reader (Advisory (longs c.in_ok-read_counted-in-Unknown.field-0)) _ refl c.in_ok-read_counted-in-Unknown.ensures.read.1,
     )
-
-pub returns-in_err-read_name-in-Name-clause-first : goal.returns-in_err-read_name-in-Name-clause-first
-returns-in_err-read_name-in-Name-clause-first c = if_err_and c.from_residual.result _ _ c.from_residual.ensures.1 (λ fault same. name_body c.args.word c.args.reader.now fault (sym c.kind.ensures ∙ c.in-Name.is) (subst (FaultAhead name c.args.reader.now) (sym same) c.in_err-read_name-in-Name.ensures.first))
-
-pub returns-in_err-top-in-Code-clause-first : goal.returns-in_err-top-in-Code-clause-first
-returns-in_err-top-in-Code-clause-first c = if_err_and c.from_residual-in_err-top-in-Code.result _ _ c.from_residual-in_err-top-in-Code.ensures.1 (λ fault same. body_cut IsSized sized_text c.args.word c.args.reader.now fault (λ s. Code s.0 s.1) (λ s h. ((sym c.kind.ensures ∙ c.in-Code.is), h.0, h.1)) (λ s. refl) (same ∙ c.in_err-top-in-Code.ensures.fault) c.in_err-top-in-Code.ensures.front)
-
-pub returns-in_err-top-in-Data-clause-first : goal.returns-in_err-top-in-Data-clause-first
-returns-in_err-top-in-Data-clause-first c = if_err_and c.from_residual-in_err-top-in-Data.result _ _ c.from_residual-in_err-top-in-Data.ensures.1 (λ fault same. body_cut IsSized sized_text c.args.word c.args.reader.now fault (λ s. Data s.0 s.1) (λ s h. ((sym c.kind.ensures ∙ c.in-Data.is), h.0, h.1)) (λ s. refl) (same ∙ c.in_err-top-in-Data.ensures.fault) c.in_err-top-in-Data.ensures.front)
-
-pub returns-in_err-long-in-Bss-clause-first : goal.returns-in_err-long-in-Bss-clause-first
-returns-in_err-long-in-Bss-clause-first c = if_err_and c.from_residual-in_err-long-in-Bss.result _ _ c.from_residual-in_err-long-in-Bss.ensures.1 (λ fault same. bss_cut c.args.word c.args.reader.now fault (sym c.kind.ensures ∙ c.in-Bss.is) (same ∙ c.in_err-long-in-Bss.ensures.fault) c.in_err-long-in-Bss.ensures.short)
-
-pub returns-in_err-read_groups-in-Reloc32-clause-first : goal.returns-in_err-read_groups-in-Reloc32-clause-first
-returns-in_err-read_groups-in-Reloc32-clause-first c = if_err_and c.from_residual-in_err-read_groups-in-Reloc32.result _ _ c.from_residual-in_err-read_groups-in-Reloc32.ensures.1 (λ fault same. groups_body c.args.word c.args.reader.now fault (subst (λ k. IsTrue (is_relocation k)) c.kind.ensures (relocation_of c.kind.result c.in-Reloc32.is)) (subst (FaultAhead groups c.args.reader.now) (sym same) c.in_err-read_groups-in-Reloc32.ensures.first))
-
-pub returns-in_err-read_entries-in-Ext-clause-first : goal.returns-in_err-read_entries-in-Ext-clause-first
-returns-in_err-read_entries-in-Ext-clause-first c = if_err_and c.from_residual-in_err-read_entries-in-Ext.result _ _ c.from_residual-in_err-read_entries-in-Ext.ensures.1 (λ fault same. entries_body c.args.word c.args.reader.now fault (sym c.kind.ensures ∙ c.in-Ext.is) (subst (FaultAhead entries c.args.reader.now) (sym same) c.in_err-read_entries-in-Ext.ensures.first))
-
-pub returns-in_err-read_symbols-in-Symbol-clause-first : goal.returns-in_err-read_symbols-in-Symbol-clause-first
-returns-in_err-read_symbols-in-Symbol-clause-first c = if_err_and c.from_residual-in_err-read_symbols-in-Symbol.result _ _ c.from_residual-in_err-read_symbols-in-Symbol.ensures.1 (λ fault same. symbols_body c.args.word c.args.reader.now fault (sym c.kind.ensures ∙ c.in-Symbol.is) (subst (FaultAhead symbols c.args.reader.now) (sym same) c.in_err-read_symbols-in-Symbol.ensures.first))
-
-pub returns-in_err-read_counted-in-Debug-clause-first : goal.returns-in_err-read_counted-in-Debug-clause-first
-returns-in_err-read_counted-in-Debug-clause-first c = if_err_and c.from_residual-in_err-read_counted-in-Debug.result _ _ c.from_residual-in_err-read_counted-in-Debug.ensures.1 (λ fault same. body_cut (IsPayload (2 ^ 32)) counted_text c.args.word c.args.reader.now fault Debug (λ ws h. ((sym c.kind.ensures ∙ c.in-Debug.is), h)) (λ ws. refl) (same ∙ c.in_err-read_counted-in-Debug.ensures.fault) c.in_err-read_counted-in-Debug.ensures.front)
-
-pub returns-in_err-read_counted-in-Unknown-clause-first : goal.returns-in_err-read_counted-in-Unknown-clause-first
-returns-in_err-read_counted-in-Unknown-clause-first c = if_err_and c.from_residual-in_err-read_counted-in-Unknown.result _ _ c.from_residual-in_err-read_counted-in-Unknown.ensures.1 (λ fault same. let k = sym c.kind.ensures ∙ c.in-Unknown.is in body_cut (IsPayload (2 ^ 32)) counted_text c.args.word c.args.reader.now fault Advisory (λ ws h. (ap is_unknown k, advisory_admitted c.args.mode c.args.word c.in-Unknown.field-0 k c.requires, h)) (λ ws. refl) (same ∙ c.in_err-read_counted-in-Unknown.ensures.fault) c.in_err-read_counted-in-Unknown.ensures.front)

@@ -1,7 +1,7 @@
 use Rattle.std.proofs.Common.{◌≡◌, ◌≤◌, ◌*◌, ◌∙◌, length, take, length-take, ap, sym, arith}
 use Rattle.hunk_words.specs.Longs.{longs}
 use Rattle.hunk_words.proofs.LongLaws.{length-longs}
-use Rattle.hunk_scan.specs.declared.phase.Phase.{Phase}
+use Rattle.hunk_blocks.specs.declared.phase.Phase.{Phase}
 use Rattle.hunk_scan.specs.declared.position.Position.TheVariants as positions
 use Rattle.hunk_scatter.specs.Rows.{words_of, bases_of}
 use Rattle.hunk_scatter.proofs.Runs.{offsets_taken}

@@ -1,81 +1,71 @@
-use Rattle.std.proofs.Common.{◌≡◌, ◌∙◌, sym, ap, subst, arith}
-use Rattle.hunk_blocks.specs.Begins.{BeginsWithBlock}
-use Rattle.hunk_blocks.specs.Views.{body_of}
-use Rattle.hunk_blocks.proofs.Admitted.{alone_other_than_memory, block, refusal_own}
-use Rattle.hunk_blocks.proofs.Decoding.{begins_size, first_word_read, decoded, no_longword, word_refused, no_body}
-use Rattle.hunk_blocks.proofs.ListReading.{if_err, if_err_and}
+use Rattle.std.proofs.Common.{◌≡◌, ◌≢◌, ◌∙◌, ℕ, take, refl, sym, ap, subst}
+use Rattle.std.specs.Prelude.{IsTrue}
+use Rattle.hunk_words.specs.Bits.{kind}
 use Rattle.hunk_words.specs.declared.fault.Fault.{Fault}
+use Rattle.hunk_words.specs.declared.reason.Reason.{Reason}
 use Rattle.hunk_words.specs.declared.reason.Reason.TheVariants as reasons
-use Rattle.hunk_words.specs.Longs.{longs}
-use Rattle.hunk_blocks.specs.Faults.{FaultAhead, IsFrontTo, blocks, body_behind}
-use Rattle.hunk_blocks.proofs.BodyFaults.{block_fault, no_word_ahead, word_fault, body_fault}
-use Rattle.hunk_blocks.proofs.OneBlockFault.{fault_further}
-use Rattle.hunk_blocks.proofs.FaultLaws.{front_ahead}
+use Rattle.hunk_blocks.specs.Begins.{BeginsWithNoBlock}
+use Rattle.hunk_blocks.specs.Modes.{is_block_refusal, takes_memory}
+use Rattle.hunk_blocks.proofs.BlockWhole.{err_is, err_of, fault_other, fault_own, first_fault, first_there, front_reached, no_fault, not_none_there, only_memory}
+use Rattle.hunk_blocks.proofs.ListReading.{if_err, if_err_and}
+use Rattle.hunk_blocks.proofs.OneBlockFault.{no_block, one_fault}
 use Rattle.hunk_blocks.proofs.block.Block.decode.Goals as goal
 
-pub returns-in_err-long-clause-none : goal.returns-in_err-long-clause-none
-returns-in_err-long-clause-none c = if_err c.from_residual.result _ (λ fault ne. no_longword c.args.mode c.args.bytes.now (sym c.new-reader.ensures.rest ∙ c.in_err-long.ensures.short))
+-- ---- a fault
 
-pub returns-in-Some-clause-none : goal.returns-in-Some-clause-none
-returns-in-Some-clause-none c ne =
-    word_refused c.args.mode c.args.bytes.now c.of-word.result c.long.new.self.rest c.in-Some.reason (first_word_read c.args.bytes.now c.new-reader.result c.long.new.self c.of-word.result c.in_ok-long.field-0 c.new-reader.ensures.rest c.in_ok-long.ensures.read c.of-word.ensures) (sym c.refuse.ensures ∙ c.in-Some.is)
+pub returns-in_err-size-clause-none : goal.returns-in_err-size-clause-none
+returns-in_err-size-clause-none c =
+    let f = c.in_err-size.field-0.0 in
+    if_err c.from_residual.result _ (λ fault other. no_block c.args.mode c.args.bytes.now f.place f.reason c.in_err-size.ensures)
 
-pub returns-in-Some-clause-own_reasons : goal.returns-in-Some-clause-own_reasons
-returns-in-Some-clause-own_reasons c = refusal_own c.args.mode c.of-word.result c.in-Some.reason (sym c.refuse.ensures ∙ c.in-Some.is)
-
-pub returns-in_err-body-clause-none : goal.returns-in_err-body-clause-none
-returns-in_err-body-clause-none c =
-    if_err_and c.from_residual-in_err-body.result _ _ c.from_residual-in_err-body.ensures.1
-    (λ fault same ne. no_body c.args.mode c.args.bytes.now c.of-word.result c.long.new.self.rest (first_word_read c.args.bytes.now c.new-reader.result c.long.new.self c.of-word.result c.in_ok-long.field-0 c.new-reader.ensures.rest c.in_ok-long.ensures.read c.of-word.ensures) (c.in_err-body.ensures.none (λ e. ne (ap (λ f. f.reason) same ∙ e))))
-
--- what was read
-read : (c : goal.After-place-len) → BeginsWithBlock c.args.mode c.args.bytes.now (block c.of-word.result (body_of c.in_ok-body.body)) c.read_body.new.reader.place
-read c =
-    decoded c.args.mode c.args.bytes.now c.new-reader.result c.long.new.self c.read_body.new.reader c.of-word.result c.in_ok-long.field-0 (body_of c.in_ok-body.body) (λ i. omega (arith, c.type_inv.bytes i)) c.new-reader.ensures.rest c.new-reader.ensures.place
-    c.in_ok-long.ensures.read c.of-word.ensures (omega arith) (sym c.refuse.ensures ∙ c.in_default.is) c.in_ok-body.ensures.read.0 c.in_ok-body.ensures.read.1
-
-pub returns-clause-block : goal.returns-clause-block
-returns-clause-block c =
-    subst (BeginsWithBlock c.args.mode c.args.bytes.now (block c.of-word.result (body_of c.in_ok-body.body))) (omega (arith, c.place-len.ensures)) (read c)
-
-pub invariant_of-result : goal.invariant_of-result
-invariant_of-result c =
-    let r = read c in (r.block, c.place-len.ensures ∙ begins_size c.args.mode c.args.bytes.now (block c.of-word.result (body_of c.in_ok-body.body)) c.read_body.new.reader.place r)
-
-pub returns-in_err-long-clause-fault : goal.returns-in_err-long-clause-fault
-returns-in_err-long-clause-fault c =
+pub returns-in_err-size-clause-own_reasons : goal.returns-in_err-size-clause-own_reasons
+returns-in_err-size-clause-own_reasons c =
+    let f = c.in_err-size.field-0.0 in
     if_err_and c.from_residual.result _ _ c.from_residual.ensures.1
-    (λ fault same ne. block_fault c.args.mode c.args.bytes.now c.new-reader.result fault c.new-reader.ensures.rest c.new-reader.ensures.place
-    (no_longword c.args.mode c.args.bytes.now (sym c.new-reader.ensures.rest ∙ c.in_err-long.ensures.short)) ne (no_word_ahead c.args.mode c.new-reader.result fault (same ∙ c.in_err-long.ensures.fault) c.in_err-long.ensures.short))
+    (λ fault same. subst (λ (g : Fault). IsTrue (is_block_refusal g.reason)) (sym same) (fault_own c.args.mode c.args.bytes.now f.place f.reason c.in_err-size.ensures))
 
-pub returns-in-Some-clause-fault : goal.returns-in-Some-clause-fault
-returns-in-Some-clause-fault c ne =
-    word_fault c.args.mode c.args.bytes.now c.of-word.result c.long.new.self.rest c.in-Some.reason (first_word_read c.args.bytes.now c.new-reader.result c.long.new.self c.of-word.result c.in_ok-long.field-0 c.new-reader.ensures.rest c.in_ok-long.ensures.read c.of-word.ensures) (sym c.refuse.ensures ∙ c.in-Some.is)
+pub returns-in_err-size-clause-hidden : goal.returns-in_err-size-clause-hidden
+returns-in_err-size-clause-hidden c =
+    let f = c.in_err-size.field-0.0 in
+    if_err_and c.from_residual.result _ _ c.from_residual.ensures.1
+    (λ fault same memory. absurd (fault_other c.args.mode c.args.bytes.now f.place f.reason c.in_err-size.ensures (ap (λ (g : Fault). g.reason) (sym same) ∙ memory)))
 
--- what the body is refused for
-ahead : (c : goal.After-from_residual-in_err-body) (fault : Fault) → fault ≡ c.in_err-body.field-0.0 → FaultAhead (blocks c.args.mode) c.new-reader.result fault
-ahead c fault same =
-    body_fault c.args.mode c.new-reader.result c.long.new.self fault c.of-word.result c.in_ok-long.field-0 c.of-word.ensures (omega arith) (sym c.refuse.ensures ∙ c.in_default.is) c.in_ok-long.ensures.read
-    (subst (FaultAhead (body_behind c.of-word.result) c.long.new.self) (sym same) c.in_err-body.ensures.first)
+pub returns-in_err-size-clause-first_word : goal.returns-in_err-size-clause-first_word
+returns-in_err-size-clause-first_word c reason some refused =
+    let f = c.in_err-size.field-0.0 in
+    let one = one_fault c.args.mode c.args.bytes.now f.place 0 f.reason reason c.in_err-size.ensures (first_fault c.args.mode c.args.bytes.now reason some refused) in
+    err_is c.from_residual.result f 0 reason c.from_residual.ensures.1 one.0 one.1
 
-pub returns-in_err-body-clause-fault : goal.returns-in_err-body-clause-fault
-returns-in_err-body-clause-fault c =
-    let begins = first_word_read c.args.bytes.now c.new-reader.result c.long.new.self c.of-word.result c.in_ok-long.field-0 c.new-reader.ensures.rest c.in_ok-long.ensures.read c.of-word.ensures in
-    if_err_and c.from_residual-in_err-body.result _ _ c.from_residual-in_err-body.ensures.1
-    (λ fault same ne. block_fault c.args.mode c.args.bytes.now c.new-reader.result fault c.new-reader.ensures.rest c.new-reader.ensures.place
-    (no_body c.args.mode c.args.bytes.now c.of-word.result c.long.new.self.rest begins (c.in_err-body.ensures.none (λ e. ne (ap (λ f. f.reason) same ∙ e)))) ne (ahead c fault same))
+-- ---- a block, for which memory may be refused
 
--- and what was read where memory is missing
-front_read : (c : goal.After-from_residual-in_err-body) (fault : Fault) → fault ≡ c.in_err-body.field-0.0 → fault.reason ≡ reasons.OutOfMemory → IsFrontTo (blocks c.args.mode) (longs c.args.bytes.now) fault.place
-front_read c fault same memory =
-    front_ahead (blocks c.args.mode) (longs c.args.bytes.now) c.new-reader.result fault (alone_other_than_memory c.args.mode) c.new-reader.ensures.rest c.new-reader.ensures.place memory (ahead c fault same)
+pub returns-clause-first_word : goal.returns-clause-first_word
+returns-clause-first_word c reason some refused =
+    absurd (no_fault c.args.mode c.args.bytes.now c.in_ok-size.size c.in_ok-size.ensures 0 reason (first_fault c.args.mode c.args.bytes.now reason some refused))
 
-pub returns-in_err-body-clause-reached : goal.returns-in_err-body-clause-reached
-returns-in_err-body-clause-reached c =
-    if_err_and c.from_residual-in_err-body.result _ _ c.from_residual-in_err-body.ensures.1
-    (λ fault same memory. front_read c fault same memory)
+-- refused for anything else, the text would be no block
+memory : (c : goal.After-read) (f : Fault) → (f.reason ≢ reasons.OutOfMemory → BeginsWithNoBlock c.args.mode (take c.in_ok-size.size c.args.bytes.now)) → f.reason ≡ reasons.OutOfMemory
+memory c f none = only_memory f.reason (λ other. not_none_there c.args.mode c.args.bytes.now c.in_ok-size.size c.in_ok-size.ensures (none other))
 
-pub returns-in_err-body-clause-hidden : goal.returns-in_err-body-clause-hidden
-returns-in_err-body-clause-hidden c =
-    if_err_and c.from_residual-in_err-body.result _ _ c.from_residual-in_err-body.ensures.1
-    (λ fault same memory at reason. fault_further c.args.mode c.args.bytes.now fault.place at reason (front_read c fault same memory))
+pub returns-clause-none : goal.returns-clause-none
+returns-clause-none c = err_of c.read.result _ _ c.read.ensures.none (λ f none other. absurd (other (memory c f none)))
+
+pub returns-clause-fault : goal.returns-clause-fault
+returns-clause-fault c = err_of c.read.result _ _ c.read.ensures.none (λ f none other. absurd (other (memory c f none)))
+
+pub returns-clause-own_reasons : goal.returns-clause-own_reasons
+returns-clause-own_reasons c = err_of c.read.result _ _ c.read.ensures.none (λ f none. subst (λ (reason : Reason). IsTrue (is_block_refusal reason)) (sym (memory c f none)) refl)
+
+pub returns-clause-object : goal.returns-clause-object
+returns-clause-object c o = err_of c.read.result _ _ c.read.ensures.none (λ f none e. let clash : reasons.OutOfMemory ≡ reasons.NotInLoadFile = sym (memory c f none) ∙ e in cc)
+
+pub returns-clause-memory : goal.returns-clause-memory
+returns-clause-memory c = err_of c.read.result _ _ c.read.ensures.memory (λ f takes m. subst (λ (w : ℕ). IsTrue (takes_memory (kind w))) (first_there c.args.mode c.args.bytes.now c.in_ok-size.size c.in_ok-size.ensures) (takes m))
+
+pub returns-clause-reached : goal.returns-clause-reached
+returns-clause-reached c = err_of c.read.result _ _ c.read.ensures.reached (λ f reached m. front_reached c.args.mode c.args.bytes.now c.in_ok-size.size c.in_ok-size.ensures f.place (reached m))
+
+pub returns-clause-hidden : goal.returns-clause-hidden
+returns-clause-hidden c = err_of c.read.result _ _ c.read.ensures.none (λ f none m at reason fault. absurd (no_fault c.args.mode c.args.bytes.now c.in_ok-size.size c.in_ok-size.ensures at reason fault))
+
+pub returns-clause-truncated : goal.returns-clause-truncated
+returns-clause-truncated c = err_of c.read.result _ _ c.read.ensures.none (λ f none t. let clash : reasons.Truncated ≡ reasons.OutOfMemory = sym t ∙ memory c f none in absurd cc)

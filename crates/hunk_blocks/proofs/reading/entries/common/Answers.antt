@@ -1,4 +1,4 @@
-use Rattle.std.proofs.Common.{rules, List, [], ap, arith, subst, sym, ℕ, ◌++◌, ◌^◌, ◌∙◌, ◌∷◌, Some}
+use Rattle.std.proofs.Common.{rules, List, [], arith, subst, sym, ℕ, ◌^◌, ◌∙◌, ◌∷◌, Some}
 use Rattle.hunk_words.specs.Longs.{longs}
 use Rattle.hunk_blocks.specs.declared.ext_shape.ExtShape.TheVariants.{Common}
 use Rattle.hunk_blocks.specs.Values.{IsPayload}
@@ -7,17 +7,16 @@ use Rattle.hunk_blocks.specs.Reading.{Reads}
 use Rattle.hunk_blocks.proofs.ListReading.{cut-Reads, Reads-append}
 use Rattle.hunk_blocks.proofs.EntryMissing.{missing, without_name, without_value}
 use Rattle.hunk_blocks.proofs.EntryReading.{entry_read, entry_is, common_missing}
-use Rattle.hunk_blocks.proofs.FrontLaws.{EntriesFront, common_front}
 use Rattle.hunk_blocks.proofs.reading.entries.common.Goals as goal
 
 pub returns-in_err-name : goal.returns-in_err-name
 returns-in_err-name c =
-    without_name c.args.reader.now _ c.args.word c.from_residual.result _ c.from_residual.ensures.1 Common c.requires.shape c.requires.goes_on (omega arith) c.in_err-name.ensures.short c.in_err-name.ensures.longs c.in_err-name.ensures.fault
+    without_name c.args.reader.now _ c.args.word c.from_residual.result _ c.from_residual.ensures.1 Common c.requires.shape c.requires.goes_on c.in_err-name.ensures.short c.in_err-name.ensures.fault
 
 pub returns-in_err-value : goal.returns-in_err-value
 returns-in_err-value c =
-    without_value c.args.reader.now _ c.args.word c.from_residual-in_err-value.result _ c.from_residual-in_err-value.ensures.1 Common c.requires.shape c.requires.goes_on (omega arith) c.read_entry_name.new.reader (longs c.in_ok-name.name)
-    c.in_ok-name.ensures.count.0 c.in_ok-name.ensures.count.1 c.in_ok-name.ensures.read (λ e. cc) c.in_err-value.ensures.short c.in_err-value.ensures.fault
+    without_value c.args.reader.now _ c.args.word c.from_residual-in_err-value.result _ c.from_residual-in_err-value.ensures.1 Common c.requires.shape c.requires.goes_on c.read_entry_name.new.reader (longs c.in_ok-name.name)
+    c.in_ok-name.ensures.count.0 c.in_ok-name.ensures.read (λ e. cc) c.in_err-value.ensures.short c.in_err-value.ensures.fault
 
 pub returns-in_err-read_counted : goal.returns-in_err-read_counted
 returns-in_err-read_counted c =
@@ -26,8 +25,6 @@ returns-in_err-read_counted c =
     (λ before h.
     common_missing before c.args.reader.now c.read_entry_name.new.reader c.long.new.self c.args.word c.in_ok-value.value name c.requires.shape c.requires.goes_on c.in_ok-name.ensures.count.0 h c.in_ok-name.ensures.read c.in_ok-value.ensures.read
     c.in_err-read_counted.ensures.none)
-    (subst (λ l. EntriesFront (c.args.word ∷ l)) (sym (c.in_ok-name.ensures.read.front ∙ ap (λ l. name ++ l) c.in_ok-value.ensures.read.front))
-    (common_front c.args.word c.in_ok-value.value name c.long.new.self.rest c.requires.shape c.requires.goes_on (omega arith) (omega arith) c.in_ok-name.ensures.count.0 c.in_ok-name.ensures.count.1 c.in_err-read_counted.ensures.front))
     (c.in_err-read_counted.ensures.fault
     ∙ sym (cut-Reads c.args.reader.now c.read_entry_name.new.reader name c.in_ok-name.ensures.read ∙ cut-Reads c.read_entry_name.new.reader c.long.new.self (c.in_ok-value.value ∷ []) c.in_ok-value.ensures.read))
 
@@ -43,6 +40,5 @@ returns c =
             (subst (λ (os : List ℕ). Reads c.long.new.self c.read_counted.new.reader (counted_text os)) (sym c.of-offsets.ensures) c.in_ok-read_counted.ensures.read.1)) h,
       );
       none = search rules;
-      front = search rules;
       fault = search rules;
     }

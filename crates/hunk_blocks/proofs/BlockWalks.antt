@@ -1,0 +1,133 @@
+-- A walk over one block reaches its end or the first fault.
+use Rattle.std.proofs.Common.{◌≡◌, ℕ, suc, ◌+◌, ◌*◌, ◌<◌, ◌≤◌, List, ◌++◌, length, get_or, take, drop, refl, sym, ap, subst, ◌∙◌, arith, Option, Some, None, inl, inr}
+use Rattle.std.proofs.lemmas.List.{length-take-le, take-append-drop, take_all}
+use Rattle.hunk_words.specs.declared.reason.Reason.{Reason}
+use Rattle.hunk_words.specs.declared.reason.Reason.TheVariants as reasons
+use Rattle.hunk_words.specs.Bits.{kind}
+use Rattle.hunk_words.specs.Longs.{longs, IsBytes}
+use Rattle.hunk_words.proofs.LongLaws.{longs_fit}
+use Rattle.hunk_blocks.specs.declared.mode.Mode.{Mode}
+use Rattle.hunk_blocks.specs.Parts.{Part, Part as parts, block_text}
+use Rattle.hunk_blocks.specs.Faults.{blocks, refuse_alone, HasBlockFault}
+use Rattle.hunk_blocks.specs.BlockSteps.{Open, Whole, part_of}
+use Rattle.hunk_blocks.proofs.Admitted.{block}
+use Rattle.hunk_blocks.proofs.BlockOutcome.{SoFar, keeps, block_is, goes_on_none}
+use Rattle.hunk_blocks.proofs.Decoding.{front_bytes}
+use Rattle.hunk_blocks.proofs.OneBlockFault.{Alone, AtWord, Behind, alone, part_not_word, alone_inside}
+use Rattle.hunk_blocks.proofs.Outcomes.{front}
+use Rattle.hunk_blocks.specs.declared.phase.Phase.{Phase}
+use Rattle.hunk_blocks.specs.declared.phase.Phase.TheVariants as phases
+use Rattle.hunk_blocks.specs.PhaseSteps as scan
+use Rattle.hunk_blocks.specs.PhaseSteps.{part_at, skipped, skip_all}
+use Rattle.hunk_blocks.specs.Begins.{HasBlockText}
+use Rattle.hunk_blocks.proofs.BlockPhases.{phase_of, next_phase, phase_no_word, step_phase, begin_phase, refuse_phase, skips_inside, none_skipped}
+use Rattle.hunk_blocks.proofs.KeptWalks.{OnePasses, HasRuns, StandsAt, Walks, starts, stands, word_refused, word_passes}
+
+abbrev pub position_of : Alone → Option Phase
+position_of AtWord = Some phases.BlockWord
+position_of (Behind n) = next_phase n
+
+module _ (mode : Mode) where
+  pub runs : HasRuns (blocks mode) alone (keeps mode) position_of skipped skip_all
+  runs = record { one = one; none = none }
+    where
+      one : (s : Alone) (left w : ℕ) → skipped (position_of s) ≡ suc left → OnePasses (blocks mode) alone (keeps mode) position_of skipped skip_all s left w
+      one AtWord left w e = absurd (omega (arith, e))
+      one (Behind (Whole b)) left w e = absurd (omega (arith, e))
+      one (Behind (Open x)) left w e =
+          let o = skips_inside x left w e in
+          record { role = part_of x; expects = refl; passes = alone_inside mode (part_of x) w (part_not_word x) ∙ o.0; run_is = o.1; behind_is = o.2 }
+
+      none : (s : Alone) → skipped (position_of s) ≡ 0 → skip_all (position_of s) ≡ position_of s
+      none AtWord e = refl
+      none (Behind (Whole b)) e = refl
+      none (Behind (Open x)) e = none_skipped _ e
+
+  abbrev pub BlockWalks : List ℕ → ℕ → Option Phase → Type 0
+  BlockWalks bytes at p = Walks (blocks mode) alone (keeps mode) position_of skipped skip_all (longs bytes) at p
+
+module _ (mode : Mode) (bytes : List ℕ) (fit : IsBytes bytes) where
+  pub start : BlockWalks mode bytes 0 (Some phases.BlockWord)
+  unfolding keeps
+  start = starts (blocks mode) alone (keeps mode) position_of skipped skip_all (longs bytes)
+
+  -- the role of the next longword, and where it leads
+  pub record Next (s : Alone) (phase : Phase) (w : ℕ) : Type 0 where
+    pub role : Part
+    pub expects : alone.expects s ≡ Some role
+    pub refuse_is : refuse_alone mode role w ≡ refuse_alone mode (part_at phase) w
+    pub step_is : position_of (alone.step s w) ≡ scan.step phase w
+
+  next : (w : ℕ) (s : Alone) (phase : Phase) → position_of s ≡ Some phase → Next s phase w
+  next w AtWord phase e =
+      let same : phases.BlockWord ≡ phase = cc in
+      subst (λ (p : Phase). Next AtWord p w) same (record { role = parts.BlockWord; expects = refl; refuse_is = refl; step_is = begin_phase (kind w) })
+  next w (Behind (Open x)) phase e =
+      let same : phase_of x ≡ phase = cc in
+      subst (λ (p : Phase). Next (Behind (Open x)) p w) same
+      (record {
+        role = part_of x;
+        expects = refl;
+        refuse_is = alone_inside mode (part_of x) w (part_not_word x) ∙ refuse_phase x w ∙ sym (alone_inside mode (part_at (phase_of x)) w (phase_no_word x));
+        step_is = step_phase x w;
+      })
+  next w (Behind (Whole b)) phase e = absurd cc
+
+  module _ (at : ℕ) (phase : Phase) (h : BlockWalks mode bytes at (Some phase)) (l : at < length (longs bytes)) (w : ℕ) (is : w ≡ get_or (longs bytes) at 0) where
+    s : StandsAt (blocks mode) alone (keeps mode) position_of skipped skip_all (longs bytes) at (Some phase)
+    s = stands (blocks mode) alone (keeps mode) position_of skipped skip_all (longs bytes) at (Some phase) h (omega (arith, l))
+
+    n : Next s.state phase (get_or (longs bytes) at 0)
+    n = next (get_or (longs bytes) at 0) s.state phase s.position_is
+
+    -- The longword is refused.
+    pub refused : (reason : Reason) → refuse_alone mode (part_at phase) w ≡ Some reason → HasBlockFault mode bytes (4 * at) reason
+    refused reason e =
+        inl (word_refused (blocks mode) alone (keeps mode) position_of skipped skip_all (longs bytes) (longs_fit bytes fit) at (Some phase) s l n.role n.expects reason
+        (n.refuse_is ∙ ap (refuse_alone mode (part_at phase)) (sym is) ∙ e))
+
+    -- The walk goes on behind it.
+    pub passes : refuse_alone mode (part_at phase) w ≡ None → BlockWalks mode bytes (at + (1 + skipped (scan.step phase w))) (skip_all (scan.step phase w))
+    passes e =
+        word_passes (blocks mode) alone (keeps mode) position_of skipped skip_all (longs bytes) (longs_fit bytes fit) at (Some phase) s l n.role n.expects (runs mode)
+        (n.refuse_is ∙ ap (refuse_alone mode (part_at phase)) (sym is) ∙ e) (scan.step phase w) (n.step_is ∙ ap (scan.step phase) (sym is))
+
+  -- A block is whole.
+  pub ends : (at : ℕ) → BlockWalks mode bytes at None → at ≤ length (longs bytes) → HasBlockText mode bytes (4 * at)
+  unfolding keeps
+  ends at h l = let s = stands (blocks mode) alone (keeps mode) position_of skipped skip_all (longs bytes) at None h l in go s.state s.so_far s.position_is
+    where
+      go : (t : Alone) → SoFar mode t (take at (longs bytes)) → position_of t ≡ None → HasBlockText mode bytes (4 * at)
+      go AtWord f e = absurd cc
+      go (Behind (Open x)) f e = absurd cc
+      go (Behind (Whole b)) f e =
+          let i = f.1 in
+          let v = block_is mode f.0 b i.fits i.ok i.inside in
+          let t : block_text (block f.0 b) ≡ take at (longs bytes) = sym i.words_are in
+          let size : 4 * length (block_text (block f.0 b)) ≡ 4 * at = omega (arith, ap length t, length-take-le at (longs bytes) l) in
+          let x = front_bytes bytes (block_text (block f.0 b)) (drop at (longs bytes)) fit (sym (take-append-drop at (longs bytes)) ∙ ap (λ ws. ws ++ drop at (longs bytes)) (sym t)) in
+          record {
+            value = block f.0 b;
+            begins = record { block = v.0; of_mode = v.1; text = ap (λ (n : ℕ). take n bytes) (sym size) ∙ x.0; whole = omega (arith, size, x.1) };
+          }
+
+  truncated : (s : Alone) (role : Part) → SoFar mode s (longs bytes) → alone.expects s ≡ Some role → HasBlockFault mode bytes (4 * length (longs bytes)) reasons.Truncated
+  unfolding keeps
+  truncated s role f e =
+      inr (refl, record { place = refl; not_whole = goes_on_none mode bytes role ((keeps mode).expects s (longs bytes) role f e); front = front (blocks mode) alone (keeps mode) s (longs bytes) f })
+
+  -- a state in a block that goes on
+  open_role : (s : Alone) → (position_of s ≡ None → ⊥) → (role : Part) × (alone.expects s ≡ Some role)
+  open_role AtWord open_still = (parts.BlockWord, refl)
+  open_role (Behind (Open x)) open_still = (part_of x, refl)
+  open_role (Behind (Whole b)) open_still = absurd (open_still refl)
+
+  -- The input ends in it.
+  pub ends_early : (at : ℕ) (p : Option Phase) → BlockWalks mode bytes at p → length (longs bytes) ≤ at → (p ≡ None → length (longs bytes) < at) → HasBlockFault mode bytes (4 * length (longs bytes)) reasons.Truncated
+  unfolding keeps
+  ends_early at p (inl s) l none =
+      let o = open_role s.state (λ e. absurd (omega (arith, s.whole, none (sym s.position_is ∙ e)))) in
+      truncated s.state o.0 (subst (SoFar mode s.state) (take_all at (longs bytes) l) s.so_far) o.1
+  ends_early at p (inr s) l none =
+      let o = open_role s.state (λ e. absurd (omega (arith, s.inside, ap skipped e))) in
+      truncated s.state o.0 s.so_far o.1

@@ -1,0 +1,5 @@
+use Rattle.hunk_blocks.proofs.Along.{block_along}
+use Rattle.hunk_blocks.proofs.laws.block_machine.Goals as goal
+
+pub returns : goal.returns
+returns c = block_along

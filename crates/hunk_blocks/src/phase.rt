@@ -1,0 +1,293 @@
+//! Positions within a block.
+ghost use Rattle.std.specs.Prelude.{◌≡◌, ◌≤◌, ◌<◌, ◌^◌, Some};
+ghost use Rattle.hunk_words.specs.Bits.{size_longs};
+ghost use Rattle.hunk_blocks.specs.Faults.{refuse_alone};
+ghost use Rattle.hunk_blocks.specs.Modes.{refuse_inside};
+ghost use Rattle.hunk_blocks.specs.PhaseSteps as inside;
+ghost use Rattle.hunk_blocks.specs.PhaseSteps.{part_at};
+
+use crate::ext_kind::shape_of;
+use crate::ext_shape::ExtShape;
+use crate::mode::Mode;
+use hunk_words::{BlockWord, Kind, NAME_LIMIT, Reason, SizeWord};
+
+/// What the next longword of a block is for.
+///
+/// `owed` is how many more of the kind follow the next, except at a `Target`: `owed` + 1 offsets
+/// follow it.
+///
+/// Source: The AmigaDOS Manual, `dos/doshunks.h`. Each rule that `docs/FORMAT.md` marks "own" is
+/// this project's own choice.
+#[derive(Clone, Copy, Debug, PartialEq, Eq)]
+pub enum Phase {
+    /// The word of the first block: the hunk opens here.
+    FirstBlock,
+    /// The word of a further block.
+    BlockWord,
+    /// The count of NAME, in longwords.
+    NameCount,
+    /// The count of DEBUG or of an advisory block, in longwords.
+    LongCount,
+    /// The size word of CODE or DATA. Its low 30 bits count longwords.
+    ContentSize,
+    /// The size word of BSS. Its low 30 bits count longwords.
+    BssSize,
+    /// Of a content of `longs` longwords.
+    Content { longs: u32, owed: u32 },
+    /// Of NAME, DEBUG or an advisory block.
+    Payload { owed: u32 },
+    /// The number of offsets of a group, or the 0 that ends the block.
+    GroupCount,
+    /// The number of the hunk that a group relocates to.
+    Target { owed: u32 },
+    /// An offset of a group, in bytes from the start of the hunk.
+    Offset { target: u32, owed: u32 },
+    /// The word of a symbol, or the 0 that ends the block.
+    EntryWord,
+    /// The name of a symbol, and the value behind it.
+    Symbol { owed: u32 },
+    /// The word of an external entry, or the 0 that ends the block.
+    ExtWord,
+    /// Of an external entry up to its count of references: its name, and the size of a common block.
+    ExtFront { owed: u32 },
+    /// The count of the references of an external entry.
+    ExtCount,
+    /// Of an external entry up to its end: its references, or the name and the value of a definition.
+    ExtRest { owed: u32 },
+}
+
+impl Phase {
+    /// Behind a block word. `None` is the end of a block, here and below.
+    ///
+    /// The kinds that are refused do not matter.
+    #[inline(always)]
+    pub fn begin(kind: Kind) -> Option<Phase>
+        ensures { result ≡ inside.begin kind }
+    {
+        match kind {
+            Kind::Name => Some(Phase::NameCount),
+            Kind::Code | Kind::Data => Some(Phase::ContentSize),
+            Kind::Bss => Some(Phase::BssSize),
+            Kind::Reloc32
+            | Kind::Reloc16
+            | Kind::Reloc8
+            | Kind::Drel32
+            | Kind::Drel16
+            | Kind::Drel8
+            | Kind::RelReloc32
+            | Kind::AbsReloc16 => Some(Phase::GroupCount),
+            Kind::Ext => Some(Phase::ExtWord),
+            Kind::Symbol => Some(Phase::EntryWord),
+            Kind::Debug | Kind::Unknown(_) => Some(Phase::LongCount),
+            _ => None,
+        }
+    }
+
+    /// Behind a longword of a block that is not refused.
+    #[inline(always)]
+    pub fn step(self, word: u32) -> Option<Phase>
+        ensures { result ≡ inside.step self word }
+    {
+        match self {
+            Phase::FirstBlock | Phase::BlockWord => Phase::begin(BlockWord::of(word).kind()),
+            Phase::NameCount | Phase::LongCount => owe_payload(word),
+            Phase::ContentSize => owe_content(content_longs(word), content_longs(word)),
+            Phase::BssSize => None,
+            Phase::Content { longs, owed } => owe_content(longs, owed),
+            Phase::Payload { owed } => owe_payload(owed),
+            Phase::GroupCount | Phase::EntryWord | Phase::ExtWord if word == 0 => None,
+            Phase::GroupCount => Some(Phase::Target { owed: word - 1 }),
+            Phase::Target { owed } => Some(Phase::Offset { target: word, owed }),
+            Phase::Offset { target, owed } => Some(Phase::owe_offsets(target, owed)),
+            Phase::EntryWord => Some(owe_symbol(word % NAME_LIMIT + 1)),
+            Phase::Symbol { owed } => Some(owe_symbol(owed)),
+            Phase::ExtWord => Some(owe_shaped(shape_of(word), word % NAME_LIMIT)),
+            Phase::ExtFront { owed } => Some(owe_front(owed)),
+            Phase::ExtCount => Some(owe_rest(word)),
+            Phase::ExtRest { owed } => Some(owe_rest(owed)),
+        }
+    }
+
+    /// How many longwords come at least that no test looks at.
+    #[inline(always)]
+    pub fn run(self) -> u64
+        ensures value { result ≡ inside.run self }
+        ensures bound { result ≤ 2 ^ 32 }
+    {
+        match self {
+            Phase::Content { longs: _, owed }
+            | Phase::Payload { owed }
+            | Phase::Symbol { owed }
+            | Phase::ExtFront { owed }
+            | Phase::ExtRest { owed } => { u64::from(owed) + 1 }
+            _ => 0,
+        }
+    }
+
+    /// Behind one longword of a run and `more` of them.
+    #[inline(always)]
+    pub fn pass(self, more: u32) -> Option<Phase>
+        requires { more < inside.run self }
+        ensures { result ≡ inside.pass self more }
+    {
+        match self {
+            Phase::Content { longs, owed } => owe_content(longs, owed - more),
+            Phase::Payload { owed } => owe_payload(owed - more),
+            Phase::Symbol { owed } => Some(owe_symbol(owed - more)),
+            Phase::ExtFront { owed } => Some(owe_front(owed - more)),
+            Phase::ExtRest { owed } => Some(owe_rest(owed - more)),
+            _ => Some(self),
+        }
+    }
+
+    /// How many longwords come at least that no test looks at outside load files, where offsets are
+    /// not looked at either.
+    #[inline(always)]
+    pub fn skip(self) -> u64
+        ensures value { result ≡ inside.skip self }
+        ensures bound { result ≤ 2 ^ 32 }
+    {
+        match self {
+            Phase::Offset { target: _, owed } => u64::from(owed) + 1,
+            _ => self.run(),
+        }
+    }
+
+    /// Behind all of them.
+    #[inline(always)]
+    pub fn behind(self) -> Option<Phase>
+        ensures { result ≡ inside.behind self }
+    {
+        match self {
+            Phase::Content { longs: _, owed: _ } | Phase::Payload { owed: _ } => None,
+            Phase::Offset { target: _, owed: _ } => Some(Phase::GroupCount),
+            Phase::Symbol { owed: _ } => Some(Phase::EntryWord),
+            Phase::ExtFront { owed: _ } => Some(Phase::ExtCount),
+            Phase::ExtRest { owed: _ } => Some(Phase::ExtWord),
+            _ => Some(self),
+        }
+    }
+
+    /// Where `owed` offsets to this target are still to come.
+    #[inline(always)]
+    pub fn owe_offsets(target: u32, owed: u32) -> Phase
+        ensures { Some result ≡ inside.owe_offsets target owed }
+    {
+        if owed == 0 {
+            Phase::GroupCount
+        } else {
+            Phase::Offset {
+                target,
+                owed: owed - 1,
+            }
+        }
+    }
+
+    /// Why the longword behind a block word is rejected, where it is, in any file.
+    #[inline(always)]
+    pub fn refuse(self, word: u32) -> Option<Reason>
+        ensures { result ≡ refuse_inside (part_at self) word }
+    {
+        match self {
+            Phase::NameCount if word >= NAME_LIMIT => Some(Reason::NameWord),
+            Phase::ExtWord if shape_of(word).is_none() => Some(Reason::ExtKind),
+            _ => None,
+        }
+    }
+
+    /// Why the longword of a block that stands alone is rejected, where it is.
+    #[inline(always)]
+    pub fn refuse_alone(self, mode: Mode, word: u32) -> Option<Reason>
+        ensures { result ≡ refuse_alone mode (part_at self) word }
+    {
+        match self {
+            Phase::FirstBlock | Phase::BlockWord => mode.refuse(BlockWord::of(word)),
+            _ => self.refuse(word),
+        }
+    }
+}
+
+/// Where `owed` longwords of a content are still to come.
+#[inline(always)]
+fn owe_content(longs: u32, owed: u32) -> Option<Phase>
+    ensures { result ≡ inside.owe_content longs owed }
+{
+    if owed == 0 {
+        None
+    } else {
+        Some(Phase::Content {
+            longs,
+            owed: owed - 1,
+        })
+    }
+}
+
+/// Where `owed` longwords of a payload are still to come.
+#[inline(always)]
+fn owe_payload(owed: u32) -> Option<Phase>
+    ensures { result ≡ inside.owe_payload owed }
+{
+    if owed == 0 {
+        None
+    } else {
+        Some(Phase::Payload { owed: owed - 1 })
+    }
+}
+
+/// Where `owed` longwords of a symbol's name and value are still to come.
+#[inline(always)]
+fn owe_symbol(owed: u32) -> Phase
+    ensures { Some result ≡ inside.owe_symbol owed }
+{
+    if owed == 0 {
+        Phase::EntryWord
+    } else {
+        Phase::Symbol { owed: owed - 1 }
+    }
+}
+
+/// Where `owed` longwords of an external entry are still to come up to its count.
+#[inline(always)]
+fn owe_front(owed: u32) -> Phase
+    ensures { Some result ≡ inside.owe_front owed }
+{
+    if owed == 0 {
+        Phase::ExtCount
+    } else {
+        Phase::ExtFront { owed: owed - 1 }
+    }
+}
+
+/// Where `owed` longwords of an external entry are still to come up to its end.
+#[inline(always)]
+fn owe_rest(owed: u32) -> Phase
+    ensures { Some result ≡ inside.owe_rest owed }
+{
+    if owed == 0 {
+        Phase::ExtWord
+    } else {
+        Phase::ExtRest { owed: owed - 1 }
+    }
+}
+
+/// Where a name of `longs` longwords is still to come, and what follows it.
+#[inline(always)]
+fn owe_shaped(shape: Option<ExtShape>, longs: u32) -> Phase
+    requires { longs < 2 ^ 24 }
+    ensures { Some result ≡ inside.owe_shaped shape longs }
+{
+    match shape {
+        Some(ExtShape::Definition) => owe_rest(longs + 1),
+        Some(ExtShape::References) => owe_front(longs),
+        Some(ExtShape::Common) => owe_front(longs + 1),
+        None => owe_rest(longs),
+    }
+}
+
+/// The longwords of a content, by its size word.
+#[inline(always)]
+pub fn content_longs(word: u32) -> u32
+    ensures { result ≡ size_longs word }
+{
+    SizeWord { word, extra: 0 }.longs()
+}

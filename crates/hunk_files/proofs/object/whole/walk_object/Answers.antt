@@ -1,0 +1,54 @@
+use Rattle.std.proofs.Common.{◌≡◌, ◌≤◌, ◌*◌, Bool, true, false, ℕ, ◌+◌, length, arith, sym, subst, ◌∙◌}
+use Rattle.hunk_words.specs.Longs.{longs, IsBytes}
+use Rattle.hunk_words.specs.declared.reason.Reason.{Reason}
+use Rattle.hunk_words.specs.declared.reason.Reason.TheVariants as reasons
+use Rattle.hunk_words.proofs.LongLaws.{length-longs}
+use Rattle.hunk_files.specs.ObjectFault.{HasObjectFault}
+use Rattle.hunk_files.specs.ObjectSteps as steps
+use Rattle.hunk_files.specs.declared.object.position.ObjectPosition.{ObjectPosition}
+use Rattle.hunk_files.proofs.ObjectWalks.{ObjectWalks, start, refused, passes, ends, ends_early}
+use Rattle.hunk_files.proofs.object.whole.walk_object.Goals as goal
+use Rattle.hunk_files.proofs.object.whole.walk_object.Goals.{then-at-count-via-then-at-count, then-at-count-via-else-at-count+then-bytes-ne0, then-at-count-via-else-at-count+else-bytes-ne0+then-not-may_end}
+
+pub walking-init : goal.walking-init
+walking-init c = start c.args.bytes.now (λ i. omega (arith, c.type_inv.bytes i))
+
+pub returns-in-Some : goal.returns-in-Some
+returns-in-Some c =
+    let bytes = c.args.bytes.now in
+    refused bytes (λ i. omega (arith, c.type_inv.bytes i)) c.walking.at c.walking.position c.walking.invariant (omega (arith, c.walking-test.true, length-longs bytes)) c.word_at-word.result c.word_at-word.ensures c.in-Some.reason
+    (sym c.refuse.ensures ∙ c.in-Some.is)
+
+pub walking-preserved : goal.walking-preserved
+walking-preserved c =
+    let bytes = c.args.bytes.now in
+    let on = passes bytes (λ i. omega (arith, c.type_inv.bytes i)) c.walking.at c.walking.position c.walking.invariant (omega (arith, c.walking-test.true, length-longs bytes)) c.word_at-word.result c.word_at-word.ensures
+    (sym c.refuse.ensures ∙ c.in_default.is) in
+    let P : ObjectPosition → Type 0 = λ p. ObjectWalks bytes (c.walking.at + (1 + steps.run p)) (steps.behind p) in
+    let here = subst P (sym c.step-behind.ensures) on in
+    subst (ObjectWalks bytes (c.walking.at + (1 + c.run.result))) (sym c.behind-position.ensures)
+    (subst (λ (n : ℕ). ObjectWalks bytes (c.walking.at + (1 + n)) (steps.behind c.step-behind.result)) (sym c.run.ensures.value) here)
+
+clash : (a b : Bool) → a ≡ b → a ≡ false → b ≡ true → ⊥
+clash a b e f t = cc (e, f, t)
+
+pub returns-then-at-count : goal.returns-then-at-count
+returns-then-at-count c =
+    let bytes = c.args.bytes.now in
+    let fit : IsBytes bytes = λ i. omega (arith, c.type_inv.bytes i) in
+    let w = c.walking in
+    let still : w.at ≤ length (longs bytes) → length bytes ≡ 4 * length (longs bytes) → steps.may_end w.position ≡ true → ⊥ =
+    λ few all may. elim c.then-at-count.branch [
+      | then-at-count-via-then-at-count v ↦ omega (arith, v.if-at-count.true, few, length-longs bytes)
+      | then-at-count-via-else-at-count+then-bytes-ne0 v ↦ v.if-bytes-ne0.true (omega (arith, all))
+      | then-at-count-via-else-at-count+else-bytes-ne0+then-not-may_end v ↦ clash v.may_end.result (steps.may_end w.position) v.may_end.ensures v.if-not-may_end.true may
+    ] in
+    let P : ℕ → Reason → Type 0 = λ place reason. HasObjectFault bytes place reason in
+    let cut = ends_early bytes fit w.at w.position w.invariant (omega (arith, c.walking-test.false, length-longs bytes)) still in
+    subst (P c.truncated.result.place) (sym c.truncated.ensures.reason) (subst (λ (n : ℕ). P n reasons.Truncated) (sym c.truncated.ensures.place) cut)
+
+pub returns : goal.returns
+returns c =
+    let bytes = c.args.bytes.now in
+    ends bytes (λ i. omega (arith, c.type_inv.bytes i)) c.walking.at c.walking.position c.walking.invariant (sym c.may_end.ensures ∙ c.if-not-may_end.false)
+    (omega (arith, c.if-at-count.false, length-longs bytes)) (omega (arith, c.walking-test.false, length-longs bytes)) (omega (arith, c.if-bytes-ne0.false, length-longs bytes))
