@@ -7,7 +7,6 @@ use Rattle.hunk_blocks.specs.declared.phase.Phase.{Phase}
 use Rattle.hunk_blocks.specs.declared.phase.Phase.TheVariants as phases
 use Rattle.hunk_blocks.specs.Values.{BlockValue, IsBlock}
 use Rattle.hunk_blocks.specs.Parts.{Part, Part as parts, block_parts}
-use Rattle.hunk_blocks.specs.Modes.{IsOfMode}
 use Rattle.hunk_blocks.specs.Faults.{refuse_alone}
 use Rattle.hunk_blocks.specs.BlockSteps.{Open, Whole, part_of}
 use Rattle.hunk_blocks.specs.PhaseSteps.{part_at}
@@ -15,7 +14,7 @@ use Rattle.hunk_blocks.specs.Along.{GoesAlong, refuse_at, step_on}
 use Rattle.hunk_blocks.proofs.BlockPhases.{phase_of, phase_no_word, step_phase, begin_phase, refuse_phase}
 use Rattle.hunk_blocks.proofs.BlockWalks.{position_of}
 use Rattle.hunk_blocks.proofs.FaultScan.{Machine, Leads}
-use Rattle.hunk_blocks.proofs.OneBlockFault.{Alone, AtWord, Behind, alone, alone_inside, block_reads, part_not_word}
+use Rattle.hunk_blocks.proofs.OneBlockFault.{Alone, AtWord, Behind, alone, alone_inside, block_leads, part_not_word}
 
 module _ {State Role Pos : Type 0} (m : Machine State Role) (pos : State → Pos) (test : Role → Pos → ℕ → Option Reason) (refuse : Role → ℕ → Option Reason) (step : Pos → ℕ → Pos) where
   -- Where a role is expected, the position has its test, and steps as the machine does.
@@ -47,5 +46,5 @@ block_forgets mode = record { tests = tests; steps = steps }
     steps (Behind (Open x)) role w e = step_phase x w
     steps (Behind (Whole b)) role w e = absurd cc
 
-pub block_along : (mode : Mode) (b : BlockValue) → IsBlock b → IsOfMode mode b → GoesAlong (refuse_at mode) (refuse_alone mode) step_on (Some phases.BlockWord) (block_parts b) None
-block_along mode b is of_mode = along alone position_of (refuse_at mode) (refuse_alone mode) step_on (block_forgets mode) AtWord ((block_reads mode).end b) (block_parts b) ((block_reads mode).leads b (is, of_mode))
+pub block_along : (mode : Mode) (b : BlockValue) → IsBlock b → GoesAlong (refuse_at mode) (refuse_alone mode) step_on (Some phases.BlockWord) (block_parts b) None
+block_along mode b is = along alone position_of (refuse_at mode) (refuse_alone mode) step_on (block_forgets mode) AtWord (Behind (Whole b.body)) (block_parts b) (block_leads b is)

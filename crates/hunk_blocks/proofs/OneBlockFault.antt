@@ -11,8 +11,8 @@ use Rattle.hunk_blocks.specs.declared.mode.Mode.{Mode}
 use Rattle.hunk_blocks.specs.declared.ext_shape.ExtShape.{ExtShape}
 use Rattle.hunk_blocks.specs.declared.ext_shape.ExtShape.TheVariants.{Definition, References, Common}
 use Rattle.hunk_blocks.specs.ExtKinds.{ext_shape}
-use Rattle.hunk_blocks.specs.Values.{RelocGroup, SymbolEntry, ExtEntry, BlockBody, Name, Code, Data, Bss, Reloc, Ext, Symbol, Debug, Advisory, End, FitsShape, FitsWord, IsExtEntry, ext_type}
-use Rattle.hunk_blocks.specs.Parts.{Part, Part as parts, each, group_parts, symbol_parts, ext_parts, ext_parts_by, body_parts}
+use Rattle.hunk_blocks.specs.Values.{RelocGroup, SymbolEntry, ExtEntry, BlockBody, BlockValue, IsBlock, Name, Code, Data, Bss, Reloc, Ext, Symbol, Debug, Advisory, End, FitsShape, FitsWord, IsExtEntry, ext_type}
+use Rattle.hunk_blocks.specs.Parts.{Part, Part as parts, each, group_parts, symbol_parts, ext_parts, ext_parts_by, body_parts, block_parts}
 use Rattle.hunk_blocks.specs.Modes.{refuse_inside, refuse_shape}
 use Rattle.hunk_blocks.specs.Begins.{BeginsWithNoBlock}
 use Rattle.hunk_blocks.specs.Faults.{HasBlockFault, HasRefusal, IsTruncatedBlock, blocks, refuse_alone}
@@ -133,11 +133,14 @@ alone_passes : (mode : Mode) (ps : List (Part × ℕ)) → PartsPass ps → Pass
 alone_passes mode [] h = tt
 alone_passes mode (p ∷ ps) h = (alone_inside mode p.0 p.1 h.0.0 ∙ h.0.1, alone_passes mode ps h.1)
 
+pub block_leads : (b : BlockValue) → IsBlock b → Leads alone AtWord (block_parts b) (Behind (Whole b.body))
+block_leads b is = (refl, follows_leads (begin_body (kind b.word)) (Whole b.body) (body_parts b.body) (body_follows b.word b.body is.body))
+
 pub block_reads : (mode : Mode) → Reads (blocks mode) alone
 block_reads mode =
     record {
       end = λ b. Behind (Whole b.body);
-      leads = λ b h. (refl, follows_leads (begin_body (kind b.word)) (Whole b.body) (body_parts b.body) (body_follows b.word b.body h.0.body));
+      leads = λ b h. block_leads b h.0;
       passes = λ b h. (word_passes mode b h.0 h.1, alone_passes mode (body_parts b.body) (body_passes b.word b.body h.0.body));
     }
 

@@ -9,7 +9,6 @@ ghost use Rattle.std.specs.Prelude.{◌≡◌, List, [], ◌∷◌, ◌++◌, �
 ghost use Rattle.hunk_blocks.specs.Values.{BlockValue, IsBlock};
 ghost use Rattle.hunk_blocks.specs.Parts.{Part, block_parts, block_text};
 ghost use Rattle.hunk_blocks.specs.Along.{GoesAlong, refuse_at, step_on};
-ghost use Rattle.hunk_blocks.specs.Modes.{IsOfMode};
 ghost use Rattle.hunk_blocks.specs.declared.phase.Phase.TheVariants as phases;
 
 /// No block begins another, and one text has one block.
@@ -43,7 +42,7 @@ pub fn block_fault()
 /// `Phase` is the machine of the format: along the text of each block its test is that of each
 /// longword's part, its steps lead on, and behind the last longword no phase is left.
 pub fn block_machine()
-    ensures { (mode : Mode) (b : BlockValue) → IsBlock b → IsOfMode mode b →
+    ensures { (mode : Mode) (b : BlockValue) → IsBlock b →
         GoesAlong (refuse_at mode) (refuse_alone mode) step_on
             (Some phases.BlockWord) (block_parts b) None }
 {}
