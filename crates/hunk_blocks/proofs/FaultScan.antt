@@ -3,7 +3,7 @@ use Rattle.std.proofs.Common.{◌≡◌, ℕ, ◌+◌, ◌*◌, List, [], ◌∷
 use Rattle.std.specs.List.{AllByRecursion}
 use Rattle.hunk_words.specs.declared.reason.Reason.{Reason}
 use Rattle.hunk_words.specs.declared.reason.Reason.TheVariants as reasons
-use Rattle.hunk_blocks.specs.Faults.{Grammar, words, HasRefusal, IsFront}
+use Rattle.hunk_blocks.specs.Faults.{Grammar, words, Expects, HasRefusal, IsFront}
 
 -- What is expected in a state, and where a longword leads from it.
 pub record Machine (State Role : Type 0) : Type 0 where
@@ -100,6 +100,12 @@ module _ {Value State Role : Type 0} (g : Grammar Value Role) (m : Machine State
       let none = scan_front m g.refuse m.start (r.end f.value) (g.labelled f.value) ws f.more 0 (r.leads f.value f.is) (r.passes f.value f.is) f.begins in
       let clash : ◌≡◌ {A = Option (ℕ × Reason)} None (Some (at, reason)) = sym none ∙ some in
       cc
+
+  -- so no text goes on with a longword that is refused
+  pub none_goes_on : (before : List ℕ) (role : Role) (word : ℕ) (reason : Reason) → Expects g before role → g.refuse role word ≡ Some reason → IsFront g (before ++ word ∷ []) → ⊥
+  none_goes_on before role word reason e bad =
+      front_passes (before ++ word ∷ []) (4 * length before) reason
+      (record { before = before; word = word; after = []; role = role; split = refl; place = refl; expects = e; refuses = bad })
 
   -- Where an input ends too soon, a text begins with all its longwords.
   module _ (ws : List ℕ) (IsShort : ℕ → Type 0) (short : (at : ℕ) → IsShort at → (at ≡ 4 * length ws) × IsFront g ws) where

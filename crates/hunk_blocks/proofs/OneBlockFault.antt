@@ -1,5 +1,5 @@
 -- Bytes have one fault as a block, and none where they begin with one.
-use Rattle.std.proofs.Common.{◌≡◌, ◌≢◌, ℕ, ◌^◌, ltb, List, [], ◌∷◌, length, refl, ap, ◌∙◌, Option, Some, None, inl, inr}
+use Rattle.std.proofs.Common.{◌≡◌, ◌≢◌, ℕ, ◌^◌, ltb, List, [], ◌∷◌, ◌++◌, length, refl, ap, ◌∙◌, Option, Some, None, inl, inr}
 use Rattle.std.specs.List.{flat_map, AllByRecursion}
 use Rattle.std.proofs.lemmas.Bool.{lt-ltb}
 use Rattle.hunk_words.specs.declared.reason.Reason.{Reason}
@@ -15,13 +15,13 @@ use Rattle.hunk_blocks.specs.Values.{RelocGroup, SymbolEntry, ExtEntry, BlockBod
 use Rattle.hunk_blocks.specs.Parts.{Part, Part as parts, each, group_parts, symbol_parts, ext_parts, ext_parts_by, body_parts, block_parts}
 use Rattle.hunk_blocks.specs.Modes.{refuse_inside, refuse_shape}
 use Rattle.hunk_blocks.specs.Begins.{BeginsWithNoBlock}
-use Rattle.hunk_blocks.specs.Faults.{HasBlockFault, HasRefusal, IsTruncatedBlock, blocks, refuse_alone}
+use Rattle.hunk_blocks.specs.Faults.{Expects, HasBlockFault, HasRefusal, IsFront, IsTruncatedBlock, blocks, refuse_alone}
 use Rattle.hunk_blocks.proofs.Admitted.{word_passes}
 use Rattle.hunk_blocks.proofs.ExtLaws.{end_passes}
 use Rattle.hunk_blocks.proofs.BlockLongs.{block_longs}
 use Rattle.hunk_blocks.specs.BlockSteps.{ForName, ForDebug, ForAdvisory, Inside, AtCount, BlockNext, Open, Whole, part_of, step_inside, begin_body, Follows}
 use Rattle.hunk_blocks.proofs.BlockText.{body_follows}
-use Rattle.hunk_blocks.proofs.FaultScan.{Machine, Leads, Passes, Reads, one_fault as one_of, front_passes, whole_passes}
+use Rattle.hunk_blocks.proofs.FaultScan.{Machine, Leads, Passes, Reads, none_goes_on, one_fault as one_of, front_passes, whole_passes}
 use Rattle.hunk_blocks.proofs.Lists.{All-append, passes_then}
 
 -- ---- no part of a block is refused
@@ -148,6 +148,9 @@ block_reads mode =
 
 pub not_truncated : (mode : Mode) (bytes : List ℕ) (at : ℕ) (reason : Reason) (at2 : ℕ) → HasRefusal (blocks mode) (longs bytes) at reason → IsTruncatedBlock mode bytes at2 → ⊥
 not_truncated mode bytes at reason at2 h k = front_passes (blocks mode) alone (block_reads mode) (longs bytes) at reason h k.front
+
+pub no_block_goes_on : (mode : Mode) (before : List ℕ) (role : Part) (word : ℕ) (reason : Reason) → Expects (blocks mode) before role → refuse_alone mode role word ≡ Some reason → IsFront (blocks mode) (before ++ word ∷ []) → ⊥
+no_block_goes_on mode = none_goes_on (blocks mode) alone (block_reads mode)
 
 pub one_fault : (mode : Mode) (bytes : List ℕ) (at at2 : ℕ) (reason reason2 : Reason) → HasBlockFault mode bytes at reason → HasBlockFault mode bytes at2 reason2 → (at ≡ at2) × (reason ≡ reason2)
 one_fault mode bytes = one_of (blocks mode) alone (block_reads mode) (longs bytes) (IsTruncatedBlock mode bytes) (λ at t. (t.place, t.front))

@@ -21,8 +21,8 @@ pub fn block_prefix()
 {}
 
 /// Of every list of bytes just one of three holds: it begins with a block of the mode, a longword
-/// of it is refused, or it ends too soon. The fault is one, and the first, and a longword that is
-/// not refused goes on to a block.
+/// of it is refused, or it ends too soon. The fault is one, and the first. A longword that is not
+/// refused goes on to a block, and one that is refused to none.
 pub fn block_fault()
     ensures some { (mode : Mode) (bytes : List ℕ) → IsBytes bytes →
         ((b : BlockValue) × (size : ℕ) × BeginsWithBlock mode bytes b size)
@@ -37,6 +37,9 @@ pub fn block_fault()
     ensures complete { (mode : Mode) (before : List ℕ) (role : Part) (word : ℕ) →
         Expects (blocks mode) before role → IsLong word → refuse_alone mode role word ≡ None →
         IsFront (blocks mode) (before ++ word ∷ []) }
+    ensures refused { (mode : Mode) (before : List ℕ) (role : Part) (word : ℕ) (reason : Reason) →
+        Expects (blocks mode) before role → refuse_alone mode role word ≡ Some reason →
+        IsFront (blocks mode) (before ++ word ∷ []) → ⊥ }
 {}
 
 /// `Phase` is the machine of the format: along the text of each block its test is that of each

@@ -10,12 +10,12 @@ use Rattle.hunk_words.specs.Longs.{longs}
 use Rattle.hunk_blocks.specs.declared.mode.Mode.TheVariants as modes
 use Rattle.hunk_blocks.specs.Values.{BlockBody, BlockValue, IsBlock}
 use Rattle.hunk_blocks.specs.Parts.{Part, body_parts}
-use Rattle.hunk_blocks.specs.Faults.{HasRefusal}
+use Rattle.hunk_blocks.specs.Faults.{Expects, HasRefusal, IsFront}
 use Rattle.hunk_blocks.proofs.Admitted.{word_passes}
 use Rattle.hunk_blocks.specs.BlockSteps.{Inside, BlockNext, Open, Whole, part_of, step_inside, begin_body, Follows}
 use Rattle.hunk_blocks.proofs.BlockText.{body_follows}
 use Rattle.hunk_blocks.proofs.FaultLaws.{relabel}
-use Rattle.hunk_blocks.proofs.FaultScan.{Machine, Leads, Leads-append, Passes, Reads, one_fault as one_of, front_passes}
+use Rattle.hunk_blocks.proofs.FaultScan.{Machine, Leads, Leads-append, Passes, Reads, none_goes_on, one_fault as one_of, front_passes}
 use Rattle.hunk_blocks.proofs.Lists.{All-append, passes_then, passes_else}
 use Rattle.hunk_blocks.proofs.OneBlockFault.{PartsPass, body_passes, part_not_word}
 use Rattle.hunk_files.specs.LoadFile.{standing, AreInOrder}
@@ -206,6 +206,9 @@ file_leads o is = (file_runs o is.some is.units).0
 
 pub not_truncated : (bytes : List ℕ) (at : ℕ) (reason : Reason) (at2 : ℕ) → HasRefusal objects (longs bytes) at reason → IsTruncatedObject bytes at2 → ⊥
 not_truncated bytes at reason at2 h k = front_passes objects reader object_reads (longs bytes) at reason h k.front
+
+pub no_object_goes_on : (before : List ℕ) (role : ObjectRole) (word : ℕ) (reason : Reason) → Expects objects before role → refuse_object role word ≡ Some reason → IsFront objects (before ++ word ∷ []) → ⊥
+no_object_goes_on = none_goes_on objects reader object_reads
 
 pub one_fault : (bytes : List ℕ) (at at2 : ℕ) (reason reason2 : Reason) → HasObjectFault bytes at reason → HasObjectFault bytes at2 reason2 → (at ≡ at2) × (reason ≡ reason2)
 one_fault bytes = one_of objects reader object_reads (longs bytes) (IsTruncatedObject bytes) (λ at t. (t.place, t.front))

@@ -97,8 +97,8 @@ pub fn strip_findings()
 {}
 
 /// Of every list of bytes just one of three holds: it is the text of an object file, all of it, a
-/// longword of it is refused, or it ends too soon. The fault is one, and the first, and a longword
-/// that is not refused goes on to an object file.
+/// longword of it is refused, or it ends too soon. The fault is one, and the first. A longword that
+/// is not refused goes on to an object file, and one that is refused to none.
 pub fn object_fault()
     ensures some { (bytes : List ℕ) → IsBytes bytes →
         ((o : ObjectFileValue) × IsObjectFile o × (bytes ≡ bytes_of (object_text o)))
@@ -113,6 +113,9 @@ pub fn object_fault()
     ensures complete { (before : List ℕ) (role : ObjectRole) (word : ℕ) →
         ExpectsOf objects before role → IsLong word → refuse_object role word ≡ None →
         IsFront objects (before ++ word ∷ []) }
+    ensures refused { (before : List ℕ) (role : ObjectRole) (word : ℕ) (reason : Reason) →
+        ExpectsOf objects before role → refuse_object role word ≡ Some reason →
+        IsFront objects (before ++ word ∷ []) → ⊥ }
 {}
 
 /// The machines of positions are those of the formats: along the text of each file the test is that
