@@ -108,6 +108,24 @@ static void fits_not(const struct streamed *f)
     begins_not(f, 0, 20, 0, strange);
 }
 
+/* The numbers of no phase that a load file has: 15 to 18 would be those within EXT. */
+static void has_no_phase(const struct streamed *f)
+{
+    static const struct hunk_answer strange = {HUNK_STRANGE, 0, 0, 0};
+    static const uint32_t phases[] = {0, 15, 16, 17, 18, UINT32_MAX};
+    size_t hunks = f->table.hunk, room = f->table.count;
+    for (size_t i = 0; i < sizeof phases / sizeof phases[0]; i++) {
+        struct hunk_loader *loader = marked(&loader_room, sizeof *loader);
+        uint8_t *memory = marked(&memory_room, room);
+        hunk_begin(loader, f->places, hunks, f->table.place, memory, room);
+        loader->phase = phases[i];
+        struct hunk_answer a =
+            hunk_feed(loader, f->places, hunks, memory, room, piece_of(f->bytes, 4), 4);
+        expect(same(a, strange), f->name, "a longword at no phase");
+        expect(same(hunk_end(loader), strange), f->name, "the end at no phase");
+    }
+}
+
 /* The whole of the bytes behind the header, in pieces of so many: what is taken, and the end. */
 static void streamed(const struct streamed *f, size_t most)
 {
@@ -262,6 +280,7 @@ int main(int argc, char **argv)
         cut += f.wanted.number == HUNK_TRUNCATED;
         faults += f.wanted.number != HUNK_OK && f.wanted.number != HUNK_TRUNCATED;
         fits_not(&f);
+        has_no_phase(&f);
         for (size_t l = 0; l < sizeof lengths / sizeof *lengths; l++)
             streamed(&f, lengths[l]);
     }
