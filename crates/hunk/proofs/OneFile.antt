@@ -19,19 +19,14 @@ use Rattle.hunk_files.specs.declared.hunk_file.HunkFile.{HunkFile}
 use Rattle.hunk_files.specs.declared.hunk_file.HunkFile.TheVariants as files
 use Rattle.hunk_files.proofs.Accepted.{All-flat_map}
 use Rattle.hunk_files.proofs.ObjectText.{object_value}
-use Rattle.hunk_files.proofs.Scan.{begun_longs, one_value}
+use Rattle.hunk_files.proofs.Scan.{begun_longs, one_front}
 use Rattle.hunk_files.proofs.TableReading.{text_is}
-use Rattle.hunk_scatter.proofs.Feeding.{fronts_of}
 use Rattle.hunk.specs.Files.{AreNoFile}
 
 -- ---- load files
 
 one_load : (bytes : List ℕ) (a b : BeginsWithLoadFile bytes) → a.value ≡ b.value
-one_load bytes a b = go (fronts_of (text a.value) (longs a.rest) (text b.value) (longs b.rest) (sym (begun_longs bytes a) ∙ begun_longs bytes b))
-  where
-    go : ((m : List ℕ) × (text a.value ≡ text b.value ++ m) × (m ++ longs a.rest ≡ longs b.rest)) ⊎ ((m : List ℕ) × (text b.value ≡ text a.value ++ m) × (longs a.rest ≡ m ++ longs b.rest)) → a.value ≡ b.value
-    go (inl (m, p, q)) = let same = one_value b.value a.value m b.is_load_file a.is_load_file (sym p) in sym same.0
-    go (inr (m, p, q)) = let same = one_value a.value b.value m a.is_load_file b.is_load_file (sym p) in same.0
+one_load bytes a b = (one_front a.value b.value (longs a.rest) (longs b.rest) a.is_load_file b.is_load_file (sym (begun_longs bytes a) ∙ begun_longs bytes b)).0
 
 one_rest : (bytes : List ℕ) (a b : BeginsWithLoadFile bytes) → length a.rest ≡ length b.rest
 one_rest bytes a b = omega (

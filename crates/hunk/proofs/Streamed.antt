@@ -6,14 +6,15 @@ use Rattle.hunk_scan.specs.Positions.{is_done}
 use Rattle.hunk_scan.specs.declared.position.Position.{Position}
 use Rattle.hunk_scan.specs.declared.position.Position.TheVariants as positions
 use Rattle.hunk_files.specs.Fault.{HasFault, IsTruncated}
-use Rattle.hunk_blocks.specs.BlockSteps.{ForName, ForDebug, ForAdvisory, ForCode, ForData, ForBss, Counted, SizedCode, SizedData, Inside, AtCount, AtSize, InPayload, AtGroup, AtTarget, InOffsets, AtEntry, InName, AtValue}
+use Rattle.hunk_blocks.specs.BlockSteps.{ForName, ForCode, Counted, Inside, AtCount, AtSize, InPayload}
+use Rattle.hunk_blocks.specs.ReaderPhase.{phase_of}
 use Rattle.hunk_blocks.specs.Values.{BlockValue}
 use Rattle.hunk_scan.specs.Roles.{Place}
 use Rattle.hunk_files.specs.FileSteps.{AtBlock, InBody, Next, More, Finished, place_of}
 use Rattle.hunk_files.specs.Image.{images}
 use Rattle.hunk_files.specs.LoadFile.{LoadFileValue, IsLoadFile}
 use Rattle.hunk_files.specs.LoadText.{table, text}
-use Rattle.hunk_files.specs.ReaderPosition.{IsBehindHeader, block_phase, phase_of, table_of}
+use Rattle.hunk_files.specs.ReaderPosition.{IsBehindHeader, block_phase, table_of}
 use Rattle.hunk_files.specs.WordsRead.{HasRead}
 use Rattle.hunk_files.specs.declared.row.Row.{Row}
 use Rattle.hunk_files.proofs.FileProgress.{Reads}
@@ -38,31 +39,22 @@ use Rattle.hunk.proofs.Loaded.{same_answer}
 
 -- A loader of a body stands in it, and in no EXT.
 pub behind : (rows : List Row) (memory : List ℕ) (s : Standing) (fed : List ℕ) → IsFed rows memory s fed → stands_in_body s.state.position ≡ true
-behind rows memory s fed h = let r = h.reading refl in go r.next (reads r.read) r.behind r.state_is
+behind rows memory s fed h = let r = h.stands in go r.next (reads r.read) r.behind r.state_is
   where
+    outside : (b : Bool) → ⊥ → b ≡ true
+    outside b w = absurd w
+
     inside : (p : Place) (word : ℕ) (x : Inside) → Within p word x → not (is_external (phase_of x)) ≡ true
     inside p word (AtCount ForName) w = refl
-    inside p word (AtCount ForDebug) w = refl
-    inside p word (AtCount ForAdvisory) w = refl
     inside p word (AtSize ForCode) w = refl
-    inside p word (AtSize ForData) w = refl
-    inside p word (AtSize ForBss) w = refl
     inside p word (InPayload (Counted c) done owed) w = refl
-    inside p word (InPayload (SizedCode top) done owed) w = refl
-    inside p word (InPayload (SizedData top) done owed) w = refl
-    inside p word (AtGroup groups) w = refl
-    inside p word (AtTarget groups owed) w = refl
-    inside p word (InOffsets groups target done owed) w = refl
-    inside p word (AtEntry entries) w = refl
-    inside p word (InName entries v done owed) w = refl
-    inside p word (AtValue entries v name) w = refl
-    inside p word _ w = absurd w
+    inside p word _ w = first_of (cc, search outside)
 
     block : (blocks : List BlockValue) → not (is_external (block_phase blocks)) ≡ true
     block [] = refl
     block (b ∷ blocks) = refl
 
-    go : (n : Next) → Reads n (h.reading refl).read.done → IsBehindHeader n → state_of n ≡ s.state → stands_in_body s.state.position ≡ true
+    go : (n : Next) → Reads n h.stands.read.done → IsBehindHeader n → state_of n ≡ s.state → stands_in_body s.state.position ≡ true
     go (More (AtBlock o)) r b e = ap (λ (x : BodyState). stands_in_body x.position) (sym e) ∙ block o.blocks
     go (More (InBody o word x)) r b e = ap (λ (x : BodyState). stands_in_body x.position) (sym e) ∙ inside (place_of o) word x r.0.2.1
     go (Finished v) r b e = ap (λ (x : BodyState). stands_in_body x.position) (sym e)
@@ -133,8 +125,8 @@ pub streamed : (rows : List Row) (l : Loader) (memory fed : List ℕ) (at : Stan
 streamed rows l memory fed at e ends h =
     let f = stands_at rows l memory fed at e h in
     let i = ends rows memory fed f in
-    let finished : is_done at.state.position ≡ true = done_if_whole _ _ _ _ _ _ _ f refl (i.value, i.file) in
-    let r = read_whole rows memory at.state _ fed (f.reading refl) finished in
+    let finished : is_done at.state.position ≡ true = done_if_whole _ _ _ _ f (i.value, i.file) in
+    let r = read_whole rows memory at.state _ fed f.stands finished in
     let t = tells l at e in
     record {
       value = r.value;

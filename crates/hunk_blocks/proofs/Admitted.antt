@@ -1,16 +1,16 @@
 -- A block word that no test refuses, and one that is refused.
-use Rattle.std.proofs.Common.{◌≡◌, ◌≢◌, ℕ, Bool, true, false, Option, Some, None, refl, sym, ap, subst, ◌∙◌}
+use Rattle.std.proofs.Common.{◌≡◌, ◌≢◌, ℕ, Bool, true, false, Option, Some, None, refl, sym, ap, ◌∙◌}
 use Rattle.std.specs.Prelude.{IsTrue}
 use Rattle.hunk_words.specs.declared.block_word.Kind.{Kind}
 use Rattle.hunk_words.specs.declared.block_word.Kind.TheVariants as kinds
 use Rattle.hunk_words.specs.declared.reason.Reason.{Reason}
 use Rattle.hunk_words.specs.declared.reason.Reason.TheVariants as reasons
-use Rattle.hunk_words.specs.Bits.{has_both_bits, is_advisory, kind}
+use Rattle.hunk_words.specs.Bits.{has_both_bits, is_advisory, is_relocation, kind}
 use Rattle.hunk_blocks.specs.declared.mode.Mode.{Mode}
 use Rattle.hunk_blocks.specs.declared.mode.Mode.TheVariants as modes
-use Rattle.hunk_blocks.specs.Values.{BlockBody, Name, Code, Data, Bss, Reloc, Ext, Symbol, Debug, Advisory, End, BlockValue, is_relocation, is_unknown, FitsWord, IsBlock}
+use Rattle.hunk_blocks.specs.Values.{BlockBody, Reloc, Ext, Advisory, End, BlockValue, is_unknown, FitsWord, IsBlock}
 use Rattle.hunk_blocks.specs.Modes.{IsOfMode, refuse_alone_kind, refuse_alone_word}
-use Rattle.hunk_blocks.proofs.Lists.{passed_true, passed_both, passes_else, passes_then}
+use Rattle.hunk_blocks.proofs.Lists.{passed_both, passes_else, passes_then}
 
 abbrev pub block : ℕ → BlockBody → BlockValue
 block word body = record { word = word; body = body }
@@ -22,29 +22,17 @@ unknown_passes mode advisory (kinds.Unknown n) u a = passes_then advisory None (
 unknown_passes mode advisory _ u a = absurd cc
 
 relocation_passes : (advisory : Bool) (k : Kind) → IsTrue (is_relocation k) → refuse_alone_kind modes.Object advisory k ≡ None
-relocation_passes advisory kinds.Reloc32 h = refl
-relocation_passes advisory kinds.Reloc16 h = refl
-relocation_passes advisory kinds.Reloc8 h = refl
-relocation_passes advisory kinds.Drel32 h = refl
-relocation_passes advisory kinds.Drel16 h = refl
-relocation_passes advisory kinds.Drel8 h = refl
-relocation_passes advisory kinds.RelReloc32 h = refl
-relocation_passes advisory kinds.AbsReloc16 h = refl
-relocation_passes advisory _ h = absurd cc
+relocation_passes advisory kinds.Unit h = absurd cc
+relocation_passes advisory _ h = cc
 
 kind_passes : (mode : Mode) (word : ℕ) (body : BlockBody) → FitsWord word body → IsOfMode mode (block word body) → refuse_alone_kind mode (is_advisory word) (kind word) ≡ None
-kind_passes mode word (Name ws) h m = rw h.0 refl
-kind_passes mode word (Code top ws) h m = rw h.0 refl
-kind_passes mode word (Data top ws) h m = rw h.0 refl
-kind_passes mode word (Bss size) h m = rw h.0 refl
 kind_passes modes.Load word (Reloc gs) h m = rw m refl
 kind_passes modes.Object word (Reloc gs) h m = relocation_passes (is_advisory word) (kind word) h.0
 kind_passes modes.Load word (Ext es) h m = absurd m
 kind_passes modes.Object word (Ext es) h m = rw h.0 refl
-kind_passes mode word (Symbol es) h m = rw h.0 refl
-kind_passes mode word (Debug ws) h m = rw h.0 refl
 kind_passes mode word (Advisory ws) h m = unknown_passes mode (is_advisory word) (kind word) h.0 h.1
 kind_passes mode word End h m = rw h refl
+kind_passes mode word _ h m = rw h.0 refl
 
 pub word_passes : (mode : Mode) (b : BlockValue) → IsBlock b → IsOfMode mode b → refuse_alone_word mode b.word ≡ None
 word_passes mode b h m = passes_else (has_both_bits b.word) (Some reasons.BothBits) _ h.bits ∙ kind_passes mode b.word b.body h.body m
@@ -61,26 +49,12 @@ load_external advisory _ h ok = cc
 
 pub of_mode : (mode : Mode) (word : ℕ) (body : BlockBody) → FitsWord word body → refuse_alone_kind mode (is_advisory word) (kind word) ≡ None → IsOfMode mode (block word body)
 of_mode modes.Object word body h ok = tt
-of_mode modes.Load word (Name ws) h ok = tt
-of_mode modes.Load word (Code top ws) h ok = tt
-of_mode modes.Load word (Data top ws) h ok = tt
-of_mode modes.Load word (Bss size) h ok = tt
 of_mode modes.Load word (Reloc gs) h ok = load_relocation (is_advisory word) (kind word) h.0 ok
 of_mode modes.Load word (Ext es) h ok = load_external (is_advisory word) (kind word) h.0 ok
-of_mode modes.Load word (Symbol es) h ok = tt
-of_mode modes.Load word (Debug ws) h ok = tt
-of_mode modes.Load word (Advisory ws) h ok = tt
-of_mode modes.Load word End h ok = tt
+of_mode modes.Load word _ h ok = tt
 
 pub kind_admitted : (mode : Mode) (word : ℕ) → refuse_alone_word mode word ≡ None → (has_both_bits word ≡ false) × (refuse_alone_kind mode (is_advisory word) (kind word) ≡ None)
 kind_admitted mode word ok = passed_both (has_both_bits word) reasons.BothBits (refuse_alone_kind mode (is_advisory word) (kind word)) ok
-
--- An unknown kind passes for its advisory flag.
-pub advisory_admitted : (mode : Mode) (word n : ℕ) → kind word ≡ kinds.Unknown n → refuse_alone_word mode word ≡ None → IsTrue (is_advisory word)
-advisory_admitted mode word n k ok =
-    passed_true (is_advisory word) reasons.UnknownBlock (subst (λ j. refuse_alone_kind mode (is_advisory word) j ≡ None) k (kind_admitted mode word ok).1)
-
--- ---- the reasons are a block's own
 
 -- ---- no longword is refused as out of memory
 abbrev pub not_for_memory : Option Reason → Bool
@@ -89,5 +63,3 @@ not_for_memory _ = true
 
 pub other_than_memory : (o : Option Reason) (reason : Reason) → not_for_memory o ≡ true → o ≡ Some reason → reason ≢ reasons.OutOfMemory
 other_than_memory o reason h e m = let clash : false ≡ true = ap not_for_memory (ap (λ (r : Reason). Some r) (sym m) ∙ sym e) ∙ h in cc
-
--- ---- the types of EXT entries

@@ -8,12 +8,15 @@ use Rattle.hunk_blocks.specs.ExtKinds.{ext_shape}
 use Rattle.hunk_blocks.specs.Values.{BlockBody, Bss, Reloc, Ext, Symbol, FitsWord, RelocGroup, ExtEntry, SymbolEntry}
 use Rattle.hunk_blocks.specs.Parts.{Part, body_parts}
 use Rattle.hunk_blocks.specs.Modes.{refuse_inside}
-use Rattle.hunk_blocks.specs.BlockSteps.{ForName, ForDebug, ForAdvisory, ForCode, ForData, ForBss, Filling, Counted, SizedCode, SizedData, Inside, AtCount, AtSize, InPayload, AtGroup, AtTarget, InOffsets, AtEntry, InName, AtValue, AtExtWord, InExtName, AtExtValue, AtExtSize, AtExtCount, InExtOffsets, BlockNext, Open, Whole, group, entry, external, part_of, step_inside, fill, filled_body, relocate, name_entry, shaped, name_external, refer, Follows}
+use Rattle.hunk_blocks.specs.BlockSteps.{Counting, ForName, ForCode, ForData, ForBss, Filling, Counted, SizedCode, SizedData, Inside, AtCount, AtSize, InPayload, AtGroup, AtTarget, InOffsets, AtEntry, InName, AtValue, AtExtWord, InExtName, AtExtValue, AtExtSize, AtExtCount, InExtOffsets, BlockNext, Open, Whole, group, entry, external, count_part, part_of, step_inside, fill, filled_body, relocate, name_entry, shaped, name_external, refer, Follows}
 use Rattle.hunk_blocks.proofs.ExtLaws.{end_passes}
 use Rattle.hunk_blocks.proofs.BlockProgress.{read_inside, read_next, NextFits, step_fits, step_reads}
 
 abbrev PartGoes : Part × ℕ → Type 0
 PartGoes p = IsLong p.1 × (refuse_inside p.0 p.1 ≡ None)
+
+abbrev pub IsZero : Part × ℕ → Type 0
+IsZero p = p.1 ≡ 0
 
 -- longwords that lead to the end of the block, and are not refused
 pub record Completes (n : BlockNext) : Type 0 where
@@ -21,13 +24,14 @@ pub record Completes (n : BlockNext) : Type 0 where
   pub body : BlockBody
   pub run : Follows n parts (Whole body)
   pub go : AllByRecursion PartGoes parts
+  pub zeros : AllByRecursion IsZero parts
 
 whole : (b : BlockBody) → Completes (Whole b)
-whole b = record { parts = []; body = b; run = refl; go = tt }
+whole b = record { parts = []; body = b; run = refl; go = tt; zeros = tt }
 
 -- a zero is read
 on_zero : (x : Inside) → refuse_inside (part_of x) 0 ≡ None → Completes (step_inside x 0) → Completes (Open x)
-on_zero x ok c = record { parts = (part_of x, 0) ∷ c.parts; body = c.body; run = (refl, c.run); go = ((omega arith, ok), c.go) }
+on_zero x ok c = record { parts = (part_of x, 0) ∷ c.parts; body = c.body; run = (refl, c.run); go = ((omega arith, ok), c.go); zeros = (refl, c.zeros) }
 
 filled : (f : Filling) (done : List ℕ) (owed : ℕ) → Completes (fill f done owed)
 filled f done zero = whole (filled_body f done)
@@ -80,10 +84,12 @@ ext_named entries word done (suc owed) = on_zero (InExtName entries word done ow
 
 -- ---- every place in a block
 
+none_passes : (c : Counting) → refuse_inside (count_part c) 0 ≡ None
+none_passes ForName = refl
+none_passes _ = refl
+
 pub completes : (x : Inside) → Completes (Open x)
-completes (AtCount ForName) = on_zero (AtCount ForName) refl (filled (Counted ForName) [] 0)
-completes (AtCount ForDebug) = on_zero (AtCount ForDebug) refl (filled (Counted ForDebug) [] 0)
-completes (AtCount ForAdvisory) = on_zero (AtCount ForAdvisory) refl (filled (Counted ForAdvisory) [] 0)
+completes (AtCount c) = on_zero (AtCount c) (none_passes c) (filled (Counted c) [] 0)
 completes (AtSize ForCode) = on_zero (AtSize ForCode) refl (filled (SizedCode 0) [] 0)
 completes (AtSize ForData) = on_zero (AtSize ForData) refl (filled (SizedData 0) [] 0)
 completes (AtSize ForBss) = on_zero (AtSize ForBss) refl (whole (Bss 0))

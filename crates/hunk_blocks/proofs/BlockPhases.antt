@@ -1,5 +1,5 @@
 -- What was read of a block, in numbers alone: the phase of its reader.
-use Rattle.std.proofs.Common.{◌≡◌, ◌≢◌, ℕ, zero, suc, ◌+◌, ◌/◌, ◌%◌, ◌^◌, List, [], ◌∷◌, ◌++◌, length, refl, sym, ap, ◌∙◌, arith, Option, Some, None}
+use Rattle.std.proofs.Common.{◌≡◌, ◌≢◌, ℕ, zero, suc, ◌+◌, ◌/◌, ◌%◌, ◌^◌, Bool, true, false, List, [], ◌∷◌, ◌++◌, length, refl, sym, ap, ◌∙◌, arith, Option, Some, None}
 use Rattle.hunk_words.specs.declared.block_word.Kind.{Kind}
 use Rattle.hunk_words.specs.declared.block_word.Kind.TheVariants as kinds
 use Rattle.hunk_words.specs.Bits.{entry_type}
@@ -7,54 +7,25 @@ use Rattle.hunk_blocks.specs.declared.ext_shape.ExtShape.{ExtShape}
 use Rattle.hunk_blocks.specs.declared.ext_shape.ExtShape.TheVariants.{Definition, References, Common}
 use Rattle.hunk_blocks.specs.ExtKinds.{ext_shape}
 use Rattle.hunk_blocks.specs.Values.{SymbolEntry, ExtEntry}
-use Rattle.hunk_blocks.specs.Parts.{Part as parts}
+use Rattle.hunk_blocks.specs.Parts.{Part, Part as parts}
 use Rattle.hunk_blocks.specs.Modes.{refuse_inside}
-use Rattle.hunk_blocks.specs.BlockSteps.{Counting, ForName, ForDebug, ForAdvisory, ForCode, ForData, ForBss, Counted, SizedCode, SizedData, Inside, AtCount, AtSize, InPayload, AtGroup, AtTarget, InOffsets, AtEntry, InName, AtValue, AtExtWord, InExtName, AtExtValue, AtExtSize, AtExtCount, InExtOffsets, BlockNext, Open, Whole, part_of, step_inside, begin_body, fill, name_entry, shaped, name_external, refer}
+use Rattle.hunk_blocks.specs.BlockSteps.{Counting, ForName, ForCode, ForData, ForBss, Counted, SizedCode, SizedData, Inside, AtCount, AtSize, InPayload, AtGroup, AtTarget, InOffsets, AtEntry, InName, AtValue, AtExtWord, InExtName, AtExtValue, AtExtSize, AtExtCount, InExtOffsets, part_of, step_inside, begin_body, fill, name_entry, shaped, name_external, refer}
 use Rattle.hunk_blocks.proofs.Lists.{more_owed}
 use Rattle.hunk_blocks.specs.declared.phase.Phase.{Phase}
 use Rattle.hunk_blocks.specs.declared.phase.Phase.TheVariants as phases
 use Rattle.hunk_blocks.specs.PhaseSteps as scan
 use Rattle.hunk_blocks.specs.PhaseSteps.{part_at, skip, skipped, skip_all}
-
--- in the name of an external entry
-abbrev pub front_phase : Option ExtShape → ℕ → Phase
-front_phase (Some Definition) owed = phases.ExtRest (suc owed)
-front_phase (Some References) owed = phases.ExtFront owed
-front_phase (Some Common) owed = phases.ExtFront (suc owed)
-front_phase None owed = phases.ExtRest owed
-
-abbrev pub phase_of : Inside → Phase
-phase_of (AtCount ForName) = phases.NameCount
-phase_of (AtCount ForDebug) = phases.LongCount
-phase_of (AtCount ForAdvisory) = phases.LongCount
-phase_of (AtSize ForCode) = phases.ContentSize
-phase_of (AtSize ForData) = phases.ContentSize
-phase_of (AtSize ForBss) = phases.BssSize
-phase_of (InPayload (Counted c) done owed) = phases.Payload owed
-phase_of (InPayload (SizedCode top) done owed) = phases.Content (length done + suc owed) owed
-phase_of (InPayload (SizedData top) done owed) = phases.Content (length done + suc owed) owed
-phase_of (AtGroup groups) = phases.GroupCount
-phase_of (AtTarget groups owed) = phases.Target owed
-phase_of (InOffsets groups target done owed) = phases.Offset target owed
-phase_of (AtEntry es) = phases.EntryWord
-phase_of (InName es word done owed) = phases.Symbol (suc owed)
-phase_of (AtValue es word name) = phases.Symbol 0
-phase_of (AtExtWord es) = phases.ExtWord
-phase_of (InExtName es word done owed) = front_phase (ext_shape (entry_type word)) owed
-phase_of (AtExtValue es word name) = phases.ExtRest 0
-phase_of (AtExtSize es word name) = phases.ExtFront 0
-phase_of (AtExtCount es word name value) = phases.ExtCount
-phase_of (InExtOffsets es word name value done owed) = phases.ExtRest owed
-
-abbrev pub next_phase : BlockNext → Option Phase
-next_phase (Open x) = Some (phase_of x)
-next_phase (Whole body) = None
+use Rattle.hunk_blocks.specs.ReaderPhase.{front_phase, phase_of, next_phase}
 
 -- ---- steps
 
 counted_phase : (c : Counting) (done : List ℕ) (owed : ℕ) → next_phase (fill (Counted c) done owed) ≡ scan.owe_payload owed
 counted_phase c done zero = refl
 counted_phase c done (suc owed) = refl
+
+count_steps : (c : Counting) (w : ℕ) → scan.owe_payload w ≡ scan.step (phase_of (AtCount c)) w
+count_steps ForName w = refl
+count_steps _ w = refl
 
 code_phase : (top : ℕ) (done : List ℕ) (owed : ℕ) → next_phase (fill (SizedCode top) done owed) ≡ scan.owe_content (length done + owed) owed
 code_phase top done zero = refl
@@ -102,9 +73,7 @@ refer_phase es word name value done (suc owed) = refl
 
 -- A step of the reader is a step of its phase.
 pub step_phase : (x : Inside) (w : ℕ) → next_phase (step_inside x w) ≡ scan.step (phase_of x) w
-step_phase (AtCount ForName) w = counted_phase ForName [] w
-step_phase (AtCount ForDebug) w = counted_phase ForDebug [] w
-step_phase (AtCount ForAdvisory) w = counted_phase ForAdvisory [] w
+step_phase (AtCount c) w = counted_phase c [] w ∙ count_steps c w
 step_phase (AtSize ForCode) w = code_phase (w / 2 ^ 30) [] (w % 2 ^ 30) ∙ whole_content (w % 2 ^ 30)
 step_phase (AtSize ForData) w = data_phase (w / 2 ^ 30) [] (w % 2 ^ 30) ∙ whole_content (w % 2 ^ 30)
 step_phase (AtSize ForBss) w = refl
@@ -130,64 +99,50 @@ step_phase (InExtOffsets es word name value done owed) w = refer_phase es word n
 
 pub begin_phase : (k : Kind) → next_phase (begin_body k) ≡ scan.begin k
 begin_phase kinds.Name = refl
-begin_phase kinds.Code = refl
-begin_phase kinds.Data = refl
-begin_phase kinds.Bss = refl
-begin_phase kinds.Reloc32 = refl
-begin_phase kinds.Reloc16 = refl
-begin_phase kinds.Reloc8 = refl
-begin_phase kinds.Drel32 = refl
-begin_phase kinds.Drel16 = refl
-begin_phase kinds.Drel8 = refl
-begin_phase kinds.RelReloc32 = refl
-begin_phase kinds.AbsReloc16 = refl
-begin_phase kinds.Ext = refl
-begin_phase kinds.Symbol = refl
-begin_phase kinds.Debug = refl
-begin_phase (kinds.Unknown n) = refl
 begin_phase _ = refl
 
 -- ---- refusals
 
-front_passes : (s : Option ExtShape) (owed w : ℕ) → refuse_inside (part_at (front_phase s owed)) w ≡ None
-front_passes (Some Definition) owed w = refl
-front_passes (Some References) owed w = refl
-front_passes (Some Common) owed w = refl
-front_passes None owed w = refl
+-- in a list of references, whose offsets are passed over with the rest of the entry
+abbrev pub IsReference : Inside → Type 0
+IsReference (InExtOffsets es word name value done owed) = Unit {0}
+IsReference _ = ⊥
+
+front_part : {A : Type 0} (test : Part → A) (s : Option ExtShape) (owed : ℕ) → test parts.EntryName ≡ test (part_at (front_phase s owed))
+front_part test (Some Definition) owed = refl
+front_part test (Some References) owed = refl
+front_part test (Some Common) owed = refl
+front_part test None owed = refl
+
+-- The phase determines what is asked of the next longword, where that is the same for all parts of an entry.
+pub same_part : {A : Type 0} (test : Part → A) → test parts.EntryValue ≡ test parts.EntryName → (x : Inside) → (IsReference x → test parts.Offset ≡ test parts.EntryName) → test (part_of x) ≡ test (part_at (phase_of x))
+same_part test value (AtCount ForName) offset = refl
+same_part test value (AtSize ForCode) offset = refl
+same_part test value (InPayload (Counted c) done owed) offset = refl
+same_part test value (AtValue es word name) offset = value
+same_part test value (InExtName es word done owed) offset = front_part test (ext_shape (entry_type word)) owed
+same_part test value (AtExtValue es word name) offset = value
+same_part test value (AtExtSize es word name) offset = value
+same_part test value (InExtOffsets es word name v done owed) offset = offset tt
+same_part test value _ offset = refl
 
 -- The phase determines the refusal.
 pub refuse_phase : (x : Inside) (w : ℕ) → refuse_inside (part_of x) w ≡ refuse_inside (part_at (phase_of x)) w
-refuse_phase (AtCount ForName) w = refl
-refuse_phase (AtCount ForDebug) w = refl
-refuse_phase (AtCount ForAdvisory) w = refl
-refuse_phase (AtSize ForCode) w = refl
-refuse_phase (AtSize ForData) w = refl
-refuse_phase (AtSize ForBss) w = refl
-refuse_phase (InPayload (Counted c) done owed) w = refl
-refuse_phase (InPayload (SizedCode top) done owed) w = refl
-refuse_phase (InPayload (SizedData top) done owed) w = refl
-refuse_phase (InExtName es word done owed) w = sym (front_passes (ext_shape (entry_type word)) owed w)
-refuse_phase _ w = refl
+refuse_phase x w = same_part (λ (part : Part). refuse_inside part w) refl x (λ r. refl)
 
-front_no_word : (s : Option ExtShape) (owed : ℕ) → part_at (front_phase s owed) ≢ parts.BlockWord
-front_no_word (Some Definition) owed e = cc
-front_no_word (Some References) owed e = cc
-front_no_word (Some Common) owed e = cc
-front_no_word None owed e = cc
+abbrev is_block_word : Part → Bool
+is_block_word parts.BlockWord = true
+is_block_word _ = false
 
 -- Behind a block word no phase is that of one.
 pub phase_no_word : (x : Inside) → part_at (phase_of x) ≢ parts.BlockWord
-phase_no_word (AtCount ForName) e = cc
-phase_no_word (AtCount ForDebug) e = cc
-phase_no_word (AtCount ForAdvisory) e = cc
-phase_no_word (AtSize ForCode) e = cc
-phase_no_word (AtSize ForData) e = cc
-phase_no_word (AtSize ForBss) e = cc
-phase_no_word (InPayload (Counted c) done owed) e = cc
-phase_no_word (InPayload (SizedCode top) done owed) e = cc
-phase_no_word (InPayload (SizedData top) done owed) e = cc
-phase_no_word (InExtName es word done owed) e = front_no_word (ext_shape (entry_type word)) owed e
-phase_no_word _ e = cc
+phase_no_word x e =
+    let clash : false ≡ true = sym (inside x) ∙ same_part is_block_word refl x (λ r. refl) ∙ ap is_block_word e in
+    cc
+  where
+    inside : (y : Inside) → is_block_word (part_of y) ≡ false
+    inside (AtCount ForName) = refl
+    inside _ = refl
 
 -- ---- runs
 

@@ -8,14 +8,14 @@ use Rattle.hunk_words.specs.declared.block_word.Kind.TheVariants as kinds
 use Rattle.hunk_blocks.specs.declared.mode.Mode.{Mode}
 use Rattle.hunk_words.specs.declared.reason.Reason.TheVariants as reasons
 use Rattle.hunk_words.specs.Longs.{IsLong, AreLongs}
-use Rattle.hunk_words.specs.Bits.{kind, is_advisory}
+use Rattle.hunk_words.specs.Bits.{is_relocation, kind, is_advisory}
 use Rattle.hunk_blocks.specs.declared.ext_shape.ExtShape.{ExtShape}
 use Rattle.hunk_blocks.specs.declared.ext_shape.ExtShape.TheVariants.{Definition, References, Common}
 use Rattle.hunk_blocks.specs.ExtKinds.{ext_shape}
-use Rattle.hunk_blocks.specs.Values.{RelocGroup, ExtEntry, SymbolEntry, FitsShape, FitsWord, IsGroup, IsExtEntry, IsSymbolEntry, is_unknown, is_relocation}
+use Rattle.hunk_blocks.specs.Values.{RelocGroup, ExtEntry, SymbolEntry, FitsShape, FitsWord, IsPayload, IsGroup, IsExtEntry, IsSymbolEntry, is_unknown}
 use Rattle.hunk_blocks.specs.Parts.{Part, Part as parts, each, group_parts, ext_parts, ext_parts_by, symbol_parts, body_parts}
 use Rattle.hunk_blocks.specs.Modes.{refuse_inside, refuse_shape, refuse_alone_kind}
-use Rattle.hunk_blocks.specs.BlockSteps.{Counting, ForName, ForDebug, ForAdvisory, Sizing, ForCode, ForData, ForBss, Filling, Counted, SizedCode, SizedData, Inside, AtCount, AtSize, InPayload, AtGroup, AtTarget, InOffsets, AtEntry, InName, AtValue, AtExtWord, InExtName, AtExtValue, AtExtSize, AtExtCount, InExtOffsets, BlockNext, Open, Whole, group, entry, external, count_part, part_of, step_inside, fill, relocate, name_entry, sized_by, grouped, entered, shaped, name_external, refer, listed, begin_body}
+use Rattle.hunk_blocks.specs.BlockSteps.{Counting, ForName, Sizing, ForCode, ForData, ForBss, Filling, Counted, SizedCode, SizedData, Inside, AtCount, AtSize, InPayload, AtGroup, AtTarget, InOffsets, AtEntry, InName, AtValue, AtExtWord, InExtName, AtExtValue, AtExtSize, AtExtCount, InExtOffsets, BlockNext, Open, Whole, group, entry, external, count_part, part_of, counted_body, step_inside, fill, relocate, name_entry, sized_by, grouped, entered, shaped, name_external, refer, listed, begin_body}
 use Rattle.hunk_blocks.proofs.Lists.{All-more, map-more, flat_map-more, more_owed, more-not-nil, passed_true}
 
 -- ---- the text so far
@@ -66,10 +66,7 @@ read_next (Whole body) = body_parts body
 
 fill_reads : (f : Filling) (done : List ℕ) (owed : ℕ) → read_next (fill f done owed) ≡ head_of f (length done + owed) ∷ each parts.Payload done
 fill_reads (Counted ForName) done zero = rw add-zero
-fill_reads (Counted ForDebug) done zero = rw add-zero
-fill_reads (Counted ForAdvisory) done zero = rw add-zero
-fill_reads (SizedCode top) done zero = rw add-zero
-fill_reads (SizedData top) done zero = rw add-zero
+fill_reads _ done zero = rw add-zero
 fill_reads f done (suc owed) = refl
 
 relocate_reads : (groups : List RelocGroup) (target : ℕ) (done : List ℕ) (owed : ℕ) → read_next (relocate groups target done owed) ≡ group_so_far groups target (length done + owed) done
@@ -95,17 +92,15 @@ positive : (n : ℕ) → (n ≡ 0 → ⊥) → 0 < n
 positive n h = omega arith
 
 module _ (word : ℕ) where
+  -- Each payload of this length fits.
   abbrev pub FillFits : Filling → ℕ → Type 0
-  FillFits (Counted ForName) n = (kind word ≡ kinds.Name) × (n < 2 ^ 24)
-  FillFits (Counted ForDebug) n = (kind word ≡ kinds.Debug) × (n < 2 ^ 32)
-  FillFits (Counted ForAdvisory) n = IsTrue (is_unknown (kind word)) × IsTrue (is_advisory word) × (n < 2 ^ 32)
+  FillFits (Counted c) n = (ws : List ℕ) → length ws ≡ n → AreLongs ws → FitsWord word (counted_body c ws)
   FillFits (SizedCode top) n = (kind word ≡ kinds.Code) × (top < 4) × (n < 2 ^ 30)
   FillFits (SizedData top) n = (kind word ≡ kinds.Data) × (top < 4) × (n < 2 ^ 30)
 
+  -- Each payload fits whose count is not refused.
   abbrev pub CountFits : Counting → Type 0
-  CountFits ForName = kind word ≡ kinds.Name
-  CountFits ForDebug = kind word ≡ kinds.Debug
-  CountFits ForAdvisory = IsTrue (is_unknown (kind word)) × IsTrue (is_advisory word)
+  CountFits c = (ws : List ℕ) → IsPayload (2 ^ 32) ws → refuse_inside (count_part c) (length ws) ≡ None → FitsWord word (counted_body c ws)
 
   abbrev pub SizeFits : Sizing → Type 0
   SizeFits ForCode = kind word ≡ kinds.Code
@@ -168,9 +163,7 @@ module _ (word : ℕ) where
   NextFits (Whole body) = FitsWord word body
 
   fill_fits : (f : Filling) (done : List ℕ) (owed : ℕ) → FillFits f (length done + owed) → AreLongs done → NextFits (fill f done owed)
-  fill_fits (Counted ForName) done zero h l = (h.0, (omega (arith, h.1), l))
-  fill_fits (Counted ForDebug) done zero h l = (h.0, (omega (arith, h.1), l))
-  fill_fits (Counted ForAdvisory) done zero h l = (h.0, h.1, (omega (arith, h.2), l))
+  fill_fits (Counted c) done zero h l = h done (omega arith) l
   fill_fits (SizedCode top) done zero h l = (h.0, h.1, (omega (arith, h.2), l))
   fill_fits (SizedData top) done zero h l = (h.0, h.1, (omega (arith, h.2), l))
   fill_fits f done (suc owed) h l = (h, l)
@@ -223,9 +216,7 @@ module _ (word : ℕ) where
   size_fits ForBss w h l = (h, l)
 
   count_fits : (c : Counting) (w : ℕ) → CountFits c → IsLong w → refuse_inside (count_part c) w ≡ None → NextFits (fill (Counted c) [] w)
-  count_fits ForName w h l ok = fill_fits (Counted ForName) [] w (h, omega (arith, ltb-true w (2 ^ 24) (passed_true (ltb w (2 ^ 24)) reasons.NameWord ok))) tt
-  count_fits ForDebug w h l ok = fill_fits (Counted ForDebug) [] w (h, omega (arith, l)) tt
-  count_fits ForAdvisory w h l ok = fill_fits (Counted ForAdvisory) [] w (h.0, h.1, omega (arith, l)) tt
+  count_fits c w h l ok = fill_fits (Counted c) [] w (λ ws n longs. h ws (omega (arith, l, n), longs) (ap (refuse_inside (count_part c)) (omega (arith, n)) ∙ ok)) tt
 
   group_fits : (groups : List RelocGroup) (w : ℕ) → GroupsFit groups → IsLong w → NextFits (grouped groups w)
   group_fits groups zero g l = g
@@ -280,24 +271,11 @@ module _ (word : ℕ) where
 
 -- Behind a block word that is not refused the block fits.
 pub begin_fits : (mode : Mode) (word : ℕ) (k : Kind) → kind word ≡ k → refuse_alone_kind mode (is_advisory word) k ≡ None → NextFits word (begin_body k)
-begin_fits mode word kinds.Name e ok = e
-begin_fits mode word kinds.Code e ok = e
-begin_fits mode word kinds.Data e ok = e
-begin_fits mode word kinds.Bss e ok = e
-begin_fits mode word kinds.Reloc32 e ok = (ap is_relocation e, tt)
-begin_fits mode word kinds.Reloc16 e ok = (ap is_relocation e, tt)
-begin_fits mode word kinds.Reloc8 e ok = (ap is_relocation e, tt)
-begin_fits mode word kinds.Drel32 e ok = (ap is_relocation e, tt)
-begin_fits mode word kinds.Drel16 e ok = (ap is_relocation e, tt)
-begin_fits mode word kinds.Drel8 e ok = (ap is_relocation e, tt)
-begin_fits mode word kinds.RelReloc32 e ok = (ap is_relocation e, tt)
-begin_fits mode word kinds.AbsReloc16 e ok = (ap is_relocation e, tt)
+begin_fits mode word kinds.Name e ok = λ ws h passes. (e, (ltb-true (length ws) (2 ^ 24) (passed_true (ltb (length ws) (2 ^ 24)) reasons.NameWord passes), h.1))
 begin_fits mode word kinds.Ext e ok = (e, tt)
 begin_fits mode word kinds.Symbol e ok = (e, tt)
-begin_fits mode word kinds.Debug e ok = e
-begin_fits mode word kinds.End e ok = e
-begin_fits mode word (kinds.Unknown n) e ok = (ap is_unknown e, passed_true (is_advisory word) reasons.UnknownBlock ok)
-begin_fits mode word _ e ok = absurd cc
+begin_fits mode word (kinds.Unknown n) e ok = λ ws h passes. (ap is_unknown e, passed_true (is_advisory word) reasons.UnknownBlock ok, h)
+begin_fits mode word _ e ok = first_of (cc, assumption (ap is_relocation e))
 
 -- ---- each step adds to the text
 
@@ -376,11 +354,4 @@ step_reads blockword (InExtOffsets entries word name value done owed) w h ok =
 
 pub begin_reads : (k : Kind) → read_next (begin_body k) ≡ []
 begin_reads kinds.Name = refl
-begin_reads kinds.Code = refl
-begin_reads kinds.Data = refl
-begin_reads kinds.Bss = refl
-begin_reads kinds.Reloc32 = refl
-begin_reads kinds.Symbol = refl
-begin_reads kinds.Debug = refl
-begin_reads (kinds.Unknown n) = refl
 begin_reads _ = refl

@@ -4,13 +4,13 @@ use Rattle.std.specs.Prelude.{IsTrue}
 use Rattle.std.specs.List.{flat_map, AllByRecursion}
 use Rattle.hunk_words.specs.declared.block_word.Kind.{Kind}
 use Rattle.hunk_words.specs.declared.block_word.Kind.TheVariants as kinds
-use Rattle.hunk_words.specs.Bits.{kind}
+use Rattle.hunk_words.specs.Bits.{is_relocation, kind}
 use Rattle.hunk_blocks.specs.declared.ext_shape.ExtShape.{ExtShape}
 use Rattle.hunk_blocks.specs.declared.ext_shape.ExtShape.TheVariants.{Definition, References, Common}
 use Rattle.hunk_blocks.specs.ExtKinds.{ext_shape}
-use Rattle.hunk_blocks.specs.Values.{RelocGroup, ExtEntry, SymbolEntry, FitsShape, BlockBody, Name, Code, Data, Bss, Reloc, Ext, Symbol, Debug, Advisory, End, FitsWord, IsGroup, IsExtEntry, IsSymbolEntry, is_unknown, is_relocation}
-use Rattle.hunk_blocks.specs.Parts.{Part, Part as parts, each, group_parts, ext_parts, ext_parts_by, symbol_parts, body_parts}
-use Rattle.hunk_blocks.specs.BlockSteps.{ForName, ForDebug, ForAdvisory, Filling, Counted, SizedCode, SizedData, AtCount, AtGroup, AtEntry, AtValue, AtExtWord, BlockNext, Open, Whole, group, entry, external, step_inside, fill, filled_body, relocate, name_entry, entered, shaped, name_external, refer, listed, begin_body, Follows}
+use Rattle.hunk_blocks.specs.Values.{RelocGroup, ExtEntry, SymbolEntry, FitsShape, BlockBody, Code, Data, Bss, Reloc, Ext, Symbol, Advisory, End, FitsWord, IsGroup, IsExtEntry, IsSymbolEntry, is_unknown}
+use Rattle.hunk_blocks.specs.Parts.{Part, Part as parts, each, counted, group_parts, ext_parts, ext_parts_by, symbol_parts, body_parts}
+use Rattle.hunk_blocks.specs.BlockSteps.{Counting, ForAdvisory, Filling, Counted, SizedCode, SizedData, AtCount, AtGroup, AtEntry, AtValue, AtExtWord, BlockNext, Open, Whole, group, entry, external, count_part, counted_body, step_inside, fill, filled_body, relocate, name_entry, entered, shaped, name_external, refer, listed, begin_body, Follows}
 
 pub Follows-append : (a b c : BlockNext) (ps qs : List (Part × ℕ)) → Follows a ps b → Follows b qs c → Follows a (ps ++ qs) c
 Follows-append a b c [] qs h k = subst (λ (x : BlockNext). Follows x qs c) (sym h) k
@@ -113,18 +113,11 @@ externals_follow entries (e ∷ more) h =
 
 -- ---- every body
 
-begin_relocation : (k : Kind) → IsTrue (is_relocation k) → begin_body k ≡ Open (AtGroup [])
-begin_relocation kinds.Reloc32 h = refl
-begin_relocation kinds.Reloc16 h = refl
-begin_relocation kinds.Reloc8 h = refl
-begin_relocation kinds.Drel32 h = refl
-begin_relocation kinds.Drel16 h = refl
-begin_relocation kinds.Drel8 h = refl
-begin_relocation kinds.RelReloc32 h = refl
-begin_relocation kinds.AbsReloc16 h = refl
-begin_relocation _ h = absurd cc
+pub begin_relocation : (k : Kind) → IsTrue (is_relocation k) → begin_body k ≡ Open (AtGroup [])
+begin_relocation kinds.Unit h = absurd cc
+begin_relocation _ h = cc
 
-begin_unknown : (k : Kind) → IsTrue (is_unknown k) → begin_body k ≡ Open (AtCount ForAdvisory)
+pub begin_unknown : (k : Kind) → IsTrue (is_unknown k) → begin_body k ≡ Open (AtCount ForAdvisory)
 begin_unknown (kinds.Unknown n) h = refl
 begin_unknown kinds.Unit h = absurd cc
 begin_unknown _ h = absurd cc
@@ -136,9 +129,11 @@ top_of_size top n h = omega arith
 longs_of_size : (top n : ℕ) → n < 2 ^ 30 → (top * 2 ^ 30 + n) % 2 ^ 30 ≡ n
 longs_of_size top n h = omega arith
 
+counted_follows : (k : Kind) (c : Counting) (words : List ℕ) → begin_body k ≡ Open (AtCount c) → Follows (begin_body k) (counted (count_part c) words) (Whole (counted_body c words))
+counted_follows k c words e = rw e (refl, payload_follows (Counted c) [] words)
+
 -- The text of a body leads from the block's word to the whole block.
 pub body_follows : (word : ℕ) (body : BlockBody) → FitsWord word body → Follows (begin_body (kind word)) (body_parts body) (Whole body)
-body_follows word (Name words) h = rw h.0 (refl, payload_follows (Counted ForName) [] words)
 body_follows word (Code top words) h =
     rw h.0 (refl, rw (top_of_size top (length words) h.2.0, longs_of_size top (length words) h.2.0) (payload_follows (SizedCode top) [] words))
 body_follows word (Data top words) h =
@@ -147,6 +142,6 @@ body_follows word (Bss size) h = rw h.0 (refl, refl)
 body_follows word (Reloc groups) h = rw (begin_relocation (kind word) h.0) (groups_follow [] groups h.1)
 body_follows word (Ext entries) h = rw h.0 (externals_follow [] entries h.1)
 body_follows word (Symbol entries) h = rw h.0 (entries_follow [] entries h.1)
-body_follows word (Debug words) h = rw h.0 (refl, payload_follows (Counted ForDebug) [] words)
-body_follows word (Advisory words) h = rw (begin_unknown (kind word) h.0) (refl, payload_follows (Counted ForAdvisory) [] words)
+body_follows word (Advisory words) h = counted_follows (kind word) ForAdvisory words (begin_unknown (kind word) h.0)
 body_follows word End h = rw h
+body_follows word _ h = counted_follows (kind word) _ _ (ap begin_body h.0)

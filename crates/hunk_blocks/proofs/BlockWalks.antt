@@ -20,7 +20,8 @@ use Rattle.hunk_blocks.specs.declared.phase.Phase.TheVariants as phases
 use Rattle.hunk_blocks.specs.PhaseSteps as scan
 use Rattle.hunk_blocks.specs.PhaseSteps.{part_at, skipped, skip_all}
 use Rattle.hunk_blocks.specs.Begins.{HasBlockText}
-use Rattle.hunk_blocks.proofs.BlockPhases.{phase_of, next_phase, phase_no_word, step_phase, begin_phase, refuse_phase, skips_inside, none_skipped}
+use Rattle.hunk_blocks.specs.ReaderPhase.{phase_of, next_phase}
+use Rattle.hunk_blocks.proofs.BlockPhases.{phase_no_word, step_phase, begin_phase, refuse_phase, skips_inside, none_skipped}
 use Rattle.hunk_blocks.proofs.KeptWalks.{OnePasses, HasRuns, StandsAt, Walks, starts, stands, word_refused, word_passes}
 
 abbrev pub position_of : Alone → Option Phase
@@ -31,10 +32,10 @@ module _ (mode : Mode) where
   pub runs : HasRuns (blocks mode) alone (keeps mode) position_of skipped skip_all
   runs = record { one = one; none = none }
     where
-      one : (s : Alone) (left w : ℕ) → skipped (position_of s) ≡ suc left → OnePasses (blocks mode) alone (keeps mode) position_of skipped skip_all s left w
-      one AtWord left w e = absurd (omega (arith, e))
-      one (Behind (Whole b)) left w e = absurd (omega (arith, e))
-      one (Behind (Open x)) left w e =
+      one : (s : Alone) (before : List ℕ) (left w : ℕ) → (keeps mode).SoFar s before → skipped (position_of s) ≡ suc left → OnePasses (blocks mode) alone (keeps mode) position_of skipped skip_all s left w
+      one AtWord before left w h e = absurd (omega (arith, e))
+      one (Behind (Whole b)) before left w h e = absurd (omega (arith, e))
+      one (Behind (Open x)) before left w h e =
           let o = skips_inside x left w e in
           record { role = part_of x; expects = refl; passes = alone_inside mode (part_of x) w (part_not_word x) ∙ o.0; run_is = o.1; behind_is = o.2 }
 

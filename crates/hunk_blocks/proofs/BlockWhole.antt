@@ -1,7 +1,7 @@
 -- Bytes that begin with a block, and the reasons that others are refused for.
-use Rattle.std.proofs.Common.{◌≡◌, ◌≢◌, ℕ, zero, suc, ◌+◌, ◌*◌, ◌/◌, ◌^◌, ◌≤◌, Bool, true, false, cond, List, [], ◌∷◌, ◌++◌, length, take, drop, get_or, refl, sym, ap, subst, ◌∙◌, append_assoc, append-nil, arith, Option, Some, None, inl, inr}
-use Rattle.std.specs.Prelude.{IsTrue, nat_lt, Result, Ok, Err, IfErr, IsErrAnd}
-use Rattle.std.proofs.lemmas.List.{take-append-drop, take-append-le, length-take-le, drop_more}
+use Rattle.std.proofs.Common.{◌≡◌, ◌≢◌, ℕ, ◌*◌, ◌/◌, ◌^◌, ◌≤◌, Bool, true, false, cond, List, [], ◌++◌, length, drop, refl, sym, ap, subst, ◌∙◌, arith, Option, Some, None, inl, inr}
+use Rattle.std.specs.Prelude.{IsTrue, nat_lt, Result, Ok, Err, IsErrAnd}
+use Rattle.std.proofs.lemmas.List.{take-append-drop, drop_more}
 use Rattle.hunk_words.specs.Limits.{name_limit}
 use Rattle.hunk_words.specs.declared.block_word.Kind.{Kind}
 use Rattle.hunk_words.specs.declared.block_word.Kind.TheVariants as kinds
@@ -9,90 +9,42 @@ use Rattle.hunk_words.specs.declared.reason.Reason.{Reason}
 use Rattle.hunk_words.specs.declared.reason.Reason.TheVariants as reasons
 use Rattle.hunk_words.specs.Bits.{has_both_bits, is_advisory, kind}
 use Rattle.hunk_words.specs.declared.fault.Fault.{Fault}
-use Rattle.hunk_words.specs.Longs.{longs, bytes_of, IsBytes}
-use Rattle.hunk_words.proofs.LongLaws.{longs-bytes_of, length-longs}
+use Rattle.hunk_words.specs.Longs.{longs}
+use Rattle.hunk_words.proofs.LongLaws.{length-longs}
 use Rattle.hunk_blocks.specs.declared.mode.Mode.{Mode}
 use Rattle.hunk_blocks.specs.declared.mode.Mode.TheVariants as modes
 use Rattle.hunk_blocks.specs.declared.ext_shape.ExtShape.{ExtShape}
 use Rattle.hunk_blocks.specs.ExtKinds.{ext_shape}
 use Rattle.hunk_blocks.specs.Values.{BlockValue}
-use Rattle.hunk_blocks.specs.Parts.{Part, Part as parts, block_text}
-use Rattle.hunk_blocks.specs.Modes.{is_block_refusal, refuse_alone_kind, refuse_alone_word, refuse_shape}
-use Rattle.hunk_blocks.specs.Begins.{BeginsWithBlock, BeginsWithNoBlock, HasBlockText, first_long}
-use Rattle.hunk_blocks.specs.Faults.{HasBlockFault, IsFrontTo, blocks, refuse_alone}
-use Rattle.hunk_blocks.specs.Reading.{HasLongIn}
-use Rattle.hunk_blocks.proofs.Admitted.{word_passes}
-use Rattle.hunk_blocks.proofs.BlockLongs.{block_longs}
+use Rattle.hunk_blocks.specs.Parts.{Part, Part as parts}
+use Rattle.hunk_blocks.specs.Modes.{IsOfMode, is_block_refusal, refuse_alone_kind, refuse_alone_word, refuse_shape}
+use Rattle.hunk_blocks.specs.Begins.{BeginsWithBlock, BeginsWithNoBlock, HasBlockText, IsFrontBlock, BeginsWithSomeBlock, LacksItem, LacksItemOfMode, first_long}
+use Rattle.hunk_blocks.specs.Faults.{HasBlockFault, refuse_alone}
 use Rattle.hunk_blocks.proofs.BodyFaults.{expects_word}
+use Rattle.hunk_blocks.proofs.Decoding.{front_same}
 use Rattle.hunk_blocks.proofs.OneBlockFault.{no_block}
 
 module _ (mode : Mode) (bytes : List ℕ) (size : ℕ) (h : HasBlockText mode bytes size) where
-  begun : BeginsWithBlock mode bytes h.value size
-  begun = h.begins
-
-  whole : bytes ≡ bytes_of (block_text h.value) ++ drop size bytes
-  whole = sym (take-append-drop size bytes) ∙ ap (λ l. l ++ drop size bytes) h.begins.text
-
-  pub text_length : length (take size bytes) ≡ size
-  text_length = length-take-le size bytes h.begins.whole
-
-  pub not_none : BeginsWithNoBlock mode bytes → ⊥
-  unfolding BeginsWithNoBlock
-  not_none none = none h.value h.begins.block h.begins.of_mode (drop size bytes) whole
-
-  pub not_none_there : BeginsWithNoBlock mode (take size bytes) → ⊥
-  unfolding BeginsWithNoBlock
-  not_none_there none = none h.value h.begins.block h.begins.of_mode [] (h.begins.text ∙ sym (append-nil (bytes_of (block_text h.value))))
+  front : IsFrontBlock bytes h.value size
+  front = record { block = h.begins.block; text = h.begins.text; whole = h.begins.whole }
 
   pub no_fault : (at : ℕ) (reason : Reason) → HasBlockFault mode bytes at reason → ⊥
-  no_fault at reason f = not_none (no_block mode bytes at reason f)
+  unfolding BeginsWithNoBlock
+  no_fault at reason f =
+      no_block mode bytes at reason f h.value h.begins.block h.begins.of_mode (drop size bytes) (sym (take-append-drop size bytes) ∙ ap (λ l. l ++ drop size bytes) h.begins.text)
 
-  text_longs : longs (take size bytes) ≡ block_text h.value
-  text_longs =
-      ap longs (h.begins.text ∙ sym (append-nil (bytes_of (block_text h.value)))) ∙ longs-bytes_of (block_text h.value) [] (block_longs h.value h.begins.block) ∙ append-nil (block_text h.value)
+  pub some_begins : BeginsWithSomeBlock bytes
+  some_begins = record { value = h.value; size = size; front = front }
 
-  -- Its word is not refused.
-  pub word_ok : (word : ℕ) (rest : List ℕ) → longs (take size bytes) ≡ word ∷ rest → refuse_alone_word mode word ≡ None
-  word_ok word rest e =
-      let f : block_text h.value ≡ word ∷ rest = sym text_longs ∙ e in
-      let same : h.value.word ≡ word = cc in
-      subst (λ (w : ℕ). refuse_alone_word mode w ≡ None) same (word_passes mode h.value h.begins.block h.begins.of_mode)
+  -- Whichever block they begin with is of the mode.
+  of_mode : (b : BlockValue) (n : ℕ) → IsFrontBlock bytes b n → IsOfMode mode b
+  of_mode b n f = subst (IsOfMode mode) (front_same bytes h.value b size n front f) h.begins.of_mode
 
-  pub first_is : (word : ℕ) (rest : List ℕ) → longs (take size bytes) ≡ word ∷ rest → first_long bytes ≡ word
-  first_is word rest e =
-      ap (λ l. get_or l 0 0) (ap longs whole ∙ longs-bytes_of (block_text h.value) (drop size bytes) (block_longs h.value h.begins.block))
-      ∙ ap (λ l. get_or (l ++ longs (drop size bytes)) 0 0) (sym text_longs ∙ e)
+  pub begins_with : (b : BlockValue) (n : ℕ) → IsFrontBlock bytes b n → BeginsWithBlock mode bytes b n
+  begins_with b n f = record { block = f.block; of_mode = of_mode b n f; text = f.text; whole = f.whole }
 
-  -- What the text begins with, the bytes begin with.
-  pub begun_there : (b : BlockValue) (n : ℕ) → BeginsWithBlock mode (take size bytes) b n → BeginsWithBlock mode bytes b n
-  begun_there b n t =
-      record {
-        block = t.block;
-        of_mode = t.of_mode;
-        text = ap (λ l. take n l) (sym (take-append-drop size bytes)) ∙ take-append-le n (take size bytes) (drop size bytes) t.whole ∙ t.text;
-        whole = omega (arith, t.whole, text_length, h.begins.whole);
-      }
-
-  -- Up to a longword of its text a block goes.
-  pub front_reached : (place : ℕ) → HasLongIn (record { rest = longs (take size bytes); place = 0 }) place → IsFrontTo (blocks mode) (longs bytes) place
-  front_reached place l =
-      let ws = block_text h.value in
-      let rest = longs (drop size bytes) in
-      let n = l.number + 1 in
-      let all : longs bytes ≡ ws ++ rest = ap longs whole ∙ longs-bytes_of ws (drop size bytes) (block_longs h.value h.begins.block) in
-      let within : n ≤ length ws = omega (arith, l.inside, ap length text_longs) in
-      record {
-        read = take n ws;
-        after = drop n ws ++ rest;
-        split = all ∙ ap (λ (l : List ℕ). l ++ rest) (sym (take-append-drop n ws)) ∙ append_assoc (take n ws) (drop n ws) rest;
-        place = omega (arith, l.place, length-take-le n ws within);
-        front = record { value = h.value; is = (h.begins.block, h.begins.of_mode); more = drop n ws; begins = sym (take-append-drop n ws) };
-      }
-
-  pub first_there : first_long (take size bytes) ≡ first_long bytes
-  first_there =
-      let all : longs bytes ≡ block_text h.value ++ longs (drop size bytes) = ap longs whole ∙ longs-bytes_of (block_text h.value) (drop size bytes) (block_longs h.value h.begins.block) in
-      ap (λ l. get_or l 0 0) text_longs ∙ sym (ap (λ l. get_or l 0 0) all)
+  pub lacks_of_mode : (at : ℕ) → LacksItem bytes at → LacksItemOfMode mode bytes at
+  lacks_of_mode at l = record { lacks = l; of_mode = of_mode l.value l.size l.front }
 
 -- ---- reasons
 
@@ -183,24 +135,6 @@ first_fault mode bytes reason some e =
       refuses = e;
     })
 
-pub word_other : (mode : Mode) (w : ℕ) (reason : Reason) → refuse_alone_word mode w ≡ Some reason → reason ≢ reasons.OutOfMemory
-word_other mode w reason e m = refused_for mode [] 0 reason reasons.OutOfMemory refl m parts.BlockWord w e
-
-pub err_of : {A E : Type 0} (r : Result A E) (P Q : E → Type 0) → IfErr r P → ((x : E) → P x → Q x) → IfErr r Q
-err_of (Ok x) P Q p f = tt
-err_of (Err e) P Q p f = f e p
-
 pub err_is : {T : Type 0} (r : Result T Fault) (f : Fault) (place : ℕ) (reason : Reason) → IsErrAnd r (λ e. e ≡ f) → f.place ≡ place → f.reason ≡ reason → r ≡ Err (record { place = place; reason = reason })
 err_is (Ok x) f place reason h p q = absurd h
 err_is (Err e) f place reason h p q = let same : f ≡ record { place = place; reason = reason } = λ i. record { place = p i; reason = q i } in ap (λ (x : Fault). Err x) (h ∙ same)
-
-pub take_bytes : (bytes : List ℕ) (n : ℕ) → IsBytes bytes → IsBytes (take n bytes)
-take_bytes bytes zero fit i = omega arith
-take_bytes [] (suc n) fit i = omega arith
-take_bytes (b ∷ bytes) (suc n) fit zero = fit 0
-take_bytes (b ∷ bytes) (suc n) fit (suc i) = take_bytes bytes n (λ j. fit (suc j)) i
-
--- Refused for nothing else than memory, it is refused for that.
-pub only_memory : (reason : Reason) → (reason ≢ reasons.OutOfMemory → ⊥) → reason ≡ reasons.OutOfMemory
-only_memory reasons.OutOfMemory h = refl
-only_memory _ h = absurd (h (λ e. cc))

@@ -21,6 +21,16 @@ module _ {State Role : Type 0} (m : Machine State Role) where
   Leads-append a b c [] ls h k = subst (λ (x : State). Leads x ls c) (sym h) k
   Leads-append a b c (l ∷ ks) ls h k = (h.0, Leads-append (m.step a l.1) b c ks ls h.1 k)
 
+  -- Two runs from one state, along the same longwords, that end where nothing is expected end together.
+  pub ends_together : (s t u : State) (ks ls : List (Role × ℕ)) (xs ys : List ℕ) → Leads s ks t → Leads s ls u → m.expects t ≡ None → m.expects u ≡ None → words ks ++ xs ≡ words ls ++ ys → (t ≡ u) × (xs ≡ ys)
+  ends_together s t u [] [] xs ys h k a b e = (sym h ∙ k, e)
+  ends_together s t u [] (l ∷ ls) xs ys h k a b e = let clash : None ≡ Some l.0 = sym (ap m.expects h ∙ a) ∙ k.0 in absurd cc
+  ends_together s t u (l ∷ ks) [] xs ys h k a b e = let clash : None ≡ Some l.0 = sym (ap m.expects k ∙ b) ∙ h.0 in absurd cc
+  ends_together s t u (d ∷ ks) (l ∷ ls) xs ys h k a b e =
+      let head : d.1 ≡ l.1 = cc in
+      let tail : words ks ++ xs ≡ words ls ++ ys = cc in
+      ends_together (m.step s d.1) t u ks ls xs ys h.1 (subst (λ (w : ℕ). Leads (m.step s w) ls u) (sym head) k.1) a b tail
+
 module _ {State Role : Type 0} (m : Machine State Role) (refuse : Role → ℕ → Option Reason) where
   abbrev pub Passes : List (Role × ℕ) → Type 0
   Passes ls = AllByRecursion (λ l. refuse l.0 l.1 ≡ None) ls

@@ -1,9 +1,8 @@
 -- Longwords in front of a list of bytes.
-use Rattle.std.proofs.Common.{◌≡◌, ℕ, ◌+◌, ◌*◌, List, [], ◌∷◌, ◌++◌, length, take, drop, refl, sym, ap₂, subst, ◌∙◌, arith}
+use Rattle.std.proofs.Common.{◌≡◌, ℕ, ◌*◌, List, [], ◌∷◌, ◌++◌, take, drop, refl, sym, ap₂, subst, ◌∙◌}
 use Rattle.std.specs.List.{AllByRecursion}
 use Rattle.std.proofs.lemmas.List.{take-append-drop}
 use Rattle.hunk_words.specs.Longs.{longs, AreLongs, IsLong}
-use Rattle.hunk_blocks.specs.Reading.{Reads}
 use Rattle.hunk_words.proofs.PartLaws.{longs-take, longs-drop}
 
 pub All-left : {A : Type 0} (P : A → Type 0) (xs ys : List A) → AllByRecursion P (xs ++ ys) → AllByRecursion P xs
@@ -25,7 +24,3 @@ longs_fit_left xs ys zs e h = All-left IsLong xs ys (subst AreLongs e h)
 
 pub longs_fit_right : (xs ys zs : List ℕ) → zs ≡ xs ++ ys → AreLongs zs → AreLongs ys
 longs_fit_right xs ys zs e h = All-right IsLong xs ys (subst AreLongs e h)
-
-pub reads_front : (bytes front rest : List ℕ) (place next count : ℕ) → longs bytes ≡ longs front ++ longs rest → length (longs front) ≡ count → next ≡ place + 4 * count →
-    Reads (record { rest = longs bytes; place = place }) (record { rest = longs rest; place = next }) (longs front)
-reads_front bytes front rest place next count e n p = record { front = e; further = omega (arith, p, n) }

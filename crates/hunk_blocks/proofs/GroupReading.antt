@@ -1,11 +1,11 @@
 -- What the longwords of a group make.
-use Rattle.std.proofs.Common.{◌≡◌, ◌≢◌, ℕ, ◌<◌, ◌^◌, List, [], ◌∷◌, ◌++◌, length, refl, sym, ap, subst, ◌∙◌}
+use Rattle.std.proofs.Common.{◌≡◌, ◌≢◌, ℕ, ◌+◌, ◌<◌, ◌≤◌, ◌^◌, List, [], ◌∷◌, ◌++◌, length, refl, sym, ap, subst, ◌∙◌, length-append, arith}
 use Rattle.hunk_words.specs.Longs.{IsLong, AreLongs}
 use Rattle.hunk_blocks.specs.Values.{RelocGroup, IsGroup}
 use Rattle.hunk_blocks.specs.Parts.{Part, Part as parts, each, longs_of, group_text}
-use Rattle.hunk_blocks.specs.Reading.{Unread, Reads}
+use Rattle.hunk_blocks.specs.Reading.{Unread, Reads, BeginsWithList}
 use Rattle.hunk_blocks.specs.BlockSteps.{group}
-use Rattle.hunk_blocks.proofs.ListReading.{EndThemselves, Reads-append, append_same}
+use Rattle.hunk_blocks.proofs.ListReading.{Behind, Reads-append, item_behind, list_left}
 
 pub longs_of-each : (part : Part) (words : List ℕ) → longs_of (each part words) ≡ words
 longs_of-each part [] = refl
@@ -24,25 +24,15 @@ pub group_is : (count target : ℕ) (offsets : List ℕ) → count ≢ 0 → cou
 group_is count target offsets some fits t n l =
     record { some = λ e. some (sym n ∙ ap length e); target = t; offsets = (subst (λ m. m < 2 ^ 32) (sym n) fits, l) }
 
-pub groups_end : EndThemselves IsGroup group_text
-groups_end =
-    record {
-      one =
-          λ a b x y ha hb e.
-          let f : length a.offsets ∷ a.target ∷ (a.offsets ++ x) ≡ length b.offsets ∷ b.target ∷ (b.offsets ++ y) =
-          ap (λ l. l ++ x) (sym (group_text_is a)) ∙ e ∙ ap (λ l. l ++ y) (group_text_is b) in
-          let count : length a.offsets ≡ length b.offsets = cc in
-          let target : a.target ≡ b.target = cc in
-          let tail : a.offsets ++ x ≡ b.offsets ++ y = cc in
-          let same = append_same a.offsets b.offsets x y count tail in
-          ((λ i. record { target = target i; offsets = same.0 i }), same.1);
-      goes_on =
-          λ a x y ha e.
-          let f : length a.offsets ∷ a.target ∷ (a.offsets ++ x) ≡ 0 ∷ y = ap (λ l. l ++ x) (sym (group_text_is a)) ∙ e in
-          let none : length a.offsets ≡ 0 = cc in
-          go a.offsets ha.some none;
-    }
-  where
-    go : (offsets : List ℕ) → offsets ≢ [] → length offsets ≡ 0 → ⊥
-    go [] some n = some refl
-    go (o ∷ offsets) some n = absurd cc
+-- ---- behind its count
+
+module _ (words : List ℕ) (count : ℕ) (rest : List ℕ) (list : BeginsWithList IsGroup group_text words) (begins : words ≡ count ∷ rest) (some : count ≢ 0) where
+  behind : Behind IsGroup group_text (λ g. length g.offsets) (λ g. g.target ∷ g.offsets) group_text_is count rest
+  behind = item_behind IsGroup group_text (λ g. length g.offsets) (λ g. g.target ∷ g.offsets) group_text_is count rest words list begins some
+
+  -- there are a target and as many offsets
+  pub group_room : count + 1 ≤ length rest
+  group_room = omega (arith, behind.word_is, ap length behind.cut, length-append behind.item.offsets behind.more)
+
+  pub groups_left : (read new : List ℕ) → rest ≡ read ++ new → length read ≡ count + 1 → BeginsWithList IsGroup group_text new
+  groups_left read new e n = list_left IsGroup group_text (λ g. length g.offsets) (λ g. g.target ∷ g.offsets) group_text_is count rest behind read new e (omega (arith, n, behind.word_is))

@@ -22,7 +22,7 @@ module _ {Value State Role Pos : Type 0} (g : Grammar Value Role) (m : Machine S
     pub behind_is : behind (pos (m.step s w)) ≡ behind (pos s)
 
   pub record HasRuns : Type 0 where
-    pub one : (s : State) (left w : ℕ) → run (pos s) ≡ suc left → OnePasses s left w
+    pub one : (s : State) (before : List ℕ) (left w : ℕ) → k.SoFar s before → run (pos s) ≡ suc left → OnePasses s left w
     pub none : (s : State) → run (pos s) ≡ 0 → behind (pos s) ≡ pos s
 
   -- It stands at this longword.
@@ -62,7 +62,7 @@ module _ {Value State Role Pos : Type 0} (g : Grammar Value Role) (m : Machine S
       go : (r : ℕ) → run (pos s) ≡ r → Passed s before (w ∷ ws)
       go zero e = absurd (omega (arith, few, e))
       go (suc left) e =
-          let o = runs.one s left w e in
+          let o = runs.one s before left w h e in
           let n = rest (m.step s w) (before ++ w ∷ []) (k.goes_on s before o.role w h o.expects l o.passes) (omega (arith, few, e, o.run_is)) in
           record {
             state = n.state;
@@ -90,6 +90,12 @@ module _ {Value State Role Pos : Type 0} (g : Grammar Value Role) (m : Machine S
           refuses = e;
         }
 
+    -- It is read.
+    pub word_reads : g.refuse role (get_or ws at 0) ≡ None → k.SoFar (m.step s.state (get_or ws at 0)) (take (at + 1) ws)
+    word_reads ok =
+        subst (k.SoFar (m.step s.state (get_or ws at 0))) (sym (take_more ws at 0 l))
+        (k.goes_on s.state (take at ws) role (get_or ws at 0) s.so_far expects (All-from_recursion IsLong ws fit at 0 l) ok)
+
     next : State
     next = m.step s.state (get_or ws at 0)
 
@@ -101,18 +107,14 @@ module _ {Value State Role Pos : Type 0} (g : Grammar Value Role) (m : Machine S
     rest_fits = All-right IsLong (take (at + 1) ws) rest (subst AreLongs (sym (take-append-drop (at + 1) ws)) fit)
 
     module _ (runs : HasRuns) (ok : g.refuse role (get_or ws at 0) ≡ None) (q : Pos) (e : pos (m.step s.state (get_or ws at 0)) ≡ q) where
-      read : k.SoFar next (take (at + 1) ws)
-      unfolding next
-      read = subst (k.SoFar next) (sym (take_more ws at 0 l)) (k.goes_on s.state (take at ws) role (get_or ws at 0) s.so_far expects (All-from_recursion IsLong ws fit at 0 l) ok)
-
       run_is : run (pos next) ≡ run q
       unfolding next
       run_is = ap run e
 
       all_passed : length ws < at + (1 + run q) → HasPassed ws (at + (1 + run q))
-      unfolding rest
+      unfolding rest next
       all_passed beyond =
-          let n = passes_run runs next (take (at + 1) ws) rest read rest_fits (omega (arith, length-drop (at + 1) ws, l, beyond, run_is)) in
+          let n = passes_run runs next (take (at + 1) ws) rest (word_reads ok) rest_fits (omega (arith, length-drop (at + 1) ws, l, beyond, run_is)) in
           record {
             state = n.state;
             so_far = subst (k.SoFar n.state) (take-append-drop (at + 1) ws) n.so_far;
@@ -124,7 +126,7 @@ module _ {Value State Role Pos : Type 0} (g : Grammar Value Role) (m : Machine S
       unfolding rest next
       some_passed some =
           let many : length (take (run q) rest) ≡ run q = length-take-le (run q) rest (omega (arith, length-drop (at + 1) ws, some)) in
-          let n = passes_run runs next (take (at + 1) ws) (take (run q) rest) read (All-left IsLong (take (run q) rest) _ (subst AreLongs (sym (take-append-drop (run q) rest)) rest_fits)) (omega (arith, many, run_is)) in
+          let n = passes_run runs next (take (at + 1) ws) (take (run q) rest) (word_reads ok) (All-left IsLong (take (run q) rest) _ (subst AreLongs (sym (take-append-drop (run q) rest)) rest_fits)) (omega (arith, many, run_is)) in
           let place : at + 1 + run q ≡ at + (1 + run q) = omega arith in
           record {
             state = n.state;

@@ -11,7 +11,6 @@ pub mod BodyReading
 pub mod Decoding
 pub mod FaultLaws
 pub mod FaultScan
-pub mod EntryMissing
 pub mod EntryReading
 pub mod ExtLaws
 pub mod Fronts

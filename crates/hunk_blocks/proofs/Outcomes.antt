@@ -25,6 +25,17 @@ module _ {State Role : Type 0} (m : Machine State Role) where
   leads_run s t [] h = h
   leads_run s t (l ∷ ls) h = leads_run (m.step s l.1) t ls h.1
 
+  cut : (s t : State) (ks ls : List (Role × ℕ)) → Leads m s (ks ++ ls) t → (x : State) × Leads m s ks x × Leads m x ls t
+  cut s t [] ls h = (s, refl, h)
+  cut s t (l ∷ ks) ls h = let c = cut (m.step s l.1) t ks ls h.1 in (c.0, (h.0, c.1), c.2)
+
+module _ {Value State Role : Type 0} (g : Grammar Value Role) (m : Machine State Role) (r : Reads g m) where
+  -- What a text has behind these longwords is what the machine expects there.
+  pub expected_role : (before : List ℕ) (role : Role) → Expects g before role → m.expects (run m m.start before) ≡ Some role
+  expected_role before role e =
+      let c = cut m m.start (r.end e.value) e.done ((role, e.word) ∷ e.more) (subst (λ ls. Leads m m.start ls (r.end e.value)) e.labels (r.leads e.value e.is)) in
+      ap m.expects (ap (run m m.start) (sym e.begins) ∙ leads_run m m.start c.0 e.done c.1) ∙ c.2.0
+
 module _ {Value State Role : Type 0} (g : Grammar Value Role) (m : Machine State Role) (k : Keeps g m) where
   -- Some text begins with what was read.
   pub front : (s : State) (ws : List ℕ) → k.SoFar s ws → IsFront g ws
@@ -87,10 +98,6 @@ module _ {Value State Role : Type 0} (g : Grammar Value Role) (m : Machine State
   kept s t before (x ∷ ls) h run ok l =
       subst (k.SoFar t) (append_assoc before (x.1 ∷ []) (words ls)) (kept (m.step s x.1) t (before ++ x.1 ∷ []) ls (k.goes_on s before x.0 x.1 h run.0 l.0 ok.0) run.1 ok.1 l.1)
 
-  cut : (s t : State) (ks ls : List (Role × ℕ)) → Leads m s (ks ++ ls) t → (x : State) × Leads m s ks x × Leads m x ls t
-  cut s t [] ls h = (s, refl, h)
-  cut s t (l ∷ ks) ls h = let c = cut (m.step s l.1) t ks ls h.1 in (c.0, (h.0, c.1), c.2)
-
   left_passes : (ks ls : List (Role × ℕ)) → Passes m g.refuse (ks ++ ls) → Passes m g.refuse ks
   left_passes [] ls h = tt
   left_passes (l ∷ ks) ls h = (h.0, left_passes ks ls h.1)
@@ -101,7 +108,7 @@ module _ {Value State Role : Type 0} (g : Grammar Value Role) (m : Machine State
 
   pub completed : Reads g m → ((v : Value) → g.Is v → AreLongs (words (g.labelled v))) → (before : List ℕ) (role : Role) (w : ℕ) → Expects g before role → IsLong w → g.refuse role w ≡ None → IsFront g (before ++ w ∷ [])
   completed r longs before role w e l ok =
-      let c = cut m.start (r.end e.value) e.done ((role, e.word) ∷ e.more) (subst (λ ls. Leads m m.start ls (r.end e.value)) e.labels (r.leads e.value e.is)) in
+      let c = cut m m.start (r.end e.value) e.done ((role, e.word) ∷ e.more) (subst (λ ls. Leads m m.start ls (r.end e.value)) e.labels (r.leads e.value e.is)) in
       let passes = left_passes e.done ((role, e.word) ∷ e.more) (subst (Passes m g.refuse) e.labels (r.passes e.value e.is)) in
       let fit = left_longs e.done ((role, e.word) ∷ e.more) (subst (λ ls. AreLongs (words ls)) e.labels (longs e.value e.is)) in
       let h = subst (k.SoFar c.0) e.begins (kept m.start c.0 [] e.done k.begins c.1 passes fit) in

@@ -1,13 +1,13 @@
 -- What the longwords of a SYMBOL entry make.
-use Rattle.std.proofs.Common.{◌≡◌, ◌≢◌, ℕ, ◌%◌, ◌^◌, List, [], ◌∷◌, ◌++◌, length, sym, ap, subst, ◌∙◌, append_assoc}
+use Rattle.std.proofs.Common.{◌≡◌, ◌≢◌, ℕ, ◌+◌, ◌%◌, ◌^◌, ◌≤◌, List, [], ◌∷◌, ◌++◌, length, sym, ap, subst, ◌∙◌, length-append, arith}
 use Rattle.std.proofs.lemmas.List.{map-append}
 use Rattle.hunk_words.specs.Longs.{IsLong, AreLongs}
 use Rattle.hunk_blocks.specs.Values.{SymbolEntry, IsSymbolEntry}
 use Rattle.hunk_blocks.specs.Parts.{Part as parts, each, symbol_text}
-use Rattle.hunk_blocks.specs.Reading.{Unread, Reads}
+use Rattle.hunk_blocks.specs.Reading.{Unread, Reads, BeginsWithList}
 use Rattle.hunk_blocks.specs.BlockSteps.{entry}
 use Rattle.hunk_blocks.proofs.GroupReading.{longs_of-each}
-use Rattle.hunk_blocks.proofs.ListReading.{EndThemselves, Reads-append, append_same}
+use Rattle.hunk_blocks.proofs.ListReading.{Behind, Reads-append, item_behind, list_left}
 
 pub symbol_text_is : (s : SymbolEntry) → symbol_text s ≡ s.word ∷ (s.name ++ s.value ∷ [])
 symbol_text_is s =
@@ -20,23 +20,18 @@ symbol_read a b c d word value name h k l =
 pub symbol_is : (word value : ℕ) (name : List ℕ) → IsLong word → word ≢ 0 → length name ≡ word % 2 ^ 24 → AreLongs name → IsLong value → IsSymbolEntry (entry word name value)
 symbol_is word value name fits some n l v = record { entry_word = record { fits = fits; goes_on = some; count = n; longs = l }; value = v }
 
-pub symbols_end : EndThemselves IsSymbolEntry symbol_text
-symbols_end =
-    record {
-      one =
-          λ a b x y ha hb e.
-          let f : a.word ∷ ((a.name ++ a.value ∷ []) ++ x) ≡ b.word ∷ ((b.name ++ b.value ∷ []) ++ y) = ap (λ l. l ++ x) (sym (symbol_text_is a)) ∙ e ∙ ap (λ l. l ++ y) (symbol_text_is b) in
-          let word : a.word ≡ b.word = cc in
-          let count : length a.name ≡ length b.name = ha.entry_word.count ∙ ap (λ w. w % 2 ^ 24) word ∙ sym hb.entry_word.count in
-          let tail : (a.name ++ a.value ∷ []) ++ x ≡ (b.name ++ b.value ∷ []) ++ y = cc in
-          let same = append_same a.name b.name (a.value ∷ x) (b.value ∷ y) count (sym (append_assoc a.name (a.value ∷ []) x) ∙ tail ∙ append_assoc b.name (b.value ∷ []) y) in
-          let behind : a.value ∷ x ≡ b.value ∷ y = same.1 in
-          let value : a.value ≡ b.value = cc in
-          let more : x ≡ y = cc in
-          ((λ i. record { word = word i; name = same.0 i; value = value i }), more);
-      goes_on =
-          λ a x y ha e.
-          let f : a.word ∷ ((a.name ++ a.value ∷ []) ++ x) ≡ 0 ∷ y = ap (λ l. l ++ x) (sym (symbol_text_is a)) ∙ e in
-          let none : a.word ≡ 0 = cc in
-          ha.entry_word.goes_on none;
-    }
+-- ---- behind its word
+
+module _ (words : List ℕ) (word : ℕ) (rest : List ℕ) (list : BeginsWithList IsSymbolEntry symbol_text words) (begins : words ≡ word ∷ rest) (some : word ≢ 0) where
+  behind : Behind IsSymbolEntry symbol_text (λ s. s.word) (λ s. s.name ++ s.value ∷ []) symbol_text_is word rest
+  behind = item_behind IsSymbolEntry symbol_text (λ s. s.word) (λ s. s.name ++ s.value ∷ []) symbol_text_is word rest words list begins some
+
+  size : length (behind.item.name ++ behind.item.value ∷ []) ≡ word % 2 ^ 24 + 1
+  size = omega (arith, ap (λ w. w % 2 ^ 24) behind.word_is, behind.is.entry_word.count, length-append behind.item.name (behind.item.value ∷ []))
+
+  -- there are a name and a value
+  pub symbol_room : word % 2 ^ 24 + 1 ≤ length rest
+  symbol_room = omega (arith, size, ap length behind.cut, length-append (behind.item.name ++ behind.item.value ∷ []) behind.more)
+
+  pub symbols_left : (read new : List ℕ) → rest ≡ read ++ new → length read ≡ word % 2 ^ 24 + 1 → BeginsWithList IsSymbolEntry symbol_text new
+  symbols_left read new e n = list_left IsSymbolEntry symbol_text (λ s. s.word) (λ s. s.name ++ s.value ∷ []) symbol_text_is word rest behind read new e (n ∙ sym size)

@@ -5,13 +5,14 @@ use Rattle.hunk_words.proofs.LongLaws.{bytes_of-nil, bytes_of-append}
 use Rattle.hunk_blocks.specs.declared.body.Body.{Body}
 use Rattle.hunk_blocks.specs.declared.ext_shape.ExtShape.{ExtShape}
 use Rattle.hunk_blocks.specs.ExtKinds.{ext_shape}
+use Rattle.hunk_blocks.specs.Entries.{shaped_text}
 use Rattle.hunk_blocks.specs.Values.{BlockBody, BlockValue, ExtEntry, RelocGroup, SymbolEntry}
-use Rattle.hunk_blocks.specs.Parts.{block_text, body_text, ext_text, group_text, symbol_text}
+use Rattle.hunk_blocks.specs.Parts.{block_text, body_text, ext_text, group_text, symbol_text, text_of}
 use Rattle.hunk_blocks.specs.Views.{body_of}
-use Rattle.hunk_blocks.proofs.BodyReading.{text_of, body_text_is}
+use Rattle.hunk_blocks.proofs.BodyReading.{body_text_is}
 use Rattle.hunk_blocks.proofs.GroupReading.{group_text_is}
 use Rattle.hunk_blocks.proofs.SymbolReading.{symbol_text_is}
-use Rattle.hunk_blocks.proofs.EntryReading.{behind, ext_text_is}
+use Rattle.hunk_blocks.proofs.EntryReading.{ext_text_is}
 
 -- longwords, and then others
 pub words_printed : (xs ys old mid new : List ℕ) → mid ≡ old ++ bytes_of xs → new ≡ mid ++ bytes_of ys → new ≡ old ++ bytes_of (xs ++ ys)
@@ -38,10 +39,10 @@ symbol_printed word value name old a b new first second third =
 
 -- of an entry, what stands behind the name by its shape is last
 pub entry_printed : (s : Option ExtShape) (e : ExtEntry) (old a b new : List ℕ) → ext_shape (e.word / 2 ^ 24) ≡ s → a ≡ old ++ bytes_of (e.word ∷ []) → b ≡ a ++ bytes_of e.name →
-    new ≡ b ++ bytes_of (behind s e.value e.offsets) → new ≡ old ++ bytes_of (ext_text e)
+    new ≡ b ++ bytes_of (shaped_text s (e.value, e.offsets)) → new ≡ old ++ bytes_of (ext_text e)
 entry_printed s e old a b new shape first second third =
-    let rest = behind (ext_shape (e.word / 2 ^ 24)) e.value e.offsets in
-    word_printed e.word e.word (e.name ++ rest) old a new refl first (words_printed e.name rest a b new second (third ∙ ap (λ t. b ++ bytes_of (behind t e.value e.offsets)) (sym shape)))
+    let rest = shaped_text (ext_shape (e.word / 2 ^ 24)) (e.value, e.offsets) in
+    word_printed e.word e.word (e.name ++ rest) old a new refl first (words_printed e.name rest a b new second (third ∙ ap (λ t. b ++ bytes_of (shaped_text t (e.value, e.offsets))) (sym shape)))
     ∙ ap (λ l. old ++ bytes_of l) (sym (ext_text_is e))
 
 -- a body that is known

@@ -1,6 +1,6 @@
 -- Reading a block, longword by longword: what has been read of an open block.
-use Rattle.std.specs.Prelude.{◌≡◌, ℕ, zero, suc, List, [], ◌∷◌, ◌++◌, Option, Some, None}
-use Rattle.hunk_words.specs.Bits.{size_longs, memory_bits, name_longs, entry_type}
+use Rattle.std.specs.Prelude.{◌≡◌, ℕ, zero, suc, List, [], ◌∷◌, ◌++◌, if◌then◌else◌, Option, Some, None}
+use Rattle.hunk_words.specs.Bits.{size_longs, memory_bits, is_relocation, name_longs, entry_type}
 use Rattle.hunk_words.specs.declared.block_word.Kind.{Kind}
 use Rattle.hunk_words.specs.declared.block_word.Kind.TheVariants as kinds
 use Rattle.hunk_blocks.specs.declared.ext_shape.ExtShape.{ExtShape}
@@ -64,8 +64,7 @@ external word name value offsets = record { word = word; name = name; value = va
 
 abbrev pub count_part : Counting → Part
 count_part ForName = parts.NameCount
-count_part ForDebug = parts.LongCount
-count_part ForAdvisory = parts.LongCount
+count_part c = parts.LongCount
 
 abbrev pub part_of : Inside → Part
 part_of (AtCount c) = count_part c
@@ -164,19 +163,11 @@ begin_body kinds.Name = Open (AtCount ForName)
 begin_body kinds.Code = Open (AtSize ForCode)
 begin_body kinds.Data = Open (AtSize ForData)
 begin_body kinds.Bss = Open (AtSize ForBss)
-begin_body kinds.Reloc32 = Open (AtGroup [])
-begin_body kinds.Reloc16 = Open (AtGroup [])
-begin_body kinds.Reloc8 = Open (AtGroup [])
-begin_body kinds.Drel32 = Open (AtGroup [])
-begin_body kinds.Drel16 = Open (AtGroup [])
-begin_body kinds.Drel8 = Open (AtGroup [])
-begin_body kinds.RelReloc32 = Open (AtGroup [])
-begin_body kinds.AbsReloc16 = Open (AtGroup [])
 begin_body kinds.Ext = Open (AtExtWord [])
 begin_body kinds.Symbol = Open (AtEntry [])
 begin_body kinds.Debug = Open (AtCount ForDebug)
 begin_body (kinds.Unknown n) = Open (AtCount ForAdvisory)
-begin_body _ = Whole End
+begin_body k = if is_relocation k then Open (AtGroup []) else Whole End
 
 -- ---- runs
 

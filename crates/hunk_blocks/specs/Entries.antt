@@ -1,16 +1,21 @@
--- What the reading of an EXT entry answers, behind its word.
-use Rattle.std.specs.Prelude.{◌≡◌, ℕ, [], ◌∷◌, IfErr, IfOk, OnErr}
-use Rattle.std.specs.declared.result.Result.{Result}
-use Rattle.hunk_words.specs.declared.fault.Fault.{Fault}
-use Rattle.hunk_blocks.specs.declared.entries.Entry.{Entry}
-use Rattle.hunk_blocks.specs.Values.{IsExtEntry}
-use Rattle.hunk_blocks.specs.Parts.{ext_text}
-use Rattle.hunk_blocks.specs.Reading.{BeginsWithNoItem, Reads, Unread, cut}
-use Rattle.hunk_blocks.specs.Views.{entry_of}
+-- What stands behind the name of an EXT entry.
+use Rattle.std.specs.Prelude.{◌≡◌, ℕ, ◌^◌, List, [], ◌∷◌, Option, Some, None}
+use Rattle.hunk_words.specs.Longs.{IsLong}
+use Rattle.hunk_blocks.specs.declared.ext_shape.ExtShape.{ExtShape}
+use Rattle.hunk_blocks.specs.declared.ext_shape.ExtShape.TheVariants.{Definition, References, Common}
+use Rattle.hunk_blocks.specs.Values.{IsPayload}
+use Rattle.hunk_blocks.specs.Parts.{counted_text}
 
--- The entry of this word is read, or the longwords end inside it: `old` is the reader behind the word, and `before` any
--- that had the word before it.
-pub record ReadsEntry (old new : Unread) (word : ℕ) (result : Result Entry Fault) : Type 0 where
-  pub read : IfOk result (λ e. IsExtEntry (entry_of e) × ((before : Unread) → Reads before old (word ∷ []) → Reads before new (ext_text (entry_of e))))
-  pub none : OnErr result ((before : Unread) → Reads before old (word ∷ []) → BeginsWithNoItem IsExtEntry ext_text before.rest)
-  pub fault : IfErr result (λ fault. fault ≡ cut old)
+-- A value and offsets, as an entry of this shape has them.
+abbrev pub IsShaped : Option ExtShape → (ℕ × List ℕ) → Type 0
+IsShaped (Some Definition) s = IsLong s.0 × (s.1 ≡ [])
+IsShaped (Some References) s = (s.0 ≡ 0) × IsPayload (2 ^ 32) s.1
+IsShaped (Some Common) s = IsLong s.0 × IsPayload (2 ^ 32) s.1
+IsShaped None s = ⊥
+
+-- Their longwords.
+abbrev pub shaped_text : Option ExtShape → (ℕ × List ℕ) → List ℕ
+shaped_text (Some Definition) s = s.0 ∷ []
+shaped_text (Some References) s = counted_text s.1
+shaped_text (Some Common) s = s.0 ∷ counted_text s.1
+shaped_text None s = []

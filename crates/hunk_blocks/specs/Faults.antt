@@ -1,5 +1,5 @@
 -- The first longword that is refused, of bytes that are read as a text whose longwords have roles.
-use Rattle.std.specs.Prelude.{◌≡◌, ℕ, ◌+◌, ◌*◌, List, ◌∷◌, ◌++◌, length, map, Option, Some, ◌⊎◌}
+use Rattle.std.specs.Prelude.{◌≡◌, ℕ, ◌*◌, List, ◌∷◌, ◌++◌, length, map, Option, Some, ◌⊎◌}
 use Rattle.hunk_words.specs.declared.reason.Reason.{Reason}
 use Rattle.hunk_words.specs.declared.reason.Reason.TheVariants as reasons
 use Rattle.hunk_words.specs.Longs.{longs}
@@ -45,14 +45,6 @@ module _ {Value Role : Type 0} (g : Grammar Value Role) where
   -- Some text begins with all these longwords.
   abbrev pub IsFront : List ℕ → Type 0
   IsFront ws = IsFrontOf g.Is (λ v. words (g.labelled v)) ws
-
-  -- Some text begins with these longwords up to the one at byte `at`, and with that.
-  pub record IsFrontTo (ws : List ℕ) (at : ℕ) : Type 0 where
-    pub read : List ℕ
-    pub after : List ℕ
-    pub split : ws ≡ read ++ after
-    pub place : at + 4 ≡ 4 * length read
-    pub front : IsFront read
 
 -- ---- blocks
 

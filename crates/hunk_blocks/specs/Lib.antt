@@ -7,6 +7,7 @@ pub mod Faults
 pub mod Modes
 pub mod Parts
 pub mod PhaseSteps
+pub mod ReaderPhase
 pub mod Reading
 pub mod Values
 pub mod Views

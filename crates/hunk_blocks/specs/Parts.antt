@@ -98,3 +98,16 @@ list_text text xs = flat_map text xs ++ 0 ∷ []
 
 abbrev pub body_text : BlockBody → List ℕ
 body_text body = longs_of (body_parts body)
+
+-- the same by the kind of the body
+abbrev pub text_of : BlockBody → List ℕ
+text_of (Name words) = counted_text words
+text_of (Code top words) = sized_text (top, words)
+text_of (Data top words) = sized_text (top, words)
+text_of (Bss size) = size ∷ []
+text_of (Reloc groups) = list_text group_text groups
+text_of (Ext entries) = list_text ext_text entries
+text_of (Symbol entries) = list_text symbol_text entries
+text_of (Debug words) = counted_text words
+text_of (Advisory words) = counted_text words
+text_of End = []

@@ -1,8 +1,8 @@
 -- Where a reader of a block stands, in numbers alone: what the next longword is for, and what it leads to. Behind the last longword of the block no phase is left.
-use Rattle.std.specs.Prelude.{ℕ, zero, suc, ◌-◌, Option, Some, None}
+use Rattle.std.specs.Prelude.{ℕ, zero, suc, ◌-◌, if◌then◌else◌, Option, Some, None}
 use Rattle.hunk_words.specs.declared.block_word.Kind.{Kind}
 use Rattle.hunk_words.specs.declared.block_word.Kind.TheVariants as kinds
-use Rattle.hunk_words.specs.Bits.{entry_type, kind, name_longs, size_longs}
+use Rattle.hunk_words.specs.Bits.{entry_type, is_relocation, kind, name_longs, size_longs}
 use Rattle.hunk_blocks.specs.declared.ext_shape.ExtShape.{ExtShape}
 use Rattle.hunk_blocks.specs.declared.ext_shape.ExtShape.TheVariants.{Definition, References, Common}
 use Rattle.hunk_blocks.specs.ExtKinds.{ext_shape}
@@ -89,19 +89,11 @@ begin kinds.Name = Some phases.NameCount
 begin kinds.Code = Some phases.ContentSize
 begin kinds.Data = Some phases.ContentSize
 begin kinds.Bss = Some phases.BssSize
-begin kinds.Reloc32 = Some phases.GroupCount
-begin kinds.Reloc16 = Some phases.GroupCount
-begin kinds.Reloc8 = Some phases.GroupCount
-begin kinds.Drel32 = Some phases.GroupCount
-begin kinds.Drel16 = Some phases.GroupCount
-begin kinds.Drel8 = Some phases.GroupCount
-begin kinds.RelReloc32 = Some phases.GroupCount
-begin kinds.AbsReloc16 = Some phases.GroupCount
 begin kinds.Ext = Some phases.ExtWord
 begin kinds.Symbol = Some phases.EntryWord
 begin kinds.Debug = Some phases.LongCount
 begin (kinds.Unknown n) = Some phases.LongCount
-begin _ = None
+begin k = if is_relocation k then Some phases.GroupCount else None
 
 -- Behind a longword that is not refused.
 abbrev pub step : Phase → ℕ → Option Phase

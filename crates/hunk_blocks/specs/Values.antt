@@ -5,7 +5,7 @@ use Rattle.hunk_words.specs.Limits.{name_limit, content_limit}
 use Rattle.hunk_words.specs.declared.block_word.Kind.{Kind}
 use Rattle.hunk_words.specs.declared.block_word.Kind.TheVariants as kinds
 use Rattle.hunk_words.specs.Longs.{IsLong, AreLongs}
-use Rattle.hunk_words.specs.Bits.{has_both_bits, is_advisory, kind, size_longs, entry_type, name_longs}
+use Rattle.hunk_words.specs.Bits.{has_both_bits, is_advisory, is_relocation, kind, size_longs, entry_type, name_longs}
 use Rattle.hunk_blocks.specs.declared.ext_shape.ExtShape.{ExtShape}
 use Rattle.hunk_blocks.specs.declared.ext_shape.ExtShape.TheVariants.{Definition, References, Common}
 use Rattle.hunk_blocks.specs.ExtKinds.{ext_shape}
@@ -88,18 +88,6 @@ pub record IsExtEntry (e : ExtEntry) : Type 0 where
   pub value : IsLong e.value
   pub offsets : IsPayload (2 ^ 32) e.offsets
   pub shape : FitsShape (ext_shape (ext_type e)) e
-
--- the relocation kinds of object files
-abbrev pub is_relocation : Kind → Bool
-is_relocation kinds.Reloc32 = true
-is_relocation kinds.Reloc16 = true
-is_relocation kinds.Reloc8 = true
-is_relocation kinds.Drel32 = true
-is_relocation kinds.Drel16 = true
-is_relocation kinds.Drel8 = true
-is_relocation kinds.RelReloc32 = true
-is_relocation kinds.AbsReloc16 = true
-is_relocation _ = false
 
 abbrev pub is_unknown : Kind → Bool
 is_unknown (kinds.Unknown n) = true

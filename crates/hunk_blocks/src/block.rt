@@ -1,19 +1,19 @@
 //! Blocks.
-ghost use Rattle.std.specs.Prelude.{◌≡◌, ◌≢◌, ℕ, ◌+◌, ◌*◌, ◌^◌, ◌<◌, ◌≤◌, true, Err, IfErr, IfOk};
+ghost use Rattle.std.specs.Prelude.{◌≡◌, ◌≢◌, ◌+◌, ◌*◌, ◌^◌, ◌<◌, ◌≤◌, true, Err, IfErr, IfOk};
 ghost use Rattle.std.specs.Prelude.{IsErr, IsTrue, Some, length};
 ghost use Rattle.hunk_words.specs.declared.reason.Reason.{Reason};
 ghost use Rattle.hunk_words.specs.declared.reason.Reason.TheVariants as reasons;
 ghost use Rattle.hunk_words.specs.Longs.{bytes_of, longs};
 ghost use Rattle.hunk_words.specs.Prints.{Prints};
 ghost use Rattle.hunk_words.specs.Puts.{PutsText};
-ghost use Rattle.hunk_words.specs.Bits.{kind};
 ghost use Rattle.hunk_blocks.specs.declared.mode.Mode.TheVariants as modes;
 ghost use Rattle.hunk_blocks.specs.Values.{IsBlock};
 ghost use Rattle.hunk_blocks.specs.Parts.{block_text};
-ghost use Rattle.hunk_blocks.specs.Modes.{is_block_refusal, refuse_alone_word, takes_memory};
-ghost use Rattle.hunk_blocks.specs.Faults.{HasBlockFault, IsFrontTo, blocks};
+ghost use Rattle.hunk_blocks.specs.Modes.{is_block_refusal, refuse_alone_word};
+ghost use Rattle.hunk_blocks.specs.Faults.{HasBlockFault};
 ghost use Rattle.hunk_blocks.specs.Begins.{BeginsWithBlock, BeginsWithNoBlock, first_long};
-ghost use Rattle.hunk_blocks.specs.Reading.{HasLongIn};
+ghost use Rattle.hunk_blocks.specs.Begins.{BeginsWithSomeBlock, IsFrontBlock};
+ghost use Rattle.hunk_blocks.specs.Begins.{LacksItem, LacksItemOfMode};
 ghost use Rattle.hunk_blocks.specs.Views.{body_of};
 
 use crate::body::Body;
@@ -68,8 +68,8 @@ impl<'a> Block<'a> {
     /// - `ExtKind` at an EXT word whose type is not accepted;
     /// - `Truncated` where the bytes end inside the block, at 4 times the number of whole
     ///   longwords;
-    /// - `OutOfMemory` in a relocation kind, EXT or SYMBOL, at the longword that completes what
-    ///   was to be kept. No fault of the bytes lies there or before.
+    /// - `OutOfMemory` in a relocation kind, EXT or SYMBOL, at the longword that completes the
+    ///   group or entry for which no memory was found. Then the bytes have no other fault.
     pub fn decode(
         alloc: Global,
         bytes: &'a [u8],
@@ -84,48 +84,33 @@ impl<'a> Block<'a> {
         ensures object { mode ≡ modes.Object
             → IfErr result (λ fault. fault.reason ≢ reasons.NotInLoadFile) }
         ensures memory { IfErr result (λ fault. fault.reason ≡ reasons.OutOfMemory →
-            IsTrue (takes_memory (kind (first_long bytes.entry.now)))) }
-        ensures reached { IfErr result (λ fault. fault.reason ≡ reasons.OutOfMemory →
-            IsFrontTo (blocks mode) (longs bytes.entry.now) fault.place) }
-        ensures hidden { IfErr result (λ fault. fault.reason ≡ reasons.OutOfMemory →
-            (at : ℕ) (reason : Reason) →
-            HasBlockFault mode bytes.entry.now at reason → fault.place < at) }
+            LacksItemOfMode mode bytes.entry.now fault.place) }
         ensures truncated { IfErr result (λ fault. fault.reason ≡ reasons.Truncated →
             fault.place ≡ 4 * length (longs bytes.entry.now)) }
         ensures first_word { (reason : Reason) → 4 ≤ length bytes.entry.now →
             refuse_alone_word mode (first_long bytes.entry.now) ≡ Some reason →
             result ≡ Err (record { place = 0; reason = reason }) }
     {
-        let size = walk_block(bytes, mode)?;
-        Block::read(alloc, &bytes[..size], mode)
+        walk_block(bytes, mode)?;
+        Block::read(alloc, bytes)
     }
 
-    /// The block that the bytes begin with, and the number of its bytes, for a reader that has seen
-    /// that they begin with one: it does not find the first fault.
+    /// The block that the bytes begin with, which are known to begin with one, and the number of
+    /// its bytes.
     ///
     /// # Errors
     ///
-    /// `OutOfMemory` at the longword that completes what was to be kept; anything else where no
-    /// block begins.
-    pub fn read(
-        alloc: Global,
-        bytes: &'a [u8],
-        mode: Mode,
-    ) -> Result<(Block<'a>, usize), BlockFault>
-        ensures block { IfOk result (λ r. BeginsWithBlock mode bytes.entry.now r.0 r.1) }
-        ensures none { IfErr result (λ fault.
-            fault.reason ≢ reasons.OutOfMemory → BeginsWithNoBlock mode bytes.entry.now) }
-        ensures memory { IfErr result (λ fault. fault.reason ≡ reasons.OutOfMemory →
-            IsTrue (takes_memory (kind (first_long bytes.entry.now)))) }
-        ensures reached { IfErr result (λ fault. fault.reason ≡ reasons.OutOfMemory →
-            HasLongIn (record { rest = longs bytes.entry.now; place = 0 }) fault.place) }
+    /// `OutOfMemory` at the longword that completes the group or entry for which no memory was
+    /// found.
+    pub fn read(alloc: Global, bytes: &'a [u8]) -> Result<(Block<'a>, usize), BlockFault>
+        requires { BeginsWithSomeBlock bytes.now }
+        ensures block { IfOk result (λ r. IsFrontBlock bytes.entry.now r.0 r.1) }
+        ensures memory { IfErr result (λ fault. fault.reason ≡ reasons.OutOfMemory) }
+        ensures place { IfErr result (λ fault. LacksItem bytes.entry.now fault.place) }
     {
         let mut reader = LongReader::new(bytes);
-        let word = BlockWord::of(reader.long()?);
-        if let Some(reason) = mode.refuse(word) {
-            return Err(BlockFault { place: 0, reason });
-        }
-        let body = read_body(alloc, &mut reader, mode, word)?;
+        let word = BlockWord::of(reader.long());
+        let body = read_body(alloc, &mut reader, word)?;
         let len = reader.place();
         Ok((Block { word, body, len }, len as usize))
     }

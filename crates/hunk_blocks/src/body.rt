@@ -17,7 +17,8 @@ use hunk_words::SizeWord;
 /// choice.
 #[derive(Debug, Drop)]
 pub enum Body<'a> {
-    /// A NAME block: the bytes of the name, padded with zero bytes.
+    /// A NAME block: the bytes of the name, padded with zero bytes. What stands behind the first
+    /// zero byte is kept: this project's own choice.
     Name(Payload<'a>),
     /// A CODE block. `top` is the top two bits of the size word, 0 to 3.
     Code { top: u8, payload: Payload<'a> },

@@ -47,5 +47,5 @@ pub fn block_fault()
 pub fn block_machine()
     ensures { (mode : Mode) (b : BlockValue) → IsBlock b →
         GoesAlong (refuse_at mode) (refuse_alone mode) step_on
-            (Some phases.BlockWord) (block_parts b) None }
+        (Some phases.BlockWord) (block_parts b) None }
 {}

@@ -43,16 +43,9 @@ impl Mode {
             (_, Kind::Lib | Kind::Index) => Some(Reason::Library),
             (_, Kind::Header | Kind::Unit) => Some(Reason::Misplaced),
             (_, Kind::Unknown(_)) if !advisory => Some(Reason::UnknownBlock),
-            (
-                Mode::Load,
-                Kind::Reloc16
-                | Kind::Reloc8
-                | Kind::Ext
-                | Kind::Drel16
-                | Kind::Drel8
-                | Kind::RelReloc32
-                | Kind::AbsReloc16,
-            ) => Some(Reason::NotInLoadFile),
+            (Mode::Object, _) | (Mode::Load, Kind::Reloc32) => None,
+            (Mode::Load, Kind::Ext) => Some(Reason::NotInLoadFile),
+            (Mode::Load, kind) if kind.is_relocation() => Some(Reason::NotInLoadFile),
             _ => None,
         }
     }

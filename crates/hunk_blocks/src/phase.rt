@@ -68,17 +68,10 @@ impl Phase {
             Kind::Name => Some(Phase::NameCount),
             Kind::Code | Kind::Data => Some(Phase::ContentSize),
             Kind::Bss => Some(Phase::BssSize),
-            Kind::Reloc32
-            | Kind::Reloc16
-            | Kind::Reloc8
-            | Kind::Drel32
-            | Kind::Drel16
-            | Kind::Drel8
-            | Kind::RelReloc32
-            | Kind::AbsReloc16 => Some(Phase::GroupCount),
             Kind::Ext => Some(Phase::ExtWord),
             Kind::Symbol => Some(Phase::EntryWord),
             Kind::Debug | Kind::Unknown(_) => Some(Phase::LongCount),
+            kind if kind.is_relocation() => Some(Phase::GroupCount),
             _ => None,
         }
     }

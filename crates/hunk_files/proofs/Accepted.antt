@@ -1,24 +1,26 @@
 -- No longword of a load text is refused.
-use Rattle.std.proofs.Common.{◌≡◌, ◌≢◌, ℕ, ◌+◌, ◌-◌, ◌*◌, ◌^◌, ◌<◌, ◌≤◌, Bool, true, false, ◌||◌, ltb, eqb, List, [], ◌∷◌, length, map, refl, ◌∙◌, arith, Some, None}
-use Rattle.std.specs.Prelude.{IsTrue, if◌then◌else◌, cond}
+use Rattle.std.proofs.Common.{◌≡◌, ◌≢◌, ℕ, ◌+◌, ◌-◌, ◌*◌, ◌^◌, ◌<◌, ◌≤◌, Bool, true, false, ◌||◌, ltb, eqb, List, [], ◌∷◌, length, map, refl, sym, ap, ap₂, ◌∙◌, arith, Some, None}
+use Rattle.std.specs.Prelude.{if◌then◌else◌, cond}
 use Rattle.std.specs.List.{flat_map, AllByRecursion}
 use Rattle.std.proofs.lemmas.Bool.{lt-ltb, le-ltb, eq-eqb, ne_eqb}
 use Rattle.std.proofs.lemmas.List.{length-map}
-use Rattle.hunk_words.specs.declared.block_word.Kind.{Kind}
-use Rattle.hunk_words.specs.declared.block_word.Kind.TheVariants as kinds
 use Rattle.hunk_words.specs.declared.reason.Reason.TheVariants as reasons
-use Rattle.hunk_words.specs.Bits.{kind, is_advisory, size_longs, has_both_bits}
+use Rattle.hunk_words.specs.Bits.{size_longs, has_both_bits}
 use Rattle.hunk_words.specs.Longs.{IsLong, AreLongs}
-use Rattle.hunk_blocks.specs.Values.{RelocGroup, SymbolEntry, BlockBody, BlockValue, Name, Code, Data, Bss, Reloc, Ext, Symbol, Debug, Advisory, End, FitsWord, IsGroup, IsSymbolEntry, is_unknown}
+use Rattle.hunk_blocks.specs.Values.{RelocGroup, SymbolEntry, BlockBody, BlockValue, Name, Code, Data, Bss, Reloc, Ext, Symbol, Advisory, End, FitsWord, IsPayload, IsGroup, IsSymbolEntry}
 use Rattle.hunk_blocks.specs.Parts.{Part, Part as parts, each, group_parts, symbol_parts, body_parts, block_parts}
+use Rattle.hunk_blocks.specs.declared.mode.Mode.TheVariants as modes
 use Rattle.hunk_blocks.specs.Modes.{IsOfLoadMode}
 use Rattle.hunk_files.specs.LoadFile.{TableEntry, LoadFileValue, IsTableEntry, standing, AreInOrder, IsInside, FitsGroup, FitsHunk, IsHunkBlock, IsHunk, IsLoadFile, declared_longs}
-use Rattle.hunk_scan.specs.Standings.{BlockStanding, Beside, Content, Relocating, Ending, is_content}
-use Rattle.hunk_scan.specs.Roles.{Place, InBlock, refuse, refuse_part, refuse_kind, Role as roles}
+use Rattle.hunk_scan.specs.Standings.{BlockStanding, Beside, Content, Relocating, Ending, first_of, is_content, refuse_standing}
+use Rattle.hunk_scan.proofs.BlockWords.{word_split}
+use Rattle.hunk_scan.specs.Roles.{Place, InBlock, refuse, refuse_part, Role as roles}
 use Rattle.hunk_files.specs.LoadText.{entry_labelled, header_labelled, block_labelled, blocks_labelled, hunk_labelled, table, labelled}
 use Rattle.hunk_files.proofs.FileText.{standings, entries_fit}
 use Rattle.hunk_blocks.proofs.Lists.{passes_else, passes_then, All-append}
 use Rattle.hunk_files.specs.WordsRead.{IsAccepted, AreAccepted}
+use Rattle.hunk_blocks.proofs.Admitted.{word_passes}
+use Rattle.hunk_files.proofs.HunkOrder.{standing_is}
 use Rattle.hunk_files.proofs.FileProgress.{place_in}
 
 pub All-flat_map : {A B : Type 0} (P : A → Type 0) (Q : B → Type 0) (f : A → List B) → ((x : A) → P x → AllByRecursion Q (f x)) → (xs : List A) → AllByRecursion P xs → AllByRecursion Q (flat_map f xs)
@@ -43,6 +45,9 @@ module _ (p : Place) where
 
   names_pass : (ws : List ℕ) → AreLongs ws → PartsPass (each parts.EntryName ws)
   names_pass ws h = All-map IsLong PartPasses (λ (w : ℕ). (parts.EntryName, w)) (λ w l. (l, refl)) ws h
+
+  counted_passes : (ws : List ℕ) → IsPayload (2 ^ 32) ws → PartsPass ((parts.LongCount, length ws) ∷ each parts.Payload ws)
+  counted_passes ws h = ((h.0, refl), payload_passes ws h.1)
 
   size_passes : (w : ℕ) → IsLong w → size_longs w ≤ p.longs → PartPasses (parts.ContentSize, w)
   size_passes w l h = (l, passes_else (ltb p.longs (size_longs w)) (Some reasons.ContentTooLong) None (le-ltb p.longs (size_longs w) h))
@@ -91,42 +96,27 @@ module _ (p : Place) where
   body_passes word (Ext es) h m f = absurd m
   body_passes word (Symbol es) h m f =
       All-append PartPasses (flat_map symbol_parts es) ((parts.EntryWord, 0) ∷ []) (All-flat_map IsSymbolEntry PartPasses symbol_parts symbol_passes es h.1) ((omega arith, refl), tt)
-  body_passes word (Debug ws) h m f = ((h.1.0, refl), payload_passes ws h.1.1)
-  body_passes word (Advisory ws) h m f = ((h.2.0, refl), payload_passes ws h.2.1)
+  body_passes word (Advisory ws) h m f = counted_passes _ h.2
   body_passes word End h m f = tt
+  body_passes word _ h m f = counted_passes _ h.1
 
 -- ---- the block word, where the block may stand
 
-not_yet : (has_content : Bool) (later : List BlockStanding) → AreInOrder has_content (Content ∷ later) → has_content ≡ false
-not_yet true later o = absurd o
-not_yet false later o = refl
-
-already : (has_content : Bool) (later : List BlockStanding) → AreInOrder has_content (Relocating ∷ later) → has_content ≡ true
-already true later o = refl
-already false later o = absurd o
-
-at_end : (has_content : Bool) (later : List BlockStanding) → AreInOrder has_content (Ending ∷ later) → has_content ≡ true
-at_end true later o = refl
-at_end false later o = absurd o
-
-unknown_passes : (has_content advisory : Bool) (k : Kind) → IsTrue (is_unknown k) → IsTrue advisory → refuse_kind has_content advisory k ≡ None
-unknown_passes has_content advisory (kinds.Unknown n) u a = passes_then advisory None (Some reasons.UnknownBlock) a
-unknown_passes has_content advisory _ u a = absurd cc
-
-kind_passes : (has_content : Bool) (word : ℕ) (body : BlockBody) (later : List BlockStanding) → FitsWord word body → IsOfLoadMode word body →
-    AreInOrder has_content (standing body ∷ later) → refuse_kind has_content (is_advisory word) (kind word) ≡ None
-kind_passes has_content word (Code top ws) later h m o = rw h.0 (passes_else has_content (Some reasons.SecondContent) None (not_yet has_content later o))
-kind_passes has_content word (Data top ws) later h m o = rw h.0 (passes_else has_content (Some reasons.SecondContent) None (not_yet has_content later o))
-kind_passes has_content word (Bss size) later h m o = rw h.0 (passes_else has_content (Some reasons.SecondContent) None (not_yet has_content later o))
-kind_passes has_content word (Reloc gs) later h m o = rw m (passes_then has_content None (Some reasons.BeforeContent) (already has_content later o))
-kind_passes has_content word (Ext es) later h m o = absurd m
-kind_passes has_content word (Advisory ws) later h m o = unknown_passes has_content (is_advisory word) (kind word) h.0 h.1
-kind_passes has_content word End later h m o = rw h (passes_then has_content None (Some reasons.NoContent) (at_end has_content later o))
-kind_passes has_content word _ later h m o = rw h.0 refl
+-- what stands in order is not refused for its place
+order_passes : (has : Bool) (s : BlockStanding) (later : List BlockStanding) → AreInOrder has (s ∷ later) → refuse_standing has s ≡ None
+order_passes true Content later o = absurd o
+order_passes false Relocating later o = absurd o
+order_passes false Ending later o = absurd o
+order_passes _ _ later o = refl
 
 block_passes : (p : Place) (b : BlockValue) (later : List BlockStanding) → IsHunkBlock p.hunks p.longs b → AreInOrder p.has_content (standing b.body ∷ later) → PartsPass p (block_parts b)
 block_passes p b later h o = (
-  (h.block.word, passes_else (has_both_bits b.word) (Some reasons.BothBits) _ h.block.bits ∙ kind_passes p.has_content b.word b.body later h.block.body h.mode o),
+  (
+    h.block.word,
+    word_split p.has_content b.word
+        ∙ ap₂ first_of (word_passes modes.Load b h.block h.mode)
+        (ap (refuse_standing p.has_content) (sym (standing_is b.word b.body h.block.body)) ∙ order_passes p.has_content (standing b.body) later o),
+  ),
   body_passes p b.word b.body h.block.body h.mode h.fits,
 )
 

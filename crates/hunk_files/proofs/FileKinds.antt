@@ -1,5 +1,5 @@
 -- Files by what their first longword announces.
-use Rattle.std.proofs.Common.{◌≡◌, ◌≤◌, ◌<◌, ◌≢◌, ℕ, List, [], ◌∷◌, ◌++◌, Result, Ok, Err, length, take, drop, refl, inl, inr, ap, sym, subst, ◌∙◌, arith, append_assoc, lit<}
+use Rattle.std.proofs.Common.{◌≡◌, ◌≤◌, ◌<◌, ◌≢◌, ℕ, List, [], ◌∷◌, ◌++◌, Result, Ok, Err, length, take, drop, refl, inl, inr, ap, sym, ◌∙◌, arith, append_assoc, lit<}
 use Rattle.std.specs.Prelude.{IfErr}
 use Rattle.std.specs.List.{flat_map}
 use Rattle.std.proofs.lemmas.List.{take-append-drop}
@@ -15,7 +15,7 @@ use Rattle.hunk_files.specs.LoadFile.{IsLoadFile, LoadFileValue}
 use Rattle.hunk_files.specs.LoadText.{text}
 use Rattle.hunk_files.specs.Fault.{BeginsWithLoadFile}
 use Rattle.hunk_files.specs.ObjectFile.{ObjectFileValue, object_text}
-use Rattle.hunk_files.specs.HunkFile.{AreFile, AreObjectFile, IsFileOf, IsLoadMemory, IsLoadRefusal, IsMemory, IsRefusal}
+use Rattle.hunk_files.specs.HunkFile.{AreFile, AreObjectFile, IsFileOf}
 use Rattle.hunk_files.specs.declared.hunk_file.HunkFile.{HunkFile}
 use Rattle.hunk_files.specs.declared.hunk_file.HunkFile.TheVariants as files
 use Rattle.hunk_files.proofs.TextParts.{after_first, first_split}
@@ -57,18 +57,12 @@ object_announced bytes file = ap (λ (xs : List ℕ). sniffed (longs xs)) file.t
 
 -- ---- what bytes are refused for
 
--- where no object file is announced, the bytes are read as a load file
-load_refusal : (kind : Sniff) (bytes : List ℕ) → kind ≢ sniffs.Object → IsRefusal kind bytes ≡ IsLoadRefusal bytes
-load_refusal sniffs.Object bytes other = absurd (other refl)
-load_refusal sniffs.Load bytes other = refl
-load_refusal sniffs.Library bytes other = refl
-load_refusal sniffs.Other bytes other = refl
-
-load_memory : (kind : Sniff) (bytes : List ℕ) → kind ≢ sniffs.Object → IsMemory kind bytes ≡ IsLoadMemory bytes
-load_memory sniffs.Object bytes other = absurd (other refl)
-load_memory sniffs.Load bytes other = refl
-load_memory sniffs.Library bytes other = refl
-load_memory sniffs.Other bytes other = refl
+-- What holds of the other three holds where no object file is announced.
+pub not_object : (P : Sniff → Type 0) (kind : Sniff) → kind ≢ sniffs.Object → P sniffs.Load → P sniffs.Library → P sniffs.Other → P kind
+not_object P sniffs.Object other load library none = absurd (other refl)
+not_object P sniffs.Load other load library none = load
+not_object P sniffs.Library other load library none = library
+not_object P sniffs.Other other load library none = none
 
 pub none_object : (bytes : List ℕ) (result : Result HunkFile Fault) → sniffed (longs bytes) ≡ sniffs.Object →
     IfErr result (λ fault. fault.reason ≢ reasons.OutOfMemory → AreObjectFile bytes → ⊥) → IfErr result (λ fault. fault.reason ≢ reasons.OutOfMemory → AreFile bytes → ⊥)
@@ -87,15 +81,3 @@ none_load bytes (Err fault) kind none = go
     go : fault.reason ≢ reasons.OutOfMemory → AreFile bytes → ⊥
     go other (inl load) = none other load
     go other (inr object) = kind (object_announced bytes object)
-
-pub refused_load : (bytes : List ℕ) (result : Result HunkFile Fault) → sniffed (longs bytes) ≢ sniffs.Object →
-    IfErr result (λ fault. fault.reason ≢ reasons.OutOfMemory → IsLoadRefusal bytes fault) →
-    IfErr result (λ fault. fault.reason ≢ reasons.OutOfMemory → IsRefusal (sniffed (longs bytes)) bytes fault)
-refused_load bytes (Ok file) kind is = tt
-refused_load bytes (Err fault) kind is = λ other. subst (λ (Is : Fault → Type 0). Is fault) (sym (load_refusal (sniffed (longs bytes)) bytes kind)) (is other)
-
-pub memory_load : (bytes : List ℕ) (result : Result HunkFile Fault) → sniffed (longs bytes) ≢ sniffs.Object →
-    IfErr result (λ fault. fault.reason ≡ reasons.OutOfMemory → IsLoadMemory bytes fault.place) →
-    IfErr result (λ fault. fault.reason ≡ reasons.OutOfMemory → IsMemory (sniffed (longs bytes)) bytes fault.place)
-memory_load bytes (Ok file) kind is = tt
-memory_load bytes (Err fault) kind is = λ memory. subst (λ (Is : ℕ → Type 0). Is fault.place) (sym (load_memory (sniffed (longs bytes)) bytes kind)) (is memory)

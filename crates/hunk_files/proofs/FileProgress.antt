@@ -5,14 +5,16 @@ use Rattle.std.specs.List.{flat_map, AllByRecursion}
 use Rattle.std.proofs.lemmas.Bool.{ltb-false, eqb-true, eqb-false}
 use Rattle.std.proofs.lemmas.List.{length-map}
 use Rattle.hunk_words.specs.declared.block_word.Kind.{Kind}
-use Rattle.hunk_words.specs.declared.block_word.Kind.TheVariants as kinds
 use Rattle.hunk_words.specs.declared.reason.Reason.TheVariants as reasons
 use Rattle.hunk_words.specs.Bits.{kind, is_advisory, size_longs, has_both_bits}
 use Rattle.hunk_words.specs.Longs.{IsLong}
-use Rattle.hunk_blocks.specs.Values.{BlockBody, BlockValue, Name, Code, Data, Bss, Reloc, Ext, Symbol, Debug, Advisory, End}
+use Rattle.hunk_blocks.specs.declared.mode.Mode.TheVariants as modes
+use Rattle.hunk_blocks.specs.Modes.{refuse_alone_word}
+use Rattle.hunk_blocks.specs.Values.{BlockBody, BlockValue, FitsWord}
 use Rattle.hunk_blocks.specs.Parts.{Part, Part as parts}
 use Rattle.hunk_files.specs.LoadFile.{TableEntry, HunkValue, IsTableEntry, standing, AreInOrder, IsHunkBlock, IsHunk, IsLoadFile}
-use Rattle.hunk_scan.specs.Standings.{BlockStanding, Content, Relocating, Ending, is_content}
+use Rattle.hunk_scan.specs.Standings.{BlockStanding, Beside, Content, Relocating, Ending, is_content, is_ending, refuse_standing, standing_of_kind}
+use Rattle.hunk_scan.proofs.BlockWords.{word_split}
 use Rattle.hunk_scan.specs.Roles.{Place, Role, InBlock, refuse, refuse_part, refuse_kind, Role as roles}
 use Rattle.hunk_files.specs.LoadText.{entry_labelled, block_labelled, blocks_labelled, hunk_labelled, labelled, table}
 use Rattle.hunk_blocks.specs.BlockSteps.{BlockNext, Open, Whole, part_of, step_inside, begin_body}
@@ -20,7 +22,8 @@ use Rattle.hunk_blocks.proofs.BlockProgress.{read_inside, read_next, step_reads,
 use Rattle.hunk_files.proofs.HunkProgress.{BodyFits, begin_fits, step_fits, alone_passes}
 use Rattle.hunk_files.proofs.HunkProgress as blocks
 use Rattle.hunk_files.proofs.FileText.{in_place, standings}
-use Rattle.hunk_files.specs.FileSteps.{table_entry, hunk, block, HunkSoFar, Progress, AtFirst, AtResident, AtTableSize, AtFirstHunk, AtLastHunk, AtSizeWord, AtAttributes, AtBlock, InBody, Next, More, Finished, place_of, role_of, open_hunk, rows, with_block, close, after, sized_row, step_file}
+use Rattle.hunk_files.proofs.HunkOrder.{leads_one, leads_end, end_stands, first_both, standing_is}
+use Rattle.hunk_files.specs.FileSteps.{table_entry, hunk, block, HunkSoFar, Progress, AtFirst, AtResident, AtTableSize, AtFirstHunk, AtLastHunk, AtSizeWord, AtAttributes, AtBlock, InBody, Next, More, Finished, place_of, role_of, open_hunk, rows, with_block, close, close_by, after, sized_row, step_file}
 use Rattle.hunk_blocks.proofs.Lists.{All-more, map-more, flat_map-more, more_owed, passed_false, passed_true, passed_both, passes_else, passes_then}
 use Rattle.std.proofs.Math.Bool.{or-false, or-true}
 use Rattle.hunk_files.specs.WordsRead.{Labelled}
@@ -154,19 +157,23 @@ module _ (o : HunkSoFar) (h : OpenFits o) (b : BlockValue) (fits : IsHunkBlock o
       ∙ ap (λ (c : Bool). blocks_labelled o.hunks (size_longs o.entry.word) false o.blocks ++ block_labelled (place_in o.hunks (size_longs o.entry.word) c) b) (sym h.content_is)
 
   still_open : (has_content : Bool) → has_content ≡ o.has_content || is_content (standing b.body) →
-      ((later : List BlockStanding) → AreInOrder has_content later → AreInOrder o.has_content (standing b.body ∷ later)) →
+      refuse_standing o.has_content (standing b.body) ≡ None → is_ending (standing b.body) ≡ false →
       Reads (More (AtBlock (with_block o b has_content))) (open_so_far o ++ block_labelled (place_of o) b)
-  still_open has_content e order = (
+  still_open has_content e ok no_end = (
     record {
       front_fits = h.front_fits;
       blocks_fit = All-more (IsHunkBlock o.hunks (size_longs o.entry.word)) o.blocks b h.blocks_fit fits;
       content_is = e ∙ ap (λ (c : Bool). c || is_content (standing b.body)) h.content_is ∙ sym (content_in-more false o.blocks b);
-      in_order = λ later ok. subst (λ (s : List BlockStanding). AreInOrder false s) (sym (in_standings later)) (h.in_order (standing b.body ∷ later) (order later ok));
+      in_order = λ later order. subst (λ (s : List BlockStanding). AreInOrder false s) (sym (in_standings later)) (h.in_order (standing b.body ∷ later) (goes_on later order));
     },
     ap (λ (l : Labelled). front o.hunks (table o.finished ++ o.entry ∷ o.ahead) o.finished ++ l) one_more_reads
         ∙ sym (append_assoc (front o.hunks (table o.finished ++ o.entry ∷ o.ahead) o.finished) (blocks_labelled o.hunks (size_longs o.entry.word) false o.blocks) (block_labelled (place_of o) b)),
   )
     where
+      goes_on : (later : List BlockStanding) → AreInOrder has_content later → AreInOrder o.has_content (standing b.body ∷ later)
+      goes_on later order =
+          leads_end o.has_content (o.has_content || is_content (standing b.body)) (standing b.body ∷ []) later (leads_one o.has_content (standing b.body) ok no_end) (subst (λ (c : Bool). AreInOrder c later) e order)
+
       in_standings : (later : List BlockStanding) → standings (o.blocks ++ b ∷ []) ++ later ≡ standings o.blocks ++ standing b.body ∷ later
       in_standings later = ap (λ (s : List BlockStanding). s ++ later) (map-more (λ (c : BlockValue). standing c.body) o.blocks b) ∙ append_assoc (standings o.blocks) (standing b.body ∷ []) later
 
@@ -212,35 +219,21 @@ block_fits o word body a f = record { block = record { word = a.0; bits = (kind_
 pub kind_is : (o : HunkSoFar) (word : ℕ) (k : Kind) → IsAdmitted o word → kind word ≡ k → refuse_kind o.has_content (is_advisory word) k ≡ None
 kind_is o word k a e = subst (λ (x : Kind). refuse_kind o.has_content (is_advisory word) x ≡ None) e (kind_admitted o word a).1
 
-content_order : (has_content : Bool) → has_content ≡ false → (later : List BlockStanding) → AreInOrder true later → AreInOrder has_content (Content ∷ later)
-content_order true e later ok = absurd cc
-content_order false e later ok = ok
-
-reloc_order : (has_content : Bool) → has_content ≡ true → (later : List BlockStanding) → AreInOrder has_content later → AreInOrder has_content (Relocating ∷ later)
-reloc_order true e later ok = ok
-reloc_order false e later ok = absurd cc
-
-end_order : (has_content : Bool) → has_content ≡ true → AreInOrder has_content (Ending ∷ [])
-end_order true e = refl
-end_order false e = absurd cc
+-- A block whose word is not refused may stand here.
+may_stand : (o : HunkSoFar) (word : ℕ) (body : BlockBody) → IsAdmitted o word → FitsWord word body → refuse_standing o.has_content (standing body) ≡ None
+may_stand o word body a f =
+    ap (refuse_standing o.has_content) (standing_is word body f)
+    ∙ (first_both (refuse_alone_word modes.Load word) (refuse_standing o.has_content (standing_of_kind (kind word))) (sym (word_split o.has_content word) ∙ a.1)).1
 
 close_reads : (o : HunkSoFar) (word : ℕ) (body : BlockBody) → OpenFits o → IsAdmitted o word → BodyFits (place_of o) word body →
     Reads (close o (block word body)) (open_so_far o ++ block_labelled (place_of o) (block word body))
-close_reads o word (Name ws) h a f = still_open o h (block word (Name ws)) (block_fits o word (Name ws) a f) o.has_content (sym (or-false o.has_content)) (λ later ok. ok)
-close_reads o word (Code top ws) h a f =
-    still_open o h (block word (Code top ws)) (block_fits o word (Code top ws) a f) true (sym (or-true o.has_content)) (content_order o.has_content (passed_false o.has_content reasons.SecondContent (kind_is o word kinds.Code a f.fits_word.0)))
-close_reads o word (Data top ws) h a f =
-    still_open o h (block word (Data top ws)) (block_fits o word (Data top ws) a f) true (sym (or-true o.has_content)) (content_order o.has_content (passed_false o.has_content reasons.SecondContent (kind_is o word kinds.Data a f.fits_word.0)))
-close_reads o word (Bss size) h a f =
-    still_open o h (block word (Bss size)) (block_fits o word (Bss size) a f) true (sym (or-true o.has_content)) (content_order o.has_content (passed_false o.has_content reasons.SecondContent (kind_is o word kinds.Bss a f.fits_word.0)))
-close_reads o word (Reloc gs) h a f =
-    still_open o h (block word (Reloc gs)) (block_fits o word (Reloc gs) a f) o.has_content (sym (or-false o.has_content)) (reloc_order o.has_content (passed_true o.has_content reasons.BeforeContent (kind_is o word kinds.Reloc32 a f.of_load)))
-close_reads o word (Ext es) h a f = absurd f.of_load
-close_reads o word (Symbol es) h a f = still_open o h (block word (Symbol es)) (block_fits o word (Symbol es) a f) o.has_content (sym (or-false o.has_content)) (λ later ok. ok)
-close_reads o word (Debug ws) h a f = still_open o h (block word (Debug ws)) (block_fits o word (Debug ws) a f) o.has_content (sym (or-false o.has_content)) (λ later ok. ok)
-close_reads o word (Advisory ws) h a f = still_open o h (block word (Advisory ws)) (block_fits o word (Advisory ws) a f) o.has_content (sym (or-false o.has_content)) (λ later ok. ok)
-close_reads o word End h a f =
-    now_whole o h (block word End) (block_fits o word End a f) (end_order o.has_content (passed_true o.has_content reasons.NoContent (kind_is o word kinds.End a f.fits_word)))
+close_reads o word body h a f = closed (standing body) refl
+  where
+    closed : (s : BlockStanding) → standing body ≡ s → Reads (close_by o (block word body) s) (open_so_far o ++ block_labelled (place_of o) (block word body))
+    closed Beside e = still_open o h (block word body) (block_fits o word body a f) o.has_content (rw e (sym (or-false o.has_content))) (may_stand o word body a f.fits_word) (ap is_ending e)
+    closed Relocating e = still_open o h (block word body) (block_fits o word body a f) o.has_content (rw e (sym (or-false o.has_content))) (may_stand o word body a f.fits_word) (ap is_ending e)
+    closed Content e = still_open o h (block word body) (block_fits o word body a f) true (rw e (sym (or-true o.has_content))) (may_stand o word body a f.fits_word) (ap is_ending e)
+    closed Ending e = now_whole o h (block word body) (block_fits o word body a f) (end_stands o.has_content (standing body) (may_stand o word body a f.fits_word) (ap is_ending e))
 
 after_reads : (o : HunkSoFar) (word : ℕ) (n : BlockNext) → OpenFits o → IsAdmitted o word → blocks.NextFits (place_of o) word n →
     Reads (after o word n) (open_so_far o ++ in_place (place_of o) ((parts.BlockWord, word) ∷ read_next n))

@@ -35,6 +35,10 @@ block_leads hunks longs o b h = (refl, Follows-leads o b.word (begin_body (kind 
 abbrev pub standings : List BlockValue → List BlockStanding
 standings bs = map (λ b. standing b.body) bs
 
+pub no_more : (bs : List BlockValue) → standings bs ≡ [] → bs ≡ []
+no_more [] e = refl
+no_more (b ∷ bs) e = absurd cc
+
 abbrev opened : ℕ → List HunkValue → TableEntry → List BlockValue → Bool → List TableEntry → HunkSoFar
 opened hunks finished entry blocks has_content ahead =
     record { hunks = hunks; finished = finished; entry = entry; blocks = blocks; has_content = has_content; ahead = ahead }

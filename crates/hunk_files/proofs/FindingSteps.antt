@@ -1,13 +1,15 @@
 -- Findings that are looked for one by one.
-use Rattle.std.proofs.Common.{◌≡◌, ℕ, ◌+◌, ◌*◌, ◌^◌, ◌<◌, ◌≤◌, Bool, true, false, if◌then◌else◌, List, [], ◌∷◌, ◌++◌, length, map, drop, get_or, refl, sym, ap, subst, ◌∙◌, append_assoc, append-nil, arith}
+use Rattle.std.proofs.Common.{◌≡◌, ℕ, ◌+◌, ◌^◌, ◌<◌, ◌≤◌, Bool, true, false, cond, if◌then◌else◌, List, [], ◌∷◌, ◌++◌, length, map, drop, get_or, refl, sym, ap, subst, ◌∙◌, append_assoc, append-nil, arith}
 use Rattle.std.specs.List.{flat_map, fold, AllByRecursion}
 use Rattle.std.proofs.lemmas.List.{drop_more, drop_all}
 use Rattle.std.proofs.lemmas.List.Folds.{flat_map-map}
-use Rattle.hunk_words.specs.Bits.{size_longs}
-use Rattle.hunk_blocks.specs.Values.{BlockBody, Name, Code, Data, Bss, Reloc, Ext, Symbol, Debug, Advisory, End, FitsWord, IsBlock}
+use Rattle.hunk_blocks.specs.Values.{BlockBody, Code, Data, FitsWord, IsBlock}
+use Rattle.hunk_scan.specs.Standings.{is_content}
 use Rattle.hunk_files.specs.LoadFile.{standing, AreInOrder}
 use Rattle.hunk_files.specs.ObjectFile.{ObjectHunk, IsObjectHunk, UnitValue}
 use Rattle.hunk_files.specs.Findings.{FindingValue, content_size, hunk_bytes, hunk_findings, hunks_findings, unit_findings, units_findings}
+use Rattle.hunk_files.proofs.FileText.{standings}
+use Rattle.hunk_files.proofs.HunkOrder.{by_standing}
 
 -- ---- findings that are taken one after the other, by a relation that joins
 
@@ -83,32 +85,27 @@ units_done i us l = ap (λ (xs : List UnitValue). units_findings i xs) (drop_all
 abbrev bytes_from : ObjectHunk → ℕ → ℕ
 bytes_from h n = fold (λ a b. a + content_size b.body) n h
 
-nothing_behind : (h : ObjectHunk) (n : ℕ) → map (λ b. standing b.body) h ≡ [] → bytes_from h n ≡ n
+nothing_behind : (h : ObjectHunk) (n : ℕ) → standings h ≡ [] → bytes_from h n ≡ n
 nothing_behind [] n e = refl
 nothing_behind (b ∷ h) n e = absurd cc
 
 abbrev most_bytes : Bool → ℕ
 most_bytes has_content = if has_content then 1 else 2 ^ 32
 
--- one block more, of those behind which the same is known
-body_fits : (word : ℕ) (body : BlockBody) (h : ObjectHunk) (n : ℕ) → ((has : Bool) (m : ℕ) → AreInOrder has (map (λ b. standing b.body) h) → bytes_from h m < m + most_bytes has) →
-    (has : Bool) → FitsWord word body → AreInOrder has (standing body ∷ map (λ b. standing b.body) h) → bytes_from h (n + content_size body) < n + most_bytes has
-body_fits word (Name ws) h n rest has f o = omega (arith, rest has (n + 0) o)
-body_fits word (Symbol es) h n rest has f o = omega (arith, rest has (n + 0) o)
-body_fits word (Debug ws) h n rest has f o = omega (arith, rest has (n + 0) o)
-body_fits word (Advisory ws) h n rest has f o = omega (arith, rest has (n + 0) o)
-body_fits word (Reloc gs) h n rest true f o = omega (arith, rest true (n + 0) o)
-body_fits word (Ext es) h n rest true f o = omega (arith, rest true (n + 0) o)
-body_fits word End h n rest true f o = omega (arith, nothing_behind h (n + 0) o)
-body_fits word (Code top ws) h n rest false f o = omega (arith, f.2.0, rest true (n + 4 * length ws) o)
-body_fits word (Data top ws) h n rest false f o = omega (arith, f.2.0, rest true (n + 4 * length ws) o)
-body_fits word (Bss size) h n rest false f o = omega (arith, rest true (n + 4 * size_longs size) o)
-body_fits word _ h n rest _ f o = absurd o
+size_fits : (word : ℕ) (body : BlockBody) → FitsWord word body → content_size body < cond (is_content (standing body)) (2 ^ 32) 1
+size_fits word (Code top ws) f = omega (arith, f.2.0)
+size_fits word (Data top ws) f = omega (arith, f.2.0)
+size_fits word _ f = omega arith
 
 -- what stands beside the content block has no content, and only one block has
-bytes_fit : (h : ObjectHunk) (has : Bool) (n : ℕ) → AllByRecursion IsBlock h → AreInOrder has (map (λ b. standing b.body) h) → bytes_from h n < n + most_bytes has
+bytes_fit : (h : ObjectHunk) (has : Bool) (n : ℕ) → AllByRecursion IsBlock h → AreInOrder has (standings h) → bytes_from h n < n + most_bytes has
 bytes_fit [] has n all o = absurd o
-bytes_fit (b ∷ h) has n all o = body_fits b.word b.body h n (λ k m order. bytes_fit h k m all.1 order) has all.0.body o
+bytes_fit (b ∷ h) has n all o =
+    by_standing (λ k s. content_size b.body < cond (is_content s) (2 ^ 32) 1 → bytes_from h (n + content_size b.body) < n + most_bytes k) (standings h)
+    (λ k p size. omega (arith, size, bytes_fit h k (n + content_size b.body) all.1 p))
+    (λ p size. omega (arith, size, bytes_fit h true (n + content_size b.body) all.1 p))
+    (λ p size. omega (arith, size, bytes_fit h true (n + content_size b.body) all.1 p))
+    (λ p size. omega (arith, size, nothing_behind h (n + content_size b.body) p)) has (standing b.body) o (size_fits b.word b.body all.0.body)
 
 pub hunk_bytes_fit : (h : ObjectHunk) → IsObjectHunk h → hunk_bytes h < 2 ^ 64
 hunk_bytes_fit h is = omega (arith, bytes_fit h false 0 is.blocks is.order)

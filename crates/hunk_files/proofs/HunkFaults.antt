@@ -18,7 +18,8 @@ use Rattle.hunk_files.specs.LoadFile.{standing, AreInOrder}
 use Rattle.hunk_scan.specs.Standings.{BlockStanding, Beside, Content, Relocating, Ending, is_content, refuse_standing, standing_of_kind}
 use Rattle.hunk_files.specs.ObjectFile.{ObjectHunk}
 use Rattle.hunk_files.specs.ObjectFault.{WordPlace, BetweenHunks, InHunk, ObjectRole, WordAt, has_content, behind_block, object_role_at, object_block_labelled, object_blocks_labelled, refuse_object, blocks_from}
-use Rattle.hunk_files.proofs.ObjectDecoding.{Leads, leads_end, standings, standing_is}
+use Rattle.hunk_files.proofs.HunkOrder.{Leads, leads_end, standing_is}
+use Rattle.hunk_files.proofs.FileText.{standings}
 
 -- ---- the rest of a hunk
 

@@ -1,5 +1,5 @@
 -- What has been read of a block in a hunk of a load file fits the hunk.
-use Rattle.std.proofs.Common.{◌≡◌, ℕ, zero, suc, ◌+◌, ◌*◌, ◌/◌, ◌%◌, ◌^◌, ◌<◌, ◌≤◌, ltb, eqb, List, [], ◌∷◌, ◌++◌, length, refl, sym, subst, arith, None}
+use Rattle.std.proofs.Common.{◌≡◌, ℕ, zero, suc, ◌+◌, ◌*◌, ◌/◌, ◌%◌, ◌^◌, ◌<◌, ◌≤◌, ltb, eqb, List, [], ◌∷◌, ◌++◌, length, refl, sym, subst, ◌∙◌, arith, None}
 use Rattle.std.specs.List.{AllByRecursion}
 use Rattle.std.proofs.lemmas.Bool.{ltb-true, ltb-false, eqb-false, ne_eqb}
 use Rattle.hunk_words.specs.declared.block_word.Kind.{Kind}
@@ -12,6 +12,9 @@ use Rattle.hunk_blocks.specs.Values.{RelocGroup, SymbolEntry, BlockBody, FitsWor
 use Rattle.hunk_blocks.specs.Parts.{Part as parts}
 use Rattle.hunk_blocks.specs.Modes.{IsOfLoadMode, refuse_inside, refuse_alone_kind}
 use Rattle.hunk_scan.specs.Roles.{Place, refuse_part, refuse_kind}
+use Rattle.hunk_scan.specs.Standings.{refuse_standing, standing_of_kind}
+use Rattle.hunk_scan.proofs.BlockWords.{kind_split}
+use Rattle.hunk_files.proofs.HunkOrder.{first_both}
 use Rattle.hunk_files.specs.LoadFile.{FitsGroup, FitsHunk, IsInside}
 use Rattle.hunk_blocks.specs.BlockSteps.{ForName, Sizing, ForCode, ForData, ForBss, Filling, Counted, SizedCode, SizedData, Inside, AtCount, AtSize, InPayload, AtGroup, AtTarget, InOffsets, AtEntry, InName, AtValue, AtExtWord, BlockNext, Open, Whole, group, part_of, step_inside, fill, relocate, name_entry, sized_by, grouped, entered, begin_body}
 use Rattle.hunk_blocks.proofs.BlockProgress as blocks
@@ -118,24 +121,12 @@ module _ (p : Place) (word : ℕ) where
 
 -- Behind a block word that is not refused the block fits.
 pub begin_fits : (p : Place) (word : ℕ) (k : Kind) → kind word ≡ k → refuse_kind p.has_content (is_advisory word) k ≡ None → NextFits p word (begin_body k)
-begin_fits p word k e ok = both p word (begin_body k) (blocks.begin_fits modes.Load word k e (alone k ok)) (within k e ok)
+begin_fits p word k e ok = both p word (begin_body k) (blocks.begin_fits modes.Load word k e alone) (within k e ok)
   where
-    alone : (k : Kind) → refuse_kind p.has_content (is_advisory word) k ≡ None → refuse_alone_kind modes.Load (is_advisory word) k ≡ None
-    alone kinds.Code ok = refl
-    alone kinds.Data ok = refl
-    alone kinds.Bss ok = refl
-    alone kinds.Reloc32 ok = refl
-    alone kinds.End ok = refl
-    alone _ ok = ok
+    alone : refuse_alone_kind modes.Load (is_advisory word) k ≡ None
+    alone = (first_both (refuse_alone_kind modes.Load (is_advisory word) k) (refuse_standing p.has_content (standing_of_kind k)) (sym (kind_split p.has_content (is_advisory word) k) ∙ ok)).0
 
     within : (k : Kind) → kind word ≡ k → refuse_kind p.has_content (is_advisory word) k ≡ None → NextWithin p word (begin_body k)
-    within kinds.Name e ok = tt
-    within kinds.Code e ok = tt
-    within kinds.Data e ok = tt
-    within kinds.Bss e ok = tt
     within kinds.Reloc32 e ok = (e, tt)
-    within kinds.Symbol e ok = tt
-    within kinds.Debug e ok = tt
     within kinds.End e ok = (tt, tt)
-    within (kinds.Unknown n) e ok = tt
-    within _ e ok = absurd cc
+    within _ e ok = first_of (cc, assumption)

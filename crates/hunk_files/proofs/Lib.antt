@@ -3,7 +3,6 @@ pub mod AddAt
 pub mod Completion
 pub mod Concats
 pub mod ContentBlocks
-mod Counted
 mod Examples
 mod FileKinds
 pub mod FileProgress
@@ -13,20 +12,21 @@ pub mod FileViews
 mod FindingSteps
 pub mod HunkProgress
 mod HunkFaults
-pub mod HunkReading
+pub mod HunkBlocks
+pub mod InTurn
 pub mod ImageParts
-pub mod InsideCases
 pub mod Least
 pub mod Machines
 pub mod Memory
 pub mod Positions
-mod ObjectDecoding
+mod HunkOrder
 mod ObjectOutcome
 mod ObjectProgress
 pub mod ObjectText
-mod ObjectReached
+mod ObjectRefusals
 mod ObjectWalks
 mod ObjectWords
+mod LoadWalks
 pub mod OffsetLists
 pub mod Peel
 pub mod Reading
@@ -45,4 +45,3 @@ pub mod TextParts
 mod UnitFaults
 mod OneObjectFault
 mod UnitReading
-pub mod Walking

@@ -1,5 +1,5 @@
 -- The machines of positions go along the texts of files.
-use Rattle.std.proofs.Common.{◌≡◌, ℕ, List, [], ◌∷◌, ◌++◌, refl, sym, ap, subst, ◌∙◌, Some, None}
+use Rattle.std.proofs.Common.{◌≡◌, ℕ, [], ◌∷◌, ◌++◌, refl, sym, ap, subst, ◌∙◌, Some, None}
 use Rattle.hunk_blocks.specs.Along.{GoesAlong}
 use Rattle.hunk_blocks.proofs.Along.{Forgets, along}
 use Rattle.hunk_scan.specs.Roles.{Role, refuse}
@@ -10,7 +10,7 @@ use Rattle.hunk_files.specs.FileSteps.{Progress, AtBlock, InBody, AtFirst, Next,
 use Rattle.hunk_files.specs.LoadFile.{LoadFileValue, IsLoadFile}
 use Rattle.hunk_files.specs.LoadText.{labelled}
 use Rattle.hunk_files.specs.Machines.{longs_of, refuse_in_load, refuse_in_object}
-use Rattle.hunk_files.specs.ObjectFault.{BeforeUnits, BetweenHunks, ObjectRole, WordAt, refuse_object, objects, units_labelled}
+use Rattle.hunk_files.specs.ObjectFault.{BeforeUnits, BetweenHunks, ObjectRole, refuse_object, units_labelled}
 use Rattle.hunk_files.specs.ObjectFile.{ObjectFileValue, IsObjectFile}
 use Rattle.hunk_files.specs.ObjectSteps as object
 use Rattle.hunk_files.specs.declared.object.position.ObjectPosition.TheVariants as places
@@ -38,8 +38,8 @@ load_from (More p) m before (l ∷ ls) h ok run =
       λ w.
           subst (λ (r : Role). refuse (load.role_at (longs_of r) (position_of (More p))) w ≡ refuse r w) run.0
           (ap (λ (longs : ℕ). refuse (load.role_at longs (position_of (More p))) w) (longs_same p) ∙ sym (refuse_same p w h.0)),
-      subst (λ (q : Position). GoesAlong refuse_in_load refuse load.step q ls (position_of m)) (step_position p l.1 h.0 passes)
-      (load_from (step_file p l.1) m (read_progress p ++ (role_of p, l.1) ∷ []) ls (step_keeps p l.1 h.0 ok.0.0 passes) ok.1 run.1),
+      subst (λ (q : Position). GoesAlong refuse_in_load refuse load.step q ls (position_of m)) (step_position p l.1 h.0)
+          (load_from (step_file p l.1) m (read_progress p ++ (role_of p, l.1) ∷ []) ls (step_keeps p l.1 h.0 ok.0.0 passes) ok.1 run.1),
     )
 
 pub load_along : (v : LoadFileValue) → IsLoadFile v → GoesAlong refuse_in_load refuse load.step positions.FirstLong (labelled v) positions.Done

@@ -8,11 +8,10 @@ use Rattle.hunk_blocks.specs.Faults.{Expects, IsFront}
 use Rattle.hunk_blocks.proofs.Outcomes.{Keeps, run, leads_run, front, judged, completed}
 use Rattle.hunk_files.specs.ObjectFile.{ObjectFileValue, IsObjectFile, IsNoObjectFile, object_text}
 use Rattle.hunk_files.specs.ObjectFault.{BeforeUnits, BetweenHunks, InHunk, ObjectRole, units_labelled, refuse_object, objects, HasObjectFault}
-use Rattle.hunk_files.proofs.ObjectDecoding.{object_longs}
 use Rattle.hunk_files.proofs.ObjectProgress.{SoFar, expected, goes_on, never, whole_units}
 use Rattle.hunk_files.proofs.OneObjectFault.{ObjectState, AtWord, AtCount, InName, InBlock, reader, object_reads, file_leads}
 use Rattle.hunk_files.proofs.UnitFaults.{units_words}
-use Rattle.hunk_files.proofs.UnitReading.{text_longs}
+use Rattle.hunk_files.proofs.UnitReading.{object_longs, text_longs}
 
 unfoldable pub keeps : Keeps objects reader
 keeps = record { SoFar = SoFar; begins = refl; expects = expected; goes_on = goes_on; ends = λ s before h e. absurd (never s e) }

@@ -1,9 +1,8 @@
 -- What has been read of an object file can be completed, and goes on as long as no longword is refused.
-use Rattle.std.proofs.Common.{◌≡◌, ℕ, zero, suc, ◌+◌, ◌^◌, ◌<◌, Bool, true, false, ◌||◌, cond, eqb, ltb, List, [], ◌∷◌, ◌++◌, length, map, refl, sym, ap, subst, ◌∙◌, append_assoc, append-nil, length-append, arith, Option, Some, None}
+use Rattle.std.proofs.Common.{◌≡◌, ℕ, zero, suc, ◌+◌, ◌^◌, ◌<◌, Bool, true, false, ◌||◌, cond, eqb, ltb, List, [], ◌∷◌, ◌++◌, length, map, refl, sym, ap, subst, ◌∙◌, append_assoc, append-nil, length-append, arith, Some, None}
 use Rattle.std.specs.List.{flat_map, AllByRecursion}
 use Rattle.std.proofs.lemmas.Bool.{eqb-true, ltb-true}
 use Rattle.std.proofs.lemmas.List.{map-append}
-use Rattle.hunk_words.specs.declared.reason.Reason.{Reason}
 use Rattle.hunk_words.specs.declared.reason.Reason.TheVariants as reasons
 use Rattle.hunk_words.specs.Bits.{kind}
 use Rattle.hunk_words.specs.Longs.{IsLong, AreLongs}
@@ -23,7 +22,8 @@ use Rattle.hunk_scan.specs.Standings.{BlockStanding, Beside, Content, Relocating
 use Rattle.hunk_files.specs.ObjectFile.{ObjectHunk, UnitValue, ObjectFileValue, IsObjectFile, IsObjectHunk, IsUnit, unit_word, unit_header, unit_text, object_text}
 use Rattle.hunk_files.specs.ObjectFault.{WordPlace, BeforeUnits, BetweenHunks, InHunk, ObjectRole, WordAt, UnitCount, UnitName, Within, has_content, behind_block, object_role_at, refuse_unit, refuse_object_word, refuse_object, blocks_from, units_from, objects}
 use Rattle.hunk_files.proofs.HunkFaults.{blocks_at, expects_block, expects_word, expects_within, expects_behind, place_behind, opened}
-use Rattle.hunk_files.proofs.ObjectDecoding.{Leads, leads_one, leads_more, leads_end, end_stands, standings, standing_is}
+use Rattle.hunk_files.proofs.HunkOrder.{Leads, first_both, leads_one, leads_more, leads_end, end_stands, standing_is}
+use Rattle.hunk_files.proofs.FileText.{standings}
 use Rattle.hunk_files.proofs.OneObjectFault.{ObjectState, AtWord, AtCount, InName, InBlock, place_next, in_block, behind_name, reader}
 use Rattle.hunk_files.proofs.ObjectWords.{refuse_place, within_role, within_split, word_split}
 use Rattle.hunk_files.proofs.UnitFaults.{place_after, one_unit, one_is, expects_unit, expects_count, expects_hunk, expects_units}
@@ -257,10 +257,6 @@ in_block_so_far place ws tail w (Whole b) h i ok =
     (closed place ws (block w b) (subst (InUnit place ws) i.words_are h) is (ap (refuse_standing (has_content place)) same ∙ standing_goes place (standing_of_kind (kind w)) ok))
 
 -- ---- each longword that is not refused
-
-first_both : (o next : Option Reason) → first_of o next ≡ None → (o ≡ None) × (next ≡ None)
-first_both (Some reason) next e = absurd cc
-first_both None next e = (refl, e)
 
 -- a unit begins
 unit_begins : (place : WordPlace) (ws : List ℕ) (w : ℕ) → SoFarAt place ws → w ≡ unit_word → refuse_unit place ≡ None → BehindUnits (ws ++ w ∷ []) (unit_word ∷ [])

@@ -3,7 +3,7 @@ use Rattle.std.proofs.Common.{◌≡◌, ℕ, false, List, [], ◌∷◌, ◌++�
 use Rattle.std.specs.List.{flat_map, AllByRecursion}
 use Rattle.hunk_blocks.specs.Parts.{block_text}
 use Rattle.hunk_files.specs.ObjectFile.{ObjectHunk, ObjectFileValue, IsObjectHunk, IsUnit, IsObjectFile, unit_header, object_text}
-use Rattle.hunk_files.proofs.Peel.{blocks_peel, order_ends}
+use Rattle.hunk_files.proofs.Peel.{blocks_peel}
 use Rattle.hunk_files.proofs.UnitReading.{StartsUnit, object_starts, no_unit, header_same}
 
 abbrev texts : List ObjectHunk → List ℕ
@@ -17,7 +17,7 @@ hunks_same (h ∷ hs) [] x y hh hk sx sy e = absurd (no_unit h (texts hs ++ x) y
 hunks_same (h ∷ hs) (k ∷ ks) x y hh hk sx sy e =
     let split : flat_map block_text h ++ (texts hs ++ x) ≡ flat_map block_text k ++ (texts ks ++ y) =
     sym (append_assoc (flat_map block_text h) (texts hs) x) ∙ e ∙ append_assoc (flat_map block_text k) (texts ks) y in
-    let one = blocks_peel h k (texts hs ++ x) (texts ks ++ y) hh.0.blocks (order_ends false h hh.0.order) hk.0.blocks (order_ends false k hk.0.order) split in
+    let one = blocks_peel h k (texts hs ++ x) (texts ks ++ y) false false hh.0.blocks hh.0.order hk.0.blocks hk.0.order split in
     let rest = hunks_same hs ks x y hh.1 hk.1 sx sy one.1 in
     (ap₂ (λ (z : ObjectHunk) (zs : List ObjectHunk). z ∷ zs) one.0 rest.0, rest.1)
 

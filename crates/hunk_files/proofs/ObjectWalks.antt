@@ -11,7 +11,8 @@ use Rattle.hunk_blocks.proofs.Outcomes.{Keeps, run, front}
 use Rattle.hunk_blocks.specs.PhaseSteps as inside
 use Rattle.hunk_blocks.specs.PhaseSteps.{part_at, skipped, skip_all}
 use Rattle.hunk_scan.specs.Standings.{standing_of_kind}
-use Rattle.hunk_blocks.proofs.BlockPhases.{phase_of, next_phase, step_phase, begin_phase, refuse_phase, skips_inside, none_skipped}
+use Rattle.hunk_blocks.specs.ReaderPhase.{phase_of, next_phase}
+use Rattle.hunk_blocks.proofs.BlockPhases.{step_phase, begin_phase, refuse_phase, skips_inside, none_skipped}
 use Rattle.hunk_blocks.proofs.KeptWalks.{OnePasses, HasRuns, StandsAt, Walks, starts, stands, word_refused, word_passes}
 use Rattle.hunk_files.specs.declared.object.position.ObjectPosition.{ObjectPosition}
 use Rattle.hunk_files.specs.declared.object.position.ObjectPosition.TheVariants as positions
@@ -103,12 +104,12 @@ behind_within next (Whole b) = refl
 pub runs : HasRuns objects reader traced position_of scan.run scan.behind
 runs = record { one = one; none = none }
   where
-    one : (s : ObjectState) (left w : ℕ) → scan.run (position_of s) ≡ suc left → OnePasses objects reader traced position_of scan.run scan.behind s left w
-    one (AtWord place) left w e = absurd (omega (arith, e))
-    one AtCount left w e = absurd (omega (arith, e))
-    one (InName zero) left w e = record { role = UnitName; expects = refl; passes = refl; run_is = omega (arith, e); behind_is = refl }
-    one (InName (suc owed)) left w e = record { role = UnitName; expects = refl; passes = refl; run_is = omega (arith, e); behind_is = refl }
-    one (InBlock next x) left w e =
+    one : (s : ObjectState) (before : List ℕ) (left w : ℕ) → traced.SoFar s before → scan.run (position_of s) ≡ suc left → OnePasses objects reader traced position_of scan.run scan.behind s left w
+    one (AtWord place) before left w h e = absurd (omega (arith, e))
+    one AtCount before left w h e = absurd (omega (arith, e))
+    one (InName zero) before left w h e = record { role = UnitName; expects = refl; passes = refl; run_is = omega (arith, e); behind_is = refl }
+    one (InName (suc owed)) before left w h e = record { role = UnitName; expects = refl; passes = refl; run_is = omega (arith, e); behind_is = refl }
+    one (InBlock next x) before left w h e =
         let o = skips_inside x left w e in
         record {
           role = Within (part_of x);

@@ -23,7 +23,8 @@ use Rattle.hunk_scan.specs.Standings.{BlockStanding, Beside, Content, Relocating
 use Rattle.hunk_files.specs.ObjectFile.{ObjectHunk, UnitValue, ObjectFileValue, IsObjectFile, IsObjectHunk, IsUnit, IsNoObjectFile, unit_word}
 use Rattle.hunk_files.specs.ObjectFault.{WordPlace, BeforeUnits, BetweenHunks, InHunk, ObjectRole, WordAt, UnitCount, UnitName, Within, has_content, behind_block, object_role_at, object_block_labelled, object_blocks_labelled, object_hunk_labelled, unit_header_labelled, unit_labelled, units_labelled, refuse_unit, refuse_object_word, refuse_object, objects, IsTruncatedObject, HasObjectFault}
 pub use Rattle.hunk_files.specs.ObjectSteps.{place_next}
-use Rattle.hunk_files.proofs.ObjectDecoding.{standing_is, standings}
+use Rattle.hunk_files.proofs.HunkOrder.{standing_is}
+use Rattle.hunk_files.proofs.FileText.{standings}
 use Rattle.hunk_files.proofs.ObjectWords.{refuse_place, within_role, within_split, word_split}
 use Rattle.hunk_files.proofs.UnitFaults.{units_words}
 use Rattle.hunk_files.proofs.UnitReading.{no_kind, unit_kind, text_longs}

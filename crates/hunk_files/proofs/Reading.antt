@@ -1,21 +1,20 @@
 -- What a reader that takes longwords one by one has to know, in a few lemmas.
-use Rattle.std.proofs.Common.{◌≡◌, ◌≢◌, ℕ, ◌*◌, Bool, true, false, ◌&&◌, List, [], ◌∷◌, ◌++◌, length, refl, sym, ap, ap₂, subst, ◌∙◌, append_assoc, append-nil, Option, Some, None, is_none}
+use Rattle.std.proofs.Common.{◌≡◌, ◌≢◌, ℕ, ◌*◌, List, [], ◌∷◌, ◌++◌, length, refl, sym, ap, ap₂, subst, ◌∙◌, Some, None}
 use Rattle.std.proofs.lemmas.List.{map-append}
-use Rattle.std.proofs.lemmas.Bool.{and_parts}
 use Rattle.hunk_words.specs.declared.reason.Reason.{Reason}
-use Rattle.hunk_words.specs.Longs.{longs, IsLong, AreLongs}
+use Rattle.hunk_words.specs.Longs.{longs, IsLong}
 use Rattle.hunk_blocks.specs.Faults.{words}
 use Rattle.hunk_files.specs.LoadFile.{LoadFileValue, IsLoadFile}
 use Rattle.hunk_scan.specs.Roles.{Role, refuse}
 use Rattle.hunk_files.specs.LoadText.{text, labelled}
-use Rattle.hunk_files.specs.Fault.{Expects, HasRefusal, IsTruncated}
+use Rattle.hunk_files.specs.Fault.{Expects, HasRefusal}
 use Rattle.hunk_files.specs.FileSteps.{Progress, AtFirst, Next, More, Finished, role_of, step_file, Leads}
 use Rattle.hunk_files.proofs.FileText.{file_leads, Leads-append}
 use Rattle.hunk_files.proofs.FileProgress.{Reads}
 use Rattle.hunk_files.proofs.Runs.{Leads-keeps, Leads-split, Leads-same}
 use Rattle.hunk_files.specs.WordsRead.{HasRead, Labelled, IsAccepted, AreAccepted}
 use Rattle.hunk_files.proofs.Accepted.{labelled_accepted}
-use Rattle.hunk_files.proofs.Scan.{words_split, expects_of, truncated_of}
+use Rattle.hunk_files.proofs.Scan.{words_split, expects_of}
 use Rattle.hunk_blocks.proofs.Lists.{All-append}
 use Rattle.hunk_blocks.proofs.Fronts.{All-right}
 
@@ -54,10 +53,6 @@ read_refused bytes ws p w after reason h e no-pass =
       expects = subst (λ (xs : List ℕ). Expects xs (role_of p)) h.all (expects_of p h.done (reads h));
       refuses = no-pass;
     }
-
--- Where the longwords end too soon, that is the fault.
-pub read_truncated : (bytes : List ℕ) (p : Progress) → HasRead (longs bytes) (More p) → IsTruncated bytes (4 * length (longs bytes))
-read_truncated bytes p h = truncated_of bytes (record { progress = p; done = h.done; reads = reads h; all = h.all })
 
 -- At the end there is a load file of this text.
 pub read_ended : (ws : List ℕ) (v : LoadFileValue) → HasRead ws (Finished v) → IsLoadFile v × (text v ≡ ws)
@@ -101,30 +96,3 @@ pub read_goes_on : (ws : List ℕ) (p : Progress) → HasRead ws (More p) → (v
 read_goes_on ws p h v is more e nil =
     let r = rest_read ws (More p) h (text v) (Finished v) (file_read v is) more e in
     goes_on p r.0 v r.1 (r.3 ∙ nil)
-
--- ---- as functions of the longwords, for facts that are equations
-
--- where longwords lead; behind the end nothing is read
-abbrev pub next_after : Next → List ℕ → Next
-next_after n [] = n
-next_after (Finished v) (w ∷ ws) = Finished v
-next_after (More p) (w ∷ ws) = next_after (step_file p w) ws
-
--- whether all longwords are read, and none is refused
-abbrev pub all_pass : Next → List ℕ → Bool
-all_pass n [] = true
-all_pass (Finished v) (w ∷ ws) = false
-all_pass (More p) (w ∷ ws) = is_none (refuse (role_of p) w) && all_pass (step_file p w) ws
-
-none_is : {A : Type 0} (o : Option A) → is_none o ≡ true → o ≡ None
-none_is (Some x) e = absurd cc
-none_is None e = refl
-
--- After what was read, longwords that all pass.
-pub passing_from : (before : List ℕ) (n : Next) (ws : List ℕ) → HasRead before n → AreLongs ws → all_pass n ws ≡ true → HasRead (before ++ ws) (next_after n ws)
-passing_from before n [] h l ok = subst (λ (xs : List ℕ). HasRead xs n) (sym (append-nil before)) h
-passing_from before (Finished v) (w ∷ ws) h l ok = absurd cc
-passing_from before (More p) (w ∷ ws) h l ok =
-    let both = and_parts (is_none (refuse (role_of p) w)) (all_pass (step_file p w) ws) ok in
-    subst (λ (xs : List ℕ). HasRead xs (next_after (step_file p w) ws)) (append_assoc before (w ∷ []) ws)
-    (passing_from (before ++ w ∷ []) (step_file p w) ws (step_read before p w h l.0 (none_is (refuse (role_of p) w) both.0)) l.1 both.1)

@@ -22,30 +22,11 @@ chosen true x y h k = h
 chosen false x y h k = k
 
 refused_kind : (has_content advisory : Bool) (k : Kind) → AreOfWord (refuse_kind has_content advisory k)
-refused_kind h a kinds.Overlay = refl
-refused_kind h a kinds.Break = refl
-refused_kind h a kinds.Drel32 = refl
-refused_kind h a kinds.Reloc32Short = refl
-refused_kind h a kinds.Lib = refl
-refused_kind h a kinds.Index = refl
-refused_kind h a kinds.Header = refl
 refused_kind h a kinds.Unit = refl
-refused_kind h a kinds.Reloc16 = refl
-refused_kind h a kinds.Reloc8 = refl
-refused_kind h a kinds.Ext = refl
-refused_kind h a kinds.Drel16 = refl
-refused_kind h a kinds.Drel8 = refl
-refused_kind h a kinds.RelReloc32 = refl
-refused_kind h a kinds.AbsReloc16 = refl
-refused_kind h a (kinds.Unknown n) = chosen a None (Some reasons.UnknownBlock) tt refl
-refused_kind h a kinds.Code = chosen h (Some reasons.SecondContent) None refl tt
-refused_kind h a kinds.Data = chosen h (Some reasons.SecondContent) None refl tt
-refused_kind h a kinds.Bss = chosen h (Some reasons.SecondContent) None refl tt
-refused_kind h a kinds.Reloc32 = chosen h None (Some reasons.BeforeContent) tt refl
-refused_kind h a kinds.End = chosen h None (Some reasons.NoContent) tt refl
-refused_kind h a kinds.Name = tt
-refused_kind h a kinds.Symbol = tt
-refused_kind h a kinds.Debug = tt
+refused_kind true true _ = first_of (cc, assumption)
+refused_kind true false _ = first_of (cc, assumption)
+refused_kind false true _ = first_of (cc, assumption)
+refused_kind false false _ = first_of (cc, assumption)
 
 refused_part : (p : Place) (part : Part) (w : ℕ) → AreOfWord (refuse_part p part w)
 refused_part p parts.BlockWord w = chosen (has_both_bits w) (Some reasons.BothBits) _ refl (refused_kind p.has_content (is_advisory w) (kind w))
@@ -54,13 +35,7 @@ refused_part p parts.NameCount w = chosen (nat_lt w 16777216) None (Some reasons
 refused_part p parts.GroupCount w = chosen (w == 0) None _ tt (chosen (p.longs == 0) (Some reasons.NothingToRelocate) None refl tt)
 refused_part p parts.Target w = chosen (nat_lt w p.hunks) None (Some reasons.BadTarget) tt refl
 refused_part p parts.Offset w = chosen (nat_lt _ _) (Some reasons.BadOffset) None refl tt
-refused_part p parts.LongCount w = tt
-refused_part p parts.Payload w = tt
-refused_part p parts.EntryWord w = tt
-refused_part p parts.ExtWord w = tt
-refused_part p parts.EntryName w = tt
-refused_part p parts.EntryValue w = tt
-refused_part p parts.OffsetCount w = tt
+refused_part p _ w = tt
 
 refused_role : (r : Role) (w : ℕ) → AreOfWord (refuse r w)
 refused_role roles.FirstLong w =
@@ -72,9 +47,8 @@ refused_role roles.TableSize w =
     chosen (w == 0) (Some reasons.NoHunks) _ refl (chosen (nat_lt 65536 w) (Some reasons.TooManyHunks) None refl tt)
 refused_role roles.FirstHunk w = chosen (w == 0) None (Some reasons.FirstHunk) tt refl
 refused_role (roles.LastHunk hunks) w = chosen (w + 1 == hunks) None (Some reasons.LastHunk) tt refl
-refused_role roles.SizeWord w = tt
-refused_role roles.Attributes w = tt
 refused_role (InBlock p part) w = refused_part p part w
+refused_role _ w = tt
 
 pub refused_of_word : (r : Role) (w : ℕ) (reason : Reason) → refuse r w ≡ Some reason → IsWordRefusal reason
 refused_of_word r w reason e = subst AreOfWord e (refused_role r w)

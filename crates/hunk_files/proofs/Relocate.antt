@@ -1,16 +1,17 @@
 -- Relocations, one part after another.
-use Rattle.std.proofs.Common.{◌≡◌, ℕ, zero, suc, ◌+◌, ◌*◌, ◌<◌, ◌≤◌, Bool, true, false, List, [], ◌∷◌, ◌++◌, length, map, get_or, take, refl, sym, ap, subst, ◌∙◌, length-append, arith}
+use Rattle.std.proofs.Common.{◌≡◌, ℕ, zero, suc, ◌+◌, ◌*◌, ◌<◌, ◌≤◌, Bool, true, false, cond, List, [], ◌∷◌, ◌++◌, length, map, get_or, take, refl, sym, ap, subst, ◌∙◌, length-append, arith}
 use Rattle.std.specs.List.{flat_map, AllByRecursion}
-use Rattle.hunk_words.specs.Longs.{bytes_of}
 use Rattle.hunk_words.proofs.LongLaws.{length-bytes_of}
-use Rattle.hunk_blocks.specs.Values.{RelocGroup, BlockBody, BlockValue, Name, Code, Data, Bss, Reloc, Ext, Symbol, Debug, Advisory, End}
-use Rattle.hunk_files.specs.LoadFile.{HunkValue, standing, AreInOrder, FitsGroup, IsInside, IsHunkBlock, IsHunk, declared_longs}
+use Rattle.hunk_blocks.specs.Values.{RelocGroup, BlockBody, BlockValue, Code, Data, Reloc}
+use Rattle.hunk_files.specs.LoadFile.{HunkValue, standing, AreInOrder, FitsGroup, FitsHunk, IsInside, IsHunkBlock, IsHunk, declared_longs}
 use Rattle.hunk_files.specs.Image.{add_at, block_content, block_relocations, group_relocations, relocated, relocations}
 use Rattle.hunk_files.specs.Relocating.{IsRelocatable}
 use Rattle.hunk_files.proofs.Accepted.{All-map, All-flat_map}
 use Rattle.hunk_files.proofs.Concats.{flat_map-next}
 use Rattle.hunk_blocks.proofs.Fronts.{All-left, All-right}
-use Rattle.hunk_files.proofs.FileText.{standings}
+use Rattle.hunk_scan.specs.Standings.{is_content}
+use Rattle.hunk_files.proofs.FileText.{standings, no_more}
+use Rattle.hunk_files.proofs.HunkOrder.{by_standing}
 
 pub relocated-append : (bases s : List ℕ) (ps qs : List (ℕ × ℕ)) → relocated bases s (ps ++ qs) ≡ relocated bases (relocated bases s ps) qs
 relocated-append bases s [] qs = refl
@@ -94,27 +95,20 @@ abbrev limit : Bool → ℕ → ℕ
 limit true longs = 0
 limit false longs = 4 * longs
 
-content_by : (hunks longs : ℕ) (has : Bool) (w : ℕ) (b : BlockBody) (bs : List BlockValue) → IsHunkBlock hunks longs (record { word = w; body = b }) → AreInOrder has (standing b ∷ standings bs) →
-    ((k : Bool) → AreInOrder k (standings bs) → length (contents bs) ≤ limit k longs) → (bs ≡ [] → length (contents bs) ≡ 0) → length (block_content b ++ contents bs) ≤ limit has longs
-content_by hunks longs has w (Name words) bs h o more none = more has o
-content_by hunks longs has w (Symbol entries) bs h o more none = more has o
-content_by hunks longs has w (Debug words) bs h o more none = more has o
-content_by hunks longs has w (Advisory words) bs h o more none = more has o
-content_by hunks longs false w (Code top words) bs h o more none = omega (arith, length-append (bytes_of words) (contents bs), length-bytes_of words, h.fits, more true o)
-content_by hunks longs false w (Data top words) bs h o more none = omega (arith, length-append (bytes_of words) (contents bs), length-bytes_of words, h.fits, more true o)
-content_by hunks longs false w (Bss size) bs h o more none = omega (arith, more true o)
-content_by hunks longs true w (Reloc groups) bs h o more none = more true o
-content_by hunks longs true w (Ext entries) bs h o more none = more true o
-content_by hunks longs true w End bs h o more none = omega (arith, none (no_more bs o))
-  where
-    no_more : (bs : List BlockValue) → standings bs ≡ [] → bs ≡ []
-    no_more [] e = refl
-    no_more (x ∷ bs) e = absurd cc
-content_by hunks longs _ w _ bs h o more none = absurd o
+content_most : (hunks longs : ℕ) (b : BlockBody) → FitsHunk hunks longs b → length (block_content b) ≤ cond (is_content (standing b)) (4 * longs) 0
+content_most hunks longs (Code top words) f = omega (arith, length-bytes_of words, f)
+content_most hunks longs (Data top words) f = omega (arith, length-bytes_of words, f)
+content_most hunks longs _ f = omega arith
 
 contents_fit : (hunks longs : ℕ) (has : Bool) (bs : List BlockValue) → AllByRecursion (IsHunkBlock hunks longs) bs → AreInOrder has (standings bs) → length (contents bs) ≤ limit has longs
 contents_fit hunks longs has [] h o = absurd o
-contents_fit hunks longs has (b ∷ bs) h o = content_by hunks longs has b.word b.body bs h.0 o (λ k p. contents_fit hunks longs k bs h.1 p) (λ e. ap (λ (l : List BlockValue). length (contents l)) e)
+contents_fit hunks longs has (b ∷ bs) h o =
+    let both = length-append (block_content b.body) (contents bs) in
+    by_standing (λ k s. length (block_content b.body) ≤ cond (is_content s) (4 * longs) 0 → length (contents (b ∷ bs)) ≤ limit k longs) (standings bs)
+    (λ k p most. omega (arith, both, most, contents_fit hunks longs k bs h.1 p))
+    (λ p most. omega (arith, both, most, contents_fit hunks longs true bs h.1 p))
+    (λ p most. omega (arith, both, most, contents_fit hunks longs true bs h.1 p))
+    (λ p most. omega (arith, both, most, ap (λ (l : List BlockValue). length (contents l)) (no_more bs p))) has (standing b.body) o (content_most hunks longs b.body h.0.fits)
 
 pub content_fits : (hunks : ℕ) (h : HunkValue) → IsHunk hunks h → length (flat_map (λ (b : BlockValue). block_content b.body) h.blocks) ≤ 4 * declared_longs h
 content_fits hunks h is = contents_fit hunks (declared_longs h) false h.blocks is.blocks is.order

@@ -8,17 +8,17 @@ use Rattle.hunk_words.specs.Longs.{longs, bytes_of, IsLong, AreLongs, IsBytes}
 use Rattle.hunk_files.specs.LoadFile.{LoadFileValue, IsLoadFile}
 use Rattle.hunk_scan.specs.Roles.{Role, refuse}
 use Rattle.hunk_files.specs.LoadText.{text, labelled}
-use Rattle.hunk_blocks.proofs.FaultScan.{Machine, Leads as LeadsOf, Reads as ReadsOf, one_fault as one_of, front_passes, whole_passes}
-use Rattle.hunk_blocks.proofs.Outcomes.{Keeps, run, front, judged}
+use Rattle.hunk_blocks.proofs.FaultScan.{Machine, Leads as LeadsOf, Reads as ReadsOf, one_fault as one_of, front_passes, whole_passes, ends_together}
+use Rattle.hunk_blocks.proofs.Outcomes.{Keeps, run, front, judged, expected_role}
 use Rattle.hunk_blocks.specs.Faults.{IsFront, words}
 use Rattle.hunk_files.specs.Fault.{Expects, HasRefusal, BeginsWithLoadFile, IsTruncated, HasFault, IsCompleted, completing, load_files}
 use Rattle.hunk_files.specs.FileSteps.{Progress, AtFirst, Next, More, Finished, role_of, step_file, Leads}
 use Rattle.hunk_files.proofs.FileText.{file_leads}
 use Rattle.hunk_files.proofs.FileProgress.{Reads, step_keeps}
-use Rattle.hunk_files.proofs.Runs.{Leads-split, Leads-same, Leads-keeps}
+use Rattle.hunk_files.proofs.Runs.{Leads-split, Leads-keeps}
 use Rattle.hunk_files.specs.WordsRead.{Labelled, IsAccepted, AreAccepted}
 use Rattle.hunk_files.proofs.Accepted.{labelled_accepted}
-use Rattle.hunk_files.proofs.Completion.{IsOwed, completes, completes_next}
+use Rattle.hunk_files.proofs.Completion.{IsOwed, completes}
 use Rattle.hunk_words.proofs.LongLaws.{longs-bytes_of, bytes_of-append, spelled, longs_fit}
 use Rattle.hunk_blocks.proofs.Fronts.{All-left}
 
@@ -78,7 +78,7 @@ front_by p done v h (l ∷ ls) run ok =
     }
 
 pub front_of : (p : Progress) (done : Labelled) → Reads (More p) done → IsBegun done p
-front_of p done h = let c = completes p h.0 in front_by p done c.value h c.labels c.run c.accepted
+front_of p done h = let c = completes (More p) h.0 in front_by p done c.value h c.labels c.run c.accepted
 
 pub expects_of : (p : Progress) (done : Labelled) → Reads (More p) done → Expects (words done) (role_of p)
 expects_of p done h =
@@ -120,35 +120,6 @@ words_split (l ∷ ls) (x ∷ xs) ys e =
 
 -- ---- the laws
 
--- Two places behind the same longwords are one.
-pub one_role : (before : List ℕ) (r s : Role) → Expects before r → Expects before s → r ≡ s
-one_role before r s e f = sym a.1.role_is ∙ ap role_of (same_progress a.0 b.0 same.1) ∙ b.1.role_is
-  where
-    a : (p : Progress) × IsReached e.done r p
-    a = expected_place before r e
-
-    b : (p : Progress) × IsReached f.done s p
-    b = expected_place before s f
-
-    same : (e.done ≡ f.done) × (More a.0 ≡ More b.0)
-    same = Leads-same (More AtFirst) (More a.0) (More b.0) e.done f.done a.1.run b.1.run (e.begins ∙ sym f.begins)
-
-    same_progress : (p q : Progress) → More p ≡ More q → p ≡ q
-    same_progress p q h = cc
-
-pub ends_there : (a b : LoadFileValue) (ls : Labelled) → Leads (Finished a) ls (Finished b) → (a ≡ b) × (words ls ≡ [])
-ends_there a b [] h = (cc, refl)
-ends_there a b (l ∷ ls) h = absurd h
-
--- No load text begins another, and one text has one value.
-pub one_value : (a b : LoadFileValue) (more : List ℕ) → IsLoadFile a → IsLoadFile b → text a ++ more ≡ text b → (a ≡ b) × (more ≡ [])
-one_value a b more h k e =
-    let s = words_split (labelled b) (text a) more (sym e) in
-    let cut = Leads-split (More AtFirst) (Finished b) s.front s.back (subst (λ (ls : Labelled). Leads (More AtFirst) ls (Finished b)) s.split (file_leads b k)) in
-    let same = Leads-same (More AtFirst) cut.0 (Finished a) s.front (labelled a) cut.1 (file_leads a h) s.front_words in
-    let end = ends_there a b s.back (subst (λ (n : Next). Leads n s.back (Finished b)) same.1 cut.2) in
-    (end.0, sym s.back_words ∙ end.1)
-
 completing_of : (ls : Labelled) → AllByRecursion IsOwed ls → AllByRecursion (λ l. l.1 ≡ completing l.0) ls
 completing_of [] h = tt
 completing_of (l ∷ ls) h = (h.0.1, completing_of ls h.1)
@@ -162,7 +133,7 @@ completed before role word e l ok =
     let k = step_keeps p word r.reads.0 l (ap (λ (x : Role). refuse x word) r.role_is ∙ ok) in
     let done : Labelled = e.done ++ (role_of p, word) ∷ [] in
     let kept : Reads (step_file p word) done = (k.0, k.1 ∙ ap (λ (ls : Labelled). ls ++ (role_of p, word) ∷ []) r.reads.1) in
-    let c = completes_next (step_file p word) kept.0 in
+    let c = completes (step_file p word) kept.0 in
     let end = ends_in (step_file p word) done c.labels c.value kept c.accepted c.run in
     record {
       value = c.value;
@@ -201,13 +172,31 @@ leads_to n end [] h = h
 leads_to (More p) end (l ∷ ls) h = (ap (λ (r : Role). Some r) h.0, leads_to (step_file p l.1) end ls h.1)
 leads_to (Finished v) end (l ∷ ls) h = absurd h
 
-pub load_reads : ReadsOf load_files load_reader
-load_reads = record { end = λ v. Finished v; leads = λ v h. leads_to (More AtFirst) (Finished v) (labelled v) (file_leads v h); passes = none_refused }
+load_leads : (v : LoadFileValue) → IsLoadFile v → LeadsOf load_reader (More AtFirst) (labelled v) (Finished v)
+load_leads v h = leads_to (More AtFirst) (Finished v) (labelled v) (file_leads v h)
 
-abbrev SoFar : Next → List ℕ → Type 0
+pub load_reads : ReadsOf load_files load_reader
+load_reads = record { end = λ v. Finished v; leads = load_leads; passes = none_refused }
+
+-- One text has one value, whatever follows it, and none begins another.
+pub one_front : (a b : LoadFileValue) (xs ys : List ℕ) → IsLoadFile a → IsLoadFile b → text a ++ xs ≡ text b ++ ys → (a ≡ b) × (xs ≡ ys)
+one_front a b xs ys h k e =
+    let end = ends_together load_reader (More AtFirst) (Finished a) (Finished b) (labelled a) (labelled b) xs ys (load_leads a h) (load_leads b k) refl refl e in
+    (cc end.0, end.1)
+
+pub one_value : (a b : LoadFileValue) (more : List ℕ) → IsLoadFile a → IsLoadFile b → text a ++ more ≡ text b → (a ≡ b) × (more ≡ [])
+one_value a b more h k e = one_front a b more [] h k (e ∙ sym (append-nil (text b)))
+
+-- Two places behind the same longwords are one.
+pub one_role : (before : List ℕ) (r s : Role) → Expects before r → Expects before s → r ≡ s
+one_role before r s e f =
+    let same : Some r ≡ Some s = sym (expected_role load_files load_reader load_reads before r e) ∙ expected_role load_files load_reader load_reads before s f in
+    cc
+
+abbrev pub SoFar : Next → List ℕ → Type 0
 SoFar n ws = (done : Labelled) × Reads n done × (words done ≡ ws)
 
-pub keeps : Keeps load_files load_reader
+unfoldable pub keeps : Keeps load_files load_reader
 keeps = record { SoFar = SoFar; begins = ([], (tt, refl), refl); expects = expected; goes_on = go; ends = ended }
   where
     expected : (s : Next) (before : List ℕ) (role : Role) → SoFar s before → expects s ≡ Some role → Expects before role

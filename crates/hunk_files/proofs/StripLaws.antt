@@ -2,7 +2,7 @@
 use Rattle.std.proofs.Common.{◌≡◌, ℕ, ◌+◌, ◌*◌, Bool, true, false, cond, List, [], ◌∷◌, ◌++◌, length, map, refl, sym, ap, ap₂, subst, ◌∙◌, arith}
 use Rattle.std.proofs.lemmas.List.{length-map}
 use Rattle.std.specs.List.{flat_map, fold, AllByRecursion}
-use Rattle.hunk_blocks.specs.Values.{BlockBody, BlockValue, Name, Code, Data, Bss, Reloc, Ext, Symbol, Debug, Advisory, End, IsBlock}
+use Rattle.hunk_blocks.specs.Values.{BlockBody, BlockValue, Code, Reloc, IsBlock}
 use Rattle.hunk_files.specs.LoadFile.{HunkValue, LoadFileValue, standing, AreInOrder, IsHunkBlock, IsHunk, IsLoadFile, declared_longs}
 use Rattle.hunk_files.specs.LoadText.{table}
 use Rattle.hunk_files.specs.Image.{block_content, block_relocations, content, relocations, filled, image, relocated}
@@ -10,7 +10,9 @@ use Rattle.hunk_files.specs.ObjectFile.{ObjectHunk, UnitValue, ObjectFileValue, 
 use Rattle.hunk_files.specs.Findings.{FindingValue, Spot, content_size, hunk_bytes, body_findings, hunk_findings, hunks_findings, unit_findings, units_findings, findings}
 use Rattle.hunk_files.specs.Strip.{is_kept, strip_blocks, strip_hunk, strip_file, strip_unit, strip_object}
 use Rattle.hunk_files.proofs.Accepted.{All-map}
-use Rattle.hunk_files.proofs.FileText.{standings}
+use Rattle.hunk_scan.specs.Standings.{BlockStanding, Beside}
+use Rattle.hunk_files.proofs.FileText.{standings, no_more}
+use Rattle.hunk_files.proofs.HunkOrder.{by_standing}
 
 -- ---- what the dropped blocks do not have
 
@@ -35,23 +37,19 @@ sum_from f none (b ∷ bs) n = by_test (sum_from f none bs) (is_kept b.body) ref
 
 no_content : (b : BlockBody) → is_kept b ≡ false → block_content b ≡ []
 no_content (Code top words) e = absurd cc
-no_content (Data top words) e = absurd cc
-no_content _ e = refl
+no_content _ e = cc
 
 no_relocations : (b : BlockBody) → is_kept b ≡ false → block_relocations b ≡ []
 no_relocations (Reloc groups) e = absurd cc
-no_relocations _ e = refl
+no_relocations _ e = cc
 
 no_size : (b : BlockBody) → is_kept b ≡ false → content_size b ≡ 0
 no_size (Code top words) e = absurd cc
-no_size (Data top words) e = absurd cc
-no_size (Bss size) e = absurd cc
-no_size _ e = refl
+no_size _ e = cc
 
 no_findings : (s : Spot) (word : ℕ) (b : BlockBody) → is_kept b ≡ false → body_findings s word b ≡ []
 no_findings s word (Reloc groups) e = absurd cc
-no_findings s word (Ext entries) e = absurd cc
-no_findings s word _ e = refl
+no_findings s word _ e = cc
 
 -- ---- a load file
 
@@ -117,29 +115,19 @@ all_kept P (b ∷ bs) h = by_test (all_kept P bs h.1) (is_kept b.body)
     by_test rest true = (h.0, rest)
     by_test rest false = rest
 
-no_more : (bs : List BlockValue) → standings bs ≡ [] → bs ≡ []
-no_more [] e = refl
-no_more (b ∷ bs) e = absurd cc
-
--- the order of the blocks from one on, whether it is kept or not
-in_order_by : (has : Bool) (w : ℕ) (b : BlockBody) (bs kept : List BlockValue) → ((h : Bool) → AreInOrder h (standings bs) → AreInOrder h (standings kept)) →
-    (bs ≡ [] → kept ≡ []) → AreInOrder has (standing b ∷ standings bs) →
-    AreInOrder has (standings (cond (is_kept b) (record { word = w; body = b } ∷ kept) kept))
-in_order_by has w (Name words) bs kept more none h = more has h
-in_order_by has w (Symbol entries) bs kept more none h = more has h
-in_order_by has w (Debug words) bs kept more none h = more has h
-in_order_by has w (Advisory words) bs kept more none h = more has h
-in_order_by false w (Code top words) bs kept more none h = more true h
-in_order_by false w (Data top words) bs kept more none h = more true h
-in_order_by false w (Bss size) bs kept more none h = more true h
-in_order_by true w (Reloc groups) bs kept more none h = more true h
-in_order_by true w (Ext entries) bs kept more none h = more true h
-in_order_by true w End bs kept more none h = ap standings (none (no_more bs h))
-in_order_by _ w _ bs kept more none h = absurd h
+dropped_beside : (b : BlockBody) → is_kept b ≡ false → standing b ≡ Beside
+dropped_beside (Code top words) e = absurd cc
+dropped_beside _ e = cc
 
 order_kept : (has : Bool) (bs : List BlockValue) → AreInOrder has (standings bs) → AreInOrder has (standings (strip_blocks bs))
 order_kept has [] h = h
-order_kept has (b ∷ bs) h = in_order_by has b.word b.body bs (strip_blocks bs) (λ k. order_kept k bs) (λ e. ap strip_blocks e) h
+order_kept has (b ∷ bs) h = by_test (λ k. order_kept k bs) (is_kept b.body) refl
+  where
+    by_test : ((k : Bool) → AreInOrder k (standings bs) → AreInOrder k (standings (strip_blocks bs))) → (k : Bool) → is_kept b.body ≡ k → AreInOrder has (standings (cond k (b ∷ strip_blocks bs) (strip_blocks bs)))
+    by_test rest true e =
+        by_standing (λ k s. AreInOrder k (s ∷ standings (strip_blocks bs))) (standings bs) rest (rest true) (rest true)
+        (λ last. ap (λ (l : List BlockValue). standings (strip_blocks l)) (no_more bs last)) has (standing b.body) h
+    by_test rest false e = rest has (subst (λ (s : BlockStanding). AreInOrder has (s ∷ standings bs)) (dropped_beside b.body e) h)
 
 hunk_kept : (hunks : ℕ) (h : HunkValue) → IsHunk hunks h → IsHunk hunks (strip_hunk h)
 hunk_kept hunks h is = record { entry = is.entry; blocks = all_kept (IsHunkBlock hunks (declared_longs h)) h.blocks is.blocks; order = order_kept false h.blocks is.order }

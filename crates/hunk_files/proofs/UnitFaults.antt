@@ -96,5 +96,3 @@ unfolding units_embed embeds_same
 expects_units us are before role e =
     subst (λ ws. Expects objects (ws ++ before) role) (units_words BeforeUnits us)
     (expects_embedded (units_from (place_after us)) objects (units_labelled BeforeUnits us) (units_embed us are) before role e)
-
--- ---- out of memory

@@ -1,5 +1,5 @@
 -- The first longword that is refused.
-use Rattle.std.specs.Prelude.{◌≡◌, ℕ, ◌+◌, ◌≤◌, ◌*◌, ◌-◌, if◌then◌else◌, Bool, true, false, List, ◌++◌, length, take, ◌⊎◌}
+use Rattle.std.specs.Prelude.{◌≡◌, ℕ, ◌≤◌, ◌*◌, ◌-◌, if◌then◌else◌, Bool, true, false, List, ◌++◌, length, take, ◌⊎◌}
 use Rattle.hunk_words.specs.Bits.{bss_word, end_word, header_word}
 use Rattle.std.specs.List.{AllByRecursion}
 use Rattle.hunk_words.specs.declared.reason.Reason.{Reason}
@@ -76,12 +76,6 @@ abbrev pub is_load_refusal : Reason → Bool
 is_load_refusal reasons.Truncated = true
 is_load_refusal reasons.OutOfMemory = true
 is_load_refusal reason = is_word_refusal reason
-
--- A whole longword of the bytes stands here.
-pub record HasLongAt (bytes : List ℕ) (at : ℕ) : Type 0 where
-  pub number : ℕ
-  pub place : at ≡ 4 * number
-  pub inside : at + 4 ≤ length bytes
 
 -- The first bytes, as many as the number says, are a load text.
 pub record HasLoadText (bytes : List ℕ) (size : ℕ) : Type 0 where

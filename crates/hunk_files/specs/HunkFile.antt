@@ -1,24 +1,18 @@
 -- What bytes are by their first longword: an object file, or a load file and whatever follows it.
-use Rattle.std.specs.Prelude.{◌≡◌, ◌⊎◌, ◌<◌, ℕ, List, length, IsTrue}
-use Rattle.hunk_words.specs.Longs.{bytes_of, longs}
+use Rattle.std.specs.Prelude.{◌≡◌, ◌⊎◌, ℕ, List, length, IsTrue}
+use Rattle.hunk_words.specs.Longs.{bytes_of}
 use Rattle.hunk_words.specs.declared.fault.Fault.{Fault}
-use Rattle.hunk_words.specs.declared.reason.Reason.{Reason}
-use Rattle.hunk_blocks.specs.Faults.{IsFrontTo}
 use Rattle.hunk_scan.specs.declared.file_kind.Sniff.{Sniff}
 use Rattle.hunk_scan.specs.declared.file_kind.Sniff.TheVariants as sniffs
-use Rattle.hunk_files.specs.Fault.{BeginsWithLoadFile, HasFault, is_load_refusal, load_files}
+use Rattle.hunk_files.specs.Fault.{BeginsWithLoadFile, HasFault, is_load_refusal}
 use Rattle.hunk_files.specs.LoadText.{text}
-use Rattle.hunk_files.specs.ObjectFault.{HasObjectFault, objects}
-use Rattle.hunk_files.specs.ObjectFile.{ObjectFileValue, IsObjectFile, is_object_refusal, object_text}
+use Rattle.hunk_files.specs.ObjectFault.{HasObjectFault}
+pub use Rattle.hunk_files.specs.ObjectFile.{AreObjectFile}
+use Rattle.hunk_files.specs.ObjectFile.{is_object_refusal, object_text}
+use Rattle.hunk_files.specs.Lacks.{LacksLoadPart, LacksObjectPart}
 use Rattle.hunk_files.specs.Strip.{strip_file, strip_object}
 use Rattle.hunk_files.specs.declared.hunk_file.HunkFile.{HunkFile}
 use Rattle.hunk_files.specs.declared.hunk_file.HunkFile.TheVariants as files
-
--- all of the bytes are the text of an object file
-pub record AreObjectFile (bytes : List ℕ) : Type 0 where
-  pub value : ObjectFileValue
-  pub is_object_file : IsObjectFile value
-  pub text_is : bytes ≡ bytes_of (object_text value)
 
 abbrev pub AreFile : List ℕ → Type 0
 AreFile bytes = BeginsWithLoadFile bytes ⊎ AreObjectFile bytes
@@ -45,21 +39,10 @@ IsRefusal kind bytes refusal = IsLoadRefusal bytes refusal
 
 -- ---- bytes for whose file memory was refused
 
--- the bytes begin with a load file, and some load file begins with the longwords up to and with
--- the one here
-abbrev pub IsLoadMemory : List ℕ → ℕ → Type 0
-IsLoadMemory bytes place = BeginsWithLoadFile bytes × IsFrontTo load_files (longs bytes) place
-
--- some object file begins with the longwords up to and with the one here, and a fault of the
--- bytes, if there is one, stands behind it
-abbrev pub IsObjectMemory : List ℕ → ℕ → Type 0
-IsObjectMemory bytes place =
-    IsFrontTo objects (longs bytes) place
-    × ((at : ℕ) (reason : Reason) → HasObjectFault bytes at reason → place < at)
-
+-- the file that they announce is there, and here a part of it ends that takes memory
 abbrev pub IsMemory : Sniff → List ℕ → ℕ → Type 0
-IsMemory sniffs.Object bytes place = IsObjectMemory bytes place
-IsMemory kind bytes place = IsLoadMemory bytes place
+IsMemory sniffs.Object bytes place = LacksObjectPart bytes place
+IsMemory kind bytes place = LacksLoadPart bytes place
 
 -- ---- the file in memory
 
@@ -68,7 +51,7 @@ abbrev pub file_bytes : HunkFile → List ℕ
 file_bytes (files.Load value rest) = bytes_of (text value)
 file_bytes (files.Object value) = bytes_of (object_text value)
 
--- without its NAME, SYMBOL, DEBUG and ADVISORY blocks
+-- without the blocks that strip drops
 abbrev pub stripped : HunkFile → HunkFile
 stripped (files.Load value rest) = files.Load (strip_file value) rest
 stripped (files.Object value) = files.Object (strip_object value)

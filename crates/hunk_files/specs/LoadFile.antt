@@ -5,7 +5,7 @@ use Rattle.hunk_words.specs.Limits.{most_hunks}
 use Rattle.hunk_words.specs.Longs.{IsLong}
 use Rattle.hunk_words.specs.Bits.{size_longs, has_both_bits}
 use Rattle.hunk_blocks.specs.declared.mode.Mode.TheVariants as modes
-use Rattle.hunk_blocks.specs.Values.{RelocGroup, BlockBody, BlockValue, Name, Code, Data, Bss, Reloc, Ext, Symbol, Debug, Advisory, End, IsBlock}
+use Rattle.hunk_blocks.specs.Values.{RelocGroup, BlockBody, BlockValue, Code, Data, Bss, Reloc, Ext, End, IsBlock}
 use Rattle.hunk_blocks.specs.Modes.{IsOfMode}
 use Rattle.hunk_scan.specs.Standings.{BlockStanding, Beside, Content, Relocating, Ending}
 
@@ -27,18 +27,15 @@ declared_longs h = size_longs h.entry.word
 abbrev pub IsTableEntry : TableEntry → Type 0
 IsTableEntry e = IsLong e.word × IsLong e.extra × (IsFalse (has_both_bits e.word) → e.extra ≡ 0)
 
--- where a block may stand in its hunk
+-- where a block may stand in its hunk; all but content, relocations, EXT and END anywhere
 abbrev pub standing : BlockBody → BlockStanding
-standing (Name words) = Beside
 standing (Code top words) = Content
 standing (Data top words) = Content
 standing (Bss size) = Content
 standing (Reloc groups) = Relocating
 standing (Ext entries) = Relocating
-standing (Symbol entries) = Beside
-standing (Debug words) = Beside
-standing (Advisory words) = Beside
 standing End = Ending
+standing _ = Beside
 
 -- One content block, relocations only after it, and END last. The flag says whether the content block came before.
 abbrev pub AreInOrder : Bool → List BlockStanding → Type 0

@@ -6,7 +6,7 @@ use Rattle.hunk_words.specs.declared.reason.Reason.TheVariants as reasons
 use Rattle.hunk_words.specs.Limits.{name_limit}
 use Rattle.hunk_words.specs.declared.block_word.Kind.{Kind}
 use Rattle.hunk_words.specs.declared.block_word.Kind.TheVariants as kinds
-use Rattle.hunk_words.specs.Bits.{has_both_bits, is_advisory, kind, entry_type}
+use Rattle.hunk_words.specs.Bits.{has_both_bits, is_advisory, is_relocation, kind, entry_type}
 use Rattle.hunk_words.specs.Longs.{longs}
 use Rattle.hunk_blocks.specs.ExtKinds.{ext_kind}
 use Rattle.hunk_blocks.specs.Values.{BlockValue, IsBlock}
@@ -80,16 +80,8 @@ refuse_object_kind (InHunk true) advisory kinds.Data = Some reasons.SecondConten
 refuse_object_kind (InHunk true) advisory kinds.Bss = Some reasons.SecondContent
 refuse_object_kind (InHunk true) advisory k = None
 refuse_object_kind place advisory kinds.Ext = Some reasons.BeforeContent
-refuse_object_kind place advisory kinds.Reloc32 = Some reasons.BeforeContent
-refuse_object_kind place advisory kinds.Reloc16 = Some reasons.BeforeContent
-refuse_object_kind place advisory kinds.Reloc8 = Some reasons.BeforeContent
-refuse_object_kind place advisory kinds.Drel32 = Some reasons.BeforeContent
-refuse_object_kind place advisory kinds.Drel16 = Some reasons.BeforeContent
-refuse_object_kind place advisory kinds.Drel8 = Some reasons.BeforeContent
-refuse_object_kind place advisory kinds.RelReloc32 = Some reasons.BeforeContent
-refuse_object_kind place advisory kinds.AbsReloc16 = Some reasons.BeforeContent
 refuse_object_kind place advisory kinds.End = Some reasons.NoContent
-refuse_object_kind place advisory k = None
+refuse_object_kind place advisory k = if is_relocation k then Some reasons.BeforeContent else None
 
 -- The test of UNIT without a flag.
 abbrev pub refuse_unit : WordPlace → Option Reason

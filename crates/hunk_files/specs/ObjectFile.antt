@@ -47,6 +47,12 @@ unit_text u = unit_header u.name ++ flat_map (flat_map block_text) u.hunks
 abbrev pub object_text : ObjectFileValue → List ℕ
 object_text o = flat_map unit_text o
 
+-- All of the bytes are the text of an object file.
+pub record AreObjectFile (bytes : List ℕ) : Type 0 where
+  pub value : ObjectFileValue
+  pub is_object_file : IsObjectFile value
+  pub text_is : bytes ≡ bytes_of (object_text value)
+
 -- The bytes are the text of no object file.
 abbrev pub IsNoObjectFile : List ℕ → Type 0
 IsNoObjectFile bytes = (o : ObjectFileValue) → IsObjectFile o → bytes ≡ bytes_of (object_text o) → ⊥

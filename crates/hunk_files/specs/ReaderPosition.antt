@@ -1,8 +1,8 @@
 -- What was read of a load file, in numbers alone: the position of its reader.
-use Rattle.std.specs.Prelude.{◌≡◌, ℕ, suc, ◌+◌, true, List, [], ◌∷◌, ◌++◌, length}
+use Rattle.std.specs.Prelude.{◌≡◌, ℕ, true, List, [], ◌∷◌, ◌++◌, length}
 use Rattle.hunk_words.specs.Bits.{size_longs}
 use Rattle.hunk_blocks.specs.Values.{BlockValue}
-use Rattle.hunk_blocks.specs.BlockSteps.{ForName, ForDebug, ForAdvisory, ForCode, ForData, ForBss, Counted, SizedCode, SizedData, Inside, AtCount, AtSize, InPayload, AtGroup, AtTarget, InOffsets, AtEntry, InName, AtValue}
+use Rattle.hunk_blocks.specs.ReaderPhase.{phase_of}
 use Rattle.hunk_scan.specs.declared.phase.OpenHunk as numbers
 use Rattle.hunk_blocks.specs.declared.phase.Phase.{Phase}
 use Rattle.hunk_blocks.specs.declared.phase.Phase.TheVariants as phases
@@ -20,25 +20,6 @@ open_of o = record { hunks = o.hunks; ahead = length o.ahead; has_content = o.ha
 abbrev pub block_phase : List BlockValue → Phase
 block_phase [] = phases.FirstBlock
 block_phase (b ∷ blocks) = phases.BlockWord
-
-abbrev pub phase_of : Inside → Phase
-phase_of (AtCount ForName) = phases.NameCount
-phase_of (AtCount ForDebug) = phases.LongCount
-phase_of (AtCount ForAdvisory) = phases.LongCount
-phase_of (AtSize ForCode) = phases.ContentSize
-phase_of (AtSize ForData) = phases.ContentSize
-phase_of (AtSize ForBss) = phases.BssSize
-phase_of (InPayload (Counted c) done owed) = phases.Payload owed
-phase_of (InPayload (SizedCode top) done owed) = phases.Content (length done + suc owed) owed
-phase_of (InPayload (SizedData top) done owed) = phases.Content (length done + suc owed) owed
-phase_of (AtGroup groups) = phases.GroupCount
-phase_of (AtTarget groups owed) = phases.Target owed
-phase_of (InOffsets groups target done owed) = phases.Offset target owed
-phase_of (AtEntry es) = phases.EntryWord
-phase_of (InName es word done owed) = phases.Symbol (suc owed)
-phase_of (AtValue es word name) = phases.Symbol 0
--- nothing is external in a load file
-phase_of _ = phases.BlockWord
 
 -- The position behind what was read.
 abbrev pub position_of : Next → Position

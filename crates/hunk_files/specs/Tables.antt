@@ -1,13 +1,12 @@
 -- The rows and hunks of a load file, as they are read from bytes that begin with one.
-use Rattle.std.specs.Prelude.{◌≡◌, ℕ, ◌-◌, ◌≤◌, List, [], ◌∷◌, ◌++◌, length, map, drop}
+use Rattle.std.specs.Prelude.{◌≡◌, ℕ, ◌-◌, ◌*◌, List, [], ◌∷◌, ◌++◌, length, map}
 use Rattle.std.specs.List.{flat_map}
-use Rattle.hunk_words.specs.Longs.{bytes_of}
 use Rattle.hunk_words.specs.declared.size_word.SizeWord.{SizeWord}
 use Rattle.hunk_blocks.specs.Faults.{words}
 use Rattle.hunk_files.specs.declared.row.Row.{Row}
 use Rattle.hunk_files.specs.declared.load.hunk.LoadHunk.{LoadHunk}
 use Rattle.hunk_files.specs.LoadFile.{TableEntry, HunkValue, LoadFileValue}
-use Rattle.hunk_files.specs.LoadText.{entry_labelled, table}
+use Rattle.hunk_files.specs.LoadText.{entry_labelled, header_labelled, table}
 use Rattle.hunk_files.specs.Fault.{BeginsWithLoadFile}
 use Rattle.hunk_files.specs.Hunks.{block_texts}
 
@@ -24,16 +23,22 @@ hunk_of h = record { entry = row_entry h.row; blocks = h.blocks.items }
 abbrev pub hunk_texts : LoadFileValue → List ℕ
 hunk_texts v = flat_map (λ h. block_texts h.blocks) v
 
--- These are the rows of the file's table, and the hunks stand from this byte on.
+-- what the header has for a hunk
+abbrev pub entry_text : TableEntry → List ℕ
+entry_text e = words (entry_labelled e)
+
+abbrev pub header_text : LoadFileValue → List ℕ
+header_text v = words (header_labelled (table v))
+
+-- These are the rows of the file's table, and its header ends at this byte.
 pub record IsTable (bytes : List ℕ) (file : BeginsWithLoadFile bytes) (rows : List Row) (end : ℕ) : Type 0 where
   pub rows_are : map row_entry rows ≡ table file.value
-  pub inside : end ≤ length bytes
-  pub hunks_follow : drop end bytes ≡ bytes_of (hunk_texts file.value) ++ file.rest
+  pub place : end ≡ 4 * length (header_text file.value)
 
 -- ---- the text of hunks in memory
 
 abbrev pub row_words : Row → List ℕ
-row_words r = words (entry_labelled (row_entry r))
+row_words r = entry_text (row_entry r)
 
 abbrev pub row_texts : List LoadHunk → List ℕ
 row_texts hunks = flat_map (λ h. row_words h.row) hunks

@@ -5,10 +5,10 @@ ghost use Rattle.hunk_words.specs.Puts.{PutsText};
 ghost use Rattle.hunk_words.specs.declared.reason.Reason.TheVariants as reasons;
 ghost use Rattle.hunk_scan.specs.FileKind.{sniffed};
 ghost use Rattle.hunk_files.specs.Fault.{BeginsWithLoadFile};
-ghost use Rattle.hunk_files.specs.HunkFile.{AreFile, AreObjectFile, IsFileOf, IsLoadMemory};
-ghost use Rattle.hunk_files.specs.HunkFile.{IsLoadRefusal, IsMemory, IsObjectMemory};
-ghost use Rattle.hunk_files.specs.HunkFile.{IsObjectRefusal, IsRefusal, bytes_behind, file_bytes};
-ghost use Rattle.hunk_files.specs.HunkFile.{stripped};
+ghost use Rattle.hunk_files.specs.HunkFile.{AreFile, AreObjectFile, IsFileOf, IsLoadRefusal};
+ghost use Rattle.hunk_files.specs.HunkFile.{IsMemory, IsObjectRefusal, IsRefusal, bytes_behind};
+ghost use Rattle.hunk_files.specs.HunkFile.{file_bytes, stripped};
+ghost use Rattle.hunk_files.specs.Lacks.{LacksLoadPart, LacksObjectPart};
 
 use crate::load::LoadFile;
 use crate::object::ObjectFile;
@@ -108,7 +108,7 @@ fn decode_load(alloc: Global, bytes: &[u8]) -> Result<HunkFile<'_>, FileFault>
     ensures refused { IfErr result (λ fault. fault.reason ≢ reasons.OutOfMemory →
         IsLoadRefusal bytes.entry.now fault) }
     ensures memory { IfErr result (λ fault. fault.reason ≡ reasons.OutOfMemory →
-        IsLoadMemory bytes.entry.now fault.place) }
+        LacksLoadPart bytes.entry.now fault.place) }
 {
     let (file, size) = LoadFile::decode(alloc, bytes)?;
     let rest = (bytes.len() - size) as u64;
@@ -123,7 +123,7 @@ fn decode_object(alloc: Global, bytes: &[u8]) -> Result<HunkFile<'_>, FileFault>
     ensures refused { IfErr result (λ fault. fault.reason ≢ reasons.OutOfMemory →
         IsObjectRefusal bytes.entry.now fault) }
     ensures memory { IfErr result (λ fault. fault.reason ≡ reasons.OutOfMemory →
-        IsObjectMemory bytes.entry.now fault.place) }
+        LacksObjectPart bytes.entry.now fault.place) }
 {
     let file = ObjectFile::decode(alloc, bytes)?;
     Ok(HunkFile::Object(file))

@@ -125,5 +125,5 @@ pub fn machines()
         GoesAlong refuse_in_load refuse load.step positions.FirstLong (labelled v) positions.Done }
     ensures object { (o : ObjectFileValue) → IsObjectFile o →
         GoesAlong refuse_in_object refuse_object object.step
-            (places.Word BeforeUnits) (units_labelled BeforeUnits o) (places.Word BetweenHunks) }
+        (places.Word BeforeUnits) (units_labelled BeforeUnits o) (places.Word BetweenHunks) }
 {}

@@ -1,6 +1,7 @@
 //! Load files and object files of the Amiga, read from bytes and written to them.
 #![tactic(auto)]
 
+mod blocks;
 mod hunk_file;
 pub mod laws;
 mod load;

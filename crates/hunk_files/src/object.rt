@@ -1,14 +1,13 @@
 //! Object files.
 
+mod building;
 mod check;
 mod file;
 mod findings;
 mod position;
-mod refusal;
 mod strip;
 mod taker;
 mod unit;
-mod walk;
 mod whole;
 mod writing;
 

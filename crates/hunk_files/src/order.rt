@@ -6,8 +6,7 @@ ghost use Rattle.hunk_files.specs.Strip.{is_kept};
 
 use hunk_blocks::{Block, Body};
 
-/// Whether the block says what the hunk is: all blocks but NAME, SYMBOL, DEBUG and ADVISORY, which
-/// may stand anywhere in a hunk.
+/// Whether the block says what the hunk is, rather than names, describes or comments it.
 pub(crate) fn is_kept(block: &Block<'_>) -> bool
     ensures { result ≡ is_kept block.now.body }
 {

@@ -1,5 +1,5 @@
 -- The lines of a block are not much longer than its text.
-use Rattle.std.proofs.Common.{◌≡◌, ℕ, ◌+◌, ◌*◌, ◌%◌, ◌^◌, ◌<◌, ◌≤◌, List, [], ◌∷◌, length, ap, arith, length-append, Option, Some, None}
+use Rattle.std.proofs.Common.{◌≡◌, ℕ, suc, ◌+◌, ◌*◌, ◌%◌, ◌^◌, ◌<◌, ◌≤◌, List, [], ◌∷◌, ◌++◌, length, ap, arith, length-append, Option, Some, None}
 use Rattle.std.specs.Prelude.{codes, decimal}
 use Rattle.std.specs.List.{AllByRecursion, flat_map}
 use Rattle.std.proofs.lemmas.List.{length-map}
@@ -8,9 +8,9 @@ use Rattle.hunk_blocks.specs.declared.ext_kind.ExtKind.{ExtKind}
 use Rattle.hunk_blocks.specs.declared.ext_shape.ExtShape.{ExtShape}
 use Rattle.hunk_blocks.specs.declared.ext_shape.ExtShape.TheVariants.{Definition, Common, References}
 use Rattle.hunk_blocks.specs.ExtKinds.{ext_kind, ext_name, ext_shape, shape_of_kind}
-use Rattle.hunk_blocks.specs.Values.{BlockBody, BlockValue, ExtEntry, RelocGroup, SymbolEntry, Name, Code, Data, Bss, Reloc, Ext, Symbol, Debug, Advisory, End, FitsShape, FitsWord, IsBlock, IsExtEntry, IsGroup, IsSymbolEntry, ext_type}
-use Rattle.hunk_blocks.specs.Parts.{Part, EntryName, EntryValue, EntryWord, ExtWord, GroupCount, Offset, Payload, block_parts, body_parts, each, ext_parts, ext_parts_by, group_parts, symbol_parts}
-use Rattle.hunk_listing.specs.BlockLines.{advisory_line, block_lines, body_lines, common_line, count_line, definition_line, end_line, entry_line, entry_lines, group_lines, head, kind_lines, line_by, name_line, offset_count, offset_line, reference_line, relocation_line, size_line, symbol_line}
+use Rattle.hunk_blocks.specs.Values.{BlockBody, BlockValue, ExtEntry, RelocGroup, SymbolEntry, Name, Bss, Reloc, Ext, Symbol, Advisory, End, FitsShape, FitsWord, IsBlock, IsExtEntry, IsGroup, IsSymbolEntry, ext_type}
+use Rattle.hunk_blocks.specs.Parts.{Part, EntryName, EntryValue, Offset, Payload, block_parts, body_parts, each, ext_parts, ext_parts_by, group_parts, symbol_parts}
+use Rattle.hunk_listing.specs.BlockLines.{advisory_line, block_lines, body_lines, common_line, count_line, definition_line, end_line, entry_line, entry_lines, group_lines, head, kind_lines, line_by, name_line, offset_line, reference_line, relocation_line, size_line, symbol_line}
 use Rattle.hunk_listing.specs.BlockNames.{memory_flags}
 use Rattle.hunk_listing.specs.Printed.{hexadecimal, name_text}
 use Rattle.hunk_listing.proofs.BlockLaws.{offsets_within}
@@ -169,45 +169,41 @@ symbol_short s is few =
 
 -- ---- blocks
 
+-- the line of a block that is a longword and a payload
+payload_short : (word : ℕ) (words : List ℕ) → suc (length (each Payload words)) < 2 ^ 60 →
+    length (size_line word (4 * length words)) ≤ 96 + 96 * suc (length (each Payload words))
+payload_short word words few =
+    let same = length-map {B = Part × ℕ} words (λ w. (Payload, w)) in
+    omega (arith, length-size_line word (4 * length words) (omega (arith, few, same)))
+
+-- the lines of a block that is a list, up to its last longword
+listed_short : {A : Type 0} (Is : A → Type 0) (lines : A → List ℕ) (text : A → List (Part × ℕ)) →
+    ((x : A) → Is x → length (text x) < 2 ^ 60 → length (lines x) ≤ 96 * length (text x)) →
+    (word count : ℕ) (last : Part × ℕ) (xs : List A) → AllByRecursion Is xs → count ≤ length (flat_map text xs) →
+    length (flat_map text xs ++ last ∷ []) < 2 ^ 60 →
+    length (count_line word count ++ flat_map lines xs) ≤ 96 + 96 * length (flat_map text xs ++ last ∷ [])
+listed_short Is lines text short word count last xs are most few =
+    let all = length-append (flat_map text xs) (last ∷ []) in
+    omega (
+      arith,
+      all,
+      length-append (count_line word count) (flat_map lines xs),
+      length-count_line word count (omega (arith, few, all, most)),
+      lists_short Is lines text short xs are (omega (arith, few, all)),
+    )
+
 body_short : (word : ℕ) (body : BlockBody) → FitsWord word body → length (body_parts body) < 2 ^ 60 →
     length (body_lines word body) ≤ 96 + 96 * length (body_parts body)
 body_short word (Name words) is few = omega (arith, length-name_line word words, length-map {B = Part × ℕ} words (λ w. (Payload, w)))
-body_short word (Code top words) is few = omega (arith, length-size_line word (4 * length words) (omega (arith, is.2.0)))
-body_short word (Data top words) is few = omega (arith, length-size_line word (4 * length words) (omega (arith, is.2.0)))
 body_short word (Bss size) is few = omega (arith, length-size_line word (4 * size_longs size) (omega arith))
-body_short word (Reloc groups) is few =
-    let text = length-append (flat_map group_parts groups) ((GroupCount, 0) ∷ []) in
-    let most = offsets_within groups in
-    omega (
-      arith,
-      text,
-      length-append (count_line word (offset_count groups)) (flat_map group_lines groups),
-      length-count_line word (offset_count groups) (omega (arith, few, text, most)),
-      lists_short IsGroup group_lines group_parts group_short groups is.1 (omega (arith, few, text)),
-    )
+body_short word (Reloc groups) is few = listed_short IsGroup group_lines group_parts group_short word _ _ groups is.1 (offsets_within groups) few
 body_short word (Ext entries) is few =
-    let text = length-append (flat_map ext_parts entries) ((ExtWord, 0) ∷ []) in
-    let most = count_within ext_parts (λ e. omega arith) entries in
-    omega (
-      arith,
-      text,
-      length-append (count_line word (length entries)) (flat_map entry_lines entries),
-      length-count_line word (length entries) (omega (arith, few, text, most)),
-      lists_short IsExtEntry entry_lines ext_parts entry_short entries is.1 (omega (arith, few, text)),
-    )
+    listed_short IsExtEntry entry_lines ext_parts entry_short word _ _ entries is.1 (count_within ext_parts (λ e. omega arith) entries) few
 body_short word (Symbol entries) is few =
-    let text = length-append (flat_map symbol_parts entries) ((EntryWord, 0) ∷ []) in
-    let most = count_within symbol_parts (λ s. omega arith) entries in
-    omega (
-      arith,
-      text,
-      length-append (count_line word (length entries)) (flat_map symbol_line entries),
-      length-count_line word (length entries) (omega (arith, few, text, most)),
-      lists_short IsSymbolEntry symbol_line symbol_parts symbol_short entries is.1 (omega (arith, few, text)),
-    )
-body_short word (Debug words) is few = omega (arith, length-size_line word (4 * length words) (omega (arith, is.1.0)))
+    listed_short IsSymbolEntry symbol_line symbol_parts symbol_short word _ _ entries is.1 (count_within symbol_parts (λ s. omega arith) entries) few
 body_short word (Advisory words) is few = omega (arith, length-advisory_line word (4 * length words) (omega (arith, is.2.0)))
 body_short word End is few = omega (arith, length-end_line word)
+body_short word _ is few = payload_short word _ few
 
 pub block_short : (b : BlockValue) → IsBlock b → length (block_parts b) < 2 ^ 60 → length (block_lines b) ≤ 96 * length (block_parts b)
 block_short b is few = omega (arith, body_short b.word b.body is.body (omega (arith, few)))

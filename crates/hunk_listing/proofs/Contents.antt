@@ -2,7 +2,7 @@
 use Rattle.std.proofs.Common.{◌≡◌, ℕ, ◌+◌, ◌<◌, ◌≤◌, true, false, List, [], ◌∷◌, length, map, drop, get_or, refl, sym, ap, subst, ◌∙◌, arith}
 use Rattle.std.proofs.lemmas.List.{drop_all, drop_more}
 use Rattle.std.proofs.lemmas.List.Sums.{sum_by-cons}
-use Rattle.hunk_blocks.specs.Values.{BlockBody, BlockValue, Name, Code, Data, Bss, Reloc, Ext, Symbol, Debug, Advisory, End}
+use Rattle.hunk_blocks.specs.Values.{BlockBody, BlockValue, Name}
 use Rattle.hunk_files.specs.LoadFile.{AreInOrder, standing}
 use Rattle.hunk_scan.specs.Standings.{BlockStanding, Beside, Content, Relocating, Ending, is_content}
 use Rattle.hunk_files.specs.ObjectFile.{ObjectHunk}
@@ -20,15 +20,7 @@ bytes-cons b blocks = omega (arith, sum_by-cons (λ (b : BlockValue). content_si
 
 beside_content : (body : BlockBody) → is_content (standing body) ≡ false → content_size body ≡ 0
 beside_content (Name words) other = refl
-beside_content (Code top words) other = absurd cc
-beside_content (Data top words) other = absurd cc
-beside_content (Bss size) other = absurd cc
-beside_content (Reloc groups) other = refl
-beside_content (Ext entries) other = refl
-beside_content (Symbol entries) other = refl
-beside_content (Debug words) other = refl
-beside_content (Advisory words) other = refl
-beside_content End other = refl
+beside_content _ other = cc
 
 after_content : (s : BlockStanding) (rest : List BlockStanding) → is_content s ≡ true → AreInOrder false (s ∷ rest) → AreInOrder true rest
 after_content Content rest is order = order

@@ -5,7 +5,7 @@ use Rattle.std.specs.List.{AllByRecursion, flat_map}
 use Rattle.std.proofs.lemmas.List.{length-map}
 use Rattle.std.proofs.lemmas.List.Sums.{sum_by-cons}
 use Rattle.hunk_words.specs.Bits.{memory_of, size_longs}
-use Rattle.hunk_blocks.specs.Values.{BlockBody, BlockValue, Name, Code, Data, Bss, Reloc, Ext, Symbol, Debug, Advisory, End, FitsWord, IsBlock}
+use Rattle.hunk_blocks.specs.Values.{BlockBody, BlockValue, Code, Data, FitsWord, IsBlock}
 use Rattle.hunk_blocks.specs.Parts.{Part, block_parts, block_text}
 use Rattle.hunk_scan.specs.Roles.{InBlock, Place, Role}
 use Rattle.hunk_scan.specs.Standings.{is_content}
@@ -128,16 +128,9 @@ length-object_hunk_line number bytes fits small =
     (omega (arith, length-number number (omega (arith, fits)), length-number bytes small))
 
 content_limit : (word : ℕ) (body : BlockBody) → FitsWord word body → content_size body < 2 ^ 32
-content_limit word (Name words) is = omega arith
 content_limit word (Code top words) is = omega (arith, is.2.0)
 content_limit word (Data top words) is = omega (arith, is.2.0)
-content_limit word (Bss size) is = omega arith
-content_limit word (Reloc groups) is = omega arith
-content_limit word (Ext entries) is = omega arith
-content_limit word (Symbol entries) is = omega arith
-content_limit word (Debug words) is = omega arith
-content_limit word (Advisory words) is = omega arith
-content_limit word End is = omega arith
+content_limit word _ is = omega arith
 
 hunk_bytes_limit : (h : ObjectHunk) → AllByRecursion IsBlock h → hunk_bytes h ≤ 2 ^ 32 * length h
 hunk_bytes_limit [] are = omega arith

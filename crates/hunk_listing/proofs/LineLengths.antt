@@ -74,29 +74,7 @@ length-name name = omega (arith, length-plain (before_zero (bytes_of name)), len
 
 length-kind : (k : Kind) → length (kind_name k) ≤ 12
 length-kind kinds.Unit = omega arith
-length-kind kinds.Name = omega arith
-length-kind kinds.Code = omega arith
-length-kind kinds.Data = omega arith
-length-kind kinds.Bss = omega arith
-length-kind kinds.Reloc32 = omega arith
-length-kind kinds.Reloc16 = omega arith
-length-kind kinds.Reloc8 = omega arith
-length-kind kinds.Ext = omega arith
-length-kind kinds.Symbol = omega arith
-length-kind kinds.Debug = omega arith
-length-kind kinds.End = omega arith
-length-kind kinds.Header = omega arith
-length-kind kinds.Overlay = omega arith
-length-kind kinds.Break = omega arith
-length-kind kinds.Drel32 = omega arith
-length-kind kinds.Drel16 = omega arith
-length-kind kinds.Drel8 = omega arith
-length-kind kinds.Lib = omega arith
-length-kind kinds.Index = omega arith
-length-kind kinds.Reloc32Short = omega arith
-length-kind kinds.RelReloc32 = omega arith
-length-kind kinds.AbsReloc16 = omega arith
-length-kind (kinds.Unknown number) = omega arith
+length-kind _ = omega arith
 
 pub length-type : (kind : ExtKind) → length (ext_name kind) ≤ 9
 length-type Symb = omega arith

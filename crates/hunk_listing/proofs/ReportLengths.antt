@@ -6,7 +6,7 @@ use Rattle.std.proofs.lemmas.List.{length-map}
 use Rattle.std.proofs.lemmas.Grind.{flat_map-append}
 use Rattle.hunk_words.specs.Bits.{kind}
 use Rattle.hunk_blocks.specs.ExtKinds.{ext_shape}
-use Rattle.hunk_blocks.specs.Values.{BlockBody, ExtEntry, RelocGroup, Name, Code, Data, Bss, Reloc, Ext, Symbol, Debug, Advisory, End, FitsWord, IsBlock, IsExtEntry, ext_type}
+use Rattle.hunk_blocks.specs.Values.{BlockBody, ExtEntry, RelocGroup, Reloc, Ext, FitsWord, IsBlock, IsExtEntry, ext_type}
 use Rattle.hunk_blocks.specs.Parts.{ExtWord, GroupCount, Offset, Part, block_parts, block_text, body_parts, ext_parts, group_parts}
 use Rattle.hunk_files.specs.declared.object.check.Finding.{Finding}
 use Rattle.hunk_files.specs.declared.object.check.FindingKind.{FindingKind}
@@ -103,14 +103,7 @@ entries_short s (e ∷ entries) are fits =
 body_short : (s : _) (word : ℕ) (body : BlockBody) → FitsWord word body → Fits (finding s BadTarget 0) → length (lines (body_findings s word body)) ≤ 192 * length (body_parts body)
 body_short s word (Reloc groups) is fits = omega (arith, length-append (flat_map group_parts groups) ((GroupCount, 0) ∷ []), groups_short s (relocation_width (kind word)) groups fits)
 body_short s word (Ext entries) is fits = omega (arith, length-append (flat_map ext_parts entries) ((ExtWord, 0) ∷ []), entries_short s entries is.1 fits)
-body_short s word (Name words) is fits = omega arith
-body_short s word (Code top words) is fits = omega arith
-body_short s word (Data top words) is fits = omega arith
-body_short s word (Bss size) is fits = omega arith
-body_short s word (Symbol entries) is fits = omega arith
-body_short s word (Debug words) is fits = omega arith
-body_short s word (Advisory words) is fits = omega arith
-body_short s word End is fits = omega arith
+body_short s word _ is fits = omega arith
 
 hunk_short : (s : _) (h : ObjectHunk) → AllByRecursion IsBlock h → Fits (finding s BadTarget 0) → length (lines (hunk_findings s h)) ≤ 192 * length (flat_map block_parts h)
 hunk_short s [] are fits = omega arith

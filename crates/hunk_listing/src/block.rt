@@ -4,8 +4,7 @@ ghost use Rattle.std.specs.Prelude.{codes, decimal};
 ghost use Rattle.hunk_words.specs.Prints.{Prints};
 ghost use Rattle.hunk_words.specs.Longs.{longs};
 ghost use Rattle.hunk_blocks.specs.Values.{Ext, Reloc, Symbol};
-ghost use Rattle.hunk_blocks.specs.Views.{body_of, entry_of, group_of, symbol_of};
-ghost use Rattle.hunk_files.specs.Findings.{content_size};
+ghost use Rattle.hunk_blocks.specs.Views.{entry_of, group_of, symbol_of};
 ghost use Rattle.hunk_listing.specs.BlockLines.{advisory_line, block_lines, body_lines, count_line};
 ghost use Rattle.hunk_listing.specs.BlockLines.{end_line, group_lines, head, name_line};
 ghost use Rattle.hunk_listing.specs.BlockLines.{offset_count, size_line, symbol_line};
@@ -26,13 +25,13 @@ pub(crate) fn print_block<W: Sink>(page: &mut Printer<'_, W>, block: &Block<'_>)
     let _size = block.encoded_len();
     match block.body() {
         Body::Name(name) => print_name_line(page, word, name),
-        Body::Code { top: _, payload: _ } => print_content_size(page, word, block.body()),
-        Body::Data { top: _, payload: _ } => print_content_size(page, word, block.body()),
-        Body::Bss { size: _ } => print_content_size(page, word, block.body()),
+        Body::Code { payload, .. } | Body::Data { payload, .. } | Body::Debug(payload) => {
+            print_size(page, word, payload.byte_count())
+        }
+        Body::Bss { .. } => print_size(page, word, block.body().content_bytes().unwrap_or(0)),
         Body::Reloc(groups) => print_relocations(page, word, groups),
         Body::Ext(entries) => print_entries(page, word, entries),
         Body::Symbol(symbols) => print_symbols(page, word, symbols),
-        Body::Debug(payload) => print_size(page, word, payload.byte_count()),
         Body::End => print_end(page, word),
         Body::Advisory(payload) => print_advisory(page, word, payload),
     }
@@ -70,13 +69,6 @@ fn print_size<W: Sink>(page: &mut Printer<'_, W>, word: BlockWord, size: u64)
     line.put_decimal(size);
     line.put(b" bytes\n");
     line.print(page);
-}
-
-/// The line of a content block.
-fn print_content_size<W: Sink>(page: &mut Printer<'_, W>, word: BlockWord, body: &Body<'_>)
-    ensures { Prints page.old page.new (size_line word (content_size (body_of body.now))) }
-{
-    print_size(page, word, body.content_bytes().unwrap_or(0));
 }
 
 #[tactic(auto, unfolding(crate::specs::BlockLines::count_line))]

@@ -5,7 +5,7 @@ use Rattle.hunk_words.specs.declared.block_word.Kind.{Kind}
 use Rattle.hunk_words.specs.declared.block_word.Kind.TheVariants as kinds
 use Rattle.hunk_words.specs.declared.reason.Reason.{Reason}
 use Rattle.hunk_words.specs.declared.reason.Reason.TheVariants as reasons
-use Rattle.hunk_words.specs.Bits.{size_longs, has_both_bits, is_advisory, kind, header_word, unit_word, library_word}
+use Rattle.hunk_words.specs.Bits.{size_longs, has_both_bits, is_advisory, is_relocation, kind, header_word, unit_word, library_word}
 use Rattle.hunk_blocks.specs.Parts.{Part, Part as parts}
 
 -- What is known of the file and the hunk where a longword of a block stands: the number of hunks, the
@@ -36,22 +36,14 @@ refuse_kind has_content advisory kinds.Lib = Some reasons.Library
 refuse_kind has_content advisory kinds.Index = Some reasons.Library
 refuse_kind has_content advisory kinds.Header = Some reasons.Misplaced
 refuse_kind has_content advisory kinds.Unit = Some reasons.Misplaced
-refuse_kind has_content advisory kinds.Reloc16 = Some reasons.NotInLoadFile
-refuse_kind has_content advisory kinds.Reloc8 = Some reasons.NotInLoadFile
 refuse_kind has_content advisory kinds.Ext = Some reasons.NotInLoadFile
-refuse_kind has_content advisory kinds.Drel16 = Some reasons.NotInLoadFile
-refuse_kind has_content advisory kinds.Drel8 = Some reasons.NotInLoadFile
-refuse_kind has_content advisory kinds.RelReloc32 = Some reasons.NotInLoadFile
-refuse_kind has_content advisory kinds.AbsReloc16 = Some reasons.NotInLoadFile
 refuse_kind has_content advisory (kinds.Unknown n) = if advisory then None else Some reasons.UnknownBlock
 refuse_kind has_content advisory kinds.Code = if has_content then Some reasons.SecondContent else None
 refuse_kind has_content advisory kinds.Data = if has_content then Some reasons.SecondContent else None
 refuse_kind has_content advisory kinds.Bss = if has_content then Some reasons.SecondContent else None
 refuse_kind has_content advisory kinds.Reloc32 = if has_content then None else Some reasons.BeforeContent
 refuse_kind has_content advisory kinds.End = if has_content then None else Some reasons.NoContent
-refuse_kind has_content advisory kinds.Name = None
-refuse_kind has_content advisory kinds.Symbol = None
-refuse_kind has_content advisory kinds.Debug = None
+refuse_kind has_content advisory k = if is_relocation k then Some reasons.NotInLoadFile else None
 
 -- The tests of a block word.
 abbrev pub refuse_word : Bool → ℕ → Option Reason

@@ -1,5 +1,6 @@
 -- Where a block may stand in its hunk.
-use Rattle.std.specs.Prelude.{Bool, true, false, Option, Some, None}
+use Rattle.std.specs.Prelude.{Bool, true, false, if◌then◌else◌, Option, Some, None}
+use Rattle.hunk_words.specs.Bits.{is_relocation}
 use Rattle.hunk_words.specs.declared.block_word.Kind.{Kind}
 use Rattle.hunk_words.specs.declared.block_word.Kind.TheVariants as kinds
 use Rattle.hunk_words.specs.declared.reason.Reason.{Reason}
@@ -26,16 +27,8 @@ standing_of_kind kinds.Code = Content
 standing_of_kind kinds.Data = Content
 standing_of_kind kinds.Bss = Content
 standing_of_kind kinds.Ext = Relocating
-standing_of_kind kinds.Reloc32 = Relocating
-standing_of_kind kinds.Reloc16 = Relocating
-standing_of_kind kinds.Reloc8 = Relocating
-standing_of_kind kinds.Drel32 = Relocating
-standing_of_kind kinds.Drel16 = Relocating
-standing_of_kind kinds.Drel8 = Relocating
-standing_of_kind kinds.RelReloc32 = Relocating
-standing_of_kind kinds.AbsReloc16 = Relocating
 standing_of_kind kinds.End = Ending
-standing_of_kind _ = Beside
+standing_of_kind k = if is_relocation k then Relocating else Beside
 
 -- The test of a block's place. The flag says whether the hunk has its content block.
 abbrev pub refuse_standing : Bool → BlockStanding → Option Reason

@@ -157,6 +157,7 @@ impl Position {
 
     /// The least number of longwords up to the end of the header, or behind it up to the end of the
     /// file.
+    #[inline(always)]
     pub fn least_longs(self) -> u64
         ensures value { result ≡ least_longs self }
         ensures positive { is_done self ≡ false → 0 < result }

@@ -14,17 +14,9 @@ pub fn refuse_place(kind: Kind, has_content: bool) -> Option<Reason>
 {
     match kind {
         Kind::Code | Kind::Data | Kind::Bss if has_content => Some(Reason::SecondContent),
-        Kind::Ext
-        | Kind::Reloc32
-        | Kind::Reloc16
-        | Kind::Reloc8
-        | Kind::Drel32
-        | Kind::Drel16
-        | Kind::Drel8
-        | Kind::RelReloc32
-        | Kind::AbsReloc16
-            if !has_content => { Some(Reason::BeforeContent) }
+        Kind::Ext if !has_content => Some(Reason::BeforeContent),
         Kind::End if !has_content => Some(Reason::NoContent),
+        kind if !has_content && kind.is_relocation() => Some(Reason::BeforeContent),
         _ => None,
     }
 }

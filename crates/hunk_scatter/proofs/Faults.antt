@@ -1,18 +1,14 @@
 -- Faults of bytes that go on.
-use Rattle.std.proofs.Common.{◌≡◌, ℕ, ◌+◌, ◌-◌, ◌≤◌, List, [], ◌∷◌, ◌++◌, length, take, drop, length-drop, Ok, Err, arith, refl, sym, ap, ap₂, subst, ◌∙◌, append_assoc, append-nil, take-append-drop, ◌⊎◌, inl, inr}
+use Rattle.std.proofs.Common.{◌≡◌, ℕ, ◌+◌, ◌-◌, ◌≤◌, List, [], ◌∷◌, ◌++◌, length, take, drop, length-drop, arith, refl, sym, ap, ap₂, subst, ◌∙◌, append_assoc, append-nil, take-append-drop, ◌⊎◌, inl, inr}
 use Rattle.std.specs.Int.{w32, from_be_bytes}
 use Rattle.std.proofs.lemmas.List.{take_rest}
 use Rattle.std.proofs.Math.Seq.{take-add}
-use Rattle.hunk_words.specs.declared.fault.Fault.{Fault}
 use Rattle.hunk_words.specs.declared.reason.Reason.{Reason}
 use Rattle.hunk_words.specs.Longs.{longs, bytes_of}
 use Rattle.hunk_files.specs.Fault.{HasRefusal}
 use Rattle.hunk_files.specs.LoadText.{text}
 use Rattle.hunk_files.proofs.Scan.{no_fault}
-use Rattle.hunk_files.specs.declared.row.Row.{Row}
-use Rattle.hunk_scatter.specs.BodyLoaderFields.{FeedsPiece}
-use Rattle.hunk_scatter.specs.LoaderValues.{BodyLoaderValue, IsWholeFile, MayGoOnInFile}
-use Rattle.hunk_scatter.specs.LoadOutcomes.{StopsInBody}
+use Rattle.hunk_scatter.specs.LoaderValues.{MayGoOnInFile}
 
 pub longs-more : (bytes more : List ℕ) → (rest : List ℕ) × (longs (bytes ++ more) ≡ longs bytes ++ rest)
 longs-more [] more = (longs more, refl)
@@ -59,10 +55,6 @@ pub fed_rest : (fed piece front : List ℕ) (n : ℕ) → front ≡ fed ++ take 
 fed_rest fed piece front n e =
     ap₂ (λ (bs rest : List ℕ). bs ++ rest) e (take_rest piece n) ∙ append_assoc fed (take n piece) (drop n piece) ∙ ap (λ (xs : List ℕ). fed ++ xs) (take-append-drop n piece)
 
--- What stops in the rest of a piece stops in the piece.
-pub stopped_rest : (fed piece front : List ℕ) (n : ℕ) (f : Fault) → front ≡ fed ++ take n piece → StopsInBody (front ++ take (length piece - n) (drop n piece)) f → StopsInBody (fed ++ piece) f
-stopped_rest fed piece front n f e h = subst (λ (bs : List ℕ). StopsInBody bs f) (fed_rest fed piece front n e) h
-
 -- So much of a piece, and so much of its rest.
 pub fed_on : (fed piece front after : List ℕ) (n m : ℕ) → front ≡ fed ++ take n piece → after ≡ front ++ take m (take (length piece - n) (drop n piece)) → after ≡ fed ++ take (n + m) piece
 fed_on fed piece front after n m e d =
@@ -74,45 +66,3 @@ fed_on fed piece front after n m e d =
 -- A part of the rest of a piece ends within it.
 pub rest_within : (piece : List ℕ) (n m : ℕ) → n ≤ length piece → m ≤ length (take (length piece - n) (drop n piece)) → n + m ≤ length piece
 rest_within piece n m le more = omega (arith, le, more, ap length (take_rest piece n), length-drop n piece)
-
--- ---- a piece in parts
-
--- Where the file is whole, no byte of a piece is taken, and it stays whole.
-whole_stays : {E : Type 0} (old new : BodyLoaderValue) (piece : List ℕ) (n : ℕ) → FeedsPiece {E = E} old new piece (Ok n) → IsWholeFile old.rows old.fed
-    → (n ≡ 0) × IsWholeFile new.rows new.fed
-whole_stays old new piece n feeds w =
-    let none : n ≡ 0 = (let same : Ok n ≡ Ok 0 = feeds.complete w in cc) in
-    let fed : new.fed ≡ old.fed = feeds.taken.1 ∙ ap (λ (k : ℕ). old.fed ++ take k piece) none ∙ append-nil old.fed in
-    (none, subst (λ (bs : List ℕ). IsWholeFile new.rows bs) (sym fed) (subst (λ (rows : List Row). IsWholeFile rows old.fed) (sym feeds.rows) w))
-
--- So much of a piece, and so much of its rest.
-pub feeds_on : {E F G : Type 0} (old front new : BodyLoaderValue) (piece : List ℕ) (n m : ℕ) → FeedsPiece {E = E} old front piece (Ok n)
-    → FeedsPiece {E = F} front new (take (length piece - n) (drop n piece)) (Ok m) → FeedsPiece {E = G} old new piece (Ok (n + m))
-feeds_on old front new piece n m first more = record {
-  rows = more.rows ∙ first.rows;
-  taken = (rest_within piece n m first.taken.0 more.taken.0, fed_on old.fed piece front.fed new.fed n m first.taken.1 more.taken.1);
-  goes_on = more.goes_on;
-  complete = λ w.
-      let whole = whole_stays old front piece n first w in
-      let none : m ≡ 0 = (let same : Ok m ≡ Ok 0 = more.complete whole.1 in cc) in
-      ap (λ (k : ℕ). Ok k) (omega (arith, whole.0, none));
-}
-
--- So much of a piece, and a refusal in its rest.
-pub refused_on : {E F G : Type 0} (old front new : BodyLoaderValue) (piece : List ℕ) (n : ℕ) (e : F) (why : G) → FeedsPiece {E = E} old front piece (Ok n)
-    → FeedsPiece {E = F} front new (take (length piece - n) (drop n piece)) (Err e) → FeedsPiece {E = G} old new piece (Err why)
-refused_on old front new piece n e why first more = record {
-  rows = more.rows ∙ first.rows;
-  taken = tt;
-  goes_on = tt;
-  complete = λ w. absurd (let clash : Err e ≡ Ok 0 = more.complete (whole_stays old front piece n first w).1 in cc);
-}
-
--- The same refusal, told in another way.
-pub refused_as : {E F : Type 0} (old new : BodyLoaderValue) (piece : List ℕ) (e : E) (why : F) → FeedsPiece {E = E} old new piece (Err e) → FeedsPiece {E = F} old new piece (Err why)
-refused_as old new piece e why feeds = record {
-  rows = feeds.rows;
-  taken = tt;
-  goes_on = tt;
-  complete = λ w. absurd (let clash : Err e ≡ Ok 0 = feeds.complete w in cc);
-}

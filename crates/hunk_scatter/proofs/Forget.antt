@@ -1,5 +1,5 @@
 -- The state of the loader is the reader of load files, without what was read.
-use Rattle.std.proofs.Common.{◌≡◌, ℕ, ◌+◌, ◌*◌, Bool, true, false, cond, List, [], ◌∷◌, ◌++◌, length, get_or, refl, sym, ap, ◌∙◌, append_assoc, arith, None}
+use Rattle.std.proofs.Common.{◌≡◌, ℕ, ◌+◌, ◌*◌, Bool, true, false, cond, List, [], ◌∷◌, ◌++◌, length, get_or, refl, sym, ap, ◌∙◌, append_assoc, arith}
 use Rattle.std.proofs.lemmas.List.{length-map, length-append, map-append, get_or_at}
 use Rattle.std.proofs.lemmas.List.Sums.{sum_by-append, sum_by-cons}
 use Rattle.hunk_words.specs.Bits.{size_longs, kind}
@@ -140,14 +140,14 @@ pub step_behind : (p : Progress) (w : ℕ) → IsBehindHeader (More p) → IsBeh
 step_behind p w h = (step_keeps p w h).1
 
 -- A step of the reader is a step of the state.
-pub step_state : (p : Progress) (w : ℕ) → IsBehindHeader (More p) → ProgressFits p → refuse (role_of p) w ≡ None → state_of (step_file p w) ≡ step_body (sizes_of (table_of (More p))) (state_of (More p)) w
-step_state (AtBlock o) w b f ok =
+pub step_state : (p : Progress) (w : ℕ) → IsBehindHeader (More p) → ProgressFits p → state_of (step_file p w) ≡ step_body (sizes_of (table_of (More p))) (state_of (More p)) w
+step_state (AtBlock o) w b f =
     after_state o (AtBlock o) refl refl (step_file (AtBlock o) w) (step_behind (AtBlock o) w b) (step_moves (AtBlock o) w)
-    ∙ ap (λ (p : Position). move_to (sizes_of (open_table o)) (state_at o.finished p) p) (step_position (AtBlock o) w f ok)
-step_state (InBody o word x) w b f ok =
+    ∙ ap (λ (p : Position). move_to (sizes_of (open_table o)) (state_at o.finished p) p) (step_position (AtBlock o) w f)
+step_state (InBody o word x) w b f =
     after_state o (InBody o word x) refl refl (step_file (InBody o word x) w) (step_behind (InBody o word x) w b) (step_moves (InBody o word x) w)
-    ∙ ap (λ (p : Position). move_to (sizes_of (open_table o)) (state_at o.finished p) p) (step_position (InBody o word x) w f ok)
-step_state _ w b f ok = absurd cc
+    ∙ ap (λ (p : Position). move_to (sizes_of (open_table o)) (state_at o.finished p) p) (step_position (InBody o word x) w f)
+step_state _ w b f = absurd cc
 
 -- The state tells the refusal.
 pub refusal_same : (p : Progress) (w : ℕ) → IsBehindHeader (More p) → ProgressFits p → refuse (role_of p) w ≡ refusal (sizes_of (table_of (More p))) (state_of (More p)) w

@@ -107,7 +107,7 @@ module _ (budget : ℕ) (rows : List Row) (s : HeaderState) (ws : List ℕ) (h :
           next = step_file here w;
           read = step_read ws here w read_here is ok;
           opens_first = step_opens here w in_header (reads read_here).0;
-          position_is = step_position here w (reads read_here).0 ok ∙ ap (λ (p : Position). scan.step p w) position_here;
+          position_is = step_position here w (reads read_here).0 ∙ ap (λ (p : Position). scan.step p w) position_here;
           table_is =
               step_adds here w in_header
               ∙ ap₂ (λ (t : List TableEntry) (p : Position). t ++ adds p w) table_here position_here

@@ -6,7 +6,7 @@ use Rattle.std.proofs.Math.Seq.{take-add}
 use Rattle.hunk_words.specs.Longs.{longs, bytes_of, IsLong, IsBytes}
 use Rattle.hunk_words.specs.declared.reason.Reason.{Reason}
 use Rattle.hunk_words.specs.declared.reason.Reason.TheVariants as reasons
-use Rattle.hunk_words.proofs.LongLaws.{bytes_of-append, longs-bytes_of, length-bytes_of, length-longs}
+use Rattle.hunk_words.proofs.LongLaws.{bytes_of-append, in_place, longs-bytes_of, length-bytes_of, length-longs}
 use Rattle.hunk_files.specs.Fault.{HasRefusal, IsTruncated, is_word_refusal}
 use Rattle.hunk_files.proofs.Refusals.{refusal_of_word}
 use Rattle.hunk_files.specs.Image.{declared_bytes}
@@ -24,7 +24,6 @@ use Rattle.hunk_scatter.specs.Rows.{entries_of, row_of}
 use Rattle.hunk_scatter.proofs.HeaderFields.{heading_new, heading_room, heading_pending, heading_word, heading_table, heading_total, heading_truncated, heading_within, heading_not_whole, heading_as}
 use Rattle.hunk_scatter.proofs.HeaderEnds.{heading_ends}
 use Rattle.hunk_scatter.proofs.HeaderStops.{header_longs, stop_refused, stop_passes, stop_accepts}
-use Rattle.hunk_scatter.proofs.Runs.{in_place}
 
 -- Longwords of a header were read up to this byte, and rows may be named that they complete.
 pub record HeaderSoFar (budget : ℕ) (bytes : List ℕ) (s : HeaderState) (at : ℕ) : Type 0 where

@@ -23,7 +23,6 @@ pub mod Offsets
 pub mod OneByte
 pub mod Outcomes
 pub mod Owed
-pub mod PendingLaws
 pub mod PlacingLaws
 pub mod ReadWords
 pub mod Refusing
@@ -32,6 +31,7 @@ pub mod Scatter
 pub mod Splice
 pub mod Splits
 pub mod Starting
+pub mod Staying
 pub mod StreamLaws
 pub mod TableLimit
 pub mod WholeLongs

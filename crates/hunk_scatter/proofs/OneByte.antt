@@ -10,37 +10,38 @@ use Rattle.hunk_files.specs.Image.{declared_bytes, images}
 use Rattle.hunk_files.specs.LoadFile.{TableEntry, LoadFileValue}
 use Rattle.hunk_scan.specs.Roles.{refuse}
 use Rattle.hunk_files.specs.LoadText.{table}
-use Rattle.hunk_blocks.specs.BlockSteps.{Inside}
+use Rattle.hunk_blocks.specs.BlockSteps.{ForName, ForCode, SizedCode, SizedData, Inside, AtCount, AtSize, InPayload, InOffsets, InExtName}
+use Rattle.hunk_blocks.specs.ReaderPhase.{phase_of}
 use Rattle.hunk_files.specs.FileSteps.{HunkSoFar, Progress, AtBlock, InBody, Next, More, Finished, place_of, role_of, step_file}
 use Rattle.hunk_files.proofs.FileProgress.{OpenFits, ProgressFits}
-use Rattle.hunk_files.proofs.HunkProgress as blocks
-use Rattle.hunk_files.proofs.InsideCases.{by_inside}
+use Rattle.hunk_files.proofs.HunkProgress.{Within}
 use Rattle.hunk_words.proofs.LongLaws.{longs-bytes_of, length-bytes_of, bytes_of-append}
 use Rattle.hunk_blocks.proofs.Lists.{All-more}
 use Rattle.hunk_files.proofs.Reading.{reads, step_read, read_refused, read_ended}
 use Rattle.hunk_files.specs.WordsRead.{HasRead}
 use Rattle.hunk_files.specs.declared.row.Row.{Row}
 use Rattle.hunk_blocks.specs.Values.{BlockValue}
-use Rattle.hunk_scan.specs.declared.position.Position.{Position}
+use Rattle.hunk_blocks.specs.declared.phase.Phase.{Phase}
 use Rattle.hunk_scan.specs.declared.position.Position.TheVariants as positions
-use Rattle.hunk_scan.specs.Positions.{is_done, is_behind_header}
-use Rattle.hunk_files.specs.ReaderPosition.{position_of, open_of, block_phase, open_table, table_of, IsBehindHeader}
+use Rattle.hunk_scan.specs.Positions.{is_done}
+use Rattle.hunk_files.specs.ReaderPosition.{open_of, block_phase, open_table, table_of, IsBehindHeader}
 use Rattle.hunk_scatter.specs.declared.body_state.BodyState.{BodyState}
 use Rattle.hunk_scatter.specs.StoreContent.{StoreHolds, HasSizedImage, stored_long}
 use Rattle.hunk_scatter.specs.BodyLoaderFields.{EndsWhole, StandsBehind}
 use Rattle.hunk_scatter.specs.LoaderValues.{IsFileWithRows}
 use Rattle.hunk_scatter.specs.Rows.{entries_of, words_of, bases_of}
 use Rattle.hunk_scatter.specs.BodyReader.{sizes_of, state_at, state_of}
-use Rattle.hunk_scatter.specs.BodySteps.{refusal, step_body, RoomIn, IsInStore}
+use Rattle.hunk_scatter.specs.BodySteps.{refusal, step_body, RoomFor, IsInStore}
 use Rattle.hunk_scatter.proofs.ReadWords.{read_longs}
 use Rattle.hunk_scatter.proofs.Forget.{before_is, step_state, step_table, step_behind, refusal_same, sizes-at, sizes-length}
 use Rattle.hunk_scatter.proofs.Scatter.{step_holds}
 
 -- ---- room
 
-open_in_store : (o : HunkSoFar) (p : Position) → OpenFits o → is_behind_header p ≡ true → RoomIn (sizes_of (open_table o)) (size_longs o.entry.word) p → IsInStore (sizes_of (open_table o)) (declared_bytes (open_table o)) (state_at o.finished p)
-open_in_store o p f b room = record {
-  in_body = b;
+open_in_store : (o : HunkSoFar) (phase : Phase) → OpenFits o → RoomFor (sizes_of (open_table o)) (size_longs o.entry.word) phase →
+    IsInStore (sizes_of (open_table o)) (declared_bytes (open_table o)) (state_at o.finished (positions.Body (open_of o) phase))
+open_in_store o phase f room = record {
+  in_body = refl;
   hunks = omega (arith, sizes-length o.finished o.entry o.ahead, f.front_fits.counts, f.front_fits.hunks_fit.1);
   hunk = omega (arith, sizes-length o.finished o.entry o.ahead);
   segment =
@@ -51,23 +52,26 @@ open_in_store o p f b room = record {
         sum_by-append (λ (e : TableEntry). 4 * size_longs e.word) (table o.finished) (o.entry ∷ o.ahead),
         sum_by-cons (λ (e : TableEntry). 4 * size_longs e.word) o.entry o.ahead,
       );
-  room = subst (λ (n : ℕ). RoomIn (sizes_of (open_table o)) n p) (sym (ap size_longs (sizes-at o.finished o.entry o.ahead))) room;
+  targets = omega (arith, sizes-length o.finished o.entry o.ahead, f.front_fits.counts);
+  room = subst (λ (n : ℕ). RoomFor (sizes_of (open_table o)) n phase) (sym (ap size_longs (sizes-at o.finished o.entry o.ahead))) room;
 }
 
-block_room : (o : HunkSoFar) (blocks : List BlockValue) → RoomIn (sizes_of (open_table o)) (size_longs o.entry.word) (positions.Body (open_of o) (block_phase blocks))
-block_room o [] = tt
-block_room o (b ∷ blocks) = tt
+block_room : (sizes : List ℕ) (longs : ℕ) (blocks : List BlockValue) → RoomFor sizes longs (block_phase blocks)
+block_room sizes longs [] = tt
+block_room sizes longs (b ∷ blocks) = tt
+
+inside_room : (o : HunkSoFar) (word : ℕ) (x : Inside) → OpenFits o → Within (place_of o) word x → RoomFor (sizes_of (open_table o)) (size_longs o.entry.word) (phase_of x)
+inside_room o word (AtCount ForName) f w = tt
+inside_room o word (AtSize ForCode) f w = tt
+inside_room o word (InPayload (SizedCode top) done owed) f w = (omega arith, omega (arith, w))
+inside_room o word (InPayload (SizedData top) done owed) f w = (omega arith, omega (arith, w))
+inside_room o word (InOffsets groups target done owed) f w = omega (arith, sizes-length o.finished o.entry o.ahead, f.front_fits.counts, w.1)
+inside_room o word (InExtName es v done owed) f w = absurd w
+inside_room o word _ f w = tt
 
 in_store : (p : Progress) → IsBehindHeader (More p) → ProgressFits p → IsInStore (sizes_of (table_of (More p))) (declared_bytes (table_of (More p))) (state_of (More p))
-in_store (AtBlock o) b f = open_in_store o (position_of (More (AtBlock o))) f refl (block_room o o.blocks)
-in_store (InBody o word x) b f = open_in_store o (position_of (More (InBody o word x))) f.0 refl (by_inside (place_of o) word Room
-    (λ g. tt) (λ g. tt) (λ g. tt) (λ g. tt) (λ g. tt) (λ g. tt) (λ c done owed g. tt)
-    (λ top done owed g. (omega arith, omega (arith, g.1))) (λ top done owed g. (omega arith, omega (arith, g.1)))
-    (λ gs g. tt) (λ gs owed g. tt) (λ gs target done owed g. omega (arith, sizes-length o.finished o.entry o.ahead, f.0.front_fits.counts, g.1.1))
-    (λ es g. tt) (λ es w done owed g. tt) (λ es w name g. tt) x f.2.1 f.2)
-  where
-    Room : Inside → Type 0
-    Room y = blocks.Fits (place_of o) word y → RoomIn (sizes_of (open_table o)) (size_longs o.entry.word) (position_of (More (InBody o word y)))
+in_store (AtBlock o) b f = open_in_store o (block_phase o.blocks) f (block_room _ _ o.blocks)
+in_store (InBody o word x) b f = open_in_store o (phase_of x) f.0 (inside_room o word x f.0 f.2.1)
 in_store _ b f = absurd cc
 
 pub sizes_are : (rows : List Row) → sizes_of (entries_of rows) ≡ words_of rows
@@ -78,6 +82,15 @@ pub not_done : (p : Progress) → IsBehindHeader (More p) → is_done (state_of 
 not_done (AtBlock o) b = refl
 not_done (InBody o word x) b = refl
 not_done _ b = absurd cc
+
+-- ---- a reading
+
+-- by other names
+pub stands_as : (rows : List Row) (store store2 : List ℕ) (state state2 : BodyState) (pending pending2 fed : List ℕ) → store2 ≡ store → state2 ≡ state → pending2 ≡ pending →
+    StandsBehind rows store state pending fed → StandsBehind rows store2 state2 pending2 fed
+stands_as rows store store2 state state2 pending pending2 fed e f g r =
+    subst (λ (x : List ℕ). StandsBehind rows x state2 pending2 fed) (sym e)
+    (subst (λ (x : BodyState). StandsBehind rows store x pending2 fed) (sym f) (subst (λ (x : List ℕ). StandsBehind rows store state x fed) (sym g) r))
 
 -- ---- a reading that goes on
 
@@ -152,7 +165,7 @@ module _ (rows : List Row) (store : List ℕ) (state : BodyState) (pending fed :
           read = step_read g.ws g.at w g.read is pass;
           behind = step_behind g.at w g.in_body;
           table_is = step_table g.at w g.in_body ∙ g.table_is;
-          state_is = step_state g.at w g.in_body (reads g.read).0 pass ∙ ap₂ (λ (ss : List ℕ) (s : BodyState). step_body ss s w) sizes_now g.state_is;
+          state_is = step_state g.at w g.in_body (reads g.read).0 ∙ ap₂ (λ (ss : List ℕ) (s : BodyState). step_body ss s w) sizes_now g.state_is;
           holds =
               subst (λ (s : BodyState). StoreHolds (bases_of rows) (step_file g.at w) (stored_long (bases_of rows) s w store)) g.state_is
               (step_holds (bases_of rows) g.at w store (reads g.read).0 is pass g.holds);

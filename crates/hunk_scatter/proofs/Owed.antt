@@ -1,16 +1,24 @@
 -- How much is to come of a content, a name, a payload or a list of offsets.
-use Rattle.std.proofs.Common.{◌≡◌, ℕ, zero, suc, ◌/◌, ◌^◌, ◌≤◌, cond, List, [], ◌∷◌, ◌++◌, refl, sym, ap, ap₂, subst, ◌∙◌, arith}
+use Rattle.std.proofs.Common.{◌≡◌, ℕ, zero, suc, ◌/◌, ◌^◌, ◌≤◌, cond, List, [], ◌∷◌, ◌++◌, Option, Some, None, refl, sym, ap, ap₂, subst, ◌∙◌, arith}
 use Rattle.hunk_blocks.specs.Values.{ExtEntry, SymbolEntry, RelocGroup}
-use Rattle.hunk_blocks.specs.BlockSteps.{ForName, ForDebug, ForAdvisory, Filling, Counted, SizedCode, SizedData, Inside, AtCount, AtSize, InPayload, AtGroup, AtTarget, InOffsets, AtEntry, InName, AtValue, AtExtWord, InExtName, AtExtValue, AtExtSize, AtExtCount, InExtOffsets, fill, relocate, name_entry, name_external, refer}
+use Rattle.hunk_blocks.specs.BlockSteps.{ForName, Filling, Counted, SizedCode, Inside, AtCount, InPayload, InOffsets, InName, InExtName, InExtOffsets, fill, relocate, name_entry, name_external, refer}
 use Rattle.hunk_blocks.specs.Faults.{words}
 use Rattle.hunk_files.specs.LoadFile.{LoadFileValue, IsLoadFile}
 use Rattle.hunk_files.specs.LoadText.{labelled}
-use Rattle.hunk_files.specs.FileSteps.{HunkSoFar, Progress, AtFirst, AtResident, AtTableSize, AtFirstHunk, AtLastHunk, AtSizeWord, AtAttributes, AtBlock, InBody, Next, More, Finished, role_of, after, step_file, Leads}
+use Rattle.hunk_files.specs.FileSteps.{HunkSoFar, Progress, AtFirst, InBody, Next, More, Finished, role_of, after, step_file, Leads}
 use Rattle.hunk_files.proofs.FileText.{file_leads}
 use Rattle.hunk_files.proofs.Shapes.{by_shape}
 use Rattle.hunk_files.proofs.Runs.{Leads-split, Leads-same}
 use Rattle.hunk_files.specs.WordsRead.{HasRead, Labelled}
-use Rattle.hunk_files.proofs.Least.{least}
+use Rattle.hunk_files.specs.ReaderPosition.{position_of, open_of}
+use Rattle.hunk_scan.specs.Positions.{least_longs}
+use Rattle.hunk_scan.specs.declared.phase.OpenHunk.{OpenHunk}
+use Rattle.hunk_scan.specs.declared.position.Position.TheVariants as positions
+use Rattle.hunk_words.specs.Bits.{entry_type}
+use Rattle.hunk_blocks.specs.declared.ext_shape.ExtShape.{ExtShape}
+use Rattle.hunk_blocks.specs.declared.ext_shape.ExtShape.TheVariants.{Definition, References, Common}
+use Rattle.hunk_blocks.specs.ExtKinds.{ext_shape}
+use Rattle.hunk_blocks.specs.ReaderPhase.{front_phase}
 use Rattle.hunk_scatter.specs.Owing.{is_in_run, run_of}
 
 abbrev pub run_in : Inside → ℕ
@@ -26,12 +34,9 @@ run_at (More (InBody o word x)) = run_in x
 run_at _ = 0
 
 fill_run : (o : HunkSoFar) (word : ℕ) (f : Filling) (done : List ℕ) (owed : ℕ) → run_at (after o word (fill f done owed)) ≡ owed
-fill_run o word (Counted ForName) done zero = refl
-fill_run o word (Counted ForDebug) done zero = refl
-fill_run o word (Counted ForAdvisory) done zero = refl
-fill_run o word (SizedCode top) done zero = refl
-fill_run o word (SizedData top) done zero = refl
 fill_run o word f done (suc owed) = refl
+fill_run o word (Counted ForName) done zero = refl
+fill_run o word _ done zero = refl
 
 offsets_run : (o : HunkSoFar) (word : ℕ) (groups : List RelocGroup) (target : ℕ) (done : List ℕ) (owed : ℕ) → run_at (after o word (relocate groups target done owed)) ≡ owed
 offsets_run o word groups target done zero = refl
@@ -51,31 +56,13 @@ refer_run o word es w name value done (suc owed) = refl
 
 -- One longword takes one off what is to come, or none is.
 one_off : (p : Progress) (w : ℕ) → cond (is_in_run (role_of p)) (suc (run_at (step_file p w))) 0 ≡ run_at (More p)
-one_off (InBody o word (AtCount ForName)) w = refl
-one_off (InBody o word (AtCount ForDebug)) w = refl
-one_off (InBody o word (AtCount ForAdvisory)) w = refl
-one_off (InBody o word (AtSize s)) w = refl
 one_off (InBody o word (InPayload f done owed)) w = ap suc (fill_run o word f (done ++ w ∷ []) owed)
-one_off (InBody o word (AtGroup groups)) w = refl
-one_off (InBody o word (AtTarget groups owed)) w = refl
 one_off (InBody o word (InOffsets groups target done owed)) w = ap suc (offsets_run o word groups target (done ++ w ∷ []) owed)
-one_off (InBody o word (AtEntry entries)) w = refl
 one_off (InBody o word (InName entries w2 done owed)) w = ap suc (name_run o word entries w2 (done ++ w ∷ []) owed)
-one_off (InBody o word (AtValue entries w2 name)) w = refl
-one_off (InBody o word (AtExtWord entries)) w = refl
 one_off (InBody o word (InExtName entries w2 done owed)) w = ap suc (external_run o word entries w2 (done ++ w ∷ []) owed)
-one_off (InBody o word (AtExtValue entries w2 name)) w = refl
-one_off (InBody o word (AtExtSize entries w2 name)) w = refl
-one_off (InBody o word (AtExtCount entries w2 name value)) w = refl
 one_off (InBody o word (InExtOffsets entries w2 name value done owed)) w = ap suc (refer_run o word entries w2 name value (done ++ w ∷ []) owed)
-one_off (AtBlock o) w = refl
-one_off AtFirst w = refl
-one_off AtResident w = refl
-one_off AtTableSize w = refl
-one_off (AtFirstHunk hunks) w = refl
-one_off (AtLastHunk hunks) w = refl
-one_off (AtSizeWord hunks done owed) w = refl
-one_off (AtAttributes hunks done word owed) w = refl
+one_off (InBody o word (AtCount ForName)) w = refl
+one_off _ w = refl
 
 run_is : (n : Next) (ls : Labelled) (v : LoadFileValue) → Leads n ls (Finished v) → run_of ls ≡ run_at n
 run_is (More p) [] v run = absurd cc
@@ -84,30 +71,17 @@ run_is (Finished u) (l ∷ ls) v run = absurd run
 run_is (More p) (l ∷ ls) v run =
     ap₂ (λ r n. cond (is_in_run r) (suc n) 0) (sym run.0) (run_is (step_file p l.1) ls v run.1) ∙ one_off p l.1
 
-run_least : (p : Progress) → run_at (More p) ≤ least p
-run_least (InBody o word (InPayload f done owed)) = omega arith
-run_least (InBody o word (InOffsets groups target done owed)) = omega arith
-run_least (InBody o word (InName entries w done owed)) = omega arith
-run_least (InBody o word (InExtName entries w done owed)) = omega arith
-run_least (InBody o word (InExtOffsets entries w name value done owed)) = omega arith
-run_least (InBody o word (AtCount c)) = omega arith
-run_least (InBody o word (AtSize s)) = omega arith
-run_least (InBody o word (AtGroup groups)) = omega arith
-run_least (InBody o word (AtTarget groups owed)) = omega arith
-run_least (InBody o word (AtEntry entries)) = omega arith
-run_least (InBody o word (AtValue entries w name)) = omega arith
-run_least (InBody o word (AtExtWord entries)) = omega arith
-run_least (InBody o word (AtExtValue entries w name)) = omega arith
-run_least (InBody o word (AtExtSize entries w name)) = omega arith
-run_least (InBody o word (AtExtCount entries w name value)) = omega arith
-run_least (AtBlock o) = omega arith
-run_least AtFirst = omega arith
-run_least AtResident = omega arith
-run_least AtTableSize = omega arith
-run_least (AtFirstHunk hunks) = omega arith
-run_least (AtLastHunk hunks) = omega arith
-run_least (AtSizeWord hunks done owed) = omega arith
-run_least (AtAttributes hunks done word owed) = omega arith
+shape_least : (o : OpenHunk) (s : Option ExtShape) (owed : ℕ) → suc owed ≤ least_longs (positions.Body o (front_phase s owed))
+shape_least o (Some Definition) owed = omega arith
+shape_least o (Some References) owed = omega arith
+shape_least o (Some Common) owed = omega arith
+shape_least o None owed = omega arith
+
+run_least : (p : Progress) → run_at (More p) ≤ least_longs (position_of (More p))
+run_least (InBody o word (InPayload (Counted c) done owed)) = omega arith
+run_least (InBody o word (InPayload (SizedCode top) done owed)) = omega arith
+run_least (InBody o word (InExtName es w done owed)) = shape_least (open_of o) (ext_shape (entry_type w)) owed
+run_least _ = omega arith
 
 -- What is to come of the one in which the reader stands.
 pub to_come : (ws : List ℕ) (n : Next) → HasRead ws n → (v : LoadFileValue) → IsLoadFile v → (done more : Labelled) → labelled v ≡ done ++ more → words done ≡ ws → run_of more ≡ run_at n
@@ -116,5 +90,5 @@ to_come ws n h v is done more e d =
     let same = Leads-same (More AtFirst) cut.0 n done h.done cut.1 h.run (d ∙ sym h.all) in
     run_is n more v (subst (λ (m : Next). Leads m more (Finished v)) same.1 cut.2)
 
-pub to_come_least : (ws : List ℕ) (p : Progress) → HasRead ws (More p) → (v : LoadFileValue) → IsLoadFile v → (done more : Labelled) → labelled v ≡ done ++ more → words done ≡ ws → run_of more ≤ least p
+pub to_come_least : (ws : List ℕ) (p : Progress) → HasRead ws (More p) → (v : LoadFileValue) → IsLoadFile v → (done more : Labelled) → labelled v ≡ done ++ more → words done ≡ ws → run_of more ≤ least_longs (position_of (More p))
 to_come_least ws p h v is done more e d = omega (arith, to_come ws (More p) h v is done more e d, run_least p)

@@ -30,10 +30,7 @@ kind_of_body h a kinds.Data = chosen is_of_body h (Some reasons.SecondContent) N
 kind_of_body h a kinds.Bss = chosen is_of_body h (Some reasons.SecondContent) None refl tt
 kind_of_body h a kinds.Reloc32 = chosen is_of_body h None (Some reasons.BeforeContent) tt refl
 kind_of_body h a kinds.End = chosen is_of_body h None (Some reasons.NoContent) tt refl
-kind_of_body h a kinds.Name = tt
-kind_of_body h a kinds.Symbol = tt
-kind_of_body h a kinds.Debug = tt
-kind_of_body h a _ = refl
+kind_of_body h a _ = search
 
 part_of_body : (p : Place) (part : Part) (w : ℕ) → AreOf is_of_body (refuse_part p part w)
 part_of_body p parts.BlockWord w = chosen is_of_body (has_both_bits w) (Some reasons.BothBits) _ refl (kind_of_body p.has_content (is_advisory w) (kind w))

@@ -1,9 +1,9 @@
 -- Longwords of a content, a payload, a name or a list of offsets at once.
-use Rattle.std.proofs.Common.{◌≡◌, ℕ, zero, suc, ◌+◌, ◌-◌, ◌*◌, ◌/◌, ◌%◌, ◌<◌, ◌≤◌, false, get_or, Option, None, Some, IfNone, List, [], ◌∷◌, ◌++◌, length, take, drop, refl, sym, ap, ap₂, subst, ◌∙◌, append_assoc, append-nil, arith, length-append, length-take, length-drop}
+use Rattle.std.proofs.Common.{◌≡◌, ℕ, zero, suc, ◌+◌, ◌-◌, ◌*◌, ◌/◌, ◌%◌, ◌<◌, ◌≤◌, false, get_or, None, List, [], ◌∷◌, ◌++◌, length, take, drop, refl, sym, ap, ap₂, subst, ◌∙◌, append_assoc, append-nil, arith, length-append, length-take}
 use Rattle.std.specs.Int.{w32, to_be_bytes}
 use Rattle.std.proofs.lemmas.List.{take_at, drop-drop, take-append-drop}
 use Rattle.std.proofs.Math.Seq.{drop-append-add}
-use Rattle.hunk_words.specs.Longs.{bytes_of, longs, IsBytes, AreLongs, Gathers, IsLong}
+use Rattle.hunk_words.specs.Longs.{bytes_of, longs, IsBytes, AreLongs, IsLong}
 use Rattle.hunk_words.proofs.LongLaws.{bytes_of-cons, bytes_of-nil, bytes_of-one, length-bytes_of, length-longs, spelled, longs_fit}
 use Rattle.hunk_words.proofs.PartLaws.{longs-take}
 use Rattle.std.specs.List.{AllByRecursion}
@@ -50,23 +50,6 @@ put_long store at next w ws e fits =
     ap (λ (n : ℕ). put_slice (put_at store at four) n (bytes_of ws)) e
     ∙ put_more store at four (bytes_of ws) refl fits
     ∙ ap (λ (xs : List ℕ). put_slice store at xs) (ap (λ (xs : List ℕ). xs ++ bytes_of ws) (sym (bytes_of-one w)) ∙ sym (bytes_of-cons w ws))
-
-pub length-slice : (bytes : List ℕ) (at : ℕ) (part : List ℕ) → at + length part ≤ length bytes → length (put_slice bytes at part) ≡ length bytes
-length-slice bytes at part fits =
-    omega (
-      arith,
-      fits,
-      length-append (take at bytes ++ part) (drop (at + length part) bytes),
-      length-append (take at bytes) part,
-      length-take at bytes,
-      length-drop (at + length part) bytes,
-    )
-
-pub length-run : (sizes : List ℕ) (hunk start : ℕ) (p : Position) (bytes store : List ℕ) → IsInStore sizes (length store) (record { hunk = hunk; start = start; position = p }) → length bytes ≤ 4 * run p →
-    length (stored_run_in start p bytes store) ≡ length store
-length-run sizes hunk start (positions.Body o (phases.Content longs owed)) bytes store i fits =
-    length-slice store (start + 4 * (longs - owed - 1)) bytes (omega (arith, i.segment, i.room.0, i.room.1, fits))
-length-run sizes hunk start _ bytes store i fits = refl
 
 -- ---- the state
 
@@ -222,12 +205,6 @@ read_run rows store state fed bytes n r i long are fours some fits =
     (subst (λ (k : ℕ). StandsBehind rows (stored_run state (bytes_of (longs bytes)) store) (pass_body state k) [] (fed ++ bytes_of (longs bytes))) count
     (run_read rows state.hunk state.start state.position store fed (longs bytes) (longs_fit bytes are) r i (omega (arith, count, some, fours)) (omega (arith, count, fits, fours))))
 
--- Where a run goes on the file does not end.
-pub run_goes_on : (p : Position) → 0 < run p → is_done p ≡ false
-run_goes_on (positions.Body o phase) some = refl
-run_goes_on positions.Done some = absurd (omega (arith, some))
-run_goes_on _ some = refl
-
 front_bytes : (xs ys : List ℕ) → IsBytes (xs ++ ys) → IsBytes xs
 front_bytes [] ys h i = omega arith
 front_bytes (x ∷ xs) ys h zero = h 0
@@ -235,17 +212,6 @@ front_bytes (x ∷ xs) ys h (suc i) = front_bytes xs ys (λ k. h (suc k)) i
 
 pub take_bytes : (bytes : List ℕ) (n : ℕ) → IsBytes bytes → IsBytes (take n bytes)
 take_bytes bytes n are = front_bytes (take n bytes) (drop n bytes) (subst IsBytes (sym (take-append-drop n bytes)) are)
-
--- the first longword of a piece
-pub in_place : (piece : List ℕ) → IsBytes piece → 4 ≤ length piece → take 4 piece ≡ bytes_of (get_or (longs piece) 0 0 ∷ [])
-in_place (a ∷ b ∷ c ∷ d ∷ rest) are l = fours_are (a ∷ b ∷ c ∷ d ∷ []) (front_bytes (a ∷ b ∷ c ∷ d ∷ []) rest are) refl
-in_place _ are l = absurd (omega (arith, l))
-
--- Up to the end of a longword there are bytes.
-pub takes_some : (old new piece : List ℕ) (n : ℕ) (word : Option ℕ) → length old < 4 → 0 < length piece → Gathers (old ++ take n piece) new word → IfNone word (n ≡ length piece) → 0 < n
-takes_some old new piece n None few some g whole = omega (arith, some, whole)
-takes_some old new piece n (Some w) few some g whole =
-    omega (arith, few, ap length g.0, length-append old (take n piece), length-take n piece, length-bytes_of (w ∷ []))
 
 -- What was read goes on behind this many offsets of a list.
 pub read_offsets : (rows : List Row) (store store2 : List ℕ) (state state2 : BodyState) (fed piece : List ℕ) (n : ℕ) → StandsBehind rows store state [] fed → IsBytes piece → 4 * n ≤ length piece →

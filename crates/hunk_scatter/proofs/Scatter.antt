@@ -11,10 +11,10 @@ use Rattle.hunk_words.specs.declared.reason.Reason.TheVariants as reasons
 use Rattle.hunk_words.specs.Bits.{size_longs, kind}
 use Rattle.hunk_words.specs.Longs.{bytes_of, IsLong}
 use Rattle.hunk_files.specs.Image.{add_at, image, images, filled, relocated, block_content, block_relocations}
-use Rattle.hunk_blocks.specs.Values.{BlockValue, Name, Code, Data, Bss, Reloc, Ext, Symbol, Debug, Advisory, End}
+use Rattle.hunk_blocks.specs.Values.{BlockBody, BlockValue, Code, Data, Bss, Reloc, Ext, End}
 use Rattle.hunk_files.specs.LoadFile.{TableEntry, HunkValue}
 use Rattle.hunk_scan.specs.Roles.{refuse, refuse_part}
-use Rattle.hunk_blocks.specs.BlockSteps.{ForName, ForCode, SizedCode, SizedData, Inside, AtCount, AtSize, InPayload, InOffsets, BlockNext, Open, Whole, part_of, step_inside, begin_body}
+use Rattle.hunk_blocks.specs.BlockSteps.{ForName, ForCode, SizedCode, SizedData, Inside, AtCount, AtSize, InPayload, InOffsets, InExtName, BlockNext, Open, Whole, part_of, step_inside, begin_body}
 use Rattle.hunk_files.specs.FileSteps.{hunk, block, HunkSoFar, Progress, AtBlock, InBody, More, place_of, role_of, with_block, open_hunk, close, after, step_file}
 use Rattle.hunk_files.proofs.FileProgress.{ProgressFits, IsAdmitted, kind_admitted, kind_is}
 use Rattle.hunk_files.proofs.HunkProgress as blocks
@@ -135,6 +135,7 @@ inside_holds bases o word x w store a f ok h = go x f ok h
         let y : Inside = InOffsets groups target done owed in
         let room : w + 4 ≤ 4 * size_longs o.entry.word = ltb-false (4 * size_longs o.entry.word) (w + 4) (passed_false (ltb (4 * size_longs o.entry.word) (w + 4)) reasons.BadOffset ok) in
         add_holds bases o (Open y) (step_inside y w) store w (get_or bases target 0) room (offset_adds bases o groups target done owed w) k
+    go (InExtName es v done owed) f ok k = absurd f.1
     go (AtCount ForName) f ok k = idle (AtCount ForName) refl refl k
     go (AtSize ForCode) f ok k = idle (AtSize ForCode) refl refl k
     go _ f ok k = idle _ refl refl k
@@ -157,13 +158,13 @@ closed_holds bases o b c store u h =
     }
 
 -- a block that has neither content nor relocations
-beside_holds : (bases : List ℕ) (o : HunkSoFar) (b : BlockValue) (store : List ℕ) → block_content b.body ≡ [] → block_relocations b.body ≡ [] →
-    Holds bases o (Whole b.body) store → Holds bases (with_block o b o.has_content) (Whole End) store
-beside_holds bases o b store e d h =
-    closed_holds bases o b o.has_content store
+beside_holds : (bases : List ℕ) (o : HunkSoFar) (word : ℕ) (body : BlockBody) (store : List ℕ) → block_content body ≡ [] → block_relocations body ≡ [] →
+    Holds bases o (Whole body) store → Holds bases (with_block o (block word body) o.has_content) (Whole End) store
+beside_holds bases o word body store e d h =
+    closed_holds bases o (block word body) o.has_content store
     (λ c. (
-      flat_map-more (λ (x : BlockValue). block_content x.body) o.blocks b ∙ ap₂ (λ (xs ys : List ℕ). xs ++ ys) (h.unplaced c).0 e,
-      flat_map-more (λ (x : BlockValue). block_relocations x.body) o.blocks b ∙ ap₂ (λ (xs ys : List (ℕ × ℕ)). xs ++ ys) (h.unplaced c).1 d,
+      flat_map-more (λ (x : BlockValue). block_content x.body) o.blocks (block word body) ∙ ap₂ (λ (xs ys : List ℕ). xs ++ ys) (h.unplaced c).0 e,
+      flat_map-more (λ (x : BlockValue). block_relocations x.body) o.blocks (block word body) ∙ ap₂ (λ (xs ys : List (ℕ × ℕ)). xs ++ ys) (h.unplaced c).1 d,
     )) h
 
 -- the hunks with these entries are all zero so far
@@ -194,22 +195,15 @@ ended_holds bases o word store h =
 after_holds : (bases : List ℕ) (o : HunkSoFar) (word : ℕ) (n : BlockNext) (store : List ℕ) → IsAdmitted o word → blocks.NextFits (place_of o) word n →
     Holds bases o n store → StoreHolds bases (after o word n) store
 after_holds bases o word (Open x) store a f h = h
-after_holds bases o word (Whole (Name ws)) store a f h = beside_holds bases o (block word (Name ws)) store refl refl h
-after_holds bases o word (Whole (Symbol es)) store a f h = beside_holds bases o (block word (Symbol es)) store refl refl h
-after_holds bases o word (Whole (Debug ws)) store a f h = beside_holds bases o (block word (Debug ws)) store refl refl h
-after_holds bases o word (Whole (Advisory ws)) store a f h = beside_holds bases o (block word (Advisory ws)) store refl refl h
 after_holds bases o word (Whole (Code top ws)) store a f h = closed_holds bases o (block word (Code top ws)) true store (λ c. absurd cc) h
 after_holds bases o word (Whole (Data top ws)) store a f h = closed_holds bases o (block word (Data top ws)) true store (λ c. absurd cc) h
 after_holds bases o word (Whole (Bss size)) store a f h = closed_holds bases o (block word (Bss size)) true store (λ c. absurd cc) h
 after_holds bases o word (Whole (Reloc gs)) store a f h =
     let late : o.has_content ≡ true = passed_true o.has_content reasons.BeforeContent (kind_is o word kinds.Reloc32 a f.of_load) in
-    closed_holds bases o (block word (Reloc gs)) o.has_content store (λ c. absurd (clash o.has_content late c)) h
-  where
-    clash : (b : Bool) → b ≡ true → b ≡ false → ⊥
-    clash true e d = absurd cc
-    clash false e d = absurd cc
+    closed_holds bases o (block word (Reloc gs)) o.has_content store (λ c. absurd (cc (late, c))) h
 after_holds bases o word (Whole (Ext es)) store a f h = absurd f.of_load
 after_holds bases o word (Whole End) store a f h = ended_holds bases o word store h
+after_holds bases o word (Whole _) store a f h = beside_holds bases o word _ store refl refl h
 
 begin_empty : (k : Kind) → (bytes_so_far (begin_body k) ≡ []) × (pairs_so_far (begin_body k) ≡ [])
 begin_empty kinds.Name = (refl, refl)

@@ -1,5 +1,5 @@
 -- Behind the header the body's loader stands at its first hunk, with a store of zero bytes.
-use Rattle.std.proofs.Common.{◌≡◌, ◌≢◌, ℕ, zero, suc, ◌+◌, ◌*◌, List, [], ◌∷◌, ◌++◌, length, replicate, refl, sym, ap, ◌∙◌, append-nil, arith, subst, None, take, drop, drop_of_length-le}
+use Rattle.std.proofs.Common.{◌≡◌, ◌≢◌, ℕ, zero, suc, ◌+◌, ◌*◌, List, [], ◌∷◌, ◌++◌, length, replicate, refl, sym, ap, ◌∙◌, append-nil, arith, subst, take, drop, drop_of_length-le}
 use Rattle.std.proofs.lemmas.List.Sums.{sum_by-cons}
 use Rattle.hunk_words.specs.Longs.{bytes_of}
 use Rattle.hunk_words.specs.Bits.{size_longs}
@@ -11,7 +11,10 @@ use Rattle.hunk_files.specs.declared.row.Row.{Row}
 use Rattle.hunk_scan.specs.Positions.{open_next}
 use Rattle.hunk_scatter.specs.BodyReader.{state_at}
 use Rattle.hunk_scatter.specs.StoreContent.{zeros}
-use Rattle.hunk_scatter.specs.BodyLoaderFields.{StandsBehind, BodyLoaderInvariant}
+use Rattle.hunk_scatter.specs.BodyLoaderFields.{IsFed, StandsBehind}
+use Rattle.hunk_words.specs.PendingBytes.{pending_of}
+use Rattle.hunk_scatter.specs.declared.stream.Standing.{Standing}
+use Rattle.hunk_scatter.proofs.OneByte.{stands_as}
 use Rattle.hunk_files.specs.Tables.{row_entry}
 use Rattle.hunk_scatter.specs.Rows.{entries_of, bases_of}
 use Rattle.std.proofs.lemmas.List.{length-map, length-replicate, take_all}
@@ -47,22 +50,19 @@ start_reading (r ∷ rows) ws fed some e read = record {
   whole = tt;
 }
 
--- A table that was read, with its hunks placed and a store of zero bytes.
-pub placed_loading : (old rows : List Row) (total budget count : ℕ) (fed store : List ℕ) → DeclaredInvariant old total budget count fed → entries_of rows ≡ entries_of old → store ≡ replicate total 0 →
-    BodyLoaderInvariant rows store (state_at [] (open_next (length (entries_of rows)) (length (entries_of rows)))) [] count None fed
-placed_loading old rows total budget count fed store h same s =
+-- A table that was read, with its hunks placed and a store of zero bytes: numbers behind its header.
+pub placed_loading : (old rows : List Row) (total budget count : ℕ) (fed store : List ℕ) (s : Standing) → DeclaredInvariant old total budget count fed → entries_of rows ≡ entries_of old → store ≡ replicate total 0 →
+    s.state ≡ state_at [] (open_next (length (entries_of rows)) (length (entries_of rows))) → s.fed ≡ count → pending_of s.pending ≡ [] → IsFed rows store s fed
+placed_loading old rows total budget count fed store s h same zero_bytes state_is fed_is none =
     let table : IsHeaderTable (entries_of rows) = subst IsHeaderTable (sym same) h.is_table in
-    let zero_bytes : store ≡ zeros (entries_of rows) =
-    s ∙ ap (λ (n : ℕ). replicate n 0) (h.total_is ∙ ap declared_bytes (sym same)) ∙ zeros_are (entries_of rows) in
     record {
-      counted = h.counted;
+      counted = fed_is ∙ h.counted;
       hunks = omega (arith, table.most, length-map rows row_entry);
-      size = ap length s ∙ length-replicate total 0 ∙ h.total_is ∙ ap declared_bytes (sym same);
-      reading =
-          λ e.
-          subst (λ (bs : List ℕ). StandsBehind rows bs (state_at [] (open_next (length (entries_of rows)) (length (entries_of rows)))) [] fed) (sym zero_bytes)
+      size = ap length zero_bytes ∙ length-replicate total 0 ∙ h.total_is ∙ ap declared_bytes (sym same);
+      stands =
+          stands_as rows (zeros (entries_of rows)) store _ s.state [] (pending_of s.pending) fed
+          (zero_bytes ∙ ap (λ (n : ℕ). replicate n 0) (h.total_is ∙ ap declared_bytes (sym same)) ∙ zeros_are (entries_of rows)) state_is none
           (start_reading rows (header_words (entries_of rows)) fed (λ none. omega (arith, ap length none, table.some, length-map rows row_entry)) (h.header ∙ ap header_bytes (sym same)) (header_read (entries_of rows) table));
-      own_reasons = λ f e. absurd cc;
     }
 
 -- a Vec whose elements were written through a slice

@@ -1,5 +1,5 @@
 -- Longwords that lie whole in a piece of a body, taken one part after another.
-use Rattle.std.proofs.Common.{◌≡◌, ℕ, ◌+◌, ◌-◌, ◌*◌, ◌/◌, ◌%◌, ◌<◌, ◌≤◌, false, List, [], ◌∷◌, ◌++◌, length, take, drop, get_or, None, Some, sym, ap, ap₂, subst, ◌∙◌, arith, length-take, length-drop, length-append, append_assoc, take-append-drop}
+use Rattle.std.proofs.Common.{◌≡◌, ℕ, ◌+◌, ◌-◌, ◌*◌, ◌/◌, ◌%◌, ◌<◌, ◌≤◌, false, List, [], ◌∷◌, ◌++◌, length, take, drop, get_or, None, Some, sym, ap, subst, ◌∙◌, arith, length-take, length-drop, length-append, append_assoc, take-append-drop}
 use Rattle.std.proofs.lemmas.List.{drop-drop, take_rest}
 use Rattle.std.proofs.Math.Seq.{take-add}
 use Rattle.hunk_words.specs.declared.reason.Reason.{Reason}
@@ -10,13 +10,14 @@ use Rattle.hunk_files.specs.declared.row.Row.{Row}
 use Rattle.hunk_scan.specs.Positions.{is_done, run}
 use Rattle.hunk_scan.specs.declared.position.Position.{Position}
 use Rattle.hunk_scatter.specs.declared.body_state.BodyState.{BodyState}
-use Rattle.hunk_scatter.specs.BodyLoaderFields.{StandsBehind}
+use Rattle.hunk_scatter.specs.BodyLoaderFields.{ReadsOn, StandsBehind}
 use Rattle.hunk_scatter.specs.BodySteps.{refusal, step_body, pass_body, IsInStore}
 use Rattle.hunk_scatter.specs.Rows.{entries_of, words_of, bases_of}
 use Rattle.hunk_scatter.specs.StoreContent.{stored_long, stored_run}
 use Rattle.hunk_scatter.proofs.Faults.{refusal_front}
 use Rattle.hunk_scatter.proofs.OneByte.{Going, going, room, more_read, refused_here}
-use Rattle.hunk_scatter.proofs.Runs.{read_run, take_bytes, in_place}
+use Rattle.hunk_words.proofs.LongLaws.{in_place}
+use Rattle.hunk_scatter.proofs.Runs.{read_run, take_bytes}
 
 module _ (rows : List Row) (store : List ℕ) (state : BodyState) (fed : List ℕ) (r : StandsBehind rows store state [] fed) (more : is_done state.position ≡ false) where
   gone : Going rows store state [] fed
@@ -47,10 +48,6 @@ run_taken rows store state fed r i piece n are inside fours some fits =
     subst (λ (k : ℕ). StandsBehind rows (stored_run state (take n piece) store) (pass_body state (k / 4)) [] (fed ++ take n piece)) (sym long)
     (read_run rows store state fed (take n piece) n r i long (take_bytes piece n are) fours some fits)
 
-pub read_as : (rows : List Row) (store store2 : List ℕ) (state state2 : BodyState) (fed : List ℕ) → store2 ≡ store → state2 ≡ state → StandsBehind rows store state [] fed → StandsBehind rows store2 state2 [] fed
-read_as rows store store2 state state2 fed e d r =
-    subst (λ (xs : List ℕ). StandsBehind rows xs state2 [] fed) (sym e) (subst (λ (s : BodyState). StandsBehind rows store s [] fed) (sym d) r)
-
 -- the position by another name
 pub state_at : (state : BodyState) (position : Position) → position ≡ state.position → ◌≡◌ {A = BodyState} (record { hunk = state.hunk; start = state.start; position = position }) state
 state_at state position same = ap (λ (p : Position). record { hunk = state.hunk; start = state.start; position = p }) same
@@ -63,33 +60,47 @@ pub room_at : (sizes : List ℕ) (total : ℕ) (state : BodyState) (position : P
     IsInStore sizes total (record { hunk = state.hunk; start = state.start; position = position })
 room_at sizes total state position same i = subst (λ (p : Position). IsInStore sizes total (record { hunk = state.hunk; start = state.start; position = p })) (sym same) i
 
--- Of the piece this rest is left, and what was fed goes on to its beginning.
-abbrev pub Leaves : (fed piece front rest : List ℕ) → Type 0
-Leaves fed piece front rest =
-    (length rest ≤ length piece) × (rest ≡ drop (length piece - length rest) piece) × (front ≡ fed ++ take (length piece - length rest) piece)
+-- ---- one part after another
 
-pub leaves_all : (fed piece front : List ℕ) → front ≡ fed ++ [] → Leaves fed piece front piece
-leaves_all fed piece front e =
+-- Of the piece this rest is left.
+abbrev pub Leaves : List ℕ → List ℕ → Type 0
+Leaves piece rest = (length rest ≤ length piece) × (rest ≡ drop (length piece - length rest) piece)
+
+pub leaves_all : (piece : List ℕ) → Leaves piece piece
+leaves_all piece =
     let none : length piece - length piece ≡ 0 = omega arith in
-    (omega arith, sym (ap (λ (n : ℕ). drop n piece) none), e ∙ ap (λ (n : ℕ). fed ++ take n piece) (sym none))
+    (omega arith, sym (ap (λ (n : ℕ). drop n piece) none))
 
--- more of it is taken
-pub leaves_rest : (fed piece front rest after left : List ℕ) (m : ℕ) → Leaves fed piece front rest → m ≤ length rest → after ≡ front ++ take m rest → left ≡ take (length rest - m) (drop m rest) → Leaves fed piece after left
-leaves_rest fed piece front rest after left m (le, rest_is, front_is) inside after_is left_is =
-    let n = length piece - length rest in
-    let left_at : left ≡ drop m rest = left_is ∙ take_rest rest m in
-    let long : length left ≡ length rest - m = ap length left_at ∙ length-drop m rest in
-    let on : n + m ≡ length piece - length left = omega (arith, le, inside, long) in
-    let behind : left ≡ drop (n + m) piece = left_at ∙ ap (λ (xs : List ℕ). drop m xs) rest_is ∙ drop-drop m n piece in
-    let fed_on : after ≡ fed ++ take (n + m) piece =
-    after_is ∙ ap₂ (λ (xs ys : List ℕ). xs ++ take m ys) front_is rest_is ∙ append_assoc fed (take n piece) (take m (drop n piece)) ∙ ap (λ (xs : List ℕ). fed ++ xs) (sym (take-add n m piece)) in
-    (omega (arith, le, inside, long), behind ∙ ap (λ (k : ℕ). drop k piece) on, fed_on ∙ ap (λ (k : ℕ). fed ++ take k piece) on)
+module _ (piece rest : List ℕ) (leaves : Leaves piece rest) where
+  taken : ℕ
+  taken = length piece - length rest
 
--- a refusal of the rest is one of the piece
-pub refused_behind : (fed piece front rest : List ℕ) (reason : Reason) → Leaves fed piece front rest → HasRefusal (front ++ rest) (length front) reason → HasRefusal (fed ++ piece) (length fed + (length piece - length rest)) reason
-refused_behind fed piece front rest reason (le, rest_is, front_is) h =
-    let n = length piece - length rest in
-    let whole : front ++ rest ≡ fed ++ piece =
-    ap₂ (λ (xs ys : List ℕ). xs ++ ys) front_is rest_is ∙ append_assoc fed (take n piece) (drop n piece) ∙ ap (λ (xs : List ℕ). fed ++ xs) (take-append-drop n piece) in
-    let at : length front ≡ length fed + n = omega (arith, ap length front_is, length-append fed (take n piece), length-take n piece) in
-    subst (λ (k : ℕ). HasRefusal (fed ++ piece) k reason) at (subst (λ (bs : List ℕ). HasRefusal bs (length front) reason) whole h)
+  -- more of it is taken
+  pub leaves_more : (left : List ℕ) (m : ℕ) → 0 < m → m ≤ length rest → left ≡ take (length rest - m) (drop m rest) →
+      Leaves piece left × (take (length piece - length rest) piece ++ take m rest ≡ take (length piece - length left) piece) × (length left < length piece)
+  unfolding taken
+  leaves_more left m some inside left_is =
+      let left_at : left ≡ drop m rest = left_is ∙ take_rest rest m in
+      let long : length left ≡ length rest - m = ap length left_at ∙ length-drop m rest in
+      let on : taken + m ≡ length piece - length left = omega (arith, leaves.0, inside, long) in
+      let behind : left ≡ drop (taken + m) piece = left_at ∙ ap (λ (xs : List ℕ). drop m xs) leaves.1 ∙ drop-drop m taken piece in (
+        (omega (arith, leaves.0, inside, long), behind ∙ ap (λ (k : ℕ). drop k piece) on),
+        ap (λ (xs : List ℕ). take taken piece ++ take m xs) leaves.1 ∙ sym (take-add taken m piece) ∙ ap (λ (k : ℕ). take k piece) on,
+        omega (arith, leaves.0, some, inside, long),
+      )
+
+  -- a refusal of the rest is one of the piece
+  pub refused_rest : (fed : List ℕ) (reason : Reason) → HasRefusal ((fed ++ take (length piece - length rest) piece) ++ rest) (length (fed ++ take (length piece - length rest) piece)) reason →
+      HasRefusal (fed ++ piece) (length fed + (length piece - length rest)) reason
+  unfolding taken
+  refused_rest fed reason h =
+      let front = fed ++ take taken piece in
+      let whole : front ++ rest ≡ fed ++ piece =
+      ap (λ (xs : List ℕ). front ++ xs) leaves.1 ∙ append_assoc fed (take taken piece) (drop taken piece) ∙ ap (λ (xs : List ℕ). fed ++ xs) (take-append-drop taken piece) in
+      let at : length front ≡ length fed + taken = omega (arith, length-append fed (take taken piece), length-take taken piece) in
+      subst (λ (k : ℕ). HasRefusal (fed ++ piece) k reason) at (subst (λ (bs : List ℕ). HasRefusal bs (length front) reason) whole h)
+
+-- What was read goes on.
+pub reads_more : (rows : List Row) (store mid after : List ℕ) (s m b : BodyState) (xs ys zs : List ℕ) → xs ++ ys ≡ zs → ReadsOn rows store s xs mid m → ReadsOn rows mid m ys after b → ReadsOn rows store s zs after b
+reads_more rows store mid after s m b xs ys zs e first more =
+    λ fed r. subst (λ (bs : List ℕ). StandsBehind rows after b [] bs) (append_assoc fed xs ys ∙ ap (λ (bs : List ℕ). fed ++ bs) e) (more (fed ++ xs) (first fed r))

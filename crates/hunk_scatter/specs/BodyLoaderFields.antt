@@ -1,5 +1,5 @@
 -- What the fields of the loader of a body keep.
-use Rattle.std.specs.Prelude.{◌≡◌, ℕ, ◌<◌, ◌≤◌, List, [], ◌++◌, length, take, Option, None, Some, Result, Ok, IfOk, IfErr, OnOk, IsTrue}
+use Rattle.std.specs.Prelude.{◌≡◌, ℕ, ◌<◌, ◌≤◌, List, [], ◌++◌, length, take, Option, None, Some, Result, IfOk, IfErr, IsTrue}
 use Rattle.hunk_words.specs.Limits.{most_hunks}
 use Rattle.hunk_words.specs.Longs.{bytes_of}
 use Rattle.hunk_words.specs.declared.fault.Fault.{Fault}
@@ -13,11 +13,12 @@ use Rattle.hunk_scan.specs.declared.position.Position.{Position}
 use Rattle.hunk_scatter.specs.declared.body_state.BodyState.{BodyState}
 use Rattle.hunk_scatter.specs.LoaderReasons.{is_of_body}
 use Rattle.hunk_scatter.specs.StoreContent.{StoreHolds}
-use Rattle.hunk_scatter.specs.BodySteps.{IsInStore}
+use Rattle.hunk_scatter.specs.BodySteps.{IsInStore, StaysInStore}
 use Rattle.hunk_scatter.specs.Rows.{entries_of, words_of, bases_of}
 use Rattle.hunk_scatter.specs.BodyReader.{state_of}
-use Rattle.hunk_scatter.specs.LoaderValues.{BodyLoaderValue, FeedsFront, IsWholeFile}
 use Rattle.hunk_scatter.specs.LoadOutcomes.{StopsInBody}
+use Rattle.hunk_words.specs.PendingBytes.{pending_of}
+use Rattle.hunk_scatter.specs.declared.stream.Standing.{Standing}
 use Rattle.hunk_files.specs.ReaderPosition.{IsBehindHeader, table_of}
 
 -- where the file is whole no byte is pending
@@ -39,11 +40,18 @@ pub record StandsBehind (rows : List Row) (store : List ℕ) (state : BodyState)
   pub holds : StoreHolds (bases_of rows) next store
   pub whole : EndsWhole next pending
 
-pub record BodyLoaderInvariant (rows : List Row) (store : List ℕ) (state : BodyState) (pending : List ℕ) (count : ℕ) (refused : Option Fault) (fed : List ℕ) : Type 0 where
-  pub counted : count ≡ length fed
+-- A loader with these rows stands so after the bytes, header and body joined, and has made this store of them.
+pub record IsFed (rows : List Row) (store : List ℕ) (s : Standing) (fed : List ℕ) : Type 0 where
+  pub counted : s.fed ≡ length fed
   pub hunks : length rows ≤ most_hunks
   pub size : length store ≡ declared_bytes (entries_of rows)
-  pub reading : refused ≡ None → StandsBehind rows store state pending fed
+  pub stands : StandsBehind rows store s.state (pending_of s.pending) fed
+
+pub record BodyLoaderInvariant (rows : List Row) (store : List ℕ) (s : Standing) (refused : Option Fault) (fed : List ℕ) : Type 0 where
+  pub counted : s.fed ≡ length fed
+  pub hunks : length rows ≤ most_hunks
+  pub size : length store ≡ declared_bytes (entries_of rows)
+  pub reading : refused ≡ None → IsFed rows store s fed
   pub own_reasons : (f : Fault) → refused ≡ Some f → IsTrue (is_of_body f.reason)
 
 -- ---- longwords of a piece, whatever was fed before
@@ -69,6 +77,7 @@ pub record TakesFront (rows : List Row) (store : List ℕ) (state : BodyState) (
   pub some : 0 < n
   pub inside : n ≤ length piece
   pub reads : ReadsOn rows store state (take n piece) after behind
+  pub stays : StaysInStore (words_of rows) (length after) behind
 
 -- The piece is refused at its first longword.
 pub record RefusesFront (rows : List Row) (store : List ℕ) (state : BodyState) (piece : List ℕ) (reason : Reason) : Type 0 where
@@ -79,22 +88,6 @@ pub record RefusesFront (rows : List Row) (store : List ℕ) (state : BodyState)
 pub record TakesOrRefuses (rows : List Row) (store : List ℕ) (state : BodyState) (piece after : List ℕ) (behind : BodyState) (result : Result ℕ Reason) : Type 0 where
   pub takes : IfOk result (TakesFront rows store state piece after behind)
   pub refuses : IfErr result (RefusesFront rows store state piece)
-
--- ---- a piece
-
--- What the feeding of a piece keeps to, whether it is taken or refused: a front of it is fed, and none where the file is
--- whole.
-pub record FeedsPiece {E : Type 0} (old new : BodyLoaderValue) (piece : List ℕ) (result : Result ℕ E) : Type 0 where
-  pub rows : new.rows ≡ old.rows
-  pub taken : IfOk result (FeedsFront old.fed piece new.fed)
-  pub goes_on : OnOk result (new.refused ≡ None)
-  pub complete : IsWholeFile old.rows old.fed → result ≡ Ok 0
-
--- A piece is fed, or the loader stops at a fault of it, and remembers that fault.
-pub record FeedsOrStops (old new : BodyLoaderValue) (piece : List ℕ) (result : Result ℕ Fault) : Type 0 where
-  pub feeds : FeedsPiece old new piece result
-  pub stops : IfErr result (StopsInBody (old.fed ++ piece))
-  pub remembers : IfErr result (λ (f : Fault). new.refused ≡ Some f)
 
 -- ---- a refusal
 

@@ -1,8 +1,9 @@
 -- The loader of a body in numbers. The size words of the table stand beside it.
-use Rattle.std.specs.Prelude.{◌≡◌, ℕ, ◌+◌, ◌*◌, ◌<◌, ◌≤◌, true, List, length, get_or, if◌then◌else◌, Option}
+use Rattle.std.specs.Prelude.{◌≡◌, ℕ, ◌+◌, ◌*◌, ◌<◌, ◌≤◌, true, false, List, length, get_or, if◌then◌else◌, Option}
 use Rattle.hunk_words.specs.Limits.{most_hunks}
 use Rattle.hunk_words.specs.declared.reason.Reason.{Reason}
 use Rattle.hunk_words.specs.Bits.{size_longs}
+use Rattle.hunk_blocks.specs.declared.phase.Phase.{Phase}
 use Rattle.hunk_blocks.specs.declared.phase.Phase.TheVariants as phases
 use Rattle.hunk_scan.specs.declared.position.Position.{Position}
 use Rattle.hunk_scan.specs.declared.position.Position.TheVariants as positions
@@ -31,11 +32,20 @@ step_body sizes s w = move_to sizes s (step s.position w)
 abbrev pub pass_body : BodyState → ℕ → BodyState
 pass_body s n = record { hunk = s.hunk; start = s.start; position = pass s.position n }
 
--- Room for what a longword does, in a hunk of this many longs.
+-- Room for what a longword does at this phase, in a hunk of this many longs.
+abbrev pub RoomFor : List ℕ → ℕ → Phase → Type 0
+RoomFor sizes longs (phases.Content all owed) = (owed < all) × (all ≤ longs)
+RoomFor sizes longs (phases.Offset target owed) = target < length sizes
+RoomFor sizes longs _ = Unit {0}
+
 abbrev pub RoomIn : List ℕ → ℕ → Position → Type 0
-RoomIn sizes longs (positions.Body o (phases.Content all owed)) = (owed < all) × (all ≤ longs)
-RoomIn sizes longs (positions.Body o (phases.Offset target owed)) = target < length sizes
+RoomIn sizes longs (positions.Body o phase) = RoomFor sizes longs phase
 RoomIn sizes longs _ = Unit {0}
+
+-- how many hunks relocations may have as their target
+abbrev pub targets_at : Position → ℕ
+targets_at (positions.Body o phase) = o.hunks
+targets_at _ = 0
 
 -- The state is that of an open hunk whose segment lies in a store of this many bytes.
 pub record IsInStore (sizes : List ℕ) (total : ℕ) (s : BodyState) : Type 0 where
@@ -43,4 +53,9 @@ pub record IsInStore (sizes : List ℕ) (total : ℕ) (s : BodyState) : Type 0 w
   pub hunk : s.hunk < length sizes
   pub segment : s.start + 4 * longs_at sizes s.hunk ≤ total
   pub in_body : is_behind_header s.position ≡ true
+  pub targets : targets_at s.position ≤ length sizes
   pub room : RoomIn sizes (longs_at sizes s.hunk) s.position
+
+-- It is, unless a hunk has to open first or the file is whole.
+abbrev pub StaysInStore : List ℕ → ℕ → BodyState → Type 0
+StaysInStore sizes total s = is_between_hunks s.position ≡ false → IsInStore sizes total s

@@ -10,7 +10,6 @@ pub mod LoadOutcomes
 pub mod LoaderReasons
 pub mod LoaderValues
 pub mod Owing
-pub mod PendingBytes
 pub mod Placing
 pub mod Rows
 pub mod StoreContent

@@ -1,21 +1,17 @@
 -- A loader in memory that is its caller's: rows, a store, and numbers.
-use Rattle.std.specs.Prelude.{◌≡◌, ℕ, ◌+◌, ◌*◌, ◌/◌, ◌<◌, ◌≤◌, Bool, true, false, List, ◌++◌, length, take, None, Result, MatchResult, IsTrue, ⊤}
+use Rattle.std.specs.Prelude.{◌≡◌, ℕ, ◌+◌, ◌*◌, ◌/◌, ◌<◌, ◌≤◌, Bool, true, false, List, ◌++◌, length, take, Result, MatchResult, IsTrue, ⊤}
 use Rattle.hunk_files.specs.Fault.{HasRefusal, IsTruncated}
 use Rattle.hunk_files.specs.Image.{declared_bytes}
 use Rattle.hunk_files.specs.declared.row.Row.{Row}
-use Rattle.hunk_scatter.specs.BodyLoaderFields.{BodyLoaderInvariant}
+pub use Rattle.hunk_scatter.specs.BodyLoaderFields.{IsFed}
+use Rattle.hunk_scatter.specs.BodySteps.{StaysInStore}
 use Rattle.hunk_scatter.specs.HeaderBytes.{IsHeaderTable, header_bytes}
 use Rattle.hunk_scatter.specs.LoaderReasons.{is_of_body}
 use Rattle.hunk_scatter.specs.LoaderValues.{IsImageOf, HasNoRefusal, segments_in}
-use Rattle.hunk_scatter.specs.PendingBytes.{pending_of}
 use Rattle.hunk_scatter.specs.Rows.{entries_of, words_of}
 use Rattle.hunk_scatter.specs.declared.stream.Standing.{Standing}
 use Rattle.hunk_scatter.specs.declared.stream.Stop.{Stop}
 use Rattle.hunk_scatter.specs.declared.stream.Stop.TheVariants as stops
-
--- A loader with these rows stands so after the bytes, header and body joined, and has made this store of them.
-abbrev pub IsFed : List Row → List ℕ → Standing → List ℕ → Type 0
-IsFed rows store s fed = BodyLoaderInvariant rows store s.state (pending_of s.pending) s.fed None fed
 
 -- A loader that stood after bytes stops for a refusal alone.
 abbrev pub StopsAt : List ℕ → Stop → Type 0
@@ -32,11 +28,29 @@ abbrev pub TakesOn : List Row → List ℕ → List ℕ → List ℕ → Result 
 TakesOn rows store fed piece result =
     MatchResult result (λ r. IsFed rows store r.0 (fed ++ take r.1 piece)) (StopsAt (fed ++ piece))
 
--- This many bytes of the piece were taken, one at least, and are counted.
-pub record CountsTaken (at : Standing) (piece : List ℕ) (to : Standing) (n : ℕ) : Type 0 where
+-- The same, where the numbers that a loader has then are said apart.
+abbrev pub StandsOn : List Row → List ℕ → Standing → List ℕ → List ℕ → Result ℕ Stop → Type 0
+StandsOn rows store to fed piece result =
+    MatchResult result (λ n. IsFed rows store to (fed ++ take n piece)) (StopsAt (fed ++ piece))
+
+-- And where they do not count these bytes yet.
+abbrev pub TakesTo : List Row → List ℕ → Standing → List ℕ → List ℕ → Result ℕ Stop → Type 0
+TakesTo rows store to fed piece result =
+    MatchResult result
+    (λ n. IsFed rows store (record { state = to.state; fed = to.fed + n; pending = to.pending }) (fed ++ take n piece))
+    (StopsAt (fed ++ piece))
+
+-- The numbers lead out of neither the rows nor a store of this many bytes, as far as no hunk opens.
+pub record IsWithin (rows : List Row) (total : ℕ) (s : Standing) : Type 0 where
+  pub few : s.pending.count < 4
+  pub in_store : StaysInStore (words_of rows) total s.state
+
+-- This many bytes of the piece were taken, one at least, and are not counted yet.
+pub record TakesPart (rows : List Row) (total : ℕ) (at to : Standing) (piece : List ℕ) (n : ℕ) : Type 0 where
   pub some : 0 < n
   pub inside : n ≤ length piece
-  pub counts : to.fed ≡ at.fed + n
+  pub uncounted : to.fed ≡ at.fed
+  pub within : IsWithin rows total to
 
 -- Where the rows are those of a table, its header has this many bytes, and it declares as many as there is room for: after
 -- that header a loader stands so.

@@ -11,19 +11,17 @@ ghost use Rattle.hunk_files.specs.LoadText.{text};
 ghost use Rattle.hunk_scatter.specs.LoaderReasons.{is_of_body};
 ghost use Rattle.hunk_scatter.specs.LoaderValues.{FeedsFront, HasNoRefusal, IsImageOf, IsWholeFile};
 ghost use Rattle.hunk_scatter.specs.LoaderValues.{MayGoOnInFile};
-ghost use Rattle.hunk_scatter.specs.BodyLoaderFields.{FeedsOrStops, FeedsPiece, RefusesOf};
-ghost use Rattle.hunk_scatter.specs.LoadOutcomes.{IsWithinFile};
+ghost use Rattle.hunk_scatter.specs.BodyLoaderFields.{RefusesOf};
+ghost use Rattle.hunk_scatter.specs.LoadOutcomes.{IsWithinFile, StopsInBody};
 ghost use Rattle.hunk_scatter.specs.Owing.{HasToCome, most_want};
 ghost use Rattle.hunk_scatter.specs.Rows.{entries_of};
 
-use crate::body_state::BodyState;
 use crate::image::{Image, starts_of};
-use crate::limits::MOST_WANT;
-use crate::longwords::take_longwords;
-use crate::store::{next_word, take_word};
+use crate::limits::bytes_wanted;
+use crate::stream::{Standing, Stop, take_all};
 use hunk_files::Row;
 use hunk_scan::Position;
-use hunk_words::{Assembler, History, LoadFault};
+use hunk_words::{History, LoadFault};
 use std::marker::Model;
 
 /// Takes the body of a load file, and leaves each segment in its place.
@@ -34,9 +32,7 @@ use std::marker::Model;
 pub struct BodyLoader {
     pub(crate) rows: Vec<Row>,
     pub(crate) store: Vec<u8>,
-    pub(crate) state: BodyState,
-    pub(crate) assembler: Assembler,
-    pub(crate) count: u64,
+    pub(crate) standing: Standing,
     pub(crate) refused: Option<LoadFault>,
     pub(crate) history: History,
 }
@@ -53,171 +49,72 @@ impl Model for BodyLoader {
       refused = s.refused;
     } };
 
-    ghost invariant = { λ s. BodyLoaderInvariant s.rows.items s.store.items s.state s.assembler
-        s.count s.refused s.history.bytes };
+    ghost invariant = { λ s. BodyLoaderInvariant s.rows.items s.store.items s.standing
+        s.refused s.history.bytes };
 }
 
 /// Says that a longword was rejected; the loader keeps why. It has no bytes, so that the answers of
-/// the functions that each piece goes through stay in registers.
+/// the function that each piece goes through stay in registers.
 #[derive(Clone, Copy)]
 struct Refused;
 
 impl BodyLoader {
-    /// Takes the longwords that lie whole in the piece, up to the end of the file or to one that is
-    /// refused; nothing while a longword is gathered.
-    #[inline(always)]
-    fn take_whole(&mut self, piece: &[u8]) -> Result<usize, LoadFault>
-        requires room { length self.old.fed + length piece.now < 2 ^ 64 }
-        requires reading { self.old.refused ≡ None }
-        ensures { FeedsOrStops self.old self.new piece.now result }
-    {
-        if self.assembler.pending() > 0 {
-            return Ok(0);
-        }
-        let (taken, refused) = take_longwords(
-            self.store.as_mut_slice(),
-            self.rows.as_slice(),
-            &mut self.state,
-            &self.history,
-            piece,
-        );
-        if let Some(reason) = refused {
-            let place = self.count + taken as u64;
-            let fault = LoadFault { place, reason };
-            self.refused = Some(fault);
-            return Err(fault);
-        }
-        self.count += taken as u64;
-        self.history = self.history.and(&piece[..taken]);
-        Ok(taken)
-    }
-
-    /// Takes bytes up to the end of a longword or of the piece, unless the file is whole.
+    /// Takes the piece as `feed` does, where no longword was rejected before it. It is one function
+    /// for all sources of loads.
     #[inline(never)]
-    fn take_long(&mut self, piece: &[u8]) -> Result<usize, LoadFault>
+    fn take(&mut self, piece: &[u8]) -> Result<usize, Refused>
         requires room { length self.old.fed + length piece.now < 2 ^ 64 }
         requires reading { self.old.refused ≡ None }
-        requires nonempty { 0 < length piece.now }
-        ensures feeds_or_stops { FeedsOrStops self.old self.new piece.now result }
-        ensures ends { result ≡ Ok 0 → IsWholeFile self.new.rows self.new.fed }
+        ensures rows { self.new.rows ≡ self.old.rows }
+        ensures taken { IfOk result (FeedsFront self.old.fed piece.now self.new.fed) }
+        ensures all { IfOk result
+            (λ n. n < length piece.now → IsWholeFile self.new.rows self.new.fed) }
+        ensures inside_file { OnOk result (IsWithinFile self.new.fed) }
+        ensures takes_no_more { IsWholeFile self.old.rows self.old.fed → result ≡ Ok 0 }
+        ensures reading { OnOk result (self.new.refused ≡ None) }
+        ensures refusal { OnErr result (RefusesOf (self.old.fed ++ piece.now) self.new.refused) }
+        ensures nothing { OnErr result (self.new.fed ≡ self.old.fed) }
     {
-        if self.state.position.is_done() {
-            return Ok(0);
-        }
-        let (taken, next) = next_word(&mut self.assembler, piece);
-        let bytes = &piece[..taken];
-        let Some(word) = next else {
-            self.count += taken as u64;
-            self.history = self.history.and(bytes);
-            return Ok(taken);
-        };
-        match take_word(
-            self.store.as_mut_slice(),
-            self.rows.as_slice(),
-            self.state,
-            word,
-        ) {
-            Ok(state) => {
-                self.state = state;
-                self.count += taken as u64;
-                self.history = self.history.and(bytes);
+        let before = self.standing.fed;
+        let (store, rows) = (self.store.as_mut_slice(), self.rows.as_slice());
+        match take_all(store, rows, &mut self.standing, piece) {
+            Ok(taken) => {
+                self.history = self.history.and(&piece[..taken]);
                 Ok(taken)
             }
-            Err(reason) => {
-                let place = self.count + taken as u64 - 4;
-                let fault = LoadFault { place, reason };
+            Err(Stop::Refused(fault)) => {
+                self.standing.fed = before;
                 self.refused = Some(fault);
-                Err(fault)
+                Err(Refused)
             }
+            // The numbers are a loader's.
+            Err(Stop::Strange) => unreachable!(),
         }
     }
 
-    /// Takes the rest of a longword that is gathered, where there is one.
+    /// Takes the piece as `feed` does, where no longword was rejected before it.
     #[inline(always)]
-    fn take_gathered(&mut self, piece: &[u8]) -> Result<usize, LoadFault>
+    pub(crate) fn feed_more(&mut self, piece: &[u8]) -> Result<usize, LoadFault>
         requires room { length self.old.fed + length piece.now < 2 ^ 64 }
         requires reading { self.old.refused ≡ None }
-        ensures { FeedsOrStops self.old self.new piece.now result }
-    {
-        if self.assembler.pending() == 0 || piece.is_empty() {
-            return Ok(0);
-        }
-        self.take_long(piece)
-    }
-
-    /// Takes the piece, or up to the end of the file where that stands inside it, one longword
-    /// after another.
-    #[inline(never)]
-    fn take_longs(&mut self, piece: &[u8]) -> Result<usize, Refused>
-        requires room { length self.old.fed + length piece.now < 2 ^ 64 }
-        requires reading { self.old.refused ≡ None }
-        ensures feeds { FeedsPiece self.old self.new piece.now result }
+        ensures rows { self.new.rows ≡ self.old.rows }
+        ensures taken { IfOk result (FeedsFront self.old.fed piece.now self.new.fed) }
         ensures all { IfOk result
             (λ n. n < length piece.now → IsWholeFile self.new.rows self.new.fed) }
-        ensures stops { OnErr result (RefusesOf (self.old.fed ++ piece.now) self.new.refused) }
+        ensures inside_file { OnOk result (IsWithinFile self.new.fed) }
+        ensures takes_no_more { IsWholeFile self.old.rows self.old.fed → result ≡ Ok 0 }
+        ensures reading { OnOk result (self.new.refused ≡ None) }
+        ensures stops { IfErr result (StopsInBody (self.old.fed ++ piece.now)) }
+        ensures remembers { IfErr result (λ f. self.new.refused ≡ Some f) }
+        ensures nothing { OnErr result (self.new.fed ≡ self.old.fed) }
     {
-        let mut taken = 0;
-        while taken < piece.len() {
-            match self.take_long(&piece[taken..]) {
-                Ok(0) => return Ok(taken),
-                Ok(part) => taken += part,
-                Err(_) => return Err(Refused),
-            }
-        }
-        Ok(taken)
-    }
-
-    /// Takes the piece, or up to the end of the file where that stands inside it. Where no longword
-    /// is gathered, those that lie whole in the piece are taken at once.
-    #[inline(never)]
-    fn take_parts(&mut self, piece: &[u8]) -> Result<usize, Refused>
-        requires room { length self.old.fed + length piece.now < 2 ^ 64 }
-        requires reading { self.old.refused ≡ None }
-        ensures feeds { FeedsPiece self.old self.new piece.now result }
-        ensures all { IfOk result
-            (λ n. n < length piece.now → IsWholeFile self.new.rows self.new.fed) }
-        ensures stops { OnErr result (RefusesOf (self.old.fed ++ piece.now) self.new.refused) }
-    {
-        let Ok(whole) = self.take_whole(piece) else {
-            return Err(Refused);
-        };
-        if whole == piece.len() {
-            return Ok(whole);
-        }
-        let more = self.take_longs(&piece[whole..])?;
-        Ok(whole + more)
-    }
-
-    /// Takes the piece as `take_parts` does, and answers the refusal.
-    #[inline(always)]
-    pub(crate) fn take_piece(&mut self, piece: &[u8]) -> Result<usize, LoadFault>
-        requires room { length self.old.fed + length piece.now < 2 ^ 64 }
-        requires reading { self.old.refused ≡ None }
-        ensures feeds_or_stops { FeedsOrStops self.old self.new piece.now result }
-        ensures all { IfOk result
-            (λ n. n < length piece.now → IsWholeFile self.new.rows self.new.fed) }
-    {
-        match self.take_parts(piece) {
+        match self.take(piece) {
             Ok(taken) => Ok(taken),
-            Err(_) => match self.refused {
+            Err(Refused) => match self.refused {
                 Some(fault) => Err(fault),
                 None => unreachable!(),
             },
         }
-    }
-
-    /// Takes the rest of a longword that is gathered, where there is one, and then the piece.
-    #[inline(always)]
-    fn take_bytes(&mut self, piece: &[u8]) -> Result<usize, LoadFault>
-        requires room { length self.old.fed + length piece.now < 2 ^ 64 }
-        requires reading { self.old.refused ≡ None }
-        ensures feeds_or_stops { FeedsOrStops self.old self.new piece.now result }
-        ensures all { IfOk result
-            (λ n. n < length piece.now → IsWholeFile self.new.rows self.new.fed) }
-    {
-        let first = self.take_gathered(piece)?;
-        let more = self.take_piece(&piece[first..])?;
-        Ok(first + more)
     }
 
     /// How many bytes to read next, at most; 0 where nothing more is taken.
@@ -245,16 +142,11 @@ impl BodyLoader {
             return 0;
         }
         // Behind a header a hunk is open, or the file is whole.
-        let Position::Body(hunk, phase) = self.state.position else {
+        let Position::Body(hunk, phase) = self.standing.state.position else {
             return 0;
         };
         let longs = Position::Body(hunk, phase).least_longs();
-        let bytes = 4 * longs - self.assembler.pending() as u64;
-        if bytes < MOST_WANT as u64 {
-            bytes as usize
-        } else {
-            MOST_WANT
-        }
+        bytes_wanted(longs, self.standing.pending)
     }
 
     /// Consumes the piece, or up to the end of the file where that stands inside it, and gives the
@@ -269,7 +161,7 @@ impl BodyLoader {
     ///
     /// Nothing is consumed then: `fed` stays as it was. Each later `feed` answers the same and
     /// changes nothing, and `want` is 0.
-    #[inline(never)]
+    #[inline(always)]
     pub fn feed(&mut self, piece: &[u8]) -> Result<usize, LoadFault>
         requires { length self.old.fed + length piece.now < 2 ^ 64 }
         ensures rows { self.new.rows ≡ self.old.rows }
@@ -299,20 +191,7 @@ impl BodyLoader {
         if let Some(fault) = self.refused {
             return Err(fault);
         }
-        let before = self.history.and(&[]);
-        let count = self.count;
-        match self.take_bytes(piece) {
-            Ok(taken) => {
-                // The proof learns that what was fed was read.
-                let _ = &self.history;
-                Ok(taken)
-            }
-            Err(fault) => {
-                self.history = before;
-                self.count = count;
-                Err(fault)
-            }
-        }
+        self.feed_more(piece)
     }
 
     /// The bytes that are held: those of the store, and 12 for each hunk.
@@ -326,7 +205,7 @@ impl BodyLoader {
     pub fn fed(&self) -> u64
         ensures { result ≡ length self.now.fed }
     {
-        self.count
+        self.standing.fed
     }
 
     /// The image of a file that is whole.
@@ -344,15 +223,13 @@ impl BodyLoader {
         if self.refused.is_some() {
             return Err(self);
         }
-        if !self.state.position.is_done() {
+        if !self.standing.is_whole() {
             return Err(self);
         }
         let BodyLoader {
             rows,
             store,
-            state: _,
-            assembler: _,
-            count: _,
+            standing: _,
             refused: _,
             history: _,
         } = self;

@@ -30,7 +30,7 @@ impl fmt::Debug for BodyLoader {
     fn fmt<W: fmt::Write>(&self, f: &mut fmt::Formatter<W>) -> fmt::Result {
         f.debug_struct("BodyLoader")
             .field("hunks", &self.rows.len())
-            .field("fed", &self.count)
+            .field("fed", &self.standing.fed)
             .field("refused", &self.refused)
             .finish_non_exhaustive()
     }

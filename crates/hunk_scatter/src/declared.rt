@@ -10,8 +10,9 @@ ghost use Rattle.hunk_scatter.specs.Rows.{row_of, entries_of, bases_of};
 use crate::body_loader::BodyLoader;
 use crate::body_state::BodyState;
 use crate::placer::{Placer, place_rows, unplace_rows};
+use crate::stream::Standing;
 use hunk_files::Row;
-use hunk_words::{Assembler, History, LoadFault, Reason};
+use hunk_words::{History, LoadFault, Pending, Reason};
 use std::alloc::{AllocError, Global};
 use std::error::Error;
 use std::fmt;
@@ -159,12 +160,15 @@ impl Declared {
             count,
             history,
         } = table;
-        Ok(BodyLoader {
+        let standing = Standing {
             state: BodyState::start(rows.len() as u32),
+            fed: count,
+            pending: Pending::none(),
+        };
+        Ok(BodyLoader {
             rows,
             store,
-            assembler: Assembler::new(),
-            count,
+            standing,
             refused: None,
             history,
         })

@@ -23,11 +23,10 @@ ghost use Rattle.hunk_words.specs.Longs.{longs};
 
 use crate::declared::Declared;
 use crate::header_state::{HeaderState, take_header_word};
-use crate::limits::MOST_WANT;
-use crate::store::next_word;
+use crate::limits::bytes_wanted;
 use hunk_files::Row;
 use hunk_scan::Position;
-use hunk_words::{Assembler, History, LoadFault, Reason};
+use hunk_words::{History, LoadFault, Pending, Reason};
 use std::alloc::Global;
 use std::marker::Model;
 
@@ -41,7 +40,7 @@ pub struct HeaderLoader {
     rows: Vec<Row>,
     state: HeaderState,
     budget: u64,
-    assembler: Assembler,
+    pending: Pending,
     count: u64,
     refused: Option<LoadFault>,
     history: History,
@@ -50,13 +49,14 @@ pub struct HeaderLoader {
 impl Model for HeaderLoader {
     ghost use Rattle.hunk_scatter.specs.HeaderLoaderFields.{HeaderLoaderInvariant};
     ghost use Rattle.hunk_scatter.specs.LoaderValues.{HeaderLoaderValue};
+    ghost use Rattle.hunk_words.specs.PendingBytes.{pending_of};
 
     ghost Value = { HeaderLoaderValue };
 
     ghost view = { λ s. record { fed = s.history.bytes; budget = s.budget; refused = s.refused } };
 
-    ghost invariant = { λ s. HeaderLoaderInvariant s.budget s.rows.items s.state s.assembler
-        s.count s.refused s.history.bytes };
+    ghost invariant = { λ s. HeaderLoaderInvariant s.budget s.rows.items s.state
+        (pending_of s.pending) s.count s.refused s.history.bytes };
 }
 
 impl HeaderLoader {
@@ -75,14 +75,14 @@ impl HeaderLoader {
                 total: 0,
             },
             budget,
-            assembler: Assembler::new(),
+            pending: Pending::none(),
             count: 0,
             refused: None,
             history: History::new(),
         }
     }
 
-    /// Takes bytes up to the end of a longword or of the piece, unless the header is whole.
+    /// Takes a byte, or a longword that lies whole in the piece, unless the header is whole.
     fn take_long(&mut self, piece: &[u8]) -> Result<usize, LoadFault>
         requires room { length self.old.fed + length piece.now < 2 ^ 64 }
         requires reading { self.old.refused ≡ None }
@@ -93,9 +93,10 @@ impl HeaderLoader {
         if self.state.position.is_behind_header() {
             return Ok(0);
         }
-        let (taken, next) = next_word(&mut self.assembler, piece);
+        let (pending, taken, next) = self.pending.take_front(piece);
         let bytes = &piece[..taken];
         let Some(word) = next else {
+            self.pending = pending;
             self.count += taken as u64;
             self.history = self.history.and(bytes);
             return Ok(taken);
@@ -103,6 +104,7 @@ impl HeaderLoader {
         match take_header_word(&mut self.rows, self.state, self.budget, word) {
             Ok(state) => {
                 self.state = state;
+                self.pending = pending;
                 self.count += taken as u64;
                 self.history = self.history.and(bytes);
                 Ok(taken)
@@ -146,12 +148,7 @@ impl HeaderLoader {
         if self.state.position.is_behind_header() {
             return 0;
         }
-        let bytes = 4 * self.state.position.least_longs() - self.assembler.pending() as u64;
-        if bytes < MOST_WANT as u64 {
-            bytes as usize
-        } else {
-            MOST_WANT
-        }
+        bytes_wanted(self.state.position.least_longs(), self.pending)
     }
 
     /// Takes the longwords of a piece in turn.
@@ -277,7 +274,7 @@ impl HeaderLoader {
             mut rows,
             state,
             budget,
-            assembler: _,
+            pending: _,
             count,
             refused: _,
             history,

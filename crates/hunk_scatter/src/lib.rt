@@ -12,7 +12,6 @@ mod image;
 mod limits;
 mod loading;
 mod longwords;
-mod pending;
 mod placer;
 mod segments;
 mod store;

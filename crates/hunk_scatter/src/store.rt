@@ -1,9 +1,9 @@
 //! The one store.
-ghost use Rattle.std.specs.Prelude.{◌≡◌, ◌+◌, ◌≤◌, ◌<◌, ◌*◌, ◌/◌, ◌%◌, ◌^◌, ◌++◌, length, take};
+ghost use Rattle.std.specs.Prelude.{◌≡◌, ◌+◌, ◌≤◌, ◌<◌, ◌*◌, ◌/◌, ◌%◌, ◌^◌, length, take};
 ghost use Rattle.std.specs.Prelude.{get_or, Some, None, IfNone, IfSome, IfOk, IfErr, OnOk, OnErr};
 ghost use Rattle.std.specs.Prelude.{IsTrue};
 ghost use Rattle.hunk_scatter.specs.LoaderReasons.{is_of_body};
-ghost use Rattle.hunk_words.specs.Longs.{Gathers, longs};
+ghost use Rattle.hunk_words.specs.Longs.{longs};
 ghost use Rattle.std.specs.List.{AllByRecursion};
 ghost use Rattle.std.specs.Int.{w32, to_be_bytes};
 ghost use Rattle.hunk_files.specs.Image.{add_at};
@@ -16,7 +16,7 @@ ghost use Rattle.hunk_scatter.specs.Rows.{words_of, bases_of};
 use crate::body_state::{BodyState, longs_of};
 use hunk_files::Row;
 use hunk_scan::{Phase, Position, is_outside};
-use hunk_words::{Assembler, Reason, word_at};
+use hunk_words::{Reason, word_at};
 
 /// Puts a longword at the offset.
 pub(crate) fn put(store: &mut [u8], at: usize, word: u32)
@@ -131,22 +131,6 @@ pub(crate) fn take_run(store: &mut [u8], rows: &[Row], state: BodyState, bytes: 
     }
     let position = state.position.pass((bytes.len() / 4) as u64);
     BodyState { position, ..state }
-}
-
-/// Takes bytes up to the end of a longword or of the piece, and gives their number and the
-/// longword, where one is whole. A longword that lies whole in the piece is read in place.
-pub(crate) fn next_word(assembler: &mut Assembler, piece: &[u8]) -> (usize, Option<u32>)
-    requires { 0 < length piece.now }
-    ensures inside { result.0 ≤ length piece.now }
-    ensures positive { 0 < result.0 }
-    ensures gathers { Gathers (assembler.old ++ take result.0 piece.now) assembler.new result.1 }
-    ensures takes_all { IfNone result.1 (result.0 ≡ length piece.now) }
-    ensures bound { length assembler.new < 4 }
-{
-    if assembler.pending() == 0 && piece.len() >= 4 {
-        return (4, Some(word_at(piece, 0)));
-    }
-    assembler.take(piece)
 }
 
 /// Adds to the longwords at the offsets, `most` of them at most, up to the first that passes the

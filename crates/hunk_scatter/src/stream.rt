@@ -7,21 +7,17 @@ ghost use Rattle.std.specs.Prelude.{◌≡◌, ◌+◌, ◌<◌, ◌≤◌, ◌^
 ghost use Rattle.std.specs.Prelude.{true, false, IfErr, IfOk, MatchResult, Some, replicate};
 ghost use Rattle.hunk_words.specs.Limits.{most_hunks};
 ghost use Rattle.hunk_scan.specs.Positions.{is_done};
-ghost use Rattle.hunk_scan.specs.declared.position.Position.TheVariants as positions;
-ghost use Rattle.hunk_scatter.specs.BodySteps.{IsInStore, RoomIn};
-ghost use Rattle.hunk_scatter.specs.Rows.{words_of};
 ghost use Rattle.hunk_scatter.specs.StopLine.{stop_line};
-ghost use Rattle.hunk_scatter.specs.Streaming.{BeginsLoading, CountsTaken, EndsLoading, IsFed};
-ghost use Rattle.hunk_scatter.specs.Streaming.{StopsAt, StopsForBody, TakesOn};
+ghost use Rattle.hunk_scatter.specs.Streaming.{BeginsLoading, EndsLoading, IsFed, IsWithin};
+ghost use Rattle.hunk_scatter.specs.Streaming.{StandsOn, StopsForBody, TakesOn, TakesPart, TakesTo};
 
 pub use crate::body_state::BodyState;
-use crate::body_state::longs_of;
 pub use crate::header_size::{HeaderSize, header_size};
 use crate::longwords::take_front;
-pub use crate::pending::Pending;
 use crate::store::take_word;
 use hunk_files::Row;
-use hunk_scan::{OpenHunk, Phase, Position};
+use hunk_scan::Position;
+pub use hunk_words::Pending;
 use hunk_words::{LoadFault, MOST_HUNKS};
 use std::error::Error;
 use std::fmt;
@@ -60,42 +56,6 @@ impl fmt::Display for Stop {
 
 impl Error for Stop {}
 
-/// Whether the rows have what a phase of a hunk of `longs` longwords points to.
-fn has_room(rows: &[Row], longs: u32, hunk: OpenHunk, phase: Phase) -> bool
-    ensures sound { result ≡ true → RoomIn (words_of rows.now) longs (positions.Body hunk phase) }
-    ensures complete { RoomIn (words_of rows.now) longs (positions.Body hunk phase)
-        → result ≡ true }
-{
-    // The hunk is for the contract alone.
-    let _ = hunk;
-    match phase {
-        Phase::Content { longs: all, owed } => owed < all && all <= longs,
-        Phase::Offset { target, owed: _ } => (target as usize) < rows.len(),
-        _ => true,
-    }
-}
-
-/// Whether the state is that of an open hunk whose segment lies in a store of `total` bytes.
-fn is_in_store(state: BodyState, rows: &[Row], total: usize) -> bool
-    ensures sound { result ≡ true → IsInStore (words_of rows.now) total state }
-    ensures complete { IsInStore (words_of rows.now) total state
-        → is_done state.position ≡ false → result ≡ true }
-{
-    let Position::Body(hunk, phase) = state.position else {
-        return false;
-    };
-    if rows.len() > MOST_HUNKS as usize || state.hunk as usize >= rows.len() {
-        return false;
-    }
-    let longs = longs_of(rows, state.hunk);
-    let bytes = 4 * u64::from(longs);
-    let total = total as u64;
-    if bytes > total || state.start > total - bytes {
-        return false;
-    }
-    has_room(rows, longs, hunk, phase)
-}
-
 impl Standing {
     /// Whether the file is whole.
     ///
@@ -106,38 +66,48 @@ impl Standing {
     {
         self.state.position.is_done()
     }
+
+    /// Whether the numbers lead out of neither the rows nor a store of `total` bytes, as far as no
+    /// hunk opens.
+    fn is_within(self, rows: &[Row], total: usize) -> bool
+        ensures sound { result ≡ true → IsWithin rows.now total self }
+        ensures complete { (store fed : List ℕ) → IsFed rows.now store self fed
+            → length store ≡ total → result ≡ true }
+    {
+        if self.pending.count > 3 {
+            return false;
+        }
+        if self.state.position.is_between_hunks() {
+            return true;
+        }
+        self.state.is_in_store(rows, total)
+    }
 }
 
-/// Takes a byte.
-fn take_byte(store: &mut [u8], rows: &[Row], at: Standing, byte: u8) -> Result<Standing, Stop>
-    requires { at.fed + 1 < 2 ^ 64 }
-    ensures counts { IfOk result (λ to. to.fed ≡ at.fed + 1) }
-    ensures takes { (fed : List ℕ) → IsFed rows.now store.old at fed
-        → is_done at.state.position ≡ false
-        → MatchResult result (λ to. IsFed rows.now store.new to (fed ++ byte ∷ []))
-        (StopsAt (fed ++ byte ∷ [])) }
+/// Takes the byte at the front of the piece, and gives 1.
+#[inline(always)]
+fn take_byte(store: &mut [u8], rows: &[Row], at: &mut Standing, piece: &[u8]) -> Result<usize, Stop>
+    requires within { IsWithin rows.now (length store.old) at.old }
+    requires goes_on { is_done at.old.state.position ≡ false }
+    requires nonempty { 0 < length piece.now }
+    ensures part { IfOk result (TakesPart rows.now (length store.new) at.old at.new piece.now) }
+    ensures takes { (fed : List ℕ) → IsFed rows.now store.old at.old fed
+        → TakesTo rows.now store.new at.new fed piece.now result }
     ensures own_reasons { IfErr result StopsForBody }
 {
-    if at.pending.count < 3 {
-        return Ok(Standing {
-            fed: at.fed + 1,
-            pending: at.pending.and(byte),
-            ..at
-        });
-    }
-    if at.pending.count > 3 {
+    let (pending, next) = at.pending.take(piece[0]);
+    at.pending = pending;
+    let Some(word) = next else {
+        return Ok(1);
+    };
+    if !at.state.is_in_store(rows, store.len()) {
         return Err(Stop::Strange);
     }
-    if !is_in_store(at.state, rows, store.len()) {
-        return Err(Stop::Strange);
-    }
-    let word = at.pending.word(byte);
     match take_word(store, rows, at.state, word) {
-        Ok(state) => Ok(Standing {
-            state,
-            fed: at.fed + 1,
-            pending: Pending::none(),
-        }),
+        Ok(state) => {
+            at.state = state;
+            Ok(1)
+        }
         Err(reason) => {
             let place = at.fed.saturating_sub(3);
             Err(Stop::Refused(LoadFault { place, reason }))
@@ -145,64 +115,99 @@ fn take_byte(store: &mut [u8], rows: &[Row], at: Standing, byte: u8) -> Result<S
     }
 }
 
-/// Takes longwords that lie whole in the piece, and gives their number of bytes.
-#[inline(never)]
+/// Takes the longwords that lie whole in the piece, up to the end of the file, and gives their
+/// number of bytes.
+///
+/// The numbers are looked at where a hunk opens: within it no longword leads out of the rows or
+/// the store.
+#[inline(always)]
 fn take_longs(
     store: &mut [u8],
     rows: &[Row],
-    at: Standing,
+    at: &mut Standing,
     piece: &[u8],
-) -> Result<(Standing, usize), Stop>
-    requires gathers_none { at.pending.count ≡ 0 }
+) -> Result<usize, Stop>
+    requires within { IsWithin rows.now (length store.old) at.old }
+    requires goes_on { is_done at.old.state.position ≡ false }
+    requires gathers_none { at.old.pending.count ≡ 0 }
     requires whole_long { 4 ≤ length piece.now }
-    requires room { at.fed + length piece.now < 2 ^ 64 }
-    ensures counts { IfOk result (λ r. CountsTaken at piece.now r.0 r.1) }
-    ensures takes { (fed : List ℕ) → IsFed rows.now store.old at fed
-        → is_done at.state.position ≡ false → TakesOn rows.now store.new fed piece.now result }
+    requires room { at.old.fed + length piece.now < 2 ^ 64 }
+    ensures part { IfOk result (TakesPart rows.now (length store.new) at.old at.new piece.now) }
+    ensures takes { (fed : List ℕ) → IsFed rows.now store.old at.old fed
+        → TakesTo rows.now store.new at.new fed piece.now result }
     ensures own_reasons { IfErr result StopsForBody }
 {
-    let Position::Body(hunk, phase) = at.state.position else {
-        return Err(Stop::Strange);
-    };
-    if !is_in_store(at.state, rows, store.len()) {
-        return Err(Stop::Strange);
-    }
-    let mut state = at.state;
-    match take_front(store, rows, &mut state, hunk, phase, piece) {
-        Ok(count) => {
-            let to = Standing {
-                state,
-                fed: at.fed + count as u64,
-                pending: Pending::none(),
-            };
-            Ok((to, count))
+    let mut rest = piece;
+    'longwords: while rest.len() >= 4 {
+        let Position::Body(hunk, phase) = at.state.position else {
+            return Ok(piece.len() - rest.len());
+        };
+        if at.state.position.is_between_hunks() && !at.state.is_in_store(rows, store.len()) {
+            return Err(Stop::Strange);
         }
-        Err(reason) => Err(Stop::Refused(LoadFault {
-            place: at.fed,
-            reason,
-        })),
+        match take_front(store, rows, &mut at.state, hunk, phase, rest) {
+            Ok(count) => rest = &rest[count..],
+            Err(reason) => {
+                let place = at.fed + (piece.len() - rest.len()) as u64;
+                return Err(Stop::Refused(LoadFault { place, reason }));
+            }
+        }
     }
+    Ok(piece.len() - rest.len())
 }
 
-/// Takes bytes from the front of the piece, and gives their number.
-fn take_some(
-    store: &mut [u8],
-    rows: &[Row],
-    at: Standing,
-    piece: &[u8],
-) -> Result<(Standing, usize), Stop>
+/// Takes a part of the piece from its front, and gives its number of bytes, which are not counted
+/// yet: longwords that lie whole in it, or a byte of one that does not.
+#[inline(always)]
+fn take_part(store: &mut [u8], rows: &[Row], at: &mut Standing, piece: &[u8]) -> Result<usize, Stop>
+    requires within { IsWithin rows.now (length store.old) at.old }
+    requires goes_on { is_done at.old.state.position ≡ false }
     requires nonempty { 0 < length piece.now }
-    requires room { at.fed + length piece.now < 2 ^ 64 }
-    ensures counts { IfOk result (λ r. CountsTaken at piece.now r.0 r.1) }
-    ensures takes { (fed : List ℕ) → IsFed rows.now store.old at fed
-        → is_done at.state.position ≡ false → TakesOn rows.now store.new fed piece.now result }
+    requires room { at.old.fed + length piece.now < 2 ^ 64 }
+    ensures part { IfOk result (TakesPart rows.now (length store.new) at.old at.new piece.now) }
+    ensures takes { (fed : List ℕ) → IsFed rows.now store.old at.old fed
+        → TakesTo rows.now store.new at.new fed piece.now result }
     ensures own_reasons { IfErr result StopsForBody }
 {
     if at.pending.count == 0 && piece.len() >= 4 {
         return take_longs(store, rows, at, piece);
     }
-    let to = take_byte(store, rows, at, piece[0])?;
-    Ok((to, 1))
+    take_byte(store, rows, at, piece)
+}
+
+/// Takes the piece, or up to the end of the file where that stands inside it, and gives the number
+/// of bytes taken. The numbers are known to lead nowhere else; what they are after an `Err` is not
+/// said.
+#[inline(always)]
+pub(crate) fn take_all(
+    store: &mut [u8],
+    rows: &[Row],
+    at: &mut Standing,
+    piece: &[u8],
+) -> Result<usize, Stop>
+    requires within { IsWithin rows.now (length store.old) at.old }
+    requires room { at.old.fed + length piece.now < 2 ^ 64 }
+    ensures inside { IfOk result (λ n. n ≤ length piece.now) }
+    ensures all { IfOk result
+        (λ n. n < length piece.now → is_done at.new.state.position ≡ true) }
+    ensures takes { (fed : List ℕ) → IsFed rows.now store.old at.old fed
+        → StandsOn rows.now store.new at.new fed piece.now result }
+    ensures own_reasons { IfErr result StopsForBody }
+{
+    let mut taken = 0;
+    'parts: while taken < piece.len() {
+        if at.state.position.is_done() {
+            return Ok(taken);
+        }
+        match take_part(store, rows, at, &piece[taken..]) {
+            Ok(count) => {
+                at.fed += count as u64;
+                taken += count;
+            }
+            Err(stop) => return Err(stop),
+        }
+    }
+    Ok(taken)
 }
 
 /// Takes the piece, or up to the end of the file where that stands inside it, and gives the number
@@ -237,17 +242,14 @@ pub fn take_piece(
     if piece.len() as u64 > u64::MAX - at.fed {
         return Err(Stop::Strange);
     }
-    let mut to = at;
-    let mut taken = 0;
-    'pieces: while taken < piece.len() {
-        if to.state.position.is_done() {
-            return Ok((to, taken));
-        }
-        let (behind, count) = take_some(store, rows, to, &piece[taken..])?;
-        to = behind;
-        taken += count;
+    if !at.is_within(rows, store.len()) {
+        return Err(Stop::Strange);
     }
-    Ok((to, taken))
+    let mut to = at;
+    match take_all(store, rows, &mut to, piece) {
+        Ok(taken) => Ok((to, taken)),
+        Err(stop) => Err(stop),
+    }
 }
 
 /// The number of rows, or 0 where no table has as many.

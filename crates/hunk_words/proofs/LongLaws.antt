@@ -62,6 +62,14 @@ four a b c d rest fit (suc (suc (suc (suc i)))) = omega arith
 after_four : (a b c d : ℕ) (rest : List ℕ) → IsBytes (a ∷ b ∷ c ∷ d ∷ rest) → IsBytes rest
 after_four a b c d rest fit i = fit (suc (suc (suc (suc i))))
 
+-- the first longword
+pub in_place : (bytes : List ℕ) → IsBytes bytes → 4 ≤ length bytes → take 4 bytes ≡ bytes_of (get_or (longs bytes) 0 0 ∷ [])
+unfolding bytes_of
+in_place (a ∷ b ∷ c ∷ d ∷ rest) fit l =
+    let cells : List ℕ = a ∷ b ∷ c ∷ d ∷ [] in
+    sym (be_bytes_4 cells (from_be_bytes w32 cells) refl (four a b c d rest fit) refl)
+in_place _ fit l = absurd (omega (arith, l))
+
 -- the bytes of the longwords, and those over
 pub record Spelled (bytes : List ℕ) : Type 0 where
   pub over : List ℕ
@@ -76,13 +84,12 @@ spelled (a ∷ b ∷ []) fit = record { over = a ∷ b ∷ []; few = omega arith
 spelled (a ∷ b ∷ c ∷ []) fit = record { over = a ∷ b ∷ c ∷ []; few = omega arith; split = refl }
 spelled (a ∷ b ∷ c ∷ d ∷ rest) fit =
     let r = spelled rest (after_four a b c d rest fit) in
-    let cells : List ℕ = a ∷ b ∷ c ∷ d ∷ [] in
     record {
       over = r.over;
       few = r.few;
       split =
           ap (λ (xs : List ℕ). a ∷ b ∷ c ∷ d ∷ xs) r.split
-          ∙ ap (λ (xs : List ℕ). xs ++ bytes_of (longs rest) ++ r.over) (sym (be_bytes_4 cells (from_be_bytes w32 cells) refl (four a b c d rest fit) refl));
+          ∙ ap (λ (xs : List ℕ). xs ++ bytes_of (longs rest) ++ r.over) (in_place (a ∷ b ∷ c ∷ d ∷ rest) fit (omega arith));
     }
 
 pub longs_fit : (bytes : List ℕ) → IsBytes bytes → AreLongs (longs bytes)

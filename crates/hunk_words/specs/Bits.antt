@@ -1,5 +1,5 @@
 -- The bit fields of size words, block words, and the words of SYMBOL and EXT entries.
-use Rattle.std.specs.Prelude.{ℕ, ◌+◌, ◌*◌, ◌/◌, ◌%◌, ◌^◌, ◌==◌, Bool, if◌then◌else◌}
+use Rattle.std.specs.Prelude.{ℕ, ◌+◌, ◌*◌, ◌/◌, ◌%◌, ◌^◌, ◌==◌, Bool, true, false, if◌then◌else◌}
 use Rattle.hunk_words.specs.Limits.{name_limit, content_limit}
 use Rattle.hunk_words.specs.declared.block_word.Kind.{Kind}
 use Rattle.hunk_words.specs.declared.block_word.Kind.TheVariants as kinds
@@ -103,6 +103,18 @@ kind_of_number n =
 -- the kind of a block, by the low 29 bits of its word
 unfoldable pub kind : ℕ → Kind
 kind word = kind_of_number (word % 2 ^ 29)
+
+-- the relocation kinds of docs/FORMAT.md
+abbrev pub is_relocation : Kind → Bool
+is_relocation kinds.Reloc32 = true
+is_relocation kinds.Reloc16 = true
+is_relocation kinds.Reloc8 = true
+is_relocation kinds.Drel32 = true
+is_relocation kinds.Drel16 = true
+is_relocation kinds.Drel8 = true
+is_relocation kinds.RelReloc32 = true
+is_relocation kinds.AbsReloc16 = true
+is_relocation _ = false
 
 -- ---- words of entries
 

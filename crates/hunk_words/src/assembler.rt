@@ -1,8 +1,8 @@
-//! The bytes of a longword in progress.
+//! Longwords of bytes that come in pieces.
 ghost use Rattle.std.specs.Prelude.{◌≡◌, ◌<◌, ◌≤◌, [], ◌∷◌, ◌++◌, length, take, IfNone};
 ghost use Rattle.hunk_words.specs.Longs.{Gathers};
 
-use arrayvec::ArrayVec;
+use crate::pending::Pending;
 use std::marker::Model;
 
 /// Makes longwords of bytes that come in pieces, however they were cut, high byte first.
@@ -10,17 +10,18 @@ use std::marker::Model;
 /// Contracts see the bytes that are pending, 0 to 3 of them.
 #[derive(Debug, Drop)]
 pub struct Assembler {
-    bytes: ArrayVec<u8, 4>,
+    pending: Pending,
 }
 
 impl Model for Assembler {
-    ghost use Rattle.std.specs.Prelude.{List, ℕ, ◌<◌, length};
+    ghost use Rattle.std.specs.Prelude.{List, ℕ, ◌<◌};
+    ghost use Rattle.hunk_words.specs.PendingBytes.{pending_of};
 
     ghost Value = { List ℕ };
 
-    ghost view = { λ s. s.bytes.items };
+    ghost view = { λ s. pending_of s.pending };
 
-    ghost invariant = { λ s. length s.bytes.items < 4 };
+    ghost invariant = { λ s. s.pending.count < 4 };
 }
 
 impl Assembler {
@@ -29,7 +30,7 @@ impl Assembler {
         ensures { result ≡ [] }
     {
         Assembler {
-            bytes: ArrayVec::new(),
+            pending: Pending::none(),
         }
     }
 
@@ -38,22 +39,17 @@ impl Assembler {
         ensures value { result ≡ length self.now }
         ensures bound { result < 4 }
     {
-        self.bytes.len()
+        usize::from(self.pending.count)
     }
 
     /// Takes one byte, and gives the longword that it completes.
-    #[tactic(auto, unfolding(crate::specs::Longs::bytes_of))]
     pub fn push(&mut self, byte: u8) -> Option<u32>
         ensures gathers { Gathers (self.old ++ byte ∷ []) self.new result }
         ensures bound { length self.new < 4 }
     {
-        self.bytes.push(byte);
-        if self.bytes.len() < 4 {
-            return None;
-        }
-        let word = u32::from_be_bytes([self.bytes[0], self.bytes[1], self.bytes[2], self.bytes[3]]);
-        self.bytes = ArrayVec::new();
-        Some(word)
+        let (pending, word) = self.pending.take(byte);
+        self.pending = pending;
+        word
     }
 
     /// Takes bytes until a longword is whole or the slice ends, and gives the number of bytes taken
@@ -65,7 +61,7 @@ impl Assembler {
         ensures bound { length self.new < 4 }
     {
         // The proof learns the bound on what is pending.
-        let _ = &self.bytes;
+        let _ = &self.pending;
         let mut taken = 0;
         for byte in piece {
             taken += 1;

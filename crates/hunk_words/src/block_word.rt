@@ -1,7 +1,8 @@
 //! Block words.
 ghost use Rattle.std.specs.Prelude.{◌≡◌, ◌^◌, ◌<◌, ◌≤◌, IfSome, length};
 ghost use Rattle.std.specs.Option.{option_copied};
-ghost use Rattle.hunk_words.specs.Bits.{flags, has_both_bits, is_advisory, is_chip, is_fast, kind};
+ghost use Rattle.hunk_words.specs.Bits.{flags, has_both_bits, is_advisory, is_chip, is_fast};
+ghost use Rattle.hunk_words.specs.Bits.{is_relocation, kind};
 ghost use Rattle.hunk_words.specs.KindNames.{name_of_kind};
 
 use crate::size_word::has_both_bits;
@@ -117,6 +118,27 @@ impl Kind {
             Kind::Unknown(_) => return None,
         };
         Some(name)
+    }
+
+    /// Whether it is one of the eight relocation kinds, whose blocks list the offsets that are
+    /// relocated. `Reloc32Short` is none of them, since it is rejected in each file.
+    ///
+    /// Source: The AmigaDOS Manual, `dos/doshunks.h`.
+    #[inline(always)]
+    pub fn is_relocation(self) -> bool
+        ensures { result ≡ is_relocation self }
+    {
+        matches!(
+            self,
+            Kind::Reloc32
+                | Kind::Reloc16
+                | Kind::Reloc8
+                | Kind::Drel32
+                | Kind::Drel16
+                | Kind::Drel8
+                | Kind::RelReloc32
+                | Kind::AbsReloc16
+        )
     }
 }
 

@@ -1,15 +1,13 @@
 //! Reading the entries of an EXT block.
-ghost use Rattle.std.specs.Prelude.{◌≡◌, ◌≢◌, IfErr, IfOk, OnErr, Some, map, ◌⊎◌};
-ghost use Rattle.hunk_words.specs.Bits.{entry_type};
+ghost use Rattle.std.specs.Prelude.{◌≡◌, IfErr, IfOk, Some, map};
 ghost use Rattle.std.specs.List.{AllByRecursion};
 ghost use Rattle.std.specs.Option.{option_map};
 ghost use Rattle.hunk_words.specs.declared.reason.Reason.TheVariants as reasons;
-ghost use Rattle.hunk_blocks.specs.declared.ext_shape.ExtShape.TheVariants as shapes;
-ghost use Rattle.hunk_blocks.specs.Entries.{ReadsEntry};
-ghost use Rattle.hunk_blocks.specs.ExtKinds.{ext_shape};
+ghost use Rattle.hunk_blocks.specs.Entries.{IsShaped, shaped_text};
 ghost use Rattle.hunk_blocks.specs.Values.{IsExtEntry};
 ghost use Rattle.hunk_blocks.specs.Parts.{ext_text, list_text};
-ghost use Rattle.hunk_blocks.specs.Reading.{HasLongIn, BeginsWithNo, BeginsWithNoItem, Reads, ReadsItem, cut};
+ghost use Rattle.hunk_blocks.specs.Reading.{BeginsWithList, BeginsWithSome, EndsListItemAt};
+ghost use Rattle.hunk_blocks.specs.Reading.{Reads, ReadsItem};
 ghost use Rattle.hunk_blocks.specs.Views.{entry_of};
 
 use crate::entries::{Entries, Entry};
@@ -19,80 +17,47 @@ use crate::growing::append;
 use crate::longs::Longs;
 use crate::reading::long_reader::LongReader;
 use crate::reading::payloads::{read_counted, read_entry_name};
-use hunk_words::{BlockFault, Reason};
+use hunk_words::BlockFault;
 use std::alloc::Global;
 
-/// The name and the value behind this word.
-fn definition<'a>(reader: &mut LongReader<'a>, word: u32) -> Result<Entry<'a>, BlockFault>
-    requires goes_on { word ≢ 0 }
-    requires shape { ext_shape (entry_type word) ≡ Some shapes.Definition }
-    ensures { ReadsEntry reader.old reader.new word result }
+/// What stands behind the name of an entry of this shape: its value and its offsets.
+fn read_shaped<'a>(reader: &mut LongReader<'a>, shape: ExtShape) -> (u32, Longs<'a>)
+    requires { BeginsWithSome (IsShaped (Some shape)) (shaped_text (Some shape)) reader.old.rest }
+    ensures fits { IsShaped (Some shape) result }
+    ensures read { Reads reader.old reader.new (shaped_text (Some shape) result) }
 {
-    let name = read_entry_name(reader, word)?;
-    let value = reader.long()?;
-    Ok(Entry {
-        word,
-        name,
-        value,
-        offsets: Longs::none(),
-    })
-}
-
-/// The name, the count and the offsets behind this word.
-fn reference<'a>(reader: &mut LongReader<'a>, word: u32) -> Result<Entry<'a>, BlockFault>
-    requires goes_on { word ≢ 0 }
-    requires shape { ext_shape (entry_type word) ≡ Some shapes.References }
-    ensures { ReadsEntry reader.old reader.new word result }
-{
-    let name = read_entry_name(reader, word)?;
-    let offsets = Longs::of(read_counted(reader)?);
-    Ok(Entry {
-        word,
-        name,
-        value: 0,
-        offsets,
-    })
-}
-
-/// The name, the size, the count and the offsets behind this word.
-fn common<'a>(reader: &mut LongReader<'a>, word: u32) -> Result<Entry<'a>, BlockFault>
-    requires goes_on { word ≢ 0 }
-    requires shape { ext_shape (entry_type word) ≡ Some shapes.Common }
-    ensures { ReadsEntry reader.old reader.new word result }
-{
-    let name = read_entry_name(reader, word)?;
-    let value = reader.long()?;
-    let offsets = Longs::of(read_counted(reader)?);
-    Ok(Entry {
-        word,
-        name,
-        value,
-        offsets,
-    })
+    match shape {
+        ExtShape::Definition => (reader.long(), Longs::none()),
+        ExtShape::References => (0, Longs::of(read_counted(reader))),
+        ExtShape::Common => {
+            let size = reader.long();
+            (size, Longs::of(read_counted(reader)))
+        }
+    }
 }
 
 /// The next entry, or `None` behind the zero that ends the block (The AmigaDOS Manual,
 /// `dos/doshunks.h`).
-fn next_entry<'a>(reader: &mut LongReader<'a>) -> Result<Option<Entry<'a>>, BlockFault>
-    ensures read { IfOk result (λ found.
-        ReadsItem IsExtEntry ext_text reader.old reader.new (option_map entry_of found)) }
-    ensures none { OnErr result (BeginsWithNoItem IsExtEntry ext_text reader.old.rest) }
-    ensures fault { IfErr result (λ fault.
-        (fault ≡ cut reader.old) ⊎ (fault.reason ≡ reasons.ExtKind)) }
+fn next_entry<'a>(reader: &mut LongReader<'a>) -> Option<Entry<'a>>
+    requires { BeginsWithList IsExtEntry ext_text reader.old.rest }
+    ensures { ReadsItem IsExtEntry ext_text reader.old reader.new (option_map entry_of result) }
 {
-    let place = reader.place();
-    let word = reader.long()?;
+    let word = reader.long();
     if word == 0 {
-        return Ok(None);
+        return None;
     }
+    let name = read_entry_name(reader, word);
     match shape_of(word) {
-        Some(ExtShape::Definition) => Ok(Some(definition(reader, word)?)),
-        Some(ExtShape::References) => Ok(Some(reference(reader, word)?)),
-        Some(ExtShape::Common) => Ok(Some(common(reader, word)?)),
-        None => Err(BlockFault {
-            place,
-            reason: Reason::ExtKind,
-        }),
+        Some(shape) => {
+            let (value, offsets) = read_shaped(reader, shape);
+            Some(Entry {
+                word,
+                name,
+                value,
+                offsets,
+            })
+        }
+        None => unreachable!(),
     }
 }
 
@@ -101,19 +66,16 @@ pub(crate) fn read_entries<'a>(
     alloc: Global,
     reader: &mut LongReader<'a>,
 ) -> Result<Entries<'a>, BlockFault>
+    requires { BeginsWithList IsExtEntry ext_text reader.old.rest }
+    ensures are { IfOk result (λ entries. AllByRecursion IsExtEntry (map entry_of entries)) }
     ensures read { IfOk result (λ entries.
-        AllByRecursion IsExtEntry (map entry_of entries) ×
         Reads reader.old reader.new (list_text ext_text (map entry_of entries))) }
-    ensures none { IfErr result (λ fault. fault.reason ≢ reasons.OutOfMemory →
-        BeginsWithNo (AllByRecursion IsExtEntry) (list_text ext_text) reader.old.rest) }
-    ensures reached { IfErr result (λ fault. fault.reason ≡ reasons.OutOfMemory →
-        HasLongIn reader.old fault.place) }
-    ensures fault { IfErr result (λ fault.
-        (fault ≡ cut reader.old) ⊎ (fault.reason ≡ reasons.ExtKind) ⊎
-        (fault.reason ≡ reasons.OutOfMemory)) }
+    ensures memory { IfErr result (λ fault. fault.reason ≡ reasons.OutOfMemory) }
+    ensures place { IfErr result (λ fault.
+        EndsListItemAt IsExtEntry ext_text reader.old fault.place) }
 {
     let mut entries = Vec::new(alloc);
-    'entries: while let Some(entry) = next_entry(reader)? {
+    'entries: while let Some(entry) = next_entry(reader) {
         if append(&mut entries, entry).is_err() {
             return Err(reader.out_of_memory());
         }

@@ -1,14 +1,14 @@
 //! The longwords of a slice, read from the front.
-ghost use Rattle.std.specs.Prelude.{◌≡◌, ◌+◌, ◌*◌, ◌^◌, ◌<◌, ◌≤◌, [], ◌∷◌, length, IfOk, IfErr, Err, OnErr};
+ghost use Rattle.std.specs.Prelude.{◌≡◌, ◌+◌, ◌*◌, ◌^◌, ◌<◌, ◌≤◌, [], ◌∷◌, length};
 ghost use Rattle.hunk_words.specs.Longs.{AreLongs, longs};
 ghost use Rattle.hunk_words.specs.declared.reason.Reason.TheVariants as reasons;
-ghost use Rattle.hunk_blocks.specs.Reading.{Reads, cut};
+ghost use Rattle.hunk_blocks.specs.Reading.{Reads};
 
 use crate::payload::Payload;
 use hunk_words::{BlockFault, Reason, word_at};
 use std::marker::Model;
 
-/// The longwords of a slice, read from the front. What is refused stays unread.
+/// The longwords of a slice, read from the front.
 #[derive(Drop)]
 pub(crate) struct LongReader<'a> {
     rest: &'a [u8],
@@ -46,17 +46,6 @@ impl<'a> LongReader<'a> {
         self.place
     }
 
-    /// The end of the input, as a refusal.
-    #[tactic(auto, using(crate::proofs::Whole::long_counts))]
-    fn cut(&self) -> BlockFault
-        ensures { result ≡ cut self.now }
-    {
-        BlockFault {
-            place: self.place + 4 * (self.rest.len() as u64 / 4),
-            reason: Reason::Truncated,
-        }
-    }
-
     /// A refusal of memory, at the longword that was read last.
     pub(crate) fn out_of_memory(&self) -> BlockFault
         requires { 4 ≤ self.now.place }
@@ -70,35 +59,27 @@ impl<'a> LongReader<'a> {
     }
 
     /// The next longwords, as many as `count`.
-    pub(crate) fn payload(&mut self, count: u32) -> Result<Payload<'a>, BlockFault>
-        ensures read { IfOk result (λ p. Reads self.old self.new (longs p)) }
-        ensures count { IfOk result (λ p. (length (longs p) ≡ count) × AreLongs (longs p)) }
-        ensures short { OnErr result (length self.old.rest < count) }
-        ensures longs { AreLongs self.old.rest }
-        ensures fault { IfErr result (λ fault. fault ≡ cut self.old) }
+    pub(crate) fn payload(&mut self, count: u32) -> Payload<'a>
+        requires { count ≤ length self.old.rest }
+        ensures read { Reads self.old self.new (longs result) }
+        ensures count { length (longs result) ≡ count }
+        ensures fits { AreLongs (longs result) }
     {
         let length = 4 * count as usize;
-        if self.rest.len() < length {
-            return Err(self.cut());
-        }
         let (front, rest) = self.rest.split_at(length);
         self.rest = rest;
         self.place += length as u64;
-        Ok(Payload::of(front))
+        Payload::of(front)
     }
 
     /// The next longword.
-    pub(crate) fn long(&mut self) -> Result<u32, BlockFault>
-        ensures read { IfOk result (λ word. Reads self.old self.new (word ∷ [])) }
-        ensures short { OnErr result (self.old.rest ≡ []) }
-        ensures fault { IfErr result (λ fault. fault ≡ cut self.old) }
+    pub(crate) fn long(&mut self) -> u32
+        requires { 0 < length self.old.rest }
+        ensures { Reads self.old self.new (result ∷ []) }
     {
-        if self.rest.len() < 4 {
-            return Err(self.cut());
-        }
         let word = word_at(self.rest, 0);
         self.rest = &self.rest[4..];
         self.place += 4;
-        Ok(word)
+        word
     }
 }

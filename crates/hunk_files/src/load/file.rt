@@ -1,12 +1,12 @@
 //! Load files.
 ghost use Rattle.std.specs.Prelude.{◌≡◌, ◌≢◌, ◌^◌, ◌<◌, ◌≤◌, IfOk, IfErr, IsTrue, Some, length, map, slice_get, take};
 ghost use Rattle.hunk_words.specs.declared.reason.Reason.TheVariants as reasons;
-ghost use Rattle.hunk_words.specs.Longs.{bytes_of, longs};
-ghost use Rattle.hunk_blocks.specs.Faults.{IsFrontTo};
+ghost use Rattle.hunk_words.specs.Longs.{bytes_of};
 ghost use Rattle.hunk_files.specs.LoadFile.{IsLoadFile};
 ghost use Rattle.hunk_files.specs.Image.{declared_bytes};
 ghost use Rattle.hunk_files.specs.LoadText.{table, text};
-ghost use Rattle.hunk_files.specs.Fault.{BeginsWithLoadFile, HasFault, is_load_refusal, load_files};
+ghost use Rattle.hunk_files.specs.Fault.{BeginsWithLoadFile, HasFault, is_load_refusal};
+ghost use Rattle.hunk_files.specs.Lacks.{LacksLoadPart};
 ghost use Rattle.hunk_files.specs.Tables.{size_entry};
 
 use crate::load::hunk::{LoadHunk, read_hunks};
@@ -53,8 +53,8 @@ impl<'a> LoadFile<'a> {
     /// - `Truncated` where all whole longwords are those of a load file that goes on, at 4 times
     ///   their number.
     /// - `OutOfMemory` where memory is refused for a row of the table, the groups or entries of a
-    ///   block, a block or a hunk, at the longword that completes what was to be kept. The bytes
-    ///   begin with a load file then, so it hides no fault.
+    ///   block, a block or a hunk, at the last longword of what was to be kept. The bytes begin
+    ///   with a load file then, so it hides no fault.
     pub fn decode(alloc: Global, bytes: &'a [u8]) -> Result<(LoadFile<'a>, usize), FileFault>
         ensures valid { IfOk result (λ r. IsLoadFile r.0) }
         ensures text { IfOk result (λ r. take r.1 bytes.entry.now ≡ bytes_of (text r.0)) }
@@ -63,16 +63,13 @@ impl<'a> LoadFile<'a> {
             HasFault bytes.entry.now fault.place fault.reason) }
         ensures none { IfErr result (λ fault. fault.reason ≢ reasons.OutOfMemory →
             BeginsWithLoadFile bytes.entry.now → ⊥) }
-        ensures begins { IfErr result (λ fault. fault.reason ≡ reasons.OutOfMemory →
-            BeginsWithLoadFile bytes.entry.now) }
-        ensures reached { IfErr result (λ fault. fault.reason ≡ reasons.OutOfMemory →
-            IsFrontTo load_files (longs bytes.entry.now) fault.place) }
+        ensures memory { IfErr result (λ fault. fault.reason ≡ reasons.OutOfMemory →
+            LacksLoadPart bytes.entry.now fault.place) }
         ensures own_reasons { IfErr result (λ fault. IsTrue (is_load_refusal fault.reason)) }
     {
         let size = walk(bytes)?;
-        let file = &bytes[..size];
-        let (rows, start) = read_table(alloc, file)?;
-        let hunks = read_hunks(alloc, file, &rows, start)?;
+        let (rows, start) = read_table(alloc, bytes)?;
+        let hunks = read_hunks(alloc, bytes, &rows, start)?;
         Ok((LoadFile { hunks }, size))
     }
 

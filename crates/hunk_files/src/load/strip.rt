@@ -10,8 +10,8 @@ use crate::load::hunk::LoadHunk;
 use crate::order::is_kept;
 
 impl<'a> LoadFile<'a> {
-    /// The file without its NAME, SYMBOL, DEBUG and ADVISORY blocks. It has the same table, and the
-    /// same image at all bases.
+    /// The file without the blocks that `HunkFile::strip` drops. It has the same table, and the same
+    /// image at all bases.
     ///
     /// It takes no memory.
     pub fn strip(self) -> LoadFile<'a>

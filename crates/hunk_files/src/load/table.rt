@@ -1,7 +1,8 @@
 //! The table of a load file's header.
 ghost use Rattle.std.specs.Prelude.{◌≡◌, IfOk, IfErr};
 ghost use Rattle.hunk_words.specs.declared.reason.Reason.TheVariants as reasons;
-ghost use Rattle.hunk_files.specs.Fault.{BeginsWithLoadFile, HasLongAt};
+ghost use Rattle.hunk_files.specs.Fault.{BeginsWithLoadFile};
+ghost use Rattle.hunk_files.specs.Lacks.{EndsAt, EndsLoadPart};
 ghost use Rattle.hunk_files.specs.Tables.{IsTable};
 
 use crate::place::out_of_memory;
@@ -24,7 +25,8 @@ pub(crate) fn read_table(alloc: Global, bytes: &[u8]) -> Result<(Vec<Row>, usize
     ensures table { IfOk result (λ r.
         (file : BeginsWithLoadFile bytes.now) → IsTable bytes.now file r.0.items r.1) }
     ensures memory { IfErr result (λ fault. fault.reason ≡ reasons.OutOfMemory) }
-    ensures reached { IfErr result (λ fault. HasLongAt bytes.entry.now fault.place) }
+    ensures place { IfErr result (λ fault. (file : BeginsWithLoadFile bytes.now) →
+        EndsAt (EndsLoadPart file.value) 0 fault.place) }
 {
     let hunks = word_at(bytes, TABLE_SIZE_AT) as usize;
     let mut rows = Vec::new(alloc);

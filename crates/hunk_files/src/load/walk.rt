@@ -6,11 +6,10 @@ ghost use Rattle.hunk_files.specs.Fault.{HasFault, HasLoadText};
 ghost use Rattle.hunk_files.specs.Entries.{entry_behind, entry_at};
 ghost use Rattle.hunk_scan.specs.Positions.{is_between_hunks, role_at, step};
 ghost use Rattle.hunk_scan.specs.Roles.{refuse};
-ghost use Rattle.hunk_scan.specs.declared.position.Position.TheVariants as positions;
 
 use crate::load::offsets::pass_list;
-use hunk_scan::{OpenHunk, Phase, Position, TABLE_AT};
-use hunk_words::{BlockWord, FileFault, Kind, Reason, SizeWord, word_at};
+use hunk_scan::{OpenHunk, Phase, Position, TABLE_AT, by_kind, by_phase};
+use hunk_words::{BlockWord, FileFault, Reason, SizeWord, word_at};
 
 /// What the table declares of the open hunk, 0 longwords before the first.
 #[derive(Clone, Copy)]
@@ -78,36 +77,8 @@ fn step_at(position: Position, longs: u32, word: u32) -> Result<Position, Reason
     Ok(position.step(word))
 }
 
-/// Steps from a block word. Each kind that a load file has is named here, so that whether it is
-/// rejected and what follows it is compiled for that kind alone.
-#[inline(always)]
-fn step_block_word(hunk: OpenHunk, phase: Phase, longs: u32, word: u32) -> Result<Position, Reason>
-    ensures steps { IfOk result (λ behind. behind ≡ step (positions.Body hunk phase) word) }
-    ensures passes { OnOk result (refuse (role_at longs (positions.Body hunk phase)) word ≡ None) }
-    ensures refusal { IfErr result
-        (λ reason. refuse (role_at longs (positions.Body hunk phase)) word ≡ Some reason) }
-{
-    let position = Position::Body(hunk, phase);
-    macro_rules! one {
-        () => {
-            step_at(position, longs, word)
-        };
-    }
-    match BlockWord::of(word).kind() {
-        Kind::Name => one!(),
-        Kind::Code => one!(),
-        Kind::Data => one!(),
-        Kind::Bss => one!(),
-        Kind::Reloc32 => one!(),
-        Kind::Symbol => one!(),
-        Kind::Debug => one!(),
-        Kind::End => one!(),
-        _ => one!(),
-    }
-}
-
-/// Steps from the position. The phases are distinguished here, once for all that is asked of
-/// them.
+/// Steps from the position. The phases and the kinds of block words are distinguished here, once
+/// for all that is asked of them.
 #[inline(always)]
 fn step_from(position: Position, longs: u32, word: u32) -> Result<Position, Reason>
     ensures steps { IfOk result (λ behind. behind ≡ step position word) }
@@ -122,25 +93,11 @@ fn step_from(position: Position, longs: u32, word: u32) -> Result<Position, Reas
             step_at(Position::Body(hunk, $phase), longs, word)
         };
     }
-    match phase {
-        Phase::FirstBlock | Phase::BlockWord => step_block_word(hunk, phase, longs, word),
-        Phase::NameCount => at!(Phase::NameCount),
-        Phase::LongCount => at!(Phase::LongCount),
-        Phase::ContentSize => at!(Phase::ContentSize),
-        Phase::BssSize => at!(Phase::BssSize),
-        // The walk passes over runs, and stands within none.
-        Phase::Content { .. } | Phase::Payload { .. } | Phase::Symbol { .. } => {
-            step_at(position, longs, word)
-        }
-        // Nothing is external in a load file.
-        Phase::ExtWord | Phase::ExtFront { .. } | Phase::ExtCount | Phase::ExtRest { .. } => {
-            step_at(position, longs, word)
-        }
-        Phase::GroupCount => at!(Phase::GroupCount),
-        Phase::Target { owed } => at!(Phase::Target { owed }),
-        Phase::Offset { target, owed } => at!(Phase::Offset { target, owed }),
-        Phase::EntryWord => at!(Phase::EntryWord),
-    }
+    by_phase!(
+        phase,
+        by_kind!(BlockWord::of(word).kind(), step_at(position, longs, word)),
+        at
+    )
 }
 
 /// The entry of the hunk that is open at the position: where it opens, the next of the table.

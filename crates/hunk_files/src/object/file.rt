@@ -1,17 +1,14 @@
 //! Object files.
-ghost use Rattle.std.specs.Prelude.{◌≡◌, ◌≢◌, ℕ, ◌<◌, IfErr, IfOk, IsTrue};
-ghost use Rattle.hunk_words.specs.Longs.{bytes_of, longs};
-ghost use Rattle.hunk_blocks.specs.Faults.{IsFrontTo};
-ghost use Rattle.hunk_words.specs.declared.reason.Reason.{Reason};
+ghost use Rattle.std.specs.Prelude.{◌≡◌, ◌≢◌, IfErr, IfOk, IsTrue};
+ghost use Rattle.hunk_words.specs.Longs.{bytes_of};
 ghost use Rattle.hunk_words.specs.declared.reason.Reason.TheVariants as reasons;
 ghost use Rattle.hunk_files.specs.ObjectFile.{IsNoObjectFile, is_object_refusal, IsObjectFile, object_text};
-ghost use Rattle.hunk_files.specs.HunkFile.{AreObjectFile};
-ghost use Rattle.hunk_files.specs.ObjectFault.{HasObjectFault, objects};
+ghost use Rattle.hunk_files.specs.ObjectFault.{HasObjectFault};
+ghost use Rattle.hunk_files.specs.Lacks.{LacksObjectPart};
 
+use crate::object::building::read_units;
 use crate::object::unit::Unit;
-use crate::object::walk::read_unit;
 use crate::object::whole::walk_object;
-use crate::place::{counted_from, out_of_memory};
 use hunk_words::FileFault;
 use std::alloc::Global;
 use std::marker::Model;
@@ -57,8 +54,9 @@ impl<'a> ObjectFile<'a> {
     ///
     /// `Truncated` is answered where the input ends while no unit has begun, inside a block, while
     /// a hunk is open or with 1 to 3 bytes over, at 4 times the number of whole longwords.
-    /// `OutOfMemory` is answered where memory is refused, at the longword that completes what was
-    /// to be kept. The bytes are an object file then, so it hides no fault.
+    /// `OutOfMemory` is answered where memory is refused for the groups or entries of a block, a
+    /// block, a hunk or a unit, at the last longword of what was to be kept. The bytes are an object
+    /// file then, so it hides no fault.
     pub fn decode(alloc: Global, bytes: &'a [u8]) -> Result<ObjectFile<'a>, FileFault>
         ensures file { IfOk result (λ o. IsObjectFile o) }
         ensures text { IfOk result (λ o. bytes.entry.now ≡ bytes_of (object_text o)) }
@@ -66,28 +64,13 @@ impl<'a> ObjectFile<'a> {
             (λ fault. fault.reason ≢ reasons.OutOfMemory → IsNoObjectFile bytes.entry.now) }
         ensures fault { IfErr result (λ fault. fault.reason ≢ reasons.OutOfMemory →
             HasObjectFault bytes.entry.now fault.place fault.reason) }
-        ensures reached { IfErr result (λ fault. fault.reason ≡ reasons.OutOfMemory →
-            IsFrontTo objects (longs bytes.entry.now) fault.place) }
-        ensures whole { IfErr result (λ fault. fault.reason ≡ reasons.OutOfMemory →
-            AreObjectFile bytes.entry.now) }
-        ensures hidden { IfErr result (λ fault. fault.reason ≡ reasons.OutOfMemory →
-            (at : ℕ) (reason : Reason) →
-            HasObjectFault bytes.entry.now at reason → fault.place < at) }
+        ensures memory { IfErr result (λ fault. fault.reason ≡ reasons.OutOfMemory →
+            LacksObjectPart bytes.entry.now fault.place) }
         ensures own_reasons { IfErr result (λ fault. IsTrue (is_object_refusal fault.reason)) }
     {
         walk_object(bytes)?;
-        let mut units = Vec::new(alloc);
-        let mut at = 0;
-        'reading: loop {
-            let (unit, size) = counted_from(at, read_unit(alloc, &bytes[at..]))?;
-            at += size;
-            if units.push(unit).is_err() {
-                return Err(out_of_memory(at));
-            }
-            if at == bytes.len() {
-                return Ok(ObjectFile { units });
-            }
-        }
+        let units = read_units(alloc, bytes)?;
+        Ok(ObjectFile { units })
     }
 
     /// The units, in file order. There is at least one.

@@ -1,12 +1,12 @@
 //! Positions in an object file.
-ghost use Rattle.std.specs.Prelude.{◌≡◌, ◌≤◌, ◌^◌};
+ghost use Rattle.std.specs.Prelude.{◌≡◌, ◌≤◌, ◌^◌, Some, None, IfOk, IfErr, OnOk};
 ghost use Rattle.hunk_scan.specs.Standings.{is_content, standing_of_kind};
 ghost use Rattle.hunk_files.specs.ObjectFault.{has_content, refuse_object, refuse_object_word, refuse_unit};
 ghost use Rattle.hunk_files.specs.ObjectSteps as steps;
 ghost use Rattle.hunk_files.specs.ObjectSteps.{place_next, refuse_place, role_at};
 
 use hunk_blocks::Mode;
-use hunk_scan::{Phase, refuse_place};
+use hunk_scan::{Phase, by_kind, refuse_place};
 use hunk_words::{BlockWord, Kind, NAME_LIMIT, Reason, UNIT_WORD};
 
 /// Where a block word stands.
@@ -134,7 +134,7 @@ impl ObjectPosition {
     /// A unit's header is that of The AmigaDOS Manual and `dos/doshunks.h`.
     #[tactic(auto, using(crate::proofs::ObjectWords::within_split))]
     #[inline(always)]
-    pub(crate) fn refuse(self, word: u32) -> Option<Reason>
+    fn refuse(self, word: u32) -> Option<Reason>
         ensures { result ≡ refuse_object (role_at self) word }
     {
         match self {
@@ -147,7 +147,7 @@ impl ObjectPosition {
 
     /// Behind a longword that is not refused.
     #[inline(always)]
-    pub(crate) fn step(self, word: u32) -> ObjectPosition
+    fn step(self, word: u32) -> ObjectPosition
         ensures { result ≡ steps.step self word }
     {
         match self {
@@ -159,6 +159,35 @@ impl ObjectPosition {
             ObjectPosition::UnitCount => owe_name(word),
             ObjectPosition::UnitName { owed } => owe_name(owed),
             ObjectPosition::Block { behind, phase } => within(behind, phase.step(word)),
+        }
+    }
+
+    /// The position behind the longword, or why the longword is refused.
+    #[inline(always)]
+    fn step_at(self, word: u32) -> Result<ObjectPosition, Reason>
+        ensures steps { IfOk result (λ behind. behind ≡ steps.step self word) }
+        ensures passes { OnOk result (refuse_object (role_at self) word ≡ None) }
+        ensures refusal { IfErr result (λ reason. refuse_object (role_at self) word ≡ Some reason) }
+    {
+        if let Some(reason) = self.refuse(word) {
+            return Err(reason);
+        }
+        Ok(self.step(word))
+    }
+
+    /// Steps from the position. The kinds of block words are distinguished here, once for all that
+    /// is asked of them.
+    #[inline(always)]
+    pub(crate) fn step_from(self, word: u32) -> Result<ObjectPosition, Reason>
+        ensures steps { IfOk result (λ behind. behind ≡ steps.step self word) }
+        ensures passes { OnOk result (refuse_object (role_at self) word ≡ None) }
+        ensures refusal { IfErr result (λ reason. refuse_object (role_at self) word ≡ Some reason) }
+    {
+        match self {
+            ObjectPosition::Word(_) if word != UNIT_WORD => {
+                by_kind!(BlockWord::of(word).kind(), self.step_at(word))
+            }
+            _ => self.step_at(word),
         }
     }
 

@@ -45,8 +45,8 @@ fn strip_units(units: &mut Vec<Unit>)
 }
 
 impl<'a> ObjectFile<'a> {
-    /// The file without its NAME, SYMBOL, DEBUG and ADVISORY blocks. A unit keeps its own name, and
-    /// EXT blocks stay. Takes no memory.
+    /// The file without the blocks that `HunkFile::strip` drops. A unit keeps its own name, and EXT
+    /// blocks stay. Takes no memory.
     pub fn strip(mut self) -> ObjectFile<'a>
         ensures stripped { result ≡ strip_object self.entry }
         ensures shorter { length (bytes_of (object_text result))

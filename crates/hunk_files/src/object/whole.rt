@@ -4,8 +4,7 @@ ghost use Rattle.hunk_files.specs.HunkFile.{AreObjectFile};
 ghost use Rattle.hunk_files.specs.ObjectFault.{HasObjectFault};
 
 use crate::object::position::{ObjectPosition, WordPlace};
-use crate::object::refusal::truncated;
-use hunk_words::{FileFault, word_at};
+use hunk_words::{FileFault, Reason, word_at};
 
 /// Whether the bytes are an object file, from the first to the last, or else their first fault.
 ///
@@ -25,18 +24,23 @@ pub fn walk_object(bytes: &[u8]) -> Result<(), FileFault>
     let mut at = 0;
     'walking: while at < count {
         let word = word_at(bytes, at);
-        if let Some(reason) = position.refuse(word) {
-            return Err(FileFault {
-                place: 4 * at as u64,
-                reason,
-            });
-        }
-        let behind = position.step(word);
+        let behind = match position.step_from(word) {
+            Ok(behind) => behind,
+            Err(reason) => {
+                return Err(FileFault {
+                    place: 4 * at as u64,
+                    reason,
+                });
+            }
+        };
         at += 1 + behind.run() as usize;
         position = behind.behind();
     }
     if at > count || bytes.len() % 4 != 0 || !position.may_end() {
-        return Err(truncated(bytes));
+        return Err(FileFault {
+            place: 4 * count as u64,
+            reason: Reason::Truncated,
+        });
     }
     Ok(())
 }

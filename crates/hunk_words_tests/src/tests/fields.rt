@@ -46,6 +46,18 @@ fn block_words(rt: HostRuntime) -> Result<(), Fail> {
 }
 
 #[test]
+fn relocation_kinds(rt: HostRuntime) -> Result<(), Fail> {
+    // From UNIT to one behind ABSRELOC16: RELOC32 and the two behind it, DREL32 and the two behind
+    // it, RELRELOC32 and ABSRELOC16.
+    for number in 0x3E7..=0x3FF {
+        let relocates = matches!(number, 0x3EC..=0x3EE | 0x3F7..=0x3F9 | 0x3FD | 0x3FE);
+        let kind = BlockWord::of(number).kind();
+        assert_equal(&rt, kind.is_relocation(), relocates);
+    }
+    Ok(())
+}
+
+#[test]
 fn reasons(rt: HostRuntime) -> Result<(), Fail> {
     let table = [
         (Reason::NotLoadFile, 1, "NotLoadFile"),

@@ -16,4 +16,4 @@ returns-in_err-file-clause-refused c =
 pub returns-in_err-file-clause-memory : goal.returns-in_err-file-clause-memory
 returns-in_err-file-clause-memory c =
     let is = err_from_is_err_and c.from_residual.result c.from_residual.ensures.1 in
-    rw (is.1, is.2) (λ memory. (c.in_err-file.ensures.begins memory, c.in_err-file.ensures.reached memory))
+    rw (is.1, is.2) c.in_err-file.ensures.memory

@@ -1,6 +1,8 @@
-use Rattle.std.proofs.Common.{◌<◌, arith}
+use Rattle.std.proofs.Common.{◌<◌, refl, arith}
 use Rattle.hunk_scatter.proofs.Runs.{read_offsets}
-use Rattle.hunk_scatter.proofs.WholeLongs.{room_at, read_at, run_taken, read_as}
+use Rattle.hunk_scatter.proofs.OneByte.{stands_as}
+use Rattle.hunk_scatter.proofs.Staying.{offsets_stay, run_stays, stays_as}
+use Rattle.hunk_scatter.proofs.WholeLongs.{room_at, read_at, run_taken}
 use Rattle.hunk_scatter.proofs.longwords.take_at.Goals as goal
 
 pub take_run-requires-clause-in_store : goal.take_run-requires-clause-in_store
@@ -18,7 +20,8 @@ returns-then-run-gt0 c =
             λ fed r.
             let here = read_at _ _ _ _ _ c.requires.position_is r in
             let taken = run_taken _ _ _ _ here (room_at _ _ _ _ c.requires.position_is c.requires.in_store) c.args.piece.now c.run_bytes-count.result (λ k. omega (arith, c.type_inv.piece k)) e.bound e.fours some e.run in
-            read_as _ _ _ _ _ _ c.take_run.ensures.stores c.take_run.ensures.steps taken;
+            stands_as _ _ _ _ _ _ _ _ c.take_run.ensures.stores c.take_run.ensures.steps refl taken;
+        stays = stays_as _ _ _ _ _ c.take_run.auto.store c.take_run.ensures.steps (run_stays _ _ _ _ (room_at _ _ _ _ c.requires.position_is c.requires.in_store));
       };
       refuses = tt;
     }
@@ -35,6 +38,7 @@ returns-in-Some c = record {
         λ fed r.
         read_offsets c.args.rows.now c.args.store.now c.take_offsets.new.store _ c.in-Some.next fed c.args.piece.now c.in-Some.count
         (read_at _ _ _ _ _ c.requires.position_is r) (λ k. omega (arith, c.type_inv.piece k)) c.in-Some.ensures.inside c.in-Some.ensures.offsets;
+    stays = stays_as _ _ _ _ _ c.take_offsets.auto.store refl (offsets_stay _ _ _ _ _ _ _ _ (room_at _ _ _ _ c.requires.position_is c.requires.in_store) c.in-Some.ensures.offsets);
   };
   refuses = tt;
 }

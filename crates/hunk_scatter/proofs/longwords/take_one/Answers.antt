@@ -1,10 +1,12 @@
-use Rattle.std.proofs.Common.{[], length, sym, subst, arith, ◌∙◌}
+use Rattle.std.proofs.Common.{[], length, refl, sym, subst, arith, ◌∙◌}
 use Rattle.std.proofs.lemmas.Result.{err_from_is_err_and}
 use Rattle.hunk_scatter.specs.BodySteps.{IsInStore}
 use Rattle.hunk_scatter.specs.Rows.{words_of}
 use Rattle.hunk_scatter.specs.declared.body_state.BodyState.{BodyState}
 use Rattle.hunk_scatter.specs.BodyLoaderFields.{StandsBehind}
-use Rattle.hunk_scatter.proofs.WholeLongs.{state_at, word_taken, word_refused, read_as}
+use Rattle.hunk_scatter.proofs.OneByte.{stands_as}
+use Rattle.hunk_scatter.proofs.Staying.{stays_as, word_stays}
+use Rattle.hunk_scatter.proofs.WholeLongs.{state_at, word_taken, word_refused}
 use Rattle.hunk_scatter.proofs.longwords.take_one.Goals as goal
 
 pub take_word-requires : goal.take_word-requires
@@ -13,18 +15,23 @@ take_word-requires c =
     (sym (c.requires.same ∙ state_at c.args.state.now c.args.here.position c.requires.ready.position_is)) c.requires.ready.in_store
 
 pub returns : goal.returns
-returns c = record {
-  takes = record {
-    some = omega arith;
-    inside = c.requires.ready.whole_long;
-    reads =
-        λ fed r.
-        let here = subst (λ (s : BodyState). StandsBehind c.args.rows.now c.args.store.now s [] fed) (sym (c.requires.same ∙ state_at c.args.state.now c.args.here.position c.requires.ready.position_is)) r in
-        let taken = word_taken _ _ _ _ here c.requires.goes_on c.args.piece.now (λ k. omega (arith, c.type_inv.piece k)) c.requires.ready.whole_long c.args.word c.in_ok-next.ensures.long c.requires.first_long c.in_ok-next.ensures.passes in
-        read_as _ _ _ _ _ _ c.in_ok-next.ensures.stores c.in_ok-next.ensures.steps taken;
-  };
-  refuses = tt;
-}
+returns c =
+    let same = sym (c.requires.same ∙ state_at c.args.state.now c.args.here.position c.requires.ready.position_is) in
+    record {
+      takes = record {
+        some = omega arith;
+        inside = c.requires.ready.whole_long;
+        reads =
+            λ fed r.
+            let here = subst (λ (s : BodyState). StandsBehind c.args.rows.now c.args.store.now s [] fed) same r in
+            let taken = word_taken _ _ _ _ here c.requires.goes_on c.args.piece.now (λ k. omega (arith, c.type_inv.piece k)) c.requires.ready.whole_long c.args.word c.in_ok-next.ensures.long c.requires.first_long c.in_ok-next.ensures.passes in
+            stands_as _ _ _ _ _ _ _ _ c.in_ok-next.ensures.stores c.in_ok-next.ensures.steps refl taken;
+        stays =
+            let room = subst (λ (s : BodyState). IsInStore (words_of c.args.rows.now) (length c.args.store.now) s) same c.requires.ready.in_store in
+            stays_as _ _ _ _ _ c.take_word.auto.store c.in_ok-next.ensures.steps (word_stays _ _ c.args.here c.args.word room c.in_ok-next.ensures.passes);
+      };
+      refuses = tt;
+    }
 
 pub returns-in_err-next : goal.returns-in_err-next
 returns-in_err-next c =

@@ -10,7 +10,6 @@ use Rattle.hunk_files.specs.Tables.{row_entry}
 use Rattle.hunk_scatter.specs.Rows.{entries_of, row_of}
 use Rattle.hunk_scatter.proofs.HeaderReads.{entries-rows}
 use Rattle.hunk_scatter.proofs.Starting.{placed_loading}
-use Rattle.hunk_scatter.proofs.StreamLaws.{fed_as}
 use Rattle.hunk_scatter.proofs.stream.begin.Goals as goal
 
 pub returns-clause-begins : goal.returns-clause-begins
@@ -29,10 +28,9 @@ returns-clause-begins c = λ table header size.
     } in
     let filled : c.fill.new.self ≡ replicate (length c.args.store.now) 0 = c.fill.ensures.after (λ y e. e) in
     let zeros : c.fill.new.self ≡ replicate total 0 = filled ∙ ap (λ (n : ℕ). replicate {A = ℕ} n 0) size in
-    let loading = placed_loading (map row_of t) rows total total c.args.header (header_bytes t) c.fill.new.self tabled (sym same) zeros in
     let count : c.hunks_of.result ≡ length t = c.hunks_of.ensures (omega (arith, table.most, length-map rows row_entry)) ∙ sym (length-map rows row_entry) in
     let state : c.start.result ≡ state_at [] (open_next (length t) (length t)) = c.start.ensures ∙ ap (λ (n : ℕ). state_at [] (open_next n n)) count in
-    fed_as _ _ _ _ _ _ _ _ _ _ refl state c.none.ensures refl loading
+    placed_loading (map row_of t) rows total total c.args.header (header_bytes t) c.fill.new.self _ tabled (sym same) zeros state refl c.none.ensures
 
 pub returns-clause-zero : goal.returns-clause-zero
 returns-clause-zero c = c.fill.ensures.after (λ y e. e)

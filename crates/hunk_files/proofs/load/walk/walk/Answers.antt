@@ -5,12 +5,12 @@ use Rattle.hunk_words.specs.declared.reason.Reason.TheVariants as reasons
 use Rattle.hunk_words.proofs.LongLaws.{length-longs}
 use Rattle.hunk_scan.specs.Roles.{refuse}
 use Rattle.hunk_scan.specs.Positions as scan
-use Rattle.hunk_scan.specs.Positions.{role_at, run, is_between_hunks}
+use Rattle.hunk_scan.specs.Positions.{role_at}
 use Rattle.hunk_scan.specs.declared.position.Position.{Position}
 use Rattle.hunk_files.specs.Entries.{entry_at}
 use Rattle.hunk_files.specs.Fault.{HasFault}
 use Rattle.hunk_files.specs.declared.load.walk.Entry.{Entry}
-use Rattle.hunk_files.proofs.Walking.{Walks, start_walk, word_refused, word_ends, word_opens, word_passes, walk_over, walk_truncated}
+use Rattle.hunk_files.proofs.LoadWalks.{Walks, start_walk, refused, ends, opens, passes, walk_over, ends_early}
 use Rattle.hunk_files.proofs.load.walk.walk.Goals as goal
 
 pub walking-init : goal.walking-init
@@ -20,21 +20,21 @@ pub returns-in-Err : goal.returns-in-Err
 returns-in-Err c =
     let bytes = c.args.bytes.now in
     let w = c.walking in
-    word_refused bytes (λ i. omega (arith, c.type_inv.bytes i)) w.at w.position w.entry w.invariant (omega (arith, length-longs bytes)) c.word_at-word.result c.word_at-word.ensures c.in-Err.reason
+    refused bytes (λ i. omega (arith, c.type_inv.bytes i)) w.at w.position w.entry w.invariant (omega (arith, length-longs bytes)) c.word_at-word.result c.word_at-word.ensures c.in-Err.reason
     (subst (λ r. IfErr r (λ (reason : Reason). refuse (role_at w.entry.longs w.position) c.word_at-word.result ≡ Some reason)) c.in-Err.is c.step_from.ensures.refusal)
 
 pub returns-in-Done : goal.returns-in-Done
 returns-in-Done c =
     let bytes = c.args.bytes.now in
     let w = c.walking in
-    word_ends bytes (λ i. omega (arith, c.type_inv.bytes i)) w.at w.position w.entry w.invariant (omega (arith, length-longs bytes)) c.word_at-word.result c.word_at-word.ensures
+    ends bytes (λ i. omega (arith, c.type_inv.bytes i)) w.at w.position w.entry w.invariant (omega (arith, length-longs bytes)) c.word_at-word.result c.word_at-word.ensures
     c.in-Ok.behind c.in-Ok.ensures.steps c.in-Ok.ensures.passes c.in-Done.is
 
 pub open_entry-entry-requires : goal.open_entry-entry-requires
 open_entry-entry-requires c =
     let bytes = c.args.bytes.now in
     let w = c.walking in
-    word_opens bytes (λ i. omega (arith, c.type_inv.bytes i)) w.at w.position w.entry w.invariant (omega (arith, length-longs bytes)) c.word_at-word.result c.word_at-word.ensures
+    opens bytes (λ i. omega (arith, c.type_inv.bytes i)) w.at w.position w.entry w.invariant (omega (arith, length-longs bytes)) c.word_at-word.result c.word_at-word.ensures
     c.in-Ok.behind c.in-Ok.ensures.steps c.in-Ok.ensures.passes c.in_default.not-Done
 
 pub walking-preserved : goal.walking-preserved
@@ -43,7 +43,7 @@ walking-preserved c =
     let w = c.walking in
     let fit : IsBytes bytes = λ i. omega (arith, c.type_inv.bytes i) in
     let on =
-    word_passes bytes fit w.at w.position w.entry w.invariant (omega (arith, length-longs bytes)) c.word_at-word.result c.word_at-word.ensures
+    passes bytes fit w.at w.position w.entry w.invariant (omega (arith, length-longs bytes)) c.word_at-word.result c.word_at-word.ensures
     c.in-Ok.behind c.in-Ok.ensures.steps c.in-Ok.ensures.passes c.in_default.not-Done in
     let Q : ℕ → Type 0 = λ n. Walks bytes (w.at + (1 + n)) (scan.pass c.in-Ok.behind n) (entry_at (longs bytes) c.in-Ok.behind w.entry) in
     let R : Position → Entry → Type 0 = λ p e. Walks bytes (w.at + (1 + c.run-run.result)) p e in
@@ -65,4 +65,4 @@ returns c =
     let bytes = c.args.bytes.now in
     let w = c.walking in
     let P : ℕ → Type 0 = λ n. HasFault bytes (4 * n) reasons.Truncated in
-    subst P (length-longs bytes) (walk_truncated bytes w.at w.position w.entry w.invariant (omega (arith, length-longs bytes)))
+    subst P (length-longs bytes) (ends_early bytes w.at w.position w.entry w.invariant (omega (arith, length-longs bytes)))

@@ -1,9 +1,9 @@
-use Rattle.std.proofs.Common.{◌≡◌, ◌≤◌, ◌*◌, Bool, true, false, ℕ, ◌+◌, length, arith, sym, subst, ◌∙◌}
+use Rattle.std.proofs.Common.{◌≡◌, ◌≤◌, ◌*◌, Bool, true, false, ℕ, ◌+◌, length, arith, sym, subst, ◌∙◌, Some, IfErr}
 use Rattle.hunk_words.specs.Longs.{longs, IsBytes}
 use Rattle.hunk_words.specs.declared.reason.Reason.{Reason}
 use Rattle.hunk_words.specs.declared.reason.Reason.TheVariants as reasons
 use Rattle.hunk_words.proofs.LongLaws.{length-longs}
-use Rattle.hunk_files.specs.ObjectFault.{HasObjectFault}
+use Rattle.hunk_files.specs.ObjectFault.{HasObjectFault, refuse_object}
 use Rattle.hunk_files.specs.ObjectSteps as steps
 use Rattle.hunk_files.specs.declared.object.position.ObjectPosition.{ObjectPosition}
 use Rattle.hunk_files.proofs.ObjectWalks.{ObjectWalks, start, refused, passes, ends, ends_early}
@@ -13,21 +13,24 @@ use Rattle.hunk_files.proofs.object.whole.walk_object.Goals.{then-at-count-via-t
 pub walking-init : goal.walking-init
 walking-init c = start c.args.bytes.now (λ i. omega (arith, c.type_inv.bytes i))
 
-pub returns-in-Some : goal.returns-in-Some
-returns-in-Some c =
+pub returns-in-Err : goal.returns-in-Err
+returns-in-Err c =
     let bytes = c.args.bytes.now in
-    refused bytes (λ i. omega (arith, c.type_inv.bytes i)) c.walking.at c.walking.position c.walking.invariant (omega (arith, c.walking-test.true, length-longs bytes)) c.word_at-word.result c.word_at-word.ensures c.in-Some.reason
-    (sym c.refuse.ensures ∙ c.in-Some.is)
+    let w = c.walking in
+    refused bytes (λ i. omega (arith, c.type_inv.bytes i)) w.at w.position w.invariant (omega (arith, c.walking-test.true, length-longs bytes)) c.word_at-word.result c.word_at-word.ensures c.in-Err.reason
+    (subst (λ r. IfErr r (λ (reason : Reason). refuse_object (steps.role_at w.position) c.word_at-word.result ≡ Some reason)) c.in-Err.is c.step_from.ensures.refusal)
 
 pub walking-preserved : goal.walking-preserved
 walking-preserved c =
     let bytes = c.args.bytes.now in
-    let on = passes bytes (λ i. omega (arith, c.type_inv.bytes i)) c.walking.at c.walking.position c.walking.invariant (omega (arith, c.walking-test.true, length-longs bytes)) c.word_at-word.result c.word_at-word.ensures
-    (sym c.refuse.ensures ∙ c.in_default.is) in
-    let P : ObjectPosition → Type 0 = λ p. ObjectWalks bytes (c.walking.at + (1 + steps.run p)) (steps.behind p) in
-    let here = subst P (sym c.step-behind.ensures) on in
-    subst (ObjectWalks bytes (c.walking.at + (1 + c.run.result))) (sym c.behind-position.ensures)
-    (subst (λ (n : ℕ). ObjectWalks bytes (c.walking.at + (1 + n)) (steps.behind c.step-behind.result)) (sym c.run.ensures.value) here)
+    let w = c.walking in
+    let ended = c.in-Ok.behind in
+    let on = passes bytes (λ i. omega (arith, c.type_inv.bytes i)) w.at w.position w.invariant (omega (arith, c.walking-test.true, length-longs bytes)) c.word_at-word.result c.word_at-word.ensures
+    c.in-Ok.ensures.passes in
+    let P : ObjectPosition → Type 0 = λ p. ObjectWalks bytes (w.at + (1 + steps.run p)) (steps.behind p) in
+    let here = subst P (sym c.in-Ok.ensures.steps) on in
+    subst (ObjectWalks bytes (w.at + (1 + c.run.result))) (sym c.behind-position.ensures)
+    (subst (λ (n : ℕ). ObjectWalks bytes (w.at + (1 + n)) (steps.behind ended)) (sym c.run.ensures.value) here)
 
 clash : (a b : Bool) → a ≡ b → a ≡ false → b ≡ true → ⊥
 clash a b e f t = cc (e, f, t)
@@ -43,9 +46,8 @@ returns-then-at-count c =
       | then-at-count-via-else-at-count+then-bytes-ne0 v ↦ v.if-bytes-ne0.true (omega (arith, all))
       | then-at-count-via-else-at-count+else-bytes-ne0+then-not-may_end v ↦ clash v.may_end.result (steps.may_end w.position) v.may_end.ensures v.if-not-may_end.true may
     ] in
-    let P : ℕ → Reason → Type 0 = λ place reason. HasObjectFault bytes place reason in
     let cut = ends_early bytes fit w.at w.position w.invariant (omega (arith, c.walking-test.false, length-longs bytes)) still in
-    subst (P c.truncated.result.place) (sym c.truncated.ensures.reason) (subst (λ (n : ℕ). P n reasons.Truncated) (sym c.truncated.ensures.place) cut)
+    subst (λ (n : ℕ). HasObjectFault bytes (4 * n) reasons.Truncated) (length-longs bytes) cut
 
 pub returns : goal.returns
 returns c =

@@ -12,7 +12,7 @@ take_header_word-requires-clause-room c =
 pub invariant_of-self-in-Ok : goal.invariant_of-self-in-Ok
 invariant_of-self-in-Ok c =
     let none = heading_unrefused _ _ _ _ _ _ _ c.self.invariant _ c.self.view_is c.requires.reading in
-    let front = completes _ c.args.piece.now _ _ _ _ c.in-Some.is c.next_word-taken.ensures.inside c.next_word-taken.ensures.gathers in
+    let front = completes _ c.args.piece.now _ _ _ _ c.in-Some.is c.take_front-taken.ensures.inside c.take_front-taken.ensures.gathers in
     heading_as _ _ _ _ _ _ _ _ _ _ _ c.in-Ok.ensures.rows c.in-Ok.ensures.passes.position_is c.in-Ok.ensures.passes.total_is front.none_left c.and-self-inside-in-Ok.ensures
     (heading_word _ _ _ _ _ _ _ c.self.invariant none (sym c.is_behind_header.ensures ∙ c.if-is_behind_header.false)
     _ _ front.long c.in-Some.word c.in-Ok.ensures.long front.spelled c.in-Ok.ensures.passes.accepted c.in-Ok.ensures.passes.within)
@@ -20,7 +20,7 @@ invariant_of-self-in-Ok c =
 pub overflow_sub-place : goal.overflow_sub-place
 overflow_sub-place c =
     let none = heading_unrefused _ _ _ _ _ _ _ c.self.invariant _ c.self.view_is c.requires.reading in
-    let front = completes _ c.args.piece.now _ _ _ _ c.in-Some.is c.next_word-taken.ensures.inside c.next_word-taken.ensures.gathers in
+    let front = completes _ c.args.piece.now _ _ _ _ c.in-Some.is c.take_front-taken.ensures.inside c.take_front-taken.ensures.gathers in
     heading_four _ _ _ _ _ _ _ c.self.invariant none (sym c.is_behind_header.ensures ∙ c.if-is_behind_header.false)
     _ _ front.long c.in-Some.word c.in-Err.ensures.long front.spelled
 
@@ -38,7 +38,7 @@ pub returns-in-Err-clause-feeds_or_stops : goal.returns-in-Err-clause-feeds_or_s
 returns-in-Err-clause-feeds_or_stops c =
     let none = heading_unrefused _ _ _ _ _ _ _ c.self.invariant _ c.self.view_is c.requires.reading in
     let more = sym c.is_behind_header.ensures ∙ c.if-is_behind_header.false in
-    let front = completes _ c.args.piece.now _ _ _ _ c.in-Some.is c.next_word-taken.ensures.inside c.next_word-taken.ensures.gathers in
+    let front = completes _ c.args.piece.now _ _ _ _ c.in-Some.is c.take_front-taken.ensures.inside c.take_front-taken.ensures.gathers in
     record {
       budget = search rules;
       taken = search rules;
@@ -46,9 +46,9 @@ returns-in-Err-clause-feeds_or_stops c =
       complete = λ w. absurd (heading_seen_not_whole _ _ _ _ _ _ _ c.self.invariant _ c.self.view_is c.requires.reading more w);
       stops =
           let fed = c.args.self.now.fed in
-          let n = c.next_word-taken.result.0 in
+          let n = c.take_front-taken.result.1 in
           let bytes = take n c.args.piece.now in
-          let some : 0 < n = c.next_word-taken.ensures.positive in (
+          let some : 0 < n = c.take_front-taken.ensures.positive in (
             fed ++ bytes,
             drop n c.args.piece.now,
             ap (λ (bs : List ℕ). fed ++ bs) (sym (take-append-drop n c.args.piece.now)) ∙ sym (append_assoc fed bytes (drop n c.args.piece.now)),

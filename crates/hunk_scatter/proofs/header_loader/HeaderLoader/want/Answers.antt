@@ -21,51 +21,28 @@ returns-then-is_behind_header-clause-keeps_to_budget c none at p =
     heading_within _ _ _ _ _ (c.self.invariant.reading (ap (λ (v : HeaderLoaderValue). v.refused) c.self.view_is ∙ none)) at
     (subst (λ (v : HeaderLoaderValue). PassesBudget v.budget v.fed at) (sym c.self.view_is) p)
 
-pub returns-then-bytes-clause-clean : goal.returns-then-bytes-clause-clean
-returns-then-bytes-clause-clean c none = subst (λ (v : HeaderLoaderValue). HasNoRefusal v.fed) c.self.view_is (heading_clean _ _ _ _ _ (c.self.invariant.reading (ap (λ (v : HeaderLoaderValue). v.refused) c.self.view_is ∙ none)))
+pub returns-clause-clean : goal.returns-clause-clean
+returns-clause-clean c none = subst (λ (v : HeaderLoaderValue). HasNoRefusal v.fed) c.self.view_is (heading_clean _ _ _ _ _ (c.self.invariant.reading (ap (λ (v : HeaderLoaderValue). v.refused) c.self.view_is ∙ none)))
 
-pub returns-then-bytes-clause-truncated : goal.returns-then-bytes-clause-truncated
-returns-then-bytes-clause-truncated c none =
+pub returns-clause-truncated : goal.returns-clause-truncated
+returns-clause-truncated c none =
     subst (λ (v : HeaderLoaderValue). IsTruncated v.fed (4 * (length v.fed / 4))) c.self.view_is (heading_truncated _ _ _ _ _ (c.self.invariant.reading (ap (λ (v : HeaderLoaderValue). v.refused) c.self.view_is ∙ none)))
 
-pub returns-then-bytes-clause-keeps_to_budget : goal.returns-then-bytes-clause-keeps_to_budget
-returns-then-bytes-clause-keeps_to_budget c none at p =
+pub returns-clause-keeps_to_budget : goal.returns-clause-keeps_to_budget
+returns-clause-keeps_to_budget c none at p =
     heading_within _ _ _ _ _ (c.self.invariant.reading (ap (λ (v : HeaderLoaderValue). v.refused) c.self.view_is ∙ none)) at
     (subst (λ (v : HeaderLoaderValue). PassesBudget v.budget v.fed at) (sym c.self.view_is) p)
 
-pub returns-else-bytes-clause-clean : goal.returns-else-bytes-clause-clean
-returns-else-bytes-clause-clean c none = subst (λ (v : HeaderLoaderValue). HasNoRefusal v.fed) c.self.view_is (heading_clean _ _ _ _ _ (c.self.invariant.reading (ap (λ (v : HeaderLoaderValue). v.refused) c.self.view_is ∙ none)))
-
-pub returns-else-bytes-clause-truncated : goal.returns-else-bytes-clause-truncated
-returns-else-bytes-clause-truncated c none =
-    subst (λ (v : HeaderLoaderValue). IsTruncated v.fed (4 * (length v.fed / 4))) c.self.view_is (heading_truncated _ _ _ _ _ (c.self.invariant.reading (ap (λ (v : HeaderLoaderValue). v.refused) c.self.view_is ∙ none)))
-
-pub returns-else-bytes-clause-keeps_to_budget : goal.returns-else-bytes-clause-keeps_to_budget
-returns-else-bytes-clause-keeps_to_budget c none at p =
-    heading_within _ _ _ _ _ (c.self.invariant.reading (ap (λ (v : HeaderLoaderValue). v.refused) c.self.view_is ∙ none)) at
-    (subst (λ (v : HeaderLoaderValue). PassesBudget v.budget v.fed at) (sym c.self.view_is) p)
-
-pub returns-then-bytes-clause-over : goal.returns-then-bytes-clause-over
-returns-then-bytes-clause-over c none w =
+pub returns-clause-over : goal.returns-clause-over
+returns-clause-over c none w =
     absurd (heading_not_whole _ _ _ _ _ (c.self.invariant.reading (ap (λ (v : HeaderLoaderValue). v.refused) c.self.view_is ∙ none)) (sym c.is_behind_header.ensures ∙ c.if-is_behind_header.false)
     (subst (λ (v : HeaderLoaderValue). IsHeader v.fed) (sym c.self.view_is) w))
 
-pub returns-then-bytes-clause-least : goal.returns-then-bytes-clause-least
-returns-then-bytes-clause-least c t more is e =
+pub returns-clause-least : goal.returns-clause-least
+returns-clause-least c t more is e =
     let o = heading_least _ _ _ _ _ (c.self.invariant.reading (none_of c.self.inside.refused (sym c.is_some.ensures ∙ c.if-is_some.false))) (sym c.is_behind_header.ensures ∙ c.if-is_behind_header.false) t more is
     (e ∙ ap (λ (v : HeaderLoaderValue). v.fed ++ more) (sym c.self.view_is)) in
-    omega (arith, o, c.least_longs.ensures.value, c.pending.ensures.value)
-
-pub returns-else-bytes-clause-over : goal.returns-else-bytes-clause-over
-returns-else-bytes-clause-over c none w =
-    absurd (heading_not_whole _ _ _ _ _ (c.self.invariant.reading (ap (λ (v : HeaderLoaderValue). v.refused) c.self.view_is ∙ none)) (sym c.is_behind_header.ensures ∙ c.if-is_behind_header.false)
-    (subst (λ (v : HeaderLoaderValue). IsHeader v.fed) (sym c.self.view_is) w))
-
-pub returns-else-bytes-clause-least : goal.returns-else-bytes-clause-least
-returns-else-bytes-clause-least c t more is e =
-    let o = heading_least _ _ _ _ _ (c.self.invariant.reading (none_of c.self.inside.refused (sym c.is_some.ensures ∙ c.if-is_some.false))) (sym c.is_behind_header.ensures ∙ c.if-is_behind_header.false) t more is
-    (e ∙ ap (λ (v : HeaderLoaderValue). v.fed ++ more) (sym c.self.view_is)) in
-    omega (arith, o, c.least_longs.ensures.value, c.pending.ensures.value)
+    omega (arith, o, c.least_longs.ensures.value, c.bytes_wanted.ensures.to_come)
 
 pub returns-then-is_behind_header-clause-finished : goal.returns-then-is_behind_header-clause-finished
 returns-then-is_behind_header-clause-finished c none same =
@@ -73,17 +50,14 @@ returns-then-is_behind_header-clause-finished c none same =
     heading_table _ _ _ _ _ (c.self.invariant.reading (ap (λ (v : HeaderLoaderValue). v.refused) c.self.view_is ∙ none)) (sym c.is_behind_header.ensures ∙ c.if-is_behind_header.true) in
     subst (λ (v : HeaderLoaderValue). IsHeader v.fed) c.self.view_is (_, t.0, t.1)
 
-pub returns-then-bytes-clause-to_come : goal.returns-then-bytes-clause-to_come
-returns-then-bytes-clause-to_come c none p t =
+pub returns-clause-to_come : goal.returns-clause-to_come
+returns-clause-to_come c none p t =
     let o = header_to_come _ _ _ _ _ (c.self.invariant.reading (ap (λ (v : HeaderLoaderValue). v.refused) c.self.view_is ∙ none)) p (sym c.is_behind_header.ensures ∙ c.if-is_behind_header.false)
     (subst (λ (v : HeaderLoaderValue). HasHeaderToCome v.fed p) (sym c.self.view_is) t) in
-    inl (omega (arith, o, c.least_longs.ensures.value, c.pending.ensures.value))
-
-pub returns-else-bytes-clause-to_come : goal.returns-else-bytes-clause-to_come
-returns-else-bytes-clause-to_come c none p t =
-    let o = header_to_come _ _ _ _ _ (c.self.invariant.reading (ap (λ (v : HeaderLoaderValue). v.refused) c.self.view_is ∙ none)) p (sym c.is_behind_header.ensures ∙ c.if-is_behind_header.false)
-    (subst (λ (v : HeaderLoaderValue). HasHeaderToCome v.fed p) (sym c.self.view_is) t) in
-    inr (omega (arith, o, c.least_longs.ensures.value, c.pending.ensures.value))
+    elim c.bytes_wanted.ensures.all [
+      | inl all ↦ inl (omega (arith, o, c.least_longs.ensures.value, all))
+      | inr most ↦ inr most
+    ]
 
 pub returns-then-is_behind_header-clause-to_come : goal.returns-then-is_behind_header-clause-to_come
 returns-then-is_behind_header-clause-to_come c none p t =
@@ -91,17 +65,14 @@ returns-then-is_behind_header-clause-to_come c none p t =
     (subst (λ (v : HeaderLoaderValue). HasHeaderToCome v.fed p) (sym c.self.view_is) t) in
     inl (omega (arith, e))
 
-pub returns-then-bytes-clause-rows : goal.returns-then-bytes-clause-rows
-returns-then-bytes-clause-rows c none p t =
+pub returns-clause-rows : goal.returns-clause-rows
+returns-clause-rows c none p t =
     let o = rows_to_come _ _ _ _ _ (c.self.invariant.reading (ap (λ (v : HeaderLoaderValue). v.refused) c.self.view_is ∙ none)) p (sym c.is_behind_header.ensures ∙ c.if-is_behind_header.false)
     (subst (λ (v : HeaderLoaderValue). HasRowsToCome v.fed p) (sym c.self.view_is) t) in
-    inl (omega (arith, o, c.least_longs.ensures.value, c.pending.ensures.value))
-
-pub returns-else-bytes-clause-rows : goal.returns-else-bytes-clause-rows
-returns-else-bytes-clause-rows c none p t =
-    let o = rows_to_come _ _ _ _ _ (c.self.invariant.reading (ap (λ (v : HeaderLoaderValue). v.refused) c.self.view_is ∙ none)) p (sym c.is_behind_header.ensures ∙ c.if-is_behind_header.false)
-    (subst (λ (v : HeaderLoaderValue). HasRowsToCome v.fed p) (sym c.self.view_is) t) in
-    inr (omega (arith, o, c.least_longs.ensures.value, c.pending.ensures.value))
+    elim c.bytes_wanted.ensures.all [
+      | inl all ↦ inl (omega (arith, o, c.least_longs.ensures.value, all))
+      | inr most ↦ inr most
+    ]
 
 pub returns-then-is_behind_header-clause-rows : goal.returns-then-is_behind_header-clause-rows
 returns-then-is_behind_header-clause-rows c none p t =

@@ -1,12 +1,12 @@
-use Rattle.std.proofs.Common.{◌≡◌, ◌+◌, ◌*◌, ◌++◌, length, ap, subst, ◌∙◌, refl, arith}
+use Rattle.std.proofs.Common.{◌≡◌, ◌+◌, ◌*◌, ◌++◌, length, ap, subst, ◌∙◌, arith}
 use Rattle.hunk_words.specs.Longs.{longs}
 use Rattle.hunk_words.proofs.LongLaws.{length-longs}
 use Rattle.hunk_blocks.specs.Reading.{Unread, Reads}
-use Rattle.hunk_blocks.proofs.Fronts.{longs-cut, reads_front, longs_fit_left, longs_fit_right}
+use Rattle.hunk_blocks.proofs.Fronts.{longs-cut, longs_fit_left, longs_fit_right}
 use Rattle.hunk_blocks.proofs.reading.long_reader.LongReader.payload.Goals as goal
 
-pub returns-then-self-length-clause-short : goal.returns-then-self-length-clause-short
-returns-then-self-length-clause-short c = omega (arith, ap (λ u. length u.rest) c.self.view_is, length-longs c.self.inside.rest.now)
+pub split_at-requires : goal.split_at-requires
+split_at-requires c = omega (arith, c.requires, ap (λ u. length u.rest) c.self.view_is, length-longs c.self.inside.rest.now)
 
 -- the cut in two
 module _ (c : goal.After-of) where
@@ -23,8 +23,10 @@ invariant_of-self c =
 pub returns-clause-read : goal.returns-clause-read
 returns-clause-read c =
     subst (λ (u : Unread). Reads u (record { rest = longs c.split_at.result.1.now; place = c.self.inside.place + 4 * c.args.count }) (longs c.of.result)) c.self.view_is
-    (reads_front c.self.inside.rest.now c.of.result c.split_at.result.1.now c.self.inside.place (c.self.inside.place + 4 * c.args.count) c.args.count (parts c) (many c) refl)
+    (record { front = parts c; further = omega (arith, many c) })
 
 pub returns-clause-count : goal.returns-clause-count
-returns-clause-count c =
-    (many c, longs_fit_left (longs c.of.result) (longs c.split_at.result.1.now) (longs c.self.inside.rest.now) (parts c) c.self.invariant.1)
+returns-clause-count c = many c
+
+pub returns-clause-fits : goal.returns-clause-fits
+returns-clause-fits c = longs_fit_left (longs c.of.result) (longs c.split_at.result.1.now) (longs c.self.inside.rest.now) (parts c) c.self.invariant.1

@@ -1,0 +1,384 @@
+-- A walk over a load file keeps the position of what was read, and the entry of the open hunk.
+use Rattle.std.proofs.Common.{◌≡◌, ℕ, zero, suc, ◌+◌, ◌-◌, ◌*◌, ◌<◌, ◌≤◌, Bool, true, false, List, [], ◌∷◌, ◌++◌, length, get_or, take, drop, refl, sym, ap, ap₂, subst, ◌∙◌, append_assoc, arith, Option, Some, None, if◌then◌else◌, inl, inr}
+use Rattle.std.specs.List.{flat_map}
+use Rattle.std.proofs.lemmas.List.{length-append, length-map, length-take-le, get_or_at, map-append, take-append-drop, take_all, get_or-take}
+use Rattle.std.proofs.lemmas.List.Concat.{flat_map-append}
+use Rattle.hunk_words.specs.declared.reason.Reason.{Reason}
+use Rattle.hunk_words.specs.declared.reason.Reason.TheVariants as reasons
+use Rattle.hunk_words.specs.Longs.{IsBytes, longs, bytes_of}
+use Rattle.hunk_words.specs.Bits.{size_longs, has_both_bits, entry_longs}
+use Rattle.hunk_words.proofs.LongLaws.{longs_fit, length-longs}
+use Rattle.hunk_blocks.specs.Values.{BlockValue}
+use Rattle.hunk_blocks.specs.Faults.{words}
+use Rattle.hunk_blocks.specs.declared.phase.Phase.TheVariants as phases
+use Rattle.hunk_blocks.specs.PhaseSteps as inside
+use Rattle.hunk_blocks.proofs.Decoding.{front_bytes}
+use Rattle.hunk_blocks.proofs.KeptWalks.{OnePasses, HasRuns, StandsAt as StandsFor, Walks as WalksOf, starts, stands, word_refused, word_reads, word_passes}
+use Rattle.hunk_blocks.proofs.Lists.{flat_map-more}
+use Rattle.hunk_scan.specs.declared.phase.OpenHunk as numbers
+use Rattle.hunk_scan.specs.declared.position.Position.{Position}
+use Rattle.hunk_scan.specs.declared.position.Position.TheVariants as positions
+use Rattle.hunk_scan.specs.Positions as scan
+use Rattle.hunk_scan.specs.Positions.{role_at, offsets_to_come, pass_offsets, is_between_hunks, EndsWithin}
+use Rattle.hunk_scan.specs.Roles.{Role, refuse, Role as roles}
+use Rattle.hunk_scan.proofs.OffsetRuns.{offset_passes}
+use Rattle.hunk_files.specs.LoadFile.{TableEntry}
+use Rattle.hunk_files.specs.LoadText.{entry_labelled, hunk_labelled, blocks_labelled, table}
+use Rattle.hunk_files.specs.Fault.{HasFault, HasLoadText, IsTruncated, load_files}
+use Rattle.hunk_files.specs.declared.load.walk.Entry.{Entry}
+use Rattle.hunk_files.specs.Entries.{entry_behind, entry_at}
+use Rattle.hunk_files.specs.Passing.{ArePassed}
+use Rattle.hunk_files.specs.FileSteps.{HunkSoFar, Progress, AtFirst, AtBlock, InBody, Next, More, Finished, role_of, step_file}
+use Rattle.hunk_files.specs.ReaderPosition.{open_of, block_phase, position_of, open_longs, opened}
+use Rattle.hunk_files.specs.WordsRead.{Labelled}
+use Rattle.hunk_files.proofs.FileProgress.{header_so_far, open_so_far}
+use Rattle.hunk_files.proofs.Positions.{inside_open, Moves, MovesTo, refuse_same, step_position, step_moves}
+use Rattle.hunk_files.proofs.Scan.{SoFar, load_reader, keeps, truncated_of}
+use Rattle.hunk_files.proofs.TableReading.{entry_length}
+
+-- the longword behind these entries
+abbrev row_behind : List TableEntry → ℕ
+row_behind es = 5 + length (flat_map entry_labelled es)
+
+-- the longword at which the next entry stands
+abbrev row_of : Progress → ℕ
+row_of p = row_behind (opened p)
+
+-- the entry of the open hunk
+abbrev entry_of : Progress → Entry
+entry_of p = record { longs = open_longs p; next = row_of p }
+
+-- What is kept of what was read: nothing where the file is whole.
+abbrev pub kept_of : Next → Option (Position × Entry)
+kept_of (More p) = Some (position_of (More p), entry_of p)
+kept_of (Finished v) = None
+
+abbrev pub run_of : Option (Position × Entry) → ℕ
+run_of (Some k) = scan.run k.0
+run_of None = 0
+
+-- behind the longwords that no test looks at
+abbrev passed : Position → Position
+passed (positions.Body o (phases.Offset target owed)) = positions.Body o (phases.Offset target owed)
+passed (positions.Body o phase) = scan.onward o (scan.behind o phase) (inside.behind phase)
+passed p = p
+
+abbrev pub behind_run : Option (Position × Entry) → Option (Position × Entry)
+behind_run (Some k) = Some (passed k.0, k.1)
+behind_run None = None
+
+same_entry : (e d : Entry) → e.longs ≡ d.longs → e.next ≡ d.next → e ≡ d
+same_entry e d l n = λ i. record { longs = l i; next = n i }
+
+-- ---- where the entry of a hunk stands
+
+-- the size word of the entry of the open hunk, in the text so far
+entry_split : (o : HunkSoFar) → (more : Labelled) × (open_so_far o ≡ header_so_far o.hunks (table o.finished) ++ (roles.SizeWord, o.entry.word) ∷ more)
+entry_split o =
+    let before = header_so_far o.hunks (table o.finished) in
+    let entries = flat_map entry_labelled (o.entry ∷ o.ahead) in
+    let extra = if has_both_bits o.entry.word then (roles.Attributes, o.entry.extra) ∷ [] else [] in
+    let hunks = flat_map (hunk_labelled o.hunks) o.finished in
+    let blocks = blocks_labelled o.hunks (size_longs o.entry.word) false o.blocks in (
+      ((extra ++ flat_map entry_labelled o.ahead) ++ hunks) ++ blocks,
+      ap (λ (l : Labelled). ((header_so_far o.hunks [] ++ l) ++ hunks) ++ blocks) (flat_map-append entry_labelled (table o.finished) (o.entry ∷ o.ahead))
+          ∙ ap (λ (l : Labelled). l ++ blocks) (append_assoc before entries hunks)
+          ∙ append_assoc before (entries ++ hunks) blocks,
+    )
+
+module _ (ws : List ℕ) (o : HunkSoFar) (h : SoFar (More (AtBlock o)) ws) where
+  behind_length : length (words (header_so_far o.hunks (table o.finished))) ≡ row_behind (table o.finished)
+  behind_length = omega (arith, length-map (header_so_far o.hunks (table o.finished)) (λ (x : Role × ℕ). x.1))
+
+  read_split : ws ≡ words (header_so_far o.hunks (table o.finished)) ++ o.entry.word ∷ words (entry_split o).0
+  read_split = sym h.2 ∙ ap words (sym h.1.1 ∙ (entry_split o).1) ∙ map-append (λ (x : Role × ℕ). x.1) (header_so_far o.hunks (table o.finished)) ((roles.SizeWord, o.entry.word) ∷ (entry_split o).0)
+
+  row_inside : row_behind (table o.finished) < length ws
+  row_inside =
+      omega (
+        arith,
+        ap length read_split,
+        length-append (words (header_so_far o.hunks (table o.finished))) (o.entry.word ∷ words (entry_split o).0),
+        behind_length,
+      )
+
+  row_word : get_or ws (row_behind (table o.finished)) 0 ≡ o.entry.word
+  row_word =
+      ap (λ (l : List ℕ). get_or l (row_behind (table o.finished)) 0) read_split
+      ∙ get_or_at (words (header_so_far o.hunks (table o.finished))) o.entry.word (words (entry_split o).0) 0 (row_behind (table o.finished)) behind_length
+
+row_after : (es : List TableEntry) (e : TableEntry) → row_behind (es ++ e ∷ []) ≡ row_behind es + entry_longs e.word
+row_after es e =
+    omega (
+      arith,
+      ap length (flat_map-more entry_labelled es e),
+      length-append (flat_map entry_labelled es) (entry_labelled e),
+      length-map (entry_labelled e) (λ (x : Role × ℕ). x.1),
+      entry_length e (has_both_bits e.word) refl,
+    )
+
+-- ---- one more longword
+
+-- behind these longwords of the input, where the last was read at p
+module _ (all : List ℕ) (at : ℕ) (whole : at ≤ length all) (p : Progress) where
+  module _ (o : HunkSoFar) (read : SoFar (More (AtBlock o)) (take at all)) where
+    opens_inside : row_behind (table o.finished) ≡ row_of p → row_of p < at
+    opens_inside e = omega (arith, e, row_inside (take at all) o read, length-take-le at all whole)
+
+    opened_entry : row_behind (table o.finished) ≡ row_of p → entry_of (AtBlock o) ≡ entry_behind (get_or all (row_of p) 0) (row_of p)
+    opened_entry e =
+        let word : o.entry.word ≡ get_or all (row_of p) 0 =
+        sym (row_word (take at all) o read)
+        ∙ ap (λ (r : ℕ). get_or (take at all) r 0) e
+        ∙ get_or-take at all (row_of p) 0 (opens_inside e) in
+        same_entry _ _ (ap size_longs word) (row_after (table o.finished) o.entry ∙ ap₂ (λ (r w : ℕ). r + entry_longs w) e word)
+
+    block_entry : (blocks : List BlockValue) → MovesTo p o blocks →
+        (is_between_hunks (positions.Body (open_of o) (block_phase blocks)) ≡ true → row_of p < at)
+        × (entry_of (AtBlock o) ≡ entry_at all (positions.Body (open_of o) (block_phase blocks)) (entry_of p))
+    block_entry [] m = let e = ap row_behind m in ((λ b. opens_inside e), opened_entry e)
+    block_entry (b ∷ blocks) m = ((λ e. absurd cc), same_entry _ _ m.0 (ap row_behind m.1))
+
+  -- Where a hunk opens, its entry was read, and is the next of the table.
+  entry_now : (q : Progress) → SoFar (More q) (take at all) → Moves p (More q) → (is_between_hunks (position_of (More q)) ≡ true → row_of p < at) × (entry_of q ≡ entry_at all (position_of (More q)) (entry_of p))
+  entry_now (AtBlock o) h m = block_entry o h o.blocks m
+  entry_now (InBody o word x) h m =
+      let in_hunk = inside_open x (open_of o) in (
+        (λ e. absurd (cc (in_hunk, e))),
+        same_entry _ _ m.0 (ap row_behind m.1) ∙ ap (λ (b : Bool). if b then entry_behind (get_or all (row_of p) 0) (row_of p) else entry_of p) (sym in_hunk),
+      )
+  entry_now _ h m = ((λ e. absurd cc), same_entry _ _ m.0 (ap row_behind m.1))
+
+-- ---- runs
+
+block_stays : (p : Progress) (o : HunkSoFar) (blocks : List BlockValue) → MovesTo p o blocks → is_between_hunks (positions.Body (open_of o) (block_phase blocks)) ≡ false → entry_of (AtBlock o) ≡ entry_of p
+block_stays p o [] m b = absurd cc
+block_stays p o (c ∷ blocks) m b = same_entry _ _ m.0 (ap row_behind m.1)
+
+-- Where no hunk opens, the entry stays.
+stays : (p : Progress) (n : Next) → Moves p n → is_between_hunks (position_of n) ≡ false → kept_of n ≡ Some (position_of n, entry_of p)
+stays p (Finished v) m b = absurd cc
+stays p (More (AtBlock o)) m b = ap (λ (e : Entry). Some (position_of (More (AtBlock o)), e)) (block_stays p o o.blocks m b)
+stays p (More q) m b = ap (λ (e : Entry). Some (position_of (More q), e)) (same_entry _ _ m.0 (ap row_behind m.1))
+
+-- One longword of a run, of which this number is left, where the open hunk declares this number of longs.
+record OneSkipped (p : Position) (declared left w : ℕ) : Type 0 where
+  passes : refuse (role_at declared p) w ≡ None
+  stays_open : is_between_hunks (scan.step p w) ≡ false
+  run_is : scan.run (scan.step p w) ≡ left
+  behind_is : passed (scan.step p w) ≡ passed p
+
+none_left : (n : ℕ) → n - n ≡ 0
+none_left n = omega arith
+
+one_skipped : (p : Position) (declared left w : ℕ) → scan.run p ≡ suc left → OneSkipped p declared left w
+one_skipped (positions.Body o (phases.Content all zero)) declared left w e = record { passes = refl; stays_open = refl; run_is = omega (arith, e); behind_is = refl }
+one_skipped (positions.Body o (phases.Content all (suc owed))) declared left w e = record { passes = refl; stays_open = refl; run_is = omega (arith, e); behind_is = refl }
+one_skipped (positions.Body o (phases.Payload zero)) declared left w e = record { passes = refl; stays_open = refl; run_is = omega (arith, e); behind_is = refl }
+one_skipped (positions.Body o (phases.Payload (suc owed))) declared left w e = record { passes = refl; stays_open = refl; run_is = omega (arith, e); behind_is = refl }
+one_skipped (positions.Body o (phases.Symbol zero)) declared left w e = record { passes = refl; stays_open = refl; run_is = omega (arith, e); behind_is = refl }
+one_skipped (positions.Body o (phases.Symbol (suc owed))) declared left w e = record { passes = refl; stays_open = refl; run_is = omega (arith, e); behind_is = refl }
+one_skipped (positions.Body o (phases.ExtFront zero)) declared left w e = record { passes = refl; stays_open = refl; run_is = omega (arith, e); behind_is = refl }
+one_skipped (positions.Body o (phases.ExtFront (suc owed))) declared left w e = record { passes = refl; stays_open = refl; run_is = omega (arith, e); behind_is = refl }
+one_skipped (positions.Body o (phases.ExtRest zero)) declared left w e = record { passes = refl; stays_open = refl; run_is = omega (arith, e); behind_is = refl }
+one_skipped (positions.Body o (phases.ExtRest (suc owed))) declared left w e = record { passes = refl; stays_open = refl; run_is = omega (arith, e); behind_is = refl }
+one_skipped _ declared left w e = absurd (omega (arith, e))
+
+-- A run is passed over at once.
+all_passed : (p : Position) → scan.pass p (scan.run p) ≡ passed p
+all_passed (positions.Body o (phases.Content all owed)) = ap (λ (k : ℕ). scan.owe_content o all k) (none_left owed)
+all_passed (positions.Body o (phases.Payload owed)) = ap (λ (k : ℕ). scan.owe_payload o k) (none_left owed)
+all_passed (positions.Body o (phases.Symbol owed)) = ap (λ (k : ℕ). scan.owe_symbol o k) (none_left owed)
+all_passed (positions.Body o (phases.ExtFront owed)) = ap (λ (k : ℕ). scan.onward o (scan.at o phases.BlockWord) (inside.owe_front k)) (none_left owed)
+all_passed (positions.Body o (phases.ExtRest owed)) = ap (λ (k : ℕ). scan.onward o (scan.at o phases.BlockWord) (inside.owe_rest k)) (none_left owed)
+all_passed _ = refl
+
+runs : HasRuns load_files load_reader keeps kept_of run_of behind_run
+unfolding keeps
+runs = record { one = one; none = none }
+  where
+    one : (s : Next) (before : List ℕ) (left w : ℕ) → SoFar s before → run_of (kept_of s) ≡ suc left → OnePasses load_files load_reader keeps kept_of run_of behind_run s left w
+    one (Finished v) before left w h e = absurd cc
+    one (More p) before left w h e =
+        let o = one_skipped (position_of (More p)) (open_longs p) left w e in
+        let step = step_position p w h.1.0 in
+        let now : kept_of (step_file p w) ≡ Some (scan.step (position_of (More p)) w, entry_of p) =
+        stays p (step_file p w) (step_moves p w) (ap is_between_hunks step ∙ o.stays_open) ∙ ap (λ (q : Position). Some (q, entry_of p)) step in
+        record {
+          role = role_of p;
+          expects = refl;
+          passes = refuse_same p w h.1.0 ∙ o.passes;
+          run_is = ap run_of now ∙ o.run_is;
+          behind_is = ap behind_run now ∙ ap (λ (q : Position). Some (q, entry_of p)) o.behind_is;
+        }
+
+    none : (s : Next) → run_of (kept_of s) ≡ 0 → behind_run (kept_of s) ≡ kept_of s
+    none (Finished v) e = refl
+    none (More p) e = ap (λ (q : Position). Some (q, entry_of p)) (sym (all_passed (position_of (More p))) ∙ ap (λ (n : ℕ). scan.pass (position_of (More p)) n) e)
+
+-- ---- the walk
+
+abbrev pub Walks : List ℕ → ℕ → Position → Entry → Type 0
+Walks bytes at position entry = WalksOf load_files load_reader keeps kept_of run_of behind_run (longs bytes) at (Some (position, entry))
+
+pub start_walk : (bytes : List ℕ) → Walks bytes 0 positions.FirstLong (record { longs = 0; next = 5 })
+start_walk bytes = starts load_files load_reader keeps kept_of run_of behind_run (longs bytes)
+
+-- What was read up to a longword at which the walk stands.
+record IsHere (bytes : List ℕ) (at : ℕ) (position : Position) (entry : Entry) : Type 0 where
+  progress : Progress
+  so_far : SoFar (More progress) (take at (longs bytes))
+  position_is : position_of (More progress) ≡ position
+  entry_is : entry_of progress ≡ entry
+  whole : at ≤ length (longs bytes)
+
+is_here : (bytes : List ℕ) (at : ℕ) (position : Position) (entry : Entry) → Walks bytes at position entry → at ≤ length (longs bytes) → IsHere bytes at position entry
+unfolding keeps
+is_here bytes at position entry h l = let s = stands load_files load_reader keeps kept_of run_of behind_run (longs bytes) at (Some (position, entry)) h l in go s.state s.so_far s.position_is
+  where
+    go : (n : Next) → SoFar n (take at (longs bytes)) → kept_of n ≡ Some (position, entry) → IsHere bytes at position entry
+    go (More p) f e =
+        let same : ◌≡◌ {A = Position × Entry} (position_of (More p), entry_of p) (position, entry) = cc in
+        record { progress = p; so_far = f; position_is = ap (λ k. k.0) same; entry_is = ap (λ k. k.1) same; whole = l }
+    go (Finished v) f e = absurd cc
+
+not_done : (p : Progress) → position_of (More p) ≡ positions.Done → ⊥
+not_done AtFirst e = cc
+not_done _ e = cc
+
+module _ (bytes : List ℕ) (fit : IsBytes bytes) (at : ℕ) (position : Position) (entry : Entry) (h : Walks bytes at position entry) (l : at < length (longs bytes)) (w : ℕ) (is : w ≡ get_or (longs bytes) at 0) where
+  here : IsHere bytes at position entry
+  here = is_here bytes at position entry h (omega (arith, l))
+
+  s : StandsFor load_files load_reader keeps kept_of run_of behind_run (longs bytes) at (Some (position, entry))
+  unfolding keeps
+  s = record { state = More here.progress; so_far = here.so_far; position_is = λ i. Some (here.position_is i, here.entry_is i); whole = here.whole }
+
+  same : refuse (role_of here.progress) (get_or (longs bytes) at 0) ≡ refuse (role_at entry.longs position) w
+  same =
+      refuse_same here.progress (get_or (longs bytes) at 0) here.so_far.1.0
+      ∙ ap₂ (λ (e : Entry) (p : Position). refuse (role_at e.longs p) (get_or (longs bytes) at 0)) here.entry_is here.position_is
+      ∙ ap (refuse (role_at entry.longs position)) (sym is)
+
+  -- The longword is refused.
+  pub refused : (reason : Reason) → refuse (role_at entry.longs position) w ≡ Some reason → HasFault bytes (4 * at) reason
+  unfolding s
+  refused reason e =
+      inl (word_refused load_files load_reader keeps kept_of run_of behind_run (longs bytes) (longs_fit bytes fit) at (Some (position, entry)) s l (role_of here.progress) refl reason (same ∙ e))
+
+  module _ (behind : Position) (steps : behind ≡ scan.step position w) (ok : refuse (role_at entry.longs position) w ≡ None) where
+    next : Next
+    next = step_file here.progress (get_or (longs bytes) at 0)
+
+    read : SoFar next (take (at + 1) (longs bytes))
+    unfolding keeps s next
+    read = word_reads load_files load_reader keeps kept_of run_of behind_run (longs bytes) (longs_fit bytes fit) at (Some (position, entry)) s l (role_of here.progress) refl (same ∙ ok)
+
+    position_is : position_of next ≡ behind
+    unfolding next
+    position_is =
+        step_position here.progress (get_or (longs bytes) at 0) here.so_far.1.0
+        ∙ ap₂ (λ (p : Position) (x : ℕ). scan.step p x) here.position_is (sym is)
+        ∙ sym steps
+
+    -- It ends the file.
+    pub ends : behind ≡ positions.Done → HasLoadText bytes (4 * (at + 1))
+    ends e = go next read (position_is ∙ e)
+      where
+        go : (n : Next) → SoFar n (take (at + 1) (longs bytes)) → position_of n ≡ positions.Done → HasLoadText bytes (4 * (at + 1))
+        go (More p) f d = absurd (not_done p d)
+        go (Finished v) f d =
+            let text = ap words f.1.1 ∙ f.2 in
+            let size : 4 * length (take (at + 1) (longs bytes)) ≡ 4 * (at + 1) = omega (arith, l, length-take-le (at + 1) (longs bytes)) in
+            let x = front_bytes bytes (take (at + 1) (longs bytes)) (drop (at + 1) (longs bytes)) fit (sym (take-append-drop (at + 1) (longs bytes))) in
+            record {
+              value = v;
+              is_load_file = f.1.0;
+              text_is = ap (λ (n : ℕ). take n bytes) (sym size) ∙ x.0 ∙ ap bytes_of (sym text);
+              whole = omega (arith, size, x.1);
+            }
+
+    -- the entry behind it
+    abbrev Onward : Position → Entry → Type 0
+    Onward p e = (is_between_hunks p ≡ true → e.next < at + 1) × (kept_of next ≡ Some (p, entry_at (longs bytes) p e))
+
+    onward : (behind ≡ positions.Done → ⊥) → Onward behind entry
+    unfolding next
+    onward more = subst (Onward behind) here.entry_is (go next read (step_moves here.progress (get_or (longs bytes) at 0)) position_is)
+      where
+        go : (n : Next) → SoFar n (take (at + 1) (longs bytes)) → Moves here.progress n → position_of n ≡ behind → (is_between_hunks behind ≡ true → row_of here.progress < at + 1) × (kept_of n ≡ Some (behind, entry_at (longs bytes) behind (entry_of here.progress)))
+        go (Finished v) f m e = absurd (more (sym e))
+        go (More q) f m e =
+            let x = entry_now (longs bytes) (at + 1) (omega (arith, l)) here.progress q f m in
+            ((λ b. x.0 (ap is_between_hunks e ∙ b)), ap₂ (λ (p : Position) (d : Entry). Some (p, d)) e (x.1 ∙ ap (λ (p : Position). entry_at (longs bytes) p (entry_of here.progress)) e))
+
+    -- A hunk opens behind it, and its entry was read.
+    pub opens : (behind ≡ positions.Done → ⊥) → is_between_hunks behind ≡ true → 4 * entry.next + 4 ≤ length bytes
+    opens more between = omega (arith, (onward more).0 between, l, length-longs bytes)
+
+    -- The walk goes on behind it and its run.
+    pub passes : (behind ≡ positions.Done → ⊥) → Walks bytes (at + (1 + scan.run behind)) (scan.pass behind (scan.run behind)) (entry_at (longs bytes) behind entry)
+    unfolding s next
+    passes more =
+        subst (λ (p : Position). Walks bytes (at + (1 + scan.run behind)) p (entry_at (longs bytes) behind entry)) (sym (all_passed behind))
+        (word_passes load_files load_reader keeps kept_of run_of behind_run (longs bytes) (longs_fit bytes fit) at (Some (position, entry)) s l (role_of here.progress) refl runs (same ∙ ok)
+        (Some (behind, entry_at (longs bytes) behind entry)) (onward more).1)
+
+-- ---- offsets
+
+module _ (bytes : List ℕ) (fit : IsBytes bytes) (entry : Entry) (o : numbers.OpenHunk) (target : ℕ) where
+  -- an offset within the hunk leads to one fewer
+  one_over : (at owed : ℕ) → Walks bytes at (positions.Body o (phases.Offset target owed)) entry → at < length (longs bytes) → EndsWithin (4 * entry.longs) (get_or (longs bytes) at 0) → Walks bytes (at + 1) (scan.owe_offsets o target owed) entry
+  one_over at owed h l within =
+      go owed (passes bytes fit at _ entry h l (get_or (longs bytes) at 0) refl (scan.owe_offsets o target owed) refl (offset_passes entry.longs o target owed (get_or (longs bytes) at 0) within) (goes_on owed))
+    where
+      goes_on : (k : ℕ) → scan.owe_offsets o target k ≡ positions.Done → ⊥
+      goes_on zero e = cc
+      goes_on (suc k) e = cc
+
+      go : (k : ℕ) → (let p = scan.owe_offsets o target k in Walks bytes (at + (1 + scan.run p)) (scan.pass p (scan.run p)) (entry_at (longs bytes) p entry)) → Walks bytes (at + 1) (scan.owe_offsets o target k) entry
+      go zero t = t
+      go (suc k) t = t
+
+  fewer : (owed n : ℕ) → n ≤ owed → pass_offsets (positions.Body o (phases.Offset target owed)) n ≡ positions.Body o (phases.Offset target (owed - n))
+  fewer owed zero l = let e : owed ≡ owed - 0 = omega arith in ap (λ (k : ℕ). positions.Body o (phases.Offset target k)) e
+  fewer owed (suc n) l = let e : owed - n ≡ suc (owed - suc n) = omega (arith, l) in ap (λ (k : ℕ). scan.owe_offsets o target k) e
+
+  -- a number of them leads to as many fewer
+  offsets_over : (n at owed : ℕ) → Walks bytes at (positions.Body o (phases.Offset target owed)) entry → n ≤ suc owed → at + n ≤ length (longs bytes) →
+      ((i : ℕ) → i < n → EndsWithin (4 * entry.longs) (get_or (longs bytes) (at + i) 0)) → Walks bytes (at + n) (pass_offsets (positions.Body o (phases.Offset target owed)) n) entry
+  offsets_over zero at owed h few whole inside =
+      let same : at ≡ at + 0 = omega arith in
+      subst (λ (k : ℕ). Walks bytes k (positions.Body o (phases.Offset target owed)) entry) same h
+  offsets_over (suc n) at owed h few whole inside =
+      let before = offsets_over n at owed h (omega (arith, few)) (omega (arith, whole)) (λ i less. inside i (omega (arith, less))) in
+      let next : at + n + 1 ≡ at + suc n = omega arith in
+      subst (λ (k : ℕ). Walks bytes k (scan.owe_offsets o target (owed - n)) entry) next
+      (one_over (at + n) (owed - n) (subst (λ (p : Position). Walks bytes (at + n) p entry) (fewer owed n (omega (arith, few))) before) (omega (arith, whole)) (inside n (omega arith)))
+
+-- Offsets that are passed at once lead on.
+pub walk_over : (bytes : List ℕ) → IsBytes bytes → (at n : ℕ) (p : Position) (entry : Entry) → Walks bytes at p entry → (0 < n → ArePassed (longs bytes) at p entry.longs n) → Walks bytes (at + n) (pass_offsets p n) entry
+walk_over bytes fit at zero p entry h passed =
+    let same : at ≡ at + 0 = omega arith in
+    subst (λ (k : ℕ). Walks bytes k p entry) same h
+walk_over bytes fit at (suc n) (positions.Body o (phases.Offset target owed)) entry h passed =
+    let f = passed (omega arith) in
+    offsets_over bytes fit entry o target (suc n) at owed h f.few f.whole f.inside
+walk_over bytes fit at (suc n) _ entry h passed = let f = passed (omega arith) in absurd (omega (arith, f.few))
+
+-- ---- the end
+
+-- All longwords were read, and the file goes on.
+pub ends_early : (bytes : List ℕ) (at : ℕ) (position : Position) (entry : Entry) → Walks bytes at position entry → length (longs bytes) ≤ at → HasFault bytes (4 * length (longs bytes)) reasons.Truncated
+unfolding keeps
+ends_early bytes at position entry h l = inr (
+  refl,
+  elim h [
+    | inl s ↦ go s.state (subst (SoFar s.state) (take_all at (longs bytes) l) s.so_far) (λ e. absurd (cc (s.position_is, e)))
+    | inr s ↦ go s.state s.so_far (λ e. absurd (omega (arith, s.inside, ap run_of e)))
+  ],
+)
+  where
+    go : (n : Next) → SoFar n (longs bytes) → (kept_of n ≡ None → ⊥) → IsTruncated bytes (4 * length (longs bytes))
+    go (More p) f more = truncated_of bytes (record { progress = p; done = f.0; reads = f.1; all = f.2 })
+    go (Finished v) f more = absurd (more refl)
