@@ -1,19 +1,21 @@
 -- A loader of numbers.
-use Rattle.std.proofs.Common.{◌≡◌, ℕ, ◌+◌, ◌<◌, ◌≤◌, Bool, true, false, List, [], ◌∷◌, ◌++◌, length, get_or, take, refl, sym, ap, subst, ◌∙◌, arith, length-take}
+use Rattle.std.proofs.Common.{◌≡◌, ℕ, ◌<◌, Bool, true, false, List, [], ◌∷◌, ◌++◌, length, get_or, take, refl, sym, arith, length-append, Err, None}
 use Rattle.hunk_files.specs.declared.row.Row.{Row}
+use Rattle.hunk_words.specs.declared.pending.Pending.{Pending}
 use Rattle.hunk_scan.specs.declared.phase.OpenHunk.{OpenHunk}
 use Rattle.hunk_blocks.specs.declared.phase.Phase.{Phase}
 use Rattle.hunk_scan.specs.declared.position.Position.{Position}
 use Rattle.hunk_scan.specs.declared.position.Position.TheVariants as positions
 use Rattle.hunk_scan.specs.Positions.{is_done, is_behind_header, is_between_hunks}
-use Rattle.hunk_scatter.specs.BodySteps.{StaysInStore}
+use Rattle.hunk_scatter.specs.BodySteps.{IsInStore}
+use Rattle.hunk_scatter.specs.Rows.{words_of}
 use Rattle.hunk_scatter.specs.declared.body_state.BodyState.{BodyState}
 use Rattle.hunk_scatter.specs.declared.stream.Standing.{Standing}
-use Rattle.hunk_scatter.specs.BodyLoaderFields.{ReadsOn, StandsBehind}
-use Rattle.hunk_scatter.specs.Streaming.{IsFed, IsWithin, EndsLoading}
+use Rattle.hunk_scatter.specs.BodyLoaderFields.{StandsBehind}
+use Rattle.hunk_scatter.specs.Streaming.{IsFed, IsWithin, EndsLoading, StandsAfter, TakesPart}
 use Rattle.hunk_words.specs.PendingBytes.{pending_of}
 use Rattle.hunk_scatter.proofs.BodyFields.{fed_more, in_room, image_of, fed_clean, fed_truncated}
-use Rattle.hunk_words.proofs.PendingLaws.{pending_few, pending_none}
+use Rattle.hunk_words.proofs.PendingLaws.{pending_few}
 
 -- Behind the header the file is whole, or a hunk is open.
 pub done_or_open : (p : Position) → is_behind_header p ≡ true → ((hunk : OpenHunk) (phase : Phase) → p ≡ positions.Body hunk phase → ⊥) → is_done p ≡ true
@@ -25,19 +27,6 @@ pub going_on : (p : Position) → is_between_hunks p ≡ false → is_done p ≡
 going_on positions.Done e = absurd cc
 going_on _ e = refl
 
--- Within a hunk or between two.
-pub done_or_open_next : (sizes : List ℕ) (total : ℕ) (s : BodyState) → StaysInStore sizes total s → ((hunk : OpenHunk) (phase : Phase) → s.position ≡ positions.Body hunk phase → ⊥) → is_done s.position ≡ true
-done_or_open_next sizes total s stays closed = go (is_between_hunks s.position) refl
-  where
-    between : (p : Position) → is_between_hunks p ≡ true → ((hunk : OpenHunk) (phase : Phase) → p ≡ positions.Body hunk phase → ⊥) → is_done p ≡ true
-    between (positions.Body hunk phase) e c = absurd (c hunk phase refl)
-    between positions.Done e c = refl
-    between _ e c = absurd cc
-
-    go : (b : Bool) → is_between_hunks s.position ≡ b → is_done s.position ≡ true
-    go true e = between s.position e closed
-    go false e = done_or_open s.position (stays e).in_body closed
-
 -- ---- numbers of a loader
 
 pub within_store : (rows : List Row) (store : List ℕ) (s : Standing) (fed : List ℕ) → IsFed rows store s fed → IsWithin rows (length store) s
@@ -45,16 +34,24 @@ within_store rows store s fed h = record { few = pending_few s.pending h.stands.
 
 -- ---- steps
 
-pub stands_alone : (rows : List Row) (store : List ℕ) (at : Standing) (fed : List ℕ) → IsFed rows store at fed → at.pending.count ≡ 0 → StandsBehind rows store at.state [] fed
-stands_alone rows store at fed h none = subst (λ (xs : List ℕ). StandsBehind rows store at.state xs fed) (pending_none at.pending none) h.stands
+-- Of numbers it does not matter how many bytes they count, as long as a loader counts them.
+pub any_count : (rows : List Row) (store : List ℕ) (s : Standing) (fed : List ℕ) → IsFed rows store s fed → StandsAfter rows store s fed
+any_count rows store s fed h = record { counted = refl; hunks = h.hunks; size = h.size; stands = h.stands }
 
--- Numbers behind longwords that were read.
-pub longs_fed : (rows : List Row) (store store2 : List ℕ) (at to : Standing) (fed piece : List ℕ) (n : ℕ) → IsFed rows store at fed → at.pending.count ≡ 0 → n ≤ length piece →
-    length store2 ≡ length store → to.fed ≡ at.fed → to.pending ≡ at.pending → ReadsOn rows store at.state (take n piece) store2 to.state →
-    IsFed rows store2 (record { state = to.state; fed = to.fed + n; pending = to.pending }) (fed ++ take n piece)
-longs_fed rows store store2 at to fed piece n h none inside same count gathers reads =
-    fed_more rows store at fed h store2 (record { state = to.state; fed = to.fed + n; pending = to.pending }) (take n piece) same (omega (arith, length-take n piece, inside, count))
-    (subst (λ (xs : List ℕ). StandsBehind rows store2 to.state xs (fed ++ take n piece)) (sym (ap pending_of gathers ∙ pending_none at.pending none)) (reads fed (stands_alone rows store at fed h none)))
+-- Behind more bytes that were read.
+pub stands_more : (rows : List Row) (store store2 : List ℕ) (at : Standing) (state : BodyState) (pending : Pending) (fed bytes : List ℕ) → StandsAfter rows store at fed → length store2 ≡ length store →
+    StandsBehind rows store2 state (pending_of pending) (fed ++ bytes) → StandsAfter rows store2 (record { state = state; fed = at.fed; pending = pending }) (fed ++ bytes)
+stands_more rows store store2 at state pending fed bytes h same r =
+    fed_more rows store _ fed h store2 (record { state = state; fed = length (fed ++ bytes); pending = pending }) bytes same (length-append fed bytes) r
+
+-- Numbers that lead out of the rows or the store are no loader's.
+pub strange : (rows : List Row) (store : List ℕ) (at : Standing) (piece : List ℕ) → is_done at.state.position ≡ false → (IsInStore (words_of rows) (length store) at.state → ⊥) →
+    TakesPart rows store at piece store at (Err None)
+strange rows store at piece more outside = record {
+  takes = tt;
+  refuses = record { refuses = λ fed h. absurd (outside (in_room _ _ _ fed h more)); own_reasons = tt };
+  uncounted = refl;
+}
 
 pub first_byte : (piece : List ℕ) → 0 < length piece → get_or piece 0 0 ∷ [] ≡ take 1 piece
 first_byte [] h = absurd (omega (arith, h))

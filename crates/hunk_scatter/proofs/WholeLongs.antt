@@ -5,26 +5,22 @@ use Rattle.std.proofs.Math.Seq.{take-add}
 use Rattle.hunk_words.specs.declared.reason.Reason.{Reason}
 use Rattle.hunk_words.specs.Longs.{bytes_of, longs, IsBytes, IsLong}
 use Rattle.hunk_files.specs.Fault.{HasRefusal}
-use Rattle.hunk_files.specs.Image.{declared_bytes}
 use Rattle.hunk_files.specs.declared.row.Row.{Row}
 use Rattle.hunk_scan.specs.Positions.{is_done, run}
 use Rattle.hunk_scan.specs.declared.position.Position.{Position}
 use Rattle.hunk_scatter.specs.declared.body_state.BodyState.{BodyState}
-use Rattle.hunk_scatter.specs.BodyLoaderFields.{ReadsOn, StandsBehind}
+use Rattle.hunk_scatter.specs.BodyLoaderFields.{StandsBehind}
 use Rattle.hunk_scatter.specs.BodySteps.{refusal, step_body, pass_body, IsInStore}
-use Rattle.hunk_scatter.specs.Rows.{entries_of, words_of, bases_of}
+use Rattle.hunk_scatter.specs.Rows.{words_of, bases_of}
 use Rattle.hunk_scatter.specs.StoreContent.{stored_long, stored_run}
 use Rattle.hunk_scatter.proofs.Faults.{refusal_front}
-use Rattle.hunk_scatter.proofs.OneByte.{Going, going, room, more_read, refused_here}
+use Rattle.hunk_scatter.proofs.OneByte.{Going, going, more_read, refused_here}
 use Rattle.hunk_words.proofs.LongLaws.{in_place}
 use Rattle.hunk_scatter.proofs.Runs.{read_run, take_bytes}
 
 module _ (rows : List Row) (store : List ℕ) (state : BodyState) (fed : List ℕ) (r : StandsBehind rows store state [] fed) (more : is_done state.position ≡ false) where
   gone : Going rows store state [] fed
   gone = going rows store state [] fed r more
-
-  pub in_store : length store ≡ declared_bytes (entries_of rows) → IsInStore (words_of rows) (length store) state
-  in_store size = room rows store state [] fed gone size
 
   -- the first alone
   module _ (piece : List ℕ) (are : IsBytes piece) (four : 4 ≤ length piece) (w : ℕ) (is : IsLong w) (first : w ≡ get_or (longs piece) 0 0) where
@@ -90,17 +86,15 @@ module _ (piece rest : List ℕ) (leaves : Leaves piece rest) where
       )
 
   -- a refusal of the rest is one of the piece
-  pub refused_rest : (fed : List ℕ) (reason : Reason) → HasRefusal ((fed ++ take (length piece - length rest) piece) ++ rest) (length (fed ++ take (length piece - length rest) piece)) reason →
-      HasRefusal (fed ++ piece) (length fed + (length piece - length rest)) reason
+  pub refused_rest : (fed : List ℕ) (at : ℕ) (reason : Reason) → HasRefusal ((fed ++ take (length piece - length rest) piece) ++ rest) at reason → HasRefusal (fed ++ piece) at reason
   unfolding taken
-  refused_rest fed reason h =
+  refused_rest fed at reason h =
       let front = fed ++ take taken piece in
       let whole : front ++ rest ≡ fed ++ piece =
       ap (λ (xs : List ℕ). front ++ xs) leaves.1 ∙ append_assoc fed (take taken piece) (drop taken piece) ∙ ap (λ (xs : List ℕ). fed ++ xs) (take-append-drop taken piece) in
-      let at : length front ≡ length fed + taken = omega (arith, length-append fed (take taken piece), length-take taken piece) in
-      subst (λ (k : ℕ). HasRefusal (fed ++ piece) k reason) at (subst (λ (bs : List ℕ). HasRefusal bs (length front) reason) whole h)
+      subst (λ (bs : List ℕ). HasRefusal bs at reason) whole h
 
--- What was read goes on.
-pub reads_more : (rows : List Row) (store mid after : List ℕ) (s m b : BodyState) (xs ys zs : List ℕ) → xs ++ ys ≡ zs → ReadsOn rows store s xs mid m → ReadsOn rows mid m ys after b → ReadsOn rows store s zs after b
-reads_more rows store mid after s m b xs ys zs e first more =
-    λ fed r. subst (λ (bs : List ℕ). StandsBehind rows after b [] bs) (append_assoc fed xs ys ∙ ap (λ (bs : List ℕ). fed ++ bs) e) (more (fed ++ xs) (first fed r))
+  -- so far it has this many bytes
+  pub length_so_far : (fed : List ℕ) → length (fed ++ take (length piece - length rest) piece) ≡ length fed + (length piece - length rest)
+  unfolding taken
+  length_so_far fed = omega (arith, length-append fed (take taken piece), length-take taken piece)

@@ -1,5 +1,5 @@
 -- What the fields of the loader of a body keep.
-use Rattle.std.specs.Prelude.{◌≡◌, ℕ, ◌<◌, ◌≤◌, List, [], ◌++◌, length, take, Option, None, Some, Result, IfOk, IfErr, IsTrue}
+use Rattle.std.specs.Prelude.{◌≡◌, ℕ, ◌<◌, ◌≤◌, List, [], ◌++◌, length, take, Option, None, Some, Result, IfOk, IfErr, MatchOption, IsTrue}
 use Rattle.hunk_words.specs.Limits.{most_hunks}
 use Rattle.hunk_words.specs.Longs.{bytes_of}
 use Rattle.hunk_words.specs.declared.fault.Fault.{Fault}
@@ -16,7 +16,8 @@ use Rattle.hunk_scatter.specs.StoreContent.{StoreHolds}
 use Rattle.hunk_scatter.specs.BodySteps.{IsInStore, StaysInStore}
 use Rattle.hunk_scatter.specs.Rows.{entries_of, words_of, bases_of}
 use Rattle.hunk_scatter.specs.BodyReader.{state_of}
-use Rattle.hunk_scatter.specs.LoadOutcomes.{StopsInBody}
+use Rattle.hunk_scatter.specs.LoadOutcomes.{IsWithinFile, StopsInBody}
+use Rattle.hunk_scatter.specs.LoaderValues.{BodyLoaderValue, FeedsFront, IsWholeFile}
 use Rattle.hunk_words.specs.PendingBytes.{pending_of}
 use Rattle.hunk_scatter.specs.declared.stream.Standing.{Standing}
 use Rattle.hunk_files.specs.ReaderPosition.{IsBehindHeader, table_of}
@@ -89,8 +90,15 @@ pub record TakesOrRefuses (rows : List Row) (store : List ℕ) (state : BodyStat
   pub takes : IfOk result (TakesFront rows store state piece after behind)
   pub refuses : IfErr result (RefusesFront rows store state piece)
 
--- ---- a refusal
+-- ---- a piece
 
--- the loader tells a refusal of these bytes
-abbrev pub RefusesOf : List ℕ → Option Fault → Type 0
-RefusesOf bytes refused = (f : Fault) × (refused ≡ Some f) × StopsInBody bytes f
+-- This many bytes of the piece are consumed, all of them unless the file is whole then.
+pub record FeedsPiece (old : BodyLoaderValue) (piece : List ℕ) (new : BodyLoaderValue) (n : ℕ) : Type 0 where
+  pub taken : FeedsFront old.fed piece new.fed n
+  pub all : n < length piece → IsWholeFile new.rows new.fed
+  pub inside_file : IsWithinFile new.fed
+
+-- The piece is consumed, or the loader keeps why it is refused.
+pub record FeedsOrRefuses (old : BodyLoaderValue) (piece : List ℕ) (new : BodyLoaderValue) (n : ℕ) : Type 0 where
+  pub rows : new.rows ≡ old.rows
+  pub feeds : MatchOption new.refused (FeedsPiece old piece new n) (λ f. StopsInBody (old.fed ++ piece) f × (new.fed ≡ old.fed))

@@ -1,9 +1,11 @@
 -- A loader in memory that is its caller's: rows, a store, and numbers.
-use Rattle.std.specs.Prelude.{◌≡◌, ℕ, ◌+◌, ◌*◌, ◌/◌, ◌<◌, ◌≤◌, Bool, true, false, List, ◌++◌, length, take, Result, MatchResult, IsTrue, ⊤}
+use Rattle.std.specs.Prelude.{◌≡◌, ℕ, ◌*◌, ◌/◌, ◌<◌, ◌≤◌, Bool, true, false, List, ◌++◌, length, take, Option, None, Some, IfSome, Result, MatchResult, IfOk, IfErr, IsTrue, ⊤}
+use Rattle.hunk_words.specs.declared.reason.Reason.{Reason}
 use Rattle.hunk_files.specs.Fault.{HasRefusal, IsTruncated}
 use Rattle.hunk_files.specs.Image.{declared_bytes}
 use Rattle.hunk_files.specs.declared.row.Row.{Row}
 pub use Rattle.hunk_scatter.specs.BodyLoaderFields.{IsFed}
+use Rattle.hunk_scan.specs.Positions.{is_done}
 use Rattle.hunk_scatter.specs.BodySteps.{StaysInStore}
 use Rattle.hunk_scatter.specs.HeaderBytes.{IsHeaderTable, header_bytes}
 use Rattle.hunk_scatter.specs.LoaderReasons.{is_of_body}
@@ -33,24 +35,43 @@ abbrev pub StandsOn : List Row → List ℕ → Standing → List ℕ → List �
 StandsOn rows store to fed piece result =
     MatchResult result (λ n. IsFed rows store to (fed ++ take n piece)) (StopsAt (fed ++ piece))
 
--- And where they do not count these bytes yet.
-abbrev pub TakesTo : List Row → List ℕ → Standing → List ℕ → List ℕ → Result ℕ Stop → Type 0
-TakesTo rows store to fed piece result =
-    MatchResult result
-    (λ n. IsFed rows store (record { state = to.state; fed = to.fed + n; pending = to.pending }) (fed ++ take n piece))
-    (StopsAt (fed ++ piece))
-
 -- The numbers lead out of neither the rows nor a store of this many bytes, as far as no hunk opens.
 pub record IsWithin (rows : List Row) (total : ℕ) (s : Standing) : Type 0 where
   pub few : s.pending.count < 4
   pub in_store : StaysInStore (words_of rows) total s.state
 
--- This many bytes of the piece were taken, one at least, and are not counted yet.
-pub record TakesPart (rows : List Row) (total : ℕ) (at to : Standing) (piece : List ℕ) (n : ℕ) : Type 0 where
+-- The numbers lead out of nothing, the file is not whole, and there is a byte to take.
+pub record MayTake (rows : List Row) (total : ℕ) (at : Standing) (piece : List ℕ) : Type 0 where
+  pub within : IsWithin rows total at
+  pub goes_on : is_done at.state.position ≡ false
+  pub nonempty : 0 < length piece
+
+-- A loader stands so after the bytes, however many of them the numbers count.
+abbrev pub StandsAfter : List Row → List ℕ → Standing → List ℕ → Type 0
+StandsAfter rows store s fed = IsFed rows store (record { state = s.state; fed = length fed; pending = s.pending }) fed
+
+-- This many bytes of the piece were taken, one at least.
+pub record TakesBytes (rows : List Row) (store : List ℕ) (at : Standing) (piece after : List ℕ) (to : Standing) (n : ℕ) : Type 0 where
   pub some : 0 < n
   pub inside : n ≤ length piece
+  pub within : IsWithin rows (length after) to
+  pub takes : (fed : List ℕ) → StandsAfter rows store at fed → StandsAfter rows after to (fed ++ take n piece)
+
+-- The longword is refused that the first byte of the piece is of, for this reason; where none is told, no loader stood so.
+abbrev pub RefusesLong : List ℕ → List ℕ → Option Reason → Type 0
+RefusesLong fed piece (Some reason) = HasRefusal (fed ++ piece) (4 * (length fed / 4)) reason
+RefusesLong fed piece None = ⊥
+
+-- No byte of the piece is taken.
+pub record RefusesPart (rows : List Row) (store : List ℕ) (at : Standing) (piece : List ℕ) (why : Option Reason) : Type 0 where
+  pub refuses : (fed : List ℕ) → StandsAfter rows store at fed → RefusesLong fed piece why
+  pub own_reasons : IfSome why (λ reason. IsTrue (is_of_body reason))
+
+-- A part of the piece is taken, or none is. The bytes are not counted.
+pub record TakesPart (rows : List Row) (store : List ℕ) (at : Standing) (piece after : List ℕ) (to : Standing) (result : Result ℕ (Option Reason)) : Type 0 where
+  pub takes : IfOk result (TakesBytes rows store at piece after to)
+  pub refuses : IfErr result (RefusesPart rows store at piece)
   pub uncounted : to.fed ≡ at.fed
-  pub within : IsWithin rows total to
 
 -- Where the rows are those of a table, its header has this many bytes, and it declares as many as there is room for: after
 -- that header a loader stands so.

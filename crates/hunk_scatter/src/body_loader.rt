@@ -11,8 +11,8 @@ ghost use Rattle.hunk_files.specs.LoadText.{text};
 ghost use Rattle.hunk_scatter.specs.LoaderReasons.{is_of_body};
 ghost use Rattle.hunk_scatter.specs.LoaderValues.{FeedsFront, HasNoRefusal, IsImageOf, IsWholeFile};
 ghost use Rattle.hunk_scatter.specs.LoaderValues.{MayGoOnInFile};
-ghost use Rattle.hunk_scatter.specs.BodyLoaderFields.{RefusesOf};
-ghost use Rattle.hunk_scatter.specs.LoadOutcomes.{IsWithinFile, StopsInBody};
+ghost use Rattle.hunk_scatter.specs.BodyLoaderFields.{FeedsOrRefuses};
+ghost use Rattle.hunk_scatter.specs.LoadOutcomes.{IsWithinFile};
 ghost use Rattle.hunk_scatter.specs.Owing.{HasToCome, most_want};
 ghost use Rattle.hunk_scatter.specs.Rows.{entries_of};
 
@@ -53,67 +53,29 @@ impl Model for BodyLoader {
         s.refused s.history.bytes };
 }
 
-/// Says that a longword was rejected; the loader keeps why. It has no bytes, so that the answers of
-/// the function that each piece goes through stay in registers.
-#[derive(Clone, Copy)]
-struct Refused;
-
 impl BodyLoader {
-    /// Takes the piece as `feed` does, where no longword was rejected before it. It is one function
-    /// for all sources of loads.
+    /// Takes the piece as `feed` does, where no longword was rejected before it, and gives the number
+    /// of bytes consumed. Where a longword is rejected, the loader keeps why, so that the answer of
+    /// this function, through which each piece goes, stays in a register. It is one function for all
+    /// sources of loads.
     #[inline(never)]
-    fn take(&mut self, piece: &[u8]) -> Result<usize, Refused>
+    fn take(&mut self, piece: &[u8]) -> usize
         requires room { length self.old.fed + length piece.now < 2 ^ 64 }
         requires reading { self.old.refused ≡ None }
-        ensures rows { self.new.rows ≡ self.old.rows }
-        ensures taken { IfOk result (FeedsFront self.old.fed piece.now self.new.fed) }
-        ensures all { IfOk result
-            (λ n. n < length piece.now → IsWholeFile self.new.rows self.new.fed) }
-        ensures inside_file { OnOk result (IsWithinFile self.new.fed) }
-        ensures takes_no_more { IsWholeFile self.old.rows self.old.fed → result ≡ Ok 0 }
-        ensures reading { OnOk result (self.new.refused ≡ None) }
-        ensures refusal { OnErr result (RefusesOf (self.old.fed ++ piece.now) self.new.refused) }
-        ensures nothing { OnErr result (self.new.fed ≡ self.old.fed) }
+        ensures { FeedsOrRefuses self.old piece.now self.new result }
     {
-        let before = self.standing.fed;
         let (store, rows) = (self.store.as_mut_slice(), self.rows.as_slice());
         match take_all(store, rows, &mut self.standing, piece) {
             Ok(taken) => {
                 self.history = self.history.and(&piece[..taken]);
-                Ok(taken)
+                taken
             }
             Err(Stop::Refused(fault)) => {
-                self.standing.fed = before;
                 self.refused = Some(fault);
-                Err(Refused)
+                0
             }
             // The numbers are a loader's.
             Err(Stop::Strange) => unreachable!(),
-        }
-    }
-
-    /// Takes the piece as `feed` does, where no longword was rejected before it.
-    #[inline(always)]
-    pub(crate) fn feed_more(&mut self, piece: &[u8]) -> Result<usize, LoadFault>
-        requires room { length self.old.fed + length piece.now < 2 ^ 64 }
-        requires reading { self.old.refused ≡ None }
-        ensures rows { self.new.rows ≡ self.old.rows }
-        ensures taken { IfOk result (FeedsFront self.old.fed piece.now self.new.fed) }
-        ensures all { IfOk result
-            (λ n. n < length piece.now → IsWholeFile self.new.rows self.new.fed) }
-        ensures inside_file { OnOk result (IsWithinFile self.new.fed) }
-        ensures takes_no_more { IsWholeFile self.old.rows self.old.fed → result ≡ Ok 0 }
-        ensures reading { OnOk result (self.new.refused ≡ None) }
-        ensures stops { IfErr result (StopsInBody (self.old.fed ++ piece.now)) }
-        ensures remembers { IfErr result (λ f. self.new.refused ≡ Some f) }
-        ensures nothing { OnErr result (self.new.fed ≡ self.old.fed) }
-    {
-        match self.take(piece) {
-            Ok(taken) => Ok(taken),
-            Err(Refused) => match self.refused {
-                Some(fault) => Err(fault),
-                None => unreachable!(),
-            },
         }
     }
 
@@ -191,7 +153,11 @@ impl BodyLoader {
         if let Some(fault) = self.refused {
             return Err(fault);
         }
-        self.feed_more(piece)
+        let taken = self.take(piece);
+        match self.refused {
+            Some(fault) => Err(fault),
+            None => Ok(taken),
+        }
     }
 
     /// The bytes that are held: those of the store, and 12 for each hunk.

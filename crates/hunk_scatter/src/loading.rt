@@ -128,7 +128,7 @@ fn load_body<R: Source>(
             break 'reading;
         }
         let n = read_piece(r, buf, want, loader.fed(), limit)?;
-        loader.feed_more(&buf[..n])?;
+        loader.feed(&buf[..n])?;
     }
     match loader.finish() {
         Ok(image) => Ok(image),

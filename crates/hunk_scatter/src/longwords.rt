@@ -12,26 +12,25 @@ use hunk_scan::{OpenHunk, Phase, Position, by_kind, by_phase};
 use hunk_words::{BlockWord, Reason, word_at};
 
 /// Takes the longword at the front of the piece, this one, and gives its number of bytes. The state
-/// stands here.
+/// stands at this position.
 #[inline(always)]
 fn take_one(
     store: &mut [u8],
     rows: &[Row],
     state: &mut BodyState,
-    here: BodyState,
+    position: Position,
     word: u32,
     piece: &[u8],
 ) -> Result<usize, Reason>
-    requires same { here ≡ record state.old { position = here.position } }
-    requires ready { ReadyAt rows.now store.old state.old here.position piece.now }
-    requires goes_on { is_done here.position ≡ false }
+    requires ready { ReadyAt rows.now store.old state.old position piece.now }
+    requires goes_on { is_done position ≡ false }
     requires first_long { word ≡ slice_index (longs piece.now) 0 }
     ensures { TakesOrRefuses rows.now store.old state.old piece.now store.new state.new result }
 {
     // The piece is for the contract alone.
     let _ = piece;
-    let next = take_word(store, rows, here, word)?;
-    *state = next;
+    let here = BodyState { position, ..*state };
+    *state = take_word(store, rows, here, word)?;
     Ok(4)
 }
 
@@ -64,13 +63,14 @@ fn take_at(
         }
         None => {
             let word = word_at(piece, 0);
-            take_one(store, rows, state, here, word, piece)
+            take_one(store, rows, state, position, word, piece)
         }
     }
 }
 
 /// Takes longwords from the front of the piece, and gives their number of bytes. The phases and the
-/// kinds of block words are told apart here, once for all that is asked of them.
+/// kinds of block words are told apart here, once for all that is asked of them. What stands with a
+/// phase is read where that phase is known: most phases need little of it.
 ///
 /// It asks for room alone: what was fed before may be any bytes after which a loader stands so.
 #[inline(always)]
@@ -78,27 +78,32 @@ pub(crate) fn take_front(
     store: &mut [u8],
     rows: &[Row],
     state: &mut BodyState,
-    hunk: OpenHunk,
-    phase: Phase,
     piece: &[u8],
 ) -> Result<usize, Reason>
-    requires { ReadyAt rows.now store.old state.old (positions.Body hunk phase) piece.now }
+    requires ready { ReadyAt rows.now store.old state.old state.old.position piece.now }
+    requires goes_on { is_done state.old.position ≡ false }
     ensures { TakesOrRefuses rows.now store.old state.old piece.now store.new state.new result }
 {
+    // Behind a header a hunk is open, or the file is whole.
+    let Position::Body(hunk, phase) = &state.position else {
+        unreachable!()
+    };
     macro_rules! at {
-        ($phase:expr) => {
-            take_at(store, rows, state, hunk, $phase, piece)
-        };
+        ($phase:expr) => {{
+            let (hunk, phase) = (*hunk, $phase);
+            take_at(store, rows, state, hunk, phase, piece)
+        }};
     }
     by_phase!(
-        phase,
+        *phase,
         {
-            let position = Position::Body(hunk, phase);
-            let here = BodyState { position, ..*state };
             let word = word_at(piece, 0);
             by_kind!(
                 BlockWord::of(word).kind(),
-                take_one(store, rows, state, here, word, piece)
+                {
+                    let position = Position::Body(*hunk, *phase);
+                    take_one(store, rows, state, position, word, piece)
+                }
             )
         },
         at

@@ -4,12 +4,12 @@
 //! The numbers may be any. Those that lead out of the rows or the store are found out, each in
 //! constant time, before the store is touched.
 ghost use Rattle.std.specs.Prelude.{◌≡◌, ◌+◌, ◌<◌, ◌≤◌, ◌^◌, ℕ, List, [], ◌∷◌, ◌++◌, length, take};
-ghost use Rattle.std.specs.Prelude.{true, false, IfErr, IfOk, MatchResult, Some, replicate};
+ghost use Rattle.std.specs.Prelude.{true, IfErr, IfOk, MatchResult, OnErr, Some, replicate};
 ghost use Rattle.hunk_words.specs.Limits.{most_hunks};
 ghost use Rattle.hunk_scan.specs.Positions.{is_done};
 ghost use Rattle.hunk_scatter.specs.StopLine.{stop_line};
 ghost use Rattle.hunk_scatter.specs.Streaming.{BeginsLoading, EndsLoading, IsFed, IsWithin};
-ghost use Rattle.hunk_scatter.specs.Streaming.{StandsOn, StopsForBody, TakesOn, TakesPart, TakesTo};
+ghost use Rattle.hunk_scatter.specs.Streaming.{MayTake, StandsOn, StopsForBody, TakesOn, TakesPart};
 
 pub use crate::body_state::BodyState;
 pub use crate::header_size::{HeaderSize, header_size};
@@ -18,7 +18,7 @@ use crate::store::take_word;
 use hunk_files::Row;
 use hunk_scan::Position;
 pub use hunk_words::Pending;
-use hunk_words::{LoadFault, MOST_HUNKS};
+use hunk_words::{LoadFault, MOST_HUNKS, Reason};
 use std::error::Error;
 use std::fmt;
 
@@ -84,100 +84,55 @@ impl Standing {
     }
 }
 
-/// Takes the byte at the front of the piece, and gives 1.
+/// The number of bytes of a part that is taken, at least one; or why none is, the reason for which
+/// its longword is rejected, and `None` where the numbers are no loader's.
+type Taken = Result<usize, Option<Reason>>;
+
+/// Takes the byte at the front of the piece.
 #[inline(always)]
-fn take_byte(store: &mut [u8], rows: &[Row], at: &mut Standing, piece: &[u8]) -> Result<usize, Stop>
-    requires within { IsWithin rows.now (length store.old) at.old }
-    requires goes_on { is_done at.old.state.position ≡ false }
-    requires nonempty { 0 < length piece.now }
-    ensures part { IfOk result (TakesPart rows.now (length store.new) at.old at.new piece.now) }
-    ensures takes { (fed : List ℕ) → IsFed rows.now store.old at.old fed
-        → TakesTo rows.now store.new at.new fed piece.now result }
-    ensures own_reasons { IfErr result StopsForBody }
+fn take_byte(store: &mut [u8], rows: &[Row], at: &mut Standing, piece: &[u8]) -> Taken
+    requires { MayTake rows.now (length store.old) at.old piece.now }
+    ensures { TakesPart rows.now store.old at.old piece.now store.new at.new result }
 {
     let (pending, next) = at.pending.take(piece[0]);
+    if let Some(word) = next {
+        if !at.state.is_in_store(rows, store.len()) {
+            return Err(None);
+        }
+        match take_word(store, rows, at.state, word) {
+            Ok(state) => at.state = state,
+            Err(reason) => return Err(Some(reason)),
+        }
+    }
     at.pending = pending;
-    let Some(word) = next else {
-        return Ok(1);
-    };
-    if !at.state.is_in_store(rows, store.len()) {
-        return Err(Stop::Strange);
-    }
-    match take_word(store, rows, at.state, word) {
-        Ok(state) => {
-            at.state = state;
-            Ok(1)
-        }
-        Err(reason) => {
-            let place = at.fed.saturating_sub(3);
-            Err(Stop::Refused(LoadFault { place, reason }))
-        }
-    }
+    Ok(1)
 }
 
-/// Takes the longwords that lie whole in the piece, up to the end of the file, and gives their
-/// number of bytes.
+/// Takes a part of the piece from its front: longwords that lie whole in it, or a byte of one that
+/// does not. Its bytes are not counted yet.
 ///
 /// The numbers are looked at where a hunk opens: within it no longword leads out of the rows or
 /// the store.
 #[inline(always)]
-fn take_longs(
-    store: &mut [u8],
-    rows: &[Row],
-    at: &mut Standing,
-    piece: &[u8],
-) -> Result<usize, Stop>
-    requires within { IsWithin rows.now (length store.old) at.old }
-    requires goes_on { is_done at.old.state.position ≡ false }
-    requires gathers_none { at.old.pending.count ≡ 0 }
-    requires whole_long { 4 ≤ length piece.now }
-    requires room { at.old.fed + length piece.now < 2 ^ 64 }
-    ensures part { IfOk result (TakesPart rows.now (length store.new) at.old at.new piece.now) }
-    ensures takes { (fed : List ℕ) → IsFed rows.now store.old at.old fed
-        → TakesTo rows.now store.new at.new fed piece.now result }
-    ensures own_reasons { IfErr result StopsForBody }
+fn take_part(store: &mut [u8], rows: &[Row], at: &mut Standing, piece: &[u8]) -> Taken
+    requires { MayTake rows.now (length store.old) at.old piece.now }
+    ensures { TakesPart rows.now store.old at.old piece.now store.new at.new result }
 {
-    let mut rest = piece;
-    'longwords: while rest.len() >= 4 {
-        let Position::Body(hunk, phase) = at.state.position else {
-            return Ok(piece.len() - rest.len());
-        };
-        if at.state.position.is_between_hunks() && !at.state.is_in_store(rows, store.len()) {
-            return Err(Stop::Strange);
-        }
-        match take_front(store, rows, &mut at.state, hunk, phase, rest) {
-            Ok(count) => rest = &rest[count..],
-            Err(reason) => {
-                let place = at.fed + (piece.len() - rest.len()) as u64;
-                return Err(Stop::Refused(LoadFault { place, reason }));
-            }
-        }
+    if at.pending.count > 0 || piece.len() < 4 {
+        return take_byte(store, rows, at, piece);
     }
-    Ok(piece.len() - rest.len())
-}
-
-/// Takes a part of the piece from its front, and gives its number of bytes, which are not counted
-/// yet: longwords that lie whole in it, or a byte of one that does not.
-#[inline(always)]
-fn take_part(store: &mut [u8], rows: &[Row], at: &mut Standing, piece: &[u8]) -> Result<usize, Stop>
-    requires within { IsWithin rows.now (length store.old) at.old }
-    requires goes_on { is_done at.old.state.position ≡ false }
-    requires nonempty { 0 < length piece.now }
-    requires room { at.old.fed + length piece.now < 2 ^ 64 }
-    ensures part { IfOk result (TakesPart rows.now (length store.new) at.old at.new piece.now) }
-    ensures takes { (fed : List ℕ) → IsFed rows.now store.old at.old fed
-        → TakesTo rows.now store.new at.new fed piece.now result }
-    ensures own_reasons { IfErr result StopsForBody }
-{
-    if at.pending.count == 0 && piece.len() >= 4 {
-        return take_longs(store, rows, at, piece);
+    if at.state.position.is_between_hunks() && !at.state.is_in_store(rows, store.len()) {
+        return Err(None);
     }
-    take_byte(store, rows, at, piece)
+    match take_front(store, rows, &mut at.state, piece) {
+        Ok(count) => Ok(count),
+        Err(reason) => Err(Some(reason)),
+    }
 }
 
 /// Takes the piece, or up to the end of the file where that stands inside it, and gives the number
 /// of bytes taken. The numbers are known to lead nowhere else; what they are after an `Err` is not
-/// said.
+/// said, but that they count no more bytes.
 #[inline(always)]
 pub(crate) fn take_all(
     store: &mut [u8],
@@ -193,20 +148,24 @@ pub(crate) fn take_all(
     ensures takes { (fed : List ℕ) → IsFed rows.now store.old at.old fed
         → StandsOn rows.now store.new at.new fed piece.now result }
     ensures own_reasons { IfErr result StopsForBody }
+    ensures uncounted { OnErr result (at.new.fed ≡ at.old.fed) }
 {
-    let mut taken = 0;
-    'parts: while taken < piece.len() {
-        if at.state.position.is_done() {
-            return Ok(taken);
-        }
-        match take_part(store, rows, at, &piece[taken..]) {
-            Ok(count) => {
-                at.fed += count as u64;
-                taken += count;
+    let mut rest = piece;
+    'parts: while !rest.is_empty() {
+        let Position::Body(_, _) = at.state.position else {
+            break 'parts;
+        };
+        match take_part(store, rows, at, rest) {
+            Ok(count) => rest = &rest[count..],
+            Err(None) => return Err(Stop::Strange),
+            Err(Some(reason)) => {
+                let place = (at.fed + (piece.len() - rest.len()) as u64) / 4 * 4;
+                return Err(Stop::Refused(LoadFault { place, reason }));
             }
-            Err(stop) => return Err(stop),
         }
     }
+    let taken = piece.len() - rest.len();
+    at.fed += taken as u64;
     Ok(taken)
 }
 

@@ -32,11 +32,11 @@ reading-preserved g c =
     let fits : length piece ≤ c.want-want.result = omega (arith, length-take c.in_ok-n.n c.read_piece.new.buf, c.in_ok-n.ensures.most) in
     let room : length c.reading.loader.fed + length piece ≤ c.args.limit = omega (arith, length-take c.in_ok-n.n c.read_piece.new.buf, c.in_ok-n.ensures.limit, c.fed.ensures) in
     let some : 0 < c.want-want.result = omega arith in
-    let all = file_fed c.reading.loader.fed piece c.want-want.result c.want-want.ensures.least fits c.feed_more.new.self.rows c.feed_more.new.self.fed c.in_ok-feed_more.field-0 c.in_ok-feed_more.ensures.taken.0 c.in_ok-feed_more.ensures.taken.1 c.in_ok-feed_more.ensures.all in
+    let all = file_fed c.reading.loader.fed piece c.want-want.result c.want-want.ensures.least fits c.feed.new.self.rows c.feed.new.self.fed c.in_ok-feed.field-0 c.in_ok-feed.ensures.taken.0 c.in_ok-feed.ensures.taken.1 c.in_ok-feed.ensures.all in
     record {
-      reading = c.in_ok-feed_more.ensures.reading;
+      reading = c.in_ok-feed.ensures.reading.1;
       works = λ e. c.in_ok-n.ensures.no_failure ∙ i.works e;
-      rows_are = c.in_ok-feed_more.ensures.rows ∙ i.rows_are;
+      rows_are = c.in_ok-feed.ensures.rows ∙ i.rows_are;
       given = (
         i.given.0 ++ piece,
         Consumes-trans _ _ _ i.given.0 piece i.given.1 c.in_ok-n.ensures.piece,
@@ -46,20 +46,20 @@ reading-preserved g c =
       in_file = subst IsWithinFile (sym all) (file_within_more c.reading.loader.fed piece c.want-want.result c.want-want.ensures.least fits _ (c.want-want.ensures.truncated some));
     }
 
-pub returns-in_err-feed_more-clause-ends : goal.returns-in_err-feed_more-clause-ends
-returns-in_err-feed_more-clause-ends g c =
+pub returns-in_err-feed-clause-ends : goal.returns-in_err-feed-clause-ends
+returns-in_err-feed-clause-ends g c =
     let i = c.reading.invariant in
     let piece : List ℕ = take c.in_ok-n.n c.read_piece.new.buf in
     let fits : length piece ≤ c.want-want.result = omega (arith, length-take c.in_ok-n.n c.read_piece.new.buf, c.in_ok-n.ensures.most) in
     let room : length c.reading.loader.fed + length piece ≤ c.args.limit = omega (arith, length-take c.in_ok-n.n c.read_piece.new.buf, c.in_ok-n.ensures.limit, c.fed.ensures) in
     let some : 0 < c.want-want.result = omega arith in
     let is : c.reading.loader.fed ++ piece ≡ c.args.loader.fed ++ (i.given.0 ++ piece) = ap (λ (xs : List ℕ). xs ++ piece) i.given.2 ∙ append_assoc c.args.loader.fed i.given.0 piece in
-    let p = err_from_is_err_and c.from_residual-in_err-feed_more.result c.from_residual-in_err-feed_more.ensures.1 in
+    let p = err_from_is_err_and c.from_residual-in_err-feed.result c.from_residual-in_err-feed.ensures.1 in
     rw (p.1, p.2) (
       i.given.0 ++ piece,
       Consumes-trans _ _ _ i.given.0 piece i.given.1 c.in_ok-n.ensures.piece,
       omega (arith, ap length is, length-append c.reading.loader.fed piece, room),
       subst IsWithinFile is (file_within_more c.reading.loader.fed piece c.want-want.result c.want-want.ensures.least fits _ (c.want-want.ensures.truncated some)),
-      subst (λ (bs : List ℕ). IsBodyStop c.args.limit (g.R.Source.left c.read_piece.new.r) (g.R.Source.failed c.read_piece.new.r) bs c.in_err-feed_more.field-0.0) is
-          (inl c.in_err-feed_more.ensures.stops),
+      subst (λ (bs : List ℕ). IsBodyStop c.args.limit (g.R.Source.left c.read_piece.new.r) (g.R.Source.failed c.read_piece.new.r) bs c.in_err-feed.field-0.0) is
+          (inl (record { refusal = c.in_err-feed.ensures.refusal i.reading; own_reasons = c.in_err-feed.ensures.own_reasons })),
     )

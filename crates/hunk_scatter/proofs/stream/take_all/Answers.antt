@@ -1,28 +1,40 @@
-use Rattle.std.proofs.Common.{◌+◌, ◌++◌, ℕ, List, take, refl, subst, arith}
-use Rattle.hunk_scatter.specs.Streaming.{IsFed, StopsAt}
-use Rattle.hunk_scatter.proofs.Faults.{rest_within, fed_on, fed_rest}
+use Rattle.std.proofs.Common.{◌≡◌, ◌+◌, ◌-◌, ◌*◌, ◌/◌, ◌++◌, ◌∙◌, ℕ, List, Option, length, take, refl, ap, subst, append_assoc, arith}
+use Rattle.hunk_files.specs.Fault.{HasRefusal}
+use Rattle.hunk_words.specs.declared.reason.Reason.{Reason}
+use Rattle.hunk_scatter.specs.Streaming.{RefusesLong, StandsAfter}
+use Rattle.hunk_scatter.proofs.StreamLaws.{any_count}
+use Rattle.hunk_scatter.proofs.WholeLongs.{leaves_more, length_so_far, refused_rest}
 use Rattle.hunk_scatter.proofs.stream.take_all.Goals as goal
 
 pub parts-preserved : goal.parts-preserved
 parts-preserved c =
     let i = c.parts.invariant in
-    let piece = c.args.piece.now in
-    let n = c.parts.taken in
-    let m = c.in-Ok.count in
-    let part = c.in-Ok.ensures.part in
+    let e = c.in-Ok.ensures.takes in
+    let n = length c.args.piece.now - length c.parts.rest.now in
+    let more = leaves_more _ _ i.leaves _ c.in-Ok.count e.some e.inside refl in
     record {
-      inside = rest_within piece n m i.inside part.inside;
-      counts = omega (arith, i.counts, part.uncounted);
-      within = record { few = part.within.few; in_store = part.within.in_store };
+      leaves = more.0;
+      uncounted = c.take_part.ensures.uncounted ∙ i.uncounted;
+      within = record { few = e.within.few; in_store = e.within.in_store };
       takes = λ fed h.
-          subst (λ (xs : List ℕ). IsFed c.args.rows.now c.take_part.new.store (record { state = c.take_part.new.at.state; fed = c.take_part.new.at.fed + m; pending = c.take_part.new.at.pending }) xs)
-          (fed_on fed piece (fed ++ take n piece) _ n m refl refl)
-          (c.in-Ok.ensures.takes (fed ++ take n piece) (i.takes fed h));
+          let front = fed ++ take n c.args.piece.now in
+          subst (λ (bs : List ℕ). StandsAfter c.args.rows.now c.take_part.new.store c.take_part.new.at bs)
+          (append_assoc fed (take n c.args.piece.now) (take c.in-Ok.count c.parts.rest.now) ∙ ap (λ (bs : List ℕ). fed ++ bs) more.1) (e.takes front (i.takes fed h));
     }
 
-pub returns-in-Err-clause-takes : goal.returns-in-Err-clause-takes
-returns-in-Err-clause-takes c = λ fed h.
-    let n = c.parts.taken in
+pub returns-in-Err-None-clause-takes : goal.returns-in-Err-None-clause-takes
+returns-in-Err-None-clause-takes c = λ fed h.
+    let front = fed ++ take (length c.args.piece.now - length c.parts.rest.now) c.args.piece.now in
+    subst (λ (o : Option Reason). RefusesLong front c.parts.rest.now o) c.in-Err-None.field-0-is
+    (c.in-Err-None.ensures.refuses.refuses front (c.parts.invariant.takes fed (any_count _ _ _ fed h)))
+
+pub returns-in-Err-Some-clause-takes : goal.returns-in-Err-Some-clause-takes
+returns-in-Err-Some-clause-takes c = λ fed h.
+    let i = c.parts.invariant in
+    let n = length c.args.piece.now - length c.parts.rest.now in
     let front = fed ++ take n c.args.piece.now in
-    subst (λ (xs : List ℕ). StopsAt xs c.in-Err.stop) (fed_rest fed c.args.piece.now front n refl)
-    (c.in-Err.ensures.takes front (c.parts.invariant.takes fed h))
+    let refused =
+    subst (λ (o : Option Reason). RefusesLong front c.parts.rest.now o) c.in-Err-Some.field-0-is
+    (c.in-Err-Some.ensures.refuses.refuses front (i.takes fed (any_count _ _ _ fed h))) in
+    let place : 4 * (length front / 4) ≡ (c.take_part.new.at.fed + n) / 4 * 4 = omega (arith, length_so_far _ _ i.leaves fed, h.counted, i.uncounted, c.take_part.ensures.uncounted) in
+    subst (λ (k : ℕ). HasRefusal (fed ++ c.args.piece.now) k c.in-Err-Some.reason) place (refused_rest _ _ i.leaves fed _ c.in-Err-Some.reason refused)

@@ -1,15 +1,16 @@
-use Rattle.std.proofs.Common.{◌≡◌, ◌≤◌, ◌+◌, ◌-◌, ◌++◌, ℕ, List, length, take}
-use Rattle.hunk_scatter.specs.Streaming.{IsFed, IsWithin}
+use Rattle.std.proofs.Common.{◌≡◌, ◌-◌, ◌++◌, ℕ, List, length, take}
+use Rattle.hunk_scatter.specs.Streaming.{IsWithin, StandsAfter}
+use Rattle.hunk_scatter.proofs.WholeLongs.{Leaves}
 use Rattle.hunk_scatter.proofs.stream.take_all.Given as goal
 
 -- A loader stands where it does behind the bytes so far.
 abbrev pub invariant-parts : goal.invariant-parts
 invariant-parts l = record {
-  inside : l.taken ≤ length l.piece;
-  counts : l.at.fed ≡ l.fn.at.fed + l.taken;
+  leaves : Leaves l.piece l.rest;
+  uncounted : l.at.fed ≡ l.fn.at.fed;
   within : IsWithin l.rows (length l.store) l.at;
-  takes : (fed : List ℕ) → IsFed l.rows l.fn.store l.fn.at fed → IsFed l.rows l.store l.at (fed ++ take l.taken l.piece);
+  takes : (fed : List ℕ) → StandsAfter l.rows l.fn.store l.fn.at fed → StandsAfter l.rows l.store l.at (fed ++ take (length l.piece - length l.rest) l.piece);
 }
 
 abbrev pub decreases-parts : goal.decreases-parts
-decreases-parts l = length l.piece - l.taken
+decreases-parts l = length l.rest
