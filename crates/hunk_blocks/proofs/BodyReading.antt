@@ -1,34 +1,19 @@
--- What the longwords behind a block word make, by the kind of the block.
-use Rattle.std.proofs.Common.{◌≡◌, ℕ, Bool, true, false, ◌^◌, List, [], ◌∷◌, ◌++◌, refl, sym, ap, subst, ◌∙◌, arith}
+-- What stands behind a block word, by the kind of the block.
+use Rattle.std.proofs.Common.{◌≡◌, ℕ, ◌+◌, Bool, true, false, ◌^◌, List, ◌++◌, sym, ap, subst, ◌∙◌, arith}
 use Rattle.std.specs.Prelude.{IsTrue, ⊤}
-use Rattle.std.specs.List.{flat_map, AllByRecursion}
-use Rattle.std.proofs.lemmas.List.{map-append}
 use Rattle.hunk_words.specs.declared.block_word.Kind.{Kind}
 use Rattle.hunk_words.specs.Bits.{is_relocation, kind}
-use Rattle.hunk_blocks.specs.Values.{BlockBody, Name, Code, Data, Bss, Reloc, Ext, Symbol, Advisory, End, IsPayload, IsSized, IsGroup, IsExtEntry, IsSymbolEntry, FitsWord}
-use Rattle.hunk_blocks.specs.Parts.{Part, Part as parts, longs_of, group_parts, ext_parts, symbol_parts, counted_text, sized_text, group_text, ext_text, symbol_text, list_text, body_text, text_of}
+use Rattle.hunk_blocks.specs.declared.body_view.BodyView.{BodyView}
+use Rattle.hunk_blocks.specs.declared.body_view.BodyView.TheVariants as bodies
+use Rattle.hunk_blocks.specs.Begins.{EndsItemOf, LacksItemAt}
+use Rattle.hunk_blocks.specs.BodyViews.{EndsListItemAt, HasListAt, viewed}
+use Rattle.hunk_blocks.specs.Placed.{Placed}
+use Rattle.hunk_blocks.specs.Values.{BlockBody, BlockValue, Name, Code, Data, Bss, Reloc, Ext, Symbol, Advisory, End, IsPayload, IsSized, IsGroup, IsExtEntry, IsSymbolEntry, FitsWord}
+use Rattle.hunk_blocks.specs.Parts.{counted_text, sized_text, group_text, ext_text, symbol_text, body_text, text_of}
 use Rattle.hunk_blocks.specs.BlockSteps.{ForBss, AtCount, AtSize, AtGroup, AtExtWord, AtEntry, BlockNext, Open, begin_body}
-use Rattle.hunk_blocks.specs.Begins.{EndsItemOf}
-use Rattle.hunk_blocks.specs.Reading.{Unread, Reads, BeginsWithSome, EndsItem, EndsItemAt, BeginsWithList, EndsListItemAt}
+use Rattle.hunk_blocks.specs.Reading.{BeginsWithSome, BeginsWithList}
 use Rattle.hunk_blocks.proofs.BlockText.{begin_relocation, begin_unknown}
-use Rattle.hunk_blocks.proofs.GroupReading.{longs_of-each}
-
-pub longs_of-flat_map : {A : Type 0} (f : A → List (Part × ℕ)) (xs : List A) → longs_of (flat_map f xs) ≡ flat_map (λ x. longs_of (f x)) xs
-longs_of-flat_map f [] = refl
-longs_of-flat_map f (x ∷ xs) = map-append (λ p. p.1) (f x) (flat_map f xs) ∙ ap (λ l. longs_of (f x) ++ l) (longs_of-flat_map f xs)
-
-pub list_is : {A : Type 0} (f : A → List (Part × ℕ)) (part : Part) (xs : List A) → longs_of (flat_map f xs ++ (part, 0) ∷ []) ≡ list_text (λ x. longs_of (f x)) xs
-list_is f part xs = map-append (λ p. p.1) (flat_map f xs) ((part, 0) ∷ []) ∙ ap (λ l. l ++ 0 ∷ []) (longs_of-flat_map f xs)
-
-pub body_text_is : (b : BlockBody) → body_text b ≡ text_of b
-body_text_is (Bss size) = refl
-body_text_is (Reloc groups) = list_is group_parts parts.GroupCount groups
-body_text_is (Ext entries) = list_is ext_parts parts.ExtWord entries
-body_text_is (Symbol entries) = list_is symbol_parts parts.EntryWord entries
-body_text_is End = refl
-body_text_is _ = rw (longs_of-each parts.Payload)
-
--- ---- what stands behind a block word
+use Rattle.hunk_blocks.proofs.PartTexts.{body_text_is}
 
 -- by where a block of its kind begins
 abbrev pub StandsBehind : BlockNext → List ℕ → Type 0
@@ -71,25 +56,11 @@ module _ (word : ℕ) (rest : List ℕ) (b : BeginsWithSome (FitsWord word) body
   pub groups_stand : (k : Kind) → k ≡ kind word → IsTrue (is_relocation k) → BeginsWithList IsGroup group_text rest
   groups_stand k same h = subst (λ (n : BlockNext). StandsBehind n rest) (begin_relocation k h) (body_stands k same)
 
--- ---- what is read
+-- ---- what no memory was found for
 
--- of a body is its text
-pub body_read : (a b : Unread) (body : BlockBody) → Reads a b (text_of body) → Reads a b (body_text body)
-body_read a b body h = subst (λ ws. Reads a b ws) (sym (body_text_is body)) h
-
--- The end of an item of a list is the end of an item of a body.
-pub body_item : (word : ℕ) {A : Type 0} (Is : A → Type 0) (text : A → List ℕ) (body : List A → BlockBody) → ((xs : List A) → AllByRecursion Is xs → FitsWord word (body xs)) → ((xs : List A) → text_of (body xs) ≡ list_text text xs) →
-    ((xs : List A) (n : ℕ) → EndsItem text xs n → EndsItemOf (body xs) n) → (r : Unread) (at : ℕ) → EndsListItemAt Is text r at → EndsItemAt (FitsWord word) body_text EndsItemOf r at
-body_item word Is text body fits same ends r at h =
-    record {
-      some =
-          record {
-            value = body h.some.value;
-            is = fits h.some.value h.some.is;
-            more = h.some.more;
-            begins = h.some.begins ∙ ap (λ l. l ++ h.some.more) (sym (body_text_is (body h.some.value) ∙ same h.some.value));
-          };
-      number = h.number;
-      ends = ends h.some.value h.number h.ends;
-      place = h.place;
-    }
+-- an item of the list is one of the block
+pub lacks_item : (b : Placed BlockValue) (body : BodyView) (at : ℕ) → viewed body ≡ b.value.body → HasListAt (b.place + 4) body → EndsListItemAt body at → LacksItemAt b at
+lacks_item b (bodies.Reloc groups) at same begins e = record { number = e.number; ends = subst (λ (v : BlockBody). EndsItemOf v e.number) same e.ends; place = omega (arith, e.place, begins) }
+lacks_item b (bodies.Ext entries) at same begins e = record { number = e.number; ends = subst (λ (v : BlockBody). EndsItemOf v e.number) same e.ends; place = omega (arith, e.place, begins) }
+lacks_item b (bodies.Symbol symbols) at same begins e = record { number = e.number; ends = subst (λ (v : BlockBody). EndsItemOf v e.number) same e.ends; place = omega (arith, e.place, begins) }
+lacks_item b _ at same begins e = absurd e

@@ -1,98 +1,112 @@
 -- Reading the groups or entries of a block one after another, up to the zero that ends them.
-use Rattle.std.proofs.Common.{◌≡◌, ◌≢◌, ℕ, ◌+◌, ◌-◌, ◌<◌, List, [], ◌∷◌, ◌++◌, length, take, drop, refl, sym, ap, subst, ◌∙◌, append_assoc, length-append, Option, Some, arith}
-use Rattle.std.specs.List.{flat_map, AllByRecursion}
-use Rattle.std.specs.Option.{option_map}
-use Rattle.std.proofs.Math.Seq.{take-append_seam, drop-append_seam}
+use Rattle.std.proofs.Common.{◌≡◌, ◌≢◌, ℕ, ◌+◌, ◌-◌, ◌*◌, ◌<◌, List, [], ◌∷◌, ◌++◌, length, map, refl, sym, ap, ap₂, subst, ◌∙◌, append_assoc, length-append, Option, Some, None, arith}
+use Rattle.std.specs.List.{flat_map}
+use Rattle.std.specs.Iterator.{MakesProgress, item_count}
 use Rattle.std.specs.Prelude.{Result, Ok, Err, IfErr, IsErrAnd}
 use Rattle.hunk_words.specs.declared.fault.Fault.{Fault}
-use Rattle.hunk_blocks.specs.Parts.{list_text}
-use Rattle.hunk_blocks.specs.Reading.{Unread, Reads, ReadsItem, BeginsWithList, EndsListItemAt}
-use Rattle.hunk_blocks.proofs.Lists.{All-more, All-append, flat_map-append, flat_map-more}
+use Rattle.hunk_blocks.specs.Cuts.{Cut, cut_map, list_cut}
+use Rattle.hunk_blocks.specs.Placed.{Placed, GivesFirst, EndsItemAt}
+use Rattle.hunk_blocks.specs.Reading.{Unread, Reads, ReadsValue, BeginsWithSome, BeginsWithList}
+use Rattle.hunk_blocks.proofs.CutLaws.{AreCut, GoesOn, cut, list_cut_ends, list_goes_on}
+use Rattle.hunk_blocks.proofs.Lists.{flat_map-more, map-more}
 
--- one list in front of another is known by its length
-pub append_same : {A : Type 0} (xs ys us vs : List A) → length xs ≡ length ys → xs ++ us ≡ ys ++ vs → (xs ≡ ys) × (us ≡ vs)
-append_same xs ys us vs n e = (
-  sym (take-append_seam xs us) ∙ ap (λ l. take (length xs) l) e ∙ ap (λ (k : ℕ). take k (ys ++ vs)) n ∙ take-append_seam ys vs,
-  sym (drop-append_seam xs us) ∙ ap (λ l. drop (length xs) l) e ∙ ap (λ (k : ℕ). drop k (ys ++ vs)) n ∙ drop-append_seam ys vs,
-)
+module _ {A : Type 0} {Is : A → Type 0} {text : A → List ℕ} {one : List ℕ → Cut A} (are : AreCut Is text one) where
+  -- ---- one item
 
-pub Reads-append : (a b c : Unread) (xs ys : List ℕ) → Reads a b xs → Reads b c ys → Reads a c (xs ++ ys)
-Reads-append a b c xs ys h k =
-    record {
-      front = h.front ∙ ap (λ l. xs ++ l) k.front ∙ sym (append_assoc xs ys c.rest);
-      further = omega (arith, h.further, k.further, length-append xs ys);
-    }
+  module _ (a : Unread) (word : ℕ) (behind : List ℕ) (list : BeginsWithList Is text a.rest) (begins : a.rest ≡ word ∷ behind) (some : word ≢ 0) where
+    on : GoesOn are a.rest
+    on = list_goes_on are a.rest list word behind begins some
 
-module _ {A : Type 0} (Is : A → Type 0) (text : A → List ℕ) where
-  -- These values were read, and a list of others is left.
-  pub record HasRead (old new : Unread) (done : List A) : Type 0 where
-    pub are : AllByRecursion Is done
-    pub reads : Reads old new (flat_map text done)
+    pub item_there : BeginsWithSome Is text a.rest
+    item_there = record { value = (one a.rest).value; is = on.is; more = (one a.rest).rest; begins = on.text_in_front }
+
+    -- It was read, and the list goes on.
+    pub record IsFirst (b : Unread) (x : A) : Type 0 where
+      pub first : list_cut one a.rest ≡ cut_map (λ xs. x ∷ xs) (list_cut one b.rest)
+      pub place : b.place ≡ a.place + 4 * length (text x)
+      pub left : BeginsWithList Is text b.rest
+      pub fewer : length b.rest < length a.rest
+
+    pub item_first : (b : Unread) (x : A) → ReadsValue one a b x → IsFirst b x
+    item_first b x r =
+        let here : Cut A → Type 0 = λ c. (a.rest ≡ text c.value ++ c.rest) × BeginsWithList Is text c.rest × (list_cut one a.rest ≡ cut_map (λ xs. c.value ∷ xs) (list_cut one c.rest)) in
+        let all = subst here r.spelled (on.text_in_front, on.left, on.list) in
+        let size : length a.rest ≡ length (text x) + length b.rest = ap length all.0 ∙ length-append (text x) b.rest in
+        record { first = all.2; place = omega (arith, r.further, size); left = all.1; fewer = omega (arith, size, ap length (are.text_is x)) }
+
+  -- ---- passing over a list
+
+  -- Some of the items were read, and the list goes on.
+  pub record Passes (old new : Unread) : Type 0 where
     pub left : BeginsWithList Is text new.rest
+    pub behind : (list_cut one new.rest).rest ≡ (list_cut one old.rest).rest
+    pub further : new.place + 4 * length new.rest ≡ old.place + 4 * length old.rest
 
-  -- one more, that was found
-  pub item_read : {B : Type 0} (view : B → A) (a b c : Unread) (done : List A) (found : Option B) (x : B) → HasRead a b done → found ≡ Some x → ReadsItem Is text b c (option_map view found) → HasRead a c (done ++ view x ∷ [])
-  item_read view a b c done found x h is read =
-      let r : Is (view x) × Reads b c (text (view x)) × BeginsWithList Is text c.rest = subst (λ f. ReadsItem Is text b c (option_map view f)) is read in
+  pub item_passed : (a b c : Unread) (word : ℕ) (behind : List ℕ) (x : A) → Passes a b → b.rest ≡ word ∷ behind → word ≢ 0 → ReadsValue one b c x → Passes a c
+  item_passed a b c word behind x p e some r =
+      let f = item_first b word behind p.left e some c x r in
+      record { left = f.left; behind = ap (λ (l : Cut (List A)). l.rest) (sym f.first) ∙ p.behind; further = r.further ∙ p.further }
+
+  pub list_passed : (a b c : Unread) (word : ℕ) (behind : List ℕ) → Passes a b → b.rest ≡ word ∷ behind → word ≡ 0 → (read : ℕ) → Reads b c (read ∷ []) → (start : Unread) → start ≡ a → ReadsValue (list_cut one) a c (list_cut one start.rest).value
+  list_passed a b c word behind p e none read r start begin =
+      let same : read ∷ c.rest ≡ word ∷ behind = sym r.front ∙ e in
+      let ends : b.rest ≡ 0 ∷ c.rest = r.front ∙ ap (λ w. w ∷ c.rest) (let f = same in let g : read ≡ word = cc in g ∙ none) in
+      let rest : (list_cut one a.rest).rest ≡ c.rest = sym p.behind ∙ ap (λ (l : Cut (List A)). l.rest) (list_cut_ends are b.rest c.rest ends) in
+      record { spelled = ap₂ (λ (u : Unread) (l : List ℕ). cut (list_cut one u.rest).value l) (sym begin) rest; further = omega (arith, r.further, ap length r.front, p.further) }
+
+  -- ---- as an iterator sees it
+
+  abbrev seen : Unread → Placed (List A)
+  seen u = record { place = u.place; value = (list_cut one u.rest).value }
+
+  module _ {T : Type 0} (view : T → A) (a : Unread) (now : Placed (List A)) (same : seen a ≡ now) (list : BeginsWithList Is text a.rest) (word : ℕ) (behind : List ℕ) (begins : a.rest ≡ word ∷ behind) where
+    pub none_given : word ≡ 0 → GivesFirst view text now None now
+    none_given none = (ap (λ (p : Placed (List A)). p.value) (sym same) ∙ ap (λ (l : Cut (List A)). l.value) (list_cut_ends are a.rest behind (begins ∙ ap (λ w. w ∷ behind) none)), refl)
+
+    pub first_given : word ≢ 0 → (b : Unread) (item : T) → ReadsValue one a b (view item) → GivesFirst view text now (Some item) (seen b)
+    first_given some b item r =
+        let f = item_first a word behind list begins some b (view item) r in
+        (ap (λ (p : Placed (List A)). p.value) (sym same) ∙ ap (λ (l : Cut (List A)). l.value) f.first, f.place ∙ ap (λ (p : Placed (List A)). p.place + 4 * length (text (view item))) same)
+
+-- an item given is one less to come
+pub item_less : {T A : Type 0} (view : T → A) (text : A → List ℕ) (can : Placed (List A) → Type 0) (always : (s : Placed (List A)) → can s) (s t : Placed (List A)) (item : T) → GivesFirst view text s (Some item) t → MakesProgress can (item_count {A = A} (λ p. p.value)) s (Some item) t
+item_less view text can always s t item gives = record { on = λ h. (always t, tt, omega (arith, ap length gives.0)); keeps = always t; rests = λ h. tt }
+
+-- ---- keeping the items
+
+module _ {T A : Type 0} (view : T → A) (text : A → List ℕ) (all : Placed (List A)) where
+  -- These items were taken, and the others are left.
+  pub record Keeps (left : Placed (List A)) (kept : List T) : Type 0 where
+    pub split : all.value ≡ map view kept ++ left.value
+    pub place : left.place ≡ all.place + 4 * length (flat_map text (map view kept))
+
+  pub item_kept : (old new : Placed (List A)) (kept : List T) (found : Option T) (item : T) → Keeps old kept → found ≡ Some item → GivesFirst view text old found new → Keeps new (kept ++ item ∷ [])
+  item_kept old new kept found item k same gives =
+      let g : (old.value ≡ view item ∷ new.value) × (new.place ≡ old.place + 4 * length (text (view item))) = subst (λ f. GivesFirst view text old f new) same gives in
+      let more : map view (kept ++ item ∷ []) ≡ map view kept ++ view item ∷ [] = map-more view kept item in
       record {
-        are = All-more Is done (view x) h.are r.0;
-        reads = subst (λ l. Reads a c l) (sym (flat_map-more text done (view x))) (Reads-append a b c (flat_map text done) (text (view x)) h.reads r.1);
-        left = r.2;
+        split = k.split ∙ ap (λ l. map view kept ++ l) g.0 ∙ sym (append_assoc (map view kept) (view item ∷ []) new.value) ∙ ap (λ l. l ++ new.value) (sym more);
+        place = omega (arith, k.place, g.1, ap (λ l. length (flat_map text l)) more, ap length (flat_map-more text (map view kept) (view item)), length-append (flat_map text (map view kept)) (text (view item)));
       }
 
-  -- and the end
-  pub list_read : (a b c : Unread) (done : List A) → HasRead a b done → Reads b c (0 ∷ []) → Reads a c (list_text text done)
-  list_read a b c done h r = Reads-append a b c (flat_map text done) (0 ∷ []) h.reads r
-
-  -- The value that was read last ends with the longword before this place.
-  pub item_ends : (a c : Unread) (done : List A) (x : A) (place : ℕ) → HasRead a c (done ++ x ∷ []) → 0 < length (text x) → place + 4 ≡ c.place → EndsListItemAt Is text a place
-  item_ends a c done x place h some e =
-      let xs = done ++ x ∷ [] in
-      let ys = h.left.value in
-      let size : length (flat_map text xs) ≡ length (flat_map text done) + length (text x) = ap length (flat_map-more text done x) ∙ length-append (flat_map text done) (text x) in
+  -- The item that was taken last ends with the longword before the place.
+  pub item_ends : (new : Placed (List A)) (kept : List T) (item : T) (at : ℕ) → Keeps new (kept ++ item ∷ []) → 0 < length (text (view item)) → at + 4 ≡ new.place → EndsItemAt text all at
+  item_ends new kept item at k some e =
+      let more : map view (kept ++ item ∷ []) ≡ map view kept ++ view item ∷ [] = map-more view kept item in
+      let size : length (flat_map text (map view kept ++ view item ∷ [])) ≡ length (flat_map text (map view kept)) + length (text (view item)) =
+      ap length (flat_map-more text (map view kept) (view item)) ∙ length-append (flat_map text (map view kept)) (text (view item)) in
       record {
-        some =
+        number = length (flat_map text (map view kept ++ view item ∷ [])) - 1;
+        ends =
             record {
-              value = xs ++ ys;
-              is = All-append Is xs ys h.are h.left.is;
-              more = h.left.more;
-              begins =
-                  h.reads.front
-                  ∙ ap (λ l. flat_map text xs ++ l) h.left.begins
-                  ∙ sym (append_assoc (flat_map text xs) (list_text text ys) h.left.more)
-                  ∙ ap (λ l. l ++ h.left.more) (sym (append_assoc (flat_map text xs) (flat_map text ys) (0 ∷ [])) ∙ ap (λ l. l ++ 0 ∷ []) (sym (flat_map-append text xs ys)));
+              before = map view kept;
+              item = view item;
+              after = new.value;
+              split = k.split ∙ ap (λ l. l ++ new.value) more ∙ append_assoc (map view kept) (view item ∷ []) new.value;
+              last = omega (arith, size, some);
             };
-        number = length (flat_map text xs) - 1;
-        ends = record { before = done; item = x; after = ys; split = append_assoc done (x ∷ []) ys; last = omega (arith, size, some) };
-        place = omega (arith, e, h.reads.further, size, some);
+        place = omega (arith, e, k.place, ap (λ l. length (flat_map text l)) more, size, some);
       }
-
--- ---- an item, whose text is a longword that is not 0, and a body
-
-module _ {A : Type 0} (Is : A → Type 0) (text : A → List ℕ) (head : A → ℕ) (body : A → List ℕ) (text_is : (x : A) → text x ≡ head x ∷ body x) (word : ℕ) (rest : List ℕ) where
-  -- Behind its first longword stands the body, and a list.
-  pub record Behind : Type 0 where
-    pub item : A
-    pub is : Is item
-    pub word_is : word ≡ head item
-    pub more : List ℕ
-    pub cut : rest ≡ body item ++ more
-    pub left : BeginsWithList Is text more
-
-  pub item_behind : (words : List ℕ) → BeginsWithList Is text words → words ≡ word ∷ rest → word ≢ 0 → Behind
-  item_behind words b e some = go b.value b.is (sym e ∙ b.begins)
-    where
-      go : (xs : List A) → AllByRecursion Is xs → word ∷ rest ≡ list_text text xs ++ b.more → Behind
-      go [] h f = let z : word ≡ 0 = cc in absurd (some z)
-      go (x ∷ xs) h f =
-          let more : List ℕ = list_text text xs ++ b.more in
-          let g : word ∷ rest ≡ head x ∷ (body x ++ more) =
-          f ∙ ap (λ l. l ++ b.more) (append_assoc (text x) (flat_map text xs) (0 ∷ [])) ∙ append_assoc (text x) (list_text text xs) b.more ∙ ap (λ l. l ++ more) (text_is x) in
-          record { item = x; is = h.0; word_is = cc; more = more; cut = cc; left = record { value = xs; is = h.1; more = b.more; begins = refl } }
-
-  -- behind as many longwords as the body has
-  pub list_left : (b : Behind) (read new : List ℕ) → rest ≡ read ++ new → length read ≡ length (body b.item) → BeginsWithList Is text new
-  list_left b read new e n = subst (BeginsWithList Is text) (sym (append_same read (body b.item) new b.more n (sym e ∙ b.cut)).1) b.left
 
 -- what holds of any refusal
 pub if_err : {T E : Type 0} (r : Result T E) (P : E → Type 0) → ((e : E) → P e) → IfErr r P

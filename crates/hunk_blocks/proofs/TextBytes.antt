@@ -9,10 +9,7 @@ use Rattle.hunk_blocks.specs.Entries.{shaped_text}
 use Rattle.hunk_blocks.specs.Values.{BlockBody, BlockValue, ExtEntry, RelocGroup, SymbolEntry}
 use Rattle.hunk_blocks.specs.Parts.{block_text, body_text, ext_text, group_text, symbol_text, text_of}
 use Rattle.hunk_blocks.specs.Views.{body_of}
-use Rattle.hunk_blocks.proofs.BodyReading.{body_text_is}
-use Rattle.hunk_blocks.proofs.GroupReading.{group_text_is}
-use Rattle.hunk_blocks.proofs.SymbolReading.{symbol_text_is}
-use Rattle.hunk_blocks.proofs.EntryReading.{ext_text_is}
+use Rattle.hunk_blocks.proofs.PartTexts.{body_text_is, group_text_is, symbol_text_is, ext_text_is}
 
 -- longwords, and then others
 pub words_printed : (xs ys old mid new : List ℕ) → mid ≡ old ++ bytes_of xs → new ≡ mid ++ bytes_of ys → new ≡ old ++ bytes_of (xs ++ ys)

@@ -5,6 +5,7 @@ use Rattle.hunk_blocks.specs.declared.mode.Mode.{Mode}
 use Rattle.hunk_blocks.specs.Values.{BlockBody, Reloc, Ext, Symbol, BlockValue, IsBlock}
 use Rattle.hunk_blocks.specs.Parts.{block_text, group_text, ext_text, symbol_text}
 use Rattle.hunk_blocks.specs.Modes.{IsOfMode}
+use Rattle.hunk_blocks.specs.Placed.{Placed}
 use Rattle.hunk_blocks.specs.Reading.{EndsItem}
 
 -- the longword that a block's word is read from
@@ -63,3 +64,9 @@ pub record LacksItem (bytes : List ℕ) (at : ℕ) : Type 0 where
 pub record LacksItemOfMode (mode : Mode) (bytes : List ℕ) (at : ℕ) : Type 0 where
   pub lacks : LacksItem bytes at
   pub of_mode : IsOfMode mode lacks.value
+
+-- The like, of a block that begins at a byte of the input.
+pub record LacksItemAt (block : Placed BlockValue) (at : ℕ) : Type 0 where
+  pub number : ℕ
+  pub ends : EndsItemOf block.value.body number
+  pub place : at ≡ block.place + 4 * (1 + number)

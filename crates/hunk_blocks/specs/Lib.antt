@@ -1,11 +1,14 @@
 pub mod Along
 pub mod Begins
+pub mod Cuts
 pub mod BlockSteps
+pub mod BodyViews
 pub mod Entries
 pub mod ExtKinds
 pub mod Faults
 pub mod Modes
 pub mod Parts
+pub mod Placed
 pub mod PhaseSteps
 pub mod ReaderPhase
 pub mod Reading

@@ -1,6 +1,7 @@
 -- What a reader of longwords has before it, and what was read of it.
-use Rattle.std.specs.Prelude.{◌≡◌, ℕ, ◌+◌, ◌*◌, List, [], ◌∷◌, ◌++◌, length, Option, None, Some}
+use Rattle.std.specs.Prelude.{◌≡◌, ℕ, ◌+◌, ◌*◌, List, [], ◌∷◌, ◌++◌, length}
 use Rattle.std.specs.List.{flat_map, AllByRecursion}
+use Rattle.hunk_blocks.specs.Cuts.{Cut}
 use Rattle.hunk_blocks.specs.Parts.{list_text}
 
 -- the longwords still to come, and the number of bytes before them
@@ -13,6 +14,11 @@ pub record Reads (old new : Unread) (words : List ℕ) : Type 0 where
   pub front : old.rest ≡ words ++ new.rest
   pub further : new.place ≡ old.place + 4 * length words
 
+-- This value was read, which the first longwords spell.
+pub record ReadsValue {A : Type 0} (cut : List ℕ → Cut A) (old new : Unread) (value : A) : Type 0 where
+  pub spelled : cut old.rest ≡ record { value = value; rest = new.rest }
+  pub further : new.place + 4 * length new.rest ≡ old.place + 4 * length old.rest
+
 -- The longwords begin with the text of some such value.
 pub record BeginsWithSome {A : Type 0} (Is : A → Type 0) (text : A → List ℕ) (words : List ℕ) : Type 0 where
   pub value : A
@@ -23,11 +29,6 @@ pub record BeginsWithSome {A : Type 0} (Is : A → Type 0) (text : A → List �
 -- They begin with a list of such values.
 abbrev pub BeginsWithList : {A : Type 0} → (A → Type 0) → (A → List ℕ) → List ℕ → Type 0
 BeginsWithList Is text words = BeginsWithSome (AllByRecursion Is) (list_text text) words
-
--- A group or an entry was read, behind which the list goes on, or the zero that ends it.
-abbrev pub ReadsItem : {A : Type 0} → (A → Type 0) → (A → List ℕ) → Unread → Unread → Option A → Type 0
-ReadsItem Is text old new None = Reads old new (0 ∷ [])
-ReadsItem Is text old new (Some x) = Is x × Reads old new (text x) × BeginsWithList Is text new.rest
 
 -- The text of some such value begins with these longwords.
 pub record IsFrontOf {A : Type 0} (Is : A → Type 0) (text : A → List ℕ) (words : List ℕ) : Type 0 where
@@ -43,15 +44,3 @@ pub record EndsItem {A : Type 0} (text : A → List ℕ) (items : List A) (n : �
   pub after : List A
   pub split : items ≡ before ++ item ∷ after
   pub last : n + 1 ≡ length (flat_map text (before ++ item ∷ []))
-
--- Of a value that the longwords to come begin with, an item ends with the one at this byte.
-pub record EndsItemAt {A : Type 0} (Is : A → Type 0) (text : A → List ℕ) (Ends : A → ℕ → Type 0) (r : Unread) (at : ℕ)
-    : Type 0 where
-  pub some : BeginsWithSome Is text r.rest
-  pub number : ℕ
-  pub ends : Ends some.value number
-  pub place : at ≡ r.place + 4 * number
-
--- The like of a list of values.
-abbrev pub EndsListItemAt : {A : Type 0} → (A → Type 0) → (A → List ℕ) → Unread → ℕ → Type 0
-EndsListItemAt Is text r at = EndsItemAt (AllByRecursion Is) (list_text text) (EndsItem text) r at

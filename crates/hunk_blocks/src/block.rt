@@ -13,12 +13,13 @@ ghost use Rattle.hunk_blocks.specs.Modes.{is_block_refusal, refuse_alone_word};
 ghost use Rattle.hunk_blocks.specs.Faults.{HasBlockFault};
 ghost use Rattle.hunk_blocks.specs.Begins.{BeginsWithBlock, BeginsWithNoBlock, first_long};
 ghost use Rattle.hunk_blocks.specs.Begins.{BeginsWithSomeBlock, IsFrontBlock};
-ghost use Rattle.hunk_blocks.specs.Begins.{LacksItem, LacksItemOfMode};
+ghost use Rattle.hunk_blocks.specs.Begins.{LacksItem, LacksItemAt, LacksItemOfMode};
 ghost use Rattle.hunk_blocks.specs.Views.{body_of};
 
+use crate::block_view::BlockView;
 use crate::body::Body;
+use crate::body_view::keep_body;
 use crate::mode::Mode;
-use crate::reading::{LongReader, read_body};
 use crate::walk::walk_block;
 use crate::writing::print_body;
 use hunk_words::{BlockFault, BlockWord, LongWriter, PagePrinter, Sink, WriteFault};
@@ -108,11 +109,27 @@ impl<'a> Block<'a> {
         ensures memory { IfErr result (λ fault. fault.reason ≡ reasons.OutOfMemory) }
         ensures place { IfErr result (λ fault. LacksItem bytes.entry.now fault.place) }
     {
-        let mut reader = LongReader::new(bytes);
-        let word = BlockWord::of(reader.long());
-        let body = read_body(alloc, &mut reader, word)?;
-        let len = reader.place();
-        Ok((Block { word, body, len }, len as usize))
+        let view = BlockView::at(bytes, 0);
+        let len = view.encoded_len() as usize;
+        let block = Block::keep(alloc, view)?;
+        Ok((block, len))
+    }
+
+    /// The same block with its groups or entries in a list, for which alone it takes memory.
+    ///
+    /// # Errors
+    ///
+    /// `OutOfMemory` at the longword that completes the group or entry for which no memory was
+    /// found, from the start of the input.
+    pub fn keep(alloc: Global, view: BlockView<'a>) -> Result<Block<'a>, BlockFault>
+        ensures block { IfOk result (λ block. block ≡ view.entry.value) }
+        ensures memory { IfErr result (λ fault. fault.reason ≡ reasons.OutOfMemory) }
+        ensures place { IfErr result (λ fault. LacksItemAt view.entry fault.place) }
+    {
+        let word = view.word();
+        let len = view.encoded_len();
+        let body = keep_body(alloc, view.into_body())?;
+        Ok(Block { word, body, len })
     }
 
     /// The block's first longword: its flags and its type.

@@ -56,7 +56,7 @@ impl Body<'_> {
 }
 
 /// How many bytes the size word of a BSS block says.
-fn bss_bytes(size: u32) -> u64
+pub(crate) fn bss_bytes(size: u32) -> u64
     ensures { result ≡ 4 * size_longs size }
 {
     SizeWord {

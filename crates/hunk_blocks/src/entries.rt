@@ -1,14 +1,26 @@
 //! The entries of an EXT block.
-ghost use Rattle.std.specs.Prelude.{◌≡◌};
+ghost use Rattle.std.specs.Prelude.{◌≡◌, IfErr, IfOk, Some, map};
+ghost use Rattle.std.specs.Iterator.{item_count};
+ghost use Rattle.hunk_words.specs.declared.reason.Reason.TheVariants as reasons;
+ghost use Rattle.hunk_blocks.specs.Cuts.{entry_cut, list_cut, shaped_cut};
+ghost use Rattle.hunk_blocks.specs.Entries.{IsShaped, shaped_text};
 ghost use Rattle.hunk_blocks.specs.ExtKinds.{ext_kind, ext_shape};
-ghost use Rattle.hunk_blocks.specs.Values.{ext_type};
+ghost use Rattle.hunk_blocks.specs.Parts.{ext_text};
+ghost use Rattle.hunk_blocks.specs.Placed.{EndsItemAt, GivesFirst};
+ghost use Rattle.hunk_blocks.specs.Reading.{BeginsWithList, BeginsWithSome, ReadsValue};
+ghost use Rattle.hunk_blocks.specs.Values.{IsExtEntry, ext_type};
 ghost use Rattle.hunk_blocks.specs.Views.{entry_of};
 
 use crate::ext_kind::{ExtKind, kind_of, shape_of};
 use crate::ext_shape::ExtShape;
-use crate::list::BlockList;
+use crate::growing::append;
+use crate::list::{BlockList, out_of_memory};
 use crate::longs::Longs;
 use crate::payload::Payload;
+use crate::reading::{LongReader, read_counted, read_entry_name};
+use hunk_words::BlockFault;
+use std::alloc::Global;
+use std::marker::Model;
 
 /// An entry of an EXT block: a definition, or references.
 ///
@@ -47,3 +59,140 @@ impl Entry<'_> {
 
 /// The entries of an EXT block, in file order.
 pub type Entries<'a> = BlockList<Entry<'a>>;
+
+/// The entries of an EXT block that are still to come, each read where it lies. It takes no
+/// memory. Contracts see the list of them, and the byte of the input at which the next begins.
+#[derive(Drop)]
+pub struct EntriesIter<'a> {
+    reader: LongReader<'a>,
+}
+
+impl<'a> Model for EntriesIter<'a> {
+    ghost use Rattle.std.specs.Prelude.{List};
+    ghost use Rattle.hunk_blocks.specs.Cuts.{entry_cut, list_cut};
+    ghost use Rattle.hunk_blocks.specs.Parts.{ext_text};
+    ghost use Rattle.hunk_blocks.specs.Placed.{Placed};
+    ghost use Rattle.hunk_blocks.specs.Reading.{BeginsWithList};
+    ghost use Rattle.hunk_blocks.specs.Values.{IsExtEntry, ExtEntry};
+
+    ghost Value = { Placed (List ExtEntry) };
+
+    ghost view = { λ s. record {
+      place = s.reader.place;
+      value = (list_cut entry_cut s.reader.rest).value;
+    } };
+
+    ghost invariant = { λ s. BeginsWithList IsExtEntry ext_text s.reader.rest };
+}
+
+impl<'a> EntriesIter<'a> {
+    /// The entries that come next; the reader goes on behind the zero that ends them.
+    pub(crate) fn of(reader: &mut LongReader<'a>) -> EntriesIter<'a>
+        requires { BeginsWithList IsExtEntry ext_text reader.old.rest }
+        ensures read { ReadsValue (list_cut entry_cut) reader.old reader.new result.value }
+        ensures place { result.place ≡ reader.old.place }
+    {
+        let entries = EntriesIter {
+            reader: reader.again(),
+        };
+        'passing: while reader.peek() != 0 {
+            let _ = read_entry(reader);
+        }
+        let _ = reader.long();
+        entries
+    }
+
+    /// The byte of the input at which the next entry begins, or the zero that ends the block.
+    #[inline(always)]
+    pub fn place(&self) -> u64
+        ensures { result ≡ self.now.place }
+    {
+        self.reader.place()
+    }
+
+    /// The same entries again.
+    #[inline(always)]
+    pub fn again(&self) -> EntriesIter<'a>
+        ensures { result ≡ self.now }
+    {
+        EntriesIter {
+            reader: self.reader.again(),
+        }
+    }
+}
+
+impl<'a> Iterator for EntriesIter<'a> {
+    type Item = Entry<'a>;
+
+    ghost next_gives = { GivesFirst entry_of ext_text };
+
+    ghost remaining = { item_count (λ s. s.value) };
+
+    #[inline(always)]
+    fn next(&mut self) -> Option<Entry<'a>> {
+        if self.reader.peek() == 0 {
+            return None;
+        }
+        Some(read_entry(&mut self.reader))
+    }
+}
+
+/// What stands behind the name of an entry of this shape: its value and its offsets.
+#[inline(always)]
+fn read_shaped<'a>(reader: &mut LongReader<'a>, shape: ExtShape) -> (u32, Longs<'a>)
+    requires { BeginsWithSome (IsShaped (Some shape)) (shaped_text (Some shape)) reader.old.rest }
+    ensures { ReadsValue (shaped_cut (Some shape)) reader.old reader.new result }
+{
+    match shape {
+        ExtShape::Definition => (reader.long(), Longs::none()),
+        ExtShape::References => (0, Longs::of(read_counted(reader))),
+        ExtShape::Common => {
+            let size = reader.long();
+            (size, Longs::of(read_counted(reader)))
+        }
+    }
+}
+
+/// The next entry (The AmigaDOS Manual, `dos/doshunks.h`).
+#[inline(always)]
+fn read_entry<'a>(reader: &mut LongReader<'a>) -> Entry<'a>
+    requires { BeginsWithSome IsExtEntry ext_text reader.old.rest }
+    ensures { ReadsValue entry_cut reader.old reader.new (entry_of result) }
+{
+    let word = reader.long();
+    let name = read_entry_name(reader, word);
+    match shape_of(word) {
+        Some(shape) => {
+            let (value, offsets) = read_shaped(reader, shape);
+            Entry {
+                word,
+                name,
+                value,
+                offsets,
+            }
+        }
+        None => unreachable!(),
+    }
+}
+
+/// The entries in a list.
+///
+/// # Errors
+///
+/// `OutOfMemory` at the last longword of the entry for which no memory was found.
+pub(crate) fn keep_entries<'a>(
+    alloc: Global,
+    mut entries: EntriesIter<'a>,
+) -> Result<Entries<'a>, BlockFault>
+    ensures kept { IfOk result (λ kept. map entry_of kept ≡ entries.entry.value) }
+    ensures memory { IfErr result (λ fault. fault.reason ≡ reasons.OutOfMemory) }
+    ensures place { IfErr result (λ fault. EndsItemAt ext_text entries.entry fault.place) }
+{
+    let mut kept = Vec::new(alloc);
+    'keeping: while let Some(entry) = entries.next() {
+        if append(&mut kept, entry).is_err() {
+            return Err(out_of_memory(entries.place()));
+        }
+    }
+    Ok(Entries::of(kept))
+}

@@ -2,7 +2,9 @@
 #![tactic(auto)]
 
 mod block;
+mod block_view;
 mod body;
+mod body_view;
 mod entries;
 mod ext_kind;
 mod ext_shape;
@@ -20,16 +22,18 @@ mod walk;
 mod writing;
 
 pub use crate::block::Block;
+pub use crate::block_view::BlockView;
 pub use crate::body::Body;
-pub use crate::entries::{Entries, Entry};
+pub use crate::body_view::BodyView;
+pub use crate::entries::{Entries, EntriesIter, Entry};
 pub use crate::ext_kind::ExtKind;
 pub use crate::ext_shape::ExtShape;
-pub use crate::groups::{Group, Groups};
+pub use crate::groups::{Group, Groups, GroupsIter};
 pub use crate::growing::append;
 pub use crate::list::BlockList;
 pub use crate::longs::{Longs, LongsIter};
 pub use crate::mode::Mode;
 pub use crate::payload::Payload;
 pub use crate::phase::{Phase, content_longs};
-pub use crate::symbols::{Named, Symbols};
+pub use crate::symbols::{Named, Symbols, SymbolsIter};
 pub use crate::walk::walk_block;

@@ -1,7 +1,9 @@
 //! The lists in a block's body.
-ghost use Rattle.std.specs.Prelude.{◌≡◌, ◌<◌, ◌↔◌, [], IsTrue, Some, length, slice_get};
+ghost use Rattle.std.specs.Prelude.{◌≡◌, ◌+◌, ◌<◌, ◌≤◌, ◌↔◌, [], IsTrue, Some, length, slice_get};
 ghost use Rattle.std.specs.Slice.Iter.{iter_rest};
+ghost use Rattle.hunk_words.specs.declared.reason.Reason.TheVariants as reasons;
 
+use hunk_words::{BlockFault, Reason};
 use std::marker::Model;
 use std::slice;
 
@@ -73,5 +75,18 @@ impl<'b, T> IntoIterator for &'b BlockList<T> {
 
     fn into_iter(self) -> Self::IntoIter {
         self.iter()
+    }
+}
+
+/// The refusal of memory for an item behind which the input goes on at this byte: at the item's
+/// last longword.
+pub(crate) fn out_of_memory(behind: u64) -> BlockFault
+    requires { 4 ≤ behind }
+    ensures place { result.place + 4 ≡ behind }
+    ensures reason { result.reason ≡ reasons.OutOfMemory }
+{
+    BlockFault {
+        place: behind - 4,
+        reason: Reason::OutOfMemory,
     }
 }

@@ -1,7 +1,21 @@
 //! The entries of a SYMBOL block.
+ghost use Rattle.std.specs.Prelude.{◌≡◌, IfErr, IfOk, map};
+ghost use Rattle.std.specs.Iterator.{item_count};
+ghost use Rattle.hunk_words.specs.declared.reason.Reason.TheVariants as reasons;
+ghost use Rattle.hunk_blocks.specs.Cuts.{list_cut, symbol_cut};
+ghost use Rattle.hunk_blocks.specs.Parts.{symbol_text};
+ghost use Rattle.hunk_blocks.specs.Placed.{EndsItemAt, GivesFirst};
+ghost use Rattle.hunk_blocks.specs.Reading.{BeginsWithList, BeginsWithSome, ReadsValue};
+ghost use Rattle.hunk_blocks.specs.Values.{IsSymbolEntry};
+ghost use Rattle.hunk_blocks.specs.Views.{symbol_of};
 
-use crate::list::BlockList;
+use crate::growing::append;
+use crate::list::{BlockList, out_of_memory};
 use crate::payload::Payload;
+use crate::reading::{LongReader, read_entry_name};
+use hunk_words::BlockFault;
+use std::alloc::Global;
+use std::marker::Model;
 
 /// An entry of a SYMBOL block.
 ///
@@ -19,3 +33,114 @@ pub struct Named<'a> {
 
 /// The entries of a SYMBOL block, in file order.
 pub type Symbols<'a> = BlockList<Named<'a>>;
+
+/// The entries of a SYMBOL block that are still to come, each read where it lies. It takes no
+/// memory. Contracts see the list of them, and the byte of the input at which the next begins.
+#[derive(Drop)]
+pub struct SymbolsIter<'a> {
+    reader: LongReader<'a>,
+}
+
+impl<'a> Model for SymbolsIter<'a> {
+    ghost use Rattle.std.specs.Prelude.{List};
+    ghost use Rattle.hunk_blocks.specs.Cuts.{symbol_cut, list_cut};
+    ghost use Rattle.hunk_blocks.specs.Parts.{symbol_text};
+    ghost use Rattle.hunk_blocks.specs.Placed.{Placed};
+    ghost use Rattle.hunk_blocks.specs.Reading.{BeginsWithList};
+    ghost use Rattle.hunk_blocks.specs.Values.{IsSymbolEntry, SymbolEntry};
+
+    ghost Value = { Placed (List SymbolEntry) };
+
+    ghost view = { λ s. record {
+      place = s.reader.place;
+      value = (list_cut symbol_cut s.reader.rest).value;
+    } };
+
+    ghost invariant = { λ s. BeginsWithList IsSymbolEntry symbol_text s.reader.rest };
+}
+
+impl<'a> SymbolsIter<'a> {
+    /// The entries that come next; the reader goes on behind the zero that ends them.
+    pub(crate) fn of(reader: &mut LongReader<'a>) -> SymbolsIter<'a>
+        requires { BeginsWithList IsSymbolEntry symbol_text reader.old.rest }
+        ensures read { ReadsValue (list_cut symbol_cut) reader.old reader.new result.value }
+        ensures place { result.place ≡ reader.old.place }
+    {
+        let symbols = SymbolsIter {
+            reader: reader.again(),
+        };
+        'passing: while reader.peek() != 0 {
+            let _ = read_symbol(reader);
+        }
+        let _ = reader.long();
+        symbols
+    }
+
+    /// The byte of the input at which the next entry begins, or the zero that ends the block.
+    #[inline(always)]
+    pub fn place(&self) -> u64
+        ensures { result ≡ self.now.place }
+    {
+        self.reader.place()
+    }
+
+    /// The same entries again.
+    #[inline(always)]
+    pub fn again(&self) -> SymbolsIter<'a>
+        ensures { result ≡ self.now }
+    {
+        SymbolsIter {
+            reader: self.reader.again(),
+        }
+    }
+}
+
+impl<'a> Iterator for SymbolsIter<'a> {
+    type Item = Named<'a>;
+
+    ghost next_gives = { GivesFirst symbol_of symbol_text };
+
+    ghost remaining = { item_count (λ s. s.value) };
+
+    #[inline(always)]
+    fn next(&mut self) -> Option<Named<'a>> {
+        if self.reader.peek() == 0 {
+            return None;
+        }
+        Some(read_symbol(&mut self.reader))
+    }
+}
+
+/// The next entry (The AmigaDOS Manual, `dos/doshunks.h`).
+#[inline(always)]
+fn read_symbol<'a>(reader: &mut LongReader<'a>) -> Named<'a>
+    requires { BeginsWithSome IsSymbolEntry symbol_text reader.old.rest }
+    ensures { ReadsValue symbol_cut reader.old reader.new (symbol_of result) }
+{
+    let word = reader.long();
+    let name = read_entry_name(reader, word);
+    let value = reader.long();
+    Named { word, name, value }
+}
+
+/// The entries in a list.
+///
+/// # Errors
+///
+/// `OutOfMemory` at the last longword of the entry for which no memory was found.
+pub(crate) fn keep_symbols<'a>(
+    alloc: Global,
+    mut symbols: SymbolsIter<'a>,
+) -> Result<Symbols<'a>, BlockFault>
+    ensures kept { IfOk result (λ kept. map symbol_of kept ≡ symbols.entry.value) }
+    ensures memory { IfErr result (λ fault. fault.reason ≡ reasons.OutOfMemory) }
+    ensures place { IfErr result (λ fault. EndsItemAt symbol_text symbols.entry fault.place) }
+{
+    let mut kept = Vec::new(alloc);
+    'keeping: while let Some(symbol) = symbols.next() {
+        if append(&mut kept, symbol).is_err() {
+            return Err(out_of_memory(symbols.place()));
+        }
+    }
+    Ok(Symbols::of(kept))
+}

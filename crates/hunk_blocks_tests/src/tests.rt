@@ -9,6 +9,7 @@ mod large;
 mod memory;
 mod texts;
 mod values;
+mod views;
 mod writing;
 
 use hunk_blocks::{Block, Mode};

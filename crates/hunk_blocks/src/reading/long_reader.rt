@@ -1,11 +1,10 @@
 //! The longwords of a slice, read from the front.
-ghost use Rattle.std.specs.Prelude.{◌≡◌, ◌+◌, ◌*◌, ◌^◌, ◌<◌, ◌≤◌, [], ◌∷◌, length};
-ghost use Rattle.hunk_words.specs.Longs.{AreLongs, longs};
-ghost use Rattle.hunk_words.specs.declared.reason.Reason.TheVariants as reasons;
+ghost use Rattle.std.specs.Prelude.{◌≡◌, ◌<◌, ◌≤◌, [], ◌∷◌, drop, length};
+ghost use Rattle.hunk_words.specs.Longs.{longs};
 ghost use Rattle.hunk_blocks.specs.Reading.{Reads};
 
 use crate::payload::Payload;
-use hunk_words::{BlockFault, Reason, word_at};
+use hunk_words::word_at;
 use std::marker::Model;
 
 /// The longwords of a slice, read from the front.
@@ -17,53 +16,63 @@ pub(crate) struct LongReader<'a> {
 
 impl<'a> Model for LongReader<'a> {
     ghost use Rattle.std.specs.Prelude.{◌+◌, ◌^◌, ◌<◌, length};
-    ghost use Rattle.hunk_words.specs.Longs.{AreLongs, longs};
+    ghost use Rattle.hunk_words.specs.Longs.{longs};
     ghost use Rattle.hunk_blocks.specs.Reading.{Unread};
 
     ghost Value = { Unread };
 
     ghost view = { λ s. record { rest = longs s.rest.now; place = s.place } };
 
-    ghost invariant = { λ s. (s.place + length s.rest.now < 2 ^ 64) × AreLongs (longs s.rest.now) };
+    ghost invariant = { λ s. s.place + length s.rest.now < 2 ^ 64 };
 }
 
 impl<'a> LongReader<'a> {
-    /// A reader of the whole slice.
-    pub(crate) fn new(bytes: &'a [u8]) -> LongReader<'a>
-        ensures rest { result.rest ≡ longs bytes.entry.now }
-        ensures place { result.place ≡ 0 }
+    /// A reader of the input from this byte on.
+    pub(crate) fn at(bytes: &'a [u8], place: usize) -> LongReader<'a>
+        requires { place ≤ length bytes.now }
+        ensures rest { result.rest ≡ longs (drop place bytes.entry.now) }
+        ensures place { result.place ≡ place }
     {
         LongReader {
-            rest: bytes,
-            place: 0,
+            rest: &bytes[place..],
+            place: place as u64,
         }
     }
 
-    /// How many bytes have been read.
+    /// This reader again.
+    #[inline(always)]
+    pub(crate) fn again(&self) -> LongReader<'a>
+        ensures { result ≡ self.now }
+    {
+        LongReader {
+            rest: self.rest,
+            place: self.place,
+        }
+    }
+
+    /// The byte of the input at which the next longword begins.
+    #[inline(always)]
     pub(crate) fn place(&self) -> u64
         ensures { result ≡ self.now.place }
     {
         self.place
     }
 
-    /// A refusal of memory, at the longword that was read last.
-    pub(crate) fn out_of_memory(&self) -> BlockFault
-        requires { 4 ≤ self.now.place }
-        ensures place { result.place + 4 ≡ self.now.place }
-        ensures reason { result.reason ≡ reasons.OutOfMemory }
+    /// The next longword, which stays.
+    #[inline(always)]
+    pub(crate) fn peek(&self) -> u32
+        requires { 0 < length self.now.rest }
+        ensures { self.now.rest ≡ result ∷ drop 1 self.now.rest }
     {
-        BlockFault {
-            place: self.place - 4,
-            reason: Reason::OutOfMemory,
-        }
+        word_at(self.rest, 0)
     }
 
     /// The next longwords, as many as `count`.
+    #[inline(always)]
     pub(crate) fn payload(&mut self, count: u32) -> Payload<'a>
         requires { count ≤ length self.old.rest }
         ensures read { Reads self.old self.new (longs result) }
         ensures count { length (longs result) ≡ count }
-        ensures fits { AreLongs (longs result) }
     {
         let length = 4 * count as usize;
         let (front, rest) = self.rest.split_at(length);
@@ -73,6 +82,7 @@ impl<'a> LongReader<'a> {
     }
 
     /// The next longword.
+    #[inline(always)]
     pub(crate) fn long(&mut self) -> u32
         requires { 0 < length self.old.rest }
         ensures { Reads self.old self.new (result ∷ []) }

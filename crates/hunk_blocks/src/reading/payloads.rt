@@ -1,10 +1,11 @@
 //! Reading payloads.
 ghost use Rattle.std.specs.Prelude.{◌≡◌, ◌^◌, ◌≤◌, length};
 ghost use Rattle.hunk_words.specs.Bits.{name_longs};
-ghost use Rattle.hunk_words.specs.Longs.{AreLongs, longs};
+ghost use Rattle.hunk_words.specs.Longs.{longs};
+ghost use Rattle.hunk_blocks.specs.Cuts.{counted_cut, sized_cut};
 ghost use Rattle.hunk_blocks.specs.Values.{IsPayload, IsSized};
 ghost use Rattle.hunk_blocks.specs.Parts.{counted_text, sized_text};
-ghost use Rattle.hunk_blocks.specs.Reading.{BeginsWithSome, Reads};
+ghost use Rattle.hunk_blocks.specs.Reading.{BeginsWithSome, Reads, ReadsValue};
 
 use crate::payload::Payload;
 use crate::reading::long_reader::LongReader;
@@ -16,8 +17,7 @@ use hunk_words::{CONTENT_LIMIT, NAME_LIMIT};
 /// references may be empty: this project's own choice.
 pub(crate) fn read_counted<'a>(reader: &mut LongReader<'a>) -> Payload<'a>
     requires { BeginsWithSome (IsPayload (2 ^ 32)) counted_text reader.old.rest }
-    ensures fits { IsPayload (2 ^ 32) (longs result) }
-    ensures read { Reads reader.old reader.new (counted_text (longs result)) }
+    ensures { ReadsValue counted_cut reader.old reader.new (longs result) }
 {
     let count = reader.long();
     reader.payload(count)
@@ -27,11 +27,11 @@ pub(crate) fn read_counted<'a>(reader: &mut LongReader<'a>) -> Payload<'a>
 /// Manual, `dos/doshunks.h`).
 ///
 /// Where they are 0 in a word that is not, the name is empty: this project's own choice.
+#[inline(always)]
 pub(crate) fn read_entry_name<'a>(reader: &mut LongReader<'a>, word: u32) -> Payload<'a>
     requires { name_longs word ≤ length reader.old.rest }
     ensures read { Reads reader.old reader.new (longs result) }
     ensures count { length (longs result) ≡ name_longs word }
-    ensures fits { AreLongs (longs result) }
 {
     reader.payload(word % NAME_LIMIT)
 }
@@ -41,8 +41,7 @@ pub(crate) fn read_entry_name<'a>(reader: &mut LongReader<'a>, word: u32) -> Pay
 /// Source: The AmigaDOS Manual, `dos/doshunks.h`.
 pub(crate) fn read_sized<'a>(reader: &mut LongReader<'a>) -> (u8, Payload<'a>)
     requires { BeginsWithSome IsSized sized_text reader.old.rest }
-    ensures fits { IsSized (result.0, longs result.1) }
-    ensures read { Reads reader.old reader.new (sized_text (result.0, longs result.1)) }
+    ensures { ReadsValue sized_cut reader.old reader.new (result.0, longs result.1) }
 {
     let size = reader.long();
     let payload = reader.payload(size % CONTENT_LIMIT);

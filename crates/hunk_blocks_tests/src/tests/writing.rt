@@ -24,7 +24,7 @@ fn expect_cut_short(rt: &impl Abort, alloc: Global, bytes: &[u8]) {
 }
 
 /// What is written of the block.
-fn written_of(rt: &impl Abort, alloc: Global, block: &Block<'_>) -> Vec<u8> {
+pub(super) fn written_of(rt: &impl Abort, alloc: Global, block: &Block<'_>) -> Vec<u8> {
     let mut writer = LongWriter::new(FromWrite::new(Vec::<u8>::new(alloc)));
     assert!(rt; block.encoded_len() < 1000);
     assert_equal(rt, block.encode(&mut writer), Ok(()));

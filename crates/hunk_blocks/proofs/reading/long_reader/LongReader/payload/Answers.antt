@@ -2,7 +2,7 @@ use Rattle.std.proofs.Common.{◌≡◌, ◌+◌, ◌*◌, ◌++◌, length, ap,
 use Rattle.hunk_words.specs.Longs.{longs}
 use Rattle.hunk_words.proofs.LongLaws.{length-longs}
 use Rattle.hunk_blocks.specs.Reading.{Unread, Reads}
-use Rattle.hunk_blocks.proofs.Fronts.{longs-cut, longs_fit_left, longs_fit_right}
+use Rattle.hunk_blocks.proofs.Fronts.{longs-cut}
 use Rattle.hunk_blocks.proofs.reading.long_reader.LongReader.payload.Goals as goal
 
 pub split_at-requires : goal.split_at-requires
@@ -17,8 +17,7 @@ module _ (c : goal.After-of) where
   many = omega (arith, length-longs c.of.result, ap length c.of.ensures, c.split_at.ensures.front_len)
 
 pub invariant_of-self : goal.invariant_of-self
-invariant_of-self c =
-    (omega (arith, c.self.invariant.0, c.split_at.ensures.back_len), longs_fit_right (longs c.of.result) (longs c.split_at.result.1.now) (longs c.self.inside.rest.now) (parts c) c.self.invariant.1)
+invariant_of-self c = omega (arith, c.self.invariant, c.split_at.ensures.back_len)
 
 pub returns-clause-read : goal.returns-clause-read
 returns-clause-read c =
@@ -27,6 +26,3 @@ returns-clause-read c =
 
 pub returns-clause-count : goal.returns-clause-count
 returns-clause-count c = many c
-
-pub returns-clause-fits : goal.returns-clause-fits
-returns-clause-fits c = longs_fit_left (longs c.of.result) (longs c.split_at.result.1.now) (longs c.self.inside.rest.now) (parts c) c.self.invariant.1

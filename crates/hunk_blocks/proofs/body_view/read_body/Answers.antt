@@ -1,0 +1,25 @@
+use Rattle.std.proofs.Common.{rules, ◌∙◌, sym}
+use Rattle.std.specs.Prelude.{IsTrue}
+use Rattle.hunk_words.specs.declared.block_word.Kind.TheVariants as kinds
+use Rattle.hunk_words.specs.Bits.{is_relocation}
+use Rattle.hunk_blocks.specs.BlockSteps.{begin_body}
+use Rattle.hunk_blocks.proofs.BodyReading.{body_stands, counted_stands, groups_stand, is_counted}
+use Rattle.hunk_blocks.proofs.body_view.read_body.Goals as goal
+
+pub read_counted-payload-requires : goal.read_counted-payload-requires
+read_counted-payload-requires c = let is : IsTrue (is_counted (begin_body c.kind.result)) = search rules in counted_stands c.args.word c.args.reader.now.rest c.requires c.kind.result c.kind.ensures is
+
+pub read_sized-top-requires : goal.read_sized-top-requires
+read_sized-top-requires c = body_stands c.args.word c.args.reader.now.rest c.requires kinds.Code (sym c.in-Code.is ∙ c.kind.ensures)
+
+pub read_sized-top-requires-in-Data : goal.read_sized-top-requires-in-Data
+read_sized-top-requires-in-Data c = body_stands c.args.word c.args.reader.now.rest c.requires kinds.Data (sym c.in-Data.is ∙ c.kind.ensures)
+
+pub of-requires : goal.of-requires
+of-requires c = let is : IsTrue (is_relocation c.kind.result) = search rules in groups_stand c.args.word c.args.reader.now.rest c.requires c.kind.result c.kind.ensures is
+
+pub of-requires-in-Ext : goal.of-requires-in-Ext
+of-requires-in-Ext c = body_stands c.args.word c.args.reader.now.rest c.requires kinds.Ext (sym c.in-Ext.is ∙ c.kind.ensures)
+
+pub of-requires-in-Symbol : goal.of-requires-in-Symbol
+of-requires-in-Symbol c = body_stands c.args.word c.args.reader.now.rest c.requires kinds.Symbol (sym c.in-Symbol.is ∙ c.kind.ensures)

@@ -1,0 +1,10 @@
+use Rattle.std.proofs.Common.{length}
+use Rattle.hunk_blocks.proofs.CutLaws.{symbols_are_cut}
+use Rattle.hunk_blocks.proofs.ListReading.{Passes}
+use Rattle.hunk_blocks.proofs.symbols.SymbolsIter.of.Given as goal
+
+abbrev pub invariant-passing : goal.invariant-passing
+invariant-passing l = Passes symbols_are_cut l.fn.reader l.reader
+
+abbrev pub decreases-passing : goal.decreases-passing
+decreases-passing l = length l.reader.rest
