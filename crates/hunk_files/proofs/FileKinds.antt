@@ -1,5 +1,5 @@
 -- Files by what their first longword announces.
-use Rattle.std.proofs.Common.{◌≡◌, ◌≤◌, ◌<◌, ◌≢◌, ℕ, List, [], ◌∷◌, ◌++◌, Result, Ok, Err, length, take, drop, refl, inl, inr, ap, sym, ◌∙◌, arith, append_assoc, lit<}
+use Rattle.std.proofs.Common.{◌≡◌, ◌≤◌, ◌<◌, ◌≢◌, ℕ, List, [], ◌∷◌, ◌++◌, Result, Ok, Err, length, take, drop, refl, inl, inr, ap, sym, subst, ◌∙◌, arith, append_assoc, lit<}
 use Rattle.std.specs.Prelude.{IfErr}
 use Rattle.std.specs.List.{flat_map}
 use Rattle.std.proofs.lemmas.List.{take-append-drop}
@@ -15,7 +15,8 @@ use Rattle.hunk_files.specs.LoadFile.{IsLoadFile, LoadFileValue}
 use Rattle.hunk_files.specs.LoadText.{text}
 use Rattle.hunk_files.specs.Fault.{BeginsWithLoadFile}
 use Rattle.hunk_files.specs.ObjectFile.{ObjectFileValue, object_text}
-use Rattle.hunk_files.specs.HunkFile.{AreFile, AreObjectFile, IsFileOf}
+use Rattle.hunk_files.specs.HunkFile.{AreFile, AreObjectFile, EndsFilePart, IsFileOf, IsMemory}
+use Rattle.hunk_files.specs.Lacks.{EndsAt, EndsLoadPart, EndsObjectPart}
 use Rattle.hunk_files.specs.declared.hunk_file.HunkFile.{HunkFile}
 use Rattle.hunk_files.specs.declared.hunk_file.HunkFile.TheVariants as files
 use Rattle.hunk_files.proofs.TextParts.{after_first, first_split}
@@ -64,20 +65,32 @@ not_object P sniffs.Load other load library none = load
 not_object P sniffs.Library other load library none = library
 not_object P sniffs.Other other load library none = none
 
-pub none_object : (bytes : List ℕ) (result : Result HunkFile Fault) → sniffed (longs bytes) ≡ sniffs.Object →
-    IfErr result (λ fault. fault.reason ≢ reasons.OutOfMemory → AreObjectFile bytes → ⊥) → IfErr result (λ fault. fault.reason ≢ reasons.OutOfMemory → AreFile bytes → ⊥)
-none_object bytes (Ok file) kind none = tt
-none_object bytes (Err fault) kind none = go
+pub no_object : {T : Type 0} (bytes : List ℕ) (result : Result T Fault) → sniffed (longs bytes) ≡ sniffs.Object → IfErr result (λ fault. AreObjectFile bytes → ⊥) → IfErr result (λ fault. AreFile bytes → ⊥)
+no_object bytes (Ok file) kind none = tt
+no_object bytes (Err fault) kind none = go
   where
-    go : fault.reason ≢ reasons.OutOfMemory → AreFile bytes → ⊥
-    go other (inl load) = let e = load_announced bytes load in cc
-    go other (inr object) = none other object
+    go : AreFile bytes → ⊥
+    go (inl load) = let e = load_announced bytes load in cc
+    go (inr object) = none object
 
-pub none_load : (bytes : List ℕ) (result : Result HunkFile Fault) → sniffed (longs bytes) ≢ sniffs.Object →
-    IfErr result (λ fault. fault.reason ≢ reasons.OutOfMemory → BeginsWithLoadFile bytes → ⊥) → IfErr result (λ fault. fault.reason ≢ reasons.OutOfMemory → AreFile bytes → ⊥)
-none_load bytes (Ok file) kind none = tt
-none_load bytes (Err fault) kind none = go
+pub no_load : {T : Type 0} (bytes : List ℕ) (result : Result T Fault) → sniffed (longs bytes) ≢ sniffs.Object → IfErr result (λ fault. BeginsWithLoadFile bytes → ⊥) → IfErr result (λ fault. AreFile bytes → ⊥)
+no_load bytes (Ok file) kind none = tt
+no_load bytes (Err fault) kind none = go
   where
-    go : fault.reason ≢ reasons.OutOfMemory → AreFile bytes → ⊥
-    go other (inl load) = none other load
-    go other (inr object) = kind (object_announced bytes object)
+    go : AreFile bytes → ⊥
+    go (inl load) = none load
+    go (inr object) = kind (object_announced bytes object)
+
+-- where memory is refused for a part of the file
+lacks : (bytes : List ℕ) (file : HunkFile) (place : ℕ) → IsFileOf bytes file → EndsAt (EndsFilePart file) 0 place → IsMemory (sniffed (longs bytes)) bytes place
+lacks bytes (files.Load value rest) place is ends =
+    subst (λ (kind : Sniff). IsMemory kind bytes place) (sym (load_announced bytes is.0))
+    (record { file = is.0; ends = subst (λ (v : LoadFileValue). EndsAt (EndsLoadPart v) 0 place) is.1 ends })
+lacks bytes (files.Object value) place is ends =
+    subst (λ (kind : Sniff). IsMemory kind bytes place) (sym (object_announced bytes is.0))
+    (record { file = is.0; ends = subst (λ (o : ObjectFileValue). EndsAt (EndsObjectPart o) 0 place) is.1 ends })
+
+pub file_lacks : {T : Type 0} (bytes : List ℕ) (file : HunkFile) (result : Result T Fault) → IsFileOf bytes file → IfErr result (λ fault. EndsAt (EndsFilePart file) 0 fault.place) →
+    IfErr result (λ fault. fault.reason ≡ reasons.OutOfMemory → IsMemory (sniffed (longs bytes)) bytes fault.place)
+file_lacks bytes file (Ok x) is ends = tt
+file_lacks bytes file (Err fault) is ends = λ memory. lacks bytes file fault.place is ends

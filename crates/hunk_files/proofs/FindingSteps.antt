@@ -1,25 +1,18 @@
 -- Findings that are looked for one by one.
-use Rattle.std.proofs.Common.{◌≡◌, ℕ, ◌+◌, ◌^◌, ◌<◌, ◌≤◌, Bool, true, false, cond, if◌then◌else◌, List, [], ◌∷◌, ◌++◌, length, map, drop, get_or, refl, sym, ap, subst, ◌∙◌, append_assoc, append-nil, arith}
-use Rattle.std.specs.List.{flat_map, fold, AllByRecursion}
-use Rattle.std.proofs.lemmas.List.{drop_more, drop_all}
-use Rattle.std.proofs.lemmas.List.Folds.{flat_map-map}
-use Rattle.hunk_blocks.specs.Values.{BlockBody, Code, Data, FitsWord, IsBlock}
-use Rattle.hunk_scan.specs.Standings.{is_content}
+use Rattle.std.proofs.Common.{◌≡◌, ℕ, ◌+◌, true, false, List, [], ◌∷◌, ◌++◌, length, refl, sym, ap, ap₂, subst, ◌∙◌, append_assoc, append-nil, Option, Some, None, unwrap_or, arith}
+use Rattle.std.specs.List.{flat_map, fold}
+use Rattle.hunk_blocks.specs.Values.{BlockBody, BlockValue, Name, Code, Data, Bss, Reloc, Ext, Symbol, Debug, Advisory, End, content_bytes}
+use Rattle.hunk_scan.specs.Standings.{BlockStanding}
 use Rattle.hunk_files.specs.LoadFile.{standing, AreInOrder}
-use Rattle.hunk_files.specs.ObjectFile.{ObjectHunk, IsObjectHunk, UnitValue}
-use Rattle.hunk_files.specs.Findings.{FindingValue, content_size, hunk_bytes, hunk_findings, hunks_findings, unit_findings, units_findings}
+use Rattle.hunk_files.specs.ObjectFile.{ObjectHunk, ObjectFileValue, UnitValue}
+use Rattle.hunk_files.specs.Findings.{FindingValue, content_size, findings, hunk_bytes, hunk_findings, hunks_findings, unit_findings, units_findings}
 use Rattle.hunk_files.proofs.FileText.{standings}
-use Rattle.hunk_files.proofs.HunkOrder.{by_standing}
 
 -- ---- findings that are taken one after the other, by a relation that joins
 
 -- some were taken, and with the rest they are all
 abbrev pub TakenUpTo : {S : Type 0} → (S → List FindingValue → S → Type 0) → S → S → List FindingValue → List FindingValue → Type 0
 TakenUpTo Takes a b rest all = (done : List FindingValue) × Takes a done b × (done ++ rest ≡ all)
-
--- those of each element before this one
-abbrev pub TakenOf : {S A : Type 0} → (S → List FindingValue → S → Type 0) → (A → List FindingValue) → List A → ℕ → S → S → Type 0
-TakenOf Takes f xs i a b = TakenUpTo Takes a b (flat_map f (drop i xs)) (flat_map f xs)
 
 -- those of each element but these, which are left
 abbrev pub TakenBut : {S A : Type 0} → (S → List FindingValue → S → Type 0) → (A → List FindingValue) → List A → List A → S → S → Type 0
@@ -36,76 +29,107 @@ module _ {S : Type 0} (Takes : S → List FindingValue → S → Type 0) (more :
   taken_on a b c here rest left all e t h =
       (t.0 ++ here, more a b c t.0 here t.1 h, append_assoc t.0 here rest ∙ ap (λ (xs : List FindingValue). t.0 ++ xs) (sym e) ∙ t.2)
 
-  pub each_on : {A : Type 0} (f : A → List FindingValue) (xs : List A) (i : ℕ) (d x : A) (a b c : S) → i < length xs → x ≡ get_or xs i d → TakenOf Takes f xs i a b → Takes b (f x) c → TakenOf Takes f xs (i + 1) a c
-  each_on {A} f xs i d x a b c l e t h =
-      taken_on a b c (f x) (flat_map f (drop (i + 1) xs)) (flat_map f (drop i xs)) (flat_map f xs)
-      (ap (λ (ys : List A). flat_map f ys) (drop_more xs i d l) ∙ ap (λ (y : A). f y ++ flat_map f (drop (i + 1) xs)) (sym e)) t h
-
   -- by the first of the elements that are left
   pub first_on : {A : Type 0} (f : A → List FindingValue) (xs left rest : List A) (x : A) (a b c : S) → left ≡ x ∷ rest → TakenBut Takes f left xs a b → Takes b (f x) c → TakenBut Takes f rest xs a c
   first_on {A} f xs left rest x a b c e t h = taken_on a b c (f x) (flat_map f rest) (flat_map f left) (flat_map f xs) (ap (λ (ys : List A). flat_map f ys) e) t h
 
-nothing_left : {A : Type 0} (f : A → List FindingValue) (left : List A) → length left ≡ 0 → flat_map f left ≡ []
-nothing_left f [] e = refl
-nothing_left f (x ∷ left) e = absurd cc
-
 -- all were taken of what the elements stand for
-pub viewed_all : {S A B : Type 0} (Takes : S → List FindingValue → S → Type 0) (f : B → List FindingValue) (view : A → B) (xs left : List A) (a b : S) → length left ≡ 0 →
-    TakenBut Takes (λ x. f (view x)) left xs a b → Takes a (flat_map f (map view xs)) b
-viewed_all Takes f view xs left a b e t =
-    subst (λ (fs : List FindingValue). Takes a fs b) (sym (flat_map-map f view xs))
-    (taken_all Takes a b (flat_map (λ x. f (view x)) left) (flat_map (λ x. f (view x)) xs) (nothing_left (λ x. f (view x)) left e) t)
+pub each_taken : {S A : Type 0} (Takes : S → List FindingValue → S → Type 0) (f : A → List FindingValue) (xs left : List A) (a b : S) → left ≡ [] → TakenBut Takes f left xs a b → Takes a (flat_map f xs) b
+each_taken {A = A} Takes f xs left a b e t = taken_all Takes a b (flat_map f left) (flat_map f xs) (ap (λ (ys : List A). flat_map f ys) e) t
 
 -- ---- the hunks of a unit, the units of a file
 
--- what is found of the hunks from this number on
-abbrev pub left_of_hunks : ℕ → List ObjectHunk → ℕ → List FindingValue
-left_of_hunks unit hs i = hunks_findings unit (length hs) i (drop i hs)
+pub hunks_first : (unit hunks number : ℕ) (hs : List ObjectHunk) (u : UnitValue) → hs ≡ u.hunks → hunks ≡ length u.hunks → number ≡ 0 → hunks_findings unit hunks number hs ≡ unit_findings unit u
+hunks_first unit hunks number hs u same all first =
+    ap (λ (xs : List ObjectHunk). hunks_findings unit hunks number xs) same
+    ∙ ap (λ (n : ℕ). hunks_findings unit n number u.hunks) all
+    ∙ ap (λ (n : ℕ). hunks_findings unit (length u.hunks) n u.hunks) first
 
-pub hunks_split : (unit i : ℕ) (hs : List ObjectHunk) (d : ObjectHunk) → i < length hs →
-    left_of_hunks unit hs i
-    ≡ hunk_findings (record { unit = unit; hunk = i; hunks = length hs; bytes = hunk_bytes (get_or hs i d) }) (get_or hs i d) ++ left_of_hunks unit hs (i + 1)
-hunks_split unit i hs d l = ap (λ (xs : List ObjectHunk). hunks_findings unit (length hs) i xs) (drop_more hs i d l)
+-- Where the hunk with this number is the first of those left, what is found in it comes first.
+pub hunks_split : (unit hunks number at next : ℕ) (left rest : List ObjectHunk) (h : ObjectHunk) → left ≡ h ∷ rest → at ≡ number → next ≡ number + 1 →
+    hunks_findings unit hunks number left ≡ hunk_findings (record { unit = unit; hunk = at; hunks = hunks; bytes = hunk_bytes h }) h ++ hunks_findings unit hunks next rest
+hunks_split unit hunks number at next left rest h first here behind =
+    ap (λ (xs : List ObjectHunk). hunks_findings unit hunks number xs) first
+    ∙ ap₂ (λ (n m : ℕ). hunk_findings (record { unit = unit; hunk = n; hunks = hunks; bytes = hunk_bytes h }) h ++ hunks_findings unit hunks m rest) (sym here) (sym behind)
 
-pub hunks_done : (unit i : ℕ) (hs : List ObjectHunk) → length hs ≤ i → left_of_hunks unit hs i ≡ []
-hunks_done unit i hs l = ap (λ (xs : List ObjectHunk). hunks_findings unit (length hs) i xs) (drop_all i hs l)
+-- What is found in these blocks, which are the hunk's, with this number of bytes, is what is found in the hunk.
+pub hunk_found : (unit number hunks bytes : ℕ) (blocks for_bytes h : ObjectHunk) → bytes ≡ hunk_bytes for_bytes → for_bytes ≡ h → blocks ≡ h →
+    hunk_findings (record { unit = unit; hunk = number; hunks = hunks; bytes = bytes }) blocks ≡ hunk_findings (record { unit = unit; hunk = number; hunks = hunks; bytes = hunk_bytes h }) h
+hunk_found unit number hunks bytes blocks for_bytes h size same again =
+    ap₂ (λ (n : ℕ) (bs : ObjectHunk). hunk_findings (record { unit = unit; hunk = number; hunks = hunks; bytes = n }) bs) (size ∙ ap hunk_bytes same) again
 
--- the same of units
-abbrev pub left_of_units : List UnitValue → ℕ → List FindingValue
-left_of_units us i = units_findings i (drop i us)
+pub units_first : (number : ℕ) (us all : ObjectFileValue) → us ≡ all → number ≡ 0 → units_findings number us ≡ findings all
+units_first number us all same first = ap₂ (λ (n : ℕ) (xs : ObjectFileValue). units_findings n xs) first same
 
-pub units_split : (i : ℕ) (us : List UnitValue) (d : UnitValue) → i < length us → left_of_units us i ≡ unit_findings i (get_or us i d) ++ left_of_units us (i + 1)
-units_split i us d l = ap (λ (xs : List UnitValue). units_findings i xs) (drop_more us i d l)
+pub units_split : (number at next : ℕ) (left rest : ObjectFileValue) (u : UnitValue) → left ≡ u ∷ rest → at ≡ number → next ≡ number + 1 →
+    units_findings number left ≡ unit_findings at u ++ units_findings next rest
+units_split number at next left rest u first here behind =
+    ap (λ (xs : ObjectFileValue). units_findings number xs) first ∙ ap₂ (λ (n m : ℕ). unit_findings n u ++ units_findings m rest) (sym here) (sym behind)
 
-pub units_done : (i : ℕ) (us : List UnitValue) → length us ≤ i → left_of_units us i ≡ []
-units_done i us l = ap (λ (xs : List UnitValue). units_findings i xs) (drop_all i us l)
+-- ---- the bytes of a hunk are those of its content block
 
--- ---- the bytes of a hunk fit
+abbrev bytes_from : ℕ → ObjectHunk → ℕ
+bytes_from n h = fold (λ a b. a + content_size b.body) n h
 
-abbrev bytes_from : ObjectHunk → ℕ → ℕ
-bytes_from h n = fold (λ a b. a + content_size b.body) n h
-
-nothing_behind : (h : ObjectHunk) (n : ℕ) → standings h ≡ [] → bytes_from h n ≡ n
+nothing_behind : (h : ObjectHunk) (n : ℕ) → standings h ≡ [] → bytes_from n h ≡ n
 nothing_behind [] n e = refl
 nothing_behind (b ∷ h) n e = absurd cc
 
-abbrev most_bytes : Bool → ℕ
-most_bytes has_content = if has_content then 1 else 2 ^ 32
+-- what stands behind the content block has no content
+no_more_content : (h : ObjectHunk) (n : ℕ) → AreInOrder true (standings h) → bytes_from n h ≡ n
+no_more_content [] n o = absurd o
+no_more_content (b ∷ h) n o = behind b.body (no_more_content h) o
+  where
+    behind : (body : BlockBody) → ((m : ℕ) → AreInOrder true (standings h) → bytes_from m h ≡ m) → AreInOrder true (standing body ∷ standings h) → bytes_from (n + content_size body) h ≡ n
+    behind (Code top ws) more p = absurd p
+    behind (Data top ws) more p = absurd p
+    behind (Bss size) more p = absurd p
+    behind End more p = omega (arith, nothing_behind h (n + 0) p)
+    behind (Reloc gs) more p = omega (arith, more (n + 0) p)
+    behind (Ext es) more p = omega (arith, more (n + 0) p)
+    behind (Name ws) more p = omega (arith, more (n + 0) p)
+    behind (Symbol es) more p = omega (arith, more (n + 0) p)
+    behind (Debug ws) more p = omega (arith, more (n + 0) p)
+    behind (Advisory ws) more p = omega (arith, more (n + 0) p)
 
-size_fits : (word : ℕ) (body : BlockBody) → FitsWord word body → content_size body < cond (is_content (standing body)) (2 ^ 32) 1
-size_fits word (Code top ws) f = omega (arith, f.2.0)
-size_fits word (Data top ws) f = omega (arith, f.2.0)
-size_fits word _ f = omega arith
+behind_content : (body : BlockBody) (n : ℕ) (rest : List BlockStanding) → content_bytes body ≡ Some n → AreInOrder false (standing body ∷ rest) → AreInOrder true rest
+behind_content (Code top ws) n rest e o = o
+behind_content (Data top ws) n rest e o = o
+behind_content (Bss size) n rest e o = o
+behind_content _ n rest e o = absurd cc
 
--- what stands beside the content block has no content, and only one block has
-bytes_fit : (h : ObjectHunk) (has : Bool) (n : ℕ) → AllByRecursion IsBlock h → AreInOrder has (standings h) → bytes_from h n < n + most_bytes has
-bytes_fit [] has n all o = absurd o
-bytes_fit (b ∷ h) has n all o =
-    by_standing (λ k s. content_size b.body < cond (is_content s) (2 ^ 32) 1 → bytes_from h (n + content_size b.body) < n + most_bytes k) (standings h)
-    (λ k p size. omega (arith, size, bytes_fit h k (n + content_size b.body) all.1 p))
-    (λ p size. omega (arith, size, bytes_fit h true (n + content_size b.body) all.1 p))
-    (λ p size. omega (arith, size, bytes_fit h true (n + content_size b.body) all.1 p))
-    (λ p size. omega (arith, size, nothing_behind h (n + content_size b.body) p)) has (standing b.body) o (size_fits b.word b.body all.0.body)
+behind_other : (body : BlockBody) (rest : List BlockStanding) → content_bytes body ≡ None → AreInOrder false (standing body ∷ rest) → AreInOrder false rest
+behind_other (Code top ws) rest e o = absurd cc
+behind_other (Data top ws) rest e o = absurd cc
+behind_other (Bss size) rest e o = absurd cc
+behind_other (Reloc gs) rest e o = absurd o
+behind_other (Ext es) rest e o = absurd o
+behind_other End rest e o = absurd o
+behind_other _ rest e o = o
 
-pub hunk_bytes_fit : (h : ObjectHunk) → IsObjectHunk h → hunk_bytes h < 2 ^ 64
-hunk_bytes_fit h is = omega (arith, bytes_fit h false 0 is.blocks is.order)
+-- Of the blocks of the hunk these are left; the content block is among them.
+abbrev pub ContentLeft : ObjectHunk → List BlockValue → Type 0
+ContentLeft h left = AreInOrder false (standings left) × (hunk_bytes left ≡ hunk_bytes h)
+
+module _ (h left rest : ObjectHunk) (b : BlockValue) (found : Option ℕ) (first : left ≡ b ∷ rest) (is : found ≡ content_bytes b.body) (c : ContentLeft h left) where
+  in_order : AreInOrder false (standings (b ∷ rest))
+  in_order = subst (λ (bs : ObjectHunk). AreInOrder false (standings bs)) first c.0
+
+  bytes_are : hunk_bytes (b ∷ rest) ≡ hunk_bytes h
+  bytes_are = ap hunk_bytes (sym first) ∙ c.1
+
+  pub content_found : (n : ℕ) → found ≡ Some n → n ≡ hunk_bytes h
+  content_found n e =
+      let here : content_bytes b.body ≡ Some n = sym is ∙ e in
+      let size : content_size b.body ≡ n = ap (λ (o : Option ℕ). unwrap_or o 0) here in
+      let all : hunk_bytes (b ∷ rest) ≡ 0 + content_size b.body = no_more_content rest (0 + content_size b.body) (behind_content b.body n (standings rest) here in_order) in
+      omega (arith, size, all, bytes_are)
+
+  pub content_behind : found ≡ None → ContentLeft h rest
+  content_behind e =
+      let here : content_bytes b.body ≡ None = sym is ∙ e in
+      let none : 0 + content_size b.body ≡ 0 = omega (arith, ap (λ (o : Option ℕ). unwrap_or o 0) here) in
+      (behind_other b.body (standings rest) here in_order, sym (ap (λ (n : ℕ). bytes_from n rest) none) ∙ bytes_are)
+
+pub content_somewhere : (h left : ObjectHunk) → left ≡ [] → ContentLeft h left → ⊥
+content_somewhere h left e c = subst (λ (bs : ObjectHunk). AreInOrder false (standings bs)) e c.0

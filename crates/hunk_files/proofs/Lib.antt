@@ -1,34 +1,41 @@
 pub mod Accepted
 pub mod AddAt
+pub mod BlockCuts
+pub mod BlocksInPlace
+pub mod BlockPlaces
 pub mod Completion
 pub mod Concats
 pub mod ContentBlocks
 mod Examples
 mod FileKinds
 pub mod FileProgress
-pub mod FileReading
 pub mod FileText
 pub mod FileViews
+pub mod FindingCounts
 mod FindingSteps
 pub mod HunkProgress
 mod HunkFaults
+mod HunkRanges
 pub mod HunkBlocks
-pub mod InTurn
+pub mod HunksInPlace
 pub mod ImageParts
 pub mod Least
+pub mod LoadCuts
+pub mod LoadKeeping
 pub mod Machines
 pub mod Memory
 pub mod Positions
 mod HunkOrder
 mod ObjectOutcome
 mod ObjectProgress
-pub mod ObjectText
 mod ObjectRefusals
 mod ObjectWalks
 mod ObjectWords
+mod LoadRanges
 mod LoadWalks
 pub mod OffsetLists
 pub mod Peel
+mod RangeLaws
 pub mod Reading
 pub mod Refusals
 pub mod Relocate
@@ -37,11 +44,19 @@ pub mod Runs
 pub mod Scan
 pub mod Shapes
 pub mod StripLaws
-mod StripSteps
+pub mod StripSteps
 pub mod StripText
 pub mod Summed
 pub mod TableReading
+pub mod Taking
 pub mod TextParts
+pub mod UnitCutLaws
+pub mod PlaceLaws
+mod UnitKeeping
+mod HunkKeeping
+mod ObjectViewLaws
+mod UnitViewLaws
+mod UnitCounts
 mod UnitFaults
 mod OneObjectFault
 mod UnitReading

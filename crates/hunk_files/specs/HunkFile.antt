@@ -9,7 +9,7 @@ use Rattle.hunk_files.specs.LoadText.{text}
 use Rattle.hunk_files.specs.ObjectFault.{HasObjectFault}
 pub use Rattle.hunk_files.specs.ObjectFile.{AreObjectFile}
 use Rattle.hunk_files.specs.ObjectFile.{is_object_refusal, object_text}
-use Rattle.hunk_files.specs.Lacks.{LacksLoadPart, LacksObjectPart}
+use Rattle.hunk_files.specs.Lacks.{EndsLoadPart, EndsObjectPart, LacksLoadPart, LacksObjectPart}
 use Rattle.hunk_files.specs.Strip.{strip_file, strip_object}
 use Rattle.hunk_files.specs.declared.hunk_file.HunkFile.{HunkFile}
 use Rattle.hunk_files.specs.declared.hunk_file.HunkFile.TheVariants as files
@@ -43,6 +43,11 @@ IsRefusal kind bytes refusal = IsLoadRefusal bytes refusal
 abbrev pub IsMemory : Sniff → List ℕ → ℕ → Type 0
 IsMemory sniffs.Object bytes place = LacksObjectPart bytes place
 IsMemory kind bytes place = LacksLoadPart bytes place
+
+-- It ends a part of the file that takes memory.
+abbrev pub EndsFilePart : HunkFile → ℕ → Type 0
+EndsFilePart (files.Load value rest) n = EndsLoadPart value n
+EndsFilePart (files.Object value) n = EndsObjectPart value n
 
 -- ---- the file in memory
 

@@ -1,5 +1,5 @@
--- The rows and hunks of a load file, as they are read from bytes that begin with one.
-use Rattle.std.specs.Prelude.{◌≡◌, ℕ, ◌-◌, ◌*◌, List, [], ◌∷◌, ◌++◌, length, map}
+-- The rows and hunks of a load file.
+use Rattle.std.specs.Prelude.{ℕ, ◌-◌, List, [], ◌∷◌, ◌++◌, length}
 use Rattle.std.specs.List.{flat_map}
 use Rattle.hunk_words.specs.declared.size_word.SizeWord.{SizeWord}
 use Rattle.hunk_blocks.specs.Faults.{words}
@@ -7,7 +7,6 @@ use Rattle.hunk_files.specs.declared.row.Row.{Row}
 use Rattle.hunk_files.specs.declared.load.hunk.LoadHunk.{LoadHunk}
 use Rattle.hunk_files.specs.LoadFile.{TableEntry, HunkValue, LoadFileValue}
 use Rattle.hunk_files.specs.LoadText.{entry_labelled, header_labelled, table}
-use Rattle.hunk_files.specs.Fault.{BeginsWithLoadFile}
 use Rattle.hunk_files.specs.Hunks.{block_texts}
 
 -- what the header declares of the hunk
@@ -29,11 +28,6 @@ entry_text e = words (entry_labelled e)
 
 abbrev pub header_text : LoadFileValue → List ℕ
 header_text v = words (header_labelled (table v))
-
--- These are the rows of the file's table, and its header ends at this byte.
-pub record IsTable (bytes : List ℕ) (file : BeginsWithLoadFile bytes) (rows : List Row) (end : ℕ) : Type 0 where
-  pub rows_are : map row_entry rows ≡ table file.value
-  pub place : end ≡ 4 * length (header_text file.value)
 
 -- ---- the text of hunks in memory
 

@@ -1,71 +1,131 @@
-//! Reading the blocks of a hunk, of files of both kinds.
-ghost use Rattle.std.specs.Prelude.{◌≡◌, IfErr, IfOk};
+//! The blocks of a hunk, of files of both kinds, read where they lie.
+ghost use Rattle.std.specs.Prelude.{◌≡◌, ◌+◌, ◌*◌, IfErr, IfOk, length};
+ghost use Rattle.std.specs.Iterator.{item_count};
 ghost use Rattle.hunk_words.specs.declared.reason.Reason.TheVariants as reasons;
 ghost use Rattle.hunk_blocks.specs.Parts.{block_text};
-ghost use Rattle.hunk_blocks.specs.Begins.{EndsItemOf};
-ghost use Rattle.hunk_files.specs.Hunks.{BlockAt, HunkAt, IsRead, block_texts};
-ghost use Rattle.hunk_files.specs.Lacks.{Behind, EndsAt, EndsHunkPart};
+ghost use Rattle.hunk_files.specs.Hunks.{HunkAt, block_texts};
+ghost use Rattle.hunk_files.specs.InPlace.{GivesPart};
+ghost use Rattle.hunk_files.specs.Lacks.{EndsAt, EndsHunkPart};
 
 use crate::order::is_end;
 use crate::place::out_of_memory;
-use hunk_blocks::{Block, append};
+use hunk_blocks::{Block, BlockView, append};
 use hunk_words::FileFault;
 use std::alloc::Global;
+use std::marker::Model;
 
-/// The block that stands at `start`, and the byte behind it.
-///
-/// # Errors
-///
-/// `OutOfMemory` at the last longword of the group or entry for which no memory was found.
-fn read_block<'a>(
-    alloc: Global,
+/// The blocks of a hunk that are still to come, up to its END, each read where it lies. It takes no
+/// memory. Contracts see the list of them, and the byte of the input at which the next begins.
+#[derive(Drop)]
+pub struct BlockViews<'a> {
+    /// The input; once END was given, only up to the end of the hunk.
     bytes: &'a [u8],
-    start: usize,
-) -> Result<(Block<'a>, usize), FileFault>
-    requires { BlockAt bytes.now start }
-    ensures block { IfOk result (λ r. (here : BlockAt bytes.entry.now start) →
-        IsRead block_text here.block start r.0 r.1) }
-    ensures memory { IfErr result (λ fault. fault.reason ≡ reasons.OutOfMemory) }
-    ensures place { IfErr result (λ fault. (here : BlockAt bytes.entry.now start) →
-        EndsAt (Behind 1 (EndsItemOf here.block.body)) start fault.place) }
-{
-    match Block::read(alloc, &bytes[start..]) {
-        Ok((block, size)) => Ok((block, start + size)),
-        Err(fault) => Err(FileFault {
-            place: start as u64 + fault.place,
-            reason: fault.reason,
-        }),
+    /// The byte at which the next block begins.
+    at: usize,
+}
+
+impl<'a> Model for BlockViews<'a> {
+    ghost use Rattle.std.specs.Prelude.{◌≡◌, List, [], drop, ◌⊎◌};
+    ghost use Rattle.hunk_blocks.specs.Placed.{Placed};
+    ghost use Rattle.hunk_blocks.specs.Values.{BlockValue};
+    ghost use Rattle.hunk_files.specs.InPlace.{BeginsWithBlocks, blocks_in};
+
+    ghost Value = { Placed (List BlockValue) };
+
+    ghost view = { λ s. record {
+      place = s.at;
+      value = blocks_in (drop s.at s.bytes.now);
+    } };
+
+    ghost invariant = { λ s.
+        (drop s.at s.bytes.now ≡ []) ⊎ BeginsWithBlocks (drop s.at s.bytes.now) };
+}
+
+impl<'a> BlockViews<'a> {
+    /// The blocks of the hunk that stands at `start`.
+    pub(crate) fn at(bytes: &'a [u8], start: usize) -> BlockViews<'a>
+        requires { HunkAt bytes.now start }
+        ensures { (hunk : HunkAt bytes.entry.now start) →
+            result ≡ record { place = start; value = hunk.blocks } }
+    {
+        BlockViews { bytes, at: start }
+    }
+
+    /// The byte of the input at which the next block begins, or behind END the byte at which the
+    /// hunk ends.
+    #[inline(always)]
+    pub fn place(&self) -> u64
+        ensures { result ≡ self.now.place }
+    {
+        self.at as u64
+    }
+
+    /// The same blocks again.
+    #[inline(always)]
+    pub fn again(&self) -> BlockViews<'a>
+        ensures { result ≡ self.now }
+    {
+        BlockViews {
+            bytes: self.bytes,
+            at: self.at,
+        }
     }
 }
 
-/// The blocks of the hunk that stands at `start`, up to its END, and the byte behind them.
+impl<'a> Iterator for BlockViews<'a> {
+    type Item = BlockView<'a>;
+
+    ghost next_gives = { GivesPart block_text };
+
+    ghost remaining = { item_count (λ s. s.value) };
+
+    #[inline(always)]
+    fn next(&mut self) -> Option<BlockView<'a>> {
+        if self.bytes.len() <= self.at {
+            return None;
+        }
+        let block = BlockView::at(self.bytes, self.at);
+        self.at += block.encoded_len() as usize;
+        if is_end(&block) {
+            self.bytes = &self.bytes[..self.at];
+        }
+        Some(block)
+    }
+}
+
+/// The byte behind the hunk that stands at `start`.
+pub(crate) fn behind_hunk(bytes: &[u8], start: usize) -> usize
+    requires { HunkAt bytes.now start }
+    ensures { (hunk : HunkAt bytes.now start) →
+        result ≡ start + 4 * length (block_texts hunk.blocks) }
+{
+    let mut blocks = BlockViews::at(bytes, start);
+    'passing: while let Some(_) = blocks.next() {}
+    blocks.at
+}
+
+/// The blocks that are still to come in a list, with none left to come.
 ///
 /// # Errors
 ///
 /// `OutOfMemory` at the last longword of the group, entry or block for which no memory was found.
-pub(crate) fn read_blocks<'a>(
+pub(crate) fn keep_blocks<'a>(
     alloc: Global,
-    bytes: &'a [u8],
-    start: usize,
-) -> Result<(Vec<Block<'a>>, usize), FileFault>
-    requires { HunkAt bytes.now start }
-    ensures found { IfOk result (λ r. (hunk : HunkAt bytes.entry.now start) →
-        IsRead block_texts hunk.blocks start r.0.items r.1) }
+    blocks: &mut BlockViews<'a>,
+) -> Result<Vec<Block<'a>>, FileFault>
+    ensures kept { IfOk result (λ kept. kept.items ≡ blocks.old.value) }
+    ensures behind { IfOk result (λ kept. blocks.new.place
+        ≡ blocks.old.place + 4 * length (block_texts blocks.old.value)) }
     ensures memory { IfErr result (λ fault. fault.reason ≡ reasons.OutOfMemory) }
-    ensures place { IfErr result (λ fault. (hunk : HunkAt bytes.entry.now start) →
-        EndsAt (EndsHunkPart hunk.blocks) start fault.place) }
+    ensures place { IfErr result (λ fault.
+        EndsAt (EndsHunkPart blocks.old.value) blocks.old.place fault.place) }
 {
-    let mut blocks = Vec::new(alloc);
-    let mut at = start;
-    'reading: loop {
-        let (block, end) = read_block(alloc, bytes, at)?;
-        at = end;
-        let hunk_ends = is_end(&block);
-        if append(&mut blocks, block).is_err() {
-            return Err(out_of_memory(at));
-        }
-        if hunk_ends {
-            return Ok((blocks, at));
+    let mut kept = Vec::new(alloc);
+    'keeping: while let Some(view) = blocks.next() {
+        let block = Block::keep(alloc, view)?;
+        if append(&mut kept, block).is_err() {
+            return Err(out_of_memory(blocks.at));
         }
     }
+    Ok(kept)
 }

@@ -4,16 +4,12 @@ ghost use Rattle.hunk_words.specs.Longs.{longs};
 ghost use Rattle.hunk_words.specs.Puts.{PutsText};
 ghost use Rattle.hunk_words.specs.declared.reason.Reason.TheVariants as reasons;
 ghost use Rattle.hunk_scan.specs.FileKind.{sniffed};
-ghost use Rattle.hunk_files.specs.Fault.{BeginsWithLoadFile};
-ghost use Rattle.hunk_files.specs.HunkFile.{AreFile, AreObjectFile, IsFileOf, IsLoadRefusal};
-ghost use Rattle.hunk_files.specs.HunkFile.{IsMemory, IsObjectRefusal, IsRefusal, bytes_behind};
+ghost use Rattle.hunk_files.specs.HunkFile.{AreFile, IsFileOf, IsMemory, IsRefusal, bytes_behind};
 ghost use Rattle.hunk_files.specs.HunkFile.{file_bytes, stripped};
-ghost use Rattle.hunk_files.specs.Lacks.{LacksLoadPart, LacksObjectPart};
 
+use crate::file_view::FileView;
 use crate::load::LoadFile;
 use crate::object::ObjectFile;
-use crate::sniffing::sniff;
-use hunk_scan::Sniff;
 use hunk_words::{FileFault, LongWriter, Sink, WriteFault};
 use std::alloc::Global;
 
@@ -45,10 +41,7 @@ impl<'a> HunkFile<'a> {
         ensures memory { IfErr result (λ fault. fault.reason ≡ reasons.OutOfMemory →
             IsMemory (sniffed (longs bytes.entry.now)) bytes.entry.now fault.place) }
     {
-        match sniff(bytes) {
-            Sniff::Object => decode_object(alloc, bytes),
-            Sniff::Load | Sniff::Library | Sniff::Other => decode_load(alloc, bytes),
-        }
+        FileView::read(bytes)?.keep(alloc)
     }
 
     /// The number of bytes that follow the file.
@@ -98,33 +91,4 @@ impl<'a> HunkFile<'a> {
             HunkFile::Object(file) => file.encode(writer),
         }
     }
-}
-
-/// The load file that the bytes begin with, and how many follow it.
-fn decode_load(alloc: Global, bytes: &[u8]) -> Result<HunkFile<'_>, FileFault>
-    ensures file { IfOk result (IsFileOf bytes.entry.now) }
-    ensures none { IfErr result (λ fault. fault.reason ≢ reasons.OutOfMemory →
-        BeginsWithLoadFile bytes.entry.now → ⊥) }
-    ensures refused { IfErr result (λ fault. fault.reason ≢ reasons.OutOfMemory →
-        IsLoadRefusal bytes.entry.now fault) }
-    ensures memory { IfErr result (λ fault. fault.reason ≡ reasons.OutOfMemory →
-        LacksLoadPart bytes.entry.now fault.place) }
-{
-    let (file, size) = LoadFile::decode(alloc, bytes)?;
-    let rest = (bytes.len() - size) as u64;
-    Ok(HunkFile::Load { file, rest })
-}
-
-/// The object file that the bytes are.
-fn decode_object(alloc: Global, bytes: &[u8]) -> Result<HunkFile<'_>, FileFault>
-    ensures file { IfOk result (IsFileOf bytes.entry.now) }
-    ensures none { IfErr result (λ fault. fault.reason ≢ reasons.OutOfMemory →
-        AreObjectFile bytes.entry.now → ⊥) }
-    ensures refused { IfErr result (λ fault. fault.reason ≢ reasons.OutOfMemory →
-        IsObjectRefusal bytes.entry.now fault) }
-    ensures memory { IfErr result (λ fault. fault.reason ≡ reasons.OutOfMemory →
-        LacksObjectPart bytes.entry.now fault.place) }
-{
-    let file = ObjectFile::decode(alloc, bytes)?;
-    Ok(HunkFile::Object(file))
 }

@@ -2,21 +2,27 @@
 #![tactic(auto)]
 
 mod blocks;
+mod file_view;
 mod hunk_file;
 pub mod laws;
 mod load;
 mod object;
 mod order;
 mod place;
+mod ranges;
 mod row;
 mod sniffing;
 mod writing;
 
+pub use crate::blocks::BlockViews;
+pub use crate::file_view::FileView;
 pub use crate::hunk_file::HunkFile;
-pub use crate::load::{ImageFault, LoadFile};
+pub use crate::load::{ImageFault, LoadFile, LoadHunkView, LoadHunkViews, LoadView, TableIter};
 pub use crate::object::{
-    Finding, FindingKind, Findings, Hunk, ObjectFile, TakesFindings, Unit, walk_object,
+    Finding, FindingKind, Findings, Hunk, HunkView, HunkViews, ObjectFile, ObjectView,
+    TakesFindings, Unit, UnitView, UnitViews, walk_object,
 };
+pub use crate::ranges::TakesBytes;
 pub use crate::row::Row;
 pub use crate::sniffing::sniff;
 pub use hunk_scan::Sniff;

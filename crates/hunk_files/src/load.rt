@@ -2,13 +2,19 @@
 
 mod file;
 mod hunk;
+mod hunk_views;
 mod image;
 mod offsets;
 mod overlap;
+mod ranges;
 mod strip;
 mod table;
+mod view;
 mod walk;
 mod writing;
 
 pub use crate::load::file::LoadFile;
+pub use crate::load::hunk_views::{LoadHunkView, LoadHunkViews};
 pub use crate::load::image::ImageFault;
+pub use crate::load::table::TableIter;
+pub use crate::load::view::LoadView;

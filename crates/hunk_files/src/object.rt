@@ -1,19 +1,26 @@
 //! Object files.
 
-mod building;
 mod check;
+mod ends;
 mod file;
 mod findings;
+mod hunk_view;
 mod position;
+mod ranges;
 mod strip;
 mod taker;
 mod unit;
+mod unit_view;
+mod view;
 mod whole;
 mod writing;
 
 pub use crate::object::check::{Finding, FindingKind};
 pub use crate::object::file::ObjectFile;
 pub use crate::object::findings::Findings;
+pub use crate::object::hunk_view::{HunkView, HunkViews};
 pub use crate::object::taker::TakesFindings;
 pub use crate::object::unit::{Hunk, Unit};
+pub use crate::object::unit_view::{UnitView, UnitViews};
+pub use crate::object::view::ObjectView;
 pub use crate::object::whole::walk_object;

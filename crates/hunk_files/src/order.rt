@@ -4,7 +4,7 @@ ghost use Rattle.hunk_scan.specs.Standings.{is_ending};
 ghost use Rattle.hunk_files.specs.LoadFile.{standing};
 ghost use Rattle.hunk_files.specs.Strip.{is_kept};
 
-use hunk_blocks::{Block, Body};
+use hunk_blocks::{Block, BlockView, Body, BodyView};
 
 /// Whether the block says what the hunk is, rather than names, describes or comments it.
 pub(crate) fn is_kept(block: &Block<'_>) -> bool
@@ -16,9 +16,21 @@ pub(crate) fn is_kept(block: &Block<'_>) -> bool
     )
 }
 
-/// Whether the block ends its hunk.
-pub(crate) fn is_end(block: &Block<'_>) -> bool
-    ensures { result ≡ is_ending (standing block.now.body) }
+/// The same of a block that is read where it lies.
+#[inline(always)]
+pub(crate) fn stays(block: &BlockView<'_>) -> bool
+    ensures { result ≡ is_kept block.now.value.body }
 {
-    matches!(block.body(), Body::End)
+    !matches!(
+        block.body(),
+        BodyView::Name(_) | BodyView::Symbol(_) | BodyView::Debug(_) | BodyView::Advisory(_)
+    )
+}
+
+/// Whether the block ends its hunk.
+#[inline(always)]
+pub(crate) fn is_end(block: &BlockView<'_>) -> bool
+    ensures { result ≡ is_ending (standing block.now.value.body) }
+{
+    matches!(block.body(), BodyView::End)
 }

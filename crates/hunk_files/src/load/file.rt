@@ -9,9 +9,8 @@ ghost use Rattle.hunk_files.specs.Fault.{BeginsWithLoadFile, HasFault, is_load_r
 ghost use Rattle.hunk_files.specs.Lacks.{LacksLoadPart};
 ghost use Rattle.hunk_files.specs.Tables.{size_entry};
 
-use crate::load::hunk::{LoadHunk, read_hunks};
-use crate::load::table::read_table;
-use crate::load::walk::walk;
+use crate::load::hunk::LoadHunk;
+use crate::load::view::LoadView;
 use hunk_blocks::Block;
 use hunk_words::{FileFault, SizeWord};
 use std::alloc::Global;
@@ -52,9 +51,9 @@ impl<'a> LoadFile<'a> {
     ///   its first byte, with the reason.
     /// - `Truncated` where all whole longwords are those of a load file that goes on, at 4 times
     ///   their number.
-    /// - `OutOfMemory` where memory is refused for a row of the table, the groups or entries of a
-    ///   block, a block or a hunk, at the last longword of what was to be kept. The bytes begin
-    ///   with a load file then, so it hides no fault.
+    /// - `OutOfMemory` where memory is refused for the groups or entries of a block, a block or a
+    ///   hunk, at the last longword of what was to be kept. The bytes begin with a load file then,
+    ///   so it hides no fault.
     pub fn decode(alloc: Global, bytes: &'a [u8]) -> Result<(LoadFile<'a>, usize), FileFault>
         ensures valid { IfOk result (λ r. IsLoadFile r.0) }
         ensures text { IfOk result (λ r. take r.1 bytes.entry.now ≡ bytes_of (text r.0)) }
@@ -67,10 +66,9 @@ impl<'a> LoadFile<'a> {
             LacksLoadPart bytes.entry.now fault.place) }
         ensures own_reasons { IfErr result (λ fault. IsTrue (is_load_refusal fault.reason)) }
     {
-        let size = walk(bytes)?;
-        let (rows, start) = read_table(alloc, bytes)?;
-        let hunks = read_hunks(alloc, bytes, &rows, start)?;
-        Ok((LoadFile { hunks }, size))
+        let (view, size) = LoadView::read(bytes)?;
+        let file = view.keep(alloc)?;
+        Ok((file, size))
     }
 
     /// The number of hunks, from 1 to 65,536, `MOST_HUNKS`.

@@ -1,53 +1,53 @@
-//! The table of a load file's header.
-ghost use Rattle.std.specs.Prelude.{◌≡◌, IfOk, IfErr};
-ghost use Rattle.hunk_words.specs.declared.reason.Reason.TheVariants as reasons;
-ghost use Rattle.hunk_files.specs.Fault.{BeginsWithLoadFile};
-ghost use Rattle.hunk_files.specs.Lacks.{EndsAt, EndsLoadPart};
-ghost use Rattle.hunk_files.specs.Tables.{IsTable};
+//! The table of a load file's header, read where it lies.
+ghost use Rattle.std.specs.Prelude.{◌≡◌};
+ghost use Rattle.std.specs.Iterator.{YieldsFirstBy, item_count};
+ghost use Rattle.hunk_files.specs.Tables.{size_entry};
 
-use crate::place::out_of_memory;
-use crate::row::Row;
-use hunk_scan::{TABLE_AT, TABLE_SIZE_AT};
-use hunk_words::{FileFault, SizeWord, word_at};
-use std::alloc::Global;
+use hunk_words::SizeWord;
+use std::marker::Model;
 
-/// The rows of the table, and the byte behind it, from the start of the input. Each row is stored
-/// when it was read.
+/// The entries of a table that are still to come, each read where it lies. It takes no memory.
+/// Contracts see the list of them.
 ///
 /// An entry is a size word, and where both of its memory bits are set one more longword, the memory
 /// attributes (The AmigaDOS Manual, `dos/doshunks.h`).
-///
-/// # Errors
-///
-/// `OutOfMemory` where memory for a row is refused, at the longword that completes the row.
-pub(crate) fn read_table(alloc: Global, bytes: &[u8]) -> Result<(Vec<Row>, usize), FileFault>
-    requires { BeginsWithLoadFile bytes.now }
-    ensures table { IfOk result (λ r.
-        (file : BeginsWithLoadFile bytes.now) → IsTable bytes.now file r.0.items r.1) }
-    ensures memory { IfErr result (λ fault. fault.reason ≡ reasons.OutOfMemory) }
-    ensures place { IfErr result (λ fault. (file : BeginsWithLoadFile bytes.now) →
-        EndsAt (EndsLoadPart file.value) 0 fault.place) }
-{
-    let hunks = word_at(bytes, TABLE_SIZE_AT) as usize;
-    let mut rows = Vec::new(alloc);
-    let mut at = TABLE_AT;
-    'reading: while rows.len() < hunks {
-        let size = SizeWord::at(bytes, at);
-        at += SizeWord::entry_longs(size.word);
-        if rows.push(row_of(size)).is_err() {
-            return Err(out_of_memory(4 * at));
-        }
-    }
-    Ok((rows, 4 * at))
+#[derive(Drop)]
+pub struct TableIter<'a> {
+    /// The input from the next entry on.
+    pub(super) rest: &'a [u8],
+    /// How many entries are still to come.
+    pub(super) left: u32,
 }
 
-/// The row of the entry, with no base yet.
-fn row_of(size: SizeWord) -> Row
-    ensures { result ≡ record { word = size.word; extra = size.extra; base = 0 } }
-{
-    Row {
-        word: size.word,
-        extra: size.extra,
-        base: 0,
+impl<'a> Model for TableIter<'a> {
+    ghost use Rattle.std.specs.Prelude.{List};
+    ghost use Rattle.hunk_words.specs.Longs.{longs};
+    ghost use Rattle.hunk_files.specs.LoadFile.{TableEntry};
+    ghost use Rattle.hunk_files.specs.Cuts.{table_cut};
+    ghost use Rattle.hunk_files.specs.InPlace.{BeginsWithTable};
+
+    ghost Value = { List TableEntry };
+
+    ghost view = { λ s. (table_cut s.left (longs s.rest.now)).value };
+
+    ghost invariant = { λ s. BeginsWithTable s.left (longs s.rest.now) };
+}
+
+impl Iterator for TableIter<'_> {
+    type Item = SizeWord;
+
+    ghost next_gives = { YieldsFirstBy size_entry (λ entries. entries) };
+
+    ghost remaining = { item_count (λ entries. entries) };
+
+    #[inline(always)]
+    fn next(&mut self) -> Option<SizeWord> {
+        if self.left == 0 {
+            return None;
+        }
+        let size = SizeWord::at(self.rest, 0);
+        self.rest = &self.rest[4 * SizeWord::entry_longs(size.word)..];
+        self.left -= 1;
+        Some(size)
     }
 }

@@ -1,16 +1,18 @@
 //! What is wrong with the offsets of an object file, found by one walk.
-ghost use Rattle.std.specs.Prelude.{◌≡◌, ◌^◌, ◌<◌, ◌≤◌, length, map};
+ghost use Rattle.std.specs.Prelude.{◌≡◌, ◌^◌, ◌<◌, ◌≤◌, length};
 ghost use Rattle.std.specs.List.{flat_map};
 ghost use Rattle.hunk_blocks.specs.Views.{entry_of, group_of};
-ghost use Rattle.hunk_files.specs.Findings.{body_findings, content_size, entry_findings, finding};
-ghost use Rattle.hunk_files.specs.Findings.{findings, group_findings, hunk_bytes, hunk_findings};
-ghost use Rattle.hunk_files.specs.Findings.{hunks_findings, outside, reference_width};
-ghost use Rattle.hunk_files.specs.Findings.{relocation_findings, relocation_width};
+ghost use Rattle.hunk_files.specs.Findings.{body_findings, entry_findings, finding, findings};
+ghost use Rattle.hunk_files.specs.Findings.{group_findings, hunk_bytes, hunk_findings};
+ghost use Rattle.hunk_files.specs.Findings.{outside, reference_width};
+ghost use Rattle.hunk_files.specs.Findings.{relocation_findings, relocation_width, unit_findings};
+ghost use Rattle.hunk_files.specs.ObjectFile.{IsObjectHunk};
 
-use crate::object::file::ObjectFile;
+use crate::blocks::BlockViews;
 use crate::object::taker::TakesFindings;
-use crate::object::unit::{Hunk, Unit};
-use hunk_blocks::{Block, Body, Entries, Entry, Group, Groups};
+use crate::object::unit_view::UnitView;
+use crate::object::view::ObjectView;
+use hunk_blocks::{BlockView, BodyView, EntriesIter, Entry, Group, GroupsIter};
 use hunk_words::Kind;
 
 /// What is wrong with an offset of an object file.
@@ -81,19 +83,17 @@ fn reference_width(entry: &Entry) -> u64
     kind.width().unwrap_or(0)
 }
 
-/// How many bytes the hunk has: those of its content.
-fn hunk_bytes(blocks: &[Block]) -> u64
-    requires { hunk_bytes blocks.now < 2 ^ 64 }
-    ensures { result ≡ hunk_bytes blocks.now }
+/// How many bytes the hunk has: those of its content block, before which few blocks stand.
+pub(super) fn hunk_bytes(blocks: BlockViews<'_>) -> u64
+    requires { IsObjectHunk blocks.value }
+    ensures { result ≡ hunk_bytes blocks.entry.value }
 {
-    blocks.iter().map(content_size).sum()
-}
-
-/// How many bytes of content the block has.
-fn content_size(block: &Block) -> u64
-    ensures { result ≡ content_size block.now.body }
-{
-    block.body().content_bytes().unwrap_or(0)
+    'finding: for block in blocks {
+        if let Some(bytes) = block.body().content_bytes() {
+            return bytes;
+        }
+    }
+    0
 }
 
 /// Hands over what is wrong with an offset of this width.
@@ -132,13 +132,13 @@ fn check_group<T: TakesFindings>(taker: &mut T, spot: Spot, width: u64, group: &
     }
 }
 
-fn check_groups<T: TakesFindings>(taker: &mut T, spot: Spot, width: u64, groups: &Groups)
+fn check_groups<T: TakesFindings>(taker: &mut T, spot: Spot, width: u64, groups: GroupsIter<'_>)
     requires { width ≤ 4 }
     ensures { T.takes taker.old
-        (flat_map (group_findings spot width) (map group_of groups.now)) taker.new }
+        (flat_map (group_findings spot width) groups.entry.value) taker.new }
 {
-    for group in groups {
-        check_group(taker, spot, width, group);
+    'checking: for group in groups {
+        check_group(taker, spot, width, &group);
     }
 }
 
@@ -151,60 +151,52 @@ fn check_entry<T: TakesFindings>(taker: &mut T, spot: Spot, entry: &Entry)
     }
 }
 
-fn check_entries<T: TakesFindings>(taker: &mut T, spot: Spot, entries: &Entries)
-    ensures { T.takes taker.old
-        (flat_map (entry_findings spot) (map entry_of entries.now)) taker.new }
+fn check_entries<T: TakesFindings>(taker: &mut T, spot: Spot, entries: EntriesIter<'_>)
+    ensures { T.takes taker.old (flat_map (entry_findings spot) entries.entry.value) taker.new }
 {
-    for entry in entries {
-        check_entry(taker, spot, entry);
+    'checking: for entry in entries {
+        check_entry(taker, spot, &entry);
     }
 }
 
-fn check_block<T: TakesFindings>(taker: &mut T, spot: Spot, block: &Block)
-    ensures { T.takes taker.old (body_findings spot block.now.word block.now.body) taker.new }
+fn check_block<T: TakesFindings>(taker: &mut T, spot: Spot, block: BlockView<'_>)
+    ensures { T.takes taker.old
+        (body_findings spot block.entry.value.word block.entry.value.body) taker.new }
 {
-    match block.body() {
-        Body::Reloc(groups) => {
-            check_groups(taker, spot, relocation_width(block.word().kind()), groups);
+    let word = block.word();
+    match block.into_body() {
+        BodyView::Reloc(groups) => {
+            check_groups(taker, spot, relocation_width(word.kind()), groups);
         }
-        Body::Ext(entries) => check_entries(taker, spot, entries),
+        BodyView::Ext(entries) => check_entries(taker, spot, entries),
         _ => {}
     }
 }
 
-fn check_blocks<T: TakesFindings>(taker: &mut T, spot: Spot, blocks: &[Block])
-    ensures { T.takes taker.old (hunk_findings spot blocks.now) taker.new }
+fn check_blocks<T: TakesFindings>(taker: &mut T, spot: Spot, blocks: BlockViews<'_>)
+    ensures { T.takes taker.old (hunk_findings spot blocks.entry.value) taker.new }
 {
-    for block in blocks {
+    'checking: for block in blocks {
         check_block(taker, spot, block);
     }
 }
 
-fn check_hunks<T: TakesFindings>(taker: &mut T, unit: u64, hunks: &[Hunk])
-    ensures { T.takes taker.old
-        (hunks_findings unit (length hunks.now) 0 hunks.now) taker.new }
+fn check_unit<T: TakesFindings>(taker: &mut T, number: u64, unit: &UnitView<'_>)
+    ensures { T.takes taker.old (unit_findings number unit.now.value) taker.new }
 {
-    for (number, hunk) in hunks.iter().enumerate() {
-        let blocks = hunk.blocks();
+    let hunks = unit.hunks().count() as u64;
+    'checking: for (hunk, view) in unit.hunks().enumerate() {
         let spot = Spot {
-            unit,
-            hunk: number as u64,
-            hunks: hunks.len() as u64,
-            bytes: hunk_bytes(blocks),
+            unit: number,
+            hunk: hunk as u64,
+            hunks,
+            bytes: hunk_bytes(view.blocks()),
         };
-        check_blocks(taker, spot, blocks);
+        check_blocks(taker, spot, view.blocks());
     }
 }
 
-fn check_units<T: TakesFindings>(taker: &mut T, units: &[Unit])
-    ensures { T.takes taker.old (findings units.now) taker.new }
-{
-    for (number, unit) in units.iter().enumerate() {
-        check_hunks(taker, number as u64, unit.hunks());
-    }
-}
-
-impl ObjectFile<'_> {
+impl ObjectView<'_> {
     /// Hands over what is wrong with the offsets of all relocations and external references, in
     /// file order, each finding as soon as it is found. It takes no memory.
     ///
@@ -212,8 +204,11 @@ impl ObjectFile<'_> {
     /// the unit's number of hunks, then `OutsideHunk` where the bytes that are relocated or refer
     /// go past the end of the hunk.
     pub fn check_with<T: TakesFindings>(&self, taker: &mut T)
-        ensures { T.takes taker.old (findings self.now) taker.new }
+        ensures taken { T.takes taker.old (findings self.now) taker.new }
+        ensures few { length (findings self.now) < 2 ^ 64 }
     {
-        check_units(taker, self.units());
+        'checking: for (number, unit) in self.units().enumerate() {
+            check_unit(taker, number as u64, &unit);
+        }
     }
 }

@@ -1,14 +1,15 @@
 //! Object files.
-ghost use Rattle.std.specs.Prelude.{◌≡◌, ◌≢◌, IfErr, IfOk, IsTrue};
+ghost use Rattle.std.specs.Prelude.{◌≡◌, ◌≢◌, ◌^◌, ◌<◌, IfErr, IfOk, IsTrue, length};
 ghost use Rattle.hunk_words.specs.Longs.{bytes_of};
 ghost use Rattle.hunk_words.specs.declared.reason.Reason.TheVariants as reasons;
 ghost use Rattle.hunk_files.specs.ObjectFile.{IsNoObjectFile, is_object_refusal, IsObjectFile, object_text};
 ghost use Rattle.hunk_files.specs.ObjectFault.{HasObjectFault};
 ghost use Rattle.hunk_files.specs.Lacks.{LacksObjectPart};
+ghost use Rattle.hunk_files.specs.Findings.{findings};
 
-use crate::object::building::read_units;
+use crate::object::taker::TakesFindings;
 use crate::object::unit::Unit;
-use crate::object::whole::walk_object;
+use crate::object::view::ObjectView;
 use hunk_words::FileFault;
 use std::alloc::Global;
 use std::marker::Model;
@@ -17,16 +18,21 @@ use std::marker::Model;
 #[derive(Debug, Drop)]
 pub struct ObjectFile<'a> {
     pub(super) units: Vec<Unit<'a>>,
+    /// The file that was read, in which the same is found: stripping leaves alone what is checked.
+    pub(super) view: ObjectView<'a>,
 }
 
 impl<'a> Model for ObjectFile<'a> {
+    ghost use Rattle.std.specs.Prelude.{◌≡◌};
     ghost use Rattle.hunk_files.specs.ObjectFile.{ObjectFileValue, IsObjectFile};
+    ghost use Rattle.hunk_files.specs.Findings.{findings};
 
     ghost Value = { ObjectFileValue };
 
     ghost view = { λ s. s.units.items };
 
-    ghost invariant = { λ s. IsObjectFile s.units.items };
+    ghost invariant = { λ s.
+        IsObjectFile s.units.items × (findings s.units.items ≡ findings s.view) };
 }
 
 impl<'a> ObjectFile<'a> {
@@ -68,9 +74,7 @@ impl<'a> ObjectFile<'a> {
             LacksObjectPart bytes.entry.now fault.place) }
         ensures own_reasons { IfErr result (λ fault. IsTrue (is_object_refusal fault.reason)) }
     {
-        walk_object(bytes)?;
-        let units = read_units(alloc, bytes)?;
-        Ok(ObjectFile { units })
+        ObjectView::read(bytes)?.keep(alloc)
     }
 
     /// The units, in file order. There is at least one.
@@ -79,5 +83,14 @@ impl<'a> ObjectFile<'a> {
         ensures file { IsObjectFile self.now }
     {
         self.units.as_slice()
+    }
+
+    /// Hands over what is wrong with the offsets of all relocations and external references, as
+    /// `ObjectView::check_with` does. It takes no memory.
+    pub fn check_with<T: TakesFindings>(&self, taker: &mut T)
+        ensures taken { T.takes taker.old (findings self.now) taker.new }
+        ensures few { length (findings self.now) < 2 ^ 64 }
+    {
+        self.view.check_with(taker);
     }
 }

@@ -162,32 +162,27 @@ impl ObjectPosition {
         }
     }
 
-    /// The position behind the longword, or why the longword is refused.
-    #[inline(always)]
-    fn step_at(self, word: u32) -> Result<ObjectPosition, Reason>
-        ensures steps { IfOk result (λ behind. behind ≡ steps.step self word) }
-        ensures passes { OnOk result (refuse_object (role_at self) word ≡ None) }
-        ensures refusal { IfErr result (λ reason. refuse_object (role_at self) word ≡ Some reason) }
-    {
-        if let Some(reason) = self.refuse(word) {
-            return Err(reason);
-        }
-        Ok(self.step(word))
-    }
-
-    /// Steps from the position. The kinds of block words are distinguished here, once for all that
-    /// is asked of them.
+    /// The position behind the longword, or why it is refused. The kinds of block words are
+    /// distinguished here, once for all that is asked of them.
     #[inline(always)]
     pub(crate) fn step_from(self, word: u32) -> Result<ObjectPosition, Reason>
         ensures steps { IfOk result (λ behind. behind ≡ steps.step self word) }
         ensures passes { OnOk result (refuse_object (role_at self) word ≡ None) }
         ensures refusal { IfErr result (λ reason. refuse_object (role_at self) word ≡ Some reason) }
     {
+        macro_rules! step {
+            () => {
+                match self.refuse(word) {
+                    Some(reason) => Err(reason),
+                    None => Ok(self.step(word)),
+                }
+            };
+        }
         match self {
             ObjectPosition::Word(_) if word != UNIT_WORD => {
-                by_kind!(BlockWord::of(word).kind(), self.step_at(word))
+                by_kind!(BlockWord::of(word).kind(), step!())
             }
-            _ => self.step_at(word),
+            _ => step!(),
         }
     }
 

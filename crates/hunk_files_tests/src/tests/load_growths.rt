@@ -8,16 +8,16 @@ use std::alloc::Global;
 use std::process::Abort;
 use std::test::Fail;
 
-/// Where memory is asked for in `FOUR_HUNKS`: for the table at its first row; for the first hunk's blocks at the last
-/// longword of its first, for groups and symbols at the offset and the value that end the first of them; for
-/// the hunks at the END of the first; and for each further hunk's blocks at the last longword of its first.
-const OF_FOUR_HUNKS: &[u64] = &[20, 52, 68, 88, 96, 104, 120, 132];
+/// Where memory is asked for in `FOUR_HUNKS`: for the first hunk's blocks at the last longword of its first, for groups
+/// and symbols at the offset and the value that end the first of them; for the hunks at the END of the first; and for
+/// each further hunk's blocks at the last longword of its first.
+const OF_FOUR_HUNKS: &[u64] = &[52, 68, 88, 96, 104, 120, 132];
 
 /// One hunk of six blocks, the fifth at 56.
 const SIX_BLOCKS: &str = "3F3 0 1 0 0 1 / 3EB 1 / 3F1 0 / 3F1 0 / 3F1 0 / 3F1 0 / 3F2";
 
 /// The list of blocks grows once more at the last longword of the fifth, and the hunk comes at END.
-const OF_SIX_BLOCKS: &[u64] = &[20, 28, 60, 64];
+const OF_SIX_BLOCKS: &[u64] = &[28, 60, 64];
 
 /// Sees that memory is refused at these places in turn, and that the file is read then.
 fn expect(rt: &impl Abort, alloc: Global, text: &str, places: &[u64]) -> Result<(), Fail> {
@@ -52,10 +52,9 @@ const FIVE: &str = "3F3 0 5 0 4 2 C0000001 10004 0 1 1 / \
     3F1 1 3F2 / 3EB 0 / 3F2 / 3EB 1 / 3EC 0 / 3F2 / \
     3EB 1 / 3F1 0 / 3F1 0 / 3F1 0 / 3F1 0 / 3F2";
 
-/// The table at its first row and again at the fifth; each hunk's blocks at the last longword of the first, and the
-/// last hunk's again at that of the fifth; groups and symbols at the last longword of the first; and the hunks at the
-/// first END and again at the fifth.
-const OF_FIVE: &[u64] = &[20, 40, 52, 88, 108, 120, 136, 168, 188, 208, 240, 244];
+/// Each hunk's blocks at the last longword of the first, and the last hunk's again at that of the fifth; groups and
+/// symbols at the last longword of the first; and the hunks at the first END and again at the fifth.
+const OF_FIVE: &[u64] = &[52, 88, 108, 120, 136, 168, 188, 208, 240, 244];
 
 /// A list that grows gives back the memory that it had, so each growth has a piece of its own here.
 #[test]

@@ -39,7 +39,7 @@ fn expect(rt: &impl Abort, alloc: Global, rows: Refused) -> Result<(), Fail> {
     Ok(())
 }
 
-/// No row is reserved by the number of hunks, and a fault is answered before memory is asked for.
+/// Nothing is reserved by the number of hunks, and a fault is answered before memory is asked for.
 const AT_THE_FIRST_GROWTH: Refused = &[
     (examples::MOST_HUNKS, 20, Reason::Truncated),
     ("3F3 0 1 0 0 1 / 3E9 1 0 / 3EC 1 0 1", 48, Reason::BadOffset),
@@ -53,22 +53,22 @@ fn refused_at_the_first_growth(rt: HostRuntime) -> Result<(), Fail> {
     expect(&rt, rt.alloc(), AT_THE_FIRST_GROWTH)
 }
 
-/// A row is asked for when it was read: at its size word, or at the attributes behind it.
-const AT_A_ROW: Refused = &[
-    (examples::ONE_HUNK, 20, Reason::OutOfMemory),
+/// The table takes no memory. The first that is asked for is that of a block, at its last longword.
+const AT_A_BLOCK: Refused = &[
+    (examples::ONE_HUNK, 32, Reason::OutOfMemory),
     (
         "3F3 0 1 0 0 C0000000 2 / 3EB 0 / 3F2",
-        24,
+        32,
         Reason::OutOfMemory,
     ),
 ];
 
 #[test]
-fn no_memory_for_a_row(rt: HostRuntime) -> Result<(), Fail> {
+fn no_memory_for_a_block(rt: HostRuntime) -> Result<(), Fail> {
     if !memory_ends(&rt)? {
         return Ok(());
     }
-    expect(&rt, rt.alloc(), AT_A_ROW)
+    expect(&rt, rt.alloc(), AT_A_BLOCK)
 }
 
 /// What is answered for the file as an object file, with the next growth refused.

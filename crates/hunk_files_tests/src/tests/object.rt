@@ -213,7 +213,7 @@ fn bytes_over(rt: HostRuntime) -> Result<(), Fail> {
 }
 
 /// As many units, each with its number as its name, and two hunks.
-fn units(alloc: Global, count: u32) -> Result<Vec<u8>, AllocError> {
+pub(super) fn units(alloc: Global, count: u32) -> Result<Vec<u8>, AllocError> {
     let mut longs = Vec::new(alloc);
     for number in 0..count {
         longs.extend_from_slice(&[0x3E7, 1, number, 0x3EB, number, 0x3F2, 0x3EB, 0, 0x3F2])?;

@@ -1,4 +1,4 @@
-use Rattle.hunk_files.proofs.ObjectText.{object_value}
+use Rattle.hunk_files.proofs.UnitCutLaws.{object_value}
 use Rattle.hunk_files.proofs.laws.object_value.Goals as goal
 
 pub returns : goal.returns

@@ -1,45 +1,17 @@
-use Rattle.std.proofs.Common.{sym, ap, subst, ◌∙◌}
-use Rattle.std.proofs.lemmas.Result.{err_from_is_err_and}
+use Rattle.std.proofs.Common.{◌≡◌, List, ℕ}
+use Rattle.std.specs.Prelude.{Result, Ok, Err, IfErr}
+use Rattle.hunk_words.specs.declared.fault.Fault.{Fault}
+use Rattle.hunk_words.specs.declared.reason.Reason.TheVariants as reasons
 use Rattle.hunk_words.specs.Longs.{bytes_of}
-use Rattle.hunk_files.specs.ObjectFile.{IsObjectFile, ObjectFileValue, object_text}
-use Rattle.hunk_files.proofs.ObjectRefusals.{fault_other, fault_own}
-use Rattle.hunk_files.proofs.OneObjectFault.{no_object}
+use Rattle.hunk_files.specs.Lacks.{EndsAt, EndsObjectPart, LacksObjectPart}
+use Rattle.hunk_files.specs.ObjectFile.{ObjectFileValue, IsObjectFile, object_text}
 use Rattle.hunk_files.proofs.object.file.ObjectFile.decode.Goals as goal
 
-pub invariant_of-result : goal.invariant_of-result
-invariant_of-result c =
-    let file = c.in_ok-walk_object.ensures in
-    subst IsObjectFile (sym (c.in_ok-units.ensures.units file)) file.is_object_file
+-- A part of the file in the bytes is lacking.
+lacks : {T : Type 0} (r : Result T Fault) (bytes : List ℕ) (o : ObjectFileValue) → IsObjectFile o → bytes ≡ bytes_of (object_text o) → IfErr r (λ fault. EndsAt (EndsObjectPart o) 0 fault.place) →
+    IfErr r (λ fault. fault.reason ≡ reasons.OutOfMemory → LacksObjectPart bytes fault.place)
+lacks (Ok x) bytes o is text h = tt
+lacks (Err fault) bytes o is text h = λ memory. record { file = record { value = o; is_object_file = is; text_is = text }; ends = h }
 
-pub returns-clause-file : goal.returns-clause-file
-returns-clause-file c =
-    let file = c.in_ok-walk_object.ensures in
-    subst IsObjectFile (sym (c.in_ok-units.ensures.units file)) file.is_object_file
-
-pub returns-clause-text : goal.returns-clause-text
-returns-clause-text c =
-    let file = c.in_ok-walk_object.ensures in
-    file.text_is ∙ ap (λ (o : ObjectFileValue). bytes_of (object_text o)) (sym (c.in_ok-units.ensures.units file))
-
-pub returns-in_err-walk_object-clause-none : goal.returns-in_err-walk_object-clause-none
-returns-in_err-walk_object-clause-none c =
-    let p = err_from_is_err_and c.from_residual.result c.from_residual.ensures.1 in
-    let f = c.in_err-walk_object.field-0.0 in
-    rw (p.1, p.2) (λ other. no_object c.args.bytes.now f.place f.reason c.in_err-walk_object.ensures)
-
-pub returns-in_err-walk_object-clause-memory : goal.returns-in_err-walk_object-clause-memory
-returns-in_err-walk_object-clause-memory c =
-    let p = err_from_is_err_and c.from_residual.result c.from_residual.ensures.1 in
-    let f = c.in_err-walk_object.field-0.0 in
-    rw (p.1, p.2) (λ memory. absurd (fault_other c.args.bytes.now f.place f.reason c.in_err-walk_object.ensures memory))
-
-pub returns-in_err-walk_object-clause-own_reasons : goal.returns-in_err-walk_object-clause-own_reasons
-returns-in_err-walk_object-clause-own_reasons c =
-    let p = err_from_is_err_and c.from_residual.result c.from_residual.ensures.1 in
-    let f = c.in_err-walk_object.field-0.0 in
-    rw (p.1, p.2) (fault_own c.args.bytes.now f.place f.reason c.in_err-walk_object.ensures)
-
-pub returns-in_err-units-clause-memory : goal.returns-in_err-units-clause-memory
-returns-in_err-units-clause-memory c =
-    let p = err_from_is_err_and c.from_residual-in_err-units.result c.from_residual-in_err-units.ensures.1 in
-    rw (p.1, p.2) (λ memory. record { file = c.in_ok-walk_object.ensures; ends = c.in_err-units.ensures.place c.in_ok-walk_object.ensures })
+pub returns-clause-memory : goal.returns-clause-memory
+returns-clause-memory c = lacks c.keep.result c.args.bytes.now c.in_ok-read.field-0 c.in_ok-read.ensures.file c.in_ok-read.ensures.text c.keep.ensures.place

@@ -1,0 +1,63 @@
+-- Parts that are taken one by one, as they lie in the input.
+use Rattle.std.proofs.Common.{◌≡◌, ℕ, ◌+◌, ◌*◌, List, [], ◌∷◌, ◌++◌, length, refl, sym, ap, subst, ◌∙◌, append_assoc, append-nil, length-append, Option, Some, None, arith}
+use Rattle.std.specs.List.{flat_map}
+use Rattle.std.specs.Iterator.{MakesProgress, item_count}
+use Rattle.std.proofs.lemmas.Iterator.{YieldsList}
+use Rattle.std.proofs.lemmas.Iterator.Consumers.{YieldsList-from_shown}
+use Rattle.hunk_blocks.specs.Placed.{Placed}
+use Rattle.hunk_blocks.proofs.Lists.{flat_map-more}
+use Rattle.hunk_files.specs.InPlace.{GivesPart}
+use Rattle.hunk_files.specs.Lacks.{EndsAt, Within}
+
+-- a part given is one less to come
+pub part_less : {A : Type 0} (text : A → List ℕ) (can : Placed (List A) → Type 0) (always : (s : Placed (List A)) → can s) (s t : Placed (List A)) (part : Placed A) → GivesPart text s (Some part) t →
+    MakesProgress can (item_count {A = A} (λ p. p.value)) s (Some part) t
+part_less text can always s t part gives = record { on = λ h. (always t, tt, omega (arith, ap (λ (p : Placed (List _)). length p.value) gives.0)); keeps = always t; rests = λ h. tt }
+
+module _ {A : Type 0} (text : A → List ℕ) (all : Placed (List A)) where
+  -- These parts were taken, and the others are left.
+  pub record Taken (left : Placed (List A)) (done : List A) : Type 0 where
+    pub split : all.value ≡ done ++ left.value
+    pub place : left.place ≡ all.place + 4 * length (flat_map text done)
+
+  pub none_taken : Taken all []
+  none_taken = record { split = refl; place = omega arith }
+
+  pub all_taken : (old new : Placed (List A)) (done : List A) (found : Option (Placed A)) → Taken old done → found ≡ None → GivesPart text old found new → (done ≡ all.value) × (new.place ≡ all.place + 4 * length (flat_map text all.value))
+  all_taken old new done found t same gives =
+      let g : (old.value ≡ []) × (new ≡ old) = subst (λ f. GivesPart text old f new) same gives in
+      let whole : done ≡ all.value = sym (t.split ∙ ap (λ (l : List A). done ++ l) g.0 ∙ append-nil done) in
+      (whole, ap (λ (p : Placed (List A)). p.place) g.1 ∙ t.place ∙ ap (λ (l : List A). all.place + 4 * length (flat_map text l)) whole)
+
+  module _ (old new : Placed (List A)) (done : List A) (found : Option (Placed A)) (part : Placed A) (t : Taken old done) (same : found ≡ Some part) (gives : GivesPart text old found new) where
+    given : GivesPart text old (Some part) new
+    given = subst (λ f. GivesPart text old f new) same gives
+
+    place_is : old.place ≡ part.place
+    place_is = ap (λ (p : Placed (List A)). p.place) given.0
+
+    split_is : all.value ≡ done ++ part.value ∷ new.value
+    split_is = t.split ∙ ap (λ (p : Placed (List A)). done ++ p.value) given.0
+
+    pub part_taken : Taken new (done ++ part.value ∷ [])
+    part_taken =
+        record {
+          split = split_is ∙ sym (append_assoc done (part.value ∷ []) new.value);
+          place = omega (arith, given.1, place_is, t.place, ap length (flat_map-more text done part.value), length-append (flat_map text done) (text part.value));
+        }
+
+    -- What ends in it ends within the parts.
+    pub part_within : (Ends : A → ℕ → Type 0) (place : ℕ) → EndsAt (Ends part.value) part.place place → EndsAt (Within text Ends all.value) all.place place
+    part_within Ends place e =
+        record {
+          number = length (flat_map text done) + e.number;
+          ends = record { before = done; item = part.value; after = new.value; split = split_is; behind = record { number = e.number; ends = e.ends; place = refl } };
+          place = omega (arith, e.place, place_is, t.place);
+        }
+
+-- Parts that are given one by one are those that were to come.
+pub given_in_turn : {A : Type 0} (text : A → List ℕ) (s : Placed (List A)) → YieldsList (GivesPart text) (λ part. part.value) s s.value
+given_in_turn {A} text s =
+    YieldsList-from_shown (GivesPart text) (λ part. part.value) (λ p. p.value)
+    (λ old new gives. ap length gives.0)
+    (λ old part new gives. ap (λ (p : Placed (List A)). p.value) gives.0) s

@@ -1,0 +1,51 @@
+use Rattle.std.proofs.Common.{◌≡◌, ◌+◌, List, take, drop, refl, sym, ap, subst, ◌∙◌, inr, Some}
+use Rattle.hunk_blocks.specs.Begins.{IsFrontBlock}
+use Rattle.hunk_blocks.specs.Parts.{block_text}
+use Rattle.hunk_blocks.specs.Placed.{Placed}
+use Rattle.hunk_blocks.specs.Values.{BlockValue}
+use Rattle.hunk_files.specs.InPlace.{GivesPart}
+use Rattle.hunk_files.proofs.BlocksInPlace.{first_begins, gives_last, gives_next, more_begin, none_seen, seen, some_seen}
+use Rattle.hunk_files.proofs.Taking.{part_less}
+use Rattle.hunk_files.proofs.blocks.BlockViewsIterator.next.Goals as goal
+use Rattle.hunk_files.proofs.blocks.BlockViewsIterator.next.Goals.{then-is_end, else-is_end}
+
+pub returns-then-self-clause-steps : goal.returns-then-self-clause-steps
+returns-then-self-clause-steps c = (ap (λ (p : Placed (List BlockValue)). p.value) (sym c.self.view_is) ∙ none_seen c.self.inside.bytes.now c.self.inside.at c.if-self.true, refl)
+
+pub at-block-requires : goal.at-block-requires
+at-block-requires c =
+    let bytes = c.self.inside.bytes.now in
+    let at = c.self.inside.at in
+    first_begins bytes at (some_seen bytes at c.self.invariant c.if-self.false)
+
+pub invariant_of-self-else-is_end : goal.invariant_of-self-else-is_end
+invariant_of-self-else-is_end c =
+    let bytes = c.self.inside.bytes.now in
+    let at = c.self.inside.at in
+    let x = c.at-block.result.value in
+    let front = subst (IsFrontBlock (drop at bytes) x) (sym c.encoded_len.ensures) c.at-block.ensures.block in
+    inr (more_begin bytes at (some_seen bytes at c.self.invariant c.if-self.false) x c.encoded_len.result front (sym c.is_end.ensures ∙ c.if-is_end.false))
+
+-- what was there before and behind the block
+given : (x : Placed BlockValue) (old new a b : Placed (List BlockValue)) → GivesPart block_text a (Some x) b → a ≡ old → new ≡ b → GivesPart block_text old (Some x) new
+given x old new a b gives before behind = subst (λ p. GivesPart block_text p (Some x) new) before (subst (λ p. GivesPart block_text a (Some x) p) (sym behind) gives)
+
+pub returns-clause-steps : goal.returns-clause-steps
+returns-clause-steps c =
+    let bytes = c.self.inside.bytes.now in
+    let at = c.self.inside.at in
+    let here = some_seen bytes at c.self.invariant c.if-self.false in
+    let x = c.at-block.result in
+    let n = c.encoded_len.result in
+    let front = subst (IsFrontBlock (drop at bytes) x.value) (sym c.encoded_len.ensures) c.at-block.ensures.block in
+    elim c.if-is_end.branch [
+      | then-is_end w ↦
+          given x c.args.self.now c.if-is_end.self (seen bytes at) (seen (take (at + n) bytes) (at + n))
+          (gives_last bytes at here x c.at-block.ensures.place n front (sym c.is_end.ensures ∙ w.if-is_end.true)) c.self.view_is w.self-is
+      | else-is_end w ↦
+          given x c.args.self.now c.if-is_end.self (seen bytes at) (seen bytes (at + n))
+          (gives_next bytes at here x c.at-block.ensures.place n front (sym c.is_end.ensures ∙ w.if-is_end.false)) c.self.view_is w.self-is
+    ]
+
+pub returns-clause-goes : goal.returns-clause-goes
+returns-clause-goes c = part_less block_text _ (λ s. tt) c.args.self.now _ c.at-block.result (returns-clause-steps c)

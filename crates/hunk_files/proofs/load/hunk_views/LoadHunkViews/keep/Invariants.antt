@@ -1,0 +1,10 @@
+use Rattle.std.proofs.Common.{drop, map}
+use Rattle.hunk_files.specs.InPlace.{BeginsWithHunks}
+use Rattle.hunk_files.specs.Tables.{hunk_of}
+use Rattle.hunk_files.proofs.HunksInPlace.{hunk_text, seen_hunks}
+use Rattle.hunk_files.proofs.Taking.{Taken}
+use Rattle.hunk_files.proofs.load.hunk_views.LoadHunkViews.keep.Given as goal
+
+abbrev pub invariant-keeping : goal.invariant-keeping
+invariant-keeping l =
+    BeginsWithHunks l.size-iterator (drop l.at l.bytes) × Taken hunk_text l.fn.self (seen_hunks l.size-iterator l.bytes l.at) (map hunk_of l.hunks.items)

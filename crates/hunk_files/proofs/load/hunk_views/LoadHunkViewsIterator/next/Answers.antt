@@ -1,0 +1,34 @@
+use Rattle.std.proofs.Common.{List, drop, sym, ap, ◌∙◌}
+use Rattle.hunk_blocks.specs.Placed.{Placed}
+use Rattle.hunk_files.specs.LoadFile.{TableEntry, LoadFileValue}
+use Rattle.hunk_files.specs.Tables.{size_entry}
+use Rattle.hunk_files.specs.InPlace.{hunks_in}
+use Rattle.hunk_files.proofs.HunksInPlace.{hunk_gives, hunk_text, hunks_in-nil, next_hunk_of}
+use Rattle.hunk_files.proofs.Taking.{part_less}
+use Rattle.hunk_files.proofs.load.hunk_views.LoadHunkViewsIterator.next.Goals as goal
+
+pub returns-in_default-clause-steps : goal.returns-in_default-clause-steps
+returns-in_default-clause-steps c =
+    let none = c.in_default.ensures.steps in
+    let bytes = drop c.self.inside.at c.self.inside.bytes.now in (
+      ap (λ (p : Placed LoadFileValue). p.value) (sym c.self.view_is) ∙ ap (λ (es : List TableEntry). hunks_in es bytes) none.0 ∙ hunks_in-nil bytes,
+      ap (λ (es : List TableEntry). record { place = c.self.inside.at; value = hunks_in es bytes }) (none.1 ∙ sym none.0) ∙ c.self.view_is,
+    )
+
+pub behind_hunk-self-inside-requires : goal.behind_hunk-self-inside-requires
+behind_hunk-self-inside-requires c = (next_hunk_of c.self.inside.table (size_entry c.in-Some.size) c.next.new.self c.self.inside.bytes.now c.self.inside.at c.in-Some.ensures.steps c.self.invariant).here
+
+pub invariant_of-result : goal.invariant_of-result
+invariant_of-result c = (next_hunk_of c.self.inside.table (size_entry c.in-Some.size) c.next.new.self c.self.inside.bytes.now c.self.inside.at c.in-Some.ensures.steps c.self.invariant).here
+
+pub invariant_of-self-2 : goal.invariant_of-self-2
+invariant_of-self-2 c = let n = next_hunk_of c.self.inside.table (size_entry c.in-Some.size) c.next.new.self c.self.inside.bytes.now c.self.inside.at c.in-Some.ensures.steps c.self.invariant in n.left c.behind_hunk-self-inside.result (c.behind_hunk-self-inside.ensures n.here)
+
+pub returns-clause-steps : goal.returns-clause-steps
+returns-clause-steps c =
+    let n = next_hunk_of c.self.inside.table (size_entry c.in-Some.size) c.next.new.self c.self.inside.bytes.now c.self.inside.at c.in-Some.ensures.steps c.self.invariant in
+    let gives = hunk_gives c.self.inside.table (size_entry c.in-Some.size) c.next.new.self c.self.inside.bytes.now c.self.inside.at n c.behind_hunk-self-inside.result (c.behind_hunk-self-inside.ensures n.here) in
+    (sym c.self.view_is ∙ gives.0, gives.1)
+
+pub returns-clause-goes : goal.returns-clause-goes
+returns-clause-goes c = part_less hunk_text _ (λ s. tt) c.args.self.now _ _ (returns-clause-steps c)

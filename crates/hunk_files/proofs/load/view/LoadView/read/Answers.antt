@@ -1,0 +1,37 @@
+use Rattle.std.proofs.Common.{sym, ap, subst, ◌∙◌}
+use Rattle.std.proofs.lemmas.Result.{err_from_is_err_and}
+use Rattle.hunk_words.specs.Longs.{bytes_of}
+use Rattle.hunk_files.specs.LoadFile.{LoadFileValue, IsLoadFile}
+use Rattle.hunk_files.specs.LoadText.{text}
+use Rattle.hunk_files.proofs.LoadCuts.{begins, load_value}
+use Rattle.hunk_files.proofs.Refusals.{fault_not_memory, fault_of_load}
+use Rattle.hunk_files.proofs.Scan.{no_fault}
+use Rattle.hunk_files.proofs.load.view.LoadView.read.Goals as goal
+
+pub returns-in_err-size-clause-none : goal.returns-in_err-size-clause-none
+returns-in_err-size-clause-none c =
+    let p = err_from_is_err_and c.from_residual.result c.from_residual.ensures.1 in
+    rw p.1 (λ file. no_fault c.args.bytes.now c.in_err-size.field-0.0.place c.in_err-size.field-0.0.reason file c.in_err-size.ensures)
+
+pub returns-in_err-size-clause-memory : goal.returns-in_err-size-clause-memory
+returns-in_err-size-clause-memory c =
+    let p = err_from_is_err_and c.from_residual.result c.from_residual.ensures.1 in
+    rw (p.1, p.2) (fault_not_memory c.args.bytes.now c.in_err-size.field-0.0.place c.in_err-size.field-0.0.reason c.in_err-size.ensures)
+
+pub returns-in_err-size-clause-own_reasons : goal.returns-in_err-size-clause-own_reasons
+returns-in_err-size-clause-own_reasons c =
+    let p = err_from_is_err_and c.from_residual.result c.from_residual.ensures.1 in
+    rw (p.1, p.2) (fault_of_load c.args.bytes.now c.in_err-size.field-0.0.place c.in_err-size.field-0.0.reason c.in_err-size.ensures)
+
+pub invariant_of-result : goal.invariant_of-result
+invariant_of-result c = begins c.args.bytes.now c.in_ok-size.size c.in_ok-size.ensures
+
+pub returns-clause-valid : goal.returns-clause-valid
+returns-clause-valid c =
+    let file = begins c.args.bytes.now c.in_ok-size.size c.in_ok-size.ensures in
+    subst IsLoadFile (sym (load_value c.args.bytes.now file)) file.is_load_file
+
+pub returns-clause-text : goal.returns-clause-text
+returns-clause-text c =
+    let file = begins c.args.bytes.now c.in_ok-size.size c.in_ok-size.ensures in
+    c.in_ok-size.ensures.text_is ∙ ap (λ (v : LoadFileValue). bytes_of (text v)) (sym (load_value c.args.bytes.now file))

@@ -1,0 +1,58 @@
+use Rattle.std.proofs.Common.{◌≡◌, ◌∷◌, ◌++◌, [], List, arith, rules, subst, sym}
+use Rattle.std.proofs.lemmas.Result.{err_from_is_err_and}
+use Rattle.hunk_words.specs.Longs.{longs}
+use Rattle.hunk_files.specs.ObjectFile.{ObjectHunk, ObjectFileValue, IsUnit, unit_text}
+use Rattle.hunk_files.specs.ObjectViews.{units_at}
+use Rattle.hunk_files.proofs.Taking.{Taken}
+use Rattle.hunk_files.proofs.UnitKeeping.{are_unit, nearer, part_of_unit, some_behind, unit_kept, unit_lacks, units_behind, units_kept}
+use Rattle.hunk_files.proofs.UnitReading.{unit}
+use Rattle.hunk_files.proofs.UnitViewLaws.{next_unit, unit_hunks}
+use Rattle.hunk_files.proofs.object.unit_view.UnitViews.keep.Goals as goal
+
+pub read_header-name-requires : goal.read_header-name-requires
+read_header-name-requires c = next_unit c.self.inside.bytes.now c.keeping.at c.keeping.invariant.0 (omega arith)
+
+pub at-requires : goal.at-requires
+at-requires c =
+    let here = next_unit c.self.inside.bytes.now c.keeping.at c.keeping.invariant.0 (omega arith) in
+    unit_hunks c.self.inside.bytes.now c.keeping.at here (longs c.read_header-name.result.0) c.read_header-name.result.1 (c.read_header-name.ensures here)
+
+pub returns-in_err-hunks-clause-place : goal.returns-in_err-hunks-clause-place
+returns-in_err-hunks-clause-place c =
+    let p = err_from_is_err_and c.from_residual.result c.from_residual.ensures.1 in
+    rw (p.1, p.2)
+    (part_of_unit c.self.inside.bytes.now c.keeping.at c.keeping.invariant.0 (omega arith) (longs c.read_header-name.result.0) c.read_header-name.result.1 c.read_header-name.ensures c.at.result c.at.ensures c.args.self c.keeping.units.items c.keeping.invariant.1
+    c.in_err-hunks.field-0.0.place c.in_err-hunks.ensures.place)
+
+pub invariant_of-push : goal.invariant_of-push
+invariant_of-push c =
+    subst (λ (hs : List ObjectHunk). IsUnit (unit (longs c.read_header-name.result.0) hs)) (sym c.in_ok-hunks.ensures.kept)
+    (are_unit c.self.inside.bytes.now c.keeping.at c.keeping.invariant.0 (omega arith) (longs c.read_header-name.result.0) c.read_header-name.result.1 c.read_header-name.ensures c.at.result c.at.ensures)
+
+pub out_of_memory-requires : goal.out_of_memory-requires
+out_of_memory-requires c =
+    some_behind c.self.inside.bytes.now c.keeping.at c.keeping.invariant.0 (omega arith) (longs c.read_header-name.result.0) c.read_header-name.result.1 c.read_header-name.ensures c.at.result c.at.ensures c.args.self c.keeping.units.items c.keeping.invariant.1
+    c.in_ok-hunks.end c.in_ok-hunks.ensures.end
+
+pub returns-then-is_err-clause-place : goal.returns-then-is_err-clause-place
+returns-then-is_err-clause-place c =
+    unit_lacks c.self.inside.bytes.now c.keeping.at c.keeping.invariant.0 (omega arith) (longs c.read_header-name.result.0) c.read_header-name.result.1 c.read_header-name.ensures c.at.result c.at.ensures c.args.self c.keeping.units.items c.keeping.invariant.1
+    c.in_ok-hunks.end c.in_ok-hunks.ensures.end c.out_of_memory.result.place c.out_of_memory.ensures.place
+
+pub keeping-smaller : goal.keeping-smaller
+keeping-smaller c =
+    nearer c.self.inside.bytes.now c.keeping.at c.keeping.invariant.0 (omega arith) (longs c.read_header-name.result.0) c.read_header-name.result.1 c.read_header-name.ensures c.at.result c.at.ensures c.args.self c.keeping.units.items c.keeping.invariant.1
+    c.in_ok-hunks.end c.in_ok-hunks.ensures.end
+
+pub keeping-preserved : goal.keeping-preserved
+keeping-preserved c =
+    let pushed : c.push.new.self.items ≡ c.keeping.units.items ++ unit (longs c.read_header-name.result.0) c.at.result.value ∷ [] = search rules in (
+      units_behind c.self.inside.bytes.now c.keeping.at c.keeping.invariant.0 (omega arith) (longs c.read_header-name.result.0) c.read_header-name.result.1 c.read_header-name.ensures c.at.result c.at.ensures c.args.self c.keeping.units.items c.keeping.invariant.1
+          c.in_ok-hunks.end c.in_ok-hunks.ensures.end,
+      subst (λ (us : ObjectFileValue). Taken unit_text c.args.self (units_at c.self.inside.bytes.now c.in_ok-hunks.end) us) (sym pushed)
+          (unit_kept c.self.inside.bytes.now c.keeping.at c.keeping.invariant.0 (omega arith) (longs c.read_header-name.result.0) c.read_header-name.result.1 c.read_header-name.ensures c.at.result c.at.ensures c.args.self c.keeping.units.items c.keeping.invariant.1
+          c.in_ok-hunks.end c.in_ok-hunks.ensures.end),
+    )
+
+pub returns-clause-kept : goal.returns-clause-kept
+returns-clause-kept c = units_kept c.self.inside.bytes.now c.keeping.at c.keeping.invariant.0 (omega arith) c.args.self c.keeping.units.items c.keeping.invariant.1

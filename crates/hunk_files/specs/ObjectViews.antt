@@ -1,0 +1,52 @@
+-- The units and hunks of an object file, read where they lie.
+use Rattle.std.specs.Prelude.{◌≡◌, ℕ, ◌+◌, ◌*◌, List, [], length, drop}
+use Rattle.hunk_words.specs.Longs.{longs}
+use Rattle.hunk_files.specs.Cuts.{hunk_cut}
+use Rattle.hunk_files.specs.Hunks.{HunkAt, block_texts}
+use Rattle.hunk_blocks.specs.Placed.{Placed}
+use Rattle.hunk_files.specs.InPlace.{StandAt}
+use Rattle.hunk_files.specs.ObjectFile.{ObjectHunk, UnitValue, ObjectFileValue, IsObjectHunk, IsUnit, unit_text}
+use Rattle.hunk_files.specs.UnitCuts.{hunks_cut, unit_cut, units_cut}
+use Rattle.hunk_files.specs.Units.{EndsUnit, UnitAt}
+
+-- ---- hunks and units that stand in bytes
+
+-- From this byte on stand hunks, behind which their unit ends.
+pub record HunksAt (bytes : List ℕ) (start : ℕ) : Type 0 where
+  pub hunks : List ObjectHunk
+  pub rest : List ℕ
+  pub stand : StandAt IsObjectHunk block_texts bytes start hunks rest
+  pub next : EndsUnit rest
+
+-- From this byte on the bytes are units.
+pub record UnitsAt (bytes : List ℕ) (start : ℕ) : Type 0 where
+  pub units : ObjectFileValue
+  pub stand : StandAt IsUnit unit_text bytes start units []
+
+-- ---- what stands at a byte, by its longwords
+
+abbrev pub hunk_at : List ℕ → ℕ → Placed ObjectHunk
+hunk_at bytes start = record { place = start; value = (hunk_cut (longs (drop start bytes))).value }
+
+abbrev pub hunks_at : List ℕ → ℕ → Placed (List ObjectHunk)
+hunks_at bytes start = record { place = start; value = (hunks_cut (longs (drop start bytes))).value }
+
+abbrev pub unit_at : List ℕ → ℕ → Placed UnitValue
+unit_at bytes start = record { place = start; value = (unit_cut (longs (drop start bytes))).value }
+
+abbrev pub units_at : List ℕ → ℕ → Placed ObjectFileValue
+units_at bytes start = record { place = start; value = (units_cut (longs (drop start bytes))).value }
+
+-- the units that the bytes are
+abbrev pub units_of : List ℕ → ObjectFileValue
+units_of bytes = (units_cut (longs bytes)).value
+
+-- ---- parts whose end is known
+
+-- A hunk stands at this byte, and ends at that.
+abbrev pub IsHunkWithin : List ℕ → ℕ → ℕ → Type 0
+IsHunkWithin bytes start end = HunkAt bytes start × (end ≡ start + 4 * length (block_texts (hunk_at bytes start).value))
+
+-- A unit stands at this byte, and ends at that.
+abbrev pub IsUnitWithin : List ℕ → ℕ → ℕ → Type 0
+IsUnitWithin bytes start end = UnitAt bytes start × (end ≡ start + 4 * length (unit_text (unit_at bytes start).value))

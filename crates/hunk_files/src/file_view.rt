@@ -1,0 +1,121 @@
+//! A load file or an object file, as its first longword announces, read where it lies.
+ghost use Rattle.std.specs.Prelude.{◌≡◌, ◌≢◌, IfErr, IfOk};
+ghost use Rattle.hunk_words.specs.Longs.{longs};
+ghost use Rattle.hunk_words.specs.declared.reason.Reason.TheVariants as reasons;
+ghost use Rattle.hunk_scan.specs.FileKind.{sniffed};
+ghost use Rattle.hunk_files.specs.Fault.{BeginsWithLoadFile};
+ghost use Rattle.hunk_files.specs.FileView.{file_of};
+ghost use Rattle.hunk_files.specs.HunkFile.{AreFile, AreObjectFile, IsFileOf, IsLoadRefusal};
+ghost use Rattle.hunk_files.specs.HunkFile.{EndsFilePart, IsObjectRefusal, IsRefusal, bytes_behind};
+ghost use Rattle.hunk_files.specs.HunkFile.{file_bytes, stripped};
+ghost use Rattle.hunk_files.specs.Lacks.{EndsAt};
+
+use crate::hunk_file::HunkFile;
+use crate::load::LoadView;
+use crate::object::ObjectView;
+use crate::ranges::TakesBytes;
+use crate::sniffing::sniff;
+use hunk_scan::Sniff;
+use hunk_words::FileFault;
+use std::alloc::Global;
+
+/// A file of either kind, as `read` finds it in the input, whose parts are read as they are asked
+/// for. It takes no memory.
+#[derive(Drop)]
+pub enum FileView<'a> {
+    /// A load file, and the number of bytes that follow it.
+    Load { file: LoadView<'a>, rest: u64 },
+    /// An object file, which all of the bytes are.
+    Object(ObjectView<'a>),
+}
+
+impl<'a> FileView<'a> {
+    /// The file that the bytes are, or begin with.
+    ///
+    /// Where `sniff` answers `Object` it is the object file that all of the bytes are; whatever
+    /// else it answers, it is the load file that they begin with. It takes no memory.
+    ///
+    /// # Errors
+    ///
+    /// The fault that `ObjectView::read` or `LoadView::read` answers, with its place in bytes from
+    /// the start of the input.
+    pub fn read(bytes: &'a [u8]) -> Result<FileView<'a>, FileFault>
+        ensures file { IfOk result (λ file. IsFileOf bytes.entry.now (file_of file)) }
+        ensures none { IfErr result (λ fault. AreFile bytes.entry.now → ⊥) }
+        ensures refused { IfErr result
+            (IsRefusal (sniffed (longs bytes.entry.now)) bytes.entry.now) }
+        ensures memory { IfErr result (λ fault. fault.reason ≢ reasons.OutOfMemory) }
+    {
+        match sniff(bytes) {
+            Sniff::Object => read_object(bytes),
+            Sniff::Load | Sniff::Library | Sniff::Other => read_load(bytes),
+        }
+    }
+
+    /// The number of bytes that follow the file.
+    pub fn rest(&self) -> u64
+        ensures { result ≡ bytes_behind (file_of self.now) }
+    {
+        match self {
+            FileView::Load { file: _, rest } => *rest,
+            FileView::Object(_) => 0,
+        }
+    }
+
+    /// Hands over the text of the file without its NAME, SYMBOL, DEBUG and ADVISORY blocks, in
+    /// ranges of the input: each as long as it can be. It takes no memory.
+    pub fn strip_with<T: TakesBytes>(&self, taker: &mut T)
+        ensures { T.takes taker.old (file_bytes (stripped (file_of self.now))) taker.new }
+    {
+        match self {
+            FileView::Load { file, rest: _ } => file.strip_with(taker),
+            FileView::Object(file) => file.strip_with(taker),
+        }
+    }
+
+    /// The file with its parts in lists.
+    ///
+    /// # Errors
+    ///
+    /// `OutOfMemory` at the last longword of the part for which no memory was found.
+    pub(crate) fn keep(self, alloc: Global) -> Result<HunkFile<'a>, FileFault>
+        ensures kept { IfOk result (λ file. file ≡ file_of self.entry) }
+        ensures memory { IfErr result (λ fault. fault.reason ≡ reasons.OutOfMemory) }
+        ensures place { IfErr result (λ fault.
+            EndsAt (EndsFilePart (file_of self.entry)) 0 fault.place) }
+    {
+        match self {
+            FileView::Load { file, rest } => {
+                let file = file.keep(alloc)?;
+                Ok(HunkFile::Load { file, rest })
+            }
+            FileView::Object(file) => {
+                let file = file.keep(alloc)?;
+                Ok(HunkFile::Object(file))
+            }
+        }
+    }
+}
+
+/// The load file that the bytes begin with, and how many follow it.
+fn read_load(bytes: &[u8]) -> Result<FileView<'_>, FileFault>
+    ensures file { IfOk result (λ file. IsFileOf bytes.entry.now (file_of file)) }
+    ensures none { IfErr result (λ fault. BeginsWithLoadFile bytes.entry.now → ⊥) }
+    ensures refused { IfErr result (IsLoadRefusal bytes.entry.now) }
+    ensures memory { IfErr result (λ fault. fault.reason ≢ reasons.OutOfMemory) }
+{
+    let (file, size) = LoadView::read(bytes)?;
+    let rest = (bytes.len() - size) as u64;
+    Ok(FileView::Load { file, rest })
+}
+
+/// The object file that the bytes are.
+fn read_object(bytes: &[u8]) -> Result<FileView<'_>, FileFault>
+    ensures file { IfOk result (λ file. IsFileOf bytes.entry.now (file_of file)) }
+    ensures none { IfErr result (λ fault. AreObjectFile bytes.entry.now → ⊥) }
+    ensures refused { IfErr result (IsObjectRefusal bytes.entry.now) }
+    ensures memory { IfErr result (λ fault. fault.reason ≢ reasons.OutOfMemory) }
+{
+    let file = ObjectView::read(bytes)?;
+    Ok(FileView::Object(file))
+}

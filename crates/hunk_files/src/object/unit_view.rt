@@ -1,0 +1,179 @@
+//! The units of an object file, read where they lie.
+ghost use Rattle.std.specs.Prelude.{◌≡◌, ◌+◌, ◌*◌, ◌^◌, ◌<◌, IfErr, IfOk, length};
+ghost use Rattle.std.specs.Iterator.{item_count};
+ghost use Rattle.hunk_words.specs.Longs.{longs};
+ghost use Rattle.hunk_words.specs.declared.reason.Reason.TheVariants as reasons;
+ghost use Rattle.hunk_files.specs.InPlace.{GivesPart};
+ghost use Rattle.hunk_files.specs.Lacks.{EndsAt, EndsObjectPart};
+ghost use Rattle.hunk_files.specs.Hunks.{IsRead, block_texts};
+ghost use Rattle.hunk_files.specs.ObjectFile.{IsUnit, unit_header, unit_text};
+ghost use Rattle.hunk_files.specs.ObjectViews.{UnitsAt, units_at};
+ghost use Rattle.hunk_files.specs.Units.{UnitAt};
+
+use crate::object::hunk_view::HunkViews;
+use crate::object::unit::Unit;
+use crate::place::out_of_memory;
+use hunk_blocks::Payload;
+use hunk_words::{FileFault, word_at};
+use std::alloc::Global;
+use std::marker::Model;
+
+/// The name in the header of the unit that stands at `start`, and the byte behind the header (The
+/// AmigaDOS Manual, `dos/doshunks.h`).
+pub(super) fn read_header(bytes: &[u8], start: usize) -> (Payload<'_>, usize)
+    requires { UnitAt bytes.now start }
+    ensures { (here : UnitAt bytes.entry.now start) →
+        IsRead unit_header here.unit.name start (longs result.0) result.1 }
+{
+    let unit = &bytes[start..];
+    let end = 8 + 4 * word_at(unit, 1) as usize;
+    (Payload::of(&unit[8..end]), start + end)
+}
+
+/// A unit of an object file, as it lies in the input. Contracts see its name, in longwords, the
+/// list of its hunks, and the byte of the input at which it begins.
+///
+/// A unit may have no hunks: this project's own choice.
+#[derive(Drop)]
+pub struct UnitView<'a> {
+    bytes: &'a [u8],
+    place: usize,
+    end: usize,
+}
+
+impl<'a> Model for UnitView<'a> {
+    ghost use Rattle.hunk_files.specs.ObjectFile.{UnitValue};
+    ghost use Rattle.hunk_blocks.specs.Placed.{Placed};
+    ghost use Rattle.hunk_files.specs.ObjectViews.{IsUnitWithin, unit_at};
+
+    ghost Value = { Placed UnitValue };
+
+    ghost view = { λ s. unit_at s.bytes.now s.place };
+
+    ghost invariant = { λ s. IsUnitWithin s.bytes.now s.place s.end };
+}
+
+impl<'a> UnitView<'a> {
+    /// The byte of the input at which the unit begins.
+    pub fn place(&self) -> u64
+        ensures { result ≡ self.now.place }
+    {
+        self.place as u64
+    }
+
+    /// The length of the unit's text in bytes.
+    pub fn encoded_len(&self) -> u64
+        ensures value { result ≡ 4 * length (unit_text self.now.value) }
+        ensures unit { IsUnit self.now.value }
+    {
+        (self.end - self.place) as u64
+    }
+
+    /// The name that stands in the unit's header, padded with zero bytes to whole longwords.
+    pub fn name(&self) -> Payload<'a>
+        ensures value { longs result ≡ self.now.value.name }
+        ensures unit { IsUnit self.now.value }
+    {
+        let (name, _) = read_header(self.bytes, self.place);
+        name
+    }
+
+    /// The hunks, in file order. There may be none.
+    pub fn hunks(&self) -> HunkViews<'a>
+        ensures value { result.value ≡ self.now.value.hunks }
+        ensures place { result.place
+            ≡ self.now.place + 4 * length (unit_header self.now.value.name) }
+        ensures few { 4 * length result.value < 2 ^ 64 }
+        ensures unit { IsUnit self.now.value }
+    {
+        let (_, hunks) = read_header(self.bytes, self.place);
+        HunkViews::at(self.bytes, hunks)
+    }
+}
+
+/// The units of an object file that are still to come. Contracts see them as a list, each with the
+/// byte of the input at which it begins.
+#[derive(Drop)]
+pub struct UnitViews<'a> {
+    bytes: &'a [u8],
+    at: usize,
+}
+
+impl<'a> Model for UnitViews<'a> {
+    ghost use Rattle.hunk_files.specs.ObjectFile.{ObjectFileValue};
+    ghost use Rattle.hunk_blocks.specs.Placed.{Placed};
+    ghost use Rattle.hunk_files.specs.ObjectViews.{UnitsAt, units_at};
+
+    ghost Value = { Placed ObjectFileValue };
+
+    ghost view = { λ s. units_at s.bytes.now s.at };
+
+    ghost invariant = { λ s. UnitsAt s.bytes.now s.at };
+}
+
+impl<'a> UnitViews<'a> {
+    /// The units that stand from this byte on, up to the end of the bytes.
+    pub(crate) fn at(bytes: &'a [u8], start: usize) -> UnitViews<'a>
+        requires { UnitsAt bytes.now start }
+        ensures { result ≡ units_at bytes.entry.now start }
+    {
+        UnitViews { bytes, at: start }
+    }
+
+    /// The byte of the input at which the next unit begins, or behind the last the byte at which the
+    /// file ends.
+    #[inline(always)]
+    pub fn place(&self) -> u64
+        ensures { result ≡ self.now.place }
+    {
+        self.at as u64
+    }
+
+    /// The units in a list.
+    ///
+    /// # Errors
+    ///
+    /// `OutOfMemory` at the last longword of the part of a unit for which no memory was found.
+    pub(super) fn keep(self, alloc: Global) -> Result<Vec<Unit<'a>>, FileFault>
+        ensures kept { IfOk result (λ units. units.items ≡ self.entry.value) }
+        ensures memory { IfErr result (λ fault. fault.reason ≡ reasons.OutOfMemory) }
+        ensures place { IfErr result (λ fault.
+            EndsAt (EndsObjectPart self.entry.value) self.entry.place fault.place) }
+    {
+        let bytes = self.bytes;
+        let mut units = Vec::new(alloc);
+        let mut at = self.at;
+        'keeping: while at < bytes.len() {
+            let (name, start) = read_header(bytes, at);
+            let (hunks, end) = HunkViews::at(bytes, start).keep(alloc)?;
+            at = end;
+            if units.push(Unit { name, hunks }).is_err() {
+                return Err(out_of_memory(at));
+            }
+        }
+        Ok(units)
+    }
+}
+
+impl<'a> Iterator for UnitViews<'a> {
+    type Item = UnitView<'a>;
+
+    ghost next_gives = { GivesPart unit_text };
+
+    ghost remaining = { item_count (λ units. units.value) };
+
+    fn next(&mut self) -> Option<UnitView<'a>> {
+        if self.at >= self.bytes.len() {
+            return None;
+        }
+        let place = self.at;
+        let (_, hunks) = read_header(self.bytes, place);
+        let end = HunkViews::at(self.bytes, hunks).end();
+        self.at = end;
+        Some(UnitView {
+            bytes: self.bytes,
+            place,
+            end,
+        })
+    }
+}
