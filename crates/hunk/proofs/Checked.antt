@@ -25,31 +25,13 @@ number_is a b e = ap (λ (x : Answer). x.number) e
 
 -- ---- where a file is refused
 
-module _ (bytes : List ℕ) (answer : Answer) (f : Fault) (none : f.reason ≢ reasons.OutOfMemory → AreFile bytes → ⊥)
-    (refusal : f.reason ≢ reasons.OutOfMemory → IsRefusal (sniffed (longs bytes)) bytes f)
-    (memory : f.reason ≡ reasons.OutOfMemory → IsMemory (sniffed (longs bytes)) bytes f.place) (told : answer ≡ refused f) where
-  abbrev Fails : Type 0
-  Fails = AreNoFile bytes f ⊎ ((f.reason ≡ reasons.OutOfMemory) × IsMemory (sniffed (longs bytes)) bytes f.place)
+pub strip_refused : (bytes : List ℕ) (answer : Answer) (f : Fault) → (AreFile bytes → ⊥) → IsRefusal (sniffed (longs bytes)) bytes f → answer ≡ refused f →
+    (text : List ℕ) → Strips bytes text text answer
+strip_refused bytes answer f none refusal told text = strips.HasNoFile f (refusal, none) refl told
 
-  fails : Fails
-  fails = faulted bytes f.place f.reason none refusal memory
-
-  out_of_memory : f.reason ≡ reasons.OutOfMemory → answer ≡ refused (record { place = f.place; reason = reasons.OutOfMemory })
-  out_of_memory e = told ∙ ap (λ (r : Reason). refused (record { place = f.place; reason = r })) e
-
-  pub check_refused : (rows : List FindingRow) → Checks bytes rows rows answer
-  check_refused rows = go fails
-    where
-      go : Fails → Checks bytes rows rows answer
-      go (inl absent) = checks.HasNoFile f absent refl told
-      go (inr (e, lacks)) = checks.HasNoMemory f.place (inl lacks) refl (out_of_memory e)
-
-  pub strip_refused : (text : List ℕ) → Strips bytes text text answer
-  strip_refused text = go fails
-    where
-      go : Fails → Strips bytes text text answer
-      go (inl absent) = strips.HasNoFile f absent refl told
-      go (inr (e, lacks)) = strips.HasNoMemory f.place (inl lacks) refl (out_of_memory e)
+pub check_refused : (bytes : List ℕ) (answer : Answer) (f : Fault) → (AreFile bytes → ⊥) → IsRefusal (sniffed (longs bytes)) bytes f → answer ≡ refused f →
+    (rows : List FindingRow) → Checks bytes rows rows answer
+check_refused bytes answer f none refusal told rows = checks.HasNoFile f (refusal, none) refl told
 
 -- ---- where a load file is accepted
 
@@ -62,15 +44,13 @@ check_load bytes rows answer file value rest hunks size is load count end told =
 -- ---- where there is room
 
 pub checks_what_fits : (bytes : List ℕ) (old new : List FindingRow) (answer : Answer) → Checks bytes old new answer → ChecksWhatFits (length old) bytes answer
-checks_what_fits bytes old new answer (checks.HasFindings a is fits same told) b ok room = inl (number_is _ _ told)
+checks_what_fits bytes old new answer (checks.HasFindings a is fits same told) b ok room = number_is _ _ told
 checks_what_fits bytes old new answer (checks.HasNoRows a is less same told) b ok room =
     absurd (omega (arith, less, room, ap (λ (x : HunkFile). length (findings_in x)) (one_file bytes a b is ok)))
 checks_what_fits bytes old new answer (checks.HasNoFile f absent same told) b ok room = absurd (absent.1 (are_file bytes b ok))
-checks_what_fits bytes old new answer (checks.HasNoMemory at lacks same told) b ok room = inr (number_is _ _ told)
 
 pub strips_what_fits : (bytes old new : List ℕ) (answer : Answer) → Strips bytes old new answer → StripsWhatFits (length old) bytes answer
-strips_what_fits bytes old new answer (strips.HasStripped a is fits same told) b ok room = inl (number_is _ _ told)
+strips_what_fits bytes old new answer (strips.HasStripped a is fits same told) b ok room = number_is _ _ told
 strips_what_fits bytes old new answer (strips.HasNoText a is less same told) b ok room =
     absurd (omega (arith, less, room, ap (λ (x : HunkFile). length (stripped_bytes x)) (one_file bytes a b is ok)))
 strips_what_fits bytes old new answer (strips.HasNoFile f absent same told) b ok room = absurd (absent.1 (are_file bytes b ok))
-strips_what_fits bytes old new answer (strips.HasNoMemory at lacks same told) b ok room = inr (number_is _ _ told)

@@ -1,5 +1,5 @@
 -- Bytes are one file, or begin with one.
-use Rattle.std.proofs.Common.{◌≡◌, ◌≢◌, ℕ, ◌+◌, ◌<◌, List, [], ◌∷◌, ◌++◌, length, get_or, refl, sym, ap, ap₂, ◌∙◌, append-nil, arith, length-append, ◌⊎◌, inl, inr}
+use Rattle.std.proofs.Common.{◌≡◌, ◌≢◌, ℕ, ◌+◌, ◌<◌, ◌≤◌, List, [], ◌∷◌, ◌++◌, length, get_or, refl, sym, ap, ap₂, ◌∙◌, append-nil, arith, length-append, ◌⊎◌, inl, inr}
 use Rattle.std.specs.List.{flat_map}
 use Rattle.hunk_words.specs.Longs.{AreLongs, IsLong, bytes_of, longs}
 use Rattle.hunk_words.specs.declared.reason.Reason.{Reason}
@@ -11,15 +11,17 @@ use Rattle.hunk_blocks.proofs.BlockLongs.{block_longs}
 use Rattle.hunk_blocks.proofs.Lists.{All-append}
 use Rattle.hunk_scan.specs.FileKind.{sniffed}
 use Rattle.hunk_files.specs.Fault.{BeginsWithLoadFile}
-use Rattle.hunk_files.specs.HunkFile.{AreFile, AreObjectFile, IsFileOf, IsMemory, IsRefusal, bytes_behind, file_bytes}
+use Rattle.hunk_files.specs.HunkFile.{AreFile, AreObjectFile, IsFileOf, IsMemory, IsRefusal, bytes_behind, file_bytes, stripped}
 use Rattle.hunk_files.specs.LoadFile.{LoadFileValue}
 use Rattle.hunk_files.specs.LoadText.{text}
 use Rattle.hunk_files.specs.ObjectFile.{ObjectFileValue, ObjectHunk, UnitValue, IsObjectHunk, IsUnit, object_text, unit_header, unit_text}
 use Rattle.hunk_files.specs.declared.hunk_file.HunkFile.{HunkFile}
 use Rattle.hunk_files.specs.declared.hunk_file.HunkFile.TheVariants as files
 use Rattle.hunk_files.proofs.Accepted.{All-flat_map}
-use Rattle.hunk_files.proofs.ObjectText.{object_value}
+use Rattle.hunk_files.proofs.UnitCutLaws.{object_value}
 use Rattle.hunk_files.proofs.Scan.{begun_longs, one_front}
+use Rattle.hunk_files.proofs.StripSteps.{shorter}
+use Rattle.hunk_files.proofs.StripText.{bytes_shorter}
 use Rattle.hunk_files.proofs.TableReading.{text_is}
 use Rattle.hunk.specs.Files.{AreNoFile}
 
@@ -96,6 +98,11 @@ file_size bytes (files.Object value) is =
 -- an object file is all of the bytes
 pub object_size : (bytes : List ℕ) (o : ObjectFileValue) → IsFileOf bytes (files.Object o) → length bytes ≡ length (file_bytes (files.Object o))
 object_size bytes o is = omega (arith, file_size bytes (files.Object o) is)
+
+-- no more stays of the file than there was
+pub stripped_fits : (bytes : List ℕ) (file : HunkFile) → IsFileOf bytes file → length (file_bytes (stripped file)) ≤ length bytes
+stripped_fits bytes (files.Load value rest) is = omega (arith, file_size bytes (files.Load value rest) is, bytes_shorter value)
+stripped_fits bytes (files.Object value) is = omega (arith, file_size bytes (files.Object value) is, shorter value)
 
 -- ---- bytes that are refused
 

@@ -1,17 +1,14 @@
 -- What is wrong with a file, in the caller's rows.
-use Rattle.std.specs.Prelude.{◌≡◌, ℕ, ◌<◌, ◌≤◌, List, ◌++◌, length, map, drop, ◌⊎◌}
-use Rattle.hunk_words.specs.Longs.{longs}
+use Rattle.std.specs.Prelude.{◌≡◌, ℕ, ◌<◌, ◌≤◌, List, ◌++◌, length, map, drop}
 use Rattle.hunk_words.specs.declared.fault.Fault.{Fault}
-use Rattle.hunk_words.specs.declared.reason.Reason.TheVariants as reasons
-use Rattle.hunk_scan.specs.FileKind.{sniffed}
 use Rattle.hunk_files.specs.Findings.{FindingValue}
-use Rattle.hunk_files.specs.HunkFile.{AreObjectFile, IsFileOf, IsMemory, file_bytes}
+use Rattle.hunk_files.specs.HunkFile.{IsFileOf, file_bytes}
 use Rattle.hunk_files.specs.declared.hunk_file.HunkFile.{HunkFile}
 use Rattle.hunk_files.specs.declared.object.check.FindingKind.{FindingKind}
 use Rattle.hunk_files.specs.declared.object.check.FindingKind.TheVariants.{BadTarget, OutsideHunk}
 use Rattle.hunk.specs.declared.answer.Answer.{Answer}
 use Rattle.hunk.specs.declared.check.FindingRow.{FindingRow}
-use Rattle.hunk.specs.Answers.{refused, no_room, done, IsDoneOrOutOfMemory}
+use Rattle.hunk.specs.Answers.{refused, no_room, done}
 use Rattle.hunk.specs.Files.{AreNoFile, findings_in, hunks_in}
 
 abbrev pub kind_number : FindingKind → ℕ
@@ -22,10 +19,6 @@ kind_number OutsideHunk = 2
 abbrev pub finding_row : FindingValue → FindingRow
 finding_row f = record { unit = f.unit; hunk = f.hunk; offset = f.offset; fault = kind_number f.fault }
 
--- Memory ran out: for what the longword here completes, or, at the end of an object file, for what is wrong with it.
-abbrev pub LacksMemoryToCheck : List ℕ → ℕ → Type 0
-LacksMemoryToCheck bytes at = IsMemory (sniffed (longs bytes)) bytes at ⊎ (AreObjectFile bytes × (at ≡ length bytes))
-
 -- What a check comes to. The rows begin with what is wrong with the file, and what lies after that is as it was; or all are as they were.
 pub data Checks (bytes : List ℕ) (old new : List FindingRow) (answer : Answer) : Type 0 where
   HasFindings : (file : HunkFile) → IsFileOf bytes file → length (findings_in file) ≤ length old
@@ -34,10 +27,8 @@ pub data Checks (bytes : List ℕ) (old new : List FindingRow) (answer : Answer)
   HasNoRows : (file : HunkFile) → IsFileOf bytes file → length old < length (findings_in file) → new ≡ old
       → answer ≡ no_room (hunks_in file) (length (file_bytes file)) (length (findings_in file)) → Checks bytes old new answer
   HasNoFile : (f : Fault) → AreNoFile bytes f → new ≡ old → answer ≡ refused f → Checks bytes old new answer
-  HasNoMemory : (at : ℕ) → LacksMemoryToCheck bytes at → new ≡ old
-      → answer ≡ refused (record { place = at; reason = reasons.OutOfMemory }) → Checks bytes old new answer
 
--- Where a file is in front, and there is a row for each thing that is wrong with it, it is checked, or memory ran out.
+-- Where a file is in front, and there is a row for each thing that is wrong with it, it is checked.
 abbrev pub ChecksWhatFits : ℕ → List ℕ → Answer → Type 0
 ChecksWhatFits room bytes answer =
-    (file : HunkFile) → IsFileOf bytes file → length (findings_in file) ≤ room → IsDoneOrOutOfMemory answer
+    (file : HunkFile) → IsFileOf bytes file → length (findings_in file) ≤ room → answer.number ≡ 0

@@ -1,8 +1,11 @@
 pub mod Answers
 pub mod Checks
+pub mod Copying
+pub mod Counting
 pub mod Files
 pub mod Loads
 pub mod Names
 pub mod Streams
 pub mod Strips
 pub mod Tables
+pub mod Taking

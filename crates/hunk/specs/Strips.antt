@@ -1,22 +1,15 @@
 -- Stripped files in the caller's text.
-use Rattle.std.specs.Prelude.{◌≡◌, ℕ, ◌<◌, ◌≤◌, List, ◌++◌, length, drop, ◌⊎◌}
-use Rattle.hunk_words.specs.Longs.{longs}
+use Rattle.std.specs.Prelude.{◌≡◌, ℕ, ◌<◌, ◌≤◌, List, ◌++◌, length, drop}
 use Rattle.hunk_words.specs.declared.fault.Fault.{Fault}
-use Rattle.hunk_words.specs.declared.reason.Reason.TheVariants as reasons
-use Rattle.hunk_scan.specs.FileKind.{sniffed}
-use Rattle.hunk_files.specs.HunkFile.{IsFileOf, IsMemory, file_bytes, stripped}
+use Rattle.hunk_files.specs.HunkFile.{IsFileOf, file_bytes, stripped}
 use Rattle.hunk_files.specs.declared.hunk_file.HunkFile.{HunkFile}
 use Rattle.hunk.specs.declared.answer.Answer.{Answer}
-use Rattle.hunk.specs.Answers.{refused, no_room, done, IsDoneOrOutOfMemory}
+use Rattle.hunk.specs.Answers.{refused, no_room, done}
 use Rattle.hunk.specs.Files.{AreNoFile, hunks_in}
 
 -- the bytes of the file without its NAME, SYMBOL, DEBUG and ADVISORY blocks
 abbrev pub stripped_bytes : HunkFile → List ℕ
 stripped_bytes file = file_bytes (stripped file)
-
--- Memory ran out: for what the longword here completes, or, where the file ends, for what is left of it.
-abbrev pub LacksMemoryToStrip : List ℕ → ℕ → Type 0
-LacksMemoryToStrip bytes at = IsMemory (sniffed (longs bytes)) bytes at ⊎ ((file : HunkFile) × IsFileOf bytes file × (at ≡ length (file_bytes file)))
 
 -- What a strip comes to. The text begins with the stripped file, and what lies after that is as it was; or all is as it was.
 pub data Strips (bytes old new : List ℕ) (answer : Answer) : Type 0 where
@@ -26,10 +19,8 @@ pub data Strips (bytes old new : List ℕ) (answer : Answer) : Type 0 where
   HasNoText : (file : HunkFile) → IsFileOf bytes file → length old < length (stripped_bytes file) → new ≡ old
       → answer ≡ no_room (hunks_in file) (length (file_bytes file)) (length (stripped_bytes file)) → Strips bytes old new answer
   HasNoFile : (f : Fault) → AreNoFile bytes f → new ≡ old → answer ≡ refused f → Strips bytes old new answer
-  HasNoMemory : (at : ℕ) → LacksMemoryToStrip bytes at → new ≡ old
-      → answer ≡ refused (record { place = at; reason = reasons.OutOfMemory }) → Strips bytes old new answer
 
--- Where a file is in front, and there is room for it without those blocks, it is stripped, or memory ran out.
+-- Where a file is in front, and there is room for it without those blocks, it is stripped.
 abbrev pub StripsWhatFits : ℕ → List ℕ → Answer → Type 0
 StripsWhatFits room bytes answer =
-    (file : HunkFile) → IsFileOf bytes file → length (stripped_bytes file) ≤ room → IsDoneOrOutOfMemory answer
+    (file : HunkFile) → IsFileOf bytes file → length (stripped_bytes file) ≤ room → answer.number ≡ 0

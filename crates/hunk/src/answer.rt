@@ -1,6 +1,5 @@
 //! What a call answers.
 ghost use Rattle.std.specs.Prelude.{◌≡◌};
-ghost use Rattle.hunk_words.specs.declared.reason.Reason.TheVariants as reasons;
 ghost use Rattle.hunk.specs.Answers.{done, refused_hunk, no_room, refused, strange};
 
 use hunk_words::{Fault, Reason};
@@ -59,16 +58,6 @@ pub(crate) fn no_room(hunks: u32, place: u64, count: u64) -> Answer
         place,
         count,
     }
-}
-
-/// The answer where memory ran out, at this byte.
-pub(crate) fn no_memory(place: u64) -> Answer
-    ensures { result ≡ refused (record { place = place; reason = reasons.OutOfMemory }) }
-{
-    refused(Fault {
-        place,
-        reason: Reason::OutOfMemory,
-    })
 }
 
 /// The answer where all was done: how many bytes were read, and how much was written.

@@ -1,57 +1,107 @@
 //! Files without names, symbols and debug data.
-ghost use Rattle.std.specs.Prelude.{◌≡◌, ◌<◌, ◌^◌, length, IfOk};
-ghost use Rattle.hunk_files.specs.HunkFile.{file_bytes};
+ghost use Rattle.std.specs.Prelude.{◌≡◌, ◌<◌, ◌^◌, ℕ, length};
+ghost use Rattle.std.proofs.Common.{◌∙◌, refl};
+ghost use Rattle.hunk_files.specs.FileView.{file_of};
+ghost use Rattle.hunk.specs.Copying.{Copies, copies_none, copies_more};
+ghost use Rattle.hunk.specs.Counting.{Counts, counts_none, counts_more};
 ghost use Rattle.hunk.specs.Strips.{Strips, StripsWhatFits, stripped_bytes};
 
-use crate::answer::{Answer, done, no_memory, no_room, refused};
-use crate::file::{hunks_in, size_in};
-use hunk_files::HunkFile;
-use hunk_words::{FromWrite, LongWriter};
-use std::alloc::{AllocError, Global};
+use crate::answer::{Answer, done, no_room, refused};
+use crate::file::hunks_in;
+use hunk_files::{FileView, TakesBytes};
 
 /// Writes the object file that the bytes are, or the load file that they begin with, to the text,
 /// without its NAME, SYMBOL, DEBUG and ADVISORY blocks.
 ///
 /// What follows a load file is left out. The text after what is written is as it was, and after a
 /// refusal all of it is. It answers the number of hunks of a load file, and 0 of an object file,
-/// the bytes of the file, and those of what was written, which are no more. Memory is taken for the
-/// parts of the file, and then for as many bytes as it has, once, and given back.
+/// the bytes of the file, and those of what was written, which are no more. It takes no memory:
+/// what stays is counted first, and then copied.
 ///
 /// # Errors
 ///
-/// The first fault of the bytes; `NO_ROOM` where the text is too short; OutOfMemory.
+/// The first fault of the bytes; `NO_ROOM` where the text is too short.
 #[unsafe(no_mangle)]
-pub extern "C" fn hunk_strip(alloc: Global, bytes: &[u8], text: &mut [u8]) -> Answer
+pub extern "C" fn hunk_strip(bytes: &[u8], text: &mut [u8]) -> Answer
     ensures outcome { Strips bytes.now text.old text.new result }
     ensures succeeds { StripsWhatFits (length text.old) bytes.now result }
 {
-    let file = match HunkFile::decode(alloc, bytes) {
+    let file = match FileView::read(bytes) {
         Ok(file) => file,
         Err(fault) => return refused(fault),
     };
     let hunks = hunks_in(&file);
-    let size = size_in(bytes, &file);
-    let stripped = match stripped_text(alloc, file, size) {
-        Ok(stripped) => stripped,
-        Err(_) => return no_memory(size as u64),
-    };
-    let left = stripped.as_slice();
-    if left.len() > text.len() {
-        return no_room(hunks, size as u64, left.len() as u64);
+    let size = bytes.len() as u64 - file.rest();
+    let count = count_stripped(&file);
+    if count > text.len() as u64 {
+        return no_room(hunks, size, count);
     }
-    text[..left.len()].copy_from_slice(left);
-    done(hunks, size as u64, left.len() as u64)
+    copy_stripped(&file, &mut text[..count as usize]);
+    done(hunks, size, count)
 }
 
-/// The text of the file without those blocks, for which memory of `room` bytes is taken at once.
-fn stripped_text(alloc: Global, file: HunkFile<'_>, room: usize) -> Result<Vec<u8>, AllocError>
-    requires { length (file_bytes file) < 2 ^ 64 }
-    ensures { IfOk result (λ text. text.items ≡ stripped_bytes file.entry) }
+/// How many bytes the file has without those blocks.
+fn count_stripped(file: &FileView<'_>) -> u64
+    requires { length (stripped_bytes (file_of file.now)) < 2 ^ 64 }
+    ensures { result ≡ length (stripped_bytes (file_of file.now)) }
 {
-    let text = Vec::with_capacity(alloc, room)?;
-    let mut writer = LongWriter::new(FromWrite::new(text));
-    match file.strip().encode(&mut writer) {
-        Ok(()) => Ok(writer.into_inner().into_inner()),
-        Err(_) => Err(AllocError),
+    let mut counter = ByteCount { count: 0 };
+    file.strip_with(&mut counter);
+    counter.count
+}
+
+/// Writes the file without those blocks.
+fn copy_stripped(file: &FileView<'_>, text: &mut [u8])
+    requires { length text.old ≡ length (stripped_bytes (file_of file.now)) }
+    ensures { text.new ≡ stripped_bytes (file_of file.now) }
+{
+    let mut copier = Copier { text, at: 0 };
+    file.strip_with(&mut copier);
+}
+
+/// Counts bytes, modulo 2 ^ 64.
+#[derive(Drop)]
+struct ByteCount {
+    count: u64,
+}
+
+impl TakesBytes for ByteCount {
+    ghost takes = { λ a xs b. Counts a.count xs b.count };
+
+    ghost none = { λ s. counts_none ℕ s.count };
+
+    ghost more = { λ a b c xs ys. counts_more a.count b.count c.count xs ys };
+
+    fn take(&mut self, bytes: &[u8]) {
+        self.count = self.count.wrapping_add(bytes.len() as u64);
+    }
+}
+
+/// Copies each range behind the one before, unless there is no room for it.
+#[derive(Drop)]
+struct Copier<'t> {
+    text: &'t mut [u8],
+    /// The place of the next range.
+    at: usize,
+}
+
+impl TakesBytes for Copier<'_> {
+    ghost takes = { λ a xs b. (b.text.ghost_name ≡ a.text.ghost_name)
+        × Copies a.text.now a.at xs b.text.now b.at };
+
+    ghost none = { λ s. (refl, copies_none s.text.now s.at) };
+
+    ghost more = { λ a b c xs ys first next. (
+      next.0 ∙ first.0,
+      copies_more a.text.now b.text.now c.text.now a.at b.at c.at xs ys first.1 next.1,
+    ) };
+
+    fn take(&mut self, bytes: &[u8]) {
+        let room = self.text.len();
+        if self.at <= room && bytes.len() <= room - self.at {
+            let end = self.at + bytes.len();
+            self.text[self.at..end].copy_from_slice(bytes);
+            self.at = end;
+        }
     }
 }

@@ -1,9 +1,9 @@
 //! A little of each library.
 
 use anyhow::{bail, ensure};
-use hunk_blocks::Body;
+use hunk_blocks::BodyView;
 use hunk_commands::unhex;
-use hunk_files::{LoadFile, sniff};
+use hunk_files::{LoadHunkView, LoadView, sniff};
 use hunk_listing::print_load_summary;
 use hunk_orders::{Order, order};
 use hunk_scan::Sniff;
@@ -39,13 +39,8 @@ pub fn tour(alloc: Global, words: &[String], text: &str) -> anyhow::Result<Seen>
     };
     let bytes = unhex(alloc, text.as_bytes())?;
     ensure!(sniff(&bytes) == Sniff::Load, "no load file");
-    let (file, size) = LoadFile::decode(alloc, &bytes)?;
-    let mut code = 0u64;
-    for block in file.hunk(0) {
-        if let Body::Code { top: _, payload } = block.body() {
-            code = code.saturating_add(payload.bytes().len() as u64);
-        }
-    }
+    let (file, size) = LoadView::read(&bytes)?;
+    let code = file.iter().next().map_or(0, |hunk| code_bytes(&hunk));
     let mut source = FromSlice::new(&bytes);
     let image = load(alloc, &mut source, LIMITS, &Packed { start: 0 })?;
     let mut out = LongWriter::new(FromWrite::new(Vec::new(alloc)));
@@ -59,4 +54,15 @@ pub fn tour(alloc: Global, words: &[String], text: &str) -> anyhow::Result<Seen>
         loaded,
         report,
     })
+}
+
+/// The bytes of code that the hunk has.
+fn code_bytes(hunk: &LoadHunkView<'_>) -> u64 {
+    let mut code = 0u64;
+    for block in hunk.blocks() {
+        if let BodyView::Code { top: _, payload } = block.into_body() {
+            code = code.saturating_add(payload.byte_count());
+        }
+    }
+    code
 }

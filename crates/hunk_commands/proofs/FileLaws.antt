@@ -69,6 +69,14 @@ no_file Other fault other = go fault.reason refl
     go reasons.OutOfMemory there = inl refl
     go _ there = inr (other (λ e. cc))
 
+-- what is refused for another cause is no want of memory
+pub not_memory : (fault : Fault) → fault.reason ≢ reasons.OutOfMemory → refused_as fault ≡ faults.Memory → ⊥
+not_memory fault other = go fault.reason refl
+  where
+    go : (reason : Reason) → fault.reason ≡ reason → refused_for reason fault ≡ faults.Memory → ⊥
+    go reasons.OutOfMemory there memory = other there
+    go _ there memory = cc
+
 -- the limit of an input is no fault of its bytes
 no_limit : (kind : Sniff) (bytes : List ℕ) (place : ℕ) → IsRefusal kind bytes (record { place = place; reason = reasons.FileLimit }) → ⊥
 no_limit sniffs.Object bytes place is = let no = is.1 in cc

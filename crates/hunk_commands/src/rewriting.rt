@@ -1,15 +1,15 @@
 //! `rewrite`: a file is read, and written again.
 ghost use Rattle.std.specs.Prelude.{◌≡◌, ◌+◌, ◌^◌, ◌<◌, length, IfOk, IfErr};
 ghost use Rattle.hunk_words.specs.Puts.{PutsText};
-ghost use Rattle.hunk_files.specs.HunkFile.{IsFileOf, file_bytes};
+ghost use Rattle.hunk_files.specs.FileView.{file_of};
+ghost use Rattle.hunk_files.specs.HunkFile.{IsFileOf, file_bytes, stripped};
 ghost use Rattle.hunk_commands.specs.Engine.{ReadsThenPuts, StopsAtWrite, Writes, WritesAll};
 ghost use Rattle.hunk_commands.specs.Rewritten.{IsRewriting, IsRewritten, stripped_where};
 
-use crate::decoding::decode_file;
 use crate::fault::RunFault;
 use crate::input::read_whole;
-use hunk_files::HunkFile;
-use hunk_words::{LongWriter, Sink, Source, WriteFault};
+use hunk_files::FileView;
+use hunk_words::{LongWriter, Printer, Sink, Source, WriteFault};
 use std::alloc::Global;
 
 /// What `rewrite` did.
@@ -30,9 +30,9 @@ pub struct Rewritten {
 ///
 /// - `Refused` with `FileLimit`, at `file_bytes`, where that many bytes were read, before an end is
 ///   looked for.
-/// - `Refused` with the fault that `HunkFile::decode` answers for the input, at the same place.
+/// - `Refused` with the fault that `FileView::read` answers for the input, at the same place.
 /// - `Read` where the source failed, at the number of bytes read.
-/// - `Memory` where memory is refused, or the input has more than 2^56 bytes.
+/// - `Memory` where memory is refused for the bytes of the input, and never once they are read.
 /// - `Write` where the writer failed: just the first `written` bytes of the file have gone out.
 ///
 /// After every other error than `Write` nothing was written. What was read of the source stays
@@ -58,9 +58,9 @@ pub fn rewrite<R: Source, W: Sink>(
         W.failed w.old w.new result }
 {
     let input = read_whole(alloc, r, file_bytes)?;
-    let file = decode_file(alloc, input.as_slice())?;
+    let file = FileView::read(input.as_slice())?;
     let rest = file.rest();
-    put_file(w, file, input.as_slice(), strip)?;
+    put_file(w, &file, input.as_slice(), strip)?;
     Ok(Rewritten {
         written: w.written(),
         rest,
@@ -72,17 +72,30 @@ pub fn rewrite<R: Source, W: Sink>(
 #[inline(never)]
 fn put_file<W: Sink>(
     w: &mut LongWriter<W>,
-    file: HunkFile<'_>,
+    file: &FileView<'_>,
     input: &[u8],
     strip: bool,
 ) -> Result<(), WriteFault>
-    requires file { IsFileOf input.now file }
+    requires file { IsFileOf input.now (file_of file.now) }
     requires room { w.old.written + length input.now < 2 ^ 64 }
     ensures { PutsText W.taken W.failed w.old w.new
-        (file_bytes (stripped_where strip file.entry)) result }
+        (file_bytes (stripped_where strip (file_of file.now))) result }
 {
     if strip {
-        return file.strip().encode(w);
+        return put_stripped(w, file);
     }
     w.put_bytes(&input[..input.len() - file.rest() as usize])
+}
+
+/// Writes what stays of the file, through a page.
+fn put_stripped<W: Sink>(w: &mut LongWriter<W>, file: &FileView<'_>) -> Result<(), WriteFault>
+    requires { w.old.written + length (file_bytes (stripped (file_of file.now))) < 2 ^ 64 }
+    ensures { PutsText W.taken W.failed w.old w.new
+        (file_bytes (stripped (file_of file.now))) result }
+{
+    let mut page = Printer::new(w);
+    file.strip_with(&mut page);
+    let result = page.flush();
+    let _out = page.into_inner();
+    result
 }

@@ -1,14 +1,15 @@
 //! `show`: the hunks and blocks of a file are listed.
 ghost use Rattle.std.specs.Prelude.{◌≡◌, ◌+◌, ◌^◌, ◌<◌, length, IfErr, OnOk};
+ghost use Rattle.hunk_files.specs.FileView.{file_of};
 ghost use Rattle.hunk_words.specs.Prints.{Prints};
 ghost use Rattle.hunk_words.specs.Puts.{PutsText};
 ghost use Rattle.hunk_commands.specs.Engine.{ReadsThenPuts, StopsAtWrite, Writes, WritesAll};
 ghost use Rattle.hunk_commands.specs.Shown.{IsShown, file_listing};
 
-use crate::decoding::decode_file;
+use crate::decoding::view_file;
 use crate::fault::RunFault;
 use crate::input::read_whole;
-use hunk_files::HunkFile;
+use hunk_files::FileView;
 use hunk_listing::{print_load_file, print_object_file};
 use hunk_words::{LongWriter, Printer, Sink, Source, WriteFault};
 use std::alloc::Global;
@@ -22,9 +23,9 @@ use std::alloc::Global;
 ///
 /// - `Refused` with `FileLimit`, at `file_bytes`, where that many bytes were read, before an end is
 ///   looked for.
-/// - `Refused` with the fault that `HunkFile::decode` answers for the input, at the same place.
+/// - `Refused` with the fault that `FileView::read` answers for the input, at the same place.
 /// - `Read` where the source failed, at the number of bytes read.
-/// - `Memory` where memory is refused, or the input has more than 2^56 bytes.
+/// - `Memory` where memory is refused for the bytes of the input, or these are more than 2^56.
 /// - `Write` where the writer failed: just the first `written` bytes of the listing have gone out.
 ///
 /// After every other error than `Write` nothing was written. What was read of the source stays
@@ -48,16 +49,16 @@ pub fn show<R: Source, W: Sink>(
         W.failed w.old w.new result }
 {
     let input = read_whole(alloc, r, file_bytes)?;
-    let file = decode_file(alloc, input.as_slice())?;
+    let file = view_file(input.as_slice())?;
     put_listing(w, &file)?;
     Ok(())
 }
 
 /// Puts the listing of the file.
 #[inline(never)]
-fn put_listing<W: Sink>(w: &mut LongWriter<W>, file: &HunkFile<'_>) -> Result<(), WriteFault>
-    requires { w.old.written + length (file_listing file.now) < 2 ^ 64 }
-    ensures { PutsText W.taken W.failed w.old w.new (file_listing file.now) result }
+fn put_listing<W: Sink>(w: &mut LongWriter<W>, file: &FileView<'_>) -> Result<(), WriteFault>
+    requires { w.old.written + length (file_listing (file_of file.now)) < 2 ^ 64 }
+    ensures { PutsText W.taken W.failed w.old w.new (file_listing (file_of file.now)) result }
 {
     let mut page = Printer::new(w);
     print_listing(&mut page, file);
@@ -67,11 +68,11 @@ fn put_listing<W: Sink>(w: &mut LongWriter<W>, file: &HunkFile<'_>) -> Result<()
 }
 
 /// Prints the hunks of the file, and its blocks.
-fn print_listing<W: Sink>(page: &mut Printer<'_, W>, file: &HunkFile<'_>)
-    ensures { Prints page.old page.new (file_listing file.now) }
+fn print_listing<W: Sink>(page: &mut Printer<'_, W>, file: &FileView<'_>)
+    ensures { Prints page.old page.new (file_listing (file_of file.now)) }
 {
     match file {
-        HunkFile::Load { file, rest } => print_load_file(page, file, *rest),
-        HunkFile::Object(file) => print_object_file(page, file),
+        FileView::Load { file, rest } => print_load_file(page, file, *rest),
+        FileView::Object(file) => print_object_file(page, file),
     }
 }

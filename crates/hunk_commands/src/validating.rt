@@ -1,15 +1,16 @@
 //! `validate`: a file is checked.
 ghost use Rattle.std.specs.Prelude.{◌≡◌, ◌+◌, ◌^◌, ◌<◌, length, IfOk, IfErr};
+ghost use Rattle.hunk_files.specs.FileView.{file_of};
 ghost use Rattle.hunk_words.specs.Prints.{Prints};
 ghost use Rattle.hunk_words.specs.Puts.{PutsText};
 ghost use Rattle.hunk_commands.specs.Engine.{ReadsThenPuts, StopsAtWrite, Writes, WritesAll};
 ghost use Rattle.hunk_commands.specs.Reports.{finding_count, report};
 ghost use Rattle.hunk_commands.specs.Validated.{IsReport, IsValidated};
 
-use crate::decoding::decode_file;
+use crate::decoding::view_file;
 use crate::fault::RunFault;
 use crate::input::read_whole;
-use hunk_files::HunkFile;
+use hunk_files::FileView;
 use hunk_listing::{print_load_summary, print_object_report};
 use hunk_words::{LongWriter, Printer, Sink, Source, WriteFault};
 use std::alloc::Global;
@@ -23,9 +24,9 @@ use std::alloc::Global;
 ///
 /// - `Refused` with `FileLimit`, at `file_bytes`, where that many bytes were read, before an end is
 ///   looked for.
-/// - `Refused` with the fault that `HunkFile::decode` answers for the input, at the same place.
+/// - `Refused` with the fault that `FileView::read` answers for the input, at the same place.
 /// - `Read` where the source failed, at the number of bytes read.
-/// - `Memory` where memory is refused, or the input has more than 2^56 bytes.
+/// - `Memory` where memory is refused for the bytes of the input, or these are more than 2^56.
 /// - `Write` where the writer failed: just the first `written` bytes of the report have gone out.
 ///
 /// After every other error than `Write` nothing was written. What was read of the source stays
@@ -49,17 +50,17 @@ pub fn validate<R: Source, W: Sink>(
         W.failed w.old w.new result }
 {
     let input = read_whole(alloc, r, file_bytes)?;
-    let file = decode_file(alloc, input.as_slice())?;
+    let file = view_file(input.as_slice())?;
     let count = put_report(w, &file)?;
     Ok(count)
 }
 
 /// Puts the report of the file, and answers how much is found in it.
 #[inline(never)]
-fn put_report<W: Sink>(w: &mut LongWriter<W>, file: &HunkFile<'_>) -> Result<u64, WriteFault>
-    requires { w.old.written + length (report file.now) < 2 ^ 64 }
-    ensures puts { PutsText W.taken W.failed w.old w.new (report file.now) result }
-    ensures count { IfOk result (λ count. count ≡ finding_count file.now) }
+fn put_report<W: Sink>(w: &mut LongWriter<W>, file: &FileView<'_>) -> Result<u64, WriteFault>
+    requires { w.old.written + length (report (file_of file.now)) < 2 ^ 64 }
+    ensures puts { PutsText W.taken W.failed w.old w.new (report (file_of file.now)) result }
+    ensures count { IfOk result (λ count. count ≡ finding_count (file_of file.now)) }
 {
     let mut page = Printer::new(w);
     let count = print_report(&mut page, file);
@@ -70,16 +71,16 @@ fn put_report<W: Sink>(w: &mut LongWriter<W>, file: &HunkFile<'_>) -> Result<u64
 }
 
 /// Prints the report on the file, and answers how many findings it has.
-fn print_report<W: Sink>(page: &mut Printer<'_, W>, file: &HunkFile<'_>) -> u64
-    requires { finding_count file.now < 2 ^ 64 }
-    ensures prints { Prints page.old page.new (report file.now) }
-    ensures count { result ≡ finding_count file.now }
+fn print_report<W: Sink>(page: &mut Printer<'_, W>, file: &FileView<'_>) -> u64
+    requires { finding_count (file_of file.now) < 2 ^ 64 }
+    ensures prints { Prints page.old page.new (report (file_of file.now)) }
+    ensures count { result ≡ finding_count (file_of file.now) }
 {
     match file {
-        HunkFile::Load { file, rest } => {
+        FileView::Load { file, rest } => {
             print_load_summary(page, file, *rest);
             0
         }
-        HunkFile::Object(file) => print_object_report(page, file),
+        FileView::Object(file) => print_object_report(page, file),
     }
 }

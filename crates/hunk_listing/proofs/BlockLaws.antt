@@ -1,22 +1,21 @@
 -- The numbers that the lines of a block have.
-use Rattle.std.proofs.Common.{◌≡◌, ℕ, ◌+◌, ◌^◌, ◌<◌, ◌≤◌, List, [], ◌∷◌, ◌++◌, length, map, sym, ap, ◌∙◌, arith, length-append}
+use Rattle.std.proofs.Common.{◌≡◌, ℕ, ◌+◌, ◌^◌, ◌<◌, ◌≤◌, List, [], ◌∷◌, ◌++◌, length, refl, sym, ap, ◌∙◌, arith, length-append}
 use Rattle.std.specs.List.{flat_map}
 use Rattle.std.proofs.lemmas.List.{length-map}
 use Rattle.std.proofs.lemmas.List.Sums.{sum_by-cons}
 use Rattle.hunk_words.specs.Longs.{bytes_of}
 use Rattle.hunk_words.proofs.LongLaws.{length-bytes_of}
-use Rattle.hunk_blocks.specs.declared.groups.Group.{Group}
-use Rattle.hunk_blocks.specs.Values.{RelocGroup, BlockBody, Reloc, BlockValue}
-use Rattle.hunk_blocks.specs.Parts.{Part, GroupCount, Offset, block_text, body_text, group_parts}
-use Rattle.hunk_blocks.specs.Views.{group_of}
+use Rattle.hunk_blocks.specs.Parts.{Part, Offset, block_text, body_parts, body_text, ext_parts, group_parts, symbol_parts}
+use Rattle.hunk_blocks.specs.Values.{RelocGroup, ExtEntry, SymbolEntry, BlockBody, Reloc, Ext, Symbol, BlockValue}
 use Rattle.hunk_listing.specs.BlockLines.{offset_count}
 
--- the offsets of the groups: those of the first, and of the others
-pub counted_first : (groups more : List Group) (group : Group) → groups ≡ group ∷ more → offset_count (map group_of groups) ≡ length group.offsets + offset_count (map group_of more)
-counted_first groups more group first =
-    ap (λ (gs : List Group). offset_count (map group_of gs)) first ∙ sum_by-cons (λ g. length g.offsets) (group_of group) (map group_of more)
+-- ---- the offsets of groups
 
--- each offset is a longword of the text
+-- those of the first, and of the others
+pub counted_first : (groups more : List RelocGroup) (group : RelocGroup) → groups ≡ group ∷ more → offset_count groups ≡ length group.offsets + offset_count more
+counted_first groups more group first = ap offset_count first ∙ sum_by-cons (λ g. length g.offsets) group more
+
+-- each is a longword of the text
 pub offsets_within : (groups : List RelocGroup) → offset_count groups ≤ length (flat_map group_parts groups)
 offsets_within [] = omega arith
 offsets_within (g ∷ groups) = omega (
@@ -27,15 +26,30 @@ offsets_within (g ∷ groups) = omega (
   length-map {B = Part × ℕ} g.offsets (λ w. (Offset, w)),
 )
 
-pub offsets_fit : (block : BlockValue) (groups : List RelocGroup) (size : ℕ) → Reloc groups ≡ block.body →
-    size ≡ length (bytes_of (block_text block)) → size < 2 ^ 64 → offset_count groups < 2 ^ 64
-offsets_fit block groups size is size_is fits =
-    let body : length (body_text block.body) ≡ length (body_text (Reloc groups)) = ap (λ (b : BlockBody). length (body_text b)) (sym is) in
-    omega (
-      arith,
-      body,
-      length-bytes_of (block_text block),
-      offsets_within groups,
-      length-map (flat_map group_parts groups ++ (GroupCount, 0) ∷ []) (λ (p : Part × ℕ). p.1),
-      length-append (flat_map group_parts groups) ((GroupCount, 0) ∷ []),
-    )
+-- ---- numbers that fit
+
+-- each item has a longword of the text
+items_within : {A : Type 0} (parts : A → List (Part × ℕ)) → ((x : A) → 0 < length (parts x)) → (xs : List A) → length xs ≤ length (flat_map parts xs)
+items_within parts some [] = omega arith
+items_within parts some (x ∷ xs) = omega (arith, some x, items_within parts some xs, length-append (parts x) (flat_map parts xs))
+
+-- The bytes of the text can be counted, and so can what has a longword of a list in it.
+list_fits : (block : BlockValue) (body : BlockBody) (items : List (Part × ℕ)) (last : Part × ℕ) (size : ℕ) → body ≡ block.body → body_parts body ≡ items ++ last ∷ [] →
+    size ≡ length (bytes_of (block_text block)) → size < 2 ^ 64 → length items < 2 ^ 64
+list_fits block body items last size is parts_are size_is fits =
+    let text : length (body_text block.body) ≡ length (body_parts body) = ap (λ (b : BlockBody). length (body_text b)) (sym is) ∙ length-map (body_parts body) (λ (p : Part × ℕ). p.1) in
+    omega (arith, text, ap length parts_are, length-append items (last ∷ []), length-bytes_of (block_text block), size_is, fits)
+
+pub offsets_fit : (block : BlockValue) (groups : List RelocGroup) (size : ℕ) → Reloc groups ≡ block.body → size ≡ length (bytes_of (block_text block)) → size < 2 ^ 64 →
+    offset_count groups < 2 ^ 64
+offsets_fit block groups size is size_is fits = omega (arith, offsets_within groups, list_fits block (Reloc groups) (flat_map group_parts groups) _ size is refl size_is fits)
+
+pub entries_fit : (block : BlockValue) (entries : List ExtEntry) (size : ℕ) → Ext entries ≡ block.body → size ≡ length (bytes_of (block_text block)) → size < 2 ^ 64 →
+    length entries < 2 ^ 64
+entries_fit block entries size is size_is fits =
+    omega (arith, items_within ext_parts (λ e. omega arith) entries, list_fits block (Ext entries) (flat_map ext_parts entries) _ size is refl size_is fits)
+
+pub symbols_fit : (block : BlockValue) (symbols : List SymbolEntry) (size : ℕ) → Symbol symbols ≡ block.body → size ≡ length (bytes_of (block_text block)) → size < 2 ^ 64 →
+    length symbols < 2 ^ 64
+symbols_fit block symbols size is size_is fits =
+    omega (arith, items_within symbol_parts (λ s. omega arith) symbols, list_fits block (Symbol symbols) (flat_map symbol_parts symbols) _ size is refl size_is fits)

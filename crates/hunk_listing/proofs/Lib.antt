@@ -1,6 +1,6 @@
 mod BlockLaws
 pub mod BlockLengths
-mod Contents
+mod Counts
 mod DecimalLaws
 mod DigitPairs
 pub mod FileLengths

@@ -3,7 +3,6 @@ use Rattle.std.proofs.Common.{◌≡◌, ℕ, ◌+◌, ◌<◌, List, [], ◌∷
 use Rattle.std.specs.Prelude.{slice_get, Some}
 use Rattle.std.specs.List.{flat_map}
 use Rattle.std.proofs.lemmas.List.{drop_more, get_or-map, length-map}
-use Rattle.std.proofs.lemmas.List.Folds.{flat_map-map}
 use Rattle.std.proofs.lemmas.Option.{get_or_from_slice_get, slice_get_within}
 pub use Rattle.hunk_words.proofs.Shown.{ShownUpTo, shown_more, shown_all, shown_told, shown_behind}
 use Rattle.hunk_blocks.specs.Values.{BlockValue}
@@ -21,18 +20,15 @@ shown_next {A} lines xs more x now next all first h e =
     let rest : List ℕ = flat_map lines more in
     ap (λ (ys : List ℕ). ys ++ rest) e ∙ append_assoc now (lines x) rest ∙ ap (λ (ys : List A). now ++ flat_map lines ys) (sym first) ∙ h
 
--- Behind the last element nothing is to come.
-pub shown_last : {A : Type 0} (lines : A → List ℕ) (xs : List A) (now all : List ℕ) → length xs ≡ 0 → now ++ flat_map lines xs ≡ all → now ≡ all
-shown_last lines [] now all none h = sym (append-nil now) ∙ h
-shown_last lines (x ∷ xs) now all none h = absurd (omega (arith, none))
-
--- The lines of a list's elements, by their values, behind a first line.
-pub shown_list : {A B : Type 0} (lines : B → List ℕ) (value : A → B) (xs rest : List A) (now start before first : List ℕ) → length rest ≡ 0 →
-    now ++ flat_map (λ x. lines (value x)) rest ≡ start ++ flat_map (λ x. lines (value x)) xs → start ≡ before ++ first → now ≡ before ++ (first ++ flat_map lines (map value xs))
-shown_list lines value xs rest now start before first none h begins =
-    shown_last (λ x. lines (value x)) rest now (start ++ flat_map (λ x. lines (value x)) xs) none h
-    ∙ ap₂ (λ (ys zs : List ℕ). ys ++ zs) begins (sym (flat_map-map lines value xs))
-    ∙ append_assoc before first (flat_map lines (map value xs))
+-- The lines of a list's elements, of which none is to come, behind a first line.
+pub shown_list : {A : Type 0} (lines : A → List ℕ) (xs rest : List A) (now start before first : List ℕ) → rest ≡ [] →
+    now ++ flat_map lines rest ≡ start ++ flat_map lines xs → start ≡ before ++ first → now ≡ before ++ (first ++ flat_map lines xs)
+shown_list {A} lines xs rest now start before first none h begins =
+    sym (append-nil now)
+    ∙ ap (λ (ys : List A). now ++ flat_map lines ys) (sym none)
+    ∙ h
+    ∙ ap (λ (ys : List ℕ). ys ++ flat_map lines xs) begins
+    ∙ append_assoc before first (flat_map lines xs)
 
 -- ---- numbered elements
 

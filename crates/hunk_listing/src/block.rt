@@ -1,10 +1,10 @@
 //! The lines of a block.
-ghost use Rattle.std.specs.Prelude.{◌≡◌, ◌*◌, ◌%◌, ◌^◌, ◌<◌, ◌≤◌, ◌+◌, ◌++◌, length, map};
+ghost use Rattle.std.specs.Prelude.{◌≡◌, ◌*◌, ◌%◌, ◌^◌, ◌<◌, ◌≤◌, ◌+◌, ◌++◌, length};
 ghost use Rattle.std.specs.Prelude.{codes, decimal};
 ghost use Rattle.hunk_words.specs.Prints.{Prints};
 ghost use Rattle.hunk_words.specs.Longs.{longs};
 ghost use Rattle.hunk_blocks.specs.Values.{Ext, Reloc, Symbol};
-ghost use Rattle.hunk_blocks.specs.Views.{entry_of, group_of, symbol_of};
+ghost use Rattle.hunk_blocks.specs.Views.{group_of, symbol_of};
 ghost use Rattle.hunk_listing.specs.BlockLines.{advisory_line, block_lines, body_lines, count_line};
 ghost use Rattle.hunk_listing.specs.BlockLines.{end_line, group_lines, head, name_line};
 ghost use Rattle.hunk_listing.specs.BlockLines.{offset_count, size_line, symbol_line};
@@ -13,27 +13,30 @@ use crate::entry::print_entry;
 use crate::line::{LINE, Line};
 use crate::names::{put_block_flags, put_kind, put_memory_flags};
 use crate::text::{print_named, print_offset_behind};
-use hunk_blocks::{Block, Body, Entries, Group, Groups, Named, Payload, Symbols};
+use hunk_blocks::{
+    BlockView, BodyView, EntriesIter, Group, GroupsIter, Named, Payload, SymbolsIter,
+};
 use hunk_words::{BlockWord, Printer, Sink};
 
 /// Prints the lines of the block.
-pub(crate) fn print_block<W: Sink>(page: &mut Printer<'_, W>, block: &Block<'_>)
-    ensures { Prints page.old page.new (block_lines block.now) }
+pub(crate) fn print_block<W: Sink>(page: &mut Printer<'_, W>, block: BlockView<'_>)
+    ensures { Prints page.old page.new (block_lines block.entry.value) }
 {
     let word = block.word();
     // The text has a longword for each offset, so their number fits.
     let _size = block.encoded_len();
-    match block.body() {
-        Body::Name(name) => print_name_line(page, word, name),
-        Body::Code { payload, .. } | Body::Data { payload, .. } | Body::Debug(payload) => {
-            print_size(page, word, payload.byte_count())
-        }
-        Body::Bss { .. } => print_size(page, word, block.body().content_bytes().unwrap_or(0)),
-        Body::Reloc(groups) => print_relocations(page, word, groups),
-        Body::Ext(entries) => print_entries(page, word, entries),
-        Body::Symbol(symbols) => print_symbols(page, word, symbols),
-        Body::End => print_end(page, word),
-        Body::Advisory(payload) => print_advisory(page, word, payload),
+    let body = block.into_body();
+    match body {
+        BodyView::Name(name) => print_name_line(page, word, &name),
+        BodyView::Code { payload, .. }
+        | BodyView::Data { payload, .. }
+        | BodyView::Debug(payload) => print_size(page, word, payload.byte_count()),
+        BodyView::Bss { .. } => { print_size(page, word, body.content_bytes().unwrap_or(0)) }
+        BodyView::Reloc(groups) => print_relocations(page, word, groups),
+        BodyView::Ext(entries) => print_entries(page, word, entries),
+        BodyView::Symbol(symbols) => print_symbols(page, word, symbols),
+        BodyView::End => print_end(page, word),
+        BodyView::Advisory(payload) => print_advisory(page, word, &payload),
     }
 }
 
@@ -119,20 +122,20 @@ fn begin_advisory_line(word: BlockWord, size: u64) -> Line
 }
 
 /// The relocations of all groups.
-fn print_relocations<W: Sink>(page: &mut Printer<'_, W>, word: BlockWord, groups: &Groups<'_>)
-    requires { offset_count (map group_of groups.now) < 2 ^ 64 }
-    ensures { Prints page.old page.new (body_lines word (Reloc (map group_of groups.now))) }
+fn print_relocations<W: Sink>(page: &mut Printer<'_, W>, word: BlockWord, groups: GroupsIter<'_>)
+    requires { offset_count groups.value < 2 ^ 64 }
+    ensures { Prints page.old page.new (body_lines word (Reloc groups.entry.value)) }
 {
-    print_count(page, word, offset_count(groups));
+    print_count(page, word, offset_count(groups.again()));
     'groups: for group in groups {
-        print_group(page, group);
+        print_group(page, &group);
     }
 }
 
 /// The number of offsets in all groups.
-fn offset_count(groups: &Groups<'_>) -> u64
-    requires { offset_count (map group_of groups.now) < 2 ^ 64 }
-    ensures { result ≡ offset_count (map group_of groups.now) }
+fn offset_count(groups: GroupsIter<'_>) -> u64
+    requires { offset_count groups.value < 2 ^ 64 }
+    ensures { result ≡ offset_count groups.entry.value }
 {
     let mut count = 0;
     'groups: for group in groups {
@@ -164,12 +167,13 @@ fn begin_relocation_line(target: u32) -> Line
     line
 }
 
-fn print_symbols<W: Sink>(page: &mut Printer<'_, W>, word: BlockWord, symbols: &Symbols<'_>)
-    ensures { Prints page.old page.new (body_lines word (Symbol (map symbol_of symbols.now))) }
+fn print_symbols<W: Sink>(page: &mut Printer<'_, W>, word: BlockWord, symbols: SymbolsIter<'_>)
+    requires { length symbols.value < 2 ^ 64 }
+    ensures { Prints page.old page.new (body_lines word (Symbol symbols.entry.value)) }
 {
-    print_count(page, word, symbols.len() as u64);
+    print_count(page, word, symbols.again().count() as u64);
     'symbols: for symbol in symbols {
-        print_symbol(page, symbol);
+        print_symbol(page, &symbol);
     }
 }
 
@@ -184,11 +188,12 @@ fn print_symbol<W: Sink>(page: &mut Printer<'_, W>, symbol: &Named<'_>)
     print_named(page, &line, &symbol.name);
 }
 
-fn print_entries<W: Sink>(page: &mut Printer<'_, W>, word: BlockWord, entries: &Entries<'_>)
-    ensures { Prints page.old page.new (body_lines word (Ext (map entry_of entries.now))) }
+fn print_entries<W: Sink>(page: &mut Printer<'_, W>, word: BlockWord, entries: EntriesIter<'_>)
+    requires { length entries.value < 2 ^ 64 }
+    ensures { Prints page.old page.new (body_lines word (Ext entries.entry.value)) }
 {
-    print_count(page, word, entries.len() as u64);
+    print_count(page, word, entries.again().count() as u64);
     'entries: for entry in entries {
-        print_entry(page, entry);
+        print_entry(page, &entry);
     }
 }

@@ -10,12 +10,11 @@ ghost use Rattle.hunk_listing.specs.FileLines.{memory_text, numbered, rest_line}
 
 use crate::block::print_block;
 use crate::line::{LINE, Line};
-use hunk_blocks::Block;
-use hunk_files::LoadFile;
+use hunk_files::{BlockViews, LoadHunkView, LoadView};
 use hunk_words::{Memory, Printer, Sink, SizeWord};
 
 /// Prints the line of the file: how many hunks it has, and how many bytes they declare.
-pub(crate) fn print_load_head<W: Sink>(page: &mut Printer<'_, W>, file: &LoadFile<'_>)
+pub(crate) fn print_load_head<W: Sink>(page: &mut Printer<'_, W>, file: &LoadView<'_>)
     ensures { Prints page.old page.new (load_head file.now) }
 {
     print_load_line(page, file.hunks(), file.total());
@@ -50,34 +49,30 @@ pub(crate) fn print_rest<W: Sink>(page: &mut Printer<'_, W>, rest: u64)
 }
 
 /// Prints the lines of all hunks.
-pub(crate) fn print_hunks<W: Sink>(page: &mut Printer<'_, W>, file: &LoadFile<'_>)
+pub(crate) fn print_hunks<W: Sink>(page: &mut Printer<'_, W>, file: &LoadView<'_>)
     ensures { Prints page.old page.new (numbered hunk_lines 0 file.now) }
 {
-    'hunks: for number in 0..file.hunks() {
-        print_hunk(page, number, file.table(number), file.hunk(number));
+    // The number of hunks has 32 bits, so they can be numbered.
+    let _hunks = file.hunks();
+    'hunks: for (number, hunk) in file.iter().enumerate() {
+        print_hunk(page, number, &hunk);
     }
 }
 
-fn print_hunk<W: Sink>(
-    page: &mut Printer<'_, W>,
-    number: u32,
-    entry: SizeWord,
-    blocks: &[Block<'_>],
-)
-    ensures { Prints page.old page.new
-        (hunk_line number (size_entry entry) ++ flat_map block_lines blocks.now) }
+fn print_hunk<W: Sink>(page: &mut Printer<'_, W>, number: usize, hunk: &LoadHunkView<'_>)
+    ensures { Prints page.old page.new (hunk_lines number hunk.now.value) }
 {
-    print_hunk_line(page, number, entry);
-    print_blocks(page, blocks);
+    print_hunk_line(page, number, hunk.size());
+    print_blocks(page, hunk.blocks());
 }
 
 #[tactic(auto, unfolding(crate::specs::FileLines::hunk_line))]
-fn print_hunk_line<W: Sink>(page: &mut Printer<'_, W>, number: u32, entry: SizeWord)
+fn print_hunk_line<W: Sink>(page: &mut Printer<'_, W>, number: usize, entry: SizeWord)
     ensures { Prints page.old page.new (hunk_line number (size_entry entry)) }
 {
     let mut line = Line::new();
     line.put(b"hunk ");
-    line.put_decimal(u64::from(number));
+    line.put_decimal(number as u64);
     line.put(b" ");
     line.put_decimal(entry.bytes());
     line.put(b" bytes ");
@@ -109,8 +104,8 @@ fn put_attributes(line: &mut Line, attributes: u32)
 }
 
 /// Prints the lines of the blocks of a hunk.
-pub(crate) fn print_blocks<W: Sink>(page: &mut Printer<'_, W>, blocks: &[Block<'_>])
-    ensures { Prints page.old page.new (flat_map block_lines blocks.now) }
+pub(crate) fn print_blocks<W: Sink>(page: &mut Printer<'_, W>, blocks: BlockViews<'_>)
+    ensures { Prints page.old page.new (flat_map block_lines blocks.entry.value) }
 {
     'lines: for block in blocks {
         print_block(page, block);

@@ -9,11 +9,12 @@ ghost use Rattle.hunk_listing.specs.Reporting.{Reports, reports_none, reports_mo
 
 use crate::line::Line;
 use crate::load::{print_load_head, print_rest};
-use hunk_files::{Finding, FindingKind, LoadFile, ObjectFile, TakesFindings};
+use crate::object::unit_count;
+use hunk_files::{Finding, FindingKind, LoadView, ObjectView, TakesFindings};
 use hunk_words::{Printer, Sink};
 
 /// Reports a load file that `rest` bytes follow: nothing is found in one that was accepted.
-pub fn print_load_summary<W: Sink>(page: &mut Printer<'_, W>, file: &LoadFile<'_>, rest: u64)
+pub fn print_load_summary<W: Sink>(page: &mut Printer<'_, W>, file: &LoadView<'_>, rest: u64)
     ensures { Prints page.old page.new (load_summary file.now rest) }
 {
     print_load_head(page, file);
@@ -22,7 +23,7 @@ pub fn print_load_summary<W: Sink>(page: &mut Printer<'_, W>, file: &LoadFile<'_
 
 /// Reports what is found in an object file, each finding as soon as it is found, and answers how
 /// many there are. It takes no memory.
-pub fn print_object_report<W: Sink>(page: &mut Printer<'_, W>, file: &ObjectFile<'_>) -> u64
+pub fn print_object_report<W: Sink>(page: &mut Printer<'_, W>, file: &ObjectView<'_>) -> u64
     requires { length (findings file.now) < 2 ^ 64 }
     ensures prints { Prints page.old page.new (object_report file.now) }
     ensures count { result ≡ length (findings file.now) }
@@ -30,7 +31,7 @@ pub fn print_object_report<W: Sink>(page: &mut Printer<'_, W>, file: &ObjectFile
     let mut lines = FindingLines { page, count: 0 };
     file.check_with(&mut lines);
     let FindingLines { page, count } = lines;
-    print_totals(page, file.units().len(), count);
+    print_totals(page, unit_count(file), count);
     count
 }
 
@@ -85,12 +86,12 @@ fn finding_end(fault: FindingKind) -> &'static str
 }
 
 #[tactic(auto, unfolding(crate::specs::ReportLines::totals_line))]
-fn print_totals<W: Sink>(page: &mut Printer<'_, W>, units: usize, count: u64)
+fn print_totals<W: Sink>(page: &mut Printer<'_, W>, units: u64, count: u64)
     ensures { Prints page.old page.new (totals_line units count) }
 {
     let mut line = Line::new();
     line.put(b"object file ");
-    line.put_decimal(units as u64);
+    line.put_decimal(units);
     line.put(b" units ");
     line.put_decimal(count);
     line.put(b" findings\n");

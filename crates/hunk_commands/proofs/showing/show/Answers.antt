@@ -1,5 +1,6 @@
 use Rattle.std.proofs.Common.{refl, arith}
 use Rattle.std.proofs.lemmas.Result.{err_from_is_err_and}
+use Rattle.hunk_files.specs.FileView.{file_of}
 use Rattle.hunk_commands.specs.Engine.{Writes}
 use Rattle.hunk_commands.specs.Shown.{IsShown, file_listing}
 use Rattle.hunk_commands.proofs.FileLaws.{shown_file}
@@ -23,7 +24,7 @@ returns-in_err-put_listing-clause-write g c =
     let read = is_read a b c.args.file_bytes c.in_ok-input.input.items c.as_slice.result.now c.in_ok-input.ensures.reads c.as_slice.ensures.value in
     written_first (Writes IsShown a b c.args.file_bytes before after) c.from_residual-in_err-put_listing.result c.in_err-put_listing.field-0.0.written c.put_listing.new.w.written
     (err_from_is_err_and c.from_residual-in_err-put_listing.result c.from_residual-in_err-put_listing.ensures.1) c.in_err-put_listing.ensures.counted
-    (writes_of IsShown a b c.args.file_bytes before after c.args.w.now.written c.put_listing.new.w.written c.as_slice.result.now (file_listing c.in_ok-file.file) (file_listing c.in_ok-file.file) read (shown_file c.as_slice.result.now c.in_ok-file.file c.in_ok-file.ensures.file)
+    (writes_of IsShown a b c.args.file_bytes before after c.args.w.now.written c.put_listing.new.w.written c.as_slice.result.now (file_listing (file_of c.in_ok-file.file)) (file_listing (file_of c.in_ok-file.file)) read (shown_file c.as_slice.result.now (file_of c.in_ok-file.file) c.in_ok-file.ensures.file)
     refl c.requires c.in_err-put_listing.ensures.puts)
 
 pub returns-clause-shows : goal.returns-clause-shows
@@ -33,9 +34,9 @@ returns-clause-shows g c =
     let before = g.W.Sink.taken c.args.w.now.sink in
     let after = g.W.Sink.taken c.put_listing.new.w.sink in
     let read = is_read a b c.args.file_bytes c.in_ok-input.input.items c.as_slice.result.now c.in_ok-input.ensures.reads c.as_slice.ensures.value in
-    writes_all IsShown a b c.args.file_bytes before after c.args.w.now.written c.put_listing.new.w.written c.as_slice.result.now (file_listing c.in_ok-file.file) (file_listing c.in_ok-file.file) read (shown_file c.as_slice.result.now c.in_ok-file.file c.in_ok-file.ensures.file)
+    writes_all IsShown a b c.args.file_bytes before after c.args.w.now.written c.put_listing.new.w.written c.as_slice.result.now (file_listing (file_of c.in_ok-file.file)) (file_listing (file_of c.in_ok-file.file)) read (shown_file c.as_slice.result.now (file_of c.in_ok-file.file) c.in_ok-file.ensures.file)
     refl c.requires c.in_ok-put_listing.ensures.puts c.in_ok-put_listing.ensures.all
 
 pub put_listing-requires : goal.put_listing-requires
 put_listing-requires g c =
-    omega (arith, c.requires, file_listing_fits c.as_slice.result.now c.in_ok-file.file c.in_ok-file.ensures.file c.in_ok-file.ensures.bound)
+    omega (arith, c.requires, file_listing_fits c.as_slice.result.now (file_of c.in_ok-file.file) c.in_ok-file.ensures.file c.in_ok-file.ensures.bound)

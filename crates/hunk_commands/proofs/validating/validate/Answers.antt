@@ -1,5 +1,6 @@
 use Rattle.std.proofs.Common.{ℕ, refl, subst, sym, arith}
 use Rattle.std.proofs.lemmas.Result.{err_from_is_err_and}
+use Rattle.hunk_files.specs.FileView.{file_of}
 use Rattle.hunk_commands.specs.Engine.{Writes, WritesAll}
 use Rattle.hunk_commands.specs.Reports.{finding_count, report}
 use Rattle.hunk_commands.specs.Validated.{IsReport, IsValidated}
@@ -24,8 +25,8 @@ returns-in_err-count-clause-write g c =
     let read = is_read a b c.args.file_bytes c.in_ok-input.input.items c.as_slice.result.now c.in_ok-input.ensures.reads c.as_slice.ensures.value in
     written_first (Writes IsReport a b c.args.file_bytes before after) c.from_residual-in_err-count.result c.in_err-count.field-0.0.written c.put_report.new.w.written
     (err_from_is_err_and c.from_residual-in_err-count.result c.from_residual-in_err-count.ensures.1) c.in_err-count.ensures.puts.counted
-    (writes_of IsReport a b c.args.file_bytes before after c.args.w.now.written c.put_report.new.w.written c.as_slice.result.now (report c.in_ok-file.file) (report c.in_ok-file.file) read
-    (finding_count c.in_ok-file.file, validated_file c.as_slice.result.now c.in_ok-file.file c.in_ok-file.ensures.file) refl c.requires c.in_err-count.ensures.puts.puts)
+    (writes_of IsReport a b c.args.file_bytes before after c.args.w.now.written c.put_report.new.w.written c.as_slice.result.now (report (file_of c.in_ok-file.file)) (report (file_of c.in_ok-file.file)) read
+    (finding_count (file_of c.in_ok-file.file), validated_file c.as_slice.result.now (file_of c.in_ok-file.file) c.in_ok-file.ensures.file) refl c.requires c.in_err-count.ensures.puts.puts)
 
 pub returns-clause-validates : goal.returns-clause-validates
 returns-clause-validates g c =
@@ -34,11 +35,11 @@ returns-clause-validates g c =
     let before = g.W.Sink.taken c.args.w.now.sink in
     let after = g.W.Sink.taken c.put_report.new.w.sink in
     let read = is_read a b c.args.file_bytes c.in_ok-input.input.items c.as_slice.result.now c.in_ok-input.ensures.reads c.as_slice.ensures.value in
-    let count = finding_count c.in_ok-file.file in
+    let count = finding_count (file_of c.in_ok-file.file) in
     subst (λ (n : ℕ). WritesAll (IsValidated n) a b c.args.file_bytes before after c.put_report.new.w.written) (sym c.in_ok-count.ensures.count)
-    (writes_all (IsValidated count) a b c.args.file_bytes before after c.args.w.now.written c.put_report.new.w.written c.as_slice.result.now (report c.in_ok-file.file) (report c.in_ok-file.file) read
-    (validated_file c.as_slice.result.now c.in_ok-file.file c.in_ok-file.ensures.file) refl c.requires c.in_ok-count.ensures.puts.puts c.in_ok-count.ensures.puts.all)
+    (writes_all (IsValidated count) a b c.args.file_bytes before after c.args.w.now.written c.put_report.new.w.written c.as_slice.result.now (report (file_of c.in_ok-file.file)) (report (file_of c.in_ok-file.file)) read
+    (validated_file c.as_slice.result.now (file_of c.in_ok-file.file) c.in_ok-file.ensures.file) refl c.requires c.in_ok-count.ensures.puts.puts c.in_ok-count.ensures.puts.all)
 
 pub put_report-requires : goal.put_report-requires
 put_report-requires g c =
-    omega (arith, c.requires, report_fits c.as_slice.result.now c.in_ok-file.file c.in_ok-file.ensures.file c.in_ok-file.ensures.bound)
+    omega (arith, c.requires, report_fits c.as_slice.result.now (file_of c.in_ok-file.file) c.in_ok-file.ensures.file c.in_ok-file.ensures.bound)

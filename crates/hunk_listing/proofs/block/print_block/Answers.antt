@@ -1,9 +1,19 @@
-use Rattle.std.proofs.Common.{◌∙◌, ap, map, sym}
-use Rattle.hunk_blocks.specs.Views.{body_of, group_of}
-use Rattle.hunk_listing.proofs.BlockLaws.{offsets_fit}
+use Rattle.std.proofs.Common.{◌∙◌, ap, sym}
+use Rattle.hunk_blocks.specs.BodyViews.{viewed}
+use Rattle.hunk_listing.proofs.BlockLaws.{entries_fit, offsets_fit, symbols_fit}
 use Rattle.hunk_listing.proofs.block.print_block.Goals as goal
 
 pub print_relocations-requires : goal.print_relocations-requires
 print_relocations-requires g c =
-    offsets_fit c.args.block.now (map group_of c.in-Reloc.groups) c.encoded_len-size.result
-    (sym (ap body_of c.in-Reloc.is) ∙ c.body.ensures.value) c.encoded_len-size.ensures c.encoded_len-size.type_inv
+    offsets_fit c.args.block.value c.in-Reloc.groups.value c.encoded_len-size.result
+    (sym (ap viewed c.in-Reloc.is) ∙ c.into_body-body.ensures.value) c.encoded_len-size.ensures c.encoded_len-size.type_inv
+
+pub print_entries-requires : goal.print_entries-requires
+print_entries-requires g c =
+    entries_fit c.args.block.value c.in-Ext.entries.value c.encoded_len-size.result
+    (sym (ap viewed c.in-Ext.is) ∙ c.into_body-body.ensures.value) c.encoded_len-size.ensures c.encoded_len-size.type_inv
+
+pub print_symbols-requires : goal.print_symbols-requires
+print_symbols-requires g c =
+    symbols_fit c.args.block.value c.in-Symbol.symbols.value c.encoded_len-size.result
+    (sym (ap viewed c.in-Symbol.is) ∙ c.into_body-body.ensures.value) c.encoded_len-size.ensures c.encoded_len-size.type_inv
