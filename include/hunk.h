@@ -12,7 +12,6 @@
  *   is not NULL, also where the length is 0; any aligned address will do there.
  * - The memory that is written overlaps no other argument.
  * - malloc, realloc and free are of one allocator, and may be called.
- * - There are some 100 KiB of stack: hunk_strip writes through a page of 80 KiB there.
  */
 #ifndef HUNK_H
 #define HUNK_H
@@ -247,15 +246,11 @@ struct hunk_answer hunk_end(const struct hunk_loader *loader);
  *               file. A load file has none: for an offset that is wrong it is refused.
  * HUNK_NO_ROOM  there are more findings than rows. count: the rows that are needed; hunk and place
  *               as at HUNK_OK. With rows_len 0 this asks for their number.
- * HUNK_OUT_OF_MEMORY  place: the longword that completes what found no memory, or the bytes of the
- *                     object file where its findings found none.
  * Else the first fault of the bytes, HUNK_NOT_LOAD_FILE to HUNK_TRUNCATED; place: the byte of the
  * longword that is refused, or where the first longword is missing.
  *
- * A file is checked where there are rows enough, or the answer is HUNK_OUT_OF_MEMORY. Rows after
- * the findings, and at any answer but HUNK_OK all rows, are as they were. It takes memory for the
- * parts of the file, its hunks, blocks, groups, entries and symbols, and for the findings, 24 bytes
- * each; each rounded up as a list grows.
+ * A file is checked where there are rows enough. Rows after the findings, and at any answer but
+ * HUNK_OK all rows, are as they were. It takes no memory.
  */
 struct hunk_answer hunk_check(const uint8_t *bytes, size_t bytes_len, struct hunk_finding *rows,
                               size_t rows_len);
@@ -271,14 +266,12 @@ struct hunk_answer hunk_check(const uint8_t *bytes, size_t bytes_len, struct hun
  *               the file; count: the bytes that were written.
  * HUNK_NO_ROOM  the text is too short. count: the bytes that are needed; hunk and place as at
  *               HUNK_OK.
- * HUNK_OUT_OF_MEMORY  place: the longword that completes what found no memory, or the bytes of the
- *                     file where the stripped file found none.
- * Else the first fault of the bytes, as at hunk_check.
+ * Else the first fault of the bytes, as at hunk_check; HUNK_OUT_OF_MEMORY never.
  *
- * A file is stripped where there is room, or the answer is HUNK_OUT_OF_MEMORY. Text after what is
- * written, and at any answer but HUNK_OK all text, is as it was. What is loaded of a stripped load
- * file is the same, and so are the findings of a stripped object file. It takes memory for the
- * parts of the file, as hunk_check does, and then as many bytes as the file has, once.
+ * A file is stripped where there is room. Text after what is written, and at any answer but HUNK_OK
+ * all text, is as it was. What is loaded of a stripped load file is the same, and so are the
+ * findings of a stripped object file. It takes no memory: what stays is counted first, and then
+ * copied in ranges of the file.
  */
 struct hunk_answer hunk_strip(const uint8_t *bytes, size_t bytes_len, uint8_t *text,
                               size_t text_len);

@@ -131,7 +131,7 @@ pub fn load_into(data: &[u8], base: u32, memory: &mut [u8]) -> Result<usize, Err
 ///
 /// # Errors
 ///
-/// An error where the bytes are no object file and do not begin with a load file, or memory runs out.
+/// An error where the bytes are no object file and do not begin with a load file.
 pub fn check(data: &[u8]) -> Result<Vec<Finding>, Error> {
     // SAFETY: the pointers come with the lengths of what they point to.
     let write = |rows: &mut [raw::Finding]| unsafe {
@@ -145,7 +145,7 @@ pub fn check(data: &[u8]) -> Result<Vec<Finding>, Error> {
 ///
 /// # Errors
 ///
-/// As [`check`].
+/// As [`check`], or where memory runs out.
 pub fn strip(data: &[u8]) -> Result<Vec<u8>, Error> {
     let mut text = vec![0; data.len()];
     // SAFETY: the pointers come with the lengths of what they point to.
