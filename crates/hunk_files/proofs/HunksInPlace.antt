@@ -1,5 +1,5 @@
 -- The hunks of a load file, read where they lie.
-use Rattle.std.proofs.Common.{◌≡◌, ℕ, ◌+◌, ◌*◌, List, [], ◌∷◌, ◌++◌, length, drop, refl, sym, ap, ap₂, ◌∙◌, append_assoc, Some}
+use Rattle.std.proofs.Common.{◌≡◌, ℕ, ◌+◌, ◌*◌, List, [], ◌∷◌, ◌++◌, length, drop, refl, sym, ap, ap₂, subst, ◌∙◌, append_assoc, Some}
 use Rattle.std.specs.List.{AllByRecursion}
 use Rattle.std.proofs.lemmas.List.{drop-drop, drop_at}
 use Rattle.hunk_words.specs.Longs.{longs, bytes_of, AreLongs}
@@ -103,3 +103,17 @@ module _ (bytes : List ℕ) (file : BeginsWithLoadFile bytes) where
   pub all_hunks : hunks_in (table file.value) (drop (4 * length (header_text file.value)) bytes) ≡ file.value
   unfolding hunks_begin
   all_hunks = hunks_in_is hunks_begin
+
+-- ---- all hunks, as a view has them
+
+module _ (bytes : List ℕ) (file : BeginsWithLoadFile bytes) (v : LoadFileValue) (same : file.value ≡ v) (entries : List TableEntry) (at : ℕ) (table_is : entries ≡ table v) (place : at ≡ 4 * length (header_text v)) where
+  pub hunks_begin_at : BeginsWithHunks entries (drop at bytes)
+  hunks_begin_at =
+      subst (λ (es : List TableEntry). BeginsWithHunks es (drop at bytes)) (sym table_is)
+      (subst (λ (n : ℕ). BeginsWithHunks (table v) (drop n bytes)) (sym place) (subst (λ (w : LoadFileValue). BeginsWithHunks (table w) (drop (4 * length (header_text w)) bytes)) same (hunks_begin bytes file)))
+
+  pub all_hunks_at : hunks_in entries (drop at bytes) ≡ v
+  all_hunks_at =
+      ap₂ (λ (es : List TableEntry) (n : ℕ). hunks_in es (drop n bytes)) table_is place
+      ∙ ap (λ (w : LoadFileValue). hunks_in (table w) (drop (4 * length (header_text w)) bytes)) (sym same)
+      ∙ all_hunks bytes file ∙ same

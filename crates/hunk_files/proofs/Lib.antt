@@ -11,6 +11,7 @@ mod FileKinds
 pub mod FileProgress
 pub mod FileText
 pub mod FileViews
+mod FillingLaws
 pub mod FindingCounts
 mod FindingSteps
 pub mod HunkProgress

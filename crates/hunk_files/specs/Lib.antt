@@ -4,6 +4,7 @@ pub mod Entries
 pub mod Fault
 pub mod FileSteps
 pub mod FileView
+pub mod Filling
 pub mod Findings
 pub mod HunkFile
 pub mod Hunks

@@ -1,6 +1,7 @@
 //! Load files and object files of the Amiga, read from bytes and written to them.
 #![tactic(auto)]
 
+mod bases;
 mod blocks;
 mod file_view;
 mod hunk_file;
@@ -14,6 +15,7 @@ mod row;
 mod sniffing;
 mod writing;
 
+pub use crate::bases::Bases;
 pub use crate::blocks::BlockViews;
 pub use crate::file_view::FileView;
 pub use crate::hunk_file::HunkFile;

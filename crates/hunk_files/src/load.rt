@@ -1,6 +1,7 @@
 //! Load files.
 
 mod file;
+mod filling;
 mod hunk;
 mod hunk_views;
 mod image;

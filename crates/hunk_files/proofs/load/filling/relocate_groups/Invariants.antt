@@ -1,0 +1,13 @@
+use Rattle.std.proofs.Common.{◌≡◌, ◌/◌, length}
+use Rattle.std.specs.List.{AllByRecursion, flat_map}
+use Rattle.hunk_files.specs.Image.{group_relocations, relocated}
+use Rattle.hunk_files.specs.LoadFile.{FitsGroup}
+use Rattle.hunk_files.proofs.load.filling.relocate_groups.Given as goal
+
+abbrev pub invariant-relocating : goal.invariant-relocating
+invariant-relocating g l = record {
+  room : AllByRecursion (FitsGroup (length (g.B.Bases.bases l.bases)) (length l.initial.memory / 4)) l.group-iterator.value;
+  left :
+      relocated (g.B.Bases.bases l.bases) l.memory (flat_map group_relocations l.group-iterator.value)
+      ≡ relocated (g.B.Bases.bases l.bases) l.initial.memory (flat_map group_relocations l.fn.groups.value);
+}

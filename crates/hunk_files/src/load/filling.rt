@@ -1,0 +1,112 @@
+//! The memory of a load file's hunks, written where it is to be, with no memory taken.
+ghost use Rattle.std.specs.Prelude.{◌≡◌, ◌+◌, ◌*◌, ◌/◌, ◌≤◌, false, length, map};
+ghost use Rattle.std.specs.List.{AllByRecursion, flat_map};
+ghost use Rattle.hunk_blocks.specs.BodyViews.{viewed};
+ghost use Rattle.hunk_blocks.specs.Views.{group_of};
+ghost use Rattle.hunk_files.specs.Filling.{Fits, filled_by};
+ghost use Rattle.hunk_files.specs.Hunks.{block_texts};
+ghost use Rattle.hunk_files.specs.Image.{add_at, declared_bytes, filled, group_relocations};
+ghost use Rattle.hunk_files.specs.Image.{images, memory_of, relocated};
+ghost use Rattle.hunk_files.specs.LoadFile.{FitsGroup, FitsHunk};
+ghost use Rattle.hunk_files.specs.LoadText.{table};
+
+use crate::bases::Bases;
+use crate::blocks::BlockViews;
+use crate::load::view::LoadView;
+use hunk_blocks::{BodyView, Group, GroupsIter};
+
+impl LoadView<'_> {
+    /// Writes the memory of all hunks, one right after the other, where hunk number `i` lies at its
+    /// base. It takes no memory.
+    ///
+    /// A hunk's memory is its contents, zero bytes up to its declared bytes, and for each RELOC32
+    /// offset, in file order, the base of the target added to the long there, modulo 2^32, as
+    /// `LoadFile::image` has it. Each byte of `memory` is written, whatever it was.
+    pub fn fill_images<B: Bases>(&self, memory: &mut [u8], bases: &B)
+        requires room { length memory.old ≡ declared_bytes (table self.now) }
+        requires bases { length (B.bases bases.now) ≡ length self.now }
+        ensures { memory.new ≡ images (B.bases bases.now) self.now }
+    {
+        let bytes = self.bytes;
+        let mut at = self.body();
+        let mut start = 0;
+        'filling: for size in self.table() {
+            let end = start + size.bytes() as usize;
+            let mut blocks = BlockViews::at(bytes, at);
+            fill_hunk(&mut memory[start..end], &mut blocks, bases);
+            at = blocks.place() as usize;
+            start = end;
+        }
+    }
+}
+
+/// Writes the memory of a hunk that has these blocks, with none left to come.
+fn fill_hunk<B: Bases>(memory: &mut [u8], blocks: &mut BlockViews<'_>, bases: &B)
+    requires { Fits (length (B.bases bases.now)) (length memory.old) blocks.old.value }
+    ensures memory { memory.new
+        ≡ memory_of (B.bases bases.now) (length memory.old) blocks.old.value }
+    ensures behind { blocks.new.place
+        ≡ blocks.old.place + 4 * length (block_texts blocks.old.value) }
+{
+    'filling: while let Some(block) = blocks.next() {
+        fill_block(memory, block.into_body(), bases);
+    }
+}
+
+/// Does to the memory of a hunk what a block of it says.
+fn fill_block<B: Bases>(memory: &mut [u8], body: BodyView<'_>, bases: &B)
+    requires { FitsHunk (length (B.bases bases.now)) (length memory.old / 4) (viewed body) }
+    ensures { memory.new ≡ filled_by (B.bases bases.now) memory.old (viewed body.entry) }
+{
+    match body {
+        BodyView::Code { top: _, payload } => put_content(memory, payload.bytes()),
+        BodyView::Data { top: _, payload } => put_content(memory, payload.bytes()),
+        BodyView::Bss { size: _ } => memory.fill(0),
+        BodyView::Reloc(groups) => relocate_groups(memory, groups, bases),
+        _ => {}
+    }
+}
+
+/// Writes the content to the front of the memory, and zero bytes behind it.
+fn put_content(memory: &mut [u8], content: &[u8])
+    requires { length content.now ≤ length memory.old }
+    ensures { memory.new ≡ filled (length memory.old) content.now }
+{
+    memory[..content.len()].copy_from_slice(content);
+    memory[content.len()..].fill(0);
+}
+
+/// Adds the bases of all groups, in file order.
+fn relocate_groups<B: Bases>(memory: &mut [u8], groups: GroupsIter<'_>, bases: &B)
+    requires { AllByRecursion (FitsGroup (length (B.bases bases.now)) (length memory.old / 4))
+        groups.value }
+    ensures { memory.new ≡ relocated (B.bases bases.now) memory.old
+        (flat_map group_relocations groups.entry.value) }
+{
+    'relocating: for group in groups {
+        relocate_group(memory, &group, bases);
+    }
+}
+
+/// Adds the base of the group's target at each of its offsets.
+pub(super) fn relocate_group<B: Bases>(memory: &mut [u8], group: &Group<'_>, bases: &B)
+    requires { FitsGroup (length (B.bases bases.now)) (length memory.old / 4)
+        (group_of group.now) }
+    ensures { memory.new
+        ≡ relocated (B.bases bases.now) memory.old (group_relocations (group_of group.now)) }
+{
+    let base = bases.base(group.target);
+    'relocating: for offset in &group.offsets {
+        add_base(memory, offset as usize, base);
+    }
+}
+
+/// Increases the long at the offset, modulo 2^32.
+fn add_base(memory: &mut [u8], offset: usize, base: u32)
+    requires { offset + 4 ≤ length memory.old }
+    ensures { memory.new ≡ add_at memory.old offset base }
+{
+    let long = &mut memory[offset..offset + 4];
+    let sum = u32::from_be_bytes([long[0], long[1], long[2], long[3]]).wrapping_add(base);
+    long.copy_from_slice(&sum.to_be_bytes());
+}
