@@ -1,5 +1,5 @@
 -- The memory of a hunk, block by block, and that of a file, hunk by hunk.
-use Rattle.std.proofs.Common.{◌≡◌, ℕ, ◌+◌, ◌-◌, ◌*◌, ◌/◌, ◌≤◌, Bool, true, false, List, [], ◌∷◌, ◌++◌, length, map, take, drop, refl, sym, ap, ap₂, subst, ◌∙◌, append_assoc, append-nil, length-append, take-append-drop, arith}
+use Rattle.std.proofs.Common.{◌≡◌, ℕ, ◌+◌, ◌-◌, ◌*◌, ◌/◌, ◌≤◌, Bool, true, false, List, [], ◌∷◌, ◌++◌, length, map, get_or, take, drop, refl, sym, ap, ap₂, subst, ◌∙◌, append_assoc, append-nil, length-append, take-append-drop, arith}
 use borrow.Rule.Slice.PartMut.{put_mid}
 use Rattle.std.specs.List.{flat_map, AllByRecursion}
 use Rattle.std.proofs.lemmas.List.{length-drop, length-take-le, take_all}
@@ -12,12 +12,11 @@ use Rattle.hunk_blocks.proofs.Lists.{flat_map-more}
 use Rattle.hunk_blocks.specs.Values.{BlockBody, BlockValue, Code, Data, Bss, Reloc, Ext, End}
 use Rattle.hunk_scan.specs.Standings.{BlockStanding, is_content}
 use Rattle.hunk_files.specs.Filling.{Fits, filled_by}
-use Rattle.hunk_files.specs.Image.{block_content, block_relocations, declared_bytes, filled, group_relocations, image, images, memory_of, relocated}
+use Rattle.hunk_files.specs.Image.{add_at, block_content, block_relocations, declared_bytes, filled, group_relocations, image, images, memory_of, relocated}
 use Rattle.hunk_files.specs.LoadFile.{HunkValue, LoadFileValue, TableEntry, AreInOrder, FitsHunk, IsHunk, IsHunkBlock, declared_longs, standing}
 use Rattle.hunk_files.specs.LoadText.{table}
 use Rattle.hunk_files.proofs.FileText.{no_more, standings}
 use Rattle.hunk_files.proofs.HunkOrder.{by_standing}
-use Rattle.hunk_files.proofs.Relocate.{relocated-append}
 
 -- ---- the blocks that are left
 
@@ -53,6 +52,10 @@ empty _ e = refl
 no_contents : (bs : List BlockValue) → AllByRecursion IsNoContent bs → contents bs ≡ []
 no_contents [] h = refl
 no_contents (b ∷ bs) h = ap₂ (λ (xs ys : List ℕ). xs ++ ys) (empty b.body h.0) (no_contents bs h.1)
+
+relocated-append : (bases bytes : List ℕ) (ps qs : List (ℕ × ℕ)) → relocated bases bytes (ps ++ qs) ≡ relocated bases (relocated bases bytes ps) qs
+relocated-append bases bytes [] qs = refl
+relocated-append bases bytes (p ∷ ps) qs = relocated-append bases (add_at bytes p.0 (get_or bases p.1 0)) ps qs
 
 module _ (bases : List ℕ) (left : List BlockValue) (memory all : List ℕ) where
   -- a content was put

@@ -4,7 +4,6 @@ pub mod BlockCuts
 pub mod BlocksInPlace
 pub mod BlockPlaces
 pub mod Completion
-pub mod Concats
 pub mod ContentBlocks
 mod Examples
 mod FileKinds
@@ -19,7 +18,6 @@ mod HunkFaults
 mod HunkRanges
 pub mod HunkBlocks
 pub mod HunksInPlace
-pub mod ImageParts
 pub mod Least
 pub mod LoadCuts
 pub mod LoadKeeping
@@ -39,7 +37,6 @@ pub mod Peel
 mod RangeLaws
 pub mod Reading
 pub mod Refusals
-pub mod Relocate
 pub mod Rising
 pub mod Runs
 pub mod Scan

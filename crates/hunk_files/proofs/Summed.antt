@@ -9,14 +9,13 @@ use Rattle.std.proofs.lemmas.Bool.Decides.{nat_tests}
 use Rattle.std.proofs.Math.Nat.{mod-add-mod}
 use Rattle.std.proofs.lemmas.Bool.{cases_lt, cases_order}
 use Rattle.hunk_words.specs.Longs.{bytes_of, IsBytes}
-use Rattle.hunk_blocks.specs.Values.{BlockBody, BlockValue, Code, Data}
-use Rattle.hunk_files.specs.LoadFile.{HunkValue, IsHunk, declared_longs}
-use Rattle.hunk_files.specs.Image.{content, relocations, offsets, image, relocated, add_at, filled, block_content}
+use Rattle.hunk_blocks.specs.Values.{RelocGroup, BlockBody, BlockValue, Code, Data, Reloc}
+use Rattle.hunk_files.specs.LoadFile.{HunkValue, FitsGroup, FitsHunk, IsHunk, IsHunkBlock, IsInside, declared_longs}
+use Rattle.hunk_files.specs.Image.{content, relocations, offsets, image, relocated, add_at, filled, block_content, block_relocations, group_relocations}
 use Rattle.hunk_files.specs.Overlap.{AreApart}
 use Rattle.hunk_files.specs.SumImage.{long_at, added, IsOutside, IsSum, IsSumImage}
 use Rattle.hunk_files.proofs.AddAt.{added_length, added_beside, added_bytes, added_here, added_away, bytes_of_word, bytes_in_long, long_at_fits}
-use Rattle.hunk_files.specs.Relocating.{IsRelocatable}
-use Rattle.hunk_files.proofs.Relocate.{hunk_fits}
+use Rattle.hunk_files.proofs.Accepted.{All-map, All-flat_map}
 
 abbrev pub AreInside : ℕ → List (ℕ × ℕ) → Type 0
 AreInside size pairs = AllByRecursion (λ pair. pair.0 + 4 ≤ size) pairs
@@ -188,12 +187,17 @@ content_bytes h = bytes_append _ _ (bytes_flat (λ (b : BlockValue). block_conte
 filled_length : (size : ℕ) (bytes : List ℕ) → size ≤ length (filled size bytes)
 filled_length size bytes = omega (arith, length-append bytes (replicate (size - length bytes) 0), length-replicate {A = ℕ} (size - length bytes) 0)
 
-relocatable_inside : (a b hunks : ℕ) (pairs : List (ℕ × ℕ)) → a ≤ b → IsRelocatable a hunks pairs → AreInside b pairs
-relocatable_inside a b hunks [] le h = tt
-relocatable_inside a b hunks (p ∷ pairs) le h = (omega (arith, h.0.0, le), relocatable_inside a b hunks pairs le h.1)
+group_inside : (hunks longs size : ℕ) → 4 * longs ≤ size → (g : RelocGroup) → FitsGroup hunks longs g → AreInside size (group_relocations g)
+group_inside hunks longs size le g h = All-map (IsInside longs) (λ (p : ℕ × ℕ). p.0 + 4 ≤ size) (λ (o : ℕ). (o, g.target)) (λ o l. omega (arith, l, le)) g.offsets h.1
+
+block_inside : (hunks longs size : ℕ) → 4 * longs ≤ size → (b : BlockBody) → FitsHunk hunks longs b → AreInside size (block_relocations b)
+block_inside hunks longs size le (Reloc groups) h = All-flat_map (FitsGroup hunks longs) (λ (p : ℕ × ℕ). p.0 + 4 ≤ size) group_relocations (group_inside hunks longs size le) groups h
+block_inside hunks longs size le _ h = tt
 
 pub relocations_inside : (hunks : ℕ) (h : HunkValue) → IsHunk hunks h → AreInside (length (content h)) (relocations h)
-relocations_inside hunks h is = relocatable_inside (4 * declared_longs h) (length (content h)) hunks (relocations h) (filled_length (4 * declared_longs h) _) (hunk_fits hunks h is)
+relocations_inside hunks h is =
+    All-flat_map (IsHunkBlock hunks (declared_longs h)) (λ (p : ℕ × ℕ). p.0 + 4 ≤ length (content h)) (λ (b : BlockValue). block_relocations b.body)
+    (λ b k. block_inside hunks (declared_longs h) (length (content h)) (filled_length (4 * declared_longs h) _) b.body k.fits) h.blocks is.blocks
 
 pub image_sums : (hunks : ℕ) (h : HunkValue) (bases : List ℕ) → IsHunk hunks h → AreApart (offsets (relocations h)) → IsSumImage bases h (image bases h)
 image_sums hunks h bases is apart = relocated_sums bases (content h) (relocations h) (content_bytes h) (relocations_inside hunks h is) apart

@@ -23,7 +23,6 @@ pub mod Overlap
 pub mod Passing
 pub mod Ranges
 pub mod ReaderPosition
-pub mod Relocating
 pub mod Strip
 pub mod SumImage
 pub mod Tables

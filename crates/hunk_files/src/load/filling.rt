@@ -1,6 +1,7 @@
 //! The memory of a load file's hunks, written where it is to be, with no memory taken.
-ghost use Rattle.std.specs.Prelude.{◌≡◌, ◌+◌, ◌*◌, ◌/◌, ◌≤◌, false, length, map};
+ghost use Rattle.std.specs.Prelude.{◌≡◌, ◌+◌, ◌*◌, ◌/◌, ◌≤◌, length};
 ghost use Rattle.std.specs.List.{AllByRecursion, flat_map};
+ghost use Rattle.hunk_words.specs.Longs.{bytes_of, longs};
 ghost use Rattle.hunk_blocks.specs.BodyViews.{viewed};
 ghost use Rattle.hunk_blocks.specs.Views.{group_of};
 ghost use Rattle.hunk_files.specs.Filling.{Fits, filled_by};
@@ -13,7 +14,7 @@ ghost use Rattle.hunk_files.specs.LoadText.{table};
 use crate::bases::Bases;
 use crate::blocks::BlockViews;
 use crate::load::view::LoadView;
-use hunk_blocks::{BodyView, Group, GroupsIter};
+use hunk_blocks::{BodyView, Group, GroupsIter, Payload};
 
 impl LoadView<'_> {
     /// Writes the memory of all hunks, one right after the other, where hunk number `i` lies at its
@@ -59,8 +60,8 @@ fn fill_block<B: Bases>(memory: &mut [u8], body: BodyView<'_>, bases: &B)
     ensures { memory.new ≡ filled_by (B.bases bases.now) memory.old (viewed body.entry) }
 {
     match body {
-        BodyView::Code { top: _, payload } => put_content(memory, payload.bytes()),
-        BodyView::Data { top: _, payload } => put_content(memory, payload.bytes()),
+        BodyView::Code { top: _, payload } => put_content(memory, &payload),
+        BodyView::Data { top: _, payload } => put_content(memory, &payload),
         BodyView::Bss { size: _ } => memory.fill(0),
         BodyView::Reloc(groups) => relocate_groups(memory, groups, bases),
         _ => {}
@@ -68,10 +69,11 @@ fn fill_block<B: Bases>(memory: &mut [u8], body: BodyView<'_>, bases: &B)
 }
 
 /// Writes the content to the front of the memory, and zero bytes behind it.
-fn put_content(memory: &mut [u8], content: &[u8])
-    requires { length content.now ≤ length memory.old }
-    ensures { memory.new ≡ filled (length memory.old) content.now }
+pub(super) fn put_content(memory: &mut [u8], payload: &Payload<'_>)
+    requires { length (longs payload.now) ≤ length memory.old / 4 }
+    ensures { memory.new ≡ filled (length memory.old) (bytes_of (longs payload.now)) }
 {
+    let content = payload.bytes();
     memory[..content.len()].copy_from_slice(content);
     memory[content.len()..].fill(0);
 }

@@ -1,18 +1,19 @@
-//! The memory of a load file's hunks.
-ghost use Rattle.std.specs.Prelude.{◌≡◌, ◌≢◌, ◌↔◌, ◌+◌, ◌*◌, ◌^◌, ◌<◌, ◌≤◌, ◌++◌, Err, IfOk, OnOk};
-ghost use Rattle.std.specs.Prelude.{length, map, vec_len};
-ghost use Rattle.std.specs.List.{flat_map};
-ghost use Rattle.hunk_words.specs.Bits.{size_longs};
-ghost use Rattle.hunk_blocks.specs.Views.{group_of};
-ghost use Rattle.hunk_files.specs.Image.{add_at, block_content, block_relocations};
-ghost use Rattle.hunk_files.specs.Image.{group_relocations, image, images, relocated, relocations};
-ghost use Rattle.hunk_files.specs.Relocating.{IsRelocatable};
+//! The memory of a load file's hunks, as one list of bytes.
+ghost use Rattle.std.specs.Prelude.{◌≡◌, ◌≢◌, ◌↔◌, ◌/◌, Err, IfOk, length, map};
+ghost use Rattle.std.specs.List.{AllByRecursion, flat_map};
+ghost use Rattle.hunk_blocks.specs.Views.{body_of, group_of};
+ghost use Rattle.hunk_files.specs.Filling.{Fits, filled_by};
+ghost use Rattle.hunk_files.specs.Image.{declared_bytes, group_relocations, images, memory_of};
+ghost use Rattle.hunk_files.specs.Image.{relocated};
+ghost use Rattle.hunk_files.specs.LoadFile.{FitsGroup, FitsHunk, IsHunk};
+ghost use Rattle.hunk_files.specs.LoadText.{table};
 ghost use Rattle.hunk_files.specs.Tables.{hunk_of};
 ghost use Rattle.hunk_files.specs.declared.load.image.ImageFault.TheVariants as faults;
 
 use crate::load::file::LoadFile;
+use crate::load::filling::{put_content, relocate_group};
 use crate::load::hunk::LoadHunk;
-use hunk_blocks::{Block, Body, Group, Groups};
+use hunk_blocks::{Block, Body, Groups};
 use std::alloc::{AllocError, Global};
 use thiserror::Error;
 
@@ -57,89 +58,58 @@ impl LoadFile<'_> {
         if bases.len() != self.hunks.len() {
             return Err(ImageFault::BaseCount);
         }
-        let mut memory = Vec::with_capacity(alloc, self.total() as usize)?;
-        'hunks: for hunk in &self.hunks {
-            push_image(&mut memory, hunk, bases)?;
-        }
+        let mut memory = vec![in alloc; 0; self.total() as usize]?;
+        fill_hunks(&mut memory, &self.hunks, bases);
         Ok(memory)
     }
 }
 
-/// Appends the memory of a hunk.
-fn push_image(memory: &mut Vec<u8>, hunk: &LoadHunk<'_>, bases: &[u32]) -> Result<(), AllocError>
-    requires content { length (flat_map (λ b. block_content b.body) hunk.now.blocks.items)
-        ≤ 4 * size_longs hunk.now.row.word }
-    requires relocations { IsRelocatable (4 * size_longs hunk.now.row.word) (length bases.now)
-        (relocations (hunk_of hunk.now)) }
-    requires room { vec_len memory.old < 2 ^ 60 }
-    ensures appends { OnOk result (memory.new.items
-        ≡ memory.old.items ++ image bases.now (hunk_of hunk.now)) }
-    ensures grows { OnOk result (vec_len memory.new
-        ≡ vec_len memory.old + 4 * size_longs hunk.now.row.word) }
+/// Writes the memory of all hunks, one right after the other.
+fn fill_hunks(memory: &mut [u8], hunks: &[LoadHunk<'_>], bases: &[u32])
+    requires room { length memory.old ≡ declared_bytes (table (map hunk_of hunks.now)) }
+    requires hunks { AllByRecursion (IsHunk (length bases.now)) (map hunk_of hunks.now) }
+    ensures { memory.new ≡ images bases.now (map hunk_of hunks.now) }
 {
-    let start = memory.len();
-    push_content(memory, &hunk.blocks)?;
-    memory.resize(start + hunk.row.size().bytes() as usize, 0)?;
-    relocate(&mut memory[start..], &hunk.blocks, bases);
-    Ok(())
-}
-
-/// Appends the contents of the blocks.
-fn push_content(memory: &mut Vec<u8>, blocks: &[Block<'_>]) -> Result<(), AllocError>
-    ensures { OnOk result (memory.new.items
-        ≡ memory.old.items ++ flat_map (λ b. block_content b.body) blocks.now) }
-{
-    'pushing: for block in blocks {
-        if let Body::Code { payload, .. } | Body::Data { payload, .. } = block.body() {
-            memory.extend_from_slice(payload.bytes())?;
-        }
+    let mut start = 0;
+    'filling: for hunk in hunks {
+        let end = start + hunk.row.size().bytes() as usize;
+        fill_hunk(&mut memory[start..end], &hunk.blocks, bases);
+        start = end;
     }
-    Ok(())
 }
 
-/// Adds the bases of all relocations of the blocks, in file order.
-fn relocate(memory: &mut [u8], blocks: &[Block<'_>], bases: &[u32])
-    requires { IsRelocatable (length memory.old) (length bases.now)
-        (flat_map (λ b. block_relocations b.body) blocks.now) }
-    ensures { memory.new ≡ relocated bases.now memory.old
-        (flat_map (λ b. block_relocations b.body) blocks.now) }
+/// Writes the memory of a hunk that has these blocks.
+fn fill_hunk(memory: &mut [u8], blocks: &[Block<'_>], bases: &[u32])
+    requires { Fits (length bases.now) (length memory.old) blocks.now }
+    ensures { memory.new ≡ memory_of bases.now (length memory.old) blocks.now }
 {
-    'relocating: for block in blocks {
-        if let Body::Reloc(groups) = block.body() {
-            relocate_groups(memory, groups, bases);
-        }
+    'filling: for block in blocks {
+        fill_block(memory, block.body(), bases);
+    }
+}
+
+/// Does to the memory of a hunk what a block of it says.
+fn fill_block(memory: &mut [u8], body: &Body<'_>, bases: &[u32])
+    requires { FitsHunk (length bases.now) (length memory.old / 4) (body_of body.now) }
+    ensures { memory.new ≡ filled_by bases.now memory.old (body_of body.now) }
+{
+    match body {
+        Body::Code { top: _, payload } => put_content(memory, payload),
+        Body::Data { top: _, payload } => put_content(memory, payload),
+        Body::Bss { size: _ } => memory.fill(0),
+        Body::Reloc(groups) => relocate_groups(memory, groups, bases),
+        _ => {}
     }
 }
 
 /// Adds the bases of all groups, in file order.
 fn relocate_groups(memory: &mut [u8], groups: &Groups<'_>, bases: &[u32])
-    requires { IsRelocatable (length memory.old) (length bases.now)
-        (flat_map group_relocations (map group_of groups.now)) }
+    requires { AllByRecursion (FitsGroup (length bases.now) (length memory.old / 4))
+        (map group_of groups.now) }
     ensures { memory.new ≡ relocated bases.now memory.old
         (flat_map group_relocations (map group_of groups.now)) }
 {
     'relocating: for group in groups {
-        relocate_group(memory, group, bases);
+        relocate_group(memory, group, &bases);
     }
-}
-
-/// Adds the base of the group's target at each of its offsets.
-fn relocate_group(memory: &mut [u8], group: &Group<'_>, bases: &[u32])
-    requires { IsRelocatable (length memory.old) (length bases.now)
-        (group_relocations (group_of group.now)) }
-    ensures { memory.new ≡ relocated bases.now memory.old (group_relocations (group_of group.now)) }
-{
-    'relocating: for offset in &group.offsets {
-        add_base(memory, offset as usize, bases[group.target as usize]);
-    }
-}
-
-/// Increases the long at the offset, modulo 2^32.
-fn add_base(memory: &mut [u8], offset: usize, base: u32)
-    requires { offset + 4 ≤ length memory.old }
-    ensures { memory.new ≡ add_at memory.old offset base }
-{
-    let long = &mut memory[offset..offset + 4];
-    let sum = u32::from_be_bytes([long[0], long[1], long[2], long[3]]).wrapping_add(base);
-    long.copy_from_slice(&sum.to_be_bytes());
 }
