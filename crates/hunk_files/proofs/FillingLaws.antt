@@ -1,16 +1,16 @@
 -- The memory of a hunk, block by block, and that of a file, hunk by hunk.
-use Rattle.std.proofs.Common.{◌≡◌, ℕ, ◌+◌, ◌-◌, ◌*◌, ◌/◌, ◌≤◌, Bool, true, false, List, [], ◌∷◌, ◌++◌, length, map, get_or, take, drop, refl, sym, ap, ap₂, subst, ◌∙◌, append_assoc, append-nil, length-append, take-append-drop, arith}
+use Rattle.std.proofs.Common.{◌≡◌, ℕ, ◌+◌, ◌-◌, ◌*◌, ◌/◌, ◌≤◌, Bool, true, false, List, [], ◌∷◌, ◌++◌, length, get_or, take, drop, refl, sym, ap, ap₂, subst, ◌∙◌, append_assoc, append-nil, length-append, take-append-drop, arith}
 use borrow.Rule.Slice.PartMut.{put_mid}
 use Rattle.std.specs.List.{flat_map, AllByRecursion}
 use Rattle.std.proofs.lemmas.List.{length-drop, length-take-le, take_all}
-use Rattle.std.proofs.lemmas.List.Sums.{sum_by-cons}
+use Rattle.std.proofs.lemmas.List.Sums.{fold-append, sum_by-cons}
 use Rattle.std.proofs.lemmas.Slice.{take-put_mid, drop-put_mid}
 use Rattle.hunk_words.specs.Bits.{size_longs}
 use Rattle.hunk_words.specs.Longs.{bytes_of}
 use Rattle.hunk_blocks.proofs.Fronts.{All-right}
 use Rattle.hunk_blocks.proofs.Lists.{flat_map-more}
 use Rattle.hunk_blocks.specs.Values.{BlockBody, BlockValue, Code, Data, Bss, Reloc, Ext, End}
-use Rattle.hunk_scan.specs.Standings.{BlockStanding, is_content}
+use Rattle.hunk_scan.specs.Standings.{is_content}
 use Rattle.hunk_files.specs.Filling.{Fits, filled_by}
 use Rattle.hunk_files.specs.Image.{add_at, block_content, block_relocations, declared_bytes, filled, group_relocations, image, images, memory_of, relocated}
 use Rattle.hunk_files.specs.LoadFile.{HunkValue, LoadFileValue, TableEntry, AreInOrder, FitsHunk, IsHunk, IsHunkBlock, declared_longs, standing}
@@ -53,10 +53,6 @@ no_contents : (bs : List BlockValue) → AllByRecursion IsNoContent bs → conte
 no_contents [] h = refl
 no_contents (b ∷ bs) h = ap₂ (λ (xs ys : List ℕ). xs ++ ys) (empty b.body h.0) (no_contents bs h.1)
 
-relocated-append : (bases bytes : List ℕ) (ps qs : List (ℕ × ℕ)) → relocated bases bytes (ps ++ qs) ≡ relocated bases (relocated bases bytes ps) qs
-relocated-append bases bytes [] qs = refl
-relocated-append bases bytes (p ∷ ps) qs = relocated-append bases (add_at bytes p.0 (get_or bases p.1 0)) ps qs
-
 module _ (bases : List ℕ) (left : List BlockValue) (memory all : List ℕ) where
   -- a content was put
   behind_content : (bytes : List ℕ) → AreInOrder true (standings left) → relocated bases (filled (length memory) (bytes ++ contents left)) (relocations_in left) ≡ all →
@@ -77,7 +73,7 @@ module _ (bases : List ℕ) (left : List BlockValue) (memory all : List ℕ) whe
   goes_on true word (Code top words) c = absurd (let e : true ≡ false = c.0.0 in cc)
   goes_on true word (Data top words) c = absurd (let e : true ≡ false = c.0.0 in cc)
   goes_on true word (Bss size) c = absurd (let e : true ≡ false = c.0.0 in cc)
-  goes_on true word (Reloc groups) c = (true, (c.0.1, sym (relocated-append bases memory (flat_map group_relocations groups) (relocations_in left)) ∙ c.1))
+  goes_on true word (Reloc groups) c = (true, (c.0.1, sym (fold-append (λ (m : List ℕ) (pair : ℕ × ℕ). add_at m pair.0 (get_or bases pair.1 0)) memory (flat_map group_relocations groups) (relocations_in left)) ∙ c.1))
   goes_on true word _ c = (true, (c.0.1, c.1))
 
 pub comes_done : (bases : List ℕ) (has : Bool) (memory all : List ℕ) → ComesTo has bases [] memory all → memory ≡ all

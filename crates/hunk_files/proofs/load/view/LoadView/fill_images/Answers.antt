@@ -1,6 +1,5 @@
-use Rattle.std.proofs.Common.{◌≡◌, ℕ, ◌+◌, ◌-◌, ◌*◌, ◌≤◌, List, length, take, drop, refl, sym, ap, ap₂, subst, ◌∙◌, arith}
+use Rattle.std.proofs.Common.{◌≡◌, ℕ, ◌+◌, ◌*◌, List, length, drop, refl, sym, ap, ap₂, subst, ◌∙◌, arith}
 use Rattle.std.specs.List.{AllByRecursion}
-use Rattle.hunk_words.specs.Bits.{size_longs}
 use Rattle.hunk_blocks.specs.Placed.{Placed}
 use Rattle.hunk_blocks.specs.Values.{BlockValue}
 use Rattle.hunk_files.specs.Filling.{Fits}
@@ -11,7 +10,7 @@ use Rattle.hunk_files.specs.LoadFile.{IsHunk, TableEntry}
 use Rattle.hunk_files.specs.Tables.{size_entry}
 use Rattle.hunk_files.proofs.BlocksInPlace.{hunk_value}
 use Rattle.hunk_files.proofs.FillingLaws.{all_put, hunk_room, image_put, next_fits, no_images, part_size}
-use Rattle.hunk_files.proofs.HunksInPlace.{all_hunks_at, hunk_with, hunks_begin_at, hunks_in-nil, next_hunk_of}
+use Rattle.hunk_files.proofs.HunksInPlace.{all_hunks_at, hunks_begin_at, hunks_in-nil, next_hunk_of}
 use Rattle.hunk_files.proofs.LoadCuts.{load_value}
 use Rattle.hunk_files.proofs.load.view.LoadView.fill_images.Goals as goal
 
