@@ -4,7 +4,7 @@ use Rattle.std.specs.List.{flat_map, fold, sum_by}
 use Rattle.std.specs.Int.{w32, to_be_bytes, from_be_bytes}
 use Rattle.hunk_words.specs.Longs.{bytes_of}
 use Rattle.hunk_words.specs.Bits.{size_longs}
-use Rattle.hunk_blocks.specs.Values.{RelocGroup, BlockBody, BlockValue, Code, Data, Reloc}
+use Rattle.hunk_blocks.specs.Values.{RelocGroup, BlockBody, Code, Data, Reloc}
 use Rattle.hunk_files.specs.LoadFile.{TableEntry, HunkValue, LoadFileValue, declared_longs}
 
 -- The bytes that a table declares.
@@ -52,11 +52,6 @@ relocated bases bytes pairs = fold (λ b pair. add_at b pair.0 (get_or bases pai
 -- The memory of a hunk, where the hunks lie at these bases.
 abbrev pub image : List ℕ → HunkValue → List ℕ
 image bases h = relocated bases (content h) (relocations h)
-
--- The memory of a hunk of this number of bytes that has these blocks.
-abbrev pub memory_of : List ℕ → ℕ → List BlockValue → List ℕ
-memory_of bases size blocks =
-    relocated bases (filled size (flat_map (λ b. block_content b.body) blocks)) (flat_map (λ b. block_relocations b.body) blocks)
 
 -- The memory of all hunks, one after the other.
 abbrev pub images : List ℕ → LoadFileValue → List ℕ

@@ -23,7 +23,7 @@ mod readers;
 mod stops;
 mod writing;
 
-use hunk_files::{HunkFile, ImageFault, LoadFile, ObjectFile};
+use hunk_files::{HunkFile, ImageFault, LoadFile, LoadView, ObjectFile};
 use hunk_testing::Narrow;
 use hunk_words::{FileFault, FromWrite, LongWriter};
 use std::alloc::{AllocError, Global};
@@ -43,6 +43,20 @@ fn load_fault(alloc: Global, bytes: &[u8]) -> Option<FileFault> {
 /// The image at these bases.
 fn image(alloc: Global, file: &LoadFile, bases: &[u32]) -> Result<Vec<u8>, ImageFault> {
     file.image(alloc, bases)
+}
+
+/// The memory that a view of the load file writes at these bases, over other bytes.
+fn filled(
+    rt: &impl Abort,
+    alloc: Global,
+    bytes: &[u8],
+    bases: &[u32],
+) -> Result<Vec<u8>, AllocError> {
+    let (file, _) = LoadView::read(bytes).expect(rt, "no load file");
+    assert!(rt; bases.len() == file.hunks() as usize);
+    let mut memory = vec![in alloc; 0xA5; file.total() as usize]?;
+    file.fill_images(&mut memory, &bases);
+    Ok(memory)
 }
 
 /// The overlap in the first hunk.

@@ -2,9 +2,8 @@
 ghost use Rattle.std.specs.Prelude.{◌≡◌, ◌≢◌, ◌↔◌, ◌/◌, Err, IfOk, length, map};
 ghost use Rattle.std.specs.List.{AllByRecursion, flat_map};
 ghost use Rattle.hunk_blocks.specs.Views.{body_of, group_of};
-ghost use Rattle.hunk_files.specs.Filling.{Fits, filled_by};
-ghost use Rattle.hunk_files.specs.Image.{declared_bytes, group_relocations, images, memory_of};
-ghost use Rattle.hunk_files.specs.Image.{relocated};
+ghost use Rattle.hunk_files.specs.Filling.{Fits, filled_by, memory_of};
+ghost use Rattle.hunk_files.specs.Image.{declared_bytes, group_relocations, images, relocated};
 ghost use Rattle.hunk_files.specs.LoadFile.{FitsGroup, FitsHunk, IsHunk};
 ghost use Rattle.hunk_files.specs.LoadText.{table};
 ghost use Rattle.hunk_files.specs.Tables.{hunk_of};

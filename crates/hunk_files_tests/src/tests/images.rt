@@ -1,7 +1,7 @@
 //! The memory of load files, and the offsets whose longs overlap.
 
 use crate::tests::asserts::{assert_equal, assert_equal_at};
-use crate::tests::{image, load_file, overlap};
+use crate::tests::{filled, image, load_file, overlap};
 use hunk_files::ImageFault;
 use hunk_testing::{CHANGES, before_end, bytes_of, changed, ends_within_debug, examples, spelled};
 use std::alloc::{AllocError, Global};
@@ -57,7 +57,7 @@ const IMAGES: &[(u32, &str, &[u32], &[u32])] = &[
     (37, examples::RELOCATED_BEHIND_SYMBOLS, &[0x100], &[0x110]),
 ];
 
-/// Sees that an example has this image at these bases.
+/// Sees that an example has this image at these bases, and that a view of it writes the same.
 fn expect_image(
     rt: &impl Abort,
     alloc: Global,
@@ -67,6 +67,8 @@ fn expect_image(
 ) -> Result<(), Fail> {
     let bytes = spelled(alloc, text)?;
     let want = bytes_of(alloc, want)?;
+    let got = filled(rt, alloc, &bytes, bases)?;
+    assert_equal_at(rt, got.as_slice(), want.as_slice(), example);
     let got = image_of(rt, alloc, &bytes, bases);
     assert_equal_at(rt, got, Ok(want), example);
     Ok(())

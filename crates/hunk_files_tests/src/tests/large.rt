@@ -1,11 +1,11 @@
 //! Files with many of each part, and large ones: no call gives up on them.
 
-use crate::tests::answers;
 use crate::tests::asserts::assert_equal;
 use crate::tests::hunk_file::{expect, rewritten};
 use crate::tests::images::{image_of, overlap_of};
 use crate::tests::object_findings::checked;
 use crate::tests::object_refusals::units_in;
+use crate::tests::{answers, filled};
 use hunk_testing::large::{
     HUNKS, LARGE, LOAD_FILE, MANY, OBJECT_FILE, Run, SHORT_OF_64_MIB, STRIPPED_LOAD_FILE,
     STRIPPED_OBJECT_FILE, bytes_of_runs, large_load_file, large_object_file,
@@ -42,7 +42,7 @@ fn image_of_many(alloc: Global) -> Result<Vec<u8>, AllocError> {
     Ok(image)
 }
 
-/// Sees that the load file has this image with the base 1 of each of as many hunks.
+/// Sees that the load file has this image with the base 1 of each of as many hunks, and that a view of it writes the same.
 fn expect_image(
     rt: &impl Abort,
     alloc: Global,
@@ -52,6 +52,8 @@ fn expect_image(
     let bases = vec![in alloc; 1u32; count]?;
     let image = image_of(rt, alloc, bytes, &bases).expect(rt, "no image");
     assert!(rt; image.as_slice() == want);
+    let memory = filled(rt, alloc, bytes, &bases)?;
+    assert!(rt; memory.as_slice() == want);
     Ok(())
 }
 

@@ -1,5 +1,5 @@
 use Rattle.std.proofs.Common.{drop, length}
-use Rattle.hunk_files.specs.Image.{memory_of}
+use Rattle.hunk_files.specs.Filling.{memory_of}
 use Rattle.hunk_files.proofs.FillingLaws.{LeftToFill}
 use Rattle.hunk_files.proofs.load.image.fill_hunk.Given as goal
 

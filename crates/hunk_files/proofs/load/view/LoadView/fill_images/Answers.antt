@@ -2,9 +2,8 @@ use Rattle.std.proofs.Common.{◌≡◌, ℕ, ◌+◌, ◌*◌, List, length, dr
 use Rattle.std.specs.List.{AllByRecursion}
 use Rattle.hunk_blocks.specs.Placed.{Placed}
 use Rattle.hunk_blocks.specs.Values.{BlockValue}
-use Rattle.hunk_files.specs.Filling.{Fits}
+use Rattle.hunk_files.specs.Filling.{Fits, memory_of}
 use Rattle.hunk_files.specs.Hunks.{block_texts}
-use Rattle.hunk_files.specs.Image.{memory_of}
 use Rattle.hunk_files.specs.InPlace.{blocks_in, hunks_in}
 use Rattle.hunk_files.specs.LoadFile.{IsHunk, TableEntry}
 use Rattle.hunk_files.specs.Tables.{size_entry}
