@@ -17,12 +17,12 @@ use crate::load::view::LoadView;
 use hunk_blocks::{BodyView, Group, GroupsIter, Payload};
 
 impl LoadView<'_> {
-    /// Writes the memory of all hunks, one right after the other, where hunk number `i` lies at its
-    /// base. It takes no memory.
+    /// Writes the memory of all hunks, one right after the other, as each lies at its base. It
+    /// takes no memory.
     ///
-    /// A hunk's memory is its contents, zero bytes up to its declared bytes, and for each RELOC32
-    /// offset, in file order, the base of the target added to the long there, modulo 2^32, as
-    /// `LoadFile::image` has it. Each byte of `memory` is written, whatever it was.
+    /// `memory` has the declared bytes, `total()`, and `bases` a base for each hunk. A hunk's
+    /// memory is that of `LoadFile::image`: contents, zero bytes, and the bases of the targets
+    /// added in file order. What stood in `memory` does not matter.
     pub fn fill_images<B: Bases>(&self, memory: &mut [u8], bases: &B)
         requires room { length memory.old ≡ declared_bytes (table self.now) }
         requires bases { length (B.bases bases.now) ≡ length self.now }
