@@ -47,7 +47,6 @@ LIBRARY=${LIBRARY:-crates/hunk/out/libhunk.a}
 PROGRAM=${PROGRAM:-crates/hunkinfo/out/hunkinfo}
 CC=${CC:-cc}
 command -v "${CC%% *}" > /dev/null || lack "a C compiler, $CC, is needed"
-command -v rt > /dev/null || lack 'the Rattle kit, rt, is needed: the library asks for memory by an object of it'
 [ -f "$LIBRARY" ] || lack "$LIBRARY is not there: build it with (cd crates/hunk && rt lib)"
 [ -f "$PROGRAM" ] || lack "$PROGRAM is not there: build it with (cd crates/hunkinfo && rt run < stdin)"
 case $PREFIX in
@@ -61,18 +60,10 @@ done
 work=$(mktemp -d)
 trap 'rm -rf "$work"' EXIT
 trap 'exit 1' HUP INT TERM
-# One archive: the library, and the kit's three calls of malloc, realloc and free.
-cp "$LIBRARY" "$work/libhunk.a"
-chmod u+w "$work/libhunk.a"
-(
-  cd "$work"
-  ar x "$(dirname "$(rt doc)")/c/liblibc_c.a"
-  ar rs libhunk.a ./*.o 2> /dev/null
-)
 echo '{ global: hunk_*; local: *; };' > "$work/exports"
 # shellcheck disable=SC2086
 $CC -shared -o "$work/libhunk.so" -Wl,-soname,libhunk.so -Wl,--version-script="$work/exports" \
-  -Wl,--whole-archive "$work/libhunk.a" -Wl,--no-whole-archive
+  -Wl,--whole-archive "$LIBRARY" -Wl,--no-whole-archive
 cat > "$work/hunk.pc" << END
 prefix=$(printf '%s\n' "$PREFIX" | sed 's/[\\"]/\\&/g')
 includedir=\${prefix}/include
@@ -95,7 +86,7 @@ done
 echo "$made" > "$record"
 install -m 755 "$PROGRAM" "$to/bin/hunkinfo"
 install -m 644 include/hunk.h "$to/include/hunk.h"
-install -m 644 "$work/libhunk.a" "$to/lib/libhunk.a"
+install -m 644 "$LIBRARY" "$to/lib/libhunk.a"
 install -m 755 "$work/libhunk.so" "$to/lib/libhunk.so"
 install -m 644 "$work/hunk.pc" "$to/lib/pkgconfig/hunk.pc"
 install -m 644 docs/hunkinfo.1 "$to/share/man/man1/hunkinfo.1"

@@ -2,16 +2,15 @@
  * stripping load files and object files, the names of refusals.
  *
  * Whatever the bytes are, each call gives one of the answers listed with it; what of this is proved
- * is in docs/PROVED.md of the source tree. A call reads and writes only what its arguments point to
- * and what malloc gives it, keeps nothing between two calls, and gives back what it took before it
- * returns. So threads may call at the same time, as long as no call writes memory that another one
- * uses.
+ * is in docs/PROVED.md of the source tree. A call reads and writes only what its arguments point
+ * to, asks for no memory, and keeps nothing between two calls. So threads may call at the same
+ * time, as long as no call writes memory that another one uses. hunk_load_packed needs 17 KiB of
+ * stack, each other call less than 1 KiB.
  *
  * What the caller has to make sure of:
  * - Each pointer points to as many elements as its length says, aligned for their type. A pointer
  *   is not NULL, also where the length is 0; any aligned address will do there.
  * - The memory that is written overlaps no other argument.
- * - malloc, realloc and free are of one allocator, and may be called.
  */
 #ifndef HUNK_H
 #define HUNK_H
@@ -55,7 +54,7 @@ extern "C" {
 #define HUNK_FILE_LIMIT UINT32_C(28)          /* no call of these answers it */
 #define HUNK_NO_BASE UINT32_C(29)             /* a hunk has no base */
 #define HUNK_READ UINT32_C(30)                /* no call of these answers it */
-#define HUNK_OUT_OF_MEMORY UINT32_C(31)       /* out of memory */
+#define HUNK_OUT_OF_MEMORY UINT32_C(31)       /* reserved: no call answers it */
 #define HUNK_NO_ROOM UINT32_C(32)             /* the caller's array has too few elements */
 #define HUNK_STRANGE UINT32_C(33)             /* numbers of no loader, or that do not fit */
 
@@ -101,8 +100,7 @@ struct hunk_finding {
  * HUNK_BUDGET         place: the size word with which the sum first passes the budget.
  * Else the first fault of the header, HUNK_NOT_LOAD_FILE to HUNK_LAST_HUNK.
  *
- * Rows after the table, and at any answer but HUNK_OK all rows, are as they were. It takes no
- * memory.
+ * Rows after the table, and at any answer but HUNK_OK all rows, are as they were.
  */
 struct hunk_answer hunk_table(const uint8_t *bytes, size_t bytes_len, uint64_t budget,
                               struct hunk_row *rows, size_t rows_len);
@@ -118,16 +116,13 @@ struct hunk_answer hunk_table(const uint8_t *bytes, size_t bytes_len, uint64_t b
  * HUNK_NO_ROOM  the memory is too small. hunk: the hunks; place: the bytes of the header; count:
  *               the bytes that are needed.
  * HUNK_NO_BASE  hunk: the first that has no base; place: the bytes of the header.
- * HUNK_OUT_OF_MEMORY  place: the longword that completes the row which found no memory, or the
- *                     bytes of the header where the hunks found none.
  * Else the first fault of the bytes, HUNK_NOT_LOAD_FILE to HUNK_BAD_OFFSET or HUNK_TRUNCATED;
  * place: the byte of the longword that is refused, or where the first longword is missing.
  *
  * HUNK_NO_ROOM and HUNK_NO_BASE come before the body is looked at, HUNK_NO_ROOM first where both
- * apply. A file that fits, with a base for each hunk, is loaded, or the answer is
- * HUNK_OUT_OF_MEMORY. Memory after the hunks, and at any answer but HUNK_OK all memory, is as it
- * was. It takes 12 bytes for each hunk, rounded up as a list grows, and then as many bytes as the
- * hunks have, once.
+ * apply. A file that fits, with a base for each hunk, is loaded. It is read to its end before the
+ * first byte is written: memory after the hunks, and at any answer but HUNK_OK all memory, is as it
+ * was.
  */
 struct hunk_answer hunk_load(const uint8_t *bytes, size_t bytes_len, const uint32_t *bases,
                              size_t bases_len, uint8_t *memory, size_t memory_len);
@@ -141,13 +136,13 @@ struct hunk_answer hunk_load(const uint8_t *bytes, size_t bytes_len, const uint3
 struct hunk_answer hunk_load_packed(const uint8_t *bytes, size_t bytes_len, uint32_t base,
                                     uint8_t *memory, size_t memory_len);
 
-/* ---- A load file that comes piece by piece, and is loaded with no other memory than the caller's.
+/* ---- A load file that comes piece by piece, of which no copy is kept.
  *
- * hunk_table reads the header, which has to be in one piece, into the caller's rows. Neither it nor
- * the three calls below ask malloc for anything. They know the file by its places, and by what the
- * loader has: numbers alone, which may be copied and stored, and belong to one file, its places and
- * its memory. hunk_begin sets them, hunk_feed takes the bytes after the header in pieces of any
- * size, and hunk_end says whether the file is whole.
+ * hunk_table reads the header, which has to be in one piece, into the caller's rows. The three
+ * calls below know the file by its places, and by what the loader has: numbers alone, which may be
+ * copied and stored, and belong to one file, its places and its memory. hunk_begin sets them,
+ * hunk_feed takes the bytes after the header in pieces of any size, and hunk_end says whether the
+ * file is whole.
  */
 
 /* Where a hunk lies: 12 bytes. */
@@ -250,7 +245,7 @@ struct hunk_answer hunk_end(const struct hunk_loader *loader);
  * longword that is refused, or where the first longword is missing.
  *
  * A file is checked where there are rows enough. Rows after the findings, and at any answer but
- * HUNK_OK all rows, are as they were. It takes no memory.
+ * HUNK_OK all rows, are as they were.
  */
 struct hunk_answer hunk_check(const uint8_t *bytes, size_t bytes_len, struct hunk_finding *rows,
                               size_t rows_len);
@@ -266,12 +261,11 @@ struct hunk_answer hunk_check(const uint8_t *bytes, size_t bytes_len, struct hun
  *               the file; count: the bytes that were written.
  * HUNK_NO_ROOM  the text is too short. count: the bytes that are needed; hunk and place as at
  *               HUNK_OK.
- * Else the first fault of the bytes, as at hunk_check; HUNK_OUT_OF_MEMORY never.
+ * Else the first fault of the bytes, as at hunk_check.
  *
  * A file is stripped where there is room. Text after what is written, and at any answer but HUNK_OK
  * all text, is as it was. What is loaded of a stripped load file is the same, and so are the
- * findings of a stripped object file. It takes no memory: what stays is counted first, and then
- * copied in ranges of the file.
+ * findings of a stripped object file.
  */
 struct hunk_answer hunk_strip(const uint8_t *bytes, size_t bytes_len, uint8_t *text,
                               size_t text_len);
@@ -281,7 +275,7 @@ struct hunk_answer hunk_strip(const uint8_t *bytes, size_t bytes_len, uint8_t *t
  * HUNK_OK       count: the bytes of the name, at most 17; none for 0 and above 33.
  * HUNK_NO_ROOM  count: the bytes that are needed; the text is as it was.
  *
- * Text after the name is as it was. It takes no memory.
+ * Text after the name is as it was.
  */
 struct hunk_answer hunk_reason(uint32_t number, uint8_t *text, size_t text_len);
 

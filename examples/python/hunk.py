@@ -6,8 +6,7 @@
         ...
 
 `data` is a bytes-like object; anything else raises a TypeError. Bytes that are rejected raise a HunkError, which says why
-and at which byte; MemoryError is raised where memory runs out. libhunk.so is looked for where the system keeps libraries,
-or is what LIBHUNK names.
+and at which byte. libhunk.so is looked for where the system keeps libraries, or is what LIBHUNK names.
 
     python3 hunk.py FILE [BASE]
 
@@ -24,7 +23,7 @@ from typing import NamedTuple
 # The most bytes that the hunks of a file may have in memory together, where a caller does not say.
 BUDGET = 1 << 24
 
-_OK, _NO_BASE, _OUT_OF_MEMORY, _NO_ROOM = 0, 29, 31, 32
+_OK, _NO_BASE, _NO_ROOM = 0, 29, 32
 _MEMORY = ("any", "chip", "fast", "attributes")
 _FAULTS = {1: "BadTarget", 2: "OutsideHunk"}
 
@@ -88,8 +87,6 @@ _reason = _call("hunk_reason", c_uint32, POINTER(c_uint8), c_size_t)
 
 def _accepted(answer):
     """The answer, unless it is a refusal, which is raised."""
-    if answer.number == _OUT_OF_MEMORY:
-        raise MemoryError("out of memory")
     if answer.number != _OK:
         name = (c_uint8 * 17)()
         length = _reason(answer.number, name, len(name)).count

@@ -17,7 +17,7 @@ use std::{error, fmt};
 /// The most bytes that the hunks of a file may have in memory together, where there is no better limit.
 pub const BUDGET: u64 = 1 << 24;
 
-/// Says that the bytes are rejected, or that memory ran out.
+/// Says that the bytes are rejected.
 #[derive(Clone, Debug, PartialEq, Eq)]
 pub struct Error {
     /// The number of the reason, as `HUNK_BUDGET` of `hunk.h`.
@@ -98,8 +98,8 @@ pub fn table(data: &[u8], budget: u64) -> Result<Vec<Hunk>, Error> {
 ///
 /// # Errors
 ///
-/// An error where the bytes do not begin with a load file, its hunks have more bytes than the budget, one of them has no
-/// base, or memory runs out.
+/// An error where the bytes do not begin with a load file, its hunks have more bytes than the budget, or one of them has no
+/// base.
 pub fn load(data: &[u8], bases: &[u32], budget: u64) -> Result<Vec<Vec<u8>>, Error> {
     // SAFETY: the pointers come with the lengths of what they point to.
     segments(data, budget, |memory| unsafe {
@@ -145,7 +145,7 @@ pub fn check(data: &[u8]) -> Result<Vec<Finding>, Error> {
 ///
 /// # Errors
 ///
-/// As [`check`], or where memory runs out.
+/// As [`check`].
 pub fn strip(data: &[u8]) -> Result<Vec<u8>, Error> {
     let mut text = vec![0; data.len()];
     // SAFETY: the pointers come with the lengths of what they point to.

@@ -1,6 +1,5 @@
-/* Files with many of each part, and files as large as the program takes, through each call: none
- * runs out of memory. Status 1 where an answer, or what it leaves in the caller's memory, is not
- * what hunk.h says. */
+/* Files with many of each part, and files as large as the program takes, through each call. Status 1
+ * where an answer, or what it leaves in the caller's memory, is not what hunk.h says. */
 #include "guarded.h"
 
 #define MANY 100000
@@ -160,14 +159,14 @@ static void many_hunks(void)
     len = 0;
     PUT(1, 0x3F3, 0, MOST_HUNKS, 0, MOST_HUNKS - 1);
     PUT(MOST_HUNKS, 1);
-    PUT(1, 0x3EB, 1);
+    PUT(1, 0x3EB, 1, 0x3EC, 1, MOST_HUNKS - 1, 0, 0);
     size_t kept = len;
     kept += put_lists();
     PUT(MANY, 0x3F1, 0);
     size_t behind = len;
     PUT(1, 0x3F2);
     PUT(MOST_HUNKS - 1, 0x3EB, 1, 0x3F2);
-    loaded("many hunks", table, 2 * MANY * BASE);
+    loaded("many hunks", table, 2 * MANY * BASE + BASE + 4 * (MOST_HUNKS - 1));
     checked("many hunks", MOST_HUNKS, 0, kept + len - behind);
 }
 

@@ -1,11 +1,9 @@
 -- What a check and a strip come to.
-use Rattle.std.proofs.Common.{◌≡◌, ◌≢◌, ℕ, List, length, refl, ap, subst, ◌∙◌, arith, ◌⊎◌, inl, inr}
+use Rattle.std.proofs.Common.{◌≡◌, ℕ, List, length, refl, ap, subst, ◌∙◌, arith}
 use Rattle.hunk_words.specs.Longs.{longs}
 use Rattle.hunk_words.specs.declared.fault.Fault.{Fault}
-use Rattle.hunk_words.specs.declared.reason.Reason.{Reason}
-use Rattle.hunk_words.specs.declared.reason.Reason.TheVariants as reasons
 use Rattle.hunk_scan.specs.FileKind.{sniffed}
-use Rattle.hunk_files.specs.HunkFile.{AreFile, IsFileOf, IsMemory, IsRefusal, file_bytes}
+use Rattle.hunk_files.specs.HunkFile.{AreFile, IsFileOf, IsRefusal, file_bytes}
 use Rattle.hunk_files.specs.LoadFile.{LoadFileValue}
 use Rattle.hunk_files.specs.declared.hunk_file.HunkFile.{HunkFile}
 use Rattle.hunk_files.specs.declared.hunk_file.HunkFile.TheVariants as files
@@ -14,11 +12,11 @@ use Rattle.hunk.specs.declared.check.FindingRow.{FindingRow}
 use Rattle.hunk.specs.Answers.{refused, done}
 use Rattle.hunk.specs.Checks as checks
 use Rattle.hunk.specs.Checks.{Checks, ChecksWhatFits}
-use Rattle.hunk.specs.Files.{AreNoFile, findings_in}
+use Rattle.hunk.specs.Files.{findings_in}
 use Rattle.hunk.specs.Strips as strips
 use Rattle.hunk.specs.Strips.{Strips, StripsWhatFits, stripped_bytes}
 use Rattle.hunk.proofs.Loaded.{same_answer}
-use Rattle.hunk.proofs.OneFile.{are_file, faulted, one_file}
+use Rattle.hunk.proofs.OneFile.{are_file, one_file}
 
 number_is : (a b : Answer) → a ≡ b → a.number ≡ b.number
 number_is a b e = ap (λ (x : Answer). x.number) e

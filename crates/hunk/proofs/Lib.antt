@@ -2,6 +2,7 @@ pub mod Checked
 pub mod Filling
 pub mod Loaded
 pub mod OneFile
+pub mod Packing
 pub mod Streamed
 pub mod Succeeding
 pub mod TableRows

@@ -9,6 +9,7 @@ use Rattle.hunk_files.specs.LoadFile.{TableEntry, IsTableEntry}
 use Rattle.hunk_files.proofs.TableReading.{entries_words, entries_more, entry_words}
 use Rattle.hunk_scatter.specs.HeaderBytes.{BeginsWithHeader, header_words}
 use Rattle.hunk_scatter.proofs.HeaderStops.{header_longs}
+use Rattle.hunk.specs.Packs.{RowStandsAt}
 
 -- an entry, and those behind it
 record EntryAt (t : List TableEntry) (i : ℕ) : Type 0 where
@@ -24,16 +25,12 @@ entry_at (e ∷ t) (suc i) inside =
     let k = entry_at t i (omega arith) in
     record { entry = k.entry; is = k.is; behind = k.behind; fits = λ all. k.fits all.1 }
 
--- This many rows were read, and the next stands at this longword.
-abbrev pub StandsAt : (bytes : List ℕ) (t : List TableEntry) → BeginsWithHeader bytes t → ℕ → ℕ → Type 0
-StandsAt bytes t h i at = drop at (longs bytes) ≡ entries_words (drop i t) ++ longs h.rest
-
-pub stands_first : (bytes : List ℕ) (t : List TableEntry) (h : BeginsWithHeader bytes t) → StandsAt bytes t h 0 5
+pub stands_first : (bytes : List ℕ) (t : List TableEntry) (h : BeginsWithHeader bytes t) → RowStandsAt bytes t h 0 5
 stands_first bytes t h =
     let split : longs bytes ≡ header_words t ++ longs h.rest = ap longs h.split ∙ longs-bytes_of (header_words t) h.rest (header_longs t h.is_table) in
     ap (λ (l : List ℕ). drop 5 l) split
 
-module _ (bytes : List ℕ) (t : List TableEntry) (h : BeginsWithHeader bytes t) (i at : ℕ) (s : StandsAt bytes t h i at) (more : i < length t) where
+module _ (bytes : List ℕ) (t : List TableEntry) (h : BeginsWithHeader bytes t) (i at : ℕ) (s : RowStandsAt bytes t h i at) (more : i < length t) where
   e : EntryAt t i
   e = entry_at t i more
 
@@ -86,13 +83,13 @@ module _ (bytes : List ℕ) (t : List TableEntry) (h : BeginsWithHeader bytes t)
         let same : ◌≡◌ {A = TableEntry} (record { word = word; extra = extra }) e.entry = λ k. record { word = w k; extra = x k } in
         e.is ∙ ap (λ (y : TableEntry). Some y) (sym same)
 
-    pub stands_next : StandsAt bytes t h (i + 1) (at + (if has_both_bits word then 2 else 1))
+    pub stands_next : RowStandsAt bytes t h (i + 1) (at + (if has_both_bits word then 2 else 1))
     unfolding behind
-    stands_next = subst (λ (n : ℕ). StandsAt bytes t h n (at + (if has_both_bits word then 2 else 1))) (sym (add-one i)) (by_bits (has_both_bits word) refl)
+    stands_next = subst (λ (n : ℕ). RowStandsAt bytes t h n (at + (if has_both_bits word then 2 else 1))) (sym (add-one i)) (by_bits (has_both_bits word) refl)
       where
         word_at : word ≡ e.entry.word
         word_at = reads_word ∙ word_is
 
-        by_bits : (b : Bool) → has_both_bits word ≡ b → StandsAt bytes t h (suc i) (at + (if b then 2 else 1))
+        by_bits : (b : Bool) → has_both_bits word ≡ b → RowStandsAt bytes t h (suc i) (at + (if b then 2 else 1))
         by_bits true both = sym (drop-drop 2 at (longs bytes)) ∙ ap (λ (l : List ℕ). drop 2 l) (here true (ap has_both_bits (sym word_at) ∙ both))
         by_bits false both = sym (drop-drop 1 at (longs bytes)) ∙ ap (λ (l : List ℕ). drop 1 l) (here false (ap has_both_bits (sym word_at) ∙ both))

@@ -1,5 +1,5 @@
 -- What calls answer.
-use Rattle.std.specs.Prelude.{◌≡◌, ◌⊎◌, ℕ}
+use Rattle.std.specs.Prelude.{ℕ}
 use Rattle.hunk_words.specs.Reasons.{number_of}
 use Rattle.hunk_words.specs.declared.fault.Fault.{Fault}
 use Rattle.hunk_words.specs.declared.reason.Reason.{Reason}
@@ -25,10 +25,6 @@ no_room hunks place count = record { number = no_room_number; hunk = hunks; plac
 
 abbrev pub done : ℕ → ℕ → ℕ → Answer
 done hunks place count = record { number = 0; hunk = hunks; place = place; count = count }
-
--- All was done, or memory ran out.
-abbrev pub IsDoneOrOutOfMemory : Answer → Type 0
-IsDoneOrOutOfMemory answer = (answer.number ≡ 0) ⊎ (answer.number ≡ number_of reasons.OutOfMemory)
 
 -- ---- the numbers of a loader
 

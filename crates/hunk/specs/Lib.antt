@@ -5,6 +5,7 @@ pub mod Counting
 pub mod Files
 pub mod Loads
 pub mod Names
+pub mod Packs
 pub mod Streams
 pub mod Strips
 pub mod Tables

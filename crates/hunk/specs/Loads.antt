@@ -2,36 +2,23 @@
 use Rattle.std.specs.Prelude.{◌≡◌, ℕ, ◌<◌, ◌≤◌, List, ◌++◌, length, drop, ◌⊎◌}
 use Rattle.hunk_words.specs.Longs.{bytes_of}
 use Rattle.hunk_words.specs.declared.fault.Fault.{Fault}
-use Rattle.hunk_words.specs.declared.reason.Reason.{Reason}
 use Rattle.hunk_words.specs.declared.reason.Reason.TheVariants as reasons
-use Rattle.hunk_files.specs.Fault.{BeginsWithLoadFile, HasFault, IsTruncated}
+use Rattle.hunk_files.specs.Fault.{BeginsWithLoadFile, HasFault}
 use Rattle.hunk_files.specs.Image.{declared_bytes, images}
 use Rattle.hunk_files.specs.LoadFile.{TableEntry, LoadFileValue, IsLoadFile}
 use Rattle.hunk_files.specs.LoadText.{table, text}
 use Rattle.hunk_scatter.specs.HeaderBytes.{BeginsWithHeader, header_bytes}
-use Rattle.hunk_scatter.specs.HeaderFaults.{CompletesRow, IsBudgetOrMemory, IsHeaderFault}
 use Rattle.hunk_scatter.specs.Placing.{Placing, AreBases, HasBases, IsFirstUnplaced}
 use Rattle.hunk.specs.declared.answer.Answer.{Answer}
-use Rattle.hunk.specs.Answers.{refused, no_room, done, IsDoneOrOutOfMemory}
+use Rattle.hunk.specs.Answers.{refused, no_room, done}
 
--- ---- headers
-
--- Why a header is not read: a longword is refused, the budget is passed, memory runs out for a row, or the bytes end.
-abbrev pub IsHeaderRefusal : ℕ → List ℕ → Fault → Type 0
-IsHeaderRefusal budget bytes f = IsHeaderFault budget bytes f ⊎ ((f.reason ≡ reasons.Truncated) × IsTruncated bytes f.place)
-
--- Where the bytes begin with a header, only the budget or memory refuses it.
-abbrev pub AcceptsHeaderWithMemory : List ℕ → Reason → Type 0
-AcceptsHeaderWithMemory bytes reason = (t : List TableEntry) → BeginsWithHeader bytes t → IsBudgetOrMemory reason
+-- These are the bases of the hunks of whichever header the bytes begin with.
+abbrev pub AreBasesOf : Placing → List ℕ → List ℕ → Type 0
+AreBasesOf base bytes bases = (t : List TableEntry) → BeginsWithHeader bytes t → AreBases base t bases
 
 -- The hunks of the table fit, and each has a base.
 abbrev pub HavePlaces : Placing → ℕ → List TableEntry → Type 0
 HavePlaces base room t = (declared_bytes t ≤ room) × HasBases base t
-
--- Memory ran out: for the row that the longword here completes, or, where the header ends, for segments that have their places.
-abbrev pub LacksMemoryToLoad : Placing → ℕ → List ℕ → ℕ → Type 0
-LacksMemoryToLoad base room bytes at =
-    CompletesRow bytes at ⊎ ((t : List TableEntry) × BeginsWithHeader bytes t × HavePlaces base room t × (at ≡ length (header_bytes t)))
 
 -- ---- loads
 
@@ -59,14 +46,12 @@ pub data IsNotLoaded (base : Placing) (room : ℕ) (bytes : List ℕ) (answer : 
       → answer ≡ no_room (length t) (length (header_bytes t)) (declared_bytes t) → IsNotLoaded base room bytes answer
   HasNoBase : (t : List TableEntry) (hunk : ℕ) → BeginsWithHeader bytes t → declared_bytes t ≤ room → IsFirstUnplaced base t hunk
       → answer ≡ refused (record { place = length (header_bytes t); reason = reasons.NoBase hunk }) → IsNotLoaded base room bytes answer
-  HasNoMemory : (at : ℕ) → LacksMemoryToLoad base room bytes at
-      → answer ≡ refused (record { place = at; reason = reasons.OutOfMemory }) → IsNotLoaded base room bytes answer
 
 -- What a load comes to.
 abbrev pub Loads : Placing → List ℕ → List ℕ → List ℕ → Answer → Type 0
 Loads base bytes old new answer = IsLoadedInto base bytes old new answer ⊎ (IsNotLoaded base (length old) bytes answer × (new ≡ old))
 
--- Where the bytes begin with a load file that fits, and each of its hunks has a base, it is loaded, or memory ran out.
+-- Where the bytes begin with a load file that fits, and each of its hunks has a base, it is loaded.
 abbrev pub LoadsWhatFits : Placing → ℕ → List ℕ → Answer → Type 0
 LoadsWhatFits base room bytes answer =
-    (file : BeginsWithLoadFile bytes) → HavePlaces base room (table file.value) → IsDoneOrOutOfMemory answer
+    (file : BeginsWithLoadFile bytes) → HavePlaces base room (table file.value) → answer.number ≡ 0

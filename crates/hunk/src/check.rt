@@ -30,7 +30,7 @@ pub struct FindingRow {
 /// Of an object file it writes a row for each finding, in file order; a load file that is accepted
 /// has none. The rows after them are as they were, and after a refusal all are. It answers the
 /// number of hunks of a load file, and 0 of an object file, the bytes of the file, and the number
-/// of findings. It takes no memory: the findings are counted first, and then found again.
+/// of findings. These are counted first, and then found again.
 ///
 /// # Errors
 ///

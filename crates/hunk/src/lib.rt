@@ -1,16 +1,15 @@
 //! Hunk files for programs in C: `include/hunk.h` declares what is exported here.
 //!
-//! Each export is a thin layer over a library of this repository. It keeps nothing between two
-//! calls, hands out no pointer, and tests every number that it is given.
+//! Each export is a thin layer over a library of this repository. It takes no memory, keeps nothing
+//! between two calls, hands out no pointer, and tests every number that it is given.
 #![tactic(auto)]
 
 mod answer;
-mod body;
 mod check;
 mod file;
-mod header;
 mod load;
 mod loader;
+mod packed;
 mod places;
 mod reason;
 mod stream;

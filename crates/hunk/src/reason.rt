@@ -6,8 +6,8 @@ use hunk_words::Reason;
 
 /// Writes the name of an answer's number to the text, with no zero after it.
 ///
-/// 0 and numbers that no call answers have the empty name. It answers the bytes of the name, at
-/// most 17. What lies after the name is as it was. It takes no memory.
+/// 0 and numbers above 33 have the empty name. It answers the bytes of the name, at most 17. What
+/// lies after the name is as it was.
 ///
 /// # Errors
 ///

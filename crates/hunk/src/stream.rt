@@ -1,4 +1,4 @@
-//! Load files that come in pieces, loaded into the caller's memory with no other memory at all.
+//! Load files that come in pieces, loaded into the caller's memory.
 //!
 //! What a loader has to know between two pieces is in numbers, which the caller keeps, with rows
 //! that say where each hunk lies.

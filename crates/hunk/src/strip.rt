@@ -15,8 +15,8 @@ use hunk_files::{FileView, TakesBytes};
 ///
 /// What follows a load file is left out. The text after what is written is as it was, and after a
 /// refusal all of it is. It answers the number of hunks of a load file, and 0 of an object file,
-/// the bytes of the file, and those of what was written, which are no more. It takes no memory:
-/// what stays is counted first, and then copied.
+/// the bytes of the file, and those of what was written, which are no more. What stays is counted
+/// first, and then copied.
 ///
 /// # Errors
 ///

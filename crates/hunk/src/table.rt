@@ -27,7 +27,7 @@ pub struct TableRow {
 ///
 /// Bytes after the header are not read, so a first part of a file will do. The rows after the
 /// table are as they were, and after a refusal all are. It answers the number of hunks, the bytes
-/// of the header, and those that the hunks declare together. No memory is taken.
+/// of the header, and those that the hunks declare together.
 ///
 /// # Errors
 ///

@@ -3,8 +3,8 @@ use Rattle.hunk_files.specs.LoadFile.{TableEntry}
 use Rattle.hunk_scatter.specs.HeaderBytes.{BeginsWithHeader}
 use Rattle.hunk.specs.Tables.{table_row}
 use Rattle.hunk.proofs.Filling.{AreFilledTo}
-use Rattle.hunk.proofs.TableRows.{StandsAt}
+use Rattle.hunk.specs.Packs.{RowStandsAt}
 use Rattle.hunk.proofs.table.put_rows.Given as goal
 
 abbrev pub invariant-rows : goal.invariant-rows
-invariant-rows l = (t : List TableEntry) (h : BeginsWithHeader l.bytes t) → length t ≡ length l.fn.rows → AreFilledTo table_row t l.row-items l.row-index × StandsAt l.bytes t h l.row-index l.at
+invariant-rows l = (t : List TableEntry) (h : BeginsWithHeader l.bytes t) → length t ≡ length l.fn.rows → AreFilledTo table_row t l.row-items l.row-index × RowStandsAt l.bytes t h l.row-index l.at

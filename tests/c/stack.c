@@ -1,0 +1,107 @@
+/* How much stack each call needs: no more than hunk.h says. Status 1 where one needs more. */
+#include "guarded.h"
+#include <pthread.h>
+
+#define STACK (1 << 18)
+#define ALL 1024           /* bytes that each call may need */
+#define PACKED (17 * 1024) /* that hunk_load_packed may */
+#define HUNKS 2
+#define HEADER 28
+#define FINDINGS 2
+
+/* A load file of a code hunk with a relocation, a symbol and debug data, and of a BSS hunk. An
+ * object file of such a code hunk, whose relocation has no target, and whose reference lies
+ * outside. */
+static const uint32_t load_longs[] = {
+    0x3F3, 0, HUNKS, 0, 1, 2, 1, 0x3E9, 2, 0, 0, 0x3EC, 1, 1, 4, 0,
+    0x3F0, 1, 0x73000000, 0, 0, 0x3F1, 1, 0, 0x3F2, 0x3EB, 1, 0x3F2};
+static const uint32_t object_longs[] = {
+    0x3E7, 0, 0x3E9, 1, 0, 0x3EC, 1, 1, 0, 0, 0x3EF, 0x81000001, 0x73000000, 1, 4, 0,
+    0x3F0, 1, 0x73000000, 0, 0, 0x3F1, 1, 0, 0x3F2};
+static uint8_t file[sizeof load_longs];
+static uint8_t object[sizeof object_longs];
+
+static uint8_t memory[12];
+static uint8_t text[sizeof load_longs];
+static struct hunk_row rows[HUNKS];
+static struct hunk_place places[HUNKS] = {{2, 0, 0}, {1, 0, 8}};
+static const uint32_t bases[HUNKS] = {0, 8};
+static struct hunk_finding findings[FINDINGS];
+static struct hunk_loader loader;
+static struct hunk_answer answer;
+
+static void put_longs(uint8_t *bytes, const uint32_t *longs, size_t len)
+{
+    for (size_t i = 0; i < len; i++)
+        bytes[i] = (uint8_t)(longs[i / 4] >> (24 - 8 * (i % 4)));
+}
+
+static void nothing(void) { answer.number = HUNK_OK; }
+static void table(void) { answer = hunk_table(file, sizeof file, 12, rows, HUNKS); }
+static void load(void) { answer = hunk_load(file, sizeof file, bases, HUNKS, memory, 12); }
+static void packed(void) { answer = hunk_load_packed(file, sizeof file, 0, memory, 12); }
+static void begin(void) { answer = hunk_begin(&loader, places, HUNKS, HEADER, memory, 12); }
+static void end(void) { answer = hunk_end(&loader); }
+static void check(void) { answer = hunk_check(object, sizeof object, findings, FINDINGS); }
+static void check_load(void) { answer = hunk_check(file, sizeof file, findings, FINDINGS); }
+static void strip(void) { answer = hunk_strip(object, sizeof object, text, sizeof text); }
+static void strip_load(void) { answer = hunk_strip(file, sizeof file, text, sizeof text); }
+static void reason(void) { answer = hunk_reason(HUNK_NOTHING_TO_RELOCATE, text, sizeof text); }
+
+static void feed(void)
+{
+    answer = hunk_feed(&loader, places, HUNKS, memory, 12, file + HEADER, sizeof file - HEADER);
+}
+
+static const struct {
+    const char *name;
+    void (*make)(void);
+    size_t most;
+} calls[] = {
+    {"hunk_table", table, ALL},
+    {"hunk_load", load, ALL},
+    {"hunk_load_packed", packed, PACKED},
+    {"hunk_begin", begin, ALL},
+    {"hunk_feed", feed, ALL},
+    {"hunk_end", end, ALL},
+    {"hunk_check", check, ALL},
+    {"hunk_check of a load file", check_load, ALL},
+    {"hunk_strip", strip, ALL},
+    {"hunk_strip of a load file", strip_load, ALL},
+    {"hunk_reason", reason, ALL},
+};
+
+static void *run(void *make)
+{
+    (*(void (**)(void))make)();
+    return NULL;
+}
+
+/* The bytes of a thread's stack that it changes. */
+static size_t stack_of(void (*make)(void))
+{
+    static uint8_t stack[STACK];
+    pthread_t thread;
+    pthread_attr_t attributes;
+    memset(stack, MARK, STACK);
+    if (pthread_attr_init(&attributes) || pthread_attr_setstack(&attributes, stack, STACK) ||
+        pthread_create(&thread, &attributes, run, &make) || pthread_join(thread, NULL))
+        exit(3);
+    size_t unused = 0;
+    while (stack[unused] == MARK)
+        unused++;
+    return STACK - unused;
+}
+
+int main(void)
+{
+    put_longs(file, load_longs, sizeof file);
+    put_longs(object, object_longs, sizeof object);
+    size_t none = stack_of(nothing);
+    for (size_t i = 0; i < sizeof calls / sizeof *calls; i++) {
+        size_t needed = stack_of(calls[i].make) - none;
+        expect(answer.number == HUNK_OK, calls[i].name, "an answer");
+        expect(needed <= calls[i].most, calls[i].name, "the stack");
+    }
+    return failures > 0;
+}
