@@ -1,17 +1,14 @@
 -- Bytes are one file, or begin with one.
-use Rattle.std.proofs.Common.{◌≡◌, ◌≢◌, ℕ, ◌+◌, ◌<◌, ◌≤◌, List, [], ◌∷◌, ◌++◌, length, get_or, refl, sym, ap, ap₂, ◌∙◌, append-nil, arith, length-append, ◌⊎◌, inl, inr}
+use Rattle.std.proofs.Common.{◌≡◌, ℕ, ◌+◌, ◌<◌, ◌≤◌, List, [], ◌∷◌, ◌++◌, length, get_or, sym, ap, ap₂, ◌∙◌, append-nil, arith, length-append, inl, inr}
 use Rattle.std.specs.List.{flat_map}
 use Rattle.hunk_words.specs.Longs.{AreLongs, IsLong, bytes_of, longs}
-use Rattle.hunk_words.specs.declared.reason.Reason.{Reason}
-use Rattle.hunk_words.specs.declared.reason.Reason.TheVariants as reasons
 use Rattle.hunk_words.proofs.LongLaws.{longs-bytes_of}
 use Rattle.hunk_blocks.specs.Parts.{block_text}
 use Rattle.hunk_blocks.specs.Values.{IsBlock}
 use Rattle.hunk_blocks.proofs.BlockLongs.{block_longs}
 use Rattle.hunk_blocks.proofs.Lists.{All-append}
-use Rattle.hunk_scan.specs.FileKind.{sniffed}
 use Rattle.hunk_files.specs.Fault.{BeginsWithLoadFile}
-use Rattle.hunk_files.specs.HunkFile.{AreFile, AreObjectFile, IsFileOf, IsMemory, IsRefusal, bytes_behind, file_bytes, stripped}
+use Rattle.hunk_files.specs.HunkFile.{AreFile, AreObjectFile, IsFileOf, bytes_behind, file_bytes, stripped}
 use Rattle.hunk_files.specs.LoadFile.{LoadFileValue}
 use Rattle.hunk_files.specs.LoadText.{text}
 use Rattle.hunk_files.specs.ObjectFile.{ObjectFileValue, ObjectHunk, UnitValue, IsObjectHunk, IsUnit, object_text, unit_header, unit_text}
@@ -23,7 +20,6 @@ use Rattle.hunk_files.proofs.Scan.{begun_longs, one_front}
 use Rattle.hunk_files.proofs.StripSteps.{shorter}
 use Rattle.hunk_files.proofs.StripText.{bytes_shorter}
 use Rattle.hunk_files.proofs.TableReading.{text_is}
-use Rattle.hunk.specs.Files.{AreNoFile}
 
 -- ---- load files
 
@@ -103,16 +99,3 @@ object_size bytes o is = omega (arith, file_size bytes (files.Object o) is)
 pub stripped_fits : (bytes : List ℕ) (file : HunkFile) → IsFileOf bytes file → length (file_bytes (stripped file)) ≤ length bytes
 stripped_fits bytes (files.Load value rest) is = omega (arith, file_size bytes (files.Load value rest) is, bytes_shorter value)
 stripped_fits bytes (files.Object value) is = omega (arith, file_size bytes (files.Object value) is, shorter value)
-
--- ---- bytes that are refused
-
--- They are no file, or memory ran out.
-pub faulted : (bytes : List ℕ) (place : ℕ) (reason : Reason) → (reason ≢ reasons.OutOfMemory → AreFile bytes → ⊥) →
-    (reason ≢ reasons.OutOfMemory → IsRefusal (sniffed (longs bytes)) bytes (record { place = place; reason = reason })) →
-    (reason ≡ reasons.OutOfMemory → IsMemory (sniffed (longs bytes)) bytes place) →
-    AreNoFile bytes (record { place = place; reason = reason }) ⊎ ((reason ≡ reasons.OutOfMemory) × IsMemory (sniffed (longs bytes)) bytes place)
-faulted bytes place reasons.OutOfMemory none refused memory = inr (refl, memory refl)
-faulted bytes place reason none refused memory = inl (refused other, none other)
-  where
-    other : reason ≢ reasons.OutOfMemory
-    other e = cc

@@ -1,23 +1,19 @@
 -- Files of the input, and what is told of them.
-use Rattle.std.proofs.Common.{◌≡◌, ◌≢◌, ◌⊎◌, ℕ, List, length, refl, inl, inr, ap, ap₂, subst}
+use Rattle.std.proofs.Common.{◌≡◌, ◌≢◌, ℕ, List, length, refl, inl, inr, ap, ap₂, subst}
 use Rattle.std.specs.Prelude.{IsTrue}
-use Rattle.hunk_words.specs.Longs.{longs}
 use Rattle.hunk_words.specs.declared.fault.Fault.{Fault}
 use Rattle.hunk_words.specs.declared.reason.Reason.{Reason}
 use Rattle.hunk_words.specs.declared.reason.Reason.TheVariants as reasons
 use Rattle.hunk_scan.specs.declared.file_kind.Sniff.{Sniff}
 use Rattle.hunk_scan.specs.declared.file_kind.Sniff.TheVariants as sniffs
-use Rattle.hunk_scan.specs.FileKind.{sniffed}
 use Rattle.hunk_files.specs.Fault.{is_load_refusal}
 use Rattle.hunk_files.specs.ObjectFile.{ObjectFileValue, is_object_refusal}
 use Rattle.hunk_files.specs.Findings.{findings}
 use Rattle.hunk_files.specs.HunkFile.{IsFileOf, IsRefusal}
 use Rattle.hunk_files.specs.declared.hunk_file.HunkFile.{HunkFile}
 use Rattle.hunk_files.specs.declared.hunk_file.HunkFile.TheVariants as files
-use Rattle.hunk_commands.specs.declared.fault.RunFault.{RunFault}
 use Rattle.hunk_commands.specs.declared.fault.RunFault.TheVariants as faults
-use Rattle.hunk_commands.specs.Faults.{IsWrite, refused_as, refused_for}
-use Rattle.hunk_commands.specs.Refusals.{RefusesAs, RefusesBytes}
+use Rattle.hunk_commands.specs.Faults.{refused_as, refused_for}
 use Rattle.hunk_listing.specs.FileLines.{load_listing, object_listing}
 use Rattle.hunk_listing.specs.ReportLines.{load_summary, object_report}
 use Rattle.hunk_commands.specs.Reports.{finding_count, report}
@@ -36,16 +32,6 @@ validated_file bytes (files.Object value) is = inr (is.0, ap (λ (v : ObjectFile
 
 -- ---- refusals
 
-pub refused_not_written : (Is : Fault → Type 0) (fault : RunFault) → RefusesAs Is fault → ¬ IsWrite fault
-refused_not_written Is (faults.Refused refusal) is written = written
-refused_not_written Is (faults.Read place) is written = is
-refused_not_written Is (faults.Write count) is written = is
-refused_not_written Is faults.Memory is written = written
-refused_not_written Is faults.HexText is written = is
-
-pub refused_not_read : (Is : Fault → Type 0) (fault : RunFault) (place : ℕ) → RefusesAs Is fault → fault ≡ faults.Read place → ⊥
-refused_not_read Is fault place is read = subst (λ (f : RunFault). RefusesAs Is f) read is
-
 -- what bytes are refused for is no failed read
 no_read : (kind : Sniff) (bytes : List ℕ) (fault : Fault) → IsRefusal kind bytes fault → fault.reason ≡ reasons.Read → ⊥
 no_read sniffs.Object bytes fault is read = let no = subst (λ (r : Reason). IsTrue (is_object_refusal r)) read is.1 in cc
@@ -53,36 +39,18 @@ no_read sniffs.Load bytes fault is read = let no = subst (λ (r : Reason). IsTru
 no_read sniffs.Library bytes fault is read = let no = subst (λ (r : Reason). IsTrue (is_load_refusal r)) read is.1 in cc
 no_read sniffs.Other bytes fault is read = let no = subst (λ (r : Reason). IsTrue (is_load_refusal r)) read is.1 in cc
 
--- the fault that decoding them answers, as a run has it
-pub answered : (bytes : List ℕ) (fault : Fault) → (fault.reason ≢ reasons.OutOfMemory → IsRefusal (sniffed (longs bytes)) bytes fault) → RefusesBytes (refused_as fault) bytes
-answered bytes fault is = go fault.reason refl
+-- a run refuses them for the same
+pub same_refusal : (kind : Sniff) (bytes : List ℕ) (fault : Fault) → IsRefusal kind bytes fault → fault.reason ≢ reasons.OutOfMemory → refused_as fault ≡ faults.Refused fault
+same_refusal kind bytes fault is other = go fault.reason refl
   where
-    go : (reason : Reason) → fault.reason ≡ reason → RefusesAs (IsRefusal (sniffed (longs bytes)) bytes) (refused_for reason fault)
-    go reasons.OutOfMemory there = tt
-    go reasons.Read there = absurd (no_read (sniffed (longs bytes)) bytes fault (is (λ e. cc)) there)
-    go _ there = is (λ e. cc)
-
-pub no_file : (Other : Type 0) (fault : Fault) → (fault.reason ≢ reasons.OutOfMemory → Other) → (refused_as fault ≡ faults.Memory) ⊎ Other
-no_file Other fault other = go fault.reason refl
-  where
-    go : (reason : Reason) → fault.reason ≡ reason → (refused_for reason fault ≡ faults.Memory) ⊎ Other
-    go reasons.OutOfMemory there = inl refl
-    go _ there = inr (other (λ e. cc))
-
--- what is refused for another cause is no want of memory
-pub not_memory : (fault : Fault) → fault.reason ≢ reasons.OutOfMemory → refused_as fault ≡ faults.Memory → ⊥
-not_memory fault other = go fault.reason refl
-  where
-    go : (reason : Reason) → fault.reason ≡ reason → refused_for reason fault ≡ faults.Memory → ⊥
-    go reasons.OutOfMemory there memory = other there
-    go _ there memory = cc
+    go : (reason : Reason) → fault.reason ≡ reason → refused_for reason fault ≡ faults.Refused fault
+    go reasons.OutOfMemory there = absurd (other there)
+    go reasons.Read there = absurd (no_read kind bytes fault is there)
+    go _ there = refl
 
 -- the limit of an input is no fault of its bytes
-no_limit : (kind : Sniff) (bytes : List ℕ) (place : ℕ) → IsRefusal kind bytes (record { place = place; reason = reasons.FileLimit }) → ⊥
+pub no_limit : (kind : Sniff) (bytes : List ℕ) (place : ℕ) → IsRefusal kind bytes (record { place = place; reason = reasons.FileLimit }) → ⊥
 no_limit sniffs.Object bytes place is = let no = is.1 in cc
 no_limit sniffs.Load bytes place is = let no = is.1 in cc
 no_limit sniffs.Library bytes place is = let no = is.1 in cc
 no_limit sniffs.Other bytes place is = let no = is.1 in cc
-
-pub refused_in_limit : (fault : RunFault) (bytes : List ℕ) (place : ℕ) → RefusesBytes fault bytes → fault ≡ faults.Refused (record { place = place; reason = reasons.FileLimit }) → ⊥
-refused_in_limit fault bytes place is limit = no_limit (sniffed (longs bytes)) bytes place (subst (λ (f : RunFault). RefusesBytes f bytes) limit is)

@@ -1,41 +1,54 @@
--- What an engine function reads and writes: of its source a was left before and b is left now, its sink had taken c and has taken d now, where these are told.
+-- What an engine function puts of bytes, or of a source: of its source a was left before and b is left now, its sink had taken c and has taken d now, where these are told.
 use Rattle.std.specs.Prelude.{◌≡◌, ◌⊎◌, ⊤, ℕ, Bool, false, List, Option, Result, IfErr, OnOk, length}
 use Rattle.hunk_words.specs.Carriers.{Writing}
 use Rattle.hunk_words.specs.declared.reason.Reason.TheVariants.{FileLimit}
 use Rattle.hunk_words.specs.Puts.{Puts}
+use Rattle.hunk_files.specs.HunkFile.{AreFile}
 use Rattle.hunk_scatter.specs.LoadOutcomes.{GivesAtMost}
 use Rattle.hunk_commands.specs.declared.fault.RunFault.{RunFault}
 use Rattle.hunk_commands.specs.declared.fault.RunFault.TheVariants.{HexText, Memory, Refused, Write}
-use Rattle.hunk_commands.specs.Inputs.{HasFile, ReadsWhole, StopsAtLimit, StopsAtRead, TellsReading}
+use Rattle.hunk_commands.specs.Faults.{IsWrite}
+use Rattle.hunk_commands.specs.Inputs.{HasFile, ReadsInput, StopsAtLimit, StopsAtRead, TellsReading}
 use Rattle.hunk_commands.specs.Output.{StopsOutput}
 use Rattle.hunk_commands.specs.Refusals.{RefusesBytes}
 
--- The source was read to its end in fewer than `most` bytes. The text is one that these have, and as many of its first bytes
--- have gone out as `written` says.
-pub record Writes (IsTextOf : List ℕ → List ℕ → Type 0) (a b : Option (List ℕ)) (most : ℕ) (c d : Option (List ℕ)) (written : ℕ) : Type 0 where
-  pub input : List ℕ
-  pub read : ReadsWhole a b most input
+-- ---- of bytes
+
+-- The text is one that they have, and as many of its first bytes have gone out as `written` says.
+pub record PutsFirst (IsText : List ℕ → Type 0) (c d : Option (List ℕ)) (written : ℕ) : Type 0 where
   pub text : List ℕ
-  pub is_text : IsTextOf input text
+  pub is_text : IsText text
   pub puts : Puts c d 0 written text
 
 -- all of the text has gone out
-abbrev pub WritesAll : (List ℕ → List ℕ → Type 0) → Option (List ℕ) → Option (List ℕ) → ℕ → Option (List ℕ) → Option (List ℕ) → ℕ → Type 0
-WritesAll IsTextOf a b most c d written = (writes : Writes IsTextOf a b most c d written) × (written ≡ length writes.text)
+abbrev pub PutsAll : (List ℕ → Type 0) → Option (List ℕ) → Option (List ℕ) → ℕ → Type 0
+PutsAll IsText c d written = (puts : PutsFirst IsText c d written) × (written ≡ length puts.text)
 
 -- At a fault of writing as many bytes were written as it says, and this holds of their number.
 abbrev pub StopsAtWrite : ℕ → (ℕ → Type 0) → RunFault → Type 0
 StopsAtWrite count Holds fault = (written : ℕ) → fault ≡ Write written → (count ≡ written) × Holds written
 
--- The source was read to its end in fewer than `most` bytes, and for these the run answers the fault.
-pub record RefusesInput (fault : RunFault) (a b : Option (List ℕ)) (most : ℕ) : Type 0 where
-  pub input : List ℕ
-  pub read : ReadsWhole a b most input
-  pub refuses : RefusesBytes fault input
+-- What `show_bytes`, `validate_bytes` and `rewrite_bytes` keep to, whatever text they put of a file. The output is old before and new after.
+pub record PutsOrRefuses {W T : Type 0} (bytes : List ℕ) (failed : W → Bool) (old new : Writing W) (result : Result T RunFault) : Type 0 where
+  -- of a file, only writing can fail
+  pub succeeds : AreFile bytes → IfErr result IsWrite
+  -- after another fault than one of writing nothing was put
+  pub fails : IfErr result (StopsOutput failed old new)
+  -- no write has failed where all is put
+  pub no_failure : OnOk result (failed new.sink ≡ failed old.sink)
+  pub refused : IfErr result (λ fault. ¬ IsWrite fault → RefusesBytes fault bytes)
+
+-- ---- of a source that was read to its end in fewer than `most` bytes
+
+abbrev pub Writes : (List ℕ → List ℕ → Type 0) → Option (List ℕ) → Option (List ℕ) → ℕ → Option (List ℕ) → Option (List ℕ) → ℕ → Type 0
+Writes IsTextOf a b most c d written = ReadsInput (λ input. PutsFirst (IsTextOf input) c d written) a b most
+
+abbrev pub WritesAll : (List ℕ → List ℕ → Type 0) → Option (List ℕ) → Option (List ℕ) → ℕ → Option (List ℕ) → Option (List ℕ) → ℕ → Type 0
+WritesAll IsTextOf a b most c d written = ReadsInput (λ input. PutsAll (IsTextOf input) c d written) a b most
 
 -- An input is refused at the limit of its bytes, or since its bytes are no file.
 abbrev pub RefusesOnly : Option (List ℕ) → Option (List ℕ) → ℕ → RunFault → Type 0
-RefusesOnly a b most (Refused refusal) = (refusal.reason ≡ FileLimit) ⊎ RefusesInput (Refused refusal) a b most
+RefusesOnly a b most (Refused refusal) = (refusal.reason ≡ FileLimit) ⊎ ReadsInput (RefusesBytes (Refused refusal)) a b most
 RefusesOnly a b most HexText = ⊥
 RefusesOnly a b most fault = ⊤
 

@@ -1,5 +1,5 @@
 -- Hexadecimal text with blanks in it.
-use Rattle.std.specs.Prelude.{◌==◌, ◌||◌, ◌≡◌, ◌⊎◌, ◌++◌, ℕ, Bool, true, false, not, List, Option, Ok}
+use Rattle.std.specs.Prelude.{◌==◌, ◌||◌, ◌≡◌, ◌⊎◌, ◌++◌, ⊤, ℕ, Bool, true, false, not, List, Option, Ok}
 use Rattle.std.specs.List.{filter}
 use Rattle.hex.specs.Hex.{decode_of}
 use Rattle.hunk_commands.specs.Inputs.{ReadsInVain, ReadsWhole}
@@ -62,4 +62,5 @@ pub record SpellsNone (a b : Option (List ℕ)) (most : ℕ) : Type 0 where
 -- why no bytes were read: its text was not read to its end in fewer than `most` bytes, or spells none
 abbrev pub ReadsNoHex : RunFault → Option (List ℕ) → Option (List ℕ) → ℕ → Bool → Type 0
 ReadsNoHex faults.HexText a b most failed = SpellsNone a b most
+ReadsNoHex faults.Memory a b most failed = ⊤
 ReadsNoHex fault a b most failed = ReadsInVain fault a b most failed

@@ -1,5 +1,5 @@
 -- What was read of a source, and why it was not read to its end. Of the source a was left before and b is left now, where that is told.
-use Rattle.std.specs.Prelude.{◌≡◌, ◌<◌, ℕ, List, Option, Some, Bool, true, false, length, ⊤, Result, IfErr, IsErrAnd, OnOk}
+use Rattle.std.specs.Prelude.{◌≡◌, ◌<◌, ℕ, List, Option, Some, Bool, true, false, length, Result, IfErr, IsErrAnd, OnOk}
 use Rattle.std.specs.Io.KnownBytes.{Consumes, IsAtEnd}
 use Rattle.hunk_words.specs.declared.reason.Reason.TheVariants as reasons
 use Rattle.hunk_files.specs.HunkFile.{AreFile}
@@ -12,6 +12,12 @@ pub record ReadsWhole (a b : Option (List ℕ)) (most : ℕ) (bytes : List ℕ) 
   pub given : Consumes a b bytes
   pub at_end : IsAtEnd b
   pub few : length bytes < most
+
+-- it was read so, and this holds of what it gave
+pub record ReadsInput (Holds : List ℕ → Type 0) (a b : Option (List ℕ)) (most : ℕ) : Type 0 where
+  pub input : List ℕ
+  pub read : ReadsWhole a b most input
+  pub holds : Holds input
 
 -- it has fewer than `most` bytes left, which are a file
 pub record HasFile (a : Option (List ℕ)) (most : ℕ) : Type 0 where
@@ -28,7 +34,7 @@ Gave a b count = (bytes : List ℕ) × Consumes a b bytes × (length bytes ≡ c
 abbrev pub ReadsInVain : RunFault → Option (List ℕ) → Option (List ℕ) → ℕ → Bool → Type 0
 ReadsInVain (faults.Refused refusal) a b most failed = (refusal.reason ≡ reasons.FileLimit) × (refusal.place ≡ most) × Gave a b most
 ReadsInVain (faults.Read place) a b most failed = (failed ≡ true) × Gave a b place
-ReadsInVain faults.Memory a b most failed = ⊤
+ReadsInVain faults.Memory a b most failed = (count : ℕ) × (0 < count) × Gave a b count
 ReadsInVain (faults.Write written) a b most failed = ⊥
 ReadsInVain faults.HexText a b most failed = ⊥
 

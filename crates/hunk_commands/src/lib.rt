@@ -2,7 +2,6 @@
 //! `rewrite`, and hexadecimal text.
 #![tactic(auto)]
 
-mod decoding;
 mod fault;
 mod hex_text;
 mod input;
@@ -15,6 +14,6 @@ pub use crate::fault::{OUT_OF_MEMORY, RunFault};
 pub use crate::hex_text::{read_hex, unhex};
 pub use crate::input::read_whole;
 pub use crate::relocating::relocate;
-pub use crate::rewriting::{Rewritten, rewrite};
-pub use crate::showing::show;
-pub use crate::validating::validate;
+pub use crate::rewriting::{Rewritten, rewrite, rewrite_bytes};
+pub use crate::showing::{show, show_bytes};
+pub use crate::validating::{validate, validate_bytes};

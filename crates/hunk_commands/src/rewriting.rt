@@ -1,8 +1,10 @@
 //! `rewrite`: a file is read, and written again.
-ghost use Rattle.std.specs.Prelude.{◌≡◌, ◌+◌, ◌^◌, ◌<◌, length, IfOk, IfErr};
+ghost use Rattle.std.specs.Prelude.{◌≡◌, ◌≢◌, ◌+◌, ◌^◌, ◌<◌, ◌≤◌, length, IfOk, IfErr};
 ghost use Rattle.hunk_words.specs.Puts.{PutsText};
 ghost use Rattle.hunk_files.specs.FileView.{file_of};
 ghost use Rattle.hunk_files.specs.HunkFile.{IsFileOf, file_bytes, stripped};
+ghost use Rattle.hunk_commands.specs.declared.fault.RunFault.TheVariants.{Memory};
+ghost use Rattle.hunk_commands.specs.Engine.{PutsAll, PutsFirst, PutsOrRefuses};
 ghost use Rattle.hunk_commands.specs.Engine.{ReadsThenPuts, StopsAtWrite, Writes, WritesAll};
 ghost use Rattle.hunk_commands.specs.Rewritten.{IsRewriting, IsRewritten, stripped_where};
 
@@ -32,7 +34,8 @@ pub struct Rewritten {
 ///   looked for.
 /// - `Refused` with the fault that `FileView::read` answers for the input, at the same place.
 /// - `Read` where the source failed, at the number of bytes read.
-/// - `Memory` where memory is refused for the bytes of the input, and never once they are read.
+/// - `Memory` where memory is refused for the bytes of the input, as it is for more than 2^56, and
+///   never once they are read.
 /// - `Write` where the writer failed: just the first `written` bytes of the file have gone out.
 ///
 /// After every other error than `Write` nothing was written. What was read of the source stays
@@ -58,9 +61,35 @@ pub fn rewrite<R: Source, W: Sink>(
         W.failed w.old w.new result }
 {
     let input = read_whole(alloc, r, file_bytes)?;
-    let file = FileView::read(input.as_slice())?;
+    rewrite_bytes(input.as_slice(), w, strip)
+}
+
+/// Writes the object file that the bytes are, or the load file that they begin with; where `strip`
+/// is set, without its NAME, SYMBOL, DEBUG and ADVISORY blocks. It takes no memory.
+///
+/// # Errors
+///
+/// - `Refused` with the fault that `FileView::read` answers, at the same place. Nothing was written
+///   then, and the writer is as it was.
+/// - `Write` where the writer failed: just the first `written` bytes of the file have gone out.
+pub fn rewrite_bytes<W: Sink>(
+    bytes: &[u8],
+    w: &mut LongWriter<W>,
+    strip: bool,
+) -> Result<Rewritten, RunFault>
+    requires few { length bytes.now ≤ 2 ^ 56 }
+    requires unwritten { w.old.written ≡ 0 }
+    ensures rewrites { IfOk result (λ done. PutsAll (IsRewritten strip done.rest bytes.now)
+        (W.taken w.old.sink) (W.taken w.new.sink) done.written) }
+    ensures written { IfOk result (λ done. done.written ≡ w.new.written) }
+    ensures write { IfErr result (StopsAtWrite w.new.written (PutsFirst (IsRewriting strip bytes.now)
+        (W.taken w.old.sink) (W.taken w.new.sink))) }
+    ensures puts_or_refuses { PutsOrRefuses bytes.now W.failed w.old w.new result }
+    ensures memory { IfErr result (λ fault. fault ≢ Memory) }
+{
+    let file = FileView::read(bytes)?;
     let rest = file.rest();
-    put_file(w, &file, input.as_slice(), strip)?;
+    put_file(w, &file, bytes, strip)?;
     Ok(Rewritten {
         written: w.written(),
         rest,

@@ -1,12 +1,13 @@
 //! `show`: the hunks and blocks of a file are listed.
-ghost use Rattle.std.specs.Prelude.{◌≡◌, ◌+◌, ◌^◌, ◌<◌, length, IfErr, OnOk};
+ghost use Rattle.std.specs.Prelude.{◌≡◌, ◌≢◌, ◌+◌, ◌^◌, ◌<◌, ◌≤◌, length, IfErr, OnOk};
 ghost use Rattle.hunk_files.specs.FileView.{file_of};
 ghost use Rattle.hunk_words.specs.Prints.{Prints};
 ghost use Rattle.hunk_words.specs.Puts.{PutsText};
+ghost use Rattle.hunk_commands.specs.declared.fault.RunFault.TheVariants.{Memory};
+ghost use Rattle.hunk_commands.specs.Engine.{PutsAll, PutsFirst, PutsOrRefuses};
 ghost use Rattle.hunk_commands.specs.Engine.{ReadsThenPuts, StopsAtWrite, Writes, WritesAll};
 ghost use Rattle.hunk_commands.specs.Shown.{IsShown, file_listing};
 
-use crate::decoding::view_file;
 use crate::fault::RunFault;
 use crate::input::read_whole;
 use hunk_files::FileView;
@@ -25,7 +26,8 @@ use std::alloc::Global;
 ///   looked for.
 /// - `Refused` with the fault that `FileView::read` answers for the input, at the same place.
 /// - `Read` where the source failed, at the number of bytes read.
-/// - `Memory` where memory is refused for the bytes of the input, or these are more than 2^56.
+/// - `Memory` where memory is refused for the bytes of the input, as it is for more than 2^56, and
+///   never once they are read.
 /// - `Write` where the writer failed: just the first `written` bytes of the listing have gone out.
 ///
 /// After every other error than `Write` nothing was written. What was read of the source stays
@@ -49,7 +51,28 @@ pub fn show<R: Source, W: Sink>(
         W.failed w.old w.new result }
 {
     let input = read_whole(alloc, r, file_bytes)?;
-    let file = view_file(input.as_slice())?;
+    show_bytes(input.as_slice(), w)
+}
+
+/// Lists the hunks and blocks of the object file that the bytes are, or of the load file that they
+/// begin with. It takes no memory.
+///
+/// # Errors
+///
+/// - `Refused` with the fault that `FileView::read` answers, at the same place. Nothing was written
+///   then, and the writer is as it was.
+/// - `Write` where the writer failed: just the first `written` bytes of the listing have gone out.
+pub fn show_bytes<W: Sink>(bytes: &[u8], w: &mut LongWriter<W>) -> Result<(), RunFault>
+    requires few { length bytes.now ≤ 2 ^ 56 }
+    requires unwritten { w.old.written ≡ 0 }
+    ensures shows { OnOk result (PutsAll (IsShown bytes.now)
+        (W.taken w.old.sink) (W.taken w.new.sink) w.new.written) }
+    ensures write { IfErr result (StopsAtWrite w.new.written (PutsFirst (IsShown bytes.now)
+        (W.taken w.old.sink) (W.taken w.new.sink))) }
+    ensures puts_or_refuses { PutsOrRefuses bytes.now W.failed w.old w.new result }
+    ensures memory { IfErr result (λ fault. fault ≢ Memory) }
+{
+    let file = FileView::read(bytes)?;
     put_listing(w, &file)?;
     Ok(())
 }

@@ -1,5 +1,6 @@
 //! Tests of what no clause says.
 mod asserts;
+mod bytes;
 mod calls;
 mod faults;
 mod hex_text;

@@ -28,13 +28,13 @@ takes_put taken old new written text puts all =
     subst (λ (xs : List ℕ). Takes taken old new xs) (take_all puts.count text (omega (arith, puts.rose, all))) puts.gone
 
 pub takes_whole : {W : Type 0} (taken : W → Option (List ℕ)) (old new : Writing W) (Is : List ℕ → List ℕ → Type 0) (a b : Option (List ℕ)) (most written : ℕ)
-    (all : WritesAll Is a b most (taken old.sink) (taken new.sink) written) → Takes taken old new all.0.text
-takes_whole taken old new Is a b most written all = takes_put taken old new written all.0.text all.0.puts all.1
+    (all : WritesAll Is a b most (taken old.sink) (taken new.sink) written) → Takes taken old new all.holds.0.text
+takes_whole taken old new Is a b most written all = takes_put taken old new written all.holds.0.text all.holds.0.puts all.holds.1
 
 pub tells_report : {W : Type 0} (taken : W → Option (List ℕ)) (failed : W → Bool) (old new : Writing W) (count : ℕ) (a b : Option (List ℕ)) (most written : ℕ) →
     0 < count → WritesAll (IsValidated count) a b most (taken old.sink) (taken new.sink) written → TellsStatus taken failed old new 1
 tells_report taken failed old new count a b most written some all =
-    inr (inr (inr (inr (all.0.input, all.0.text, refl, (count, some, all.0.is_text), takes_whole taken old new (IsValidated count) a b most written all))))
+    inr (inr (inr (inr (all.input, all.holds.0.text, refl, (count, some, all.holds.0.is_text), takes_whole taken old new (IsValidated count) a b most written all))))
 
 -- an input that was read to its end
 pub lists_source : {W : Type 0} (taken : W → Option (List ℕ)) (old new : Writing W) (listing : Listing) (Is : List ℕ → List ℕ → Type 0)
@@ -42,13 +42,13 @@ pub lists_source : {W : Type 0} (taken : W → Option (List ℕ)) (old new : Wri
     ((given : List ℕ) → IsAtEnd b → StopsReading false listing given b) →
     WritesAll Is a b most (taken old.sink) (taken new.sink) written → ListsSource false listing a b taken old new
 lists_source taken old new listing Is a b most written listed at_end all = record {
-  given = all.0.input;
-  consumed = all.0.read.given;
-  stops = at_end all.0.input all.0.read.at_end;
-  input = all.0.input;
+  given = all.input;
+  consumed = all.read.given;
+  stops = at_end all.input all.read.at_end;
+  input = all.input;
   is_input = refl;
-  text = all.0.text;
-  is_listed = listed all.0.input all.0.text all.0.is_text;
+  text = all.holds.0.text;
+  is_listed = listed all.input all.holds.0.text all.holds.0.is_text;
   takes = takes_whole taken old new Is a b most written all;
 }
 

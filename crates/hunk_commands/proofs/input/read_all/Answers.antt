@@ -1,5 +1,9 @@
-use Rattle.std.proofs.Common.{rules, ◌+◌, ◌≤◌, ◌++◌, length, take, length-append, arith}
+use Rattle.std.proofs.Common.{rules, ◌+◌, ◌<◌, ◌≤◌, ◌++◌, length, take, length-append, refl, arith}
 use Rattle.std.proofs.KnownBytes.{Consumes-trans}
+use Rattle.std.proofs.lemmas.Result.{err_from_is_err_and}
+use Rattle.hunk_commands.specs.declared.fault.RunFault.TheVariants.{Memory}
+use Rattle.hunk_commands.specs.Inputs.{ReadsInVain}
+use Rattle.hunk_commands.proofs.Engines.{handed}
 use Rattle.hunk_commands.proofs.input.read_all.Goals as goal
 use Rattle.hunk_commands.proofs.input.read_all.Goals.{then-room, else-room}
 
@@ -12,12 +16,16 @@ returns-in_err-take-in-Ok-clause-reads_at_most g c =
       | else-room w ↦ omega (arith, w.ask-is, w.if-room.false, c.reading-test.true)
     ] in
     let few : length piece ≤ c.if-room.ask = search rules in
+    let some : 0 < length piece = search rules in
+    let gave = Consumes-trans _ _ _ held piece c.reading.invariant.2 c.in-Ok.ensures.bytes.0 in
     record {
-      err = search rules;
+      err = handed (λ fault. ReadsInVain fault (g.S.Source.left c.args.source.now) (g.S.Source.left c.pull.new.self) c.args.most (g.S.Source.failed c.pull.new.self))
+          c.from_residual.result Memory (err_from_is_err_and c.from_residual.result c.from_residual.ensures.1)
+          (length (held ++ piece), omega (arith, length-append held piece, some), (held ++ piece, gave, refl));
       limit = (
         held ++ piece,
         record {
-          consumed = Consumes-trans _ _ _ held piece c.reading.invariant.2 c.in-Ok.ensures.bytes.0;
+          consumed = gave;
           within = omega (arith, length-append held piece, c.reading.invariant.0, asked, few);
         },
       );
