@@ -36,11 +36,6 @@ refuses {W} {T} failed out bytes refusal result p none is other =
       refused = λ _. is;
     })
 
-pub no_memory : {W T : Type 0} (bytes : List ℕ) (failed : W → Bool) (old new : Writing W) (result : Result T RunFault) → PutsOrRefuses bytes failed old new result →
-    IfErr result (λ fault. fault ≢ Memory)
-no_memory bytes failed old new (Ok value) puts = tt
-no_memory bytes failed old new (Err fault) puts = λ memory. subst (λ (f : RunFault). ¬ IsWrite f → RefusesBytes f bytes) memory puts.refused (λ written. written)
-
 -- ---- a text that is put
 
 abbrev pub puts_first : (Is : List ℕ → Type 0) (c d : Option (List ℕ)) (m n : ℕ) (text : List ℕ) → Is text → m ≡ 0 → Puts c d m n text → PutsFirst Is c d n

@@ -2,7 +2,7 @@
 use Rattle.std.specs.Prelude.{◌==◌, ◌||◌, ◌≡◌, ◌⊎◌, ◌++◌, ⊤, ℕ, Bool, true, false, not, List, Option, Ok}
 use Rattle.std.specs.List.{filter}
 use Rattle.hex.specs.Hex.{decode_of}
-use Rattle.hunk_commands.specs.Inputs.{ReadsInVain, ReadsWhole}
+use Rattle.hunk_commands.specs.Inputs.{ReadsInVain, ReadsInput}
 use Rattle.hunk_commands.specs.declared.fault.RunFault.{RunFault}
 use Rattle.hunk_commands.specs.declared.fault.RunFault.TheVariants as faults
 
@@ -48,16 +48,12 @@ AppendsSpelled false digits old new = (more : List ℕ) → ¬ (decode_of digits
 -- ---- a source's text: a was left before and b is left now
 
 -- fewer than `most` bytes of text, read to its end, spell the bytes
-pub record ReadsHex (a b : Option (List ℕ)) (most : ℕ) (bytes : List ℕ) : Type 0 where
-  pub text : List ℕ
-  pub read : ReadsWhole a b most text
-  pub spells : SpellsHex text bytes
+abbrev pub ReadsHex : Option (List ℕ) → Option (List ℕ) → ℕ → List ℕ → Type 0
+ReadsHex a b most bytes = ReadsInput (λ text. SpellsHex text bytes) a b most
 
 -- fewer than `most` bytes of text, read to its end, spell no bytes
-pub record SpellsNone (a b : Option (List ℕ)) (most : ℕ) : Type 0 where
-  pub text : List ℕ
-  pub read : ReadsWhole a b most text
-  pub none : IsNotHex text
+abbrev pub SpellsNone : Option (List ℕ) → Option (List ℕ) → ℕ → Type 0
+SpellsNone a b most = ReadsInput IsNotHex a b most
 
 -- why no bytes were read: its text was not read to its end in fewer than `most` bytes, or spells none
 abbrev pub ReadsNoHex : RunFault → Option (List ℕ) → Option (List ℕ) → ℕ → Bool → Type 0

@@ -1,5 +1,5 @@
 //! `rewrite`: a file is read, and written again.
-ghost use Rattle.std.specs.Prelude.{◌≡◌, ◌≢◌, ◌+◌, ◌^◌, ◌<◌, ◌≤◌, length, IfOk, IfErr};
+ghost use Rattle.std.specs.Prelude.{◌≡◌, ◌≢◌, ◌+◌, ◌^◌, ◌<◌, length, IfOk, IfErr};
 ghost use Rattle.hunk_words.specs.Puts.{PutsText};
 ghost use Rattle.hunk_files.specs.FileView.{file_of};
 ghost use Rattle.hunk_files.specs.HunkFile.{IsFileOf, file_bytes, stripped};
@@ -77,8 +77,7 @@ pub fn rewrite_bytes<W: Sink>(
     w: &mut LongWriter<W>,
     strip: bool,
 ) -> Result<Rewritten, RunFault>
-    requires few { length bytes.now ≤ 2 ^ 56 }
-    requires unwritten { w.old.written ≡ 0 }
+    requires { w.old.written ≡ 0 }
     ensures rewrites { IfOk result (λ done. PutsAll (IsRewritten strip done.rest bytes.now)
         (W.taken w.old.sink) (W.taken w.new.sink) done.written) }
     ensures written { IfOk result (λ done. done.written ≡ w.new.written) }

@@ -4,7 +4,7 @@ use Rattle.hunk_files.specs.FileView.{file_of}
 use Rattle.hunk_commands.specs.Engine.{PutsFirst}
 use Rattle.hunk_commands.specs.Shown.{IsShown, file_listing}
 use Rattle.hunk_commands.proofs.FileLaws.{shown_file}
-use Rattle.hunk_commands.proofs.Engines.{no_memory, puts_all, puts_first, refuses, written_first}
+use Rattle.hunk_commands.proofs.Engines.{puts_all, puts_first, refuses, written_first}
 use Rattle.hunk_commands.proofs.ListingLengths.{file_listing_fits}
 use Rattle.hunk_commands.proofs.showing.show_bytes.Goals as goal
 
@@ -12,9 +12,6 @@ pub returns-in_err-file-clause-puts_or_refuses : goal.returns-in_err-file-clause
 returns-in_err-file-clause-puts_or_refuses g c =
     refuses g.W.Sink.failed c.args.w.now c.args.bytes.now c.in_err-file.field-0.0 c.from_residual.result
     (err_from_is_err_and c.from_residual.result c.from_residual.ensures.1) c.in_err-file.ensures.none c.in_err-file.ensures.refused c.in_err-file.ensures.memory
-
-pub returns-in_err-file-clause-memory : goal.returns-in_err-file-clause-memory
-returns-in_err-file-clause-memory g c = no_memory c.args.bytes.now g.W.Sink.failed c.args.w.now c.args.w.now _ (returns-in_err-file-clause-puts_or_refuses g c)
 
 pub returns-in_err-put_listing-clause-write : goal.returns-in_err-put_listing-clause-write
 returns-in_err-put_listing-clause-write g c =

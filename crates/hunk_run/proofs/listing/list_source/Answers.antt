@@ -26,8 +26,8 @@ returns-clause-done g c =
     let bytes = c.in_ok-bytes.bytes.items in
     let read = c.in_ok-bytes.ensures.spelled in
     let known = ap {B = Option (List ℕ)} (λ (xs : List ℕ). Some xs) (c.new.ensures ∙ c.as_slice.ensures.value) in
-    lists_where_done g.W.Sink.taken c.args.out.now c.list_bytes-2.new.out c.args.listing c.args.hex _ _ _ _ read.text bytes _
-    hex read.read.given read.read.at_end read.spells known c.list_bytes-2.ensures.done
+    lists_where_done g.W.Sink.taken c.args.out.now c.list_bytes-2.new.out c.args.listing c.args.hex _ _ _ _ read.input bytes _
+    hex read.read.given read.read.at_end read.holds known c.list_bytes-2.ensures.done
 
 -- where the bytes are refused, the text that spells them is
 refused_where : (listing : Listing) (hex : Bool) (a b c d : Option (List ℕ)) (bytes : List ℕ) (most : ℕ) (failed : Bool) (result : Result ℕ RunFault) →
