@@ -17,6 +17,7 @@ pub(crate) struct HeaderState {
 }
 
 /// The bytes that a longword declares: those of a size word.
+#[inline(always)]
 fn declares(position: Position, word: u32) -> u64
     ensures value { result ≡ heading.declares position word }
     ensures bound { result < 2 ^ 32 }
@@ -52,12 +53,10 @@ fn row(position: Position, word: u32) -> Option<Row>
     }
 }
 
-/// Passes a longword, or answers why it is rejected: by its own test, or by the budget.
-pub(crate) fn pass_header_word(
-    state: HeaderState,
-    budget: u64,
-    word: u32,
-) -> Result<HeaderState, Reason>
+/// Passes a longword, or answers why it is rejected. Where the caller knows the position, nothing
+/// is compiled of what it does at others.
+#[inline(always)]
+fn pass_at(state: HeaderState, budget: u64, word: u32) -> Result<HeaderState, Reason>
     requires goes_on { is_behind_header state.position ≡ false }
     requires room { state.total + 2 ^ 32 < 2 ^ 64 }
     ensures passes { IfOk result (heading.PassesWord budget state word) }
@@ -74,6 +73,29 @@ pub(crate) fn pass_header_word(
         position: state.position.step(word),
         total,
     })
+}
+
+/// Passes a longword, or answers why it is rejected: by its own test, or by the budget. Nearly all
+/// longwords of a long header are size words, which are told apart here, once for all that is asked
+/// of them.
+#[inline(always)]
+pub(crate) fn pass_header_word(
+    state: HeaderState,
+    budget: u64,
+    word: u32,
+) -> Result<HeaderState, Reason>
+    requires goes_on { is_behind_header state.position ≡ false }
+    requires room { state.total + 2 ^ 32 < 2 ^ 64 }
+    ensures passes { IfOk result (heading.PassesWord budget state word) }
+    ensures refusal { IfErr result (heading.RefusesWord budget state word) }
+{
+    match state.position {
+        Position::SizeWord { hunks, owed } => {
+            let position = Position::SizeWord { hunks, owed };
+            pass_at(HeaderState { position, ..state }, budget, word)
+        }
+        _ => pass_at(state, budget, word),
+    }
 }
 
 /// Takes a longword and stores the row that it completes, or answers why not: by its own test, by
