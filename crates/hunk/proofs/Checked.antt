@@ -1,8 +1,9 @@
 -- What a check and a strip come to.
-use Rattle.std.proofs.Common.{◌≡◌, ℕ, List, length, refl, ap, subst, ◌∙◌, arith}
+use Rattle.std.proofs.Common.{◌≡◌, ◌≢◌, ◌≤◌, ◌++◌, ℕ, List, [], ◌∷◌, length, map, drop, refl, sym, ap, ap₂, subst, ◌∙◌, arith, take-append-drop, ◌⊎◌, inl, inr}
 use Rattle.hunk_words.specs.Longs.{longs}
 use Rattle.hunk_words.specs.declared.fault.Fault.{Fault}
 use Rattle.hunk_scan.specs.FileKind.{sniffed}
+use Rattle.hunk_files.specs.Findings.{FindingValue}
 use Rattle.hunk_files.specs.HunkFile.{AreFile, IsFileOf, IsRefusal, file_bytes}
 use Rattle.hunk_files.specs.LoadFile.{LoadFileValue}
 use Rattle.hunk_files.specs.declared.hunk_file.HunkFile.{HunkFile}
@@ -11,7 +12,8 @@ use Rattle.hunk.specs.declared.answer.Answer.{Answer}
 use Rattle.hunk.specs.declared.check.FindingRow.{FindingRow}
 use Rattle.hunk.specs.Answers.{refused, done}
 use Rattle.hunk.specs.Checks as checks
-use Rattle.hunk.specs.Checks.{Checks, ChecksWhatFits}
+use Rattle.hunk.specs.Checks.{Checks, ChecksWhatFits, finding_row}
+use Rattle.hunk.specs.Copying.{Copies}
 use Rattle.hunk.specs.Files.{findings_in}
 use Rattle.hunk.specs.Strips as strips
 use Rattle.hunk.specs.Strips.{Strips, StripsWhatFits, stripped_bytes}
@@ -38,6 +40,20 @@ pub check_load : (bytes : List ℕ) (rows : List FindingRow) (answer : Answer) (
 check_load bytes rows answer file value rest hunks size is load count end told =
     checks.HasFindings (files.Load value rest) (subst (λ (f : HunkFile). IsFileOf bytes f) load is) (omega arith) refl
     (told ∙ same_answer 0 _ _ _ _ _ _ count (end ∙ ap (λ (f : HunkFile). length (file_bytes f)) load) refl)
+
+-- ---- where nothing is wrong
+
+-- No row is written for nothing.
+pub no_rows : (found : List FindingValue) (rows : List FindingRow) → length found ≡ 0 → rows ≡ map finding_row found ++ drop (length found) rows
+no_rows [] rows none = refl
+no_rows (f ∷ found) rows none = absurd (omega (arith, none))
+
+-- ---- what is copied
+
+pub copied : (old bytes new : List ℕ) (n : ℕ) → Copies old 0 bytes new n → length bytes ≤ length old → new ≡ bytes ++ drop n old
+copied old bytes new n copies room =
+    let follows = copies.1 (omega (arith, room)) in
+    sym (take-append-drop n new) ∙ ap₂ (λ (xs ys : List ℕ). xs ++ ys) follows.front follows.rest
 
 -- ---- where there is room
 

@@ -96,6 +96,6 @@ pub object_size : (bytes : List ℕ) (o : ObjectFileValue) → IsFileOf bytes (f
 object_size bytes o is = omega (arith, file_size bytes (files.Object o) is)
 
 -- no more stays of the file than there was
-pub stripped_fits : (bytes : List ℕ) (file : HunkFile) → IsFileOf bytes file → length (file_bytes (stripped file)) ≤ length bytes
-stripped_fits bytes (files.Load value rest) is = omega (arith, file_size bytes (files.Load value rest) is, bytes_shorter value)
-stripped_fits bytes (files.Object value) is = omega (arith, file_size bytes (files.Object value) is, shorter value)
+pub stripped_fits : (file : HunkFile) → length (file_bytes (stripped file)) ≤ length (file_bytes file)
+stripped_fits (files.Load value rest) = omega (arith, bytes_shorter value)
+stripped_fits (files.Object value) = omega (arith, shorter value)

@@ -1,13 +1,19 @@
 -- What a loader in numbers stands for, and what it comes to at the end.
-use Rattle.std.proofs.Common.{◌≡◌, ◌*◌, ◌/◌, ℕ, Bool, true, false, not, List, [], ◌∷◌, length, Option, None, Some, ◌++◌, refl, sym, ap, subst, ◌∙◌, append-nil, inr}
-use Rattle.hunk_words.specs.Longs.{bytes_of}
+use Rattle.std.proofs.Common.{◌≡◌, ◌+◌, ◌-◌, ◌*◌, ◌/◌, ◌%◌, ◌<◌, ◌≤◌, ◌==◌, ℕ, zero, suc, Bool, true, false, not, List, [], ◌∷◌, length, take, Option, None, Some, ◌++◌, refl, sym, ap, subst, ◌∙◌, arith, append-nil, inr, length-take}
+use Rattle.hunk_words.specs.Longs.{bytes_of, IsBytes}
+use Rattle.hunk_words.specs.PendingBytes.{pending_of}
+use Rattle.hunk_words.specs.declared.pending.Pending.{Pending}
 use Rattle.hunk_words.specs.declared.reason.Reason.TheVariants as reasons
-use Rattle.hunk_scan.specs.Positions.{is_done}
+use Rattle.hunk_scan.specs.Positions.{is_done, onward, pass}
+use Rattle.hunk_scan.specs.Positions.{behind as ended}
+use Rattle.hunk_scan.specs.declared.phase.OpenHunk.{OpenHunk}
 use Rattle.hunk_scan.specs.declared.position.Position.{Position}
 use Rattle.hunk_scan.specs.declared.position.Position.TheVariants as positions
 use Rattle.hunk_files.specs.Fault.{HasFault, IsTruncated}
 use Rattle.hunk_blocks.specs.BlockSteps.{ForName, ForCode, Counted, Inside, AtCount, AtSize, InPayload}
+use Rattle.hunk_blocks.specs.PhaseSteps.{owe_payload}
 use Rattle.hunk_blocks.specs.ReaderPhase.{phase_of}
+use Rattle.hunk_blocks.specs.declared.phase.Phase.TheVariants as phases
 use Rattle.hunk_blocks.specs.Values.{BlockValue}
 use Rattle.hunk_scan.specs.Roles.{Place}
 use Rattle.hunk_files.specs.FileSteps.{AtBlock, InBody, Next, More, Finished, place_of}
@@ -27,12 +33,13 @@ use Rattle.hunk_scatter.specs.StoreContent.{StoreHolds}
 use Rattle.hunk_scatter.specs.Streaming.{EndsLoading, IsFed}
 use Rattle.hunk_scatter.specs.declared.body_state.BodyState.{BodyState}
 use Rattle.hunk_scatter.specs.declared.stream.Standing.{Standing}
-use Rattle.hunk_scatter.proofs.BodyFields.{done_if_whole}
+use Rattle.hunk_scatter.proofs.BodyFields.{done_if_whole, fed_more, in_room}
 use Rattle.hunk_scatter.proofs.Forget.{before_is}
 use Rattle.hunk_scatter.proofs.OneByte.{not_done}
+use Rattle.hunk_scatter.proofs.WholeLongs.{run_taken}
 use Rattle.hunk.specs.declared.loader.Loader.{Loader}
 use Rattle.hunk.specs.Answers.{done}
-use Rattle.hunk.specs.Streams.{IsStreamed, Stands, is_external, loader_position, standing_at, standing_of, stands_in_body}
+use Rattle.hunk.specs.Streams.{IsStreamed, PassesOver, Stands, is_external, loader_position, position_in, standing_at, standing_of, stands_in_body}
 use Rattle.hunk.proofs.Loaded.{same_answer}
 
 -- ---- where a loader stands
@@ -70,6 +77,86 @@ stands_at rows l memory fed at e h = subst (λ (s : Standing). IsFed rows memory
 -- Where they tell nothing, it stands nowhere.
 pub nowhere : (rows : List Row) (l : Loader) (memory fed : List ℕ) → standing_of l ≡ None → Stands rows l memory fed → ⊥
 nowhere rows l memory fed e h = absurd (cc (h.numbers, e))
+
+-- ---- a payload
+
+abbrev hunk_at : Loader → OpenHunk
+hunk_at l = record { hunks = l.hunks; ahead = l.ahead; has_content = l.has_content == 1 }
+
+-- inside a payload, after so many bytes in all
+abbrev payload_at : Loader → ℕ → ℕ → Standing
+payload_at l fed owed = record {
+  state = record { start = l.start; hunk = l.hunk; position = positions.Body (hunk_at l) (phases.Payload owed) };
+  fed = fed;
+  pending = record { count = l.pending; first = l.first; second = l.second; third = l.third };
+}
+
+-- its numbers tell so
+in_payload : (l : Loader) → l.phase ≡ 8 → standing_of l ≡ Some (payload_at l l.fed l.owed)
+in_payload l payload = ap (λ (n : ℕ). standing_at l (position_in (hunk_at l) n l.part l.owed)) payload
+
+-- Behind longwords of a payload, as many as are owed at most.
+pass_payload : (hunk : OpenHunk) (owed n : ℕ) → 0 < n → n ≤ owed → pass (positions.Body hunk (phases.Payload owed)) n ≡ positions.Body hunk (phases.Payload (owed - n))
+pass_payload hunk owed zero some few = absurd (omega (arith, some))
+pass_payload hunk owed (suc n) some few =
+    let left : owed - n ≡ suc (owed - suc n) = omega (arith, few) in
+    ap (λ (k : ℕ). onward hunk (ended hunk (phases.Payload owed)) (owe_payload k)) left
+
+none_pending : (p : Pending) → p.count ≡ 0 → pending_of p ≡ []
+none_pending p clean = ap (λ (n : ℕ). pending_of (record { count = n; first = p.first; second = p.second; third = p.third })) clean
+
+-- The loader after a piece of a payload.
+abbrev behind_piece : Loader → ℕ → Loader
+behind_piece l n = record {
+  start = l.start;
+  fed = l.fed + n;
+  place = l.place;
+  refused = l.refused;
+  refused_hunk = l.refused_hunk;
+  hunk = l.hunk;
+  hunks = l.hunks;
+  ahead = l.ahead;
+  has_content = l.has_content;
+  phase = l.phase;
+  part = l.part;
+  owed = l.owed - n / 4;
+  pending = l.pending;
+  first = l.first;
+  second = l.second;
+  third = l.third;
+}
+
+module _ (l : Loader) (piece : List ℕ) (payload : l.phase ≡ 8) (clean : l.pending ≡ 0) (are : IsBytes piece) (fours : length piece % 4 ≡ 0) (some : 0 < length piece) (few : length piece / 4 ≤ l.owed) where
+  payload_fed : (rows : List Row) (memory fed : List ℕ) → Stands rows l memory fed →
+      IsFed rows memory (payload_at l (l.fed + length piece) (l.owed - length piece / 4)) (fed ++ take (length piece) piece)
+  payload_fed rows memory fed h =
+      let at = payload_at l l.fed l.owed in
+      let n = length piece in
+      let to = payload_at l (l.fed + n) (l.owed - n / 4) in
+      let f : IsFed rows memory at fed = stands_at rows l memory fed at (in_payload l payload) h in
+      let none : pending_of at.pending ≡ [] = none_pending at.pending clean in
+      let here : StandsBehind rows memory at.state [] fed = subst (λ (xs : List ℕ). StandsBehind rows memory at.state xs fed) none f.stands in
+      let long : length (take n piece) ≡ n = omega (arith, length-take n piece) in
+      let same : pass at.state.position (length (take n piece) / 4) ≡ to.state.position =
+      ap (λ (k : ℕ). pass at.state.position (k / 4)) long ∙ pass_payload (hunk_at l) l.owed (n / 4) (omega (arith, some, fours)) few in
+      let there : StandsBehind rows memory to.state [] (fed ++ take n piece) =
+      subst (λ (p : Position). StandsBehind rows memory (record { start = l.start; hunk = l.hunk; position = p }) [] (fed ++ take n piece)) same
+      (run_taken rows memory at.state fed here (in_room rows memory at fed f refl) piece n are (omega arith) fours some (omega (arith, few, fours))) in
+      fed_more rows memory at fed f memory to (take n piece) refl (omega (arith, long))
+      (subst (λ (xs : List ℕ). StandsBehind rows memory to.state xs (fed ++ take n piece)) (sym none) there)
+
+  pub passes_over : PassesOver l (behind_piece l (length piece)) piece
+  passes_over = record {
+    has_standing = (payload_at l l.fed l.owed, in_payload l payload);
+    takes =
+        λ rows memory fed h room.
+        record {
+          unrefused = h.unrefused;
+          at = payload_at l (l.fed + length piece) (l.owed - length piece / 4);
+          numbers = in_payload (behind_piece l (length piece)) payload;
+          is_fed = payload_fed rows memory fed h;
+        };
+  }
 
 -- ---- its numbers
 

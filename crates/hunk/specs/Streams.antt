@@ -171,6 +171,11 @@ abbrev pub TakesPiece : List Row → Loader → Loader → List ℕ → List ℕ
 TakesPiece rows old new memory after piece count =
     (fed : List ℕ) → Stands rows old memory fed → length fed + length piece < 2 ^ 64 → Stands rows new after (fed ++ take count piece)
 
+-- The piece is passed over: whatever was fed before, all of it is fed then, and the memory is as it was.
+pub record PassesOver (old new : Loader) (piece : List ℕ) : Type 0 where
+  pub has_standing : HasStanding old
+  pub takes : (rows : List Row) (memory : List ℕ) → TakesPiece rows old new memory memory piece (length piece)
+
 -- Whatever bytes were fed before, with the piece after them they are refused so.
 abbrev pub RefusesPiece : List Row → Loader → List ℕ → List ℕ → Fault → Type 0
 RefusesPiece rows old memory piece f =

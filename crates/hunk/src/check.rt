@@ -30,7 +30,7 @@ pub struct FindingRow {
 /// Of an object file it writes a row for each finding, in file order; a load file that is accepted
 /// has none. The rows after them are as they were, and after a refusal all are. It answers the
 /// number of hunks of a load file, and 0 of an object file, the bytes of the file, and the number
-/// of findings. These are counted first, and then found again.
+/// of findings. These are counted first, and then, where there are any, found again.
 ///
 /// # Errors
 ///
@@ -58,6 +58,9 @@ fn check_object(bytes: &[u8], file: &ObjectView<'_>, rows: &mut [FindingRow]) ->
 {
     let size = bytes.len() as u64;
     let count = count_findings(file);
+    if count == 0 {
+        return done(0, size, 0);
+    }
     if count > rows.len() as u64 {
         return no_room(0, size, count);
     }

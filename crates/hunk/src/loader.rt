@@ -1,8 +1,8 @@
 //! A loader in numbers, which its caller keeps.
-ghost use Rattle.std.specs.Prelude.{◌≡◌, true, false, Some, MatchOption};
+ghost use Rattle.std.specs.Prelude.{◌≡◌, true, false, Some, IfSome, MatchOption};
 ghost use Rattle.hunk_scan.specs.Positions.{is_done};
-ghost use Rattle.hunk.specs.Streams.{TellsAgain, is_external, loader_position, phase_in, position_in, refusing};
-ghost use Rattle.hunk.specs.Streams.{standing_of, stands_in_body, whole};
+ghost use Rattle.hunk.specs.Streams.{PassesOver, TellsAgain, is_external, loader_position, phase_in};
+ghost use Rattle.hunk.specs.Streams.{position_in, refusing, standing_of, stands_in_body, whole};
 
 use crate::answer::{Answer, refused, strange};
 use hunk_scan::{OpenHunk, Phase, Position};
@@ -70,6 +70,9 @@ pub(crate) const NO_LOADER: Loader = Loader {
     third: 0,
 };
 
+/// The phase of a loader inside a payload.
+const PAYLOAD: u32 = 8;
+
 /// The phase of a loader whose file is whole.
 const WHOLE: u32 = 14;
 
@@ -132,6 +135,29 @@ impl Loader {
             hunk: self.refused_hunk,
             place: self.place,
             count: 0,
+        })
+    }
+
+    /// The loader behind the piece, where that is longwords of a payload, and more of it is to come:
+    /// no test looks at them. `None` where it is anything else.
+    #[inline(always)]
+    pub(crate) fn pass_payload(&self, piece: &[u8]) -> Option<Loader>
+        ensures { IfSome result (λ to. PassesOver self.now to piece.now) }
+    {
+        if self.phase != PAYLOAD || self.pending > 0 || piece.len() % 4 > 0 {
+            return None;
+        }
+        let longs = piece.len() / 4;
+        if longs == 0 || longs > self.owed as usize {
+            return None;
+        }
+        if piece.len() as u64 > u64::MAX - self.fed {
+            return None;
+        }
+        Some(Loader {
+            fed: self.fed + piece.len() as u64,
+            owed: self.owed - longs as u32,
+            ..*self
         })
     }
 

@@ -70,6 +70,10 @@ pub extern "C" fn hunk_feed(
     if let Some(answer) = loader.refusal() {
         return answer;
     }
+    if let Some(to) = loader.pass_payload(piece) {
+        *loader = to;
+        return done(loader.hunk, loader.fed, piece.len() as u64);
+    }
     let Some(at) = loader.standing() else {
         return strange();
     };

@@ -1,7 +1,8 @@
 //! Files without names, symbols and debug data.
-ghost use Rattle.std.specs.Prelude.{◌≡◌, ◌<◌, ◌^◌, ℕ, length};
+ghost use Rattle.std.specs.Prelude.{◌≡◌, ◌<◌, ◌≤◌, ◌^◌, ◌++◌, ℕ, IfNone, IfSome, drop, length};
 ghost use Rattle.std.proofs.Common.{◌∙◌, refl};
 ghost use Rattle.hunk_files.specs.FileView.{file_of};
+ghost use Rattle.hunk_files.specs.HunkFile.{file_bytes};
 ghost use Rattle.hunk.specs.Copying.{Copies, copies_none, copies_more};
 ghost use Rattle.hunk.specs.Counting.{Counts, counts_none, counts_more};
 ghost use Rattle.hunk.specs.Strips.{Strips, StripsWhatFits, stripped_bytes};
@@ -15,8 +16,8 @@ use hunk_files::{FileView, TakesBytes};
 ///
 /// What follows a load file is left out. The text after what is written is as it was, and after a
 /// refusal all of it is. It answers the number of hunks of a load file, and 0 of an object file,
-/// the bytes of the file, and those of what was written, which are no more. What stays is counted
-/// first, and then copied.
+/// the bytes of the file, and those of what was written, which are no more. Where the text is
+/// shorter than the file, what stays is counted before it is copied.
 ///
 /// # Errors
 ///
@@ -32,12 +33,30 @@ pub extern "C" fn hunk_strip(bytes: &[u8], text: &mut [u8]) -> Answer
     };
     let hunks = hunks_in(&file);
     let size = bytes.len() as u64 - file.rest();
-    let count = count_stripped(&file);
-    if count > text.len() as u64 {
+    if let Some(count) = lacked(&file, size, text.len() as u64) {
         return no_room(hunks, size, count);
     }
-    copy_stripped(&file, &mut text[..count as usize]);
-    done(hunks, size, count)
+    let count = copy_stripped(&file, text);
+    done(hunks, size, count as u64)
+}
+
+/// How many bytes the file, which has `size` of them, has without those blocks, where there is no
+/// room for as many.
+fn lacked(file: &FileView<'_>, size: u64, room: u64) -> Option<u64>
+    requires size { size ≡ length (file_bytes (file_of file.now)) }
+    ensures none { IfNone result (length (stripped_bytes (file_of file.now)) ≤ room) }
+    ensures some { IfSome result (λ count. (count ≡ length (stripped_bytes (file_of file.now)))
+        × (room < count)) }
+{
+    // What is stripped is no longer than the file.
+    if size <= room {
+        return None;
+    }
+    let count = count_stripped(file);
+    if count <= room {
+        return None;
+    }
+    Some(count)
 }
 
 /// How many bytes the file has without those blocks.
@@ -50,13 +69,17 @@ fn count_stripped(file: &FileView<'_>) -> u64
     counter.count
 }
 
-/// Writes the file without those blocks.
-fn copy_stripped(file: &FileView<'_>, text: &mut [u8])
-    requires { length text.old ≡ length (stripped_bytes (file_of file.now)) }
-    ensures { text.new ≡ stripped_bytes (file_of file.now) }
+/// Writes the file without those blocks to the front of the text, and gives the number of its
+/// bytes. The text behind them is as it was.
+#[tactic(auto, using(crate::proofs::Checked::copied))]
+fn copy_stripped(file: &FileView<'_>, text: &mut [u8]) -> usize
+    requires { length (stripped_bytes (file_of file.now)) ≤ length text.old }
+    ensures count { result ≡ length (stripped_bytes (file_of file.now)) }
+    ensures text { text.new ≡ stripped_bytes (file_of file.now) ++ drop result text.old }
 {
     let mut copier = Copier { text, at: 0 };
     file.strip_with(&mut copier);
+    copier.at
 }
 
 /// Counts bytes, modulo 2 ^ 64.

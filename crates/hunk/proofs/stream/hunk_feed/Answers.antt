@@ -1,10 +1,16 @@
-use Rattle.std.proofs.Common.{◌≡◌, ◌++◌, take, Some, refl, sym, subst, ◌∙◌, arith}
+use Rattle.std.proofs.Common.{◌≡◌, ◌++◌, length, take, Some, refl, sym, subst, ◌∙◌, arith}
 use Rattle.hunk_scatter.specs.Streaming.{StopsAt, StopsForBody}
 use Rattle.hunk_scatter.specs.declared.stream.Stop.{Stop}
 use Rattle.hunk.specs.Streams.{HasTaken, HasRefused, standing_of}
 use Rattle.hunk.proofs.Loaded.{same_answer}
 use Rattle.hunk.proofs.Streamed.{behind, stands_at}
 use Rattle.hunk.proofs.stream.hunk_feed.Goals as goal
+
+pub returns-in-Some-pass_payload : goal.returns-in-Some-pass_payload
+returns-in-Some-pass_payload c =
+    let over = c.in-Some-pass_payload.ensures in
+    HasTaken (length c.args.piece.now) c.in_default.ensures over.has_standing (omega arith) (λ less. absurd (omega (arith, less))) (λ fed h room. over.takes _ _ fed h room)
+    (c.done.ensures ∙ same_answer 0 _ _ _ _ _ _ refl refl (omega arith))
 
 pub returns-in-Ok : goal.returns-in-Ok
 returns-in-Ok c =
@@ -18,7 +24,7 @@ returns-in-Ok c =
       numbers = c.of.ensures.standing (behind c.args.rows.now c.take_piece.new.store c.in-Ok.to (fed ++ take c.in-Ok.taken c.args.piece.now) k);
       is_fed = k;
     })
-    (c.done.ensures ∙ same_answer 0 _ _ _ _ _ _ refl refl (omega arith))
+    (c.done-in-Ok.ensures ∙ same_answer 0 _ _ _ _ _ _ refl refl (omega arith))
 
 pub returns-in-Err-Refused : goal.returns-in-Err-Refused
 returns-in-Err-Refused c =

@@ -1,9 +1,9 @@
-use Rattle.std.proofs.Common.{◌++◌, ℕ, List, drop, refl, ap₂, ◌∙◌, arith}
+use Rattle.std.proofs.Common.{◌++◌, ℕ, List, drop, refl, ap, ap₂, ◌∙◌, arith}
 use Rattle.hunk_files.specs.FileView.{file_of}
 use Rattle.hunk.specs.Strips.{HasNoText, HasStripped}
 use Rattle.hunk.proofs.Checked.{strip_refused, strips_what_fits}
 use Rattle.hunk.proofs.Loaded.{same_answer}
-use Rattle.hunk.proofs.OneFile.{file_size, stripped_fits}
+use Rattle.hunk.proofs.OneFile.{file_size}
 use Rattle.hunk.proofs.strip.hunk_strip.Goals as goal
 
 pub returns-in-Err-clause-outcome : goal.returns-in-Err-clause-outcome
@@ -15,19 +15,22 @@ returns-in-Err-clause-succeeds c = strips_what_fits _ _ _ _ (returns-in-Err-clau
 pub overflow_sub-size : goal.overflow_sub-size
 overflow_sub-size c = omega (arith, c.rest.ensures, file_size c.args.bytes.now (file_of c.in-Ok.file) c.in-Ok.ensures.file)
 
-pub count_stripped-count-requires : goal.count_stripped-count-requires
-count_stripped-count-requires c = omega (arith, stripped_fits c.args.bytes.now (file_of c.in-Ok.file) c.in-Ok.ensures.file)
+pub lacked-requires : goal.lacked-requires
+lacked-requires c = omega (arith, c.rest.ensures, file_size c.args.bytes.now (file_of c.in-Ok.file) c.in-Ok.ensures.file)
 
-pub returns-then-count-text-clause-outcome : goal.returns-then-count-text-clause-outcome
-returns-then-count-text-clause-outcome c =
-    HasNoText (file_of c.in-Ok.file) c.in-Ok.ensures.file (omega (arith, c.if-count-text.true, c.count_stripped-count.ensures)) refl
-    (c.no_room.ensures ∙ same_answer _ _ _ _ _ _ _ c.hunks_in-hunks.ensures (omega (arith, c.rest.ensures, file_size c.args.bytes.now (file_of c.in-Ok.file) c.in-Ok.ensures.file)) c.count_stripped-count.ensures)
+pub returns-in-Some-clause-outcome : goal.returns-in-Some-clause-outcome
+returns-in-Some-clause-outcome c =
+    HasNoText (file_of c.in-Ok.file) c.in-Ok.ensures.file (omega (arith, c.in-Some.ensures.some.0, c.in-Some.ensures.some.1)) refl
+    (c.no_room.ensures ∙ same_answer _ _ _ _ _ _ _ c.hunks_in-hunks.ensures (omega (arith, c.rest.ensures, file_size c.args.bytes.now (file_of c.in-Ok.file) c.in-Ok.ensures.file)) c.in-Some.ensures.some.0)
 
-pub returns-then-count-text-clause-succeeds : goal.returns-then-count-text-clause-succeeds
-returns-then-count-text-clause-succeeds c = strips_what_fits _ _ _ _ (returns-then-count-text-clause-outcome c)
+pub returns-in-Some-clause-succeeds : goal.returns-in-Some-clause-succeeds
+returns-in-Some-clause-succeeds c = strips_what_fits _ _ _ _ (returns-in-Some-clause-outcome c)
 
 pub returns-clause-outcome : goal.returns-clause-outcome
 returns-clause-outcome c =
-    HasStripped (file_of c.in-Ok.file) c.in-Ok.ensures.file (omega (arith, c.if-count-text.false, c.count_stripped-count.ensures))
-    (ap₂ (λ (xs : List ℕ) (n : ℕ). xs ++ drop n c.args.text.now) c.copy_stripped.ensures c.count_stripped-count.ensures)
-    (c.done.ensures ∙ same_answer _ _ _ _ _ _ _ c.hunks_in-hunks.ensures (omega (arith, c.rest.ensures, file_size c.args.bytes.now (file_of c.in-Ok.file) c.in-Ok.ensures.file)) c.count_stripped-count.ensures)
+    HasStripped (file_of c.in-Ok.file) c.in-Ok.ensures.file c.in_default.ensures.none
+    (c.copy_stripped-count.ensures.text ∙ ap (λ (n : ℕ). stripped_bytes (file_of c.in-Ok.file) ++ drop n c.args.text.now) c.copy_stripped-count.ensures.count)
+    (c.done.ensures ∙ same_answer _ _ _ _ _ _ _ c.hunks_in-hunks.ensures (omega (arith, c.rest.ensures, file_size c.args.bytes.now (file_of c.in-Ok.file) c.in-Ok.ensures.file)) (omega (arith, c.copy_stripped-count.ensures.count)))
+
+pub returns-clause-succeeds : goal.returns-clause-succeeds
+returns-clause-succeeds c = strips_what_fits _ _ _ _ (returns-clause-outcome c)
