@@ -265,7 +265,8 @@ struct hunk_answer hunk_check(const uint8_t *bytes, size_t bytes_len, struct hun
  *
  * A file is stripped where there is room. Text after what is written, and at any answer but HUNK_OK
  * all text, is as it was. What is loaded of a stripped load file is the same, and so are the
- * findings of a stripped object file.
+ * findings of a stripped object file. What stays is counted before it is copied where the text is
+ * shorter than the file.
  */
 struct hunk_answer hunk_strip(const uint8_t *bytes, size_t bytes_len, uint8_t *text,
                               size_t text_len);

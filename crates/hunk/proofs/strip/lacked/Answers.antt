@@ -1,4 +1,4 @@
-use Rattle.std.proofs.Common.{arith, refl}
+use Rattle.std.proofs.Common.{arith}
 use Rattle.hunk_files.specs.FileView.{file_of}
 use Rattle.hunk.proofs.OneFile.{stripped_fits}
 use Rattle.hunk.proofs.strip.lacked.Goals as goal

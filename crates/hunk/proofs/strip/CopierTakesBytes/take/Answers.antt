@@ -10,13 +10,14 @@ returns-then-bytes-room c =
     let k = at + length c.args.bytes.now - at in
     let inside = c.if-self-room.true in
     let long : length new ≡ length c.args.bytes.now = ap (λ (xs : List ℕ). length xs) c.copy_from_slice.ensures.after in (
-      refl, (
+      refl,
+      (
         search rules,
-      λ room.
-          record {
-            place = refl;
-            front = take-put_mid at k old new _ (omega (arith, long)) (omega (arith, inside)) ∙ ap (λ (xs : List ℕ). take at old ++ xs) c.copy_from_slice.ensures.after;
-            rest = drop-put_mid at k old new _ (omega arith) (omega (arith, inside)) (omega (arith, long));
-          },
-      )
+        λ room.
+            record {
+              place = refl;
+              front = take-put_mid at k old new _ (omega (arith, long)) (omega (arith, inside)) ∙ ap (λ (xs : List ℕ). take at old ++ xs) c.copy_from_slice.ensures.after;
+              rest = drop-put_mid at k old new _ (omega arith) (omega (arith, inside)) (omega (arith, long));
+            },
+      ),
     )
