@@ -73,7 +73,7 @@ fn count_findings(file: &ObjectView<'_>) -> u64
     ensures { result ≡ length (findings file.now) }
 {
     let mut counter = FindingCount { count: 0 };
-    file.check_with(&mut counter);
+    let _units = file.check_with(&mut counter);
     counter.count
 }
 
@@ -83,7 +83,7 @@ fn put_rows(file: &ObjectView<'_>, rows: &mut [FindingRow])
     ensures { rows.new ≡ map finding_row (findings file.now) }
 {
     let mut filler = RowFiller { rows, at: 0 };
-    file.check_with(&mut filler);
+    let _units = file.check_with(&mut filler);
 }
 
 /// Counts findings, modulo 2 ^ 64.

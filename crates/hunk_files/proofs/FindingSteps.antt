@@ -4,8 +4,8 @@ use Rattle.std.specs.List.{flat_map, fold}
 use Rattle.hunk_blocks.specs.Values.{BlockBody, BlockValue, Name, Code, Data, Bss, Reloc, Ext, Symbol, Debug, Advisory, End, content_bytes}
 use Rattle.hunk_scan.specs.Standings.{BlockStanding}
 use Rattle.hunk_files.specs.LoadFile.{standing, AreInOrder}
-use Rattle.hunk_files.specs.ObjectFile.{ObjectHunk, ObjectFileValue, UnitValue}
-use Rattle.hunk_files.specs.Findings.{FindingValue, content_size, findings, hunk_bytes, hunk_findings, hunks_findings, unit_findings, units_findings}
+use Rattle.hunk_files.specs.ObjectFile.{ObjectHunk}
+use Rattle.hunk_files.specs.Findings.{FindingValue, content_size, hunk_bytes, hunk_findings}
 use Rattle.hunk_files.proofs.FileText.{standings}
 
 -- ---- findings that are taken one after the other, by a relation that joins
@@ -37,34 +37,13 @@ module _ {S : Type 0} (Takes : S → List FindingValue → S → Type 0) (more :
 pub each_taken : {S A : Type 0} (Takes : S → List FindingValue → S → Type 0) (f : A → List FindingValue) (xs left : List A) (a b : S) → left ≡ [] → TakenBut Takes f left xs a b → Takes a (flat_map f xs) b
 each_taken {A = A} Takes f xs left a b e t = taken_all Takes a b (flat_map f left) (flat_map f xs) (ap (λ (ys : List A). flat_map f ys) e) t
 
--- ---- the hunks of a unit, the units of a file
-
-pub hunks_first : (unit hunks number : ℕ) (hs : List ObjectHunk) (u : UnitValue) → hs ≡ u.hunks → hunks ≡ length u.hunks → number ≡ 0 → hunks_findings unit hunks number hs ≡ unit_findings unit u
-hunks_first unit hunks number hs u same all first =
-    ap (λ (xs : List ObjectHunk). hunks_findings unit hunks number xs) same
-    ∙ ap (λ (n : ℕ). hunks_findings unit n number u.hunks) all
-    ∙ ap (λ (n : ℕ). hunks_findings unit (length u.hunks) n u.hunks) first
-
--- Where the hunk with this number is the first of those left, what is found in it comes first.
-pub hunks_split : (unit hunks number at next : ℕ) (left rest : List ObjectHunk) (h : ObjectHunk) → left ≡ h ∷ rest → at ≡ number → next ≡ number + 1 →
-    hunks_findings unit hunks number left ≡ hunk_findings (record { unit = unit; hunk = at; hunks = hunks; bytes = hunk_bytes h }) h ++ hunks_findings unit hunks next rest
-hunks_split unit hunks number at next left rest h first here behind =
-    ap (λ (xs : List ObjectHunk). hunks_findings unit hunks number xs) first
-    ∙ ap₂ (λ (n m : ℕ). hunk_findings (record { unit = unit; hunk = n; hunks = hunks; bytes = hunk_bytes h }) h ++ hunks_findings unit hunks m rest) (sym here) (sym behind)
+-- ---- the hunks of a unit
 
 -- What is found in these blocks, which are the hunk's, with this number of bytes, is what is found in the hunk.
-pub hunk_found : (unit number hunks bytes : ℕ) (blocks for_bytes h : ObjectHunk) → bytes ≡ hunk_bytes for_bytes → for_bytes ≡ h → blocks ≡ h →
+pub hunk_found : (unit number hunks bytes : ℕ) (blocks h : ObjectHunk) → bytes ≡ hunk_bytes h → blocks ≡ h →
     hunk_findings (record { unit = unit; hunk = number; hunks = hunks; bytes = bytes }) blocks ≡ hunk_findings (record { unit = unit; hunk = number; hunks = hunks; bytes = hunk_bytes h }) h
-hunk_found unit number hunks bytes blocks for_bytes h size same again =
-    ap₂ (λ (n : ℕ) (bs : ObjectHunk). hunk_findings (record { unit = unit; hunk = number; hunks = hunks; bytes = n }) bs) (size ∙ ap hunk_bytes same) again
-
-pub units_first : (number : ℕ) (us all : ObjectFileValue) → us ≡ all → number ≡ 0 → units_findings number us ≡ findings all
-units_first number us all same first = ap₂ (λ (n : ℕ) (xs : ObjectFileValue). units_findings n xs) first same
-
-pub units_split : (number at next : ℕ) (left rest : ObjectFileValue) (u : UnitValue) → left ≡ u ∷ rest → at ≡ number → next ≡ number + 1 →
-    units_findings number left ≡ unit_findings at u ++ units_findings next rest
-units_split number at next left rest u first here behind =
-    ap (λ (xs : ObjectFileValue). units_findings number xs) first ∙ ap₂ (λ (n m : ℕ). unit_findings n u ++ units_findings m rest) (sym here) (sym behind)
+hunk_found unit number hunks bytes blocks h size same =
+    ap₂ (λ (n : ℕ) (bs : ObjectHunk). hunk_findings (record { unit = unit; hunk = number; hunks = hunks; bytes = n }) bs) size same
 
 -- ---- the bytes of a hunk are those of its content block
 

@@ -6,14 +6,16 @@ use Rattle.std.specs.List.{flat_map}
 use Rattle.hunk_words.specs.Longs.{longs, bytes_of}
 use Rattle.hunk_words.proofs.LongLaws.{bytes_of-nil, longs-bytes_of}
 use Rattle.hunk_blocks.specs.Cuts.{Cut}
+use Rattle.hunk_blocks.specs.Placed.{Placed}
 use Rattle.hunk_files.specs.Cuts.{hunk_cut}
 use Rattle.hunk_files.specs.Hunks.{HunkAt, block_texts}
 use Rattle.hunk_files.specs.ObjectFile.{ObjectHunk, UnitValue, IsObjectHunk, unit_word, unit_text}
-use Rattle.hunk_files.specs.ObjectViews.{HunksAt, IsHunkWithin, hunk_at, hunks_at, unit_at}
+use Rattle.hunk_files.specs.ObjectViews.{HunksAt, hunk_at, hunks_at, unit_at}
 use Rattle.hunk_files.specs.UnitCuts.{ends_unit, hunks_cut, unit_cut}
-use Rattle.hunk_files.specs.InPlace.{GivesPart, StandAt}
+use Rattle.hunk_files.specs.InPlace.{FirstEndsAt, GivesPart, IsFirstPart, StandAt}
 use Rattle.hunk_files.specs.Units.{EndsUnit, UnitAt}
-use Rattle.hunk_files.proofs.PlaceLaws.{stand_behind, stand_first}
+use Rattle.hunk_files.proofs.PlaceLaws.{stand_behind, stand_first, stand_passed}
+use Rattle.hunk_files.proofs.Taking.{first_given}
 use Rattle.hunk_files.proofs.UnitCutLaws.{hunk_goes_on, hunk_is, hunks_are, unit_is}
 use Rattle.hunk_files.proofs.UnitReading.{hunk_longs, hunks_longs, unit_longs}
 
@@ -52,9 +54,8 @@ hunks_at_are bytes rest next start hs stand =
     ap (λ (c : Cut (List ObjectHunk)). c.value)
     (ap hunks_cut (ap longs stand.text_is ∙ longs-bytes_of (flat_map block_texts hs) rest (hunks_longs hs stand.each)) ∙ hunks_are hs (longs rest) stand.each (stops rest next))
 
--- A hunk stands here up to this end, and hunks stand behind it.
+-- A hunk is given that stands here, and hunks stand behind it.
 pub record HunkPassed (bytes : List ℕ) (start end : ℕ) : Type 0 where
-  pub hunk : IsHunkWithin bytes start end
   pub behind : HunksAt bytes end
   pub gives : GivesPart block_texts (hunks_at bytes start) (Some (hunk_at bytes start)) (hunks_at bytes end)
 
@@ -75,7 +76,6 @@ module _ (bytes : List ℕ) (start : ℕ) (rest : List ℕ) (next : EndsUnit res
       let left = stand_behind s end (e one) in
       let size : end ≡ start + 4 * length (block_texts (hunk_at bytes start).value) = e one ∙ ap (λ (bs : ObjectHunk). start + 4 * length (block_texts bs)) is in
       record {
-        hunk = (one, size);
         behind = record { hunks = hs; rest = rest; stand = left; next = next };
         gives = (
           ap (λ (xs : List ObjectHunk). record { place = start; value = xs })
@@ -93,6 +93,23 @@ module _ (bytes : List ℕ) (start : ℕ) (here : HunksAt bytes start) where
 
   pub hunk_passed : (EndsUnit (drop start bytes) → ⊥) → (end : ℕ) → ((hunk : HunkAt bytes start) → end ≡ start + 4 * length (block_texts hunk.blocks)) → HunkPassed bytes start end
   hunk_passed = hunk_passed_in bytes start here.rest here.next here.hunks here.stand
+
+  pub hunk_first : (EndsUnit (drop start bytes) → ⊥) → IsFirstPart (hunks_at bytes start) (Some (hunk_at bytes start))
+  hunk_first goes_on =
+      let end : ℕ = start + 4 * length (block_texts (hunk_at bytes start).value) in
+      first_given block_texts (hunks_at bytes start) (hunks_at bytes end) (hunk_at bytes start)
+      (hunk_passed goes_on end (λ hunk. ap (λ (bs : ObjectHunk). start + 4 * length (block_texts bs)) (hunk_at_is bytes start hunk))).gives
+
+  -- Where the first ends, the others stand.
+  pub hunks_passed : (hunks : Placed (List ObjectHunk)) → hunks_at bytes start ≡ hunks → (end : ℕ) → FirstEndsAt block_texts hunks.place hunks.value end → HunksAt bytes end × (hunks_at bytes end ≡ record { place = end; value = drop 1 hunks.value })
+  hunks_passed hunks is end e =
+      let are : (hunks_at bytes start).value ≡ here.hunks = hunks_at_are bytes here.rest here.next start here.hunks here.stand in
+      let first : FirstEndsAt block_texts start here.hunks end = subst (λ (hs : List ObjectHunk). FirstEndsAt block_texts start hs end) are (subst (λ (p : Placed (List ObjectHunk)). FirstEndsAt block_texts p.place p.value end) (sym is) e) in
+      let left = stand_passed here.hunks here.stand end first in (
+        record { hunks = drop 1 here.hunks; rest = here.rest; stand = left; next = here.next },
+        ap (λ (hs : List ObjectHunk). record { place = end; value = hs })
+            (hunks_at_are bytes here.rest here.next end (drop 1 here.hunks) left ∙ ap (drop 1) (sym are) ∙ ap (λ (p : Placed (List ObjectHunk)). drop 1 p.value) is),
+      )
 
 -- A unit goes on where the test says so.
 pub goes_on : (bytes : List ℕ) (at : ℕ) (ends : Bool) → (IsTrue ends ↔ EndsUnit (take (length bytes - at) (drop at bytes))) → ends ≡ false → EndsUnit (drop at bytes) → ⊥

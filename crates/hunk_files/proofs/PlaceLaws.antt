@@ -5,7 +5,7 @@ use Rattle.std.proofs.lemmas.List.{length-drop, drop-drop, drop_at}
 use Rattle.hunk_words.specs.Longs.{bytes_of}
 use Rattle.hunk_words.proofs.LongLaws.{bytes_of-append, length-bytes_of}
 use Rattle.hunk_files.specs.Lacks.{Behind, EndsAt, IsLast}
-use Rattle.hunk_files.specs.InPlace.{StandAt}
+use Rattle.hunk_files.specs.InPlace.{FirstEndsAt, StandAt}
 
 -- Where a text stands, there is room for it.
 pub text_inside : (bytes : List ℕ) (start : ℕ) (words rest : List ℕ) → drop start bytes ≡ bytes_of words ++ rest → 1 ≤ length words → start + 4 * length words ≤ length bytes
@@ -40,6 +40,11 @@ module _ {A : Type 0} {Is : A → Type 0} {text : A → List ℕ} {bytes : List 
         inside = omega (arith, e, s.inside, ap length stand_first, length-drop start bytes, length-append (bytes_of (text x)) behind, length-bytes_of (text x));
         text_is = ap (λ (n : ℕ). drop n bytes) e ∙ sym (drop-drop size start bytes) ∙ ap (drop size) stand_first ∙ drop_at (bytes_of (text x)) behind size (length-bytes_of (text x));
       }
+
+-- Where the first ends, the others stand.
+pub stand_passed : {A : Type 0} {Is : A → Type 0} {text : A → List ℕ} {bytes : List ℕ} {start : ℕ} {rest : List ℕ} (parts : List A) → StandAt Is text bytes start parts rest → (end : ℕ) → FirstEndsAt text start parts end → StandAt Is text bytes end (drop 1 parts) rest
+stand_passed [] s end e = absurd e
+stand_passed (x ∷ xs) s end e = stand_behind s end e
 
 -- The first of them, and the others.
 pub record First {A : Type 0} (Is : A → Type 0) (text : A → List ℕ) (bytes : List ℕ) (start : ℕ) (parts : List A) (rest : List ℕ) : Type 0 where

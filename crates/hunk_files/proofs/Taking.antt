@@ -1,18 +1,50 @@
 -- Parts that are taken one by one, as they lie in the input.
-use Rattle.std.proofs.Common.{◌≡◌, ℕ, ◌+◌, ◌*◌, List, [], ◌∷◌, ◌++◌, length, refl, sym, ap, subst, ◌∙◌, append_assoc, append-nil, length-append, Option, Some, None, arith}
+use Rattle.std.proofs.Common.{◌≡◌, ℕ, ◌+◌, ◌*◌, List, [], ◌∷◌, ◌++◌, drop, length, refl, sym, ap, subst, ◌∙◌, append_assoc, append-nil, length-append, Option, Some, None, arith}
 use Rattle.std.specs.List.{flat_map}
 use Rattle.std.specs.Iterator.{MakesProgress, item_count}
 use Rattle.std.proofs.lemmas.Iterator.{YieldsList}
 use Rattle.std.proofs.lemmas.Iterator.Consumers.{YieldsList-from_shown}
 use Rattle.hunk_blocks.specs.Placed.{Placed}
 use Rattle.hunk_blocks.proofs.Lists.{flat_map-more}
-use Rattle.hunk_files.specs.InPlace.{GivesPart}
+use Rattle.hunk_files.specs.InPlace.{GivesPart, IsFirstPart}
 use Rattle.hunk_files.specs.Lacks.{EndsAt, Within}
 
 -- a part given is one less to come
 pub part_less : {A : Type 0} (text : A → List ℕ) (can : Placed (List A) → Type 0) (always : (s : Placed (List A)) → can s) (s t : Placed (List A)) (part : Placed A) → GivesPart text s (Some part) t →
     MakesProgress can (item_count {A = A} (λ p. p.value)) s (Some part) t
 part_less text can always s t part gives = record { on = λ h. (always t, tt, omega (arith, ap (λ (p : Placed (List _)). length p.value) gives.0)); keeps = always t; rests = λ h. tt }
+
+-- the byte behind all parts that are still to come
+abbrev pub end_of : {A : Type 0} → (A → List ℕ) → Placed (List A) → ℕ
+end_of text parts = parts.place + 4 * length (flat_map text parts.value)
+
+-- It stays where a part is given.
+pub end_stays : {A : Type 0} (text : A → List ℕ) (old new : Placed (List A)) (part : Placed A) → GivesPart text old (Some part) new → end_of text new ≡ end_of text old
+end_stays text old new part gives =
+    omega (
+      arith,
+      gives.1,
+      ap (λ (p : Placed (List _)). p.place) gives.0,
+      ap (λ (p : Placed (List _)). length (flat_map text p.value)) gives.0,
+      length-append (text part.value) (flat_map text new.value),
+    )
+
+-- It is where they stand, where none is left.
+pub end_reached : {A : Type 0} (text : A → List ℕ) (parts : Placed (List A)) → parts.value ≡ [] → parts.place ≡ end_of text parts
+end_reached text parts none = omega (arith, ap (λ (xs : List _). length (flat_map text xs)) none)
+
+-- ---- parts that are passed once their end is known
+
+pub part_passed : {A : Type 0} (text : A → List ℕ) (old new : Placed (List A)) (part : Placed A) (end : ℕ) → IsFirstPart old (Some part) → end ≡ part.place + 4 * length (text part.value) → new ≡ record { place = end; value = drop 1 old.value } →
+    GivesPart text old (Some part) new
+part_passed text old new part end first e is = (
+  first ∙ ap (λ (xs : List _). record { place = part.place; value = part.value ∷ xs }) (sym (ap (λ (p : Placed (List _)). p.value) is)),
+  ap (λ (p : Placed (List _)). p.place) is ∙ e,
+)
+
+-- What is given was the first.
+pub first_given : {A : Type 0} (text : A → List ℕ) (old new : Placed (List A)) (part : Placed A) → GivesPart text old (Some part) new → IsFirstPart old (Some part)
+first_given text old new part gives = gives.0 ∙ ap (λ (p : Placed (List _)). record { place = part.place; value = part.value ∷ drop 1 p.value }) (sym gives.0)
 
 module _ {A : Type 0} (text : A → List ℕ) (all : Placed (List A)) where
   -- These parts were taken, and the others are left.

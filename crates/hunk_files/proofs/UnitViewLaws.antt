@@ -7,13 +7,14 @@ use Rattle.hunk_words.proofs.LongLaws.{bytes_of-nil, length-bytes_of}
 use Rattle.hunk_blocks.specs.Cuts.{Cut}
 use Rattle.hunk_files.specs.Hunks.{IsRead, block_texts}
 use Rattle.hunk_files.specs.ObjectFile.{ObjectHunk, UnitValue, ObjectFileValue, AreObjectFile, IsObjectHunk, IsUnit, object_text, unit_header, unit_text}
-use Rattle.hunk_files.specs.ObjectViews.{HunksAt, UnitsAt, IsUnitWithin, hunks_at, unit_at, units_at, units_of}
+use Rattle.hunk_files.specs.ObjectViews.{HunksAt, UnitsAt, hunks_at, unit_at, units_at, units_of}
 use Rattle.hunk_blocks.specs.Placed.{Placed}
 use Rattle.hunk_files.specs.UnitCuts.{units_cut}
-use Rattle.hunk_files.specs.InPlace.{GivesPart, StandAt}
+use Rattle.hunk_files.specs.InPlace.{FirstEndsAt, GivesPart, IsFirstPart, StandAt}
 use Rattle.hunk_files.specs.Units.{UnitAt}
 use Rattle.hunk_files.proofs.ObjectViewLaws.{hunks_at_are, unit_at_is}
-use Rattle.hunk_files.proofs.PlaceLaws.{stand_behind, stand_first}
+use Rattle.hunk_files.proofs.PlaceLaws.{stand_behind, stand_first, stand_passed}
+use Rattle.hunk_files.proofs.Taking.{first_given}
 use Rattle.hunk_files.proofs.UnitCutLaws.{units_are}
 use Rattle.hunk_files.proofs.UnitReading.{header_inside, header_split, text_longs, units_end}
 
@@ -62,9 +63,8 @@ units_at_are bytes start us stand =
     ap (λ (c : Cut ObjectFileValue). c.value)
     (ap units_cut (text_longs (drop start bytes) us stand.each (stand.text_is ∙ append-nil (bytes_of (object_text us)))) ∙ units_are us stand.each)
 
--- A unit stands here up to this end, and units stand behind it.
+-- A unit is given that stands here, and units stand behind it.
 pub record UnitPassed (bytes : List ℕ) (start end : ℕ) : Type 0 where
-  pub unit : IsUnitWithin bytes start end
   pub behind : UnitsAt bytes end
   pub gives : GivesPart unit_text (units_at bytes start) (Some (unit_at bytes start)) (units_at bytes end)
 
@@ -89,7 +89,6 @@ module _ (bytes : List ℕ) (start : ℕ) where
       let left = stand_behind s end (e one) in
       let size : end ≡ start + 4 * length (unit_text (unit_at bytes start).value) = e one ∙ ap (λ (x : UnitValue). start + 4 * length (unit_text x)) is in
       record {
-        unit = (one, size);
         behind = record { units = us; stand = left };
         gives = (
           ap (λ (xs : ObjectFileValue). record { place = start; value = xs })
@@ -107,6 +106,23 @@ module _ (bytes : List ℕ) (start : ℕ) where
 
     pub unit_passed : start < length bytes → (end : ℕ) → ((unit : UnitAt bytes start) → end ≡ start + 4 * length (unit_text unit.unit)) → UnitPassed bytes start end
     unit_passed = unit_passed_in here.units here.stand
+
+    pub unit_first : start < length bytes → IsFirstPart (units_at bytes start) (Some (unit_at bytes start))
+    unit_first more =
+        let end : ℕ = start + 4 * length (unit_text (unit_at bytes start).value) in
+        first_given unit_text (units_at bytes start) (units_at bytes end) (unit_at bytes start)
+        (unit_passed more end (λ unit. ap (λ (u : UnitValue). start + 4 * length (unit_text u)) (unit_at_is bytes start unit))).gives
+
+    -- Where the first ends, the others stand.
+    pub units_passed : (units : Placed ObjectFileValue) → units_at bytes start ≡ units → (end : ℕ) → FirstEndsAt unit_text units.place units.value end → UnitsAt bytes end × (units_at bytes end ≡ record { place = end; value = drop 1 units.value })
+    units_passed units is end e =
+        let are : (units_at bytes start).value ≡ here.units = units_at_are bytes start here.units here.stand in
+        let first : FirstEndsAt unit_text start here.units end = subst (λ (us : ObjectFileValue). FirstEndsAt unit_text start us end) are (subst (λ (p : Placed ObjectFileValue). FirstEndsAt unit_text p.place p.value end) (sym is) e) in
+        let left = stand_passed here.units here.stand end first in (
+          record { units = drop 1 here.units; stand = left },
+          ap (λ (us : ObjectFileValue). record { place = end; value = us })
+              (units_at_are bytes end (drop 1 here.units) left ∙ ap (drop 1) (sym are) ∙ ap (λ (p : Placed ObjectFileValue). drop 1 p.value) is),
+        )
 
 -- Behind the header and the hunks a unit ends.
 pub unit_ends : (bytes : List ℕ) (start : ℕ) (here : UnitAt bytes start) (name : List ℕ) (at end : ℕ) (r : IsRead unit_header here.unit.name start name at) →

@@ -1,13 +1,13 @@
 -- The units and hunks of an object file, read where they lie.
-use Rattle.std.specs.Prelude.{◌≡◌, ℕ, ◌+◌, ◌*◌, List, [], length, drop}
+use Rattle.std.specs.Prelude.{ℕ, List, [], drop}
 use Rattle.hunk_words.specs.Longs.{longs}
 use Rattle.hunk_files.specs.Cuts.{hunk_cut}
-use Rattle.hunk_files.specs.Hunks.{HunkAt, block_texts}
+use Rattle.hunk_files.specs.Hunks.{block_texts}
 use Rattle.hunk_blocks.specs.Placed.{Placed}
 use Rattle.hunk_files.specs.InPlace.{StandAt}
 use Rattle.hunk_files.specs.ObjectFile.{ObjectHunk, UnitValue, ObjectFileValue, IsObjectHunk, IsUnit, unit_text}
 use Rattle.hunk_files.specs.UnitCuts.{hunks_cut, unit_cut, units_cut}
-use Rattle.hunk_files.specs.Units.{EndsUnit, UnitAt}
+use Rattle.hunk_files.specs.Units.{EndsUnit}
 
 -- ---- hunks and units that stand in bytes
 
@@ -40,13 +40,3 @@ units_at bytes start = record { place = start; value = (units_cut (longs (drop s
 -- the units that the bytes are
 abbrev pub units_of : List ℕ → ObjectFileValue
 units_of bytes = (units_cut (longs bytes)).value
-
--- ---- parts whose end is known
-
--- A hunk stands at this byte, and ends at that.
-abbrev pub IsHunkWithin : List ℕ → ℕ → ℕ → Type 0
-IsHunkWithin bytes start end = HunkAt bytes start × (end ≡ start + 4 * length (block_texts (hunk_at bytes start).value))
-
--- A unit stands at this byte, and ends at that.
-abbrev pub IsUnitWithin : List ℕ → ℕ → ℕ → Type 0
-IsUnitWithin bytes start end = UnitAt bytes start × (end ≡ start + 4 * length (unit_text (unit_at bytes start).value))

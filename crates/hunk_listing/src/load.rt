@@ -1,8 +1,9 @@
 //! The lines of a load file.
-ghost use Rattle.std.specs.Prelude.{◌≡◌, ◌≤◌, ◌+◌, ◌++◌, length};
+ghost use Rattle.std.specs.Prelude.{◌≡◌, ◌≤◌, ◌+◌, ◌*◌, ◌++◌, length};
 ghost use Rattle.hunk_words.specs.Prints.{Prints};
 ghost use Rattle.std.specs.List.{flat_map};
 ghost use Rattle.hunk_words.specs.declared.size_word.Memory.TheVariants.{Attributes};
+ghost use Rattle.hunk_files.specs.Hunks.{block_texts};
 ghost use Rattle.hunk_files.specs.Tables.{size_entry};
 ghost use Rattle.hunk_listing.specs.BlockLines.{block_lines};
 ghost use Rattle.hunk_listing.specs.FileLines.{hunk_line, hunk_lines, load_head, load_line};
@@ -63,7 +64,7 @@ fn print_hunk<W: Sink>(page: &mut Printer<'_, W>, number: usize, hunk: &LoadHunk
     ensures { Prints page.old page.new (hunk_lines number hunk.now.value) }
 {
     print_hunk_line(page, number, hunk.size());
-    print_blocks(page, hunk.blocks());
+    let _end = print_blocks(page, hunk.blocks());
 }
 
 #[tactic(auto, unfolding(crate::specs::FileLines::hunk_line))]
@@ -103,11 +104,14 @@ fn put_attributes(line: &mut Line, attributes: u32)
     line.put_hexadecimal(attributes);
 }
 
-/// Prints the lines of the blocks of a hunk.
-pub(crate) fn print_blocks<W: Sink>(page: &mut Printer<'_, W>, blocks: BlockViews<'_>)
-    ensures { Prints page.old page.new (flat_map block_lines blocks.entry.value) }
+/// Prints the lines of the blocks of a hunk, and answers the byte behind them.
+pub(crate) fn print_blocks<W: Sink>(page: &mut Printer<'_, W>, mut blocks: BlockViews<'_>) -> u64
+    ensures prints { Prints page.old page.new (flat_map block_lines blocks.entry.value) }
+    ensures end { result
+        ≡ blocks.entry.place + 4 * length (block_texts blocks.entry.value) }
 {
-    'lines: for block in blocks {
+    'lines: while let Some(block) = blocks.next() {
         print_block(page, block);
     }
+    blocks.place()
 }

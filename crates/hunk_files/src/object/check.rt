@@ -1,14 +1,16 @@
 //! What is wrong with the offsets of an object file, found by one walk.
-ghost use Rattle.std.specs.Prelude.{◌≡◌, ◌^◌, ◌<◌, ◌≤◌, length};
+ghost use Rattle.std.specs.Prelude.{◌≡◌, ◌+◌, ◌*◌, ◌^◌, ◌<◌, ◌≤◌, length};
 ghost use Rattle.std.specs.List.{flat_map};
 ghost use Rattle.hunk_blocks.specs.Views.{entry_of, group_of};
 ghost use Rattle.hunk_files.specs.Findings.{body_findings, entry_findings, finding, findings};
-ghost use Rattle.hunk_files.specs.Findings.{group_findings, hunk_bytes, hunk_findings};
+ghost use Rattle.hunk_files.specs.Findings.{group_findings, hunk_bytes, hunk_findings, hunks_findings};
 ghost use Rattle.hunk_files.specs.Findings.{outside, reference_width};
 ghost use Rattle.hunk_files.specs.Findings.{relocation_findings, relocation_width, unit_findings};
-ghost use Rattle.hunk_files.specs.ObjectFile.{IsObjectHunk};
+ghost use Rattle.hunk_files.specs.Hunks.{block_texts};
+ghost use Rattle.hunk_files.specs.ObjectFile.{IsObjectHunk, unit_text};
 
 use crate::blocks::BlockViews;
+use crate::object::hunk_view::HunkViews;
 use crate::object::taker::TakesFindings;
 use crate::object::unit_view::UnitView;
 use crate::object::view::ObjectView;
@@ -173,27 +175,52 @@ fn check_block<T: TakesFindings>(taker: &mut T, spot: Spot, block: BlockView<'_>
     }
 }
 
-fn check_blocks<T: TakesFindings>(taker: &mut T, spot: Spot, blocks: BlockViews<'_>)
-    ensures { T.takes taker.old (hunk_findings spot blocks.entry.value) taker.new }
+/// Answers the byte behind the blocks.
+fn check_blocks<T: TakesFindings>(taker: &mut T, spot: Spot, mut blocks: BlockViews<'_>) -> u64
+    ensures taken { T.takes taker.old (hunk_findings spot blocks.entry.value) taker.new }
+    ensures end { result
+        ≡ blocks.entry.place + 4 * length (block_texts blocks.entry.value) }
 {
-    'checking: for block in blocks {
+    'checking: while let Some(block) = blocks.next() {
         check_block(taker, spot, block);
     }
+    blocks.place()
 }
 
-fn check_unit<T: TakesFindings>(taker: &mut T, number: u64, unit: &UnitView<'_>)
-    ensures { T.takes taker.old (unit_findings number unit.now.value) taker.new }
+/// Answers the byte behind the hunks.
+fn check_hunks<T: TakesFindings>(
+    taker: &mut T,
+    number: u64,
+    count: u64,
+    mut hunks: HunkViews<'_>,
+) -> u64
+    requires { length hunks.value < 2 ^ 64 }
+    ensures taken { T.takes taker.old (hunks_findings number count 0 hunks.entry.value) taker.new }
+    ensures end { result
+        ≡ hunks.entry.place + 4 * length (flat_map block_texts hunks.entry.value) }
 {
-    let hunks = unit.hunks().count() as u64;
-    'checking: for (hunk, view) in unit.hunks().enumerate() {
+    let mut hunk = 0;
+    'checking: while let Some(view) = hunks.peek() {
         let spot = Spot {
             unit: number,
-            hunk: hunk as u64,
-            hunks,
-            bytes: hunk_bytes(view.blocks()),
+            hunk,
+            hunks: count,
+            bytes: view.content_bytes(),
         };
-        check_blocks(taker, spot, view.blocks());
+        let end = check_blocks(taker, spot, view.blocks());
+        hunks.pass(end);
+        hunk += 1;
     }
+    hunks.place()
+}
+
+/// Answers the byte behind the unit.
+fn check_unit<T: TakesFindings>(taker: &mut T, number: u64, unit: &UnitView<'_>) -> u64
+    ensures taken { T.takes taker.old (unit_findings number unit.now.value) taker.new }
+    ensures end { result ≡ unit.now.place + 4 * length (unit_text unit.now.value) }
+{
+    let count = unit.hunks().count() as u64;
+    check_hunks(taker, number, count, unit.hunks())
 }
 
 impl ObjectView<'_> {
@@ -202,13 +229,19 @@ impl ObjectView<'_> {
     ///
     /// For each offset there is `BadTarget` where it is a relocation's and the target is not below
     /// the unit's number of hunks, then `OutsideHunk` where the bytes that are relocated or refer
-    /// go past the end of the hunk.
-    pub fn check_with<T: TakesFindings>(&self, taker: &mut T)
+    /// go past the end of the hunk. Answers how many units there are.
+    pub fn check_with<T: TakesFindings>(&self, taker: &mut T) -> u64
         ensures taken { T.takes taker.old (findings self.now) taker.new }
         ensures few { length (findings self.now) < 2 ^ 64 }
+        ensures units { result ≡ length self.now }
     {
-        'checking: for (number, unit) in self.units().enumerate() {
-            check_unit(taker, number as u64, &unit);
+        let mut units = self.units();
+        let mut number = 0;
+        'checking: while let Some(unit) = units.peek() {
+            let end = check_unit(taker, number, &unit);
+            units.pass(end);
+            number += 1;
         }
+        number
     }
 }

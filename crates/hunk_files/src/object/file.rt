@@ -91,6 +91,6 @@ impl<'a> ObjectFile<'a> {
         ensures taken { T.takes taker.old (findings self.now) taker.new }
         ensures few { length (findings self.now) < 2 ^ 64 }
     {
-        self.view.check_with(taker);
+        let _units = self.view.check_with(taker);
     }
 }

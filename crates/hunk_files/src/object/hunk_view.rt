@@ -1,10 +1,10 @@
 //! The hunks of a unit, read where they lie.
-ghost use Rattle.std.specs.Prelude.{◌≡◌, ◌+◌, ◌*◌, IfErr, IfOk, length};
+ghost use Rattle.std.specs.Prelude.{◌≡◌, ◌+◌, ◌*◌, IfErr, IfOk, drop, length};
 ghost use Rattle.std.specs.Iterator.{item_count};
 ghost use Rattle.std.specs.List.{flat_map};
 ghost use Rattle.hunk_words.specs.declared.reason.Reason.TheVariants as reasons;
 ghost use Rattle.hunk_files.specs.Findings.{hunk_bytes};
-ghost use Rattle.hunk_files.specs.InPlace.{GivesPart};
+ghost use Rattle.hunk_files.specs.InPlace.{FirstEndsAt, GivesPart, IsFirstPart};
 ghost use Rattle.hunk_files.specs.Lacks.{EndsAt, EndsHunkPart, Within};
 ghost use Rattle.hunk_files.specs.Hunks.{block_texts};
 ghost use Rattle.hunk_files.specs.ObjectFile.{IsObjectHunk};
@@ -26,19 +26,19 @@ use std::marker::Model;
 pub struct HunkView<'a> {
     bytes: &'a [u8],
     place: usize,
-    end: usize,
 }
 
 impl<'a> Model for HunkView<'a> {
     ghost use Rattle.hunk_files.specs.ObjectFile.{ObjectHunk};
     ghost use Rattle.hunk_blocks.specs.Placed.{Placed};
-    ghost use Rattle.hunk_files.specs.ObjectViews.{IsHunkWithin, hunk_at};
+    ghost use Rattle.hunk_files.specs.Hunks.{HunkAt};
+    ghost use Rattle.hunk_files.specs.ObjectViews.{hunk_at};
 
     ghost Value = { Placed ObjectHunk };
 
     ghost view = { λ s. hunk_at s.bytes.now s.place };
 
-    ghost invariant = { λ s. IsHunkWithin s.bytes.now s.place s.end };
+    ghost invariant = { λ s. HunkAt s.bytes.now s.place };
 }
 
 impl<'a> HunkView<'a> {
@@ -65,12 +65,19 @@ impl<'a> HunkView<'a> {
         hunk_bytes(self.blocks())
     }
 
-    /// The length of the hunk's text in bytes.
+    /// The length of the hunk's text in bytes, for which its blocks are passed over.
     pub fn encoded_len(&self) -> u64
         ensures value { result ≡ 4 * length (block_texts self.now.value) }
         ensures hunk { IsObjectHunk self.now.value }
     {
-        (self.end - self.place) as u64
+        self.end() - self.place as u64
+    }
+
+    /// The byte of the input at which the hunk ends.
+    fn end(&self) -> u64
+        ensures { result ≡ self.now.place + 4 * length (block_texts self.now.value) }
+    {
+        behind_hunk(self.bytes, self.place) as u64
     }
 }
 
@@ -111,6 +118,29 @@ impl<'a> HunkViews<'a> {
         ensures { result ≡ self.now.place }
     {
         self.at as u64
+    }
+
+    /// The next hunk, which stays to come.
+    pub fn peek(&self) -> Option<HunkView<'a>>
+        ensures { IsFirstPart self.now result }
+    {
+        if ends_unit(&self.bytes[self.at..]) {
+            return None;
+        }
+        Some(HunkView {
+            bytes: self.bytes,
+            place: self.at,
+        })
+    }
+
+    /// Goes on behind the next hunk, which ends at this byte, as the blocks of a hunk tell once they
+    /// were gone through.
+    #[inline(always)]
+    pub fn pass(&mut self, end: u64)
+        requires { FirstEndsAt block_texts self.old.place self.old.value end }
+        ensures { self.new ≡ record { place = end; value = drop 1 self.old.value } }
+    {
+        self.at = end as usize;
     }
 
     /// The byte behind these hunks, which are passed over.
@@ -158,16 +188,10 @@ impl<'a> Iterator for HunkViews<'a> {
     ghost remaining = { item_count (λ hunks. hunks.value) };
 
     fn next(&mut self) -> Option<HunkView<'a>> {
-        if ends_unit(&self.bytes[self.at..]) {
+        let Some(hunk) = self.peek() else {
             return None;
-        }
-        let place = self.at;
-        let end = behind_hunk(self.bytes, place);
-        self.at = end;
-        Some(HunkView {
-            bytes: self.bytes,
-            place,
-            end,
-        })
+        };
+        self.pass(hunk.end());
+        Some(hunk)
     }
 }

@@ -1,9 +1,9 @@
 //! The units of an object file, read where they lie.
-ghost use Rattle.std.specs.Prelude.{◌≡◌, ◌+◌, ◌*◌, ◌^◌, ◌<◌, IfErr, IfOk, length};
+ghost use Rattle.std.specs.Prelude.{◌≡◌, ◌+◌, ◌*◌, ◌^◌, ◌<◌, IfErr, IfOk, drop, length};
 ghost use Rattle.std.specs.Iterator.{item_count};
 ghost use Rattle.hunk_words.specs.Longs.{longs};
 ghost use Rattle.hunk_words.specs.declared.reason.Reason.TheVariants as reasons;
-ghost use Rattle.hunk_files.specs.InPlace.{GivesPart};
+ghost use Rattle.hunk_files.specs.InPlace.{FirstEndsAt, GivesPart, IsFirstPart};
 ghost use Rattle.hunk_files.specs.Lacks.{EndsAt, EndsObjectPart};
 ghost use Rattle.hunk_files.specs.Hunks.{IsRead, block_texts};
 ghost use Rattle.hunk_files.specs.ObjectFile.{IsUnit, unit_header, unit_text};
@@ -38,19 +38,19 @@ pub(super) fn read_header(bytes: &[u8], start: usize) -> (Payload<'_>, usize)
 pub struct UnitView<'a> {
     bytes: &'a [u8],
     place: usize,
-    end: usize,
 }
 
 impl<'a> Model for UnitView<'a> {
     ghost use Rattle.hunk_files.specs.ObjectFile.{UnitValue};
     ghost use Rattle.hunk_blocks.specs.Placed.{Placed};
-    ghost use Rattle.hunk_files.specs.ObjectViews.{IsUnitWithin, unit_at};
+    ghost use Rattle.hunk_files.specs.ObjectViews.{unit_at};
+    ghost use Rattle.hunk_files.specs.Units.{UnitAt};
 
     ghost Value = { Placed UnitValue };
 
     ghost view = { λ s. unit_at s.bytes.now s.place };
 
-    ghost invariant = { λ s. IsUnitWithin s.bytes.now s.place s.end };
+    ghost invariant = { λ s. UnitAt s.bytes.now s.place };
 }
 
 impl<'a> UnitView<'a> {
@@ -61,12 +61,19 @@ impl<'a> UnitView<'a> {
         self.place as u64
     }
 
-    /// The length of the unit's text in bytes.
+    /// The length of the unit's text in bytes, for which its hunks are passed over.
     pub fn encoded_len(&self) -> u64
         ensures value { result ≡ 4 * length (unit_text self.now.value) }
         ensures unit { IsUnit self.now.value }
     {
-        (self.end - self.place) as u64
+        self.end() - self.place as u64
+    }
+
+    /// The byte of the input at which the unit ends.
+    fn end(&self) -> u64
+        ensures { result ≡ self.now.place + 4 * length (unit_text self.now.value) }
+    {
+        self.hunks().end() as u64
     }
 
     /// The name that stands in the unit's header, padded with zero bytes to whole longwords.
@@ -129,6 +136,29 @@ impl<'a> UnitViews<'a> {
         self.at as u64
     }
 
+    /// The next unit, which stays to come.
+    pub fn peek(&self) -> Option<UnitView<'a>>
+        ensures { IsFirstPart self.now result }
+    {
+        if self.at >= self.bytes.len() {
+            return None;
+        }
+        Some(UnitView {
+            bytes: self.bytes,
+            place: self.at,
+        })
+    }
+
+    /// Goes on behind the next unit, which ends at this byte, as the hunks of a unit tell once they
+    /// were gone through.
+    #[inline(always)]
+    pub fn pass(&mut self, end: u64)
+        requires { FirstEndsAt unit_text self.old.place self.old.value end }
+        ensures { self.new ≡ record { place = end; value = drop 1 self.old.value } }
+    {
+        self.at = end as usize;
+    }
+
     /// The units in a list.
     ///
     /// # Errors
@@ -163,17 +193,10 @@ impl<'a> Iterator for UnitViews<'a> {
     ghost remaining = { item_count (λ units. units.value) };
 
     fn next(&mut self) -> Option<UnitView<'a>> {
-        if self.at >= self.bytes.len() {
+        let Some(unit) = self.peek() else {
             return None;
-        }
-        let place = self.at;
-        let (_, hunks) = read_header(self.bytes, place);
-        let end = HunkViews::at(self.bytes, hunks).end();
-        self.at = end;
-        Some(UnitView {
-            bytes: self.bytes,
-            place,
-            end,
-        })
+        };
+        self.pass(unit.end());
+        Some(unit)
     }
 }

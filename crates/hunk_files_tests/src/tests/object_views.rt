@@ -3,7 +3,7 @@
 use crate::tests::asserts::{assert_equal, assert_equal_at};
 use crate::tests::object::units;
 use crate::tests::object_texts::TEXTS;
-use hunk_files::{Hunk, HunkView, ObjectFile, ObjectView, Unit, UnitView};
+use hunk_files::{Hunk, HunkView, ObjectFile, ObjectView, Unit, UnitView, UnitViews};
 use hunk_testing::{bytes_of, spelled};
 use std::alloc::{AllocError, Global};
 use std::process::Abort;
@@ -150,6 +150,28 @@ fn many_hunks(rt: HostRuntime) -> Result<(), Fail> {
     for unit in ObjectView::read(&bytes)?.units() {
         expect_hunks(&rt, &unit, 60_008);
     }
+    Ok(())
+}
+
+/// Where the next hunk of the next unit begins.
+fn next_hunk(units: &UnitViews) -> Option<u64> {
+    match units.peek() {
+        Some(unit) => match unit.hunks().peek() {
+            Some(hunk) => Some(hunk.place()),
+            None => None,
+        },
+        None => None,
+    }
+}
+
+#[test]
+fn peeked_at_and_still_to_come(rt: HostRuntime) -> Result<(), Fail> {
+    let bytes = spelled(rt.alloc(), TWO_UNITS)?;
+    let mut units = ObjectView::read(&bytes)?.units();
+    assert_equal(&rt, next_hunk(&units), Some(12));
+    let _ = units.next();
+    assert_equal(&rt, units.place(), 60);
+    assert_equal(&rt, next_hunk(&units), None);
     Ok(())
 }
 

@@ -8,27 +8,27 @@ use Rattle.hunk_files.proofs.object.unit_view.UnitView.hunks.Goals as goal
 
 pub at-requires : goal.at-requires
 at-requires c =
-    let unit = c.self.invariant.0 in
+    let unit = c.self.invariant in
     unit_hunks c.self.inside.bytes.now c.self.inside.place unit _ c.read_header-hunks.result.1 (c.read_header-hunks.ensures unit)
 
 pub returns-clause-value : goal.returns-clause-value
 returns-clause-value c =
-    let unit = c.self.invariant.0 in
+    let unit = c.self.invariant in
     ap (λ (hs : Placed (List ObjectHunk)). hs.value) c.at.ensures ∙ unit_hunks_are c.self.inside.bytes.now c.self.inside.place unit _ c.read_header-hunks.result.1 (c.read_header-hunks.ensures unit) c.args.self.now c.self.view_is
 
 pub returns-clause-place : goal.returns-clause-place
 returns-clause-place c =
-    let unit = c.self.invariant.0 in
+    let unit = c.self.invariant in
     ap (λ (hs : Placed (List ObjectHunk)). hs.place) c.at.ensures ∙ hunks_begin c.self.inside.bytes.now c.self.inside.place unit _ c.read_header-hunks.result.1 (c.read_header-hunks.ensures unit) c.args.self.now c.self.view_is
 
 pub returns-clause-unit : goal.returns-clause-unit
 returns-clause-unit c =
-    let unit = c.self.invariant.0 in
+    let unit = c.self.invariant in
     subst IsUnit (sym (ap (λ (p : Placed UnitValue). p.value) (sym c.self.view_is) ∙ unit_at_is c.self.inside.bytes.now c.self.inside.place unit)) unit.is
 
 pub returns-clause-few : goal.returns-clause-few
 returns-clause-few c =
-    let unit = c.self.invariant.0 in
+    let unit = c.self.invariant in
     omega (
       arith,
       fewer_hunks c.self.inside.bytes.now c.self.inside.place unit,
