@@ -1,11 +1,10 @@
 -- The bytes of what is printed can be counted.
 use Rattle.std.proofs.Common.{◌≡◌, ℕ, ◌+◌, ◌*◌, ◌^◌, ◌<◌, ◌≤◌, List, [], ◌∷◌, ◌++◌, length, ap, sym, subst, ◌∙◌, arith, length-append}
-use Rattle.std.specs.List.{flat_map, sum_by}
+use Rattle.std.specs.List.{sum_by}
 use Rattle.std.proofs.lemmas.List.{length-map}
 use Rattle.std.proofs.lemmas.List.Sums.{sum_by-cons}
 use Rattle.hunk_words.specs.Longs.{bytes_of}
 use Rattle.hunk_words.proofs.LongLaws.{length-bytes_of}
-use Rattle.hunk_files.specs.Findings.{findings}
 use Rattle.hunk_files.specs.declared.row.Row.{Row}
 use Rattle.hunk_files.specs.Image.{declared_bytes}
 use Rattle.hunk_files.specs.LoadFile.{HunkValue, IsLoadFile, LoadFileValue}
@@ -16,15 +15,15 @@ use Rattle.hunk_files.specs.Tables.{row_entry}
 use Rattle.hunk_scatter.specs.Rows.{bases_of, entries_of}
 use Rattle.hunk_scatter.proofs.DeclaredBytes.{declared_limit}
 use Rattle.hunk_listing.specs.FileLines.{load_listing, object_listing}
-use Rattle.hunk_listing.specs.ReportLines.{finding_line, load_summary, object_report, totals_line}
+use Rattle.hunk_listing.specs.ReportLines.{load_summary, object_report}
 use Rattle.hunk_listing.proofs.FileLengths.{load_listing_fits, load_summary_fits, object_listing_fits}
-use Rattle.hunk_listing.proofs.ReportLengths.{findings_within, object_report_fits}
+use Rattle.hunk_listing.proofs.ReportLengths.{object_report_fits}
 use Rattle.hunk_listing.proofs.SegmentLengths.{length-lines, total}
 use Rattle.hunk_files.specs.declared.hunk_file.HunkFile.{HunkFile}
 use Rattle.hunk_files.specs.declared.hunk_file.HunkFile.TheVariants as files
 use Rattle.hunk_files.specs.HunkFile.{IsFileOf}
 use Rattle.hunk_commands.specs.Relocating.{image_listing, segments_of}
-use Rattle.hunk_commands.specs.Reports.{finding_count, report}
+use Rattle.hunk_commands.specs.Reports.{report}
 use Rattle.hunk_commands.specs.Shown.{file_listing}
 
 -- ---- of bytes in memory
@@ -55,12 +54,6 @@ report_fits bytes (files.Load value rest) is few =
 report_fits bytes (files.Object value) is few =
     subst (λ (o : ObjectFileValue). length (object_report o) < 2 ^ 64) (sym is.1)
     (object_report_fits is.0.value is.0.is_object_file (words_few bytes (object_text is.0.value) is.0.text_is few))
-
--- a finding has a line
-pub count_fits : (file : HunkFile) → length (report file) < 2 ^ 64 → finding_count file < 2 ^ 64
-count_fits (files.Load value rest) fits = omega arith
-count_fits (files.Object value) fits =
-    omega (arith, fits, findings_within (findings value), length-append (flat_map finding_line (findings value)) (totals_line (length value) (length (findings value))))
 
 -- ---- of an image
 

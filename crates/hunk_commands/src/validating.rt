@@ -95,7 +95,6 @@ fn put_report<W: Sink>(w: &mut LongWriter<W>, file: &FileView<'_>) -> Result<u64
 
 /// Prints the report on the file, and answers how many findings it has.
 fn print_report<W: Sink>(page: &mut Printer<'_, W>, file: &FileView<'_>) -> u64
-    requires { finding_count (file_of file.now) < 2 ^ 64 }
     ensures prints { Prints page.old page.new (report (file_of file.now)) }
     ensures count { result ≡ finding_count (file_of file.now) }
 {

@@ -13,6 +13,7 @@ use Rattle.hunk_files.specs.declared.object.check.FindingKind.{FindingKind}
 use Rattle.hunk_files.specs.declared.object.check.FindingKind.TheVariants.{BadTarget, OutsideHunk}
 use Rattle.hunk_files.specs.Findings.{body_findings, entry_findings, finding, findings, group_findings, hunk_bytes, hunk_findings, hunks_findings, outside, reference_width, relocation_findings, relocation_width, unit_findings, units_findings}
 use Rattle.hunk_files.specs.ObjectFile.{IsObjectFile, IsObjectHunk, IsUnit, ObjectFileValue, ObjectHunk, object_text, unit_header, unit_text}
+use Rattle.hunk_files.proofs.FindingCounts.{findings_few}
 use Rattle.hunk_listing.specs.Printed.{hexadecimal}
 use Rattle.hunk_listing.specs.ReportLines.{finding_line, finding_name, object_report, totals_line}
 use Rattle.hunk_listing.proofs.BlockLengths.{length-ext_parts, references_within}
@@ -145,15 +146,6 @@ units_short number (u ∷ units) are fits few =
       units_short (number + 1) units are.1 (omega (arith, fits)) (omega (arith, few, sum)),
     )
 
-some_byte : (f : Finding) → 0 < length (finding_line f)
-unfolding finding_line
-some_byte f = omega arith
-
--- a finding has a line, so they are as many as the bytes of their lines at most
-pub findings_within : (found : List Finding) → length found ≤ length (lines found)
-findings_within [] = omega arith
-findings_within (f ∷ found) = omega (arith, length-append (finding_line f) (lines found), some_byte f, findings_within found)
-
 length-totals_line : (units count : ℕ) → units < 2 ^ 64 → count < 2 ^ 88 → length (totals_line units count) ≤ 96
 unfolding totals_line
 length-totals_line units count few fits =
@@ -164,11 +156,10 @@ pub object_report_fits : (o : ObjectFileValue) → IsObjectFile o → length (ob
 object_report_fits o is few =
     let most = units_within o in
     let short = units_short 0 o is.units (omega (arith, few, most)) (omega (arith, few)) in
-    let count = findings_within (findings o) in
     omega (
       arith,
       few,
       short,
       length-append (lines (findings o)) (totals_line (length o) (length (findings o))),
-      length-totals_line (length o) (length (findings o)) (omega (arith, few, most)) (omega (arith, few, short, count)),
+      length-totals_line (length o) (length (findings o)) (omega (arith, few, most)) (omega (arith, few, findings_few o is)),
     )

@@ -18,6 +18,10 @@ abbrev pub finding_name : FindingKind → List ℕ
 finding_name BadTarget = codes "BadTarget"
 finding_name OutsideHunk = codes "OutsideHunk"
 
+-- `unit D hunk D offset `, with which the line of a finding in that hunk begins
+unfoldable pub finding_front : ℕ → ℕ → List ℕ
+finding_front unit hunk = codes "unit " ++ decimal unit ++ codes " hunk " ++ decimal hunk ++ codes " offset "
+
 -- `unit D hunk D offset X NAME`
 unfoldable pub finding_line : Finding → List ℕ
 finding_line finding =

@@ -3,15 +3,16 @@ ghost use Rattle.std.specs.Prelude.{◌≡◌, ◌<◌, ◌≤◌, ◌^◌, ◌+
 ghost use Rattle.std.proofs.Common.{◌∙◌, refl};
 ghost use Rattle.hunk_words.specs.Prints.{Prints};
 ghost use Rattle.hunk_files.specs.Findings.{findings};
-ghost use Rattle.hunk_listing.specs.ReportLines.{finding_line, finding_name, load_summary};
-ghost use Rattle.hunk_listing.specs.ReportLines.{object_report, totals_line};
+ghost use Rattle.hunk_listing.specs.Printed.{hexadecimal};
+ghost use Rattle.hunk_listing.specs.ReportLines.{finding_front, finding_line, finding_name};
+ghost use Rattle.hunk_listing.specs.ReportLines.{load_summary, object_report, totals_line};
 ghost use Rattle.hunk_listing.specs.Reporting.{Reports, reports_none, reports_more};
 
 use crate::line::Line;
 use crate::load::{print_load_head, print_rest};
-use crate::object::unit_count;
 use hunk_files::{Finding, FindingKind, LoadView, ObjectView, TakesFindings};
 use hunk_words::{Printer, Sink};
+use std::marker::Model;
 
 /// Reports a load file that `rest` bytes follow: nothing is found in one that was accepted.
 pub fn print_load_summary<W: Sink>(page: &mut Printer<'_, W>, file: &LoadView<'_>, rest: u64)
@@ -24,20 +25,28 @@ pub fn print_load_summary<W: Sink>(page: &mut Printer<'_, W>, file: &LoadView<'_
 /// Reports what is found in an object file, each finding as soon as it is found, and answers how
 /// many there are. It takes no memory.
 pub fn print_object_report<W: Sink>(page: &mut Printer<'_, W>, file: &ObjectView<'_>) -> u64
-    requires { length (findings file.now) < 2 ^ 64 }
     ensures prints { Prints page.old page.new (object_report file.now) }
     ensures count { result ≡ length (findings file.now) }
 {
-    let mut lines = FindingLines { page, count: 0 };
-    file.check_with(&mut lines);
-    let FindingLines { page, count } = lines;
-    print_totals(page, unit_count(file), count);
+    let mut lines = FindingLines {
+        page,
+        line: FindingLine::of(0, 0),
+        count: 0,
+    };
+    let units = file.check_with(&mut lines);
+    let FindingLines {
+        page,
+        line: _line,
+        count,
+    } = lines;
+    print_totals(page, units, count);
     count
 }
 
 /// Prints a line for each finding, and counts them modulo 2 ^ 64.
 struct FindingLines<'p, 'a, W: Sink> {
     page: &'p mut Printer<'a, W>,
+    line: FindingLine,
     count: u64,
 }
 
@@ -53,35 +62,94 @@ impl<W: Sink> TakesFindings for FindingLines<'_, '_, W> {
     ) };
 
     fn take(&mut self, finding: Finding) {
-        print_finding(self.page, finding);
+        self.line.print(self.page, finding);
         self.count = self.count.wrapping_add(1);
     }
 }
 
-#[tactic(auto, unfolding(crate::specs::ReportLines::finding_line))]
-fn print_finding<W: Sink>(page: &mut Printer<'_, W>, finding: Finding)
-    ensures { Prints page.old page.new (finding_line finding) }
-{
-    let mut line = Line::new();
-    line.put(b"unit ");
-    line.put_decimal(finding.unit);
-    line.put(b" hunk ");
-    line.put_decimal(finding.hunk);
-    line.put(b" offset ");
-    line.put_hexadecimal(finding.offset);
-    line.put(b" ");
-    line.put(finding_end(finding.fault).as_bytes());
-    line.print(page);
+/// The line of a finding. Its front, up to the offset, serves for all findings of a hunk. Contracts
+/// see the front.
+#[derive(Drop)]
+struct FindingLine {
+    unit: u64,
+    hunk: u64,
+    /// How many bytes the front has.
+    start: usize,
+    line: Line,
+}
+
+impl Model for FindingLine {
+    ghost use Rattle.std.specs.Prelude.{ℕ, List, ◌≡◌, ◌≤◌, ◌+◌, length, take};
+    ghost use Rattle.hunk_listing.specs.ReportLines.{finding_front};
+    ghost use Rattle.hunk_listing.specs.declared.line.TheConstants.{LINE};
+
+    ghost Value = { List ℕ };
+
+    ghost view = { λ s. finding_front s.unit s.hunk };
+
+    ghost invariant = { λ s. (s.start ≤ length s.line) × (s.start + 23 ≤ LINE)
+        × (take s.start s.line ≡ finding_front s.unit s.hunk) };
+}
+
+impl FindingLine {
+    /// The line of what is found in this hunk of this unit.
+    #[tactic(auto, unfolding(crate::specs::ReportLines::finding_front))]
+    fn of(unit: u64, hunk: u64) -> FindingLine
+        ensures { result ≡ finding_front unit hunk }
+    {
+        let mut line = Line::new();
+        line.put(b"unit ");
+        line.put_decimal(unit);
+        line.put(b" hunk ");
+        line.put_decimal(hunk);
+        line.put(b" offset ");
+        let start = line.len();
+        FindingLine {
+            unit,
+            hunk,
+            start,
+            line,
+        }
+    }
+
+    /// Makes the front anew where what is found is in another hunk.
+    fn turn_to(&mut self, unit: u64, hunk: u64)
+        ensures { self.new ≡ finding_front unit hunk }
+    {
+        if self.unit != unit || self.hunk != hunk {
+            *self = FindingLine::of(unit, hunk);
+        }
+    }
+
+    /// Prints the front, which stays, and the rest of the line behind it.
+    fn print_rest<W: Sink>(&mut self, page: &mut Printer<'_, W>, fault: FindingKind, offset: u32)
+        ensures prints { Prints page.old page.new
+            (self.old ++ hexadecimal offset ++ codes " " ++ finding_name fault ++ codes "\n") }
+        ensures kept { self.new ≡ self.old }
+    {
+        self.line.truncate(self.start);
+        self.line.put_hexadecimal(offset);
+        self.line.put(finding_end(fault).as_bytes());
+        self.line.print(page);
+    }
+
+    #[tactic(auto, unfolding(crate::specs::ReportLines::finding_front, crate::specs::ReportLines::finding_line))]
+    fn print<W: Sink>(&mut self, page: &mut Printer<'_, W>, finding: Finding)
+        ensures { Prints page.old page.new (finding_line finding) }
+    {
+        self.turn_to(finding.unit, finding.hunk);
+        self.print_rest(page, finding.fault, finding.offset);
+    }
 }
 
 /// What is wrong, at the end of a line.
 fn finding_end(fault: FindingKind) -> &'static str
-    ensures text { result.now ≡ finding_name fault ++ codes "\n" }
-    ensures bound { length result.now ≤ 12 }
+    ensures text { result.now ≡ codes " " ++ finding_name fault ++ codes "\n" }
+    ensures bound { length result.now ≤ 13 }
 {
     match fault {
-        FindingKind::BadTarget => "BadTarget\n",
-        FindingKind::OutsideHunk => "OutsideHunk\n",
+        FindingKind::BadTarget => " BadTarget\n",
+        FindingKind::OutsideHunk => " OutsideHunk\n",
     }
 }
 
