@@ -1,4 +1,4 @@
-use Rattle.std.proofs.Common.{◌≡◌, ◌+◌, ◌*◌, List, length, Some, ap, subst, ◌∙◌, arith}
+use Rattle.std.proofs.Common.{◌+◌, List, length, Some, ap, subst, ◌∙◌, arith}
 use Rattle.hunk_blocks.specs.Placed.{Placed}
 use Rattle.hunk_files.specs.Findings.{FindingValue, Spot, hunk_bytes, hunk_findings, hunks_findings}
 use Rattle.hunk_files.specs.Hunks.{block_texts}

@@ -1,4 +1,4 @@
-use Rattle.std.proofs.Common.{◌≡◌, ◌+◌, length, Some, ap, ◌∙◌, arith}
+use Rattle.std.proofs.Common.{◌+◌, length, Some, ap, arith}
 use Rattle.hunk_blocks.specs.Placed.{Placed}
 use Rattle.hunk_files.specs.Findings.{findings, unit_findings, units_findings}
 use Rattle.hunk_files.specs.InPlace.{GivesPart}
