@@ -1,7 +1,7 @@
 -- Longwords in front of a list of bytes.
-use Rattle.std.proofs.Common.{◌≡◌, ℕ, ◌*◌, List, [], ◌∷◌, ◌++◌, take, drop, refl, sym, ap₂, ◌∙◌}
+use Rattle.std.proofs.Common.{◌≡◌, ℕ, ◌+◌, ◌-◌, ◌*◌, List, [], ◌∷◌, ◌++◌, drop, slice_range, refl, sym, ap, ap₂, ◌∙◌, arith}
 use Rattle.std.specs.List.{AllByRecursion}
-use Rattle.std.proofs.lemmas.List.{take-append-drop}
+use Rattle.std.proofs.lemmas.List.{take-append-drop, drop-drop}
 use Rattle.hunk_words.specs.Longs.{longs}
 use Rattle.hunk_words.proofs.PartLaws.{longs-take, longs-drop}
 
@@ -13,7 +13,12 @@ pub All-right : {A : Type 0} (P : A → Type 0) (xs ys : List A) → AllByRecurs
 All-right P [] ys h = h
 All-right P (x ∷ xs) ys h = All-right P xs ys h.1
 
--- bytes cut behind a number of longwords
-pub longs-cut : (bytes front rest : List ℕ) (count : ℕ) → front ≡ take (4 * count) bytes → rest ≡ drop (4 * count) bytes → longs bytes ≡ longs front ++ longs rest
-longs-cut bytes front rest count f r =
-    sym (take-append-drop count (longs bytes)) ∙ ap₂ (λ xs ys. xs ++ ys) (sym (longs-take bytes count (4 * count) refl)) (sym (longs-drop bytes count (4 * count) refl)) ∙ ap₂ (λ xs ys. longs xs ++ longs ys) (sym f) (sym r)
+-- the longwords behind a number of them
+pub longs-behind : (bytes : List ℕ) (at count : ℕ) → longs (drop (at + 4 * count) bytes) ≡ drop count (longs (drop at bytes))
+longs-behind bytes at count = ap longs (sym (drop-drop (4 * count) at bytes)) ∙ longs-drop (drop at bytes) count (4 * count) refl
+
+-- the longwords from a place on, cut behind a number of them
+pub longs-cut : (bytes words : List ℕ) (at count : ℕ) → words ≡ slice_range bytes at (at + 4 * count) → longs (drop at bytes) ≡ longs words ++ longs (drop (at + 4 * count) bytes)
+longs-cut bytes words at count w =
+    sym (take-append-drop count (longs (drop at bytes)))
+    ∙ ap₂ (λ xs ys. xs ++ ys) (sym (ap longs w ∙ longs-take (drop at bytes) count (at + 4 * count - at) (omega arith))) (sym (longs-behind bytes at count))

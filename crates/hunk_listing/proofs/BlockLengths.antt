@@ -1,5 +1,5 @@
 -- The lines of a block are not much longer than its text.
-use Rattle.std.proofs.Common.{◌≡◌, ℕ, suc, ◌+◌, ◌*◌, ◌%◌, ◌^◌, ◌<◌, ◌≤◌, List, [], ◌∷◌, ◌++◌, length, ap, arith, length-append, Option, Some, None}
+use Rattle.std.proofs.Common.{ℕ, suc, ◌+◌, ◌*◌, ◌%◌, ◌^◌, ◌<◌, ◌≤◌, List, [], ◌∷◌, ◌++◌, length, arith, length-append, Option, Some, None}
 use Rattle.std.specs.Prelude.{codes, decimal}
 use Rattle.std.specs.List.{AllByRecursion, flat_map}
 use Rattle.std.proofs.lemmas.List.{length-map}
@@ -8,8 +8,9 @@ use Rattle.hunk_blocks.specs.declared.ext_kind.ExtKind.{ExtKind}
 use Rattle.hunk_blocks.specs.declared.ext_shape.ExtShape.{ExtShape}
 use Rattle.hunk_blocks.specs.declared.ext_shape.ExtShape.TheVariants.{Definition, Common, References}
 use Rattle.hunk_blocks.specs.ExtKinds.{ext_kind, ext_name, ext_shape, shape_of_kind}
-use Rattle.hunk_blocks.specs.Values.{BlockBody, BlockValue, ExtEntry, RelocGroup, SymbolEntry, Name, Bss, Reloc, Ext, Symbol, Advisory, End, FitsShape, FitsWord, IsBlock, IsExtEntry, IsGroup, IsSymbolEntry, ext_type}
-use Rattle.hunk_blocks.specs.Parts.{Part, EntryName, EntryValue, Offset, Payload, block_parts, body_parts, each, ext_parts, ext_parts_by, group_parts, symbol_parts}
+use Rattle.hunk_blocks.specs.Values.{BlockBody, BlockValue, ExtEntry, RelocGroup, SymbolEntry, Name, Bss, Reloc, Ext, Symbol, Advisory, End, FitsWord, IsBlock, IsExtEntry, IsGroup, IsSymbolEntry, ext_type}
+use Rattle.hunk_blocks.specs.Parts.{Part, EntryName, EntryValue, Offset, Payload, block_parts, body_parts, each, ext_parts, group_parts, symbol_parts}
+use Rattle.hunk_files.proofs.FindingCounts.{length-ext_parts, references_within}
 use Rattle.hunk_listing.specs.BlockLines.{advisory_line, block_lines, body_lines, common_line, count_line, definition_line, end_line, entry_line, entry_lines, group_lines, head, kind_lines, line_by, name_line, offset_line, reference_line, relocation_line, size_line, symbol_line}
 use Rattle.hunk_listing.specs.BlockNames.{memory_flags}
 use Rattle.hunk_listing.specs.Printed.{hexadecimal, name_text}
@@ -133,21 +134,6 @@ length-entry_lines e fits few = by (ext_kind (ext_type e))
     by : (kind : Option ExtKind) → length (kind_lines kind e) ≤ 71 + 16 * length e.name + 17 * length e.offsets
     by None = omega arith
     by (Some kind) = omega (arith, length-append (entry_line kind e) (flat_map offset_line e.offsets), length-entry_line kind e fits few, offsets_short e.offsets)
-
--- the offsets of an entry are in its text
-pub references_within : (s : Option ExtShape) (e : ExtEntry) → FitsShape s e → 1 + length e.offsets ≤ length (ext_parts_by s e)
-references_within None e fits = absurd fits
-references_within (Some Definition) e fits = omega (arith, ap length fits)
-references_within (Some Common) e fits = omega (arith, length-map {B = Part × ℕ} e.offsets (λ w. (Offset, w)))
-references_within (Some References) e fits = omega (arith, length-map {B = Part × ℕ} e.offsets (λ w. (Offset, w)))
-
-pub length-ext_parts : (e : ExtEntry) → length (ext_parts e) ≡ 1 + length e.name + length (ext_parts_by (ext_shape (ext_type e)) e)
-length-ext_parts e =
-    omega (
-      arith,
-      length-append (each EntryName e.name) (ext_parts_by (ext_shape (ext_type e)) e),
-      length-map {B = Part × ℕ} e.name (λ w. (EntryName, w)),
-    )
 
 entry_short : (e : ExtEntry) → IsExtEntry e → length (ext_parts e) < 2 ^ 60 → length (entry_lines e) ≤ 96 * length (ext_parts e)
 entry_short e is few =

@@ -13,10 +13,9 @@ use Rattle.hunk_files.specs.declared.object.check.FindingKind.{FindingKind}
 use Rattle.hunk_files.specs.declared.object.check.FindingKind.TheVariants.{BadTarget, OutsideHunk}
 use Rattle.hunk_files.specs.Findings.{body_findings, entry_findings, finding, findings, group_findings, hunk_bytes, hunk_findings, hunks_findings, outside, reference_width, relocation_findings, relocation_width, unit_findings, units_findings}
 use Rattle.hunk_files.specs.ObjectFile.{IsObjectFile, IsObjectHunk, IsUnit, ObjectFileValue, ObjectHunk, object_text, unit_header, unit_text}
-use Rattle.hunk_files.proofs.FindingCounts.{findings_few}
+use Rattle.hunk_files.proofs.FindingCounts.{findings_few, length-ext_parts, references_within}
 use Rattle.hunk_listing.specs.Printed.{hexadecimal}
 use Rattle.hunk_listing.specs.ReportLines.{finding_line, finding_name, object_report, totals_line}
-use Rattle.hunk_listing.proofs.BlockLengths.{length-ext_parts, references_within}
 use Rattle.hunk_listing.proofs.FileLengths.{hunks_within, length-blocks, units_within}
 use Rattle.hunk_listing.proofs.LineLengths.{fits5, fits9, length-hexadecimal, length-number}
 

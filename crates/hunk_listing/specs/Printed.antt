@@ -5,9 +5,13 @@ use Rattle.std.specs.Int.{to_be_bytes, w32}
 use Rattle.hunk_words.specs.Longs.{bytes_of}
 use Rattle.hex.specs.Hex.{encode_lower}
 
--- `0x` and eight hexadecimal digits
+-- eight hexadecimal digits
+abbrev pub digits : ℕ → List ℕ
+digits number = encode_lower (to_be_bytes w32 number)
+
+-- `0x` and these
 abbrev pub hexadecimal : ℕ → List ℕ
-hexadecimal number = codes "0x" ++ encode_lower (to_be_bytes w32 number)
+hexadecimal number = codes "0x" ++ digits number
 
 -- a byte that stands for itself: 0x20 to 0x7E, other than the backslash
 abbrev pub is_plain : ℕ → Bool

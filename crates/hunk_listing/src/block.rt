@@ -155,15 +155,15 @@ fn print_group<W: Sink>(page: &mut Printer<'_, W>, group: &Group<'_>)
     }
 }
 
-/// The line of a relocation up to its offset.
+/// The line of a relocation up to the digits of its offset.
 fn begin_relocation_line(target: u32) -> Line
-    ensures text { result ≡ codes "    " ++ decimal target ++ codes " " }
-    ensures bound { length result ≤ 25 }
+    ensures text { result ≡ codes "    " ++ decimal target ++ codes " 0x" }
+    ensures bound { length result ≤ 27 }
 {
     let mut line = Line::new();
     line.put(b"    ");
     line.put_decimal(u64::from(target));
-    line.put(b" ");
+    line.put(b" 0x");
     line
 }
 
@@ -182,8 +182,8 @@ fn print_symbol<W: Sink>(page: &mut Printer<'_, W>, symbol: &Named<'_>)
     ensures { Prints page.old page.new (symbol_line (symbol_of symbol.now)) }
 {
     let mut line = Line::new();
-    line.put(b"    ");
-    line.put_hexadecimal(symbol.value);
+    line.put(b"    0x");
+    line.put_digits(symbol.value);
     line.put(b" ");
     print_named(page, &line, &symbol.name);
 }

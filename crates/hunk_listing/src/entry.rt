@@ -81,8 +81,8 @@ fn print_offsets<W: Sink>(page: &mut Printer<'_, W>, offsets: &Longs<'_>)
     ensures { Prints page.old page.new (flat_map offset_line offsets.now) }
 {
     let mut line = Line::new();
-    line.put(b"      ");
+    line.put(b"      0x");
     'offsets: for offset in offsets {
-        print_offset_behind(page, &mut line, 6, offset);
+        print_offset_behind(page, &mut line, 8, offset);
     }
 }

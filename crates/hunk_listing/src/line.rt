@@ -1,8 +1,8 @@
 //! A line of bounded length, made before it is printed.
-ghost use Rattle.std.specs.Prelude.{◌≡◌, ◌≤◌, ◌+◌, ◌*◌, ◌++◌, [], length, take, drop};
+ghost use Rattle.std.specs.Prelude.{◌≡◌, ◌<◌, ◌≤◌, ◌+◌, ◌*◌, ◌++◌, [], length, take, drop};
 ghost use Rattle.std.specs.Prelude.{codes, decimal};
 ghost use Rattle.hunk_words.specs.Prints.{Prints};
-ghost use Rattle.hunk_listing.specs.Printed.{hexadecimal};
+ghost use Rattle.hunk_listing.specs.Printed.{digits, hexadecimal};
 
 use crate::digits::put_digits;
 use hunk_words::{PagePrinter, Sink};
@@ -85,6 +85,15 @@ impl Line {
         ensures len { length self.new ≡ length self.old + 10 }
     {
         self.put(b"0x");
+        self.put_digits(number);
+    }
+
+    /// Puts the number's eight hexadecimal digits.
+    pub(crate) fn put_digits(&mut self, number: u32)
+        requires { length self.old + 8 ≤ LINE }
+        ensures text { self.new ≡ self.old ++ digits number }
+        ensures len { length self.new ≡ length self.old + 8 }
+    {
         put_digits(self.bytes.as_mut_slice(), self.len, &number.to_be_bytes());
         self.len += 8;
     }
@@ -97,16 +106,33 @@ impl Line {
     }
 }
 
-/// How many decimal digits the number has.
+/// How many decimal digits the number has: most have one, and four are counted by one division.
 fn decimal_length(number: u64) -> usize
     ensures digits { result ≡ length (decimal number) }
     ensures bound { result ≤ 20 }
 {
-    let mut rest = number;
-    let mut count = 1;
-    'digits: while rest >= 10 {
-        rest /= 10;
-        count += 1;
+    if number < 10 {
+        return 1;
     }
-    count
+    let mut rest = number;
+    let mut count = 0;
+    'digits: while rest >= 10_000 {
+        rest /= 10_000;
+        count += 4;
+    }
+    count + short_length(rest)
+}
+
+/// How many decimal digits a number below 10,000 has.
+fn short_length(number: u64) -> usize
+    requires { number < 10000 }
+    ensures { result ≡ length (decimal number) }
+{
+    if number < 10 {
+        return 1;
+    }
+    if number < 100 {
+        return 2;
+    }
+    if number < 1_000 { 3 } else { 4 }
 }

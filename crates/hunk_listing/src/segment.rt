@@ -26,8 +26,8 @@ fn print_segment_line<W: Sink>(page: &mut Printer<'_, W>, number: u32, base: u32
     let mut line = Line::new();
     line.put(b"hunk ");
     line.put_decimal(u64::from(number));
-    line.put(b" base ");
-    line.put_hexadecimal(base);
+    line.put(b" base 0x");
+    line.put_digits(base);
     line.put(b" ");
     line.put_decimal(len as u64);
     line.put(b" bytes\n");

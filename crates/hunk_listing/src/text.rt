@@ -3,7 +3,7 @@ ghost use Rattle.std.specs.Prelude.{◌≡◌, ◌≤◌, ◌<◌, ◌+◌, ◌*
 ghost use Rattle.std.specs.Prelude.{codes, slice_index};
 ghost use Rattle.hunk_words.specs.Prints.{Prints};
 ghost use Rattle.hunk_words.specs.Longs.{longs};
-ghost use Rattle.hunk_listing.specs.Printed.{character, characters, hexadecimal, is_plain};
+ghost use Rattle.hunk_listing.specs.Printed.{character, characters, digits, is_plain};
 ghost use Rattle.hunk_listing.specs.Printed.{name_text};
 
 use crate::digits::put_digits;
@@ -11,7 +11,8 @@ use crate::line::{LINE, Line};
 use hunk_blocks::Payload;
 use hunk_words::{Printer, Sink};
 
-/// Prints the first `start` bytes of the line, the offset behind them and the end of the line.
+/// Prints the first `start` bytes of the line, the digits of the offset behind them and the end of
+/// the line.
 ///
 /// The line keeps these bytes, so that it serves for the next offset.
 pub(crate) fn print_offset_behind<W: Sink>(
@@ -21,14 +22,14 @@ pub(crate) fn print_offset_behind<W: Sink>(
     offset: u32,
 )
     requires inside { start ≤ length line.old }
-    requires room { start + 11 ≤ LINE }
+    requires room { start + 9 ≤ LINE }
     ensures prints { Prints page.old page.new
-        (take start line.old ++ hexadecimal offset ++ codes "\n") }
+        (take start line.old ++ digits offset ++ codes "\n") }
     ensures kept { take start line.new ≡ take start line.old }
     ensures inside { start ≤ length line.new }
 {
     line.truncate(start);
-    line.put_hexadecimal(offset);
+    line.put_digits(offset);
     line.put(b"\n");
     line.print(page);
 }
@@ -85,7 +86,7 @@ fn plain_length(bytes: &[u8]) -> usize
 fn is_plain(byte: u8) -> bool
     ensures { result ≡ is_plain byte }
 {
-    matches!(byte, 0x20..=0x7E) && byte != b'\\'
+    matches!(byte, 0x5D..=0x7E | 0x20..=0x5B)
 }
 
 #[tactic(auto, unfolding(crate::specs::Printed::character))]

@@ -7,23 +7,24 @@ use crate::payload::Payload;
 use hunk_words::word_at;
 use std::marker::Model;
 
-/// The longwords of a slice, read from the front.
+/// The longwords of a slice, read from the front. It goes by the place alone, so that passing over a
+/// longword adds to one number.
 #[derive(Drop)]
 pub(crate) struct LongReader<'a> {
-    rest: &'a [u8],
-    place: u64,
+    bytes: &'a [u8],
+    at: usize,
 }
 
 impl<'a> Model for LongReader<'a> {
-    ghost use Rattle.std.specs.Prelude.{◌+◌, ◌^◌, ◌<◌, length};
+    ghost use Rattle.std.specs.Prelude.{◌≤◌, drop, length};
     ghost use Rattle.hunk_words.specs.Longs.{longs};
     ghost use Rattle.hunk_blocks.specs.Reading.{Unread};
 
     ghost Value = { Unread };
 
-    ghost view = { λ s. record { rest = longs s.rest.now; place = s.place } };
+    ghost view = { λ s. record { rest = longs (drop s.at s.bytes.now); place = s.at } };
 
-    ghost invariant = { λ s. s.place + length s.rest.now < 2 ^ 64 };
+    ghost invariant = { λ s. s.at ≤ length s.bytes.now };
 }
 
 impl<'a> LongReader<'a> {
@@ -33,10 +34,7 @@ impl<'a> LongReader<'a> {
         ensures rest { result.rest ≡ longs (drop place bytes.entry.now) }
         ensures place { result.place ≡ place }
     {
-        LongReader {
-            rest: &bytes[place..],
-            place: place as u64,
-        }
+        LongReader { bytes, at: place }
     }
 
     /// This reader again.
@@ -45,8 +43,8 @@ impl<'a> LongReader<'a> {
         ensures { result ≡ self.now }
     {
         LongReader {
-            rest: self.rest,
-            place: self.place,
+            bytes: self.bytes,
+            at: self.at,
         }
     }
 
@@ -55,7 +53,7 @@ impl<'a> LongReader<'a> {
     pub(crate) fn place(&self) -> u64
         ensures { result ≡ self.now.place }
     {
-        self.place
+        self.at as u64
     }
 
     /// The next longword, which stays.
@@ -64,7 +62,7 @@ impl<'a> LongReader<'a> {
         requires { 0 < length self.now.rest }
         ensures { self.now.rest ≡ result ∷ drop 1 self.now.rest }
     {
-        word_at(self.rest, 0)
+        word_at(&self.bytes[self.at..], 0)
     }
 
     /// The next longwords, as many as `count`.
@@ -74,11 +72,10 @@ impl<'a> LongReader<'a> {
         ensures read { Reads self.old self.new (longs result) }
         ensures count { length (longs result) ≡ count }
     {
-        let length = 4 * count as usize;
-        let (front, rest) = self.rest.split_at(length);
-        self.rest = rest;
-        self.place += length as u64;
-        Payload::of(front)
+        let end = self.at + 4 * count as usize;
+        let words = &self.bytes[self.at..end];
+        self.at = end;
+        Payload::of(words)
     }
 
     /// The next longword.
@@ -87,9 +84,8 @@ impl<'a> LongReader<'a> {
         requires { 0 < length self.old.rest }
         ensures { Reads self.old self.new (result ∷ []) }
     {
-        let word = word_at(self.rest, 0);
-        self.rest = &self.rest[4..];
-        self.place += 4;
+        let word = self.peek();
+        self.at += 4;
         word
     }
 }

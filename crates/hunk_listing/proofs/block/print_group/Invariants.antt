@@ -9,5 +9,5 @@ invariant-offsets g l = record {
   same : l.page.origin ≡ l.fn.page.origin;
   shown : l.page.text ++ flat_map (relocation_line l.group.target) l.offset-iterator ≡ l.fn.page.text ++ flat_map (relocation_line l.group.target) l.group.offsets;
   within : l.start ≤ length l.line;
-  kept : take l.start l.line ≡ codes "    " ++ decimal l.group.target ++ codes " ";
+  kept : take l.start l.line ≡ codes "    " ++ decimal l.group.target ++ codes " 0x";
 }

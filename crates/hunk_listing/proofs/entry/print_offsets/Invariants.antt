@@ -8,6 +8,6 @@ abbrev pub invariant-offsets : goal.invariant-offsets
 invariant-offsets g l = record {
   same : l.page.origin ≡ l.fn.page.origin;
   shown : l.page.text ++ flat_map offset_line l.offset-iterator ≡ l.fn.page.text ++ flat_map offset_line l.offsets;
-  within : 6 ≤ length l.line;
-  kept : take 6 l.line ≡ codes "      ";
+  within : 8 ≤ length l.line;
+  kept : take 8 l.line ≡ codes "      0x";
 }

@@ -6,7 +6,7 @@ use Rattle.hunk_listing.proofs.line.decimal_length.Given as goal
 abbrev pub invariant-digits : goal.invariant-digits
 invariant-digits l = record {
   within : l.rest ≤ l.number;
-  digits : l.count + length (decimal l.rest) ≡ length (decimal l.number) + 1;
+  digits : l.count + length (decimal l.rest) ≡ length (decimal l.number);
 }
 
 abbrev pub decreases-digits : goal.decreases-digits

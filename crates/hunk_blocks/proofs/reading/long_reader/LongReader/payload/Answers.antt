@@ -1,27 +1,41 @@
-use Rattle.std.proofs.Common.{◌≡◌, ◌+◌, ◌*◌, ◌++◌, length, ap, subst, ◌∙◌, arith}
+use Rattle.std.proofs.Common.{◌≡◌, ◌+◌, ◌*◌, ◌≤◌, ◌++◌, length, drop, ap, subst, length-append, arith}
+use Rattle.std.proofs.lemmas.List.{length-drop}
 use Rattle.hunk_words.specs.Longs.{longs}
 use Rattle.hunk_words.proofs.LongLaws.{length-longs}
 use Rattle.hunk_blocks.specs.Reading.{Unread, Reads}
 use Rattle.hunk_blocks.proofs.Fronts.{longs-cut}
 use Rattle.hunk_blocks.proofs.reading.long_reader.LongReader.payload.Goals as goal
 
-pub split_at-requires : goal.split_at-requires
-split_at-requires c = omega (arith, c.requires, ap (λ u. length u.rest) c.self.view_is, length-longs c.self.inside.rest.now)
+pub slice_bounds-words-end : goal.slice_bounds-words-end
+slice_bounds-words-end c =
+    omega (arith, c.requires, ap (λ u. length u.rest) c.self.view_is, length-longs (drop c.self.inside.at c.self.inside.bytes.now), length-drop c.self.inside.at c.self.inside.bytes.now)
 
 -- the cut in two
 module _ (c : goal.After-of) where
-  parts : longs c.self.inside.rest.now ≡ longs c.of.result ++ longs c.split_at.result.1.now
-  parts = longs-cut c.self.inside.rest.now c.of.result c.split_at.result.1.now c.args.count (c.of.ensures ∙ c.split_at.ensures.front) c.split_at.ensures.back
+  end : c.self.inside.at + 4 * c.args.count ≤ length c.self.inside.bytes.now
+  end = omega (arith, c.requires, ap (λ u. length u.rest) c.self.view_is, length-longs (drop c.self.inside.at c.self.inside.bytes.now), length-drop c.self.inside.at c.self.inside.bytes.now)
+
+  parts : longs (drop c.self.inside.at c.self.inside.bytes.now) ≡ longs c.of.result ++ longs (drop (c.self.inside.at + 4 * c.args.count) c.self.inside.bytes.now)
+  parts = longs-cut c.self.inside.bytes.now c.of.result c.self.inside.at c.args.count c.of.ensures
 
   many : length (longs c.of.result) ≡ c.args.count
-  many = omega (arith, length-longs c.of.result, ap length c.of.ensures, c.split_at.ensures.front_len)
+  many = omega (
+    arith,
+    end,
+    ap length parts,
+    length-append (longs c.of.result) (longs (drop (c.self.inside.at + 4 * c.args.count) c.self.inside.bytes.now)),
+    length-longs (drop c.self.inside.at c.self.inside.bytes.now),
+    length-drop c.self.inside.at c.self.inside.bytes.now,
+    length-longs (drop (c.self.inside.at + 4 * c.args.count) c.self.inside.bytes.now),
+    length-drop (c.self.inside.at + 4 * c.args.count) c.self.inside.bytes.now,
+  )
 
 pub invariant_of-self : goal.invariant_of-self
-invariant_of-self c = omega (arith, c.self.invariant, c.split_at.ensures.back_len)
+invariant_of-self c = end c
 
 pub returns-clause-read : goal.returns-clause-read
 returns-clause-read c =
-    subst (λ (u : Unread). Reads u (record { rest = longs c.split_at.result.1.now; place = c.self.inside.place + 4 * c.args.count }) (longs c.of.result)) c.self.view_is
+    subst (λ (u : Unread). Reads u (record { rest = longs (drop (c.self.inside.at + 4 * c.args.count) c.self.inside.bytes.now); place = c.self.inside.at + 4 * c.args.count }) (longs c.of.result)) c.self.view_is
     (record { front = parts c; further = omega (arith, many c) })
 
 pub returns-clause-count : goal.returns-clause-count

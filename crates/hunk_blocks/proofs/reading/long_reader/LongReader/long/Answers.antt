@@ -1,0 +1,17 @@
+use Rattle.std.proofs.Common.{◌∷◌, drop, length, ◌+◌, ap, sym, ◌∙◌, arith}
+use Rattle.std.proofs.lemmas.List.{length-drop}
+use Rattle.hunk_words.proofs.LongLaws.{length-longs}
+use Rattle.hunk_blocks.proofs.Fronts.{longs-behind}
+use Rattle.hunk_blocks.proofs.reading.long_reader.LongReader.long.Goals as goal
+
+pub invariant_of-self : goal.invariant_of-self
+invariant_of-self c =
+    omega (arith, c.requires, ap (λ u. length u.rest) c.self.view_is, length-longs (drop c.self.inside.at c.self.inside.bytes.now), length-drop c.self.inside.at c.self.inside.bytes.now)
+
+pub returns : goal.returns
+returns c = record {
+  front =
+      c.peek-word.ensures
+      ∙ ap (λ xs. c.peek-word.result ∷ xs) (ap (λ u. drop 1 u.rest) (sym c.self.view_is) ∙ sym (longs-behind c.self.inside.bytes.now c.self.inside.at 1));
+  further = ap (λ u. u.place + 4) c.self.view_is;
+}
