@@ -115,6 +115,33 @@ pub(crate) fn take_header_word(
     ensures refusal { IfErr result (heading.StopsFor budget state word) }
     ensures long { word < 2 ^ 32 }
 {
+    match state.position {
+        Position::SizeWord { hunks, owed } => {
+            let position = Position::SizeWord { hunks, owed };
+            let total = state.total;
+            take_at(rows, HeaderState { position, total }, budget, word)
+        }
+        _ => take_at(rows, state, budget, word),
+    }
+}
+
+/// The same, compiled for one position at a time.
+#[inline(always)]
+fn take_at(
+    rows: &mut Vec<Row>,
+    state: HeaderState,
+    budget: u64,
+    word: u32,
+) -> Result<HeaderState, Reason>
+    requires goes_on { is_behind_header state.position ≡ false }
+    requires room { state.total + 2 ^ 32 < 2 ^ 64 }
+    requires within { state.total ≤ budget }
+    ensures rows { OnOk result (rows.new.items ≡ rows.old.items
+        ++ map row_of (heading.adds state.position word)) }
+    ensures passes { IfOk result (heading.PassesWord budget state word) }
+    ensures refusal { IfErr result (heading.StopsFor budget state word) }
+    ensures long { word < 2 ^ 32 }
+{
     let next = pass_header_word(state, budget, word)?;
     if let Some(row) = row(state.position, word) {
         if rows.push(row).is_err() {
