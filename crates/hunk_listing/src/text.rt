@@ -86,7 +86,7 @@ fn plain_length(bytes: &[u8]) -> usize
 fn is_plain(byte: u8) -> bool
     ensures { result ≡ is_plain byte }
 {
-    matches!(byte, 0x5D..=0x7E | 0x20..=0x5B)
+    matches!(byte, 0x20..=0x7E) && byte != b'\\'
 }
 
 #[tactic(auto, unfolding(crate::specs::Printed::character))]
