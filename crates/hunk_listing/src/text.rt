@@ -35,6 +35,7 @@ pub(crate) fn print_offset_behind<W: Sink>(
 }
 
 /// Prints the line, the name's text behind it and the end of the line.
+#[inline(always)]
 pub(crate) fn print_named<W: Sink>(page: &mut Printer<'_, W>, line: &Line, name: &Payload<'_>)
     ensures { Prints page.old page.new (line.now ++ name_text (longs name.now) ++ codes "\n") }
 {
