@@ -1,6 +1,6 @@
-use Rattle.std.proofs.Common.{◌++◌, ℕ, List, drop, refl, ap, ap₂, ◌∙◌, arith}
+use Rattle.std.proofs.Common.{◌++◌, ℕ, drop, refl, ap, ◌∙◌, arith}
 use Rattle.hunk_files.specs.FileView.{file_of}
-use Rattle.hunk.specs.Strips.{HasNoText, HasStripped}
+use Rattle.hunk.specs.Strips.{HasNoText, HasStripped, stripped_bytes}
 use Rattle.hunk.proofs.Checked.{strip_refused, strips_what_fits}
 use Rattle.hunk.proofs.Loaded.{same_answer}
 use Rattle.hunk.proofs.OneFile.{file_size}
