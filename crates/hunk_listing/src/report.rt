@@ -61,6 +61,7 @@ impl<W: Sink> TakesFindings for FindingLines<'_, '_, W> {
       reports_more a.page.now b.page.now c.page.now a.count b.count c.count xs ys first.1 next.1,
     ) };
 
+    #[inline(always)]
     fn take(&mut self, finding: Finding) {
         self.line.print(self.page, finding);
         self.count = self.count.wrapping_add(1);
@@ -94,6 +95,7 @@ impl Model for FindingLine {
 impl FindingLine {
     /// The line of what is found in this hunk of this unit.
     #[tactic(auto, unfolding(crate::specs::ReportLines::finding_front))]
+    #[inline(never)]
     fn of(unit: u64, hunk: u64) -> FindingLine
         ensures { result ≡ finding_front unit hunk }
     {

@@ -142,7 +142,7 @@ fn take_at(
     ensures refusal { IfErr result (heading.StopsFor budget state word) }
     ensures long { word < 2 ^ 32 }
 {
-    let next = pass_header_word(state, budget, word)?;
+    let next = pass_at(state, budget, word)?;
     if let Some(row) = row(state.position, word) {
         if rows.push(row).is_err() {
             return Err(Reason::OutOfMemory);
