@@ -1,5 +1,5 @@
 //! Blocks.
-ghost use Rattle.std.specs.Prelude.{◌≡◌, ◌≢◌, ◌+◌, ◌*◌, ◌^◌, ◌<◌, ◌≤◌, true, Err, IfErr, IfOk};
+ghost use Rattle.std.specs.Prelude.{◌≡◌, ◌≢◌, ◌*◌, ◌≤◌, true, Err, IfErr, IfOk};
 ghost use Rattle.std.specs.Prelude.{IsErr, IsTrue, Some, length};
 ghost use Rattle.hunk_words.specs.declared.reason.Reason.{Reason};
 ghost use Rattle.hunk_words.specs.declared.reason.Reason.TheVariants as reasons;
@@ -163,7 +163,7 @@ impl<'a> Block<'a> {
         print_body(page, self.word, &self.body);
     }
 
-    /// Writes the block's text, which the writer's count has room for, part by part with no page.
+    /// Writes the block's text, part by part with no page.
     ///
     /// It takes no memory.
     ///
@@ -174,7 +174,6 @@ impl<'a> Block<'a> {
     /// A writer that had failed before stays as it was.
     #[tactic(auto, using(hunk_words::proofs::PutLaws::puts_after_none))]
     pub fn encode<W: Sink>(&self, writer: &mut LongWriter<W>) -> Result<(), WriteFault>
-        requires { writer.old.written + length (bytes_of (block_text self.now)) < 2 ^ 64 }
         ensures puts { PutsText W.taken W.failed writer.old writer.new
             (bytes_of (block_text self.now)) result }
         ensures stays { writer.old.stopped ≡ true → IsErr result × (writer.new ≡ writer.old) }
@@ -186,7 +185,6 @@ impl<'a> Block<'a> {
 
 /// Puts the block's text, part by part with no page.
 fn put_block<W: Sink>(writer: &mut LongWriter<W>, block: &Block<'_>) -> Result<(), WriteFault>
-    requires { writer.old.written + length (bytes_of (block_text block.now)) < 2 ^ 64 }
     ensures { PutsText W.taken W.failed writer.old writer.new
         (bytes_of (block_text block.now)) result }
 {

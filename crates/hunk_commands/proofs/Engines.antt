@@ -2,7 +2,7 @@
 use Rattle.std.proofs.Common.{◌≡◌, ◌≢◌, ◌+◌, ℕ, List, Option, Result, Ok, Err, length, inr, ap, refl, sym, subst, ◌∙◌, arith, false, true≢false}
 use Rattle.std.specs.Prelude.{Bool, IfErr, IfOk}
 use Rattle.std.proofs.lemmas.Result.{IfErr-weaker, IfOk-weaker}
-use Rattle.hunk_words.specs.Carriers.{Writing}
+use Rattle.hunk_words.specs.Carriers.{Writing, saturated}
 use Rattle.hunk_words.specs.Longs.{longs}
 use Rattle.hunk_words.specs.Puts.{Puts}
 use Rattle.hunk_words.specs.declared.fault.Fault.{Fault}
@@ -45,12 +45,12 @@ pub puts_all : (Is : List ℕ → Type 0) (c d : Option (List ℕ)) (m n : ℕ) 
 puts_all Is c d m n text is none puts whole = (puts_first Is c d m n text is none puts, omega (arith, whole, none))
 
 -- the first bytes have gone out
-pub written_first : {T : Type 0} (W : ℕ → Type 0) (result : Result T RunFault) (m n : ℕ) → ((y : RunFault) × (result ≡ Err y) × (y ≡ Write m)) → m ≡ n → W n →
+pub written_first : {T : Type 0} (W : ℕ → Type 0) (result : Result T RunFault) (m n : ℕ) → ((y : RunFault) × (result ≡ Err y) × (y ≡ Write m)) → m ≡ saturated n → W n →
     IfErr result (StopsAtWrite n W)
 written_first W result m n p told w = handed (StopsAtWrite n W) result (Write m) p go
   where
     go : StopsAtWrite n W (Write m)
-    go written e = let same : n ≡ written = sym told ∙ cc in (same, subst W same w)
+    go written e = let same : written ≡ m = cc in (same ∙ told, w)
 
 -- ---- a source that was read
 
@@ -76,7 +76,7 @@ module _ (a b : Option (List ℕ)) (most : ℕ) (items bytes : List ℕ) (given 
   pub first_of_input : {T : Type 0} (Is : List ℕ → List ℕ → Type 0) (c d : Option (List ℕ)) (written : ℕ) (result : Result T RunFault) →
       IfErr result (StopsAtWrite written (PutsFirst (Is bytes) c d)) → IfErr result (StopsAtWrite written (Writes Is a b most c d))
   first_of_input Is c d written result =
-      IfErr-weaker result _ _ (λ fault stops count at. (let stop = stops count at in (stop.0, of_input (λ (input : List ℕ). PutsFirst (Is input) c d count) stop.1)))
+      IfErr-weaker result _ _ (λ fault stops count at. (let stop = stops count at in (stop.0, of_input (λ (input : List ℕ). PutsFirst (Is input) c d written) stop.1)))
 
 pub reads_then_puts : {R W T : Type 0} (left : R → Option (List ℕ)) (broken : R → Bool) (x y : R) (most : ℕ) (failed : W → Bool) (old new : Writing W) (items bytes : List ℕ)
     (result : Result T RunFault) → ReadsWhole (left x) (left y) most items → bytes ≡ items → (broken x ≡ false → broken y ≡ false) → GivesAtMost (left x) (left y) most →

@@ -3,6 +3,4 @@ mod Engines
 mod FileLaws
 mod HexJoin
 mod HexPieces
-mod ListingLengths
 mod RewriteLaws
-mod StrippedSize

@@ -1,5 +1,5 @@
 -- What is written of a file that was decoded.
-use Rattle.std.proofs.Common.{◌≡◌, ◌≤◌, ◌+◌, ◌∙◌, ℕ, Bool, true, false, List, length, take, refl, inl, inr, ap, sym, arith, length-append}
+use Rattle.std.proofs.Common.{◌≡◌, ◌+◌, ◌∙◌, ℕ, Bool, true, false, List, length, take, refl, inl, inr, ap, sym, arith, length-append}
 use Rattle.std.proofs.lemmas.List.{take_all, take_at}
 use Rattle.hunk_words.specs.Longs.{bytes_of}
 use Rattle.hunk_files.specs.LoadFile.{LoadFileValue}
@@ -10,7 +10,6 @@ use Rattle.hunk_files.specs.declared.hunk_file.HunkFile.{HunkFile}
 use Rattle.hunk_files.specs.declared.hunk_file.HunkFile.TheVariants as files
 use Rattle.hunk_files.specs.HunkFile.{IsFileOf, bytes_behind, file_bytes}
 use Rattle.hunk_commands.specs.Rewritten.{IsRewritten, stripped_where}
-use Rattle.hunk_commands.proofs.StrippedSize.{load_shorter, object_shorter}
 
 pub rewritten : (strip : Bool) (bytes : List ℕ) (file : HunkFile) → IsFileOf bytes file →
     IsRewritten strip (bytes_behind file) bytes (file_bytes (stripped_where strip file))
@@ -28,22 +27,3 @@ file_front bytes (files.Load value rest) size is count =
     ∙ ap (λ (v : LoadFileValue). bytes_of (text v)) (sym is.1)
 file_front bytes (files.Object value) size is count =
     take_all size bytes (omega (arith, count)) ∙ is.0.text_is ∙ ap (λ (o : ObjectFileValue). bytes_of (object_text o)) (sym is.1)
-
-whole_size : (bytes : List ℕ) (file : HunkFile) → IsFileOf bytes file → length (file_bytes file) ≤ length bytes
-whole_size bytes (files.Load value rest) is = omega (
-  arith,
-  ap (λ (v : LoadFileValue). length (bytes_of (text v))) is.1,
-  ap (λ (xs : List ℕ). length xs) is.0.split,
-  length-append (bytes_of (text is.0.value)) is.0.rest,
-)
-whole_size bytes (files.Object value) is =
-    omega (arith, ap (λ (o : ObjectFileValue). length (bytes_of (object_text o))) is.1, ap (λ (xs : List ℕ). length xs) is.0.text_is)
-
-stripped_size : (strip : Bool) (file : HunkFile) → length (file_bytes (stripped_where strip file)) ≤ length (file_bytes file)
-stripped_size true (files.Load value rest) = load_shorter value
-stripped_size true (files.Object value) = object_shorter value
-stripped_size false file = omega arith
-
--- no more is written than was read
-pub rewritten_size : (strip : Bool) (bytes : List ℕ) (file : HunkFile) → IsFileOf bytes file → length (file_bytes (stripped_where strip file)) ≤ length bytes
-rewritten_size strip bytes file is = omega (arith, whole_size bytes file is, stripped_size strip file)

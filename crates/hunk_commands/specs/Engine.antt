@@ -1,6 +1,6 @@
 -- What an engine function puts of bytes, or of a source: of its source a was left before and b is left now, its sink had taken c and has taken d now, where these are told.
 use Rattle.std.specs.Prelude.{◌≡◌, ◌⊎◌, ⊤, ℕ, Bool, false, List, Option, Result, IfErr, OnOk, length}
-use Rattle.hunk_words.specs.Carriers.{Writing}
+use Rattle.hunk_words.specs.Carriers.{Writing, saturated}
 use Rattle.hunk_words.specs.declared.reason.Reason.TheVariants.{FileLimit}
 use Rattle.hunk_words.specs.Puts.{Puts}
 use Rattle.hunk_files.specs.HunkFile.{AreFile}
@@ -24,9 +24,9 @@ pub record PutsFirst (IsText : List ℕ → Type 0) (c d : Option (List ℕ)) (w
 abbrev pub PutsAll : (List ℕ → Type 0) → Option (List ℕ) → Option (List ℕ) → ℕ → Type 0
 PutsAll IsText c d written = (puts : PutsFirst IsText c d written) × (written ≡ length puts.text)
 
--- At a fault of writing as many bytes were written as it says, and this holds of their number.
+-- A fault of writing says how many bytes were written, and this holds of their number.
 abbrev pub StopsAtWrite : ℕ → (ℕ → Type 0) → RunFault → Type 0
-StopsAtWrite count Holds fault = (written : ℕ) → fault ≡ Write written → (count ≡ written) × Holds written
+StopsAtWrite count Holds fault = (written : ℕ) → fault ≡ Write written → (written ≡ saturated count) × Holds count
 
 -- What `show_bytes`, `validate_bytes` and `rewrite_bytes` keep to, whatever text they put of a file. The output is old before and new after.
 pub record PutsOrRefuses {W T : Type 0} (bytes : List ℕ) (failed : W → Bool) (old new : Writing W) (result : Result T RunFault) : Type 0 where

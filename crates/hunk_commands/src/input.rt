@@ -1,5 +1,5 @@
 //! A source read to its end.
-ghost use Rattle.std.specs.Prelude.{◌≡◌, ◌≤◌, ◌++◌, ◌^◌, [], ℕ, List, length, IfOk, OnOk};
+ghost use Rattle.std.specs.Prelude.{◌≡◌, ◌++◌, [], ℕ, List, IfOk, OnOk};
 ghost use Rattle.hunk_commands.specs.Inputs.{ReadsAtMost, ReadsWhole};
 
 use crate::fault::RunFault;
@@ -8,10 +8,6 @@ use std::alloc::{AllocError, Global};
 
 /// How many bytes are asked for at a time: 32 KiB.
 const PIECE: usize = 32_768;
-
-/// The most bytes of an input, far more than any memory has: the bytes of its listing, which are at
-/// most 64 times as many, can still be counted.
-const MOST: usize = 1 << 56;
 
 /// What takes the bytes of a source piece by piece.
 pub(crate) trait Taker {
@@ -40,20 +36,16 @@ impl Taker for Vec<u8> {
 /// - `Refused` with `FileLimit`, at `most`, where that many bytes were given, before an end is
 ///   looked for.
 /// - `Read` where the source failed, at the number of bytes given.
-/// - `Memory` where memory is refused, as it is for more than 2^56 bytes.
+/// - `Memory` where memory is refused.
 ///
 /// What was read of the source stays read, at most `most` bytes.
 pub fn read_whole<S: Source>(alloc: Global, source: &mut S, most: u64) -> Result<Vec<u8>, RunFault>
     ensures reads { IfOk result
         (λ bytes. ReadsWhole (S.left source.old) (S.left source.new) most bytes.items) }
-    ensures few { IfOk result (λ bytes. length bytes.items ≤ 2 ^ 56) }
     ensures reads_at_most { ReadsAtMost S.left S.failed source.old source.new most result }
 {
     let mut held = Vec::new(alloc);
     read_all(source, most, &mut held)?;
-    if held.len() > MOST {
-        return Err(RunFault::Memory);
-    }
     Ok(held)
 }
 

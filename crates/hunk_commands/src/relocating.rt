@@ -1,5 +1,5 @@
 //! `relocate`: a load file is loaded as it comes, and its segments are printed.
-ghost use Rattle.std.specs.Prelude.{◌≡◌, ◌⊎◌, ◌+◌, ◌^◌, ◌<◌, ℕ, List, Some, false, length, take};
+ghost use Rattle.std.specs.Prelude.{◌≡◌, ◌⊎◌, ℕ, List, Some, false, take};
 ghost use Rattle.std.specs.Prelude.{IfErr, IsErrAnd, IsTrue, OnOk};
 ghost use Rattle.hunk_words.specs.Prints.{Prints};
 ghost use Rattle.hunk_words.specs.Puts.{PutsText};
@@ -94,8 +94,6 @@ pub fn relocate<R: Source, W: Sink>(
     ensures own_reasons { IfErr result IsRelocateFault }
 {
     let image = load(alloc, r, limits, &Packed { start: base })?;
-    // The bytes of the image can be counted, and so can those of its listing.
-    let _bytes = image.bytes();
     put_listing(w, &image)?;
     Ok(())
 }
@@ -103,7 +101,6 @@ pub fn relocate<R: Source, W: Sink>(
 /// Puts the lines of each hunk's segment.
 #[inline(never)]
 fn put_listing<W: Sink>(w: &mut LongWriter<W>, image: &Image) -> Result<(), WriteFault>
-    requires { w.old.written + length (image_listing image.now) < 2 ^ 64 }
     ensures { PutsText W.taken W.failed w.old w.new (image_listing image.now) result }
 {
     let mut page = Printer::new(w);

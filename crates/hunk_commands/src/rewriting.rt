@@ -1,5 +1,6 @@
 //! `rewrite`: a file is read, and written again.
-ghost use Rattle.std.specs.Prelude.{◌≡◌, ◌≢◌, ◌+◌, ◌^◌, ◌<◌, length, IfOk, IfErr};
+ghost use Rattle.std.specs.Prelude.{◌≡◌, ◌≢◌, IfOk, IfErr};
+ghost use Rattle.hunk_words.specs.Carriers.{saturated};
 ghost use Rattle.hunk_words.specs.Puts.{PutsText};
 ghost use Rattle.hunk_files.specs.FileView.{file_of};
 ghost use Rattle.hunk_files.specs.HunkFile.{IsFileOf, file_bytes, stripped};
@@ -17,7 +18,7 @@ use std::alloc::Global;
 /// What `rewrite` did.
 #[derive(Clone, Copy, Debug, PartialEq, Eq)]
 pub struct Rewritten {
-    /// The number of bytes that were written.
+    /// The number of bytes that were written, or 2^64 - 1 where these are more.
     pub written: u64,
     /// The number of bytes that follow the load file, which were left out.
     pub rest: u64,
@@ -34,8 +35,7 @@ pub struct Rewritten {
 ///   looked for.
 /// - `Refused` with the fault that `FileView::read` answers for the input, at the same place.
 /// - `Read` where the source failed, at the number of bytes read.
-/// - `Memory` where memory is refused for the bytes of the input, as it is for more than 2^56, and
-///   never once they are read.
+/// - `Memory` where memory is refused for the bytes of the input, and never once they are read.
 /// - `Write` where the writer failed: just the first `written` bytes of the file have gone out.
 ///
 /// After every other error than `Write` nothing was written. What was read of the source stays
@@ -50,8 +50,8 @@ pub fn rewrite<R: Source, W: Sink>(
     requires { w.old.written ≡ 0 }
     ensures rewrites { IfOk result (λ done. WritesAll (IsRewritten strip done.rest)
         (R.left r.old) (R.left r.new) file_bytes
-        (W.taken w.old.sink) (W.taken w.new.sink) done.written) }
-    ensures written { IfOk result (λ done. done.written ≡ w.new.written) }
+        (W.taken w.old.sink) (W.taken w.new.sink) w.new.written) }
+    ensures written { IfOk result (λ done. done.written ≡ saturated w.new.written) }
 
     // After a fault of writing the first bytes of the file have gone out, and after another one
     // nothing has, by `reads_then_puts`, which also says what is read and when nothing fails.
@@ -79,8 +79,8 @@ pub fn rewrite_bytes<W: Sink>(
 ) -> Result<Rewritten, RunFault>
     requires { w.old.written ≡ 0 }
     ensures rewrites { IfOk result (λ done. PutsAll (IsRewritten strip done.rest bytes.now)
-        (W.taken w.old.sink) (W.taken w.new.sink) done.written) }
-    ensures written { IfOk result (λ done. done.written ≡ w.new.written) }
+        (W.taken w.old.sink) (W.taken w.new.sink) w.new.written) }
+    ensures written { IfOk result (λ done. done.written ≡ saturated w.new.written) }
     ensures write { IfErr result (StopsAtWrite w.new.written (PutsFirst (IsRewriting strip bytes.now)
         (W.taken w.old.sink) (W.taken w.new.sink))) }
     ensures puts_or_refuses { PutsOrRefuses bytes.now W.failed w.old w.new result }
@@ -104,8 +104,7 @@ fn put_file<W: Sink>(
     input: &[u8],
     strip: bool,
 ) -> Result<(), WriteFault>
-    requires file { IsFileOf input.now (file_of file.now) }
-    requires room { w.old.written + length input.now < 2 ^ 64 }
+    requires { IsFileOf input.now (file_of file.now) }
     ensures { PutsText W.taken W.failed w.old w.new
         (file_bytes (stripped_where strip (file_of file.now))) result }
 {
@@ -117,7 +116,6 @@ fn put_file<W: Sink>(
 
 /// Writes what stays of the file, through a page.
 fn put_stripped<W: Sink>(w: &mut LongWriter<W>, file: &FileView<'_>) -> Result<(), WriteFault>
-    requires { w.old.written + length (file_bytes (stripped (file_of file.now))) < 2 ^ 64 }
     ensures { PutsText W.taken W.failed w.old w.new
         (file_bytes (stripped (file_of file.now))) result }
 {

@@ -1,5 +1,5 @@
 //! `show`: the hunks and blocks of a file are listed.
-ghost use Rattle.std.specs.Prelude.{◌≡◌, ◌≢◌, ◌+◌, ◌^◌, ◌<◌, ◌≤◌, length, IfErr, OnOk};
+ghost use Rattle.std.specs.Prelude.{◌≡◌, ◌≢◌, IfErr, OnOk};
 ghost use Rattle.hunk_files.specs.FileView.{file_of};
 ghost use Rattle.hunk_words.specs.Prints.{Prints};
 ghost use Rattle.hunk_words.specs.Puts.{PutsText};
@@ -26,8 +26,7 @@ use std::alloc::Global;
 ///   looked for.
 /// - `Refused` with the fault that `FileView::read` answers for the input, at the same place.
 /// - `Read` where the source failed, at the number of bytes read.
-/// - `Memory` where memory is refused for the bytes of the input, as it is for more than 2^56, and
-///   never once they are read.
+/// - `Memory` where memory is refused for the bytes of the input, and never once they are read.
 /// - `Write` where the writer failed: just the first `written` bytes of the listing have gone out.
 ///
 /// After every other error than `Write` nothing was written. What was read of the source stays
@@ -63,8 +62,7 @@ pub fn show<R: Source, W: Sink>(
 ///   then, and the writer is as it was.
 /// - `Write` where the writer failed: just the first `written` bytes of the listing have gone out.
 pub fn show_bytes<W: Sink>(bytes: &[u8], w: &mut LongWriter<W>) -> Result<(), RunFault>
-    requires few { length bytes.now ≤ 2 ^ 56 }
-    requires unwritten { w.old.written ≡ 0 }
+    requires { w.old.written ≡ 0 }
     ensures shows { OnOk result (PutsAll (IsShown bytes.now)
         (W.taken w.old.sink) (W.taken w.new.sink) w.new.written) }
     ensures write { IfErr result (StopsAtWrite w.new.written (PutsFirst (IsShown bytes.now)
@@ -80,7 +78,6 @@ pub fn show_bytes<W: Sink>(bytes: &[u8], w: &mut LongWriter<W>) -> Result<(), Ru
 /// Puts the listing of the file.
 #[inline(never)]
 fn put_listing<W: Sink>(w: &mut LongWriter<W>, file: &FileView<'_>) -> Result<(), WriteFault>
-    requires { w.old.written + length (file_listing (file_of file.now)) < 2 ^ 64 }
     ensures { PutsText W.taken W.failed w.old w.new (file_listing (file_of file.now)) result }
 {
     let mut page = Printer::new(w);

@@ -1,5 +1,5 @@
 //! `validate`: a file is checked.
-ghost use Rattle.std.specs.Prelude.{◌≡◌, ◌≢◌, ◌+◌, ◌^◌, ◌<◌, ◌≤◌, length, IfOk, IfErr};
+ghost use Rattle.std.specs.Prelude.{◌≡◌, ◌≢◌, IfOk, IfErr};
 ghost use Rattle.hunk_files.specs.FileView.{file_of};
 ghost use Rattle.hunk_words.specs.Prints.{Prints};
 ghost use Rattle.hunk_words.specs.Puts.{PutsText};
@@ -27,8 +27,7 @@ use std::alloc::Global;
 ///   looked for.
 /// - `Refused` with the fault that `FileView::read` answers for the input, at the same place.
 /// - `Read` where the source failed, at the number of bytes read.
-/// - `Memory` where memory is refused for the bytes of the input, as it is for more than 2^56, and
-///   never once they are read.
+/// - `Memory` where memory is refused for the bytes of the input, and never once they are read.
 /// - `Write` where the writer failed: just the first `written` bytes of the report have gone out.
 ///
 /// After every other error than `Write` nothing was written. What was read of the source stays
@@ -64,8 +63,7 @@ pub fn validate<R: Source, W: Sink>(
 ///   then, and the writer is as it was.
 /// - `Write` where the writer failed: just the first `written` bytes of the report have gone out.
 pub fn validate_bytes<W: Sink>(bytes: &[u8], w: &mut LongWriter<W>) -> Result<u64, RunFault>
-    requires few { length bytes.now ≤ 2 ^ 56 }
-    requires unwritten { w.old.written ≡ 0 }
+    requires { w.old.written ≡ 0 }
     ensures validates { IfOk result (λ count. PutsAll (IsValidated count bytes.now)
         (W.taken w.old.sink) (W.taken w.new.sink) w.new.written) }
     ensures write { IfErr result (StopsAtWrite w.new.written (PutsFirst (IsReport bytes.now)
@@ -81,7 +79,6 @@ pub fn validate_bytes<W: Sink>(bytes: &[u8], w: &mut LongWriter<W>) -> Result<u6
 /// Puts the report of the file, and answers how much is found in it.
 #[inline(never)]
 fn put_report<W: Sink>(w: &mut LongWriter<W>, file: &FileView<'_>) -> Result<u64, WriteFault>
-    requires { w.old.written + length (report (file_of file.now)) < 2 ^ 64 }
     ensures puts { PutsText W.taken W.failed w.old w.new (report (file_of file.now)) result }
     ensures count { IfOk result (λ count. count ≡ finding_count (file_of file.now)) }
 {

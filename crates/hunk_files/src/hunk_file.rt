@@ -1,5 +1,5 @@
 //! A load file or an object file, as its first longword announces.
-ghost use Rattle.std.specs.Prelude.{◌≡◌, ◌≢◌, ◌+◌, ◌^◌, ◌<◌, ◌≤◌, true, IfErr, IfOk, IsErr, length};
+ghost use Rattle.std.specs.Prelude.{◌≡◌, ◌≢◌, ◌≤◌, true, IfErr, IfOk, IsErr, length};
 ghost use Rattle.hunk_words.specs.Longs.{longs};
 ghost use Rattle.hunk_words.specs.Puts.{PutsText};
 ghost use Rattle.hunk_words.specs.declared.reason.Reason.TheVariants as reasons;
@@ -70,8 +70,7 @@ impl<'a> HunkFile<'a> {
         }
     }
 
-    /// Writes the file's text, which the writer's count has room for, without what follows the
-    /// file.
+    /// Writes the file's text, without what follows the file.
     ///
     /// It goes out by pages, and takes no memory.
     ///
@@ -81,7 +80,6 @@ impl<'a> HunkFile<'a> {
     /// of all that was ever put have gone out. Later puts write nothing and answer the same. A
     /// writer that had failed before stays as it was.
     pub fn encode<W: Sink>(&self, writer: &mut LongWriter<W>) -> Result<(), WriteFault>
-        requires { writer.old.written + length (file_bytes self.now) < 2 ^ 64 }
         ensures puts { PutsText W.taken W.failed writer.old writer.new
             (file_bytes self.now) result }
         ensures stays { writer.old.stopped ≡ true → IsErr result × (writer.new ≡ writer.old) }

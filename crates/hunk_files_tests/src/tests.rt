@@ -1,7 +1,5 @@
 //! What no clause says: places and reasons, images and texts from outside, refused memory, a sink
 //! that stops.
-ghost use Rattle.std.specs.Prelude.{◌≡◌, ◌<◌, ◌≤◌, ◌^◌, length};
-ghost use Rattle.hunk_files.specs.HunkFile.{file_bytes};
 
 mod answers;
 mod asserts;
@@ -80,23 +78,17 @@ fn object_fault(alloc: Global, bytes: &[u8]) -> Option<FileFault> {
 }
 
 /// The file of either kind that the bytes are, or begin with.
-fn either_file<'a>(rt: &impl Abort, alloc: Global, bytes: &'a [u8]) -> HunkFile<'a>
-    ensures { length (file_bytes result) < 2 ^ 64 }
-{
+fn either_file<'a>(rt: &impl Abort, alloc: Global, bytes: &'a [u8]) -> HunkFile<'a> {
     HunkFile::decode(alloc, bytes).expect(rt, "no file")
 }
 
 /// The file as `strip` leaves it.
-fn stripped(file: HunkFile<'_>) -> HunkFile<'_>
-    ensures { length (file_bytes result) ≤ length (file_bytes file.entry) }
-{
+fn stripped(file: HunkFile<'_>) -> HunkFile<'_> {
     file.strip()
 }
 
 /// What is put goes to a writer with room for this many bytes, that takes at most so many at a time, and then takes
 /// none, or fails.
-fn narrow(room: usize, way: (usize, bool)) -> LongWriter<FromWrite<Narrow>>
-    ensures { result.written ≡ 0 }
-{
+fn narrow(room: usize, way: (usize, bool)) -> LongWriter<FromWrite<Narrow>> {
     LongWriter::new(FromWrite::new(Narrow::new(room, way.0, way.1)))
 }

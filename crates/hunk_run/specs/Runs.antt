@@ -1,7 +1,7 @@
 -- What a run has done: its output is a writer that is old before it and new after it. `taken` tells the bytes that a sink has taken, and `failed` whether it has failed.
 use Rattle.std.specs.Prelude.{◌≡◌, ◌⊎◌, ◌+◌, ◌++◌, ℕ, Bool, true, false, List, Option, length, string_bytes}
 use Rattle.std.specs.Io.KnownBytes.{Consumes, IsAtEnd}
-use Rattle.hunk_words.specs.Carriers.{Writing}
+use Rattle.hunk_words.specs.Carriers.{Writing, saturated}
 use Rattle.hunk_words.specs.Longs.{bytes_of}
 use Rattle.hunk_words.specs.declared.reason.Reason.TheVariants as reasons
 use Rattle.hunk_files.specs.LoadFile.{LoadFileValue, IsLoadFile}
@@ -51,7 +51,7 @@ pub record TellsRewriting (strip : Bool) (text : List ℕ) : Type 0 where
   pub rest : ℕ
   pub output : List ℕ
   pub is_rewritten : IsRewritten strip rest input output
-  pub text_is : text ≡ wrote_line (length output) ++ left_out_line rest
+  pub text_is : text ≡ wrote_line (saturated (length output)) ++ left_out_line rest
 
 -- the output has taken what is printed of some rewriting, and nothing else
 pub record Rewrites {W : Type 0} (taken : W → Option (List ℕ)) (old new : Writing W) (strip : Bool) : Type 0 where

@@ -7,7 +7,7 @@ ghost use Rattle.hunk_commands.specs.Engine.{RefusesOnly, Writes, WritesAll};
 ghost use Rattle.hunk_commands.specs.Faults.{IsWrite};
 ghost use Rattle.hunk_commands.specs.Inputs.{HasFile, StopsAtRead, TellsReading};
 ghost use Rattle.hunk_commands.specs.Rewritten.{IsRewriting, IsRewritten};
-ghost use Rattle.hunk_run.specs.OutFile.{HasTaken};
+ghost use Rattle.hunk_run.specs.OutFile.{HasTaken, TellsCount};
 ghost use Rattle.hunk_run.specs.Runs.{TellsRewriting};
 ghost use Rattle.hunk_run.specs.Status.{PrintsOrFails};
 
@@ -61,15 +61,16 @@ fn rewrite_to<'a, R: Source, T: Files>(
 ) -> (ToFile<'a, T>, Result<Rewritten, RunFault>)
     // What OUT has taken: all of the file, or after a fault of writing the first bytes of it, and
     // after another one nothing.
-    ensures rewrites { IfOk result.1 (λ done. WritesAll (IsRewritten strip done.rest)
-        (R.left source.old) (R.left source.new) FILE_BYTES
-        (Some out.entry.taken) (Some result.0.taken) done.written) }
+    ensures rewrites { IfOk result.1 (λ done. TellsCount done.written
+        (WritesAll (IsRewritten strip done.rest) (R.left source.old) (R.left source.new) FILE_BYTES
+        (Some out.entry.taken) (Some result.0.taken))) }
     ensures kept { OnOk result.1
         (HasTaken (λ f. T.File.contents f) result.0.file result.0.taken) }
     ensures settled { OnOk result.1 (result.0.settled ≡ true) }
     ensures write { IfErr result.1 (λ fault. (written : ℕ) → fault ≡ Write written
-        → Writes (IsRewriting strip) (R.left source.old) (R.left source.new) FILE_BYTES
-        (Some out.entry.taken) (Some result.0.taken) written) }
+        → TellsCount written
+        (Writes (IsRewriting strip) (R.left source.old) (R.left source.new) FILE_BYTES
+        (Some out.entry.taken) (Some result.0.taken))) }
     ensures untouched { IfErr result.1 (λ fault. ¬ IsWrite fault → result.0 ≡ out.entry) }
     ensures tells_write { out.entry.failed ≡ false → result.0.failed ≡ true
         → IsErrAnd result.1 IsWrite }

@@ -1,5 +1,5 @@
 -- What is printed: of a text a first part has gone out, and the rest is held.
-use Rattle.std.specs.Prelude.{◌≡◌, ◌⊎◌, ℕ, ◌+◌, ◌^◌, ◌≤◌, Bool, true, false, List, [], ◌++◌, length, Option}
+use Rattle.std.specs.Prelude.{◌≡◌, ℕ, Bool, true, false, List, [], ◌++◌, Option}
 use Rattle.std.specs.Borrow.{GName, MutBor}
 use Rattle.hunk_words.specs.Carriers.{Writing}
 use Rattle.hunk_words.specs.Puts.{Puts, PutsBefore}
@@ -21,11 +21,7 @@ pub record Printing (W : Type 0) : Type 0 where
 abbrev pub Prints : {W : Type 0} → Printing W → Printing W → List ℕ → Type 0
 Prints old new bytes = (new.origin ≡ old.origin) × (new.text ≡ old.text ++ bytes)
 
--- some of the bytes are lost: they are too many to be counted, or the writer stopped within them
-abbrev pub Loses : Option (List ℕ) → Option (List ℕ) → ℕ → ℕ → Bool → List ℕ → Type 0
-Loses a b m n stopped bytes = (2 ^ 64 ≤ m + length bytes) ⊎ ((stopped ≡ true) × Puts a b m n bytes)
-
--- of the bytes a first part has gone out and the rest is held, or some are lost and none is held
+-- of the bytes a first part has gone out and the rest is held, or the writer stopped within them and none is held
 abbrev pub Sends : Bool → Option (List ℕ) → Option (List ℕ) → ℕ → ℕ → Bool → List ℕ → List ℕ → Type 0
 Sends false a b m n stopped bytes held = PutsBefore a b m n bytes held
-Sends true a b m n stopped bytes held = (held ≡ []) × Loses a b m n stopped bytes
+Sends true a b m n stopped bytes held = (held ≡ []) × (stopped ≡ true) × Puts a b m n bytes

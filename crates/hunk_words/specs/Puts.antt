@@ -1,7 +1,7 @@
 -- What a put does: the bytes that the sink has taken are known as a before it and b after it, and the number of bytes written is m and then n.
 use Rattle.std.specs.Prelude.{◌≡◌, ℕ, ◌+◌, ◌≤◌, Bool, true, List, ◌++◌, Option, Result, IfErr, OnErr, OnOk, is_err, length, take}
 use Rattle.std.specs.Io.KnownBytes.{Appends}
-use Rattle.hunk_words.specs.Carriers.{Writing}
+use Rattle.hunk_words.specs.Carriers.{Writing, saturated}
 use Rattle.hunk_words.specs.declared.long_writer.WriteFault.{WriteFault}
 
 -- as many of the first bytes have gone out as the number rose by
@@ -19,7 +19,7 @@ PutsBefore a b m n bytes rest = (front : List ℕ) × (bytes ≡ front ++ rest) 
 pub record PutsSince {W T : Type 0} (taken : W → Option (List ℕ)) (failed : W → Bool) (a : Option (List ℕ)) (had_failed : Bool) (m : ℕ) (new : Writing W) (text : List ℕ) (result : Result T WriteFault) : Type 0 where
   pub puts : Puts a (taken new.sink) m new.written text
   pub all : OnOk result (new.written ≡ m + length text)
-  pub counted : IfErr result (λ fault. fault.written ≡ new.written)
+  pub counted : IfErr result (λ fault. fault.written ≡ saturated new.written)
   pub broken : OnErr result (failed new.sink ≡ true)
   pub stops : new.stopped ≡ is_err result
   pub no_failure : OnOk result (failed new.sink ≡ had_failed)

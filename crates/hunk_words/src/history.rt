@@ -32,11 +32,13 @@ impl History {
     }
 }
 
-/// What a writer's sink had taken, where that is known, and whether it had failed.
+/// What a writer's sink had taken, where that is known, whether it had failed, and how many bytes
+/// had gone out.
 #[derive(Drop)]
 pub(crate) struct Outset {
     pub(crate) ghost taken: { Option (List ℕ) },
     pub(crate) ghost failed: { Bool },
+    pub(crate) ghost written: { ℕ },
 }
 
 impl Model for Outset {
@@ -44,10 +46,11 @@ impl Model for Outset {
 }
 
 impl Outset {
-    /// What this writer's sink has taken, and whether it has failed.
+    /// What this writer's sink has taken, whether it has failed, and how many bytes have gone out.
     pub(crate) fn of<W: Sink>(_writer: &LongWriter<W>) -> Outset
         ensures { (result.taken ≡ W.taken _writer.now.sink)
-            × (result.failed ≡ W.failed _writer.now.sink) }
+            × (result.failed ≡ W.failed _writer.now.sink)
+            × (result.written ≡ _writer.now.written) }
     {
         Outset {}
     }

@@ -1,10 +1,12 @@
 //! The writer of longwords.
-ghost use Rattle.std.specs.Prelude.{◌≡◌, ◌+◌, ◌^◌, ◌<◌, [], ◌∷◌, true, false, length, IsErr, OnOk};
+ghost use Rattle.std.specs.Prelude.{◌≡◌, ◌+◌, [], ◌∷◌, true, false, IsErr, OnOk};
 ghost use Rattle.std.specs.Prelude.{Some};
+ghost use Rattle.hunk_words.specs.Carriers.{saturated};
 ghost use Rattle.hunk_words.specs.FaultLines.{write_line};
 ghost use Rattle.hunk_words.specs.Puts.{PutsText};
 ghost use Rattle.hunk_words.specs.Longs.{bytes_of};
 
+use crate::history::History;
 use crate::sink::Sink;
 use std::error::Error;
 use std::fmt;
@@ -13,7 +15,7 @@ use std::marker::Model;
 /// Says that a put failed, and how many bytes have gone out since the writer was made.
 #[derive(Clone, Copy, Debug, PartialEq, Eq)]
 pub struct WriteFault {
-    /// The bytes that have gone out: the first of all that was put.
+    /// The bytes that have gone out: the first of all that was put. 2^64 - 1 where there are more.
     pub written: u64,
 }
 
@@ -30,23 +32,29 @@ impl Error for WriteFault {}
 /// A writer of longwords over a sink, which counts the bytes that have gone out.
 ///
 /// A failure is not retried: after a put that failed, each later put writes nothing and answers the
-/// same fault.
+/// same fault. Contracts see the number of bytes itself, which the count is up to 2^64 - 1.
 #[derive(Drop)]
 pub struct LongWriter<W: Sink> {
     sink: W,
     written: u64,
     stopped: bool,
+    history: History,
 }
 
 impl<W: Sink> Model for LongWriter<W> {
-    ghost use Rattle.std.specs.Prelude.{◌≡◌, true};
-    ghost use Rattle.hunk_words.specs.Carriers.{Writing};
+    ghost use Rattle.std.specs.Prelude.{◌≡◌, true, length};
+    ghost use Rattle.hunk_words.specs.Carriers.{Writing, saturated};
 
     ghost Value = { Writing W };
 
-    ghost view = { λ s. record { sink = s.sink; written = s.written; stopped = s.stopped } };
+    ghost view = { λ s. record {
+      sink = s.sink;
+      written = length s.history.bytes;
+      stopped = s.stopped;
+    } };
 
-    ghost invariant = { λ s. s.stopped ≡ true → W.failed s.sink ≡ true };
+    ghost invariant = { λ s. (s.stopped ≡ true → W.failed s.sink ≡ true)
+        × (s.written ≡ saturated (length s.history.bytes)) };
 }
 
 impl<W: Sink> fmt::Debug for LongWriter<W> {
@@ -69,12 +77,13 @@ impl<W: Sink> LongWriter<W> {
             sink,
             written: 0,
             stopped: false,
+            history: History::new(),
         }
     }
 
-    /// How many bytes have gone out since the writer was made.
+    /// How many bytes have gone out since the writer was made, or 2^64 - 1 where these are more.
     pub fn written(&self) -> u64
-        ensures { result ≡ self.now.written }
+        ensures { result ≡ saturated self.now.written }
     {
         self.written
     }
@@ -87,11 +96,12 @@ impl<W: Sink> LongWriter<W> {
             sink,
             written: _,
             stopped: _,
+            history: _,
         } = self;
         sink
     }
 
-    /// Writes the bytes. Fewer than 2^64 bytes may be put in all.
+    /// Writes the bytes.
     ///
     /// # Errors
     ///
@@ -99,7 +109,6 @@ impl<W: Sink> LongWriter<W> {
     /// that was ever put have gone out. Each later put writes nothing, and answers the same.
     #[tactic(auto, using(crate::proofs::PutLaws::puts_none, crate::proofs::PutLaws::puts_front))]
     pub fn put_bytes(&mut self, bytes: &[u8]) -> Result<(), WriteFault>
-        requires { self.old.written + length bytes.now < 2 ^ 64 }
         ensures puts { PutsText W.taken W.failed self.old self.new bytes.now result }
         ensures stays { self.old.stopped ≡ true → IsErr result × (self.new ≡ self.old) }
     {
@@ -112,7 +121,8 @@ impl<W: Sink> LongWriter<W> {
         while !rest.is_empty() {
             match self.sink.push(rest) {
                 Ok(n) => {
-                    self.written += n as u64;
+                    self.written = self.written.saturating_add(n as u64);
+                    self.history = self.history.and(&rest[..n]);
                     rest = &rest[n..];
                 }
                 Err(_) => {
@@ -126,14 +136,13 @@ impl<W: Sink> LongWriter<W> {
         Ok(())
     }
 
-    /// Writes the longword, high byte first. Fewer than 2^64 bytes may be put in all.
+    /// Writes the longword, high byte first.
     ///
     /// # Errors
     ///
     /// A `WriteFault`, as at `put_bytes`.
     #[tactic(auto, unfolding(crate::specs::Longs::bytes_of))]
     pub fn put_long(&mut self, word: u32) -> Result<(), WriteFault>
-        requires { self.old.written + 4 < 2 ^ 64 }
         ensures puts { PutsText W.taken W.failed self.old self.new (bytes_of (word ∷ [])) result }
         ensures written { OnOk result (self.new.written ≡ self.old.written + 4) }
         ensures stays { self.old.stopped ≡ true → IsErr result × (self.new ≡ self.old) }

@@ -1,8 +1,8 @@
 //! A page of fixed size before a writer.
-ghost use Rattle.std.specs.Prelude.{◌≡◌, ℕ, List, Option, ◌+◌, ◌^◌, ◌<◌, ◌≤◌, ◌++◌, [], ◌∷◌};
+ghost use Rattle.std.specs.Prelude.{◌≡◌, ℕ, List, Option, ◌≤◌, ◌++◌, [], ◌∷◌};
 ghost use Rattle.std.specs.Prelude.{true, false, length, not};
 ghost use Rattle.hunk_words.specs.Longs.{bytes_of};
-ghost use Rattle.hunk_words.specs.Prints.{Loses, Prints, Sends};
+ghost use Rattle.hunk_words.specs.Prints.{Prints, Sends};
 ghost use Rattle.hunk_words.specs.Puts.{PutsSince};
 
 use crate::history::{History, Outset};
@@ -24,7 +24,6 @@ pub type Printer<'a, W> = PagePrinter<'a, W, PAGE>;
 #[derive(Drop)]
 pub struct PagePrinter<'a, W: Sink, const ROOM: usize> {
     out: &'a mut LongWriter<W>,
-    start: u64,
     held: Page<ROOM>,
     lost: bool,
     outset: Outset,
@@ -43,14 +42,14 @@ impl<'a, W: Sink, const ROOM: usize> Model for PagePrinter<'a, W, ROOM> {
         name = s.out.ghost_name;
         taken = s.outset.taken;
         failed = s.outset.failed;
-        written = s.start;
+        written = s.outset.written;
       };
       text = s.history.bytes;
     } };
 
     ghost invariant = { λ s. (s.lost ≡ false → W.failed s.out.now.sink ≡ s.outset.failed)
         × Sends s.lost s.outset.taken (W.taken s.out.now.sink)
-        s.start s.out.now.written s.out.now.stopped s.history.bytes s.held };
+        s.outset.written s.out.now.written s.out.now.stopped s.history.bytes s.held };
 }
 
 impl<W: Sink, const ROOM: usize> fmt::Debug for PagePrinter<'_, W, ROOM> {
@@ -76,11 +75,9 @@ impl<'a, W: Sink, const ROOM: usize> PagePrinter<'a, W, ROOM> {
         } }
         ensures empty { result.text ≡ [] }
     {
-        let start = out.written();
         let outset = Outset::of(out);
         PagePrinter {
             out,
-            start,
             held: Page::new(),
             lost: false,
             outset,
@@ -110,7 +107,7 @@ impl<'a, W: Sink, const ROOM: usize> PagePrinter<'a, W, ROOM> {
         self.print(word.to_be_bytes().as_slice());
     }
 
-    /// Sends what is still held. Fewer than 2^64 bytes may be printed and put in all.
+    /// Sends what is still held.
     ///
     /// # Errors
     ///
@@ -118,14 +115,12 @@ impl<'a, W: Sink, const ROOM: usize> PagePrinter<'a, W, ROOM> {
     /// that was ever put have gone out.
     #[tactic(auto, using(crate::proofs::PrintLaws::flushing))]
     pub fn flush(&mut self) -> Result<(), WriteFault>
-        requires { self.old.origin.written + length self.old.text < 2 ^ 64 }
         ensures prints_nothing { Prints self.old self.new [] }
         ensures same_reference { self.new.out.ghost_name ≡ self.old.origin.name }
         ensures puts { PutsSince W.taken W.failed
             self.old.origin.taken self.old.origin.failed self.old.origin.written
             self.new.out.now self.old.text result }
     {
-        let _sent = self.out.written();
         let result = self.out.put_bytes(self.held.as_slice());
         self.held.clear();
         self.lost = result.is_err();
@@ -159,14 +154,11 @@ fn send_on<W: Sink, const ROOM: usize>(
     sent && (held.append(bytes) || send(out, bytes))
 }
 
-/// Puts the bytes, unless they are too many to be counted. Answers whether all have gone out.
+/// Puts the bytes. Answers whether all have gone out.
 fn send<W: Sink>(out: &mut LongWriter<W>, bytes: &[u8]) -> bool
     ensures sends { Sends (not result) (W.taken out.old.sink) (W.taken out.new.sink)
         out.old.written out.new.written out.new.stopped bytes.now [] }
     ensures no_failure { result ≡ true → W.failed out.new.sink ≡ W.failed out.old.sink }
 {
-    if u64::MAX - out.written() < bytes.len() as u64 {
-        return false;
-    }
     out.put_bytes(bytes).is_ok()
 }

@@ -26,7 +26,6 @@ fn expect_cut_short(rt: &impl Abort, alloc: Global, bytes: &[u8]) {
 /// What is written of the block.
 pub(super) fn written_of(rt: &impl Abort, alloc: Global, block: &Block<'_>) -> Vec<u8> {
     let mut writer = LongWriter::new(FromWrite::new(Vec::<u8>::new(alloc)));
-    assert!(rt; block.encoded_len() < 1000);
     assert_equal(rt, block.encode(&mut writer), Ok(()));
     writer.into_inner().into_inner()
 }
@@ -59,14 +58,11 @@ fn what_was_read(rt: HostRuntime) -> Result<(), Fail> {
 
 /// What putting the block answers, how many bytes have gone out then, and what a further put answers.
 fn answers(
-    rt: &impl Abort,
     writer: &mut LongWriter<FromWrite<Narrow>>,
     block: &Block<'_>,
 ) -> (Result<(), WriteFault>, u64, Result<(), WriteFault>) {
-    assert!(rt; block.encoded_len() < 1000 && writer.written() < 1000);
     let encoded = block.encode(writer);
     let written = writer.written();
-    assert!(rt; written < 1000);
     (encoded, written, writer.put_long(1))
 }
 
@@ -76,7 +72,7 @@ fn expect_stop(rt: &impl Abort, block: &Block<'_>, text: &[u8], room: usize, tak
     let written = room as u64;
     let fault = Err(WriteFault { written });
     let mut writer = LongWriter::new(FromWrite::new(Narrow::new(room, WIDTH, takes_none)));
-    assert_equal(rt, answers(rt, &mut writer, block), (fault, written, fault));
+    assert_equal(rt, answers(&mut writer, block), (fault, written, fault));
     let narrow = writer.into_inner().into_inner();
     assert!(rt; room <= text.len());
     assert_equal(rt, narrow.taken(), &text[..room]);

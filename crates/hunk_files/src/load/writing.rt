@@ -1,5 +1,5 @@
 //! Writing load files.
-ghost use Rattle.std.specs.Prelude.{◌≡◌, ◌+◌, ◌^◌, ◌<◌, ◌≤◌, true, length, IsErr};
+ghost use Rattle.std.specs.Prelude.{◌≡◌, ◌<◌, ◌≤◌, true, length, IsErr};
 ghost use Rattle.std.specs.List.{flat_map};
 ghost use Rattle.hunk_words.specs.Limits.{most_hunks};
 ghost use Rattle.hunk_words.specs.Longs.{bytes_of};
@@ -24,8 +24,7 @@ impl LoadFile<'_> {
         print_behind(page, &self.hunks);
     }
 
-    /// Writes the file's text, which the writer's count has room for: the bytes that it was decoded
-    /// from, where it was not stripped.
+    /// Writes the file's text: the bytes that it was decoded from, where it was not stripped.
     ///
     /// It goes out by pages, and takes no memory.
     ///
@@ -35,7 +34,6 @@ impl LoadFile<'_> {
     /// bytes of all that was ever put have gone out. Later puts write nothing and answer the same.
     /// A writer that had failed before stays as it was.
     pub fn encode<W: Sink>(&self, writer: &mut LongWriter<W>) -> Result<(), WriteFault>
-        requires { writer.old.written + length (bytes_of (text self.now)) < 2 ^ 64 }
         ensures puts { PutsText W.taken W.failed writer.old writer.new
             (bytes_of (text self.now)) result }
         ensures stays { writer.old.stopped ≡ true → IsErr result × (writer.new ≡ writer.old) }
@@ -47,7 +45,6 @@ impl LoadFile<'_> {
 
 /// Puts the file's text through a page.
 fn put_file<W: Sink>(writer: &mut LongWriter<W>, file: &LoadFile<'_>) -> Result<(), WriteFault>
-    requires { writer.old.written + length (bytes_of (text file.now)) < 2 ^ 64 }
     ensures { PutsText W.taken W.failed writer.old writer.new (bytes_of (text file.now)) result }
 {
     let mut page = Printer::new(writer);

@@ -1,5 +1,5 @@
 //! Writing an object file.
-ghost use Rattle.std.specs.Prelude.{◌≡◌, ◌+◌, ◌^◌, ◌<◌, true, IsErr, length};
+ghost use Rattle.std.specs.Prelude.{◌≡◌, true, IsErr};
 ghost use Rattle.std.specs.List.{flat_map};
 ghost use Rattle.hunk_words.specs.Limits.{name_limit};
 ghost use Rattle.hunk_words.specs.Longs.{bytes_of, longs};
@@ -54,7 +54,6 @@ fn print_units<W: Sink>(page: &mut Printer<'_, W>, units: &[Unit<'_>])
 
 /// Puts the text of these units through a page.
 fn put_units<W: Sink>(writer: &mut LongWriter<W>, units: &[Unit<'_>]) -> Result<(), WriteFault>
-    requires { writer.old.written + length (bytes_of (object_text units.now)) < 2 ^ 64 }
     ensures { PutsText W.taken W.failed writer.old writer.new
         (bytes_of (object_text units.now)) result }
 {
@@ -66,7 +65,7 @@ fn put_units<W: Sink>(writer: &mut LongWriter<W>, units: &[Unit<'_>]) -> Result<
 }
 
 impl ObjectFile<'_> {
-    /// Writes the file's text, which the writer's count has room for.
+    /// Writes the file's text.
     ///
     /// It goes out by pages, and takes no memory.
     ///
@@ -76,7 +75,6 @@ impl ObjectFile<'_> {
     /// bytes of all that was ever put have gone out. Later puts write nothing and answer the same.
     /// A writer that had failed before stays as it was.
     pub fn encode<W: Sink>(&self, writer: &mut LongWriter<W>) -> Result<(), WriteFault>
-        requires { writer.old.written + length (bytes_of (object_text self.now)) < 2 ^ 64 }
         ensures puts { PutsText W.taken W.failed writer.old writer.new
             (bytes_of (object_text self.now)) result }
         ensures stays { writer.old.stopped ≡ true → IsErr result × (writer.new ≡ writer.old) }

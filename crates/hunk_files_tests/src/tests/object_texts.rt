@@ -1,5 +1,4 @@
 //! Object files that are written again, whole and stripped.
-ghost use Rattle.std.specs.Prelude.{◌≡◌};
 
 use crate::tests::asserts::assert_equal;
 use crate::tests::object_file;
@@ -31,17 +30,11 @@ pub(super) const TEXTS: &[(&str, &str)] = &[
     ),
 ];
 
-fn no_bytes(alloc: Global) -> LongWriter<FromWrite<Vec<u8>>>
-    ensures { result.written ≡ 0 }
-{
-    LongWriter::new(FromWrite::new(Vec::new(alloc)))
-}
-
 /// What is written of the file that the bytes are, stripped first where that is asked, and the number of its bytes.
 fn rewritten(alloc: Global, bytes: &[u8], strip: bool) -> Result<(u64, Vec<u8>), Fail> {
     let file = ObjectFile::decode(alloc, bytes)?;
     let file = if strip { file.strip() } else { file };
-    let mut writer = no_bytes(alloc);
+    let mut writer = LongWriter::new(FromWrite::new(Vec::<u8>::new(alloc)));
     file.encode(&mut writer)?;
     Ok((writer.written(), writer.into_inner().into_inner()))
 }

@@ -1,5 +1,5 @@
 //! A text that is longer than its page, to writers that stop after each number of bytes.
-ghost use Rattle.std.specs.Prelude.{◌≡◌, ◌≤◌};
+ghost use Rattle.std.specs.Prelude.{◌≤◌};
 
 use crate::tests::asserts::assert_equal;
 use hunk_testing::Narrow;
@@ -12,8 +12,7 @@ const TEXT: &[u8] = b"0123456789abcdefghi";
 
 /// Prints the text through a page of 8 bytes, in two pieces, the first of `cut` bytes.
 fn print_by_8<W: Sink>(out: &mut LongWriter<W>, cut: usize) -> Result<(), WriteFault>
-    requires unwritten { out.old.written ≡ 0 }
-    requires inside { cut ≤ 19 }
+    requires { cut ≤ 19 }
 {
     let mut page: PagePrinter<'_, W, 8> = PagePrinter::new(out);
     page.print(&TEXT[..cut]);
@@ -23,8 +22,7 @@ fn print_by_8<W: Sink>(out: &mut LongWriter<W>, cut: usize) -> Result<(), WriteF
 
 /// The same through a page of 16 bytes.
 fn print_by_16<W: Sink>(out: &mut LongWriter<W>, cut: usize) -> Result<(), WriteFault>
-    requires unwritten { out.old.written ≡ 0 }
-    requires inside { cut ≤ 19 }
+    requires { cut ≤ 19 }
 {
     let mut page: PagePrinter<'_, W, 16> = PagePrinter::new(out);
     page.print(&TEXT[..cut]);
@@ -34,8 +32,7 @@ fn print_by_16<W: Sink>(out: &mut LongWriter<W>, cut: usize) -> Result<(), Write
 
 /// The same through the wider page of the two, or the other.
 fn print_text<W: Sink>(wide: bool, out: &mut LongWriter<W>, cut: usize) -> Result<(), WriteFault>
-    requires unwritten { out.old.written ≡ 0 }
-    requires inside { cut ≤ 19 }
+    requires { cut ≤ 19 }
 {
     if wide {
         print_by_16(out, cut)

@@ -16,7 +16,6 @@ use Rattle.hunk_listing.specs.SegmentLines.{segment_listing}
 use Rattle.hunk_scatter.specs.Placing.{packed_from}
 use Rattle.hunk_commands.specs.Relocating.{LacksMemory, ReadsShort, image_listing, segments_of}
 use Rattle.hunk_commands.proofs.Engines.{handed}
-use Rattle.hunk_commands.proofs.ListingLengths.{image_listing_fits}
 use Rattle.hunk_commands.proofs.relocating.relocate.Goals as goal
 
 -- the refusal of an input is the load's
@@ -148,8 +147,3 @@ returns-clause-relocates g c =
       },
       omega (arith, c.in_ok-put_listing.ensures.all, c.requires),
     )
-
-pub put_listing-requires : goal.put_listing-requires
-put_listing-requires g c =
-    let loaded = c.in_ok-image.ensures.loaded in
-    omega (arith, c.requires, image_listing_fits loaded.0 c.in_ok-image.image c.bytes-bytes.result loaded.1.is_load_file loaded.1.table_is c.bytes-bytes.ensures.declared c.bytes-bytes.ensures.sum)

@@ -8,7 +8,7 @@ use Rattle.hunk_commands.proofs.rewriting.rewrite.Goals as goal
 pub returns-clause-rewrites : goal.returns-clause-rewrites
 returns-clause-rewrites g c =
     all_of_input _ _ c.args.file_bytes c.in_ok-input.input.items c.as_slice.result.now c.in_ok-input.ensures.reads c.as_slice.ensures.value
-    (λ (done : Rewritten) (input : List ℕ). PutsAll (IsRewritten c.args.strip done.rest input) (g.W.Sink.taken c.args.w.now.sink) (g.W.Sink.taken c.rewrite_bytes.new.w.sink) done.written) c.rewrite_bytes.result c.rewrite_bytes.ensures.rewrites
+    (λ (done : Rewritten) (input : List ℕ). PutsAll (IsRewritten c.args.strip done.rest input) (g.W.Sink.taken c.args.w.now.sink) (g.W.Sink.taken c.rewrite_bytes.new.w.sink) c.rewrite_bytes.new.w.written) c.rewrite_bytes.result c.rewrite_bytes.ensures.rewrites
 
 pub returns-clause-write : goal.returns-clause-write
 returns-clause-write g c =

@@ -2,7 +2,7 @@ use Rattle.std.proofs.Common.{ℕ, sym, subst}
 use Rattle.std.proofs.lemmas.Result.{err_from_is_err_and}
 use Rattle.hunk_files.specs.FileView.{file_of}
 use Rattle.hunk_files.specs.HunkFile.{bytes_behind, file_bytes}
-use Rattle.hunk_commands.specs.Engine.{PutsAll, PutsFirst}
+use Rattle.hunk_commands.specs.Engine.{PutsFirst}
 use Rattle.hunk_commands.specs.Rewritten.{IsRewriting, IsRewritten, stripped_where}
 use Rattle.hunk_commands.proofs.RewriteLaws.{rewritten}
 use Rattle.hunk_commands.proofs.Engines.{puts_all, puts_first, refuses, written_first}
@@ -32,6 +32,5 @@ returns-clause-rewrites g c =
     let before = g.W.Sink.taken c.args.w.now.sink in
     let after = g.W.Sink.taken c.put_file.new.w.sink in
     let is = subst (λ (n : ℕ). IsRewritten c.args.strip n bytes text) (sym c.rest-rest.ensures) (rewritten c.args.strip bytes file c.in_ok-file.ensures.file) in
-    subst (λ (n : ℕ). PutsAll (IsRewritten c.args.strip c.rest-rest.result bytes) before after n) (sym c.written.ensures)
-    (puts_all (IsRewritten c.args.strip c.rest-rest.result bytes) before after c.args.w.now.written c.put_file.new.w.written text is
-    c.requires c.in_ok-put_file.ensures.puts c.in_ok-put_file.ensures.all)
+    puts_all (IsRewritten c.args.strip c.rest-rest.result bytes) before after c.args.w.now.written c.put_file.new.w.written text is
+    c.requires c.in_ok-put_file.ensures.puts c.in_ok-put_file.ensures.all

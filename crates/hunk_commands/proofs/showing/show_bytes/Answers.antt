@@ -1,11 +1,9 @@
-use Rattle.std.proofs.Common.{arith}
 use Rattle.std.proofs.lemmas.Result.{err_from_is_err_and}
 use Rattle.hunk_files.specs.FileView.{file_of}
 use Rattle.hunk_commands.specs.Engine.{PutsFirst}
 use Rattle.hunk_commands.specs.Shown.{IsShown, file_listing}
 use Rattle.hunk_commands.proofs.FileLaws.{shown_file}
 use Rattle.hunk_commands.proofs.Engines.{puts_all, puts_first, refuses, written_first}
-use Rattle.hunk_commands.proofs.ListingLengths.{file_listing_fits}
 use Rattle.hunk_commands.proofs.showing.show_bytes.Goals as goal
 
 pub returns-in_err-file-clause-puts_or_refuses : goal.returns-in_err-file-clause-puts_or_refuses
@@ -22,15 +20,11 @@ returns-in_err-put_listing-clause-write g c =
     written_first (PutsFirst (IsShown bytes) before after) c.from_residual-in_err-put_listing.result c.in_err-put_listing.field-0.0.written c.put_listing.new.w.written
     (err_from_is_err_and c.from_residual-in_err-put_listing.result c.from_residual-in_err-put_listing.ensures.1) c.in_err-put_listing.ensures.counted
     (puts_first (IsShown bytes) before after c.args.w.now.written c.put_listing.new.w.written (file_listing file) (shown_file bytes file c.in_ok-file.ensures.file)
-    c.requires.unwritten c.in_err-put_listing.ensures.puts)
+    c.requires c.in_err-put_listing.ensures.puts)
 
 pub returns-clause-shows : goal.returns-clause-shows
 returns-clause-shows g c =
     let bytes = c.args.bytes.now in
     let file = file_of c.in_ok-file.file in
     puts_all (IsShown bytes) (g.W.Sink.taken c.args.w.now.sink) (g.W.Sink.taken c.put_listing.new.w.sink) c.args.w.now.written c.put_listing.new.w.written
-    (file_listing file) (shown_file bytes file c.in_ok-file.ensures.file) c.requires.unwritten c.in_ok-put_listing.ensures.puts c.in_ok-put_listing.ensures.all
-
-pub put_listing-requires : goal.put_listing-requires
-put_listing-requires g c =
-    omega (arith, c.requires.unwritten, file_listing_fits c.args.bytes.now (file_of c.in_ok-file.file) c.in_ok-file.ensures.file c.requires.few)
+    (file_listing file) (shown_file bytes file c.in_ok-file.ensures.file) c.requires c.in_ok-put_listing.ensures.puts c.in_ok-put_listing.ensures.all

@@ -1,4 +1,4 @@
-use Rattle.std.proofs.Common.{ℕ, sym, subst, arith}
+use Rattle.std.proofs.Common.{ℕ, sym, subst}
 use Rattle.std.proofs.lemmas.Result.{err_from_is_err_and}
 use Rattle.hunk_files.specs.FileView.{file_of}
 use Rattle.hunk_commands.specs.Engine.{PutsAll, PutsFirst}
@@ -6,7 +6,6 @@ use Rattle.hunk_commands.specs.Reports.{finding_count, report}
 use Rattle.hunk_commands.specs.Validated.{IsReport, IsValidated}
 use Rattle.hunk_commands.proofs.FileLaws.{validated_file}
 use Rattle.hunk_commands.proofs.Engines.{puts_all, puts_first, refuses, written_first}
-use Rattle.hunk_commands.proofs.ListingLengths.{report_fits}
 use Rattle.hunk_commands.proofs.validating.validate_bytes.Goals as goal
 
 pub returns-in_err-file-clause-puts_or_refuses : goal.returns-in_err-file-clause-puts_or_refuses
@@ -23,7 +22,7 @@ returns-in_err-count-clause-write g c =
     written_first (PutsFirst (IsReport bytes) before after) c.from_residual-in_err-count.result c.in_err-count.field-0.0.written c.put_report.new.w.written
     (err_from_is_err_and c.from_residual-in_err-count.result c.from_residual-in_err-count.ensures.1) c.in_err-count.ensures.puts.counted
     (puts_first (IsReport bytes) before after c.args.w.now.written c.put_report.new.w.written (report file) (finding_count file, validated_file bytes file c.in_ok-file.ensures.file)
-    c.requires.unwritten c.in_err-count.ensures.puts.puts)
+    c.requires c.in_err-count.ensures.puts.puts)
 
 pub returns-clause-validates : goal.returns-clause-validates
 returns-clause-validates g c =
@@ -33,8 +32,4 @@ returns-clause-validates g c =
     let after = g.W.Sink.taken c.put_report.new.w.sink in
     subst (λ (n : ℕ). PutsAll (IsValidated n bytes) before after c.put_report.new.w.written) (sym c.in_ok-count.ensures.count)
     (puts_all (IsValidated (finding_count file) bytes) before after c.args.w.now.written c.put_report.new.w.written
-    (report file) (validated_file bytes file c.in_ok-file.ensures.file) c.requires.unwritten c.in_ok-count.ensures.puts.puts c.in_ok-count.ensures.puts.all)
-
-pub put_report-requires : goal.put_report-requires
-put_report-requires g c =
-    omega (arith, c.requires.unwritten, report_fits c.args.bytes.now (file_of c.in_ok-file.file) c.in_ok-file.ensures.file c.requires.few)
+    (report file) (validated_file bytes file c.in_ok-file.ensures.file) c.requires c.in_ok-count.ensures.puts.puts c.in_ok-count.ensures.puts.all)

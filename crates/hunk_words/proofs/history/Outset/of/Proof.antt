@@ -35,12 +35,12 @@ of_spec 𝓤 𝓛 𝓜 𝓡 wired W L Z d met =
     (λ κs. (shr_vals, tt)) (λ κs. (shr_Tells (named 0) κs.0 R, tt))
     (λ κs qs bounds a m are.
     let y : V.Ghost = ((κs, qs, bounds, a, (shr_vals a.0, tt)), m) in
-    let h : (made.the_row).Denot = record { taken = Z.taken a.0.now.sink; failed = Z.failed a.0.now.sink } in
+    let h : (made.the_row).Denot = record { taken = Z.taken a.0.now.sink; failed = Z.failed a.0.now.sink; written = a.0.now.written } in
     qed 𝓛 ((raw (alive 𝓛 En.signature κs qs) ⊛ ‵ (owns (types_at En.signature.params κs) a y.0.4)) ∷ raw ((c κs a).requires m) ∷ []) ∵
     split ! $ keep ! (0 ∷ 1 ∷ []) $
     enter ! _ _ _ _ _ $ alloc_all ! (λ l. pass_all ! refl ((tt, tt), tt) $
     sets ! (agg ! (no_more !)) refl (tt, tt) $
     returns ! (look_at ! 0 refl) $ free_all ! refl $
-    suffices ! _ (ends_at 𝓛 En stayed c y (vstruct vnil) h (tt, tt) (tt, tt)) $ says ! (refl, refl) $
+    suffices ! _ (ends_at 𝓛 En stayed c y (vstruct vnil) h (tt, tt) (tt, tt)) $ says ! (refl, refl, refl) $
     pure_i ! ((made.the_row).own_val h (vstruct vnil ∷ [])) ((λ vss. (tt, tt)), tt) ((tt, (refl, tt)), tt) $
     move ! (1 ∷ 2 ∷ 0 ∷ []) $ done !))

@@ -1,4 +1,5 @@
 use Rattle.std.proofs.Common.{◌≡◌, length, false}
+use Rattle.hunk_words.specs.Carriers.{saturated}
 use Rattle.hunk_words.specs.Puts.{PutsBefore}
 use Rattle.hunk_words.proofs.long_writer.LongWriter.put_bytes.Given as goal
 
@@ -6,7 +7,8 @@ abbrev pub invariant-loop-rest : goal.invariant-loop-rest
 invariant-loop-rest g l =
     (l.self-inside.stopped ≡ false)
     × (g.W.Sink.failed l.self-inside.sink ≡ g.W.Sink.failed l.fn.self.sink)
-    × PutsBefore (g.W.Sink.taken l.fn.self.sink) (g.W.Sink.taken l.self-inside.sink) l.fn.self.written l.self-inside.written l.bytes l.rest
+    × (l.self-inside.written ≡ saturated (length l.self-inside.history.bytes))
+    × PutsBefore (g.W.Sink.taken l.fn.self.sink) (g.W.Sink.taken l.self-inside.sink) l.fn.self.written (length l.self-inside.history.bytes) l.bytes l.rest
 
 abbrev pub decreases-loop-rest : goal.decreases-loop-rest
 decreases-loop-rest g l = length l.rest
