@@ -1,14 +1,13 @@
 -- How what is printed follows what was printed.
 use Rattle.std.proofs.Common.{◌≡◌, ℕ, ◌+◌, ◌≤◌, Bool, true, false, List, [], ◌++◌, Option, length, refl, sym, ap, subst, ◌∙◌, append_assoc, append-nil, length-append, arith}
-use Rattle.std.specs.Prelude.{Result, Ok, Err, IsErr, OnOk, is_err, not}
+use Rattle.std.specs.Prelude.{Result, Ok, Err, IfErr, IsErr, OnErr, OnOk, is_err}
 use Rattle.std.proofs.lemmas.List.{take_all}
-use Rattle.std.proofs.KnownBytes.{Appends-trans}
 use Rattle.std.specs.Io.KnownBytes.{Appends}
-use Rattle.hunk_words.specs.Carriers.{Writing}
+use Rattle.hunk_words.specs.Carriers.{Writing, saturated}
 use Rattle.hunk_words.specs.declared.long_writer.WriteFault.{WriteFault}
-use Rattle.hunk_words.specs.Prints.{Printing, Sends}
-use Rattle.hunk_words.specs.Puts.{Puts, PutsBefore}
-use Rattle.hunk_words.proofs.PutLaws.{puts_more_after}
+use Rattle.hunk_words.specs.Prints.{Printing, Sends, SendsBy}
+use Rattle.hunk_words.specs.Puts.{Puts, PutsBefore, PutsSince, PutsText}
+use Rattle.hunk_words.proofs.PutLaws.{puts_front, puts_more_after, puts_part}
 
 -- all of the front has gone out
 puts_all : (a b : Option (List ℕ)) (m n : ℕ) (front : List ℕ) → n ≡ m + length front → Appends a b front → Puts a b m n front
@@ -20,108 +19,81 @@ puts_behind : (a b c : Option (List ℕ)) (m n o : ℕ) (bytes rest : List ℕ) 
 puts_behind a b c m n o bytes rest (front, split, rose, gone) more =
     subst (Puts a c m o) (sym split) (puts_more_after a b c m n o front rest (puts_all a b m n front rose gone) rose more)
 
--- more bytes behind those that are held
-sends_more : (lost : Bool) (a b c : Option (List ℕ)) (m n o : ℕ) (before after : Bool) (text held bytes rest : List ℕ) →
-    Sends false a b m n before text held → Sends lost b c n o after (held ++ bytes) rest → Sends lost a c m o after (text ++ bytes) rest
-sends_more false a b c m n o before after text held bytes rest (front, split, rose, gone) (front', split', rose', gone') = (
-  front ++ front',
-  ap (λ xs. xs ++ bytes) split ∙ append_assoc front held bytes ∙ ap (λ xs. front ++ xs) split' ∙ sym (append_assoc front front' rest),
-  omega (arith, rose, rose', length-append front front'),
-  Appends-trans a b c front front' gone gone',
-)
-sends_more true a b c m n o before after text held bytes rest (front, split, rose, gone) (none, stops, puts) =
-    let all : text ++ bytes ≡ front ++ (held ++ bytes) = ap (λ xs. xs ++ bytes) split ∙ append_assoc front held bytes in
-    (none, stops, puts_behind a b c m n o (text ++ bytes) (held ++ bytes) (front, all, rose, gone) puts)
+module _ {W : Type 0} (taken : W → Option (List ℕ)) (failed : W → Bool) (a : Option (List ℕ)) (had : Bool) (m : ℕ) where
+  -- more bytes are held
+  pub holds_more : (out : Writing W) (text held bytes whole page : List ℕ) → Sends taken failed a had m out text held → whole ≡ text ++ bytes → page ≡ held ++ bytes → Sends taken failed a had m out whole page
+  holds_more out text held bytes whole page sends is page_is = go out.stopped sends
+    where
+      go : (stopped : Bool) → SendsBy stopped a (taken out.sink) had (failed out.sink) m out.written text held → SendsBy stopped a (taken out.sink) had (failed out.sink) m out.written whole page
+      go false ((front, split, rose, gone), same) =
+          ((front, is ∙ ap (λ xs. xs ++ bytes) split ∙ append_assoc front held bytes ∙ ap (λ xs. front ++ xs) (sym page_is), rose, gone), same)
+      go true (few, puts) = (
+        omega (arith, few, ap length is, ap length page_is, length-append text bytes, length-append held bytes),
+        subst (Puts a (taken out.sink) m out.written) (sym is) (puts_part a (taken out.sink) m out.written text bytes puts),
+      )
 
--- what is held is a part of what was printed
-pub held_most : (lost : Bool) (a b : Option (List ℕ)) (m n : ℕ) (stopped : Bool) (text held : List ℕ) → Sends lost a b m n stopped text held → length held ≤ length text
-held_most false a b m n stopped text held (front, split, rose, gone) = omega (arith, ap length split, length-append front held)
-held_most true a b m n stopped text held (none, stops, puts) = omega (arith, ap length none)
+  -- what is held is a part of what was printed
+  pub held_most : (out : Writing W) (text held : List ℕ) → Sends taken failed a had m out text held → length held ≤ length text
+  held_most out text held sends = go out.stopped sends
+    where
+      go : (stopped : Bool) → SendsBy stopped a (taken out.sink) had (failed out.sink) m out.written text held → length held ≤ length text
+      go false ((front, split, rose, gone), same) = omega (arith, ap length split, length-append front held)
+      go true (few, puts) = few
 
--- all that was held has gone out, and so have the bytes behind it, or they are lost
-pub sent_behind : (sent all : Bool) (a b c : Option (List ℕ)) (m n o : ℕ) (before after : Bool) (held bytes page : List ℕ) →
-    sent ≡ true → Sends (not sent) a b m n before held [] → Sends (not all) b c n o after bytes [] → page ≡ [] → Sends (not all) a c m o after (held ++ bytes) page
-sent_behind sent all a b c m n o before after held bytes page done first then none =
-    let k = subst (λ (is : Bool). Sends (not is) a b m n before held []) done first in
-    subst (λ (xs : List ℕ). Sends (not all) a c m o after (held ++ bytes) xs) (sym none) (sends_more (not all) a b c m n o before after held [] bytes [] k then)
-
--- bytes that had no room on the page were sent on
-pub printed : (lost all : Bool) (first a b : Option (List ℕ)) (start m n : ℕ) (before after : Bool) (text held page bytes whole rest : List ℕ) →
-    lost ≡ false → Sends lost first a start m before text held → page ≡ held → Sends (not all) a b m n after (page ++ bytes) rest → whole ≡ text ++ bytes → Sends (not all) first b start n after whole rest
-printed lost all first a b start m n before after text held page bytes whole rest open_ so_far same then is =
-    let k = subst (λ (l : Bool). Sends l first a start m before text held) open_ so_far in
-    let more = subst (λ (xs : List ℕ). Sends (not all) a b m n after (xs ++ bytes) rest) same then in
-    subst (λ (xs : List ℕ). Sends (not all) first b start n after xs rest) (sym is) (sends_more (not all) first a b start m n before after text held bytes rest k more)
-
-module _ {W T : Type 0} (taken : W → Option (List ℕ)) (old new : Writing W) (r : Result T WriteFault) where
   -- what is held is put
-  flush_puts : (lost : Bool) (first : Option (List ℕ)) (start : ℕ) (text held : List ℕ) →
-      Sends lost first (taken old.sink) start old.written old.stopped text held →
-      Puts (taken old.sink) (taken new.sink) old.written new.written held → (old.stopped ≡ true → IsErr r × (new ≡ old)) →
-      Puts first (taken new.sink) start new.written text
-  flush_puts false first start text held sends puts stays = puts_behind first (taken old.sink) (taken new.sink) start old.written new.written text held sends puts
-  flush_puts true first start text held (none, stopped, sent) puts stays = subst (λ (w : Writing W). Puts first (taken w.sink) start w.written text) (sym (stays stopped).1) sent
+  module _ {T : Type 0} (old new : Writing W) (r : Result T WriteFault) (text held : List ℕ) (sends : Sends taken failed a had m old text held)
+      (puts : PutsText taken failed old new held r) (stays : old.stopped ≡ true → IsErr r × (new ≡ old)) where
+    put_open : (s : Result T WriteFault) → r ≡ s → PutsBefore a (taken old.sink) m old.written text held → failed old.sink ≡ had →
+        SendsBy (is_err s) a (taken new.sink) had (failed new.sink) m new.written text []
+    put_open (Ok x) is before same =
+        let all : new.written ≡ old.written + length held = subst (λ (s : Result T WriteFault). OnOk s (new.written ≡ old.written + length held)) is puts.all in
+        let sent = puts_behind a (taken old.sink) (taken new.sink) m old.written new.written text held before puts.puts in
+        let rose : new.written ≡ m + length text = omega (arith, all, before.2, ap length before.1, length-append before.0 held) in (
+          (text, sym (append-nil text), rose, subst (Appends a (taken new.sink)) (take_all sent.count text (omega (arith, rose, sent.rose))) sent.gone),
+          subst (λ (s : Result T WriteFault). OnOk s (failed new.sink ≡ failed old.sink)) is puts.no_failure ∙ same,
+        )
+    put_open (Err e) is before same = (omega arith, puts_behind a (taken old.sink) (taken new.sink) m old.written new.written text held before puts.puts)
 
-  counted : (lost : Bool) (first : Option (List ℕ)) (start : ℕ) (text held : List ℕ) →
-      Sends lost first (taken old.sink) start old.written old.stopped text held → (old.stopped ≡ true → ⊥) → start + length text ≡ old.written + length held
-  counted false first start text held (front, split, rose, gone) open_ = omega (arith, rose, ap length split, length-append front held)
-  counted true first start text held (none, stopped, sent) open_ = absurd (open_ stopped)
+    pub put_held : Sends taken failed a had m new text []
+    put_held = go old.stopped refl sends
+      where
+        go : (stopped : Bool) → old.stopped ≡ stopped → SendsBy stopped a (taken old.sink) had (failed old.sink) m old.written text held → Sends taken failed a had m new text []
+        go false open_ (before, same) = subst (λ (b : Bool). SendsBy b a (taken new.sink) had (failed new.sink) m new.written text []) (sym puts.stops) (put_open r refl before same)
+        go true stopped (few, sent) =
+            subst (λ (w : Writing W). Sends taken failed a had m w text []) (sym (stays stopped).1)
+            (subst (λ (b : Bool). SendsBy b a (taken old.sink) had (failed old.sink) m old.written text []) (sym stopped) (omega arith, sent))
 
-  -- after that nothing is held, and some is lost where the put failed
-  flush_sends : (lost : Bool) (first : Option (List ℕ)) (start : ℕ) (text held : List ℕ) →
-      Sends lost first (taken old.sink) start old.written old.stopped text held →
-      Puts (taken old.sink) (taken new.sink) old.written new.written held → OnOk r (new.written ≡ old.written + length held) → new.stopped ≡ is_err r →
-      (old.stopped ≡ true → IsErr r × (new ≡ old)) → Sends (is_err r) first (taken new.sink) start new.written new.stopped text []
-  flush_sends lost first start text held sends puts whole stops stays = go r refl
-    where
-      sent : Puts first (taken new.sink) start new.written text
-      sent = flush_puts lost first start text held sends puts stays
+    -- so all of the text was put, or its first bytes
+    puts_since : PutsSince taken failed a had m new text r
+    puts_since = go r refl
+      where
+        sent : (s : Result T WriteFault) → r ≡ s → SendsBy (is_err s) a (taken new.sink) had (failed new.sink) m new.written text []
+        sent s is = subst (λ (b : Bool). SendsBy b a (taken new.sink) had (failed new.sink) m new.written text []) (puts.stops ∙ ap is_err is) put_held
 
-      go : (s : Result T WriteFault) → r ≡ s → Sends (is_err s) first (taken new.sink) start new.written new.stopped text []
-      go (Ok x) is =
-          let all : new.written ≡ old.written + length held = subst (λ (s : Result T WriteFault). OnOk s (new.written ≡ old.written + length held)) is whole in
-          let open_ : old.stopped ≡ true → ⊥ = λ stopped. let e : false ≡ true = subst IsErr is (stays stopped).0 in absurd cc in
-          let rose : new.written ≡ start + length text = omega (arith, all, counted lost first start text held sends open_) in
-          (text, sym (append-nil text), rose, subst (Appends first (taken new.sink)) (take_all sent.count text (omega (arith, rose, sent.rose))) sent.gone)
-      go (Err e) is = (refl, stops ∙ ap is_err is, sent)
+        go : (s : Result T WriteFault) → r ≡ s → PutsSince taken failed a had m new text s
+        go (Ok x) is =
+            let all = sent (Ok x) is in
+            record {
+              puts = puts_front a (taken new.sink) m new.written text [] all.0;
+              all = omega (arith, all.0.2, ap length all.0.1, length-append all.0.0 []);
+              counted = tt;
+              broken = tt;
+              stops = puts.stops ∙ ap is_err is;
+              no_failure = all.1;
+            }
+        go (Err e) is = record {
+          puts = (sent (Err e) is).1;
+          all = tt;
+          counted = subst (λ (s : Result T WriteFault). IfErr s (λ fault. fault.written ≡ saturated new.written)) is puts.counted;
+          broken = subst (λ (s : Result T WriteFault). OnErr s (failed new.sink ≡ true)) is puts.broken;
+          stops = puts.stops ∙ ap is_err is;
+          no_failure = tt;
+        }
 
-  went_well : (lost : Bool) (first : Option (List ℕ)) (start : ℕ) (text held : List ℕ) →
-      Sends lost first (taken old.sink) start old.written old.stopped text held → (old.stopped ≡ true → ⊥) → lost ≡ false
-  went_well false first start text held sends open_ = refl
-  went_well true first start text held (none, stopped, sent) open_ = absurd (open_ stopped)
-
-  quiet_too : (failed : W → Bool) (at_first lost : Bool) (first : Option (List ℕ)) (start : ℕ) (text held : List ℕ) →
-      (lost ≡ false → failed old.sink ≡ at_first) → Sends lost first (taken old.sink) start old.written old.stopped text held →
-      (old.stopped ≡ true → IsErr r × (new ≡ old)) → OnOk r (failed new.sink ≡ failed old.sink) → is_err r ≡ false → failed new.sink ≡ at_first
-  quiet_too failed at_first lost first start text held quiet sends stays same fine = go r refl
-    where
-      go : (s : Result T WriteFault) → r ≡ s → failed new.sink ≡ at_first
-      go (Ok x) is =
-          let open_ : old.stopped ≡ true → ⊥ = λ stopped. let e : false ≡ true = subst IsErr is (stays stopped).0 in absurd cc in
-          subst (λ (s : Result T WriteFault). OnOk s (failed new.sink ≡ failed old.sink)) is same ∙ quiet (went_well lost first start text held sends open_)
-      go (Err e) is = let e : true ≡ false = sym (ap is_err is) ∙ fine in absurd cc
-
-  -- the same, as a printer's callers see it
-  pub flushed : (lost : Bool) (p q : Printing W) (held : List ℕ) → p ≡ q →
-      Sends lost p.origin.taken (taken old.sink) p.origin.written old.written old.stopped p.text held →
-      Puts (taken old.sink) (taken new.sink) old.written new.written held → (old.stopped ≡ true → IsErr r × (new ≡ old)) →
-      Puts q.origin.taken (taken new.sink) q.origin.written new.written q.text
-  flushed lost p q held is sends puts stays =
-      subst (λ (v : Printing W). Puts v.origin.taken (taken new.sink) v.origin.written new.written v.text) is
-      (flush_puts lost p.origin.taken p.origin.written p.text held sends puts stays)
-
-  -- the same of a printer's own fields
-  module _ (lost now : Bool) (first : Option (List ℕ)) (start : ℕ) (text held : List ℕ) (sends : Sends lost first (taken old.sink) start old.written old.stopped text held)
-      (stays : old.stopped ≡ true → IsErr r × (new ≡ old)) (kept : now ≡ is_err r) where
-    pub flushed_page : (page : List ℕ) → Puts (taken old.sink) (taken new.sink) old.written new.written held → OnOk r (new.written ≡ old.written + length held) →
-        new.stopped ≡ is_err r → page ≡ [] → Sends now first (taken new.sink) start new.written new.stopped text page
-    flushed_page page puts whole stops none =
-        subst (λ (xs : List ℕ). Sends now first (taken new.sink) start new.written new.stopped text xs) (sym none)
-        (subst (λ (l : Bool). Sends l first (taken new.sink) start new.written new.stopped text []) (sym kept)
-        (flush_sends lost first start text held sends puts whole stops stays))
-
-    pub flushed_quiet : (failed : W → Bool) (at_first : Bool) → (lost ≡ false → failed old.sink ≡ at_first) → OnOk r (failed new.sink ≡ failed old.sink) →
-        now ≡ false → failed new.sink ≡ at_first
-    flushed_quiet failed at_first quiet same fine = quiet_too failed at_first lost first start text held quiet sends stays same (sym kept ∙ fine)
-
-pub ruleset flushing = (flushed, flushed_page, flushed_quiet)
+-- the same, as a printer's callers see it
+pub flushed : {W T : Type 0} (taken : W → Option (List ℕ)) (failed : W → Bool) (p q : Printing W) (old new : Writing W) (r : Result T WriteFault) (held : List ℕ) → p ≡ q →
+    Sends taken failed p.origin.taken p.origin.failed p.origin.written old p.text held → PutsText taken failed old new held r → (old.stopped ≡ true → IsErr r × (new ≡ old)) →
+    PutsSince taken failed q.origin.taken q.origin.failed q.origin.written new q.text r
+flushed {W} taken failed p q old new r held is sends puts stays =
+    subst (λ (v : Printing W). PutsSince taken failed v.origin.taken v.origin.failed v.origin.written new v.text r) is
+    (puts_since taken failed p.origin.taken p.origin.failed p.origin.written old new r p.text held sends puts stays)

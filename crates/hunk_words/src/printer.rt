@@ -1,6 +1,5 @@
 //! A page of fixed size before a writer.
-ghost use Rattle.std.specs.Prelude.{◌≡◌, ℕ, List, Option, ◌≤◌, ◌++◌, [], ◌∷◌};
-ghost use Rattle.std.specs.Prelude.{true, false, length, not};
+ghost use Rattle.std.specs.Prelude.{◌≡◌, ℕ, Bool, List, Option, ◌≤◌, ◌++◌, [], ◌∷◌, length};
 ghost use Rattle.hunk_words.specs.Longs.{bytes_of};
 ghost use Rattle.hunk_words.specs.Prints.{Prints, Sends};
 ghost use Rattle.hunk_words.specs.Puts.{PutsSince};
@@ -25,13 +24,11 @@ pub type Printer<'a, W> = PagePrinter<'a, W, PAGE>;
 pub struct PagePrinter<'a, W: Sink, const ROOM: usize> {
     out: &'a mut LongWriter<W>,
     held: Page<ROOM>,
-    lost: bool,
     outset: Outset,
     history: History,
 }
 
 impl<'a, W: Sink, const ROOM: usize> Model for PagePrinter<'a, W, ROOM> {
-    ghost use Rattle.std.specs.Prelude.{◌≡◌, false};
     ghost use Rattle.hunk_words.specs.Prints.{Printing, Sends};
 
     ghost Value = { Printing W };
@@ -47,9 +44,8 @@ impl<'a, W: Sink, const ROOM: usize> Model for PagePrinter<'a, W, ROOM> {
       text = s.history.bytes;
     } };
 
-    ghost invariant = { λ s. (s.lost ≡ false → W.failed s.out.now.sink ≡ s.outset.failed)
-        × Sends s.lost s.outset.taken (W.taken s.out.now.sink)
-        s.outset.written s.out.now.written s.out.now.stopped s.history.bytes s.held };
+    ghost invariant = { λ s. Sends W.taken W.failed
+        s.outset.taken s.outset.failed s.outset.written s.out.now s.history.bytes s.held };
 }
 
 impl<W: Sink, const ROOM: usize> fmt::Debug for PagePrinter<'_, W, ROOM> {
@@ -57,7 +53,6 @@ impl<W: Sink, const ROOM: usize> fmt::Debug for PagePrinter<'_, W, ROOM> {
         f.debug_struct("PagePrinter")
             .field("out", &self.out)
             .field("held", &self.held.as_slice().len())
-            .field("lost", &self.lost)
             .finish_non_exhaustive()
     }
 }
@@ -79,23 +74,21 @@ impl<'a, W: Sink, const ROOM: usize> PagePrinter<'a, W, ROOM> {
         PagePrinter {
             out,
             held: Page::new(),
-            lost: false,
             outset,
             history: History::new(),
         }
     }
 
     /// Prints the bytes. The writer gets none as long as all that was printed has room on the page.
-    #[tactic(auto, using(crate::proofs::PrintLaws::printed, crate::proofs::PrintLaws::held_most))]
+    #[tactic(auto, using(crate::proofs::PrintLaws::holds_more, crate::proofs::PrintLaws::held_most))]
     pub fn print(&mut self, bytes: &[u8])
         ensures prints { Prints self.old self.new bytes.now }
         ensures kept { length self.new.text ≤ ROOM → self.new.out ≡ self.old.out }
     {
         self.history = self.history.and(bytes);
-        if self.lost || self.held.append(bytes) {
-            return;
+        if !self.held.append(bytes) {
+            send_on(self.out, &mut self.held, bytes);
         }
-        self.lost = !send_on(self.out, &mut self.held, bytes);
     }
 
     /// Prints the longword, high byte first, as `print`.
@@ -113,7 +106,7 @@ impl<'a, W: Sink, const ROOM: usize> PagePrinter<'a, W, ROOM> {
     ///
     /// A `WriteFault` where the sink failed, now or before: just the first `written` bytes of all
     /// that was ever put have gone out.
-    #[tactic(auto, using(crate::proofs::PrintLaws::flushing))]
+    #[tactic(auto, using(crate::proofs::PrintLaws::put_held))]
     pub fn flush(&mut self) -> Result<(), WriteFault>
         ensures prints_nothing { Prints self.old self.new [] }
         ensures same_reference { self.new.out.ghost_name ≡ self.old.origin.name }
@@ -123,7 +116,6 @@ impl<'a, W: Sink, const ROOM: usize> PagePrinter<'a, W, ROOM> {
     {
         let result = self.out.put_bytes(self.held.as_slice());
         self.held.clear();
-        self.lost = result.is_err();
         result
     }
 
@@ -135,30 +127,16 @@ impl<'a, W: Sink, const ROOM: usize> PagePrinter<'a, W, ROOM> {
     }
 }
 
-/// Sends what is held, and holds the bytes, or sends them too where a page has no room for them.
-/// Answers whether nothing was lost.
+/// Puts what is held, and holds the bytes, or puts them too where a page has no room for them.
 #[cold]
-#[tactic(auto, using(crate::proofs::PrintLaws::sent_behind))]
-fn send_on<W: Sink, const ROOM: usize>(
-    out: &mut LongWriter<W>,
-    held: &mut Page<ROOM>,
-    bytes: &[u8],
-) -> bool
-    ensures sends { Sends (not result) (W.taken out.old.sink) (W.taken out.new.sink)
-        out.old.written out.new.written out.new.stopped
-        (held.old ++ bytes.now) held.new }
-    ensures no_failure { result ≡ true → W.failed out.new.sink ≡ W.failed out.old.sink }
+fn send_on<W: Sink, const ROOM: usize>(out: &mut LongWriter<W>, held: &mut Page<ROOM>, bytes: &[u8])
+    ensures { (taken : Option (List ℕ)) → (failed : Bool) → (written : ℕ) → (text : List ℕ)
+        → Sends W.taken W.failed taken failed written out.old text held.old
+        → Sends W.taken W.failed taken failed written out.new (text ++ bytes.now) held.new }
 {
-    let sent = send(out, held.as_slice());
+    let _held = out.put_bytes(held.as_slice());
     held.clear();
-    sent && (held.append(bytes) || send(out, bytes))
-}
-
-/// Puts the bytes. Answers whether all have gone out.
-fn send<W: Sink>(out: &mut LongWriter<W>, bytes: &[u8]) -> bool
-    ensures sends { Sends (not result) (W.taken out.old.sink) (W.taken out.new.sink)
-        out.old.written out.new.written out.new.stopped bytes.now [] }
-    ensures no_failure { result ≡ true → W.failed out.new.sink ≡ W.failed out.old.sink }
-{
-    out.put_bytes(bytes).is_ok()
+    if !held.append(bytes) {
+        let _rest = out.put_bytes(bytes);
+    }
 }

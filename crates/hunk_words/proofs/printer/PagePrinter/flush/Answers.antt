@@ -1,14 +1,7 @@
-use Rattle.std.proofs.Common.{rules, arith}
-use Rattle.std.proofs.lemmas.Grind.{common_steps}
-use Rattle.hunk_words.proofs.PrintLaws.{flushing}
+use Rattle.hunk_words.proofs.PrintLaws.{flushed}
 use Rattle.hunk_words.proofs.printer.PagePrinter.flush.Goals as goal
 
 pub returns-clause-puts : goal.returns-clause-puts
-returns-clause-puts g c = record {
-  puts = grind (arith, flushing);
-  all = grind (arith, common_steps);
-  counted = search rules;
-  broken = search rules;
-  stops = search rules;
-  no_failure = grind (arith, common_steps);
-}
+returns-clause-puts g c =
+    flushed g.W.Sink.taken g.W.Sink.failed _ c.args.self.now c.self.inside.out.now c.put_bytes-result.new.self c.put_bytes-result.result _ c.self.view_is
+    (rw c.as_slice.ensures c.self.invariant) c.put_bytes-result.ensures.puts c.put_bytes-result.ensures.stays
