@@ -16,7 +16,7 @@ pub counted_first : (groups more : List RelocGroup) (group : RelocGroup) → gro
 counted_first groups more group first = ap offset_count first ∙ sum_by-cons (λ g. length g.offsets) group more
 
 -- each is a longword of the text
-pub offsets_within : (groups : List RelocGroup) → offset_count groups ≤ length (flat_map group_parts groups)
+offsets_within : (groups : List RelocGroup) → offset_count groups ≤ length (flat_map group_parts groups)
 offsets_within [] = omega arith
 offsets_within (g ∷ groups) = omega (
   arith,
