@@ -4,7 +4,7 @@
 
 #define STACK (1 << 18)
 #define ALL 1024           /* bytes that each call may need */
-#define PACKED (17 * 1024) /* that hunk_load_packed may */
+#define PACKED (9 * 1024)  /* that hunk_load_packed may */
 #define HUNKS 2
 #define HEADER 28
 #define FINDINGS 2

@@ -1,8 +1,8 @@
 -- Hunks one right after the other, by a table that is read where it lies.
-use Rattle.std.proofs.Common.{◌≡◌, ℕ, zero, suc, ◌+◌, ◌-◌, ◌*◌, ◌/◌, ◌%◌, ◌^◌, ◌<◌, ◌≤◌, Bool, true, false, List, [], ◌∷◌, ◌++◌, length, take, get_or, slice_get, Option, Some, None, refl, sym, ap, ap₂, subst, ◌∙◌, arith, if◌then◌else◌, ltb, inl, inr, ◌⊎◌, nat_le, nat_lt, add-one}
+use Rattle.std.proofs.Common.{◌≡◌, ℕ, zero, suc, ◌+◌, ◌-◌, ◌*◌, ◌/◌, ◌%◌, ◌^◌, ◌<◌, ◌≤◌, Bool, true, false, List, [], ◌∷◌, ◌++◌, length, take, get_or, set, slice_get, Option, Some, None, refl, sym, ap, ap₂, subst, ◌∙◌, arith, if◌then◌else◌, ltb, inl, inr, ◌⊎◌, nat_le, nat_lt, add-one}
 use Rattle.std.proofs.lemmas.Bool.{ltb-true, ltb-false}
 use Rattle.std.proofs.lemmas.Bool.Decides.{nat_tests}
-use Rattle.std.proofs.lemmas.List.{length-take-le}
+use Rattle.std.proofs.lemmas.List.{get_or-set_other, get_or-set_same, length-take-le}
 use Rattle.hunk_words.specs.Bits.{entry_longs, has_both_bits, size_longs}
 use Rattle.hunk_words.specs.Longs.{longs}
 use Rattle.hunk_blocks.specs.Cuts.{Cut}
@@ -17,7 +17,7 @@ use Rattle.hunk_scatter.specs.HeaderSizes.{HasHeaderSize}
 use Rattle.hunk_scatter.specs.declared.header_size.HeaderSize.{HeaderSize}
 use Rattle.hunk_scatter.proofs.DeclaredBytes.{declared-cons}
 use Rattle.hunk.specs.declared.packed.Mark.{Mark}
-use Rattle.hunk.specs.Packs.{ArePacked, AreMarksTo, HasRowsFrom, IsRow, RowStandsAt, bases_in, hunks_a_mark, most_marks, no_mark, packed_after}
+use Rattle.hunk.specs.Packs.{ArePacked, AreMarksTo, AreNearTo, HasRow, IsRow, RowStandsAt, bases_in, hunks_a_mark, most_marks, no_mark, packed_after}
 use Rattle.hunk.specs.Loads.{AreBasesOf}
 use Rattle.hunk.proofs.Succeeding.{same_header}
 use Rattle.hunk.proofs.TableRows.{stands_first, stands_next, entry_is}
@@ -176,39 +176,57 @@ module _ (bytes : List ℕ) (t : List TableEntry) (h : BeginsWithHeader bytes t)
     size = s.size;
   }
 
--- ---- a base by the marks
+-- ---- the bases near a mark
 
-module _ (bytes : List ℕ) (hunks start : ℕ) (marks : List Mark) (p : ArePacked bytes hunks start marks) (hunk : ℕ) (less : hunk < length (bases_in start hunks bytes)) where
-  pub hunk_inside : hunk < length p.table
-  hunk_inside = omega (arith, less, bases_length bytes p.table p.header start hunks p.hunks_are)
+-- Those of the hunks before this one stand there, and its row is the next.
+pub record NearSoFar {bytes : List ℕ} {hunks start : ℕ} {marks : List Mark} (p : ArePacked bytes hunks start marks) (number : ℕ) (near : List ℕ) (hunk at base : ℕ) : Type 0 where
+  pub is_row : IsRow p.header start hunk at base
+  pub are_near : AreNearTo (bases_in start hunks bytes) number near hunk
 
-  pub mark_inside : hunk / 32 < length marks
-  mark_inside = omega (arith, hunk_inside, p.header.is_table.most, p.size)
+-- one base more stands there
+near_more : (bases near : List ℕ) (number hunk base : ℕ) → hunk / hunks_a_mark ≡ number → length near ≡ hunks_a_mark → base ≡ get_or bases hunk 0 → AreNearTo bases number near hunk →
+    AreNearTo bases number (set near (hunk % hunks_a_mark) base) (hunk + 1)
+near_more bases near number hunk base here long is are i less same = by_order (ltb i hunk) refl
+  where
+    by_order : (b : Bool) → ltb i hunk ≡ b → get_or (set near (hunk % hunks_a_mark) base) (i % hunks_a_mark) 0 ≡ get_or bases i 0
+    by_order true e =
+        let before : i < hunk = ltb-true i hunk e in
+        get_or-set_other near (hunk % hunks_a_mark) (i % hunks_a_mark) base 0 (λ k. omega (arith, before, same, here, k)) ∙ are i before same
+    by_order false e =
+        let above : hunk ≤ i = ltb-false i hunk e in
+        let last : i ≡ hunk = omega (arith, above, less) in
+        subst (λ (k : ℕ). get_or (set near (hunk % hunks_a_mark) base) (k % hunks_a_mark) 0 ≡ get_or bases k 0) (sym last)
+        (get_or-set_same near (hunk % hunks_a_mark) base 0 (omega (arith, long)) ∙ is)
 
-  pub row_inside : hunks_a_mark * (hunk / 32) + hunk % 32 < length p.table
-  row_inside = omega (arith, hunk_inside)
+module _ (bytes : List ℕ) (hunks start : ℕ) (marks : List Mark) (p : ArePacked bytes hunks start marks) where
+  pub has_base : (hunk : ℕ) → hunk < length (bases_in start hunks bytes) → hunk < hunks
+  has_base hunk less = omega (arith, less, bases_length bytes p.table p.header start hunks p.hunks_are, p.hunks_are)
 
-  -- the row from which it goes on, and those behind it
-  module _ (base : ℕ) (e : base ≡ (get_or marks (hunk / 32) no_mark).base) where
-    pub mark_row : IsRow p.header start (hunks_a_mark * (hunk / 32)) (get_or marks (hunk / 32) no_mark).longword base
-    mark_row =
-        subst (IsRow p.header start (hunks_a_mark * (hunk / 32)) (get_or marks (hunk / 32) no_mark).longword) (sym e)
-        (p.are_marks (hunk / 32) (omega (arith, hunk_inside, p.hunks_are)))
+  module _ (number : ℕ) (less : hunks_a_mark * number < hunks) where
+    pub mark_inside : number < length marks
+    mark_inside = omega (arith, less, p.hunks_are, p.header.is_table.most, p.size)
 
-    pub rows_from : HasRowsFrom bytes (record { longword = (get_or marks (hunk / 32) no_mark).longword; base = base }) (hunk % 32)
-    rows_from = record { table = p.table; header = p.header; start = start; hunk = hunks_a_mark * (hunk / 32); few = p.few; inside = row_inside; is_row = mark_row }
+    pub none_near : (near : List ℕ) (base : ℕ) → base ≡ (get_or marks number no_mark).base → NearSoFar p number near (hunks_a_mark * number) (get_or marks number no_mark).longword base
+    none_near near base e = record {
+      is_row = subst (IsRow p.header start (hunks_a_mark * number) (get_or marks number no_mark).longword) (sym e) (p.are_marks number less);
+      are_near = λ i before same. absurd (omega (arith, before, same));
+    }
 
-  module _ (at base : ℕ) (r : IsRow p.header start (hunks_a_mark * (hunk / 32) + hunk % 32) at base) where
-    begins : base ≡ start + declared_bytes (take hunk p.table)
-    begins =
-        let here : hunks_a_mark * (hunk / 32) + hunk % 32 ≡ hunk = omega arith in
-        r.base_is ∙ ap (λ (n : ℕ). start + declared_bytes (take n p.table)) here
+  module _ (number : ℕ) (near : List ℕ) (hunk at base : ℕ) (s : NearSoFar p number near hunk at base) (less : hunk < hunks) where
+    inside : hunk < length p.table
+    inside = omega (arith, less, p.hunks_are)
 
     pub base_low : base < 2 ^ 32
-    base_low = omega (arith, begins, p.each hunk (omega (arith, hunk_inside, p.hunks_are)))
+    base_low = omega (arith, s.is_row.base_is, p.each hunk less)
 
-    pub base_got : base ≡ get_or (bases_in start hunks bytes) hunk 0
-    base_got = begins ∙ sym (bases_get bytes p.table p.header start hunks p.hunks_are hunk hunk_inside)
+    pub has_row : HasRow bytes (record { longword = at; base = base })
+    has_row = record { table = p.table; header = p.header; start = start; hunk = hunk; few = p.few; inside = inside; is_row = s.is_row }
+
+    pub near_next : (at2 base2 : ℕ) → hunk / hunks_a_mark ≡ number → length near ≡ hunks_a_mark → (hunk < length p.table → IsRow p.header start hunk at base → IsRow p.header start (hunk + 1) at2 base2) → NearSoFar p number (set near (hunk % hunks_a_mark) base) (hunk + 1) at2 base2
+    near_next at2 base2 here long next = record {
+      is_row = next inside s.is_row;
+      are_near = near_more (bases_in start hunks bytes) near number hunk base here long (s.is_row.base_is ∙ sym (bases_get bytes p.table p.header start hunks p.hunks_are hunk inside)) s.are_near;
+    }
 
 -- ---- lists of bases
 

@@ -35,8 +35,8 @@ pub extern "C" fn hunk_load(bytes: &[u8], bases: &[u32], memory: &mut [u8]) -> A
     if bases.len() < hunks {
         return no_base(size.bytes, bases.len() as u32);
     }
-    let bases = &bases[..hunks];
-    load_at(bytes, size, memory, &bases)
+    let mut bases = &bases[..hunks];
+    load_at(bytes, size, memory, &mut bases)
 }
 
 /// Loads the load file that the bytes begin with, for hunks one right after the other from `base`
@@ -57,8 +57,8 @@ pub extern "C" fn hunk_load_packed(bytes: &[u8], base: u32, memory: &mut [u8]) -
     if let Err(hunk) = place_marks(&mut marks, bytes, size.hunks, base) {
         return no_base(size.bytes, hunk);
     }
-    let bases = PackedBases::by(&marks, bytes, size.hunks, base);
-    load_at(bytes, size, memory, &bases)
+    let mut bases = PackedBases::by(&marks, bytes, size.hunks, base);
+    load_at(bytes, size, memory, &mut bases)
 }
 
 /// The answer where a hunk has no base.
@@ -90,11 +90,11 @@ fn fitting_header(bytes: &[u8], room: usize) -> Result<HeaderSize, Answer>
 }
 
 /// Loads the file that the bytes begin with, each hunk for its base.
-fn load_at<B: Bases>(bytes: &[u8], size: HeaderSize, memory: &mut [u8], bases: &B) -> Answer
+fn load_at<B: Bases>(bytes: &[u8], size: HeaderSize, memory: &mut [u8], bases: &mut B) -> Answer
     requires size { HasHeaderSize (2 ^ 64 - 1) bytes.now size }
     requires room { size.declared ≤ length memory.old }
-    requires count { length (B.bases bases.now) ≡ size.hunks }
-    ensures { (base : Placing) → AreBasesOf base bytes.now (B.bases bases.now)
+    requires count { length (B.bases bases.old) ≡ size.hunks }
+    ensures { (base : Placing) → AreBasesOf base bytes.now (B.bases bases.old)
         → Loads base bytes.now memory.old memory.new result }
 {
     let (file, read) = match LoadView::read(bytes) {

@@ -4,7 +4,7 @@ ghost use Rattle.hunk_files.specs.LoadFile.{TableEntry};
 ghost use Rattle.hunk_scatter.specs.HeaderBytes.{BeginsWithHeader};
 ghost use Rattle.hunk_scatter.specs.Placing.{IsFirstUnplaced, packed_from};
 ghost use Rattle.hunk.specs.Loads.{AreBasesOf};
-ghost use Rattle.hunk.specs.Packs.{AreMarksTo, ArePacked, HasRowsFrom, IsRow};
+ghost use Rattle.hunk.specs.Packs.{AreMarksTo, AreNearTo, ArePacked, HasRow, IsRow};
 ghost use Rattle.hunk.specs.Packs.{bases_in, hunks_a_mark, most_marks};
 ghost use Rattle.hunk.specs.Tables.{BeginsWithTableOf};
 
@@ -37,41 +37,45 @@ impl Mark {
     };
 }
 
-/// How many marks are kept: 16 KiB.
-pub(crate) const MARKS: usize = 2048;
+/// How many marks are kept: 8 KiB.
+pub(crate) const MARKS: usize = 1024;
 
 /// The hunks from one mark to the next: `MARKS` times as many are the most of a file.
-const HUNKS_A_MARK: u32 = 32;
+const HUNKS_A_MARK: usize = 64;
 
 /// The address space of 32 bits ends here.
 const END: u64 = 1 << 32;
 
 /// The bases of hunks one right after the other. Contracts see the list of them.
 ///
-/// It keeps where every 32nd row stands and goes on from there, so that a base costs at most 31
-/// rows, whatever the table.
+/// It keeps where every 64th row stands, and the bases of the hunks from one of these to the next,
+/// so that a base costs at most 64 rows, and none where the one before was near.
 #[derive(Drop)]
 pub(crate) struct PackedBases<'a> {
     bytes: &'a [u8],
     hunks: u32,
     start: u32,
     marks: &'a [Mark],
+    /// The number of the mark that the bases in `near` begin at.
+    number: usize,
+    near: [u32; HUNKS_A_MARK],
 }
 
 impl<'a> Model for PackedBases<'a> {
     ghost use Rattle.std.specs.Prelude.{ℕ, List};
-    ghost use Rattle.hunk.specs.Packs.{ArePacked, bases_in};
+    ghost use Rattle.hunk.specs.Packs.{AreNearTo, ArePacked, bases_in};
 
     ghost Value = { List ℕ };
 
     ghost view = { λ s. bases_in s.start s.hunks s.bytes.now };
 
-    ghost invariant = { λ s. ArePacked s.bytes.now s.hunks s.start s.marks.now };
+    ghost invariant = { λ s. ArePacked s.bytes.now s.hunks s.start s.marks.now
+        × AreNearTo (bases_in s.start s.hunks s.bytes.now) s.number s.near s.hunks };
 }
 
 /// The place of the next row.
 fn next_row(bytes: &[u8], place: RowPlace) -> RowPlace
-    requires { HasRowsFrom bytes.now place 0 }
+    requires { HasRow bytes.now place }
     ensures row { (t : List TableEntry) (h : BeginsWithHeader bytes.now t) (start i : ℕ)
         → i < length t → IsRow h start i place.longword place.base
         → IsRow h start (i + 1) result.longword result.base }
@@ -84,22 +88,8 @@ fn next_row(bytes: &[u8], place: RowPlace) -> RowPlace
     }
 }
 
-/// The place of the row this many rows behind.
-fn later_row(bytes: &[u8], place: RowPlace, count: u32) -> RowPlace
-    requires { HasRowsFrom bytes.now place count }
-    ensures { (t : List TableEntry) (h : BeginsWithHeader bytes.now t) (start i : ℕ)
-        → i + count < length t → IsRow h start i place.longword place.base
-        → IsRow h start (i + count) result.longword result.base }
-{
-    let mut at = place;
-    'rows: for _row in 0..count {
-        at = next_row(bytes, at);
-    }
-    at
-}
-
 /// Keeps the place of the hunk's row, if it is one of those that are kept.
-fn put_mark(marks: &mut [Mark], hunk: u32, place: RowPlace)
+fn put_mark(marks: &mut [Mark], hunk: usize, place: RowPlace)
     requires room { hunk < hunks_a_mark * length marks.old }
     requires longword { place.longword < 2 ^ 32 }
     requires base { place.base < 2 ^ 32 }
@@ -108,7 +98,7 @@ fn put_mark(marks: &mut [Mark], hunk: u32, place: RowPlace)
         → AreMarksTo h start marks.new (hunk + 1) }
 {
     if hunk % HUNKS_A_MARK == 0 {
-        marks[(hunk / HUNKS_A_MARK) as usize] = Mark {
+        marks[hunk / HUNKS_A_MARK] = Mark {
             longword: place.longword as u32,
             base: place.base as u32,
         };
@@ -147,10 +137,31 @@ pub(crate) fn place_marks(
         if behind.base > END {
             return Err(hunk);
         }
-        put_mark(marks, hunk, place);
+        put_mark(marks, hunk as usize, place);
         place = behind;
     }
     Ok(())
+}
+
+/// Sets `near` to the bases of the hunks from the mark of this number to the next.
+#[inline(never)]
+fn put_near(near: &mut [u32; HUNKS_A_MARK], bytes: &[u8], hunks: u32, marks: &[Mark], number: usize)
+    requires packed { (start : ℕ) × ArePacked bytes.now hunks start marks.now }
+    requires inside { hunks_a_mark * number < hunks }
+    ensures { (start : ℕ) → ArePacked bytes.now hunks start marks.now
+        → AreNearTo (bases_in start hunks bytes.now) number near.new hunks }
+{
+    let mark = marks[number];
+    let mut place = RowPlace {
+        longword: mark.longword as usize,
+        base: u64::from(mark.base),
+    };
+    let first = HUNKS_A_MARK * number;
+    let end = (hunks as usize).min(first + HUNKS_A_MARK);
+    'rows: for hunk in first..end {
+        near[hunk % HUNKS_A_MARK] = place.base as u32;
+        place = next_row(bytes, place);
+    }
 }
 
 impl<'a> PackedBases<'a> {
@@ -159,11 +170,15 @@ impl<'a> PackedBases<'a> {
         requires { ArePacked bytes.now hunks start marks.now }
         ensures { result ≡ bases_in start hunks bytes.entry.now }
     {
+        let mut near = [0; HUNKS_A_MARK];
+        put_near(&mut near, bytes, hunks, marks, 0);
         PackedBases {
             bytes,
             hunks,
             start,
             marks,
+            number: 0,
+            near,
         }
     }
 }
@@ -171,12 +186,14 @@ impl<'a> PackedBases<'a> {
 impl Bases for PackedBases<'_> {
     ghost bases = { λ bases. bases };
 
-    fn base(&self, hunk: u32) -> u32 {
-        let mark = self.marks[(hunk / HUNKS_A_MARK) as usize];
-        let place = RowPlace {
-            longword: mark.longword as usize,
-            base: u64::from(mark.base),
-        };
-        later_row(self.bytes, place, hunk % HUNKS_A_MARK).base as u32
+    #[inline(always)]
+    fn base(&mut self, hunk: u32) -> u32 {
+        let hunk = hunk as usize;
+        let number = hunk / HUNKS_A_MARK;
+        if self.number != number {
+            put_near(&mut self.near, self.bytes, self.hunks, self.marks, number);
+            self.number = number;
+        }
+        self.near[hunk % HUNKS_A_MARK]
     }
 }

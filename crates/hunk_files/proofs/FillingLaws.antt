@@ -1,15 +1,16 @@
 -- The memory of a hunk, block by block, and that of a file, hunk by hunk.
 use Rattle.std.proofs.Common.{◌≡◌, ℕ, ◌+◌, ◌-◌, ◌*◌, ◌/◌, ◌≤◌, Bool, true, false, List, [], ◌∷◌, ◌++◌, length, get_or, take, drop, refl, sym, ap, ap₂, subst, ◌∙◌, append_assoc, append-nil, length-append, take-append-drop, arith}
 use borrow.Rule.Slice.PartMut.{put_mid}
-use Rattle.std.specs.List.{flat_map, AllByRecursion}
+use Rattle.std.specs.List.{flat_map, fold, AllByRecursion}
 use Rattle.std.proofs.lemmas.List.{length-drop, length-take-le, take_all}
+use Rattle.std.proofs.lemmas.List.Folds.{fold-map}
 use Rattle.std.proofs.lemmas.List.Sums.{fold-append, sum_by-cons}
 use Rattle.std.proofs.lemmas.Slice.{take-put_mid, drop-put_mid}
 use Rattle.hunk_words.specs.Bits.{size_longs}
 use Rattle.hunk_words.specs.Longs.{bytes_of}
 use Rattle.hunk_blocks.proofs.Fronts.{All-right}
 use Rattle.hunk_blocks.proofs.Lists.{flat_map-more}
-use Rattle.hunk_blocks.specs.Values.{BlockBody, BlockValue, Code, Data, Bss, Reloc, Ext, End}
+use Rattle.hunk_blocks.specs.Values.{BlockBody, BlockValue, RelocGroup, Code, Data, Bss, Reloc, Ext, End}
 use Rattle.hunk_scan.specs.Standings.{is_content}
 use Rattle.hunk_files.specs.Filling.{Fits, filled_by, memory_of}
 use Rattle.hunk_files.specs.Image.{add_at, block_content, block_relocations, declared_bytes, filled, group_relocations, image, images, relocated}
@@ -17,6 +18,18 @@ use Rattle.hunk_files.specs.LoadFile.{HunkValue, LoadFileValue, TableEntry, AreI
 use Rattle.hunk_files.specs.LoadText.{table}
 use Rattle.hunk_files.proofs.FileText.{no_more, standings}
 use Rattle.hunk_files.proofs.HunkOrder.{by_standing}
+
+-- ---- the groups that are left
+
+-- One group less is left.
+pub group_relocated : (bases memory : List ℕ) (g : RelocGroup) (left : List RelocGroup) (base : ℕ) → base ≡ get_or bases g.target 0 →
+    relocated bases (fold (λ (bytes : List ℕ) (offset : ℕ). add_at bytes offset base) memory g.offsets) (flat_map group_relocations left)
+    ≡ relocated bases memory (flat_map group_relocations (g ∷ left))
+group_relocated bases memory g left base e =
+    let add = λ (m : List ℕ) (pair : ℕ × ℕ). add_at m pair.0 (get_or bases pair.1 0) in
+    rw e
+    (ap (λ (m : List ℕ). relocated bases m (flat_map group_relocations left)) (sym (fold-map add (λ (offset : ℕ). (offset, g.target)) memory g.offsets))
+    ∙ sym (fold-append add memory (group_relocations g) (flat_map group_relocations left)))
 
 -- ---- the blocks that are left
 

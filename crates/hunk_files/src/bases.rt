@@ -6,9 +6,10 @@ pub trait Bases {
     ghost bases: { Self → List ℕ };
 
     /// The address of the hunk's first byte; `hunk` is its number, counted from 0.
-    fn base(&self, hunk: u32) -> u32
-        requires { hunk < length (bases self.now) }
-        ensures { result ≡ get_or (bases self.now) hunk 0 };
+    fn base(&mut self, hunk: u32) -> u32
+        requires { hunk < length (bases self.old) }
+        ensures base { result ≡ get_or (bases self.old) hunk 0 }
+        ensures stays { bases self.new ≡ bases self.old };
 }
 
 /// The base of hunk `i`, counted from 0, stands at index `i`.
@@ -16,7 +17,7 @@ impl Bases for &[u32] {
     ghost bases = { λ s. s.now };
 
     #[inline(always)]
-    fn base(&self, hunk: u32) -> u32 {
+    fn base(&mut self, hunk: u32) -> u32 {
         self[hunk as usize]
     }
 }

@@ -48,12 +48,12 @@ fn filled(
     rt: &impl Abort,
     alloc: Global,
     bytes: &[u8],
-    bases: &[u32],
+    mut bases: &[u32],
 ) -> Result<Vec<u8>, AllocError> {
     let (file, _) = LoadView::read(bytes).expect(rt, "no load file");
     assert!(rt; bases.len() == file.hunks() as usize);
     let mut memory = vec![in alloc; 0xA5; file.total() as usize]?;
-    file.fill_images(&mut memory, &bases);
+    file.fill_images(&mut memory, &mut bases);
     Ok(memory)
 }
 

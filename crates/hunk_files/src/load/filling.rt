@@ -1,14 +1,13 @@
 //! The memory of a load file's hunks, written where it is to be, with no memory taken.
 ghost use Rattle.std.specs.Prelude.{◌≡◌, ◌+◌, ◌*◌, ◌/◌, ◌≤◌, length};
-ghost use Rattle.std.specs.List.{AllByRecursion, flat_map};
+ghost use Rattle.std.specs.List.{AllByRecursion, flat_map, fold};
 ghost use Rattle.hunk_words.specs.Longs.{bytes_of, longs};
 ghost use Rattle.hunk_blocks.specs.BodyViews.{viewed};
-ghost use Rattle.hunk_blocks.specs.Views.{group_of};
 ghost use Rattle.hunk_files.specs.Filling.{Fits, filled_by, memory_of};
 ghost use Rattle.hunk_files.specs.Hunks.{block_texts};
 ghost use Rattle.hunk_files.specs.Image.{add_at, declared_bytes, filled, group_relocations};
 ghost use Rattle.hunk_files.specs.Image.{images, relocated};
-ghost use Rattle.hunk_files.specs.LoadFile.{FitsGroup, FitsHunk};
+ghost use Rattle.hunk_files.specs.LoadFile.{FitsGroup, FitsHunk, IsInside};
 ghost use Rattle.hunk_files.specs.LoadText.{table};
 
 use crate::bases::Bases;
@@ -23,10 +22,11 @@ impl LoadView<'_> {
     /// `memory` has the declared bytes, `total()`, and `bases` a base for each hunk. A hunk's
     /// memory is that of `LoadFile::image`: contents, zero bytes, and the bases of the targets
     /// added in file order. What stood in `memory` does not matter.
-    pub fn fill_images<B: Bases>(&self, memory: &mut [u8], bases: &B)
+    pub fn fill_images<B: Bases>(&self, memory: &mut [u8], bases: &mut B)
         requires room { length memory.old ≡ declared_bytes (table self.now) }
-        requires bases { length (B.bases bases.now) ≡ length self.now }
-        ensures { memory.new ≡ images (B.bases bases.now) self.now }
+        requires bases { length (B.bases bases.old) ≡ length self.now }
+        ensures memory { memory.new ≡ images (B.bases bases.old) self.now }
+        ensures stays { B.bases bases.new ≡ B.bases bases.old }
     {
         let bytes = self.bytes;
         let mut at = self.body();
@@ -42,10 +42,11 @@ impl LoadView<'_> {
 }
 
 /// Writes the memory of a hunk that has these blocks, with none left to come.
-fn fill_hunk<B: Bases>(memory: &mut [u8], blocks: &mut BlockViews<'_>, bases: &B)
-    requires { Fits (length (B.bases bases.now)) (length memory.old) blocks.old.value }
+fn fill_hunk<B: Bases>(memory: &mut [u8], blocks: &mut BlockViews<'_>, bases: &mut B)
+    requires { Fits (length (B.bases bases.old)) (length memory.old) blocks.old.value }
     ensures memory { memory.new
-        ≡ memory_of (B.bases bases.now) (length memory.old) blocks.old.value }
+        ≡ memory_of (B.bases bases.old) (length memory.old) blocks.old.value }
+    ensures stays { B.bases bases.new ≡ B.bases bases.old }
     ensures behind { blocks.new.place
         ≡ blocks.old.place + 4 * length (block_texts blocks.old.value) }
 {
@@ -55,9 +56,10 @@ fn fill_hunk<B: Bases>(memory: &mut [u8], blocks: &mut BlockViews<'_>, bases: &B
 }
 
 /// Does to the memory of a hunk what a block of it says.
-fn fill_block<B: Bases>(memory: &mut [u8], body: BodyView<'_>, bases: &B)
-    requires { FitsHunk (length (B.bases bases.now)) (length memory.old / 4) (viewed body) }
-    ensures { memory.new ≡ filled_by (B.bases bases.now) memory.old (viewed body.entry) }
+fn fill_block<B: Bases>(memory: &mut [u8], body: BodyView<'_>, bases: &mut B)
+    requires { FitsHunk (length (B.bases bases.old)) (length memory.old / 4) (viewed body) }
+    ensures memory { memory.new ≡ filled_by (B.bases bases.old) memory.old (viewed body.entry) }
+    ensures stays { B.bases bases.new ≡ B.bases bases.old }
 {
     match body {
         BodyView::Code { top: _, payload } => put_content(memory, &payload),
@@ -79,25 +81,25 @@ pub(super) fn put_content(memory: &mut [u8], payload: &Payload<'_>)
 }
 
 /// Adds the bases of all groups, in file order.
-fn relocate_groups<B: Bases>(memory: &mut [u8], groups: GroupsIter<'_>, bases: &B)
-    requires { AllByRecursion (FitsGroup (length (B.bases bases.now)) (length memory.old / 4))
+fn relocate_groups<B: Bases>(memory: &mut [u8], groups: GroupsIter<'_>, bases: &mut B)
+    requires { AllByRecursion (FitsGroup (length (B.bases bases.old)) (length memory.old / 4))
         groups.value }
-    ensures { memory.new ≡ relocated (B.bases bases.now) memory.old
+    ensures memory { memory.new ≡ relocated (B.bases bases.old) memory.old
         (flat_map group_relocations groups.entry.value) }
+    ensures stays { B.bases bases.new ≡ B.bases bases.old }
 {
     'relocating: for group in groups {
-        relocate_group(memory, &group, bases);
+        let base = bases.base(group.target);
+        relocate_group(memory, &group, base);
     }
 }
 
-/// Adds the base of the group's target at each of its offsets.
-pub(super) fn relocate_group<B: Bases>(memory: &mut [u8], group: &Group<'_>, bases: &B)
-    requires { FitsGroup (length (B.bases bases.now)) (length memory.old / 4)
-        (group_of group.now) }
-    ensures { memory.new
-        ≡ relocated (B.bases bases.now) memory.old (group_relocations (group_of group.now)) }
+/// Adds the base at each of the group's offsets.
+pub(super) fn relocate_group(memory: &mut [u8], group: &Group<'_>, base: u32)
+    requires { AllByRecursion (IsInside (length memory.old / 4)) group.now.offsets }
+    ensures { memory.new ≡ fold (λ bytes offset. add_at bytes offset base) memory.old
+        group.now.offsets }
 {
-    let base = bases.base(group.target);
     'relocating: for offset in &group.offsets {
         add_base(memory, offset as usize, base);
     }

@@ -109,6 +109,6 @@ fn relocate_groups(memory: &mut [u8], groups: &Groups<'_>, bases: &[u32])
         (flat_map group_relocations (map group_of groups.now)) }
 {
     'relocating: for group in groups {
-        relocate_group(memory, group, &bases);
+        relocate_group(memory, group, bases[group.target as usize]);
     }
 }

@@ -24,4 +24,4 @@ pub returns : goal.returns
 returns g c = λ base are.
     let read = c.in-Ok.ensures in
     let file = begins c.args.bytes.now c.in-Ok.found.1 (record { value = c.in-Ok.found.0; is_load_file = read.valid; text_is = read.text; whole = read.inside }) in
-    inl (loaded base _ c.args.bytes.now c.args.memory.now c.args.size c.requires.size c.requires.room are c.done.result file c.fill_images.new.memory c.in-Ok.found.1 c.fill_images.ensures read.inside read.text c.done.ensures)
+    inl (loaded base _ c.args.bytes.now c.args.memory.now c.args.size c.requires.size c.requires.room are c.done.result file c.fill_images.new.memory c.in-Ok.found.1 c.fill_images.ensures.memory read.inside read.text c.done.ensures)

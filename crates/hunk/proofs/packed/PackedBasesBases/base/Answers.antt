@@ -1,28 +1,24 @@
-use Rattle.std.proofs.Common.{◌≡◌, ◌*◌, ◌/◌, ◌<◌, ℕ, List, length, get_or, ap, subst, sym, ◌∙◌, arith}
-use Rattle.hunk.specs.Packs.{hunks_a_mark}
-use Rattle.hunk.proofs.Packing.{base_got, base_low, mark_inside, mark_row, row_inside, rows_from}
+use Rattle.std.proofs.Common.{◌≡◌, ◌<◌, ◌∙◌, ℕ, List, length, get_or, refl, ap, subst, sym, arith}
+use Rattle.hunk.proofs.Packing.{has_base}
 use Rattle.hunk.proofs.packed.PackedBasesBases.base.Goals as goal
+use Rattle.hunk.proofs.packed.PackedBasesBases.base.Goals.{then-self-number, else-self-number}
 
 -- the hunk has a base
 few : (bases now : List ℕ) (hunk : ℕ) → bases ≡ now → hunk < length now → hunk < length bases
 few bases now hunk e less = subst (λ (l : List ℕ). hunk < length l) (sym e) less
 
-pub bounds-self-inside-hunk : goal.bounds-self-inside-hunk
-bounds-self-inside-hunk c = mark_inside _ _ _ _ c.self.invariant c.args.hunk (few _ _ _ c.self.view_is c.requires)
+pub put_near-requires-clause-packed : goal.put_near-requires-clause-packed
+put_near-requires-clause-packed c = (c.self.inside.start, c.self.invariant.0)
 
-pub later_row-requires : goal.later_row-requires
-later_row-requires c = rows_from _ _ _ _ c.self.invariant c.args.hunk (few _ _ _ c.self.view_is c.requires) c.from.result c.from.ensures
+pub put_near-requires-clause-inside : goal.put_near-requires-clause-inside
+put_near-requires-clause-inside c = omega (arith, has_base _ _ _ _ c.self.invariant.0 c.args.hunk (few _ _ _ c.self.view_is c.requires))
 
-pub overflow_cast-result : goal.overflow_cast-result
-overflow_cast-result c =
+pub returns-clause-base : goal.returns-clause-base
+returns-clause-base c =
     let p = c.self.invariant in
-    let less = few _ _ _ c.self.view_is c.requires in
-    let row = c.later_row.ensures p.table p.header c.self.inside.start (hunks_a_mark * (c.args.hunk / 32)) (row_inside _ _ _ _ p c.args.hunk less) (mark_row _ _ _ _ p c.args.hunk less c.from.result c.from.ensures) in
-    omega (arith, base_low _ _ _ _ p c.args.hunk less _ _ row)
-
-pub returns : goal.returns
-returns c =
-    let p = c.self.invariant in
-    let less = few _ _ _ c.self.view_is c.requires in
-    let row = c.later_row.ensures p.table p.header c.self.inside.start (hunks_a_mark * (c.args.hunk / 32)) (row_inside _ _ _ _ p c.args.hunk less) (mark_row _ _ _ _ p c.args.hunk less c.from.result c.from.ensures) in
-    base_got _ _ _ _ p c.args.hunk less _ _ row ∙ ap (λ (l : List ℕ). get_or l c.args.hunk 0) c.self.view_is
+    let less = has_base _ _ _ _ p.0 c.args.hunk (few _ _ _ c.self.view_is c.requires) in
+    elim c.if-self-number.branch [
+      | then-self-number w ↦ rw w.self-inside-is (w.put_near.ensures c.self.inside.start p.0 c.args.hunk less refl)
+      | else-self-number w ↦ rw w.self-inside-is (p.1 c.args.hunk less (sym w.if-self-number.false))
+    ]
+    ∙ ap (λ (bases : List ℕ). get_or bases c.args.hunk 0) c.self.view_is

@@ -1,4 +1,4 @@
-use Rattle.std.proofs.Common.{◌++◌, ◌∷◌, [], List, ap}
+use Rattle.std.proofs.Common.{◌++◌, ◌∷◌, ◌∙◌, [], List, ap}
 use Rattle.hunk_blocks.specs.BodyViews.{viewed}
 use Rattle.hunk_blocks.specs.Parts.{block_text}
 use Rattle.hunk_blocks.specs.Placed.{Placed}
@@ -11,8 +11,9 @@ pub filling-preserved : goal.filling-preserved
 filling-preserved g c =
     let t = c.filling.invariant.taken in
     record {
+      stays = c.fill_block.ensures.stays ∙ c.filling.invariant.stays;
       left =
           block_filled c.filling.invariant.left c.in-Some.block.value c.next.new.self.value (ap (λ (p : Placed (List BlockValue)). p.value) c.in-Some.ensures.steps.0)
-          (viewed c.into_body.result) c.fill_block.new.memory c.into_body.ensures.value c.fill_block.ensures;
+          (viewed c.into_body.result) c.fill_block.new.memory c.into_body.ensures.value (rw c.filling.invariant.stays at c.fill_block.ensures.memory);
       taken = (t.0 ++ c.in-Some.block.value ∷ [], part_taken block_text c.args.blocks.now c.filling.blocks c.next.new.self t.0 c.next.result c.in-Some.block t.1 c.in-Some.is c.next.ensures.steps);
     }

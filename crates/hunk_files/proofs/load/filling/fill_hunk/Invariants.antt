@@ -1,4 +1,4 @@
-use Rattle.std.proofs.Common.{List, length}
+use Rattle.std.proofs.Common.{◌≡◌, List, length}
 use Rattle.hunk_blocks.specs.Parts.{block_text}
 use Rattle.hunk_blocks.specs.Values.{BlockValue}
 use Rattle.hunk_files.specs.Filling.{memory_of}
@@ -8,8 +8,9 @@ use Rattle.hunk_files.proofs.load.filling.fill_hunk.Given as goal
 
 abbrev pub invariant-filling : goal.invariant-filling
 invariant-filling g l = record {
+  stays : g.B.Bases.bases l.bases ≡ g.B.Bases.bases l.fn.bases;
   left :
-      LeftToFill (length (g.B.Bases.bases l.bases)) (g.B.Bases.bases l.bases) (length l.fn.memory) l.blocks.value l.memory
-      (memory_of (g.B.Bases.bases l.bases) (length l.fn.memory) l.fn.blocks.value);
+      LeftToFill (length (g.B.Bases.bases l.fn.bases)) (g.B.Bases.bases l.fn.bases) (length l.fn.memory) l.blocks.value l.memory
+      (memory_of (g.B.Bases.bases l.fn.bases) (length l.fn.memory) l.fn.blocks.value);
   taken : (done : List BlockValue) × Taken block_text l.fn.blocks l.blocks done;
 }

@@ -6,8 +6,9 @@ use Rattle.hunk_files.proofs.load.filling.relocate_groups.Given as goal
 
 abbrev pub invariant-relocating : goal.invariant-relocating
 invariant-relocating g l = record {
-  room : AllByRecursion (FitsGroup (length (g.B.Bases.bases l.bases)) (length l.initial.memory / 4)) l.group-iterator.value;
+  stays : g.B.Bases.bases l.bases ≡ g.B.Bases.bases l.fn.bases;
+  room : AllByRecursion (FitsGroup (length (g.B.Bases.bases l.fn.bases)) (length l.initial.memory / 4)) l.group-iterator.value;
   left :
-      relocated (g.B.Bases.bases l.bases) l.memory (flat_map group_relocations l.group-iterator.value)
-      ≡ relocated (g.B.Bases.bases l.bases) l.initial.memory (flat_map group_relocations l.fn.groups.value);
+      relocated (g.B.Bases.bases l.fn.bases) l.memory (flat_map group_relocations l.group-iterator.value)
+      ≡ relocated (g.B.Bases.bases l.fn.bases) l.initial.memory (flat_map group_relocations l.fn.groups.value);
 }
