@@ -56,7 +56,8 @@ pub(crate) struct PackedBases<'a> {
     hunks: u32,
     start: u32,
     marks: &'a [Mark],
-    /// The number of the mark that the bases in `near` begin at.
+    /// The number of the mark that the bases in `near` begin at; before the first is asked for
+    /// that behind the last mark, which no hunk has.
     number: usize,
     near: [u32; HUNKS_A_MARK],
 }
@@ -170,15 +171,13 @@ impl<'a> PackedBases<'a> {
         requires { ArePacked bytes.now hunks start marks.now }
         ensures { result ≡ bases_in start hunks bytes.entry.now }
     {
-        let mut near = [0; HUNKS_A_MARK];
-        put_near(&mut near, bytes, hunks, marks, 0);
         PackedBases {
             bytes,
             hunks,
             start,
             marks,
-            number: 0,
-            near,
+            number: MARKS,
+            near: [0; HUNKS_A_MARK],
         }
     }
 }
