@@ -56,8 +56,8 @@ pub(crate) struct PackedBases<'a> {
     hunks: u32,
     start: u32,
     marks: &'a [Mark],
-    /// The number of the mark that the bases in `near` begin at; before the first is asked for
-    /// that behind the last mark, which no hunk has.
+    /// The number of the mark that the bases in `near` begin at: before the first one is asked
+    /// for, `MARKS`, behind which no hunk lies.
     number: usize,
     near: [u32; HUNKS_A_MARK],
 }
