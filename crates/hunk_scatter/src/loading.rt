@@ -7,19 +7,17 @@ ghost use Rattle.hunk_words.specs.Longs.{bytes_of};
 ghost use Rattle.hunk_words.specs.declared.reason.Reason.TheVariants as reasons;
 ghost use Rattle.hunk_files.specs.Fault.{HasFault};
 ghost use Rattle.hunk_files.specs.Image.{declared_bytes};
-ghost use Rattle.hunk_files.specs.LoadFile.{TableEntry, LoadFileValue, IsLoadFile};
-ghost use Rattle.hunk_files.specs.LoadText.{table, text};
+ghost use Rattle.hunk_files.specs.LoadFile.{LoadFileValue};
+ghost use Rattle.hunk_files.specs.LoadText.{text};
 ghost use Rattle.hunk_scatter.specs.LoaderReasons.{is_of_file, is_of_load};
 ghost use Rattle.hunk_scatter.specs.HeaderBytes.{IsHeaderTable, header_bytes};
 ghost use Rattle.hunk_scatter.specs.HeaderFaults.{PassesBudget, IsOverBudget};
 ghost use Rattle.hunk_scatter.specs.LoaderValues.{IsImageOf};
 ghost use Rattle.hunk_scatter.specs.LoadOutcomes.{Gives, GivesAtMost, HasFileWithin, IsBodyStop};
 ghost use Rattle.hunk_scatter.specs.LoadOutcomes.{IsHeaderStop, IsLoadFault, IsLoaded, IsReadFault};
-ghost use Rattle.hunk_scatter.specs.LoadOutcomes.{IsWithinFile, IsWithinHeader, KeepsToHeader};
-ghost use Rattle.hunk_scatter.specs.LoadOutcomes.{LoadEnds, StopsBehindFile, StopsBehindHeader};
-ghost use Rattle.hunk_scatter.specs.LoadOutcomes.{TellsFailure};
+ghost use Rattle.hunk_scatter.specs.LoadOutcomes.{IsWithinFile, IsWithinHeader};
+ghost use Rattle.hunk_scatter.specs.LoadOutcomes.{StopsBehindFile, StopsBehindHeader, TellsFailure};
 ghost use Rattle.hunk_scatter.specs.Owing.{most_want};
-ghost use Rattle.hunk_scatter.specs.Placing.{HasBases};
 
 use crate::body_loader::BodyLoader;
 use crate::declared::Declared;
@@ -136,34 +134,6 @@ fn load_body<R: Source>(
     }
 }
 
-/// Reads the header, places the hunks, and reads the body.
-fn load_placed<R: Source, P: Placer>(
-    alloc: Global,
-    r: &mut R,
-    limits: Limits,
-    p: &P,
-) -> Result<Image, LoadFault>
-    ensures ends { (given : List ℕ) × Gives (R.left r.old) (R.left r.new) limits.file_bytes given
-        × IsWithinFile given × KeepsToHeader (P.base p.now) limits.budget given
-        × LoadEnds (P.base p.now) limits.budget limits.file_bytes
-        (R.left r.new) (R.failed r.new) given result }
-    ensures tells_read { TellsFailure (R.failed r.old) (R.failed r.new) result }
-{
-    let mut buf = [0u8; MOST_WANT];
-    let declared = load_header(alloc, r, buf.as_mut_slice(), limits)?;
-    let place = declared.header_len();
-    let loader = match declared.place(p) {
-        Ok(loader) => loader,
-        Err(unplaced) => {
-            return Err(LoadFault {
-                place,
-                reason: unplaced.reason,
-            });
-        }
-    };
-    load_body(r, buf.as_mut_slice(), loader, limits.file_bytes)
-}
-
 /// Loads a file from a source, as it comes, each hunk to where the placer puts it.
 ///
 /// At most `limits.budget` bytes of segments and 12 bytes for each hunk are held, beside a buffer
@@ -223,5 +193,17 @@ pub fn load<R: Source, P: Placer>(
     // A read that fails ends the load.
     ensures tells_read { TellsFailure (R.failed r.old) (R.failed r.new) result }
 {
-    load_placed(alloc, r, limits, p)
+    let mut buf = [0u8; MOST_WANT];
+    let declared = load_header(alloc, r, buf.as_mut_slice(), limits)?;
+    let place = declared.header_len();
+    let loader = match declared.place(p) {
+        Ok(loader) => loader,
+        Err(unplaced) => {
+            return Err(LoadFault {
+                place,
+                reason: unplaced.reason,
+            });
+        }
+    };
+    load_body(r, buf.as_mut_slice(), loader, limits.file_bytes)
 }
