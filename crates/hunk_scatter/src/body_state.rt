@@ -1,13 +1,13 @@
 //! Where the loader of a body stands.
-ghost use Rattle.std.specs.Prelude.{◌≡◌, ◌+◌, ◌*◌, ◌<◌, ◌^◌, length, ℕ, true, false};
+ghost use Rattle.std.specs.Prelude.{◌≡◌, ◌<◌, length, true, false};
 ghost use Rattle.hunk_words.specs.Limits.{content_limit};
 ghost use Rattle.hunk_scan.specs.Positions.{is_done, open_next};
-ghost use Rattle.hunk_scatter.specs.BodySteps.{step_body, refusal, longs_at, IsInStore, RoomFor};
+ghost use Rattle.hunk_scatter.specs.BodySteps.{longs_at, IsInStore, RoomFor};
 ghost use Rattle.hunk_scatter.specs.Rows.{words_of};
 
 use hunk_files::Row;
 use hunk_scan::{Phase, Position};
-use hunk_words::{MOST_HUNKS, Reason};
+use hunk_words::MOST_HUNKS;
 
 /// The position, the open hunk, and the byte of the store where its segment begins.
 #[derive(Clone, Copy, Debug, PartialEq, Eq)]
@@ -79,35 +79,5 @@ impl BodyState {
             return false;
         }
         has_room(rows, longs, phase)
-    }
-
-    /// Why the next longword is rejected; `None` where it is not.
-    #[inline(always)]
-    pub(crate) fn refuse(&self, rows: &[Row], word: u32) -> Option<Reason>
-        requires { self.now.hunk < length rows.now }
-        ensures refusal { result ≡ refusal (words_of rows.now) self.now word }
-        ensures long { word < 2 ^ 32 }
-    {
-        self.position.refuse(longs_of(rows, self.hunk), word)
-    }
-
-    /// Behind a longword that is not rejected.
-    #[inline(always)]
-    pub(crate) fn step(self, rows: &[Row], word: u32) -> BodyState
-        requires rows { length rows.now < 2 ^ 32 }
-        requires in_store { (total : ℕ) × (total < 2 ^ 64)
-            × IsInStore (words_of rows.now) total self }
-        ensures { result ≡ step_body (words_of rows.now) self word }
-    {
-        let position = self.position.step(word);
-        if position.is_between_hunks() {
-            BodyState {
-                hunk: self.hunk + 1,
-                start: self.start + 4 * u64::from(longs_of(rows, self.hunk)),
-                position,
-            }
-        } else {
-            BodyState { position, ..self }
-        }
     }
 }

@@ -92,11 +92,19 @@ pub(crate) fn take_word(
     ensures nothing { OnErr result (store.new ≡ store.old) }
     ensures long { word < 2 ^ 32 }
 {
-    if let Some(reason) = state.refuse(rows, word) {
+    if let Some(reason) = state.position.refuse(longs_of(rows, state.hunk), word) {
         return Err(reason);
     }
     store_word(store, rows, state, word);
-    Ok(state.step(rows, word))
+    let position = state.position.step(word);
+    if !position.is_between_hunks() {
+        return Ok(BodyState { position, ..state });
+    }
+    Ok(BodyState {
+        hunk: state.hunk + 1,
+        start: state.start + 4 * u64::from(longs_of(rows, state.hunk)),
+        position,
+    })
 }
 
 /// How many bytes of a piece of `count` bytes are longwords of a run.
