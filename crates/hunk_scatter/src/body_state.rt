@@ -1,7 +1,7 @@
 //! Where the loader of a body stands.
 ghost use Rattle.std.specs.Prelude.{◌≡◌, ◌<◌, length, true, false};
 ghost use Rattle.hunk_words.specs.Limits.{content_limit};
-ghost use Rattle.hunk_scan.specs.Positions.{is_done, open_next};
+ghost use Rattle.hunk_scan.specs.Positions.{is_done};
 ghost use Rattle.hunk_scatter.specs.BodySteps.{longs_at, IsInStore, RoomFor};
 ghost use Rattle.hunk_scatter.specs.Rows.{words_of};
 
@@ -44,17 +44,6 @@ fn has_room(rows: &[Row], longs: u32, phase: Phase) -> bool
 }
 
 impl BodyState {
-    /// Before the first block of the first of `hunks` hunks.
-    pub(crate) fn start(hunks: u32) -> BodyState
-        ensures { result ≡ record { hunk = 0; start = 0; position = open_next hunks hunks } }
-    {
-        BodyState {
-            hunk: 0,
-            start: 0,
-            position: Position::behind_table(hunks),
-        }
-    }
-
     /// Whether this is where an open hunk is read whose segment lies in a store of `total` bytes.
     #[inline(always)]
     pub(crate) fn is_in_store(self, rows: &[Row], total: usize) -> bool

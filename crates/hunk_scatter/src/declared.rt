@@ -1,6 +1,6 @@
 //! A table whose hunks are not placed.
 ghost use Rattle.std.specs.Prelude.{◌≡◌, ◌+◌, ◌*◌, ◌<◌, ◌≤◌, length, map, slice_get, Some, None};
-ghost use Rattle.std.specs.Prelude.{replicate, IfOk, IfErr};
+ghost use Rattle.std.specs.Prelude.{IfOk, IfErr};
 ghost use Rattle.hunk_files.specs.Image.{declared_bytes};
 ghost use Rattle.hunk_scatter.specs.HeaderBytes.{header_bytes};
 ghost use Rattle.hunk_scatter.specs.Placing.{AreBases, IsUnplacedFor};
@@ -8,12 +8,11 @@ ghost use Rattle.hunk_scatter.specs.UnplacedLine.{unplaced_line};
 ghost use Rattle.hunk_scatter.specs.Rows.{row_of, entries_of, bases_of};
 
 use crate::body_loader::BodyLoader;
-use crate::body_state::BodyState;
 use crate::placer::{Placer, place_rows, unplace_rows};
 use crate::stream::Standing;
 use hunk_files::Row;
-use hunk_words::{History, LoadFault, Pending, Reason};
-use std::alloc::{AllocError, Global};
+use hunk_words::{History, LoadFault, Reason};
+use std::alloc::Global;
 use std::error::Error;
 use std::fmt;
 use std::marker::Model;
@@ -69,13 +68,6 @@ impl fmt::Display for Unplaced {
 
 impl Error for Unplaced {}
 
-/// That many bytes, all of them 0.
-fn zero_bytes(alloc: Global, count: usize) -> Result<Vec<u8>, AllocError>
-    ensures { IfOk result (λ v. v.items ≡ replicate count 0) }
-{
-    Ok(vec![in alloc; 0; count]?)
-}
-
 impl Declared {
     /// The number of hunks, 1 to 65,536.
     pub fn hunks(&self) -> u32
@@ -114,17 +106,6 @@ impl Declared {
         self.count
     }
 
-    /// The table with every base 0, for a reason.
-    fn unplaced(self, reason: Reason) -> Unplaced
-        ensures same { result.declared ≡ self }
-        ensures reason { result.reason ≡ reason }
-    {
-        Unplaced {
-            declared: self,
-            reason,
-        }
-    }
-
     /// Places each hunk, and makes the store, of as many zero bytes as are declared.
     ///
     /// The placer is asked for the hunks in rising order.
@@ -146,11 +127,17 @@ impl Declared {
         let mut table = self;
         if let Err(hunk) = place_rows(table.rows.as_mut_slice(), placer) {
             unplace_rows(table.rows.as_mut_slice());
-            return Err(table.unplaced(Reason::NoBase(hunk)));
+            return Err(Unplaced {
+                declared: table,
+                reason: Reason::NoBase(hunk),
+            });
         }
-        let Ok(store) = zero_bytes(table.alloc, table.total as usize) else {
+        let Ok(store) = vec![in table.alloc; 0; table.total as usize] else {
             unplace_rows(table.rows.as_mut_slice());
-            return Err(table.unplaced(Reason::OutOfMemory));
+            return Err(Unplaced {
+                declared: table,
+                reason: Reason::OutOfMemory,
+            });
         };
         let Declared {
             alloc: _,
@@ -160,11 +147,7 @@ impl Declared {
             count,
             history,
         } = table;
-        let standing = Standing {
-            state: BodyState::start(rows.len() as u32),
-            fed: count,
-            pending: Pending::none(),
-        };
+        let standing = Standing::behind_header(rows.len() as u32, count);
         Ok(BodyLoader {
             rows,
             store,

@@ -6,7 +6,8 @@
 ghost use Rattle.std.specs.Prelude.{◌≡◌, ◌+◌, ◌<◌, ◌≤◌, ◌^◌, ℕ, List, [], ◌∷◌, ◌++◌, length, take};
 ghost use Rattle.std.specs.Prelude.{true, IfErr, IfOk, MatchResult, OnErr, Some, replicate};
 ghost use Rattle.hunk_words.specs.Limits.{most_hunks};
-ghost use Rattle.hunk_scan.specs.Positions.{is_done};
+ghost use Rattle.hunk_words.specs.PendingBytes.{pending_of};
+ghost use Rattle.hunk_scan.specs.Positions.{is_done, open_next};
 ghost use Rattle.hunk_scatter.specs.StopLine.{stop_line};
 ghost use Rattle.hunk_scatter.specs.Streaming.{BeginsLoading, EndsLoading, IsFed, IsWithin};
 ghost use Rattle.hunk_scatter.specs.Streaming.{MayTake, StandsOn, StopsForBody, TakesOn, TakesPart};
@@ -57,6 +58,24 @@ impl fmt::Display for Stop {
 impl Error for Stop {}
 
 impl Standing {
+    /// Behind a header of `fed` bytes, whose table has `hunks` hunks.
+    pub(crate) fn behind_header(hunks: u32, fed: u64) -> Standing
+        ensures state { result.state
+            ≡ record { hunk = 0; start = 0; position = open_next hunks hunks } }
+        ensures fed { result.fed ≡ fed }
+        ensures pending { pending_of result.pending ≡ [] }
+    {
+        Standing {
+            state: BodyState {
+                start: 0,
+                hunk: 0,
+                position: Position::behind_table(hunks),
+            },
+            fed,
+            pending: Pending::none(),
+        }
+    }
+
     /// Whether the file is whole.
     ///
     /// Where a loader stands so, and it is, the store is the segments of the file that was fed, at
@@ -231,9 +250,5 @@ pub fn begin(store: &mut [u8], rows: &[Row], header: u64) -> Standing
     ensures zero { store.new ≡ replicate (length store.old) 0 }
 {
     store.fill(0);
-    Standing {
-        state: BodyState::start(hunks_of(rows)),
-        fed: header,
-        pending: Pending::none(),
-    }
+    Standing::behind_header(hunks_of(rows), header)
 }

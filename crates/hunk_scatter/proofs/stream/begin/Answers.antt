@@ -1,4 +1,4 @@
-use Rattle.std.proofs.Common.{◌≡◌, ℕ, List, [], map, length, replicate, refl, sym, subst, ap, ◌∙◌, arith}
+use Rattle.std.proofs.Common.{◌≡◌, ℕ, List, [], map, length, replicate, sym, subst, ap, ◌∙◌, arith}
 use Rattle.std.proofs.lemmas.List.{length-map}
 use Rattle.hunk_files.specs.Image.{declared_bytes}
 use Rattle.hunk_files.specs.LoadFile.{TableEntry}
@@ -29,8 +29,8 @@ returns-clause-begins c = λ table header size.
     let filled : c.fill.new.self ≡ replicate (length c.args.store.now) 0 = c.fill.ensures.after (λ y e. e) in
     let zeros : c.fill.new.self ≡ replicate total 0 = filled ∙ ap (λ (n : ℕ). replicate {A = ℕ} n 0) size in
     let count : c.hunks_of.result ≡ length t = c.hunks_of.ensures (omega (arith, table.most, length-map rows row_entry)) ∙ sym (length-map rows row_entry) in
-    let state : c.start.result ≡ state_at [] (open_next (length t) (length t)) = c.start.ensures ∙ ap (λ (n : ℕ). state_at [] (open_next n n)) count in
-    placed_loading (map row_of t) rows total total c.args.header (header_bytes t) c.fill.new.self _ tabled (sym same) zeros state refl c.none.ensures
+    let e = c.behind_header.ensures in
+    placed_loading (map row_of t) rows total total c.args.header (header_bytes t) c.fill.new.self _ tabled (sym same) zeros (e.state ∙ ap (λ (n : ℕ). state_at [] (open_next n n)) count) e.fed e.pending
 
 pub returns-clause-zero : goal.returns-clause-zero
 returns-clause-zero c = c.fill.ensures.after (λ y e. e)

@@ -1,4 +1,4 @@
-use Rattle.std.proofs.Common.{◌≡◌, ℕ, List, [], length, arith, None, refl, sym, ap, subst, ◌∙◌}
+use Rattle.std.proofs.Common.{◌≡◌, ℕ, List, [], length, arith, None, sym, ap, subst, ◌∙◌}
 use Rattle.hunk_files.specs.declared.row.Row.{Row}
 use Rattle.hunk_scatter.specs.BodyLoaderFields.{BodyLoaderInvariant}
 use Rattle.std.proofs.lemmas.List.{length-map}
@@ -6,7 +6,6 @@ use Rattle.hunk_scan.specs.Positions.{open_next}
 use Rattle.hunk_scatter.specs.BodyReader.{state_at}
 use Rattle.hunk_files.specs.Tables.{row_entry}
 use Rattle.hunk_scatter.specs.Rows.{entries_of}
-use Rattle.hunk_scatter.specs.declared.stream.Standing.{Standing}
 use Rattle.hunk_scatter.proofs.Starting.{placed_loading, written_rows}
 use Rattle.hunk_scatter.proofs.declared.Declared.place.Goals as goal
 
@@ -18,8 +17,8 @@ invariant_of-result g c =
     let entries = c.in_default.ensures.entries ∙ ap entries_of c.as_mut_slice.ensures.value in
     let hunks : c.len.result ≡ length (entries_of c.place_rows.new.rows) =
     omega (arith, c.len.ensures, ap length rows, length-map c.place_rows.new.rows row_entry) in
-    let standing : Standing = record { state = c.start.result; fed = c.table.inside.count; pending = c.none.result } in
-    let placed = placed_loading c.table.inside.rows.items c.place_rows.new.rows c.table.inside.total c.table.inside.budget c.table.inside.count c.table.inside.history.bytes c.in-Ok.store.items standing
-    c.table.invariant entries c.in-Ok.ensures (c.start.ensures ∙ ap (λ (n : ℕ). state_at [] (open_next n n)) hunks) refl c.none.ensures in
-    subst (λ (rs : List Row). BodyLoaderInvariant rs c.in-Ok.store.items standing None c.table.inside.history.bytes) (sym rows)
+    let standing = c.behind_header-standing in
+    let placed = placed_loading c.table.inside.rows.items c.place_rows.new.rows c.table.inside.total c.table.inside.budget c.table.inside.count c.table.inside.history.bytes c.in-Ok.store.items standing.result
+    c.table.invariant entries (c.in-Ok.ensures.items_if_clones_equal (λ y e. e)) (standing.ensures.state ∙ ap (λ (n : ℕ). state_at [] (open_next n n)) hunks) standing.ensures.fed standing.ensures.pending in
+    subst (λ (rs : List Row). BodyLoaderInvariant rs c.in-Ok.store.items standing.result None c.table.inside.history.bytes) (sym rows)
     (record { counted = placed.counted; hunks = placed.hunks; size = placed.size; reading = λ e. placed; own_reasons = λ f e. absurd cc })
