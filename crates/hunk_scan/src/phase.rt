@@ -1,8 +1,6 @@
 //! Positions within a hunk, and within a block.
-ghost use Rattle.std.specs.Prelude.{◌≡◌, ◌≤◌, ◌<◌, ◌^◌};
-ghost use Rattle.hunk_blocks.specs.PhaseSteps as inside;
+ghost use Rattle.std.specs.Prelude.{◌≡◌, ◌<◌, ◌^◌};
 ghost use Rattle.hunk_scan.specs.Positions as positions;
-ghost use Rattle.hunk_scan.specs.Positions.{run_in};
 
 use crate::position::Position;
 use hunk_blocks::Phase;
@@ -19,77 +17,23 @@ pub struct OpenHunk {
 }
 
 impl OpenHunk {
-    /// The position at this phase of the hunk.
-    #[inline(always)]
-    fn at(self, phase: Phase) -> Position
-        ensures { result ≡ positions.at self phase }
-    {
-        Position::Body(self, phase)
-    }
-
-    /// The same hunk, behind its content block.
-    #[inline(always)]
-    fn with_content(self) -> OpenHunk
-        ensures { result ≡ positions.with_content self }
-    {
-        OpenHunk {
-            has_content: true,
-            ..self
-        }
-    }
-
-    /// Behind the END of the hunk.
-    #[inline(always)]
-    fn close(self) -> Position
-        ensures { result ≡ positions.close self }
-    {
-        open_next(self.hunks, self.ahead)
-    }
-
     /// Behind a block whose last longword stands at this phase.
     #[inline(always)]
-    fn behind(self, phase: Phase) -> Position
+    pub(crate) fn behind(self, phase: Phase) -> Position
         ensures { result ≡ positions.behind self phase }
     {
         match phase {
             // The block that ends with its word is END.
-            Phase::FirstBlock | Phase::BlockWord => self.close(),
+            Phase::FirstBlock | Phase::BlockWord => open_next(self.hunks, self.ahead),
             Phase::ContentSize | Phase::BssSize | Phase::Content { longs: _, owed: _ } => {
-                self.with_content().at(Phase::BlockWord)
+                let hunk = OpenHunk {
+                    has_content: true,
+                    ..self
+                };
+                Position::Body(hunk, Phase::BlockWord)
             }
-            _ => self.at(Phase::BlockWord),
+            _ => Position::Body(self, Phase::BlockWord),
         }
-    }
-
-    /// Behind a longword.
-    #[inline(always)]
-    pub(crate) fn step(self, phase: Phase, word: u32) -> Position
-        ensures { result ≡ positions.step_in self phase word }
-    {
-        match phase.step(word) {
-            Some(next) => self.at(next),
-            None => self.behind(phase),
-        }
-    }
-
-    /// Behind one longword of a run and `more` of them.
-    #[inline(always)]
-    pub(crate) fn pass(self, phase: Phase, more: u32) -> Position
-        requires { more < run_in phase }
-        ensures { result ≡ positions.pass_in self phase more }
-    {
-        match phase.pass(more) {
-            Some(next) => self.at(next),
-            None => self.behind(phase),
-        }
-    }
-
-    /// Where `owed` offsets to this target are still to come.
-    #[inline(always)]
-    pub(crate) fn owe_offsets(self, target: u32, owed: u32) -> Position
-        ensures { result ≡ positions.owe_offsets self target owed }
-    {
-        self.at(Phase::owe_offsets(target, owed))
     }
 
     /// The least number of longwords up to the end of the file.

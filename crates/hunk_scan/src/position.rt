@@ -99,7 +99,10 @@ impl Position {
                 word: _,
                 owed,
             } => owe_entries(hunks, owed),
-            Position::Body(hunk, phase) => hunk.step(phase, word),
+            Position::Body(hunk, phase) => match phase.step(word) {
+                Some(next) => Position::Body(hunk, next),
+                None => hunk.behind(phase),
+            },
             Position::Done => Position::Done,
         }
     }
@@ -124,7 +127,10 @@ impl Position {
         ensures { result ≡ pass self count }
     {
         match self {
-            Position::Body(hunk, phase) if count > 0 => hunk.pass(phase, (count - 1) as u32),
+            Position::Body(hunk, phase) if count > 0 => match phase.pass((count - 1) as u32) {
+                Some(next) => Position::Body(hunk, next),
+                None => hunk.behind(phase),
+            },
             _ => self,
         }
     }
@@ -149,7 +155,8 @@ impl Position {
     {
         match self {
             Position::Body(hunk, Phase::Offset { target, owed }) if count > 0 => {
-                hunk.owe_offsets(target, owed - (count - 1) as u32)
+                let owed = owed - (count - 1) as u32;
+                Position::Body(hunk, Phase::owe_offsets(target, owed))
             }
             _ => self,
         }
