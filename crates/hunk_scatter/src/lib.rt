@@ -11,7 +11,6 @@ mod header_state;
 mod image;
 mod limits;
 mod loading;
-mod longwords;
 mod placer;
 mod segments;
 mod store;

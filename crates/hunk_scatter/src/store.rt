@@ -1,7 +1,7 @@
-//! The one store.
+//! The one store, and what the longwords of a body do to it.
 ghost use Rattle.std.specs.Prelude.{◌≡◌, ◌+◌, ◌≤◌, ◌<◌, ◌*◌, ◌/◌, ◌%◌, ◌^◌, length, take};
 ghost use Rattle.std.specs.Prelude.{get_or, Some, None, IfNone, IfSome, IfOk, IfErr, OnOk, OnErr};
-ghost use Rattle.std.specs.Prelude.{IsTrue};
+ghost use Rattle.std.specs.Prelude.{IsTrue, false, slice_index};
 ghost use Rattle.hunk_scatter.specs.LoaderReasons.{is_of_body};
 ghost use Rattle.hunk_words.specs.Longs.{longs};
 ghost use Rattle.std.specs.List.{AllByRecursion};
@@ -10,16 +10,18 @@ ghost use Rattle.hunk_files.specs.Image.{add_at};
 ghost use Rattle.hunk_scatter.specs.StoreContent.{put_at, put_slice, stored_long, stored_run};
 ghost use Rattle.hunk_scatter.specs.StoreContent.{added_at_each, TakesOffsets};
 ghost use Rattle.hunk_scatter.specs.BodySteps.{step_body, pass_body, refusal, IsInStore};
-ghost use Rattle.hunk_scan.specs.Positions.{run, EndsWithin};
+ghost use Rattle.hunk_scan.specs.Positions.{run, is_done, EndsWithin};
+ghost use Rattle.hunk_scan.specs.declared.position.Position.TheVariants as positions;
+ghost use Rattle.hunk_scatter.specs.BodyLoaderFields.{ReadyAt, TakesOrRefuses};
 ghost use Rattle.hunk_scatter.specs.Rows.{words_of, bases_of};
 
 use crate::body_state::{BodyState, longs_of};
 use hunk_files::Row;
-use hunk_scan::{Phase, Position, is_outside};
-use hunk_words::{Reason, word_at};
+use hunk_scan::{OpenHunk, Phase, Position, by_kind, by_phase, is_outside};
+use hunk_words::{BlockWord, Reason, word_at};
 
 /// Puts a longword at the offset.
-pub(crate) fn put(store: &mut [u8], at: usize, word: u32)
+fn put(store: &mut [u8], at: usize, word: u32)
     requires { at + 4 ≤ length store.old }
     ensures { store.new ≡ put_at store.old at (to_be_bytes w32 word) }
 {
@@ -28,7 +30,7 @@ pub(crate) fn put(store: &mut [u8], at: usize, word: u32)
 
 /// Puts bytes at the offset.
 #[inline(never)]
-pub(crate) fn put_all(store: &mut [u8], at: usize, bytes: &[u8])
+fn put_all(store: &mut [u8], at: usize, bytes: &[u8])
     requires { at + length bytes.now ≤ length store.old }
     ensures { store.new ≡ put_slice store.old at bytes.now }
 {
@@ -36,7 +38,7 @@ pub(crate) fn put_all(store: &mut [u8], at: usize, bytes: &[u8])
 }
 
 /// Adds to the longword at the offset, modulo 2 ^ 32.
-pub(crate) fn add(store: &mut [u8], at: usize, base: u32)
+fn add(store: &mut [u8], at: usize, base: u32)
     requires { at + 4 ≤ length store.old }
     ensures { store.new ≡ add_at store.old at base }
 {
@@ -54,7 +56,7 @@ pub(crate) fn base_of(rows: &[Row], hunk: u32) -> u32
 
 /// What the loader does to its store at a longword that is not rejected.
 #[inline(always)]
-pub(crate) fn store_word(store: &mut [u8], rows: &[Row], state: BodyState, word: u32)
+fn store_word(store: &mut [u8], rows: &[Row], state: BodyState, word: u32)
     requires in_store { IsInStore (words_of rows.now) (length store.old) state }
     requires passes { refusal (words_of rows.now) state word ≡ None }
     ensures { store.new ≡ stored_long (bases_of rows.now) state word store.old }
@@ -109,7 +111,7 @@ pub(crate) fn take_word(
 
 /// How many bytes of a piece of `count` bytes are longwords of a run.
 #[inline(always)]
-pub(crate) fn run_bytes(position: Position, count: usize) -> usize
+fn run_bytes(position: Position, count: usize) -> usize
     ensures bound { result ≤ count }
     ensures fours { result % 4 ≡ 0 }
     ensures run { result ≤ 4 * run position }
@@ -126,7 +128,7 @@ pub(crate) fn run_bytes(position: Position, count: usize) -> usize
 
 /// Takes longwords of a run at once: those of a content are copied, and the others are passed over.
 #[inline(always)]
-pub(crate) fn take_run(store: &mut [u8], rows: &[Row], state: BodyState, bytes: &[u8]) -> BodyState
+fn take_run(store: &mut [u8], rows: &[Row], state: BodyState, bytes: &[u8]) -> BodyState
     requires in_store { IsInStore (words_of rows.now) (length store.old) state }
     requires fours { length bytes.now % 4 ≡ 0 }
     requires run { length bytes.now ≤ 4 * run state.position }
@@ -144,7 +146,7 @@ pub(crate) fn take_run(store: &mut [u8], rows: &[Row], state: BodyState, bytes: 
 /// Adds to the longwords at the offsets, `most` of them at most, up to the first that passes the
 /// end of a hunk of `declared` longwords, and gives their number.
 #[inline(never)]
-pub(crate) fn add_all(
+fn add_all(
     store: &mut [u8],
     start: u64,
     declared: u32,
@@ -175,7 +177,7 @@ pub(crate) fn add_all(
 /// Takes the offsets that lie whole in the piece, up to the last but one of their list or to the
 /// first that is rejected, and gives their number; `None` where there is none.
 #[inline(always)]
-pub(crate) fn take_offsets(
+fn take_offsets(
     store: &mut [u8],
     rows: &[Row],
     state: BodyState,
@@ -212,4 +214,103 @@ pub(crate) fn take_offsets(
     let owed = owed - taken as u32;
     let position = Position::Body(hunk, Phase::Offset { target, owed });
     Some((BodyState { position, ..state }, taken))
+}
+
+/// Takes the longword at the front of the piece, this one, and gives its number of bytes. The state
+/// stands at this position.
+#[inline(always)]
+fn take_one(
+    store: &mut [u8],
+    rows: &[Row],
+    state: &mut BodyState,
+    position: Position,
+    word: u32,
+    piece: &[u8],
+) -> Result<usize, Reason>
+    requires ready { ReadyAt rows.now store.old state.old position piece.now }
+    requires goes_on { is_done position ≡ false }
+    requires first_long { word ≡ slice_index (longs piece.now) 0 }
+    ensures { TakesOrRefuses rows.now store.old state.old piece.now store.new state.new result }
+{
+    // The piece is for the contract alone.
+    let _ = piece;
+    let here = BodyState { position, ..*state };
+    *state = take_word(store, rows, here, word)?;
+    Ok(4)
+}
+
+/// Takes longwords from the front of the piece, and gives their number of bytes: those of a run, or
+/// of a list of offsets, at once, and else one. The state stands at this phase of this hunk; where
+/// the caller knows the phase, nothing is compiled of what it does at others.
+#[inline(always)]
+fn take_at(
+    store: &mut [u8],
+    rows: &[Row],
+    state: &mut BodyState,
+    hunk: OpenHunk,
+    phase: Phase,
+    piece: &[u8],
+) -> Result<usize, Reason>
+    requires { ReadyAt rows.now store.old state.old (positions.Body hunk phase) piece.now }
+    ensures { TakesOrRefuses rows.now store.old state.old piece.now store.new state.new result }
+{
+    let position = Position::Body(hunk, phase);
+    let here = BodyState { position, ..*state };
+    if position.run() > 0 {
+        let count = run_bytes(position, piece.len());
+        *state = take_run(store, rows, here, &piece[..count]);
+        return Ok(count);
+    }
+    match take_offsets(store, rows, here, piece) {
+        Some((next, count)) => {
+            *state = next;
+            Ok(4 * count)
+        }
+        None => {
+            let word = word_at(piece, 0);
+            take_one(store, rows, state, position, word, piece)
+        }
+    }
+}
+
+/// Takes longwords from the front of the piece, and gives their number of bytes. The phases and the
+/// kinds of block words are told apart here, once for all that is asked of them. What stands with a
+/// phase is read where that phase is known: most phases need little of it.
+///
+/// It asks for room alone: what was fed before may be any bytes after which a loader stands so.
+#[inline(always)]
+pub(crate) fn take_front(
+    store: &mut [u8],
+    rows: &[Row],
+    state: &mut BodyState,
+    piece: &[u8],
+) -> Result<usize, Reason>
+    requires ready { ReadyAt rows.now store.old state.old state.old.position piece.now }
+    requires goes_on { is_done state.old.position ≡ false }
+    ensures { TakesOrRefuses rows.now store.old state.old piece.now store.new state.new result }
+{
+    // Behind a header a hunk is open, or the file is whole.
+    let Position::Body(hunk, phase) = &state.position else {
+        unreachable!()
+    };
+    macro_rules! at {
+        ($phase:expr) => {{
+            let (hunk, phase) = (*hunk, $phase);
+            take_at(store, rows, state, hunk, phase, piece)
+        }};
+    }
+    by_phase!(
+        *phase,
+        {
+            let word = word_at(piece, 0);
+            by_kind!(
+                BlockWord::of(word).kind(),
+                {
+                    let position = Position::Body(*hunk, *phase);
+                    take_one(store, rows, state, position, word, piece)
+                }
+            )
+        },
+        at
+    )
 }

@@ -14,8 +14,7 @@ ghost use Rattle.hunk_scatter.specs.Streaming.{MayTake, StandsOn, StopsForBody, 
 
 pub use crate::body_state::BodyState;
 pub use crate::header_size::{HeaderSize, header_size};
-use crate::longwords::take_front;
-use crate::store::take_word;
+use crate::store::{take_front, take_word};
 use hunk_files::Row;
 use hunk_scan::Position;
 pub use hunk_words::Pending;

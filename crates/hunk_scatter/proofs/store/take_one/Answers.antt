@@ -7,7 +7,7 @@ use Rattle.hunk_scatter.specs.BodyLoaderFields.{StandsBehind}
 use Rattle.hunk_scatter.proofs.OneByte.{stands_as}
 use Rattle.hunk_scatter.proofs.Staying.{stays_as, word_stays}
 use Rattle.hunk_scatter.proofs.WholeLongs.{state_at, word_taken, word_refused}
-use Rattle.hunk_scatter.proofs.longwords.take_one.Goals as goal
+use Rattle.hunk_scatter.proofs.store.take_one.Goals as goal
 
 pub take_word-requires : goal.take_word-requires
 take_word-requires c =

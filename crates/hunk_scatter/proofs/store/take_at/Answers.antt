@@ -3,7 +3,7 @@ use Rattle.hunk_scatter.proofs.Runs.{read_offsets}
 use Rattle.hunk_scatter.proofs.OneByte.{stands_as}
 use Rattle.hunk_scatter.proofs.Staying.{offsets_stay, run_stays, stays_as}
 use Rattle.hunk_scatter.proofs.WholeLongs.{room_at, read_at, run_taken}
-use Rattle.hunk_scatter.proofs.longwords.take_at.Goals as goal
+use Rattle.hunk_scatter.proofs.store.take_at.Goals as goal
 
 pub take_run-requires-clause-in_store : goal.take_run-requires-clause-in_store
 take_run-requires-clause-in_store c = room_at _ _ _ _ c.requires.position_is c.requires.in_store
