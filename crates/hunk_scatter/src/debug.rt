@@ -3,8 +3,7 @@
 use crate::body_loader::BodyLoader;
 use crate::declared::Declared;
 use crate::header_loader::HeaderLoader;
-use crate::image::Image;
-use crate::segments::Segments;
+use crate::image::{Image, Segments};
 use std::fmt;
 
 impl fmt::Debug for HeaderLoader {

@@ -12,15 +12,13 @@ mod image;
 mod limits;
 mod loading;
 mod placer;
-mod segments;
 mod store;
 pub mod stream;
 
 pub use crate::body_loader::BodyLoader;
 pub use crate::declared::{Declared, Unplaced};
 pub use crate::header_loader::HeaderLoader;
-pub use crate::image::Image;
+pub use crate::image::{Image, Segments};
 pub use crate::limits::Limits;
 pub use crate::loading::load;
 pub use crate::placer::{Listed, Packed, Placer};
-pub use crate::segments::Segments;
