@@ -1,14 +1,15 @@
 //! A table whose hunks are not placed.
 ghost use Rattle.std.specs.Prelude.{◌≡◌, ◌+◌, ◌*◌, ◌<◌, ◌≤◌, length, map, slice_get, Some, None};
-ghost use Rattle.std.specs.Prelude.{IfOk, IfErr};
+ghost use Rattle.std.specs.Prelude.{IfOk, IfErr, OnOk};
+ghost use Rattle.hunk_words.specs.Limits.{most_hunks};
 ghost use Rattle.hunk_files.specs.Image.{declared_bytes};
 ghost use Rattle.hunk_scatter.specs.HeaderBytes.{header_bytes};
-ghost use Rattle.hunk_scatter.specs.Placing.{AreBases, IsUnplacedFor};
+ghost use Rattle.hunk_scatter.specs.Placing.{AreBases, IsFirstUnplaced, IsUnplacedFor};
 ghost use Rattle.hunk_scatter.specs.UnplacedLine.{unplaced_line};
 ghost use Rattle.hunk_scatter.specs.Rows.{row_of, entries_of, bases_of};
 
 use crate::body_loader::BodyLoader;
-use crate::placer::{Placer, place_rows, unplace_rows};
+use crate::placer::Placer;
 use crate::stream::Standing;
 use hunk_files::Row;
 use hunk_words::{History, LoadFault, Reason};
@@ -67,6 +68,35 @@ impl fmt::Display for Unplaced {
 }
 
 impl Error for Unplaced {}
+
+/// Gives each row its base, or answers the first hunk that has none.
+fn place_rows<P: Placer>(rows: &mut [Row], placer: &P) -> Result<(), u32>
+    requires few { length rows.old ≤ most_hunks }
+    requires unplaced { rows.old ≡ map row_of (entries_of rows.old) }
+    ensures entries { entries_of rows.new ≡ entries_of rows.old }
+    ensures given { OnOk result
+        (AreBases (P.base placer.now) (entries_of rows.old) (bases_of rows.new)) }
+    ensures missing { IfErr result (IsFirstUnplaced (P.base placer.now) (entries_of rows.old)) }
+{
+    let mut before = 0;
+    for (hunk, row) in rows.iter_mut().enumerate() {
+        match placer.base(hunk as u32, row, before) {
+            Some(base) => row.base = base,
+            None => return Err(hunk as u32),
+        }
+        before += row.size().bytes();
+    }
+    Ok(())
+}
+
+/// Makes each row's base 0 again.
+fn unplace_rows(rows: &mut [Row])
+    ensures { rows.new ≡ map row_of (entries_of rows.old) }
+{
+    for row in rows {
+        row.base = 0;
+    }
+}
 
 impl Declared {
     /// The number of hunks, 1 to 65,536.

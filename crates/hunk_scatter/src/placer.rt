@@ -1,9 +1,7 @@
 //! Where hunks go.
-ghost use Rattle.std.specs.Prelude.{◌≡◌, ℕ, ◌<◌, ◌≤◌, length, map, Option, IfErr, OnOk};
-ghost use Rattle.hunk_words.specs.Limits.{most_hunks};
+ghost use Rattle.std.specs.Prelude.{◌≡◌, ℕ, Option};
 ghost use Rattle.hunk_files.specs.declared.row.Row.{Row};
-ghost use Rattle.hunk_scatter.specs.Placing.{AreBases, IsFirstUnplaced, listed_in, packed_from};
-ghost use Rattle.hunk_scatter.specs.Rows.{entries_of, bases_of, row_of};
+ghost use Rattle.hunk_scatter.specs.Placing.{listed_in, packed_from};
 
 use hunk_files::Row;
 
@@ -53,34 +51,5 @@ impl Placer for Listed<'_> {
 
     fn base(&self, hunk: u32, _row: &Row, _before: u64) -> Option<u32> {
         self.0.get(hunk as usize).copied()
-    }
-}
-
-/// Gives each row its base, or answers the first hunk that has none.
-pub(crate) fn place_rows<P: Placer>(rows: &mut [Row], placer: &P) -> Result<(), u32>
-    requires few { length rows.old ≤ most_hunks }
-    requires unplaced { rows.old ≡ map row_of (entries_of rows.old) }
-    ensures entries { entries_of rows.new ≡ entries_of rows.old }
-    ensures given { OnOk result
-        (AreBases (P.base placer.now) (entries_of rows.old) (bases_of rows.new)) }
-    ensures missing { IfErr result (IsFirstUnplaced (P.base placer.now) (entries_of rows.old)) }
-{
-    let mut before = 0;
-    for (hunk, row) in rows.iter_mut().enumerate() {
-        match placer.base(hunk as u32, row, before) {
-            Some(base) => row.base = base,
-            None => return Err(hunk as u32),
-        }
-        before += row.size().bytes();
-    }
-    Ok(())
-}
-
-/// Makes each row's base 0 again.
-pub(crate) fn unplace_rows(rows: &mut [Row])
-    ensures { rows.new ≡ map row_of (entries_of rows.old) }
-{
-    for row in rows {
-        row.base = 0;
     }
 }

@@ -1,6 +1,6 @@
 use Rattle.std.proofs.Common.{sym, arith}
 use Rattle.hunk_scatter.proofs.PlacingLaws.{placed_next, next_room}
-use Rattle.hunk_scatter.proofs.placer.place_rows.Goals as goal
+use Rattle.hunk_scatter.proofs.declared.place_rows.Goals as goal
 
 pub overflow_add-before : goal.overflow_add-before
 overflow_add-before g c =
