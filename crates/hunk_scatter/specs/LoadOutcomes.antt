@@ -15,7 +15,7 @@ use Rattle.hunk_scatter.specs.HeaderFaults.{CompletesRow, PassesBudget, KeepsToB
 use Rattle.hunk_scatter.specs.LoaderValues.{ImageValue, HasNoRefusal}
 use Rattle.hunk_scatter.specs.Placing.{Placing, base_at, AreBases, HasBases, IsFirstUnplaced, IsUnplacedFor}
 use Rattle.hunk_scatter.specs.Rows.{entries_of, bases_of}
-use Rattle.hunk_scatter.specs.declared.limits.Limits.{Limits}
+use Rattle.hunk_scatter.specs.declared.loading.Limits.{Limits}
 
 -- ---- what a reader gives
 

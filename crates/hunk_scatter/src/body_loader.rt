@@ -16,8 +16,8 @@ ghost use Rattle.hunk_scatter.specs.LoadOutcomes.{IsWithinFile};
 ghost use Rattle.hunk_scatter.specs.Owing.{HasToCome, most_want};
 ghost use Rattle.hunk_scatter.specs.Rows.{entries_of};
 
+use crate::header_loader::bytes_wanted;
 use crate::image::{Image, starts_of};
-use crate::limits::bytes_wanted;
 use crate::stream::{Standing, Stop, take_all};
 use hunk_files::Row;
 use hunk_scan::Position;

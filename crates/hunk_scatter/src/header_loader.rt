@@ -3,6 +3,7 @@ ghost use Rattle.std.specs.Prelude.{◌≡◌, ℕ, ◌+◌, ◌*◌, ◌/◌, �
 ghost use Rattle.std.specs.Prelude.{length, take, true, false, Some, None, Ok, Err, IfOk, IfErr};
 ghost use Rattle.std.specs.Prelude.{OnOk, OnErr, IsOk, IsTrue, IsErrAnd, ◌⊎◌};
 ghost use Rattle.hunk_words.specs.Limits.{most_hunks};
+ghost use Rattle.hunk_words.specs.PendingBytes.{pending_of};
 ghost use Rattle.hunk_words.specs.declared.fault.Fault.{Fault};
 ghost use Rattle.hunk_words.specs.declared.reason.Reason.TheVariants as reasons;
 ghost use Rattle.hunk_files.specs.Fault.{IsTruncated};
@@ -23,12 +24,14 @@ ghost use Rattle.hunk_words.specs.Longs.{longs};
 
 use crate::declared::Declared;
 use crate::header_state::{HeaderState, take_header_word};
-use crate::limits::bytes_wanted;
 use hunk_files::Row;
 use hunk_scan::Position;
 use hunk_words::{History, LoadFault, Pending, Reason};
 use std::alloc::Global;
 use std::marker::Model;
+
+/// The most bytes that a loader wants at a time, and the size of the buffer of a load.
+pub(crate) const MOST_WANT: usize = 256;
 
 /// Takes the header of a load file, whose hunks may declare no more bytes together than a budget.
 ///
@@ -288,5 +291,25 @@ impl HeaderLoader {
             count,
             history,
         })
+    }
+}
+
+/// How many bytes a loader wants next to which this many longwords are still to come, with what is
+/// pending of the first of them.
+#[inline(always)]
+pub(crate) fn bytes_wanted(longs: u64, pending: Pending) -> usize
+    requires some { 0 < longs }
+    requires room { longs < 2 ^ 35 }
+    requires few { length (pending_of pending) < 4 }
+    ensures some { 0 < result }
+    ensures bound { result ≤ most_want }
+    ensures to_come { result + length (pending_of pending) ≤ 4 * longs }
+    ensures all { (4 * longs ≤ result + length (pending_of pending)) ⊎ (most_want ≤ result) }
+{
+    let bytes = 4 * longs - u64::from(pending.count);
+    if bytes < MOST_WANT as u64 {
+        bytes as usize
+    } else {
+        MOST_WANT
     }
 }

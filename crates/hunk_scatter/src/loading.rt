@@ -21,12 +21,20 @@ ghost use Rattle.hunk_scatter.specs.Owing.{most_want};
 
 use crate::body_loader::BodyLoader;
 use crate::declared::Declared;
-use crate::header_loader::HeaderLoader;
+use crate::header_loader::{HeaderLoader, MOST_WANT};
 use crate::image::Image;
-use crate::limits::{Limits, MOST_WANT};
 use crate::placer::Placer;
 use hunk_words::{LoadFault, Reason, Source};
 use std::alloc::Global;
+
+/// The limits of a load, in bytes.
+#[derive(Clone, Copy, Debug, PartialEq, Eq)]
+pub struct Limits {
+    /// The most bytes that all segments together may have.
+    pub budget: u64,
+    /// The most bytes that may be read.
+    pub file_bytes: u64,
+}
 
 /// Reads a next piece of at most `want` bytes, where `count` were read before it.
 #[inline(always)]

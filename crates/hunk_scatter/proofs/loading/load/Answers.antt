@@ -14,7 +14,7 @@ use Rattle.hunk_scatter.specs.LoaderReasons.{is_of_file, is_of_load}
 use Rattle.hunk_scatter.specs.LoaderValues.{ImageValue}
 use Rattle.hunk_scatter.specs.LoadOutcomes.{Gives, GivesAtMost, HasFileWithin, IsHeaderWithin, IsLoadFault, IsLoaded, IsWithinFile, KeepsToHeader, LoadEnds, InHeader, Between, StopsBehindFile, StopsBehindHeader, TellsFailure}
 use Rattle.hunk_scatter.specs.Placing.{Placing}
-use Rattle.hunk_scatter.specs.declared.limits.Limits.{Limits}
+use Rattle.hunk_scatter.specs.declared.loading.Limits.{Limits}
 use Rattle.hunk_scatter.proofs.HeaderFronts.{within_file}
 use Rattle.hunk_scatter.proofs.LoadEnding.{ends_body, body_keeps, has_bases, file_loads, budget_stops, file_faults}
 use Rattle.hunk_scatter.proofs.LoadLaws.{keeps_file, keeps_header, ends_fault, ends_own, ends_loaded}
