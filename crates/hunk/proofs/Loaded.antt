@@ -14,7 +14,7 @@ use Rattle.hunk_files.proofs.Refusals.{refusal_of_word}
 use Rattle.hunk_scatter.specs.HeaderBytes.{BeginsWithHeader}
 use Rattle.hunk_scatter.specs.HeaderSizes.{HasHeaderInFront, HasHeaderSize, RefusesHeader}
 use Rattle.hunk_scatter.specs.Placing.{Placing, HasBases, IsFirstUnplaced}
-use Rattle.hunk_scatter.specs.declared.header_size.HeaderSize.{HeaderSize}
+use Rattle.hunk_scatter.specs.declared.header_state.HeaderSize.{HeaderSize}
 use Rattle.hunk_scatter.proofs.TableLimit.{never_passes}
 use Rattle.hunk.specs.declared.answer.Answer.{Answer}
 use Rattle.hunk.specs.Answers.{refused, done}

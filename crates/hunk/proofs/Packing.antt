@@ -14,7 +14,7 @@ use Rattle.hunk_files.proofs.TableReading.{entries_are}
 use Rattle.hunk_scatter.specs.HeaderBytes.{BeginsWithHeader}
 use Rattle.hunk_scatter.specs.Placing.{AreBases, IsFirstUnplaced, base_at, listed_in, packed_from}
 use Rattle.hunk_scatter.specs.HeaderSizes.{HasHeaderSize}
-use Rattle.hunk_scatter.specs.declared.header_size.HeaderSize.{HeaderSize}
+use Rattle.hunk_scatter.specs.declared.header_state.HeaderSize.{HeaderSize}
 use Rattle.hunk_scatter.proofs.DeclaredBytes.{declared-cons}
 use Rattle.hunk.specs.declared.packed.Mark.{Mark}
 use Rattle.hunk.specs.Packs.{ArePacked, AreMarksTo, AreNearTo, HasRow, IsRow, RowStandsAt, bases_in, hunks_a_mark, most_marks, no_mark, packed_after}

@@ -7,7 +7,7 @@ use Rattle.hunk_files.specs.Image.{declared_bytes}
 use Rattle.hunk_files.specs.LoadFile.{TableEntry}
 use Rattle.hunk_scatter.specs.HeaderBytes.{BeginsWithHeader, header_bytes}
 use Rattle.hunk_scatter.specs.HeaderFaults.{PassesBudget, KeepsToBudget}
-use Rattle.hunk_scatter.specs.declared.header_size.HeaderSize.{HeaderSize}
+use Rattle.hunk_scatter.specs.declared.header_state.HeaderSize.{HeaderSize}
 
 -- The bytes begin with a header of this size, whose table keeps to the budget.
 pub record HasHeaderSize (budget : ℕ) (bytes : List ℕ) (size : HeaderSize) : Type 0 where

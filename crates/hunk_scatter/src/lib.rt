@@ -6,7 +6,6 @@ mod body_state;
 mod debug;
 mod declared;
 mod header_loader;
-mod header_size;
 mod header_state;
 mod image;
 mod loading;

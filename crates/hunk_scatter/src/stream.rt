@@ -13,7 +13,7 @@ ghost use Rattle.hunk_scatter.specs.Streaming.{BeginsLoading, EndsLoading, IsFed
 ghost use Rattle.hunk_scatter.specs.Streaming.{MayTake, StandsOn, StopsForBody, TakesOn, TakesPart};
 
 pub use crate::body_state::BodyState;
-pub use crate::header_size::{HeaderSize, header_size};
+pub use crate::header_state::{HeaderSize, header_size};
 use crate::store::{take_front, take_word};
 use hunk_files::Row;
 use hunk_scan::Position;

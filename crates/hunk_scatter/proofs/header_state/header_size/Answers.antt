@@ -3,7 +3,7 @@ use Rattle.std.proofs.lemmas.List.{take_rest}
 use Rattle.hunk_words.specs.Longs.{longs, IsBytes}
 use Rattle.hunk_scatter.specs.Rows.{entries_of}
 use Rattle.hunk_scatter.proofs.HeaderSizes.{none_so_far, none_cut, cut_within, word_accepted, so_far_room, header_cut, header_whole, header_total, header_end, word_passes, word_stops, hunks_in}
-use Rattle.hunk_scatter.proofs.header_size.header_size.Goals as goal
+use Rattle.hunk_scatter.proofs.header_state.header_size.Goals as goal
 
 pub words-init : goal.words-init
 words-init c = none_so_far c.args.budget c.args.bytes.now
