@@ -4,16 +4,12 @@
 #![tactic(auto)]
 
 mod file_kind;
-mod header;
 mod phase;
 mod position;
 mod refusal;
-mod standing;
 
 pub use crate::file_kind::Sniff;
-pub use crate::header::{TABLE_AT, TABLE_SIZE_AT};
 pub use crate::phase::OpenHunk;
-pub use crate::position::Position;
-pub use crate::refusal::is_outside;
-pub use crate::standing::refuse_place;
+pub use crate::position::{Position, TABLE_AT, TABLE_SIZE_AT};
+pub use crate::refusal::{is_outside, refuse_place};
 pub use hunk_blocks::Phase;

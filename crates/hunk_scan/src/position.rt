@@ -8,6 +8,18 @@ use crate::phase::{OpenHunk, open_next};
 use hunk_blocks::Phase;
 use hunk_words::SizeWord;
 
+/// The longword of the header, counted from 0, that has the number of hunks.
+///
+/// Source: The AmigaDOS Manual. It stands behind the header's word and the empty list of resident
+/// names.
+pub const TABLE_SIZE_AT: usize = 2;
+
+/// The longword of the header, counted from 0, at which the table begins, behind the number of the
+/// last hunk.
+///
+/// Source: The AmigaDOS Manual.
+pub const TABLE_AT: usize = 5;
+
 /// What the next longword of a load file is for.
 ///
 /// `hunks` is the number of hunks of the file. `owed` is how many entries of the table follow the

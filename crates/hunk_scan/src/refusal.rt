@@ -4,13 +4,13 @@ ghost use Rattle.hunk_blocks.specs.Parts.{Part as parts};
 ghost use Rattle.hunk_scan.specs.Roles.{Role as roles, refuse, refuse_part, refuse_word};
 ghost use Rattle.hunk_blocks.specs.PhaseSteps.{part_at};
 ghost use Rattle.hunk_scan.specs.Positions.{role_at, place};
+ghost use Rattle.hunk_scan.specs.Standings.{refuse_standing, standing_of_kind};
 
 use crate::file_kind::Sniff;
 use crate::phase::OpenHunk;
 use crate::position::Position;
-use crate::standing::refuse_place;
 use hunk_blocks::{Mode, Phase, content_longs};
-use hunk_words::{BlockWord, MOST_HUNKS, NAME_LIMIT, Reason, SizeWord};
+use hunk_words::{BlockWord, Kind, MOST_HUNKS, NAME_LIMIT, Reason, SizeWord};
 
 impl Position {
     /// Why the longword is rejected, where it is. `longs` is the number of longwords that the open
@@ -104,5 +104,22 @@ fn refuse_block_word(has_content: bool, word: u32) -> Option<Reason>
     match Mode::Load.refuse(block) {
         Some(reason) => Some(reason),
         None => refuse_place(block.kind(), has_content),
+    }
+}
+
+/// Why a block of this kind may not stand here, where it may not. `has_content` says whether the
+/// hunk has its content block.
+///
+/// Just one content block, relocations and EXT only behind it, END last: this project's own choice.
+#[inline(always)]
+pub fn refuse_place(kind: Kind, has_content: bool) -> Option<Reason>
+    ensures { result ≡ refuse_standing has_content (standing_of_kind kind) }
+{
+    match kind {
+        Kind::Code | Kind::Data | Kind::Bss if has_content => Some(Reason::SecondContent),
+        Kind::Ext if !has_content => Some(Reason::BeforeContent),
+        Kind::End if !has_content => Some(Reason::NoContent),
+        kind if !has_content && kind.is_relocation() => Some(Reason::BeforeContent),
+        _ => None,
     }
 }
