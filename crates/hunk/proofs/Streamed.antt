@@ -31,7 +31,7 @@ use Rattle.hunk_scatter.specs.BodyReader.{state_at, state_of}
 use Rattle.hunk_scatter.specs.Rows.{bases_of, entries_of}
 use Rattle.hunk_scatter.specs.StoreContent.{StoreHolds}
 use Rattle.hunk_scatter.specs.Streaming.{EndsLoading, IsFed}
-use Rattle.hunk_scatter.specs.declared.body_state.BodyState.{BodyState}
+use Rattle.hunk_scatter.specs.declared.store.BodyState.{BodyState}
 use Rattle.hunk_scatter.specs.declared.stream.Standing.{Standing}
 use Rattle.hunk_scatter.proofs.BodyFields.{done_if_whole, fed_more, in_room}
 use Rattle.hunk_scatter.proofs.Forget.{before_is}

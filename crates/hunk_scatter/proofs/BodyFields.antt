@@ -26,7 +26,7 @@ use Rattle.hunk_blocks.specs.declared.phase.Phase.{Phase}
 use Rattle.hunk_scan.specs.declared.position.Position.TheVariants as positions
 use Rattle.hunk_scan.specs.Positions.{is_done, least_longs, run}
 use Rattle.hunk_files.specs.ReaderPosition.{position_of, IsBehindHeader}
-use Rattle.hunk_scatter.specs.declared.body_state.BodyState.{BodyState}
+use Rattle.hunk_scatter.specs.declared.store.BodyState.{BodyState}
 use Rattle.hunk_scatter.specs.StoreContent.{HasSizedImage}
 use Rattle.hunk_scatter.specs.BodyLoaderFields.{IsFed, StandsBehind}
 use Rattle.hunk_words.specs.PendingBytes.{pending_of}

@@ -18,7 +18,7 @@ use Rattle.hunk_scan.specs.Roles.{refuse}
 use Rattle.hunk_scan.specs.declared.position.Position.{Position}
 use Rattle.hunk_scan.specs.declared.position.Position.TheVariants as positions
 use Rattle.hunk_scan.specs.Positions.{is_between_hunks, role_at}
-use Rattle.hunk_scatter.specs.declared.body_state.BodyState.{BodyState}
+use Rattle.hunk_scatter.specs.declared.store.BodyState.{BodyState}
 use Rattle.hunk_scatter.specs.BodyReader.{sizes_of, before, state_at, state_of}
 use Rattle.hunk_scatter.specs.BodySteps.{longs_at, refusal, move_to, step_body}
 

@@ -18,7 +18,7 @@ use Rattle.hunk_scan.specs.declared.position.Position.{Position}
 use Rattle.hunk_scan.specs.declared.position.Position.TheVariants as positions
 use Rattle.hunk_scan.specs.Positions.{behind, is_behind_header, is_between_hunks, onward, open_next, pass, place, step}
 use Rattle.hunk_scan.specs.Roles.{refuse_part}
-use Rattle.hunk_scatter.specs.declared.body_state.BodyState.{BodyState}
+use Rattle.hunk_scatter.specs.declared.store.BodyState.{BodyState}
 use Rattle.hunk_scatter.specs.BodySteps.{IsInStore, RoomFor, RoomIn, StaysInStore, longs_at, move_to, pass_body, refusal, step_body, targets_at}
 use Rattle.hunk_scatter.specs.StoreContent.{TakesOffsets}
 

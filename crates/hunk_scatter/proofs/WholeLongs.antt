@@ -8,7 +8,7 @@ use Rattle.hunk_files.specs.Fault.{HasRefusal}
 use Rattle.hunk_files.specs.declared.row.Row.{Row}
 use Rattle.hunk_scan.specs.Positions.{is_done, run}
 use Rattle.hunk_scan.specs.declared.position.Position.{Position}
-use Rattle.hunk_scatter.specs.declared.body_state.BodyState.{BodyState}
+use Rattle.hunk_scatter.specs.declared.store.BodyState.{BodyState}
 use Rattle.hunk_scatter.specs.BodyLoaderFields.{StandsBehind}
 use Rattle.hunk_scatter.specs.BodySteps.{refusal, step_body, pass_body, IsInStore}
 use Rattle.hunk_scatter.specs.Rows.{words_of, bases_of}

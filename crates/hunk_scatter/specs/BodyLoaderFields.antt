@@ -10,7 +10,7 @@ use Rattle.hunk_files.specs.FileSteps.{Next, More, Finished}
 use Rattle.hunk_files.specs.WordsRead.{HasRead}
 use Rattle.hunk_files.specs.declared.row.Row.{Row}
 use Rattle.hunk_scan.specs.declared.position.Position.{Position}
-use Rattle.hunk_scatter.specs.declared.body_state.BodyState.{BodyState}
+use Rattle.hunk_scatter.specs.declared.store.BodyState.{BodyState}
 use Rattle.hunk_scatter.specs.LoaderReasons.{is_of_body}
 use Rattle.hunk_scatter.specs.StoreContent.{StoreHolds}
 use Rattle.hunk_scatter.specs.BodySteps.{IsInStore, StaysInStore}

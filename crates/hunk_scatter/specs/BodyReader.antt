@@ -7,7 +7,7 @@ use Rattle.hunk_files.specs.FileSteps.{AtBlock, InBody, Next, More, Finished}
 use Rattle.hunk_files.specs.ReaderPosition.{position_of}
 use Rattle.hunk_scan.specs.declared.position.Position.{Position}
 use Rattle.hunk_scan.specs.declared.position.Position.TheVariants as positions
-use Rattle.hunk_scatter.specs.declared.body_state.BodyState.{BodyState}
+use Rattle.hunk_scatter.specs.declared.store.BodyState.{BodyState}
 
 abbrev pub sizes_of : List TableEntry → List ℕ
 sizes_of table = map (λ e. e.word) table

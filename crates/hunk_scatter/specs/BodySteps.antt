@@ -9,7 +9,7 @@ use Rattle.hunk_scan.specs.declared.position.Position.{Position}
 use Rattle.hunk_scan.specs.declared.position.Position.TheVariants as positions
 use Rattle.hunk_scan.specs.Positions.{role_at, step, pass, is_between_hunks, is_behind_header}
 use Rattle.hunk_scan.specs.Roles.{refuse}
-use Rattle.hunk_scatter.specs.declared.body_state.BodyState.{BodyState}
+use Rattle.hunk_scatter.specs.declared.store.BodyState.{BodyState}
 
 abbrev pub longs_at : List ℕ → ℕ → ℕ
 longs_at sizes hunk = size_longs (get_or sizes hunk 0)

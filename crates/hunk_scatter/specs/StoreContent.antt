@@ -14,7 +14,7 @@ use Rattle.hunk_scan.specs.declared.position.Position.{Position}
 use Rattle.hunk_scan.specs.declared.position.Position.TheVariants as positions
 use Rattle.hunk_scan.specs.Positions.{EndsWithin}
 use Rattle.hunk_scatter.specs.BodySteps.{longs_at}
-use Rattle.hunk_scatter.specs.declared.body_state.BodyState.{BodyState}
+use Rattle.hunk_scatter.specs.declared.store.BodyState.{BodyState}
 
 abbrev pub zeros : List TableEntry → List ℕ
 zeros table = flat_map (λ e. replicate (4 * size_longs e.word) 0) table

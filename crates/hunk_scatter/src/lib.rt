@@ -2,7 +2,6 @@
 #![tactic(auto)]
 
 mod body_loader;
-mod body_state;
 mod debug;
 mod declared;
 mod header_loader;

@@ -12,8 +12,8 @@ ghost use Rattle.hunk_scatter.specs.StopLine.{stop_line};
 ghost use Rattle.hunk_scatter.specs.Streaming.{BeginsLoading, EndsLoading, IsFed, IsWithin};
 ghost use Rattle.hunk_scatter.specs.Streaming.{MayTake, StandsOn, StopsForBody, TakesOn, TakesPart};
 
-pub use crate::body_state::BodyState;
 pub use crate::header_state::{HeaderSize, header_size};
+pub use crate::store::BodyState;
 use crate::store::{take_front, take_word};
 use hunk_files::Row;
 use hunk_scan::Position;

@@ -2,7 +2,7 @@ use Rattle.std.proofs.Common.{[], length, refl, sym, subst, arith}
 use Rattle.std.proofs.lemmas.Result.{err_from_is_err_and}
 use Rattle.hunk_scatter.specs.BodySteps.{IsInStore}
 use Rattle.hunk_scatter.specs.Rows.{words_of}
-use Rattle.hunk_scatter.specs.declared.body_state.BodyState.{BodyState}
+use Rattle.hunk_scatter.specs.declared.store.BodyState.{BodyState}
 use Rattle.hunk_scatter.specs.BodyLoaderFields.{StandsBehind}
 use Rattle.hunk_scatter.proofs.OneByte.{stands_as}
 use Rattle.hunk_scatter.proofs.Staying.{stays_as, word_stays}

@@ -1,5 +1,5 @@
 use Rattle.hunk_scatter.proofs.StreamLaws.{done_or_open}
-use Rattle.hunk_scatter.proofs.body_state.BodyState.is_in_store.Goals as goal
+use Rattle.hunk_scatter.proofs.store.BodyState.is_in_store.Goals as goal
 
 pub returns-in_default-clause-complete : goal.returns-in_default-clause-complete
 returns-in_default-clause-complete c i more =
