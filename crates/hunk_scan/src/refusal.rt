@@ -1,13 +1,10 @@
 //! The tests of the longwords of a load file.
 ghost use Rattle.std.specs.Prelude.{◌≡◌, ◌+◌, ◌*◌, nat_lt, Some, None, if◌then◌else◌};
-ghost use Rattle.hunk_blocks.specs.Parts.{Part as parts};
-ghost use Rattle.hunk_scan.specs.Roles.{Role as roles, refuse, refuse_part, refuse_word};
-ghost use Rattle.hunk_blocks.specs.PhaseSteps.{part_at};
-ghost use Rattle.hunk_scan.specs.Positions.{role_at, place};
+ghost use Rattle.hunk_scan.specs.Roles.{Role as roles, refuse, refuse_word};
+ghost use Rattle.hunk_scan.specs.Positions.{role_at};
 ghost use Rattle.hunk_scan.specs.Standings.{refuse_standing, standing_of_kind};
 
 use crate::file_kind::Sniff;
-use crate::phase::OpenHunk;
 use crate::position::Position;
 use hunk_blocks::{Mode, Phase, content_longs};
 use hunk_words::{BlockWord, Kind, MOST_HUNKS, NAME_LIMIT, Reason, SizeWord};
@@ -32,29 +29,19 @@ impl Position {
             Position::LastHunk { hunks } => {
                 refuse_if(u64::from(word) + 1 != u64::from(hunks), Reason::LastHunk)
             }
-            Position::Body(hunk, phase) => hunk.refuse(phase, longs, word),
-            _ => None,
-        }
-    }
-}
-
-impl OpenHunk {
-    /// Why the longword of the hunk is rejected, where it is.
-    #[inline(always)]
-    fn refuse(self, phase: Phase, longs: u32, word: u32) -> Option<Reason>
-        ensures { result ≡ refuse_part (place longs self) (part_at phase) word }
-    {
-        match phase {
-            Phase::FirstBlock | Phase::BlockWord => refuse_block_word(self.has_content, word),
-            Phase::NameCount => refuse_if(word >= NAME_LIMIT, Reason::NameWord),
-            Phase::ContentSize | Phase::BssSize => {
-                refuse_if(content_longs(word) > longs, Reason::ContentTooLong)
-            }
-            Phase::GroupCount => refuse_if(word != 0 && longs == 0, Reason::NothingToRelocate),
-            Phase::Target { owed: _ } => refuse_if(word >= self.hunks, Reason::BadTarget),
-            Phase::Offset { target: _, owed: _ } => {
-                refuse_if(is_outside(word, longs), Reason::BadOffset)
-            }
+            Position::Body(hunk, phase) => match phase {
+                Phase::FirstBlock | Phase::BlockWord => refuse_block_word(hunk.has_content, word),
+                Phase::NameCount => refuse_if(word >= NAME_LIMIT, Reason::NameWord),
+                Phase::ContentSize | Phase::BssSize => {
+                    refuse_if(content_longs(word) > longs, Reason::ContentTooLong)
+                }
+                Phase::GroupCount => refuse_if(word != 0 && longs == 0, Reason::NothingToRelocate),
+                Phase::Target { owed: _ } => refuse_if(word >= hunk.hunks, Reason::BadTarget),
+                Phase::Offset { target: _, owed: _ } => {
+                    refuse_if(is_outside(word, longs), Reason::BadOffset)
+                }
+                _ => None,
+            },
             _ => None,
         }
     }
