@@ -1,6 +1,6 @@
 -- What a run lists, by what an engine function has written.
 use Rattle.std.proofs.Common.{◌≡◌, ◌<◌, ◌++◌, ◌∙◌, ℕ, Bool, true, false, List, [], Option, Some, None, length, inl, inr, refl, ap, sym, subst, arith, append-nil, append_assoc}
-use Rattle.std.specs.Prelude.{Result, Ok, Err}
+use Rattle.std.specs.Prelude.{Result, Ok, Err, IfOk}
 use Rattle.std.specs.Io.KnownBytes.{Consumes, IsAtEnd}
 use Rattle.std.proofs.lemmas.List.{take_all}
 use Rattle.hunk_words.specs.Carriers.{Writing}
@@ -17,9 +17,10 @@ use Rattle.hunk_run.specs.declared.listing.Listing.TheVariants as listings
 use Rattle.hunk_commands.specs.HexText.{SpellsHex}
 use Rattle.hunk_commands.specs.declared.fault.RunFault.{RunFault}
 use Rattle.hunk_commands.specs.declared.fault.RunFault.TheVariants.{HexText, Memory, Read, Refused, Write}
+use Rattle.hunk_commands.specs.Faults.{status_of}
 use Rattle.hunk_commands.specs.Inputs.{StopsAtRead}
 use Rattle.hunk_commands.specs.Relocating.{ReadsShort, RelocatesAll}
-use Rattle.hunk_run.specs.Runs.{IsListed, ListsSource, StopsReading}
+use Rattle.hunk_run.specs.Runs.{IsListed, Lists, ListsSource, StopsReading}
 
 -- a text that was put whole
 takes_put : {W : Type 0} (taken : W → Option (List ℕ)) (old new : Writing W) (written : ℕ) (text : List ℕ) →
@@ -143,3 +144,20 @@ module _ {W : Type 0} (taken : W → Option (List ℕ)) (failed : W → Bool) (o
   tells_listing (Err HexText) outcome ends = tells_since HexText (outcome.fails.untouched (λ is. is)) ends
   tells_listing (Err (Read place)) outcome ends = tells_since (Read place) (outcome.fails.untouched (λ is. is)) ends
   tells_listing (Err (Refused refusal)) outcome ends = tells_since (Refused refusal) (outcome.fails.untouched (λ is. is)) ends
+
+  -- none of these is the status of a run that has done what it was to do
+  not_done : (fault : RunFault) → 0 < status_of fault → PrintsFault taken failed mid new fault result → result ≡ 0 → ⊥
+  not_done fault some (inl (inl (is, takes))) zero = omega (arith, some, is, zero)
+  not_done fault some (inl (inr (is, broken))) zero = omega (arith, is, zero)
+  not_done fault some (inr (inl (is, takes))) zero = omega (arith, is, zero)
+  not_done fault some (inr (inr (is, broken))) zero = omega (arith, is, zero)
+
+  -- where the status is 0 the input is listed
+  pub lists_where_done : (listing : Listing) (answer : Result ℕ RunFault) → IfOk answer (λ status. status ≡ 0 → Lists taken old mid listing) →
+      EndsListing taken failed mid new answer result → result ≡ 0 → Lists taken old new listing
+  lists_where_done listing (Ok status) lists (is, same) zero = subst (λ (w : Writing W). Lists taken old w listing) (sym same) (lists (sym is ∙ zero))
+  lists_where_done listing (Err (Write written)) lists (is, same) zero = absurd (omega (arith, is, zero))
+  lists_where_done listing (Err Memory) lists ends zero = absurd (not_done Memory (omega arith) ends zero)
+  lists_where_done listing (Err HexText) lists ends zero = absurd (not_done HexText (omega arith) ends zero)
+  lists_where_done listing (Err (Read place)) lists ends zero = absurd (not_done (Read place) (omega arith) ends zero)
+  lists_where_done listing (Err (Refused refusal)) lists ends zero = absurd (not_done (Refused refusal) (omega arith) ends zero)

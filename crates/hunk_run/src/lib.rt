@@ -13,7 +13,7 @@ ghost use Rattle.hunk_run.specs.Status.{EndsListing, EndsRewriting, PrintsFault}
 ghost use Rattle.hunk_run.specs.Status.{PrintsOrFails, TellsStatus};
 ghost use Rattle.hunk_orders.specs.Command.{hunkinfo};
 ghost use Rattle.hunk_orders.specs.Line.{order_of, words_read};
-ghost use Rattle.hunk_run.specs.Runs.{IsOrderDone, Lists, PrintsNoHelp, PrintsRefusal};
+ghost use Rattle.hunk_run.specs.Runs.{IsOrderDone, PrintsNoHelp, PrintsRefusal};
 
 mod listing;
 mod rewriting;
@@ -22,7 +22,7 @@ mod to_file;
 use crate::listing::{Listing, list_file};
 use crate::rewriting::{rewrite_file, tell};
 use hunk_commands::{OUT_OF_MEMORY, Rewritten, RunFault};
-use hunk_orders::{FileName, Order, OrderFault, order};
+use hunk_orders::{Order, OrderFault, order};
 use hunk_words::{LongWriter, Sink};
 use std::alloc::Global;
 use std::rt::Files;
@@ -101,46 +101,28 @@ fn obey<T: Files + Input, W: Sink>(
     ensures done { result ≡ 0 → IsOrderDone W.taken out.old out.new order.now }
     ensures tells { TellsStatus W.taken W.failed out.old out.new result }
 {
-    match order {
-        Order::Show { hex, file } => list(rt, alloc, Listing::Show, *hex, file.as_ref(), out),
-        Order::Validate { hex, file } => {
-            list(rt, alloc, Listing::Validate, *hex, file.as_ref(), out)
-        }
+    let (listing, hex, file) = match order {
+        Order::Show { hex, file } => (Listing::Show, hex, file),
+        Order::Validate { hex, file } => (Listing::Validate, hex, file),
         Order::Relocate {
             hex,
             base,
             budget,
             file,
         } => {
-            let listing = Listing::Relocate {
-                base: *base,
-                budget: *budget,
-            };
-            list(rt, alloc, listing, *hex, file.as_ref(), out)
+            let (base, budget) = (*base, *budget);
+            (Listing::Relocate { base, budget }, hex, file)
         }
         Order::Rewrite {
             strip,
             input,
             output,
-        } => end_rewriting(alloc, rewrite_file(rt, alloc, input, output, *strip), out),
-    }
-}
-
-/// Prints what is listed, or why it can't be.
-fn list<T: Files + Input, W: Sink>(
-    rt: &T,
-    alloc: Global,
-    listing: Listing,
-    hex: bool,
-    file: Option<&FileName>,
-    out: &mut LongWriter<W>,
-) -> u8
-    requires { out.old.written ≡ 0 }
-    ensures bound { result ≤ 4 }
-    ensures done { result ≡ 0 → Lists W.taken out.old out.new listing }
-    ensures tells { TellsStatus W.taken W.failed out.old out.new result }
-{
-    let answer = list_file(rt, alloc, listing, file, hex, out);
+        } => {
+            let answer = rewrite_file(rt, alloc, input, output, *strip);
+            return end_rewriting(alloc, answer, out);
+        }
+    };
+    let answer = list_file(rt, alloc, listing, file.as_ref(), *hex, out);
     end_listing(alloc, answer, out)
 }
 
