@@ -1,5 +1,5 @@
 -- What stops the loader of a header is the fault of the bytes, the budget, or that memory ran out.
-use Rattle.std.proofs.Common.{◌≡◌, true, false, ℕ, ◌+◌, ◌*◌, ◌<◌, List, [], ◌∷◌, ◌++◌, length, sym, ap, subst, ◌∙◌, append_assoc, append-nil, arith, length-append, Some, None, ◌⊎◌, inl, inr}
+use Rattle.std.proofs.Common.{◌≡◌, true, false, ℕ, ◌+◌, ◌-◌, ◌*◌, ◌<◌, List, [], ◌∷◌, ◌++◌, length, take, drop, sym, ap, subst, ◌∙◌, append_assoc, append-nil, arith, length-append, Some, None, ◌⊎◌, inl, inr}
 use Rattle.std.specs.Prelude.{IsTrue}
 use Rattle.hunk_words.specs.Bits.{size_longs}
 use Rattle.hunk_words.specs.Longs.{longs, IsLong, AreLongs, IsBytes}
@@ -25,7 +25,8 @@ use Rattle.hunk_scan.specs.declared.position.Position.{Position}
 use Rattle.hunk_scatter.specs.LoaderReasons.{is_of_header}
 use Rattle.hunk_scatter.specs.HeaderBytes.{IsHeaderTable, header_words, header_bytes, IsHeaderFront, MayGoOnInHeader, entries_so_far}
 use Rattle.hunk_scatter.specs.HeaderFaults.{PassesBudget, IsOverBudget, IsBudgetOrMemory, IsHeaderFaultBy, IsHeaderFault}
-use Rattle.hunk_scatter.specs.HeaderLoaderFields.{adds, declares, StopsFor, HeaderStop}
+use Rattle.hunk_scatter.specs.HeaderLoaderFields.{adds, declares, StopsFor, HeaderStop, StopsInPiece}
+use Rattle.hunk_scatter.proofs.Faults.{fed_rest}
 use Rattle.hunk_scatter.proofs.Behind.{stays_behind, table_behind, expected_passes, header_passes, role_here}
 use Rattle.hunk_scatter.proofs.HeaderGrows.{row_in_table, table_grows}
 use Rattle.hunk_scatter.proofs.HeaderReads.{here, read_here, position_here, refusal_is, sum_here}
@@ -209,3 +210,14 @@ module _ (budget : ℕ) (bytes rest : List ℕ) (f : Fault) (s : HeaderStop budg
       go (inl (inl r)) = refused r m.fits
       go (inl (inr o)) = inl o.reason_is
       go (inr l) = inr l.reason_is
+
+-- A stop in the rest of a piece is one in the piece.
+pub stops_on : (budget same : ℕ) (fed piece front : List ℕ) (n : ℕ) (f : Fault) → same ≡ budget → front ≡ fed ++ take n piece →
+    StopsInPiece same front (take (length piece - n) (drop n piece)) f → StopsInPiece budget fed piece f
+stops_on budget same fed piece front n f budget_is front_is s = (
+  s.0,
+  s.1,
+  sym (fed_rest fed piece front n front_is) ∙ s.2,
+  omega (arith, ap length front_is, length-append fed (take n piece), s.3),
+  subst (λ (m : ℕ). HeaderStop m s.0 f) budget_is s.4,
+)

@@ -154,23 +154,6 @@ impl HeaderLoader {
         bytes_wanted(self.state.position.least_longs(), self.pending)
     }
 
-    /// Takes the longwords of a piece in turn.
-    fn take_longs(&mut self, piece: &[u8]) -> Result<usize, LoadFault>
-        requires room { length self.old.fed + length piece.now < 2 ^ 64 }
-        requires reading { self.old.refused ≡ None }
-        ensures feeds_or_stops { FeedsHeaderOrStops self.old self.new piece.now result }
-        ensures all { IfOk result (λ n. n < length piece.now → IsHeader self.new.fed) }
-    {
-        let mut taken = 0;
-        while taken < piece.len() {
-            match self.take_long(&piece[taken..])? {
-                0 => return Ok(taken),
-                part => taken += part,
-            }
-        }
-        Ok(taken)
-    }
-
     /// Consumes the piece, or up to the end of the header where that stands inside it, and gives
     /// the number of bytes consumed: none after the header. A header that is whole consumes
     /// nothing. Fewer than 2^64 bytes may be fed in all.
@@ -221,18 +204,21 @@ impl HeaderLoader {
         }
         let before = self.history.and(&[]);
         let count = self.count;
-        match self.take_longs(piece) {
-            Ok(taken) => {
-                // The proof learns that what was fed keeps to the budget.
-                let _ = &self.history;
-                Ok(taken)
-            }
-            Err(fault) => {
-                self.history = before;
-                self.count = count;
-                Err(fault)
+        let mut taken = 0;
+        while taken < piece.len() {
+            match self.take_long(&piece[taken..]) {
+                Ok(0) => break,
+                Ok(part) => taken += part,
+                Err(fault) => {
+                    self.history = before;
+                    self.count = count;
+                    return Err(fault);
+                }
             }
         }
+        // The proof learns that what was fed keeps to the budget.
+        let _ = &self.history;
+        Ok(taken)
     }
 
     /// The bytes that are held: 12 for each row that is whole in what was fed, none after an error.

@@ -1,6 +1,6 @@
 use Rattle.std.proofs.Common.{length, ◌-◌, ◌≡◌, ◌≤◌, ◌++◌, take, None}
 use Rattle.hunk_scatter.specs.HeaderBytes.{IsHeader}
-use Rattle.hunk_scatter.proofs.header_loader.HeaderLoader.take_longs.Given as goal
+use Rattle.hunk_scatter.proofs.header_loader.HeaderLoader.feed.Given as goal
 
 abbrev pub invariant-loop-taken : goal.invariant-loop-taken
 invariant-loop-taken l = record {
