@@ -78,27 +78,34 @@ fn pass_at(state: HeaderState, budget: u64, word: u32) -> Result<HeaderState, Re
     })
 }
 
-/// Passes a longword, or answers why it is rejected: by its own test, or by the budget. Nearly all
-/// longwords of a long header are size words, which are told apart here, once for all that is asked
-/// of them.
+/// `$at` of the state, a macro. Nearly all longwords of a long header are size words, which are told
+/// apart here, once for all that is asked of them.
+macro_rules! by_size_word {
+    ($state:expr, $at:ident) => {
+        match $state.position {
+            Position::SizeWord { hunks, owed } => {
+                let position = Position::SizeWord { hunks, owed };
+                $at!(HeaderState { position, ..$state })
+            }
+            _ => $at!($state),
+        }
+    };
+}
+
+/// Passes a longword, or answers why it is rejected: by its own test, or by the budget.
 #[inline(always)]
-fn pass_header_word(
-    state: HeaderState,
-    budget: u64,
-    word: u32,
-) -> Result<HeaderState, Reason>
+fn pass_header_word(state: HeaderState, budget: u64, word: u32) -> Result<HeaderState, Reason>
     requires goes_on { is_behind_header state.position ≡ false }
     requires room { state.total + 2 ^ 32 < 2 ^ 64 }
     ensures passes { IfOk result (heading.PassesWord budget state word) }
     ensures refusal { IfErr result (heading.RefusesWord budget state word) }
 {
-    match state.position {
-        Position::SizeWord { hunks, owed } => {
-            let position = Position::SizeWord { hunks, owed };
-            pass_at(HeaderState { position, ..state }, budget, word)
-        }
-        _ => pass_at(state, budget, word),
+    macro_rules! pass {
+        ($state:expr) => {
+            pass_at($state, budget, word)
+        };
     }
+    by_size_word!(state, pass)
 }
 
 /// Takes a longword and stores the row that it completes, or answers why not: by its own test, by
@@ -118,40 +125,19 @@ pub(crate) fn take_header_word(
     ensures refusal { IfErr result (heading.StopsFor budget state word) }
     ensures long { word < 2 ^ 32 }
 {
-    match state.position {
-        Position::SizeWord { hunks, owed } => {
-            let position = Position::SizeWord { hunks, owed };
-            let total = state.total;
-            take_at(rows, HeaderState { position, total }, budget, word)
-        }
-        _ => take_at(rows, state, budget, word),
+    macro_rules! take {
+        ($state:expr) => {{
+            let state = $state;
+            let next = pass_at(state, budget, word)?;
+            if let Some(row) = row(state.position, word) {
+                if rows.push(row).is_err() {
+                    return Err(Reason::OutOfMemory);
+                }
+            }
+            Ok(next)
+        }};
     }
-}
-
-/// The same, compiled for one position at a time.
-#[inline(always)]
-fn take_at(
-    rows: &mut Vec<Row>,
-    state: HeaderState,
-    budget: u64,
-    word: u32,
-) -> Result<HeaderState, Reason>
-    requires goes_on { is_behind_header state.position ≡ false }
-    requires room { state.total + 2 ^ 32 < 2 ^ 64 }
-    requires within { state.total ≤ budget }
-    ensures rows { OnOk result (rows.new.items ≡ rows.old.items
-        ++ map row_of (heading.adds state.position word)) }
-    ensures passes { IfOk result (heading.PassesWord budget state word) }
-    ensures refusal { IfErr result (heading.StopsFor budget state word) }
-    ensures long { word < 2 ^ 32 }
-{
-    let next = pass_at(state, budget, word)?;
-    if let Some(row) = row(state.position, word) {
-        if rows.push(row).is_err() {
-            return Err(Reason::OutOfMemory);
-        }
-    }
-    Ok(next)
+    by_size_word!(state, take)
 }
 
 /// What a header says of its file, but for the rows of its table.
