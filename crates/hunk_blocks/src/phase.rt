@@ -91,7 +91,7 @@ impl Phase {
             Phase::GroupCount | Phase::EntryWord | Phase::ExtWord if word == 0 => None,
             Phase::GroupCount => Some(Phase::Target { owed: word - 1 }),
             Phase::Target { owed } => Some(Phase::Offset { target: word, owed }),
-            Phase::Offset { target, owed } => Some(Phase::owe_offsets(target, owed)),
+            Phase::Offset { target, owed } => Some(owe_offsets(target, owed)),
             Phase::EntryWord => Some(owe_symbol(word % NAME_LIMIT + 1)),
             Phase::Symbol { owed } => Some(owe_symbol(owed)),
             Phase::ExtWord => Some(owe_shaped(shape_of(word), word % NAME_LIMIT)),
@@ -161,21 +161,6 @@ impl Phase {
         }
     }
 
-    /// Where `owed` offsets to this target are still to come.
-    #[inline(always)]
-    pub fn owe_offsets(target: u32, owed: u32) -> Phase
-        ensures { Some result ≡ inside.owe_offsets target owed }
-    {
-        if owed == 0 {
-            Phase::GroupCount
-        } else {
-            Phase::Offset {
-                target,
-                owed: owed - 1,
-            }
-        }
-    }
-
     /// Why the longword behind a block word is rejected, where it is, in any file.
     #[inline(always)]
     pub fn refuse(self, word: u32) -> Option<Reason>
@@ -224,6 +209,21 @@ fn owe_payload(owed: u32) -> Option<Phase>
         None
     } else {
         Some(Phase::Payload { owed: owed - 1 })
+    }
+}
+
+/// Where `owed` offsets to this target are still to come.
+#[inline(always)]
+fn owe_offsets(target: u32, owed: u32) -> Phase
+    ensures { Some result ≡ inside.owe_offsets target owed }
+{
+    if owed == 0 {
+        Phase::GroupCount
+    } else {
+        Phase::Offset {
+            target,
+            owed: owed - 1,
+        }
     }
 }
 

@@ -33,6 +33,7 @@ mod ObjectWords
 mod LoadRanges
 mod LoadWalks
 pub mod OffsetLists
+mod Passed
 pub mod Peel
 mod RangeLaws
 pub mod Reading

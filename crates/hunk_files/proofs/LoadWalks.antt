@@ -1,25 +1,29 @@
 -- A walk over a load file keeps the position of what was read, and the entry of the open hunk.
-use Rattle.std.proofs.Common.{◌≡◌, ℕ, zero, suc, ◌+◌, ◌-◌, ◌*◌, ◌<◌, ◌≤◌, Bool, true, false, List, [], ◌∷◌, ◌++◌, length, get_or, take, drop, refl, sym, ap, ap₂, subst, ◌∙◌, append_assoc, arith, Option, Some, None, if◌then◌else◌, inl, inr}
+use Rattle.std.proofs.Common.{◌≡◌, ℕ, zero, suc, ◌+◌, ◌-◌, ◌*◌, ◌<◌, ◌≤◌, Bool, true, false, List, [], ◌∷◌, ◌++◌, length, get_or, take, drop, refl, sym, ap, ap₂, subst, ◌∙◌, append_assoc, arith, Option, Some, None, if◌then◌else◌, cond, eqb, ltb, inl, inr, ◌⊎◌}
 use Rattle.std.specs.List.{flat_map}
 use Rattle.std.proofs.lemmas.List.{length-append, length-map, length-take-le, get_or_at, map-append, take-append-drop, take_all, get_or-take}
 use Rattle.std.proofs.lemmas.List.Concat.{flat_map-append}
 use Rattle.hunk_words.specs.declared.reason.Reason.{Reason}
 use Rattle.hunk_words.specs.declared.reason.Reason.TheVariants as reasons
 use Rattle.hunk_words.specs.Longs.{IsBytes, longs, bytes_of}
-use Rattle.hunk_words.specs.Bits.{size_longs, has_both_bits, entry_longs}
+use Rattle.hunk_words.specs.Bits.{size_longs, has_both_bits, entry_longs, name_longs}
 use Rattle.hunk_words.proofs.LongLaws.{longs_fit, length-longs}
 use Rattle.hunk_blocks.specs.Values.{BlockValue}
 use Rattle.hunk_blocks.specs.Faults.{words}
+use Rattle.hunk_blocks.specs.Parts.{Part as parts}
+use Rattle.hunk_blocks.specs.PhaseSteps.{part_at}
+use Rattle.hunk_blocks.specs.declared.phase.Phase.{Phase}
 use Rattle.hunk_blocks.specs.declared.phase.Phase.TheVariants as phases
 use Rattle.hunk_blocks.specs.PhaseSteps as inside
 use Rattle.hunk_blocks.proofs.Decoding.{front_bytes}
 use Rattle.hunk_blocks.proofs.KeptWalks.{OnePasses, HasRuns, StandsAt as StandsFor, Walks as WalksOf, starts, stands, word_refused, word_reads, word_passes}
-use Rattle.hunk_blocks.proofs.Lists.{flat_map-more}
+use Rattle.hunk_blocks.proofs.Lists.{flat_map-more, passes_else, passes_then}
+use Rattle.std.proofs.lemmas.Bool.{le-ltb, lt-ltb, ne_eqb}
 use Rattle.hunk_scan.specs.declared.phase.OpenHunk as numbers
 use Rattle.hunk_scan.specs.declared.position.Position.{Position}
 use Rattle.hunk_scan.specs.declared.position.Position.TheVariants as positions
 use Rattle.hunk_scan.specs.Positions as scan
-use Rattle.hunk_scan.specs.Positions.{role_at, offsets_to_come, pass_offsets, is_between_hunks, EndsWithin}
+use Rattle.hunk_scan.specs.Positions.{role_at, is_between_hunks, EndsWithin}
 use Rattle.hunk_scan.specs.Roles.{Role, refuse, Role as roles}
 use Rattle.hunk_scan.proofs.OffsetRuns.{offset_passes}
 use Rattle.hunk_files.specs.LoadFile.{TableEntry}
@@ -27,7 +31,8 @@ use Rattle.hunk_files.specs.LoadText.{entry_labelled, hunk_labelled, blocks_labe
 use Rattle.hunk_files.specs.Fault.{HasFault, HasLoadText, IsTruncated, load_files}
 use Rattle.hunk_files.specs.declared.load.walk.Entry.{Entry}
 use Rattle.hunk_files.specs.Entries.{entry_behind, entry_at}
-use Rattle.hunk_files.specs.Passing.{ArePassed}
+use Rattle.hunk_files.specs.Passing.{AreBlocks, AreGroups, AreRows, AreSymbols, BeginsBlock, EndsList, IsContent, IsCounted, IsGroup, IsPassed, IsWholeBlock, behind_row, behind_symbol, having}
+use Rattle.hunk_files.specs.Passing.{no_row, one_row, no_group, one_group, no_symbol, one_symbol, content, counted, groups, symbols, no_block, one_block, nothing, passed_rows, passed_blocks}
 use Rattle.hunk_files.specs.FileSteps.{HunkSoFar, Progress, AtFirst, AtBlock, InBody, Next, More, Finished, role_of, step_file}
 use Rattle.hunk_files.specs.ReaderPosition.{open_of, block_phase, position_of, open_longs, opened}
 use Rattle.hunk_files.specs.WordsRead.{Labelled}
@@ -324,13 +329,15 @@ module _ (bytes : List ℕ) (fit : IsBytes bytes) (at : ℕ) (position : Positio
         (word_passes load_files load_reader keeps kept_of run_of behind_run (longs bytes) (longs_fit bytes fit) at (Some (position, entry)) s l (role_of here.progress) refl runs (same ∙ ok)
         (Some (behind, entry_at (longs bytes) behind entry)) (onward more).1)
 
--- ---- offsets
+-- ---- groups
 
 module _ (bytes : List ℕ) (fit : IsBytes bytes) (entry : Entry) (o : numbers.OpenHunk) (target : ℕ) where
   -- an offset within the hunk leads to one fewer
   one_over : (at owed : ℕ) → Walks bytes at (positions.Body o (phases.Offset target owed)) entry → at < length (longs bytes) → EndsWithin (4 * entry.longs) (get_or (longs bytes) at 0) → Walks bytes (at + 1) (scan.owe_offsets o target owed) entry
   one_over at owed h l within =
-      go owed (passes bytes fit at _ entry h l (get_or (longs bytes) at 0) refl (scan.owe_offsets o target owed) refl (offset_passes entry.longs o target owed (get_or (longs bytes) at 0) within) (goes_on owed))
+      let w = get_or (longs bytes) at 0 in
+      let next = scan.owe_offsets o target owed in
+      go owed (passes bytes fit at (positions.Body o (phases.Offset target owed)) entry h l w refl next refl (offset_passes entry.longs o target owed w within) (goes_on owed))
     where
       goes_on : (k : ℕ) → scan.owe_offsets o target k ≡ positions.Done → ⊥
       goes_on zero e = cc
@@ -340,31 +347,194 @@ module _ (bytes : List ℕ) (fit : IsBytes bytes) (entry : Entry) (o : numbers.O
       go zero t = t
       go (suc k) t = t
 
-  fewer : (owed n : ℕ) → n ≤ owed → pass_offsets (positions.Body o (phases.Offset target owed)) n ≡ positions.Body o (phases.Offset target (owed - n))
-  fewer owed zero l = let e : owed ≡ owed - 0 = omega arith in ap (λ (k : ℕ). positions.Body o (phases.Offset target k)) e
-  fewer owed (suc n) l = let e : owed - n ≡ suc (owed - suc n) = omega (arith, l) in ap (λ (k : ℕ). scan.owe_offsets o target k) e
+  -- the offsets of a group lead to the next
+  offsets_over : (owed at : ℕ) → Walks bytes at (positions.Body o (phases.Offset target owed)) entry → at + suc owed ≤ length (longs bytes) →
+      ((i : ℕ) → at ≤ i → i < at + suc owed → EndsWithin (4 * entry.longs) (get_or (longs bytes) i 0)) → Walks bytes (at + suc owed) (positions.Body o phases.GroupCount) entry
+  offsets_over zero at h whole inside = one_over at 0 h (omega (arith, whole)) (inside at (omega arith) (omega arith))
+  offsets_over (suc owed) at h whole inside =
+      let next = one_over at (suc owed) h (omega (arith, whole)) (inside at (omega arith) (omega arith)) in
+      let end : at + 1 + suc owed ≡ at + suc (suc owed) = omega arith in
+      subst (λ (k : ℕ). Walks bytes k (positions.Body o phases.GroupCount) entry) end
+      (offsets_over owed (at + 1) next (omega (arith, whole)) (λ i from to. inside i (omega (arith, from)) (omega (arith, to))))
 
-  -- a number of them leads to as many fewer
-  offsets_over : (n at owed : ℕ) → Walks bytes at (positions.Body o (phases.Offset target owed)) entry → n ≤ suc owed → at + n ≤ length (longs bytes) →
-      ((i : ℕ) → i < n → EndsWithin (4 * entry.longs) (get_or (longs bytes) (at + i) 0)) → Walks bytes (at + n) (pass_offsets (positions.Body o (phases.Offset target owed)) n) entry
-  offsets_over zero at owed h few whole inside =
-      let same : at ≡ at + 0 = omega arith in
-      subst (λ (k : ℕ). Walks bytes k (positions.Body o (phases.Offset target owed)) entry) same h
-  offsets_over (suc n) at owed h few whole inside =
-      let before = offsets_over n at owed h (omega (arith, few)) (omega (arith, whole)) (λ i less. inside i (omega (arith, less))) in
-      let next : at + n + 1 ≡ at + suc n = omega arith in
-      subst (λ (k : ℕ). Walks bytes k (scan.owe_offsets o target (owed - n)) entry) next
-      (one_over (at + n) (owed - n) (subst (λ (p : Position). Walks bytes (at + n) p entry) (fewer owed n (omega (arith, few))) before) (omega (arith, whole)) (inside n (omega arith)))
+module _ (bytes : List ℕ) (fit : IsBytes bytes) (entry : Entry) (o : numbers.OpenHunk) where
+  count_passes : (w declared : ℕ) → 0 < w → 0 < declared → refuse (role_at declared (positions.Body o phases.GroupCount)) w ≡ None
+  count_passes w declared some room =
+      passes_else (eqb w 0) None (cond (eqb declared 0) (Some reasons.NothingToRelocate) None) (ne_eqb w 0 (λ e. omega (arith, some, e)))
+      ∙ passes_else (eqb declared 0) (Some reasons.NothingToRelocate) None (ne_eqb declared 0 (λ e. omega (arith, room, e)))
 
--- Offsets that are passed at once lead on.
-pub walk_over : (bytes : List ℕ) → IsBytes bytes → (at n : ℕ) (p : Position) (entry : Entry) → Walks bytes at p entry → (0 < n → ArePassed (longs bytes) at p entry.longs n) → Walks bytes (at + n) (pass_offsets p n) entry
-walk_over bytes fit at zero p entry h passed =
-    let same : at ≡ at + 0 = omega arith in
-    subst (λ (k : ℕ). Walks bytes k p entry) same h
-walk_over bytes fit at (suc n) (positions.Body o (phases.Offset target owed)) entry h passed =
-    let f = passed (omega arith) in
-    offsets_over bytes fit entry o target (suc n) at owed h f.few f.whole f.inside
-walk_over bytes fit at (suc n) _ entry h passed = let f = passed (omega arith) in absurd (omega (arith, f.few))
+  -- A group leads to the next.
+  group_over : (at behind : ℕ) → Walks bytes at (positions.Body o phases.GroupCount) entry → IsGroup (longs bytes) o.hunks entry.longs at behind → Walks bytes behind (positions.Body o phases.GroupCount) entry
+  group_over at behind h g = go (get_or (longs bytes) at 0) refl g.some
+    where
+      go : (w : ℕ) → w ≡ get_or (longs bytes) at 0 → 0 < w → Walks bytes behind (positions.Body o phases.GroupCount) entry
+      go zero is some = absurd (omega (arith, some))
+      go (suc w) is some =
+          let end : at + 1 + 1 + suc w ≡ behind = omega (arith, is, g.ends) in
+          let target = get_or (longs bytes) (at + 1) 0 in
+          let first = g.inside (at + 2) (omega arith) (omega (arith, is, g.ends)) in
+          let counted = passes bytes fit at (positions.Body o phases.GroupCount) entry h (omega (arith, is, g.ends, g.whole)) (suc w) is (positions.Body o (phases.Target w)) refl (count_passes (suc w) entry.longs some (omega (arith, first))) (λ e. absurd cc) in
+          let aimed = passes bytes fit (at + 1) (positions.Body o (phases.Target w)) entry counted (omega (arith, is, g.ends, g.whole)) target refl (positions.Body o (phases.Offset target w)) refl
+          (passes_then (ltb target o.hunks) None (Some reasons.BadTarget) (lt-ltb target o.hunks g.target)) (λ e. absurd cc) in
+          subst (λ (k : ℕ). Walks bytes k (positions.Body o phases.GroupCount) entry) end
+          (offsets_over bytes fit entry o target w (at + 1 + 1) aimed (omega (arith, end, g.whole)) (λ i from to. g.inside i (omega (arith, from)) (omega (arith, to, end))))
+
+  groups_over : (at end : ℕ) → Walks bytes at (positions.Body o phases.GroupCount) entry → AreGroups (longs bytes) o.hunks entry.longs at end → Walks bytes end (positions.Body o phases.GroupCount) entry
+  groups_over at _ h no_group = h
+  groups_over at _ h (one_group mid end before group) = group_over mid end (groups_over at mid h before) group
+
+-- ---- symbols
+
+-- A symbol leads to the next.
+symbol_over : (bytes : List ℕ) → IsBytes bytes → (entry : Entry) (o : numbers.OpenHunk) (at : ℕ) → Walks bytes at (positions.Body o phases.EntryWord) entry → 0 < get_or (longs bytes) at 0 → behind_symbol (longs bytes) at ≤ length (longs bytes) →
+    Walks bytes (behind_symbol (longs bytes) at) (positions.Body o phases.EntryWord) entry
+symbol_over bytes fit entry o at h some whole = go (get_or (longs bytes) at 0) refl some
+  where
+    go : (w : ℕ) → w ≡ get_or (longs bytes) at 0 → 0 < w → Walks bytes (behind_symbol (longs bytes) at) (positions.Body o phases.EntryWord) entry
+    go zero is less = absurd (omega (arith, less))
+    go (suc w) is less =
+        let p = positions.Body o phases.EntryWord in
+        let end : at + (1 + suc (name_longs (suc w))) ≡ behind_symbol (longs bytes) at = omega (arith, ap name_longs is) in
+        let none : name_longs (suc w) - name_longs (suc w) ≡ 0 = none_left (name_longs (suc w)) in
+        let behind : scan.owe_symbol o (name_longs (suc w) - name_longs (suc w)) ≡ p = ap (λ (k : ℕ). scan.owe_symbol o k) none in
+        let next = scan.owe_symbol o (suc (name_longs (suc w))) in
+        let on = passes bytes fit at p entry h (omega (arith, whole)) (suc w) is next refl refl (λ e. absurd cc) in
+        subst (λ (k : ℕ). Walks bytes k p entry) end (subst (λ (q : Position). Walks bytes (at + (1 + suc (name_longs (suc w)))) q entry) behind on)
+
+symbols_over : (bytes : List ℕ) → IsBytes bytes → (entry : Entry) (o : numbers.OpenHunk) (at end : ℕ) → Walks bytes at (positions.Body o phases.EntryWord) entry → AreSymbols (longs bytes) at end → Walks bytes end (positions.Body o phases.EntryWord) entry
+symbols_over bytes fit entry o at _ h no_symbol = h
+symbols_over bytes fit entry o at _ h (one_symbol mid before some whole) = symbol_over bytes fit entry o mid (symbols_over bytes fit entry o at mid h before) some whole
+
+-- ---- rows of the table
+
+-- A row, behind which others come, leads to the next.
+row_over : (bytes : List ℕ) → IsBytes bytes → (entry : Entry) (hunks owed at : ℕ) → Walks bytes at (positions.SizeWord hunks (suc owed)) entry → behind_row (longs bytes) at ≤ length (longs bytes) → Walks bytes (behind_row (longs bytes) at) (positions.SizeWord hunks owed) entry
+row_over bytes fit entry hunks owed at h whole = go (has_both_bits (get_or (longs bytes) at 0)) refl
+  where
+    go : (b : Bool) → has_both_bits (get_or (longs bytes) at 0) ≡ b → Walks bytes (behind_row (longs bytes) at) (positions.SizeWord hunks owed) entry
+    go false e =
+        let w = get_or (longs bytes) at 0 in
+        let next : Bool → Position = λ b. if b then positions.Attributes hunks w (suc owed) else positions.SizeWord hunks owed in
+        let end : at + (1 + 0) ≡ behind_row (longs bytes) at = omega (arith, ap (λ (b : Bool). at + (if b then 2 else 1)) e) in
+        let on = passes bytes fit at (positions.SizeWord hunks (suc owed)) entry h (omega (arith, end, whole)) w refl (positions.SizeWord hunks owed) (ap next (sym e)) refl (λ d. absurd cc) in
+        subst (λ (k : ℕ). Walks bytes k (positions.SizeWord hunks owed) entry) end on
+    go true e =
+        let w = get_or (longs bytes) at 0 in
+        let next : Bool → Position = λ b. if b then positions.Attributes hunks w (suc owed) else positions.SizeWord hunks owed in
+        let behind : at + (1 + 0) + 1 ≡ behind_row (longs bytes) at = omega (arith, ap (λ (b : Bool). at + (if b then 2 else 1)) e) in
+        let on = passes bytes fit at (positions.SizeWord hunks (suc owed)) entry h (omega (arith, behind, whole)) w refl (positions.Attributes hunks w (suc owed)) (ap next (sym e)) refl (λ d. absurd cc) in
+        let more = passes bytes fit (at + (1 + 0)) (positions.Attributes hunks w (suc owed)) entry on (omega (arith, whole, behind)) (get_or (longs bytes) (at + (1 + 0)) 0) refl (positions.SizeWord hunks owed) refl refl (λ d. absurd cc) in
+        let end : at + (1 + 0) + (1 + 0) ≡ behind_row (longs bytes) at = omega (arith, behind) in
+        subst (λ (k : ℕ). Walks bytes k (positions.SizeWord hunks owed) entry) end more
+
+rows_over : (bytes : List ℕ) → IsBytes bytes → (entry : Entry) (hunks owed at : ℕ) → Walks bytes at (positions.SizeWord hunks owed) entry → (count end : ℕ) → count ≤ owed → AreRows (longs bytes) at count end → Walks bytes end (positions.SizeWord hunks (owed - count)) entry
+rows_over bytes fit entry hunks owed at h _ _ few no_row =
+    let same : owed ≡ owed - 0 = omega arith in
+    subst (λ (k : ℕ). Walks bytes at (positions.SizeWord hunks k) entry) same h
+rows_over bytes fit entry hunks owed at h _ _ few (one_row count mid before whole) =
+    let left : owed - count ≡ suc (owed - suc count) = omega (arith, few) in
+    let here = rows_over bytes fit entry hunks owed at h count mid (omega (arith, few)) before in
+    row_over bytes fit entry hunks (owed - suc count) mid (subst (λ (k : ℕ). Walks bytes mid (positions.SizeWord hunks k) entry) left here) whole
+
+-- ---- blocks
+
+module _ (bytes : List ℕ) (fit : IsBytes bytes) (entry : Entry) (o : numbers.OpenHunk) where
+  -- The word of a block leads to the phase behind it.
+  word_over : (at : ℕ) (phase next : Phase) → part_at phase ≡ parts.BlockWord → Walks bytes at (positions.Body o phase) entry → BeginsBlock (longs bytes) o.has_content at next → scan.run (positions.Body o next) ≡ 0 →
+      Walks bytes (at + 1) (positions.Body o next) (entry_at (longs bytes) (positions.Body o next) entry)
+  word_over at phase next e h b idle = go phase e h
+    where
+      w : ℕ
+      w = get_or (longs bytes) at 0
+
+      on : (phase : Phase) → Walks bytes at (positions.Body o phase) entry → positions.Body o next ≡ scan.step (positions.Body o phase) (get_or (longs bytes) at 0) → refuse (role_at entry.longs (positions.Body o phase)) (get_or (longs bytes) at 0) ≡ None →
+          Walks bytes (at + 1) (positions.Body o next) (entry_at (longs bytes) (positions.Body o next) entry)
+      on phase h steps ok =
+          let over = passes bytes fit at (positions.Body o phase) entry h b.inside (get_or (longs bytes) at 0) refl (positions.Body o next) steps ok (λ d. absurd cc) in
+          let P : ℕ → Type 0 = λ n. Walks bytes (at + (1 + n)) (scan.pass (positions.Body o next) n) (entry_at (longs bytes) (positions.Body o next) entry) in
+          let end : at + (1 + 0) ≡ at + 1 = omega arith in
+          subst (λ (k : ℕ). Walks bytes k (positions.Body o next) (entry_at (longs bytes) (positions.Body o next) entry)) end (subst P idle over)
+
+      go : (phase : Phase) → part_at phase ≡ parts.BlockWord → Walks bytes at (positions.Body o phase) entry → Walks bytes (at + 1) (positions.Body o next) (entry_at (longs bytes) (positions.Body o next) entry)
+      go phases.FirstBlock e h = on phases.FirstBlock h (ap (scan.onward o (scan.close o)) (sym b.begins)) b.accepted
+      go phases.BlockWord e h = on phases.BlockWord h (ap (scan.onward o (scan.close o)) (sym b.begins)) b.accepted
+      go _ e h = absurd cc
+
+  -- The 0 behind a list leads to the next block.
+  zero_over : (at : ℕ) (phase : Phase) → Walks bytes at (positions.Body o phase) entry → EndsList (longs bytes) at → scan.step (positions.Body o phase) 0 ≡ positions.Body o phases.BlockWord → refuse (role_at entry.longs (positions.Body o phase)) 0 ≡ None →
+      Walks bytes (at + 1) (positions.Body o phases.BlockWord) entry
+  zero_over at phase h e steps ok =
+      let over = passes bytes fit at (positions.Body o phase) entry h e.inside 0 (sym e.zero_is) (positions.Body o phases.BlockWord) (sym steps) ok (λ d. absurd cc) in
+      let end : at + (1 + 0) ≡ at + 1 = omega arith in
+      subst (λ (k : ℕ). Walks bytes k (positions.Body o phases.BlockWord) entry) end over
+
+  content_over : (at behind : ℕ) → Walks bytes at (positions.Body o phases.ContentSize) entry → IsContent (longs bytes) entry.longs at behind → Walks bytes behind (positions.Body (having true o) phases.BlockWord) entry
+  content_over at behind h c = go (size_longs (get_or (longs bytes) at 0)) refl
+    where
+      go : (n : ℕ) → size_longs (get_or (longs bytes) at 0) ≡ n → Walks bytes behind (positions.Body (having true o) phases.BlockWord) entry
+      go n is =
+          let next = scan.owe_content o n n in
+          let over = passes bytes fit at (positions.Body o phases.ContentSize) entry h (omega (arith, c.ends, c.whole)) (get_or (longs bytes) at 0) refl next
+          (ap (λ (k : ℕ). scan.owe_content o k k) (sym is)) (passes_else (ltb entry.longs (size_longs (get_or (longs bytes) at 0))) (Some reasons.ContentTooLong) None (le-ltb entry.longs (size_longs (get_or (longs bytes) at 0)) c.fits)) (goes_on n) in
+          passed_to n over (omega (arith, c.ends, is))
+        where
+          goes_on : (n : ℕ) → scan.owe_content o n n ≡ positions.Done → ⊥
+          goes_on zero e = cc
+          goes_on (suc n) e = cc
+
+          passed_to : (n : ℕ) → (let p = scan.owe_content o n n in Walks bytes (at + (1 + scan.run p)) (scan.pass p (scan.run p)) (entry_at (longs bytes) p entry)) → at + (1 + n) ≡ behind → Walks bytes behind (positions.Body (having true o) phases.BlockWord) entry
+          passed_to zero t e = subst (λ (k : ℕ). Walks bytes k (positions.Body (having true o) phases.BlockWord) entry) e t
+          passed_to (suc n) t e =
+              subst (λ (k : ℕ). Walks bytes k (positions.Body (having true o) phases.BlockWord) entry) e
+              (subst (λ (q : Position). Walks bytes (at + (1 + suc n)) q entry) (all_passed (positions.Body o (phases.Content (suc n) n))) t)
+
+  counted_over : (at behind : ℕ) → Walks bytes at (positions.Body o phases.LongCount) entry → IsCounted (longs bytes) at behind → Walks bytes behind (positions.Body o phases.BlockWord) entry
+  counted_over at behind h c = go (get_or (longs bytes) at 0) refl
+    where
+      go : (n : ℕ) → n ≡ get_or (longs bytes) at 0 → Walks bytes behind (positions.Body o phases.BlockWord) entry
+      go n is =
+          let next = scan.owe_payload o n in
+          passed_to n (passes bytes fit at (positions.Body o phases.LongCount) entry h (omega (arith, c.ends, c.whole)) n is next refl refl (goes_on n)) (omega (arith, c.ends, is))
+        where
+          goes_on : (n : ℕ) → scan.owe_payload o n ≡ positions.Done → ⊥
+          goes_on zero e = cc
+          goes_on (suc n) e = cc
+
+          passed_to : (n : ℕ) → (let p = scan.owe_payload o n in Walks bytes (at + (1 + scan.run p)) (scan.pass p (scan.run p)) (entry_at (longs bytes) p entry)) → at + (1 + n) ≡ behind → Walks bytes behind (positions.Body o phases.BlockWord) entry
+          passed_to zero t e = subst (λ (k : ℕ). Walks bytes k (positions.Body o phases.BlockWord) entry) e t
+          passed_to (suc n) t e =
+              subst (λ (k : ℕ). Walks bytes k (positions.Body o phases.BlockWord) entry) e
+              (subst (λ (q : Position). Walks bytes (at + (1 + suc n)) q entry) (all_passed (positions.Body o (phases.Payload n))) t)
+
+  -- A block leads to the next.
+  block_over : (at : ℕ) (phase : Phase) (behind : ℕ) (now : Bool) → part_at phase ≡ parts.BlockWord → Walks bytes at (positions.Body o phase) entry → IsWholeBlock (longs bytes) o.hunks entry.longs at o.has_content behind now → Walks bytes behind (positions.Body (having now o) phases.BlockWord) entry
+  block_over at phase _ _ e h (content behind begun c) = content_over (at + 1) behind (word_over at phase phases.ContentSize e h begun refl) c
+  block_over at phase _ _ e h (counted behind begun c) = counted_over (at + 1) behind (word_over at phase phases.LongCount e h begun refl) c
+  block_over at phase _ _ e h (groups end begun g z) = zero_over end phases.GroupCount (groups_over bytes fit entry o (at + 1) end (word_over at phase phases.GroupCount e h begun refl) g) z refl refl
+  block_over at phase _ _ e h (symbols end begun s z) = zero_over end phases.EntryWord (symbols_over bytes fit entry o (at + 1) end (word_over at phase phases.EntryWord e h begun refl) s) z refl refl
+
+-- Blocks lead on, where there are some.
+blocks_over : (bytes : List ℕ) → IsBytes bytes → (entry : Entry) (o : numbers.OpenHunk) (at : ℕ) (phase : Phase) → part_at phase ≡ parts.BlockWord → Walks bytes at (positions.Body o phase) entry → (end : ℕ) (now : Bool) →
+    AreBlocks (longs bytes) o.hunks entry.longs at o.has_content end now → ((at ≡ end) × (o.has_content ≡ now)) ⊎ Walks bytes end (positions.Body (having now o) phases.BlockWord) entry
+blocks_over bytes fit entry o at phase e h _ _ no_block = inl (refl, refl)
+blocks_over bytes fit entry o at phase e h _ _ (one_block mid behind later now before block) =
+    inr (elim (blocks_over bytes fit entry o at phase e h mid later before) [
+      | inl same ↦ block_over bytes fit entry o at phase behind now e h (subst (λ (k : Bool). IsWholeBlock (longs bytes) o.hunks entry.longs at k behind now) (sym same.1) (subst (λ (k : ℕ). IsWholeBlock (longs bytes) o.hunks entry.longs k later behind now) (sym same.0) block))
+      | inr walked ↦ block_over bytes fit entry (having later o) mid phases.BlockWord behind now refl walked block
+    ])
+
+-- ---- what is passed over
+
+-- It leads on.
+pub walk_over : (bytes : List ℕ) → IsBytes bytes → (at : ℕ) (p : Position) (entry : Entry) (end : ℕ) (q : Position) → Walks bytes at p entry → IsPassed (longs bytes) entry.longs at p end q → Walks bytes end q entry
+walk_over bytes fit at p entry _ _ h nothing = h
+walk_over bytes fit at p entry _ _ h (passed_rows hunks owed count end is few f) =
+    rows_over bytes fit entry hunks owed at (subst (λ (p : Position). Walks bytes at p entry) is h) count end few f
+walk_over bytes fit at p entry _ _ h (passed_blocks o phase end now is at_word more f) =
+    elim (blocks_over bytes fit entry o at phase at_word (subst (λ (p : Position). Walks bytes at p entry) is h) end now f) [
+      | inl same ↦ absurd (omega (arith, more, same.0))
+      | inr walked ↦ walked
+    ]
 
 -- ---- the end
 

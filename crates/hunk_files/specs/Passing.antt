@@ -1,11 +1,100 @@
--- Offsets of a load file that are passed over at once.
-use Rattle.std.specs.Prelude.{ℕ, ◌+◌, ◌*◌, ◌<◌, ◌≤◌, List, length, slice_index}
+-- What of a load file is passed over at once.
+use Rattle.std.specs.Prelude.{◌≡◌, ℕ, suc, ◌+◌, ◌-◌, ◌*◌, ◌<◌, ◌≤◌, Bool, true, List, length, slice_index, Some, None}
+use Rattle.hunk_words.specs.Bits.{entry_longs, kind, name_longs, size_longs}
+use Rattle.hunk_blocks.specs.Parts.{Part as parts}
+use Rattle.hunk_blocks.specs.PhaseSteps.{begin, part_at}
+use Rattle.hunk_blocks.specs.declared.phase.Phase.{Phase}
+use Rattle.hunk_blocks.specs.declared.phase.Phase.TheVariants as phases
+use Rattle.hunk_scan.specs.declared.phase.OpenHunk.{OpenHunk}
 use Rattle.hunk_scan.specs.declared.position.Position.{Position}
-use Rattle.hunk_scan.specs.Positions.{offsets_to_come, EndsWithin}
+use Rattle.hunk_scan.specs.declared.position.Position.TheVariants as positions
+use Rattle.hunk_scan.specs.Positions.{EndsWithin}
+use Rattle.hunk_scan.specs.Roles.{refuse_word}
 
--- This number of longwords from the given one on are offsets that come at the position, and their longs end in a hunk of
--- the declared number of longs.
-pub record ArePassed (ws : List ℕ) (at : ℕ) (p : Position) (longs count : ℕ) : Type 0 where
-  pub few : count ≤ offsets_to_come p
-  pub whole : at + count ≤ length ws
-  pub inside : (i : ℕ) → i < count → EndsWithin (4 * longs) (slice_index ws (at + i))
+-- ---- rows of the table
+
+-- the longword behind the row whose size word stands at this one
+abbrev pub behind_row : List ℕ → ℕ → ℕ
+behind_row ws at = at + entry_longs (slice_index ws at)
+
+-- So many whole rows stand from the one longword up to the other.
+pub data AreRows (ws : List ℕ) (from : ℕ) : ℕ → ℕ → Type 0 where
+  no_row : AreRows ws from 0 from
+  one_row : (count at : ℕ) → AreRows ws from count at → behind_row ws at ≤ length ws → AreRows ws from (suc count) (behind_row ws at)
+
+-- ---- groups
+
+-- A group goes from the one longword up to the other: the number of its offsets, the number of a hunk, and the offsets. The long
+-- at each ends in a hunk of the declared number of longs.
+pub record IsGroup (ws : List ℕ) (hunks longs at behind : ℕ) : Type 0 where
+  pub some : 0 < slice_index ws at
+  pub ends : behind ≡ at + 2 + slice_index ws at
+  pub whole : behind ≤ length ws
+  pub target : slice_index ws (at + 1) < hunks
+  pub inside : (i : ℕ) → at + 2 ≤ i → i < behind → EndsWithin (4 * longs) (slice_index ws i)
+
+-- Such groups stand from the one longword up to the other.
+pub data AreGroups (ws : List ℕ) (hunks longs from : ℕ) : ℕ → Type 0 where
+  no_group : AreGroups ws hunks longs from from
+  one_group : (at behind : ℕ) → AreGroups ws hunks longs from at → IsGroup ws hunks longs at behind → AreGroups ws hunks longs from behind
+
+-- ---- symbols
+
+-- the longword behind the symbol whose word stands at this one: behind it come its name, and its value
+abbrev pub behind_symbol : List ℕ → ℕ → ℕ
+behind_symbol ws at = at + (name_longs (slice_index ws at) + 2)
+
+-- Whole symbols stand from the one longword up to the other. None has 0 for its word.
+pub data AreSymbols (ws : List ℕ) (from : ℕ) : ℕ → Type 0 where
+  no_symbol : AreSymbols ws from from
+  one_symbol : (at : ℕ) → AreSymbols ws from at → 0 < slice_index ws at → behind_symbol ws at ≤ length ws → AreSymbols ws from (behind_symbol ws at)
+
+-- ---- blocks
+
+-- The word of a block stands at this longword, is not refused, and the phase comes behind it.
+pub record BeginsBlock (ws : List ℕ) (has : Bool) (at : ℕ) (phase : Phase) : Type 0 where
+  pub inside : at < length ws
+  pub accepted : refuse_word has (slice_index ws at) ≡ None
+  pub begins : begin (kind (slice_index ws at)) ≡ Some phase
+
+-- The size word of a content stands at this longword, which has at most the declared number of longs, and ends at the other.
+pub record IsContent (ws : List ℕ) (longs at behind : ℕ) : Type 0 where
+  pub fits : size_longs (slice_index ws at) ≤ longs
+  pub ends : behind ≡ at + 1 + size_longs (slice_index ws at)
+  pub whole : behind ≤ length ws
+
+-- The count of a payload stands at this longword, which ends at the other.
+pub record IsCounted (ws : List ℕ) (at behind : ℕ) : Type 0 where
+  pub ends : behind ≡ at + 1 + slice_index ws at
+  pub whole : behind ≤ length ws
+
+-- The 0 that ends a list stands at this longword.
+pub record EndsList (ws : List ℕ) (at : ℕ) : Type 0 where
+  pub inside : at < length ws
+  pub zero_is : slice_index ws at ≡ 0
+
+-- A block goes from the one longword up to the other, in a hunk that has its content block or not, before it and behind it.
+pub data IsWholeBlock (ws : List ℕ) (hunks longs at : ℕ) (has : Bool) : ℕ → Bool → Type 0 where
+  content : (behind : ℕ) → BeginsBlock ws has at phases.ContentSize → IsContent ws longs (at + 1) behind → IsWholeBlock ws hunks longs at has behind true
+  counted : (behind : ℕ) → BeginsBlock ws has at phases.LongCount → IsCounted ws (at + 1) behind → IsWholeBlock ws hunks longs at has behind has
+  groups : (end : ℕ) → BeginsBlock ws has at phases.GroupCount → AreGroups ws hunks longs (at + 1) end → EndsList ws end → IsWholeBlock ws hunks longs at has (end + 1) has
+  symbols : (end : ℕ) → BeginsBlock ws has at phases.EntryWord → AreSymbols ws (at + 1) end → EndsList ws end → IsWholeBlock ws hunks longs at has (end + 1) has
+
+-- Such blocks go from the one longword up to the other.
+pub data AreBlocks (ws : List ℕ) (hunks longs from : ℕ) (has : Bool) : ℕ → Bool → Type 0 where
+  no_block : AreBlocks ws hunks longs from has from has
+  one_block : (at behind : ℕ) (before now : Bool) → AreBlocks ws hunks longs from has at before → IsWholeBlock ws hunks longs at before behind now → AreBlocks ws hunks longs from has behind now
+
+-- ---- rows, or blocks
+
+-- the same hunk, with or without its content block
+abbrev pub having : Bool → OpenHunk → OpenHunk
+having has o = record { hunks = o.hunks; ahead = o.ahead; has_content = has }
+
+-- What is passed over from the longword on, at this position in a hunk of the declared number of longs, goes up to the other
+-- longword, and the other position comes there.
+pub data IsPassed (ws : List ℕ) (longs at : ℕ) (p : Position) : ℕ → Position → Type 0 where
+  nothing : IsPassed ws longs at p at p
+  passed_rows : (hunks owed count end : ℕ) → p ≡ positions.SizeWord hunks owed → count ≤ owed → AreRows ws at count end → IsPassed ws longs at p end (positions.SizeWord hunks (owed - count))
+  passed_blocks : (o : OpenHunk) (phase : Phase) (end : ℕ) (now : Bool) → p ≡ positions.Body o phase → part_at phase ≡ parts.BlockWord → at < end → AreBlocks ws o.hunks longs at o.has_content end now →
+      IsPassed ws longs at p end (positions.Body (having now o) phases.BlockWord)

@@ -1,5 +1,5 @@
 -- Where a reader of a load file stands, in numbers alone: what the next longword is for, and what it leads to.
-use Rattle.std.specs.Prelude.{ℕ, zero, suc, ◌+◌, ◌-◌, ◌*◌, ◌≤◌, Bool, true, false, if◌then◌else◌, Option, Some, None}
+use Rattle.std.specs.Prelude.{ℕ, zero, suc, ◌+◌, ◌*◌, ◌≤◌, Bool, true, false, if◌then◌else◌, Option, Some, None}
 use Rattle.hunk_words.specs.declared.block_word.Kind.{Kind}
 use Rattle.hunk_words.specs.Bits.{has_both_bits}
 use Rattle.hunk_scan.specs.declared.phase.OpenHunk.{OpenHunk}
@@ -132,18 +132,7 @@ pass p zero = p
 pass (positions.Body o phase) (suc n) = pass_in o phase n
 pass p (suc n) = p
 
--- ---- lists of offsets
-
--- the number of offsets of one list that come at least
-abbrev pub offsets_to_come : Position → ℕ
-offsets_to_come (positions.Body o (phases.Offset target owed)) = suc owed
-offsets_to_come _ = 0
-
--- behind this number of them
-abbrev pub pass_offsets : Position → ℕ → Position
-pass_offsets p zero = p
-pass_offsets (positions.Body o (phases.Offset target owed)) (suc n) = owe_offsets o target (owed - n)
-pass_offsets p (suc n) = p
+-- ---- offsets
 
 -- a long at the offset ends within this number of bytes
 abbrev pub EndsWithin : ℕ → ℕ → Type 0

@@ -1,7 +1,7 @@
 //! Positions in a load file.
 ghost use Rattle.std.specs.Prelude.{◌≡◌, ◌≤◌, ◌<◌, ◌^◌, false};
 ghost use Rattle.hunk_scan.specs.Positions as positions;
-ghost use Rattle.hunk_scan.specs.Positions.{step, run, pass, offsets_to_come, pass_offsets, least_longs};
+ghost use Rattle.hunk_scan.specs.Positions.{step, run, pass, least_longs};
 ghost use Rattle.hunk_scan.specs.Positions.{is_done, is_behind_header, is_between_hunks};
 
 use crate::phase::{OpenHunk, open_next};
@@ -143,33 +143,6 @@ impl Position {
                 Some(next) => Position::Body(hunk, next),
                 None => hunk.behind(phase),
             },
-            _ => self,
-        }
-    }
-
-    /// How many offsets of one list come at least.
-    #[inline(always)]
-    pub fn offsets_to_come(self) -> u64
-        ensures value { result ≡ offsets_to_come self }
-        ensures bound { result ≤ 2 ^ 32 }
-    {
-        match self {
-            Position::Body(_, Phase::Offset { target: _, owed }) => u64::from(owed) + 1,
-            _ => 0,
-        }
-    }
-
-    /// Behind `count` offsets of a list.
-    #[inline(always)]
-    pub fn pass_offsets(self, count: u64) -> Position
-        requires { count ≤ offsets_to_come self }
-        ensures { result ≡ pass_offsets self count }
-    {
-        match self {
-            Position::Body(hunk, Phase::Offset { target, owed }) if count > 0 => {
-                let owed = owed - (count - 1) as u32;
-                Position::Body(hunk, Phase::owe_offsets(target, owed))
-            }
             _ => self,
         }
     }

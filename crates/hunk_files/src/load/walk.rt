@@ -7,7 +7,7 @@ ghost use Rattle.hunk_files.specs.Entries.{entry_behind, entry_at};
 ghost use Rattle.hunk_scan.specs.Positions.{is_between_hunks, role_at, step};
 ghost use Rattle.hunk_scan.specs.Roles.{refuse};
 
-use crate::load::offsets::pass_list;
+use crate::load::passing::pass_over;
 use hunk_scan::{OpenHunk, Phase, Position, TABLE_AT, by_kind, by_phase};
 use hunk_words::{BlockWord, FileFault, Reason, SizeWord, word_at};
 
@@ -23,7 +23,7 @@ pub(crate) struct Entry {
 /// The number of bytes of the load file that the bytes begin with, or their first fault.
 ///
 /// It takes no memory. Payloads and names are passed over at once, as no test looks at their
-/// longwords, and so are long lists of offsets, whose largest is looked at.
+/// longwords, and so are rows of the table, groups of relocations and symbols that are whole.
 ///
 /// # Errors
 ///
@@ -56,7 +56,7 @@ pub(crate) fn walk(bytes: &[u8]) -> Result<usize, FileFault>
         }
         entry = open_entry(bytes, behind, entry);
         let run = behind.run();
-        (at, position) = pass_list(bytes, at + 1 + run as usize, behind.pass(run), entry.longs);
+        (at, position) = pass_over(bytes, at + 1 + run as usize, behind.pass(run), entry.longs);
     }
     Err(FileFault {
         place: 4 * count as u64,

@@ -33,6 +33,15 @@ pub(crate) enum ObjectPosition {
     Block { behind: WordPlace, phase: Phase },
 }
 
+/// What a longword that is not refused leads to.
+#[derive(Clone, Copy)]
+pub(crate) struct ObjectStride {
+    /// How many longwords come behind it that no test looks at.
+    pub run: u64,
+    /// The position behind these.
+    pub behind: ObjectPosition,
+}
+
 impl WordPlace {
     /// Whether the open hunk has its content block.
     #[inline(always)]
@@ -162,28 +171,41 @@ impl ObjectPosition {
         }
     }
 
-    /// The position behind the longword, or why it is refused. The kinds of block words are
-    /// distinguished here, once for all that is asked of them.
+    /// What the longword leads to, or why it is refused. The kinds of block words are distinguished
+    /// here, once for all that is asked of them.
     #[inline(always)]
-    pub(crate) fn step_from(self, word: u32) -> Result<ObjectPosition, Reason>
-        ensures steps { IfOk result (λ behind. behind ≡ steps.step self word) }
+    pub(crate) fn stride_from(self, word: u32) -> Result<ObjectStride, Reason>
         ensures passes { OnOk result (refuse_object (role_at self) word ≡ None) }
+        ensures run { IfOk result (λ s. s.run ≡ steps.run (steps.step self word)) }
+        ensures behind { IfOk result (λ s. s.behind ≡ steps.behind (steps.step self word)) }
+        ensures bound { IfOk result (λ s. s.run ≤ 2 ^ 32) }
         ensures refusal { IfErr result (λ reason. refuse_object (role_at self) word ≡ Some reason) }
     {
-        macro_rules! step {
-            () => {
-                match self.refuse(word) {
-                    Some(reason) => Err(reason),
-                    None => Ok(self.step(word)),
-                }
-            };
-        }
         match self {
             ObjectPosition::Word(_) if word != UNIT_WORD => {
-                by_kind!(BlockWord::of(word).kind(), step!())
+                by_kind!(BlockWord::of(word).kind(), self.stride_at(word))
             }
-            _ => step!(),
+            _ => self.stride_at(word),
         }
+    }
+
+    /// The same, with no kind distinguished beforehand.
+    #[inline(always)]
+    fn stride_at(self, word: u32) -> Result<ObjectStride, Reason>
+        ensures passes { OnOk result (refuse_object (role_at self) word ≡ None) }
+        ensures run { IfOk result (λ s. s.run ≡ steps.run (steps.step self word)) }
+        ensures behind { IfOk result (λ s. s.behind ≡ steps.behind (steps.step self word)) }
+        ensures bound { IfOk result (λ s. s.run ≤ 2 ^ 32) }
+        ensures refusal { IfErr result (λ reason. refuse_object (role_at self) word ≡ Some reason) }
+    {
+        if let Some(reason) = self.refuse(word) {
+            return Err(reason);
+        }
+        let next = self.step(word);
+        Ok(ObjectStride {
+            run: next.run(),
+            behind: next.behind(),
+        })
     }
 
     /// Whether the file may end here.
@@ -196,7 +218,7 @@ impl ObjectPosition {
 
     /// How many longwords come at least that no test looks at.
     #[inline(always)]
-    pub(crate) fn run(self) -> u64
+    fn run(self) -> u64
         ensures value { result ≡ steps.run self }
         ensures bound { result ≤ 2 ^ 32 }
     {
@@ -209,7 +231,7 @@ impl ObjectPosition {
 
     /// Behind all of them.
     #[inline(always)]
-    pub(crate) fn behind(self) -> ObjectPosition
+    fn behind(self) -> ObjectPosition
         ensures { result ≡ steps.behind self }
     {
         match self {

@@ -24,8 +24,8 @@ pub fn walk_object(bytes: &[u8]) -> Result<(), FileFault>
     let mut at = 0;
     'walking: while at < count {
         let word = word_at(bytes, at);
-        let behind = match position.step_from(word) {
-            Ok(behind) => behind,
+        let stride = match position.stride_from(word) {
+            Ok(stride) => stride,
             Err(reason) => {
                 return Err(FileFault {
                     place: 4 * at as u64,
@@ -33,8 +33,8 @@ pub fn walk_object(bytes: &[u8]) -> Result<(), FileFault>
                 });
             }
         };
-        at += 1 + behind.run() as usize;
-        position = behind.behind();
+        at += 1 + stride.run as usize;
+        position = stride.behind;
     }
     if at > count || bytes.len() % 4 != 0 || !position.may_end() {
         return Err(FileFault {

@@ -1,4 +1,4 @@
-use Rattle.std.proofs.Common.{◌≡◌, ℕ, ◌+◌, ◌-◌, ◌*◌, arith, sym, subst, Some, IfErr}
+use Rattle.std.proofs.Common.{◌≡◌, ℕ, ◌+◌, ◌*◌, arith, sym, subst, Some, IfErr}
 use Rattle.hunk_words.specs.Longs.{longs, IsBytes}
 use Rattle.hunk_words.specs.declared.reason.Reason.{Reason}
 use Rattle.hunk_words.specs.declared.reason.Reason.TheVariants as reasons
@@ -11,6 +11,7 @@ use Rattle.hunk_files.specs.Entries.{entry_at}
 use Rattle.hunk_files.specs.Fault.{HasFault}
 use Rattle.hunk_files.specs.declared.load.walk.Entry.{Entry}
 use Rattle.hunk_files.proofs.LoadWalks.{Walks, start_walk, refused, ends, opens, passes, walk_over, ends_early}
+use Rattle.hunk_files.proofs.Passed.{passed_on}
 use Rattle.hunk_files.proofs.load.walk.walk.Goals as goal
 
 pub walking-init : goal.walking-init
@@ -27,38 +28,35 @@ pub returns-in-Done : goal.returns-in-Done
 returns-in-Done c =
     let bytes = c.args.bytes.now in
     let w = c.walking in
+    let ok = c.in-Ok in
     ends bytes (λ i. omega (arith, c.type_inv.bytes i)) w.at w.position w.entry w.invariant (omega (arith, length-longs bytes)) c.word_at-word.result c.word_at-word.ensures
-    c.in-Ok.behind c.in-Ok.ensures.steps c.in-Ok.ensures.passes c.in-Done.is
+    ok.behind ok.ensures.steps ok.ensures.passes c.in-Done.is
 
 pub open_entry-entry-requires : goal.open_entry-entry-requires
 open_entry-entry-requires c =
     let bytes = c.args.bytes.now in
     let w = c.walking in
+    let ok = c.in-Ok in
     opens bytes (λ i. omega (arith, c.type_inv.bytes i)) w.at w.position w.entry w.invariant (omega (arith, length-longs bytes)) c.word_at-word.result c.word_at-word.ensures
-    c.in-Ok.behind c.in-Ok.ensures.steps c.in-Ok.ensures.passes c.in_default.not-Done
+    ok.behind ok.ensures.steps ok.ensures.passes c.in_default.not-Done
 
 pub walking-preserved : goal.walking-preserved
 walking-preserved c =
     let bytes = c.args.bytes.now in
     let w = c.walking in
     let fit : IsBytes bytes = λ i. omega (arith, c.type_inv.bytes i) in
+    let ok = c.in-Ok in
     let on =
     passes bytes fit w.at w.position w.entry w.invariant (omega (arith, length-longs bytes)) c.word_at-word.result c.word_at-word.ensures
-    c.in-Ok.behind c.in-Ok.ensures.steps c.in-Ok.ensures.passes c.in_default.not-Done in
-    let Q : ℕ → Type 0 = λ n. Walks bytes (w.at + (1 + n)) (scan.pass c.in-Ok.behind n) (entry_at (longs bytes) c.in-Ok.behind w.entry) in
-    let R : Position → Entry → Type 0 = λ p e. Walks bytes (w.at + (1 + c.run-run.result)) p e in
-    let here = subst Q (sym c.run-run.ensures.value) on in
-    let walked = subst (λ (e : Entry). R c.pass.result e) (sym c.open_entry-entry.ensures)
-    (subst (λ (p : Position). R p (entry_at (longs bytes) c.in-Ok.behind w.entry)) (sym c.pass.ensures) here) in
+    ok.behind ok.ensures.steps ok.ensures.passes c.in_default.not-Done in
     let entry = c.open_entry-entry.result in
-    let from = w.at + 1 + c.run-run.result in
-    let n = c.pass_list.result.0 - from in
-    let place : from + n ≡ c.pass_list.result.0 = omega (arith, c.pass_list.ensures.from) in
-    let behind-run : w.at + (1 + c.run-run.result) ≡ from = omega arith in
-    let over = walk_over bytes fit from n c.pass.result entry (subst (λ (k : ℕ). Walks bytes k c.pass.result entry) behind-run walked)
-    (λ some. c.pass_list.ensures.passed (omega (arith, some))) in
-    subst (λ (k : ℕ). Walks bytes k c.pass_list.result.1 entry) place
-    (subst (λ (p : Position). Walks bytes (from + n) p entry) (sym c.pass_list.ensures.behind) over)
+    let from : w.at + (1 + c.run-run.result) ≡ w.at + 1 + c.run-run.result = omega arith in
+    let P : ℕ → Type 0 = λ n. Walks bytes (w.at + (1 + n)) (scan.pass ok.behind n) (entry_at (longs bytes) ok.behind w.entry) in
+    let here = subst (λ (k : ℕ). Walks bytes k c.pass.result entry) from
+    (subst (λ (p : Position). Walks bytes (w.at + (1 + c.run-run.result)) p entry) (sym c.pass.ensures)
+    (subst (λ (e : Entry). Walks bytes (w.at + (1 + c.run-run.result)) (scan.pass ok.behind c.run-run.result) e) (sym c.open_entry-entry.ensures)
+    (subst P (sym c.run-run.ensures.value) on))) in
+    walk_over bytes fit (w.at + 1 + c.run-run.result) c.pass.result entry c.pass_over.result.0 c.pass_over.result.1 here c.pass_over.ensures
 
 pub returns : goal.returns
 returns c =
@@ -66,3 +64,8 @@ returns c =
     let w = c.walking in
     let P : ℕ → Type 0 = λ n. HasFault bytes (4 * n) reasons.Truncated in
     subst P (length-longs bytes) (ends_early bytes w.at w.position w.entry w.invariant (omega (arith, length-longs bytes)))
+
+pub walking-smaller : goal.walking-smaller
+walking-smaller c =
+    let on = passed_on (longs c.args.bytes.now) c.open_entry-entry.result.longs (c.walking.at + 1 + c.run-run.result) c.pass.result c.pass_over.result.0 c.pass_over.result.1 c.pass_over.ensures in
+    omega (arith, on, c.walking-test.true)

@@ -18,19 +18,17 @@ returns-in-Err c =
     let bytes = c.args.bytes.now in
     let w = c.walking in
     refused bytes (λ i. omega (arith, c.type_inv.bytes i)) w.at w.position w.invariant (omega (arith, c.walking-test.true, length-longs bytes)) c.word_at-word.result c.word_at-word.ensures c.in-Err.reason
-    (subst (λ r. IfErr r (λ (reason : Reason). refuse_object (steps.role_at w.position) c.word_at-word.result ≡ Some reason)) c.in-Err.is c.step_from.ensures.refusal)
+    (subst (λ r. IfErr r (λ (reason : Reason). refuse_object (steps.role_at w.position) c.word_at-word.result ≡ Some reason)) c.in-Err.is c.stride_from.ensures.refusal)
 
 pub walking-preserved : goal.walking-preserved
 walking-preserved c =
     let bytes = c.args.bytes.now in
     let w = c.walking in
-    let ended = c.in-Ok.behind in
+    let ok = c.in-Ok in
     let on = passes bytes (λ i. omega (arith, c.type_inv.bytes i)) w.at w.position w.invariant (omega (arith, c.walking-test.true, length-longs bytes)) c.word_at-word.result c.word_at-word.ensures
-    c.in-Ok.ensures.passes in
-    let P : ObjectPosition → Type 0 = λ p. ObjectWalks bytes (w.at + (1 + steps.run p)) (steps.behind p) in
-    let here = subst P (sym c.in-Ok.ensures.steps) on in
-    subst (ObjectWalks bytes (w.at + (1 + c.run.result))) (sym c.behind-position.ensures)
-    (subst (λ (n : ℕ). ObjectWalks bytes (w.at + (1 + n)) (steps.behind ended)) (sym c.run.ensures.value) here)
+    ok.ensures.passes in
+    let P : ℕ → ObjectPosition → Type 0 = λ n p. ObjectWalks bytes (w.at + (1 + n)) p in
+    subst (λ (n : ℕ). P n ok.stride.behind) (sym ok.ensures.run) (subst (P (steps.run (steps.step w.position c.word_at-word.result))) (sym ok.ensures.behind) on)
 
 clash : (a b : Bool) → a ≡ b → a ≡ false → b ≡ true → ⊥
 clash a b e f t = cc (e, f, t)

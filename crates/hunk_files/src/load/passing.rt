@@ -1,0 +1,312 @@
+//! Parts of a load file that are passed over at once.
+ghost use Rattle.std.specs.Prelude.{◌≡◌, ◌≤◌, ◌<◌, ◌+◌, ◌*◌, ℕ, IfSome, IsTrue, Some, None, length, slice_index};
+ghost use Rattle.hunk_words.specs.Bits.{kind};
+ghost use Rattle.hunk_words.specs.Longs.{longs};
+ghost use Rattle.hunk_blocks.specs.Parts.{Part as parts};
+ghost use Rattle.hunk_blocks.specs.PhaseSteps.{begin, part_at};
+ghost use Rattle.hunk_files.specs.Passing.{AreBlocks, AreGroups, AreRows, AreSymbols, EndsList};
+ghost use Rattle.hunk_files.specs.Passing.{IsContent, IsCounted, IsGroup, IsPassed, IsWholeBlock};
+ghost use Rattle.hunk_scan.specs.Positions.{EndsWithin};
+ghost use Rattle.hunk_scan.specs.Roles.{refuse_word};
+
+use hunk_blocks::content_longs;
+use hunk_scan::{OpenHunk, Phase, Position, by_kind, is_outside};
+use hunk_words::{BlockWord, NAME_LIMIT, SizeWord, word_at};
+
+/// The longword behind what is passed over at once from `at` on, in a hunk of `declared` longs, and
+/// the position there: rows of the table up to its last, or blocks, all of them whole. Nothing of it
+/// is rejected.
+#[inline(always)]
+pub(super) fn pass_over(
+    bytes: &[u8],
+    at: usize,
+    position: Position,
+    declared: u32,
+) -> (usize, Position)
+    ensures { IsPassed (longs bytes.now) declared at position result.0 result.1 }
+{
+    match position {
+        Position::SizeWord { hunks, owed } => {
+            let (end, count) = behind_rows(bytes, at, owed);
+            let owed = owed - count;
+            (end, Position::SizeWord { hunks, owed })
+        }
+        Position::Body(hunk, phase) if begins_block(phase) => {
+            let (end, has_content) = behind_blocks(
+                bytes,
+                at,
+                hunk.hunks,
+                declared,
+                hunk.has_content,
+            );
+            if end <= at {
+                return (at, position);
+            }
+            let hunk = OpenHunk {
+                has_content,
+                ..hunk
+            };
+            (end, Position::Body(hunk, Phase::BlockWord))
+        }
+        _ => (at, position),
+    }
+}
+
+/// The longword behind the blocks that stand from `from` on and end in the bytes, up to the first
+/// that may be rejected in a hunk of `declared` longs of a file of `hunks` hunks; and whether the
+/// content block of the hunk came up to there, as `has_content` says of `from`.
+#[inline(never)]
+fn behind_blocks(
+    bytes: &[u8],
+    from: usize,
+    hunks: u32,
+    declared: u32,
+    has_content: bool,
+) -> (usize, bool)
+    ensures { AreBlocks (longs bytes.now) hunks declared from has_content result.0 result.1 }
+{
+    let mut at = from;
+    let mut has = has_content;
+    'passing: while let Some(next) = behind_block(bytes, at, hunks, declared, has) {
+        at = next.0;
+        has = next.1;
+    }
+    (at, has)
+}
+
+/// The longword behind one such block, where one stands at `at`, and whether the content block came
+/// up to there.
+#[inline(always)]
+fn behind_block(
+    bytes: &[u8],
+    at: usize,
+    hunks: u32,
+    declared: u32,
+    has_content: bool,
+) -> Option<(usize, bool)>
+    ensures { IfSome result (λ r.
+        IsWholeBlock (longs bytes.now) hunks declared at has_content r.0 r.1) }
+{
+    if at >= bytes.len() / 4 {
+        return None;
+    }
+    let word = word_at(bytes, at);
+    by_kind!(
+        BlockWord::of(word).kind(),
+        behind_word(bytes, at, hunks, declared, has_content, word)
+    )
+}
+
+/// What comes behind the word of a block, where it is not rejected and does not end the hunk.
+#[inline(always)]
+fn begin_block(has_content: bool, word: u32) -> Option<Phase>
+    ensures { IfSome result (λ phase. (refuse_word has_content word ≡ None)
+        × (begin (kind word) ≡ Some phase)) }
+{
+    // The test of a block word looks at nothing else of its hunk.
+    let hunk = OpenHunk {
+        hunks: 0,
+        ahead: 0,
+        has_content,
+    };
+    if let Some(_) = Position::Body(hunk, Phase::BlockWord).refuse(0, word) {
+        return None;
+    }
+    Phase::begin(BlockWord::of(word).kind())
+}
+
+/// The same, by the block's word.
+#[inline(always)]
+fn behind_word(
+    bytes: &[u8],
+    at: usize,
+    hunks: u32,
+    declared: u32,
+    has_content: bool,
+    word: u32,
+) -> Option<(usize, bool)>
+    requires inside { 4 * at + 4 ≤ length bytes.now }
+    requires word { word ≡ slice_index (longs bytes.now) at }
+    ensures { IfSome result (λ r.
+        IsWholeBlock (longs bytes.now) hunks declared at has_content r.0 r.1) }
+{
+    let phase = begin_block(has_content, word)?;
+    match phase {
+        Phase::ContentSize => {
+            let behind = behind_content(bytes, at + 1, declared)?;
+            Some((behind, true))
+        }
+        Phase::LongCount => {
+            let behind = behind_counted(bytes, at + 1)?;
+            Some((behind, has_content))
+        }
+        Phase::GroupCount => {
+            let end = behind_groups(bytes, at + 1, hunks, declared);
+            let behind = behind_zero(bytes, end)?;
+            Some((behind, has_content))
+        }
+        Phase::EntryWord => {
+            let end = behind_symbols(bytes, at + 1);
+            let behind = behind_zero(bytes, end)?;
+            Some((behind, has_content))
+        }
+        _ => None,
+    }
+}
+
+/// The longword behind the content whose size word stands at `at`, where it ends in the bytes and
+/// has at most `declared` longs.
+#[inline(always)]
+fn behind_content(bytes: &[u8], at: usize, declared: u32) -> Option<usize>
+    ensures { IfSome result (IsContent (longs bytes.now) declared at) }
+{
+    let whole = bytes.len() / 4;
+    if at >= whole {
+        return None;
+    }
+    let size = content_longs(word_at(bytes, at));
+    if size > declared || size as usize > whole - at - 1 {
+        return None;
+    }
+    Some(at + 1 + size as usize)
+}
+
+/// The longword behind the payload whose count stands at `at`, where it ends in the bytes.
+#[inline(always)]
+fn behind_counted(bytes: &[u8], at: usize) -> Option<usize>
+    ensures { IfSome result (IsCounted (longs bytes.now) at) }
+{
+    let whole = bytes.len() / 4;
+    if at >= whole {
+        return None;
+    }
+    let count = word_at(bytes, at) as usize;
+    if count > whole - at - 1 {
+        return None;
+    }
+    Some(at + 1 + count)
+}
+
+/// The longword behind the 0 that ends a list at `at`, where it stands there.
+#[inline(always)]
+fn behind_zero(bytes: &[u8], at: usize) -> Option<usize>
+    ensures { IfSome result (λ behind.
+        EndsList (longs bytes.now) at × (behind ≡ at + 1)) }
+{
+    if at >= bytes.len() / 4 || word_at(bytes, at) != 0 {
+        return None;
+    }
+    Some(at + 1)
+}
+
+/// Whether a block may begin at the phase.
+#[inline(always)]
+fn begins_block(phase: Phase) -> bool
+    ensures { IsTrue result → part_at phase ≡ parts.BlockWord }
+{
+    match phase {
+        Phase::FirstBlock | Phase::BlockWord => true,
+        _ => false,
+    }
+}
+
+/// The longword behind the rows of a table that stand from `from` on and end in the bytes, and how
+/// many these are, at most `most`.
+#[inline(never)]
+fn behind_rows(bytes: &[u8], from: usize, most: u32) -> (usize, u32)
+    ensures rows { AreRows (longs bytes.now) from result.1 result.0 }
+    ensures few { result.1 ≤ most }
+{
+    // From here on a row of two longwords may not end in the bytes.
+    let last = (bytes.len() / 4).saturating_sub(1);
+    let mut at = from;
+    let mut count = 0;
+    'rows: while count < most && at < last {
+        at += SizeWord::entry_longs(word_at(bytes, at));
+        count += 1;
+    }
+    (at, count)
+}
+
+/// The longword behind the groups that stand from `from` on, end in the bytes, and are not rejected
+/// in a hunk of `declared` longs of a file of `hunks` hunks.
+#[inline(always)]
+fn behind_groups(bytes: &[u8], from: usize, hunks: u32, declared: u32) -> usize
+    ensures { AreGroups (longs bytes.now) hunks declared from result }
+{
+    let mut at = from;
+    'groups: while let Some(behind) = behind_group(bytes, at, hunks, declared) {
+        at = behind;
+    }
+    at
+}
+
+/// The longword behind one such group, where one stands at `at`.
+#[inline(always)]
+fn behind_group(bytes: &[u8], at: usize, hunks: u32, declared: u32) -> Option<usize>
+    ensures { IfSome result (IsGroup (longs bytes.now) hunks declared at) }
+{
+    let whole = bytes.len() / 4;
+    // A group has three longwords at least.
+    if at >= whole.saturating_sub(2) {
+        return None;
+    }
+    let count = word_at(bytes, at) as usize;
+    let first = at + 2;
+    if count == 0 || count > whole - first || word_at(bytes, at + 1) >= hunks {
+        return None;
+    }
+    let behind = first + count;
+    if is_outside(largest(bytes, first, behind), declared) {
+        return None;
+    }
+    Some(behind)
+}
+
+/// The largest of the longwords from `first` up to `end`, 0 of none.
+fn largest(bytes: &[u8], first: usize, end: usize) -> u32
+    requires { 4 * end ≤ length bytes.now }
+    ensures { (i : ℕ) → first ≤ i → i < end → slice_index (longs bytes.now) i ≤ result }
+{
+    let mut largest = 0;
+    'longwords: for i in first..end {
+        largest = largest.max(join_bytes(bytes, i));
+    }
+    largest
+}
+
+/// The longword number `i`, put together from its bytes: where it is read so, and not by `word_at`,
+/// the compiler makes the loop four longwords wide.
+#[tactic(auto, using(hunk_words::proofs::LongLaws::word_of_bytes))]
+#[inline(always)]
+fn join_bytes(bytes: &[u8], i: usize) -> u32
+    requires { 4 * i + 4 ≤ length bytes.now }
+    ensures { result ≡ slice_index (longs bytes.now) i }
+{
+    let start = 4 * i;
+    u32::from_be_bytes([
+        bytes[start],
+        bytes[start + 1],
+        bytes[start + 2],
+        bytes[start + 3],
+    ])
+}
+
+/// The longword behind the symbols that stand from `from` on and end in the bytes.
+#[inline(never)]
+fn behind_symbols(bytes: &[u8], from: usize) -> usize
+    ensures { AreSymbols (longs bytes.now) from result }
+{
+    let whole = bytes.len() / 4;
+    let mut at = from;
+    'symbols: while at < whole {
+        let word = word_at(bytes, at);
+        // The word, its name, and its value.
+        let longs = (word % NAME_LIMIT) as usize + 2;
+        if word == 0 || longs > whole - at {
+            return at;
+        }
+        at += longs;
+    }
+    at
+}
