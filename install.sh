@@ -2,7 +2,7 @@
 # [DESTDIR=..] [PREFIX=..] ./install.sh [uninstall]: puts the program, the C library with its header, the manual page, two pages
 # and the lines for `file` where a distribution has them, below PREFIX (/usr/local), all of that below DESTDIR where one is given; or
 # takes them away, with the folders that it made, where these are empty then. They are what `rt run` in crates/hunkinfo and `rt lib`
-# in crates/hunk have built; PROGRAM and LIBRARY name others. It needs a C compiler (CC, with options or without), for libhunk.so.
+# in crates/hunk_c have built; PROGRAM and LIBRARY name others. It needs a C compiler (CC, with options or without), for libhunk.so.
 set -eu
 umask 022
 lack() {
@@ -43,11 +43,11 @@ if [ $# = 1 ]; then
   exit $status
 fi
 
-LIBRARY=${LIBRARY:-crates/hunk/out/libhunk.a}
+LIBRARY=${LIBRARY:-crates/hunk_c/out/libhunk_c.a}
 PROGRAM=${PROGRAM:-crates/hunkinfo/out/hunkinfo}
 CC=${CC:-cc}
 command -v "${CC%% *}" > /dev/null || lack "a C compiler, $CC, is needed"
-[ -f "$LIBRARY" ] || lack "$LIBRARY is not there: build it with (cd crates/hunk && rt lib)"
+[ -f "$LIBRARY" ] || lack "$LIBRARY is not there: build it with (cd crates/hunk_c && rt lib)"
 [ -f "$PROGRAM" ] || lack "$PROGRAM is not there: build it with (cd crates/hunkinfo && rt run < stdin)"
 case $PREFIX in
   *[\$\#]* | *[[:space:]] | *'

@@ -2,7 +2,7 @@
 use Rattle.std.specs.Prelude.{map}
 use Rattle.hunk_words.specs.Longs.{longs}
 use Rattle.hunk_blocks.specs.declared.groups.Group.{Group}
-use Rattle.hunk_blocks.specs.declared.symbols.Named.{Named}
+use Rattle.hunk_blocks.specs.declared.symbols.SymbolView.{SymbolView}
 use Rattle.hunk_blocks.specs.declared.entries.Entry.{Entry}
 use Rattle.hunk_blocks.specs.declared.body.Body.{Body}
 use Rattle.hunk_blocks.specs.declared.body.Body.TheVariants as bodies
@@ -11,7 +11,7 @@ use Rattle.hunk_blocks.specs.Values.{RelocGroup, ExtEntry, SymbolEntry, BlockBod
 abbrev pub group_of : Group → RelocGroup
 group_of g = record { target = g.target; offsets = g.offsets }
 
-abbrev pub symbol_of : Named → SymbolEntry
+abbrev pub symbol_of : SymbolView → SymbolEntry
 symbol_of s = record { word = s.word; name = longs s.name; value = s.value }
 
 abbrev pub entry_of : Entry → ExtEntry

@@ -35,5 +35,5 @@ pub use crate::longs::{Longs, LongsIter};
 pub use crate::mode::Mode;
 pub use crate::payload::Payload;
 pub use crate::phase::{Phase, content_longs};
-pub use crate::symbols::{Named, Symbols, SymbolsIter};
+pub use crate::symbols::{SymbolView, Symbols, SymbolsIter};
 pub use crate::walk::walk_block;

@@ -22,7 +22,7 @@ use std::marker::Model;
 /// Source: The AmigaDOS Manual, `dos/doshunks.h`. That an empty name does not end the block, and
 /// that what stands behind the first zero byte of a name is kept, is this project's own choice.
 #[derive(Debug, Drop)]
-pub struct Named<'a> {
+pub struct SymbolView<'a> {
     /// The number of longwords of the name in the low 24 bits; the top byte is kept.
     pub word: u32,
     /// The bytes of the name, padded with zero bytes.
@@ -32,7 +32,7 @@ pub struct Named<'a> {
 }
 
 /// The entries of a SYMBOL block, in file order.
-pub type Symbols<'a> = BlockList<Named<'a>>;
+pub type Symbols<'a> = BlockList<SymbolView<'a>>;
 
 /// The entries of a SYMBOL block that are still to come, each read where it lies. It takes no
 /// memory. Contracts see the list of them, and the byte of the input at which the next begins.
@@ -96,14 +96,14 @@ impl<'a> SymbolsIter<'a> {
 }
 
 impl<'a> Iterator for SymbolsIter<'a> {
-    type Item = Named<'a>;
+    type Item = SymbolView<'a>;
 
     ghost next_gives = { GivesFirst symbol_of symbol_text };
 
     ghost remaining = { item_count (λ s. s.value) };
 
     #[inline(always)]
-    fn next(&mut self) -> Option<Named<'a>> {
+    fn next(&mut self) -> Option<SymbolView<'a>> {
         if self.reader.peek() == 0 {
             return None;
         }
@@ -113,14 +113,14 @@ impl<'a> Iterator for SymbolsIter<'a> {
 
 /// The next entry (The AmigaDOS Manual, `dos/doshunks.h`).
 #[inline(always)]
-fn read_symbol<'a>(reader: &mut LongReader<'a>) -> Named<'a>
+fn read_symbol<'a>(reader: &mut LongReader<'a>) -> SymbolView<'a>
     requires { BeginsWithSome IsSymbolEntry symbol_text reader.old.rest }
     ensures { ReadsValue symbol_cut reader.old reader.new (symbol_of result) }
 {
     let word = reader.long();
     let name = read_entry_name(reader, word);
     let value = reader.long();
-    Named { word, name, value }
+    SymbolView { word, name, value }
 }
 
 /// The entries in a list.

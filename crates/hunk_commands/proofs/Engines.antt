@@ -7,7 +7,7 @@ use Rattle.hunk_words.specs.Longs.{longs}
 use Rattle.hunk_words.specs.Puts.{Puts}
 use Rattle.hunk_words.specs.declared.fault.Fault.{Fault}
 use Rattle.hunk_words.specs.declared.reason.Reason.TheVariants.{OutOfMemory}
-use Rattle.hunk_scan.specs.FileKind.{sniffed}
+use Rattle.hunk_grammar.specs.FileKind.{sniffed}
 use Rattle.hunk_commands.specs.declared.fault.RunFault.{RunFault}
 use Rattle.hunk_commands.specs.declared.fault.RunFault.TheVariants.{HexText, Memory, Read, Refused, Write}
 use Rattle.hunk_commands.specs.Engine.{PutsAll, PutsFirst, PutsOrRefuses, ReadsThenPuts, RefusesOnly, StopsAtWrite, Writes}

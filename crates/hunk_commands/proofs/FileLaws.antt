@@ -4,8 +4,8 @@ use Rattle.std.specs.Prelude.{IsTrue}
 use Rattle.hunk_words.specs.declared.fault.Fault.{Fault}
 use Rattle.hunk_words.specs.declared.reason.Reason.{Reason}
 use Rattle.hunk_words.specs.declared.reason.Reason.TheVariants as reasons
-use Rattle.hunk_scan.specs.declared.file_kind.Sniff.{Sniff}
-use Rattle.hunk_scan.specs.declared.file_kind.Sniff.TheVariants as sniffs
+use Rattle.hunk_grammar.specs.declared.file_kind.Sniff.{Sniff}
+use Rattle.hunk_grammar.specs.declared.file_kind.Sniff.TheVariants as sniffs
 use Rattle.hunk_files.specs.Fault.{is_load_refusal}
 use Rattle.hunk_files.specs.ObjectFile.{ObjectFileValue, is_object_refusal}
 use Rattle.hunk_files.specs.Findings.{findings}

@@ -1,7 +1,7 @@
 -- What an input that is no file is refused for.
 use Rattle.std.specs.Prelude.{ℕ, List}
 use Rattle.hunk_words.specs.Longs.{longs}
-use Rattle.hunk_scan.specs.FileKind.{sniffed}
+use Rattle.hunk_grammar.specs.FileKind.{sniffed}
 use Rattle.hunk_files.specs.HunkFile.{IsRefusal}
 use Rattle.hunk_commands.specs.declared.fault.RunFault.{RunFault}
 use Rattle.hunk_commands.specs.declared.fault.RunFault.TheVariants as faults

@@ -6,7 +6,7 @@ use Rattle.hunk_words.specs.declared.reason.Reason.TheVariants.{OutOfMemory}
 use Rattle.hunk_files.specs.LoadFile.{LoadFileValue, IsLoadFile}
 use Rattle.hunk_files.specs.LoadText.{table, text}
 use Rattle.hunk_files.specs.Image.{declared_bytes, image}
-use Rattle.hunk_scatter.specs.LoadOutcomes.{Gives, IsLoadFault, IsShort}
+use Rattle.hunk_scatter.specs.LoadOutcomes.{Gives, IsLoadFault, IsUnfinished}
 use Rattle.hunk_scatter.specs.LoaderValues.{ImageValue}
 use Rattle.hunk_scatter.specs.Placing.{AreBases, packed_from}
 use Rattle.hunk_scatter.specs.Rows.{bases_of}
@@ -55,7 +55,7 @@ pub record ReadsShort (budget most : ℕ) (a b : Option (List ℕ)) (failed : Bo
   pub given : List ℕ
   pub gave : Gives a b most given
   pub place_is : place ≡ length given
-  pub short : IsShort budget given
+  pub short : IsUnfinished budget given
 
 -- Memory ran out where a load of the bytes that were given takes some: for a row of a header that they begin, or for the store right after it.
 pub record LacksMemory (start budget most : ℕ) (a b : Option (List ℕ)) (failed : Bool) : Type 0 where

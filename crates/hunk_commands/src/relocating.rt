@@ -8,7 +8,7 @@ ghost use Rattle.hunk_words.specs.declared.reason.Reason.TheVariants.{Budget};
 ghost use Rattle.hunk_commands.specs.declared.fault.RunFault.TheVariants.{Memory, Read, Refused};
 ghost use Rattle.hunk_files.specs.Fault.{HasFault};
 ghost use Rattle.hunk_scatter.specs.LoaderReasons.{is_of_file};
-ghost use Rattle.hunk_scatter.specs.HeaderFaults.{PassesBudget};
+ghost use Rattle.hunk_scatter.specs.HeaderFaults.{ExceedsBudget};
 ghost use Rattle.hunk_scatter.specs.LoadOutcomes.{Gives, GivesAtMost, HasFileWithin, IsLoadFault};
 ghost use Rattle.hunk_scatter.specs.LoadOutcomes.{StopsBehindFile, StopsBehindHeader};
 ghost use Rattle.hunk_commands.specs.Engine.{StopsAtWrite};
@@ -75,7 +75,7 @@ pub fn relocate<R: Source, W: Sink>(
 
     ensures over_budget { (input : List ℕ) (at : ℕ) → R.left r.old ≡ Some input
         → R.failed r.new ≡ false
-        → PassesBudget limits.budget (take limits.file_bytes input) at
+        → ExceedsBudget limits.budget (take limits.file_bytes input) at
         → IsErrAnd result (λ fault. (fault ≡ Memory)
         ⊎ (fault ≡ Refused (record { place = at; reason = Budget }))) }
     ensures file_fault { (input : List ℕ) → R.left r.old ≡ Some input

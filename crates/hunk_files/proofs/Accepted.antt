@@ -12,9 +12,9 @@ use Rattle.hunk_blocks.specs.Parts.{Part, Part as parts, each, group_parts, symb
 use Rattle.hunk_blocks.specs.declared.mode.Mode.TheVariants as modes
 use Rattle.hunk_blocks.specs.Modes.{IsOfLoadMode}
 use Rattle.hunk_files.specs.LoadFile.{TableEntry, LoadFileValue, IsTableEntry, standing, AreInOrder, IsInside, FitsGroup, FitsHunk, IsHunkBlock, IsHunk, IsLoadFile, declared_longs}
-use Rattle.hunk_scan.specs.Standings.{BlockStanding, Beside, Content, Relocating, Ending, first_of, is_content, refuse_standing}
-use Rattle.hunk_scan.proofs.BlockWords.{word_split}
-use Rattle.hunk_scan.specs.Roles.{Place, InBlock, refuse, refuse_part, Role as roles}
+use Rattle.hunk_grammar.specs.Standings.{BlockStanding, Beside, Content, Relocating, Ending, first_of, is_content, refuse_standing}
+use Rattle.hunk_grammar.proofs.BlockWords.{word_split}
+use Rattle.hunk_grammar.specs.Roles.{Place, InBlock, refuse, refuse_part, Role as roles}
 use Rattle.hunk_files.specs.LoadText.{entry_labelled, header_labelled, block_labelled, blocks_labelled, hunk_labelled, table, labelled}
 use Rattle.hunk_files.proofs.FileText.{standings, entries_fit}
 use Rattle.hunk_blocks.proofs.Lists.{passes_else, passes_then, All-append}

@@ -6,7 +6,7 @@ use Rattle.hunk_blocks.specs.Values.{BlockValue, IsBlock}
 use Rattle.hunk_blocks.specs.Parts.{block_text}
 use Rattle.hunk_blocks.specs.Cuts.{Cut, cut_map, block_cut}
 use Rattle.hunk_blocks.proofs.CutLaws.{cut, block_cut_is}
-use Rattle.hunk_scan.specs.Standings.{is_ending}
+use Rattle.hunk_grammar.specs.Standings.{is_ending}
 use Rattle.hunk_files.specs.LoadFile.{AreInOrder, standing}
 use Rattle.hunk_files.specs.Hunks.{block_texts}
 use Rattle.hunk_files.specs.Cuts.{blocks_cut, hunk_cut}

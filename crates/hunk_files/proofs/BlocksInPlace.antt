@@ -12,7 +12,7 @@ use Rattle.hunk_blocks.specs.Begins.{BeginsWithSomeBlock, IsFrontBlock}
 use Rattle.hunk_blocks.specs.Cuts.{Cut}
 use Rattle.hunk_blocks.proofs.BlockLongs.{block_longs}
 use Rattle.hunk_blocks.proofs.Lists.{All-append}
-use Rattle.hunk_scan.specs.Standings.{is_ending}
+use Rattle.hunk_grammar.specs.Standings.{is_ending}
 use Rattle.hunk_words.specs.Longs.{IsLong}
 use Rattle.hunk_files.specs.LoadFile.{AreInOrder, standing}
 use Rattle.hunk_files.specs.Hunks.{BlockAt, HunkAt, IsRead, block_texts}

@@ -8,7 +8,7 @@ use Rattle.hunk_words.specs.declared.reason.Reason.TheVariants as reasons
 use Rattle.hunk_words.specs.Longs.{longs, bytes_of}
 use Rattle.hunk_words.specs.Bits.{kind}
 use Rattle.hunk_blocks.specs.Parts.{Part as parts}
-use Rattle.hunk_scan.specs.Roles.{refuse, Place, InBlock, Role as roles}
+use Rattle.hunk_grammar.specs.Roles.{refuse, Place, InBlock, Role as roles}
 use Rattle.hunk_files.specs.LoadText.{text, labelled}
 use Rattle.hunk_files.specs.Image.{image}
 

@@ -8,9 +8,9 @@ use Rattle.hunk_words.specs.declared.fault.Fault.{Fault}
 use Rattle.hunk_words.specs.declared.reason.Reason.TheVariants as reasons
 use Rattle.hunk_words.proofs.LongLaws.{bytes_of-cons, longs-bytes_of}
 use Rattle.hunk_blocks.specs.Parts.{block_text}
-use Rattle.hunk_scan.specs.declared.file_kind.Sniff.{Sniff}
-use Rattle.hunk_scan.specs.declared.file_kind.Sniff.TheVariants as sniffs
-use Rattle.hunk_scan.specs.FileKind.{sniffed}
+use Rattle.hunk_grammar.specs.declared.file_kind.Sniff.{Sniff}
+use Rattle.hunk_grammar.specs.declared.file_kind.Sniff.TheVariants as sniffs
+use Rattle.hunk_grammar.specs.FileKind.{sniffed}
 use Rattle.hunk_files.specs.LoadFile.{IsLoadFile, LoadFileValue}
 use Rattle.hunk_files.specs.LoadText.{text}
 use Rattle.hunk_files.specs.Fault.{BeginsWithLoadFile}

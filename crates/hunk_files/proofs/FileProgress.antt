@@ -13,9 +13,9 @@ use Rattle.hunk_blocks.specs.Modes.{refuse_alone_word}
 use Rattle.hunk_blocks.specs.Values.{BlockBody, BlockValue, FitsWord}
 use Rattle.hunk_blocks.specs.Parts.{Part, Part as parts}
 use Rattle.hunk_files.specs.LoadFile.{TableEntry, HunkValue, IsTableEntry, standing, AreInOrder, IsHunkBlock, IsHunk, IsLoadFile}
-use Rattle.hunk_scan.specs.Standings.{BlockStanding, Beside, Content, Relocating, Ending, is_content, is_ending, refuse_standing, standing_of_kind}
-use Rattle.hunk_scan.proofs.BlockWords.{word_split}
-use Rattle.hunk_scan.specs.Roles.{Place, Role, InBlock, refuse, refuse_part, refuse_kind, Role as roles}
+use Rattle.hunk_grammar.specs.Standings.{BlockStanding, Beside, Content, Relocating, Ending, is_content, is_ending, refuse_standing, standing_of_kind}
+use Rattle.hunk_grammar.proofs.BlockWords.{word_split}
+use Rattle.hunk_grammar.specs.Roles.{Place, Role, InBlock, refuse, refuse_part, refuse_kind, Role as roles}
 use Rattle.hunk_files.specs.LoadText.{entry_labelled, block_labelled, blocks_labelled, hunk_labelled, labelled, table}
 use Rattle.hunk_blocks.specs.BlockSteps.{BlockNext, Open, Whole, part_of, step_inside, begin_body}
 use Rattle.hunk_blocks.proofs.BlockProgress.{read_inside, read_next, step_reads, begin_reads}

@@ -7,8 +7,8 @@ use Rattle.hunk_words.specs.Bits.{kind, has_both_bits, size_longs}
 use Rattle.hunk_blocks.specs.Values.{BlockValue}
 use Rattle.hunk_blocks.specs.Parts.{Part, body_parts}
 use Rattle.hunk_files.specs.LoadFile.{TableEntry, HunkValue, LoadFileValue, IsTableEntry, standing, AreInOrder, IsHunkBlock, IsHunk, IsLoadFile}
-use Rattle.hunk_scan.specs.Standings.{BlockStanding, Beside, Content, Relocating, Ending, is_content}
-use Rattle.hunk_scan.specs.Roles.{Place, Role, InBlock, Role as roles}
+use Rattle.hunk_grammar.specs.Standings.{BlockStanding, Beside, Content, Relocating, Ending, is_content}
+use Rattle.hunk_grammar.specs.Roles.{Place, Role, InBlock, Role as roles}
 use Rattle.hunk_files.specs.LoadText.{table, entry_labelled, header_labelled, block_labelled, blocks_labelled, hunk_labelled, labelled}
 use Rattle.hunk_blocks.specs.BlockSteps.{BlockNext, Open, Whole, step_inside, begin_body, Follows}
 use Rattle.hunk_blocks.proofs.BlockText.{body_follows}

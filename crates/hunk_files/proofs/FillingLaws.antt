@@ -11,7 +11,7 @@ use Rattle.hunk_words.specs.Longs.{bytes_of}
 use Rattle.hunk_blocks.proofs.Fronts.{All-right}
 use Rattle.hunk_blocks.proofs.Lists.{flat_map-more}
 use Rattle.hunk_blocks.specs.Values.{BlockBody, BlockValue, RelocGroup, Code, Data, Bss, Reloc, Ext, End}
-use Rattle.hunk_scan.specs.Standings.{is_content}
+use Rattle.hunk_grammar.specs.Standings.{is_content}
 use Rattle.hunk_files.specs.Filling.{Fits, filled_by, memory_of}
 use Rattle.hunk_files.specs.Image.{add_at, block_content, block_relocations, declared_bytes, filled, group_relocations, image, images, relocated}
 use Rattle.hunk_files.specs.LoadFile.{HunkValue, LoadFileValue, TableEntry, AreInOrder, FitsHunk, IsHunk, IsHunkBlock, declared_longs, standing}

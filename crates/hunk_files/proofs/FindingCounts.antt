@@ -10,7 +10,7 @@ use Rattle.hunk_blocks.specs.ExtKinds.{ext_shape}
 use Rattle.hunk_blocks.specs.Parts.{EntryName, ExtWord, GroupCount, Offset, Part, block_parts, block_text, body_parts, each, ext_parts, ext_parts_by, group_parts}
 use Rattle.hunk_blocks.specs.Values.{BlockBody, BlockValue, Reloc, Ext, ExtEntry, FitsShape, FitsWord, IsBlock, IsExtEntry, RelocGroup, ext_type}
 use Rattle.hunk_files.specs.declared.object.check.FindingKind.TheVariants.{BadTarget, OutsideHunk}
-use Rattle.hunk_files.specs.Findings.{FindingValue, Spot, body_findings, entry_findings, finding, findings, group_findings, hunk_bytes, hunk_findings, hunks_findings, outside, reference_width, relocation_findings, relocation_width, unit_findings, units_findings}
+use Rattle.hunk_files.specs.Findings.{FindingValue, HunkContext, body_findings, entry_findings, finding, findings, group_findings, hunk_bytes, hunk_findings, hunks_findings, outside, reference_width, relocation_findings, relocation_width, unit_findings, units_findings}
 use Rattle.hunk_files.specs.Hunks.{block_texts}
 use Rattle.hunk_files.specs.ObjectFile.{IsObjectFile, IsObjectHunk, IsUnit, ObjectFileValue, ObjectHunk, UnitValue, object_text, unit_header, unit_text}
 
@@ -30,14 +30,14 @@ few_of_texts f text Is few [] are = omega arith
 few_of_texts f text Is few (x ∷ xs) are =
     omega (arith, length-append (f x) (flat_map f xs), length-append (text x) (flat_map text xs), few x are.0, few_of_texts f text Is few xs are.1)
 
-outside_few : (s : Spot) (width offset : ℕ) → length (outside s width offset) ≤ 1
+outside_few : (s : HunkContext) (width offset : ℕ) → length (outside s width offset) ≤ 1
 outside_few s width offset = (one_or_none (finding s OutsideHunk offset) (nat_lt s.bytes (offset + width))).0
 
-relocation_few : (s : Spot) (width target offset : ℕ) → length (relocation_findings s width target offset) ≤ 2
+relocation_few : (s : HunkContext) (width target offset : ℕ) → length (relocation_findings s width target offset) ≤ 2
 relocation_few s width target offset =
     omega (arith, length-append (cond (nat_lt target s.hunks) [] (finding s BadTarget offset ∷ [])) (outside s width offset), (one_or_none (finding s BadTarget offset) (nat_lt target s.hunks)).1, outside_few s width offset)
 
-group_few : (s : Spot) (width : ℕ) (g : RelocGroup) → length (group_findings s width g) ≤ 2 * length (group_parts g)
+group_few : (s : HunkContext) (width : ℕ) (g : RelocGroup) → length (group_findings s width g) ≤ 2 * length (group_parts g)
 group_few s width g =
     omega (arith, few_of_each (relocation_findings s width g.target) 2 (relocation_few s width g.target) g.offsets, length-map {B = Part × ℕ} g.offsets (λ w. (Offset, w)))
 
@@ -56,7 +56,7 @@ length-ext_parts e =
       length-map {B = Part × ℕ} e.name (λ w. (EntryName, w)),
     )
 
-entry_few : (s : Spot) (e : ExtEntry) → IsExtEntry e → length (entry_findings s e) ≤ 2 * length (ext_parts e)
+entry_few : (s : HunkContext) (e : ExtEntry) → IsExtEntry e → length (entry_findings s e) ≤ 2 * length (ext_parts e)
 entry_few s e is =
     omega (arith, few_of_each (outside s (reference_width e)) 1 (outside_few s (reference_width e)) e.offsets, length-ext_parts e, references_within (ext_shape (ext_type e)) e is.shape)
 
@@ -64,23 +64,23 @@ any : (gs : List RelocGroup) → AllByRecursion (λ g. ⊤) gs
 any [] = tt
 any (g ∷ gs) = (tt, any gs)
 
-body_few : (s : Spot) (word : ℕ) (body : BlockBody) → FitsWord word body → length (body_findings s word body) ≤ 2 * length (body_parts body)
+body_few : (s : HunkContext) (word : ℕ) (body : BlockBody) → FitsWord word body → length (body_findings s word body) ≤ 2 * length (body_parts body)
 body_few s word (Reloc gs) is =
     let width = relocation_width (kind word) in
     omega (arith, length-append (flat_map group_parts gs) ((GroupCount, 0) ∷ []), few_of_texts (group_findings s width) group_parts (λ g. ⊤) (λ g all. group_few s width g) gs (any gs))
 body_few s word (Ext es) is = omega (arith, length-append (flat_map ext_parts es) ((ExtWord, 0) ∷ []), few_of_texts (entry_findings s) ext_parts IsExtEntry (entry_few s) es is.1)
 body_few s word _ is = omega arith
 
-block_few : (s : Spot) (b : BlockValue) → IsBlock b → length (body_findings s b.word b.body) ≤ 2 * length (block_text b)
+block_few : (s : HunkContext) (b : BlockValue) → IsBlock b → length (body_findings s b.word b.body) ≤ 2 * length (block_text b)
 block_few s b is = omega (arith, body_few s b.word b.body is.body, length-map (block_parts b) (λ (p : Part × ℕ). p.1))
 
-hunk_few : (s : Spot) (h : ObjectHunk) → IsObjectHunk h → length (hunk_findings s h) ≤ 2 * length (block_texts h)
+hunk_few : (s : HunkContext) (h : ObjectHunk) → IsObjectHunk h → length (hunk_findings s h) ≤ 2 * length (block_texts h)
 hunk_few s h is = few_of_texts (λ b. body_findings s b.word b.body) block_text IsBlock (block_few s) h is.blocks
 
 hunks_few : (unit hunks number : ℕ) (hs : List ObjectHunk) → AllByRecursion IsObjectHunk hs → length (hunks_findings unit hunks number hs) ≤ 2 * length (flat_map block_texts hs)
 hunks_few unit hunks number [] are = omega arith
 hunks_few unit hunks number (h ∷ hs) are =
-    let s : Spot = record { unit = unit; hunk = number; hunks = hunks; bytes = hunk_bytes h } in
+    let s : HunkContext = record { unit = unit; hunk = number; hunks = hunks; bytes = hunk_bytes h } in
     omega (
       arith,
       length-append (hunk_findings s h) (hunks_findings unit hunks (number + 1) hs),

@@ -2,7 +2,7 @@
 use Rattle.std.proofs.Common.{◌≡◌, ℕ, ◌+◌, true, false, List, [], ◌∷◌, ◌++◌, refl, sym, ap, ap₂, subst, ◌∙◌, append_assoc, append-nil, Option, Some, None, unwrap_or, arith}
 use Rattle.std.specs.List.{flat_map, fold}
 use Rattle.hunk_blocks.specs.Values.{BlockBody, BlockValue, Name, Code, Data, Bss, Reloc, Ext, Symbol, Debug, Advisory, End, content_bytes}
-use Rattle.hunk_scan.specs.Standings.{BlockStanding}
+use Rattle.hunk_grammar.specs.Standings.{BlockStanding}
 use Rattle.hunk_files.specs.LoadFile.{standing, AreInOrder}
 use Rattle.hunk_files.specs.ObjectFile.{ObjectHunk}
 use Rattle.hunk_files.specs.Findings.{FindingValue, content_size, hunk_bytes, hunk_findings}

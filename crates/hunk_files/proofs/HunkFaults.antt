@@ -15,7 +15,7 @@ use Rattle.hunk_blocks.proofs.FaultLaws.{Embeds, expects_embedded, embeds_same, 
 use Rattle.hunk_blocks.proofs.Lists.{All-append}
 use Rattle.hunk_blocks.proofs.OneBlockFault.{part_not_word}
 use Rattle.hunk_files.specs.LoadFile.{standing, AreInOrder}
-use Rattle.hunk_scan.specs.Standings.{BlockStanding, Beside, Content, Relocating, Ending, is_content, refuse_standing, standing_of_kind}
+use Rattle.hunk_grammar.specs.Standings.{BlockStanding, Beside, Content, Relocating, Ending, is_content, refuse_standing, standing_of_kind}
 use Rattle.hunk_files.specs.ObjectFile.{ObjectHunk}
 use Rattle.hunk_files.specs.ObjectFault.{WordPlace, BetweenHunks, InHunk, ObjectRole, WordAt, has_content, behind_block, object_role_at, object_block_labelled, object_blocks_labelled, refuse_object, blocks_from}
 use Rattle.hunk_files.proofs.HunkOrder.{Leads, leads_end, standing_is}

@@ -7,7 +7,7 @@ use Rattle.hunk_words.specs.declared.reason.Reason.{Reason}
 use Rattle.hunk_words.specs.Bits.{is_relocation, kind}
 use Rattle.hunk_blocks.specs.Values.{BlockBody, Reloc, Advisory, End, FitsWord, is_unknown}
 use Rattle.hunk_files.specs.LoadFile.{standing, AreInOrder}
-use Rattle.hunk_scan.specs.Standings.{BlockStanding, Beside, Content, Relocating, Ending, is_content, is_ending, first_of, refuse_standing, standing_of_kind}
+use Rattle.hunk_grammar.specs.Standings.{BlockStanding, Beside, Content, Relocating, Ending, is_content, is_ending, first_of, refuse_standing, standing_of_kind}
 
 -- ---- one block
 

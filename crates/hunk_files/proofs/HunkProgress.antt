@@ -11,9 +11,9 @@ use Rattle.hunk_words.specs.Longs.{IsLong}
 use Rattle.hunk_blocks.specs.Values.{RelocGroup, SymbolEntry, BlockBody, FitsWord}
 use Rattle.hunk_blocks.specs.Parts.{Part as parts}
 use Rattle.hunk_blocks.specs.Modes.{IsOfLoadMode, refuse_inside, refuse_alone_kind}
-use Rattle.hunk_scan.specs.Roles.{Place, refuse_part, refuse_kind}
-use Rattle.hunk_scan.specs.Standings.{refuse_standing, standing_of_kind}
-use Rattle.hunk_scan.proofs.BlockWords.{kind_split}
+use Rattle.hunk_grammar.specs.Roles.{Place, refuse_part, refuse_kind}
+use Rattle.hunk_grammar.specs.Standings.{refuse_standing, standing_of_kind}
+use Rattle.hunk_grammar.proofs.BlockWords.{kind_split}
 use Rattle.hunk_files.proofs.HunkOrder.{first_both}
 use Rattle.hunk_files.specs.LoadFile.{FitsGroup, FitsHunk, IsInside}
 use Rattle.hunk_blocks.specs.BlockSteps.{ForName, Sizing, ForCode, ForData, ForBss, Filling, Counted, SizedCode, SizedData, Inside, AtCount, AtSize, InPayload, AtGroup, AtTarget, InOffsets, AtEntry, InName, AtValue, AtExtWord, BlockNext, Open, Whole, group, part_of, step_inside, fill, relocate, name_entry, sized_by, grouped, entered, begin_body}

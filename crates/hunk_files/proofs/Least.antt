@@ -12,12 +12,12 @@ use Rattle.hunk_blocks.specs.declared.phase.Phase.{Phase}
 use Rattle.hunk_blocks.specs.declared.phase.Phase.TheVariants as phases
 use Rattle.hunk_blocks.specs.PhaseSteps as inside
 use Rattle.hunk_blocks.proofs.Lists.{passed_true, passed_both}
-use Rattle.hunk_scan.specs.declared.phase.OpenHunk.{OpenHunk}
-use Rattle.hunk_scan.specs.declared.position.Position.{Position}
-use Rattle.hunk_scan.specs.declared.position.Position.TheVariants as positions
-use Rattle.hunk_scan.specs.Positions as scan
-use Rattle.hunk_scan.specs.Positions.{end_least, least_in, least_longs, role_at}
-use Rattle.hunk_scan.specs.Roles.{Role, refuse, refuse_kind, refuse_word}
+use Rattle.hunk_grammar.specs.declared.phase.OpenHunk.{OpenHunk}
+use Rattle.hunk_grammar.specs.declared.position.Position.{Position}
+use Rattle.hunk_grammar.specs.declared.position.Position.TheVariants as positions
+use Rattle.hunk_grammar.specs.Positions as scan
+use Rattle.hunk_grammar.specs.Positions.{end_least, least_in, least_longs, role_at}
+use Rattle.hunk_grammar.specs.Roles.{Role, refuse, refuse_kind, refuse_word}
 use Rattle.hunk_files.specs.LoadFile.{LoadFileValue, IsLoadFile}
 use Rattle.hunk_files.specs.LoadText.{text}
 use Rattle.hunk_files.specs.FileSteps.{Next, More, Finished, step_file, Leads}

@@ -19,13 +19,13 @@ use Rattle.hunk_blocks.proofs.Decoding.{front_bytes}
 use Rattle.hunk_blocks.proofs.KeptWalks.{OnePasses, HasRuns, StandsAt as StandsFor, Walks as WalksOf, starts, stands, word_refused, word_reads, word_passes}
 use Rattle.hunk_blocks.proofs.Lists.{flat_map-more, passes_else, passes_then}
 use Rattle.std.proofs.lemmas.Bool.{le-ltb, lt-ltb, ne_eqb}
-use Rattle.hunk_scan.specs.declared.phase.OpenHunk as numbers
-use Rattle.hunk_scan.specs.declared.position.Position.{Position}
-use Rattle.hunk_scan.specs.declared.position.Position.TheVariants as positions
-use Rattle.hunk_scan.specs.Positions as scan
-use Rattle.hunk_scan.specs.Positions.{role_at, is_between_hunks, EndsWithin}
-use Rattle.hunk_scan.specs.Roles.{Role, refuse, Role as roles}
-use Rattle.hunk_scan.proofs.OffsetRuns.{offset_passes}
+use Rattle.hunk_grammar.specs.declared.phase.OpenHunk as numbers
+use Rattle.hunk_grammar.specs.declared.position.Position.{Position}
+use Rattle.hunk_grammar.specs.declared.position.Position.TheVariants as positions
+use Rattle.hunk_grammar.specs.Positions as scan
+use Rattle.hunk_grammar.specs.Positions.{role_at, is_between_hunks, EndsWithin}
+use Rattle.hunk_grammar.specs.Roles.{Role, refuse, Role as roles}
+use Rattle.hunk_grammar.proofs.OffsetRuns.{offset_passes}
 use Rattle.hunk_files.specs.LoadFile.{TableEntry}
 use Rattle.hunk_files.specs.LoadText.{entry_labelled, hunk_labelled, blocks_labelled, table}
 use Rattle.hunk_files.specs.Fault.{HasFault, HasLoadText, IsTruncated, load_files}

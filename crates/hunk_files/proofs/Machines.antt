@@ -2,10 +2,10 @@
 use Rattle.std.proofs.Common.{◌≡◌, ℕ, [], ◌∷◌, ◌++◌, refl, sym, ap, subst, ◌∙◌, Some, None}
 use Rattle.hunk_blocks.specs.Along.{GoesAlong}
 use Rattle.hunk_blocks.proofs.Along.{Forgets, along}
-use Rattle.hunk_scan.specs.Roles.{Role, refuse}
-use Rattle.hunk_scan.specs.Positions as load
-use Rattle.hunk_scan.specs.declared.position.Position.{Position}
-use Rattle.hunk_scan.specs.declared.position.Position.TheVariants as positions
+use Rattle.hunk_grammar.specs.Roles.{Role, refuse}
+use Rattle.hunk_grammar.specs.Positions as load
+use Rattle.hunk_grammar.specs.declared.position.Position.{Position}
+use Rattle.hunk_grammar.specs.declared.position.Position.TheVariants as positions
 use Rattle.hunk_files.specs.FileSteps.{Progress, AtBlock, InBody, AtFirst, Next, More, Finished, role_of, step_file, Leads}
 use Rattle.hunk_files.specs.LoadFile.{LoadFileValue, IsLoadFile}
 use Rattle.hunk_files.specs.LoadText.{labelled}

@@ -18,7 +18,7 @@ use Rattle.hunk_blocks.proofs.BlockProgress.{read_inside}
 use Rattle.hunk_blocks.proofs.Lists.{All-more, All-append, flat_map-more, map-more, more_owed, passed_true}
 use Rattle.hunk_blocks.proofs.OneBlockFault.{part_not_word}
 use Rattle.hunk_files.specs.LoadFile.{standing, AreInOrder}
-use Rattle.hunk_scan.specs.Standings.{BlockStanding, Beside, Content, Relocating, Ending, is_content, is_ending, refuse_standing, standing_of_kind, first_of}
+use Rattle.hunk_grammar.specs.Standings.{BlockStanding, Beside, Content, Relocating, Ending, is_content, is_ending, refuse_standing, standing_of_kind, first_of}
 use Rattle.hunk_files.specs.ObjectFile.{ObjectHunk, UnitValue, ObjectFileValue, IsObjectFile, IsObjectHunk, IsUnit, unit_word, unit_header, unit_text, object_text}
 use Rattle.hunk_files.specs.ObjectFault.{WordPlace, BeforeUnits, BetweenHunks, InHunk, ObjectRole, WordAt, UnitCount, UnitName, Within, has_content, behind_block, object_role_at, refuse_unit, refuse_object_word, refuse_object, blocks_from, units_from, objects}
 use Rattle.hunk_files.proofs.HunkFaults.{blocks_at, expects_block, expects_word, expects_within, expects_behind, place_behind, opened}

@@ -10,7 +10,7 @@ use Rattle.hunk_blocks.specs.BlockSteps.{BlockNext, Open, Whole, part_of, begin_
 use Rattle.hunk_blocks.proofs.Outcomes.{Keeps, run, front}
 use Rattle.hunk_blocks.specs.PhaseSteps as inside
 use Rattle.hunk_blocks.specs.PhaseSteps.{part_at, skipped, skip_all}
-use Rattle.hunk_scan.specs.Standings.{standing_of_kind}
+use Rattle.hunk_grammar.specs.Standings.{standing_of_kind}
 use Rattle.hunk_blocks.specs.ReaderPhase.{phase_of, next_phase}
 use Rattle.hunk_blocks.proofs.BlockPhases.{step_phase, begin_phase, refuse_phase, skips_inside, none_skipped}
 use Rattle.hunk_blocks.proofs.KeptWalks.{OnePasses, HasRuns, StandsAt, Walks, starts, stands, word_refused, word_passes}

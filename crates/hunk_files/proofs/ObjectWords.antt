@@ -14,7 +14,7 @@ use Rattle.hunk_blocks.specs.ExtKinds.{ext_kind, ext_shape, shape_of_kind}
 use Rattle.hunk_blocks.specs.Parts.{Part, Part as parts}
 use Rattle.hunk_blocks.specs.Modes.{refuse_alone_kind, refuse_alone_word, refuse_inside, refuse_shape}
 use Rattle.hunk_blocks.proofs.Admitted.{not_for_memory, other_than_memory}
-use Rattle.hunk_scan.specs.Standings.{first_of, standing_of_kind}
+use Rattle.hunk_grammar.specs.Standings.{first_of, standing_of_kind}
 use Rattle.hunk_files.specs.ObjectFile.{unit_word}
 pub use Rattle.hunk_files.specs.ObjectSteps.{refuse_place}
 use Rattle.hunk_files.specs.ObjectFault.{WordPlace, BeforeUnits, BetweenHunks, InHunk, ObjectRole, WordAt, UnitCount, Within, object_role_at, refuse_ext_type, refuse_object_kind, refuse_unit, refuse_object_word, refuse_object}

@@ -6,8 +6,8 @@ use Rattle.hunk_blocks.specs.Values.{BlockValue, IsBlock}
 use Rattle.hunk_blocks.specs.Parts.{Part, block_text, block_parts}
 use Rattle.hunk_blocks.specs.Faults.{words}
 use Rattle.hunk_files.specs.LoadFile.{HunkValue, IsHunkBlock, AreInOrder, standing, declared_longs}
-use Rattle.hunk_scan.specs.Standings.{BlockStanding, Beside, Content, Relocating, Ending, is_content, is_ending}
-use Rattle.hunk_scan.specs.Roles.{Place, Role, InBlock}
+use Rattle.hunk_grammar.specs.Standings.{BlockStanding, Beside, Content, Relocating, Ending, is_content, is_ending}
+use Rattle.hunk_grammar.specs.Roles.{Place, Role, InBlock}
 use Rattle.hunk_files.specs.LoadText.{block_labelled, blocks_labelled, hunk_labelled}
 use Rattle.hunk_blocks.proofs.BlockPrefix.{block_same}
 use Rattle.hunk_files.specs.Hunks.{block_texts}

@@ -10,16 +10,16 @@ use Rattle.hunk_blocks.specs.ReaderPhase.{phase_of, next_phase}
 use Rattle.hunk_blocks.specs.BlockSteps.{ForName, ForCode, ForData, Filling, Counted, SizedCode, SizedData, Inside, AtCount, AtSize, InPayload, AtGroup, InOffsets, AtEntry, InName, AtExtWord, InExtName, AtExtCount, InExtOffsets, BlockNext, Open, Whole, begin_body, step_inside, fill, name_entry, name_external}
 use Rattle.hunk_blocks.proofs.BlockPhases.{IsReference, same_part, step_phase, begin_phase, phase_no_word}
 use Rattle.hunk_blocks.proofs.Lists.{map-more, more_owed}
-use Rattle.hunk_scan.specs.declared.phase.OpenHunk as numbers
+use Rattle.hunk_grammar.specs.declared.phase.OpenHunk as numbers
 use Rattle.hunk_blocks.specs.declared.phase.Phase.{Phase}
 use Rattle.hunk_blocks.specs.declared.phase.Phase.TheVariants as phases
-use Rattle.hunk_scan.specs.declared.position.Position.{Position}
-use Rattle.hunk_scan.specs.declared.position.Position.TheVariants as positions
-use Rattle.hunk_scan.specs.Positions as scan
-use Rattle.hunk_scan.specs.Positions.{role_at, is_between_hunks}
-use Rattle.hunk_scan.specs.Roles.{Place, refuse, refuse_part}
+use Rattle.hunk_grammar.specs.declared.position.Position.{Position}
+use Rattle.hunk_grammar.specs.declared.position.Position.TheVariants as positions
+use Rattle.hunk_grammar.specs.Positions as scan
+use Rattle.hunk_grammar.specs.Positions.{role_at, is_between_hunks}
+use Rattle.hunk_grammar.specs.Roles.{Place, refuse, refuse_part}
 use Rattle.hunk_files.specs.LoadFile.{TableEntry, HunkValue, standing}
-use Rattle.hunk_scan.specs.Standings.{BlockStanding, Beside, Content, Relocating, Ending}
+use Rattle.hunk_grammar.specs.Standings.{BlockStanding, Beside, Content, Relocating, Ending}
 use Rattle.hunk_files.specs.LoadText.{table}
 use Rattle.hunk_files.specs.ReaderPosition.{open_of, block_phase, position_of, open_longs, opened}
 use Rattle.hunk_files.specs.FileSteps.{HunkSoFar, Progress, AtFirst, AtLastHunk, AtSizeWord, AtAttributes, AtBlock, InBody, Next, More, Finished, role_of, place_of, step_file, rows, open_hunk, with_block, close_by, sized_row, after, hunk, block, table_entry}

@@ -5,7 +5,7 @@ use Rattle.hunk_words.specs.declared.reason.Reason.{Reason}
 use Rattle.hunk_words.specs.Longs.{longs, IsLong}
 use Rattle.hunk_blocks.specs.Faults.{words}
 use Rattle.hunk_files.specs.LoadFile.{LoadFileValue, IsLoadFile}
-use Rattle.hunk_scan.specs.Roles.{Role, refuse}
+use Rattle.hunk_grammar.specs.Roles.{Role, refuse}
 use Rattle.hunk_files.specs.LoadText.{text, labelled}
 use Rattle.hunk_files.specs.Fault.{Expects, HasRefusal}
 use Rattle.hunk_files.specs.FileSteps.{Progress, AtFirst, Next, More, Finished, role_of, step_file, Leads}

@@ -7,7 +7,7 @@ use Rattle.hunk_words.specs.declared.reason.Reason.{Reason}
 use Rattle.hunk_words.specs.declared.reason.Reason.TheVariants as reasons
 use Rattle.hunk_words.specs.Bits.{has_both_bits, size_longs, is_advisory, kind}
 use Rattle.hunk_blocks.specs.Parts.{Part, Part as parts}
-use Rattle.hunk_scan.specs.Roles.{Place, Role, Role as roles, InBlock, refuse, refuse_kind, refuse_part}
+use Rattle.hunk_grammar.specs.Roles.{Place, Role, Role as roles, InBlock, refuse, refuse_kind, refuse_part}
 use Rattle.hunk_files.specs.Fault.{HasRefusal, HasFault, is_word_refusal, is_load_refusal}
 
 abbrev pub IsWordRefusal : Reason → Type 0

@@ -1,6 +1,6 @@
 -- Runs of the reader: cut in two, determined by their longwords, and keeping what fits.
 use Rattle.std.proofs.Common.{◌≡◌, ℕ, [], ◌∷◌, ◌++◌, refl, sym, ap₂, subst, ◌∙◌, append_assoc, append-nil, None}
-use Rattle.hunk_scan.specs.Roles.{Role, refuse}
+use Rattle.hunk_grammar.specs.Roles.{Role, refuse}
 use Rattle.hunk_blocks.specs.Faults.{words}
 use Rattle.hunk_files.specs.WordsRead.{Labelled, AreAccepted}
 use Rattle.hunk_files.specs.FileSteps.{Next, More, Finished, role_of, step_file, Leads}

@@ -6,7 +6,7 @@ use Rattle.hunk_words.specs.declared.reason.Reason.TheVariants as reasons
 use Rattle.hunk_words.specs.declared.reason.Reason.{Reason}
 use Rattle.hunk_words.specs.Longs.{longs, bytes_of, IsLong, AreLongs, IsBytes}
 use Rattle.hunk_files.specs.LoadFile.{LoadFileValue, IsLoadFile}
-use Rattle.hunk_scan.specs.Roles.{Role, refuse}
+use Rattle.hunk_grammar.specs.Roles.{Role, refuse}
 use Rattle.hunk_files.specs.LoadText.{text, labelled}
 use Rattle.hunk_blocks.proofs.FaultScan.{Machine, Leads as LeadsOf, Reads as ReadsOf, one_fault as one_of, front_passes, whole_passes, ends_together}
 use Rattle.hunk_blocks.proofs.Outcomes.{Keeps, run, front, judged, expected_role}

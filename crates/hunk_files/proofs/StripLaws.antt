@@ -7,10 +7,10 @@ use Rattle.hunk_files.specs.LoadFile.{HunkValue, LoadFileValue, standing, AreInO
 use Rattle.hunk_files.specs.LoadText.{table}
 use Rattle.hunk_files.specs.Image.{block_content, block_relocations, content, relocations, filled, image, relocated}
 use Rattle.hunk_files.specs.ObjectFile.{ObjectHunk, UnitValue, ObjectFileValue, IsObjectHunk, IsUnit, IsObjectFile}
-use Rattle.hunk_files.specs.Findings.{FindingValue, Spot, content_size, hunk_bytes, body_findings, hunk_findings, hunks_findings, unit_findings, units_findings, findings}
+use Rattle.hunk_files.specs.Findings.{FindingValue, HunkContext, content_size, hunk_bytes, body_findings, hunk_findings, hunks_findings, unit_findings, units_findings, findings}
 use Rattle.hunk_files.specs.Strip.{is_kept, strip_blocks, strip_hunk, strip_file, strip_unit, strip_object}
 use Rattle.hunk_files.proofs.Accepted.{All-map}
-use Rattle.hunk_scan.specs.Standings.{BlockStanding, Beside}
+use Rattle.hunk_grammar.specs.Standings.{BlockStanding, Beside}
 use Rattle.hunk_files.proofs.FileText.{standings, no_more}
 use Rattle.hunk_files.proofs.HunkOrder.{by_standing}
 
@@ -47,7 +47,7 @@ no_size : (b : BlockBody) → is_kept b ≡ false → content_size b ≡ 0
 no_size (Code top words) e = absurd cc
 no_size _ e = cc
 
-no_findings : (s : Spot) (word : ℕ) (b : BlockBody) → is_kept b ≡ false → body_findings s word b ≡ []
+no_findings : (s : HunkContext) (word : ℕ) (b : BlockBody) → is_kept b ≡ false → body_findings s word b ≡ []
 no_findings s word (Reloc groups) e = absurd cc
 no_findings s word _ e = cc
 
@@ -83,7 +83,7 @@ images_kept v bases = each_kept (image bases) (image_kept bases) v
 bytes_kept : (h : ObjectHunk) → hunk_bytes (strip_blocks h) ≡ hunk_bytes h
 bytes_kept h = sum_from (λ b. content_size b.body) (λ b e. no_size b.body e) h 0
 
-abbrev spot : ℕ → ℕ → ℕ → ℕ → Spot
+abbrev spot : ℕ → ℕ → ℕ → ℕ → HunkContext
 spot unit hunk hunks bytes = record { unit = unit; hunk = hunk; hunks = hunks; bytes = bytes }
 
 hunks_findings_kept : (unit hunks number : ℕ) (hs : List ObjectHunk) → hunks_findings unit hunks number (map strip_blocks hs) ≡ hunks_findings unit hunks number hs

@@ -7,7 +7,7 @@ use Rattle.hunk_words.specs.Bits.{has_both_bits}
 use Rattle.hunk_words.proofs.LongLaws.{bytes_of-append, length-bytes_of}
 use Rattle.hunk_blocks.specs.Faults.{words}
 use Rattle.hunk_files.specs.LoadFile.{TableEntry, LoadFileValue}
-use Rattle.hunk_scan.specs.Roles.{Role, Role as roles}
+use Rattle.hunk_grammar.specs.Roles.{Role, Role as roles}
 use Rattle.hunk_files.specs.LoadText.{entry_labelled, header_labelled, hunk_labelled, labelled, table, text}
 use Rattle.hunk_files.specs.Fault.{BeginsWithLoadFile}
 use Rattle.hunk_files.specs.Tables.{entry_text, header_text, hunk_texts}

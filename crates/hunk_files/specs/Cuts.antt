@@ -3,7 +3,7 @@ use Rattle.std.specs.Prelude.{ℕ, zero, suc, List, [], ◌∷◌, length, drop,
 use Rattle.hunk_words.specs.Bits.{entry_longs, has_both_bits}
 use Rattle.hunk_blocks.specs.Values.{BlockValue}
 use Rattle.hunk_blocks.specs.Cuts.{Cut, cut_map, block_cut}
-use Rattle.hunk_scan.specs.Standings.{is_ending}
+use Rattle.hunk_grammar.specs.Standings.{is_ending}
 use Rattle.hunk_files.specs.LoadFile.{TableEntry, LoadFileValue, standing}
 
 -- ---- hunks of files of both kinds

@@ -1,8 +1,8 @@
 -- The entry of the open hunk, in numbers.
 use Rattle.std.specs.Prelude.{ℕ, ◌+◌, List, slice_index, if◌then◌else◌}
 use Rattle.hunk_words.specs.Bits.{size_longs, entry_longs}
-use Rattle.hunk_scan.specs.declared.position.Position.{Position}
-use Rattle.hunk_scan.specs.Positions.{is_between_hunks}
+use Rattle.hunk_grammar.specs.declared.position.Position.{Position}
+use Rattle.hunk_grammar.specs.Positions.{is_between_hunks}
 use Rattle.hunk_files.specs.declared.load.walk.Entry.{Entry}
 
 -- by its size word, which stands at this longword

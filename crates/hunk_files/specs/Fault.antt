@@ -8,7 +8,7 @@ use Rattle.hunk_words.specs.Longs.{longs, bytes_of}
 use Rattle.hunk_blocks.specs.Parts.{Part as parts}
 use Rattle.hunk_blocks.specs.Faults.{Grammar, Expects as ExpectsOf, HasRefusal as RefusalOf, IsFront, words}
 use Rattle.hunk_files.specs.LoadFile.{LoadFileValue, IsLoadFile}
-use Rattle.hunk_scan.specs.Roles.{Role, Role as roles, InBlock, refuse}
+use Rattle.hunk_grammar.specs.Roles.{Role, Role as roles, InBlock, refuse}
 use Rattle.hunk_files.specs.LoadText.{labelled, text}
 
 -- Load files.

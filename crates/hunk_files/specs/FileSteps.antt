@@ -4,8 +4,8 @@ use Rattle.hunk_words.specs.Bits.{size_longs, has_both_bits, kind}
 use Rattle.hunk_blocks.specs.Values.{BlockBody, BlockValue}
 use Rattle.hunk_blocks.specs.Parts.{Part as parts}
 use Rattle.hunk_files.specs.LoadFile.{TableEntry, HunkValue, LoadFileValue, standing}
-use Rattle.hunk_scan.specs.Standings.{BlockStanding, Beside, Content, Relocating, Ending}
-use Rattle.hunk_scan.specs.Roles.{Place, Role, InBlock, Role as roles}
+use Rattle.hunk_grammar.specs.Standings.{BlockStanding, Beside, Content, Relocating, Ending}
+use Rattle.hunk_grammar.specs.Roles.{Place, Role, InBlock, Role as roles}
 use Rattle.hunk_blocks.specs.BlockSteps.{Inside, BlockNext, Open, Whole, part_of, step_inside, begin_body}
 
 abbrev pub table_entry : ℕ → ℕ → TableEntry

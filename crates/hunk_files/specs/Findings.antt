@@ -10,7 +10,7 @@ use Rattle.hunk_blocks.specs.Values.{RelocGroup, ExtEntry, BlockBody, Reloc, Ext
 use Rattle.hunk_files.specs.declared.object.check.Finding.{Finding}
 use Rattle.hunk_files.specs.declared.object.check.FindingKind.{FindingKind}
 use Rattle.hunk_files.specs.declared.object.check.FindingKind.TheVariants.{BadTarget, OutsideHunk}
-pub use Rattle.hunk_files.specs.declared.object.check.Spot.{Spot}
+pub use Rattle.hunk_files.specs.declared.object.check.HunkContext.{HunkContext}
 use Rattle.hunk_files.specs.ObjectFile.{ObjectHunk, UnitValue, ObjectFileValue}
 
 -- the number of bytes that an offset of this kind of relocation stands for
@@ -40,28 +40,28 @@ hunk_bytes h = sum_by (λ b. content_size b.body) h
 abbrev pub FindingValue : Type 0
 FindingValue = Finding
 
-abbrev pub finding : Spot → FindingKind → ℕ → FindingValue
+abbrev pub finding : HunkContext → FindingKind → ℕ → FindingValue
 finding s fault offset = record { unit = s.unit; hunk = s.hunk; fault = fault; offset = offset }
 
-abbrev pub outside : Spot → ℕ → ℕ → List FindingValue
+abbrev pub outside : HunkContext → ℕ → ℕ → List FindingValue
 outside s width offset = if nat_lt s.bytes (offset + width) then finding s OutsideHunk offset ∷ [] else []
 
-abbrev pub relocation_findings : Spot → ℕ → ℕ → ℕ → List FindingValue
+abbrev pub relocation_findings : HunkContext → ℕ → ℕ → ℕ → List FindingValue
 relocation_findings s width target offset =
     (if nat_lt target s.hunks then [] else finding s BadTarget offset ∷ []) ++ outside s width offset
 
-abbrev pub group_findings : Spot → ℕ → RelocGroup → List FindingValue
+abbrev pub group_findings : HunkContext → ℕ → RelocGroup → List FindingValue
 group_findings s width g = flat_map (relocation_findings s width g.target) g.offsets
 
-abbrev pub entry_findings : Spot → ExtEntry → List FindingValue
+abbrev pub entry_findings : HunkContext → ExtEntry → List FindingValue
 entry_findings s e = flat_map (outside s (reference_width e)) e.offsets
 
-abbrev pub body_findings : Spot → ℕ → BlockBody → List FindingValue
+abbrev pub body_findings : HunkContext → ℕ → BlockBody → List FindingValue
 body_findings s word (Reloc groups) = flat_map (group_findings s (relocation_width (kind word))) groups
 body_findings s word (Ext entries) = flat_map (entry_findings s) entries
 body_findings s word _ = []
 
-abbrev pub hunk_findings : Spot → ObjectHunk → List FindingValue
+abbrev pub hunk_findings : HunkContext → ObjectHunk → List FindingValue
 hunk_findings s h = flat_map (λ b. body_findings s b.word b.body) h
 
 -- the hunks from this number on, of a unit with that number of hunks

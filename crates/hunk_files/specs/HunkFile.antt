@@ -2,8 +2,8 @@
 use Rattle.std.specs.Prelude.{◌≡◌, ◌⊎◌, ℕ, List, length, IsTrue}
 use Rattle.hunk_words.specs.Longs.{bytes_of}
 use Rattle.hunk_words.specs.declared.fault.Fault.{Fault}
-use Rattle.hunk_scan.specs.declared.file_kind.Sniff.{Sniff}
-use Rattle.hunk_scan.specs.declared.file_kind.Sniff.TheVariants as sniffs
+use Rattle.hunk_grammar.specs.declared.file_kind.Sniff.{Sniff}
+use Rattle.hunk_grammar.specs.declared.file_kind.Sniff.TheVariants as sniffs
 use Rattle.hunk_files.specs.Fault.{BeginsWithLoadFile, HasFault, is_load_refusal}
 use Rattle.hunk_files.specs.LoadText.{text}
 use Rattle.hunk_files.specs.ObjectFault.{HasObjectFault}

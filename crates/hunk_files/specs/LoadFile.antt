@@ -7,7 +7,7 @@ use Rattle.hunk_words.specs.Bits.{size_longs, has_both_bits}
 use Rattle.hunk_blocks.specs.declared.mode.Mode.TheVariants as modes
 use Rattle.hunk_blocks.specs.Values.{RelocGroup, BlockBody, BlockValue, Code, Data, Bss, Reloc, Ext, End, IsBlock}
 use Rattle.hunk_blocks.specs.Modes.{IsOfMode}
-use Rattle.hunk_scan.specs.Standings.{BlockStanding, Beside, Content, Relocating, Ending}
+use Rattle.hunk_grammar.specs.Standings.{BlockStanding, Beside, Content, Relocating, Ending}
 
 -- A size word of the table, and the memory attributes where both of its memory bits are set, else 0.
 pub record TableEntry : Type 0 where

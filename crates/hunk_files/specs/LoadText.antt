@@ -6,8 +6,8 @@ use Rattle.hunk_blocks.specs.Values.{BlockValue}
 use Rattle.hunk_blocks.specs.Parts.{block_parts}
 use Rattle.hunk_blocks.specs.Faults.{words}
 use Rattle.hunk_files.specs.LoadFile.{TableEntry, HunkValue, LoadFileValue, declared_longs, standing}
-use Rattle.hunk_scan.specs.Standings.{is_content}
-use Rattle.hunk_scan.specs.Roles.{Place, Role, FirstLong, ResidentName, TableSize, FirstHunk, LastHunk, SizeWord, Attributes, InBlock}
+use Rattle.hunk_grammar.specs.Standings.{is_content}
+use Rattle.hunk_grammar.specs.Roles.{Place, Role, FirstLong, ResidentName, TableSize, FirstHunk, LastHunk, SizeWord, Attributes, InBlock}
 
 abbrev pub entry_labelled : TableEntry → List (Role × ℕ)
 entry_labelled e = (SizeWord, e.word) ∷ (if has_both_bits e.word then (Attributes, e.extra) ∷ [] else [])

@@ -1,9 +1,9 @@
 -- The machines of positions, as they go along the texts of files.
 use Rattle.std.specs.Prelude.{ℕ, Option}
 use Rattle.hunk_words.specs.declared.reason.Reason.{Reason}
-use Rattle.hunk_scan.specs.declared.position.Position.{Position}
-use Rattle.hunk_scan.specs.Positions as load
-use Rattle.hunk_scan.specs.Roles.{Role, InBlock, refuse}
+use Rattle.hunk_grammar.specs.declared.position.Position.{Position}
+use Rattle.hunk_grammar.specs.Positions as load
+use Rattle.hunk_grammar.specs.Roles.{Role, InBlock, refuse}
 use Rattle.hunk_files.specs.declared.object.position.ObjectPosition.{ObjectPosition}
 use Rattle.hunk_files.specs.ObjectFault.{ObjectRole, refuse_object}
 use Rattle.hunk_files.specs.ObjectSteps as object

@@ -13,7 +13,7 @@ use Rattle.hunk_blocks.specs.Values.{BlockValue, IsBlock}
 use Rattle.hunk_blocks.specs.Parts.{Part, Part as parts, block_parts}
 use Rattle.hunk_blocks.specs.Faults.{Grammar, HasRefusal, IsFront}
 use Rattle.hunk_files.specs.LoadFile.{standing, AreInOrder}
-use Rattle.hunk_scan.specs.Standings.{BlockStanding, is_content}
+use Rattle.hunk_grammar.specs.Standings.{BlockStanding, is_content}
 pub use Rattle.hunk_files.specs.declared.object.position.WordPlace.{WordPlace}
 pub use Rattle.hunk_files.specs.declared.object.position.WordPlace.TheVariants.{BeforeUnits, BetweenHunks, InHunk}
 use Rattle.hunk_files.specs.ObjectFile.{ObjectHunk, UnitValue, ObjectFileValue, IsUnit, IsNoObjectFile, unit_word}

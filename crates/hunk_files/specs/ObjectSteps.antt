@@ -6,7 +6,7 @@ use Rattle.hunk_words.specs.Bits.{kind}
 use Rattle.hunk_blocks.specs.declared.phase.Phase.{Phase}
 use Rattle.hunk_blocks.specs.PhaseSteps as inside
 use Rattle.hunk_blocks.specs.PhaseSteps.{part_at, skip}
-use Rattle.hunk_scan.specs.Standings.{BlockStanding, Ending, refuse_standing, standing_of_kind}
+use Rattle.hunk_grammar.specs.Standings.{BlockStanding, Ending, refuse_standing, standing_of_kind}
 use Rattle.hunk_files.specs.declared.object.position.ObjectPosition.{ObjectPosition}
 use Rattle.hunk_files.specs.declared.object.position.ObjectPosition.TheVariants as positions
 use Rattle.hunk_files.specs.ObjectFile.{unit_word}

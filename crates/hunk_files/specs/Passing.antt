@@ -5,11 +5,11 @@ use Rattle.hunk_blocks.specs.Parts.{Part as parts}
 use Rattle.hunk_blocks.specs.PhaseSteps.{begin, part_at}
 use Rattle.hunk_blocks.specs.declared.phase.Phase.{Phase}
 use Rattle.hunk_blocks.specs.declared.phase.Phase.TheVariants as phases
-use Rattle.hunk_scan.specs.declared.phase.OpenHunk.{OpenHunk}
-use Rattle.hunk_scan.specs.declared.position.Position.{Position}
-use Rattle.hunk_scan.specs.declared.position.Position.TheVariants as positions
-use Rattle.hunk_scan.specs.Positions.{EndsWithin}
-use Rattle.hunk_scan.specs.Roles.{refuse_word}
+use Rattle.hunk_grammar.specs.declared.phase.OpenHunk.{OpenHunk}
+use Rattle.hunk_grammar.specs.declared.position.Position.{Position}
+use Rattle.hunk_grammar.specs.declared.position.Position.TheVariants as positions
+use Rattle.hunk_grammar.specs.Positions.{EndsWithin}
+use Rattle.hunk_grammar.specs.Roles.{refuse_word}
 
 -- ---- rows of the table
 

@@ -2,7 +2,7 @@
 use Rattle.std.specs.Prelude.{◌≡◌, ℕ, List, None}
 use Rattle.std.specs.List.{AllByRecursion}
 use Rattle.hunk_words.specs.Longs.{IsLong}
-use Rattle.hunk_scan.specs.Roles.{Role, refuse}
+use Rattle.hunk_grammar.specs.Roles.{Role, refuse}
 use Rattle.hunk_blocks.specs.Faults.{words}
 use Rattle.hunk_files.specs.FileSteps.{AtFirst, Next, More, Leads}
 

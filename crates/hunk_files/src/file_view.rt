@@ -2,7 +2,7 @@
 ghost use Rattle.std.specs.Prelude.{◌≡◌, ◌≢◌, IfErr, IfOk};
 ghost use Rattle.hunk_words.specs.Longs.{longs};
 ghost use Rattle.hunk_words.specs.declared.reason.Reason.TheVariants as reasons;
-ghost use Rattle.hunk_scan.specs.FileKind.{sniffed};
+ghost use Rattle.hunk_grammar.specs.FileKind.{sniffed};
 ghost use Rattle.hunk_files.specs.Fault.{BeginsWithLoadFile};
 ghost use Rattle.hunk_files.specs.FileView.{file_of};
 ghost use Rattle.hunk_files.specs.HunkFile.{AreFile, AreObjectFile, IsFileOf, IsLoadRefusal};
@@ -15,7 +15,7 @@ use crate::load::LoadView;
 use crate::object::ObjectView;
 use crate::ranges::TakesBytes;
 use crate::sniffing::sniff;
-use hunk_scan::Sniff;
+use hunk_grammar::Sniff;
 use hunk_words::FileFault;
 use std::alloc::Global;
 

@@ -3,7 +3,7 @@ ghost use Rattle.std.specs.Prelude.{◌≡◌, ◌≢◌, ◌≤◌, true, IfErr
 ghost use Rattle.hunk_words.specs.Longs.{longs};
 ghost use Rattle.hunk_words.specs.Puts.{PutsText};
 ghost use Rattle.hunk_words.specs.declared.reason.Reason.TheVariants as reasons;
-ghost use Rattle.hunk_scan.specs.FileKind.{sniffed};
+ghost use Rattle.hunk_grammar.specs.FileKind.{sniffed};
 ghost use Rattle.hunk_files.specs.HunkFile.{AreFile, IsFileOf, IsMemory, IsRefusal, bytes_behind};
 ghost use Rattle.hunk_files.specs.HunkFile.{file_bytes, stripped};
 

@@ -4,7 +4,7 @@ ghost use Rattle.std.specs.List.{AllByRecursion};
 ghost use Rattle.hunk_words.specs.Longs.{IsLong, IsBytes, longs, bytes_of};
 ghost use Rattle.hunk_words.specs.declared.reason.Reason.{Reason};
 ghost use Rattle.hunk_files.specs.LoadFile.{HunkValue, LoadFileValue, IsHunk, IsLoadFile};
-ghost use Rattle.hunk_scan.specs.Roles.{Role, refuse};
+ghost use Rattle.hunk_grammar.specs.Roles.{Role, refuse};
 ghost use Rattle.hunk_files.specs.LoadText.{labelled, table, text};
 ghost use Rattle.hunk_files.specs.Fault.{Expects, IsCompleted, BeginsWithLoadFile, HasRefusal};
 ghost use Rattle.hunk_files.specs.Fault.{IsTruncated, HasFault, is_word_refusal};
@@ -21,8 +21,8 @@ ghost use Rattle.hunk_files.specs.Machines.{refuse_in_load, refuse_in_object};
 ghost use Rattle.hunk_files.specs.ObjectFault.{BeforeUnits, BetweenHunks, units_labelled};
 ghost use Rattle.hunk_files.specs.ObjectSteps as object;
 ghost use Rattle.hunk_files.specs.declared.object.position.ObjectPosition.TheVariants as places;
-ghost use Rattle.hunk_scan.specs.Positions as load;
-ghost use Rattle.hunk_scan.specs.declared.position.Position.TheVariants as positions;
+ghost use Rattle.hunk_grammar.specs.Positions as load;
+ghost use Rattle.hunk_grammar.specs.declared.position.Position.TheVariants as positions;
 
 /// No load text is a proper prefix of another, one text has one value, and the longwords before a
 /// place determine its role.

@@ -27,4 +27,4 @@ pub use crate::object::{
 pub use crate::ranges::TakesBytes;
 pub use crate::row::Row;
 pub use crate::sniffing::sniff;
-pub use hunk_scan::Sniff;
+pub use hunk_grammar::Sniff;

@@ -1,6 +1,6 @@
 //! What stands where in a hunk.
 ghost use Rattle.std.specs.Prelude.{◌≡◌};
-ghost use Rattle.hunk_scan.specs.Standings.{is_ending};
+ghost use Rattle.hunk_grammar.specs.Standings.{is_ending};
 ghost use Rattle.hunk_files.specs.LoadFile.{standing};
 ghost use Rattle.hunk_files.specs.Strip.{is_kept};
 

@@ -1,9 +1,9 @@
 //! What kind of file bytes look like.
 ghost use Rattle.std.specs.Prelude.{◌≡◌};
 ghost use Rattle.hunk_words.specs.Longs.{longs};
-ghost use Rattle.hunk_scan.specs.FileKind.{sniffed};
+ghost use Rattle.hunk_grammar.specs.FileKind.{sniffed};
 
-use hunk_scan::Sniff;
+use hunk_grammar::Sniff;
 use hunk_words::word_at;
 
 /// The kind of file, by the first longword alone.

@@ -14,7 +14,7 @@ use crate::line::{LINE, Line};
 use crate::names::{put_block_flags, put_kind, put_memory_flags};
 use crate::text::{print_named, print_offset_behind};
 use hunk_blocks::{
-    BlockView, BodyView, EntriesIter, Group, GroupsIter, Named, Payload, SymbolsIter,
+    BlockView, BodyView, EntriesIter, Group, GroupsIter, Payload, SymbolView, SymbolsIter,
 };
 use hunk_words::{BlockWord, Printer, Sink};
 
@@ -178,7 +178,7 @@ fn print_symbols<W: Sink>(page: &mut Printer<'_, W>, word: BlockWord, symbols: S
 }
 
 #[tactic(auto, unfolding(crate::specs::BlockLines::symbol_line))]
-fn print_symbol<W: Sink>(page: &mut Printer<'_, W>, symbol: &Named<'_>)
+fn print_symbol<W: Sink>(page: &mut Printer<'_, W>, symbol: &SymbolView<'_>)
     ensures { Prints page.old page.new (symbol_line (symbol_of symbol.now)) }
 {
     let mut line = Line::new();

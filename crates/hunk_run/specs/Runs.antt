@@ -6,11 +6,11 @@ use Rattle.hunk_words.specs.Longs.{bytes_of}
 use Rattle.hunk_words.specs.declared.reason.Reason.TheVariants as reasons
 use Rattle.hunk_files.specs.LoadFile.{LoadFileValue, IsLoadFile}
 use Rattle.hunk_files.specs.LoadText.{text}
-use Rattle.hunk_orders.specs.declared.asked.Order.{Order}
-use Rattle.hunk_orders.specs.declared.asked.Order.TheVariants as orders
-use Rattle.hunk_orders.specs.declared.asked.OrderFault.{OrderFault}
-use Rattle.hunk_orders.specs.declared.asked.OrderFault.TheVariants.{Help, Line, Memory}
-use Rattle.hunk_orders.specs.FaultTexts.{fault_text}
+use Rattle.hunk_command_line.specs.declared.asked.Order.{Order}
+use Rattle.hunk_command_line.specs.declared.asked.Order.TheVariants as orders
+use Rattle.hunk_command_line.specs.declared.asked.OrderFault.{OrderFault}
+use Rattle.hunk_command_line.specs.declared.asked.OrderFault.TheVariants.{Help, Line, Memory}
+use Rattle.hunk_command_line.specs.FaultTexts.{fault_text}
 use Rattle.hunk_commands.specs.declared.fault.RunFault.{RunFault}
 use Rattle.hunk_commands.specs.declared.fault.RunFault.TheVariants as faults
 use Rattle.hunk_run.specs.declared.listing.Listing.{Listing}

@@ -5,5 +5,5 @@ use Rattle.std.specs.declared.io.Error.{Error}
 use Rattle.std.specs.declared.io.ErrorKind.TheVariants.{InvalidInput, Unsupported}
 
 -- The error says that some of it is lost, and not that the file has no way to keep anything, as a pipe or a terminal.
-abbrev pub IsLoss : Error → Type 0
-IsLoss error = (error_kind error ≢ InvalidInput) × (error_kind error ≢ Unsupported)
+abbrev pub SaysLost : Error → Type 0
+SaysLost error = (error_kind error ≢ InvalidInput) × (error_kind error ≢ Unsupported)

@@ -1,8 +1,8 @@
 -- What the exit status of a run tells of its output, a writer that is old before it and new after it. `taken` tells the bytes that a sink has taken, and `failed` whether it has failed.
 use Rattle.std.specs.Prelude.{◌≡◌, ◌⊎◌, ◌≤◌, ℕ, Bool, true, List, [], ◌∷◌, ◌++◌, Option, Result, Ok, Err, IfErr, IfOk}
 use Rattle.hunk_words.specs.Carriers.{Writing}
-use Rattle.hunk_orders.specs.declared.asked.OrderFault.TheVariants.{Line}
-use Rattle.hunk_orders.specs.FaultTexts.{fault_text}
+use Rattle.hunk_command_line.specs.declared.asked.OrderFault.TheVariants.{Line}
+use Rattle.hunk_command_line.specs.FaultTexts.{fault_text}
 use Rattle.hunk_commands.specs.declared.fault.RunFault.{RunFault}
 use Rattle.hunk_commands.specs.declared.fault.RunFault.TheVariants.{Memory, Write}
 use Rattle.hunk_commands.specs.declared.rewriting.Rewritten.{Rewritten}

@@ -8,11 +8,11 @@ ghost use Rattle.clap.specs.Kinds.{IsAmong};
 ghost use Rattle.clap.specs.Faults.{fault_of};
 ghost use Rattle.clap.specs.declared.error.kind.ErrorKind.TheVariants.{DisplayHelp};
 ghost use Rattle.hunk_commands.specs.Faults.{IsWrite};
-ghost use Rattle.hunk_orders.specs.declared.asked.Order.{Order};
+ghost use Rattle.hunk_command_line.specs.declared.asked.Order.{Order};
 ghost use Rattle.hunk_run.specs.Status.{EndsListing, EndsRewriting, PrintsFault};
 ghost use Rattle.hunk_run.specs.Status.{PrintsOrFails, TellsStatus};
-ghost use Rattle.hunk_orders.specs.Command.{hunkinfo};
-ghost use Rattle.hunk_orders.specs.Line.{order_of, words_read};
+ghost use Rattle.hunk_command_line.specs.Command.{hunkinfo};
+ghost use Rattle.hunk_command_line.specs.Line.{order_of, words_read};
 ghost use Rattle.hunk_run.specs.Runs.{IsOrderDone, PrintsNoHelp, PrintsRefusal};
 
 mod listing;
@@ -21,8 +21,8 @@ mod to_file;
 
 use crate::listing::{Listing, list_file};
 use crate::rewriting::{rewrite_file, tell};
+use hunk_command_line::{Order, OrderFault, order};
 use hunk_commands::{OUT_OF_MEMORY, Rewritten, RunFault};
-use hunk_orders::{Order, OrderFault, order};
 use hunk_words::{LongWriter, Sink};
 use std::alloc::Global;
 use std::rt::Files;
@@ -70,7 +70,7 @@ pub fn run<T: Files + Input, W: Sink>(
         × IsOrderDone W.taken out.old out.new order }
 {
     match order(alloc, words) {
-        Ok(order) => obey(rt, alloc, &order, out),
+        Ok(order) => carry_out(rt, alloc, &order, out),
         Err(fault) => refuse(&fault, out),
     }
 }
@@ -90,7 +90,7 @@ pub fn refuse<W: Sink>(fault: &OrderFault, out: &mut LongWriter<W>) -> u8
 }
 
 /// Does what the order asks for, and gives the exit status.
-fn obey<T: Files + Input, W: Sink>(
+fn carry_out<T: Files + Input, W: Sink>(
     rt: &T,
     alloc: Global,
     order: &Order,

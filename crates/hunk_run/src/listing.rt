@@ -10,8 +10,8 @@ ghost use Rattle.hunk_run.specs.Refusals.{RefusesListing, RefusesSource};
 ghost use Rattle.hunk_run.specs.Runs.{Lists, ListsSource, ReadsNoText};
 
 use crate::{DONE, FILE_BYTES};
+use hunk_command_line::FileName;
 use hunk_commands::{RunFault, read_hex, relocate, show, validate};
-use hunk_orders::FileName;
 use hunk_scatter::Limits;
 use hunk_words::{Fault, FromRead, FromSlice, LongWriter, Sink, Source};
 use std::alloc::Global;

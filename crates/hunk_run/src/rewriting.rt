@@ -13,9 +13,9 @@ ghost use Rattle.hunk_run.specs.Status.{PrintsOrFails};
 
 use crate::to_file::ToFile;
 use crate::{DONE, FILE_BYTES};
+use hunk_command_line::FileName;
 use hunk_commands::{Rewritten, RunFault, rewrite};
 use hunk_listing::print_rewriting;
-use hunk_orders::FileName;
 use hunk_words::{Failed, FromRead, LongWriter, PagePrinter, Sink, Source};
 use std::alloc::Global;
 use std::fs;
@@ -92,7 +92,7 @@ fn rewrite_to<'a, R: Source, T: Files>(
         Ok(done) => done,
         Err(fault) => return (out, Err(fault)),
     };
-    match out.settle() {
+    match out.sync() {
         Ok(()) => (out, Ok(done)),
         Err(Failed) => {
             let written = done.written;

@@ -4,7 +4,7 @@ ghost use Rattle.std.specs.Prelude.{IsTrue, None, Some};
 ghost use Rattle.std.specs.Fs.{file_type, IsFile};
 ghost use Rattle.std.specs.Io.KnownBytes.{WriteAppends};
 ghost use Rattle.hunk_run.specs.OutFile.{HasTaken};
-ghost use Rattle.hunk_run.specs.Settling.{IsLoss};
+ghost use Rattle.hunk_run.specs.Settling.{SaysLost};
 
 use hunk_words::{Failed, History, Sink};
 use std::fs::{Metadata, OpenFile};
@@ -21,7 +21,7 @@ const OUTPUT: &str = "/dev/stdout";
 ///
 /// An error of creating or writing, and a write that takes none of a non-empty slice, is `Failed`;
 /// so is a file that standard output is too. What was pushed is settled once the file has answered
-/// for it: `settle`.
+/// for it: `sync`.
 #[derive(Drop)]
 pub(crate) struct ToFile<'a, T: Files> {
     rt: &'a T,
@@ -71,7 +71,7 @@ impl<'a, T: Files> ToFile<'a, T> {
     ///
     /// `Failed` where some of what was pushed is lost, as where a full disk or a quota is reported
     /// late.
-    pub(crate) fn settle(&mut self) -> Result<(), Failed>
+    pub(crate) fn sync(&mut self) -> Result<(), Failed>
         ensures settled { self.new.settled ≡ not (is_err result) }
         ensures failed { self.new.failed ≡ (self.old.failed || is_err result) }
         ensures same { self.new.taken ≡ self.old.taken }
@@ -155,7 +155,7 @@ fn is_one_file(one: &Metadata, other: &Metadata) -> bool
 /// Whether a file that answers so to `sync_all` keeps all that was written, as far as it keeps
 /// anything.
 fn keeps_all(answer: io::Result<()>) -> bool
-    ensures { result ≡ false ↔ IsErrAnd answer IsLoss }
+    ensures { result ≡ false ↔ IsErrAnd answer SaysLost }
 {
     match answer {
         Ok(()) => true,

@@ -5,7 +5,7 @@ use Rattle.hunk_blocks.specs.Faults.{words}
 use Rattle.hunk_files.specs.Fault.{Expects}
 use Rattle.hunk_files.specs.LoadFile.{TableEntry}
 use Rattle.hunk_files.specs.LoadText.{text}
-use Rattle.hunk_scan.specs.Roles.{Role, Role as roles, refuse}
+use Rattle.hunk_grammar.specs.Roles.{Role, Role as roles, refuse}
 use Rattle.hunk_files.specs.FileSteps.{Progress, AtBlock, InBody, Next, More, Finished, open_hunk, role_of, step_file, Leads}
 use Rattle.hunk_files.proofs.Reading.{reads, rest_read, read_passes}
 use Rattle.hunk_files.specs.WordsRead.{HasRead, Labelled}

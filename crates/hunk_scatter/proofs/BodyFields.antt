@@ -13,18 +13,18 @@ use Rattle.hunk_files.specs.LoadFile.{HunkValue, LoadFileValue, IsLoadFile}
 use Rattle.hunk_files.specs.LoadText.{text, table}
 use Rattle.hunk_files.specs.FileSteps.{Progress, AtBlock, InBody, Next, More, Finished, Leads}
 use Rattle.hunk_files.specs.WordsRead.{HasRead, Labelled}
-use Rattle.hunk_scan.specs.Roles.{Role}
-use Rattle.hunk_scatter.specs.LoadOutcomes.{IsWithinFile}
-use Rattle.hunk_scatter.specs.Owing.{HasToCome, run_of}
+use Rattle.hunk_grammar.specs.Roles.{Role}
+use Rattle.hunk_scatter.specs.LoadOutcomes.{GoesPastNoFile}
+use Rattle.hunk_scatter.specs.Owing.{BytesToCome, run_of}
 use Rattle.hunk_scatter.proofs.Owed.{to_come, to_come_least}
 use Rattle.hunk_words.proofs.LongLaws.{longs-bytes_of, longs-few, length-bytes_of}
 use Rattle.hunk_files.proofs.Least.{owes_least}
 use Rattle.hunk_files.proofs.Reading.{rest_read, file_read as text_read}
 use Rattle.hunk_files.specs.declared.row.Row.{Row}
-use Rattle.hunk_scan.specs.declared.phase.OpenHunk.{OpenHunk}
+use Rattle.hunk_grammar.specs.declared.phase.OpenHunk.{OpenHunk}
 use Rattle.hunk_blocks.specs.declared.phase.Phase.{Phase}
-use Rattle.hunk_scan.specs.declared.position.Position.TheVariants as positions
-use Rattle.hunk_scan.specs.Positions.{is_done, least_longs, run}
+use Rattle.hunk_grammar.specs.declared.position.Position.TheVariants as positions
+use Rattle.hunk_grammar.specs.Positions.{is_done, least_longs, run}
 use Rattle.hunk_files.specs.ReaderPosition.{position_of, IsBehindHeader}
 use Rattle.hunk_scatter.specs.declared.store.BodyState.{BodyState}
 use Rattle.hunk_scatter.specs.StoreContent.{HasSizedImage}
@@ -79,7 +79,7 @@ longs_left : (xs ys : List ℕ) → AreLongs (xs ++ ys) → AreLongs xs
 longs_left [] ys h = tt
 longs_left (x ∷ xs) ys h = (h.0, longs_left xs ys h.1)
 
-words_same : (ws pending fed : List ℕ) → fed ≡ bytes_of ws ++ pending → length pending < 4 → AreLongs ws → (p : ℕ) (h : HasToCome fed p) → (words h.done ≡ ws) × (length h.pending ≡ length pending)
+words_same : (ws pending fed : List ℕ) → fed ≡ bytes_of ws ++ pending → length pending < 4 → AreLongs ws → (p : ℕ) (h : BytesToCome fed p) → (words h.done ≡ ws) × (length h.pending ≡ length pending)
 words_same ws pending fed e few are p h =
     let split : text h.value ≡ words h.done ++ words h.more = ap words h.labels ∙ map-append (λ (x : Role × ℕ). x.1) h.done h.more in
     let fits : AreLongs (words h.done) = longs_left (words h.done) (words h.more) (subst AreLongs split (text_longs h.value h.is_load_file)) in
@@ -145,7 +145,7 @@ module _ (rows : List Row) (store : List ℕ) (s : Standing) (fed : List ℕ) (h
       go _ b e = absurd cc
 
   -- At the end nothing is to come.
-  pub none_to_come : is_done s.state.position ≡ true → (p : ℕ) → HasToCome fed p → p ≡ 0
+  pub none_to_come : is_done s.state.position ≡ true → (p : ℕ) → BytesToCome fed p → p ≡ 0
   none_to_come done p t = let r = h.stands in go r.next r.read r.behind r.state_is (words_same r.ws pending fed r.spelled r.few (read_longs r.ws r.next r.read) p t)
     where
       go : (n : Next) → HasRead h.stands.ws n → IsBehindHeader n → state_of n ≡ s.state → (words t.done ≡ h.stands.ws) × (length t.pending ≡ length pending) → p ≡ 0
@@ -185,7 +185,7 @@ module _ (rows : List Row) (store : List ℕ) (s : Standing) (fed : List ℕ) (h
         omega (arith, owed, here, bytes)
 
     -- What is to come of a list is owed.
-    pub to_come_owed : (p : ℕ) → HasToCome fed p → p + length pending ≤ 4 * least_longs s.state.position
+    pub to_come_owed : (p : ℕ) → BytesToCome fed p → p + length pending ≤ 4 * least_longs s.state.position
     to_come_owed p t =
         let w = words_same gone.ws pending fed gone.spelled gone.few (read_longs gone.ws (More gone.at) gone.read) p t in
         let most : run_of t.more ≤ least_longs (position_of (More gone.at)) = to_come_least gone.ws gone.at gone.read t.value t.is_load_file t.done t.more t.labels w.0 in
@@ -208,7 +208,7 @@ module _ (rows : List Row) (store : List ℕ) (s : Standing) (fed : List ℕ) (h
         refused_here rows store s.state pending fed gone bytes w is gathers reason (s.fed + length bytes - 4) (omega (arith, h.counted, four)) no-pass
 
   -- No byte is fed behind a load text.
-  pub fed_within : IsWithinFile fed
+  pub fed_within : GoesPastNoFile fed
   fed_within v more is e = go (is_done s.state.position) refl
     where
       go : (b : Bool) → is_done s.state.position ≡ b → more ≡ []

@@ -15,7 +15,7 @@ use Rattle.hunk_words.specs.declared.fault.Fault.{Fault}
 use Rattle.hunk_words.specs.declared.reason.Reason.{Reason}
 use Rattle.hunk_words.specs.declared.reason.Reason.TheVariants as reasons
 use Rattle.hunk_scatter.specs.LoaderValues.{IsWholeFile}
-use Rattle.hunk_scatter.specs.LoadOutcomes.{Gives, IsWithinHeader, IsWithinFile}
+use Rattle.hunk_scatter.specs.LoadOutcomes.{Gives, GoesPastNoHeader, GoesPastNoFile}
 
 no_less : (m n : ℕ) → (m < n → ⊥) → n ≤ m
 no_less m n h = omega (arith, h)
@@ -58,7 +58,7 @@ module _ (fed piece : List ℕ) (want : ℕ) (least : (t : List TableEntry) (mor
           let far : want ≤ length (take m piece) = least t (take m piece) ok (sym e ∙ is) in
           omega (arith, length-take m piece, far)
 
-  pub header_within_more : 0 < want → (IsHeader fed → want ≡ 0) → IsWithinHeader fed → IsWithinHeader (fed ++ piece)
+  pub header_within_more : 0 < want → (IsHeader fed → want ≡ 0) → GoesPastNoHeader fed → GoesPastNoHeader (fed ++ piece)
   header_within_more some over w t more ok e = go (fronts_of fed piece (header_bytes t) more e)
     where
       go : ((m : List ℕ) × (fed ≡ header_bytes t ++ m) × (m ++ piece ≡ more)) ⊎ ((m : List ℕ) × (header_bytes t ≡ fed ++ m) × (piece ≡ m ++ more)) → more ≡ []
@@ -83,7 +83,7 @@ module _ (fed piece : List ℕ) (want : ℕ) (least : (v : LoadFileValue) (more 
           let far : want ≤ length (take m piece) = least w.0 (take m piece) w.1.is_load_file (w.1.bytes_are ∙ is) in
           omega (arith, length-take m piece, far)
 
-  pub file_within_more : (at : ℕ) → IsTruncated fed at → IsWithinFile (fed ++ piece)
+  pub file_within_more : (at : ℕ) → IsTruncated fed at → GoesPastNoFile (fed ++ piece)
   file_within_more at short v more ok e = go (fronts_of fed piece (bytes_of (text v)) more e)
     where
       go : ((m : List ℕ) × (fed ≡ bytes_of (text v) ++ m) × (m ++ piece ≡ more)) ⊎ ((m : List ℕ) × (bytes_of (text v) ≡ fed ++ m) × (piece ≡ m ++ more)) → more ≡ []

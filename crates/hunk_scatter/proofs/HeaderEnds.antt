@@ -6,11 +6,11 @@ use Rattle.hunk_files.specs.LoadFile.{TableEntry}
 use Rattle.hunk_files.specs.declared.row.Row.{Row}
 use Rattle.hunk_files.specs.FileSteps.{More, open_hunk}
 use Rattle.hunk_files.specs.WordsRead.{HasRead}
-use Rattle.hunk_scan.specs.Positions.{is_behind_header}
+use Rattle.hunk_grammar.specs.Positions.{is_behind_header}
 use Rattle.hunk_scatter.specs.declared.header_state.HeaderState.{HeaderState}
 use Rattle.hunk_scatter.specs.HeaderBytes.{header_bytes, header_words}
 use Rattle.hunk_scatter.specs.HeaderLoaderFields.{HeaderReading}
-use Rattle.hunk_scatter.specs.LoadOutcomes.{IsWithinHeader}
+use Rattle.hunk_scatter.specs.LoadOutcomes.{GoesPastNoHeader}
 use Rattle.hunk_scatter.specs.Rows.{entries_of}
 use Rattle.hunk_scatter.proofs.Behind.{stays_behind, table_behind}
 use Rattle.hunk_scatter.proofs.HeaderFields.{heading_table}
@@ -26,7 +26,7 @@ none [] le = refl
 none (x ∷ xs) le = absurd (omega (arith, le))
 
 module _ (budget : ℕ) (rows : List Row) (s : HeaderState) (pending fed : List ℕ) (r : HeaderReading budget rows s pending fed) where
-  pub heading_ends : IsWithinHeader fed
+  pub heading_ends : GoesPastNoHeader fed
   heading_ends t more is e = go (is_behind_header s.position) refl
     where
       words : r.ws ≡ header_words t ++ longs more

@@ -12,18 +12,18 @@ use Rattle.hunk_files.specs.declared.row.Row.{Row}
 use Rattle.hunk_files.specs.Fault.{IsTruncated, Expects}
 use Rattle.hunk_files.specs.Image.{declared_bytes}
 use Rattle.hunk_files.specs.LoadFile.{TableEntry}
-use Rattle.hunk_scan.specs.Roles.{refuse, Role as roles}
+use Rattle.hunk_grammar.specs.Roles.{refuse, Role as roles}
 use Rattle.hunk_files.specs.FileSteps.{Progress, AtFirst, AtAttributes, More, Finished, open_hunk, Next}
 use Rattle.hunk_files.specs.ReaderPosition.{table_of}
 use Rattle.hunk_files.proofs.Reading.{start_read, one_place}
 use Rattle.hunk_files.specs.WordsRead.{HasRead}
-use Rattle.hunk_scan.specs.declared.position.Position.TheVariants as positions
+use Rattle.hunk_grammar.specs.declared.position.Position.TheVariants as positions
 use Rattle.hunk_scatter.specs.declared.header_state.HeaderState.{HeaderState}
 use Rattle.hunk_scatter.specs.LoaderReasons.{is_of_header}
 use Rattle.hunk_scatter.specs.HeaderBytes.{IsHeaderTable, IsHeader, header_words, header_bytes, entries_so_far}
-use Rattle.hunk_scatter.specs.HeaderFaults.{PassesBudget}
+use Rattle.hunk_scatter.specs.HeaderFaults.{ExceedsBudget}
 use Rattle.hunk_scatter.specs.HeaderLoaderFields.{adds, declares, declared_so_far, OpensFirst, StopsFor, HeaderReading, HeaderLoaderInvariant, DeclaredInvariant, HeaderStop, FeedsHeaderOrStops}
-use Rattle.hunk_scan.specs.Positions.{role_at, step, is_behind_header, least_longs}
+use Rattle.hunk_grammar.specs.Positions.{role_at, step, is_behind_header, least_longs}
 use Rattle.hunk_scatter.specs.LoaderValues.{HeaderLoaderValue, FeedsFront, HasNoRefusal}
 use Rattle.hunk_files.specs.Tables.{row_entry}
 use Rattle.hunk_scatter.specs.Rows.{entries_of, row_of}
@@ -68,7 +68,7 @@ module _ (budget : ℕ) (rows : List Row) (s : HeaderState) (pending fed : List 
       let g = goes_further r.has_read.next r.ws r.has_read.read r.has_read.opens_first in
       read_truncated r.ws g.0 pending fed g.1 r.few r.spelled
 
-  pub heading_within : (at : ℕ) → PassesBudget budget fed at → ⊥
+  pub heading_within : (at : ℕ) → ExceedsBudget budget fed at → ⊥
   heading_within at p =
       let le = r.has_read.none_passes p.before p.after p.word (sym words_are ∙ p.split) p.expects in
       omega (arith, le, p.passes)
@@ -159,7 +159,7 @@ heading_feeds old new piece n budget taken goes_on more = record {
 
 -- What was consumed of a piece keeps to the budget, and so does the piece.
 pub piece_within : (budget : ℕ) (rows : List Row) (s : HeaderState) (pending fed piece after : List ℕ) (n : ℕ) → HeaderReading budget rows s pending after →
-    n ≤ length piece → after ≡ fed ++ take n piece → (n < length piece → IsHeader after) → (at : ℕ) → PassesBudget budget (fed ++ piece) at → ⊥
+    n ≤ length piece → after ≡ fed ++ take n piece → (n < length piece → IsHeader after) → (at : ℕ) → ExceedsBudget budget (fed ++ piece) at → ⊥
 piece_within budget rows s pending fed piece after n r le is all at p = go (ltb n (length piece)) refl
   where
     whole : after ++ drop n piece ≡ fed ++ piece

@@ -6,8 +6,8 @@ use Rattle.hunk_words.specs.Bits.{size_longs}
 use Rattle.hunk_words.specs.Longs.{longs, bytes_of}
 use Rattle.hunk_words.proofs.LongLaws.{bytes_of-append, longs-bytes_of}
 use Rattle.hunk_words.specs.declared.reason.Reason.{Reason}
-use Rattle.hunk_scan.specs.Positions.{is_behind_header}
-use Rattle.hunk_scan.specs.Roles.{Role, Role as roles, refuse}
+use Rattle.hunk_grammar.specs.Positions.{is_behind_header}
+use Rattle.hunk_grammar.specs.Roles.{Role, Role as roles, refuse}
 use Rattle.hunk_blocks.proofs.FaultScan.{front_passes}
 use Rattle.hunk_blocks.specs.Faults.{words}
 use Rattle.hunk_files.specs.Fault.{Expects, HasRefusal, load_files}
@@ -22,9 +22,9 @@ use Rattle.hunk_files.proofs.FileText.{entries_fit}
 use Rattle.hunk_files.proofs.Reading.{reads, rest_read}
 use Rattle.hunk_files.proofs.Scan.{expected_place, load_reader, load_reads}
 use Rattle.hunk_scatter.specs.HeaderBytes.{IsHeaderTable, header_words, header_bytes, entries_so_far}
-use Rattle.hunk_scatter.specs.HeaderFaults.{IsWithinBudget, PassesBudget}
+use Rattle.hunk_scatter.specs.HeaderFaults.{IsWithinBudget, ExceedsBudget}
 use Rattle.hunk_scatter.specs.HeaderLoaderFields.{declares, declared_so_far, OpensFirst}
-use Rattle.hunk_scatter.specs.LoadOutcomes.{IsWithinHeader, IsWithinFile}
+use Rattle.hunk_scatter.specs.LoadOutcomes.{GoesPastNoHeader, GoesPastNoFile}
 use Rattle.hunk_scatter.proofs.Behind.{table_behind, no_size_word}
 use Rattle.hunk_scatter.proofs.Faults.{longs-more}
 use Rattle.hunk_scatter.proofs.Feeding.{fronts_of}
@@ -83,7 +83,7 @@ right_nil : (xs ys : List ℕ) → xs ++ ys ≡ [] → ys ≡ []
 right_nil [] ys e = e
 right_nil (x ∷ xs) ys e = absurd cc
 
-pub within_file : (bytes : List ℕ) → IsWithinHeader bytes → IsWithinFile bytes
+pub within_file : (bytes : List ℕ) → GoesPastNoHeader bytes → GoesPastNoFile bytes
 within_file bytes w v more is e =
     let h = text_header v is in
     right_nil h.1.0 more (w (table v) (h.1.0 ++ more) h.0 (e ∙ ap (λ (bs : List ℕ). bs ++ more) h.1.1 ∙ append_assoc (header_bytes (table v)) h.1.0 more))
@@ -137,7 +137,7 @@ module _ (t : List TableEntry) (is : IsHeaderTable t) where
       first_word place.0 before word after h place.1.role_is r.0 r.2 r.3 r.1
 
   -- Bytes that begin with a header within the budget do not pass it.
-  pub table_within : (budget : ℕ) (bytes more : List ℕ) → declared_bytes t ≤ budget → bytes ≡ header_bytes t ++ more → (at : ℕ) → PassesBudget budget bytes at → ⊥
+  pub table_within : (budget : ℕ) (bytes more : List ℕ) → declared_bytes t ≤ budget → bytes ≡ header_bytes t ++ more → (at : ℕ) → ExceedsBudget budget bytes at → ⊥
   table_within budget bytes more le e at p =
       go (fronts p.before p.word p.after (header_words t) (longs more) (sym p.split ∙ ap longs e ∙ longs-bytes_of (header_words t) more (header_longs t is)))
     where
@@ -146,7 +146,7 @@ module _ (t : List TableEntry) (is : IsHeaderTable t) where
       go (inr (m, d)) = no_size_word (header_words t) m (open_hunk (length t) [] t) (header_read t is) (table_behind t is) (subst (λ (xs : List ℕ). Expects xs roles.SizeWord) d p.expects)
 
 -- What passes the budget does so as bytes follow.
-pub passes_more : (budget : ℕ) (bytes more : List ℕ) (at : ℕ) → PassesBudget budget bytes at → PassesBudget budget (bytes ++ more) at
+pub passes_more : (budget : ℕ) (bytes more : List ℕ) (at : ℕ) → ExceedsBudget budget bytes at → ExceedsBudget budget (bytes ++ more) at
 passes_more budget bytes more at p =
     let r = longs-more bytes more in
     record {
@@ -161,13 +161,13 @@ passes_more budget bytes more at p =
     }
 
 -- It does so in the front, or behind it.
-pub passes_front : (budget : ℕ) (bytes more : List ℕ) (at : ℕ) → (p : PassesBudget budget (bytes ++ more) at) → PassesBudget budget bytes at ⊎ ((m : List ℕ) × (p.before ≡ longs bytes ++ m))
+pub passes_front : (budget : ℕ) (bytes more : List ℕ) (at : ℕ) → (p : ExceedsBudget budget (bytes ++ more) at) → ExceedsBudget budget bytes at ⊎ ((m : List ℕ) × (p.before ≡ longs bytes ++ m))
 passes_front budget bytes more at p = go (fronts p.before p.word p.after (longs bytes) r.0 (sym p.split ∙ r.1))
   where
     r : (rest : List ℕ) × (longs (bytes ++ more) ≡ longs bytes ++ rest)
     r = longs-more bytes more
 
-    go : ((m : List ℕ) × (longs bytes ≡ p.before ++ p.word ∷ m)) ⊎ ((m : List ℕ) × (p.before ≡ longs bytes ++ m)) → PassesBudget budget bytes at ⊎ ((m : List ℕ) × (p.before ≡ longs bytes ++ m))
+    go : ((m : List ℕ) × (longs bytes ≡ p.before ++ p.word ∷ m)) ⊎ ((m : List ℕ) × (p.before ≡ longs bytes ++ m)) → ExceedsBudget budget bytes at ⊎ ((m : List ℕ) × (p.before ≡ longs bytes ++ m))
     go (inl (m, d)) = inl (record { before = p.before; word = p.word; after = m; split = d; place = p.place; expects = p.expects; first = p.first; passes = p.passes })
     go (inr k) = inr k
 

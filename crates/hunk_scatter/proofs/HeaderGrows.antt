@@ -4,7 +4,7 @@ use Rattle.std.proofs.lemmas.List.{length-replicate}
 use Rattle.hunk_words.specs.Bits.{has_both_bits}
 use Rattle.hunk_words.specs.Longs.{longs, bytes_of, IsLong, AreLongs, IsBytes}
 use Rattle.hunk_words.proofs.LongLaws.{spelled, longs_fit, length-bytes_of, bytes_of-append}
-use Rattle.hunk_scan.specs.Roles.{refuse}
+use Rattle.hunk_grammar.specs.Roles.{refuse}
 use Rattle.hunk_files.specs.LoadFile.{TableEntry}
 use Rattle.hunk_files.specs.FileSteps.{table_entry, Progress, AtFirst, AtResident, AtTableSize, AtFirstHunk, AtLastHunk, AtSizeWord, AtAttributes, AtBlock, InBody, Next, More, Finished, role_of, rows, sized_row, step_file}
 use Rattle.hunk_files.specs.ReaderPosition.{position_of}

@@ -3,8 +3,8 @@ use Rattle.std.proofs.Common.{◌≡◌, ℕ, zero, suc, ◌+◌, ◌-◌, ◌�
 use Rattle.std.proofs.lemmas.List.{length-map}
 use Rattle.hunk_words.specs.Bits.{has_both_bits}
 use Rattle.hunk_blocks.proofs.Lists.{more_owed}
-use Rattle.hunk_scan.specs.Positions.{is_behind_header, least_longs}
-use Rattle.hunk_scan.specs.Roles.{Role, refuse}
+use Rattle.hunk_grammar.specs.Positions.{is_behind_header, least_longs}
+use Rattle.hunk_grammar.specs.Roles.{Role, refuse}
 use Rattle.hunk_files.specs.LoadFile.{TableEntry}
 use Rattle.hunk_files.specs.FileSteps.{table_entry, Progress, AtFirst, AtResident, AtTableSize, AtFirstHunk, AtLastHunk, AtSizeWord, AtAttributes, AtBlock, InBody, Next, More, Finished, role_of, open_hunk, rows, sized_row, step_file, Leads}
 use Rattle.hunk_files.specs.ReaderPosition.{position_of, table_of}

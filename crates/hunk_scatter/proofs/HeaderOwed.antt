@@ -2,7 +2,7 @@
 use Rattle.std.proofs.Common.{◌≡◌, ℕ, ◌+◌, ◌*◌, ◌%◌, ◌≤◌, Bool, true, false, List, ◌++◌, length, get_or, refl, sym, ap, subst, ◌∙◌, arith, length-append}
 use Rattle.hunk_words.specs.Longs.{bytes_of, longs}
 use Rattle.hunk_words.proofs.LongLaws.{length-bytes_of}
-use Rattle.hunk_scan.specs.Positions.{is_behind_header, least_longs}
+use Rattle.hunk_grammar.specs.Positions.{is_behind_header, least_longs}
 use Rattle.hunk_blocks.specs.Faults.{words}
 use Rattle.hunk_files.specs.FileSteps.{AtSizeWord, AtAttributes, AtBlock, InBody, Next, More, Finished}
 use Rattle.hunk_files.specs.ReaderPosition.{position_of, table_of}

@@ -3,10 +3,10 @@ use Rattle.std.proofs.Common.{◌≡◌, ℕ, ◌+◌, ◌*◌, ◌≤◌, false
 use Rattle.std.proofs.lemmas.List.{map-append}
 use Rattle.hunk_words.specs.Bits.{size_longs}
 use Rattle.hunk_words.specs.Longs.{IsLong}
-use Rattle.hunk_scan.specs.declared.position.Position.{Position}
-use Rattle.hunk_scan.specs.Positions as scan
-use Rattle.hunk_scan.specs.Positions.{role_at, is_behind_header}
-use Rattle.hunk_scan.specs.Roles.{Role as roles, refuse}
+use Rattle.hunk_grammar.specs.declared.position.Position.{Position}
+use Rattle.hunk_grammar.specs.Positions as scan
+use Rattle.hunk_grammar.specs.Positions.{role_at, is_behind_header}
+use Rattle.hunk_grammar.specs.Roles.{Role as roles, refuse}
 use Rattle.hunk_files.specs.declared.row.Row.{Row}
 use Rattle.hunk_files.specs.Fault.{Expects}
 use Rattle.hunk_files.specs.Image.{declared_bytes}

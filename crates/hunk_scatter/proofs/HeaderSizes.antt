@@ -12,13 +12,13 @@ use Rattle.hunk_files.proofs.Refusals.{refusal_of_word}
 use Rattle.hunk_files.specs.Image.{declared_bytes}
 use Rattle.hunk_files.specs.LoadFile.{TableEntry}
 use Rattle.hunk_files.specs.declared.row.Row.{Row}
-use Rattle.hunk_scan.specs.declared.position.Position.TheVariants as positions
-use Rattle.hunk_scan.specs.Positions.{role_at, step, is_behind_header}
-use Rattle.hunk_scan.specs.Roles.{refuse}
+use Rattle.hunk_grammar.specs.declared.position.Position.TheVariants as positions
+use Rattle.hunk_grammar.specs.Positions.{role_at, step, is_behind_header}
+use Rattle.hunk_grammar.specs.Roles.{refuse}
 use Rattle.hunk_scatter.specs.declared.header_state.HeaderState.{HeaderState}
 use Rattle.hunk_scatter.specs.HeaderBytes.{IsHeaderTable, header_bytes, header_words}
 use Rattle.hunk_scatter.specs.HeaderLoaderFields.{adds, declares, RefusesWord, HeaderReading, HeaderLoaderInvariant, HeaderStop}
-use Rattle.hunk_scatter.specs.HeaderFaults.{PassesBudget, IsBudgetOrMemory}
+use Rattle.hunk_scatter.specs.HeaderFaults.{ExceedsBudget, IsBudgetOrMemory}
 use Rattle.hunk_scatter.specs.HeaderSizes.{RefusesHeader}
 use Rattle.hunk_scatter.specs.Rows.{entries_of, row_of}
 use Rattle.hunk_scatter.proofs.HeaderFields.{heading_new, heading_room, heading_pending, heading_word, heading_table, heading_total, heading_truncated, heading_within, heading_not_whole, heading_as}
@@ -69,12 +69,12 @@ module _ (budget : ℕ) (bytes : List ℕ) (s : HeaderState) (at : ℕ) (h : Hea
         (heading_truncated budget h.rows s end (take at bytes ++ end) (all.reading refl)))
 
     -- The budget is passed nowhere in bytes that end there.
-    pub cut_within : length (drop at bytes) < 4 → (place : ℕ) → PassesBudget budget bytes place → ⊥
+    pub cut_within : length (drop at bytes) < 4 → (place : ℕ) → ExceedsBudget budget bytes place → ⊥
     cut_within few place p =
         let end = drop at bytes in
         let all = heading_pending budget h.rows s [] at None (take at bytes) h.read refl more end end (length end) refl refl few in
         heading_within budget h.rows s end (take at bytes ++ end) (all.reading refl) place
-        (subst (λ (xs : List ℕ). PassesBudget budget xs place) (sym (take-append-drop at bytes)) p)
+        (subst (λ (xs : List ℕ). ExceedsBudget budget xs place) (sym (take-append-drop at bytes)) p)
 
     -- No header is in front of bytes that end there.
     pub none_cut : length (drop at bytes) < 4 → (t : List TableEntry) (rest : List ℕ) → IsHeaderTable t → bytes ≡ header_bytes t ++ rest → ⊥
@@ -143,7 +143,7 @@ module _ (budget : ℕ) (bytes : List ℕ) (s : HeaderState) (at : ℕ) (h : Hea
       word_stops reason (inl e) =
           inl (subst (λ (xs : List ℕ). HasRefusal xs at reason) whole (stop_refused budget (take (at + 4) bytes) (drop (at + 4) bytes) _ (stops_here reason (inl e)) e))
       word_stops reason (inr o) =
-          inr (inl (o.reason_is, subst (λ (xs : List ℕ). PassesBudget budget xs at) whole (stop_passes budget (take (at + 4) bytes) (drop (at + 4) bytes) _ (stops_here reason (inr o)) o.passes)))
+          inr (inl (o.reason_is, subst (λ (xs : List ℕ). ExceedsBudget budget xs at) whole (stop_passes budget (take (at + 4) bytes) (drop (at + 4) bytes) _ (stops_here reason (inr o)) o.passes)))
 
       -- Where a header is in front, the budget alone refuses it.
       pub word_accepted : (reason : Reason) → RefusesWord budget s w reason → (t : List TableEntry) (rest : List ℕ) → IsHeaderTable t → bytes ≡ header_bytes t ++ rest → reason ≡ reasons.Budget

@@ -12,19 +12,19 @@ use Rattle.hunk_files.specs.Fault.{Expects, HasRefusal, is_word_refusal}
 use Rattle.hunk_files.specs.Image.{declared_bytes}
 use Rattle.hunk_files.specs.LoadFile.{TableEntry}
 use Rattle.hunk_files.specs.LoadText.{header_labelled}
-use Rattle.hunk_scan.specs.Roles.{Role, Role as roles, refuse}
+use Rattle.hunk_grammar.specs.Roles.{Role, Role as roles, refuse}
 use Rattle.hunk_files.proofs.Accepted.{header_accepted}
 use Rattle.hunk_files.specs.FileSteps.{Progress, More, open_hunk, role_of, step_file}
 use Rattle.hunk_files.specs.ReaderPosition.{position_of, table_of}
-use Rattle.hunk_scan.specs.Positions.{role_at, is_behind_header}
+use Rattle.hunk_grammar.specs.Positions.{role_at, is_behind_header}
 use Rattle.hunk_files.proofs.Reading.{reads, step_read, read_refused}
 use Rattle.hunk_files.specs.WordsRead.{HasRead}
 use Rattle.hunk_files.proofs.Refusals.{refusal_of_word}
 use Rattle.hunk_files.proofs.Scan.{expects_of}
-use Rattle.hunk_scan.specs.declared.position.Position.{Position}
+use Rattle.hunk_grammar.specs.declared.position.Position.{Position}
 use Rattle.hunk_scatter.specs.LoaderReasons.{is_of_header}
 use Rattle.hunk_scatter.specs.HeaderBytes.{IsHeaderTable, header_words, header_bytes, IsHeaderFront, MayGoOnInHeader, entries_so_far}
-use Rattle.hunk_scatter.specs.HeaderFaults.{PassesBudget, IsOverBudget, IsBudgetOrMemory, IsHeaderFaultBy, IsHeaderFault}
+use Rattle.hunk_scatter.specs.HeaderFaults.{ExceedsBudget, IsOverBudget, IsBudgetOrMemory, IsHeaderFaultBy, IsHeaderFault}
 use Rattle.hunk_scatter.specs.HeaderLoaderFields.{adds, declares, StopsFor, HeaderStop, StopsInPiece}
 use Rattle.hunk_scatter.proofs.Faults.{fed_rest}
 use Rattle.hunk_scatter.proofs.Behind.{stays_behind, table_behind, expected_passes, header_passes, role_here}
@@ -90,7 +90,7 @@ module _ (budget : ℕ) (bytes rest : List ℕ) (f : Fault) (s : HeaderStop budg
       subst (λ (n : ℕ). HasRefusal (bytes ++ rest) n f.reason) (sym s.place)
       (read_refused (bytes ++ rest) s.ws at s.word (longs rest) f.reason read_at spells (refusal_at s.word ∙ e))
 
-  pub stop_passes : budget < s.state.total + declares s.state.position s.word → PassesBudget budget (bytes ++ rest) f.place
+  pub stop_passes : budget < s.state.total + declares s.state.position s.word → ExceedsBudget budget (bytes ++ rest) f.place
   stop_passes passes =
       let x = expects_size passes in
       let k = sum_here budget s.rows s.state s.ws s.has_read s.goes_on s.word x in
@@ -146,7 +146,7 @@ module _ (budget : ℕ) (bytes rest : List ℕ) (f : Fault) (s : HeaderStop budg
       go (inr l) = ap is_of_header l.reason_is
 
   -- Where the table passes the budget, it stops there, or before it since memory runs out.
-  pub stop_over : (place : ℕ) → PassesBudget budget (bytes ++ rest) place → IsOverBudget place f
+  pub stop_over : (place : ℕ) → ExceedsBudget budget (bytes ++ rest) place → IsOverBudget place f
   stop_over place p = by_cut (cuts s.ws s.word (longs rest) p.before p.word p.after (sym spells ∙ p.split)) s.stops
     where
       by_cut : Cuts s.ws s.word p.before p.word → StopsFor budget s.state s.word f.reason → IsOverBudget place f

@@ -6,8 +6,8 @@ use Rattle.std.proofs.lemmas.List.{map-append}
 use Rattle.hunk_words.specs.Limits.{most_hunks}
 use Rattle.hunk_words.specs.Bits.{has_both_bits}
 use Rattle.hunk_blocks.proofs.Lists.{passes_else, passes_then}
-use Rattle.hunk_scan.specs.Positions.{is_behind_header}
-use Rattle.hunk_scan.specs.Roles.{Role, Role as roles}
+use Rattle.hunk_grammar.specs.Positions.{is_behind_header}
+use Rattle.hunk_grammar.specs.Roles.{Role, Role as roles}
 use Rattle.hunk_blocks.specs.Faults.{words}
 use Rattle.hunk_files.specs.LoadFile.{TableEntry, IsTableEntry}
 use Rattle.hunk_files.specs.LoadText.{entry_labelled, header_labelled}

@@ -13,12 +13,12 @@ use Rattle.hunk_files.specs.Fault.{Expects, HasRefusal, HasFault, IsTruncated}
 use Rattle.hunk_files.specs.Image.{declared_bytes, image as image_at}
 use Rattle.hunk_files.specs.LoadFile.{TableEntry, LoadFileValue, IsLoadFile}
 use Rattle.hunk_files.specs.LoadText.{table, text}
-use Rattle.hunk_scan.specs.Roles.{Role as roles}
+use Rattle.hunk_grammar.specs.Roles.{Role as roles}
 use Rattle.hunk_scatter.specs.LoaderReasons.{is_of_header, is_of_file}
 use Rattle.hunk_scatter.specs.HeaderBytes.{IsHeaderTable, header_bytes}
-use Rattle.hunk_scatter.specs.HeaderFaults.{PassesBudget, IsOverBudget, IsHeaderFaultBy}
+use Rattle.hunk_scatter.specs.HeaderFaults.{ExceedsBudget, IsOverBudget, IsHeaderFaultBy}
 use Rattle.hunk_scatter.specs.LoaderValues.{ImageValue, MayGoOnInFile, IsImageOf}
-use Rattle.hunk_scatter.specs.LoadOutcomes.{Gives, IsHeaderWithin, IsWithinFile, IsReadFault, StopsInHeader, StopsShort, IsBodyStop, KeepsToHeader, LoadStop, InHeader, Between, InBody, LoadEnds}
+use Rattle.hunk_scatter.specs.LoadOutcomes.{Gives, IsHeaderWithin, GoesPastNoFile, IsReadFault, StopsInHeader, StopsShort, IsBodyStop, KeepsToHeader, LoadStop, InHeader, Between, InBody, LoadEnds}
 use Rattle.hunk_scatter.specs.Placing.{Placing, AreBases, HasBases, IsUnplacedFor}
 use Rattle.hunk_scatter.specs.Rows.{entries_of, bases_of}
 use Rattle.hunk_scatter.proofs.Faults.{refusal_more, no_refusal_on}
@@ -61,7 +61,7 @@ body_keeps base budget t header more h b u m is e =
 
 -- ---- success
 
-module _ (base : Placing) (budget limit : ℕ) (old left : Option (List ℕ)) (failed : Bool) (given : List ℕ) (gives : Gives old left limit given) (one : IsWithinFile given) (works : failed ≡ false) where
+module _ (base : Placing) (budget limit : ℕ) (old left : Option (List ℕ)) (failed : Bool) (given : List ℕ) (gives : Gives old left limit given) (one : GoesPastNoFile given) (works : failed ≡ false) where
   -- a file that fits and can be placed
   module _ (v : LoadFileValue) (rest : List ℕ) (is : IsLoadFile v) (input : old ≡ Some (bytes_of (text v) ++ rest)) (fits : length (bytes_of (text v)) ≤ limit) (within : declared_bytes (table v) ≤ budget) (bases : HasBases base (table v)) where
     split : IsSplit old left (bytes_of (text v) ++ rest) given
@@ -85,7 +85,7 @@ module _ (base : Placing) (budget limit : ℕ) (old left : Option (List ℕ)) (f
     no_refusal : (at : ℕ) (r : Reason) → HasRefusal given at r → ⊥
     no_refusal at r h = no_refusal_on given at r on h
 
-    no_pass : (at : ℕ) → PassesBudget budget given at → ⊥
+    no_pass : (at : ℕ) → ExceedsBudget budget given at → ⊥
     no_pass at p =
         let h = text_header v is in
         table_within (table v) h.0 budget (given ++ front.0) h.1.0 within (sym front.1 ∙ h.1.1) at (passes_more budget given front.0 at p)
@@ -131,7 +131,7 @@ module _ (base : Placing) (budget limit : ℕ) (old left : Option (List ℕ)) (f
 
   -- ---- a table that passes the budget
 
-  module _ (input : List ℕ) (is : old ≡ Some input) (at : ℕ) (p : PassesBudget budget (take limit input) at) where
+  module _ (input : List ℕ) (is : old ≡ Some input) (at : ℕ) (p : ExceedsBudget budget (take limit input) at) where
     cut : IsSplit old left input given
     cut = split_of old left input given is gives.consumed
 
@@ -145,14 +145,14 @@ module _ (base : Placing) (budget limit : ℕ) (old left : Option (List ℕ)) (f
         let n : limit ≡ length given + (limit - length given) = omega (arith, gives.within) in
         ap (take limit) cut.split ∙ ap (λ (k : ℕ). take k (given ++ cut.rest)) n ∙ take-append-add given cut.rest (limit - length given)
 
-    here : PassesBudget budget (given ++ behind) at
-    here = subst (λ (bs : List ℕ). PassesBudget budget bs at) around p
+    here : ExceedsBudget budget (given ++ behind) at
+    here = subst (λ (bs : List ℕ). ExceedsBudget budget bs at) around p
 
     not_in : (t : List TableEntry) (more : List ℕ) → IsHeaderTable t → declared_bytes t ≤ budget → given ≡ header_bytes t ++ more → ⊥
     not_in t more ok le e = table_within t ok budget (given ++ behind) (more ++ behind) le (ap (λ (xs : List ℕ). xs ++ behind) e ∙ append_assoc (header_bytes t) more behind) at here
 
-    not_all : behind ≡ [] → ((k : ℕ) → PassesBudget budget given k → ⊥) → ⊥
-    not_all e n = n at (subst (λ (bs : List ℕ). PassesBudget budget bs at) (ap (λ (xs : List ℕ). given ++ xs) e ∙ append-nil given) here)
+    not_all : behind ≡ [] → ((k : ℕ) → ExceedsBudget budget given k → ⊥) → ⊥
+    not_all e n = n at (subst (λ (bs : List ℕ). ExceedsBudget budget bs at) (ap (λ (xs : List ℕ). given ++ xs) e ∙ append-nil given) here)
 
     read_all : (f : Fault) → StopsShort limit left failed given f → behind ≡ []
     unfolding behind
@@ -188,7 +188,7 @@ module _ (base : Placing) (budget limit : ℕ) (old left : Option (List ℕ)) (f
         )
     outside f _ e o h m d = absurd (refused_front given f.place _ m h (subst (λ (xs : List ℕ). Expects xs roles.SizeWord) d here.expects))
 
-    in_header : (f : Fault) → StopsInHeader budget given f → PassesBudget budget given at ⊎ ((m : List ℕ) × (here.before ≡ longs given ++ m)) → IsOverBudget at f
+    in_header : (f : Fault) → StopsInHeader budget given f → ExceedsBudget budget given at ⊎ ((m : List ℕ) × (here.before ≡ longs given ++ m)) → IsOverBudget at f
     in_header f s (inl q) = s.over at q
     in_header f s (inr (m, d)) = outside f f.reason refl s.own_reasons s.fault m d
 

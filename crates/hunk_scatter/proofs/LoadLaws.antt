@@ -12,9 +12,9 @@ use Rattle.hunk_files.specs.LoadFile.{TableEntry, LoadFileValue, IsLoadFile}
 use Rattle.hunk_files.specs.LoadText.{text}
 use Rattle.hunk_scatter.specs.LoaderReasons.{is_of_header, is_of_body, is_of_load}
 use Rattle.hunk_scatter.specs.HeaderBytes.{IsHeaderTable, header_bytes, IsHeaderFront}
-use Rattle.hunk_scatter.specs.HeaderFaults.{PassesBudget, IsHeaderFaultBy}
+use Rattle.hunk_scatter.specs.HeaderFaults.{ExceedsBudget, IsHeaderFaultBy}
 use Rattle.hunk_scatter.specs.LoaderValues.{ImageValue}
-use Rattle.hunk_scatter.specs.LoadOutcomes.{Gives, KeepsRest, IsNotPlaced, IsLoaded, IsShort, IsHeaderWithin, IsLoadFaultBy, IsLoadFault, IsWithinFile, IsReadFault, StopsShort, KeepsToHeader, LoadStop, InHeader, Between, InBody, LoadEnds}
+use Rattle.hunk_scatter.specs.LoadOutcomes.{Gives, KeepsRest, IsNotPlaced, IsLoaded, IsUnfinished, IsHeaderWithin, IsLoadFaultBy, IsLoadFault, GoesPastNoFile, IsReadFault, StopsShort, KeepsToHeader, LoadStop, InHeader, Between, InBody, LoadEnds}
 use Rattle.hunk_scatter.specs.Placing.{Placing, HasBases, IsUnplacedFor}
 use Rattle.hunk_scatter.proofs.Feeding.{fronts_of}
 use Rattle.hunk_scatter.proofs.HeaderFronts.{table_within}
@@ -47,7 +47,7 @@ keeps_behind old new given whole rest c none e =
     let k = keeps_rest given s.rest whole rest none s.split in
     (k.0, s.left_is ∙ ap (λ (xs : List ℕ). Some xs) k.1)
 
-pub keeps_file : (old new : Option (List ℕ)) (limit : ℕ) (given : List ℕ) → Gives old new limit given → IsWithinFile given → (v : LoadFileValue) (rest : List ℕ) → IsLoadFile v → old ≡ Some (bytes_of (text v) ++ rest) → KeepsRest new rest
+pub keeps_file : (old new : Option (List ℕ)) (limit : ℕ) (given : List ℕ) → Gives old new limit given → GoesPastNoFile given → (v : LoadFileValue) (rest : List ℕ) → IsLoadFile v → old ≡ Some (bytes_of (text v) ++ rest) → KeepsRest new rest
 keeps_file old new limit given g w v rest is e = keeps_behind old new given (bytes_of (text v)) rest g.consumed (λ m d. w v m is d) e
 
 pub keeps_header : (base : Placing) (budget : ℕ) (old new : Option (List ℕ)) (limit : ℕ) (given : List ℕ) → Gives old new limit given → KeepsToHeader base budget given →
@@ -90,10 +90,10 @@ module _ (base : Placing) (budget limit : ℕ) (left : Option (List ℕ)) (faile
   between reasons.OutOfMemory t h u p = (record { table = t; is_table = h.is_table; more = []; fits = sym h.header ∙ sym (append-nil given) }, inr (t, h, u, p))
   between _ t h u p = absurd u
 
-short_of : (budget limit : ℕ) (left : Option (List ℕ)) (failed : Bool) (given : List ℕ) (f : Fault) → StopsShort limit left failed given f → ((at : ℕ) → PassesBudget budget given at → ⊥) → IsShort budget given
+short_of : (budget limit : ℕ) (left : Option (List ℕ)) (failed : Bool) (given : List ℕ) (f : Fault) → StopsShort limit left failed given f → ((at : ℕ) → ExceedsBudget budget given at → ⊥) → IsUnfinished budget given
 short_of budget limit left failed given f s n = record { clean = s.clean; truncated = s.truncated; none_passes = n }
 
-short_fault : (base : Placing) (budget limit : ℕ) (left : Option (List ℕ)) (failed : Bool) (given : List ℕ) (f : Fault) → StopsShort limit left failed given f → ((at : ℕ) → PassesBudget budget given at → ⊥) →
+short_fault : (base : Placing) (budget limit : ℕ) (left : Option (List ℕ)) (failed : Bool) (given : List ℕ) (f : Fault) → StopsShort limit left failed given f → ((at : ℕ) → ExceedsBudget budget given at → ⊥) →
     IsLoadFault base budget limit left failed given f
 short_fault base budget limit left failed given f s n = go s.why
   where
@@ -104,7 +104,7 @@ short_fault base budget limit left failed given f s n = go s.why
         as_reason base budget limit left failed given f.place reasons.Truncated f.reason e
         (x, subst (IsTruncated given) (sym p) s.truncated, short_of budget limit left failed given f s n)
 
-header_within_of : (budget : ℕ) (t : List TableEntry) (header more given : List ℕ) → IsHeaderWithin budget header t → given ≡ header ++ more → (at : ℕ) → PassesBudget budget given at → ⊥
+header_within_of : (budget : ℕ) (t : List TableEntry) (header more given : List ℕ) → IsHeaderWithin budget header t → given ≡ header ++ more → (at : ℕ) → ExceedsBudget budget given at → ⊥
 header_within_of budget t header more given h e at p = table_within t h.is_table budget given more h.within (e ∙ ap (λ (xs : List ℕ). xs ++ more) h.header) at p
 
 -- Each answer is as its reason says.

@@ -6,7 +6,7 @@ use Rattle.hunk_words.specs.Longs.{longs}
 use Rattle.hunk_words.proofs.LongLaws.{length-longs}
 use Rattle.hunk_blocks.proofs.Lists.{All-more}
 use Rattle.hunk_files.specs.Image.{add_at}
-use Rattle.hunk_scan.specs.Positions.{EndsWithin}
+use Rattle.hunk_grammar.specs.Positions.{EndsWithin}
 use Rattle.hunk_scatter.specs.StoreContent.{added_at_each}
 
 added_at_each-more : (start base : ℕ) (xs : List ℕ) (y : ℕ) (store : List ℕ) → added_at_each start base (xs ++ y ∷ []) store ≡ add_at (added_at_each start base xs store) (start + y) base

@@ -8,7 +8,7 @@ use Rattle.hunk_words.specs.Longs.{bytes_of, longs, IsLong}
 use Rattle.hunk_files.specs.Fault.{HasRefusal}
 use Rattle.hunk_files.specs.Image.{declared_bytes, images}
 use Rattle.hunk_files.specs.LoadFile.{TableEntry, LoadFileValue}
-use Rattle.hunk_scan.specs.Roles.{refuse}
+use Rattle.hunk_grammar.specs.Roles.{refuse}
 use Rattle.hunk_files.specs.LoadText.{table}
 use Rattle.hunk_blocks.specs.BlockSteps.{ForName, ForCode, SizedCode, SizedData, Inside, AtCount, AtSize, InPayload, InOffsets, InExtName}
 use Rattle.hunk_blocks.specs.ReaderPhase.{phase_of}
@@ -22,8 +22,8 @@ use Rattle.hunk_files.specs.WordsRead.{HasRead}
 use Rattle.hunk_files.specs.declared.row.Row.{Row}
 use Rattle.hunk_blocks.specs.Values.{BlockValue}
 use Rattle.hunk_blocks.specs.declared.phase.Phase.{Phase}
-use Rattle.hunk_scan.specs.declared.position.Position.TheVariants as positions
-use Rattle.hunk_scan.specs.Positions.{is_done}
+use Rattle.hunk_grammar.specs.declared.position.Position.TheVariants as positions
+use Rattle.hunk_grammar.specs.Positions.{is_done}
 use Rattle.hunk_files.specs.ReaderPosition.{open_of, block_phase, open_table, table_of, IsBehindHeader}
 use Rattle.hunk_scatter.specs.declared.store.BodyState.{BodyState}
 use Rattle.hunk_scatter.specs.StoreContent.{StoreHolds, HasSizedImage, stored_long}

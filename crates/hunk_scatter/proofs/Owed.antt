@@ -11,9 +11,9 @@ use Rattle.hunk_files.proofs.Shapes.{by_shape}
 use Rattle.hunk_files.proofs.Runs.{Leads-split, Leads-same}
 use Rattle.hunk_files.specs.WordsRead.{HasRead, Labelled}
 use Rattle.hunk_files.specs.ReaderPosition.{position_of, open_of}
-use Rattle.hunk_scan.specs.Positions.{least_longs}
-use Rattle.hunk_scan.specs.declared.phase.OpenHunk.{OpenHunk}
-use Rattle.hunk_scan.specs.declared.position.Position.TheVariants as positions
+use Rattle.hunk_grammar.specs.Positions.{least_longs}
+use Rattle.hunk_grammar.specs.declared.phase.OpenHunk.{OpenHunk}
+use Rattle.hunk_grammar.specs.declared.position.Position.TheVariants as positions
 use Rattle.hunk_words.specs.Bits.{entry_type}
 use Rattle.hunk_blocks.specs.declared.ext_shape.ExtShape.{ExtShape}
 use Rattle.hunk_blocks.specs.declared.ext_shape.ExtShape.TheVariants.{Definition, References, Common}

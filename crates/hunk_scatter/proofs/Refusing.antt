@@ -7,10 +7,10 @@ use Rattle.hunk_words.specs.declared.reason.Reason.{Reason}
 use Rattle.hunk_words.specs.declared.reason.Reason.TheVariants as reasons
 use Rattle.hunk_words.specs.Bits.{has_both_bits, size_longs, is_advisory, kind}
 use Rattle.hunk_blocks.specs.Parts.{Part, Part as parts}
-use Rattle.hunk_scan.specs.Roles.{Place, refuse, refuse_kind, refuse_part}
-use Rattle.hunk_scan.specs.declared.position.Position.{Position}
-use Rattle.hunk_scan.specs.declared.position.Position.TheVariants as positions
-use Rattle.hunk_scan.specs.Positions.{role_at, place, part_at, is_behind_header}
+use Rattle.hunk_grammar.specs.Roles.{Place, refuse, refuse_kind, refuse_part}
+use Rattle.hunk_grammar.specs.declared.position.Position.{Position}
+use Rattle.hunk_grammar.specs.declared.position.Position.TheVariants as positions
+use Rattle.hunk_grammar.specs.Positions.{role_at, place, part_at, is_behind_header}
 use Rattle.hunk_scatter.specs.declared.store.BodyState.{BodyState}
 use Rattle.hunk_scatter.specs.BodySteps.{longs_at, refusal, IsInStore}
 use Rattle.hunk_scatter.specs.LoaderReasons.{is_of_body, is_of_header}

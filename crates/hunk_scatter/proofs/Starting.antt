@@ -8,7 +8,7 @@ use Rattle.hunk_files.specs.LoadFile.{TableEntry}
 use Rattle.hunk_files.specs.FileSteps.{open_hunk}
 use Rattle.hunk_files.specs.WordsRead.{HasRead}
 use Rattle.hunk_files.specs.declared.row.Row.{Row}
-use Rattle.hunk_scan.specs.Positions.{open_next}
+use Rattle.hunk_grammar.specs.Positions.{open_next}
 use Rattle.hunk_scatter.specs.BodyReader.{state_at}
 use Rattle.hunk_scatter.specs.StoreContent.{zeros}
 use Rattle.hunk_scatter.specs.BodyLoaderFields.{IsFed, StandsBehind}

@@ -13,11 +13,11 @@ use Rattle.hunk_blocks.specs.declared.phase.Phase.{Phase}
 use Rattle.hunk_blocks.specs.declared.phase.Phase.TheVariants as phases
 use Rattle.hunk_blocks.specs.PhaseSteps as inside
 use Rattle.hunk_blocks.proofs.Lists.{passed_false, passed_true}
-use Rattle.hunk_scan.specs.declared.phase.OpenHunk.{OpenHunk}
-use Rattle.hunk_scan.specs.declared.position.Position.{Position}
-use Rattle.hunk_scan.specs.declared.position.Position.TheVariants as positions
-use Rattle.hunk_scan.specs.Positions.{behind, is_behind_header, is_between_hunks, onward, open_next, pass, place, step}
-use Rattle.hunk_scan.specs.Roles.{refuse_part}
+use Rattle.hunk_grammar.specs.declared.phase.OpenHunk.{OpenHunk}
+use Rattle.hunk_grammar.specs.declared.position.Position.{Position}
+use Rattle.hunk_grammar.specs.declared.position.Position.TheVariants as positions
+use Rattle.hunk_grammar.specs.Positions.{behind, is_behind_header, is_between_hunks, onward, open_next, pass, place, step}
+use Rattle.hunk_grammar.specs.Roles.{refuse_part}
 use Rattle.hunk_scatter.specs.declared.store.BodyState.{BodyState}
 use Rattle.hunk_scatter.specs.BodySteps.{IsInStore, RoomFor, RoomIn, StaysInStore, longs_at, move_to, pass_body, refusal, step_body, targets_at}
 use Rattle.hunk_scatter.specs.StoreContent.{TakesOffsets}

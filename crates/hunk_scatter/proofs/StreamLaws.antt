@@ -2,11 +2,11 @@
 use Rattle.std.proofs.Common.{◌≡◌, ℕ, ◌<◌, Bool, true, false, List, [], ◌∷◌, ◌++◌, length, get_or, take, refl, sym, arith, length-append, Err, None}
 use Rattle.hunk_files.specs.declared.row.Row.{Row}
 use Rattle.hunk_words.specs.declared.pending.Pending.{Pending}
-use Rattle.hunk_scan.specs.declared.phase.OpenHunk.{OpenHunk}
+use Rattle.hunk_grammar.specs.declared.phase.OpenHunk.{OpenHunk}
 use Rattle.hunk_blocks.specs.declared.phase.Phase.{Phase}
-use Rattle.hunk_scan.specs.declared.position.Position.{Position}
-use Rattle.hunk_scan.specs.declared.position.Position.TheVariants as positions
-use Rattle.hunk_scan.specs.Positions.{is_done, is_behind_header, is_between_hunks}
+use Rattle.hunk_grammar.specs.declared.position.Position.{Position}
+use Rattle.hunk_grammar.specs.declared.position.Position.TheVariants as positions
+use Rattle.hunk_grammar.specs.Positions.{is_done, is_behind_header, is_between_hunks}
 use Rattle.hunk_scatter.specs.BodySteps.{IsInStore}
 use Rattle.hunk_scatter.specs.Rows.{words_of}
 use Rattle.hunk_scatter.specs.declared.store.BodyState.{BodyState}

@@ -2,7 +2,7 @@
 use Rattle.std.proofs.Common.{◌≡◌, ℕ, ◌^◌, ◌-◌, ◌≤◌, List, [], ◌∷◌, length, ◌++◌, sym, ap, subst, ◌∙◌, arith, ◌⊎◌, inl, inr}
 use Rattle.std.specs.List.{flat_map}
 use Rattle.std.proofs.lemmas.List.{map-append}
-use Rattle.hunk_scan.specs.Roles.{Role, Role as roles}
+use Rattle.hunk_grammar.specs.Roles.{Role, Role as roles}
 use Rattle.hunk_blocks.specs.Faults.{words}
 use Rattle.hunk_files.specs.Fault.{Expects}
 use Rattle.hunk_files.specs.FileSteps.{open_hunk}
@@ -10,7 +10,7 @@ use Rattle.hunk_files.specs.Image.{declared_bytes}
 use Rattle.hunk_files.specs.LoadFile.{TableEntry, LoadFileValue}
 use Rattle.hunk_files.specs.LoadText.{labelled, header_labelled, hunk_labelled, table}
 use Rattle.hunk_scatter.specs.HeaderBytes.{IsHeaderTable, header_words, entries_so_far}
-use Rattle.hunk_scatter.specs.HeaderFaults.{PassesBudget}
+use Rattle.hunk_scatter.specs.HeaderFaults.{ExceedsBudget}
 use Rattle.hunk_scatter.proofs.Behind.{table_behind, no_size_word}
 use Rattle.hunk_scatter.proofs.DeclaredBytes.{declared_limit}
 use Rattle.hunk_scatter.proofs.HeaderFronts.{text_header, header_within}
@@ -40,5 +40,5 @@ total_limit before e =
     go t is (inr (m, d)) = absurd (no_size_word (header_words t) m (open_hunk (length t) [] t) (header_read t is) (table_behind t is) (subst (λ (xs : List ℕ). Expects xs roles.SizeWord) d e))
 
 -- No table passes the greatest budget.
-pub never_passes : (bytes : List ℕ) (at : ℕ) → PassesBudget (2 ^ 64 - 1) bytes at → ⊥
+pub never_passes : (bytes : List ℕ) (at : ℕ) → ExceedsBudget (2 ^ 64 - 1) bytes at → ⊥
 never_passes bytes at p = omega (arith, p.passes, total_limit p.before p.expects)

@@ -6,8 +6,8 @@ use Rattle.hunk_words.specs.declared.reason.Reason.{Reason}
 use Rattle.hunk_words.specs.Longs.{bytes_of, longs, IsBytes, IsLong}
 use Rattle.hunk_files.specs.Fault.{HasRefusal}
 use Rattle.hunk_files.specs.declared.row.Row.{Row}
-use Rattle.hunk_scan.specs.Positions.{is_done, run}
-use Rattle.hunk_scan.specs.declared.position.Position.{Position}
+use Rattle.hunk_grammar.specs.Positions.{is_done, run}
+use Rattle.hunk_grammar.specs.declared.position.Position.{Position}
 use Rattle.hunk_scatter.specs.declared.store.BodyState.{BodyState}
 use Rattle.hunk_scatter.specs.BodyLoaderFields.{StandsBehind}
 use Rattle.hunk_scatter.specs.BodySteps.{refusal, step_body, pass_body, IsInStore}

@@ -9,14 +9,14 @@ use Rattle.hunk_files.specs.Image.{declared_bytes}
 use Rattle.hunk_files.specs.FileSteps.{Next, More, Finished}
 use Rattle.hunk_files.specs.WordsRead.{HasRead}
 use Rattle.hunk_files.specs.declared.row.Row.{Row}
-use Rattle.hunk_scan.specs.declared.position.Position.{Position}
+use Rattle.hunk_grammar.specs.declared.position.Position.{Position}
 use Rattle.hunk_scatter.specs.declared.store.BodyState.{BodyState}
 use Rattle.hunk_scatter.specs.LoaderReasons.{is_of_body}
 use Rattle.hunk_scatter.specs.StoreContent.{StoreHolds}
 use Rattle.hunk_scatter.specs.BodySteps.{IsInStore, StaysInStore}
 use Rattle.hunk_scatter.specs.Rows.{entries_of, words_of, bases_of}
 use Rattle.hunk_scatter.specs.BodyReader.{state_of}
-use Rattle.hunk_scatter.specs.LoadOutcomes.{IsWithinFile, StopsInBody}
+use Rattle.hunk_scatter.specs.LoadOutcomes.{GoesPastNoFile, StopsInBody}
 use Rattle.hunk_scatter.specs.LoaderValues.{BodyLoaderValue, FeedsFront, IsWholeFile}
 use Rattle.hunk_words.specs.PendingBytes.{pending_of}
 use Rattle.hunk_scatter.specs.declared.stream.Standing.{Standing}
@@ -96,7 +96,7 @@ pub record TakesOrRefuses (rows : List Row) (store : List ℕ) (state : BodyStat
 pub record FeedsPiece (old : BodyLoaderValue) (piece : List ℕ) (new : BodyLoaderValue) (n : ℕ) : Type 0 where
   pub taken : FeedsFront old.fed piece new.fed n
   pub all : n < length piece → IsWholeFile new.rows new.fed
-  pub inside_file : IsWithinFile new.fed
+  pub inside_file : GoesPastNoFile new.fed
 
 -- The piece is consumed, or the loader keeps why it is refused.
 pub record FeedsOrRefuses (old : BodyLoaderValue) (piece : List ℕ) (new : BodyLoaderValue) (n : ℕ) : Type 0 where

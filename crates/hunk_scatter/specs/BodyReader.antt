@@ -5,8 +5,8 @@ use Rattle.hunk_words.specs.Bits.{size_longs}
 use Rattle.hunk_files.specs.LoadFile.{TableEntry, HunkValue}
 use Rattle.hunk_files.specs.FileSteps.{AtBlock, InBody, Next, More, Finished}
 use Rattle.hunk_files.specs.ReaderPosition.{position_of}
-use Rattle.hunk_scan.specs.declared.position.Position.{Position}
-use Rattle.hunk_scan.specs.declared.position.Position.TheVariants as positions
+use Rattle.hunk_grammar.specs.declared.position.Position.{Position}
+use Rattle.hunk_grammar.specs.declared.position.Position.TheVariants as positions
 use Rattle.hunk_scatter.specs.declared.store.BodyState.{BodyState}
 
 abbrev pub sizes_of : List TableEntry → List ℕ

@@ -5,10 +5,10 @@ use Rattle.hunk_words.specs.declared.reason.Reason.{Reason}
 use Rattle.hunk_words.specs.Bits.{size_longs}
 use Rattle.hunk_blocks.specs.declared.phase.Phase.{Phase}
 use Rattle.hunk_blocks.specs.declared.phase.Phase.TheVariants as phases
-use Rattle.hunk_scan.specs.declared.position.Position.{Position}
-use Rattle.hunk_scan.specs.declared.position.Position.TheVariants as positions
-use Rattle.hunk_scan.specs.Positions.{role_at, step, pass, is_between_hunks, is_behind_header}
-use Rattle.hunk_scan.specs.Roles.{refuse}
+use Rattle.hunk_grammar.specs.declared.position.Position.{Position}
+use Rattle.hunk_grammar.specs.declared.position.Position.TheVariants as positions
+use Rattle.hunk_grammar.specs.Positions.{role_at, step, pass, is_between_hunks, is_behind_header}
+use Rattle.hunk_grammar.specs.Roles.{refuse}
 use Rattle.hunk_scatter.specs.declared.store.BodyState.{BodyState}
 
 abbrev pub longs_at : List ℕ → ℕ → ℕ

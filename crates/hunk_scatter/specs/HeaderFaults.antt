@@ -5,7 +5,7 @@ use Rattle.hunk_words.specs.Longs.{bytes_of, longs}
 use Rattle.hunk_words.specs.declared.fault.Fault.{Fault}
 use Rattle.hunk_words.specs.declared.reason.Reason.{Reason}
 use Rattle.hunk_words.specs.declared.reason.Reason.TheVariants as reasons
-use Rattle.hunk_scan.specs.Roles.{Role as roles}
+use Rattle.hunk_grammar.specs.Roles.{Role as roles}
 use Rattle.hunk_files.specs.Fault.{Expects, HasRefusal}
 use Rattle.hunk_files.specs.Image.{declared_bytes}
 use Rattle.hunk_files.specs.LoadFile.{TableEntry}
@@ -20,7 +20,7 @@ IsWithinBudget budget ws =
     → declared_bytes (entries_so_far before) + 4 * size_longs word ≤ budget
 
 -- The longword at the place is the size word with which the declared bytes of a table first pass the budget.
-pub record PassesBudget (budget : ℕ) (bytes : List ℕ) (at : ℕ) : Type 0 where
+pub record ExceedsBudget (budget : ℕ) (bytes : List ℕ) (at : ℕ) : Type 0 where
   pub before : List ℕ
   pub word : ℕ
   pub after : List ℕ
@@ -32,7 +32,7 @@ pub record PassesBudget (budget : ℕ) (bytes : List ℕ) (at : ℕ) : Type 0 wh
 
 -- With no longword do the declared bytes pass the budget.
 abbrev pub KeepsToBudget : ℕ → List ℕ → Type 0
-KeepsToBudget budget bytes = (at : ℕ) → PassesBudget budget bytes at → ⊥
+KeepsToBudget budget bytes = (at : ℕ) → ExceedsBudget budget bytes at → ⊥
 
 -- Budget at the place, or OutOfMemory before it.
 abbrev pub IsOverBudget : ℕ → Fault → Type 0
@@ -59,7 +59,7 @@ pub record CompletesRow (bytes : List ℕ) (at : ℕ) : Type 0 where
 -- What the loader of a header answers: Budget where its table passes it, OutOfMemory where memory ran out for a row, else
 -- the fault of the bytes.
 abbrev pub IsHeaderFaultBy : Reason → ℕ → List ℕ → ℕ → Type 0
-IsHeaderFaultBy reasons.Budget budget bytes at = PassesBudget budget bytes at
+IsHeaderFaultBy reasons.Budget budget bytes at = ExceedsBudget budget bytes at
 IsHeaderFaultBy reasons.OutOfMemory budget bytes at = CompletesRow bytes at
 IsHeaderFaultBy reason budget bytes at = HasRefusal bytes at reason
 

@@ -6,7 +6,7 @@ use Rattle.hunk_files.specs.Fault.{HasRefusal, IsTruncated}
 use Rattle.hunk_files.specs.Image.{declared_bytes}
 use Rattle.hunk_files.specs.LoadFile.{TableEntry}
 use Rattle.hunk_scatter.specs.HeaderBytes.{BeginsWithHeader, header_bytes}
-use Rattle.hunk_scatter.specs.HeaderFaults.{PassesBudget, KeepsToBudget}
+use Rattle.hunk_scatter.specs.HeaderFaults.{ExceedsBudget, KeepsToBudget}
 use Rattle.hunk_scatter.specs.declared.header_state.HeaderSize.{HeaderSize}
 
 -- The bytes begin with a header of this size, whose table keeps to the budget.
@@ -27,5 +27,5 @@ HasHeaderInFront bytes = (table : List TableEntry) × BeginsWithHeader bytes tab
 abbrev pub RefusesHeader : ℕ → List ℕ → Fault → Type 0
 RefusesHeader budget bytes f =
     HasRefusal bytes f.place f.reason
-    ⊎ (((f.reason ≡ reasons.Budget) × PassesBudget budget bytes f.place)
+    ⊎ (((f.reason ≡ reasons.Budget) × ExceedsBudget budget bytes f.place)
     ⊎ ((f.reason ≡ reasons.Truncated) × IsTruncated bytes f.place × KeepsToBudget budget bytes))

@@ -11,7 +11,7 @@ use Rattle.hunk_files.specs.LoadFile.{TableEntry, LoadFileValue, IsLoadFile}
 use Rattle.hunk_files.specs.LoadText.{table, text}
 use Rattle.hunk_scatter.specs.LoaderReasons.{is_of_header, is_of_body}
 use Rattle.hunk_scatter.specs.HeaderBytes.{IsHeaderTable, header_bytes, IsHeaderFront}
-use Rattle.hunk_scatter.specs.HeaderFaults.{CompletesRow, PassesBudget, KeepsToBudget, IsOverBudget, IsHeaderFault}
+use Rattle.hunk_scatter.specs.HeaderFaults.{CompletesRow, ExceedsBudget, KeepsToBudget, IsOverBudget, IsHeaderFault}
 use Rattle.hunk_scatter.specs.LoaderValues.{ImageValue, HasNoRefusal}
 use Rattle.hunk_scatter.specs.Placing.{Placing, base_at, AreBases, HasBases, IsFirstUnplaced, IsUnplacedFor}
 use Rattle.hunk_scatter.specs.Rows.{entries_of, bases_of}
@@ -75,7 +75,7 @@ pub record IsLoaded (base : Placing) (budget : ℕ) (v : LoadFileValue) (placed 
 -- ---- what is answered else
 
 -- No longword of the bytes is refused, none passes the budget, and they are no whole load file.
-pub record IsShort (budget : ℕ) (bytes : List ℕ) : Type 0 where
+pub record IsUnfinished (budget : ℕ) (bytes : List ℕ) : Type 0 where
   pub clean : HasNoRefusal bytes
   pub truncated : IsTruncated bytes (4 * (length bytes / 4))
   pub none_passes : KeepsToBudget budget bytes
@@ -95,13 +95,13 @@ LacksMemoryAt base budget given at =
 
 -- The fault of a load, by its reason, where the reader has given these bytes: what is left then, and whether it failed.
 abbrev pub IsLoadFaultBy : Reason → Placing → ℕ → ℕ → Option (List ℕ) → Bool → List ℕ → ℕ → Type 0
-IsLoadFaultBy reasons.Budget base budget limit left failed given at = PassesBudget budget given at
+IsLoadFaultBy reasons.Budget base budget limit left failed given at = ExceedsBudget budget given at
 IsLoadFaultBy reasons.FileLimit base budget limit left failed given at =
-    (at ≡ limit) × (length given ≡ limit) × IsShort budget given
+    (at ≡ limit) × (length given ≡ limit) × IsUnfinished budget given
 IsLoadFaultBy reasons.Read base budget limit left failed given at =
-    (at ≡ length given) × (failed ≡ true) × IsShort budget given
+    (at ≡ length given) × (failed ≡ true) × IsUnfinished budget given
 IsLoadFaultBy reasons.Truncated base budget limit left failed given at =
-    IsAtEnd left × IsTruncated given at × IsShort budget given
+    IsAtEnd left × IsTruncated given at × IsUnfinished budget given
 IsLoadFaultBy (reasons.NoBase hunk) base budget limit left failed given at =
     (table : List TableEntry) × IsHeaderWithin budget given table × IsFirstUnplaced base table hunk × (at ≡ length given)
 IsLoadFaultBy reasons.OutOfMemory base budget limit left failed given at =
@@ -114,13 +114,13 @@ IsLoadFault base budget limit left failed given f = IsLoadFaultBy f.reason base 
 -- ---- by stages
 
 -- No header is in front of more.
-abbrev pub IsWithinHeader : List ℕ → Type 0
-IsWithinHeader bytes =
+abbrev pub GoesPastNoHeader : List ℕ → Type 0
+GoesPastNoHeader bytes =
     (table : List TableEntry) (more : List ℕ) → IsHeaderTable table → bytes ≡ header_bytes table ++ more → more ≡ []
 
 -- No load text is in front of more.
-abbrev pub IsWithinFile : List ℕ → Type 0
-IsWithinFile bytes = (v : LoadFileValue) (more : List ℕ) → IsLoadFile v → bytes ≡ bytes_of (text v) ++ more → more ≡ []
+abbrev pub GoesPastNoFile : List ℕ → Type 0
+GoesPastNoFile bytes = (v : LoadFileValue) (more : List ℕ) → IsLoadFile v → bytes ≡ bytes_of (text v) ++ more → more ≡ []
 
 -- Where this many bytes were given: the limit, a failed read, or the end.
 abbrev pub IsReadFault : ℕ → Option (List ℕ) → Bool → ℕ → Fault → Type 0
@@ -132,7 +132,7 @@ IsReadFault limit left failed count f =
 -- The loader of the header has stopped.
 pub record StopsInHeader (budget : ℕ) (bytes : List ℕ) (f : Fault) : Type 0 where
   pub fault : IsHeaderFault budget bytes f
-  pub over : (at : ℕ) → PassesBudget budget bytes at → IsOverBudget at f
+  pub over : (at : ℕ) → ExceedsBudget budget bytes at → IsOverBudget at f
   pub own_reasons : IsTrue (is_of_header f.reason)
   pub begins : f.reason ≡ reasons.OutOfMemory → IsHeaderFront bytes
 

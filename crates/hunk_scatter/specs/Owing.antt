@@ -5,7 +5,7 @@ use Rattle.hunk_blocks.specs.Parts.{Part as parts}
 use Rattle.hunk_blocks.specs.Faults.{words}
 use Rattle.hunk_files.specs.LoadFile.{LoadFileValue, IsLoadFile}
 use Rattle.hunk_files.specs.LoadText.{labelled}
-use Rattle.hunk_scan.specs.Roles.{Role, InBlock}
+use Rattle.hunk_grammar.specs.Roles.{Role, InBlock}
 
 -- the most bytes that a loader wants at a time
 abbrev pub most_want : ℕ
@@ -25,7 +25,7 @@ run_of (l ∷ ls) = if is_in_run l.0 then suc (run_of ls) else 0
 
 -- A load text begins with the bytes, and this many bytes of a content, a name, a payload or a list of offsets are to come
 -- in it.
-pub record HasToCome (fed : List ℕ) (p : ℕ) : Type 0 where
+pub record BytesToCome (fed : List ℕ) (p : ℕ) : Type 0 where
   pub value : LoadFileValue
   pub is_load_file : IsLoadFile value
   pub done : List (Role × ℕ)

@@ -10,9 +10,9 @@ use Rattle.hunk_blocks.specs.Values.{End}
 use Rattle.hunk_files.specs.FileSteps.{HunkSoFar, Next, More, Finished, AtBlock, InBody}
 use Rattle.hunk_files.specs.OpenSegment.{segment_so_far}
 use Rattle.hunk_blocks.specs.declared.phase.Phase.TheVariants as phases
-use Rattle.hunk_scan.specs.declared.position.Position.{Position}
-use Rattle.hunk_scan.specs.declared.position.Position.TheVariants as positions
-use Rattle.hunk_scan.specs.Positions.{EndsWithin}
+use Rattle.hunk_grammar.specs.declared.position.Position.{Position}
+use Rattle.hunk_grammar.specs.declared.position.Position.TheVariants as positions
+use Rattle.hunk_grammar.specs.Positions.{EndsWithin}
 use Rattle.hunk_scatter.specs.BodySteps.{longs_at}
 use Rattle.hunk_scatter.specs.declared.store.BodyState.{BodyState}
 

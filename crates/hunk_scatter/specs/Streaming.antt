@@ -5,7 +5,7 @@ use Rattle.hunk_files.specs.Fault.{HasRefusal, IsTruncated}
 use Rattle.hunk_files.specs.Image.{declared_bytes}
 use Rattle.hunk_files.specs.declared.row.Row.{Row}
 pub use Rattle.hunk_scatter.specs.BodyLoaderFields.{IsFed}
-use Rattle.hunk_scan.specs.Positions.{is_done}
+use Rattle.hunk_grammar.specs.Positions.{is_done}
 use Rattle.hunk_scatter.specs.BodySteps.{StaysInStore}
 use Rattle.hunk_scatter.specs.HeaderBytes.{IsHeaderTable, header_bytes}
 use Rattle.hunk_scatter.specs.LoaderReasons.{is_of_body}

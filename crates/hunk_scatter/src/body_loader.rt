@@ -12,15 +12,15 @@ ghost use Rattle.hunk_scatter.specs.LoaderReasons.{is_of_body};
 ghost use Rattle.hunk_scatter.specs.LoaderValues.{FeedsFront, HasNoRefusal, IsImageOf, IsWholeFile};
 ghost use Rattle.hunk_scatter.specs.LoaderValues.{MayGoOnInFile};
 ghost use Rattle.hunk_scatter.specs.BodyLoaderFields.{FeedsOrRefuses};
-ghost use Rattle.hunk_scatter.specs.LoadOutcomes.{IsWithinFile};
-ghost use Rattle.hunk_scatter.specs.Owing.{HasToCome, most_want};
+ghost use Rattle.hunk_scatter.specs.LoadOutcomes.{GoesPastNoFile};
+ghost use Rattle.hunk_scatter.specs.Owing.{BytesToCome, most_want};
 ghost use Rattle.hunk_scatter.specs.Rows.{entries_of};
 
 use crate::header_loader::bytes_wanted;
 use crate::image::{Image, starts_of};
 use crate::stream::{Standing, Stop, take_all};
 use hunk_files::Row;
-use hunk_scan::Position;
+use hunk_grammar::Position;
 use hunk_words::{History, LoadFault};
 use std::marker::Model;
 
@@ -90,7 +90,7 @@ impl BodyLoader {
         ensures bound { result ≤ most_want }
         ensures least { (v : LoadFileValue) (more : List ℕ) → IsLoadFile v
             → bytes_of (text v) ≡ self.now.fed ++ more → result ≤ length more }
-        ensures to_come { self.now.refused ≡ None → (p : ℕ) → HasToCome self.now.fed p
+        ensures to_come { self.now.refused ≡ None → (p : ℕ) → BytesToCome self.now.fed p
             → (p ≤ result) ⊎ (most_want ≤ result) }
         ensures over { self.now.refused ≡ None → IsWholeFile self.now.rows self.now.fed
             → result ≡ 0 }
@@ -132,7 +132,7 @@ impl BodyLoader {
         ensures taken { IfOk result (FeedsFront self.old.fed piece.now self.new.fed) }
         ensures all { IfOk result
             (λ n. n < length piece.now → IsWholeFile self.new.rows self.new.fed) }
-        ensures inside_file { OnOk result (IsWithinFile self.new.fed) }
+        ensures inside_file { OnOk result (GoesPastNoFile self.new.fed) }
         ensures takes_no_more { self.old.refused ≡ None → IsWholeFile self.old.rows self.old.fed
             → result ≡ Ok 0 }
         ensures reading { OnOk result ((self.old.refused ≡ None) × (self.new.refused ≡ None)) }

@@ -90,7 +90,7 @@ fn place_rows<P: Placer>(rows: &mut [Row], placer: &P) -> Result<(), u32>
 }
 
 /// Makes each row's base 0 again.
-fn unplace_rows(rows: &mut [Row])
+fn clear_bases(rows: &mut [Row])
     ensures { rows.new ≡ map row_of (entries_of rows.old) }
 {
     for row in rows {
@@ -156,14 +156,14 @@ impl Declared {
     {
         let mut table = self;
         if let Err(hunk) = place_rows(table.rows.as_mut_slice(), placer) {
-            unplace_rows(table.rows.as_mut_slice());
+            clear_bases(table.rows.as_mut_slice());
             return Err(Unplaced {
                 declared: table,
                 reason: Reason::NoBase(hunk),
             });
         }
         let Ok(store) = vec![in table.alloc; 0; table.total as usize] else {
-            unplace_rows(table.rows.as_mut_slice());
+            clear_bases(table.rows.as_mut_slice());
             return Err(Unplaced {
                 declared: table,
                 reason: Reason::OutOfMemory,

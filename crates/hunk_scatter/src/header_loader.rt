@@ -12,20 +12,20 @@ ghost use Rattle.hunk_files.specs.LoadFile.{TableEntry};
 ghost use Rattle.hunk_scatter.specs.LoaderReasons.{is_of_header};
 ghost use Rattle.hunk_scatter.specs.HeaderBytes.{IsHeaderTable, header_bytes, IsHeader};
 ghost use Rattle.hunk_scatter.specs.HeaderBytes.{MayGoOnInHeader, entries_so_far};
-ghost use Rattle.hunk_scatter.specs.HeaderFaults.{PassesBudget, IsOverBudget, IsBudgetOrMemory};
+ghost use Rattle.hunk_scatter.specs.HeaderFaults.{ExceedsBudget, IsOverBudget, IsBudgetOrMemory};
 ghost use Rattle.hunk_scatter.specs.HeaderFaults.{KeepsToBudget};
 ghost use Rattle.hunk_scatter.specs.HeaderFaults.{IsHeaderFault};
 ghost use Rattle.hunk_scatter.specs.HeaderLoaderFields.{FeedsHeaderOrStops};
 ghost use Rattle.hunk_scatter.specs.HeaderOwing.{HasRowsToCome, HasHeaderToCome};
 ghost use Rattle.hunk_scatter.specs.Owing.{most_want};
 ghost use Rattle.hunk_scatter.specs.LoaderValues.{FeedsFront, HasNoRefusal};
-ghost use Rattle.hunk_scatter.specs.LoadOutcomes.{IsWithinHeader};
+ghost use Rattle.hunk_scatter.specs.LoadOutcomes.{GoesPastNoHeader};
 ghost use Rattle.hunk_words.specs.Longs.{longs};
 
 use crate::declared::Declared;
 use crate::header_state::{HeaderState, take_header_word};
 use hunk_files::Row;
-use hunk_scan::Position;
+use hunk_grammar::Position;
 use hunk_words::{History, LoadFault, Pending, Reason};
 use std::alloc::Global;
 use std::marker::Model;
@@ -176,7 +176,7 @@ impl HeaderLoader {
         // Success.
         ensures taken { IfOk result (FeedsFront self.old.fed piece.now self.new.fed) }
         ensures all { IfOk result (λ n. n < length piece.now → IsHeader self.new.fed) }
-        ensures inside_header { OnOk result (IsWithinHeader self.new.fed) }
+        ensures inside_header { OnOk result (GoesPastNoHeader self.new.fed) }
         ensures takes_no_more { self.old.refused ≡ None → IsHeader self.old.fed → result ≡ Ok 0 }
         ensures reading { OnOk result ((self.old.refused ≡ None) × (self.new.refused ≡ None)) }
 
@@ -184,7 +184,7 @@ impl HeaderLoader {
         ensures refusal { self.old.refused ≡ None
             → IfErr result (IsHeaderFault self.old.budget (self.old.fed ++ piece.now)) }
         ensures passes_budget { self.old.refused ≡ None → (at : ℕ)
-            → PassesBudget self.old.budget (self.old.fed ++ piece.now) at
+            → ExceedsBudget self.old.budget (self.old.fed ++ piece.now) at
             → IsErrAnd result (IsOverBudget at) }
         ensures out_of_memory { self.old.refused ≡ None
             → IfErr result (λ f. f.reason ≡ reasons.OutOfMemory

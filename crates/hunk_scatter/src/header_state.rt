@@ -3,13 +3,13 @@
 ghost use Rattle.std.specs.Prelude.{◌≡◌, ◌+◌, ◌<◌, ◌≤◌, ◌^◌, ◌++◌, IfOk, IfErr, OnOk, IfSome};
 ghost use Rattle.std.specs.Prelude.{IfNone, [], ◌∷◌, map, false};
 ghost use Rattle.hunk_words.specs.declared.reason.Reason.TheVariants as reasons;
-ghost use Rattle.hunk_scan.specs.Positions.{is_behind_header};
+ghost use Rattle.hunk_grammar.specs.Positions.{is_behind_header};
 ghost use Rattle.hunk_scatter.specs.HeaderLoaderFields as heading;
 ghost use Rattle.hunk_scatter.specs.HeaderSizes.{HasHeaderInFront, HasHeaderSize, RefusesHeader};
 ghost use Rattle.hunk_scatter.specs.Rows.{row_of};
 
 use hunk_files::Row;
-use hunk_scan::{Position, TABLE_SIZE_AT};
+use hunk_grammar::{Position, TABLE_SIZE_AT};
 use hunk_words::{LoadFault, Reason, SizeWord, word_at};
 
 /// The position, and the bytes that the size words so far declare.

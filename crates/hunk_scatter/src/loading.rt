@@ -11,11 +11,11 @@ ghost use Rattle.hunk_files.specs.LoadFile.{LoadFileValue};
 ghost use Rattle.hunk_files.specs.LoadText.{text};
 ghost use Rattle.hunk_scatter.specs.LoaderReasons.{is_of_file, is_of_load};
 ghost use Rattle.hunk_scatter.specs.HeaderBytes.{IsHeaderTable, header_bytes};
-ghost use Rattle.hunk_scatter.specs.HeaderFaults.{PassesBudget, IsOverBudget};
+ghost use Rattle.hunk_scatter.specs.HeaderFaults.{ExceedsBudget, IsOverBudget};
 ghost use Rattle.hunk_scatter.specs.LoaderValues.{IsImageOf};
 ghost use Rattle.hunk_scatter.specs.LoadOutcomes.{Gives, GivesAtMost, HasFileWithin, IsBodyStop};
 ghost use Rattle.hunk_scatter.specs.LoadOutcomes.{IsHeaderStop, IsLoadFault, IsLoaded, IsReadFault};
-ghost use Rattle.hunk_scatter.specs.LoadOutcomes.{IsWithinFile, IsWithinHeader};
+ghost use Rattle.hunk_scatter.specs.LoadOutcomes.{GoesPastNoFile, GoesPastNoHeader};
 ghost use Rattle.hunk_scatter.specs.LoadOutcomes.{StopsBehindFile, StopsBehindHeader, TellsFailure};
 ghost use Rattle.hunk_scatter.specs.Owing.{most_want};
 
@@ -86,7 +86,7 @@ fn load_header<R: Source>(
 ) -> Result<Declared, LoadFault>
     requires { length buf.old ≡ most_want }
     ensures ends { (given : List ℕ) × Gives (R.left r.old) (R.left r.new) limits.file_bytes given
-        × IsWithinHeader given
+        × GoesPastNoHeader given
         × MatchResult result
         (λ declared. IsHeaderTable declared.table × (given ≡ header_bytes declared.table)
         × (declared_bytes declared.table ≤ limits.budget))
@@ -118,9 +118,9 @@ fn load_body<R: Source>(
     requires buffer { length buf.old ≡ most_want }
     requires reading { loader.refused ≡ None }
     requires below_limit { length loader.fed ≤ limit }
-    requires in_file { IsWithinFile loader.fed }
+    requires in_file { GoesPastNoFile loader.fed }
     ensures ends { (more : List ℕ) × Consumes (R.left r.old) (R.left r.new) more
-        × (length (loader.fed ++ more) ≤ limit) × IsWithinFile (loader.fed ++ more)
+        × (length (loader.fed ++ more) ≤ limit) × GoesPastNoFile (loader.fed ++ more)
         × MatchResult result
         (λ image. IsImageOf loader.rows (loader.fed ++ more) image.segments
         × (image.rows ≡ loader.rows))
@@ -188,7 +188,7 @@ pub fn load<R: Source, P: Placer>(
     // Refusals.
     ensures over_budget { (input : List ℕ) (at : ℕ) → R.left r.old ≡ Some input
         → R.failed r.new ≡ Bool.false
-        → PassesBudget limits.budget (take limits.file_bytes input) at
+        → ExceedsBudget limits.budget (take limits.file_bytes input) at
         → IsErrAnd result (IsOverBudget at) }
     ensures file_fault { (input : List ℕ) → R.left r.old ≡ Some input
         → IfErr result (λ f. IsTrue (is_of_file f.reason) → HasFault input f.place f.reason) }

@@ -12,13 +12,13 @@ ghost use Rattle.hunk_scatter.specs.StoreContent.{put_at, put_slice, stored_long
 ghost use Rattle.hunk_scatter.specs.StoreContent.{added_at_each, TakesOffsets};
 ghost use Rattle.hunk_scatter.specs.BodySteps.{longs_at, step_body, pass_body, refusal};
 ghost use Rattle.hunk_scatter.specs.BodySteps.{IsInStore, RoomFor};
-ghost use Rattle.hunk_scan.specs.Positions.{run, is_done, EndsWithin};
-ghost use Rattle.hunk_scan.specs.declared.position.Position.TheVariants as positions;
+ghost use Rattle.hunk_grammar.specs.Positions.{run, is_done, EndsWithin};
+ghost use Rattle.hunk_grammar.specs.declared.position.Position.TheVariants as positions;
 ghost use Rattle.hunk_scatter.specs.BodyLoaderFields.{ReadyAt, TakesOrRefuses};
 ghost use Rattle.hunk_scatter.specs.Rows.{words_of, bases_of};
 
 use hunk_files::Row;
-use hunk_scan::{OpenHunk, Phase, Position, by_kind, by_phase, is_outside};
+use hunk_grammar::{OpenHunk, Phase, Position, by_kind, by_phase, is_outside};
 use hunk_words::{BlockWord, MOST_HUNKS, Reason, word_at};
 
 /// The position, the open hunk, and the byte of the store where its segment begins.

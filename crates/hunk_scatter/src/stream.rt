@@ -7,7 +7,7 @@ ghost use Rattle.std.specs.Prelude.{◌≡◌, ◌+◌, ◌<◌, ◌≤◌, ◌^
 ghost use Rattle.std.specs.Prelude.{true, IfErr, IfOk, MatchResult, OnErr, Some, replicate};
 ghost use Rattle.hunk_words.specs.Limits.{most_hunks};
 ghost use Rattle.hunk_words.specs.PendingBytes.{pending_of};
-ghost use Rattle.hunk_scan.specs.Positions.{is_done, open_next};
+ghost use Rattle.hunk_grammar.specs.Positions.{is_done, open_next};
 ghost use Rattle.hunk_scatter.specs.StopLine.{stop_line};
 ghost use Rattle.hunk_scatter.specs.Streaming.{BeginsLoading, EndsLoading, IsFed, IsWithin};
 ghost use Rattle.hunk_scatter.specs.Streaming.{MayTake, StandsOn, StopsForBody, TakesOn, TakesPart};
@@ -16,7 +16,7 @@ pub use crate::header_state::{HeaderSize, header_size};
 pub use crate::store::BodyState;
 use crate::store::{take_front, take_word};
 use hunk_files::Row;
-use hunk_scan::Position;
+use hunk_grammar::Position;
 pub use hunk_words::Pending;
 use hunk_words::{LoadFault, MOST_HUNKS, Reason};
 use std::error::Error;

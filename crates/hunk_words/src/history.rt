@@ -35,23 +35,23 @@ impl History {
 /// What a writer's sink had taken, where that is known, whether it had failed, and how many bytes
 /// had gone out.
 #[derive(Drop)]
-pub(crate) struct Outset {
+pub(crate) struct WriterSnapshot {
     pub(crate) ghost taken: { Option (List ℕ) },
     pub(crate) ghost failed: { Bool },
     pub(crate) ghost written: { ℕ },
 }
 
-impl Model for Outset {
+impl Model for WriterSnapshot {
     ghost also_owns = { λ _. ftrue };
 }
 
-impl Outset {
+impl WriterSnapshot {
     /// What this writer's sink has taken, whether it has failed, and how many bytes have gone out.
-    pub(crate) fn of<W: Sink>(_writer: &LongWriter<W>) -> Outset
+    pub(crate) fn of<W: Sink>(_writer: &LongWriter<W>) -> WriterSnapshot
         ensures { (result.taken ≡ W.taken _writer.now.sink)
             × (result.failed ≡ W.failed _writer.now.sink)
             × (result.written ≡ _writer.now.written) }
     {
-        Outset {}
+        WriterSnapshot {}
     }
 }

@@ -4,7 +4,7 @@ ghost use Rattle.hunk_words.specs.Longs.{bytes_of};
 ghost use Rattle.hunk_words.specs.Prints.{Prints, Sends};
 ghost use Rattle.hunk_words.specs.Puts.{PutsSince};
 
-use crate::history::{History, Outset};
+use crate::history::{History, WriterSnapshot};
 use crate::long_writer::{LongWriter, WriteFault};
 use crate::page::{PAGE, Page};
 use crate::sink::Sink;
@@ -24,7 +24,7 @@ pub type Printer<'a, W> = PagePrinter<'a, W, PAGE>;
 pub struct PagePrinter<'a, W: Sink, const ROOM: usize> {
     out: &'a mut LongWriter<W>,
     held: Page<ROOM>,
-    outset: Outset,
+    outset: WriterSnapshot,
     history: History,
 }
 
@@ -70,7 +70,7 @@ impl<'a, W: Sink, const ROOM: usize> PagePrinter<'a, W, ROOM> {
         } }
         ensures empty { result.text ≡ [] }
     {
-        let outset = Outset::of(out);
+        let outset = WriterSnapshot::of(out);
         PagePrinter {
             out,
             held: Page::new(),

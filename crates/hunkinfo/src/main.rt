@@ -1,7 +1,7 @@
 //! The program hunkinfo: lists, checks, relocates and rewrites AmigaDOS hunk files.
 #![tactic(auto)]
 
-use hunk_orders::OrderFault;
+use hunk_command_line::OrderFault;
 use hunk_words::{FromWrite, LongWriter};
 use std::process::ExitCode;
 use std::{env, io};

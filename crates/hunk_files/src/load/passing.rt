@@ -6,11 +6,11 @@ ghost use Rattle.hunk_blocks.specs.Parts.{Part as parts};
 ghost use Rattle.hunk_blocks.specs.PhaseSteps.{begin, part_at};
 ghost use Rattle.hunk_files.specs.Passing.{AreBlocks, AreGroups, AreRows, AreSymbols, EndsList};
 ghost use Rattle.hunk_files.specs.Passing.{IsContent, IsCounted, IsGroup, IsPassed, IsWholeBlock};
-ghost use Rattle.hunk_scan.specs.Positions.{EndsWithin};
-ghost use Rattle.hunk_scan.specs.Roles.{refuse_word};
+ghost use Rattle.hunk_grammar.specs.Positions.{EndsWithin};
+ghost use Rattle.hunk_grammar.specs.Roles.{refuse_word};
 
 use hunk_blocks::content_longs;
-use hunk_scan::{OpenHunk, Phase, Position, by_kind, is_outside};
+use hunk_grammar::{OpenHunk, Phase, Position, by_kind, is_outside};
 use hunk_words::{BlockWord, NAME_LIMIT, SizeWord, word_at};
 
 /// The longword behind what is passed over at once from `at` on, in a hunk of `declared` longs, and

@@ -13,7 +13,7 @@ use crate::load::file::LoadFile;
 use crate::load::hunk_views::LoadHunkViews;
 use crate::load::table::TableIter;
 use crate::load::walk::walk;
-use hunk_scan::{TABLE_AT, TABLE_SIZE_AT};
+use hunk_grammar::{TABLE_AT, TABLE_SIZE_AT};
 use hunk_words::{FileFault, SizeWord, word_at};
 use std::alloc::Global;
 use std::marker::Model;

@@ -4,11 +4,11 @@ ghost use Rattle.std.specs.Prelude.{None, IfOk, IfErr, OnOk, MatchResult};
 ghost use Rattle.hunk_words.specs.Longs.{longs};
 ghost use Rattle.hunk_files.specs.Fault.{HasFault, HasLoadText};
 ghost use Rattle.hunk_files.specs.Entries.{entry_behind, entry_at};
-ghost use Rattle.hunk_scan.specs.Positions.{is_between_hunks, role_at, step};
-ghost use Rattle.hunk_scan.specs.Roles.{refuse};
+ghost use Rattle.hunk_grammar.specs.Positions.{is_between_hunks, role_at, step};
+ghost use Rattle.hunk_grammar.specs.Roles.{refuse};
 
 use crate::load::passing::pass_over;
-use hunk_scan::{OpenHunk, Phase, Position, TABLE_AT, by_kind, by_phase};
+use hunk_grammar::{OpenHunk, Phase, Position, TABLE_AT, by_kind, by_phase};
 use hunk_words::{BlockWord, FileFault, Reason, SizeWord, word_at};
 
 /// What the table declares of the open hunk, 0 longwords before the first.

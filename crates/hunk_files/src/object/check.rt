@@ -42,14 +42,14 @@ pub struct Finding {
 /// Where offsets stand: the unit and the hunk, how many hunks the unit has, and how many bytes the
 /// hunk has.
 #[derive(Clone, Copy, Debug)]
-pub(crate) struct Spot {
+pub(crate) struct HunkContext {
     unit: u64,
     hunk: u64,
     hunks: u64,
     bytes: u64,
 }
 
-impl Spot {
+impl HunkContext {
     fn finding(self, fault: FindingKind, offset: u32) -> Finding
         ensures { result ≡ finding self fault offset }
     {
@@ -99,7 +99,7 @@ pub(super) fn hunk_bytes(blocks: BlockViews<'_>) -> u64
 }
 
 /// Hands over what is wrong with an offset of this width.
-fn check_offset<T: TakesFindings>(taker: &mut T, spot: Spot, width: u64, offset: u32)
+fn check_offset<T: TakesFindings>(taker: &mut T, spot: HunkContext, width: u64, offset: u32)
     requires { width ≤ 4 }
     ensures { T.takes taker.old (outside spot width offset) taker.new }
 {
@@ -111,7 +111,7 @@ fn check_offset<T: TakesFindings>(taker: &mut T, spot: Spot, width: u64, offset:
 /// Hands over what is wrong with an offset of this width that is relocated to this target.
 fn check_relocation<T: TakesFindings>(
     taker: &mut T,
-    spot: Spot,
+    spot: HunkContext,
     width: u64,
     target: u32,
     offset: u32,
@@ -125,7 +125,7 @@ fn check_relocation<T: TakesFindings>(
     check_offset(taker, spot, width, offset);
 }
 
-fn check_group<T: TakesFindings>(taker: &mut T, spot: Spot, width: u64, group: &Group)
+fn check_group<T: TakesFindings>(taker: &mut T, spot: HunkContext, width: u64, group: &Group)
     requires { width ≤ 4 }
     ensures { T.takes taker.old (group_findings spot width (group_of group.now)) taker.new }
 {
@@ -134,7 +134,12 @@ fn check_group<T: TakesFindings>(taker: &mut T, spot: Spot, width: u64, group: &
     }
 }
 
-fn check_groups<T: TakesFindings>(taker: &mut T, spot: Spot, width: u64, groups: GroupsIter<'_>)
+fn check_groups<T: TakesFindings>(
+    taker: &mut T,
+    spot: HunkContext,
+    width: u64,
+    groups: GroupsIter<'_>,
+)
     requires { width ≤ 4 }
     ensures { T.takes taker.old
         (flat_map (group_findings spot width) groups.entry.value) taker.new }
@@ -144,7 +149,7 @@ fn check_groups<T: TakesFindings>(taker: &mut T, spot: Spot, width: u64, groups:
     }
 }
 
-fn check_entry<T: TakesFindings>(taker: &mut T, spot: Spot, entry: &Entry)
+fn check_entry<T: TakesFindings>(taker: &mut T, spot: HunkContext, entry: &Entry)
     ensures { T.takes taker.old (entry_findings spot (entry_of entry.now)) taker.new }
 {
     let width = reference_width(entry);
@@ -153,7 +158,7 @@ fn check_entry<T: TakesFindings>(taker: &mut T, spot: Spot, entry: &Entry)
     }
 }
 
-fn check_entries<T: TakesFindings>(taker: &mut T, spot: Spot, entries: EntriesIter<'_>)
+fn check_entries<T: TakesFindings>(taker: &mut T, spot: HunkContext, entries: EntriesIter<'_>)
     ensures { T.takes taker.old (flat_map (entry_findings spot) entries.entry.value) taker.new }
 {
     'checking: for entry in entries {
@@ -161,7 +166,7 @@ fn check_entries<T: TakesFindings>(taker: &mut T, spot: Spot, entries: EntriesIt
     }
 }
 
-fn check_block<T: TakesFindings>(taker: &mut T, spot: Spot, block: BlockView<'_>)
+fn check_block<T: TakesFindings>(taker: &mut T, spot: HunkContext, block: BlockView<'_>)
     ensures { T.takes taker.old
         (body_findings spot block.entry.value.word block.entry.value.body) taker.new }
 {
@@ -176,7 +181,11 @@ fn check_block<T: TakesFindings>(taker: &mut T, spot: Spot, block: BlockView<'_>
 }
 
 /// Answers the byte behind the blocks.
-fn check_blocks<T: TakesFindings>(taker: &mut T, spot: Spot, mut blocks: BlockViews<'_>) -> u64
+fn check_blocks<T: TakesFindings>(
+    taker: &mut T,
+    spot: HunkContext,
+    mut blocks: BlockViews<'_>,
+) -> u64
     ensures taken { T.takes taker.old (hunk_findings spot blocks.entry.value) taker.new }
     ensures end { result
         ≡ blocks.entry.place + 4 * length (block_texts blocks.entry.value) }
@@ -201,7 +210,7 @@ fn check_hunks<T: TakesFindings>(
 {
     let mut hunk = 0;
     'checking: while let Some(view) = hunks.peek() {
-        let spot = Spot {
+        let spot = HunkContext {
             unit: number,
             hunk,
             hunks: count,

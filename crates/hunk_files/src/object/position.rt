@@ -1,12 +1,12 @@
 //! Positions in an object file.
 ghost use Rattle.std.specs.Prelude.{◌≡◌, ◌≤◌, ◌^◌, Some, None, IfOk, IfErr, OnOk};
-ghost use Rattle.hunk_scan.specs.Standings.{is_content, standing_of_kind};
+ghost use Rattle.hunk_grammar.specs.Standings.{is_content, standing_of_kind};
 ghost use Rattle.hunk_files.specs.ObjectFault.{has_content, refuse_object, refuse_object_word, refuse_unit};
 ghost use Rattle.hunk_files.specs.ObjectSteps as steps;
 ghost use Rattle.hunk_files.specs.ObjectSteps.{place_next, refuse_place, role_at};
 
 use hunk_blocks::Mode;
-use hunk_scan::{Phase, by_kind, refuse_place};
+use hunk_grammar::{Phase, by_kind, refuse_place};
 use hunk_words::{BlockWord, Kind, NAME_LIMIT, Reason, UNIT_WORD};
 
 /// Where a block word stands.

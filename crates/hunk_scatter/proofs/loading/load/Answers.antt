@@ -9,10 +9,10 @@ use Rattle.hunk_words.specs.declared.reason.Reason.TheVariants as reasons
 use Rattle.hunk_files.specs.Fault.{HasFault}
 use Rattle.hunk_files.specs.LoadFile.{LoadFileValue}
 use Rattle.hunk_files.specs.LoadText.{text}
-use Rattle.hunk_scatter.specs.HeaderFaults.{IsOverBudget, PassesBudget}
+use Rattle.hunk_scatter.specs.HeaderFaults.{IsOverBudget, ExceedsBudget}
 use Rattle.hunk_scatter.specs.LoaderReasons.{is_of_file, is_of_load}
 use Rattle.hunk_scatter.specs.LoaderValues.{ImageValue}
-use Rattle.hunk_scatter.specs.LoadOutcomes.{Gives, GivesAtMost, HasFileWithin, IsHeaderWithin, IsLoadFault, IsLoaded, IsWithinFile, KeepsToHeader, LoadEnds, InHeader, Between, StopsBehindFile, StopsBehindHeader, TellsFailure}
+use Rattle.hunk_scatter.specs.LoadOutcomes.{Gives, GivesAtMost, HasFileWithin, IsHeaderWithin, IsLoadFault, IsLoaded, GoesPastNoFile, KeepsToHeader, LoadEnds, InHeader, Between, StopsBehindFile, StopsBehindHeader, TellsFailure}
 use Rattle.hunk_scatter.specs.Placing.{Placing}
 use Rattle.hunk_scatter.specs.declared.loading.Limits.{Limits}
 use Rattle.hunk_scatter.proofs.HeaderFronts.{within_file}
@@ -29,14 +29,14 @@ module _ (base : Placing) (limits : Limits) (old new : Option (List ℕ)) (worke
     one_file : StopsBehindFile old new;
     header_first : StopsBehindHeader base limits.budget old new;
     succeeds : HasFileWithin base limits old → failed ≡ false → IfErr result (λ f. f.reason ≡ reasons.OutOfMemory);
-    over_budget : (input : List ℕ) (at : ℕ) → old ≡ Some input → failed ≡ false → PassesBudget limits.budget (take limits.file_bytes input) at → IsErrAnd result (IsOverBudget at);
+    over_budget : (input : List ℕ) (at : ℕ) → old ≡ Some input → failed ≡ false → ExceedsBudget limits.budget (take limits.file_bytes input) at → IsErrAnd result (IsOverBudget at);
     file_fault : (input : List ℕ) → old ≡ Some input → IfErr result (λ f. IsTrue (is_of_file f.reason) → HasFault input f.place f.reason);
     fault : IfErr result (λ f. (given : List ℕ) × Gives old new limits.file_bytes given × IsLoadFault base limits.budget limits.file_bytes new failed given f);
     own_reasons : IfErr result (λ f. IsTrue (is_of_load f.reason));
     tells_read : TellsFailure worked failed result;
   }
 
-  promised : (given : List ℕ) → Gives old new limits.file_bytes given → IsWithinFile given → KeepsToHeader base limits.budget given →
+  promised : (given : List ℕ) → Gives old new limits.file_bytes given → GoesPastNoFile given → KeepsToHeader base limits.budget given →
       LoadEnds base limits.budget limits.file_bytes new failed given result → TellsFailure worked failed result → Promised
   promised given gives in_file keeps ends tells = record {
     loaded = ends_loaded base limits.budget limits.file_bytes old new failed given result gives ends;
@@ -72,7 +72,7 @@ returns-in-Err g c =
 pub load_body-requires-clause-in_file : goal.load_body-requires-clause-in_file
 load_body-requires-clause-in_file g c =
     let e = c.in_ok-declared.ensures.ends in
-    subst IsWithinFile (e.3.1 ∙ sym c.in-Ok.ensures.fed) (within_file e.0 e.2)
+    subst GoesPastNoFile (e.3.1 ∙ sym c.in-Ok.ensures.fed) (within_file e.0 e.2)
 
 not_true : (b : Bool) → (b ≡ true → ⊥) → b ≡ false
 not_true true h = absurd (h refl)

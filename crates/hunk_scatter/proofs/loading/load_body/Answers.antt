@@ -2,7 +2,7 @@ use Rattle.std.proofs.Common.{◌≡◌, ℕ, ◌+◌, ◌≤◌, ◌<◌, List,
 use Rattle.std.specs.Io.KnownBytes.{Consumes}
 use Rattle.std.proofs.lemmas.Result.{err_from_is_err_and}
 use Rattle.std.proofs.KnownBytes.{Consumes-trans}
-use Rattle.hunk_scatter.specs.LoadOutcomes.{IsWithinFile, IsReadFault, IsBodyStop}
+use Rattle.hunk_scatter.specs.LoadOutcomes.{GoesPastNoFile, IsReadFault, IsBodyStop}
 use Rattle.hunk_scatter.proofs.Feeding.{file_fed, file_within_more}
 use Rattle.hunk_scatter.proofs.loading.load_body.Goals as goal
 
@@ -15,7 +15,7 @@ returns-in_err-n-clause-ends g c =
       i.given.0,
       subst (Consumes _ _) (append-nil i.given.0) (Consumes-trans _ _ _ i.given.0 [] i.given.1 c.in_err-n.ensures.nothing),
       omega (arith, i.within, ap length i.given.2),
-      subst IsWithinFile i.given.2 i.in_file,
+      subst GoesPastNoFile i.given.2 i.in_file,
       subst (λ (bs : List ℕ). IsBodyStop c.args.limit (g.R.Source.left c.read_piece.new.r) (g.R.Source.failed c.read_piece.new.r) bs c.in_err-n.field-0.0) i.given.2
           (inr
           (record {
@@ -43,7 +43,7 @@ reading-preserved g c =
         all ∙ ap (λ (xs : List ℕ). xs ++ piece) i.given.2 ∙ append_assoc c.args.loader.fed i.given.0 piece,
       );
       within = omega (arith, ap length all, length-append c.reading.loader.fed piece, room);
-      in_file = subst IsWithinFile (sym all) (file_within_more c.reading.loader.fed piece c.want-want.result c.want-want.ensures.least fits _ (c.want-want.ensures.truncated some));
+      in_file = subst GoesPastNoFile (sym all) (file_within_more c.reading.loader.fed piece c.want-want.result c.want-want.ensures.least fits _ (c.want-want.ensures.truncated some));
     }
 
 pub returns-in_err-feed-clause-ends : goal.returns-in_err-feed-clause-ends
@@ -59,7 +59,7 @@ returns-in_err-feed-clause-ends g c =
       i.given.0 ++ piece,
       Consumes-trans _ _ _ i.given.0 piece i.given.1 c.in_ok-n.ensures.piece,
       omega (arith, ap length is, length-append c.reading.loader.fed piece, room),
-      subst IsWithinFile is (file_within_more c.reading.loader.fed piece c.want-want.result c.want-want.ensures.least fits _ (c.want-want.ensures.truncated some)),
+      subst GoesPastNoFile is (file_within_more c.reading.loader.fed piece c.want-want.result c.want-want.ensures.least fits _ (c.want-want.ensures.truncated some)),
       subst (λ (bs : List ℕ). IsBodyStop c.args.limit (g.R.Source.left c.read_piece.new.r) (g.R.Source.failed c.read_piece.new.r) bs c.in_err-feed.field-0.0) is
           (inl (record { refusal = c.in_err-feed.ensures.refusal i.reading; own_reasons = c.in_err-feed.ensures.own_reasons })),
     )

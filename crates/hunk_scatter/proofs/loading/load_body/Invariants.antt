@@ -1,6 +1,6 @@
 use Rattle.std.proofs.Common.{◌≡◌, ◌≤◌, ◌-◌, ℕ, List, ◌++◌, length, None, false}
 use Rattle.std.specs.Io.KnownBytes.{Consumes}
-use Rattle.hunk_scatter.specs.LoadOutcomes.{IsWithinFile}
+use Rattle.hunk_scatter.specs.LoadOutcomes.{GoesPastNoFile}
 use Rattle.hunk_scatter.proofs.loading.load_body.Given as goal
 
 abbrev pub invariant-reading : goal.invariant-reading
@@ -10,7 +10,7 @@ invariant-reading g l = record {
   rows_are : l.loader.rows ≡ l.fn.loader.rows;
   given : (more : List ℕ) × Consumes (g.R.Source.left l.fn.r) (g.R.Source.left l.r) more × (l.loader.fed ≡ l.fn.loader.fed ++ more);
   within : length l.loader.fed ≤ l.limit;
-  in_file : IsWithinFile l.loader.fed;
+  in_file : GoesPastNoFile l.loader.fed;
 }
 
 abbrev pub decreases-reading : goal.decreases-reading

@@ -1,7 +1,7 @@
 use Rattle.std.proofs.Common.{ℕ, ◌+◌, ◌≤◌, ◌<◌, List, ◌++◌, length, take, length-take, sym, subst, refl, ◌∙◌, arith, inl, inr}
 use Rattle.std.proofs.lemmas.Result.{err_from_is_err_and}
-use Rattle.hunk_scatter.specs.HeaderFaults.{PassesBudget, IsHeaderFault}
-use Rattle.hunk_scatter.specs.LoadOutcomes.{IsWithinHeader, IsReadFault}
+use Rattle.hunk_scatter.specs.HeaderFaults.{ExceedsBudget, IsHeaderFault}
+use Rattle.hunk_scatter.specs.LoadOutcomes.{GoesPastNoHeader, IsReadFault}
 use Rattle.hunk_scatter.proofs.Feeding.{header_fed, header_within_more, gives_more, gives_none, row_begins, header_wants}
 use Rattle.hunk_scatter.proofs.loading.load_header.Goals as goal
 
@@ -19,7 +19,7 @@ returns-in_err-n-clause-ends g c =
           truncated = c.want-want.ensures.truncated i.reading;
           why = subst (λ (n : ℕ). IsReadFault c.args.limits.file_bytes (g.R.Source.left c.read_piece.new.r) (g.R.Source.failed c.read_piece.new.r) n c.in_err-n.field-0.0) c.fed.ensures c.in_err-n.ensures.fault;
         },
-        λ at p. c.want-want.ensures.keeps_to_budget i.reading at (subst (λ (b : ℕ). PassesBudget b c.reading.loader.fed at) (sym i.budget_is) p),
+        λ at p. c.want-want.ensures.keeps_to_budget i.reading at (subst (λ (b : ℕ). ExceedsBudget b c.reading.loader.fed at) (sym i.budget_is) p),
       ),
     )
 
@@ -37,7 +37,7 @@ reading-preserved g c =
       budget_is = c.in_ok-feed.ensures.budget ∙ i.budget_is;
       given = gives_more _ _ _ _ c.reading.loader.fed piece c.feed.new.self.fed i.given c.in_ok-n.ensures.piece room all;
       in_header =
-          subst IsWithinHeader (sym all)
+          subst GoesPastNoHeader (sym all)
           (header_within_more c.reading.loader.fed piece c.want-want.result c.want-want.ensures.least fits some (λ w. c.want-want.ensures.over i.reading w) i.in_header);
     }
 
@@ -57,7 +57,7 @@ returns-in_err-feed-clause-ends g c =
       inl
           (record {
             fault = fault;
-            over = λ at p. c.in_err-feed.ensures.passes_budget i.reading at (subst (λ (b : ℕ). PassesBudget b (c.reading.loader.fed ++ piece) at) (sym i.budget_is) p);
+            over = λ at p. c.in_err-feed.ensures.passes_budget i.reading at (subst (λ (b : ℕ). ExceedsBudget b (c.reading.loader.fed ++ piece) at) (sym i.budget_is) p);
             own_reasons = c.in_err-feed.ensures.own_reasons;
             begins =
                 λ e.

@@ -1,5 +1,5 @@
 use Rattle.std.proofs.Common.{◌≡◌, ◌-◌, length, None, false}
-use Rattle.hunk_scatter.specs.LoadOutcomes.{Gives, IsWithinHeader}
+use Rattle.hunk_scatter.specs.LoadOutcomes.{Gives, GoesPastNoHeader}
 use Rattle.hunk_scatter.proofs.loading.load_header.Given as goal
 
 abbrev pub invariant-reading : goal.invariant-reading
@@ -8,7 +8,7 @@ invariant-reading g l = record {
   works : g.R.Source.failed l.fn.r ≡ false → g.R.Source.failed l.r ≡ false;
   budget_is : l.loader.budget ≡ l.limits.budget;
   given : Gives (g.R.Source.left l.fn.r) (g.R.Source.left l.r) l.limits.file_bytes l.loader.fed;
-  in_header : IsWithinHeader l.loader.fed;
+  in_header : GoesPastNoHeader l.loader.fed;
 }
 
 abbrev pub decreases-reading : goal.decreases-reading

@@ -1,7 +1,7 @@
 use Rattle.std.proofs.Common.{length, ◌-◌, ◌*◌, ◌≡◌, ◌≤◌, take}
 use Rattle.std.specs.List.{AllByRecursion}
 use Rattle.hunk_words.specs.Longs.{longs}
-use Rattle.hunk_scan.specs.Positions.{EndsWithin}
+use Rattle.hunk_grammar.specs.Positions.{EndsWithin}
 use Rattle.hunk_scatter.specs.StoreContent.{added_at_each}
 use Rattle.hunk_scatter.proofs.store.add_all.Given as goal
 

@@ -1,6 +1,6 @@
 use Rattle.std.proofs.Common.{ℕ, length, sym, ap, ◌∙◌}
-use Rattle.hunk_scan.specs.Positions.{role_at}
-use Rattle.hunk_scan.specs.Roles.{refuse}
+use Rattle.hunk_grammar.specs.Positions.{role_at}
+use Rattle.hunk_grammar.specs.Roles.{refuse}
 use Rattle.hunk_scatter.specs.Rows.{words_of}
 use Rattle.hunk_scatter.proofs.Refusing.{refused_in_body}
 use Rattle.hunk_scatter.proofs.store.take_word.Goals as goal

@@ -2,7 +2,7 @@ use Rattle.std.proofs.Common.{◌≡◌, ℕ, List, [], map, length, replicate, 
 use Rattle.std.proofs.lemmas.List.{length-map}
 use Rattle.hunk_files.specs.Image.{declared_bytes}
 use Rattle.hunk_files.specs.LoadFile.{TableEntry}
-use Rattle.hunk_scan.specs.Positions.{open_next}
+use Rattle.hunk_grammar.specs.Positions.{open_next}
 use Rattle.hunk_scatter.specs.HeaderBytes.{IsHeaderTable, header_bytes}
 use Rattle.hunk_scatter.specs.HeaderLoaderFields.{DeclaredInvariant}
 use Rattle.hunk_scatter.specs.BodyReader.{state_at}

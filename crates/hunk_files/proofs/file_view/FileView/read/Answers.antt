@@ -1,9 +1,9 @@
 use Rattle.std.specs.Prelude.{IfErr}
 use Rattle.std.proofs.Common.{◌≢◌, ◌∙◌, sym, inl, inr}
 use Rattle.hunk_words.specs.Longs.{longs}
-use Rattle.hunk_scan.specs.declared.file_kind.Sniff.{Sniff}
-use Rattle.hunk_scan.specs.declared.file_kind.Sniff.TheVariants.{Object}
-use Rattle.hunk_scan.specs.FileKind.{sniffed}
+use Rattle.hunk_grammar.specs.declared.file_kind.Sniff.{Sniff}
+use Rattle.hunk_grammar.specs.declared.file_kind.Sniff.TheVariants.{Object}
+use Rattle.hunk_grammar.specs.FileKind.{sniffed}
 use Rattle.hunk_files.specs.HunkFile.{IsRefusal}
 use Rattle.hunk_files.proofs.FileKinds.{no_load, no_object, not_object}
 use Rattle.hunk_files.proofs.file_view.FileView.read.Goals as goal

@@ -4,7 +4,7 @@ use Rattle.hunk_words.specs.Longs.{longs}
 use Rattle.hunk_words.proofs.LongLaws.{length-longs}
 use Rattle.hunk_blocks.specs.PhaseSteps.{begin}
 use Rattle.hunk_blocks.specs.declared.phase.Phase.{Phase}
-use Rattle.hunk_scan.specs.Roles.{refuse_word}
+use Rattle.hunk_grammar.specs.Roles.{refuse_word}
 use Rattle.hunk_files.specs.Passing.{BeginsBlock, IsWholeBlock, content, counted, groups, symbols}
 use Rattle.hunk_files.proofs.load.passing.behind_word.Goals as goal
 

@@ -3,10 +3,10 @@ use Rattle.hunk_words.specs.Longs.{longs, IsBytes}
 use Rattle.hunk_words.specs.declared.reason.Reason.{Reason}
 use Rattle.hunk_words.specs.declared.reason.Reason.TheVariants as reasons
 use Rattle.hunk_words.proofs.LongLaws.{length-longs}
-use Rattle.hunk_scan.specs.Roles.{refuse}
-use Rattle.hunk_scan.specs.Positions as scan
-use Rattle.hunk_scan.specs.Positions.{role_at}
-use Rattle.hunk_scan.specs.declared.position.Position.{Position}
+use Rattle.hunk_grammar.specs.Roles.{refuse}
+use Rattle.hunk_grammar.specs.Positions as scan
+use Rattle.hunk_grammar.specs.Positions.{role_at}
+use Rattle.hunk_grammar.specs.declared.position.Position.{Position}
 use Rattle.hunk_files.specs.Entries.{entry_at}
 use Rattle.hunk_files.specs.Fault.{HasFault}
 use Rattle.hunk_files.specs.declared.load.walk.Entry.{Entry}

@@ -1,6 +1,6 @@
 use Rattle.std.proofs.Common.{◌+◌, List, length, Some, ap, subst, ◌∙◌, arith}
 use Rattle.hunk_blocks.specs.Placed.{Placed}
-use Rattle.hunk_files.specs.Findings.{FindingValue, Spot, hunk_bytes, hunk_findings, hunks_findings}
+use Rattle.hunk_files.specs.Findings.{FindingValue, HunkContext, hunk_bytes, hunk_findings, hunks_findings}
 use Rattle.hunk_files.specs.Hunks.{block_texts}
 use Rattle.hunk_files.specs.InPlace.{GivesPart}
 use Rattle.hunk_files.specs.ObjectFile.{ObjectHunk}
@@ -20,7 +20,7 @@ checking-preserved g c =
     part_passed block_texts old new c.in-Some.view c.check_blocks-end.result c.in-Some.ensures
     (omega (arith, c.check_blocks-end.ensures.end, ap (λ (p : Placed ObjectHunk). p.place) blocks, ap (λ (p : Placed ObjectHunk). length (block_texts p.value)) blocks)) c.pass.ensures in
     let first = ap (λ (hs : Placed (List ObjectHunk)). hs.value) step.0 in
-    let spot : Spot = record { unit = c.args.number; hunk = hunk; hunks = c.args.count; bytes = hunk_bytes h } in
+    let spot : HunkContext = record { unit = c.args.number; hunk = hunk; hunks = c.args.count; bytes = hunk_bytes h } in
     let found = hunk_found c.args.number hunk c.args.count c.content_bytes.result c.blocks-in-Some.result.value h c.content_bytes.ensures (ap (λ (bs : Placed ObjectHunk). bs.value) blocks) in (
       omega (arith, c.checking.invariant.0, ap (λ (hs : List ObjectHunk). length hs) first),
       end_stays block_texts old new c.in-Some.view step ∙ c.checking.invariant.1,

@@ -2,7 +2,7 @@ use Rattle.std.proofs.Common.{◌≡◌, ◌++◌, ◌∙◌, ℕ, List, Option,
 use Rattle.std.specs.Prelude.{MatchOption}
 use Rattle.hunk_words.specs.declared.fault.Fault.{Fault}
 use Rattle.hunk_scatter.specs.BodyLoaderFields.{FeedsOrRefuses, FeedsPiece}
-use Rattle.hunk_scatter.specs.LoadOutcomes.{IsWithinFile, StopsInBody}
+use Rattle.hunk_scatter.specs.LoadOutcomes.{GoesPastNoFile, StopsInBody}
 use Rattle.hunk_scatter.specs.LoaderValues.{BodyLoaderValue, IsWholeFile}
 use Rattle.hunk_scatter.proofs.BodyFields.{fed_within, whole_file}
 use Rattle.hunk_scatter.proofs.StreamLaws.{within_store}
@@ -26,5 +26,5 @@ returns-in-Ok c =
     (record {
       taken = (c.in-Ok.ensures.inside, c.and-self-inside.ensures ∙ ap (λ (l : BodyLoaderValue). l.fed ++ take c.in-Ok.taken c.args.piece.now) c.self.view_is);
       all = λ less. subst (λ (bs : List ℕ). IsWholeFile c.self.inside.rows.items bs) (sym c.and-self-inside.ensures) (whole_file _ _ _ _ k (c.in-Ok.ensures.all less));
-      inside_file = subst IsWithinFile (sym c.and-self-inside.ensures) (fed_within _ _ _ _ k);
+      inside_file = subst GoesPastNoFile (sym c.and-self-inside.ensures) (fed_within _ _ _ _ k);
     })

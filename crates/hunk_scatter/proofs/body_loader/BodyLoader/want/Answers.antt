@@ -1,15 +1,15 @@
 use Rattle.std.proofs.Common.{inl, inr, ◌*◌, ◌/◌, ◌++◌, length, sym, ap, subst, ◌∙◌, arith}
 use Rattle.hunk_files.specs.Fault.{IsTruncated}
-use Rattle.hunk_scan.specs.Positions.{is_done, least_longs}
+use Rattle.hunk_grammar.specs.Positions.{is_done, least_longs}
 use Rattle.hunk_scatter.specs.LoaderValues.{BodyLoaderValue, IsWholeFile, HasNoRefusal}
-use Rattle.hunk_scatter.specs.Owing.{HasToCome}
+use Rattle.hunk_scatter.specs.Owing.{BytesToCome}
 use Rattle.hunk_scatter.proofs.BodyFields.{done_unless_open, fed_clean, fed_truncated, none_of, none_to_come, not_whole, owes_bytes, to_come_owed, whole_file}
 use Rattle.hunk_scatter.proofs.body_loader.BodyLoader.want.Goals as goal
 
 pub returns-in_default-clause-to_come : goal.returns-in_default-clause-to_come
 returns-in_default-clause-to_come c none p t =
     let h = c.self.invariant.reading (none_of c.self.inside.refused (sym c.is_some.ensures ∙ c.if-is_some.false)) in
-    let e = none_to_come _ _ _ _ h (done_unless_open _ _ _ _ h c.in_default.not-Body) p (subst (λ (l : BodyLoaderValue). HasToCome l.fed p) (sym c.self.view_is) t) in
+    let e = none_to_come _ _ _ _ h (done_unless_open _ _ _ _ h c.in_default.not-Body) p (subst (λ (l : BodyLoaderValue). BytesToCome l.fed p) (sym c.self.view_is) t) in
     inl (omega (arith, e))
 
 pub returns-in_default-clause-finished : goal.returns-in_default-clause-finished
@@ -31,7 +31,7 @@ returns-clause-least c v more is e =
 pub returns-clause-to_come : goal.returns-clause-to_come
 returns-clause-to_come c none p t =
     let h = c.self.invariant.reading (none_of c.self.inside.refused (sym c.is_some.ensures ∙ c.if-is_some.false)) in
-    let o = to_come_owed _ _ _ _ h (ap is_done c.in-Body.is) p (subst (λ (l : BodyLoaderValue). HasToCome l.fed p) (sym c.self.view_is) t) in
+    let o = to_come_owed _ _ _ _ h (ap is_done c.in-Body.is) p (subst (λ (l : BodyLoaderValue). BytesToCome l.fed p) (sym c.self.view_is) t) in
     elim c.bytes_wanted.ensures.all [
       | inl all ↦ inl (omega (arith, o, c.least_longs-longs.ensures.value, ap least_longs c.in-Body.is, all))
       | inr most ↦ inr most

@@ -2,7 +2,7 @@ use Rattle.std.proofs.Common.{◌≡◌, ℕ, List, [], length, arith, None, sym
 use Rattle.hunk_files.specs.declared.row.Row.{Row}
 use Rattle.hunk_scatter.specs.BodyLoaderFields.{BodyLoaderInvariant}
 use Rattle.std.proofs.lemmas.List.{length-map}
-use Rattle.hunk_scan.specs.Positions.{open_next}
+use Rattle.hunk_grammar.specs.Positions.{open_next}
 use Rattle.hunk_scatter.specs.BodyReader.{state_at}
 use Rattle.hunk_files.specs.Tables.{row_entry}
 use Rattle.hunk_scatter.specs.Rows.{entries_of}

@@ -1,10 +1,10 @@
 use Rattle.std.proofs.Common.{rules, ◌≡◌, ◌<◌, ◌-◌, ◌++◌, None, drop, ◌∙◌, ℕ, List, Ok, Result, IfOk, refl, sym, ap, subst, take, length, append-nil, arith}
 use Rattle.hunk_words.specs.declared.fault.Fault.{Fault}
 use Rattle.hunk_scatter.specs.HeaderBytes.{IsHeader, MayGoOnInHeader}
-use Rattle.hunk_scatter.specs.HeaderFaults.{PassesBudget, IsHeaderFault}
+use Rattle.hunk_scatter.specs.HeaderFaults.{ExceedsBudget, IsHeaderFault}
 use Rattle.hunk_scatter.specs.HeaderLoaderFields.{StopsInPiece}
 use Rattle.hunk_scatter.specs.LoaderValues.{HeaderLoaderValue}
-use Rattle.hunk_scatter.specs.LoadOutcomes.{IsWithinHeader}
+use Rattle.hunk_scatter.specs.LoadOutcomes.{GoesPastNoHeader}
 use Rattle.hunk_scatter.proofs.Faults.{rest_within, fed_on}
 use Rattle.hunk_scatter.proofs.HeaderEnds.{heading_ends}
 use Rattle.hunk_scatter.proofs.Feeding.{rest_bytes}
@@ -44,7 +44,7 @@ pub returns-in-Err-clause-passes_budget : goal.returns-in-Err-clause-passes_budg
 returns-in-Err-clause-passes_budget c none at p =
     let i = c.loop-taken.invariant in
     let s : StopsInPiece c.args.self.now.budget c.args.self.now.fed c.args.piece.now c.in-Err.fault = stops_on _ _ _ _ _ _ _ i.budget_is i.fed_is c.in-Err.ensures.feeds_or_stops.stops in
-    stop_over _ s.0 s.1 c.in-Err.fault s.4 at (subst (λ (bs : List ℕ). PassesBudget c.args.self.now.budget bs at) s.2 p)
+    stop_over _ s.0 s.1 c.in-Err.fault s.4 at (subst (λ (bs : List ℕ). ExceedsBudget c.args.self.now.budget bs at) s.2 p)
 
 pub returns-in-Err-clause-accepts : goal.returns-in-Err-clause-accepts
 returns-in-Err-clause-accepts c none m =
@@ -85,10 +85,10 @@ returns-clause-passes_budget c none at p =
     (c.self-2.invariant.reading (ap (λ (v : HeaderLoaderValue). v.refused) c.self-2.view_is ∙ e.2))
     c.loop-taken.invariant.inside (fed ∙ e.0)
     (λ less. subst IsHeader (sym fed) (e.3 less)) at
-    (subst (λ (b : ℕ). PassesBudget b (c.args.self.now.fed ++ c.args.piece.now) at) (sym budget) p)
+    (subst (λ (b : ℕ). ExceedsBudget b (c.args.self.now.fed ++ c.args.piece.now) at) (sym budget) p)
 
 pub returns-clause-inside_header : goal.returns-clause-inside_header
 returns-clause-inside_header c =
     let e = ended c in
-    subst IsWithinHeader (ap (λ (v : HeaderLoaderValue). v.fed) c.self-2.view_is)
+    subst GoesPastNoHeader (ap (λ (v : HeaderLoaderValue). v.fed) c.self-2.view_is)
     (heading_ends _ _ _ _ _ (c.self-2.invariant.reading (ap (λ (v : HeaderLoaderValue). v.refused) c.self-2.view_is ∙ e.2)))

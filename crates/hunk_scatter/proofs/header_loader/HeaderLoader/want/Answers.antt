@@ -1,7 +1,7 @@
 use Rattle.std.proofs.Common.{inl, inr, ◌*◌, ◌/◌, ◌++◌, length, sym, ap, subst, ◌∙◌, arith}
 use Rattle.hunk_files.specs.Fault.{IsTruncated}
 use Rattle.hunk_scatter.specs.HeaderBytes.{IsHeader}
-use Rattle.hunk_scatter.specs.HeaderFaults.{PassesBudget}
+use Rattle.hunk_scatter.specs.HeaderFaults.{ExceedsBudget}
 use Rattle.hunk_scatter.specs.LoaderValues.{HeaderLoaderValue, HasNoRefusal}
 use Rattle.hunk_scatter.proofs.BodyFields.{none_of}
 use Rattle.hunk_scatter.proofs.HeaderFields.{heading_clean, heading_truncated, heading_within, heading_not_whole, heading_table, heading_least}
@@ -19,7 +19,7 @@ returns-then-is_behind_header-clause-truncated c none =
 pub returns-then-is_behind_header-clause-keeps_to_budget : goal.returns-then-is_behind_header-clause-keeps_to_budget
 returns-then-is_behind_header-clause-keeps_to_budget c none at p =
     heading_within _ _ _ _ _ (c.self.invariant.reading (ap (λ (v : HeaderLoaderValue). v.refused) c.self.view_is ∙ none)) at
-    (subst (λ (v : HeaderLoaderValue). PassesBudget v.budget v.fed at) (sym c.self.view_is) p)
+    (subst (λ (v : HeaderLoaderValue). ExceedsBudget v.budget v.fed at) (sym c.self.view_is) p)
 
 pub returns-clause-clean : goal.returns-clause-clean
 returns-clause-clean c none = subst (λ (v : HeaderLoaderValue). HasNoRefusal v.fed) c.self.view_is (heading_clean _ _ _ _ _ (c.self.invariant.reading (ap (λ (v : HeaderLoaderValue). v.refused) c.self.view_is ∙ none)))
@@ -31,7 +31,7 @@ returns-clause-truncated c none =
 pub returns-clause-keeps_to_budget : goal.returns-clause-keeps_to_budget
 returns-clause-keeps_to_budget c none at p =
     heading_within _ _ _ _ _ (c.self.invariant.reading (ap (λ (v : HeaderLoaderValue). v.refused) c.self.view_is ∙ none)) at
-    (subst (λ (v : HeaderLoaderValue). PassesBudget v.budget v.fed at) (sym c.self.view_is) p)
+    (subst (λ (v : HeaderLoaderValue). ExceedsBudget v.budget v.fed at) (sym c.self.view_is) p)
 
 pub returns-clause-over : goal.returns-clause-over
 returns-clause-over c none w =

@@ -1,7 +1,0 @@
-use Rattle.std.proofs.Common.{ℕ}
-use Rattle.hunk.specs.Packs.{ArePacked}
-use Rattle.hunk.proofs.Packing.{NearSoFar}
-use Rattle.hunk.proofs.packed.put_near.Given as goal
-
-abbrev pub invariant-rows : goal.invariant-rows
-invariant-rows l = (start : ℕ) (p : ArePacked l.bytes l.hunks start l.marks) → NearSoFar p l.number l.near l.hunk l.place.longword l.place.base

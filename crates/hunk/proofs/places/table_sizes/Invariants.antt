@@ -1,5 +1,0 @@
-use Rattle.hunk.proofs.TableSizes.{AreSummed}
-use Rattle.hunk.proofs.places.table_sizes.Given as goal
-
-abbrev pub invariant-rows : goal.invariant-rows
-invariant-rows l = AreSummed l.fn.rows l.row-index l.header l.bytes

@@ -1,0 +1,261 @@
+-- Hunks one right after the other, by a table that is read where it lies.
+use Rattle.std.proofs.Common.{◌≡◌, ℕ, zero, suc, ◌+◌, ◌-◌, ◌*◌, ◌/◌, ◌%◌, ◌^◌, ◌<◌, ◌≤◌, Bool, true, false, List, [], ◌∷◌, ◌++◌, length, take, get_or, set, slice_get, Option, Some, None, refl, sym, ap, ap₂, subst, ◌∙◌, arith, if◌then◌else◌, ltb, inl, inr, ◌⊎◌, nat_le, nat_lt, add-one}
+use Rattle.std.proofs.lemmas.Bool.{ltb-true, ltb-false}
+use Rattle.std.proofs.lemmas.Bool.Decides.{nat_tests}
+use Rattle.std.proofs.lemmas.List.{get_or-set_other, get_or-set_same, length-take-le}
+use Rattle.hunk_words.specs.Bits.{entry_longs, has_both_bits, size_longs}
+use Rattle.hunk_words.specs.Longs.{longs}
+use Rattle.hunk_blocks.specs.Cuts.{Cut}
+use Rattle.hunk_files.specs.Cuts.{table_cut}
+use Rattle.hunk_files.specs.Image.{declared_bytes}
+use Rattle.hunk_files.specs.LoadFile.{TableEntry}
+use Rattle.hunk_files.proofs.LoadCuts.{table_cut_is}
+use Rattle.hunk_files.proofs.TableReading.{entries_are}
+use Rattle.hunk_scatter.specs.HeaderBytes.{BeginsWithHeader}
+use Rattle.hunk_scatter.specs.Placing.{AreBases, IsFirstUnplaced, base_at, listed_in, packed_from}
+use Rattle.hunk_scatter.specs.HeaderSizes.{HasHeaderSize}
+use Rattle.hunk_scatter.specs.declared.header_state.HeaderSize.{HeaderSize}
+use Rattle.hunk_scatter.proofs.DeclaredBytes.{declared-cons}
+use Rattle.hunk_c.specs.declared.packed.Mark.{Mark}
+use Rattle.hunk_c.specs.Packs.{ArePacked, AreMarksTo, AreNearTo, HasRow, IsRow, RowStandsAt, bases_in, hunks_a_mark, most_marks, no_mark, packed_after}
+use Rattle.hunk_c.specs.Loads.{AreBasesOf}
+use Rattle.hunk_c.proofs.Succeeding.{same_header}
+use Rattle.hunk_c.proofs.TableRows.{stands_first, stands_next, entry_is}
+
+-- ---- a table, entry by entry
+
+abbrev no_entry : TableEntry
+no_entry = record { word = 0; extra = 0 }
+
+declared_next : (t : List TableEntry) (i : ℕ) (e : TableEntry) → slice_get t i ≡ Some e → declared_bytes (take (suc i) t) ≡ declared_bytes (take i t) + 4 * size_longs e.word
+declared_next [] i e is = absurd cc
+declared_next (x ∷ t) zero e is =
+    let same : x ≡ e = cc in
+    omega (arith, declared-cons x [], ap (λ (y : TableEntry). 4 * size_longs y.word) same)
+declared_next (x ∷ t) (suc i) e is = omega (arith, declared-cons x (take (suc i) t), declared-cons x (take i t), declared_next t i e is)
+
+-- ---- rows
+
+module _ (bytes : List ℕ) (t : List TableEntry) (h : BeginsWithHeader bytes t) (start i at base : ℕ) (r : IsRow h start i at base) (more : i < length t) (word extra : ℕ) (reads_word : word ≡ get_or (longs bytes) at 0)
+    (reads_extra : extra ≡ (if has_both_bits (get_or (longs bytes) at 0) then get_or (longs bytes) (at + 1) 0 else 0)) where
+  is : slice_get t i ≡ Some (record { word = word; extra = extra })
+  is = entry_is bytes t h i at r.stands more word extra reads_word reads_extra
+
+  declared_is : declared_bytes (take (i + 1) t) ≡ declared_bytes (take i t) + 4 * size_longs word
+  declared_is = ap (λ (n : ℕ). declared_bytes (take n t)) (add-one i) ∙ declared_next t i (record { word = word; extra = extra }) is
+
+  pub row_next : (count size : ℕ) → count ≡ entry_longs word → size ≡ 4 * size_longs word → IsRow h start (i + 1) (at + count) (base + size)
+  row_next count size l s = record {
+    stands = subst (λ (n : ℕ). RowStandsAt bytes t h (i + 1) (at + n)) (sym l) (stands_next bytes t h i at r.stands more word extra reads_word reads_extra);
+    base_is = omega (arith, r.base_is, declared_is, s);
+  }
+
+-- ---- what a row says of its hunk's place
+
+packed_some : (start before size : ℕ) → start + before < 2 ^ 32 → start + before + size ≤ 2 ^ 32 →
+    ◌≡◌ {A = Option ℕ} (if nat_le (2 ^ 32) (start + before) then None else if nat_lt (2 ^ 32) (start + before + size) then None else Some (start + before)) (Some (start + before))
+packed_some start before size a b = grind (arith, nat_tests)
+
+packed_none : (start before size : ℕ) → (2 ^ 32 ≤ start + before) ⊎ (2 ^ 32 < start + before + size) →
+    ◌≡◌ {A = Option ℕ} (if nat_le (2 ^ 32) (start + before) then None else if nat_lt (2 ^ 32) (start + before + size) then None else Some (start + before)) None
+packed_none start before size (inl a) = grind (arith, nat_tests)
+packed_none start before size (inr b) = grind (arith, nat_tests)
+
+declared_more : (t : List TableEntry) (i : ℕ) → i < length t → declared_bytes (take (i + 1) t) ≡ declared_bytes (take i t) + 4 * size_longs (get_or t i no_entry).word
+declared_more t i inside = ap (λ (n : ℕ). declared_bytes (take n t)) (add-one i) ∙ go t i inside
+  where
+    go : (t : List TableEntry) (i : ℕ) → i < length t → declared_bytes (take (suc i) t) ≡ declared_bytes (take i t) + 4 * size_longs (get_or t i no_entry).word
+    go [] i less = absurd (omega (arith, less))
+    go (x ∷ t) zero less = omega (arith, declared-cons x [])
+    go (x ∷ t) (suc i) less = omega (arith, declared-cons x (take (suc i) t), declared-cons x (take i t), go t i (omega (arith, less)))
+
+module _ (t : List TableEntry) (start i b b2 : ℕ) (inside : i < length t) (here : b ≡ start + declared_bytes (take i t)) (behind : b2 ≡ start + declared_bytes (take (i + 1) t)) where
+  size : ℕ
+  size = 4 * size_longs (get_or t i no_entry).word
+
+  pub placed_at : b < 2 ^ 32 → b2 ≤ 2 ^ 32 → base_at (packed_from start) t i ≡ Some b
+  placed_at low fits =
+      packed_some start (declared_bytes (take i t)) (4 * size_longs (get_or t i no_entry).word) (omega (arith, low, here)) (omega (arith, fits, behind, declared_more t i inside)) ∙ ap (λ (n : ℕ). Some n) (sym here)
+
+  pub unplaced_at : (2 ^ 32 ≤ b) ⊎ (2 ^ 32 < b2) → base_at (packed_from start) t i ≡ None
+  unplaced_at (inl high) = packed_none start (declared_bytes (take i t)) (4 * size_longs (get_or t i no_entry).word) (inl (omega (arith, high, here)))
+  unplaced_at (inr past) = packed_none start (declared_bytes (take i t)) (4 * size_longs (get_or t i no_entry).word) (inr (omega (arith, past, behind, declared_more t i inside)))
+
+-- ---- the bases by the longwords
+
+packed_length : (start : ℕ) (t : List TableEntry) → length (packed_after start t) ≡ length t
+packed_length start [] = refl
+packed_length start (e ∷ t) = omega (arith, packed_length (start + 4 * size_longs e.word) t)
+
+packed_get : (start : ℕ) (t : List TableEntry) (i : ℕ) → i < length t → get_or (packed_after start t) i 0 ≡ start + declared_bytes (take i t)
+packed_get start [] i inside = absurd (omega (arith, inside))
+packed_get start (e ∷ t) zero inside = omega arith
+packed_get start (e ∷ t) (suc i) inside = packed_get (start + 4 * size_longs e.word) t i (omega (arith, inside)) ∙ omega (arith, declared-cons e (take i t))
+
+module _ (bytes : List ℕ) (t : List TableEntry) (h : BeginsWithHeader bytes t) (start hunks : ℕ) (many : hunks ≡ length t) where
+  bases_are : bases_in start hunks bytes ≡ packed_after start t
+  unfolding bases_in
+  bases_are =
+      ap₂ (λ (n : ℕ) (ws : List ℕ). packed_after start (table_cut n ws).value) many (stands_first bytes t h ∙ ap (λ (ws : List ℕ). ws ++ longs h.rest) (entries_are t))
+      ∙ ap (λ (c : Cut (List TableEntry)). packed_after start c.value) (table_cut_is t (longs h.rest) h.is_table.each)
+
+  pub bases_length : length (bases_in start hunks bytes) ≡ length t
+  bases_length = ap (λ (l : List ℕ). length l) bases_are ∙ packed_length start t
+
+  pub bases_get : (i : ℕ) → i < length t → get_or (bases_in start hunks bytes) i 0 ≡ start + declared_bytes (take i t)
+  bases_get i inside = ap (λ (l : List ℕ). get_or l i 0) bases_are ∙ packed_get start t i inside
+
+-- ---- the hunks that were placed
+
+pub record PackedSoFar {bytes : List ℕ} {t : List TableEntry} (h : BeginsWithHeader bytes t) (start : ℕ) (marks : List Mark) (hunk at base : ℕ) : Type 0 where
+  pub is_row : IsRow h start hunk at base
+  pub near : at ≤ 5 + 2 * hunk
+  pub are_marks : AreMarksTo h start marks hunk
+  pub size : length marks ≡ most_marks
+  pub placed : (i : ℕ) → i < hunk → base_at (packed_from start) t i ≡ Some (start + declared_bytes (take i t))
+  pub each : (i : ℕ) → i < hunk → start + declared_bytes (take i t) < 2 ^ 32
+
+pub none_packed : (bytes : List ℕ) (t : List TableEntry) (h : BeginsWithHeader bytes t) (start base : ℕ) (marks : List Mark) → base ≡ start → length marks ≡ most_marks → PackedSoFar h start marks 0 5 base
+none_packed bytes t h start base marks e n = record {
+  is_row = record { stands = stands_first bytes t h; base_is = omega (arith, e) };
+  near = omega arith;
+  are_marks = λ k less. absurd (omega (arith, less));
+  size = n;
+  placed = λ i less. absurd (omega (arith, less));
+  each = λ i less. absurd (omega (arith, less));
+}
+
+module _ (bytes : List ℕ) (t : List TableEntry) (h : BeginsWithHeader bytes t) (start : ℕ) (marks : List Mark) (hunk at base : ℕ) (s : PackedSoFar h start marks hunk at base) (inside : hunk < length t) (at2 base2 : ℕ) (r : IsRow h start (hunk + 1) at2 base2) where
+  pub packed_more : (marks2 : List Mark) → at2 ≤ at + 2 → AreMarksTo h start marks2 (hunk + 1) → length marks2 ≡ length marks → base < 2 ^ 32 → base2 ≤ 2 ^ 32 → PackedSoFar h start marks2 (hunk + 1) at2 base2
+  packed_more marks2 near are n low fits = record {
+    is_row = r;
+    near = omega (arith, near, s.near);
+    are_marks = are;
+    size = n ∙ s.size;
+    placed = λ i less. by_order i (ltb i hunk) refl less;
+    each = λ i less. each_by i (ltb i hunk) refl less;
+  }
+    where
+      by_order : (i : ℕ) (b : Bool) → ltb i hunk ≡ b → i < hunk + 1 → base_at (packed_from start) t i ≡ Some (start + declared_bytes (take i t))
+      by_order i true e less = s.placed i (ltb-true i hunk e)
+      by_order i false e less =
+          let above : hunk ≤ i = ltb-false i hunk e in
+          let same : i ≡ hunk = omega (arith, above, less) in
+          subst (λ (k : ℕ). base_at (packed_from start) t k ≡ Some (start + declared_bytes (take k t))) (sym same)
+          (placed_at t start hunk base base2 inside s.is_row.base_is r.base_is low fits ∙ ap (λ (k : ℕ). Some k) s.is_row.base_is)
+
+      each_by : (i : ℕ) (b : Bool) → ltb i hunk ≡ b → i < hunk + 1 → start + declared_bytes (take i t) < 2 ^ 32
+      each_by i true e less = s.each i (ltb-true i hunk e)
+      each_by i false e less =
+          let above : hunk ≤ i = ltb-false i hunk e in
+          let same : i ≡ hunk = omega (arith, above, less) in
+          subst (λ (k : ℕ). start + declared_bytes (take k t) < 2 ^ 32) (sym same) (omega (arith, low, s.is_row.base_is))
+
+  pub packed_not : (2 ^ 32 ≤ base) ⊎ (2 ^ 32 < base2) → IsFirstUnplaced (packed_from start) t hunk
+  packed_not why = record {
+    inside = inside;
+    none = unplaced_at t start hunk base base2 inside s.is_row.base_is r.base_is why;
+    first = λ i less. let some = s.placed i less in cc;
+  }
+
+module _ (bytes : List ℕ) (t : List TableEntry) (h : BeginsWithHeader bytes t) (start hunks : ℕ) (marks : List Mark) (hunk at base : ℕ) (many : hunks ≡ length t) (all : length t ≤ hunk) (s : PackedSoFar h start marks hunk at base) where
+  pub all_packed : AreBases (packed_from start) t (bases_in start hunks bytes)
+  all_packed = record {
+    count = bases_length bytes t h start hunks many;
+    each = λ i less. s.placed i (omega (arith, all, less)) ∙ ap (λ (n : ℕ). Some n) (sym (bases_get bytes t h start hunks many i less));
+  }
+
+  pub are_packed : start < 2 ^ 32 → ArePacked bytes hunks start marks
+  are_packed few = record {
+    table = t;
+    header = h;
+    hunks_are = many;
+    few = few;
+    each = λ i less. s.each i (omega (arith, all, less, many));
+    are_marks = λ k less. s.are_marks k (omega (arith, all, less, many));
+    size = s.size;
+  }
+
+-- ---- the bases near a mark
+
+-- Those of the hunks before this one stand there, and its row is the next.
+pub record NearSoFar {bytes : List ℕ} {hunks start : ℕ} {marks : List Mark} (p : ArePacked bytes hunks start marks) (number : ℕ) (near : List ℕ) (hunk at base : ℕ) : Type 0 where
+  pub is_row : IsRow p.header start hunk at base
+  pub are_near : AreNearTo (bases_in start hunks bytes) number near hunk
+
+-- one base more stands there
+near_more : (bases near : List ℕ) (number hunk base : ℕ) → hunk / hunks_a_mark ≡ number → length near ≡ hunks_a_mark → base ≡ get_or bases hunk 0 → AreNearTo bases number near hunk →
+    AreNearTo bases number (set near (hunk % hunks_a_mark) base) (hunk + 1)
+near_more bases near number hunk base here long is are i less same = by_order (ltb i hunk) refl
+  where
+    by_order : (b : Bool) → ltb i hunk ≡ b → get_or (set near (hunk % hunks_a_mark) base) (i % hunks_a_mark) 0 ≡ get_or bases i 0
+    by_order true e =
+        let before : i < hunk = ltb-true i hunk e in
+        get_or-set_other near (hunk % hunks_a_mark) (i % hunks_a_mark) base 0 (λ k. omega (arith, before, same, here, k)) ∙ are i before same
+    by_order false e =
+        let above : hunk ≤ i = ltb-false i hunk e in
+        let last : i ≡ hunk = omega (arith, above, less) in
+        subst (λ (k : ℕ). get_or (set near (hunk % hunks_a_mark) base) (k % hunks_a_mark) 0 ≡ get_or bases k 0) (sym last)
+        (get_or-set_same near (hunk % hunks_a_mark) base 0 (omega (arith, long)) ∙ is)
+
+module _ (bytes : List ℕ) (hunks start : ℕ) (marks : List Mark) (p : ArePacked bytes hunks start marks) where
+  pub has_base : (hunk : ℕ) → hunk < length (bases_in start hunks bytes) → hunk < hunks
+  has_base hunk less = omega (arith, less, bases_length bytes p.table p.header start hunks p.hunks_are, p.hunks_are)
+
+  module _ (number : ℕ) (less : hunks_a_mark * number < hunks) where
+    pub mark_inside : number < length marks
+    mark_inside = omega (arith, less, p.hunks_are, p.header.is_table.most, p.size)
+
+    pub none_near : (near : List ℕ) (base : ℕ) → base ≡ (get_or marks number no_mark).base → NearSoFar p number near (hunks_a_mark * number) (get_or marks number no_mark).longword base
+    none_near near base e = record {
+      is_row = subst (IsRow p.header start (hunks_a_mark * number) (get_or marks number no_mark).longword) (sym e) (p.are_marks number less);
+      are_near = λ i before same. absurd (omega (arith, before, same));
+    }
+
+  module _ (number : ℕ) (near : List ℕ) (hunk at base : ℕ) (s : NearSoFar p number near hunk at base) (less : hunk < hunks) where
+    inside : hunk < length p.table
+    inside = omega (arith, less, p.hunks_are)
+
+    pub base_low : base < 2 ^ 32
+    base_low = omega (arith, s.is_row.base_is, p.each hunk less)
+
+    pub has_row : HasRow bytes (record { longword = at; base = base })
+    has_row = record { table = p.table; header = p.header; start = start; hunk = hunk; few = p.few; inside = inside; is_row = s.is_row }
+
+    pub near_next : (at2 base2 : ℕ) → hunk / hunks_a_mark ≡ number → length near ≡ hunks_a_mark → (hunk < length p.table → IsRow p.header start hunk at base → IsRow p.header start (hunk + 1) at2 base2) → NearSoFar p number (set near (hunk % hunks_a_mark) base) (hunk + 1) at2 base2
+    near_next at2 base2 here long next = record {
+      is_row = next inside s.is_row;
+      are_near = near_more (bases_in start hunks bytes) near number hunk base here long (s.is_row.base_is ∙ sym (bases_get bytes p.table p.header start hunks p.hunks_are hunk inside)) s.are_near;
+    }
+
+-- ---- lists of bases
+
+slice_none : (xs : List ℕ) → slice_get xs (length xs) ≡ None
+slice_none [] = refl
+slice_none (x ∷ xs) = slice_none xs
+
+slice_some : (xs : List ℕ) (i : ℕ) → i < length xs → slice_get xs i ≡ Some (get_or xs i 0)
+slice_some [] i less = absurd (omega (arith, less))
+slice_some (x ∷ xs) zero less = refl
+slice_some (x ∷ xs) (suc i) less = slice_some xs i (omega (arith, less))
+
+take_get : (xs : List ℕ) (n i : ℕ) → i < n → get_or (take n xs) i 0 ≡ get_or xs i 0
+take_get xs zero i less = absurd (omega (arith, less))
+take_get [] (suc n) i less = refl
+take_get (x ∷ xs) (suc n) zero less = refl
+take_get (x ∷ xs) (suc n) (suc i) less = take_get xs n i (omega (arith, less))
+
+pub listed_bases : (bytes bases : List ℕ) (size : HeaderSize) → HasHeaderSize (2 ^ 64 - 1) bytes size → size.hunks ≤ length bases → AreBasesOf (listed_in bases) bytes (take size.hunks bases)
+listed_bases bytes bases size s room t h =
+    let many : size.hunks ≡ length t = s.hunks_are ∙ ap (λ (u : List TableEntry). length u) (same_header bytes s.table t s.header h) in
+    record {
+      count = length-take-le size.hunks bases room ∙ many;
+      each = λ i less. slice_some bases i (omega (arith, less, many, room)) ∙ ap (λ (k : ℕ). Some k) (sym (take_get bases size.hunks i (omega (arith, less, many))));
+    }
+
+pub listed_not : (bases : List ℕ) (t : List TableEntry) → length bases < length t → IsFirstUnplaced (listed_in bases) t (length bases)
+listed_not bases t few = record {
+  inside = few;
+  none = slice_none bases;
+  first = λ i less. let some = slice_some bases i less in cc;
+}

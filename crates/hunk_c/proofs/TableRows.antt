@@ -1,0 +1,95 @@
+-- The rows of a table, read from the bytes that begin with its header.
+use Rattle.std.proofs.Common.{◌≡◌, ℕ, zero, suc, ◌+◌, ◌*◌, ◌<◌, ◌≤◌, Bool, true, false, List, [], ◌∷◌, ◌++◌, length, drop, get_or, Some, refl, sym, ap, subst, ◌∙◌, append_assoc, add-one, arith, if◌then◌else◌}
+use Rattle.std.specs.List.{AllByRecursion, slice_get}
+use Rattle.std.proofs.lemmas.List.{drop-drop, get_or-drop, length-append, length-drop}
+use Rattle.hunk_words.specs.Bits.{has_both_bits}
+use Rattle.hunk_words.specs.Longs.{longs}
+use Rattle.hunk_words.proofs.LongLaws.{longs-bytes_of, length-longs}
+use Rattle.hunk_files.specs.LoadFile.{TableEntry, IsTableEntry}
+use Rattle.hunk_files.proofs.TableReading.{entries_words, entries_more, entry_words}
+use Rattle.hunk_scatter.specs.HeaderBytes.{BeginsWithHeader, header_words}
+use Rattle.hunk_scatter.proofs.HeaderStops.{header_longs}
+use Rattle.hunk_c.specs.Packs.{RowStandsAt}
+
+-- an entry, and those behind it
+record EntryAt (t : List TableEntry) (i : ℕ) : Type 0 where
+  pub entry : TableEntry
+  pub is : slice_get t i ≡ Some entry
+  pub behind : drop i t ≡ entry ∷ drop (suc i) t
+  pub fits : AllByRecursion IsTableEntry t → IsTableEntry entry
+
+entry_at : (t : List TableEntry) (i : ℕ) → i < length t → EntryAt t i
+entry_at [] i inside = absurd (omega arith)
+entry_at (e ∷ t) zero inside = record { entry = e; is = refl; behind = refl; fits = λ all. all.0 }
+entry_at (e ∷ t) (suc i) inside =
+    let k = entry_at t i (omega arith) in
+    record { entry = k.entry; is = k.is; behind = k.behind; fits = λ all. k.fits all.1 }
+
+pub stands_first : (bytes : List ℕ) (t : List TableEntry) (h : BeginsWithHeader bytes t) → RowStandsAt bytes t h 0 5
+stands_first bytes t h =
+    let split : longs bytes ≡ header_words t ++ longs h.rest = ap longs h.split ∙ longs-bytes_of (header_words t) h.rest (header_longs t h.is_table) in
+    ap (λ (l : List ℕ). drop 5 l) split
+
+module _ (bytes : List ℕ) (t : List TableEntry) (h : BeginsWithHeader bytes t) (i at : ℕ) (s : RowStandsAt bytes t h i at) (more : i < length t) where
+  e : EntryAt t i
+  e = entry_at t i more
+
+  behind : List ℕ
+  behind = entries_words (drop (suc i) t) ++ longs h.rest
+
+  here : (b : Bool) → has_both_bits e.entry.word ≡ b → drop at (longs bytes) ≡ (e.entry.word ∷ (if b then e.entry.extra ∷ [] else [])) ++ behind
+  unfolding behind
+  here b both =
+      s
+      ∙ ap (λ (l : List TableEntry). entries_words l ++ longs h.rest) e.behind
+      ∙ ap (λ (l : List ℕ). l ++ longs h.rest) (entries_more e.entry (drop (suc i) t) ∙ ap (λ (l : List ℕ). l ++ entries_words (drop (suc i) t)) (entry_words e.entry b both))
+      ∙ append_assoc (e.entry.word ∷ (if b then e.entry.extra ∷ [] else [])) (entries_words (drop (suc i) t)) (longs h.rest)
+
+  longword : (k : ℕ) → get_or (longs bytes) (at + k) 0 ≡ get_or (drop at (longs bytes)) k 0
+  longword k = sym (get_or-drop at (longs bytes) k 0)
+
+  word_by : (b : Bool) → has_both_bits e.entry.word ≡ b → get_or (longs bytes) at 0 ≡ e.entry.word
+  word_by b both = ap (λ (n : ℕ). get_or (longs bytes) n 0) (omega arith) ∙ longword 0 ∙ ap (λ (l : List ℕ). get_or l 0 0) (here b both)
+
+  word_is : get_or (longs bytes) at 0 ≡ e.entry.word
+  word_is = word_by (has_both_bits e.entry.word) refl
+
+  extra_by : (b : Bool) → has_both_bits e.entry.word ≡ b → (if b then get_or (longs bytes) (at + 1) 0 else 0) ≡ e.entry.extra
+  extra_by true both = longword 1 ∙ ap (λ (l : List ℕ). get_or l 1 0) (here true both)
+  extra_by false both = sym ((e.fits h.is_table.each).2 both)
+
+  room : (b : Bool) → has_both_bits e.entry.word ≡ b → 4 * at + (if b then 8 else 4) ≤ length bytes
+  room true both = omega (arith, ap length (here true both), length-append (e.entry.word ∷ e.entry.extra ∷ []) behind, length-drop at (longs bytes), length-longs bytes)
+  room false both = omega (arith, ap length (here false both), length-append (e.entry.word ∷ []) behind, length-drop at (longs bytes), length-longs bytes)
+
+  -- its longwords
+  pub word_room : 4 * at + 4 ≤ length bytes
+  word_room = go (has_both_bits e.entry.word) refl
+    where
+      go : (b : Bool) → has_both_bits e.entry.word ≡ b → 4 * at + 4 ≤ length bytes
+      go true both = omega (arith, room true both)
+      go false both = omega (arith, room false both)
+
+  pub extra_room : has_both_bits (get_or (longs bytes) at 0) ≡ true → 4 * at + 8 ≤ length bytes
+  extra_room both = omega (arith, room true (ap has_both_bits (sym word_is) ∙ both))
+
+  -- The row that was read is that of the table, and the next stands behind it.
+  module _ (word extra : ℕ) (reads_word : word ≡ get_or (longs bytes) at 0) (reads_extra : extra ≡ (if has_both_bits (get_or (longs bytes) at 0) then get_or (longs bytes) (at + 1) 0 else 0)) where
+    pub entry_is : slice_get t i ≡ Some (record { word = word; extra = extra })
+    entry_is =
+        let w : word ≡ e.entry.word = reads_word ∙ word_is in
+        let x : extra ≡ e.entry.extra =
+        reads_extra ∙ ap (λ (n : ℕ). if has_both_bits n then get_or (longs bytes) (at + 1) 0 else 0) word_is ∙ extra_by (has_both_bits e.entry.word) refl in
+        let same : ◌≡◌ {A = TableEntry} (record { word = word; extra = extra }) e.entry = λ k. record { word = w k; extra = x k } in
+        e.is ∙ ap (λ (y : TableEntry). Some y) (sym same)
+
+    pub stands_next : RowStandsAt bytes t h (i + 1) (at + (if has_both_bits word then 2 else 1))
+    unfolding behind
+    stands_next = subst (λ (n : ℕ). RowStandsAt bytes t h n (at + (if has_both_bits word then 2 else 1))) (sym (add-one i)) (by_bits (has_both_bits word) refl)
+      where
+        word_at : word ≡ e.entry.word
+        word_at = reads_word ∙ word_is
+
+        by_bits : (b : Bool) → has_both_bits word ≡ b → RowStandsAt bytes t h (suc i) (at + (if b then 2 else 1))
+        by_bits true both = sym (drop-drop 2 at (longs bytes)) ∙ ap (λ (l : List ℕ). drop 2 l) (here true (ap has_both_bits (sym word_at) ∙ both))
+        by_bits false both = sym (drop-drop 1 at (longs bytes)) ∙ ap (λ (l : List ℕ). drop 1 l) (here false (ap has_both_bits (sym word_at) ∙ both))

@@ -1,0 +1,130 @@
+//! Files without names, symbols and debug data.
+ghost use Rattle.std.specs.Prelude.{◌≡◌, ◌<◌, ◌≤◌, ◌^◌, ◌++◌, ℕ, IfNone, IfSome, drop, length};
+ghost use Rattle.std.proofs.Common.{◌∙◌, refl};
+ghost use Rattle.hunk_files.specs.FileView.{file_of};
+ghost use Rattle.hunk_files.specs.HunkFile.{file_bytes};
+ghost use Rattle.hunk_c.specs.Copying.{Copies, copies_none, copies_more};
+ghost use Rattle.hunk_c.specs.Counting.{Counts, counts_none, counts_more};
+ghost use Rattle.hunk_c.specs.Strips.{Strips, StripsWhatFits, stripped_bytes};
+
+use crate::answer::{Answer, done, no_room, refused};
+use crate::file::hunks_in;
+use hunk_files::{FileView, TakesBytes};
+
+/// Writes the object file that the bytes are, or the load file that they begin with, to the text,
+/// without its NAME, SYMBOL, DEBUG and ADVISORY blocks.
+///
+/// What follows a load file is left out. The text after what is written is as it was, and after a
+/// refusal all of it is. It answers the number of hunks of a load file, and 0 of an object file,
+/// the bytes of the file, and those of what was written, which are no more. Where the text is
+/// shorter than the file, what stays is counted before it is copied.
+///
+/// # Errors
+///
+/// The first fault of the bytes; `NO_ROOM` where the text is too short.
+#[unsafe(no_mangle)]
+pub extern "C" fn hunk_strip(bytes: &[u8], text: &mut [u8]) -> Answer
+    ensures outcome { Strips bytes.now text.old text.new result }
+    ensures succeeds { StripsWhatFits (length text.old) bytes.now result }
+{
+    let file = match FileView::read(bytes) {
+        Ok(file) => file,
+        Err(fault) => return refused(fault),
+    };
+    let hunks = hunks_in(&file);
+    let size = bytes.len() as u64 - file.rest();
+    if let Some(count) = lacked(&file, size, text.len() as u64) {
+        return no_room(hunks, size, count);
+    }
+    let count = copy_stripped(&file, text);
+    done(hunks, size, count as u64)
+}
+
+/// How many bytes the file, which has `size` of them, has without those blocks, where there is no
+/// room for as many.
+fn lacked(file: &FileView<'_>, size: u64, room: u64) -> Option<u64>
+    requires size { size ≡ length (file_bytes (file_of file.now)) }
+    ensures none { IfNone result (length (stripped_bytes (file_of file.now)) ≤ room) }
+    ensures some { IfSome result (λ count. (count ≡ length (stripped_bytes (file_of file.now)))
+        × (room < count)) }
+{
+    // What is stripped is no longer than the file.
+    if size <= room {
+        return None;
+    }
+    let count = count_stripped(file);
+    if count <= room {
+        return None;
+    }
+    Some(count)
+}
+
+/// How many bytes the file has without those blocks.
+fn count_stripped(file: &FileView<'_>) -> u64
+    requires { length (stripped_bytes (file_of file.now)) < 2 ^ 64 }
+    ensures { result ≡ length (stripped_bytes (file_of file.now)) }
+{
+    let mut counter = ByteCount { count: 0 };
+    file.strip_with(&mut counter);
+    counter.count
+}
+
+/// Writes the file without those blocks to the front of the text, and gives the number of its
+/// bytes. The text behind them is as it was.
+#[tactic(auto, using(crate::proofs::Checked::copied))]
+fn copy_stripped(file: &FileView<'_>, text: &mut [u8]) -> usize
+    requires { length (stripped_bytes (file_of file.now)) ≤ length text.old }
+    ensures count { result ≡ length (stripped_bytes (file_of file.now)) }
+    ensures text { text.new ≡ stripped_bytes (file_of file.now) ++ drop result text.old }
+{
+    let mut copier = Copier { text, at: 0 };
+    file.strip_with(&mut copier);
+    copier.at
+}
+
+/// Counts bytes, modulo 2 ^ 64.
+#[derive(Drop)]
+struct ByteCount {
+    count: u64,
+}
+
+impl TakesBytes for ByteCount {
+    ghost takes = { λ a xs b. Counts a.count xs b.count };
+
+    ghost none = { λ s. counts_none ℕ s.count };
+
+    ghost more = { λ a b c xs ys. counts_more a.count b.count c.count xs ys };
+
+    fn take(&mut self, bytes: &[u8]) {
+        self.count = self.count.wrapping_add(bytes.len() as u64);
+    }
+}
+
+/// Copies each range behind the one before, unless there is no room for it.
+#[derive(Drop)]
+struct Copier<'t> {
+    text: &'t mut [u8],
+    /// The place of the next range.
+    at: usize,
+}
+
+impl TakesBytes for Copier<'_> {
+    ghost takes = { λ a xs b. (b.text.ghost_name ≡ a.text.ghost_name)
+        × Copies a.text.now a.at xs b.text.now b.at };
+
+    ghost none = { λ s. (refl, copies_none s.text.now s.at) };
+
+    ghost more = { λ a b c xs ys first next. (
+      next.0 ∙ first.0,
+      copies_more a.text.now b.text.now c.text.now a.at b.at c.at xs ys first.1 next.1,
+    ) };
+
+    fn take(&mut self, bytes: &[u8]) {
+        let room = self.text.len();
+        if self.at <= room && bytes.len() <= room - self.at {
+            let end = self.at + bytes.len();
+            self.text[self.at..end].copy_from_slice(bytes);
+            self.at = end;
+        }
+    }
+}

@@ -1,6 +1,0 @@
-use Rattle.std.proofs.Common.{Some}
-use Rattle.hunk_callers.proofs.libraries.tour.Given as goal
-
--- what the writer has taken
-abbrev pub ghost-new : goal.ghost-new
-ghost-new a = Some a.out.now.sink.writer.items

@@ -1,0 +1,278 @@
+//! The command that clap reads the words by, with its help.
+ghost use Rattle.std.specs.Prelude.{◌≡◌, IfOk, IsOkAnd, codes, false};
+ghost use Rattle.clap.specs.Words.{app_of, new_app, new_rule, rule_of, with_subcommand};
+ghost use Rattle.clap.specs.declared.builder.command.Command.TheViews.{out-Command as fields_of};
+ghost use Rattle.hunk_command_line.specs.Command as spec;
+
+use clap::{Arg, ArgAction, Command};
+use std::alloc::{AllocError, Global};
+
+const AFTER_HELP: &str = "\
+Without a command, standard input is read as hexadecimal text and relocated
+to the address 00000000.
+
+Examples:
+  hunkinfo show prog
+  hunkinfo validate part.o
+  hunkinfo relocate --base 00021000 --budget 65536 prog
+  hunkinfo rewrite --strip prog prog.stripped
+  hunkinfo COMMAND --help
+
+Limits:
+  The input: fewer than 67108864 bytes (64 MiB); for relocate, and as text of
+  --hex, at most 67108864.
+  File names are UTF-8; `hunkinfo show < FILE` reads a file of any name.
+  relocate holds the bytes that the hunks declare, and 12 for each hunk. The
+  other commands hold the input and lists of its parts: 1.1 to some 20 times
+  the input. With --hex the bytes that the text spells are held in addition.
+
+Exit status:
+  0  done
+  1  the input was rejected, or validate found something
+  2  the command line was rejected
+  3  reading or writing failed
+  4  out of memory";
+
+const AFTER_SHOW: &str = "\
+Examples:
+  hunkinfo show prog
+  hunkinfo show < prog
+  xxd -p prog | hunkinfo show --hex";
+
+const AFTER_VALIDATE: &str = "\
+The exit status is 1 where the file was rejected, or something was found.
+
+Example:
+  hunkinfo validate part.o";
+
+const AFTER_RELOCATE: &str = "\
+The memory of all hunks is allocated at once, when the header has been read: a
+small file may take the whole budget.
+
+Example, at the address 0x00021000 and in at most 65536 bytes:
+  hunkinfo relocate --base 00021000 --budget 65536 prog";
+
+const AFTER_REWRITE: &str = "\
+OUT is overwritten, and left incomplete if writing fails. It must not be the
+file that standard output goes to. To replace a file, write a new one, and
+rename it if that succeeded:
+  hunkinfo rewrite IN IN.new && mv IN.new IN
+
+Example, without names, symbols and debug data:
+  hunkinfo rewrite --strip prog prog.stripped";
+
+/// `--name`.
+fn flag<'a>(alloc: Global, name: &'a str, help: &'a str) -> Arg<'a>
+    ensures rule { rule_of result ≡ spec.flag name.entry.now }
+    ensures local { result.global ≡ false }
+{
+    Arg::new(alloc, name)
+        .long(name)
+        .action(ArgAction::SetTrue)
+        .help(help)
+}
+
+/// `--name VALUE`.
+fn option<'a>(alloc: Global, name: &'a str, value: &'a str, help: &'a str) -> Arg<'a>
+    ensures rule { rule_of result ≡ spec.option name.entry.now }
+    ensures local { result.global ≡ false }
+{
+    Arg::new(alloc, name)
+        .long(name)
+        .value_name(value)
+        .help(help)
+}
+
+/// A word at its place.
+fn positional<'a>(alloc: Global, name: &'a str, help: &'a str) -> Arg<'a>
+    ensures rule { rule_of result ≡ new_rule name.entry.now }
+    ensures local { result.global ≡ false }
+{
+    Arg::new(alloc, name).help(help)
+}
+
+/// The argument, which has to be there.
+fn mandatory<'a>(arg: Arg<'a>) -> Arg<'a>
+    ensures rule { rule_of result ≡ spec.mandatory (rule_of arg.entry) }
+    ensures local { result.global ≡ arg.entry.global }
+{
+    arg.required(true)
+}
+
+fn hex_flag<'a>(alloc: Global) -> Arg<'a>
+    ensures rule { rule_of result ≡ spec.flag (codes "hex") }
+    ensures local { result.global ≡ false }
+{
+    flag(
+        alloc,
+        "hex",
+        "The input is hexadecimal text; spaces, tabs and line ends in it are ignored",
+    )
+}
+
+fn file_positional<'a>(alloc: Global) -> Arg<'a>
+    ensures rule { rule_of result ≡ new_rule (codes "FILE") }
+    ensures local { result.global ≡ false }
+{
+    positional(
+        alloc,
+        "FILE",
+        "The file to read; without it, standard input is read",
+    )
+}
+
+/// A command that does not have its arguments yet, with what its help says before and after them.
+fn command<'a>(alloc: Global, name: &'a str, about: &'a str, after: &'a str) -> Command<'a>
+    ensures app { app_of result ≡ new_app name.entry.now }
+    ensures local { (fields_of result).has_globals ≡ false }
+{
+    Command::new(alloc, name).about(about).after_help(after)
+}
+
+/// A command that has no options of its own: NAME [--hex] [FILE].
+fn plain_command<'a>(
+    alloc: Global,
+    name: &'a str,
+    about: &'a str,
+    after: &'a str,
+) -> Result<Command<'a>, AllocError>
+    ensures app { IfOk result (λ command. app_of command ≡ spec.plain_command name.entry.now) }
+    ensures local { IfOk result (λ command. (fields_of command).has_globals ≡ false) }
+{
+    command(alloc, name, about, after)
+        .arg(hex_flag(alloc))?
+        .arg(file_positional(alloc))
+}
+
+fn show<'a>(alloc: Global) -> Result<Command<'a>, AllocError>
+    ensures app { IfOk result (λ command. app_of command ≡ spec.plain_command (codes "show")) }
+    ensures local { IfOk result (λ command. (fields_of command).has_globals ≡ false) }
+{
+    plain_command(
+        alloc,
+        "show",
+        "Lists the hunks and blocks of a load file or an object file",
+        AFTER_SHOW,
+    )
+}
+
+fn validate<'a>(alloc: Global) -> Result<Command<'a>, AllocError>
+    ensures app { IfOk result (λ command. app_of command ≡ spec.plain_command (codes "validate")) }
+    ensures local { IfOk result (λ command. (fields_of command).has_globals ≡ false) }
+{
+    plain_command(
+        alloc,
+        "validate",
+        "Checks a file, and lists relocations and references that are out of range",
+        AFTER_VALIDATE,
+    )
+}
+
+fn base_option<'a>(alloc: Global) -> Arg<'a>
+    ensures rule { rule_of result ≡ spec.option (codes "base") }
+    ensures local { result.global ≡ false }
+{
+    option(
+        alloc,
+        "base",
+        "HEX",
+        "The address of the first hunk: exactly eight hexadecimal digits",
+    )
+}
+
+fn budget_option<'a>(alloc: Global) -> Arg<'a>
+    ensures rule { rule_of result ≡ spec.option (codes "budget") }
+    ensures local { result.global ≡ false }
+{
+    option(
+        alloc,
+        "budget",
+        "N",
+        "The most bytes that the hunks may have together, in decimal [default: 16777216]",
+    )
+}
+
+fn relocate<'a>(alloc: Global) -> Result<Command<'a>, AllocError>
+    ensures app { IfOk result (λ command. app_of command ≡ spec.relocate_command) }
+    ensures local { IfOk result (λ command. (fields_of command).has_globals ≡ false) }
+{
+    let about = "Loads a load file at an address, and prints the bytes of its hunks";
+    command(alloc, "relocate", about, AFTER_RELOCATE)
+        .arg(hex_flag(alloc))?
+        .arg(mandatory(base_option(alloc)))?
+        .arg(budget_option(alloc))?
+        .arg(file_positional(alloc))
+}
+
+fn strip_flag<'a>(alloc: Global) -> Arg<'a>
+    ensures rule { rule_of result ≡ spec.flag (codes "strip") }
+    ensures local { result.global ≡ false }
+{
+    flag(
+        alloc,
+        "strip",
+        "Leave out names, symbols, debug data and advisory blocks",
+    )
+}
+
+fn input_positional<'a>(alloc: Global) -> Arg<'a>
+    ensures rule { rule_of result ≡ new_rule (codes "IN") }
+    ensures local { result.global ≡ false }
+{
+    positional(alloc, "IN", "The file to read")
+}
+
+fn output_positional<'a>(alloc: Global) -> Arg<'a>
+    ensures rule { rule_of result ≡ new_rule (codes "OUT") }
+    ensures local { result.global ≡ false }
+{
+    positional(
+        alloc,
+        "OUT",
+        "The file to write; it is not touched where IN is rejected",
+    )
+}
+
+fn rewrite<'a>(alloc: Global) -> Result<Command<'a>, AllocError>
+    ensures app { IfOk result (λ command. app_of command ≡ spec.rewrite_command) }
+    ensures local { IfOk result (λ command. (fields_of command).has_globals ≡ false) }
+{
+    let about = "Reads a load file or an object file, and writes it again";
+    command(alloc, "rewrite", about, AFTER_REWRITE)
+        .arg(strip_flag(alloc))?
+        .arg(mandatory(input_positional(alloc)))?
+        .arg(mandatory(output_positional(alloc)))
+}
+
+/// The program, without its subcommands yet.
+fn program<'a>(alloc: Global) -> Command<'a>
+    ensures app { app_of result ≡ spec.program }
+    ensures local { (fields_of result).has_globals ≡ false }
+{
+    Command::new(alloc, "hunkinfo")
+        .about("Lists, checks, relocates and rewrites AmigaDOS hunk files")
+        .after_help(AFTER_HELP)
+        .subcommand_required(true)
+}
+
+/// The program with a subcommand more, where there was memory for both.
+fn extended<'a>(
+    program: Command<'a>,
+    subcommand: Result<Command<'a>, AllocError>,
+) -> Result<Command<'a>, AllocError>
+    requires local { IfOk subcommand (λ command. (fields_of command).has_globals ≡ false) }
+    ensures { IfOk result (λ grown. IsOkAnd subcommand.entry
+        (λ command. app_of grown ≡ with_subcommand (app_of program.entry) (app_of command).top)) }
+{
+    program.subcommand(subcommand?)
+}
+
+/// The whole command line: one subcommand, with its flags, options and file names.
+pub(super) fn hunkinfo<'a>(alloc: Global) -> Result<Command<'a>, AllocError>
+    ensures { IfOk result (λ command. app_of command ≡ spec.hunkinfo) }
+{
+    let program = extended(program(alloc), show(alloc))?;
+    let program = extended(program, validate(alloc))?;
+    let program = extended(program, relocate(alloc))?;
+    extended(program, rewrite(alloc))
+}

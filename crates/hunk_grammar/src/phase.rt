@@ -1,0 +1,130 @@
+//! Positions within a hunk, and within a block.
+ghost use Rattle.std.specs.Prelude.{◌≡◌, ◌<◌, ◌^◌};
+ghost use Rattle.hunk_grammar.specs.Positions as positions;
+
+use crate::position::Position;
+use hunk_blocks::Phase;
+
+/// The hunk that is open, without its size.
+#[derive(Clone, Copy, Debug, PartialEq, Eq)]
+pub struct OpenHunk {
+    /// The number of hunks of the file.
+    pub hunks: u32,
+    /// How many hunks come after it.
+    pub ahead: u32,
+    /// Whether its content block came.
+    pub has_content: bool,
+}
+
+impl OpenHunk {
+    /// Behind a block whose last longword stands at this phase.
+    #[inline(always)]
+    pub(crate) fn behind(self, phase: Phase) -> Position
+        ensures { result ≡ positions.behind self phase }
+    {
+        match phase {
+            // The block that ends with its word is END.
+            Phase::FirstBlock | Phase::BlockWord => open_next(self.hunks, self.ahead),
+            Phase::ContentSize | Phase::BssSize | Phase::Content { longs: _, owed: _ } => {
+                let hunk = OpenHunk {
+                    has_content: true,
+                    ..self
+                };
+                Position::Body(hunk, Phase::BlockWord)
+            }
+            _ => Position::Body(self, Phase::BlockWord),
+        }
+    }
+
+    /// The least number of longwords up to the end of the file.
+    #[inline(always)]
+    pub(crate) fn least_longs(self, phase: Phase) -> u64
+        ensures value { result ≡ positions.least_in self phase }
+        ensures positive { 0 < result }
+        ensures bound { result < 2 ^ 35 }
+    {
+        // An END is to come, and before it a block of content with its size.
+        let end = 3 - 2 * u64::from(self.has_content);
+        let hunks = 3 * u64::from(self.ahead);
+        match phase {
+            Phase::FirstBlock | Phase::BlockWord => end + hunks,
+            Phase::NameCount
+            | Phase::LongCount
+            | Phase::GroupCount
+            | Phase::EntryWord
+            | Phase::ExtWord => 1 + end + hunks,
+            Phase::ContentSize | Phase::BssSize => 2 + hunks,
+            Phase::Content { longs: _, owed } => u64::from(owed) + 2 + hunks,
+            Phase::Payload { owed } => u64::from(owed) + 1 + end + hunks,
+            Phase::Target { owed } => u64::from(owed) + 3 + end + hunks,
+            Phase::Offset { target: _, owed } | Phase::Symbol { owed } | Phase::ExtRest { owed } =>
+                { u64::from(owed) + 2 + end + hunks }
+            Phase::ExtFront { owed } => u64::from(owed) + 3 + end + hunks,
+            Phase::ExtCount => 2 + end + hunks,
+        }
+    }
+}
+
+/// The arms of a reader of load files: `$word` at a block word, and else `$at`, a macro, of the
+/// phase. Each phase is written out, so that what `$at` asks of it is compiled for it alone.
+#[macro_export]
+macro_rules! by_phase {
+    ($phase:expr, $word:expr, $at:ident) => {
+        match $phase {
+            $crate::Phase::FirstBlock | $crate::Phase::BlockWord => $word,
+            $crate::Phase::NameCount => $at!($crate::Phase::NameCount),
+            $crate::Phase::LongCount => $at!($crate::Phase::LongCount),
+            $crate::Phase::ContentSize => $at!($crate::Phase::ContentSize),
+            $crate::Phase::BssSize => $at!($crate::Phase::BssSize),
+            $crate::Phase::Content { longs, owed } => $at!($crate::Phase::Content { longs, owed }),
+            $crate::Phase::Payload { owed } => $at!($crate::Phase::Payload { owed }),
+            $crate::Phase::GroupCount => $at!($crate::Phase::GroupCount),
+            $crate::Phase::Target { owed } => $at!($crate::Phase::Target { owed }),
+            $crate::Phase::Offset { target, owed } => $at!($crate::Phase::Offset { target, owed }),
+            $crate::Phase::EntryWord => $at!($crate::Phase::EntryWord),
+            $crate::Phase::Symbol { owed } => $at!($crate::Phase::Symbol { owed }),
+            // Nothing is external in a load file.
+            external => $at!(external),
+        }
+    };
+}
+
+/// `$at`, once for each kind of block that load files have, and for EXT of object files, so that
+/// what it asks of the block word is compiled for that kind alone.
+#[macro_export]
+macro_rules! by_kind {
+    ($kind:expr, $at:expr) => {
+        match $kind {
+            hunk_words::Kind::Name => $at,
+            hunk_words::Kind::Code => $at,
+            hunk_words::Kind::Data => $at,
+            hunk_words::Kind::Bss => $at,
+            hunk_words::Kind::Reloc32 => $at,
+            hunk_words::Kind::Ext => $at,
+            hunk_words::Kind::Symbol => $at,
+            hunk_words::Kind::Debug => $at,
+            hunk_words::Kind::End => $at,
+            _ => $at,
+        }
+    };
+}
+
+/// Where `left` hunks are left. The file ends with the END of its last hunk: this project's own
+/// choice.
+#[inline(always)]
+pub(crate) fn open_next(hunks: u32, left: u32) -> Position
+    ensures { result ≡ positions.open_next hunks left }
+{
+    if left == 0 {
+        Position::Done
+    } else {
+        Position::Body(
+            OpenHunk {
+                hunks,
+                ahead: left - 1,
+                has_content: false,
+            },
+            Phase::FirstBlock,
+        )
+    }
+}

@@ -1,0 +1,189 @@
+//! Positions in a load file.
+ghost use Rattle.std.specs.Prelude.{◌≡◌, ◌≤◌, ◌<◌, ◌^◌, false};
+ghost use Rattle.hunk_grammar.specs.Positions as positions;
+ghost use Rattle.hunk_grammar.specs.Positions.{step, run, pass, least_longs};
+ghost use Rattle.hunk_grammar.specs.Positions.{is_done, is_behind_header, is_between_hunks};
+
+use crate::phase::{OpenHunk, open_next};
+use hunk_blocks::Phase;
+use hunk_words::SizeWord;
+
+/// The longword of the header, counted from 0, that has the number of hunks.
+///
+/// Source: The AmigaDOS Manual. It stands behind the header's word and the empty list of resident
+/// names.
+pub const TABLE_SIZE_AT: usize = 2;
+
+/// The longword of the header, counted from 0, at which the table begins, behind the number of the
+/// last hunk.
+///
+/// Source: The AmigaDOS Manual.
+pub const TABLE_AT: usize = 5;
+
+/// What the next longword of a load file is for.
+///
+/// `hunks` is the number of hunks of the file. `owed` is how many entries of the table follow the
+/// one that the next longword is of.
+#[derive(Clone, Copy, Debug, PartialEq, Eq)]
+pub enum Position {
+    /// The first longword, which says what kind of file it is.
+    FirstLong,
+    /// The list of resident names, which has to be the 0 of an empty one.
+    ResidentName,
+    /// The table size: the number of hunks.
+    TableSize,
+    /// The number of the first hunk, which has to be 0.
+    FirstHunk { hunks: u32 },
+    /// The number of the last hunk, which has to be one less than the number of hunks.
+    LastHunk { hunks: u32 },
+    /// The size word of an entry of the table.
+    SizeWord { hunks: u32, owed: u32 },
+    /// The memory attributes of an entry, behind its size word, which is `word`.
+    Attributes { hunks: u32, word: u32, owed: u32 },
+    /// A longword behind the header: the hunk that it is of, and what it is for there.
+    Body(OpenHunk, Phase),
+    /// The file is whole.
+    Done,
+}
+
+impl Position {
+    /// Behind the table of a file of `hunks` hunks.
+    #[inline(always)]
+    pub fn behind_table(hunks: u32) -> Position
+        ensures { result ≡ positions.open_next hunks hunks }
+    {
+        open_next(hunks, hunks)
+    }
+
+    /// Whether the file is whole.
+    #[inline(always)]
+    pub fn is_done(self) -> bool
+        ensures { result ≡ is_done self }
+    {
+        match self {
+            Position::Done => true,
+            _ => false,
+        }
+    }
+
+    /// Whether the header is whole.
+    #[inline(always)]
+    pub fn is_behind_header(self) -> bool
+        ensures { result ≡ is_behind_header self }
+    {
+        match self {
+            Position::Body(_, _) | Position::Done => true,
+            _ => false,
+        }
+    }
+
+    /// Whether no hunk is open any more: the next opens here, or the file is whole.
+    #[inline(always)]
+    pub fn is_between_hunks(self) -> bool
+        ensures { result ≡ is_between_hunks self }
+    {
+        match self {
+            Position::Body(_, Phase::FirstBlock) | Position::Done => true,
+            _ => false,
+        }
+    }
+
+    /// Behind a longword that is not refused.
+    #[inline(always)]
+    pub fn step(self, word: u32) -> Position
+        ensures { result ≡ step self word }
+    {
+        match self {
+            Position::FirstLong => Position::ResidentName,
+            Position::ResidentName => Position::TableSize,
+            Position::TableSize => Position::FirstHunk { hunks: word },
+            Position::FirstHunk { hunks } => Position::LastHunk { hunks },
+            Position::LastHunk { hunks } => owe_entries(hunks, hunks),
+            Position::SizeWord { hunks, owed } => {
+                if SizeWord::has_extra(word) {
+                    Position::Attributes { hunks, word, owed }
+                } else {
+                    owe_entries(hunks, owed)
+                }
+            }
+            Position::Attributes {
+                hunks,
+                word: _,
+                owed,
+            } => owe_entries(hunks, owed),
+            Position::Body(hunk, phase) => match phase.step(word) {
+                Some(next) => Position::Body(hunk, next),
+                None => hunk.behind(phase),
+            },
+            Position::Done => Position::Done,
+        }
+    }
+
+    /// How many longwords come at least that no test looks at: a content, a payload, or a name with
+    /// its value, as far as it is owed.
+    #[inline(always)]
+    pub fn run(self) -> u64
+        ensures value { result ≡ run self }
+        ensures bound { result ≤ 2 ^ 32 }
+    {
+        match self {
+            Position::Body(_, phase) => phase.run(),
+            _ => 0,
+        }
+    }
+
+    /// Behind `count` longwords of a run.
+    #[inline(always)]
+    pub fn pass(self, count: u64) -> Position
+        requires { count ≤ run self }
+        ensures { result ≡ pass self count }
+    {
+        match self {
+            Position::Body(hunk, phase) if count > 0 => match phase.pass((count - 1) as u32) {
+                Some(next) => Position::Body(hunk, next),
+                None => hunk.behind(phase),
+            },
+            _ => self,
+        }
+    }
+
+    /// The least number of longwords up to the end of the header, or behind it up to the end of the
+    /// file.
+    #[inline(always)]
+    pub fn least_longs(self) -> u64
+        ensures value { result ≡ least_longs self }
+        ensures positive { is_done self ≡ false → 0 < result }
+        ensures bound { result < 2 ^ 35 }
+    {
+        match self {
+            Position::FirstLong => 6,
+            Position::ResidentName => 5,
+            Position::TableSize => 4,
+            Position::FirstHunk { hunks } => u64::from(hunks) + 2,
+            Position::LastHunk { hunks } => u64::from(hunks) + 1,
+            Position::SizeWord { hunks: _, owed }
+            | Position::Attributes {
+                hunks: _,
+                word: _,
+                owed,
+            } => u64::from(owed) + 1,
+            Position::Body(hunk, phase) => hunk.least_longs(phase),
+            Position::Done => 0,
+        }
+    }
+}
+
+/// Where `owed` entries of the table are still to come.
+#[inline(always)]
+fn owe_entries(hunks: u32, owed: u32) -> Position
+    ensures { result ≡ positions.owe_entries hunks owed }
+{
+    if owed == 0 {
+        Position::behind_table(hunks)
+    } else {
+        Position::SizeWord {
+            hunks,
+            owed: owed - 1,
+        }
+    }
+}

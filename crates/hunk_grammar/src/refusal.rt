@@ -1,0 +1,112 @@
+//! The tests of the longwords of a load file.
+ghost use Rattle.std.specs.Prelude.{◌≡◌, ◌+◌, ◌*◌, nat_lt, Some, None, if◌then◌else◌};
+ghost use Rattle.hunk_grammar.specs.Roles.{Role as roles, refuse, refuse_word};
+ghost use Rattle.hunk_grammar.specs.Positions.{role_at};
+ghost use Rattle.hunk_grammar.specs.Standings.{refuse_standing, standing_of_kind};
+
+use crate::file_kind::Sniff;
+use crate::position::Position;
+use hunk_blocks::{Mode, Phase, content_longs};
+use hunk_words::{BlockWord, Kind, MOST_HUNKS, NAME_LIMIT, Reason, SizeWord};
+
+impl Position {
+    /// Why the longword is rejected, where it is. `longs` is the number of longwords that the open
+    /// hunk declares; outside the body it is not used.
+    ///
+    /// The header is that of The AmigaDOS Manual and `dos/doshunks.h`. To reject resident names,
+    /// another first hunk than 0, another last hunk than the table size minus 1, and more hunks
+    /// than `MOST_HUNKS` is this project's own choice.
+    #[inline(always)]
+    pub fn refuse(self, longs: u32, word: u32) -> Option<Reason>
+        ensures { result ≡ refuse (role_at longs self) word }
+    {
+        match self {
+            Position::FirstLong => refuse_first(word),
+            Position::ResidentName => refuse_if(word != 0, Reason::Resident),
+            Position::TableSize if word == 0 => Some(Reason::NoHunks),
+            Position::TableSize => refuse_if(word > MOST_HUNKS, Reason::TooManyHunks),
+            Position::FirstHunk { hunks: _ } => refuse_if(word != 0, Reason::FirstHunk),
+            Position::LastHunk { hunks } => {
+                refuse_if(u64::from(word) + 1 != u64::from(hunks), Reason::LastHunk)
+            }
+            Position::Body(hunk, phase) => match phase {
+                Phase::FirstBlock | Phase::BlockWord => refuse_block_word(hunk.has_content, word),
+                Phase::NameCount => refuse_if(word >= NAME_LIMIT, Reason::NameWord),
+                Phase::ContentSize | Phase::BssSize => {
+                    refuse_if(content_longs(word) > longs, Reason::ContentTooLong)
+                }
+                Phase::GroupCount => refuse_if(word != 0 && longs == 0, Reason::NothingToRelocate),
+                Phase::Target { owed: _ } => refuse_if(word >= hunk.hunks, Reason::BadTarget),
+                Phase::Offset { target: _, owed: _ } => {
+                    refuse_if(is_outside(word, longs), Reason::BadOffset)
+                }
+                _ => None,
+            },
+            _ => None,
+        }
+    }
+}
+
+/// Whether the long at the offset, in bytes from the start of a hunk that declares `longs`
+/// longwords, passes the end of the hunk.
+///
+/// That an offset may be odd, and may lie behind the content, is this project's own choice.
+#[inline(always)]
+pub fn is_outside(offset: u32, longs: u32) -> bool
+    ensures { result ≡ nat_lt (4 * longs) (offset + 4) }
+{
+    u64::from(offset) + 4 > u64::from(longs) * 4
+}
+
+/// The reason, where the longword is rejected for it.
+#[inline(always)]
+fn refuse_if(refused: bool, reason: Reason) -> Option<Reason>
+    ensures { result ≡ (if refused then Some reason else None) }
+{
+    if refused { Some(reason) } else { None }
+}
+
+/// Why the longword does not begin a load file, where it does not.
+///
+/// Source: the block numbers of `dos/doshunks.h`.
+fn refuse_first(word: u32) -> Option<Reason>
+    ensures { result ≡ refuse roles.FirstLong word }
+{
+    match Sniff::of(word) {
+        Sniff::Load => None,
+        Sniff::Object => Some(Reason::IsObject),
+        Sniff::Library => Some(Reason::Library),
+        Sniff::Other => Some(Reason::NotLoadFile),
+    }
+}
+
+/// Why the block word is rejected, where it is: wherever its block stands, or else for its place in
+/// the hunk.
+#[tactic(auto, using(crate::proofs::BlockWords::word_split))]
+#[inline(always)]
+fn refuse_block_word(has_content: bool, word: u32) -> Option<Reason>
+    ensures { result ≡ refuse_word has_content word }
+{
+    let block = BlockWord::of(word);
+    match Mode::Load.refuse(block) {
+        Some(reason) => Some(reason),
+        None => refuse_place(block.kind(), has_content),
+    }
+}
+
+/// Why a block of this kind may not stand here, where it may not. `has_content` says whether the
+/// hunk has its content block.
+///
+/// Just one content block, relocations and EXT only behind it, END last: this project's own choice.
+#[inline(always)]
+pub fn refuse_place(kind: Kind, has_content: bool) -> Option<Reason>
+    ensures { result ≡ refuse_standing has_content (standing_of_kind kind) }
+{
+    match kind {
+        Kind::Code | Kind::Data | Kind::Bss if has_content => Some(Reason::SecondContent),
+        Kind::Ext if !has_content => Some(Reason::BeforeContent),
+        Kind::End if !has_content => Some(Reason::NoContent),
+        kind if !has_content && kind.is_relocation() => Some(Reason::BeforeContent),
+        _ => None,
+    }
+}

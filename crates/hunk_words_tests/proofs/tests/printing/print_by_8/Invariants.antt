@@ -1,4 +1,0 @@
-use Rattle.hunk_words_tests.proofs.tests.printing.print_by_8.Given as goal
-
-abbrev pub ghost-new : goal.ghost-new
-ghost-new g a = g.W.Sink.taken a.out.now.sink

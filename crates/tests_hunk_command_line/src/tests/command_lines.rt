@@ -1,0 +1,227 @@
+//! Which words are which orders.
+use hunk_command_line::{FileName, Order, OrderFault, order};
+use std::alloc::{AllocError, Global};
+use std::process::Abort;
+use std::test::Fail;
+
+fn name_of(name: &Option<FileName>) -> &str {
+    match name {
+        Some(name) => name.as_str(),
+        None => "(standard input)",
+    }
+}
+
+/// The order as a line of text.
+fn line_of(alloc: Global, asked: &Result<Order, OrderFault>) -> Result<String, AllocError> {
+    match asked {
+        Ok(Order::Show { hex, file }) => {
+            let file = name_of(file);
+            format!(in alloc; "show {hex} {file}")
+        }
+        Ok(Order::Validate { hex, file }) => {
+            let file = name_of(file);
+            format!(in alloc; "validate {hex} {file}")
+        }
+        Ok(
+            Order::Relocate {
+                hex,
+                base,
+                budget,
+                file,
+            },
+        ) => {
+            let file = name_of(file);
+            format!(in alloc; "relocate {hex} {base:08x} {budget} {file}")
+        }
+        Ok(
+            Order::Rewrite {
+                strip,
+                input,
+                output,
+            },
+        ) => {
+            let (input, output) = (input.as_str(), output.as_str());
+            format!(in alloc; "rewrite {strip} {input} {output}")
+        }
+        Err(OrderFault::Help(_)) => format!(in alloc; "help"),
+        Err(fault) => format!(in alloc; "{fault}"),
+    }
+}
+
+/// The order that these words are, as a line of text.
+fn told(alloc: Global, words: &[String]) -> Result<String, AllocError> {
+    line_of(alloc, &order(alloc, words))
+}
+
+/// The same of these words after the program's name.
+fn asked(alloc: Global, words: &[&str]) -> Result<String, AllocError> {
+    let mut all = Vec::new(alloc);
+    all.push(String::from_str(alloc, "hunkinfo")?)?;
+    for word in words {
+        all.push(String::from_str(alloc, word)?)?;
+    }
+    told(alloc, all.as_slice())
+}
+
+/// Tells whether the words after the program's name are this order.
+fn expect(rt: &impl Abort, alloc: Global, words: &[&str], want: &str) -> Result<(), Fail> {
+    let got = asked(alloc, words)?;
+    assert_eq!(rt; got.as_str(), want, "at {words:?}");
+    Ok(())
+}
+
+const ORDERS: &[(&[&str], &str)] = &[
+    (&["show"], "show false (standard input)"),
+    (&["show", "--hex", "a"], "show true a"),
+    (&["show", "a", "--hex"], "show true a"),
+    (&["show", "-"], "show false -"),
+    (&["show", "--", "--hex"], "show false --hex"),
+    (&["validate", "--hex"], "validate true (standard input)"),
+    (&["validate", "a b"], "validate false a b"),
+    (
+        &["relocate", "--base", "00021000"],
+        "relocate false 00021000 16777216 (standard input)",
+    ),
+    (
+        &[
+            "relocate", "--hex", "--base", "fFfFfFfF", "--budget", "0004", "a",
+        ],
+        "relocate true ffffffff 4 a",
+    ),
+    (
+        &[
+            "relocate",
+            "a",
+            "--budget=18446744073709551615",
+            "--base=0009ABCD",
+        ],
+        "relocate false 0009abcd 18446744073709551615 a",
+    ),
+    (
+        &[
+            "relocate",
+            "--base",
+            "00000000",
+            "--budget",
+            "0000000000000000000000000",
+        ],
+        "relocate false 00000000 0 (standard input)",
+    ),
+    (&["rewrite", "a", "b"], "rewrite false a b"),
+    (&["rewrite", "--strip", "a", "b"], "rewrite true a b"),
+    (&["rewrite", "a", "b", "--strip"], "rewrite true a b"),
+    (&[], "relocate true 00000000 16777216 (standard input)"),
+];
+
+#[test]
+fn orders(rt: HostRuntime) -> Result<(), Fail> {
+    for (words, want) in ORDERS {
+        expect(&rt, rt.alloc(), words, want)?;
+    }
+    Ok(())
+}
+
+#[test]
+fn no_word_at_all(rt: HostRuntime) -> Result<(), Fail> {
+    let got = told(rt.alloc(), &[])?;
+    assert_eq!(rt;
+        got.as_str(),
+        "relocate true 00000000 16777216 (standard input)"
+    );
+    Ok(())
+}
+
+const REFUSED_LINE: &str = "command line refused";
+
+const REFUSED: &[&[&str]] = &[
+    &["list"],
+    &["SHOW"],
+    &[""],
+    &["--hex"],
+    &["--version"],
+    &["-V"],
+    &["show", "--version"],
+    &["show", "a", "b"],
+    &["show", "--strip"],
+    &["show", "--unknown"],
+    &["show", "--unknown", "--help"],
+    &["show", "--hex", "--hex"],
+    &["show", "--hex=true"],
+    &["validate", "--base", "00000000"],
+    &["relocate"],
+    &["relocate", "--base"],
+    &["relocate", "--base", "00000000", "--base", "00000000"],
+    &["relocate", "--base", "00000000", "--budget"],
+    &["relocate", "--base", "00000000", "a", "b"],
+    &["rewrite"],
+    &["rewrite", "a"],
+    &["rewrite", "a", "b", "c"],
+    &["rewrite", "--hex", "a", "b"],
+];
+
+#[test]
+fn refused_words(rt: HostRuntime) -> Result<(), Fail> {
+    for words in REFUSED {
+        expect(&rt, rt.alloc(), words, REFUSED_LINE)?;
+    }
+    Ok(())
+}
+
+const REFUSED_BASES: &[&str] = &[
+    "1000",
+    "+0001000",
+    "-0001000",
+    "0x001000",
+    "000001000",
+    "0000100g",
+    " 0001000",
+    "0000_100",
+    "",
+];
+
+#[test]
+fn refused_bases(rt: HostRuntime) -> Result<(), Fail> {
+    for base in REFUSED_BASES {
+        expect(&rt, rt.alloc(), &["relocate", "--base", base], REFUSED_LINE)?;
+    }
+    Ok(())
+}
+
+const REFUSED_BUDGETS: &[&str] = &[
+    "x",
+    "+4",
+    " 4",
+    "4 ",
+    "4_0",
+    "0x4",
+    "-4",
+    "",
+    "18446744073709551616",
+];
+
+#[test]
+fn refused_budgets(rt: HostRuntime) -> Result<(), Fail> {
+    for budget in REFUSED_BUDGETS {
+        let words = ["relocate", "--base", "00000000", "--budget", budget];
+        expect(&rt, rt.alloc(), &words, REFUSED_LINE)?;
+    }
+    Ok(())
+}
+
+const ASKING_FOR_HELP: &[&[&str]] = &[
+    &["help"],
+    &["--help"],
+    &["-h"],
+    &["help", "relocate"],
+    &["rewrite", "--help"],
+    &["relocate", "-h"],
+    &["show", "--help", "--unknown"],
+];
+
+#[test]
+fn help(rt: HostRuntime) -> Result<(), Fail> {
+    for words in ASKING_FOR_HELP {
+        expect(&rt, rt.alloc(), words, "help")?;
+    }
+    Ok(())
+}

@@ -1,0 +1,35 @@
+//! Files by their longwords, and what is told of them.
+
+mod again;
+mod bad;
+mod checked;
+mod shown;
+
+pub(super) use again::{AGAIN, Again};
+pub(super) use bad::BAD;
+pub(super) use checked::CHECKED;
+pub(super) use shown::SHOWN;
+use std::alloc::{AllocError, Global};
+use test_helpers::spelled;
+
+/// A load file of three hunks, whose block words have flags.
+const FLAGGED: &str = "3F3 0 3 0 2 40000002 80000001 1 / \
+    600003E8 1 61000000 / 400003E9 80000001 0 / A00003EC 2 1 0 4 1 2 0 0 / 800003F1 1 0 / \
+    200003F0 0 / 400003F2 / 800003EA 0 / 3F2 / \
+    200003EB 40000001 / 600004D2 1 0 / A00004D2 0 / 3F2";
+
+/// An object file with relocations and EXT entries of all kinds.
+const ALL_KINDS: &str = "3E7 0 / 3E9 1 0 / \
+    200003EC 0 / 400003ED 1 0 0 0 / 800003EE 0 / 3F7 0 / 3F8 0 / 3F9 0 / 3FD 0 / 3FE 0 / \
+    600003EF 1 41000000 5 / 1000000 7 / 2000001 7F1F2000 8 / 81000001 7E41005C 0 / \
+    82000000 C 0 / 83000000 1 0 / 84000000 0 / 85000000 0 / 86000000 0 / 87000000 0 / \
+    88000000 0 / 89000000 10 1 3 / 8A000000 0 / 8B000000 0 / 0 / 3F2";
+
+/// The bytes of the file, and this many zero bytes after them.
+pub(super) fn input(alloc: Global, file: &str, rest: usize) -> Result<Vec<u8>, AllocError> {
+    let mut bytes = spelled(alloc, file)?;
+    for _ in 0..rest {
+        bytes.push(0)?;
+    }
+    Ok(bytes)
+}

@@ -1,0 +1,100 @@
+//! The size of a header, read in place.
+
+use crate::tests::asserts::{assert_equal, assert_equal_at};
+use crate::tests::cut_at;
+use crate::tests::headers::ANSWERS;
+use hunk_scatter::stream::{HeaderSize, header_size};
+use hunk_words::{LoadFault, Reason};
+use std::process::Abort;
+use std::test::Fail;
+use test_helpers::examples::{FIVE_HUNKS, ONE_HUNK, TWO_HUNKS, WITH_ATTRIBUTES};
+use test_helpers::spelled;
+
+/// Files, and the size of their headers. The last hunk of each has bytes, and no attributes.
+const SIZES: &[(&str, HeaderSize)] = &[
+    (
+        ONE_HUNK,
+        HeaderSize {
+            hunks: 1,
+            bytes: 24,
+            declared: 4,
+        },
+    ),
+    (
+        TWO_HUNKS,
+        HeaderSize {
+            hunks: 2,
+            bytes: 28,
+            declared: 12,
+        },
+    ),
+    (
+        WITH_ATTRIBUTES,
+        HeaderSize {
+            hunks: 2,
+            bytes: 32,
+            declared: 12,
+        },
+    ),
+    (
+        FIVE_HUNKS,
+        HeaderSize {
+            hunks: 5,
+            bytes: 44,
+            declared: 16,
+        },
+    ),
+];
+
+/// Sees that the bytes are cut short, wherever the header is.
+fn expect_truncated(rt: &impl Abort, header: &[u8]) {
+    for cut in 0..header.len() {
+        let (front, _) = cut_at(header, cut);
+        let place = 4 * (cut as u64 / 4);
+        let reason = Reason::Truncated;
+        assert_equal_at(
+            rt,
+            header_size(front, 1_000),
+            Err(LoadFault { place, reason }),
+            cut,
+        );
+    }
+}
+
+/// Sees the size of the file's header, of the header alone, of a part of it, and by a byte less than
+/// its hunks declare.
+fn expect_size(rt: &impl Abort, file: &[u8], want: HeaderSize) {
+    assert_equal(rt, header_size(file, want.declared), Ok(want));
+    let (header, _) = cut_at(file, want.bytes as usize);
+    assert_equal(rt, header_size(header, want.declared), Ok(want));
+    expect_truncated(rt, header);
+    let budget = want.declared.saturating_sub(1);
+    let last = LoadFault {
+        place: want.bytes.saturating_sub(4),
+        reason: Reason::Budget,
+    };
+    assert_equal(rt, header_size(file, budget), Err(last));
+}
+
+#[test]
+fn sizes(rt: HostRuntime) -> Result<(), Fail> {
+    for (text, want) in SIZES {
+        let file = spelled(rt.alloc(), text)?;
+        expect_size(&rt, file.as_slice(), *want);
+    }
+    Ok(())
+}
+
+/// A header that is read in place answers as one that is fed.
+#[test]
+fn answers_in_place(rt: HostRuntime) -> Result<(), Fail> {
+    for (text, budget, want) in ANSWERS {
+        let bytes = spelled(rt.alloc(), text)?;
+        let got = match header_size(bytes.as_slice(), *budget) {
+            Ok(size) => Ok(size.declared),
+            Err(fault) => Err((fault.place, fault.reason)),
+        };
+        assert_equal_at(&rt, got, *want, text);
+    }
+    Ok(())
+}
