@@ -6,7 +6,7 @@ ghost use Rattle.hunk_words.specs.declared.size_word.Memory.TheVariants.{Attribu
 ghost use Rattle.hunk_files.specs.Hunks.{block_texts};
 ghost use Rattle.hunk_files.specs.Tables.{size_entry};
 ghost use Rattle.hunk_listing.specs.BlockLines.{block_lines};
-ghost use Rattle.hunk_listing.specs.FileLines.{hunk_line, hunk_lines, load_head, load_line};
+ghost use Rattle.hunk_listing.specs.FileLines.{hunk_line, hunk_lines, load_head};
 ghost use Rattle.hunk_listing.specs.FileLines.{memory_text, numbered, rest_line};
 
 use crate::block::print_block;
@@ -15,21 +15,15 @@ use hunk_files::{BlockViews, LoadHunkView, LoadView};
 use hunk_words::{Memory, Printer, Sink, SizeWord};
 
 /// Prints the line of the file: how many hunks it has, and how many bytes they declare.
+#[tactic(auto, unfolding(crate::specs::FileLines::load_line))]
 pub(crate) fn print_load_head<W: Sink>(page: &mut Printer<'_, W>, file: &LoadView<'_>)
     ensures { Prints page.old page.new (load_head file.now) }
 {
-    print_load_line(page, file.hunks(), file.total());
-}
-
-#[tactic(auto, unfolding(crate::specs::FileLines::load_line))]
-fn print_load_line<W: Sink>(page: &mut Printer<'_, W>, hunks: u32, bytes: u64)
-    ensures { Prints page.old page.new (load_line hunks bytes) }
-{
     let mut line = Line::new();
     line.put(b"load file ");
-    line.put_decimal(u64::from(hunks));
+    line.put_decimal(u64::from(file.hunks()));
     line.put(b" hunks ");
-    line.put_decimal(bytes);
+    line.put_decimal(file.total());
     line.put(b" bytes\n");
     line.print(page);
 }

@@ -1,7 +1,7 @@
 //! The lines that `relocate` prints of its segments.
 ghost use Rattle.std.specs.Prelude.{◌≡◌, ◌≤◌, length, codes, decimal};
 ghost use Rattle.hunk_words.specs.Prints.{Prints};
-ghost use Rattle.hunk_listing.specs.SegmentLines.{dump, dump_row, segment_line, segment_lines};
+ghost use Rattle.hunk_listing.specs.SegmentLines.{dump, dump_row, segment_lines};
 
 use crate::digits::put_digits;
 use crate::line::Line;
@@ -11,17 +11,10 @@ use hunk_words::{Printer, Sink};
 const ROW: usize = 16;
 
 /// Prints the lines of one segment: its hunk's number, its address and its bytes.
+#[tactic(auto, unfolding(crate::specs::SegmentLines::segment_line))]
 pub fn print_segment<W: Sink>(page: &mut Printer<'_, W>, number: u32, base: u32, bytes: &[u8])
     ensures { Prints page.old page.new
         (segment_lines number (record { base = base; bytes = bytes.now })) }
-{
-    print_segment_line(page, number, base, bytes.len());
-    print_dump(page, bytes);
-}
-
-#[tactic(auto, unfolding(crate::specs::SegmentLines::segment_line))]
-fn print_segment_line<W: Sink>(page: &mut Printer<'_, W>, number: u32, base: u32, len: usize)
-    ensures { Prints page.old page.new (segment_line number base len) }
 {
     let mut line = Line::new();
     line.put(b"hunk ");
@@ -29,9 +22,10 @@ fn print_segment_line<W: Sink>(page: &mut Printer<'_, W>, number: u32, base: u32
     line.put(b" base 0x");
     line.put_digits(base);
     line.put(b" ");
-    line.put_decimal(len as u64);
+    line.put_decimal(bytes.len() as u64);
     line.put(b" bytes\n");
     line.print(page);
+    print_dump(page, bytes);
 }
 
 fn print_dump<W: Sink>(page: &mut Printer<'_, W>, bytes: &[u8])

@@ -40,19 +40,12 @@ pub(crate) fn print_named<W: Sink>(page: &mut Printer<'_, W>, line: &Line, name:
     ensures { Prints page.old page.new (line.now ++ name_text (longs name.now) ++ codes "\n") }
 {
     line.print(page);
-    print_name(page, name);
+    print_characters(page, name.bytes());
     page.print(b"\n");
 }
 
-/// Prints the name's text: its bytes before the first zero byte, of which those outside 0x20 to
-/// 0x7E, and the backslash, are `\x` and two hexadecimal digits.
-fn print_name<W: Sink>(page: &mut Printer<'_, W>, name: &Payload<'_>)
-    ensures { Prints page.old page.new (name_text (longs name.now)) }
-{
-    print_characters(page, name.bytes());
-}
-
-/// Plain bytes go out in runs, and another byte is put between two of them.
+/// Prints the text of a name: its bytes before the first zero byte, of which those outside 0x20 to
+/// 0x7E, and the backslash, are `\x` and two hexadecimal digits. Plain bytes go out in runs.
 fn print_characters<W: Sink>(page: &mut Printer<'_, W>, bytes: &[u8])
     ensures { Prints page.old page.new (characters bytes.now) }
 {

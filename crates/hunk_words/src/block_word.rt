@@ -5,7 +5,6 @@ ghost use Rattle.hunk_words.specs.Bits.{flags, has_both_bits, is_advisory, is_ch
 ghost use Rattle.hunk_words.specs.Bits.{is_relocation, kind};
 ghost use Rattle.hunk_words.specs.KindNames.{name_of_kind};
 
-use crate::size_word::has_both_bits;
 use std::marker::Model;
 
 /// The block word of a header, with which a load file begins: no flags, and the type HEADER.
@@ -217,7 +216,7 @@ impl BlockWord {
     pub fn has_both_memory_bits(self) -> bool
         ensures { result ≡ has_both_bits self }
     {
-        has_both_bits(self.word)
+        self.word >> 30 == 3
     }
 
     /// The type, by the low 29 bits.

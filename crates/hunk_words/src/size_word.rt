@@ -88,7 +88,7 @@ impl SizeWord {
     pub fn has_extra(word: u32) -> bool
         ensures { result ≡ has_both_bits word }
     {
-        has_both_bits(word)
+        word >> 30 == 3
     }
 
     /// How many longwords the entry of a table has that begins with this size word: 2 where memory
@@ -100,12 +100,4 @@ impl SizeWord {
     {
         if SizeWord::has_extra(word) { 2 } else { 1 }
     }
-}
-
-/// Whether bits 30 and 31 of a size word or of a block word are both set.
-#[inline(always)]
-pub(crate) fn has_both_bits(word: u32) -> bool
-    ensures { result ≡ has_both_bits word }
-{
-    word >> 30 == 3
 }
