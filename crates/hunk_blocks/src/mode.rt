@@ -1,6 +1,6 @@
 //! The files that a block may stand in, and the block words that they refuse.
 ghost use Rattle.std.specs.Prelude.{◌≡◌};
-ghost use Rattle.hunk_blocks.specs.Modes.{refuse_alone_kind, refuse_alone_word};
+ghost use Rattle.hunk_blocks.specs.Modes.{refuse_alone_word};
 
 use hunk_words::{BlockWord, Kind, Reason};
 
@@ -25,24 +25,14 @@ impl Mode {
     pub fn refuse(self, word: BlockWord) -> Option<Reason>
         ensures { result ≡ refuse_alone_word self word }
     {
-        if word.has_both_memory_bits() {
-            return Some(Reason::BothBits);
-        }
-        self.refuse_kind(word.is_advisory(), word.kind())
-    }
-
-    /// Why a block of this kind is refused.
-    #[inline(always)]
-    fn refuse_kind(self, advisory: bool, kind: Kind) -> Option<Reason>
-        ensures { result ≡ refuse_alone_kind self advisory kind }
-    {
-        match (self, kind) {
+        match (self, word.kind()) {
+            _ if word.has_both_memory_bits() => Some(Reason::BothBits),
             (_, Kind::Overlay) => Some(Reason::Overlay),
             (_, Kind::Break) => Some(Reason::Break),
             (_, Kind::Reloc32Short) | (Mode::Load, Kind::Drel32) => Some(Reason::ShortReloc),
             (_, Kind::Lib | Kind::Index) => Some(Reason::Library),
             (_, Kind::Header | Kind::Unit) => Some(Reason::Misplaced),
-            (_, Kind::Unknown(_)) if !advisory => Some(Reason::UnknownBlock),
+            (_, Kind::Unknown(_)) if !word.is_advisory() => Some(Reason::UnknownBlock),
             (Mode::Object, _) | (Mode::Load, Kind::Reloc32) => None,
             (Mode::Load, Kind::Ext) => Some(Reason::NotInLoadFile),
             (Mode::Load, kind) if kind.is_relocation() => Some(Reason::NotInLoadFile),

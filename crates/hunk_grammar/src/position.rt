@@ -47,14 +47,6 @@ pub enum Position {
 }
 
 impl Position {
-    /// Behind the table of a file of `hunks` hunks.
-    #[inline(always)]
-    pub fn behind_table(hunks: u32) -> Position
-        ensures { result ≡ positions.open_next hunks hunks }
-    {
-        open_next(hunks, hunks)
-    }
-
     /// Whether the file is whole.
     #[inline(always)]
     pub fn is_done(self) -> bool
@@ -179,7 +171,7 @@ fn owe_entries(hunks: u32, owed: u32) -> Position
     ensures { result ≡ positions.owe_entries hunks owed }
 {
     if owed == 0 {
-        Position::behind_table(hunks)
+        open_next(hunks, hunks)
     } else {
         Position::SizeWord {
             hunks,

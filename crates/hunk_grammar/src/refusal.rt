@@ -1,6 +1,6 @@
 //! The tests of the longwords of a load file.
 ghost use Rattle.std.specs.Prelude.{◌≡◌, ◌+◌, ◌*◌, nat_lt, Some, None, if◌then◌else◌};
-ghost use Rattle.hunk_grammar.specs.Roles.{Role as roles, refuse, refuse_word};
+ghost use Rattle.hunk_grammar.specs.Roles.{refuse, refuse_word};
 ghost use Rattle.hunk_grammar.specs.Positions.{role_at};
 ghost use Rattle.hunk_grammar.specs.Standings.{refuse_standing, standing_of_kind};
 
@@ -21,24 +21,29 @@ impl Position {
         ensures { result ≡ refuse (role_at longs self) word }
     {
         match self {
-            Position::FirstLong => refuse_first(word),
-            Position::ResidentName => refuse_if(word != 0, Reason::Resident),
+            Position::FirstLong => match Sniff::of(word) {
+                Sniff::Load => None,
+                Sniff::Object => Some(Reason::IsObject),
+                Sniff::Library => Some(Reason::Library),
+                Sniff::Other => Some(Reason::NotLoadFile),
+            },
+            Position::ResidentName => (word != 0).then_some(Reason::Resident),
             Position::TableSize if word == 0 => Some(Reason::NoHunks),
-            Position::TableSize => refuse_if(word > MOST_HUNKS, Reason::TooManyHunks),
-            Position::FirstHunk { hunks: _ } => refuse_if(word != 0, Reason::FirstHunk),
+            Position::TableSize => (word > MOST_HUNKS).then_some(Reason::TooManyHunks),
+            Position::FirstHunk { hunks: _ } => (word != 0).then_some(Reason::FirstHunk),
             Position::LastHunk { hunks } => {
-                refuse_if(u64::from(word) + 1 != u64::from(hunks), Reason::LastHunk)
+                (u64::from(word) + 1 != u64::from(hunks)).then_some(Reason::LastHunk)
             }
             Position::Body(hunk, phase) => match phase {
                 Phase::FirstBlock | Phase::BlockWord => refuse_block_word(hunk.has_content, word),
-                Phase::NameCount => refuse_if(word >= NAME_LIMIT, Reason::NameWord),
+                Phase::NameCount => (word >= NAME_LIMIT).then_some(Reason::NameWord),
                 Phase::ContentSize | Phase::BssSize => {
-                    refuse_if(content_longs(word) > longs, Reason::ContentTooLong)
+                    (content_longs(word) > longs).then_some(Reason::ContentTooLong)
                 }
-                Phase::GroupCount => refuse_if(word != 0 && longs == 0, Reason::NothingToRelocate),
-                Phase::Target { owed: _ } => refuse_if(word >= hunk.hunks, Reason::BadTarget),
+                Phase::GroupCount => (word != 0 && longs == 0).then_some(Reason::NothingToRelocate),
+                Phase::Target { owed: _ } => (word >= hunk.hunks).then_some(Reason::BadTarget),
                 Phase::Offset { target: _, owed: _ } => {
-                    refuse_if(is_outside(word, longs), Reason::BadOffset)
+                    is_outside(word, longs).then_some(Reason::BadOffset)
                 }
                 _ => None,
             },
@@ -56,28 +61,6 @@ pub fn is_outside(offset: u32, longs: u32) -> bool
     ensures { result ≡ nat_lt (4 * longs) (offset + 4) }
 {
     u64::from(offset) + 4 > u64::from(longs) * 4
-}
-
-/// The reason, where the longword is rejected for it.
-#[inline(always)]
-fn refuse_if(refused: bool, reason: Reason) -> Option<Reason>
-    ensures { result ≡ (if refused then Some reason else None) }
-{
-    if refused { Some(reason) } else { None }
-}
-
-/// Why the longword does not begin a load file, where it does not.
-///
-/// Source: the block numbers of `dos/doshunks.h`.
-fn refuse_first(word: u32) -> Option<Reason>
-    ensures { result ≡ refuse roles.FirstLong word }
-{
-    match Sniff::of(word) {
-        Sniff::Load => None,
-        Sniff::Object => Some(Reason::IsObject),
-        Sniff::Library => Some(Reason::Library),
-        Sniff::Other => Some(Reason::NotLoadFile),
-    }
 }
 
 /// Why the block word is rejected, where it is: wherever its block stands, or else for its place in
