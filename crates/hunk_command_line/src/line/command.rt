@@ -64,7 +64,7 @@ Example, without names, symbols and debug data:
 /// `--name`.
 fn flag<'a>(alloc: Global, name: &'a str, help: &'a str) -> Arg<'a>
     ensures rule { rule_of result ≡ spec.flag name.entry.now }
-    ensures local { result.global ≡ false }
+    ensures not_global { result.global ≡ false }
 {
     Arg::new(alloc, name)
         .long(name)
@@ -75,7 +75,7 @@ fn flag<'a>(alloc: Global, name: &'a str, help: &'a str) -> Arg<'a>
 /// `--name VALUE`.
 fn option<'a>(alloc: Global, name: &'a str, value: &'a str, help: &'a str) -> Arg<'a>
     ensures rule { rule_of result ≡ spec.option name.entry.now }
-    ensures local { result.global ≡ false }
+    ensures not_global { result.global ≡ false }
 {
     Arg::new(alloc, name)
         .long(name)
@@ -86,7 +86,7 @@ fn option<'a>(alloc: Global, name: &'a str, value: &'a str, help: &'a str) -> Ar
 /// A word at its place.
 fn positional<'a>(alloc: Global, name: &'a str, help: &'a str) -> Arg<'a>
     ensures rule { rule_of result ≡ new_rule name.entry.now }
-    ensures local { result.global ≡ false }
+    ensures not_global { result.global ≡ false }
 {
     Arg::new(alloc, name).help(help)
 }
@@ -94,14 +94,14 @@ fn positional<'a>(alloc: Global, name: &'a str, help: &'a str) -> Arg<'a>
 /// The argument, which has to be there.
 fn mandatory<'a>(arg: Arg<'a>) -> Arg<'a>
     ensures rule { rule_of result ≡ spec.mandatory (rule_of arg.entry) }
-    ensures local { result.global ≡ arg.entry.global }
+    ensures not_global { result.global ≡ arg.entry.global }
 {
     arg.required(true)
 }
 
 fn hex_flag<'a>(alloc: Global) -> Arg<'a>
     ensures rule { rule_of result ≡ spec.flag (codes "hex") }
-    ensures local { result.global ≡ false }
+    ensures not_global { result.global ≡ false }
 {
     flag(
         alloc,
@@ -112,7 +112,7 @@ fn hex_flag<'a>(alloc: Global) -> Arg<'a>
 
 fn file_positional<'a>(alloc: Global) -> Arg<'a>
     ensures rule { rule_of result ≡ new_rule (codes "FILE") }
-    ensures local { result.global ≡ false }
+    ensures not_global { result.global ≡ false }
 {
     positional(
         alloc,
@@ -124,7 +124,7 @@ fn file_positional<'a>(alloc: Global) -> Arg<'a>
 /// A command that does not have its arguments yet, with what its help says before and after them.
 fn command<'a>(alloc: Global, name: &'a str, about: &'a str, after: &'a str) -> Command<'a>
     ensures app { app_of result ≡ new_app name.entry.now }
-    ensures local { (fields_of result).has_globals ≡ false }
+    ensures not_global { (fields_of result).has_globals ≡ false }
 {
     Command::new(alloc, name).about(about).after_help(after)
 }
@@ -137,7 +137,7 @@ fn plain_command<'a>(
     after: &'a str,
 ) -> Result<Command<'a>, AllocError>
     ensures app { IfOk result (λ command. app_of command ≡ spec.plain_command name.entry.now) }
-    ensures local { IfOk result (λ command. (fields_of command).has_globals ≡ false) }
+    ensures not_global { IfOk result (λ command. (fields_of command).has_globals ≡ false) }
 {
     command(alloc, name, about, after)
         .arg(hex_flag(alloc))?
@@ -146,7 +146,7 @@ fn plain_command<'a>(
 
 fn show<'a>(alloc: Global) -> Result<Command<'a>, AllocError>
     ensures app { IfOk result (λ command. app_of command ≡ spec.plain_command (codes "show")) }
-    ensures local { IfOk result (λ command. (fields_of command).has_globals ≡ false) }
+    ensures not_global { IfOk result (λ command. (fields_of command).has_globals ≡ false) }
 {
     plain_command(
         alloc,
@@ -158,7 +158,7 @@ fn show<'a>(alloc: Global) -> Result<Command<'a>, AllocError>
 
 fn validate<'a>(alloc: Global) -> Result<Command<'a>, AllocError>
     ensures app { IfOk result (λ command. app_of command ≡ spec.plain_command (codes "validate")) }
-    ensures local { IfOk result (λ command. (fields_of command).has_globals ≡ false) }
+    ensures not_global { IfOk result (λ command. (fields_of command).has_globals ≡ false) }
 {
     plain_command(
         alloc,
@@ -170,7 +170,7 @@ fn validate<'a>(alloc: Global) -> Result<Command<'a>, AllocError>
 
 fn base_option<'a>(alloc: Global) -> Arg<'a>
     ensures rule { rule_of result ≡ spec.option (codes "base") }
-    ensures local { result.global ≡ false }
+    ensures not_global { result.global ≡ false }
 {
     option(
         alloc,
@@ -182,7 +182,7 @@ fn base_option<'a>(alloc: Global) -> Arg<'a>
 
 fn budget_option<'a>(alloc: Global) -> Arg<'a>
     ensures rule { rule_of result ≡ spec.option (codes "budget") }
-    ensures local { result.global ≡ false }
+    ensures not_global { result.global ≡ false }
 {
     option(
         alloc,
@@ -194,7 +194,7 @@ fn budget_option<'a>(alloc: Global) -> Arg<'a>
 
 fn relocate<'a>(alloc: Global) -> Result<Command<'a>, AllocError>
     ensures app { IfOk result (λ command. app_of command ≡ spec.relocate_command) }
-    ensures local { IfOk result (λ command. (fields_of command).has_globals ≡ false) }
+    ensures not_global { IfOk result (λ command. (fields_of command).has_globals ≡ false) }
 {
     let about = "Loads a load file at an address, and prints the bytes of its hunks";
     command(alloc, "relocate", about, AFTER_RELOCATE)
@@ -206,7 +206,7 @@ fn relocate<'a>(alloc: Global) -> Result<Command<'a>, AllocError>
 
 fn strip_flag<'a>(alloc: Global) -> Arg<'a>
     ensures rule { rule_of result ≡ spec.flag (codes "strip") }
-    ensures local { result.global ≡ false }
+    ensures not_global { result.global ≡ false }
 {
     flag(
         alloc,
@@ -217,14 +217,14 @@ fn strip_flag<'a>(alloc: Global) -> Arg<'a>
 
 fn input_positional<'a>(alloc: Global) -> Arg<'a>
     ensures rule { rule_of result ≡ new_rule (codes "IN") }
-    ensures local { result.global ≡ false }
+    ensures not_global { result.global ≡ false }
 {
     positional(alloc, "IN", "The file to read")
 }
 
 fn output_positional<'a>(alloc: Global) -> Arg<'a>
     ensures rule { rule_of result ≡ new_rule (codes "OUT") }
-    ensures local { result.global ≡ false }
+    ensures not_global { result.global ≡ false }
 {
     positional(
         alloc,
@@ -235,7 +235,7 @@ fn output_positional<'a>(alloc: Global) -> Arg<'a>
 
 fn rewrite<'a>(alloc: Global) -> Result<Command<'a>, AllocError>
     ensures app { IfOk result (λ command. app_of command ≡ spec.rewrite_command) }
-    ensures local { IfOk result (λ command. (fields_of command).has_globals ≡ false) }
+    ensures not_global { IfOk result (λ command. (fields_of command).has_globals ≡ false) }
 {
     let about = "Reads a load file or an object file, and writes it again";
     command(alloc, "rewrite", about, AFTER_REWRITE)
@@ -247,7 +247,7 @@ fn rewrite<'a>(alloc: Global) -> Result<Command<'a>, AllocError>
 /// The program, without its subcommands yet.
 fn program<'a>(alloc: Global) -> Command<'a>
     ensures app { app_of result ≡ spec.program }
-    ensures local { (fields_of result).has_globals ≡ false }
+    ensures not_global { (fields_of result).has_globals ≡ false }
 {
     Command::new(alloc, "hunkinfo")
         .about("Lists, checks, relocates and rewrites AmigaDOS hunk files")
@@ -260,7 +260,7 @@ fn extended<'a>(
     program: Command<'a>,
     subcommand: Result<Command<'a>, AllocError>,
 ) -> Result<Command<'a>, AllocError>
-    requires local { IfOk subcommand (λ command. (fields_of command).has_globals ≡ false) }
+    requires not_global { IfOk subcommand (λ command. (fields_of command).has_globals ≡ false) }
     ensures { IfOk result (λ grown. IsOkAnd subcommand.entry
         (λ command. app_of grown ≡ with_subcommand (app_of program.entry) (app_of command).top)) }
 {
