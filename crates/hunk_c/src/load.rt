@@ -76,7 +76,7 @@ fn no_base(header: u64, hunk: u32) -> Answer
 fn fitting_header(bytes: &[u8], room: usize) -> Result<HeaderSize, Answer>
     ensures size { IfOk result (HasHeaderSize (2 ^ 64 - 1) bytes.now) }
     ensures fits { IfOk result (λ size. size.declared ≤ room) }
-    ensures none { IfErr result
+    ensures not_loaded { IfErr result
         (λ answer. (base : Placing) → IsNotLoaded base room bytes.now answer) }
 {
     let size = match header_size(bytes, u64::MAX) {

@@ -44,8 +44,8 @@ pub extern "C" fn hunk_strip(bytes: &[u8], text: &mut [u8]) -> Answer
 /// room for as many.
 fn lacked(file: &FileView<'_>, size: u64, room: u64) -> Option<u64>
     requires size { size ≡ length (file_bytes (file_of file.now)) }
-    ensures none { IfNone result (length (stripped_bytes (file_of file.now)) ≤ room) }
-    ensures some { IfSome result (λ count. (count ≡ length (stripped_bytes (file_of file.now)))
+    ensures fits { IfNone result (length (stripped_bytes (file_of file.now)) ≤ room) }
+    ensures lacks { IfSome result (λ count. (count ≡ length (stripped_bytes (file_of file.now)))
         × (room < count)) }
 {
     // What is stripped is no longer than the file.

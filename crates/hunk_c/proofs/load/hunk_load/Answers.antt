@@ -6,7 +6,7 @@ use Rattle.hunk_c.proofs.Succeeding.{what_fits}
 use Rattle.hunk_c.proofs.load.hunk_load.Goals as goal
 
 pub returns-in-Err-clause-outcome : goal.returns-in-Err-clause-outcome
-returns-in-Err-clause-outcome c = inr (c.in-Err.ensures.none (listed_in c.args.bases.now), refl)
+returns-in-Err-clause-outcome c = inr (c.in-Err.ensures.not_loaded (listed_in c.args.bases.now), refl)
 
 pub returns-in-Err-clause-succeeds : goal.returns-in-Err-clause-succeeds
 returns-in-Err-clause-succeeds c = what_fits _ _ _ _ _ (returns-in-Err-clause-outcome c)

@@ -20,15 +20,15 @@ lacked-requires c = omega (arith, c.rest.ensures, file_size c.args.bytes.now (fi
 
 pub returns-in-Some-clause-outcome : goal.returns-in-Some-clause-outcome
 returns-in-Some-clause-outcome c =
-    HasNoText (file_of c.in-Ok.file) c.in-Ok.ensures.file (omega (arith, c.in-Some.ensures.some.0, c.in-Some.ensures.some.1)) refl
-    (c.no_room.ensures ∙ same_answer _ _ _ _ _ _ _ c.hunks_in-hunks.ensures (omega (arith, c.rest.ensures, file_size c.args.bytes.now (file_of c.in-Ok.file) c.in-Ok.ensures.file)) c.in-Some.ensures.some.0)
+    HasNoText (file_of c.in-Ok.file) c.in-Ok.ensures.file (omega (arith, c.in-Some.ensures.lacks.0, c.in-Some.ensures.lacks.1)) refl
+    (c.no_room.ensures ∙ same_answer _ _ _ _ _ _ _ c.hunks_in-hunks.ensures (omega (arith, c.rest.ensures, file_size c.args.bytes.now (file_of c.in-Ok.file) c.in-Ok.ensures.file)) c.in-Some.ensures.lacks.0)
 
 pub returns-in-Some-clause-succeeds : goal.returns-in-Some-clause-succeeds
 returns-in-Some-clause-succeeds c = strips_what_fits _ _ _ _ (returns-in-Some-clause-outcome c)
 
 pub returns-clause-outcome : goal.returns-clause-outcome
 returns-clause-outcome c =
-    HasStripped (file_of c.in-Ok.file) c.in-Ok.ensures.file c.in_default.ensures.none
+    HasStripped (file_of c.in-Ok.file) c.in-Ok.ensures.file c.in_default.ensures.fits
     (c.copy_stripped-count.ensures.text ∙ ap (λ (n : ℕ). stripped_bytes (file_of c.in-Ok.file) ++ drop n c.args.text.now) c.copy_stripped-count.ensures.count)
     (c.done.ensures ∙ same_answer _ _ _ _ _ _ _ c.hunks_in-hunks.ensures (omega (arith, c.rest.ensures, file_size c.args.bytes.now (file_of c.in-Ok.file) c.in-Ok.ensures.file)) (omega (arith, c.copy_stripped-count.ensures.count)))
 
