@@ -1,13 +1,12 @@
 //! The conformance suite: hunk files, each with what a reader has to answer.
 #![tactic(auto)]
 
-mod load_texts;
-mod load_vectors;
-mod object_texts;
-mod object_vectors;
+mod load_table;
+mod object_table;
 mod spelling;
+mod vector;
 
-pub use crate::load_texts::LOAD_TEXTS;
-pub use crate::load_vectors::{VECTORS, Vector, Want, bytes};
-pub use crate::object_texts::OBJECT_TEXTS;
-pub use crate::object_vectors::{OBJECTS, ObjectVector, ObjectWant, object_bytes};
+pub use crate::load_table::{LOAD_TEXTS, VECTORS};
+pub use crate::object_table::{OBJECT_TEXTS, OBJECTS};
+pub use crate::spelling::{bytes, object_bytes};
+pub use crate::vector::{ObjectVector, ObjectWant, Vector, Want};

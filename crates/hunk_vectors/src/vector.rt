@@ -1,0 +1,34 @@
+//! A row of the suite: a file, and what a reader has to answer.
+
+/// What `LoadFile::decode` answers.
+#[derive(Clone, Copy, Debug, PartialEq, Eq)]
+pub enum Want {
+    /// The bytes begin with a load file of that many hunks, which declare that many bytes together.
+    Accepted { hunks: u32, bytes: u64 },
+    /// The longword at this byte is rejected, for the reason of this number, or the bytes end too
+    /// soon, at 4 times the number of whole longwords (number 26).
+    Refused { place: u64, number: u8 },
+}
+
+/// What `ObjectFile::decode` and `check` answer.
+#[derive(Clone, Copy, Debug, PartialEq, Eq)]
+pub enum ObjectWant {
+    /// The bytes are an object file of that many units, with that many findings.
+    Accepted { units: u64, findings: u64 },
+    /// The longword at this byte is rejected, or the bytes end too soon, as in `Want`.
+    Refused { place: u64, number: u8 },
+}
+
+/// A file as hexadecimal text, and its answer: a load file, where nothing else is said.
+#[derive(Clone, Copy, Debug, PartialEq, Eq)]
+pub struct Vector<W = Want> {
+    /// The number of the worked example that it is from.
+    pub row: u32,
+    /// The file, in hexadecimal digits alone, two for each byte.
+    pub text: &'static str,
+    /// What a reader has to answer.
+    pub want: W,
+}
+
+/// An object file and its answer.
+pub type ObjectVector = Vector<ObjectWant>;
