@@ -46,19 +46,9 @@ fn row_bytes<W>(alloc: Global, rows: &[Vector<W>], i: usize) -> Result<Vec<u8>, 
         (λ bytes. IfSome (slice_get (map (λ row. row.text.now) rows.now) i)
         (λ text. Spells text bytes.items)) }
 {
-    spelled(alloc, rows[i].text)
-}
-
-/// The bytes that the text spells.
-fn spelled(alloc: Global, text: &str) -> Result<Vec<u8>, AllocError>
-    requires { is_ok (decode_of text.now) ≡ true }
-    ensures { IfOk result (λ bytes. Spells text.now bytes.items) }
-{
-    match hex::decode(alloc, text) {
+    match hex::decode(alloc, rows[i].text) {
         Ok(bytes) => Ok(bytes),
-        Err(fault) => match fault {
-            FromHexError::OutOfMemory => Err(AllocError),
-            _ => unreachable!(),
-        },
+        Err(FromHexError::OutOfMemory) => Err(AllocError),
+        Err(_) => unreachable!(),
     }
 }
