@@ -1,5 +1,6 @@
 -- What a loader in numbers stands for, and what it comes to at the end.
-use Rattle.std.proofs.Common.{◌≡◌, ◌+◌, ◌-◌, ◌*◌, ◌/◌, ◌%◌, ◌<◌, ◌≤◌, ◌==◌, ℕ, zero, suc, Bool, true, false, not, List, [], ◌∷◌, length, take, Option, None, Some, ◌++◌, refl, sym, ap, subst, ◌∙◌, arith, append-nil, inr, length-take}
+use Rattle.std.proofs.Common.{◌≡◌, ◌+◌, ◌-◌, ◌*◌, ◌/◌, ◌%◌, ◌<◌, ◌≤◌, ◌==◌, ℕ, zero, suc, Bool, true, false, not, List, [], ◌∷◌, length, take, Option, None, Some, ◌++◌, refl, sym, ap, subst, ◌∙◌, arith, append-nil, inr, length-append, length-take}
+use Rattle.hunk_words.specs.Carriers.{saturated}
 use Rattle.hunk_words.specs.Longs.{bytes_of, IsBytes}
 use Rattle.hunk_words.specs.PendingBytes.{pending_of}
 use Rattle.hunk_words.specs.declared.pending.Pending.{Pending}
@@ -9,7 +10,7 @@ use Rattle.hunk_grammar.specs.Positions.{behind as ended}
 use Rattle.hunk_grammar.specs.declared.phase.OpenHunk.{OpenHunk}
 use Rattle.hunk_grammar.specs.declared.position.Position.{Position}
 use Rattle.hunk_grammar.specs.declared.position.Position.TheVariants as positions
-use Rattle.hunk_files.specs.Fault.{HasFault, IsTruncated}
+use Rattle.hunk_files.specs.Fault.{HasFault}
 use Rattle.hunk_blocks.specs.BlockSteps.{ForName, ForCode, Counted, Inside, AtCount, AtSize, InPayload}
 use Rattle.hunk_blocks.specs.PhaseSteps.{owe_payload}
 use Rattle.hunk_blocks.specs.ReaderPhase.{phase_of}
@@ -28,6 +29,7 @@ use Rattle.hunk_files.proofs.HunkProgress.{Within}
 use Rattle.hunk_files.proofs.Reading.{read_ended, reads}
 use Rattle.hunk_scatter.specs.BodyLoaderFields.{StandsBehind, EndsWhole}
 use Rattle.hunk_scatter.specs.BodyReader.{state_at, state_of}
+use Rattle.hunk_scatter.specs.LoaderValues.{told_place}
 use Rattle.hunk_scatter.specs.Rows.{bases_of, entries_of}
 use Rattle.hunk_scatter.specs.StoreContent.{StoreHolds}
 use Rattle.hunk_scatter.specs.Streaming.{EndsLoading, IsFed}
@@ -109,7 +111,7 @@ none_pending p clean = ap (λ (n : ℕ). pending_of (record { count = n; first =
 abbrev behind_piece : Loader → ℕ → Loader
 behind_piece l n = record {
   start = l.start;
-  fed = l.fed + n;
+  fed = saturated (l.fed + n);
   place = l.place;
   refused = l.refused;
   refused_hunk = l.refused_hunk;
@@ -128,11 +130,11 @@ behind_piece l n = record {
 
 module _ (l : Loader) (piece : List ℕ) (payload : l.phase ≡ 8) (clean : l.pending ≡ 0) (are : IsBytes piece) (fours : length piece % 4 ≡ 0) (some : 0 < length piece) (few : length piece / 4 ≤ l.owed) where
   payload_fed : (rows : List Row) (memory fed : List ℕ) → Stands rows l memory fed →
-      IsFed rows memory (payload_at l (l.fed + length piece) (l.owed - length piece / 4)) (fed ++ take (length piece) piece)
+      IsFed rows memory (payload_at l (saturated (l.fed + length piece)) (l.owed - length piece / 4)) (fed ++ take (length piece) piece)
   payload_fed rows memory fed h =
       let at = payload_at l l.fed l.owed in
       let n = length piece in
-      let to = payload_at l (l.fed + n) (l.owed - n / 4) in
+      let to = payload_at l (saturated (l.fed + n)) (l.owed - n / 4) in
       let f : IsFed rows memory at fed = stands_at rows l memory fed at (in_payload l payload) h in
       let none : pending_of at.pending ≡ [] = none_pending at.pending clean in
       let here : StandsBehind rows memory at.state [] fed = subst (λ (xs : List ℕ). StandsBehind rows memory at.state xs fed) none f.stands in
@@ -142,17 +144,17 @@ module _ (l : Loader) (piece : List ℕ) (payload : l.phase ≡ 8) (clean : l.pe
       let there : StandsBehind rows memory to.state [] (fed ++ take n piece) =
       subst (λ (p : Position). StandsBehind rows memory (record { start = l.start; hunk = l.hunk; position = p }) [] (fed ++ take n piece)) same
       (run_taken rows memory at.state fed here (in_room rows memory at fed f refl) piece n are (omega arith) fours some (omega (arith, few, fours))) in
-      fed_more rows memory at fed f memory to (take n piece) refl (omega (arith, long))
+      fed_more rows memory at fed f memory to (take n piece) refl (omega (arith, long, f.counted, length-append fed (take n piece)))
       (subst (λ (xs : List ℕ). StandsBehind rows memory to.state xs (fed ++ take n piece)) (sym none) there)
 
   pub passes_over : PassesOver l (behind_piece l (length piece)) piece
   passes_over = record {
     has_standing = (payload_at l l.fed l.owed, in_payload l payload);
     takes =
-        λ rows memory fed h room.
+        λ rows memory fed h.
         record {
           unrefused = h.unrefused;
-          at = payload_at l (l.fed + length piece) (l.owed - length piece / 4);
+          at = payload_at l (saturated (l.fed + length piece)) (l.owed - length piece / 4);
           numbers = in_payload (behind_piece l (length piece)) payload;
           is_fed = payload_fed rows memory fed h;
         };
@@ -222,14 +224,13 @@ streamed rows l memory fed at e ends h =
       table_is = r.table_is;
       memory_is = r.memory_is;
       answer_is =
-          same_answer 0 _ _ _ _ _ _ (sym t.hunk ∙ ap (λ (s : BodyState). s.hunk) r.state_is) (sym t.fed ∙ f.counted ∙ ap length r.bytes_are)
+          same_answer 0 _ _ _ _ _ _ (sym t.hunk ∙ ap (λ (s : BodyState). s.hunk) r.state_is) (sym t.fed ∙ f.counted ∙ ap (λ (bs : List ℕ). saturated (length bs)) r.bytes_are)
           (sym t.start ∙ ap (λ (s : BodyState). s.start) r.state_is ∙ sym (before_is r.value));
     }
 
 pub cut_short : (rows : List Row) (l : Loader) (memory fed : List ℕ) (at : Standing) → standing_of l ≡ Some at → EndsLoading at false → Stands rows l memory fed →
-    HasFault fed (4 * (l.fed / 4)) reasons.Truncated
+    (at : ℕ) × HasFault fed at reasons.Truncated × (4 * (l.fed / 4) ≡ told_place at)
 cut_short rows l memory fed at e ends h =
     let f = stands_at rows l memory fed at e h in
     let t = tells l at e in
-    let count : length fed ≡ l.fed = sym f.counted ∙ t.fed in
-    inr (refl, subst (λ (n : ℕ). IsTruncated fed (4 * (n / 4))) count (ends rows memory fed f).1)
+    (4 * (length fed / 4), inr (refl, (ends rows memory fed f).1), omega (arith, f.counted, t.fed))

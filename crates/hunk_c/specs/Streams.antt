@@ -1,5 +1,6 @@
 -- A loader in numbers, which a C program keeps and feeds piece by piece.
-use Rattle.std.specs.Prelude.{◌≡◌, ℕ, ◌+◌, ◌*◌, ◌/◌, ◌^◌, ◌<◌, ◌≤◌, ◌==◌, List, ◌++◌, length, take, if◌then◌else◌, replicate, Bool, true, false, not, Option, Some, None, IsTrue}
+use Rattle.std.specs.Prelude.{◌≡◌, ℕ, ◌+◌, ◌*◌, ◌/◌, ◌<◌, ◌≤◌, ◌==◌, List, ◌++◌, length, take, if◌then◌else◌, replicate, Bool, true, false, not, Option, Some, None, IsTrue}
+use Rattle.hunk_words.specs.Carriers.{saturated}
 use Rattle.hunk_words.specs.Longs.{bytes_of}
 use Rattle.hunk_words.specs.Reasons.{number_of}
 use Rattle.hunk_words.specs.declared.fault.Fault.{Fault}
@@ -9,13 +10,14 @@ use Rattle.hunk_blocks.specs.declared.phase.Phase.{Phase}
 use Rattle.hunk_blocks.specs.declared.phase.Phase.TheVariants as phases
 use Rattle.hunk_grammar.specs.declared.position.Position.{Position}
 use Rattle.hunk_grammar.specs.declared.position.Position.TheVariants as positions
-use Rattle.hunk_files.specs.Fault.{HasFault, HasRefusal}
+use Rattle.hunk_files.specs.Fault.{HasFault}
 use Rattle.hunk_files.specs.Image.{declared_bytes, images}
 use Rattle.hunk_files.specs.LoadFile.{TableEntry, LoadFileValue, IsLoadFile}
 use Rattle.hunk_files.specs.LoadText.{table, text}
 use Rattle.hunk_files.specs.declared.row.Row.{Row}
 use Rattle.hunk_scatter.specs.HeaderBytes.{IsHeaderTable, header_bytes}
 use Rattle.hunk_scatter.specs.LoaderReasons.{is_of_body}
+use Rattle.hunk_scatter.specs.LoaderValues.{IsBodyRefusal, told_place}
 use Rattle.hunk_scatter.specs.Rows.{bases_of, entries_of}
 use Rattle.hunk_scatter.specs.Streaming.{IsFed}
 use Rattle.hunk_scatter.specs.declared.stream.Standing.{Standing}
@@ -169,7 +171,7 @@ pub data TellsAgain (l : Loader) (answer : Answer) : Type 0 where
 -- Whatever bytes were fed before, this many of the piece are fed then.
 abbrev pub TakesPiece : List Row → Loader → Loader → List ℕ → List ℕ → List ℕ → ℕ → Type 0
 TakesPiece rows old new memory after piece count =
-    (fed : List ℕ) → Stands rows old memory fed → length fed + length piece < 2 ^ 64 → Stands rows new after (fed ++ take count piece)
+    (fed : List ℕ) → Stands rows old memory fed → Stands rows new after (fed ++ take count piece)
 
 -- The piece is passed over: whatever was fed before, all of it is fed then, and the memory is as it was.
 pub record PassesOver (old new : Loader) (piece : List ℕ) : Type 0 where
@@ -179,12 +181,11 @@ pub record PassesOver (old new : Loader) (piece : List ℕ) : Type 0 where
 -- Whatever bytes were fed before, with the piece after them they are refused so.
 abbrev pub RefusesPiece : List Row → Loader → List ℕ → List ℕ → Fault → Type 0
 RefusesPiece rows old memory piece f =
-    (fed : List ℕ) → Stands rows old memory fed → length fed + length piece < 2 ^ 64 → HasRefusal (fed ++ piece) f.place f.reason
+    (fed : List ℕ) → Stands rows old memory fed → IsBodyRefusal (fed ++ piece) f
 
 -- No loader stands so, after any bytes.
-abbrev pub StandsNowhere : List Row → Loader → List ℕ → List ℕ → Type 0
-StandsNowhere rows old memory piece =
-    (fed : List ℕ) → Stands rows old memory fed → length fed + length piece < 2 ^ 64 → ⊥
+abbrev pub StandsNowhere : List Row → Loader → List ℕ → Type 0
+StandsNowhere rows old memory = (fed : List ℕ) → Stands rows old memory fed → ⊥
 
 -- What the feeding of a piece comes to: it is taken, all of it or up to the end of the file; it is refused, for a reason of a body;
 -- or no byte of it is looked at, for an earlier refusal or for numbers that no loader has.
@@ -195,7 +196,7 @@ pub data Feeds (rows : List Row) (old new : Loader) (memory after piece : List �
   HasRefused : (f : Fault) → old.refused ≡ 0 → HasStanding old → IsTrue (is_of_body f.reason) → RefusesPiece rows old memory piece f
       → new ≡ refusing old f → answer ≡ refused f → Feeds rows old new memory after piece answer
   HadRefused : TellsAgain old answer → new ≡ old → after ≡ memory → Feeds rows old new memory after piece answer
-  IsStrange : old.refused ≡ 0 → StandsNowhere rows old memory piece → new ≡ old → answer ≡ strange → Feeds rows old new memory after piece answer
+  IsStrange : old.refused ≡ 0 → StandsNowhere rows old memory → new ≡ old → answer ≡ strange → Feeds rows old new memory after piece answer
 
 -- ---- the end
 
@@ -207,15 +208,17 @@ pub record IsStreamed (rows : List Row) (memory fed : List ℕ) (answer : Answer
   pub bytes_are : fed ≡ bytes_of (text value)
   pub table_is : table value ≡ entries_of rows
   pub memory_is : memory ≡ images (bases_of rows) value
-  pub answer_is : answer ≡ done (length value) (length (bytes_of (text value))) (declared_bytes (table value))
+  pub answer_is : answer ≡ done (length value) (saturated (length (bytes_of (text value)))) (declared_bytes (table value))
 
 -- The file is whole, whatever rows, memory and bytes the loader was given.
 abbrev pub EndsWholly : Loader → Answer → Type 0
 EndsWholly l answer = (rows : List Row) (memory fed : List ℕ) → Stands rows l memory fed → IsStreamed rows memory fed answer
 
--- The bytes end at this many inside the file, whatever rows, memory and bytes the loader was given.
+-- The bytes end inside the file, and so many are told, whatever rows, memory and bytes the loader was given.
 abbrev pub EndsInside : Loader → ℕ → Type 0
-EndsInside l at = (rows : List Row) (memory fed : List ℕ) → Stands rows l memory fed → HasFault fed at reasons.Truncated
+EndsInside l told =
+    (rows : List Row) (memory fed : List ℕ) → Stands rows l memory fed
+    → (at : ℕ) × HasFault fed at reasons.Truncated × (told ≡ told_place at)
 
 -- No loader stands so, with any rows, memory and bytes.
 abbrev pub IsNoLoader : Loader → Type 0

@@ -18,7 +18,7 @@ use hunk_words::Fault;
 pub struct Loader {
     /// The byte of the memory where the open hunk begins; after the last hunk, the bytes of all.
     pub start: u64,
-    /// The bytes of header and body that were taken.
+    /// The bytes of header and body that were taken, or 2^64 - 1 where these are more.
     pub fed: u64,
     /// The byte that was refused.
     pub place: u64,
@@ -151,11 +151,8 @@ impl Loader {
         if longs == 0 || longs > self.owed as usize {
             return None;
         }
-        if piece.len() as u64 > u64::MAX - self.fed {
-            return None;
-        }
         Some(Loader {
-            fed: self.fed + piece.len() as u64,
+            fed: self.fed.saturating_add(piece.len() as u64),
             owed: self.owed - longs as u32,
             ..*self
         })

@@ -50,9 +50,9 @@ pub extern "C" fn hunk_begin(
 
 /// Takes the piece, or up to the end of the file where that stands inside it.
 ///
-/// It answers the number of whole hunks, the bytes of header and body so far, and those of the
-/// piece that were taken: fewer than there are where the file is whole. The memory is as the
-/// longwords so far leave it.
+/// It answers the number of whole hunks, the bytes of header and body so far, 2^64 - 1 at most, and
+/// those of the piece that were taken: fewer than there are where the file is whole. The memory is
+/// as the longwords so far leave it.
 ///
 /// # Errors
 ///

@@ -1,13 +1,13 @@
 -- What is known where a loader of a body stands after bytes.
-use Rattle.std.proofs.Common.{◌≡◌, ℕ, ◌+◌, ◌-◌, ◌*◌, ◌/◌, ◌^◌, ◌≤◌, ◌<◌, Bool, true, false, List, [], ◌∷◌, ◌++◌, length, map, take, drop, refl, sym, ap, ap₂, subst, ◌∙◌, append_assoc, append-nil, arith, length-append, drop_of_length-le, is_some, Option, None, Some}
+use Rattle.std.proofs.Common.{◌≡◌, ℕ, ◌+◌, ◌*◌, ◌/◌, ◌^◌, ◌≤◌, ◌<◌, Bool, true, false, List, [], ◌∷◌, ◌++◌, length, map, take, drop, refl, sym, ap, ap₂, subst, ◌∙◌, append_assoc, append-nil, arith, length-append, drop_of_length-le, is_some, Option, None, Some}
 use Rattle.std.specs.List.{AllByRecursion}
 use Rattle.std.proofs.lemmas.List.{map-append, length-map, take_all, take_at, drop_at}
-use Rattle.hunk_words.specs.declared.reason.Reason.{Reason}
 use Rattle.hunk_words.specs.declared.fault.Fault.{Fault}
 use Rattle.hunk_words.specs.Bits.{size_longs}
-use Rattle.hunk_words.specs.Longs.{bytes_of, longs, IsLong, AreLongs}
+use Rattle.hunk_words.specs.Carriers.{saturated}
+use Rattle.hunk_words.specs.Longs.{bytes_of, longs, AreLongs}
 use Rattle.hunk_blocks.specs.Faults.{words}
-use Rattle.hunk_files.specs.Fault.{HasRefusal, IsTruncated}
+use Rattle.hunk_files.specs.Fault.{IsTruncated}
 use Rattle.hunk_files.specs.Image.{image, images}
 use Rattle.hunk_files.specs.LoadFile.{HunkValue, LoadFileValue, IsLoadFile}
 use Rattle.hunk_files.specs.LoadText.{text, table}
@@ -33,12 +33,12 @@ use Rattle.hunk_words.specs.PendingBytes.{pending_of}
 use Rattle.hunk_scatter.specs.declared.stream.Standing.{Standing}
 use Rattle.hunk_scatter.specs.LoaderValues.{IsWholeFile, IsImageOf, HasNoRefusal, segments_in}
 use Rattle.hunk_scatter.specs.BodyReader.{sizes_of, state_of}
-use Rattle.hunk_scatter.specs.BodySteps.{refusal, IsInStore}
+use Rattle.hunk_scatter.specs.BodySteps.{IsInStore}
 use Rattle.hunk_scatter.specs.Rows.{words_of, bases_of}
 use Rattle.hunk_scatter.proofs.Outcomes.{read_clean, read_truncated}
 use Rattle.hunk_scatter.proofs.ReadWords.{read_longs, text_longs}
 use Rattle.hunk_scatter.proofs.Runs.{none_over}
-use Rattle.hunk_scatter.proofs.OneByte.{Going, going, room, refused_here, file_read, sizes_are, not_done}
+use Rattle.hunk_scatter.proofs.OneByte.{Going, going, room, file_read, sizes_are, not_done}
 
 -- ---- words
 
@@ -46,9 +46,9 @@ pub few_words : (rows : List Row) (total : ℕ) (s : BodyState) → IsInStore (w
 few_words rows total s h = omega (arith, h.hunks, length-map rows (λ (r : Row). r.word))
 
 -- a Vec whose elements were written through a slice
-pub written : (items new : List ℕ) (len : ℕ) → len ≡ length items → length new ≡ length items → take len (new ++ drop (length new) items) ≡ new
-written items new len e d =
-    ap (λ (xs : List ℕ). take len (new ++ xs)) (drop_of_length-le items (omega arith)) ∙ ap (λ (xs : List ℕ). take len xs) (append-nil new) ∙ take_all len new (omega arith)
+pub written : {A : Type 0} (items new : List A) (len : ℕ) → len ≡ length items → length new ≡ length items → take len (new ++ drop (length new) items) ≡ new
+written {A} items new len e d =
+    ap (λ (xs : List A). take len (new ++ xs)) (drop_of_length-le items (omega arith)) ∙ ap (λ (xs : List A). take len xs) (append-nil new) ∙ take_all len new (omega arith)
 
 pub none_of : (o : Option Fault) → is_some o ≡ false → o ≡ None
 none_of None e = refl
@@ -108,10 +108,10 @@ module _ (rows : List Row) (store : List ℕ) (s : Standing) (fed : List ℕ) (h
   pending = pending_of s.pending
 
   -- Numbers and a store behind more bytes.
-  pub fed_more : (store2 : List ℕ) (to : Standing) (bytes : List ℕ) → length store2 ≡ length store → to.fed ≡ s.fed + length bytes →
+  pub fed_more : (store2 : List ℕ) (to : Standing) (bytes : List ℕ) → length store2 ≡ length store → to.fed ≡ saturated (length (fed ++ bytes)) →
       StandsBehind rows store2 to.state (pending_of to.pending) (fed ++ bytes) → IsFed rows store2 to (fed ++ bytes)
   fed_more store2 to bytes same count r = record {
-    counted = omega (arith, h.counted, count, length-append fed bytes);
+    counted = count;
     hunks = h.hunks;
     size = same ∙ h.size;
     stands = r;
@@ -190,22 +190,6 @@ module _ (rows : List Row) (store : List ℕ) (s : Standing) (fed : List ℕ) (h
         let w = words_same gone.ws pending fed gone.spelled gone.few (read_longs gone.ws (More gone.at) gone.read) p t in
         let most : run_of t.more ≤ least_longs (position_of (More gone.at)) = to_come_least gone.ws gone.at gone.read t.value t.is_load_file t.done t.more t.labels w.0 in
         omega (arith, t.count, w.1, most, here)
-
-    -- Bytes that complete a longword that is refused.
-    pub refusal_here : (bytes : List ℕ) (w : ℕ) → IsLong w → pending ++ bytes ≡ bytes_of (w ∷ []) → (reason : Reason) →
-        refusal (words_of rows) s.state w ≡ Some reason → HasRefusal (fed ++ bytes) (s.fed + length bytes - 4) reason
-    refusal_here bytes w is gathers reason no-pass =
-        let four : 4 ≤ s.fed + length bytes =
-        omega (
-          arith,
-          h.counted,
-          ap length gathers,
-          length-bytes_of (w ∷ []),
-          length-append pending bytes,
-          ap length gone.spelled,
-          length-append (bytes_of gone.ws) pending,
-        ) in
-        refused_here rows store s.state pending fed gone bytes w is gathers reason (s.fed + length bytes - 4) (omega (arith, h.counted, four)) no-pass
 
   -- No byte is fed behind a load text.
   pub fed_within : GoesPastNoFile fed

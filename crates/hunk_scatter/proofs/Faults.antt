@@ -1,14 +1,16 @@
 -- Faults of bytes that go on.
-use Rattle.std.proofs.Common.{◌≡◌, ℕ, ◌+◌, ◌-◌, ◌≤◌, List, [], ◌∷◌, ◌++◌, length, take, drop, length-drop, arith, refl, sym, ap, ap₂, subst, ◌∙◌, append_assoc, append-nil, take-append-drop, ◌⊎◌, inl, inr}
+use Rattle.std.proofs.Common.{◌≡◌, ℕ, ◌+◌, ◌-◌, ◌^◌, ◌<◌, ◌≤◌, List, [], ◌∷◌, ◌++◌, length, take, drop, length-append, length-drop, arith, refl, sym, ap, ap₂, subst, ◌∙◌, append_assoc, append-nil, take-append-drop, ◌⊎◌, inl, inr}
 use Rattle.std.specs.Int.{w32, from_be_bytes}
 use Rattle.std.proofs.lemmas.List.{take_rest}
 use Rattle.std.proofs.Math.Seq.{take-add}
+use Rattle.hunk_words.specs.declared.fault.Fault.{Fault}
 use Rattle.hunk_words.specs.declared.reason.Reason.{Reason}
 use Rattle.hunk_words.specs.Longs.{longs, bytes_of}
+use Rattle.hunk_words.proofs.LongLaws.{length-longs}
 use Rattle.hunk_files.specs.Fault.{HasRefusal}
 use Rattle.hunk_files.specs.LoadText.{text}
 use Rattle.hunk_files.proofs.Scan.{no_fault}
-use Rattle.hunk_scatter.specs.LoaderValues.{MayGoOnInFile}
+use Rattle.hunk_scatter.specs.LoaderValues.{MayGoOnInFile, IsBodyRefusal}
 
 pub longs-more : (bytes more : List ℕ) → (rest : List ℕ) × (longs (bytes ++ more) ≡ longs bytes ++ rest)
 longs-more [] more = (longs more, refl)
@@ -43,6 +45,12 @@ no_refusal_on bytes at reason m h = go m.fits
         no_fault (bytes ++ m.more) at reason (record { value = m.value; is_load_file = m.is_load_file; rest = []; split = sym e ∙ sym (append-nil (bytes_of (text m.value))) })
         (inl (refusal_more bytes m.more at reason h))
     go (inr e) = no_fault bytes at reason (record { value = m.value; is_load_file = m.is_load_file; rest = m.more; split = e }) (inl h)
+
+-- Its place is told as it is, where the bytes are fewer than 2^64.
+pub refusal_told : (bytes : List ℕ) (f : Fault) → length bytes < 2 ^ 64 → IsBodyRefusal bytes f → HasRefusal bytes f.place f.reason
+refusal_told bytes f few (at, h, told) =
+    let inside : at < length bytes = omega (arith, h.place, ap length h.split, length-append h.before (h.word ∷ h.after), length-longs bytes) in
+    subst (λ (n : ℕ). HasRefusal bytes n f.reason) (omega (arith, few, inside, told)) h
 
 -- A refusal within the front of a piece is one of the piece.
 pub refusal_front : (fed piece : List ℕ) (n at : ℕ) (reason : Reason) → HasRefusal (fed ++ take n piece) at reason → HasRefusal (fed ++ piece) at reason

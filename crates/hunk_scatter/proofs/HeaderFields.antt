@@ -1,5 +1,5 @@
 -- What the fields of the loader of a header keep, and what they tell.
-use Rattle.std.proofs.Common.{◌≡◌, ℕ, ◌+◌, ◌-◌, ◌*◌, ◌/◌, ◌^◌, ◌<◌, ◌≤◌, Bool, true, false, List, [], ◌∷◌, ◌++◌, length, map, refl, sym, ap, subst, ◌∙◌, append_assoc, append-nil, arith, length-append, Option, Some, None, Ok, ◌⊎◌, inl, inr, ltb, take, drop, take-append-drop}
+use Rattle.std.proofs.Common.{◌≡◌, ℕ, ◌+◌, ◌-◌, ◌*◌, ◌/◌, ◌^◌, ◌<◌, ◌≤◌, Bool, true, false, List, [], ◌∷◌, ◌++◌, length, map, refl, sym, ap, subst, ◌∙◌, append_assoc, append-nil, arith, length-append, Option, Some, None, Ok, ◌⊎◌, inl, inr, ltb, take, drop, length-drop, take-append-drop}
 use Rattle.std.specs.Prelude.{IsTrue}
 use Rattle.std.proofs.lemmas.Bool.{ltb-true, ltb-false}
 use Rattle.std.proofs.lemmas.List.{length-map, take_all}
@@ -33,7 +33,7 @@ use Rattle.hunk_scatter.proofs.HeaderLeast.{header_owes, least_is, opens}
 use Rattle.hunk_scatter.proofs.HeaderSteps.{rows_total}
 use Rattle.hunk_scatter.proofs.HeaderReads.{word_read}
 use Rattle.hunk_scatter.proofs.HeaderStops.{header_longs}
-use Rattle.hunk_scatter.proofs.HeaderTexts.{header_read, header_done, rows_read, rows_few}
+use Rattle.hunk_scatter.proofs.HeaderTexts.{entries_most, header_read, header_done, rows_read, rows_few}
 use Rattle.hunk_scatter.proofs.Outcomes.{longs_are, read_clean, read_truncated}
 use Rattle.hunk_scatter.proofs.ReadWords.{read_longs}
 use Rattle.hunk_scatter.proofs.Splits.{fronts}
@@ -78,6 +78,9 @@ module _ (budget : ℕ) (rows : List Row) (s : HeaderState) (pending fed : List 
       sym (length-map rows row_entry)
       ∙ ap length (sym r.has_read.table_is ∙ sym (rows_read r.has_read.next r.ws r.has_read.read r.has_read.opens_first))
       ∙ ap (λ (ws : List ℕ). length (entries_so_far ws)) (sym words_are)
+
+  pub heading_few : length rows ≤ 65536 → length fed < 2 ^ 32
+  heading_few few = omega (arith, heading_rows, entries_most (drop 5 (longs fed)), length-drop 5 (longs fed), length-longs fed)
 
   pub heading_room : length rows ≤ 65536 → s.total + 2 ^ 32 < 2 ^ 64
   heading_room few =

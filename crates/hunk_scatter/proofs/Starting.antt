@@ -1,6 +1,7 @@
 -- Behind the header the body's loader stands at its first hunk, with a store of zero bytes.
-use Rattle.std.proofs.Common.{◌≡◌, ◌≢◌, ℕ, zero, suc, ◌+◌, ◌*◌, List, [], ◌∷◌, ◌++◌, length, replicate, refl, sym, ap, ◌∙◌, append-nil, arith, subst, take, drop, drop_of_length-le}
+use Rattle.std.proofs.Common.{◌≡◌, ◌≢◌, ℕ, zero, suc, ◌+◌, ◌*◌, List, [], ◌∷◌, ◌++◌, length, replicate, refl, sym, ap, ◌∙◌, append-nil, arith, subst}
 use Rattle.std.proofs.lemmas.List.Sums.{sum_by-cons}
+use Rattle.hunk_words.specs.Carriers.{saturated}
 use Rattle.hunk_words.specs.Longs.{bytes_of}
 use Rattle.hunk_words.specs.Bits.{size_longs}
 use Rattle.hunk_files.specs.Image.{declared_bytes}
@@ -17,7 +18,7 @@ use Rattle.hunk_scatter.specs.declared.stream.Standing.{Standing}
 use Rattle.hunk_scatter.proofs.OneByte.{stands_as}
 use Rattle.hunk_files.specs.Tables.{row_entry}
 use Rattle.hunk_scatter.specs.Rows.{entries_of, bases_of}
-use Rattle.std.proofs.lemmas.List.{length-map, length-replicate, take_all}
+use Rattle.std.proofs.lemmas.List.{length-map, length-replicate}
 use Rattle.hunk_scatter.specs.HeaderBytes.{IsHeaderTable, header_words, header_bytes}
 use Rattle.hunk_scatter.specs.HeaderLoaderFields.{DeclaredInvariant}
 use Rattle.hunk_scatter.proofs.HeaderTexts.{header_read}
@@ -52,11 +53,11 @@ start_reading (r ∷ rows) ws fed some e read = record {
 
 -- A table that was read, with its hunks placed and a store of zero bytes: numbers behind its header.
 pub placed_loading : (old rows : List Row) (total budget count : ℕ) (fed store : List ℕ) (s : Standing) → DeclaredInvariant old total budget count fed → entries_of rows ≡ entries_of old → store ≡ replicate total 0 →
-    s.state ≡ state_at [] (open_next (length (entries_of rows)) (length (entries_of rows))) → s.fed ≡ count → pending_of s.pending ≡ [] → IsFed rows store s fed
+    s.state ≡ state_at [] (open_next (length (entries_of rows)) (length (entries_of rows))) → s.fed ≡ saturated (length fed) → pending_of s.pending ≡ [] → IsFed rows store s fed
 placed_loading old rows total budget count fed store s h same zero_bytes state_is fed_is none =
     let table : IsHeaderTable (entries_of rows) = subst IsHeaderTable (sym same) h.is_table in
     record {
-      counted = fed_is ∙ h.counted;
+      counted = fed_is;
       hunks = omega (arith, table.most, length-map rows row_entry);
       size = ap length zero_bytes ∙ length-replicate total 0 ∙ h.total_is ∙ ap declared_bytes (sym same);
       stands =
@@ -64,8 +65,3 @@ placed_loading old rows total budget count fed store s h same zero_bytes state_i
           (zero_bytes ∙ ap (λ (n : ℕ). replicate n 0) (h.total_is ∙ ap declared_bytes (sym same)) ∙ zeros_are (entries_of rows)) state_is none
           (start_reading rows (header_words (entries_of rows)) fed (λ none. omega (arith, ap length none, table.some, length-map rows row_entry)) (h.header ∙ ap header_bytes (sym same)) (header_read (entries_of rows) table));
     }
-
--- a Vec whose elements were written through a slice
-pub written_rows : (items new : List Row) (len : ℕ) → len ≡ length items → length new ≡ length items → take len (new ++ drop (length new) items) ≡ new
-written_rows items new len e d =
-    ap (λ (xs : List Row). take len (new ++ xs)) (drop_of_length-le items (omega arith)) ∙ ap (λ (xs : List Row). take len xs) (append-nil new) ∙ take_all len new (omega arith)

@@ -1,6 +1,7 @@
 -- A loader of numbers.
-use Rattle.std.proofs.Common.{◌≡◌, ℕ, ◌<◌, Bool, true, false, List, [], ◌∷◌, ◌++◌, length, get_or, take, refl, sym, arith, length-append, Err, None}
+use Rattle.std.proofs.Common.{◌≡◌, ℕ, ◌<◌, Bool, true, false, List, [], ◌∷◌, ◌++◌, length, get_or, take, refl, sym, arith, Err, None}
 use Rattle.hunk_files.specs.declared.row.Row.{Row}
+use Rattle.hunk_words.specs.Carriers.{saturated}
 use Rattle.hunk_words.specs.declared.pending.Pending.{Pending}
 use Rattle.hunk_grammar.specs.declared.phase.OpenHunk.{OpenHunk}
 use Rattle.hunk_blocks.specs.declared.phase.Phase.{Phase}
@@ -42,7 +43,7 @@ any_count rows store s fed h = record { counted = refl; hunks = h.hunks; size = 
 pub stands_more : (rows : List Row) (store store2 : List ℕ) (at : Standing) (state : BodyState) (pending : Pending) (fed bytes : List ℕ) → StandsAfter rows store at fed → length store2 ≡ length store →
     StandsBehind rows store2 state (pending_of pending) (fed ++ bytes) → StandsAfter rows store2 (record { state = state; fed = at.fed; pending = pending }) (fed ++ bytes)
 stands_more rows store store2 at state pending fed bytes h same r =
-    fed_more rows store _ fed h store2 (record { state = state; fed = length (fed ++ bytes); pending = pending }) bytes same (length-append fed bytes) r
+    fed_more rows store _ fed h store2 (record { state = state; fed = saturated (length (fed ++ bytes)); pending = pending }) bytes same refl r
 
 -- Numbers that lead out of the rows or the store are no loader's.
 pub strange : (rows : List Row) (store : List ℕ) (at : Standing) (piece : List ℕ) → is_done at.state.position ≡ false → (IsInStore (words_of rows) (length store) at.state → ⊥) →

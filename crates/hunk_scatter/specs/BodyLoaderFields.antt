@@ -1,5 +1,6 @@
 -- What the fields of the loader of a body keep.
 use Rattle.std.specs.Prelude.{◌≡◌, ℕ, ◌<◌, ◌≤◌, List, [], ◌++◌, length, take, Option, None, Some, Result, IfOk, IfErr, MatchOption, IsTrue}
+use Rattle.hunk_words.specs.Carriers.{saturated}
 use Rattle.hunk_words.specs.Limits.{most_hunks}
 use Rattle.hunk_words.specs.Longs.{bytes_of}
 use Rattle.hunk_words.specs.declared.fault.Fault.{Fault}
@@ -16,8 +17,8 @@ use Rattle.hunk_scatter.specs.StoreContent.{StoreHolds}
 use Rattle.hunk_scatter.specs.BodySteps.{IsInStore, StaysInStore}
 use Rattle.hunk_scatter.specs.Rows.{entries_of, words_of, bases_of}
 use Rattle.hunk_scatter.specs.BodyReader.{state_of}
-use Rattle.hunk_scatter.specs.LoadOutcomes.{GoesPastNoFile, StopsInBody}
-use Rattle.hunk_scatter.specs.LoaderValues.{BodyLoaderValue, FeedsFront, IsWholeFile}
+use Rattle.hunk_scatter.specs.LoadOutcomes.{GoesPastNoFile}
+use Rattle.hunk_scatter.specs.LoaderValues.{BodyLoaderValue, FeedsFront, IsWholeFile, IsBodyRefusal}
 use Rattle.hunk_words.specs.PendingBytes.{pending_of}
 use Rattle.hunk_scatter.specs.declared.stream.Standing.{Standing}
 use Rattle.hunk_files.specs.ReaderPosition.{IsBehindHeader, table_of}
@@ -43,13 +44,13 @@ pub record StandsBehind (rows : List Row) (store : List ℕ) (state : BodyState)
 
 -- A loader with these rows stands so after the bytes, header and body joined, and has made this store of them.
 pub record IsFed (rows : List Row) (store : List ℕ) (s : Standing) (fed : List ℕ) : Type 0 where
-  pub counted : s.fed ≡ length fed
+  pub counted : s.fed ≡ saturated (length fed)
   pub hunks : length rows ≤ most_hunks
   pub size : length store ≡ declared_bytes (entries_of rows)
   pub stands : StandsBehind rows store s.state (pending_of s.pending) fed
 
 pub record BodyLoaderInvariant (rows : List Row) (store : List ℕ) (s : Standing) (refused : Option Fault) (fed : List ℕ) : Type 0 where
-  pub counted : s.fed ≡ length fed
+  pub counted : s.fed ≡ saturated (length fed)
   pub hunks : length rows ≤ most_hunks
   pub size : length store ≡ declared_bytes (entries_of rows)
   pub reading : refused ≡ None → IsFed rows store s fed
@@ -101,4 +102,4 @@ pub record FeedsPiece (old : BodyLoaderValue) (piece : List ℕ) (new : BodyLoad
 -- The piece is consumed, or the loader keeps why it is refused.
 pub record FeedsOrRefuses (old : BodyLoaderValue) (piece : List ℕ) (new : BodyLoaderValue) (n : ℕ) : Type 0 where
   pub rows : new.rows ≡ old.rows
-  pub feeds : MatchOption new.refused (FeedsPiece old piece new n) (λ f. StopsInBody (old.fed ++ piece) f × (new.fed ≡ old.fed))
+  pub feeds : MatchOption new.refused (FeedsPiece old piece new n) (λ f. IsBodyRefusal (old.fed ++ piece) f × IsTrue (is_of_body f.reason) × (new.fed ≡ old.fed))

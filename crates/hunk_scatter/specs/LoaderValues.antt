@@ -1,5 +1,5 @@
 -- The loaders and what they make, as their callers see them.
-use Rattle.std.specs.Prelude.{◌≡◌, ℕ, ◌*◌, List, [], ◌∷◌, ◌++◌, ◌≤◌, length, map, take, drop, Option, MatchOption, ◌⊎◌}
+use Rattle.std.specs.Prelude.{◌≡◌, ℕ, ◌-◌, ◌*◌, ◌^◌, min, List, [], ◌∷◌, ◌++◌, ◌≤◌, length, map, take, drop, Option, MatchOption, ◌⊎◌}
 use Rattle.std.specs.Borrow.{Bor}
 use Rattle.std.specs.List.{flat_map}
 use Rattle.hunk_words.specs.Bits.{size_longs}
@@ -60,6 +60,14 @@ pub record MayGoOnInFile (bytes : List ℕ) : Type 0 where
 -- No longword of the bytes is refused.
 abbrev pub HasNoRefusal : List ℕ → Type 0
 HasNoRefusal bytes = (at : ℕ) (reason : Reason) → HasRefusal bytes at reason → ⊥
+
+-- a place as a loader of a body tells it: 2^64 - 4 where it is more, as in no run
+abbrev pub told_place : ℕ → ℕ
+told_place at = min at (2 ^ 64 - 4)
+
+-- The fault is the refusal of a longword of the bytes.
+abbrev pub IsBodyRefusal : List ℕ → Fault → Type 0
+IsBodyRefusal bytes f = (at : ℕ) × HasRefusal bytes at f.reason × (f.place ≡ told_place at)
 
 -- ---- images
 

@@ -1,5 +1,6 @@
 -- A loader in memory that is its caller's: rows, a store, and numbers.
 use Rattle.std.specs.Prelude.{◌≡◌, ℕ, ◌*◌, ◌/◌, ◌<◌, ◌≤◌, Bool, true, false, List, ◌++◌, length, take, Option, None, Some, IfSome, Result, MatchResult, IfOk, IfErr, IsTrue, ⊤}
+use Rattle.hunk_words.specs.Carriers.{saturated}
 use Rattle.hunk_words.specs.declared.reason.Reason.{Reason}
 use Rattle.hunk_files.specs.Fault.{HasRefusal, IsTruncated}
 use Rattle.hunk_files.specs.Image.{declared_bytes}
@@ -9,7 +10,7 @@ use Rattle.hunk_grammar.specs.Positions.{is_done}
 use Rattle.hunk_scatter.specs.BodySteps.{StaysInStore}
 use Rattle.hunk_scatter.specs.HeaderBytes.{IsHeaderTable, header_bytes}
 use Rattle.hunk_scatter.specs.LoaderReasons.{is_of_body}
-use Rattle.hunk_scatter.specs.LoaderValues.{IsImageOf, HasNoRefusal, segments_in}
+use Rattle.hunk_scatter.specs.LoaderValues.{IsImageOf, HasNoRefusal, IsBodyRefusal, segments_in}
 use Rattle.hunk_scatter.specs.Rows.{entries_of, words_of}
 use Rattle.hunk_scatter.specs.declared.stream.Standing.{Standing}
 use Rattle.hunk_scatter.specs.declared.stream.Stop.{Stop}
@@ -17,7 +18,7 @@ use Rattle.hunk_scatter.specs.declared.stream.Stop.TheVariants as stops
 
 -- A loader that stood after bytes stops for a refusal alone.
 abbrev pub StopsAt : List ℕ → Stop → Type 0
-StopsAt bytes (stops.Refused f) = HasRefusal bytes f.place f.reason
+StopsAt bytes (stops.Refused f) = IsBodyRefusal bytes f
 StopsAt bytes stops.Strange = ⊥
 
 -- A refusal is for a reason of a body.
@@ -48,7 +49,7 @@ pub record MayTake (rows : List Row) (total : ℕ) (at : Standing) (piece : List
 
 -- A loader stands so after the bytes, however many of them the numbers count.
 abbrev pub StandsAfter : List Row → List ℕ → Standing → List ℕ → Type 0
-StandsAfter rows store s fed = IsFed rows store (record { state = s.state; fed = length fed; pending = s.pending }) fed
+StandsAfter rows store s fed = IsFed rows store (record { state = s.state; fed = saturated (length fed); pending = s.pending }) fed
 
 -- This many bytes of the piece were taken, one at least.
 pub record TakesBytes (rows : List Row) (store : List ℕ) (at : Standing) (piece after : List ℕ) (to : Standing) (n : ℕ) : Type 0 where

@@ -1,16 +1,17 @@
 //! The loader of a body.
-ghost use Rattle.std.specs.Prelude.{◌≡◌, ℕ, ◌+◌, ◌*◌, ◌/◌, ◌<◌, ◌≤◌, ◌^◌, List, [], ◌∷◌, ◌++◌};
+ghost use Rattle.std.specs.Prelude.{◌≡◌, ℕ, ◌+◌, ◌*◌, ◌/◌, ◌<◌, ◌≤◌, List, [], ◌∷◌, ◌++◌};
 ghost use Rattle.std.specs.Prelude.{length, take, true, false, Some, None, Ok, Err, IfOk, IfErr};
 ghost use Rattle.std.specs.Prelude.{OnOk, OnErr, IsOk, IsTrue, ◌⊎◌};
+ghost use Rattle.hunk_words.specs.Carriers.{saturated};
 ghost use Rattle.hunk_words.specs.Longs.{bytes_of};
 ghost use Rattle.hunk_words.specs.declared.fault.Fault.{Fault};
-ghost use Rattle.hunk_files.specs.Fault.{HasRefusal, IsTruncated};
+ghost use Rattle.hunk_files.specs.Fault.{IsTruncated};
 ghost use Rattle.hunk_files.specs.Image.{declared_bytes};
 ghost use Rattle.hunk_files.specs.LoadFile.{LoadFileValue, IsLoadFile};
 ghost use Rattle.hunk_files.specs.LoadText.{text};
 ghost use Rattle.hunk_scatter.specs.LoaderReasons.{is_of_body};
 ghost use Rattle.hunk_scatter.specs.LoaderValues.{FeedsFront, HasNoRefusal, IsImageOf, IsWholeFile};
-ghost use Rattle.hunk_scatter.specs.LoaderValues.{MayGoOnInFile};
+ghost use Rattle.hunk_scatter.specs.LoaderValues.{MayGoOnInFile, IsBodyRefusal};
 ghost use Rattle.hunk_scatter.specs.BodyLoaderFields.{FeedsOrRefuses};
 ghost use Rattle.hunk_scatter.specs.LoadOutcomes.{GoesPastNoFile};
 ghost use Rattle.hunk_scatter.specs.Owing.{BytesToCome, most_want};
@@ -60,8 +61,7 @@ impl BodyLoader {
     /// sources of loads.
     #[inline(never)]
     fn take(&mut self, piece: &[u8]) -> usize
-        requires room { length self.old.fed + length piece.now < 2 ^ 64 }
-        requires reading { self.old.refused ≡ None }
+        requires { self.old.refused ≡ None }
         ensures { FeedsOrRefuses self.old piece.now self.new result }
     {
         let (store, rows) = (self.store.as_mut_slice(), self.rows.as_slice());
@@ -112,20 +112,18 @@ impl BodyLoader {
     }
 
     /// Consumes the piece, or up to the end of the file where that stands inside it, and gives the
-    /// number of bytes consumed. A file that is whole consumes nothing. Fewer than 2^64 bytes may
-    /// be fed in all. It takes no memory.
+    /// number of bytes consumed. A file that is whole consumes nothing. It takes no memory.
     ///
     /// # Errors
     ///
     /// The first fault of all that was fed, this piece included, however it was cut. The place is
-    /// the first byte of the longword that is rejected, from the start of the file. It is never
-    /// `Truncated` and never `OutOfMemory`.
+    /// the first byte of the longword that is rejected, from the start of the file, or 2^64 - 4
+    /// where that is more. It is never `Truncated` and never `OutOfMemory`.
     ///
     /// Nothing is consumed then: `fed` stays as it was. Each later `feed` answers the same and
     /// changes nothing, and `want` is 0.
     #[inline(always)]
     pub fn feed(&mut self, piece: &[u8]) -> Result<usize, LoadFault>
-        requires { length self.old.fed + length piece.now < 2 ^ 64 }
         ensures rows { self.new.rows ≡ self.old.rows }
 
         // Success.
@@ -139,7 +137,7 @@ impl BodyLoader {
 
         // Refusals.
         ensures refusal { self.old.refused ≡ None
-            → IfErr result (λ f. HasRefusal (self.old.fed ++ piece.now) f.place f.reason) }
+            → IfErr result (IsBodyRefusal (self.old.fed ++ piece.now)) }
         ensures accepts { self.old.refused ≡ None → MayGoOnInFile (self.old.fed ++ piece.now)
             → IsOk result }
         ensures own_reasons { IfErr result (λ f. IsTrue (is_of_body f.reason)) }
@@ -167,9 +165,10 @@ impl BodyLoader {
         self.store.len() as u64 + 12 * self.rows.len() as u64
     }
 
-    /// The number of bytes of header and body that were consumed. A rejected piece adds none.
+    /// The number of bytes of header and body that were consumed, or 2^64 - 1 where these are more.
+    /// A rejected piece adds none.
     pub fn fed(&self) -> u64
-        ensures { result ≡ length self.now.fed }
+        ensures { result ≡ saturated (length self.now.fed) }
     {
         self.standing.fed
     }

@@ -87,7 +87,6 @@ impl HeaderLoader {
 
     /// Takes a byte, or a longword that lies whole in the piece, unless the header is whole.
     fn take_long(&mut self, piece: &[u8]) -> Result<usize, LoadFault>
-        requires room { length self.old.fed + length piece.now < 2 ^ 64 }
         requires reading { self.old.refused ≡ None }
         requires nonempty { 0 < length piece.now }
         ensures feeds_or_stops { FeedsHeaderOrStops self.old self.new piece.now result }
@@ -98,9 +97,10 @@ impl HeaderLoader {
         }
         let (pending, taken, next) = self.pending.take_front(piece);
         let bytes = &piece[..taken];
+        let count = self.count + taken as u64;
         let Some(word) = next else {
             self.pending = pending;
-            self.count += taken as u64;
+            self.count = count;
             self.history = self.history.and(bytes);
             return Ok(taken);
         };
@@ -108,12 +108,12 @@ impl HeaderLoader {
             Ok(state) => {
                 self.state = state;
                 self.pending = pending;
-                self.count += taken as u64;
+                self.count = count;
                 self.history = self.history.and(bytes);
                 Ok(taken)
             }
             Err(reason) => {
-                let place = self.count + taken as u64 - 4;
+                let place = count - 4;
                 let fault = LoadFault { place, reason };
                 self.rows = Vec::new(self.alloc);
                 self.refused = Some(fault);
@@ -156,7 +156,7 @@ impl HeaderLoader {
 
     /// Consumes the piece, or up to the end of the header where that stands inside it, and gives
     /// the number of bytes consumed: none after the header. A header that is whole consumes
-    /// nothing. Fewer than 2^64 bytes may be fed in all.
+    /// nothing.
     ///
     /// # Errors
     ///
@@ -170,7 +170,6 @@ impl HeaderLoader {
     /// Nothing is consumed then, and no row is held. Each later `feed` answers the same and changes
     /// nothing, and `want` is 0.
     pub fn feed(&mut self, piece: &[u8]) -> Result<usize, LoadFault>
-        requires { length self.old.fed + length piece.now < 2 ^ 64 }
         ensures budget { self.new.budget ≡ self.old.budget }
 
         // Success.

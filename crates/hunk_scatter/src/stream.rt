@@ -3,7 +3,7 @@
 //!
 //! The numbers may be any. Those that lead out of the rows or the store are found out, each in
 //! constant time, before the store is touched.
-ghost use Rattle.std.specs.Prelude.{◌≡◌, ◌+◌, ◌<◌, ◌≤◌, ◌^◌, ℕ, List, [], ◌∷◌, ◌++◌, length, take};
+ghost use Rattle.std.specs.Prelude.{◌≡◌, ◌+◌, ◌<◌, ◌≤◌, ℕ, List, [], ◌∷◌, ◌++◌, length, take};
 ghost use Rattle.std.specs.Prelude.{true, IfErr, IfOk, MatchResult, OnErr, Some, replicate};
 ghost use Rattle.hunk_words.specs.Limits.{most_hunks};
 ghost use Rattle.hunk_words.specs.PendingBytes.{pending_of};
@@ -27,7 +27,7 @@ use std::fmt;
 pub struct Standing {
     /// The open hunk, and what the next longword is for.
     pub state: BodyState,
-    /// The number of bytes of header and body that were fed.
+    /// The number of bytes of header and body that were fed, or 2^64 - 1 where these are more.
     pub fed: u64,
     /// The bytes of the next longword that have come.
     pub pending: Pending,
@@ -36,8 +36,7 @@ pub struct Standing {
 /// Why a piece is not taken.
 #[derive(Clone, Copy, Debug, PartialEq, Eq)]
 pub enum Stop {
-    /// The numbers are those of no loader with these rows and this store, or the bytes fed would be
-    /// 2^64 or more in all.
+    /// The numbers are those of no loader with these rows and this store.
     Strange,
     /// The input is rejected, at a place in bytes from the start of the file.
     Refused(LoadFault),
@@ -158,8 +157,7 @@ pub(crate) fn take_all(
     at: &mut Standing,
     piece: &[u8],
 ) -> Result<usize, Stop>
-    requires within { IsWithin rows.now (length store.old) at.old }
-    requires room { at.old.fed + length piece.now < 2 ^ 64 }
+    requires { IsWithin rows.now (length store.old) at.old }
     ensures inside { IfOk result (λ n. n ≤ length piece.now) }
     ensures all { IfOk result
         (λ n. n < length piece.now → is_done at.new.state.position ≡ true) }
@@ -177,13 +175,14 @@ pub(crate) fn take_all(
             Ok(count) => rest = &rest[count..],
             Err(None) => return Err(Stop::Strange),
             Err(Some(reason)) => {
-                let place = (at.fed + (piece.len() - rest.len()) as u64) / 4 * 4;
+                let before = (piece.len() - rest.len()) as u64;
+                let place = at.fed.saturating_add(before) / 4 * 4;
                 return Err(Stop::Refused(LoadFault { place, reason }));
             }
         }
     }
     let taken = piece.len() - rest.len();
-    at.fed += taken as u64;
+    at.fed = at.fed.saturating_add(taken as u64);
     Ok(taken)
 }
 
@@ -196,10 +195,9 @@ pub(crate) fn take_all(
 ///
 /// - `Refused` where a longword is rejected. Where the numbers are a loader's, it is the first
 ///   fault of all that was fed, this piece included, at the first byte of its longword, from the
-///   start of the file.
+///   start of the file, or at 2^64 - 4 where that is more.
 /// - `Strange` where the numbers are found to be no loader's, since they lead out of the rows or
-///   the store, or where the bytes fed would be 2^64 or more. For fewer bytes, the numbers of a
-///   loader are never answered so.
+///   the store. The numbers of a loader are never answered so.
 ///
 /// What the store has after an `Err` is not said.
 pub fn take_piece(
@@ -212,13 +210,9 @@ pub fn take_piece(
     ensures all { IfOk result
         (λ r. r.1 < length piece.now → is_done r.0.state.position ≡ true) }
     ensures takes { (fed : List ℕ) → IsFed rows.now store.old at fed
-        → length fed + length piece.now < 2 ^ 64
         → TakesOn rows.now store.new fed piece.now result }
     ensures own_reasons { IfErr result StopsForBody }
 {
-    if piece.len() as u64 > u64::MAX - at.fed {
-        return Err(Stop::Strange);
-    }
     if !at.is_within(rows, store.len()) {
         return Err(Stop::Strange);
     }

@@ -1,5 +1,4 @@
 //! Headers, tables and placing by themselves.
-ghost use Rattle.std.specs.Prelude.{◌≤◌, length};
 
 use crate::tests::asserts::{assert_equal, assert_equal_at};
 use hunk_files::Row;
@@ -13,36 +12,6 @@ use test_helpers::examples::{
     WRONG_LAST_HUNK,
 };
 use test_helpers::spelled;
-
-/// A loader of headers, and how many bytes it was given.
-#[derive(Drop)]
-pub(super) struct Counted {
-    pub(super) loader: HeaderLoader,
-    given: u64,
-    ghost within: { length loader.fed ≤ given },
-}
-
-impl Counted {
-    pub(super) fn new(alloc: Global, budget: u64) -> Counted {
-        Counted {
-            loader: HeaderLoader::new(alloc, budget),
-            given: 0,
-        }
-    }
-
-    /// Feeds a piece, and gives the number of bytes taken of it.
-    pub(super) fn feed(&mut self, rt: &impl Abort, piece: &[u8]) -> Result<usize, LoadFault> {
-        assert!(rt; self.given < 1_000 && piece.len() < 1_000);
-        let answer = self.loader.feed(piece);
-        self.given += piece.len() as u64;
-        answer
-    }
-
-    /// How many bytes the loader wants next, and how many it holds.
-    pub(super) fn counts(&self) -> (usize, u64) {
-        (self.loader.want(), self.loader.held())
-    }
-}
 
 /// A loader that was fed a header, and what it answered.
 pub(super) fn fed(
@@ -97,18 +66,18 @@ fn in_pieces(
     first: usize,
     most: usize,
 ) -> Result<(u32, u64), (u64, Reason)> {
-    let mut counted = Counted::new(alloc, budget);
+    let mut loader = HeaderLoader::new(alloc, budget);
     let mut rest = bytes;
     let mut size = first;
     for _ in 0..bytes.len() {
         let (piece, behind) = rest.split_at(size.min(rest.len()));
-        if let Err(fault) = counted.feed(rt, piece) {
+        if let Err(fault) = loader.feed(piece) {
             return Err((fault.place, fault.reason));
         }
         rest = behind;
         size = most;
     }
-    match counted.loader.declared() {
+    match loader.declared() {
         Ok(declared) => Ok((declared.hunks(), declared.total())),
         Err(_) => panic!(rt; "not whole"),
     }
@@ -158,11 +127,11 @@ const WANTS: &[usize] = &[
 ];
 
 /// Feeds the bytes one by one, and sees what is wanted before each.
-fn expect_wants(rt: &impl Abort, counted: &mut Counted, bytes: &[u8], wants: &[usize]) {
+fn expect_wants(rt: &impl Abort, loader: &mut HeaderLoader, bytes: &[u8], wants: &[usize]) {
     assert_equal(rt, bytes.len(), wants.len());
     for (byte, want) in bytes.iter().zip(wants) {
-        assert_equal(rt, counted.counts().0, *want);
-        assert_equal(rt, counted.feed(rt, &[*byte]), Ok(1));
+        assert_equal(rt, loader.want(), *want);
+        assert_equal(rt, loader.feed(&[*byte]), Ok(1));
     }
 }
 
@@ -171,11 +140,11 @@ fn expect_wants(rt: &impl Abort, counted: &mut Counted, bytes: &[u8], wants: &[u
 #[test]
 fn wants_what_rows_still_have(rt: HostRuntime) -> Result<(), Fail> {
     let bytes = spelled(rt.alloc(), "3F3 0 3 0 2 1 C0000002 10004 1")?;
-    let mut counted = Counted::new(rt.alloc(), 1_000);
-    expect_wants(&rt, &mut counted, bytes.as_slice(), WANTS);
-    assert_equal(&rt, counted.counts().0, 0);
-    assert_equal(&rt, counted.feed(&rt, b"follows"), Ok(0));
-    assert!(rt; counted.loader.declared().is_ok());
+    let mut loader = HeaderLoader::new(rt.alloc(), 1_000);
+    expect_wants(&rt, &mut loader, bytes.as_slice(), WANTS);
+    assert_equal(&rt, loader.want(), 0);
+    assert_equal(&rt, loader.feed(b"follows"), Ok(0));
+    assert!(rt; loader.declared().is_ok());
     Ok(())
 }
 
@@ -192,14 +161,14 @@ const OF_65_HUNKS: &[(&str, usize)] = &[
 /// No more than 256 bytes are wanted, until 64 rows are owed.
 #[test]
 fn wants_at_most_a_buffer(rt: HostRuntime) -> Result<(), Fail> {
-    let mut counted = Counted::new(rt.alloc(), 1_000);
+    let mut loader = HeaderLoader::new(rt.alloc(), 1_000);
     for (text, want) in OF_65_HUNKS {
         let piece = spelled(rt.alloc(), text)?;
-        assert_equal(&rt, counted.feed(&rt, piece.as_slice()), Ok(piece.len()));
-        assert_equal_at(&rt, counted.counts().0, *want, text);
+        assert_equal(&rt, loader.feed(piece.as_slice()), Ok(piece.len()));
+        assert_equal_at(&rt, loader.want(), *want, text);
     }
-    assert_equal(&rt, counted.feed(&rt, [0].as_slice()), Ok(1));
-    assert_equal(&rt, counted.counts().0, 239);
+    assert_equal(&rt, loader.feed([0].as_slice()), Ok(1));
+    assert_equal(&rt, loader.want(), 239);
     Ok(())
 }
 
@@ -355,16 +324,16 @@ fn held(rt: HostRuntime) -> Result<(), Fail> {
 #[test]
 fn stays_refused(rt: HostRuntime) -> Result<(), Fail> {
     let bytes = spelled(rt.alloc(), ONE_HUNK)?;
-    let mut counted = Counted::new(rt.alloc(), 3);
+    let mut loader = HeaderLoader::new(rt.alloc(), 3);
     let fault = LoadFault {
         place: 20,
         reason: Reason::Budget,
     };
     for _ in 0..2u8 {
-        let fed = counted.feed(&rt, bytes.as_slice());
+        let fed = loader.feed(bytes.as_slice());
         assert_equal(&rt, fed, Err(fault));
     }
-    assert_equal(&rt, counted.counts(), (0, 0));
-    assert!(rt; counted.loader.declared().is_err());
+    assert_equal(&rt, (loader.want(), loader.held()), (0, 0));
+    assert!(rt; loader.declared().is_err());
     Ok(())
 }

@@ -2,10 +2,10 @@
 ghost use Rattle.std.specs.Prelude.{Option, slice_get};
 
 use crate::tests::asserts::{assert_equal, assert_equal_at};
-use crate::tests::headers::{Counted, came_back, declared, fed};
+use crate::tests::headers::{came_back, declared, fed};
 use crate::tests::{AMPLE, load_fault, loaded};
 use hunk_files::Row;
-use hunk_scatter::{Limits, Listed, Packed, Placer};
+use hunk_scatter::{HeaderLoader, Limits, Listed, Packed, Placer};
 use hunk_words::{LoadFault, Reason};
 use std::alloc::{AllocError, Global};
 use std::cell::Cell;
@@ -180,14 +180,13 @@ fn two_growths(rt: HostRuntime) -> Result<(), Fail> {
 /// What a header's loader answers for its table and for one size more, and whether the rows' room is
 /// taken after the first and free after the second.
 fn fills_and_frees(
-    rt: &impl Abort,
     alloc: Global,
-    counted: &mut Counted,
+    loader: &mut HeaderLoader,
     table: &[u8],
 ) -> [(Result<usize, LoadFault>, bool); 2] {
-    let first = counted.feed(rt, table);
+    let first = loader.feed(table);
     let is_taken = is_refused(alloc, ROWS);
-    let second = counted.feed(rt, [0, 0, 0, 1].as_slice());
+    let second = loader.feed([0, 0, 0, 1].as_slice());
     let is_free = !is_refused(alloc, ROWS);
     [(first, is_taken), (second, is_free)]
 }
@@ -200,8 +199,8 @@ fn frees_rows(rt: HostRuntime) -> Result<(), Fail> {
     }
     let bytes = spelled(rt.alloc(), "3F3 0 2 0 1 2")?;
     let held = all_but(rt.alloc(), &[ROWS])?;
-    let mut counted = Counted::new(rt.alloc(), 8);
-    let answers = fills_and_frees(&rt, rt.alloc(), &mut counted, bytes.as_slice());
+    let mut loader = HeaderLoader::new(rt.alloc(), 8);
+    let answers = fills_and_frees(rt.alloc(), &mut loader, bytes.as_slice());
     drop(held);
     let reason = Reason::Budget;
     let over = LoadFault { place: 24, reason };

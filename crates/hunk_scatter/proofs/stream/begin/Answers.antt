@@ -30,7 +30,7 @@ returns-clause-begins c = λ table header size.
     let zeros : c.fill.new.self ≡ replicate total 0 = filled ∙ ap (λ (n : ℕ). replicate {A = ℕ} n 0) size in
     let count : c.hunks_of.result ≡ length t = c.hunks_of.ensures (omega (arith, table.most, length-map rows row_entry)) ∙ sym (length-map rows row_entry) in
     let e = c.behind_header.ensures in
-    placed_loading (map row_of t) rows total total c.args.header (header_bytes t) c.fill.new.self _ tabled (sym same) zeros (e.state ∙ ap (λ (n : ℕ). state_at [] (open_next n n)) count) e.fed e.pending
+    placed_loading (map row_of t) rows total total c.args.header (header_bytes t) c.fill.new.self _ tabled (sym same) zeros (e.state ∙ ap (λ (n : ℕ). state_at [] (open_next n n)) count) (omega (arith, e.fed, header)) e.pending
 
 pub returns-clause-zero : goal.returns-clause-zero
 returns-clause-zero c = c.fill.ensures.after (λ y e. e)

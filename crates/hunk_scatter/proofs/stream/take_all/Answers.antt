@@ -1,5 +1,4 @@
-use Rattle.std.proofs.Common.{◌≡◌, ◌+◌, ◌-◌, ◌*◌, ◌/◌, ◌++◌, ◌∙◌, ℕ, List, Option, length, take, refl, ap, subst, append_assoc, arith}
-use Rattle.hunk_files.specs.Fault.{HasRefusal}
+use Rattle.std.proofs.Common.{◌-◌, ◌*◌, ◌/◌, ◌++◌, ◌∙◌, ℕ, List, Option, length, take, refl, ap, subst, append_assoc, arith}
 use Rattle.hunk_words.specs.declared.reason.Reason.{Reason}
 use Rattle.hunk_scatter.specs.Streaming.{RefusesLong, StandsAfter}
 use Rattle.hunk_scatter.proofs.StreamLaws.{any_count}
@@ -35,6 +34,8 @@ returns-in-Err-Some-clause-takes c = λ fed h.
     let front = fed ++ take n c.args.piece.now in
     let refused =
     subst (λ (o : Option Reason). RefusesLong front c.parts.rest.now o) c.in-Err-Some.field-0-is
-    (c.in-Err-Some.ensures.refuses.refuses front (i.takes fed (any_count _ _ _ fed h))) in
-    let place : 4 * (length front / 4) ≡ (c.take_part.new.at.fed + n) / 4 * 4 = omega (arith, length_so_far _ _ i.leaves fed, h.counted, i.uncounted, c.take_part.ensures.uncounted) in
-    subst (λ (k : ℕ). HasRefusal (fed ++ c.args.piece.now) k c.in-Err-Some.reason) place (refused_rest _ _ i.leaves fed _ c.in-Err-Some.reason refused)
+    (c.in-Err-Some.ensures.refuses.refuses front (i.takes fed (any_count _ _ _ fed h))) in (
+      4 * (length front / 4),
+      refused_rest _ _ i.leaves fed _ c.in-Err-Some.reason refused,
+      omega (arith, length_so_far _ _ i.leaves fed, h.counted, i.uncounted, c.take_part.ensures.uncounted),
+    )

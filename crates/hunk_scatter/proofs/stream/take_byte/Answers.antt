@@ -1,11 +1,10 @@
-use Rattle.std.proofs.Common.{◌≡◌, ◌+◌, ◌-◌, ◌*◌, ◌/◌, ◌++◌, List, [], ◌∷◌, ℕ, Option, length, take, length-append, refl, sym, ap, subst, arith}
-use Rattle.hunk_files.specs.Fault.{HasRefusal}
+use Rattle.std.proofs.Common.{◌≡◌, ◌+◌, ◌*◌, ◌/◌, ◌++◌, List, [], ◌∷◌, ℕ, Option, length, take, length-append, refl, sym, ap, subst, arith}
 use Rattle.hunk_scatter.specs.BodyLoaderFields.{StandsBehind}
 use Rattle.hunk_words.specs.Longs.{bytes_of, Gathers}
 use Rattle.hunk_words.specs.PendingBytes.{pending_of}
-use Rattle.hunk_scatter.proofs.BodyFields.{gone, refusal_here}
+use Rattle.hunk_scatter.proofs.BodyFields.{gone}
 use Rattle.hunk_scatter.proofs.Faults.{refusal_front}
-use Rattle.hunk_scatter.proofs.OneByte.{more_pending, more_read, stands_as}
+use Rattle.hunk_scatter.proofs.OneByte.{more_pending, more_read, refused_here, stands_as}
 use Rattle.hunk_words.proofs.LongLaws.{length-bytes_of}
 use Rattle.hunk_words.proofs.PendingLaws.{few_pending}
 use Rattle.hunk_scatter.proofs.Staying.{stays_as, word_stays}
@@ -30,8 +29,7 @@ returns-in-Err c =
       refuses = record {
         refuses =
             λ fed h.
-            let refused = refusal_here _ _ _ fed h c.requires.goes_on bytes c.in-Some.word c.in-Err.ensures.long whole.0 c.in-Err.reason c.in-Err.ensures.refusal in
-            let place : length fed + length bytes - 4 ≡ 4 * (length fed / 4) =
+            let place : 4 * (length fed / 4) + 4 ≡ length fed + length bytes =
             omega (
               arith,
               ap length one,
@@ -42,7 +40,8 @@ returns-in-Err c =
               length-append (pending_of at.pending) bytes,
               length-bytes_of (c.in-Some.word ∷ []),
             ) in
-            subst (λ (n : ℕ). HasRefusal (fed ++ c.args.piece.now) n c.in-Err.reason) place (refusal_front fed c.args.piece.now 1 _ c.in-Err.reason refused);
+            refusal_front fed c.args.piece.now 1 _ c.in-Err.reason
+            (refused_here _ _ _ _ fed (gone _ _ _ fed h c.requires.goes_on) bytes c.in-Some.word c.in-Err.ensures.long whole.0 c.in-Err.reason _ place c.in-Err.ensures.refusal);
         own_reasons = c.in-Err.ensures.own_reasons;
       };
       uncounted = refl;

@@ -1,20 +1,19 @@
 use Rattle.std.proofs.Common.{◌≡◌, ◌++◌, ◌∙◌, ℕ, List, Option, None, Some, Ok, inr, length, take, length-take, ap, refl, sym, subst, arith}
-use Rattle.std.specs.Prelude.{MatchOption}
+use Rattle.std.specs.Prelude.{IsTrue, MatchOption}
 use Rattle.hunk_words.specs.declared.fault.Fault.{Fault}
-use Rattle.hunk_files.specs.Fault.{HasRefusal}
 use Rattle.hunk_scatter.specs.BodyLoaderFields.{FeedsOrRefuses, FeedsPiece}
-use Rattle.hunk_scatter.specs.LoaderValues.{BodyLoaderValue}
-use Rattle.hunk_scatter.specs.LoadOutcomes.{StopsInBody}
+use Rattle.hunk_scatter.specs.LoaderValues.{BodyLoaderValue, IsBodyRefusal}
+use Rattle.hunk_scatter.specs.LoaderReasons.{is_of_body}
 use Rattle.hunk_scatter.proofs.Faults.{no_refusal_on}
 use Rattle.hunk_scatter.proofs.body_loader.BodyLoader.feed.Goals.{in-Some-refused, in-None}
 use Rattle.hunk_scatter.proofs.body_loader.BodyLoader.feed.Goals as goal
 
 module _ (old : BodyLoaderValue) (piece : List ℕ) (new : BodyLoaderValue) (n : ℕ) (e : FeedsOrRefuses old piece new n) where
   feeds : new.refused ≡ None → FeedsPiece old piece new n
-  feeds none = subst (λ (o : Option Fault). MatchOption o (FeedsPiece old piece new n) (λ f. StopsInBody (old.fed ++ piece) f × (new.fed ≡ old.fed))) none e.feeds
+  feeds none = subst (λ (o : Option Fault). MatchOption o (FeedsPiece old piece new n) (λ f. IsBodyRefusal (old.fed ++ piece) f × IsTrue (is_of_body f.reason) × (new.fed ≡ old.fed))) none e.feeds
 
-  refuses : (f : Fault) → new.refused ≡ Some f → HasRefusal (old.fed ++ piece) f.place f.reason
-  refuses f is = (subst (λ (o : Option Fault). MatchOption o (FeedsPiece old piece new n) (λ f. StopsInBody (old.fed ++ piece) f × (new.fed ≡ old.fed))) is e.feeds).0.refusal
+  refuses : (f : Fault) → new.refused ≡ Some f → IsBodyRefusal (old.fed ++ piece) f
+  refuses f is = (subst (λ (o : Option Fault). MatchOption o (FeedsPiece old piece new n) (λ f. IsBodyRefusal (old.fed ++ piece) f × IsTrue (is_of_body f.reason) × (new.fed ≡ old.fed))) is e.feeds).0
 
 pub returns-clause-all : goal.returns-clause-all
 returns-clause-all c = elim c.match-self-2.branch [
@@ -31,7 +30,7 @@ returns-clause-takes_no_more c none v = elim c.match-self-2.branch [
         more = c.args.piece.now;
         fits = inr (ap (λ (bs : List ℕ). bs ++ c.args.piece.now) (sym v.1.bytes_are));
       })
-      (refuses _ _ _ _ c.take-taken.ensures _ (sym (ap (λ (l : BodyLoaderValue). l.refused) c.self-2.view_is) ∙ w.in-Some-refused.is)))
+      (refuses _ _ _ _ c.take-taken.ensures _ (sym (ap (λ (l : BodyLoaderValue). l.refused) c.self-2.view_is) ∙ w.in-Some-refused.is)).1)
   | in-None w ↦
       let fed = feeds _ _ _ _ c.take-taken.ensures (sym (ap (λ (l : BodyLoaderValue). l.refused) c.self-2.view_is) ∙ w.in-None.is) in
       let front = take c.take-taken.result c.args.piece.now in
@@ -41,6 +40,6 @@ returns-clause-takes_no_more c none v = elim c.match-self-2.branch [
 
 pub returns-clause-accepts : goal.returns-clause-accepts
 returns-clause-accepts c none on = elim c.match-self-2.branch [
-  | in-Some-refused w ↦ absurd (no_refusal_on _ _ _ on (refuses _ _ _ _ c.take-taken.ensures _ (sym (ap (λ (l : BodyLoaderValue). l.refused) c.self-2.view_is) ∙ w.in-Some-refused.is)))
+  | in-Some-refused w ↦ absurd (no_refusal_on _ _ _ on (refuses _ _ _ _ c.take-taken.ensures _ (sym (ap (λ (l : BodyLoaderValue). l.refused) c.self-2.view_is) ∙ w.in-Some-refused.is)).1)
   | in-None w ↦ rw w.result-is refl
 ]
