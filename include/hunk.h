@@ -203,14 +203,14 @@ struct hunk_answer hunk_begin(struct hunk_loader *loader, const struct hunk_plac
  *   bytes           the piece, of any length, 0 too
  *
  * HUNK_OK       count: the bytes that were taken, all of them unless the file is whole; place: the
- *               bytes of header and body so far; hunk: the hunks that are whole. The memory is as
- *               the longwords so far leave it.
+ *               bytes of header and body so far, 2^64 - 1 at most; hunk: the hunks that are whole.
+ *               The memory is as the longwords so far leave it.
  * HUNK_STRANGE  the loader's numbers are none that a loader with these places and this memory may
- *               have, or place would pass 2^64 - 1. hunk, place and count are 0. The loader is as
- *               it was; the memory may not be.
+ *               have. hunk, place and count are 0. The loader is as it was; the memory may not be.
  * Else the first fault of the file, HUNK_LIBRARY, or HUNK_BOTH_BITS to HUNK_BAD_OFFSET; place: the
- * byte of the longword that is refused, from the start of the file. The contents of the memory are
- * then unspecified. Each later call with this loader answers the same, and leaves both as they are.
+ * byte of the longword that is refused, from the start of the file, or 2^64 - 4 where that is more.
+ * The contents of the memory are then unspecified. Each later call with this loader answers the
+ * same, and leaves both as they are.
  *
  * It reads and writes the loader and the memory, and reads the places and the piece.
  */

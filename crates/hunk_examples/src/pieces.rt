@@ -1,14 +1,11 @@
 //! A loader whose file comes in pieces.
 
-use anyhow::{bail, ensure};
+use anyhow::bail;
 use hunk_scatter::{HeaderLoader, Image, Packed};
 use std::alloc::Global;
 
 /// The most bytes that a program may have in memory.
 const BUDGET: u64 = 0x0020_0000;
-
-/// The most bytes that its file may have before the last piece.
-const FILE_BYTES: u64 = 0x0040_0000;
 
 /// Loads a program to the address `start`, where the first piece of its file has the whole header.
 /// Bytes after the file are left alone.
@@ -31,10 +28,6 @@ pub fn load_pieces(
     let mut body = declared.place(&Packed { start })?;
     body.feed(&first[taken..])?;
     for piece in more {
-        ensure!(
-            body.fed() <= FILE_BYTES,
-            "a file of over {FILE_BYTES} bytes"
-        );
         body.feed(piece)?;
     }
     match body.finish() {

@@ -163,15 +163,33 @@ fn strange_numbers(rt: HostRuntime) -> Result<(), Fail> {
     let rows = rows_of(rt.alloc(), [(2, 0, 0x10000), (1, 0, 0x20000)].as_slice())?;
     let mut store = [0xA5; 12];
     let first = begin(store.as_mut_slice(), rows.as_slice(), 28);
-    let (mut behind, mut moved, mut full, mut endless) = (first, first, first, first);
+    let (mut behind, mut moved, mut full) = (first, first, first);
     behind.state.hunk = 2;
     moved.state.start = 8;
     full.pending.count = 4;
-    endless.fed = u64::MAX - 3;
-    for at in [behind, moved, full, endless] {
+    for at in [behind, moved, full] {
         expect_strange(&rt, rows.as_slice(), store.as_mut_slice(), at);
     }
     expect_strange(&rt, [].as_slice(), store.as_mut_slice(), first);
     expect_strange(&rt, rows.as_slice(), &mut store[..7], first);
+    Ok(())
+}
+
+/// Numbers that count 2^64 - 4 bytes before the body of example 11: the count stops at 2^64 - 1, and a place
+/// at the last longword below 2^64.
+#[test]
+fn counts_no_further(rt: HostRuntime) -> Result<(), Fail> {
+    let table = [(2, 0, 0x1000)];
+    let file = file_of(rt.alloc(), RELOCATED_PAST_ITS_END, 24, table.as_slice())?;
+    let (_, body) = cut_at(file.bytes.as_slice(), file.header);
+    let (front, rest) = cut_at(body, 4);
+    let (mut store, rows) = ([0; 8], file.rows.as_slice());
+    let mut first = begin(store.as_mut_slice(), rows, 24);
+    first.fed = u64::MAX - 3;
+    let second = takes(&rt, store.as_mut_slice(), rows, first, front);
+    assert_equal(&rt, second.fed, u64::MAX);
+    let (place, reason) = (u64::MAX - 3, Reason::BadOffset);
+    let stop = piece_taken(store.as_mut_slice(), rows, second, rest);
+    assert_equal(&rt, stop, Err(Stop::Refused(LoadFault { place, reason })));
     Ok(())
 }
