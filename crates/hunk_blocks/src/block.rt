@@ -17,11 +17,10 @@ ghost use Rattle.hunk_blocks.specs.Begins.{LacksItem, LacksItemAt, LacksItemOfMo
 ghost use Rattle.hunk_blocks.specs.Views.{body_of};
 
 use crate::block_view::BlockView;
-use crate::body::Body;
+use crate::body::{Body, print_body};
 use crate::body_view::keep_body;
 use crate::mode::Mode;
 use crate::walk::walk_block;
-use crate::writing::print_body;
 use hunk_words::{BlockFault, BlockWord, LongWriter, PagePrinter, Sink, WriteFault};
 use std::alloc::Global;
 use std::marker::Model;

@@ -7,7 +7,7 @@ ghost use Rattle.hunk_blocks.specs.Parts.{block_text};
 ghost use Rattle.hunk_blocks.specs.Values.{IsBlock};
 
 use crate::body_view::{BodyView, read_body};
-use crate::reading::LongReader;
+use crate::long_reader::LongReader;
 use hunk_words::BlockWord;
 use std::marker::Model;
 

@@ -1,14 +1,17 @@
 //! What follows the word of a block.
 ghost use Rattle.std.specs.Prelude.{◌≡◌, ◌*◌};
 ghost use Rattle.hunk_words.specs.Bits.{size_longs};
-ghost use Rattle.hunk_blocks.specs.Values.{content_bytes};
+ghost use Rattle.hunk_words.specs.Longs.{bytes_of};
+ghost use Rattle.hunk_words.specs.Prints.{Prints};
+ghost use Rattle.hunk_blocks.specs.Values.{FitsWord, content_bytes};
 ghost use Rattle.hunk_blocks.specs.Views.{body_of};
+ghost use Rattle.hunk_blocks.specs.Parts.{body_text};
 
-use crate::entries::Entries;
-use crate::groups::Groups;
-use crate::payload::Payload;
-use crate::symbols::Symbols;
-use hunk_words::SizeWord;
+use crate::entries::{Entries, print_entries};
+use crate::groups::{Groups, print_groups};
+use crate::payload::{Payload, print_counted, print_sized};
+use crate::symbols::{Symbols, print_symbols};
+use hunk_words::{BlockWord, PagePrinter, Sink, SizeWord};
 
 /// What follows the word of a block, by its kind.
 ///
@@ -64,4 +67,28 @@ pub(crate) fn bss_bytes(size: u32) -> u64
         extra: 0,
     }
     .bytes()
+}
+
+/// What follows this block word.
+#[tactic(auto, using(crate::proofs::TextBytes::body_printed, crate::proofs::TextBytes::no_bytes))]
+pub(crate) fn print_body<W: Sink, const ROOM: usize>(
+    page: &mut PagePrinter<'_, W, ROOM>,
+    word: BlockWord,
+    body: &Body<'_>,
+)
+    requires { FitsWord word (body_of body.now) }
+    ensures { Prints page.old page.new (bytes_of (body_text (body_of body.now))) }
+{
+    match body {
+        Body::Name(payload) => print_counted(page, payload),
+        Body::Code { top, payload } => print_sized(page, *top, payload),
+        Body::Data { top, payload } => print_sized(page, *top, payload),
+        Body::Bss { size } => page.print_long(*size),
+        Body::Reloc(groups) => print_groups(page, groups.as_slice()),
+        Body::Ext(entries) => print_entries(page, entries.as_slice()),
+        Body::Symbol(symbols) => print_symbols(page, symbols.as_slice()),
+        Body::Debug(payload) => print_counted(page, payload),
+        Body::End => (),
+        Body::Advisory(payload) => print_counted(page, payload),
+    }
 }

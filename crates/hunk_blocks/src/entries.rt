@@ -1,11 +1,14 @@
 //! The entries of an EXT block.
 ghost use Rattle.std.specs.Prelude.{◌≡◌, IfErr, IfOk, Some, map};
 ghost use Rattle.std.specs.Iterator.{item_count};
+ghost use Rattle.std.specs.List.{AllByRecursion};
 ghost use Rattle.hunk_words.specs.declared.reason.Reason.TheVariants as reasons;
+ghost use Rattle.hunk_words.specs.Longs.{bytes_of};
+ghost use Rattle.hunk_words.specs.Prints.{Prints};
 ghost use Rattle.hunk_blocks.specs.Cuts.{entry_cut, list_cut, shaped_cut};
 ghost use Rattle.hunk_blocks.specs.Entries.{IsShaped, shaped_text};
 ghost use Rattle.hunk_blocks.specs.ExtKinds.{ext_kind, ext_shape};
-ghost use Rattle.hunk_blocks.specs.Parts.{ext_text};
+ghost use Rattle.hunk_blocks.specs.Parts.{ext_text, list_text};
 ghost use Rattle.hunk_blocks.specs.Placed.{EndsItemAt, GivesFirst};
 ghost use Rattle.hunk_blocks.specs.Reading.{BeginsWithList, BeginsWithSome, ReadsValue};
 ghost use Rattle.hunk_blocks.specs.Values.{IsExtEntry, ext_type};
@@ -15,10 +18,10 @@ use crate::ext_kind::{ExtKind, kind_of, shape_of};
 use crate::ext_shape::ExtShape;
 use crate::growing::append;
 use crate::list::{BlockList, out_of_memory};
+use crate::long_reader::LongReader;
 use crate::longs::Longs;
-use crate::payload::Payload;
-use crate::reading::{LongReader, read_counted, read_entry_name};
-use hunk_words::BlockFault;
+use crate::payload::{Payload, print_counted, print_payload, read_counted, read_entry_name};
+use hunk_words::{BlockFault, PagePrinter, Sink};
 use std::alloc::Global;
 use std::marker::Model;
 
@@ -195,4 +198,37 @@ pub(crate) fn keep_entries<'a>(
         }
     }
     Ok(Entries::of(kept))
+}
+
+/// The word, the name, and what stands behind it in an entry of its type.
+fn print_entry<W: Sink, const ROOM: usize>(page: &mut PagePrinter<'_, W, ROOM>, entry: &Entry<'_>)
+    requires { IsExtEntry (entry_of entry.now) }
+    ensures { Prints page.old page.new (bytes_of (ext_text (entry_of entry.now))) }
+{
+    page.print_long(entry.word);
+    print_payload(page, &entry.name);
+    match entry.shape() {
+        Some(ExtShape::Definition) => page.print_long(entry.value),
+        Some(ExtShape::References) => print_counted(page, entry.offsets.payload()),
+        Some(ExtShape::Common) => {
+            page.print_long(entry.value);
+            print_counted(page, entry.offsets.payload());
+        }
+        None => unreachable!(),
+    }
+}
+
+/// The entries of an EXT block, and the zero that ends them.
+pub(crate) fn print_entries<W: Sink, const ROOM: usize>(
+    page: &mut PagePrinter<'_, W, ROOM>,
+    entries: &[Entry<'_>],
+)
+    requires { AllByRecursion IsExtEntry (map entry_of entries.now) }
+    ensures { Prints page.old page.new
+        (bytes_of (list_text ext_text (map entry_of entries.now))) }
+{
+    'entries: for entry in entries {
+        print_entry(page, entry);
+    }
+    page.print_long(0);
 }

@@ -1,9 +1,12 @@
 //! The groups of a relocation block.
 ghost use Rattle.std.specs.Prelude.{◌≡◌, IfErr, IfOk, map};
 ghost use Rattle.std.specs.Iterator.{item_count};
+ghost use Rattle.std.specs.List.{AllByRecursion};
 ghost use Rattle.hunk_words.specs.declared.reason.Reason.TheVariants as reasons;
+ghost use Rattle.hunk_words.specs.Longs.{bytes_of};
+ghost use Rattle.hunk_words.specs.Prints.{Prints};
 ghost use Rattle.hunk_blocks.specs.Cuts.{group_cut, list_cut};
-ghost use Rattle.hunk_blocks.specs.Parts.{group_text};
+ghost use Rattle.hunk_blocks.specs.Parts.{group_text, list_text};
 ghost use Rattle.hunk_blocks.specs.Placed.{EndsItemAt, GivesFirst};
 ghost use Rattle.hunk_blocks.specs.Reading.{BeginsWithList, BeginsWithSome, ReadsValue};
 ghost use Rattle.hunk_blocks.specs.Values.{IsGroup};
@@ -11,9 +14,10 @@ ghost use Rattle.hunk_blocks.specs.Views.{group_of};
 
 use crate::growing::append;
 use crate::list::{BlockList, out_of_memory};
+use crate::long_reader::LongReader;
 use crate::longs::Longs;
-use crate::reading::LongReader;
-use hunk_words::BlockFault;
+use crate::payload::print_payload;
+use hunk_words::{BlockFault, PagePrinter, Sink};
 use std::alloc::Global;
 use std::marker::Model;
 
@@ -143,4 +147,30 @@ pub(crate) fn keep_groups<'a>(
         }
     }
     Ok(Groups::of(kept))
+}
+
+/// The number of the offsets, the target and the offsets.
+#[tactic(auto, using(crate::proofs::TextBytes::group_printed))]
+fn print_group<W: Sink, const ROOM: usize>(page: &mut PagePrinter<'_, W, ROOM>, group: &Group<'_>)
+    requires { IsGroup (group_of group.now) }
+    ensures { Prints page.old page.new (bytes_of (group_text (group_of group.now))) }
+{
+    page.print_long(group.offsets.len() as u32);
+    page.print_long(group.target);
+    print_payload(page, group.offsets.payload());
+}
+
+/// The groups of a relocation block, and the zero that ends them.
+pub(crate) fn print_groups<W: Sink, const ROOM: usize>(
+    page: &mut PagePrinter<'_, W, ROOM>,
+    groups: &[Group<'_>],
+)
+    requires { AllByRecursion IsGroup (map group_of groups.now) }
+    ensures { Prints page.old page.new
+        (bytes_of (list_text group_text (map group_of groups.now))) }
+{
+    'groups: for group in groups {
+        print_group(page, group);
+    }
+    page.print_long(0);
 }

@@ -12,14 +12,13 @@ mod groups;
 mod growing;
 pub mod laws;
 mod list;
+mod long_reader;
 mod longs;
 mod mode;
 mod payload;
 mod phase;
-mod reading;
 mod symbols;
 mod walk;
-mod writing;
 
 pub use crate::block::Block;
 pub use crate::block_view::BlockView;

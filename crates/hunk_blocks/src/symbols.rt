@@ -2,8 +2,10 @@
 ghost use Rattle.std.specs.Prelude.{◌≡◌, IfErr, IfOk, map};
 ghost use Rattle.std.specs.Iterator.{item_count};
 ghost use Rattle.hunk_words.specs.declared.reason.Reason.TheVariants as reasons;
+ghost use Rattle.hunk_words.specs.Longs.{bytes_of};
+ghost use Rattle.hunk_words.specs.Prints.{Prints};
 ghost use Rattle.hunk_blocks.specs.Cuts.{list_cut, symbol_cut};
-ghost use Rattle.hunk_blocks.specs.Parts.{symbol_text};
+ghost use Rattle.hunk_blocks.specs.Parts.{symbol_text, list_text};
 ghost use Rattle.hunk_blocks.specs.Placed.{EndsItemAt, GivesFirst};
 ghost use Rattle.hunk_blocks.specs.Reading.{BeginsWithList, BeginsWithSome, ReadsValue};
 ghost use Rattle.hunk_blocks.specs.Values.{IsSymbolEntry};
@@ -11,9 +13,9 @@ ghost use Rattle.hunk_blocks.specs.Views.{symbol_of};
 
 use crate::growing::append;
 use crate::list::{BlockList, out_of_memory};
-use crate::payload::Payload;
-use crate::reading::{LongReader, read_entry_name};
-use hunk_words::BlockFault;
+use crate::long_reader::LongReader;
+use crate::payload::{Payload, print_payload, read_entry_name};
+use hunk_words::{BlockFault, PagePrinter, Sink};
 use std::alloc::Global;
 use std::marker::Model;
 
@@ -143,4 +145,31 @@ pub(crate) fn keep_symbols<'a>(
         }
     }
     Ok(Symbols::of(kept))
+}
+
+/// The word, the name and the value.
+#[tactic(auto, using(crate::proofs::TextBytes::symbol_printed))]
+fn print_symbol<W: Sink, const ROOM: usize>(
+    page: &mut PagePrinter<'_, W, ROOM>,
+    symbol: &SymbolView<'_>,
+)
+    ensures { Prints page.old page.new (bytes_of (symbol_text (symbol_of symbol.now))) }
+{
+    page.print_long(symbol.word);
+    print_payload(page, &symbol.name);
+    page.print_long(symbol.value);
+}
+
+/// The entries of a SYMBOL block, and the zero that ends them.
+pub(crate) fn print_symbols<W: Sink, const ROOM: usize>(
+    page: &mut PagePrinter<'_, W, ROOM>,
+    symbols: &[SymbolView<'_>],
+)
+    ensures { Prints page.old page.new
+        (bytes_of (list_text symbol_text (map symbol_of symbols.now))) }
+{
+    'symbols: for symbol in symbols {
+        print_symbol(page, symbol);
+    }
+    page.print_long(0);
 }

@@ -3,7 +3,7 @@ use Rattle.hunk_blocks.specs.Values.{IsExtEntry}
 use Rattle.hunk_blocks.specs.Parts.{ext_text}
 use Rattle.hunk_blocks.specs.Views.{entry_of}
 use Rattle.hunk_blocks.proofs.ListWriting.{all_at, list_shown}
-use Rattle.hunk_blocks.proofs.writing.entries.print_entries.Goals as goal
+use Rattle.hunk_blocks.proofs.entries.print_entries.Goals as goal
 
 pub print_entry-requires : goal.print_entry-requires
 print_entry-requires g c = (search rules, all_at IsExtEntry entry_of c.args.entries.now c.entries.entry-index c.entry-item.result c.requires c.entries-test.true c.entry-item.is)

@@ -3,7 +3,7 @@ use Rattle.hunk_blocks.specs.Values.{IsGroup}
 use Rattle.hunk_blocks.specs.Parts.{group_text}
 use Rattle.hunk_blocks.specs.Views.{group_of}
 use Rattle.hunk_blocks.proofs.ListWriting.{all_at, list_shown}
-use Rattle.hunk_blocks.proofs.writing.groups.print_groups.Goals as goal
+use Rattle.hunk_blocks.proofs.groups.print_groups.Goals as goal
 
 pub print_group-requires : goal.print_group-requires
 print_group-requires g c = (search rules, all_at IsGroup group_of c.args.groups.now c.groups.group-index c.group-item.result c.requires c.groups-test.true c.group-item.is)

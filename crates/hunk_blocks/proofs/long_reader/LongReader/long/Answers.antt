@@ -2,7 +2,7 @@ use Rattle.std.proofs.Common.{◌∷◌, drop, length, ◌+◌, ap, sym, ◌∙�
 use Rattle.std.proofs.lemmas.List.{length-drop}
 use Rattle.hunk_words.proofs.LongLaws.{length-longs}
 use Rattle.hunk_blocks.proofs.Fronts.{longs-behind}
-use Rattle.hunk_blocks.proofs.reading.long_reader.LongReader.long.Goals as goal
+use Rattle.hunk_blocks.proofs.long_reader.LongReader.long.Goals as goal
 
 pub invariant_of-self : goal.invariant_of-self
 invariant_of-self c =

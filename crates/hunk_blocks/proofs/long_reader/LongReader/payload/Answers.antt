@@ -4,7 +4,7 @@ use Rattle.hunk_words.specs.Longs.{longs}
 use Rattle.hunk_words.proofs.LongLaws.{length-longs}
 use Rattle.hunk_blocks.specs.Reading.{Unread, Reads}
 use Rattle.hunk_blocks.proofs.Fronts.{longs-cut}
-use Rattle.hunk_blocks.proofs.reading.long_reader.LongReader.payload.Goals as goal
+use Rattle.hunk_blocks.proofs.long_reader.LongReader.payload.Goals as goal
 
 pub slice_bounds-words-end : goal.slice_bounds-words-end
 slice_bounds-words-end c =

@@ -4,7 +4,7 @@ use Rattle.hunk_blocks.specs.declared.ext_shape.ExtShape.TheVariants.{Definition
 use Rattle.hunk_blocks.specs.Parts.{counted_text}
 use Rattle.hunk_blocks.specs.Views.{entry_of}
 use Rattle.hunk_blocks.proofs.TextBytes.{entry_printed, word_printed}
-use Rattle.hunk_blocks.proofs.writing.entries.print_entry.Goals as goal
+use Rattle.hunk_blocks.proofs.entries.print_entry.Goals as goal
 
 pub returns-in-Some-Definition : goal.returns-in-Some-Definition
 returns-in-Some-Definition g c = (
