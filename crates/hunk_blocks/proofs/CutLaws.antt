@@ -159,15 +159,7 @@ symbols_are_cut = record { cut_is = symbol_cut_is; word = λ s. s.word; behind =
 
 relocation_cut : (k : Kind) (words : List ℕ) → IsTrue (is_relocation k) → kind_cut k words ≡ cut_map Reloc (list_cut group_cut words)
 relocation_cut kinds.Unit words h = absurd cc
-relocation_cut kinds.Reloc32 words h = refl
-relocation_cut kinds.Reloc16 words h = refl
-relocation_cut kinds.Reloc8 words h = refl
-relocation_cut kinds.Drel32 words h = refl
-relocation_cut kinds.Drel16 words h = refl
-relocation_cut kinds.Drel8 words h = refl
-relocation_cut kinds.RelReloc32 words h = refl
-relocation_cut kinds.AbsReloc16 words h = refl
-relocation_cut _ words h = absurd cc
+relocation_cut _ words h = cc
 
 advisory_cut : (k : Kind) (words : List ℕ) → IsTrue (is_unknown k) → kind_cut k words ≡ cut_map Advisory (counted_cut words)
 advisory_cut (kinds.Unknown n) words h = refl

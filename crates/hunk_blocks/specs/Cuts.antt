@@ -1,6 +1,6 @@
 -- What longwords spell, by the places of their fields: the way back from the texts of Parts.
-use Rattle.std.specs.Prelude.{ℕ, zero, suc, List, [], ◌∷◌, length, take, drop, slice_index, Option, Some, None}
-use Rattle.hunk_words.specs.Bits.{size_longs, memory_bits, name_longs, entry_type, kind}
+use Rattle.std.specs.Prelude.{ℕ, zero, suc, List, [], ◌∷◌, length, take, drop, slice_index, Option, Some, None, if◌then◌else◌}
+use Rattle.hunk_words.specs.Bits.{size_longs, memory_bits, name_longs, entry_type, is_relocation, kind}
 use Rattle.hunk_words.specs.declared.block_word.Kind.{Kind}
 use Rattle.hunk_words.specs.declared.block_word.Kind.TheVariants as kinds
 use Rattle.hunk_blocks.specs.declared.ext_shape.ExtShape.{ExtShape}
@@ -91,19 +91,11 @@ kind_cut kinds.Name words = cut_map Name (counted_cut words)
 kind_cut kinds.Code words = cut_map (λ (s : ℕ × List ℕ). Code s.0 s.1) (sized_cut words)
 kind_cut kinds.Data words = cut_map (λ (s : ℕ × List ℕ). Data s.0 s.1) (sized_cut words)
 kind_cut kinds.Bss words = cut_map Bss (long_cut words)
-kind_cut kinds.Reloc32 words = cut_map Reloc (list_cut group_cut words)
-kind_cut kinds.Reloc16 words = cut_map Reloc (list_cut group_cut words)
-kind_cut kinds.Reloc8 words = cut_map Reloc (list_cut group_cut words)
-kind_cut kinds.Drel32 words = cut_map Reloc (list_cut group_cut words)
-kind_cut kinds.Drel16 words = cut_map Reloc (list_cut group_cut words)
-kind_cut kinds.Drel8 words = cut_map Reloc (list_cut group_cut words)
-kind_cut kinds.RelReloc32 words = cut_map Reloc (list_cut group_cut words)
-kind_cut kinds.AbsReloc16 words = cut_map Reloc (list_cut group_cut words)
 kind_cut kinds.Ext words = cut_map Ext (list_cut entry_cut words)
 kind_cut kinds.Symbol words = cut_map Symbol (list_cut symbol_cut words)
 kind_cut kinds.Debug words = cut_map Debug (counted_cut words)
 kind_cut (kinds.Unknown n) words = cut_map Advisory (counted_cut words)
-kind_cut _ words = record { value = End; rest = words }
+kind_cut k words = if is_relocation k then cut_map Reloc (list_cut group_cut words) else record { value = End; rest = words }
 
 abbrev pub body_cut : ℕ → List ℕ → Cut BlockBody
 body_cut word words = kind_cut (kind word) words

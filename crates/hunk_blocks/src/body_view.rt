@@ -84,24 +84,11 @@ pub(crate) fn read_body<'a>(reader: &mut LongReader<'a>, word: BlockWord) -> Bod
         Kind::Bss => BodyView::Bss {
             size: reader.long(),
         },
-        Kind::Reloc32
-        | Kind::Reloc16
-        | Kind::Reloc8
-        | Kind::Drel32
-        | Kind::Drel16
-        | Kind::Drel8
-        | Kind::RelReloc32
-        | Kind::AbsReloc16 => BodyView::Reloc(GroupsIter::of(reader)),
         Kind::Ext => BodyView::Ext(EntriesIter::of(reader)),
         Kind::Symbol => BodyView::Symbol(SymbolsIter::of(reader)),
         Kind::End => BodyView::End,
-        Kind::Unit
-        | Kind::Header
-        | Kind::Overlay
-        | Kind::Break
-        | Kind::Lib
-        | Kind::Index
-        | Kind::Reloc32Short => unreachable!(),
+        kind if kind.is_relocation() => BodyView::Reloc(GroupsIter::of(reader)),
+        _ => unreachable!(),
     }
 }
 

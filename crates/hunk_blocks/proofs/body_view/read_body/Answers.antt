@@ -16,10 +16,10 @@ pub read_sized-top-requires-in-Data : goal.read_sized-top-requires-in-Data
 read_sized-top-requires-in-Data c = body_stands c.args.word c.args.reader.now.rest c.requires kinds.Data (sym c.in-Data.is ∙ c.kind.ensures)
 
 pub of-requires : goal.of-requires
-of-requires c = let is : IsTrue (is_relocation c.kind.result) = search rules in groups_stand c.args.word c.args.reader.now.rest c.requires c.kind.result c.kind.ensures is
-
-pub of-requires-in-Ext : goal.of-requires-in-Ext
-of-requires-in-Ext c = body_stands c.args.word c.args.reader.now.rest c.requires kinds.Ext (sym c.in-Ext.is ∙ c.kind.ensures)
+of-requires c = body_stands c.args.word c.args.reader.now.rest c.requires kinds.Ext (sym c.in-Ext.is ∙ c.kind.ensures)
 
 pub of-requires-in-Symbol : goal.of-requires-in-Symbol
 of-requires-in-Symbol c = body_stands c.args.word c.args.reader.now.rest c.requires kinds.Symbol (sym c.in-Symbol.is ∙ c.kind.ensures)
+
+pub of-requires-in_default : goal.of-requires-in_default
+of-requires-in_default c = let is : IsTrue (is_relocation c.kind.result) = search rules in groups_stand c.args.word c.args.reader.now.rest c.requires c.kind.result c.kind.ensures is
