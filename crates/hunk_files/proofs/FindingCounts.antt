@@ -42,13 +42,13 @@ group_few s width g =
     omega (arith, few_of_each (relocation_findings s width g.target) 2 (relocation_few s width g.target) g.offsets, length-map {B = Part × ℕ} g.offsets (λ w. (Offset, w)))
 
 -- the offsets of an entry are in its text
-pub references_within : (s : Option ExtShape) (e : ExtEntry) → FitsShape s e → 1 + length e.offsets ≤ length (ext_parts_by s e)
+references_within : (s : Option ExtShape) (e : ExtEntry) → FitsShape s e → 1 + length e.offsets ≤ length (ext_parts_by s e)
 references_within None e fits = absurd fits
 references_within (Some Definition) e fits = omega (arith, ap length fits)
 references_within (Some Common) e fits = omega (arith, length-map {B = Part × ℕ} e.offsets (λ w. (Offset, w)))
 references_within (Some References) e fits = omega (arith, length-map {B = Part × ℕ} e.offsets (λ w. (Offset, w)))
 
-pub length-ext_parts : (e : ExtEntry) → length (ext_parts e) ≡ 1 + length e.name + length (ext_parts_by (ext_shape (ext_type e)) e)
+length-ext_parts : (e : ExtEntry) → length (ext_parts e) ≡ 1 + length e.name + length (ext_parts_by (ext_shape (ext_type e)) e)
 length-ext_parts e =
     omega (
       arith,

@@ -31,7 +31,7 @@ use Rattle.hunk_files.specs.LoadText.{entry_labelled, hunk_labelled, blocks_labe
 use Rattle.hunk_files.specs.Fault.{HasFault, HasLoadText, IsTruncated, load_files}
 use Rattle.hunk_files.specs.declared.load.walk.Entry.{Entry}
 use Rattle.hunk_files.specs.Entries.{entry_behind, entry_at}
-use Rattle.hunk_files.specs.Passing.{AreBlocks, AreGroups, AreRows, AreSymbols, BeginsBlock, EndsList, IsContent, IsCounted, IsGroup, IsPassed, IsWholeBlock, behind_row, behind_symbol, having}
+use Rattle.hunk_files.specs.Passing.{AreBlocks, AreGroups, AreRows, AreSymbols, BeginsBlock, EndsList, IsGroup, IsPassed, IsWholeBlock, behind_row, behind_symbol, having}
 use Rattle.hunk_files.specs.Passing.{no_row, one_row, no_group, one_group, no_symbol, one_symbol, content, counted, groups, symbols, no_block, one_block, nothing, passed_rows, passed_blocks}
 use Rattle.hunk_files.specs.FileSteps.{HunkSoFar, Progress, AtFirst, AtBlock, InBody, Next, More, Finished, role_of, step_file}
 use Rattle.hunk_files.specs.ReaderPosition.{open_of, block_phase, position_of, open_longs, opened}
@@ -329,6 +329,26 @@ module _ (bytes : List ℕ) (fit : IsBytes bytes) (at : ℕ) (position : Positio
         (word_passes load_files load_reader keeps kept_of run_of behind_run (longs bytes) (longs_fit bytes fit) at (Some (position, entry)) s l (role_of here.progress) refl runs (same ∙ ok)
         (Some (behind, entry_at (longs bytes) behind entry)) (onward more).1)
 
+-- ---- a longword and its run
+
+-- Behind so many longwords comes the position; no hunk opens here.
+record PassesOver (here : Position) (n : ℕ) (behind : Position) : Type 0 where
+  goes_on : here ≡ positions.Done → ⊥
+  run : scan.run here ≡ n
+  passed : scan.pass here n ≡ behind
+  same : (all : List ℕ) (entry : Entry) → entry_at all here entry ≡ entry
+
+-- A longword that is not refused leads behind its run.
+leads : (bytes : List ℕ) → IsBytes bytes → (entry : Entry) (at behind : ℕ) (from here to : Position) → Walks bytes at from entry → (n : ℕ) → behind ≡ at + 1 + n → behind ≤ length (longs bytes) →
+    (w : ℕ) → w ≡ get_or (longs bytes) at 0 → here ≡ scan.step from w → refuse (role_at entry.longs from) w ≡ None → PassesOver here n to → Walks bytes behind to entry
+leads bytes fit entry at behind from here to h n ends whole w is steps ok over =
+    let on = passes bytes fit at from entry h (omega (arith, ends, whole)) w is here steps ok over.goes_on in
+    let end : at + (1 + n) ≡ behind = omega (arith, ends) in
+    subst (λ (k : ℕ). Walks bytes k to entry) end
+    (subst (λ (e : Entry). Walks bytes (at + (1 + n)) to e) (over.same (longs bytes) entry)
+    (subst (λ (q : Position). Walks bytes (at + (1 + n)) q (entry_at (longs bytes) here entry)) over.passed
+    (subst (λ (k : ℕ). Walks bytes (at + (1 + k)) (scan.pass here k) (entry_at (longs bytes) here entry)) over.run on)))
+
 -- ---- groups
 
 module _ (bytes : List ℕ) (fit : IsBytes bytes) (entry : Entry) (o : numbers.OpenHunk) (target : ℕ) where
@@ -393,13 +413,11 @@ symbol_over bytes fit entry o at h some whole = go (get_or (longs bytes) at 0) r
     go : (w : ℕ) → w ≡ get_or (longs bytes) at 0 → 0 < w → Walks bytes (behind_symbol (longs bytes) at) (positions.Body o phases.EntryWord) entry
     go zero is less = absurd (omega (arith, less))
     go (suc w) is less =
-        let p = positions.Body o phases.EntryWord in
-        let end : at + (1 + suc (name_longs (suc w))) ≡ behind_symbol (longs bytes) at = omega (arith, ap name_longs is) in
-        let none : name_longs (suc w) - name_longs (suc w) ≡ 0 = none_left (name_longs (suc w)) in
-        let behind : scan.owe_symbol o (name_longs (suc w) - name_longs (suc w)) ≡ p = ap (λ (k : ℕ). scan.owe_symbol o k) none in
-        let next = scan.owe_symbol o (suc (name_longs (suc w))) in
-        let on = passes bytes fit at p entry h (omega (arith, whole)) (suc w) is next refl refl (λ e. absurd cc) in
-        subst (λ (k : ℕ). Walks bytes k p entry) end (subst (λ (q : Position). Walks bytes (at + (1 + suc (name_longs (suc w)))) q entry) behind on)
+        let n = name_longs (suc w) in
+        let end : behind_symbol (longs bytes) at ≡ at + 1 + suc n = omega (arith, ap name_longs is) in
+        let none : n - n ≡ 0 = none_left n in
+        leads bytes fit entry at (behind_symbol (longs bytes) at) _ (scan.owe_symbol o (suc n)) _ h (suc n) end whole (suc w) is refl refl
+        (record { goes_on = λ e. absurd cc; run = refl; passed = ap (λ (k : ℕ). scan.owe_symbol o k) none; same = λ all entry. refl })
 
 symbols_over : (bytes : List ℕ) → IsBytes bytes → (entry : Entry) (o : numbers.OpenHunk) (at end : ℕ) → Walks bytes at (positions.Body o phases.EntryWord) entry → AreSymbols (longs bytes) at end → Walks bytes end (positions.Body o phases.EntryWord) entry
 symbols_over bytes fit entry o at _ h no_symbol = h
@@ -411,21 +429,20 @@ symbols_over bytes fit entry o at _ h (one_symbol mid before some whole) = symbo
 row_over : (bytes : List ℕ) → IsBytes bytes → (entry : Entry) (hunks owed at : ℕ) → Walks bytes at (positions.SizeWord hunks (suc owed)) entry → behind_row (longs bytes) at ≤ length (longs bytes) → Walks bytes (behind_row (longs bytes) at) (positions.SizeWord hunks owed) entry
 row_over bytes fit entry hunks owed at h whole = go (has_both_bits (get_or (longs bytes) at 0)) refl
   where
+    over : PassesOver (positions.SizeWord hunks owed) 0 (positions.SizeWord hunks owed)
+    over = record { goes_on = λ d. absurd cc; run = refl; passed = refl; same = λ all entry. refl }
+
     go : (b : Bool) → has_both_bits (get_or (longs bytes) at 0) ≡ b → Walks bytes (behind_row (longs bytes) at) (positions.SizeWord hunks owed) entry
     go false e =
         let w = get_or (longs bytes) at 0 in
-        let next : Bool → Position = λ b. if b then positions.Attributes hunks w (suc owed) else positions.SizeWord hunks owed in
-        let end : at + (1 + 0) ≡ behind_row (longs bytes) at = omega (arith, ap (λ (b : Bool). at + (if b then 2 else 1)) e) in
-        let on = passes bytes fit at (positions.SizeWord hunks (suc owed)) entry h (omega (arith, end, whole)) w refl (positions.SizeWord hunks owed) (ap next (sym e)) refl (λ d. absurd cc) in
-        subst (λ (k : ℕ). Walks bytes k (positions.SizeWord hunks owed) entry) end on
+        let end : behind_row (longs bytes) at ≡ at + 1 + 0 = omega (arith, ap (λ (b : Bool). at + (if b then 2 else 1)) e) in
+        leads bytes fit entry at (behind_row (longs bytes) at) _ _ _ h 0 end whole w refl (ap (λ (b : Bool). if b then positions.Attributes hunks w (suc owed) else positions.SizeWord hunks owed) (sym e)) refl over
     go true e =
         let w = get_or (longs bytes) at 0 in
-        let next : Bool → Position = λ b. if b then positions.Attributes hunks w (suc owed) else positions.SizeWord hunks owed in
-        let behind : at + (1 + 0) + 1 ≡ behind_row (longs bytes) at = omega (arith, ap (λ (b : Bool). at + (if b then 2 else 1)) e) in
-        let on = passes bytes fit at (positions.SizeWord hunks (suc owed)) entry h (omega (arith, behind, whole)) w refl (positions.Attributes hunks w (suc owed)) (ap next (sym e)) refl (λ d. absurd cc) in
-        let more = passes bytes fit (at + (1 + 0)) (positions.Attributes hunks w (suc owed)) entry on (omega (arith, whole, behind)) (get_or (longs bytes) (at + (1 + 0)) 0) refl (positions.SizeWord hunks owed) refl refl (λ d. absurd cc) in
-        let end : at + (1 + 0) + (1 + 0) ≡ behind_row (longs bytes) at = omega (arith, behind) in
-        subst (λ (k : ℕ). Walks bytes k (positions.SizeWord hunks owed) entry) end more
+        let end : behind_row (longs bytes) at ≡ at + 1 + 1 + 0 = omega (arith, ap (λ (b : Bool). at + (if b then 2 else 1)) e) in
+        let first = leads bytes fit entry at (at + 1) _ (positions.Attributes hunks w (suc owed)) _ h 0 (omega arith) (omega (arith, end, whole)) w refl
+        (ap (λ (b : Bool). if b then positions.Attributes hunks w (suc owed) else positions.SizeWord hunks owed) (sym e)) refl (record { goes_on = λ d. absurd cc; run = refl; passed = refl; same = λ all entry. refl }) in
+        leads bytes fit entry (at + 1) (behind_row (longs bytes) at) _ _ _ first 0 end whole (get_or (longs bytes) (at + 1) 0) refl refl refl over
 
 rows_over : (bytes : List ℕ) → IsBytes bytes → (entry : Entry) (hunks owed at : ℕ) → Walks bytes at (positions.SizeWord hunks owed) entry → (count end : ℕ) → count ≤ owed → AreRows (longs bytes) at count end → Walks bytes end (positions.SizeWord hunks (owed - count)) entry
 rows_over bytes fit entry hunks owed at h _ _ few no_row =
@@ -437,6 +454,14 @@ rows_over bytes fit entry hunks owed at h _ _ few (one_row count mid before whol
     row_over bytes fit entry hunks (owed - suc count) mid (subst (λ (k : ℕ). Walks bytes mid (positions.SizeWord hunks k) entry) left here) whole
 
 -- ---- blocks
+
+content_passes : (o : numbers.OpenHunk) (n : ℕ) → PassesOver (scan.owe_content o n n) n (positions.Body (having true o) phases.BlockWord)
+content_passes o zero = record { goes_on = λ e. absurd cc; run = refl; passed = refl; same = λ all entry. refl }
+content_passes o (suc n) = record { goes_on = λ e. absurd cc; run = refl; passed = all_passed (positions.Body o (phases.Content (suc n) n)); same = λ all entry. refl }
+
+payload_passes : (o : numbers.OpenHunk) (n : ℕ) → PassesOver (scan.owe_payload o n) n (positions.Body o phases.BlockWord)
+payload_passes o zero = record { goes_on = λ e. absurd cc; run = refl; passed = refl; same = λ all entry. refl }
+payload_passes o (suc n) = record { goes_on = λ e. absurd cc; run = refl; passed = all_passed (positions.Body o (phases.Payload n)); same = λ all entry. refl }
 
 module _ (bytes : List ℕ) (fit : IsBytes bytes) (entry : Entry) (o : numbers.OpenHunk) where
   -- The word of a block leads to the phase behind it.
@@ -464,52 +489,17 @@ module _ (bytes : List ℕ) (fit : IsBytes bytes) (entry : Entry) (o : numbers.O
   zero_over : (at : ℕ) (phase : Phase) → Walks bytes at (positions.Body o phase) entry → EndsList (longs bytes) at → scan.step (positions.Body o phase) 0 ≡ positions.Body o phases.BlockWord → refuse (role_at entry.longs (positions.Body o phase)) 0 ≡ None →
       Walks bytes (at + 1) (positions.Body o phases.BlockWord) entry
   zero_over at phase h e steps ok =
-      let over = passes bytes fit at (positions.Body o phase) entry h e.inside 0 (sym e.zero_is) (positions.Body o phases.BlockWord) (sym steps) ok (λ d. absurd cc) in
-      let end : at + (1 + 0) ≡ at + 1 = omega arith in
-      subst (λ (k : ℕ). Walks bytes k (positions.Body o phases.BlockWord) entry) end over
-
-  content_over : (at behind : ℕ) → Walks bytes at (positions.Body o phases.ContentSize) entry → IsContent (longs bytes) entry.longs at behind → Walks bytes behind (positions.Body (having true o) phases.BlockWord) entry
-  content_over at behind h c = go (size_longs (get_or (longs bytes) at 0)) refl
-    where
-      go : (n : ℕ) → size_longs (get_or (longs bytes) at 0) ≡ n → Walks bytes behind (positions.Body (having true o) phases.BlockWord) entry
-      go n is =
-          let next = scan.owe_content o n n in
-          let over = passes bytes fit at (positions.Body o phases.ContentSize) entry h (omega (arith, c.ends, c.whole)) (get_or (longs bytes) at 0) refl next
-          (ap (λ (k : ℕ). scan.owe_content o k k) (sym is)) (passes_else (ltb entry.longs (size_longs (get_or (longs bytes) at 0))) (Some reasons.ContentTooLong) None (le-ltb entry.longs (size_longs (get_or (longs bytes) at 0)) c.fits)) (goes_on n) in
-          passed_to n over (omega (arith, c.ends, is))
-        where
-          goes_on : (n : ℕ) → scan.owe_content o n n ≡ positions.Done → ⊥
-          goes_on zero e = cc
-          goes_on (suc n) e = cc
-
-          passed_to : (n : ℕ) → (let p = scan.owe_content o n n in Walks bytes (at + (1 + scan.run p)) (scan.pass p (scan.run p)) (entry_at (longs bytes) p entry)) → at + (1 + n) ≡ behind → Walks bytes behind (positions.Body (having true o) phases.BlockWord) entry
-          passed_to zero t e = subst (λ (k : ℕ). Walks bytes k (positions.Body (having true o) phases.BlockWord) entry) e t
-          passed_to (suc n) t e =
-              subst (λ (k : ℕ). Walks bytes k (positions.Body (having true o) phases.BlockWord) entry) e
-              (subst (λ (q : Position). Walks bytes (at + (1 + suc n)) q entry) (all_passed (positions.Body o (phases.Content (suc n) n))) t)
-
-  counted_over : (at behind : ℕ) → Walks bytes at (positions.Body o phases.LongCount) entry → IsCounted (longs bytes) at behind → Walks bytes behind (positions.Body o phases.BlockWord) entry
-  counted_over at behind h c = go (get_or (longs bytes) at 0) refl
-    where
-      go : (n : ℕ) → n ≡ get_or (longs bytes) at 0 → Walks bytes behind (positions.Body o phases.BlockWord) entry
-      go n is =
-          let next = scan.owe_payload o n in
-          passed_to n (passes bytes fit at (positions.Body o phases.LongCount) entry h (omega (arith, c.ends, c.whole)) n is next refl refl (goes_on n)) (omega (arith, c.ends, is))
-        where
-          goes_on : (n : ℕ) → scan.owe_payload o n ≡ positions.Done → ⊥
-          goes_on zero e = cc
-          goes_on (suc n) e = cc
-
-          passed_to : (n : ℕ) → (let p = scan.owe_payload o n in Walks bytes (at + (1 + scan.run p)) (scan.pass p (scan.run p)) (entry_at (longs bytes) p entry)) → at + (1 + n) ≡ behind → Walks bytes behind (positions.Body o phases.BlockWord) entry
-          passed_to zero t e = subst (λ (k : ℕ). Walks bytes k (positions.Body o phases.BlockWord) entry) e t
-          passed_to (suc n) t e =
-              subst (λ (k : ℕ). Walks bytes k (positions.Body o phases.BlockWord) entry) e
-              (subst (λ (q : Position). Walks bytes (at + (1 + suc n)) q entry) (all_passed (positions.Body o (phases.Payload n))) t)
+      leads bytes fit entry at (at + 1) _ (positions.Body o phases.BlockWord) _ h 0 (omega arith) (omega (arith, e.inside)) 0 (sym e.zero_is) (sym steps) ok (record { goes_on = λ d. absurd cc; run = refl; passed = refl; same = λ all entry. refl })
 
   -- A block leads to the next.
   block_over : (at : ℕ) (phase : Phase) (behind : ℕ) (now : Bool) → part_at phase ≡ parts.BlockWord → Walks bytes at (positions.Body o phase) entry → IsWholeBlock (longs bytes) o.hunks entry.longs at o.has_content behind now → Walks bytes behind (positions.Body (having now o) phases.BlockWord) entry
-  block_over at phase _ _ e h (content behind begun c) = content_over (at + 1) behind (word_over at phase phases.ContentSize e h begun refl) c
-  block_over at phase _ _ e h (counted behind begun c) = counted_over (at + 1) behind (word_over at phase phases.LongCount e h begun refl) c
+  block_over at phase behind _ e h (content _ begun c) =
+      let word = get_or (longs bytes) (at + 1) 0 in
+      let ok = passes_else (ltb entry.longs (size_longs word)) (Some reasons.ContentTooLong) None (le-ltb entry.longs (size_longs word) c.fits) in
+      leads bytes fit entry (at + 1) behind _ _ _ (word_over at phase phases.ContentSize e h begun refl) (size_longs word) c.ends c.whole word refl refl ok (content_passes o (size_longs word))
+  block_over at phase behind _ e h (counted _ begun c) =
+      let word = get_or (longs bytes) (at + 1) 0 in
+      leads bytes fit entry (at + 1) behind _ _ _ (word_over at phase phases.LongCount e h begun refl) word c.ends c.whole word refl refl refl (payload_passes o word)
   block_over at phase _ _ e h (groups end begun g z) = zero_over end phases.GroupCount (groups_over bytes fit entry o (at + 1) end (word_over at phase phases.GroupCount e h begun refl) g) z refl refl
   block_over at phase _ _ e h (symbols end begun s z) = zero_over end phases.EntryWord (symbols_over bytes fit entry o (at + 1) end (word_over at phase phases.EntryWord e h begun refl) s) z refl refl
 
