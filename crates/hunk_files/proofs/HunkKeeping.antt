@@ -1,18 +1,19 @@
 -- The hunks of a unit, kept in a list one by one.
-use Rattle.std.proofs.Common.{◌≡◌, ℕ, ◌+◌, ◌-◌, ◌*◌, ◌<◌, ◌≤◌, List, [], ◌∷◌, ◌++◌, length, drop, refl, sym, ap, subst, ◌∙◌, arith, Some, None}
+use Rattle.std.proofs.Common.{◌≡◌, ℕ, ◌+◌, ◌-◌, ◌*◌, ◌<◌, ◌≤◌, true, false, List, [], ◌∷◌, ◌++◌, length, drop, refl, sym, ap, subst, ◌∙◌, arith, Some, None}
 use Rattle.std.specs.List.{flat_map}
+use Rattle.hunk_words.specs.Longs.{longs}
 use Rattle.hunk_blocks.specs.Placed.{Placed}
 use Rattle.hunk_files.specs.Hunks.{HunkAt, block_texts}
 use Rattle.hunk_files.specs.Lacks.{EndsAt, EndsHunkPart, Within}
 use Rattle.hunk_files.specs.ObjectFile.{ObjectHunk, IsObjectHunk}
 use Rattle.hunk_files.specs.ObjectViews.{HunksAt, hunk_at, hunks_at}
-use Rattle.hunk_files.specs.Units.{EndsUnit}
+use Rattle.hunk_files.specs.UnitCuts.{ends_unit}
 use Rattle.hunk_files.proofs.HunkBlocks.{hunk_ends, hunk_inside, some_text}
 use Rattle.hunk_files.proofs.ObjectViewLaws.{HunkPassed, hunk_at_is, hunk_passed, next_hunk, no_hunk}
 use Rattle.hunk_files.proofs.Taking.{Taken, all_taken, part_taken, part_within}
 
 -- The blocks of the hunk that stands here, where its unit goes on.
-module _ (bytes : List ℕ) (at : ℕ) (here : HunksAt bytes at) (goes_on : EndsUnit (drop at bytes) → ⊥) (blocks : Placed ObjectHunk) (are : (hunk : HunkAt bytes at) → blocks ≡ record { place = at; value = hunk.blocks }) where
+module _ (bytes : List ℕ) (at : ℕ) (here : HunksAt bytes at) (goes_on : ends_unit (longs (drop at bytes)) ≡ false) (blocks : Placed ObjectHunk) (are : (hunk : HunkAt bytes at) → blocks ≡ record { place = at; value = hunk.blocks }) where
   hunk : HunkAt bytes at
   hunk = next_hunk bytes at here goes_on
 
@@ -54,6 +55,6 @@ module _ (bytes : List ℕ) (at : ℕ) (here : HunksAt bytes at) (goes_on : Ends
       hunk_lacks place p = part_of_hunk place (hunk_ends blocks.value blocks.place end place are_hunk e p)
 
 -- Where the unit ends, all are kept.
-pub all_kept : (bytes : List ℕ) (at : ℕ) → HunksAt bytes at → EndsUnit (drop at bytes) → (all : Placed (List ObjectHunk)) (done : List ObjectHunk) → Taken block_texts all (hunks_at bytes at) done →
+pub all_kept : (bytes : List ℕ) (at : ℕ) → HunksAt bytes at → ends_unit (longs (drop at bytes)) ≡ true → (all : Placed (List ObjectHunk)) (done : List ObjectHunk) → Taken block_texts all (hunks_at bytes at) done →
     (done ≡ all.value) × (at ≡ all.place + 4 * length (flat_map block_texts all.value))
 all_kept bytes at here ends all done t = all_taken block_texts all (hunks_at bytes at) (hunks_at bytes at) done None t refl (no_hunk bytes at here ends, refl)

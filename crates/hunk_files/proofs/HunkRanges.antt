@@ -1,21 +1,22 @@
 -- Hunks and units of which what stays is handed over.
-use Rattle.std.proofs.Common.{◌≡◌, ℕ, ◌+◌, ◌*◌, ◌<◌, ◌≤◌, List, [], ◌∷◌, ◌++◌, length, map, drop, refl, sym, ap, subst, ◌∙◌, append-nil, length-append, arith}
+use Rattle.std.proofs.Common.{◌≡◌, ℕ, ◌+◌, ◌*◌, ◌<◌, ◌≤◌, true, false, List, [], ◌∷◌, ◌++◌, length, map, drop, refl, sym, ap, subst, ◌∙◌, append-nil, length-append, arith}
 use Rattle.std.specs.Prelude.{slice_range}
 use Rattle.std.specs.List.{flat_map}
 use Rattle.std.proofs.lemmas.List.{length-drop}
 use Rattle.std.proofs.lemmas.List.Folds.{flat_map-map}
-use Rattle.hunk_words.specs.Longs.{bytes_of}
+use Rattle.hunk_words.specs.Longs.{bytes_of, longs}
 use Rattle.hunk_words.proofs.LongLaws.{bytes_of-nil, length-bytes_of}
 use Rattle.hunk_files.specs.Hunks.{HunkAt, block_texts}
 use Rattle.hunk_files.specs.ObjectFile.{ObjectHunk, UnitValue, ObjectFileValue, AreObjectFile, IsObjectHunk, IsUnit, object_text, unit_text}
 use Rattle.hunk_files.specs.InPlace.{StandAt}
 use Rattle.hunk_files.specs.Ranges.{HandsOver}
 use Rattle.hunk_files.specs.Strip.{strip_blocks, strip_object, strip_unit}
-use Rattle.hunk_files.specs.Units.{EndsUnit, UnitAt}
-use Rattle.hunk_files.proofs.ObjectViewLaws.{no_hunk_in}
+use Rattle.hunk_files.specs.UnitCuts.{ends_unit}
+use Rattle.hunk_files.specs.Units.{UnitAt}
+use Rattle.hunk_files.proofs.ObjectViewLaws.{no_hunk_in, some_hunk}
 use Rattle.hunk_files.proofs.PlaceLaws.{First, first_of, stand_first}
 use Rattle.hunk_files.proofs.RangeLaws.{Stripped, all_stripped, none_stripped, one_stripped}
-use Rattle.hunk_files.proofs.UnitReading.{units_end}
+use Rattle.hunk_files.proofs.UnitCutLaws.{units_end}
 
 not_empty : {A : Type 0} (xs : List A) → 0 < length xs → xs ≡ [] → ⊥
 not_empty xs some none = absurd (omega (arith, some, ap length none))
@@ -54,14 +55,14 @@ module _ {T : Type 0} {takes : T → List ℕ → T → Type 0} {old now : T} {b
       (subst (λ (ws : List ℕ). HandsOver takes old now before (slice_range bytes from at) (bytes_of ws)) (sym (flat_map-map block_texts strip_blocks all)) h.0, h.1)
 
   -- where a unit does not end
-  pub some_left : EndsUnit rest → (EndsUnit (drop at bytes) → ⊥) → 0 < length left
+  pub some_left : ends_unit (longs rest) ≡ true → ends_unit (longs (drop at bytes)) ≡ false → 0 < length left
   some_left next goes_on = go left s.stand
     where
       go : (hs : List ObjectHunk) → StandAt IsObjectHunk block_texts bytes at hs rest → 0 < length hs
-      go [] stand = absurd (goes_on (subst EndsUnit (sym (stand.text_is ∙ ap (λ (l : List ℕ). l ++ rest) bytes_of-nil)) next))
+      go [] stand = absurd (some_hunk bytes at rest next stand goes_on)
       go (h ∷ hs) stand = omega arith
 
-  pub none_left : EndsUnit rest → EndsUnit (drop at bytes) → left ≡ []
+  pub none_left : ends_unit (longs rest) ≡ true → ends_unit (longs (drop at bytes)) ≡ true → left ≡ []
   none_left next ends = no_hunk_in bytes at rest next left s.stand ends
 
 -- ---- units
@@ -80,7 +81,7 @@ no_unit_stripped none bytes file =
 module _ {T : Type 0} {takes : T → List ℕ → T → Type 0} {old now : T} {bytes : List ℕ} {all : ObjectFileValue} {from at : ℕ} {left : List UnitValue}
     (s : Stripped takes IsUnit unit_text kept_unit old now bytes [] 0 all [] from at left) where
   unit_first : First IsUnit unit_text bytes at left [] → UnitAt bytes at
-  unit_first f = record { unit = f.item; is = f.stand.each.0; rest = bytes_of (object_text f.later) ++ []; text = stand_first f.stand; next = units_end f.later }
+  unit_first f = record { unit = f.item; is = f.stand.each.0; rest = bytes_of (object_text f.later) ++ []; text = stand_first f.stand; next = units_end f.later f.stand.each.1 }
 
   more_units : at < length bytes → 0 < length left
   more_units inside = go left s.stand

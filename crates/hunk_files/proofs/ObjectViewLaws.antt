@@ -1,6 +1,5 @@
 -- The units and hunks that stand in bytes are those that their longwords spell.
-use Rattle.std.proofs.Common.{◌≡◌, ℕ, ◌+◌, ◌-◌, ◌*◌, Bool, true, false, List, [], ◌∷◌, ◌++◌, length, take, drop, get_or, refl, sym, ap, ap₂, subst, ◌∙◌, inl, inr, eq-eqb, Some}
-use Rattle.std.specs.Prelude.{IsTrue, ◌↔◌}
+use Rattle.std.proofs.Common.{◌≡◌, ℕ, ◌+◌, ◌-◌, ◌*◌, Bool, true, false, List, [], ◌∷◌, ◌++◌, length, take, drop, refl, sym, ap, ap₂, subst, ◌∙◌, Some}
 use Rattle.std.proofs.lemmas.List.{take_rest}
 use Rattle.std.specs.List.{flat_map}
 use Rattle.hunk_words.specs.Longs.{longs, bytes_of}
@@ -9,31 +8,21 @@ use Rattle.hunk_blocks.specs.Cuts.{Cut}
 use Rattle.hunk_blocks.specs.Placed.{Placed}
 use Rattle.hunk_files.specs.Cuts.{hunk_cut}
 use Rattle.hunk_files.specs.Hunks.{HunkAt, block_texts}
-use Rattle.hunk_files.specs.ObjectFile.{ObjectHunk, UnitValue, IsObjectHunk, unit_word, unit_text}
+use Rattle.hunk_files.specs.ObjectFile.{ObjectHunk, UnitValue, IsObjectHunk, unit_text}
 use Rattle.hunk_files.specs.ObjectViews.{HunksAt, hunk_at, hunks_at, unit_at}
 use Rattle.hunk_files.specs.UnitCuts.{ends_unit, hunks_cut, unit_cut}
 use Rattle.hunk_files.specs.InPlace.{FirstEndsAt, GivesPart, IsFirstPart, StandAt}
-use Rattle.hunk_files.specs.Units.{EndsUnit, UnitAt}
+use Rattle.hunk_files.specs.Units.{UnitAt}
 use Rattle.hunk_files.proofs.PlaceLaws.{stand_behind, stand_first, stand_passed}
 use Rattle.hunk_files.proofs.Taking.{first_given}
 use Rattle.hunk_files.proofs.UnitCutLaws.{hunk_goes_on, hunk_is, hunks_are, unit_is}
 use Rattle.hunk_files.proofs.UnitReading.{hunk_longs, hunks_longs, unit_longs}
 
--- Where a unit ends, its longwords do.
-stops : (bytes : List ℕ) → EndsUnit bytes → ends_unit (longs bytes) ≡ true
-stops bytes (inl none) = ap (λ (l : List ℕ). ends_unit (longs l)) none
-stops bytes (inr next) = go (longs bytes) next.1
-  where
-    go : (ws : List ℕ) → get_or ws 0 0 ≡ unit_word → ends_unit ws ≡ true
-    go [] h = refl
-    go (w ∷ ws) h = eq-eqb w unit_word h
-
 -- Where a hunk stands, no unit ends.
-hunk_no_end : (bytes rest : List ℕ) (h : ObjectHunk) → IsObjectHunk h → bytes ≡ bytes_of (block_texts h) ++ rest → EndsUnit bytes → ⊥
+hunk_no_end : (bytes rest : List ℕ) (h : ObjectHunk) → IsObjectHunk h → bytes ≡ bytes_of (block_texts h) ++ rest → ends_unit (longs bytes) ≡ true → ⊥
 hunk_no_end bytes rest h is e ends =
     let words : longs bytes ≡ block_texts h ++ longs rest = ap longs e ∙ longs-bytes_of (block_texts h) rest (hunk_longs h is.blocks) in
     let no : ends_unit (longs bytes) ≡ false = ap ends_unit words ∙ hunk_goes_on h (longs rest) is in
-    let yes = stops bytes ends in
     cc
 
 -- What stands at a byte is what its longwords spell.
@@ -45,31 +34,36 @@ hunk_at_is bytes start here =
 pub unit_at_is : (bytes : List ℕ) (start : ℕ) (here : UnitAt bytes start) → (unit_at bytes start).value ≡ here.unit
 unit_at_is bytes start here =
     ap (λ (c : Cut UnitValue). c.value)
-    (ap unit_cut (ap longs here.text ∙ longs-bytes_of (unit_text here.unit) here.rest (unit_longs here.unit here.is)) ∙ unit_is here.unit (longs here.rest) here.is (stops here.rest here.next))
+    (ap unit_cut (ap longs here.text ∙ longs-bytes_of (unit_text here.unit) here.rest (unit_longs here.unit here.is)) ∙ unit_is here.unit (longs here.rest) here.is here.next)
 
 -- ---- the hunks of a unit
 
-pub hunks_at_are : (bytes : List ℕ) (rest : List ℕ) → EndsUnit rest → (start : ℕ) (hs : List ObjectHunk) → StandAt IsObjectHunk block_texts bytes start hs rest → (hunks_at bytes start).value ≡ hs
+pub hunks_at_are : (bytes : List ℕ) (rest : List ℕ) → ends_unit (longs rest) ≡ true → (start : ℕ) (hs : List ObjectHunk) → StandAt IsObjectHunk block_texts bytes start hs rest → (hunks_at bytes start).value ≡ hs
 hunks_at_are bytes rest next start hs stand =
     ap (λ (c : Cut (List ObjectHunk)). c.value)
-    (ap hunks_cut (ap longs stand.text_is ∙ longs-bytes_of (flat_map block_texts hs) rest (hunks_longs hs stand.each)) ∙ hunks_are hs (longs rest) stand.each (stops rest next))
+    (ap hunks_cut (ap longs stand.text_is ∙ longs-bytes_of (flat_map block_texts hs) rest (hunks_longs hs stand.each)) ∙ hunks_are hs (longs rest) stand.each next)
 
 -- A hunk is given that stands here, and hunks stand behind it.
 pub record HunkPassed (bytes : List ℕ) (start end : ℕ) : Type 0 where
   pub behind : HunksAt bytes end
   pub gives : GivesPart block_texts (hunks_at bytes start) (Some (hunk_at bytes start)) (hunks_at bytes end)
 
-module _ (bytes : List ℕ) (start : ℕ) (rest : List ℕ) (next : EndsUnit rest) where
-  pub no_hunk_in : (hs : List ObjectHunk) → StandAt IsObjectHunk block_texts bytes start hs rest → EndsUnit (drop start bytes) → hs ≡ []
+module _ (bytes : List ℕ) (start : ℕ) (rest : List ℕ) (next : ends_unit (longs rest) ≡ true) where
+  pub some_hunk : StandAt IsObjectHunk block_texts bytes start [] rest → ends_unit (longs (drop start bytes)) ≡ false → ⊥
+  some_hunk s goes_on =
+      let same = ap (λ (l : List ℕ). ends_unit (longs l)) (s.text_is ∙ ap (λ (l : List ℕ). l ++ rest) bytes_of-nil) in
+      cc
+
+  pub no_hunk_in : (hs : List ObjectHunk) → StandAt IsObjectHunk block_texts bytes start hs rest → ends_unit (longs (drop start bytes)) ≡ true → hs ≡ []
   no_hunk_in [] s ends = refl
   no_hunk_in (h ∷ hs) s ends = absurd (hunk_no_end (drop start bytes) (bytes_of (flat_map block_texts hs) ++ rest) h s.each.0 (stand_first s) ends)
 
-  pub next_hunk_in : (hs : List ObjectHunk) → StandAt IsObjectHunk block_texts bytes start hs rest → (EndsUnit (drop start bytes) → ⊥) → HunkAt bytes start
-  next_hunk_in [] s goes_on = absurd (goes_on (subst EndsUnit (sym (s.text_is ∙ ap (λ (l : List ℕ). l ++ rest) bytes_of-nil)) next))
+  pub next_hunk_in : (hs : List ObjectHunk) → StandAt IsObjectHunk block_texts bytes start hs rest → ends_unit (longs (drop start bytes)) ≡ false → HunkAt bytes start
+  next_hunk_in [] s goes_on = absurd (some_hunk s goes_on)
   next_hunk_in (h ∷ hs) s goes_on = record { blocks = h; is = s.each.0; rest = bytes_of (flat_map block_texts hs) ++ rest; text = stand_first s }
 
-  hunk_passed_in : (hs : List ObjectHunk) → StandAt IsObjectHunk block_texts bytes start hs rest → (EndsUnit (drop start bytes) → ⊥) → (end : ℕ) → ((hunk : HunkAt bytes start) → end ≡ start + 4 * length (block_texts hunk.blocks)) → HunkPassed bytes start end
-  hunk_passed_in [] s goes_on end e = absurd (goes_on (subst EndsUnit (sym (s.text_is ∙ ap (λ (l : List ℕ). l ++ rest) bytes_of-nil)) next))
+  hunk_passed_in : (hs : List ObjectHunk) → StandAt IsObjectHunk block_texts bytes start hs rest → ends_unit (longs (drop start bytes)) ≡ false → (end : ℕ) → ((hunk : HunkAt bytes start) → end ≡ start + 4 * length (block_texts hunk.blocks)) → HunkPassed bytes start end
+  hunk_passed_in [] s goes_on end e = absurd (some_hunk s goes_on)
   hunk_passed_in (h ∷ hs) s goes_on end e =
       let one : HunkAt bytes start = record { blocks = h; is = s.each.0; rest = bytes_of (flat_map block_texts hs) ++ rest; text = stand_first s } in
       let is : h ≡ (hunk_at bytes start).value = sym (hunk_at_is bytes start one) in
@@ -85,16 +79,16 @@ module _ (bytes : List ℕ) (start : ℕ) (rest : List ℕ) (next : EndsUnit res
       }
 
 module _ (bytes : List ℕ) (start : ℕ) (here : HunksAt bytes start) where
-  pub no_hunk : EndsUnit (drop start bytes) → (hunks_at bytes start).value ≡ []
+  pub no_hunk : ends_unit (longs (drop start bytes)) ≡ true → (hunks_at bytes start).value ≡ []
   no_hunk ends = hunks_at_are bytes here.rest here.next start here.hunks here.stand ∙ (no_hunk_in bytes start here.rest here.next here.hunks here.stand ends)
 
-  pub next_hunk : (EndsUnit (drop start bytes) → ⊥) → HunkAt bytes start
+  pub next_hunk : ends_unit (longs (drop start bytes)) ≡ false → HunkAt bytes start
   next_hunk = next_hunk_in bytes start here.rest here.next here.hunks here.stand
 
-  pub hunk_passed : (EndsUnit (drop start bytes) → ⊥) → (end : ℕ) → ((hunk : HunkAt bytes start) → end ≡ start + 4 * length (block_texts hunk.blocks)) → HunkPassed bytes start end
+  pub hunk_passed : ends_unit (longs (drop start bytes)) ≡ false → (end : ℕ) → ((hunk : HunkAt bytes start) → end ≡ start + 4 * length (block_texts hunk.blocks)) → HunkPassed bytes start end
   hunk_passed = hunk_passed_in bytes start here.rest here.next here.hunks here.stand
 
-  pub hunk_first : (EndsUnit (drop start bytes) → ⊥) → IsFirstPart (hunks_at bytes start) (Some (hunk_at bytes start))
+  pub hunk_first : ends_unit (longs (drop start bytes)) ≡ false → IsFirstPart (hunks_at bytes start) (Some (hunk_at bytes start))
   hunk_first goes_on =
       let end : ℕ = start + 4 * length (block_texts (hunk_at bytes start).value) in
       first_given block_texts (hunks_at bytes start) (hunks_at bytes end) (hunk_at bytes start)
@@ -111,6 +105,6 @@ module _ (bytes : List ℕ) (start : ℕ) (here : HunksAt bytes start) where
             (hunks_at_are bytes here.rest here.next end (drop 1 here.hunks) left ∙ ap (drop 1) (sym are) ∙ ap (λ (p : Placed (List ObjectHunk)). drop 1 p.value) is),
       )
 
--- A unit goes on where the test says so.
-pub goes_on : (bytes : List ℕ) (at : ℕ) (ends : Bool) → (IsTrue ends ↔ EndsUnit (take (length bytes - at) (drop at bytes))) → ends ≡ false → EndsUnit (drop at bytes) → ⊥
-goes_on bytes at ends is test e = let there = is.1 (subst EndsUnit (sym (take_rest bytes at)) e) in cc
+-- A unit ends where the test says so.
+pub tested : (bytes : List ℕ) (at : ℕ) (ends : Bool) → ends ≡ ends_unit (longs (take (length bytes - at) (drop at bytes))) → {is : Bool} → ends ≡ is → ends_unit (longs (drop at bytes)) ≡ is
+tested bytes at ends is test = ap (λ (l : List ℕ). ends_unit (longs l)) (sym (take_rest bytes at)) ∙ sym is ∙ test

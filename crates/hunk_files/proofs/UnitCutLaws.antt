@@ -3,6 +3,8 @@ use Rattle.std.proofs.Common.{◌≡◌, ℕ, zero, suc, ◌≤◌, Bool, true, 
 use Rattle.std.specs.List.{flat_map, AllByRecursion}
 use Rattle.std.proofs.lemmas.Bool.{ne_eqb}
 use Rattle.hunk_words.specs.Bits.{kind}
+use Rattle.hunk_words.specs.Longs.{bytes_of, longs}
+use Rattle.hunk_words.proofs.LongLaws.{longs-bytes_of}
 use Rattle.hunk_blocks.specs.Cuts.{Cut, cut_map}
 use Rattle.hunk_files.specs.Cuts.{hunk_cut}
 use Rattle.hunk_files.specs.Hunks.{block_texts}
@@ -11,7 +13,7 @@ use Rattle.hunk_files.specs.UnitCuts.{items_until, ends_unit, hunks_cut, unit_cu
 use Rattle.hunk_blocks.proofs.CutLaws.{cut, longs_cut_is}
 use Rattle.hunk_files.proofs.BlockCuts.{hunk_cut_is}
 use Rattle.hunk_files.proofs.HunkBlocks.{some_text}
-use Rattle.hunk_files.proofs.UnitReading.{no_kind, unit_kind}
+use Rattle.hunk_files.proofs.UnitReading.{no_kind, object_longs, unit_kind}
 
 pub hunk_is : (h : ObjectHunk) (rest : List ℕ) → IsObjectHunk h → hunk_cut (block_texts h ++ rest) ≡ cut h rest
 hunk_is h rest is = hunk_cut_is false h rest is.blocks is.order
@@ -71,6 +73,10 @@ units_stop : (us : ObjectFileValue) (rest : List ℕ) → ends_file rest ≡ tru
 units_stop [] [] stop = refl
 units_stop [] (w ∷ rest) stop = absurd cc
 units_stop (u ∷ us) rest stop = refl
+
+-- The same in bytes.
+pub units_end : (us : ObjectFileValue) → AllByRecursion IsUnit us → ends_unit (longs (bytes_of (object_text us) ++ [])) ≡ true
+units_end us is = ap ends_unit (longs-bytes_of (object_text us) [] (object_longs us is)) ∙ units_stop us [] refl
 
 units_cut_off : AreCut IsUnit unit_text ends_file unit_cut
 units_cut_off = record { some = λ u is. omega arith; goes_on = λ u rest is. refl; first = λ u us rest is stop. unit_is u (object_text us ++ rest) is (units_stop us rest stop) }

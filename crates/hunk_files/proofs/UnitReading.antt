@@ -1,16 +1,16 @@
 -- The longwords of units, and where units begin.
-use Rattle.std.proofs.Common.{◌≡◌, ℕ, ◌+◌, ◌*◌, ◌^◌, ◌≤◌, List, [], ◌∷◌, ◌++◌, length, take, drop, get_or, refl, sym, ap, ◌∙◌, append_assoc, append-nil, length-append, arith, inl, inr, lit<}
+use Rattle.std.proofs.Common.{◌≡◌, ℕ, ◌+◌, ◌*◌, ◌^◌, ◌≤◌, List, [], ◌∷◌, ◌++◌, length, take, drop, get_or, refl, sym, ap, ◌∙◌, append_assoc, append-nil, arith}
 use Rattle.std.specs.List.{flat_map, AllByRecursion}
 use Rattle.std.proofs.lemmas.List.{take_at, drop_at}
 use Rattle.hunk_words.specs.declared.block_word.Kind.TheVariants as kinds
 use Rattle.hunk_words.specs.Bits.{kind}
 use Rattle.hunk_words.specs.Longs.{longs, bytes_of, AreLongs, IsLong}
-use Rattle.hunk_words.proofs.LongLaws.{bytes_of-append, bytes_of-cons, bytes_of-nil, length-bytes_of, longs-bytes_of}
+use Rattle.hunk_words.proofs.LongLaws.{bytes_of-append, length-bytes_of, longs-bytes_of}
 use Rattle.hunk_blocks.specs.Values.{BlockBody, Name, FitsWord, IsBlock, IsPayload}
 use Rattle.hunk_blocks.specs.Parts.{block_text}
 use Rattle.hunk_files.specs.Hunks.{block_texts}
 use Rattle.hunk_files.specs.ObjectFile.{ObjectHunk, UnitValue, ObjectFileValue, IsObjectHunk, IsUnit, unit_word, unit_header, unit_text, object_text}
-use Rattle.hunk_files.specs.Units.{EndsUnit, UnitAt}
+use Rattle.hunk_files.specs.Units.{UnitAt}
 use Rattle.hunk_files.proofs.PlaceLaws.{text_inside}
 use Rattle.hunk_files.proofs.Accepted.{All-flat_map}
 use Rattle.hunk_blocks.proofs.BlockLongs.{block_longs}
@@ -42,20 +42,6 @@ unit_kind = refl
 pub no_kind : (word : ℕ) (body : BlockBody) → FitsWord word body → kind word ≡ kinds.Unit → ⊥
 no_kind word (Name ws) h e = cc
 no_kind word _ h e = cc
-
--- In front of units, or of nothing, a unit ends.
-pub units_end : (us : ObjectFileValue) → EndsUnit (bytes_of (object_text us) ++ [])
-units_end [] = inl (ap (λ (l : List ℕ). l ++ []) bytes_of-nil)
-units_end (u ∷ us) =
-    let more : List ℕ = length u.name ∷ u.name ++ flat_map block_texts u.hunks in
-    let rest : List ℕ = bytes_of (more ++ object_text us) ++ [] in
-    let split : bytes_of (object_text (u ∷ us)) ++ [] ≡ bytes_of (unit_word ∷ []) ++ rest =
-    ap (λ (l : List ℕ). l ++ []) (bytes_of-cons unit_word (more ++ object_text us)) ∙ append_assoc (bytes_of (unit_word ∷ [])) (bytes_of (more ++ object_text us)) [] in (
-    inr (
-      omega (arith, ap length split, length-append (bytes_of (unit_word ∷ [])) rest, length-bytes_of (unit_word ∷ [])),
-      ap (λ (l : List ℕ). get_or (longs l) 0 0) split ∙ ap (λ (ws : List ℕ). get_or ws 0 0) (longs-bytes_of (unit_word ∷ []) rest (lit< tt, tt)),
-    )
-    )
 
 pub text_longs : (bytes : List ℕ) (us : ObjectFileValue) → AllByRecursion IsUnit us → bytes ≡ bytes_of (object_text us) → longs bytes ≡ object_text us
 text_longs bytes us is e = ap longs (e ∙ sym (append-nil (bytes_of (object_text us)))) ∙ longs-bytes_of (object_text us) [] (object_longs us is) ∙ append-nil (object_text us)

@@ -15,8 +15,8 @@ use Rattle.hunk_files.specs.Units.{UnitAt}
 use Rattle.hunk_files.proofs.ObjectViewLaws.{hunks_at_are, unit_at_is}
 use Rattle.hunk_files.proofs.PlaceLaws.{stand_behind, stand_first, stand_passed}
 use Rattle.hunk_files.proofs.Taking.{first_given}
-use Rattle.hunk_files.proofs.UnitCutLaws.{units_are}
-use Rattle.hunk_files.proofs.UnitReading.{header_inside, header_split, text_longs, units_end}
+use Rattle.hunk_files.proofs.UnitCutLaws.{units_are, units_end}
+use Rattle.hunk_files.proofs.UnitReading.{header_inside, header_split, text_longs}
 
 -- ---- the hunks of a unit that stands here
 
@@ -74,7 +74,7 @@ module _ (bytes : List ℕ) (start : ℕ) where
   no_room (u ∷ us) s end = absurd (omega (arith, end, ap length s.text_is, length-drop start bytes, length-append (bytes_of (object_text (u ∷ us))) [], length-bytes_of (object_text (u ∷ us))))
 
   some_unit : {u : UnitValue} {us : ObjectFileValue} → StandAt IsUnit unit_text bytes start (u ∷ us) [] → UnitAt bytes start
-  some_unit {u} {us} s = record { unit = u; is = s.each.0; rest = bytes_of (object_text us) ++ []; text = stand_first s; next = units_end us }
+  some_unit {u} {us} s = record { unit = u; is = s.each.0; rest = bytes_of (object_text us) ++ []; text = stand_first s; next = units_end us s.each.1 }
 
   next_unit_in : (us : ObjectFileValue) → StandAt IsUnit unit_text bytes start us [] → start < length bytes → UnitAt bytes start
   next_unit_in [] s more = absurd (omega (arith, more, ap length (s.text_is ∙ ap (λ (l : List ℕ). l ++ []) bytes_of-nil), length-drop start bytes))

@@ -1,13 +1,12 @@
 -- The units and hunks of an object file, read where they lie.
-use Rattle.std.specs.Prelude.{ℕ, List, [], drop}
+use Rattle.std.specs.Prelude.{◌≡◌, ℕ, true, List, [], drop}
 use Rattle.hunk_words.specs.Longs.{longs}
 use Rattle.hunk_files.specs.Cuts.{hunk_cut}
 use Rattle.hunk_files.specs.Hunks.{block_texts}
 use Rattle.hunk_blocks.specs.Placed.{Placed}
 use Rattle.hunk_files.specs.InPlace.{StandAt}
 use Rattle.hunk_files.specs.ObjectFile.{ObjectHunk, UnitValue, ObjectFileValue, IsObjectHunk, IsUnit, unit_text}
-use Rattle.hunk_files.specs.UnitCuts.{hunks_cut, unit_cut, units_cut}
-use Rattle.hunk_files.specs.Units.{EndsUnit}
+use Rattle.hunk_files.specs.UnitCuts.{ends_unit, hunks_cut, unit_cut, units_cut}
 
 -- ---- hunks and units that stand in bytes
 
@@ -16,7 +15,7 @@ pub record HunksAt (bytes : List ℕ) (start : ℕ) : Type 0 where
   pub hunks : List ObjectHunk
   pub rest : List ℕ
   pub stand : StandAt IsObjectHunk block_texts bytes start hunks rest
-  pub next : EndsUnit rest
+  pub next : ends_unit (longs rest) ≡ true
 
 -- From this byte on the bytes are units.
 pub record UnitsAt (bytes : List ℕ) (start : ℕ) : Type 0 where

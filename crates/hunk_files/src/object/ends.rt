@@ -1,12 +1,13 @@
 //! Where a unit ends.
-ghost use Rattle.std.specs.Prelude.{◌↔◌, IsTrue};
-ghost use Rattle.hunk_files.specs.Units.{EndsUnit};
+ghost use Rattle.std.specs.Prelude.{◌≡◌};
+ghost use Rattle.hunk_words.specs.Longs.{longs};
+ghost use Rattle.hunk_files.specs.UnitCuts.{ends_unit};
 
 use hunk_words::{UNIT_WORD, word_at};
 
-/// Whether a unit ends before these bytes.
+/// Whether a unit ends before these bytes: no longword follows, or the next unit.
 pub(crate) fn ends_unit(bytes: &[u8]) -> bool
-    ensures { IsTrue result ↔ EndsUnit bytes.now }
+    ensures { result ≡ ends_unit (longs bytes.now) }
 {
-    bytes.is_empty() || (bytes.len() >= 4 && word_at(bytes, 0) == UNIT_WORD)
+    bytes.len() < 4 || word_at(bytes, 0) == UNIT_WORD
 }

@@ -1,59 +1,57 @@
 use Rattle.std.proofs.Common.{◌≡◌, ◌∷◌, ◌++◌, [], List, ◌∙◌, refl, rules, subst, sym}
-use Rattle.std.proofs.lemmas.List.{take_rest}
 use Rattle.std.proofs.lemmas.Result.{err_from_is_err_and}
 use Rattle.hunk_files.specs.Hunks.{block_texts}
 use Rattle.hunk_files.specs.ObjectFile.{ObjectHunk, IsObjectHunk}
 use Rattle.hunk_files.specs.ObjectViews.{hunks_at}
-use Rattle.hunk_files.specs.Units.{EndsUnit}
 use Rattle.hunk_files.proofs.HunkKeeping.{all_kept, are_hunk, hunk_kept, hunk_lacks, hunks_behind, nearer, part_of_hunk, some_behind}
-use Rattle.hunk_files.proofs.ObjectViewLaws.{goes_on, next_hunk}
+use Rattle.hunk_files.proofs.ObjectViewLaws.{next_hunk, tested}
 use Rattle.hunk_files.proofs.Taking.{Taken}
 use Rattle.hunk_files.proofs.object.hunk_view.HunkViews.keep.Goals as goal
 
 pub at-views-requires : goal.at-views-requires
-at-views-requires c = next_hunk c.self.inside.bytes.now c.keeping.at c.keeping.invariant.0 (goes_on c.self.inside.bytes.now c.keeping.at c.ends_unit.result c.ends_unit.ensures (let test = c.keeping-test.true in cc))
+at-views-requires c = next_hunk c.self.inside.bytes.now c.keeping.at c.keeping.invariant.0 (tested c.self.inside.bytes.now c.keeping.at c.ends_unit.result c.ends_unit.ensures (let test = c.keeping-test.true in cc))
 
 pub returns-in_err-blocks-clause-place : goal.returns-in_err-blocks-clause-place
 returns-in_err-blocks-clause-place c =
     let p = err_from_is_err_and c.from_residual.result c.from_residual.ensures.1 in
     rw (p.1, p.2)
-    (part_of_hunk c.self.inside.bytes.now c.keeping.at c.keeping.invariant.0 (goes_on c.self.inside.bytes.now c.keeping.at c.ends_unit.result c.ends_unit.ensures (let test = c.keeping-test.true in cc)) c.at-views.result c.at-views.ensures c.args.self c.keeping.hunks.items c.keeping.invariant.1
+    (part_of_hunk c.self.inside.bytes.now c.keeping.at c.keeping.invariant.0 (tested c.self.inside.bytes.now c.keeping.at c.ends_unit.result c.ends_unit.ensures (let test = c.keeping-test.true in cc)) c.at-views.result c.at-views.ensures c.args.self c.keeping.hunks.items c.keeping.invariant.1
     c.in_err-blocks.field-0.0.place c.in_err-blocks.ensures.place)
 
 pub invariant_of-append : goal.invariant_of-append
 invariant_of-append c =
     subst IsObjectHunk (sym c.in_ok-blocks.ensures.kept)
-    (are_hunk c.self.inside.bytes.now c.keeping.at c.keeping.invariant.0 (goes_on c.self.inside.bytes.now c.keeping.at c.ends_unit.result c.ends_unit.ensures (let test = c.keeping-test.true in cc)) c.at-views.result c.at-views.ensures)
+    (are_hunk c.self.inside.bytes.now c.keeping.at c.keeping.invariant.0 (tested c.self.inside.bytes.now c.keeping.at c.ends_unit.result c.ends_unit.ensures (let test = c.keeping-test.true in cc)) c.at-views.result c.at-views.ensures)
 
 pub out_of_memory-requires : goal.out_of_memory-requires
 out_of_memory-requires c =
-    some_behind c.self.inside.bytes.now c.keeping.at c.keeping.invariant.0 (goes_on c.self.inside.bytes.now c.keeping.at c.ends_unit.result c.ends_unit.ensures (let test = c.keeping-test.true in cc)) c.at-views.result c.at-views.ensures c.args.self c.keeping.hunks.items c.keeping.invariant.1
+    some_behind c.self.inside.bytes.now c.keeping.at c.keeping.invariant.0 (tested c.self.inside.bytes.now c.keeping.at c.ends_unit.result c.ends_unit.ensures (let test = c.keeping-test.true in cc)) c.at-views.result c.at-views.ensures c.args.self c.keeping.hunks.items c.keeping.invariant.1
     c.place-at.result (c.place-at.ensures ∙ c.in_ok-blocks.ensures.behind)
 
 pub returns-then-is_err-clause-place : goal.returns-then-is_err-clause-place
 returns-then-is_err-clause-place c =
-    hunk_lacks c.self.inside.bytes.now c.keeping.at c.keeping.invariant.0 (goes_on c.self.inside.bytes.now c.keeping.at c.ends_unit.result c.ends_unit.ensures (let test = c.keeping-test.true in cc)) c.at-views.result c.at-views.ensures c.args.self c.keeping.hunks.items c.keeping.invariant.1
+    hunk_lacks c.self.inside.bytes.now c.keeping.at c.keeping.invariant.0 (tested c.self.inside.bytes.now c.keeping.at c.ends_unit.result c.ends_unit.ensures (let test = c.keeping-test.true in cc)) c.at-views.result c.at-views.ensures c.args.self c.keeping.hunks.items c.keeping.invariant.1
     c.place-at.result (c.place-at.ensures ∙ c.in_ok-blocks.ensures.behind) c.out_of_memory.result.place c.out_of_memory.ensures.place
 
 pub keeping-smaller : goal.keeping-smaller
 keeping-smaller c =
-    nearer c.self.inside.bytes.now c.keeping.at c.keeping.invariant.0 (goes_on c.self.inside.bytes.now c.keeping.at c.ends_unit.result c.ends_unit.ensures (let test = c.keeping-test.true in cc)) c.at-views.result c.at-views.ensures c.args.self c.keeping.hunks.items c.keeping.invariant.1
+    nearer c.self.inside.bytes.now c.keeping.at c.keeping.invariant.0 (tested c.self.inside.bytes.now c.keeping.at c.ends_unit.result c.ends_unit.ensures (let test = c.keeping-test.true in cc)) c.at-views.result c.at-views.ensures c.args.self c.keeping.hunks.items c.keeping.invariant.1
     c.place-at.result (c.place-at.ensures ∙ c.in_ok-blocks.ensures.behind)
 
 pub keeping-preserved : goal.keeping-preserved
 keeping-preserved c =
     let pushed : c.append.new.list.items ≡ c.keeping.hunks.items ++ c.at-views.result.value ∷ [] = search rules in (
-      hunks_behind c.self.inside.bytes.now c.keeping.at c.keeping.invariant.0 (goes_on c.self.inside.bytes.now c.keeping.at c.ends_unit.result c.ends_unit.ensures (let test = c.keeping-test.true in cc)) c.at-views.result c.at-views.ensures c.args.self c.keeping.hunks.items c.keeping.invariant.1
+      hunks_behind c.self.inside.bytes.now c.keeping.at c.keeping.invariant.0 (tested c.self.inside.bytes.now c.keeping.at c.ends_unit.result c.ends_unit.ensures (let test = c.keeping-test.true in cc)) c.at-views.result c.at-views.ensures c.args.self c.keeping.hunks.items c.keeping.invariant.1
           c.place-at.result (c.place-at.ensures ∙ c.in_ok-blocks.ensures.behind),
       subst (λ (hs : List ObjectHunk). Taken block_texts c.args.self (hunks_at c.self.inside.bytes.now c.place-at.result) hs) (sym pushed)
-          (hunk_kept c.self.inside.bytes.now c.keeping.at c.keeping.invariant.0 (goes_on c.self.inside.bytes.now c.keeping.at c.ends_unit.result c.ends_unit.ensures (let test = c.keeping-test.true in cc)) c.at-views.result c.at-views.ensures c.args.self c.keeping.hunks.items c.keeping.invariant.1
+          (hunk_kept c.self.inside.bytes.now c.keeping.at c.keeping.invariant.0 (tested c.self.inside.bytes.now c.keeping.at c.ends_unit.result c.ends_unit.ensures (let test = c.keeping-test.true in cc)) c.at-views.result c.at-views.ensures c.args.self c.keeping.hunks.items c.keeping.invariant.1
           c.place-at.result (c.place-at.ensures ∙ c.in_ok-blocks.ensures.behind) c.at-views.result.value refl),
     )
 
 pub returns-clause-kept : goal.returns-clause-kept
 returns-clause-kept c =
-    (all_kept c.self.inside.bytes.now c.keeping.at c.keeping.invariant.0 (subst EndsUnit (take_rest c.self.inside.bytes.now c.keeping.at) (c.ends_unit.ensures.0 cc)) c.args.self c.keeping.hunks.items c.keeping.invariant.1).0
+    (all_kept c.self.inside.bytes.now c.keeping.at c.keeping.invariant.0 (tested c.self.inside.bytes.now c.keeping.at c.ends_unit.result c.ends_unit.ensures (let test = c.keeping-test.false in cc)) c.args.self c.keeping.hunks.items c.keeping.invariant.1).0
 
 pub returns-clause-end : goal.returns-clause-end
 returns-clause-end c =
-    (all_kept c.self.inside.bytes.now c.keeping.at c.keeping.invariant.0 (subst EndsUnit (take_rest c.self.inside.bytes.now c.keeping.at) (c.ends_unit.ensures.0 cc)) c.args.self c.keeping.hunks.items c.keeping.invariant.1).1
+    (all_kept c.self.inside.bytes.now c.keeping.at c.keeping.invariant.0 (tested c.self.inside.bytes.now c.keeping.at c.ends_unit.result c.ends_unit.ensures (let test = c.keeping-test.false in cc)) c.args.self c.keeping.hunks.items c.keeping.invariant.1).1
