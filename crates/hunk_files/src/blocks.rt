@@ -2,6 +2,8 @@
 ghost use Rattle.std.specs.Prelude.{◌≡◌, ◌+◌, ◌*◌, IfErr, IfOk, length};
 ghost use Rattle.std.specs.Iterator.{item_count};
 ghost use Rattle.hunk_words.specs.declared.reason.Reason.TheVariants as reasons;
+ghost use Rattle.hunk_words.specs.Longs.{bytes_of};
+ghost use Rattle.hunk_words.specs.Prints.{Prints};
 ghost use Rattle.hunk_blocks.specs.Parts.{block_text};
 ghost use Rattle.hunk_files.specs.Hunks.{HunkAt, block_texts};
 ghost use Rattle.hunk_files.specs.InPlace.{GivesPart};
@@ -10,7 +12,7 @@ ghost use Rattle.hunk_files.specs.Lacks.{EndsAt, EndsHunkPart};
 use crate::order::is_end;
 use crate::place::out_of_memory;
 use hunk_blocks::{Block, BlockView, append};
-use hunk_words::FileFault;
+use hunk_words::{FileFault, Printer, Sink};
 use std::alloc::Global;
 use std::marker::Model;
 
@@ -128,4 +130,13 @@ pub(crate) fn keep_blocks<'a>(
         }
     }
     Ok(kept)
+}
+
+/// Prints the blocks, one after the other.
+pub(crate) fn print_blocks<W: Sink>(page: &mut Printer<'_, W>, blocks: &[Block<'_>])
+    ensures { Prints page.old page.new (bytes_of (block_texts blocks.now)) }
+{
+    'putting: for block in blocks {
+        block.print(page);
+    }
 }

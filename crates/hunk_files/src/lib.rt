@@ -13,7 +13,6 @@ mod place;
 mod ranges;
 mod row;
 mod sniffing;
-mod writing;
 
 pub use crate::bases::Bases;
 pub use crate::blocks::BlockViews;

@@ -12,7 +12,6 @@ mod strip;
 mod table;
 mod view;
 mod walk;
-mod writing;
 
 pub use crate::load::file::LoadFile;
 pub use crate::load::hunk_views::{LoadHunkView, LoadHunkViews};

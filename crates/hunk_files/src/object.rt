@@ -13,7 +13,6 @@ mod unit;
 mod unit_view;
 mod view;
 mod whole;
-mod writing;
 
 pub use crate::object::check::{Finding, FindingKind};
 pub use crate::object::file::ObjectFile;

@@ -1,7 +1,10 @@
 //! Rows of a hunk table.
 ghost use Rattle.std.specs.Prelude.{◌≡◌};
+ghost use Rattle.hunk_words.specs.Longs.{bytes_of};
+ghost use Rattle.hunk_words.specs.Prints.{Prints};
+ghost use Rattle.hunk_files.specs.Tables.{row_words};
 
-use hunk_words::SizeWord;
+use hunk_words::{Printer, Sink, SizeWord};
 
 /// A row of the hunk table: what the header declares of a hunk, and where the hunk lies.
 ///
@@ -27,5 +30,15 @@ impl Row {
             word: self.word,
             extra: self.extra,
         }
+    }
+}
+
+/// A size word, and the memory attributes where they follow it.
+pub(crate) fn print_row<W: Sink>(page: &mut Printer<'_, W>, row: &Row)
+    ensures { Prints page.old page.new (bytes_of (row_words row.now)) }
+{
+    page.print_long(row.word);
+    if SizeWord::has_extra(row.word) {
+        page.print_long(row.extra);
     }
 }

@@ -1,16 +1,18 @@
 //! Object files.
-ghost use Rattle.std.specs.Prelude.{◌≡◌, ◌≢◌, ◌^◌, ◌<◌, IfErr, IfOk, IsTrue, length};
+ghost use Rattle.std.specs.Prelude.{◌≡◌, ◌≢◌, ◌^◌, ◌<◌, IfErr, IfOk, IsErr, IsTrue, length, true};
 ghost use Rattle.hunk_words.specs.Longs.{bytes_of};
 ghost use Rattle.hunk_words.specs.declared.reason.Reason.TheVariants as reasons;
+ghost use Rattle.hunk_words.specs.Prints.{Prints};
+ghost use Rattle.hunk_words.specs.Puts.{PutsText};
 ghost use Rattle.hunk_files.specs.ObjectFile.{IsNoObjectFile, is_object_refusal, IsObjectFile, object_text};
 ghost use Rattle.hunk_files.specs.ObjectFault.{HasObjectFault};
 ghost use Rattle.hunk_files.specs.Lacks.{LacksObjectPart};
 ghost use Rattle.hunk_files.specs.Findings.{findings};
 
 use crate::object::taker::TakesFindings;
-use crate::object::unit::Unit;
+use crate::object::unit::{Unit, print_unit};
 use crate::object::view::ObjectView;
-use hunk_words::FileFault;
+use hunk_words::{FileFault, LongWriter, Printer, Sink, WriteFault};
 use std::alloc::Global;
 use std::marker::Model;
 
@@ -92,5 +94,44 @@ impl<'a> ObjectFile<'a> {
         ensures few { length (findings self.now) < 2 ^ 64 }
     {
         let _units = self.view.check_with(taker);
+    }
+
+    /// Writes the file's text.
+    ///
+    /// It goes out by pages, and takes no memory.
+    ///
+    /// # Errors
+    ///
+    /// A `WriteFault` where the writer's sink failed, now or before: just the first `written`
+    /// bytes of all that was ever put have gone out. Later puts write nothing and answer the same.
+    /// A writer that had failed before stays as it was.
+    pub fn encode<W: Sink>(&self, writer: &mut LongWriter<W>) -> Result<(), WriteFault>
+        ensures puts { PutsText W.taken W.failed writer.old writer.new
+            (bytes_of (object_text self.now)) result }
+        ensures stays { writer.old.stopped ≡ true → IsErr result × (writer.new ≡ writer.old) }
+    {
+        writer.put_bytes(&[])?;
+        put_units(writer, self.units())
+    }
+}
+
+/// Puts the text of these units through a page.
+fn put_units<W: Sink>(writer: &mut LongWriter<W>, units: &[Unit<'_>]) -> Result<(), WriteFault>
+    ensures { PutsText W.taken W.failed writer.old writer.new
+        (bytes_of (object_text units.now)) result }
+{
+    let mut page = Printer::new(writer);
+    print_units(&mut page, units);
+    let result = page.flush();
+    let _out = page.into_inner();
+    result
+}
+
+/// The units, one after the other.
+fn print_units<W: Sink>(page: &mut Printer<'_, W>, units: &[Unit<'_>])
+    ensures { Prints page.old page.new (bytes_of (object_text units.now)) }
+{
+    'writing: for unit in units {
+        print_unit(page, unit);
     }
 }

@@ -1,9 +1,16 @@
 //! The units of an object file, and their hunks.
 ghost use Rattle.std.specs.Prelude.{◌≡◌};
-ghost use Rattle.hunk_words.specs.Longs.{longs};
-ghost use Rattle.hunk_files.specs.ObjectFile.{IsObjectHunk, IsUnit};
+ghost use Rattle.std.specs.List.{flat_map};
+ghost use Rattle.hunk_words.specs.Longs.{bytes_of, longs};
+ghost use Rattle.hunk_words.specs.Limits.{name_limit};
+ghost use Rattle.hunk_words.specs.Prints.{Prints};
+ghost use Rattle.hunk_blocks.specs.Values.{IsPayload};
+ghost use Rattle.hunk_blocks.specs.Parts.{block_text};
+ghost use Rattle.hunk_files.specs.ObjectFile.{IsObjectHunk, IsUnit, unit_header, unit_text};
 
+use crate::blocks::print_blocks;
 use hunk_blocks::{Block, Payload};
+use hunk_words::{Printer, Sink, UNIT_WORD};
 use std::marker::Model;
 
 /// A hunk of a unit. Contracts see it as the list of its blocks.
@@ -66,5 +73,33 @@ impl<'a> Unit<'a> {
         ensures unit { IsUnit self.now }
     {
         self.hunks.as_slice()
+    }
+}
+
+/// The header of the unit, and its hunks.
+pub(super) fn print_unit<W: Sink>(page: &mut Printer<'_, W>, unit: &Unit<'_>)
+    ensures { Prints page.old page.new (bytes_of (unit_text unit.now)) }
+{
+    print_header(page, unit.name());
+    print_hunks(page, unit.hunks());
+}
+
+/// The header of a unit with this name.
+fn print_header<W: Sink>(page: &mut Printer<'_, W>, name: &Payload<'_>)
+    requires { IsPayload name_limit (longs name.now) }
+    ensures { Prints page.old page.new (bytes_of (unit_header (longs name.now))) }
+{
+    let bytes = name.bytes();
+    page.print_long(UNIT_WORD);
+    page.print_long((bytes.len() / 4) as u32);
+    page.print(bytes);
+}
+
+/// The blocks of the hunks.
+fn print_hunks<W: Sink>(page: &mut Printer<'_, W>, hunks: &[Hunk<'_>])
+    ensures { Prints page.old page.new (bytes_of (flat_map (flat_map block_text) hunks.now)) }
+{
+    'writing: for hunk in hunks {
+        print_blocks(page, hunk.blocks());
     }
 }
