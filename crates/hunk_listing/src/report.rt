@@ -135,7 +135,7 @@ impl FindingLine {
         self.line.print(page);
     }
 
-    #[tactic(auto, unfolding(crate::specs::ReportLines::finding_front, crate::specs::ReportLines::finding_line))]
+    #[tactic(auto, unfolding(crate::specs::ReportLines::finding_line))]
     fn print<W: Sink>(&mut self, page: &mut Printer<'_, W>, finding: Finding)
         ensures { Prints page.old page.new (finding_line finding) }
     {
