@@ -95,7 +95,8 @@ kind_cut kinds.Ext words = cut_map Ext (list_cut entry_cut words)
 kind_cut kinds.Symbol words = cut_map Symbol (list_cut symbol_cut words)
 kind_cut kinds.Debug words = cut_map Debug (counted_cut words)
 kind_cut (kinds.Unknown n) words = cut_map Advisory (counted_cut words)
-kind_cut k words = if is_relocation k then cut_map Reloc (list_cut group_cut words) else record { value = End; rest = words }
+kind_cut k words =
+    if is_relocation k then cut_map Reloc (list_cut group_cut words) else record { value = End; rest = words }
 
 abbrev pub body_cut : ℕ → List ℕ → Cut BlockBody
 body_cut word words = kind_cut (kind word) words

@@ -24,7 +24,9 @@ finding_front unit hunk = codes "unit " ++ decimal unit ++ codes " hunk " ++ dec
 
 -- `unit D hunk D offset X NAME`
 unfoldable pub finding_line : Finding → List ℕ
-finding_line finding = finding_front finding.unit finding.hunk ++ hexadecimal finding.offset ++ codes " " ++ finding_name finding.fault ++ codes "\n"
+finding_line finding =
+    finding_front finding.unit finding.hunk ++ hexadecimal finding.offset ++ codes " " ++ finding_name finding.fault
+    ++ codes "\n"
 
 -- `object file D units D findings`: how many units, and how much is found in them
 unfoldable pub totals_line : ℕ → ℕ → List ℕ
