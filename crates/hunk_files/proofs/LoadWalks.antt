@@ -339,15 +339,18 @@ record PassesOver (here : Position) (n : ℕ) (behind : Position) : Type 0 where
   same : (all : List ℕ) (entry : Entry) → entry_at all here entry ≡ entry
 
 -- A longword that is not refused leads behind its run.
-leads : (bytes : List ℕ) → IsBytes bytes → (entry : Entry) (at behind : ℕ) (from here to : Position) → Walks bytes at from entry → (n : ℕ) → behind ≡ at + 1 + n → behind ≤ length (longs bytes) →
-    (w : ℕ) → w ≡ get_or (longs bytes) at 0 → here ≡ scan.step from w → refuse (role_at entry.longs from) w ≡ None → PassesOver here n to → Walks bytes behind to entry
+leads : (bytes : List ℕ) → IsBytes bytes → (entry : Entry) (at behind : ℕ) (from here to : Position) →
+    Walks bytes at from entry → (n : ℕ) → behind ≡ at + 1 + n → behind ≤ length (longs bytes) →
+    (w : ℕ) → w ≡ get_or (longs bytes) at 0 → here ≡ scan.step from w → refuse (role_at entry.longs from) w ≡ None →
+    PassesOver here n to → Walks bytes behind to entry
 leads bytes fit entry at behind from here to h n ends whole w is steps ok over =
     let on = passes bytes fit at from entry h (omega (arith, ends, whole)) w is here steps ok over.goes_on in
     let end : at + (1 + n) ≡ behind = omega (arith, ends) in
     subst (λ (k : ℕ). Walks bytes k to entry) end
     (subst (λ (e : Entry). Walks bytes (at + (1 + n)) to e) (over.same (longs bytes) entry)
     (subst (λ (q : Position). Walks bytes (at + (1 + n)) q (entry_at (longs bytes) here entry)) over.passed
-    (subst (λ (k : ℕ). Walks bytes (at + (1 + k)) (scan.pass here k) (entry_at (longs bytes) here entry)) over.run on)))
+    (subst (λ (k : ℕ). Walks bytes (at + (1 + k)) (scan.pass here k) (entry_at (longs bytes) here entry)) over.run
+    on)))
 
 -- ---- groups
 
@@ -416,8 +419,9 @@ symbol_over bytes fit entry o at h some whole = go (get_or (longs bytes) at 0) r
         let n = name_longs (suc w) in
         let end : behind_symbol (longs bytes) at ≡ at + 1 + suc n = omega (arith, ap name_longs is) in
         let none : n - n ≡ 0 = none_left n in
-        leads bytes fit entry at (behind_symbol (longs bytes) at) _ (scan.owe_symbol o (suc n)) _ h (suc n) end whole (suc w) is refl refl
-        (record { goes_on = λ e. absurd cc; run = refl; passed = ap (λ (k : ℕ). scan.owe_symbol o k) none; same = λ all entry. refl })
+        let passed = ap (λ (k : ℕ). scan.owe_symbol o k) none in
+        leads bytes fit entry at (behind_symbol (longs bytes) at) _ (scan.owe_symbol o (suc n)) _ h (suc n) end whole
+        (suc w) is refl refl (record { goes_on = λ e. absurd cc; run = refl; passed = passed; same = λ all entry. refl })
 
 symbols_over : (bytes : List ℕ) → IsBytes bytes → (entry : Entry) (o : numbers.OpenHunk) (at end : ℕ) → Walks bytes at (positions.Body o phases.EntryWord) entry → AreSymbols (longs bytes) at end → Walks bytes end (positions.Body o phases.EntryWord) entry
 symbols_over bytes fit entry o at _ h no_symbol = h
@@ -436,13 +440,20 @@ row_over bytes fit entry hunks owed at h whole = go (has_both_bits (get_or (long
     go false e =
         let w = get_or (longs bytes) at 0 in
         let end : behind_row (longs bytes) at ≡ at + 1 + 0 = omega (arith, ap (λ (b : Bool). at + (if b then 2 else 1)) e) in
-        leads bytes fit entry at (behind_row (longs bytes) at) _ _ _ h 0 end whole w refl (ap (λ (b : Bool). if b then positions.Attributes hunks w (suc owed) else positions.SizeWord hunks owed) (sym e)) refl over
+        let next : Bool → Position =
+        λ b. if b then positions.Attributes hunks w (suc owed) else positions.SizeWord hunks owed in
+        leads bytes fit entry at (behind_row (longs bytes) at) _ _ _ h 0 end whole w refl (ap next (sym e)) refl over
     go true e =
         let w = get_or (longs bytes) at 0 in
-        let end : behind_row (longs bytes) at ≡ at + 1 + 1 + 0 = omega (arith, ap (λ (b : Bool). at + (if b then 2 else 1)) e) in
-        let first = leads bytes fit entry at (at + 1) _ (positions.Attributes hunks w (suc owed)) _ h 0 (omega arith) (omega (arith, end, whole)) w refl
-        (ap (λ (b : Bool). if b then positions.Attributes hunks w (suc owed) else positions.SizeWord hunks owed) (sym e)) refl (record { goes_on = λ d. absurd cc; run = refl; passed = refl; same = λ all entry. refl }) in
-        leads bytes fit entry (at + 1) (behind_row (longs bytes) at) _ _ _ first 0 end whole (get_or (longs bytes) (at + 1) 0) refl refl refl over
+        let end : behind_row (longs bytes) at ≡ at + 1 + 1 + 0 =
+        omega (arith, ap (λ (b : Bool). at + (if b then 2 else 1)) e) in
+        let here : Position = positions.Attributes hunks w (suc owed) in
+        let next : Bool → Position = λ b. if b then here else positions.SizeWord hunks owed in
+        let first =
+        leads bytes fit entry at (at + 1) _ here _ h 0 (omega arith) (omega (arith, end, whole)) w refl (ap next (sym e)) refl
+        (record { goes_on = λ d. absurd cc; run = refl; passed = refl; same = λ all entry. refl }) in
+        leads bytes fit entry (at + 1) (behind_row (longs bytes) at) _ _ _ first 0 end whole (get_or (longs bytes) (at + 1) 0)
+        refl refl refl over
 
 rows_over : (bytes : List ℕ) → IsBytes bytes → (entry : Entry) (hunks owed at : ℕ) → Walks bytes at (positions.SizeWord hunks owed) entry → (count end : ℕ) → count ≤ owed → AreRows (longs bytes) at count end → Walks bytes end (positions.SizeWord hunks (owed - count)) entry
 rows_over bytes fit entry hunks owed at h _ _ few no_row =
@@ -455,13 +466,19 @@ rows_over bytes fit entry hunks owed at h _ _ few (one_row count mid before whol
 
 -- ---- blocks
 
-content_passes : (o : numbers.OpenHunk) (n : ℕ) → PassesOver (scan.owe_content o n n) n (positions.Body (having true o) phases.BlockWord)
+content_passes : (o : numbers.OpenHunk) (n : ℕ) →
+    PassesOver (scan.owe_content o n n) n (positions.Body (having true o) phases.BlockWord)
 content_passes o zero = record { goes_on = λ e. absurd cc; run = refl; passed = refl; same = λ all entry. refl }
-content_passes o (suc n) = record { goes_on = λ e. absurd cc; run = refl; passed = all_passed (positions.Body o (phases.Content (suc n) n)); same = λ all entry. refl }
+content_passes o (suc n) =
+    let passed = all_passed (positions.Body o (phases.Content (suc n) n)) in
+    record { goes_on = λ e. absurd cc; run = refl; passed = passed; same = λ all entry. refl }
 
-payload_passes : (o : numbers.OpenHunk) (n : ℕ) → PassesOver (scan.owe_payload o n) n (positions.Body o phases.BlockWord)
+payload_passes : (o : numbers.OpenHunk) (n : ℕ) →
+    PassesOver (scan.owe_payload o n) n (positions.Body o phases.BlockWord)
 payload_passes o zero = record { goes_on = λ e. absurd cc; run = refl; passed = refl; same = λ all entry. refl }
-payload_passes o (suc n) = record { goes_on = λ e. absurd cc; run = refl; passed = all_passed (positions.Body o (phases.Payload n)); same = λ all entry. refl }
+payload_passes o (suc n) =
+    let passed = all_passed (positions.Body o (phases.Payload n)) in
+    record { goes_on = λ e. absurd cc; run = refl; passed = passed; same = λ all entry. refl }
 
 module _ (bytes : List ℕ) (fit : IsBytes bytes) (entry : Entry) (o : numbers.OpenHunk) where
   -- The word of a block leads to the phase behind it.
@@ -489,17 +506,21 @@ module _ (bytes : List ℕ) (fit : IsBytes bytes) (entry : Entry) (o : numbers.O
   zero_over : (at : ℕ) (phase : Phase) → Walks bytes at (positions.Body o phase) entry → EndsList (longs bytes) at → scan.step (positions.Body o phase) 0 ≡ positions.Body o phases.BlockWord → refuse (role_at entry.longs (positions.Body o phase)) 0 ≡ None →
       Walks bytes (at + 1) (positions.Body o phases.BlockWord) entry
   zero_over at phase h e steps ok =
-      leads bytes fit entry at (at + 1) _ (positions.Body o phases.BlockWord) _ h 0 (omega arith) (omega (arith, e.inside)) 0 (sym e.zero_is) (sym steps) ok (record { goes_on = λ d. absurd cc; run = refl; passed = refl; same = λ all entry. refl })
+      leads bytes fit entry at (at + 1) _ (positions.Body o phases.BlockWord) _ h 0 (omega arith) (omega (arith, e.inside))
+      0 (sym e.zero_is) (sym steps) ok (record { goes_on = λ d. absurd cc; run = refl; passed = refl; same = λ all entry. refl })
 
   -- A block leads to the next.
   block_over : (at : ℕ) (phase : Phase) (behind : ℕ) (now : Bool) → part_at phase ≡ parts.BlockWord → Walks bytes at (positions.Body o phase) entry → IsWholeBlock (longs bytes) o.hunks entry.longs at o.has_content behind now → Walks bytes behind (positions.Body (having now o) phases.BlockWord) entry
   block_over at phase behind _ e h (content _ begun c) =
       let word = get_or (longs bytes) (at + 1) 0 in
-      let ok = passes_else (ltb entry.longs (size_longs word)) (Some reasons.ContentTooLong) None (le-ltb entry.longs (size_longs word) c.fits) in
-      leads bytes fit entry (at + 1) behind _ _ _ (word_over at phase phases.ContentSize e h begun refl) (size_longs word) c.ends c.whole word refl refl ok (content_passes o (size_longs word))
+      let size = size_longs word in
+      let ok = passes_else (ltb entry.longs size) (Some reasons.ContentTooLong) None (le-ltb entry.longs size c.fits) in
+      leads bytes fit entry (at + 1) behind _ _ _ (word_over at phase phases.ContentSize e h begun refl)
+      size c.ends c.whole word refl refl ok (content_passes o size)
   block_over at phase behind _ e h (counted _ begun c) =
       let word = get_or (longs bytes) (at + 1) 0 in
-      leads bytes fit entry (at + 1) behind _ _ _ (word_over at phase phases.LongCount e h begun refl) word c.ends c.whole word refl refl refl (payload_passes o word)
+      leads bytes fit entry (at + 1) behind _ _ _ (word_over at phase phases.LongCount e h begun refl)
+      word c.ends c.whole word refl refl refl (payload_passes o word)
   block_over at phase _ _ e h (groups end begun g z) = zero_over end phases.GroupCount (groups_over bytes fit entry o (at + 1) end (word_over at phase phases.GroupCount e h begun refl) g) z refl refl
   block_over at phase _ _ e h (symbols end begun s z) = zero_over end phases.EntryWord (symbols_over bytes fit entry o (at + 1) end (word_over at phase phases.EntryWord e h begun refl) s) z refl refl
 

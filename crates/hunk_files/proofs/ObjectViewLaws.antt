@@ -49,7 +49,8 @@ pub record HunkPassed (bytes : List ℕ) (start end : ℕ) : Type 0 where
   pub gives : GivesPart block_texts (hunks_at bytes start) (Some (hunk_at bytes start)) (hunks_at bytes end)
 
 module _ (bytes : List ℕ) (start : ℕ) (rest : List ℕ) (next : ends_unit (longs rest) ≡ true) where
-  pub some_hunk : StandAt IsObjectHunk block_texts bytes start [] rest → ends_unit (longs (drop start bytes)) ≡ false → ⊥
+  pub some_hunk : StandAt IsObjectHunk block_texts bytes start [] rest →
+      ends_unit (longs (drop start bytes)) ≡ false → ⊥
   some_hunk s goes_on =
       let same = ap (λ (l : List ℕ). ends_unit (longs l)) (s.text_is ∙ ap (λ (l : List ℕ). l ++ rest) bytes_of-nil) in
       cc
@@ -106,5 +107,7 @@ module _ (bytes : List ℕ) (start : ℕ) (here : HunksAt bytes start) where
       )
 
 -- A unit ends where the test says so.
-pub tested : (bytes : List ℕ) (at : ℕ) (ends : Bool) → ends ≡ ends_unit (longs (take (length bytes - at) (drop at bytes))) → {is : Bool} → ends ≡ is → ends_unit (longs (drop at bytes)) ≡ is
+pub tested : (bytes : List ℕ) (at : ℕ) (ends : Bool) →
+    ends ≡ ends_unit (longs (take (length bytes - at) (drop at bytes))) →
+    {is : Bool} → ends ≡ is → ends_unit (longs (drop at bytes)) ≡ is
 tested bytes at ends is test = ap (λ (l : List ℕ). ends_unit (longs l)) (sym (take_rest bytes at)) ∙ sym is ∙ test

@@ -75,7 +75,8 @@ units_stop [] (w ∷ rest) stop = absurd cc
 units_stop (u ∷ us) rest stop = refl
 
 -- The same in bytes.
-pub units_end : (us : ObjectFileValue) → AllByRecursion IsUnit us → ends_unit (longs (bytes_of (object_text us) ++ [])) ≡ true
+pub units_end : (us : ObjectFileValue) → AllByRecursion IsUnit us →
+    ends_unit (longs (bytes_of (object_text us) ++ [])) ≡ true
 units_end us is = ap ends_unit (longs-bytes_of (object_text us) [] (object_longs us is)) ∙ units_stop us [] refl
 
 units_cut_off : AreCut IsUnit unit_text ends_file unit_cut
