@@ -1,5 +1,15 @@
--- A source over a reader, a sink over a writer and a writer of longwords, as their callers see them.
-use Rattle.std.specs.Prelude.{ℕ, ◌-◌, ◌^◌, min, Bool}
+-- Sources, sinks and a writer of longwords, as their callers see them.
+use Rattle.std.specs.Prelude.{ℕ, ◌-◌, ◌^◌, min, Bool, List, Option}
+
+-- what is known of a source: the bytes that pulls will give from here on, where that is told, and whether a pull has failed
+pub record Supply : Type 0 where
+  pub left : Option (List ℕ)
+  pub failed : Bool
+
+-- what is known of a sink: the bytes that it has, those that it had before any push among them, where that is told, and whether a push has failed
+pub record Outlet : Type 0 where
+  pub taken : Option (List ℕ)
+  pub failed : Bool
 
 pub record Reading (R : Type 0) : Type 0 where
   pub reader : R

@@ -1,7 +1,7 @@
 -- What a put does: the bytes that the sink has taken are known as a before it and b after it, and the number of bytes written is m and then n.
-use Rattle.std.specs.Prelude.{◌≡◌, ℕ, ◌+◌, ◌≤◌, Bool, true, List, ◌++◌, Option, Result, IfErr, OnErr, OnOk, is_err, length, take}
+use Rattle.std.specs.Prelude.{◌≡◌, ℕ, ◌+◌, ◌≤◌, true, List, ◌++◌, Option, Result, IfErr, IsErr, OnErr, OnOk, is_err, length, take}
 use Rattle.std.specs.Io.KnownBytes.{Appends}
-use Rattle.hunk_words.specs.Carriers.{Writing, saturated}
+use Rattle.hunk_words.specs.Carriers.{Outlet, Writing, saturated}
 use Rattle.hunk_words.specs.declared.long_writer.WriteFault.{WriteFault}
 
 -- as many of the first bytes have gone out as the number rose by
@@ -15,15 +15,13 @@ pub record Puts (a b : Option (List ℕ)) (m n : ℕ) (bytes : List ℕ) : Type 
 abbrev pub PutsBefore : Option (List ℕ) → Option (List ℕ) → ℕ → ℕ → List ℕ → List ℕ → Type 0
 PutsBefore a b m n bytes rest = (front : List ℕ) × (bytes ≡ front ++ rest) × (n ≡ m + length front) × Appends a b front
 
--- this text was put, since the sink had taken a and had failed or not, and m bytes were written: all of it, or where the sink failed as many of its first bytes as the fault says
-pub record PutsSince {W T : Type 0} (taken : W → Option (List ℕ)) (failed : W → Bool) (a : Option (List ℕ)) (had_failed : Bool) (m : ℕ) (new : Writing W) (text : List ℕ) (result : Result T WriteFault) : Type 0 where
-  pub puts : Puts a (taken new.sink) m new.written text
-  pub all : OnOk result (new.written ≡ m + length text)
+-- This text was put on a writer that is old before it and new after it: all of it, or where the sink failed as many of its first bytes as the fault says.
+pub record PutsText {W T : Type 0} (outlet : W → Outlet) (old new : Writing W) (text : List ℕ) (result : Result T WriteFault) : Type 0 where
+  pub puts : Puts (outlet old.sink).taken (outlet new.sink).taken old.written new.written text
+  pub all : OnOk result (new.written ≡ old.written + length text)
   pub counted : IfErr result (λ fault. fault.written ≡ saturated new.written)
-  pub broken : OnErr result (failed new.sink ≡ true)
+  pub broken : OnErr result ((outlet new.sink).failed ≡ true)
   pub stops : new.stopped ≡ is_err result
-  pub no_failure : OnOk result (failed new.sink ≡ had_failed)
-
--- this text was put on a writer that is old before it and new after it
-abbrev pub PutsText : {W T : Type 0} → (W → Option (List ℕ)) → (W → Bool) → Writing W → Writing W → List ℕ → Result T WriteFault → Type 0
-PutsText taken failed old new text result = PutsSince taken failed (taken old.sink) (failed old.sink) old.written new text result
+  pub no_failure : OnOk result ((outlet new.sink).failed ≡ (outlet old.sink).failed)
+  -- one that had stopped before stays as it was
+  pub stays : old.stopped ≡ true → IsErr result × (new ≡ old)

@@ -1,5 +1,5 @@
 //! The writer of longwords.
-ghost use Rattle.std.specs.Prelude.{◌≡◌, ◌+◌, [], ◌∷◌, true, false, IsErr, OnOk};
+ghost use Rattle.std.specs.Prelude.{◌≡◌, ◌+◌, [], ◌∷◌, false, OnOk};
 ghost use Rattle.std.specs.Prelude.{Some};
 ghost use Rattle.hunk_words.specs.Carriers.{saturated};
 ghost use Rattle.hunk_words.specs.FaultLines.{write_line};
@@ -53,7 +53,7 @@ impl<W: Sink> Model for LongWriter<W> {
       stopped = s.stopped;
     } };
 
-    ghost invariant = { λ s. (s.stopped ≡ true → W.failed s.sink ≡ true)
+    ghost invariant = { λ s. (s.stopped ≡ true → (W.outlet s.sink).failed ≡ true)
         × (s.written ≡ saturated (length s.history.bytes)) };
 }
 
@@ -109,8 +109,7 @@ impl<W: Sink> LongWriter<W> {
     /// that was ever put have gone out. Each later put writes nothing, and answers the same.
     #[tactic(auto, using(crate::proofs::PutLaws::puts_none, crate::proofs::PutLaws::puts_front))]
     pub fn put_bytes(&mut self, bytes: &[u8]) -> Result<(), WriteFault>
-        ensures puts { PutsText W.taken W.failed self.old self.new bytes.now result }
-        ensures stays { self.old.stopped ≡ true → IsErr result × (self.new ≡ self.old) }
+        ensures { PutsText W.outlet self.old self.new bytes.now result }
     {
         if self.stopped {
             return Err(WriteFault {
@@ -143,9 +142,8 @@ impl<W: Sink> LongWriter<W> {
     /// A `WriteFault`, as at `put_bytes`.
     #[tactic(auto, unfolding(crate::specs::Longs::bytes_of))]
     pub fn put_long(&mut self, word: u32) -> Result<(), WriteFault>
-        ensures puts { PutsText W.taken W.failed self.old self.new (bytes_of (word ∷ [])) result }
+        ensures puts { PutsText W.outlet self.old self.new (bytes_of (word ∷ [])) result }
         ensures written { OnOk result (self.new.written ≡ self.old.written + 4) }
-        ensures stays { self.old.stopped ≡ true → IsErr result × (self.new ≡ self.old) }
     {
         self.put_bytes(word.to_be_bytes().as_slice())
     }

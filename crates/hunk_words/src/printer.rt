@@ -1,15 +1,17 @@
 //! A page of fixed size before a writer.
-ghost use Rattle.std.specs.Prelude.{◌≡◌, ℕ, Bool, List, Option, ◌≤◌, ◌++◌, [], ◌∷◌, length};
+ghost use Rattle.std.specs.Prelude.{◌≡◌, ℕ, List, ◌≤◌, ◌++◌, [], ◌∷◌, length};
 ghost use Rattle.hunk_words.specs.Longs.{bytes_of};
 ghost use Rattle.hunk_words.specs.Prints.{Prints, Sends};
-ghost use Rattle.hunk_words.specs.Puts.{PutsSince};
+ghost use Rattle.hunk_words.specs.Carriers.{Writing};
+ghost use Rattle.hunk_words.specs.Puts.{PutsText};
 
-use crate::history::{History, WriterSnapshot};
+use crate::history::History;
 use crate::long_writer::{LongWriter, WriteFault};
 use crate::page::{PAGE, Page};
 use crate::sink::Sink;
 use std::fmt;
 use std::marker::Model;
+use std::snapshot::Snapshot;
 
 /// A printer with a page of 81,920 bytes, which is a part of the printer itself and so stands on
 /// the stack: few writes for a text of any length, and no memory is taken.
@@ -24,7 +26,7 @@ pub type Printer<'a, W> = PagePrinter<'a, W, PAGE>;
 pub struct PagePrinter<'a, W: Sink, const ROOM: usize> {
     out: &'a mut LongWriter<W>,
     held: Page<ROOM>,
-    outset: WriterSnapshot,
+    outset: Snapshot<LongWriter<W>>,
     history: History,
 }
 
@@ -35,17 +37,11 @@ impl<'a, W: Sink, const ROOM: usize> Model for PagePrinter<'a, W, ROOM> {
 
     ghost view = { λ s. record {
       out = s.out;
-      origin = record {
-        name = s.out.ghost_name;
-        taken = s.outset.taken;
-        failed = s.outset.failed;
-        written = s.outset.written;
-      };
+      origin = record { name = s.out.ghost_name; writer = s.outset.value };
       text = s.history.bytes;
     } };
 
-    ghost invariant = { λ s. Sends W.taken W.failed
-        s.outset.taken s.outset.failed s.outset.written s.out.now s.history.bytes s.held };
+    ghost invariant = { λ s. Sends W.outlet s.outset.value s.out.now s.history.bytes s.held };
 }
 
 impl<W: Sink, const ROOM: usize> fmt::Debug for PagePrinter<'_, W, ROOM> {
@@ -58,19 +54,13 @@ impl<W: Sink, const ROOM: usize> fmt::Debug for PagePrinter<'_, W, ROOM> {
 }
 
 impl<'a, W: Sink, const ROOM: usize> PagePrinter<'a, W, ROOM> {
-    /// A printer that has printed nothing yet. Its `requires` only names what the sink has taken.
+    /// A printer that has printed nothing yet.
     pub fn new(out: &'a mut LongWriter<W>) -> PagePrinter<'a, W, ROOM>
-        ghost taken: { Option (List ℕ) }
-        requires { W.taken out.old.sink ≡ taken }
-        ensures origin { result.origin ≡ record {
-          name = out.entry.ghost_name;
-          taken = taken;
-          failed = W.failed out.old.sink;
-          written = out.old.written;
-        } }
+        ensures origin {
+            result.origin ≡ record { name = out.entry.ghost_name; writer = out.old } }
         ensures empty { result.text ≡ [] }
     {
-        let outset = WriterSnapshot::of(out);
+        let outset = Snapshot::of(&*out);
         PagePrinter {
             out,
             held: Page::new(),
@@ -110,9 +100,8 @@ impl<'a, W: Sink, const ROOM: usize> PagePrinter<'a, W, ROOM> {
     pub fn flush(&mut self) -> Result<(), WriteFault>
         ensures prints_nothing { Prints self.old self.new [] }
         ensures same_reference { self.new.out.ghost_name ≡ self.old.origin.name }
-        ensures puts { PutsSince W.taken W.failed
-            self.old.origin.taken self.old.origin.failed self.old.origin.written
-            self.new.out.now self.old.text result }
+        ensures puts {
+            PutsText W.outlet self.old.origin.writer self.new.out.now self.old.text result }
     {
         let result = self.out.put_bytes(self.held.as_slice());
         self.held.clear();
@@ -130,9 +119,8 @@ impl<'a, W: Sink, const ROOM: usize> PagePrinter<'a, W, ROOM> {
 /// Puts what is held, and holds the bytes, or puts them too where a page has no room for them.
 #[cold]
 fn send_on<W: Sink, const ROOM: usize>(out: &mut LongWriter<W>, held: &mut Page<ROOM>, bytes: &[u8])
-    ensures { (taken : Option (List ℕ)) → (failed : Bool) → (written : ℕ) → (text : List ℕ)
-        → Sends W.taken W.failed taken failed written out.old text held.old
-        → Sends W.taken W.failed taken failed written out.new (text ++ bytes.now) held.new }
+    ensures { (first : Writing W) → (text : List ℕ) → Sends W.outlet first out.old text held.old
+        → Sends W.outlet first out.new (text ++ bytes.now) held.new }
 {
     let _held = out.put_bytes(held.as_slice());
     held.clear();

@@ -1,6 +1,7 @@
 //! What bytes are pushed to.
-ghost use Rattle.std.specs.Prelude.{◌≡◌, ℕ, ◌<◌, ◌≤◌, List, Option, Bool, false, ◌||◌, length, is_err, IfOk};
+ghost use Rattle.std.specs.Prelude.{◌≡◌, ◌<◌, ◌≤◌, false, ◌||◌, length, is_err, IfOk};
 ghost use Rattle.std.specs.Io.KnownBytes.{WriteAppends};
+ghost use Rattle.hunk_words.specs.Carriers.{Outlet};
 
 use crate::source::Failed;
 use std::fmt;
@@ -9,13 +10,11 @@ use std::marker::Model;
 
 /// What bytes are pushed to.
 ///
-/// `taken` is the bytes that it has, those that it had before any push among them, where that is
-/// known. `failed` says whether a push has answered an `Err`: that sets it, and nothing else does,
-/// for good.
+/// Contracts see its `outlet`: `taken`, the bytes that it has, those that it had before any push
+/// among them, where that is known, and `failed`, whether a push has answered an `Err`: that sets
+/// it, and nothing else does, for good.
 pub trait Sink {
-    ghost taken: { Self → Option (List ℕ) };
-
-    ghost failed: { Self → Bool };
+    ghost outlet: { Self → Outlet };
 
     /// Takes a first part of the bytes and gives the number of its bytes.
     ///
@@ -27,8 +26,8 @@ pub trait Sink {
     fn push(&mut self, bytes: &[u8]) -> Result<usize, Failed>
         ensures inside { IfOk result (λ n. n ≤ length bytes.now) }
         ensures positive { 0 < length bytes.now → IfOk result (λ n. 0 < n) }
-        ensures bytes { WriteAppends (taken self.old) (taken self.new) result bytes.now }
-        ensures fails { failed self.new ≡ (failed self.old || is_err result) };
+        ensures bytes { WriteAppends (outlet self.old).taken (outlet self.new).taken result bytes.now }
+        ensures fails { (outlet self.new).failed ≡ ((outlet self.old).failed || is_err result) };
 }
 
 /// A sink over any writer. Each error of the writer, and a write that takes none of a non-empty
@@ -77,9 +76,7 @@ impl<W: Write> FromWrite<W> {
 }
 
 impl<W: Write> Sink for FromWrite<W> {
-    ghost taken = { λ s. W.contents s.writer };
-
-    ghost failed = { λ s. s.failed };
+    ghost outlet = { λ s. record { taken = W.contents s.writer; failed = s.failed } };
 
     fn push(&mut self, bytes: &[u8]) -> Result<usize, Failed> {
         match self.writer.write(bytes) {
@@ -97,9 +94,7 @@ impl<W: Write> Sink for FromWrite<W> {
 }
 
 impl<S: Sink> Sink for &mut S {
-    ghost taken = { λ s. S.taken s.now };
-
-    ghost failed = { λ s. S.failed s.now };
+    ghost outlet = { λ s. S.outlet s.now };
 
     fn push(&mut self, bytes: &[u8]) -> Result<usize, Failed> {
         (**self).push(bytes)

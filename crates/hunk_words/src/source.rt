@@ -1,7 +1,8 @@
 //! What bytes are pulled from.
-ghost use Rattle.std.specs.Prelude.{◌≡◌, ℕ, List, Option, Bool, false, ◌||◌, Some, codes, is_err};
+ghost use Rattle.std.specs.Prelude.{◌≡◌, false, ◌||◌, Some, codes, is_err};
 ghost use Rattle.std.specs.Io.KnownBytes.{ReadConsumes};
 ghost use Rattle.std.specs.Io.{ReadsAtMost};
+ghost use Rattle.hunk_words.specs.Carriers.{Supply};
 
 use std::error::Error;
 use std::fmt;
@@ -24,12 +25,11 @@ impl Error for Failed {}
 
 /// What bytes are pulled from.
 ///
-/// `left` is the bytes that pulls will give from here on, where that is known. `failed` says
-/// whether a pull has answered an `Err`: that sets it, and nothing else does, for good.
+/// Contracts see its `supply`: `left`, the bytes that pulls will give from here on, where that is
+/// known, and `failed`, whether a pull has answered an `Err`: that sets it, and nothing else does,
+/// for good.
 pub trait Source {
-    ghost left: { Self → Option (List ℕ) };
-
-    ghost failed: { Self → Bool };
+    ghost supply: { Self → Supply };
 
     /// Fills a first part of the buffer and gives the number of its bytes.
     ///
@@ -41,8 +41,8 @@ pub trait Source {
     /// `Failed` where the bytes could not be read. Nothing is consumed then.
     fn pull(&mut self, buf: &mut [u8]) -> Result<usize, Failed>
         ensures inside { ReadsAtMost result buf.new }
-        ensures bytes { ReadConsumes (left self.old) (left self.new) result buf.new }
-        ensures fails { failed self.new ≡ (failed self.old || is_err result) };
+        ensures bytes { ReadConsumes (supply self.old).left (supply self.new).left result buf.new }
+        ensures fails { (supply self.new).failed ≡ ((supply self.old).failed || is_err result) };
 }
 
 /// A source over any reader. Each error of the reader, `Interrupted` too, is `Failed`.
@@ -90,9 +90,7 @@ impl<R: Read> FromRead<R> {
 }
 
 impl<R: Read> Source for FromRead<R> {
-    ghost left = { λ s. R.remaining s.reader };
-
-    ghost failed = { λ s. s.failed };
+    ghost supply = { λ s. record { left = R.remaining s.reader; failed = s.failed } };
 
     fn pull(&mut self, buf: &mut [u8]) -> Result<usize, Failed> {
         match self.reader.read(buf) {
@@ -129,9 +127,7 @@ impl<'a> FromSlice<'a> {
 }
 
 impl Source for FromSlice<'_> {
-    ghost left = { λ s. Some s };
-
-    ghost failed = { λ _. false };
+    ghost supply = { λ s. record { left = Some s; failed = false } };
 
     fn pull(&mut self, buf: &mut [u8]) -> Result<usize, Failed> {
         let count = buf.len().min(self.rest.len());
@@ -143,9 +139,7 @@ impl Source for FromSlice<'_> {
 }
 
 impl<S: Source> Source for &mut S {
-    ghost left = { λ s. S.left s.now };
-
-    ghost failed = { λ s. S.failed s.now };
+    ghost supply = { λ s. S.supply s.now };
 
     fn pull(&mut self, buf: &mut [u8]) -> Result<usize, Failed> {
         (**self).pull(buf)
