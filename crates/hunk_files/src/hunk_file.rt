@@ -1,5 +1,5 @@
 //! A load file or an object file, as its first longword announces.
-ghost use Rattle.std.specs.Prelude.{◌≡◌, ◌≢◌, ◌≤◌, true, IfErr, IfOk, IsErr, length};
+ghost use Rattle.std.specs.Prelude.{◌≡◌, ◌≢◌, ◌≤◌, IfErr, IfOk, length};
 ghost use Rattle.hunk_words.specs.Longs.{longs};
 ghost use Rattle.hunk_words.specs.Puts.{PutsText};
 ghost use Rattle.hunk_words.specs.declared.reason.Reason.TheVariants as reasons;
@@ -80,9 +80,7 @@ impl<'a> HunkFile<'a> {
     /// of all that was ever put have gone out. Later puts write nothing and answer the same. A
     /// writer that had failed before stays as it was.
     pub fn encode<W: Sink>(&self, writer: &mut LongWriter<W>) -> Result<(), WriteFault>
-        ensures puts { PutsText W.taken W.failed writer.old writer.new
-            (file_bytes self.now) result }
-        ensures stays { writer.old.stopped ≡ true → IsErr result × (writer.new ≡ writer.old) }
+        ensures { PutsText W.outlet writer.old writer.new (file_bytes self.now) result }
     {
         match self {
             HunkFile::Load { file, rest: _ } => file.encode(writer),

@@ -1,8 +1,9 @@
 -- What was wanted is consumed whole, and goes past no end.
-use Rattle.std.proofs.Common.{◌≡◌, ℕ, suc, ◌+◌, ◌<◌, ◌≤◌, List, [], ◌∷◌, ◌++◌, length, take, refl, sym, ap, subst, ◌∙◌, append_assoc, append-nil, length-append, length-take, arith, Option, ◌⊎◌, inl, inr}
+use Rattle.std.proofs.Common.{◌≡◌, ℕ, suc, ◌+◌, ◌<◌, ◌≤◌, List, [], ◌∷◌, ◌++◌, length, take, refl, sym, ap, subst, ◌∙◌, append_assoc, append-nil, length-append, length-take, arith, ◌⊎◌, inl, inr}
 use Rattle.std.proofs.lemmas.List.{take_all, drop_all}
 use Rattle.std.proofs.KnownBytes.{Consumes-trans}
 use Rattle.std.specs.Io.KnownBytes.{Consumes}
+use Rattle.hunk_words.specs.Carriers.{Supply}
 use Rattle.hunk_words.specs.Longs.{bytes_of, IsBytes}
 use Rattle.hunk_words.proofs.LongLaws.{length-bytes_of}
 use Rattle.hunk_files.specs.Fault.{IsTruncated}
@@ -36,14 +37,14 @@ fronts_of (x ∷ xs) cs (y ∷ ys) bs e =
 
 -- ---- a piece of a source
 
-pub gives_more : (a b c : Option (List ℕ)) (limit : ℕ) (fed piece after : List ℕ) → Gives a b limit fed → Consumes b c piece → length fed + length piece ≤ limit → after ≡ fed ++ piece → Gives a c limit after
+pub gives_more : (a b c : Supply) (limit : ℕ) (fed piece after : List ℕ) → Gives a b limit fed → Consumes b.left c.left piece → length fed + length piece ≤ limit → after ≡ fed ++ piece → Gives a c limit after
 gives_more a b c limit fed piece after g k le e =
     subst (Gives a c limit) (sym e)
-    (record { consumed = Consumes-trans a b c fed piece g.consumed k; within = omega (arith, le, length-append fed piece) })
+    (record { consumed = Consumes-trans a.left b.left c.left fed piece g.consumed k; within = omega (arith, le, length-append fed piece) })
 
-pub gives_none : (a b c : Option (List ℕ)) (limit : ℕ) (fed : List ℕ) → Gives a b limit fed → Consumes b c [] → Gives a c limit fed
+pub gives_none : (a b c : Supply) (limit : ℕ) (fed : List ℕ) → Gives a b limit fed → Consumes b.left c.left [] → Gives a c limit fed
 gives_none a b c limit fed g k =
-    record { consumed = subst (Consumes a c) (append-nil fed) (Consumes-trans a b c fed [] g.consumed k); within = g.within }
+    record { consumed = subst (Consumes a.left c.left) (append-nil fed) (Consumes-trans a.left b.left c.left fed [] g.consumed k); within = g.within }
 
 -- ---- in a header
 

@@ -1,6 +1,7 @@
 -- A load from a source.
-use Rattle.std.specs.Prelude.{◌≡◌, ℕ, ◌*◌, ◌/◌, ◌<◌, ◌≤◌, Bool, true, false, List, [], ◌++◌, length, map, Option, Some, None, ◌⊎◌, IsTrue, Result, MatchResult, IsErrAnd}
+use Rattle.std.specs.Prelude.{◌≡◌, ℕ, ◌*◌, ◌/◌, ◌<◌, ◌≤◌, Bool, true, false, List, [], ◌++◌, length, map, Some, None, ◌⊎◌, IsTrue, Result, MatchResult, IsErrAnd}
 use Rattle.std.specs.Io.KnownBytes.{Consumes, IsAtEnd}
+use Rattle.hunk_words.specs.Carriers.{Supply}
 use Rattle.hunk_words.specs.Longs.{bytes_of}
 use Rattle.hunk_words.specs.declared.fault.Fault.{Fault}
 use Rattle.hunk_words.specs.declared.reason.Reason.{Reason}
@@ -9,7 +10,7 @@ use Rattle.hunk_files.specs.Fault.{HasRefusal, IsTruncated}
 use Rattle.hunk_files.specs.Image.{declared_bytes, image}
 use Rattle.hunk_files.specs.LoadFile.{TableEntry, LoadFileValue, IsLoadFile}
 use Rattle.hunk_files.specs.LoadText.{table, text}
-use Rattle.hunk_scatter.specs.LoaderReasons.{is_of_header, is_of_body}
+use Rattle.hunk_scatter.specs.LoaderReasons.{is_of_header, is_of_body, is_of_longwords}
 use Rattle.hunk_scatter.specs.HeaderBytes.{IsHeaderTable, header_bytes, IsHeaderFront}
 use Rattle.hunk_scatter.specs.HeaderFaults.{CompletesRow, ExceedsBudget, KeepsToBudget, IsOverBudget, IsHeaderFault}
 use Rattle.hunk_scatter.specs.LoaderValues.{ImageValue, HasNoRefusal}
@@ -20,16 +21,16 @@ use Rattle.hunk_scatter.specs.declared.loading.Limits.{Limits}
 -- ---- what a reader gives
 
 -- It has given these bytes, and no more than the limit.
-pub record Gives (old new : Option (List ℕ)) (limit : ℕ) (given : List ℕ) : Type 0 where
-  pub consumed : Consumes old new given
+pub record Gives (old new : Supply) (limit : ℕ) (given : List ℕ) : Type 0 where
+  pub consumed : Consumes old.left new.left given
   pub within : length given ≤ limit
 
-abbrev pub GivesAtMost : Option (List ℕ) → Option (List ℕ) → ℕ → Type 0
+abbrev pub GivesAtMost : Supply → Supply → ℕ → Type 0
 GivesAtMost old new limit = (given : List ℕ) × Gives old new limit given
 
 -- These bytes, the last of all, are still to be read.
-abbrev pub KeepsRest : Option (List ℕ) → List ℕ → Type 0
-KeepsRest left rest = (front : List ℕ) × (left ≡ Some (front ++ rest))
+abbrev pub KeepsRest : Supply → List ℕ → Type 0
+KeepsRest now rest = (front : List ℕ) × (now.left ≡ Some (front ++ rest))
 
 -- The table declares more than the budget, or a hunk of it has no base.
 abbrev pub IsNotPlaced : Placing → ℕ → List TableEntry → Type 0
@@ -37,29 +38,29 @@ IsNotPlaced base budget table =
     (budget < declared_bytes table) ⊎ ((hunk : ℕ) × (hunk < length table) × (base_at base table hunk ≡ None))
 
 -- Where a load file was in front, all that was after it is still to be read.
-abbrev pub StopsBehindFile : Option (List ℕ) → Option (List ℕ) → Type 0
+abbrev pub StopsBehindFile : Supply → Supply → Type 0
 StopsBehindFile old new =
-    (v : LoadFileValue) (rest : List ℕ) → IsLoadFile v → old ≡ Some (bytes_of (text v) ++ rest) → KeepsRest new rest
+    (v : LoadFileValue) (rest : List ℕ) → IsLoadFile v → old.left ≡ Some (bytes_of (text v) ++ rest) → KeepsRest new rest
 
 -- Where the header of a table was in front that can't be placed, all that was after it is.
-abbrev pub StopsBehindHeader : Placing → ℕ → Option (List ℕ) → Option (List ℕ) → Type 0
+abbrev pub StopsBehindHeader : Placing → ℕ → Supply → Supply → Type 0
 StopsBehindHeader base budget old new =
-    (t : List TableEntry) (rest : List ℕ) → IsHeaderTable t → old ≡ Some (header_bytes t ++ rest)
+    (t : List TableEntry) (rest : List ℕ) → IsHeaderTable t → old.left ≡ Some (header_bytes t ++ rest)
     → IsNotPlaced base budget t → KeepsRest new rest
 
 -- A load file is in front that keeps to the limits, and each of its hunks is given a base.
-pub record HasFileWithin (base : Placing) (limits : Limits) (left : Option (List ℕ)) : Type 0 where
+pub record HasFileWithin (base : Placing) (limits : Limits) (old : Supply) : Type 0 where
   pub value : LoadFileValue
   pub rest : List ℕ
   pub is_load_file : IsLoadFile value
-  pub split : left ≡ Some (bytes_of (text value) ++ rest)
+  pub split : old.left ≡ Some (bytes_of (text value) ++ rest)
   pub fits : length (bytes_of (text value)) ≤ limits.file_bytes
   pub within : declared_bytes (table value) ≤ limits.budget
   pub bases : HasBases base (table value)
 
 -- A reader that has come to fail is what the answer tells of.
-abbrev pub TellsFailure : {T : Type 0} → Bool → Bool → Result T Fault → Type 0
-TellsFailure old new result = old ≡ false → new ≡ true → IsErrAnd result (λ f. f.reason ≡ reasons.Read)
+abbrev pub TellsFailure : {T : Type 0} → Supply → Supply → Result T Fault → Type 0
+TellsFailure old new result = old.failed ≡ false → new.failed ≡ true → IsErrAnd result (λ f. f.reason ≡ reasons.Read)
 
 -- ---- what is loaded
 
@@ -71,6 +72,10 @@ pub record IsLoaded (base : Placing) (budget : ℕ) (v : LoadFileValue) (placed 
   pub within : declared_bytes (table v) ≤ budget
   pub bases : AreBases base (table v) (bases_of placed.rows)
   pub segments : placed.segments ≡ map (image (bases_of placed.rows)) v
+
+-- The bytes are a load file, and the image is of it.
+abbrev pub IsLoadOf : Placing → ℕ → List ℕ → ImageValue → Type 0
+IsLoadOf base budget given placed = (v : LoadFileValue) × IsLoaded base budget v placed × (given ≡ bytes_of (text v))
 
 -- ---- what is answered else
 
@@ -93,23 +98,29 @@ LacksMemoryAt base budget given at =
     CompletesRow given at
     ⊎ ((table : List TableEntry) × IsHeaderWithin budget given table × HasBases base table × (at ≡ length given))
 
--- The fault of a load, by its reason, where the reader has given these bytes: what is left then, and whether it failed.
-abbrev pub IsLoadFaultBy : Reason → Placing → ℕ → ℕ → Option (List ℕ) → Bool → List ℕ → ℕ → Type 0
-IsLoadFaultBy reasons.Budget base budget limit left failed given at = ExceedsBudget budget given at
-IsLoadFaultBy reasons.FileLimit base budget limit left failed given at =
-    (at ≡ limit) × (length given ≡ limit) × IsUnfinished budget given
-IsLoadFaultBy reasons.Read base budget limit left failed given at =
-    (at ≡ length given) × (failed ≡ true) × IsUnfinished budget given
-IsLoadFaultBy reasons.Truncated base budget limit left failed given at =
-    IsAtEnd left × IsTruncated given at × IsUnfinished budget given
-IsLoadFaultBy (reasons.NoBase hunk) base budget limit left failed given at =
-    (table : List TableEntry) × IsHeaderWithin budget given table × IsFirstUnplaced base table hunk × (at ≡ length given)
-IsLoadFaultBy reasons.OutOfMemory base budget limit left failed given at =
-    IsHeaderFront given × LacksMemoryAt base budget given at
-IsLoadFaultBy reason base budget limit left failed given at = HasRefusal given at reason
+-- The fault of a load, by its reason, where the source has given these bytes.
+abbrev pub IsLoadFaultBy : Reason → Placing → Limits → Supply → List ℕ → ℕ → Type 0
+IsLoadFaultBy reasons.Budget base limits now given at = ExceedsBudget limits.budget given at
+IsLoadFaultBy reasons.FileLimit base limits now given at =
+    (at ≡ limits.file_bytes) × (length given ≡ limits.file_bytes) × IsUnfinished limits.budget given
+IsLoadFaultBy reasons.Read base limits now given at =
+    (at ≡ length given) × (now.failed ≡ true) × IsUnfinished limits.budget given
+IsLoadFaultBy reasons.Truncated base limits now given at =
+    IsAtEnd now.left × IsTruncated given at × IsUnfinished limits.budget given
+IsLoadFaultBy (reasons.NoBase hunk) base limits now given at =
+    (table : List TableEntry) × IsHeaderWithin limits.budget given table × IsFirstUnplaced base table hunk × (at ≡ length given)
+IsLoadFaultBy reasons.OutOfMemory base limits now given at =
+    IsHeaderFront given × LacksMemoryAt base limits.budget given at
+IsLoadFaultBy reason base limits now given at = HasRefusal given at reason × IsTrue (is_of_longwords reason)
 
-abbrev pub IsLoadFault : Placing → ℕ → ℕ → Option (List ℕ) → Bool → List ℕ → Fault → Type 0
-IsLoadFault base budget limit left failed given f = IsLoadFaultBy f.reason base budget limit left failed given f.place
+abbrev pub IsLoadFault : Placing → Limits → Supply → List ℕ → Fault → Type 0
+IsLoadFault base limits now given f = IsLoadFaultBy f.reason base limits now given f.place
+
+-- What a load comes to: the source has given these bytes, which are the load file that the image is of, or there is a fault.
+pub record Loads (base : Placing) (limits : Limits) (old new : Supply) (result : Result ImageValue Fault) : Type 0 where
+  pub given : List ℕ
+  pub gives : Gives old new limits.file_bytes given
+  pub outcome : MatchResult result (IsLoadOf base limits.budget given) (IsLoadFault base limits new given)
 
 -- ---- by stages
 
@@ -123,11 +134,11 @@ abbrev pub GoesPastNoFile : List ℕ → Type 0
 GoesPastNoFile bytes = (v : LoadFileValue) (more : List ℕ) → IsLoadFile v → bytes ≡ bytes_of (text v) ++ more → more ≡ []
 
 -- Where this many bytes were given: the limit, a failed read, or the end.
-abbrev pub IsReadFault : ℕ → Option (List ℕ) → Bool → ℕ → Fault → Type 0
-IsReadFault limit left failed count f =
+abbrev pub IsReadFault : ℕ → Supply → ℕ → Fault → Type 0
+IsReadFault limit now count f =
     ((f.reason ≡ reasons.FileLimit) × (f.place ≡ limit) × (count ≡ limit))
-    ⊎ (((f.reason ≡ reasons.Read) × (f.place ≡ count) × (failed ≡ true))
-    ⊎ ((f.reason ≡ reasons.Truncated) × (f.place ≡ 4 * (count / 4)) × IsAtEnd left))
+    ⊎ (((f.reason ≡ reasons.Read) × (f.place ≡ count) × (now.failed ≡ true))
+    ⊎ ((f.reason ≡ reasons.Truncated) × (f.place ≡ 4 * (count / 4)) × IsAtEnd now.left))
 
 -- The loader of the header has stopped.
 pub record StopsInHeader (budget : ℕ) (bytes : List ℕ) (f : Fault) : Type 0 where
@@ -142,17 +153,17 @@ pub record StopsInBody (bytes : List ℕ) (f : Fault) : Type 0 where
   pub own_reasons : IsTrue (is_of_body f.reason)
 
 -- The reading has.
-pub record StopsShort (limit : ℕ) (left : Option (List ℕ)) (failed : Bool) (bytes : List ℕ) (f : Fault) : Type 0 where
+pub record StopsShort (limit : ℕ) (now : Supply) (bytes : List ℕ) (f : Fault) : Type 0 where
   pub clean : HasNoRefusal bytes
   pub truncated : IsTruncated bytes (4 * (length bytes / 4))
-  pub why : IsReadFault limit left failed (length bytes) f
+  pub why : IsReadFault limit now (length bytes) f
 
-abbrev pub IsHeaderStop : ℕ → ℕ → Option (List ℕ) → Bool → List ℕ → Fault → Type 0
-IsHeaderStop budget limit left failed bytes f =
-    StopsInHeader budget bytes f ⊎ (StopsShort limit left failed bytes f × KeepsToBudget budget bytes)
+abbrev pub IsHeaderStop : Limits → Supply → List ℕ → Fault → Type 0
+IsHeaderStop limits now bytes f =
+    StopsInHeader limits.budget bytes f ⊎ (StopsShort limits.file_bytes now bytes f × KeepsToBudget limits.budget bytes)
 
-abbrev pub IsBodyStop : ℕ → Option (List ℕ) → Bool → List ℕ → Fault → Type 0
-IsBodyStop limit left failed bytes f = StopsInBody bytes f ⊎ StopsShort limit left failed bytes f
+abbrev pub IsBodyStop : ℕ → Supply → List ℕ → Fault → Type 0
+IsBodyStop limit now bytes f = StopsInBody bytes f ⊎ StopsShort limit now bytes f
 
 -- Whichever header is in front of more keeps to the budget, and each of its hunks has a base.
 abbrev pub KeepsToHeader : Placing → ℕ → List ℕ → Type 0
@@ -161,17 +172,15 @@ KeepsToHeader base budget bytes =
     → (more ≡ []) ⊎ ((declared_bytes table ≤ budget) × HasBases base table)
 
 -- A load stops in the header, between header and body, or in the body.
-pub data LoadStop (base : Placing) (budget limit : ℕ) (left : Option (List ℕ)) (failed : Bool) (given : List ℕ) (f : Fault) : Type 0 where
-  InHeader : IsHeaderStop budget limit left failed given f → LoadStop base budget limit left failed given f
-  Between : (table : List TableEntry) → IsHeaderWithin budget given table → IsUnplacedFor base table f.reason
-      → f.place ≡ length given → LoadStop base budget limit left failed given f
-  InBody : (table : List TableEntry) (header more : List ℕ) → IsHeaderWithin budget header table
-      → given ≡ header ++ more → IsBodyStop limit left failed given f
-      → LoadStop base budget limit left failed given f
+pub data LoadStop (base : Placing) (limits : Limits) (now : Supply) (given : List ℕ) (f : Fault) : Type 0 where
+  InHeader : IsHeaderStop limits now given f → LoadStop base limits now given f
+  Between : (table : List TableEntry) → IsHeaderWithin limits.budget given table → IsUnplacedFor base table f.reason
+      → f.place ≡ length given → LoadStop base limits now given f
+  InBody : (table : List TableEntry) (header more : List ℕ) → IsHeaderWithin limits.budget header table
+      → given ≡ header ++ more → IsBodyStop limits.file_bytes now given f
+      → LoadStop base limits now given f
 
--- What a load comes to.
-abbrev pub LoadEnds : Placing → ℕ → ℕ → Option (List ℕ) → Bool → List ℕ → Result ImageValue Fault → Type 0
-LoadEnds base budget limit left failed given result =
-    MatchResult result
-    (λ placed. (v : LoadFileValue) × IsLoaded base budget v placed × (given ≡ bytes_of (text v)))
-    (λ f. LoadStop base budget limit left failed given f)
+-- Where a load ends.
+abbrev pub LoadEnds : Placing → Limits → Supply → List ℕ → Result ImageValue Fault → Type 0
+LoadEnds base limits now given result =
+    MatchResult result (IsLoadOf base limits.budget given) (LoadStop base limits now given)

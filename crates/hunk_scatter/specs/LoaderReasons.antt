@@ -14,10 +14,10 @@ is_of_header r = between 1 8 (number_of r) || number_of r == 27 || number_of r =
 abbrev pub is_of_body : Reason → Bool
 is_of_body r = number_of r == 3 || number_of r == 9 || between 11 24 (number_of r)
 
+-- the tests of all longwords
+abbrev pub is_of_longwords : Reason → Bool
+is_of_longwords r = between 1 9 (number_of r) || between 11 24 (number_of r)
+
 -- the faults of a load file: the tests of all longwords, and Truncated
 abbrev pub is_of_file : Reason → Bool
-is_of_file r = between 1 9 (number_of r) || between 11 24 (number_of r) || number_of r == 26
-
--- the tests of all longwords, and what only a load from a source answers
-abbrev pub is_of_load : Reason → Bool
-is_of_load r = between 1 9 (number_of r) || between 11 24 (number_of r) || between 26 31 (number_of r)
+is_of_file r = is_of_longwords r || number_of r == 26

@@ -9,7 +9,7 @@ ghost use Rattle.hunk_files.specs.Fault.{HasFault};
 ghost use Rattle.hunk_files.specs.Image.{declared_bytes};
 ghost use Rattle.hunk_files.specs.LoadFile.{LoadFileValue};
 ghost use Rattle.hunk_files.specs.LoadText.{text};
-ghost use Rattle.hunk_scatter.specs.LoaderReasons.{is_of_file, is_of_load};
+ghost use Rattle.hunk_scatter.specs.LoaderReasons.{is_of_file};
 ghost use Rattle.hunk_scatter.specs.HeaderBytes.{IsHeaderTable, header_bytes};
 ghost use Rattle.hunk_scatter.specs.HeaderFaults.{ExceedsBudget, IsOverBudget};
 ghost use Rattle.hunk_scatter.specs.LoaderValues.{IsImageOf};
@@ -51,11 +51,11 @@ fn read_piece<R: Source>(
     ensures nonempty { IfOk result (λ n. 0 < n) }
     ensures most { IfOk result (λ n. n ≤ want) }
     ensures limit { IfOk result (λ n. count + n ≤ limit) }
-    ensures piece { IfOk result (λ n. Consumes (R.left r.old) (R.left r.new) (take n buf.new)) }
-    ensures fault { IfErr result (IsReadFault limit (R.left r.new) (R.failed r.new) count) }
-    ensures nothing { OnErr result (Consumes (R.left r.old) (R.left r.new) []) }
-    ensures no_failure { OnOk result (R.failed r.new ≡ R.failed r.old) }
-    ensures tells_read { TellsFailure (R.failed r.old) (R.failed r.new) result }
+    ensures piece { IfOk result (λ n. Consumes (R.supply r.old).left (R.supply r.new).left (take n buf.new)) }
+    ensures fault { IfErr result (IsReadFault limit (R.supply r.new) count) }
+    ensures nothing { OnErr result (Consumes (R.supply r.old).left (R.supply r.new).left []) }
+    ensures no_failure { OnOk result ((R.supply r.new).failed ≡ (R.supply r.old).failed) }
+    ensures tells_read { TellsFailure (R.supply r.old) (R.supply r.new) result }
 {
     if count >= limit {
         return Err(LoadFault {
@@ -85,13 +85,13 @@ fn load_header<R: Source>(
     limits: Limits,
 ) -> Result<Declared, LoadFault>
     requires { length buf.old ≡ most_want }
-    ensures ends { (given : List ℕ) × Gives (R.left r.old) (R.left r.new) limits.file_bytes given
+    ensures ends { (given : List ℕ) × Gives (R.supply r.old) (R.supply r.new) limits.file_bytes given
         × GoesPastNoHeader given
         × MatchResult result
         (λ declared. IsHeaderTable declared.table × (given ≡ header_bytes declared.table)
         × (declared_bytes declared.table ≤ limits.budget))
-        (IsHeaderStop limits.budget limits.file_bytes (R.left r.new) (R.failed r.new) given) }
-    ensures tells_read { TellsFailure (R.failed r.old) (R.failed r.new) result }
+        (IsHeaderStop limits (R.supply r.new) given) }
+    ensures tells_read { TellsFailure (R.supply r.old) (R.supply r.new) result }
 {
     let mut loader = HeaderLoader::new(alloc, limits.budget);
     'reading: loop {
@@ -119,13 +119,13 @@ fn load_body<R: Source>(
     requires reading { loader.refused ≡ None }
     requires below_limit { length loader.fed ≤ limit }
     requires in_file { GoesPastNoFile loader.fed }
-    ensures ends { (more : List ℕ) × Consumes (R.left r.old) (R.left r.new) more
+    ensures ends { (more : List ℕ) × Consumes (R.supply r.old).left (R.supply r.new).left more
         × (length (loader.fed ++ more) ≤ limit) × GoesPastNoFile (loader.fed ++ more)
         × MatchResult result
         (λ image. IsImageOf loader.rows (loader.fed ++ more) image.segments
         × (image.rows ≡ loader.rows))
-        (IsBodyStop limit (R.left r.new) (R.failed r.new) (loader.fed ++ more)) }
-    ensures tells_read { TellsFailure (R.failed r.old) (R.failed r.new) result }
+        (IsBodyStop limit (R.supply r.new) (loader.fed ++ more)) }
+    ensures tells_read { TellsFailure (R.supply r.old) (R.supply r.new) result }
 {
     let mut loader = loader;
     'reading: loop {
@@ -170,36 +170,27 @@ pub fn load<R: Source, P: Placer>(
     limits: Limits,
     p: &P,
 ) -> Result<Image, LoadFault>
-    // Just one load file was read, and the image is its.
-    ensures loaded { IfOk result
-        (λ image. (v : LoadFileValue) × IsLoaded (P.base p.now) limits.budget v image
-        × Gives (R.left r.old) (R.left r.new) limits.file_bytes (bytes_of (text v))) }
+    ensures loads { Loads (P.base p.now) limits (R.supply r.old) (R.supply r.new) result }
 
     // What is read at most.
-    ensures limit { GivesAtMost (R.left r.old) (R.left r.new) limits.file_bytes }
-    ensures one_file { StopsBehindFile (R.left r.old) (R.left r.new) }
+    ensures one_file { StopsBehindFile (R.supply r.old) (R.supply r.new) }
     ensures header_first { StopsBehindHeader (P.base p.now) limits.budget
-        (R.left r.old) (R.left r.new) }
+        (R.supply r.old) (R.supply r.new) }
 
     // Success.
-    ensures succeeds { HasFileWithin (P.base p.now) limits (R.left r.old)
-        → R.failed r.new ≡ Bool.false → IfErr result (λ f. f.reason ≡ reasons.OutOfMemory) }
+    ensures succeeds { HasFileWithin (P.base p.now) limits (R.supply r.old)
+        → (R.supply r.new).failed ≡ Bool.false → IfErr result (λ f. f.reason ≡ reasons.OutOfMemory) }
 
     // Refusals.
-    ensures over_budget { (input : List ℕ) (at : ℕ) → R.left r.old ≡ Some input
-        → R.failed r.new ≡ Bool.false
+    ensures over_budget { (input : List ℕ) (at : ℕ) → (R.supply r.old).left ≡ Some input
+        → (R.supply r.new).failed ≡ Bool.false
         → ExceedsBudget limits.budget (take limits.file_bytes input) at
         → IsErrAnd result (IsOverBudget at) }
-    ensures file_fault { (input : List ℕ) → R.left r.old ≡ Some input
+    ensures file_fault { (input : List ℕ) → (R.supply r.old).left ≡ Some input
         → IfErr result (λ f. IsTrue (is_of_file f.reason) → HasFault input f.place f.reason) }
-    ensures fault { IfErr result
-        (λ f. (given : List ℕ) × Gives (R.left r.old) (R.left r.new) limits.file_bytes given
-        × IsLoadFault (P.base p.now) limits.budget limits.file_bytes
-        (R.left r.new) (R.failed r.new) given f) }
-    ensures own_reasons { IfErr result (λ f. IsTrue (is_of_load f.reason)) }
 
     // A read that fails ends the load.
-    ensures tells_read { TellsFailure (R.failed r.old) (R.failed r.new) result }
+    ensures tells_read { TellsFailure (R.supply r.old) (R.supply r.new) result }
 {
     let mut buf = [0u8; MOST_WANT];
     let declared = load_header(alloc, r, buf.as_mut_slice(), limits)?;

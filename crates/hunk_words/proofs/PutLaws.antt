@@ -47,7 +47,3 @@ puts_more_after a b c m n o xs ys p whole q =
 pub puts_part : (a b : Option (List ℕ)) (m n : ℕ) (xs ys : List ℕ) → Puts a b m n xs → Puts a b m n (xs ++ ys)
 puts_part a b m n xs ys p =
     record { count = p.count; fits = omega (arith, length-append xs ys, p.fits); rose = p.rose; gone = rw (take-append-le p.count xs ys p.fits) p.gone }
-
--- after a put of nothing
-pub puts_after_none : (a b c : Option (List ℕ)) (m n o : ℕ) (bytes : List ℕ) → Puts a b m n [] → n ≡ m + 0 → Puts b c n o bytes → Puts a c m o bytes
-puts_after_none a b c m n o bytes p none q = puts_more_after a b c m n o [] bytes p none q

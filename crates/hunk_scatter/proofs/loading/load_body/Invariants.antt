@@ -6,9 +6,9 @@ use Rattle.hunk_scatter.proofs.loading.load_body.Given as goal
 abbrev pub invariant-reading : goal.invariant-reading
 invariant-reading g l = record {
   reading : l.loader.refused ≡ None;
-  works : g.R.Source.failed l.fn.r ≡ false → g.R.Source.failed l.r ≡ false;
+  works : (g.R.Source.supply l.fn.r).failed ≡ false → (g.R.Source.supply l.r).failed ≡ false;
   rows_are : l.loader.rows ≡ l.fn.loader.rows;
-  given : (more : List ℕ) × Consumes (g.R.Source.left l.fn.r) (g.R.Source.left l.r) more × (l.loader.fed ≡ l.fn.loader.fed ++ more);
+  given : (more : List ℕ) × Consumes (g.R.Source.supply l.fn.r).left (g.R.Source.supply l.r).left more × (l.loader.fed ≡ l.fn.loader.fed ++ more);
   within : length l.loader.fed ≤ l.limit;
   in_file : GoesPastNoFile l.loader.fed;
 }

@@ -17,7 +17,7 @@ returns-in_err-n-clause-ends g c =
         record {
           clean = c.want-want.ensures.clean i.reading;
           truncated = c.want-want.ensures.truncated i.reading;
-          why = subst (λ (n : ℕ). IsReadFault c.args.limits.file_bytes (g.R.Source.left c.read_piece.new.r) (g.R.Source.failed c.read_piece.new.r) n c.in_err-n.field-0.0) c.fed.ensures c.in_err-n.ensures.fault;
+          why = subst (λ (n : ℕ). IsReadFault c.args.limits.file_bytes (g.R.Source.supply c.read_piece.new.r) n c.in_err-n.field-0.0) c.fed.ensures c.in_err-n.ensures.fault;
         },
         λ at p. c.want-want.ensures.keeps_to_budget i.reading at (subst (λ (b : ℕ). ExceedsBudget b c.reading.loader.fed at) (sym i.budget_is) p),
       ),

@@ -5,9 +5,9 @@ use Rattle.hunk_scatter.proofs.loading.load_header.Given as goal
 abbrev pub invariant-reading : goal.invariant-reading
 invariant-reading g l = record {
   reading : l.loader.refused ≡ None;
-  works : g.R.Source.failed l.fn.r ≡ false → g.R.Source.failed l.r ≡ false;
+  works : (g.R.Source.supply l.fn.r).failed ≡ false → (g.R.Source.supply l.r).failed ≡ false;
   budget_is : l.loader.budget ≡ l.limits.budget;
-  given : Gives (g.R.Source.left l.fn.r) (g.R.Source.left l.r) l.limits.file_bytes l.loader.fed;
+  given : Gives (g.R.Source.supply l.fn.r) (g.R.Source.supply l.r) l.limits.file_bytes l.loader.fed;
   in_header : GoesPastNoHeader l.loader.fed;
 }
 

@@ -1,4 +1,4 @@
 use Rattle.tests_hunk_words.proofs.tests.printing.print_by_8.Given as goal
 
 abbrev pub ghost-new : goal.ghost-new
-ghost-new g a = g.W.Sink.taken a.out.now.sink
+ghost-new g a = a.out.now

@@ -1,4 +1,0 @@
-use Rattle.hunk_files.proofs.object.file.put_units.Given as goal
-
-abbrev pub ghost-new : goal.ghost-new
-ghost-new g a = g.W.Sink.taken a.out.now.sink
