@@ -39,13 +39,3 @@ refused_for reason refusal = Refused refusal
 
 abbrev pub refused_as : Fault → RunFault
 refused_as refusal = refused_for refusal.reason refusal
-
--- a reason for which an input is refused: its longwords, its end, a limit, or a hunk without a base
-abbrev pub is_of_input : Reason → Bool
-is_of_input r = between 1 9 (number_of r) || between 11 24 (number_of r) || between 26 29 (number_of r)
-
--- a fault that `relocate` may answer: of reading, of writing, of memory, or a refusal of an input
-abbrev pub IsRelocateFault : RunFault → Type 0
-IsRelocateFault (Refused refusal) = IsTrue (is_of_input refusal.reason)
-IsRelocateFault HexText = ⊥
-IsRelocateFault _ = ⊤

@@ -1,7 +1,8 @@
 -- Hexadecimal text with blanks in it.
-use Rattle.std.specs.Prelude.{◌==◌, ◌||◌, ◌≡◌, ◌⊎◌, ◌++◌, ⊤, ℕ, Bool, true, false, not, List, Option, Ok}
+use Rattle.std.specs.Prelude.{◌==◌, ◌||◌, ◌≡◌, ◌⊎◌, ◌++◌, ⊤, ℕ, Bool, true, false, not, List, Ok}
 use Rattle.std.specs.List.{filter}
 use Rattle.hex.specs.Hex.{decode_of}
+use Rattle.hunk_words.specs.Carriers.{Supply}
 use Rattle.hunk_commands.specs.Inputs.{ReadsInVain, ReadsInput}
 use Rattle.hunk_commands.specs.declared.fault.RunFault.{RunFault}
 use Rattle.hunk_commands.specs.declared.fault.RunFault.TheVariants as faults
@@ -45,18 +46,18 @@ abbrev pub AppendsSpelled : Bool → List ℕ → List ℕ → List ℕ → Type
 AppendsSpelled true digits old new = (more : List ℕ) × (decode_of digits ≡ Ok more) × (new ≡ old ++ more)
 AppendsSpelled false digits old new = (more : List ℕ) → ¬ (decode_of digits ≡ Ok more)
 
--- ---- a source's text: a was left before and b is left now
+-- ---- a source's text
 
 -- fewer than `most` bytes of text, read to its end, spell the bytes
-abbrev pub ReadsHex : Option (List ℕ) → Option (List ℕ) → ℕ → List ℕ → Type 0
-ReadsHex a b most bytes = ReadsInput (λ text. SpellsHex text bytes) a b most
+abbrev pub ReadsHex : Supply → Supply → ℕ → List ℕ → Type 0
+ReadsHex old new most bytes = ReadsInput (λ text. SpellsHex text bytes) old new most
 
 -- fewer than `most` bytes of text, read to its end, spell no bytes
-abbrev pub SpellsNone : Option (List ℕ) → Option (List ℕ) → ℕ → Type 0
-SpellsNone a b most = ReadsInput IsNotHex a b most
+abbrev pub SpellsNone : Supply → Supply → ℕ → Type 0
+SpellsNone old new most = ReadsInput IsNotHex old new most
 
 -- why no bytes were read: its text was not read to its end in fewer than `most` bytes, or spells none
-abbrev pub ReadsNoHex : RunFault → Option (List ℕ) → Option (List ℕ) → ℕ → Bool → Type 0
-ReadsNoHex faults.HexText a b most failed = SpellsNone a b most
-ReadsNoHex faults.Memory a b most failed = ⊤
-ReadsNoHex fault a b most failed = ReadsInVain fault a b most failed
+abbrev pub ReadsNoHex : RunFault → Supply → Supply → ℕ → Type 0
+ReadsNoHex faults.HexText old new most = SpellsNone old new most
+ReadsNoHex faults.Memory old new most = ⊤
+ReadsNoHex fault old new most = ReadsInVain fault old new most

@@ -1,16 +1,21 @@
 -- What `relocate` prints of a load file that is loaded within a budget, and when it prints nothing.
-use Rattle.std.specs.Prelude.{◌≡◌, ◌≤◌, ◌++◌, ℕ, Bool, true, List, [], ◌∷◌, Option, length, map}
+use Rattle.std.specs.Prelude.{◌≡◌, ◌≤◌, ◌++◌, ℕ, List, [], ◌∷◌, Result, IfErr, OnOk, map}
+use Rattle.hunk_words.specs.Carriers.{Outlet, Supply, Writing}
 use Rattle.hunk_words.specs.Longs.{bytes_of}
-use Rattle.hunk_words.specs.Puts.{Puts}
-use Rattle.hunk_words.specs.declared.reason.Reason.TheVariants.{OutOfMemory}
+use Rattle.hunk_words.specs.declared.fault.Fault.{Fault}
 use Rattle.hunk_files.specs.LoadFile.{LoadFileValue, IsLoadFile}
 use Rattle.hunk_files.specs.LoadText.{table, text}
 use Rattle.hunk_files.specs.Image.{declared_bytes, image}
-use Rattle.hunk_scatter.specs.LoadOutcomes.{Gives, IsLoadFault, IsUnfinished}
+use Rattle.hunk_scatter.specs.LoadOutcomes.{Gives, IsFaultOf, IsLoadFault}
 use Rattle.hunk_scatter.specs.LoaderValues.{ImageValue}
 use Rattle.hunk_scatter.specs.Placing.{AreBases, packed_from}
 use Rattle.hunk_scatter.specs.Rows.{bases_of}
+use Rattle.hunk_scatter.specs.declared.loading.Limits.{Limits}
 use Rattle.hunk_listing.specs.SegmentLines.{Segment, segment_listing}
+use Rattle.hunk_commands.specs.declared.fault.RunFault.{RunFault}
+use Rattle.hunk_commands.specs.Engine.{PutsAll, PutsFirst, StopsAtWrite}
+use Rattle.hunk_commands.specs.Faults.{IsWrite, refused_as}
+use Rattle.hunk_commands.specs.Output.{StopsOutput}
 
 -- each segment at its base
 abbrev pub segments_of : List ℕ → List (List ℕ) → List Segment
@@ -36,30 +41,27 @@ pub record IsRelocated (start budget : ℕ) (input written : List ℕ) : Type 0 
   pub rest : List ℕ
   pub split : input ≡ bytes_of (text file) ++ rest
 
--- The source, of which a was left before and b is left now, gave one load file and no byte more. Of its listing, as many of the first bytes
--- have gone out as `written` says: the sink had taken c and has taken d now.
-pub record Relocates (start budget most : ℕ) (a b c d : Option (List ℕ)) (written : ℕ) : Type 0 where
+-- The bytes are a load file of which this is the listing.
+pub record IsListingOf (start budget : ℕ) (given written : List ℕ) : Type 0 where
   pub file : LoadFileValue
-  pub lines : List ℕ
-  pub is_listing : IsListingAt start budget file lines
-  pub gave : Gives a b most (bytes_of (text file))
-  pub puts : Puts c d 0 written lines
+  pub is_listing : IsListingAt start budget file written
+  pub given_is : given ≡ bytes_of (text file)
 
--- all of the listing has gone out
-abbrev pub RelocatesAll : ℕ → ℕ → ℕ → Option (List ℕ) → Option (List ℕ) → Option (List ℕ) → Option (List ℕ) → ℕ → Type 0
-RelocatesAll start budget most a b c d written = (relocates : Relocates start budget most a b c d written) × (written ≡ length relocates.lines)
+-- what the fault of a load is to a run
+pub record StopsLoading (start : ℕ) (limits : Limits) (before after : Supply) (given : List ℕ) (fault : RunFault) : Type 0 where
+  pub refusal : Fault
+  pub told : fault ≡ refused_as refusal
+  pub is_fault : IsLoadFault (packed_from start) limits after given refusal
+  pub of_file : IsFaultOf before refusal
 
--- The source failed after this many bytes, which are no whole load file and in which nothing is amiss.
-pub record ReadsShort (budget most : ℕ) (a b : Option (List ℕ)) (failed : Bool) (place : ℕ) : Type 0 where
-  pub broken : failed ≡ true
+-- What `relocate` comes to. The source has given these bytes, and no more than the limit.
+pub record Relocates {W T : Type 0} (outlet : W → Outlet) (start : ℕ) (limits : Limits) (before after : Supply) (old new : Writing W) (result : Result T RunFault) : Type 0 where
   pub given : List ℕ
-  pub gave : Gives a b most given
-  pub place_is : place ≡ length given
-  pub short : IsUnfinished budget given
-
--- Memory ran out where a load of the bytes that were given takes some: for a row of a header that they begin, or for the store right after it.
-pub record LacksMemory (start budget most : ℕ) (a b : Option (List ℕ)) (failed : Bool) : Type 0 where
-  pub given : List ℕ
-  pub gave : Gives a b most given
-  pub place : ℕ
-  pub lacks : IsLoadFault (packed_from start) budget most b failed given (record { place = place; reason = OutOfMemory })
+  pub gives : Gives before after limits.file_bytes given
+  -- they are a load file, all of its listing has gone out, and no write has failed
+  pub done : OnOk result (PutsAll outlet (IsListingOf start limits.budget given) old new)
+  pub no_failure : OnOk result ((outlet new.sink).failed ≡ (outlet old.sink).failed)
+  -- after a fault of writing its first bytes have, and after another one, for which a load stops, nothing has
+  pub write : IfErr result (StopsAtWrite new.written (PutsFirst outlet (IsListingOf start limits.budget given) old new))
+  pub fails : IfErr result (StopsOutput outlet old new)
+  pub stops : IfErr result (λ fault. ¬ IsWrite fault → StopsLoading start limits before after given fault)

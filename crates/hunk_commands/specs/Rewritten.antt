@@ -16,6 +16,3 @@ abbrev pub IsRewritten : Bool → ℕ → List ℕ → List ℕ → Type 0
 IsRewritten strip rest bytes output =
     ((file : BeginsWithLoadFile bytes) × (rest ≡ length file.rest) × (output ≡ bytes_of (text (if strip then strip_file file.value else file.value))))
     ⊎ ((file : AreObjectFile bytes) × (rest ≡ 0) × (output ≡ bytes_of (object_text (if strip then strip_object file.value else file.value))))
-
-abbrev pub IsRewriting : Bool → List ℕ → List ℕ → Type 0
-IsRewriting strip bytes output = (rest : ℕ) × IsRewritten strip rest bytes output

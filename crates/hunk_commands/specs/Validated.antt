@@ -14,6 +14,3 @@ IsValidated count bytes text =
 -- a report that finds something
 abbrev pub IsFound : List ℕ → List ℕ → Type 0
 IsFound bytes text = (count : ℕ) × (0 < count) × IsValidated count bytes text
-
-abbrev pub IsReport : List ℕ → List ℕ → Type 0
-IsReport bytes text = (count : ℕ) × IsValidated count bytes text

@@ -153,12 +153,11 @@ pub fn unhex(alloc: Global, text: &[u8]) -> Result<Vec<u8>, RunFault>
 /// What was read of the source stays read.
 pub fn read_hex<S: Source>(alloc: Global, source: &mut S, most: u64) -> Result<Vec<u8>, RunFault>
     ensures spelled { IfOk result
-        (λ bytes. ReadsHex (S.left source.old) (S.left source.new) most bytes.items) }
+        (λ bytes. ReadsHex (S.supply source.old) (S.supply source.new) most bytes.items) }
     ensures refused { IfErr result
-        (λ fault. ReadsNoHex fault (S.left source.old) (S.left source.new) most
-        (S.failed source.new)) }
-    ensures limit { GivesAtMost (S.left source.old) (S.left source.new) most }
-    ensures tells_read { TellsReading (S.failed source.old) (S.failed source.new) result }
+        (λ fault. ReadsNoHex fault (S.supply source.old) (S.supply source.new) most) }
+    ensures limit { GivesAtMost (S.supply source.old) (S.supply source.new) most }
+    ensures tells_read { TellsReading (S.supply source.old) (S.supply source.new) result }
 {
     let mut decoder = HexDecoder::new(alloc);
     read_all(source, most, &mut decoder)?;

@@ -41,8 +41,8 @@ impl Taker for Vec<u8> {
 /// What was read of the source stays read, at most `most` bytes.
 pub fn read_whole<S: Source>(alloc: Global, source: &mut S, most: u64) -> Result<Vec<u8>, RunFault>
     ensures reads { IfOk result
-        (λ bytes. ReadsWhole (S.left source.old) (S.left source.new) most bytes.items) }
-    ensures reads_at_most { ReadsAtMost S.left S.failed source.old source.new most result }
+        (λ bytes. ReadsWhole (S.supply source.old) (S.supply source.new) most bytes.items) }
+    ensures reads_at_most { ReadsAtMost (S.supply source.old) (S.supply source.new) most result }
 {
     let mut held = Vec::new(alloc);
     read_all(source, most, &mut held)?;
@@ -59,8 +59,8 @@ pub(crate) fn read_all<S: Source, T: Taker>(
 ) -> Result<(), RunFault>
     requires { T.took taker.old ≡ [] }
     ensures reads { OnOk result
-        (ReadsWhole (S.left source.old) (S.left source.new) most (T.took taker.new)) }
-    ensures reads_at_most { ReadsAtMost S.left S.failed source.old source.new most result }
+        (ReadsWhole (S.supply source.old) (S.supply source.new) most (T.took taker.new)) }
+    ensures reads_at_most { ReadsAtMost (S.supply source.old) (S.supply source.new) most result }
 {
     let mut buf = [0u8; PIECE];
     let mut count = 0u64;

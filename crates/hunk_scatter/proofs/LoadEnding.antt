@@ -19,14 +19,14 @@ use Rattle.hunk_scatter.specs.LoaderReasons.{is_of_header, is_of_file}
 use Rattle.hunk_scatter.specs.HeaderBytes.{IsHeaderTable, header_bytes}
 use Rattle.hunk_scatter.specs.HeaderFaults.{ExceedsBudget, IsOverBudget, IsHeaderFaultBy}
 use Rattle.hunk_scatter.specs.LoaderValues.{ImageValue, MayGoOnInFile, IsImageOf}
-use Rattle.hunk_scatter.specs.LoadOutcomes.{Gives, IsHeaderWithin, GoesPastNoFile, IsReadFault, StopsInHeader, StopsShort, IsBodyStop, KeepsToHeader, LoadStop, InHeader, Between, InBody, LoadEnds}
+use Rattle.hunk_scatter.specs.LoadOutcomes.{Gives, IsHeaderWithin, GoesPastNoFile, IsReadFault, StopsInHeader, StopsShort, IsBodyStop, KeepsToHeader, LoadStop, InHeader, Between, InBody, LoadEnds, Loads}
 use Rattle.hunk_scatter.specs.Placing.{Placing, AreBases, HasBases, IsUnplacedFor}
 use Rattle.hunk_scatter.specs.declared.loading.Limits.{Limits}
 use Rattle.hunk_scatter.specs.Rows.{entries_of, bases_of}
 use Rattle.hunk_scatter.proofs.Faults.{refusal_more, no_refusal_on}
 use Rattle.hunk_scatter.proofs.Feeding.{fronts_of}
 use Rattle.hunk_scatter.proofs.HeaderFronts.{one_table, text_header, table_within, passes_more, passes_front, refused_front}
-use Rattle.hunk_scatter.proofs.LoadLaws.{IsSplit, split_of}
+use Rattle.hunk_scatter.proofs.LoadLaws.{IsSplit, split_of, stop_is}
 use Rattle.std.proofs.lemmas.List.{drop_all, length-take}
 
 -- at the end of what a source has nothing is left
@@ -59,7 +59,7 @@ ends_body base limits now t header more rows (Err f) h e b stop = InBody t heade
 pub body_keeps : (base : Placing) (budget : ℕ) (t : List TableEntry) (header more : List ℕ) → IsHeaderWithin budget header t → HasBases base t → KeepsToHeader base budget (header ++ more)
 body_keeps base budget t header more h b u m is e =
     let same : t ≡ u = one_table t u more m h.is_table is (ap (λ (xs : List ℕ). xs ++ more) (sym h.header) ∙ e) in
-    inr (subst (λ (x : List TableEntry). (declared_bytes x ≤ limits.budget) × HasBases base x) same (h.within, b))
+    inr (subst (λ (x : List TableEntry). (declared_bytes x ≤ budget) × HasBases base x) same (h.within, b))
 
 -- ---- success
 
@@ -243,7 +243,13 @@ module _ (limits : Limits) (old now : Supply) (given : List ℕ) (gives : Gives 
   file_stop base f o (InBody t header more h e (inl s)) = refused f.place f.reason s.refusal
   file_stop base f o (InBody t header more h e (inr s)) = short f o s
 
-  -- What is the file's is its fault.
-  pub file_faults : (base : Placing) (result : Result ImageValue Fault) → LoadEnds base limits now given result → IfErr result (λ f. IsTrue (is_of_file f.reason) → HasFault input f.place f.reason)
-  file_faults base (Ok placed) h = tt
-  file_faults base (Err f) h = λ o. file_stop base f o h
+-- what a load comes to, by how it ends
+pub ends_loads : (base : Placing) (limits : Limits) (old now : Supply) (given : List ℕ) (result : Result ImageValue Fault) → Gives old now limits.file_bytes given →
+    LoadEnds base limits now given result → Loads base limits old now result
+ends_loads base limits old now given (Ok placed) g h = record { given = given; gives = g; outcome = h; of_file = tt }
+ends_loads base limits old now given (Err f) g h = record {
+  given = given;
+  gives = g;
+  outcome = stop_is base limits now given f h;
+  of_file = λ input is o. file_stop limits old now given g input is base f o h;
+}

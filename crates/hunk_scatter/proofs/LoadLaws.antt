@@ -1,5 +1,5 @@
 -- What follows from how a load ends.
-use Rattle.std.proofs.Common.{◌≡◌, ℕ, ◌≤◌, List, [], ◌++◌, length, refl, sym, ap, subst, ◌∙◌, append-nil, arith, Option, Some, None, Result, Ok, Err, ◌⊎◌, inl, inr}
+use Rattle.std.proofs.Common.{◌≡◌, ℕ, ◌≤◌, List, [], ◌++◌, length, refl, sym, ap, subst, ◌∙◌, append-nil, arith, Option, Some, None, ◌⊎◌, inl, inr}
 use Rattle.std.specs.Prelude.{IsTrue, IsSome}
 use Rattle.std.specs.Io.KnownBytes.{Consumes}
 use Rattle.hunk_words.specs.Carriers.{Supply}
@@ -14,8 +14,7 @@ use Rattle.hunk_files.specs.LoadText.{text}
 use Rattle.hunk_scatter.specs.LoaderReasons.{is_of_header, is_of_body}
 use Rattle.hunk_scatter.specs.HeaderBytes.{IsHeaderTable, header_bytes, IsHeaderFront}
 use Rattle.hunk_scatter.specs.HeaderFaults.{ExceedsBudget, IsHeaderFaultBy}
-use Rattle.hunk_scatter.specs.LoaderValues.{ImageValue}
-use Rattle.hunk_scatter.specs.LoadOutcomes.{Gives, KeepsRest, IsNotPlaced, IsUnfinished, IsHeaderWithin, IsLoadFaultBy, IsLoadFault, Loads, GoesPastNoFile, IsReadFault, StopsShort, KeepsToHeader, LoadStop, InHeader, Between, InBody, LoadEnds}
+use Rattle.hunk_scatter.specs.LoadOutcomes.{Gives, KeepsRest, IsNotPlaced, IsUnfinished, IsHeaderWithin, IsLoadFaultBy, IsLoadFault, GoesPastNoFile, IsReadFault, StopsShort, KeepsToHeader, LoadStop, InHeader, Between, InBody}
 use Rattle.hunk_scatter.specs.Placing.{Placing, HasBases, IsUnplacedFor}
 use Rattle.hunk_scatter.specs.declared.loading.Limits.{Limits}
 use Rattle.hunk_scatter.proofs.Feeding.{fronts_of}
@@ -120,10 +119,3 @@ stop_is base limits now given f (InHeader (inr (s, n))) = short_fault base limit
 stop_is base limits now given f (Between t h u p) = between base limits now given f.place f.reason t h u p
 stop_is base limits now given f (InBody t header more h e (inl s)) = by_body base limits now given f.place f.reason s.own_reasons s.refusal
 stop_is base limits now given f (InBody t header more h e (inr s)) = short_fault base limits now given f s (header_within_of limits.budget t header more given h e)
-
--- ---- of an end
-
-pub ends_loads : (base : Placing) (limits : Limits) (old now : Supply) (given : List ℕ) (result : Result ImageValue Fault) → Gives old now limits.file_bytes given →
-    LoadEnds base limits now given result → Loads base limits old now result
-ends_loads base limits old now given (Ok placed) g h = record { given = given; gives = g; outcome = h }
-ends_loads base limits old now given (Err f) g h = record { given = given; gives = g; outcome = stop_is base limits now given f h }

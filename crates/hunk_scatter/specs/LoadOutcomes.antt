@@ -1,16 +1,16 @@
 -- A load from a source.
-use Rattle.std.specs.Prelude.{◌≡◌, ℕ, ◌*◌, ◌/◌, ◌<◌, ◌≤◌, Bool, true, false, List, [], ◌++◌, length, map, Some, None, ◌⊎◌, IsTrue, Result, MatchResult, IsErrAnd}
+use Rattle.std.specs.Prelude.{◌≡◌, ℕ, ◌*◌, ◌/◌, ◌<◌, ◌≤◌, Bool, true, false, List, [], ◌++◌, length, map, Some, None, ◌⊎◌, IsTrue, Result, IfErr, MatchResult, IsErrAnd, take}
 use Rattle.std.specs.Io.KnownBytes.{Consumes, IsAtEnd}
 use Rattle.hunk_words.specs.Carriers.{Supply}
 use Rattle.hunk_words.specs.Longs.{bytes_of}
 use Rattle.hunk_words.specs.declared.fault.Fault.{Fault}
 use Rattle.hunk_words.specs.declared.reason.Reason.{Reason}
 use Rattle.hunk_words.specs.declared.reason.Reason.TheVariants as reasons
-use Rattle.hunk_files.specs.Fault.{HasRefusal, IsTruncated}
+use Rattle.hunk_files.specs.Fault.{HasFault, HasRefusal, IsTruncated}
 use Rattle.hunk_files.specs.Image.{declared_bytes, image}
 use Rattle.hunk_files.specs.LoadFile.{TableEntry, LoadFileValue, IsLoadFile}
 use Rattle.hunk_files.specs.LoadText.{table, text}
-use Rattle.hunk_scatter.specs.LoaderReasons.{is_of_header, is_of_body, is_of_longwords}
+use Rattle.hunk_scatter.specs.LoaderReasons.{is_of_header, is_of_body, is_of_file, is_of_longwords}
 use Rattle.hunk_scatter.specs.HeaderBytes.{IsHeaderTable, header_bytes, IsHeaderFront}
 use Rattle.hunk_scatter.specs.HeaderFaults.{CompletesRow, ExceedsBudget, KeepsToBudget, IsOverBudget, IsHeaderFault}
 use Rattle.hunk_scatter.specs.LoaderValues.{ImageValue, HasNoRefusal}
@@ -116,11 +116,21 @@ IsLoadFaultBy reason base limits now given at = HasRefusal given at reason × Is
 abbrev pub IsLoadFault : Placing → Limits → Supply → List ℕ → Fault → Type 0
 IsLoadFault base limits now given f = IsLoadFaultBy f.reason base limits now given f.place
 
+-- Where all that the source had is known, what is a fault of the file is its first.
+abbrev pub IsFaultOf : Supply → Fault → Type 0
+IsFaultOf old f = (input : List ℕ) → old.left ≡ Some input → IsTrue (is_of_file f.reason) → HasFault input f.place f.reason
+
+-- Where all that it had is known, and it has not failed, the declared bytes pass the budget here, within the limit.
+abbrev pub PassesBudget : Limits → Supply → Supply → ℕ → Type 0
+PassesBudget limits old new at =
+    (input : List ℕ) × (old.left ≡ Some input) × (new.failed ≡ false) × ExceedsBudget limits.budget (take limits.file_bytes input) at
+
 -- What a load comes to: the source has given these bytes, which are the load file that the image is of, or there is a fault.
 pub record Loads (base : Placing) (limits : Limits) (old new : Supply) (result : Result ImageValue Fault) : Type 0 where
   pub given : List ℕ
   pub gives : Gives old new limits.file_bytes given
   pub outcome : MatchResult result (IsLoadOf base limits.budget given) (IsLoadFault base limits new given)
+  pub of_file : IfErr result (IsFaultOf old)
 
 -- ---- by stages
 

@@ -1,21 +1,15 @@
 //! A load from a source.
-ghost use Rattle.std.specs.Prelude.{◌≡◌, ℕ, ◌*◌, ◌+◌, ◌/◌, ◌<◌, ◌≤◌, Bool, List, [], ◌++◌, length};
-ghost use Rattle.std.specs.Prelude.{take, None, Some, IfOk, IfErr, OnOk, OnErr, MatchResult};
-ghost use Rattle.std.specs.Prelude.{IsErrAnd, IsTrue};
+ghost use Rattle.std.specs.Prelude.{◌≡◌, ℕ, ◌+◌, ◌<◌, ◌≤◌, Bool, List, ◌++◌, length};
+ghost use Rattle.std.specs.Prelude.{[], take, None, IfOk, IfErr, OnOk, OnErr, MatchResult, IsErrAnd};
 ghost use Rattle.std.specs.Io.KnownBytes.{Consumes};
-ghost use Rattle.hunk_words.specs.Longs.{bytes_of};
 ghost use Rattle.hunk_words.specs.declared.reason.Reason.TheVariants as reasons;
-ghost use Rattle.hunk_files.specs.Fault.{HasFault};
 ghost use Rattle.hunk_files.specs.Image.{declared_bytes};
-ghost use Rattle.hunk_files.specs.LoadFile.{LoadFileValue};
-ghost use Rattle.hunk_files.specs.LoadText.{text};
-ghost use Rattle.hunk_scatter.specs.LoaderReasons.{is_of_file};
 ghost use Rattle.hunk_scatter.specs.HeaderBytes.{IsHeaderTable, header_bytes};
-ghost use Rattle.hunk_scatter.specs.HeaderFaults.{ExceedsBudget, IsOverBudget};
+ghost use Rattle.hunk_scatter.specs.HeaderFaults.{IsOverBudget};
 ghost use Rattle.hunk_scatter.specs.LoaderValues.{IsImageOf};
-ghost use Rattle.hunk_scatter.specs.LoadOutcomes.{Gives, GivesAtMost, HasFileWithin, IsBodyStop};
-ghost use Rattle.hunk_scatter.specs.LoadOutcomes.{IsHeaderStop, IsLoadFault, IsLoaded, IsReadFault};
-ghost use Rattle.hunk_scatter.specs.LoadOutcomes.{GoesPastNoFile, GoesPastNoHeader};
+ghost use Rattle.hunk_scatter.specs.LoadOutcomes.{Gives, GoesPastNoFile, GoesPastNoHeader};
+ghost use Rattle.hunk_scatter.specs.LoadOutcomes.{HasFileWithin, IsBodyStop, IsHeaderStop};
+ghost use Rattle.hunk_scatter.specs.LoadOutcomes.{IsReadFault, Loads, PassesBudget};
 ghost use Rattle.hunk_scatter.specs.LoadOutcomes.{StopsBehindFile, StopsBehindHeader, TellsFailure};
 ghost use Rattle.hunk_scatter.specs.Owing.{most_want};
 
@@ -177,17 +171,12 @@ pub fn load<R: Source, P: Placer>(
     ensures header_first { StopsBehindHeader (P.base p.now) limits.budget
         (R.supply r.old) (R.supply r.new) }
 
-    // Success.
+    // Success, and where there is none.
     ensures succeeds { HasFileWithin (P.base p.now) limits (R.supply r.old)
         → (R.supply r.new).failed ≡ Bool.false → IfErr result (λ f. f.reason ≡ reasons.OutOfMemory) }
 
-    // Refusals.
-    ensures over_budget { (input : List ℕ) (at : ℕ) → (R.supply r.old).left ≡ Some input
-        → (R.supply r.new).failed ≡ Bool.false
-        → ExceedsBudget limits.budget (take limits.file_bytes input) at
+    ensures over_budget { (at : ℕ) → PassesBudget limits (R.supply r.old) (R.supply r.new) at
         → IsErrAnd result (IsOverBudget at) }
-    ensures file_fault { (input : List ℕ) → (R.supply r.old).left ≡ Some input
-        → IfErr result (λ f. IsTrue (is_of_file f.reason) → HasFault input f.place f.reason) }
 
     // A read that fails ends the load.
     ensures tells_read { TellsFailure (R.supply r.old) (R.supply r.new) result }

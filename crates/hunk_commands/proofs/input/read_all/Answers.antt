@@ -19,7 +19,7 @@ returns-in_err-take-in-Ok-clause-reads_at_most g c =
     let some : 0 < length piece = search rules in
     let gave = Consumes-trans _ _ _ held piece c.reading.invariant.2 c.in-Ok.ensures.bytes.0 in
     record {
-      err = handed (λ fault. ReadsInVain fault (g.S.Source.left c.args.source.now) (g.S.Source.left c.pull.new.self) c.args.most (g.S.Source.failed c.pull.new.self))
+      err = handed (λ fault. ReadsInVain fault (g.S.Source.supply c.args.source.now) (g.S.Source.supply c.pull.new.self) c.args.most)
           c.from_residual.result Memory (err_from_is_err_and c.from_residual.result c.from_residual.ensures.1)
           (length (held ++ piece), omega (arith, length-append held piece, some), (held ++ piece, gave, refl));
       limit = (

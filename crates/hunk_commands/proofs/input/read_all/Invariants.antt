@@ -5,8 +5,8 @@ use Rattle.hunk_commands.proofs.input.read_all.Given as goal
 abbrev pub invariant-reading : goal.invariant-reading
 invariant-reading g l =
     (l.count ≡ length (g.T.Taker.took l.taker)) × (l.count ≤ l.most)
-    × Consumes (g.S.Source.left l.fn.source) (g.S.Source.left l.source) (g.T.Taker.took l.taker)
-    × (g.S.Source.failed l.source ≡ g.S.Source.failed l.fn.source)
+    × Consumes (g.S.Source.supply l.fn.source).left (g.S.Source.supply l.source).left (g.T.Taker.took l.taker)
+    × ((g.S.Source.supply l.source).failed ≡ (g.S.Source.supply l.fn.source).failed)
 
 abbrev pub decreases-reading : goal.decreases-reading
 decreases-reading g l = l.most - l.count

@@ -1,21 +1,19 @@
 use Rattle.std.proofs.Common.{◌≡◌, ◌++◌, ◌∙◌, ℕ, Bool, true, false, List, Some, Result, Err, length, inl, refl, sym, ap, subst}
-use Rattle.std.specs.Prelude.{IfErr, IsErrAnd, IsTrue, take}
+use Rattle.std.specs.Prelude.{IfErr, IsErrAnd}
 use Rattle.std.specs.Io.KnownBytes.{Consumes}
 use Rattle.std.proofs.KnownBytes.{Consumes-trans}
 use Rattle.std.proofs.lemmas.Result.{err_from_is_err_and}
 use Rattle.hunk_words.specs.Carriers.{Supply}
 use Rattle.hunk_words.specs.declared.fault.Fault.{Fault}
 use Rattle.hunk_words.specs.declared.reason.Reason.TheVariants as reasons
-use Rattle.hunk_files.specs.Fault.{HasFault}
-use Rattle.hunk_scatter.specs.HeaderFaults.{IsOverBudget, ExceedsBudget}
-use Rattle.hunk_scatter.specs.LoaderReasons.{is_of_file}
+use Rattle.hunk_scatter.specs.HeaderFaults.{IsOverBudget}
 use Rattle.hunk_scatter.specs.LoaderValues.{ImageValue}
-use Rattle.hunk_scatter.specs.LoadOutcomes.{Gives, HasFileWithin, IsHeaderWithin, Loads, GoesPastNoFile, KeepsToHeader, LoadEnds, InHeader, Between, StopsBehindFile, StopsBehindHeader, TellsFailure}
+use Rattle.hunk_scatter.specs.LoadOutcomes.{Gives, HasFileWithin, IsHeaderWithin, Loads, GoesPastNoFile, PassesBudget, KeepsToHeader, LoadEnds, InHeader, Between, StopsBehindFile, StopsBehindHeader, TellsFailure}
 use Rattle.hunk_scatter.specs.Placing.{Placing}
 use Rattle.hunk_scatter.specs.declared.loading.Limits.{Limits}
 use Rattle.hunk_scatter.proofs.HeaderFronts.{within_file}
-use Rattle.hunk_scatter.proofs.LoadEnding.{ends_body, body_keeps, has_bases, file_loads, budget_stops, file_faults}
-use Rattle.hunk_scatter.proofs.LoadLaws.{ends_loads, keeps_file, keeps_header}
+use Rattle.hunk_scatter.proofs.LoadEnding.{ends_body, body_keeps, has_bases, file_loads, budget_stops, ends_loads}
+use Rattle.hunk_scatter.proofs.LoadLaws.{keeps_file, keeps_header}
 use Rattle.hunk_scatter.proofs.loading.load.Goals as goal
 
 -- what a load promises that has given these bytes, by how it ends
@@ -26,8 +24,7 @@ module _ (base : Placing) (limits : Limits) (old new : Supply) (result : Result 
     one_file : StopsBehindFile old new;
     header_first : StopsBehindHeader base limits.budget old new;
     succeeds : HasFileWithin base limits old → new.failed ≡ false → IfErr result (λ f. f.reason ≡ reasons.OutOfMemory);
-    over_budget : (input : List ℕ) (at : ℕ) → old.left ≡ Some input → new.failed ≡ false → ExceedsBudget limits.budget (take limits.file_bytes input) at → IsErrAnd result (IsOverBudget at);
-    file_fault : (input : List ℕ) → old.left ≡ Some input → IfErr result (λ f. IsTrue (is_of_file f.reason) → HasFault input f.place f.reason);
+    over_budget : (at : ℕ) → PassesBudget limits old new at → IsErrAnd result (IsOverBudget at);
     tells_read : TellsFailure old new result;
   }
 
@@ -38,8 +35,7 @@ module _ (base : Placing) (limits : Limits) (old new : Supply) (result : Result 
     one_file = keeps_file old new limits.file_bytes given gives in_file;
     header_first = keeps_header base limits.budget old new limits.file_bytes given gives keeps;
     succeeds = λ h works. file_loads _ _ _ _ given gives in_file works h.value h.rest h.is_load_file h.split h.fits h.within h.bases result ends;
-    over_budget = λ input at d works p. budget_stops _ _ _ _ given gives in_file works input d at p result ends;
-    file_fault = λ input d. file_faults limits old new given gives input d base result ends;
+    over_budget = λ at (input, d, works, p). budget_stops _ _ _ _ given gives in_file works input d at p result ends;
     tells_read = tells;
   }
 
