@@ -101,8 +101,7 @@ impl<'a, W: Sink, const ROOM: usize> PagePrinter<'a, W, ROOM> {
     pub fn flush(&mut self) -> Result<(), WriteFault>
         ensures prints_nothing { Prints self.old self.new [] }
         ensures same_reference { self.new.out.ghost_name ≡ self.old.origin.name }
-        ensures puts {
-            PutsText W.outlet self.old.origin.writer self.new.out.now self.old.text result }
+        ensures puts { PutsText W.outlet self.old.origin.writer self.new.out.now self.old.text result }
     {
         let result = self.out.put_bytes(self.held.as_slice());
         self.held.clear();
