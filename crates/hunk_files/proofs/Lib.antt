@@ -34,6 +34,7 @@ mod LoadRanges
 mod LoadWalks
 pub mod OffsetLists
 mod Passed
+mod PassedWalks
 pub mod Peel
 mod RangeLaws
 pub mod Reading

@@ -10,7 +10,8 @@ use Rattle.hunk_grammar.specs.declared.position.Position.{Position}
 use Rattle.hunk_files.specs.Entries.{entry_at}
 use Rattle.hunk_files.specs.Fault.{HasFault}
 use Rattle.hunk_files.specs.declared.load.walk.Entry.{Entry}
-use Rattle.hunk_files.proofs.LoadWalks.{Walks, start_walk, refused, ends, opens, passes, walk_over, ends_early}
+use Rattle.hunk_files.proofs.LoadWalks.{Walks, start_walk, refused, ends, opens, passes, ends_early}
+use Rattle.hunk_files.proofs.PassedWalks.{walk_over}
 use Rattle.hunk_files.proofs.Passed.{passed_on}
 use Rattle.hunk_files.proofs.load.walk.walk.Goals as goal
 
