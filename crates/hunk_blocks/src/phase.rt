@@ -175,7 +175,7 @@ impl Phase {
 
     /// Why the longword of a block that stands alone is rejected, where it is.
     #[inline(always)]
-    pub fn refuse_alone(self, mode: Mode, word: u32) -> Option<Reason>
+    pub(crate) fn refuse_alone(self, mode: Mode, word: u32) -> Option<Reason>
         ensures { result ≡ refuse_alone mode (part_at self) word }
     {
         match self {

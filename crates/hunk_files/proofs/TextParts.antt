@@ -11,7 +11,7 @@ use Rattle.hunk_files.specs.declared.load.hunk.LoadHunk.{LoadHunk}
 use Rattle.hunk_files.specs.LoadFile.{HunkValue, LoadFileValue}
 use Rattle.hunk_files.specs.LoadText.{table, text}
 use Rattle.hunk_files.specs.Hunks.{block_texts}
-use Rattle.hunk_files.specs.Tables.{row_entry, hunk_of, hunk_texts, row_words, row_texts, behind_first}
+use Rattle.hunk_files.specs.Tables.{row_entry, hunk_of, hunk_texts, row_words, row_texts}
 use Rattle.hunk_files.proofs.TableReading.{entries_words, entries_more, entry_words, text_is}
 
 -- ---- a row
@@ -27,11 +27,9 @@ row_one r e = ap bytes_of (entry_words (row_entry r) false e)
 abbrev pub all_blocks : List LoadHunk → List ℕ
 all_blocks hs = flat_map (λ (h : LoadHunk). block_texts h.blocks.items) hs
 
-abbrev pub numbers : List LoadHunk → List ℕ
-numbers hs = 0 ∷ length hs ∷ 0 ∷ (length hs - 1) ∷ []
-
-pub behind_split : (hs : List LoadHunk) → bytes_of (behind_first hs) ≡ bytes_of (numbers hs) ++ (bytes_of (row_texts hs) ++ bytes_of (all_blocks hs))
-behind_split hs = bytes_of-append (numbers hs) (row_texts hs ++ all_blocks hs) ∙ ap (λ (l : List ℕ). bytes_of (numbers hs) ++ l) (bytes_of-append (row_texts hs) (all_blocks hs))
+-- the numbers of the header of so many hunks
+abbrev pub numbers : ℕ → List ℕ
+numbers count = 0x3F3 ∷ 0 ∷ count ∷ 0 ∷ (count - 1) ∷ []
 
 -- what stands behind the first longword of a text
 abbrev pub after_first : LoadFileValue → List ℕ
@@ -44,16 +42,19 @@ rows_are : (hs : List LoadHunk) → entries_words (table (map hunk_of hs)) ≡ r
 rows_are [] = refl
 rows_are (h ∷ hs) = entries_more (row_entry h.row) (table (map hunk_of hs)) ∙ ap (λ (l : List ℕ). row_words h.row ++ l) (rows_are hs)
 
-text_behind : (hs : List LoadHunk) → text (map hunk_of hs) ≡ 0x3F3 ∷ behind_first hs
-text_behind hs =
-    let count : length (table (map hunk_of hs)) ≡ length hs = length-map (map hunk_of hs) (λ (h : HunkValue). h.entry) ∙ length-map hs hunk_of in
+pub text_split : (hs : List LoadHunk) (v : LoadFileValue) (count : ℕ) → map hunk_of hs ≡ v → count ≡ length v →
+    bytes_of (text v) ≡ bytes_of (numbers count) ++ (bytes_of (row_texts hs) ++ bytes_of (all_blocks hs))
+text_split hs v count is many =
+    let hunks : length (table (map hunk_of hs)) ≡ count =
+    length-map (map hunk_of hs) (λ (h : HunkValue). h.entry) ∙ ap length is ∙ sym many in
+    let blocks = flat_map-map (λ (h : HunkValue). block_texts h.blocks) hunk_of hs in
+    let words : text (map hunk_of hs) ≡ numbers count ++ (row_texts hs ++ all_blocks hs) =
     text_is (map hunk_of hs)
-    ∙ ap₂ (λ (n : ℕ) (l : List ℕ). 0x3F3 ∷ 0 ∷ n ∷ 0 ∷ (n - 1) ∷ l) count (ap₂ (λ (l m : List ℕ). l ++ m) (rows_are hs) (flat_map-map (λ (h : HunkValue). block_texts h.blocks) hunk_of hs))
-
-pub text_split : (hs behind : List LoadHunk) (v : LoadFileValue) → map hunk_of hs ≡ v → behind ≡ hs → bytes_of (text v) ≡ bytes_of (0x3F3 ∷ []) ++ bytes_of (behind_first behind)
-text_split hs behind v view same =
-    ap (λ (w : LoadFileValue). bytes_of (text w)) (sym view) ∙ ap bytes_of (text_behind hs) ∙ bytes_of-cons 0x3F3 (behind_first hs)
-    ∙ ap (λ (l : List LoadHunk). bytes_of (0x3F3 ∷ []) ++ bytes_of (behind_first l)) (sym same)
+    ∙ ap₂ (λ (n : ℕ) (l : List ℕ). numbers n ++ l) hunks (ap₂ (λ (l m : List ℕ). l ++ m) (rows_are hs) blocks) in
+    ap (λ (w : LoadFileValue). bytes_of (text w)) (sym is)
+    ∙ ap bytes_of words
+    ∙ bytes_of-append (numbers count) (row_texts hs ++ all_blocks hs)
+    ∙ ap (λ (l : List ℕ). bytes_of (numbers count) ++ l) (bytes_of-append (row_texts hs) (all_blocks hs))
 
 -- a text that was printed in two parts
 pub printed_two : (text xs ys old mid new : List ℕ) → mid ≡ old ++ xs → new ≡ mid ++ ys → text ≡ xs ++ ys → new ≡ old ++ text

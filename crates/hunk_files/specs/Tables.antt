@@ -1,5 +1,5 @@
 -- The rows and hunks of a load file.
-use Rattle.std.specs.Prelude.{ℕ, ◌-◌, List, [], ◌∷◌, ◌++◌, length}
+use Rattle.std.specs.Prelude.{ℕ, List}
 use Rattle.std.specs.List.{flat_map}
 use Rattle.hunk_words.specs.declared.size_word.SizeWord.{SizeWord}
 use Rattle.hunk_blocks.specs.Faults.{words}
@@ -36,9 +36,3 @@ row_words r = entry_text (row_entry r)
 
 abbrev pub row_texts : List LoadHunk → List ℕ
 row_texts hunks = flat_map (λ h. row_words h.row) hunks
-
--- What stands behind the first longword of a file: the numbers of its header, the table and the blocks.
-abbrev pub behind_first : List LoadHunk → List ℕ
-behind_first hunks =
-    (0 ∷ length hunks ∷ 0 ∷ (length hunks - 1) ∷ [])
-    ++ (row_texts hunks ++ flat_map (λ h. block_texts h.blocks.items) hunks)

@@ -61,17 +61,6 @@ impl<'a> BlockViews<'a> {
     {
         self.at as u64
     }
-
-    /// The same blocks again.
-    #[inline(always)]
-    pub fn again(&self) -> BlockViews<'a>
-        ensures { result ≡ self.now }
-    {
-        BlockViews {
-            bytes: self.bytes,
-            at: self.at,
-        }
-    }
 }
 
 impl<'a> Iterator for BlockViews<'a> {

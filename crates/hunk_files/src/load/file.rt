@@ -1,9 +1,9 @@
 //! Load files.
-ghost use Rattle.std.specs.Prelude.{◌≡◌, ◌≢◌, ◌^◌, ◌<◌, ◌≤◌, IfOk, IfErr, IsTrue, Some, length, map, slice_get, take};
+ghost use Rattle.std.specs.Prelude.{◌≡◌, ◌≢◌, ◌^◌, ◌<◌, ◌≤◌, IfOk, IfErr, IsTrue, Some};
+ghost use Rattle.std.specs.Prelude.{length, map, slice_get, take};
 ghost use Rattle.std.specs.List.{flat_map};
 ghost use Rattle.hunk_words.specs.declared.reason.Reason.TheVariants as reasons;
 ghost use Rattle.hunk_words.specs.Longs.{bytes_of};
-ghost use Rattle.hunk_words.specs.Limits.{most_hunks};
 ghost use Rattle.hunk_words.specs.Prints.{Prints};
 ghost use Rattle.hunk_words.specs.Puts.{PutsText};
 ghost use Rattle.hunk_files.specs.LoadFile.{IsLoadFile};
@@ -11,7 +11,7 @@ ghost use Rattle.hunk_files.specs.Image.{declared_bytes};
 ghost use Rattle.hunk_files.specs.LoadText.{table, text};
 ghost use Rattle.hunk_files.specs.Fault.{BeginsWithLoadFile, HasFault, is_load_refusal};
 ghost use Rattle.hunk_files.specs.Lacks.{LacksLoadPart};
-ghost use Rattle.hunk_files.specs.Tables.{behind_first, row_texts, size_entry};
+ghost use Rattle.hunk_files.specs.Tables.{row_texts, size_entry};
 ghost use Rattle.hunk_files.specs.Hunks.{block_texts};
 
 use crate::blocks::print_blocks;
@@ -118,8 +118,11 @@ impl<'a> LoadFile<'a> {
     fn print<W: Sink>(&self, page: &mut Printer<'_, W>)
         ensures { Prints page.old page.new (bytes_of (text self.now)) }
     {
-        page.print_long(HEADER_WORD);
-        print_behind(page, &self.hunks);
+        let hunks = self.hunks.as_slice();
+        let count = self.hunks();
+        print_longs(page, &[HEADER_WORD, 0, count, 0, count - 1]);
+        print_table(page, hunks);
+        print_hunks(page, hunks);
     }
 
     /// Writes the file's text: the bytes that it was decoded from, where it was not stripped.
@@ -140,18 +143,6 @@ impl<'a> LoadFile<'a> {
         let _out = page.into_inner();
         result
     }
-}
-
-/// All that stands behind the first longword.
-fn print_behind<W: Sink>(page: &mut Printer<'_, W>, hunks: &[LoadHunk<'_>])
-    requires nonempty { 0 < length hunks.now }
-    requires most { length hunks.now ≤ most_hunks }
-    ensures { Prints page.old page.new (bytes_of (behind_first hunks.now)) }
-{
-    let count = hunks.len() as u32;
-    print_longs(page, &[0, count, 0, count - 1]);
-    print_table(page, hunks);
-    print_hunks(page, hunks);
 }
 
 /// The longwords.

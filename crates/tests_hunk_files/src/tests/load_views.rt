@@ -189,17 +189,3 @@ fn refused_alike(rt: HostRuntime) -> Result<(), Fail> {
     }
     Ok(())
 }
-
-/// Blocks that are taken again are the same.
-#[test]
-fn blocks_again(rt: HostRuntime) -> Result<(), Fail> {
-    let bytes = spelled(rt.alloc(), TWO_HUNKS)?;
-    let (file, _) = LoadView::read(&bytes)?;
-    for hunk in file.iter() {
-        let mut blocks = hunk.blocks();
-        let all = count(blocks.again());
-        blocks.next();
-        assert_equal(&rt, count(blocks).saturating_add(1), all);
-    }
-    Ok(())
-}
