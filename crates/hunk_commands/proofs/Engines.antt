@@ -1,108 +1,112 @@
 -- What the engine functions share: a text made of bytes and put, and a source whose bytes they are.
-use Rattle.std.proofs.Common.{◌≡◌, ◌≢◌, ◌+◌, ℕ, List, Option, Result, Ok, Err, length, inr, ap, refl, sym, subst, ◌∙◌, arith, false, true≢false}
-use Rattle.std.specs.Prelude.{Bool, IfErr, IfOk}
-use Rattle.std.proofs.lemmas.Result.{IfErr-weaker, IfOk-weaker}
-use Rattle.hunk_words.specs.Carriers.{Writing, saturated}
+use Rattle.std.proofs.Common.{◌≡◌, ◌≢◌, ◌∙◌, ℕ, true, List, Result, Ok, Err, inl, inr, ap, refl, sym, subst, false, true≢false}
+use Rattle.std.specs.Prelude.{IfErr}
+use Rattle.hunk_words.specs.Carriers.{Outlet, Supply, Writing}
 use Rattle.hunk_words.specs.Longs.{longs}
-use Rattle.hunk_words.specs.Puts.{Puts}
+use Rattle.hunk_words.specs.Puts.{PutsText}
 use Rattle.hunk_words.specs.declared.fault.Fault.{Fault}
+use Rattle.hunk_words.specs.declared.long_writer.WriteFault.{WriteFault}
 use Rattle.hunk_words.specs.declared.reason.Reason.TheVariants.{OutOfMemory}
 use Rattle.hunk_grammar.specs.FileKind.{sniffed}
 use Rattle.hunk_commands.specs.declared.fault.RunFault.{RunFault}
-use Rattle.hunk_commands.specs.declared.fault.RunFault.TheVariants.{HexText, Memory, Read, Refused, Write}
-use Rattle.hunk_commands.specs.Engine.{PutsAll, PutsFirst, PutsOrRefuses, ReadsThenPuts, RefusesOnly, StopsAtWrite, Writes}
+use Rattle.hunk_commands.specs.declared.fault.RunFault.TheVariants.{Read, Write}
+use Rattle.hunk_commands.specs.Engine.{PutsOrRefuses, ReadsNoFile, ReadsThenPuts}
 use Rattle.hunk_commands.specs.Faults.{IsWrite, refused_as}
-use Rattle.hunk_commands.specs.Inputs.{ReadsInput, ReadsWhole}
+use Rattle.hunk_commands.specs.Inputs.{Gave, ReadsWhole, StopsAtRead}
 use Rattle.hunk_files.specs.HunkFile.{AreFile, IsRefusal}
 use Rattle.hunk_scatter.specs.LoadOutcomes.{GivesAtMost}
-use Rattle.hunk_commands.specs.Refusals.{RefusesBytes}
 use Rattle.hunk_commands.proofs.Consumed.{consumed_all}
-use Rattle.hunk_commands.proofs.FileLaws.{no_limit, same_refusal}
+use Rattle.hunk_commands.proofs.FileLaws.{same_refusal}
 
 -- ---- a fault that is handed on
 
 pub handed : {T : Type 0} (P : RunFault → Type 0) (result : Result T RunFault) (fault : RunFault) → ((y : RunFault) × (result ≡ Err y) × (y ≡ fault)) → P fault → IfErr result P
 handed {T} P result fault p is = subst (λ (r : Result T RunFault). IfErr r P) (sym (p.1 ∙ ap Err p.2)) is
 
--- bytes that are no file
-pub refuses : {W T : Type 0} (failed : W → Bool) (out : Writing W) (bytes : List ℕ) (refusal : Fault) (result : Result T RunFault) →
-    ((y : RunFault) × (result ≡ Err y) × (y ≡ refused_as refusal)) → (AreFile bytes → ⊥) → IsRefusal (sniffed (longs bytes)) bytes refusal → refusal.reason ≢ OutOfMemory →
-    PutsOrRefuses bytes failed out out result
-refuses {W} {T} failed out bytes refusal result p none is other =
-    subst (λ (r : Result T RunFault). PutsOrRefuses bytes failed out out r) (sym (p.1 ∙ ap Err (p.2 ∙ same_refusal _ bytes refusal is other))) (record {
-      succeeds = λ file. absurd (none file);
-      fails = record { broken = λ written. absurd written; untouched = λ _. refl };
-      no_failure = tt;
-      refused = λ _. is;
-    })
+-- ---- bytes
 
--- ---- a text that is put
+module _ {W T : Type 0} (outlet : W → Outlet) (IsTextOf : T → List ℕ → Type 0) (bytes : List ℕ) (old : Writing W) where
+  Comes : Writing W → Result T RunFault → Type 0
+  Comes new r = PutsOrRefuses outlet IsTextOf bytes old new r
 
-abbrev pub puts_first : (Is : List ℕ → Type 0) (c d : Option (List ℕ)) (m n : ℕ) (text : List ℕ) → Is text → m ≡ 0 → Puts c d m n text → PutsFirst Is c d n
-puts_first Is c d m n text is none puts = record { text = text; is_text = is; puts = subst (λ (k : ℕ). Puts c d k n text) none puts }
+  -- they are no file
+  pub refuses : (result : Result T RunFault) (refusal : Fault) → ((y : RunFault) × (result ≡ Err y) × (y ≡ refused_as refusal)) → (AreFile bytes → ⊥) → IsRefusal (sniffed (longs bytes)) bytes refusal → refusal.reason ≢ OutOfMemory →
+      PutsOrRefuses outlet IsTextOf bytes old old result
+  unfolding Comes
+  refuses result refusal p none is other =
+      subst (Comes old) (sym (p.1 ∙ ap Err (p.2 ∙ same_refusal _ bytes refusal is other))) (record {
+        done = tt;
+        no_failure = tt;
+        write = λ written same. absurd cc;
+        fails = record { broken = λ written. absurd written; untouched = λ _. refl };
+        refused = λ _. is;
+        succeeds = λ file. absurd (none file);
+      })
 
-pub puts_all : (Is : List ℕ → Type 0) (c d : Option (List ℕ)) (m n : ℕ) (text : List ℕ) → Is text → m ≡ 0 → Puts c d m n text → n ≡ m + length text → PutsAll Is c d n
-puts_all Is c d m n text is none puts whole = (puts_first Is c d m n text is none puts, omega (arith, whole, none))
-
--- the first bytes have gone out
-pub written_first : {T : Type 0} (W : ℕ → Type 0) (result : Result T RunFault) (m n : ℕ) → ((y : RunFault) × (result ≡ Err y) × (y ≡ Write m)) → m ≡ saturated n → W n →
-    IfErr result (StopsAtWrite n W)
-written_first W result m n p told w = handed (StopsAtWrite n W) result (Write m) p go
-  where
-    go : StopsAtWrite n W (Write m)
-    go written e = let same : written ≡ m = cc in (same ∙ told, w)
-
--- ---- a source that was read
-
-refuses_only : (fault : RunFault) (a b : Option (List ℕ)) (most : ℕ) (bytes : List ℕ) → ReadsWhole a b most bytes → (¬ IsWrite fault → RefusesBytes fault bytes) → RefusesOnly a b most fault
-refuses_only (Refused refusal) a b most bytes read is = inr (record { input = bytes; read = read; holds = is (λ written. written) })
-refuses_only Memory a b most bytes read is = tt
-refuses_only (Read place) a b most bytes read is = tt
-refuses_only (Write written) a b most bytes read is = tt
-refuses_only HexText a b most bytes read is = is (λ written. written)
-
--- the bytes of one that was read to its end
-module _ (a b : Option (List ℕ)) (most : ℕ) (items bytes : List ℕ) (given : ReadsWhole a b most items) (same : bytes ≡ items) where
-  read : ReadsWhole a b most bytes
-  read = subst (λ (xs : List ℕ). ReadsWhole a b most xs) (sym same) given
-
-  of_input : (Holds : List ℕ → Type 0) → Holds bytes → ReadsInput Holds a b most
-  of_input Holds holds = record { input = bytes; read = read; holds = holds }
-
-  pub all_of_input : {T : Type 0} (Holds : T → List ℕ → Type 0) (result : Result T RunFault) → IfOk result (λ value. Holds value bytes) →
-      IfOk result (λ value. ReadsInput (Holds value) a b most)
-  all_of_input Holds result = IfOk-weaker result _ _ (λ value. of_input (Holds value))
-
-  pub first_of_input : {T : Type 0} (Is : List ℕ → List ℕ → Type 0) (c d : Option (List ℕ)) (written : ℕ) (result : Result T RunFault) →
-      IfErr result (StopsAtWrite written (PutsFirst (Is bytes) c d)) → IfErr result (StopsAtWrite written (Writes Is a b most c d))
-  first_of_input Is c d written result =
-      IfErr-weaker result _ _ (λ fault stops count at. (let stop = stops count at in (stop.0, of_input (λ (input : List ℕ). PutsFirst (Is input) c d written) stop.1)))
-
-pub reads_then_puts : {R W T : Type 0} (left : R → Option (List ℕ)) (broken : R → Bool) (x y : R) (most : ℕ) (failed : W → Bool) (old new : Writing W) (items bytes : List ℕ)
-    (result : Result T RunFault) → ReadsWhole (left x) (left y) most items → bytes ≡ items → (broken x ≡ false → broken y ≡ false) → GivesAtMost (left x) (left y) most →
-    PutsOrRefuses bytes failed old new result → ReadsThenPuts left broken x y most failed old new result
-reads_then_puts left broken x y most failed old new items bytes (Ok value) given same sound within puts = record {
-  succeeds = λ has reads writes. tt;
-  fails = tt;
-  no_failure = puts.no_failure;
-  limit = within;
-  file_limit = tt;
-  read = tt;
-  tells_read = λ before now. absurd (true≢false (sym now ∙ sound before));
-  refused = tt;
-}
-reads_then_puts left broken x y most failed old new items bytes (Err fault) given same sound within puts =
-    let got = read (left x) (left y) most items bytes given same in
-    let only : (f : RunFault) → fault ≡ f → ¬ IsWrite f → RefusesBytes f bytes = λ f at. subst (λ (g : RunFault). ¬ IsWrite g → RefusesBytes g bytes) at puts.refused in
-    record {
-      succeeds = λ has reads writes. (
-          let file = subst AreFile (consumed_all (left x) (left y) has.input bytes has.left got.given got.at_end) has.is_file in
-          absurd (true≢false (sym (puts.fails.broken (puts.succeeds file)) ∙ writes)));
-      fails = puts.fails;
-      no_failure = tt;
-      limit = within;
-      file_limit = λ place at. absurd (no_limit _ bytes place (only _ at (λ written. written)));
-      read = λ place at. absurd (only _ at (λ written. written));
-      tells_read = λ before now. absurd (true≢false (sym now ∙ sound before));
-      refused = refuses_only fault (left x) (left y) most bytes got puts.refused;
+  module _ {S : Type 0} (new : Writing W) (text : List ℕ) (value : T) (is : IsTextOf value text) where
+    -- their text was put
+    pub put_all : (done : S) → PutsText {T = S} outlet old new text (Ok done) → PutsOrRefuses outlet IsTextOf bytes old new (Ok value)
+    put_all done p = record {
+      done = (record { text = text; is_text = is; puts = p.puts }, p.all);
+      no_failure = p.no_failure;
+      write = tt;
+      fails = tt;
+      refused = tt;
+      succeeds = λ _. tt;
     }
+
+    -- the first bytes of it were
+    pub put_first : (result : Result T RunFault) (fault : WriteFault) → PutsText {T = S} outlet old new text (Err fault) → ((y : RunFault) × (result ≡ Err y) × (y ≡ Write fault.written)) →
+        PutsOrRefuses outlet IsTextOf bytes old new result
+    unfolding Comes
+    put_first result fault p e =
+        subst (Comes new) (sym (e.1 ∙ ap Err e.2)) (record {
+          done = tt;
+          no_failure = tt;
+          write = λ written same. (let is_count : written ≡ fault.written = cc in is_count ∙ p.counted, record { text = text; is_text = (value, is); puts = p.puts });
+          fails = record { broken = λ _. p.broken; untouched = λ other. absurd (other tt) };
+          refused = λ other. absurd (other tt);
+          succeeds = λ _. tt;
+        })
+
+-- ---- a source that was read to its end
+
+pub reads_then_puts : {W T : Type 0} (outlet : W → Outlet) (IsTextOf : T → List ℕ → List ℕ → Type 0) (before after : Supply) (most : ℕ) (old new : Writing W) (items bytes : List ℕ)
+    (result : Result T RunFault) → ReadsWhole before after most items → bytes ≡ items → (before.failed ≡ false → after.failed ≡ false) → GivesAtMost before after most →
+    PutsOrRefuses outlet (λ value. IsTextOf value bytes) bytes old new result → ReadsThenPuts outlet IsTextOf before after most old new result
+reads_then_puts {W} {T} outlet IsTextOf before after most old new items bytes result given same sound within = go result
+  where
+    read : ReadsWhole before after most bytes
+    read = subst (λ (xs : List ℕ). ReadsWhole before after most xs) (sym same) given
+
+    go : (r : Result T RunFault) → PutsOrRefuses outlet (λ value. IsTextOf value bytes) bytes old new r → ReadsThenPuts outlet IsTextOf before after most old new r
+    go (Ok value) puts = record {
+      done = record { input = bytes; read = read; holds = puts.done };
+      no_failure = puts.no_failure;
+      write = tt;
+      fails = tt;
+      refused = tt;
+      limit = within;
+      tells_read = λ fresh now. absurd (true≢false (sym now ∙ sound fresh));
+      succeeds = λ has reads writes. tt;
+    }
+    go (Err fault) puts = record {
+      done = tt;
+      no_failure = tt;
+      write = λ written at. (let stop = puts.write written at in (stop.0, record { input = bytes; read = read; holds = stop.1 }));
+      fails = puts.fails;
+      refused = λ other. inr (record { input = bytes; read = read; holds = puts.refused other });
+      limit = within;
+      tells_read = λ fresh now. absurd (true≢false (sym now ∙ sound fresh));
+      succeeds = λ has reads writes. (
+          let file = subst AreFile (consumed_all before.left after.left has.input bytes has.left read.given read.at_end) has.is_file in
+          absurd (true≢false (sym (puts.fails.broken (puts.succeeds file)) ∙ writes)));
+    }
+
+-- where the reading failed, the place is that of the source
+pub stops_at_read : (before after : Supply) (most : ℕ) (fault : RunFault) → (¬ IsWrite fault → ReadsNoFile before after most fault) → StopsAtRead before after fault
+stops_at_read before after most fault stops place same = go (subst (λ (f : RunFault). ¬ IsWrite f → ReadsNoFile before after most f) same stops (λ written. written))
+  where
+    go : ReadsNoFile before after most (Read place) → (after.failed ≡ true) × Gave before after place
+    go (inl read) = read
+    go (inr refused) = absurd refused.holds

@@ -1,6 +1,7 @@
 mod Consumed
-mod Engines
+pub mod Engines
 mod FileLaws
 mod HexJoin
 mod HexPieces
+pub mod RelocateLaws
 mod RewriteLaws

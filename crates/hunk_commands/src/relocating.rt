@@ -1,23 +1,14 @@
 //! `relocate`: a load file is loaded as it comes, and its segments are printed.
-ghost use Rattle.std.specs.Prelude.{◌≡◌, ◌⊎◌, ℕ, List, Some, false, take};
-ghost use Rattle.std.specs.Prelude.{IfErr, IsErrAnd, IsTrue, OnOk};
+ghost use Rattle.std.specs.Prelude.{◌≡◌, ◌⊎◌, ℕ, false, IfErr, IsErrAnd};
 ghost use Rattle.hunk_words.specs.Prints.{Prints};
 ghost use Rattle.hunk_words.specs.Puts.{PutsText};
-ghost use Rattle.hunk_words.specs.declared.fault.Fault.{Fault};
 ghost use Rattle.hunk_words.specs.declared.reason.Reason.TheVariants.{Budget};
-ghost use Rattle.hunk_commands.specs.declared.fault.RunFault.TheVariants.{Memory, Read, Refused};
-ghost use Rattle.hunk_files.specs.Fault.{HasFault};
-ghost use Rattle.hunk_scatter.specs.LoaderReasons.{is_of_file};
-ghost use Rattle.hunk_scatter.specs.HeaderFaults.{ExceedsBudget};
-ghost use Rattle.hunk_scatter.specs.LoadOutcomes.{Gives, GivesAtMost, HasFileWithin, IsLoadFault};
+ghost use Rattle.hunk_commands.specs.declared.fault.RunFault.TheVariants.{Memory, Refused};
+ghost use Rattle.hunk_scatter.specs.LoadOutcomes.{HasFileWithin, PassesBudget};
 ghost use Rattle.hunk_scatter.specs.LoadOutcomes.{StopsBehindFile, StopsBehindHeader};
-ghost use Rattle.hunk_commands.specs.Engine.{StopsAtWrite};
-ghost use Rattle.hunk_commands.specs.Faults.{IsRelocateFault};
-ghost use Rattle.hunk_commands.specs.Inputs.{TellsReading};
-ghost use Rattle.hunk_commands.specs.Output.{StopsOutput};
-ghost use Rattle.hunk_commands.specs.Relocating.{LacksMemory, ReadsShort, Relocates, RelocatesAll};
 ghost use Rattle.hunk_scatter.specs.Placing.{packed_from};
-ghost use Rattle.hunk_commands.specs.Relocating.{image_listing};
+ghost use Rattle.hunk_commands.specs.Inputs.{TellsReading};
+ghost use Rattle.hunk_commands.specs.Relocating.{Relocates, image_listing};
 
 use crate::fault::RunFault;
 use hunk_listing::print_segment;
@@ -51,47 +42,25 @@ pub fn relocate<R: Source, W: Sink>(
     limits: Limits,
     base: u32,
 ) -> Result<(), RunFault>
-    requires { w.old.written ≡ 0 }
-    ensures relocates { OnOk result (RelocatesAll base limits.budget limits.file_bytes
-        (R.left r.old) (R.left r.new) (W.taken w.old.sink) (W.taken w.new.sink) w.new.written) }
-    ensures succeeds { HasFileWithin (packed_from base) limits (R.left r.old)
-        → R.failed r.new ≡ false → W.failed w.new.sink ≡ false
-        → IfErr result (λ fault. fault ≡ Memory) }
+    ensures relocates { Relocates W.outlet base limits
+        (R.supply r.old) (R.supply r.new) w.old w.new result }
 
     // What is read at most, whatever the answer: no byte after the file, and none after a
     // header that can't be placed.
-    ensures limit { GivesAtMost (R.left r.old) (R.left r.new) limits.file_bytes }
-    ensures one_file { StopsBehindFile (R.left r.old) (R.left r.new) }
+    ensures one_file { StopsBehindFile (R.supply r.old) (R.supply r.new) }
     ensures header_first { StopsBehindHeader (packed_from base) limits.budget
-        (R.left r.old) (R.left r.new) }
+        (R.supply r.old) (R.supply r.new) }
 
-    // After a fault of writing the first bytes of the text have gone out, and after another one
-    // nothing has.
-    ensures write { IfErr result (StopsAtWrite w.new.written
-        (Relocates base limits.budget limits.file_bytes
-        (R.left r.old) (R.left r.new) (W.taken w.old.sink) (W.taken w.new.sink))) }
-    ensures fails { IfErr result (StopsOutput W.failed w.old w.new) }
-    ensures no_failure { OnOk result (W.failed w.new.sink ≡ W.failed w.old.sink) }
-
-    ensures over_budget { (input : List ℕ) (at : ℕ) → R.left r.old ≡ Some input
-        → R.failed r.new ≡ false
-        → ExceedsBudget limits.budget (take limits.file_bytes input) at
+    // Success, and where there is none.
+    ensures succeeds { HasFileWithin (packed_from base) limits (R.supply r.old)
+        → (R.supply r.new).failed ≡ false → (W.outlet w.new.sink).failed ≡ false
+        → IfErr result (λ fault. fault ≡ Memory) }
+    ensures over_budget { (at : ℕ) → PassesBudget limits (R.supply r.old) (R.supply r.new) at
         → IsErrAnd result (λ fault. (fault ≡ Memory)
         ⊎ (fault ≡ Refused (record { place = at; reason = Budget }))) }
-    ensures file_fault { (input : List ℕ) → R.left r.old ≡ Some input
-        → IfErr result (λ fault. (refusal : Fault) → fault ≡ Refused refusal
-        → IsTrue (is_of_file refusal.reason) → HasFault input refusal.place refusal.reason) }
-    ensures refused { IfErr result (λ fault. (refusal : Fault) → fault ≡ Refused refusal
-        → (given : List ℕ) × Gives (R.left r.old) (R.left r.new) limits.file_bytes given
-        × IsLoadFault (packed_from base) limits.budget limits.file_bytes
-        (R.left r.new) (R.failed r.new) given refusal) }
-    ensures read { IfErr result (λ fault. (place : ℕ) → fault ≡ Read place
-        → ReadsShort limits.budget limits.file_bytes
-        (R.left r.old) (R.left r.new) (R.failed r.new) place) }
-    ensures tells_read { TellsReading (R.failed r.old) (R.failed r.new) result }
-    ensures memory { IfErr result (λ fault. fault ≡ Memory → LacksMemory base limits.budget
-        limits.file_bytes (R.left r.old) (R.left r.new) (R.failed r.new)) }
-    ensures own_reasons { IfErr result IsRelocateFault }
+
+    // A read that fails ends the load.
+    ensures tells_read { TellsReading (R.supply r.old) (R.supply r.new) result }
 {
     let image = load(alloc, r, limits, &Packed { start: base })?;
     put_listing(w, &image)?;
@@ -101,7 +70,7 @@ pub fn relocate<R: Source, W: Sink>(
 /// Puts the lines of each hunk's segment.
 #[inline(never)]
 fn put_listing<W: Sink>(w: &mut LongWriter<W>, image: &Image) -> Result<(), WriteFault>
-    ensures { PutsText W.taken W.failed w.old w.new (image_listing image.now) result }
+    ensures { PutsText W.outlet w.old w.new (image_listing image.now) result }
 {
     let mut page = Printer::new(w);
     print_listing(&mut page, image);

@@ -1,13 +1,11 @@
 //! `rewrite`: a file is read, and written again.
-ghost use Rattle.std.specs.Prelude.{◌≡◌, ◌≢◌, IfOk, IfErr};
+ghost use Rattle.std.specs.Prelude.{◌≡◌, IfOk};
 ghost use Rattle.hunk_words.specs.Carriers.{saturated};
 ghost use Rattle.hunk_words.specs.Puts.{PutsText};
 ghost use Rattle.hunk_files.specs.FileView.{file_of};
 ghost use Rattle.hunk_files.specs.HunkFile.{IsFileOf, file_bytes, stripped};
-ghost use Rattle.hunk_commands.specs.declared.fault.RunFault.TheVariants.{Memory};
-ghost use Rattle.hunk_commands.specs.Engine.{PutsAll, PutsFirst, PutsOrRefuses};
-ghost use Rattle.hunk_commands.specs.Engine.{ReadsThenPuts, StopsAtWrite, Writes, WritesAll};
-ghost use Rattle.hunk_commands.specs.Rewritten.{IsRewriting, IsRewritten, stripped_where};
+ghost use Rattle.hunk_commands.specs.Engine.{PutsOrRefuses, ReadsThenPuts};
+ghost use Rattle.hunk_commands.specs.Rewritten.{IsRewritten, stripped_where};
 
 use crate::fault::RunFault;
 use crate::input::read_whole;
@@ -47,18 +45,9 @@ pub fn rewrite<R: Source, W: Sink>(
     file_bytes: u64,
     strip: bool,
 ) -> Result<Rewritten, RunFault>
-    requires { w.old.written ≡ 0 }
-    ensures rewrites { IfOk result (λ done. WritesAll (IsRewritten strip done.rest)
-        (R.left r.old) (R.left r.new) file_bytes
-        (W.taken w.old.sink) (W.taken w.new.sink) w.new.written) }
+    ensures rewrites { ReadsThenPuts W.outlet (λ done. IsRewritten strip done.rest)
+        (R.supply r.old) (R.supply r.new) file_bytes w.old w.new result }
     ensures written { IfOk result (λ done. done.written ≡ saturated w.new.written) }
-
-    // After a fault of writing the first bytes of the file have gone out, and after another one
-    // nothing has, by `reads_then_puts`, which also says what is read and when nothing fails.
-    ensures write { IfErr result (StopsAtWrite w.new.written (Writes (IsRewriting strip)
-        (R.left r.old) (R.left r.new) file_bytes (W.taken w.old.sink) (W.taken w.new.sink))) }
-    ensures reads_then_puts { ReadsThenPuts R.left R.failed r.old r.new file_bytes
-        W.failed w.old w.new result }
 {
     let input = read_whole(alloc, r, file_bytes)?;
     rewrite_bytes(input.as_slice(), w, strip)
@@ -77,14 +66,9 @@ pub fn rewrite_bytes<W: Sink>(
     w: &mut LongWriter<W>,
     strip: bool,
 ) -> Result<Rewritten, RunFault>
-    requires { w.old.written ≡ 0 }
-    ensures rewrites { IfOk result (λ done. PutsAll (IsRewritten strip done.rest bytes.now)
-        (W.taken w.old.sink) (W.taken w.new.sink) w.new.written) }
+    ensures rewrites { PutsOrRefuses W.outlet (λ done. IsRewritten strip done.rest bytes.now)
+        bytes.now w.old w.new result }
     ensures written { IfOk result (λ done. done.written ≡ saturated w.new.written) }
-    ensures write { IfErr result (StopsAtWrite w.new.written (PutsFirst (IsRewriting strip bytes.now)
-        (W.taken w.old.sink) (W.taken w.new.sink))) }
-    ensures puts_or_refuses { PutsOrRefuses bytes.now W.failed w.old w.new result }
-    ensures memory { IfErr result (λ fault. fault ≢ Memory) }
 {
     let file = FileView::read(bytes)?;
     let rest = file.rest();
@@ -105,7 +89,7 @@ fn put_file<W: Sink>(
     strip: bool,
 ) -> Result<(), WriteFault>
     requires { IsFileOf input.now (file_of file.now) }
-    ensures { PutsText W.taken W.failed w.old w.new
+    ensures { PutsText W.outlet w.old w.new
         (file_bytes (stripped_where strip (file_of file.now))) result }
 {
     if strip {
@@ -116,7 +100,7 @@ fn put_file<W: Sink>(
 
 /// Writes what stays of the file, through a page.
 fn put_stripped<W: Sink>(w: &mut LongWriter<W>, file: &FileView<'_>) -> Result<(), WriteFault>
-    ensures { PutsText W.taken W.failed w.old w.new
+    ensures { PutsText W.outlet w.old w.new
         (file_bytes (stripped (file_of file.now))) result }
 {
     let mut page = Printer::new(w);

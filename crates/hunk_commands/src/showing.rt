@@ -1,11 +1,8 @@
 //! `show`: the hunks and blocks of a file are listed.
-ghost use Rattle.std.specs.Prelude.{◌≡◌, ◌≢◌, IfErr, OnOk};
 ghost use Rattle.hunk_files.specs.FileView.{file_of};
 ghost use Rattle.hunk_words.specs.Prints.{Prints};
 ghost use Rattle.hunk_words.specs.Puts.{PutsText};
-ghost use Rattle.hunk_commands.specs.declared.fault.RunFault.TheVariants.{Memory};
-ghost use Rattle.hunk_commands.specs.Engine.{PutsAll, PutsFirst, PutsOrRefuses};
-ghost use Rattle.hunk_commands.specs.Engine.{ReadsThenPuts, StopsAtWrite, Writes, WritesAll};
+ghost use Rattle.hunk_commands.specs.Engine.{PutsOrRefuses, ReadsThenPuts};
 ghost use Rattle.hunk_commands.specs.Shown.{IsShown, file_listing};
 
 use crate::fault::RunFault;
@@ -37,17 +34,8 @@ pub fn show<R: Source, W: Sink>(
     w: &mut LongWriter<W>,
     file_bytes: u64,
 ) -> Result<(), RunFault>
-    requires { w.old.written ≡ 0 }
-    ensures shows { OnOk result (WritesAll IsShown
-        (R.left r.old) (R.left r.new) file_bytes
-        (W.taken w.old.sink) (W.taken w.new.sink) w.new.written) }
-
-    // After a fault of writing the first bytes of the text have gone out, and after another one
-    // nothing has, by `reads_then_puts`, which also says what is read and when nothing fails.
-    ensures write { IfErr result (StopsAtWrite w.new.written (Writes IsShown
-        (R.left r.old) (R.left r.new) file_bytes (W.taken w.old.sink) (W.taken w.new.sink))) }
-    ensures reads_then_puts { ReadsThenPuts R.left R.failed r.old r.new file_bytes
-        W.failed w.old w.new result }
+    ensures { ReadsThenPuts W.outlet (λ (_ : Unit). IsShown)
+        (R.supply r.old) (R.supply r.new) file_bytes w.old w.new result }
 {
     let input = read_whole(alloc, r, file_bytes)?;
     show_bytes(input.as_slice(), w)
@@ -62,13 +50,7 @@ pub fn show<R: Source, W: Sink>(
 ///   then, and the writer is as it was.
 /// - `Write` where the writer failed: just the first `written` bytes of the listing have gone out.
 pub fn show_bytes<W: Sink>(bytes: &[u8], w: &mut LongWriter<W>) -> Result<(), RunFault>
-    requires { w.old.written ≡ 0 }
-    ensures shows { OnOk result (PutsAll (IsShown bytes.now)
-        (W.taken w.old.sink) (W.taken w.new.sink) w.new.written) }
-    ensures write { IfErr result (StopsAtWrite w.new.written (PutsFirst (IsShown bytes.now)
-        (W.taken w.old.sink) (W.taken w.new.sink))) }
-    ensures puts_or_refuses { PutsOrRefuses bytes.now W.failed w.old w.new result }
-    ensures memory { IfErr result (λ fault. fault ≢ Memory) }
+    ensures { PutsOrRefuses W.outlet (λ (_ : Unit). IsShown bytes.now) bytes.now w.old w.new result }
 {
     let file = FileView::read(bytes)?;
     put_listing(w, &file)?;
@@ -78,7 +60,7 @@ pub fn show_bytes<W: Sink>(bytes: &[u8], w: &mut LongWriter<W>) -> Result<(), Ru
 /// Puts the listing of the file.
 #[inline(never)]
 fn put_listing<W: Sink>(w: &mut LongWriter<W>, file: &FileView<'_>) -> Result<(), WriteFault>
-    ensures { PutsText W.taken W.failed w.old w.new (file_listing (file_of file.now)) result }
+    ensures { PutsText W.outlet w.old w.new (file_listing (file_of file.now)) result }
 {
     let mut page = Printer::new(w);
     print_listing(&mut page, file);

@@ -1,13 +1,11 @@
 //! `validate`: a file is checked.
-ghost use Rattle.std.specs.Prelude.{◌≡◌, ◌≢◌, IfOk, IfErr};
+ghost use Rattle.std.specs.Prelude.{◌≡◌, IfOk};
 ghost use Rattle.hunk_files.specs.FileView.{file_of};
 ghost use Rattle.hunk_words.specs.Prints.{Prints};
 ghost use Rattle.hunk_words.specs.Puts.{PutsText};
-ghost use Rattle.hunk_commands.specs.declared.fault.RunFault.TheVariants.{Memory};
-ghost use Rattle.hunk_commands.specs.Engine.{PutsAll, PutsFirst, PutsOrRefuses};
-ghost use Rattle.hunk_commands.specs.Engine.{ReadsThenPuts, StopsAtWrite, Writes, WritesAll};
+ghost use Rattle.hunk_commands.specs.Engine.{PutsOrRefuses, ReadsThenPuts};
 ghost use Rattle.hunk_commands.specs.Reports.{finding_count, report};
-ghost use Rattle.hunk_commands.specs.Validated.{IsReport, IsValidated};
+ghost use Rattle.hunk_commands.specs.Validated.{IsValidated};
 
 use crate::fault::RunFault;
 use crate::input::read_whole;
@@ -38,17 +36,8 @@ pub fn validate<R: Source, W: Sink>(
     w: &mut LongWriter<W>,
     file_bytes: u64,
 ) -> Result<u64, RunFault>
-    requires { w.old.written ≡ 0 }
-    ensures validates { IfOk result (λ count. WritesAll (IsValidated count)
-        (R.left r.old) (R.left r.new) file_bytes
-        (W.taken w.old.sink) (W.taken w.new.sink) w.new.written) }
-
-    // After a fault of writing the first bytes of the text have gone out, and after another one
-    // nothing has, by `reads_then_puts`, which also says what is read and when nothing fails.
-    ensures write { IfErr result (StopsAtWrite w.new.written (Writes IsReport
-        (R.left r.old) (R.left r.new) file_bytes (W.taken w.old.sink) (W.taken w.new.sink))) }
-    ensures reads_then_puts { ReadsThenPuts R.left R.failed r.old r.new file_bytes
-        W.failed w.old w.new result }
+    ensures { ReadsThenPuts W.outlet IsValidated
+        (R.supply r.old) (R.supply r.new) file_bytes w.old w.new result }
 {
     let input = read_whole(alloc, r, file_bytes)?;
     validate_bytes(input.as_slice(), w)
@@ -63,13 +52,8 @@ pub fn validate<R: Source, W: Sink>(
 ///   then, and the writer is as it was.
 /// - `Write` where the writer failed: just the first `written` bytes of the report have gone out.
 pub fn validate_bytes<W: Sink>(bytes: &[u8], w: &mut LongWriter<W>) -> Result<u64, RunFault>
-    requires { w.old.written ≡ 0 }
-    ensures validates { IfOk result (λ count. PutsAll (IsValidated count bytes.now)
-        (W.taken w.old.sink) (W.taken w.new.sink) w.new.written) }
-    ensures write { IfErr result (StopsAtWrite w.new.written (PutsFirst (IsReport bytes.now)
-        (W.taken w.old.sink) (W.taken w.new.sink))) }
-    ensures puts_or_refuses { PutsOrRefuses bytes.now W.failed w.old w.new result }
-    ensures memory { IfErr result (λ fault. fault ≢ Memory) }
+    ensures { PutsOrRefuses W.outlet (λ count. IsValidated count bytes.now)
+        bytes.now w.old w.new result }
 {
     let file = FileView::read(bytes)?;
     let count = put_report(w, &file)?;
@@ -79,7 +63,7 @@ pub fn validate_bytes<W: Sink>(bytes: &[u8], w: &mut LongWriter<W>) -> Result<u6
 /// Puts the report of the file, and answers how much is found in it.
 #[inline(never)]
 fn put_report<W: Sink>(w: &mut LongWriter<W>, file: &FileView<'_>) -> Result<u64, WriteFault>
-    ensures puts { PutsText W.taken W.failed w.old w.new (report (file_of file.now)) result }
+    ensures puts { PutsText W.outlet w.old w.new (report (file_of file.now)) result }
     ensures count { IfOk result (λ count. count ≡ finding_count (file_of file.now)) }
 {
     let mut page = Printer::new(w);

@@ -1,21 +1,9 @@
-use Rattle.hunk_commands.proofs.Engines.{all_of_input, first_of_input, reads_then_puts}
-use Rattle.hunk_commands.specs.Engine.{PutsAll}
-use Rattle.std.proofs.Common.{ℕ, List}
+use Rattle.hunk_commands.proofs.Engines.{reads_then_puts}
 use Rattle.hunk_commands.specs.Shown.{IsShown}
 use Rattle.hunk_commands.proofs.showing.show.Goals as goal
 
-pub returns-clause-shows : goal.returns-clause-shows
-returns-clause-shows g c =
-    all_of_input _ _ c.args.file_bytes c.in_ok-input.input.items c.as_slice.result.now c.in_ok-input.ensures.reads c.as_slice.ensures.value
-    (λ _ (input : List ℕ). PutsAll (IsShown input) (g.W.Sink.taken c.args.w.now.sink) (g.W.Sink.taken c.show_bytes.new.w.sink) c.show_bytes.new.w.written) c.show_bytes.result c.show_bytes.ensures.shows
-
-pub returns-clause-write : goal.returns-clause-write
-returns-clause-write g c =
-    first_of_input _ _ c.args.file_bytes c.in_ok-input.input.items c.as_slice.result.now c.in_ok-input.ensures.reads c.as_slice.ensures.value
-    IsShown _ _ _ c.show_bytes.result c.show_bytes.ensures.write
-
-pub returns-clause-reads_then_puts : goal.returns-clause-reads_then_puts
-returns-clause-reads_then_puts g c =
-    reads_then_puts g.R.Source.left g.R.Source.failed c.args.r.now c.read_whole.new.source c.args.file_bytes g.W.Sink.failed c.args.w.now c.show_bytes.new.w
+pub returns : goal.returns
+returns g c =
+    reads_then_puts g.W.Sink.outlet (λ _. IsShown) (g.R.Source.supply c.args.r.now) (g.R.Source.supply c.read_whole.new.source) c.args.file_bytes c.args.w.now c.show_bytes.new.w
     c.in_ok-input.input.items c.as_slice.result.now c.show_bytes.result c.in_ok-input.ensures.reads c.as_slice.ensures.value
-    c.in_ok-input.ensures.reads_at_most.sound c.in_ok-input.ensures.reads_at_most.limit c.show_bytes.ensures.puts_or_refuses
+    c.in_ok-input.ensures.reads_at_most.sound c.in_ok-input.ensures.reads_at_most.limit c.show_bytes.ensures
