@@ -109,10 +109,10 @@ macro_rules! by_kind {
     };
 }
 
-/// Where `left` hunks are left. The file ends with the END of its last hunk: this project's own
-/// choice.
+/// Where `left` hunks of a file of `hunks` are left. The file ends with the END of its last hunk:
+/// this project's own choice.
 #[inline(always)]
-pub(crate) fn open_next(hunks: u32, left: u32) -> Position
+pub fn open_next(hunks: u32, left: u32) -> Position
     ensures { result ≡ positions.open_next hunks left }
 {
     if left == 0 {

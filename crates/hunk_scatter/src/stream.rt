@@ -16,7 +16,7 @@ pub use crate::header_state::{HeaderSize, header_size};
 pub use crate::store::BodyState;
 use crate::store::{take_front, take_word};
 use hunk_files::Row;
-use hunk_grammar::Position;
+use hunk_grammar::{Position, open_next};
 pub use hunk_words::Pending;
 use hunk_words::{LoadFault, MOST_HUNKS, Reason};
 use std::error::Error;
@@ -67,7 +67,7 @@ impl Standing {
             state: BodyState {
                 start: 0,
                 hunk: 0,
-                position: Position::behind_table(hunks),
+                position: open_next(hunks, hunks),
             },
             fed,
             pending: Pending::none(),
