@@ -10,7 +10,7 @@ use Rattle.hunk_words.proofs.LongLaws.{length-longs}
 use Rattle.hunk_files.specs.Fault.{HasRefusal}
 use Rattle.hunk_files.specs.LoadText.{text}
 use Rattle.hunk_files.proofs.Scan.{no_fault}
-use Rattle.hunk_scatter.specs.LoaderValues.{MayGoOnInFile, IsBodyRefusal}
+use Rattle.hunk_scatter.specs.LoaderValues.{IsBodyRefusal, MayGoOnInFile}
 
 pub longs-more : (bytes more : List ℕ) → (rest : List ℕ) × (longs (bytes ++ more) ≡ longs bytes ++ rest)
 longs-more [] more = (longs more, refl)

@@ -41,23 +41,18 @@ module _ (ws : List ℕ) where
 
 -- ---- the entries
 
+-- None is of more than two longwords.
+pub entries_most : (ws : List ℕ) → length ws ≤ 2 * length (entries_in ws) + 1
+entries_most [] = omega arith
+entries_most (w ∷ []) = omega arith
+entries_most (w ∷ x ∷ ws) = grind (arith, entries_most ws, entries_most (x ∷ ws))
+
 entries-plain : (w : ℕ) (ws : List ℕ) → has_both_bits w ≡ false → entries_in (w ∷ ws) ≡ table_entry w 0 ∷ entries_in ws
 entries-plain w [] e = passes_else (has_both_bits w) [] (table_entry w 0 ∷ []) e
 entries-plain w (x ∷ ws) e = passes_else (has_both_bits w) (table_entry w x ∷ entries_in ws) (table_entry w 0 ∷ entries_in (x ∷ ws)) e
 
 entries-full : (w x : ℕ) (ws : List ℕ) → has_both_bits w ≡ true → entries_in (w ∷ x ∷ ws) ≡ table_entry w x ∷ entries_in ws
 entries-full w x ws e = passes_then (has_both_bits w) (table_entry w x ∷ entries_in ws) (table_entry w 0 ∷ entries_in (x ∷ ws)) e
-
--- None is of more than two longwords.
-pub entries_most : (ws : List ℕ) → length ws ≤ 2 * length (entries_in ws) + 1
-entries_most [] = omega arith
-entries_most (w ∷ []) = omega arith
-entries_most (w ∷ x ∷ ws) = go (has_both_bits w) refl (entries_most ws) (entries_most (x ∷ ws))
-  where
-    go : (b : Bool) → has_both_bits w ≡ b → length ws ≤ 2 * length (entries_in ws) + 1 → length (x ∷ ws) ≤ 2 * length (entries_in (x ∷ ws)) + 1
-        → length (w ∷ x ∷ ws) ≤ 2 * length (entries_in (w ∷ x ∷ ws)) + 1
-    go true e full plain = omega (arith, ap length (entries-full w x ws e), full)
-    go false e full plain = omega (arith, ap length (entries-plain w (x ∷ ws) e), plain)
 
 entry_first : (e : TableEntry) → IsTableEntry e → (ws : List ℕ) → entries_in (words (entry_labelled e) ++ ws) ≡ e ∷ entries_in ws
 entry_first e h ws = go (has_both_bits e.word) refl

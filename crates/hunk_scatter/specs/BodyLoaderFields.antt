@@ -94,12 +94,12 @@ pub record TakesOrRefuses (rows : List Row) (store : List ℕ) (state : BodyStat
 -- ---- a piece
 
 -- This many bytes of the piece are consumed, all of them unless the file is whole then.
-pub record FeedsPiece (old : BodyLoaderValue) (piece : List ℕ) (new : BodyLoaderValue) (n : ℕ) : Type 0 where
-  pub taken : FeedsFront old.fed piece new.fed n
-  pub all : n < length piece → IsWholeFile new.rows new.fed
-  pub inside_file : GoesPastNoFile new.fed
+pub record FeedsPiece (rows : List Row) (fed piece after : List ℕ) (n : ℕ) : Type 0 where
+  pub taken : FeedsFront fed piece after n
+  pub all : n < length piece → IsWholeFile rows after
+  pub inside_file : GoesPastNoFile after
 
 -- The piece is consumed, or the loader keeps why it is refused.
 pub record FeedsOrRefuses (old : BodyLoaderValue) (piece : List ℕ) (new : BodyLoaderValue) (n : ℕ) : Type 0 where
   pub rows : new.rows ≡ old.rows
-  pub feeds : MatchOption new.refused (FeedsPiece old piece new n) (λ f. IsBodyRefusal (old.fed ++ piece) f × IsTrue (is_of_body f.reason) × (new.fed ≡ old.fed))
+  pub feeds : MatchOption new.refused (FeedsPiece new.rows old.fed piece new.fed n) (λ f. IsBodyRefusal (old.fed ++ piece) f × IsTrue (is_of_body f.reason) × (new.fed ≡ old.fed))

@@ -11,7 +11,7 @@ ghost use Rattle.hunk_files.specs.LoadFile.{LoadFileValue, IsLoadFile};
 ghost use Rattle.hunk_files.specs.LoadText.{text};
 ghost use Rattle.hunk_scatter.specs.LoaderReasons.{is_of_body};
 ghost use Rattle.hunk_scatter.specs.LoaderValues.{FeedsFront, HasNoRefusal, IsImageOf, IsWholeFile};
-ghost use Rattle.hunk_scatter.specs.LoaderValues.{MayGoOnInFile, IsBodyRefusal};
+ghost use Rattle.hunk_scatter.specs.LoaderValues.{IsBodyRefusal, MayGoOnInFile};
 ghost use Rattle.hunk_scatter.specs.BodyLoaderFields.{FeedsOrRefuses};
 ghost use Rattle.hunk_scatter.specs.LoadOutcomes.{GoesPastNoFile};
 ghost use Rattle.hunk_scatter.specs.Owing.{BytesToCome, most_want};

@@ -86,6 +86,7 @@ impl HeaderLoader {
     }
 
     /// Takes a byte, or a longword that lies whole in the piece, unless the header is whole.
+    #[tactic(auto, using(crate::proofs::HeaderFields::heading_few, crate::proofs::HeaderFields::heading_room))]
     fn take_long(&mut self, piece: &[u8]) -> Result<usize, LoadFault>
         requires reading { self.old.refused ≡ None }
         requires nonempty { 0 < length piece.now }

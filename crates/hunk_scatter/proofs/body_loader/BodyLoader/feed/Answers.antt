@@ -1,19 +1,17 @@
-use Rattle.std.proofs.Common.{◌≡◌, ◌++◌, ◌∙◌, ℕ, List, Option, None, Some, Ok, inr, length, take, length-take, ap, refl, sym, subst, arith}
-use Rattle.std.specs.Prelude.{IsTrue, MatchOption}
+use Rattle.std.proofs.Common.{◌≡◌, ◌++◌, ◌∙◌, ℕ, List, None, Some, Ok, inr, length, take, length-take, ap, refl, sym, arith}
 use Rattle.hunk_words.specs.declared.fault.Fault.{Fault}
 use Rattle.hunk_scatter.specs.BodyLoaderFields.{FeedsOrRefuses, FeedsPiece}
 use Rattle.hunk_scatter.specs.LoaderValues.{BodyLoaderValue, IsBodyRefusal}
-use Rattle.hunk_scatter.specs.LoaderReasons.{is_of_body}
 use Rattle.hunk_scatter.proofs.Faults.{no_refusal_on}
 use Rattle.hunk_scatter.proofs.body_loader.BodyLoader.feed.Goals.{in-Some-refused, in-None}
 use Rattle.hunk_scatter.proofs.body_loader.BodyLoader.feed.Goals as goal
 
 module _ (old : BodyLoaderValue) (piece : List ℕ) (new : BodyLoaderValue) (n : ℕ) (e : FeedsOrRefuses old piece new n) where
-  feeds : new.refused ≡ None → FeedsPiece old piece new n
-  feeds none = subst (λ (o : Option Fault). MatchOption o (FeedsPiece old piece new n) (λ f. IsBodyRefusal (old.fed ++ piece) f × IsTrue (is_of_body f.reason) × (new.fed ≡ old.fed))) none e.feeds
+  feeds : new.refused ≡ None → FeedsPiece new.rows old.fed piece new.fed n
+  feeds none = rw (none) at e.feeds
 
   refuses : (f : Fault) → new.refused ≡ Some f → IsBodyRefusal (old.fed ++ piece) f
-  refuses f is = (subst (λ (o : Option Fault). MatchOption o (FeedsPiece old piece new n) (λ f. IsBodyRefusal (old.fed ++ piece) f × IsTrue (is_of_body f.reason) × (new.fed ≡ old.fed))) is e.feeds).0
+  refuses f is = (rw (is) at e.feeds).0
 
 pub returns-clause-all : goal.returns-clause-all
 returns-clause-all c = elim c.match-self-2.branch [

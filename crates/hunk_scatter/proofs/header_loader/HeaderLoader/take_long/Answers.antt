@@ -2,18 +2,8 @@ use Rattle.std.proofs.Common.{rules, ◌+◌, ◌-◌, ◌<◌, List, ℕ, ◌++
 use Rattle.hunk_scatter.specs.HeaderLoaderFields.{HeaderStop}
 use Rattle.hunk_scatter.specs.LoaderValues.{HeaderLoaderValue}
 use Rattle.hunk_scatter.proofs.Completing.{completes}
-use Rattle.hunk_scatter.proofs.HeaderFields.{heading_as, heading_few, heading_word, heading_stop, heading_four, heading_room, heading_unrefused, heading_seen_whole, heading_seen_not_whole, heading_feeds}
+use Rattle.hunk_scatter.proofs.HeaderFields.{heading_as, heading_word, heading_stop, heading_four, heading_unrefused, heading_seen_whole, heading_seen_not_whole, heading_feeds}
 use Rattle.hunk_scatter.proofs.header_loader.HeaderLoader.take_long.Goals as goal
-
-pub take_header_word-requires-clause-room : goal.take_header_word-requires-clause-room
-take_header_word-requires-clause-room c =
-    heading_room _ _ _ _ _ (c.self.invariant.reading (heading_unrefused _ _ _ _ _ _ _ c.self.invariant _ c.self.view_is c.requires.reading)) c.self.invariant.few_rows
-
-pub overflow_add-count : goal.overflow_add-count
-overflow_add-count c =
-    let none = heading_unrefused _ _ _ _ _ _ _ c.self.invariant _ c.self.view_is c.requires.reading in
-    let few = heading_few _ _ _ _ _ (c.self.invariant.reading none) c.self.invariant.few_rows in
-    omega (arith, few, c.self.invariant.counted, c.take_front-taken.ensures.few)
 
 pub invariant_of-self-in-Ok : goal.invariant_of-self-in-Ok
 invariant_of-self-in-Ok c =
