@@ -1,35 +1,30 @@
--- Why nothing is printed of an input. Of its source a was left before and b is left now; `failed` is whether it has failed.
-use Rattle.std.specs.Prelude.{◌≡◌, ◌⊎◌, ◌+◌, ℕ, Bool, true, false, List, Option, Some}
-use Rattle.hunk_words.specs.declared.fault.Fault.{Fault}
-use Rattle.hunk_words.specs.declared.reason.Reason.TheVariants.{FileLimit}
-use Rattle.hunk_scatter.specs.LoadOutcomes.{Gives, IsLoadFault}
-use Rattle.hunk_commands.specs.declared.fault.RunFault.TheVariants.{Refused}
+-- Why nothing is printed of an input.
+use Rattle.std.specs.Prelude.{◌⊎◌, ◌+◌, ℕ, Bool, true, false, List}
+use Rattle.hunk_words.specs.Carriers.{Supply}
+use Rattle.hunk_scatter.specs.LoadOutcomes.{Gives}
+use Rattle.hunk_commands.specs.declared.fault.RunFault.{RunFault}
 use Rattle.hunk_run.specs.declared.listing.Listing.{Listing}
 use Rattle.hunk_run.specs.declared.listing.Listing.TheVariants as listings
-use Rattle.hunk_commands.specs.Engine.{RefusesOnly}
+use Rattle.hunk_commands.specs.Engine.{ReadsNoFile}
 use Rattle.hunk_commands.specs.HexText.{ReadsHex}
-use Rattle.hunk_commands.specs.Inputs.{Gave}
-use Rattle.hunk_scatter.specs.Placing.{packed_from}
+use Rattle.hunk_commands.specs.Relocating.{StopsLoading}
+use Rattle.hunk_run.specs.Inputs.{slice}
+use Rattle.hunk_run.specs.Runs.{ReadsNoText}
 
--- its bytes are refused, of which at most this many are read
-abbrev pub RefusesListing : Listing → Fault → Option (List ℕ) → Option (List ℕ) → ℕ → Bool → Type 0
-RefusesListing listings.Show refusal a b most failed = RefusesOnly a b most (Refused refusal)
-RefusesListing listings.Validate refusal a b most failed = RefusesOnly a b most (Refused refusal)
-RefusesListing (listings.Relocate base budget) refusal a b most failed =
-    (given : List ℕ) × Gives a b most given × IsLoadFault (packed_from base) budget most b failed given refusal
+-- it was not read, or its bytes are refused, of which at most this many are read
+abbrev pub StopsListing : Listing → Supply → Supply → ℕ → RunFault → Type 0
+StopsListing listings.Show before after most fault = ReadsNoFile before after most fault
+StopsListing listings.Validate before after most fault = ReadsNoFile before after most fault
+StopsListing (listings.Relocate base budget) before after most fault =
+    (given : List ℕ) × Gives before after most given × StopsLoading base (record { budget = budget; file_bytes = most }) before after given fault
 
--- its text, of at most this many bytes, spells bytes that are refused
-pub record RefusesSpelled (listing : Listing) (refusal : Fault) (a b : Option (List ℕ)) (most : ℕ) : Type 0 where
+-- its text, of at most this many bytes, spells bytes of which nothing is printed
+pub record StopsSpelled (listing : Listing) (before after : Supply) (most : ℕ) (fault : RunFault) : Type 0 where
   pub bytes : List ℕ
-  pub read : ReadsHex a b (most + 1) bytes
-  pub left : Option (List ℕ)
-  pub refuses : RefusesListing listing refusal (Some bytes) left most false
+  pub read : ReadsHex before after (most + 1) bytes
+  pub rest : List ℕ
+  pub stops : StopsListing listing (slice bytes) (slice rest) most fault
 
--- its text is too long, or spells such bytes
-abbrev pub RefusesText : Listing → Fault → Option (List ℕ) → Option (List ℕ) → ℕ → Type 0
-RefusesText listing refusal a b most =
-    ((refusal.reason ≡ FileLimit) × (refusal.place ≡ most) × Gave a b (most + 1)) ⊎ RefusesSpelled listing refusal a b most
-
-abbrev pub RefusesSource : Bool → Listing → Fault → Option (List ℕ) → Option (List ℕ) → ℕ → Bool → Type 0
-RefusesSource true listing refusal a b most failed = RefusesText listing refusal a b most
-RefusesSource false listing refusal a b most failed = RefusesListing listing refusal a b most failed
+abbrev pub StopsSource : Bool → Listing → Supply → Supply → ℕ → RunFault → Type 0
+StopsSource true listing before after most fault = ReadsNoText fault before after most ⊎ StopsSpelled listing before after most fault
+StopsSource false listing before after most fault = StopsListing listing before after most fault

@@ -1,7 +1,7 @@
--- What a run has done: its output is a writer that is old before it and new after it. `taken` tells the bytes that a sink has taken, and `failed` whether it has failed.
-use Rattle.std.specs.Prelude.{◌≡◌, ◌⊎◌, ◌+◌, ◌++◌, ℕ, Bool, true, false, List, Option, length, string_bytes}
+-- What a run has done: its output is a writer that is old before it and new after it.
+use Rattle.std.specs.Prelude.{◌≡◌, ◌⊎◌, ◌+◌, ◌++◌, ℕ, Bool, true, false, List, length, string_bytes}
 use Rattle.std.specs.Io.KnownBytes.{Consumes, IsAtEnd}
-use Rattle.hunk_words.specs.Carriers.{Writing, saturated}
+use Rattle.hunk_words.specs.Carriers.{Outlet, Supply, Writing, saturated}
 use Rattle.hunk_words.specs.Longs.{bytes_of}
 use Rattle.hunk_words.specs.declared.reason.Reason.TheVariants as reasons
 use Rattle.hunk_files.specs.LoadFile.{LoadFileValue, IsLoadFile}
@@ -27,10 +27,10 @@ use Rattle.hunk_listing.specs.RewritingLines.{left_out_line, wrote_line}
 use Rattle.hunk_run.specs.Status.{PrintsOrFails, with_newline}
 
 -- what is printed where the words are no order, and the status
-abbrev pub PrintsRefusal : {W : Type 0} → (W → Option (List ℕ)) → (W → Bool) → Writing W → Writing W → OrderFault → ℕ → Type 0
-PrintsRefusal taken failed old new Line status = PrintsOrFails taken failed old new (with_newline (fault_text Line)) 2 status
-PrintsRefusal taken failed old new (Help text) status = PrintsOrFails taken failed old new (string_bytes text) 0 status
-PrintsRefusal taken failed old new Memory status = PrintsOrFails taken failed old new (with_newline (line_of faults.Memory)) 4 status
+abbrev pub PrintsRefusal : {W : Type 0} → (W → Outlet) → Writing W → Writing W → OrderFault → ℕ → Type 0
+PrintsRefusal outlet old new Line status = PrintsOrFails outlet old new (with_newline (fault_text Line)) 2 status
+PrintsRefusal outlet old new (Help text) status = PrintsOrFails outlet old new (string_bytes text) 0 status
+PrintsRefusal outlet old new Memory status = PrintsOrFails outlet old new (with_newline (line_of faults.Memory)) 4 status
 
 -- what is printed of an input in which nothing is amiss
 abbrev pub IsListed : Listing → List ℕ → List ℕ → Type 0
@@ -39,11 +39,11 @@ IsListed listings.Validate input text = IsValidated 0 input text
 IsListed (listings.Relocate base budget) input text = IsRelocated base budget input text
 
 -- the output has taken what is printed of some input, and nothing else
-pub record Lists {W : Type 0} (taken : W → Option (List ℕ)) (old new : Writing W) (listing : Listing) : Type 0 where
+pub record Lists {W : Type 0} (outlet : W → Outlet) (old new : Writing W) (listing : Listing) : Type 0 where
   pub input : List ℕ
   pub text : List ℕ
   pub is_listed : IsListed listing input text
-  pub takes : Takes taken old new text
+  pub takes : Takes outlet old new text
 
 -- Some input was rewritten, and the text says how many bytes were written and how many left out.
 pub record TellsRewriting (strip : Bool) (text : List ℕ) : Type 0 where
@@ -54,22 +54,22 @@ pub record TellsRewriting (strip : Bool) (text : List ℕ) : Type 0 where
   pub text_is : text ≡ wrote_line (saturated (length output)) ++ left_out_line rest
 
 -- the output has taken what is printed of some rewriting, and nothing else
-pub record Rewrites {W : Type 0} (taken : W → Option (List ℕ)) (old new : Writing W) (strip : Bool) : Type 0 where
+pub record Rewrites {W : Type 0} (outlet : W → Outlet) (old new : Writing W) (strip : Bool) : Type 0 where
   pub text : List ℕ
   pub tells : TellsRewriting strip text
-  pub takes : Takes taken old new text
+  pub takes : Takes outlet old new text
 
 -- what the order asks for is done
-abbrev pub IsOrderDone : {W : Type 0} → (W → Option (List ℕ)) → Writing W → Writing W → Order → Type 0
-IsOrderDone taken old new (orders.Show hex file) = Lists taken old new listings.Show
-IsOrderDone taken old new (orders.Validate hex file) = Lists taken old new listings.Validate
-IsOrderDone taken old new (orders.Relocate hex base budget file) = Lists taken old new (listings.Relocate base budget)
-IsOrderDone taken old new (orders.Rewrite strip input output) = Rewrites taken old new strip
+abbrev pub IsOrderDone : {W : Type 0} → (W → Outlet) → Writing W → Writing W → Order → Type 0
+IsOrderDone outlet old new (orders.Show hex file) = Lists outlet old new listings.Show
+IsOrderDone outlet old new (orders.Validate hex file) = Lists outlet old new listings.Validate
+IsOrderDone outlet old new (orders.Relocate hex base budget file) = Lists outlet old new (listings.Relocate base budget)
+IsOrderDone outlet old new (orders.Rewrite strip input output) = Rewrites outlet old new strip
 
 -- the words are no order, or memory ran out; no help is printed
-abbrev pub PrintsNoHelp : {W : Type 0} → (W → Option (List ℕ)) → (W → Bool) → Writing W → Writing W → ℕ → Type 0
-PrintsNoHelp taken failed old new status =
-    PrintsRefusal taken failed old new Line status ⊎ PrintsRefusal taken failed old new Memory status
+abbrev pub PrintsNoHelp : {W : Type 0} → (W → Outlet) → Writing W → Writing W → ℕ → Type 0
+PrintsNoHelp outlet old new status =
+    PrintsRefusal outlet old new Line status ⊎ PrintsRefusal outlet old new Memory status
 
 -- the bytes of the input, which what was given is, or where `hex` is set spells
 abbrev pub IsInput : Bool → List ℕ → List ℕ → Type 0
@@ -77,24 +77,24 @@ IsInput true given input = SpellsHex given input
 IsInput false given input = input ≡ given
 
 -- Where the reading stops: at the end of the source, or right after a load file that is loaded as it comes.
-abbrev pub StopsReading : Bool → Listing → List ℕ → Option (List ℕ) → Type 0
-StopsReading true listing given b = IsAtEnd b
-StopsReading false listings.Show given b = IsAtEnd b
-StopsReading false listings.Validate given b = IsAtEnd b
-StopsReading false (listings.Relocate base budget) given b = (file : LoadFileValue) × IsLoadFile file × (given ≡ bytes_of (text file))
+abbrev pub StopsReading : Bool → Listing → List ℕ → Supply → Type 0
+StopsReading true listing given after = IsAtEnd after.left
+StopsReading false listings.Show given after = IsAtEnd after.left
+StopsReading false listings.Validate given after = IsAtEnd after.left
+StopsReading false (listings.Relocate base budget) given after = (file : LoadFileValue) × IsLoadFile file × (given ≡ bytes_of (text file))
 
--- Of the source a was left before and b is left now. The output has taken what is printed of the input that it gave.
-pub record ListsSource {W : Type 0} (hex : Bool) (listing : Listing) (a b : Option (List ℕ)) (taken : W → Option (List ℕ)) (old new : Writing W) : Type 0 where
+-- The output has taken what is printed of the input that the source gave.
+pub record ListsSource {W : Type 0} (outlet : W → Outlet) (hex : Bool) (listing : Listing) (before after : Supply) (old new : Writing W) : Type 0 where
   pub given : List ℕ
-  pub consumed : Consumes a b given
-  pub stops : StopsReading hex listing given b
+  pub consumed : Consumes before.left after.left given
+  pub stops : StopsReading hex listing given after
   pub input : List ℕ
   pub is_input : IsInput hex given input
   pub text : List ℕ
   pub is_listed : IsListed listing input text
-  pub takes : Takes taken old new text
+  pub takes : Takes outlet old new text
 
--- why no bytes were read that a text of at most this many bytes spells; `failed` is whether the source failed
-abbrev pub ReadsNoText : RunFault → Option (List ℕ) → Option (List ℕ) → ℕ → Bool → Type 0
-ReadsNoText (faults.Refused refusal) a b most failed = (refusal.reason ≡ reasons.FileLimit) × (refusal.place ≡ most) × Gave a b (most + 1)
-ReadsNoText fault a b most failed = ReadsNoHex fault a b (most + 1) failed
+-- why no bytes were read that a text of at most this many bytes spells
+abbrev pub ReadsNoText : RunFault → Supply → Supply → ℕ → Type 0
+ReadsNoText (faults.Refused refusal) before after most = (refusal.reason ≡ reasons.FileLimit) × (refusal.place ≡ most) × Gave before after (most + 1)
+ReadsNoText fault before after most = ReadsNoHex fault before after (most + 1)

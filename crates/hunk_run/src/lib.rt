@@ -1,13 +1,12 @@
 //! A run of the program hunkinfo: the words are read, what they ask for is done, and one text is printed, once.
 #![tactic(auto)]
 
-ghost use Rattle.std.specs.Prelude.{◌≡◌, ◌≤◌, map, true, Some, None, IfErr};
+ghost use Rattle.std.specs.Prelude.{◌≡◌, ◌≤◌, map, true, Some, None};
 ghost use Rattle.std.specs.String.{string_bytes};
 ghost use Rattle.clap.specs.Words.{takes};
 ghost use Rattle.clap.specs.Kinds.{IsAmong};
 ghost use Rattle.clap.specs.Faults.{fault_of};
 ghost use Rattle.clap.specs.declared.error.kind.ErrorKind.TheVariants.{DisplayHelp};
-ghost use Rattle.hunk_commands.specs.Faults.{IsWrite};
 ghost use Rattle.hunk_command_line.specs.declared.asked.Order.{Order};
 ghost use Rattle.hunk_run.specs.Status.{EndsListing, EndsRewriting, PrintsFault};
 ghost use Rattle.hunk_run.specs.Status.{PrintsOrFails, TellsStatus};
@@ -49,25 +48,24 @@ pub fn run<T: Files + Input, W: Sink>(
     words: &[String],
     out: &mut LongWriter<W>,
 ) -> u8
-    requires { out.old.written ≡ 0 }
     ensures bound { result ≤ 4 }
-    ensures tells { TellsStatus W.taken W.failed out.old out.new result }
+    ensures tells { TellsStatus W.outlet out.old out.new result }
 
     // Where clap takes the words: they are an order, which is done where the status is 0, or they
     // are refused.
     ensures done { (order : Order) → takes hunkinfo (words_read (map string_bytes words.now)) ≡ true
         → order_of (map string_bytes words.now) ≡ Some order → result ≡ 0
-        → IsOrderDone W.taken out.old out.new order }
+        → IsOrderDone W.outlet out.old out.new order }
     ensures refused { takes hunkinfo (words_read (map string_bytes words.now)) ≡ true
         → order_of (map string_bytes words.now) ≡ None
-        → PrintsNoHelp W.taken W.failed out.old out.new result }
+        → PrintsNoHelp W.outlet out.old out.new result }
 
     // Where no help is asked for, the status is 0 only where the words are an order, and it is
     // done.
     ensures heard { (IsAmong DisplayHelp
         (fault_of hunkinfo (words_read (map string_bytes words.now))) → ⊥) → result ≡ 0
         → (order : Order) × (order_of (map string_bytes words.now) ≡ Some order)
-        × IsOrderDone W.taken out.old out.new order }
+        × IsOrderDone W.outlet out.old out.new order }
 {
     match order(alloc, words) {
         Ok(order) => carry_out(rt, alloc, &order, out),
@@ -77,10 +75,9 @@ pub fn run<T: Files + Input, W: Sink>(
 
 /// Prints why there is no order, and gives the exit status.
 pub fn refuse<W: Sink>(fault: &OrderFault, out: &mut LongWriter<W>) -> u8
-    requires { out.old.written ≡ 0 }
     ensures bound { result ≤ 4 }
-    ensures printed { PrintsRefusal W.taken W.failed out.old out.new fault.now result }
-    ensures tells { TellsStatus W.taken W.failed out.old out.new result }
+    ensures printed { PrintsRefusal W.outlet out.old out.new fault.now result }
+    ensures tells { TellsStatus W.outlet out.old out.new result }
 {
     match fault {
         OrderFault::Line => print("command line refused\n", LINE_REFUSED, out),
@@ -96,10 +93,9 @@ fn carry_out<T: Files + Input, W: Sink>(
     order: &Order,
     out: &mut LongWriter<W>,
 ) -> u8
-    requires { out.old.written ≡ 0 }
     ensures bound { result ≤ 4 }
-    ensures done { result ≡ 0 → IsOrderDone W.taken out.old out.new order.now }
-    ensures tells { TellsStatus W.taken W.failed out.old out.new result }
+    ensures done { result ≡ 0 → IsOrderDone W.outlet out.old out.new order.now }
+    ensures tells { TellsStatus W.outlet out.old out.new result }
 {
     let (listing, hex, file) = match order {
         Order::Show { hex, file } => (Listing::Show, hex, file),
@@ -128,8 +124,7 @@ fn carry_out<T: Files + Input, W: Sink>(
 
 /// Ends the run that was to list an input, and gives the exit status.
 fn end_listing<W: Sink>(alloc: Global, answer: Result<u8, RunFault>, out: &mut LongWriter<W>) -> u8
-    requires { IfErr answer (λ fault. ¬ IsWrite fault → out.old.written ≡ 0) }
-    ensures { EndsListing W.taken W.failed out.old out.new answer result }
+    ensures { EndsListing W.outlet out.old out.new answer result }
 {
     match answer {
         Ok(status) => status,
@@ -145,8 +140,7 @@ fn end_rewriting<W: Sink>(
     answer: Result<Rewritten, RunFault>,
     out: &mut LongWriter<W>,
 ) -> u8
-    requires { out.old.written ≡ 0 }
-    ensures { EndsRewriting W.taken W.failed out.old out.new answer result }
+    ensures { EndsRewriting W.outlet out.old out.new answer result }
 {
     match answer {
         Ok(done) => tell(done, out),
@@ -157,8 +151,7 @@ fn end_rewriting<W: Sink>(
 /// Prints the fault's line, or that of memory where there is none for it, and gives the status of
 /// what is printed.
 fn report<W: Sink>(alloc: Global, fault: RunFault, out: &mut LongWriter<W>) -> u8
-    requires { out.old.written ≡ 0 }
-    ensures { PrintsFault W.taken W.failed out.old out.new fault result }
+    ensures { PrintsFault W.outlet out.old out.new fault result }
 {
     match format!(in alloc; "{fault}\n") {
         Ok(line) => print(line.as_str(), fault.status(), out),
@@ -168,10 +161,9 @@ fn report<W: Sink>(alloc: Global, fault: RunFault, out: &mut LongWriter<W>) -> u
 
 /// Prints the text, the first on this writer, and gives the status, which is 3 where that fails.
 fn print<W: Sink>(text: &str, status: u8, out: &mut LongWriter<W>) -> u8
-    requires unwritten { out.old.written ≡ 0 }
-    requires status { status ≤ 4 }
+    requires { status ≤ 4 }
     ensures bound { result ≤ 4 }
-    ensures printed { PrintsOrFails W.taken W.failed out.old out.new text.now status result }
+    ensures printed { PrintsOrFails W.outlet out.old out.new text.now status result }
 {
     match out.put_bytes(text.as_bytes()) {
         Ok(()) => status,

@@ -1,12 +1,12 @@
 //! The commands that print what they find in one input.
-ghost use Rattle.std.specs.Prelude.{◌≡◌, ◌≢◌, ◌+◌, IfErr, IfOk, false};
-ghost use Rattle.hunk_words.specs.declared.fault.Fault.{Fault};
-ghost use Rattle.hunk_commands.specs.declared.fault.RunFault.TheVariants.{HexText, Memory, Refused};
-ghost use Rattle.hunk_commands.specs.HexText.{ReadsHex, SpellsNone};
-ghost use Rattle.hunk_commands.specs.Inputs.{StopsAtRead, TellsReading};
+ghost use Rattle.std.specs.Prelude.{◌≡◌, ◌+◌, IfErr, IfOk, false};
+ghost use Rattle.hunk_commands.specs.declared.fault.RunFault.TheVariants.{Memory};
+ghost use Rattle.hunk_commands.specs.Faults.{IsWrite};
+ghost use Rattle.hunk_commands.specs.HexText.{ReadsHex};
+ghost use Rattle.hunk_commands.specs.Inputs.{TellsReading};
 ghost use Rattle.hunk_run.specs.Inputs.{HasInput, HasListed};
 ghost use Rattle.hunk_run.specs.Status.{TellsOutcome};
-ghost use Rattle.hunk_run.specs.Refusals.{RefusesListing, RefusesSource};
+ghost use Rattle.hunk_run.specs.Refusals.{StopsListing, StopsSource};
 ghost use Rattle.hunk_run.specs.Runs.{Lists, ListsSource, ReadsNoText};
 
 use crate::{DONE, FILE_BYTES};
@@ -44,9 +44,8 @@ pub(crate) fn list_file<T: Files + Input, W: Sink>(
     hex: bool,
     out: &mut LongWriter<W>,
 ) -> Result<u8, RunFault>
-    requires { out.old.written ≡ 0 }
-    ensures outcome { TellsOutcome W.taken W.failed out.old out.new result }
-    ensures done { IfOk result (λ status. status ≡ 0 → Lists W.taken out.old out.new listing) }
+    ensures outcome { TellsOutcome W.outlet out.old out.new result }
+    ensures done { IfOk result (λ status. status ≡ 0 → Lists W.outlet out.old out.new listing) }
 {
     let Some(name) = file else {
         return list_source(alloc, listing, &mut FromRead::new(rt.reader()), hex, out);
@@ -68,23 +67,17 @@ fn list_source<R: Source, W: Sink>(
     hex: bool,
     out: &mut LongWriter<W>,
 ) -> Result<u8, RunFault>
-    requires { out.old.written ≡ 0 }
-    ensures outcome { TellsOutcome W.taken W.failed out.old out.new result }
+    ensures outcome { TellsOutcome W.outlet out.old out.new result }
     ensures done { IfOk result
         (λ status. status ≡ 0
-        → ListsSource hex listing (R.left source.old) (R.left source.new) W.taken out.old out.new) }
-    ensures succeeds { HasInput hex listing (R.left source.old) FILE_BYTES
-        → R.failed source.new ≡ false → W.failed out.new.sink ≡ false
+        → ListsSource W.outlet hex listing (R.supply source.old) (R.supply source.new)
+        out.old out.new) }
+    ensures succeeds { HasInput hex listing (R.supply source.old) FILE_BYTES
+        → (R.supply source.new).failed ≡ false → (W.outlet out.new.sink).failed ≡ false
         → IfErr result (λ fault. fault ≡ Memory) }
-    ensures read { IfErr result
-        (StopsAtRead (R.left source.old) (R.left source.new) (R.failed source.new)) }
-    ensures tells_read { TellsReading (R.failed source.old) (R.failed source.new) result }
-    ensures refused { IfErr result (λ fault. (refusal : Fault) → fault ≡ Refused refusal
-        → RefusesSource hex listing refusal (R.left source.old) (R.left source.new)
-        FILE_BYTES (R.failed source.new)) }
-    ensures hex_text { IfErr result
-        (λ fault. fault ≡ HexText
-        → SpellsNone (R.left source.old) (R.left source.new) (FILE_BYTES + 1)) }
+    ensures tells_read { TellsReading (R.supply source.old) (R.supply source.new) result }
+    ensures stops { IfErr result (λ fault. ¬ IsWrite fault
+        → StopsSource hex listing (R.supply source.old) (R.supply source.new) FILE_BYTES fault) }
 {
     if !hex {
         return list_bytes(alloc, listing, source, out);
@@ -96,11 +89,10 @@ fn list_source<R: Source, W: Sink>(
 /// The bytes that all of the source's text spells, which may have `FILE_BYTES` bytes and no more.
 fn spelled_bytes<R: Source>(alloc: Global, source: &mut R) -> Result<Vec<u8>, RunFault>
     ensures spelled { IfOk result
-        (λ bytes. ReadsHex (R.left source.old) (R.left source.new) (FILE_BYTES + 1) bytes.items) }
+        (λ bytes. ReadsHex (R.supply source.old) (R.supply source.new) (FILE_BYTES + 1) bytes.items) }
     ensures refuses { IfErr result
-        (λ fault. ReadsNoText fault (R.left source.old) (R.left source.new) FILE_BYTES
-        (R.failed source.new)) }
-    ensures tells_read { TellsReading (R.failed source.old) (R.failed source.new) result }
+        (λ fault. ReadsNoText fault (R.supply source.old) (R.supply source.new) FILE_BYTES) }
+    ensures tells_read { TellsReading (R.supply source.old) (R.supply source.new) result }
 {
     match read_hex(alloc, source, FILE_BYTES + 1) {
         Err(RunFault::Refused(Fault { place: _, reason })) => Err(RunFault::Refused(Fault {
@@ -118,22 +110,17 @@ fn list_bytes<R: Source, W: Sink>(
     source: &mut R,
     out: &mut LongWriter<W>,
 ) -> Result<u8, RunFault>
-    requires { out.old.written ≡ 0 }
-    ensures outcome { TellsOutcome W.taken W.failed out.old out.new result }
+    ensures outcome { TellsOutcome W.outlet out.old out.new result }
     ensures done { IfOk result
         (λ status. status ≡ 0
-        → ListsSource false listing (R.left source.old) (R.left source.new)
-        W.taken out.old out.new) }
-    ensures succeeds { HasListed listing (R.left source.old) FILE_BYTES
-        → R.failed source.new ≡ false → W.failed out.new.sink ≡ false
+        → ListsSource W.outlet false listing (R.supply source.old) (R.supply source.new)
+        out.old out.new) }
+    ensures succeeds { HasListed listing (R.supply source.old) FILE_BYTES
+        → (R.supply source.new).failed ≡ false → (W.outlet out.new.sink).failed ≡ false
         → IfErr result (λ fault. fault ≡ Memory) }
-    ensures read { IfErr result
-        (StopsAtRead (R.left source.old) (R.left source.new) (R.failed source.new)) }
-    ensures tells_read { TellsReading (R.failed source.old) (R.failed source.new) result }
-    ensures refused { IfErr result (λ fault. (refusal : Fault) → fault ≡ Refused refusal
-        → RefusesListing listing refusal (R.left source.old) (R.left source.new)
-        FILE_BYTES (R.failed source.new)) }
-    ensures hex_text { IfErr result (λ fault. fault ≢ HexText) }
+    ensures tells_read { TellsReading (R.supply source.old) (R.supply source.new) result }
+    ensures stops { IfErr result (λ fault. ¬ IsWrite fault
+        → StopsListing listing (R.supply source.old) (R.supply source.new) FILE_BYTES fault) }
 {
     match listing {
         Listing::Show => {

@@ -1,13 +1,14 @@
 //! The command `rewrite`, from one file to another.
-ghost use Rattle.std.specs.Prelude.{◌≡◌, ◌⊎◌, ◌≤◌, ◌++◌, ℕ, true, false, Some};
+ghost use Rattle.std.specs.Prelude.{◌≡◌, ◌⊎◌, ◌≤◌, ◌++◌, ℕ, true, false};
 ghost use Rattle.std.specs.Prelude.{IfErr, IfOk, IsErrAnd, OnOk};
 ghost use Rattle.hunk_listing.specs.RewritingLines.{left_out_line, wrote_line};
 ghost use Rattle.hunk_commands.specs.declared.fault.RunFault.TheVariants.{Memory, Write};
-ghost use Rattle.hunk_commands.specs.Engine.{RefusesOnly, Writes, WritesAll};
+ghost use Rattle.hunk_commands.specs.Engine.{IsTextOfSome, ReadsNoFile};
 ghost use Rattle.hunk_commands.specs.Faults.{IsWrite};
-ghost use Rattle.hunk_commands.specs.Inputs.{HasFile, StopsAtRead, TellsReading};
-ghost use Rattle.hunk_commands.specs.Rewritten.{IsRewriting, IsRewritten};
-ghost use Rattle.hunk_run.specs.OutFile.{HasTaken, TellsCount};
+ghost use Rattle.hunk_commands.specs.Inputs.{HasFile, ReadsInput, TellsReading};
+ghost use Rattle.hunk_commands.specs.Rewritten.{IsRewritten};
+ghost use Rattle.hunk_commands.specs.declared.rewriting.Rewritten.{Rewritten};
+ghost use Rattle.hunk_run.specs.OutFile.{HasTaken, TakesAll, TakesFirst};
 ghost use Rattle.hunk_run.specs.Runs.{TellsRewriting};
 ghost use Rattle.hunk_run.specs.Status.{PrintsOrFails};
 
@@ -61,29 +62,27 @@ fn rewrite_to<'a, R: Source, T: Files>(
 ) -> (ToFile<'a, T>, Result<Rewritten, RunFault>)
     // What OUT has taken: all of the file, or after a fault of writing the first bytes of it, and
     // after another one nothing.
-    ensures rewrites { IfOk result.1 (λ done. TellsCount done.written
-        (WritesAll (IsRewritten strip done.rest) (R.left source.old) (R.left source.new) FILE_BYTES
-        (Some out.entry.taken) (Some result.0.taken))) }
+    ensures rewrites { IfOk result.1 (λ done. ReadsInput
+        (λ input. TakesAll (IsRewritten strip done.rest input) out.entry result.0 done.written)
+        (R.supply source.old) (R.supply source.new) FILE_BYTES) }
     ensures kept { OnOk result.1
         (HasTaken (λ f. T.File.contents f) result.0.file result.0.taken) }
     ensures settled { OnOk result.1 (result.0.settled ≡ true) }
-    ensures write { IfErr result.1 (λ fault. (written : ℕ) → fault ≡ Write written
-        → TellsCount written
-        (Writes (IsRewriting strip) (R.left source.old) (R.left source.new) FILE_BYTES
-        (Some out.entry.taken) (Some result.0.taken))) }
+    ensures write { IfErr result.1 (λ fault. (written : ℕ) → fault ≡ Write written → ReadsInput
+        (λ input. TakesFirst (IsTextOfSome (λ (done : Rewritten). IsRewritten strip done.rest input))
+        out.entry result.0 written)
+        (R.supply source.old) (R.supply source.new) FILE_BYTES) }
     ensures untouched { IfErr result.1 (λ fault. ¬ IsWrite fault → result.0 ≡ out.entry) }
     ensures tells_write { out.entry.failed ≡ false → result.0.failed ≡ true
         → IsErrAnd result.1 IsWrite }
 
     // What was read, and when a file is written.
-    ensures succeeds { HasFile (R.left source.old) FILE_BYTES
-        → R.failed source.new ≡ false → out.entry.failed ≡ false
+    ensures succeeds { HasFile (R.supply source.old) FILE_BYTES
+        → (R.supply source.new).failed ≡ false → out.entry.failed ≡ false
         → IfErr result.1 (λ fault. (fault ≡ Memory) ⊎ IsWrite fault) }
-    ensures read { IfErr result.1
-        (StopsAtRead (R.left source.old) (R.left source.new) (R.failed source.new)) }
-    ensures tells_read { TellsReading (R.failed source.old) (R.failed source.new) result.1 }
-    ensures refused { IfErr result.1
-        (RefusesOnly (R.left source.old) (R.left source.new) FILE_BYTES) }
+    ensures tells_read { TellsReading (R.supply source.old) (R.supply source.new) result.1 }
+    ensures stops { IfErr result.1 (λ fault. ¬ IsWrite fault
+        → ReadsNoFile (R.supply source.old) (R.supply source.new) FILE_BYTES fault) }
 {
     let mut writer = LongWriter::new(out);
     let answer = rewrite(alloc, source, &mut writer, FILE_BYTES, strip);
@@ -104,9 +103,8 @@ fn rewrite_to<'a, R: Source, T: Files>(
 /// Prints the lines that say how much was written, the first on this writer, and gives the status,
 /// which is 3 where that fails.
 pub(crate) fn tell<W: Sink>(done: Rewritten, out: &mut LongWriter<W>) -> u8
-    requires { out.old.written ≡ 0 }
     ensures bound { result ≤ 4 }
-    ensures printed { PrintsOrFails W.taken W.failed out.old out.new
+    ensures printed { PrintsOrFails W.outlet out.old out.new
         (wrote_line done.written ++ left_out_line done.rest) DONE result }
 {
     let mut page = PagePrinter::<W, LINES>::new(out);

@@ -3,7 +3,7 @@ ghost use Rattle.std.specs.Prelude.{◌≡◌, ◌≤◌, ◌↔◌, ◌||◌, [
 ghost use Rattle.std.specs.Prelude.{IsTrue, None, Some};
 ghost use Rattle.std.specs.Fs.{file_type, IsFile};
 ghost use Rattle.std.specs.Io.KnownBytes.{WriteAppends};
-ghost use Rattle.hunk_run.specs.OutFile.{HasTaken};
+ghost use Rattle.hunk_run.specs.OutFile.{HasTaken, file_outlet};
 ghost use Rattle.hunk_run.specs.Settling.{SaysLost};
 
 use hunk_words::{Failed, History, Sink};
@@ -108,9 +108,7 @@ impl<'a, T: Files> ToFile<'a, T> {
 }
 
 impl<T: Files> Sink for ToFile<'_, T> {
-    ghost taken = { λ s. Some s.taken };
-
-    ghost failed = { λ s. s.failed };
+    ghost outlet = { λ s. file_outlet s };
 
     fn push(&mut self, bytes: &[u8]) -> Result<usize, Failed> {
         match self.write(bytes) {

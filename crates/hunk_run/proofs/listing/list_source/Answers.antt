@@ -1,53 +1,50 @@
-use Rattle.std.proofs.Common.{rules, ◌≡◌, ◌+◌, ◌∙◌, ℕ, Bool, true, false, List, Option, Some, Result, Ok, Err, inr, ap, sym, subst}
+use Rattle.std.proofs.Common.{rules, ◌≡◌, ◌∙◌, ◌+◌, ℕ, Bool, true, false, List, Option, Some, Result, Ok, Err, inr, ap, sym, subst}
 use Rattle.std.specs.Prelude.{IfErr, IfOk}
-use Rattle.std.specs.Io.KnownBytes.{Consumes, IsAtEnd}
-use Rattle.hunk_words.specs.Carriers.{Writing}
-use Rattle.hunk_words.specs.declared.fault.Fault.{Fault}
+use Rattle.hunk_words.specs.Carriers.{Outlet, Supply, Writing}
+use Rattle.hunk_commands.specs.Faults.{IsWrite}
 use Rattle.hunk_commands.specs.declared.fault.RunFault.{RunFault}
-use Rattle.hunk_commands.specs.declared.fault.RunFault.TheVariants.{Refused}
 use Rattle.hunk_run.specs.declared.listing.Listing.{Listing}
-use Rattle.hunk_commands.specs.HexText.{ReadsHex, SpellsHex}
-use Rattle.hunk_run.specs.Refusals.{RefusesListing, RefusesSource}
+use Rattle.hunk_commands.specs.HexText.{ReadsHex}
+use Rattle.hunk_run.specs.Inputs.{slice}
+use Rattle.hunk_run.specs.Refusals.{StopsListing, StopsSource}
 use Rattle.hunk_run.specs.Runs.{ListsSource}
 use Rattle.hunk_run.proofs.Telling.{lists_text}
 use Rattle.hunk_run.proofs.listing.list_source.Goals as goal
 
 -- what was listed of the bytes is listed of the text that spells them
-lists_where_done : {W : Type 0} (taken : W → Option (List ℕ)) (old new : Writing W) (listing : Listing) (hex : Bool) (a b c d : Option (List ℕ)) (given bytes : List ℕ)
-    (result : Result ℕ RunFault) → hex ≡ true → Consumes a b given → IsAtEnd b → SpellsHex given bytes → c ≡ Some bytes →
-    IfOk result (λ status. status ≡ 0 → ListsSource false listing c d taken old new) → IfOk result (λ status. status ≡ 0 → ListsSource hex listing a b taken old new)
-lists_where_done taken old new listing hex a b c d given bytes (Ok status) is consumed at_end spells known lists =
-    λ done. subst (λ (h : Bool). ListsSource h listing a b taken old new) (sym is) (lists_text taken old new listing a b c d given bytes consumed at_end spells known (lists done))
-lists_where_done taken old new listing hex a b c d given bytes (Err fault) is consumed at_end spells known lists = tt
+lists_where_done : {W : Type 0} (outlet : W → Outlet) (old new : Writing W) (listing : Listing) (hex : Bool) (before after cut rest : Supply) (most : ℕ) (bytes : List ℕ)
+    (result : Result ℕ RunFault) → hex ≡ true → ReadsHex before after most bytes → cut.left ≡ Some bytes →
+    IfOk result (λ status. status ≡ 0 → ListsSource outlet false listing cut rest old new) → IfOk result (λ status. status ≡ 0 → ListsSource outlet hex listing before after old new)
+lists_where_done outlet old new listing hex before after cut rest most bytes (Ok status) is read known lists =
+    λ done. subst (λ (h : Bool). ListsSource outlet h listing before after old new) (sym is)
+    (lists_text outlet old new listing before after cut rest read.input bytes read.read.given read.read.at_end read.holds known (lists done))
+lists_where_done outlet old new listing hex before after cut rest most bytes (Err fault) is read known lists = tt
 
 pub returns-clause-done : goal.returns-clause-done
 returns-clause-done g c =
     let hex : c.args.hex ≡ true = search rules in
     let bytes = c.in_ok-bytes.bytes.items in
-    let read = c.in_ok-bytes.ensures.spelled in
     let known = ap {B = Option (List ℕ)} (λ (xs : List ℕ). Some xs) (c.new.ensures ∙ c.as_slice.ensures.value) in
-    lists_where_done g.W.Sink.taken c.args.out.now c.list_bytes-2.new.out c.args.listing c.args.hex _ _ _ _ read.input bytes _
-    hex read.read.given read.read.at_end read.holds known c.list_bytes-2.ensures.done
+    lists_where_done g.W.Sink.outlet c.args.out.now c.list_bytes-2.new.out c.args.listing c.args.hex _ _ (slice c.new.result) (slice c.list_bytes-2.new.source) _ bytes _
+    hex c.in_ok-bytes.ensures.spelled known c.list_bytes-2.ensures.done
 
--- where the bytes are refused, the text that spells them is
-refused_where : (listing : Listing) (hex : Bool) (a b c d : Option (List ℕ)) (bytes : List ℕ) (most : ℕ) (failed : Bool) (result : Result ℕ RunFault) →
-    hex ≡ true → ReadsHex a b (most + 1) bytes → c ≡ Some bytes →
-    IfErr result (λ fault. (refusal : Fault) → fault ≡ Refused refusal → RefusesListing listing refusal c d most false) →
-    IfErr result (λ fault. (refusal : Fault) → fault ≡ Refused refusal → RefusesSource hex listing refusal a b most failed)
-refused_where listing hex a b c d bytes most failed (Ok status) is read known refuses = tt
-refused_where listing hex a b c d bytes most failed (Err fault) is read known refuses =
-    λ refusal same. subst (λ (h : Bool). RefusesSource h listing refusal a b most failed) (sym is)
+-- where nothing is printed of the bytes, nothing is of the text that spells them
+stops_where : (listing : Listing) (hex : Bool) (before after : Supply) (given rest bytes : List ℕ) (most : ℕ) (result : Result ℕ RunFault) →
+    hex ≡ true → ReadsHex before after (most + 1) bytes → given ≡ bytes →
+    IfErr result (λ fault. ¬ IsWrite fault → StopsListing listing (slice given) (slice rest) most fault) →
+    IfErr result (λ fault. ¬ IsWrite fault → StopsSource hex listing before after most fault)
+stops_where listing hex before after given rest bytes most (Ok status) is read known stops = tt
+stops_where listing hex before after given rest bytes most (Err fault) is read known stops =
+    λ other. subst (λ (h : Bool). StopsSource h listing before after most fault) (sym is)
     (inr (record {
       bytes = bytes;
       read = read;
-      left = d;
-      refuses = subst (λ (o : Option (List ℕ)). RefusesListing listing refusal o d most false) known (refuses refusal same);
+      rest = rest;
+      stops = subst (λ (xs : List ℕ). StopsListing listing (slice xs) (slice rest) most fault) known (stops other);
     }))
 
-pub returns-clause-refused : goal.returns-clause-refused
-returns-clause-refused g c =
+pub returns-clause-stops : goal.returns-clause-stops
+returns-clause-stops g c =
     let hex : c.args.hex ≡ true = search rules in
-    let bytes = c.in_ok-bytes.bytes.items in
-    let read = c.in_ok-bytes.ensures.spelled in
-    let known = ap {B = Option (List ℕ)} (λ (xs : List ℕ). Some xs) (c.new.ensures ∙ c.as_slice.ensures.value) in
-    refused_where c.args.listing c.args.hex _ _ _ _ bytes _ _ _ hex read known c.list_bytes-2.ensures.refused
+    stops_where c.args.listing c.args.hex _ _ c.new.result c.list_bytes-2.new.source c.in_ok-bytes.bytes.items _ _ hex c.in_ok-bytes.ensures.spelled
+    (c.new.ensures ∙ c.as_slice.ensures.value) c.list_bytes-2.ensures.stops
