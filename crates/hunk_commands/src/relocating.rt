@@ -31,7 +31,8 @@ use std::alloc::Global;
 ///   end after it.
 /// - `Read` where the source failed, at the number of bytes read.
 /// - `Memory` where memory is refused.
-/// - `Write` where the writer failed: just the first `written` bytes of the text have gone out.
+/// - `Write` where the writer failed: just the first `written` bytes of all that was ever put, the
+///   listing last, have gone out.
 ///
 /// After every other error than `Write` nothing was written. What was read of the source stays
 /// read, at most `limits.file_bytes` bytes.

@@ -34,7 +34,8 @@ pub struct Rewritten {
 /// - `Refused` with the fault that `FileView::read` answers for the input, at the same place.
 /// - `Read` where the source failed, at the number of bytes read.
 /// - `Memory` where memory is refused for the bytes of the input, and never once they are read.
-/// - `Write` where the writer failed: just the first `written` bytes of the file have gone out.
+/// - `Write` where the writer failed: just the first `written` bytes of all that was ever put, the
+///   file last, have gone out.
 ///
 /// After every other error than `Write` nothing was written. What was read of the source stays
 /// read, at most `file_bytes` bytes.
@@ -60,7 +61,8 @@ pub fn rewrite<R: Source, W: Sink>(
 ///
 /// - `Refused` with the fault that `FileView::read` answers, at the same place. Nothing was written
 ///   then, and the writer is as it was.
-/// - `Write` where the writer failed: just the first `written` bytes of the file have gone out.
+/// - `Write` where the writer failed: just the first `written` bytes of all that was ever put, the
+///   file last, have gone out.
 pub fn rewrite_bytes<W: Sink>(
     bytes: &[u8],
     w: &mut LongWriter<W>,

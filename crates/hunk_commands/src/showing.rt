@@ -24,7 +24,8 @@ use std::alloc::Global;
 /// - `Refused` with the fault that `FileView::read` answers for the input, at the same place.
 /// - `Read` where the source failed, at the number of bytes read.
 /// - `Memory` where memory is refused for the bytes of the input, and never once they are read.
-/// - `Write` where the writer failed: just the first `written` bytes of the listing have gone out.
+/// - `Write` where the writer failed: just the first `written` bytes of all that was ever put, the
+///   listing last, have gone out.
 ///
 /// After every other error than `Write` nothing was written. What was read of the source stays
 /// read, at most `file_bytes` bytes.
@@ -48,7 +49,8 @@ pub fn show<R: Source, W: Sink>(
 ///
 /// - `Refused` with the fault that `FileView::read` answers, at the same place. Nothing was written
 ///   then, and the writer is as it was.
-/// - `Write` where the writer failed: just the first `written` bytes of the listing have gone out.
+/// - `Write` where the writer failed: just the first `written` bytes of all that was ever put, the
+///   listing last, have gone out.
 pub fn show_bytes<W: Sink>(bytes: &[u8], w: &mut LongWriter<W>) -> Result<(), RunFault>
     ensures { PutsOrRefuses W.outlet (λ (_ : Unit). IsShown bytes.now) bytes.now w.old w.new result }
 {

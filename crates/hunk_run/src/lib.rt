@@ -40,8 +40,7 @@ const LINE_REFUSED: u8 = 2;
 ///
 /// 0 where it is done, and after help; 1 where the input is rejected, or `validate` found
 /// something; 2 where the command line is rejected; 3 where reading or writing failed; 4 where
-/// memory was refused. Where `out` fails, nothing more is written. `out` has written nothing
-/// before.
+/// memory was refused. Where `out` fails, nothing more is written.
 pub fn run<T: Files + Input, W: Sink>(
     rt: &T,
     alloc: Global,
@@ -159,7 +158,7 @@ fn report<W: Sink>(alloc: Global, fault: RunFault, out: &mut LongWriter<W>) -> u
     }
 }
 
-/// Prints the text, the first on this writer, and gives the status, which is 3 where that fails.
+/// Prints the text, and gives the status, which is 3 where that fails.
 fn print<W: Sink>(text: &str, status: u8, out: &mut LongWriter<W>) -> u8
     requires { status ≤ 4 }
     ensures bound { result ≤ 4 }

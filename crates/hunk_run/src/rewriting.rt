@@ -100,8 +100,8 @@ fn rewrite_to<'a, R: Source, T: Files>(
     }
 }
 
-/// Prints the lines that say how much was written, the first on this writer, and gives the status,
-/// which is 3 where that fails.
+/// Prints the lines that say how much was written, and gives the status, which is 3 where that
+/// fails.
 pub(crate) fn tell<W: Sink>(done: Rewritten, out: &mut LongWriter<W>) -> u8
     ensures bound { result ≤ 4 }
     ensures printed { PrintsOrFails W.outlet out.old out.new

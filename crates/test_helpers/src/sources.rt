@@ -47,9 +47,7 @@ impl<'a> FailsOnce<'a> {
 }
 
 impl Source for FailsOnce<'_> {
-    ghost left = { λ _. None };
-
-    ghost failed = { λ s. s.failed };
+    ghost supply = { λ s. record { left = None; failed = s.failed } };
 
     fn pull(&mut self, buf: &mut [u8]) -> Result<usize, Failed> {
         if self.given == self.fails_at && !self.failed {
@@ -167,9 +165,7 @@ fn repeat(from: usize, buf: &mut [u8]) -> usize {
 }
 
 impl Source for Fed<'_> {
-    ghost left = { λ _. None };
-
-    ghost failed = { λ s. s.failed };
+    ghost supply = { λ s. record { left = None; failed = s.failed } };
 
     fn pull(&mut self, buf: &mut [u8]) -> Result<usize, Failed> {
         self.reads = self.reads.wrapping_add(1);

@@ -240,9 +240,7 @@ impl Kept {
 }
 
 impl Sink for Kept {
-    ghost taken = { λ _. None };
-
-    ghost failed = { λ s. s.failed };
+    ghost outlet = { λ s. record { taken = None; failed = s.failed } };
 
     fn push(&mut self, bytes: &[u8]) -> Result<usize, Failed> {
         let count = bytes.len().min(self.room);

@@ -197,9 +197,7 @@ struct Measuring<'a> {
 }
 
 impl Source for Measuring<'_> {
-    ghost left = { λ _. None };
-
-    ghost failed = { λ _. false };
+    ghost supply = { λ _. record { left = None; failed = false } };
 
     fn pull(&mut self, buf: &mut [u8]) -> Result<usize, Failed> {
         let count = buf.len().min(self.rest.len());

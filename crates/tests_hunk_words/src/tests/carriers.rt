@@ -45,9 +45,7 @@ impl Write for Once {
 }
 
 impl Sink for Once {
-    ghost taken = { λ _. None };
-
-    ghost failed = { λ s. s.failed };
+    ghost outlet = { λ s. record { taken = None; failed = s.failed } };
 
     fn push(&mut self, bytes: &[u8]) -> Result<usize, Failed> {
         if self.over {
