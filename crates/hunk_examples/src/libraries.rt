@@ -47,7 +47,6 @@ pub fn tour(alloc: Global, words: &[String], text: &str) -> anyhow::Result<Seen>
     let mut page: Printer<'_, FromWrite<Vec<u8>>> = Printer::new(&mut out);
     print_load_summary(&mut page, &file, (bytes.len() - size) as u64);
     page.flush()?;
-    let _out = page.into_inner();
     let loaded = image.bytes();
     let report = out.into_inner().into_inner();
     Ok(Seen {

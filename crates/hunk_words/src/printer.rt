@@ -11,6 +11,7 @@ use crate::page::{PAGE, Page};
 use crate::sink::Sink;
 use std::fmt;
 use std::marker::Model;
+use std::mem::ManuallyDrop;
 use std::snapshot::Snapshot;
 
 /// A printer with a page of 81,920 bytes, which is a part of the printer itself and so stands on
@@ -26,22 +27,24 @@ pub type Printer<'a, W> = PagePrinter<'a, W, PAGE>;
 pub struct PagePrinter<'a, W: Sink, const ROOM: usize> {
     out: &'a mut LongWriter<W>,
     held: Page<ROOM>,
-    outset: Snapshot<LongWriter<W>>,
+    /// The writer at first, for clauses alone; so it is not dropped.
+    outset: ManuallyDrop<Snapshot<LongWriter<W>>>,
     history: History,
 }
 
 impl<'a, W: Sink, const ROOM: usize> Model for PagePrinter<'a, W, ROOM> {
+    ghost use Rattle.std.specs.Mem.{manually_drop_value};
     ghost use Rattle.hunk_words.specs.Prints.{Printing, Sends};
 
     ghost Value = { Printing W };
 
     ghost view = { λ s. record {
       out = s.out;
-      origin = record { name = s.out.ghost_name; writer = s.outset.value };
+      origin = record { name = s.out.ghost_name; writer = (manually_drop_value s.outset).value };
       text = s.history.bytes;
     } };
 
-    ghost invariant = { λ s. Sends W.outlet s.outset.value s.out.now s.history.bytes s.held };
+    ghost invariant = { λ s. Sends W.outlet (manually_drop_value s.outset).value s.out.now s.history.bytes s.held };
 }
 
 impl<W: Sink, const ROOM: usize> fmt::Debug for PagePrinter<'_, W, ROOM> {
@@ -61,7 +64,7 @@ impl<'a, W: Sink, const ROOM: usize> PagePrinter<'a, W, ROOM> {
         ensures origin { result.origin ≡ record { name = out.entry.ghost_name; writer = writer } }
         ensures empty { result.text ≡ [] }
     {
-        let outset = Snapshot::of(&*out);
+        let outset = ManuallyDrop::new(Snapshot::of(&*out));
         PagePrinter {
             out,
             held: Page::new(),
