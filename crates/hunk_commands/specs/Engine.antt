@@ -32,7 +32,8 @@ abbrev pub StopsAtWrite : ℕ → Type 0 → RunFault → Type 0
 StopsAtWrite count Holds fault = (written : ℕ) → fault ≡ Write written → (written ≡ saturated count) × Holds
 
 -- What `show_bytes`, `validate_bytes` and `rewrite_bytes` come to: they put the text of the value that they answer.
-pub record PutsOrRefuses {W T : Type 0} (outlet : W → Outlet) (IsTextOf : T → List ℕ → Type 0) (bytes : List ℕ) (old new : Writing W) (result : Result T RunFault) : Type 0 where
+pub record PutsOrRefuses {W T : Type 0} (outlet : W → Outlet) (IsTextOf : T → List ℕ → Type 0) (bytes : List ℕ)
+    (old new : Writing W) (result : Result T RunFault) : Type 0 where
   -- all of the text has gone out, and no write has failed
   pub done : IfOk result (λ value. PutsAll outlet (IsTextOf value) old new)
   pub no_failure : OnOk result ((outlet new.sink).failed ≡ (outlet old.sink).failed)
@@ -50,8 +51,8 @@ abbrev pub ReadsNoFile : Supply → Supply → ℕ → RunFault → Type 0
 ReadsNoFile before after most fault = ReadsInVain fault before after most ⊎ ReadsInput (RefusesBytes fault) before after most
 
 -- What `show`, `validate` and `rewrite` come to: they put the text that the value they answer has of the input.
-pub record ReadsThenPuts {W T : Type 0} (outlet : W → Outlet) (IsTextOf : T → List ℕ → List ℕ → Type 0) (before after : Supply) (most : ℕ) (old new : Writing W)
-    (result : Result T RunFault) : Type 0 where
+pub record ReadsThenPuts {W T : Type 0} (outlet : W → Outlet) (IsTextOf : T → List ℕ → List ℕ → Type 0) (before after : Supply) (most : ℕ)
+    (old new : Writing W) (result : Result T RunFault) : Type 0 where
   -- all of the text has gone out, and no write has failed
   pub done : IfOk result (λ value. ReadsInput (λ input. PutsAll outlet (IsTextOf value input) old new) before after most)
   pub no_failure : OnOk result ((outlet new.sink).failed ≡ (outlet old.sink).failed)

@@ -55,7 +55,8 @@ pub record StopsLoading (start : ℕ) (limits : Limits) (before after : Supply) 
   pub of_file : IsFaultOf before refusal
 
 -- What `relocate` comes to. The source has given these bytes, and no more than the limit.
-pub record Relocates {W T : Type 0} (outlet : W → Outlet) (start : ℕ) (limits : Limits) (before after : Supply) (old new : Writing W) (result : Result T RunFault) : Type 0 where
+pub record Relocates {W T : Type 0} (outlet : W → Outlet) (start : ℕ) (limits : Limits) (before after : Supply)
+    (old new : Writing W) (result : Result T RunFault) : Type 0 where
   pub given : List ℕ
   pub gives : Gives before after limits.file_bytes given
   -- they are a load file, all of its listing has gone out, and no write has failed

@@ -52,7 +52,8 @@ pub fn show<R: Source, W: Sink>(
 /// - `Write` where the writer failed: just the first `written` bytes of all that was ever put, the
 ///   listing last, have gone out.
 pub fn show_bytes<W: Sink>(bytes: &[u8], w: &mut LongWriter<W>) -> Result<(), RunFault>
-    ensures { PutsOrRefuses W.outlet (λ (_ : Unit). IsShown bytes.now) bytes.now w.old w.new result }
+    ensures { PutsOrRefuses W.outlet (λ (_ : Unit). IsShown bytes.now)
+        bytes.now w.old w.new result }
 {
     let file = FileView::read(bytes)?;
     put_listing(w, &file)?;

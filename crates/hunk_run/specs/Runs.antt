@@ -84,7 +84,8 @@ StopsReading false listings.Validate given after = IsAtEnd after.left
 StopsReading false (listings.Relocate base budget) given after = (file : LoadFileValue) × IsLoadFile file × (given ≡ bytes_of (text file))
 
 -- The output has taken what is printed of the input that the source gave.
-pub record ListsSource {W : Type 0} (outlet : W → Outlet) (hex : Bool) (listing : Listing) (before after : Supply) (old new : Writing W) : Type 0 where
+pub record ListsSource {W : Type 0} (outlet : W → Outlet) (hex : Bool) (listing : Listing) (before after : Supply)
+    (old new : Writing W) : Type 0 where
   pub given : List ℕ
   pub consumed : Consumes before.left after.left given
   pub stops : StopsReading hex listing given after

@@ -89,7 +89,8 @@ fn list_source<R: Source, W: Sink>(
 /// The bytes that all of the source's text spells, which may have `FILE_BYTES` bytes and no more.
 fn spelled_bytes<R: Source>(alloc: Global, source: &mut R) -> Result<Vec<u8>, RunFault>
     ensures spelled { IfOk result
-        (λ bytes. ReadsHex (R.supply source.old) (R.supply source.new) (FILE_BYTES + 1) bytes.items) }
+        (λ bytes. ReadsHex (R.supply source.old) (R.supply source.new)
+        (FILE_BYTES + 1) bytes.items) }
     ensures refuses { IfErr result
         (λ fault. ReadsNoText fault (R.supply source.old) (R.supply source.new) FILE_BYTES) }
     ensures tells_read { TellsReading (R.supply source.old) (R.supply source.new) result }

@@ -69,7 +69,8 @@ fn rewrite_to<'a, R: Source, T: Files>(
         (HasTaken (λ f. T.File.contents f) result.0.file result.0.taken) }
     ensures settled { OnOk result.1 (result.0.settled ≡ true) }
     ensures write { IfErr result.1 (λ fault. (written : ℕ) → fault ≡ Write written → ReadsInput
-        (λ input. TakesFirst (IsTextOfSome (λ (done : Rewritten). IsRewritten strip done.rest input))
+        (λ input. TakesFirst
+        (IsTextOfSome (λ (done : Rewritten). IsRewritten strip done.rest input))
         out.entry result.0 written)
         (R.supply source.old) (R.supply source.new) FILE_BYTES) }
     ensures untouched { IfErr result.1 (λ fault. ¬ IsWrite fault → result.0 ≡ out.entry) }

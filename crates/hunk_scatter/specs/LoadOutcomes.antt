@@ -125,7 +125,7 @@ abbrev pub PassesBudget : Limits → Supply → Supply → ℕ → Type 0
 PassesBudget limits old new at =
     (input : List ℕ) × (old.left ≡ Some input) × (new.failed ≡ false) × ExceedsBudget limits.budget (take limits.file_bytes input) at
 
--- What a load comes to: the source has given these bytes, which are the load file that the image is of, or there is a fault.
+-- What a load comes to: the source has given these bytes, and the image is of them, or there is a fault.
 pub record Loads (base : Placing) (limits : Limits) (old new : Supply) (result : Result ImageValue Fault) : Type 0 where
   pub given : List ℕ
   pub gives : Gives old new limits.file_bytes given

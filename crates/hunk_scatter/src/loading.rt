@@ -1,6 +1,7 @@
 //! A load from a source.
 ghost use Rattle.std.specs.Prelude.{◌≡◌, ℕ, ◌+◌, ◌<◌, ◌≤◌, Bool, List, ◌++◌, length};
-ghost use Rattle.std.specs.Prelude.{[], take, None, IfOk, IfErr, OnOk, OnErr, MatchResult, IsErrAnd};
+ghost use Rattle.std.specs.Prelude.{[], take, None, IfOk, IfErr, OnOk, OnErr};
+ghost use Rattle.std.specs.Prelude.{IsErrAnd, MatchResult};
 ghost use Rattle.std.specs.Io.KnownBytes.{Consumes};
 ghost use Rattle.hunk_words.specs.declared.reason.Reason.TheVariants as reasons;
 ghost use Rattle.hunk_files.specs.Image.{declared_bytes};
@@ -45,7 +46,8 @@ fn read_piece<R: Source>(
     ensures nonempty { IfOk result (λ n. 0 < n) }
     ensures most { IfOk result (λ n. n ≤ want) }
     ensures limit { IfOk result (λ n. count + n ≤ limit) }
-    ensures piece { IfOk result (λ n. Consumes (R.supply r.old).left (R.supply r.new).left (take n buf.new)) }
+    ensures piece { IfOk result
+        (λ n. Consumes (R.supply r.old).left (R.supply r.new).left (take n buf.new)) }
     ensures fault { IfErr result (IsReadFault limit (R.supply r.new) count) }
     ensures nothing { OnErr result (Consumes (R.supply r.old).left (R.supply r.new).left []) }
     ensures no_failure { OnOk result ((R.supply r.new).failed ≡ (R.supply r.old).failed) }
@@ -79,7 +81,8 @@ fn load_header<R: Source>(
     limits: Limits,
 ) -> Result<Declared, LoadFault>
     requires { length buf.old ≡ most_want }
-    ensures ends { (given : List ℕ) × Gives (R.supply r.old) (R.supply r.new) limits.file_bytes given
+    ensures ends { (given : List ℕ)
+        × Gives (R.supply r.old) (R.supply r.new) limits.file_bytes given
         × GoesPastNoHeader given
         × MatchResult result
         (λ declared. IsHeaderTable declared.table × (given ≡ header_bytes declared.table)
@@ -173,7 +176,8 @@ pub fn load<R: Source, P: Placer>(
 
     // Success, and where there is none.
     ensures succeeds { HasFileWithin (P.base p.now) limits (R.supply r.old)
-        → (R.supply r.new).failed ≡ Bool.false → IfErr result (λ f. f.reason ≡ reasons.OutOfMemory) }
+        → (R.supply r.new).failed ≡ Bool.false
+        → IfErr result (λ f. f.reason ≡ reasons.OutOfMemory) }
 
     ensures over_budget { (at : ℕ) → PassesBudget limits (R.supply r.old) (R.supply r.new) at
         → IsErrAnd result (IsOverBudget at) }

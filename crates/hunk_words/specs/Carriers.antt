@@ -1,12 +1,12 @@
 -- Sources, sinks and a writer of longwords, as their callers see them.
 use Rattle.std.specs.Prelude.{ℕ, ◌-◌, ◌^◌, min, Bool, List, Option}
 
--- what is known of a source: the bytes that pulls will give from here on, where that is told, and whether a pull has failed
+-- what is known of a source: the bytes that pulls will still give, where that is told, and whether one has failed
 pub record Supply : Type 0 where
   pub left : Option (List ℕ)
   pub failed : Bool
 
--- what is known of a sink: the bytes that it has, those that it had before any push among them, where that is told, and whether a push has failed
+-- what is known of a sink: the bytes that it has, also those from before any push, where that is told, and whether a push has failed
 pub record Outlet : Type 0 where
   pub taken : Option (List ℕ)
   pub failed : Bool

@@ -15,8 +15,9 @@ pub record Puts (a b : Option (List ℕ)) (m n : ℕ) (bytes : List ℕ) : Type 
 abbrev pub PutsBefore : Option (List ℕ) → Option (List ℕ) → ℕ → ℕ → List ℕ → List ℕ → Type 0
 PutsBefore a b m n bytes rest = (front : List ℕ) × (bytes ≡ front ++ rest) × (n ≡ m + length front) × Appends a b front
 
--- This text was put on a writer that is old before it and new after it: all of it, or where the sink failed as many of its first bytes as the fault says.
-pub record PutsText {W T : Type 0} (outlet : W → Outlet) (old new : Writing W) (text : List ℕ) (result : Result T WriteFault) : Type 0 where
+-- This text was put on a writer: all of it, or where the sink failed as many of its first bytes as the fault says.
+pub record PutsText {W T : Type 0} (outlet : W → Outlet) (old new : Writing W) (text : List ℕ)
+    (result : Result T WriteFault) : Type 0 where
   pub puts : Puts (outlet old.sink).taken (outlet new.sink).taken old.written new.written text
   pub all : OnOk result (new.written ≡ old.written + length text)
   pub counted : IfErr result (λ fault. fault.written ≡ saturated new.written)

@@ -44,7 +44,8 @@ impl<'a, W: Sink, const ROOM: usize> Model for PagePrinter<'a, W, ROOM> {
       text = s.history.bytes;
     } };
 
-    ghost invariant = { λ s. Sends W.outlet (manually_drop_value s.outset).value s.out.now s.history.bytes s.held };
+    ghost invariant = { λ s. Sends W.outlet
+        (manually_drop_value s.outset).value s.out.now s.history.bytes s.held };
 }
 
 impl<W: Sink, const ROOM: usize> fmt::Debug for PagePrinter<'_, W, ROOM> {
@@ -104,7 +105,8 @@ impl<'a, W: Sink, const ROOM: usize> PagePrinter<'a, W, ROOM> {
     pub fn flush(&mut self) -> Result<(), WriteFault>
         ensures prints_nothing { Prints self.old self.new [] }
         ensures same_reference { self.new.out.ghost_name ≡ self.old.origin.name }
-        ensures puts { PutsText W.outlet self.old.origin.writer self.new.out.now self.old.text result }
+        ensures puts { PutsText W.outlet
+            self.old.origin.writer self.new.out.now self.old.text result }
     {
         let result = self.out.put_bytes(self.held.as_slice());
         self.held.clear();
