@@ -6,6 +6,7 @@
 ghost use Rattle.std.specs.Prelude.{◌≡◌, ◌+◌, ◌<◌, ◌≤◌, ℕ, List, [], ◌∷◌, ◌++◌, length, take};
 ghost use Rattle.std.specs.Prelude.{true, IfErr, IfOk, MatchResult, OnErr, Some, replicate};
 ghost use Rattle.hunk_words.specs.Limits.{most_hunks};
+ghost use Rattle.hunk_words.specs.Carriers.{saturated};
 ghost use Rattle.hunk_words.specs.PendingBytes.{pending_of};
 ghost use Rattle.hunk_grammar.specs.Positions.{is_done, open_next};
 ghost use Rattle.hunk_scatter.specs.StopLine.{stop_line};
@@ -82,6 +83,20 @@ impl Standing {
         ensures { EndsLoading self.now result }
     {
         self.state.position.is_done()
+    }
+
+    /// Counts bytes that were taken, and gives their number.
+    #[inline(always)]
+    fn count(&mut self, taken: usize) -> usize
+        ensures value { result ≡ taken }
+        ensures counts { self.new ≡ record {
+          state = self.old.state;
+          fed = saturated (self.old.fed + taken);
+          pending = self.old.pending;
+        } }
+    {
+        self.fed = self.fed.saturating_add(taken as u64);
+        taken
     }
 
     /// Whether the numbers lead out of neither the rows nor a store of `total` bytes, as far as no
@@ -169,7 +184,7 @@ pub(crate) fn take_all(
     let mut rest = piece;
     'parts: while !rest.is_empty() {
         let Position::Body(_, _) = at.state.position else {
-            break 'parts;
+            return Ok(at.count(piece.len() - rest.len()));
         };
         match take_part(store, rows, at, rest) {
             Ok(count) => rest = &rest[count..],
@@ -181,9 +196,7 @@ pub(crate) fn take_all(
             }
         }
     }
-    let taken = piece.len() - rest.len();
-    at.fed = at.fed.saturating_add(taken as u64);
-    Ok(taken)
+    Ok(at.count(piece.len() - rest.len()))
 }
 
 /// Takes the piece, or up to the end of the file where that stands inside it, and gives the number
