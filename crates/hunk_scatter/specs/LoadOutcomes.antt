@@ -1,5 +1,5 @@
 -- A load from a source.
-use Rattle.std.specs.Prelude.{◌≡◌, ℕ, ◌*◌, ◌/◌, ◌<◌, ◌≤◌, Bool, true, false, List, [], ◌++◌, length, map, Some, None, ◌⊎◌, IsTrue, Result, IfErr, MatchResult, IsErrAnd, take}
+use Rattle.std.specs.Prelude.{◌≡◌, ℕ, ◌*◌, ◌/◌, ◌<◌, ◌≤◌, true, false, List, [], ◌++◌, length, map, Some, None, ◌⊎◌, IsTrue, Result, IfErr, MatchResult, IsErrAnd, take}
 use Rattle.std.specs.Io.KnownBytes.{Consumes, IsAtEnd}
 use Rattle.hunk_words.specs.Carriers.{Supply}
 use Rattle.hunk_words.specs.Longs.{bytes_of}

@@ -7,7 +7,6 @@ ghost use Rattle.hunk_files.specs.Image.{declared_bytes};
 ghost use Rattle.hunk_scatter.specs.LoaderValues.{GivesSegment, segments_in, joined};
 ghost use Rattle.hunk_scatter.specs.Rows.{AreStarts, entries_of, words_of, bases_of};
 
-use crate::store::base_of;
 use hunk_files::Row;
 use std::marker::Model;
 
@@ -116,7 +115,7 @@ impl Image {
         requires { i < length self.now.rows }
         ensures { result ≡ slice_index (bases_of self.now.rows) i }
     {
-        base_of(self.rows.as_slice(), i)
+        self.rows[i as usize].base
     }
 
     /// The bytes of a hunk. It is found by summing the bytes of at most 2,047 hunks: for all hunks

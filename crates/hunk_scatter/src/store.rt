@@ -42,19 +42,6 @@ fn longs_of(rows: &[Row], hunk: u32) -> u32
     rows[hunk as usize].size().longs()
 }
 
-/// Whether the rows have what a phase of a hunk of `longs` longwords points to.
-#[inline(always)]
-fn has_room(rows: &[Row], longs: u32, phase: Phase) -> bool
-    ensures sound { result ≡ true → RoomFor (words_of rows.now) longs phase }
-    ensures complete { RoomFor (words_of rows.now) longs phase → result ≡ true }
-{
-    match phase {
-        Phase::Content { longs: all, owed } => owed < all && all <= longs,
-        Phase::Offset { target, owed: _ } => (target as usize) < rows.len(),
-        _ => true,
-    }
-}
-
 impl BodyState {
     /// Whether this is where an open hunk is read whose segment lies in a store of `total` bytes.
     #[inline(always)]
@@ -79,25 +66,12 @@ impl BodyState {
         if bytes > total || self.start > total - bytes {
             return false;
         }
-        has_room(rows, longs, phase)
+        match phase {
+            Phase::Content { longs: all, owed } => owed < all && all <= longs,
+            Phase::Offset { target, owed: _ } => (target as usize) < hunks,
+            _ => true,
+        }
     }
-}
-
-/// Puts a longword at the offset.
-fn put(store: &mut [u8], at: usize, word: u32)
-    requires { at + 4 ≤ length store.old }
-    ensures { store.new ≡ put_at store.old at (to_be_bytes w32 word) }
-{
-    store[at..at + 4].copy_from_slice(word.to_be_bytes().as_slice());
-}
-
-/// Puts bytes at the offset.
-#[inline(never)]
-fn put_all(store: &mut [u8], at: usize, bytes: &[u8])
-    requires { at + length bytes.now ≤ length store.old }
-    ensures { store.new ≡ put_slice store.old at bytes.now }
-{
-    store[at..at + bytes.len()].copy_from_slice(bytes);
 }
 
 /// Adds to the longword at the offset, modulo 2 ^ 32.
@@ -106,36 +80,8 @@ fn add(store: &mut [u8], at: usize, base: u32)
     ensures { store.new ≡ add_at store.old at base }
 {
     let long = u32::from_be_bytes([store[at], store[at + 1], store[at + 2], store[at + 3]]);
-    put(store, at, long.wrapping_add(base));
-}
-
-/// The address at which the hunk begins.
-pub(crate) fn base_of(rows: &[Row], hunk: u32) -> u32
-    requires { hunk < length rows.now }
-    ensures { result ≡ get_or (bases_of rows.now) hunk 0 }
-{
-    rows[hunk as usize].base
-}
-
-/// What the loader does to its store at a longword that is not rejected.
-#[inline(always)]
-fn store_word(store: &mut [u8], rows: &[Row], state: BodyState, word: u32)
-    requires in_store { IsInStore (words_of rows.now) (length store.old) state }
-    requires passes { refusal (words_of rows.now) state word ≡ None }
-    ensures { store.new ≡ stored_long (bases_of rows.now) state word store.old }
-{
-    match state.position {
-        Position::Body(_, Phase::Content { longs, owed }) => {
-            let at = state.start + 4 * u64::from(longs - owed - 1);
-            put(store, at as usize, word);
-        }
-        Position::Body(_, Phase::Offset { target, owed: _ }) => {
-            let base = base_of(rows, target);
-            let at = state.start + u64::from(word);
-            add(store, at as usize, base);
-        }
-        _ => {}
-    }
+    let sum = long.wrapping_add(base);
+    store[at..at + 4].copy_from_slice(sum.to_be_bytes().as_slice());
 }
 
 /// Takes a longword, or answers why it is rejected.
@@ -160,7 +106,17 @@ pub(crate) fn take_word(
     if let Some(reason) = state.position.refuse(longs_of(rows, state.hunk), word) {
         return Err(reason);
     }
-    store_word(store, rows, state, word);
+    match state.position {
+        Position::Body(_, Phase::Content { longs, owed }) => {
+            let at = (state.start + 4 * u64::from(longs - owed - 1)) as usize;
+            store[at..at + 4].copy_from_slice(word.to_be_bytes().as_slice());
+        }
+        Position::Body(_, Phase::Offset { target, owed: _ }) => {
+            let at = state.start + u64::from(word);
+            add(store, at as usize, rows[target as usize].base);
+        }
+        _ => {}
+    }
     let position = state.position.step(word);
     if !position.is_between_hunks() {
         return Ok(BodyState { position, ..state });
@@ -170,23 +126,6 @@ pub(crate) fn take_word(
         start: state.start + 4 * u64::from(longs_of(rows, state.hunk)),
         position,
     })
-}
-
-/// How many bytes of a piece of `count` bytes are longwords of a run.
-#[inline(always)]
-fn run_bytes(position: Position, count: usize) -> usize
-    ensures bound { result ≤ count }
-    ensures fours { result % 4 ≡ 0 }
-    ensures run { result ≤ 4 * run position }
-    ensures positive { 4 ≤ count → 0 < run position → 0 < result }
-{
-    let run = 4 * position.run();
-    let whole = count - count % 4;
-    if (whole as u64) < run {
-        whole
-    } else {
-        run as usize
-    }
 }
 
 /// Takes longwords of a run at once: those of a content are copied, and the others are passed over.
@@ -199,8 +138,8 @@ fn take_run(store: &mut [u8], rows: &[Row], state: BodyState, bytes: &[u8]) -> B
     ensures stores { store.new ≡ stored_run state bytes.now store.old }
 {
     if let Position::Body(_, Phase::Content { longs, owed }) = state.position {
-        let at = state.start + 4 * u64::from(longs - owed - 1);
-        put_all(store, at as usize, bytes);
+        let at = (state.start + 4 * u64::from(longs - owed - 1)) as usize;
+        store[at..at + bytes.len()].copy_from_slice(bytes);
     }
     let position = state.position.pass((bytes.len() / 4) as u64);
     BodyState { position, ..state }
@@ -269,7 +208,7 @@ fn take_offsets(
         whole
     };
     let declared = longs_of(rows, state.hunk);
-    let base = base_of(rows, target);
+    let base = rows[target as usize].base;
     let taken = add_all(store, state.start, declared, base, piece, most);
     if taken == 0 {
         return None;
@@ -319,8 +258,10 @@ fn take_at(
 {
     let position = Position::Body(hunk, phase);
     let here = BodyState { position, ..*state };
-    if position.run() > 0 {
-        let count = run_bytes(position, piece.len());
+    let run = 4 * phase.run();
+    if run > 0 {
+        let whole = piece.len() / 4 * 4;
+        let count = run.min(whole as u64) as usize;
         *state = take_run(store, rows, here, &piece[..count]);
         return Ok(count);
     }

@@ -1,4 +1,4 @@
-use Rattle.std.proofs.Common.{◌<◌, refl, arith}
+use Rattle.std.proofs.Common.{◌<◌, ◌≤◌, length, refl, arith}
 use Rattle.hunk_scatter.proofs.Runs.{read_offsets}
 use Rattle.hunk_scatter.proofs.OneByte.{stands_as}
 use Rattle.hunk_scatter.proofs.Staying.{offsets_stay, run_stays, stays_as}
@@ -10,16 +10,17 @@ take_run-requires-clause-in_store c = room_at _ _ _ _ c.requires.position_is c.r
 
 pub returns-then-run-gt0 : goal.returns-then-run-gt0
 returns-then-run-gt0 c =
-    let e = c.run_bytes-count.ensures in
-    let some : 0 < c.run_bytes-count.result = e.positive c.requires.whole_long (omega (arith, c.run.ensures.value, c.if-run-gt0.true)) in
+    let some : 0 < c.min-count.result = omega (arith, c.min-count.ensures, c.requires.whole_long, c.if-run-gt0.true) in
+    let inside : c.min-count.result ≤ length c.args.piece.now = omega (arith, c.min-count.ensures) in
     record {
       takes = record {
         some = some;
-        inside = e.bound;
+        inside = inside;
         reads =
             λ fed r.
             let here = read_at _ _ _ _ _ c.requires.position_is r in
-            let taken = run_taken _ _ _ _ here (room_at _ _ _ _ c.requires.position_is c.requires.in_store) c.args.piece.now c.run_bytes-count.result (λ k. omega (arith, c.type_inv.piece k)) e.bound e.fours some e.run in
+            let taken = run_taken _ _ _ _ here (room_at _ _ _ _ c.requires.position_is c.requires.in_store) c.args.piece.now c.min-count.result (λ k. omega (arith, c.type_inv.piece k))
+            inside (omega (arith, c.min-count.ensures)) some (omega (arith, c.min-count.ensures, c.run-run.ensures.value)) in
             stands_as _ _ _ _ _ _ _ _ c.take_run.ensures.stores c.take_run.ensures.steps refl taken;
         stays = stays_as _ _ _ _ _ c.take_run.auto.store c.take_run.ensures.steps (run_stays _ _ _ _ (room_at _ _ _ _ c.requires.position_is c.requires.in_store));
       };

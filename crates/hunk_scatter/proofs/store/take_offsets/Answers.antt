@@ -1,6 +1,8 @@
 use Rattle.std.proofs.Common.{◌≡◌, ◌≤◌, ◌*◌, ◌∙◌, length, take, length-take, ap, sym, arith}
+use Rattle.std.proofs.Math.ListN.{get_or-map}
 use Rattle.hunk_words.specs.Longs.{longs}
 use Rattle.hunk_words.proofs.LongLaws.{length-longs}
+use Rattle.hunk_files.specs.declared.row.Row.{Row}
 use Rattle.hunk_blocks.specs.declared.phase.Phase.{Phase}
 use Rattle.hunk_grammar.specs.declared.position.Position.TheVariants as positions
 use Rattle.hunk_scatter.specs.Rows.{words_of, bases_of}
@@ -21,4 +23,4 @@ returns-clause-offsets c =
     let count : length (take n (longs piece)) ≡ n = omega (arith, length-take n (longs piece), length-longs piece, most.1, c.add_all-taken.ensures.bound) in
     let at = ap (λ (f : Phase). positions.Body c.in-Body.hunk f) (sym c.in-Offset.is) ∙ sym c.in-Body.is in
     offsets_taken (words_of c.args.rows.now) (bases_of c.args.rows.now) c.args.state.hunk c.args.state.start c.args.state.position c.in-Body.hunk c.in-Offset.target owed _ _ _ (take n (longs piece)) c.args.store.now c.add_all-taken.new.store
-    at (omega (arith, count, most.0, c.add_all-taken.ensures.bound)) c.add_all-taken.ensures.ends_within (omega (arith, c.longs_of-declared.ensures.value)) c.base_of-base.ensures (omega (arith, count)) c.add_all-taken.ensures.adds
+    at (omega (arith, count, most.0, c.add_all-taken.ensures.bound)) c.add_all-taken.ensures.ends_within (omega (arith, c.longs_of-declared.ensures.value)) (sym (get_or-map (λ (r : Row). r.base) c.args.rows.now c.in-Offset.target (record { word = 0; extra = 0; base = 0 }))) (omega (arith, count)) c.add_all-taken.ensures.adds
