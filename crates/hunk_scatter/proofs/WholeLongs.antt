@@ -1,22 +1,25 @@
 -- Longwords that lie whole in a piece of a body, taken one part after another.
-use Rattle.std.proofs.Common.{◌≡◌, ℕ, ◌+◌, ◌-◌, ◌*◌, ◌/◌, ◌%◌, ◌<◌, ◌≤◌, false, List, [], ◌∷◌, ◌++◌, length, take, drop, get_or, None, Some, sym, ap, subst, ◌∙◌, arith, length-take, length-drop, length-append, append_assoc, take-append-drop}
+use Rattle.std.proofs.Common.{◌≡◌, ℕ, ◌+◌, ◌-◌, ◌*◌, ◌/◌, ◌%◌, ◌<◌, ◌≤◌, false, List, [], ◌∷◌, ◌++◌, length, take, drop, get_or, None, Some, Ok, Err, refl, sym, ap, subst, ◌∙◌, arith, length-take, length-drop, length-append, append_assoc, append-nil, take-append-drop}
 use Rattle.std.proofs.lemmas.List.{drop-drop, take_rest}
 use Rattle.std.proofs.Math.Seq.{take-add}
 use Rattle.hunk_words.specs.declared.reason.Reason.{Reason}
 use Rattle.hunk_words.specs.Longs.{bytes_of, longs, IsBytes, IsLong}
 use Rattle.hunk_files.specs.Fault.{HasRefusal}
+use Rattle.hunk_files.specs.FileSteps.{Next, More, Finished}
 use Rattle.hunk_files.specs.declared.row.Row.{Row}
 use Rattle.hunk_grammar.specs.Positions.{is_done, run}
 use Rattle.hunk_grammar.specs.declared.position.Position.{Position}
 use Rattle.hunk_scatter.specs.declared.store.BodyState.{BodyState}
-use Rattle.hunk_scatter.specs.BodyLoaderFields.{StandsBehind}
+use Rattle.hunk_scatter.specs.BodyLoaderFields.{EndsWhole, ReadsOn, ReadyAt, RefusesFirstLong, StandsBehind, TakesOrRefuses}
 use Rattle.hunk_scatter.specs.BodySteps.{refusal, step_body, pass_body, IsInStore}
 use Rattle.hunk_scatter.specs.Rows.{words_of, bases_of}
 use Rattle.hunk_scatter.specs.StoreContent.{stored_long, stored_run}
 use Rattle.hunk_scatter.proofs.Faults.{refusal_front}
-use Rattle.hunk_scatter.proofs.OneByte.{Going, going, more_read, refused_here}
-use Rattle.hunk_words.proofs.LongLaws.{in_place}
+use Rattle.hunk_scatter.proofs.OneByte.{Going, going, more_read, refused_here, stands_as}
+use Rattle.hunk_words.proofs.LongLaws.{in_place, length-bytes_of}
+use Rattle.hunk_scatter.proofs.Refusing.{refused_in_body}
 use Rattle.hunk_scatter.proofs.Runs.{read_run, take_bytes}
+use Rattle.hunk_scatter.proofs.Staying.{stays_as, word_stays}
 
 module _ (rows : List Row) (store : List ℕ) (state : BodyState) (fed : List ℕ) (r : StandsBehind rows store state [] fed) (more : is_done state.position ≡ false) where
   gone : Going rows store state [] fed
@@ -45,9 +48,6 @@ run_taken rows store state fed r i piece n are inside fours some fits =
     (read_run rows store state fed (take n piece) n r i long (take_bytes piece n are) fours some fits)
 
 -- the position by another name
-pub state_at : (state : BodyState) (position : Position) → position ≡ state.position → ◌≡◌ {A = BodyState} (record { hunk = state.hunk; start = state.start; position = position }) state
-state_at state position same = ap (λ (p : Position). record { hunk = state.hunk; start = state.start; position = p }) same
-
 pub read_at : (rows : List Row) (store : List ℕ) (state : BodyState) (position : Position) (fed : List ℕ) → position ≡ state.position → StandsBehind rows store state [] fed →
     StandsBehind rows store (record { hunk = state.hunk; start = state.start; position = position }) [] fed
 read_at rows store state position fed same r = subst (λ (p : Position). StandsBehind rows store (record { hunk = state.hunk; start = state.start; position = p }) [] fed) (sym same) r
@@ -55,6 +55,74 @@ read_at rows store state position fed same r = subst (λ (p : Position). StandsB
 pub room_at : (sizes : List ℕ) (total : ℕ) (state : BodyState) (position : Position) → position ≡ state.position → IsInStore sizes total state →
     IsInStore sizes total (record { hunk = state.hunk; start = state.start; position = position })
 room_at sizes total state position same i = subst (λ (p : Position). IsInStore sizes total (record { hunk = state.hunk; start = state.start; position = p })) (sym same) i
+
+-- the first longword of a piece, at a position of this name
+module _ (rows : List Row) (store : List ℕ) (state : BodyState) (position : Position) (piece : List ℕ) (w : ℕ) (ready : ReadyAt rows store state position piece) (more : is_done position ≡ false) (are : IsBytes piece)
+    (is : IsLong w) (first : w ≡ get_or (longs piece) 0 0) where
+  abbrev here : BodyState
+  here = record { hunk = state.hunk; start = state.start; position = position }
+
+  here_in : IsInStore (words_of rows) (length store) here
+  here_in = room_at (words_of rows) (length store) state position ready.position_is ready.in_store
+
+  pub first_taken : refusal (words_of rows) here w ≡ None → (after : List ℕ) (behind : BodyState) → after ≡ stored_long (bases_of rows) here w store → length after ≡ length store → behind ≡ step_body (words_of rows) here w →
+      TakesOrRefuses rows store state piece after behind (Ok 4)
+  first_taken ok after behind stores same steps = record {
+    takes = record {
+      some = omega arith;
+      inside = ready.whole_long;
+      reads =
+          λ fed r.
+          stands_as _ _ _ _ _ _ _ _ stores steps refl (word_taken rows store here fed (read_at rows store state position fed ready.position_is r) more piece are ready.whole_long w is first ok);
+      stays = stays_as _ _ _ _ _ same steps (word_stays _ _ here w here_in ok);
+    };
+    refuses = tt;
+  }
+
+  pub first_refused : (reason : Reason) → refusal (words_of rows) here w ≡ Some reason → TakesOrRefuses rows store state piece store state (Err reason)
+  first_refused reason no-pass = record {
+    takes = tt;
+    refuses = record {
+      refuses = λ fed r. word_refused rows store here fed (read_at rows store state position fed ready.position_is r) more piece are ready.whole_long w is first reason no-pass;
+      own_reasons = refused_in_body (words_of rows) (length store) here w reason here_in no-pass;
+    };
+  }
+
+-- ---- a longword that these bytes complete
+
+none_pending : (n : Next) → EndsWhole n []
+none_pending (More p) = tt
+none_pending (Finished v) = refl
+
+-- What it does whole, it does behind the bytes that were pending.
+module _ (rows : List Row) (store : List ℕ) (state : BodyState) (pending fed bytes four : List ℕ) (r : StandsBehind rows store state pending fed) (gathers : pending ++ bytes ≡ four) where
+  abbrev front : List ℕ
+  front = bytes_of r.ws
+
+  front_stands : StandsBehind rows store state [] front
+  front_stands = record {
+    few = omega arith;
+    ws = r.ws;
+    next = r.next;
+    spelled = sym (append-nil (bytes_of r.ws));
+    read = r.read;
+    behind = r.behind;
+    table_is = r.table_is;
+    state_is = r.state_is;
+    holds = r.holds;
+    whole = none_pending r.next;
+  }
+
+  spells : front ++ four ≡ fed ++ bytes
+  spells = sym (ap (λ (xs : List ℕ). xs ++ bytes) r.spelled ∙ append_assoc (bytes_of r.ws) pending bytes ∙ ap (λ (xs : List ℕ). bytes_of r.ws ++ xs) gathers)
+
+  pub gathered_reads : (store2 : List ℕ) (state2 : BodyState) → ReadsOn rows store state four store2 state2 → StandsBehind rows store2 state2 [] (fed ++ bytes)
+  gathered_reads store2 state2 reads = subst (λ (bs : List ℕ). StandsBehind rows store2 state2 [] bs) spells (reads (bytes_of r.ws) front_stands)
+
+  pub gathered_refused : (reason : Reason) → RefusesFirstLong rows store state four reason → HasRefusal (fed ++ bytes) (4 * (length fed / 4)) reason
+  gathered_refused reason refuses =
+      let place : length (bytes_of r.ws) ≡ 4 * (length fed / 4) = omega (arith, r.few, ap length r.spelled, length-append (bytes_of r.ws) pending, length-bytes_of r.ws) in
+      subst (λ (n : ℕ). HasRefusal (fed ++ bytes) n reason) place (subst (λ (bs : List ℕ). HasRefusal bs (length (bytes_of r.ws)) reason) spells (refuses (bytes_of r.ws) front_stands))
 
 -- ---- one part after another
 

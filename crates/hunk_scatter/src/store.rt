@@ -84,28 +84,13 @@ fn add(store: &mut [u8], at: usize, base: u32)
     store[at..at + 4].copy_from_slice(sum.to_be_bytes().as_slice());
 }
 
-/// Takes a longword, or answers why it is rejected.
-#[tactic(auto, using(crate::proofs::BodyFields::few_words))]
+/// What the loader does to its store at a longword that is not rejected.
 #[inline(always)]
-pub(crate) fn take_word(
-    store: &mut [u8],
-    rows: &[Row],
-    state: BodyState,
-    word: u32,
-) -> Result<BodyState, Reason>
-    requires { IsInStore (words_of rows.now) (length store.old) state }
-    ensures steps { IfOk result (λ s. s ≡ step_body (words_of rows.now) state word) }
-    ensures stores { OnOk result
-        (store.new ≡ stored_long (bases_of rows.now) state word store.old) }
-    ensures passes { OnOk result (refusal (words_of rows.now) state word ≡ None) }
-    ensures refusal { IfErr result (λ r. refusal (words_of rows.now) state word ≡ Some r) }
-    ensures own_reasons { IfErr result (λ r. IsTrue (is_of_body r)) }
-    ensures nothing { OnErr result (store.new ≡ store.old) }
-    ensures long { word < 2 ^ 32 }
+fn store_word(store: &mut [u8], rows: &[Row], state: BodyState, word: u32)
+    requires in_store { IsInStore (words_of rows.now) (length store.old) state }
+    requires passes { refusal (words_of rows.now) state word ≡ None }
+    ensures { store.new ≡ stored_long (bases_of rows.now) state word store.old }
 {
-    if let Some(reason) = state.position.refuse(longs_of(rows, state.hunk), word) {
-        return Err(reason);
-    }
     match state.position {
         Position::Body(_, Phase::Content { longs, owed }) => {
             let at = (state.start + 4 * u64::from(longs - owed - 1)) as usize;
@@ -117,15 +102,44 @@ pub(crate) fn take_word(
         }
         _ => {}
     }
-    let position = state.position.step(word);
-    if !position.is_between_hunks() {
-        return Ok(BodyState { position, ..state });
+}
+
+/// Takes the longword at the front of the piece, this one, and gives its number of bytes, or answers
+/// why it is rejected. The state stands at this position; where the caller knows it, nothing is
+/// compiled of what is done at others.
+#[tactic(auto, using(crate::proofs::BodyFields::few_words))]
+#[inline(always)]
+pub(crate) fn take_word(
+    store: &mut [u8],
+    rows: &[Row],
+    state: &mut BodyState,
+    position: Position,
+    word: u32,
+    piece: &[u8],
+) -> Result<usize, Reason>
+    requires ready { ReadyAt rows.now store.old state.old position piece.now }
+    requires goes_on { is_done position ≡ false }
+    requires first_long { word ≡ slice_index (longs piece.now) 0 }
+    ensures takes { TakesOrRefuses rows.now store.old state.old piece.now store.new state.new result }
+    ensures four { IfOk result (λ n. n ≡ 4) }
+{
+    // The piece is for the contract alone.
+    let _ = piece;
+    if let Some(reason) = position.refuse(longs_of(rows, state.hunk), word) {
+        return Err(reason);
     }
-    Ok(BodyState {
+    store_word(store, rows, BodyState { position, ..*state }, word);
+    let position = position.step(word);
+    if !position.is_between_hunks() {
+        *state = BodyState { position, ..*state };
+        return Ok(4);
+    }
+    *state = BodyState {
         hunk: state.hunk + 1,
         start: state.start + 4 * u64::from(longs_of(rows, state.hunk)),
         position,
-    })
+    };
+    Ok(4)
 }
 
 /// Takes longwords of a run at once: those of a content are copied, and the others are passed over.
@@ -218,29 +232,6 @@ fn take_offsets(
     Some((BodyState { position, ..state }, taken))
 }
 
-/// Takes the longword at the front of the piece, this one, and gives its number of bytes. The state
-/// stands at this position.
-#[inline(always)]
-fn take_one(
-    store: &mut [u8],
-    rows: &[Row],
-    state: &mut BodyState,
-    position: Position,
-    word: u32,
-    piece: &[u8],
-) -> Result<usize, Reason>
-    requires ready { ReadyAt rows.now store.old state.old position piece.now }
-    requires goes_on { is_done position ≡ false }
-    requires first_long { word ≡ slice_index (longs piece.now) 0 }
-    ensures { TakesOrRefuses rows.now store.old state.old piece.now store.new state.new result }
-{
-    // The piece is for the contract alone.
-    let _ = piece;
-    let here = BodyState { position, ..*state };
-    *state = take_word(store, rows, here, word)?;
-    Ok(4)
-}
-
 /// Takes longwords from the front of the piece, and gives their number of bytes: those of a run, or
 /// of a list of offsets, at once, and else one. The state stands at this phase of this hunk; where
 /// the caller knows the phase, nothing is compiled of what it does at others.
@@ -272,7 +263,7 @@ fn take_at(
         }
         None => {
             let word = word_at(piece, 0);
-            take_one(store, rows, state, position, word, piece)
+            take_word(store, rows, state, position, word, piece)
         }
     }
 }
@@ -311,7 +302,7 @@ pub(crate) fn take_front(
                 BlockWord::of(word).kind(),
                 {
                     let position = Position::Body(*hunk, *phase);
-                    take_one(store, rows, state, position, word, piece)
+                    take_word(store, rows, state, position, word, piece)
                 }
             )
         },

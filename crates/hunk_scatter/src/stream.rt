@@ -131,8 +131,10 @@ fn take_byte(store: &mut [u8], rows: &[Row], at: &mut Standing, piece: &[u8]) ->
         if !at.state.is_in_store(rows, store.len()) {
             return Err(None);
         }
-        match take_word(store, rows, at.state, word) {
-            Ok(state) => at.state = state,
+        let position = at.state.position;
+        let four = word.to_be_bytes();
+        match take_word(store, rows, &mut at.state, position, word, four.as_slice()) {
+            Ok(_) => {}
             Err(reason) => return Err(Some(reason)),
         }
     }

@@ -44,8 +44,8 @@ returns-in-Some c = record {
   refuses = tt;
 }
 
-pub take_one-requires-clause-ready : goal.take_one-requires-clause-ready
-take_one-requires-clause-ready c = rw c.in-None.ensures.stores_nothing c.requires
+pub take_word-requires-clause-ready : goal.take_word-requires-clause-ready
+take_word-requires-clause-ready c = rw c.in-None.ensures.stores_nothing c.requires
 
 pub returns-in-None : goal.returns-in-None
-returns-in-None c = rw c.in-None.ensures.stores_nothing at c.take_one.ensures
+returns-in-None c = rw c.in-None.ensures.stores_nothing at c.take_word.ensures.takes

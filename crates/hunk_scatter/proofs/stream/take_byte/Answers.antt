@@ -1,14 +1,16 @@
-use Rattle.std.proofs.Common.{◌≡◌, ◌+◌, ◌*◌, ◌/◌, ◌++◌, List, [], ◌∷◌, ℕ, Option, length, take, length-append, refl, sym, ap, subst, arith}
-use Rattle.hunk_scatter.specs.BodyLoaderFields.{StandsBehind}
+use Rattle.std.proofs.Common.{◌≡◌, ◌≤◌, ◌++◌, ◌∙◌, List, [], ◌∷◌, ℕ, Option, length, take, append-nil, refl, sym, ap, subst, arith}
+use Rattle.std.proofs.lemmas.List.{take_all}
+use Rattle.std.specs.Int.{w32, to_be_bytes}
 use Rattle.hunk_words.specs.Longs.{bytes_of, Gathers}
 use Rattle.hunk_words.specs.PendingBytes.{pending_of}
-use Rattle.hunk_scatter.proofs.BodyFields.{gone}
-use Rattle.hunk_scatter.proofs.Faults.{refusal_front}
-use Rattle.hunk_scatter.proofs.OneByte.{more_pending, more_read, refused_here, stands_as}
 use Rattle.hunk_words.proofs.LongLaws.{length-bytes_of}
 use Rattle.hunk_words.proofs.PendingLaws.{few_pending}
-use Rattle.hunk_scatter.proofs.Staying.{stays_as, word_stays}
+use Rattle.hunk_scatter.specs.BodyLoaderFields.{ReadsOn, StandsBehind}
+use Rattle.hunk_scatter.proofs.BodyFields.{gone}
+use Rattle.hunk_scatter.proofs.Faults.{refusal_front}
+use Rattle.hunk_scatter.proofs.OneByte.{more_pending, stands_as}
 use Rattle.hunk_scatter.proofs.StreamLaws.{first_byte, stands_more, strange}
+use Rattle.hunk_scatter.proofs.WholeLongs.{gathered_reads, gathered_refused}
 use Rattle.hunk_scatter.proofs.stream.take_byte.Goals.{in-Some+else-not-is_in_store+in-Ok, in_default}
 use Rattle.hunk_scatter.proofs.stream.take_byte.Goals as goal
 
@@ -17,6 +19,7 @@ returns-then-not-is_in_store c =
     strange _ _ _ _ c.requires.goes_on (λ i. absurd (cc (c.is_in_store.ensures.complete i c.requires.goes_on, c.if-not-is_in_store.true)))
 
 pub returns-in-Err : goal.returns-in-Err
+unfolding bytes_of
 returns-in-Err c =
     let at = c.args.at.now in
     let bytes = take 1 c.args.piece.now in
@@ -24,30 +27,18 @@ returns-in-Err c =
     let whole =
     subst (λ (o : Option ℕ). Gathers (pending_of at.pending ++ bytes) (pending_of c.take-next.result.0) o) c.in-Some.is
     (subst (λ (xs : List ℕ). Gathers (pending_of at.pending ++ xs) (pending_of c.take-next.result.0) c.take-next.result.1) one c.take-next.ensures.gathers) in
+    let four = whole.0 ∙ append-nil (to_be_bytes w32 c.in-Some.word) ∙ sym (c.as_slice.ensures ∙ c.to_be_bytes-four.ensures) in
     record {
       takes = tt;
       refuses = record {
-        refuses =
-            λ fed h.
-            let place : 4 * (length fed / 4) + 4 ≡ length fed + length bytes =
-            omega (
-              arith,
-              ap length one,
-              ap length h.stands.spelled,
-              length-append (bytes_of h.stands.ws) (pending_of at.pending),
-              length-bytes_of h.stands.ws,
-              ap length whole.0,
-              length-append (pending_of at.pending) bytes,
-              length-bytes_of (c.in-Some.word ∷ []),
-            ) in
-            refusal_front fed c.args.piece.now 1 _ c.in-Err.reason
-            (refused_here _ _ _ _ fed (gone _ _ _ fed h c.requires.goes_on) bytes c.in-Some.word c.in-Err.ensures.long whole.0 c.in-Err.reason _ place c.in-Err.ensures.refusal);
-        own_reasons = c.in-Err.ensures.own_reasons;
+        refuses = λ fed h. refusal_front fed c.args.piece.now 1 _ c.in-Err.reason (gathered_refused _ _ _ _ fed bytes _ h.stands four c.in-Err.reason c.in-Err.ensures.takes.refuses.refuses);
+        own_reasons = c.in-Err.ensures.takes.refuses.own_reasons;
       };
       uncounted = refl;
     }
 
 pub returns : goal.returns
+unfolding bytes_of
 returns c =
     let at = c.args.at.now in
     let bytes = take 1 c.args.piece.now in
@@ -56,19 +47,21 @@ returns c =
     elim c.match-next.branch [
       | in-Some+else-not-is_in_store+in-Ok w ↦
           let whole = subst (λ (o : Option ℕ). Gathers (pending_of at.pending ++ bytes) (pending_of c.take-next.result.0) o) w.in-Some.is gathers in
+          let four = whole.0 ∙ append-nil (to_be_bytes w32 w.in-Some.word) ∙ sym (w.as_slice.ensures ∙ w.to_be_bytes-four.ensures) in
+          let long : length w.as_slice.result.now ≤ w.in-Ok.field-0 =
+          omega (arith, ap length four, ap length whole.0, length-bytes_of (w.in-Some.word ∷ []), w.in-Ok.ensures.four) in
+          let took = w.in-Ok.ensures.takes.takes in
+          let reads = subst (λ (xs : List ℕ). ReadsOn c.args.rows.now c.args.store.now at.state xs w.take_word.new.store w.take_word.new.state) (take_all w.in-Ok.field-0 w.as_slice.result.now long) took.reads in
           rw (w.store-is, w.at-is)
           (record {
             takes = record {
               some = omega arith;
               inside = omega (arith, c.requires.nonempty);
-              within = record {
-                few = c.take-next.ensures.few;
-                in_store = stays_as _ _ _ _ _ w.take_word.auto.store w.in-Ok.ensures.steps (word_stays _ _ at.state w.in-Some.word (w.is_in_store.ensures.sound w.if-not-is_in_store.false) w.in-Ok.ensures.passes);
-              };
+              within = record { few = c.take-next.ensures.few; in_store = took.stays };
               takes =
                   λ fed h.
-                  let read = more_read _ _ _ _ _ (gone _ _ _ fed h c.requires.goes_on) bytes w.in-Some.word w.in-Ok.ensures.long whole.0 w.in-Ok.ensures.passes in
-                  stands_more _ _ _ at w.in-Ok.state c.take-next.result.0 fed bytes h w.take_word.auto.store (stands_as _ _ _ _ _ _ _ _ w.in-Ok.ensures.stores w.in-Ok.ensures.steps whole.1 read);
+                  stands_more _ _ _ at w.take_word.new.state c.take-next.result.0 fed bytes h w.take_word.auto.store
+                  (stands_as _ _ _ _ _ _ _ _ refl refl whole.1 (gathered_reads _ _ _ _ fed bytes _ h.stands four _ _ reads));
             };
             refuses = tt;
             uncounted = refl;
