@@ -28,6 +28,10 @@ pub going_on : (p : Position) → is_between_hunks p ≡ false → is_done p ≡
 going_on positions.Done e = absurd cc
 going_on _ e = refl
 
+pub open_unless_done : (p : Position) → (p ≡ positions.Done → ⊥) → is_done p ≡ false
+open_unless_done positions.Done f = absurd (f refl)
+open_unless_done _ f = refl
+
 -- ---- numbers of a loader
 
 pub within_store : (rows : List Row) (store : List ℕ) (s : Standing) (fed : List ℕ) → IsFed rows store s fed → IsWithin rows (length store) s

@@ -19,18 +19,6 @@ pub(crate) struct HeaderState {
     pub(crate) total: u64,
 }
 
-/// The bytes that a longword declares: those of a size word.
-#[inline(always)]
-fn declares(position: Position, word: u32) -> u64
-    ensures value { result ≡ heading.declares position word }
-    ensures bound { result < 2 ^ 32 }
-{
-    match position {
-        Position::SizeWord { hunks: _, owed: _ } => SizeWord { word, extra: 0 }.bytes(),
-        _ => 0,
-    }
-}
-
 /// The row that a longword completes, where it completes one. Its hunk is not placed.
 fn row(position: Position, word: u32) -> Option<Row>
     ensures row { IfSome result (λ row. map row_of (heading.adds position word) ≡ row ∷ []) }
@@ -68,7 +56,12 @@ fn pass_at(state: HeaderState, budget: u64, word: u32) -> Result<HeaderState, Re
     if let Some(reason) = state.position.refuse(0, word) {
         return Err(reason);
     }
-    let total = state.total + declares(state.position, word);
+    let total = match state.position {
+        Position::SizeWord { hunks: _, owed: _ } => {
+            state.total + SizeWord { word, extra: 0 }.bytes()
+        }
+        _ => state.total,
+    };
     if total > budget {
         return Err(Reason::Budget);
     }

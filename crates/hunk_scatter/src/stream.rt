@@ -82,21 +82,10 @@ impl Standing {
     pub fn is_whole(&self) -> bool
         ensures { EndsLoading self.now result }
     {
-        self.state.position.is_done()
-    }
-
-    /// Counts bytes that were taken, and gives their number.
-    #[inline(always)]
-    fn count(&mut self, taken: usize) -> usize
-        ensures value { result ≡ taken }
-        ensures counts { self.new ≡ record {
-          state = self.old.state;
-          fed = saturated (self.old.fed + taken);
-          pending = self.old.pending;
-        } }
-    {
-        self.fed = self.fed.saturating_add(taken as u64);
-        taken
+        match self.state.position {
+            Position::Done => true,
+            _ => false,
+        }
     }
 
     /// Whether the numbers lead out of neither the rows nor a store of `total` bytes, as far as no
@@ -186,7 +175,7 @@ pub(crate) fn take_all(
     let mut rest = piece;
     'parts: while !rest.is_empty() {
         let Position::Body(_, _) = at.state.position else {
-            return Ok(at.count(piece.len() - rest.len()));
+            break 'parts;
         };
         match take_part(store, rows, at, rest) {
             Ok(count) => rest = &rest[count..],
@@ -198,7 +187,9 @@ pub(crate) fn take_all(
             }
         }
     }
-    Ok(at.count(piece.len() - rest.len()))
+    let taken = piece.len() - rest.len();
+    at.fed = at.fed.saturating_add(taken as u64);
+    Ok(taken)
 }
 
 /// Takes the piece, or up to the end of the file where that stands inside it, and gives the number
