@@ -1,5 +1,5 @@
 //! Positions within a hunk, and within a block.
-ghost use Rattle.std.specs.Prelude.{◌≡◌, ◌<◌, ◌^◌};
+ghost use Rattle.std.specs.Prelude.{◌≡◌};
 ghost use Rattle.hunk_grammar.specs.Positions as positions;
 
 use crate::position::Position;
@@ -33,34 +33,6 @@ impl OpenHunk {
                 Position::Body(hunk, Phase::BlockWord)
             }
             _ => Position::Body(self, Phase::BlockWord),
-        }
-    }
-
-    /// The least number of longwords up to the end of the file.
-    #[inline(always)]
-    pub(crate) fn least_longs(self, phase: Phase) -> u64
-        ensures value { result ≡ positions.least_in self phase }
-        ensures positive { 0 < result }
-        ensures bound { result < 2 ^ 35 }
-    {
-        // An END is to come, and before it a block of content with its size.
-        let end = 3 - 2 * u64::from(self.has_content);
-        let hunks = 3 * u64::from(self.ahead);
-        match phase {
-            Phase::FirstBlock | Phase::BlockWord => end + hunks,
-            Phase::NameCount
-            | Phase::LongCount
-            | Phase::GroupCount
-            | Phase::EntryWord
-            | Phase::ExtWord => 1 + end + hunks,
-            Phase::ContentSize | Phase::BssSize => 2 + hunks,
-            Phase::Content { longs: _, owed } => u64::from(owed) + 2 + hunks,
-            Phase::Payload { owed } => u64::from(owed) + 1 + end + hunks,
-            Phase::Target { owed } => u64::from(owed) + 3 + end + hunks,
-            Phase::Offset { target: _, owed } | Phase::Symbol { owed } | Phase::ExtRest { owed } =>
-                { u64::from(owed) + 2 + end + hunks }
-            Phase::ExtFront { owed } => u64::from(owed) + 3 + end + hunks,
-            Phase::ExtCount => 2 + end + hunks,
         }
     }
 }

@@ -47,17 +47,6 @@ pub enum Position {
 }
 
 impl Position {
-    /// Whether the file is whole.
-    #[inline(always)]
-    pub fn is_done(self) -> bool
-        ensures { result ≡ is_done self }
-    {
-        match self {
-            Position::Done => true,
-            _ => false,
-        }
-    }
-
     /// Whether the header is whole.
     #[inline(always)]
     pub fn is_behind_header(self) -> bool
@@ -159,7 +148,29 @@ impl Position {
                 word: _,
                 owed,
             } => u64::from(owed) + 1,
-            Position::Body(hunk, phase) => hunk.least_longs(phase),
+            Position::Body(hunk, phase) => {
+                // An END is to come, and before it a block of content with its size.
+                let end = 3 - 2 * u64::from(hunk.has_content);
+                let hunks = 3 * u64::from(hunk.ahead);
+                match phase {
+                    Phase::FirstBlock | Phase::BlockWord => end + hunks,
+                    Phase::NameCount
+                    | Phase::LongCount
+                    | Phase::GroupCount
+                    | Phase::EntryWord
+                    | Phase::ExtWord => 1 + end + hunks,
+                    Phase::ContentSize | Phase::BssSize => 2 + hunks,
+                    Phase::Content { longs: _, owed } => u64::from(owed) + 2 + hunks,
+                    Phase::Payload { owed } => u64::from(owed) + 1 + end + hunks,
+                    Phase::Offset { target: _, owed }
+                    | Phase::Symbol { owed }
+                    | Phase::ExtRest { owed } => u64::from(owed) + 2 + end + hunks,
+                    Phase::Target { owed } | Phase::ExtFront { owed } => {
+                        u64::from(owed) + 3 + end + hunks
+                    }
+                    Phase::ExtCount => 2 + end + hunks,
+                }
+            }
             Position::Done => 0,
         }
     }
