@@ -9,7 +9,7 @@ mod position;
 mod refusal;
 
 pub use crate::file_kind::Sniff;
-pub use crate::phase::{OpenHunk, open_next};
-pub use crate::position::{Position, TABLE_AT, TABLE_SIZE_AT};
+pub use crate::phase::OpenHunk;
+pub use crate::position::{Position, TABLE_AT, TABLE_SIZE_AT, open_next};
 pub use crate::refusal::{is_outside, refuse_place};
 pub use hunk_blocks::Phase;

@@ -1,9 +1,4 @@
-//! Positions within a hunk, and within a block.
-ghost use Rattle.std.specs.Prelude.{◌≡◌};
-ghost use Rattle.hunk_grammar.specs.Positions as positions;
-
-use crate::position::Position;
-use hunk_blocks::Phase;
+//! The open hunk, and the phases of its blocks told apart.
 
 /// The hunk that is open, without its size.
 #[derive(Clone, Copy, Debug, PartialEq, Eq)]
@@ -14,27 +9,6 @@ pub struct OpenHunk {
     pub ahead: u32,
     /// Whether its content block came.
     pub has_content: bool,
-}
-
-impl OpenHunk {
-    /// Behind a block whose last longword stands at this phase.
-    #[inline(always)]
-    pub(crate) fn behind(self, phase: Phase) -> Position
-        ensures { result ≡ positions.behind self phase }
-    {
-        match phase {
-            // The block that ends with its word is END.
-            Phase::FirstBlock | Phase::BlockWord => open_next(self.hunks, self.ahead),
-            Phase::ContentSize | Phase::BssSize | Phase::Content { longs: _, owed: _ } => {
-                let hunk = OpenHunk {
-                    has_content: true,
-                    ..self
-                };
-                Position::Body(hunk, Phase::BlockWord)
-            }
-            _ => Position::Body(self, Phase::BlockWord),
-        }
-    }
 }
 
 /// The arms of a reader of load files: `$word` at a block word, and else `$at`, a macro, of the
@@ -79,24 +53,4 @@ macro_rules! by_kind {
             _ => $at,
         }
     };
-}
-
-/// Where `left` hunks of a file of `hunks` are left. The file ends with the END of its last hunk:
-/// this project's own choice.
-#[inline(always)]
-pub fn open_next(hunks: u32, left: u32) -> Position
-    ensures { result ≡ positions.open_next hunks left }
-{
-    if left == 0 {
-        Position::Done
-    } else {
-        Position::Body(
-            OpenHunk {
-                hunks,
-                ahead: left - 1,
-                has_content: false,
-            },
-            Phase::FirstBlock,
-        )
-    }
 }

@@ -4,7 +4,7 @@ ghost use Rattle.hunk_grammar.specs.Positions as positions;
 ghost use Rattle.hunk_grammar.specs.Positions.{step, run, pass, least_longs};
 ghost use Rattle.hunk_grammar.specs.Positions.{is_done, is_behind_header, is_between_hunks};
 
-use crate::phase::{OpenHunk, open_next};
+use crate::phase::OpenHunk;
 use hunk_blocks::Phase;
 use hunk_words::SizeWord;
 
@@ -188,5 +188,46 @@ fn owe_entries(hunks: u32, owed: u32) -> Position
             hunks,
             owed: owed - 1,
         }
+    }
+}
+
+impl OpenHunk {
+    /// Behind a block whose last longword stands at this phase.
+    #[inline(always)]
+    fn behind(self, phase: Phase) -> Position
+        ensures { result ≡ positions.behind self phase }
+    {
+        match phase {
+            // The block that ends with its word is END.
+            Phase::FirstBlock | Phase::BlockWord => open_next(self.hunks, self.ahead),
+            Phase::ContentSize | Phase::BssSize | Phase::Content { longs: _, owed: _ } => {
+                let hunk = OpenHunk {
+                    has_content: true,
+                    ..self
+                };
+                Position::Body(hunk, Phase::BlockWord)
+            }
+            _ => Position::Body(self, Phase::BlockWord),
+        }
+    }
+}
+
+/// Where `left` hunks of a file of `hunks` are left. The file ends with the END of its last hunk:
+/// this project's own choice.
+#[inline(always)]
+pub fn open_next(hunks: u32, left: u32) -> Position
+    ensures { result ≡ positions.open_next hunks left }
+{
+    if left == 0 {
+        Position::Done
+    } else {
+        Position::Body(
+            OpenHunk {
+                hunks,
+                ahead: left - 1,
+                has_content: false,
+            },
+            Phase::FirstBlock,
+        )
     }
 }
