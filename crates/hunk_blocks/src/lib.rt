@@ -33,6 +33,6 @@ pub use crate::list::BlockList;
 pub use crate::longs::{Longs, LongsIter};
 pub use crate::mode::Mode;
 pub use crate::payload::Payload;
-pub use crate::phase::{Phase, content_longs};
+pub use crate::phase::Phase;
 pub use crate::symbols::{SymbolView, Symbols, SymbolsIter};
 pub use crate::walk::walk_block;

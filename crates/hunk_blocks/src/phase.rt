@@ -1,6 +1,5 @@
 //! Positions within a block.
 ghost use Rattle.std.specs.Prelude.{◌≡◌, ◌≤◌, ◌<◌, ◌^◌, Some};
-ghost use Rattle.hunk_words.specs.Bits.{size_longs};
 ghost use Rattle.hunk_blocks.specs.Faults.{refuse_alone};
 ghost use Rattle.hunk_blocks.specs.Modes.{refuse_inside};
 ghost use Rattle.hunk_blocks.specs.PhaseSteps as inside;
@@ -83,21 +82,42 @@ impl Phase {
     {
         match self {
             Phase::FirstBlock | Phase::BlockWord => Phase::begin(BlockWord::of(word).kind()),
-            Phase::NameCount | Phase::LongCount => owe_payload(word),
-            Phase::ContentSize => owe_content(content_longs(word), content_longs(word)),
-            Phase::BssSize => None,
-            Phase::Content { longs, owed } => owe_content(longs, owed),
-            Phase::Payload { owed } => owe_payload(owed),
+            Phase::NameCount | Phase::LongCount if word == 0 => None,
+            Phase::NameCount | Phase::LongCount => Some(Phase::Payload { owed: word - 1 }),
+            Phase::ContentSize => match (SizeWord { word, extra: 0 }).longs() {
+                0 => None,
+                longs => Some(Phase::Content {
+                    longs,
+                    owed: longs - 1,
+                }),
+            },
+            Phase::BssSize | Phase::Content { longs: _, owed: 0 } => None,
+            Phase::Content { longs, owed } => Some(Phase::Content {
+                longs,
+                owed: owed - 1,
+            }),
+            Phase::Payload { owed: 0 } => None,
+            Phase::Payload { owed } => Some(Phase::Payload { owed: owed - 1 }),
             Phase::GroupCount | Phase::EntryWord | Phase::ExtWord if word == 0 => None,
             Phase::GroupCount => Some(Phase::Target { owed: word - 1 }),
             Phase::Target { owed } => Some(Phase::Offset { target: word, owed }),
-            Phase::Offset { target, owed } => Some(owe_offsets(target, owed)),
-            Phase::EntryWord => Some(owe_symbol(word % NAME_LIMIT + 1)),
-            Phase::Symbol { owed } => Some(owe_symbol(owed)),
+            Phase::Offset { target: _, owed: 0 } => Some(Phase::GroupCount),
+            Phase::Offset { target, owed } => Some(Phase::Offset {
+                target,
+                owed: owed - 1,
+            }),
+            Phase::EntryWord => Some(Phase::Symbol {
+                owed: word % NAME_LIMIT,
+            }),
+            Phase::Symbol { owed: 0 } => Some(Phase::EntryWord),
+            Phase::Symbol { owed } => Some(Phase::Symbol { owed: owed - 1 }),
             Phase::ExtWord => Some(owe_shaped(shape_of(word), word % NAME_LIMIT)),
-            Phase::ExtFront { owed } => Some(owe_front(owed)),
-            Phase::ExtCount => Some(owe_rest(word)),
-            Phase::ExtRest { owed } => Some(owe_rest(owed)),
+            Phase::ExtFront { owed: 0 } => Some(Phase::ExtCount),
+            Phase::ExtFront { owed } => Some(Phase::ExtFront { owed: owed - 1 }),
+            Phase::ExtCount if word == 0 => Some(Phase::ExtWord),
+            Phase::ExtCount => Some(Phase::ExtRest { owed: word - 1 }),
+            Phase::ExtRest { owed: 0 } => Some(Phase::ExtWord),
+            Phase::ExtRest { owed } => Some(Phase::ExtRest { owed: owed - 1 }),
         }
     }
 
@@ -124,11 +144,26 @@ impl Phase {
         ensures { result ≡ inside.pass self more }
     {
         match self {
-            Phase::Content { longs, owed } => owe_content(longs, owed - more),
-            Phase::Payload { owed } => owe_payload(owed - more),
-            Phase::Symbol { owed } => Some(owe_symbol(owed - more)),
-            Phase::ExtFront { owed } => Some(owe_front(owed - more)),
-            Phase::ExtRest { owed } => Some(owe_rest(owed - more)),
+            Phase::Content { longs, owed } if more < owed => Some(Phase::Content {
+                longs,
+                owed: owed - more - 1,
+            }),
+            Phase::Payload { owed } if more < owed => Some(Phase::Payload {
+                owed: owed - more - 1,
+            }),
+            Phase::Symbol { owed } if more < owed => Some(Phase::Symbol {
+                owed: owed - more - 1,
+            }),
+            Phase::ExtFront { owed } if more < owed => Some(Phase::ExtFront {
+                owed: owed - more - 1,
+            }),
+            Phase::ExtRest { owed } if more < owed => Some(Phase::ExtRest {
+                owed: owed - more - 1,
+            }),
+            Phase::Content { longs: _, owed: _ } | Phase::Payload { owed: _ } => None,
+            Phase::Symbol { owed: _ } => Some(Phase::EntryWord),
+            Phase::ExtFront { owed: _ } => Some(Phase::ExtCount),
+            Phase::ExtRest { owed: _ } => Some(Phase::ExtWord),
             _ => Some(self),
         }
     }
@@ -185,84 +220,6 @@ impl Phase {
     }
 }
 
-/// Where `owed` longwords of a content are still to come.
-#[inline(always)]
-fn owe_content(longs: u32, owed: u32) -> Option<Phase>
-    ensures { result ≡ inside.owe_content longs owed }
-{
-    if owed == 0 {
-        None
-    } else {
-        Some(Phase::Content {
-            longs,
-            owed: owed - 1,
-        })
-    }
-}
-
-/// Where `owed` longwords of a payload are still to come.
-#[inline(always)]
-fn owe_payload(owed: u32) -> Option<Phase>
-    ensures { result ≡ inside.owe_payload owed }
-{
-    if owed == 0 {
-        None
-    } else {
-        Some(Phase::Payload { owed: owed - 1 })
-    }
-}
-
-/// Where `owed` offsets to this target are still to come.
-#[inline(always)]
-fn owe_offsets(target: u32, owed: u32) -> Phase
-    ensures { Some result ≡ inside.owe_offsets target owed }
-{
-    if owed == 0 {
-        Phase::GroupCount
-    } else {
-        Phase::Offset {
-            target,
-            owed: owed - 1,
-        }
-    }
-}
-
-/// Where `owed` longwords of a symbol's name and value are still to come.
-#[inline(always)]
-fn owe_symbol(owed: u32) -> Phase
-    ensures { Some result ≡ inside.owe_symbol owed }
-{
-    if owed == 0 {
-        Phase::EntryWord
-    } else {
-        Phase::Symbol { owed: owed - 1 }
-    }
-}
-
-/// Where `owed` longwords of an external entry are still to come up to its count.
-#[inline(always)]
-fn owe_front(owed: u32) -> Phase
-    ensures { Some result ≡ inside.owe_front owed }
-{
-    if owed == 0 {
-        Phase::ExtCount
-    } else {
-        Phase::ExtFront { owed: owed - 1 }
-    }
-}
-
-/// Where `owed` longwords of an external entry are still to come up to its end.
-#[inline(always)]
-fn owe_rest(owed: u32) -> Phase
-    ensures { Some result ≡ inside.owe_rest owed }
-{
-    if owed == 0 {
-        Phase::ExtWord
-    } else {
-        Phase::ExtRest { owed: owed - 1 }
-    }
-}
-
 /// Where a name of `longs` longwords is still to come, and what follows it.
 #[inline(always)]
 fn owe_shaped(shape: Option<ExtShape>, longs: u32) -> Phase
@@ -270,17 +227,11 @@ fn owe_shaped(shape: Option<ExtShape>, longs: u32) -> Phase
     ensures { Some result ≡ inside.owe_shaped shape longs }
 {
     match shape {
-        Some(ExtShape::Definition) => owe_rest(longs + 1),
-        Some(ExtShape::References) => owe_front(longs),
-        Some(ExtShape::Common) => owe_front(longs + 1),
-        None => owe_rest(longs),
+        Some(ExtShape::Definition) => Phase::ExtRest { owed: longs },
+        Some(ExtShape::References) if longs == 0 => Phase::ExtCount,
+        Some(ExtShape::References) => Phase::ExtFront { owed: longs - 1 },
+        Some(ExtShape::Common) => Phase::ExtFront { owed: longs },
+        None if longs == 0 => Phase::ExtWord,
+        None => Phase::ExtRest { owed: longs - 1 },
     }
-}
-
-/// The longwords of a content, by its size word.
-#[inline(always)]
-pub fn content_longs(word: u32) -> u32
-    ensures { result ≡ size_longs word }
-{
-    SizeWord { word, extra: 0 }.longs()
 }

@@ -1,12 +1,12 @@
 //! The tests of the longwords of a load file.
 ghost use Rattle.std.specs.Prelude.{◌≡◌, ◌+◌, ◌*◌, nat_lt, Some, None, if◌then◌else◌};
-ghost use Rattle.hunk_grammar.specs.Roles.{refuse, refuse_word};
+ghost use Rattle.hunk_grammar.specs.Roles.{refuse};
 ghost use Rattle.hunk_grammar.specs.Positions.{role_at};
 ghost use Rattle.hunk_grammar.specs.Standings.{refuse_standing, standing_of_kind};
 
 use crate::file_kind::Sniff;
 use crate::position::Position;
-use hunk_blocks::{Mode, Phase, content_longs};
+use hunk_blocks::{Mode, Phase};
 use hunk_words::{BlockWord, Kind, MOST_HUNKS, NAME_LIMIT, Reason, SizeWord};
 
 impl Position {
@@ -16,6 +16,7 @@ impl Position {
     /// The header is that of The AmigaDOS Manual and `dos/doshunks.h`. To reject resident names,
     /// another first hunk than 0, another last hunk than the table size minus 1, and more hunks
     /// than `MOST_HUNKS` is this project's own choice.
+    #[tactic(auto, using(crate::proofs::BlockWords::word_split))]
     #[inline(always)]
     pub fn refuse(self, longs: u32, word: u32) -> Option<Reason>
         ensures { result ≡ refuse (role_at longs self) word }
@@ -35,10 +36,17 @@ impl Position {
                 (u64::from(word) + 1 != u64::from(hunks)).then_some(Reason::LastHunk)
             }
             Position::Body(hunk, phase) => match phase {
-                Phase::FirstBlock | Phase::BlockWord => refuse_block_word(hunk.has_content, word),
+                Phase::FirstBlock | Phase::BlockWord => {
+                    // Wherever its block stands, or else for its place in the hunk.
+                    let block = BlockWord::of(word);
+                    match Mode::Load.refuse(block) {
+                        Some(reason) => Some(reason),
+                        None => refuse_place(block.kind(), hunk.has_content),
+                    }
+                }
                 Phase::NameCount => (word >= NAME_LIMIT).then_some(Reason::NameWord),
                 Phase::ContentSize | Phase::BssSize => {
-                    (content_longs(word) > longs).then_some(Reason::ContentTooLong)
+                    (SizeWord { word, extra: 0 }.longs() > longs).then_some(Reason::ContentTooLong)
                 }
                 Phase::GroupCount => (word != 0 && longs == 0).then_some(Reason::NothingToRelocate),
                 Phase::Target { owed: _ } => (word >= hunk.hunks).then_some(Reason::BadTarget),
@@ -61,20 +69,6 @@ pub fn is_outside(offset: u32, longs: u32) -> bool
     ensures { result ≡ nat_lt (4 * longs) (offset + 4) }
 {
     u64::from(offset) + 4 > u64::from(longs) * 4
-}
-
-/// Why the block word is rejected, where it is: wherever its block stands, or else for its place in
-/// the hunk.
-#[tactic(auto, using(crate::proofs::BlockWords::word_split))]
-#[inline(always)]
-fn refuse_block_word(has_content: bool, word: u32) -> Option<Reason>
-    ensures { result ≡ refuse_word has_content word }
-{
-    let block = BlockWord::of(word);
-    match Mode::Load.refuse(block) {
-        Some(reason) => Some(reason),
-        None => refuse_place(block.kind(), has_content),
-    }
 }
 
 /// Why a block of this kind may not stand here, where it may not. `has_content` says whether the

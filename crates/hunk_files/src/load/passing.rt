@@ -9,7 +9,6 @@ ghost use Rattle.hunk_files.specs.Passing.{IsContent, IsCounted, IsGroup, IsPass
 ghost use Rattle.hunk_grammar.specs.Positions.{EndsWithin};
 ghost use Rattle.hunk_grammar.specs.Roles.{refuse_word};
 
-use hunk_blocks::content_longs;
 use hunk_grammar::{OpenHunk, Phase, Position, by_kind, is_outside};
 use hunk_words::{BlockWord, NAME_LIMIT, SizeWord, word_at};
 
@@ -164,7 +163,8 @@ fn behind_content(bytes: &[u8], at: usize, declared: u32) -> Option<usize>
     if at >= whole {
         return None;
     }
-    let size = content_longs(word_at(bytes, at));
+    let word = word_at(bytes, at);
+    let size = SizeWord { word, extra: 0 }.longs();
     if size > declared || size as usize > whole - at - 1 {
         return None;
     }

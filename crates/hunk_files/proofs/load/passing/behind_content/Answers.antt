@@ -5,7 +5,7 @@ use Rattle.hunk_files.proofs.load.passing.behind_content.Goals as goal
 
 pub returns : goal.returns
 returns c =
-    let is = c.content_longs-size.ensures ∙ ap size_longs c.word_at.ensures in
+    let is = c.longs-size.ensures.value ∙ ap size_longs c.word_at-word.ensures in
     record {
       fits = omega (arith, is, c.if-size-declared.false);
       ends = ap (λ (n : ℕ). c.args.at + 1 + n) is;
