@@ -94,7 +94,7 @@ impl Position {
             } => owe_entries(hunks, owed),
             Position::Body(hunk, phase) => match phase.step(word) {
                 Some(next) => Position::Body(hunk, next),
-                None => hunk.behind(phase),
+                None => behind(hunk, phase),
             },
             Position::Done => Position::Done,
         }
@@ -122,7 +122,7 @@ impl Position {
         match self {
             Position::Body(hunk, phase) if count > 0 => match phase.pass((count - 1) as u32) {
                 Some(next) => Position::Body(hunk, next),
-                None => hunk.behind(phase),
+                None => behind(hunk, phase),
             },
             _ => self,
         }
@@ -191,24 +191,22 @@ fn owe_entries(hunks: u32, owed: u32) -> Position
     }
 }
 
-impl OpenHunk {
-    /// Behind a block whose last longword stands at this phase.
-    #[inline(always)]
-    fn behind(self, phase: Phase) -> Position
-        ensures { result ≡ positions.behind self phase }
-    {
-        match phase {
-            // The block that ends with its word is END.
-            Phase::FirstBlock | Phase::BlockWord => open_next(self.hunks, self.ahead),
-            Phase::ContentSize | Phase::BssSize | Phase::Content { longs: _, owed: _ } => {
-                let hunk = OpenHunk {
-                    has_content: true,
-                    ..self
-                };
-                Position::Body(hunk, Phase::BlockWord)
-            }
-            _ => Position::Body(self, Phase::BlockWord),
+/// Behind a block of the hunk whose last longword stands at this phase.
+#[inline(always)]
+fn behind(hunk: OpenHunk, phase: Phase) -> Position
+    ensures { result ≡ positions.behind hunk phase }
+{
+    match phase {
+        // The block that ends with its word is END.
+        Phase::FirstBlock | Phase::BlockWord => open_next(hunk.hunks, hunk.ahead),
+        Phase::ContentSize | Phase::BssSize | Phase::Content { longs: _, owed: _ } => {
+            let hunk = OpenHunk {
+                has_content: true,
+                ..hunk
+            };
+            Position::Body(hunk, Phase::BlockWord)
         }
+        _ => Position::Body(hunk, Phase::BlockWord),
     }
 }
 
