@@ -74,6 +74,15 @@ impl BodyState {
     }
 }
 
+/// Puts bytes at the offset.
+#[inline(never)]
+fn put_all(store: &mut [u8], at: usize, bytes: &[u8])
+    requires { at + length bytes.now ≤ length store.old }
+    ensures { store.new ≡ put_slice store.old at bytes.now }
+{
+    store[at..at + bytes.len()].copy_from_slice(bytes);
+}
+
 /// Adds to the longword at the offset, modulo 2 ^ 32.
 fn add(store: &mut [u8], at: usize, base: u32)
     requires { at + 4 ≤ length store.old }
@@ -152,8 +161,8 @@ fn take_run(store: &mut [u8], rows: &[Row], state: BodyState, bytes: &[u8]) -> B
     ensures stores { store.new ≡ stored_run state bytes.now store.old }
 {
     if let Position::Body(_, Phase::Content { longs, owed }) = state.position {
-        let at = (state.start + 4 * u64::from(longs - owed - 1)) as usize;
-        store[at..at + bytes.len()].copy_from_slice(bytes);
+        let at = state.start + 4 * u64::from(longs - owed - 1);
+        put_all(store, at as usize, bytes);
     }
     let position = state.position.pass((bytes.len() / 4) as u64);
     BodyState { position, ..state }
