@@ -1,6 +1,5 @@
 -- What the fields of the loader of a header keep, and what they tell.
 use Rattle.std.proofs.Common.{◌≡◌, ℕ, ◌+◌, ◌-◌, ◌*◌, ◌/◌, ◌^◌, ◌<◌, ◌≤◌, Bool, true, false, List, [], ◌∷◌, ◌++◌, length, map, refl, sym, ap, subst, ◌∙◌, append_assoc, append-nil, arith, length-append, Option, Some, None, Ok, ◌⊎◌, inl, inr, ltb, take, drop, length-drop, take-append-drop}
-use Rattle.std.specs.Prelude.{IsTrue}
 use Rattle.std.proofs.lemmas.Bool.{ltb-true, ltb-false}
 use Rattle.std.proofs.lemmas.List.{length-map, take_all}
 use Rattle.hunk_words.specs.Longs.{longs, bytes_of, IsLong}
@@ -19,7 +18,6 @@ use Rattle.hunk_files.proofs.Reading.{start_read, one_place}
 use Rattle.hunk_files.specs.WordsRead.{HasRead}
 use Rattle.hunk_grammar.specs.declared.position.Position.TheVariants as positions
 use Rattle.hunk_scatter.specs.declared.header_state.HeaderState.{HeaderState}
-use Rattle.hunk_scatter.specs.LoaderReasons.{is_of_header}
 use Rattle.hunk_scatter.specs.HeaderBytes.{IsHeaderTable, IsHeader, header_words, header_bytes, entries_so_far}
 use Rattle.hunk_scatter.specs.HeaderFaults.{ExceedsBudget}
 use Rattle.hunk_scatter.specs.HeaderLoaderFields.{adds, declares, declared_so_far, OpensFirst, StopsFor, HeaderReading, HeaderLoaderInvariant, DeclaredInvariant, HeaderStop, FeedsHeaderOrStops}
@@ -315,17 +313,6 @@ module _ (budget : ℕ) (rows : List Row) (s : HeaderState) (pending : List ℕ)
       place = omega (arith, heading_place);
       stops = stops;
     }
-
--- A refusal leaves what was fed, and clears the rows.
-pub heading_refused : (budget : ℕ) (rows : List Row) (s : HeaderState) (pending : List ℕ) (count : ℕ) (fed : List ℕ) (f : Fault) →
-    count ≡ length fed → rows ≡ [] → IsTrue (is_of_header f.reason) → HeaderLoaderInvariant budget rows s pending count (Some f) fed
-heading_refused budget rows s pending count fed f counted cleared own = record {
-  counted = counted;
-  few_rows = omega (arith, ap length cleared);
-  reading = λ e. absurd cc;
-  own_reasons = λ g e. let d : f ≡ g = cc in subst (λ (x : Fault). IsTrue (is_of_header x.reason)) d own;
-  cleared = λ g e. cleared;
-}
 
 -- A header that is whole is that of the table.
 pub table_declared : (budget : ℕ) (rows : List Row) (s : HeaderState) (pending : List ℕ) (count : ℕ) (refused : Option Fault) (fed : List ℕ) →

@@ -22,7 +22,6 @@ use Rattle.hunk_files.specs.WordsRead.{HasRead}
 use Rattle.hunk_files.proofs.Refusals.{refusal_of_word}
 use Rattle.hunk_files.proofs.Scan.{expects_of}
 use Rattle.hunk_grammar.specs.declared.position.Position.{Position}
-use Rattle.hunk_scatter.specs.LoaderReasons.{is_of_header}
 use Rattle.hunk_scatter.specs.HeaderBytes.{IsHeaderTable, header_words, header_bytes, IsHeaderFront, MayGoOnInHeader, entries_so_far}
 use Rattle.hunk_scatter.specs.HeaderFaults.{ExceedsBudget, IsOverBudget, IsBudgetOrMemory, IsHeaderFaultBy, IsHeaderFault}
 use Rattle.hunk_scatter.specs.HeaderLoaderFields.{adds, declares, StopsFor, HeaderStop, StopsInPiece}
@@ -33,7 +32,6 @@ use Rattle.hunk_scatter.proofs.HeaderReads.{here, read_here, position_here, refu
 use Rattle.hunk_scatter.proofs.HeaderSteps.{IsInHeader, not_in_body, declares_some, step_adds, step_opens}
 use Rattle.hunk_scatter.proofs.HeaderTexts.{header_read, rows_read}
 use Rattle.hunk_scatter.proofs.ReadWords.{read_longs, accepted_longs}
-use Rattle.hunk_scatter.proofs.Refusing.{refused_in_header}
 use Rattle.hunk_scatter.proofs.Splits.{Cuts, Same, Before, Behind, cuts, fronts}
 
 -- the fault of a reason that is neither Budget nor OutOfMemory
@@ -135,15 +133,6 @@ module _ (budget : ℕ) (bytes rest : List ℕ) (f : Fault) (s : HeaderStop budg
   -- It ends the bytes.
   pub stop_ends : length bytes ≡ f.place + 4
   stop_ends = omega (arith, s.place, ap length s.spelled, length-bytes_of (s.ws ++ s.word ∷ []), length-append s.ws (s.word ∷ []))
-
-  -- For a reason of its own.
-  pub stop_own : IsTrue (is_of_header f.reason)
-  stop_own = go s.stops
-    where
-      go : StopsFor budget s.state s.word f.reason → IsTrue (is_of_header f.reason)
-      go (inl (inl e)) = refused_in_header s.state.position s.word f.reason s.goes_on e
-      go (inl (inr o)) = ap is_of_header o.reason_is
-      go (inr l) = ap is_of_header l.reason_is
 
   -- Where the table passes the budget, it stops there, or before it since memory runs out.
   pub stop_over : (place : ℕ) → ExceedsBudget budget (bytes ++ rest) place → IsOverBudget place f

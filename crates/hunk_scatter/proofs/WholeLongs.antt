@@ -130,11 +130,6 @@ module _ (rows : List Row) (store : List ℕ) (state : BodyState) (pending fed b
 abbrev pub Leaves : List ℕ → List ℕ → Type 0
 Leaves piece rest = (length rest ≤ length piece) × (rest ≡ drop (length piece - length rest) piece)
 
-pub leaves_all : (piece : List ℕ) → Leaves piece piece
-leaves_all piece =
-    let none : length piece - length piece ≡ 0 = omega arith in
-    (omega arith, sym (ap (λ (n : ℕ). drop n piece) none))
-
 module _ (piece rest : List ℕ) (leaves : Leaves piece rest) where
   taken : ℕ
   taken = length piece - length rest
