@@ -17,6 +17,5 @@ bytes_of-longs bytes fit whole =
     sym (s.split ∙ ap (λ (xs : List ℕ). bytes_of (longs bytes) ++ xs) none ∙ append-nil (bytes_of (longs bytes)))
 
 -- the size of a payload
-pub payload_size : (payload bytes : List ℕ) → bytes ≡ payload → bytes_of (longs bytes) ≡ bytes → length bytes ≡ 4 * length (longs payload)
-payload_size payload bytes same whole =
-    sym (ap (λ (xs : List ℕ). length xs) whole) ∙ length-bytes_of (longs bytes) ∙ ap (λ (xs : List ℕ). 4 * length (longs xs)) same
+pub payload_size : (bytes : List ℕ) → bytes_of (longs bytes) ≡ bytes → length bytes ≡ 4 * length (longs bytes)
+payload_size bytes whole = ap (λ (xs : List ℕ). length xs) (sym whole) ∙ length-bytes_of (longs bytes)

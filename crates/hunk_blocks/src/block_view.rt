@@ -50,15 +50,14 @@ impl<'a> BlockView<'a> {
             (length (bytes_of (block_text result.value))) }
         ensures place { result.place ≡ place }
     {
-        let mut reader = LongReader::at(bytes, place);
-        let start = reader.place();
+        let mut reader = LongReader { bytes, at: place };
         let word = BlockWord::of(reader.long());
         let body = read_body(&mut reader, word);
         BlockView {
             word,
             body,
-            place: start,
-            len: reader.place() - start,
+            place: place as u64,
+            len: (reader.at - place) as u64,
         }
     }
 

@@ -1,6 +1,5 @@
 //! What follows the word of a block.
-ghost use Rattle.std.specs.Prelude.{◌≡◌, ◌*◌};
-ghost use Rattle.hunk_words.specs.Bits.{size_longs};
+ghost use Rattle.std.specs.Prelude.{◌≡◌};
 ghost use Rattle.hunk_words.specs.Longs.{bytes_of};
 ghost use Rattle.hunk_words.specs.Prints.{Prints};
 ghost use Rattle.hunk_blocks.specs.Values.{FitsWord, content_bytes};
@@ -10,8 +9,9 @@ ghost use Rattle.hunk_blocks.specs.Parts.{body_text};
 use crate::entries::{Entries, print_entries};
 use crate::groups::{Groups, print_groups};
 use crate::payload::{Payload, print_counted, print_sized};
+use crate::phase::content_longs;
 use crate::symbols::{Symbols, print_symbols};
-use hunk_words::{BlockWord, PagePrinter, Sink, SizeWord};
+use hunk_words::{BlockWord, PagePrinter, Sink};
 
 /// What follows the word of a block, by its kind.
 ///
@@ -52,21 +52,10 @@ impl Body<'_> {
         match self {
             Body::Code { top: _, payload } => Some(payload.byte_count()),
             Body::Data { top: _, payload } => Some(payload.byte_count()),
-            Body::Bss { size } => Some(bss_bytes(*size)),
+            Body::Bss { size } => Some(4 * u64::from(content_longs(*size))),
             _ => None,
         }
     }
-}
-
-/// How many bytes the size word of a BSS block says.
-pub(crate) fn bss_bytes(size: u32) -> u64
-    ensures { result ≡ 4 * size_longs size }
-{
-    SizeWord {
-        word: size,
-        extra: 0,
-    }
-    .bytes()
 }
 
 /// What follows this block word.

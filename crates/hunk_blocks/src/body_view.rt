@@ -8,11 +8,12 @@ ghost use Rattle.hunk_blocks.specs.Reading.{BeginsWithSome, ReadsValue};
 ghost use Rattle.hunk_blocks.specs.Values.{FitsWord, content_bytes};
 ghost use Rattle.hunk_blocks.specs.Views.{body_of};
 
-use crate::body::{Body, bss_bytes};
+use crate::body::Body;
 use crate::entries::{EntriesIter, keep_entries};
 use crate::groups::{GroupsIter, keep_groups};
 use crate::long_reader::LongReader;
 use crate::payload::{Payload, read_counted, read_sized};
+use crate::phase::content_longs;
 use crate::symbols::{SymbolsIter, keep_symbols};
 use hunk_words::{BlockFault, BlockWord, Kind};
 use std::alloc::Global;
@@ -51,7 +52,7 @@ impl BodyView<'_> {
         match self {
             BodyView::Code { top: _, payload } => Some(payload.byte_count()),
             BodyView::Data { top: _, payload } => Some(payload.byte_count()),
-            BodyView::Bss { size } => Some(bss_bytes(*size)),
+            BodyView::Bss { size } => Some(4 * u64::from(content_longs(*size))),
             _ => None,
         }
     }

@@ -110,7 +110,7 @@ impl<'a> EntriesIter<'a> {
     pub fn place(&self) -> u64
         ensures { result ≡ self.now.place }
     {
-        self.reader.place()
+        self.reader.at as u64
     }
 
     /// The same entries again.
@@ -148,10 +148,14 @@ fn read_shaped<'a>(reader: &mut LongReader<'a>, shape: ExtShape) -> (u32, Longs<
 {
     match shape {
         ExtShape::Definition => (reader.long(), Longs::none()),
-        ExtShape::References => (0, Longs::of(read_counted(reader))),
+        ExtShape::References => {
+            let payload = read_counted(reader);
+            (0, Longs { payload })
+        }
         ExtShape::Common => {
             let size = reader.long();
-            (size, Longs::of(read_counted(reader)))
+            let payload = read_counted(reader);
+            (size, Longs { payload })
         }
     }
 }

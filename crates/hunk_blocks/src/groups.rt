@@ -83,7 +83,7 @@ impl<'a> GroupsIter<'a> {
     pub fn place(&self) -> u64
         ensures { result ≡ self.now.place }
     {
-        self.reader.place()
+        self.reader.at as u64
     }
 
     /// The same groups again.
@@ -123,7 +123,8 @@ fn read_group<'a>(reader: &mut LongReader<'a>) -> Group<'a>
 {
     let count = reader.long();
     let target = reader.long();
-    let offsets = Longs::of(reader.payload(count));
+    let payload = reader.payload(count);
+    let offsets = Longs { payload };
     Group { target, offsets }
 }
 

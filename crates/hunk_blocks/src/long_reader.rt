@@ -11,8 +11,10 @@ use std::marker::Model;
 /// longword adds to one number.
 #[derive(Drop)]
 pub(crate) struct LongReader<'a> {
-    bytes: &'a [u8],
-    at: usize,
+    /// The input.
+    pub(crate) bytes: &'a [u8],
+    /// The byte at which the next longword begins.
+    pub(crate) at: usize,
 }
 
 impl<'a> Model for LongReader<'a> {
@@ -28,15 +30,6 @@ impl<'a> Model for LongReader<'a> {
 }
 
 impl<'a> LongReader<'a> {
-    /// A reader of the input from this byte on.
-    pub(crate) fn at(bytes: &'a [u8], place: usize) -> LongReader<'a>
-        requires { place ≤ length bytes.now }
-        ensures rest { result.rest ≡ longs (drop place bytes.entry.now) }
-        ensures place { result.place ≡ place }
-    {
-        LongReader { bytes, at: place }
-    }
-
     /// This reader again.
     #[inline(always)]
     pub(crate) fn again(&self) -> LongReader<'a>
@@ -46,14 +39,6 @@ impl<'a> LongReader<'a> {
             bytes: self.bytes,
             at: self.at,
         }
-    }
-
-    /// The byte of the input at which the next longword begins.
-    #[inline(always)]
-    pub(crate) fn place(&self) -> u64
-        ensures { result ≡ self.now.place }
-    {
-        self.at as u64
     }
 
     /// The next longword, which stays.
@@ -84,7 +69,7 @@ impl<'a> LongReader<'a> {
         requires { 0 < length self.old.rest }
         ensures { Reads self.old self.new (result ∷ []) }
     {
-        let word = self.peek();
+        let word = word_at(&self.bytes[self.at..], 0);
         self.at += 4;
         word
     }

@@ -10,7 +10,7 @@ use std::marker::Model;
 /// Longwords of the input. Contracts see them as the list of their numbers.
 #[derive(Debug, Drop)]
 pub struct Longs<'a> {
-    payload: Payload<'a>,
+    pub(crate) payload: Payload<'a>,
 }
 
 impl<'a> Model for Longs<'a> {
@@ -23,25 +23,20 @@ impl<'a> Model for Longs<'a> {
 }
 
 impl<'a> Longs<'a> {
-    /// The longwords that the bytes of the payload spell.
-    pub(crate) fn of(payload: Payload<'a>) -> Longs<'a>
-        ensures { result ≡ longs payload.entry }
-    {
-        Longs { payload }
-    }
-
     /// No longwords.
     pub(crate) fn none() -> Longs<'a>
         ensures { result ≡ [] }
     {
-        Longs::of(Payload::of(&[]))
+        Longs {
+            payload: Payload::of(&[]),
+        }
     }
 
     /// How many longwords there are.
     pub fn len(&self) -> usize
         ensures { result ≡ length self.now }
     {
-        self.payload.count()
+        (self.payload.byte_count() / 4) as usize
     }
 
     /// Whether there is no longword.
@@ -55,9 +50,7 @@ impl<'a> Longs<'a> {
     pub fn iter(&self) -> LongsIter<'a>
         ensures { result ≡ self.now }
     {
-        LongsIter {
-            rest: self.payload.bytes(),
-        }
+        self.into_iter()
     }
 
     /// The longword number `i`, counted from 0.
@@ -117,6 +110,8 @@ impl<'a, 'b> IntoIterator for &'b Longs<'a> {
     ghost into_iter_gives = { λ longs it. it ≡ longs.now };
 
     fn into_iter(self) -> Self::IntoIter {
-        self.iter()
+        LongsIter {
+            rest: self.payload.bytes,
+        }
     }
 }

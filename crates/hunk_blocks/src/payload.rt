@@ -15,7 +15,7 @@ use std::marker::Model;
 /// The bytes of whole longwords of the input: a payload or a name. Contracts see it as its bytes.
 #[derive(Debug, Drop)]
 pub struct Payload<'a> {
-    bytes: &'a [u8],
+    pub(crate) bytes: &'a [u8],
 }
 
 impl<'a> Model for Payload<'a> {
@@ -50,16 +50,7 @@ impl<'a> Payload<'a> {
     pub fn byte_count(&self) -> u64
         ensures { result ≡ 4 * length (longs self.now) }
     {
-        let bytes = self.bytes();
-        bytes.len() as u64
-    }
-
-    /// How many longwords there are.
-    #[tactic(auto, using(crate::proofs::Whole::long_counts))]
-    pub(crate) fn count(&self) -> usize
-        ensures { result ≡ length (longs self.now) }
-    {
-        self.bytes.len() / 4
+        self.bytes.len() as u64
     }
 }
 
@@ -119,7 +110,7 @@ pub(crate) fn print_counted<W: Sink, const ROOM: usize>(
     requires { IsPayload (2 ^ 32) (longs payload.now) }
     ensures { Prints page.old page.new (bytes_of (counted_text (longs payload.now))) }
 {
-    page.print_long(payload.count() as u32);
+    page.print_long((payload.byte_count() / 4) as u32);
     print_payload(page, payload);
 }
 
@@ -133,7 +124,7 @@ pub(crate) fn print_sized<W: Sink, const ROOM: usize>(
     requires { IsSized (top, longs payload.now) }
     ensures { Prints page.old page.new (bytes_of (sized_text (top, longs payload.now))) }
 {
-    let size = (top as u32) * CONTENT_LIMIT + payload.count() as u32;
+    let size = (top as u32) * CONTENT_LIMIT + (payload.byte_count() / 4) as u32;
     page.print_long(size);
     print_payload(page, payload);
 }

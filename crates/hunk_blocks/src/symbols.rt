@@ -83,7 +83,7 @@ impl<'a> SymbolsIter<'a> {
     pub fn place(&self) -> u64
         ensures { result ≡ self.now.place }
     {
-        self.reader.place()
+        self.reader.at as u64
     }
 
     /// The same entries again.
