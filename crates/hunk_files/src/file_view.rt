@@ -3,10 +3,9 @@ ghost use Rattle.std.specs.Prelude.{◌≡◌, ◌≢◌, IfErr, IfOk};
 ghost use Rattle.hunk_words.specs.Longs.{longs};
 ghost use Rattle.hunk_words.specs.declared.reason.Reason.TheVariants as reasons;
 ghost use Rattle.hunk_grammar.specs.FileKind.{sniffed};
-ghost use Rattle.hunk_files.specs.Fault.{BeginsWithLoadFile};
 ghost use Rattle.hunk_files.specs.FileView.{file_of};
-ghost use Rattle.hunk_files.specs.HunkFile.{AreFile, AreObjectFile, IsFileOf, IsLoadRefusal};
-ghost use Rattle.hunk_files.specs.HunkFile.{EndsFilePart, IsObjectRefusal, IsRefusal, bytes_behind};
+ghost use Rattle.hunk_files.specs.HunkFile.{AreFile, IsFileOf, IsRefusal};
+ghost use Rattle.hunk_files.specs.HunkFile.{EndsFilePart, bytes_behind};
 ghost use Rattle.hunk_files.specs.HunkFile.{file_bytes, stripped};
 ghost use Rattle.hunk_files.specs.Lacks.{EndsAt};
 
@@ -47,8 +46,15 @@ impl<'a> FileView<'a> {
         ensures memory { IfErr result (λ fault. fault.reason ≢ reasons.OutOfMemory) }
     {
         match sniff(bytes) {
-            Sniff::Object => read_object(bytes),
-            Sniff::Load | Sniff::Library | Sniff::Other => read_load(bytes),
+            Sniff::Object => {
+                let file = ObjectView::read(bytes)?;
+                Ok(FileView::Object(file))
+            }
+            Sniff::Load | Sniff::Library | Sniff::Other => {
+                let (file, size) = LoadView::read(bytes)?;
+                let rest = (bytes.len() - size) as u64;
+                Ok(FileView::Load { file, rest })
+            }
         }
     }
 
@@ -95,27 +101,4 @@ impl<'a> FileView<'a> {
             }
         }
     }
-}
-
-/// The load file that the bytes begin with, and how many follow it.
-fn read_load(bytes: &[u8]) -> Result<FileView<'_>, FileFault>
-    ensures file { IfOk result (λ file. IsFileOf bytes.entry.now (file_of file)) }
-    ensures none { IfErr result (λ fault. BeginsWithLoadFile bytes.entry.now → ⊥) }
-    ensures refused { IfErr result (IsLoadRefusal bytes.entry.now) }
-    ensures memory { IfErr result (λ fault. fault.reason ≢ reasons.OutOfMemory) }
-{
-    let (file, size) = LoadView::read(bytes)?;
-    let rest = (bytes.len() - size) as u64;
-    Ok(FileView::Load { file, rest })
-}
-
-/// The object file that the bytes are.
-fn read_object(bytes: &[u8]) -> Result<FileView<'_>, FileFault>
-    ensures file { IfOk result (λ file. IsFileOf bytes.entry.now (file_of file)) }
-    ensures none { IfErr result (λ fault. AreObjectFile bytes.entry.now → ⊥) }
-    ensures refused { IfErr result (IsObjectRefusal bytes.entry.now) }
-    ensures memory { IfErr result (λ fault. fault.reason ≢ reasons.OutOfMemory) }
-{
-    let file = ObjectView::read(bytes)?;
-    Ok(FileView::Object(file))
 }

@@ -1,27 +1,49 @@
 use Rattle.std.specs.Prelude.{IfErr}
-use Rattle.std.proofs.Common.{◌≢◌, ◌∙◌, sym, inl, inr}
+use Rattle.std.proofs.Common.{rules, ◌≢◌, ◌∙◌, refl, sym, inl, inr}
+use Rattle.std.proofs.lemmas.List.{length-drop}
+use Rattle.std.proofs.lemmas.Result.{err_from_is_err_and}
 use Rattle.hunk_words.specs.Longs.{longs}
 use Rattle.hunk_grammar.specs.declared.file_kind.Sniff.{Sniff}
 use Rattle.hunk_grammar.specs.declared.file_kind.Sniff.TheVariants.{Object}
 use Rattle.hunk_grammar.specs.FileKind.{sniffed}
-use Rattle.hunk_files.specs.HunkFile.{IsRefusal}
-use Rattle.hunk_files.proofs.FileKinds.{no_load, no_object, not_object}
+use Rattle.hunk_files.specs.Fault.{BeginsWithLoadFile}
+use Rattle.hunk_files.specs.HunkFile.{AreObjectFile, IsLoadRefusal, IsRefusal}
+use Rattle.hunk_files.proofs.FileKinds.{load_of, no_load, no_object, not_object}
 use Rattle.hunk_files.proofs.file_view.FileView.read.Goals as goal
 
-pub returns-in-Object-clause-none : goal.returns-in-Object-clause-none
-returns-in-Object-clause-none c =
-    no_object c.args.bytes.now c.read_object.result (sym c.sniff.ensures ∙ c.in-Object.is) c.read_object.ensures.none
+pub returns-in_ok-file-in-Object-clause-file : goal.returns-in_ok-file-in-Object-clause-file
+returns-in_ok-file-in-Object-clause-file c =
+    let ok = c.in_ok-file-in-Object in
+    (record { value = ok.file; is_object_file = ok.ensures.file; text_is = ok.ensures.text }, refl)
 
-pub returns-in-Load : goal.returns-in-Load
-returns-in-Load c =
+pub returns-in_err-file-in-Object-clause-none : goal.returns-in_err-file-in-Object-clause-none
+returns-in_err-file-in-Object-clause-none c =
+    let none : IfErr c.from_residual.result (λ fault. AreObjectFile c.args.bytes.now → ⊥) = search rules in
+    no_object c.args.bytes.now c.from_residual.result (sym c.sniff.ensures ∙ c.in-Object.is) none
+
+pub returns-in_ok-file-in-Load : goal.returns-in_ok-file-in-Load
+returns-in_ok-file-in-Load c =
+    let ok = c.in_ok-file-in-Load in
+    record {
+      file = load_of c.args.bytes.now ok.file ok.size ok.ensures.valid ok.ensures.text ok.ensures.inside _ (sym (length-drop ok.size c.args.bytes.now));
+      none = tt;
+      refused = tt;
+      memory = tt;
+    }
+
+pub returns-in_err-file-in-Load : goal.returns-in_err-file-in-Load
+returns-in_err-file-in-Load c =
     let kind : c.sniff.result ≢ Object = λ object. elim c.in-Load.is [ inl load ↦ cc | inr others ↦ elim others [ inl library ↦ cc | inr other ↦ cc ] ] in
     let bytes = c.args.bytes.now in
     let announced : sniffed (longs bytes) ≢ Object = λ object. kind (c.sniff.ensures ∙ object) in
-    let Refused : Sniff → Type 0 = λ kind. IfErr c.read_load.result (IsRefusal kind bytes) in
-    let refused = c.read_load.ensures.refused in
+    let result = c.from_residual-in_err-file-in-Load.result in
+    let p = err_from_is_err_and result c.from_residual-in_err-file-in-Load.ensures.1 in
+    let err = c.in_err-file-in-Load.ensures in
+    let refused : IfErr result (IsLoadRefusal bytes) = rw (p.1, p.2) (err.fault, err.own_reasons) in
+    let none : IfErr result (λ fault. BeginsWithLoadFile bytes → ⊥) = search rules in
     record {
-      file = c.read_load.ensures.file;
-      none = no_load bytes c.read_load.result announced c.read_load.ensures.none;
-      refused = not_object Refused (sniffed (longs bytes)) announced refused refused refused;
-      memory = c.read_load.ensures.memory;
+      file = search rules;
+      none = no_load bytes result announced none;
+      refused = not_object (λ (kind : Sniff). IfErr result (IsRefusal kind bytes)) (sniffed (longs bytes)) announced refused refused refused;
+      memory = search rules;
     }
