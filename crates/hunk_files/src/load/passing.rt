@@ -1,13 +1,9 @@
 //! Parts of a load file that are passed over at once.
-ghost use Rattle.std.specs.Prelude.{◌≡◌, ◌≤◌, ◌<◌, ◌+◌, ◌*◌, ℕ, IfSome, IsTrue, Some, None, length, slice_index};
-ghost use Rattle.hunk_words.specs.Bits.{kind};
+ghost use Rattle.std.specs.Prelude.{◌≡◌, ◌≤◌, ◌<◌, ◌+◌, ◌*◌, ℕ, IfSome, length, slice_index};
 ghost use Rattle.hunk_words.specs.Longs.{longs};
-ghost use Rattle.hunk_blocks.specs.Parts.{Part as parts};
-ghost use Rattle.hunk_blocks.specs.PhaseSteps.{begin, part_at};
 ghost use Rattle.hunk_files.specs.Passing.{AreBlocks, AreGroups, AreRows, AreSymbols, EndsList};
 ghost use Rattle.hunk_files.specs.Passing.{IsContent, IsCounted, IsGroup, IsPassed, IsWholeBlock};
 ghost use Rattle.hunk_grammar.specs.Positions.{EndsWithin};
-ghost use Rattle.hunk_grammar.specs.Roles.{refuse_word};
 
 use hunk_grammar::{OpenHunk, Phase, Position, by_kind, is_outside};
 use hunk_words::{BlockWord, NAME_LIMIT, SizeWord, word_at};
@@ -30,7 +26,7 @@ pub(super) fn pass_over(
             let owed = owed - count;
             (end, Position::SizeWord { hunks, owed })
         }
-        Position::Body(hunk, phase) if begins_block(phase) => {
+        Position::Body(hunk, Phase::FirstBlock | Phase::BlockWord) => {
             let (end, has_content) = behind_blocks(
                 bytes,
                 at,
@@ -96,24 +92,6 @@ fn behind_block(
     )
 }
 
-/// What comes behind the word of a block, where it is not rejected and does not end the hunk.
-#[inline(always)]
-fn begin_block(has_content: bool, word: u32) -> Option<Phase>
-    ensures { IfSome result (λ phase. (refuse_word has_content word ≡ None)
-        × (begin (kind word) ≡ Some phase)) }
-{
-    // The test of a block word looks at nothing else of its hunk.
-    let hunk = OpenHunk {
-        hunks: 0,
-        ahead: 0,
-        has_content,
-    };
-    if let Some(_) = Position::Body(hunk, Phase::BlockWord).refuse(0, word) {
-        return None;
-    }
-    Phase::begin(BlockWord::of(word).kind())
-}
-
 /// The same, by the block's word.
 #[inline(always)]
 fn behind_word(
@@ -129,7 +107,16 @@ fn behind_word(
     ensures { IfSome result (λ r.
         IsWholeBlock (longs bytes.now) hunks declared at has_content r.0 r.1) }
 {
-    let phase = begin_block(has_content, word)?;
+    // The test of a block word looks at nothing else of its hunk.
+    let hunk = OpenHunk {
+        hunks: 0,
+        ahead: 0,
+        has_content,
+    };
+    if let Some(_) = Position::Body(hunk, Phase::BlockWord).refuse(0, word) {
+        return None;
+    }
+    let phase = Phase::begin(BlockWord::of(word).kind())?;
     match phase {
         Phase::ContentSize => {
             let behind = behind_content(bytes, at + 1, declared)?;
@@ -199,17 +186,6 @@ fn behind_zero(bytes: &[u8], at: usize) -> Option<usize>
     Some(at + 1)
 }
 
-/// Whether a block may begin at the phase.
-#[inline(always)]
-fn begins_block(phase: Phase) -> bool
-    ensures { IsTrue result → part_at phase ≡ parts.BlockWord }
-{
-    match phase {
-        Phase::FirstBlock | Phase::BlockWord => true,
-        _ => false,
-    }
-}
-
 /// The longword behind the rows of a table that stand from `from` on and end in the bytes, and how
 /// many these are, at most `most`.
 #[inline(never)]
@@ -270,26 +246,18 @@ fn largest(bytes: &[u8], first: usize, end: usize) -> u32
 {
     let mut largest = 0;
     'longwords: for i in first..end {
-        largest = largest.max(join_bytes(bytes, i));
+        // Where a longword is put together from its bytes, and not read by `word_at`, the compiler
+        // makes the loop four longwords wide.
+        let start = 4 * i;
+        let long = u32::from_be_bytes([
+            bytes[start],
+            bytes[start + 1],
+            bytes[start + 2],
+            bytes[start + 3],
+        ]);
+        largest = largest.max(long);
     }
     largest
-}
-
-/// The longword number `i`, put together from its bytes: where it is read so, and not by `word_at`,
-/// the compiler makes the loop four longwords wide.
-#[tactic(auto, using(hunk_words::proofs::LongLaws::word_of_bytes))]
-#[inline(always)]
-fn join_bytes(bytes: &[u8], i: usize) -> u32
-    requires { 4 * i + 4 ≤ length bytes.now }
-    ensures { result ≡ slice_index (longs bytes.now) i }
-{
-    let start = 4 * i;
-    u32::from_be_bytes([
-        bytes[start],
-        bytes[start + 1],
-        bytes[start + 2],
-        bytes[start + 3],
-    ])
 }
 
 /// The longword behind the symbols that stand from `from` on and end in the bytes.

@@ -1,9 +1,9 @@
 //! The walk over the longwords of a load file, from the first on: its end, or the first fault.
-ghost use Rattle.std.specs.Prelude.{◌≡◌, ◌<◌, ◌≤◌, ◌+◌, ◌*◌, ◌^◌, length, slice_index, true, Some};
+ghost use Rattle.std.specs.Prelude.{◌≡◌, ◌≤◌, ◌+◌, ◌*◌, length, true, Some};
 ghost use Rattle.std.specs.Prelude.{None, IfOk, IfErr, OnOk, MatchResult};
 ghost use Rattle.hunk_words.specs.Longs.{longs};
 ghost use Rattle.hunk_files.specs.Fault.{HasFault, HasLoadText};
-ghost use Rattle.hunk_files.specs.Entries.{entry_behind, entry_at};
+ghost use Rattle.hunk_files.specs.Entries.{entry_at};
 ghost use Rattle.hunk_grammar.specs.Positions.{is_between_hunks, role_at, step};
 ghost use Rattle.hunk_grammar.specs.Roles.{refuse};
 
@@ -106,20 +106,12 @@ fn open_entry(bytes: &[u8], position: Position, entry: Entry) -> Entry
     ensures { result ≡ entry_at (longs bytes.now) position entry }
 {
     if position.is_between_hunks() {
-        read_entry(word_at(bytes, entry.next), entry.next)
+        let word = word_at(bytes, entry.next);
+        Entry {
+            longs: SizeWord { word, extra: 0 }.longs(),
+            next: entry.next + SizeWord::entry_longs(word),
+        }
     } else {
         entry
-    }
-}
-
-/// The entry whose size word stands at this longword.
-fn read_entry(word: u32, at: usize) -> Entry
-    requires { at + 2 < 2 ^ 64 }
-    ensures { result ≡ entry_behind word at }
-{
-    let size = SizeWord { word, extra: 0 };
-    Entry {
-        longs: size.longs(),
-        next: at + SizeWord::entry_longs(word),
     }
 }

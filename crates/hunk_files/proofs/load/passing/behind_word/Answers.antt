@@ -17,24 +17,24 @@ begins_block bytes has at word phase q inside is begun same = record {
 
 pub returns-in_ok-behind-in-ContentSize : goal.returns-in_ok-behind-in-ContentSize
 returns-in_ok-behind-in-ContentSize c =
-    content c.in_ok-behind-in-ContentSize.behind (begins_block c.args.bytes.now c.args.has_content c.args.at c.args.word c.in_ok-phase.phase _ c.requires.inside c.requires.word c.in_ok-phase.ensures c.in-ContentSize.is)
+    content c.in_ok-behind-in-ContentSize.behind (begins_block c.args.bytes.now c.args.has_content c.args.at c.args.word c.in_ok-phase.phase _ c.requires.inside c.requires.word (sym c.refuse.ensures ∙ c.in_default.is, sym (c.in_ok-phase.ensures ∙ ap begin (c.kind.ensures ∙ ap kind c.of.ensures))) c.in-ContentSize.is)
     c.in_ok-behind-in-ContentSize.ensures
 
 pub returns-in_ok-behind-in-LongCount : goal.returns-in_ok-behind-in-LongCount
 returns-in_ok-behind-in-LongCount c =
-    counted c.in_ok-behind-in-LongCount.behind (begins_block c.args.bytes.now c.args.has_content c.args.at c.args.word c.in_ok-phase.phase _ c.requires.inside c.requires.word c.in_ok-phase.ensures c.in-LongCount.is)
+    counted c.in_ok-behind-in-LongCount.behind (begins_block c.args.bytes.now c.args.has_content c.args.at c.args.word c.in_ok-phase.phase _ c.requires.inside c.requires.word (sym c.refuse.ensures ∙ c.in_default.is, sym (c.in_ok-phase.ensures ∙ ap begin (c.kind.ensures ∙ ap kind c.of.ensures))) c.in-LongCount.is)
     c.in_ok-behind-in-LongCount.ensures
 
 pub returns-in_ok-behind-in-GroupCount : goal.returns-in_ok-behind-in-GroupCount
 returns-in_ok-behind-in-GroupCount c =
     let here = c.in_ok-behind-in-GroupCount in
     subst (λ (behind : ℕ). IsWholeBlock (longs c.args.bytes.now) c.args.hunks c.args.declared c.args.at c.args.has_content behind c.args.has_content) (sym here.ensures.1)
-    (groups c.behind_groups-end.result (begins_block c.args.bytes.now c.args.has_content c.args.at c.args.word c.in_ok-phase.phase _ c.requires.inside c.requires.word c.in_ok-phase.ensures c.in-GroupCount.is)
+    (groups c.behind_groups-end.result (begins_block c.args.bytes.now c.args.has_content c.args.at c.args.word c.in_ok-phase.phase _ c.requires.inside c.requires.word (sym c.refuse.ensures ∙ c.in_default.is, sym (c.in_ok-phase.ensures ∙ ap begin (c.kind.ensures ∙ ap kind c.of.ensures))) c.in-GroupCount.is)
     c.behind_groups-end.ensures here.ensures.0)
 
 pub returns-in_ok-behind-in-EntryWord : goal.returns-in_ok-behind-in-EntryWord
 returns-in_ok-behind-in-EntryWord c =
     let here = c.in_ok-behind-in-EntryWord in
     subst (λ (behind : ℕ). IsWholeBlock (longs c.args.bytes.now) c.args.hunks c.args.declared c.args.at c.args.has_content behind c.args.has_content) (sym here.ensures.1)
-    (symbols c.behind_symbols-end.result (begins_block c.args.bytes.now c.args.has_content c.args.at c.args.word c.in_ok-phase.phase _ c.requires.inside c.requires.word c.in_ok-phase.ensures c.in-EntryWord.is)
+    (symbols c.behind_symbols-end.result (begins_block c.args.bytes.now c.args.has_content c.args.at c.args.word c.in_ok-phase.phase _ c.requires.inside c.requires.word (sym c.refuse.ensures ∙ c.in_default.is, sym (c.in_ok-phase.ensures ∙ ap begin (c.kind.ensures ∙ ap kind c.of.ensures))) c.in-EntryWord.is)
     c.behind_symbols-end.ensures here.ensures.0)
