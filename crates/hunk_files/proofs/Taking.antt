@@ -33,6 +33,10 @@ end_stays text old new part gives =
 pub end_reached : {A : Type 0} (text : A → List ℕ) (parts : Placed (List A)) → parts.value ≡ [] → parts.place ≡ end_of text parts
 end_reached text parts none = omega (arith, ap (λ (xs : List _). length (flat_map text xs)) none)
 
+-- It is where they stand when no further part is given.
+pub end_passed : {A : Type 0} (text : A → List ℕ) (all old new : Placed (List A)) → end_of text old ≡ end_of text all → GivesPart text old None new → new.place ≡ end_of text all
+end_passed text all old new same gives = ap (λ (p : Placed (List _)). p.place) gives.1 ∙ end_reached text old gives.0 ∙ same
+
 -- ---- parts that are passed once their end is known
 
 pub part_passed : {A : Type 0} (text : A → List ℕ) (old new : Placed (List A)) (part : Placed A) (end : ℕ) → IsFirstPart old (Some part) → end ≡ part.place + 4 * length (text part.value) → new ≡ record { place = end; value = drop 1 old.value } →

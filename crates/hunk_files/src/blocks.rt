@@ -9,9 +9,8 @@ ghost use Rattle.hunk_files.specs.Hunks.{HunkAt, block_texts};
 ghost use Rattle.hunk_files.specs.InPlace.{GivesPart};
 ghost use Rattle.hunk_files.specs.Lacks.{EndsAt, EndsHunkPart};
 
-use crate::order::is_end;
 use crate::place::out_of_memory;
-use hunk_blocks::{Block, BlockView, append};
+use hunk_blocks::{Block, BlockView, BodyView, append};
 use hunk_words::{FileFault, Printer, Sink};
 use std::alloc::Global;
 use std::marker::Model;
@@ -77,22 +76,11 @@ impl<'a> Iterator for BlockViews<'a> {
         }
         let block = BlockView::at(self.bytes, self.at);
         self.at += block.encoded_len() as usize;
-        if is_end(&block) {
+        if let BodyView::End = block.body() {
             self.bytes = &self.bytes[..self.at];
         }
         Some(block)
     }
-}
-
-/// The byte behind the hunk that stands at `start`.
-pub(crate) fn behind_hunk(bytes: &[u8], start: usize) -> usize
-    requires { HunkAt bytes.now start }
-    ensures { (hunk : HunkAt bytes.now start) →
-        result ≡ start + 4 * length (block_texts hunk.blocks) }
-{
-    let mut blocks = BlockViews::at(bytes, start);
-    'passing: while let Some(_) = blocks.next() {}
-    blocks.at
 }
 
 /// The blocks that are still to come in a list, with none left to come.

@@ -1,7 +1,5 @@
 //! What stands where in a hunk.
 ghost use Rattle.std.specs.Prelude.{◌≡◌};
-ghost use Rattle.hunk_grammar.specs.Standings.{is_ending};
-ghost use Rattle.hunk_files.specs.LoadFile.{standing};
 ghost use Rattle.hunk_files.specs.Strip.{is_kept};
 
 use hunk_blocks::{Block, BlockView, Body, BodyView};
@@ -25,12 +23,4 @@ pub(crate) fn stays(block: &BlockView<'_>) -> bool
         block.body(),
         BodyView::Name(_) | BodyView::Symbol(_) | BodyView::Debug(_) | BodyView::Advisory(_)
     )
-}
-
-/// Whether the block ends its hunk.
-#[inline(always)]
-pub(crate) fn is_end(block: &BlockView<'_>) -> bool
-    ensures { result ≡ is_ending (standing block.now.value.body) }
-{
-    matches!(block.body(), BodyView::End)
 }

@@ -1,13 +1,13 @@
 //! The hunks of a load file, read where they lie.
-ghost use Rattle.std.specs.Prelude.{◌≡◌, drop, map, IfErr, IfOk};
+ghost use Rattle.std.specs.Prelude.{◌≡◌, map, IfErr, IfOk};
 ghost use Rattle.std.specs.Iterator.{item_count};
 ghost use Rattle.hunk_words.specs.declared.reason.Reason.TheVariants as reasons;
-ghost use Rattle.hunk_files.specs.InPlace.{BeginsWithHunks, GivesPart, hunks_in};
+ghost use Rattle.hunk_files.specs.InPlace.{GivesPart};
 ghost use Rattle.hunk_files.specs.Hunks.{block_texts};
 ghost use Rattle.hunk_files.specs.Lacks.{EndsAt, EndsHunkPart, Within};
 ghost use Rattle.hunk_files.specs.Tables.{hunk_of, size_entry};
 
-use crate::blocks::{BlockViews, behind_hunk, keep_blocks};
+use crate::blocks::{BlockViews, keep_blocks};
 use crate::load::hunk::{LoadHunk, row_of};
 use crate::load::table::TableIter;
 use crate::place::out_of_memory;
@@ -73,11 +73,11 @@ impl<'a> LoadHunkView<'a> {
 #[derive(Drop)]
 pub struct LoadHunkViews<'a> {
     /// The entries of the table.
-    table: TableIter<'a>,
+    pub(super) table: TableIter<'a>,
     /// The input.
-    bytes: &'a [u8],
+    pub(super) bytes: &'a [u8],
     /// The byte at which the blocks of the next hunk begin.
-    at: usize,
+    pub(super) at: usize,
 }
 
 impl<'a> Model for LoadHunkViews<'a> {
@@ -97,21 +97,6 @@ impl<'a> Model for LoadHunkViews<'a> {
 }
 
 impl<'a> LoadHunkViews<'a> {
-    /// The hunks of these entries, which stand at `start`.
-    pub(super) fn at(table: TableIter<'a>, bytes: &'a [u8], start: usize) -> LoadHunkViews<'a>
-        requires { BeginsWithHunks table (drop start bytes.now) }
-        ensures { result ≡ record {
-          place = start;
-          value = hunks_in table.entry (drop start bytes.entry.now);
-        } }
-    {
-        LoadHunkViews {
-            table,
-            bytes,
-            at: start,
-        }
-    }
-
     /// The byte of the input at which the blocks of the next hunk begin, or behind the last hunk the
     /// byte at which the file ends.
     #[inline(always)]
@@ -161,7 +146,9 @@ impl<'a> Iterator for LoadHunkViews<'a> {
             return None;
         };
         let start = self.at;
-        self.at = behind_hunk(self.bytes, start);
+        let mut blocks = BlockViews::at(self.bytes, start);
+        'passing: while let Some(_) = blocks.next() {}
+        self.at = blocks.place() as usize;
         Some(LoadHunkView {
             size,
             bytes: self.bytes,

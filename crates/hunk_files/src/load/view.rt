@@ -85,7 +85,11 @@ impl<'a> LoadView<'a> {
         ensures place { result.place ≡ 4 * length (header_text self.now) }
         ensures file { IsLoadFile self.now }
     {
-        LoadHunkViews::at(self.table(), self.bytes, self.body())
+        LoadHunkViews {
+            table: self.table(),
+            bytes: self.bytes,
+            at: self.body(),
+        }
     }
 
     /// The byte behind the table, at which the blocks of the first hunk begin.

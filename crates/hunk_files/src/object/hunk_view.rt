@@ -10,7 +10,7 @@ ghost use Rattle.hunk_files.specs.Hunks.{block_texts};
 ghost use Rattle.hunk_files.specs.ObjectFile.{IsObjectHunk};
 ghost use Rattle.hunk_files.specs.ObjectViews.{HunksAt, hunks_at};
 
-use crate::blocks::{BlockViews, behind_hunk, keep_blocks};
+use crate::blocks::{BlockViews, keep_blocks};
 use crate::object::check::hunk_bytes;
 use crate::object::ends::ends_unit;
 use crate::object::unit::Hunk;
@@ -77,7 +77,9 @@ impl<'a> HunkView<'a> {
     fn end(&self) -> u64
         ensures { result ≡ self.now.place + 4 * length (block_texts self.now.value) }
     {
-        behind_hunk(self.bytes, self.place) as u64
+        let mut blocks = self.blocks();
+        'passing: while let Some(_) = blocks.next() {}
+        blocks.place()
     }
 }
 

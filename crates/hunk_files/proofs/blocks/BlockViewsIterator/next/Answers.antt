@@ -1,13 +1,18 @@
-use Rattle.std.proofs.Common.{◌≡◌, ◌+◌, List, take, drop, refl, sym, ap, subst, ◌∙◌, inr, Some}
+use Rattle.std.proofs.Common.{◌≡◌, ◌+◌, List, false, take, drop, refl, sym, ap, subst, ◌∙◌, inr, Some}
+use Rattle.hunk_grammar.specs.Standings.{is_ending}
+use Rattle.hunk_blocks.specs.declared.body_view.BodyView.{BodyView}
+use Rattle.hunk_blocks.specs.declared.body_view.BodyView.TheVariants as bodies
+use Rattle.hunk_blocks.specs.BodyViews.{viewed}
 use Rattle.hunk_blocks.specs.Begins.{IsFrontBlock}
 use Rattle.hunk_blocks.specs.Parts.{block_text}
 use Rattle.hunk_blocks.specs.Placed.{Placed}
-use Rattle.hunk_blocks.specs.Values.{BlockValue}
+use Rattle.hunk_blocks.specs.Values.{BlockBody, BlockValue}
 use Rattle.hunk_files.specs.InPlace.{GivesPart}
+use Rattle.hunk_files.specs.LoadFile.{standing}
 use Rattle.hunk_files.proofs.BlocksInPlace.{first_begins, gives_last, gives_next, more_begin, none_seen, seen, some_seen}
 use Rattle.hunk_files.proofs.Taking.{part_less}
 use Rattle.hunk_files.proofs.blocks.BlockViewsIterator.next.Goals as goal
-use Rattle.hunk_files.proofs.blocks.BlockViewsIterator.next.Goals.{then-is_end, else-is_end}
+use Rattle.hunk_files.proofs.blocks.BlockViewsIterator.next.Goals.{in-End, in_default}
 
 pub returns-then-self-clause-steps : goal.returns-then-self-clause-steps
 returns-then-self-clause-steps c = (ap (λ (p : Placed (List BlockValue)). p.value) (sym c.self.view_is) ∙ none_seen c.self.inside.bytes.now c.self.inside.at c.if-self.true, refl)
@@ -18,13 +23,21 @@ at-block-requires c =
     let at = c.self.inside.at in
     first_begins bytes at (some_seen bytes at c.self.invariant c.if-self.false)
 
-pub invariant_of-self-else-is_end : goal.invariant_of-self-else-is_end
-invariant_of-self-else-is_end c =
+-- No other block ends the hunk.
+ends_not : {view : BodyView} {body : BlockBody} → viewed view ≡ body → (view ≡ bodies.End → ⊥) → is_ending (standing body) ≡ false
+ends_not {view} is other = subst (λ (b : BlockBody). is_ending (standing b) ≡ false) is (no_end view other)
+  where
+    no_end : (b : BodyView) → (b ≡ bodies.End → ⊥) → is_ending (standing (viewed b)) ≡ false
+    no_end bodies.End h = absurd (h refl)
+    no_end _ h = refl
+
+pub invariant_of-self-in_default : goal.invariant_of-self-in_default
+invariant_of-self-in_default c =
     let bytes = c.self.inside.bytes.now in
     let at = c.self.inside.at in
     let x = c.at-block.result.value in
     let front = subst (IsFrontBlock (drop at bytes) x) (sym c.encoded_len.ensures) c.at-block.ensures.block in
-    inr (more_begin bytes at (some_seen bytes at c.self.invariant c.if-self.false) x c.encoded_len.result front (sym c.is_end.ensures ∙ c.if-is_end.false))
+    inr (more_begin bytes at (some_seen bytes at c.self.invariant c.if-self.false) x c.encoded_len.result front (ends_not c.body.ensures.value c.in_default.not-End))
 
 -- what was there before and behind the block
 given : (x : Placed BlockValue) (old new a b : Placed (List BlockValue)) → GivesPart block_text a (Some x) b → a ≡ old → new ≡ b → GivesPart block_text old (Some x) new
@@ -38,13 +51,13 @@ returns-clause-steps c =
     let x = c.at-block.result in
     let n = c.encoded_len.result in
     let front = subst (IsFrontBlock (drop at bytes) x.value) (sym c.encoded_len.ensures) c.at-block.ensures.block in
-    elim c.if-is_end.branch [
-      | then-is_end w ↦
-          given x c.args.self.now c.if-is_end.self (seen bytes at) (seen (take (at + n) bytes) (at + n))
-          (gives_last bytes at here x c.at-block.ensures.place n front (sym c.is_end.ensures ∙ w.if-is_end.true)) c.self.view_is w.self-is
-      | else-is_end w ↦
-          given x c.args.self.now c.if-is_end.self (seen bytes at) (seen bytes (at + n))
-          (gives_next bytes at here x c.at-block.ensures.place n front (sym c.is_end.ensures ∙ w.if-is_end.false)) c.self.view_is w.self-is
+    elim c.match-body.branch [
+      | in-End w ↦
+          given x c.args.self.now c.match-body.self (seen bytes at) (seen (take (at + n) bytes) (at + n))
+          (gives_last bytes at here x c.at-block.ensures.place n front (ap (λ body. is_ending (standing body)) (sym c.body.ensures.value ∙ ap viewed w.in-End.is))) c.self.view_is w.self-is
+      | in_default w ↦
+          given x c.args.self.now c.match-body.self (seen bytes at) (seen bytes (at + n))
+          (gives_next bytes at here x c.at-block.ensures.place n front (ends_not c.body.ensures.value w.in_default.not-End)) c.self.view_is w.self-is
     ]
 
 pub returns-clause-goes : goal.returns-clause-goes

@@ -1,10 +1,11 @@
-use Rattle.std.proofs.Common.{List, drop, sym, ap, ◌∙◌}
+use Rattle.std.proofs.Common.{List, drop, refl, sym, ap, ◌∙◌}
+use Rattle.hunk_blocks.specs.Parts.{block_text}
 use Rattle.hunk_blocks.specs.Placed.{Placed}
 use Rattle.hunk_files.specs.LoadFile.{TableEntry, LoadFileValue}
 use Rattle.hunk_files.specs.Tables.{size_entry}
 use Rattle.hunk_files.specs.InPlace.{hunks_in}
 use Rattle.hunk_files.proofs.HunksInPlace.{hunk_gives, hunk_text, hunks_in-nil, next_hunk_of}
-use Rattle.hunk_files.proofs.Taking.{part_less}
+use Rattle.hunk_files.proofs.Taking.{end_of, end_passed, end_stays, part_less}
 use Rattle.hunk_files.proofs.load.hunk_views.LoadHunkViewsIterator.next.Goals as goal
 
 pub returns-in_default-clause-steps : goal.returns-in_default-clause-steps
@@ -15,19 +16,25 @@ returns-in_default-clause-steps c =
       ap (λ (es : List TableEntry). record { place = c.self.inside.at; value = hunks_in es bytes }) (none.1 ∙ sym none.0) ∙ c.self.view_is,
     )
 
-pub behind_hunk-self-inside-requires : goal.behind_hunk-self-inside-requires
-behind_hunk-self-inside-requires c = (next_hunk_of c.self.inside.table (size_entry c.in-Some.size) c.next.new.self c.self.inside.bytes.now c.self.inside.at c.in-Some.ensures.steps c.self.invariant).here
+pub at-blocks-requires : goal.at-blocks-requires
+at-blocks-requires c = (next_hunk_of c.self.inside.table (size_entry c.in-Some.size) c.next.new.self c.self.inside.bytes.now c.self.inside.at c.in-Some.ensures.steps c.self.invariant).here
 
 pub invariant_of-result : goal.invariant_of-result
 invariant_of-result c = (next_hunk_of c.self.inside.table (size_entry c.in-Some.size) c.next.new.self c.self.inside.bytes.now c.self.inside.at c.in-Some.ensures.steps c.self.invariant).here
 
+pub passing-init : goal.passing-init
+passing-init c = refl
+
+pub passing-preserved : goal.passing-preserved
+passing-preserved c = end_stays block_text c.passing.blocks c.next-in-passing.new.self c.in-Some-next.field-0 c.in-Some-next.ensures.steps ∙ c.passing.invariant
+
 pub invariant_of-self-2 : goal.invariant_of-self-2
-invariant_of-self-2 c = let n = next_hunk_of c.self.inside.table (size_entry c.in-Some.size) c.next.new.self c.self.inside.bytes.now c.self.inside.at c.in-Some.ensures.steps c.self.invariant in n.left c.behind_hunk-self-inside.result (c.behind_hunk-self-inside.ensures n.here)
+invariant_of-self-2 c = let n = next_hunk_of c.self.inside.table (size_entry c.in-Some.size) c.next.new.self c.self.inside.bytes.now c.self.inside.at c.in-Some.ensures.steps c.self.invariant in n.left c.place.result (c.place.ensures ∙ end_passed block_text c.at-blocks.result c.passing.blocks c.next-in-passing.new.self c.passing.invariant c.in_default-next.ensures.steps ∙ ap (end_of block_text) (c.at-blocks.ensures n.here))
 
 pub returns-clause-steps : goal.returns-clause-steps
 returns-clause-steps c =
     let n = next_hunk_of c.self.inside.table (size_entry c.in-Some.size) c.next.new.self c.self.inside.bytes.now c.self.inside.at c.in-Some.ensures.steps c.self.invariant in
-    let gives = hunk_gives c.self.inside.table (size_entry c.in-Some.size) c.next.new.self c.self.inside.bytes.now c.self.inside.at n c.behind_hunk-self-inside.result (c.behind_hunk-self-inside.ensures n.here) in
+    let gives = hunk_gives c.self.inside.table (size_entry c.in-Some.size) c.next.new.self c.self.inside.bytes.now c.self.inside.at n c.place.result (c.place.ensures ∙ end_passed block_text c.at-blocks.result c.passing.blocks c.next-in-passing.new.self c.passing.invariant c.in_default-next.ensures.steps ∙ ap (end_of block_text) (c.at-blocks.ensures n.here)) in
     (sym c.self.view_is ∙ gives.0, gives.1)
 
 pub returns-clause-goes : goal.returns-clause-goes

@@ -1,12 +1,10 @@
-use Rattle.std.proofs.Common.{sym, ap, ◌∙◌}
-use Rattle.hunk_blocks.specs.Placed.{Placed}
-use Rattle.hunk_files.specs.LoadFile.{LoadFileValue}
+use Rattle.std.proofs.Common.{sym, ◌∙◌}
 use Rattle.hunk_files.proofs.HunksInPlace.{all_hunks_at, hunks_begin_at}
 use Rattle.hunk_files.proofs.LoadCuts.{load_value}
 use Rattle.hunk_files.proofs.load.view.LoadView.iter.Goals as goal
 
-pub at-requires : goal.at-requires
-at-requires c =
+pub invariant_of-result : goal.invariant_of-result
+invariant_of-result c =
     let bytes = c.self.inside.bytes.now in
     let same = sym (load_value bytes c.self.invariant) ∙ c.self.view_is in
     hunks_begin_at bytes c.self.invariant c.args.self.now same c.table.result c.body.result c.table.ensures.value c.body.ensures
@@ -15,5 +13,4 @@ pub returns-clause-value : goal.returns-clause-value
 returns-clause-value c =
     let bytes = c.self.inside.bytes.now in
     let same = sym (load_value bytes c.self.invariant) ∙ c.self.view_is in
-    ap (λ (p : Placed LoadFileValue). p.value) c.at.ensures
-    ∙ all_hunks_at bytes c.self.invariant c.args.self.now same c.table.result c.body.result c.table.ensures.value c.body.ensures
+    all_hunks_at bytes c.self.invariant c.args.self.now same c.table.result c.body.result c.table.ensures.value c.body.ensures

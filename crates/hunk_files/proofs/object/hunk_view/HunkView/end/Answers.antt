@@ -1,17 +1,14 @@
-use Rattle.std.proofs.Common.{length, sym, ap, arith}
-use Rattle.hunk_blocks.specs.Placed.{Placed}
-use Rattle.hunk_files.specs.Hunks.{block_texts}
-use Rattle.hunk_files.specs.ObjectFile.{ObjectHunk}
-use Rattle.hunk_files.proofs.ObjectViewLaws.{hunk_at_is}
+use Rattle.std.proofs.Common.{ap, refl, ◌∙◌}
+use Rattle.hunk_blocks.specs.Parts.{block_text}
+use Rattle.hunk_files.proofs.Taking.{end_of, end_passed, end_stays}
 use Rattle.hunk_files.proofs.object.hunk_view.HunkView.end.Goals as goal
+
+pub passing-init : goal.passing-init
+passing-init c = refl
+
+pub passing-preserved : goal.passing-preserved
+passing-preserved c = end_stays block_text c.passing.blocks c.next.new.self c.in-Some.field-0 c.in-Some.ensures.steps ∙ c.passing.invariant
 
 pub returns : goal.returns
 returns c =
-    let hunk = c.self.invariant in
-    omega (
-      arith,
-      c.behind_hunk.ensures hunk,
-      ap (λ (p : Placed ObjectHunk). p.place) (sym c.self.view_is),
-      ap (λ (p : Placed ObjectHunk). length (block_texts p.value)) (sym c.self.view_is),
-      ap (λ (bs : ObjectHunk). length (block_texts bs)) (hunk_at_is c.self.inside.bytes.now c.self.inside.place hunk),
-    )
+    c.place.ensures ∙ end_passed block_text c.blocks-blocks.result c.passing.blocks c.next.new.self c.passing.invariant c.in_default.ensures.steps ∙ ap (end_of block_text) c.blocks-blocks.ensures.value
