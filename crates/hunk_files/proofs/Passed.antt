@@ -21,8 +21,8 @@ module _ (ws : List ℕ) where
   pub block_on : (hunks declared at : ℕ) (has : Bool) (behind : ℕ) (now : Bool) → IsWholeBlock ws hunks declared at has behind now → (at < behind) × (behind ≤ length ws)
   block_on hunks declared at has _ _ (content behind begun c) = (omega (arith, c.ends), c.whole)
   block_on hunks declared at has _ _ (counted behind begun c) = (omega (arith, c.ends), c.whole)
-  block_on hunks declared at has _ _ (groups end begun g e) = (omega (arith, groups_on hunks declared (at + 1) end g), omega (arith, e.inside))
-  block_on hunks declared at has _ _ (symbols end begun s e) = (omega (arith, symbols_on (at + 1) end s), omega (arith, e.inside))
+  block_on hunks declared at has _ _ (groups behind begun l) = (omega (arith, groups_on hunks declared (at + 1) l.end l.items, l.ends), l.whole)
+  block_on hunks declared at has _ _ (symbols behind begun l) = (omega (arith, symbols_on (at + 1) l.end l.items, l.ends), l.whole)
 
   pub passed_on : (declared from : ℕ) (p : Position) (end : ℕ) (q : Position) → IsPassed ws declared from p end q → from ≤ end
   passed_on declared from p _ _ nothing = omega arith

@@ -18,7 +18,7 @@ use Rattle.hunk_grammar.specs.Roles.{refuse}
 use Rattle.hunk_grammar.proofs.OffsetRuns.{offset_passes}
 use Rattle.hunk_files.specs.declared.load.walk.Entry.{Entry}
 use Rattle.hunk_files.specs.Entries.{entry_at}
-use Rattle.hunk_files.specs.Passing.{AreBlocks, AreGroups, AreRows, AreSymbols, BeginsBlock, EndsList, IsGroup, IsPassed, IsWholeBlock, behind_row, behind_symbol, having}
+use Rattle.hunk_files.specs.Passing.{AreBlocks, AreGroups, AreRows, AreSymbols, BeginsBlock, IsGroup, IsList, IsPassed, IsWholeBlock, behind_row, behind_symbol, having}
 use Rattle.hunk_files.specs.Passing.{no_row, one_row, no_group, one_group, no_symbol, one_symbol, content, counted, groups, symbols, no_block, one_block, nothing, passed_rows, passed_blocks}
 use Rattle.hunk_files.proofs.LoadWalks.{Walks, all_passed, none_left, passes}
 
@@ -196,11 +196,11 @@ module _ (bytes : List ℕ) (fit : IsBytes bytes) (entry : Entry) (o : numbers.O
       go _ e h = absurd cc
 
   -- The 0 behind a list leads to the next block.
-  zero_over : (at : ℕ) (phase : Phase) → Walks bytes at (positions.Body o phase) entry → EndsList (longs bytes) at → scan.step (positions.Body o phase) 0 ≡ positions.Body o phases.BlockWord → refuse (role_at entry.longs (positions.Body o phase)) 0 ≡ None →
-      Walks bytes (at + 1) (positions.Body o phases.BlockWord) entry
-  zero_over at phase h e steps ok =
-      leads bytes fit entry at (at + 1) _ (positions.Body o phases.BlockWord) _ h 0 (omega arith) (omega (arith, e.inside))
-      0 (sym e.zero_is) (sym steps) ok (record { goes_on = λ d. absurd cc; run = refl; passed = refl; same = λ all entry. refl })
+  zero_over : {GoesTo : ℕ → Type 0} (behind : ℕ) (phase : Phase) (l : IsList (longs bytes) GoesTo behind) → Walks bytes l.end (positions.Body o phase) entry → scan.step (positions.Body o phase) 0 ≡ positions.Body o phases.BlockWord → refuse (role_at entry.longs (positions.Body o phase)) 0 ≡ None →
+      Walks bytes behind (positions.Body o phases.BlockWord) entry
+  zero_over behind phase l h steps ok =
+      leads bytes fit entry l.end behind _ (positions.Body o phases.BlockWord) _ h 0 (omega (arith, l.ends)) l.whole
+      0 (sym l.zero_is) (sym steps) ok (record { goes_on = λ d. absurd cc; run = refl; passed = refl; same = λ all entry. refl })
 
   -- A block leads to the next.
   block_over : (at : ℕ) (phase : Phase) (behind : ℕ) (now : Bool) → part_at phase ≡ parts.BlockWord → Walks bytes at (positions.Body o phase) entry → IsWholeBlock (longs bytes) o.hunks entry.longs at o.has_content behind now → Walks bytes behind (positions.Body (having now o) phases.BlockWord) entry
@@ -214,8 +214,8 @@ module _ (bytes : List ℕ) (fit : IsBytes bytes) (entry : Entry) (o : numbers.O
       let word = get_or (longs bytes) (at + 1) 0 in
       leads bytes fit entry (at + 1) behind _ _ _ (word_over at phase phases.LongCount e h begun refl)
       word c.ends c.whole word refl refl refl (payload_passes o word)
-  block_over at phase _ _ e h (groups end begun g z) = zero_over end phases.GroupCount (groups_over bytes fit entry o (at + 1) end (word_over at phase phases.GroupCount e h begun refl) g) z refl refl
-  block_over at phase _ _ e h (symbols end begun s z) = zero_over end phases.EntryWord (symbols_over bytes fit entry o (at + 1) end (word_over at phase phases.EntryWord e h begun refl) s) z refl refl
+  block_over at phase behind _ e h (groups _ begun l) = zero_over behind phases.GroupCount l (groups_over bytes fit entry o (at + 1) l.end (word_over at phase phases.GroupCount e h begun refl) l.items) refl refl
+  block_over at phase behind _ e h (symbols _ begun l) = zero_over behind phases.EntryWord l (symbols_over bytes fit entry o (at + 1) l.end (word_over at phase phases.EntryWord e h begun refl) l.items) refl refl
 
 -- Blocks lead on, where there are some.
 blocks_over : (bytes : List ℕ) → IsBytes bytes → (entry : Entry) (o : numbers.OpenHunk) (at : ℕ) (phase : Phase) → part_at phase ≡ parts.BlockWord → Walks bytes at (positions.Body o phase) entry → (end : ℕ) (now : Bool) →

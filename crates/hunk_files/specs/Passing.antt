@@ -68,17 +68,20 @@ pub record IsCounted (ws : List ℕ) (at behind : ℕ) : Type 0 where
   pub ends : behind ≡ at + 1 + slice_index ws at
   pub whole : behind ≤ length ws
 
--- The 0 that ends a list stands at this longword.
-pub record EndsList (ws : List ℕ) (at : ℕ) : Type 0 where
-  pub inside : at < length ws
-  pub zero_is : slice_index ws at ≡ 0
+-- A list that may go up to some longword goes up to this one, with the 0 that ends it.
+pub record IsList (ws : List ℕ) (GoesTo : ℕ → Type 0) (behind : ℕ) : Type 0 where
+  pub end : ℕ
+  pub items : GoesTo end
+  pub zero_is : slice_index ws end ≡ 0
+  pub ends : behind ≡ end + 1
+  pub whole : behind ≤ length ws
 
 -- A block goes from the one longword up to the other, in a hunk that has its content block or not, before it and behind it.
 pub data IsWholeBlock (ws : List ℕ) (hunks longs at : ℕ) (has : Bool) : ℕ → Bool → Type 0 where
   content : (behind : ℕ) → BeginsBlock ws has at phases.ContentSize → IsContent ws longs (at + 1) behind → IsWholeBlock ws hunks longs at has behind true
   counted : (behind : ℕ) → BeginsBlock ws has at phases.LongCount → IsCounted ws (at + 1) behind → IsWholeBlock ws hunks longs at has behind has
-  groups : (end : ℕ) → BeginsBlock ws has at phases.GroupCount → AreGroups ws hunks longs (at + 1) end → EndsList ws end → IsWholeBlock ws hunks longs at has (end + 1) has
-  symbols : (end : ℕ) → BeginsBlock ws has at phases.EntryWord → AreSymbols ws (at + 1) end → EndsList ws end → IsWholeBlock ws hunks longs at has (end + 1) has
+  groups : (behind : ℕ) → BeginsBlock ws has at phases.GroupCount → IsList ws (AreGroups ws hunks longs (at + 1)) behind → IsWholeBlock ws hunks longs at has behind has
+  symbols : (behind : ℕ) → BeginsBlock ws has at phases.EntryWord → IsList ws (AreSymbols ws (at + 1)) behind → IsWholeBlock ws hunks longs at has behind has
 
 -- Such blocks go from the one longword up to the other.
 pub data AreBlocks (ws : List ℕ) (hunks longs from : ℕ) (has : Bool) : ℕ → Bool → Type 0 where

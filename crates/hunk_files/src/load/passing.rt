@@ -1,7 +1,7 @@
 //! Parts of a load file that are passed over at once.
 ghost use Rattle.std.specs.Prelude.{◌≡◌, ◌≤◌, ◌<◌, ◌+◌, ◌*◌, ℕ, IfSome, length, slice_index};
 ghost use Rattle.hunk_words.specs.Longs.{longs};
-ghost use Rattle.hunk_files.specs.Passing.{AreBlocks, AreGroups, AreRows, AreSymbols, EndsList};
+ghost use Rattle.hunk_files.specs.Passing.{AreBlocks, AreGroups, AreRows, AreSymbols, IsList};
 ghost use Rattle.hunk_files.specs.Passing.{IsContent, IsCounted, IsGroup, IsPassed, IsWholeBlock};
 ghost use Rattle.hunk_grammar.specs.Positions.{EndsWithin};
 
@@ -127,13 +127,11 @@ fn behind_word(
             Some((behind, has_content))
         }
         Phase::GroupCount => {
-            let end = behind_groups(bytes, at + 1, hunks, declared);
-            let behind = behind_zero(bytes, end)?;
+            let behind = behind_groups(bytes, at + 1, hunks, declared)?;
             Some((behind, has_content))
         }
         Phase::EntryWord => {
-            let end = behind_symbols(bytes, at + 1);
-            let behind = behind_zero(bytes, end)?;
+            let behind = behind_symbols(bytes, at + 1)?;
             Some((behind, has_content))
         }
         _ => None,
@@ -174,18 +172,6 @@ fn behind_counted(bytes: &[u8], at: usize) -> Option<usize>
     Some(at + 1 + count)
 }
 
-/// The longword behind the 0 that ends a list at `at`, where it stands there.
-#[inline(always)]
-fn behind_zero(bytes: &[u8], at: usize) -> Option<usize>
-    ensures { IfSome result (λ behind.
-        EndsList (longs bytes.now) at × (behind ≡ at + 1)) }
-{
-    if at >= bytes.len() / 4 || word_at(bytes, at) != 0 {
-        return None;
-    }
-    Some(at + 1)
-}
-
 /// The longword behind the rows of a table that stand from `from` on and end in the bytes, and how
 /// many these are, at most `most`.
 #[inline(never)]
@@ -204,17 +190,21 @@ fn behind_rows(bytes: &[u8], from: usize, most: u32) -> (usize, u32)
     (at, count)
 }
 
-/// The longword behind the groups that stand from `from` on, end in the bytes, and are not rejected
-/// in a hunk of `declared` longs of a file of `hunks` hunks.
+/// The longword behind the groups that stand from `from` on and the 0 that ends them, where they end
+/// in the bytes and are not rejected in a hunk of `declared` longs of a file of `hunks` hunks.
 #[inline(always)]
-fn behind_groups(bytes: &[u8], from: usize, hunks: u32, declared: u32) -> usize
-    ensures { AreGroups (longs bytes.now) hunks declared from result }
+fn behind_groups(bytes: &[u8], from: usize, hunks: u32, declared: u32) -> Option<usize>
+    ensures { IfSome result
+        (IsList (longs bytes.now) (AreGroups (longs bytes.now) hunks declared from)) }
 {
     let mut at = from;
     'groups: while let Some(behind) = behind_group(bytes, at, hunks, declared) {
         at = behind;
     }
-    at
+    if at >= bytes.len() / 4 || word_at(bytes, at) != 0 {
+        return None;
+    }
+    Some(at + 1)
 }
 
 /// The longword behind one such group, where one stands at `at`.
@@ -260,21 +250,25 @@ fn largest(bytes: &[u8], first: usize, end: usize) -> u32
     largest
 }
 
-/// The longword behind the symbols that stand from `from` on and end in the bytes.
+/// The longword behind the symbols that stand from `from` on and the 0 that ends them, where they
+/// end in the bytes.
 #[inline(never)]
-fn behind_symbols(bytes: &[u8], from: usize) -> usize
-    ensures { AreSymbols (longs bytes.now) from result }
+fn behind_symbols(bytes: &[u8], from: usize) -> Option<usize>
+    ensures { IfSome result (IsList (longs bytes.now) (AreSymbols (longs bytes.now) from)) }
 {
     let whole = bytes.len() / 4;
     let mut at = from;
     'symbols: while at < whole {
         let word = word_at(bytes, at);
+        if word == 0 {
+            return Some(at + 1);
+        }
         // The word, its name, and its value.
         let longs = (word % NAME_LIMIT) as usize + 2;
-        if word == 0 || longs > whole - at {
-            return at;
+        if longs > whole - at {
+            return None;
         }
         at += longs;
     }
-    at
+    None
 }

@@ -1,4 +1,4 @@
-use Rattle.std.proofs.Common.{ℕ, ◌+◌, ◌%◌, arith, subst, sym}
+use Rattle.std.proofs.Common.{ℕ, ◌+◌, ◌%◌, arith, refl, subst, sym, ◌∙◌}
 use Rattle.hunk_words.specs.Longs.{longs}
 use Rattle.hunk_words.proofs.LongLaws.{length-longs}
 use Rattle.hunk_files.specs.Passing.{AreSymbols, no_symbol, one_symbol}
@@ -14,3 +14,12 @@ symbols-preserved c =
     let is = c.word_at-word.ensures in
     subst (λ (w : ℕ). AreSymbols ws c.args.from (at + (w % 16777216 + 2))) (sym is)
     (one_symbol at c.symbols.invariant (omega (arith, c.if-word-eq0.false, is)) (omega (arith, c.if-longs-whole.false, c.symbols-test.true, is, length-longs c.args.bytes.now)))
+
+pub returns-then-word-eq0 : goal.returns-then-word-eq0
+returns-then-word-eq0 c = record {
+  end = c.symbols.at;
+  items = c.symbols.invariant;
+  zero_is = sym c.word_at-word.ensures ∙ c.if-word-eq0.true;
+  ends = refl;
+  whole = omega (arith, c.symbols-test.true, length-longs c.args.bytes.now);
+}

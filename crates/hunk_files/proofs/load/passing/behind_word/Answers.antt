@@ -1,11 +1,11 @@
-use Rattle.std.proofs.Common.{◌≡◌, ℕ, ◌+◌, ◌*◌, ◌≤◌, Bool, List, length, slice_index, Some, None, ap, arith, subst, sym, ◌∙◌}
+use Rattle.std.proofs.Common.{◌≡◌, ℕ, ◌+◌, ◌*◌, ◌≤◌, Bool, List, length, slice_index, Some, None, ap, arith, sym, ◌∙◌}
 use Rattle.hunk_words.specs.Bits.{kind}
 use Rattle.hunk_words.specs.Longs.{longs}
 use Rattle.hunk_words.proofs.LongLaws.{length-longs}
 use Rattle.hunk_blocks.specs.PhaseSteps.{begin}
 use Rattle.hunk_blocks.specs.declared.phase.Phase.{Phase}
 use Rattle.hunk_grammar.specs.Roles.{refuse_word}
-use Rattle.hunk_files.specs.Passing.{BeginsBlock, IsWholeBlock, content, counted, groups, symbols}
+use Rattle.hunk_files.specs.Passing.{BeginsBlock, content, counted, groups, symbols}
 use Rattle.hunk_files.proofs.load.passing.behind_word.Goals as goal
 
 begins_block : (bytes : List ℕ) (has : Bool) (at word : ℕ) (phase q : Phase) → 4 * at + 4 ≤ length bytes → word ≡ slice_index (longs bytes) at → (refuse_word has word ≡ None) × (begin (kind word) ≡ Some phase) → phase ≡ q → BeginsBlock (longs bytes) has at q
@@ -27,14 +27,10 @@ returns-in_ok-behind-in-LongCount c =
 
 pub returns-in_ok-behind-in-GroupCount : goal.returns-in_ok-behind-in-GroupCount
 returns-in_ok-behind-in-GroupCount c =
-    let here = c.in_ok-behind-in-GroupCount in
-    subst (λ (behind : ℕ). IsWholeBlock (longs c.args.bytes.now) c.args.hunks c.args.declared c.args.at c.args.has_content behind c.args.has_content) (sym here.ensures.1)
-    (groups c.behind_groups-end.result (begins_block c.args.bytes.now c.args.has_content c.args.at c.args.word c.in_ok-phase.phase _ c.requires.inside c.requires.word (sym c.refuse.ensures ∙ c.in_default.is, sym (c.in_ok-phase.ensures ∙ ap begin (c.kind.ensures ∙ ap kind c.of.ensures))) c.in-GroupCount.is)
-    c.behind_groups-end.ensures here.ensures.0)
+    groups c.in_ok-behind-in-GroupCount.behind (begins_block c.args.bytes.now c.args.has_content c.args.at c.args.word c.in_ok-phase.phase _ c.requires.inside c.requires.word (sym c.refuse.ensures ∙ c.in_default.is, sym (c.in_ok-phase.ensures ∙ ap begin (c.kind.ensures ∙ ap kind c.of.ensures))) c.in-GroupCount.is)
+    c.in_ok-behind-in-GroupCount.ensures
 
 pub returns-in_ok-behind-in-EntryWord : goal.returns-in_ok-behind-in-EntryWord
 returns-in_ok-behind-in-EntryWord c =
-    let here = c.in_ok-behind-in-EntryWord in
-    subst (λ (behind : ℕ). IsWholeBlock (longs c.args.bytes.now) c.args.hunks c.args.declared c.args.at c.args.has_content behind c.args.has_content) (sym here.ensures.1)
-    (symbols c.behind_symbols-end.result (begins_block c.args.bytes.now c.args.has_content c.args.at c.args.word c.in_ok-phase.phase _ c.requires.inside c.requires.word (sym c.refuse.ensures ∙ c.in_default.is, sym (c.in_ok-phase.ensures ∙ ap begin (c.kind.ensures ∙ ap kind c.of.ensures))) c.in-EntryWord.is)
-    c.behind_symbols-end.ensures here.ensures.0)
+    symbols c.in_ok-behind-in-EntryWord.behind (begins_block c.args.bytes.now c.args.has_content c.args.at c.args.word c.in_ok-phase.phase _ c.requires.inside c.requires.word (sym c.refuse.ensures ∙ c.in_default.is, sym (c.in_ok-phase.ensures ∙ ap begin (c.kind.ensures ∙ ap kind c.of.ensures))) c.in-EntryWord.is)
+    c.in_ok-behind-in-EntryWord.ensures
