@@ -22,7 +22,7 @@ pub struct BlockViews<'a> {
     /// The input; once END was given, only up to the end of the hunk.
     bytes: &'a [u8],
     /// The byte at which the next block begins.
-    at: usize,
+    pub(crate) at: usize,
 }
 
 impl<'a> Model for BlockViews<'a> {

@@ -89,11 +89,11 @@ pub(crate) fn strip_hunk<T: TakesBytes>(taker: &mut T, bytes: &[u8], pending: Pe
     'stripping: while let Some(block) = blocks.next() {
         if !stays(&block) {
             hand_over(taker, bytes, from, block.place() as usize);
-            from = blocks.place() as usize;
+            from = blocks.at;
         }
     }
     Pending {
         from,
-        to: blocks.place() as usize,
+        to: blocks.at,
     }
 }

@@ -148,7 +148,7 @@ impl<'a> Iterator for LoadHunkViews<'a> {
         let start = self.at;
         let mut blocks = BlockViews::at(self.bytes, start);
         'passing: while let Some(_) = blocks.next() {}
-        self.at = blocks.place() as usize;
+        self.at = blocks.at;
         Some(LoadHunkView {
             size,
             bytes: self.bytes,

@@ -27,8 +27,8 @@ stripping-preserved-then-not-stays g c =
     let takes = g.T.TakesBytes.takes in
     let bytes = c.args.bytes.now in
     let took = subst (λ (n : ℕ). takes c.stripping.taker (slice_range bytes c.stripping.from n) c.hand_over.new.taker) c.place.ensures c.hand_over.ensures in (
-      omega (arith, c.place-from.ensures),
-      λ hunk. subst (λ (n : ℕ). BlocksStripped takes c.args.taker.now c.hand_over.new.taker bytes c.args.pending.from c.args.pending.to hunk n c.next.new.self) (sym c.place-from.ensures)
+      omega (arith, ap (λ (p : Placed _). p.place) c.blocks-in-stripping.view_is),
+      λ hunk. subst (λ (n : ℕ). BlocksStripped takes c.args.taker.now c.hand_over.new.taker bytes c.args.pending.from c.args.pending.to hunk n c.next.new.self) (sym (ap (λ (p : Placed _). p.place) c.blocks-in-stripping.view_is))
           (block_goes takes g.met.T.TakesBytes.none g.met.T.TakesBytes.more c.args.taker.now bytes c.args.pending.from c.args.pending.to hunk c.stripping.taker c.stripping.from c.stripping.blocks c.in-Some.block c.next.new.self
           (c.stripping.invariant.1 hunk) c.in-Some.ensures.steps (sym c.stays.ensures ∙ c.if-not-stays.true) c.hand_over.new.taker took),
     )
@@ -43,12 +43,12 @@ stripping-preserved g c = (
 
 pub returns-clause-text : goal.returns-clause-text
 returns-clause-text g c hunk =
-    subst (λ (n : ℕ). HandsOver g.T.TakesBytes.takes c.args.taker.now c.stripping.taker (slice_range c.args.bytes.now c.args.pending.from c.args.pending.to) (slice_range c.args.bytes.now c.stripping.from n) (bytes_of (block_texts (strip_blocks hunk.blocks)))) (sym c.place-2.ensures)
+    subst (λ (n : ℕ). HandsOver g.T.TakesBytes.takes c.args.taker.now c.stripping.taker (slice_range c.args.bytes.now c.args.pending.from c.args.pending.to) (slice_range c.args.bytes.now c.stripping.from n) (bytes_of (block_texts (strip_blocks hunk.blocks)))) (sym (ap (λ (p : Placed _). p.place) c.blocks-in-stripping.view_is))
     (all_blocks g.T.TakesBytes.takes g.met.T.TakesBytes.none g.met.T.TakesBytes.more c.args.taker.now c.args.bytes.now c.args.pending.from c.args.pending.to hunk c.stripping.taker c.stripping.from c.stripping.blocks c.next.new.self
     (c.stripping.invariant.1 hunk) c.in_default.ensures.steps).0
 
 pub returns-clause-end : goal.returns-clause-end
 returns-clause-end g c hunk =
-    c.place-2.ensures
+    ap (λ (p : Placed _). p.place) c.blocks-in-stripping.view_is
     ∙ (all_blocks g.T.TakesBytes.takes g.met.T.TakesBytes.none g.met.T.TakesBytes.more c.args.taker.now c.args.bytes.now c.args.pending.from c.args.pending.to hunk c.stripping.taker c.stripping.from c.stripping.blocks c.next.new.self
     (c.stripping.invariant.1 hunk) c.in_default.ensures.steps).1

@@ -29,12 +29,12 @@ pub passing-preserved : goal.passing-preserved
 passing-preserved c = end_stays block_text c.passing.blocks c.next-in-passing.new.self c.in-Some-next.field-0 c.in-Some-next.ensures.steps ∙ c.passing.invariant
 
 pub invariant_of-self-2 : goal.invariant_of-self-2
-invariant_of-self-2 c = let n = next_hunk_of c.self.inside.table (size_entry c.in-Some.size) c.next.new.self c.self.inside.bytes.now c.self.inside.at c.in-Some.ensures.steps c.self.invariant in n.left c.place.result (c.place.ensures ∙ end_passed block_text c.at-blocks.result c.passing.blocks c.next-in-passing.new.self c.passing.invariant c.in_default-next.ensures.steps ∙ ap (end_of block_text) (c.at-blocks.ensures n.here))
+invariant_of-self-2 c = let n = next_hunk_of c.self.inside.table (size_entry c.in-Some.size) c.next.new.self c.self.inside.bytes.now c.self.inside.at c.in-Some.ensures.steps c.self.invariant in n.left _ (ap (λ (p : Placed _). p.place) c.blocks-2.view_is ∙ end_passed block_text c.at-blocks.result c.passing.blocks c.next-in-passing.new.self c.passing.invariant c.in_default-next.ensures.steps ∙ ap (end_of block_text) (c.at-blocks.ensures n.here))
 
 pub returns-clause-steps : goal.returns-clause-steps
 returns-clause-steps c =
     let n = next_hunk_of c.self.inside.table (size_entry c.in-Some.size) c.next.new.self c.self.inside.bytes.now c.self.inside.at c.in-Some.ensures.steps c.self.invariant in
-    let gives = hunk_gives c.self.inside.table (size_entry c.in-Some.size) c.next.new.self c.self.inside.bytes.now c.self.inside.at n c.place.result (c.place.ensures ∙ end_passed block_text c.at-blocks.result c.passing.blocks c.next-in-passing.new.self c.passing.invariant c.in_default-next.ensures.steps ∙ ap (end_of block_text) (c.at-blocks.ensures n.here)) in
+    let gives = hunk_gives c.self.inside.table (size_entry c.in-Some.size) c.next.new.self c.self.inside.bytes.now c.self.inside.at n _ (ap (λ (p : Placed _). p.place) c.blocks-2.view_is ∙ end_passed block_text c.at-blocks.result c.passing.blocks c.next-in-passing.new.self c.passing.invariant c.in_default-next.ensures.steps ∙ ap (end_of block_text) (c.at-blocks.ensures n.here)) in
     (sym c.self.view_is ∙ gives.0, gives.1)
 
 pub returns-clause-goes : goal.returns-clause-goes
