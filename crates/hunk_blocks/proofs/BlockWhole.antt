@@ -113,14 +113,6 @@ module _ (mode : Mode) (bytes : List ℕ) (at : ℕ) (reason : Reason) where
   fault_other (inl f) m = refused_for reasons.OutOfMemory refl m f.role f.word f.refuses
   fault_other (inr f) m = cc (f.0, m)
 
-  pub fault_truncated : HasBlockFault mode bytes at reason → reason ≡ reasons.Truncated → at ≡ 4 * length (longs bytes)
-  fault_truncated (inl f) t = absurd (refused_for reasons.Truncated refl t f.role f.word f.refuses)
-  fault_truncated (inr f) t = f.1.place
-
-  pub fault_of_object : HasBlockFault mode bytes at reason → mode ≡ modes.Object → reason ≢ reasons.NotInLoadFile
-  fault_of_object (inl f) o n = refused_for reasons.NotInLoadFile (ap (λ (m : Mode). is_word_reason m reasons.NotInLoadFile) o) n f.role f.word f.refuses
-  fault_of_object (inr f) o n = cc (f.0, n)
-
 -- the fault of a block word
 pub first_fault : (mode : Mode) (bytes : List ℕ) (reason : Reason) → 4 ≤ length bytes → refuse_alone_word mode (first_long bytes) ≡ Some reason → HasBlockFault mode bytes 0 reason
 first_fault mode bytes reason some e =

@@ -89,18 +89,11 @@ module _ (bases : List ℕ) (left : List BlockValue) (memory all : List ℕ) whe
   goes_on true word (Reloc groups) c = (true, (c.0.1, sym (fold-append (λ (m : List ℕ) (pair : ℕ × ℕ). add_at m pair.0 (get_or bases pair.1 0)) memory (flat_map group_relocations groups) (relocations_in left)) ∙ c.1))
   goes_on true word _ c = (true, (c.0.1, c.1))
 
-pub comes_done : (bases : List ℕ) (has : Bool) (memory all : List ℕ) → ComesTo has bases [] memory all → memory ≡ all
-comes_done bases true memory all c = c.1
-comes_done bases false memory all c = absurd c.0
-
 -- Memory of a hunk of which some blocks are left.
 pub record LeftToFill (hunks : ℕ) (bases : List ℕ) (size : ℕ) (left : List BlockValue) (memory all : List ℕ) : Type 0 where
   pub each : AllByRecursion (λ (b : BlockValue). FitsHunk hunks (size / 4) b.body) left
   pub has : Bool
   pub comes : ComesTo has bases left memory all
-
-pub all_to_fill : (hunks : ℕ) (bases : List ℕ) (blocks : List BlockValue) (memory : List ℕ) → Fits hunks (length memory) blocks → LeftToFill hunks bases (length memory) blocks memory (memory_of bases (length memory) blocks)
-all_to_fill hunks bases blocks memory f = record { each = f.each; has = false; comes = (f.order, refl) }
 
 module _ {hunks : ℕ} {bases : List ℕ} {size : ℕ} {old : List BlockValue} {memory all : List ℕ} (l : LeftToFill hunks bases size old memory all) where
   -- the next block
@@ -118,9 +111,6 @@ module _ {hunks : ℕ} {bases : List ℕ} {size : ℕ} {old : List BlockValue} {
           has = on.0;
           comes = subst (λ (m : List ℕ). ComesTo on.0 bases new m all) (sym (e ∙ ap (filled_by bases memory) same)) on.1;
         }
-
-  pub hunk_filled : old ≡ [] → memory ≡ all
-  hunk_filled none = comes_done bases l.has memory all (subst (λ (bs : List BlockValue). ComesTo l.has bases bs memory all) none l.comes)
 
 -- ---- the hunks that are left
 

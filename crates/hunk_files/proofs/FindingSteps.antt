@@ -109,6 +109,3 @@ module _ (h left rest : ObjectHunk) (b : BlockValue) (found : Option ℕ) (first
       let here : content_bytes b.body ≡ None = sym is ∙ e in
       let none : 0 + content_size b.body ≡ 0 = omega (arith, ap (λ (o : Option ℕ). unwrap_or o 0) here) in
       (behind_other b.body (standings rest) here in_order, sym (ap (λ (n : ℕ). bytes_from n rest) none) ∙ bytes_are)
-
-pub content_somewhere : (h left : ObjectHunk) → left ≡ [] → ContentLeft h left → ⊥
-content_somewhere h left e c = subst (λ (bs : ObjectHunk). AreInOrder false (standings bs)) e c.0

@@ -30,10 +30,6 @@ pub offsets_done : {A : Type 0} (f : A → List (ℕ × ℕ)) (left : List A) (h
 offsets_done f [] held e = sym (append-nil held)
 offsets_done f (x ∷ left) held e = absurd cc
 
--- a block of another kind has none
-pub no_offsets : (held old : List ℕ) → held ≡ old → held ≡ old ++ []
-no_offsets held old e = e ∙ sym (append-nil old)
-
 pub offsets_at : (v : LoadFileValue) (i : ℕ) (h : HunkValue) → slice_get v i ≡ Some h → hunk_offsets v i ≡ offsets (relocations h)
 offsets_at v i h e =
     ap (λ (o : Option (List ℕ)). unwrap_or o []) (slice_get-map (λ (x : HunkValue). offsets (relocations x)) v i ∙ ap (λ (o : Option HunkValue). option_map (λ x. offsets (relocations x)) o) e)

@@ -86,13 +86,3 @@ pub read_passes : (ws : List ℕ) (p : Progress) → HasRead ws (More p) → (v 
 read_passes ws p h v is w more e =
     let r = rest_read ws (More p) h (text v) (Finished v) (file_read v is) (w ∷ more) e in
     first_passes p r.0 v w more r.1 r.2 r.3
-
-goes_on : (p : Progress) (ls : Labelled) (v : LoadFileValue) → Leads (More p) ls (Finished v) → words ls ≢ []
-goes_on p [] v run e = cc
-goes_on p (l ∷ ls) v run e = cc
-
--- A load text that begins so is not whole here.
-pub read_goes_on : (ws : List ℕ) (p : Progress) → HasRead ws (More p) → (v : LoadFileValue) → IsLoadFile v → (more : List ℕ) → text v ≡ ws ++ more → more ≢ []
-read_goes_on ws p h v is more e nil =
-    let r = rest_read ws (More p) h (text v) (Finished v) (file_read v is) more e in
-    goes_on p r.0 v r.1 (r.3 ∙ nil)
