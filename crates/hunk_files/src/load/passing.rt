@@ -247,13 +247,10 @@ fn behind_symbols(bytes: &[u8], from: usize) -> Option<usize>
     let mut at = from;
     'symbols: while at < whole {
         let word = word_at(bytes, at);
-        if word == 0 {
-            return Some(at + 1);
-        }
         // The word, its name, and its value.
         let longs = (word % NAME_LIMIT) as usize + 2;
-        if longs > whole - at {
-            return None;
+        if word == 0 || longs > whole - at {
+            return if word == 0 { Some(at + 1) } else { None };
         }
         at += longs;
     }

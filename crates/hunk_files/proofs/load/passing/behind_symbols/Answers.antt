@@ -15,11 +15,11 @@ symbols-preserved c =
     subst (λ (w : ℕ). AreSymbols ws c.args.from (at + (w % 16777216 + 2))) (sym is)
     (one_symbol at c.symbols.invariant (omega (arith, c.if-word-eq0.false, is)) (omega (arith, c.if-longs-whole.false, c.symbols-test.true, is, length-longs c.args.bytes.now)))
 
-pub returns-then-word-eq0 : goal.returns-then-word-eq0
-returns-then-word-eq0 c = record {
+pub returns-then-word-eq0-2 : goal.returns-then-word-eq0-2
+returns-then-word-eq0-2 c = record {
   end = c.symbols.at;
   items = c.symbols.invariant;
-  zero_is = sym c.word_at-word.ensures ∙ c.if-word-eq0.true;
+  zero_is = sym c.word_at-word.ensures ∙ c.if-word-eq0-2.true;
   ends = refl;
   whole = omega (arith, c.symbols-test.true, length-longs c.args.bytes.now);
 }
