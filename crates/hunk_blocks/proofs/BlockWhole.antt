@@ -1,5 +1,5 @@
 -- Bytes that begin with a block, and the reasons that others are refused for.
-use Rattle.std.proofs.Common.{◌≡◌, ◌≢◌, ℕ, ◌*◌, ◌/◌, ◌^◌, ◌≤◌, Bool, true, false, cond, List, [], ◌++◌, length, drop, refl, sym, ap, subst, ◌∙◌, arith, Option, Some, None, inl, inr}
+use Rattle.std.proofs.Common.{◌≡◌, ◌≢◌, ℕ, ◌/◌, ◌^◌, ◌≤◌, Bool, true, false, cond, List, [], ◌++◌, length, drop, refl, sym, ap, subst, ◌∙◌, arith, Option, Some, None, inl, inr}
 use Rattle.std.specs.Prelude.{IsTrue, nat_lt, Result, Ok, Err, IsErrAnd}
 use Rattle.std.proofs.lemmas.List.{take-append-drop, drop_more}
 use Rattle.hunk_words.specs.Limits.{name_limit}
