@@ -2,7 +2,7 @@
 use Rattle.std.proofs.Common.{◌≡◌, ℕ, zero, suc, ◌+◌, ◌-◌, ◌*◌, ◌/◌, ◌%◌, ◌<◌, Bool, true, ◌&&◌, T, eqb, slice_index, inl, inr, arith, eq-zero-or-pos, eqb→eq}
 use lib.Ieee.Fits.{and_l, and_r}
 use Rattle.hex.specs.Hex.{lower_digits}
-use Rattle.hunk_listing.specs.declared.digits.TheConstants.{PAIRS}
+use Rattle.hunk_listing.specs.declared.line.TheConstants.{PAIRS}
 
 abbrev are_pairs : ℕ → Bool
 are_pairs zero = true

@@ -12,7 +12,7 @@ ghost use Rattle.hunk_listing.specs.BlockLines.{offset_count, size_line, symbol_
 use crate::entry::print_entry;
 use crate::line::{LINE, Line};
 use crate::names::{put_block_flags, put_kind, put_memory_flags};
-use crate::text::{print_named, print_offset_behind};
+use crate::text::print_named;
 use hunk_blocks::{
     BlockView, BodyView, EntriesIter, Group, GroupsIter, Payload, SymbolView, SymbolsIter,
 };
@@ -148,23 +148,13 @@ fn offset_count(groups: GroupsIter<'_>) -> u64
 fn print_group<W: Sink>(page: &mut Printer<'_, W>, group: &Group<'_>)
     ensures { Prints page.old page.new (group_lines (group_of group.now)) }
 {
-    let mut line = begin_relocation_line(group.target);
-    let start = line.len();
-    'offsets: for offset in &group.offsets {
-        print_offset_behind(page, &mut line, start, offset);
-    }
-}
-
-/// The line of a relocation up to the digits of its offset.
-fn begin_relocation_line(target: u32) -> Line
-    ensures text { result ≡ codes "    " ++ decimal target ++ codes " 0x" }
-    ensures bound { length result ≤ 27 }
-{
     let mut line = Line::new();
     line.put(b"    ");
-    line.put_decimal(u64::from(target));
+    line.put_decimal(u64::from(group.target));
     line.put(b" 0x");
-    line
+    'offsets: for offset in &group.offsets {
+        line.print_offset(page, offset, b"\n");
+    }
 }
 
 fn print_symbols<W: Sink>(page: &mut Printer<'_, W>, word: BlockWord, symbols: SymbolsIter<'_>)

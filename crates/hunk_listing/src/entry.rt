@@ -8,7 +8,7 @@ ghost use Rattle.hunk_listing.specs.BlockLines.{common_line, definition_line, en
 ghost use Rattle.hunk_listing.specs.BlockLines.{entry_lines, offset_line, reference_line};
 
 use crate::line::Line;
-use crate::text::{print_named, print_offset_behind};
+use crate::text::print_named;
 use hunk_blocks::{Entry, ExtKind, ExtShape, Longs};
 use hunk_words::{Printer, Sink};
 
@@ -83,6 +83,6 @@ fn print_offsets<W: Sink>(page: &mut Printer<'_, W>, offsets: &Longs<'_>)
     let mut line = Line::new();
     line.put(b"      0x");
     'offsets: for offset in offsets {
-        print_offset_behind(page, &mut line, 8, offset);
+        line.print_offset(page, offset, b"\n");
     }
 }

@@ -2,7 +2,6 @@
 #![tactic(auto)]
 
 mod block;
-mod digits;
 mod entry;
 mod line;
 mod listing;

@@ -1,11 +1,11 @@
 //! A line of bounded length, made before it is printed.
 ghost use Rattle.std.specs.Prelude.{◌≡◌, ◌<◌, ◌≤◌, ◌+◌, ◌*◌, ◌++◌, [], length, take, drop};
 ghost use Rattle.std.specs.Prelude.{codes, decimal};
+ghost use Rattle.hex.specs.Hex.{encode_lower};
 ghost use Rattle.hunk_words.specs.Prints.{Prints};
 ghost use Rattle.hunk_listing.specs.Printed.{digits, hexadecimal};
 
-use crate::digits::put_digits;
-use hunk_words::{PagePrinter, Sink};
+use hunk_words::{PagePrinter, Printer, Sink};
 use itoa::write_digits;
 use std::marker::Model;
 
@@ -41,21 +41,6 @@ impl Line {
         }
     }
 
-    /// How many bytes were put.
-    pub(crate) fn len(&self) -> usize
-        ensures { result ≡ length self.now }
-    {
-        self.len
-    }
-
-    /// Keeps the first `len` bytes.
-    pub(crate) fn truncate(&mut self, len: usize)
-        requires { len ≤ length self.old }
-        ensures { self.new ≡ take len self.old }
-    {
-        self.len = len;
-    }
-
     /// Puts the bytes.
     pub(crate) fn put(&mut self, bytes: &[u8])
         requires { length self.old + length bytes.now ≤ LINE }
@@ -73,7 +58,13 @@ impl Line {
         ensures text { self.new ≡ self.old ++ decimal number }
         ensures bound { length self.new ≤ length self.old + 20 }
     {
-        let end = self.len + decimal_length(number);
+        // Most numbers have one digit.
+        let count = if number < 10 {
+            1
+        } else {
+            number.ilog10() as usize + 1
+        };
+        let end = self.len + count;
         write_digits(number, &mut self.bytes, end);
         self.len = end;
     }
@@ -94,8 +85,9 @@ impl Line {
         ensures text { self.new ≡ self.old ++ digits number }
         ensures len { length self.new ≡ length self.old + 8 }
     {
-        put_digits(self.bytes.as_mut_slice(), self.len, &number.to_be_bytes());
-        self.len += 8;
+        let end = self.len + 8;
+        encode(&number.to_be_bytes(), &mut self.bytes[self.len..end]);
+        self.len = end;
     }
 
     /// Prints the line.
@@ -104,35 +96,55 @@ impl Line {
     {
         page.print(&self.bytes[..self.len]);
     }
+
+    /// Prints the line, the digits of the offset behind it and the end. The line stays as it is,
+    /// and so serves for the next offset.
+    pub(crate) fn print_offset<W: Sink, const END: usize>(
+        &mut self,
+        page: &mut Printer<'_, W>,
+        offset: u32,
+        end: &[u8; END],
+    )
+        requires { length self.old + 8 + END ≤ LINE }
+        ensures prints { Prints page.old page.new (self.old ++ digits offset ++ end.now) }
+        ensures kept { self.new ≡ self.old }
+    {
+        let behind = self.len + 8;
+        let whole = behind + END;
+        encode(&offset.to_be_bytes(), &mut self.bytes[self.len..behind]);
+        self.bytes[behind..whole].copy_from_slice(end);
+        page.print(&self.bytes[..whole]);
+    }
 }
 
-/// How many decimal digits the number has: most have one, and four are counted by one division.
-fn decimal_length(number: u64) -> usize
-    ensures digits { result ≡ length (decimal number) }
-    ensures bound { result ≤ 20 }
-{
-    if number < 10 {
-        return 1;
-    }
-    let mut rest = number;
-    let mut count = 0;
-    'digits: while rest >= 10_000 {
-        rest /= 10_000;
-        count += 4;
-    }
-    count + short_length(rest)
-}
+/// The two digits of each byte in turn: half the steps of a digit at a time.
+static PAIRS: [u8; 512] = *b"\
+    000102030405060708090a0b0c0d0e0f\
+    101112131415161718191a1b1c1d1e1f\
+    202122232425262728292a2b2c2d2e2f\
+    303132333435363738393a3b3c3d3e3f\
+    404142434445464748494a4b4c4d4e4f\
+    505152535455565758595a5b5c5d5e5f\
+    606162636465666768696a6b6c6d6e6f\
+    707172737475767778797a7b7c7d7e7f\
+    808182838485868788898a8b8c8d8e8f\
+    909192939495969798999a9b9c9d9e9f\
+    a0a1a2a3a4a5a6a7a8a9aaabacadaeaf\
+    b0b1b2b3b4b5b6b7b8b9babbbcbdbebf\
+    c0c1c2c3c4c5c6c7c8c9cacbcccdcecf\
+    d0d1d2d3d4d5d6d7d8d9dadbdcdddedf\
+    e0e1e2e3e4e5e6e7e8e9eaebecedeeef\
+    f0f1f2f3f4f5f6f7f8f9fafbfcfdfeff";
 
-/// How many decimal digits a number below 10,000 has.
-fn short_length(number: u64) -> usize
-    requires { number < 10000 }
-    ensures { result ≡ length (decimal number) }
+/// Makes two hexadecimal digits of each byte.
+pub(crate) fn encode(bytes: &[u8], digits: &mut [u8])
+    requires { length digits.old ≡ 2 * length bytes.now }
+    ensures { digits.new ≡ encode_lower bytes.now }
 {
-    if number < 10 {
-        return 1;
+    'bytes: for (i, byte) in bytes.iter().enumerate() {
+        let pair = 2 * *byte as usize;
+        let (high, low) = (PAIRS[pair], PAIRS[pair + 1]);
+        digits[2 * i] = high;
+        digits[2 * i + 1] = low;
     }
-    if number < 100 {
-        return 2;
-    }
-    if number < 1_000 { 3 } else { 4 }
 }

@@ -3,8 +3,7 @@ ghost use Rattle.std.specs.Prelude.{◌≡◌, ◌≤◌, length, codes, decimal
 ghost use Rattle.hunk_words.specs.Prints.{Prints};
 ghost use Rattle.hunk_listing.specs.SegmentLines.{dump, dump_row, segment_lines};
 
-use crate::digits::put_digits;
-use crate::line::Line;
+use crate::line::{Line, encode};
 use hunk_words::{Printer, Sink};
 
 /// How many bytes of a segment a row shows.
@@ -53,7 +52,7 @@ fn print_whole_row<W: Sink>(page: &mut Printer<'_, W>, bytes: &[u8; ROW])
     ensures { Prints page.old page.new (dump_row bytes.now) }
 {
     let mut line = *b"  00000000000000000000000000000000\n";
-    put_digits(line.as_mut_slice(), 2, bytes);
+    encode(bytes, &mut line[2..2 + 2 * ROW]);
     page.print(&line);
 }
 
@@ -64,7 +63,7 @@ fn print_short_row<W: Sink>(page: &mut Printer<'_, W>, bytes: &[u8])
 {
     let mut line = [b' '; 2 * ROW + 3];
     let end = 2 + 2 * bytes.len();
-    put_digits(line.as_mut_slice(), 2, bytes);
+    encode(bytes, &mut line[2..end]);
     line[end] = b'\n';
     page.print(&line[..end + 1]);
 }

@@ -1,38 +1,13 @@
-//! Numbers and names, printed.
+//! Names, printed.
 ghost use Rattle.std.specs.Prelude.{◌≡◌, ◌≤◌, ◌<◌, ◌+◌, ◌*◌, ◌++◌, false, length, take, drop};
 ghost use Rattle.std.specs.Prelude.{codes, slice_index};
 ghost use Rattle.hunk_words.specs.Prints.{Prints};
 ghost use Rattle.hunk_words.specs.Longs.{longs};
-ghost use Rattle.hunk_listing.specs.Printed.{character, characters, digits, is_plain};
-ghost use Rattle.hunk_listing.specs.Printed.{name_text};
+ghost use Rattle.hunk_listing.specs.Printed.{character, characters, is_plain, name_text};
 
-use crate::digits::put_digits;
-use crate::line::{LINE, Line};
+use crate::line::{Line, encode};
 use hunk_blocks::Payload;
 use hunk_words::{Printer, Sink};
-
-/// Prints the first `start` bytes of the line, the digits of the offset behind them and the end of
-/// the line.
-///
-/// The line keeps these bytes, so that it serves for the next offset.
-pub(crate) fn print_offset_behind<W: Sink>(
-    page: &mut Printer<'_, W>,
-    line: &mut Line,
-    start: usize,
-    offset: u32,
-)
-    requires inside { start ≤ length line.old }
-    requires room { start + 9 ≤ LINE }
-    ensures prints { Prints page.old page.new
-        (take start line.old ++ digits offset ++ codes "\n") }
-    ensures kept { take start line.new ≡ take start line.old }
-    ensures inside { start ≤ length line.new }
-{
-    line.truncate(start);
-    line.put_digits(offset);
-    line.put(b"\n");
-    line.print(page);
-}
 
 /// Prints the line, the name's text behind it and the end of the line.
 #[inline(always)]
@@ -89,6 +64,6 @@ fn print_escape<W: Sink>(page: &mut Printer<'_, W>, byte: u8)
     ensures { Prints page.old page.new (character byte) }
 {
     let mut escape = *b"\\x00";
-    put_digits(escape.as_mut_slice(), 2, &[byte]);
+    encode(&[byte], &mut escape[2..]);
     page.print(&escape);
 }

@@ -1,4 +1,4 @@
-use Rattle.std.proofs.Common.{◌≡◌, ◌≤◌, ◌++◌, length, take}
+use Rattle.std.proofs.Common.{◌≡◌, ◌++◌}
 use Rattle.std.specs.List.{flat_map}
 use Rattle.std.specs.Prelude.{codes}
 use Rattle.hunk_listing.specs.BlockLines.{offset_line}
@@ -8,6 +8,5 @@ abbrev pub invariant-offsets : goal.invariant-offsets
 invariant-offsets g l = record {
   same : l.page.origin ≡ l.fn.page.origin;
   shown : l.page.text ++ flat_map offset_line l.offset-iterator ≡ l.fn.page.text ++ flat_map offset_line l.offsets;
-  within : 8 ≤ length l.line;
-  kept : take 8 l.line ≡ codes "      0x";
+  front : l.line ≡ codes "      0x";
 }

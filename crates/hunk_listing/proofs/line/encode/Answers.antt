@@ -2,7 +2,7 @@ use Rattle.std.proofs.Common.{ℕ, slice_index, arith}
 use Rattle.hex.specs.Hex.{lower_digits}
 use Rattle.hex.proofs.Pairs.{encode_step, encode_done}
 use Rattle.hunk_listing.proofs.DigitPairs.{pair_at}
-use Rattle.hunk_listing.proofs.digits.encode.Goals as goal
+use Rattle.hunk_listing.proofs.line.encode.Goals as goal
 
 pub bytes-preserved : goal.bytes-preserved
 bytes-preserved c =

@@ -1,6 +1,6 @@
 use Rattle.std.proofs.Common.{◌≡◌, ◌*◌, ◌++◌, take, drop}
 use Rattle.hex.specs.Hex.{encode_lower}
-use Rattle.hunk_listing.proofs.digits.encode.Given as goal
+use Rattle.hunk_listing.proofs.line.encode.Given as goal
 
 -- the digits put so far, and those of the rest
 abbrev pub invariant-bytes : goal.invariant-bytes
