@@ -19,11 +19,11 @@ unfoldable pub name_line : ℕ → List ℕ → List ℕ
 name_line word name = head word ++ codes " " ++ name_text name ++ codes "\n"
 
 -- `  CODE D bytes`, and DATA, BSS and DEBUG
-unfoldable pub size_line : ℕ → ℕ → List ℕ
+abbrev pub size_line : ℕ → ℕ → List ℕ
 size_line word size = head word ++ codes " " ++ decimal size ++ codes " bytes\n"
 
 -- `  RELOC32 D`, `  SYMBOL D` and `  EXT D`, before a line or more for each of this many
-unfoldable pub count_line : ℕ → ℕ → List ℕ
+abbrev pub count_line : ℕ → ℕ → List ℕ
 count_line word count = head word ++ codes " " ++ decimal count ++ codes "\n"
 
 -- `  END`

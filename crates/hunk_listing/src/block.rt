@@ -8,10 +8,10 @@ ghost use Rattle.hunk_blocks.specs.Views.{group_of, symbol_of};
 ghost use Rattle.hunk_listing.specs.BlockLines.{advisory_line, block_lines, body_lines, count_line};
 ghost use Rattle.hunk_listing.specs.BlockLines.{end_line, group_lines, head, name_line};
 ghost use Rattle.hunk_listing.specs.BlockLines.{offset_count, size_line, symbol_line};
+ghost use Rattle.hunk_listing.specs.BlockNames.{memory_flags};
 
 use crate::entry::print_entry;
 use crate::line::{LINE, Line};
-use crate::names::{put_block_flags, put_kind, put_memory_flags};
 use crate::text::print_named;
 use hunk_blocks::{
     BlockView, BodyView, EntriesIter, Group, GroupsIter, Payload, SymbolView, SymbolsIter,
@@ -19,6 +19,7 @@ use hunk_blocks::{
 use hunk_words::{BlockWord, Printer, Sink};
 
 /// Prints the lines of the block.
+#[tactic(auto, unfolding(crate::specs::BlockLines::end_line))]
 pub(crate) fn print_block<W: Sink>(page: &mut Printer<'_, W>, block: BlockView<'_>)
     ensures { Prints page.old page.new (block_lines block.entry.value) }
 {
@@ -30,69 +31,72 @@ pub(crate) fn print_block<W: Sink>(page: &mut Printer<'_, W>, block: BlockView<'
         BodyView::Name(name) => print_name_line(page, word, &name),
         BodyView::Code { payload, .. }
         | BodyView::Data { payload, .. }
-        | BodyView::Debug(payload) => print_size(page, word, payload.byte_count()),
-        BodyView::Bss { .. } => { print_size(page, word, body.content_bytes().unwrap_or(0)) }
+        | BodyView::Debug(payload) => print_number(page, word, payload.byte_count(), b" bytes\n"),
+        BodyView::Bss { .. } => {
+            print_number(page, word, body.content_bytes().unwrap_or(0), b" bytes\n");
+        }
         BodyView::Reloc(groups) => print_relocations(page, word, groups),
         BodyView::Ext(entries) => print_entries(page, word, entries),
         BodyView::Symbol(symbols) => print_symbols(page, word, symbols),
-        BodyView::End => print_end(page, word),
+        BodyView::End => {
+            let mut line = begin_line(word);
+            line.put(b"\n");
+            line.print(page);
+        }
         BodyView::Advisory(payload) => print_advisory(page, word, &payload),
     }
 }
 
-/// Two spaces, the block's name and its flags.
-#[tactic(auto, unfolding(crate::specs::BlockLines::head))]
-fn put_head(line: &mut Line, word: BlockWord)
-    requires { length line.old + 33 ≤ LINE }
-    ensures text { line.new ≡ line.old ++ head word }
-    ensures bound { length line.new ≤ length line.old + 33 }
+/// Begins the line of a block: its name as `dos/doshunks.h` has it, and ` advisory`, ` chip` and
+/// ` fast` for the flags of its word. A block without a name there is advisory.
+#[tactic(auto, unfolding(crate::specs::BlockLines::head, crate::specs::BlockNames::block_flags))]
+fn begin_line(word: BlockWord) -> Line
+    ensures text { result ≡ head word }
+    ensures bound { length result ≤ 33 }
 {
+    let mut line = Line::new();
     line.put(b"  ");
-    put_kind(line, word.kind());
-    put_block_flags(line, word);
+    line.put(word.kind().name().unwrap_or("ADVISORY").as_bytes());
+    if word.is_advisory() {
+        line.put(b" advisory");
+    }
+    put_memory_flags(&mut line, word);
+    line
+}
+
+/// Puts ` chip` and ` fast` for the flags that the word has.
+#[tactic(auto, unfolding(crate::specs::BlockNames::memory_flags))]
+fn put_memory_flags(line: &mut Line, word: BlockWord)
+    requires { length line.old + 10 ≤ LINE }
+    ensures text { line.new ≡ line.old ++ memory_flags word }
+    ensures bound { length line.new ≤ length line.old + 10 }
+{
+    if word.is_chip() {
+        line.put(b" chip");
+    }
+    if word.is_fast() {
+        line.put(b" fast");
+    }
 }
 
 #[tactic(auto, unfolding(crate::specs::BlockLines::name_line))]
 fn print_name_line<W: Sink>(page: &mut Printer<'_, W>, word: BlockWord, name: &Payload<'_>)
     ensures { Prints page.old page.new (name_line word (longs name.now)) }
 {
-    let mut line = Line::new();
-    put_head(&mut line, word);
+    let mut line = begin_line(word);
     line.put(b" ");
     print_named(page, &line, name);
 }
 
-#[tactic(auto, unfolding(crate::specs::BlockLines::size_line))]
-fn print_size<W: Sink>(page: &mut Printer<'_, W>, word: BlockWord, size: u64)
-    ensures { Prints page.old page.new (size_line word size) }
+/// Prints the line of a block whose name and flags a number follows, up to `end`.
+fn print_number<W: Sink>(page: &mut Printer<'_, W>, word: BlockWord, number: u64, end: &[u8])
+    requires { length end.now ≤ 7 }
+    ensures { Prints page.old page.new (head word ++ codes " " ++ decimal number ++ end.now) }
 {
-    let mut line = Line::new();
-    put_head(&mut line, word);
+    let mut line = begin_line(word);
     line.put(b" ");
-    line.put_decimal(size);
-    line.put(b" bytes\n");
-    line.print(page);
-}
-
-#[tactic(auto, unfolding(crate::specs::BlockLines::count_line))]
-fn print_count<W: Sink>(page: &mut Printer<'_, W>, word: BlockWord, count: u64)
-    ensures { Prints page.old page.new (count_line word count) }
-{
-    let mut line = Line::new();
-    put_head(&mut line, word);
-    line.put(b" ");
-    line.put_decimal(count);
-    line.put(b"\n");
-    line.print(page);
-}
-
-#[tactic(auto, unfolding(crate::specs::BlockLines::end_line))]
-fn print_end<W: Sink>(page: &mut Printer<'_, W>, word: BlockWord)
-    ensures { Prints page.old page.new (end_line word) }
-{
-    let mut line = Line::new();
-    put_head(&mut line, word);
-    line.put(b"\n");
+    line.put_decimal(number);
+    line.put(end);
     line.print(page);
 }
 
@@ -126,7 +130,7 @@ fn print_relocations<W: Sink>(page: &mut Printer<'_, W>, word: BlockWord, groups
     requires { offset_count groups.value < 2 ^ 64 }
     ensures { Prints page.old page.new (body_lines word (Reloc groups.entry.value)) }
 {
-    print_count(page, word, offset_count(groups.again()));
+    print_number(page, word, offset_count(groups.again()), b"\n");
     'groups: for group in groups {
         print_group(page, &group);
     }
@@ -161,7 +165,7 @@ fn print_symbols<W: Sink>(page: &mut Printer<'_, W>, word: BlockWord, symbols: S
     requires { length symbols.value < 2 ^ 64 }
     ensures { Prints page.old page.new (body_lines word (Symbol symbols.entry.value)) }
 {
-    print_count(page, word, symbols.again().count() as u64);
+    print_number(page, word, symbols.again().count() as u64, b"\n");
     'symbols: for symbol in symbols {
         print_symbol(page, &symbol);
     }
@@ -182,7 +186,7 @@ fn print_entries<W: Sink>(page: &mut Printer<'_, W>, word: BlockWord, entries: E
     requires { length entries.value < 2 ^ 64 }
     ensures { Prints page.old page.new (body_lines word (Ext entries.entry.value)) }
 {
-    print_count(page, word, entries.again().count() as u64);
+    print_number(page, word, entries.again().count() as u64, b"\n");
     'entries: for entry in entries {
         print_entry(page, &entry);
     }

@@ -6,7 +6,6 @@ mod entry;
 mod line;
 mod listing;
 mod load;
-mod names;
 mod object;
 mod report;
 mod rewriting;

@@ -12,5 +12,5 @@ groups-preserved g c =
 pub returns : goal.returns
 returns g c =
     let counted = subst (λ (s : Placed (List RelocGroup)). c.offset_count.result ≡ offset_count s.value) c.again.ensures c.offset_count.ensures in
-    let start = subst (λ n. c.print_count.new.page.text ≡ c.args.page.now.text ++ count_line c.args.word n) counted c.print_count.ensures.1 in
-    (c.groups.invariant.0 ∙ c.print_count.ensures.0, shown_list group_lines c.args.groups.value _ _ _ _ _ c.in-None.ensures.steps.0 c.groups.invariant.1 start)
+    let start = subst (λ n. c.print_number.new.page.text ≡ c.args.page.now.text ++ count_line c.args.word n) counted c.print_number.ensures.1 in
+    (c.groups.invariant.0 ∙ c.print_number.ensures.0, shown_list group_lines c.args.groups.value _ _ _ _ _ c.in-None.ensures.steps.0 c.groups.invariant.1 start)

@@ -16,5 +16,5 @@ pub returns : goal.returns
 returns g c =
     let given = items_given symbol_of symbol_text c.count.ensures.ran.0 c.again.result c.count.ensures.ran.1 in
     let counted = subst (λ (s : Placed (List SymbolEntry)). c.count.result ≡ length s.value) c.again.ensures (subst (λ n. c.count.result ≡ n) given c.count.ensures.ran.2) in
-    let start = subst (λ n. c.print_count.new.page.text ≡ c.args.page.now.text ++ count_line c.args.word n) counted c.print_count.ensures.1 in
-    (c.symbols.invariant.0 ∙ c.print_count.ensures.0, shown_list symbol_line c.args.symbols.value _ _ _ _ _ c.in-None.ensures.steps.0 c.symbols.invariant.1 start)
+    let start = subst (λ n. c.print_number.new.page.text ≡ c.args.page.now.text ++ count_line c.args.word n) counted c.print_number.ensures.1 in
+    (c.symbols.invariant.0 ∙ c.print_number.ensures.0, shown_list symbol_line c.args.symbols.value _ _ _ _ _ c.in-None.ensures.steps.0 c.symbols.invariant.1 start)
