@@ -1,10 +1,12 @@
 //! The lines of a block.
 ghost use Rattle.std.specs.Prelude.{◌≡◌, ◌*◌, ◌%◌, ◌^◌, ◌<◌, ◌≤◌, ◌+◌, ◌++◌, length};
 ghost use Rattle.std.specs.Prelude.{codes, decimal};
+ghost use Rattle.std.specs.List.{flat_map};
 ghost use Rattle.hunk_words.specs.Prints.{Prints};
 ghost use Rattle.hunk_words.specs.Longs.{longs};
 ghost use Rattle.hunk_blocks.specs.Values.{Ext, Reloc, Symbol};
 ghost use Rattle.hunk_blocks.specs.Views.{group_of, symbol_of};
+ghost use Rattle.hunk_files.specs.Hunks.{block_texts};
 ghost use Rattle.hunk_listing.specs.BlockLines.{advisory_line, block_lines, body_lines, count_line};
 ghost use Rattle.hunk_listing.specs.BlockLines.{end_line, group_lines, head, name_line};
 ghost use Rattle.hunk_listing.specs.BlockLines.{offset_count, size_line, symbol_line};
@@ -16,11 +18,24 @@ use crate::text::print_named;
 use hunk_blocks::{
     BlockView, BodyView, EntriesIter, Group, GroupsIter, Payload, SymbolView, SymbolsIter,
 };
+use hunk_files::BlockViews;
 use hunk_words::{BlockWord, Printer, Sink};
+
+/// Prints the lines of the blocks of a hunk, and answers the byte behind them.
+pub(crate) fn print_blocks<W: Sink>(page: &mut Printer<'_, W>, mut blocks: BlockViews<'_>) -> u64
+    ensures prints { Prints page.old page.new (flat_map block_lines blocks.entry.value) }
+    ensures end { result
+        ≡ blocks.entry.place + 4 * length (block_texts blocks.entry.value) }
+{
+    'lines: while let Some(block) = blocks.next() {
+        print_block(page, block);
+    }
+    blocks.place()
+}
 
 /// Prints the lines of the block.
 #[tactic(auto, unfolding(crate::specs::BlockLines::end_line))]
-pub(crate) fn print_block<W: Sink>(page: &mut Printer<'_, W>, block: BlockView<'_>)
+fn print_block<W: Sink>(page: &mut Printer<'_, W>, block: BlockView<'_>)
     ensures { Prints page.old page.new (block_lines block.entry.value) }
 {
     let word = block.word();

@@ -4,7 +4,6 @@
 mod block;
 mod entry;
 mod line;
-mod listing;
 mod load;
 mod object;
 mod report;
@@ -12,7 +11,8 @@ mod rewriting;
 mod segment;
 mod text;
 
-pub use crate::listing::{print_load_file, print_object_file};
+pub use crate::load::print_load_file;
+pub use crate::object::print_object_file;
 pub use crate::report::{print_load_summary, print_object_report};
 pub use crate::rewriting::print_rewriting;
 pub use crate::segment::print_segment;

@@ -6,18 +6,27 @@ ghost use Rattle.hunk_words.specs.Longs.{longs};
 ghost use Rattle.hunk_files.specs.Hunks.{block_texts};
 ghost use Rattle.hunk_files.specs.ObjectFile.{unit_text};
 ghost use Rattle.hunk_listing.specs.FileLines.{numbered, object_hunk_line, object_hunk_lines};
-ghost use Rattle.hunk_listing.specs.FileLines.{object_line, unit_line, unit_lines};
+ghost use Rattle.hunk_listing.specs.FileLines.{object_line, object_listing};
+ghost use Rattle.hunk_listing.specs.FileLines.{unit_line, unit_lines};
 
+use crate::block::print_blocks;
 use crate::line::Line;
-use crate::load::print_blocks;
 use crate::text::print_named;
 use hunk_blocks::Payload;
 use hunk_files::{HunkView, HunkViews, ObjectView, UnitView, UnitViews};
 use hunk_words::{Printer, Sink};
 
+/// Lists the units, hunks and blocks of an object file.
+pub fn print_object_file<W: Sink>(page: &mut Printer<'_, W>, file: &ObjectView<'_>)
+    ensures { Prints page.old page.new (object_listing file.now) }
+{
+    print_object_line(page, unit_count(file));
+    print_units(page, file.units());
+}
+
 /// Prints the line of the file: how many units it has.
 #[tactic(auto, unfolding(crate::specs::FileLines::object_line))]
-pub(crate) fn print_object_line<W: Sink>(page: &mut Printer<'_, W>, units: u64)
+fn print_object_line<W: Sink>(page: &mut Printer<'_, W>, units: u64)
     ensures { Prints page.old page.new (object_line units) }
 {
     let mut line = Line::new();
@@ -28,14 +37,14 @@ pub(crate) fn print_object_line<W: Sink>(page: &mut Printer<'_, W>, units: u64)
 }
 
 /// The number of units, which are passed over.
-pub(crate) fn unit_count(file: &ObjectView<'_>) -> u64
+fn unit_count(file: &ObjectView<'_>) -> u64
     ensures { result ≡ length file.now }
 {
     file.units().count() as u64
 }
 
 /// Prints the lines of all units.
-pub(crate) fn print_units<W: Sink>(page: &mut Printer<'_, W>, mut units: UnitViews<'_>)
+fn print_units<W: Sink>(page: &mut Printer<'_, W>, mut units: UnitViews<'_>)
     requires { length units.value < 2 ^ 64 }
     ensures { Prints page.old page.new (numbered unit_lines 0 units.entry.value) }
 {

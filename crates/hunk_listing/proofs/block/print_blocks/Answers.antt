@@ -5,7 +5,7 @@ use Rattle.hunk_blocks.specs.Values.{BlockValue}
 use Rattle.hunk_files.proofs.Taking.{end_reached, end_stays}
 use Rattle.hunk_listing.specs.BlockLines.{block_lines}
 use Rattle.hunk_listing.proofs.Lines.{shown_next}
-use Rattle.hunk_listing.proofs.load.print_blocks.Goals as goal
+use Rattle.hunk_listing.proofs.block.print_blocks.Goals as goal
 
 pub lines-preserved : goal.lines-preserved
 lines-preserved g c = (
