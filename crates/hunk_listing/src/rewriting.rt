@@ -8,6 +8,7 @@ use hunk_words::{PagePrinter, Sink};
 
 /// Prints the lines that say how many bytes were written, and how many behind the file, where
 /// there are some, were left out: `written` and `rest`.
+#[tactic(auto, unfolding(crate::specs::RewritingLines::wrote_line, crate::specs::RewritingLines::left_out_line))]
 pub fn print_rewriting<W: Sink, const ROOM: usize>(
     page: &mut PagePrinter<'_, W, ROOM>,
     written: u64,
@@ -15,25 +16,11 @@ pub fn print_rewriting<W: Sink, const ROOM: usize>(
 )
     ensures { Prints page.old page.new (wrote_line written ++ left_out_line rest) }
 {
-    print_wrote(page, written);
-    print_left_out(page, rest);
-}
-
-#[tactic(auto, unfolding(crate::specs::RewritingLines::wrote_line))]
-fn print_wrote<W: Sink, const ROOM: usize>(page: &mut PagePrinter<'_, W, ROOM>, written: u64)
-    ensures { Prints page.old page.new (wrote_line written) }
-{
     let mut line = Line::new();
     line.put(b"wrote ");
     line.put_decimal(written);
     line.put(b" bytes\n");
     line.print(page);
-}
-
-#[tactic(auto, unfolding(crate::specs::RewritingLines::left_out_line))]
-fn print_left_out<W: Sink, const ROOM: usize>(page: &mut PagePrinter<'_, W, ROOM>, rest: u64)
-    ensures { Prints page.old page.new (left_out_line rest) }
-{
     if rest == 0 {
         return;
     }
