@@ -35,24 +35,19 @@ fn print_dump<W: Sink>(page: &mut Printer<'_, W>, bytes: &[u8])
     }
 }
 
+/// Prints a row. One of 16 bytes is made apart from a shorter one, so that all its lengths are known
+/// where it is compiled.
+#[tactic(auto, unfolding(crate::specs::SegmentLines::dump_row))]
 fn print_row<W: Sink>(page: &mut Printer<'_, W>, bytes: &[u8])
     requires { length bytes.now ≤ ROW }
     ensures { Prints page.old page.new (dump_row bytes.now) }
 {
-    match bytes.first_chunk::<ROW>() {
-        Some(whole) => print_whole_row(page, whole),
-        None => print_short_row(page, bytes),
-    }
-}
-
-/// Prints a row of 16 bytes: apart from a shorter one, so that all its lengths are known where it
-/// is compiled.
-#[tactic(auto, unfolding(crate::specs::SegmentLines::dump_row))]
-fn print_whole_row<W: Sink>(page: &mut Printer<'_, W>, bytes: &[u8; ROW])
-    ensures { Prints page.old page.new (dump_row bytes.now) }
-{
+    let Some(whole) = bytes.first_chunk::<ROW>() else {
+        print_short_row(page, bytes);
+        return;
+    };
     let mut line = *b"  00000000000000000000000000000000\n";
-    encode(bytes, &mut line[2..2 + 2 * ROW]);
+    encode(whole, &mut line[2..2 + 2 * ROW]);
     page.print(&line);
 }
 
