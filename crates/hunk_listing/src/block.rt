@@ -22,44 +22,39 @@ use hunk_files::BlockViews;
 use hunk_words::{BlockWord, Printer, Sink};
 
 /// Prints the lines of the blocks of a hunk, and answers the byte behind them.
+#[tactic(auto, unfolding(crate::specs::BlockLines::end_line))]
 pub(crate) fn print_blocks<W: Sink>(page: &mut Printer<'_, W>, mut blocks: BlockViews<'_>) -> u64
     ensures prints { Prints page.old page.new (flat_map block_lines blocks.entry.value) }
     ensures end { result
         ≡ blocks.entry.place + 4 * length (block_texts blocks.entry.value) }
 {
     'lines: while let Some(block) = blocks.next() {
-        print_block(page, block);
+        let word = block.word();
+        // The text has a longword for each offset, so their number fits.
+        let _size = block.encoded_len();
+        let body = block.into_body();
+        match body {
+            BodyView::Name(name) => print_name_line(page, word, &name),
+            BodyView::Code { payload, .. }
+            | BodyView::Data { payload, .. }
+            | BodyView::Debug(payload) => {
+                print_number(page, word, payload.byte_count(), b" bytes\n");
+            }
+            BodyView::Bss { .. } => {
+                print_number(page, word, body.content_bytes().unwrap_or(0), b" bytes\n");
+            }
+            BodyView::Reloc(groups) => print_relocations(page, word, groups),
+            BodyView::Ext(entries) => print_entries(page, word, entries),
+            BodyView::Symbol(symbols) => print_symbols(page, word, symbols),
+            BodyView::End => {
+                let mut line = begin_line(word);
+                line.put(b"\n");
+                line.print(page);
+            }
+            BodyView::Advisory(payload) => print_advisory(page, word, &payload),
+        }
     }
     blocks.place()
-}
-
-/// Prints the lines of the block.
-#[tactic(auto, unfolding(crate::specs::BlockLines::end_line))]
-fn print_block<W: Sink>(page: &mut Printer<'_, W>, block: BlockView<'_>)
-    ensures { Prints page.old page.new (block_lines block.entry.value) }
-{
-    let word = block.word();
-    // The text has a longword for each offset, so their number fits.
-    let _size = block.encoded_len();
-    let body = block.into_body();
-    match body {
-        BodyView::Name(name) => print_name_line(page, word, &name),
-        BodyView::Code { payload, .. }
-        | BodyView::Data { payload, .. }
-        | BodyView::Debug(payload) => print_number(page, word, payload.byte_count(), b" bytes\n"),
-        BodyView::Bss { .. } => {
-            print_number(page, word, body.content_bytes().unwrap_or(0), b" bytes\n");
-        }
-        BodyView::Reloc(groups) => print_relocations(page, word, groups),
-        BodyView::Ext(entries) => print_entries(page, word, entries),
-        BodyView::Symbol(symbols) => print_symbols(page, word, symbols),
-        BodyView::End => {
-            let mut line = begin_line(word);
-            line.put(b"\n");
-            line.print(page);
-        }
-        BodyView::Advisory(payload) => print_advisory(page, word, &payload),
-    }
 }
 
 /// Begins the line of a block: its name as `dos/doshunks.h` has it, and ` advisory`, ` chip` and

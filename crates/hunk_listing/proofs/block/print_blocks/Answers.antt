@@ -1,18 +1,26 @@
-use Rattle.std.proofs.Common.{List, ap, ◌∙◌}
+use Rattle.std.proofs.Common.{List, ap, sym, ◌∙◌}
+use Rattle.hunk_blocks.specs.BodyViews.{viewed}
 use Rattle.hunk_blocks.specs.Parts.{block_text}
 use Rattle.hunk_blocks.specs.Placed.{Placed}
 use Rattle.hunk_blocks.specs.Values.{BlockValue}
-use Rattle.hunk_files.proofs.Taking.{end_reached, end_stays}
-use Rattle.hunk_listing.specs.BlockLines.{block_lines}
-use Rattle.hunk_listing.proofs.Lines.{shown_next}
+use Rattle.hunk_files.proofs.Taking.{end_reached}
+use Rattle.hunk_listing.proofs.BlockLaws.{entries_fit, offsets_fit, symbols_fit}
 use Rattle.hunk_listing.proofs.block.print_blocks.Goals as goal
 
-pub lines-preserved : goal.lines-preserved
-lines-preserved g c = (
-  c.print_block.ensures.0 ∙ c.lines.invariant.0,
-  end_stays block_text c.lines.blocks c.next.new.self c.in-Some.block c.in-Some.ensures.steps ∙ c.lines.invariant.1,
-  shown_next block_lines _ _ _ _ _ _ (ap (λ (p : Placed (List BlockValue)). p.value) c.in-Some.ensures.steps.0) c.lines.invariant.2 c.print_block.ensures.1,
-)
+pub print_relocations-requires : goal.print_relocations-requires
+print_relocations-requires g c =
+    offsets_fit c.in-Some.block.value c.in-Reloc.groups.value c.encoded_len-size.result
+    (sym (ap viewed c.in-Reloc.is) ∙ c.into_body-body.ensures.value) c.encoded_len-size.ensures c.encoded_len-size.type_inv
+
+pub print_entries-requires : goal.print_entries-requires
+print_entries-requires g c =
+    entries_fit c.in-Some.block.value c.in-Ext.entries.value c.encoded_len-size.result
+    (sym (ap viewed c.in-Ext.is) ∙ c.into_body-body.ensures.value) c.encoded_len-size.ensures c.encoded_len-size.type_inv
+
+pub print_symbols-requires : goal.print_symbols-requires
+print_symbols-requires g c =
+    symbols_fit c.in-Some.block.value c.in-Symbol.symbols.value c.encoded_len-size.result
+    (sym (ap viewed c.in-Symbol.is) ∙ c.into_body-body.ensures.value) c.encoded_len-size.ensures c.encoded_len-size.type_inv
 
 pub returns-clause-end : goal.returns-clause-end
 returns-clause-end g c = c.place.ensures ∙ ap (λ (p : Placed (List BlockValue)). p.place) c.in_default.ensures.steps.1 ∙ end_reached block_text c.lines.blocks c.in_default.ensures.steps.0 ∙ c.lines.invariant.1
