@@ -24,12 +24,6 @@ pub fn print_segment<W: Sink>(page: &mut Printer<'_, W>, number: u32, base: u32,
     line.put_decimal(bytes.len() as u64);
     line.put(b" bytes\n");
     line.print(page);
-    print_dump(page, bytes);
-}
-
-fn print_dump<W: Sink>(page: &mut Printer<'_, W>, bytes: &[u8])
-    ensures { Prints page.old page.new (dump bytes.now) }
-{
     for part in bytes.chunks(ROW) {
         print_row(page, part);
     }

@@ -2,7 +2,7 @@ use Rattle.std.proofs.Common.{◌++◌, List, ℕ, sym, ap, ◌∙◌, arith, ap
 use Rattle.std.specs.Slice.Iter.{chunks_rest}
 use Rattle.hunk_listing.specs.SegmentLines.{dump, dump_row}
 use Rattle.hunk_listing.proofs.RowLaws.{dump-nil, dump-append}
-use Rattle.hunk_listing.proofs.segment.print_dump.Goals as goal
+use Rattle.hunk_listing.proofs.segment.print_segment.Goals as goal
 
 pub loop-part-preserved : goal.loop-part-preserved
 loop-part-preserved g c =
