@@ -1,10 +1,6 @@
 -- Texts that are built line by line.
-use Rattle.std.proofs.Common.{◌≡◌, ℕ, ◌+◌, List, ◌∷◌, ◌++◌, sym, ap, ◌∙◌, append_assoc}
-use Rattle.hunk_listing.specs.FileLines.{numbered}
+use Rattle.std.proofs.Common.{◌≡◌, ℕ, List, ◌++◌, sym, ap, ◌∙◌, append_assoc}
 
--- With the lines of the first of numbered elements behind it, a text goes on with those of the others.
-pub numbered_next : {A : Type 0} (lines : ℕ → A → List ℕ) (xs more : List A) (x : A) (i : ℕ) (now next all : List ℕ) → xs ≡ x ∷ more → now ++ numbered lines i xs ≡ all → next ≡ now ++ lines i x →
-    next ++ numbered lines (i + 1) more ≡ all
-numbered_next {A} lines xs more x i now next all first h e =
-    let rest : List ℕ = numbered lines (i + 1) more in
-    ap (λ (ys : List ℕ). ys ++ rest) e ∙ append_assoc now (lines i x) rest ∙ ap (λ (ys : List A). now ++ numbered lines i ys) (sym first) ∙ h
+-- With the first of the lines to come behind it, a text goes on with those that follow.
+pub shown_next : (lines first more now next all : List ℕ) → lines ≡ first ++ more → now ++ lines ≡ all → next ≡ now ++ first → next ++ more ≡ all
+shown_next lines first more now next all cut h e = ap (λ (xs : List ℕ). xs ++ more) e ∙ append_assoc now first more ∙ ap (λ (xs : List ℕ). now ++ xs) (sym cut) ∙ h

@@ -4,8 +4,8 @@ use Rattle.hunk_files.specs.Hunks.{block_texts}
 use Rattle.hunk_files.specs.InPlace.{GivesPart}
 use Rattle.hunk_files.specs.ObjectFile.{ObjectHunk}
 use Rattle.hunk_files.proofs.Taking.{end_stays, part_passed}
-use Rattle.hunk_listing.specs.FileLines.{object_hunk_lines}
-use Rattle.hunk_listing.proofs.Lines.{numbered_next}
+use Rattle.hunk_listing.specs.FileLines.{numbered, object_hunk_lines}
+use Rattle.hunk_listing.proofs.Lines.{shown_next}
 use Rattle.hunk_listing.proofs.object.print_hunks.Goals as goal
 
 pub hunks-preserved : goal.hunks-preserved
@@ -17,5 +17,5 @@ hunks-preserved g c =
       c.print_hunk-end.ensures.prints.0 ∙ c.hunks.invariant.0,
       omega (arith, c.hunks.invariant.1, ap (λ (hs : List ObjectHunk). length hs) first),
       end_stays block_texts old new c.in-Some.hunk step ∙ c.hunks.invariant.2,
-      numbered_next object_hunk_lines _ _ _ _ _ _ _ first c.hunks.invariant.3 c.print_hunk-end.ensures.prints.1,
+      shown_next _ _ _ _ _ _ (ap (λ (hs : List ObjectHunk). numbered object_hunk_lines c.hunks.number hs) first) c.hunks.invariant.3 c.print_hunk-end.ensures.prints.1,
     )

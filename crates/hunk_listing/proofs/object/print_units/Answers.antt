@@ -3,8 +3,8 @@ use Rattle.hunk_blocks.specs.Placed.{Placed}
 use Rattle.hunk_files.specs.InPlace.{GivesPart}
 use Rattle.hunk_files.specs.ObjectFile.{ObjectFileValue, unit_text}
 use Rattle.hunk_files.proofs.Taking.{part_passed}
-use Rattle.hunk_listing.specs.FileLines.{unit_lines}
-use Rattle.hunk_listing.proofs.Lines.{numbered_next}
+use Rattle.hunk_listing.specs.FileLines.{numbered, unit_lines}
+use Rattle.hunk_listing.proofs.Lines.{shown_next}
 use Rattle.hunk_listing.proofs.object.print_units.Goals as goal
 
 pub units-preserved : goal.units-preserved
@@ -15,5 +15,5 @@ units-preserved g c =
     let first = ap (λ (us : Placed ObjectFileValue). us.value) step.0 in (
       c.print_unit-end.ensures.prints.0 ∙ c.units.invariant.0,
       omega (arith, c.units.invariant.1, ap (λ (us : ObjectFileValue). length us) first),
-      numbered_next unit_lines _ _ _ _ _ _ _ first c.units.invariant.2 c.print_unit-end.ensures.prints.1,
+      shown_next _ _ _ _ _ _ (ap (λ (us : ObjectFileValue). numbered unit_lines c.units.number us) first) c.units.invariant.2 c.print_unit-end.ensures.prints.1,
     )
