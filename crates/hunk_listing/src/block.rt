@@ -166,7 +166,7 @@ fn print_group<W: Sink>(page: &mut Printer<'_, W>, group: &Group<'_>)
     line.put(b"    ");
     line.put_decimal(u64::from(group.target));
     line.put(b" 0x");
-    'offsets: for offset in &group.offsets {
+    'offsets: for offset in group.offsets.iter() {
         line.print_offset(page, offset, b"\n");
     }
 }

@@ -82,7 +82,7 @@ fn print_offsets<W: Sink>(page: &mut Printer<'_, W>, offsets: &Longs<'_>)
 {
     let mut line = Line::new();
     line.put(b"      0x");
-    'offsets: for offset in offsets {
+    'offsets: for offset in offsets.iter() {
         line.print_offset(page, offset, b"\n");
     }
 }

@@ -36,20 +36,12 @@ fn print_row<W: Sink>(page: &mut Printer<'_, W>, bytes: &[u8])
     requires { length bytes.now ≤ ROW }
     ensures { Prints page.old page.new (dump_row bytes.now) }
 {
-    let Some(whole) = bytes.first_chunk::<ROW>() else {
-        print_short_row(page, bytes);
+    if let Some(whole) = bytes.first_chunk::<ROW>() {
+        let mut line = *b"  00000000000000000000000000000000\n";
+        encode(whole, &mut line[2..2 + 2 * ROW]);
+        page.print(&line);
         return;
-    };
-    let mut line = *b"  00000000000000000000000000000000\n";
-    encode(whole, &mut line[2..2 + 2 * ROW]);
-    page.print(&line);
-}
-
-#[tactic(auto, unfolding(crate::specs::SegmentLines::dump_row))]
-fn print_short_row<W: Sink>(page: &mut Printer<'_, W>, bytes: &[u8])
-    requires { length bytes.now ≤ ROW }
-    ensures { Prints page.old page.new (dump_row bytes.now) }
-{
+    }
     let mut line = [b' '; 2 * ROW + 3];
     let end = 2 + 2 * bytes.len();
     encode(bytes, &mut line[2..end]);
