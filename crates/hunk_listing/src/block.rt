@@ -7,17 +7,14 @@ ghost use Rattle.hunk_words.specs.Longs.{longs};
 ghost use Rattle.hunk_blocks.specs.Values.{Ext, Reloc, Symbol};
 ghost use Rattle.hunk_blocks.specs.Views.{group_of, symbol_of};
 ghost use Rattle.hunk_files.specs.Hunks.{block_texts};
-ghost use Rattle.hunk_listing.specs.BlockLines.{advisory_line, block_lines, body_lines, count_line};
-ghost use Rattle.hunk_listing.specs.BlockLines.{end_line, group_lines, head, name_line};
-ghost use Rattle.hunk_listing.specs.BlockLines.{offset_count, size_line, symbol_line};
+ghost use Rattle.hunk_listing.specs.BlockLines.{advisory_line, block_lines, body_lines, group_lines};
+ghost use Rattle.hunk_listing.specs.BlockLines.{head, name_line, offset_count, symbol_line};
 ghost use Rattle.hunk_listing.specs.BlockNames.{memory_flags};
 
 use crate::entry::print_entry;
 use crate::line::{LINE, Line};
 use crate::text::print_named;
-use hunk_blocks::{
-    BlockView, BodyView, EntriesIter, Group, GroupsIter, Payload, SymbolView, SymbolsIter,
-};
+use hunk_blocks::{BodyView, EntriesIter, Group, GroupsIter, Payload, SymbolView, SymbolsIter};
 use hunk_files::BlockViews;
 use hunk_words::{BlockWord, Printer, Sink};
 

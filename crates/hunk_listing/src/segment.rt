@@ -1,7 +1,7 @@
 //! The lines that `relocate` prints of its segments.
-ghost use Rattle.std.specs.Prelude.{◌≡◌, ◌≤◌, length, codes, decimal};
+ghost use Rattle.std.specs.Prelude.{◌≡◌, ◌≤◌, length};
 ghost use Rattle.hunk_words.specs.Prints.{Prints};
-ghost use Rattle.hunk_listing.specs.SegmentLines.{dump, dump_row, segment_lines};
+ghost use Rattle.hunk_listing.specs.SegmentLines.{dump_row, segment_lines};
 
 use crate::line::{Line, encode};
 use hunk_words::{Printer, Sink};
@@ -29,8 +29,8 @@ pub fn print_segment<W: Sink>(page: &mut Printer<'_, W>, number: u32, base: u32,
     }
 }
 
-/// Prints a row. One of 16 bytes is made apart from a shorter one, so that all its lengths are known
-/// where it is compiled.
+/// Prints a row. One of 16 bytes is made apart from a shorter one, so that all its lengths are
+/// known where it is compiled.
 #[tactic(auto, unfolding(crate::specs::SegmentLines::dump_row))]
 fn print_row<W: Sink>(page: &mut Printer<'_, W>, bytes: &[u8])
     requires { length bytes.now ≤ ROW }
