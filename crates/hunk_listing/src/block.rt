@@ -96,8 +96,13 @@ fn print_name_line<W: Sink>(page: &mut Printer<'_, W>, word: BlockWord, name: &P
 }
 
 /// Prints the line of a block whose name and flags a number follows, up to `end`.
-fn print_number<W: Sink>(page: &mut Printer<'_, W>, word: BlockWord, number: u64, end: &[u8])
-    requires { length end.now ≤ 7 }
+fn print_number<W: Sink, const END: usize>(
+    page: &mut Printer<'_, W>,
+    word: BlockWord,
+    number: u64,
+    end: &[u8; END],
+)
+    requires { END ≤ 7 }
     ensures { Prints page.old page.new (head word ++ codes " " ++ decimal number ++ end.now) }
 {
     let mut line = begin_line(word);
