@@ -1,5 +1,5 @@
 //! A line of bounded length, made before it is printed.
-ghost use Rattle.std.specs.Prelude.{◌≡◌, ◌≤◌, ◌+◌, ◌*◌, ◌++◌, [], length, decimal};
+ghost use Rattle.std.specs.Prelude.{◌≡◌, ◌≤◌, ◌+◌, ◌*◌, ◌++◌, [], length, take, decimal};
 ghost use Rattle.hex.specs.Hex.{encode_lower};
 ghost use Rattle.hunk_words.specs.Prints.{Prints};
 ghost use Rattle.hunk_listing.specs.Printed.{digits, hexadecimal};
@@ -38,6 +38,21 @@ impl Line {
             bytes: [0; LINE],
             len: 0,
         }
+    }
+
+    /// How many bytes were put.
+    pub(crate) fn len(&self) -> usize
+        ensures { result ≡ length self.now }
+    {
+        self.len
+    }
+
+    /// Keeps the first `len` bytes.
+    pub(crate) fn truncate(&mut self, len: usize)
+        requires { len ≤ length self.old }
+        ensures { self.new ≡ take len self.old }
+    {
+        self.len = len;
     }
 
     /// Puts the bytes.

@@ -74,11 +74,13 @@ impl<W: Sink> TakesFindings for FindingLines<'_, '_, W> {
 struct FindingLine {
     unit: u64,
     hunk: u64,
+    /// How many bytes the front has.
+    start: usize,
     line: Line,
 }
 
 impl Model for FindingLine {
-    ghost use Rattle.std.specs.Prelude.{ℕ, List, ◌≡◌, ◌≤◌, ◌+◌, ◌++◌, codes, length};
+    ghost use Rattle.std.specs.Prelude.{ℕ, List, ◌≡◌, ◌≤◌, ◌+◌, length, take};
     ghost use Rattle.hunk_listing.specs.ReportLines.{finding_front};
     ghost use Rattle.hunk_listing.specs.declared.line.TheConstants.{LINE};
 
@@ -86,8 +88,8 @@ impl Model for FindingLine {
 
     ghost view = { λ s. finding_front s.unit s.hunk };
 
-    ghost invariant = { λ s. (length s.line + 21 ≤ LINE)
-        × (s.line ≡ finding_front s.unit s.hunk ++ codes "0x") };
+    ghost invariant = { λ s. (s.start ≤ length s.line) × (s.start + 23 ≤ LINE)
+        × (take s.start s.line ≡ finding_front s.unit s.hunk) };
 }
 
 impl FindingLine {
@@ -102,8 +104,14 @@ impl FindingLine {
         line.put_decimal(unit);
         line.put(b" hunk ");
         line.put_decimal(hunk);
-        line.put(b" offset 0x");
-        FindingLine { unit, hunk, line }
+        line.put(b" offset ");
+        let start = line.len();
+        FindingLine {
+            unit,
+            hunk,
+            start,
+            line,
+        }
     }
 
     /// Makes the front anew where what is found is in another hunk.
@@ -121,10 +129,10 @@ impl FindingLine {
             (self.old ++ hexadecimal offset ++ codes " " ++ finding_name fault ++ codes "\n") }
         ensures kept { self.new ≡ self.old }
     {
-        match fault {
-            FindingKind::BadTarget => self.line.print_offset(page, offset, b" BadTarget\n"),
-            FindingKind::OutsideHunk => self.line.print_offset(page, offset, b" OutsideHunk\n"),
-        }
+        self.line.truncate(self.start);
+        self.line.put_hexadecimal(offset);
+        self.line.put(finding_end(fault).as_bytes());
+        self.line.print(page);
     }
 
     #[tactic(auto, unfolding(crate::specs::ReportLines::finding_line))]
@@ -133,6 +141,17 @@ impl FindingLine {
     {
         self.turn_to(finding.unit, finding.hunk);
         self.print_rest(page, finding.fault, finding.offset);
+    }
+}
+
+/// What is wrong, at the end of a line.
+fn finding_end(fault: FindingKind) -> &'static str
+    ensures text { result.now ≡ codes " " ++ finding_name fault ++ codes "\n" }
+    ensures bound { length result.now ≤ 13 }
+{
+    match fault {
+        FindingKind::BadTarget => " BadTarget\n",
+        FindingKind::OutsideHunk => " OutsideHunk\n",
     }
 }
 
