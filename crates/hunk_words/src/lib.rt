@@ -10,7 +10,6 @@ mod history;
 mod limits;
 mod long_writer;
 mod longword;
-mod page;
 mod pending;
 mod printer;
 mod reason;

@@ -1,5 +1,5 @@
 //! A page of fixed size before a writer.
-ghost use Rattle.std.specs.Prelude.{◌≡◌, ℕ, List, ◌≤◌, ◌++◌, [], ◌∷◌, length};
+ghost use Rattle.std.specs.Prelude.{◌≡◌, ℕ, List, ◌+◌, ◌<◌, ◌≤◌, ◌++◌, [], ◌∷◌, length, true, false};
 ghost use Rattle.hunk_words.specs.Longs.{bytes_of};
 ghost use Rattle.hunk_words.specs.Prints.{Prints, Sends};
 ghost use Rattle.hunk_words.specs.Carriers.{Writing};
@@ -7,12 +7,14 @@ ghost use Rattle.hunk_words.specs.Puts.{PutsText};
 
 use crate::history::History;
 use crate::long_writer::{LongWriter, WriteFault};
-use crate::page::{PAGE, Page};
 use crate::sink::Sink;
 use std::fmt;
 use std::marker::Model;
 use std::mem::ManuallyDrop;
 use std::snapshot::Snapshot;
+
+/// How many bytes the page of a whole text has room for: 80 KiB.
+const PAGE: usize = 81_920;
 
 /// A printer with a page of 81,920 bytes, which is a part of the printer itself and so stands on
 /// the stack: few writes for a text of any length, and no memory is taken.
@@ -52,7 +54,7 @@ impl<W: Sink, const ROOM: usize> fmt::Debug for PagePrinter<'_, W, ROOM> {
     fn fmt<F: fmt::Write>(&self, f: &mut fmt::Formatter<F>) -> fmt::Result {
         f.debug_struct("PagePrinter")
             .field("out", &self.out)
-            .field("held", &self.held.as_slice().len())
+            .field("held", &self.held.count)
             .finish_non_exhaustive()
     }
 }
@@ -68,7 +70,10 @@ impl<'a, W: Sink, const ROOM: usize> PagePrinter<'a, W, ROOM> {
         let outset = ManuallyDrop::new(Snapshot::of(&*out));
         PagePrinter {
             out,
-            held: Page::new(),
+            held: Page {
+                bytes: [0; ROOM],
+                count: 0,
+            },
             outset,
             history: History::new(),
         }
@@ -108,8 +113,9 @@ impl<'a, W: Sink, const ROOM: usize> PagePrinter<'a, W, ROOM> {
         ensures puts { PutsText W.outlet
             self.old.origin.writer self.new.out.now self.old.text result }
     {
-        let result = self.out.put_bytes(self.held.as_slice());
-        self.held.clear();
+        let held = &mut self.held;
+        let result = self.out.put_bytes(&held.bytes[..held.count]);
+        held.count = 0;
         result
     }
 
@@ -127,9 +133,45 @@ fn send_on<W: Sink, const ROOM: usize>(out: &mut LongWriter<W>, held: &mut Page<
     ensures { (first : Writing W) → (text : List ℕ) → Sends W.outlet first out.old text held.old
         → Sends W.outlet first out.new (text ++ bytes.now) held.new }
 {
-    let _held = out.put_bytes(held.as_slice());
-    held.clear();
+    let _held = out.put_bytes(&held.bytes[..held.count]);
+    held.count = 0;
     if !held.append(bytes) {
         let _rest = out.put_bytes(bytes);
+    }
+}
+
+/// A page with room for `ROOM` bytes, filled from its front. Contracts see it as the bytes that
+/// stand on it.
+#[derive(Drop)]
+struct Page<const ROOM: usize> {
+    bytes: [u8; ROOM],
+    count: usize,
+}
+
+impl<const ROOM: usize> Model for Page<ROOM> {
+    ghost use Rattle.std.specs.Prelude.{ℕ, ◌≤◌, List, length, take};
+
+    ghost Value = { List ℕ };
+
+    ghost view = { λ s. take s.count s.bytes };
+
+    ghost invariant = { λ s. s.count ≤ length s.bytes };
+}
+
+impl<const ROOM: usize> Page<ROOM> {
+    /// Appends the bytes where they have room, and answers whether they have.
+    fn append(&mut self, bytes: &[u8]) -> bool
+        ensures appends { result ≡ true → self.new ≡ self.old ++ bytes.now }
+        ensures full { result ≡ false → ROOM < length self.old + length bytes.now }
+        ensures same { result ≡ false → self.new ≡ self.old }
+    {
+        if self.bytes.len() - self.count < bytes.len() {
+            return false;
+        }
+        let end = self.count + bytes.len();
+        let room = &mut self.bytes[..];
+        room[self.count..end].copy_from_slice(bytes);
+        self.count = end;
+        true
     }
 }
