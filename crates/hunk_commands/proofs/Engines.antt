@@ -1,5 +1,5 @@
 -- What the engine functions share: a text made of bytes and put, and a source whose bytes they are.
-use Rattle.std.proofs.Common.{◌≡◌, ◌≢◌, ◌∙◌, ℕ, true, List, Result, Ok, Err, inl, inr, ap, refl, sym, subst, false, true≢false}
+use Rattle.std.proofs.Common.{◌≡◌, ◌≢◌, ◌∙◌, ℕ, List, Result, Ok, Err, inr, ap, refl, sym, subst, false, true≢false}
 use Rattle.std.specs.Prelude.{IfErr}
 use Rattle.hunk_words.specs.Carriers.{Outlet, Supply, Writing}
 use Rattle.hunk_words.specs.Longs.{longs}
@@ -9,10 +9,10 @@ use Rattle.hunk_words.specs.declared.long_writer.WriteFault.{WriteFault}
 use Rattle.hunk_words.specs.declared.reason.Reason.TheVariants.{OutOfMemory}
 use Rattle.hunk_grammar.specs.FileKind.{sniffed}
 use Rattle.hunk_commands.specs.declared.fault.RunFault.{RunFault}
-use Rattle.hunk_commands.specs.declared.fault.RunFault.TheVariants.{Read, Write}
-use Rattle.hunk_commands.specs.Engine.{PutsOrRefuses, ReadsNoFile, ReadsThenPuts}
-use Rattle.hunk_commands.specs.Faults.{IsWrite, refused_as}
-use Rattle.hunk_commands.specs.Inputs.{Gave, ReadsWhole, StopsAtRead}
+use Rattle.hunk_commands.specs.declared.fault.RunFault.TheVariants.{Write}
+use Rattle.hunk_commands.specs.Engine.{PutsOrRefuses, ReadsThenPuts}
+use Rattle.hunk_commands.specs.Faults.{refused_as}
+use Rattle.hunk_commands.specs.Inputs.{ReadsWhole}
 use Rattle.hunk_files.specs.HunkFile.{AreFile, IsRefusal}
 use Rattle.hunk_scatter.specs.LoadOutcomes.{GivesAtMost}
 use Rattle.hunk_commands.proofs.Consumed.{consumed_all}
@@ -102,11 +102,3 @@ reads_then_puts {W} {T} outlet IsTextOf before after most old new items bytes re
           let file = subst AreFile (consumed_all before.left after.left has.input bytes has.left read.given read.at_end) has.is_file in
           absurd (true≢false (sym (puts.fails.broken (puts.succeeds file)) ∙ writes)));
     }
-
--- where the reading failed, the place is that of the source
-pub stops_at_read : (before after : Supply) (most : ℕ) (fault : RunFault) → (¬ IsWrite fault → ReadsNoFile before after most fault) → StopsAtRead before after fault
-stops_at_read before after most fault stops place same = go (subst (λ (f : RunFault). ¬ IsWrite f → ReadsNoFile before after most f) same stops (λ written. written))
-  where
-    go : ReadsNoFile before after most (Read place) → (after.failed ≡ true) × Gave before after place
-    go (inl read) = read
-    go (inr refused) = absurd refused.holds

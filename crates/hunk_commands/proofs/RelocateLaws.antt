@@ -7,35 +7,16 @@ use Rattle.hunk_words.specs.declared.long_writer.WriteFault.{WriteFault}
 use Rattle.hunk_words.specs.declared.reason.Reason.{Reason}
 use Rattle.hunk_words.specs.declared.reason.Reason.TheVariants as reasons
 use Rattle.hunk_scatter.specs.HeaderFaults.{IsOverBudget}
-use Rattle.hunk_scatter.specs.LoadOutcomes.{Gives, IsLoadFaultBy, Loads}
+use Rattle.hunk_scatter.specs.LoadOutcomes.{Loads}
 use Rattle.hunk_scatter.specs.LoaderValues.{ImageValue}
 use Rattle.hunk_scatter.specs.Placing.{packed_from}
 use Rattle.hunk_scatter.specs.Rows.{bases_of}
 use Rattle.hunk_scatter.specs.declared.loading.Limits.{Limits}
 use Rattle.hunk_listing.specs.SegmentLines.{segment_listing}
 use Rattle.hunk_commands.specs.declared.fault.RunFault.{RunFault}
-use Rattle.hunk_commands.specs.declared.fault.RunFault.TheVariants.{Memory, Read, Refused, Write}
+use Rattle.hunk_commands.specs.declared.fault.RunFault.TheVariants.{Memory, Refused, Write}
 use Rattle.hunk_commands.specs.Faults.{IsWrite, refused_as, refused_for}
-use Rattle.hunk_commands.specs.Inputs.{StopsAtRead}
-use Rattle.hunk_commands.specs.Relocating.{IsListingOf, Relocates, StopsLoading, image_listing, segments_of}
-
--- the refusal of an input is the load's
-pub same_refusal : (refusal x : Fault) → Refused x ≡ refused_as refusal → refusal ≡ x
-same_refusal refusal x is = go refusal.reason is
-  where
-    go : (reason : Reason) → Refused x ≡ refused_for reason refusal → refusal ≡ x
-    go reasons.OutOfMemory e = absurd cc
-    go reasons.Read e = absurd cc
-    go _ e = cc
-
--- a failed read is the load's
-same_read : (refusal : Fault) (place : ℕ) → Read place ≡ refused_as refusal → (refusal.reason ≡ reasons.Read) × (refusal.place ≡ place)
-same_read refusal place is = go refusal.reason refl is
-  where
-    go : (reason : Reason) → refusal.reason ≡ reason → Read place ≡ refused_for reason refusal → (refusal.reason ≡ reasons.Read) × (refusal.place ≡ place)
-    go reasons.Read there e = (there, cc)
-    go reasons.OutOfMemory there e = absurd cc
-    go _ there e = absurd cc
+use Rattle.hunk_commands.specs.Relocating.{IsListingOf, Relocates, image_listing, segments_of}
 
 -- a load's fault is none of writing
 not_write : (refusal : Fault) → IsWrite (refused_as refusal) → ⊥
@@ -53,15 +34,6 @@ pub over_of : (at : ℕ) (refusal : Fault) → IsOverBudget at refusal → (refu
 over_of at refusal (inl (is, there)) =
     inr (ap (λ (r : Reason). refused_for r refusal) is ∙ ap₂ (λ (p : ℕ) (r : Reason). Refused (record { place = p; reason = r })) there is)
 over_of at refusal (inr (is, before)) = inl (ap (λ (r : Reason). refused_for r refusal) is)
-
--- where the reading failed, the place is that of the source
-pub load_stops_at_read : (start : ℕ) (limits : Limits) (before after : Supply) (given : List ℕ) (fault : RunFault) → Gives before after limits.file_bytes given →
-    (¬ IsWrite fault → StopsLoading start limits before after given fault) → StopsAtRead before after fault
-load_stops_at_read start limits before after given fault gives stops place same =
-    let stop = stops (subst (λ (f : RunFault). ¬ IsWrite f) (sym same) (λ written. written)) in
-    let read = same_read stop.refusal place (sym same ∙ stop.told) in
-    let why = subst (λ (r : Reason). IsLoadFaultBy r (packed_from start) limits after given stop.refusal.place) read.0 stop.is_fault in
-    (why.1, (given, gives.consumed, sym why.0 ∙ read.1))
 
 -- ---- what `relocate` comes to
 

@@ -1,12 +1,10 @@
 -- The status and the line of each fault.
-use Rattle.std.specs.Prelude.{◌||◌, ℕ, Bool, List, ◌++◌, ⊤, IsTrue, codes}
+use Rattle.std.specs.Prelude.{ℕ, List, ◌++◌, ⊤, codes}
 use Rattle.std.specs.Fmt.{decimal}
 use Rattle.hunk_words.specs.declared.fault.Fault.{Fault}
 use Rattle.hunk_words.specs.declared.reason.Reason.{Reason}
 use Rattle.hunk_words.specs.declared.reason.Reason.TheVariants as reasons
 use Rattle.hunk_words.specs.FaultLines.{refusal_line, write_line}
-use Rattle.hunk_words.specs.Reasons.{number_of}
-use Rattle.hunk_scatter.specs.LoaderReasons.{between}
 use Rattle.hunk_commands.specs.declared.fault.RunFault.{RunFault}
 use Rattle.hunk_commands.specs.declared.fault.RunFault.TheVariants.{HexText, Memory, Read, Refused, Write}
 

@@ -39,10 +39,6 @@ ReadsInVain faults.Memory old new most = (count : ℕ) × (0 < count) × Gave ol
 ReadsInVain (faults.Write written) old new most = ⊥
 ReadsInVain faults.HexText old new most = ⊥
 
--- at a fault of reading the source has failed, after this many bytes
-abbrev pub StopsAtRead : Supply → Supply → RunFault → Type 0
-StopsAtRead old new fault = (place : ℕ) → fault ≡ faults.Read place → (new.failed ≡ true) × Gave old new place
-
 -- a source that has come to fail is what the answer tells of
 abbrev pub TellsReading : {T : Type 0} → Supply → Supply → Result T RunFault → Type 0
 TellsReading old new result = old.failed ≡ false → new.failed ≡ true → IsErrAnd result (λ fault. (place : ℕ) × (fault ≡ faults.Read place))

@@ -1,12 +1,7 @@
-use Rattle.std.proofs.Common.{◌≡◌, ◌∙◌, ℕ, List, ap, sym, refl}
+use Rattle.std.proofs.Common.{ap}
 use Rattle.std.proofs.lemmas.Result.{err_from_is_err_and}
-use Rattle.hunk_words.specs.Carriers.{Writing}
-use Rattle.hunk_words.specs.declared.fault.Fault.{Fault}
 use Rattle.hunk_words.specs.declared.reason.Reason.{Reason}
-use Rattle.hunk_scatter.specs.Rows.{bases_of}
-use Rattle.hunk_commands.specs.Faults.{refused_as, refused_for}
-use Rattle.hunk_listing.specs.SegmentLines.{segment_listing}
-use Rattle.hunk_commands.specs.Relocating.{IsListingOf, image_listing, segments_of}
+use Rattle.hunk_commands.specs.Faults.{refused_for}
 use Rattle.hunk_commands.proofs.RelocateLaws.{over_of, wrote_first, wrote_all, load_stops}
 use Rattle.hunk_commands.proofs.relocating.relocate.Goals as goal
 
