@@ -1,10 +1,10 @@
 //! A source read to its end.
-ghost use Rattle.std.specs.Prelude.{◌≡◌, ◌++◌, [], ℕ, List, IfOk, OnOk};
+ghost use Rattle.std.specs.Prelude.{◌≡◌, ◌++◌, [], ℕ, List, OnOk};
 ghost use Rattle.hunk_commands.specs.Inputs.{ReadsAtMost, ReadsWhole};
 
 use crate::fault::RunFault;
 use hunk_words::{Fault, Reason, Source};
-use std::alloc::{AllocError, Global};
+use std::alloc::AllocError;
 
 /// How many bytes are asked for at a time: 32 KiB.
 const PIECE: usize = 32_768;
@@ -27,7 +27,8 @@ impl Taker for Vec<u8> {
     }
 }
 
-/// All that the source has left, which are fewer than `most` bytes.
+/// Hands all that the source has left, which are fewer than `most` bytes, to the taker, which has
+/// taken nothing yet.
 ///
 /// # Errors
 ///
@@ -39,18 +40,6 @@ impl Taker for Vec<u8> {
 /// - `Memory` where memory is refused.
 ///
 /// What was read of the source stays read, at most `most` bytes.
-pub fn read_whole<S: Source>(alloc: Global, source: &mut S, most: u64) -> Result<Vec<u8>, RunFault>
-    ensures reads { IfOk result
-        (λ bytes. ReadsWhole (S.supply source.old) (S.supply source.new) most bytes.items) }
-    ensures reads_at_most { ReadsAtMost (S.supply source.old) (S.supply source.new) most result }
-{
-    let mut held = Vec::new(alloc);
-    read_all(source, most, &mut held)?;
-    Ok(held)
-}
-
-/// Hands all that the source has left to the taker, which has taken nothing yet. The faults are
-/// those of `read_whole`.
 #[inline(never)]
 pub(crate) fn read_all<S: Source, T: Taker>(
     source: &mut S,

@@ -12,7 +12,6 @@ mod validating;
 
 pub use crate::fault::{OUT_OF_MEMORY, RunFault};
 pub use crate::hex_text::{read_hex, unhex};
-pub use crate::input::read_whole;
 pub use crate::relocating::relocate;
 pub use crate::rewriting::{Rewritten, rewrite, rewrite_bytes};
 pub use crate::showing::{show, show_bytes};

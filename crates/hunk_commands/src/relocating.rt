@@ -1,6 +1,5 @@
 //! `relocate`: a load file is loaded as it comes, and its segments are printed.
 ghost use Rattle.std.specs.Prelude.{◌≡◌, ◌⊎◌, ℕ, false, IfErr, IsErrAnd};
-ghost use Rattle.hunk_words.specs.Prints.{Prints};
 ghost use Rattle.hunk_words.specs.Puts.{PutsText};
 ghost use Rattle.hunk_words.specs.declared.reason.Reason.TheVariants.{Budget};
 ghost use Rattle.hunk_commands.specs.declared.fault.RunFault.TheVariants.{Memory, Refused};
@@ -74,17 +73,10 @@ fn put_listing<W: Sink>(w: &mut LongWriter<W>, image: &Image) -> Result<(), Writ
     ensures { PutsText W.outlet w.old w.new (image_listing image.now) result }
 {
     let mut page = Printer::new(w);
-    print_listing(&mut page, image);
+    'hunks: for (hunk, (row, segment)) in (0..image.hunks()).zip(image.segments()) {
+        print_segment(&mut page, hunk, row.base, segment);
+    }
     let result = page.flush();
     let _out = page.into_inner();
     result
-}
-
-/// Prints the segments of the image.
-fn print_listing<W: Sink>(page: &mut Printer<'_, W>, image: &Image)
-    ensures { Prints page.old page.new (image_listing image.now) }
-{
-    'hunks: for (hunk, (row, segment)) in (0..image.hunks()).zip(image.segments()) {
-        print_segment(page, hunk, row.base, segment);
-    }
 }

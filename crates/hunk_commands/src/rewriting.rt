@@ -3,12 +3,12 @@ ghost use Rattle.std.specs.Prelude.{◌≡◌, IfOk};
 ghost use Rattle.hunk_words.specs.Carriers.{saturated};
 ghost use Rattle.hunk_words.specs.Puts.{PutsText};
 ghost use Rattle.hunk_files.specs.FileView.{file_of};
-ghost use Rattle.hunk_files.specs.HunkFile.{IsFileOf, file_bytes, stripped};
+ghost use Rattle.hunk_files.specs.HunkFile.{IsFileOf, file_bytes};
 ghost use Rattle.hunk_commands.specs.Engine.{PutsOrRefuses, ReadsThenPuts};
 ghost use Rattle.hunk_commands.specs.Rewritten.{IsRewritten, stripped_where};
 
 use crate::fault::RunFault;
-use crate::input::read_whole;
+use crate::input::read_all;
 use hunk_files::FileView;
 use hunk_words::{LongWriter, Printer, Sink, Source, WriteFault};
 use std::alloc::Global;
@@ -50,7 +50,8 @@ pub fn rewrite<R: Source, W: Sink>(
         (R.supply r.old) (R.supply r.new) file_bytes w.old w.new result }
     ensures written { IfOk result (λ done. done.written ≡ saturated w.new.written) }
 {
-    let input = read_whole(alloc, r, file_bytes)?;
+    let mut input = Vec::new(alloc);
+    read_all(r, file_bytes, &mut input)?;
     rewrite_bytes(input.as_slice(), w, strip)
 }
 
@@ -82,7 +83,7 @@ pub fn rewrite_bytes<W: Sink>(
 }
 
 /// Writes the file that the input is, or begins with. Where nothing is stripped, its text is what
-/// was read.
+/// was read; else what stays of it goes through a page.
 #[inline(never)]
 fn put_file<W: Sink>(
     w: &mut LongWriter<W>,
@@ -94,17 +95,9 @@ fn put_file<W: Sink>(
     ensures { PutsText W.outlet w.old w.new
         (file_bytes (stripped_where strip (file_of file.now))) result }
 {
-    if strip {
-        return put_stripped(w, file);
+    if !strip {
+        return w.put_bytes(&input[..input.len() - file.rest() as usize]);
     }
-    w.put_bytes(&input[..input.len() - file.rest() as usize])
-}
-
-/// Writes what stays of the file, through a page.
-fn put_stripped<W: Sink>(w: &mut LongWriter<W>, file: &FileView<'_>) -> Result<(), WriteFault>
-    ensures { PutsText W.outlet w.old w.new
-        (file_bytes (stripped (file_of file.now))) result }
-{
     let mut page = Printer::new(w);
     file.strip_with(&mut page);
     let result = page.flush();

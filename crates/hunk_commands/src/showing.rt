@@ -1,12 +1,11 @@
 //! `show`: the hunks and blocks of a file are listed.
 ghost use Rattle.hunk_files.specs.FileView.{file_of};
-ghost use Rattle.hunk_words.specs.Prints.{Prints};
 ghost use Rattle.hunk_words.specs.Puts.{PutsText};
 ghost use Rattle.hunk_commands.specs.Engine.{PutsOrRefuses, ReadsThenPuts};
 ghost use Rattle.hunk_commands.specs.Shown.{IsShown, file_listing};
 
 use crate::fault::RunFault;
-use crate::input::read_whole;
+use crate::input::read_all;
 use hunk_files::FileView;
 use hunk_listing::{print_load_file, print_object_file};
 use hunk_words::{LongWriter, Printer, Sink, Source, WriteFault};
@@ -38,7 +37,8 @@ pub fn show<R: Source, W: Sink>(
     ensures { ReadsThenPuts W.outlet (λ (_ : Unit). IsShown)
         (R.supply r.old) (R.supply r.new) file_bytes w.old w.new result }
 {
-    let input = read_whole(alloc, r, file_bytes)?;
+    let mut input = Vec::new(alloc);
+    read_all(r, file_bytes, &mut input)?;
     show_bytes(input.as_slice(), w)
 }
 
@@ -60,24 +60,17 @@ pub fn show_bytes<W: Sink>(bytes: &[u8], w: &mut LongWriter<W>) -> Result<(), Ru
     Ok(())
 }
 
-/// Puts the listing of the file.
+/// Puts the hunks of the file, and its blocks.
 #[inline(never)]
 fn put_listing<W: Sink>(w: &mut LongWriter<W>, file: &FileView<'_>) -> Result<(), WriteFault>
     ensures { PutsText W.outlet w.old w.new (file_listing (file_of file.now)) result }
 {
     let mut page = Printer::new(w);
-    print_listing(&mut page, file);
+    match file {
+        FileView::Load { file, rest } => print_load_file(&mut page, file, *rest),
+        FileView::Object(file) => print_object_file(&mut page, file),
+    }
     let result = page.flush();
     let _out = page.into_inner();
     result
-}
-
-/// Prints the hunks of the file, and its blocks.
-fn print_listing<W: Sink>(page: &mut Printer<'_, W>, file: &FileView<'_>)
-    ensures { Prints page.old page.new (file_listing (file_of file.now)) }
-{
-    match file {
-        FileView::Load { file, rest } => print_load_file(page, file, *rest),
-        FileView::Object(file) => print_object_file(page, file),
-    }
 }

@@ -1,14 +1,13 @@
 //! `validate`: a file is checked.
 ghost use Rattle.std.specs.Prelude.{◌≡◌, IfOk};
 ghost use Rattle.hunk_files.specs.FileView.{file_of};
-ghost use Rattle.hunk_words.specs.Prints.{Prints};
 ghost use Rattle.hunk_words.specs.Puts.{PutsText};
-ghost use Rattle.hunk_commands.specs.Engine.{PutsOrRefuses, ReadsThenPuts};
 ghost use Rattle.hunk_commands.specs.Reports.{finding_count, report};
+ghost use Rattle.hunk_commands.specs.Engine.{PutsOrRefuses, ReadsThenPuts};
 ghost use Rattle.hunk_commands.specs.Validated.{IsValidated};
 
 use crate::fault::RunFault;
-use crate::input::read_whole;
+use crate::input::read_all;
 use hunk_files::FileView;
 use hunk_listing::{print_load_summary, print_object_report};
 use hunk_words::{LongWriter, Printer, Sink, Source, WriteFault};
@@ -40,7 +39,8 @@ pub fn validate<R: Source, W: Sink>(
     ensures { ReadsThenPuts W.outlet IsValidated
         (R.supply r.old) (R.supply r.new) file_bytes w.old w.new result }
 {
-    let input = read_whole(alloc, r, file_bytes)?;
+    let mut input = Vec::new(alloc);
+    read_all(r, file_bytes, &mut input)?;
     validate_bytes(input.as_slice(), w)
 }
 
@@ -62,30 +62,22 @@ pub fn validate_bytes<W: Sink>(bytes: &[u8], w: &mut LongWriter<W>) -> Result<u6
     Ok(count)
 }
 
-/// Puts the report of the file, and answers how much is found in it.
+/// Puts the report on the file, and answers how much is found in it.
 #[inline(never)]
 fn put_report<W: Sink>(w: &mut LongWriter<W>, file: &FileView<'_>) -> Result<u64, WriteFault>
     ensures puts { PutsText W.outlet w.old w.new (report (file_of file.now)) result }
     ensures count { IfOk result (λ count. count ≡ finding_count (file_of file.now)) }
 {
     let mut page = Printer::new(w);
-    let count = print_report(&mut page, file);
+    let count = match file {
+        FileView::Load { file, rest } => {
+            print_load_summary(&mut page, file, *rest);
+            0
+        }
+        FileView::Object(file) => print_object_report(&mut page, file),
+    };
     let result = page.flush();
     let _out = page.into_inner();
     result?;
     Ok(count)
-}
-
-/// Prints the report on the file, and answers how many findings it has.
-fn print_report<W: Sink>(page: &mut Printer<'_, W>, file: &FileView<'_>) -> u64
-    ensures prints { Prints page.old page.new (report (file_of file.now)) }
-    ensures count { result ≡ finding_count (file_of file.now) }
-{
-    match file {
-        FileView::Load { file, rest } => {
-            print_load_summary(page, file, *rest);
-            0
-        }
-        FileView::Object(file) => print_object_report(page, file),
-    }
 }

@@ -5,6 +5,6 @@ use Rattle.hunk_commands.proofs.rewriting.rewrite.Goals as goal
 
 pub returns-clause-rewrites : goal.returns-clause-rewrites
 returns-clause-rewrites g c =
-    reads_then_puts g.W.Sink.outlet (λ (done : Rewritten). IsRewritten c.args.strip done.rest) (g.R.Source.supply c.args.r.now) (g.R.Source.supply c.read_whole.new.source) c.args.file_bytes
-    c.args.w.now c.rewrite_bytes.new.w c.in_ok-input.input.items c.as_slice.result.now c.rewrite_bytes.result c.in_ok-input.ensures.reads c.as_slice.ensures.value
-    c.in_ok-input.ensures.reads_at_most.sound c.in_ok-input.ensures.reads_at_most.limit c.rewrite_bytes.ensures.rewrites
+    reads_then_puts g.W.Sink.outlet (λ (done : Rewritten). IsRewritten c.args.strip done.rest) (g.R.Source.supply c.args.r.now) (g.R.Source.supply c.read_all.new.source) c.args.file_bytes
+    c.args.w.now c.rewrite_bytes.new.w c.read_all.new.taker.items c.as_slice.result.now c.rewrite_bytes.result c.in_ok-read_all.ensures.reads c.as_slice.ensures.value
+    c.in_ok-read_all.ensures.reads_at_most.sound c.in_ok-read_all.ensures.reads_at_most.limit c.rewrite_bytes.ensures.rewrites

@@ -4,6 +4,6 @@ use Rattle.hunk_commands.proofs.showing.show.Goals as goal
 
 pub returns : goal.returns
 returns g c =
-    reads_then_puts g.W.Sink.outlet (λ _. IsShown) (g.R.Source.supply c.args.r.now) (g.R.Source.supply c.read_whole.new.source) c.args.file_bytes c.args.w.now c.show_bytes.new.w
-    c.in_ok-input.input.items c.as_slice.result.now c.show_bytes.result c.in_ok-input.ensures.reads c.as_slice.ensures.value
-    c.in_ok-input.ensures.reads_at_most.sound c.in_ok-input.ensures.reads_at_most.limit c.show_bytes.ensures
+    reads_then_puts g.W.Sink.outlet (λ _. IsShown) (g.R.Source.supply c.args.r.now) (g.R.Source.supply c.read_all.new.source) c.args.file_bytes c.args.w.now c.show_bytes.new.w
+    c.read_all.new.taker.items c.as_slice.result.now c.show_bytes.result c.in_ok-read_all.ensures.reads c.as_slice.ensures.value
+    c.in_ok-read_all.ensures.reads_at_most.sound c.in_ok-read_all.ensures.reads_at_most.limit c.show_bytes.ensures
