@@ -1,5 +1,5 @@
 -- What a run lists, by what an engine function has written.
-use Rattle.std.proofs.Common.{◌≡◌, ◌<◌, ◌+◌, ◌++◌, ◌∙◌, ℕ, Bool, true, false, List, [], Option, Some, None, length, take, inl, inr, refl, ap, sym, subst, arith, append-nil, append_assoc}
+use Rattle.std.proofs.Common.{◌≡◌, ◌<◌, ◌++◌, ◌∙◌, ℕ, Bool, true, false, List, [], Option, Some, None, length, take, inl, inr, refl, ap, sym, subst, arith, append-nil, append_assoc}
 use Rattle.std.specs.Prelude.{Result, Ok, Err, IfOk}
 use Rattle.std.specs.Io.KnownBytes.{Consumes, IsAtEnd}
 use Rattle.std.proofs.lemmas.List.{take_all}
@@ -9,9 +9,11 @@ use Rattle.hunk_files.specs.LoadText.{text}
 use Rattle.hunk_scatter.specs.declared.loading.Limits.{Limits}
 use Rattle.hunk_commands.specs.Engine.{PutsAll, PutsFirst}
 use Rattle.hunk_commands.specs.Validated.{IsValidated}
+use Rattle.hunk_commands.specs.declared.rewriting.Rewritten.{Rewritten}
+use Rattle.hunk_listing.specs.RewritingLines.{left_out_line, wrote_line}
 use Rattle.hunk_commands.specs.Output.{Takes}
 use Rattle.hunk_run.specs.OutFile.{OutFile, TakesAll, TakesFirst, file_outlet}
-use Rattle.hunk_run.specs.Status.{EndsListing, PrintsFault, TellsOutcome, TellsStatus}
+use Rattle.hunk_run.specs.Status.{EndsListing, EndsRewriting, PrintsFault, TellsOutcome, TellsStatus}
 use Rattle.hunk_run.specs.declared.listing.Listing.{Listing}
 use Rattle.hunk_run.specs.declared.listing.Listing.TheVariants as listings
 use Rattle.hunk_commands.specs.HexText.{SpellsHex}
@@ -20,7 +22,7 @@ use Rattle.hunk_commands.specs.declared.fault.RunFault.TheVariants.{HexText, Mem
 use Rattle.hunk_commands.specs.Faults.{status_of}
 use Rattle.hunk_commands.specs.Inputs.{ReadsInput}
 use Rattle.hunk_commands.specs.Relocating.{IsListingOf, Relocates}
-use Rattle.hunk_run.specs.Runs.{IsListed, Lists, ListsSource, StopsReading}
+use Rattle.hunk_run.specs.Runs.{IsListed, Lists, ListsSource, Rewrites, StopsReading, TellsRewriting}
 
 -- a text that was put whole
 takes_whole : {W : Type 0} (outlet : W → Outlet) (old new : Writing W) (Is : List ℕ → Type 0) (all : PutsAll outlet Is old new) → Takes outlet old new all.0.text
@@ -126,6 +128,35 @@ tells_fault outlet old new fault status (inl (inr broken)) = inr (inr (inr (inl 
 tells_fault outlet old new fault status (inr (inl (is, takes))) = inr (inr (inl (Memory, is, takes)))
 tells_fault outlet old new fault status (inr (inr broken)) = inr (inr (inr (inl broken)))
 
+-- a fault has no status of a run that has done what it was to do
+some_status : (fault : RunFault) → 0 < status_of fault
+some_status Memory = omega arith
+some_status HexText = omega arith
+some_status (Read place) = omega arith
+some_status (Write written) = omega arith
+some_status (Refused refusal) = omega arith
+
+not_done : {W : Type 0} (outlet : W → Outlet) (old new : Writing W) (fault : RunFault) (status : ℕ) →
+    PrintsFault outlet old new fault status → status ≡ 0 → ⊥
+not_done outlet old new fault status (inl (inl (is, takes))) zero = omega (arith, some_status fault, is, zero)
+not_done outlet old new fault status (inl (inr (is, broken))) zero = omega (arith, is, zero)
+not_done outlet old new fault status (inr (inl (is, takes))) zero = omega (arith, is, zero)
+not_done outlet old new fault status (inr (inr (is, broken))) zero = omega (arith, is, zero)
+
+-- what a run has printed that was to rewrite a file
+pub tells_rewriting : {W : Type 0} (outlet : W → Outlet) (old new : Writing W) (status : ℕ) (answer : Result Rewritten RunFault) →
+    EndsRewriting outlet old new answer status → TellsStatus outlet old new status
+tells_rewriting outlet old new status (Ok done) (inl (is, takes)) = inl is
+tells_rewriting outlet old new status (Ok done) (inr broken) = inr (inr (inr (inl broken)))
+tells_rewriting outlet old new status (Err fault) prints = tells_fault outlet old new fault status prints
+
+-- where the status is 0 the file is rewritten
+pub rewrites_where_done : {W : Type 0} (outlet : W → Outlet) (old new : Writing W) (status : ℕ) (strip : Bool) (answer : Result Rewritten RunFault) →
+    IfOk answer (λ done. TellsRewriting strip (wrote_line done.written ++ left_out_line done.rest)) → EndsRewriting outlet old new answer status → status ≡ 0 → Rewrites outlet old new strip
+rewrites_where_done outlet old new status strip (Ok done) tells (inl (is, takes)) zero = record { text = wrote_line done.written ++ left_out_line done.rest; tells = tells; takes = takes }
+rewrites_where_done outlet old new status strip (Ok done) tells (inr (is, broken)) zero = absurd (omega (arith, is, zero))
+rewrites_where_done outlet old new status strip (Err fault) tells prints zero = absurd (not_done outlet old new fault status prints zero)
+
 -- what a run has printed that was to list an input; the output is mid behind what was listed
 module _ {W : Type 0} (outlet : W → Outlet) (old mid new : Writing W) (result : ℕ) where
   tells_since : (fault : RunFault) → mid ≡ old → PrintsFault outlet mid new fault result → TellsStatus outlet old new result
@@ -142,19 +173,12 @@ module _ {W : Type 0} (outlet : W → Outlet) (old mid new : Writing W) (result 
   tells_listing (Err (Read place)) outcome ends = tells_since (Read place) (outcome.fails.untouched (λ is. is)) ends
   tells_listing (Err (Refused refusal)) outcome ends = tells_since (Refused refusal) (outcome.fails.untouched (λ is. is)) ends
 
-  -- none of these is the status of a run that has done what it was to do
-  not_done : (fault : RunFault) → 0 < status_of fault → PrintsFault outlet mid new fault result → result ≡ 0 → ⊥
-  not_done fault some (inl (inl (is, takes))) zero = omega (arith, some, is, zero)
-  not_done fault some (inl (inr (is, broken))) zero = omega (arith, is, zero)
-  not_done fault some (inr (inl (is, takes))) zero = omega (arith, is, zero)
-  not_done fault some (inr (inr (is, broken))) zero = omega (arith, is, zero)
-
   -- where the status is 0 the input is listed
   pub lists_where_done : (listing : Listing) (answer : Result ℕ RunFault) → IfOk answer (λ status. status ≡ 0 → Lists outlet old mid listing) →
       EndsListing outlet mid new answer result → result ≡ 0 → Lists outlet old new listing
   lists_where_done listing (Ok status) lists (is, same) zero = subst (λ (w : Writing W). Lists outlet old w listing) (sym same) (lists (sym is ∙ zero))
   lists_where_done listing (Err (Write written)) lists (is, same) zero = absurd (omega (arith, is, zero))
-  lists_where_done listing (Err Memory) lists ends zero = absurd (not_done Memory (omega arith) ends zero)
-  lists_where_done listing (Err HexText) lists ends zero = absurd (not_done HexText (omega arith) ends zero)
-  lists_where_done listing (Err (Read place)) lists ends zero = absurd (not_done (Read place) (omega arith) ends zero)
-  lists_where_done listing (Err (Refused refusal)) lists ends zero = absurd (not_done (Refused refusal) (omega arith) ends zero)
+  lists_where_done listing (Err Memory) lists ends zero = absurd (not_done outlet mid new Memory result ends zero)
+  lists_where_done listing (Err HexText) lists ends zero = absurd (not_done outlet mid new HexText result ends zero)
+  lists_where_done listing (Err (Read place)) lists ends zero = absurd (not_done outlet mid new (Read place) result ends zero)
+  lists_where_done listing (Err (Refused refusal)) lists ends zero = absurd (not_done outlet mid new (Refused refusal) result ends zero)

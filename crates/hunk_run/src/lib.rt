@@ -66,37 +66,11 @@ pub fn run<T: Files + Input, W: Sink>(
         → (order : Order) × (order_of (map string_bytes words.now) ≡ Some order)
         × IsOrderDone W.outlet out.old out.new order }
 {
-    match order(alloc, words) {
-        Ok(order) => carry_out(rt, alloc, &order, out),
-        Err(fault) => refuse(&fault, out),
-    }
-}
-
-/// Prints why there is no order, and gives the exit status.
-pub fn refuse<W: Sink>(fault: &OrderFault, out: &mut LongWriter<W>) -> u8
-    ensures bound { result ≤ 4 }
-    ensures printed { PrintsRefusal W.outlet out.old out.new fault.now result }
-    ensures tells { TellsStatus W.outlet out.old out.new result }
-{
-    match fault {
-        OrderFault::Line => print("command line refused\n", LINE_REFUSED, out),
-        OrderFault::Help(text) => print(text.as_str(), DONE, out),
-        OrderFault::Memory => print(OUT_OF_MEMORY, RunFault::Memory.status(), out),
-    }
-}
-
-/// Does what the order asks for, and gives the exit status.
-fn carry_out<T: Files + Input, W: Sink>(
-    rt: &T,
-    alloc: Global,
-    order: &Order,
-    out: &mut LongWriter<W>,
-) -> u8
-    ensures bound { result ≤ 4 }
-    ensures done { result ≡ 0 → IsOrderDone W.outlet out.old out.new order.now }
-    ensures tells { TellsStatus W.outlet out.old out.new result }
-{
-    let (listing, hex, file) = match order {
+    let order = match order(alloc, words) {
+        Ok(order) => order,
+        Err(fault) => return refuse(&fault, out),
+    };
+    let (listing, hex, file) = match &order {
         Order::Show { hex, file } => (Listing::Show, hex, file),
         Order::Validate { hex, file } => (Listing::Validate, hex, file),
         Order::Relocate {
@@ -119,6 +93,19 @@ fn carry_out<T: Files + Input, W: Sink>(
     };
     let answer = list_file(rt, alloc, listing, file.as_ref(), *hex, out);
     end_listing(alloc, answer, out)
+}
+
+/// Prints why there is no order, and gives the exit status.
+pub fn refuse<W: Sink>(fault: &OrderFault, out: &mut LongWriter<W>) -> u8
+    ensures bound { result ≤ 4 }
+    ensures printed { PrintsRefusal W.outlet out.old out.new fault.now result }
+    ensures tells { TellsStatus W.outlet out.old out.new result }
+{
+    match fault {
+        OrderFault::Line => print("command line refused\n", LINE_REFUSED, out),
+        OrderFault::Help(text) => print(text.as_str(), DONE, out),
+        OrderFault::Memory => print(OUT_OF_MEMORY, RunFault::Memory.status(), out),
+    }
 }
 
 /// Ends the run that was to list an input, and gives the exit status.

@@ -1,9 +1,7 @@
-use Rattle.std.proofs.Common.{◌∙◌, ap, List, ℕ}
+use Rattle.std.proofs.Common.{◌∙◌, ap}
 use Rattle.hunk_run.specs.OutFile.{OutFile}
-use Rattle.hunk_commands.specs.Engine.{IsTextOfSome}
 use Rattle.hunk_commands.specs.Rewritten.{IsRewritten}
-use Rattle.hunk_commands.specs.declared.rewriting.Rewritten.{Rewritten}
-use Rattle.hunk_run.proofs.Telling.{takes_all, takes_first}
+use Rattle.hunk_run.proofs.Telling.{takes_all}
 use Rattle.hunk_run.proofs.rewriting.rewrite_to.Goals as goal
 
 pub returns-in-Ok-sync-clause-rewrites : goal.returns-in-Ok-sync-clause-rewrites
