@@ -48,7 +48,7 @@ impl SizeWord {
             then slice_index (longs bytes.now) (i + 1) else 0) }
     {
         let word = word_at(bytes, i);
-        let extra = if SizeWord::entry_longs(word) == 2 {
+        let extra = if SizeWord::has_extra(word) {
             word_at(bytes, i + 1)
         } else {
             0
@@ -88,7 +88,7 @@ impl SizeWord {
     pub fn has_extra(word: u32) -> bool
         ensures { result ≡ has_both_bits word }
     {
-        SizeWord::entry_longs(word) == 2
+        word >> 30 == 3
     }
 
     /// How many longwords the entry of a table has that begins with this size word: 2 where memory
@@ -98,6 +98,6 @@ impl SizeWord {
         ensures value { result ≡ entry_longs word }
         ensures bound { result ≤ 2 }
     {
-        if word >> 30 == 3 { 2 } else { 1 }
+        if SizeWord::has_extra(word) { 2 } else { 1 }
     }
 }
