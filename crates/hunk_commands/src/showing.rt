@@ -1,14 +1,12 @@
 //! `show`: the hunks and blocks of a file are listed.
-ghost use Rattle.hunk_files.specs.FileView.{file_of};
-ghost use Rattle.hunk_words.specs.Puts.{PutsText};
 ghost use Rattle.hunk_commands.specs.Engine.{PutsOrRefuses, ReadsThenPuts};
-ghost use Rattle.hunk_commands.specs.Shown.{IsShown, file_listing};
+ghost use Rattle.hunk_commands.specs.Shown.{IsShown};
 
 use crate::fault::RunFault;
 use crate::input::read_all;
 use hunk_files::FileView;
 use hunk_listing::{print_load_file, print_object_file};
-use hunk_words::{LongWriter, Printer, Sink, Source, WriteFault};
+use hunk_words::{LongWriter, Printer, Sink, Source};
 use std::alloc::Global;
 
 /// Reads the input to its end, and lists the hunks and blocks of the object file that it is, or of
@@ -51,26 +49,18 @@ pub fn show<R: Source, W: Sink>(
 ///   then, and the writer is as it was.
 /// - `Write` where the writer failed: just the first `written` bytes of all that was ever put, the
 ///   listing last, have gone out.
+#[inline(never)]
 pub fn show_bytes<W: Sink>(bytes: &[u8], w: &mut LongWriter<W>) -> Result<(), RunFault>
     ensures { PutsOrRefuses W.outlet (λ (_ : Unit). IsShown bytes.now)
         bytes.now w.old w.new result }
 {
     let file = FileView::read(bytes)?;
-    put_listing(w, &file)?;
-    Ok(())
-}
-
-/// Puts the hunks of the file, and its blocks.
-#[inline(never)]
-fn put_listing<W: Sink>(w: &mut LongWriter<W>, file: &FileView<'_>) -> Result<(), WriteFault>
-    ensures { PutsText W.outlet w.old w.new (file_listing (file_of file.now)) result }
-{
     let mut page = Printer::new(w);
-    match file {
+    match &file {
         FileView::Load { file, rest } => print_load_file(&mut page, file, *rest),
         FileView::Object(file) => print_object_file(&mut page, file),
     }
-    let result = page.flush();
+    let printed = page.flush();
     let _out = page.into_inner();
-    result
+    Ok(printed?)
 }

@@ -1,8 +1,4 @@
 //! `validate`: a file is checked.
-ghost use Rattle.std.specs.Prelude.{◌≡◌, IfOk};
-ghost use Rattle.hunk_files.specs.FileView.{file_of};
-ghost use Rattle.hunk_words.specs.Puts.{PutsText};
-ghost use Rattle.hunk_commands.specs.Reports.{finding_count, report};
 ghost use Rattle.hunk_commands.specs.Engine.{PutsOrRefuses, ReadsThenPuts};
 ghost use Rattle.hunk_commands.specs.Validated.{IsValidated};
 
@@ -10,7 +6,7 @@ use crate::fault::RunFault;
 use crate::input::read_all;
 use hunk_files::FileView;
 use hunk_listing::{print_load_summary, print_object_report};
-use hunk_words::{LongWriter, Printer, Sink, Source, WriteFault};
+use hunk_words::{LongWriter, Printer, Sink, Source};
 use std::alloc::Global;
 
 /// Reads the input to its end, checks the object file that it is, or the load file that it begins
@@ -53,31 +49,22 @@ pub fn validate<R: Source, W: Sink>(
 ///   then, and the writer is as it was.
 /// - `Write` where the writer failed: just the first `written` bytes of all that was ever put, the
 ///   report last, have gone out.
+#[inline(never)]
 pub fn validate_bytes<W: Sink>(bytes: &[u8], w: &mut LongWriter<W>) -> Result<u64, RunFault>
     ensures { PutsOrRefuses W.outlet (λ count. IsValidated count bytes.now)
         bytes.now w.old w.new result }
 {
     let file = FileView::read(bytes)?;
-    let count = put_report(w, &file)?;
-    Ok(count)
-}
-
-/// Puts the report on the file, and answers how much is found in it.
-#[inline(never)]
-fn put_report<W: Sink>(w: &mut LongWriter<W>, file: &FileView<'_>) -> Result<u64, WriteFault>
-    ensures puts { PutsText W.outlet w.old w.new (report (file_of file.now)) result }
-    ensures count { IfOk result (λ count. count ≡ finding_count (file_of file.now)) }
-{
     let mut page = Printer::new(w);
-    let count = match file {
+    let count = match &file {
         FileView::Load { file, rest } => {
             print_load_summary(&mut page, file, *rest);
             0
         }
         FileView::Object(file) => print_object_report(&mut page, file),
     };
-    let result = page.flush();
+    let printed = page.flush();
     let _out = page.into_inner();
-    result?;
+    printed?;
     Ok(count)
 }

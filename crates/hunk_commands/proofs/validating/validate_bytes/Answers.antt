@@ -1,4 +1,4 @@
-use Rattle.std.proofs.Common.{ℕ, sym, subst}
+use Rattle.std.proofs.Common.{rules, ◌≡◌, ℕ, sym, subst}
 use Rattle.std.proofs.lemmas.Result.{err_from_is_err_and}
 use Rattle.hunk_files.specs.FileView.{file_of}
 use Rattle.hunk_commands.specs.Reports.{finding_count, report}
@@ -12,18 +12,19 @@ returns-in_err-file g c =
     refuses g.W.Sink.outlet (λ count. IsValidated count c.args.bytes.now) c.args.bytes.now c.args.w.now c.from_residual.result c.in_err-file.field-0.0
     (err_from_is_err_and c.from_residual.result c.from_residual.ensures.1) c.in_err-file.ensures.none c.in_err-file.ensures.refused c.in_err-file.ensures.memory
 
-pub returns-in_err-count : goal.returns-in_err-count
-returns-in_err-count g c =
+pub returns-in_err-printed : goal.returns-in_err-printed
+returns-in_err-printed g c =
     let bytes = c.args.bytes.now in
     let file = file_of c.in_ok-file.file in
-    put_first g.W.Sink.outlet (λ count. IsValidated count bytes) bytes c.args.w.now c.put_report.new.w (report file) (finding_count file)
-    (validated_file bytes file c.in_ok-file.ensures.file) c.from_residual-in_err-count.result c.in_err-count.field-0.0 c.in_err-count.ensures.puts
-    (err_from_is_err_and c.from_residual-in_err-count.result c.from_residual-in_err-count.ensures.1)
+    put_first g.W.Sink.outlet (λ count. IsValidated count bytes) bytes c.args.w.now {S = Unit} _ (report file) (finding_count file)
+    (validated_file bytes file c.in_ok-file.ensures.file) c.from_residual-in_err-printed.result c.in_err-printed.field-0.0 (search rules)
+    (err_from_is_err_and c.from_residual-in_err-printed.result c.from_residual-in_err-printed.ensures.1)
 
 pub returns : goal.returns
 returns g c =
     let bytes = c.args.bytes.now in
     let file = file_of c.in_ok-file.file in
-    put_all g.W.Sink.outlet (λ count. IsValidated count bytes) bytes c.args.w.now c.put_report.new.w (report file) c.in_ok-count.count
-    (subst (λ (n : ℕ). IsValidated n bytes (report file)) (sym c.in_ok-count.ensures.count) (validated_file bytes file c.in_ok-file.ensures.file))
-    c.in_ok-count.count c.in_ok-count.ensures.puts
+    let told : c.match-file.count ≡ finding_count file = search rules in
+    put_all g.W.Sink.outlet (λ count. IsValidated count bytes) bytes c.args.w.now _ (report file) c.match-file.count
+    (subst (λ (n : ℕ). IsValidated n bytes (report file)) (sym told) (validated_file bytes file c.in_ok-file.ensures.file))
+    c.in_ok-printed.field-0 (search rules)

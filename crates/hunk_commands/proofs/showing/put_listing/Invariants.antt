@@ -1,4 +1,0 @@
-use Rattle.hunk_commands.proofs.showing.put_listing.Given as goal
-
-abbrev pub ghost-new : goal.ghost-new
-ghost-new g a = a.out.now
