@@ -43,6 +43,7 @@ pub mod Rising
 pub mod Runs
 pub mod Scan
 pub mod Shapes
+pub mod Standing
 pub mod StripLaws
 pub mod StripSteps
 pub mod StripText

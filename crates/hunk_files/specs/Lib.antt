@@ -23,6 +23,7 @@ pub mod Overlap
 pub mod Passing
 pub mod Ranges
 pub mod ReaderPosition
+pub mod StandingBlocks
 pub mod Strip
 pub mod SumImage
 pub mod Tables

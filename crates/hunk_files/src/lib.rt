@@ -13,6 +13,7 @@ mod place;
 mod ranges;
 mod row;
 mod sniffing;
+mod visiting;
 
 pub use crate::bases::Bases;
 pub use crate::blocks::BlockViews;
@@ -26,4 +27,5 @@ pub use crate::object::{
 pub use crate::ranges::TakesBytes;
 pub use crate::row::Row;
 pub use crate::sniffing::sniff;
+pub use crate::visiting::TakesBlocks;
 pub use hunk_grammar::Sniff;
