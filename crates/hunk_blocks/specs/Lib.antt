@@ -7,6 +7,7 @@ pub mod Entries
 pub mod ExtKinds
 pub mod Faults
 pub mod Modes
+pub mod NameText
 pub mod Parts
 pub mod Placed
 pub mod PhaseSteps

@@ -7,3 +7,4 @@ pub mod Streamed
 pub mod Succeeding
 pub mod TableRows
 pub mod TableSizes
+pub mod Tabulated

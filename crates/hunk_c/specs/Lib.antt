@@ -3,10 +3,13 @@ pub mod Checks
 pub mod Copying
 pub mod Counting
 pub mod Files
+pub mod Listing
 pub mod Loads
 pub mod Names
 pub mod Packs
+pub mod Rows
 pub mod Streams
 pub mod Strips
+pub mod Symbols
 pub mod Tables
 pub mod Taking

@@ -12,7 +12,7 @@ pub mod FileText
 pub mod FileViews
 mod FillingLaws
 pub mod FindingCounts
-mod FindingSteps
+pub mod FindingSteps
 pub mod HunkProgress
 mod HunkFaults
 mod HunkRanges

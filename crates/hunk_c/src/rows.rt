@@ -1,0 +1,130 @@
+//! Rows of what stands in a file, which the caller has room for.
+ghost use Rattle.std.specs.Prelude.{◌≡◌, ◌<◌, ◌^◌, ◌++◌, ◌∷◌, List, [], length};
+ghost use Rattle.std.proofs.Common.{◌∙◌, refl};
+ghost use Rattle.hunk_words.specs.Carriers.{saturated};
+ghost use Rattle.hunk_files.specs.FileView.{file_of};
+ghost use Rattle.hunk_files.specs.declared.hunk_file.HunkFile.{HunkFile};
+ghost use Rattle.hunk_c.specs.Counting.{CountsOn, counts_on_none, counts_on_more};
+ghost use Rattle.hunk_c.specs.Rows.{Tabulates, TabulatesWhatFits};
+ghost use Rattle.hunk_c.specs.Taking.{Fills, fills_none, fills_more};
+
+use crate::answer::{Answer, done, no_room, refused};
+use crate::file::hunks_in;
+use hunk_files::FileView;
+
+/// Takes rows one by one, and refuses none.
+///
+/// `takes` says that just these rows were taken, in this order, from the one state to the other.
+pub(crate) trait TakesRows<R> {
+    ghost takes: { Self → List R → Self → Type 0 };
+
+    /// Takes this row, behind those that were taken before.
+    fn take(&mut self, row: R)
+        ensures { takes self.old (row ∷ []) self.new };
+
+    ghost none: { (s : Self) → takes s [] s };
+
+    ghost more: { (a b c : Self) (xs ys : List R) → takes a xs b → takes b ys c
+        → takes a (xs ++ ys) c };
+}
+
+/// What stands in a file, as rows.
+pub(crate) trait Table {
+    type Row: Copy + Drop;
+
+    ghost rows: { HunkFile → List Self.Row };
+
+    /// Hands over a row for each thing, in file order.
+    fn list<T: TakesRows<Self::Row>>(file: &FileView<'_>, taker: &mut T)
+        ensures { T.takes taker.old (rows (file_of file.now)) taker.new };
+}
+
+/// Counts rows, up to 2 ^ 64 - 1.
+#[derive(Drop)]
+struct RowCount {
+    count: u64,
+}
+
+impl<R: Drop> TakesRows<R> for RowCount {
+    ghost takes = { λ a xs b. CountsOn a.count xs b.count };
+
+    ghost none = { λ s. counts_on_none R s.count };
+
+    ghost more = { λ a b c xs ys. counts_on_more a.count b.count c.count xs ys };
+
+    fn take(&mut self, _row: R) {
+        self.count = self.count.saturating_add(1);
+    }
+}
+
+/// Writes each row over the next of these, until none is left.
+#[derive(Drop)]
+struct RowFiller<'r, R> {
+    rows: &'r mut [R],
+    /// The number of the next row.
+    at: usize,
+}
+
+impl<R: Copy + Drop> TakesRows<R> for RowFiller<'_, R> {
+    ghost takes = { λ a xs b. (b.rows.ghost_name ≡ a.rows.ghost_name)
+        × Fills a.rows.now a.at xs b.rows.now b.at };
+
+    ghost none = { λ s. (refl, fills_none s.rows.now s.at) };
+
+    ghost more = { λ a b c xs ys first next. (
+      next.0 ∙ first.0,
+      fills_more a.rows.now b.rows.now c.rows.now a.at b.at c.at xs ys first.1 next.1,
+    ) };
+
+    fn take(&mut self, row: R) {
+        if self.at < self.rows.len() {
+            self.rows[self.at] = row;
+            self.at += 1;
+        }
+    }
+}
+
+/// Writes the rows of the file that the bytes are, or begin with, to the caller's.
+///
+/// They are counted first, and then, where there are any, listed again. The rows after them are as
+/// they were, and after a refusal all are.
+///
+/// # Errors
+///
+/// The first fault of the bytes; `NO_ROOM` where the caller has too few rows.
+pub(crate) fn tabulate<T: Table>(bytes: &[u8], rows: &mut [T::Row]) -> Answer
+    requires { length rows.old < 2 ^ 63 }
+    ensures outcome { Tabulates T.rows bytes.now rows.old rows.new result }
+    ensures succeeds { TabulatesWhatFits T.rows (length rows.old) bytes.now result }
+{
+    let file = match FileView::read(bytes) {
+        Ok(file) => file,
+        Err(fault) => return refused(fault),
+    };
+    let hunks = hunks_in(&file);
+    let size = bytes.len() as u64 - file.rest();
+    let count = count_rows::<T>(&file);
+    if count > rows.len() as u64 {
+        return no_room(hunks, size, count);
+    }
+    put_rows::<T>(&file, &mut rows[..count as usize]);
+    done(hunks, size, count)
+}
+
+/// How many rows there are, up to 2 ^ 64 - 1.
+fn count_rows<T: Table>(file: &FileView<'_>) -> u64
+    ensures { result ≡ saturated (length (T.rows (file_of file.now))) }
+{
+    let mut counter = RowCount { count: 0 };
+    T::list(file, &mut counter);
+    counter.count
+}
+
+/// Writes the row of each thing.
+fn put_rows<T: Table>(file: &FileView<'_>, rows: &mut [T::Row])
+    requires { length rows.old ≡ length (T.rows (file_of file.now)) }
+    ensures { rows.new ≡ T.rows (file_of file.now) }
+{
+    let mut filler = RowFiller { rows, at: 0 };
+    T::list(file, &mut filler);
+}
