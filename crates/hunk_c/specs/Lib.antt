@@ -7,6 +7,7 @@ pub mod Listing
 pub mod Loads
 pub mod Names
 pub mod Packs
+pub mod Relocations
 pub mod Rows
 pub mod Streams
 pub mod Strips

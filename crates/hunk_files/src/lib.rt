@@ -22,7 +22,7 @@ pub use crate::hunk_file::HunkFile;
 pub use crate::load::{ImageFault, LoadFile, LoadHunkView, LoadHunkViews, LoadView, TableIter};
 pub use crate::object::{
     Finding, FindingKind, Findings, Hunk, HunkView, HunkViews, ObjectFile, ObjectView,
-    TakesFindings, Unit, UnitView, UnitViews, walk_object,
+    TakesFindings, Unit, UnitView, UnitViews, relocation_width, walk_object,
 };
 pub use crate::ranges::TakesBytes;
 pub use crate::row::Row;

@@ -14,7 +14,7 @@ mod unit_view;
 mod view;
 mod whole;
 
-pub use crate::object::check::{Finding, FindingKind};
+pub use crate::object::check::{Finding, FindingKind, relocation_width};
 pub use crate::object::file::ObjectFile;
 pub use crate::object::findings::Findings;
 pub use crate::object::hunk_view::{HunkView, HunkViews};

@@ -63,7 +63,7 @@ impl HunkContext {
 }
 
 /// How many bytes an offset of this kind of relocation stands for: this project's own choice.
-fn relocation_width(kind: Kind) -> u64
+pub fn relocation_width(kind: Kind) -> u64
     ensures value { result ≡ relocation_width kind }
     ensures bound { result ≤ 4 }
 {

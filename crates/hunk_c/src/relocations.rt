@@ -1,0 +1,165 @@
+//! The relocations of a file.
+ghost use Rattle.std.specs.Prelude.{◌≡◌, ◌+◌, ◌*◌, ◌<◌, ◌^◌, length};
+ghost use Rattle.std.specs.List.{flat_map};
+ghost use Rattle.std.proofs.Common.{◌∙◌, refl};
+ghost use Rattle.hunk_c.specs.Listing.{flat_more};
+ghost use Rattle.hunk_c.specs.Relocations.{block_rows, group_rows, offset_rows, relocated};
+ghost use Rattle.hunk_c.specs.Relocations.{relocation_row, relocations_in};
+ghost use Rattle.hunk_c.specs.Rows.{Tabulates, TabulatesWhatFits};
+
+use crate::answer::Answer;
+use crate::rows::{Table, TakesRows, tabulate};
+use hunk_blocks::{BlockView, BodyView, GroupsIter, Longs};
+use hunk_files::{FileView, TakesBlocks, relocation_width};
+use hunk_words::BlockWord;
+
+/// An offset that is relocated, and where it stands: 40 bytes, with no padding.
+#[repr(C)]
+#[derive(Clone, Copy, Debug, PartialEq, Eq)]
+pub struct RelocationRow {
+    /// The byte of the file at which the offset stands.
+    pub place: u64,
+    /// The unit, counted from 0.
+    pub unit: u64,
+    /// The hunk, counted from 0 in its unit.
+    pub hunk: u64,
+    /// The type of the block, its word without the top three bits: 0x3EC is RELOC32.
+    pub kind: u32,
+    /// How many bytes are relocated: 1, 2 or 4.
+    pub width: u32,
+    /// The target, a hunk counted from 0 in the unit.
+    pub target: u32,
+    /// The offset, in bytes from the start of the hunk.
+    pub offset: u32,
+}
+
+/// Lists the relocations of the object file that the bytes are, or of the load file that they begin
+/// with.
+///
+/// It writes a row for each offset of a relocation block, in file order. The rows after them are as
+/// they were, and after a refusal all are. It answers the number of hunks of a load file, and 0 of
+/// an object file, the bytes of the file, and the number of offsets.
+///
+/// # Errors
+///
+/// The first fault of the bytes; `NO_ROOM` where there are fewer rows than offsets.
+#[unsafe(no_mangle)]
+pub extern "C" fn hunk_relocations(bytes: &[u8], rows: &mut [RelocationRow]) -> Answer
+    ensures outcome { Tabulates relocations_in bytes.now rows.old rows.new result }
+    ensures succeeds { TabulatesWhatFits relocations_in (length rows.old) bytes.now result }
+{
+    tabulate::<RelocationTable>(bytes, rows)
+}
+
+/// The relocations.
+#[derive(Drop)]
+struct RelocationTable;
+
+impl Table for RelocationTable {
+    type Row = RelocationRow;
+
+    ghost rows = { relocations_in };
+
+    fn list<T: TakesRows<RelocationRow>>(file: &FileView<'_>, taker: &mut T) {
+        let mut relocations = RelocationRows { taker };
+        file.visit(&mut relocations);
+    }
+}
+
+/// Hands over the row of each relocation of the blocks that it takes.
+#[derive(Drop)]
+struct RelocationRows<'t, T> {
+    taker: &'t mut T,
+}
+
+impl<T: TakesRows<RelocationRow>> TakesBlocks for RelocationRows<'_, T> {
+    ghost takes = { λ a blocks b. (b.taker.ghost_name ≡ a.taker.ghost_name)
+        × T.takes a.taker.now (flat_map block_rows blocks) b.taker.now };
+
+    ghost none = { λ s. (refl, T.none s.taker.now) };
+
+    ghost more = { λ a b c xs ys first next. (
+      next.0 ∙ first.0,
+      flat_more block_rows T.takes T.more a.taker.now b.taker.now c.taker.now xs ys first.1 next.1,
+    ) };
+
+    fn take(&mut self, unit: u64, hunk: u64, block: BlockView<'_>) {
+        let relocated = Relocated::by(unit, hunk, block.word());
+        if let BodyView::Reloc(groups) = block.into_body() {
+            list_groups(self.taker, relocated, groups);
+        }
+    }
+}
+
+/// Where offsets are relocated, and how.
+#[derive(Clone, Copy, Debug)]
+struct Relocated {
+    unit: u64,
+    hunk: u64,
+    kind: u32,
+    width: u32,
+}
+
+impl Relocated {
+    /// In this hunk, by a block of this word.
+    fn by(unit: u64, hunk: u64, word: BlockWord) -> Relocated
+        ensures { result ≡ relocated unit hunk word }
+    {
+        Relocated {
+            unit,
+            hunk,
+            kind: word.word() % (1 << 29),
+            width: relocation_width(word.kind()) as u32,
+        }
+    }
+}
+
+/// Hands over the row of each offset of a block.
+fn list_groups<T: TakesRows<RelocationRow>>(
+    taker: &mut T,
+    relocated: Relocated,
+    mut groups: GroupsIter<'_>,
+)
+    ensures { T.takes taker.old
+        (group_rows relocated groups.entry.place groups.entry.value) taker.new }
+{
+    let mut place = groups.place();
+    'listing: while let Some(group) = groups.next() {
+        let behind = groups.place();
+        list_offsets(taker, relocated, group.target, place + 8, &group.offsets);
+        place = behind;
+    }
+}
+
+/// Hands over the row of each offset of a group, from this byte of the file on.
+fn list_offsets<T: TakesRows<RelocationRow>>(
+    taker: &mut T,
+    relocated: Relocated,
+    target: u32,
+    start: u64,
+    offsets: &Longs<'_>,
+)
+    requires { start + 4 * length offsets.now < 2 ^ 64 }
+    ensures { T.takes taker.old (offset_rows relocated target start offsets.now) taker.new }
+{
+    let mut place = start;
+    'listing: for offset in offsets.iter() {
+        taker.take(relocation_row(relocated, target, place, offset));
+        place += 4;
+    }
+}
+
+/// What the caller sees of an offset that stands at this byte.
+fn relocation_row(relocated: Relocated, target: u32, place: u64, offset: u32) -> RelocationRow
+    ensures { result ≡ relocation_row relocated target place offset }
+{
+    RelocationRow {
+        place,
+        unit: relocated.unit,
+        hunk: relocated.hunk,
+        kind: relocated.kind,
+        width: relocated.width,
+        target,
+        offset,
+    }
+}
