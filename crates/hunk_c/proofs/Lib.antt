@@ -8,3 +8,4 @@ pub mod Succeeding
 pub mod TableRows
 pub mod TableSizes
 pub mod Tabulated
+pub mod Items

@@ -2,6 +2,7 @@ pub mod Answers
 pub mod Checks
 pub mod Copying
 pub mod Counting
+pub mod Entries
 pub mod Files
 pub mod Listing
 pub mod Loads

@@ -1,12 +1,12 @@
 -- The relocations of a file, in the caller's rows.
 use Rattle.std.specs.Prelude.{ℕ, ◌+◌, ◌*◌, ◌%◌, ◌^◌, List, [], ◌∷◌, ◌++◌, length}
-use Rattle.std.specs.List.{flat_map}
 use Rattle.hunk_words.specs.Bits.{kind}
 use Rattle.hunk_blocks.specs.Parts.{group_text}
 use Rattle.hunk_blocks.specs.Values.{BlockBody, RelocGroup, Reloc}
 use Rattle.hunk_files.specs.Findings.{relocation_width}
-use Rattle.hunk_files.specs.StandingBlocks.{StandingBlock, standing_blocks}
+use Rattle.hunk_files.specs.StandingBlocks.{StandingBlock}
 use Rattle.hunk_files.specs.declared.hunk_file.HunkFile.{HunkFile}
+use Rattle.hunk_c.specs.Rows.{rows_in}
 use Rattle.hunk_c.specs.declared.relocations.RelocationRow.{RelocationRow}
 pub use Rattle.hunk_c.specs.declared.relocations.Relocated.{Relocated}
 
@@ -50,4 +50,4 @@ block_rows s = body_rows s.unit s.hunk s.block.place s.block.value.word s.block.
 
 -- those of all relocation blocks, in file order
 abbrev pub relocations_in : HunkFile → List RelocationRow
-relocations_in file = flat_map block_rows (standing_blocks file)
+relocations_in = rows_in block_rows

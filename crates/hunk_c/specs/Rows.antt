@@ -1,12 +1,18 @@
 -- What stands in a file, in the caller's rows.
 use Rattle.std.specs.Prelude.{◌≡◌, ℕ, ◌<◌, ◌≤◌, List, ◌++◌, length, drop}
+use Rattle.std.specs.List.{flat_map}
 use Rattle.hunk_words.specs.Carriers.{saturated}
 use Rattle.hunk_words.specs.declared.fault.Fault.{Fault}
 use Rattle.hunk_files.specs.HunkFile.{IsFileOf, file_bytes}
+use Rattle.hunk_files.specs.StandingBlocks.{StandingBlock, standing_blocks}
 use Rattle.hunk_files.specs.declared.hunk_file.HunkFile.{HunkFile}
 use Rattle.hunk_c.specs.declared.answer.Answer.{Answer}
 use Rattle.hunk_c.specs.Answers.{refused, no_room, done}
 use Rattle.hunk_c.specs.Files.{AreNoFile, hunks_in}
+
+-- the rows of all blocks of a file, in file order
+abbrev pub rows_in : {Row : Type 0} → (StandingBlock → List Row) → HunkFile → List Row
+rows_in rows file = flat_map rows (standing_blocks file)
 
 -- What a table comes to. The caller's rows begin with those of the file, and what lies after them is as it was; or all are as
 -- they were.

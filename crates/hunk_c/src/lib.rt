@@ -6,6 +6,7 @@
 
 mod answer;
 mod check;
+mod entries;
 mod file;
 mod load;
 mod loader;
@@ -22,6 +23,7 @@ mod table;
 
 pub use crate::answer::Answer;
 pub use crate::check::{FindingRow, hunk_check};
+pub use crate::entries::{EntryRow, hunk_entries};
 pub use crate::load::{hunk_load, hunk_load_packed};
 pub use crate::loader::Loader;
 pub use crate::reason::hunk_reason;

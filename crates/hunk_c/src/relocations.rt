@@ -1,8 +1,5 @@
 //! The relocations of a file.
 ghost use Rattle.std.specs.Prelude.{◌≡◌, ◌+◌, ◌*◌, ◌<◌, ◌^◌, length};
-ghost use Rattle.std.specs.List.{flat_map};
-ghost use Rattle.std.proofs.Common.{◌∙◌, refl};
-ghost use Rattle.hunk_c.specs.Listing.{flat_more};
 ghost use Rattle.hunk_c.specs.Relocations.{block_rows, group_rows, offset_rows, relocated};
 ghost use Rattle.hunk_c.specs.Relocations.{relocation_row, relocations_in};
 ghost use Rattle.hunk_c.specs.Rows.{Tabulates, TabulatesWhatFits};
@@ -10,7 +7,7 @@ ghost use Rattle.hunk_c.specs.Rows.{Tabulates, TabulatesWhatFits};
 use crate::answer::Answer;
 use crate::rows::{Table, TakesRows, tabulate};
 use hunk_blocks::{BlockView, BodyView, GroupsIter, Longs};
-use hunk_files::{FileView, TakesBlocks, relocation_width};
+use hunk_files::relocation_width;
 use hunk_words::BlockWord;
 
 /// An offset that is relocated, and where it stands: 40 bytes, with no padding.
@@ -48,7 +45,7 @@ pub extern "C" fn hunk_relocations(bytes: &[u8], rows: &mut [RelocationRow]) -> 
     ensures outcome { Tabulates relocations_in bytes.now rows.old rows.new result }
     ensures succeeds { TabulatesWhatFits relocations_in (length rows.old) bytes.now result }
 {
-    tabulate::<RelocationTable>(bytes, rows)
+    tabulate(&RelocationTable, bytes, rows)
 }
 
 /// The relocations.
@@ -58,35 +55,18 @@ struct RelocationTable;
 impl Table for RelocationTable {
     type Row = RelocationRow;
 
-    ghost rows = { relocations_in };
+    ghost rows = { block_rows };
 
-    fn list<T: TakesRows<RelocationRow>>(file: &FileView<'_>, taker: &mut T) {
-        let mut relocations = RelocationRows { taker };
-        file.visit(&mut relocations);
-    }
-}
-
-/// Hands over the row of each relocation of the blocks that it takes.
-#[derive(Drop)]
-struct RelocationRows<'t, T> {
-    taker: &'t mut T,
-}
-
-impl<T: TakesRows<RelocationRow>> TakesBlocks for RelocationRows<'_, T> {
-    ghost takes = { λ a blocks b. (b.taker.ghost_name ≡ a.taker.ghost_name)
-        × T.takes a.taker.now (flat_map block_rows blocks) b.taker.now };
-
-    ghost none = { λ s. (refl, T.none s.taker.now) };
-
-    ghost more = { λ a b c xs ys first next. (
-      next.0 ∙ first.0,
-      flat_more block_rows T.takes T.more a.taker.now b.taker.now c.taker.now xs ys first.1 next.1,
-    ) };
-
-    fn take(&mut self, unit: u64, hunk: u64, block: BlockView<'_>) {
+    fn list<T: TakesRows<RelocationRow>>(
+        &self,
+        unit: u64,
+        hunk: u64,
+        block: BlockView<'_>,
+        taker: &mut T,
+    ) {
         let relocated = Relocated::by(unit, hunk, block.word());
         if let BodyView::Reloc(groups) = block.into_body() {
-            list_groups(self.taker, relocated, groups);
+            list_groups(taker, relocated, groups);
         }
     }
 }

@@ -1,16 +1,19 @@
 //! Rows of what stands in a file, which the caller has room for.
 ghost use Rattle.std.specs.Prelude.{◌≡◌, ◌<◌, ◌^◌, ◌++◌, ◌∷◌, List, [], length};
+ghost use Rattle.std.specs.List.{flat_map};
 ghost use Rattle.std.proofs.Common.{◌∙◌, refl};
 ghost use Rattle.hunk_words.specs.Carriers.{saturated};
 ghost use Rattle.hunk_files.specs.FileView.{file_of};
-ghost use Rattle.hunk_files.specs.declared.hunk_file.HunkFile.{HunkFile};
+ghost use Rattle.hunk_files.specs.StandingBlocks.{StandingBlock};
 ghost use Rattle.hunk_c.specs.Counting.{CountsOn, counts_on_none, counts_on_more};
-ghost use Rattle.hunk_c.specs.Rows.{Tabulates, TabulatesWhatFits};
+ghost use Rattle.hunk_c.specs.Listing.{flat_more};
+ghost use Rattle.hunk_c.specs.Rows.{Tabulates, TabulatesWhatFits, rows_in};
 ghost use Rattle.hunk_c.specs.Taking.{Fills, fills_none, fills_more};
 
 use crate::answer::{Answer, done, no_room, refused};
 use crate::file::hunks_in;
-use hunk_files::FileView;
+use hunk_blocks::BlockView;
+use hunk_files::{FileView, TakesBlocks};
 
 /// Takes rows one by one, and refuses none.
 ///
@@ -28,15 +31,53 @@ pub(crate) trait TakesRows<R> {
         → takes a (xs ++ ys) c };
 }
 
-/// What stands in a file, as rows.
+/// What stands in the blocks of a file, as rows.
 pub(crate) trait Table {
     type Row: Copy + Drop;
 
-    ghost rows: { HunkFile → List Self.Row };
+    ghost rows: { StandingBlock → List Self.Row };
 
-    /// Hands over a row for each thing, in file order.
-    fn list<T: TakesRows<Self::Row>>(file: &FileView<'_>, taker: &mut T)
-        ensures { T.takes taker.old (rows (file_of file.now)) taker.new };
+    /// Hands over a row for each thing in this block of a hunk of a unit.
+    fn list<T: TakesRows<Self::Row>>(
+        &self,
+        unit: u64,
+        hunk: u64,
+        block: BlockView<'_>,
+        taker: &mut T,
+    )
+        ensures { T.takes taker.old
+            (rows (record { unit = unit; hunk = hunk; block = block.entry })) taker.new };
+}
+
+/// Hands over the rows of the blocks that it takes.
+#[derive(Drop)]
+struct BlockRows<'b, 't, B, T> {
+    table: &'b B,
+    taker: &'t mut T,
+}
+
+impl<B: Table, T: TakesRows<B::Row>> TakesBlocks for BlockRows<'_, '_, B, T> {
+    ghost takes = { λ a blocks b. (b.taker.ghost_name ≡ a.taker.ghost_name)
+        × T.takes a.taker.now (flat_map B.rows blocks) b.taker.now };
+
+    ghost none = { λ s. (refl, T.none s.taker.now) };
+
+    ghost more = { λ a b c xs ys first next. (
+      next.0 ∙ first.0,
+      flat_more B.rows T.takes T.more a.taker.now b.taker.now c.taker.now xs ys first.1 next.1,
+    ) };
+
+    fn take(&mut self, unit: u64, hunk: u64, block: BlockView<'_>) {
+        self.table.list(unit, hunk, block, self.taker);
+    }
+}
+
+/// Hands over the rows of all blocks of the file.
+fn list_blocks<B: Table, T: TakesRows<B::Row>>(table: &B, file: &FileView<'_>, taker: &mut T)
+    ensures { T.takes taker.old (rows_in B.rows (file_of file.now)) taker.new }
+{
+    let mut rows = BlockRows { table, taker };
+    file.visit(&mut rows);
 }
 
 /// Counts rows, up to 2 ^ 64 - 1.
@@ -92,10 +133,10 @@ impl<R: Copy + Drop> TakesRows<R> for RowFiller<'_, R> {
 /// # Errors
 ///
 /// The first fault of the bytes; `NO_ROOM` where the caller has too few rows.
-pub(crate) fn tabulate<T: Table>(bytes: &[u8], rows: &mut [T::Row]) -> Answer
+pub(crate) fn tabulate<B: Table>(table: &B, bytes: &[u8], rows: &mut [B::Row]) -> Answer
     requires { length rows.old < 2 ^ 63 }
-    ensures outcome { Tabulates T.rows bytes.now rows.old rows.new result }
-    ensures succeeds { TabulatesWhatFits T.rows (length rows.old) bytes.now result }
+    ensures outcome { Tabulates (rows_in B.rows) bytes.now rows.old rows.new result }
+    ensures succeeds { TabulatesWhatFits (rows_in B.rows) (length rows.old) bytes.now result }
 {
     let file = match FileView::read(bytes) {
         Ok(file) => file,
@@ -103,28 +144,28 @@ pub(crate) fn tabulate<T: Table>(bytes: &[u8], rows: &mut [T::Row]) -> Answer
     };
     let hunks = hunks_in(&file);
     let size = bytes.len() as u64 - file.rest();
-    let count = count_rows::<T>(&file);
+    let count = count_rows(table, &file);
     if count > rows.len() as u64 {
         return no_room(hunks, size, count);
     }
-    put_rows::<T>(&file, &mut rows[..count as usize]);
+    put_rows(table, &file, &mut rows[..count as usize]);
     done(hunks, size, count)
 }
 
 /// How many rows there are, up to 2 ^ 64 - 1.
-fn count_rows<T: Table>(file: &FileView<'_>) -> u64
-    ensures { result ≡ saturated (length (T.rows (file_of file.now))) }
+fn count_rows<B: Table>(table: &B, file: &FileView<'_>) -> u64
+    ensures { result ≡ saturated (length (rows_in B.rows (file_of file.now))) }
 {
     let mut counter = RowCount { count: 0 };
-    T::list(file, &mut counter);
+    list_blocks(table, file, &mut counter);
     counter.count
 }
 
 /// Writes the row of each thing.
-fn put_rows<T: Table>(file: &FileView<'_>, rows: &mut [T::Row])
-    requires { length rows.old ≡ length (T.rows (file_of file.now)) }
-    ensures { rows.new ≡ T.rows (file_of file.now) }
+fn put_rows<B: Table>(table: &B, file: &FileView<'_>, rows: &mut [B::Row])
+    requires { length rows.old ≡ length (rows_in B.rows (file_of file.now)) }
+    ensures { rows.new ≡ rows_in B.rows (file_of file.now) }
 {
     let mut filler = RowFiller { rows, at: 0 };
-    T::list(file, &mut filler);
+    list_blocks(table, file, &mut filler);
 }

@@ -1,17 +1,15 @@
 //! The symbols of a file.
 ghost use Rattle.std.specs.Prelude.{◌≡◌, ◌+◌, ◌<◌, ◌^◌, length};
-ghost use Rattle.std.specs.List.{flat_map};
-ghost use Rattle.std.proofs.Common.{◌∙◌, refl};
+ghost use Rattle.hunk_blocks.specs.Parts.{symbol_text};
 ghost use Rattle.hunk_blocks.specs.Views.{symbol_of};
-ghost use Rattle.hunk_c.specs.Listing.{flat_more};
+ghost use Rattle.hunk_c.specs.Listing.{item_rows};
 ghost use Rattle.hunk_c.specs.Rows.{Tabulates, TabulatesWhatFits};
-ghost use Rattle.hunk_c.specs.Symbols.{block_rows, entry_rows, symbol_row, symbols_in};
+ghost use Rattle.hunk_c.specs.Symbols.{block_rows, symbol_row, symbols_in};
 
 use crate::answer::Answer;
 use crate::name::text_length;
 use crate::rows::{Table, TakesRows, tabulate};
 use hunk_blocks::{BlockView, BodyView, SymbolView, SymbolsIter};
-use hunk_files::{FileView, TakesBlocks};
 
 /// A symbol, and where it stands: 48 bytes, with no padding.
 #[repr(C)]
@@ -48,7 +46,7 @@ pub extern "C" fn hunk_symbols(bytes: &[u8], rows: &mut [SymbolRow]) -> Answer
     ensures outcome { Tabulates symbols_in bytes.now rows.old rows.new result }
     ensures succeeds { TabulatesWhatFits symbols_in (length rows.old) bytes.now result }
 {
-    tabulate::<SymbolTable>(bytes, rows)
+    tabulate(&SymbolTable, bytes, rows)
 }
 
 /// The symbols.
@@ -58,34 +56,17 @@ struct SymbolTable;
 impl Table for SymbolTable {
     type Row = SymbolRow;
 
-    ghost rows = { symbols_in };
+    ghost rows = { block_rows };
 
-    fn list<T: TakesRows<SymbolRow>>(file: &FileView<'_>, taker: &mut T) {
-        let mut symbols = SymbolRows { taker };
-        file.visit(&mut symbols);
-    }
-}
-
-/// Hands over the row of each symbol of the blocks that it takes.
-#[derive(Drop)]
-struct SymbolRows<'t, T> {
-    taker: &'t mut T,
-}
-
-impl<T: TakesRows<SymbolRow>> TakesBlocks for SymbolRows<'_, T> {
-    ghost takes = { λ a blocks b. (b.taker.ghost_name ≡ a.taker.ghost_name)
-        × T.takes a.taker.now (flat_map block_rows blocks) b.taker.now };
-
-    ghost none = { λ s. (refl, T.none s.taker.now) };
-
-    ghost more = { λ a b c xs ys first next. (
-      next.0 ∙ first.0,
-      flat_more block_rows T.takes T.more a.taker.now b.taker.now c.taker.now xs ys first.1 next.1,
-    ) };
-
-    fn take(&mut self, unit: u64, hunk: u64, block: BlockView<'_>) {
+    fn list<T: TakesRows<SymbolRow>>(
+        &self,
+        unit: u64,
+        hunk: u64,
+        block: BlockView<'_>,
+        taker: &mut T,
+    ) {
         if let BodyView::Symbol(symbols) = block.into_body() {
-            list_symbols(self.taker, unit, hunk, symbols);
+            list_symbols(taker, unit, hunk, symbols);
         }
     }
 }
@@ -97,8 +78,8 @@ fn list_symbols<T: TakesRows<SymbolRow>>(
     hunk: u64,
     mut symbols: SymbolsIter<'_>,
 )
-    ensures { T.takes taker.old
-        (entry_rows unit hunk symbols.entry.place symbols.entry.value) taker.new }
+    ensures { T.takes taker.old (item_rows (symbol_row unit hunk) symbol_text
+        symbols.entry.place symbols.entry.value) taker.new }
 {
     let mut place = symbols.place();
     'listing: while let Some(symbol) = symbols.next() {
