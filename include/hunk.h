@@ -250,6 +250,94 @@ struct hunk_answer hunk_end(const struct hunk_loader *loader);
 struct hunk_answer hunk_check(const uint8_t *bytes, size_t bytes_len, struct hunk_finding *rows,
                               size_t rows_len);
 
+/* ---- What stands in a file, item by item.
+ *
+ * Each call below takes the object file that the bytes are, or the load file that they begin with,
+ * as hunk_check does, and writes a row for each item, in the order of the file. All of them answer
+ * alike:
+ *
+ *   bytes   the file, whole; other bytes may follow a load file
+ *   rows    where the rows go
+ *
+ * HUNK_OK       hunk: the hunks of a load file, 1 or more; 0 of an object file; place: the bytes of
+ *               the file; count: the items, as many as rows were written.
+ * HUNK_NO_ROOM  there are more items than rows. count: the rows that are needed; hunk and place as
+ *               at HUNK_OK. With rows_len 0 this asks for their number.
+ * Else the first fault of the bytes, as at hunk_check.
+ *
+ * Items are listed where there are rows enough. Rows after them, and at any answer but HUNK_OK all
+ * rows, are as they were.
+ *
+ * In all rows `place` is the byte of the file at which the item begins. Units are counted from 0,
+ * and hunks from 0 in their unit; a load file is one unit. A name is the bytes of the file from
+ * `name` on, as many as `name_bytes` says: those before the first zero byte, of any values.
+ */
+
+/* A block of a hunk: 72 bytes. */
+struct hunk_block {
+    uint64_t place;
+    uint64_t bytes;         /* the bytes of the block in the file */
+    uint64_t unit;
+    uint64_t hunk;
+    uint64_t content;       /* the byte of the file at which its content, its name or its data begins */
+    uint64_t content_bytes; /* and how many bytes that is; both are 0 where a block has none */
+    uint64_t memory;        /* the bytes of a CODE, DATA or BSS block in memory, else 0 */
+    uint64_t items;         /* offsets, symbols or entries: the rows that it has below, else 0 */
+    uint32_t kind;          /* the type, bits 0 to 28 of its word: 0x3E9 is CODE */
+    uint32_t flags;         /* bits 29 to 31: 1 advisory, 2 chip memory, 4 fast memory */
+};
+
+/* A row for each block of each hunk, its END too. The header of a load file and those of units are
+ * no blocks of a hunk. */
+struct hunk_answer hunk_blocks(const uint8_t *bytes, size_t bytes_len, struct hunk_block *rows,
+                               size_t rows_len);
+
+/* A symbol: 48 bytes. */
+struct hunk_symbol {
+    uint64_t place;
+    uint64_t unit;
+    uint64_t hunk;
+    uint64_t name;
+    uint64_t name_bytes;
+    uint32_t value;
+    uint32_t reserved;      /* 0 */
+};
+
+/* A row for each symbol of each SYMBOL block. */
+struct hunk_answer hunk_symbols(const uint8_t *bytes, size_t bytes_len, struct hunk_symbol *rows,
+                                size_t rows_len);
+
+/* An offset that is relocated: 40 bytes. */
+struct hunk_relocation {
+    uint64_t place;
+    uint64_t unit;
+    uint64_t hunk;
+    uint32_t kind;          /* the type of the block: 0x3EC is RELOC32 */
+    uint32_t width;         /* the bytes that are relocated: 1, 2 or 4 */
+    uint32_t target;        /* a hunk, counted from 0 in the unit; in an object file any number */
+    uint32_t offset;        /* in bytes from the start of the hunk */
+};
+
+/* A row for each offset of each relocation block. */
+struct hunk_answer hunk_relocations(const uint8_t *bytes, size_t bytes_len,
+                                    struct hunk_relocation *rows, size_t rows_len);
+
+/* An entry of an EXT block, a definition or references: 56 bytes. */
+struct hunk_entry {
+    uint64_t place;
+    uint64_t unit;
+    uint64_t hunk;
+    uint64_t name;
+    uint64_t name_bytes;
+    uint64_t references;    /* how many offsets refer to it in the hunk; 0 in a definition */
+    uint32_t value;         /* of a definition; the bytes of a common block; else 0 */
+    uint32_t kind;          /* 0 SYMB, 1 DEF, 2 ABS; 129 REF32 and the others refer */
+};
+
+/* A row for each entry of each EXT block, which object files alone have. */
+struct hunk_answer hunk_entries(const uint8_t *bytes, size_t bytes_len, struct hunk_entry *rows,
+                                size_t rows_len);
+
 /* Writes the object file that the bytes are, or the load file that they begin with, to the text,
  * without its NAME, SYMBOL, DEBUG and ADVISORY blocks. Which of the two they are is as at
  * hunk_check.
