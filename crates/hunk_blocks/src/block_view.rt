@@ -1,5 +1,5 @@
 //! Blocks that are read where they lie.
-ghost use Rattle.std.specs.Prelude.{◌≡◌, ◌+◌, drop, length};
+ghost use Rattle.std.specs.Prelude.{◌≡◌, ◌+◌, ◌<◌, ◌^◌, drop, length};
 ghost use Rattle.hunk_words.specs.Longs.{bytes_of};
 ghost use Rattle.hunk_blocks.specs.Begins.{BeginsWithSomeBlock, IsFrontBlock};
 ghost use Rattle.hunk_blocks.specs.BodyViews.{HasListAt, viewed};
@@ -22,7 +22,7 @@ pub struct BlockView<'a> {
 }
 
 impl<'a> Model for BlockView<'a> {
-    ghost use Rattle.std.specs.Prelude.{◌≡◌, ◌+◌, length};
+    ghost use Rattle.std.specs.Prelude.{◌≡◌, ◌+◌, ◌<◌, ◌^◌, length};
     ghost use Rattle.hunk_words.specs.Longs.{bytes_of};
     ghost use Rattle.hunk_blocks.specs.BodyViews.{HasListAt, viewed};
     ghost use Rattle.hunk_blocks.specs.Parts.{block_text};
@@ -38,7 +38,8 @@ impl<'a> Model for BlockView<'a> {
 
     ghost invariant = { λ s.
         let b : BlockValue = record { word = s.word; body = viewed s.body } in
-        IsBlock b × (s.len ≡ length (bytes_of (block_text b))) × HasListAt (s.place + 4) s.body };
+        IsBlock b × (s.len ≡ length (bytes_of (block_text b))) × HasListAt (s.place + 4) s.body
+        × (s.place + s.len < 2 ^ 64) };
 }
 
 impl<'a> BlockView<'a> {
@@ -96,7 +97,8 @@ impl<'a> BlockView<'a> {
 
     /// The length of the block's text in bytes, behind which the input goes on.
     pub fn encoded_len(&self) -> u64
-        ensures { result ≡ length (bytes_of (block_text self.now.value)) }
+        ensures value { result ≡ length (bytes_of (block_text self.now.value)) }
+        ensures inside { self.now.place + result < 2 ^ 64 }
     {
         self.len
     }

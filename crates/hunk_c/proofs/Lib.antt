@@ -9,3 +9,4 @@ pub mod TableRows
 pub mod TableSizes
 pub mod Tabulated
 pub mod Items
+pub mod BlockRows

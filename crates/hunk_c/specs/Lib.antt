@@ -1,4 +1,5 @@
 pub mod Answers
+pub mod Blocks
 pub mod Checks
 pub mod Copying
 pub mod Counting

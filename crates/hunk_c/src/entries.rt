@@ -74,7 +74,7 @@ impl Table for EntryTable {
 }
 
 /// Hands over the row of each entry of a block.
-fn list_entries<T: TakesRows<EntryRow>>(
+pub(crate) fn list_entries<T: TakesRows<EntryRow>>(
     taker: &mut T,
     unit: u64,
     hunk: u64,

@@ -5,6 +5,7 @@
 #![tactic(auto)]
 
 mod answer;
+mod blocks;
 mod check;
 mod entries;
 mod file;
@@ -22,6 +23,7 @@ mod symbols;
 mod table;
 
 pub use crate::answer::Answer;
+pub use crate::blocks::{BlockRow, hunk_blocks};
 pub use crate::check::{FindingRow, hunk_check};
 pub use crate::entries::{EntryRow, hunk_entries};
 pub use crate::load::{hunk_load, hunk_load_packed};

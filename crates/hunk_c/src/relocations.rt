@@ -73,7 +73,7 @@ impl Table for RelocationTable {
 
 /// Where offsets are relocated, and how.
 #[derive(Clone, Copy, Debug)]
-struct Relocated {
+pub(crate) struct Relocated {
     unit: u64,
     hunk: u64,
     kind: u32,
@@ -82,7 +82,7 @@ struct Relocated {
 
 impl Relocated {
     /// In this hunk, by a block of this word.
-    fn by(unit: u64, hunk: u64, word: BlockWord) -> Relocated
+    pub(crate) fn by(unit: u64, hunk: u64, word: BlockWord) -> Relocated
         ensures { result ≡ relocated unit hunk word }
     {
         Relocated {
@@ -95,7 +95,7 @@ impl Relocated {
 }
 
 /// Hands over the row of each offset of a block.
-fn list_groups<T: TakesRows<RelocationRow>>(
+pub(crate) fn list_groups<T: TakesRows<RelocationRow>>(
     taker: &mut T,
     relocated: Relocated,
     mut groups: GroupsIter<'_>,

@@ -82,8 +82,8 @@ fn list_blocks<B: Table, T: TakesRows<B::Row>>(table: &B, file: &FileView<'_>, t
 
 /// Counts rows, up to 2 ^ 64 - 1.
 #[derive(Drop)]
-struct RowCount {
-    count: u64,
+pub(crate) struct RowCount {
+    pub(crate) count: u64,
 }
 
 impl<R: Drop> TakesRows<R> for RowCount {

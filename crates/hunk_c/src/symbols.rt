@@ -72,7 +72,7 @@ impl Table for SymbolTable {
 }
 
 /// Hands over the row of each symbol of a block.
-fn list_symbols<T: TakesRows<SymbolRow>>(
+pub(crate) fn list_symbols<T: TakesRows<SymbolRow>>(
     taker: &mut T,
     unit: u64,
     hunk: u64,

@@ -46,6 +46,7 @@ invariant_of-result c = (
   read_is_block (bytes c) c.requires c.of-word.result c.long.new.self (first c) c.read_body-body.new.reader (viewed c.read_body-body.result) c.read_body-body.ensures.read,
   omega (arith, size c, ap (λ u. u.place) c.reader.view_is),
   subst (λ (n : ℕ). HasListAt n c.read_body-body.result) (behind_word c) c.read_body-body.ensures.place,
+  omega (arith, size c, ap (λ u. u.place) c.reader.view_is),
 )
 
 pub returns-clause-block : goal.returns-clause-block

@@ -36,7 +36,7 @@ invariant_of-self-in_default c =
     let bytes = c.self.inside.bytes.now in
     let at = c.self.inside.at in
     let x = c.at-block.result.value in
-    let front = subst (IsFrontBlock (drop at bytes) x) (sym c.encoded_len.ensures) c.at-block.ensures.block in
+    let front = subst (IsFrontBlock (drop at bytes) x) (sym c.encoded_len.ensures.value) c.at-block.ensures.block in
     inr (more_begin bytes at (some_seen bytes at c.self.invariant c.if-self.false) x c.encoded_len.result front (ends_not c.body.ensures.value c.in_default.not-End))
 
 -- what was there before and behind the block
@@ -50,7 +50,7 @@ returns-clause-steps c =
     let here = some_seen bytes at c.self.invariant c.if-self.false in
     let x = c.at-block.result in
     let n = c.encoded_len.result in
-    let front = subst (IsFrontBlock (drop at bytes) x.value) (sym c.encoded_len.ensures) c.at-block.ensures.block in
+    let front = subst (IsFrontBlock (drop at bytes) x.value) (sym c.encoded_len.ensures.value) c.at-block.ensures.block in
     elim c.match-body.branch [
       | in-End w ↦
           given x c.args.self.now c.match-body.self (seen bytes at) (seen (take (at + n) bytes) (at + n))

@@ -1,0 +1,46 @@
+use Rattle.std.proofs.Common.{◌≡◌, ℕ, ◌+◌, List, sym, ap, ap₂, subst, ◌∙◌}
+use Rattle.hunk_words.specs.Carriers.{saturated}
+use Rattle.hunk_blocks.specs.BodyViews.{HasListAt, viewed}
+use Rattle.hunk_blocks.specs.Parts.{ext_text, symbol_text}
+use Rattle.hunk_blocks.specs.Values.{BlockBody, ExtEntry, RelocGroup, SymbolEntry}
+use Rattle.hunk_blocks.specs.Placed.{Placed}
+use Rattle.hunk_blocks.specs.declared.body_view.BodyView.{BodyView}
+use Rattle.hunk_c.specs.Blocks.{item_count}
+use Rattle.hunk_c.specs.Entries.{entry_row}
+use Rattle.hunk_c.specs.Listing.{item_rows}
+use Rattle.hunk_c.specs.Relocations.{Relocated, group_rows, relocated}
+use Rattle.hunk_c.specs.Symbols.{symbol_row}
+use Rattle.hunk_c.proofs.BlockRows.{rows_counted}
+use Rattle.hunk_c.proofs.blocks.items.Goals as goal
+
+pub returns-in-Reloc : goal.returns-in-Reloc
+returns-in-Reloc c =
+    let block = c.args.block.now in
+    let groups = c.in-Reloc.groups in
+    let at : groups.place ≡ block.place + 4 = subst (λ (b : BodyView). HasListAt (block.place + 4) b) c.in-Reloc.is c.body.ensures.place in
+    let rows = group_rows (relocated c.args.unit c.args.hunk block.value.word) in
+    rows_counted _ _ (rows (block.place + 4) groups.value) c.list_groups.ensures
+    (ap (λ (r : Relocated). group_rows r c.again.result.place c.again.result.value) (c.by-relocated.ensures ∙ ap (λ (w : ℕ). relocated c.args.unit c.args.hunk w) c.word.ensures.value)
+    ∙ ap (λ (p : Placed (List RelocGroup)). rows p.place p.value) c.again.ensures
+    ∙ ap (λ (n : ℕ). rows n groups.value) at)
+    ∙ ap (λ (b : BlockBody). saturated (item_count c.args.unit c.args.hunk block.place block.value.word b)) (sym (ap viewed c.in-Reloc.is) ∙ c.body.ensures.value)
+
+pub returns-in-Symbol : goal.returns-in-Symbol
+returns-in-Symbol c =
+    let block = c.args.block.now in
+    let symbols = c.in-Symbol.symbols in
+    let at : symbols.place ≡ block.place + 4 = subst (λ (b : BodyView). HasListAt (block.place + 4) b) c.in-Symbol.is c.body.ensures.place in
+    let rows = item_rows (symbol_row c.args.unit c.args.hunk) symbol_text in
+    rows_counted _ _ (rows (block.place + 4) symbols.value) c.list_symbols.ensures
+    (ap (λ (p : Placed (List SymbolEntry)). rows p.place p.value) c.again-in-Symbol.ensures ∙ ap (λ (n : ℕ). rows n symbols.value) at)
+    ∙ ap (λ (b : BlockBody). saturated (item_count c.args.unit c.args.hunk block.place block.value.word b)) (sym (ap viewed c.in-Symbol.is) ∙ c.body.ensures.value)
+
+pub returns-in-Ext : goal.returns-in-Ext
+returns-in-Ext c =
+    let block = c.args.block.now in
+    let entries = c.in-Ext.entries in
+    let at : entries.place ≡ block.place + 4 = subst (λ (b : BodyView). HasListAt (block.place + 4) b) c.in-Ext.is c.body.ensures.place in
+    let rows = item_rows (entry_row c.args.unit c.args.hunk) ext_text in
+    rows_counted _ _ (rows (block.place + 4) entries.value) c.list_entries.ensures
+    (ap (λ (p : Placed (List ExtEntry)). rows p.place p.value) c.again-in-Ext.ensures ∙ ap (λ (n : ℕ). rows n entries.value) at)
+    ∙ ap (λ (b : BlockBody). saturated (item_count c.args.unit c.args.hunk block.place block.value.word b)) (sym (ap viewed c.in-Ext.is) ∙ c.body.ensures.value)
