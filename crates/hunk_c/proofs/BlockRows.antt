@@ -7,10 +7,10 @@ use Rattle.hunk_words.proofs.LongLaws.{length-bytes_of}
 use Rattle.hunk_blocks.specs.Parts.{Part, Payload, block_parts, block_text}
 use Rattle.hunk_blocks.specs.Values.{BlockBody, BlockValue, Name, Code, Data, Bss, Reloc, Ext, Symbol, Debug, Advisory, End}
 use Rattle.hunk_c.specs.Blocks.{Span, payload_of}
-use Rattle.hunk_c.specs.Counting.{CountsOn}
+use Rattle.hunk_c.specs.Counting.{Counts}
 
 -- a count that begins at 0
-pub rows_counted : {Row : Type 0} (n : ℕ) (xs ys : List Row) → CountsOn 0 xs n → xs ≡ ys → n ≡ saturated (length ys)
+pub rows_counted : {Row : Type 0} (n : ℕ) (xs ys : List Row) → Counts 0 xs n → xs ≡ ys → n ≡ saturated (length ys)
 rows_counted n xs ys counts same = counts 0 (omega arith) ∙ ap saturated (omega (arith, ap length same))
 
 whole : (word : ℕ) (body : BlockBody) (ws words : List ℕ) → length (block_parts (record { word = word; body = body })) ≡ 2 + length ws → ws ≡ words →

@@ -1,14 +1,14 @@
 //! What is wrong with the offsets of object files.
-ghost use Rattle.std.specs.Prelude.{◌≡◌, length, map};
+ghost use Rattle.std.specs.Prelude.{◌≡◌, ◌<◌, ◌^◌, length, map};
 ghost use Rattle.std.proofs.Common.{◌∙◌, refl};
-ghost use Rattle.hunk_files.specs.Findings.{FindingValue, findings};
+ghost use Rattle.hunk_files.specs.Findings.{findings};
 ghost use Rattle.hunk_files.specs.HunkFile.{IsFileOf};
 ghost use Rattle.hunk_files.specs.declared.hunk_file.HunkFile.TheVariants as files;
 ghost use Rattle.hunk_c.specs.Checks.{Checks, ChecksWhatFits, finding_row, kind_number};
-ghost use Rattle.hunk_c.specs.Counting.{Counts, counts_none, counts_more};
-ghost use Rattle.hunk_c.specs.Taking.{Fills, fills_none, fills_more};
+ghost use Rattle.hunk_c.specs.Listing.{mapped_more};
 
 use crate::answer::{Answer, done, no_room, refused};
+use crate::rows::{RowCount, RowFiller, TakesRows};
 use hunk_files::{FileView, Finding, FindingKind, ObjectView, TakesFindings};
 
 /// What is wrong with an offset, and where it stands: 24 bytes, with no padding.
@@ -72,8 +72,8 @@ fn check_object(bytes: &[u8], file: &ObjectView<'_>, rows: &mut [FindingRow]) ->
 fn count_findings(file: &ObjectView<'_>) -> u64
     ensures { result ≡ length (findings file.now) }
 {
-    let mut counter = FindingCount { count: 0 };
-    let _units = file.check_with(&mut counter);
+    let mut counter = RowCount { count: 0 };
+    list_findings(file, &mut counter);
     counter.count
 }
 
@@ -83,51 +83,38 @@ fn put_rows(file: &ObjectView<'_>, rows: &mut [FindingRow])
     ensures { rows.new ≡ map finding_row (findings file.now) }
 {
     let mut filler = RowFiller { rows, at: 0 };
-    let _units = file.check_with(&mut filler);
+    list_findings(file, &mut filler);
 }
 
-/// Counts findings, modulo 2 ^ 64.
+/// Hands over the row of each finding.
+fn list_findings<T: TakesRows<FindingRow>>(file: &ObjectView<'_>, taker: &mut T)
+    ensures taken { T.takes taker.old (map finding_row (findings file.now)) taker.new }
+    ensures few { length (findings file.now) < 2 ^ 64 }
+{
+    let mut rows = FindingRows { taker };
+    let _units = file.check_with(&mut rows);
+}
+
+/// Hands over the row of each finding that it takes.
 #[derive(Drop)]
-struct FindingCount {
-    count: u64,
+struct FindingRows<'t, T> {
+    taker: &'t mut T,
 }
 
-impl TakesFindings for FindingCount {
-    ghost takes = { λ a xs b. Counts a.count xs b.count };
+impl<T: TakesRows<FindingRow>> TakesFindings for FindingRows<'_, T> {
+    ghost takes = { λ a found b. (b.taker.ghost_name ≡ a.taker.ghost_name)
+        × T.takes a.taker.now (map finding_row found) b.taker.now };
 
-    ghost none = { λ s. counts_none FindingValue s.count };
-
-    ghost more = { λ a b c xs ys. counts_more a.count b.count c.count xs ys };
-
-    fn take(&mut self, _finding: Finding) {
-        self.count = self.count.wrapping_add(1);
-    }
-}
-
-/// Writes the row of each finding into the next of these rows, until none is left.
-#[derive(Drop)]
-struct RowFiller<'r> {
-    rows: &'r mut [FindingRow],
-    /// The number of the next row.
-    at: usize,
-}
-
-impl TakesFindings for RowFiller<'_> {
-    ghost takes = { λ a xs b. (b.rows.ghost_name ≡ a.rows.ghost_name)
-        × Fills a.rows.now a.at xs b.rows.now b.at };
-
-    ghost none = { λ s. (refl, fills_none s.rows.now s.at) };
+    ghost none = { λ s. (refl, T.none s.taker.now) };
 
     ghost more = { λ a b c xs ys first next. (
       next.0 ∙ first.0,
-      fills_more a.rows.now b.rows.now c.rows.now a.at b.at c.at xs ys first.1 next.1,
+      mapped_more finding_row T.takes T.more a.taker.now b.taker.now c.taker.now xs ys
+        first.1 next.1,
     ) };
 
     fn take(&mut self, finding: Finding) {
-        if self.at < self.rows.len() {
-            self.rows[self.at] = finding_row(&finding);
-            self.at += 1;
-        }
+        self.taker.take(finding_row(&finding));
     }
 }
 

@@ -5,7 +5,7 @@ ghost use Rattle.std.proofs.Common.{◌∙◌, refl};
 ghost use Rattle.hunk_words.specs.Carriers.{saturated};
 ghost use Rattle.hunk_files.specs.FileView.{file_of};
 ghost use Rattle.hunk_files.specs.StandingBlocks.{StandingBlock};
-ghost use Rattle.hunk_c.specs.Counting.{CountsOn, counts_on_none, counts_on_more};
+ghost use Rattle.hunk_c.specs.Counting.{Counts, counts_none, counts_more};
 ghost use Rattle.hunk_c.specs.Listing.{flat_more};
 ghost use Rattle.hunk_c.specs.Rows.{Tabulates, TabulatesWhatFits, rows_in};
 ghost use Rattle.hunk_c.specs.Taking.{Fills, fills_none, fills_more};
@@ -87,11 +87,11 @@ pub(crate) struct RowCount {
 }
 
 impl<R: Drop> TakesRows<R> for RowCount {
-    ghost takes = { λ a xs b. CountsOn a.count xs b.count };
+    ghost takes = { λ a xs b. Counts a.count xs b.count };
 
-    ghost none = { λ s. counts_on_none R s.count };
+    ghost none = { λ s. counts_none R s.count };
 
-    ghost more = { λ a b c xs ys. counts_on_more a.count b.count c.count xs ys };
+    ghost more = { λ a b c xs ys. counts_more a.count b.count c.count xs ys };
 
     fn take(&mut self, _row: R) {
         self.count = self.count.saturating_add(1);
@@ -100,10 +100,10 @@ impl<R: Drop> TakesRows<R> for RowCount {
 
 /// Writes each row over the next of these, until none is left.
 #[derive(Drop)]
-struct RowFiller<'r, R> {
-    rows: &'r mut [R],
+pub(crate) struct RowFiller<'r, R> {
+    pub(crate) rows: &'r mut [R],
     /// The number of the next row.
-    at: usize,
+    pub(crate) at: usize,
 }
 
 impl<R: Copy + Drop> TakesRows<R> for RowFiller<'_, R> {

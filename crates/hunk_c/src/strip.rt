@@ -82,7 +82,7 @@ fn copy_stripped(file: &FileView<'_>, text: &mut [u8]) -> usize
     copier.at
 }
 
-/// Counts bytes, modulo 2 ^ 64.
+/// Counts bytes, up to 2 ^ 64 - 1.
 #[derive(Drop)]
 struct ByteCount {
     count: u64,
@@ -96,7 +96,7 @@ impl TakesBytes for ByteCount {
     ghost more = { λ a b c xs ys. counts_more a.count b.count c.count xs ys };
 
     fn take(&mut self, bytes: &[u8]) {
-        self.count = self.count.wrapping_add(bytes.len() as u64);
+        self.count = self.count.saturating_add(bytes.len() as u64);
     }
 }
 
