@@ -1,7 +1,6 @@
 -- What a table comes to.
 use Rattle.std.proofs.Common.{◌≡◌, ◌≤◌, ◌<◌, ◌^◌, ℕ, List, length, ap, arith}
 use Rattle.hunk_words.specs.Carriers.{saturated}
-use Rattle.hunk_files.specs.HunkFile.{IsFileOf}
 use Rattle.hunk_files.specs.declared.hunk_file.HunkFile.{HunkFile}
 use Rattle.hunk_c.specs.Rows.{Tabulates, TabulatesWhatFits, HasRows, HasNoRoom, HasNoFile}
 use Rattle.hunk_c.specs.declared.answer.Answer.{Answer}

@@ -4,7 +4,7 @@ use Rattle.hunk_words.specs.Bits.{flags}
 use Rattle.hunk_words.specs.Carriers.{saturated}
 use Rattle.hunk_words.specs.Longs.{bytes_of}
 use Rattle.hunk_blocks.specs.Parts.{block_text, ext_text, symbol_text}
-use Rattle.hunk_blocks.specs.Values.{BlockBody, Name, Code, Data, Bss, Reloc, Ext, Symbol, Debug, Advisory, End, content_bytes}
+use Rattle.hunk_blocks.specs.Values.{BlockBody, Name, Code, Data, Reloc, Ext, Symbol, Debug, Advisory, content_bytes}
 use Rattle.hunk_files.specs.StandingBlocks.{StandingBlock}
 use Rattle.hunk_files.specs.declared.hunk_file.HunkFile.{HunkFile}
 use Rattle.hunk_c.specs.Entries.{entry_row}

@@ -1,5 +1,5 @@
 -- A loader in numbers, which a C program keeps and feeds piece by piece.
-use Rattle.std.specs.Prelude.{◌≡◌, ℕ, ◌+◌, ◌*◌, ◌/◌, ◌<◌, ◌≤◌, ◌==◌, List, ◌++◌, length, take, if◌then◌else◌, replicate, Bool, true, false, not, Option, Some, None, IsTrue}
+use Rattle.std.specs.Prelude.{◌≡◌, ℕ, ◌*◌, ◌/◌, ◌<◌, ◌≤◌, ◌==◌, List, ◌++◌, length, take, if◌then◌else◌, replicate, Bool, true, false, not, Option, Some, None, IsTrue}
 use Rattle.hunk_words.specs.Carriers.{saturated}
 use Rattle.hunk_words.specs.Longs.{bytes_of}
 use Rattle.hunk_words.specs.Reasons.{number_of}

@@ -110,7 +110,7 @@ impl<T: TakesRows<FindingRow>> TakesFindings for FindingRows<'_, T> {
     ghost more = { λ a b c xs ys first next. (
       next.0 ∙ first.0,
       mapped_more finding_row T.takes T.more a.taker.now b.taker.now c.taker.now xs ys
-        first.1 next.1,
+          first.1 next.1,
     ) };
 
     fn take(&mut self, finding: Finding) {

@@ -1,4 +1,4 @@
-use Rattle.std.proofs.Common.{◌≡◌, ℕ, ◌+◌, List, sym, ap, ap₂, subst, ◌∙◌}
+use Rattle.std.proofs.Common.{◌≡◌, ℕ, ◌+◌, List, sym, ap, subst, ◌∙◌}
 use Rattle.hunk_words.specs.Carriers.{saturated}
 use Rattle.hunk_blocks.specs.BodyViews.{HasListAt, viewed}
 use Rattle.hunk_blocks.specs.Parts.{ext_text, symbol_text}

@@ -1,11 +1,10 @@
-use Rattle.std.proofs.Common.{◌≡◌, ◌+◌, ◌*◌, ℕ, List, ◌++◌, length, sym, ap, subst, ◌∙◌, arith}
+use Rattle.std.proofs.Common.{◌≡◌, ◌+◌, ℕ, List, ◌++◌, length, sym, ap, subst, ◌∙◌, arith}
 use Rattle.std.proofs.lemmas.List.{length-map}
 use Rattle.hunk_blocks.specs.Parts.{Offset, Part, group_parts, group_text}
 use Rattle.hunk_blocks.specs.Values.{RelocGroup}
 use Rattle.hunk_blocks.specs.Views.{group_of}
 use Rattle.hunk_files.proofs.FindingSteps.{taken_on}
 use Rattle.hunk_c.specs.Relocations.{group_rows, offset_rows}
-use Rattle.hunk_c.specs.declared.relocations.RelocationRow.{RelocationRow}
 use Rattle.hunk_c.proofs.relocations.list_groups.Goals as goal
 
 group_longs : (g : RelocGroup) → length (group_text g) ≡ 2 + length g.offsets

@@ -1,7 +1,6 @@
-use Rattle.std.proofs.Common.{◌≡◌, ◌-◌, ◌++◌, ℕ, List, length, drop, refl, ap₂, ◌∙◌, arith}
+use Rattle.std.proofs.Common.{◌≡◌, ◌++◌, ℕ, List, length, drop, refl, ap₂, ◌∙◌, arith}
 use Rattle.std.proofs.lemmas.List.{length-take-le}
 use Rattle.hunk_files.specs.FileView.{file_of}
-use Rattle.hunk_files.specs.HunkFile.{file_bytes}
 use Rattle.hunk_c.specs.Rows.{HasNoFile, HasNoRoom, HasRows, rows_in}
 use Rattle.hunk_c.proofs.Loaded.{same_answer}
 use Rattle.hunk_c.proofs.OneFile.{file_size}
