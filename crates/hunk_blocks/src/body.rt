@@ -9,9 +9,8 @@ ghost use Rattle.hunk_blocks.specs.Parts.{body_text};
 use crate::entries::{Entries, print_entries};
 use crate::groups::{Groups, print_groups};
 use crate::payload::{Payload, print_counted, print_sized};
-use crate::phase::content_longs;
 use crate::symbols::{Symbols, print_symbols};
-use hunk_words::{BlockWord, PagePrinter, Sink};
+use hunk_words::{BlockWord, CONTENT_LIMIT, PagePrinter, Sink};
 
 /// What follows the word of a block, by its kind.
 ///
@@ -52,7 +51,7 @@ impl Body<'_> {
         match self {
             Body::Code { top: _, payload } => Some(payload.byte_count()),
             Body::Data { top: _, payload } => Some(payload.byte_count()),
-            Body::Bss { size } => Some(4 * u64::from(content_longs(*size))),
+            Body::Bss { size } => Some(4 * u64::from(*size % CONTENT_LIMIT)),
             _ => None,
         }
     }

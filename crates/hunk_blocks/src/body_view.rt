@@ -13,9 +13,8 @@ use crate::entries::{EntriesIter, keep_entries};
 use crate::groups::{GroupsIter, keep_groups};
 use crate::long_reader::LongReader;
 use crate::payload::{Payload, read_counted, read_sized};
-use crate::phase::content_longs;
 use crate::symbols::{SymbolsIter, keep_symbols};
-use hunk_words::{BlockFault, BlockWord, Kind};
+use hunk_words::{BlockFault, BlockWord, CONTENT_LIMIT, Kind};
 use std::alloc::Global;
 
 /// What follows the word of a block, by its kind, as `Body` has it. The groups and entries of a
@@ -52,7 +51,7 @@ impl BodyView<'_> {
         match self {
             BodyView::Code { top: _, payload } => Some(payload.byte_count()),
             BodyView::Data { top: _, payload } => Some(payload.byte_count()),
-            BodyView::Bss { size } => Some(4 * u64::from(content_longs(*size))),
+            BodyView::Bss { size } => Some(4 * u64::from(*size % CONTENT_LIMIT)),
             _ => None,
         }
     }
