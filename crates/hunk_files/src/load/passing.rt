@@ -60,28 +60,41 @@ fn behind_blocks(
 ) -> (usize, bool)
     ensures { AreBlocks (longs bytes.now) hunks declared from has_content result.0 result.1 }
 {
-    let whole = bytes.len() / 4;
     let mut at = from;
     let mut has = has_content;
-    'passing: while at < whole {
-        let word = word_at(bytes, at);
-        let behind = by_kind!(
-            BlockWord::of(word).kind(),
-            behind_block(bytes, at, hunks, declared, has, word)
-        );
-        let Some(next) = behind else {
-            return (at, has);
-        };
+    'passing: while let Some(next) = behind_block(bytes, at, hunks, declared, has) {
         at = next.0;
         has = next.1;
     }
     (at, has)
 }
 
-/// The longword behind one such block, where one begins at `at` with this word, and whether the
-/// content block came up to there.
+/// The longword behind one such block, where one stands at `at`, and whether the content block came
+/// up to there.
 #[inline(always)]
 fn behind_block(
+    bytes: &[u8],
+    at: usize,
+    hunks: u32,
+    declared: u32,
+    has_content: bool,
+) -> Option<(usize, bool)>
+    ensures { IfSome result (λ r.
+        IsWholeBlock (longs bytes.now) hunks declared at has_content r.0 r.1) }
+{
+    if at >= bytes.len() / 4 {
+        return None;
+    }
+    let word = word_at(bytes, at);
+    by_kind!(
+        BlockWord::of(word).kind(),
+        behind_word(bytes, at, hunks, declared, has_content, word)
+    )
+}
+
+/// The same, by the block's word.
+#[inline(always)]
+fn behind_word(
     bytes: &[u8],
     at: usize,
     hunks: u32,

@@ -6,7 +6,7 @@ use Rattle.hunk_blocks.specs.PhaseSteps.{begin}
 use Rattle.hunk_blocks.specs.declared.phase.Phase.{Phase}
 use Rattle.hunk_grammar.specs.Roles.{refuse_word}
 use Rattle.hunk_files.specs.Passing.{BeginsBlock, content, counted, groups, symbols}
-use Rattle.hunk_files.proofs.load.passing.behind_block.Goals as goal
+use Rattle.hunk_files.proofs.load.passing.behind_word.Goals as goal
 
 begins_block : (bytes : List ℕ) (has : Bool) (at word : ℕ) (phase q : Phase) → 4 * at + 4 ≤ length bytes → word ≡ slice_index (longs bytes) at → (refuse_word has word ≡ None) × (begin (kind word) ≡ Some phase) → phase ≡ q → BeginsBlock (longs bytes) has at q
 begins_block bytes has at word phase q inside is begun same = record {
