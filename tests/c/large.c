@@ -8,11 +8,13 @@
 #define MEMORY (1 << 26)
 #define MOST_HUNKS 65536
 #define BASE UINT32_C(0x21000)
+#define OFFSETS ((1 << 22) - 13) /* of a file of 16 MiB */
 
 static struct guarded file_room = {LARGE, NULL};
 static struct guarded text_room = {LARGE, NULL};
 static struct guarded memory_room = {MEMORY, NULL};
 static struct guarded again_room = {MEMORY, NULL};
+static struct guarded row_room = {OFFSETS * sizeof(struct hunk_relocation), NULL};
 static struct hunk_row rows[MOST_HUNKS];
 static struct hunk_place places[MOST_HUNKS];
 static uint32_t bases[MOST_HUNKS];
@@ -91,6 +93,59 @@ static void checked(const char *name, uint32_t hunks, size_t count, size_t left)
     expect(all_marked(text + left, len - left), name, "the text behind a stripped file");
 }
 
+/* hunk_blocks, of blocks that stand one behind the other from the first byte up to the last. */
+static void blocks_listed(const char *name, struct hunk_answer all, uint64_t first, uint64_t last)
+{
+    struct hunk_block *table = marked(&row_room, all.count * sizeof *table);
+    expect(same(hunk_blocks(file, len, table, all.count), all), name, "hunk_blocks");
+    for (uint64_t i = 0; i < all.count; i++) {
+        expect(table[i].place == first, name, "the place of a block");
+        int is_kind = first < last && table[i].kind == long_at(file + first);
+        expect(is_kind, name, "the kind of a block");
+        first += table[i].bytes;
+    }
+    expect(first == last, name, "the end of the blocks");
+}
+
+/* hunk_symbols and hunk_relocations, of what put_lists puts from this byte on, where this many
+ * relocations stand before it. */
+static void lists_listed(const char *name, uint32_t hunks, uint64_t from, size_t before)
+{
+    struct hunk_answer all = {HUNK_OK, hunks, len, before + 2 * MANY};
+    struct hunk_relocation *offsets = marked(&row_room, all.count * sizeof *offsets);
+    expect(same(hunk_relocations(file, len, offsets, all.count), all), name, "hunk_relocations");
+    uint64_t groups = from + 4, group = from + 20 + 12 * MANY, symbols = group + 4 * MANY + 8;
+    offsets += before;
+    for (uint64_t i = 0; i < 2 * MANY; i++) {
+        uint64_t place = i < MANY ? groups + 12 * i + 8 : group + 4 * (i - MANY);
+        struct hunk_relocation row = {place, 0, 0, 0x3EC, 4, 0, 0};
+        expect(memcmp(&offsets[i], &row, sizeof row) == 0, name, "a relocation");
+    }
+    all.count = MANY;
+    struct hunk_symbol *values = marked(&row_room, MANY * sizeof *values);
+    expect(same(hunk_symbols(file, len, values, MANY), all), name, "hunk_symbols");
+    for (uint64_t i = 0; i < MANY; i++) {
+        uint64_t place = symbols + 12 * i;
+        struct hunk_symbol row = {place, 0, 0, place + 4, 1, 7, 0};
+        expect(memcmp(&values[i], &row, sizeof row) == 0, name, "a symbol");
+    }
+}
+
+/* hunk_entries, of what put_entries puts from this byte on. */
+static void entries_listed(const char *name, uint64_t from)
+{
+    struct hunk_answer all = {HUNK_OK, 0, len, MANY + 1};
+    struct hunk_entry *entries = marked(&row_room, all.count * sizeof *entries);
+    expect(same(hunk_entries(file, len, entries, all.count), all), name, "hunk_entries");
+    for (uint64_t i = 0; i <= MANY; i++) {
+        uint64_t place = from + 4 + 12 * i;
+        struct hunk_entry row = {place, 0, 0, place + 4, 1, 0, 7, 1};
+        if (i == MANY)
+            row = (struct hunk_entry){place, 0, 0, place + 4, 0, MANY, 0, 129};
+        expect(memcmp(&entries[i], &row, sizeof row) == 0, name, "an entry");
+    }
+}
+
 /* The same in two pieces as by a load. */
 static void streamed(const char *name, struct hunk_answer table, const uint8_t *memory)
 {
@@ -144,13 +199,15 @@ static void large_load_file(void)
     len = 0;
     PUT(1, 0x3F3, 0, 1, 0, 0, CONTENT / 4, 0x3E9, CONTENT / 4);
     PUT(CONTENT / 4, 7);
-    size_t kept = len;
+    size_t lists = len, kept = len;
     kept += put_lists();
     fill();
     expect(len == LARGE, "a large load file", "its bytes");
     loaded("a large load file", (struct hunk_answer){HUNK_OK, 1, 24, CONTENT},
            7 + 2 * MANY * BASE);
     checked("a large load file", 1, 0, kept + 4);
+    blocks_listed("a large load file", (struct hunk_answer){HUNK_OK, 1, len, 6}, 24, len);
+    lists_listed("a large load file", 1, lists, 0);
 }
 
 static void many_hunks(void)
@@ -160,7 +217,7 @@ static void many_hunks(void)
     PUT(1, 0x3F3, 0, MOST_HUNKS, 0, MOST_HUNKS - 1);
     PUT(MOST_HUNKS, 1);
     PUT(1, 0x3EB, 1, 0x3EC, 1, MOST_HUNKS - 1, 0, 0);
-    size_t kept = len;
+    size_t lists = len, kept = len;
     kept += put_lists();
     PUT(MANY, 0x3F1, 0);
     size_t behind = len;
@@ -168,6 +225,9 @@ static void many_hunks(void)
     PUT(MOST_HUNKS - 1, 0x3EB, 1, 0x3F2);
     loaded("many hunks", table, 2 * MANY * BASE + BASE + 4 * (MOST_HUNKS - 1));
     checked("many hunks", MOST_HUNKS, 0, kept + len - behind);
+    struct hunk_answer blocks = {HUNK_OK, MOST_HUNKS, len, 6 + MANY + 2 * (MOST_HUNKS - 1)};
+    blocks_listed("many hunks", blocks, table.place, len);
+    lists_listed("many hunks", MOST_HUNKS, lists, 1);
 }
 
 static void large_object_file(void)
@@ -175,33 +235,64 @@ static void large_object_file(void)
     len = 0;
     PUT(1, 0x3E7, 0, 0x3E9, CONTENT / 4);
     PUT(CONTENT / 4, 7);
-    size_t kept = len;
+    size_t lists = len, kept = len;
     kept += put_lists();
+    size_t entries = len;
     kept += put_entries();
     fill();
     expect(len == LARGE, "a large object file", "its bytes");
     checked("a large object file", 0, 0, kept + 4);
+    blocks_listed("a large object file", (struct hunk_answer){HUNK_OK, 0, len, 7}, 8, len);
+    lists_listed("a large object file", 0, lists, 0);
+    entries_listed("a large object file", entries);
 }
 
 static void many_units(void)
 {
     len = 0;
     PUT(1, 0x3E7, 0, 0x3EB, 2);
-    size_t kept = len;
+    size_t lists = len, kept = len;
     kept += put_lists();
+    size_t entries = len;
     kept += put_entries();
     PUT(MANY, 0x3F1, 0);
     size_t behind = len;
     PUT(1, 0x3F2);
     PUT(MANY - 1, 0x3EB, 1, 0x3F2);
+    size_t units = len;
     PUT(MANY - 1, 0x3E7, 0);
     checked("many units", 0, MANY, kept + len - behind);
+    struct hunk_answer blocks = {HUNK_OK, 0, len, 6 + MANY + 2 * (MANY - 1)};
+    blocks_listed("many units", blocks, 8, units);
+    lists_listed("many units", 0, lists, 0);
+    entries_listed("many units", entries);
+}
+
+/* A load file of 16 MiB that is one block of relocations but for 52 bytes. */
+static void large_relocations(void)
+{
+    const char *name = "16 MiB of relocations";
+    len = 0;
+    PUT(1, 0x3F3, 0, 1, 0, 0, 1, 0x3EB, 1, 0x3EC, OFFSETS, 0);
+    size_t first = len;
+    PUT(OFFSETS + 1, 0);
+    PUT(1, 0x3F2);
+    struct hunk_answer all = {HUNK_OK, 1, len, OFFSETS}, few = {HUNK_NO_ROOM, 1, len, OFFSETS};
+    struct hunk_relocation *table = marked(&row_room, (OFFSETS - 1) * sizeof *table);
+    expect(same(hunk_relocations(file, len, table, OFFSETS - 1), few), name, "a row too few");
+    expect(all_marked(table, (OFFSETS - 1) * sizeof *table), name, "rows that are too few");
+    table = marked(&row_room, OFFSETS * sizeof *table);
+    expect(same(hunk_relocations(file, len, table, OFFSETS), all), name, "hunk_relocations");
+    for (size_t i = 0; i < OFFSETS; i++) {
+        struct hunk_relocation row = {first + 4 * i, 0, 0, 0x3EC, 4, 0, 0};
+        expect(memcmp(&table[i], &row, sizeof row) == 0, name, "a relocation");
+    }
 }
 
 int main(void)
 {
     if (!make_guarded(&file_room) || !make_guarded(&text_room) || !make_guarded(&memory_room) ||
-        !make_guarded(&again_room))
+        !make_guarded(&again_room) || !make_guarded(&row_room))
         return 3;
     file = marked(&file_room, LARGE);
     short_file("16 MiB", 1 << 24);
@@ -210,5 +301,6 @@ int main(void)
     many_hunks();
     large_object_file();
     many_units();
+    large_relocations();
     return failures > 0;
 }
