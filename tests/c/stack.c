@@ -8,6 +8,7 @@
 #define HUNKS 2
 #define HEADER 28
 #define FINDINGS 2
+#define BLOCKS 7
 
 /* A load file of a code hunk with a relocation, a symbol and debug data, and of a BSS hunk. An
  * object file of such a code hunk, whose relocation has no target, and whose reference lies
@@ -27,6 +28,10 @@ static struct hunk_row rows[HUNKS];
 static struct hunk_place places[HUNKS] = {{2, 0, 0}, {1, 0, 8}};
 static const uint32_t bases[HUNKS] = {0, 8};
 static struct hunk_finding findings[FINDINGS];
+static struct hunk_block blocks[BLOCKS];
+static struct hunk_symbol symbol;
+static struct hunk_relocation relocation;
+static struct hunk_entry entry;
 static struct hunk_loader loader;
 static struct hunk_answer answer;
 
@@ -44,6 +49,11 @@ static void begin(void) { answer = hunk_begin(&loader, places, HUNKS, HEADER, me
 static void end(void) { answer = hunk_end(&loader); }
 static void check(void) { answer = hunk_check(object, sizeof object, findings, FINDINGS); }
 static void check_load(void) { answer = hunk_check(file, sizeof file, findings, FINDINGS); }
+static void list_load(void) { answer = hunk_blocks(file, sizeof file, blocks, BLOCKS); }
+static void list(void) { answer = hunk_blocks(object, sizeof object, blocks, BLOCKS); }
+static void symbols(void) { answer = hunk_symbols(object, sizeof object, &symbol, 1); }
+static void relocations(void) { answer = hunk_relocations(object, sizeof object, &relocation, 1); }
+static void entries(void) { answer = hunk_entries(object, sizeof object, &entry, 1); }
 static void strip(void) { answer = hunk_strip(object, sizeof object, text, sizeof text); }
 static void strip_load(void) { answer = hunk_strip(file, sizeof file, text, sizeof text); }
 static void reason(void) { answer = hunk_reason(HUNK_NOTHING_TO_RELOCATE, text, sizeof text); }
@@ -66,6 +76,11 @@ static const struct {
     {"hunk_end", end, ALL},
     {"hunk_check", check, ALL},
     {"hunk_check of a load file", check_load, ALL},
+    {"hunk_blocks", list, ALL},
+    {"hunk_blocks of a load file", list_load, ALL},
+    {"hunk_symbols", symbols, ALL},
+    {"hunk_relocations", relocations, ALL},
+    {"hunk_entries", entries, ALL},
     {"hunk_strip", strip, ALL},
     {"hunk_strip of a load file", strip_load, ALL},
     {"hunk_reason", reason, ALL},
