@@ -86,16 +86,9 @@ impl<'a, W: Sink, const ROOM: usize> PagePrinter<'a, W, ROOM> {
         ensures kept { length self.new.text ≤ ROOM → self.new.out ≡ self.old.out }
     {
         self.history = self.history.and(bytes);
-        let held = &mut self.held;
-        let rest = if held.bytes.len() - held.count < bytes.len() {
-            send_on(self.out, held, bytes)
-        } else {
-            bytes
-        };
-        let end = held.count + rest.len();
-        let room = &mut held.bytes[..];
-        room[held.count..end].copy_from_slice(rest);
-        held.count = end;
+        if !self.held.append(bytes) {
+            send_on(self.out, &mut self.held, bytes);
+        }
     }
 
     /// Prints the longword, high byte first, as `print`.
@@ -134,26 +127,17 @@ impl<'a, W: Sink, const ROOM: usize> PagePrinter<'a, W, ROOM> {
     }
 }
 
-/// Puts what is held, and the bytes too where a page has no room for them. Gives what is then to be
-/// held.
+/// Puts what is held, and holds the bytes, or puts them too where a page has no room for them.
 #[cold]
-fn send_on<'b, W: Sink, const ROOM: usize>(
-    out: &mut LongWriter<W>,
-    held: &mut Page<ROOM>,
-    bytes: &'b [u8],
-) -> &'b [u8]
-    ensures sends { (first : Writing W) → (text : List ℕ) → Sends W.outlet first out.old text held.old
-        → Sends W.outlet first out.new (text ++ bytes.now) result.now }
-    ensures empty { held.new ≡ [] }
-    ensures fits { length result.now ≤ ROOM }
+fn send_on<W: Sink, const ROOM: usize>(out: &mut LongWriter<W>, held: &mut Page<ROOM>, bytes: &[u8])
+    ensures { (first : Writing W) → (text : List ℕ) → Sends W.outlet first out.old text held.old
+        → Sends W.outlet first out.new (text ++ bytes.now) held.new }
 {
     let _held = out.put_bytes(&held.bytes[..held.count]);
     held.count = 0;
-    if bytes.len() <= ROOM {
-        return bytes;
+    if !held.append(bytes) {
+        let _rest = out.put_bytes(bytes);
     }
-    let _rest = out.put_bytes(bytes);
-    &[]
 }
 
 /// A page with room for `ROOM` bytes, filled from its front. Contracts see it as the bytes that
@@ -172,4 +156,22 @@ impl<const ROOM: usize> Model for Page<ROOM> {
     ghost view = { λ s. take s.count s.bytes };
 
     ghost invariant = { λ s. s.count ≤ length s.bytes };
+}
+
+impl<const ROOM: usize> Page<ROOM> {
+    /// Appends the bytes where they have room, and answers whether they have.
+    fn append(&mut self, bytes: &[u8]) -> bool
+        ensures appends { result ≡ true → self.new ≡ self.old ++ bytes.now }
+        ensures full { result ≡ false → ROOM < length self.old + length bytes.now }
+        ensures same { result ≡ false → self.new ≡ self.old }
+    {
+        if self.bytes.len() - self.count < bytes.len() {
+            return false;
+        }
+        let end = self.count + bytes.len();
+        let room = &mut self.bytes[..];
+        room[self.count..end].copy_from_slice(bytes);
+        self.count = end;
+        true
+    }
 }

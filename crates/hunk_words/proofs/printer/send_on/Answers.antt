@@ -2,15 +2,17 @@ use Rattle.std.proofs.Common.{[], ◌++◌, refl}
 use Rattle.hunk_words.proofs.PrintLaws.{holds_more, put_held}
 use Rattle.hunk_words.proofs.printer.send_on.Goals as goal
 
-pub returns-then-bytes-clause-sends : goal.returns-then-bytes-clause-sends
-returns-then-bytes-clause-sends g c = λ first text sends.
-    let bytes = c.args.bytes.now in
-    let sent = put_held _ first _ c.put_bytes-held.new.self _ text _ (rw (← c.held.view_is) at sends) c.put_bytes-held.ensures in
-    holds_more g.W.Sink.outlet first c.put_bytes-held.new.self text [] bytes (text ++ bytes) bytes sent refl refl
-
-pub returns-clause-sends : goal.returns-clause-sends
-returns-clause-sends g c = λ first text sends.
+pub returns-then-not-append : goal.returns-then-not-append
+returns-then-not-append g c = λ first text sends.
     let bytes = c.args.bytes.now in
     let sent = put_held _ first _ c.put_bytes-held.new.self _ text _ (rw (← c.held.view_is) at sends) c.put_bytes-held.ensures in
     let both = holds_more g.W.Sink.outlet first c.put_bytes-held.new.self text [] bytes (text ++ bytes) bytes sent refl refl in
-    put_held _ first _ c.put_bytes-rest.new.self _ (text ++ bytes) bytes both c.put_bytes-rest.ensures
+    rw (c.append.ensures.same c.if-not-append.true)
+    (put_held _ first _ c.put_bytes-rest.new.self _ (text ++ bytes) bytes both c.put_bytes-rest.ensures)
+
+pub returns-else-not-append : goal.returns-else-not-append
+returns-else-not-append g c = λ first text sends.
+    let bytes = c.args.bytes.now in
+    let sent = put_held _ first _ c.put_bytes-held.new.self _ text _ (rw (← c.held.view_is) at sends) c.put_bytes-held.ensures in
+    holds_more g.W.Sink.outlet first c.put_bytes-held.new.self text [] bytes (text ++ bytes) _ sent refl
+    (c.append.ensures.appends c.if-not-append.false)
