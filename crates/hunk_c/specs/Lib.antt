@@ -16,3 +16,4 @@ pub mod Strips
 pub mod Symbols
 pub mod Tables
 pub mod Taking
+pub mod Units

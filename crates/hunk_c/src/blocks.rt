@@ -10,7 +10,7 @@ ghost use Rattle.hunk_c.specs.Rows.{Tabulates, TabulatesWhatFits};
 use crate::answer::Answer;
 use crate::entries::list_entries;
 use crate::relocations::{Relocated, list_groups};
-use crate::rows::{RowCount, Table, TakesRows, tabulate};
+use crate::rows::{BlockTable, ByBlock, RowCount, TakesRows, tabulate};
 use crate::symbols::list_symbols;
 use hunk_blocks::{BlockView, BodyView, Payload};
 
@@ -55,14 +55,14 @@ pub extern "C" fn hunk_blocks(bytes: &[u8], rows: &mut [BlockRow]) -> Answer
     ensures outcome { Tabulates blocks_in bytes.now rows.old rows.new result }
     ensures succeeds { TabulatesWhatFits blocks_in (length rows.old) bytes.now result }
 {
-    tabulate(&BlockTable, bytes, rows)
+    tabulate(&ByBlock(BlockListing), bytes, rows)
 }
 
 /// The blocks.
 #[derive(Drop)]
-struct BlockTable;
+struct BlockListing;
 
-impl Table for BlockTable {
+impl BlockTable for BlockListing {
     type Row = BlockRow;
 
     ghost rows = { block_rows };

@@ -8,7 +8,7 @@ ghost use Rattle.hunk_c.specs.Entries.{block_rows, entries_in, entry_row};
 
 use crate::answer::Answer;
 use crate::name::text_length;
-use crate::rows::{Table, TakesRows, tabulate};
+use crate::rows::{BlockTable, ByBlock, TakesRows, tabulate};
 use hunk_blocks::{BlockView, BodyView, EntriesIter, Entry};
 use hunk_words::NAME_LIMIT;
 
@@ -48,14 +48,14 @@ pub extern "C" fn hunk_entries(bytes: &[u8], rows: &mut [EntryRow]) -> Answer
     ensures outcome { Tabulates entries_in bytes.now rows.old rows.new result }
     ensures succeeds { TabulatesWhatFits entries_in (length rows.old) bytes.now result }
 {
-    tabulate(&EntryTable, bytes, rows)
+    tabulate(&ByBlock(EntryTable), bytes, rows)
 }
 
 /// The entries.
 #[derive(Drop)]
 struct EntryTable;
 
-impl Table for EntryTable {
+impl BlockTable for EntryTable {
     type Row = EntryRow;
 
     ghost rows = { block_rows };

@@ -21,6 +21,7 @@ mod stream;
 mod strip;
 mod symbols;
 mod table;
+mod units;
 
 pub use crate::answer::Answer;
 pub use crate::blocks::{BlockRow, hunk_blocks};
@@ -34,3 +35,4 @@ pub use crate::stream::{hunk_begin, hunk_end, hunk_feed};
 pub use crate::strip::hunk_strip;
 pub use crate::symbols::{SymbolRow, hunk_symbols};
 pub use crate::table::{TableRow, hunk_table};
+pub use crate::units::{UnitRow, hunk_units};

@@ -5,7 +5,7 @@ ghost use Rattle.hunk_c.specs.Relocations.{relocation_row, relocations_in};
 ghost use Rattle.hunk_c.specs.Rows.{Tabulates, TabulatesWhatFits};
 
 use crate::answer::Answer;
-use crate::rows::{Table, TakesRows, tabulate};
+use crate::rows::{BlockTable, ByBlock, TakesRows, tabulate};
 use hunk_blocks::{BlockView, BodyView, GroupsIter, Longs};
 use hunk_files::relocation_width;
 use hunk_words::BlockWord;
@@ -45,14 +45,14 @@ pub extern "C" fn hunk_relocations(bytes: &[u8], rows: &mut [RelocationRow]) -> 
     ensures outcome { Tabulates relocations_in bytes.now rows.old rows.new result }
     ensures succeeds { TabulatesWhatFits relocations_in (length rows.old) bytes.now result }
 {
-    tabulate(&RelocationTable, bytes, rows)
+    tabulate(&ByBlock(RelocationTable), bytes, rows)
 }
 
 /// The relocations.
 #[derive(Drop)]
 struct RelocationTable;
 
-impl Table for RelocationTable {
+impl BlockTable for RelocationTable {
     type Row = RelocationRow;
 
     ghost rows = { block_rows };

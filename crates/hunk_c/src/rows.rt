@@ -5,6 +5,7 @@ ghost use Rattle.std.proofs.Common.{◌∙◌, refl};
 ghost use Rattle.hunk_words.specs.Carriers.{saturated};
 ghost use Rattle.hunk_files.specs.FileView.{file_of};
 ghost use Rattle.hunk_files.specs.StandingBlocks.{StandingBlock};
+ghost use Rattle.hunk_files.specs.declared.hunk_file.HunkFile.{HunkFile};
 ghost use Rattle.hunk_c.specs.Counting.{Counts, counts_none, counts_more};
 ghost use Rattle.hunk_c.specs.Listing.{flat_more};
 ghost use Rattle.hunk_c.specs.Rows.{Tabulates, TabulatesWhatFits, rows_in};
@@ -31,8 +32,19 @@ pub(crate) trait TakesRows<R> {
         → takes a (xs ++ ys) c };
 }
 
-/// What stands in the blocks of a file, as rows.
+/// What stands in a file, as rows.
 pub(crate) trait Table {
+    type Row: Copy + Drop;
+
+    ghost rows: { HunkFile → List Self.Row };
+
+    /// Hands over a row for each thing, in file order.
+    fn list_file<T: TakesRows<Self::Row>>(&self, file: &FileView<'_>, taker: &mut T)
+        ensures { T.takes taker.old (rows (file_of file.now)) taker.new };
+}
+
+/// What stands in the blocks of a file, as rows.
+pub(crate) trait BlockTable {
     type Row: Copy + Drop;
 
     ghost rows: { StandingBlock → List Self.Row };
@@ -49,6 +61,24 @@ pub(crate) trait Table {
             (rows (record { unit = unit; hunk = hunk; block = block.entry })) taker.new };
 }
 
+/// The rows of all blocks, one block after the other.
+#[derive(Drop)]
+pub(crate) struct ByBlock<B>(pub(crate) B);
+
+impl<B: BlockTable> Table for ByBlock<B> {
+    type Row = B::Row;
+
+    ghost rows = { rows_in B.rows };
+
+    fn list_file<T: TakesRows<B::Row>>(&self, file: &FileView<'_>, taker: &mut T) {
+        let mut rows = BlockRows {
+            table: &self.0,
+            taker,
+        };
+        file.visit(&mut rows);
+    }
+}
+
 /// Hands over the rows of the blocks that it takes.
 #[derive(Drop)]
 struct BlockRows<'b, 't, B, T> {
@@ -56,7 +86,7 @@ struct BlockRows<'b, 't, B, T> {
     taker: &'t mut T,
 }
 
-impl<B: Table, T: TakesRows<B::Row>> TakesBlocks for BlockRows<'_, '_, B, T> {
+impl<B: BlockTable, T: TakesRows<B::Row>> TakesBlocks for BlockRows<'_, '_, B, T> {
     ghost takes = { λ a blocks b. (b.taker.ghost_name ≡ a.taker.ghost_name)
         × T.takes a.taker.now (flat_map B.rows blocks) b.taker.now };
 
@@ -70,14 +100,6 @@ impl<B: Table, T: TakesRows<B::Row>> TakesBlocks for BlockRows<'_, '_, B, T> {
     fn take(&mut self, unit: u64, hunk: u64, block: BlockView<'_>) {
         self.table.list(unit, hunk, block, self.taker);
     }
-}
-
-/// Hands over the rows of all blocks of the file.
-fn list_blocks<B: Table, T: TakesRows<B::Row>>(table: &B, file: &FileView<'_>, taker: &mut T)
-    ensures { T.takes taker.old (rows_in B.rows (file_of file.now)) taker.new }
-{
-    let mut rows = BlockRows { table, taker };
-    file.visit(&mut rows);
 }
 
 /// Counts rows, up to 2 ^ 64 - 1.
@@ -133,10 +155,10 @@ impl<R: Copy + Drop> TakesRows<R> for RowFiller<'_, R> {
 /// # Errors
 ///
 /// The first fault of the bytes; `NO_ROOM` where the caller has too few rows.
-pub(crate) fn tabulate<B: Table>(table: &B, bytes: &[u8], rows: &mut [B::Row]) -> Answer
+pub(crate) fn tabulate<A: Table>(table: &A, bytes: &[u8], rows: &mut [A::Row]) -> Answer
     requires { length rows.old < 2 ^ 63 }
-    ensures outcome { Tabulates (rows_in B.rows) bytes.now rows.old rows.new result }
-    ensures succeeds { TabulatesWhatFits (rows_in B.rows) (length rows.old) bytes.now result }
+    ensures outcome { Tabulates A.rows bytes.now rows.old rows.new result }
+    ensures succeeds { TabulatesWhatFits A.rows (length rows.old) bytes.now result }
 {
     let file = match FileView::read(bytes) {
         Ok(file) => file,
@@ -153,19 +175,19 @@ pub(crate) fn tabulate<B: Table>(table: &B, bytes: &[u8], rows: &mut [B::Row]) -
 }
 
 /// How many rows there are, up to 2 ^ 64 - 1.
-fn count_rows<B: Table>(table: &B, file: &FileView<'_>) -> u64
-    ensures { result ≡ saturated (length (rows_in B.rows (file_of file.now))) }
+fn count_rows<A: Table>(table: &A, file: &FileView<'_>) -> u64
+    ensures { result ≡ saturated (length (A.rows (file_of file.now))) }
 {
     let mut counter = RowCount { count: 0 };
-    list_blocks(table, file, &mut counter);
+    table.list_file(file, &mut counter);
     counter.count
 }
 
 /// Writes the row of each thing.
-fn put_rows<B: Table>(table: &B, file: &FileView<'_>, rows: &mut [B::Row])
-    requires { length rows.old ≡ length (rows_in B.rows (file_of file.now)) }
-    ensures { rows.new ≡ rows_in B.rows (file_of file.now) }
+fn put_rows<A: Table>(table: &A, file: &FileView<'_>, rows: &mut [A::Row])
+    requires { length rows.old ≡ length (A.rows (file_of file.now)) }
+    ensures { rows.new ≡ A.rows (file_of file.now) }
 {
     let mut filler = RowFiller { rows, at: 0 };
-    list_blocks(table, file, &mut filler);
+    table.list_file(file, &mut filler);
 }

@@ -8,7 +8,7 @@ ghost use Rattle.hunk_c.specs.Symbols.{block_rows, symbol_row, symbols_in};
 
 use crate::answer::Answer;
 use crate::name::text_length;
-use crate::rows::{Table, TakesRows, tabulate};
+use crate::rows::{BlockTable, ByBlock, TakesRows, tabulate};
 use hunk_blocks::{BlockView, BodyView, SymbolView, SymbolsIter};
 
 /// A symbol, and where it stands: 48 bytes, with no padding.
@@ -46,14 +46,14 @@ pub extern "C" fn hunk_symbols(bytes: &[u8], rows: &mut [SymbolRow]) -> Answer
     ensures outcome { Tabulates symbols_in bytes.now rows.old rows.new result }
     ensures succeeds { TabulatesWhatFits symbols_in (length rows.old) bytes.now result }
 {
-    tabulate(&SymbolTable, bytes, rows)
+    tabulate(&ByBlock(SymbolTable), bytes, rows)
 }
 
 /// The symbols.
 #[derive(Drop)]
 struct SymbolTable;
 
-impl Table for SymbolTable {
+impl BlockTable for SymbolTable {
     type Row = SymbolRow;
 
     ghost rows = { block_rows };

@@ -1,7 +1,7 @@
 use Rattle.std.proofs.Common.{◌≡◌, ◌++◌, ℕ, List, length, drop, refl, ap₂, ◌∙◌, arith}
 use Rattle.std.proofs.lemmas.List.{length-take-le}
 use Rattle.hunk_files.specs.FileView.{file_of}
-use Rattle.hunk_c.specs.Rows.{HasNoFile, HasNoRoom, HasRows, rows_in}
+use Rattle.hunk_c.specs.Rows.{HasNoFile, HasNoRoom, HasRows}
 use Rattle.hunk_c.proofs.Loaded.{same_answer}
 use Rattle.hunk_c.proofs.OneFile.{file_size}
 use Rattle.hunk_c.proofs.Tabulated.{counted, lacks, tabulates_what_fits}
@@ -17,7 +17,7 @@ returns-then-count-rows-clause-outcome g c =
     ∙ same_answer _ _ _ _ _ _ _ c.hunks_in-hunks.ensures (omega (arith, c.rest.ensures, file_size c.args.bytes.now (file_of c.in-Ok.file) c.in-Ok.ensures.file)) c.count_rows-count.ensures)
 
 pub returns-then-count-rows-clause-succeeds : goal.returns-then-count-rows-clause-succeeds
-returns-then-count-rows-clause-succeeds g c = tabulates_what_fits (rows_in g.B.Table.rows) _ _ _ _ (returns-then-count-rows-clause-outcome g c)
+returns-then-count-rows-clause-succeeds g c = tabulates_what_fits g.A.Table.rows _ _ _ _ (returns-then-count-rows-clause-outcome g c)
 
 pub put_rows-requires : goal.put_rows-requires
 put_rows-requires g c =
@@ -27,7 +27,7 @@ put_rows-requires g c =
 pub returns-clause-outcome : goal.returns-clause-outcome
 returns-clause-outcome g c =
     let file = file_of c.in-Ok.file in
-    let rows = rows_in g.B.Table.rows file in
+    let rows = g.A.Table.rows file in
     let exact : c.count_rows-count.result ≡ length rows = counted _ _ _ c.count_rows-count.ensures (omega (arith, c.if-count-rows.false)) c.requires in
     HasRows file c.in-Ok.ensures.file (omega (arith, exact, c.if-count-rows.false))
     (ap₂ (λ (xs : List _) (n : ℕ). xs ++ drop n c.args.rows.now) c.put_rows.ensures exact)
