@@ -10,3 +10,4 @@ pub mod TableSizes
 pub mod Tabulated
 pub mod Items
 pub mod BlockRows
+pub mod OffsetsWithin

@@ -9,6 +9,7 @@ pub mod Listing
 pub mod Loads
 pub mod Names
 pub mod Packs
+pub mod References
 pub mod Relocations
 pub mod Rows
 pub mod Streams

@@ -1,0 +1,147 @@
+//! The references of a file's EXT entries.
+ghost use Rattle.std.specs.Prelude.{◌≡◌, ◌+◌, ◌-◌, ◌*◌, ◌≤◌, ℕ, length};
+ghost use Rattle.std.proofs.Common.{◌∙◌, refl};
+ghost use Rattle.std.specs.List.{AllByRecursion};
+ghost use Rattle.hunk_words.specs.Carriers.{saturated};
+ghost use Rattle.hunk_blocks.specs.Values.{IsExtEntry};
+ghost use Rattle.hunk_blocks.specs.Views.{entry_of};
+ghost use Rattle.hunk_files.specs.Findings.{reference_width};
+ghost use Rattle.hunk_c.specs.Listing.{item_rows};
+ghost use Rattle.hunk_c.specs.References.{TakesNumbered, entries_references, long_text};
+ghost use Rattle.hunk_c.specs.References.{numbered_more, numbered_none, reference_row};
+ghost use Rattle.hunk_c.specs.References.{references_in};
+ghost use Rattle.hunk_c.specs.Rows.{Tabulates, TabulatesWhatFits};
+
+use crate::answer::Answer;
+use crate::rows::{Table, TakesRows, tabulate};
+use hunk_blocks::{BlockView, BodyView, EntriesIter, Entry, Longs};
+use hunk_files::{FileView, TakesBlocks};
+
+/// An offset that refers to what an EXT entry names: 24 bytes, with no padding.
+#[repr(C)]
+#[derive(Clone, Copy, Debug, PartialEq, Eq)]
+pub struct ReferenceRow {
+    /// The entry: the number of its row in the table of entries, from 0.
+    pub entry: u64,
+    /// The byte of the file at which the offset stands.
+    pub place: u64,
+    /// The offset, in bytes from the start of the hunk.
+    pub offset: u32,
+    /// How many bytes refer: 1, 2 or 4.
+    pub width: u32,
+}
+
+/// Lists the references of the EXT entries of the object file that the bytes are; a load file has
+/// none.
+///
+/// It writes a row for each offset, in file order. The rows after them are as they were, and after
+/// a refusal all are. It answers the number of hunks of a load file, and 0 of an object file, the
+/// bytes of the file, and the number of references.
+///
+/// # Errors
+///
+/// The first fault of the bytes; `NO_ROOM` where there are fewer rows than references.
+#[unsafe(no_mangle)]
+pub extern "C" fn hunk_references(bytes: &[u8], rows: &mut [ReferenceRow]) -> Answer
+    ensures outcome { Tabulates references_in bytes.now rows.old rows.new result }
+    ensures succeeds { TabulatesWhatFits references_in (length rows.old) bytes.now result }
+{
+    tabulate(&ReferenceTable, bytes, rows)
+}
+
+/// The references.
+#[derive(Drop)]
+struct ReferenceTable;
+
+impl Table for ReferenceTable {
+    type Row = ReferenceRow;
+
+    ghost rows = { references_in };
+
+    fn list_file<T: TakesRows<ReferenceRow>>(&self, file: &FileView<'_>, taker: &mut T) {
+        let mut references = References { taker, number: 0 };
+        file.visit(&mut references);
+    }
+}
+
+/// Hands over the row of each reference of the blocks that it takes.
+#[derive(Drop)]
+struct References<'t, T> {
+    taker: &'t mut T,
+    /// The number of the next entry, up to 2 ^ 64 - 1.
+    number: u64,
+}
+
+impl<T: TakesRows<ReferenceRow>> TakesBlocks for References<'_, T> {
+    ghost takes = { λ a blocks b. (b.taker.ghost_name ≡ a.taker.ghost_name)
+        × TakesNumbered T.takes a.taker.now a.number blocks b.taker.now b.number };
+
+    ghost none = { λ s. (refl, numbered_none T.takes T.none s.taker.now s.number) };
+
+    ghost more = { λ a b c xs ys first next. (
+      next.0 ∙ first.0,
+      numbered_more T.takes T.more a.taker.now b.taker.now c.taker.now a.number b.number c.number
+        xs ys first.1 next.1,
+    ) };
+
+    fn take(&mut self, _unit: u64, _hunk: u64, block: BlockView<'_>) {
+        if let BodyView::Ext(entries) = block.into_body() {
+            self.number = list_entries(self.taker, self.number, entries);
+        }
+    }
+}
+
+/// Hands over the row of each reference of a block whose first entry has this number, and gives the
+/// number of the next one.
+fn list_entries<T: TakesRows<ReferenceRow>>(
+    taker: &mut T,
+    first: u64,
+    mut entries: EntriesIter<'_>,
+) -> u64
+    requires { AllByRecursion IsExtEntry entries.value }
+    ensures taken { (n : ℕ) → first ≡ saturated n → T.takes taker.old
+        (entries_references n entries.entry.place entries.entry.value) taker.new }
+    ensures next { (n : ℕ) → first ≡ saturated n
+        → result ≡ saturated (n + length entries.entry.value) }
+{
+    let mut number = first;
+    'listing: while let Some(entry) = entries.next() {
+        list_references(taker, number, width(&entry), &entry.offsets, entries.place());
+        number = number.saturating_add(1);
+    }
+    number
+}
+
+/// How many bytes an offset of the entry stands for; 0 for a definition, which has no offsets.
+fn width(entry: &Entry<'_>) -> u32
+    ensures { result ≡ reference_width (entry_of entry.now) }
+{
+    match entry.kind() {
+        Some(kind) => kind.width().unwrap_or(0) as u32,
+        None => 0,
+    }
+}
+
+/// Hands over the row of each of these offsets, which end at this byte of the file.
+fn list_references<T: TakesRows<ReferenceRow>>(
+    taker: &mut T,
+    entry: u64,
+    width: u32,
+    offsets: &Longs<'_>,
+    end: u64,
+)
+    requires { 4 * length offsets.now ≤ end }
+    ensures { T.takes taker.old (item_rows (reference_row entry width) long_text
+        (end - 4 * length offsets.now) offsets.now) taker.new }
+{
+    let mut place = end - 4 * offsets.len() as u64;
+    'listing: for offset in offsets.iter() {
+        taker.take(ReferenceRow {
+            entry,
+            place,
+            offset,
+            width,
+        });
+        place += 4;
+    }
+}
