@@ -273,6 +273,18 @@ struct hunk_answer hunk_check(const uint8_t *bytes, size_t bytes_len, struct hun
  * `name` on, as many as `name_bytes` says: those before the first zero byte, of any values.
  */
 
+/* A unit of an object file: 32 bytes. */
+struct hunk_unit {
+    uint64_t place;
+    uint64_t name;
+    uint64_t name_bytes;
+    uint64_t hunks;         /* the hunks that it has */
+};
+
+/* A row for each unit. A load file has none. */
+struct hunk_answer hunk_units(const uint8_t *bytes, size_t bytes_len, struct hunk_unit *rows,
+                              size_t rows_len);
+
 /* A block of a hunk: 72 bytes. */
 struct hunk_block {
     uint64_t place;
@@ -337,6 +349,18 @@ struct hunk_entry {
 /* A row for each entry of each EXT block, which object files alone have. */
 struct hunk_answer hunk_entries(const uint8_t *bytes, size_t bytes_len, struct hunk_entry *rows,
                                 size_t rows_len);
+
+/* An offset that refers to what an EXT entry names: 24 bytes. */
+struct hunk_reference {
+    uint64_t entry;         /* the entry, by the number of its row from hunk_entries, from 0 */
+    uint64_t place;
+    uint32_t offset;        /* in bytes from the start of the hunk */
+    uint32_t width;         /* the bytes that refer: 1, 2 or 4 */
+};
+
+/* A row for each reference of each EXT entry. */
+struct hunk_answer hunk_references(const uint8_t *bytes, size_t bytes_len,
+                                   struct hunk_reference *rows, size_t rows_len);
 
 /* Writes the object file that the bytes are, or the load file that they begin with, to the text,
  * without its NAME, SYMBOL, DEBUG and ADVISORY blocks. Which of the two they are is as at

@@ -74,6 +74,16 @@ CHECK(entry_name_bytes, offsetof(struct hunk_entry, name_bytes) == 32);
 CHECK(entry_references, offsetof(struct hunk_entry, references) == 40);
 CHECK(entry_value, offsetof(struct hunk_entry, value) == 48);
 CHECK(entry_kind, offsetof(struct hunk_entry, kind) == 52);
+CHECK(reference_size, sizeof(struct hunk_reference) == 24);
+CHECK(reference_entry, offsetof(struct hunk_reference, entry) == 0);
+CHECK(reference_place, offsetof(struct hunk_reference, place) == 8);
+CHECK(reference_offset, offsetof(struct hunk_reference, offset) == 16);
+CHECK(reference_width, offsetof(struct hunk_reference, width) == 20);
+CHECK(unit_size, sizeof(struct hunk_unit) == 32);
+CHECK(unit_place, offsetof(struct hunk_unit, place) == 0);
+CHECK(unit_name, offsetof(struct hunk_unit, name) == 8);
+CHECK(unit_name_bytes, offsetof(struct hunk_unit, name_bytes) == 16);
+CHECK(unit_hunks, offsetof(struct hunk_unit, hunks) == 24);
 
 /* In the order of their numbers. */
 static const struct {

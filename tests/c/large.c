@@ -144,6 +144,13 @@ static void entries_listed(const char *name, uint64_t from)
             row = (struct hunk_entry){place, 0, 0, place + 4, 0, MANY, 0, 129};
         expect(memcmp(&entries[i], &row, sizeof row) == 0, name, "an entry");
     }
+    all.count = MANY;
+    struct hunk_reference *references = marked(&row_room, MANY * sizeof *references);
+    expect(same(hunk_references(file, len, references, MANY), all), name, "hunk_references");
+    for (uint64_t i = 0; i < MANY; i++) {
+        struct hunk_reference row = {MANY, from + 4 + 12 * MANY + 8 + 4 * i, 5, 4};
+        expect(memcmp(&references[i], &row, sizeof row) == 0, name, "a reference");
+    }
 }
 
 /* The same in two pieces as by a load. */
@@ -247,6 +254,20 @@ static void large_object_file(void)
     entries_listed("a large object file", entries);
 }
 
+/* hunk_units, of a first unit with so many hunks, and of others with none, from this byte on. */
+static void units_listed(const char *name, uint64_t hunks, uint64_t from)
+{
+    struct hunk_answer all = {HUNK_OK, 0, len, MANY};
+    struct hunk_unit *units = marked(&row_room, MANY * sizeof *units);
+    expect(same(hunk_units(file, len, units, MANY), all), name, "hunk_units");
+    for (uint64_t i = 0; i < MANY; i++) {
+        struct hunk_unit row = {0, 8, 0, hunks};
+        if (i > 0)
+            row = (struct hunk_unit){from + 8 * (i - 1), from + 8 * i, 0, 0};
+        expect(memcmp(&units[i], &row, sizeof row) == 0, name, "a unit");
+    }
+}
+
 static void many_units(void)
 {
     len = 0;
@@ -266,6 +287,7 @@ static void many_units(void)
     blocks_listed("many units", blocks, 8, units);
     lists_listed("many units", 0, lists, 0);
     entries_listed("many units", entries);
+    units_listed("many units", MANY, units);
 }
 
 /* A load file of 16 MiB that is one block of relocations but for 52 bytes. */

@@ -32,6 +32,8 @@ static struct hunk_block blocks[BLOCKS];
 static struct hunk_symbol symbol;
 static struct hunk_relocation relocation;
 static struct hunk_entry entry;
+static struct hunk_reference reference;
+static struct hunk_unit unit;
 static struct hunk_loader loader;
 static struct hunk_answer answer;
 
@@ -54,6 +56,8 @@ static void list(void) { answer = hunk_blocks(object, sizeof object, blocks, BLO
 static void symbols(void) { answer = hunk_symbols(object, sizeof object, &symbol, 1); }
 static void relocations(void) { answer = hunk_relocations(object, sizeof object, &relocation, 1); }
 static void entries(void) { answer = hunk_entries(object, sizeof object, &entry, 1); }
+static void references(void) { answer = hunk_references(object, sizeof object, &reference, 1); }
+static void units(void) { answer = hunk_units(object, sizeof object, &unit, 1); }
 static void strip(void) { answer = hunk_strip(object, sizeof object, text, sizeof text); }
 static void strip_load(void) { answer = hunk_strip(file, sizeof file, text, sizeof text); }
 static void reason(void) { answer = hunk_reason(HUNK_NOTHING_TO_RELOCATE, text, sizeof text); }
@@ -81,6 +85,8 @@ static const struct {
     {"hunk_symbols", symbols, ALL},
     {"hunk_relocations", relocations, ALL},
     {"hunk_entries", entries, ALL},
+    {"hunk_references", references, ALL},
+    {"hunk_units", units, ALL},
     {"hunk_strip", strip, ALL},
     {"hunk_strip of a load file", strip_load, ALL},
     {"hunk_reason", reason, ALL},

@@ -1,6 +1,5 @@
-/* What stands in files, item by item, in the words of `hunkinfo show`: tables FILE.., where the
- * line of an object file is without the number of its units, which no call tells. The lines are
- * made of the four tables, and each row is held against the bytes of the file that it names, block
+/* What stands in files, item by item, in the words of `hunkinfo show`: tables FILE.. The lines are
+ * made of the six tables, and each row is held against the bytes of the file that it names, block
  * by block. Status 1 where an answer, or what it leaves in the caller's memory, is not what hunk.h
  * says. */
 #include "guarded.h"
@@ -8,11 +7,11 @@
 #define MOST_ROWS 65536
 
 /* The tables, in the order of hunk.h. */
-enum { BLOCKS, SYMBOLS, RELOCATIONS, ENTRIES, TABLES };
+enum { UNITS, BLOCKS, SYMBOLS, RELOCATIONS, ENTRIES, REFERENCES, TABLES };
 
 static const size_t row_bytes[TABLES] = {
-    sizeof(struct hunk_block), sizeof(struct hunk_symbol), sizeof(struct hunk_relocation),
-    sizeof(struct hunk_entry)};
+    sizeof(struct hunk_unit),       sizeof(struct hunk_block), sizeof(struct hunk_symbol),
+    sizeof(struct hunk_relocation), sizeof(struct hunk_entry), sizeof(struct hunk_reference)};
 
 static struct guarded file_bytes = {1 << 20, NULL};
 static struct guarded row_room[TABLES];
@@ -30,6 +29,7 @@ struct listed {
     uint64_t next[TABLES]; /* the rows that were looked at */
     uint64_t units;        /* the units that have begun */
     uint64_t hunks;        /* the hunks that have begun, of the last unit */
+    uint64_t in_unit;      /* and those that it has, by its row */
 };
 
 /* ---- The calls. */
@@ -37,14 +37,18 @@ struct listed {
 static struct hunk_answer call(int table, const uint8_t *bytes, size_t len, void *rows, size_t room)
 {
     switch (table) {
+    case UNITS:
+        return hunk_units(bytes, len, rows, room);
     case BLOCKS:
         return hunk_blocks(bytes, len, rows, room);
     case SYMBOLS:
         return hunk_symbols(bytes, len, rows, room);
     case RELOCATIONS:
         return hunk_relocations(bytes, len, rows, room);
-    default:
+    case ENTRIES:
         return hunk_entries(bytes, len, rows, room);
+    default:
+        return hunk_references(bytes, len, rows, room);
     }
 }
 
@@ -193,17 +197,24 @@ static uint64_t print_relocations(struct listed *f, const struct hunk_block *b, 
     return at;
 }
 
-/* The references of an entry, from their number on. */
-static uint64_t print_references(const struct listed *f, uint64_t at)
+/* The references of the last entry, from their number on. */
+static uint64_t print_references(struct listed *f, const struct hunk_entry *e, uint64_t at)
 {
-    uint64_t end = at + 4 + 4 * (uint64_t)long_at(f, at);
-    for (at += 4; at < end && at < f->of.place; at += 4)
-        printf("      0x%08" PRIx32 "\n", long_at(f, at));
-    return end;
+    static const uint32_t widths[] = {4, 4, 2, 1, 4, 2, 1, 4, 4, 2, 1};
+    at += 4;
+    for (uint64_t i = 0; i < e->references; i++, at += 4) {
+        const struct hunk_reference *r = next_row(f, REFERENCES);
+        expect(r->entry == f->next[ENTRIES] - 1 && r->place == at, f->name,
+               "where a reference stands");
+        expect(r->offset == long_at(f, at) && r->width == widths[(e->kind - 129) % 11], f->name,
+               "a reference");
+        printf("      0x%08" PRIx32 "\n", r->offset);
+    }
+    return at;
 }
 
 /* An entry that goes on at this byte behind its name. */
-static uint64_t print_entry(const struct listed *f, const struct hunk_entry *e, uint64_t at)
+static uint64_t print_entry(struct listed *f, const struct hunk_entry *e, uint64_t at)
 {
     static const char *const definitions[] = {"SYMB", "DEF", "ABS"};
     static const char *const references[] = {
@@ -222,7 +233,7 @@ static uint64_t print_entry(const struct listed *f, const struct hunk_entry *e, 
     if (refers)
         printf("%" PRIu64 " ", e->references);
     print_text(f, e->name, e->name_bytes);
-    return refers ? print_references(f, at) : at;
+    return refers ? print_references(f, e, at) : at;
 }
 
 static uint64_t print_entries(struct listed *f, const struct hunk_block *b)
@@ -335,10 +346,15 @@ static void print_units(struct listed *f, uint64_t at, uint64_t end)
 {
     while (at < end && f->of.hunk == 0 && long_at(f, at) == 0x3E7) {
         uint64_t len = 4 * (uint64_t)long_at(f, at + 4);
+        const struct hunk_unit *u = next_row(f, UNITS);
+        expect(u->place == at && u->name == at + 8, f->name, "where a unit stands");
+        expect(u->name_bytes == text_len(f, u->name, len), f->name, "the name of a unit");
         printf("unit %" PRIu64 " ", f->units);
-        print_text(f, at + 8, text_len(f, at + 8, len));
+        print_text(f, u->name, u->name_bytes);
+        expect(f->hunks == f->in_unit, f->name, "the hunks of a unit");
         f->units++;
         f->hunks = 0;
+        f->in_unit = u->hunks;
         at += 8 + len;
     }
     expect(at == end, f->name, "the place of a block");
@@ -395,8 +411,9 @@ static void print_listing(struct listed *f)
 {
     if (f->of.hunk == 0) {
         expect(f->of.place == f->len, f->name, "bytes of an object file");
-        printf("object file\n");
+        printf("object file %" PRIu64 " units\n", f->counts[UNITS]);
         print_blocks(f, 0);
+        expect(f->hunks == f->in_unit, f->name, "the hunks of the last unit");
         return;
     }
     struct hunk_answer table = hunk_table(f->bytes, f->len, UINT64_MAX, load_rows, MOST_ROWS);

@@ -81,7 +81,7 @@ impl<T: TakesRows<ReferenceRow>> TakesBlocks for References<'_, T> {
     ghost more = { λ a b c xs ys first next. (
       next.0 ∙ first.0,
       numbered_more T.takes T.more a.taker.now b.taker.now c.taker.now a.number b.number c.number
-        xs ys first.1 next.1,
+          xs ys first.1 next.1,
     ) };
 
     fn take(&mut self, _unit: u64, _hunk: u64, block: BlockView<'_>) {
@@ -106,7 +106,13 @@ fn list_entries<T: TakesRows<ReferenceRow>>(
 {
     let mut number = first;
     'listing: while let Some(entry) = entries.next() {
-        list_references(taker, number, width(&entry), &entry.offsets, entries.place());
+        list_references(
+            taker,
+            number,
+            width(&entry),
+            &entry.offsets,
+            entries.place(),
+        );
         number = number.saturating_add(1);
     }
     number
