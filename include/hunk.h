@@ -1,5 +1,5 @@
 /* Hunk files of AmigaDOS: tables of load files, loading them, whole or piece by piece, checking and
- * stripping load files and object files, the names of refusals.
+ * stripping load files and object files, what stands in them item by item, the names of refusals.
  *
  * Whatever the bytes are, each call gives one of the answers listed with it; what of this is proved
  * is in docs/PROVED.md of the source tree. A call reads and writes only what its arguments point
@@ -8,9 +8,9 @@
  * stack, each other call less than 1 KiB.
  *
  * What the caller has to make sure of:
- * - Each pointer points to as many elements as its length says, aligned for their type. A pointer
- *   is not NULL, also where the length is 0; any aligned address will do there.
- * - The memory that is written overlaps no other argument.
+ * - Each pointer points to as many elements as its length says, aligned for their type. Where the
+ *   length is 0 it may be NULL. Misaligned pointers are forbidden.
+ * - The memory that is written overlaps no other argument: overlaps are forbidden.
  */
 #ifndef HUNK_H
 #define HUNK_H

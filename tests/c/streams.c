@@ -136,6 +136,10 @@ static void streamed(const struct streamed *f, size_t most)
                                           room);
     struct hunk_answer all = {HUNK_OK, f->table.hunk, f->table.place, room};
     expect(same(begun, all), f->name, "the begin of a stream");
+    struct hunk_answer nothing =
+        hunk_feed(loader, f->places, f->table.hunk, memory, room, NULL, 0);
+    struct hunk_answer header = {HUNK_OK, 0, f->table.place, 0};
+    expect(same(nothing, header), f->name, "a piece of nothing");
     for (size_t i = 0; i < room; i++)
         expect(memory[i] == 0, f->name, "zero bytes at the begin");
     while (at < f->len) {

@@ -99,6 +99,12 @@ static void call_without_bytes(void)
     expect(same(hunk_table(NULL, 0, 0, NULL, 0), none), "no bytes", "the table of a header");
     expect(same(hunk_load(NULL, 0, NULL, 0, NULL, 0), none), "no bytes", "a load");
     expect(same(hunk_load_packed(NULL, 0, 0, NULL, 0), none), "no bytes", "a packed load");
+    static const struct hunk_answer name = {HUNK_NO_ROOM, 0, 0, sizeof "Truncated" - 1};
+    expect(same(hunk_reason(HUNK_TRUNCATED, NULL, 0), name), "no text", "the name of a reason");
+    static const struct hunk_answer strange = {HUNK_STRANGE, 0, 0, 0};
+    struct hunk_loader loader;
+    expect(same(hunk_begin(&loader, NULL, 0, 24, NULL, 0), strange), "no places", "a loader");
+    expect(same(hunk_feed(&loader, NULL, 0, NULL, 0, NULL, 0), strange), "no piece", "a loader");
 }
 
 /* ---- The parts of a file. */
