@@ -28,7 +28,10 @@ fn whole_files(rt: HostRuntime) -> Result<(), Fail> {
     assert_equal(&rt, follow(&bytes, 1), Ok(Position::Done));
     for n in 0..bytes.len() {
         let position = follow(&bytes[..n], 1);
-        assert!(rt; matches!(position, Ok(p) if p != Position::Done), "{n} bytes");
+        assert!(rt;
+            matches!(position, Ok(p) if p != Position::Done),
+            "{n} bytes"
+        );
     }
     Ok(())
 }
