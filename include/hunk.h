@@ -291,8 +291,8 @@ struct hunk_block {
     uint64_t bytes;         /* the bytes of the block in the file */
     uint64_t unit;
     uint64_t hunk;
-    uint64_t content;       /* the byte of the file at which its content, its name or its data begins */
-    uint64_t content_bytes; /* and how many, a name's with its padding; both 0 where there are none */
+    uint64_t content;       /* the byte at which its content, its name or its data begins */
+    uint64_t content_bytes; /* and how many, a name's with padding; both 0 where there are none */
     uint64_t memory;        /* the bytes of a CODE, DATA or BSS block in memory, else 0 */
     uint64_t items;         /* offsets, symbols or entries: the rows that it has below, else 0 */
     uint32_t kind;          /* the type, bits 0 to 28 of its word: 0x3E9 is CODE */
