@@ -1,6 +1,6 @@
 -- Block values, and which of them are blocks.
 use Rattle.std.specs.Prelude.{◌≡◌, ◌≢◌, ℕ, ◌*◌, ◌^◌, ◌<◌, Bool, true, false, List, [], length, ⊤, IsTrue, IsFalse, Option, Some, None}
-use Rattle.std.specs.List.{AllByRecursion}
+use Rattle.std.specs.List.{AllByRecursion, sum_by}
 use Rattle.hunk_words.specs.Limits.{name_limit, content_limit}
 use Rattle.hunk_words.specs.declared.block_word.Kind.{Kind}
 use Rattle.hunk_words.specs.declared.block_word.Kind.TheVariants as kinds
@@ -16,6 +16,10 @@ use Rattle.hunk_blocks.specs.ExtKinds.{ext_shape}
 pub record RelocGroup : Type 0 where
   pub target : ℕ
   pub offsets : List ℕ
+
+-- how many offsets groups have together
+abbrev pub offset_count : List RelocGroup → ℕ
+offset_count groups = sum_by (λ group. length group.offsets) groups
 
 -- the word has the type in its top byte and the number of name longwords below
 pub record ExtEntry : Type 0 where

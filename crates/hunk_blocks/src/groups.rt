@@ -3,13 +3,14 @@ ghost use Rattle.std.specs.Prelude.{◌≡◌, IfErr, IfOk, map};
 ghost use Rattle.std.specs.Iterator.{item_count};
 ghost use Rattle.std.specs.List.{AllByRecursion};
 ghost use Rattle.hunk_words.specs.declared.reason.Reason.TheVariants as reasons;
+ghost use Rattle.hunk_words.specs.Carriers.{saturated};
 ghost use Rattle.hunk_words.specs.Longs.{bytes_of};
 ghost use Rattle.hunk_words.specs.Prints.{Prints};
 ghost use Rattle.hunk_blocks.specs.Cuts.{group_cut, list_cut};
 ghost use Rattle.hunk_blocks.specs.Parts.{group_text, list_text};
 ghost use Rattle.hunk_blocks.specs.Placed.{EndsItemAt, GivesFirst};
 ghost use Rattle.hunk_blocks.specs.Reading.{BeginsWithList, BeginsWithSome, ReadsValue};
-ghost use Rattle.hunk_blocks.specs.Values.{IsGroup};
+ghost use Rattle.hunk_blocks.specs.Values.{IsGroup, offset_count};
 ghost use Rattle.hunk_blocks.specs.Views.{group_of};
 
 use crate::growing::append;
@@ -84,6 +85,17 @@ impl<'a> GroupsIter<'a> {
         ensures { result ≡ self.now.place }
     {
         self.reader.at as u64
+    }
+
+    /// How many offsets the groups have together, at most 2^64 - 1.
+    pub fn offset_count(&self) -> u64
+        ensures { result ≡ saturated (offset_count self.now.value) }
+    {
+        let mut count = 0u64;
+        'groups: for group in self.again() {
+            count = count.saturating_add(group.offsets.len() as u64);
+        }
+        count
     }
 
     /// The same groups again.

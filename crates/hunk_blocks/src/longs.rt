@@ -50,7 +50,9 @@ impl<'a> Longs<'a> {
     pub fn iter(&self) -> LongsIter<'a>
         ensures { result ≡ self.now }
     {
-        self.into_iter()
+        LongsIter {
+            rest: self.payload.bytes,
+        }
     }
 
     /// The longword number `i`, counted from 0.
@@ -110,8 +112,6 @@ impl<'a, 'b> IntoIterator for &'b Longs<'a> {
     ghost into_iter_gives = { λ longs it. it ≡ longs.now };
 
     fn into_iter(self) -> Self::IntoIter {
-        LongsIter {
-            rest: self.payload.bytes,
-        }
+        self.iter()
     }
 }

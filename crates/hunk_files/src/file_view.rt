@@ -13,9 +13,8 @@ use crate::hunk_file::HunkFile;
 use crate::load::LoadView;
 use crate::object::ObjectView;
 use crate::ranges::TakesBytes;
-use crate::sniffing::sniff;
 use hunk_grammar::Sniff;
-use hunk_words::FileFault;
+use hunk_words::{FileFault, HEADER_WORD, LIBRARY_WORD, UNIT_WORD, word_at};
 use std::alloc::Global;
 
 /// A file of either kind, as `read` finds it in the input, whose parts are read as they are asked
@@ -100,5 +99,22 @@ impl<'a> FileView<'a> {
                 Ok(HunkFile::Object(file))
             }
         }
+    }
+}
+
+/// The kind of file that the bytes look like, by the first longword alone.
+///
+/// Source: the block numbers of `dos/doshunks.h`.
+pub fn sniff(bytes: &[u8]) -> Sniff
+    ensures { result ≡ sniffed (longs bytes.now) }
+{
+    if bytes.len() < 4 {
+        return Sniff::Other;
+    }
+    match word_at(bytes, 0) {
+        HEADER_WORD => Sniff::Load,
+        UNIT_WORD => Sniff::Object,
+        LIBRARY_WORD => Sniff::Library,
+        _ => Sniff::Other,
     }
 }

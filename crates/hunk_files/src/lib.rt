@@ -12,12 +12,11 @@ mod order;
 mod place;
 mod ranges;
 mod row;
-mod sniffing;
 mod visiting;
 
 pub use crate::bases::Bases;
 pub use crate::blocks::BlockViews;
-pub use crate::file_view::FileView;
+pub use crate::file_view::{FileView, sniff};
 pub use crate::hunk_file::HunkFile;
 pub use crate::load::{ImageFault, LoadFile, LoadHunkView, LoadHunkViews, LoadView, TableIter};
 pub use crate::object::{
@@ -26,6 +25,5 @@ pub use crate::object::{
 };
 pub use crate::ranges::TakesBytes;
 pub use crate::row::Row;
-pub use crate::sniffing::sniff;
 pub use crate::visiting::TakesBlocks;
 pub use hunk_grammar::Sniff;

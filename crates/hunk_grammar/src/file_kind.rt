@@ -1,8 +1,4 @@
 //! The kinds of files.
-ghost use Rattle.std.specs.Prelude.{◌≡◌};
-ghost use Rattle.hunk_grammar.specs.FileKind.{announced};
-
-use hunk_words::{HEADER_WORD, LIBRARY_WORD, UNIT_WORD};
 
 /// The kind of file that a first longword announces.
 ///
@@ -17,18 +13,4 @@ pub enum Sniff {
     Library,
     /// Anything else, also fewer than four bytes.
     Other,
-}
-
-impl Sniff {
-    /// The kind of file that begins with this longword.
-    pub fn of(first: u32) -> Sniff
-        ensures { result ≡ announced first }
-    {
-        match first {
-            HEADER_WORD => Sniff::Load,
-            UNIT_WORD => Sniff::Object,
-            LIBRARY_WORD => Sniff::Library,
-            _ => Sniff::Other,
-        }
-    }
 }

@@ -74,29 +74,36 @@ impl Position {
     pub fn step(self, word: u32) -> Position
         ensures { result ≡ step self word }
     {
-        match self {
-            Position::FirstLong => Position::ResidentName,
-            Position::ResidentName => Position::TableSize,
-            Position::TableSize => Position::FirstHunk { hunks: word },
-            Position::FirstHunk { hunks } => Position::LastHunk { hunks },
-            Position::LastHunk { hunks } => owe_entries(hunks, hunks),
-            Position::SizeWord { hunks, owed } => {
-                if SizeWord::has_extra(word) {
-                    Position::Attributes { hunks, word, owed }
-                } else {
-                    owe_entries(hunks, owed)
-                }
+        let (hunks, owed) = match self {
+            Position::FirstLong => return Position::ResidentName,
+            Position::ResidentName => return Position::TableSize,
+            Position::TableSize => return Position::FirstHunk { hunks: word },
+            Position::FirstHunk { hunks } => return Position::LastHunk { hunks },
+            Position::SizeWord { hunks, owed } if SizeWord::has_extra(word) => {
+                return Position::Attributes { hunks, word, owed };
             }
-            Position::Attributes {
+            Position::Body(hunk, phase) => {
+                return match phase.step(word) {
+                    Some(next) => Position::Body(hunk, next),
+                    None => behind(hunk, phase),
+                };
+            }
+            Position::Done => return Position::Done,
+            Position::LastHunk { hunks } => (hunks, hunks),
+            Position::SizeWord { hunks, owed }
+            | Position::Attributes {
                 hunks,
                 word: _,
                 owed,
-            } => owe_entries(hunks, owed),
-            Position::Body(hunk, phase) => match phase.step(word) {
-                Some(next) => Position::Body(hunk, next),
-                None => behind(hunk, phase),
-            },
-            Position::Done => Position::Done,
+            } => (hunks, owed),
+        };
+        // In the table, where so many entries are still to come.
+        if owed == 0 {
+            return open_next(hunks, hunks);
+        }
+        Position::SizeWord {
+            hunks,
+            owed: owed - 1,
         }
     }
 
@@ -172,21 +179,6 @@ impl Position {
                 }
             }
             Position::Done => 0,
-        }
-    }
-}
-
-/// Where `owed` entries of the table are still to come.
-#[inline(always)]
-fn owe_entries(hunks: u32, owed: u32) -> Position
-    ensures { result ≡ positions.owe_entries hunks owed }
-{
-    if owed == 0 {
-        open_next(hunks, hunks)
-    } else {
-        Position::SizeWord {
-            hunks,
-            owed: owed - 1,
         }
     }
 }

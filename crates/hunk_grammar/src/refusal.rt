@@ -4,10 +4,11 @@ ghost use Rattle.hunk_grammar.specs.Roles.{refuse};
 ghost use Rattle.hunk_grammar.specs.Positions.{role_at};
 ghost use Rattle.hunk_grammar.specs.Standings.{refuse_standing, standing_of_kind};
 
-use crate::file_kind::Sniff;
 use crate::position::Position;
 use hunk_blocks::{Mode, Phase};
-use hunk_words::{BlockWord, Kind, MOST_HUNKS, NAME_LIMIT, Reason, SizeWord};
+use hunk_words::{
+    BlockWord, HEADER_WORD, Kind, LIBRARY_WORD, MOST_HUNKS, NAME_LIMIT, Reason, SizeWord, UNIT_WORD,
+};
 
 impl Position {
     /// Why the longword is rejected, where it is. `longs` is the number of longwords that the open
@@ -22,11 +23,11 @@ impl Position {
         ensures { result ≡ refuse (role_at longs self) word }
     {
         match self {
-            Position::FirstLong => match Sniff::of(word) {
-                Sniff::Load => None,
-                Sniff::Object => Some(Reason::IsObject),
-                Sniff::Library => Some(Reason::Library),
-                Sniff::Other => Some(Reason::NotLoadFile),
+            Position::FirstLong => match word {
+                HEADER_WORD => None,
+                UNIT_WORD => Some(Reason::IsObject),
+                LIBRARY_WORD => Some(Reason::Library),
+                _ => Some(Reason::NotLoadFile),
             },
             Position::ResidentName => (word != 0).then_some(Reason::Resident),
             Position::TableSize if word == 0 => Some(Reason::NoHunks),

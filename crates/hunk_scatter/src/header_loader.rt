@@ -78,7 +78,7 @@ impl HeaderLoader {
                 total: 0,
             },
             budget,
-            pending: Pending::none(),
+            pending: Pending::NONE,
             count: 0,
             refused: None,
             history: History::new(),

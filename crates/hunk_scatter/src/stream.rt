@@ -71,7 +71,7 @@ impl Standing {
                 position: open_next(hunks, hunks),
             },
             fed,
-            pending: Pending::none(),
+            pending: Pending::NONE,
         }
     }
 

@@ -30,7 +30,7 @@ impl Assembler {
         ensures { result ≡ [] }
     {
         Assembler {
-            pending: Pending::none(),
+            pending: Pending::NONE,
         }
     }
 

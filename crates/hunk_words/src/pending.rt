@@ -20,16 +20,12 @@ pub struct Pending {
 
 impl Pending {
     /// No byte of the next longword.
-    pub fn none() -> Pending
-        ensures { pending_of result ≡ [] }
-    {
-        Pending {
-            count: 0,
-            first: 0,
-            second: 0,
-            third: 0,
-        }
-    }
+    pub const NONE: Pending = Pending {
+        count: 0,
+        first: 0,
+        second: 0,
+        third: 0,
+    };
 
     /// Takes a byte, and gives what is pending then, and the longword that it completes.
     #[tactic(auto, unfolding(crate::specs::Longs::bytes_of))]
@@ -44,7 +40,7 @@ impl Pending {
             2 => self.third = byte,
             _ => {
                 let word = u32::from_be_bytes([self.first, self.second, self.third, byte]);
-                return (Pending::none(), Some(word));
+                return (Pending::NONE, Some(word));
             }
         }
         self.count += 1;

@@ -85,10 +85,10 @@ impl<'a, W: Sink, const ROOM: usize> PagePrinter<'a, W, ROOM> {
         ensures prints { Prints self.old self.new bytes.now }
         ensures kept { length self.new.text ≤ ROOM → self.new.out ≡ self.old.out }
     {
-        self.history = self.history.and(bytes);
         if !self.held.append(bytes) {
             send_on(self.out, &mut self.held, bytes);
         }
+        self.history = self.history.and(bytes);
     }
 
     /// Prints the longword, high byte first, as `print`.

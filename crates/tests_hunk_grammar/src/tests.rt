@@ -3,7 +3,7 @@
 mod asserts;
 
 use crate::tests::asserts::assert_equal;
-use hunk_grammar::{Phase, Position, Sniff, refuse_place};
+use hunk_grammar::{Phase, Position, refuse_place};
 use hunk_words::{Kind, Reason, word_at};
 use std::test::Fail;
 use test_helpers::{changed_in, examples, spelled};
@@ -92,10 +92,6 @@ fn runs(rt: HostRuntime) -> Result<(), Fail> {
 
 #[test]
 fn kinds(rt: HostRuntime) -> Result<(), Fail> {
-    assert_equal(&rt, Sniff::of(0x3F3), Sniff::Load);
-    assert_equal(&rt, Sniff::of(0x3E7), Sniff::Object);
-    assert_equal(&rt, Sniff::of(0x3FA), Sniff::Library);
-    assert_equal(&rt, Sniff::of(0x2000_03E7), Sniff::Other);
     assert_equal(
         &rt,
         refuse_place(Kind::Data, true),
