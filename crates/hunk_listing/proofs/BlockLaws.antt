@@ -1,19 +1,14 @@
 -- The numbers that the lines of a block have.
-use Rattle.std.proofs.Common.{◌≡◌, ℕ, ◌+◌, ◌^◌, ◌<◌, ◌≤◌, List, [], ◌∷◌, ◌++◌, length, refl, sym, ap, ◌∙◌, arith, length-append}
+use Rattle.std.proofs.Common.{◌≡◌, ℕ, ◌^◌, ◌<◌, ◌≤◌, List, [], ◌∷◌, ◌++◌, length, refl, sym, ap, ◌∙◌, arith, length-append}
 use Rattle.std.specs.List.{flat_map}
 use Rattle.std.proofs.lemmas.List.{length-map}
 use Rattle.std.proofs.lemmas.List.Sums.{sum_by-cons}
 use Rattle.hunk_words.specs.Longs.{bytes_of}
 use Rattle.hunk_words.proofs.LongLaws.{length-bytes_of}
 use Rattle.hunk_blocks.specs.Parts.{Part, Offset, block_text, body_parts, body_text, ext_parts, group_parts, symbol_parts}
-use Rattle.hunk_blocks.specs.Values.{RelocGroup, ExtEntry, SymbolEntry, BlockBody, Reloc, Ext, Symbol, BlockValue}
-use Rattle.hunk_listing.specs.BlockLines.{offset_count}
+use Rattle.hunk_blocks.specs.Values.{RelocGroup, ExtEntry, SymbolEntry, BlockBody, Reloc, Ext, Symbol, BlockValue, offset_count}
 
 -- ---- the offsets of groups
-
--- those of the first, and of the others
-pub counted_first : (groups more : List RelocGroup) (group : RelocGroup) → groups ≡ group ∷ more → offset_count groups ≡ length group.offsets + offset_count more
-counted_first groups more group first = ap offset_count first ∙ sum_by-cons (λ g. length g.offsets) group more
 
 -- each is a longword of the text
 offsets_within : (groups : List RelocGroup) → offset_count groups ≤ length (flat_map group_parts groups)

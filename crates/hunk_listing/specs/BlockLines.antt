@@ -1,12 +1,12 @@
 -- The lines of a block, one equation a form of line.
 use Rattle.std.specs.Prelude.{ℕ, ◌*◌, ◌%◌, ◌^◌, List, [], ◌++◌, length, codes, decimal, Option, Some, None}
-use Rattle.std.specs.List.{flat_map, sum_by}
+use Rattle.std.specs.List.{flat_map}
 use Rattle.hunk_words.specs.Bits.{kind, size_longs}
 use Rattle.hunk_blocks.specs.declared.ext_kind.ExtKind.{ExtKind}
 use Rattle.hunk_blocks.specs.declared.ext_shape.ExtShape.{ExtShape}
 use Rattle.hunk_blocks.specs.declared.ext_shape.ExtShape.TheVariants.{Definition, Common, References}
 use Rattle.hunk_blocks.specs.ExtKinds.{ext_kind, ext_name, shape_of_kind}
-use Rattle.hunk_blocks.specs.Values.{RelocGroup, ExtEntry, SymbolEntry, BlockBody, Name, Code, Data, Bss, Reloc, Ext, Symbol, Debug, Advisory, End, BlockValue, ext_type}
+use Rattle.hunk_blocks.specs.Values.{RelocGroup, ExtEntry, SymbolEntry, BlockBody, Name, Code, Data, Bss, Reloc, Ext, Symbol, Debug, Advisory, End, BlockValue, ext_type, offset_count}
 use Rattle.hunk_listing.specs.Printed.{hexadecimal, name_text}
 use Rattle.hunk_listing.specs.BlockNames.{block_flags, kind_name, memory_flags}
 
@@ -82,10 +82,6 @@ kind_lines (Some kind) entry = entry_line kind entry ++ flat_map offset_line ent
 
 abbrev pub entry_lines : ExtEntry → List ℕ
 entry_lines entry = kind_lines (ext_kind (ext_type entry)) entry
-
--- the number of offsets in all groups
-abbrev pub offset_count : List RelocGroup → ℕ
-offset_count groups = sum_by (λ group. length group.offsets) groups
 
 abbrev pub body_lines : ℕ → BlockBody → List ℕ
 body_lines word (Name words) = name_line word words

@@ -4,11 +4,11 @@ ghost use Rattle.std.specs.Prelude.{codes, decimal};
 ghost use Rattle.std.specs.List.{flat_map};
 ghost use Rattle.hunk_words.specs.Prints.{Prints};
 ghost use Rattle.hunk_words.specs.Longs.{longs};
-ghost use Rattle.hunk_blocks.specs.Values.{Ext, Reloc, Symbol};
+ghost use Rattle.hunk_blocks.specs.Values.{Ext, Reloc, Symbol, offset_count};
 ghost use Rattle.hunk_blocks.specs.Views.{group_of, symbol_of};
 ghost use Rattle.hunk_files.specs.Hunks.{block_texts};
 ghost use Rattle.hunk_listing.specs.BlockLines.{advisory_line, block_lines, body_lines, group_lines};
-ghost use Rattle.hunk_listing.specs.BlockLines.{head, name_line, offset_count, symbol_line};
+ghost use Rattle.hunk_listing.specs.BlockLines.{head, name_line, symbol_line};
 ghost use Rattle.hunk_listing.specs.BlockNames.{memory_flags};
 
 use crate::entry::print_entry;
@@ -16,29 +16,32 @@ use crate::line::{LINE, Line};
 use crate::text::print_named;
 use hunk_blocks::{BodyView, EntriesIter, Group, GroupsIter, Payload, SymbolView, SymbolsIter};
 use hunk_files::BlockViews;
-use hunk_words::{BlockWord, Printer, Sink};
+use hunk_words::{BlockWord, Printer, Sink, SizeWord};
 
-/// Prints the lines of the blocks of a hunk, and answers the byte behind them.
+/// Prints the lines of the blocks of a hunk, which leaves none of them to come.
 #[tactic(auto, unfolding(crate::specs::BlockLines::end_line))]
-pub(crate) fn print_blocks<W: Sink>(page: &mut Printer<'_, W>, mut blocks: BlockViews<'_>) -> u64
-    ensures prints { Prints page.old page.new (flat_map block_lines blocks.entry.value) }
-    ensures end { result
-        ≡ blocks.entry.place + 4 * length (block_texts blocks.entry.value) }
+pub(crate) fn print_blocks<W: Sink>(page: &mut Printer<'_, W>, blocks: &mut BlockViews<'_>)
+    ensures prints { Prints page.old page.new (flat_map block_lines blocks.old.value) }
+    ensures end { blocks.new.place
+        ≡ blocks.old.place + 4 * length (block_texts blocks.old.value) }
 {
     'lines: while let Some(block) = blocks.next() {
         let word = block.word();
         // The text has a longword for each offset, so their number fits.
         let _size = block.encoded_len();
-        let body = block.into_body();
-        match body {
+        match block.into_body() {
             BodyView::Name(name) => print_name_line(page, word, &name),
             BodyView::Code { payload, .. }
             | BodyView::Data { payload, .. }
             | BodyView::Debug(payload) => {
                 print_number(page, word, payload.byte_count(), b" bytes\n");
             }
-            BodyView::Bss { .. } => {
-                print_number(page, word, body.content_bytes().unwrap_or(0), b" bytes\n");
+            BodyView::Bss { size } => {
+                let size = SizeWord {
+                    word: size,
+                    extra: 0,
+                };
+                print_number(page, word, size.bytes(), b" bytes\n");
             }
             BodyView::Reloc(groups) => print_relocations(page, word, groups),
             BodyView::Ext(entries) => print_entries(page, word, entries),
@@ -51,7 +54,6 @@ pub(crate) fn print_blocks<W: Sink>(page: &mut Printer<'_, W>, mut blocks: Block
             BodyView::Advisory(payload) => print_advisory(page, word, &payload),
         }
     }
-    blocks.place()
 }
 
 /// Begins the line of a block: its name as `dos/doshunks.h` has it, and ` advisory`, ` chip` and
@@ -142,22 +144,10 @@ fn print_relocations<W: Sink>(page: &mut Printer<'_, W>, word: BlockWord, groups
     requires { offset_count groups.value < 2 ^ 64 }
     ensures { Prints page.old page.new (body_lines word (Reloc groups.entry.value)) }
 {
-    print_number(page, word, offset_count(groups.again()), b"\n");
+    print_number(page, word, groups.offset_count(), b"\n");
     'groups: for group in groups {
         print_group(page, &group);
     }
-}
-
-/// The number of offsets in all groups.
-fn offset_count(groups: GroupsIter<'_>) -> u64
-    requires { offset_count groups.value < 2 ^ 64 }
-    ensures { result ≡ offset_count groups.entry.value }
-{
-    let mut count = 0;
-    'groups: for group in groups {
-        count += group.offsets.len() as u64;
-    }
-    count
 }
 
 #[tactic(auto, unfolding(crate::specs::BlockLines::relocation_line))]

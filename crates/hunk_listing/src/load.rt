@@ -41,7 +41,7 @@ pub(crate) fn print_load_head<W: Sink>(page: &mut Printer<'_, W>, file: &LoadVie
 fn print_hunk<W: Sink>(page: &mut Printer<'_, W>, number: u64, hunk: &LoadHunkView<'_>)
     ensures { Prints page.old page.new (hunk_lines number hunk.now.value) }
 {
-    let size = hunk.size();
+    let (size, mut blocks) = (hunk.size(), hunk.blocks());
     let (bytes, memory) = (size.bytes(), size.memory());
     let mut line = Line::new();
     line.put(b"hunk ");
@@ -60,7 +60,7 @@ fn print_hunk<W: Sink>(page: &mut Printer<'_, W>, number: u64, hunk: &LoadHunkVi
     }
     line.put(b"\n");
     line.print(page);
-    let _end = print_blocks(page, hunk.blocks());
+    print_blocks(page, &mut blocks);
 }
 
 /// Prints the line that says how many bytes follow the file, where some do.

@@ -98,7 +98,9 @@ fn print_hunk<W: Sink>(page: &mut Printer<'_, W>, number: u64, hunk: &HunkView<'
     ensures end { result ≡ hunk.now.place + 4 * length (block_texts hunk.now.value) }
 {
     print_hunk_line(page, number, hunk.content_bytes());
-    print_blocks(page, hunk.blocks())
+    let mut blocks = hunk.blocks();
+    print_blocks(page, &mut blocks);
+    blocks.place()
 }
 
 #[tactic(auto, unfolding(crate::specs::FileLines::object_hunk_line))]
