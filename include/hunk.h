@@ -271,21 +271,23 @@ struct hunk_answer hunk_check(const uint8_t *bytes, size_t bytes_len, struct hun
  * In all rows `place` is the byte of the file at which the item begins. Units are counted from 0,
  * and hunks from 0 in their unit; a load file is one unit. A name is the bytes of the file from
  * `name` on, as many as `name_bytes` says: those before the first zero byte, of any values.
+ * `reserved` is room for what later versions may tell.
  */
 
-/* A unit of an object file: 32 bytes. */
+/* A unit of an object file: 40 bytes. */
 struct hunk_unit {
     uint64_t place;
     uint64_t name;
     uint64_t name_bytes;
     uint64_t hunks;         /* the hunks that it has */
+    uint64_t reserved;      /* 0 */
 };
 
 /* A row for each unit. A load file has none. */
 struct hunk_answer hunk_units(const uint8_t *bytes, size_t bytes_len, struct hunk_unit *rows,
                               size_t rows_len);
 
-/* A block of a hunk: 72 bytes. */
+/* A block of a hunk: 80 bytes. */
 struct hunk_block {
     uint64_t place;
     uint64_t bytes;         /* the bytes of the block in the file */
@@ -297,6 +299,7 @@ struct hunk_block {
     uint64_t items;         /* offsets, symbols or entries: the rows that it has below, else 0 */
     uint32_t kind;          /* the type, bits 0 to 28 of its word: 0x3E9 is CODE */
     uint32_t flags;         /* bits 29 to 31: 1 advisory, 2 chip memory, 4 fast memory */
+    uint64_t reserved;      /* 0 */
 };
 
 /* A row for each block of each hunk, its END too. The header of a load file and those of units are
@@ -319,7 +322,7 @@ struct hunk_symbol {
 struct hunk_answer hunk_symbols(const uint8_t *bytes, size_t bytes_len, struct hunk_symbol *rows,
                                 size_t rows_len);
 
-/* An offset that is relocated: 40 bytes. */
+/* An offset that is relocated: 48 bytes. */
 struct hunk_relocation {
     uint64_t place;
     uint64_t unit;
@@ -328,13 +331,14 @@ struct hunk_relocation {
     uint32_t width;         /* the bytes that are relocated: 1, 2 or 4 */
     uint32_t target;        /* a hunk, counted from 0 in the unit; in an object file any number */
     uint32_t offset;        /* in bytes from the start of the hunk */
+    uint64_t reserved;      /* 0 */
 };
 
 /* A row for each offset of each relocation block. */
 struct hunk_answer hunk_relocations(const uint8_t *bytes, size_t bytes_len,
                                     struct hunk_relocation *rows, size_t rows_len);
 
-/* An entry of an EXT block, a definition or references: 56 bytes. */
+/* An entry of an EXT block, a definition or references: 64 bytes. */
 struct hunk_entry {
     uint64_t place;
     uint64_t unit;
@@ -344,18 +348,20 @@ struct hunk_entry {
     uint64_t references;    /* how many offsets refer to it in the hunk; 0 in a definition */
     uint32_t value;         /* of a definition; the bytes of a common block; else 0 */
     uint32_t kind;          /* 0 SYMB, 1 DEF, 2 ABS; 129 REF32 and the others refer */
+    uint64_t reserved;      /* 0 */
 };
 
 /* A row for each entry of each EXT block, which object files alone have. */
 struct hunk_answer hunk_entries(const uint8_t *bytes, size_t bytes_len, struct hunk_entry *rows,
                                 size_t rows_len);
 
-/* An offset that refers to what an EXT entry names: 24 bytes. */
+/* An offset that refers to what an EXT entry names: 32 bytes. */
 struct hunk_reference {
     uint64_t entry;         /* the entry, by the number of its row from hunk_entries, from 0 */
     uint64_t place;
     uint32_t offset;        /* in bytes from the start of the hunk */
     uint32_t width;         /* the bytes that refer: 1, 2 or 4 */
+    uint64_t reserved;      /* 0 */
 };
 
 /* A row for each reference of each EXT entry. */

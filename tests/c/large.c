@@ -118,7 +118,7 @@ static void lists_listed(const char *name, uint32_t hunks, uint64_t from, size_t
     offsets += before;
     for (uint64_t i = 0; i < 2 * MANY; i++) {
         uint64_t place = i < MANY ? groups + 12 * i + 8 : group + 4 * (i - MANY);
-        struct hunk_relocation row = {place, 0, 0, 0x3EC, 4, 0, 0};
+        struct hunk_relocation row = {place, 0, 0, 0x3EC, 4, 0, 0, 0};
         expect(memcmp(&offsets[i], &row, sizeof row) == 0, name, "a relocation");
     }
     all.count = MANY;
@@ -139,16 +139,16 @@ static void entries_listed(const char *name, uint64_t from)
     expect(same(hunk_entries(file, len, entries, all.count), all), name, "hunk_entries");
     for (uint64_t i = 0; i <= MANY; i++) {
         uint64_t place = from + 4 + 12 * i;
-        struct hunk_entry row = {place, 0, 0, place + 4, 1, 0, 7, 1};
+        struct hunk_entry row = {place, 0, 0, place + 4, 1, 0, 7, 1, 0};
         if (i == MANY)
-            row = (struct hunk_entry){place, 0, 0, place + 4, 0, MANY, 0, 129};
+            row = (struct hunk_entry){place, 0, 0, place + 4, 0, MANY, 0, 129, 0};
         expect(memcmp(&entries[i], &row, sizeof row) == 0, name, "an entry");
     }
     all.count = MANY;
     struct hunk_reference *references = marked(&row_room, MANY * sizeof *references);
     expect(same(hunk_references(file, len, references, MANY), all), name, "hunk_references");
     for (uint64_t i = 0; i < MANY; i++) {
-        struct hunk_reference row = {MANY, from + 4 + 12 * MANY + 8 + 4 * i, 5, 4};
+        struct hunk_reference row = {MANY, from + 4 + 12 * MANY + 8 + 4 * i, 5, 4, 0};
         expect(memcmp(&references[i], &row, sizeof row) == 0, name, "a reference");
     }
 }
@@ -261,9 +261,9 @@ static void units_listed(const char *name, uint64_t hunks, uint64_t from)
     struct hunk_unit *units = marked(&row_room, MANY * sizeof *units);
     expect(same(hunk_units(file, len, units, MANY), all), name, "hunk_units");
     for (uint64_t i = 0; i < MANY; i++) {
-        struct hunk_unit row = {0, 8, 0, hunks};
+        struct hunk_unit row = {0, 8, 0, hunks, 0};
         if (i > 0)
-            row = (struct hunk_unit){from + 8 * (i - 1), from + 8 * i, 0, 0};
+            row = (struct hunk_unit){from + 8 * (i - 1), from + 8 * i, 0, 0, 0};
         expect(memcmp(&units[i], &row, sizeof row) == 0, name, "a unit");
     }
 }
@@ -306,7 +306,7 @@ static void large_relocations(void)
     table = marked(&row_room, OFFSETS * sizeof *table);
     expect(same(hunk_relocations(file, len, table, OFFSETS), all), name, "hunk_relocations");
     for (size_t i = 0; i < OFFSETS; i++) {
-        struct hunk_relocation row = {first + 4 * i, 0, 0, 0x3EC, 4, 0, 0};
+        struct hunk_relocation row = {first + 4 * i, 0, 0, 0x3EC, 4, 0, 0, 0};
         expect(memcmp(&table[i], &row, sizeof row) == 0, name, "a relocation");
     }
 }

@@ -194,7 +194,7 @@ static uint64_t print_relocations(struct listed *f, const struct hunk_block *b, 
         expect(r->place == at && r->unit == b->unit && r->hunk == b->hunk, f->name,
                "where a relocation stands");
         expect(r->kind == b->kind && r->width == width && r->target == target &&
-                   r->offset == long_at(f, at), f->name, "a relocation");
+                   r->offset == long_at(f, at) && r->reserved == 0, f->name, "a relocation");
         printf("    %" PRIu32 " 0x%08" PRIx32 "\n", r->target, r->offset);
         at += 4;
         left--;
@@ -212,8 +212,8 @@ static uint64_t print_references(struct listed *f, const struct hunk_entry *e, u
         const struct hunk_reference *r = next_row(f, REFERENCES);
         expect(r->entry == f->next[ENTRIES] - 1 && r->place == at, f->name,
                "where a reference stands");
-        expect(r->offset == long_at(f, at) && r->width == widths[(e->kind - 129) % 11], f->name,
-               "a reference");
+        expect(r->offset == long_at(f, at) && r->width == widths[(e->kind - 129) % 11] &&
+                   r->reserved == 0, f->name, "a reference");
         printf("      0x%08" PRIx32 "\n", r->offset);
     }
     return at;
@@ -249,7 +249,8 @@ static uint64_t print_entries(struct listed *f, const struct hunk_block *b)
         const struct hunk_entry *e = next_row(f, ENTRIES);
         expect(e->place == at && e->unit == b->unit && e->hunk == b->hunk, f->name,
                "where an entry stands");
-        expect(e->kind == long_at(f, at) >> 24, f->name, "the type of an entry");
+        expect(e->kind == long_at(f, at) >> 24 && e->reserved == 0, f->name,
+               "the type of an entry");
         at = print_entry(f, e, name_end(f, at, e->name, e->name_bytes));
     }
     return at;
@@ -299,7 +300,7 @@ static void check_block(const struct listed *f, const struct hunk_block *b,
     size = 4 * (in_memory ? size & 0x3FFFFFFF : size);
     expect(b->content == (in_file ? b->place + 8 : 0), f->name, "where a content stands");
     expect(b->content_bytes == (in_file ? size : 0), f->name, "the bytes of a content");
-    expect(b->memory == (in_memory ? size : 0), f->name, "the bytes in memory");
+    expect(b->memory == (in_memory ? size : 0) && b->reserved == 0, f->name, "the bytes in memory");
     if (k->holds > OFFSETS)
         expect(b->items == 0, f->name, "items of a block that has none");
     else
@@ -353,7 +354,8 @@ static void print_units(struct listed *f, uint64_t at, uint64_t end)
     while (at < end && f->of.hunk == 0 && long_at(f, at) == 0x3E7) {
         uint64_t len = 4 * (uint64_t)long_at(f, at + 4);
         const struct hunk_unit *u = next_row(f, UNITS);
-        expect(u->place == at && u->name == at + 8, f->name, "where a unit stands");
+        expect(u->place == at && u->name == at + 8 && u->reserved == 0, f->name,
+               "where a unit stands");
         expect(u->name_bytes == text_len(f, u->name, len), f->name, "the name of a unit");
         printf("unit %" PRIu64 " ", f->units);
         print_text(f, u->name, u->name_bytes);

@@ -55,6 +55,7 @@ block_row s = record {
   items = items s;
   kind = block_type s.block.value.word;
   flags = flags s.block.value.word;
+  reserved = 0;
 }
 
 abbrev pub block_rows : StandingBlock → List BlockRow

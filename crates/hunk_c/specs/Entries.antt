@@ -21,6 +21,7 @@ entry_row unit hunk place e = record {
   references = length e.offsets;
   value = e.value;
   kind = ext_type e;
+  reserved = 0;
 }
 
 -- those of a block, whose entries stand behind its word

@@ -12,7 +12,8 @@ use Rattle.hunk_c.specs.declared.references.ReferenceRow.{ReferenceRow}
 
 -- what the caller sees of an offset that stands at this byte, of the entry with this number
 abbrev pub reference_row : ℕ → ℕ → ℕ → ℕ → ReferenceRow
-reference_row entry width place offset = record { entry = entry; place = place; offset = offset; width = width }
+reference_row entry width place offset =
+    record { entry = entry; place = place; offset = offset; width = width; reserved = 0 }
 
 -- an offset is a longword
 abbrev pub long_text : ℕ → List ℕ

@@ -28,6 +28,7 @@ relocation_row r target place offset = record {
   width = r.width;
   target = target;
   offset = offset;
+  reserved = 0;
 }
 
 -- those of offsets, from this byte on

@@ -15,6 +15,7 @@ unit_row place u = record {
   name = place + 8;
   name_bytes = length (before_zero (bytes_of u.name));
   hunks = length u.hunks;
+  reserved = 0;
 }
 
 -- those of all units, in file order; a load file has none

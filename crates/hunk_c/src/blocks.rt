@@ -14,7 +14,7 @@ use crate::rows::{BlockTable, ByBlock, RowCount, TakesRows, tabulate};
 use crate::symbols::list_symbols;
 use hunk_blocks::{BlockView, BodyView, Payload};
 
-/// A block, and where it stands: 72 bytes, with no padding.
+/// A block, and where it stands: 80 bytes, with no padding.
 #[repr(C)]
 #[derive(Clone, Copy, Debug, PartialEq, Eq)]
 pub struct BlockRow {
@@ -38,6 +38,8 @@ pub struct BlockRow {
     pub kind: u32,
     /// The top three bits: 1 advisory, 2 chip memory, 4 fast memory.
     pub flags: u32,
+    /// 0: room for what later versions may tell.
+    pub reserved: u64,
 }
 
 /// Lists the blocks of the object file that the bytes are, or of the load file that they begin
@@ -95,6 +97,7 @@ fn block_row(unit: u64, hunk: u64, block: &BlockView<'_>) -> BlockRow
         items: items(unit, hunk, block),
         kind: word.word() % (1 << 29),
         flags: u32::from(word.flags()),
+        reserved: 0,
     }
 }
 

@@ -12,7 +12,7 @@ use crate::rows::{BlockTable, ByBlock, TakesRows, tabulate};
 use hunk_blocks::{BlockView, BodyView, EntriesIter, Entry};
 use hunk_words::NAME_LIMIT;
 
-/// An entry of an EXT block, and where it stands: 56 bytes, with no padding.
+/// An entry of an EXT block, and where it stands: 64 bytes, with no padding.
 #[repr(C)]
 #[derive(Clone, Copy, Debug, PartialEq, Eq)]
 pub struct EntryRow {
@@ -32,6 +32,8 @@ pub struct EntryRow {
     pub value: u32,
     /// The number of its type: 0 to 2 are definitions, 129 and more references.
     pub kind: u32,
+    /// 0: room for what later versions may tell.
+    pub reserved: u64,
 }
 
 /// Lists the entries of the EXT blocks of the object file that the bytes are; a load file has none.
@@ -105,5 +107,6 @@ fn entry_row(unit: u64, hunk: u64, place: u64, entry: &Entry<'_>) -> EntryRow
         references: entry.offsets.len() as u64,
         value: entry.value,
         kind: entry.word / NAME_LIMIT,
+        reserved: 0,
     }
 }

@@ -17,7 +17,7 @@ use crate::rows::{Table, TakesRows, tabulate};
 use hunk_blocks::{BlockView, BodyView, EntriesIter, Entry, Longs};
 use hunk_files::{FileView, TakesBlocks};
 
-/// An offset that refers to what an EXT entry names: 24 bytes, with no padding.
+/// An offset that refers to what an EXT entry names: 32 bytes, with no padding.
 #[repr(C)]
 #[derive(Clone, Copy, Debug, PartialEq, Eq)]
 pub struct ReferenceRow {
@@ -29,6 +29,8 @@ pub struct ReferenceRow {
     pub offset: u32,
     /// How many bytes refer: 1, 2 or 4.
     pub width: u32,
+    /// 0: room for what later versions may tell.
+    pub reserved: u64,
 }
 
 /// Lists the references of the EXT entries of the object file that the bytes are; a load file has
@@ -147,6 +149,7 @@ fn list_references<T: TakesRows<ReferenceRow>>(
             place,
             offset,
             width,
+            reserved: 0,
         });
         place += 4;
     }

@@ -10,7 +10,7 @@ use hunk_blocks::{BlockView, BodyView, GroupsIter, Longs};
 use hunk_files::relocation_width;
 use hunk_words::BlockWord;
 
-/// An offset that is relocated, and where it stands: 40 bytes, with no padding.
+/// An offset that is relocated, and where it stands: 48 bytes, with no padding.
 #[repr(C)]
 #[derive(Clone, Copy, Debug, PartialEq, Eq)]
 pub struct RelocationRow {
@@ -28,6 +28,8 @@ pub struct RelocationRow {
     pub target: u32,
     /// The offset, in bytes from the start of the hunk.
     pub offset: u32,
+    /// 0: room for what later versions may tell.
+    pub reserved: u64,
 }
 
 /// Lists the relocations of the object file that the bytes are, or of the load file that they begin
@@ -141,5 +143,6 @@ fn relocation_row(relocated: Relocated, target: u32, place: u64, offset: u32) ->
         width: relocated.width,
         target,
         offset,
+        reserved: 0,
     }
 }

@@ -10,7 +10,7 @@ use crate::name::text_length;
 use crate::rows::{Table, TakesRows, tabulate};
 use hunk_files::{FileView, UnitView, UnitViews};
 
-/// A unit of an object file: 32 bytes, with no padding.
+/// A unit of an object file: 40 bytes, with no padding.
 #[repr(C)]
 #[derive(Clone, Copy, Debug, PartialEq, Eq)]
 pub struct UnitRow {
@@ -22,6 +22,8 @@ pub struct UnitRow {
     pub name_bytes: u64,
     /// How many hunks it has.
     pub hunks: u64,
+    /// 0: room for what later versions may tell.
+    pub reserved: u64,
 }
 
 /// Lists the units of the object file that the bytes are; a load file has none.
@@ -78,5 +80,6 @@ fn unit_row(unit: &UnitView<'_>) -> UnitRow
         name: hunks.place() - name.byte_count(),
         name_bytes: text_length(name.bytes()),
         hunks: hunks.count() as u64,
+        reserved: 0,
     }
 }

@@ -9,7 +9,7 @@ use Rattle.hunk_c.specs.declared.units.UnitRow.{UnitRow}
 use Rattle.hunk_c.proofs.units.unit_row.Goals as goal
 
 row : ℕ → ℕ → ℕ → ℕ → UnitRow
-row place name bytes hunks = record { place = place; name = name; name_bytes = bytes; hunks = hunks }
+row place name bytes hunks = record { place = place; name = name; name_bytes = bytes; hunks = hunks; reserved = 0 }
 
 same_row : (p q m n b d h k : ℕ) → p ≡ q → m ≡ n → b ≡ d → h ≡ k → row p m b h ≡ row q n d k
 same_row p q m n b d h k place name bytes hunks =
