@@ -1,11 +1,11 @@
 -- Findings that are looked for one by one.
-use Rattle.std.proofs.Common.{◌≡◌, ℕ, ◌+◌, true, false, List, [], ◌∷◌, ◌++◌, refl, sym, ap, ap₂, subst, ◌∙◌, append_assoc, append-nil, Option, Some, None, unwrap_or, arith}
-use Rattle.std.specs.List.{flat_map, fold}
+use Rattle.std.proofs.Common.{◌≡◌, ℕ, ◌+◌, true, false, List, [], ◌∷◌, ◌++◌, refl, sym, ap, subst, ◌∙◌, append_assoc, append-nil, Option, Some, None, unwrap_or, arith}
+use Rattle.std.specs.List.{fold}
 use Rattle.hunk_blocks.specs.Values.{BlockBody, BlockValue, Name, Code, Data, Bss, Reloc, Ext, Symbol, Debug, Advisory, End, content_bytes}
 use Rattle.hunk_grammar.specs.Standings.{BlockStanding}
 use Rattle.hunk_files.specs.LoadFile.{standing, AreInOrder}
 use Rattle.hunk_files.specs.ObjectFile.{ObjectHunk}
-use Rattle.hunk_files.specs.Findings.{content_size, hunk_bytes, hunk_findings}
+use Rattle.hunk_files.specs.Findings.{content_size, hunk_bytes}
 use Rattle.hunk_files.proofs.FileText.{standings}
 
 -- ---- what is taken one after the other, by a relation that joins
@@ -14,13 +14,6 @@ use Rattle.hunk_files.proofs.FileText.{standings}
 abbrev pub TakenUpTo : {S X : Type 0} → (S → List X → S → Type 0) → S → S → List X → List X → Type 0
 TakenUpTo {X = X} Takes a b rest all = (done : List X) × Takes a done b × (done ++ rest ≡ all)
 
--- those of each element but these, which are left
-abbrev pub TakenBut : {S X A : Type 0} → (S → List X → S → Type 0) → (A → List X) → List A → List A → S → S → Type 0
-TakenBut Takes f left xs a b = TakenUpTo Takes a b (flat_map f left) (flat_map f xs)
-
-pub none_taken : {S X A : Type 0} (Takes : S → List X → S → Type 0) (none : (s : S) → Takes s [] s) (f : A → List X) (xs left : List A) (a : S) → left ≡ xs → TakenBut Takes f left xs a a
-none_taken {A = A} Takes none f xs left a e = ([], none a, ap (λ (ys : List A). flat_map f ys) e)
-
 pub taken_all : {S X : Type 0} (Takes : S → List X → S → Type 0) (a b : S) (left all : List X) → left ≡ [] → TakenUpTo Takes a b left all → Takes a all b
 taken_all {X = X} Takes a b left all e t = subst (λ (xs : List X). Takes a xs b) (sym (append-nil t.0) ∙ ap (λ (xs : List X). t.0 ++ xs) (sym e) ∙ t.2) t.1
 
@@ -28,22 +21,6 @@ module _ {S X : Type 0} (Takes : S → List X → S → Type 0) (more : (a b c :
   pub taken_on : (a b c : S) (here rest left all : List X) → left ≡ here ++ rest → TakenUpTo Takes a b left all → Takes b here c → TakenUpTo Takes a c rest all
   taken_on a b c here rest left all e t h =
       (t.0 ++ here, more a b c t.0 here t.1 h, append_assoc t.0 here rest ∙ ap (λ (xs : List X). t.0 ++ xs) (sym e) ∙ t.2)
-
-  -- by the first of the elements that are left
-  pub first_on : {A : Type 0} (f : A → List X) (xs left rest : List A) (x : A) (a b c : S) → left ≡ x ∷ rest → TakenBut Takes f left xs a b → Takes b (f x) c → TakenBut Takes f rest xs a c
-  first_on {A} f xs left rest x a b c e t h = taken_on a b c (f x) (flat_map f rest) (flat_map f left) (flat_map f xs) (ap (λ (ys : List A). flat_map f ys) e) t h
-
--- all were taken of what the elements stand for
-pub each_taken : {S X A : Type 0} (Takes : S → List X → S → Type 0) (f : A → List X) (xs left : List A) (a b : S) → left ≡ [] → TakenBut Takes f left xs a b → Takes a (flat_map f xs) b
-each_taken {A = A} Takes f xs left a b e t = taken_all Takes a b (flat_map f left) (flat_map f xs) (ap (λ (ys : List A). flat_map f ys) e) t
-
--- ---- the hunks of a unit
-
--- What is found in these blocks, which are the hunk's, with this number of bytes, is what is found in the hunk.
-pub hunk_found : (unit number hunks bytes : ℕ) (blocks h : ObjectHunk) → bytes ≡ hunk_bytes h → blocks ≡ h →
-    hunk_findings (record { unit = unit; hunk = number; hunks = hunks; bytes = bytes }) blocks ≡ hunk_findings (record { unit = unit; hunk = number; hunks = hunks; bytes = hunk_bytes h }) h
-hunk_found unit number hunks bytes blocks h size same =
-    ap₂ (λ (n : ℕ) (bs : ObjectHunk). hunk_findings (record { unit = unit; hunk = number; hunks = hunks; bytes = n }) bs) size same
 
 -- ---- the bytes of a hunk are those of its content block
 

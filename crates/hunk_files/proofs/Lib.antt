@@ -33,6 +33,7 @@ mod ObjectWords
 mod LoadRanges
 mod LoadWalks
 pub mod OffsetLists
+pub mod OffsetsWithin
 mod Passed
 mod PassedWalks
 pub mod Peel
@@ -53,6 +54,7 @@ pub mod Taking
 pub mod TextParts
 pub mod UnitCutLaws
 pub mod PlaceLaws
+pub mod PlacedFindingLaws
 mod UnitKeeping
 mod HunkKeeping
 mod ObjectViewLaws

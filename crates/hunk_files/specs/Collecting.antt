@@ -1,6 +1,7 @@
 -- What is kept of the findings that are taken.
-use Rattle.std.specs.Prelude.{◌≡◌, Bool, false, List, [], ◌∷◌, ◌++◌}
-use Rattle.std.proofs.Common.{refl, sym, ap, ◌∙◌, append-nil, append_assoc}
+use Rattle.std.specs.Prelude.{◌≡◌, Bool, false, List, [], ◌∷◌, ◌++◌, map}
+use Rattle.std.proofs.Common.{refl, sym, ap, subst, ◌∙◌, append-nil, append_assoc}
+use Rattle.std.proofs.lemmas.List.{map-append}
 use Rattle.hunk_files.specs.declared.object.check.Finding.{Finding}
 
 -- These are kept too, unless some are lost. Where there are none, nothing is lost.
@@ -25,3 +26,9 @@ keeps_more la lb lc a b c xs ys first next = record {
       let both = no_front xs ys empty in
       next.unlost (first.unlost none both.0) both.1;
 }
+
+-- What takes rows of some items, and then of others, takes those of all.
+pub mapped_more : {S A Row : Type 0} (row : A → Row) (Takes : S → List Row → S → Type 0) → ((a b c : S) (xs ys : List Row) → Takes a xs b → Takes b ys c → Takes a (xs ++ ys) c) →
+    (a b c : S) (xs ys : List A) → Takes a (map row xs) b → Takes b (map row ys) c → Takes a (map row (xs ++ ys)) c
+mapped_more {S} {A} {Row} row Takes more a b c xs ys first next =
+    subst (λ (zs : List Row). Takes a zs c) (sym (map-append row xs ys)) (more a b c (map row xs) (map row ys) first next)

@@ -21,6 +21,7 @@ pub mod ObjectViews
 pub mod OpenSegment
 pub mod Overlap
 pub mod Passing
+pub mod PlacedFindings
 pub mod Ranges
 pub mod ReaderPosition
 pub mod StandingBlocks

@@ -15,6 +15,7 @@ ghost use Rattle.hunk_files.specs.ObjectFile.{ObjectFileValue, IsNoObjectFile, I
 ghost use Rattle.hunk_files.specs.ObjectFault.{HasObjectFault, IsTruncatedObject, ObjectRole, objects, refuse_object};
 ghost use Rattle.hunk_blocks.specs.Faults.{Expects as ExpectsOf, HasRefusal as RefusalOf, IsFront};
 ghost use Rattle.hunk_files.specs.Findings.{findings};
+ghost use Rattle.hunk_files.specs.PlacedFindings.{placed_findings};
 ghost use Rattle.hunk_files.specs.Strip.{strip_file, strip_object};
 ghost use Rattle.hunk_blocks.specs.Along.{GoesAlong};
 ghost use Rattle.hunk_files.specs.Machines.{refuse_in_load, refuse_in_object};
@@ -94,6 +95,11 @@ pub fn object_value()
 pub fn strip_findings()
     ensures valid { (o : ObjectFileValue) → IsObjectFile o → IsObjectFile (strip_object o) }
     ensures findings { (o : ObjectFileValue) → findings (strip_object o) ≡ findings o }
+{}
+
+/// Without their places, placed findings are the findings.
+pub fn finding_places()
+    ensures { (o : ObjectFileValue) → map (λ f. f.value) (placed_findings o) ≡ findings o }
 {}
 
 /// Of every list of bytes just one of three holds: it is the text of an object file, all of it, a

@@ -21,7 +21,8 @@ pub use crate::hunk_file::HunkFile;
 pub use crate::load::{ImageFault, LoadFile, LoadHunkView, LoadHunkViews, LoadView, TableIter};
 pub use crate::object::{
     Finding, FindingKind, Findings, Hunk, HunkView, HunkViews, ObjectFile, ObjectView,
-    TakesFindings, Unit, UnitView, UnitViews, relocation_width, walk_object,
+    TakesFindings, TakesPlacedFindings, Unit, UnitView, UnitViews, reference_width,
+    relocation_width, walk_object,
 };
 pub use crate::ranges::TakesBytes;
 pub use crate::row::Row;

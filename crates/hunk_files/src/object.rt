@@ -14,11 +14,11 @@ mod unit_view;
 mod view;
 mod whole;
 
-pub use crate::object::check::{Finding, FindingKind, relocation_width};
+pub use crate::object::check::{Finding, FindingKind, reference_width, relocation_width};
 pub use crate::object::file::ObjectFile;
 pub use crate::object::findings::Findings;
 pub use crate::object::hunk_view::{HunkView, HunkViews};
-pub use crate::object::taker::TakesFindings;
+pub use crate::object::taker::{TakesFindings, TakesPlacedFindings};
 pub use crate::object::unit::{Hunk, Unit};
 pub use crate::object::unit_view::{UnitView, UnitViews};
 pub use crate::object::view::ObjectView;

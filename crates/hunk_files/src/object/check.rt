@@ -1,17 +1,21 @@
 //! What is wrong with the offsets of an object file, found by one walk.
 ghost use Rattle.std.specs.Prelude.{◌≡◌, ◌+◌, ◌*◌, ◌^◌, ◌<◌, ◌≤◌, length};
-ghost use Rattle.std.specs.List.{flat_map};
+ghost use Rattle.std.specs.List.{AllByRecursion, flat_map};
+ghost use Rattle.hunk_blocks.specs.Values.{IsExtEntry};
 ghost use Rattle.hunk_blocks.specs.Views.{entry_of, group_of};
-ghost use Rattle.hunk_files.specs.Findings.{body_findings, entry_findings, finding, findings};
-ghost use Rattle.hunk_files.specs.Findings.{group_findings, hunk_bytes, hunk_findings, hunks_findings};
-ghost use Rattle.hunk_files.specs.Findings.{outside, reference_width};
-ghost use Rattle.hunk_files.specs.Findings.{relocation_findings, relocation_width, unit_findings};
+ghost use Rattle.hunk_files.specs.Findings.{finding, findings, hunk_bytes, outside, reference_width};
+ghost use Rattle.hunk_files.specs.Findings.{relocation_findings, relocation_width};
 ghost use Rattle.hunk_files.specs.Hunks.{block_texts};
 ghost use Rattle.hunk_files.specs.ObjectFile.{IsObjectHunk, unit_text};
+ghost use Rattle.hunk_files.specs.PlacedFindings.{block_findings_at, entries_findings_at};
+ghost use Rattle.hunk_files.specs.PlacedFindings.{entry_findings_at, group_findings_at};
+ghost use Rattle.hunk_files.specs.PlacedFindings.{groups_findings_at, hunk_findings_at};
+ghost use Rattle.hunk_files.specs.PlacedFindings.{hunks_findings_at, placed_findings, standing_at};
+ghost use Rattle.hunk_files.specs.PlacedFindings.{unit_findings_at};
 
 use crate::blocks::BlockViews;
 use crate::object::hunk_view::HunkViews;
-use crate::object::taker::TakesFindings;
+use crate::object::taker::{TakesFindings, TakesPlacedFindings, WithoutPlaces};
 use crate::object::unit_view::UnitView;
 use crate::object::view::ObjectView;
 use hunk_blocks::{BlockView, BodyView, EntriesIter, Entry, Group, GroupsIter};
@@ -75,7 +79,7 @@ pub fn relocation_width(kind: Kind) -> u64
 }
 
 /// How many bytes an offset of this entry stands for; 0 for a definition, which has no offsets.
-fn reference_width(entry: &Entry) -> u64
+pub fn reference_width(entry: &Entry<'_>) -> u64
     ensures value { result ≡ reference_width (entry_of entry.now) }
     ensures bound { result ≤ 4 }
 {
@@ -98,77 +102,114 @@ pub(super) fn hunk_bytes(blocks: BlockViews<'_>) -> u64
     0
 }
 
-/// Hands over what is wrong with an offset of this width.
-fn check_offset<T: TakesFindings>(taker: &mut T, spot: HunkContext, width: u64, offset: u32)
+/// Hands over what is wrong with an offset of this width that stands at this byte.
+fn check_offset<T: TakesPlacedFindings>(
+    taker: &mut T,
+    spot: HunkContext,
+    width: u64,
+    place: u64,
+    offset: u32,
+)
     requires { width ≤ 4 }
-    ensures { T.takes taker.old (outside spot width offset) taker.new }
+    ensures { T.takes taker.old (standing_at place (outside spot width offset)) taker.new }
 {
     if u64::from(offset) + width > spot.bytes {
-        taker.take(spot.finding(FindingKind::OutsideHunk, offset));
+        taker.take(place, spot.finding(FindingKind::OutsideHunk, offset));
     }
 }
 
 /// Hands over what is wrong with an offset of this width that is relocated to this target.
-fn check_relocation<T: TakesFindings>(
+fn check_relocation<T: TakesPlacedFindings>(
     taker: &mut T,
     spot: HunkContext,
     width: u64,
     target: u32,
+    place: u64,
     offset: u32,
 )
     requires { width ≤ 4 }
-    ensures { T.takes taker.old (relocation_findings spot width target offset) taker.new }
+    ensures { T.takes taker.old
+        (standing_at place (relocation_findings spot width target offset)) taker.new }
 {
     if u64::from(target) >= spot.hunks {
-        taker.take(spot.finding(FindingKind::BadTarget, offset));
+        taker.take(place, spot.finding(FindingKind::BadTarget, offset));
     }
-    check_offset(taker, spot, width, offset);
+    check_offset(taker, spot, width, place, offset);
 }
 
-fn check_group<T: TakesFindings>(taker: &mut T, spot: HunkContext, width: u64, group: &Group)
-    requires { width ≤ 4 }
-    ensures { T.takes taker.old (group_findings spot width (group_of group.now)) taker.new }
-{
-    for offset in &group.offsets {
-        check_relocation(taker, spot, width, group.target, offset);
-    }
-}
-
-fn check_groups<T: TakesFindings>(
+/// Hands over what is wrong with the offsets of a group that begins at this byte.
+fn check_group<T: TakesPlacedFindings>(
     taker: &mut T,
     spot: HunkContext,
     width: u64,
-    groups: GroupsIter<'_>,
+    start: u64,
+    group: &Group<'_>,
+)
+    requires width { width ≤ 4 }
+    requires inside { start + 8 + 4 * length group.now.offsets < 2 ^ 64 }
+    ensures { T.takes taker.old
+        (group_findings_at spot width start (group_of group.now)) taker.new }
+{
+    let mut place = start + 8;
+    'checking: for offset in &group.offsets {
+        check_relocation(taker, spot, width, group.target, place, offset);
+        place += 4;
+    }
+}
+
+fn check_groups<T: TakesPlacedFindings>(
+    taker: &mut T,
+    spot: HunkContext,
+    width: u64,
+    mut groups: GroupsIter<'_>,
 )
     requires { width ≤ 4 }
     ensures { T.takes taker.old
-        (flat_map (group_findings spot width) groups.entry.value) taker.new }
+        (groups_findings_at spot width groups.entry.place groups.entry.value) taker.new }
 {
-    'checking: for group in groups {
-        check_group(taker, spot, width, &group);
+    let mut place = groups.place();
+    'checking: while let Some(group) = groups.next() {
+        let behind = groups.place();
+        check_group(taker, spot, width, place, &group);
+        place = behind;
     }
 }
 
-fn check_entry<T: TakesFindings>(taker: &mut T, spot: HunkContext, entry: &Entry)
-    ensures { T.takes taker.old (entry_findings spot (entry_of entry.now)) taker.new }
+/// Hands over what is wrong with the offsets of an entry that ends at this byte.
+fn check_entry<T: TakesPlacedFindings>(
+    taker: &mut T,
+    spot: HunkContext,
+    end: u64,
+    entry: &Entry<'_>,
+)
+    requires { 4 * length entry.now.offsets ≤ end }
+    ensures { T.takes taker.old (entry_findings_at spot end (entry_of entry.now)) taker.new }
 {
     let width = reference_width(entry);
-    for offset in &entry.offsets {
-        check_offset(taker, spot, width, offset);
+    let mut place = end - 4 * entry.offsets.len() as u64;
+    'checking: for offset in &entry.offsets {
+        check_offset(taker, spot, width, place, offset);
+        place += 4;
     }
 }
 
-fn check_entries<T: TakesFindings>(taker: &mut T, spot: HunkContext, entries: EntriesIter<'_>)
-    ensures { T.takes taker.old (flat_map (entry_findings spot) entries.entry.value) taker.new }
-{
-    'checking: for entry in entries {
-        check_entry(taker, spot, &entry);
-    }
-}
-
-fn check_block<T: TakesFindings>(taker: &mut T, spot: HunkContext, block: BlockView<'_>)
+fn check_entries<T: TakesPlacedFindings>(
+    taker: &mut T,
+    spot: HunkContext,
+    mut entries: EntriesIter<'_>,
+)
+    requires { AllByRecursion IsExtEntry entries.value }
     ensures { T.takes taker.old
-        (body_findings spot block.entry.value.word block.entry.value.body) taker.new }
+        (entries_findings_at spot entries.entry.place entries.entry.value) taker.new }
+{
+    'checking: while let Some(entry) = entries.next() {
+        check_entry(taker, spot, entries.place(), &entry);
+    }
+}
+
+fn check_block<T: TakesPlacedFindings>(taker: &mut T, spot: HunkContext, block: BlockView<'_>)
+    ensures { T.takes taker.old
+        (block_findings_at spot block.entry.place block.entry.value) taker.new }
 {
     let word = block.word();
     match block.into_body() {
@@ -181,12 +222,13 @@ fn check_block<T: TakesFindings>(taker: &mut T, spot: HunkContext, block: BlockV
 }
 
 /// Answers the byte behind the blocks.
-fn check_blocks<T: TakesFindings>(
+fn check_blocks<T: TakesPlacedFindings>(
     taker: &mut T,
     spot: HunkContext,
     mut blocks: BlockViews<'_>,
 ) -> u64
-    ensures taken { T.takes taker.old (hunk_findings spot blocks.entry.value) taker.new }
+    ensures taken { T.takes taker.old
+        (hunk_findings_at spot blocks.entry.place blocks.entry.value) taker.new }
     ensures end { result
         ≡ blocks.entry.place + 4 * length (block_texts blocks.entry.value) }
 {
@@ -197,14 +239,15 @@ fn check_blocks<T: TakesFindings>(
 }
 
 /// Answers the byte behind the hunks.
-fn check_hunks<T: TakesFindings>(
+fn check_hunks<T: TakesPlacedFindings>(
     taker: &mut T,
     number: u64,
     count: u64,
     mut hunks: HunkViews<'_>,
 ) -> u64
     requires { length hunks.value < 2 ^ 64 }
-    ensures taken { T.takes taker.old (hunks_findings number count 0 hunks.entry.value) taker.new }
+    ensures taken { T.takes taker.old
+        (hunks_findings_at number count 0 hunks.entry.place hunks.entry.value) taker.new }
     ensures end { result
         ≡ hunks.entry.place + 4 * length (flat_map block_texts hunks.entry.value) }
 {
@@ -224,8 +267,9 @@ fn check_hunks<T: TakesFindings>(
 }
 
 /// Answers the byte behind the unit.
-fn check_unit<T: TakesFindings>(taker: &mut T, number: u64, unit: &UnitView<'_>) -> u64
-    ensures taken { T.takes taker.old (unit_findings number unit.now.value) taker.new }
+fn check_unit<T: TakesPlacedFindings>(taker: &mut T, number: u64, unit: &UnitView<'_>) -> u64
+    ensures taken { T.takes taker.old
+        (unit_findings_at number unit.now.place unit.now.value) taker.new }
     ensures end { result ≡ unit.now.place + 4 * length (unit_text unit.now.value) }
 {
     let count = unit.hunks().count() as u64;
@@ -239,9 +283,20 @@ impl ObjectView<'_> {
     /// For each offset there is `BadTarget` where it is a relocation's and the target is not below
     /// the unit's number of hunks, then `OutsideHunk` where the bytes that are relocated or refer
     /// go past the end of the hunk. Answers how many units there are.
+    #[tactic(auto, using(crate::proofs::PlacedFindingLaws::findings_placed))]
     pub fn check_with<T: TakesFindings>(&self, taker: &mut T) -> u64
         ensures taken { T.takes taker.old (findings self.now) taker.new }
         ensures few { length (findings self.now) < 2 ^ 64 }
+        ensures units { result ≡ length self.now }
+    {
+        let mut findings = WithoutPlaces { taker };
+        self.check_in_place(&mut findings)
+    }
+
+    /// Hands over the same findings, each with the byte of the file at which its offset stands.
+    pub fn check_in_place<T: TakesPlacedFindings>(&self, taker: &mut T) -> u64
+        ensures taken { T.takes taker.old (placed_findings self.now) taker.new }
+        ensures few { length (placed_findings self.now) < 2 ^ 64 }
         ensures units { result ≡ length self.now }
     {
         let mut units = self.units();

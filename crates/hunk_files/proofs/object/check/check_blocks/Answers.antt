@@ -1,21 +1,19 @@
-use Rattle.std.proofs.Common.{List, ap, ◌∙◌}
+use Rattle.std.proofs.Common.{◌∙◌}
 use Rattle.hunk_blocks.specs.Parts.{block_text}
-use Rattle.hunk_blocks.specs.Placed.{Placed}
-use Rattle.hunk_blocks.specs.Values.{BlockValue}
-use Rattle.hunk_files.specs.Findings.{body_findings}
-use Rattle.hunk_files.proofs.FindingSteps.{first_on, each_taken}
-use Rattle.hunk_files.proofs.Taking.{end_reached, end_stays}
+use Rattle.hunk_files.specs.PlacedFindings.{block_findings_at, hunk_findings_at}
+use Rattle.hunk_files.proofs.FindingSteps.{taken_on}
+use Rattle.hunk_files.proofs.PlacedFindingLaws.{block_first}
+use Rattle.hunk_files.proofs.Taking.{end_stays}
 use Rattle.hunk_files.proofs.object.check.check_blocks.Goals as goal
 
 pub checking-preserved : goal.checking-preserved
-checking-preserved g c = (
-  end_stays block_text c.checking.blocks c.next.new.self c.in-Some.block c.in-Some.ensures.steps ∙ c.checking.invariant.0,
-  first_on g.T.TakesFindings.takes g.met.T.TakesFindings.more (λ b. body_findings c.args.spot b.word b.body) c.args.blocks.value c.checking.blocks.value c.next.new.self.value c.in-Some.block.value _ _ _
-      (ap (λ (p : Placed (List BlockValue)). p.value) c.in-Some.ensures.steps.0) c.checking.invariant.1 c.check_block.ensures,
-)
-
-pub returns-clause-taken : goal.returns-clause-taken
-returns-clause-taken g c = each_taken g.T.TakesFindings.takes (λ b. body_findings c.args.spot b.word b.body) c.args.blocks.value c.checking.blocks.value c.args.taker.now c.checking.taker c.in_default.ensures.steps.0 c.checking.invariant.1
-
-pub returns-clause-end : goal.returns-clause-end
-returns-clause-end g c = c.place.ensures ∙ ap (λ (p : Placed (List BlockValue)). p.place) c.in_default.ensures.steps.1 ∙ end_reached block_text c.checking.blocks c.in_default.ensures.steps.0 ∙ c.checking.invariant.0
+checking-preserved g c =
+    let left = hunk_findings_at c.args.spot in
+    let old = c.checking.blocks in
+    let new = c.next.new.self in
+    let block = c.in-Some.block in (
+      end_stays block_text old new block c.in-Some.ensures.steps ∙ c.checking.invariant.0,
+      taken_on g.T.TakesPlacedFindings.takes g.met.T.TakesPlacedFindings.more _ _ _ (block_findings_at c.args.spot block.place block.value)
+          (left new.place new.value) (left old.place old.value) (left c.args.blocks.place c.args.blocks.value)
+          (block_first c.args.spot old new block c.in-Some.ensures.steps) c.checking.invariant.1 c.check_block.ensures,
+    )

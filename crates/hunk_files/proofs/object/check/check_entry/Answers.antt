@@ -1,19 +1,27 @@
-use Rattle.std.proofs.Common.{ℕ, ap, subst}
-use Rattle.std.specs.List.{flat_map}
+use Rattle.std.proofs.Common.{◌+◌, ◌-◌, ◌*◌, ℕ, List, length, ap, subst, arith}
 use Rattle.hunk_files.specs.Findings.{outside}
-use Rattle.hunk_files.proofs.FindingSteps.{first_on, none_taken, taken_all}
+use Rattle.hunk_files.specs.PlacedFindings.{offsets_findings_at, standing_at}
+use Rattle.hunk_files.proofs.FindingSteps.{taken_all, taken_on}
 use Rattle.hunk_files.proofs.object.check.check_entry.Goals as goal
 
-pub loop-offset-init : goal.loop-offset-init
-loop-offset-init g c = none_taken g.T.TakesFindings.takes g.met.T.TakesFindings.none (outside c.args.spot c.reference_width-width.result) c.args.entry.now.offsets c.into_iter-offset-iterator.result c.args.taker.now c.into_iter-offset-iterator.ensures.into_iter_gives
-
-pub loop-offset-preserved : goal.loop-offset-preserved
-loop-offset-preserved g c =
-    first_on g.T.TakesFindings.takes g.met.T.TakesFindings.more (outside c.args.spot c.reference_width-width.result) c.args.entry.now.offsets c.loop-offset.offset-iterator c.next.new.self c.in-Some.offset _ _ _
-    c.in-Some.ensures.steps c.loop-offset.invariant c.check_offset.ensures
+pub checking-preserved : goal.checking-preserved
+checking-preserved g c =
+    let found = outside c.args.spot c.reference_width-width.result in
+    let left = offsets_findings_at found in
+    let place = c.checking.place in
+    let old = c.checking.offset-iterator in
+    let new = c.next.new.self in
+    let steps = c.in-Some.ensures.steps in (
+      omega (arith, c.checking.invariant.0, ap (λ (os : List ℕ). length os) steps),
+      taken_on g.T.TakesPlacedFindings.takes g.met.T.TakesPlacedFindings.more _ _ _ (standing_at place (found c.in-Some.offset)) (left (place + 4) new) (left place old)
+          (left (c.args.end - 4 * length c.args.entry.now.offsets) c.args.entry.now.offsets) (ap (λ (os : List ℕ). left place os) steps) c.checking.invariant.1 c.check_offset.ensures,
+    )
 
 pub returns : goal.returns
 returns g c =
-    let f = outside c.args.spot c.reference_width-width.result in
-    let taken = taken_all g.T.TakesFindings.takes c.args.taker.now c.loop-offset.taker (flat_map f c.loop-offset.offset-iterator) (flat_map f c.args.entry.now.offsets) (ap (λ ys. flat_map f ys) c.in-None.ensures.steps.0) c.loop-offset.invariant in
-    subst (λ (width : ℕ). g.T.TakesFindings.takes c.args.taker.now (flat_map (outside c.args.spot width) c.args.entry.now.offsets) c.loop-offset.taker) c.reference_width-width.ensures.value taken
+    let left = λ (width : ℕ). offsets_findings_at (outside c.args.spot width) in
+    let all = λ (width : ℕ). left width (c.args.end - 4 * length c.args.entry.now.offsets) c.args.entry.now.offsets in
+    let width = c.reference_width-width.result in
+    let taken = taken_all g.T.TakesPlacedFindings.takes c.args.taker.now c.checking.taker (left width c.checking.place c.checking.offset-iterator) (all width)
+    (ap (λ (os : List ℕ). left width c.checking.place os) c.in-None.ensures.steps.0) c.checking.invariant.1 in
+    subst (λ (n : ℕ). g.T.TakesPlacedFindings.takes c.args.taker.now (all n) c.checking.taker) c.reference_width-width.ensures.value taken

@@ -1,6 +1,11 @@
+use Rattle.std.proofs.Common.{◌≡◌, ◌+◌, ◌-◌, ◌*◌, length}
 use Rattle.hunk_files.specs.Findings.{outside}
-use Rattle.hunk_files.proofs.FindingSteps.{TakenBut}
+use Rattle.hunk_files.specs.PlacedFindings.{offsets_findings_at}
+use Rattle.hunk_files.proofs.FindingSteps.{TakenUpTo}
 use Rattle.hunk_files.proofs.object.check.check_entry.Given as goal
 
-abbrev pub invariant-loop-offset : goal.invariant-loop-offset
-invariant-loop-offset g l = TakenBut g.T.TakesFindings.takes (outside l.spot l.width) l.offset-iterator l.entry.offsets l.fn.taker l.taker
+abbrev pub invariant-checking : goal.invariant-checking
+invariant-checking g l =
+    let left = offsets_findings_at (outside l.spot l.width) in
+    (l.place + 4 * length l.offset-iterator ≡ l.fn.end)
+    × TakenUpTo g.T.TakesPlacedFindings.takes l.fn.taker l.taker (left l.place l.offset-iterator) (left (l.fn.end - 4 * length l.fn.entry.offsets) l.fn.entry.offsets)

@@ -1,6 +1,11 @@
+use Rattle.std.proofs.Common.{◌+◌, ◌*◌, ◌<◌, ◌^◌, length}
 use Rattle.hunk_files.specs.Findings.{relocation_findings}
-use Rattle.hunk_files.proofs.FindingSteps.{TakenBut}
+use Rattle.hunk_files.specs.PlacedFindings.{offsets_findings_at}
+use Rattle.hunk_files.proofs.FindingSteps.{TakenUpTo}
 use Rattle.hunk_files.proofs.object.check.check_group.Given as goal
 
-abbrev pub invariant-loop-offset : goal.invariant-loop-offset
-invariant-loop-offset g l = TakenBut g.T.TakesFindings.takes (relocation_findings l.spot l.width l.group.target) l.offset-iterator l.group.offsets l.fn.taker l.taker
+abbrev pub invariant-checking : goal.invariant-checking
+invariant-checking g l =
+    let left = offsets_findings_at (relocation_findings l.spot l.width l.group.target) in
+    (l.place + 4 * length l.offset-iterator < 2 ^ 64)
+    × TakenUpTo g.T.TakesPlacedFindings.takes l.fn.taker l.taker (left l.place l.offset-iterator) (left (l.fn.start + 8) l.fn.group.offsets)

@@ -1,9 +1,13 @@
-use Rattle.hunk_files.specs.Findings.{group_findings}
-use Rattle.hunk_files.proofs.FindingSteps.{TakenBut}
+use Rattle.std.proofs.Common.{◌≡◌, length}
+use Rattle.hunk_files.specs.PlacedFindings.{groups_findings_at}
+use Rattle.hunk_files.proofs.FindingSteps.{TakenUpTo}
 use Rattle.hunk_files.proofs.object.check.check_groups.Given as goal
 
 abbrev pub invariant-checking : goal.invariant-checking
 invariant-checking g l =
-    (goal.iterator-checking g).can_next l.group-iterator
-    × (goal.iterator-checking g).is_finite l.group-iterator
-    × TakenBut g.T.TakesFindings.takes (group_findings l.spot l.width) l.group-iterator.value l.fn.groups.value l.fn.taker l.taker
+    let left = groups_findings_at l.spot l.width in
+    (l.place ≡ l.groups.place)
+    × TakenUpTo g.T.TakesPlacedFindings.takes l.fn.taker l.taker (left l.groups.place l.groups.value) (left l.fn.groups.place l.fn.groups.value)
+
+abbrev pub decreases-checking : goal.decreases-checking
+decreases-checking g l = length l.groups.value

@@ -1,6 +1,6 @@
 use Rattle.std.proofs.Common.{◌≡◌, ◌+◌, ◌^◌, ◌<◌, length}
-use Rattle.hunk_files.specs.Findings.{hunks_findings}
 use Rattle.hunk_files.specs.Hunks.{block_texts}
+use Rattle.hunk_files.specs.PlacedFindings.{hunks_findings_at}
 use Rattle.hunk_files.proofs.FindingSteps.{TakenUpTo}
 use Rattle.hunk_files.proofs.Taking.{end_of}
 use Rattle.hunk_files.proofs.object.check.check_hunks.Given as goal
@@ -9,7 +9,7 @@ abbrev pub invariant-checking : goal.invariant-checking
 invariant-checking g l =
     (l.hunk + length l.hunks.value < 2 ^ 64)
     × (end_of block_texts l.hunks ≡ end_of block_texts l.fn.hunks)
-    × TakenUpTo g.T.TakesFindings.takes l.fn.taker l.taker (hunks_findings l.number l.count l.hunk l.hunks.value) (hunks_findings l.number l.count 0 l.fn.hunks.value)
+    × TakenUpTo g.T.TakesPlacedFindings.takes l.fn.taker l.taker (hunks_findings_at l.number l.count l.hunk l.hunks.place l.hunks.value) (hunks_findings_at l.number l.count 0 l.fn.hunks.place l.fn.hunks.value)
 
 abbrev pub decreases-checking : goal.decreases-checking
 decreases-checking g l = length l.hunks.value
