@@ -2,55 +2,14 @@
  * made of the six tables, and each row is held against the bytes of the file that it names, block
  * by block. Status 1 where an answer, or what it leaves in the caller's memory, is not what hunk.h
  * says. */
-#include "guarded.h"
-
-#define MOST_ROWS 65536
-
-/* The tables, in the order of hunk.h. */
-enum { UNITS, BLOCKS, SYMBOLS, RELOCATIONS, ENTRIES, REFERENCES, TABLES };
-
-static const size_t row_bytes[TABLES] = {
-    sizeof(struct hunk_unit),       sizeof(struct hunk_block), sizeof(struct hunk_symbol),
-    sizeof(struct hunk_relocation), sizeof(struct hunk_entry), sizeof(struct hunk_reference)};
+#include "tabled.h"
 
 static struct guarded file_bytes = {1 << 20, NULL};
 static struct guarded row_room[TABLES];
 static struct guarded again_room;
 static struct hunk_row load_rows[MOST_ROWS];
 
-/* A file as it was read, what each call answers of it, but for `count`, and its rows. */
-struct listed {
-    const char *name;
-    const uint8_t *bytes;
-    size_t len;
-    struct hunk_answer of;
-    void *rows[TABLES];
-    uint64_t counts[TABLES];
-    uint64_t next[TABLES]; /* the rows that were looked at */
-    uint64_t units;        /* the units that have begun */
-    uint64_t hunks;        /* the hunks that have begun, of the last unit */
-    uint64_t in_unit;      /* and those that it has, by its row */
-};
-
 /* ---- The calls. */
-
-static struct hunk_answer call(int table, const uint8_t *bytes, size_t len, void *rows, size_t room)
-{
-    switch (table) {
-    case UNITS:
-        return hunk_units(bytes, len, rows, room);
-    case BLOCKS:
-        return hunk_blocks(bytes, len, rows, room);
-    case SYMBOLS:
-        return hunk_symbols(bytes, len, rows, room);
-    case RELOCATIONS:
-        return hunk_relocations(bytes, len, rows, room);
-    case ENTRIES:
-        return hunk_entries(bytes, len, rows, room);
-    default:
-        return hunk_references(bytes, len, rows, room);
-    }
-}
 
 /* A call without rows, with just as many as there are items, with one fewer, and with more. */
 static void tabulate(struct listed *f, int table)
@@ -105,61 +64,6 @@ static void call_without_bytes(void)
     struct hunk_loader loader;
     expect(same(hunk_begin(&loader, NULL, 0, 24, NULL, 0), strange), "no places", "a loader");
     expect(same(hunk_feed(&loader, NULL, 0, NULL, 0, NULL, 0), strange), "no piece", "a loader");
-}
-
-/* ---- The parts of a file. */
-
-/* The longword at this byte of the file; 0 where it has none. */
-static uint32_t long_at(const struct listed *f, uint64_t at)
-{
-    int holds = at < f->of.place && f->of.place - at >= 4;
-    expect(holds, f->name, "a longword of the file");
-    if (!holds)
-        return 0;
-    const uint8_t *b = f->bytes + at;
-    return (uint32_t)b[0] << 24 | (uint32_t)b[1] << 16 | (uint32_t)b[2] << 8 | b[3];
-}
-
-/* The next row of a table. */
-static const void *next_row(struct listed *f, int table)
-{
-    if (f->next[table] == f->counts[table]) {
-        fprintf(stderr, "%s: fewer rows than items\n", f->name);
-        exit(1);
-    }
-    return (const uint8_t *)f->rows[table] + f->next[table]++ * row_bytes[table];
-}
-
-/* Ends a line with so many bytes from this one on. */
-static void print_text(const struct listed *f, uint64_t at, uint64_t len)
-{
-    int holds = at <= f->of.place && len <= f->of.place - at;
-    expect(holds, f->name, "a name of the file");
-    for (uint64_t i = 0; holds && i < len; i++) {
-        uint8_t byte = f->bytes[at + i];
-        if (byte < 0x20 || byte > 0x7E || byte == '\\')
-            printf("\\x%02x", byte);
-        else
-            putchar(byte);
-    }
-    putchar('\n');
-}
-
-/* The bytes before the first zero byte of these. */
-static uint64_t text_len(const struct listed *f, uint64_t at, uint64_t len)
-{
-    uint64_t i = 0;
-    while (i < len && at + i < f->of.place && f->bytes[at + i] != 0)
-        i++;
-    return i;
-}
-
-/* Whether this is the name of an item at this byte, and where the item goes on behind it. */
-static uint64_t name_end(const struct listed *f, uint64_t place, uint64_t name, uint64_t len)
-{
-    uint64_t room = 4 * (uint64_t)(long_at(f, place) & 0xFFFFFF);
-    expect(name == place + 4 && len == text_len(f, name, room), f->name, "a name");
-    return place + 4 + room;
 }
 
 /* ---- The items of a block, which each function prints; it gives the byte behind them. */
@@ -258,8 +162,6 @@ static uint64_t print_entries(struct listed *f, const struct hunk_block *b)
 
 /* ---- Blocks. */
 
-#define END_KIND 0x3F2
-
 /* What a block holds behind its word: lists up to OFFSETS, a size from A_SIZE on, and from CONTENT
  * on so many longwords behind it. */
 enum holds { ITS_SYMBOLS, ITS_ENTRIES, OFFSETS, NOTHING, A_SIZE, CONTENT, DATA, A_NAME };
@@ -274,8 +176,8 @@ static const struct block_kind {
     {0x3E8, "NAME", A_NAME, 0},        {0x3E9, "CODE", CONTENT, 0},
     {0x3EA, "DATA", CONTENT, 0},       {0x3EB, "BSS", A_SIZE, 0},
     {0x3EC, "RELOC32", OFFSETS, 4},    {0x3ED, "RELOC16", OFFSETS, 2},
-    {0x3EE, "RELOC8", OFFSETS, 1},     {0x3EF, "EXT", ITS_ENTRIES, 0},
-    {0x3F0, "SYMBOL", ITS_SYMBOLS, 0}, {0x3F1, "DEBUG", DATA, 0},
+    {0x3EE, "RELOC8", OFFSETS, 1},     {EXT_KIND, "EXT", ITS_ENTRIES, 0},
+    {0x3F1, "DEBUG", DATA, 0},         {SYMBOL_KIND, "SYMBOL", ITS_SYMBOLS, 0},
     {END_KIND, "END", NOTHING, 0},     {0x3F7, "DREL32", OFFSETS, 4},
     {0x3F8, "DREL16", OFFSETS, 2},     {0x3F9, "DREL8", OFFSETS, 1},
     {0x3FD, "RELRELOC32", OFFSETS, 4}, {0x3FE, "ABSRELOC16", OFFSETS, 2},
@@ -451,12 +353,8 @@ static void list(struct listed *f)
 int main(int argc, char **argv)
 {
     again_room.size = (MOST_ROWS + BEHIND) * sizeof(struct hunk_block);
-    int made = make_guarded(&file_bytes) && make_guarded(&again_room);
-    for (int table = 0; table < TABLES; table++) {
-        row_room[table].size = MOST_ROWS * row_bytes[table];
-        made = made && make_guarded(&row_room[table]);
-    }
-    if (argc < 2 || !made)
+    if (argc < 2 || !make_guarded(&file_bytes) || !make_guarded(&again_room) ||
+        !make_rooms(row_room))
         return 3;
     call_without_bytes();
     for (int i = 1; i < argc; i++) {
