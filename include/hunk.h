@@ -78,12 +78,14 @@ struct hunk_row {
 #define HUNK_FINDING_BAD_TARGET UINT32_C(1)   /* a relocation's target is no hunk of the unit */
 #define HUNK_FINDING_OUTSIDE_HUNK UINT32_C(2) /* the bytes there go past the end of the hunk */
 
-/* Something that is wrong with an object file, and where: 24 bytes. */
+/* Something that is wrong with an object file, and where: 40 bytes. */
 struct hunk_finding {
-    uint64_t unit;   /* the unit, counted from 0 */
-    uint64_t hunk;   /* the hunk, counted from 0 in its unit */
-    uint32_t offset; /* the offset, in bytes from the start of the hunk */
-    uint32_t fault;  /* HUNK_FINDING_BAD_TARGET or HUNK_FINDING_OUTSIDE_HUNK */
+    uint64_t place;    /* the byte of the file at which the offset stands */
+    uint64_t unit;     /* the unit, counted from 0 */
+    uint64_t hunk;     /* the hunk, counted from 0 in its unit */
+    uint32_t offset;   /* the offset, in bytes from the start of the hunk */
+    uint32_t fault;    /* HUNK_FINDING_BAD_TARGET or HUNK_FINDING_OUTSIDE_HUNK */
+    uint64_t reserved; /* 0: room for what later versions may tell */
 };
 
 /* Reads the header that the bytes begin with, and writes a row for each hunk.

@@ -1,14 +1,13 @@
 /* What the library finds in files and leaves of them, in the words of `hunkinfo validate` and
  * `hunkinfo rewrite --strip`: checks OUT FILE.., where the stripped files go into the folder OUT.
  * Status 1 where an answer, or what it leaves in the caller's memory, is not what hunk.h says. */
-#include "guarded.h"
-
-#define MOST_ROWS 65536
+#include "tabled.h"
 
 static struct guarded file_bytes = {1 << 20, NULL};
 static struct guarded row_room = {(MOST_ROWS + BEHIND) * sizeof(struct hunk_finding), NULL};
 static struct guarded text_room = {(1 << 20) + BEHIND, NULL};
 static struct guarded again_room = {(1 << 20) + BEHIND, NULL};
+static struct guarded table_room[TABLES];
 
 /* A file as it was read, and what both calls answer of it, but for `number` and `count`. */
 struct checked {
@@ -28,6 +27,7 @@ static void print_finding(const struct checked *f, struct hunk_finding row)
 {
     int target = row.fault == HUNK_FINDING_BAD_TARGET;
     expect(target || row.fault == HUNK_FINDING_OUTSIDE_HUNK, f->name, "what is wrong");
+    expect(row.reserved == 0, f->name, "a reserved number");
     printf("unit %" PRIu64 " hunk %" PRIu64 " offset 0x%08" PRIx32 " %s\n", row.unit, row.hunk,
            row.offset, target ? "BadTarget" : "OutsideHunk");
 }
@@ -48,6 +48,103 @@ static void print_summary(const struct checked *f, uint64_t findings)
         printf("rest %" PRIu64 " bytes\n", f->len - f->of.place);
 }
 
+/* ---- The findings once more, by the rows of the tables. */
+
+/* Findings, and how many of them were looked at. */
+struct found {
+    const struct hunk_finding *rows;
+    uint64_t count;
+    uint64_t next;
+};
+
+/* The next finding has to be this. */
+static void want(struct found *found, const struct listed *f, struct hunk_finding wanted)
+{
+    int is_it = found->next < found->count &&
+                memcmp(&found->rows[found->next], &wanted, sizeof wanted) == 0;
+    expect(is_it, f->name, "a finding, by the tables");
+    expect(long_at(f, wanted.place) == wanted.offset, f->name, "the offset of a finding");
+    found->next++;
+}
+
+static void want_outside(struct found *found, const struct listed *f, struct hunk_finding wanted,
+                         uint32_t width, uint64_t bytes)
+{
+    wanted.fault = HUNK_FINDING_OUTSIDE_HUNK;
+    if (wanted.offset + (uint64_t)width > bytes)
+        want(found, f, wanted);
+}
+
+/* Those of the next relocation, in a hunk of so many bytes, and a unit of so many hunks. */
+static void want_relocation(struct found *found, struct listed *f, uint64_t bytes, uint64_t hunks)
+{
+    const struct hunk_relocation *r = next_row(f, RELOCATIONS);
+    struct hunk_finding wanted = {r->place, r->unit, r->hunk, r->offset, 0, 0};
+    wanted.fault = HUNK_FINDING_BAD_TARGET;
+    if (r->target >= hunks)
+        want(found, f, wanted);
+    want_outside(found, f, wanted, r->width, bytes);
+}
+
+/* Those of the references of the next entry. */
+static void want_entry(struct found *found, struct listed *f, uint64_t bytes)
+{
+    const struct hunk_entry *e = next_row(f, ENTRIES);
+    for (uint64_t i = 0; i < e->references; i++) {
+        const struct hunk_reference *r = next_row(f, REFERENCES);
+        struct hunk_finding wanted = {r->place, e->unit, e->hunk, r->offset, 0, 0};
+        want_outside(found, f, wanted, r->width, bytes);
+    }
+}
+
+/* The bytes of the hunk that begins with this block: those of its one content block. */
+static uint64_t hunk_bytes(const struct hunk_block *b)
+{
+    uint64_t bytes = b->memory;
+    for (; b->kind != END_KIND; b++)
+        bytes += b[1].memory;
+    return bytes;
+}
+
+/* The findings of an object file have to be those, in the order of the file. */
+static void want_all(struct found *found, struct listed *f)
+{
+    const struct hunk_unit *units = f->rows[UNITS];
+    uint64_t bytes = 0;
+    int opens = 1;
+    for (uint64_t i = 0; i < f->counts[BLOCKS]; i++) {
+        const struct hunk_block *b = next_row(f, BLOCKS);
+        bytes = opens ? hunk_bytes(b) : bytes;
+        opens = b->kind == END_KIND;
+        for (uint64_t item = 0; item < b->items && b->kind != SYMBOL_KIND; item++) {
+            if (b->kind == EXT_KIND)
+                want_entry(found, f, bytes);
+            else
+                want_relocation(found, f, bytes, units[b->unit].hunks);
+        }
+    }
+    expect(found->next == found->count, f->name, "more findings than by the tables");
+}
+
+static void compare(const struct checked *c, const struct hunk_finding *rows, uint64_t count)
+{
+    struct found found = {rows, count, 0};
+    struct listed f = {0};
+    f.name = c->name;
+    f.bytes = c->bytes;
+    f.len = c->len;
+    f.of = c->of;
+    for (int table = 0; table < TABLES; table++) {
+        f.counts[table] = call(table, f.bytes, f.len, NULL, 0).count;
+        f.rows[table] = marked(&table_room[table], f.counts[table] * row_bytes[table]);
+        call(table, f.bytes, f.len, f.rows[table], f.counts[table]);
+    }
+    if (f.of.hunk == 0)
+        want_all(&found, &f);
+}
+
+/* ---- The two calls. */
+
 /* A check without rows, with just as many as there are findings, with one fewer, and with more. */
 static int check(struct checked *f)
 {
@@ -66,6 +163,7 @@ static int check(struct checked *f)
     expect(same(hunk_check(f->bytes, f->len, rows, findings), all), f->name, "a check");
     for (uint64_t i = 0; i < findings; i++)
         print_finding(f, rows[i]);
+    compare(f, rows, findings);
     if (findings > 0) {
         rows = marked(&row_room, (findings - 1) * sizeof *rows);
         struct hunk_answer small = hunk_check(f->bytes, f->len, rows, findings - 1);
@@ -136,7 +234,7 @@ static void refuse_strip(const struct checked *f)
 int main(int argc, char **argv)
 {
     if (argc < 3 || !make_guarded(&file_bytes) || !make_guarded(&row_room) ||
-        !make_guarded(&text_room) || !make_guarded(&again_room))
+        !make_guarded(&text_room) || !make_guarded(&again_room) || !make_rooms(table_room))
         return 3;
     for (int i = 2; i < argc; i++) {
         struct checked f = {argv[i], NULL, 0, {0, 0, 0, 0}};

@@ -78,15 +78,18 @@ static void fill(void)
     PUT(1, 0x3F2);
 }
 
-/* hunk_check, with so many findings, each of offset 5 in the first hunk, and hunk_strip, which
- * leaves so many bytes. */
+/* hunk_check, with so many findings, each of offset 5 in the first hunk, one right after the other,
+ * and hunk_strip, which leaves so many bytes. */
 static void checked(const char *name, uint32_t hunks, size_t count, size_t left)
 {
     struct hunk_answer a = hunk_check(file, len, findings, MANY);
     expect(same(a, (struct hunk_answer){HUNK_OK, hunks, len, count}), name, "hunk_check");
+    static const uint8_t five[] = {0, 0, 0, 5};
     for (size_t i = 0; i < count; i++)
         expect(findings[i].unit == 0 && findings[i].hunk == 0 && findings[i].offset == 5 &&
-                   findings[i].fault == HUNK_FINDING_OUTSIDE_HUNK, name, "a finding");
+                   findings[i].fault == HUNK_FINDING_OUTSIDE_HUNK &&
+                   findings[i].place == findings[0].place + 4 * i && findings[i].reserved == 0 &&
+                   memcmp(file + findings[i].place, five, sizeof five) == 0, name, "a finding");
     uint8_t *text = marked(&text_room, len);
     a = hunk_strip(file, len, text, len);
     expect(same(a, (struct hunk_answer){HUNK_OK, hunks, len, left}), name, "hunk_strip");

@@ -3,9 +3,9 @@ use Rattle.std.proofs.Common.{◌≡◌, ◌≤◌, ◌++◌, ℕ, List, [], ◌
 use Rattle.hunk_words.specs.Longs.{longs}
 use Rattle.hunk_words.specs.declared.fault.Fault.{Fault}
 use Rattle.hunk_grammar.specs.FileKind.{sniffed}
-use Rattle.hunk_files.specs.Findings.{FindingValue}
 use Rattle.hunk_files.specs.HunkFile.{AreFile, IsFileOf, IsRefusal, file_bytes}
 use Rattle.hunk_files.specs.LoadFile.{LoadFileValue}
+use Rattle.hunk_files.specs.PlacedFindings.{PlacedFinding}
 use Rattle.hunk_files.specs.declared.hunk_file.HunkFile.{HunkFile}
 use Rattle.hunk_files.specs.declared.hunk_file.HunkFile.TheVariants as files
 use Rattle.hunk_c.specs.declared.answer.Answer.{Answer}
@@ -44,7 +44,7 @@ check_load bytes rows answer file value rest hunks size is load count end told =
 -- ---- where nothing is wrong
 
 -- No row is written for nothing.
-pub no_rows : (found : List FindingValue) (rows : List FindingRow) → length found ≡ 0 → rows ≡ map finding_row found ++ drop (length found) rows
+pub no_rows : (found : List PlacedFinding) (rows : List FindingRow) → length found ≡ 0 → rows ≡ map finding_row found ++ drop (length found) rows
 no_rows [] rows none = refl
 no_rows (f ∷ found) rows none = absurd (omega (arith, none))
 

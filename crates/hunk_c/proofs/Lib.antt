@@ -10,4 +10,3 @@ pub mod TableSizes
 pub mod Tabulated
 pub mod Items
 pub mod BlockRows
-pub mod OffsetsWithin

@@ -1,8 +1,8 @@
 -- What is wrong with a file, in the caller's rows.
 use Rattle.std.specs.Prelude.{◌≡◌, ℕ, ◌<◌, ◌≤◌, List, ◌++◌, length, map, drop}
 use Rattle.hunk_words.specs.declared.fault.Fault.{Fault}
-use Rattle.hunk_files.specs.Findings.{FindingValue}
 use Rattle.hunk_files.specs.HunkFile.{IsFileOf, file_bytes}
+use Rattle.hunk_files.specs.PlacedFindings.{PlacedFinding}
 use Rattle.hunk_files.specs.declared.hunk_file.HunkFile.{HunkFile}
 use Rattle.hunk_files.specs.declared.object.check.FindingKind.{FindingKind}
 use Rattle.hunk_files.specs.declared.object.check.FindingKind.TheVariants.{BadTarget, OutsideHunk}
@@ -16,8 +16,15 @@ kind_number BadTarget = 1
 kind_number OutsideHunk = 2
 
 -- what the caller sees of a finding
-abbrev pub finding_row : FindingValue → FindingRow
-finding_row f = record { unit = f.unit; hunk = f.hunk; offset = f.offset; fault = kind_number f.fault }
+abbrev pub finding_row : PlacedFinding → FindingRow
+finding_row f = record {
+  place = f.place;
+  unit = f.value.unit;
+  hunk = f.value.hunk;
+  offset = f.value.offset;
+  fault = kind_number f.value.fault;
+  reserved = 0;
+}
 
 -- What a check comes to. The rows begin with what is wrong with the file, and what lies after that is as it was; or all are as they were.
 pub data Checks (bytes : List ℕ) (old new : List FindingRow) (answer : Answer) : Type 0 where

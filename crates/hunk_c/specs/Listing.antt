@@ -1,9 +1,8 @@
 -- Rows that are listed one after the other.
-use Rattle.std.specs.Prelude.{ℕ, ◌+◌, ◌*◌, List, [], ◌∷◌, ◌++◌, length, map}
+use Rattle.std.specs.Prelude.{ℕ, ◌+◌, ◌*◌, List, [], ◌∷◌, ◌++◌, length}
 use Rattle.std.proofs.Common.{sym, subst}
 use Rattle.std.specs.List.{flat_map}
 use Rattle.std.proofs.lemmas.Grind.{flat_map-append}
-use Rattle.std.proofs.lemmas.List.{map-append}
 
 -- those of items whose texts stand one behind the other, from this byte on
 abbrev pub item_rows : {A Row : Type 0} → (ℕ → A → Row) → (A → List ℕ) → ℕ → List A → List Row
@@ -15,9 +14,3 @@ pub flat_more : {S A Row : Type 0} (rows : A → List Row) (Takes : S → List R
     (a b c : S) (xs ys : List A) → Takes a (flat_map rows xs) b → Takes b (flat_map rows ys) c → Takes a (flat_map rows (xs ++ ys)) c
 flat_more {S} {A} {Row} rows Takes more a b c xs ys first next =
     subst (λ (zs : List Row). Takes a zs c) (sym (flat_map-append rows xs ys)) (more a b c (flat_map rows xs) (flat_map rows ys) first next)
-
--- the same where each gives one row
-pub mapped_more : {S A Row : Type 0} (row : A → Row) (Takes : S → List Row → S → Type 0) → ((a b c : S) (xs ys : List Row) → Takes a xs b → Takes b ys c → Takes a (xs ++ ys) c) →
-    (a b c : S) (xs ys : List A) → Takes a (map row xs) b → Takes b (map row ys) c → Takes a (map row (xs ++ ys)) c
-mapped_more {S} {A} {Row} row Takes more a b c xs ys first next =
-    subst (λ (zs : List Row). Takes a zs c) (sym (map-append row xs ys)) (more a b c (map row xs) (map row ys) first next)

@@ -1,20 +1,22 @@
 //! What is wrong with the offsets of object files.
 ghost use Rattle.std.specs.Prelude.{◌≡◌, ◌<◌, ◌^◌, length, map};
 ghost use Rattle.std.proofs.Common.{◌∙◌, refl};
-ghost use Rattle.hunk_files.specs.Findings.{findings};
+ghost use Rattle.hunk_files.specs.Collecting.{mapped_more};
 ghost use Rattle.hunk_files.specs.HunkFile.{IsFileOf};
+ghost use Rattle.hunk_files.specs.PlacedFindings.{placed_findings};
 ghost use Rattle.hunk_files.specs.declared.hunk_file.HunkFile.TheVariants as files;
 ghost use Rattle.hunk_c.specs.Checks.{Checks, ChecksWhatFits, finding_row, kind_number};
-ghost use Rattle.hunk_c.specs.Listing.{mapped_more};
 
 use crate::answer::{Answer, done, no_room, refused};
 use crate::rows::{RowCount, RowFiller, TakesRows};
-use hunk_files::{FileView, Finding, FindingKind, ObjectView, TakesFindings};
+use hunk_files::{FileView, Finding, FindingKind, ObjectView, TakesPlacedFindings};
 
-/// What is wrong with an offset, and where it stands: 24 bytes, with no padding.
+/// What is wrong with an offset, and where it stands: 40 bytes, with no padding.
 #[repr(C)]
 #[derive(Clone, Copy, Debug, PartialEq, Eq)]
 pub struct FindingRow {
+    /// The byte of the file at which the offset stands.
+    pub place: u64,
     /// The unit, counted from 0.
     pub unit: u64,
     /// The hunk, counted from 0 in its unit.
@@ -23,6 +25,8 @@ pub struct FindingRow {
     pub offset: u32,
     /// What is wrong: 1 the target is no hunk of the unit, 2 the bytes go past the end of the hunk.
     pub fault: u32,
+    /// 0: room for what later versions may tell.
+    pub reserved: u64,
 }
 
 /// Checks the object file that the bytes are, or the load file that they begin with.
@@ -70,7 +74,7 @@ fn check_object(bytes: &[u8], file: &ObjectView<'_>, rows: &mut [FindingRow]) ->
 
 /// How many findings the file has.
 fn count_findings(file: &ObjectView<'_>) -> u64
-    ensures { result ≡ length (findings file.now) }
+    ensures { result ≡ length (placed_findings file.now) }
 {
     let mut counter = RowCount { count: 0 };
     list_findings(file, &mut counter);
@@ -79,8 +83,8 @@ fn count_findings(file: &ObjectView<'_>) -> u64
 
 /// Writes the row of each finding.
 fn put_rows(file: &ObjectView<'_>, rows: &mut [FindingRow])
-    requires { length rows.old ≡ length (findings file.now) }
-    ensures { rows.new ≡ map finding_row (findings file.now) }
+    requires { length rows.old ≡ length (placed_findings file.now) }
+    ensures { rows.new ≡ map finding_row (placed_findings file.now) }
 {
     let mut filler = RowFiller { rows, at: 0 };
     list_findings(file, &mut filler);
@@ -88,11 +92,11 @@ fn put_rows(file: &ObjectView<'_>, rows: &mut [FindingRow])
 
 /// Hands over the row of each finding.
 fn list_findings<T: TakesRows<FindingRow>>(file: &ObjectView<'_>, taker: &mut T)
-    ensures taken { T.takes taker.old (map finding_row (findings file.now)) taker.new }
-    ensures few { length (findings file.now) < 2 ^ 64 }
+    ensures taken { T.takes taker.old (map finding_row (placed_findings file.now)) taker.new }
+    ensures few { length (placed_findings file.now) < 2 ^ 64 }
 {
     let mut rows = FindingRows { taker };
-    let _units = file.check_with(&mut rows);
+    let _units = file.check_in_place(&mut rows);
 }
 
 /// Hands over the row of each finding that it takes.
@@ -101,7 +105,7 @@ struct FindingRows<'t, T> {
     taker: &'t mut T,
 }
 
-impl<T: TakesRows<FindingRow>> TakesFindings for FindingRows<'_, T> {
+impl<T: TakesRows<FindingRow>> TakesPlacedFindings for FindingRows<'_, T> {
     ghost takes = { λ a found b. (b.taker.ghost_name ≡ a.taker.ghost_name)
         × T.takes a.taker.now (map finding_row found) b.taker.now };
 
@@ -113,20 +117,22 @@ impl<T: TakesRows<FindingRow>> TakesFindings for FindingRows<'_, T> {
           first.1 next.1,
     ) };
 
-    fn take(&mut self, finding: Finding) {
-        self.taker.take(finding_row(&finding));
+    fn take(&mut self, place: u64, finding: Finding) {
+        self.taker.take(finding_row(place, &finding));
     }
 }
 
-/// What callers see of a finding.
-fn finding_row(finding: &Finding) -> FindingRow
-    ensures { result ≡ finding_row finding.now }
+/// What callers see of a finding of the offset at this byte.
+fn finding_row(place: u64, finding: &Finding) -> FindingRow
+    ensures { result ≡ finding_row (record { place = place; value = finding.now }) }
 {
     FindingRow {
+        place,
         unit: finding.unit,
         hunk: finding.hunk,
         offset: finding.offset,
         fault: kind_number(finding.fault),
+        reserved: 0,
     }
 }
 

@@ -4,8 +4,6 @@ ghost use Rattle.std.proofs.Common.{◌∙◌, refl};
 ghost use Rattle.std.specs.List.{AllByRecursion};
 ghost use Rattle.hunk_words.specs.Carriers.{saturated};
 ghost use Rattle.hunk_blocks.specs.Values.{IsExtEntry};
-ghost use Rattle.hunk_blocks.specs.Views.{entry_of};
-ghost use Rattle.hunk_files.specs.Findings.{reference_width};
 ghost use Rattle.hunk_c.specs.Listing.{item_rows};
 ghost use Rattle.hunk_c.specs.References.{TakesNumbered, entries_references, long_text};
 ghost use Rattle.hunk_c.specs.References.{numbered_more, numbered_none, reference_row};
@@ -14,8 +12,8 @@ ghost use Rattle.hunk_c.specs.Rows.{Tabulates, TabulatesWhatFits};
 
 use crate::answer::Answer;
 use crate::rows::{Table, TakesRows, tabulate};
-use hunk_blocks::{BlockView, BodyView, EntriesIter, Entry, Longs};
-use hunk_files::{FileView, TakesBlocks};
+use hunk_blocks::{BlockView, BodyView, EntriesIter, Longs};
+use hunk_files::{FileView, TakesBlocks, reference_width};
 
 /// An offset that refers to what an EXT entry names: 32 bytes, with no padding.
 #[repr(C)]
@@ -111,23 +109,13 @@ fn list_entries<T: TakesRows<ReferenceRow>>(
         list_references(
             taker,
             number,
-            width(&entry),
+            reference_width(&entry) as u32,
             &entry.offsets,
             entries.place(),
         );
         number = number.saturating_add(1);
     }
     number
-}
-
-/// How many bytes an offset of the entry stands for; 0 for a definition, which has no offsets.
-fn width(entry: &Entry<'_>) -> u32
-    ensures { result ≡ reference_width (entry_of entry.now) }
-{
-    match entry.kind() {
-        Some(kind) => kind.width().unwrap_or(0) as u32,
-        None => 0,
-    }
 }
 
 /// Hands over the row of each of these offsets, which end at this byte of the file.

@@ -5,10 +5,10 @@ use Rattle.hunk_blocks.specs.Values.{ExtEntry}
 use Rattle.hunk_blocks.specs.Views.{entry_of}
 use Rattle.hunk_files.specs.Findings.{reference_width}
 use Rattle.hunk_files.proofs.FindingSteps.{taken_on}
+use Rattle.hunk_files.proofs.OffsetsWithin.{first_is, offsets_within}
 use Rattle.hunk_c.specs.Listing.{item_rows}
 use Rattle.hunk_c.specs.References.{entries_references, entry_references, long_text, reference_row}
 use Rattle.hunk_c.specs.declared.references.ReferenceRow.{ReferenceRow}
-use Rattle.hunk_c.proofs.OffsetsWithin.{first_is, offsets_within}
 use Rattle.hunk_c.proofs.references.list_entries.Goals as goal
 
 pub list_references-requires : goal.list_references-requires
@@ -28,9 +28,9 @@ listing-preserved g c =
           let so = c.listing.invariant.1 n is in
           let end = old.place + 4 * length (ext_text entry) in
           let here = λ (m w p : ℕ). item_rows (reference_row m w) long_text (p - 4 * length entry.offsets) entry.offsets in
-          let rows : here c.listing.number c.width.result c.place.result ≡ entry_references so.0 end entry =
-          ap (λ (m : ℕ). here m c.width.result c.place.result) so.1
-          ∙ ap (λ (w : ℕ). here (saturated so.0) w c.place.result) c.width.ensures
+          let rows : here c.listing.number c.reference_width.result c.place.result ≡ entry_references so.0 end entry =
+          ap (λ (m : ℕ). here m c.reference_width.result c.place.result) so.1
+          ∙ ap (λ (w : ℕ). here (saturated so.0) w c.place.result) c.reference_width.ensures.value
           ∙ ap (λ (p : ℕ). here (saturated so.0) (reference_width entry) p) (c.place.ensures ∙ steps.1) in
           let first : entries_references so.0 old.place old.value ≡ entry_references so.0 end entry ++ entries_references (so.0 + 1) new.place new.value =
           ap (λ (es : List ExtEntry). entries_references so.0 old.place es) steps.0
