@@ -22,6 +22,13 @@
 extern "C" {
 #endif
 
+/* The number of this interface, which a program is compiled for. */
+#define HUNK_ABI UINT32_C(1)
+
+/* The number of the interface that the library has. Where it is not HUNK_ABI, the program is to be
+ * compiled anew, and calls nothing else. */
+uint32_t hunk_abi(void);
+
 /* The numbers of answers: 0, the number of a reason, HUNK_NO_ROOM or HUNK_STRANGE. */
 #define HUNK_OK UINT32_C(0)
 #define HUNK_NOT_LOAD_FILE UINT32_C(1)        /* the first longword is not 3F3 */

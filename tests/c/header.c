@@ -159,6 +159,10 @@ static int is_named(uint32_t number, const char *name)
 int main(void)
 {
     int status = 0;
+    if (HUNK_ABI != 1 || hunk_abi() != 1) {
+        fprintf(stderr, "another interface: %u\n", (unsigned)hunk_abi());
+        status = 1;
+    }
     for (size_t i = 0; i < sizeof reasons / sizeof *reasons; i++) {
         if (i <= HUNK_STRANGE && reasons[i].number != i) {
             fprintf(stderr, "number %u is not in its place\n", (unsigned)reasons[i].number);

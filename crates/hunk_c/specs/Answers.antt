@@ -38,3 +38,9 @@ strange_number = 33
 
 abbrev pub strange : Answer
 strange = record { number = strange_number; hunk = 0; place = 0; count = 0 }
+
+-- ---- the interface
+
+-- the number of the interface of include/hunk.h, HUNK_ABI there
+abbrev pub interface_number : ℕ
+interface_number = 1

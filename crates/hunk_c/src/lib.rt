@@ -4,6 +4,7 @@
 //! between two calls, hands out no pointer, and tests every number that it is given.
 #![tactic(auto)]
 
+mod abi;
 mod answer;
 mod blocks;
 mod check;
@@ -24,6 +25,7 @@ mod symbols;
 mod table;
 mod units;
 
+pub use crate::abi::hunk_abi;
 pub use crate::answer::Answer;
 pub use crate::blocks::{BlockRow, hunk_blocks};
 pub use crate::check::{FindingRow, hunk_check};
