@@ -11,6 +11,12 @@
  * - Each pointer points to as many elements as its length says, aligned for their type. Where the
  *   length is 0 it may be NULL. Misaligned pointers are forbidden.
  * - The memory that is written overlaps no other argument: overlaps are forbidden.
+ *
+ * What a program that is not compiled anew may count on, as long as HUNK_ABI stays the same
+ * (libhunk.so.1): structs keep their size and the places of their fields, calls their arguments,
+ * and answers their numbers, names and meaning. Calls may be added, and numbers above 33. A field
+ * that is reserved is written as 0 and is not read. It may come to mean something, where 0 means
+ * that all is as it was.
  */
 #ifndef HUNK_H
 #define HUNK_H
@@ -161,7 +167,7 @@ struct hunk_place {
     uint32_t base;  /* the address of its first byte */
 };
 
-/* Where a loader stands: 64 bytes, which a program just stores. Any numbers are safe here: zero
+/* Where a loader stands: 96 bytes, which a program just stores. Any numbers are safe here: zero
  * bytes are answered by HUNK_STRANGE, and so are those with which a call would leave the places or
  * the memory. Other numbers that no loader can have may go undetected. */
 struct hunk_loader {
@@ -181,6 +187,7 @@ struct hunk_loader {
     uint8_t first;         /* and which */
     uint8_t second;
     uint8_t third;
+    uint64_t reserved[4];  /* 0 */
 };
 
 /* Sets a loader to the end of the header of a file, and makes the memory zero.

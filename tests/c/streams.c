@@ -59,6 +59,12 @@ static const uint8_t *piece_of(const uint8_t *bytes, size_t len)
     return piece;
 }
 
+/* Whether the fields that are reserved are 0. */
+static int is_unused(const struct hunk_loader *l)
+{
+    return l->reserved[0] == 0 && l->reserved[1] == 0 && l->reserved[2] == 0 && l->reserved[3] == 0;
+}
+
 /* After a refusal: whatever comes, the same, and nothing is written. */
 static void refused_for_good(const struct streamed *f, struct hunk_loader *loader, uint8_t *memory)
 {
@@ -84,6 +90,7 @@ static void begins_not(const struct streamed *f, size_t hunks, uint64_t header, 
     uint8_t *memory = marked(&memory_room, room);
     struct hunk_answer a = hunk_begin(loader, f->places, hunks, header, memory, room);
     expect(same(a, wanted), f->name, "the begin of what does not fit");
+    expect(is_unused(loader), f->name, "what is reserved without a begin");
     a = hunk_feed(loader, f->places, hunks, memory, room, piece_of(f->bytes, 4), 4);
     expect(same(a, strange), f->name, "a piece without a begin");
     expect(same(hunk_end(loader), strange), f->name, "an end without a begin");
@@ -136,6 +143,7 @@ static void streamed(const struct streamed *f, size_t most)
                                           room);
     struct hunk_answer all = {HUNK_OK, f->table.hunk, f->table.place, room};
     expect(same(begun, all), f->name, "the begin of a stream");
+    expect(is_unused(loader), f->name, "what is reserved at the begin");
     struct hunk_answer nothing =
         hunk_feed(loader, f->places, f->table.hunk, memory, room, NULL, 0);
     struct hunk_answer header = {HUNK_OK, 0, f->table.place, 0};
@@ -146,6 +154,7 @@ static void streamed(const struct streamed *f, size_t most)
         size_t len = f->len - at < most ? f->len - at : most;
         struct hunk_answer a = hunk_feed(loader, f->places, f->table.hunk, memory, room,
                                          piece_of(f->bytes + at, len), len);
+        expect(is_unused(loader), f->name, "what is reserved in a stream");
         if (a.number != HUNK_OK) {
             expect(same(a, f->wanted), f->name, "the fault of a stream");
             refused_for_good(f, loader, memory);
@@ -210,6 +219,8 @@ static void put_numbers(struct hunk_loader *l)
     l->first = (uint8_t)(any() % 4 ? 0 : any());
     l->second = (uint8_t)(any() % 4 ? 0 : any());
     l->third = (uint8_t)(any() % 4 ? 0 : any());
+    for (size_t i = 0; i < 4; i++)
+        l->reserved[i] = any() % 2 ? 0 : number();
 }
 
 /* A loader of any numbers is fed: how it answers, and that a fault stays. */
@@ -230,12 +241,16 @@ static uint32_t fed_any(uint8_t *memory, size_t len)
     struct hunk_answer a = hunk_feed(l, places, hunks, memory, len, piece, size);
     struct hunk_loader new = *l;
     struct hunk_answer end = hunk_end(l);
+    memset(l->reserved, MARK, sizeof l->reserved);
+    expect(same(hunk_end(l), end), "any numbers", "the end whatever is reserved");
+    *l = new;
     if (a.number == HUNK_STRANGE) {
         struct hunk_answer strange = {HUNK_STRANGE, 0, 0, 0};
         expect(same(a, strange), "any numbers", "the answer to strange ones");
         expect(memcmp(&old, &new, sizeof old) == 0, "any numbers", "strange ones are kept");
     } else if (a.number == HUNK_OK) {
         expect(a.count <= size && a.place == new.fed, "any numbers", "what was taken");
+        expect(is_unused(&new), "any numbers", "what is reserved");
         expect(end.number == HUNK_OK || end.number == HUNK_TRUNCATED, "any numbers", "the end");
     } else {
         struct hunk_answer again = hunk_feed(l, places, hunks, memory, len, piece, size);

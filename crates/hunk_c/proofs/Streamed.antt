@@ -41,7 +41,7 @@ use Rattle.hunk_scatter.proofs.OneByte.{not_done}
 use Rattle.hunk_scatter.proofs.WholeLongs.{run_taken}
 use Rattle.hunk_c.specs.declared.loader.Loader.{Loader}
 use Rattle.hunk_c.specs.Answers.{done}
-use Rattle.hunk_c.specs.Streams.{IsStreamed, PassesOver, Stands, is_external, loader_position, position_in, standing_at, standing_of, stands_in_body}
+use Rattle.hunk_c.specs.Streams.{IsStreamed, PassesOver, Stands, is_external, loader_position, position_in, standing_at, standing_of, stands_in_body, unused}
 use Rattle.hunk_c.proofs.Loaded.{same_answer}
 
 -- ---- where a loader stands
@@ -126,6 +126,7 @@ behind_piece l n = record {
   first = l.first;
   second = l.second;
   third = l.third;
+  reserved = unused;
 }
 
 module _ (l : Loader) (piece : List ℕ) (payload : l.phase ≡ 8) (clean : l.pending ≡ 0) (are : IsBytes piece) (fours : length piece % 4 ≡ 0) (some : 0 < length piece) (few : length piece / 4 ≤ l.owed) where
@@ -150,6 +151,7 @@ module _ (l : Loader) (piece : List ℕ) (payload : l.phase ≡ 8) (clean : l.pe
   pub passes_over : PassesOver l (behind_piece l (length piece)) piece
   passes_over = record {
     has_standing = (payload_at l l.fed l.owed, in_payload l payload);
+    reserved = refl;
     takes =
         λ rows memory fed h.
         record {

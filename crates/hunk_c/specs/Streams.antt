@@ -1,5 +1,5 @@
 -- A loader in numbers, which a C program keeps and feeds piece by piece.
-use Rattle.std.specs.Prelude.{◌≡◌, ℕ, ◌*◌, ◌/◌, ◌<◌, ◌≤◌, ◌==◌, List, ◌++◌, length, take, if◌then◌else◌, replicate, Bool, true, false, not, Option, Some, None, IsTrue}
+use Rattle.std.specs.Prelude.{◌≡◌, ℕ, ◌*◌, ◌/◌, ◌<◌, ◌≤◌, ◌==◌, List, [], ◌∷◌, ◌++◌, length, take, if◌then◌else◌, replicate, Bool, true, false, not, Option, Some, None, IsTrue}
 use Rattle.hunk_words.specs.Carriers.{saturated}
 use Rattle.hunk_words.specs.Longs.{bytes_of}
 use Rattle.hunk_words.specs.Reasons.{number_of}
@@ -104,6 +104,10 @@ pub record HasSizes (table : List TableEntry) (header bytes : ℕ) : Type 0 wher
   pub header_is : header ≡ length (header_bytes table)
   pub bytes_are : bytes ≡ declared_bytes table
 
+-- the room to grow, as it is written
+abbrev pub unused : List ℕ
+unused = 0 ∷ 0 ∷ 0 ∷ 0 ∷ []
+
 -- the numbers of no loader: no longword is for the phase 0
 abbrev pub no_loader : Loader
 no_loader = record {
@@ -123,6 +127,7 @@ no_loader = record {
   first = 0;
   second = 0;
   third = 0;
+  reserved = unused;
 }
 
 -- What the begin of a stream comes to: the loader stands after the header of the rows' table, and the memory is zero;
@@ -130,7 +135,7 @@ no_loader = record {
 -- or it is too large, or the rows are not those of a table whose header has this many bytes.
 pub data Begins (rows : List Row) (header : ℕ) (new : Loader) (memory after : List ℕ) (answer : Answer) : Type 0 where
   HasBegun : HasSizes (entries_of rows) header (length memory)
-      → Stands rows new after (header_bytes (entries_of rows)) → after ≡ replicate (length memory) 0
+      → Stands rows new after (header_bytes (entries_of rows)) → after ≡ replicate (length memory) 0 → new.reserved ≡ unused
       → answer ≡ done (length rows) header (length memory) → Begins rows header new memory after answer
   LacksRoom : (bytes : ℕ) → HasSizes (entries_of rows) header bytes → length memory < bytes → new ≡ no_loader → after ≡ memory
       → answer ≡ no_room (length rows) header bytes → Begins rows header new memory after answer
@@ -139,7 +144,7 @@ pub data Begins (rows : List Row) (header : ℕ) (new : Loader) (memory after : 
 
 -- ---- refusals
 
--- with this refusal, and otherwise as it was
+-- with this refusal, and otherwise as it was, but for the room to grow
 abbrev pub refusing : Loader → Fault → Loader
 refusing l f = record {
   start = l.start;
@@ -158,6 +163,7 @@ refusing l f = record {
   first = l.first;
   second = l.second;
   third = l.third;
+  reserved = unused;
 }
 
 -- The answer of a loader that has refused a longword: the same again. The number of no reason is none that it may have.
@@ -176,6 +182,7 @@ TakesPiece rows old new memory after piece count =
 -- The piece is passed over: whatever was fed before, all of it is fed then, and the memory is as it was.
 pub record PassesOver (old new : Loader) (piece : List ℕ) : Type 0 where
   pub has_standing : HasStanding old
+  pub reserved : new.reserved ≡ unused
   pub takes : (rows : List Row) (memory : List ℕ) → TakesPiece rows old new memory memory piece (length piece)
 
 -- Whatever bytes were fed before, with the piece after them they are refused so.
@@ -191,7 +198,7 @@ StandsNowhere rows old memory = (fed : List ℕ) → Stands rows old memory fed 
 -- or no byte of it is looked at, for an earlier refusal or for numbers that no loader has.
 pub data Feeds (rows : List Row) (old new : Loader) (memory after piece : List ℕ) (answer : Answer) : Type 0 where
   HasTaken : (count : ℕ) → old.refused ≡ 0 → HasStanding old → count ≤ length piece
-      → (count < length piece → new.phase ≡ whole) → TakesPiece rows old new memory after piece count
+      → (count < length piece → new.phase ≡ whole) → TakesPiece rows old new memory after piece count → new.reserved ≡ unused
       → answer ≡ done new.hunk new.fed count → Feeds rows old new memory after piece answer
   HasRefused : (f : Fault) → old.refused ≡ 0 → HasStanding old → IsTrue (is_of_body f.reason) → RefusesPiece rows old memory piece f
       → new ≡ refusing old f → answer ≡ refused f → Feeds rows old new memory after piece answer

@@ -2,14 +2,15 @@
 ghost use Rattle.std.specs.Prelude.{◌≡◌, true, false, Some, IfSome, MatchOption};
 ghost use Rattle.hunk_grammar.specs.Positions.{is_done};
 ghost use Rattle.hunk_c.specs.Streams.{PassesOver, TellsAgain, is_external, loader_position, phase_in};
-ghost use Rattle.hunk_c.specs.Streams.{position_in, refusing, standing_of, stands_in_body, whole};
+ghost use Rattle.hunk_c.specs.Streams.{position_in, refusing, standing_of, stands_in_body, unused};
+ghost use Rattle.hunk_c.specs.Streams.{whole};
 
 use crate::answer::{Answer, refused, strange};
 use hunk_grammar::{OpenHunk, Phase, Position};
 use hunk_scatter::stream::{BodyState, Pending, Standing};
 use hunk_words::Fault;
 
-/// Where a loader stands between two pieces: 64 bytes, with no padding.
+/// Where a loader stands between two pieces: 96 bytes, with no padding.
 ///
 /// Any numbers may stand here. Zeros are answered by `STRANGE`, and so are those that lead out of
 /// the rows or the memory.
@@ -48,7 +49,12 @@ pub struct Loader {
     pub second: u8,
     /// The third of these bytes.
     pub third: u8,
+    /// Room to grow: written as 0, and not read.
+    pub reserved: [u64; 4],
 }
+
+/// The room to grow, as it is written.
+const UNUSED: [u64; 4] = [0; 4];
 
 /// Numbers of no loader, which every call answers by `STRANGE`.
 pub(crate) const NO_LOADER: Loader = Loader {
@@ -68,6 +74,7 @@ pub(crate) const NO_LOADER: Loader = Loader {
     first: 0,
     second: 0,
     third: 0,
+    reserved: UNUSED,
 };
 
 /// The phase of a loader inside a payload.
@@ -85,6 +92,7 @@ impl Loader {
         ensures standing { stands_in_body at.state.position ≡ true → standing_of result ≡ Some at }
         ensures ends { is_done at.state.position ≡ true → result.phase ≡ whole }
         ensures unrefused { result.refused ≡ 0 }
+        ensures reserved { result.reserved ≡ unused }
     {
         let (hunk, phase, part, owed) = numbers_of(at.state.position);
         Loader {
@@ -104,6 +112,7 @@ impl Loader {
             first: at.pending.first,
             second: at.pending.second,
             third: at.pending.third,
+            reserved: UNUSED,
         }
     }
 
@@ -116,6 +125,7 @@ impl Loader {
             place: answer.place,
             refused: answer.number,
             refused_hunk: answer.hunk,
+            reserved: UNUSED,
             ..self
         }
     }
@@ -154,6 +164,7 @@ impl Loader {
         Some(Loader {
             fed: self.fed.saturating_add(piece.len() as u64),
             owed: self.owed - longs as u32,
+            reserved: UNUSED,
             ..*self
         })
     }

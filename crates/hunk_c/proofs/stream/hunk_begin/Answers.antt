@@ -28,5 +28,5 @@ returns c =
       numbers = c.of.ensures.standing (behind c.args.rows.now c.begin.new.store c.begin.result (header_bytes table) f);
       is_fed = f;
     })
-    c.begin.ensures.zero
+    c.begin.ensures.zero c.of.ensures.reserved
     (c.done.ensures ∙ ap (done (length c.args.rows.now) c.args.header) room)

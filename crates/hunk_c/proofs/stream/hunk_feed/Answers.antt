@@ -9,7 +9,7 @@ use Rattle.hunk_c.proofs.stream.hunk_feed.Goals as goal
 pub returns-in-Some-pass_payload : goal.returns-in-Some-pass_payload
 returns-in-Some-pass_payload c =
     let over = c.in-Some-pass_payload.ensures in
-    HasTaken (length c.args.piece.now) c.in_default.ensures over.has_standing (omega arith) (λ less. absurd (omega (arith, less))) (over.takes _ _)
+    HasTaken (length c.args.piece.now) c.in_default.ensures over.has_standing (omega arith) (λ less. absurd (omega (arith, less))) (over.takes _ _) over.reserved
     (c.done.ensures ∙ same_answer 0 _ _ _ _ _ _ refl refl (omega arith))
 
 pub returns-in-Ok : goal.returns-in-Ok
@@ -24,6 +24,7 @@ returns-in-Ok c =
       numbers = c.of.ensures.standing (behind c.args.rows.now c.take_piece.new.store c.in-Ok.to (fed ++ take c.in-Ok.taken c.args.piece.now) k);
       is_fed = k;
     })
+    c.of.ensures.reserved
     (c.done-in-Ok.ensures ∙ same_answer 0 _ _ _ _ _ _ refl refl (omega arith))
 
 pub returns-in-Err-Refused : goal.returns-in-Err-Refused
