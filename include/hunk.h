@@ -153,11 +153,11 @@ struct hunk_answer hunk_load_packed(const uint8_t *bytes, size_t bytes_len, uint
 
 /* ---- A load file that comes piece by piece, of which no copy is kept.
  *
- * hunk_table reads the header, which has to be in one piece, into the caller's rows. The three
+ * hunk_table reads the header, which has to be in one piece, into the caller's rows. The four
  * calls below know the file by its places, and by what the loader has: numbers alone, which may be
  * copied and stored, and belong to one file, its places and its memory. hunk_begin sets them,
- * hunk_feed takes the bytes after the header in pieces of any size, and hunk_end says whether the
- * file is whole.
+ * hunk_feed takes the bytes after the header in pieces of any size, hunk_end says whether the file
+ * is whole, and hunk_want how many bytes are still to come.
  */
 
 /* Where a hunk lies: 12 bytes. */
@@ -244,6 +244,20 @@ struct hunk_answer hunk_feed(struct hunk_loader *loader, const struct hunk_place
  * Else the same as hunk_feed has answered, where it answered a fault.
  */
 struct hunk_answer hunk_end(const struct hunk_loader *loader);
+
+/* Says how many bytes of the file are still to come at least. It reads the loader, and writes
+ * nothing.
+ *
+ * HUNK_OK       count: as many bytes may be asked of a pipe on which something else follows the
+ *               file, 0 where the file is whole; place: the bytes of header and body so far,
+ *               2^64 - 1 at most; hunk: the hunks that are whole.
+ * HUNK_STRANGE  the loader's numbers are none that a loader may have.
+ * Else the same as hunk_feed has answered, where it answered a fault.
+ *
+ * All that is known to come is asked for at once, as the rest of a content, and behind it the
+ * longwords that the end of the file has at least.
+ */
+struct hunk_answer hunk_want(const struct hunk_loader *loader);
 
 /* Checks the object file that the bytes are, or the load file that they begin with: bytes that
  * begin with 3E7 are read as an object file, all others as a load file.

@@ -49,6 +49,7 @@ static void load(void) { answer = hunk_load(file, sizeof file, bases, HUNKS, mem
 static void packed(void) { answer = hunk_load_packed(file, sizeof file, 0, memory, 12); }
 static void begin(void) { answer = hunk_begin(&loader, places, HUNKS, HEADER, memory, 12); }
 static void end(void) { answer = hunk_end(&loader); }
+static void want(void) { answer = hunk_want(&loader); }
 static void check(void) { answer = hunk_check(object, sizeof object, findings, FINDINGS); }
 static void check_load(void) { answer = hunk_check(file, sizeof file, findings, FINDINGS); }
 static void list_load(void) { answer = hunk_blocks(file, sizeof file, blocks, BLOCKS); }
@@ -78,6 +79,7 @@ static const struct {
     {"hunk_begin", begin, ALL},
     {"hunk_feed", feed, ALL},
     {"hunk_end", end, ALL},
+    {"hunk_want", want, ALL},
     {"hunk_check", check, ALL},
     {"hunk_check of a load file", check_load, ALL},
     {"hunk_blocks", list, ALL},

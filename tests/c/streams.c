@@ -77,6 +77,7 @@ static void refused_for_good(const struct streamed *f, struct hunk_loader *loade
         expect(same(again, f->wanted), f->name, "the same fault again");
     }
     expect(same(hunk_end(loader), f->wanted), f->name, "the same fault at the end");
+    expect(same(hunk_want(loader), f->wanted), f->name, "the same fault where more is wanted");
     expect(memcmp(loader, &before, sizeof before) == 0, f->name, "the loader after a fault");
     expect(all_marked(memory, f->table.count), f->name, "the memory after a fault");
 }
@@ -94,6 +95,7 @@ static void begins_not(const struct streamed *f, size_t hunks, uint64_t header, 
     a = hunk_feed(loader, f->places, hunks, memory, room, piece_of(f->bytes, 4), 4);
     expect(same(a, strange), f->name, "a piece without a begin");
     expect(same(hunk_end(loader), strange), f->name, "an end without a begin");
+    expect(same(hunk_want(loader), strange), f->name, "what is wanted without a begin");
     expect(all_marked(memory, room), f->name, "the memory without a begin");
 }
 
@@ -130,7 +132,45 @@ static void has_no_phase(const struct streamed *f)
             hunk_feed(loader, f->places, hunks, memory, room, piece_of(f->bytes, 4), 4);
         expect(same(a, strange), f->name, "a longword at no phase");
         expect(same(hunk_end(loader), strange), f->name, "the end at no phase");
+        expect(same(hunk_want(loader), strange), f->name, "what is wanted at no phase");
     }
+}
+
+/* What is wanted after so many bytes: whole longwords up to the end of the file at most, and none
+ * where it is whole. It is how many. */
+static uint64_t wanted(const struct streamed *f, const struct hunk_loader *loader, uint64_t at,
+                       uint32_t hunks)
+{
+    struct hunk_answer a = hunk_want(loader);
+    expect(a.number == HUNK_OK && a.place == at && a.hunk == hunks, f->name, "where more is wanted");
+    expect((at + a.count) % 4 == 0, f->name, "whole longwords are wanted");
+    expect((a.count == 0) == (hunk_end(loader).number == HUNK_OK), f->name, "more is wanted");
+    if (f->wanted.number == HUNK_OK)
+        expect(at + a.count <= f->wanted.place, f->name, "no byte behind the file is wanted");
+    return a.count;
+}
+
+/* Just what is wanted is fed, as long as there is as much: all of the file, and no byte behind it. */
+static void fed_as_wanted(const struct streamed *f)
+{
+    struct hunk_loader *loader = marked(&loader_room, sizeof *loader);
+    size_t room = f->table.count, at = f->table.place, len;
+    uint8_t *memory = marked(&memory_room, room);
+    struct hunk_answer a = hunk_begin(loader, f->places, f->table.hunk, f->table.place, memory, room);
+    a.hunk = 0;
+    while ((len = wanted(f, loader, at, a.hunk)) > 0 && len <= f->len - at) {
+        a = hunk_feed(loader, f->places, f->table.hunk, memory, room, f->bytes + at, len);
+        if (a.number != HUNK_OK) {
+            expect(same(a, f->wanted), f->name, "the fault of what was wanted");
+            return;
+        }
+        expect(a.count == len, f->name, "what was wanted is taken");
+        at += len;
+    }
+    if (len == 0)
+        expect(f->wanted.number == HUNK_OK && at == f->wanted.place, f->name, "all was wanted");
+    else
+        expect(f->wanted.number != HUNK_OK, f->name, "more is wanted than there is");
 }
 
 /* The whole of the bytes behind the header, in pieces of so many: what is taken, and the end. */
@@ -162,6 +202,7 @@ static void streamed(const struct streamed *f, size_t most)
         }
         at += a.count;
         expect(a.place == at && a.hunk <= f->table.hunk, f->name, "how far a stream has come");
+        wanted(f, loader, at, a.hunk);
         if (a.count < len)
             break;
     }
@@ -244,6 +285,13 @@ static uint32_t fed_any(uint8_t *memory, size_t len)
     memset(l->reserved, MARK, sizeof l->reserved);
     expect(same(hunk_end(l), end), "any numbers", "the end whatever is reserved");
     *l = new;
+    struct hunk_answer want = hunk_want(l);
+    if (new.refused == 0 && end.number != HUNK_STRANGE)
+        expect(want.number == HUNK_OK && want.place == new.fed && want.hunk == new.hunk,
+               "any numbers", "where more is wanted");
+    else
+        expect(same(want, end), "any numbers", "what is wanted at the end");
+    expect(memcmp(l, &new, sizeof new) == 0, "any numbers", "no number is changed");
     if (a.number == HUNK_STRANGE) {
         struct hunk_answer strange = {HUNK_STRANGE, 0, 0, 0};
         expect(same(a, strange), "any numbers", "the answer to strange ones");
@@ -252,6 +300,7 @@ static uint32_t fed_any(uint8_t *memory, size_t len)
         expect(a.count <= size && a.place == new.fed, "any numbers", "what was taken");
         expect(is_unused(&new), "any numbers", "what is reserved");
         expect(end.number == HUNK_OK || end.number == HUNK_TRUNCATED, "any numbers", "the end");
+        expect((want.count == 0) == (end.number == HUNK_OK), "any numbers", "more is wanted");
     } else {
         struct hunk_answer again = hunk_feed(l, places, hunks, memory, len, piece, size);
         expect(same(a, again) && same(a, end), "any numbers", "the same fault again");
@@ -302,6 +351,7 @@ int main(int argc, char **argv)
         has_no_phase(&f);
         for (size_t l = 0; l < sizeof lengths / sizeof *lengths; l++)
             streamed(&f, lengths[l]);
+        fed_as_wanted(&f);
     }
     expect(whole > 100 && cut > 100 && faults > 100, "files", "whole, cut and refused ones");
     return !any_numbers() || failures > 0;

@@ -18,6 +18,7 @@ use Rattle.hunk_files.specs.declared.row.Row.{Row}
 use Rattle.hunk_scatter.specs.HeaderBytes.{IsHeaderTable, header_bytes}
 use Rattle.hunk_scatter.specs.LoaderReasons.{is_of_body}
 use Rattle.hunk_scatter.specs.LoaderValues.{IsBodyRefusal, told_place}
+use Rattle.hunk_scatter.specs.Owing.{FileOwes}
 use Rattle.hunk_scatter.specs.Rows.{bases_of, entries_of}
 use Rattle.hunk_scatter.specs.Streaming.{IsFed}
 use Rattle.hunk_scatter.specs.declared.stream.Standing.{Standing}
@@ -239,3 +240,16 @@ pub data Ends (l : Loader) (answer : Answer) : Type 0 where
       → answer ≡ refused (record { place = 4 * (l.fed / 4); reason = reasons.Truncated }) → Ends l answer
   WasRefused : TellsAgain l answer → Ends l answer
   HasNoEnd : l.refused ≡ 0 → IsNoLoader l → answer ≡ strange → Ends l answer
+
+-- ---- what is wanted
+
+-- Whatever rows, memory and bytes the loader was given, a file that begins with these bytes still has this many at least.
+abbrev pub OwesBytes : Loader → ℕ → Type 0
+OwesBytes l owed = (rows : List Row) (memory fed : List ℕ) → Stands rows l memory fed → FileOwes fed owed
+
+-- What a loader wants: what is still to come of the file, nothing where it is whole;
+-- or nothing is known of it, for an earlier refusal or for numbers that no loader has.
+pub data Wants (l : Loader) (answer : Answer) : Type 0 where
+  HasWant : (owed : ℕ) → l.refused ≡ 0 → HasStanding l → OwesBytes l owed → answer ≡ done l.hunk l.fed owed → Wants l answer
+  WantsNothing : TellsAgain l answer → Wants l answer
+  HasNoWant : l.refused ≡ 0 → IsNoLoader l → answer ≡ strange → Wants l answer

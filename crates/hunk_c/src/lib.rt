@@ -35,7 +35,7 @@ pub use crate::loader::Loader;
 pub use crate::reason::hunk_reason;
 pub use crate::references::{ReferenceRow, hunk_references};
 pub use crate::relocations::{RelocationRow, hunk_relocations};
-pub use crate::stream::{hunk_begin, hunk_end, hunk_feed};
+pub use crate::stream::{hunk_begin, hunk_end, hunk_feed, hunk_want};
 pub use crate::strip::hunk_strip;
 pub use crate::symbols::{SymbolRow, hunk_symbols};
 pub use crate::table::{TableRow, hunk_table};

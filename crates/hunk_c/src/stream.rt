@@ -2,7 +2,7 @@
 //!
 //! What a loader has to know between two pieces is in numbers, which the caller keeps, with rows
 //! that say where each hunk lies.
-ghost use Rattle.hunk_c.specs.Streams.{Begins, Ends, Feeds};
+ghost use Rattle.hunk_c.specs.Streams.{Begins, Ends, Feeds, Wants};
 
 use crate::answer::{Answer, done, no_room, refused, strange};
 use crate::loader::{Loader, NO_LOADER};
@@ -115,4 +115,26 @@ pub extern "C" fn hunk_end(loader: &Loader) -> Answer
         place: loader.fed / 4 * 4,
         reason: Reason::Truncated,
     })
+}
+
+/// How many bytes the file still has, at least: as many may be asked of a pipe on which something
+/// else follows it. 0 where the file is whole.
+///
+/// It answers the number of whole hunks, the bytes of header and body so far, 2^64 - 1 at most, and
+/// those that are to come.
+///
+/// # Errors
+///
+/// An earlier refusal; `STRANGE`, as an end does.
+#[unsafe(no_mangle)]
+pub extern "C" fn hunk_want(loader: &Loader) -> Answer
+    ensures { Wants loader.now result }
+{
+    if let Some(answer) = loader.refusal() {
+        return answer;
+    }
+    let Some(here) = loader.standing() else {
+        return strange();
+    };
+    done(loader.hunk, loader.fed, here.want())
 }

@@ -15,7 +15,7 @@ use Rattle.hunk_files.specs.FileSteps.{Progress, AtBlock, InBody, Next, More, Fi
 use Rattle.hunk_files.specs.WordsRead.{HasRead, Labelled}
 use Rattle.hunk_grammar.specs.Roles.{Role}
 use Rattle.hunk_scatter.specs.LoadOutcomes.{GoesPastNoFile}
-use Rattle.hunk_scatter.specs.Owing.{BytesToCome, run_of}
+use Rattle.hunk_scatter.specs.Owing.{BytesToCome, FileOwes, run_of}
 use Rattle.hunk_scatter.proofs.Owed.{to_come, to_come_least}
 use Rattle.hunk_words.proofs.LongLaws.{longs-bytes_of, longs-few, length-bytes_of}
 use Rattle.hunk_files.proofs.Least.{owes_least}
@@ -23,19 +23,21 @@ use Rattle.hunk_files.proofs.Reading.{rest_read, file_read as text_read}
 use Rattle.hunk_files.specs.declared.row.Row.{Row}
 use Rattle.hunk_grammar.specs.declared.phase.OpenHunk.{OpenHunk}
 use Rattle.hunk_blocks.specs.declared.phase.Phase.{Phase}
+use Rattle.hunk_grammar.specs.declared.position.Position.{Position}
 use Rattle.hunk_grammar.specs.declared.position.Position.TheVariants as positions
 use Rattle.hunk_grammar.specs.Positions.{is_done, least_longs, run}
 use Rattle.hunk_files.specs.ReaderPosition.{position_of, IsBehindHeader}
 use Rattle.hunk_scatter.specs.declared.store.BodyState.{BodyState}
 use Rattle.hunk_scatter.specs.StoreContent.{HasSizedImage}
-use Rattle.hunk_scatter.specs.BodyLoaderFields.{IsFed, StandsBehind}
+use Rattle.hunk_scatter.specs.BodyLoaderFields.{EndsWhole, IsFed, StandsBehind}
 use Rattle.hunk_words.specs.PendingBytes.{pending_of}
 use Rattle.hunk_scatter.specs.declared.stream.Standing.{Standing}
 use Rattle.hunk_scatter.specs.LoaderValues.{IsWholeFile, IsImageOf, HasNoRefusal, segments_in}
 use Rattle.hunk_scatter.specs.BodyReader.{sizes_of, state_of}
 use Rattle.hunk_scatter.specs.BodySteps.{IsInStore}
 use Rattle.hunk_scatter.specs.Rows.{words_of, bases_of}
-use Rattle.hunk_scatter.proofs.Outcomes.{read_clean, read_truncated}
+use Rattle.hunk_scatter.proofs.FileLeast.{file_ends}
+use Rattle.hunk_scatter.proofs.Outcomes.{longs_are, read_clean, read_truncated}
 use Rattle.hunk_scatter.proofs.ReadWords.{read_longs, text_longs}
 use Rattle.hunk_scatter.proofs.Runs.{none_over}
 use Rattle.hunk_scatter.proofs.OneByte.{Going, going, room, file_read, sizes_are, not_done}
@@ -100,6 +102,10 @@ words_same ws pending fed e few are p h =
         length-bytes_of ws,
       ),
     )
+
+done_least : (p : Position) → is_done p ≡ true → least_longs p ≡ 0
+done_least positions.Done e = refl
+done_least _ e = absurd cc
 
 -- ---- a loader after bytes
 
@@ -227,3 +233,51 @@ module _ (rows : List Row) (store : List ℕ) (s : Standing) (fed : List ℕ) (h
       go : (b : Bool) → is_done s.state.position ≡ b → is_done s.state.position ≡ true
       go true done = done
       go false more = absurd (not_whole more w)
+
+  -- At the end no byte is pending.
+  pub none_pending : is_done s.state.position ≡ true → pending ≡ []
+  none_pending done = let r = h.stands in go r.next r.behind r.state_is r.whole
+    where
+      go : (n : Next) → IsBehindHeader n → state_of n ≡ s.state → EndsWhole n pending → pending ≡ []
+      go (More q) b e w =
+          let more : is_done s.state.position ≡ false = ap (λ (x : BodyState). is_done x.position) (sym e) ∙ not_done q b in
+          absurd (cc (done, more))
+      go (Finished v) b e w = w
+
+  at_least : (n : Next) → IsBehindHeader n → state_of n ≡ s.state → least_longs (position_of n) ≡ least_longs s.state.position
+  at_least (More (AtBlock o)) b e = ap (λ (x : BodyState). least_longs x.position) e
+  at_least (More (InBody o word x)) b e = ap (λ (x : BodyState). least_longs x.position) e
+  at_least (Finished v) b e = ap (λ (x : BodyState). least_longs x.position) e
+  at_least _ b e = absurd cc
+
+  -- What is owed of the file.
+  module _ (owed : ℕ) (is : owed + length pending ≡ 4 * least_longs s.state.position) where
+    owes_least_bytes : (v : LoadFileValue) (rest : List ℕ) → IsLoadFile v → bytes_of (text v) ≡ fed ++ rest → owed ≤ length rest
+    owes_least_bytes v rest is_file e = go (is_done s.state.position) refl
+      where
+        go : (b : Bool) → is_done s.state.position ≡ b → owed ≤ length rest
+        go false more = omega (arith, is, owes_bytes more v rest is_file e)
+        go true done = omega (arith, is, done_least s.state.position done)
+
+    pub owes_file : FileOwes fed owed
+    owes_file =
+        let r = h.stands in
+        let e = file_ends r.ws r.next r.read r.behind in
+        record {
+          least = owes_least_bytes;
+          value = e.value;
+          is_load_file = e.is_load_file;
+          more = e.more;
+          begins = e.begins ∙ ap (λ (ws : List ℕ). ws ++ e.more) (sym (longs_are r.ws r.next pending fed r.read r.few r.spelled));
+          ends =
+              omega (
+                arith,
+                is,
+                e.count,
+                at_least r.next r.behind r.state_is,
+                r.few,
+                ap length r.spelled,
+                length-append (bytes_of r.ws) pending,
+                length-bytes_of r.ws,
+              );
+        }

@@ -3,6 +3,7 @@ pub mod BodyFields
 pub mod Completing
 pub mod DeclaredBytes
 pub mod Faults
+pub mod FileLeast
 pub mod Feeding
 pub mod Forget
 pub mod HeaderEnds

@@ -1,5 +1,5 @@
 -- A loader of numbers.
-use Rattle.std.proofs.Common.{◌≡◌, ℕ, ◌<◌, Bool, true, false, List, [], ◌∷◌, ◌++◌, length, get_or, take, refl, sym, arith, Err, None}
+use Rattle.std.proofs.Common.{◌≡◌, ℕ, ◌-◌, ◌*◌, ◌≤◌, ◌<◌, Bool, true, false, List, [], ◌∷◌, ◌++◌, length, get_or, take, refl, sym, ap, arith, Err, None}
 use Rattle.hunk_files.specs.declared.row.Row.{Row}
 use Rattle.hunk_words.specs.Carriers.{saturated}
 use Rattle.hunk_words.specs.declared.pending.Pending.{Pending}
@@ -7,15 +7,16 @@ use Rattle.hunk_grammar.specs.declared.phase.OpenHunk.{OpenHunk}
 use Rattle.hunk_blocks.specs.declared.phase.Phase.{Phase}
 use Rattle.hunk_grammar.specs.declared.position.Position.{Position}
 use Rattle.hunk_grammar.specs.declared.position.Position.TheVariants as positions
-use Rattle.hunk_grammar.specs.Positions.{is_done, is_behind_header, is_between_hunks}
+use Rattle.hunk_grammar.specs.Positions.{is_done, is_behind_header, is_between_hunks, least_longs}
 use Rattle.hunk_scatter.specs.BodySteps.{IsInStore}
+use Rattle.hunk_scatter.specs.Owing.{FileOwes}
 use Rattle.hunk_scatter.specs.Rows.{words_of}
 use Rattle.hunk_scatter.specs.declared.store.BodyState.{BodyState}
 use Rattle.hunk_scatter.specs.declared.stream.Standing.{Standing}
 use Rattle.hunk_scatter.specs.BodyLoaderFields.{StandsBehind}
 use Rattle.hunk_scatter.specs.Streaming.{IsFed, IsWithin, EndsLoading, StandsAfter, TakesPart}
 use Rattle.hunk_words.specs.PendingBytes.{pending_of}
-use Rattle.hunk_scatter.proofs.BodyFields.{fed_more, in_room, image_of, fed_clean, fed_truncated}
+use Rattle.hunk_scatter.proofs.BodyFields.{fed_more, in_room, image_of, fed_clean, fed_truncated, none_pending, owes_file}
 use Rattle.hunk_words.proofs.PendingLaws.{pending_few}
 
 -- Behind the header the file is whole, or a hunk is open.
@@ -67,3 +68,20 @@ first_byte (x ∷ piece) h = refl
 pub ends : (s : Standing) (b : Bool) → b ≡ is_done s.state.position → EndsLoading s b
 ends s true e = λ rows store fed h. image_of rows store s fed h (sym e)
 ends s false e = λ rows store fed h. (fed_clean rows store s fed h, fed_truncated rows store s fed h (sym e))
+
+-- ---- what is owed
+
+pending_counted : (p : Pending) → length (pending_of p) < 4 → length (pending_of p) ≡ p.count
+pending_counted p h = grind arith
+
+-- A loader has no more bytes of a longword than that has; where the file is whole, it has none.
+module _ (rows : List Row) (store : List ℕ) (s : Standing) (fed : List ℕ) (h : IsFed rows store s fed) (longs : ℕ) (least : longs ≡ least_longs s.state.position) (some : is_done s.state.position ≡ false → 0 < longs) where
+  pending_room : s.pending.count ≤ 4 * longs
+  pending_room = go (is_done s.state.position) refl
+    where
+      go : (b : Bool) → is_done s.state.position ≡ b → s.pending.count ≤ 4 * longs
+      go false more = omega (arith, some more, pending_few s.pending h.stands.few)
+      go true done = omega (arith, ap length (none_pending rows store s fed h done), pending_counted s.pending h.stands.few)
+
+  pub still_owes : FileOwes fed (4 * longs - s.pending.count)
+  still_owes = owes_file rows store s fed h (4 * longs - s.pending.count) (omega (arith, least, pending_room, pending_counted s.pending h.stands.few))

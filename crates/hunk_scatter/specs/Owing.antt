@@ -1,10 +1,10 @@
--- What is still to come of a content, a name, a payload or a list of offsets.
-use Rattle.std.specs.Prelude.{◌≡◌, ℕ, suc, ◌+◌, ◌*◌, ◌<◌, Bool, true, false, List, [], ◌∷◌, ◌++◌, length, if◌then◌else◌}
-use Rattle.hunk_words.specs.Longs.{bytes_of}
+-- What is still to come of a content, a name, a payload or a list of offsets, and of a file.
+use Rattle.std.specs.Prelude.{◌≡◌, ℕ, suc, ◌+◌, ◌*◌, ◌%◌, ◌<◌, ◌≤◌, Bool, true, false, List, [], ◌∷◌, ◌++◌, length, if◌then◌else◌}
+use Rattle.hunk_words.specs.Longs.{bytes_of, longs}
 use Rattle.hunk_blocks.specs.Parts.{Part as parts}
 use Rattle.hunk_blocks.specs.Faults.{words}
 use Rattle.hunk_files.specs.LoadFile.{LoadFileValue, IsLoadFile}
-use Rattle.hunk_files.specs.LoadText.{labelled}
+use Rattle.hunk_files.specs.LoadText.{labelled, text}
 use Rattle.hunk_grammar.specs.Roles.{Role, InBlock}
 
 -- the most bytes that a loader wants at a time
@@ -35,3 +35,12 @@ pub record BytesToCome (fed : List ℕ) (p : ℕ) : Type 0 where
   pub spelled : fed ≡ bytes_of (words done) ++ pending
   pub few : length pending < 4
   pub count : p + length pending ≡ 4 * run_of more
+
+-- Each load file that begins with the bytes has this many more at least, and one that begins with their longwords ends just then.
+pub record FileOwes (fed : List ℕ) (owed : ℕ) : Type 0 where
+  pub least : (v : LoadFileValue) (rest : List ℕ) → IsLoadFile v → bytes_of (text v) ≡ fed ++ rest → owed ≤ length rest
+  pub value : LoadFileValue
+  pub is_load_file : IsLoadFile value
+  pub more : List ℕ
+  pub begins : text value ≡ longs fed ++ more
+  pub ends : owed + length fed % 4 ≡ 4 * length more

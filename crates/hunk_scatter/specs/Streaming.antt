@@ -11,6 +11,7 @@ use Rattle.hunk_scatter.specs.BodySteps.{StaysInStore}
 use Rattle.hunk_scatter.specs.HeaderBytes.{IsHeaderTable, header_bytes}
 use Rattle.hunk_scatter.specs.LoaderReasons.{is_of_body}
 use Rattle.hunk_scatter.specs.LoaderValues.{IsImageOf, HasNoRefusal, IsBodyRefusal, segments_in}
+use Rattle.hunk_scatter.specs.Owing.{FileOwes}
 use Rattle.hunk_scatter.specs.Rows.{entries_of, words_of}
 use Rattle.hunk_scatter.specs.declared.stream.Standing.{Standing}
 use Rattle.hunk_scatter.specs.declared.stream.Stop.{Stop}
@@ -90,3 +91,7 @@ EndsLoading s true =
 EndsLoading s false =
     (rows : List Row) (store fed : List ℕ) → IsFed rows store s fed
     → HasNoRefusal fed × IsTruncated fed (4 * (length fed / 4))
+
+-- Where a loader stands so after bytes, a file that begins with them still has this many at least.
+abbrev pub StillOwes : Standing → ℕ → Type 0
+StillOwes s owed = (rows : List Row) (store fed : List ℕ) → IsFed rows store s fed → FileOwes fed owed

@@ -11,7 +11,8 @@ ghost use Rattle.hunk_words.specs.PendingBytes.{pending_of};
 ghost use Rattle.hunk_grammar.specs.Positions.{is_done, open_next};
 ghost use Rattle.hunk_scatter.specs.StopLine.{stop_line};
 ghost use Rattle.hunk_scatter.specs.Streaming.{BeginsLoading, EndsLoading, IsFed, IsWithin};
-ghost use Rattle.hunk_scatter.specs.Streaming.{MayTake, StandsOn, StopsForBody, TakesOn, TakesPart};
+ghost use Rattle.hunk_scatter.specs.Streaming.{MayTake, StandsOn, StillOwes, StopsForBody, TakesOn};
+ghost use Rattle.hunk_scatter.specs.Streaming.{TakesPart};
 
 pub use crate::header_state::{HeaderSize, header_size};
 pub use crate::store::BodyState;
@@ -86,6 +87,17 @@ impl Standing {
             Position::Done => true,
             _ => false,
         }
+    }
+
+    /// How many bytes the file still has, at least: as many may be asked of a pipe.
+    ///
+    /// Each file that goes on from here has as many, and one of them has no more. 0 where the file is
+    /// whole.
+    pub fn want(&self) -> u64
+        ensures { StillOwes self.now result }
+    {
+        let longs = self.state.position.least_longs();
+        (4 * longs).saturating_sub(u64::from(self.pending.count))
     }
 
     /// Whether the numbers lead out of neither the rows nor a store of `total` bytes, as far as no
