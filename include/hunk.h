@@ -111,7 +111,9 @@ struct hunk_finding {
  *               count: the bytes that the hunks have in memory together.
  * HUNK_NO_ROOM  there are more hunks than rows. hunk: the rows that are needed; place and count as
  *               at HUNK_OK. With rows_len 0 this asks for the size of a table.
- * HUNK_TRUNCATED      the header goes on after the bytes: it needs more of the file.
+ * HUNK_TRUNCATED      the header goes on after the bytes. count: how many more it has at least, 1 or
+ *                     more: a program reads as many, and asks again; place: 4 times the number of
+ *                     whole longwords.
  * HUNK_BUDGET         place: the size word with which the sum first passes the budget.
  * Else the first fault of the header, HUNK_NOT_LOAD_FILE to HUNK_LAST_HUNK.
  *

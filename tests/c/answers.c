@@ -7,6 +7,7 @@
 
 static struct guarded file_bytes = {1 << 20, NULL};
 static struct guarded row_room = {(MOST_HUNKS + BEHIND) * sizeof(struct hunk_row), NULL};
+static struct guarded front_room = {PAGE, NULL};
 static struct guarded base_room = {MOST_HUNKS * 4, NULL};
 static struct guarded memory_room = {(1 << 24) + PAGE, NULL};
 static struct guarded again_room = {(1 << 24) + PAGE, NULL};
@@ -29,6 +30,38 @@ struct loaded {
     uint32_t base;
 };
 
+/* How many longwords a header has at least that begins with so many, which belong to this one: 6, and
+ * from the third on those up to the table, and one for each hunk whose row is not whole. */
+static size_t least_longs(const uint8_t *bytes, size_t longs)
+{
+    if (longs < 3)
+        return 6;
+    size_t hunks = (size_t)bytes[8] << 24 | bytes[9] << 16 | bytes[10] << 8 | bytes[11];
+    size_t at = 5;
+    while (at < longs) {
+        at += bytes[4 * at] >> 6 == 3 ? 2 : 1;
+        hunks--;
+    }
+    return at + hunks;
+}
+
+/* Each first part of a header: how much is asked for; and a header that is read as it is asked for. */
+static void cut_headers(const struct loaded *f)
+{
+    size_t header = f->table.place, len = 0;
+    for (size_t cut = 0; cut < header && header <= PAGE; cut++) {
+        uint8_t *front = marked(&front_room, cut);
+        memcpy(front, f->bytes, cut);
+        struct hunk_answer a = hunk_table(front, cut, BUDGET, NULL, 0);
+        struct hunk_answer more = {HUNK_TRUNCATED, 0, cut / 4 * 4,
+                                   4 * least_longs(front, cut / 4) - cut};
+        expect(same(a, more) && a.count > 0 && cut + a.count <= header, f->name, "a header that is cut");
+    }
+    while (len < header)
+        len += hunk_table(f->bytes, len, BUDGET, NULL, 0).count;
+    expect(len == header, f->name, "a header as it is asked for");
+}
+
 /* The table of a file, asked for without rows and with just as many as it has. */
 static int read_table(struct loaded *f)
 {
@@ -43,6 +76,7 @@ static int read_table(struct loaded *f)
     f->rows = rows;
     struct hunk_answer told = hunk_table(f->bytes, f->len, BUDGET, rows, f->table.hunk);
     expect(same(told, f->table), f->name, "hunk_table with and without rows");
+    cut_headers(f);
     uint64_t sum = 0;
     for (uint32_t h = 0; h < f->table.hunk; h++) {
         sum += rows[h].bytes;
@@ -127,7 +161,8 @@ static void answers(struct loaded *f)
 int main(int argc, char **argv)
 {
     if (argc < 3 || !make_guarded(&file_bytes) || !make_guarded(&row_room) ||
-        !make_guarded(&base_room) || !make_guarded(&memory_room) || !make_guarded(&again_room))
+        !make_guarded(&base_room) || !make_guarded(&memory_room) || !make_guarded(&again_room) ||
+        !make_guarded(&front_room))
         return 3;
     for (int i = 2; i < argc; i++) {
         struct loaded f = {argv[i], NULL, 0, {0, 0, 0, 0}, NULL, 0};

@@ -11,9 +11,13 @@ abbrev pub refused_hunk : Reason → ℕ
 refused_hunk (reasons.NoBase hunk) = hunk
 refused_hunk _ = 0
 
+-- the answer of a refusal, with how much is to come
+abbrev pub refused_owing : Fault → ℕ → Answer
+refused_owing f owed = record { number = number_of f.reason; hunk = refused_hunk f.reason; place = f.place; count = owed }
+
 -- the answer of a refusal
 abbrev pub refused : Fault → Answer
-refused f = record { number = number_of f.reason; hunk = refused_hunk f.reason; place = f.place; count = 0 }
+refused f = refused_owing f 0
 
 -- the number that says that the caller's array has too few elements
 abbrev pub no_room_number : ℕ

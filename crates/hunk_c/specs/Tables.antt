@@ -8,8 +8,8 @@ use Rattle.hunk_files.specs.LoadFile.{TableEntry}
 use Rattle.hunk_scatter.specs.HeaderBytes.{BeginsWithHeader, header_bytes}
 use Rattle.hunk_c.specs.declared.answer.Answer.{Answer}
 use Rattle.hunk_c.specs.declared.table.TableRow.{TableRow}
-use Rattle.hunk_c.specs.Answers.{refused, no_room, done}
-use Rattle.hunk_scatter.specs.HeaderSizes.{RefusesHeader}
+use Rattle.hunk_c.specs.Answers.{refused_owing, no_room, done}
+use Rattle.hunk_scatter.specs.HeaderSizes.{RefusesHeader, TellsOwed}
 
 -- what the caller sees of an entry
 abbrev pub table_row : TableEntry → TableRow
@@ -24,11 +24,12 @@ abbrev pub AcceptsHeader : List ℕ → Fault → Type 0
 AcceptsHeader bytes f = (t : List TableEntry) → BeginsWithHeader bytes t → f.reason ≡ reasons.Budget
 
 -- What the reading of a table comes to. The rows begin with it, and what lies after it is as it was; or all are as they were.
+-- Where the bytes end inside the header, the answer has how many more it has at least.
 pub data Tables (budget : ℕ) (bytes : List ℕ) (old new : List TableRow) (answer : Answer) : Type 0 where
   HasTable : (t : List TableEntry) → BeginsWithHeader bytes t → declared_bytes t ≤ budget → length t ≤ length old
       → new ≡ map table_row t ++ drop (length t) old
       → answer ≡ done (length t) (length (header_bytes t)) (declared_bytes t) → Tables budget bytes old new answer
   HasNoRows : (t : List TableEntry) → BeginsWithHeader bytes t → declared_bytes t ≤ budget → length old < length t → new ≡ old
       → answer ≡ no_room (length t) (length (header_bytes t)) (declared_bytes t) → Tables budget bytes old new answer
-  HasNoTable : (f : Fault) → RefusesHeader budget bytes f → AcceptsHeader bytes f → new ≡ old
-      → answer ≡ refused f → Tables budget bytes old new answer
+  HasNoTable : (f : Fault) (owed : ℕ) → RefusesHeader budget bytes f → AcceptsHeader bytes f → TellsOwed bytes f.reason owed → new ≡ old
+      → answer ≡ refused_owing f owed → Tables budget bytes old new answer

@@ -81,7 +81,7 @@ fn fitting_header(bytes: &[u8], room: usize) -> Result<HeaderSize, Answer>
 {
     let size = match header_size(bytes, u64::MAX) {
         Ok(size) => size,
-        Err(fault) => return Err(refused(fault)),
+        Err(none) => return Err(refused(none.fault)),
     };
     if size.declared > room as u64 {
         return Err(no_room(size.hunks, size.bytes, size.declared));

@@ -39,7 +39,12 @@ pub extern "C" fn hunk_table(bytes: &[u8], budget: u64, rows: &mut [TableRow]) -
 {
     let size = match header_size(bytes, budget) {
         Ok(size) => size,
-        Err(fault) => return refused(fault),
+        Err(none) => {
+            return Answer {
+                count: none.owed,
+                ..refused(none.fault)
+            };
+        }
     };
     let hunks = size.hunks as usize;
     if hunks > rows.len() {

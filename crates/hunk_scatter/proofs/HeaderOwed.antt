@@ -1,8 +1,10 @@
 -- How much is to come of a header.
-use Rattle.std.proofs.Common.{◌≡◌, ℕ, ◌+◌, ◌*◌, ◌%◌, ◌≤◌, Bool, true, false, List, ◌++◌, length, get_or, refl, sym, ap, subst, ◌∙◌, arith, length-append}
+use Rattle.std.proofs.Common.{◌≡◌, ℕ, ◌+◌, ◌*◌, ◌%◌, ◌<◌, ◌≤◌, Bool, true, false, List, ◌++◌, length, get_or, refl, sym, ap, subst, ◌∙◌, arith, length-append}
 use Rattle.hunk_words.specs.Longs.{bytes_of, longs}
 use Rattle.hunk_words.proofs.LongLaws.{length-bytes_of}
 use Rattle.hunk_grammar.specs.Positions.{is_behind_header, least_longs}
+use Rattle.hunk_grammar.specs.declared.position.Position.{Position}
+use Rattle.hunk_grammar.specs.declared.position.Position.TheVariants as positions
 use Rattle.hunk_blocks.specs.Faults.{words}
 use Rattle.hunk_files.specs.FileSteps.{AtSizeWord, AtAttributes, AtBlock, InBody, Next, More, Finished}
 use Rattle.hunk_files.specs.ReaderPosition.{position_of, table_of}
@@ -12,7 +14,8 @@ use Rattle.hunk_files.proofs.Reading.{reads}
 use Rattle.hunk_files.specs.declared.row.Row.{Row}
 use Rattle.hunk_scatter.specs.declared.header_state.HeaderState.{HeaderState}
 use Rattle.hunk_scatter.specs.HeaderLoaderFields.{OpensFirst, HeaderReading}
-use Rattle.hunk_scatter.specs.HeaderOwing.{rows_owed, HasRowsToCome, HasHeaderToCome}
+use Rattle.hunk_scatter.specs.HeaderOwing.{rows_owed, HasRowsToCome, HasHeaderToCome, HeaderOwes}
+use Rattle.hunk_scatter.proofs.HeaderFields.{heading_least}
 use Rattle.hunk_scatter.proofs.HeaderLeast.{header_least, least_is, header_ends}
 use Rattle.hunk_scatter.proofs.HeaderTexts.{header_done, rows_read}
 use Rattle.hunk_scatter.proofs.Outcomes.{longs_are}
@@ -48,6 +51,12 @@ none_owed (More (AtBlock p)) e = refl
 none_owed (More (InBody p word x)) e = refl
 none_owed (Finished v) e = refl
 none_owed _ e = absurd cc
+
+-- A longword of a header that is not whole is owed.
+pub least_some : (p : Position) → is_behind_header p ≡ false → 0 < least_longs p
+least_some (positions.Body o phase) e = absurd cc
+least_some positions.Done e = absurd cc
+least_some _ e = omega arith
 
 module _ (budget : ℕ) (rows : List Row) (s : HeaderState) (pending fed : List ℕ) (r : HeaderReading budget rows s pending fed) where
   words_are : longs fed ≡ r.ws
@@ -96,3 +105,20 @@ module _ (budget : ℕ) (rows : List Row) (s : HeaderState) (pending fed : List 
 
     pub no_header_to_come : HasHeaderToCome fed p → p ≡ 0
     no_header_to_come h = omega (arith, h.count, owed_least p h, none_least)
+
+  -- And no more is owed.
+  module _ (owed : ℕ) (more : is_behind_header s.position ≡ false) (is : owed + length pending ≡ 4 * least_longs s.position) where
+    pub owes_header : HeaderOwes fed owed
+    owes_header =
+        let e = header_ends r.has_read.next r.ws r.has_read.read r.has_read.opens_first in
+        let least : header_least r.has_read.next ≡ least_longs s.position =
+        least_is r.has_read.next (ap is_behind_header r.has_read.position_is ∙ more) ∙ ap least_longs r.has_read.position_is in
+        record {
+          some = omega (arith, is, r.few, least_some s.position more);
+          least = λ t rest is_table split. omega (arith, is, heading_least budget rows s pending fed r more t rest is_table split);
+          table = e.table;
+          is_table = e.is_table;
+          more = e.more;
+          begins = e.begins ∙ ap (λ (ws : List ℕ). ws ++ e.more) (sym words_are);
+          ends = omega (arith, is, pending_is, e.count, least);
+        }

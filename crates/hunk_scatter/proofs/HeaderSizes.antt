@@ -13,16 +13,18 @@ use Rattle.hunk_files.specs.Image.{declared_bytes}
 use Rattle.hunk_files.specs.LoadFile.{TableEntry}
 use Rattle.hunk_files.specs.declared.row.Row.{Row}
 use Rattle.hunk_grammar.specs.declared.position.Position.TheVariants as positions
-use Rattle.hunk_grammar.specs.Positions.{role_at, step, is_behind_header}
+use Rattle.hunk_grammar.specs.Positions.{role_at, step, is_behind_header, least_longs}
 use Rattle.hunk_grammar.specs.Roles.{refuse}
 use Rattle.hunk_scatter.specs.declared.header_state.HeaderState.{HeaderState}
 use Rattle.hunk_scatter.specs.HeaderBytes.{IsHeaderTable, header_bytes, header_words}
 use Rattle.hunk_scatter.specs.HeaderLoaderFields.{adds, declares, RefusesWord, HeaderReading, HeaderLoaderInvariant, HeaderStop}
 use Rattle.hunk_scatter.specs.HeaderFaults.{ExceedsBudget, IsBudgetOrMemory}
-use Rattle.hunk_scatter.specs.HeaderSizes.{RefusesHeader}
+use Rattle.hunk_scatter.specs.HeaderOwing.{HeaderOwes}
+use Rattle.hunk_scatter.specs.HeaderSizes.{RefusesHeader, TellsOwed}
 use Rattle.hunk_scatter.specs.Rows.{entries_of, row_of}
 use Rattle.hunk_scatter.proofs.HeaderFields.{heading_new, heading_room, heading_pending, heading_word, heading_table, heading_total, heading_truncated, heading_within, heading_not_whole, heading_as}
 use Rattle.hunk_scatter.proofs.HeaderEnds.{heading_ends}
+use Rattle.hunk_scatter.proofs.HeaderOwed.{owes_header}
 use Rattle.hunk_scatter.proofs.HeaderStops.{header_longs, stop_refused, stop_passes, stop_accepts}
 
 -- Longwords of a header were read up to this byte, and rows may be named that they complete.
@@ -85,6 +87,14 @@ module _ (budget : ℕ) (bytes : List ℕ) (s : HeaderState) (at : ℕ) (h : Hea
         let none : rest ≡ [] = heading_ends budget h.rows s end (take at bytes ++ end) (all.reading refl) t rest is split in
         let same : take at bytes ++ end ≡ header_bytes t = split ∙ ap (λ (xs : List ℕ). header_bytes t ++ xs) none ∙ append-nil (header_bytes t) in
         heading_not_whole budget h.rows s end (take at bytes ++ end) (all.reading refl) more (t, is, same)
+
+    -- So much of the header is owed.
+    pub cut_owes : length (drop at bytes) < 4 → (owed : ℕ) → owed + length (drop at bytes) ≡ 4 * least_longs s.position → HeaderOwes bytes owed
+    cut_owes few owed is =
+        let end = drop at bytes in
+        let all = heading_pending budget h.rows s [] at None (take at bytes) h.read refl more end end (length end) refl refl few in
+        subst (λ (xs : List ℕ). HeaderOwes xs owed) (take-append-drop at bytes)
+        (owes_header budget h.rows s end (take at bytes ++ end) (all.reading refl) owed more is)
 
     module _ (are : IsBytes bytes) (four : 4 ≤ length (drop at bytes)) (w : ℕ) (is : IsLong w) (first : w ≡ get_or (longs (drop at bytes)) 0 0) where
       next : List ℕ
@@ -160,6 +170,19 @@ module _ (budget : ℕ) (bytes : List ℕ) (s : HeaderState) (at : ℕ) (h : Hea
           by_reason : IsBudgetOrMemory reason → reason ≡ reasons.Budget
           by_reason (inl b) = b
           by_reason (inr m) = let no : IsTrue false = subst (λ (x : Reason). IsTrue (is_word_refusal x)) m refused in absurd cc
+
+      -- Nothing is told of what is owed.
+      pub word_owes : (reason : Reason) → RefusesWord budget s w reason → TellsOwed bytes reason 0
+      unfolding stops_here
+      word_owes reason (inr o) = subst (λ (x : Reason). TellsOwed bytes x 0) (sym o.reason_is) refl
+      word_owes reason (inl r) =
+          by_reason reason
+          (refusal_of_word (take (at + 4) bytes ++ drop (at + 4) bytes) at reason
+          (stop_refused budget (take (at + 4) bytes) (drop (at + 4) bytes) _ (stops_here reason (inl r)) r))
+        where
+          by_reason : (x : Reason) → IsTrue (is_word_refusal x) → TellsOwed bytes x 0
+          by_reason reasons.Truncated t = let no : IsTrue false = t in absurd cc
+          by_reason _ t = refl
 
 -- The number of hunks stands behind the first two longwords.
 pub hunks_in : (bytes : List ℕ) (t : List TableEntry) (rest : List ℕ) → IsHeaderTable t → bytes ≡ header_bytes t ++ rest → (get_or (longs bytes) 2 0 ≡ length t) × (12 ≤ length bytes)

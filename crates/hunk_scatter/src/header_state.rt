@@ -6,6 +6,7 @@ ghost use Rattle.hunk_words.specs.declared.reason.Reason.TheVariants as reasons;
 ghost use Rattle.hunk_grammar.specs.Positions.{is_behind_header};
 ghost use Rattle.hunk_scatter.specs.HeaderLoaderFields as heading;
 ghost use Rattle.hunk_scatter.specs.HeaderSizes.{HasHeaderInFront, HasHeaderSize, RefusesHeader};
+ghost use Rattle.hunk_scatter.specs.HeaderSizes.{TellsOwed};
 ghost use Rattle.hunk_scatter.specs.Rows.{row_of};
 
 use hunk_files::Row;
@@ -144,6 +145,15 @@ pub struct HeaderSize {
     pub declared: u64,
 }
 
+/// Why no header is read.
+#[derive(Clone, Copy, Debug, PartialEq, Eq)]
+pub struct NoHeader {
+    /// Where the bytes are refused, and why.
+    pub fault: LoadFault,
+    /// Where they end inside the header, how many more it has at least; else 0.
+    pub owed: u64,
+}
+
 /// The size of the header that the bytes begin with. It takes no memory.
 ///
 /// Bytes after the header are not read, so a first part of a file will do.
@@ -156,11 +166,13 @@ pub struct HeaderSize {
 ///   longword, with the reason.
 /// - `Budget` at the size word with which the declared bytes first pass the budget.
 /// - `Truncated` where the bytes end inside the header, at 4 times the number of whole longwords.
-pub fn header_size(bytes: &[u8], budget: u64) -> Result<HeaderSize, LoadFault>
+///   Each header that begins so has as many more bytes as are `owed`, and one of them has no more.
+pub fn header_size(bytes: &[u8], budget: u64) -> Result<HeaderSize, NoHeader>
     ensures size { IfOk result (HasHeaderSize budget bytes.now) }
-    ensures refusal { IfErr result (RefusesHeader budget bytes.now) }
+    ensures refusal { IfErr result (λ none. RefusesHeader budget bytes.now none.fault) }
     ensures accepts { IfErr result
-        (λ f. HasHeaderInFront bytes.now → f.reason ≡ reasons.Budget) }
+        (λ none. HasHeaderInFront bytes.now → none.fault.reason ≡ reasons.Budget) }
+    ensures owed { IfErr result (λ none. TellsOwed bytes.now none.fault.reason none.owed) }
 {
     let mut state = HeaderState {
         position: Position::FirstLong,
@@ -172,11 +184,19 @@ pub fn header_size(bytes: &[u8], budget: u64) -> Result<HeaderSize, LoadFault>
         let place = at as u64;
         if rest.len() < 4 {
             let reason = Reason::Truncated;
-            return Err(LoadFault { place, reason });
+            return Err(NoHeader {
+                fault: LoadFault { place, reason },
+                owed: 4 * state.position.least_longs() - rest.len() as u64,
+            });
         }
         match pass_header_word(state, budget, word_at(rest, 0)) {
             Ok(next) => state = next,
-            Err(reason) => return Err(LoadFault { place, reason }),
+            Err(reason) => {
+                return Err(NoHeader {
+                    fault: LoadFault { place, reason },
+                    owed: 0,
+                });
+            }
         }
         at += 4;
     }

@@ -14,7 +14,7 @@ ghost use Rattle.hunk_scatter.specs.Streaming.{BeginsLoading, EndsLoading, IsFed
 ghost use Rattle.hunk_scatter.specs.Streaming.{MayTake, StandsOn, StillOwes, StopsForBody, TakesOn};
 ghost use Rattle.hunk_scatter.specs.Streaming.{TakesPart};
 
-pub use crate::header_state::{HeaderSize, header_size};
+pub use crate::header_state::{HeaderSize, NoHeader, header_size};
 pub use crate::store::BodyState;
 use crate::store::{take_front, take_word};
 use hunk_files::Row;

@@ -4,7 +4,7 @@ use Rattle.hunk_c.proofs.Loaded.{no_header, same_answer}
 use Rattle.hunk_c.proofs.load.fitting_header.Goals as goal
 
 pub returns-in-Err-clause-not_loaded : goal.returns-in-Err-clause-not_loaded
-returns-in-Err-clause-not_loaded c = λ base. no_header base _ _ _ c.in-Err.fault c.in-Err.ensures.refusal c.in-Err.ensures.accepts c.refused.ensures
+returns-in-Err-clause-not_loaded c = λ base. no_header base _ _ _ c.in-Err.none.fault c.in-Err.ensures.refusal c.in-Err.ensures.accepts c.refused.ensures
 
 pub returns-then-size-room-clause-not_loaded : goal.returns-then-size-room-clause-not_loaded
 returns-then-size-room-clause-not_loaded c =

@@ -1,11 +1,18 @@
-use Rattle.std.proofs.Common.{◌++◌, ℕ, List, drop, refl, ap₂, ◌∙◌, arith, length-take}
+use Rattle.std.proofs.Common.{◌++◌, ℕ, List, drop, refl, ap, ap₂, ◌∙◌, arith, length-take}
+use Rattle.hunk_c.specs.declared.answer.Answer.{Answer}
 use Rattle.hunk_c.specs.Tables.{HasTable, HasNoRows, HasNoTable}
 use Rattle.hunk_c.specs.declared.table.TableRow.{TableRow}
 use Rattle.hunk_c.proofs.Loaded.{same_answer}
 use Rattle.hunk_c.proofs.table.hunk_table.Goals as goal
 
+-- with another count
+abbrev owing : Answer → ℕ → Answer
+owing a n = record { number = a.number; hunk = a.hunk; place = a.place; count = n }
+
 pub returns-in-Err : goal.returns-in-Err
-returns-in-Err c = HasNoTable c.in-Err.fault c.in-Err.ensures.refusal (λ t h. c.in-Err.ensures.accepts (t, h)) refl c.refused.ensures
+returns-in-Err c =
+    HasNoTable c.in-Err.none.fault c.in-Err.none.owed c.in-Err.ensures.refusal (λ t h. c.in-Err.ensures.accepts (t, h)) c.in-Err.ensures.owed refl
+    (ap (λ (a : Answer). owing a c.in-Err.none.owed) c.refused.ensures)
 
 pub returns-then-hunks-rows : goal.returns-then-hunks-rows
 returns-then-hunks-rows c =

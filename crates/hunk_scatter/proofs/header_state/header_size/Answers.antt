@@ -2,7 +2,8 @@ use Rattle.std.proofs.Common.{◌∙◌, ℕ, ◌<◌, List, length, drop, get_o
 use Rattle.std.proofs.lemmas.List.{take_rest}
 use Rattle.hunk_words.specs.Longs.{longs, IsBytes}
 use Rattle.hunk_scatter.specs.Rows.{entries_of}
-use Rattle.hunk_scatter.proofs.HeaderSizes.{none_so_far, none_cut, cut_within, word_accepted, so_far_room, header_cut, header_whole, header_total, header_end, word_passes, word_stops, hunks_in}
+use Rattle.hunk_scatter.proofs.HeaderOwed.{least_some}
+use Rattle.hunk_scatter.proofs.HeaderSizes.{none_so_far, none_cut, cut_within, word_accepted, so_far_room, header_cut, header_whole, header_total, header_end, word_passes, word_stops, word_owes, cut_owes, hunks_in}
 use Rattle.hunk_scatter.proofs.header_state.header_size.Goals as goal
 
 pub words-init : goal.words-init
@@ -64,3 +65,18 @@ returns-clause-size c =
       declared_are = header_total _ _ _ _ h done;
       within = omega (arith, header_total _ _ _ _ h done, (h.read.reading refl).has_read.within);
     }
+
+pub returns-then-rest-lt4-clause-owed : goal.returns-then-rest-lt4-clause-owed
+returns-then-rest-lt4-clause-owed c =
+    let more = sym c.is_behind_header.ensures ∙ c.words-test.true in
+    let rest = ap length (take_rest c.args.bytes.now c.words.at) in
+    cut_owes _ _ _ _ c.words.invariant more (omega (arith, rest, c.if-rest-lt4.true)) _
+    (omega (arith, rest, c.if-rest-lt4.true, c.least_longs.ensures.value, least_some c.words.state.position more))
+
+pub returns-in-Err-clause-owed : goal.returns-in-Err-clause-owed
+returns-in-Err-clause-owed c =
+    let are : IsBytes c.args.bytes.now = λ k. omega (arith, c.type_inv.bytes k) in
+    let rest = take_rest c.args.bytes.now c.words.at in
+    word_owes _ _ _ _ c.words.invariant (sym c.is_behind_header.ensures ∙ c.words-test.true) are
+    (omega (arith, ap length rest, c.if-rest-lt4.false)) c.word_at.result (omega arith) (c.word_at.ensures ∙ ap (λ (xs : List ℕ). get_or (longs xs) 0 0) rest)
+    c.in-Err.reason c.in-Err.ensures.refusal
