@@ -430,6 +430,16 @@ struct hunk_answer hunk_strip(const uint8_t *bytes, size_t bytes_len, uint8_t *t
  */
 struct hunk_answer hunk_reason(uint32_t number, uint8_t *text, size_t text_len);
 
+/* Writes what an answer's number means to the text, with no zero after it: a sentence in ASCII, at
+ * most 75 bytes, without a capital and a full stop.
+ *
+ * HUNK_OK       count: the bytes of the sentence; none for 0 and above 33.
+ * HUNK_NO_ROOM  count: the bytes that are needed; the text is as it was.
+ *
+ * Text after the sentence is as it was.
+ */
+struct hunk_answer hunk_reason_text(uint32_t number, uint8_t *text, size_t text_len);
+
 #ifdef __cplusplus
 }
 #endif

@@ -94,47 +94,56 @@ CHECK(unit_name_bytes, offsetof(struct hunk_unit, name_bytes) == 16);
 CHECK(unit_hunks, offsetof(struct hunk_unit, hunks) == 24);
 CHECK(unit_reserved, offsetof(struct hunk_unit, reserved) == 32);
 
-/* In the order of their numbers. */
+/* In the order of their numbers, with their names and what they mean. */
 static const struct {
     uint32_t number;
     const char *name;
+    const char *meaning;
 } reasons[] = {
-    {HUNK_OK, ""},
-    {HUNK_NOT_LOAD_FILE, "NotLoadFile"},
-    {HUNK_IS_OBJECT, "IsObject"},
-    {HUNK_LIBRARY, "Library"},
-    {HUNK_RESIDENT, "Resident"},
-    {HUNK_NO_HUNKS, "NoHunks"},
-    {HUNK_TOO_MANY_HUNKS, "TooManyHunks"},
-    {HUNK_FIRST_HUNK, "FirstHunk"},
-    {HUNK_LAST_HUNK, "LastHunk"},
-    {HUNK_BOTH_BITS, "BothBits"},
-    {HUNK_ADVISORY, "Advisory"},
-    {HUNK_OVERLAY, "Overlay"},
-    {HUNK_BREAK, "Break"},
-    {HUNK_SHORT_RELOC, "ShortReloc"},
-    {HUNK_NOT_IN_LOAD_FILE, "NotInLoadFile"},
-    {HUNK_MISPLACED, "Misplaced"},
-    {HUNK_UNKNOWN_BLOCK, "UnknownBlock"},
-    {HUNK_SECOND_CONTENT, "SecondContent"},
-    {HUNK_BEFORE_CONTENT, "BeforeContent"},
-    {HUNK_NO_CONTENT, "NoContent"},
-    {HUNK_CONTENT_TOO_LONG, "ContentTooLong"},
-    {HUNK_NAME_WORD, "NameWord"},
-    {HUNK_NOTHING_TO_RELOCATE, "NothingToRelocate"},
-    {HUNK_BAD_TARGET, "BadTarget"},
-    {HUNK_BAD_OFFSET, "BadOffset"},
-    {HUNK_EXT_KIND, "ExtKind"},
-    {HUNK_TRUNCATED, "Truncated"},
-    {HUNK_BUDGET, "Budget"},
-    {HUNK_FILE_LIMIT, "FileLimit"},
-    {HUNK_NO_BASE, "NoBase"},
-    {HUNK_READ, "Read"},
-    {HUNK_OUT_OF_MEMORY, "OutOfMemory"},
-    {HUNK_NO_ROOM, "NoRoom"},
-    {HUNK_STRANGE, "Strange"},
-    {34, ""},
-    {UINT32_MAX, ""},
+    {HUNK_OK, "", ""},
+    {HUNK_NOT_LOAD_FILE, "NotLoadFile", "the first longword is not 3F3: this is no hunk file"},
+    {HUNK_IS_OBJECT, "IsObject",
+     "a load file is needed, and this is an object file: link it first"},
+    {HUNK_LIBRARY, "Library", "a library for a linker, LIB or INDEX: libraries are not read"},
+    {HUNK_RESIDENT, "Resident", "the header names resident libraries, as for the first AmigaDOS"},
+    {HUNK_NO_HUNKS, "NoHunks", "the header has a table of no hunks"},
+    {HUNK_TOO_MANY_HUNKS, "TooManyHunks", "the header has a table of more than 65,536 hunks"},
+    {HUNK_FIRST_HUNK, "FirstHunk", "the first hunk of the table is not 0"},
+    {HUNK_LAST_HUNK, "LastHunk",
+     "the last hunk is not the table size less 1, as in files with overlays"},
+    {HUNK_BOTH_BITS, "BothBits", "a block word has bits 30 and 31 both set"},
+    {HUNK_ADVISORY, "Advisory", "reserved: no answer has this number"},
+    {HUNK_OVERLAY, "Overlay", "an OVERLAY block: overlays are not read"},
+    {HUNK_BREAK, "Break", "a BREAK block, which belongs to overlays: these are not read"},
+    {HUNK_SHORT_RELOC, "ShortReloc",
+     "a block of short relocations, which is not read in load files"},
+    {HUNK_NOT_IN_LOAD_FILE, "NotInLoadFile",
+     "a block that only object files have: the file is only partly linked"},
+    {HUNK_MISPLACED, "Misplaced",
+     "a HEADER or UNIT where none may stand, or a block before the first UNIT"},
+    {HUNK_UNKNOWN_BLOCK, "UnknownBlock",
+     "a type of block that is not known, without the bit of advisory blocks"},
+    {HUNK_SECOND_CONTENT, "SecondContent", "a second CODE, DATA or BSS block in a hunk"},
+    {HUNK_BEFORE_CONTENT, "BeforeContent",
+     "a relocation or EXT block before the CODE, DATA or BSS block of its hunk"},
+    {HUNK_NO_CONTENT, "NoContent", "a hunk ends without a CODE, DATA or BSS block"},
+    {HUNK_CONTENT_TOO_LONG, "ContentTooLong", "more content than the hunk is declared to have"},
+    {HUNK_NAME_WORD, "NameWord", "the top byte of the longword with the length of a name is not 0"},
+    {HUNK_NOTHING_TO_RELOCATE, "NothingToRelocate", "a relocation in a hunk of 0 bytes"},
+    {HUNK_BAD_TARGET, "BadTarget", "the target of a relocation is no hunk of the file"},
+    {HUNK_BAD_OFFSET, "BadOffset", "a relocated longword runs past the end of its hunk"},
+    {HUNK_EXT_KIND, "ExtKind", "an EXT entry of a type that is not known"},
+    {HUNK_TRUNCATED, "Truncated", "the input ends too soon, inside the file"},
+    {HUNK_BUDGET, "Budget", "the hunks declare more bytes than the budget allows"},
+    {HUNK_FILE_LIMIT, "FileLimit",
+     "as many bytes as may be read were read, and the file had not ended"},
+    {HUNK_NO_BASE, "NoBase", "a hunk has no base, or would pass the address 2^32"},
+    {HUNK_READ, "Read", "the input could not be read"},
+    {HUNK_OUT_OF_MEMORY, "OutOfMemory", "memory was refused"},
+    {HUNK_NO_ROOM, "NoRoom", "the array of the caller has too few elements"},
+    {HUNK_STRANGE, "Strange", "the numbers are none of a loader, or do not fit"},
+    {34, "", ""},
+    {UINT32_MAX, "", ""},
 };
 
 static int is_zero(struct hunk_answer a)
@@ -142,18 +151,20 @@ static int is_zero(struct hunk_answer a)
     return a.hunk == 0 && a.place == 0;
 }
 
-/* Whether a number has this name, in text that is long enough, and in text that lacks a byte. */
-static int is_named(uint32_t number, const char *name)
+typedef struct hunk_answer tells(uint32_t number, uint8_t *text, size_t text_len);
+
+/* Whether this is told of a number, in text that is long enough, and in text that lacks a byte. */
+static int is_told(tells *call, uint32_t number, const char *name)
 {
-    uint8_t text[20];
+    uint8_t text[80];
     size_t len = strlen(name);
     memset(text, '#', sizeof text);
     if (len > 0) {
-        struct hunk_answer small = hunk_reason(number, text, len - 1);
+        struct hunk_answer small = call(number, text, len - 1);
         if (small.number != HUNK_NO_ROOM || small.count != len || !is_zero(small) || text[0] != '#')
             return 0;
     }
-    struct hunk_answer told = hunk_reason(number, text, len);
+    struct hunk_answer told = call(number, text, len);
     return told.number == HUNK_OK && told.count == len && is_zero(told) &&
            memcmp(text, name, len) == 0 && text[len] == '#';
 }
@@ -170,8 +181,13 @@ int main(void)
             fprintf(stderr, "number %u is not in its place\n", (unsigned)reasons[i].number);
             status = 1;
         }
-        if (!is_named(reasons[i].number, reasons[i].name)) {
+        if (!is_told(hunk_reason, reasons[i].number, reasons[i].name)) {
             fprintf(stderr, "number %u: not %s\n", (unsigned)reasons[i].number, reasons[i].name);
+            status = 1;
+        }
+        const char *meaning = reasons[i].meaning;
+        if (strlen(meaning) > 75 || !is_told(hunk_reason_text, reasons[i].number, meaning)) {
+            fprintf(stderr, "number %u does not mean: %s\n", (unsigned)reasons[i].number, meaning);
             status = 1;
         }
     }

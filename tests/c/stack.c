@@ -62,6 +62,7 @@ static void units(void) { answer = hunk_units(object, sizeof object, &unit, 1); 
 static void strip(void) { answer = hunk_strip(object, sizeof object, text, sizeof text); }
 static void strip_load(void) { answer = hunk_strip(file, sizeof file, text, sizeof text); }
 static void reason(void) { answer = hunk_reason(HUNK_NOTHING_TO_RELOCATE, text, sizeof text); }
+static void meaning(void) { answer = hunk_reason_text(HUNK_MISPLACED, text, sizeof text); }
 
 static void feed(void)
 {
@@ -92,6 +93,7 @@ static const struct {
     {"hunk_strip", strip, ALL},
     {"hunk_strip of a load file", strip_load, ALL},
     {"hunk_reason", reason, ALL},
+    {"hunk_reason_text", meaning, ALL},
 };
 
 static void *run(void *make)

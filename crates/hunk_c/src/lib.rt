@@ -32,7 +32,7 @@ pub use crate::check::{FindingRow, hunk_check};
 pub use crate::entries::{EntryRow, hunk_entries};
 pub use crate::load::{hunk_load, hunk_load_packed};
 pub use crate::loader::Loader;
-pub use crate::reason::hunk_reason;
+pub use crate::reason::{hunk_reason, hunk_reason_text};
 pub use crate::references::{ReferenceRow, hunk_references};
 pub use crate::relocations::{RelocationRow, hunk_relocations};
 pub use crate::stream::{hunk_begin, hunk_end, hunk_feed, hunk_want};

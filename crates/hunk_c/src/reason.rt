@@ -1,7 +1,7 @@
-//! The names of the numbers that answers have.
-ghost use Rattle.hunk_c.specs.Names.{Names, IsNameOf};
+//! The names of the numbers that answers have, and what these mean.
+ghost use Rattle.hunk_c.specs.Names.{IsMeaningOf, IsNameOf, Means, Names, PutsText};
 
-use crate::answer::{Answer, NO_ROOM, STRANGE, no_room};
+use crate::answer::{Answer, NO_ROOM, STRANGE, done, no_room};
 use hunk_words::Reason;
 
 /// Writes the name of an answer's number to the text, with no zero after it.
@@ -16,17 +16,30 @@ use hunk_words::Reason;
 pub extern "C" fn hunk_reason(number: u32, text: &mut [u8]) -> Answer
     ensures { Names number text.old text.new result }
 {
-    let name = name_of_number(number).as_bytes();
-    if name.len() > text.len() {
-        return no_room(0, 0, name.len() as u64);
+    put_words(name_of_number(number), text)
+}
+
+/// Writes what an answer's number means to the text, with no zero after it: a sentence without a
+/// full stop, at most 75 bytes, which the answer counts. 0 and numbers above 33 have none.
+///
+/// All else is as `hunk_reason` does it.
+#[unsafe(no_mangle)]
+pub extern "C" fn hunk_reason_text(number: u32, text: &mut [u8]) -> Answer
+    ensures { Means number text.old text.new result }
+{
+    put_words(meaning_of_number(number), text)
+}
+
+/// Writes the words to the front of the text, unless it has fewer bytes.
+fn put_words(words: &str, text: &mut [u8]) -> Answer
+    ensures { PutsText words.now text.old text.new result }
+{
+    let words = words.as_bytes();
+    if words.len() > text.len() {
+        return no_room(0, 0, words.len() as u64);
     }
-    text[..name.len()].copy_from_slice(name);
-    Answer {
-        number: 0,
-        hunk: 0,
-        place: 0,
-        count: name.len() as u64,
-    }
+    text[..words.len()].copy_from_slice(words);
+    done(0, 0, words.len() as u64)
 }
 
 /// The name of an answer's number, or nothing.
@@ -41,6 +54,22 @@ fn name_of_number(number: u32) -> &'static str
     }
     match Reason::from_number(number) {
         Some(reason) => reason.name(),
+        None => "",
+    }
+}
+
+/// What an answer's number means, or nothing.
+fn meaning_of_number(number: u32) -> &'static str
+    ensures { IsMeaningOf number result.now }
+{
+    if number == NO_ROOM {
+        return "the array of the caller has too few elements";
+    }
+    if number == STRANGE {
+        return "the numbers are none of a loader, or do not fit";
+    }
+    match Reason::from_number(number) {
+        Some(reason) => reason.meaning(),
         None => "",
     }
 }

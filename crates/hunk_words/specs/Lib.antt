@@ -4,6 +4,7 @@ pub mod FaultLines
 pub mod KindNames
 pub mod Limits
 pub mod Longs
+pub mod Meanings
 pub mod PendingBytes
 pub mod Prints
 pub mod Puts

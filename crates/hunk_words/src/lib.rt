@@ -10,6 +10,7 @@ mod history;
 mod limits;
 mod long_writer;
 mod longword;
+mod meaning;
 mod pending;
 mod printer;
 mod reason;
