@@ -76,7 +76,7 @@ struct hunk_answer {
     uint32_t number; /* HUNK_OK, the number of a reason, HUNK_NO_ROOM or HUNK_STRANGE */
     uint32_t hunk;   /* the hunks of a load file, or as the call says; else 0 */
     uint64_t place;  /* bytes that were read; at a reason, the byte where it stands, from 0 on */
-    uint64_t count;  /* what the call counts (below): written, or needed at HUNK_NO_ROOM; else 0 */
+    uint64_t count;  /* what the call counts (below): written, needed, or still to come; else 0 */
 };
 
 /* A row of the table of a load file: 16 bytes. */

@@ -116,6 +116,28 @@ fn whole_in_two_pieces(rt: HostRuntime) -> Result<(), Fail> {
     Ok(())
 }
 
+/// How many bytes example 2 still has at least, after its header and each longword behind that.
+const WANTS: &[u64] = &[24, 20, 24, 20, 16, 20, 28, 24, 20, 16, 12, 8, 8, 4, 0];
+
+/// What is wanted of a file that comes byte by byte.
+#[test]
+fn wants(rt: HostRuntime) -> Result<(), Fail> {
+    let table = [(2, 0, 0x10000), (1, 0, 0x20000)];
+    let file = file_of(rt.alloc(), TWO_HUNKS, 28, table.as_slice())?;
+    let (mut store, rows) = ([0; 12], file.rows.as_slice());
+    let mut at = begin(store.as_mut_slice(), rows, 28);
+    let (_, body) = cut_at(file.bytes.as_slice(), file.header);
+    for (fed, byte) in body.iter().enumerate() {
+        if let Some(want) = WANTS.get(fed / 4) {
+            assert_equal(&rt, at.want() + fed as u64 % 4, *want);
+        }
+        at = takes(&rt, store.as_mut_slice(), rows, at, [*byte].as_slice());
+    }
+    assert_equal(&rt, body.len(), 4 * (WANTS.len() - 1));
+    assert_equal(&rt, at.want(), 0);
+    Ok(())
+}
+
 /// Sees that the two pieces are refused so, by the one with the last byte of the longword.
 fn expect_refusal(rt: &impl Abort, file: &File, cut: usize, fault: LoadFault) {
     let mut store = [0xA5; 8];
