@@ -26,8 +26,14 @@ LIBRARY=${LIBRARY:+$(absolute "$LIBRARY")}
 PROGRAM=${PROGRAM:+$(absolute "$PROGRAM")}
 cd "$(dirname "$(realpath "$0")")"
 to=$DESTDIR$PREFIX
-files="bin/hunkinfo include/hunk.h lib/libhunk.a lib/libhunk.so lib/pkgconfig/hunk.pc share/man/man1/hunkinfo.1
-  share/misc/magic.d/hunk share/doc/hunkinfo/OUTPUT.md share/doc/hunkinfo/FORMAT.md"
+# The shared library has the number of its interface in its name, and is a file with its version in that.
+version=$(cat VERSION)
+abi=$(sed -n 's/^#define HUNK_ABI \(UINT32_C(\)\{0,1\}\([0-9][0-9]*\).*/\2/p' include/hunk.h)
+[ "$abi" ] || lack 'include/hunk.h does not say its HUNK_ABI'
+soname=libhunk.so.$abi
+shared=libhunk.so.$version
+files="bin/hunkinfo include/hunk.h lib/libhunk.a lib/$shared lib/$soname lib/libhunk.so lib/pkgconfig/hunk.pc
+  share/man/man1/hunkinfo.1 share/misc/magic.d/hunk share/doc/hunkinfo/OUTPUT.md share/doc/hunkinfo/FORMAT.md"
 # The folders below PREFIX that were made, PREFIX itself as /, each one before the one that it is in.
 record=$to/share/doc/hunkinfo/folders
 if [ $# = 1 ]; then
@@ -36,6 +42,8 @@ if [ $# = 1 ]; then
   for file in $files; do
     rm -f "$to/$file" || status=1
   done
+  # Those of earlier versions, too.
+  rm -f "$to"/lib/libhunk.so.* || status=1
   rm -f "$record" || status=1
   for folder in $made; do
     rmdir "$to/$folder" 2> /dev/null || true
@@ -62,7 +70,7 @@ trap 'rm -rf "$work"' EXIT
 trap 'exit 1' HUP INT TERM
 echo '{ global: hunk_*; local: *; };' > "$work/exports"
 # shellcheck disable=SC2086
-$CC -shared -o "$work/libhunk.so" -Wl,-soname,libhunk.so -Wl,--version-script="$work/exports" \
+$CC -shared -o "$work/$shared" -Wl,-soname,"$soname" -Wl,--version-script="$work/exports" \
   -Wl,--whole-archive "$LIBRARY" -Wl,--no-whole-archive
 cat > "$work/hunk.pc" << END
 prefix=$(printf '%s\n' "$PREFIX" | sed 's/[\\"]/\\&/g')
@@ -71,7 +79,7 @@ libdir=\${prefix}/lib
 
 Name: hunk
 Description: load files and object files of AmigaDOS (hunk files)
-Version: 0
+Version: $version
 Cflags: -I"\${includedir}"
 Libs: -L"\${libdir}" -lhunk
 END
@@ -87,7 +95,9 @@ echo "$made" > "$record"
 install -m 755 "$PROGRAM" "$to/bin/hunkinfo"
 install -m 644 include/hunk.h "$to/include/hunk.h"
 install -m 644 "$LIBRARY" "$to/lib/libhunk.a"
-install -m 755 "$work/libhunk.so" "$to/lib/libhunk.so"
+install -m 755 "$work/$shared" "$to/lib/$shared"
+ln -sf "$shared" "$to/lib/$soname"
+ln -sf "$soname" "$to/lib/libhunk.so"
 install -m 644 "$work/hunk.pc" "$to/lib/pkgconfig/hunk.pc"
 install -m 644 docs/hunkinfo.1 "$to/share/man/man1/hunkinfo.1"
 install -m 644 docs/hunk.magic "$to/share/misc/magic.d/hunk"
