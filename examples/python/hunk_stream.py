@@ -1,0 +1,93 @@
+"""Loads a hunk file of AmigaDOS that comes piece by piece, beside hunk.py: no byte past the file is asked for.
+
+    import hunk_stream
+
+    with open("/dev/stdin", "rb", buffering=0) as pipe:
+        segments = hunk_stream.load_from(pipe, base=0x21000)
+"""
+
+from __future__ import annotations
+
+import itertools
+from ctypes import c_uint8, c_uint32, c_uint64, c_void_p
+from typing import Any, BinaryIO
+
+import hunk
+
+_TRUNCATED = 26
+_LOADER_WORDS = 96 // 8
+
+_begin = hunk._call("hunk_begin", c_void_p, *hunk._ROOM, c_uint64, *hunk._ROOM)
+_feed = hunk._call("hunk_feed", c_void_p, *hunk._ROOM, *hunk._ROOM, *hunk._BYTES)
+_want = hunk._call("hunk_want", c_void_p)
+_end = hunk._call("hunk_end", c_void_p)
+
+
+class Loader:
+    """Loads a file that comes piece by piece, its hunks one after the other from the address `base` on.
+
+    `want` is how many bytes may be asked of a pipe without reading past the file: 0 once the file is whole."""
+
+    def __init__(self, base: int = 0x1000, budget: int = hunk.BUDGET) -> None:
+        self._base, self._budget = hunk._number(base, 32, "base"), hunk._number(budget, 64, "budget")
+        self._header = b""
+        self._sizes: list[int] = []
+        self._loader = (c_uint64 * _LOADER_WORDS)()
+        self._places: Any = (c_uint32 * 0)()
+        self._memory: Any = (c_uint8 * 0)()
+        self.want = 0
+        self._read_header(b"")
+
+    def _read_header(self, piece: bytes) -> None:
+        """Takes bytes of the header, and begins with the body where it is whole."""
+        self._header += piece
+        answer = hunk._table(self._header, len(self._header), self._budget, None, 0)
+        if answer.number == _TRUNCATED:
+            self.want = answer.count
+        elif answer.number == hunk._NO_ROOM:
+            self._begin(answer.count)
+        else:
+            hunk._accepted(answer)
+
+    def _begin(self, total: int) -> None:
+        rows = list(hunk._rows(hunk._table, hunk._ROW, self._header, self._budget, counted="hunk"))
+        self._sizes = [size for _, _, size, _ in rows]
+        bases = [self._base + start for start in itertools.accumulate(self._sizes, initial=0)]
+        for i, end in enumerate(bases[1:]):
+            if end > 1 << 32 or bases[i] >> 32:
+                raise hunk._refusal(hunk._NO_BASE, len(self._header), i)
+        words = (it for row, base in zip(rows, bases) for it in (row[0], row[1], base))
+        self._places = (c_uint32 * (3 * len(rows)))(*words)
+        self._memory = (c_uint8 * total)()
+        hunk._accepted(_begin(self._loader, *self._parts()[:2], len(self._header), self._memory, total))
+        self.want = hunk._accepted(_want(self._loader)).count
+
+    def _parts(self) -> tuple[Any, int, Any, int]:
+        return self._places, len(self._sizes), self._memory, len(self._memory)
+
+    def feed(self, data: hunk.Data) -> int:
+        """Takes the next bytes of the file, and says how many: all of them, unless the file is whole before their end."""
+        piece, taken = hunk._bytes(data), 0
+        while not self._sizes and taken < len(piece):
+            taken += (count := min(self.want, len(piece) - taken))
+            self._read_header(piece[taken - count : taken])
+        if self._sizes:
+            rest = piece[taken:]
+            taken += hunk._accepted(_feed(self._loader, *self._parts(), rest, len(rest))).count
+            self.want = hunk._accepted(_want(self._loader)).count
+        return taken
+
+    def end(self) -> list[bytes]:
+        """The bytes of each hunk. Where the file is not whole, that is a HunkError."""
+        if not self._sizes:
+            raise hunk._refusal(_TRUNCATED, len(self._header) // 4 * 4, 0)
+        hunk._accepted(_end(self._loader))
+        return hunk._segments(self._memory, self._sizes)
+
+
+def load_from(stream: BinaryIO, base: int = 0x1000, budget: int = hunk.BUDGET) -> list[bytes]:
+    """The bytes of each hunk of the load file that a stream gives next. What follows the file stays in the stream."""
+    loader = Loader(base, budget)
+    while loader.want and (piece := stream.read(loader.want)):
+        loader.feed(piece)
+    return loader.end()
