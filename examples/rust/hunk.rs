@@ -1,29 +1,52 @@
-//! Hunk files of AmigaDOS, by the C library libhunk: loads, checks and strips them.
+//! Hunk files of AmigaDOS, by the C library libhunk: loads, checks and strips them, and reads what stands in them.
 //!
-//! For programs that rustc compiles. Copy this file beside your own, and link with the library: `rustc -l hunk main.rs`, or in
-//! a package `println!("cargo:rustc-link-lib=hunk")` in its `build.rs`.
+//! For programs that rustc or cargo builds. `cargo add --path` takes this folder as a dependency; or copy `hunk.rs`,
+//! `hunk_file.rs` and `hunk_raw.rs` beside your own file. Where the library is in a folder that linkers do not search, name that
+//! in `LIBRARY_PATH`, or after `-L`.
 //!
 //! ```no_run
+//! # fn main() -> Result<(), hunk::Error> {
+//! # let data: Vec<u8> = Vec::new();
 //! for segment in hunk::load_packed(&data, 0x21000, hunk::BUDGET)? {
-//!     ..
+//!     println!("{segment:02x?}");
 //! }
+//! for symbol in hunk::read(&data)?.symbols() {
+//!     println!("{symbol:?}");
+//! }
+//! # Ok(())
+//! # }
 //! ```
 //!
-//! Bytes that are rejected are an [`Error`], which says why and at which byte. No call keeps anything, and none panics
+//! Bytes that are refused are an [`Error`], which says why and at which byte. No call keeps anything, and none panics
 //! whatever the bytes are, unless the process has no memory for a list of the answer.
 
+#![warn(missing_docs)]
+// A program beside which these files are copied need not use all of them.
+#![allow(dead_code, unused_imports)]
+
+#[path = "hunk_file.rs"]
+mod file;
+#[path = "hunk_raw.rs"]
+mod raw;
+
+pub use file::{Block, Entry, EntryKind, File, Flags, Kind, Reference, Relocation, Symbol, Unit};
 use std::{error, fmt};
+
+/// The number of the interface that this module is written for.
+pub const ABI: u32 = 1;
 
 /// The most bytes that the hunks of a file may have in memory together, where there is no better limit.
 pub const BUDGET: u64 = 1 << 24;
 
-/// Says that the bytes are rejected.
+/// Says that the bytes are refused.
 #[derive(Clone, Debug, PartialEq, Eq)]
 pub struct Error {
     /// The number of the reason, as `HUNK_BUDGET` of `hunk.h`.
     pub number: u32,
     /// Its name, as `Budget`.
     pub reason: String,
+    /// What it means, in a sentence.
+    pub meaning: String,
     /// The byte at which it stands, counted from 0.
     pub place: u64,
     /// The hunk without a base where the reason is `NoBase`.
@@ -45,19 +68,29 @@ impl error::Error for Error {}
 /// The memory that a hunk asks for.
 #[derive(Clone, Copy, Debug, PartialEq, Eq)]
 pub enum Memory {
+    /// Any memory will do.
     Any,
+    /// Chip memory, which the custom chips see.
     Chip,
+    /// Fast memory.
     Fast,
     /// The memory attributes, which are not interpreted.
     Attributes(u32),
 }
 
-/// What the table of a load file says of a hunk.
+/// What the table of a load file says of a hunk, or the content block of an object file's.
 #[derive(Clone, Copy, Debug, PartialEq, Eq)]
 pub struct Hunk {
+    /// The unit that it is in, counted from 0; 0 in a load file.
+    pub unit: u64,
+    /// Its number in the unit, counted from 0.
+    pub number: u64,
     /// Its bytes in memory.
-    pub size: u32,
+    pub size: u64,
+    /// The memory that it asks for.
     pub memory: Memory,
+    /// The kind of its content block; `None` where only the header was read.
+    pub kind: Option<Kind>,
 }
 
 /// What is wrong with an offset.
@@ -72,12 +105,32 @@ pub enum Fault {
 /// Something that is wrong with an object file, and where: numbers that count from 0.
 #[derive(Clone, Copy, Debug, PartialEq, Eq)]
 pub struct Finding {
+    /// The byte of the file at which the offset stands.
+    pub place: u64,
+    /// The unit.
     pub unit: u64,
     /// The hunk of the unit.
     pub hunk: u64,
     /// In bytes from the start of the hunk.
     pub offset: u32,
+    /// What is wrong there.
     pub fault: Fault,
+}
+
+/// The number of the library's interface: [`ABI`], or the library is another one.
+#[must_use]
+pub fn abi() -> u32 {
+    // SAFETY: it takes nothing.
+    unsafe { raw::hunk_abi() }
+}
+
+/// What stands in the object file that the bytes are, or in the load file that they begin with.
+///
+/// # Errors
+///
+/// As [`check`].
+pub fn read(data: &[u8]) -> Result<File<'_>, Error> {
+    File::read(data)
 }
 
 /// The hunks that the header in front declares. Bytes after the header are not read.
@@ -91,7 +144,7 @@ pub fn table(data: &[u8], budget: u64) -> Result<Vec<Hunk>, Error> {
         raw::hunk_table(data.as_ptr(), data.len(), budget, rows.as_mut_ptr(), rows.len())
     };
     let rows = rows(write, |answer| answer.hunk.into())?;
-    Ok(rows.into_iter().map(Hunk::from).collect())
+    Ok((0..).zip(&rows).map(|(number, row)| Hunk { number, ..Hunk::from(row) }).collect())
 }
 
 /// The bytes of each hunk of the load file in front, relocated for an address of its own.
@@ -127,18 +180,13 @@ pub fn load_into(data: &[u8], base: u32, memory: &mut [u8]) -> Result<usize, Err
     Ok(accepted(packed(data, base, memory))?.count as usize)
 }
 
-/// What is wrong with the offsets of an object file. A load file has no findings, or is rejected.
+/// What is wrong with the offsets of an object file. A load file has no findings, or is refused.
 ///
 /// # Errors
 ///
 /// An error where the bytes are no object file and do not begin with a load file.
 pub fn check(data: &[u8]) -> Result<Vec<Finding>, Error> {
-    // SAFETY: the pointers come with the lengths of what they point to.
-    let write = |rows: &mut [raw::Finding]| unsafe {
-        raw::hunk_check(data.as_ptr(), data.len(), rows.as_mut_ptr(), rows.len())
-    };
-    let rows = rows(write, |answer| answer.count)?;
-    Ok(rows.into_iter().map(Finding::from).collect())
+    Ok(listed(raw::hunk_check, data)?.iter().map(Finding::from).collect())
 }
 
 /// The object file that the bytes are, or the load file in front, without names, symbols and debug data.
@@ -192,89 +240,54 @@ fn rows<R: Clone + Default>(
     Ok(rows)
 }
 
+/// The rows that a call writes about the file that the bytes are, or begin with.
+fn listed<R: Clone + Default>(call: raw::Lists<R>, data: &[u8]) -> Result<Vec<R>, Error> {
+    // SAFETY: the pointers come with the lengths of what they point to.
+    let write = |rows: &mut [R]| unsafe { call(data.as_ptr(), data.len(), rows.as_mut_ptr(), rows.len()) };
+    rows(write, |answer| answer.count)
+}
+
 /// The answer, unless it is a refusal.
 fn accepted(answer: raw::Answer) -> Result<raw::Answer, Error> {
     if answer.number == raw::OK {
         return Ok(answer);
     }
-    let mut name = [0; 17];
-    // SAFETY: the pointer comes with the length of what it points to.
-    let length = unsafe { raw::hunk_reason(answer.number, name.as_mut_ptr(), name.len()) }.count;
     Err(Error {
         number: answer.number,
-        reason: String::from_utf8_lossy(&name[..length as usize]).into_owned(),
+        reason: text(raw::hunk_reason, answer.number),
+        meaning: text(raw::hunk_reason_text, answer.number),
         place: answer.place,
         hunk: (answer.number == raw::NO_BASE).then_some(answer.hunk),
     })
 }
 
-impl From<raw::Row> for Hunk {
-    fn from(row: raw::Row) -> Hunk {
+/// The text that a call has for the number of an answer.
+fn text(call: raw::Tells, number: u32) -> String {
+    // SAFETY: the pointers come with the lengths of what they point to.
+    let write = |text: &mut [u8]| unsafe { call(number, text.as_mut_ptr(), text.len()) };
+    let mut text = vec![0; write(&mut []).count as usize];
+    write(&mut text);
+    String::from_utf8_lossy(&text).into_owned()
+}
+
+impl From<&raw::Row> for Hunk {
+    fn from(row: &raw::Row) -> Hunk {
         let memory = match row.memory {
             0 => Memory::Any,
             1 => Memory::Chip,
             2 => Memory::Fast,
             _ => Memory::Attributes(row.extra),
         };
-        Hunk { size: row.bytes, memory }
+        Hunk { unit: 0, number: 0, size: row.bytes.into(), memory, kind: None }
     }
 }
 
-impl From<raw::Finding> for Finding {
-    fn from(row: raw::Finding) -> Finding {
+impl From<&raw::Finding> for Finding {
+    fn from(row: &raw::Finding) -> Finding {
         let fault = match row.fault {
             1 => Fault::BadTarget,
             _ => Fault::OutsideHunk,
         };
-        Finding { unit: row.unit, hunk: row.hunk, offset: row.offset, fault }
-    }
-}
-
-/// The calls and structs of `hunk.h` that are used here.
-mod raw {
-    pub const OK: u32 = 0;
-    pub const NO_BASE: u32 = 29;
-    pub const NO_ROOM: u32 = 32;
-
-    #[repr(C)]
-    pub struct Answer {
-        pub number: u32,
-        pub hunk: u32,
-        pub place: u64,
-        pub count: u64,
-    }
-
-    #[repr(C)]
-    #[derive(Clone, Default)]
-    pub struct Row {
-        pub word: u32,
-        pub extra: u32,
-        pub bytes: u32,
-        pub memory: u32,
-    }
-
-    #[repr(C)]
-    #[derive(Clone, Default)]
-    pub struct Finding {
-        pub unit: u64,
-        pub hunk: u64,
-        pub offset: u32,
-        pub fault: u32,
-    }
-
-    unsafe extern "C" {
-        pub fn hunk_table(bytes: *const u8, bytes_len: usize, budget: u64, rows: *mut Row, rows_len: usize) -> Answer;
-        pub fn hunk_load(
-            bytes: *const u8,
-            bytes_len: usize,
-            bases: *const u32,
-            bases_len: usize,
-            memory: *mut u8,
-            memory_len: usize,
-        ) -> Answer;
-        pub fn hunk_load_packed(bytes: *const u8, bytes_len: usize, base: u32, memory: *mut u8, memory_len: usize) -> Answer;
-        pub fn hunk_check(bytes: *const u8, bytes_len: usize, rows: *mut Finding, rows_len: usize) -> Answer;
-        pub fn hunk_strip(bytes: *const u8, bytes_len: usize, text: *mut u8, text_len: usize) -> Answer;
-        pub fn hunk_reason(number: u32, text: *mut u8, text_len: usize) -> Answer;
+        Finding { place: row.place, unit: row.unit, hunk: row.hunk, offset: row.offset, fault }
     }
 }
