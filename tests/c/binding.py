@@ -1,24 +1,51 @@
-"""binding.py VECTORS..: holds examples/python/hunk.py to the conformance suite, vectors/load.tsv and vectors/objects.tsv.
+"""binding.py VECTORS..: holds examples/python/hunk.py and hunk_stream.py to the conformance suite, vectors/load.tsv and
+vectors/objects.tsv. Prints each row with another answer, and ends with status 1 where there is one.
 
-Prints each row with another answer, and ends with status 1 where there is one."""
+binding.py --show FILE..: prints what stands in the files by hunk.py in the words of `hunkinfo show`, after `== FILE` for each.
+It ends with status 1 where something does not stand at the place that its row has."""
 
+import io
 import itertools
 import pathlib
 import sys
 
 sys.path.insert(0, str(pathlib.Path(__file__).resolve().parents[2] / "examples/python"))
 import hunk
+import hunk_stream
+
+ITS_WORD = {hunk.Kind.CODE: "memory", hunk.Kind.DATA: "memory", hunk.Kind.BSS: "memory", hunk.Kind.DEBUG: "content_bytes"}
+COMMON = (hunk.EntryKind.COMMON, hunk.EntryKind.RELCOMMON)
+
+
+# ---- The conformance suite.
 
 
 def answer_of(data, is_object):
-    """What the binding answers, in the words of the tables; of an object file without its number of units."""
+    """What the binding answers, in the words of the tables."""
     try:
         if is_object:
-            return ["accepted", str(len(hunk.check(data)))]
+            file = hunk.read(data)
+            return ["accepted", str(len(file.units)), str(len(file.findings))]
         segments = hunk.load(data)
         return ["accepted", str(len(segments)), str(sum(map(len, segments)))]
     except hunk.HunkError as error:
         return ["refused", str(error.place), str(error.number)]
+
+
+def stream_answer(data, each):
+    """The same of a load file in pieces, each of at most so many bytes; what follows the file must not be read."""
+    stream = io.BytesIO(data)
+    loader = hunk_stream.Loader()
+    try:
+        while loader.want and (piece := stream.read(min(each, loader.want))):
+            if loader.feed(piece) != len(piece):
+                return ["a piece is not taken"]
+        segments = loader.end()
+    except hunk.HunkError as error:
+        return ["refused", str(error.place), str(error.number)]
+    if segments != hunk.load(data) or stream.tell() != hunk.read(data).size:
+        return ["another load"]
+    return ["accepted", str(len(segments)), str(sum(map(len, segments)))]
 
 
 def rows_of(path):
@@ -34,14 +61,118 @@ def wrong_rows(path):
         # The library tells the kinds apart by the first longword, and that one declares more than the budget.
         if name == "header-alone" or is_object and not text.startswith("000003e7"):
             continue
-        if is_object and wanted[0] == "accepted":
-            wanted = [wanted[0], wanted[2]]
-        answer = answer_of(bytes.fromhex(text), is_object)
-        if answer != wanted:
-            yield f"{name}: {answer} where {wanted} is wanted"
+        data = bytes.fromhex(text)
+        answers = [answer_of(data, is_object)]
+        if not is_object:
+            answers += [stream_answer(data, each) for each in (1, 6, 1 << 20)]
+        for answer in answers:
+            if answer != wanted:
+                yield f"{name}: {answer} where {wanted} is wanted"
+
+
+# ---- What stands in files.
+
+
+def text_of(name):
+    return "".join(chr(it) if 0x20 <= it < 0x7F and it != 0x5C else f"\\x{it:02x}" for it in name)
+
+
+def shown_block(file, block, items):
+    """The lines of a block, of which the next rows of each list are its items."""
+    flags = [it.name.lower() for it in hunk.Flags if it in block.flags]
+    if block.kind.name.startswith("TYPE_"):
+        yield " ".join(["  ADVISORY", str(int(block.kind)), f"{block.content_bytes} bytes", *flags[1:]])
+        return
+    head = " ".join([f"  {block.kind.name}", *flags])
+    if block.kind == hunk.Kind.NAME:
+        yield f"{head} {text_of(file.content(block).split(bytes(1))[0])}"
+    elif block.kind in ITS_WORD:
+        yield f"{head} {getattr(block, ITS_WORD[block.kind])} bytes"
+    elif block.kind == hunk.Kind.END:
+        yield head
+    else:
+        yield f"{head} {block.items}"
+        for it in itertools.islice(items[block.kind], block.items):
+            yield from shown_item(it)
+
+
+def shown_item(it):
+    """The lines of an item of a block."""
+    if isinstance(it, hunk.Relocation):
+        yield f"    {it.target} 0x{it.offset:08x}"
+    elif isinstance(it, hunk.Symbol):
+        yield f"    0x{it.value:08x} {text_of(it.name)}"
+    elif it.kind <= hunk.EntryKind.ABS:
+        yield f"    {it.kind.name} 0x{it.value:08x} {text_of(it.name)}"
+    else:
+        size = f"{it.value} " if it.kind in COMMON else ""
+        yield f"    {it.kind.name} {size}{len(it.references)} {text_of(it.name)}"
+        yield from (f"      0x{reference.offset:08x}" for reference in it.references)
 
 
 def shown(data):
+    """The lines of `hunkinfo show`."""
+    file = hunk.read(data)
+    total = sum(it.size for it in file.hunks)
+    yield f"object file {len(file.units)} units" if file.is_object else f"load file {len(file.hunks)} hunks {total} bytes"
+    relocations = iter(file.relocations)
+    items = dict.fromkeys(hunk.Kind, relocations)
+    items.update({hunk.Kind.SYMBOL: iter(file.symbols), hunk.Kind.EXT: iter(file.entries)})
+    for number, unit in enumerate(file.units or [None]):
+        if unit:
+            yield f"unit {number} {text_of(unit.name)}"
+        for row in (it for it in file.hunks if it.unit == number):
+            attributes = f" 0x{row.attributes:08x}" if row.memory == "attributes" else ""
+            yield f"hunk {row.number} {row.size} bytes" + ("" if file.is_object else f" {row.memory}{attributes}")
+            for block in file.blocks:
+                if (block.unit, block.hunk) == (number, row.number):
+                    yield from shown_block(file, block, items)
+    if file.size < len(data):
+        yield f"rest {len(data) - file.size} bytes"
+
+
+def wrong_places(data):
+    """The rows whose place is not where the file has what they say."""
+    file = hunk.read(data)
+    references = [reference for entry in file.entries for reference in entry.references]
+
+    def long_at(place):
+        return int.from_bytes(data[place : place + 4], "big")
+
+    for it in [*file.relocations, *references, *file.findings]:
+        if long_at(it.place) != it.offset:
+            yield it
+    for it in [*file.symbols, *file.entries, *file.units]:
+        start = it.place + (8 if isinstance(it, hunk.Unit) else 4)
+        room = 4 * (long_at(start - 4) & 0xFFFFFF)
+        if it.name != data[start : start + room].split(bytes(1))[0]:
+            yield it
+    for it in file.blocks:
+        if long_at(it.place) != it.kind + (it.flags << 29):
+            yield it
+
+
+def show_files(paths):
+    status = 0
+    for path in paths:
+        data = pathlib.Path(path).read_bytes()
+        print("==", path)
+        try:
+            print(*shown(data), sep="\n")
+            wrong = list(wrong_places(data))
+        except hunk.HunkError as error:
+            print(error)
+            continue
+        if wrong:
+            print(f"{path}: not in its place: {wrong[0]}", file=sys.stderr)
+            status = 1
+    return status
+
+
+# ---- Calls of their own.
+
+
+def hex_lines(data):
     """The bytes of each hunk, as the README takes them."""
     lines = []
     for segment in hunk.load(data, base=0x21000):
@@ -64,10 +195,15 @@ def wrong_calls(texts):
     one, two, symbol = (bytes.fromhex(texts[it]) for it in ("one-hunk", "two-hunks", "symbol"))
     calls = {
         "strip": (lambda: hunk.strip(symbol), one),
-        "readme": (lambda: shown(one), ["4e754e71"]),
+        "readme": (lambda: hex_lines(one), ["4e754e71"]),
         "table": (lambda: hunk.table(one[:24]), [hunk.Hunk(4, "any", 0)]),
         "bases": (lambda: hunk.load(two, [0x10000, 0x20000])[0].hex(), "4ef9000200044e71"),
         "memory": (lambda: hunk.load(memoryview(one)), [bytes.fromhex("4e754e71")]),
+        "stream": (lambda: hunk_stream.load_from(io.BytesIO(one + one)), [bytes.fromhex("4e754e71")]),
+        "file": (lambda: repr(hunk.read(one + one)), "<load file, 40 bytes, 1 hunks>"),
+        "block": (lambda: hunk.read(one).blocks[0][:6], (24, 12, 0, 0, hunk.Kind.CODE, hunk.Flags(0))),
+        "kind": (lambda: repr(hunk.read(one).hunks), "[Hunk(size=4, memory='any', attributes=0, unit=0, number=0, kind=CODE)]"),
+        "number": (lambda: repr(hunk.Kind(1234)), "TYPE_1234"),
     }
     for name, (call, wanted) in calls.items():
         if call() != wanted:
@@ -75,6 +211,8 @@ def wrong_calls(texts):
     errors = {
         "refused at byte 28: NoBase (29) hunk 1": lambda: hunk.load(two, [0x10000]),
         "refused at byte 20: Budget (27)": lambda: hunk.load(one, budget=3),
+        "refused at byte 28: NoBase (29) hunk 0": lambda: hunk_stream.load_from(io.BytesIO(two), 0xFFFFFFFC),
+        "refused at byte 8: Truncated (26)": lambda: hunk.read(one[:9]),
         "base is no number of 32 bits: 4294967296": lambda: hunk.load(one, 1 << 32),
     }
     for wanted, call in errors.items():
@@ -83,14 +221,18 @@ def wrong_calls(texts):
         except ValueError as error:
             if str(error) != wanted:
                 yield f"{error} where the error is wanted: {wanted}"
-    for call, data in itertools.product((hunk.table, hunk.load, hunk.check, hunk.strip), (5, list(one), "text")):
+            if isinstance(error, hunk.HunkError) and len(error.meaning) <= len(error.reason):
+                yield f"{error}: no sentence says what it means"
+    for call, data in itertools.product((hunk.table, hunk.load, hunk.check, hunk.strip, hunk.read), (5, list(one), "text")):
         if not raises_type_error(call, data):
             yield f"{call.__name__} of {data}: no TypeError is raised"
 
 
-def main(paths):
-    texts = {row[1]: row[2] for row in rows_of(paths[0])}
-    wrong = [it for path in paths for it in wrong_rows(path)] + list(wrong_calls(texts))
+def main(words):
+    if words[0] == "--show":
+        return show_files(words[1:])
+    texts = {row[1]: row[2] for row in rows_of(words[0])}
+    wrong = [it for path in words for it in wrong_rows(path)] + list(wrong_calls(texts))
     print(*wrong, sep="\n", end="\n" if wrong else "")
     return 1 if wrong else 0
 

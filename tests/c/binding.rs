@@ -1,11 +1,13 @@
-//! binding LOAD OBJECTS: holds examples/rust/hunk.rs to the conformance suite, vectors/load.tsv and vectors/objects.tsv.
+//! binding LOAD OBJECTS: holds examples/rust/hunk.rs to the conformance suite, vectors/load.tsv and vectors/objects.tsv. Prints
+//! each row with another answer, and ends with status 1 where there is one.
 //!
-//! Prints each row with another answer, and ends with status 1 where there is one.
+//! binding --show FILE..: prints what stands in the files by hunk.rs in the words of `hunkinfo show`, after `== FILE` for each.
+//! It ends with status 1 where something does not stand at the place that its row has.
 
 #[path = "../../examples/rust/hunk.rs"]
 mod hunk;
 
-use hunk::{BUDGET, Error, Fault, Finding, Hunk, Memory};
+use hunk::{Block, Entry, EntryKind, Error, Fault, File, Finding, Hunk, Kind, Memory, Relocation, Symbol, BUDGET};
 use std::process::ExitCode;
 use std::{env, fs};
 
@@ -51,8 +53,8 @@ fn load_answer(data: &[u8]) -> Vec<String> {
 }
 
 fn object_answer(data: &[u8]) -> Vec<String> {
-    match hunk::check(data) {
-        Ok(findings) => vec!["accepted".into(), findings.len().to_string()],
+    match hunk::read(data) {
+        Ok(file) => vec!["accepted".into(), file.units().len().to_string(), file.findings().len().to_string()],
         Err(error) => refused(&error),
     }
 }
@@ -64,14 +66,7 @@ fn wrong_rows(load: &[Row], objects: &[Row]) -> Vec<String> {
     let load = load.map(|row| (row, load_answer(&row.data), row.wanted.clone()));
     // The library tells the kinds apart by the first longword.
     let objects = objects.iter().filter(|row| row.data.starts_with(&[0, 0, 3, 0xE7]));
-    let objects = objects.map(|row| {
-        let mut wanted = row.wanted.clone();
-        if wanted[0] == "accepted" {
-            // How many units there are is not answered.
-            wanted.remove(1);
-        }
-        (row, object_answer(&row.data), wanted)
-    });
+    let objects = objects.map(|row| (row, object_answer(&row.data), row.wanted.clone()));
     let all = load.chain(objects).filter(|(_, answer, wanted)| answer != wanted);
     all.map(|(row, answer, wanted)| format!("{}: {answer:?} where {wanted:?} is wanted", row.name)).collect()
 }
@@ -90,10 +85,18 @@ fn wrong_calls(load: &[Row], objects: &[Row]) -> Vec<String> {
     let code = bytes_of("4e754e71");
     let mut ram = [0xAA; 8];
     let text = |result: Result<usize, Error>| result.unwrap_err().to_string();
-    let finding = |fault| Finding { unit: 0, hunk: 0, offset: 2, fault };
+    // The offset is the third longword of the relocation block, which stands behind a unit of 2 longwords and CODE of 3.
+    let finding = |place, fault| Finding { place, unit: 0, hunk: 0, offset: 2, fault };
+    let row = Hunk { unit: 0, number: 0, size: 4, memory: Memory::Any, kind: None };
+    let read = hunk::read(&one).unwrap();
     let checks = [
         ("strip", hunk::strip(&symbol) == Ok(one.clone())),
-        ("table", hunk::table(&one[..24], BUDGET) == Ok(vec![Hunk { size: 4, memory: Memory::Any }])),
+        ("table", hunk::table(&one[..24], BUDGET) == Ok(vec![row])),
+        ("abi", hunk::abi() == hunk::ABI),
+        ("hunks", read.hunks() == [Hunk { kind: Some(Kind::CODE), ..row }]),
+        ("blocks", read.blocks_of(&row).len() == 2 && read.blocks()[0].content == code && read.bytes() == one),
+        ("debug", format!("{:?}", hunk::read(&symbol).unwrap().symbols()[0]).ends_with(", value: 0, name: b\"_m\" }")),
+        ("meaning", hunk::read(&one[..9]).unwrap_err().meaning.len() > "Truncated".len()),
         ("bases", hunk::load(&two, &[0x10000, 0x20000], BUDGET).unwrap()[0] == bytes_of("4ef9000200044e71")),
         ("no base", text(hunk::load(&two, &[0x10000], BUDGET).map(|it| it.len())) == "refused at byte 28: NoBase (29) hunk 1"),
         ("budget", text(hunk::load_packed(&one, 0, 3).map(|it| it.len())) == "refused at byte 20: Budget (27)"),
@@ -101,13 +104,147 @@ fn wrong_calls(load: &[Row], objects: &[Row]) -> Vec<String> {
         ("refused memory", ram == [0xAA; 8]),
         ("into", load_ram(&one, 2, &mut ram) == Ok(4)),
         ("memory", ram[2..6] == code && ram[..2] == [0xAA; 2] && ram[6..] == [0xAA; 2]),
-        ("findings", hunk::check(&findings) == Ok(vec![finding(Fault::BadTarget), finding(Fault::OutsideHunk)])),
+        ("findings", hunk::check(&findings) == Ok(vec![finding(32, Fault::BadTarget), finding(32, Fault::OutsideHunk)])),
     ];
     checks.iter().filter(|(_, holds)| !holds).map(|(name, _)| format!("{name}: another answer")).collect()
 }
 
+fn text_of(name: &[u8]) -> String {
+    let text = |&it: &u8| match it {
+        b' '..=b'[' | b']'..=b'~' => char::from(it).to_string(),
+        _ => format!("\\x{it:02x}"),
+    };
+    name.iter().map(text).collect()
+}
+
+/// The rows of a file that are still to be shown.
+struct Shown<'f, 'a> {
+    file: &'f File<'a>,
+    symbols: std::slice::Iter<'f, Symbol<'a>>,
+    relocations: std::slice::Iter<'f, Relocation>,
+    entries: std::slice::Iter<'f, Entry<'a>>,
+}
+
+impl Shown<'_, '_> {
+    fn block(&mut self, block: &Block) {
+        let flag = |has, name| if has { name } else { "" };
+        let (advisory, chip) = (flag(block.flags.advisory, " advisory"), flag(block.flags.chip, " chip"));
+        let memory = format!("{chip}{}", flag(block.flags.fast, " fast"));
+        let name = format!("{:?}", block.kind);
+        match block.kind {
+            Kind::NAME => {
+                let text = block.content.split(|&it| it == 0).next().unwrap();
+                println!("  NAME{advisory}{memory} {}", text_of(text));
+            }
+            Kind::CODE | Kind::DATA | Kind::BSS => println!("  {name}{advisory}{memory} {} bytes", block.memory),
+            Kind::DEBUG => println!("  DEBUG{advisory}{memory} {} bytes", block.content.len()),
+            Kind::END => println!("  END{advisory}{memory}"),
+            _ if name.starts_with("Kind") => println!("  ADVISORY {} {} bytes{memory}", block.kind.0, block.content.len()),
+            _ => println!("  {name}{advisory}{memory} {}", block.items),
+        }
+        for _ in 0..block.items {
+            self.item(block.kind);
+        }
+    }
+
+    /// The next item of a block of this kind.
+    fn item(&mut self, kind: Kind) {
+        match kind {
+            Kind::SYMBOL => {
+                let it = self.symbols.next().unwrap();
+                println!("    0x{:08x} {}", it.value, text_of(it.name));
+            }
+            Kind::EXT => self.entry(),
+            _ => {
+                let it = self.relocations.next().unwrap();
+                println!("    {} 0x{:08x}", it.target, it.offset);
+            }
+        }
+    }
+
+    fn entry(&mut self) {
+        let it = self.entries.next().unwrap();
+        let references = self.file.references_of(it);
+        let (kind, count, name) = (it.kind, references.len(), text_of(it.name));
+        match kind {
+            _ if kind.is_definition() => println!("    {kind:?} 0x{:08x} {name}", it.value),
+            EntryKind::COMMON | EntryKind::RELCOMMON => println!("    {kind:?} {} {count} {name}", it.value),
+            _ => println!("    {kind:?} {count} {name}"),
+        }
+        for reference in references {
+            println!("      0x{:08x}", reference.offset);
+        }
+    }
+
+    fn hunk(&mut self, hunk: &Hunk) {
+        let memory = match hunk.memory {
+            _ if self.file.is_object() => String::new(),
+            Memory::Any => " any".into(),
+            Memory::Chip => " chip".into(),
+            Memory::Fast => " fast".into(),
+            Memory::Attributes(word) => format!(" attributes 0x{word:08x}"),
+        };
+        println!("hunk {} {} bytes{memory}", hunk.number, hunk.size);
+        for block in self.file.blocks_of(hunk) {
+            self.block(block);
+        }
+    }
+}
+
+fn show(file: &File, len: usize) {
+    let (symbols, relocations, entries) = (file.symbols().iter(), file.relocations().iter(), file.entries().iter());
+    let mut shown = Shown { file, symbols, relocations, entries };
+    if !file.is_object() {
+        let total: u64 = file.hunks().iter().map(|it| it.size).sum();
+        println!("load file {} hunks {total} bytes", file.hunks().len());
+        file.hunks().iter().for_each(|it| shown.hunk(it));
+        if file.bytes().len() < len {
+            println!("rest {} bytes", len - file.bytes().len());
+        }
+        return;
+    }
+    println!("object file {} units", file.units().len());
+    for (number, unit) in (0..).zip(file.units()) {
+        println!("unit {number} {}", text_of(unit.name));
+        file.hunks().iter().filter(|it| it.unit == number).for_each(|it| shown.hunk(it));
+    }
+}
+
+/// Whether each row stands at its place of the file.
+fn stands(file: &File) -> bool {
+    let bytes = |place: u64| &file.bytes()[place as usize..];
+    let long = |place: u64| u32::from_be_bytes(bytes(place)[..4].try_into().unwrap());
+    let named = |place: u64, name: &[u8]| bytes(place).starts_with(name);
+    file.relocations().iter().all(|it| long(it.place) == it.offset)
+        && file.references().iter().all(|it| long(it.place) == it.offset)
+        && file.findings().iter().all(|it| long(it.place) == it.offset)
+        && file.symbols().iter().all(|it| named(it.place + 4, it.name))
+        && file.entries().iter().all(|it| named(it.place + 4, it.name) && long(it.place) >> 24 == it.kind.0)
+        && file.units().iter().all(|it| named(it.place + 8, it.name) && long(it.place) == 0x3E7)
+        && file.blocks().iter().all(|it| it.bytes.as_ptr() == bytes(it.place).as_ptr() && long(it.place) << 3 == it.kind.0 << 3)
+}
+
+fn show_files(paths: &[String]) -> ExitCode {
+    let mut all_stand = true;
+    for path in paths {
+        let data = fs::read(path).unwrap();
+        println!("== {path}");
+        match hunk::read(&data) {
+            Ok(file) => {
+                show(&file, data.len());
+                all_stand = all_stand && stands(&file);
+            }
+            Err(error) => println!("{error}"),
+        }
+    }
+    ExitCode::from(u8::from(!all_stand))
+}
+
 fn main() -> ExitCode {
     let paths: Vec<String> = env::args().skip(1).collect();
+    if paths[0] == "--show" {
+        return show_files(&paths[1..]);
+    }
     let (load, objects) = (rows_of(&paths[0]), rows_of(&paths[1]));
     let mut wrong = wrong_rows(&load, &objects);
     wrong.extend(wrong_calls(&load, &objects));
