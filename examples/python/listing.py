@@ -18,6 +18,9 @@ except ImportError:
     sys.exit("listing.py: Capstone is needed for the 68000's instructions: apt-get install python3-capstone")
 
 
+SPARE = 24
+
+
 class Line(NamedTuple):
     """An instruction or a piece of data."""
 
@@ -33,8 +36,13 @@ def decoder() -> capstone.Cs:
 
 
 def instructions(code: bytes, start: int) -> Iterator[Line]:
-    """The instructions of a piece of a CODE hunk."""
-    for it in decoder().disasm(code, start):
+    """The instructions of a piece of a CODE hunk, and as data what is cut off at its end."""
+    end = start + len(code)
+    # Capstone may look at a few bytes behind an instruction that is cut off.
+    for it in decoder().disasm(code + bytes(SPARE), start):
+        if it.address + it.size > end:
+            yield from longs(code[it.address - start :], it.address)
+            return
         yield Line(it.address, bytes(it.bytes), f"{it.mnemonic} {it.op_str}".strip())
 
 
@@ -63,7 +71,7 @@ class Listing:
         self.segments = hunk.load(data, base)
         self.bases = list(itertools.accumulate(map(len, self.segments), initial=base))
         self.labels: dict[int, list[str]] = {}
-        for symbol in self.file.symbols:
+        for symbol in filter(lambda it: it.name, self.file.symbols):
             self.labels.setdefault(self.bases[symbol.hunk] + symbol.value, []).append(name_text(symbol.name))
         self.marks = dict(map(self.mark, self.file.relocations))
 

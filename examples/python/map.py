@@ -14,10 +14,10 @@ import hunk
 
 LEFT, WIDTH, HIGH, STEP, LINES = 84, 960, 26, 40, 40
 COLORS = {
-    "HEADER": "#8a94a6", "UNIT": "#8a94a6", "NAME": "#b48ead", "CODE": "#4c8bf5", "DATA": "#2fa37c", "BSS": "#7a8f2a",
-    "EXT": "#c77d2e", "SYMBOL": "#a46bd6", "DEBUG": "#6b7a90", "END": "#5b6472", "REST": "#9aa0a6",
+    "HEADER": "#5f6b80", "UNIT": "#5f6b80", "NAME": "#9a4f8f", "CODE": "#2f6fde", "DATA": "#1f7f5f", "BSS": "#62751c",
+    "EXT": "#b0601a", "SYMBOL": "#8a4fc0", "DEBUG": "#7d5a3c", "END": "#4b525e", "REST": "#75797f",
 }
-RELOCATIONS, OTHER = "#d0904f", "#6b7a90"
+RELOCATIONS, OTHER = "#0f7a8a", "#59677b"
 STYLE = """
   svg { background: #fff; font: 12px system-ui, sans-serif; --ink: #1c1e21; --soft: #667; --bad: #c5221f }
   @media (prefers-color-scheme: dark) { svg { background: #17191d; --ink: #e4e6ea; --soft: #9aa4b2; --bad: #ff8a80 } }
@@ -100,10 +100,24 @@ class Picture:
             told = f"{it.fault} at byte {it.place}: unit {it.unit} hunk {it.hunk} offset {it.offset}"
             self.out.append(f'<path class="bad" d="M{x:.1f} {y}l-5 -9h10z"><title>{told}</title></path>')
 
+    def legend(self, parts: Sequence[Part], size: int) -> None:
+        """Each kind, with the bytes that it has in the file."""
+        sizes: dict[str, int] = {}
+        for part in parts:
+            sizes[part.kind] = sizes.get(part.kind, 0) + part.end - part.start
+        for i, (kind, total) in enumerate(sizes.items()):
+            x, y = LEFT + i % 6 * 160, self.high(size) + i // 6 * 22
+            self.out.append(f'<rect x="{x}" y="{y - 10}" width="12" height="12" fill="{color_of(kind)}"/>'
+                            f'<text x="{x + 18}" y="{y}">{kind} {total}</text>')
+
+    def high(self, size: int) -> int:
+        """Where the lines end."""
+        return 66 + -(-size // self.each) * STEP
+
     def text(self, title: str, size: int) -> str:
         lines = -(-size // self.each)
         places = (f'<text class="soft" x="8" y="{67 + i * STEP}">{i * self.each:08x}</text>' for i in range(lines))
-        wide, high = LEFT + WIDTH + 16, 60 + lines * STEP
+        wide, high = LEFT + WIDTH + 16, self.high(size) + 92
         head = f'<svg xmlns="http://www.w3.org/2000/svg" viewBox="0 0 {wide} {high}" width="{wide}" height="{high}">'
         name = f'<text x="8" y="24">{html.escape(title, quote=False)}</text>'
         return "\n".join([head, f"<style>{STYLE}</style>", name, *places, *self.out, "</svg>"])
@@ -119,8 +133,10 @@ def main(words: Sequence[str]) -> None:
     except hunk.HunkError as error:
         sys.exit(f"map.py: {error}. {error.meaning}")
     picture = Picture(len(data))
-    for part in parts_of(file):
+    parts = list(parts_of(file))
+    for part in parts:
         picture.draw(part)
+    picture.legend(parts, len(data))
     picture.ticks(marked(file))
     picture.findings(file.findings)
     kind, found = "object" if file.is_object else "load", len(file.findings)
