@@ -15,6 +15,13 @@ import hunk_stream
 
 ITS_WORD = {hunk.Kind.CODE: "memory", hunk.Kind.DATA: "memory", hunk.Kind.BSS: "memory", hunk.Kind.DEBUG: "content_bytes"}
 COMMON = (hunk.EntryKind.COMMON, hunk.EntryKind.RELCOMMON)
+# What docs/FORMAT.md says of the bytes at an offset, where they are not 4.
+WIDTHS = {
+    "RELOC16": 2, "DREL16": 2, "ABSRELOC16": 2, "RELOC8": 1, "DREL8": 1,
+    "REF16": 2, "DEXT16": 2, "ABSREF16": 2, "REF8": 1, "DEXT8": 1, "ABSREF8": 1,
+}
+# A unit of a BSS in chip memory, of 8 bytes, and of DATA without bytes in fast memory.
+OBJECT = bytes.fromhex("000003e700000000" "400003eb00000002000003f2" "800003ea00000000000003f2")
 
 
 # ---- The conformance suite.
@@ -132,7 +139,7 @@ def shown(data):
 
 
 def wrong_places(data):
-    """The rows whose place is not where the file has what they say."""
+    """The rows whose place is not where the file has what they say, or whose width is not that of their kind."""
     file = hunk.read(data)
     references = [reference for entry in file.entries for reference in entry.references]
 
@@ -141,6 +148,11 @@ def wrong_places(data):
 
     for it in [*file.relocations, *references, *file.findings]:
         if long_at(it.place) != it.offset:
+            yield it
+    widths = [(it, it.kind) for it in file.relocations]
+    widths += [(it, entry.kind) for entry in file.entries for it in entry.references]
+    for it, kind in widths:
+        if it.width != WIDTHS.get(kind.name, 4):
             yield it
     for it in [*file.symbols, *file.entries, *file.units]:
         start = it.place + (8 if isinstance(it, hunk.Unit) else 4)
@@ -204,6 +216,10 @@ def wrong_calls(texts):
         "block": (lambda: hunk.read(one).blocks[0][:6], (24, 12, 0, 0, hunk.Kind.CODE, hunk.Flags(0))),
         "kind": (lambda: repr(hunk.read(one).hunks), "[Hunk(size=4, memory='any', attributes=0, unit=0, number=0, kind=CODE)]"),
         "number": (lambda: repr(hunk.Kind(1234)), "TYPE_1234"),
+        "object": (
+            lambda: hunk.read(OBJECT).hunks,
+            [hunk.Hunk(8, "chip", 0, 0, 0, hunk.Kind.BSS), hunk.Hunk(0, "fast", 0, 0, 1, hunk.Kind.DATA)],
+        ),
     }
     for name, (call, wanted) in calls.items():
         if call() != wanted:

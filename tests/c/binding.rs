@@ -7,7 +7,7 @@
 #[path = "../../examples/rust/hunk.rs"]
 mod hunk;
 
-use hunk::{Block, Entry, EntryKind, Error, Fault, File, Finding, Hunk, Kind, Memory, Relocation, Symbol, BUDGET};
+use hunk::{Block, Entry, EntryKind, Error, Fault, File, Finding, Hunk, Kind, Memory, Reference, Relocation, Symbol, BUDGET};
 use std::process::ExitCode;
 use std::{env, fs};
 
@@ -89,11 +89,14 @@ fn wrong_calls(load: &[Row], objects: &[Row]) -> Vec<String> {
     let finding = |place, fault| Finding { place, unit: 0, hunk: 0, offset: 2, fault };
     let row = Hunk { unit: 0, number: 0, size: 4, memory: Memory::Any, kind: None };
     let read = hunk::read(&one).unwrap();
+    let object = bytes_of("000003e700000000400003eb00000002000003f2800003ea00000000000003f2");
+    let (chip, fast) = (Hunk { size: 8, memory: Memory::Chip, kind: Some(Kind::BSS), ..row }, Memory::Fast);
     let checks = [
         ("strip", hunk::strip(&symbol) == Ok(one.clone())),
         ("table", hunk::table(&one[..24], BUDGET) == Ok(vec![row])),
         ("abi", hunk::abi() == hunk::ABI),
         ("hunks", read.hunks() == [Hunk { kind: Some(Kind::CODE), ..row }]),
+        ("object", hunk::read(&object).unwrap().hunks()[0] == chip && hunk::read(&object).unwrap().hunks()[1].memory == fast),
         ("blocks", read.blocks_of(&row).len() == 2 && read.blocks()[0].content == code && read.bytes() == one),
         ("debug", format!("{:?}", hunk::read(&symbol).unwrap().symbols()[0]).ends_with(", value: 0, name: b\"_m\" }")),
         ("meaning", hunk::read(&one[..9]).unwrap_err().meaning.len() > "Truncated".len()),
@@ -210,13 +213,23 @@ fn show(file: &File, len: usize) {
     }
 }
 
-/// Whether each row stands at its place of the file.
+/// The bytes at the offsets of a kind with this name.
+fn width_of(name: &str) -> u32 {
+    match name.trim_start_matches(|it: char| it.is_alphabetic()) {
+        "16" => 2,
+        "8" => 1,
+        _ => 4,
+    }
+}
+
+/// Whether each row stands at its place of the file, and has the width of its kind.
 fn stands(file: &File) -> bool {
     let bytes = |place: u64| &file.bytes()[place as usize..];
     let long = |place: u64| u32::from_be_bytes(bytes(place)[..4].try_into().unwrap());
     let named = |place: u64, name: &[u8]| bytes(place).starts_with(name);
-    file.relocations().iter().all(|it| long(it.place) == it.offset)
-        && file.references().iter().all(|it| long(it.place) == it.offset)
+    let entry = |it: &Reference| file.entries()[it.entry as usize].kind;
+    file.relocations().iter().all(|it| long(it.place) == it.offset && it.width == width_of(&format!("{:?}", it.kind)))
+        && file.references().iter().all(|it| long(it.place) == it.offset && it.width == width_of(&format!("{:?}", entry(it))))
         && file.findings().iter().all(|it| long(it.place) == it.offset)
         && file.symbols().iter().all(|it| named(it.place + 4, it.name))
         && file.entries().iter().all(|it| named(it.place + 4, it.name) && long(it.place) >> 24 == it.kind.0)
