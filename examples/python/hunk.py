@@ -25,7 +25,7 @@ import os
 import struct
 import sys
 from ctypes import c_char_p, c_size_t, c_uint8, c_uint32, c_uint64, c_void_p
-from functools import cached_property
+from functools import cached_property, lru_cache
 from typing import Any, Callable, Iterator, NamedTuple, Optional, Sequence, Union
 
 Data = Union[bytes, bytearray, memoryview]
@@ -91,6 +91,10 @@ class Flags(enum.IntFlag):
     """The flags of a block's word."""
 
     ADVISORY, CHIP, FAST = 1, 2, 4
+
+
+# An enumeration is slow to look its members up.
+_kind, _flags = lru_cache(maxsize=None)(Kind), lru_cache(maxsize=None)(Flags)
 
 
 class Hunk(NamedTuple):
@@ -356,17 +360,23 @@ class File:
     @cached_property
     def blocks(self) -> list[Block]:
         rows = _rows(_blocks, _BLOCK, self.data)
-        return [Block._make((*row[:4], Kind(row[8]), Flags(row[9]), *row[4:8])) for row in rows]
+        return [
+            Block(place, size, unit, hunk, _kind(kind), _flags(flags), content, count, memory, items)
+            for place, size, unit, hunk, content, count, memory, items, kind, flags in rows
+        ]
 
     @cached_property
     def symbols(self) -> list[Symbol]:
-        rows = _rows(_symbols, _SYMBOL, self.data)
-        return [Symbol._make((*row[:3], row[5], self._name(*row[3:5]))) for row in rows]
+        rows, data = _rows(_symbols, _SYMBOL, self.data), self.data
+        return [Symbol(place, unit, hunk, value, data[at : at + count]) for place, unit, hunk, at, count, value in rows]
 
     @cached_property
     def relocations(self) -> list[Relocation]:
         rows = _rows(_relocations, _RELOCATION, self.data)
-        return [Relocation._make((*row[:3], Kind(row[3]), *row[4:])) for row in rows]
+        return [
+            Relocation(place, unit, hunk, _kind(kind), width, target, offset)
+            for place, unit, hunk, kind, width, target, offset in rows
+        ]
 
     @cached_property
     def entries(self) -> list[Entry]:
