@@ -403,7 +403,7 @@ def _main(words: Sequence[str]) -> None:
         for segment in load(data, int(words[2], 16) if len(words) > 2 else 0x1000):
             print(segment.hex())
     except HunkError as error:
-        sys.exit(f"hunk.py: {error}. {error.meaning}")
+        sys.exit(f"hunk.py: {error}: {error.meaning}")
 
 
 if __name__ == "__main__":

@@ -124,7 +124,7 @@ def main(words: Sequence[str]) -> None:
     try:
         Listing(data, int(words[2], 16) if len(words) > 2 else 0x1000).print()
     except hunk.HunkError as error:
-        sys.exit(f"listing.py: {error}. {error.meaning}")
+        sys.exit(f"listing.py: {error}: {error.meaning}")
 
 
 if __name__ == "__main__":

@@ -131,7 +131,7 @@ def main(words: Sequence[str]) -> None:
     try:
         file = hunk.read(data)
     except hunk.HunkError as error:
-        sys.exit(f"map.py: {error}. {error.meaning}")
+        sys.exit(f"map.py: {error}: {error.meaning}")
     picture = Picture(len(data))
     parts = list(parts_of(file))
     for part in parts:
