@@ -68,6 +68,14 @@ class Picture:
     def __init__(self, size: int) -> None:
         self.each = max(64, -(-size // LINES // 4) * 4)
         self.out: list[str] = []
+        self.taken: set[tuple[str, int, int]] = set()
+
+    def is_taken(self, what: str, x: float, y: int) -> bool:
+        """Whether such a thing was drawn at this point before: one will do."""
+        spot = what, round(x), y
+        taken = spot in self.taken
+        self.taken.add(spot)
+        return taken
 
     def spot(self, place: int) -> tuple[float, int]:
         """Where a byte is drawn."""
@@ -83,6 +91,8 @@ class Picture:
             start = end
 
     def box(self, x: float, y: int, wide: float, part: Part, told: str) -> None:
+        if wide < 1 and self.is_taken("box", x, y):
+            return
         label = f"{part.kind} {part.end - part.start}"
         self.out.append(f'<g><title>{told}</title><rect class="part" x="{x:.1f}" y="{y}" width="{wide:.1f}" height="{HIGH}" '
                         f'fill="{color_of(part.kind)}"/>')
@@ -91,12 +101,15 @@ class Picture:
         self.out.append("</g>")
 
     def ticks(self, places: set[int]) -> None:
-        spots = {(round(x), y) for x, y in map(self.spot, places)}
-        self.out += (f'<path class="tick" d="M{x} {y + HIGH}v6"/>' for x, y in sorted(spots))
+        for x, y in map(self.spot, sorted(places)):
+            if not self.is_taken("tick", x, y):
+                self.out.append(f'<path class="tick" d="M{x:.0f} {y + HIGH}v6"/>')
 
     def findings(self, findings: Sequence[hunk.Finding]) -> None:
         for it in findings:
             x, y = self.spot(it.place)
+            if self.is_taken(it.fault, x, y):
+                continue
             told = f"{it.fault} at byte {it.place}: unit {it.unit} hunk {it.hunk} offset {it.offset}"
             self.out.append(f'<path class="bad" d="M{x:.1f} {y}l-5 -9h10z"><title>{told}</title></path>')
 
