@@ -14,9 +14,11 @@ pub struct EntryKind(pub u32);
 /// Gives numbers their names, as constants and in `Debug`.
 macro_rules! named {
     ($of:ident: $($name:ident = $number:expr),*) => {
-        #[allow(missing_docs)]
         impl $of {
-            $(pub const $name: $of = $of($number);)*
+            $(
+                #[doc = concat!("The number of ", stringify!($name), ".")]
+                pub const $name: $of = $of($number);
+            )*
         }
 
         impl fmt::Debug for $of {
