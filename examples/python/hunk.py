@@ -210,11 +210,11 @@ def _open() -> ctypes.CDLL:
 _library = _open()
 
 
-def _call(name: str, *types: Any) -> _Call:
+def _call(name: str, *types: Any) -> Any:
     """The call of the library that has this name."""
     call = getattr(_library, name)
     call.argtypes, call.restype = types, _Answer
-    return call  # type: ignore[no-any-return]
+    return call
 
 
 _BYTES, _ROOM = (c_char_p, c_size_t), (c_void_p, c_size_t)
