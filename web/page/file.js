@@ -1,0 +1,121 @@
+// What the library says of a file.
+
+import { HunkError } from "../hunk.js";
+
+/** The most bytes of memory, blocks and other items that are shown of a file. */
+const MOST_MEMORY = 1 << 28;
+const MOST_BLOCKS = 1 << 20;
+const MOST_ITEMS = 1 << 21;
+
+const OBJECT = 0x3e7;
+const LOAD = 0x3f3;
+const BUDGET = 27;
+
+/** What the call answers, or the HunkError that it throws. */
+function tried(call) {
+  try {
+    return [call(), null];
+  } catch (error) {
+    if (!(error instanceof HunkError)) throw error;
+    return [null, error];
+  }
+}
+
+function firstLong(bytes) {
+  return bytes.length < 4 ? null : new DataView(bytes.buffer, bytes.byteOffset).getUint32(0);
+}
+
+/** What a file is, in a few numbers: its kind, and the two of the conformance suite, or its refusal. */
+export function summary(hunk, bytes) {
+  const first = firstLong(bytes);
+  const kind = first === OBJECT ? "object file" : first === LOAD ? "load file" : "other file";
+  const [checked, refusal] = tried(() => hunk.check(bytes, 0));
+  if (refusal) return { kind, refusal };
+  const { hunks, bytes: length } = checked;
+  if (hunks > 0) return { kind, hunks, length, declared: declared(hunk, bytes) };
+  return { kind, hunks, length, units: hunk.units(bytes, 0).count, findings: checked.count };
+}
+
+/** The bytes that a load file declares; there are 65,536 hunks at most. */
+function declared(hunk, bytes) {
+  return hunk.table(bytes, Number.MAX_SAFE_INTEGER).size;
+}
+
+/** A file that is looked at. Its lists are read when they are first asked for. */
+export class Examined {
+  constructor(hunk, bytes, name) {
+    this.hunk = hunk;
+    this.bytes = bytes;
+    this.name = name;
+    this.about = summary(hunk, bytes);
+    this.lists = {};
+    if (this.about.refusal) return;
+    this.table = null;
+    if (this.about.hunks > 0) this.#readTable();
+    const { rows, count } = this.list("blocks");
+    this.blocks = rows;
+    this.hasBlocks = rows.length === count;
+    this.blockPlaces = Float64Array.from({ length: rows.length }, (_, i) => rows.get(i, "place"));
+  }
+
+  #readTable() {
+    const [table, refusal] = tried(() => this.hunk.table(this.bytes, MOST_MEMORY));
+    if (refusal && refusal.number !== BUDGET) throw refusal;
+    this.table = table ?? this.hunk.table(this.bytes, Number.MAX_SAFE_INTEGER);
+    this.isTooLarge = table === null;
+    this.starts = new Float64Array(this.table.rows.length);
+    let at = 0;
+    for (let i = 0; i < this.starts.length; i++) {
+      this.starts[i] = at;
+      at += this.table.rows.get(i, "bytes");
+    }
+  }
+
+  /** The rows of a table of the library, where they are not too many. */
+  list(name) {
+    this.lists[name] ??= this.hunk[name](this.bytes, name === "blocks" ? MOST_BLOCKS : MOST_ITEMS);
+    return this.lists[name];
+  }
+
+  /** The memory of a load file from this address on, or why there is none. */
+  load(base) {
+    return tried(() => this.hunk.loadPacked(this.bytes, base, MOST_MEMORY).memory);
+  }
+
+  /** Where the relocated longs of a load file stand in its memory, rising, and the target of each. */
+  relocated() {
+    if (this.relocatedLongs) return this.relocatedLongs;
+    const { rows } = this.list("relocations");
+    // A place and a target in one number, below 2^53, so that they are sorted together.
+    const both = new Float64Array(rows.length);
+    for (let i = 0; i < rows.length; i++) {
+      both[i] = (this.starts[rows.get(i, "hunk")] + rows.get(i, "offset")) * 65536 + rows.get(i, "target");
+    }
+    both.sort();
+    const places = both.map((it) => Math.floor(it / 65536));
+    const targets = Uint16Array.from(both, (it) => it % 65536);
+    this.relocatedLongs = { places, targets };
+    return this.relocatedLongs;
+  }
+
+  /** How many relocations each hunk of a load file has. */
+  relocationCounts() {
+    const counts = new Float64Array(this.starts.length);
+    const { rows } = this.list("relocations");
+    for (let i = 0; i < rows.length; i++) counts[rows.get(i, "hunk")] += 1;
+    return counts;
+  }
+
+  /** The kinds of blocks that it has. */
+  kinds() {
+    const found = new Set();
+    for (let i = 0; i < this.blocks.length; i++) found.add(this.blocks.get(i, "kind"));
+    return [...found].sort((one, other) => one - other);
+  }
+
+  /** The bytes of findings in the file, rising. */
+  findingPlaces() {
+    const { rows } = this.list("check");
+    return Float64Array.from({ length: rows.length }, (_, i) => rows.get(i, "place")).sort();
+  }
+}

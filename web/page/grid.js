@@ -1,0 +1,92 @@
+// A table of any length, by Scroller: its rows are picked by a click, or by the arrow keys and Enter.
+
+import { Scroller, escaped, rowOfKey } from "./scroller.js";
+
+const HEIGHT = 22;
+let grids = 0;
+
+export class Grid {
+  /** `columns`: [name, width, is a number]. `rows.cells(i)` gives the texts of a row; `rows.pick(i)` is called for it. */
+  constructor(box, label, columns, onSort) {
+    this.id = `grid${grids++}`;
+    this.columns = columns;
+    this.rows = { count: 0, cells: () => [], pick: () => {} };
+    this.active = 0;
+    box.classList.add("grid");
+    box.setAttribute("role", "grid");
+    box.setAttribute("aria-label", label);
+    box.setAttribute("aria-colcount", columns.length);
+    box.tabIndex = 0;
+    box.style.setProperty("--columns", columns.map(([, width]) => width).join(" "));
+    this.box = box;
+    this.#addHeads(onSort);
+    this.body = document.createElement("div");
+    this.body.className = "body";
+    this.body.setAttribute("role", "rowgroup");
+    box.append(this.body);
+    this.scroller = new Scroller(this.body, HEIGHT, (first, count) => this.#draw(first, count));
+    box.addEventListener("keydown", (event) => this.#key(event));
+    this.body.addEventListener("click", (event) => this.#click(event));
+  }
+
+  #addHeads(onSort) {
+    this.head = document.createElement("div");
+    this.head.className = "head";
+    this.head.setAttribute("role", "row");
+    this.columns.forEach(([name, , isNumber], i) => {
+      const cell = document.createElement(onSort ? "button" : "span");
+      cell.setAttribute("role", "columnheader");
+      cell.textContent = name;
+      if (isNumber) cell.className = "number";
+      if (onSort) cell.addEventListener("click", () => onSort(i));
+      this.head.append(cell);
+    });
+    this.box.append(this.head);
+  }
+
+  show(rows) {
+    this.rows = rows;
+    this.active = 0;
+    this.box.setAttribute("aria-rowcount", rows.count + 1);
+    this.scroller.setCount(rows.count);
+  }
+
+  #draw(first, count) {
+    const rows = [];
+    for (let i = first; i < first + count; i++) {
+      const cells = this.rows.cells(i).map((cell, column) => {
+        const { text, chip, tone } = typeof cell === "object" ? cell : { text: cell };
+        const kind = [this.columns[column][2] && "number", tone].filter(Boolean).join(" ");
+        const mark = chip ? `<i style="background:${chip}"></i>` : "";
+        return `<span role="gridcell" class="${kind}">${mark}${escaped(text)}</span>`;
+      });
+      const is = i === this.active;
+      rows.push(
+        `<div role="row" id="${this.id}-${i}" aria-rowindex="${i + 2}" aria-selected="${is}" data-row="${i}">${cells.join("")}</div>`,
+      );
+    }
+    this.box.setAttribute("aria-activedescendant", `${this.id}-${this.active}`);
+    return rows.join("");
+  }
+
+  #key(event) {
+    if (event.target !== this.box) return;
+    if (event.key === "Enter") {
+      if (this.rows.count > 0) this.rows.pick(this.active);
+      return;
+    }
+    const row = rowOfKey(event.key, this.active, this.scroller.seen, this.rows.count);
+    if (row === undefined) return;
+    event.preventDefault();
+    this.active = row;
+    this.scroller.reveal(row);
+  }
+
+  #click(event) {
+    const row = event.target.closest("[data-row]");
+    if (!row) return;
+    this.active = Number(row.dataset.row);
+    this.scroller.refresh();
+    this.rows.pick(this.active);
+  }
+}

@@ -1,0 +1,255 @@
+// The page: what is dropped, picked or linked is shown.
+
+import { Hunk } from "../hunk.js";
+import { droppedFiles, pickedFiles } from "./dropped.js";
+import { Examined } from "./file.js";
+import { HexView } from "./hexview.js";
+import { fromHex, readLink, writeLink } from "./link.js";
+import { Lists } from "./lists.js";
+import { Many } from "./many.js";
+import { blockColour, blockName, counted, hex, hunkColour, lastAt } from "./names.js";
+import { drawFile, drawMemory } from "./pictures.js";
+import { EXAMPLES, MODULES } from "./data.js";
+
+const $ = (id) => document.getElementById(id);
+const RELOCATED = 4;
+
+let hunk;
+let file = null;
+let memory = null;
+let example = null;
+let picked = null;
+let shows = 0;
+
+const memoryView = new HexView($("memory-hex"), "Memory, as hexadecimal digits");
+const fileView = new HexView($("file-hex"), "File, as hexadecimal digits");
+const lists = new Lists($("lists"), pick);
+const many = new Many($("many-list"), $("many-summary"), openFile);
+
+// ---- The verdict.
+
+function refusalText({ kind, refusal }) {
+  const what = kind === "other file" ? "Neither a load file nor an object file" : `No good ${kind}`;
+  return `${what}: refused at byte ${refusal.place} (${hex(refusal.place)}), ${refusal.reason} (${refusal.number}).`;
+}
+
+function acceptedText(about) {
+  const rest = about.length < file.bytes.length ? `; ${counted(file.bytes.length - about.length, "byte")} behind it are not read` : "";
+  if (about.hunks > 0) {
+    return `A load file: ${counted(about.hunks, "hunk")}, ${counted(about.declared, "byte")} in memory${rest}.`;
+  }
+  return `An object file: ${counted(about.units, "unit")}, ${counted(about.findings, "finding")}.`;
+}
+
+function showVerdict() {
+  const { about } = file;
+  $("verdict").className = about.refusal ? "bad" : "good";
+  $("verdict").textContent = about.refusal ? refusalText(about) : acceptedText(about);
+  $("why").textContent = about.refusal ? about.refusal.text : "";
+  $("file-name").textContent = `${file.name}, ${counted(file.bytes.length, "byte")}`;
+}
+
+// ---- The file.
+
+const isIn = (at, range) => range !== null && at >= range.from && at < range.to;
+
+// A mark is asked for later, too, when another file may be shown: so both keep the file that they are of.
+function markOfFile(file, findings) {
+  const { about } = file;
+  return (at) => {
+    if (about.refusal) return isIn(at, picked) ? { tone: "refused", title: "refused here" } : null;
+    const finding = lastAt(findings, at);
+    const tone = isIn(at, picked) ? "picked" : "";
+    if (finding >= 0 && at < findings[finding] + 4) return { tone: `finding ${tone}`, title: "a finding" };
+    if (at >= about.length) return { tone: "behind", title: "behind the file" };
+    const block = lastAt(file.blockPlaces, at);
+    const kind = block < 0 || at >= file.blocks.get(block, "place") + file.blocks.get(block, "bytes")
+      ? null : file.blocks.get(block, "kind");
+    const title = kind === null ? "header" : `${blockName(kind)}, hunk ${file.blocks.get(block, "hunk")}`;
+    return { colour: blockColour(kind), tone, title };
+  };
+}
+
+function showFile() {
+  const { about, bytes } = file;
+  const { refusal } = about;
+  picked = refusal ? { from: refusal.place, to: refusal.place + 4 } : null;
+  const findings = refusal ? [] : file.findingPlaces();
+  const length = refusal ? Math.max(bytes.length, refusal.place + 4) : bytes.length;
+  fileView.show(bytes, 0, length, markOfFile(file, findings));
+  if (refusal) fileView.go(refusal.place);
+  $("file-picture").hidden = Boolean(refusal) || !file.hasBlocks;
+  $("legend").hidden = $("file-picture").hidden;
+  if ($("file-picture").hidden) return;
+  drawFile($("file-picture"), file);
+  $("legend").innerHTML = file
+    .kinds()
+    .map((kind) => `<span><i style="background:${blockColour(kind, 68)}"></i>${blockName(kind)}</span>`)
+    .join("");
+}
+
+// ---- The memory.
+
+function markOfMemory(file) {
+  const { places, targets } = file.relocated();
+  return (at) => {
+    const long = lastAt(places, at);
+    if (long >= 0 && at < places[long] + RELOCATED) {
+      return { colour: hunkColour(targets[long], 70), tone: "relocated", title: `the base of hunk ${targets[long]} is added` };
+    }
+    const number = lastAt(file.starts, at);
+    return { colour: hunkColour(number, 92), title: `hunk ${number}` };
+  };
+}
+
+function noMemory(error) {
+  if (file.isTooLarge) return "It declares more memory than this page shows.";
+  return `Not loaded: ${error.reason}. ${error.text}`;
+}
+
+function showMemory() {
+  const isLoad = Boolean(file.table);
+  $("memory").hidden = !isLoad;
+  memory = null;
+  if (!isLoad) return;
+  const [loaded, error] = file.isTooLarge ? [null, null] : file.load(file.base);
+  memory = loaded;
+  $("memory-note").textContent = memory ? "" : noMemory(error);
+  for (const id of ["memory-picture", "memory-hex", "save-memory"]) $(id).hidden = !memory;
+  if (!memory) return;
+  memoryView.show(memory, file.base, memory.length, markOfMemory(file));
+  drawMemory($("memory-picture"), file, memory);
+}
+
+/** Shows an item of a list where it stands. */
+function pick(item) {
+  if (item.place !== undefined) {
+    picked = { from: item.place, to: item.place + item.bytes };
+    fileView.go(item.place);
+  }
+  if (!memory) return;
+  if (item.memory !== undefined && item.place === undefined) memoryView.go(item.memory);
+  else if (item.offset !== undefined) memoryView.go(file.starts[item.hunk] + item.offset);
+}
+
+// ---- What is shown.
+
+const firstBase = () => parseInt($("base").value, 16) >>> 0;
+
+function show(bytes, name) {
+  const began = performance.now();
+  file = new Examined(hunk, bytes, name);
+  file.base = firstBase();
+  document.body.classList.add("has-file");
+  showVerdict();
+  showFile();
+  showMemory();
+  $("lists").hidden = Boolean(file.about.refusal);
+  if (!file.about.refusal) lists.show(file);
+  $("save-stripped").hidden = Boolean(file.about.refusal);
+  $("saved").textContent = "";
+  writeLink({ example, bytes, base: $("base").value });
+  $("time").textContent = `${(performance.now() - began).toFixed(0)} ms.`;
+  document.body.dataset.shows = ++shows;
+}
+
+async function openFile(it, name) {
+  example = null;
+  show(new Uint8Array(await it.arrayBuffer()), name);
+}
+
+async function openAll(files) {
+  $("many").hidden = files.length < 2;
+  if (files.length === 0) return;
+  if (files.length === 1) {
+    await openFile(files[0].file, files[0].name);
+    return;
+  }
+  await many.show(hunk, files);
+  document.body.dataset.shows = ++shows;
+}
+
+function openExample(name) {
+  const found = EXAMPLES.find(([it]) => it === name);
+  if (!found) return;
+  example = name;
+  $("example").value = name;
+  show(fromHex(found[1]), name);
+}
+
+function openLink() {
+  const said = readLink();
+  if (said.base) $("base").value = said.base;
+  if (said.hex !== null) {
+    example = null;
+    show(fromHex(said.hex), "from the link");
+  } else if (said.example) openExample(said.example);
+}
+
+function save(data, name, type = "application/octet-stream") {
+  const link = document.createElement("a");
+  link.href = URL.createObjectURL(new Blob([data], { type }));
+  link.download = name;
+  link.click();
+  setTimeout(() => URL.revokeObjectURL(link.href), 1000);
+}
+
+function saveStripped() {
+  const { text, bytes } = hunk.strip(file.bytes);
+  $("saved").textContent = `${counted(text.length, "byte")} of ${bytes.toLocaleString("en")}`;
+  save(text, `${file.name}.stripped`);
+}
+
+// ---- The module: that of the kit, where the browser takes 64-bit memories, else the one that binaryen made of it.
+
+async function openModule() {
+  const decoded = MODULES.map(([name, text]) => [name, Uint8Array.from(atob(text), (c) => c.charCodeAt(0))]);
+  const found = decoded.find(([, bytes]) => WebAssembly.validate(bytes));
+  if (!found) throw new Error("this browser runs none of the modules in this page");
+  $("module").textContent = `${found[0]}, ${found[1].length.toLocaleString("en")} bytes.`;
+  return Hunk.open(found[1]);
+}
+
+function listen() {
+  $("pick").addEventListener("change", () => openAll(pickedFiles($("pick"))));
+  $("pick-folder").addEventListener("change", () => openAll(pickedFiles($("pick-folder"))));
+  $("example").addEventListener("change", () => openExample($("example").value));
+  $("base").addEventListener("change", () => file && show(file.bytes, file.name));
+  $("save-stripped").addEventListener("click", saveStripped);
+  $("save-memory").addEventListener("click", () => save(memory, `${file.name}.memory`));
+  $("save-csv").addEventListener("click", () => save(many.csv(), "hunks.csv", "text/csv"));
+  $("file-picture").addEventListener("click", (event) => fileView.go((event.offsetX / event.target.clientWidth) * file.bytes.length));
+  $("memory-picture").addEventListener("click", (event) => memoryView.go((event.offsetX / event.target.clientWidth) * memory.length));
+  addEventListener("hashchange", openLink);
+  addEventListener("dragover", (event) => {
+    event.preventDefault();
+    $("drop").classList.add("over");
+  });
+  addEventListener("dragleave", () => $("drop").classList.remove("over"));
+  addEventListener("drop", async (event) => {
+    event.preventDefault();
+    $("drop").classList.remove("over");
+    await openAll(await droppedFiles(event.dataTransfer));
+  });
+  addEventListener("resize", () => {
+    if (!file || file.about.refusal) return;
+    if (file.hasBlocks) drawFile($("file-picture"), file);
+    if (memory) drawMemory($("memory-picture"), file, memory);
+  });
+}
+
+async function start() {
+  for (const [name] of EXAMPLES) $("example").add(new Option(name, name));
+  try {
+    hunk = await openModule();
+  } catch (error) {
+    $("verdict").className = "bad";
+    $("verdict").textContent = `The library can't be run here: ${error.message}`;
+    return;
+  }
+  listen();
+  openLink();
+  document.body.dataset.ready = "";
+}
+
+start();

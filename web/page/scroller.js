@@ -1,0 +1,94 @@
+// A long list of which only the rows are made that are seen.
+
+// Browsers lay out no element that is taller than some 17 million pixels. A list that would be is scrolled by its share.
+const TALLEST = 8000000;
+
+export class Scroller {
+  /** `draw(first, count)` gives the HTML of rows; each is `height` pixels high. */
+  constructor(box, height, draw) {
+    this.box = box;
+    this.height = height;
+    this.draw = draw;
+    this.count = 0;
+    this.top = 0;
+    this.tall = document.createElement("div");
+    this.layer = document.createElement("div");
+    this.layer.className = "layer";
+    this.tall.className = "tall";
+    this.tall.setAttribute("role", "presentation");
+    this.layer.setAttribute("role", "presentation");
+    this.tall.append(this.layer);
+    box.append(this.tall);
+    box.addEventListener("scroll", () => this.#scrolled());
+    box.addEventListener("wheel", (event) => this.#wheel(event), { passive: false });
+    new ResizeObserver(() => this.refresh()).observe(box);
+  }
+
+  /** How many rows are seen whole. */
+  get seen() {
+    return Math.max(1, Math.floor(this.box.clientHeight / this.height));
+  }
+
+  get #isScaled() {
+    return this.count * this.height > TALLEST;
+  }
+
+  setCount(count) {
+    this.count = count;
+    this.tall.style.height = `${Math.min(count * this.height, TALLEST)}px`;
+    this.go(0);
+  }
+
+  /** Makes this row the first that is seen. */
+  go(row) {
+    const last = Math.max(0, this.count - this.seen);
+    this.top = Math.min(Math.max(0, Math.round(row)), last);
+    const most = this.tall.offsetHeight - this.box.clientHeight;
+    this.box.scrollTop = this.#isScaled ? (this.top / last) * most : this.top * this.height;
+    this.set = this.box.scrollTop;
+    this.refresh();
+  }
+
+  /** Scrolls as little as needed for this row to be seen. */
+  reveal(row) {
+    if (row < this.top) this.go(row);
+    else if (row >= this.top + this.seen) this.go(row - this.seen + 1);
+    else this.refresh();
+  }
+
+  #scrolled() {
+    if (this.box.scrollTop !== this.set) {
+      const most = Math.max(1, this.tall.offsetHeight - this.box.clientHeight);
+      const share = this.box.scrollTop / most;
+      this.top = this.#isScaled
+        ? Math.round(share * (this.count - this.seen))
+        : Math.floor(this.box.scrollTop / this.height);
+      this.set = undefined;
+    }
+    this.refresh();
+  }
+
+  #wheel(event) {
+    if (!this.#isScaled || event.deltaY === 0) return;
+    event.preventDefault();
+    this.go(this.top + Math.sign(event.deltaY) * 3);
+  }
+
+  refresh() {
+    const shift = this.#isScaled || this.set !== undefined ? this.box.scrollTop : this.top * this.height;
+    this.layer.style.transform = `translateY(${shift}px)`;
+    const count = Math.min(this.count - this.top, this.seen + 2);
+    this.layer.innerHTML = this.draw(this.top, Math.max(0, count));
+  }
+}
+
+/** What keys do in a list: the row to go to, or nothing. */
+export function rowOfKey(key, row, seen, count) {
+  const to = { ArrowUp: row - 1, ArrowDown: row + 1, PageUp: row - seen, PageDown: row + seen, Home: 0, End: count - 1 }[key];
+  return to === undefined ? undefined : Math.min(Math.max(0, to), Math.max(0, count - 1));
+}
+
+const ENTITIES = { "&": "&amp;", "<": "&lt;", ">": "&gt;", '"': "&quot;" };
+
+/** A text as it stands in HTML. */
+export const escaped = (text) => String(text).replace(/[&<>"]/g, (c) => ENTITIES[c]);
