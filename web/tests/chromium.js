@@ -1,0 +1,105 @@
+// A headless Chromium that is driven by its debugging pipe.
+
+import { spawn } from "node:child_process";
+
+/** What comes over the pipe: messages that end with a zero byte. */
+class Pipe {
+  constructor(out, back) {
+    this.out = out;
+    this.last = 0;
+    this.waits = new Map();
+    this.faults = [];
+    let left = "";
+    back.on("data", (data) => {
+      const parts = (left + data).split("\0");
+      left = parts.pop();
+      for (const part of parts) this.#take(JSON.parse(part));
+    });
+  }
+
+  #take(message) {
+    const wait = this.waits.get(message.id);
+    this.waits.delete(message.id);
+    if (wait) wait(message);
+    else if (message.method === "Runtime.exceptionThrown") this.faults.push(message.params.exceptionDetails);
+  }
+
+  async send(method, params = {}, sessionId = undefined) {
+    const id = ++this.last;
+    const answer = new Promise((done) => this.waits.set(id, done));
+    this.out.write(`${JSON.stringify({ id, method, params, sessionId })}\0`);
+    const { result, error } = await answer;
+    if (error) throw new Error(`${method}: ${error.message}`);
+    return result;
+  }
+}
+
+export class Chromium {
+  name = "Chromium";
+
+  static async open(folder) {
+    const words = ["--headless=new", "--no-sandbox", "--disable-gpu", "--remote-debugging-pipe", "--no-first-run"];
+    const run = spawn("chromium", [...words, `--user-data-dir=${folder}/chromium`, "about:blank"], {
+      stdio: ["ignore", "ignore", "ignore", "pipe", "pipe"],
+    });
+    const browser = new Chromium();
+    browser.run = run;
+    browser.pipe = new Pipe(run.stdio[3], run.stdio[4]);
+    const { targetId } = await browser.pipe.send("Target.createTarget", { url: "about:blank" });
+    const { sessionId } = await browser.pipe.send("Target.attachToTarget", { targetId, flatten: true });
+    browser.session = sessionId;
+    for (const domain of ["Runtime", "Page", "DOM"]) await browser.send(`${domain}.enable`);
+    await browser.size(1280, 900);
+    return browser;
+  }
+
+  send(method, params) {
+    return this.pipe.send(method, params, this.session);
+  }
+
+  async size(width, height) {
+    await this.send("Emulation.setDeviceMetricsOverride", { width, height, deviceScaleFactor: 1, mobile: false });
+  }
+
+  async dark(is) {
+    const features = [{ name: "prefers-color-scheme", value: is ? "dark" : "light" }];
+    await this.send("Emulation.setEmulatedMedia", { features });
+  }
+
+  async go(url) {
+    await this.send("Page.navigate", { url });
+  }
+
+  /** What the body of a function answers in the page, called with these values. */
+  async runIn(body, ...values) {
+    const expression = `(async (...values) => { ${body} })(...${JSON.stringify(values)})`;
+    const { result, exceptionDetails } = await this.send("Runtime.evaluate", {
+      expression,
+      returnByValue: true,
+      awaitPromise: true,
+    });
+    if (exceptionDetails) throw new Error(exceptionDetails.exception?.description ?? exceptionDetails.text);
+    return result.value;
+  }
+
+  async upload(selector, paths) {
+    const { root } = await this.send("DOM.getDocument");
+    const { nodeId } = await this.send("DOM.querySelector", { nodeId: root.nodeId, selector });
+    await this.send("DOM.setFileInputFiles", { nodeId, files: paths });
+  }
+
+  async picture() {
+    const { data } = await this.send("Page.captureScreenshot", { format: "png" });
+    return Buffer.from(data, "base64");
+  }
+
+  faults() {
+    return this.pipe.faults.map((it) => it.exception?.description ?? it.text);
+  }
+
+  async close() {
+    const ended = new Promise((done) => this.run.on("exit", done));
+    await this.pipe.send("Browser.close").catch(() => {});
+    await ended;
+  }
+}

@@ -1,0 +1,255 @@
+// Opens the page in a browser, gives it files, and holds what it shows to what the program prints:
+// node selftest.js BROWSER PAGE PROGRAM EVERY ONE_OF PICTURES WORK. EVERY is what vectors/every has printed, of which one of
+// ONE_OF inputs is dropped; pictures go into the folder PICTURES, and files into WORK.
+
+import { execFileSync } from "node:child_process";
+import { mkdirSync, readFileSync, writeFileSync } from "node:fs";
+import { pathToFileURL } from "node:url";
+
+const [browserName, pagePath, program, everyPath, oneOf, pictures, work] = process.argv.slice(2);
+const { Chromium, Firefox } = { ...(await import("./chromium.js")), ...(await import("./firefox.js")) };
+const url = pathToFileURL(pagePath).href;
+const root = new URL("../../", import.meta.url).pathname;
+const BASE = "00021000";
+
+let compared = 0;
+let failed = 0;
+let what = "";
+function hold(which, wanted, said) {
+  compared += 1;
+  if (said === wanted) return;
+  failed += 1;
+  if (failed <= 20) console.log(`${browserName}: ${which}: ${said}, and not ${wanted}`);
+}
+
+/** What the program prints, whatever its status. */
+function printed(...words) {
+  try {
+    return execFileSync(program, words, { encoding: "utf8", stdio: ["ignore", "pipe", "ignore"] });
+  } catch (error) {
+    return error.stdout;
+  }
+}
+
+const rowsOf = (table) =>
+  readFileSync(`${root}vectors/${table}.tsv`, "utf8")
+    .split("\n")
+    .filter((line) => line && !line.startsWith("#"))
+    .map((line) => line.split("\t"))
+    .map(([number, name, hex, ...answer]) => ({ number, name, hex, answer: answer.join(" "), table }))
+    .filter((row) => row.hex.startsWith("000003e7") === (table === "objects"));
+
+const SHOWN = `
+  const verdict = document.getElementById("verdict").textContent.replaceAll(",", "");
+  const number = (pattern) => (verdict.match(pattern) ?? []).slice(1).join(" ");
+  if (verdict.startsWith("A load file")) return "accepted " + number(/: (\\d+) hunks? (\\d+) bytes? in memory/);
+  if (verdict.startsWith("An object file")) return "accepted " + number(/: (\\d+) units? (\\d+) findings?/);
+  return "refused " + number(/at byte (\\d+) .*\\((\\d+)\\)\\.$/);`;
+
+class Page {
+  constructor(browser) {
+    this.browser = browser;
+  }
+
+  in(body, ...values) {
+    return this.browser.runIn(body, ...values);
+  }
+
+  /** Does what makes the page show something new, and waits for it. */
+  async shows(doing) {
+    const before = await this.in("return document.body.dataset.shows ?? '0'");
+    await doing();
+    await this.in(
+      `for (let i = 0; (document.body.dataset.shows ?? "0") === values[0]; i++) {
+         if (i > 6000) throw new Error("nothing new is shown");
+         await new Promise((done) => setTimeout(done, 5));
+       }`,
+      before,
+    );
+  }
+
+  async open(hash = "") {
+    await this.browser.go("about:blank");
+    await this.browser.go(url + hash);
+    await this.in(`while (!(document.body && "ready" in document.body.dataset)) await new Promise((done) => setTimeout(done, 5));`);
+  }
+
+  hex(digits) {
+    return this.shows(() => this.in(`location.hash = values[0]`, `#hex=${digits}&base=${BASE}&at=${compared}`));
+  }
+
+  /** Drops files, [name, digits], as one that comes from the desktop would be. */
+  drop(files) {
+    return this.shows(() =>
+      this.in(
+        `const transfer = new DataTransfer();
+         for (const [name, digits] of values[0]) {
+           const bytes = Uint8Array.from(digits.match(/../g) ?? [], (it) => parseInt(it, 16));
+           transfer.items.add(new File([bytes], name));
+         }
+         document.body.dispatchEvent(new DragEvent("drop", { dataTransfer: transfer, bubbles: true, cancelable: true }));`,
+        files,
+      ),
+    );
+  }
+
+  /** What a button saves, as digits. */
+  saved(id) {
+    return this.in(
+      `const was = URL.createObjectURL;
+       let blob;
+       URL.createObjectURL = (it) => { blob = it; return "#"; };
+       HTMLAnchorElement.prototype.click = () => {};
+       document.getElementById(values[0]).click();
+       URL.createObjectURL = was;
+       return Array.from(new Uint8Array(await blob.arrayBuffer()), (it) => it.toString(16).padStart(2, "0")).join("");`,
+      id,
+    );
+  }
+}
+
+// ---- What is compared.
+
+/** The memory that the program prints. */
+function memoryOf(path) {
+  const lines = printed("relocate", "--base", BASE, path).split("\n");
+  return lines.filter((line) => line.startsWith("  ")).map((line) => line.trim()).join("");
+}
+
+async function compareRow(page, row) {
+  what = row.name;
+  const path = `${work}/${row.table}-${row.number}-${row.name}`;
+  writeFileSync(path, Buffer.from(row.hex, "hex"));
+  await page.hex(row.hex);
+  hold(row.name, row.answer, await page.in(SHOWN));
+  if (!row.answer.startsWith("accepted")) {
+    const marked = await page.in(`return document.querySelectorAll("#file-hex .refused").length`);
+    hold(`${row.name}, the bytes that are marked`, 4, marked);
+    return;
+  }
+  printed("rewrite", "--strip", path, `${path}.stripped`);
+  hold(`${row.name}, stripped`, readFileSync(`${path}.stripped`).toString("hex"), await page.saved("save-stripped"));
+  if (row.table === "load" && Number(row.answer.split(" ")[2]) < 1 << 20) {
+    hold(`${row.name}, its memory`, memoryOf(path), await page.saved("save-memory"));
+  }
+  await compareLists(page, row.name, path);
+}
+
+const LINES = {
+  check: ["validate", /^unit \d+ hunk/],
+  hunks: ["show", /^hunk \d+ \d+ bytes \w/],
+  units: ["show", /^unit /],
+  blocks: ["show", /^ {2}\S/],
+};
+
+/** How many items each list has, by the lines that the program prints. */
+async function compareLists(page, name, path) {
+  const tabs = await page.in(
+    `return Object.fromEntries([...document.querySelectorAll("[role=tab]")].map((it) =>
+       [it.id.slice(4), Number(it.textContent.match(/[\\d,]+$/)[0].replaceAll(",", ""))]))`,
+  );
+  const shown = printed("show", path);
+  for (const [id, [command, pattern]] of Object.entries(LINES)) {
+    const text = command === "show" ? shown : printed(command, path);
+    const count = text.split("\n").filter((line) => pattern.test(line)).length;
+    hold(`${name}, ${id}`, count, tabs[id] ?? 0);
+  }
+  const symbols = [...shown.matchAll(/^ {4}0x([0-9a-f]{8}) (.*)$/gm)].map(([, value, text]) => `${value} ${text}`);
+  if (!tabs.symbols) return hold(`${name}, symbols`, 0, symbols.length);
+  const said = await page.in(
+    `document.getElementById("tab-symbols").click();
+     const rows = [...document.querySelectorAll("#list-panel [data-row]")];
+     return rows.map((row) => [...row.children].slice(2).map((it) => it.textContent).join(" ")).join("\\n")`,
+  );
+  hold(`${name}, symbols`, symbols.join("\n"), said);
+}
+
+/** Inputs of vectors/every, dropped together: the table, as it is saved. */
+async function compareMany(page) {
+  const lines = readFileSync(everyPath, "utf8").split("\n");
+  const rows = lines.filter((line, i) => line && !line.startsWith("#") && i % Number(oneOf) === 0).map((line) => line.split("\t"));
+  await page.drop(rows.map((row, i) => [`input ${i}`, row[3]]));
+  const text = Buffer.from(await page.saved("save-csv"), "hex").toString();
+  const cells = text.split("\r\n").slice(1, -1).map((line) => line.split(","));
+  hold("the lines of the table", rows.length, cells.length);
+  for (const [i, [, size, answer, , first, second, place, , number]] of cells.entries()) {
+    const said = answer === "accepted" ? `${size} accepted ${first} ${second}` : `${size} refused ${place} ${number}`;
+    hold(`input ${i}`, `${rows[i][3].length / 2} ${rows[i].slice(4).join(" ")}`, said);
+  }
+}
+
+async function compareUse(page) {
+  await page.shows(() => page.browser.upload("#pick", [`${work}/load-2-two-hunks`]));
+  hold("a file that is picked", "accepted 2 12", await page.in(SHOWN));
+  const key = `const grid = document.querySelector("[role=grid][aria-activedescendant]:not(#many-list)");
+    const key = (name) => grid.dispatchEvent(new KeyboardEvent("keydown", { key: name, bubbles: true }));`;
+  const active = `${key} key("End"); key("ArrowUp"); return grid.getAttribute("aria-activedescendant").replace(/.*-/, "")`;
+  hold("the row that keys lead to", "0", await page.in(active));
+  const labels = `return [...document.querySelectorAll("[role=grid], [role=group], canvas, input, select, button")]
+    .filter((it) => !it.getAttribute("aria-label") && !it.textContent.trim() && !it.closest("label")).length`;
+  hold("what has no label", 0, await page.in(labels));
+  const fetched = `return await fetch("http://127.0.0.1:9/").then(() => "sent", () => "refused")`;
+  const blocked = `const seen = new Promise((done) => addEventListener("securitypolicyviolation", (it) => done(it.blockedURI), { once: true }));
+    fetch("http://127.0.0.1:9/").catch(() => {});
+    return await Promise.race([seen, new Promise((done) => setTimeout(() => done("nothing"), 2000))])`;
+  hold("a request", "refused", await page.in(fetched));
+  hold("what the policy stops", "http://127.0.0.1:9/", await page.in(blocked));
+  await page.browser.size(500, 900);
+  hold("a narrow window", true, await page.in("return document.documentElement.scrollWidth <= innerWidth"));
+}
+
+/** Large files: how long the page takes, by its own clock. */
+async function large(page) {
+  for (const kind of ["code", "hunks"]) {
+    const path = `${work}/large-${kind}`;
+    execFileSync("python3", [new URL("large.py", import.meta.url).pathname, kind, path]);
+    await page.shows(() => page.browser.upload("#pick", [path]));
+    const [first, time] = await page.in(`return [document.getElementById("verdict").textContent, document.getElementById("time").textContent]`);
+    const rows = await page.in(`return document.querySelectorAll("[data-row], .line").length`);
+    hold(`${kind}, rows that are rendered, fewer than 120`, true, rows < 120);
+    console.log(`${browserName}: ${first} ${time}`);
+  }
+}
+
+async function takePictures(page) {
+  const { browser } = page;
+  const take = async (name) => writeFileSync(`${pictures}/${browserName}-${name}.png`, await browser.picture());
+  mkdirSync(pictures, { recursive: true });
+  await browser.size(1280, 900);
+  await page.open(`#hex=${readFileSync(`${root}examples/c/sum.hex`, "utf8").replace(/\s/g, "")}`);
+  await page.in(`document.getElementById("tab-relocations")?.click()`);
+  await take("load");
+  await page.open("#example=two-findings");
+  await take("object");
+  await page.open("#example=offset-outside");
+  await take("refused");
+  await browser.dark(true);
+  await page.open("#example=two-hunks");
+  await take("dark");
+  await browser.dark(false);
+  await browser.size(420, 900);
+  await page.open("#example=two-hunks");
+  await take("narrow");
+}
+
+const browser = await (browserName === "chromium" ? Chromium : Firefox).open(work);
+try {
+  const page = new Page(browser);
+  await page.open();
+  console.log(`${browserName}: ${await page.in("return document.getElementById('module').textContent")}`);
+  for (const row of [...rowsOf("load"), ...rowsOf("objects")]) await compareRow(page, row);
+  await page.open();
+  await compareMany(page);
+  await page.open();
+  await compareUse(page);
+  await browser.size(1280, 900);
+  if (oneOf === "1") await large(page);
+  await takePictures(page);
+  for (const fault of browser.faults()) hold("an error in the page", "none", fault);
+} catch (error) {
+  hold(`the test, at ${what}`, "no error", `${error.message} (${browser.faults().join("; ")})`);
+} finally {
+  await browser.close();
+}
+console.log(`${browserName}: ${compared} compared, ${failed} failed`);
+process.exit(failed > 0 ? 1 : 0);
