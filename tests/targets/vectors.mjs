@@ -1,0 +1,83 @@
+// Holds a module to the rows of the conformance suite, and to what vectors/every prints:
+// node vectors.mjs MODULE.wasm LOAD.tsv OBJECTS.tsv EVERY. Prints what differs, and then how many answers were compared.
+import { readFileSync } from "node:fs";
+import { Hunk, HunkError } from "../../web/hunk.js";
+
+const BUDGET = 1 << 20;
+const BUDGET_NUMBER = 27;
+const BASE = 0x21000;
+
+const unhex = (text) => Uint8Array.from(text.match(/../g) ?? [], (digits) => parseInt(digits, 16));
+const same = (one, other) => one.length === other.length && one.every((byte, i) => byte === other[i]);
+const isObject = (bytes) => bytes.length >= 4 && bytes[0] + bytes[1] === 0 && bytes[2] === 3 && bytes[3] === 0xe7;
+
+/** What a call comes to, in the words of the suite. */
+function told(call) {
+  try {
+    return call();
+  } catch (error) {
+    if (!(error instanceof HunkError)) throw error;
+    return `refused ${error.place} ${error.number}`;
+  }
+}
+
+/** Loads the bytes in one call and by a loader: both have to come to the same. */
+function loaded(hunk, bytes) {
+  const table = hunk.table(bytes, BUDGET);
+  let at = BASE;
+  const bases = Uint32Array.from(table.rows, (row) => (at += row.bytes) - row.bytes);
+  const loader = hunk.begin(table, bases);
+  const packed = told(() => hunk.loadPacked(bytes, BASE, BUDGET).memory);
+  const fed = told(() => {
+    loader.feed(bytes.subarray(table.header));
+    loader.end();
+    return loader.memory();
+  });
+  if (typeof fed === "string") return fed === packed ? fed : `${fed} by a loader, ${packed} in one call`;
+  if (!same(packed, fed)) return "another memory by a loader";
+  return `accepted ${table.rows.length} ${fed.length}`;
+}
+
+/** The file as either kind; the units of an object file, and what a load file declares. */
+function checked(hunk, bytes) {
+  const { hunks, rows } = hunk.check(bytes);
+  if (hunks === 0) return `accepted ${hunk.units(bytes).rows.length} ${rows.length}`;
+  let declared = 0;
+  for (const row of hunk.table(bytes, 2 ** 53).rows) declared += row.bytes;
+  return `accepted ${hunks} ${declared}`;
+}
+
+function declaresTooMuch(hunk, bytes) {
+  return told(() => hunk.table(bytes, BUDGET)).toString().endsWith(` ${BUDGET_NUMBER}`);
+}
+
+const [module, ...tables] = process.argv.slice(2);
+const hunk = await Hunk.open(readFileSync(module));
+let compared = 0;
+let failed = 0;
+
+function hold(what, wanted, said) {
+  compared += 1;
+  if (said === wanted) return;
+  failed += 1;
+  console.log(`${what}: ${said}, and not ${wanted}`);
+}
+
+for (const table of tables) {
+  const lines = readFileSync(table, "utf8").split("\n");
+  for (const line of lines.filter((it) => it && !it.startsWith("#"))) {
+    const cells = line.split("\t");
+    const [hex, ...answer] = cells.slice(-4);
+    const what = cells.slice(0, -4).join(" ");
+    const wanted = answer.join(" ");
+    const bytes = unhex(hex);
+    const isOf = table.endsWith("objects.tsv") || (!table.endsWith("load.tsv") && isObject(bytes));
+    if (isOf === isObject(bytes)) {
+      hold(`${what}, checked`, wanted, told(() => checked(hunk, bytes)));
+      hold(`${what}, stripped`, wanted, told(() => hunk.strip(bytes) && wanted));
+    }
+    if (!isOf && !declaresTooMuch(hunk, bytes)) hold(`${what}, loaded`, wanted, told(() => loaded(hunk, bytes)));
+  }
+}
+console.log(`${compared} answers`);
+process.exit(failed > 0 ? 1 : 0);
