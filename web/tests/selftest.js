@@ -200,9 +200,9 @@ async function compareUse(page) {
 
 /** Large files: how long the page takes, by its own clock. */
 async function large(page) {
-  for (const kind of ["code", "hunks"]) {
+  for (const [kind, size] of [["code", "64"], ["hunks", "2"]]) {
     const path = `${work}/large-${kind}`;
-    execFileSync("python3", [new URL("large.py", import.meta.url).pathname, kind, path]);
+    execFileSync("python3", [`${root}bench/make.py`, kind, size, path]);
     await page.shows(() => page.browser.upload("#pick", [path]));
     const [first, time] = await page.in(`return [document.getElementById("verdict").textContent, document.getElementById("time").textContent]`);
     const rows = await page.in(`return document.querySelectorAll("[data-row], .line").length`);
@@ -217,8 +217,10 @@ async function takePictures(page) {
   mkdirSync(pictures, { recursive: true });
   await browser.size(1280, 900);
   await page.open(`#hex=${readFileSync(`${root}examples/c/sum.hex`, "utf8").replace(/\s/g, "")}`);
-  await page.in(`document.getElementById("tab-relocations")?.click()`);
   await take("load");
+  await browser.size(1000, 660);
+  await take("page");
+  await browser.size(1280, 900);
   await page.open("#example=two-findings");
   await take("object");
   await page.open("#example=offset-outside");
