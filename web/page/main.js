@@ -137,6 +137,16 @@ function pick(item) {
 const firstBase = () => parseInt($("base").value, 16) >>> 0;
 
 function show(bytes, name) {
+  try {
+    showWhole(bytes, name);
+  } catch (error) {
+    $("verdict").className = "bad";
+    $("verdict").textContent = `${name} can't be shown here: ${error.message}`;
+    throw error;
+  }
+}
+
+function showWhole(bytes, name) {
   const began = performance.now();
   file = new Examined(hunk, bytes, name);
   file.base = firstBase();

@@ -88,6 +88,14 @@ export class Chromium {
     await this.send("DOM.setFileInputFiles", { nodeId, files: paths });
   }
 
+  /** Drops files and folders as a desktop does. */
+  async dropPaths(paths) {
+    const data = { items: [], files: paths, dragOperationsMask: 1 };
+    for (const type of ["dragEnter", "dragOver", "drop"]) {
+      await this.send("Input.dispatchDragEvent", { type, x: 200, y: 70, data });
+    }
+  }
+
   async picture() {
     const { data } = await this.send("Page.captureScreenshot", { format: "png" });
     return Buffer.from(data, "base64");

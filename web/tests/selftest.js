@@ -3,7 +3,8 @@
 // ONE_OF inputs is dropped; pictures go into the folder PICTURES, and files into WORK.
 
 import { execFileSync } from "node:child_process";
-import { mkdirSync, readFileSync, writeFileSync } from "node:fs";
+import { copyFileSync, mkdirSync, readFileSync, writeFileSync } from "node:fs";
+import { createServer } from "node:http";
 import { pathToFileURL } from "node:url";
 
 const [browserName, pagePath, program, everyPath, oneOf, pictures, work] = process.argv.slice(2);
@@ -68,9 +69,9 @@ class Page {
     );
   }
 
-  async open(hash = "") {
+  async open(hash = "", from = url) {
     await this.browser.go("about:blank");
-    await this.browser.go(url + hash);
+    await this.browser.go(from + hash);
     await this.in(`while (!(document.body && "ready" in document.body.dataset)) await new Promise((done) => setTimeout(done, 5));`);
   }
 
@@ -178,6 +179,39 @@ async function compareMany(page) {
   }
 }
 
+/** A folder, which Firefox lets no test drop. */
+async function compareFolder(page) {
+  const folder = `${work}/folder`;
+  mkdirSync(`${folder}/below`, { recursive: true });
+  const files = { one: "load-2-two-hunks", "below/two": "objects-29-two-findings", "below/three": "load-9-empty" };
+  for (const [name, from] of Object.entries(files)) copyFileSync(`${work}/${from}`, `${folder}/${name}`);
+  const wanted = ["folder/below/three 0 refused", "folder/below/two 44 accepted", "folder/one 84 accepted"].join(", ");
+  const ways = [() => page.browser.dropPaths([folder]), () => page.browser.upload("#pick-folder", [folder])];
+  for (const way of ways) {
+    await page.shows(way);
+    const lines = Buffer.from(await page.saved("save-csv"), "hex").toString().split("\r\n").slice(1, -1);
+    hold("a folder", wanted, lines.map((line) => line.split(",").slice(0, 3).join(" ")).sort().join(", "));
+  }
+  await page.in(`document.querySelector("#many-list [role=columnheader]").click()`);
+  const names = await page.in(`return [...document.querySelectorAll("#many-list [data-row] > :first-child")].map((it) => it.textContent)`);
+  hold("a folder, sorted", "folder/below/three,folder/below/two,folder/one", names.join());
+}
+
+/** The same page from a server: nothing but the page itself is asked for. */
+async function compareServed(page) {
+  const asked = [];
+  const server = createServer((request, answer) => {
+    asked.push(request.url);
+    answer.setHeader("content-type", "text/html").end(readFileSync(pagePath));
+  });
+  await new Promise((done) => server.listen(0, "127.0.0.1", done));
+  await page.open("#example=two-hunks", `http://127.0.0.1:${server.address().port}/`);
+  hold("a page from a server", "accepted 2 12", await page.in(SHOWN));
+  hold("what the server was asked for", "/", asked.filter((it) => it !== "/favicon.ico").join());
+  server.closeAllConnections();
+  server.close();
+}
+
 async function compareUse(page) {
   await page.shows(() => page.browser.upload("#pick", [`${work}/load-2-two-hunks`]));
   hold("a file that is picked", "accepted 2 12", await page.in(SHOWN));
@@ -242,6 +276,9 @@ try {
   for (const row of [...rowsOf("load"), ...rowsOf("objects")]) await compareRow(page, row);
   await page.open();
   await compareMany(page);
+  await page.open();
+  if (browserName === "chromium") await compareFolder(page);
+  await compareServed(page);
   await page.open();
   await compareUse(page);
   await browser.size(1280, 900);
