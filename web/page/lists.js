@@ -12,7 +12,7 @@ const whereOf = (file, row) => (file.about.hunks > 0 ? row.hunk : `${row.unit}.$
 function hunkRows(file) {
   const counts = file.relocationCounts();
   return {
-    columns: [["hunk", "4em", true], ["bytes", "6em", true], ["memory", "minmax(5em, 1fr)"], ["base", "5em"], ["relocated", "5em", true]],
+    columns: [["hunk", "4em", true], ["bytes", "6em", true], ["memory", "minmax(5em, 1fr)"], ["base", "5.6em"], ["relocated", "5em", true]],
     count: file.starts.length,
     item: (i) => ({ memory: file.starts[i] }),
     cells(i) {
@@ -27,7 +27,7 @@ function hunkRows(file) {
 function blockRows(file) {
   const { rows } = file.list("blocks");
   return {
-    columns: [["at", "5em"], ["hunk", "3em", true], ["block", "7em"], ["bytes", "5em", true], ["of it", "minmax(8em, 1fr)"]],
+    columns: [["at", "5.6em"], ["hunk", "3em", true], ["block", "7em"], ["bytes", "5em", true], ["of it", "minmax(8em, 1fr)"]],
     count: rows.length,
     item: (i) => rows.at(i),
     cells(i) {
@@ -46,7 +46,7 @@ function blockRows(file) {
 function unitRows(file) {
   const { rows } = file.list("units");
   return {
-    columns: [["at", "5em"], ["unit", "5em", true], ["hunks", "5em", true], ["name", "minmax(9em, 1fr)"]],
+    columns: [["at", "5.6em"], ["unit", "5em", true], ["hunks", "5em", true], ["name", "minmax(9em, 1fr)"]],
     count: rows.length,
     item: (i) => ({ place: rows.get(i, "place"), bytes: 4 }),
     cells(i) {
@@ -59,7 +59,7 @@ function unitRows(file) {
 function symbolRows(file) {
   const { rows } = file.list("symbols");
   return {
-    columns: [["at", "5em"], ["hunk", "3em", true], ["value", "5em"], ["name", "minmax(9em, 1fr)"]],
+    columns: [["at", "5.6em"], ["hunk", "3em", true], ["value", "5.6em"], ["name", "minmax(9em, 1fr)"]],
     count: rows.length,
     item: (i) => ({ ...rows.at(i), bytes: 4, offset: rows.get(i, "value") }),
     cells(i) {
@@ -72,7 +72,7 @@ function symbolRows(file) {
 function relocationRows(file) {
   const { rows } = file.list("relocations");
   return {
-    columns: [["at", "5em"], ["hunk", "3em", true], ["offset", "5em"], ["target", "4em", true], ["kind", "minmax(6em, 1fr)"]],
+    columns: [["at", "5.6em"], ["hunk", "3em", true], ["offset", "5.6em"], ["target", "4em", true], ["kind", "minmax(6em, 1fr)"]],
     count: rows.length,
     item: (i) => ({ ...rows.at(i), bytes: 4 }),
     cells(i) {
@@ -86,7 +86,7 @@ function relocationRows(file) {
 function entryRows(file) {
   const { rows } = file.list("entries");
   return {
-    columns: [["at", "5em"], ["hunk", "3em", true], ["entry", "7em"], ["value", "5em"], ["used", "4em", true], ["name", "minmax(9em, 1fr)"]],
+    columns: [["at", "5.6em"], ["hunk", "3em", true], ["entry", "7em"], ["value", "5.6em"], ["used", "4em", true], ["name", "minmax(9em, 1fr)"]],
     count: rows.length,
     item: (i) => ({ place: rows.get(i, "place"), bytes: 4 }),
     cells(i) {
@@ -101,7 +101,7 @@ function referenceRows(file) {
   const { rows } = file.list("references");
   const entries = file.list("entries").rows;
   return {
-    columns: [["at", "5em"], ["hunk", "3em", true], ["offset", "5em"], ["bytes", "4em", true], ["name", "minmax(9em, 1fr)"]],
+    columns: [["at", "5.6em"], ["hunk", "3em", true], ["offset", "5.6em"], ["bytes", "4em", true], ["name", "minmax(9em, 1fr)"]],
     count: rows.length,
     item: (i) => ({ place: rows.get(i, "place"), bytes: 4 }),
     cells(i) {
@@ -116,7 +116,7 @@ function referenceRows(file) {
 function findingRows(file) {
   const { rows } = file.list("check");
   return {
-    columns: [["at", "5em"], ["hunk", "3em", true], ["offset", "5em"], ["what is wrong", "minmax(14em, 1fr)"]],
+    columns: [["at", "5.6em"], ["hunk", "3em", true], ["offset", "5.6em"], ["what is wrong", "minmax(14em, 1fr)"]],
     count: rows.length,
     item: (i) => ({ place: rows.get(i, "place"), bytes: 4 }),
     cells(i) {

@@ -169,14 +169,21 @@ async function openFile(it, name) {
 }
 
 async function openAll(files) {
-  $("many").hidden = files.length < 2;
   if (files.length === 0) return;
+  $("many").hidden = files.length === 1;
   if (files.length === 1) {
     await openFile(files[0].file, files[0].name);
     return;
   }
   await many.show(hunk, files);
   document.body.dataset.shows = ++shows;
+}
+
+/** The field is empty afterwards, so that the same file can be picked again, as after a change of it. */
+async function openPicked(field) {
+  const files = pickedFiles(field);
+  field.value = "";
+  await openAll(files);
 }
 
 function openExample(name) {
@@ -221,8 +228,7 @@ async function openModule() {
 }
 
 function listen() {
-  $("pick").addEventListener("change", () => openAll(pickedFiles($("pick"))));
-  $("pick-folder").addEventListener("change", () => openAll(pickedFiles($("pick-folder"))));
+  for (const id of ["pick", "pick-folder"]) $(id).addEventListener("change", () => openPicked($(id)));
   $("example").addEventListener("change", () => openExample($("example").value));
   $("base").addEventListener("change", () => file && show(file.bytes, file.name));
   $("save-stripped").addEventListener("click", saveStripped);

@@ -3,7 +3,7 @@
 // ONE_OF inputs is dropped; pictures go into the folder PICTURES, and files into WORK.
 
 import { execFileSync } from "node:child_process";
-import { copyFileSync, mkdirSync, readFileSync, writeFileSync } from "node:fs";
+import { copyFileSync, mkdirSync, readFileSync, statSync, writeFileSync } from "node:fs";
 import { createServer } from "node:http";
 import { pathToFileURL } from "node:url";
 
@@ -242,6 +242,19 @@ async function large(page) {
     const rows = await page.in(`return document.querySelectorAll("[data-row], .line").length`);
     hold(`${kind}, rows that are rendered, fewer than 120`, true, rows < 120);
     console.log(`${browserName}: ${first} ${time}`);
+    const wanted = (Math.ceil(statSync(path).size / 16) * 16 - 16).toString(16).padStart(8, "0");
+    const ways = { "the key End": `box.dispatchEvent(new KeyboardEvent("keydown", { key: "End" }))`, scrolling: "box.scrollTop = 1e9" };
+    for (const [name, way] of Object.entries(ways)) {
+      const last = await page.in(
+        `const box = document.getElementById("file-hex");
+         box.scrollTop = 0;
+         await new Promise((done) => setTimeout(done, 100));
+         ${way};
+         await new Promise((done) => setTimeout(done, 100));
+         return [...box.querySelectorAll(".at")].at(-1).textContent`,
+      );
+      hold(`${kind}, the last line by ${name}`, wanted, last);
+    }
   }
 }
 
@@ -252,7 +265,7 @@ async function takePictures(page) {
   await browser.size(1280, 900);
   await page.open(`#hex=${readFileSync(`${root}examples/c/sum.hex`, "utf8").replace(/\s/g, "")}`);
   await take("load");
-  await browser.size(1000, 660);
+  await browser.size(1120, 680);
   await take("page");
   await browser.size(1280, 900);
   await page.open("#example=two-findings");
