@@ -26,6 +26,8 @@ export class HunkError extends Error {
   readonly place: number;
   /** With NoBase the first hunk that has none, else as hunk.h says. */
   readonly hunk: number;
+  /** With Truncated of a table how many bytes more its header has at least, else as hunk.h says. */
+  readonly count: number;
 }
 
 /** A hunk of the table of a load file. `memory`: 0 any, 1 chip, 2 fast, 3 by the attributes in `extra`. */

@@ -101,6 +101,7 @@ export class HunkError extends Error {
     this.text = text;
     this.place = answer.place;
     this.hunk = answer.hunk;
+    this.count = answer.count;
   }
 }
 

@@ -39,7 +39,7 @@ static void say(const char *call, struct hunk_answer a)
     if (a.number == HUNK_OK)
         printf("%s %" PRIu32 " %" PRIu64 " %" PRIu64 "\n", call, a.hunk, a.place, a.count);
     else
-        printf("%s refused %" PRIu32 " %" PRIu64 " %" PRIu32 "\n", call, a.number, a.place, a.hunk);
+        printf("%s refused %" PRIu32 " %" PRIu32 " %" PRIu64 " %" PRIu64 "\n", call, a.number, a.hunk, a.place, a.count);
 }
 
 /* A row: so many numbers, each of 64 bits. */

@@ -23,7 +23,7 @@ function attempt(name, call) {
     return call();
   } catch (error) {
     if (!(error instanceof HunkError)) throw error;
-    say(`${name} refused ${error.number} ${error.place} ${error.hunk}`);
+    say(`${name} refused ${error.number} ${error.hunk} ${error.place} ${error.count}`);
     return null;
   }
 }

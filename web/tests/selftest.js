@@ -265,7 +265,7 @@ async function takePictures(page) {
   await browser.size(1280, 900);
   await page.open(`#hex=${readFileSync(`${root}examples/c/sum.hex`, "utf8").replace(/\s/g, "")}`);
   await take("load");
-  await browser.size(1120, 680);
+  await browser.size(1120, 700);
   await take("page");
   await browser.size(1280, 900);
   await page.open("#example=two-findings");
