@@ -1,4 +1,4 @@
-/* times FILE..: milliseconds that the calls take on each file, the least of five. */
+/* times FILE..: processor milliseconds that the calls take on each file, the least of five. */
 #include "hunk.h"
 #include <stdio.h>
 #include <stdlib.h>
@@ -16,7 +16,7 @@ struct input {
 static double now(void)
 {
     struct timespec t;
-    clock_gettime(CLOCK_MONOTONIC, &t);
+    clock_gettime(CLOCK_PROCESS_CPUTIME_ID, &t);
     return (double)t.tv_sec * 1e3 + (double)t.tv_nsec / 1e6;
 }
 

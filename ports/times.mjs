@@ -1,5 +1,5 @@
-// node times.mjs MODULE.wasm FILE..: milliseconds that the calls of web/hunk.js take on each file, the least of five. Each call
-// copies the file into the module's memory, which is counted.
+// node times.mjs MODULE.wasm FILE..: processor milliseconds that the calls of web/hunk.js take on each file, the least of
+// five. Each call copies the file into the module's memory, which is counted.
 import { readFileSync } from "node:fs";
 import { Hunk, HunkError } from "../web/hunk.js";
 
@@ -18,13 +18,14 @@ const CALLS = {
 
 /** An object file is not loaded: its refusal is timed, as times.c does. */
 function timed(call, bytes) {
-  const began = performance.now();
+  const began = process.cpuUsage();
   try {
     call(bytes);
   } catch (error) {
     if (!(error instanceof HunkError)) throw error;
   }
-  return performance.now() - began;
+  const { user, system } = process.cpuUsage(began);
+  return (user + system) / 1000;
 }
 
 for (const file of files) {
