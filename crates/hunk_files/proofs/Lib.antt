@@ -55,6 +55,7 @@ pub mod TextParts
 pub mod UnitCutLaws
 pub mod PlaceLaws
 pub mod PlacedFindingLaws
+pub mod PlacedOffsets
 mod UnitKeeping
 mod HunkKeeping
 mod ObjectViewLaws

@@ -5,7 +5,7 @@ use Rattle.std.proofs.lemmas.List.{map-append}
 use Rattle.hunk_words.specs.Bits.{kind}
 use Rattle.hunk_blocks.specs.Parts.{block_text, ext_text, group_text}
 use Rattle.hunk_blocks.specs.Placed.{GivesFirst, Placed}
-use Rattle.hunk_blocks.specs.Values.{BlockBody, BlockValue, Name, Code, Data, Bss, Reloc, Ext, Symbol, Debug, Advisory, End}
+use Rattle.hunk_blocks.specs.Values.{BlockBody, BlockValue, Reloc, Ext}
 use Rattle.hunk_files.specs.Findings.{FindingValue, HunkContext, body_findings, entry_findings, findings, group_findings, hunk_bytes, hunk_findings, hunks_findings, outside, reference_width, relocation_findings, relocation_width, units_findings}
 use Rattle.hunk_files.specs.Hunks.{block_texts}
 use Rattle.hunk_files.specs.InPlace.{GivesPart}
@@ -41,14 +41,7 @@ values_body s place word (Reloc groups) =
     values_in_turn (group_findings_at s width) (group_findings s width) group_text (λ place g. values_offsets (relocation_findings s width g.target) (place + 8) g.offsets) (place + 4) groups
 values_body s place word (Ext entries) =
     values_in_turn (λ place e. entry_findings_at s (place + 4 * length (ext_text e)) e) (entry_findings s) ext_text (λ place e. values_offsets (outside s (reference_width e)) _ e.offsets) (place + 4) entries
-values_body s place word (Name ws) = refl
-values_body s place word (Code top ws) = refl
-values_body s place word (Data top ws) = refl
-values_body s place word (Bss size) = refl
-values_body s place word (Symbol es) = refl
-values_body s place word (Debug ws) = refl
-values_body s place word (Advisory ws) = refl
-values_body s place word End = refl
+values_body s place word _ = refl
 
 values_hunk : (s : HunkContext) (place : ℕ) (h : ObjectHunk) → values (hunk_findings_at s place h) ≡ hunk_findings s h
 values_hunk s place h = values_in_turn (block_findings_at s) (λ b. body_findings s b.word b.body) block_text (λ place b. values_body s place b.word b.body) place h

@@ -1,5 +1,5 @@
 -- What is wrong with the offsets of an object file, each finding with the byte of the file at which its offset stands.
-use Rattle.std.specs.Prelude.{ℕ, ◌+◌, ◌-◌, ◌*◌, List, [], ◌∷◌, ◌++◌, length, map}
+use Rattle.std.specs.Prelude.{◌≡◌, ℕ, ◌+◌, ◌-◌, ◌*◌, List, [], ◌∷◌, ◌++◌, length, map}
 use Rattle.hunk_words.specs.Bits.{kind}
 use Rattle.hunk_blocks.specs.Parts.{block_text, ext_text, group_text}
 use Rattle.hunk_blocks.specs.Placed.{Placed}
@@ -68,3 +68,10 @@ units_findings_at number place (u ∷ rest) = unit_findings_at number place u ++
 -- The findings of an object file, in file order, each with its place.
 abbrev pub placed_findings : ObjectFileValue → List PlacedFinding
 placed_findings o = units_findings_at 0 0 o
+
+-- At its place in these longwords stands its offset.
+pub record StandsInPlace (words : List ℕ) (f : PlacedFinding) : Type 0 where
+  pub before : List ℕ
+  pub after : List ℕ
+  pub split : words ≡ before ++ f.value.offset ∷ after
+  pub is : f.place ≡ 4 * length before

@@ -15,7 +15,7 @@ ghost use Rattle.hunk_files.specs.ObjectFile.{ObjectFileValue, IsNoObjectFile, I
 ghost use Rattle.hunk_files.specs.ObjectFault.{HasObjectFault, IsTruncatedObject, ObjectRole, objects, refuse_object};
 ghost use Rattle.hunk_blocks.specs.Faults.{Expects as ExpectsOf, HasRefusal as RefusalOf, IsFront};
 ghost use Rattle.hunk_files.specs.Findings.{findings};
-ghost use Rattle.hunk_files.specs.PlacedFindings.{placed_findings};
+ghost use Rattle.hunk_files.specs.PlacedFindings.{StandsInPlace, placed_findings};
 ghost use Rattle.hunk_files.specs.Strip.{strip_file, strip_object};
 ghost use Rattle.hunk_blocks.specs.Along.{GoesAlong};
 ghost use Rattle.hunk_files.specs.Machines.{refuse_in_load, refuse_in_object};
@@ -97,9 +97,11 @@ pub fn strip_findings()
     ensures findings { (o : ObjectFileValue) → findings (strip_object o) ≡ findings o }
 {}
 
-/// Without their places, placed findings are the findings.
+/// Without their places, placed findings are the findings; at the place of each stands its offset.
 pub fn finding_places()
-    ensures { (o : ObjectFileValue) → map (λ f. f.value) (placed_findings o) ≡ findings o }
+    ensures findings { (o : ObjectFileValue) → map (λ f. f.value) (placed_findings o) ≡ findings o }
+    ensures offsets { (o : ObjectFileValue) → IsObjectFile o →
+        AllByRecursion (StandsInPlace (object_text o)) (placed_findings o) }
 {}
 
 /// Of every list of bytes just one of three holds: it is the text of an object file, all of it, a
