@@ -1,13 +1,15 @@
 -- What the caller sees of a block.
-use Rattle.std.proofs.Common.{◌≡◌, ℕ, ◌+◌, ◌*◌, List, length, Some, ap, ap₂, ◌∙◌, arith}
+use Rattle.std.proofs.Common.{◌≡◌, ℕ, ◌+◌, ◌*◌, List, [], ◌∷◌, length, Some, refl, ap, ap₂, ◌∙◌, arith, length-append}
+use Rattle.std.specs.List.{flat_map}
 use Rattle.std.proofs.lemmas.List.{length-map}
 use Rattle.hunk_words.specs.Carriers.{saturated}
 use Rattle.hunk_words.specs.Longs.{bytes_of}
 use Rattle.hunk_words.proofs.LongLaws.{length-bytes_of}
-use Rattle.hunk_blocks.specs.Parts.{Part, Payload, block_parts, block_text}
-use Rattle.hunk_blocks.specs.Values.{BlockBody, BlockValue, Name, Code, Data, Bss, Reloc, Ext, Symbol, Debug, Advisory, End}
+use Rattle.hunk_blocks.specs.Parts.{Part, Payload, block_parts, block_text, group_text}
+use Rattle.hunk_blocks.specs.Values.{BlockBody, BlockValue, RelocGroup, Name, Code, Data, Bss, Reloc, Ext, Symbol, Debug, Advisory, End}
 use Rattle.hunk_c.specs.Blocks.{Span, payload_of}
 use Rattle.hunk_c.specs.Counting.{Counts}
+use Rattle.hunk_c.specs.Relocations.{Relocated, group_rows, offset_rows}
 
 -- a count that begins at 0
 pub rows_counted : {Row : Type 0} (n : ℕ) (xs ys : List Row) → Counts 0 xs n → xs ≡ ys → n ≡ saturated (length ys)
@@ -38,3 +40,22 @@ payload_len block words len is size = size ∙ payload_text block.word block.bod
 pub same_span : (a b : Span) → a.place + a.bytes ≡ b.place + b.bytes → a.bytes ≡ b.bytes → a ≡ b
 same_span a b end bytes =
     ap₂ (λ (p n : ℕ). record { place = p; bytes = n }) (omega (arith, end, bytes)) bytes
+
+-- ---- the rows of relocations
+
+length-offset_rows : (r : Relocated) (target place : ℕ) (offsets : List ℕ) → length (offset_rows r target place offsets) ≡ length offsets
+length-offset_rows r target place [] = refl
+length-offset_rows r target place (o ∷ os) = omega (arith, length-offset_rows r target (place + 4) os)
+
+-- There is one for each offset.
+pub length-group_rows : (r : Relocated) (place : ℕ) (groups : List RelocGroup) → length (group_rows r place groups) ≡ length (flat_map (λ g. g.offsets) groups)
+length-group_rows r place [] = refl
+length-group_rows r place (g ∷ gs) =
+    let next = place + 4 * length (group_text g) in
+    omega (
+      arith,
+      length-append (offset_rows r g.target (place + 8) g.offsets) (group_rows r next gs),
+      length-append g.offsets (flat_map (λ g. g.offsets) gs),
+      length-offset_rows r g.target (place + 8) g.offsets,
+      length-group_rows r next gs,
+    )

@@ -1,4 +1,5 @@
-use Rattle.std.proofs.Common.{◌≡◌, ℕ, ◌+◌, List, sym, ap, subst, ◌∙◌}
+use Rattle.std.proofs.Common.{◌≡◌, ℕ, ◌+◌, List, length, sym, ap, subst, ◌∙◌}
+use Rattle.std.specs.List.{flat_map}
 use Rattle.hunk_words.specs.Carriers.{saturated}
 use Rattle.hunk_blocks.specs.BodyViews.{HasListAt, viewed}
 use Rattle.hunk_blocks.specs.Parts.{ext_text, symbol_text}
@@ -8,21 +9,18 @@ use Rattle.hunk_blocks.specs.declared.body_view.BodyView.{BodyView}
 use Rattle.hunk_c.specs.Blocks.{item_count}
 use Rattle.hunk_c.specs.Entries.{entry_row}
 use Rattle.hunk_c.specs.Listing.{item_rows}
-use Rattle.hunk_c.specs.Relocations.{Relocated, group_rows, relocated}
+use Rattle.hunk_c.specs.Relocations.{relocated}
 use Rattle.hunk_c.specs.Symbols.{symbol_row}
-use Rattle.hunk_c.proofs.BlockRows.{rows_counted}
+use Rattle.hunk_c.proofs.BlockRows.{length-group_rows, rows_counted}
 use Rattle.hunk_c.proofs.blocks.items.Goals as goal
 
 pub returns-in-Reloc : goal.returns-in-Reloc
 returns-in-Reloc c =
     let block = c.args.block.now in
     let groups = c.in-Reloc.groups in
-    let at : groups.place ≡ block.place + 4 = subst (λ (b : BodyView). HasListAt (block.place + 4) b) c.in-Reloc.is c.body.ensures.place in
-    let rows = group_rows (relocated c.args.unit c.args.hunk block.value.word) in
-    rows_counted _ _ (rows (block.place + 4) groups.value) c.list_groups.ensures
-    (ap (λ (r : Relocated). group_rows r c.again.result.place c.again.result.value) (c.by-relocated.ensures ∙ ap (λ (w : ℕ). relocated c.args.unit c.args.hunk w) c.word.ensures.value)
-    ∙ ap (λ (p : Placed (List RelocGroup)). rows p.place p.value) c.again.ensures
-    ∙ ap (λ (n : ℕ). rows n groups.value) at)
+    c.count_offsets.ensures
+    ∙ ap (λ (p : Placed (List RelocGroup)). saturated (length (flat_map (λ g. g.offsets) p.value))) c.again.ensures
+    ∙ ap saturated (sym (length-group_rows (relocated c.args.unit c.args.hunk block.value.word) (block.place + 4) groups.value))
     ∙ ap (λ (b : BlockBody). saturated (item_count c.args.unit c.args.hunk block.place block.value.word b)) (sym (ap viewed c.in-Reloc.is) ∙ c.body.ensures.value)
 
 pub returns-in-Symbol : goal.returns-in-Symbol
