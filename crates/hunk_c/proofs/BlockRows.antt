@@ -1,12 +1,12 @@
 -- What the caller sees of a block.
 use Rattle.std.proofs.Common.{◌≡◌, ℕ, ◌+◌, ◌*◌, List, [], ◌∷◌, length, Some, refl, ap, ap₂, ◌∙◌, arith, length-append}
-use Rattle.std.specs.List.{flat_map}
+use Rattle.std.proofs.lemmas.List.Sums.{sum_by-cons}
 use Rattle.std.proofs.lemmas.List.{length-map}
 use Rattle.hunk_words.specs.Carriers.{saturated}
 use Rattle.hunk_words.specs.Longs.{bytes_of}
 use Rattle.hunk_words.proofs.LongLaws.{length-bytes_of}
 use Rattle.hunk_blocks.specs.Parts.{Part, Payload, block_parts, block_text, group_text}
-use Rattle.hunk_blocks.specs.Values.{BlockBody, BlockValue, RelocGroup, Name, Code, Data, Bss, Reloc, Ext, Symbol, Debug, Advisory, End}
+use Rattle.hunk_blocks.specs.Values.{BlockBody, BlockValue, RelocGroup, offset_count, Name, Code, Data, Bss, Reloc, Ext, Symbol, Debug, Advisory, End}
 use Rattle.hunk_c.specs.Blocks.{Span, payload_of}
 use Rattle.hunk_c.specs.Counting.{Counts}
 use Rattle.hunk_c.specs.Relocations.{Relocated, group_rows, offset_rows}
@@ -48,14 +48,14 @@ length-offset_rows r target place [] = refl
 length-offset_rows r target place (o ∷ os) = omega (arith, length-offset_rows r target (place + 4) os)
 
 -- There is one for each offset.
-pub length-group_rows : (r : Relocated) (place : ℕ) (groups : List RelocGroup) → length (group_rows r place groups) ≡ length (flat_map (λ g. g.offsets) groups)
+pub length-group_rows : (r : Relocated) (place : ℕ) (groups : List RelocGroup) → length (group_rows r place groups) ≡ offset_count groups
 length-group_rows r place [] = refl
 length-group_rows r place (g ∷ gs) =
     let next = place + 4 * length (group_text g) in
     omega (
       arith,
       length-append (offset_rows r g.target (place + 8) g.offsets) (group_rows r next gs),
-      length-append g.offsets (flat_map (λ g. g.offsets) gs),
+      sum_by-cons (λ (group : RelocGroup). length group.offsets) g gs,
       length-offset_rows r g.target (place + 8) g.offsets,
       length-group_rows r next gs,
     )

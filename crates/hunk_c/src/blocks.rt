@@ -9,7 +9,6 @@ ghost use Rattle.hunk_c.specs.Rows.{Tabulates, TabulatesWhatFits};
 
 use crate::answer::Answer;
 use crate::entries::list_entries;
-use crate::relocations::count_offsets;
 use crate::rows::{BlockTable, ByBlock, RowCount, TakesRows, tabulate};
 use crate::symbols::list_symbols;
 use hunk_blocks::{BlockView, BodyView, Payload};
@@ -151,7 +150,7 @@ fn items(unit: u64, hunk: u64, block: &BlockView<'_>) -> u64
 {
     let mut counter = RowCount { count: 0 };
     match block.body() {
-        BodyView::Reloc(groups) => return count_offsets(groups.again()),
+        BodyView::Reloc(groups) => return groups.offset_count(),
         BodyView::Symbol(symbols) => list_symbols(&mut counter, unit, hunk, symbols.again()),
         BodyView::Ext(entries) => list_entries(&mut counter, unit, hunk, entries.again()),
         _ => {}

@@ -1,7 +1,5 @@
 //! The relocations of a file.
 ghost use Rattle.std.specs.Prelude.{◌≡◌, ◌+◌, ◌*◌, ◌<◌, ◌^◌, length};
-ghost use Rattle.std.specs.List.{flat_map};
-ghost use Rattle.hunk_words.specs.Carriers.{saturated};
 ghost use Rattle.hunk_c.specs.Relocations.{block_rows, group_rows, offset_rows, relocated};
 ghost use Rattle.hunk_c.specs.Relocations.{relocation_row, relocations_in};
 ghost use Rattle.hunk_c.specs.Rows.{Tabulates, TabulatesWhatFits};
@@ -113,17 +111,6 @@ fn list_groups<T: TakesRows<RelocationRow>>(
         list_offsets(taker, relocated, group.target, place + 8, &group.offsets);
         place = behind;
     }
-}
-
-/// How many offsets the groups have, up to 2 ^ 64 - 1.
-pub(crate) fn count_offsets(mut groups: GroupsIter<'_>) -> u64
-    ensures { result ≡ saturated (length (flat_map (λ g. g.offsets) groups.entry.value)) }
-{
-    let mut count: u64 = 0;
-    'counting: while let Some(group) = groups.next() {
-        count = count.saturating_add(group.offsets.len() as u64);
-    }
-    count
 }
 
 /// Hands over the row of each offset of a group, from this byte of the file on.

@@ -1,5 +1,4 @@
 use Rattle.std.proofs.Common.{◌≡◌, ℕ, ◌+◌, List, length, sym, ap, subst, ◌∙◌}
-use Rattle.std.specs.List.{flat_map}
 use Rattle.hunk_words.specs.Carriers.{saturated}
 use Rattle.hunk_blocks.specs.BodyViews.{HasListAt, viewed}
 use Rattle.hunk_blocks.specs.Parts.{ext_text, symbol_text}
@@ -18,8 +17,7 @@ pub returns-in-Reloc : goal.returns-in-Reloc
 returns-in-Reloc c =
     let block = c.args.block.now in
     let groups = c.in-Reloc.groups in
-    c.count_offsets.ensures
-    ∙ ap (λ (p : Placed (List RelocGroup)). saturated (length (flat_map (λ g. g.offsets) p.value))) c.again.ensures
+    c.offset_count.ensures
     ∙ ap saturated (sym (length-group_rows (relocated c.args.unit c.args.hunk block.value.word) (block.place + 4) groups.value))
     ∙ ap (λ (b : BlockBody). saturated (item_count c.args.unit c.args.hunk block.place block.value.word b)) (sym (ap viewed c.in-Reloc.is) ∙ c.body.ensures.value)
 
@@ -30,7 +28,7 @@ returns-in-Symbol c =
     let at : symbols.place ≡ block.place + 4 = subst (λ (b : BodyView). HasListAt (block.place + 4) b) c.in-Symbol.is c.body.ensures.place in
     let rows = item_rows (symbol_row c.args.unit c.args.hunk) symbol_text in
     rows_counted _ _ (rows (block.place + 4) symbols.value) c.list_symbols.ensures
-    (ap (λ (p : Placed (List SymbolEntry)). rows p.place p.value) c.again-in-Symbol.ensures ∙ ap (λ (n : ℕ). rows n symbols.value) at)
+    (ap (λ (p : Placed (List SymbolEntry)). rows p.place p.value) c.again.ensures ∙ ap (λ (n : ℕ). rows n symbols.value) at)
     ∙ ap (λ (b : BlockBody). saturated (item_count c.args.unit c.args.hunk block.place block.value.word b)) (sym (ap viewed c.in-Symbol.is) ∙ c.body.ensures.value)
 
 pub returns-in-Ext : goal.returns-in-Ext
