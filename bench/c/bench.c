@@ -1,8 +1,8 @@
-/* One call, of the library or of hand.c, on a file: bench CALL FILE PIECE. CALL is table, load, feed, check or strip, and
- * hand-table and so on of hand.c; a feed takes pieces of so many bytes. The call is made in `work`, which a profiler counts.
- * It prints a sum over the bytes that the call has left in memory. */
+/* One call, of the library or of hand.c and hand_items.c, on a file: bench CALL FILE PIECE. CALL is table, load, feed, check,
+ * strip, units, blocks, symbols, relocations, entries or references, and hand-table and so on of the plain loader; a feed takes
+ * pieces of so many bytes. The call is made in `work`, which a profiler counts. It prints a sum over the bytes that the call has
+ * left in memory. */
 #include "hand.h"
-#include "hunk.h"
 #include <stdio.h>
 #include <stdlib.h>
 #include <string.h>
@@ -15,6 +15,8 @@ static size_t file_len, memory_len, piece;
 static struct hunk_row *rows;
 static struct hunk_finding *findings;
 static size_t findings_len;
+static void *items;
+static size_t items_len, item_bytes;
 static struct hunk_answer table;
 static struct hunk_place *places;
 static struct hunk_loader loader;
@@ -41,6 +43,52 @@ static void hand_feed_all(void)
         hand_feed(&hand_loader, hand_places, memory, file + at, next_piece(at));
 }
 
+/* One of the six tables. */
+static const struct {
+    const char *call;
+    enum hand_table table;
+    size_t row;
+} tables[] = {{"units", HAND_UNITS, sizeof(struct hunk_unit)},
+              {"blocks", HAND_BLOCKS, sizeof(struct hunk_block)},
+              {"symbols", HAND_SYMBOLS, sizeof(struct hunk_symbol)},
+              {"relocations", HAND_RELOCATIONS, sizeof(struct hunk_relocation)},
+              {"entries", HAND_ENTRIES, sizeof(struct hunk_entry)},
+              {"references", HAND_REFERENCES, sizeof(struct hunk_reference)}};
+
+/* How many rows the library writes. */
+static size_t list(enum hand_table which)
+{
+    switch (which) {
+    case HAND_UNITS:
+        return hunk_units(file, file_len, items, items_len).count;
+    case HAND_BLOCKS:
+        return hunk_blocks(file, file_len, items, items_len).count;
+    case HAND_SYMBOLS:
+        return hunk_symbols(file, file_len, items, items_len).count;
+    case HAND_RELOCATIONS:
+        return hunk_relocations(file, file_len, items, items_len).count;
+    case HAND_ENTRIES:
+        return hunk_entries(file, file_len, items, items_len).count;
+    default:
+        return hunk_references(file, file_len, items, items_len).count;
+    }
+}
+
+/* The bytes of the rows of a table; 0 of another call. */
+static size_t work_items(const char *call)
+{
+    int by_hand = !strncmp(call, "hand-", 5);
+    for (size_t i = 0; i < sizeof tables / sizeof *tables; i++) {
+        if (strcmp(call + (by_hand ? 5 : 0), tables[i].call))
+            continue;
+        if (!by_hand)
+            return list(tables[i].table) * tables[i].row + 1;
+        return hand_items(tables[i].table, file, file_len, items, items_len).count * tables[i].row +
+               1;
+    }
+    return 0;
+}
+
 __attribute__((noinline)) static int work(const char *call)
 {
     if (!strcmp(call, "table"))
@@ -60,11 +108,11 @@ __attribute__((noinline)) static int work(const char *call)
     else if (!strcmp(call, "hand-feed"))
         hand_feed_all();
     else if (!strcmp(call, "hand-check"))
-        hand_check(file, file_len, (struct hand_finding *)findings, findings_len);
+        hand_check(file, file_len, findings, findings_len);
     else if (!strcmp(call, "hand-strip"))
         hand_strip(file, file_len, text, file_len);
     else
-        return 0;
+        return (item_bytes = work_items(call)) != 0;
     return 1;
 }
 
@@ -83,6 +131,8 @@ static int read_file(const char *name)
     hand_places = calloc(MOST_HUNKS, sizeof *hand_places);
     findings_len = file_len / 2;
     findings = calloc(findings_len, sizeof *findings);
+    items_len = file_len / 4;
+    items = calloc(items_len, sizeof(struct hunk_block));
     return fread(file, 1, file_len, in) == file_len;
 }
 
@@ -104,6 +154,11 @@ static void place_hunks(void)
 static uint64_t sum(uint64_t so_far, const void *from, size_t len)
 {
     const uint8_t *bytes = from;
+    for (; len >= 8; bytes += 8, len -= 8) {
+        uint64_t eight;
+        memcpy(&eight, bytes, 8);
+        so_far = (so_far ^ eight) * UINT64_C(1099511628211);
+    }
     for (size_t i = 0; i < len; i++)
         so_far = (so_far ^ bytes[i]) * UINT64_C(1099511628211);
     return so_far;
@@ -121,6 +176,7 @@ int main(int argc, char **argv)
     left = sum(left, text, file_len);
     left = sum(left, rows, MOST_HUNKS * sizeof *rows);
     left = sum(left, findings, findings_len * sizeof *findings);
+    left = sum(left, items, item_bytes);
     printf("%llx\n", (unsigned long long)left);
     return 0;
 }

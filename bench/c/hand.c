@@ -1,6 +1,5 @@
 /* See hand.h. The numbers of faults are those of hunk.h. */
 #include "hand.h"
-#include "hunk.h"
 #include <stdlib.h>
 #include <string.h>
 
@@ -362,13 +361,14 @@ int hand_feed(struct hand_loader *l, const struct hand_place *places, uint8_t *m
 
 /* One walk over a file of either kind, which finds what is wrong, and copies what is kept. */
 struct found {
-    struct hand_finding *rows;
+    struct hunk_finding *rows;
     size_t n, room;
 };
-static inline void find(struct found *f, uint64_t u, uint64_t h, uint32_t o, uint32_t k)
+static inline void find(struct found *f, uint64_t at, uint64_t u, uint64_t h, uint32_t o,
+                        uint32_t k)
 {
     if (f->n < f->room) {
-        struct hand_finding r = {u, h, o, k};
+        struct hunk_finding r = {at, u, h, o, k, 0};
         f->rows[f->n] = r;
     }
     f->n++;
@@ -504,8 +504,9 @@ static int hunk_walk(const uint8_t *b, size_t len, size_t *pat, int load, uint32
                 N4(n);
                 if (check)
                     for (uint32_t j = 0; j < n; j++) {
-                        uint32_t o = be(b + at + 4 * (size_t)j);
-                        if (o + (uint64_t)wd > size) find(f, u, hn, o, 2);
+                        size_t p = at + 4 * (size_t)j;
+                        uint32_t o = be(b + p);
+                        if (o + (uint64_t)wd > size) find(f, p, u, hn, o, 2);
                     }
                 at += 4 * (size_t)n;
             }
@@ -539,9 +540,10 @@ static int hunk_walk(const uint8_t *b, size_t len, size_t *pat, int load, uint32
                             if (be(b + at + 4 * (size_t)j) > size - 4) return HUNK_BAD_OFFSET;
                     } else if (check)
                         for (uint32_t j = 0; j < n; j++) {
-                            uint32_t o = be(b + at + 4 * (size_t)j);
-                            if (t >= hunks) find(f, u, hn, o, 1);
-                            if (o + (uint64_t)rw > size) find(f, u, hn, o, 2);
+                            size_t p = at + 4 * (size_t)j;
+                            uint32_t o = be(b + p);
+                            if (t >= hunks) find(f, p, u, hn, o, 1);
+                            if (o + (uint64_t)rw > size) find(f, p, u, hn, o, 2);
                         }
                     at += 4 * (size_t)n;
                 }
@@ -628,7 +630,7 @@ static struct hand_answer walk(const uint8_t *b, size_t len, struct found *f, ui
     struct hand_answer a = {e, t, at, out ? o : f ? f->n : 0};
     return a;
 }
-struct hand_answer hand_check(const uint8_t *b, size_t len, struct hand_finding *rows, size_t n)
+struct hand_answer hand_check(const uint8_t *b, size_t len, struct hunk_finding *rows, size_t n)
 {
     struct found f = {rows, 0, n};
     struct hand_answer a = walk(b, len, &f, 0, 0);

@@ -3,6 +3,7 @@
 #ifndef HAND_H
 #define HAND_H
 
+#include "hunk.h"
 #include <stddef.h>
 #include <stdint.h>
 
@@ -16,14 +17,19 @@ struct hand_row {
     uint32_t word, extra, bytes, memory;
 };
 
-struct hand_finding {
-    uint64_t unit, hunk;
-    uint32_t offset, fault;
-};
-
 struct hand_place {
     uint32_t bytes, base;
     size_t start;
+};
+
+/* The tables of what stands in a file, in the order of hunk.h. */
+enum hand_table {
+    HAND_UNITS,
+    HAND_BLOCKS,
+    HAND_SYMBOLS,
+    HAND_RELOCATIONS,
+    HAND_ENTRIES,
+    HAND_REFERENCES
 };
 
 struct hand_loader {
@@ -37,7 +43,9 @@ struct hand_answer hand_table(const uint8_t *b, size_t len, uint64_t budget, str
                               size_t n);
 struct hand_answer hand_load(const uint8_t *b, size_t len, uint32_t base, uint8_t *memory,
                              size_t memory_len);
-struct hand_answer hand_check(const uint8_t *b, size_t len, struct hand_finding *rows, size_t n);
+struct hand_answer hand_check(const uint8_t *b, size_t len, struct hunk_finding *rows, size_t n);
+struct hand_answer hand_items(enum hand_table table, const uint8_t *b, size_t len, void *rows,
+                              size_t n);
 struct hand_answer hand_strip(const uint8_t *b, size_t len, uint8_t *out, size_t out_len);
 void hand_begin(struct hand_loader *l, struct hand_place *places, uint32_t hunks, size_t header,
                 uint8_t *memory, size_t memory_len);
