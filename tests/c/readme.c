@@ -1,5 +1,5 @@
-/* The pieces of C that README.md shows, each in a function. They are compiled, and tests/pages/run sees
- * that the page has them so. */
+/* The pieces of C that README.md and docs/CALLING.md show, each in a function. They are compiled, and
+ * tests/pages/run sees that the pages have them so. */
 #include "hunk.h"
 #include <stdio.h>
 
