@@ -187,8 +187,11 @@ def show_files(paths):
 def hex_lines(data):
     """The bytes of each hunk, as the README takes them."""
     lines = []
-    for segment in hunk.load(data, base=0x21000):
-        lines.append(segment.hex())
+    try:
+        for segment in hunk.load(data, base=0x21000):
+            lines.append(segment.hex())
+    except hunk.HunkError as error:
+        lines.append(f"byte {error.place}: {error.meaning}")
     return lines
 
 
@@ -208,6 +211,7 @@ def wrong_calls(texts):
     calls = {
         "strip": (lambda: hunk.strip(symbol), one),
         "readme": (lambda: hex_lines(one), ["4e754e71"]),
+        "refusal": (lambda: [line.split(": ")[0] for line in hex_lines(one[:9])], ["byte 8"]),
         "table": (lambda: hunk.table(one[:24]), [hunk.Hunk(4, "any", 0)]),
         "bases": (lambda: hunk.load(two, [0x10000, 0x20000])[0].hex(), "4ef9000200044e71"),
         "memory": (lambda: hunk.load(memoryview(one)), [bytes.fromhex("4e754e71")]),

@@ -71,9 +71,12 @@ fn wrong_rows(load: &[Row], objects: &[Row]) -> Vec<String> {
     all.map(|(row, answer, wanted)| format!("{}: {answer:?} where {wanted:?} is wanted", row.name)).collect()
 }
 
-/// Loads a file into RAM of an emulator, as the README shows it.
-fn load_ram(file: &[u8], base: u32, ram: &mut [u8]) -> Result<usize, Error> {
+/// Loads a file into RAM of an emulator, and lists its symbols, as the README shows it.
+fn load_ram<'a>(file: &'a [u8], base: u32, ram: &mut [u8], names: &mut Vec<(u32, &'a [u8])>) -> Result<usize, Error> {
     let bytes = hunk::load_into(file, base, &mut ram[base as usize..])?;
+    for symbol in hunk::read(file)?.symbols() {
+        names.push((symbol.value, symbol.name));
+    }
     Ok(bytes)
 }
 
@@ -84,6 +87,7 @@ fn wrong_calls(load: &[Row], objects: &[Row]) -> Vec<String> {
     let findings = data(objects, "two-findings");
     let code = bytes_of("4e754e71");
     let mut ram = [0xAA; 8];
+    let mut names = Vec::new();
     let text = |result: Result<usize, Error>| result.unwrap_err().to_string();
     // The offset is the third longword of the relocation block, which stands behind a unit of 2 longwords and CODE of 3.
     let finding = |place, fault| Finding { place, unit: 0, hunk: 0, offset: 2, fault };
@@ -105,7 +109,8 @@ fn wrong_calls(load: &[Row], objects: &[Row]) -> Vec<String> {
         ("budget", text(hunk::load_packed(&one, 0, 3).map(|it| it.len())) == "refused at byte 20: Budget (27)"),
         ("no room", text(hunk::load_into(&one, 0, &mut ram[..3])) == "refused at byte 24: NoRoom (32)"),
         ("refused memory", ram == [0xAA; 8]),
-        ("into", load_ram(&one, 2, &mut ram) == Ok(4)),
+        ("into", load_ram(&symbol, 2, &mut ram, &mut names) == Ok(4)),
+        ("names", names == [(0, &b"_m"[..])]),
         ("memory", ram[2..6] == code && ram[..2] == [0xAA; 2] && ram[6..] == [0xAA; 2]),
         ("findings", hunk::check(&findings) == Ok(vec![finding(32, Fault::BadTarget), finding(32, Fault::OutsideHunk)])),
     ];
