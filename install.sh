@@ -1,8 +1,9 @@
 #!/bin/sh
-# [DESTDIR=..] [PREFIX=..] ./install.sh [uninstall]: puts the program, the C library with its header, the manual page, two pages
+# [DESTDIR=..] [PREFIX=..] [TARGET=..] ./install.sh [uninstall]: puts the program, the C library with its header, the manual page, two pages
 # and the lines for `file` where a distribution has them, below PREFIX (/usr/local), all of that below DESTDIR where one is given; or
 # takes them away, with the folders that it made, where these are empty then. They are what `rt run` in crates/hunkinfo and `rt lib`
-# in crates/hunk_c have built; PROGRAM and LIBRARY name others. It needs a C compiler (CC, with options or without), for libhunk.so.
+# in crates/hunk_c have built, or where TARGET is aarch64-unknown-linux-gnu what `ports/build` has for it; PROGRAM and LIBRARY name
+# others. It needs a C compiler for that machine (CC, with options or without), for libhunk.so.
 set -eu
 umask 022
 lack() {
@@ -18,7 +19,7 @@ absolute() {
 }
 case $#:${1:-} in
   0: | 1:uninstall) ;;
-  *) lack 'usage: [DESTDIR=..] [PREFIX=..] ./install.sh [uninstall]' 2 ;;
+  *) lack 'usage: [DESTDIR=..] [PREFIX=..] [TARGET=..] ./install.sh [uninstall]' 2 ;;
 esac
 PREFIX=$(absolute "${PREFIX:-/usr/local}")
 DESTDIR=${DESTDIR:+$(absolute "$DESTDIR")}
@@ -51,12 +52,26 @@ if [ $# = 1 ]; then
   exit $status
 fi
 
-LIBRARY=${LIBRARY:-crates/hunk_c/out/libhunk_c.a}
-PROGRAM=${PROGRAM:-crates/hunkinfo/out/hunkinfo}
-CC=${CC:-cc}
+case ${TARGET:-} in
+  '')
+    LIBRARY=${LIBRARY:-crates/hunk_c/out/libhunk_c.a}
+    PROGRAM=${PROGRAM:-crates/hunkinfo/out/hunkinfo}
+    CC=${CC:-cc}
+    library_by='(cd crates/hunk_c && rt lib)'
+    program_by='(cd crates/hunkinfo && rt run < stdin)'
+    ;;
+  aarch64-unknown-linux-gnu)
+    LIBRARY=${LIBRARY:-ports/out/$TARGET/libhunk.a}
+    PROGRAM=${PROGRAM:-ports/out/$TARGET/hunkinfo}
+    CC=${CC:-aarch64-linux-gnu-gcc}
+    library_by="ports/build $TARGET"
+    program_by=$library_by
+    ;;
+  *) lack "nothing is built for $TARGET" 2 ;;
+esac
 command -v "${CC%% *}" > /dev/null || lack "a C compiler, $CC, is needed"
-[ -f "$LIBRARY" ] || lack "$LIBRARY is not there: build it with (cd crates/hunk_c && rt lib)"
-[ -f "$PROGRAM" ] || lack "$PROGRAM is not there: build it with (cd crates/hunkinfo && rt run < stdin)"
+[ -f "$LIBRARY" ] || lack "$LIBRARY is not there: build it with $library_by"
+[ -f "$PROGRAM" ] || lack "$PROGRAM is not there: build it with $program_by"
 case $PREFIX in
   *[\$\#]* | *[[:space:]] | *'
 '*) lack "hunk.pc can't name a PREFIX with a \$, a # or a line end, or with a space at its end" ;;
