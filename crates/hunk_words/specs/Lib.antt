@@ -1,5 +1,6 @@
 pub mod Bits
 pub mod Carriers
+pub mod Classes
 pub mod FaultLines
 pub mod KindNames
 pub mod Limits

@@ -5,6 +5,7 @@
 
 mod assembler;
 mod block_word;
+mod class;
 mod fault;
 mod history;
 mod limits;
@@ -20,6 +21,7 @@ mod source;
 
 pub use crate::assembler::Assembler;
 pub use crate::block_word::{BlockWord, HEADER_WORD, Kind, LIBRARY_WORD, UNIT_WORD};
+pub use crate::class::Class;
 pub use crate::fault::{BlockFault, Fault, FileFault, LoadFault};
 pub use crate::history::History;
 pub use crate::limits::{CONTENT_LIMIT, MOST_HUNKS, NAME_LIMIT};

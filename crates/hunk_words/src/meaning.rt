@@ -10,9 +10,9 @@ impl Reason {
         ensures { result.now ≡ meaning_of self }
     {
         match self {
-            Reason::NotLoadFile => "the first longword is not 3F3: this is no hunk file",
+            Reason::NotLoadFile => "the first longword is not 3F3",
             Reason::IsObject => "a load file is needed, and this is an object file: link it first",
-            Reason::Library => "a library for a linker, LIB or INDEX: libraries are not read",
+            Reason::Library => "a library for a linker, with a LIB or INDEX block",
             Reason::Resident => "the header names resident libraries, as for the first AmigaDOS",
             Reason::NoHunks => "the header has a table of no hunks",
             Reason::TooManyHunks => "the header has a table of more than 65,536 hunks",
@@ -22,9 +22,9 @@ impl Reason {
             }
             Reason::BothBits => "a block word has bits 30 and 31 both set",
             Reason::Advisory => "reserved: no answer has this number",
-            Reason::Overlay => "an OVERLAY block: overlays are not read",
-            Reason::Break => "a BREAK block, which belongs to overlays: these are not read",
-            Reason::ShortReloc => "a block of short relocations, which is not read in load files",
+            Reason::Overlay => "an OVERLAY block, of a file with overlays",
+            Reason::Break => "a BREAK block, of a file with overlays",
+            Reason::ShortReloc => "a block of short relocations, whose offsets have 16 bits",
             Reason::NotInLoadFile => {
                 "a block that only object files have: the file is only partly linked"
             }
@@ -45,7 +45,7 @@ impl Reason {
             Reason::BadTarget => "the target of a relocation is no hunk of the file",
             Reason::BadOffset => "a relocated longword runs past the end of its hunk",
             Reason::ExtKind => "an EXT entry of a type that is not known",
-            Reason::Truncated => "the input ends too soon, inside the file",
+            Reason::Truncated => "the input ends too soon",
             Reason::Budget => "the hunks declare more bytes than the budget allows",
             Reason::FileLimit => {
                 "as many bytes as may be read were read, and the file had not ended"

@@ -2,7 +2,7 @@
 
 use crate::tests::asserts::assert_equal;
 use hunk_words::{
-    Assembler, BlockWord, Failed, Fault, Kind, Memory, Reason, SizeWord, WriteFault, word_at,
+    Assembler, BlockWord, Class, Failed, Fault, Kind, Memory, Reason, SizeWord, WriteFault, word_at,
 };
 use std::alloc::AllocError;
 use std::test::Fail;
@@ -70,6 +70,45 @@ fn reasons(rt: HostRuntime) -> Result<(), Fail> {
         assert_equal(&rt, reason.number(), number);
         assert_equal(&rt, reason.name(), name);
     }
+    Ok(())
+}
+
+/// The classes, with the numbers of their reasons where the place is not 0, and their words.
+const CLASSES: &[(Class, &[u32], &str)] = &[
+    (Class::NoHunkFile, &[1], "no hunk file"),
+    (
+        Class::Unsupported,
+        &[2, 3, 4, 7, 8, 11, 12, 13, 14],
+        "not supported",
+    ),
+    (
+        Class::Damaged,
+        &[5, 6, 9, 15, 16, 17, 18, 19, 20, 21, 22, 23, 24, 25, 26],
+        "damaged",
+    ),
+    (Class::NotJudged, &[10, 27, 28, 29, 30, 31], "not judged"),
+];
+
+/// Whether the class of this reason is the same at byte 4 and at byte 0, and is this one.
+fn has_class(number: u32, class: Class) -> (bool, bool) {
+    let Some(reason) = Reason::from_number(number) else {
+        return (false, false);
+    };
+    let at = |place: u64| Fault { place, reason }.class() == class;
+    (at(4), at(0))
+}
+
+#[test]
+fn classes(rt: HostRuntime) -> Result<(), Fail> {
+    for (class, numbers, words) in CLASSES {
+        for number in *numbers {
+            // Of the input that ends before its first longword nothing is a hunk file.
+            assert_equal(&rt, has_class(*number, *class), (true, *number != 26));
+        }
+        let shown = format!(in rt.alloc(); "{class}")?;
+        assert_equal(&rt, shown.as_str(), *words);
+    }
+    assert_equal(&rt, has_class(26, Class::NoHunkFile), (false, true));
     Ok(())
 }
 
