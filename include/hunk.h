@@ -35,41 +35,75 @@ extern "C" {
  * compiled anew, and calls nothing else. */
 uint32_t hunk_abi(void);
 
-/* The numbers of answers: 0, the number of a reason, HUNK_NO_ROOM or HUNK_STRANGE. */
+/* The numbers of answers: 0, the number of a reason, HUNK_NO_ROOM or HUNK_STRANGE. No call answers
+ * HUNK_ADVISORY, HUNK_FILE_LIMIT, HUNK_READ or HUNK_OUT_OF_MEMORY. */
 #define HUNK_OK UINT32_C(0)
-#define HUNK_NOT_LOAD_FILE UINT32_C(1)        /* the first longword is not 3F3 */
-#define HUNK_IS_OBJECT UINT32_C(2)            /* it is 3E7: an object file */
-#define HUNK_LIBRARY UINT32_C(3)              /* a library hunk, LIB or INDEX */
-#define HUNK_RESIDENT UINT32_C(4)             /* the header names resident libraries */
-#define HUNK_NO_HUNKS UINT32_C(5)             /* the table size is 0 */
-#define HUNK_TOO_MANY_HUNKS UINT32_C(6)       /* the table size is more than 65,536 */
-#define HUNK_FIRST_HUNK UINT32_C(7)           /* the first hunk is not 0 */
-#define HUNK_LAST_HUNK UINT32_C(8)            /* the last hunk is not the table size minus 1 */
-#define HUNK_BOTH_BITS UINT32_C(9)            /* a block word has bits 30 and 31 */
-#define HUNK_ADVISORY UINT32_C(10)            /* reserved: no call answers it */
-#define HUNK_OVERLAY UINT32_C(11)             /* an OVERLAY block */
-#define HUNK_BREAK UINT32_C(12)               /* a BREAK block */
-#define HUNK_SHORT_RELOC UINT32_C(13)         /* a short relocation block */
-#define HUNK_NOT_IN_LOAD_FILE UINT32_C(14)    /* a block that is kept out of load files */
-#define HUNK_MISPLACED UINT32_C(15)           /* a HEADER or UNIT block inside a file */
-#define HUNK_UNKNOWN_BLOCK UINT32_C(16)       /* a block type without a name, not advisory */
-#define HUNK_SECOND_CONTENT UINT32_C(17)      /* a second content block in a hunk */
-#define HUNK_BEFORE_CONTENT UINT32_C(18)      /* relocations or EXT before the content block */
-#define HUNK_NO_CONTENT UINT32_C(19)          /* a hunk ends without a content block */
-#define HUNK_CONTENT_TOO_LONG UINT32_C(20)    /* more content than the hunk is declared to have */
-#define HUNK_NAME_WORD UINT32_C(21)           /* the top byte of a name's length is not 0 */
-#define HUNK_NOTHING_TO_RELOCATE UINT32_C(22) /* a relocation in a hunk of 0 bytes */
-#define HUNK_BAD_TARGET UINT32_C(23)          /* the target is no hunk of the file */
-#define HUNK_BAD_OFFSET UINT32_C(24)          /* the relocated long is not within the hunk */
-#define HUNK_EXT_KIND UINT32_C(25)            /* an entry of an EXT block, of an unknown type */
-#define HUNK_TRUNCATED UINT32_C(26)           /* the bytes end inside the file */
-#define HUNK_BUDGET UINT32_C(27)              /* the hunks declare more bytes than the budget */
-#define HUNK_FILE_LIMIT UINT32_C(28)          /* no call of these answers it */
-#define HUNK_NO_BASE UINT32_C(29)             /* a hunk has no base */
-#define HUNK_READ UINT32_C(30)                /* no call of these answers it */
-#define HUNK_OUT_OF_MEMORY UINT32_C(31)       /* reserved: no call answers it */
-#define HUNK_NO_ROOM UINT32_C(32)             /* the caller's array has too few elements */
-#define HUNK_STRANGE UINT32_C(33)             /* numbers of no loader, or that do not fit */
+/* the first longword is not 3F3 */
+#define HUNK_NOT_LOAD_FILE UINT32_C(1)
+/* a load file is needed, and this is an object file: link it first */
+#define HUNK_IS_OBJECT UINT32_C(2)
+/* a library for a linker, with a LIB or INDEX block */
+#define HUNK_LIBRARY UINT32_C(3)
+/* the header names resident libraries, as for the first AmigaDOS */
+#define HUNK_RESIDENT UINT32_C(4)
+/* the header has a table of no hunks */
+#define HUNK_NO_HUNKS UINT32_C(5)
+/* the header has a table of more than 65,536 hunks */
+#define HUNK_TOO_MANY_HUNKS UINT32_C(6)
+/* the first hunk of the table is not 0 */
+#define HUNK_FIRST_HUNK UINT32_C(7)
+/* the last hunk is not the table size less 1, as in files with overlays */
+#define HUNK_LAST_HUNK UINT32_C(8)
+/* a block word has bits 30 and 31 both set */
+#define HUNK_BOTH_BITS UINT32_C(9)
+/* reserved: no answer has this number */
+#define HUNK_ADVISORY UINT32_C(10)
+/* an OVERLAY block, of a file with overlays */
+#define HUNK_OVERLAY UINT32_C(11)
+/* a BREAK block, of a file with overlays */
+#define HUNK_BREAK UINT32_C(12)
+/* a block of short relocations, whose offsets have 16 bits */
+#define HUNK_SHORT_RELOC UINT32_C(13)
+/* a block that only object files have: the file is only partly linked */
+#define HUNK_NOT_IN_LOAD_FILE UINT32_C(14)
+/* a HEADER or UNIT where none may stand, or a block before the first UNIT */
+#define HUNK_MISPLACED UINT32_C(15)
+/* a type of block that is not known, without the bit of advisory blocks */
+#define HUNK_UNKNOWN_BLOCK UINT32_C(16)
+/* a second CODE, DATA or BSS block in a hunk */
+#define HUNK_SECOND_CONTENT UINT32_C(17)
+/* a relocation or EXT block before the CODE, DATA or BSS block of its hunk */
+#define HUNK_BEFORE_CONTENT UINT32_C(18)
+/* a hunk ends without a CODE, DATA or BSS block */
+#define HUNK_NO_CONTENT UINT32_C(19)
+/* more content than the hunk is declared to have */
+#define HUNK_CONTENT_TOO_LONG UINT32_C(20)
+/* the top byte of the longword with the length of a name is not 0 */
+#define HUNK_NAME_WORD UINT32_C(21)
+/* a relocation in a hunk of 0 bytes */
+#define HUNK_NOTHING_TO_RELOCATE UINT32_C(22)
+/* the target of a relocation is no hunk of the file */
+#define HUNK_BAD_TARGET UINT32_C(23)
+/* a relocated longword runs past the end of its hunk */
+#define HUNK_BAD_OFFSET UINT32_C(24)
+/* an EXT entry of a type that is not known */
+#define HUNK_EXT_KIND UINT32_C(25)
+/* the input ends too soon */
+#define HUNK_TRUNCATED UINT32_C(26)
+/* the hunks declare more bytes than the budget allows */
+#define HUNK_BUDGET UINT32_C(27)
+/* as many bytes as may be read were read, and the file had not ended */
+#define HUNK_FILE_LIMIT UINT32_C(28)
+/* a hunk has no base, or would pass the address 2^32 */
+#define HUNK_NO_BASE UINT32_C(29)
+/* the input could not be read */
+#define HUNK_READ UINT32_C(30)
+/* memory was refused */
+#define HUNK_OUT_OF_MEMORY UINT32_C(31)
+/* the array of the caller has too few elements */
+#define HUNK_NO_ROOM UINT32_C(32)
+/* the numbers are none of a loader, or do not fit */
+#define HUNK_STRANGE UINT32_C(33)
 
 /* What a call answers: 24 bytes. */
 struct hunk_answer {

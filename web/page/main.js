@@ -9,6 +9,7 @@ import { Lists } from "./lists.js";
 import { Many } from "./many.js";
 import { blockColour, blockName, counted, hex, hunkColour, lastAt } from "./names.js";
 import { drawFile, drawMemory } from "./pictures.js";
+import { whyText } from "./reasons.js";
 import { EXAMPLES, MODULES } from "./data.js";
 
 const $ = (id) => document.getElementById(id);
@@ -45,7 +46,7 @@ function showVerdict() {
   const { about } = file;
   $("verdict").className = about.refusal ? "bad" : "good";
   $("verdict").textContent = about.refusal ? refusalText(about) : acceptedText(about);
-  $("why").textContent = about.refusal ? about.refusal.text : "";
+  $("why").textContent = about.refusal ? whyText(about.refusal) : "";
   $("file-name").textContent = `${file.name}, ${counted(file.bytes.length, "byte")}`;
 }
 
@@ -104,7 +105,7 @@ function markOfMemory(file) {
 
 function noMemory(error) {
   if (file.isTooLarge) return "It declares more memory than this page shows.";
-  return `Not loaded: ${error.reason}. ${error.text}`;
+  return `Not loaded: ${error.reason}. ${whyText(error)}`;
 }
 
 function showMemory() {

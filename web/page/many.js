@@ -2,6 +2,7 @@
 
 import { Grid } from "./grid.js";
 import { summary } from "./file.js";
+import { classOf } from "./reasons.js";
 
 const COLUMNS = [
   ["file", "minmax(10em, 2fr)"],
@@ -12,18 +13,19 @@ const COLUMNS = [
   ["declared, findings", "9em", true],
   ["refused at", "6em", true],
   ["reason", "minmax(9em, 1fr)"],
+  ["class", "7em"],
 ];
-const FIELDS = ["file", "bytes", "answer", "kind", "first", "second", "place", "reason", "number"];
+const FIELDS = ["file", "bytes", "answer", "kind", "first", "second", "place", "reason", "class", "number"];
 
 /** A file's line: its fields, in the order of FIELDS. */
 function lineOf(name, bytes, about) {
   if (about.refusal) {
     const { place, reason, number } = about.refusal;
-    return [name, bytes, "refused", about.kind, "", "", place, reason, number];
+    return [name, bytes, "refused", about.kind, "", "", place, reason, classOf(about.refusal), number];
   }
   const counts = about.hunks > 0 ? [about.hunks, about.declared] : [about.units, about.findings];
   const kind = about.hunks > 0 ? "load file" : "object file";
-  return [name, bytes, "accepted", kind, ...counts, "", "", ""];
+  return [name, bytes, "accepted", kind, ...counts, "", "", "", ""];
 }
 
 function compare(one, other) {

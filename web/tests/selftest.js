@@ -32,13 +32,26 @@ function printed(...words) {
   }
 }
 
-const rowsOf = (table) =>
-  readFileSync(`${root}vectors/${table}.tsv`, "utf8")
+const cellsOf = (name) =>
+  readFileSync(root + name, "utf8")
     .split("\n")
     .filter((line) => line && !line.startsWith("#"))
-    .map((line) => line.split("\t"))
+    .map((line) => line.split("\t"));
+
+const rowsOf = (table) =>
+  cellsOf(`vectors/${table}.tsv`)
     .map(([number, name, hex, ...answer]) => ({ number, name, hex, answer: answer.join(" "), table }))
     .filter((row) => row.hex.startsWith("000003e7") === (table === "objects"));
+
+/** What a refusal's class and its meaning are, by its number; of one at byte 0 also by that. */
+const REASONS = Object.fromEntries(
+  cellsOf("docs/reasons.tsv").map(([number, , shown, meaning]) => [number, `${shown}: ${meaning}.`]),
+);
+
+function whyOf(answer) {
+  const [, place, number] = answer.split(" ");
+  return REASONS[`${number} at byte ${place}`] ?? REASONS[number];
+}
 
 const SHOWN = `
   const verdict = document.getElementById("verdict").textContent.replaceAll(",", "");
@@ -126,6 +139,8 @@ async function compareRow(page, row) {
   if (!row.answer.startsWith("accepted")) {
     const marked = await page.in(`return document.querySelectorAll("#file-hex .refused").length`);
     hold(`${row.name}, the bytes that are marked`, 4, marked);
+    const why = await page.in(`return document.getElementById("why").textContent.split("\\n")[0].toLowerCase()`);
+    hold(`${row.name}, why`, whyOf(row.answer).toLowerCase(), why);
     return;
   }
   printed("rewrite", "--strip", path, `${path}.stripped`);
@@ -173,7 +188,7 @@ async function compareMany(page) {
   const text = Buffer.from(await page.saved("save-csv"), "hex").toString();
   const cells = text.split("\r\n").slice(1, -1).map((line) => line.split(","));
   hold("the lines of the table", rows.length, cells.length);
-  for (const [i, [, size, answer, , first, second, place, , number]] of cells.entries()) {
+  for (const [i, [, size, answer, , first, second, place, , , number]] of cells.entries()) {
     const said = answer === "accepted" ? `${size} accepted ${first} ${second}` : `${size} refused ${place} ${number}`;
     hold(`input ${i}`, `${rows[i][3].length / 2} ${rows[i].slice(4).join(" ")}`, said);
   }

@@ -1,4 +1,4 @@
-//! The classes of refusals.
+//! The classes of refusals, as `docs/reasons` writes them of `docs/reasons.tsv`.
 ghost use Rattle.std.specs.Prelude.{◌≡◌, Some};
 ghost use Rattle.hunk_words.specs.Classes.{class_of, words_of_class};
 

@@ -1,4 +1,4 @@
-//! What the reasons of refusals mean.
+//! What the reasons of refusals mean, as `docs/reasons` writes it of `docs/reasons.tsv`.
 ghost use Rattle.std.specs.Prelude.{◌≡◌};
 ghost use Rattle.hunk_words.specs.Meanings.{meaning_of};
 

@@ -1,4 +1,4 @@
-//! The reasons of refusals.
+//! The reasons of refusals. `docs/reasons` writes their numbers and names of `docs/reasons.tsv`.
 ghost use Rattle.std.specs.Prelude.{◌≡◌, ℕ, ◌<◌, ◌⊎◌, Some, MatchOption};
 ghost use Rattle.hunk_words.specs.FaultLines.{reason_line};
 ghost use Rattle.hunk_words.specs.Reasons.{name_of, number_of};
