@@ -61,7 +61,7 @@ impl<'a> Block<'a> {
     /// # Errors
     ///
     /// The longwords are tested in file order, each when it is whole, and the first that is
-    /// rejected is answered. Its place is in bytes from the first byte of the block:
+    /// refused is answered. Its place is in bytes from the first byte of the block:
     ///
     /// - the reason that `Mode::refuse` has for the block word, at 0;
     /// - `NameWord` at a NAME count whose top byte is not 0;

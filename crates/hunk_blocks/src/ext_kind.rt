@@ -8,7 +8,7 @@ use hunk_words::NAME_LIMIT;
 
 /// The type of an EXT entry, with its number and the names of `dos/doshunks.h`.
 ///
-/// RES, number 3, is none of them: AmigaDOS no longer supports it, and it is rejected.
+/// RES, number 3, is none of them: AmigaDOS no longer supports it, and it is refused.
 ///
 /// Source: The AmigaDOS Manual, `dos/doshunks.h`, where no variant says otherwise.
 #[derive(Clone, Copy, Debug, PartialEq, Eq)]

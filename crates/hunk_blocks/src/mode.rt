@@ -14,11 +14,11 @@ pub enum Mode {
 }
 
 impl Mode {
-    /// Why this block word is rejected, wherever the block stands; `None` where it is not.
+    /// Why this block word is refused, wherever the block stands; `None` where it is not.
     ///
     /// Numbers and flags are those of `dos/doshunks.h`. In a load file 3F7 is the short relocation
     /// block of V37's LoadSeg. From V39 of dos an unknown kind with the advisory flag is ignored,
-    /// so it is accepted. To reject both memory bits, overlays, libraries, short relocations and
+    /// so it is accepted. To refuse both memory bits, overlays, libraries, short relocations and
     /// other unknown kinds, and in load files EXT and all relocations but RELOC32, is this
     /// project's own choice.
     #[inline(always)]

@@ -196,7 +196,7 @@ impl Phase {
         }
     }
 
-    /// Why the longword behind a block word is rejected, where it is, in any file.
+    /// Why the longword behind a block word is refused, where it is, in any file.
     #[inline(always)]
     pub fn refuse(self, word: u32) -> Option<Reason>
         ensures { result ≡ refuse_inside (part_at self) word }
@@ -208,7 +208,7 @@ impl Phase {
         }
     }
 
-    /// Why the longword of a block that stands alone is rejected, where it is.
+    /// Why the longword of a block that stands alone is refused, where it is.
     #[inline(always)]
     pub(crate) fn refuse_alone(self, mode: Mode, word: u32) -> Option<Reason>
         ensures { result ≡ refuse_alone mode (part_at self) word }

@@ -14,7 +14,7 @@ pub const OUT_OF_MEMORY: &str = "out of memory\n";
 /// Why a run failed. It is displayed as the line that the program prints, without its end.
 #[derive(Clone, Copy, Debug, PartialEq, Eq)]
 pub enum RunFault {
-    /// The input is rejected, at a place in bytes from its start.
+    /// The input is refused, at a place in bytes from its start.
     Refused(Fault),
     /// Reading failed after `place` bytes of the input.
     Read { place: u64 },
@@ -27,7 +27,7 @@ pub enum RunFault {
 }
 
 impl RunFault {
-    /// The exit status: 1 where the input is rejected, 3 where reading or writing failed, 4 where
+    /// The exit status: 1 where the input is refused, 3 where reading or writing failed, 4 where
     /// memory ran out.
     pub fn status(&self) -> u8
         ensures value { result ≡ status_of self.now }

@@ -25,7 +25,7 @@ use std::alloc::Global;
 ///
 /// The places are in bytes from where the source stood before the call.
 ///
-/// - `Refused` as `load` rejects the file, at the same place: the first fault of the file,
+/// - `Refused` as `load` refuses the file, at the same place: the first fault of the file,
 ///   `Truncated`, `Budget`, `FileLimit`, or `NoBase` for the first hunk that would begin at 2^32 or
 ///   end after it.
 /// - `Read` where the source failed, at the number of bytes read.

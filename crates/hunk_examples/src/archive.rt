@@ -7,7 +7,7 @@ use std::alloc::Global;
 ///
 /// # Errors
 ///
-/// The file is rejected, with the place and the reason, or memory ran out.
+/// The file is refused, with the place and the reason, or memory ran out.
 pub fn describe(alloc: Global, bytes: &[u8]) -> anyhow::Result<String> {
     if sniff(bytes) == Sniff::Object {
         let file = ObjectFile::decode(alloc, bytes)?;

@@ -21,8 +21,8 @@ pub struct Collection {
     pub objects: u64,
     /// Relocations and references of theirs that are outside what they belong to.
     pub findings: u64,
-    /// Files that were rejected.
-    pub rejected: u64,
+    /// Files that were refused.
+    pub refused: u64,
 }
 
 /// What a collection of no files has.
@@ -32,14 +32,14 @@ const NOTHING: Collection = Collection {
     symbols: 0,
     objects: 0,
     findings: 0,
-    rejected: 0,
+    refused: 0,
 };
 
 /// Surveys the files of a folder, each of which is read whole. Folders in it are passed over.
 ///
 /// # Errors
 ///
-/// The folder or a file of it can't be read, or memory ran out. A file that is rejected is counted.
+/// The folder or a file of it can't be read, or memory ran out. A file that is refused is counted.
 pub fn survey_folder<R>(rt: &R, folder: &str) -> anyhow::Result<Collection>
 where
     R: Files + AllocGlobal + Clone + Drop,
@@ -59,7 +59,7 @@ where
 ///
 /// # Errors
 ///
-/// A text spells no bytes, or memory ran out. A file that is rejected is counted.
+/// A text spells no bytes, or memory ran out. A file that is refused is counted.
 pub fn survey(alloc: Global, texts: &[&str]) -> anyhow::Result<Collection> {
     let mut found = NOTHING;
     for text in texts {
@@ -83,7 +83,7 @@ fn add_file(alloc: Global, found: &mut Collection, bytes: &[u8]) -> anyhow::Resu
             found.findings = found.findings.saturating_add(findings.len() as u64);
         }
         Err(fault) if fault.reason == Reason::OutOfMemory => return Err(fault.into()),
-        Err(_) => found.rejected = found.rejected.saturating_add(1),
+        Err(_) => found.refused = found.refused.saturating_add(1),
     }
     Ok(())
 }

@@ -16,7 +16,7 @@ const LIMITS: Limits = Limits {
 ///
 /// # Errors
 ///
-/// The file is rejected, with the place and the reason, or memory ran out.
+/// The file is refused, with the place and the reason, or memory ran out.
 pub fn load_program<R: Read + Drop>(
     alloc: Global,
     file: R,

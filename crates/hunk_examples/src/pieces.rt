@@ -12,7 +12,7 @@ const BUDGET: u64 = 0x0020_0000;
 ///
 /// # Errors
 ///
-/// A piece is rejected, the header or the file goes on after its piece, a hunk has no base, or
+/// A piece is refused, the header or the file goes on after its piece, a hunk has no base, or
 /// memory ran out.
 pub fn load_pieces(
     alloc: Global,

@@ -12,7 +12,7 @@ const FILE_BYTES: u64 = 0x0040_0000;
 ///
 /// # Errors
 ///
-/// Reading failed, the file is rejected, or memory ran out.
+/// Reading failed, the file is refused, or memory ran out.
 pub fn show_file<R: Read + Drop>(alloc: Global, file: R) -> anyhow::Result<Vec<u8>> {
     let mut out = LongWriter::new(FromWrite::new(Vec::new(alloc)));
     show(alloc, &mut FromRead::new(file), &mut out, FILE_BYTES)?;
@@ -24,7 +24,7 @@ pub fn show_file<R: Read + Drop>(alloc: Global, file: R) -> anyhow::Result<Vec<u
 ///
 /// # Errors
 ///
-/// Reading failed, the file is rejected, or memory ran out.
+/// Reading failed, the file is refused, or memory ran out.
 pub fn strip_file<R: Read + Drop>(alloc: Global, file: R) -> anyhow::Result<Vec<u8>> {
     let mut out = LongWriter::new(FromWrite::new(Vec::new(alloc)));
     rewrite(alloc, &mut FromRead::new(file), &mut out, FILE_BYTES, true)?;

@@ -9,7 +9,7 @@ use std::alloc::Global;
 ///
 /// # Errors
 ///
-/// The file is rejected, with the place and the reason; two longwords that are relocated overlap;
+/// The file is refused, with the place and the reason; two longwords that are relocated overlap;
 /// there is not one address for each hunk; or memory ran out.
 pub fn place_in_rom(alloc: Global, bytes: &[u8], bases: &[u32]) -> anyhow::Result<Vec<u8>> {
     let (file, _) = LoadFile::decode(alloc, bytes)?;

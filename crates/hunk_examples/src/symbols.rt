@@ -19,7 +19,7 @@ pub struct Symbol<'a> {
 ///
 /// # Errors
 ///
-/// The file is rejected, with the place and the reason, or memory ran out.
+/// The file is refused, with the place and the reason, or memory ran out.
 pub fn list_symbols<'a>(alloc: Global, bytes: &'a [u8]) -> anyhow::Result<Vec<Symbol<'a>>> {
     let (file, _) = LoadFile::decode(alloc, bytes)?;
     let mut found = Vec::new(alloc);

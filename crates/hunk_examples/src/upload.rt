@@ -8,7 +8,7 @@ use hunk_words::{Reason, word_at};
 ///
 /// # Errors
 ///
-/// Why the first longword that no header has there is rejected.
+/// Why the first longword that no header has there is refused.
 pub fn has_header(front: &[u8]) -> Result<bool, Reason> {
     let mut position = Position::FirstLong;
     for i in 0..front.len() / 4 {

@@ -11,10 +11,10 @@ use hunk_words::{
 };
 
 impl Position {
-    /// Why the longword is rejected, where it is. `longs` is the number of longwords that the open
+    /// Why the longword is refused, where it is. `longs` is the number of longwords that the open
     /// hunk declares; outside the body it is not used.
     ///
-    /// The header is that of The AmigaDOS Manual and `dos/doshunks.h`. To reject resident names,
+    /// The header is that of The AmigaDOS Manual and `dos/doshunks.h`. To refuse resident names,
     /// another first hunk than 0, another last hunk than the table size minus 1, and more hunks
     /// than `MOST_HUNKS` is this project's own choice.
     #[tactic(auto, using(crate::proofs::BlockWords::word_split))]

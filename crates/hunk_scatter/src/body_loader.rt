@@ -55,8 +55,8 @@ impl Model for BodyLoader {
 }
 
 impl BodyLoader {
-    /// Takes the piece as `feed` does, where no longword was rejected before it, and gives the number
-    /// of bytes consumed. Where a longword is rejected, the loader keeps why, so that the answer of
+    /// Takes the piece as `feed` does, where no longword was refused before it, and gives the number
+    /// of bytes consumed. Where a longword is refused, the loader keeps why, so that the answer of
     /// this function, through which each piece goes, stays in a register. It is one function for all
     /// sources of loads.
     #[inline(never)]
@@ -83,7 +83,7 @@ impl BodyLoader {
     ///
     /// Every load file with this table that begins with what was fed has at least as many bytes
     /// more. While a content, a name, a payload or a list of offsets is under way, what is still to
-    /// come of it is wanted at once, up to 256 bytes. No longword that was fed is rejected before
+    /// come of it is wanted at once, up to 256 bytes. No longword that was fed is refused before
     /// `feed` answers that; where this is not 0 and the input ends here, the input is truncated.
     #[inline(always)]
     pub fn want(&self) -> usize
@@ -117,7 +117,7 @@ impl BodyLoader {
     /// # Errors
     ///
     /// The first fault of all that was fed, this piece included, however it was cut. The place is
-    /// the first byte of the longword that is rejected, from the start of the file, or 2^64 - 4
+    /// the first byte of the longword that is refused, from the start of the file, or 2^64 - 4
     /// where that is more. It is never `Truncated` and never `OutOfMemory`.
     ///
     /// Nothing is consumed then: `fed` stays as it was. Each later `feed` answers the same and
@@ -166,7 +166,7 @@ impl BodyLoader {
     }
 
     /// The number of bytes of header and body that were consumed, or 2^64 - 1 where these are more.
-    /// A rejected piece adds none.
+    /// A refused piece adds none.
     pub fn fed(&self) -> u64
         ensures { result ≡ saturated (length self.now.fed) }
     {
@@ -177,7 +177,7 @@ impl BodyLoader {
     ///
     /// # Errors
     ///
-    /// The loader as it was, where the file is not whole or a piece was rejected.
+    /// The loader as it was, where the file is not whole or a piece was refused.
     pub fn finish(self) -> Result<Image, BodyLoader>
         ensures image { IfOk result (λ image. IsImageOf self.rows self.fed image.segments) }
         ensures rows { IfOk result (λ image. image.rows ≡ self.rows) }

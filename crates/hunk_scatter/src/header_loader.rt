@@ -127,7 +127,7 @@ impl HeaderLoader {
     ///
     /// Every header that begins with what was fed has at least as many bytes more. What each one
     /// still has that begins with the longwords fed is wanted at once, up to 256 bytes: a longword
-    /// at least of each row owed. No longword that was fed is rejected before `feed` answers that;
+    /// at least of each row owed. No longword that was fed is refused before `feed` answers that;
     /// where the input ends here, it is truncated.
     pub fn want(&self) -> usize
         ensures bound { result ≤ most_want }
@@ -163,7 +163,7 @@ impl HeaderLoader {
     ///
     /// The place is the first byte of a longword, from the start of the file.
     ///
-    /// - The first fault of all that was fed, this piece included, where a longword is rejected.
+    /// - The first fault of all that was fed, this piece included, where a longword is refused.
     /// - `Budget` at the size word with which the declared bytes first pass the budget.
     /// - `OutOfMemory` at the longword that completes a row, where memory for it is refused. The
     ///   last byte of that longword is in this piece.
@@ -242,7 +242,7 @@ impl HeaderLoader {
     ///
     /// # Errors
     ///
-    /// The loader as it was, where the header is not whole or a piece was rejected.
+    /// The loader as it was, where the header is not whole or a piece was refused.
     pub fn declared(self) -> Result<Declared, HeaderLoader>
         ensures table { IfOk result
             (λ d. IsHeaderTable d.table × (self.fed ≡ header_bytes d.table)) }

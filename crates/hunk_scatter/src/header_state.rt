@@ -45,7 +45,7 @@ fn row(position: Position, word: u32) -> Option<Row>
     }
 }
 
-/// Passes a longword, or answers why it is rejected. Where the caller knows the position, nothing
+/// Passes a longword, or answers why it is refused. Where the caller knows the position, nothing
 /// is compiled of what it does at others.
 #[inline(always)]
 fn pass_at(state: HeaderState, budget: u64, word: u32) -> Result<HeaderState, Reason>
@@ -86,7 +86,7 @@ macro_rules! by_size_word {
     };
 }
 
-/// Passes a longword, or answers why it is rejected: by its own test, or by the budget.
+/// Passes a longword, or answers why it is refused: by its own test, or by the budget.
 #[inline(always)]
 fn pass_header_word(state: HeaderState, budget: u64, word: u32) -> Result<HeaderState, Reason>
     requires goes_on { is_behind_header state.position ≡ false }
@@ -162,7 +162,7 @@ pub struct NoHeader {
 ///
 /// The place is in bytes from the start of the input.
 ///
-/// - Where a longword of the header is rejected: the first fault, at the first byte of its
+/// - Where a longword of the header is refused: the first fault, at the first byte of its
 ///   longword, with the reason.
 /// - `Budget` at the size word with which the declared bytes first pass the budget.
 /// - `Truncated` where the bytes end inside the header, at 4 times the number of whole longwords.

@@ -149,7 +149,7 @@ fn load_body<R: Source>(
 ///
 /// The place is in bytes from where the source stood before the call.
 ///
-/// - The first fault of the file, at the first byte of the longword that is rejected.
+/// - The first fault of the file, at the first byte of the longword that is refused.
 /// - `Truncated` where the source ends inside the file, at 4 times the number of whole longwords.
 /// - `Budget` at the size word with which the declared bytes first pass `limits.budget`, and
 ///   `NoBase`, with the number of the first hunk without a base, at the end of the header: both

@@ -93,7 +93,7 @@ fn add(store: &mut [u8], at: usize, base: u32)
     store[at..at + 4].copy_from_slice(sum.to_be_bytes().as_slice());
 }
 
-/// What the loader does to its store at a longword that is not rejected.
+/// What the loader does to its store at a longword that is not refused.
 #[inline(always)]
 fn store_word(store: &mut [u8], rows: &[Row], state: BodyState, word: u32)
     requires in_store { IsInStore (words_of rows.now) (length store.old) state }
@@ -114,7 +114,7 @@ fn store_word(store: &mut [u8], rows: &[Row], state: BodyState, word: u32)
 }
 
 /// Takes the longword at the front of the piece, this one, and gives its number of bytes, or answers
-/// why it is rejected. The state stands at this position; where the caller knows it, nothing is
+/// why it is refused. The state stands at this position; where the caller knows it, nothing is
 /// compiled of what is done at others.
 #[tactic(auto, using(crate::proofs::BodyFields::few_words))]
 #[inline(always)]
@@ -200,7 +200,7 @@ fn add_all(
 }
 
 /// Takes the offsets that lie whole in the piece, up to the last but one of their list or to the
-/// first that is rejected, and gives their number; `None` where there is none.
+/// first that is refused, and gives their number; `None` where there is none.
 #[inline(always)]
 fn take_offsets(
     store: &mut [u8],

@@ -40,7 +40,7 @@ pub struct Standing {
 pub enum Stop {
     /// The numbers are those of no loader with these rows and this store.
     Strange,
-    /// The input is rejected, at a place in bytes from the start of the file.
+    /// The input is refused, at a place in bytes from the start of the file.
     Refused(LoadFault),
 }
 
@@ -79,7 +79,7 @@ impl Standing {
     /// Whether the file is whole.
     ///
     /// Where a loader stands so, and it is, the store is the segments of the file that was fed, at
-    /// the rows' bases; where it is not, what was fed is cut short, and none of it is rejected.
+    /// the rows' bases; where it is not, what was fed is cut short, and none of it is refused.
     pub fn is_whole(&self) -> bool
         ensures { EndsLoading self.now result }
     {
@@ -118,7 +118,7 @@ impl Standing {
 }
 
 /// The number of bytes of a part that is taken, at least one; or why none is, the reason for which
-/// its longword is rejected, and `None` where the numbers are no loader's.
+/// its longword is refused, and `None` where the numbers are no loader's.
 type Taken = Result<usize, Option<Reason>>;
 
 /// Takes the byte at the front of the piece.
@@ -211,7 +211,7 @@ pub(crate) fn take_all(
 ///
 /// # Errors
 ///
-/// - `Refused` where a longword is rejected. Where the numbers are a loader's, it is the first
+/// - `Refused` where a longword is refused. Where the numbers are a loader's, it is the first
 ///   fault of all that was fed, this piece included, at the first byte of its longword, from the
 ///   start of the file, or at 2^64 - 4 where that is more.
 /// - `Strange` where the numbers are found to be no loader's, since they lead out of the rows or

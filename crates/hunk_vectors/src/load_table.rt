@@ -221,7 +221,7 @@ pub const LOAD_TEXTS: [&str; 55] = [
     LARGEST_DEBUG_COUNT,
 ];
 
-/// The load files of the worked examples, accepted and rejected.
+/// The load files of the worked examples, accepted and refused.
 pub const VECTORS: [Vector; 55] = [
     Vector {
         row: 1,

@@ -61,7 +61,7 @@ pub const OBJECT_TEXTS: [&str; 16] = [
     RELATIVE_REFERENCES,
 ];
 
-/// The object files of the worked examples, accepted and rejected.
+/// The object files of the worked examples, accepted and refused.
 pub const OBJECTS: [ObjectVector; 16] = [
     ObjectVector {
         row: 13,

@@ -5,7 +5,7 @@
 pub enum Want {
     /// The bytes begin with a load file of that many hunks, which declare that many bytes together.
     Accepted { hunks: u32, bytes: u64 },
-    /// The longword at this byte is rejected, for the reason of this number, or the bytes end too
+    /// The longword at this byte is refused, for the reason of this number, or the bytes end too
     /// soon, at 4 times the number of whole longwords (number 26).
     Refused { place: u64, number: u8 },
 }
@@ -15,7 +15,7 @@ pub enum Want {
 pub enum ObjectWant {
     /// The bytes are an object file of that many units, with that many findings.
     Accepted { units: u64, findings: u64 },
-    /// The longword at this byte is rejected, or the bytes end too soon, as in `Want`.
+    /// The longword at this byte is refused, or the bytes end too soon, as in `Want`.
     Refused { place: u64, number: u8 },
 }
 

@@ -120,7 +120,7 @@ impl Kind {
     }
 
     /// Whether it is one of the eight relocation kinds, whose blocks list the offsets that are
-    /// relocated. `Reloc32Short` is none of them, since it is rejected in each file.
+    /// relocated. `Reloc32Short` is none of them, since it is refused in each file.
     ///
     /// Source: The AmigaDOS Manual, `dos/doshunks.h`.
     #[inline(always)]
@@ -211,7 +211,7 @@ impl BlockWord {
     }
 
     /// Whether the flags for chip and for fast memory are both set, for which each block word is
-    /// rejected: this project's own choice.
+    /// refused: this project's own choice.
     #[inline(always)]
     pub fn has_both_memory_bits(self) -> bool
         ensures { result ≡ has_both_bits self }

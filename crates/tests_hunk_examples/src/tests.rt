@@ -212,7 +212,7 @@ fn surveys_the_suite(rt: HostRuntime) -> Result<(), Fail> {
     let files = found
         .programs
         .saturating_add(found.objects)
-        .saturating_add(found.rejected);
+        .saturating_add(found.refused);
     assert_equal(&rt, files, texts.len() as u64);
     Ok(())
 }

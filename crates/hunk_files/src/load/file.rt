@@ -54,7 +54,7 @@ impl<'a> LoadFile<'a> {
     ///
     /// The place is in bytes from the start of the input.
     ///
-    /// - Where a longword is rejected: the first, in file order, that no load file has there, at
+    /// - Where a longword is refused: the first, in file order, that no load file has there, at
     ///   its first byte, with the reason.
     /// - `Truncated` where all whole longwords are those of a load file that goes on, at 4 times
     ///   their number.

@@ -10,7 +10,7 @@ use hunk_words::{BlockWord, NAME_LIMIT, SizeWord, word_at};
 
 /// The longword behind what is passed over at once from `at` on, in a hunk of `declared` longs, and
 /// the position there: rows of the table up to its last, or blocks, all of them whole. Nothing of it
-/// is rejected.
+/// is refused.
 #[inline(always)]
 pub(super) fn pass_over(
     bytes: &[u8],
@@ -48,7 +48,7 @@ pub(super) fn pass_over(
 }
 
 /// The longword behind the blocks that stand from `from` on and end in the bytes, up to the first
-/// that may be rejected in a hunk of `declared` longs of a file of `hunks` hunks; and whether the
+/// that may be refused in a hunk of `declared` longs of a file of `hunks` hunks; and whether the
 /// content block of the hunk came up to there, as `has_content` says of `from`.
 #[inline(never)]
 fn behind_blocks(
@@ -191,7 +191,7 @@ fn behind_rows(bytes: &[u8], from: usize, most: u32) -> (usize, u32)
 }
 
 /// The longword behind the groups that stand from `from` on and the 0 that ends them, where they end
-/// in the bytes and are not rejected in a hunk of `declared` longs of a file of `hunks` hunks.
+/// in the bytes and are not refused in a hunk of `declared` longs of a file of `hunks` hunks.
 #[inline(always)]
 fn behind_groups(bytes: &[u8], from: usize, hunks: u32, declared: u32) -> Option<usize>
     ensures { IfSome result

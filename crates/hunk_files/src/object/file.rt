@@ -48,7 +48,7 @@ impl<'a> ObjectFile<'a> {
     /// # Errors
     ///
     /// The longwords are tested in file order, each when it is whole, and the first that is
-    /// rejected is answered, at its first byte, counted from the start of the input:
+    /// refused is answered, at its first byte, counted from the start of the input:
     ///
     /// - a block word with both memory bits (`BothBits`), OVERLAY (`Overlay`), BREAK (`Break`),
     ///   short relocations (`ShortReloc`), library hunks (`Library`), an unknown block without the

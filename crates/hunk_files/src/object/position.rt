@@ -76,7 +76,7 @@ impl WordPlace {
         }
     }
 
-    /// Why the word that stands here is rejected, where it is.
+    /// Why the word that stands here is refused, where it is.
     #[tactic(auto, using(crate::proofs::ObjectWords::word_split))]
     #[inline(always)]
     fn refuse(self, word: u32) -> Option<Reason>
@@ -138,7 +138,7 @@ fn owe_name(owed: u32) -> ObjectPosition
 }
 
 impl ObjectPosition {
-    /// Why the longword is rejected, where it is.
+    /// Why the longword is refused, where it is.
     ///
     /// A unit's header is that of The AmigaDOS Manual and `dos/doshunks.h`.
     #[tactic(auto, using(crate::proofs::ObjectWords::within_split))]

@@ -54,7 +54,7 @@ fn budget_passes_at(bytes: &[u8]) -> Option<u64> {
 /// The fault that a load has to answer for these bytes, if any, where the decoder of whole files answers this one.
 ///
 /// Longwords are tested in file order, and a row of the table is tested for the budget alone. So a fault of the
-/// header before the row that passes it comes first, and that row before all else: what the decoder rejects after
+/// header before the row that passes it comes first, and that row before all else: what the decoder refuses after
 /// it, an input that ends after it, and a file that the decoder accepts.
 fn wanted(bytes: &[u8], decoded: Option<LoadFault>) -> Option<LoadFault> {
     let Some(place) = budget_passes_at(bytes) else {
@@ -104,14 +104,14 @@ pub fn agrees(alloc: Global, bytes: &[u8], cut: usize) -> Result<bool, AllocErro
     }
 }
 
-/// A place and a reason, where a file is rejected.
+/// A place and a reason, where a file is refused.
 type Answer = Option<(u64, Reason)>;
 
 /// A file, what the decoder answers for it, and what a load has to answer.
 type Row = (&'static str, Answer, Answer);
 
 /// The budget is passed at the first row, which declares 1,004 bytes, or at the second after one of 1,000: in files
-/// that the decoder accepts, or rejects after that row.
+/// that the decoder accepts, or refuses after that row.
 const PASSED: &[Row] = &[
     (
         "3F3 0 1 0 0 FB / 3E9 0 / 3F2",
@@ -146,7 +146,7 @@ const PASSED: &[Row] = &[
 ];
 
 /// It is not: the table ends before, at a block word or at attributes that are more than 1,000 as a size, or the
-/// input does; or a longword of the header is rejected before such a row.
+/// input does; or a longword of the header is refused before such a row.
 const NOT_PASSED: &[Row] = &[
     ("3F3 0 1 0 0 FA / 3E9 0 / 3F2", None, None),
     (ONE_HUNK, None, None),

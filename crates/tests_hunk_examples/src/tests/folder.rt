@@ -58,7 +58,7 @@ fn surveys_a_folder(rt: HostRuntime) -> Result<(), Fail> {
     );
     assert_equal(
         &rt,
-        (found.objects, found.findings, found.rejected),
+        (found.objects, found.findings, found.refused),
         (1, 2, 1),
     );
     assert!(rt; !surveys_none(&rt, &folder)?);
