@@ -1,5 +1,5 @@
 -- The longwords of a part of a list of bytes are a part of its longwords.
-use Rattle.std.proofs.Common.{◌≡◌, ℕ, zero, suc, ◌+◌, ◌-◌, ◌*◌, List, [], ◌∷◌, take, drop, refl, ap, ◌∙◌, arith}
+use Rattle.std.proofs.Common.{◌≡◌, ℕ, zero, suc, ◌-◌, ◌*◌, List, [], ◌∷◌, take, drop, refl, ap, ◌∙◌, arith}
 use Rattle.std.specs.Int.{w32, from_be_bytes}
 use Rattle.hunk_words.specs.Longs.{longs}
 
@@ -24,8 +24,3 @@ longs-drop bytes (suc n) m e = let k : m ≡ suc (suc (suc (suc (4 * n)))) = ome
     go again (a ∷ b ∷ []) = refl
     go again (a ∷ b ∷ c ∷ []) = refl
     go again (a ∷ b ∷ c ∷ d ∷ rest) = again rest
-
--- as `&bytes[4 * at..4 * (at + count)]` has it
-pub longs-part : (bytes : List ℕ) (at count : ℕ) → longs (take (4 * (at + count) - 4 * at) (drop (4 * at) bytes)) ≡ take count (drop at (longs bytes))
-longs-part bytes at count =
-    longs-take (drop (4 * at) bytes) count (4 * (at + count) - 4 * at) (omega arith) ∙ ap (take count) (longs-drop bytes at (4 * at) refl)
