@@ -98,11 +98,6 @@ pub record LeftToFill (hunks : ℕ) (bases : List ℕ) (size : ℕ) (left : List
 module _ {hunks : ℕ} {bases : List ℕ} {size : ℕ} {old : List BlockValue} {memory all : List ℕ} (l : LeftToFill hunks bases size old memory all) where
   -- the next block
   module _ (b : BlockValue) (new : List BlockValue) (is : old ≡ b ∷ new) where
-    pub block_fits : length memory ≡ size → (body : BlockBody) → body ≡ b.body → FitsHunk hunks (length memory / 4) body
-    block_fits long body same =
-        subst (FitsHunk hunks (length memory / 4)) (sym same)
-        (subst (λ (n : ℕ). FitsHunk hunks (n / 4) b.body) (sym long) (subst (AllByRecursion (λ (x : BlockValue). FitsHunk hunks (size / 4) x.body)) is l.each).0)
-
     pub block_filled : (body : BlockBody) (more : List ℕ) → body ≡ b.body → more ≡ filled_by bases memory body → LeftToFill hunks bases size new more all
     block_filled body more same e =
         let on = goes_on bases new memory all l.has b.word b.body (subst (λ (bs : List BlockValue). ComesTo l.has bases bs memory all) is l.comes) in

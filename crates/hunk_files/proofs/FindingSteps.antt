@@ -1,5 +1,5 @@
 -- Findings that are looked for one by one.
-use Rattle.std.proofs.Common.{◌≡◌, ℕ, ◌+◌, true, false, List, [], ◌∷◌, ◌++◌, refl, sym, ap, subst, ◌∙◌, append_assoc, append-nil, Option, Some, None, unwrap_or, arith}
+use Rattle.std.proofs.Common.{◌≡◌, ℕ, ◌+◌, true, false, List, [], ◌∷◌, ◌++◌, refl, sym, ap, subst, ◌∙◌, append_assoc, append-nil, Option, Some, unwrap_or, arith}
 use Rattle.std.specs.List.{fold}
 use Rattle.hunk_blocks.specs.Values.{BlockBody, BlockValue, Name, Code, Data, Bss, Reloc, Ext, Symbol, Debug, Advisory, End, content_bytes}
 use Rattle.hunk_grammar.specs.Standings.{BlockStanding}
@@ -54,15 +54,6 @@ behind_content (Data top ws) n rest e o = o
 behind_content (Bss size) n rest e o = o
 behind_content _ n rest e o = absurd cc
 
-behind_other : (body : BlockBody) (rest : List BlockStanding) → content_bytes body ≡ None → AreInOrder false (standing body ∷ rest) → AreInOrder false rest
-behind_other (Code top ws) rest e o = absurd cc
-behind_other (Data top ws) rest e o = absurd cc
-behind_other (Bss size) rest e o = absurd cc
-behind_other (Reloc gs) rest e o = absurd o
-behind_other (Ext es) rest e o = absurd o
-behind_other End rest e o = absurd o
-behind_other _ rest e o = o
-
 -- Of the blocks of the hunk these are left; the content block is among them.
 abbrev pub ContentLeft : ObjectHunk → List BlockValue → Type 0
 ContentLeft h left = AreInOrder false (standings left) × (hunk_bytes left ≡ hunk_bytes h)
@@ -80,9 +71,3 @@ module _ (h left rest : ObjectHunk) (b : BlockValue) (found : Option ℕ) (first
       let size : content_size b.body ≡ n = ap (λ (o : Option ℕ). unwrap_or o 0) here in
       let all : hunk_bytes (b ∷ rest) ≡ 0 + content_size b.body = no_more_content rest (0 + content_size b.body) (behind_content b.body n (standings rest) here in_order) in
       omega (arith, size, all, bytes_are)
-
-  pub content_behind : found ≡ None → ContentLeft h rest
-  content_behind e =
-      let here : content_bytes b.body ≡ None = sym is ∙ e in
-      let none : 0 + content_size b.body ≡ 0 = omega (arith, ap (λ (o : Option ℕ). unwrap_or o 0) here) in
-      (behind_other b.body (standings rest) here in_order, sym (ap (λ (n : ℕ). bytes_from n rest) none) ∙ bytes_are)

@@ -4,7 +4,6 @@ pub mod BlockCuts
 pub mod BlocksInPlace
 pub mod BlockPlaces
 pub mod Completion
-pub mod ContentBlocks
 mod Examples
 mod FileKinds
 pub mod FileProgress

@@ -10,7 +10,6 @@ use Rattle.hunk_words.specs.Bits.{size_longs, has_both_bits, entry_longs}
 use Rattle.hunk_words.proofs.LongLaws.{longs_fit, length-longs}
 use Rattle.hunk_blocks.specs.Values.{BlockValue}
 use Rattle.hunk_blocks.specs.Faults.{words}
-use Rattle.hunk_blocks.specs.PhaseSteps.{part_at}
 use Rattle.hunk_blocks.specs.declared.phase.Phase.TheVariants as phases
 use Rattle.hunk_blocks.specs.PhaseSteps as inside
 use Rattle.hunk_blocks.proofs.Decoding.{front_bytes}
@@ -19,7 +18,7 @@ use Rattle.hunk_blocks.proofs.Lists.{flat_map-more}
 use Rattle.hunk_grammar.specs.declared.position.Position.{Position}
 use Rattle.hunk_grammar.specs.declared.position.Position.TheVariants as positions
 use Rattle.hunk_grammar.specs.Positions as scan
-use Rattle.hunk_grammar.specs.Positions.{role_at, is_between_hunks, EndsWithin}
+use Rattle.hunk_grammar.specs.Positions.{role_at, is_between_hunks}
 use Rattle.hunk_grammar.specs.Roles.{Role, refuse, Role as roles}
 use Rattle.hunk_files.specs.LoadFile.{TableEntry}
 use Rattle.hunk_files.specs.LoadText.{entry_labelled, hunk_labelled, blocks_labelled, table}

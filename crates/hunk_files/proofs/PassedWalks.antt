@@ -13,7 +13,7 @@ use Rattle.hunk_grammar.specs.declared.phase.OpenHunk as numbers
 use Rattle.hunk_grammar.specs.declared.position.Position.{Position}
 use Rattle.hunk_grammar.specs.declared.position.Position.TheVariants as positions
 use Rattle.hunk_grammar.specs.Positions as scan
-use Rattle.hunk_grammar.specs.Positions.{role_at, is_between_hunks, EndsWithin}
+use Rattle.hunk_grammar.specs.Positions.{role_at, EndsWithin}
 use Rattle.hunk_grammar.specs.Roles.{refuse}
 use Rattle.hunk_grammar.proofs.OffsetRuns.{offset_passes}
 use Rattle.hunk_files.specs.declared.load.walk.Entry.{Entry}

@@ -1,15 +1,14 @@
 -- Texts that stand one after the other have one reading.
-use Rattle.std.proofs.Common.{◌≡◌, ℕ, Bool, true, false, ◌||◌, List, [], ◌∷◌, ◌++◌, map, refl, sym, ap, ap₂, ◌∙◌, append_assoc}
+use Rattle.std.proofs.Common.{◌≡◌, ℕ, Bool, true, false, ◌||◌, List, [], ◌∷◌, ◌++◌, map, refl, ap, ap₂, ◌∙◌}
 use Rattle.std.specs.List.{AllByRecursion}
 use Rattle.std.proofs.lemmas.List.{map-append}
 use Rattle.hunk_blocks.specs.Values.{BlockValue, IsBlock}
-use Rattle.hunk_blocks.specs.Parts.{Part, block_text, block_parts}
+use Rattle.hunk_blocks.specs.Parts.{Part, block_parts}
 use Rattle.hunk_blocks.specs.Faults.{words}
 use Rattle.hunk_files.specs.LoadFile.{HunkValue, IsHunkBlock, AreInOrder, standing, declared_longs}
 use Rattle.hunk_grammar.specs.Standings.{BlockStanding, Beside, Content, Relocating, Ending, is_content, is_ending}
 use Rattle.hunk_grammar.specs.Roles.{Place, Role, InBlock}
 use Rattle.hunk_files.specs.LoadText.{block_labelled, blocks_labelled, hunk_labelled}
-use Rattle.hunk_blocks.proofs.BlockPrefix.{block_same}
 use Rattle.hunk_files.specs.Hunks.{block_texts}
 use Rattle.hunk_files.proofs.FileText.{standings}
 
@@ -30,31 +29,6 @@ order_stops true Ending [] o last = refl
 order_stops true Ending (b ∷ bs) o last = absurd cc
 order_stops false Ending bs o last = absurd o
 order_stops _ _ bs o last = absurd cc
-
--- Such blocks have one reading.
-pub blocks_peel : (xs ys : List BlockValue) (u v : List ℕ) (has k : Bool) → AllByRecursion IsBlock xs → AreInOrder has (standings xs) → AllByRecursion IsBlock ys → AreInOrder k (standings ys) → block_texts xs ++ u ≡ block_texts ys ++ v → (xs ≡ ys) × (u ≡ v)
-blocks_peel [] ys u v has k hx ox hy oy e = absurd ox
-blocks_peel (x ∷ xs) [] u v has k hx ox hy oy e = absurd oy
-blocks_peel (x ∷ xs) (y ∷ ys) u v has k hx ox hy oy e =
-    let split : block_text x ++ (block_texts xs ++ u) ≡ block_text y ++ (block_texts ys ++ v) = sym (append_assoc (block_text x) (block_texts xs) u) ∙ e ∙ append_assoc (block_text y) (block_texts ys) v in
-    let same = block_same x y (block_texts xs ++ u) (block_texts ys ++ v) hx.0 hy.0 split in
-    let alike : is_ending (standing y.body) ≡ is_ending (standing x.body) = ap (λ (b : BlockValue). is_ending (standing b.body)) (sym same.0) in
-    go (is_ending (standing x.body)) refl alike same.0 same.1 (blocks_peel xs ys u v)
-  where
-    go : (ends : Bool) → is_ending (standing x.body) ≡ ends → is_ending (standing y.body) ≡ is_ending (standing x.body) → x ≡ y → block_texts xs ++ u ≡ block_texts ys ++ v →
-        ((a b : Bool) → AllByRecursion IsBlock xs → AreInOrder a (standings xs) → AllByRecursion IsBlock ys → AreInOrder b (standings ys) → block_texts xs ++ u ≡ block_texts ys ++ v → (xs ≡ ys) × (u ≡ v)) →
-        (x ∷ xs ≡ y ∷ ys) × (u ≡ v)
-    go true ends alike same rest more =
-        let none = order_stops has (standing x.body) xs ox ends in
-        let nothing = order_stops k (standing y.body) ys oy (alike ∙ ends) in (
-          ap₂ (λ (b : BlockValue) (bs : List BlockValue). b ∷ bs) same (none ∙ sym nothing),
-          ap (λ (bs : List BlockValue). block_texts bs ++ u) (sym none) ∙ rest ∙ ap (λ (bs : List BlockValue). block_texts bs ++ v) nothing,
-        )
-    go false ends alike same rest more =
-        let a = order_left has (standing x.body) (standings xs) ox ends in
-        let b = order_left k (standing y.body) (standings ys) oy (alike ∙ ends) in
-        let r = more a.0 b.0 hx.1 a.1 hy.1 b.1 rest in
-        (ap₂ (λ (b : BlockValue) (bs : List BlockValue). b ∷ bs) same r.0, r.1)
 
 -- ---- the blocks of a hunk
 

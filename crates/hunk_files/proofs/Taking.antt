@@ -56,9 +56,6 @@ module _ {A : Type 0} (text : A → List ℕ) (all : Placed (List A)) where
     pub split : all.value ≡ done ++ left.value
     pub place : left.place ≡ all.place + 4 * length (flat_map text done)
 
-  pub none_taken : Taken all []
-  none_taken = record { split = refl; place = omega arith }
-
   pub all_taken : (old new : Placed (List A)) (done : List A) (found : Option (Placed A)) → Taken old done → found ≡ None → GivesPart text old found new → (done ≡ all.value) × (new.place ≡ all.place + 4 * length (flat_map text all.value))
   all_taken old new done found t same gives =
       let g : (old.value ≡ []) × (new ≡ old) = subst (λ f. GivesPart text old f new) same gives in

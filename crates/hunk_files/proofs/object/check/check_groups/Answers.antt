@@ -1,15 +1,10 @@
-use Rattle.std.proofs.Common.{◌≡◌, ◌+◌, ℕ, length, subst, arith}
-use Rattle.std.proofs.lemmas.List.{length-map}
-use Rattle.hunk_blocks.specs.Parts.{Offset, Part, group_parts, group_text}
-use Rattle.hunk_blocks.specs.Values.{RelocGroup}
+use Rattle.std.proofs.Common.{ℕ, subst}
+use Rattle.hunk_blocks.specs.Parts.{group_text}
 use Rattle.hunk_blocks.specs.Views.{group_of}
 use Rattle.hunk_files.specs.PlacedFindings.{group_findings_at, groups_findings_at}
 use Rattle.hunk_files.proofs.FindingSteps.{taken_on}
 use Rattle.hunk_files.proofs.PlacedFindingLaws.{item_first}
 use Rattle.hunk_files.proofs.object.check.check_groups.Goals as goal
-
-group_longs : (g : RelocGroup) → length (group_text g) ≡ 2 + length g.offsets
-group_longs g = omega (arith, length-map {B = ℕ} (group_parts g) (λ p. p.1), length-map {B = Part × ℕ} g.offsets (λ w. (Offset, w)))
 
 pub checking-preserved : goal.checking-preserved
 checking-preserved g c =
