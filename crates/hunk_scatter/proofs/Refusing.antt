@@ -1,5 +1,5 @@
 -- The reasons for which a longword of a body, and one of a header, is refused.
-use Rattle.std.proofs.Common.{◌≡◌, ℕ, ◌+◌, Bool, true, false, cond, List, Some, None, Option, refl, subst, ◌==◌}
+use Rattle.std.proofs.Common.{◌≡◌, ℕ, Bool, true, false, cond, List, Some, None, Option, refl, subst, ◌==◌}
 use Rattle.std.specs.Prelude.{IfSome, IsTrue, nat_lt}
 use Rattle.hunk_words.specs.declared.block_word.Kind.{Kind}
 use Rattle.hunk_words.specs.declared.block_word.Kind.TheVariants as kinds
@@ -13,7 +13,7 @@ use Rattle.hunk_grammar.specs.declared.position.Position.TheVariants as position
 use Rattle.hunk_grammar.specs.Positions.{role_at, place, part_at, is_behind_header}
 use Rattle.hunk_scatter.specs.declared.store.BodyState.{BodyState}
 use Rattle.hunk_scatter.specs.BodySteps.{longs_at, refusal, IsInStore}
-use Rattle.hunk_scatter.specs.LoaderReasons.{is_of_body, is_of_header}
+use Rattle.hunk_scatter.specs.LoaderReasons.{is_of_body}
 
 module _ (test : Reason → Bool) where
   abbrev AreOf : Option Reason → Type 0
@@ -48,18 +48,3 @@ role_of_body longs _ w b = absurd cc
 
 pub refused_in_body : (sizes : List ℕ) (total : ℕ) (s : BodyState) (w : ℕ) (r : Reason) → IsInStore sizes total s → refusal sizes s w ≡ Some r → IsTrue (is_of_body r)
 refused_in_body sizes total s w r i e = subst (AreOf is_of_body) e (role_of_body (longs_at sizes s.hunk) s.position w i.in_body)
-
-role_of_header : (p : Position) (w : ℕ) → is_behind_header p ≡ false → AreOf is_of_header (refuse (role_at 0 p) w)
-role_of_header positions.FirstLong w e =
-    chosen is_of_header (w == 0x3F3) None _ tt
-    (chosen is_of_header (w == 0x3E7) (Some reasons.IsObject) _ refl (chosen is_of_header (w == 0x3FA) (Some reasons.Library) (Some reasons.NotLoadFile) refl refl))
-role_of_header positions.ResidentName w e = chosen is_of_header (w == 0) None (Some reasons.Resident) tt refl
-role_of_header positions.TableSize w e =
-    chosen is_of_header (w == 0) (Some reasons.NoHunks) _ refl (chosen is_of_header (nat_lt 65536 w) (Some reasons.TooManyHunks) None refl tt)
-role_of_header (positions.FirstHunk hunks) w e = chosen is_of_header (w == 0) None (Some reasons.FirstHunk) tt refl
-role_of_header (positions.LastHunk hunks) w e = chosen is_of_header (w + 1 == hunks) None (Some reasons.LastHunk) tt refl
-role_of_header (positions.Body o phase) w e = absurd cc
-role_of_header _ w e = tt
-
-pub refused_in_header : (p : Position) (w : ℕ) (r : Reason) → is_behind_header p ≡ false → refuse (role_at 0 p) w ≡ Some r → IsTrue (is_of_header r)
-refused_in_header p w r more e = subst (AreOf is_of_header) e (role_of_header p w more)
