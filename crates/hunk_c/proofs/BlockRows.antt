@@ -1,15 +1,11 @@
 -- What the caller sees of a block.
 use Rattle.std.proofs.Common.{◌≡◌, ℕ, ◌+◌, ◌*◌, List, [], ◌∷◌, length, Some, refl, ap, ap₂, ◌∙◌, arith, length-append}
-use Rattle.std.proofs.lemmas.List.Sums.{sum_by-cons}
-use Rattle.std.proofs.lemmas.List.{length-map}
-use Rattle.hunk_words.specs.Carriers.{saturated}
-use Rattle.hunk_words.specs.Longs.{bytes_of}
+use Rattle.std.proofs.lemmas.{List.Sums.sum_by-cons, List.length-map}
+use Rattle.hunk_words.specs.{Carriers.saturated, Longs.bytes_of}
 use Rattle.hunk_words.proofs.LongLaws.{length-bytes_of}
 use Rattle.hunk_blocks.specs.Parts.{Part, Payload, block_parts, block_text, group_text}
 use Rattle.hunk_blocks.specs.Values.{BlockBody, BlockValue, RelocGroup, offset_count, Name, Code, Data, Bss, Reloc, Ext, Symbol, Debug, Advisory, End}
-use Rattle.hunk_c.specs.Blocks.{Span, payload_of}
-use Rattle.hunk_c.specs.Counting.{Counts}
-use Rattle.hunk_c.specs.Relocations.{Relocated, group_rows, offset_rows}
+use Rattle.hunk_c.specs.{Blocks.{Span, payload_of}, Counting.Counts, Relocations.{Relocated, group_rows, offset_rows}}
 
 -- a count that begins at 0
 pub rows_counted : {Row : Type 0} (n : ℕ) (xs ys : List Row) → Counts 0 xs n → xs ≡ ys → n ≡ saturated (length ys)

@@ -1,24 +1,16 @@
 -- What a check and a strip come to.
 use Rattle.std.proofs.Common.{◌≡◌, ◌≤◌, ◌++◌, ℕ, List, [], ◌∷◌, length, map, drop, refl, sym, ap, ap₂, subst, ◌∙◌, arith, take-append-drop}
-use Rattle.hunk_words.specs.Longs.{longs}
-use Rattle.hunk_words.specs.declared.fault.Fault.{Fault}
+use Rattle.hunk_words.specs.{Longs.longs, declared.fault.Fault.Fault}
 use Rattle.hunk_grammar.specs.FileKind.{sniffed}
-use Rattle.hunk_files.specs.HunkFile.{AreFile, IsFileOf, IsRefusal, file_bytes}
-use Rattle.hunk_files.specs.LoadFile.{LoadFileValue}
-use Rattle.hunk_files.specs.PlacedFindings.{PlacedFinding}
-use Rattle.hunk_files.specs.declared.hunk_file.HunkFile.{HunkFile}
+use Rattle.hunk_files.specs.{HunkFile.{AreFile, IsFileOf, IsRefusal, file_bytes}, LoadFile.LoadFileValue}
+use Rattle.hunk_files.specs.{PlacedFindings.PlacedFinding, declared.hunk_file.HunkFile.HunkFile}
 use Rattle.hunk_files.specs.declared.hunk_file.HunkFile.TheVariants as files
-use Rattle.hunk_c.specs.declared.answer.Answer.{Answer}
-use Rattle.hunk_c.specs.declared.check.FindingRow.{FindingRow}
-use Rattle.hunk_c.specs.Answers.{refused, done}
-use Rattle.hunk_c.specs.Checks as checks
-use Rattle.hunk_c.specs.Checks.{Checks, ChecksWhatFits, finding_row}
-use Rattle.hunk_c.specs.Copying.{Copies}
-use Rattle.hunk_c.specs.Files.{findings_in}
-use Rattle.hunk_c.specs.Strips as strips
+use Rattle.hunk_c.specs.{declared.answer.Answer.Answer, declared.check.FindingRow.FindingRow, Answers.{refused, done}}
+use Rattle.hunk_c.specs.{Checks.{Checks, ChecksWhatFits, finding_row}, Copying.Copies, Files.findings_in}
 use Rattle.hunk_c.specs.Strips.{Strips, StripsWhatFits, stripped_bytes}
-use Rattle.hunk_c.proofs.Loaded.{same_answer}
-use Rattle.hunk_c.proofs.OneFile.{are_file, one_file}
+use Rattle.hunk_c.specs.Checks as checks
+use Rattle.hunk_c.specs.Strips as strips
+use Rattle.hunk_c.proofs.{Loaded.same_answer, OneFile.{are_file, one_file}}
 
 number_is : (a b : Answer) → a ≡ b → a.number ≡ b.number
 number_is a b e = ap (λ (x : Answer). x.number) e

@@ -2,22 +2,17 @@
 use Rattle.std.proofs.Common.{◌≡◌, ℕ, ◌-◌, ◌^◌, ◌≤◌, List, ◌++◌, length, take, drop, sym, ap, ap₂, subst, ◌∙◌, arith, inl, inr}
 use Rattle.std.specs.Prelude.{IsTrue, false}
 use Rattle.std.proofs.lemmas.List.{length-map, length-take-le}
-use Rattle.hunk_words.specs.Longs.{bytes_of}
-use Rattle.hunk_words.specs.declared.fault.Fault.{Fault}
-use Rattle.hunk_words.specs.declared.reason.Reason.{Reason}
+use Rattle.hunk_words.specs.{Longs.bytes_of, declared.fault.Fault.Fault, declared.reason.Reason.Reason}
 use Rattle.hunk_words.specs.declared.reason.Reason.TheVariants as reasons
 use Rattle.hunk_files.specs.Fault.{BeginsWithLoadFile, HasFault, HasRefusal, is_word_refusal}
-use Rattle.hunk_files.specs.Image.{declared_bytes, images}
-use Rattle.hunk_files.specs.LoadFile.{TableEntry, HunkValue}
-use Rattle.hunk_files.specs.LoadText.{table, text}
+use Rattle.hunk_files.specs.{Image.{declared_bytes, images}, LoadFile.{TableEntry, HunkValue}, LoadText.{table, text}}
 use Rattle.hunk_files.proofs.Refusals.{refusal_of_word}
 use Rattle.hunk_scatter.specs.HeaderBytes.{BeginsWithHeader}
 use Rattle.hunk_scatter.specs.HeaderSizes.{HasHeaderInFront, HasHeaderSize, RefusesHeader}
 use Rattle.hunk_scatter.specs.Placing.{Placing, HasBases, IsFirstUnplaced}
 use Rattle.hunk_scatter.specs.declared.header_state.HeaderSize.{HeaderSize}
 use Rattle.hunk_scatter.proofs.TableLimit.{never_passes}
-use Rattle.hunk_c.specs.declared.answer.Answer.{Answer}
-use Rattle.hunk_c.specs.Answers.{refused, done}
+use Rattle.hunk_c.specs.{declared.answer.Answer.Answer, Answers.{refused, done}}
 use Rattle.hunk_c.specs.Loads.{AreBasesOf, IsLoadedInto, IsNotLoaded, HasNoFile, HasNoBase}
 use Rattle.hunk_c.proofs.Succeeding.{file_header, same_header}
 

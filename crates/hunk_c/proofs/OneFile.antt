@@ -3,23 +3,16 @@ use Rattle.std.proofs.Common.{◌≡◌, ℕ, ◌+◌, ◌<◌, ◌≤◌, List,
 use Rattle.std.specs.List.{flat_map}
 use Rattle.hunk_words.specs.Longs.{AreLongs, IsLong, bytes_of, longs}
 use Rattle.hunk_words.proofs.LongLaws.{longs-bytes_of}
-use Rattle.hunk_blocks.specs.Parts.{block_text}
-use Rattle.hunk_blocks.specs.Values.{IsBlock}
-use Rattle.hunk_blocks.proofs.BlockLongs.{block_longs}
-use Rattle.hunk_blocks.proofs.Lists.{All-append}
+use Rattle.hunk_blocks.specs.{Parts.block_text, Values.IsBlock}
+use Rattle.hunk_blocks.proofs.{BlockLongs.block_longs, Lists.All-append}
 use Rattle.hunk_files.specs.Fault.{BeginsWithLoadFile}
 use Rattle.hunk_files.specs.HunkFile.{AreFile, AreObjectFile, IsFileOf, bytes_behind, file_bytes, stripped}
-use Rattle.hunk_files.specs.LoadFile.{LoadFileValue}
-use Rattle.hunk_files.specs.LoadText.{text}
+use Rattle.hunk_files.specs.{LoadFile.LoadFileValue, LoadText.text}
 use Rattle.hunk_files.specs.ObjectFile.{ObjectFileValue, ObjectHunk, UnitValue, IsObjectHunk, IsUnit, object_text, unit_header, unit_text}
 use Rattle.hunk_files.specs.declared.hunk_file.HunkFile.{HunkFile}
 use Rattle.hunk_files.specs.declared.hunk_file.HunkFile.TheVariants as files
-use Rattle.hunk_files.proofs.Accepted.{All-flat_map}
-use Rattle.hunk_files.proofs.UnitCutLaws.{object_value}
-use Rattle.hunk_files.proofs.Scan.{begun_longs, one_front}
-use Rattle.hunk_files.proofs.StripSteps.{shorter}
-use Rattle.hunk_files.proofs.StripText.{bytes_shorter}
-use Rattle.hunk_files.proofs.TableReading.{text_is}
+use Rattle.hunk_files.proofs.{Accepted.All-flat_map, UnitCutLaws.object_value, Scan.{begun_longs, one_front}}
+use Rattle.hunk_files.proofs.{StripSteps.shorter, StripText.bytes_shorter, TableReading.text_is}
 
 -- ---- load files
 

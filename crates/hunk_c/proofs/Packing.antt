@@ -1,26 +1,19 @@
 -- Hunks one right after the other, by a table that is read where it lies.
 use Rattle.std.proofs.Common.{◌≡◌, ℕ, zero, suc, ◌+◌, ◌-◌, ◌*◌, ◌/◌, ◌%◌, ◌^◌, ◌<◌, ◌≤◌, Bool, true, false, List, [], ◌∷◌, ◌++◌, length, take, get_or, set, slice_get, Option, Some, None, refl, sym, ap, ap₂, subst, ◌∙◌, arith, if◌then◌else◌, ltb, inl, inr, ◌⊎◌, nat_le, nat_lt, add-one}
-use Rattle.std.proofs.lemmas.Bool.{ltb-true, ltb-false}
-use Rattle.std.proofs.lemmas.Bool.Decides.{nat_tests}
+use Rattle.std.proofs.lemmas.{Bool.{ltb-true, ltb-false}, Bool.Decides.nat_tests}
 use Rattle.std.proofs.lemmas.List.{get_or-set_other, get_or-set_same, length-take-le}
-use Rattle.hunk_words.specs.Bits.{entry_longs, has_both_bits, size_longs}
-use Rattle.hunk_words.specs.Longs.{longs}
+use Rattle.hunk_words.specs.{Bits.{entry_longs, has_both_bits, size_longs}, Longs.longs}
 use Rattle.hunk_blocks.specs.Cuts.{Cut}
-use Rattle.hunk_files.specs.Cuts.{table_cut}
-use Rattle.hunk_files.specs.Image.{declared_bytes}
-use Rattle.hunk_files.specs.LoadFile.{TableEntry}
-use Rattle.hunk_files.proofs.LoadCuts.{table_cut_is}
-use Rattle.hunk_files.proofs.TableReading.{entries_are}
+use Rattle.hunk_files.specs.{Cuts.table_cut, Image.declared_bytes, LoadFile.TableEntry}
+use Rattle.hunk_files.proofs.{LoadCuts.table_cut_is, TableReading.entries_are}
 use Rattle.hunk_scatter.specs.HeaderBytes.{BeginsWithHeader}
 use Rattle.hunk_scatter.specs.Placing.{AreBases, IsFirstUnplaced, base_at, listed_in, packed_from}
-use Rattle.hunk_scatter.specs.HeaderSizes.{HasHeaderSize}
-use Rattle.hunk_scatter.specs.declared.header_state.HeaderSize.{HeaderSize}
+use Rattle.hunk_scatter.specs.{HeaderSizes.HasHeaderSize, declared.header_state.HeaderSize.HeaderSize}
 use Rattle.hunk_scatter.proofs.DeclaredBytes.{declared-cons}
 use Rattle.hunk_c.specs.declared.packed.Mark.{Mark}
 use Rattle.hunk_c.specs.Packs.{ArePacked, AreMarksTo, AreNearTo, HasRow, IsRow, RowStandsAt, bases_in, hunks_a_mark, most_marks, no_mark, packed_after}
 use Rattle.hunk_c.specs.Loads.{AreBasesOf}
-use Rattle.hunk_c.proofs.Succeeding.{same_header}
-use Rattle.hunk_c.proofs.TableRows.{stands_first, stands_next, entry_is}
+use Rattle.hunk_c.proofs.{Succeeding.same_header, TableRows.{stands_first, stands_next, entry_is}}
 
 -- ---- a table, entry by entry
 

@@ -1,46 +1,26 @@
 -- What a loader in numbers stands for, and what it comes to at the end.
 use Rattle.std.proofs.Common.{◌≡◌, ◌+◌, ◌-◌, ◌*◌, ◌/◌, ◌%◌, ◌<◌, ◌≤◌, ◌==◌, ℕ, zero, suc, Bool, true, false, not, List, [], ◌∷◌, length, take, Option, None, Some, ◌++◌, refl, sym, ap, subst, ◌∙◌, arith, append-nil, inr, length-append, length-take}
-use Rattle.hunk_words.specs.Carriers.{saturated}
-use Rattle.hunk_words.specs.Longs.{bytes_of, IsBytes}
-use Rattle.hunk_words.specs.PendingBytes.{pending_of}
+use Rattle.hunk_words.specs.{Carriers.saturated, Longs.{bytes_of, IsBytes}, PendingBytes.pending_of}
 use Rattle.hunk_words.specs.declared.pending.Pending.{Pending}
 use Rattle.hunk_words.specs.declared.reason.Reason.TheVariants as reasons
-use Rattle.hunk_grammar.specs.Positions.{is_done, onward, pass}
-use Rattle.hunk_grammar.specs.Positions.{behind as ended}
-use Rattle.hunk_grammar.specs.declared.phase.OpenHunk.{OpenHunk}
-use Rattle.hunk_grammar.specs.declared.position.Position.{Position}
+use Rattle.hunk_grammar.specs.{Positions.{is_done, onward, pass, behind as ended}, declared.phase.OpenHunk.OpenHunk}
+use Rattle.hunk_grammar.specs.{declared.position.Position.Position, Roles.Place}
 use Rattle.hunk_grammar.specs.declared.position.Position.TheVariants as positions
-use Rattle.hunk_files.specs.Fault.{HasFault}
-use Rattle.hunk_blocks.specs.BlockSteps.{ForName, ForCode, Counted, Inside, AtCount, AtSize, InPayload}
-use Rattle.hunk_blocks.specs.PhaseSteps.{owe_payload}
-use Rattle.hunk_blocks.specs.ReaderPhase.{phase_of}
-use Rattle.hunk_blocks.specs.declared.phase.Phase.TheVariants as phases
-use Rattle.hunk_blocks.specs.Values.{BlockValue}
-use Rattle.hunk_grammar.specs.Roles.{Place}
-use Rattle.hunk_files.specs.FileSteps.{AtBlock, InBody, Next, More, Finished, place_of}
-use Rattle.hunk_files.specs.Image.{images}
-use Rattle.hunk_files.specs.LoadFile.{LoadFileValue, IsLoadFile}
-use Rattle.hunk_files.specs.LoadText.{table, text}
-use Rattle.hunk_files.specs.ReaderPosition.{IsBehindHeader, block_phase, table_of}
-use Rattle.hunk_files.specs.WordsRead.{HasRead}
+use Rattle.hunk_files.specs.{Fault.HasFault, FileSteps.{AtBlock, InBody, Next, More, Finished, place_of}, Image.images}
+use Rattle.hunk_files.specs.{LoadFile.{LoadFileValue, IsLoadFile}, LoadText.{table, text}}
+use Rattle.hunk_files.specs.{ReaderPosition.{IsBehindHeader, block_phase, table_of}, WordsRead.HasRead}
 use Rattle.hunk_files.specs.declared.row.Row.{Row}
-use Rattle.hunk_files.proofs.FileProgress.{Reads}
-use Rattle.hunk_files.proofs.HunkProgress.{Within}
-use Rattle.hunk_files.proofs.Reading.{read_ended, reads}
-use Rattle.hunk_scatter.specs.BodyLoaderFields.{StandsBehind, EndsWhole}
-use Rattle.hunk_scatter.specs.BodyReader.{state_at, state_of}
-use Rattle.hunk_scatter.specs.LoaderValues.{told_place}
-use Rattle.hunk_scatter.specs.Rows.{bases_of, entries_of}
-use Rattle.hunk_scatter.specs.StoreContent.{StoreHolds}
-use Rattle.hunk_scatter.specs.Streaming.{EndsLoading, IsFed}
-use Rattle.hunk_scatter.specs.declared.store.BodyState.{BodyState}
+use Rattle.hunk_blocks.specs.BlockSteps.{ForName, ForCode, Counted, Inside, AtCount, AtSize, InPayload}
+use Rattle.hunk_blocks.specs.{PhaseSteps.owe_payload, ReaderPhase.phase_of, Values.BlockValue}
+use Rattle.hunk_blocks.specs.declared.phase.Phase.TheVariants as phases
+use Rattle.hunk_files.proofs.{FileProgress.Reads, HunkProgress.Within, Reading.{read_ended, reads}}
+use Rattle.hunk_scatter.specs.{BodyLoaderFields.{StandsBehind, EndsWhole}, BodyReader.{state_at, state_of}}
+use Rattle.hunk_scatter.specs.{LoaderValues.told_place, Rows.{bases_of, entries_of}, StoreContent.StoreHolds}
+use Rattle.hunk_scatter.specs.{Streaming.{EndsLoading, IsFed}, declared.store.BodyState.BodyState}
 use Rattle.hunk_scatter.specs.declared.stream.Standing.{Standing}
-use Rattle.hunk_scatter.proofs.BodyFields.{done_if_whole, fed_more, in_room}
-use Rattle.hunk_scatter.proofs.Forget.{before_is}
-use Rattle.hunk_scatter.proofs.OneByte.{not_done}
+use Rattle.hunk_scatter.proofs.{BodyFields.{done_if_whole, fed_more, in_room}, Forget.before_is, OneByte.not_done}
 use Rattle.hunk_scatter.proofs.WholeLongs.{run_taken}
-use Rattle.hunk_c.specs.declared.loader.Loader.{Loader}
-use Rattle.hunk_c.specs.Answers.{done}
+use Rattle.hunk_c.specs.{declared.loader.Loader.Loader, Answers.done}
 use Rattle.hunk_c.specs.Streams.{IsStreamed, PassesOver, Stands, is_external, loader_position, position_in, standing_at, standing_of, stands_in_body, unused}
 use Rattle.hunk_c.proofs.Loaded.{same_answer}
 

@@ -2,8 +2,7 @@
 use Rattle.std.proofs.Common.{◌≡◌, ℕ, zero, suc, ◌+◌, ◌*◌, ◌<◌, ◌≤◌, Bool, true, false, List, [], ◌∷◌, ◌++◌, length, drop, get_or, Some, refl, sym, ap, subst, ◌∙◌, append_assoc, add-one, arith, if◌then◌else◌}
 use Rattle.std.specs.List.{AllByRecursion, slice_get}
 use Rattle.std.proofs.lemmas.List.{drop-drop, get_or-drop, length-append, length-drop}
-use Rattle.hunk_words.specs.Bits.{has_both_bits}
-use Rattle.hunk_words.specs.Longs.{longs}
+use Rattle.hunk_words.specs.{Bits.has_both_bits, Longs.longs}
 use Rattle.hunk_words.proofs.LongLaws.{longs-bytes_of, length-longs}
 use Rattle.hunk_files.specs.LoadFile.{TableEntry, IsTableEntry}
 use Rattle.hunk_files.proofs.TableReading.{entries_words, entries_more, entry_words}

@@ -1,21 +1,15 @@
 -- What the rows of a table come to: the bytes of its header, and those that it declares.
 use Rattle.std.proofs.Common.{◌≡◌, ℕ, zero, suc, ◌+◌, ◌*◌, ◌^◌, ◌<◌, ◌≤◌, Bool, true, false, List, [], ◌∷◌, length, take, get_or, refl, sym, ap, subst, ◌∙◌, arith}
-use Rattle.std.specs.Prelude.{if◌then◌else◌}
-use Rattle.std.specs.List.{All, AllByRecursion, flat_map, sum_by}
+use Rattle.std.specs.{Prelude.if◌then◌else◌, List.{All, AllByRecursion, flat_map, sum_by}}
 use Rattle.std.proofs.lemmas.List.{length-append, length-map, take_all}
 use Rattle.std.proofs.lemmas.List.Elements.{All-more, All-map, recursion_from_All}
 use Rattle.std.proofs.lemmas.List.Sums.{sum_by-cons, sum_by_more}
-use Rattle.hunk_words.specs.Bits.{entry_longs, has_both_bits, size_longs}
-use Rattle.hunk_words.specs.Limits.{most_hunks}
+use Rattle.hunk_words.specs.{Bits.{entry_longs, has_both_bits, size_longs}, Limits.most_hunks}
 use Rattle.hunk_words.proofs.LongLaws.{length-bytes_of}
 use Rattle.hunk_grammar.specs.Roles.{Role, Role as roles}
-use Rattle.hunk_files.specs.Image.{declared_bytes}
-use Rattle.hunk_files.specs.LoadFile.{IsTableEntry}
-use Rattle.hunk_files.specs.LoadText.{entry_labelled, header_labelled}
-use Rattle.hunk_files.specs.declared.row.Row.{Row}
-use Rattle.hunk_scatter.specs.HeaderBytes.{IsHeaderTable, header_bytes, header_words}
-use Rattle.hunk_files.specs.Tables.{row_entry}
-use Rattle.hunk_scatter.specs.Rows.{entries_of}
+use Rattle.hunk_files.specs.{Image.declared_bytes, LoadFile.IsTableEntry, LoadText.{entry_labelled, header_labelled}}
+use Rattle.hunk_files.specs.{declared.row.Row.Row, Tables.row_entry}
+use Rattle.hunk_scatter.specs.{HeaderBytes.{IsHeaderTable, header_bytes, header_words}, Rows.entries_of}
 use Rattle.hunk_scatter.proofs.DeclaredBytes.{declared_take}
 use Rattle.hunk_c.specs.Streams.{HasSizes}
 

@@ -1,14 +1,9 @@
-use Rattle.std.proofs.Common.{◌≡◌, ℕ, ◌+◌, List, length, sym, ap, subst, ◌∙◌}
+use Rattle.std.proofs.Common.{◌≡◌, ℕ, ◌+◌, List, sym, ap, subst, ◌∙◌}
 use Rattle.hunk_words.specs.Carriers.{saturated}
-use Rattle.hunk_blocks.specs.BodyViews.{HasListAt, viewed}
-use Rattle.hunk_blocks.specs.Parts.{ext_text, symbol_text}
-use Rattle.hunk_blocks.specs.Values.{BlockBody, ExtEntry, RelocGroup, SymbolEntry}
-use Rattle.hunk_blocks.specs.Placed.{Placed}
+use Rattle.hunk_blocks.specs.{BodyViews.{HasListAt, viewed}, Parts.{ext_text, symbol_text}}
+use Rattle.hunk_blocks.specs.{Values.{BlockBody, ExtEntry, SymbolEntry}, Placed.Placed}
 use Rattle.hunk_blocks.specs.declared.body_view.BodyView.{BodyView}
-use Rattle.hunk_c.specs.Blocks.{item_count}
-use Rattle.hunk_c.specs.Entries.{entry_row}
-use Rattle.hunk_c.specs.Listing.{item_rows}
-use Rattle.hunk_c.specs.Relocations.{relocated}
+use Rattle.hunk_c.specs.{Blocks.item_count, Entries.entry_row, Listing.item_rows, Relocations.relocated}
 use Rattle.hunk_c.specs.Symbols.{symbol_row}
 use Rattle.hunk_c.proofs.BlockRows.{length-group_rows, rows_counted}
 use Rattle.hunk_c.proofs.blocks.items.Goals as goal

@@ -1,11 +1,7 @@
 use Rattle.std.proofs.Common.{◌≡◌, ◌++◌, ℕ, List, drop, length, refl, ap₂, ◌∙◌, arith}
 use Rattle.hunk_files.specs.declared.hunk_file.HunkFile.TheVariants as files
-use Rattle.hunk_c.specs.Checks.{HasFindings, HasNoRows}
-use Rattle.hunk_c.specs.declared.check.FindingRow.{FindingRow}
-use Rattle.hunk_c.specs.Files.{findings_in}
-use Rattle.hunk_c.proofs.Checked.{no_rows}
-use Rattle.hunk_c.proofs.Loaded.{same_answer}
-use Rattle.hunk_c.proofs.OneFile.{object_size}
+use Rattle.hunk_c.specs.{Checks.{HasFindings, HasNoRows}, declared.check.FindingRow.FindingRow, Files.findings_in}
+use Rattle.hunk_c.proofs.{Checked.no_rows, Loaded.same_answer, OneFile.object_size}
 use Rattle.hunk_c.proofs.check.check_object.Goals as goal
 
 pub returns-then-count-eq0 : goal.returns-then-count-eq0

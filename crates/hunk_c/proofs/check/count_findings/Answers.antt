@@ -1,8 +1,7 @@
 use Rattle.std.proofs.Common.{arith}
 use Rattle.std.proofs.lemmas.List.{length-map}
 use Rattle.hunk_files.specs.PlacedFindings.{placed_findings}
-use Rattle.hunk_c.specs.Checks.{finding_row}
-use Rattle.hunk_c.specs.declared.check.FindingRow.{FindingRow}
+use Rattle.hunk_c.specs.{Checks.finding_row, declared.check.FindingRow.FindingRow}
 use Rattle.hunk_c.proofs.check.count_findings.Goals as goal
 
 pub returns : goal.returns

@@ -1,8 +1,6 @@
 use Rattle.std.proofs.Common.{◌-◌, length, refl, ap, ◌∙◌, arith}
 use Rattle.hunk_files.specs.FileView.{file_of}
-use Rattle.hunk_c.proofs.Checked.{check_load, check_refused, checks_what_fits}
-use Rattle.hunk_c.proofs.Loaded.{same_answer}
-use Rattle.hunk_c.proofs.OneFile.{file_size}
+use Rattle.hunk_c.proofs.{Checked.{check_load, check_refused, checks_what_fits}, Loaded.same_answer, OneFile.file_size}
 use Rattle.hunk_c.proofs.check.hunk_check.Goals as goal
 
 pub returns-in-Err-clause-outcome : goal.returns-in-Err-clause-outcome

@@ -1,9 +1,7 @@
 use Rattle.std.proofs.Common.{ℕ, [], ◌∷◌, ap, ◌∙◌}
-use Rattle.hunk_blocks.specs.Parts.{ext_text}
-use Rattle.hunk_blocks.specs.Views.{entry_of}
+use Rattle.hunk_blocks.specs.{Parts.ext_text, Views.entry_of}
 use Rattle.hunk_files.proofs.FindingSteps.{taken_on}
-use Rattle.hunk_c.specs.Listing.{item_rows}
-use Rattle.hunk_c.specs.Entries.{entry_row}
+use Rattle.hunk_c.specs.{Listing.item_rows, Entries.entry_row}
 use Rattle.hunk_c.proofs.Items.{item_first}
 use Rattle.hunk_c.proofs.entries.list_entries.Goals as goal
 

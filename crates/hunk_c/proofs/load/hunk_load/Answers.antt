@@ -1,8 +1,6 @@
 use Rattle.std.proofs.Common.{length, refl, arith, inr}
 use Rattle.hunk_scatter.specs.Placing.{listed_in}
-use Rattle.hunk_c.proofs.Loaded.{no_base_for}
-use Rattle.hunk_c.proofs.Packing.{listed_bases, listed_not}
-use Rattle.hunk_c.proofs.Succeeding.{what_fits}
+use Rattle.hunk_c.proofs.{Loaded.no_base_for, Packing.{listed_bases, listed_not}, Succeeding.what_fits}
 use Rattle.hunk_c.proofs.load.hunk_load.Goals as goal
 
 pub returns-in-Err-clause-outcome : goal.returns-in-Err-clause-outcome

@@ -1,8 +1,7 @@
 use Rattle.std.proofs.Common.{refl, subst, sym, inr}
 use Rattle.hunk_scatter.specs.Placing.{packed_from}
 use Rattle.hunk_c.specs.Loads.{AreBasesOf}
-use Rattle.hunk_c.proofs.Loaded.{no_base_for}
-use Rattle.hunk_c.proofs.Succeeding.{what_fits}
+use Rattle.hunk_c.proofs.{Loaded.no_base_for, Succeeding.what_fits}
 use Rattle.hunk_c.proofs.load.hunk_load_packed.Goals as goal
 
 pub returns-in-Err-clause-outcome : goal.returns-in-Err-clause-outcome

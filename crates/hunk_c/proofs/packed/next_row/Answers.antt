@@ -1,7 +1,6 @@
 use Rattle.std.proofs.Common.{take, arith, length-take}
 use Rattle.hunk_scatter.proofs.DeclaredBytes.{declared_limit}
-use Rattle.hunk_c.proofs.Packing.{row_next}
-use Rattle.hunk_c.proofs.TableRows.{word_room, extra_room}
+use Rattle.hunk_c.proofs.{Packing.row_next, TableRows.{word_room, extra_room}}
 use Rattle.hunk_c.proofs.packed.next_row.Goals as goal
 
 pub at-size-requires-clause-word : goal.at-size-requires-clause-word

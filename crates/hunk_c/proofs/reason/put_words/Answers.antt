@@ -1,6 +1,5 @@
 use Rattle.std.proofs.Common.{◌≡◌, ◌++◌, ℕ, List, length, drop, ap, refl, subst}
-use Rattle.hunk_c.specs.Names.{PutsText, HasText, HasNoText}
-use Rattle.hunk_c.specs.declared.answer.Answer.{Answer}
+use Rattle.hunk_c.specs.{Names.{PutsText, HasText, HasNoText}, declared.answer.Answer.Answer}
 use Rattle.hunk_c.proofs.reason.put_words.Goals as goal
 
 -- the words by another name

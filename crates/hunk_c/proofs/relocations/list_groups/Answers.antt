@@ -1,14 +1,8 @@
-use Rattle.std.proofs.Common.{◌≡◌, ◌+◌, ℕ, List, ◌++◌, length, sym, ap, subst, ◌∙◌, arith}
-use Rattle.std.proofs.lemmas.List.{length-map}
-use Rattle.hunk_blocks.specs.Parts.{Offset, Part, group_parts, group_text}
-use Rattle.hunk_blocks.specs.Values.{RelocGroup}
-use Rattle.hunk_blocks.specs.Views.{group_of}
+use Rattle.std.proofs.Common.{◌+◌, ℕ, List, ◌++◌, sym, ap, subst, ◌∙◌}
+use Rattle.hunk_blocks.specs.{Values.RelocGroup, Views.group_of}
 use Rattle.hunk_files.proofs.FindingSteps.{taken_on}
 use Rattle.hunk_c.specs.Relocations.{group_rows, offset_rows}
 use Rattle.hunk_c.proofs.relocations.list_groups.Goals as goal
-
-group_longs : (g : RelocGroup) → length (group_text g) ≡ 2 + length g.offsets
-group_longs g = omega (arith, length-map {B = ℕ} (group_parts g) (λ p. p.1), length-map {B = Part × ℕ} g.offsets (λ w. (Offset, w)))
 
 pub listing-preserved : goal.listing-preserved
 listing-preserved g c =

@@ -1,7 +1,6 @@
 use Rattle.std.proofs.Common.{◌+◌, ℕ, List, [], ◌∷◌, length, sym, ap, ◌∙◌, arith}
 use Rattle.hunk_files.proofs.FindingSteps.{taken_on}
-use Rattle.hunk_c.specs.Relocations.{offset_rows}
-use Rattle.hunk_c.specs.declared.relocations.RelocationRow.{RelocationRow}
+use Rattle.hunk_c.specs.{Relocations.offset_rows, declared.relocations.RelocationRow.RelocationRow}
 use Rattle.hunk_c.proofs.relocations.list_offsets.Goals as goal
 
 pub listing-preserved : goal.listing-preserved

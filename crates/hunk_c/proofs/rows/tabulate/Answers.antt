@@ -2,9 +2,7 @@ use Rattle.std.proofs.Common.{◌≡◌, ◌++◌, ℕ, List, length, drop, refl
 use Rattle.std.proofs.lemmas.List.{length-take-le}
 use Rattle.hunk_files.specs.FileView.{file_of}
 use Rattle.hunk_c.specs.Rows.{HasNoFile, HasNoRoom, HasRows}
-use Rattle.hunk_c.proofs.Loaded.{same_answer}
-use Rattle.hunk_c.proofs.OneFile.{file_size}
-use Rattle.hunk_c.proofs.Tabulated.{counted, lacks, tabulates_what_fits}
+use Rattle.hunk_c.proofs.{Loaded.same_answer, OneFile.file_size, Tabulated.{counted, lacks, tabulates_what_fits}}
 use Rattle.hunk_c.proofs.rows.tabulate.Goals as goal
 
 pub returns-in-Err-clause-outcome : goal.returns-in-Err-clause-outcome

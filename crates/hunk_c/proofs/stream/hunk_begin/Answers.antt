@@ -1,10 +1,7 @@
 use Rattle.std.proofs.Common.{◌≡◌, ℕ, length, refl, ap, subst, ◌∙◌, arith}
-use Rattle.hunk_scatter.specs.HeaderBytes.{header_bytes}
-use Rattle.hunk_scatter.specs.Rows.{entries_of}
-use Rattle.hunk_c.specs.Answers.{done}
-use Rattle.hunk_c.specs.Streams.{HasBegun, LacksRoom, HasSizes}
-use Rattle.hunk_c.proofs.Loaded.{same_answer}
-use Rattle.hunk_c.proofs.Streamed.{behind}
+use Rattle.hunk_scatter.specs.{HeaderBytes.header_bytes, Rows.entries_of}
+use Rattle.hunk_c.specs.{Answers.done, Streams.{HasBegun, LacksRoom, HasSizes}}
+use Rattle.hunk_c.proofs.{Loaded.same_answer, Streamed.behind}
 use Rattle.hunk_c.proofs.stream.hunk_begin.Goals as goal
 
 pub returns-then-room-bytes : goal.returns-then-room-bytes

@@ -1,10 +1,8 @@
 use Rattle.std.proofs.Common.{◌≡◌, ℕ, true, false, Some, refl, sym, ap, subst, ◌∙◌, arith}
 use Rattle.hunk_words.specs.declared.reason.Reason.TheVariants as reasons
 use Rattle.hunk_scatter.specs.Streaming.{EndsLoading}
-use Rattle.hunk_c.specs.Answers.{done, refused}
-use Rattle.hunk_c.specs.Streams.{IsWhole, IsCutShort, IsStreamed, standing_of}
-use Rattle.hunk_c.proofs.Loaded.{same_answer}
-use Rattle.hunk_c.proofs.Streamed.{cut_short, streamed}
+use Rattle.hunk_c.specs.{Answers.{done, refused}, Streams.{IsWhole, IsCutShort, IsStreamed, standing_of}}
+use Rattle.hunk_c.proofs.{Loaded.same_answer, Streamed.{cut_short, streamed}}
 use Rattle.hunk_c.proofs.stream.hunk_end.Goals as goal
 
 pub returns-then-is_whole : goal.returns-then-is_whole

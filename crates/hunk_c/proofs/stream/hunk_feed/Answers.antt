@@ -1,9 +1,7 @@
 use Rattle.std.proofs.Common.{◌≡◌, ◌++◌, length, take, Some, refl, sym, subst, ◌∙◌, arith}
-use Rattle.hunk_scatter.specs.Streaming.{StopsAt, StopsForBody}
-use Rattle.hunk_scatter.specs.declared.stream.Stop.{Stop}
+use Rattle.hunk_scatter.specs.{Streaming.{StopsAt, StopsForBody}, declared.stream.Stop.Stop}
 use Rattle.hunk_c.specs.Streams.{HasTaken, HasRefused, standing_of}
-use Rattle.hunk_c.proofs.Loaded.{same_answer}
-use Rattle.hunk_c.proofs.Streamed.{behind, stands_at}
+use Rattle.hunk_c.proofs.{Loaded.same_answer, Streamed.{behind, stands_at}}
 use Rattle.hunk_c.proofs.stream.hunk_feed.Goals as goal
 
 pub returns-in-Some-pass_payload : goal.returns-in-Some-pass_payload

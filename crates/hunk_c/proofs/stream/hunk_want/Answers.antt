@@ -1,7 +1,6 @@
 use Rattle.std.proofs.Common.{◌≡◌, Some, refl, sym, ◌∙◌, arith}
 use Rattle.hunk_c.specs.Streams.{HasWant, standing_of}
-use Rattle.hunk_c.proofs.Loaded.{same_answer}
-use Rattle.hunk_c.proofs.Streamed.{stands_at}
+use Rattle.hunk_c.proofs.{Loaded.same_answer, Streamed.stands_at}
 use Rattle.hunk_c.proofs.stream.hunk_want.Goals as goal
 
 pub returns : goal.returns

@@ -1,9 +1,7 @@
 use Rattle.std.proofs.Common.{◌++◌, ℕ, drop, refl, ap, ◌∙◌, arith}
 use Rattle.hunk_files.specs.FileView.{file_of}
 use Rattle.hunk_c.specs.Strips.{HasNoText, HasStripped, stripped_bytes}
-use Rattle.hunk_c.proofs.Checked.{strip_refused, strips_what_fits}
-use Rattle.hunk_c.proofs.Loaded.{same_answer}
-use Rattle.hunk_c.proofs.OneFile.{file_size}
+use Rattle.hunk_c.proofs.{Checked.{strip_refused, strips_what_fits}, Loaded.same_answer, OneFile.file_size}
 use Rattle.hunk_c.proofs.strip.hunk_strip.Goals as goal
 
 pub returns-in-Err-clause-outcome : goal.returns-in-Err-clause-outcome

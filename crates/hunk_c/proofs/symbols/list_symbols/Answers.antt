@@ -1,9 +1,7 @@
 use Rattle.std.proofs.Common.{ℕ, [], ◌∷◌, ap, ◌∙◌}
-use Rattle.hunk_blocks.specs.Parts.{symbol_text}
-use Rattle.hunk_blocks.specs.Views.{symbol_of}
+use Rattle.hunk_blocks.specs.{Parts.symbol_text, Views.symbol_of}
 use Rattle.hunk_files.proofs.FindingSteps.{taken_on}
-use Rattle.hunk_c.specs.Listing.{item_rows}
-use Rattle.hunk_c.specs.Symbols.{symbol_row}
+use Rattle.hunk_c.specs.{Listing.item_rows, Symbols.symbol_row}
 use Rattle.hunk_c.proofs.Items.{item_first}
 use Rattle.hunk_c.proofs.symbols.list_symbols.Goals as goal
 

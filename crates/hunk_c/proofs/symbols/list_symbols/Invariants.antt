@@ -1,8 +1,7 @@
 use Rattle.std.proofs.Common.{◌≡◌, length}
 use Rattle.hunk_blocks.specs.Parts.{symbol_text}
 use Rattle.hunk_files.proofs.FindingSteps.{TakenUpTo}
-use Rattle.hunk_c.specs.Listing.{item_rows}
-use Rattle.hunk_c.specs.Symbols.{symbol_row}
+use Rattle.hunk_c.specs.{Listing.item_rows, Symbols.symbol_row}
 use Rattle.hunk_c.proofs.symbols.list_symbols.Given as goal
 
 abbrev pub invariant-listing : goal.invariant-listing

@@ -1,6 +1,5 @@
 use Rattle.std.proofs.Common.{◌++◌, ℕ, List, drop, refl, ap, ap₂, ◌∙◌, arith, length-take}
-use Rattle.hunk_c.specs.declared.answer.Answer.{Answer}
-use Rattle.hunk_c.specs.Tables.{HasTable, HasNoRows, HasNoTable}
+use Rattle.hunk_c.specs.{declared.answer.Answer.Answer, Tables.{HasTable, HasNoRows, HasNoTable}}
 use Rattle.hunk_c.specs.declared.table.TableRow.{TableRow}
 use Rattle.hunk_c.proofs.Loaded.{same_answer}
 use Rattle.hunk_c.proofs.table.hunk_table.Goals as goal

@@ -1,7 +1,6 @@
 use Rattle.std.proofs.Common.{◌+◌, ◌<◌, ℕ, length, refl, sym, subst, arith}
-use Rattle.hunk_c.specs.Tables.{table_row}
+use Rattle.hunk_c.specs.{Tables.table_row, Packs.RowStandsAt}
 use Rattle.hunk_c.proofs.Filling.{filled_more, filled_all}
-use Rattle.hunk_c.specs.Packs.{RowStandsAt}
 use Rattle.hunk_c.proofs.TableRows.{stands_first, word_room, extra_room, entry_is, stands_next}
 use Rattle.hunk_c.proofs.table.put_rows.Goals as goal
 

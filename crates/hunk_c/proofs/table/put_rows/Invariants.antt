@@ -1,9 +1,8 @@
 use Rattle.std.specs.Prelude.{◌≡◌, List, length}
 use Rattle.hunk_files.specs.LoadFile.{TableEntry}
 use Rattle.hunk_scatter.specs.HeaderBytes.{BeginsWithHeader}
-use Rattle.hunk_c.specs.Tables.{table_row}
+use Rattle.hunk_c.specs.{Tables.table_row, Packs.RowStandsAt}
 use Rattle.hunk_c.proofs.Filling.{AreFilledTo}
-use Rattle.hunk_c.specs.Packs.{RowStandsAt}
 use Rattle.hunk_c.proofs.table.put_rows.Given as goal
 
 abbrev pub invariant-rows : goal.invariant-rows

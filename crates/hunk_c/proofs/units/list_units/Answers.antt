@@ -2,8 +2,7 @@ use Rattle.std.proofs.Common.{◌≡◌, ◌+◌, ◌*◌, ℕ, [], ◌∷◌, l
 use Rattle.hunk_blocks.specs.Placed.{GivesFirst, Placed}
 use Rattle.hunk_files.specs.ObjectFile.{ObjectFileValue, UnitValue, unit_text}
 use Rattle.hunk_files.proofs.FindingSteps.{taken_on}
-use Rattle.hunk_c.specs.Listing.{item_rows}
-use Rattle.hunk_c.specs.Units.{unit_row}
+use Rattle.hunk_c.specs.{Listing.item_rows, Units.unit_row}
 use Rattle.hunk_c.proofs.Items.{item_first}
 use Rattle.hunk_c.proofs.units.list_units.Goals as goal
 

@@ -1,7 +1,6 @@
 use Rattle.hunk_files.specs.ObjectFile.{unit_text}
 use Rattle.hunk_files.proofs.FindingSteps.{TakenUpTo}
-use Rattle.hunk_c.specs.Listing.{item_rows}
-use Rattle.hunk_c.specs.Units.{unit_row}
+use Rattle.hunk_c.specs.{Listing.item_rows, Units.unit_row}
 use Rattle.hunk_c.proofs.units.list_units.Given as goal
 
 abbrev pub invariant-listing : goal.invariant-listing
