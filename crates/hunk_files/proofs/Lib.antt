@@ -6,6 +6,7 @@ pub mod BlockPlaces
 pub mod Completion
 mod Examples
 mod FileKinds
+mod FileParts
 pub mod FileProgress
 pub mod FileText
 pub mod FileViews
@@ -20,6 +21,7 @@ pub mod HunksInPlace
 pub mod Least
 pub mod LoadCuts
 pub mod LoadKeeping
+mod LoadParts
 pub mod Machines
 pub mod Memory
 pub mod Positions
@@ -56,6 +58,7 @@ pub mod PlaceLaws
 pub mod PlacedFindingLaws
 pub mod PlacedOffsets
 mod UnitKeeping
+mod UnitParts
 mod HunkKeeping
 mod ObjectViewLaws
 mod UnitViewLaws

@@ -8,13 +8,13 @@ use Rattle.hunk_blocks.specs.Faults.{Expects, IsFront}
 use Rattle.hunk_blocks.proofs.Outcomes.{Keeps, run, leads_run, front, judged, completed}
 use Rattle.hunk_files.specs.ObjectFile.{ObjectFileValue, IsObjectFile, IsNoObjectFile, object_text}
 use Rattle.hunk_files.specs.ObjectFault.{BeforeUnits, BetweenHunks, InHunk, ObjectRole, units_labelled, refuse_object, objects, HasObjectFault}
-use Rattle.hunk_files.proofs.ObjectProgress.{SoFar, expected, goes_on, never, whole_units}
+use Rattle.hunk_files.proofs.ObjectProgress.{SoFar, begins, expected, goes_on, never, whole_units}
 use Rattle.hunk_files.proofs.OneObjectFault.{ObjectState, AtWord, AtCount, InName, InBlock, reader, object_reads, file_leads}
 use Rattle.hunk_files.proofs.UnitFaults.{units_words}
 use Rattle.hunk_files.proofs.UnitReading.{object_longs, text_longs}
 
 unfoldable pub keeps : Keeps objects reader
-keeps = record { SoFar = SoFar; begins = refl; expects = expected; goes_on = goes_on; ends = λ s before h e. absurd (never s e) }
+keeps = record { SoFar = SoFar; begins = begins; expects = expected; goes_on = goes_on; ends = λ s before h e. absurd (never s e) }
 
 -- The longwords of an object file lead between hunks, and nowhere else.
 pub leads_there : (bytes : List ℕ) (o : ObjectFileValue) → IsObjectFile o → bytes ≡ bytes_of (object_text o) → run reader (AtWord BeforeUnits) (longs bytes) ≡ AtWord BetweenHunks
@@ -47,7 +47,7 @@ module _ (bytes : List ℕ) (fit : IsBytes bytes) where
     where
       go : (over : List ℕ) → length over < 4 → bytes ≡ bytes_of (longs bytes) ++ over → Outcome bytes
       go [] few split =
-          let o = whole_units (longs bytes) h in
+          let o = whole_units h.0 h.1 (longs bytes) h.2 in
           inl (o.0, o.1, split ∙ append-nil (bytes_of (longs bytes)) ∙ ap bytes_of o.2)
       go (b ∷ over) few split = cut_short (AtWord BetweenHunks) h (over_none bytes (b ∷ over) (longs bytes) split (omega arith) few)
 

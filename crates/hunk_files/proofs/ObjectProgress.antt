@@ -31,8 +31,9 @@ use Rattle.hunk_files.proofs.UnitReading.{unit}
 
 -- ---- what is read so far
 
--- Units, a unit with its hunks, the blocks of the open hunk, and what was read behind them.
-pub record InUnit (place : WordPlace) (ws tail : List ℕ) : Type 0 where
+-- Units, a unit with its hunks, the blocks of the open hunk, and what was read behind them: so many units began, and so
+-- many parts of the last are whole, its name and hunks.
+pub record InUnit (place : WordPlace) (begun whole : ℕ) (ws tail : List ℕ) : Type 0 where
   pub units : ObjectFileValue
   pub unit_open : UnitValue
   pub blocks : ObjectHunk
@@ -42,65 +43,107 @@ pub record InUnit (place : WordPlace) (ws tail : List ℕ) : Type 0 where
   pub leads : Leads false (standings blocks) (has_content place)
   pub place_is : place_behind BetweenHunks blocks ≡ place
   pub words_are : ws ≡ object_text units ++ (unit_text unit_open ++ (flat_map block_text blocks ++ tail))
+  pub begun_are : begun ≡ suc (length units)
+  pub whole_are : whole ≡ suc (length unit_open.hunks)
 
--- units, and what was read behind them
-pub record BehindUnits (ws tail : List ℕ) : Type 0 where
+-- units, and what was read of the next, whose name is not whole
+pub record BehindUnits (begun whole : ℕ) (ws tail : List ℕ) : Type 0 where
   pub units : ObjectFileValue
   pub are_units : AllByRecursion IsUnit units
   pub words_are : ws ≡ object_text units ++ tail
+  pub begun_are : begun ≡ suc (length units)
+  pub none_whole : whole ≡ 0
 
 -- the longwords of a name, and how many are to come behind the next
-pub record InUnitName (owed : ℕ) (ws : List ℕ) : Type 0 where
+pub record InUnitName (owed begun whole : ℕ) (ws : List ℕ) : Type 0 where
   pub name : List ℕ
   pub count : ℕ
   pub name_fits : AreLongs name
   pub few : count < 2 ^ 24
   pub counts : count ≡ length name + suc owed
-  pub behind : BehindUnits ws (unit_word ∷ count ∷ name)
+  pub behind : BehindUnits begun whole ws (unit_word ∷ count ∷ name)
 
-pub record InUnitBlock (next : WordPlace) (x : Inside) (ws : List ℕ) : Type 0 where
+pub record InUnitBlock (next : WordPlace) (x : Inside) (begun whole : ℕ) (ws : List ℕ) : Type 0 where
   pub place : WordPlace
   pub word : ℕ
   pub tail : List ℕ
-  pub in_unit : InUnit place ws tail
+  pub in_unit : InUnit place begun whole ws tail
   pub inner : Inner modes.Object (Open x) word tail
   pub stands : refuse_place place (standing_of_kind (kind word)) ≡ None
   pub next_is : place_next place (standing_of_kind (kind word)) ≡ next
 
-abbrev SoFarAt : WordPlace → List ℕ → Type 0
-SoFarAt BeforeUnits ws = ws ≡ []
-SoFarAt BetweenHunks ws = InUnit BetweenHunks ws []
-SoFarAt (InHunk has) ws = InUnit (InHunk has) ws []
+abbrev pub CountedAt : WordPlace → ℕ → ℕ → List ℕ → Type 0
+CountedAt BeforeUnits begun whole ws = (ws ≡ []) × (begun ≡ 0) × (whole ≡ 0)
+CountedAt BetweenHunks begun whole ws = InUnit BetweenHunks begun whole ws []
+CountedAt (InHunk has) begun whole ws = InUnit (InHunk has) begun whole ws []
 
-abbrev pub SoFar : ObjectState → List ℕ → Type 0
-SoFar (AtWord place) ws = SoFarAt place ws
-SoFar AtCount ws = BehindUnits ws (unit_word ∷ [])
-SoFar (InName owed) ws = InUnitName owed ws
-SoFar (InBlock next x) ws = InUnitBlock next x ws
+-- These longwords lead to the state, with so many units begun, and so many parts of the last whole.
+abbrev pub Counted : ObjectState → ℕ → ℕ → List ℕ → Type 0
+Counted (AtWord place) begun whole ws = CountedAt place begun whole ws
+Counted AtCount begun whole ws = BehindUnits begun whole ws (unit_word ∷ [])
+Counted (InName owed) begun whole ws = InUnitName owed begun whole ws
+Counted (InBlock next x) begun whole ws = InUnitBlock next x begun whole ws
+
+-- The state is new: behind a unit's word a unit has begun, and between hunks one part more is whole.
+abbrev pub Reached : ObjectState → ℕ → ℕ → List ℕ → Type 0
+Reached (AtWord BeforeUnits) begun whole ws = CountedAt BeforeUnits begun whole ws
+Reached (AtWord BetweenHunks) begun whole ws = CountedAt BetweenHunks begun (suc whole) ws
+Reached (AtWord (InHunk has)) begun whole ws = CountedAt (InHunk has) begun whole ws
+Reached AtCount begun whole ws = Counted AtCount (suc begun) 0 ws
+Reached (InName owed) begun whole ws = Counted (InName owed) begun whole ws
+Reached (InBlock next x) begun whole ws = Counted (InBlock next x) begun whole ws
 
 -- ---- it is completed
 
-in_file : (ws tail : List ℕ) (role : ObjectRole) → (h : BehindUnits ws tail) → Expects (units_from (place_after h.units)) tail role → Expects objects ws role
-in_file ws tail role h e = subst (λ ys. Expects objects ys role) (sym h.words_are) (expects_units h.units h.are_units tail role e)
+-- The open hunk goes on by this role.
+pub record InOpen (begun whole : ℕ) (ws : List ℕ) (role : ObjectRole) : Type 0 where
+  pub units : ObjectFileValue
+  pub unit_open : UnitValue
+  pub front : List ℕ
+  pub are_units : AllByRecursion IsUnit units
+  pub is_unit : IsUnit unit_open
+  pub split : ws ≡ object_text units ++ (unit_text unit_open ++ front)
+  pub goes_on : Expects (blocks_from BetweenHunks) front role
+  pub begun_are : begun ≡ suc (length units)
+  pub whole_are : whole ≡ suc (length unit_open.hunks)
 
-in_open : (place : WordPlace) (ws tail : List ℕ) (role : ObjectRole) → InUnit place ws tail → Expects (blocks_from place) tail role → Expects objects ws role
-in_open place ws tail role h e =
+in_file : (ws tail : List ℕ) (role : ObjectRole) (units : ObjectFileValue) → AllByRecursion IsUnit units → ws ≡ object_text units ++ tail → Expects (units_from (place_after units)) tail role → Expects objects ws role
+in_file ws tail role units are split e = subst (λ ys. Expects objects ys role) (sym split) (expects_units units are tail role e)
+
+in_open : (place : WordPlace) (begun whole : ℕ) (ws tail : List ℕ) (role : ObjectRole) → InUnit place begun whole ws tail → Expects (blocks_from place) tail role → InOpen begun whole ws role
+in_open place begun whole ws tail role h e =
     let here = subst (λ (p : WordPlace). Expects (blocks_from p) tail role) (sym h.place_is) e in
-    let hunk = expects_behind h.blocks (has_content place) h.are_blocks h.leads tail role here in
-    in_file ws (unit_text h.unit_open ++ (flat_map block_text h.blocks ++ tail)) role
-    (record { units = h.units; are_units = h.are_units; words_are = h.words_are })
-    (expects_hunk (place_after h.units) h.unit_open h.is_unit (flat_map block_text h.blocks ++ tail) role hunk)
+    record {
+      units = h.units;
+      unit_open = h.unit_open;
+      front = flat_map block_text h.blocks ++ tail;
+      are_units = h.are_units;
+      is_unit = h.is_unit;
+      split = h.words_are;
+      goes_on = expects_behind h.blocks (has_content place) h.are_blocks h.leads tail role here;
+      begun_are = h.begun_are;
+      whole_are = h.whole_are;
+    }
 
-word_expected : (place : WordPlace) (ws : List ℕ) → SoFarAt place ws → Expects objects ws (WordAt place)
-word_expected BeforeUnits ws h = subst (λ ys. Expects objects ys (WordAt BeforeUnits)) (sym h) (expects_unit BeforeUnits)
-word_expected BetweenHunks ws h = in_open BetweenHunks ws [] (WordAt BetweenHunks) h (expects_block BetweenHunks [] (WordAt BetweenHunks) (expects_word BetweenHunks))
-word_expected (InHunk has) ws h = in_open (InHunk has) ws [] (WordAt (InHunk has)) h (expects_block (InHunk has) [] (WordAt (InHunk has)) (expects_word (InHunk has)))
+open_expects : (begun whole : ℕ) (ws : List ℕ) (role : ObjectRole) → InOpen begun whole ws role → Expects objects ws role
+open_expects begun whole ws role h =
+    in_file ws (unit_text h.unit_open ++ h.front) role h.units h.are_units h.split
+    (expects_hunk (place_after h.units) h.unit_open h.is_unit h.front role h.goes_on)
 
-zeros : ℕ → List ℕ
+-- in a unit, a block word is expected
+pub word_open : (place : WordPlace) (begun whole : ℕ) (ws : List ℕ) → InUnit place begun whole ws [] → InOpen begun whole ws (WordAt place)
+word_open place begun whole ws h = in_open place begun whole ws [] (WordAt place) h (expects_block place [] (WordAt place) (expects_word place))
+
+word_expected : (place : WordPlace) (begun whole : ℕ) (ws : List ℕ) → CountedAt place begun whole ws → Expects objects ws (WordAt place)
+word_expected BeforeUnits begun whole ws h = subst (λ ys. Expects objects ys (WordAt BeforeUnits)) (sym h.0) (expects_unit BeforeUnits)
+word_expected BetweenHunks begun whole ws h = open_expects begun whole ws (WordAt BetweenHunks) (word_open BetweenHunks begun whole ws h)
+word_expected (InHunk has) begun whole ws h = open_expects begun whole ws (WordAt (InHunk has)) (word_open (InHunk has) begun whole ws h)
+
+pub zeros : ℕ → List ℕ
 zeros zero = []
 zeros (suc n) = 0 ∷ zeros n
 
-zeros_fit : (n : ℕ) → AreLongs (zeros n) × (length (zeros n) ≡ n)
+pub zeros_fit : (n : ℕ) → AreLongs (zeros n) × (length (zeros n) ≡ n)
 unfolding zeros
 zeros_fit zero = (tt, refl)
 zeros_fit (suc n) = let z = zeros_fit n in ((omega arith, z.0), omega (arith, z.1))
@@ -134,20 +177,21 @@ standing_goes BeforeUnits s ok = absurd cc
 standing_goes BetweenHunks s ok = ok
 standing_goes (InHunk has) s ok = ok
 
-inside_expected : (next : WordPlace) (x : Inside) (ws : List ℕ) → InUnitBlock next x ws → Expects objects ws (Within (part_of x))
-inside_expected next x ws h =
+-- and inside a block the part of it
+pub inside_open : (next : WordPlace) (x : Inside) (begun whole : ℕ) (ws : List ℕ) → InUnitBlock next x begun whole ws → InOpen begun whole ws (Within (part_of x))
+inside_open next x begun whole ws h =
     let before : List ℕ = words (read_inside x) in
     let alone : Expects (blocks modes.Object) (h.word ∷ before) (part_of x) = subst (λ ys. Expects (blocks modes.Object) ys (part_of x)) h.inner.words_are (expects_inside modes.Object x h.word h.tail h.inner) in
     let here : Expects (blocks_at h.place) (h.word ∷ before) (object_role_at h.place (part_of x)) = (expects_within h.place h.word (standing_goes h.place (standing_of_kind (kind h.word)) h.stands) before (part_of x) alone).0 in
     let within = subst (Expects (blocks_at h.place) (h.word ∷ before)) (within_role h.place (part_of x) (part_not_word x)) here in
-    in_open h.place ws h.tail (Within (part_of x)) h.in_unit
+    in_open h.place begun whole ws h.tail (Within (part_of x)) h.in_unit
     (expects_block h.place h.tail (Within (part_of x)) (subst (λ ys. Expects (blocks_at h.place) ys (Within (part_of x))) (sym h.inner.words_are) within))
 
 -- ---- it goes on
 
 -- one longword more behind the blocks
-read_more : (place : WordPlace) (ws tail : List ℕ) (w : ℕ) → InUnit place ws tail → InUnit place (ws ++ w ∷ []) (tail ++ w ∷ [])
-read_more place ws tail w h =
+read_more : (place : WordPlace) (begun whole : ℕ) (ws tail : List ℕ) (w : ℕ) → InUnit place begun whole ws tail → InUnit place begun whole (ws ++ w ∷ []) (tail ++ w ∷ [])
+read_more place begun whole ws tail w h =
     record {
       units = h.units;
       unit_open = h.unit_open;
@@ -161,11 +205,19 @@ read_more place ws tail w h =
           ap (λ ys. ys ++ w ∷ []) h.words_are
           ∙ append_assoc (object_text h.units) (unit_text h.unit_open ++ (flat_map block_text h.blocks ++ tail)) (w ∷ [])
           ∙ ap (λ ys. object_text h.units ++ ys) (append_assoc (unit_text h.unit_open) (flat_map block_text h.blocks ++ tail) (w ∷ []) ∙ ap (λ ys. unit_text h.unit_open ++ ys) (append_assoc (flat_map block_text h.blocks) tail (w ∷ [])));
+      begun_are = h.begun_are;
+      whole_are = h.whole_are;
     }
 
-units_more : (ws tail : List ℕ) (w : ℕ) → BehindUnits ws tail → BehindUnits (ws ++ w ∷ []) (tail ++ w ∷ [])
-units_more ws tail w h =
-    record { units = h.units; are_units = h.are_units; words_are = ap (λ ys. ys ++ w ∷ []) h.words_are ∙ append_assoc (object_text h.units) tail (w ∷ []) }
+units_more : (begun whole : ℕ) (ws tail : List ℕ) (w : ℕ) → BehindUnits begun whole ws tail → BehindUnits begun whole (ws ++ w ∷ []) (tail ++ w ∷ [])
+units_more begun whole ws tail w h =
+    record {
+      units = h.units;
+      are_units = h.are_units;
+      words_are = ap (λ ys. ys ++ w ∷ []) h.words_are ∙ append_assoc (object_text h.units) tail (w ∷ []);
+      begun_are = h.begun_are;
+      none_whole = h.none_whole;
+    }
 
 -- between hunks no block is open
 none_open : (bs : ObjectHunk) → place_behind BetweenHunks bs ≡ BetweenHunks → bs ≡ []
@@ -175,20 +227,26 @@ none_open (b ∷ bs) e =
     let clash : InHunk o.0 ≡ BetweenHunks = sym o.1 ∙ e in
     cc
 
+-- Up to there it is whole units.
+units_read : (begun whole : ℕ) (ws : List ℕ) → (h : InUnit BetweenHunks begun whole ws []) → ws ≡ object_text (h.units ++ h.unit_open ∷ [])
+units_read begun whole ws h =
+    h.words_are
+    ∙ ap (λ (bs : ObjectHunk). object_text h.units ++ (unit_text h.unit_open ++ (flat_map block_text bs ++ []))) (none_open h.blocks h.place_is)
+    ∙ ap (λ ys. object_text h.units ++ ys) (append-nil (unit_text h.unit_open))
+    ∙ sym (flat_map-more unit_text h.units h.unit_open)
+
 -- What was read up to there is an object file.
-pub whole_units : (ws : List ℕ) → InUnit BetweenHunks ws [] → (o : ObjectFileValue) × IsObjectFile o × (ws ≡ object_text o)
-whole_units ws h = (
+pub whole_units : (begun whole : ℕ) (ws : List ℕ) → InUnit BetweenHunks begun whole ws [] → (o : ObjectFileValue) × IsObjectFile o × (ws ≡ object_text o)
+whole_units begun whole ws h = (
   h.units ++ h.unit_open ∷ [],
   record { some = omega (arith, length-append h.units (h.unit_open ∷ [])); units = All-more IsUnit h.units h.unit_open h.are_units h.is_unit },
-  h.words_are
-      ∙ ap (λ (bs : ObjectHunk). object_text h.units ++ (unit_text h.unit_open ++ (flat_map block_text bs ++ []))) (none_open h.blocks h.place_is)
-      ∙ ap (λ ys. object_text h.units ++ ys) (append-nil (unit_text h.unit_open))
-      ∙ sym (flat_map-more unit_text h.units h.unit_open),
+  units_read begun whole ws h,
 )
 
 -- a hunk is whole
-hunk_closed : (place : WordPlace) (ws : List ℕ) (b : BlockValue) → InUnit place ws (block_text b) → IsBlock b → refuse_standing (has_content place) (standing b.body) ≡ None → is_ending (standing b.body) ≡ true → InUnit BetweenHunks ws []
-hunk_closed place ws b h is ok e =
+hunk_closed : (place : WordPlace) (begun whole : ℕ) (ws : List ℕ) (b : BlockValue) → InUnit place begun whole ws (block_text b) → IsBlock b → refuse_standing (has_content place) (standing b.body) ≡ None → is_ending (standing b.body) ≡ true →
+    InUnit BetweenHunks begun (suc whole) ws []
+hunk_closed place begun whole ws b h is ok e =
     let u : UnitValue = h.unit_open in
     let hunk : ObjectHunk = h.blocks ++ b ∷ [] in
     let closed : IsObjectHunk hunk =
@@ -210,6 +268,8 @@ hunk_closed place ws b h is ok e =
       leads = refl;
       place_is = refl;
       words_are = h.words_are ∙ ap (λ ys. object_text h.units ++ ys) (sym text ∙ sym (append-nil (unit_text (unit u.name (u.hunks ++ hunk ∷ [])))));
+      begun_are = h.begun_are;
+      whole_are = omega (arith, h.whole_are, length-append u.hunks (hunk ∷ []));
     }
 
 place_more : (place : WordPlace) (bs : ObjectHunk) (b : BlockValue) → place_behind place (bs ++ b ∷ []) ≡ behind_block (place_behind place bs) (standing b.body)
@@ -217,9 +277,9 @@ place_more place [] b = refl
 place_more place (c ∷ bs) b = place_more (behind_block place (standing c.body)) bs b
 
 -- a block is whole, and its hunk goes on
-block_closed : (place : WordPlace) (ws : List ℕ) (b : BlockValue) → InUnit place ws (block_text b) → IsBlock b → refuse_standing (has_content place) (standing b.body) ≡ None → is_ending (standing b.body) ≡ false →
-    InUnit (behind_block place (standing b.body)) ws []
-block_closed place ws b h is ok e =
+block_closed : (place : WordPlace) (begun whole : ℕ) (ws : List ℕ) (b : BlockValue) → InUnit place begun whole ws (block_text b) → IsBlock b → refuse_standing (has_content place) (standing b.body) ≡ None → is_ending (standing b.body) ≡ false →
+    InUnit (behind_block place (standing b.body)) begun whole ws []
+block_closed place begun whole ws b h is ok e =
     let has : Bool = has_content place in
     record {
       units = h.units;
@@ -235,55 +295,68 @@ block_closed place ws b h is ok e =
       words_are =
           h.words_are
           ∙ ap (λ ys. object_text h.units ++ (unit_text h.unit_open ++ ys)) (sym (flat_map-more block_text h.blocks b) ∙ sym (append-nil (flat_map block_text (h.blocks ++ b ∷ []))));
+      begun_are = h.begun_are;
+      whole_are = h.whole_are;
     }
 
 -- Behind a whole block the next block word is expected.
-closed : (place : WordPlace) (ws : List ℕ) (b : BlockValue) → InUnit place ws (block_text b) → IsBlock b → refuse_standing (has_content place) (standing b.body) ≡ None → SoFarAt (place_next place (standing b.body)) ws
-closed place ws b h is ok = go (standing b.body) refl
+closed : (place : WordPlace) (begun whole : ℕ) (ws : List ℕ) (b : BlockValue) → InUnit place begun whole ws (block_text b) → IsBlock b → refuse_standing (has_content place) (standing b.body) ≡ None → Reached (AtWord (place_next place (standing b.body))) begun whole ws
+closed place begun whole ws b h is ok = go (standing b.body) refl
   where
-    go : (s : BlockStanding) → standing b.body ≡ s → SoFarAt (place_next place s) ws
-    go Ending e = hunk_closed place ws b h is ok (ap is_ending e)
-    go Beside e = subst (λ (s : BlockStanding). InUnit (behind_block place s) ws []) e (block_closed place ws b h is ok (ap is_ending e))
-    go Content e = subst (λ (s : BlockStanding). InUnit (behind_block place s) ws []) e (block_closed place ws b h is ok (ap is_ending e))
-    go Relocating e = subst (λ (s : BlockStanding). InUnit (behind_block place s) ws []) e (block_closed place ws b h is ok (ap is_ending e))
+    go : (s : BlockStanding) → standing b.body ≡ s → Reached (AtWord (place_next place s)) begun whole ws
+    go Ending e = hunk_closed place begun whole ws b h is ok (ap is_ending e)
+    go Beside e = subst (λ (s : BlockStanding). InUnit (behind_block place s) begun whole ws []) e (block_closed place begun whole ws b h is ok (ap is_ending e))
+    go Content e = subst (λ (s : BlockStanding). InUnit (behind_block place s) begun whole ws []) e (block_closed place begun whole ws b h is ok (ap is_ending e))
+    go Relocating e = subst (λ (s : BlockStanding). InUnit (behind_block place s) begun whole ws []) e (block_closed place begun whole ws b h is ok (ap is_ending e))
 
 -- A block word and what was read behind it.
-in_block_so_far : (place : WordPlace) (ws tail : List ℕ) (w : ℕ) (n : BlockNext) → InUnit place ws tail → Inner modes.Object n w tail → refuse_place place (standing_of_kind (kind w)) ≡ None → SoFar (in_block (place_next place (standing_of_kind (kind w))) n) ws
-in_block_so_far place ws tail w (Open x) h i ok = record { place = place; word = w; tail = tail; in_unit = h; inner = i; stands = ok; next_is = refl }
-in_block_so_far place ws tail w (Whole b) h i ok =
+in_block_so_far : (place : WordPlace) (begun whole : ℕ) (ws tail : List ℕ) (w : ℕ) (n : BlockNext) → InUnit place begun whole ws tail → Inner modes.Object n w tail → refuse_place place (standing_of_kind (kind w)) ≡ None →
+    Reached (in_block (place_next place (standing_of_kind (kind w))) n) begun whole ws
+in_block_so_far place begun whole ws tail w (Open x) h i ok = record { place = place; word = w; tail = tail; in_unit = h; inner = i; stands = ok; next_is = refl }
+in_block_so_far place begun whole ws tail w (Whole b) h i ok =
     let is = (block_is modes.Object w b i.fits i.ok i.inside).0 in
     let same : standing b ≡ standing_of_kind (kind w) = standing_is w b i.inside in
-    subst (λ (s : BlockStanding). SoFarAt (place_next place s) ws) same
-    (closed place ws (block w b) (subst (InUnit place ws) i.words_are h) is (ap (refuse_standing (has_content place)) same ∙ standing_goes place (standing_of_kind (kind w)) ok))
+    subst (λ (s : BlockStanding). Reached (AtWord (place_next place s)) begun whole ws) same
+    (closed place begun whole ws (block w b) (subst (InUnit place begun whole ws) i.words_are h) is (ap (refuse_standing (has_content place)) same ∙ standing_goes place (standing_of_kind (kind w)) ok))
 
 -- ---- each longword that is not refused
 
 -- a unit begins
-unit_begins : (place : WordPlace) (ws : List ℕ) (w : ℕ) → SoFarAt place ws → w ≡ unit_word → refuse_unit place ≡ None → BehindUnits (ws ++ w ∷ []) (unit_word ∷ [])
-unit_begins BeforeUnits ws w h e ok = record { units = []; are_units = tt; words_are = ap (λ ys. ys ++ w ∷ []) h ∙ ap (λ (v : ℕ). v ∷ []) e }
-unit_begins BetweenHunks ws w h e ok =
-    let o = whole_units ws h in
-    record { units = o.0; are_units = o.1.units; words_are = ap (λ ys. ys ++ w ∷ []) o.2 ∙ ap (λ (v : ℕ). object_text o.0 ++ v ∷ []) e }
-unit_begins (InHunk has) ws w h e ok = absurd cc
+unit_begins : (place : WordPlace) (begun whole : ℕ) (ws : List ℕ) (w : ℕ) → CountedAt place begun whole ws → w ≡ unit_word → refuse_unit place ≡ None → BehindUnits (suc begun) 0 (ws ++ w ∷ []) (unit_word ∷ [])
+unit_begins BeforeUnits begun whole ws w h e ok =
+    record { units = []; are_units = tt; words_are = ap (λ ys. ys ++ w ∷ []) h.0 ∙ ap (λ (v : ℕ). v ∷ []) e; begun_are = ap suc h.1; none_whole = refl }
+unit_begins BetweenHunks begun whole ws w h e ok =
+    let units : ObjectFileValue = h.units ++ h.unit_open ∷ [] in
+    record {
+      units = units;
+      are_units = All-more IsUnit h.units h.unit_open h.are_units h.is_unit;
+      words_are = ap (λ ys. ys ++ w ∷ []) (units_read begun whole ws h) ∙ ap (λ (v : ℕ). object_text units ++ v ∷ []) e;
+      begun_are = omega (arith, h.begun_are, length-append h.units (h.unit_open ∷ []));
+      none_whole = refl;
+    }
+unit_begins (InHunk has) begun whole ws w h e ok = absurd cc
 
-block_begins : (place : WordPlace) (ws : List ℕ) (w : ℕ) → SoFarAt place ws → IsLong w → refuse_alone_word modes.Object w ≡ None → refuse_place place (standing_of_kind (kind w)) ≡ None → SoFar (in_block (place_next place (standing_of_kind (kind w))) (begin_body (kind w))) (ws ++ w ∷ [])
-block_begins BeforeUnits ws w h l alone ok = absurd cc
-block_begins BetweenHunks ws w h l alone ok = in_block_so_far BetweenHunks (ws ++ w ∷ []) (w ∷ []) w (begin_body (kind w)) (read_more BetweenHunks ws [] w h) (begins_inside modes.Object w l alone) ok
-block_begins (InHunk has) ws w h l alone ok = in_block_so_far (InHunk has) (ws ++ w ∷ []) (w ∷ []) w (begin_body (kind w)) (read_more (InHunk has) ws [] w h) (begins_inside modes.Object w l alone) ok
+block_begins : (place : WordPlace) (begun whole : ℕ) (ws : List ℕ) (w : ℕ) → CountedAt place begun whole ws → IsLong w → refuse_alone_word modes.Object w ≡ None → refuse_place place (standing_of_kind (kind w)) ≡ None →
+    Reached (in_block (place_next place (standing_of_kind (kind w))) (begin_body (kind w))) begun whole (ws ++ w ∷ [])
+block_begins BeforeUnits begun whole ws w h l alone ok = absurd cc
+block_begins BetweenHunks begun whole ws w h l alone ok =
+    in_block_so_far BetweenHunks begun whole (ws ++ w ∷ []) (w ∷ []) w (begin_body (kind w)) (read_more BetweenHunks begun whole ws [] w h) (begins_inside modes.Object w l alone) ok
+block_begins (InHunk has) begun whole ws w h l alone ok =
+    in_block_so_far (InHunk has) begun whole (ws ++ w ∷ []) (w ∷ []) w (begin_body (kind w)) (read_more (InHunk has) begun whole ws [] w h) (begins_inside modes.Object w l alone) ok
 
-word_goes_on : (place : WordPlace) (ws : List ℕ) (w : ℕ) → SoFarAt place ws → IsLong w → refuse_object_word place w ≡ None → SoFar (reader.step (AtWord place) w) (ws ++ w ∷ [])
-word_goes_on place ws w h l ok = go (eqb w unit_word) refl (sym (word_split place w) ∙ ok)
+word_goes_on : (place : WordPlace) (begun whole : ℕ) (ws : List ℕ) (w : ℕ) → CountedAt place begun whole ws → IsLong w → refuse_object_word place w ≡ None → Reached (reader.step (AtWord place) w) begun whole (ws ++ w ∷ [])
+word_goes_on place begun whole ws w h l ok = go (eqb w unit_word) refl (sym (word_split place w) ∙ ok)
   where
     goes : ObjectState
     goes = in_block (place_next place (standing_of_kind (kind w))) (begin_body (kind w))
 
-    go : (b : Bool) → eqb w unit_word ≡ b → cond b (refuse_unit place) (first_of (refuse_alone_word modes.Object w) (refuse_place place (standing_of_kind (kind w)))) ≡ None → SoFar (cond b AtCount goes) (ws ++ w ∷ [])
-    go true e pass = unit_begins place ws w h (eqb-true w unit_word e) pass
-    go false e pass = let both = first_both (refuse_alone_word modes.Object w) (refuse_place place (standing_of_kind (kind w))) pass in block_begins place ws w h l both.0 both.1
+    go : (b : Bool) → eqb w unit_word ≡ b → cond b (refuse_unit place) (first_of (refuse_alone_word modes.Object w) (refuse_place place (standing_of_kind (kind w)))) ≡ None → Reached (cond b AtCount goes) begun whole (ws ++ w ∷ [])
+    go true e pass = unit_begins place begun whole ws w h (eqb-true w unit_word e) pass
+    go false e pass = let both = first_both (refuse_alone_word modes.Object w) (refuse_place place (standing_of_kind (kind w))) pass in block_begins place begun whole ws w h l both.0 both.1
 
 -- behind the last longword of a name
-named : (ws name : List ℕ) (count : ℕ) → BehindUnits ws (unit_word ∷ count ∷ name) → IsPayload (2 ^ 24) name → count ≡ length name → InUnit BetweenHunks ws []
-named ws name count h fits counts =
+named : (begun whole : ℕ) (ws name : List ℕ) (count : ℕ) → BehindUnits begun whole ws (unit_word ∷ count ∷ name) → IsPayload (2 ^ 24) name → count ≡ length name → InUnit BetweenHunks begun (suc whole) ws []
+named begun whole ws name count h fits counts =
     record {
       units = h.units;
       unit_open = unit name [];
@@ -297,32 +370,34 @@ named ws name count h fits counts =
           h.words_are
           ∙ ap (λ (n : ℕ). object_text h.units ++ unit_word ∷ n ∷ name) counts
           ∙ ap (λ ys. object_text h.units ++ ys) (sym (append-nil (unit_header name)) ∙ sym (append-nil (unit_header name ++ [])));
+      begun_are = h.begun_are;
+      whole_are = ap suc h.none_whole;
     }
 
-count_goes_on : (ws : List ℕ) (w : ℕ) → BehindUnits ws (unit_word ∷ []) → w < 2 ^ 24 → SoFar (behind_name w) (ws ++ w ∷ [])
-count_goes_on ws zero h few = named (ws ++ 0 ∷ []) [] 0 (units_more ws (unit_word ∷ []) 0 h) (omega arith, tt) refl
-count_goes_on ws (suc owed) h few =
-    record { name = []; count = suc owed; name_fits = tt; few = few; counts = omega arith; behind = units_more ws (unit_word ∷ []) (suc owed) h }
+count_goes_on : (begun whole : ℕ) (ws : List ℕ) (w : ℕ) → BehindUnits begun whole ws (unit_word ∷ []) → w < 2 ^ 24 → Reached (behind_name w) begun whole (ws ++ w ∷ [])
+count_goes_on begun whole ws zero h few = named begun whole (ws ++ 0 ∷ []) [] 0 (units_more begun whole ws (unit_word ∷ []) 0 h) (omega arith, tt) refl
+count_goes_on begun whole ws (suc owed) h few =
+    record { name = []; count = suc owed; name_fits = tt; few = few; counts = omega arith; behind = units_more begun whole ws (unit_word ∷ []) (suc owed) h }
 
-name_goes_on : (owed : ℕ) (ws : List ℕ) (w : ℕ) → InUnitName owed ws → IsLong w → SoFar (behind_name owed) (ws ++ w ∷ [])
-name_goes_on owed ws w h l = go owed h.counts
+name_goes_on : (owed begun whole : ℕ) (ws : List ℕ) (w : ℕ) → InUnitName owed begun whole ws → IsLong w → Reached (behind_name owed) begun whole (ws ++ w ∷ [])
+name_goes_on owed begun whole ws w h l = go owed h.counts
   where
     fit : AreLongs (h.name ++ w ∷ [])
     fit = All-more IsLong h.name w h.name_fits l
 
-    behind : BehindUnits (ws ++ w ∷ []) (unit_word ∷ h.count ∷ (h.name ++ w ∷ []))
-    behind = units_more ws (unit_word ∷ h.count ∷ h.name) w h.behind
+    behind : BehindUnits begun whole (ws ++ w ∷ []) (unit_word ∷ h.count ∷ (h.name ++ w ∷ []))
+    behind = units_more begun whole ws (unit_word ∷ h.count ∷ h.name) w h.behind
 
-    go : (n : ℕ) → h.count ≡ length h.name + suc n → SoFar (behind_name n) (ws ++ w ∷ [])
+    go : (n : ℕ) → h.count ≡ length h.name + suc n → Reached (behind_name n) begun whole (ws ++ w ∷ [])
     go zero e =
         let same : h.count ≡ length (h.name ++ w ∷ []) = omega (arith, e, length-append h.name (w ∷ [])) in
-        named (ws ++ w ∷ []) (h.name ++ w ∷ []) h.count behind (omega (arith, same, h.few), fit) same
+        named begun whole (ws ++ w ∷ []) (h.name ++ w ∷ []) h.count behind (omega (arith, same, h.few), fit) same
     go (suc n) e = record { name = h.name ++ w ∷ []; count = h.count; name_fits = fit; few = h.few; counts = e ∙ sym (more_owed h.name w (suc n)); behind = behind }
 
-inside_goes_on : (next : WordPlace) (x : Inside) (ws : List ℕ) (w : ℕ) → InUnitBlock next x ws → IsLong w → refuse_inside (part_of x) w ≡ None → SoFar (in_block next (step_inside x w)) (ws ++ w ∷ [])
-inside_goes_on next x ws w h l ok =
-    subst (λ (p : WordPlace). SoFar (in_block p (step_inside x w)) (ws ++ w ∷ [])) h.next_is
-    (in_block_so_far h.place (ws ++ w ∷ []) (h.tail ++ w ∷ []) h.word (step_inside x w) (read_more h.place ws h.tail w h.in_unit) (steps_inside modes.Object x h.word h.tail w h.inner l ok) h.stands)
+inside_goes_on : (next : WordPlace) (x : Inside) (begun whole : ℕ) (ws : List ℕ) (w : ℕ) → InUnitBlock next x begun whole ws → IsLong w → refuse_inside (part_of x) w ≡ None → Reached (in_block next (step_inside x w)) begun whole (ws ++ w ∷ [])
+inside_goes_on next x begun whole ws w h l ok =
+    subst (λ (p : WordPlace). Reached (in_block p (step_inside x w)) begun whole (ws ++ w ∷ [])) h.next_is
+    (in_block_so_far h.place begun whole (ws ++ w ∷ []) (h.tail ++ w ∷ []) h.word (step_inside x w) (read_more h.place begun whole ws h.tail w h.in_unit) (steps_inside modes.Object x h.word h.tail w h.inner l ok) h.stands)
 
 -- ---- all of it
 
@@ -334,29 +409,52 @@ never (InName owed) e = cc
 never (InBlock next x) e = cc
 
 -- Some object file begins so, and goes on as is expected.
-pub expected : (s : ObjectState) (before : List ℕ) (role : ObjectRole) → SoFar s before → reader.expects s ≡ Some role → Expects objects before role
-expected (AtWord place) before role h e =
+pub counted_expects : (s : ObjectState) (begun whole : ℕ) (before : List ℕ) (role : ObjectRole) → Counted s begun whole before → reader.expects s ≡ Some role → Expects objects before role
+counted_expects (AtWord place) begun whole before role h e =
     let same : WordAt place ≡ role = cc in
-    subst (Expects objects before) same (word_expected place before h)
-expected AtCount before role h e =
+    subst (Expects objects before) same (word_expected place begun whole before h)
+counted_expects AtCount begun whole before role h e =
     let same : UnitCount ≡ role = cc in
-    subst (Expects objects before) same (in_file before (unit_word ∷ []) UnitCount h (expects_count (place_after h.units)))
-expected (InName owed) before role h e =
+    subst (Expects objects before) same (in_file before (unit_word ∷ []) UnitCount h.units h.are_units h.words_are (expects_count (place_after h.units)))
+counted_expects (InName owed) begun whole before role h e =
     let same : UnitName ≡ role = cc in
-    subst (Expects objects before) same (in_file before (unit_word ∷ h.count ∷ h.name) UnitName h.behind (name_expected (place_after h.behind.units) h.count h.name owed h.name_fits h.few h.counts))
-expected (InBlock next x) before role h e =
+    let b = h.behind in
+    subst (Expects objects before) same (in_file before (unit_word ∷ h.count ∷ h.name) UnitName b.units b.are_units b.words_are (name_expected (place_after b.units) h.count h.name owed h.name_fits h.few h.counts))
+counted_expects (InBlock next x) begun whole before role h e =
     let same : Within (part_of x) ≡ role = cc in
-    subst (Expects objects before) same (inside_expected next x before h)
+    subst (Expects objects before) same (open_expects begun whole before (Within (part_of x)) (inside_open next x begun whole before h))
 
 -- A longword that is not refused keeps this.
-pub goes_on : (s : ObjectState) (before : List ℕ) (role : ObjectRole) (w : ℕ) → SoFar s before → reader.expects s ≡ Some role → IsLong w → refuse_object role w ≡ None → SoFar (reader.step s w) (before ++ w ∷ [])
-goes_on (AtWord place) before role w h e l ok =
+pub counted_goes_on : (s : ObjectState) (begun whole : ℕ) (before : List ℕ) (role : ObjectRole) (w : ℕ) → Counted s begun whole before → reader.expects s ≡ Some role → IsLong w → refuse_object role w ≡ None → Reached (reader.step s w) begun whole (before ++ w ∷ [])
+counted_goes_on (AtWord place) begun whole before role w h e l ok =
     let same : WordAt place ≡ role = cc in
-    word_goes_on place before w h l (ap (λ (r : ObjectRole). refuse_object r w) same ∙ ok)
-goes_on AtCount before role w h e l ok =
+    word_goes_on place begun whole before w h l (ap (λ (r : ObjectRole). refuse_object r w) same ∙ ok)
+counted_goes_on AtCount begun whole before role w h e l ok =
     let same : UnitCount ≡ role = cc in
-    count_goes_on before w h (ltb-true w (2 ^ 24) (passed_true (ltb w (2 ^ 24)) reasons.NameWord (ap (λ (r : ObjectRole). refuse_object r w) same ∙ ok)))
-goes_on (InName owed) before role w h e l ok = name_goes_on owed before w h l
-goes_on (InBlock next x) before role w h e l ok =
+    count_goes_on begun whole before w h (ltb-true w (2 ^ 24) (passed_true (ltb w (2 ^ 24)) reasons.NameWord (ap (λ (r : ObjectRole). refuse_object r w) same ∙ ok)))
+counted_goes_on (InName owed) begun whole before role w h e l ok = name_goes_on owed begun whole before w h l
+counted_goes_on (InBlock next x) begun whole before role w h e l ok =
     let same : Within (part_of x) ≡ role = cc in
-    inside_goes_on next x before w h l (sym (within_split (part_of x) w) ∙ ap (λ (r : ObjectRole). refuse_object r w) same ∙ ok)
+    inside_goes_on next x begun whole before w h l (sym (within_split (part_of x) w) ∙ ap (λ (r : ObjectRole). refuse_object r w) same ∙ ok)
+
+-- ---- without the numbers
+
+abbrev pub SoFar : ObjectState → List ℕ → Type 0
+SoFar s ws = (begun : ℕ) × (whole : ℕ) × Counted s begun whole ws
+
+pub begins : SoFar (AtWord BeforeUnits) []
+begins = (0, 0, (refl, refl, refl))
+
+pub expected : (s : ObjectState) (before : List ℕ) (role : ObjectRole) → SoFar s before → reader.expects s ≡ Some role → Expects objects before role
+expected s before role h e = counted_expects s h.0 h.1 before role h.2 e
+
+counted_of : (s : ObjectState) (begun whole : ℕ) (ws : List ℕ) → Reached s begun whole ws → SoFar s ws
+counted_of (AtWord BeforeUnits) begun whole ws h = (begun, whole, h)
+counted_of (AtWord BetweenHunks) begun whole ws h = (begun, suc whole, h)
+counted_of (AtWord (InHunk has)) begun whole ws h = (begun, whole, h)
+counted_of AtCount begun whole ws h = (suc begun, 0, h)
+counted_of (InName owed) begun whole ws h = (begun, whole, h)
+counted_of (InBlock next x) begun whole ws h = (begun, whole, h)
+
+pub goes_on : (s : ObjectState) (before : List ℕ) (role : ObjectRole) (w : ℕ) → SoFar s before → reader.expects s ≡ Some role → IsLong w → refuse_object role w ≡ None → SoFar (reader.step s w) (before ++ w ∷ [])
+goes_on s before role w h e l ok = counted_of (reader.step s w) h.0 h.1 (before ++ w ∷ []) (counted_goes_on s h.0 h.1 before role w h.2 e l ok)

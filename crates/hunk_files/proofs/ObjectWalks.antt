@@ -179,7 +179,7 @@ module _ (bytes : List ℕ) (fit : IsBytes bytes) where
       let s = stands objects reader traced position_of scan.run scan.behind (longs bytes) at p h few in
       let read = subst (SoFar s.state) (take_all at (longs bytes) many) s.so_far in
       let here = subst (λ (t : ObjectState). SoFar t (longs bytes)) (between s.state (s.position_is ∙ end_between p may)) read in
-      let o = whole_units (longs bytes) here.0 in
+      let o = whole_units here.0.0 here.0.1 (longs bytes) here.0.2 in
       record { value = o.0; is_object_file = o.1; text_is = all_bytes (spelled bytes fit).over (spelled bytes fit).split ∙ ap bytes_of o.2 }
     where
       all_bytes : (over : List ℕ) → bytes ≡ bytes_of (longs bytes) ++ over → bytes ≡ bytes_of (longs bytes)

@@ -252,7 +252,7 @@ truncated_of bytes g =
     }
 
 -- a load text stands in front of the longwords
-begins_with : (bytes : List ℕ) → IsBytes bytes → (v : LoadFileValue) → IsLoadFile v → (rest : List ℕ) → longs bytes ≡ text v ++ rest → BeginsWithLoadFile bytes
+pub begins_with : (bytes : List ℕ) → IsBytes bytes → (v : LoadFileValue) → IsLoadFile v → (rest : List ℕ) → longs bytes ≡ text v ++ rest → BeginsWithLoadFile bytes
 begins_with bytes fit v is rest e =
     let b = spelled bytes fit in
     record {

@@ -2,6 +2,7 @@ pub mod Collecting
 pub mod Cuts
 pub mod Entries
 pub mod Fault
+pub mod FileParts
 pub mod FileSteps
 pub mod FileView
 pub mod Filling

@@ -46,6 +46,12 @@ step positions.UnitCount w = owe_name w
 step (positions.UnitName owed) w = owe_name owed
 step (positions.Block next phase) w = within next (inside.step phase w)
 
+-- How many units began, and how many parts of the last are whole, its name and hunks, where a longword led here.
+abbrev pub counted : ObjectPosition → ℕ × ℕ → ℕ × ℕ
+counted positions.UnitCount counts = (suc counts.0, 0)
+counted (positions.Word BetweenHunks) counts = (counts.0, suc counts.1)
+counted position counts = counts
+
 -- The file may end here.
 abbrev pub may_end : ObjectPosition → Bool
 may_end (positions.Word BetweenHunks) = true

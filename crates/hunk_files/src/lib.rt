@@ -9,6 +9,7 @@ pub mod laws;
 mod load;
 mod object;
 mod order;
+mod part;
 mod place;
 mod ranges;
 mod row;
@@ -24,6 +25,7 @@ pub use crate::object::{
     TakesFindings, TakesPlacedFindings, Unit, UnitView, UnitViews, reference_width,
     relocation_width, walk_object,
 };
+pub use crate::part::{Part, part_at};
 pub use crate::ranges::TakesBytes;
 pub use crate::row::Row;
 pub use crate::visiting::TakesBlocks;

@@ -5,6 +5,7 @@ mod ends;
 mod file;
 mod findings;
 mod hunk_view;
+mod part;
 mod position;
 mod ranges;
 mod strip;
@@ -18,6 +19,7 @@ pub use crate::object::check::{Finding, FindingKind, reference_width, relocation
 pub use crate::object::file::ObjectFile;
 pub use crate::object::findings::Findings;
 pub use crate::object::hunk_view::{HunkView, HunkViews};
+pub(crate) use crate::object::part::unit_before;
 pub use crate::object::taker::{TakesFindings, TakesPlacedFindings};
 pub use crate::object::unit::{Hunk, Unit};
 pub use crate::object::unit_view::{UnitView, UnitViews};

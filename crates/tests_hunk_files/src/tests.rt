@@ -16,6 +16,7 @@ mod object_growths;
 mod object_refusals;
 mod object_texts;
 mod object_views;
+mod parts;
 mod ranges;
 mod readers;
 mod stops;

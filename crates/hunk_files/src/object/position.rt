@@ -156,7 +156,7 @@ impl ObjectPosition {
 
     /// Behind a longword that is not refused.
     #[inline(always)]
-    fn step(self, word: u32) -> ObjectPosition
+    pub(crate) fn step(self, word: u32) -> ObjectPosition
         ensures { result ≡ steps.step self word }
     {
         match self {

@@ -1,0 +1,53 @@
+-- The part of a file at the place where it is refused.
+use Rattle.std.proofs.Common.{◌≡◌, ◌≢◌, ℕ, ◌≤◌, ◌/◌, List, length, take, refl, arith, sym, ap, subst, ◌∙◌, ◌⊎◌, inl, inr}
+use Rattle.std.proofs.lemmas.List.{take_all}
+use Rattle.hunk_words.specs.Longs.{longs, IsBytes}
+use Rattle.hunk_words.specs.declared.fault.Fault.{Fault}
+use Rattle.hunk_words.specs.declared.reason.Reason.{Reason}
+use Rattle.hunk_blocks.specs.Faults.{IsFront}
+use Rattle.hunk_grammar.specs.FileKind.{sniffed}
+use Rattle.hunk_grammar.specs.declared.file_kind.Sniff.{Sniff}
+use Rattle.hunk_grammar.specs.declared.file_kind.Sniff.TheVariants as sniffs
+use Rattle.hunk_files.specs.FileParts.{IsLoadPart, IsPartAt, IsPartBehind, IsUnitPart, fault_at, part_of}
+use Rattle.hunk_files.specs.FileSteps.{Progress, More}
+use Rattle.hunk_files.specs.HunkFile.{IsLoadRefusal, IsRefusal}
+use Rattle.hunk_files.specs.ObjectFault.{objects}
+use Rattle.hunk_files.specs.WordsRead.{HasRead}
+use Rattle.hunk_files.specs.declared.part.Part.{Part}
+use Rattle.hunk_files.proofs.LoadParts.{refused_behind}
+use Rattle.hunk_files.proofs.UnitParts.{refused_front}
+
+-- as many longwords as there are, or as are asked for
+pub same_front : (ws : List ℕ) (count n : ℕ) → (count ≡ n) ⊎ ((count ≡ length ws) × (length ws ≤ n)) → take count ws ≡ take n ws
+same_front ws count n (inl e) = ap (λ (k : ℕ). take k ws) e
+same_front ws count n (inr h) = ap (λ (k : ℕ). take k ws) h.0 ∙ take_all (length ws) ws (omega arith) ∙ sym (take_all n ws h.1)
+
+pub in_object : (bytes : List ℕ) (place : ℕ) (reason : Reason) (part : Part) → sniffed (longs bytes) ≡ sniffs.Object → IsRefusal (sniffed (longs bytes)) bytes (fault_at place reason) →
+    (IsFront objects (take (place / 4) (longs bytes)) → IsUnitPart (take (place / 4) (longs bytes)) part) → IsPartAt (sniffed (longs bytes)) bytes place part
+in_object bytes place reason part kind h is =
+    let fault = subst (λ (k : Sniff). IsRefusal k bytes (fault_at place reason)) kind h in
+    subst (λ (k : Sniff). IsPartAt k bytes place part) (sym kind) (is (refused_front bytes place reason fault.0))
+
+pub not_object : (kind : Sniff) → (kind ≡ sniffs.Load) ⊎ ((kind ≡ sniffs.Library) ⊎ (kind ≡ sniffs.Other)) → kind ≢ sniffs.Object
+not_object kind (inl e) o = cc
+not_object kind (inr (inl e)) o = cc
+not_object kind (inr (inr e)) o = cc
+
+load_refusal : (kind : Sniff) (bytes : List ℕ) (fault : Fault) → kind ≢ sniffs.Object → IsRefusal kind bytes fault → IsLoadRefusal bytes fault
+load_refusal sniffs.Object bytes fault not h = absurd (not refl)
+load_refusal sniffs.Load bytes fault not h = h
+load_refusal sniffs.Library bytes fault not h = h
+load_refusal sniffs.Other bytes fault not h = h
+
+load_behind : (kind : Sniff) (before : List ℕ) (part : Part) → kind ≢ sniffs.Object → IsLoadPart before part → IsPartBehind kind before part
+load_behind sniffs.Object before part not h = absurd (not refl)
+load_behind sniffs.Load before part not h = h
+load_behind sniffs.Library before part not h = h
+load_behind sniffs.Other before part not h = h
+
+pub in_load : (bytes : List ℕ) → IsBytes bytes → (place : ℕ) (reason : Reason) (part : Part) → sniffed (longs bytes) ≢ sniffs.Object → IsRefusal (sniffed (longs bytes)) bytes (fault_at place reason) →
+    ((p : Progress) → HasRead (take (place / 4) (longs bytes)) (More p) → part ≡ part_of p) → IsPartAt (sniffed (longs bytes)) bytes place part
+in_load bytes fit place reason part kind h is =
+    let fault = load_refusal (sniffed (longs bytes)) bytes (fault_at place reason) kind h in
+    let read = refused_behind bytes fit place reason fault.0 in
+    load_behind (sniffed (longs bytes)) (take (place / 4) (longs bytes)) part kind (record { progress = read.0; read = read.1; part_is = is read.0 read.1 })

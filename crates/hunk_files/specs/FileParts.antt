@@ -1,0 +1,86 @@
+-- The part of a file that a longword is of, by the longwords before it.
+use Rattle.std.specs.Prelude.{◌≡◌, ℕ, ◌<◌, ◌/◌, List, [], ◌++◌, length, take, Some, None, codes}
+use Rattle.std.specs.Fmt.{decimal}
+use Rattle.std.specs.List.{AllByRecursion}
+use Rattle.hunk_words.specs.Limits.{name_limit}
+use Rattle.hunk_words.specs.Longs.{longs}
+use Rattle.hunk_words.specs.declared.fault.Fault.{Fault}
+use Rattle.hunk_words.specs.declared.reason.Reason.{Reason}
+use Rattle.hunk_blocks.specs.Faults.{Expects}
+use Rattle.hunk_blocks.specs.Values.{IsPayload}
+use Rattle.hunk_grammar.specs.declared.file_kind.Sniff.{Sniff}
+use Rattle.hunk_grammar.specs.declared.file_kind.Sniff.TheVariants as sniffs
+use Rattle.hunk_files.specs.FileSteps.{Progress, AtBlock, InBody, More}
+use Rattle.hunk_files.specs.ObjectFault.{ObjectRole, BetweenHunks, blocks_from}
+use Rattle.hunk_files.specs.ObjectFile.{UnitValue, ObjectFileValue, IsUnit, unit_header, unit_text, object_text}
+use Rattle.hunk_files.specs.WordsRead.{HasRead}
+use Rattle.hunk_files.specs.declared.part.Part.{Part}
+use Rattle.hunk_files.specs.declared.part.Part.TheVariants as parts
+
+-- ---- load files
+
+-- the next longword is of the header, or of the hunk behind those that are whole
+abbrev pub part_of : Progress → Part
+part_of (AtBlock o) = parts.Hunk (length o.finished)
+part_of (InBody o word x) = parts.Hunk (length o.finished)
+part_of _ = parts.Header
+
+-- These longwords were read, none was refused, and the next is of this part.
+pub record IsLoadPart (before : List ℕ) (part : Part) : Type 0 where
+  pub progress : Progress
+  pub read : HasRead before (More progress)
+  pub part_is : part ≡ part_of progress
+
+-- ---- object files
+
+-- Whole units, and of the next its header, but not all of it: behind a unit, at least the word.
+pub record IsInHeader (before : List ℕ) (unit : ℕ) : Type 0 where
+  pub units : ObjectFileValue
+  pub name : List ℕ
+  pub count : ℕ
+  pub are_units : AllByRecursion IsUnit units
+  pub is_name : IsPayload name_limit name
+  pub split : before ≡ object_text units ++ take count (unit_header name)
+  pub begun : count ≡ 0 → units ≡ []
+  pub not_whole : count < length (unit_header name)
+  pub unit_is : unit ≡ length units
+
+-- Whole units, of the next its name and whole hunks, and then a front of a hunk that goes on.
+pub record IsInHunk (before : List ℕ) (unit hunk : ℕ) : Type 0 where
+  pub units : ObjectFileValue
+  pub unit_open : UnitValue
+  pub front : List ℕ
+  pub role : ObjectRole
+  pub are_units : AllByRecursion IsUnit units
+  pub is_unit : IsUnit unit_open
+  pub split : before ≡ object_text units ++ (unit_text unit_open ++ front)
+  pub goes_on : Expects (blocks_from BetweenHunks) front role
+  pub unit_is : unit ≡ length units
+  pub hunk_is : hunk ≡ length unit_open.hunks
+
+-- These longwords are of units, and the next is of this part.
+abbrev pub IsUnitPart : List ℕ → Part → Type 0
+IsUnitPart before (parts.Unit unit None) = IsInHeader before unit
+IsUnitPart before (parts.Unit unit (Some hunk)) = IsInHunk before unit hunk
+IsUnitPart before part = ⊥
+
+-- ---- either
+
+abbrev pub IsPartBehind : Sniff → List ℕ → Part → Type 0
+IsPartBehind sniffs.Object before part = IsUnitPart before part
+IsPartBehind kind before part = IsLoadPart before part
+
+-- By the longwords before it, the longword at this byte is of this part.
+abbrev pub IsPartAt : Sniff → List ℕ → ℕ → Part → Type 0
+IsPartAt kind bytes place part = IsPartBehind kind (take (place / 4) (longs bytes)) part
+
+abbrev pub fault_at : ℕ → Reason → Fault
+fault_at place reason = record { place = place; reason = reason }
+
+-- ---- what it is shown as
+
+abbrev pub part_line : Part → List ℕ
+part_line parts.Header = codes "the header"
+part_line (parts.Hunk number) = codes "hunk " ++ decimal number
+part_line (parts.Unit number None) = codes "unit " ++ decimal number
+part_line (parts.Unit number (Some hunk)) = codes "unit " ++ decimal number ++ codes " hunk " ++ decimal hunk
