@@ -23,15 +23,16 @@ Limits:
   --hex, at most 67108864.
   File names are UTF-8; `hunkinfo show < FILE` reads a file of any name.
   relocate holds the bytes that the hunks declare, and 12 for each hunk. The
-  other commands hold the input and lists of its parts: 1.1 to some 20 times
-  the input. With --hex the bytes that the text spells are held in addition.
+  other commands hold the input, and nothing that grows with the number of its
+  parts. With --hex the bytes that the text spells are held in addition.
 
 Exit status:
   0  done
-  1  the input was rejected, or validate found something
-  2  the command line was rejected
+  1  the input was refused, or validate found something
+  2  the command line was refused
   3  reading or writing failed
-  4  out of memory";
+  4  out of memory
+Where it is not 0, standard error says what is wrong, and in which file.";
 
 const AFTER_SHOW: &str = "\
 Examples:
@@ -40,7 +41,7 @@ Examples:
   xxd -p prog | hunkinfo show --hex";
 
 const AFTER_VALIDATE: &str = "\
-The exit status is 1 where the file was rejected, or something was found.
+The exit status is 1 where the file was refused, or something was found.
 
 Example:
   hunkinfo validate part.o";
@@ -229,7 +230,7 @@ fn output_positional<'a>(alloc: Global) -> Arg<'a>
     positional(
         alloc,
         "OUT",
-        "The file to write; it is not touched where IN is rejected",
+        "The file to write; it is not touched where IN is refused",
     )
 }
 
