@@ -1,10 +1,10 @@
 -- What is known where a loader of a body stands after bytes.
+use Rattle.std.proofs.Common.{rules}
 use Rattle.std.proofs.Common.{◌≡◌, ℕ, ◌+◌, ◌*◌, ◌/◌, ◌^◌, ◌≤◌, ◌<◌, Bool, true, false, List, [], ◌∷◌, ◌++◌, length, map, take, drop, refl, sym, ap, ap₂, subst, ◌∙◌, append_assoc, append-nil, arith, length-append, drop_of_length-le, is_some, Option, None, Some}
 use Rattle.std.specs.List.{AllByRecursion}
 use Rattle.std.proofs.lemmas.List.{map-append, length-map, take_all, take_at, drop_at}
 use Rattle.hunk_words.specs.declared.fault.Fault.{Fault}
 use Rattle.hunk_words.specs.Bits.{size_longs}
-use Rattle.hunk_words.specs.Carriers.{saturated}
 use Rattle.hunk_words.specs.Longs.{bytes_of, longs, AreLongs}
 use Rattle.hunk_blocks.specs.Faults.{words}
 use Rattle.hunk_files.specs.Fault.{IsTruncated}
@@ -29,7 +29,7 @@ use Rattle.hunk_grammar.specs.Positions.{is_done, least_longs, run}
 use Rattle.hunk_files.specs.ReaderPosition.{position_of, IsBehindHeader}
 use Rattle.hunk_scatter.specs.declared.store.BodyState.{BodyState}
 use Rattle.hunk_scatter.specs.StoreContent.{HasSizedImage}
-use Rattle.hunk_scatter.specs.BodyLoaderFields.{EndsWhole, IsFed, StandsBehind}
+use Rattle.hunk_scatter.specs.BodyLoaderFields.{IsFed}
 use Rattle.hunk_words.specs.PendingBytes.{pending_of}
 use Rattle.hunk_scatter.specs.declared.stream.Standing.{Standing}
 use Rattle.hunk_scatter.specs.LoaderValues.{IsWholeFile, IsImageOf, HasNoRefusal, segments_in}
@@ -40,7 +40,7 @@ use Rattle.hunk_scatter.proofs.FileLeast.{file_ends}
 use Rattle.hunk_scatter.proofs.Outcomes.{longs_are, read_clean, read_truncated}
 use Rattle.hunk_scatter.proofs.ReadWords.{read_longs, text_longs}
 use Rattle.hunk_scatter.proofs.Runs.{none_over}
-use Rattle.hunk_scatter.proofs.OneByte.{Going, going, room, file_read, sizes_are, not_done}
+use Rattle.hunk_scatter.proofs.OneByte.{Going, going, room, file_read, sizes_are}
 
 -- ---- words
 
@@ -113,16 +113,6 @@ module _ (rows : List Row) (store : List ℕ) (s : Standing) (fed : List ℕ) (h
   abbrev pending : List ℕ
   pending = pending_of s.pending
 
-  -- Numbers and a store behind more bytes.
-  pub fed_more : (store2 : List ℕ) (to : Standing) (bytes : List ℕ) → length store2 ≡ length store → to.fed ≡ saturated (length (fed ++ bytes)) →
-      StandsBehind rows store2 to.state (pending_of to.pending) (fed ++ bytes) → IsFed rows store2 to (fed ++ bytes)
-  fed_more store2 to bytes same count r = record {
-    counted = count;
-    hunks = h.hunks;
-    size = same ∙ h.size;
-    stands = r;
-  }
-
   pub whole_file : is_done s.state.position ≡ true → IsWholeFile rows fed
   whole_file done = let e = file_read rows store s.state pending fed h.stands done in (e.0, e.1)
 
@@ -142,22 +132,14 @@ module _ (rows : List Row) (store : List ℕ) (s : Standing) (fed : List ℕ) (h
 
   -- Behind a header a hunk is open, or the file is whole.
   pub done_unless_open : ((hunk : OpenHunk) (phase : Phase) → s.state.position ≡ positions.Body hunk phase → ⊥) → is_done s.state.position ≡ true
-  done_unless_open closed = let r = h.stands in go r.next r.behind r.state_is
-    where
-      go : (n : Next) → IsBehindHeader n → state_of n ≡ s.state → is_done s.state.position ≡ true
-      go (More (AtBlock o)) b e = absurd (closed _ _ (ap (λ (x : BodyState). x.position) (sym e)))
-      go (More (InBody o word x)) b e = absurd (closed _ _ (ap (λ (x : BodyState). x.position) (sym e)))
-      go (Finished v) b e = ap (λ (x : BodyState). is_done x.position) (sym e)
-      go _ b e = absurd cc
+  done_unless_open closed = search rules
 
   -- At the end nothing is to come.
   pub none_to_come : is_done s.state.position ≡ true → (p : ℕ) → BytesToCome fed p → p ≡ 0
   none_to_come done p t = let r = h.stands in go r.next r.read r.behind r.state_is (words_same r.ws pending fed r.spelled r.few (read_longs r.ws r.next r.read) p t)
     where
       go : (n : Next) → HasRead h.stands.ws n → IsBehindHeader n → state_of n ≡ s.state → (words t.done ≡ h.stands.ws) × (length t.pending ≡ length pending) → p ≡ 0
-      go (More q) read b e w =
-          let more : is_done s.state.position ≡ false = ap (λ (x : BodyState). is_done x.position) (sym e) ∙ not_done q b in
-          absurd (cc (done, more))
+      go (More q) read b e w = search rules
       go (Finished v) read b e w =
           let none_left : run_of t.more ≡ 0 = to_come h.stands.ws (Finished v) read t.value t.is_load_file t.done t.more t.labels w.0 in
           omega (arith, t.count, none_left)
@@ -226,23 +208,6 @@ module _ (rows : List Row) (store : List ℕ) (s : Standing) (fed : List ℕ) (h
   pub not_whole : is_done s.state.position ≡ false → IsWholeFile rows fed → ⊥
   not_whole more w =
       (fed_truncated more).not_whole (record { value = w.0; is_load_file = w.1.is_load_file; rest = []; split = sym w.1.bytes_are ∙ sym (append-nil (bytes_of (text w.0))) })
-
-  pub done_if_whole : IsWholeFile rows fed → is_done s.state.position ≡ true
-  done_if_whole w = go (is_done s.state.position) refl
-    where
-      go : (b : Bool) → is_done s.state.position ≡ b → is_done s.state.position ≡ true
-      go true done = done
-      go false more = absurd (not_whole more w)
-
-  -- At the end no byte is pending.
-  pub none_pending : is_done s.state.position ≡ true → pending ≡ []
-  none_pending done = let r = h.stands in go r.next r.behind r.state_is r.whole
-    where
-      go : (n : Next) → IsBehindHeader n → state_of n ≡ s.state → EndsWhole n pending → pending ≡ []
-      go (More q) b e w =
-          let more : is_done s.state.position ≡ false = ap (λ (x : BodyState). is_done x.position) (sym e) ∙ not_done q b in
-          absurd (cc (done, more))
-      go (Finished v) b e w = w
 
   at_least : (n : Next) → IsBehindHeader n → state_of n ≡ s.state → least_longs (position_of n) ≡ least_longs s.state.position
   at_least (More (AtBlock o)) b e = ap (λ (x : BodyState). least_longs x.position) e

@@ -1,5 +1,6 @@
 -- The front of a piece with which a longword is complete.
-use Rattle.std.proofs.Common.{◌≡◌, ℕ, ◌≤◌, List, [], ◌∷◌, ◌++◌, length, take, length-take, Option, Some, subst, arith}
+use Rattle.std.proofs.Common.{rules}
+use Rattle.std.proofs.Common.{◌≡◌, ℕ, ◌≤◌, List, [], ◌∷◌, ◌++◌, length, take, Option, Some}
 use Rattle.hunk_words.specs.Longs.{bytes_of, Gathers}
 
 pub record Completes (pending piece left : List ℕ) (n w : ℕ) : Type 0 where
@@ -8,10 +9,4 @@ pub record Completes (pending piece left : List ℕ) (n w : ℕ) : Type 0 where
   pub none_left : left ≡ []
 
 pub completes : (pending piece left : List ℕ) (n w : ℕ) (next : Option ℕ) → next ≡ Some w → n ≤ length piece → Gathers (pending ++ take n piece) left next → Completes pending piece left n w
-completes pending piece left n w next is inside gathers =
-    let whole = subst (λ (o : Option ℕ). Gathers (pending ++ take n piece) left o) is gathers in
-    record {
-      long = omega (arith, length-take n piece, inside);
-      spelled = whole.0;
-      none_left = whole.1;
-    }
+completes pending piece left n w next is inside gathers = search rules

@@ -1,5 +1,6 @@
 -- What was wanted is consumed whole, and goes past no end.
-use Rattle.std.proofs.Common.{◌≡◌, ℕ, suc, ◌+◌, ◌<◌, ◌≤◌, List, [], ◌∷◌, ◌++◌, length, take, refl, sym, ap, subst, ◌∙◌, append_assoc, append-nil, length-append, length-take, arith, ◌⊎◌, inl, inr}
+use Rattle.std.proofs.Common.{rules}
+use Rattle.std.proofs.Common.{◌≡◌, ℕ, suc, ◌+◌, ◌<◌, ◌≤◌, List, [], ◌∷◌, ◌++◌, length, take, refl, sym, ap, subst, ◌∙◌, append_assoc, length-append, length-take, arith, ◌⊎◌, inl, inr}
 use Rattle.std.proofs.lemmas.List.{take_all, drop_all}
 use Rattle.std.proofs.KnownBytes.{Consumes-trans}
 use Rattle.std.specs.Io.KnownBytes.{Consumes}
@@ -43,8 +44,7 @@ gives_more a b c limit fed piece after g k le e =
     (record { consumed = Consumes-trans a.left b.left c.left fed piece g.consumed k; within = omega (arith, le, length-append fed piece) })
 
 pub gives_none : (a b c : Supply) (limit : ℕ) (fed : List ℕ) → Gives a b limit fed → Consumes b.left c.left [] → Gives a c limit fed
-gives_none a b c limit fed g k =
-    record { consumed = subst (Consumes a.left c.left) (append-nil fed) (Consumes-trans a.left b.left c.left fed [] g.consumed k); within = g.within }
+gives_none a b c limit fed g k = search rules
 
 -- ---- in a header
 
@@ -63,10 +63,7 @@ module _ (fed piece : List ℕ) (want : ℕ) (least : (t : List TableEntry) (mor
   header_within_more some over w t more ok e = go (fronts_of fed piece (header_bytes t) more e)
     where
       go : ((m : List ℕ) × (fed ≡ header_bytes t ++ m) × (m ++ piece ≡ more)) ⊎ ((m : List ℕ) × (header_bytes t ≡ fed ++ m) × (piece ≡ m ++ more)) → more ≡ []
-      go (inl (m, p, q)) =
-          let whole : fed ≡ header_bytes t = p ∙ ap (λ (xs : List ℕ). header_bytes t ++ xs) (w t m ok p) ∙ append-nil (header_bytes t) in
-          let none = over (t, ok, whole) in
-          absurd (omega (arith, none, some))
+      go (inl (m, p, q)) = search rules
       go (inr (m, p, q)) =
           let far = least t m ok p in
           drop_all 0 more (omega (arith, far, ap length q, length-append m more))

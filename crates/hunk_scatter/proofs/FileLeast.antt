@@ -1,26 +1,21 @@
 -- A load file begins with what was read, and ends in the least number of longwords.
+use Rattle.std.proofs.Common.{rules}
 use Rattle.std.proofs.Common.{◌≡◌, ℕ, zero, suc, ◌+◌, ◌*◌, Bool, true, false, List, [], ◌∷◌, ◌++◌, length, refl, sym, ap, subst, ◌∙◌, append_assoc, append-nil, arith, if◌then◌else◌, None}
 use Rattle.std.specs.List.{AllByRecursion}
 use Rattle.hunk_words.specs.Bits.{kind}
-use Rattle.hunk_blocks.specs.BlockSteps.{ForName, ForCode, Counted, Inside, AtCount, AtSize, InPayload}
-use Rattle.hunk_blocks.specs.ReaderPhase.{phase_of}
-use Rattle.hunk_blocks.specs.BlockSteps.{part_of}
 use Rattle.hunk_blocks.specs.Values.{BlockValue}
-use Rattle.hunk_blocks.specs.declared.phase.Phase.{Phase}
-use Rattle.hunk_blocks.specs.declared.phase.Phase.TheVariants as phases
 use Rattle.hunk_grammar.specs.Positions as scan
 use Rattle.hunk_grammar.specs.Positions.{end_least, least_in, least_longs}
-use Rattle.hunk_grammar.specs.Roles.{Place, Role, InBlock, refuse}
+use Rattle.hunk_grammar.specs.Roles.{Role, refuse}
 use Rattle.hunk_grammar.specs.declared.phase.OpenHunk.{OpenHunk}
 use Rattle.hunk_files.specs.Fault.{completing}
-use Rattle.hunk_files.specs.FileSteps.{Progress, AtBlock, InBody, Next, More, Finished, place_of, role_of, step_file, Leads}
+use Rattle.hunk_files.specs.FileSteps.{Progress, AtBlock, InBody, Next, More, Finished, role_of, step_file, Leads}
 use Rattle.hunk_files.specs.LoadFile.{LoadFileValue, IsLoadFile}
 use Rattle.hunk_files.specs.LoadText.{text}
 use Rattle.hunk_files.specs.ReaderPosition.{IsBehindHeader, block_phase, open_of, position_of}
 use Rattle.hunk_files.specs.WordsRead.{HasRead, Labelled}
 use Rattle.hunk_files.proofs.Completion.{IsOwed, completes}
 use Rattle.hunk_files.proofs.FileProgress.{ProgressFits}
-use Rattle.hunk_files.proofs.HunkProgress.{Within}
 use Rattle.hunk_files.proofs.Positions.{step_position}
 use Rattle.hunk_files.proofs.Reading.{read_ended, reads, step_read}
 use Rattle.hunk_scatter.proofs.Forget.{step_behind}
@@ -41,52 +36,9 @@ module _ (o : OpenHunk) where
   block_least [] w is = word_least o.has_content w refl is
   block_least (b ∷ blocks) w is = word_least o.has_content w refl is
 
-  -- within a block
-  abbrev is_inner : Phase → Bool
-  is_inner phases.FirstBlock = false
-  is_inner phases.BlockWord = false
-  is_inner _ = true
-
-  phase_least : (p : Phase) → is_inner p ≡ true → least_in o p ≡ suc (least_longs (scan.step_in o p 0))
-  phase_least phases.FirstBlock e = absurd cc
-  phase_least phases.BlockWord e = absurd cc
-  phase_least (phases.Content longs zero) e = omega arith
-  phase_least (phases.Content longs (suc owed)) e = omega arith
-  phase_least (phases.Payload zero) e = omega arith
-  phase_least (phases.Payload (suc owed)) e = omega arith
-  phase_least (phases.Offset target zero) e = omega arith
-  phase_least (phases.Offset target (suc owed)) e = omega arith
-  phase_least (phases.Symbol zero) e = omega arith
-  phase_least (phases.Symbol (suc owed)) e = omega arith
-  phase_least (phases.ExtFront zero) e = omega arith
-  phase_least (phases.ExtFront (suc owed)) e = omega arith
-  phase_least (phases.ExtRest zero) e = omega arith
-  phase_least (phases.ExtRest (suc owed)) e = omega arith
-  phase_least _ e = omega arith
-
-  inner : (p : Place) (word : ℕ) (x : Inside) → Within p word x → is_inner (phase_of x) ≡ true
-  inner p word (AtCount ForName) w = refl
-  inner p word (AtSize ForCode) w = refl
-  inner p word (InPayload (Counted c) done owed) w = refl
-  inner p word _ w = first_of (cc, search outside)
-    where
-      outside : (b : Bool) → ⊥ → b ≡ true
-      outside b h = absurd h
-
-zero_owed : (p : Place) (x : Inside) → completing (InBlock p (part_of x)) ≡ 0
-zero_owed p (AtCount ForName) = refl
-zero_owed p _ = refl
-
 one_least : (p : Progress) (w : ℕ) → IsBehindHeader (More p) → ProgressFits p → w ≡ completing (role_of p) → least_longs (position_of (More p)) ≡ suc (least_longs (position_of (step_file p w)))
 one_least (AtBlock o) w b f is = omega (arith, block_least (open_of o) o.blocks w is, ap least_longs (step_position (AtBlock o) w f))
-one_least (InBody o word x) w b f is =
-    let none : w ≡ 0 = is ∙ zero_owed (place_of o) x in
-    omega (
-      arith,
-      phase_least (open_of o) (phase_of x) (inner (open_of o) (place_of o) word x f.2.1),
-      ap (λ (v : ℕ). least_longs (scan.step_in (open_of o) (phase_of x) v)) none,
-      ap least_longs (step_position (InBody o word x) w f),
-    )
+one_least (InBody o word x) w b f is = search rules
 one_least _ w b f is = absurd cc
 
 -- ---- the end

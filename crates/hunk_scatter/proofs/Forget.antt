@@ -1,4 +1,5 @@
 -- The state of the loader is the reader of load files, without what was read.
+use Rattle.std.proofs.Common.{rules}
 use Rattle.std.proofs.Common.{◌≡◌, ℕ, ◌+◌, ◌*◌, Bool, true, false, cond, List, [], ◌∷◌, ◌++◌, length, get_or, refl, sym, ap, ◌∙◌, append_assoc, arith}
 use Rattle.std.proofs.lemmas.List.{length-map, length-append, map-append, get_or_at}
 use Rattle.std.proofs.lemmas.List.Sums.{sum_by-append, sum_by-cons}
@@ -45,12 +46,7 @@ same_state : (h k s t : ℕ) (p : Position) → h ≡ k → s ≡ t → ◌≡�
 same_state h k s t p e f = λ i. record { hunk = e i; start = f i; position = p }
 
 last_bytes : (es : List TableEntry) (e : TableEntry) → declared_bytes (es ++ e ∷ []) ≡ declared_bytes es + 4 * size_longs e.word
-last_bytes es e =
-    omega (
-      arith,
-      sum_by-append (λ (x : TableEntry). 4 * size_longs x.word) es (e ∷ []),
-      sum_by-cons (λ (x : TableEntry). 4 * size_longs x.word) e [],
-    )
+last_bytes es e = omega (arith, sum_by-append, sum_by-cons)
 
 -- from the open hunk
 module _ (o : HunkSoFar) where
@@ -151,8 +147,7 @@ step_state _ w b f = absurd cc
 
 -- The state tells the refusal.
 pub refusal_same : (p : Progress) (w : ℕ) → IsBehindHeader (More p) → ProgressFits p → refuse (role_of p) w ≡ refusal (sizes_of (table_of (More p))) (state_of (More p)) w
-refusal_same (AtBlock o) w b f =
-    refuse_same (AtBlock o) w f ∙ ap (λ (n : ℕ). refuse (role_at n (position_of (More (AtBlock o)))) w) (sym (declared o))
+refusal_same (AtBlock o) w b f = search rules
 refusal_same (InBody o word x) w b f =
     refuse_same (InBody o word x) w f ∙ ap (λ (n : ℕ). refuse (role_at n (position_of (More (InBody o word x)))) w) (sym (declared o))
 refusal_same _ w b f = absurd cc

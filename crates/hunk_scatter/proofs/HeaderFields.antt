@@ -1,4 +1,5 @@
 -- What the fields of the loader of a header keep, and what they tell.
+use Rattle.std.proofs.Common.{rules}
 use Rattle.std.proofs.Common.{◌≡◌, ℕ, ◌+◌, ◌-◌, ◌*◌, ◌/◌, ◌^◌, ◌<◌, ◌≤◌, Bool, true, false, List, [], ◌∷◌, ◌++◌, length, map, refl, sym, ap, subst, ◌∙◌, append_assoc, append-nil, arith, length-append, Option, Some, None, Ok, ◌⊎◌, inl, inr, ltb, take, drop, length-drop, take-append-drop}
 use Rattle.std.proofs.lemmas.Bool.{ltb-true, ltb-false}
 use Rattle.std.proofs.lemmas.List.{length-map, take_all}
@@ -86,8 +87,7 @@ module _ (budget : ℕ) (rows : List Row) (s : HeaderState) (pending fed : List 
 
   -- where the header is whole
   whole_next : is_behind_header s.position ≡ true → r.has_read.next ≡ open_hunk (length (entries_of rows)) [] (entries_of rows)
-  whole_next done =
-      r.has_read.opens_first (ap is_behind_header r.has_read.position_is ∙ done) ∙ ap (λ (t : List TableEntry). open_hunk (length t) [] t) r.has_read.table_is
+  whole_next done = search rules
 
   pub heading_table : is_behind_header s.position ≡ true → IsHeaderTable (entries_of rows) × (fed ≡ header_bytes (entries_of rows))
   heading_table done =
@@ -149,14 +149,7 @@ module _ (budget : ℕ) (rows : List Row) (s : HeaderState) (pending : List ℕ)
 -- Bytes are taken where the header is not whole.
 pub heading_feeds : (old new : HeaderLoaderValue) (piece : List ℕ) (n : ℕ) → new.budget ≡ old.budget → FeedsFront old.fed piece new.fed n → new.refused ≡ None → (IsHeader old.fed → ⊥) →
     FeedsHeaderOrStops old new piece (Ok n)
-heading_feeds old new piece n budget taken goes_on more = record {
-  budget = budget;
-  taken = taken;
-  goes_on = goes_on;
-  complete = λ w. absurd (more w);
-  stops = tt;
-  remembers = tt;
-}
+heading_feeds old new piece n budget taken goes_on more = search rules
 
 -- What was consumed of a piece keeps to the budget, and so does the piece.
 pub piece_within : (budget : ℕ) (rows : List Row) (s : HeaderState) (pending fed piece after : List ℕ) (n : ℕ) → HeaderReading budget rows s pending after →
@@ -194,12 +187,7 @@ piece_within budget rows s pending fed piece after n r le is all at p = go (ltb 
 -- the same fields, however the state is written
 pub heading_as : (budget : ℕ) (rows rows2 : List Row) (s s2 : HeaderState) (pending pending2 : List ℕ) (count : ℕ) (refused : Option Fault) (fed fed2 : List ℕ) →
     rows2 ≡ rows → s2.position ≡ s.position → s2.total ≡ s.total → pending2 ≡ pending → fed2 ≡ fed → HeaderLoaderInvariant budget rows s pending count refused fed → HeaderLoaderInvariant budget rows2 s2 pending2 count refused fed2
-heading_as budget rows rows2 s s2 pending pending2 count refused fed fed2 e p t d f h =
-    let state : s2 ≡ s = λ i. record { position = p i; total = t i } in
-    subst (λ (x : List Row). HeaderLoaderInvariant budget x s2 pending2 count refused fed2) (sym e)
-    (subst (λ (x : HeaderState). HeaderLoaderInvariant budget rows x pending2 count refused fed2) (sym state)
-    (subst (λ (x : List ℕ). HeaderLoaderInvariant budget rows s x count refused fed2) (sym d)
-    (subst (λ (x : List ℕ). HeaderLoaderInvariant budget rows s pending count refused x) (sym f) h)))
+heading_as budget rows rows2 s s2 pending pending2 count refused fed fed2 e p t d f h = search rules
 
 -- a loader that nothing was fed to
 pub heading_new : (budget : ℕ) → HeaderLoaderInvariant budget [] (record { position = positions.FirstLong; total = 0 }) [] 0 None []

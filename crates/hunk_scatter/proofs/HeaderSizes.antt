@@ -1,4 +1,5 @@
 -- A header that is read in place, with no memory for its rows.
+use Rattle.std.proofs.Common.{rules}
 use Rattle.std.proofs.Common.{◌≡◌, ℕ, ◌+◌, ◌*◌, ◌/◌, ◌^◌, ◌<◌, ◌≤◌, true, false, List, [], ◌∷◌, ◌++◌, length, take, drop, get_or, refl, sym, ap, subst, ◌∙◌, append-nil, arith, length-append, length-take, length-drop, take-append-drop, map, None, inl, inr}
 use Rattle.std.specs.Prelude.{IsTrue}
 use Rattle.std.proofs.lemmas.List.{get_or-drop}
@@ -8,7 +9,6 @@ use Rattle.hunk_words.specs.declared.reason.Reason.{Reason}
 use Rattle.hunk_words.specs.declared.reason.Reason.TheVariants as reasons
 use Rattle.hunk_words.proofs.LongLaws.{bytes_of-append, in_place, longs-bytes_of, length-bytes_of, length-longs}
 use Rattle.hunk_files.specs.Fault.{HasRefusal, IsTruncated, is_word_refusal}
-use Rattle.hunk_files.proofs.Refusals.{refusal_of_word}
 use Rattle.hunk_files.specs.Image.{declared_bytes}
 use Rattle.hunk_files.specs.LoadFile.{TableEntry}
 use Rattle.hunk_files.specs.declared.row.Row.{Row}
@@ -163,9 +163,7 @@ module _ (budget : ℕ) (bytes : List ℕ) (s : HeaderState) (at : ℕ) (h : Hea
           by_reason (stop_accepts budget (take (at + 4) bytes) (drop (at + 4) bytes) _ (stops_here reason (inl r)) (record { table = t; is_table = is; more = rest; fits = inr (whole ∙ e) }))
         where
           refused : IsTrue (is_word_refusal reason)
-          refused =
-              refusal_of_word (take (at + 4) bytes ++ drop (at + 4) bytes) at reason
-              (stop_refused budget (take (at + 4) bytes) (drop (at + 4) bytes) _ (stops_here reason (inl r)) r)
+          refused = search rules
 
           by_reason : IsBudgetOrMemory reason → reason ≡ reasons.Budget
           by_reason (inl b) = b
@@ -175,14 +173,7 @@ module _ (budget : ℕ) (bytes : List ℕ) (s : HeaderState) (at : ℕ) (h : Hea
       pub word_owes : (reason : Reason) → RefusesWord budget s w reason → TellsOwed bytes reason 0
       unfolding stops_here
       word_owes reason (inr o) = subst (λ (x : Reason). TellsOwed bytes x 0) (sym o.reason_is) refl
-      word_owes reason (inl r) =
-          by_reason reason
-          (refusal_of_word (take (at + 4) bytes ++ drop (at + 4) bytes) at reason
-          (stop_refused budget (take (at + 4) bytes) (drop (at + 4) bytes) _ (stops_here reason (inl r)) r))
-        where
-          by_reason : (x : Reason) → IsTrue (is_word_refusal x) → TellsOwed bytes x 0
-          by_reason reasons.Truncated t = let no : IsTrue false = t in absurd cc
-          by_reason _ t = refl
+      word_owes reason (inl r) = search rules
 
 -- The number of hunks stands behind the first two longwords.
 pub hunks_in : (bytes : List ℕ) (t : List TableEntry) (rest : List ℕ) → IsHeaderTable t → bytes ≡ header_bytes t ++ rest → (get_or (longs bytes) 2 0 ≡ length t) × (12 ≤ length bytes)

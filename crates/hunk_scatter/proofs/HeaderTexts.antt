@@ -1,11 +1,11 @@
 -- The longwords of headers: what they spell, and that a reader of load files takes them.
+use Rattle.std.proofs.Common.{rules}
 use Rattle.std.proofs.Common.{◌≡◌, ℕ, ◌+◌, ◌*◌, ◌≤◌, Bool, true, false, List, [], ◌∷◌, ◌++◌, length, refl, sym, ap, subst, ◌∙◌, append_assoc, append-nil, arith}
-use Rattle.std.specs.Prelude.{if◌then◌else◌}
 use Rattle.std.specs.List.{AllByRecursion, flat_map}
 use Rattle.std.proofs.lemmas.List.{map-append}
 use Rattle.hunk_words.specs.Limits.{most_hunks}
 use Rattle.hunk_words.specs.Bits.{has_both_bits}
-use Rattle.hunk_blocks.proofs.Lists.{passes_else, passes_then}
+use Rattle.hunk_blocks.proofs.Lists.{passes_then}
 use Rattle.hunk_grammar.specs.Positions.{is_behind_header}
 use Rattle.hunk_grammar.specs.Roles.{Role, Role as roles}
 use Rattle.hunk_blocks.specs.Faults.{words}
@@ -47,19 +47,8 @@ entries_most [] = omega arith
 entries_most (w ∷ []) = omega arith
 entries_most (w ∷ x ∷ ws) = grind (arith, entries_most ws, entries_most (x ∷ ws))
 
-entries-plain : (w : ℕ) (ws : List ℕ) → has_both_bits w ≡ false → entries_in (w ∷ ws) ≡ table_entry w 0 ∷ entries_in ws
-entries-plain w [] e = passes_else (has_both_bits w) [] (table_entry w 0 ∷ []) e
-entries-plain w (x ∷ ws) e = passes_else (has_both_bits w) (table_entry w x ∷ entries_in ws) (table_entry w 0 ∷ entries_in (x ∷ ws)) e
-
-entries-full : (w x : ℕ) (ws : List ℕ) → has_both_bits w ≡ true → entries_in (w ∷ x ∷ ws) ≡ table_entry w x ∷ entries_in ws
-entries-full w x ws e = passes_then (has_both_bits w) (table_entry w x ∷ entries_in ws) (table_entry w 0 ∷ entries_in (x ∷ ws)) e
-
 entry_first : (e : TableEntry) → IsTableEntry e → (ws : List ℕ) → entries_in (words (entry_labelled e) ++ ws) ≡ e ∷ entries_in ws
-entry_first e h ws = go (has_both_bits e.word) refl
-  where
-    go : (b : Bool) → has_both_bits e.word ≡ b → entries_in (words ((roles.SizeWord, e.word) ∷ (if b then (roles.Attributes, e.extra) ∷ [] else [])) ++ ws) ≡ e ∷ entries_in ws
-    go true is = entries-full e.word e.extra ws is
-    go false is = entries-plain e.word ws is ∙ ap (λ (x : ℕ). table_entry e.word x ∷ entries_in ws) (sym (h.2 is))
+entry_first e h ws = search rules
 
 words-append : (xs ys : Labelled) → words (xs ++ ys) ≡ words xs ++ words ys
 words-append xs ys = map-append (λ (x : Role × ℕ). x.1) xs ys

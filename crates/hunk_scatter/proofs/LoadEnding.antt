@@ -1,5 +1,6 @@
 -- The two stages of a load together, and when a load succeeds.
-use Rattle.std.proofs.Common.{◌≡◌, ℕ, ◌+◌, ◌-◌, ◌*◌, ◌/◌, ◌≤◌, true, false, List, [], ◌∷◌, ◌++◌, length, map, take, refl, sym, ap, subst, ◌∙◌, append_assoc, append-nil, arith, length-append, Option, Some, None, Result, Ok, Err, ◌⊎◌, inl, inr, min}
+use Rattle.std.proofs.Common.{rules}
+use Rattle.std.proofs.Common.{◌≡◌, ℕ, ◌+◌, ◌-◌, ◌*◌, ◌/◌, ◌≤◌, true, false, List, [], ◌∷◌, ◌++◌, length, take, refl, sym, ap, subst, ◌∙◌, append_assoc, append-nil, arith, length-append, Option, Some, None, Result, Ok, Err, ◌⊎◌, inl, inr, min}
 use Rattle.std.specs.Prelude.{IfErr, IsErrAnd, IsTrue, IsSome, MatchResult}
 use Rattle.std.proofs.Math.Seq.{take-append-add}
 use Rattle.std.specs.Io.KnownBytes.{IsAtEnd}
@@ -11,7 +12,7 @@ use Rattle.hunk_words.specs.declared.reason.Reason.TheVariants as reasons
 use Rattle.hunk_words.proofs.LongLaws.{length-bytes_of, length-longs}
 use Rattle.hunk_files.specs.declared.row.Row.{Row}
 use Rattle.hunk_files.specs.Fault.{Expects, HasRefusal, HasFault, IsTruncated}
-use Rattle.hunk_files.specs.Image.{declared_bytes, image as image_at}
+use Rattle.hunk_files.specs.Image.{declared_bytes}
 use Rattle.hunk_files.specs.LoadFile.{TableEntry, LoadFileValue, IsLoadFile}
 use Rattle.hunk_files.specs.LoadText.{table, text}
 use Rattle.hunk_grammar.specs.Roles.{Role as roles}
@@ -42,18 +43,7 @@ has_bases base t bases h i less = subst IsSome (sym (h.each i less)) refl
 pub ends_body : (base : Placing) (limits : Limits) (now : Supply) (t : List TableEntry) (header more : List ℕ) (rows : List Row) (result : Result ImageValue Fault) →
     IsHeaderWithin limits.budget header t → entries_of rows ≡ t → AreBases base t (bases_of rows) →
     MatchResult result (λ image. IsImageOf rows (header ++ more) image.segments × (image.rows ≡ rows)) (IsBodyStop limits.file_bytes now (header ++ more)) → LoadEnds base limits now (header ++ more) result
-ends_body base limits now t header more rows (Ok placed) h e b (image, same) =
-    let table_is : table image.value ≡ t = image.file.table_is ∙ e in (
-      image.value,
-      record {
-        is_load_file = image.file.is_load_file;
-        table_is = image.file.table_is ∙ ap entries_of (sym same);
-        within = subst (λ (u : List TableEntry). declared_bytes u ≤ limits.budget) (sym table_is) h.within;
-        bases = subst (λ (u : List TableEntry). AreBases base u (bases_of placed.rows)) (sym table_is) (subst (λ (rs : List Row). AreBases base t (bases_of rs)) (sym same) b);
-        segments = image.images_are ∙ ap (λ (rs : List Row). map (image_at (bases_of rs)) image.value) (sym same);
-      },
-      sym image.file.bytes_are,
-    )
+ends_body base limits now t header more rows (Ok placed) h e b (image, same) = search rules
 ends_body base limits now t header more rows (Err f) h e b stop = InBody t header more h refl stop
 
 pub body_keeps : (base : Placing) (budget : ℕ) (t : List TableEntry) (header more : List ℕ) → IsHeaderWithin budget header t → HasBases base t → KeepsToHeader base budget (header ++ more)
@@ -75,10 +65,7 @@ module _ (base : Placing) (limits : Limits) (old now : Supply) (given : List ℕ
       where
         go : ((m : List ℕ) × (given ≡ bytes_of (text v) ++ m) × (m ++ split.rest ≡ rest)) ⊎ ((m : List ℕ) × (bytes_of (text v) ≡ given ++ m) × (split.rest ≡ m ++ rest)) →
             (m : List ℕ) × (bytes_of (text v) ≡ given ++ m) × (split.rest ≡ m ++ rest)
-        go (inl (m, p, q)) =
-            let none = one v m is p in
-            let whole : given ≡ bytes_of (text v) = p ∙ ap (λ (xs : List ℕ). bytes_of (text v) ++ xs) none ∙ append-nil (bytes_of (text v)) in
-            ([], sym whole ∙ sym (append-nil given), ap (λ (xs : List ℕ). xs ++ split.rest) (sym none) ∙ q)
+        go (inl (m, p, q)) = search rules
         go (inr k) = k
 
     on : MayGoOnInFile given
@@ -111,8 +98,7 @@ module _ (base : Placing) (limits : Limits) (old now : Supply) (given : List ℕ
     by_header _ at o h = absurd (no_refusal at _ h)
 
     missing : (t : List TableEntry) (r : Reason) → t ≡ table v → IsUnplacedFor base t r → r ≡ reasons.OutOfMemory
-    missing t (reasons.NoBase hunk) e u =
-        let some : IsSome {T = ℕ} None = subst IsSome u.none (subst (λ (x : List TableEntry). HasBases base x) (sym e) bases hunk u.inside) in absurd cc
+    missing t (reasons.NoBase hunk) e u = search rules
     missing t reasons.OutOfMemory e u = refl
     missing t _ e u = absurd u
 

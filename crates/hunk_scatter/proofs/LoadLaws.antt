@@ -1,5 +1,6 @@
 -- What follows from how a load ends.
-use Rattle.std.proofs.Common.{◌≡◌, ℕ, ◌≤◌, List, [], ◌++◌, length, refl, sym, ap, subst, ◌∙◌, append-nil, arith, Option, Some, None, ◌⊎◌, inl, inr}
+use Rattle.std.proofs.Common.{rules}
+use Rattle.std.proofs.Common.{◌≡◌, ℕ, ◌≤◌, List, [], ◌++◌, length, refl, sym, ap, subst, ◌∙◌, append-nil, arith, Some, None, ◌⊎◌, inl, inr}
 use Rattle.std.specs.Prelude.{IsTrue, IsSome}
 use Rattle.std.specs.Io.KnownBytes.{Consumes}
 use Rattle.hunk_words.specs.Carriers.{Supply}
@@ -7,14 +8,14 @@ use Rattle.hunk_words.specs.Longs.{bytes_of}
 use Rattle.hunk_words.specs.declared.fault.Fault.{Fault}
 use Rattle.hunk_words.specs.declared.reason.Reason.{Reason}
 use Rattle.hunk_words.specs.declared.reason.Reason.TheVariants as reasons
-use Rattle.hunk_files.specs.Fault.{HasRefusal, IsTruncated}
+use Rattle.hunk_files.specs.Fault.{HasRefusal}
 use Rattle.hunk_files.specs.Image.{declared_bytes}
 use Rattle.hunk_files.specs.LoadFile.{TableEntry, LoadFileValue, IsLoadFile}
 use Rattle.hunk_files.specs.LoadText.{text}
 use Rattle.hunk_scatter.specs.LoaderReasons.{is_of_header, is_of_body}
 use Rattle.hunk_scatter.specs.HeaderBytes.{IsHeaderTable, header_bytes, IsHeaderFront}
 use Rattle.hunk_scatter.specs.HeaderFaults.{ExceedsBudget, IsHeaderFaultBy}
-use Rattle.hunk_scatter.specs.LoadOutcomes.{Gives, KeepsRest, IsNotPlaced, IsUnfinished, IsHeaderWithin, IsLoadFaultBy, IsLoadFault, GoesPastNoFile, IsReadFault, StopsShort, KeepsToHeader, LoadStop, InHeader, Between, InBody}
+use Rattle.hunk_scatter.specs.LoadOutcomes.{Gives, KeepsRest, IsNotPlaced, IsHeaderWithin, IsLoadFaultBy, IsLoadFault, GoesPastNoFile, StopsShort, KeepsToHeader, LoadStop, InHeader, Between, InBody}
 use Rattle.hunk_scatter.specs.Placing.{Placing, HasBases, IsUnplacedFor}
 use Rattle.hunk_scatter.specs.declared.loading.Limits.{Limits}
 use Rattle.hunk_scatter.proofs.Feeding.{fronts_of}
@@ -36,11 +37,7 @@ pub record IsSplit (old new : Supply) (input given : List ℕ) : Type 0 where
   pub split : input ≡ given ++ rest
 
 pub split_of : (old new : Supply) (input given : List ℕ) → old.left ≡ Some input → Consumes old.left new.left given → IsSplit old new input given
-split_of old new input given e c = go new.left refl (subst (λ (o : Option (List ℕ)). Consumes o new.left given) e c)
-  where
-    go : (n : Option (List ℕ)) → new.left ≡ n → Consumes (Some input) n given → IsSplit old new input given
-    go None is c = absurd c
-    go (Some ys) is c = record { rest = ys; left_is = is; split = c }
+split_of old new input given e c = search rules
 
 keeps_behind : (old new : Supply) (given whole rest : List ℕ) → Consumes old.left new.left given → ((m : List ℕ) → given ≡ whole ++ m → m ≡ []) → old.left ≡ Some (whole ++ rest) → KeepsRest new rest
 keeps_behind old new given whole rest c none e =
@@ -61,11 +58,6 @@ keeps_header base budget old new limit given g k t rest is e n = keeps_behind ol
     go m (inr h) (inr (hunk, inside, none)) = let some : IsSome {T = ℕ} None = subst IsSome none (h.1 hunk inside) in absurd cc
 
 -- ---- the answers
-
--- what is said of a reason is said of an equal one
-as_reason : (base : Placing) (limits : Limits) (now : Supply) (given : List ℕ) (at : ℕ) (r s : Reason) → s ≡ r →
-    IsLoadFaultBy r base limits now given at → IsLoadFaultBy s base limits now given at
-as_reason base limits now given at r s e h = subst (λ (x : Reason). IsLoadFaultBy x base limits now given at) (sym e) h
 
 module _ (base : Placing) (limits : Limits) (now : Supply) (given : List ℕ) (at : ℕ) where
   by_header : (r : Reason) → IsTrue (is_of_header r) → IsHeaderFaultBy r limits.budget given at → (r ≡ reasons.OutOfMemory → IsHeaderFront given) → IsLoadFaultBy r base limits now given at
@@ -95,19 +87,9 @@ module _ (base : Placing) (limits : Limits) (now : Supply) (given : List ℕ) (a
   between reasons.OutOfMemory t h u p = (record { table = t; is_table = h.is_table; more = []; fits = sym h.header ∙ sym (append-nil given) }, inr (t, h, u, p))
   between _ t h u p = absurd u
 
-short_of : (limits : Limits) (now : Supply) (given : List ℕ) (f : Fault) → StopsShort limits.file_bytes now given f → ((at : ℕ) → ExceedsBudget limits.budget given at → ⊥) → IsUnfinished limits.budget given
-short_of limits now given f s n = record { clean = s.clean; truncated = s.truncated; none_passes = n }
-
 short_fault : (base : Placing) (limits : Limits) (now : Supply) (given : List ℕ) (f : Fault) → StopsShort limits.file_bytes now given f → ((at : ℕ) → ExceedsBudget limits.budget given at → ⊥) →
     IsLoadFault base limits now given f
-short_fault base limits now given f s n = go s.why
-  where
-    go : IsReadFault limits.file_bytes now (length given) f → IsLoadFault base limits now given f
-    go (inl (e, p, c)) = as_reason base limits now given f.place reasons.FileLimit f.reason e (p, c, short_of limits now given f s n)
-    go (inr (inl (e, p, x))) = as_reason base limits now given f.place reasons.Read f.reason e (p, x, short_of limits now given f s n)
-    go (inr (inr (e, p, x))) =
-        as_reason base limits now given f.place reasons.Truncated f.reason e
-        (x, subst (IsTruncated given) (sym p) s.truncated, short_of limits now given f s n)
+short_fault base limits now given f s n = search rules
 
 header_within_of : (budget : ℕ) (t : List TableEntry) (header more given : List ℕ) → IsHeaderWithin budget header t → given ≡ header ++ more → (at : ℕ) → ExceedsBudget budget given at → ⊥
 header_within_of budget t header more given h e at p = table_within t h.is_table budget given more h.within (e ∙ ap (λ (xs : List ℕ). xs ++ more) h.header) at p

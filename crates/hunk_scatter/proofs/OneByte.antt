@@ -1,4 +1,5 @@
 -- Bytes of a body up to the end of a longword.
+use Rattle.std.proofs.Common.{rules}
 use Rattle.std.proofs.Common.{◌≡◌, ℕ, ◌+◌, ◌*◌, ◌<◌, true, false, List, [], ◌∷◌, ◌++◌, length, refl, sym, ap, ap₂, subst, ◌∙◌, append_assoc, append-nil, arith, length-append, None, Some}
 use Rattle.std.specs.List.{AllByRecursion}
 use Rattle.std.proofs.lemmas.List.Sums.{sum_by-append, sum_by-cons}
@@ -78,19 +79,12 @@ pub sizes_are : (rows : List Row) → sizes_of (entries_of rows) ≡ words_of ro
 sizes_are [] = refl
 sizes_are (r ∷ rows) = ap (λ (xs : List ℕ). r.word ∷ xs) (sizes_are rows)
 
-pub not_done : (p : Progress) → IsBehindHeader (More p) → is_done (state_of (More p)).position ≡ false
-not_done (AtBlock o) b = refl
-not_done (InBody o word x) b = refl
-not_done _ b = absurd cc
-
 -- ---- a reading
 
 -- by other names
 pub stands_as : (rows : List Row) (store store2 : List ℕ) (state state2 : BodyState) (pending pending2 fed : List ℕ) → store2 ≡ store → state2 ≡ state → pending2 ≡ pending →
     StandsBehind rows store state pending fed → StandsBehind rows store2 state2 pending2 fed
-stands_as rows store store2 state state2 pending pending2 fed e f g r =
-    subst (λ (x : List ℕ). StandsBehind rows x state2 pending2 fed) (sym e)
-    (subst (λ (x : BodyState). StandsBehind rows store x pending2 fed) (sym f) (subst (λ (x : List ℕ). StandsBehind rows store state x fed) (sym g) r))
+stands_as rows store store2 state state2 pending pending2 fed e f g r = search rules
 
 -- ---- a reading that goes on
 
@@ -107,13 +101,7 @@ pub record Going (rows : List Row) (store : List ℕ) (state : BodyState) (pendi
   pub holds : StoreHolds (bases_of rows) (More at) store
 
 pub going : (rows : List Row) (store : List ℕ) (state : BodyState) (pending fed : List ℕ) → StandsBehind rows store state pending fed → is_done state.position ≡ false → Going rows store state pending fed
-going rows store state pending fed r more = go r.next r.read r.behind r.table_is r.state_is r.holds
-  where
-    go : (n : Next) → HasRead r.ws n → IsBehindHeader n → table_of n ≡ entries_of rows → state_of n ≡ state → StoreHolds (bases_of rows) n store → Going rows store state pending fed
-    go (More p) read b t s h = record { ws = r.ws; at = p; spelled = r.spelled; few = r.few; read = read; in_body = b; table_is = t; state_is = s; holds = h }
-    go (Finished v) read b t s h =
-        let done : true ≡ is_done state.position = ap (λ (x : BodyState). is_done x.position) s in
-        absurd (cc (done, more))
+going rows store state pending fed r more = search rules
 
 module _ (rows : List Row) (store : List ℕ) (state : BodyState) (pending fed : List ℕ) (g : Going rows store state pending fed) where
   sizes_now : sizes_of (table_of (More g.at)) ≡ words_of rows
@@ -197,9 +185,7 @@ file_read rows store state pending fed r done = go r.next r.read r.behind r.tabl
   where
     go : (n : Next) → HasRead r.ws n → IsBehindHeader n → table_of n ≡ entries_of rows → state_of n ≡ state → StoreHolds (bases_of rows) n store → EndsWhole n pending →
         (v : LoadFileValue) × IsFileWithRows rows fed v × AllByRecursion (HasSizedImage (bases_of rows)) v × (store ≡ images (bases_of rows) v)
-    go (More p) read b t s h w =
-        let more : is_done state.position ≡ false = ap (λ (x : BodyState). is_done x.position) (sym s) ∙ not_done p b in
-        absurd (cc (done, more))
+    go (More p) read b t s h w = search rules
     go (Finished v) read b t s h w =
         let e = read_ended r.ws v read in (
           v,

@@ -1,4 +1,5 @@
 -- Longwords of a content, a payload, a name or a list of offsets at once.
+use Rattle.std.proofs.Common.{rules}
 use Rattle.std.proofs.Common.{◌≡◌, ℕ, zero, suc, ◌+◌, ◌-◌, ◌*◌, ◌/◌, ◌%◌, ◌<◌, ◌≤◌, false, get_or, None, List, [], ◌∷◌, ◌++◌, length, take, drop, refl, sym, ap, ap₂, subst, ◌∙◌, append_assoc, append-nil, arith, length-append, length-take}
 use Rattle.std.specs.Int.{w32, to_be_bytes}
 use Rattle.std.proofs.lemmas.List.{take_at, drop-drop, take-append-drop}
@@ -14,7 +15,6 @@ use Rattle.hunk_grammar.specs.declared.position.Position.{Position}
 use Rattle.hunk_grammar.specs.declared.position.Position.TheVariants as positions
 use Rattle.hunk_blocks.specs.PhaseSteps as inside
 use Rattle.hunk_grammar.specs.Positions.{onward, is_done, run, pass, owe_content, owe_payload, owe_symbol, EndsWithin}
-use Rattle.hunk_grammar.proofs.OffsetRuns.{offset_passes}
 use Rattle.hunk_scatter.specs.declared.store.BodyState.{BodyState}
 use Rattle.hunk_scatter.specs.BodyLoaderFields.{StandsBehind}
 use Rattle.hunk_scatter.specs.BodySteps.{longs_at, pass_body, IsInStore, refusal, step_body}
@@ -118,49 +118,22 @@ module _ (rows : List Row) (hunk start : ℕ) where
       moves (suc n) w = refl
 
   payload_owing : (o : OpenHunk) → Owing IsLong (λ n store. Unit {0}) (owe_payload o) (λ n ws store. store)
-  payload_owing o =
-      record { goes_on = λ n. refl; passes = λ n w l. refl; moves = moves; room = λ n w store h. tt; none = λ n store. refl; more = λ n w ws store h. refl }
-    where
-      moves : (n w : ℕ) → step_body (words_of rows) (at (owe_payload o (suc n))) w ≡ at (owe_payload o n)
-      moves zero w = refl
-      moves (suc n) w = refl
+  payload_owing o = search rules
 
   symbol_owing : (o : OpenHunk) → Owing IsLong (λ n store. Unit {0}) (owe_symbol o) (λ n ws store. store)
-  symbol_owing o =
-      record { goes_on = λ n. refl; passes = λ n w l. refl; moves = moves; room = λ n w store h. tt; none = λ n store. refl; more = λ n w ws store h. refl }
-    where
-      moves : (n w : ℕ) → step_body (words_of rows) (at (owe_symbol o (suc n))) w ≡ at (owe_symbol o n)
-      moves zero w = refl
-      moves (suc n) w = refl
+  symbol_owing o = search rules
 
   front_owing : (o : OpenHunk) → Owing IsLong (λ n store. Unit {0}) (λ n. onward o (positions.Body o phases.BlockWord) (inside.owe_front n)) (λ n ws store. store)
-  front_owing o =
-      record { goes_on = λ n. refl; passes = λ n w l. refl; moves = moves; room = λ n w store h. tt; none = λ n store. refl; more = λ n w ws store h. refl }
-    where
-      moves : (n w : ℕ) → step_body (words_of rows) (at (onward o (positions.Body o phases.BlockWord) (inside.owe_front (suc n)))) w ≡ at (onward o (positions.Body o phases.BlockWord) (inside.owe_front n))
-      moves zero w = refl
-      moves (suc n) w = refl
+  front_owing o = search rules
 
   rest_owing : (o : OpenHunk) → Owing IsLong (λ n store. Unit {0}) (λ n. onward o (positions.Body o phases.BlockWord) (inside.owe_rest n)) (λ n ws store. store)
-  rest_owing o =
-      record { goes_on = λ n. refl; passes = λ n w l. refl; moves = moves; room = λ n w store h. tt; none = λ n store. refl; more = λ n w ws store h. refl }
-    where
-      moves : (n w : ℕ) → step_body (words_of rows) (at (onward o (positions.Body o phases.BlockWord) (inside.owe_rest (suc n)))) w ≡ at (onward o (positions.Body o phases.BlockWord) (inside.owe_rest n))
-      moves zero w = refl
-      moves (suc n) w = refl
+  rest_owing o = search rules
 
   -- one offset at least is still owed
   offsets_owing : (o : OpenHunk) (target : ℕ) →
       Owing (EndsWithin (4 * longs_at (words_of rows) hunk)) (λ n store. Unit {0}) (λ n. positions.Body o (phases.Offset target n))
       (λ n ws store. added_at_each start (get_or (bases_of rows) target 0) ws store)
-  offsets_owing o target = record {
-    goes_on = λ n. refl;
-    passes = λ n w within. offset_passes (longs_at (words_of rows) hunk) o target n w within;
-    moves = λ n w. refl;
-    room = λ n w store h. tt;
-    none = λ n store. refl;
-    more = λ n w ws store h. refl;
-  }
+  offsets_owing o target = search rules
 
 run_read : (rows : List Row) (hunk start : ℕ) (p : Position) (store fed ws : List ℕ) → AreLongs ws → StandsBehind rows store (record { hunk = hunk; start = start; position = p }) [] fed →
     IsInStore (words_of rows) (length store) (record { hunk = hunk; start = start; position = p }) → 0 < length ws → length ws ≤ run p →
@@ -239,10 +212,4 @@ read_offsets rows store store2 state state2 fed piece n r are fits t =
 pub offsets_taken : (sizes bases : List ℕ) (hunk start : ℕ) (p : Position) (o : OpenHunk) (target owed limit base left : ℕ) (ws store store2 : List ℕ) → positions.Body o (phases.Offset target owed) ≡ p →
     length ws ≤ owed → AllByRecursion (EndsWithin limit) ws → limit ≡ 4 * longs_at sizes hunk → base ≡ get_or bases target 0 → left ≡ owed - length ws → store2 ≡ added_at_each start base ws store →
     TakesOffsets sizes bases (record { hunk = hunk; start = start; position = p }) ws store (record { hunk = hunk; start = start; position = positions.Body o (phases.Offset target left) }) store2
-offsets_taken sizes bases hunk start p o target owed limit base left ws store store2 is fits all e f g d =
-    subst (λ (q : Position). TakesOffsets sizes bases (record { hunk = hunk; start = start; position = q }) ws store (record { hunk = hunk; start = start; position = positions.Body o (phases.Offset target left) }) store2) is (
-      fits,
-      subst (λ (n : ℕ). AllByRecursion (EndsWithin n) ws) e all,
-      ap (λ (n : ℕ). record { hunk = hunk; start = start; position = positions.Body o (phases.Offset target n) }) g,
-      d ∙ ap (λ (n : ℕ). added_at_each start n ws store) f,
-    )
+offsets_taken sizes bases hunk start p o target owed limit base left ws store store2 is fits all e f g d = search rules

@@ -1,4 +1,5 @@
 -- Each longword keeps what the store holds.
+use Rattle.std.proofs.Common.{rules}
 use Rattle.std.proofs.Common.{◌≡◌, ℕ, suc, ◌+◌, ◌-◌, ◌*◌, ◌≤◌, Bool, true, false, List, [], ◌∷◌, ◌++◌, length, get_or, replicate, refl, sym, ap, ap₂, ◌∙◌, append_assoc, append-nil, arith, length-append, ltb, None}
 use Rattle.std.specs.List.{flat_map, AllByRecursion}
 use Rattle.std.specs.Int.{w32, to_be_bytes}
@@ -38,16 +39,10 @@ pairs_of o = flat_map (λ b. block_relocations b.body) o.blocks
 -- ---- a segment that is as it was
 
 holds_as : (bases : List ℕ) (o : HunkSoFar) (n m : BlockNext) (store : List ℕ) → segment_so_far bases o m ≡ segment_so_far bases o n → Holds bases o n store → Holds bases o m store
-holds_as bases o n m store e h = record {
-  front = h.front;
-  segment = ap length e ∙ h.segment;
-  unplaced = h.unplaced;
-  store_is = h.store_is ∙ ap (λ (s : List ℕ). images bases o.finished ++ (s ++ zeros o.ahead)) (sym e);
-}
+holds_as bases o n m store e h = search rules
 
 same_parts : (bases : List ℕ) (o : HunkSoFar) (n m : BlockNext) → bytes_so_far m ≡ bytes_so_far n → pairs_so_far m ≡ pairs_so_far n → segment_so_far bases o m ≡ segment_so_far bases o n
-same_parts bases o n m e d =
-    ap₂ (λ (bs : List ℕ) (ps : List (ℕ × ℕ)). relocated bases (filled (4 * size_longs o.entry.word) (contents_of o ++ bs)) (pairs_of o ++ ps)) e d
+same_parts bases o n m e d = search rules
 
 nothing_added : (bases : List ℕ) (o : HunkSoFar) (x : Inside) (w : ℕ) → adds_bytes x w ≡ [] → adds_pairs x w ≡ [] → segment_so_far bases o (step_inside x w) ≡ segment_so_far bases o (Open x)
 nothing_added bases o x w e d =
@@ -95,10 +90,7 @@ add_holds bases o n m store k base fits e h =
 -- while the content comes, the segment is what has come of it
 content_only : (bases : List ℕ) (o : HunkSoFar) (n : BlockNext) (c : List ℕ) → contents_of o ≡ [] → pairs_of o ≡ [] → bytes_so_far n ≡ c → pairs_so_far n ≡ [] →
     segment_so_far bases o n ≡ filled (4 * size_longs o.entry.word) c
-content_only bases o n c e d f g =
-    ap₂ (λ (bs : List ℕ) (ps : List (ℕ × ℕ)). relocated bases (filled (4 * size_longs o.entry.word) bs) ps)
-    (ap₂ (λ (xs ys : List ℕ). xs ++ ys) e f)
-    (ap₂ (λ (xs ys : List (ℕ × ℕ)). xs ++ ys) d g)
+content_only bases o n c e d f g = search rules
 
 inside_holds : (bases : List ℕ) (o : HunkSoFar) (word : ℕ) (x : Inside) (w : ℕ) (store : List ℕ) → IsAdmitted o word → blocks.Fits (place_of o) word x →
     refuse_part (place_of o) (part_of x) w ≡ None → Holds bases o (Open x) store → Holds bases o (step_inside x w) (stored_in bases (before o.finished) (position_of (More (InBody o word x))) w store)

@@ -1,7 +1,7 @@
 -- A loader of numbers.
-use Rattle.std.proofs.Common.{◌≡◌, ℕ, ◌-◌, ◌*◌, ◌≤◌, ◌<◌, Bool, true, false, List, [], ◌∷◌, ◌++◌, length, get_or, take, refl, sym, ap, arith, Err, None}
+use Rattle.std.proofs.Common.{rules}
+use Rattle.std.proofs.Common.{◌≡◌, ℕ, ◌-◌, ◌*◌, ◌≤◌, ◌<◌, Bool, true, false, List, [], ◌∷◌, ◌++◌, length, get_or, take, refl, sym, arith, Err, None}
 use Rattle.hunk_files.specs.declared.row.Row.{Row}
-use Rattle.hunk_words.specs.Carriers.{saturated}
 use Rattle.hunk_words.specs.declared.pending.Pending.{Pending}
 use Rattle.hunk_grammar.specs.declared.phase.OpenHunk.{OpenHunk}
 use Rattle.hunk_blocks.specs.declared.phase.Phase.{Phase}
@@ -16,7 +16,7 @@ use Rattle.hunk_scatter.specs.declared.stream.Standing.{Standing}
 use Rattle.hunk_scatter.specs.BodyLoaderFields.{StandsBehind}
 use Rattle.hunk_scatter.specs.Streaming.{IsFed, IsWithin, EndsLoading, StandsAfter, TakesPart}
 use Rattle.hunk_words.specs.PendingBytes.{pending_of}
-use Rattle.hunk_scatter.proofs.BodyFields.{fed_more, in_room, image_of, fed_clean, fed_truncated, none_pending, owes_file}
+use Rattle.hunk_scatter.proofs.BodyFields.{in_room, image_of, fed_clean, fed_truncated, owes_file}
 use Rattle.hunk_words.proofs.PendingLaws.{pending_few}
 
 -- Behind the header the file is whole, or a hunk is open.
@@ -47,8 +47,7 @@ any_count rows store s fed h = record { counted = refl; hunks = h.hunks; size = 
 -- Behind more bytes that were read.
 pub stands_more : (rows : List Row) (store store2 : List ℕ) (at : Standing) (state : BodyState) (pending : Pending) (fed bytes : List ℕ) → StandsAfter rows store at fed → length store2 ≡ length store →
     StandsBehind rows store2 state (pending_of pending) (fed ++ bytes) → StandsAfter rows store2 (record { state = state; fed = at.fed; pending = pending }) (fed ++ bytes)
-stands_more rows store store2 at state pending fed bytes h same r =
-    fed_more rows store _ fed h store2 (record { state = state; fed = saturated (length (fed ++ bytes)); pending = pending }) bytes same refl r
+stands_more rows store store2 at state pending fed bytes h same r = search rules
 
 -- Numbers that lead out of the rows or the store are no loader's.
 pub strange : (rows : List Row) (store : List ℕ) (at : Standing) (piece : List ℕ) → is_done at.state.position ≡ false → (IsInStore (words_of rows) (length store) at.state → ⊥) →
@@ -77,11 +76,7 @@ pending_counted p h = grind arith
 -- A loader has no more bytes of a longword than that has; where the file is whole, it has none.
 module _ (rows : List Row) (store : List ℕ) (s : Standing) (fed : List ℕ) (h : IsFed rows store s fed) (longs : ℕ) (least : longs ≡ least_longs s.state.position) (some : is_done s.state.position ≡ false → 0 < longs) where
   pending_room : s.pending.count ≤ 4 * longs
-  pending_room = go (is_done s.state.position) refl
-    where
-      go : (b : Bool) → is_done s.state.position ≡ b → s.pending.count ≤ 4 * longs
-      go false more = omega (arith, some more, pending_few s.pending h.stands.few)
-      go true done = omega (arith, ap length (none_pending rows store s fed h done), pending_counted s.pending h.stands.few)
+  pending_room = search rules
 
   pub still_owes : FileOwes fed (4 * longs - s.pending.count)
   still_owes = owes_file rows store s fed h (4 * longs - s.pending.count) (omega (arith, least, pending_room, pending_counted s.pending h.stands.few))

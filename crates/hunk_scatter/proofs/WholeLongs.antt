@@ -1,16 +1,16 @@
 -- Longwords that lie whole in a piece of a body, taken one part after another.
-use Rattle.std.proofs.Common.{◌≡◌, ℕ, ◌+◌, ◌-◌, ◌*◌, ◌/◌, ◌%◌, ◌<◌, ◌≤◌, false, List, [], ◌∷◌, ◌++◌, length, take, drop, get_or, None, Some, Ok, Err, refl, sym, ap, subst, ◌∙◌, arith, length-take, length-drop, length-append, append_assoc, append-nil, take-append-drop}
+use Rattle.std.proofs.Common.{rules}
+use Rattle.std.proofs.Common.{◌≡◌, ℕ, ◌+◌, ◌-◌, ◌*◌, ◌/◌, ◌%◌, ◌<◌, ◌≤◌, false, List, [], ◌∷◌, ◌++◌, length, take, drop, get_or, None, Some, Ok, Err, refl, sym, ap, subst, ◌∙◌, arith, length-take, length-drop, length-append, append_assoc, take-append-drop}
 use Rattle.std.proofs.lemmas.List.{drop-drop, take_rest}
 use Rattle.std.proofs.Math.Seq.{take-add}
 use Rattle.hunk_words.specs.declared.reason.Reason.{Reason}
 use Rattle.hunk_words.specs.Longs.{bytes_of, longs, IsBytes, IsLong}
 use Rattle.hunk_files.specs.Fault.{HasRefusal}
-use Rattle.hunk_files.specs.FileSteps.{Next, More, Finished}
 use Rattle.hunk_files.specs.declared.row.Row.{Row}
 use Rattle.hunk_grammar.specs.Positions.{is_done, run}
 use Rattle.hunk_grammar.specs.declared.position.Position.{Position}
 use Rattle.hunk_scatter.specs.declared.store.BodyState.{BodyState}
-use Rattle.hunk_scatter.specs.BodyLoaderFields.{EndsWhole, ReadsOn, ReadyAt, RefusesFirstLong, StandsBehind, TakesOrRefuses}
+use Rattle.hunk_scatter.specs.BodyLoaderFields.{ReadsOn, ReadyAt, RefusesFirstLong, StandsBehind, TakesOrRefuses}
 use Rattle.hunk_scatter.specs.BodySteps.{refusal, step_body, pass_body, IsInStore}
 use Rattle.hunk_scatter.specs.Rows.{words_of, bases_of}
 use Rattle.hunk_scatter.specs.StoreContent.{stored_long, stored_run}
@@ -90,28 +90,13 @@ module _ (rows : List Row) (store : List ℕ) (state : BodyState) (position : Po
 
 -- ---- a longword that these bytes complete
 
-none_pending : (n : Next) → EndsWhole n []
-none_pending (More p) = tt
-none_pending (Finished v) = refl
-
 -- What it does whole, it does behind the bytes that were pending.
 module _ (rows : List Row) (store : List ℕ) (state : BodyState) (pending fed bytes four : List ℕ) (r : StandsBehind rows store state pending fed) (gathers : pending ++ bytes ≡ four) where
   abbrev front : List ℕ
   front = bytes_of r.ws
 
   front_stands : StandsBehind rows store state [] front
-  front_stands = record {
-    few = omega arith;
-    ws = r.ws;
-    next = r.next;
-    spelled = sym (append-nil (bytes_of r.ws));
-    read = r.read;
-    behind = r.behind;
-    table_is = r.table_is;
-    state_is = r.state_is;
-    holds = r.holds;
-    whole = none_pending r.next;
-  }
+  front_stands = search rules
 
   spells : front ++ four ≡ fed ++ bytes
   spells = sym (ap (λ (xs : List ℕ). xs ++ bytes) r.spelled ∙ append_assoc (bytes_of r.ws) pending bytes ∙ ap (λ (xs : List ℕ). bytes_of r.ws ++ xs) gathers)
