@@ -2,19 +2,13 @@
 use Rattle.std.proofs.Common.{◌≡◌, ℕ, List, [], ◌∷◌, ◌++◌, length, refl, ap, subst, ◌∙◌, append_assoc, None}
 use Rattle.std.proofs.lemmas.List.{map-append}
 use Rattle.hunk_blocks.specs.Faults.{words}
-use Rattle.hunk_files.specs.Fault.{Expects}
-use Rattle.hunk_files.specs.LoadFile.{TableEntry}
-use Rattle.hunk_files.specs.LoadText.{text}
-use Rattle.hunk_grammar.specs.Roles.{Role, Role as roles, refuse}
+use Rattle.hunk_files.specs.{Fault.Expects, LoadFile.TableEntry, LoadText.text}
 use Rattle.hunk_files.specs.FileSteps.{Progress, AtBlock, InBody, Next, More, Finished, open_hunk, role_of, step_file, Leads}
-use Rattle.hunk_files.proofs.Reading.{reads, rest_read, read_passes}
-use Rattle.hunk_files.specs.WordsRead.{HasRead, Labelled}
-use Rattle.hunk_files.proofs.Scan.{expected_place, expects_of, one_role}
+use Rattle.hunk_files.specs.{WordsRead.{HasRead, Labelled}, ReaderPosition.IsBehindHeader}
+use Rattle.hunk_grammar.specs.Roles.{Role, Role as roles, refuse}
+use Rattle.hunk_files.proofs.{Reading.{reads, rest_read, read_passes}, Scan.{expected_place, expects_of, one_role}}
 use Rattle.hunk_scatter.specs.HeaderBytes.{IsHeaderTable, header_words}
-use Rattle.hunk_files.specs.ReaderPosition.{IsBehindHeader}
-use Rattle.hunk_scatter.proofs.Forget.{step_behind}
-use Rattle.hunk_scatter.proofs.HeaderTexts.{header_read}
-use Rattle.hunk_scatter.proofs.Outcomes.{begins_file}
+use Rattle.hunk_scatter.proofs.{Forget.step_behind, HeaderTexts.header_read, Outcomes.begins_file}
 
 behind_leads : (n : Next) → IsBehindHeader n → (ls : Labelled) (p : Progress) → Leads n ls (More p) → IsBehindHeader (More p)
 behind_leads n b [] p run = subst IsBehindHeader run b

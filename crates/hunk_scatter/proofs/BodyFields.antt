@@ -1,46 +1,27 @@
 -- What is known where a loader of a body stands after bytes.
-use Rattle.std.proofs.Common.{rules}
-use Rattle.std.proofs.Common.{◌≡◌, ℕ, ◌+◌, ◌*◌, ◌/◌, ◌^◌, ◌≤◌, ◌<◌, Bool, true, false, List, [], ◌∷◌, ◌++◌, length, map, take, drop, refl, sym, ap, ap₂, subst, ◌∙◌, append_assoc, append-nil, arith, length-append, drop_of_length-le, is_some, Option, None, Some}
+use Rattle.std.proofs.Common.{rules, ◌≡◌, ℕ, ◌+◌, ◌*◌, ◌/◌, ◌^◌, ◌≤◌, ◌<◌, Bool, true, false, List, [], ◌∷◌, ◌++◌, length, map, take, drop, refl, sym, ap, ap₂, subst, ◌∙◌, append_assoc, append-nil, arith, length-append, drop_of_length-le, is_some, Option, None, Some}
 use Rattle.std.specs.List.{AllByRecursion}
 use Rattle.std.proofs.lemmas.List.{map-append, length-map, take_all, take_at, drop_at}
-use Rattle.hunk_words.specs.declared.fault.Fault.{Fault}
-use Rattle.hunk_words.specs.Bits.{size_longs}
-use Rattle.hunk_words.specs.Longs.{bytes_of, longs, AreLongs}
-use Rattle.hunk_blocks.specs.Faults.{words}
-use Rattle.hunk_files.specs.Fault.{IsTruncated}
-use Rattle.hunk_files.specs.Image.{image, images}
-use Rattle.hunk_files.specs.LoadFile.{HunkValue, LoadFileValue, IsLoadFile}
-use Rattle.hunk_files.specs.LoadText.{text, table}
-use Rattle.hunk_files.specs.FileSteps.{Progress, AtBlock, InBody, Next, More, Finished, Leads}
-use Rattle.hunk_files.specs.WordsRead.{HasRead, Labelled}
-use Rattle.hunk_grammar.specs.Roles.{Role}
-use Rattle.hunk_scatter.specs.LoadOutcomes.{GoesPastNoFile}
-use Rattle.hunk_scatter.specs.Owing.{BytesToCome, FileOwes, run_of}
-use Rattle.hunk_scatter.proofs.Owed.{to_come, to_come_least}
-use Rattle.hunk_words.proofs.LongLaws.{longs-bytes_of, longs-few, length-bytes_of}
-use Rattle.hunk_files.proofs.Least.{owes_least}
-use Rattle.hunk_files.proofs.Reading.{rest_read, file_read as text_read}
-use Rattle.hunk_files.specs.declared.row.Row.{Row}
-use Rattle.hunk_grammar.specs.declared.phase.OpenHunk.{OpenHunk}
-use Rattle.hunk_blocks.specs.declared.phase.Phase.{Phase}
-use Rattle.hunk_grammar.specs.declared.position.Position.{Position}
-use Rattle.hunk_grammar.specs.declared.position.Position.TheVariants as positions
-use Rattle.hunk_grammar.specs.Positions.{is_done, least_longs, run}
-use Rattle.hunk_files.specs.ReaderPosition.{position_of, IsBehindHeader}
-use Rattle.hunk_scatter.specs.declared.store.BodyState.{BodyState}
-use Rattle.hunk_scatter.specs.StoreContent.{HasSizedImage}
-use Rattle.hunk_scatter.specs.BodyLoaderFields.{IsFed}
+use Rattle.hunk_words.specs.{declared.fault.Fault.Fault, Bits.size_longs, Longs.{bytes_of, longs, AreLongs}}
 use Rattle.hunk_words.specs.PendingBytes.{pending_of}
+use Rattle.hunk_blocks.specs.{Faults.words, declared.phase.Phase.Phase}
+use Rattle.hunk_files.specs.{Fault.IsTruncated, Image.{image, images}, LoadFile.{HunkValue, LoadFileValue, IsLoadFile}}
+use Rattle.hunk_files.specs.{LoadText.{text, table}, FileSteps.{Progress, AtBlock, InBody, Next, More, Finished, Leads}}
+use Rattle.hunk_files.specs.{WordsRead.{HasRead, Labelled}, declared.row.Row.Row}
+use Rattle.hunk_files.specs.ReaderPosition.{position_of, IsBehindHeader}
+use Rattle.hunk_grammar.specs.{Roles.Role, declared.phase.OpenHunk.OpenHunk, declared.position.Position.Position}
+use Rattle.hunk_grammar.specs.Positions.{is_done, least_longs, run}
+use Rattle.hunk_scatter.specs.{LoadOutcomes.GoesPastNoFile, Owing.{BytesToCome, FileOwes, run_of}}
+use Rattle.hunk_scatter.specs.{declared.store.BodyState.BodyState, StoreContent.HasSizedImage, BodyLoaderFields.IsFed}
 use Rattle.hunk_scatter.specs.declared.stream.Standing.{Standing}
 use Rattle.hunk_scatter.specs.LoaderValues.{IsWholeFile, IsImageOf, HasNoRefusal, segments_in}
-use Rattle.hunk_scatter.specs.BodyReader.{sizes_of, state_of}
-use Rattle.hunk_scatter.specs.BodySteps.{IsInStore}
-use Rattle.hunk_scatter.specs.Rows.{words_of, bases_of}
-use Rattle.hunk_scatter.proofs.FileLeast.{file_ends}
-use Rattle.hunk_scatter.proofs.Outcomes.{longs_are, read_clean, read_truncated}
-use Rattle.hunk_scatter.proofs.ReadWords.{read_longs, text_longs}
-use Rattle.hunk_scatter.proofs.Runs.{none_over}
-use Rattle.hunk_scatter.proofs.OneByte.{Going, going, room, file_read, sizes_are}
+use Rattle.hunk_scatter.specs.{BodyReader.{sizes_of, state_of}, BodySteps.IsInStore, Rows.{words_of, bases_of}}
+use Rattle.hunk_scatter.proofs.{Owed.{to_come, to_come_least}, FileLeast.file_ends}
+use Rattle.hunk_scatter.proofs.{Outcomes.{longs_are, read_clean, read_truncated}, ReadWords.{read_longs, text_longs}}
+use Rattle.hunk_scatter.proofs.{Runs.none_over, OneByte.{Going, going, room, file_read, sizes_are}}
+use Rattle.hunk_words.proofs.LongLaws.{longs-bytes_of, longs-few, length-bytes_of}
+use Rattle.hunk_files.proofs.{Least.owes_least, Reading.{rest_read, file_read as text_read}}
+use Rattle.hunk_grammar.specs.declared.position.Position.TheVariants as positions
 
 -- ---- words
 

@@ -1,6 +1,5 @@
 -- The front of a piece with which a longword is complete.
-use Rattle.std.proofs.Common.{rules}
-use Rattle.std.proofs.Common.{◌≡◌, ℕ, ◌≤◌, List, [], ◌∷◌, ◌++◌, length, take, Option, Some}
+use Rattle.std.proofs.Common.{rules, ◌≡◌, ℕ, ◌≤◌, List, [], ◌∷◌, ◌++◌, length, take, Option, Some}
 use Rattle.hunk_words.specs.Longs.{bytes_of, Gathers}
 
 pub record Completes (pending piece left : List ℕ) (n w : ℕ) : Type 0 where

@@ -1,16 +1,12 @@
 -- The declared bytes of a table, and of a front of it.
 use Rattle.std.proofs.Common.{◌≡◌, ℕ, zero, suc, ◌+◌, ◌-◌, ◌*◌, ◌/◌, ◌^◌, ◌<◌, ◌≤◌, min, slice_index, List, [], ◌∷◌, ◌++◌, length, take, drop, get_or, Some, refl, sym, ap, ◌∙◌, arith}
+use Rattle.std.proofs.Math.Seq.{take-add}
 use Rattle.std.specs.List.{slice_get, sum_by}
 use Rattle.std.proofs.lemmas.List.{drop-drop, length-drop, length-map, length-take, map-append, take_min, drop_min}
-use Rattle.std.proofs.Math.Seq.{take-add}
 use Rattle.std.proofs.lemmas.List.Sums.{sum_by-cons, sum_by-append}
 use Rattle.hunk_words.specs.Bits.{size_longs}
-use Rattle.hunk_files.specs.LoadFile.{TableEntry}
-use Rattle.hunk_files.specs.Image.{declared_bytes}
-use Rattle.hunk_files.specs.declared.row.Row.{Row}
-use Rattle.hunk_scatter.specs.LoaderValues.{segments_in}
-use Rattle.hunk_files.specs.Tables.{row_entry}
-use Rattle.hunk_scatter.specs.Rows.{AreStarts, entries_of, words_of}
+use Rattle.hunk_files.specs.{LoadFile.TableEntry, Image.declared_bytes, declared.row.Row.Row, Tables.row_entry}
+use Rattle.hunk_scatter.specs.{LoaderValues.segments_in, Rows.{AreStarts, entries_of, words_of}}
 
 pub declared-cons : (e : TableEntry) (table : List TableEntry) → declared_bytes (e ∷ table) ≡ 4 * size_longs e.word + declared_bytes table
 declared-cons e table = sum_by-cons (λ (x : TableEntry). 4 * size_longs x.word) e table

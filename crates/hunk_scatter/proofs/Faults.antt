@@ -1,14 +1,11 @@
 -- Faults of bytes that go on.
 use Rattle.std.proofs.Common.{◌≡◌, ℕ, ◌+◌, ◌-◌, ◌^◌, ◌<◌, ◌≤◌, List, [], ◌∷◌, ◌++◌, length, take, drop, length-append, length-drop, arith, refl, sym, ap, ap₂, subst, ◌∙◌, append_assoc, append-nil, take-append-drop, ◌⊎◌, inl, inr}
+use Rattle.std.proofs.Math.Seq.{take-add}
 use Rattle.std.specs.Int.{w32, from_be_bytes}
 use Rattle.std.proofs.lemmas.List.{take_rest}
-use Rattle.std.proofs.Math.Seq.{take-add}
-use Rattle.hunk_words.specs.declared.fault.Fault.{Fault}
-use Rattle.hunk_words.specs.declared.reason.Reason.{Reason}
-use Rattle.hunk_words.specs.Longs.{longs, bytes_of}
+use Rattle.hunk_words.specs.{declared.fault.Fault.Fault, declared.reason.Reason.Reason, Longs.{longs, bytes_of}}
 use Rattle.hunk_words.proofs.LongLaws.{length-longs}
-use Rattle.hunk_files.specs.Fault.{HasRefusal}
-use Rattle.hunk_files.specs.LoadText.{text}
+use Rattle.hunk_files.specs.{Fault.HasRefusal, LoadText.text}
 use Rattle.hunk_files.proofs.Scan.{no_fault}
 use Rattle.hunk_scatter.specs.LoaderValues.{IsBodyRefusal, MayGoOnInFile}
 

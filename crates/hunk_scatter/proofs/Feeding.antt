@@ -1,23 +1,17 @@
 -- What was wanted is consumed whole, and goes past no end.
-use Rattle.std.proofs.Common.{rules}
-use Rattle.std.proofs.Common.{◌≡◌, ℕ, suc, ◌+◌, ◌<◌, ◌≤◌, List, [], ◌∷◌, ◌++◌, length, take, refl, sym, ap, subst, ◌∙◌, append_assoc, length-append, length-take, arith, ◌⊎◌, inl, inr}
-use Rattle.std.proofs.lemmas.List.{take_all, drop_all}
+use Rattle.std.proofs.Common.{rules, ◌≡◌, ℕ, suc, ◌+◌, ◌<◌, ◌≤◌, List, [], ◌∷◌, ◌++◌, length, take, refl, sym, ap, subst, ◌∙◌, append_assoc, length-append, length-take, arith, ◌⊎◌, inl, inr}
 use Rattle.std.proofs.KnownBytes.{Consumes-trans}
+use Rattle.std.proofs.lemmas.List.{take_all, drop_all}
 use Rattle.std.specs.Io.KnownBytes.{Consumes}
-use Rattle.hunk_words.specs.Carriers.{Supply}
-use Rattle.hunk_words.specs.Longs.{bytes_of, IsBytes}
+use Rattle.hunk_words.specs.{Carriers.Supply, Longs.{bytes_of, IsBytes}, declared.fault.Fault.Fault}
+use Rattle.hunk_words.specs.declared.reason.Reason.{Reason}
 use Rattle.hunk_words.proofs.LongLaws.{length-bytes_of}
-use Rattle.hunk_files.specs.Fault.{IsTruncated}
-use Rattle.hunk_files.specs.LoadFile.{TableEntry, LoadFileValue, IsLoadFile}
-use Rattle.hunk_files.specs.LoadText.{text}
+use Rattle.hunk_files.specs.{Fault.IsTruncated, LoadFile.{TableEntry, LoadFileValue, IsLoadFile}, LoadText.text}
 use Rattle.hunk_files.specs.declared.row.Row.{Row}
 use Rattle.hunk_scatter.specs.HeaderBytes.{IsHeaderTable, IsHeader, header_bytes, IsHeaderFront}
-use Rattle.hunk_scatter.specs.HeaderFaults.{CompletesRow, IsHeaderFault, IsHeaderFaultBy}
-use Rattle.hunk_words.specs.declared.fault.Fault.{Fault}
-use Rattle.hunk_words.specs.declared.reason.Reason.{Reason}
-use Rattle.hunk_words.specs.declared.reason.Reason.TheVariants as reasons
-use Rattle.hunk_scatter.specs.LoaderValues.{IsWholeFile}
+use Rattle.hunk_scatter.specs.{HeaderFaults.{CompletesRow, IsHeaderFault, IsHeaderFaultBy}, LoaderValues.IsWholeFile}
 use Rattle.hunk_scatter.specs.LoadOutcomes.{Gives, GoesPastNoHeader, GoesPastNoFile}
+use Rattle.hunk_words.specs.declared.reason.Reason.TheVariants as reasons
 
 no_less : (m n : ℕ) → (m < n → ⊥) → n ≤ m
 no_less m n h = omega (arith, h)

@@ -1,22 +1,17 @@
 -- A load file begins with what was read, and ends in the least number of longwords.
-use Rattle.std.proofs.Common.{rules}
-use Rattle.std.proofs.Common.{◌≡◌, ℕ, zero, suc, ◌+◌, ◌*◌, Bool, true, false, List, [], ◌∷◌, ◌++◌, length, refl, sym, ap, subst, ◌∙◌, append_assoc, append-nil, arith, if◌then◌else◌, None}
+use Rattle.std.proofs.Common.{rules, ◌≡◌, ℕ, zero, suc, ◌+◌, ◌*◌, Bool, true, false, List, [], ◌∷◌, ◌++◌, length, refl, sym, ap, subst, ◌∙◌, append_assoc, append-nil, arith, if◌then◌else◌, None}
 use Rattle.std.specs.List.{AllByRecursion}
 use Rattle.hunk_words.specs.Bits.{kind}
 use Rattle.hunk_blocks.specs.Values.{BlockValue}
 use Rattle.hunk_grammar.specs.Positions as scan
-use Rattle.hunk_grammar.specs.Positions.{end_least, least_in, least_longs}
-use Rattle.hunk_grammar.specs.Roles.{Role, refuse}
+use Rattle.hunk_grammar.specs.{Positions.{end_least, least_in, least_longs}, Roles.{Role, refuse}}
 use Rattle.hunk_grammar.specs.declared.phase.OpenHunk.{OpenHunk}
 use Rattle.hunk_files.specs.Fault.{completing}
 use Rattle.hunk_files.specs.FileSteps.{Progress, AtBlock, InBody, Next, More, Finished, role_of, step_file, Leads}
-use Rattle.hunk_files.specs.LoadFile.{LoadFileValue, IsLoadFile}
-use Rattle.hunk_files.specs.LoadText.{text}
+use Rattle.hunk_files.specs.{LoadFile.{LoadFileValue, IsLoadFile}, LoadText.text}
 use Rattle.hunk_files.specs.ReaderPosition.{IsBehindHeader, block_phase, open_of, position_of}
 use Rattle.hunk_files.specs.WordsRead.{HasRead, Labelled}
-use Rattle.hunk_files.proofs.Completion.{IsOwed, completes}
-use Rattle.hunk_files.proofs.FileProgress.{ProgressFits}
-use Rattle.hunk_files.proofs.Positions.{step_position}
+use Rattle.hunk_files.proofs.{Completion.{IsOwed, completes}, FileProgress.ProgressFits, Positions.step_position}
 use Rattle.hunk_files.proofs.Reading.{read_ended, reads, step_read}
 use Rattle.hunk_scatter.proofs.Forget.{step_behind}
 

@@ -1,26 +1,19 @@
 -- The state of the loader is the reader of load files, without what was read.
-use Rattle.std.proofs.Common.{rules}
-use Rattle.std.proofs.Common.{◌≡◌, ℕ, ◌+◌, ◌*◌, Bool, true, false, cond, List, [], ◌∷◌, ◌++◌, length, get_or, refl, sym, ap, ◌∙◌, append_assoc, arith}
+use Rattle.std.proofs.Common.{rules, ◌≡◌, ℕ, ◌+◌, ◌*◌, Bool, true, false, cond, List, [], ◌∷◌, ◌++◌, length, get_or, refl, sym, ap, ◌∙◌, append_assoc, arith}
 use Rattle.std.proofs.lemmas.List.{length-map, length-append, map-append, get_or_at}
 use Rattle.std.proofs.lemmas.List.Sums.{sum_by-append, sum_by-cons}
 use Rattle.hunk_words.specs.Bits.{size_longs, kind}
-use Rattle.hunk_blocks.specs.Values.{BlockValue}
-use Rattle.hunk_files.specs.Image.{declared_bytes}
-use Rattle.hunk_files.specs.LoadFile.{TableEntry, HunkValue, standing}
-use Rattle.hunk_grammar.specs.Standings.{BlockStanding, Ending}
-use Rattle.hunk_files.specs.LoadText.{table}
-use Rattle.hunk_blocks.specs.BlockSteps.{BlockNext, Open, Whole, step_inside, begin_body}
+use Rattle.hunk_blocks.specs.{Values.BlockValue, BlockSteps.{BlockNext, Open, Whole, step_inside, begin_body}}
+use Rattle.hunk_files.specs.{Image.declared_bytes, LoadFile.{TableEntry, HunkValue, standing}, LoadText.table}
 use Rattle.hunk_files.specs.FileSteps.{hunk, block, HunkSoFar, Progress, AtBlock, InBody, Next, More, Finished, role_of, open_hunk, close_by, after, step_file}
+use Rattle.hunk_files.specs.ReaderPosition.{position_of, open_of, block_phase, open_longs, opened, open_table, table_of, IsBehindHeader}
+use Rattle.hunk_grammar.specs.{Standings.{BlockStanding, Ending}, Roles.refuse, declared.position.Position.Position}
+use Rattle.hunk_grammar.specs.Positions.{is_between_hunks, role_at}
 use Rattle.hunk_files.proofs.FileProgress.{ProgressFits}
 use Rattle.hunk_files.proofs.Positions.{Moves, MovesTo, step_moves, step_position, refuse_same, inside_open}
-use Rattle.hunk_files.specs.ReaderPosition.{position_of, open_of, block_phase, open_longs, opened, open_table, table_of, IsBehindHeader}
 use Rattle.hunk_blocks.proofs.Lists.{map-more}
-use Rattle.hunk_grammar.specs.Roles.{refuse}
-use Rattle.hunk_grammar.specs.declared.position.Position.{Position}
 use Rattle.hunk_grammar.specs.declared.position.Position.TheVariants as positions
-use Rattle.hunk_grammar.specs.Positions.{is_between_hunks, role_at}
-use Rattle.hunk_scatter.specs.declared.store.BodyState.{BodyState}
-use Rattle.hunk_scatter.specs.BodyReader.{sizes_of, before, state_at, state_of}
+use Rattle.hunk_scatter.specs.{declared.store.BodyState.BodyState, BodyReader.{sizes_of, before, state_at, state_of}}
 use Rattle.hunk_scatter.specs.BodySteps.{longs_at, refusal, move_to, step_body}
 
 -- ---- the table at the open hunk

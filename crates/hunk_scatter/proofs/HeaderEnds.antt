@@ -2,24 +2,13 @@
 use Rattle.std.proofs.Common.{◌≡◌, ℕ, ◌≤◌, Bool, true, false, List, [], ◌∷◌, ◌++◌, length, refl, sym, ap, subst, ◌∙◌, append-nil, arith, length-append}
 use Rattle.hunk_words.specs.Longs.{longs}
 use Rattle.hunk_words.proofs.LongLaws.{longs-bytes_of}
-use Rattle.hunk_files.specs.LoadFile.{TableEntry}
-use Rattle.hunk_files.specs.declared.row.Row.{Row}
-use Rattle.hunk_files.specs.FileSteps.{More, open_hunk}
-use Rattle.hunk_files.specs.WordsRead.{HasRead}
+use Rattle.hunk_files.specs.{LoadFile.TableEntry, declared.row.Row.Row, FileSteps.{More, open_hunk}, WordsRead.HasRead}
 use Rattle.hunk_grammar.specs.Positions.{is_behind_header}
-use Rattle.hunk_scatter.specs.declared.header_state.HeaderState.{HeaderState}
-use Rattle.hunk_scatter.specs.HeaderBytes.{header_bytes, header_words}
-use Rattle.hunk_scatter.specs.HeaderLoaderFields.{HeaderReading}
-use Rattle.hunk_scatter.specs.LoadOutcomes.{GoesPastNoHeader}
-use Rattle.hunk_scatter.specs.Rows.{entries_of}
-use Rattle.hunk_scatter.proofs.Behind.{stays_behind, table_behind}
-use Rattle.hunk_scatter.proofs.HeaderFields.{heading_table}
-use Rattle.hunk_scatter.proofs.HeaderFronts.{one_table}
-use Rattle.hunk_scatter.proofs.HeaderReads.{here, read_here, in_header}
-use Rattle.hunk_scatter.proofs.HeaderSteps.{not_in_body}
-use Rattle.hunk_scatter.proofs.HeaderTexts.{header_read}
-use Rattle.hunk_scatter.proofs.HeaderStops.{header_longs}
-use Rattle.hunk_scatter.proofs.Outcomes.{longs_are}
+use Rattle.hunk_scatter.specs.{declared.header_state.HeaderState.HeaderState, HeaderBytes.{header_bytes, header_words}}
+use Rattle.hunk_scatter.specs.{HeaderLoaderFields.HeaderReading, LoadOutcomes.GoesPastNoHeader, Rows.entries_of}
+use Rattle.hunk_scatter.proofs.{Behind.{stays_behind, table_behind}, HeaderFields.heading_table, HeaderFronts.one_table}
+use Rattle.hunk_scatter.proofs.{HeaderReads.{here, read_here, in_header}, HeaderSteps.not_in_body}
+use Rattle.hunk_scatter.proofs.{HeaderTexts.header_read, HeaderStops.header_longs, Outcomes.longs_are}
 
 none : (xs : List ℕ) → length xs ≤ 0 → xs ≡ []
 none [] le = refl

@@ -1,41 +1,26 @@
 -- What the fields of the loader of a header keep, and what they tell.
-use Rattle.std.proofs.Common.{rules}
-use Rattle.std.proofs.Common.{◌≡◌, ℕ, ◌+◌, ◌-◌, ◌*◌, ◌/◌, ◌^◌, ◌<◌, ◌≤◌, Bool, true, false, List, [], ◌∷◌, ◌++◌, length, map, refl, sym, ap, subst, ◌∙◌, append_assoc, append-nil, arith, length-append, Option, Some, None, Ok, ◌⊎◌, inl, inr, ltb, take, drop, length-drop, take-append-drop}
-use Rattle.std.proofs.lemmas.Bool.{ltb-true, ltb-false}
-use Rattle.std.proofs.lemmas.List.{length-map, take_all}
-use Rattle.hunk_words.specs.Longs.{longs, bytes_of, IsLong}
-use Rattle.hunk_words.specs.declared.fault.Fault.{Fault}
-use Rattle.hunk_words.specs.declared.reason.Reason.{Reason}
+use Rattle.std.proofs.Common.{rules, ◌≡◌, ℕ, ◌+◌, ◌-◌, ◌*◌, ◌/◌, ◌^◌, ◌<◌, ◌≤◌, Bool, true, false, List, [], ◌∷◌, ◌++◌, length, map, refl, sym, ap, subst, ◌∙◌, append_assoc, append-nil, arith, length-append, Option, Some, None, Ok, ◌⊎◌, inl, inr, ltb, take, drop, length-drop, take-append-drop}
+use Rattle.std.proofs.lemmas.{Bool.{ltb-true, ltb-false}, List.{length-map, take_all}}
+use Rattle.hunk_words.specs.{Longs.{longs, bytes_of, IsLong}, declared.fault.Fault.Fault, declared.reason.Reason.Reason}
 use Rattle.hunk_words.proofs.GatherLaws.{gathers-word, gathers-none}
 use Rattle.hunk_words.proofs.LongLaws.{bytes_of-nil, longs-bytes_of, length-bytes_of, longs-few, length-longs}
-use Rattle.hunk_files.specs.declared.row.Row.{Row}
-use Rattle.hunk_files.specs.Fault.{IsTruncated, Expects}
-use Rattle.hunk_files.specs.Image.{declared_bytes}
+use Rattle.hunk_files.specs.{declared.row.Row.Row, Fault.{IsTruncated, Expects}, Image.declared_bytes}
 use Rattle.hunk_files.specs.LoadFile.{TableEntry}
-use Rattle.hunk_grammar.specs.Roles.{refuse, Role as roles}
 use Rattle.hunk_files.specs.FileSteps.{Progress, AtFirst, AtAttributes, More, Finished, open_hunk, Next}
-use Rattle.hunk_files.specs.ReaderPosition.{table_of}
+use Rattle.hunk_files.specs.{ReaderPosition.table_of, WordsRead.HasRead, Tables.row_entry}
+use Rattle.hunk_grammar.specs.{Roles.{refuse, Role as roles}, Positions.{role_at, step, is_behind_header, least_longs}}
 use Rattle.hunk_files.proofs.Reading.{start_read, one_place}
-use Rattle.hunk_files.specs.WordsRead.{HasRead}
 use Rattle.hunk_grammar.specs.declared.position.Position.TheVariants as positions
 use Rattle.hunk_scatter.specs.declared.header_state.HeaderState.{HeaderState}
 use Rattle.hunk_scatter.specs.HeaderBytes.{IsHeaderTable, IsHeader, header_words, header_bytes, entries_so_far}
 use Rattle.hunk_scatter.specs.HeaderFaults.{ExceedsBudget}
 use Rattle.hunk_scatter.specs.HeaderLoaderFields.{adds, declares, declared_so_far, OpensFirst, StopsFor, HeaderReading, HeaderLoaderInvariant, DeclaredInvariant, HeaderStop, FeedsHeaderOrStops}
-use Rattle.hunk_grammar.specs.Positions.{role_at, step, is_behind_header, least_longs}
-use Rattle.hunk_scatter.specs.LoaderValues.{HeaderLoaderValue, FeedsFront, HasNoRefusal}
-use Rattle.hunk_files.specs.Tables.{row_entry}
-use Rattle.hunk_scatter.specs.Rows.{entries_of, row_of}
-use Rattle.hunk_scatter.proofs.Behind.{no_size_word, table_behind}
-use Rattle.hunk_scatter.proofs.DeclaredBytes.{declared_limit}
-use Rattle.hunk_scatter.proofs.HeaderLeast.{header_owes, least_is, opens}
-use Rattle.hunk_scatter.proofs.HeaderSteps.{rows_total}
-use Rattle.hunk_scatter.proofs.HeaderReads.{word_read}
-use Rattle.hunk_scatter.proofs.HeaderStops.{header_longs}
+use Rattle.hunk_scatter.specs.{LoaderValues.{HeaderLoaderValue, FeedsFront, HasNoRefusal}, Rows.{entries_of, row_of}}
+use Rattle.hunk_scatter.proofs.{Behind.{no_size_word, table_behind}, DeclaredBytes.declared_limit}
+use Rattle.hunk_scatter.proofs.{HeaderLeast.{header_owes, least_is, opens}, HeaderSteps.rows_total}
+use Rattle.hunk_scatter.proofs.{HeaderReads.word_read, HeaderStops.header_longs}
 use Rattle.hunk_scatter.proofs.HeaderTexts.{entries_most, header_read, header_done, rows_read, rows_few}
-use Rattle.hunk_scatter.proofs.Outcomes.{longs_are, read_clean, read_truncated}
-use Rattle.hunk_scatter.proofs.ReadWords.{read_longs}
-use Rattle.hunk_scatter.proofs.Splits.{fronts}
+use Rattle.hunk_scatter.proofs.{Outcomes.{longs_are, read_clean, read_truncated}, ReadWords.read_longs, Splits.fronts}
 
 -- where the reader goes on
 goes_further : (n : Next) (ws : List ℕ) → HasRead ws n → OpensFirst n → (p : Progress) × HasRead ws (More p)

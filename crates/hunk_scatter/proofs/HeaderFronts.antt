@@ -2,37 +2,27 @@
 use Rattle.std.proofs.Common.{◌≡◌, ℕ, ◌+◌, ◌*◌, ◌≤◌, Bool, true, false, List, [], ◌∷◌, ◌++◌, length, refl, sym, ap, ◌∙◌, append_assoc, arith, subst, ◌⊎◌, inl, inr}
 use Rattle.std.specs.List.{flat_map}
 use Rattle.std.proofs.lemmas.List.{length-map, map-append}
-use Rattle.hunk_words.specs.Bits.{size_longs}
-use Rattle.hunk_words.specs.Longs.{longs, bytes_of}
+use Rattle.hunk_words.specs.{Bits.size_longs, Longs.{longs, bytes_of}, declared.reason.Reason.Reason}
 use Rattle.hunk_words.proofs.LongLaws.{bytes_of-append, longs-bytes_of}
-use Rattle.hunk_words.specs.declared.reason.Reason.{Reason}
-use Rattle.hunk_grammar.specs.Positions.{is_behind_header}
-use Rattle.hunk_grammar.specs.Roles.{Role, Role as roles, refuse}
+use Rattle.hunk_grammar.specs.{Positions.is_behind_header, Roles.{Role, Role as roles, refuse}}
 use Rattle.hunk_blocks.proofs.FaultScan.{front_passes}
 use Rattle.hunk_blocks.specs.Faults.{words}
-use Rattle.hunk_files.specs.Fault.{Expects, HasRefusal, load_files}
-use Rattle.hunk_files.specs.Image.{declared_bytes}
+use Rattle.hunk_files.specs.{Fault.{Expects, HasRefusal, load_files}, Image.declared_bytes}
 use Rattle.hunk_files.specs.LoadFile.{TableEntry, LoadFileValue, IsLoadFile}
 use Rattle.hunk_files.specs.LoadText.{labelled, header_labelled, hunk_labelled, table, text}
 use Rattle.hunk_files.specs.FileSteps.{Progress, AtSizeWord, Next, More, Finished, open_hunk, role_of, step_file, Leads}
 use Rattle.hunk_files.specs.ReaderPosition.{position_of, table_of, IsBehindHeader}
 use Rattle.hunk_files.specs.WordsRead.{HasRead, Labelled, AreAccepted}
-use Rattle.hunk_files.proofs.FileProgress.{ProgressFits, NextFits, step_keeps}
-use Rattle.hunk_files.proofs.FileText.{entries_fit}
-use Rattle.hunk_files.proofs.Reading.{reads, rest_read}
-use Rattle.hunk_files.proofs.Scan.{expected_place, load_reader, load_reads}
+use Rattle.hunk_files.proofs.{FileProgress.{ProgressFits, NextFits, step_keeps}, FileText.entries_fit}
+use Rattle.hunk_files.proofs.{Reading.{reads, rest_read}, Scan.{expected_place, load_reader, load_reads}}
 use Rattle.hunk_scatter.specs.HeaderBytes.{IsHeaderTable, header_words, header_bytes, entries_so_far}
 use Rattle.hunk_scatter.specs.HeaderFaults.{IsWithinBudget, ExceedsBudget}
 use Rattle.hunk_scatter.specs.HeaderLoaderFields.{declares, declared_so_far, OpensFirst}
 use Rattle.hunk_scatter.specs.LoadOutcomes.{GoesPastNoHeader, GoesPastNoFile}
-use Rattle.hunk_scatter.proofs.Behind.{table_behind, no_size_word}
-use Rattle.hunk_scatter.proofs.Faults.{longs-more}
-use Rattle.hunk_scatter.proofs.Feeding.{fronts_of}
+use Rattle.hunk_scatter.proofs.{Behind.{table_behind, no_size_word}, Faults.longs-more, Feeding.fronts_of}
 use Rattle.hunk_scatter.proofs.Forget.{step_behind, step_table}
 use Rattle.hunk_scatter.proofs.HeaderSteps.{IsInHeader, step_opens, step_declares, rows_total}
-use Rattle.hunk_scatter.proofs.HeaderStops.{header_longs}
-use Rattle.hunk_scatter.proofs.HeaderTexts.{header_read, rows_read}
-use Rattle.hunk_scatter.proofs.Splits.{fronts}
+use Rattle.hunk_scatter.proofs.{HeaderStops.header_longs, HeaderTexts.{header_read, rows_read}, Splits.fronts}
 
 -- ---- one header
 

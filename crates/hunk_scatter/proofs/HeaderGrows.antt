@@ -1,14 +1,12 @@
 -- Whatever longwords follow in a table, a header has them.
 use Rattle.std.proofs.Common.{◌≡◌, ℕ, zero, suc, ◌+◌, ◌-◌, ◌*◌, ◌%◌, ◌<◌, ◌≤◌, Bool, true, false, List, [], ◌∷◌, ◌++◌, length, replicate, get_or, refl, sym, ap, subst, ◌∙◌, append_assoc, append-nil, arith, length-append, None}
 use Rattle.std.proofs.lemmas.List.{length-replicate}
-use Rattle.hunk_words.specs.Bits.{has_both_bits}
-use Rattle.hunk_words.specs.Longs.{longs, bytes_of, IsLong, AreLongs, IsBytes}
+use Rattle.hunk_words.specs.{Bits.has_both_bits, Longs.{longs, bytes_of, IsLong, AreLongs, IsBytes}}
 use Rattle.hunk_words.proofs.LongLaws.{spelled, longs_fit, length-bytes_of, bytes_of-append}
 use Rattle.hunk_grammar.specs.Roles.{refuse}
 use Rattle.hunk_files.specs.LoadFile.{TableEntry}
 use Rattle.hunk_files.specs.FileSteps.{table_entry, Progress, AtFirst, AtResident, AtTableSize, AtFirstHunk, AtLastHunk, AtSizeWord, AtAttributes, AtBlock, InBody, Next, More, Finished, role_of, rows, sized_row, step_file}
-use Rattle.hunk_files.specs.ReaderPosition.{position_of}
-use Rattle.hunk_files.specs.WordsRead.{HasRead}
+use Rattle.hunk_files.specs.{ReaderPosition.position_of, WordsRead.HasRead}
 use Rattle.hunk_files.proofs.Reading.{reads, step_read}
 use Rattle.hunk_scatter.specs.HeaderBytes.{IsHeaderTable, header_bytes, IsHeaderFront}
 use Rattle.hunk_scatter.specs.HeaderLoaderFields.{adds, OpensFirst}

@@ -3,17 +3,13 @@ use Rattle.std.proofs.Common.{◌≡◌, ℕ, zero, suc, ◌+◌, ◌-◌, ◌�
 use Rattle.std.proofs.lemmas.List.{length-map}
 use Rattle.hunk_words.specs.Bits.{has_both_bits}
 use Rattle.hunk_blocks.proofs.Lists.{more_owed}
-use Rattle.hunk_grammar.specs.Positions.{is_behind_header, least_longs}
-use Rattle.hunk_grammar.specs.Roles.{Role, refuse}
+use Rattle.hunk_grammar.specs.{Positions.{is_behind_header, least_longs}, Roles.{Role, refuse}}
 use Rattle.hunk_files.specs.LoadFile.{TableEntry}
 use Rattle.hunk_files.specs.FileSteps.{table_entry, Progress, AtFirst, AtResident, AtTableSize, AtFirstHunk, AtLastHunk, AtSizeWord, AtAttributes, AtBlock, InBody, Next, More, Finished, role_of, open_hunk, rows, sized_row, step_file, Leads}
-use Rattle.hunk_files.specs.ReaderPosition.{position_of, table_of}
-use Rattle.hunk_files.specs.WordsRead.{HasRead, Labelled, AreAccepted}
-use Rattle.hunk_files.proofs.Accepted.{last_accepted}
-use Rattle.hunk_files.proofs.FileProgress.{NextFits, step_keeps, zero_or_limit}
+use Rattle.hunk_files.specs.{ReaderPosition.{position_of, table_of}, WordsRead.{HasRead, Labelled, AreAccepted}}
+use Rattle.hunk_files.proofs.{Accepted.last_accepted, FileProgress.{NextFits, step_keeps, zero_or_limit}}
 use Rattle.hunk_files.proofs.Reading.{reads, rest_read, step_read}
-use Rattle.hunk_scatter.specs.HeaderBytes.{IsHeaderTable, header_words}
-use Rattle.hunk_scatter.specs.HeaderLoaderFields.{OpensFirst}
+use Rattle.hunk_scatter.specs.{HeaderBytes.{IsHeaderTable, header_words}, HeaderLoaderFields.OpensFirst}
 use Rattle.hunk_scatter.proofs.HeaderTexts.{header_read, header_done}
 
 abbrev pub header_least : Next → ℕ

@@ -2,23 +2,17 @@
 use Rattle.std.proofs.Common.{◌≡◌, ℕ, ◌+◌, ◌*◌, ◌%◌, ◌<◌, ◌≤◌, Bool, true, false, List, ◌++◌, length, get_or, refl, sym, ap, subst, ◌∙◌, arith, length-append}
 use Rattle.hunk_words.specs.Longs.{bytes_of, longs}
 use Rattle.hunk_words.proofs.LongLaws.{length-bytes_of}
-use Rattle.hunk_grammar.specs.Positions.{is_behind_header, least_longs}
-use Rattle.hunk_grammar.specs.declared.position.Position.{Position}
+use Rattle.hunk_grammar.specs.{Positions.{is_behind_header, least_longs}, declared.position.Position.Position}
 use Rattle.hunk_grammar.specs.declared.position.Position.TheVariants as positions
 use Rattle.hunk_blocks.specs.Faults.{words}
 use Rattle.hunk_files.specs.FileSteps.{AtSizeWord, AtAttributes, AtBlock, InBody, Next, More, Finished}
-use Rattle.hunk_files.specs.ReaderPosition.{position_of, table_of}
-use Rattle.hunk_files.specs.WordsRead.{HasRead}
-use Rattle.hunk_files.proofs.FileProgress.{NextFits, read}
-use Rattle.hunk_files.proofs.Reading.{reads}
-use Rattle.hunk_files.specs.declared.row.Row.{Row}
+use Rattle.hunk_files.specs.{ReaderPosition.{position_of, table_of}, WordsRead.HasRead, declared.row.Row.Row}
+use Rattle.hunk_files.proofs.{FileProgress.{NextFits, read}, Reading.reads}
 use Rattle.hunk_scatter.specs.declared.header_state.HeaderState.{HeaderState}
 use Rattle.hunk_scatter.specs.HeaderLoaderFields.{OpensFirst, HeaderReading}
 use Rattle.hunk_scatter.specs.HeaderOwing.{rows_owed, HasRowsToCome, HasHeaderToCome, HeaderOwes}
-use Rattle.hunk_scatter.proofs.HeaderFields.{heading_least}
-use Rattle.hunk_scatter.proofs.HeaderLeast.{header_least, least_is, header_ends}
-use Rattle.hunk_scatter.proofs.HeaderTexts.{header_done, rows_read}
-use Rattle.hunk_scatter.proofs.Outcomes.{longs_are}
+use Rattle.hunk_scatter.proofs.{HeaderFields.heading_least, HeaderLeast.{header_least, least_is, header_ends}}
+use Rattle.hunk_scatter.proofs.{HeaderTexts.{header_done, rows_read}, Outcomes.longs_are}
 
 -- the hunks declared are rows that are whole, and longwords that are owed
 hunks_declared : (n : Next) → NextFits n → is_behind_header (position_of n) ≡ false → get_or (words (read n)) 2 0 ≤ length (table_of n) + header_least n

@@ -1,31 +1,21 @@
 -- One longword of a header.
 use Rattle.std.proofs.Common.{◌≡◌, ℕ, ◌+◌, ◌*◌, ◌≤◌, false, List, [], ◌∷◌, ◌++◌, map, refl, sym, ap, ap₂, subst, ◌∙◌, arith, None}
 use Rattle.std.proofs.lemmas.List.{map-append}
-use Rattle.hunk_words.specs.Bits.{size_longs}
-use Rattle.hunk_words.specs.Longs.{IsLong}
-use Rattle.hunk_grammar.specs.declared.position.Position.{Position}
-use Rattle.hunk_grammar.specs.Positions as scan
-use Rattle.hunk_grammar.specs.Positions.{role_at, is_behind_header}
+use Rattle.hunk_words.specs.{Bits.size_longs, Longs.IsLong}
+use Rattle.hunk_grammar.specs.{declared.position.Position.Position, Positions.{role_at, is_behind_header}}
 use Rattle.hunk_grammar.specs.Roles.{Role as roles, refuse}
-use Rattle.hunk_files.specs.declared.row.Row.{Row}
-use Rattle.hunk_files.specs.Fault.{Expects}
-use Rattle.hunk_files.specs.Image.{declared_bytes}
-use Rattle.hunk_files.specs.LoadFile.{TableEntry}
+use Rattle.hunk_grammar.specs.Positions as scan
+use Rattle.hunk_files.specs.{declared.row.Row.Row, Fault.Expects, Image.declared_bytes, LoadFile.TableEntry}
 use Rattle.hunk_files.specs.FileSteps.{Progress, Next, More, Finished, role_of, step_file}
-use Rattle.hunk_files.specs.ReaderPosition.{position_of, table_of}
-use Rattle.hunk_files.specs.WordsRead.{HasRead}
-use Rattle.hunk_files.proofs.Positions.{step_position}
-use Rattle.hunk_files.proofs.Reading.{reads, step_read}
-use Rattle.hunk_scatter.specs.declared.header_state.HeaderState.{HeaderState}
-use Rattle.hunk_scatter.specs.HeaderBytes.{entries_so_far}
+use Rattle.hunk_files.specs.{ReaderPosition.{position_of, table_of}, WordsRead.HasRead, Tables.row_entry}
+use Rattle.hunk_files.proofs.{Positions.step_position, Reading.{reads, step_read}}
+use Rattle.hunk_scatter.specs.{declared.header_state.HeaderState.HeaderState, HeaderBytes.entries_so_far}
 use Rattle.hunk_scatter.specs.HeaderFaults.{IsWithinBudget}
 use Rattle.hunk_scatter.specs.HeaderLoaderFields.{adds, declares, declared_so_far, HasReadHeader}
-use Rattle.hunk_files.specs.Tables.{row_entry}
 use Rattle.hunk_scatter.specs.Rows.{entries_of, row_of}
 use Rattle.hunk_scatter.proofs.Behind.{role_here}
 use Rattle.hunk_scatter.proofs.HeaderSteps.{IsInHeader, refusal_here, size_word, step_adds, step_declares, step_opens}
-use Rattle.hunk_scatter.proofs.HeaderTexts.{rows_read}
-use Rattle.hunk_scatter.proofs.Splits.{Cuts, Same, Before, Behind, cuts, not_before}
+use Rattle.hunk_scatter.proofs.{HeaderTexts.rows_read, Splits.{Cuts, Same, Before, Behind, cuts, not_before}}
 
 -- ---- rows
 

@@ -1,30 +1,22 @@
 -- A header that is read in place, with no memory for its rows.
-use Rattle.std.proofs.Common.{rules}
-use Rattle.std.proofs.Common.{◌≡◌, ℕ, ◌+◌, ◌*◌, ◌/◌, ◌^◌, ◌<◌, ◌≤◌, true, false, List, [], ◌∷◌, ◌++◌, length, take, drop, get_or, refl, sym, ap, subst, ◌∙◌, append-nil, arith, length-append, length-take, length-drop, take-append-drop, map, None, inl, inr}
+use Rattle.std.proofs.Common.{rules, ◌≡◌, ℕ, ◌+◌, ◌*◌, ◌/◌, ◌^◌, ◌<◌, ◌≤◌, true, false, List, [], ◌∷◌, ◌++◌, length, take, drop, get_or, refl, sym, ap, subst, ◌∙◌, append-nil, arith, length-append, length-take, length-drop, take-append-drop, map, None, inl, inr}
+use Rattle.std.proofs.Math.Seq.{take-add}
 use Rattle.std.specs.Prelude.{IsTrue}
 use Rattle.std.proofs.lemmas.List.{get_or-drop}
-use Rattle.std.proofs.Math.Seq.{take-add}
-use Rattle.hunk_words.specs.Longs.{longs, bytes_of, IsLong, IsBytes}
-use Rattle.hunk_words.specs.declared.reason.Reason.{Reason}
+use Rattle.hunk_words.specs.{Longs.{longs, bytes_of, IsLong, IsBytes}, declared.reason.Reason.Reason}
 use Rattle.hunk_words.specs.declared.reason.Reason.TheVariants as reasons
 use Rattle.hunk_words.proofs.LongLaws.{bytes_of-append, in_place, longs-bytes_of, length-bytes_of, length-longs}
-use Rattle.hunk_files.specs.Fault.{HasRefusal, IsTruncated, is_word_refusal}
-use Rattle.hunk_files.specs.Image.{declared_bytes}
-use Rattle.hunk_files.specs.LoadFile.{TableEntry}
-use Rattle.hunk_files.specs.declared.row.Row.{Row}
+use Rattle.hunk_files.specs.{Fault.{HasRefusal, IsTruncated, is_word_refusal}, Image.declared_bytes}
+use Rattle.hunk_files.specs.{LoadFile.TableEntry, declared.row.Row.Row}
 use Rattle.hunk_grammar.specs.declared.position.Position.TheVariants as positions
-use Rattle.hunk_grammar.specs.Positions.{role_at, step, is_behind_header, least_longs}
-use Rattle.hunk_grammar.specs.Roles.{refuse}
+use Rattle.hunk_grammar.specs.{Positions.{role_at, step, is_behind_header, least_longs}, Roles.refuse}
 use Rattle.hunk_scatter.specs.declared.header_state.HeaderState.{HeaderState}
 use Rattle.hunk_scatter.specs.HeaderBytes.{IsHeaderTable, header_bytes, header_words}
 use Rattle.hunk_scatter.specs.HeaderLoaderFields.{adds, declares, RefusesWord, HeaderReading, HeaderLoaderInvariant, HeaderStop}
-use Rattle.hunk_scatter.specs.HeaderFaults.{ExceedsBudget, IsBudgetOrMemory}
-use Rattle.hunk_scatter.specs.HeaderOwing.{HeaderOwes}
-use Rattle.hunk_scatter.specs.HeaderSizes.{RefusesHeader, TellsOwed}
-use Rattle.hunk_scatter.specs.Rows.{entries_of, row_of}
+use Rattle.hunk_scatter.specs.{HeaderFaults.{ExceedsBudget, IsBudgetOrMemory}, HeaderOwing.HeaderOwes}
+use Rattle.hunk_scatter.specs.{HeaderSizes.{RefusesHeader, TellsOwed}, Rows.{entries_of, row_of}}
 use Rattle.hunk_scatter.proofs.HeaderFields.{heading_new, heading_room, heading_pending, heading_word, heading_table, heading_total, heading_truncated, heading_within, heading_not_whole, heading_as}
-use Rattle.hunk_scatter.proofs.HeaderEnds.{heading_ends}
-use Rattle.hunk_scatter.proofs.HeaderOwed.{owes_header}
+use Rattle.hunk_scatter.proofs.{HeaderEnds.heading_ends, HeaderOwed.owes_header}
 use Rattle.hunk_scatter.proofs.HeaderStops.{header_longs, stop_refused, stop_passes, stop_accepts}
 
 -- Longwords of a header were read up to this byte, and rows may be named that they complete.

@@ -2,14 +2,11 @@
 use Rattle.std.proofs.Common.{◌≡◌, ℕ, zero, suc, ◌+◌, ◌*◌, ◌≤◌, ◌<◌, Bool, true, false, cond, List, [], ◌∷◌, ◌++◌, length, refl, sym, ap, ◌∙◌, append-nil, arith}
 use Rattle.hunk_words.specs.Bits.{has_both_bits, size_longs}
 use Rattle.hunk_blocks.proofs.Lists.{more_owed}
-use Rattle.hunk_grammar.specs.Roles.{Role as roles, refuse}
-use Rattle.hunk_grammar.specs.Positions.{role_at, is_behind_header}
-use Rattle.hunk_files.specs.Image.{declared_bytes}
-use Rattle.hunk_files.specs.LoadFile.{TableEntry}
+use Rattle.hunk_grammar.specs.{Roles.{Role as roles, refuse}, Positions.{role_at, is_behind_header}}
+use Rattle.hunk_files.specs.{Image.declared_bytes, LoadFile.TableEntry}
 use Rattle.hunk_files.specs.FileSteps.{table_entry, Progress, AtLastHunk, AtSizeWord, AtAttributes, AtBlock, InBody, More, role_of, rows, sized_row, step_file}
 use Rattle.hunk_files.specs.ReaderPosition.{position_of, open_longs, table_of, IsBehindHeader}
-use Rattle.hunk_files.proofs.FileProgress.{ProgressFits}
-use Rattle.hunk_files.proofs.Positions.{refuse_same}
+use Rattle.hunk_files.proofs.{FileProgress.ProgressFits, Positions.refuse_same}
 use Rattle.hunk_scatter.specs.HeaderLoaderFields.{adds, declares, declared_so_far, OpensFirst}
 use Rattle.hunk_scatter.proofs.DeclaredBytes.{declared-append, declared-one}
 

@@ -1,27 +1,18 @@
 -- What stops the loader of a header is the fault of the bytes, the budget, or that memory ran out.
 use Rattle.std.proofs.Common.{◌≡◌, true, false, ℕ, ◌+◌, ◌-◌, ◌*◌, ◌<◌, List, [], ◌∷◌, ◌++◌, length, take, drop, sym, ap, subst, ◌∙◌, append_assoc, append-nil, arith, length-append, Some, None, ◌⊎◌, inl, inr}
 use Rattle.std.specs.Prelude.{IsTrue}
-use Rattle.hunk_words.specs.Bits.{size_longs}
-use Rattle.hunk_words.specs.Longs.{longs, IsLong, AreLongs, IsBytes}
-use Rattle.hunk_words.specs.declared.fault.Fault.{Fault}
+use Rattle.hunk_words.specs.{Bits.size_longs, Longs.{longs, IsLong, AreLongs, IsBytes}, declared.fault.Fault.Fault}
 use Rattle.hunk_words.specs.declared.reason.Reason.{Reason}
 use Rattle.hunk_words.specs.declared.reason.Reason.TheVariants as reasons
 use Rattle.hunk_words.proofs.LongLaws.{longs-bytes_of, length-bytes_of}
 use Rattle.hunk_blocks.proofs.Lists.{All-more}
-use Rattle.hunk_files.specs.Fault.{Expects, HasRefusal, is_word_refusal}
-use Rattle.hunk_files.specs.Image.{declared_bytes}
-use Rattle.hunk_files.specs.LoadFile.{TableEntry}
-use Rattle.hunk_files.specs.LoadText.{header_labelled}
-use Rattle.hunk_grammar.specs.Roles.{Role, Role as roles, refuse}
-use Rattle.hunk_files.proofs.Accepted.{header_accepted}
-use Rattle.hunk_files.specs.FileSteps.{Progress, More, open_hunk, role_of, step_file}
-use Rattle.hunk_files.specs.ReaderPosition.{position_of, table_of}
-use Rattle.hunk_grammar.specs.Positions.{role_at, is_behind_header}
-use Rattle.hunk_files.proofs.Reading.{reads, step_read, read_refused}
-use Rattle.hunk_files.specs.WordsRead.{HasRead}
-use Rattle.hunk_files.proofs.Refusals.{refusal_of_word}
-use Rattle.hunk_files.proofs.Scan.{expects_of}
+use Rattle.hunk_files.specs.{Fault.{Expects, HasRefusal, is_word_refusal}, Image.declared_bytes, LoadFile.TableEntry}
+use Rattle.hunk_files.specs.{LoadText.header_labelled, FileSteps.{Progress, More, open_hunk, role_of, step_file}}
+use Rattle.hunk_files.specs.{ReaderPosition.{position_of, table_of}, WordsRead.HasRead}
+use Rattle.hunk_grammar.specs.{Roles.{Role, Role as roles, refuse}, Positions.{role_at, is_behind_header}}
 use Rattle.hunk_grammar.specs.declared.position.Position.{Position}
+use Rattle.hunk_files.proofs.{Accepted.header_accepted, Reading.{reads, step_read, read_refused}}
+use Rattle.hunk_files.proofs.{Refusals.refusal_of_word, Scan.expects_of}
 use Rattle.hunk_scatter.specs.HeaderBytes.{IsHeaderTable, header_words, header_bytes, IsHeaderFront, MayGoOnInHeader, entries_so_far}
 use Rattle.hunk_scatter.specs.HeaderFaults.{ExceedsBudget, IsOverBudget, IsBudgetOrMemory, IsHeaderFaultBy, IsHeaderFault}
 use Rattle.hunk_scatter.specs.HeaderLoaderFields.{adds, declares, StopsFor, HeaderStop, StopsInPiece}
@@ -30,8 +21,7 @@ use Rattle.hunk_scatter.proofs.Behind.{stays_behind, table_behind, expected_pass
 use Rattle.hunk_scatter.proofs.HeaderGrows.{row_in_table, table_grows}
 use Rattle.hunk_scatter.proofs.HeaderReads.{here, read_here, position_here, refusal_is, sum_here}
 use Rattle.hunk_scatter.proofs.HeaderSteps.{IsInHeader, not_in_body, declares_some, step_adds, step_opens}
-use Rattle.hunk_scatter.proofs.HeaderTexts.{header_read, rows_read}
-use Rattle.hunk_scatter.proofs.ReadWords.{read_longs, accepted_longs}
+use Rattle.hunk_scatter.proofs.{HeaderTexts.{header_read, rows_read}, ReadWords.{read_longs, accepted_longs}}
 use Rattle.hunk_scatter.proofs.Splits.{Cuts, Same, Before, Behind, cuts, fronts}
 
 -- the fault of a reason that is neither Budget nor OutOfMemory

@@ -1,23 +1,16 @@
 -- The longwords of headers: what they spell, and that a reader of load files takes them.
-use Rattle.std.proofs.Common.{rules}
-use Rattle.std.proofs.Common.{◌≡◌, ℕ, ◌+◌, ◌*◌, ◌≤◌, Bool, true, false, List, [], ◌∷◌, ◌++◌, length, refl, sym, ap, subst, ◌∙◌, append_assoc, append-nil, arith}
+use Rattle.std.proofs.Common.{rules, ◌≡◌, ℕ, ◌+◌, ◌*◌, ◌≤◌, Bool, true, false, List, [], ◌∷◌, ◌++◌, length, refl, sym, ap, subst, ◌∙◌, append_assoc, append-nil, arith}
 use Rattle.std.specs.List.{AllByRecursion, flat_map}
 use Rattle.std.proofs.lemmas.List.{map-append}
-use Rattle.hunk_words.specs.Limits.{most_hunks}
-use Rattle.hunk_words.specs.Bits.{has_both_bits}
+use Rattle.hunk_words.specs.{Limits.most_hunks, Bits.has_both_bits}
 use Rattle.hunk_blocks.proofs.Lists.{passes_then}
-use Rattle.hunk_grammar.specs.Positions.{is_behind_header}
-use Rattle.hunk_grammar.specs.Roles.{Role, Role as roles}
+use Rattle.hunk_grammar.specs.{Positions.is_behind_header, Roles.{Role, Role as roles}}
 use Rattle.hunk_blocks.specs.Faults.{words}
-use Rattle.hunk_files.specs.LoadFile.{TableEntry, IsTableEntry}
-use Rattle.hunk_files.specs.LoadText.{entry_labelled, header_labelled}
+use Rattle.hunk_files.specs.{LoadFile.{TableEntry, IsTableEntry}, LoadText.{entry_labelled, header_labelled}}
 use Rattle.hunk_files.specs.FileSteps.{table_entry, AtSizeWord, AtAttributes, AtBlock, InBody, Next, More, Finished, open_hunk}
-use Rattle.hunk_files.specs.ReaderPosition.{position_of, table_of}
-use Rattle.hunk_files.specs.WordsRead.{Labelled, HasRead}
-use Rattle.hunk_files.proofs.Accepted.{header_accepted}
-use Rattle.hunk_files.proofs.FileProgress.{header_so_far, NextFits, read}
-use Rattle.hunk_files.proofs.FileText.{header_leads}
-use Rattle.hunk_files.proofs.Reading.{reads}
+use Rattle.hunk_files.specs.{ReaderPosition.{position_of, table_of}, WordsRead.{Labelled, HasRead}}
+use Rattle.hunk_files.proofs.{Accepted.header_accepted, FileProgress.{header_so_far, NextFits, read}}
+use Rattle.hunk_files.proofs.{FileText.header_leads, Reading.reads}
 use Rattle.hunk_scatter.specs.HeaderBytes.{IsHeaderTable, header_words, entries_in, entries_so_far}
 use Rattle.hunk_scatter.specs.HeaderLoaderFields.{OpensFirst}
 

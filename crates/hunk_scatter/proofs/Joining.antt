@@ -2,11 +2,8 @@
 use Rattle.std.proofs.Common.{◌≡◌, ℕ, ◌*◌, List, [], ◌∷◌, ◌++◌, length, take, drop, refl, sym, ap, ◌∙◌, arith, length-drop}
 use Rattle.std.proofs.lemmas.List.{take-append-drop}
 use Rattle.hunk_words.specs.Bits.{size_longs}
-use Rattle.hunk_files.specs.Image.{declared_bytes}
-use Rattle.hunk_files.specs.declared.row.Row.{Row}
-use Rattle.hunk_scatter.specs.LoaderValues.{segments_in, joined}
-use Rattle.hunk_files.specs.Tables.{row_entry}
-use Rattle.hunk_scatter.specs.Rows.{entries_of, words_of}
+use Rattle.hunk_files.specs.{Image.declared_bytes, declared.row.Row.Row, Tables.row_entry}
+use Rattle.hunk_scatter.specs.{LoaderValues.{segments_in, joined}, Rows.{entries_of, words_of}}
 use Rattle.hunk_scatter.proofs.DeclaredBytes.{declared-cons}
 
 empty : (store : List ℕ) → length store ≡ 0 → store ≡ []

@@ -1,31 +1,22 @@
 -- The two stages of a load together, and when a load succeeds.
-use Rattle.std.proofs.Common.{rules}
-use Rattle.std.proofs.Common.{◌≡◌, ℕ, ◌+◌, ◌-◌, ◌*◌, ◌/◌, ◌≤◌, true, false, List, [], ◌∷◌, ◌++◌, length, take, refl, sym, ap, subst, ◌∙◌, append_assoc, append-nil, arith, length-append, Option, Some, None, Result, Ok, Err, ◌⊎◌, inl, inr, min}
-use Rattle.std.specs.Prelude.{IfErr, IsErrAnd, IsTrue, IsSome, MatchResult}
+use Rattle.std.proofs.Common.{rules, ◌≡◌, ℕ, ◌+◌, ◌-◌, ◌*◌, ◌/◌, ◌≤◌, true, false, List, [], ◌∷◌, ◌++◌, length, take, refl, sym, ap, subst, ◌∙◌, append_assoc, append-nil, arith, length-append, Option, Some, None, Result, Ok, Err, ◌⊎◌, inl, inr, min}
 use Rattle.std.proofs.Math.Seq.{take-append-add}
-use Rattle.std.specs.Io.KnownBytes.{IsAtEnd}
-use Rattle.hunk_words.specs.Carriers.{Supply}
-use Rattle.hunk_words.specs.Longs.{longs, bytes_of}
-use Rattle.hunk_words.specs.declared.fault.Fault.{Fault}
+use Rattle.std.specs.{Prelude.{IfErr, IsErrAnd, IsTrue, IsSome, MatchResult}, Io.KnownBytes.IsAtEnd}
+use Rattle.hunk_words.specs.{Carriers.Supply, Longs.{longs, bytes_of}, declared.fault.Fault.Fault}
 use Rattle.hunk_words.specs.declared.reason.Reason.{Reason}
 use Rattle.hunk_words.specs.declared.reason.Reason.TheVariants as reasons
 use Rattle.hunk_words.proofs.LongLaws.{length-bytes_of, length-longs}
-use Rattle.hunk_files.specs.declared.row.Row.{Row}
-use Rattle.hunk_files.specs.Fault.{Expects, HasRefusal, HasFault, IsTruncated}
-use Rattle.hunk_files.specs.Image.{declared_bytes}
-use Rattle.hunk_files.specs.LoadFile.{TableEntry, LoadFileValue, IsLoadFile}
+use Rattle.hunk_files.specs.{declared.row.Row.Row, Fault.{Expects, HasRefusal, HasFault, IsTruncated}}
+use Rattle.hunk_files.specs.{Image.declared_bytes, LoadFile.{TableEntry, LoadFileValue, IsLoadFile}}
 use Rattle.hunk_files.specs.LoadText.{table, text}
 use Rattle.hunk_grammar.specs.Roles.{Role as roles}
-use Rattle.hunk_scatter.specs.LoaderReasons.{is_of_header, is_of_file}
-use Rattle.hunk_scatter.specs.HeaderBytes.{IsHeaderTable, header_bytes}
+use Rattle.hunk_scatter.specs.{LoaderReasons.{is_of_header, is_of_file}, HeaderBytes.{IsHeaderTable, header_bytes}}
 use Rattle.hunk_scatter.specs.HeaderFaults.{ExceedsBudget, IsOverBudget, IsHeaderFaultBy}
 use Rattle.hunk_scatter.specs.LoaderValues.{ImageValue, MayGoOnInFile, IsImageOf}
 use Rattle.hunk_scatter.specs.LoadOutcomes.{Gives, IsHeaderWithin, GoesPastNoFile, IsReadFault, StopsInHeader, StopsShort, IsBodyStop, KeepsToHeader, LoadStop, InHeader, Between, InBody, LoadEnds, Loads}
-use Rattle.hunk_scatter.specs.Placing.{Placing, AreBases, HasBases, IsUnplacedFor}
-use Rattle.hunk_scatter.specs.declared.loading.Limits.{Limits}
+use Rattle.hunk_scatter.specs.{Placing.{Placing, AreBases, HasBases, IsUnplacedFor}, declared.loading.Limits.Limits}
 use Rattle.hunk_scatter.specs.Rows.{entries_of, bases_of}
-use Rattle.hunk_scatter.proofs.Faults.{refusal_more, no_refusal_on}
-use Rattle.hunk_scatter.proofs.Feeding.{fronts_of}
+use Rattle.hunk_scatter.proofs.{Faults.{refusal_more, no_refusal_on}, Feeding.fronts_of}
 use Rattle.hunk_scatter.proofs.HeaderFronts.{one_table, text_header, table_within, passes_more, passes_front, refused_front}
 use Rattle.hunk_scatter.proofs.LoadLaws.{IsSplit, split_of, stop_is}
 use Rattle.std.proofs.lemmas.List.{drop_all, length-take}

@@ -1,25 +1,16 @@
 -- What follows from how a load ends.
-use Rattle.std.proofs.Common.{rules}
-use Rattle.std.proofs.Common.{◌≡◌, ℕ, ◌≤◌, List, [], ◌++◌, length, refl, sym, ap, subst, ◌∙◌, append-nil, arith, Some, None, ◌⊎◌, inl, inr}
-use Rattle.std.specs.Prelude.{IsTrue, IsSome}
-use Rattle.std.specs.Io.KnownBytes.{Consumes}
-use Rattle.hunk_words.specs.Carriers.{Supply}
-use Rattle.hunk_words.specs.Longs.{bytes_of}
-use Rattle.hunk_words.specs.declared.fault.Fault.{Fault}
-use Rattle.hunk_words.specs.declared.reason.Reason.{Reason}
+use Rattle.std.proofs.Common.{rules, ◌≡◌, ℕ, ◌≤◌, List, [], ◌++◌, length, refl, sym, ap, subst, ◌∙◌, append-nil, arith, Some, None, ◌⊎◌, inl, inr}
+use Rattle.std.specs.{Prelude.{IsTrue, IsSome}, Io.KnownBytes.Consumes}
+use Rattle.hunk_words.specs.{Carriers.Supply, Longs.bytes_of, declared.fault.Fault.Fault, declared.reason.Reason.Reason}
 use Rattle.hunk_words.specs.declared.reason.Reason.TheVariants as reasons
-use Rattle.hunk_files.specs.Fault.{HasRefusal}
-use Rattle.hunk_files.specs.Image.{declared_bytes}
-use Rattle.hunk_files.specs.LoadFile.{TableEntry, LoadFileValue, IsLoadFile}
+use Rattle.hunk_files.specs.{Fault.HasRefusal, Image.declared_bytes, LoadFile.{TableEntry, LoadFileValue, IsLoadFile}}
 use Rattle.hunk_files.specs.LoadText.{text}
 use Rattle.hunk_scatter.specs.LoaderReasons.{is_of_header, is_of_body}
 use Rattle.hunk_scatter.specs.HeaderBytes.{IsHeaderTable, header_bytes, IsHeaderFront}
 use Rattle.hunk_scatter.specs.HeaderFaults.{ExceedsBudget, IsHeaderFaultBy}
 use Rattle.hunk_scatter.specs.LoadOutcomes.{Gives, KeepsRest, IsNotPlaced, IsHeaderWithin, IsLoadFaultBy, IsLoadFault, GoesPastNoFile, StopsShort, KeepsToHeader, LoadStop, InHeader, Between, InBody}
-use Rattle.hunk_scatter.specs.Placing.{Placing, HasBases, IsUnplacedFor}
-use Rattle.hunk_scatter.specs.declared.loading.Limits.{Limits}
-use Rattle.hunk_scatter.proofs.Feeding.{fronts_of}
-use Rattle.hunk_scatter.proofs.HeaderFronts.{table_within}
+use Rattle.hunk_scatter.specs.{Placing.{Placing, HasBases, IsUnplacedFor}, declared.loading.Limits.Limits}
+use Rattle.hunk_scatter.proofs.{Feeding.fronts_of, HeaderFronts.table_within}
 
 -- ---- what is read
 

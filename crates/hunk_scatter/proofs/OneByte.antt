@@ -1,37 +1,25 @@
 -- Bytes of a body up to the end of a longword.
-use Rattle.std.proofs.Common.{rules}
-use Rattle.std.proofs.Common.{◌≡◌, ℕ, ◌+◌, ◌*◌, ◌<◌, true, false, List, [], ◌∷◌, ◌++◌, length, refl, sym, ap, ap₂, subst, ◌∙◌, append_assoc, append-nil, arith, length-append, None, Some}
+use Rattle.std.proofs.Common.{rules, ◌≡◌, ℕ, ◌+◌, ◌*◌, ◌<◌, true, false, List, [], ◌∷◌, ◌++◌, length, refl, sym, ap, ap₂, subst, ◌∙◌, append_assoc, append-nil, arith, length-append, None, Some}
 use Rattle.std.specs.List.{AllByRecursion}
 use Rattle.std.proofs.lemmas.List.Sums.{sum_by-append, sum_by-cons}
-use Rattle.hunk_words.specs.declared.reason.Reason.{Reason}
-use Rattle.hunk_words.specs.Bits.{size_longs}
-use Rattle.hunk_words.specs.Longs.{bytes_of, longs, IsLong}
-use Rattle.hunk_files.specs.Fault.{HasRefusal}
-use Rattle.hunk_files.specs.Image.{declared_bytes, images}
-use Rattle.hunk_files.specs.LoadFile.{TableEntry, LoadFileValue}
-use Rattle.hunk_grammar.specs.Roles.{refuse}
+use Rattle.hunk_words.specs.{declared.reason.Reason.Reason, Bits.size_longs, Longs.{bytes_of, longs, IsLong}}
+use Rattle.hunk_files.specs.{Fault.HasRefusal, Image.{declared_bytes, images}, LoadFile.{TableEntry, LoadFileValue}}
 use Rattle.hunk_files.specs.LoadText.{table}
-use Rattle.hunk_blocks.specs.BlockSteps.{ForName, ForCode, SizedCode, SizedData, Inside, AtCount, AtSize, InPayload, InOffsets, InExtName}
-use Rattle.hunk_blocks.specs.ReaderPhase.{phase_of}
 use Rattle.hunk_files.specs.FileSteps.{HunkSoFar, Progress, AtBlock, InBody, Next, More, Finished, place_of, role_of, step_file}
-use Rattle.hunk_files.proofs.FileProgress.{OpenFits, ProgressFits}
-use Rattle.hunk_files.proofs.HunkProgress.{Within}
+use Rattle.hunk_files.specs.{WordsRead.HasRead, declared.row.Row.Row}
+use Rattle.hunk_files.specs.ReaderPosition.{open_of, block_phase, open_table, table_of, IsBehindHeader}
+use Rattle.hunk_grammar.specs.{Roles.refuse, Positions.is_done}
+use Rattle.hunk_blocks.specs.BlockSteps.{ForName, ForCode, SizedCode, SizedData, Inside, AtCount, AtSize, InPayload, InOffsets, InExtName}
+use Rattle.hunk_blocks.specs.{ReaderPhase.phase_of, Values.BlockValue, declared.phase.Phase.Phase}
+use Rattle.hunk_files.proofs.{FileProgress.{OpenFits, ProgressFits}, HunkProgress.Within}
+use Rattle.hunk_files.proofs.Reading.{reads, step_read, read_refused, read_ended}
 use Rattle.hunk_words.proofs.LongLaws.{longs-bytes_of, length-bytes_of, bytes_of-append}
 use Rattle.hunk_blocks.proofs.Lists.{All-more}
-use Rattle.hunk_files.proofs.Reading.{reads, step_read, read_refused, read_ended}
-use Rattle.hunk_files.specs.WordsRead.{HasRead}
-use Rattle.hunk_files.specs.declared.row.Row.{Row}
-use Rattle.hunk_blocks.specs.Values.{BlockValue}
-use Rattle.hunk_blocks.specs.declared.phase.Phase.{Phase}
 use Rattle.hunk_grammar.specs.declared.position.Position.TheVariants as positions
-use Rattle.hunk_grammar.specs.Positions.{is_done}
-use Rattle.hunk_files.specs.ReaderPosition.{open_of, block_phase, open_table, table_of, IsBehindHeader}
 use Rattle.hunk_scatter.specs.declared.store.BodyState.{BodyState}
 use Rattle.hunk_scatter.specs.StoreContent.{StoreHolds, HasSizedImage, stored_long}
-use Rattle.hunk_scatter.specs.BodyLoaderFields.{EndsWhole, StandsBehind}
-use Rattle.hunk_scatter.specs.LoaderValues.{IsFileWithRows}
-use Rattle.hunk_scatter.specs.Rows.{entries_of, words_of, bases_of}
-use Rattle.hunk_scatter.specs.BodyReader.{sizes_of, state_at, state_of}
+use Rattle.hunk_scatter.specs.{BodyLoaderFields.{EndsWhole, StandsBehind}, LoaderValues.IsFileWithRows}
+use Rattle.hunk_scatter.specs.{Rows.{entries_of, words_of, bases_of}, BodyReader.{sizes_of, state_at, state_of}}
 use Rattle.hunk_scatter.specs.BodySteps.{refusal, step_body, RoomFor, IsInStore}
 use Rattle.hunk_scatter.proofs.ReadWords.{read_longs}
 use Rattle.hunk_scatter.proofs.Forget.{before_is, step_state, step_table, step_behind, refusal_same, sizes-at, sizes-length}

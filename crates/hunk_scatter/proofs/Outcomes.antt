@@ -1,15 +1,11 @@
 -- What was read has no refusal, and is truncated where it goes on.
 use Rattle.std.proofs.Common.{◌≡◌, ℕ, ◌*◌, ◌/◌, ◌<◌, List, ◌++◌, length, sym, subst, ◌∙◌}
 use Rattle.hunk_words.specs.Longs.{longs, bytes_of}
-use Rattle.hunk_words.proofs.LongLaws.{length-longs}
-use Rattle.hunk_words.proofs.GatherLaws.{gathered-all}
+use Rattle.hunk_words.proofs.{LongLaws.length-longs, GatherLaws.gathered-all}
 use Rattle.hunk_blocks.specs.Faults.{HasRefusal as RefusalOf, IsFront}
 use Rattle.hunk_blocks.proofs.FaultScan.{front_passes}
-use Rattle.hunk_files.specs.Fault.{IsTruncated, load_files}
-use Rattle.hunk_files.specs.FileSteps.{Progress, Next, More}
-use Rattle.hunk_files.proofs.Reading.{reads}
-use Rattle.hunk_files.specs.WordsRead.{HasRead}
-use Rattle.hunk_files.proofs.Scan.{load_reader, load_reads, read_front, truncated_of}
+use Rattle.hunk_files.specs.{Fault.{IsTruncated, load_files}, FileSteps.{Progress, Next, More}, WordsRead.HasRead}
+use Rattle.hunk_files.proofs.{Reading.reads, Scan.{load_reader, load_reads, read_front, truncated_of}}
 use Rattle.hunk_scatter.specs.LoaderValues.{HasNoRefusal}
 use Rattle.hunk_scatter.proofs.ReadWords.{read_longs}
 

@@ -2,23 +2,16 @@
 use Rattle.std.proofs.Common.{◌≡◌, ℕ, zero, suc, ◌/◌, ◌^◌, ◌≤◌, cond, List, [], ◌∷◌, ◌++◌, Option, Some, None, refl, sym, ap, ap₂, subst, ◌∙◌, arith}
 use Rattle.hunk_blocks.specs.Values.{ExtEntry, SymbolEntry, RelocGroup}
 use Rattle.hunk_blocks.specs.BlockSteps.{ForName, Filling, Counted, SizedCode, Inside, AtCount, InPayload, InOffsets, InName, InExtName, InExtOffsets, fill, relocate, name_entry, name_external, refer}
-use Rattle.hunk_blocks.specs.Faults.{words}
-use Rattle.hunk_files.specs.LoadFile.{LoadFileValue, IsLoadFile}
-use Rattle.hunk_files.specs.LoadText.{labelled}
+use Rattle.hunk_blocks.specs.{Faults.words, declared.ext_shape.ExtShape.ExtShape}
+use Rattle.hunk_blocks.specs.declared.ext_shape.ExtShape.TheVariants.{Definition, References, Common}
+use Rattle.hunk_blocks.specs.{ExtKinds.ext_shape, ReaderPhase.front_phase}
+use Rattle.hunk_files.specs.{LoadFile.{LoadFileValue, IsLoadFile}, LoadText.labelled}
 use Rattle.hunk_files.specs.FileSteps.{HunkSoFar, Progress, AtFirst, InBody, Next, More, Finished, role_of, after, step_file, Leads}
-use Rattle.hunk_files.proofs.FileText.{file_leads}
-use Rattle.hunk_files.proofs.Shapes.{by_shape}
-use Rattle.hunk_files.proofs.Runs.{Leads-split, Leads-same}
-use Rattle.hunk_files.specs.WordsRead.{HasRead, Labelled}
-use Rattle.hunk_files.specs.ReaderPosition.{position_of, open_of}
-use Rattle.hunk_grammar.specs.Positions.{least_longs}
-use Rattle.hunk_grammar.specs.declared.phase.OpenHunk.{OpenHunk}
+use Rattle.hunk_files.specs.{WordsRead.{HasRead, Labelled}, ReaderPosition.{position_of, open_of}}
+use Rattle.hunk_files.proofs.{FileText.file_leads, Shapes.by_shape, Runs.{Leads-split, Leads-same}}
+use Rattle.hunk_grammar.specs.{Positions.least_longs, declared.phase.OpenHunk.OpenHunk}
 use Rattle.hunk_grammar.specs.declared.position.Position.TheVariants as positions
 use Rattle.hunk_words.specs.Bits.{entry_type}
-use Rattle.hunk_blocks.specs.declared.ext_shape.ExtShape.{ExtShape}
-use Rattle.hunk_blocks.specs.declared.ext_shape.ExtShape.TheVariants.{Definition, References, Common}
-use Rattle.hunk_blocks.specs.ExtKinds.{ext_shape}
-use Rattle.hunk_blocks.specs.ReaderPhase.{front_phase}
 use Rattle.hunk_scatter.specs.Owing.{is_in_run, run_of}
 
 abbrev pub run_in : Inside → ℕ

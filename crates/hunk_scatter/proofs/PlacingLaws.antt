@@ -1,15 +1,11 @@
 -- Rows are placed one after another.
 use Rattle.std.proofs.Common.{◌≡◌, ◌≢◌, ℕ, zero, suc, ◌+◌, ◌*◌, ◌<◌, ◌≤◌, ◌^◌, Bool, true, false, List, [], ◌∷◌, ◌++◌, length, map, take, drop, get_or, set, refl, sym, ap, ap₂, subst, ◌∙◌, arith, Some, ltb, length-take}
+use Rattle.std.proofs.Math.Seq.{map-set_same, take-suc}
 use Rattle.std.proofs.lemmas.Bool.{ltb-true, ltb-false}
 use Rattle.std.proofs.lemmas.List.{get_or-set_same, get_or-set_other, get_or-map, length-map, map-set}
-use Rattle.std.proofs.Math.Seq.{map-set_same, take-suc}
 use Rattle.hunk_words.specs.Bits.{size_longs}
-use Rattle.hunk_files.specs.declared.row.Row.{Row}
-use Rattle.hunk_files.specs.Image.{declared_bytes}
-use Rattle.hunk_files.specs.LoadFile.{TableEntry}
-use Rattle.hunk_scatter.specs.Placing.{Placing, base_at, ArePlacedTo}
-use Rattle.hunk_files.specs.Tables.{row_entry}
-use Rattle.hunk_scatter.specs.Rows.{entries_of, row_of, bases_of}
+use Rattle.hunk_files.specs.{declared.row.Row.Row, Image.declared_bytes, LoadFile.TableEntry, Tables.row_entry}
+use Rattle.hunk_scatter.specs.{Placing.{Placing, base_at, ArePlacedTo}, Rows.{entries_of, row_of, bases_of}}
 use Rattle.hunk_scatter.proofs.DeclaredBytes.{declared_limit, declared-append, declared-one}
 
 abbrev no_entry : TableEntry

@@ -2,9 +2,7 @@
 use Rattle.std.proofs.Common.{ℕ, List, [], ◌∷◌, subst}
 use Rattle.hunk_words.specs.Longs.{AreLongs}
 use Rattle.hunk_blocks.specs.Faults.{words}
-use Rattle.hunk_files.specs.LoadFile.{LoadFileValue, IsLoadFile}
-use Rattle.hunk_files.specs.LoadText.{labelled, text}
-use Rattle.hunk_files.specs.FileSteps.{Next}
+use Rattle.hunk_files.specs.{LoadFile.{LoadFileValue, IsLoadFile}, LoadText.{labelled, text}, FileSteps.Next}
 use Rattle.hunk_files.specs.WordsRead.{Labelled, AreAccepted, HasRead}
 use Rattle.hunk_files.proofs.Accepted.{labelled_accepted}
 

@@ -1,18 +1,15 @@
 -- The reasons for which a longword of a body, and one of a header, is refused.
 use Rattle.std.proofs.Common.{◌≡◌, ℕ, Bool, true, false, cond, List, Some, None, Option, refl, subst, ◌==◌}
 use Rattle.std.specs.Prelude.{IfSome, IsTrue, nat_lt}
-use Rattle.hunk_words.specs.declared.block_word.Kind.{Kind}
-use Rattle.hunk_words.specs.declared.block_word.Kind.TheVariants as kinds
-use Rattle.hunk_words.specs.declared.reason.Reason.{Reason}
-use Rattle.hunk_words.specs.declared.reason.Reason.TheVariants as reasons
+use Rattle.hunk_words.specs.{declared.block_word.Kind.Kind, declared.reason.Reason.Reason}
 use Rattle.hunk_words.specs.Bits.{has_both_bits, size_longs, is_advisory, kind}
+use Rattle.hunk_words.specs.declared.block_word.Kind.TheVariants as kinds
+use Rattle.hunk_words.specs.declared.reason.Reason.TheVariants as reasons
 use Rattle.hunk_blocks.specs.Parts.{Part, Part as parts}
-use Rattle.hunk_grammar.specs.Roles.{Place, refuse, refuse_kind, refuse_part}
-use Rattle.hunk_grammar.specs.declared.position.Position.{Position}
-use Rattle.hunk_grammar.specs.declared.position.Position.TheVariants as positions
+use Rattle.hunk_grammar.specs.{Roles.{Place, refuse, refuse_kind, refuse_part}, declared.position.Position.Position}
 use Rattle.hunk_grammar.specs.Positions.{role_at, place, part_at, is_behind_header}
-use Rattle.hunk_scatter.specs.declared.store.BodyState.{BodyState}
-use Rattle.hunk_scatter.specs.BodySteps.{longs_at, refusal, IsInStore}
+use Rattle.hunk_grammar.specs.declared.position.Position.TheVariants as positions
+use Rattle.hunk_scatter.specs.{declared.store.BodyState.BodyState, BodySteps.{longs_at, refusal, IsInStore}}
 use Rattle.hunk_scatter.specs.LoaderReasons.{is_of_body}
 
 module _ (test : Reason → Bool) where

@@ -1,27 +1,22 @@
 -- Longwords of a content, a payload, a name or a list of offsets at once.
-use Rattle.std.proofs.Common.{rules}
-use Rattle.std.proofs.Common.{◌≡◌, ℕ, zero, suc, ◌+◌, ◌-◌, ◌*◌, ◌/◌, ◌%◌, ◌<◌, ◌≤◌, false, get_or, None, List, [], ◌∷◌, ◌++◌, length, take, drop, refl, sym, ap, ap₂, subst, ◌∙◌, append_assoc, append-nil, arith, length-append, length-take}
-use Rattle.std.specs.Int.{w32, to_be_bytes}
-use Rattle.std.proofs.lemmas.List.{take_at, drop-drop, take-append-drop}
+use Rattle.std.proofs.Common.{rules, ◌≡◌, ℕ, zero, suc, ◌+◌, ◌-◌, ◌*◌, ◌/◌, ◌%◌, ◌<◌, ◌≤◌, false, get_or, None, List, [], ◌∷◌, ◌++◌, length, take, drop, refl, sym, ap, ap₂, subst, ◌∙◌, append_assoc, append-nil, arith, length-append, length-take}
 use Rattle.std.proofs.Math.Seq.{drop-append-add}
+use Rattle.std.specs.{Int.{w32, to_be_bytes}, List.AllByRecursion}
+use Rattle.std.proofs.lemmas.List.{take_at, drop-drop, take-append-drop}
 use Rattle.hunk_words.specs.Longs.{bytes_of, longs, IsBytes, AreLongs, IsLong}
 use Rattle.hunk_words.proofs.LongLaws.{bytes_of-cons, bytes_of-nil, bytes_of-one, length-bytes_of, length-longs, spelled, longs_fit}
 use Rattle.hunk_words.proofs.PartLaws.{longs-take}
-use Rattle.std.specs.List.{AllByRecursion}
 use Rattle.hunk_files.specs.declared.row.Row.{Row}
-use Rattle.hunk_grammar.specs.declared.phase.OpenHunk.{OpenHunk}
+use Rattle.hunk_grammar.specs.{declared.phase.OpenHunk.OpenHunk, declared.position.Position.Position}
+use Rattle.hunk_grammar.specs.Positions.{onward, is_done, run, pass, owe_content, owe_payload, owe_symbol, EndsWithin}
 use Rattle.hunk_blocks.specs.declared.phase.Phase.TheVariants as phases
-use Rattle.hunk_grammar.specs.declared.position.Position.{Position}
 use Rattle.hunk_grammar.specs.declared.position.Position.TheVariants as positions
 use Rattle.hunk_blocks.specs.PhaseSteps as inside
-use Rattle.hunk_grammar.specs.Positions.{onward, is_done, run, pass, owe_content, owe_payload, owe_symbol, EndsWithin}
-use Rattle.hunk_scatter.specs.declared.store.BodyState.{BodyState}
-use Rattle.hunk_scatter.specs.BodyLoaderFields.{StandsBehind}
+use Rattle.hunk_scatter.specs.{declared.store.BodyState.BodyState, BodyLoaderFields.StandsBehind}
 use Rattle.hunk_scatter.specs.BodySteps.{longs_at, pass_body, IsInStore, refusal, step_body}
 use Rattle.hunk_scatter.specs.Rows.{words_of, bases_of}
 use Rattle.hunk_scatter.specs.StoreContent.{put_at, put_slice, stored_run_in, stored_run, added_at_each, TakesOffsets, stored_in}
-use Rattle.hunk_scatter.proofs.OneByte.{going, more_read}
-use Rattle.hunk_scatter.proofs.Splice.{length-put}
+use Rattle.hunk_scatter.proofs.{OneByte.{going, more_read}, Splice.length-put}
 
 -- ---- the store
 

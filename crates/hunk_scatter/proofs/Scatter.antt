@@ -1,32 +1,26 @@
 -- Each longword keeps what the store holds.
-use Rattle.std.proofs.Common.{rules}
-use Rattle.std.proofs.Common.{◌≡◌, ℕ, suc, ◌+◌, ◌-◌, ◌*◌, ◌≤◌, Bool, true, false, List, [], ◌∷◌, ◌++◌, length, get_or, replicate, refl, sym, ap, ap₂, ◌∙◌, append_assoc, append-nil, arith, length-append, ltb, None}
-use Rattle.std.specs.List.{flat_map, AllByRecursion}
-use Rattle.std.specs.Int.{w32, to_be_bytes}
-use Rattle.std.proofs.lemmas.Bool.{ltb-false}
-use Rattle.std.proofs.lemmas.List.Sums.{sum_by-cons}
-use Rattle.std.proofs.lemmas.List.{length-replicate}
-use Rattle.hunk_words.specs.declared.block_word.Kind.{Kind}
+use Rattle.std.proofs.Common.{rules, ◌≡◌, ℕ, suc, ◌+◌, ◌-◌, ◌*◌, ◌≤◌, Bool, true, false, List, [], ◌∷◌, ◌++◌, length, get_or, replicate, refl, sym, ap, ap₂, ◌∙◌, append_assoc, append-nil, arith, length-append, ltb, None}
+use Rattle.std.specs.{List.{flat_map, AllByRecursion}, Int.{w32, to_be_bytes}}
+use Rattle.std.proofs.lemmas.{Bool.ltb-false, List.Sums.sum_by-cons, List.length-replicate}
+use Rattle.hunk_words.specs.{declared.block_word.Kind.Kind, Bits.{size_longs, kind}, Longs.{bytes_of, IsLong}}
 use Rattle.hunk_words.specs.declared.block_word.Kind.TheVariants as kinds
 use Rattle.hunk_words.specs.declared.reason.Reason.TheVariants as reasons
-use Rattle.hunk_words.specs.Bits.{size_longs, kind}
-use Rattle.hunk_words.specs.Longs.{bytes_of, IsLong}
 use Rattle.hunk_files.specs.Image.{add_at, image, images, filled, relocated, block_content, block_relocations}
-use Rattle.hunk_blocks.specs.Values.{BlockBody, BlockValue, Code, Data, Bss, Reloc, Ext, End}
 use Rattle.hunk_files.specs.LoadFile.{TableEntry, HunkValue}
-use Rattle.hunk_grammar.specs.Roles.{refuse, refuse_part}
-use Rattle.hunk_blocks.specs.BlockSteps.{ForName, ForCode, SizedCode, SizedData, Inside, AtCount, AtSize, InPayload, InOffsets, InExtName, BlockNext, Open, Whole, part_of, step_inside, begin_body}
 use Rattle.hunk_files.specs.FileSteps.{hunk, block, HunkSoFar, Progress, AtBlock, InBody, More, place_of, role_of, with_block, open_hunk, close, after, step_file}
+use Rattle.hunk_files.specs.OpenSegment.{segment_so_far, bytes_so_far, pairs_so_far, bytes_in, pairs_in}
+use Rattle.hunk_files.specs.ReaderPosition.{position_of, open_of, block_phase}
+use Rattle.hunk_blocks.specs.Values.{BlockBody, BlockValue, Code, Data, Bss, Reloc, Ext, End}
+use Rattle.hunk_blocks.specs.BlockSteps.{ForName, ForCode, SizedCode, SizedData, Inside, AtCount, AtSize, InPayload, InOffsets, InExtName, BlockNext, Open, Whole, part_of, step_inside, begin_body}
+use Rattle.hunk_grammar.specs.Roles.{refuse, refuse_part}
 use Rattle.hunk_files.proofs.FileProgress.{ProgressFits, IsAdmitted, kind_admitted, kind_is}
+use Rattle.hunk_files.proofs.Memory.{adds_bytes, adds_pairs, step_has, offset_adds, end_is_image}
 use Rattle.hunk_files.proofs.HunkProgress as blocks
 use Rattle.hunk_blocks.proofs.Lists.{All-more, flat_map-more, passed_true, passed_false}
-use Rattle.hunk_files.proofs.Memory.{adds_bytes, adds_pairs, step_has, offset_adds, end_is_image}
-use Rattle.hunk_files.specs.OpenSegment.{segment_so_far, bytes_so_far, pairs_so_far, bytes_in, pairs_in}
 use Rattle.hunk_scatter.specs.StoreContent.{zeros, HasSizedImage, Holds, StoreHolds, put_at, stored_in, stored_long}
-use Rattle.hunk_files.specs.ReaderPosition.{position_of, open_of, block_phase}
+use Rattle.hunk_scatter.specs.BodyReader.{state_of, before}
 use Rattle.hunk_grammar.specs.declared.phase.OpenHunk as numbers
 use Rattle.hunk_grammar.specs.declared.position.Position.TheVariants as positions
-use Rattle.hunk_scatter.specs.BodyReader.{state_of, before}
 use Rattle.hunk_scatter.proofs.Splice.{put-join, add-join, length-put, long_fills}
 use Rattle.hunk_words.proofs.LongLaws.{length-bytes_of, bytes_of-one}
 

@@ -1,7 +1,7 @@
 -- Four bytes replaced within joined lists.
 use Rattle.std.proofs.Common.{◌≡◌, ℕ, zero, suc, ◌+◌, ◌-◌, ◌%◌, ◌^◌, ◌≤◌, List, ◌++◌, length, take, drop, replicate, sym, ap, ap₂, ◌∙◌, append_assoc, arith, length-append, length-take, length-drop}
-use Rattle.std.proofs.lemmas.List.{take-append-le, drop-append-le}
 use Rattle.std.proofs.Math.Seq.{take-append-add, drop-append-add, take-append_seam}
+use Rattle.std.proofs.lemmas.List.{take-append-le, drop-append-le}
 use Rattle.std.specs.Int.{w32, to_be_bytes, from_be_bytes}
 use Rattle.hunk_files.specs.Image.{add_at, filled}
 use Rattle.hunk_scatter.specs.StoreContent.{put_at}

@@ -1,28 +1,15 @@
 -- Behind the header the body's loader stands at its first hunk, with a store of zero bytes.
 use Rattle.std.proofs.Common.{◌≡◌, ◌≢◌, ℕ, zero, suc, ◌+◌, ◌*◌, List, [], ◌∷◌, ◌++◌, length, replicate, refl, sym, ap, ◌∙◌, append-nil, arith, subst}
-use Rattle.std.proofs.lemmas.List.Sums.{sum_by-cons}
-use Rattle.hunk_words.specs.Carriers.{saturated}
-use Rattle.hunk_words.specs.Longs.{bytes_of}
-use Rattle.hunk_words.specs.Bits.{size_longs}
-use Rattle.hunk_files.specs.Image.{declared_bytes}
-use Rattle.hunk_files.specs.LoadFile.{TableEntry}
-use Rattle.hunk_files.specs.FileSteps.{open_hunk}
-use Rattle.hunk_files.specs.WordsRead.{HasRead}
-use Rattle.hunk_files.specs.declared.row.Row.{Row}
+use Rattle.std.proofs.lemmas.{List.Sums.sum_by-cons, List.{length-map, length-replicate}}
+use Rattle.hunk_words.specs.{Carriers.saturated, Longs.bytes_of, Bits.size_longs, PendingBytes.pending_of}
+use Rattle.hunk_files.specs.{Image.declared_bytes, LoadFile.TableEntry, FileSteps.open_hunk, WordsRead.HasRead}
+use Rattle.hunk_files.specs.{declared.row.Row.Row, Tables.row_entry}
 use Rattle.hunk_grammar.specs.Positions.{open_next}
-use Rattle.hunk_scatter.specs.BodyReader.{state_at}
-use Rattle.hunk_scatter.specs.StoreContent.{zeros}
-use Rattle.hunk_scatter.specs.BodyLoaderFields.{IsFed, StandsBehind}
-use Rattle.hunk_words.specs.PendingBytes.{pending_of}
-use Rattle.hunk_scatter.specs.declared.stream.Standing.{Standing}
-use Rattle.hunk_scatter.proofs.OneByte.{stands_as}
-use Rattle.hunk_files.specs.Tables.{row_entry}
-use Rattle.hunk_scatter.specs.Rows.{entries_of, bases_of}
-use Rattle.std.proofs.lemmas.List.{length-map, length-replicate}
+use Rattle.hunk_scatter.specs.{BodyReader.state_at, StoreContent.zeros, BodyLoaderFields.{IsFed, StandsBehind}}
+use Rattle.hunk_scatter.specs.{declared.stream.Standing.Standing, Rows.{entries_of, bases_of}}
 use Rattle.hunk_scatter.specs.HeaderBytes.{IsHeaderTable, header_words, header_bytes}
 use Rattle.hunk_scatter.specs.HeaderLoaderFields.{DeclaredInvariant}
-use Rattle.hunk_scatter.proofs.HeaderTexts.{header_read}
-use Rattle.hunk_scatter.proofs.Scatter.{start_holds}
+use Rattle.hunk_scatter.proofs.{OneByte.stands_as, HeaderTexts.header_read, Scatter.start_holds}
 
 replicate-both : (m n : ℕ) → replicate {A = ℕ} (m + n) 0 ≡ replicate m 0 ++ replicate n 0
 replicate-both zero n = let e : zero + n ≡ n = omega arith in ap (λ (k : ℕ). replicate k 0) e

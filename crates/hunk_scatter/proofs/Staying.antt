@@ -1,10 +1,8 @@
 -- Within a hunk no longword leads out of the rows or the store, whatever was fed before.
-use Rattle.std.proofs.Common.{rules}
-use Rattle.std.proofs.Common.{◌≡◌, ℕ, zero, suc, List, None, sym, subst}
+use Rattle.std.proofs.Common.{rules, ◌≡◌, ℕ, zero, suc, List, None, sym, subst}
 use Rattle.hunk_blocks.specs.declared.phase.Phase.TheVariants as phases
-use Rattle.hunk_grammar.specs.declared.position.Position.{Position}
+use Rattle.hunk_grammar.specs.{declared.position.Position.Position, Positions.{pass, step}}
 use Rattle.hunk_grammar.specs.declared.position.Position.TheVariants as positions
-use Rattle.hunk_grammar.specs.Positions.{pass, step}
 use Rattle.hunk_scatter.specs.declared.store.BodyState.{BodyState}
 use Rattle.hunk_scatter.specs.BodySteps.{IsInStore, StaysInStore, move_to, pass_body, refusal, step_body}
 use Rattle.hunk_scatter.specs.StoreContent.{TakesOffsets}

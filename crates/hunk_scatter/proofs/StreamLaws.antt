@@ -1,21 +1,14 @@
 -- A loader of numbers.
-use Rattle.std.proofs.Common.{rules}
-use Rattle.std.proofs.Common.{◌≡◌, ℕ, ◌-◌, ◌*◌, ◌≤◌, ◌<◌, Bool, true, false, List, [], ◌∷◌, ◌++◌, length, get_or, take, refl, sym, arith, Err, None}
+use Rattle.std.proofs.Common.{rules, ◌≡◌, ℕ, ◌-◌, ◌*◌, ◌≤◌, ◌<◌, Bool, true, false, List, [], ◌∷◌, ◌++◌, length, get_or, take, refl, sym, arith, Err, None}
 use Rattle.hunk_files.specs.declared.row.Row.{Row}
-use Rattle.hunk_words.specs.declared.pending.Pending.{Pending}
-use Rattle.hunk_grammar.specs.declared.phase.OpenHunk.{OpenHunk}
-use Rattle.hunk_blocks.specs.declared.phase.Phase.{Phase}
-use Rattle.hunk_grammar.specs.declared.position.Position.{Position}
-use Rattle.hunk_grammar.specs.declared.position.Position.TheVariants as positions
+use Rattle.hunk_words.specs.{declared.pending.Pending.Pending, PendingBytes.pending_of}
+use Rattle.hunk_grammar.specs.{declared.phase.OpenHunk.OpenHunk, declared.position.Position.Position}
 use Rattle.hunk_grammar.specs.Positions.{is_done, is_behind_header, is_between_hunks, least_longs}
-use Rattle.hunk_scatter.specs.BodySteps.{IsInStore}
-use Rattle.hunk_scatter.specs.Owing.{FileOwes}
-use Rattle.hunk_scatter.specs.Rows.{words_of}
-use Rattle.hunk_scatter.specs.declared.store.BodyState.{BodyState}
-use Rattle.hunk_scatter.specs.declared.stream.Standing.{Standing}
-use Rattle.hunk_scatter.specs.BodyLoaderFields.{StandsBehind}
+use Rattle.hunk_blocks.specs.declared.phase.Phase.{Phase}
+use Rattle.hunk_grammar.specs.declared.position.Position.TheVariants as positions
+use Rattle.hunk_scatter.specs.{BodySteps.IsInStore, Owing.FileOwes, Rows.words_of, declared.store.BodyState.BodyState}
+use Rattle.hunk_scatter.specs.{declared.stream.Standing.Standing, BodyLoaderFields.StandsBehind}
 use Rattle.hunk_scatter.specs.Streaming.{IsFed, IsWithin, EndsLoading, StandsAfter, TakesPart}
-use Rattle.hunk_words.specs.PendingBytes.{pending_of}
 use Rattle.hunk_scatter.proofs.BodyFields.{in_room, image_of, fed_clean, fed_truncated, owes_file}
 use Rattle.hunk_words.proofs.PendingLaws.{pending_few}
 

@@ -4,18 +4,12 @@ use Rattle.std.specs.List.{flat_map}
 use Rattle.std.proofs.lemmas.List.{map-append}
 use Rattle.hunk_grammar.specs.Roles.{Role, Role as roles}
 use Rattle.hunk_blocks.specs.Faults.{words}
-use Rattle.hunk_files.specs.Fault.{Expects}
-use Rattle.hunk_files.specs.FileSteps.{open_hunk}
-use Rattle.hunk_files.specs.Image.{declared_bytes}
+use Rattle.hunk_files.specs.{Fault.Expects, FileSteps.open_hunk, Image.declared_bytes}
 use Rattle.hunk_files.specs.LoadFile.{TableEntry, LoadFileValue}
 use Rattle.hunk_files.specs.LoadText.{labelled, header_labelled, hunk_labelled, table}
-use Rattle.hunk_scatter.specs.HeaderBytes.{IsHeaderTable, header_words, entries_so_far}
-use Rattle.hunk_scatter.specs.HeaderFaults.{ExceedsBudget}
-use Rattle.hunk_scatter.proofs.Behind.{table_behind, no_size_word}
-use Rattle.hunk_scatter.proofs.DeclaredBytes.{declared_limit}
-use Rattle.hunk_scatter.proofs.HeaderFronts.{text_header, header_within}
-use Rattle.hunk_scatter.proofs.HeaderTexts.{header_read}
-use Rattle.hunk_scatter.proofs.Splits.{fronts}
+use Rattle.hunk_scatter.specs.{HeaderBytes.{IsHeaderTable, header_words, entries_so_far}, HeaderFaults.ExceedsBudget}
+use Rattle.hunk_scatter.proofs.{Behind.{table_behind, no_size_word}, DeclaredBytes.declared_limit}
+use Rattle.hunk_scatter.proofs.{HeaderFronts.{text_header, header_within}, HeaderTexts.header_read, Splits.fronts}
 
 abbrev hunk_words_of : LoadFileValue → List ℕ
 hunk_words_of v = words (flat_map (hunk_labelled (length v)) v)

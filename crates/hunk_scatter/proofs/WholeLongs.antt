@@ -1,25 +1,17 @@
 -- Longwords that lie whole in a piece of a body, taken one part after another.
-use Rattle.std.proofs.Common.{rules}
-use Rattle.std.proofs.Common.{◌≡◌, ℕ, ◌+◌, ◌-◌, ◌*◌, ◌/◌, ◌%◌, ◌<◌, ◌≤◌, false, List, [], ◌∷◌, ◌++◌, length, take, drop, get_or, None, Some, Ok, Err, refl, sym, ap, subst, ◌∙◌, arith, length-take, length-drop, length-append, append_assoc, take-append-drop}
-use Rattle.std.proofs.lemmas.List.{drop-drop, take_rest}
+use Rattle.std.proofs.Common.{rules, ◌≡◌, ℕ, ◌+◌, ◌-◌, ◌*◌, ◌/◌, ◌%◌, ◌<◌, ◌≤◌, false, List, [], ◌∷◌, ◌++◌, length, take, drop, get_or, None, Some, Ok, Err, refl, sym, ap, subst, ◌∙◌, arith, length-take, length-drop, length-append, append_assoc, take-append-drop}
 use Rattle.std.proofs.Math.Seq.{take-add}
-use Rattle.hunk_words.specs.declared.reason.Reason.{Reason}
-use Rattle.hunk_words.specs.Longs.{bytes_of, longs, IsBytes, IsLong}
-use Rattle.hunk_files.specs.Fault.{HasRefusal}
-use Rattle.hunk_files.specs.declared.row.Row.{Row}
-use Rattle.hunk_grammar.specs.Positions.{is_done, run}
-use Rattle.hunk_grammar.specs.declared.position.Position.{Position}
+use Rattle.std.proofs.lemmas.List.{drop-drop, take_rest}
+use Rattle.hunk_words.specs.{declared.reason.Reason.Reason, Longs.{bytes_of, longs, IsBytes, IsLong}}
+use Rattle.hunk_files.specs.{Fault.HasRefusal, declared.row.Row.Row}
+use Rattle.hunk_grammar.specs.{Positions.{is_done, run}, declared.position.Position.Position}
 use Rattle.hunk_scatter.specs.declared.store.BodyState.{BodyState}
 use Rattle.hunk_scatter.specs.BodyLoaderFields.{ReadsOn, ReadyAt, RefusesFirstLong, StandsBehind, TakesOrRefuses}
-use Rattle.hunk_scatter.specs.BodySteps.{refusal, step_body, pass_body, IsInStore}
-use Rattle.hunk_scatter.specs.Rows.{words_of, bases_of}
+use Rattle.hunk_scatter.specs.{BodySteps.{refusal, step_body, pass_body, IsInStore}, Rows.{words_of, bases_of}}
 use Rattle.hunk_scatter.specs.StoreContent.{stored_long, stored_run}
-use Rattle.hunk_scatter.proofs.Faults.{refusal_front}
-use Rattle.hunk_scatter.proofs.OneByte.{Going, going, more_read, refused_here, stands_as}
+use Rattle.hunk_scatter.proofs.{Faults.refusal_front, OneByte.{Going, going, more_read, refused_here, stands_as}}
+use Rattle.hunk_scatter.proofs.{Refusing.refused_in_body, Runs.{read_run, take_bytes}, Staying.{stays_as, word_stays}}
 use Rattle.hunk_words.proofs.LongLaws.{in_place, length-bytes_of}
-use Rattle.hunk_scatter.proofs.Refusing.{refused_in_body}
-use Rattle.hunk_scatter.proofs.Runs.{read_run, take_bytes}
-use Rattle.hunk_scatter.proofs.Staying.{stays_as, word_stays}
 
 module _ (rows : List Row) (store : List ℕ) (state : BodyState) (fed : List ℕ) (r : StandsBehind rows store state [] fed) (more : is_done state.position ≡ false) where
   gone : Going rows store state [] fed

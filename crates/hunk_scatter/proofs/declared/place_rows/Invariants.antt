@@ -1,5 +1,4 @@
-use Rattle.hunk_scatter.specs.Placing.{ArePlacedTo}
-use Rattle.hunk_scatter.specs.Rows.{entries_of}
+use Rattle.hunk_scatter.specs.{Placing.ArePlacedTo, Rows.entries_of}
 use Rattle.hunk_scatter.proofs.declared.place_rows.Given as goal
 
 abbrev pub invariant-loop-hunk : goal.invariant-loop-hunk

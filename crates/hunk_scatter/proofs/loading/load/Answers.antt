@@ -1,16 +1,12 @@
 use Rattle.std.proofs.Common.{◌≡◌, ◌++◌, ◌∙◌, ℕ, Bool, true, false, List, Result, Err, length, inl, refl, sym, ap, subst}
-use Rattle.std.specs.Prelude.{IfErr, IsErrAnd}
-use Rattle.std.specs.Io.KnownBytes.{Consumes}
 use Rattle.std.proofs.KnownBytes.{Consumes-trans}
+use Rattle.std.specs.{Prelude.{IfErr, IsErrAnd}, Io.KnownBytes.Consumes}
 use Rattle.std.proofs.lemmas.Result.{err_from_is_err_and}
-use Rattle.hunk_words.specs.Carriers.{Supply}
-use Rattle.hunk_words.specs.declared.fault.Fault.{Fault}
+use Rattle.hunk_words.specs.{Carriers.Supply, declared.fault.Fault.Fault}
 use Rattle.hunk_words.specs.declared.reason.Reason.TheVariants as reasons
-use Rattle.hunk_scatter.specs.HeaderFaults.{IsOverBudget}
-use Rattle.hunk_scatter.specs.LoaderValues.{ImageValue}
+use Rattle.hunk_scatter.specs.{HeaderFaults.IsOverBudget, LoaderValues.ImageValue}
 use Rattle.hunk_scatter.specs.LoadOutcomes.{Gives, HasFileWithin, IsHeaderWithin, Loads, GoesPastNoFile, PassesBudget, KeepsToHeader, LoadEnds, InHeader, Between, StopsBehindFile, StopsBehindHeader, TellsFailure}
-use Rattle.hunk_scatter.specs.Placing.{Placing}
-use Rattle.hunk_scatter.specs.declared.loading.Limits.{Limits}
+use Rattle.hunk_scatter.specs.{Placing.Placing, declared.loading.Limits.Limits}
 use Rattle.hunk_scatter.proofs.HeaderFronts.{within_file}
 use Rattle.hunk_scatter.proofs.LoadEnding.{ends_body, body_keeps, has_bases, file_loads, budget_stops, ends_loads}
 use Rattle.hunk_scatter.proofs.LoadLaws.{keeps_file, keeps_header}

@@ -1,10 +1,9 @@
 use Rattle.std.proofs.Common.{◌≡◌, ℕ, ◌+◌, ◌≤◌, ◌<◌, List, [], ◌++◌, length, take, length-take, length-append, sym, ap, subst, ◌∙◌, append_assoc, append-nil, arith, inl, inr}
+use Rattle.std.proofs.KnownBytes.{Consumes-trans}
 use Rattle.std.specs.Io.KnownBytes.{Consumes}
 use Rattle.std.proofs.lemmas.Result.{err_from_is_err_and}
-use Rattle.std.proofs.KnownBytes.{Consumes-trans}
 use Rattle.hunk_scatter.specs.LoadOutcomes.{GoesPastNoFile, IsReadFault, IsBodyStop}
-use Rattle.hunk_scatter.proofs.Faults.{refusal_told}
-use Rattle.hunk_scatter.proofs.Feeding.{file_fed, file_within_more}
+use Rattle.hunk_scatter.proofs.{Faults.refusal_told, Feeding.{file_fed, file_within_more}}
 use Rattle.hunk_scatter.proofs.loading.load_body.Goals as goal
 
 pub returns-in_err-n-clause-ends : goal.returns-in_err-n-clause-ends

@@ -1,5 +1,4 @@
-use Rattle.std.proofs.Common.{◌≡◌, ◌≤◌, ◌*◌, ◌∙◌, length, take, length-take, ap, sym, arith}
-use Rattle.std.proofs.Math.ListN.{get_or-map}
+use Rattle.std.proofs.{Common.{◌≡◌, ◌≤◌, ◌*◌, ◌∙◌, length, take, length-take, ap, sym, arith}, Math.ListN.get_or-map}
 use Rattle.hunk_words.specs.Longs.{longs}
 use Rattle.hunk_words.proofs.LongLaws.{length-longs}
 use Rattle.hunk_files.specs.declared.row.Row.{Row}

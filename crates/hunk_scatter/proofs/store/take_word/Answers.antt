@@ -1,6 +1,5 @@
 use Rattle.std.proofs.Common.{rules, ℕ, ap, sym, arith, ◌∙◌}
-use Rattle.hunk_grammar.specs.Positions.{role_at}
-use Rattle.hunk_grammar.specs.Roles.{refuse}
+use Rattle.hunk_grammar.specs.{Positions.role_at, Roles.refuse}
 use Rattle.hunk_scatter.proofs.WholeLongs.{first_refused, first_taken, room_at}
 use Rattle.hunk_scatter.proofs.store.take_word.Goals as goal
 

@@ -1,15 +1,10 @@
 use Rattle.std.proofs.Common.{◌≡◌, ℕ, List, [], map, length, replicate, sym, subst, ap, ◌∙◌, arith}
 use Rattle.std.proofs.lemmas.List.{length-map}
-use Rattle.hunk_files.specs.Image.{declared_bytes}
-use Rattle.hunk_files.specs.LoadFile.{TableEntry}
+use Rattle.hunk_files.specs.{Image.declared_bytes, LoadFile.TableEntry, Tables.row_entry}
 use Rattle.hunk_grammar.specs.Positions.{open_next}
-use Rattle.hunk_scatter.specs.HeaderBytes.{IsHeaderTable, header_bytes}
-use Rattle.hunk_scatter.specs.HeaderLoaderFields.{DeclaredInvariant}
-use Rattle.hunk_scatter.specs.BodyReader.{state_at}
-use Rattle.hunk_files.specs.Tables.{row_entry}
-use Rattle.hunk_scatter.specs.Rows.{entries_of, row_of}
-use Rattle.hunk_scatter.proofs.HeaderReads.{entries-rows}
-use Rattle.hunk_scatter.proofs.Starting.{placed_loading}
+use Rattle.hunk_scatter.specs.{HeaderBytes.{IsHeaderTable, header_bytes}, HeaderLoaderFields.DeclaredInvariant}
+use Rattle.hunk_scatter.specs.{BodyReader.state_at, Rows.{entries_of, row_of}}
+use Rattle.hunk_scatter.proofs.{HeaderReads.entries-rows, Starting.placed_loading}
 use Rattle.hunk_scatter.proofs.stream.begin.Goals as goal
 
 pub returns-clause-begins : goal.returns-clause-begins

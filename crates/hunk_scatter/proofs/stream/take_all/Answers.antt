@@ -1,8 +1,7 @@
 use Rattle.std.proofs.Common.{◌-◌, ◌*◌, ◌/◌, ◌++◌, ◌∙◌, ℕ, List, Option, length, take, refl, ap, subst, append_assoc, arith}
 use Rattle.hunk_words.specs.declared.reason.Reason.{Reason}
 use Rattle.hunk_scatter.specs.Streaming.{RefusesLong, StandsAfter}
-use Rattle.hunk_scatter.proofs.StreamLaws.{any_count}
-use Rattle.hunk_scatter.proofs.WholeLongs.{leaves_more, length_so_far, refused_rest}
+use Rattle.hunk_scatter.proofs.{StreamLaws.any_count, WholeLongs.{leaves_more, length_so_far, refused_rest}}
 use Rattle.hunk_scatter.proofs.stream.take_all.Goals as goal
 
 pub parts-preserved : goal.parts-preserved

@@ -1,14 +1,10 @@
 use Rattle.std.proofs.Common.{◌≡◌, ◌≤◌, ◌++◌, ◌∙◌, List, [], ◌∷◌, ℕ, Option, length, take, append-nil, refl, sym, ap, subst, arith}
 use Rattle.std.proofs.lemmas.List.{take_all}
 use Rattle.std.specs.Int.{w32, to_be_bytes}
-use Rattle.hunk_words.specs.Longs.{bytes_of, Gathers}
-use Rattle.hunk_words.specs.PendingBytes.{pending_of}
-use Rattle.hunk_words.proofs.LongLaws.{length-bytes_of}
-use Rattle.hunk_words.proofs.PendingLaws.{few_pending}
+use Rattle.hunk_words.specs.{Longs.{bytes_of, Gathers}, PendingBytes.pending_of}
+use Rattle.hunk_words.proofs.{LongLaws.length-bytes_of, PendingLaws.few_pending}
 use Rattle.hunk_scatter.specs.BodyLoaderFields.{ReadsOn, StandsBehind}
-use Rattle.hunk_scatter.proofs.BodyFields.{gone}
-use Rattle.hunk_scatter.proofs.Faults.{refusal_front}
-use Rattle.hunk_scatter.proofs.OneByte.{more_pending, stands_as}
+use Rattle.hunk_scatter.proofs.{BodyFields.gone, Faults.refusal_front, OneByte.{more_pending, stands_as}}
 use Rattle.hunk_scatter.proofs.StreamLaws.{first_byte, stands_more, strange}
 use Rattle.hunk_scatter.proofs.WholeLongs.{gathered_reads, gathered_refused}
 use Rattle.hunk_scatter.proofs.stream.take_byte.Goals.{in-Some+else-not-is_in_store+in-Ok, in_default}

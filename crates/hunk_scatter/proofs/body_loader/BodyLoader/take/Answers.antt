@@ -1,8 +1,6 @@
 use Rattle.std.proofs.Common.{rules, ◌++◌, ◌∙◌, ℕ, List, take, ap, sym, subst}
-use Rattle.hunk_scatter.specs.LoadOutcomes.{GoesPastNoFile}
-use Rattle.hunk_scatter.specs.LoaderValues.{BodyLoaderValue, IsWholeFile}
-use Rattle.hunk_scatter.proofs.BodyFields.{fed_within, whole_file, written}
-use Rattle.hunk_scatter.proofs.StreamLaws.{within_store}
+use Rattle.hunk_scatter.specs.{LoadOutcomes.GoesPastNoFile, LoaderValues.{BodyLoaderValue, IsWholeFile}}
+use Rattle.hunk_scatter.proofs.{BodyFields.{fed_within, whole_file, written}, StreamLaws.within_store}
 use Rattle.hunk_scatter.proofs.body_loader.BodyLoader.take.Goals as goal
 
 pub take_all-requires : goal.take_all-requires

@@ -1,8 +1,7 @@
 use Rattle.std.proofs.Common.{inl, inr, ◌*◌, ◌/◌, ◌++◌, length, sym, ap, subst, ◌∙◌, arith}
 use Rattle.hunk_files.specs.Fault.{IsTruncated}
 use Rattle.hunk_grammar.specs.Positions.{is_done, least_longs}
-use Rattle.hunk_scatter.specs.LoaderValues.{BodyLoaderValue, IsWholeFile, HasNoRefusal}
-use Rattle.hunk_scatter.specs.Owing.{BytesToCome}
+use Rattle.hunk_scatter.specs.{LoaderValues.{BodyLoaderValue, IsWholeFile, HasNoRefusal}, Owing.BytesToCome}
 use Rattle.hunk_scatter.proofs.BodyFields.{done_unless_open, fed_clean, fed_truncated, none_of, none_to_come, not_whole, owes_bytes, to_come_owed, whole_file}
 use Rattle.hunk_scatter.proofs.body_loader.BodyLoader.want.Goals as goal
 

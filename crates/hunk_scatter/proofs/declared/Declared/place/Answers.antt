@@ -1,13 +1,9 @@
 use Rattle.std.proofs.Common.{◌≡◌, ℕ, List, [], length, arith, None, sym, ap, subst, ◌∙◌}
-use Rattle.hunk_files.specs.declared.row.Row.{Row}
-use Rattle.hunk_scatter.specs.BodyLoaderFields.{BodyLoaderInvariant}
+use Rattle.hunk_files.specs.{declared.row.Row.Row, Tables.row_entry}
+use Rattle.hunk_scatter.specs.{BodyLoaderFields.BodyLoaderInvariant, BodyReader.state_at, Rows.entries_of}
 use Rattle.std.proofs.lemmas.List.{length-map}
 use Rattle.hunk_grammar.specs.Positions.{open_next}
-use Rattle.hunk_scatter.specs.BodyReader.{state_at}
-use Rattle.hunk_files.specs.Tables.{row_entry}
-use Rattle.hunk_scatter.specs.Rows.{entries_of}
-use Rattle.hunk_scatter.proofs.BodyFields.{written}
-use Rattle.hunk_scatter.proofs.Starting.{placed_loading}
+use Rattle.hunk_scatter.proofs.{BodyFields.written, Starting.placed_loading}
 use Rattle.hunk_scatter.proofs.declared.Declared.place.Goals as goal
 
 pub invariant_of-result : goal.invariant_of-result

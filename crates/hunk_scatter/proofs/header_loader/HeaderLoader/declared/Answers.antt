@@ -1,10 +1,7 @@
 use Rattle.std.proofs.Common.{◌≡◌, List, sym, ap, subst, ◌∙◌}
-use Rattle.hunk_scatter.specs.HeaderBytes.{IsHeader, IsHeaderTable, header_bytes}
-use Rattle.hunk_scatter.specs.LoaderValues.{HeaderLoaderValue}
-use Rattle.hunk_scatter.proofs.HeaderFields.{heading_not_whole, table_declared}
-use Rattle.hunk_scatter.proofs.BodyFields.{none_of}
-use Rattle.hunk_scatter.specs.HeaderLoaderFields.{DeclaredInvariant}
-use Rattle.hunk_scatter.specs.Rows.{entries_of}
+use Rattle.hunk_scatter.specs.{HeaderBytes.{IsHeader, IsHeaderTable, header_bytes}, LoaderValues.HeaderLoaderValue}
+use Rattle.hunk_scatter.specs.{HeaderLoaderFields.DeclaredInvariant, Rows.entries_of}
+use Rattle.hunk_scatter.proofs.{HeaderFields.{heading_not_whole, table_declared}, BodyFields.none_of}
 use Rattle.hunk_files.specs.declared.row.Row.{Row}
 use Rattle.hunk_scatter.proofs.header_loader.HeaderLoader.declared.Goals as goal
 

@@ -1,13 +1,9 @@
 use Rattle.std.proofs.Common.{rules, ◌≡◌, ◌<◌, ◌-◌, ◌++◌, None, drop, ◌∙◌, ℕ, List, Ok, Result, IfOk, refl, sym, ap, subst, take, length, append-nil, arith}
 use Rattle.hunk_words.specs.declared.fault.Fault.{Fault}
-use Rattle.hunk_scatter.specs.HeaderBytes.{IsHeader, MayGoOnInHeader}
-use Rattle.hunk_scatter.specs.HeaderFaults.{ExceedsBudget, IsHeaderFault}
-use Rattle.hunk_scatter.specs.HeaderLoaderFields.{StopsInPiece}
-use Rattle.hunk_scatter.specs.LoaderValues.{HeaderLoaderValue}
+use Rattle.hunk_scatter.specs.{HeaderBytes.{IsHeader, MayGoOnInHeader}, HeaderFaults.{ExceedsBudget, IsHeaderFault}}
+use Rattle.hunk_scatter.specs.{HeaderLoaderFields.StopsInPiece, LoaderValues.HeaderLoaderValue}
 use Rattle.hunk_scatter.specs.LoadOutcomes.{GoesPastNoHeader}
-use Rattle.hunk_scatter.proofs.Faults.{rest_within, fed_on}
-use Rattle.hunk_scatter.proofs.HeaderEnds.{heading_ends}
-use Rattle.hunk_scatter.proofs.Feeding.{rest_bytes}
+use Rattle.hunk_scatter.proofs.{Faults.{rest_within, fed_on}, HeaderEnds.heading_ends, Feeding.rest_bytes}
 use Rattle.hunk_scatter.proofs.HeaderFields.{piece_within}
 use Rattle.hunk_scatter.proofs.HeaderStops.{stop_ends, stop_fault, stop_over, stop_accepts, stops_on}
 use Rattle.hunk_scatter.proofs.header_loader.HeaderLoader.feed.Goals.{else-loop-taken-test, then-loop-taken-test+in-Ok-eq0}

@@ -1,7 +1,6 @@
 use Rattle.std.proofs.Common.{length, ap, ◌∙◌, arith}
 use Rattle.hunk_words.specs.Longs.{longs}
-use Rattle.hunk_scatter.specs.HeaderBytes.{entries_so_far}
-use Rattle.hunk_scatter.specs.LoaderValues.{HeaderLoaderValue}
+use Rattle.hunk_scatter.specs.{HeaderBytes.entries_so_far, LoaderValues.HeaderLoaderValue}
 use Rattle.hunk_scatter.proofs.HeaderFields.{heading_rows}
 use Rattle.hunk_scatter.proofs.header_loader.HeaderLoader.held.Goals as goal
 

@@ -1,12 +1,11 @@
 use Rattle.std.proofs.Common.{inl, inr, ◌*◌, ◌/◌, ◌++◌, length, sym, ap, subst, ◌∙◌, arith}
 use Rattle.hunk_files.specs.Fault.{IsTruncated}
-use Rattle.hunk_scatter.specs.HeaderBytes.{IsHeader}
-use Rattle.hunk_scatter.specs.HeaderFaults.{ExceedsBudget}
+use Rattle.hunk_scatter.specs.{HeaderBytes.IsHeader, HeaderFaults.ExceedsBudget}
 use Rattle.hunk_scatter.specs.LoaderValues.{HeaderLoaderValue, HasNoRefusal}
+use Rattle.hunk_scatter.specs.HeaderOwing.{HasRowsToCome, HasHeaderToCome}
 use Rattle.hunk_scatter.proofs.BodyFields.{none_of}
 use Rattle.hunk_scatter.proofs.HeaderFields.{heading_clean, heading_truncated, heading_within, heading_not_whole, heading_table, heading_least}
 use Rattle.hunk_scatter.proofs.HeaderOwed.{rows_to_come, header_to_come, no_rows_to_come, no_header_to_come}
-use Rattle.hunk_scatter.specs.HeaderOwing.{HasRowsToCome, HasHeaderToCome}
 use Rattle.hunk_scatter.proofs.header_loader.HeaderLoader.want.Goals as goal
 
 pub returns-then-is_behind_header-clause-clean : goal.returns-then-is_behind_header-clause-clean

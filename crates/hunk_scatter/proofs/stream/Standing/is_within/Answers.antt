@@ -1,8 +1,6 @@
 use Rattle.std.proofs.Common.{ℕ, sym, subst, ◌∙◌}
-use Rattle.hunk_scatter.specs.BodySteps.{IsInStore}
-use Rattle.hunk_scatter.specs.Rows.{words_of}
-use Rattle.hunk_scatter.proofs.BodyFields.{in_room}
-use Rattle.hunk_scatter.proofs.StreamLaws.{going_on}
+use Rattle.hunk_scatter.specs.{BodySteps.IsInStore, Rows.words_of}
+use Rattle.hunk_scatter.proofs.{BodyFields.in_room, StreamLaws.going_on}
 use Rattle.hunk_scatter.proofs.stream.Standing.is_within.Goals as goal
 
 pub returns-clause-complete : goal.returns-clause-complete
