@@ -1,15 +1,14 @@
 -- A block word that no test refuses, and one that is refused.
 use Rattle.std.proofs.Common.{◌≡◌, ◌≢◌, ℕ, Bool, true, false, Option, Some, None, refl, sym, ap, ◌∙◌}
 use Rattle.std.specs.Prelude.{IsTrue}
-use Rattle.hunk_words.specs.declared.block_word.Kind.{Kind}
-use Rattle.hunk_words.specs.declared.block_word.Kind.TheVariants as kinds
-use Rattle.hunk_words.specs.declared.reason.Reason.{Reason}
-use Rattle.hunk_words.specs.declared.reason.Reason.TheVariants as reasons
+use Rattle.hunk_words.specs.{declared.block_word.Kind.Kind, declared.reason.Reason.Reason}
 use Rattle.hunk_words.specs.Bits.{has_both_bits, is_advisory, is_relocation, kind}
+use Rattle.hunk_words.specs.declared.block_word.Kind.TheVariants as kinds
+use Rattle.hunk_words.specs.declared.reason.Reason.TheVariants as reasons
 use Rattle.hunk_blocks.specs.declared.mode.Mode.{Mode}
-use Rattle.hunk_blocks.specs.declared.mode.Mode.TheVariants as modes
 use Rattle.hunk_blocks.specs.Values.{BlockBody, Reloc, Ext, Advisory, End, BlockValue, is_unknown, FitsWord, IsBlock}
 use Rattle.hunk_blocks.specs.Modes.{IsOfMode, refuse_alone_kind, refuse_alone_word}
+use Rattle.hunk_blocks.specs.declared.mode.Mode.TheVariants as modes
 use Rattle.hunk_blocks.proofs.Lists.{passed_both, passes_else, passes_then}
 
 abbrev pub block : ℕ → BlockBody → BlockValue

@@ -1,19 +1,13 @@
 -- What a machine of values forgets of its state goes along the texts that the machine follows.
 use Rattle.std.proofs.Common.{◌≡◌, ℕ, List, [], ◌∷◌, sym, ap, subst, ◌∙◌, Option, Some, None}
-use Rattle.hunk_words.specs.declared.reason.Reason.{Reason}
-use Rattle.hunk_words.specs.Bits.{kind}
-use Rattle.hunk_blocks.specs.declared.mode.Mode.{Mode}
+use Rattle.hunk_words.specs.{declared.reason.Reason.Reason, Bits.kind}
+use Rattle.hunk_blocks.specs.{declared.mode.Mode.Mode, Values.{BlockValue, IsBlock}}
+use Rattle.hunk_blocks.specs.{Parts.{Part, Part as parts, block_parts}, Faults.refuse_alone}
+use Rattle.hunk_blocks.specs.{BlockSteps.{Open, Whole, part_of}, PhaseSteps.part_at}
+use Rattle.hunk_blocks.specs.{Along.{GoesAlong, refuse_at, step_on}, ReaderPhase.phase_of}
 use Rattle.hunk_blocks.specs.declared.phase.Phase.TheVariants as phases
-use Rattle.hunk_blocks.specs.Values.{BlockValue, IsBlock}
-use Rattle.hunk_blocks.specs.Parts.{Part, Part as parts, block_parts}
-use Rattle.hunk_blocks.specs.Faults.{refuse_alone}
-use Rattle.hunk_blocks.specs.BlockSteps.{Open, Whole, part_of}
-use Rattle.hunk_blocks.specs.PhaseSteps.{part_at}
-use Rattle.hunk_blocks.specs.Along.{GoesAlong, refuse_at, step_on}
-use Rattle.hunk_blocks.specs.ReaderPhase.{phase_of}
 use Rattle.hunk_blocks.proofs.BlockPhases.{phase_no_word, step_phase, begin_phase, refuse_phase}
-use Rattle.hunk_blocks.proofs.BlockWalks.{position_of}
-use Rattle.hunk_blocks.proofs.FaultScan.{Machine, Leads}
+use Rattle.hunk_blocks.proofs.{BlockWalks.position_of, FaultScan.{Machine, Leads}}
 use Rattle.hunk_blocks.proofs.OneBlockFault.{Alone, AtWord, Behind, alone, alone_inside, block_leads, part_not_word}
 
 module _ {State Role Pos : Type 0} (m : Machine State Role) (pos : State → Pos) (test : Role → Pos → ℕ → Option Reason) (refuse : Role → ℕ → Option Reason) (step : Pos → ℕ → Pos) where

@@ -10,8 +10,7 @@ use Rattle.hunk_blocks.specs.ExtKinds.{ext_shape}
 use Rattle.hunk_blocks.specs.Values.{RelocGroup, SymbolEntry, ExtEntry, BlockBody, BlockValue, IsBlock, Name, Code, Data, Bss, Reloc, Ext, Symbol, Advisory, End, FitsShape, FitsWord, IsPayload, IsGroup, IsSymbolEntry, IsExtEntry, ext_type}
 use Rattle.hunk_blocks.specs.Parts.{Part, Part as parts, each, group_parts, symbol_parts, ext_parts, ext_parts_by, body_parts, block_text, longs_of}
 use Rattle.hunk_blocks.specs.Modes.{refuse_inside, refuse_shape}
-use Rattle.hunk_blocks.proofs.ExtLaws.{end_passes}
-use Rattle.hunk_blocks.proofs.Lists.{All-append, passes_then}
+use Rattle.hunk_blocks.proofs.{ExtLaws.end_passes, Lists.{All-append, passes_then}}
 
 abbrev pub PartPasses : Part × ℕ → Type 0
 PartPasses p = (p.0 ≢ parts.BlockWord) × (refuse_inside p.0 p.1 ≡ None) × IsLong p.1

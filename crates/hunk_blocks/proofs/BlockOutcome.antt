@@ -1,25 +1,18 @@
 -- Bytes begin with a block of the mode or have a fault.
 use Rattle.std.proofs.Common.{◌≡◌, ℕ, ◌*◌, List, [], ◌∷◌, ◌++◌, length, refl, sym, ap, subst, ◌∙◌, append_assoc, append-nil, Option, Some, None, ◌⊎◌, inl, inr}
-use Rattle.hunk_words.specs.declared.reason.Reason.{Reason}
+use Rattle.hunk_words.specs.{declared.reason.Reason.Reason, Bits.kind, Longs.{longs, IsLong, IsBytes}}
 use Rattle.hunk_words.specs.declared.reason.Reason.TheVariants as reasons
-use Rattle.hunk_words.specs.Bits.{kind}
-use Rattle.hunk_words.specs.Longs.{longs, IsLong, IsBytes}
 use Rattle.hunk_words.proofs.LongLaws.{longs_fit}
-use Rattle.hunk_blocks.specs.declared.mode.Mode.{Mode}
-use Rattle.hunk_blocks.specs.Values.{BlockBody, BlockValue, FitsWord, IsBlock}
+use Rattle.hunk_blocks.specs.{declared.mode.Mode.Mode, Values.{BlockBody, BlockValue, FitsWord, IsBlock}}
 use Rattle.hunk_blocks.specs.Parts.{Part, Part as parts, body_parts, block_parts, block_text}
 use Rattle.hunk_blocks.specs.Modes.{IsOfMode, refuse_inside, refuse_alone_word}
 use Rattle.hunk_blocks.specs.Begins.{BeginsWithBlock, BeginsWithNoBlock}
 use Rattle.hunk_blocks.specs.Faults.{words, Expects, IsFront, refuse_alone, blocks, HasBlockFault}
 use Rattle.hunk_blocks.specs.BlockSteps.{Inside, BlockNext, Open, Whole, part_of, step_inside, begin_body, Follows}
-use Rattle.hunk_blocks.proofs.Admitted.{block, kind_admitted, of_mode}
-use Rattle.hunk_blocks.proofs.BlockCompletion.{completes, run_fits}
-use Rattle.hunk_blocks.proofs.BlockLongs.{block_longs}
-use Rattle.hunk_blocks.proofs.BlockPrefix.{block_prefix}
+use Rattle.hunk_blocks.proofs.{Admitted.{block, kind_admitted, of_mode}, BlockCompletion.{completes, run_fits}}
+use Rattle.hunk_blocks.proofs.{BlockLongs.block_longs, BlockPrefix.block_prefix}
 use Rattle.hunk_blocks.proofs.BlockProgress.{read_inside, read_next, NextFits, begin_fits, begin_reads, step_fits, step_reads}
-use Rattle.hunk_blocks.proofs.BodyFaults.{expects_word}
-use Rattle.hunk_blocks.proofs.Decoding.{front_bytes, no_block}
-use Rattle.hunk_blocks.proofs.FaultLaws.{words-append}
+use Rattle.hunk_blocks.proofs.{BodyFaults.expects_word, Decoding.{front_bytes, no_block}, FaultLaws.words-append}
 use Rattle.hunk_blocks.proofs.OneBlockFault.{Alone, AtWord, Behind, alone, block_reads, alone_inside, part_not_word}
 use Rattle.hunk_blocks.proofs.Outcomes.{Keeps, run, front, judged, completed}
 

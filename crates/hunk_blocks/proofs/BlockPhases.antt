@@ -1,21 +1,17 @@
 -- What was read of a block, in numbers alone: the phase of its reader.
 use Rattle.std.proofs.Common.{◌≡◌, ◌≢◌, ℕ, zero, suc, ◌+◌, ◌/◌, ◌%◌, ◌^◌, Bool, true, false, List, [], ◌∷◌, ◌++◌, length, refl, sym, ap, ◌∙◌, arith, Option, Some, None}
-use Rattle.hunk_words.specs.declared.block_word.Kind.{Kind}
+use Rattle.hunk_words.specs.{declared.block_word.Kind.Kind, Bits.entry_type}
 use Rattle.hunk_words.specs.declared.block_word.Kind.TheVariants as kinds
-use Rattle.hunk_words.specs.Bits.{entry_type}
 use Rattle.hunk_blocks.specs.declared.ext_shape.ExtShape.{ExtShape}
 use Rattle.hunk_blocks.specs.declared.ext_shape.ExtShape.TheVariants.{Definition, References, Common}
-use Rattle.hunk_blocks.specs.ExtKinds.{ext_shape}
-use Rattle.hunk_blocks.specs.Values.{SymbolEntry, ExtEntry}
-use Rattle.hunk_blocks.specs.Parts.{Part, Part as parts}
+use Rattle.hunk_blocks.specs.{ExtKinds.ext_shape, Values.{SymbolEntry, ExtEntry}, Parts.{Part, Part as parts}}
 use Rattle.hunk_blocks.specs.Modes.{refuse_inside}
 use Rattle.hunk_blocks.specs.BlockSteps.{Counting, ForName, ForCode, ForData, ForBss, Counted, SizedCode, SizedData, Inside, AtCount, AtSize, InPayload, AtGroup, AtTarget, InOffsets, AtEntry, InName, AtValue, AtExtWord, InExtName, AtExtValue, AtExtSize, AtExtCount, InExtOffsets, part_of, step_inside, begin_body, fill, name_entry, shaped, name_external, refer}
+use Rattle.hunk_blocks.specs.{declared.phase.Phase.Phase, PhaseSteps.{part_at, skip, skipped, skip_all}}
+use Rattle.hunk_blocks.specs.ReaderPhase.{front_phase, phase_of, next_phase}
 use Rattle.hunk_blocks.proofs.Lists.{more_owed}
-use Rattle.hunk_blocks.specs.declared.phase.Phase.{Phase}
 use Rattle.hunk_blocks.specs.declared.phase.Phase.TheVariants as phases
 use Rattle.hunk_blocks.specs.PhaseSteps as scan
-use Rattle.hunk_blocks.specs.PhaseSteps.{part_at, skip, skipped, skip_all}
-use Rattle.hunk_blocks.specs.ReaderPhase.{front_phase, phase_of, next_phase}
 
 -- ---- steps
 

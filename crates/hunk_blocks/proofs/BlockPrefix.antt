@@ -1,8 +1,6 @@
 -- No block begins another.
 use Rattle.std.proofs.Common.{◌≡◌, ℕ, List, [], ◌++◌, sym, ap, ◌∙◌, append-nil}
-use Rattle.hunk_blocks.specs.Values.{BlockValue, IsBlock}
-use Rattle.hunk_blocks.specs.Parts.{block_text}
-use Rattle.hunk_blocks.specs.Cuts.{Cut, block_cut}
+use Rattle.hunk_blocks.specs.{Values.{BlockValue, IsBlock}, Parts.block_text, Cuts.{Cut, block_cut}}
 use Rattle.hunk_blocks.proofs.CutLaws.{cut, block_cut_is}
 
 -- Whatever follows them, two blocks of one text are the same.

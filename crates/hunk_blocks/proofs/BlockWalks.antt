@@ -1,28 +1,21 @@
 -- A walk over one block reaches its end or the first fault.
 use Rattle.std.proofs.Common.{◌≡◌, ℕ, suc, ◌+◌, ◌*◌, ◌<◌, ◌≤◌, List, ◌++◌, length, get_or, take, drop, refl, sym, ap, subst, ◌∙◌, arith, Option, Some, None, inl, inr}
 use Rattle.std.proofs.lemmas.List.{length-take-le, take-append-drop, take_all}
-use Rattle.hunk_words.specs.declared.reason.Reason.{Reason}
+use Rattle.hunk_words.specs.{declared.reason.Reason.Reason, Bits.kind, Longs.{longs, IsBytes}}
 use Rattle.hunk_words.specs.declared.reason.Reason.TheVariants as reasons
-use Rattle.hunk_words.specs.Bits.{kind}
-use Rattle.hunk_words.specs.Longs.{longs, IsBytes}
 use Rattle.hunk_words.proofs.LongLaws.{longs_fit}
-use Rattle.hunk_blocks.specs.declared.mode.Mode.{Mode}
-use Rattle.hunk_blocks.specs.Parts.{Part, Part as parts, block_text}
-use Rattle.hunk_blocks.specs.Faults.{blocks, refuse_alone, HasBlockFault}
-use Rattle.hunk_blocks.specs.BlockSteps.{Open, Whole, part_of}
-use Rattle.hunk_blocks.proofs.Admitted.{block}
-use Rattle.hunk_blocks.proofs.BlockOutcome.{SoFar, keeps, block_is, goes_on_none}
+use Rattle.hunk_blocks.specs.{declared.mode.Mode.Mode, Parts.{Part, Part as parts, block_text}}
+use Rattle.hunk_blocks.specs.{Faults.{blocks, refuse_alone, HasBlockFault}, BlockSteps.{Open, Whole, part_of}}
+use Rattle.hunk_blocks.specs.{declared.phase.Phase.Phase, PhaseSteps.{part_at, skipped, skip_all}, Begins.HasBlockText}
+use Rattle.hunk_blocks.specs.ReaderPhase.{phase_of, next_phase}
+use Rattle.hunk_blocks.proofs.{Admitted.block, BlockOutcome.{SoFar, keeps, block_is, goes_on_none}}
 use Rattle.hunk_blocks.proofs.Decoding.{front_bytes}
 use Rattle.hunk_blocks.proofs.OneBlockFault.{Alone, AtWord, Behind, alone, part_not_word, alone_inside}
 use Rattle.hunk_blocks.proofs.Outcomes.{front}
-use Rattle.hunk_blocks.specs.declared.phase.Phase.{Phase}
-use Rattle.hunk_blocks.specs.declared.phase.Phase.TheVariants as phases
-use Rattle.hunk_blocks.specs.PhaseSteps as scan
-use Rattle.hunk_blocks.specs.PhaseSteps.{part_at, skipped, skip_all}
-use Rattle.hunk_blocks.specs.Begins.{HasBlockText}
-use Rattle.hunk_blocks.specs.ReaderPhase.{phase_of, next_phase}
 use Rattle.hunk_blocks.proofs.BlockPhases.{phase_no_word, step_phase, begin_phase, refuse_phase, skips_inside, none_skipped}
 use Rattle.hunk_blocks.proofs.KeptWalks.{OnePasses, HasRuns, StandsAt, Walks, starts, stands, word_refused, word_passes}
+use Rattle.hunk_blocks.specs.declared.phase.Phase.TheVariants as phases
+use Rattle.hunk_blocks.specs.PhaseSteps as scan
 
 abbrev pub position_of : Alone → Option Phase
 position_of AtWord = Some phases.BlockWord

@@ -2,27 +2,18 @@
 use Rattle.std.proofs.Common.{◌≡◌, ◌≢◌, ℕ, ◌/◌, ◌^◌, ◌≤◌, Bool, true, false, cond, List, [], ◌++◌, length, drop, refl, sym, ap, subst, ◌∙◌, arith, Option, Some, None, inl, inr}
 use Rattle.std.specs.Prelude.{IsTrue, nat_lt, Result, Ok, Err, IsErrAnd}
 use Rattle.std.proofs.lemmas.List.{take-append-drop, drop_more}
-use Rattle.hunk_words.specs.Limits.{name_limit}
-use Rattle.hunk_words.specs.declared.block_word.Kind.{Kind}
+use Rattle.hunk_words.specs.{Limits.name_limit, declared.block_word.Kind.Kind, declared.reason.Reason.Reason}
+use Rattle.hunk_words.specs.{Bits.{has_both_bits, is_advisory, kind}, declared.fault.Fault.Fault, Longs.longs}
 use Rattle.hunk_words.specs.declared.block_word.Kind.TheVariants as kinds
-use Rattle.hunk_words.specs.declared.reason.Reason.{Reason}
 use Rattle.hunk_words.specs.declared.reason.Reason.TheVariants as reasons
-use Rattle.hunk_words.specs.Bits.{has_both_bits, is_advisory, kind}
-use Rattle.hunk_words.specs.declared.fault.Fault.{Fault}
-use Rattle.hunk_words.specs.Longs.{longs}
 use Rattle.hunk_words.proofs.LongLaws.{length-longs}
-use Rattle.hunk_blocks.specs.declared.mode.Mode.{Mode}
-use Rattle.hunk_blocks.specs.declared.mode.Mode.TheVariants as modes
-use Rattle.hunk_blocks.specs.declared.ext_shape.ExtShape.{ExtShape}
-use Rattle.hunk_blocks.specs.ExtKinds.{ext_shape}
-use Rattle.hunk_blocks.specs.Values.{BlockValue}
-use Rattle.hunk_blocks.specs.Parts.{Part, Part as parts}
+use Rattle.hunk_blocks.specs.{declared.mode.Mode.Mode, declared.ext_shape.ExtShape.ExtShape, ExtKinds.ext_shape}
+use Rattle.hunk_blocks.specs.{Values.BlockValue, Parts.{Part, Part as parts}}
 use Rattle.hunk_blocks.specs.Modes.{IsOfMode, is_block_refusal, refuse_alone_kind, refuse_alone_word, refuse_shape}
 use Rattle.hunk_blocks.specs.Begins.{BeginsWithBlock, BeginsWithNoBlock, HasBlockText, IsFrontBlock, BeginsWithSomeBlock, LacksItem, LacksItemOfMode, first_long}
 use Rattle.hunk_blocks.specs.Faults.{HasBlockFault, refuse_alone}
-use Rattle.hunk_blocks.proofs.BodyFaults.{expects_word}
-use Rattle.hunk_blocks.proofs.Decoding.{front_same}
-use Rattle.hunk_blocks.proofs.OneBlockFault.{no_block}
+use Rattle.hunk_blocks.specs.declared.mode.Mode.TheVariants as modes
+use Rattle.hunk_blocks.proofs.{BodyFaults.expects_word, Decoding.front_same, OneBlockFault.no_block}
 
 module _ (mode : Mode) (bytes : List ℕ) (size : ℕ) (h : HasBlockText mode bytes size) where
   front : IsFrontBlock bytes h.value size

@@ -1,19 +1,15 @@
 -- What stands behind a block word, by the kind of the block.
 use Rattle.std.proofs.Common.{◌≡◌, ℕ, ◌+◌, Bool, true, false, ◌^◌, List, ◌++◌, sym, ap, subst, ◌∙◌, arith}
 use Rattle.std.specs.Prelude.{IsTrue, ⊤}
-use Rattle.hunk_words.specs.declared.block_word.Kind.{Kind}
-use Rattle.hunk_words.specs.Bits.{is_relocation, kind}
-use Rattle.hunk_blocks.specs.declared.body_view.BodyView.{BodyView}
-use Rattle.hunk_blocks.specs.declared.body_view.BodyView.TheVariants as bodies
-use Rattle.hunk_blocks.specs.Begins.{EndsItemOf, LacksItemAt}
-use Rattle.hunk_blocks.specs.BodyViews.{EndsListItemAt, HasListAt, viewed}
-use Rattle.hunk_blocks.specs.Placed.{Placed}
+use Rattle.hunk_words.specs.{declared.block_word.Kind.Kind, Bits.{is_relocation, kind}}
+use Rattle.hunk_blocks.specs.{declared.body_view.BodyView.BodyView, Begins.{EndsItemOf, LacksItemAt}}
+use Rattle.hunk_blocks.specs.{BodyViews.{EndsListItemAt, HasListAt, viewed}, Placed.Placed}
 use Rattle.hunk_blocks.specs.Values.{BlockBody, BlockValue, Name, Code, Data, Bss, Reloc, Ext, Symbol, Advisory, End, IsPayload, IsSized, IsGroup, IsExtEntry, IsSymbolEntry, FitsWord}
 use Rattle.hunk_blocks.specs.Parts.{counted_text, sized_text, group_text, ext_text, symbol_text, body_text, text_of}
 use Rattle.hunk_blocks.specs.BlockSteps.{ForBss, AtCount, AtSize, AtGroup, AtExtWord, AtEntry, BlockNext, Open, begin_body}
 use Rattle.hunk_blocks.specs.Reading.{BeginsWithSome, BeginsWithList}
-use Rattle.hunk_blocks.proofs.BlockText.{begin_relocation, begin_unknown}
-use Rattle.hunk_blocks.proofs.PartTexts.{body_text_is}
+use Rattle.hunk_blocks.specs.declared.body_view.BodyView.TheVariants as bodies
+use Rattle.hunk_blocks.proofs.{BlockText.{begin_relocation, begin_unknown}, PartTexts.body_text_is}
 
 -- by where a block of its kind begins
 abbrev pub StandsBehind : BlockNext → List ℕ → Type 0

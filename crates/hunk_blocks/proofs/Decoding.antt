@@ -1,19 +1,14 @@
 -- What was read of bytes is a block, and bytes that begin with none.
 use Rattle.std.proofs.Common.{◌≡◌, ℕ, ◌+◌, ◌*◌, ◌<◌, ◌≤◌, List, [], ◌∷◌, ◌++◌, length, take, drop, sym, ap, ap₂, subst, ◌∙◌, append_assoc, length-append, arith}
-use Rattle.std.proofs.lemmas.List.{length-take, take-append-drop}
 use Rattle.std.proofs.Math.Seq.{take-append_seam}
+use Rattle.std.proofs.lemmas.List.{length-take, take-append-drop}
 use Rattle.hunk_words.specs.Longs.{longs, bytes_of, IsBytes}
 use Rattle.hunk_words.proofs.LongLaws.{bytes_of-append, length-bytes_of, longs-bytes_of, spelled}
-use Rattle.hunk_blocks.specs.declared.mode.Mode.{Mode}
-use Rattle.hunk_blocks.specs.Values.{BlockBody, BlockValue, FitsWord, IsBlock}
-use Rattle.hunk_blocks.specs.Parts.{block_text, body_text}
-use Rattle.hunk_blocks.specs.Modes.{IsOfMode}
-use Rattle.hunk_blocks.specs.Begins.{BeginsWithNoBlock, IsFrontBlock, BeginsWithSomeBlock}
-use Rattle.hunk_blocks.specs.Cuts.{Cut, body_cut}
+use Rattle.hunk_blocks.specs.{declared.mode.Mode.Mode, Values.{BlockBody, BlockValue, FitsWord, IsBlock}}
+use Rattle.hunk_blocks.specs.{Parts.{block_text, body_text}, Modes.IsOfMode}
+use Rattle.hunk_blocks.specs.{Begins.{BeginsWithNoBlock, IsFrontBlock, BeginsWithSomeBlock}, Cuts.{Cut, body_cut}}
 use Rattle.hunk_blocks.specs.Reading.{Unread, Reads, ReadsValue, BeginsWithSome}
-use Rattle.hunk_blocks.proofs.Admitted.{block}
-use Rattle.hunk_blocks.proofs.BlockLongs.{block_longs}
-use Rattle.hunk_blocks.proofs.BlockPrefix.{block_same}
+use Rattle.hunk_blocks.proofs.{Admitted.block, BlockLongs.block_longs, BlockPrefix.block_same}
 use Rattle.hunk_blocks.proofs.CutLaws.{cut, body_cut_is}
 
 -- the first longwords are the first bytes

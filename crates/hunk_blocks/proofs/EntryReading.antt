@@ -1,14 +1,9 @@
 -- What stands behind the name of an EXT entry.
 use Rattle.std.proofs.Common.{◌≡◌, ℕ, List, ◌∷◌, ◌++◌, length, sym, ap, subst, ◌∙◌, append_assoc, Option}
 use Rattle.hunk_words.specs.Bits.{name_longs, entry_type}
-use Rattle.hunk_blocks.specs.declared.ext_shape.ExtShape.{ExtShape}
-use Rattle.hunk_blocks.specs.ExtKinds.{ext_shape}
-use Rattle.hunk_blocks.specs.Entries.{IsShaped, shaped_text}
-use Rattle.hunk_blocks.specs.Values.{IsExtEntry, FitsShape, ext_type}
-use Rattle.hunk_blocks.specs.Parts.{ext_text}
-use Rattle.hunk_blocks.specs.Reading.{BeginsWithSome}
-use Rattle.hunk_blocks.proofs.Lists.{append_same}
-use Rattle.hunk_blocks.proofs.PartTexts.{ext_text_is, fits_shaped}
+use Rattle.hunk_blocks.specs.{declared.ext_shape.ExtShape.ExtShape, ExtKinds.ext_shape, Entries.{IsShaped, shaped_text}}
+use Rattle.hunk_blocks.specs.{Values.{IsExtEntry, FitsShape, ext_type}, Parts.ext_text, Reading.BeginsWithSome}
+use Rattle.hunk_blocks.proofs.{Lists.append_same, PartTexts.{ext_text_is, fits_shaped}}
 
 -- what its shape wants
 pub shaped_there : (words rest name mid : List ℕ) (word : ℕ) (s : Option ExtShape) → BeginsWithSome IsExtEntry ext_text words → words ≡ word ∷ rest → rest ≡ name ++ mid → length name ≡ name_longs word → ext_shape (entry_type word) ≡ s →

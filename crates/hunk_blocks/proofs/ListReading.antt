@@ -1,11 +1,8 @@
 -- Reading the groups or entries of a block one after another, up to the zero that ends them.
 use Rattle.std.proofs.Common.{◌≡◌, ◌≢◌, ℕ, ◌+◌, ◌-◌, ◌*◌, ◌<◌, List, [], ◌∷◌, ◌++◌, length, map, refl, sym, ap, ap₂, subst, ◌∙◌, append_assoc, length-append, Option, Some, None, arith}
-use Rattle.std.specs.List.{flat_map}
-use Rattle.std.specs.Iterator.{MakesProgress, item_count}
-use Rattle.std.specs.Prelude.{Result, Ok, Err, IfErr, IsErrAnd}
+use Rattle.std.specs.{List.flat_map, Iterator.{MakesProgress, item_count}, Prelude.{Result, Ok, Err, IfErr, IsErrAnd}}
 use Rattle.hunk_words.specs.declared.fault.Fault.{Fault}
-use Rattle.hunk_blocks.specs.Cuts.{Cut, cut_map, list_cut}
-use Rattle.hunk_blocks.specs.Placed.{Placed, GivesFirst, EndsItemAt}
+use Rattle.hunk_blocks.specs.{Cuts.{Cut, cut_map, list_cut}, Placed.{Placed, GivesFirst, EndsItemAt}}
 use Rattle.hunk_blocks.specs.Reading.{Unread, Reads, ReadsValue, BeginsWithSome, BeginsWithList}
 use Rattle.hunk_blocks.proofs.CutLaws.{AreCut, GoesOn, cut, list_cut_ends, list_goes_on}
 use Rattle.hunk_blocks.proofs.Lists.{flat_map-more, map-more}

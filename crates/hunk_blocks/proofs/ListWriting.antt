@@ -3,8 +3,7 @@ use Rattle.std.proofs.Common.{◌≡◌, ℕ, zero, suc, ◌<◌, ◌≤◌, Lis
 use Rattle.std.specs.List.{flat_map, AllByRecursion}
 use Rattle.std.proofs.lemmas.List.Folds.{flat_map-map}
 use Rattle.hunk_words.specs.Longs.{bytes_of}
-use Rattle.hunk_words.proofs.LongLaws.{bytes_of-nil, bytes_of-append}
-use Rattle.hunk_words.proofs.Shown.{ShownUpTo, shown_all}
+use Rattle.hunk_words.proofs.{LongLaws.{bytes_of-nil, bytes_of-append}, Shown.{ShownUpTo, shown_all}}
 use Rattle.hunk_blocks.specs.Parts.{list_text}
 
 bytes_of-flat_map : {A : Type 0} (text : A → List ℕ) (xs : List A) → flat_map (λ x. bytes_of (text x)) xs ≡ bytes_of (flat_map text xs)

@@ -1,21 +1,15 @@
 -- Bytes have one fault as a block, and none where they begin with one.
 use Rattle.std.proofs.Common.{◌≡◌, ◌≢◌, ℕ, List, [], ◌∷◌, ◌++◌, refl, ap, ◌∙◌, Option, Some, None, inl, inr}
-use Rattle.hunk_words.specs.declared.reason.Reason.{Reason}
-use Rattle.hunk_words.specs.Bits.{kind}
-use Rattle.hunk_words.specs.Longs.{longs}
+use Rattle.hunk_words.specs.{declared.reason.Reason.Reason, Bits.kind, Longs.longs}
 use Rattle.hunk_words.proofs.LongLaws.{longs-bytes_of}
-use Rattle.hunk_blocks.specs.declared.mode.Mode.{Mode}
-use Rattle.hunk_blocks.specs.Values.{BlockValue, IsBlock}
-use Rattle.hunk_blocks.specs.Parts.{Part, Part as parts, body_parts, block_parts}
-use Rattle.hunk_blocks.specs.Modes.{refuse_inside}
+use Rattle.hunk_blocks.specs.{declared.mode.Mode.Mode, Values.{BlockValue, IsBlock}}
+use Rattle.hunk_blocks.specs.{Parts.{Part, Part as parts, body_parts, block_parts}, Modes.refuse_inside}
 use Rattle.hunk_blocks.specs.Begins.{BeginsWithNoBlock}
 use Rattle.hunk_blocks.specs.Faults.{Expects, HasBlockFault, HasRefusal, IsFront, IsTruncatedBlock, blocks, refuse_alone}
-use Rattle.hunk_blocks.proofs.Admitted.{word_passes}
-use Rattle.hunk_blocks.proofs.BlockLongs.{block_longs}
-pub use Rattle.hunk_blocks.proofs.BlockLongs.{PartsPass, body_passes}
 use Rattle.hunk_blocks.specs.BlockSteps.{ForName, Inside, AtCount, BlockNext, Open, Whole, part_of, step_inside, begin_body, Follows}
-use Rattle.hunk_blocks.proofs.BlockText.{body_follows}
+use Rattle.hunk_blocks.proofs.{Admitted.word_passes, BlockLongs.block_longs, BlockText.body_follows}
 use Rattle.hunk_blocks.proofs.FaultScan.{Machine, Leads, Passes, Reads, none_goes_on, one_fault as one_of, front_passes, whole_passes}
+pub use Rattle.hunk_blocks.proofs.BlockLongs.{PartsPass, body_passes}
 
 -- ---- the machine of a block that stands alone
 

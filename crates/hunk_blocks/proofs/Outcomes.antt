@@ -1,10 +1,8 @@
 -- Longwords are read up to the end of a text, to the first that is refused, or to their end.
 use Rattle.std.proofs.Common.{◌≡◌, ℕ, ◌*◌, List, [], ◌∷◌, ◌++◌, length, refl, sym, ap, subst, ◌∙◌, append_assoc, append-nil, Option, Some, None, ◌⊎◌, inl, inr}
-use Rattle.hunk_words.specs.declared.reason.Reason.{Reason}
-use Rattle.hunk_words.specs.Longs.{IsLong, AreLongs}
+use Rattle.hunk_words.specs.{declared.reason.Reason.Reason, Longs.{IsLong, AreLongs}}
 use Rattle.hunk_blocks.specs.Faults.{Grammar, words, Expects, HasRefusal, IsFront}
-use Rattle.hunk_blocks.proofs.FaultLaws.{words-append}
-use Rattle.hunk_blocks.proofs.FaultScan.{Machine, Leads, Passes, Reads}
+use Rattle.hunk_blocks.proofs.{FaultLaws.words-append, FaultScan.{Machine, Leads, Passes, Reads}}
 
 -- What is known of the longwords that led to a state: some text begins with them and goes on as is expected, and a
 -- longword that is not refused keeps this.

@@ -2,13 +2,9 @@
 use Rattle.std.proofs.Common.{◌≡◌, ℕ, ◌/◌, ◌^◌, List, [], ◌∷◌, ◌++◌, length, refl, sym, ap, ◌∙◌, append_assoc, append-nil, Option}
 use Rattle.hunk_words.specs.Longs.{bytes_of}
 use Rattle.hunk_words.proofs.LongLaws.{bytes_of-nil, bytes_of-append}
-use Rattle.hunk_blocks.specs.declared.body.Body.{Body}
-use Rattle.hunk_blocks.specs.declared.ext_shape.ExtShape.{ExtShape}
-use Rattle.hunk_blocks.specs.ExtKinds.{ext_shape}
-use Rattle.hunk_blocks.specs.Entries.{shaped_text}
-use Rattle.hunk_blocks.specs.Values.{BlockBody, BlockValue, ExtEntry, RelocGroup, SymbolEntry}
-use Rattle.hunk_blocks.specs.Parts.{block_text, body_text, ext_text, group_text, symbol_text, text_of}
-use Rattle.hunk_blocks.specs.Views.{body_of}
+use Rattle.hunk_blocks.specs.{declared.body.Body.Body, declared.ext_shape.ExtShape.ExtShape, ExtKinds.ext_shape}
+use Rattle.hunk_blocks.specs.{Entries.shaped_text, Values.{BlockBody, BlockValue, ExtEntry, RelocGroup, SymbolEntry}}
+use Rattle.hunk_blocks.specs.{Parts.{block_text, body_text, ext_text, group_text, symbol_text, text_of}, Views.body_of}
 use Rattle.hunk_blocks.proofs.PartTexts.{body_text_is, group_text_is, symbol_text_is, ext_text_is}
 
 -- longwords, and then others

@@ -1,7 +1,6 @@
 -- The bytes of a longword in progress, by their numbers.
 use Rattle.std.proofs.Common.{◌≡◌, ◌<◌, [], length, arith}
-use Rattle.hunk_words.specs.declared.pending.Pending.{Pending}
-use Rattle.hunk_words.specs.PendingBytes.{pending_of}
+use Rattle.hunk_words.specs.{declared.pending.Pending.Pending, PendingBytes.pending_of}
 
 pub pending_few : (p : Pending) → length (pending_of p) < 4 → p.count < 4
 pending_few p h = grind arith

@@ -1,12 +1,9 @@
 -- How what is printed follows what was printed.
 use Rattle.std.proofs.Common.{◌≡◌, ℕ, ◌+◌, ◌≤◌, Bool, true, false, List, [], ◌++◌, Option, length, refl, sym, ap, subst, ◌∙◌, append_assoc, append-nil, length-append, arith}
-use Rattle.std.specs.Prelude.{Result, Ok, Err, IfErr, IsErr, OnErr, OnOk, is_err}
+use Rattle.std.specs.{Prelude.{Result, Ok, Err, IfErr, IsErr, OnErr, OnOk, is_err}, Io.KnownBytes.Appends}
 use Rattle.std.proofs.lemmas.List.{take_all}
-use Rattle.std.specs.Io.KnownBytes.{Appends}
-use Rattle.hunk_words.specs.Carriers.{Outlet, Writing, saturated}
-use Rattle.hunk_words.specs.declared.long_writer.WriteFault.{WriteFault}
-use Rattle.hunk_words.specs.Prints.{Printing, Sends, SendsBy}
-use Rattle.hunk_words.specs.Puts.{Puts, PutsBefore, PutsText}
+use Rattle.hunk_words.specs.{Carriers.{Outlet, Writing, saturated}, declared.long_writer.WriteFault.WriteFault}
+use Rattle.hunk_words.specs.{Prints.{Printing, Sends, SendsBy}, Puts.{Puts, PutsBefore, PutsText}}
 use Rattle.hunk_words.proofs.PutLaws.{puts_front, puts_more_after, puts_part}
 
 -- all of the front has gone out

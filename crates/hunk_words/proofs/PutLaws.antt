@@ -1,9 +1,7 @@
 -- How puts follow one another.
 use Rattle.std.proofs.Common.{◌≡◌, ℕ, ◌+◌, ◌-◌, ◌≤◌, List, ◌++◌, Option, length, take, drop, sym, ap, ◌∙◌, append_assoc, length-append, arith}
-use Rattle.std.proofs.lemmas.List.{take-append-drop, take_rest, take-append-le, take_all}
-use Rattle.std.proofs.Math.Seq.{take-append-add, take-append_seam}
-use Rattle.std.proofs.lemmas.Grind.{common_steps}
-use Rattle.std.proofs.KnownBytes.{Appends-nil, Appends-trans}
+use Rattle.std.proofs.{Math.Seq.{take-append-add, take-append_seam}, KnownBytes.{Appends-nil, Appends-trans}}
+use Rattle.std.proofs.lemmas.{List.{take-append-drop, take_rest, take-append-le, take_all}, Grind.common_steps}
 use Rattle.std.specs.Io.KnownBytes.{Appends}
 use Rattle.hunk_words.specs.Puts.{Puts, PutsBefore}
 

@@ -1,5 +1,4 @@
-use Rattle.hunk_blocks.specs.Parts.{ext_text}
-use Rattle.hunk_blocks.specs.Views.{entry_of}
+use Rattle.hunk_blocks.specs.{Parts.ext_text, Views.entry_of}
 use Rattle.hunk_blocks.proofs.ListReading.{Keeps}
 use Rattle.hunk_blocks.proofs.entries.keep_entries.Given as goal
 

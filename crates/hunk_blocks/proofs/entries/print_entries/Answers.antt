@@ -1,7 +1,5 @@
 use Rattle.std.proofs.Common.{rules, ◌∙◌, arith}
-use Rattle.hunk_blocks.specs.Values.{IsExtEntry}
-use Rattle.hunk_blocks.specs.Parts.{ext_text}
-use Rattle.hunk_blocks.specs.Views.{entry_of}
+use Rattle.hunk_blocks.specs.{Values.IsExtEntry, Parts.ext_text, Views.entry_of}
 use Rattle.hunk_blocks.proofs.ListWriting.{all_at, list_shown}
 use Rattle.hunk_blocks.proofs.entries.print_entries.Goals as goal
 

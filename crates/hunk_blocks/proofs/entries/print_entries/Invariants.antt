@@ -1,8 +1,7 @@
 use Rattle.std.proofs.Common.{◌≡◌}
 use Rattle.hunk_words.specs.Longs.{bytes_of}
 use Rattle.hunk_words.proofs.Shown.{ShownUpTo}
-use Rattle.hunk_blocks.specs.Parts.{ext_text}
-use Rattle.hunk_blocks.specs.Views.{entry_of}
+use Rattle.hunk_blocks.specs.{Parts.ext_text, Views.entry_of}
 use Rattle.hunk_blocks.proofs.entries.print_entries.Given as goal
 
 abbrev pub invariant-entries : goal.invariant-entries

@@ -1,6 +1,5 @@
 use Rattle.std.proofs.Common.{◌∙◌, arith}
-use Rattle.hunk_blocks.specs.Parts.{group_text}
-use Rattle.hunk_blocks.specs.Views.{group_of}
+use Rattle.hunk_blocks.specs.{Parts.group_text, Views.group_of}
 use Rattle.hunk_blocks.proofs.ListReading.{item_ends, item_kept}
 use Rattle.hunk_blocks.proofs.groups.keep_groups.Goals as goal
 

@@ -1,5 +1,4 @@
-use Rattle.hunk_blocks.specs.Parts.{group_text}
-use Rattle.hunk_blocks.specs.Views.{group_of}
+use Rattle.hunk_blocks.specs.{Parts.group_text, Views.group_of}
 use Rattle.hunk_blocks.proofs.ListReading.{Keeps}
 use Rattle.hunk_blocks.proofs.groups.keep_groups.Given as goal
 

@@ -1,7 +1,5 @@
 use Rattle.std.proofs.Common.{rules, ◌∙◌, arith}
-use Rattle.hunk_blocks.specs.Values.{IsGroup}
-use Rattle.hunk_blocks.specs.Parts.{group_text}
-use Rattle.hunk_blocks.specs.Views.{group_of}
+use Rattle.hunk_blocks.specs.{Values.IsGroup, Parts.group_text, Views.group_of}
 use Rattle.hunk_blocks.proofs.ListWriting.{all_at, list_shown}
 use Rattle.hunk_blocks.proofs.groups.print_groups.Goals as goal
 

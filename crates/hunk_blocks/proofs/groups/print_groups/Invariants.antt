@@ -1,8 +1,7 @@
 use Rattle.std.proofs.Common.{◌≡◌}
 use Rattle.hunk_words.specs.Longs.{bytes_of}
 use Rattle.hunk_words.proofs.Shown.{ShownUpTo}
-use Rattle.hunk_blocks.specs.Parts.{group_text}
-use Rattle.hunk_blocks.specs.Views.{group_of}
+use Rattle.hunk_blocks.specs.{Parts.group_text, Views.group_of}
 use Rattle.hunk_blocks.proofs.groups.print_groups.Given as goal
 
 abbrev pub invariant-groups : goal.invariant-groups

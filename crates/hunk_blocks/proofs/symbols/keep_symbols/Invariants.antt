@@ -1,5 +1,4 @@
-use Rattle.hunk_blocks.specs.Parts.{symbol_text}
-use Rattle.hunk_blocks.specs.Views.{symbol_of}
+use Rattle.hunk_blocks.specs.{Parts.symbol_text, Views.symbol_of}
 use Rattle.hunk_blocks.proofs.ListReading.{Keeps}
 use Rattle.hunk_blocks.proofs.symbols.keep_symbols.Given as goal
 

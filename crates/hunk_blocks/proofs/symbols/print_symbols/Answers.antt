@@ -1,6 +1,5 @@
 use Rattle.std.proofs.Common.{◌∙◌, arith}
-use Rattle.hunk_blocks.specs.Parts.{symbol_text}
-use Rattle.hunk_blocks.specs.Views.{symbol_of}
+use Rattle.hunk_blocks.specs.{Parts.symbol_text, Views.symbol_of}
 use Rattle.hunk_blocks.proofs.ListWriting.{list_shown}
 use Rattle.hunk_blocks.proofs.symbols.print_symbols.Goals as goal
 

@@ -1,8 +1,7 @@
 use Rattle.std.proofs.Common.{◌≡◌}
 use Rattle.hunk_words.specs.Longs.{bytes_of}
 use Rattle.hunk_words.proofs.Shown.{ShownUpTo}
-use Rattle.hunk_blocks.specs.Parts.{symbol_text}
-use Rattle.hunk_blocks.specs.Views.{symbol_of}
+use Rattle.hunk_blocks.specs.{Parts.symbol_text, Views.symbol_of}
 use Rattle.hunk_blocks.proofs.symbols.print_symbols.Given as goal
 
 abbrev pub invariant-symbols : goal.invariant-symbols

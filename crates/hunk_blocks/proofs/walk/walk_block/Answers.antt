@@ -1,11 +1,8 @@
 use Rattle.std.proofs.Common.{◌*◌, ℕ, ◌+◌, ◌/◌, List, length, arith, sym, subst, ◌∙◌, Option, Some}
-use Rattle.hunk_words.specs.Longs.{longs}
-use Rattle.hunk_words.specs.declared.fault.Fault.{Fault}
+use Rattle.hunk_words.specs.{Longs.longs, declared.fault.Fault.Fault}
 use Rattle.hunk_words.specs.declared.reason.Reason.TheVariants as reasons
-use Rattle.hunk_blocks.specs.declared.mode.Mode.{Mode}
+use Rattle.hunk_blocks.specs.{declared.mode.Mode.Mode, Faults.HasBlockFault, declared.phase.Phase.Phase}
 use Rattle.hunk_words.proofs.LongLaws.{length-longs}
-use Rattle.hunk_blocks.specs.Faults.{HasBlockFault}
-use Rattle.hunk_blocks.specs.declared.phase.Phase.{Phase}
 use Rattle.hunk_blocks.specs.PhaseSteps as inside
 use Rattle.hunk_blocks.proofs.BlockWalks.{BlockWalks, refused, passes, ends, ends_early}
 use Rattle.hunk_blocks.proofs.walk.walk_block.Goals as goal

@@ -4,8 +4,7 @@ use Rattle.std.proofs.lemmas.Result.{IfOk-weaker, IfErr-weaker}
 use Rattle.hunk_words.specs.declared.fault.Fault.{Fault}
 use Rattle.hunk_blocks.specs.Modes.{is_block_refusal}
 use Rattle.hunk_blocks.proofs.BlockWhole.{begins_with, err_is, fault_other, fault_own, first_fault, lacks_of_mode, no_fault, some_begins}
-use Rattle.hunk_blocks.proofs.ListReading.{if_err, if_err_and}
-use Rattle.hunk_blocks.proofs.OneBlockFault.{no_block, one_fault}
+use Rattle.hunk_blocks.proofs.{ListReading.{if_err, if_err_and}, OneBlockFault.{no_block, one_fault}}
 use Rattle.hunk_blocks.proofs.block.Block.decode.Goals as goal
 
 -- ---- a fault

@@ -1,6 +1,5 @@
 use Rattle.hunk_blocks.specs.Begins.{LacksItemAt}
-use Rattle.hunk_blocks.proofs.BodyReading.{lacks_item}
-use Rattle.hunk_blocks.proofs.ListReading.{err_at}
+use Rattle.hunk_blocks.proofs.{BodyReading.lacks_item, ListReading.err_at}
 use Rattle.hunk_blocks.proofs.block.Block.keep.Goals as goal
 
 pub returns-in_err-body-clause-place : goal.returns-in_err-body-clause-place

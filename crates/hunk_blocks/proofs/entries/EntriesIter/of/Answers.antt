@@ -1,6 +1,5 @@
 use Rattle.hunk_blocks.specs.Views.{entry_of}
-use Rattle.hunk_blocks.proofs.CutLaws.{entries_are_cut}
-use Rattle.hunk_blocks.proofs.ListReading.{item_first, item_passed, item_there, list_passed}
+use Rattle.hunk_blocks.proofs.{CutLaws.entries_are_cut, ListReading.{item_first, item_passed, item_there, list_passed}}
 use Rattle.hunk_blocks.proofs.entries.EntriesIter.of.Goals as goal
 
 pub read_entry-requires : goal.read_entry-requires

@@ -1,5 +1,4 @@
-use Rattle.hunk_blocks.specs.Parts.{ext_text}
-use Rattle.hunk_blocks.specs.Views.{entry_of}
+use Rattle.hunk_blocks.specs.{Parts.ext_text, Views.entry_of}
 use Rattle.hunk_blocks.proofs.CutLaws.{entries_are_cut}
 use Rattle.hunk_blocks.proofs.ListReading.{first_given, item_first, item_less, item_there, none_given}
 use Rattle.hunk_blocks.proofs.entries.EntriesIterIterator.next.Goals as goal

@@ -1,6 +1,5 @@
 use Rattle.hunk_blocks.specs.Views.{group_of}
-use Rattle.hunk_blocks.proofs.CutLaws.{groups_are_cut}
-use Rattle.hunk_blocks.proofs.ListReading.{item_first, item_passed, item_there, list_passed}
+use Rattle.hunk_blocks.proofs.{CutLaws.groups_are_cut, ListReading.{item_first, item_passed, item_there, list_passed}}
 use Rattle.hunk_blocks.proofs.groups.GroupsIter.of.Goals as goal
 
 pub read_group-requires : goal.read_group-requires

@@ -1,6 +1,5 @@
 use Rattle.std.proofs.Common.{length}
-use Rattle.hunk_blocks.proofs.CutLaws.{groups_are_cut}
-use Rattle.hunk_blocks.proofs.ListReading.{Passes}
+use Rattle.hunk_blocks.proofs.{CutLaws.groups_are_cut, ListReading.Passes}
 use Rattle.hunk_blocks.proofs.groups.GroupsIter.of.Given as goal
 
 abbrev pub invariant-passing : goal.invariant-passing

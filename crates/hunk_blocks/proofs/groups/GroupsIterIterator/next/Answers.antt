@@ -1,5 +1,4 @@
-use Rattle.hunk_blocks.specs.Parts.{group_text}
-use Rattle.hunk_blocks.specs.Views.{group_of}
+use Rattle.hunk_blocks.specs.{Parts.group_text, Views.group_of}
 use Rattle.hunk_blocks.proofs.CutLaws.{groups_are_cut}
 use Rattle.hunk_blocks.proofs.ListReading.{first_given, item_first, item_less, item_there, none_given}
 use Rattle.hunk_blocks.proofs.groups.GroupsIterIterator.next.Goals as goal

@@ -1,6 +1,5 @@
 use Rattle.hunk_blocks.specs.Views.{symbol_of}
-use Rattle.hunk_blocks.proofs.CutLaws.{symbols_are_cut}
-use Rattle.hunk_blocks.proofs.ListReading.{item_first, item_passed, item_there, list_passed}
+use Rattle.hunk_blocks.proofs.{CutLaws.symbols_are_cut, ListReading.{item_first, item_passed, item_there, list_passed}}
 use Rattle.hunk_blocks.proofs.symbols.SymbolsIter.of.Goals as goal
 
 pub read_symbol-requires : goal.read_symbol-requires

@@ -1,5 +1,4 @@
-use Rattle.hunk_blocks.specs.Parts.{symbol_text}
-use Rattle.hunk_blocks.specs.Views.{symbol_of}
+use Rattle.hunk_blocks.specs.{Parts.symbol_text, Views.symbol_of}
 use Rattle.hunk_blocks.proofs.CutLaws.{symbols_are_cut}
 use Rattle.hunk_blocks.proofs.ListReading.{first_given, item_first, item_less, item_there, none_given}
 use Rattle.hunk_blocks.proofs.symbols.SymbolsIterIterator.next.Goals as goal

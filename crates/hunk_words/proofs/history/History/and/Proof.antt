@@ -1,6 +1,5 @@
 -- `and` makes the struct without bytes, with the history that its clause names.
-use Rattle.std.proofs.Common.{[], ◌∷◌, ◌++◌, refl}
-use Rattle.std.proofs.raw_atomic.Walks.{proved}
+use Rattle.std.proofs.{Common.{[], ◌∷◌, ◌++◌, refl}, raw_atomic.Walks.proved}
 use mir.Syntax.{named}
 use mir.Val.{vstruct, vnil}
 use base.Fml.{ftrue}

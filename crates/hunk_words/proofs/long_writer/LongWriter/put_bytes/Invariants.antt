@@ -1,6 +1,5 @@
 use Rattle.std.proofs.Common.{◌≡◌, length, false}
-use Rattle.hunk_words.specs.Carriers.{saturated}
-use Rattle.hunk_words.specs.Puts.{PutsBefore}
+use Rattle.hunk_words.specs.{Carriers.saturated, Puts.PutsBefore}
 use Rattle.hunk_words.proofs.long_writer.LongWriter.put_bytes.Given as goal
 
 abbrev pub invariant-loop-rest : goal.invariant-loop-rest

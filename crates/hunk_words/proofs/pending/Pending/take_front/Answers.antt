@@ -1,7 +1,6 @@
 use Rattle.std.proofs.Common.{ℕ, List, ◌∷◌, [], ◌++◌, take, sym, ap, ◌∙◌, arith}
 use Rattle.hunk_words.specs.Longs.{bytes_of, IsBytes}
-use Rattle.hunk_words.proofs.PendingLaws.{pending_none}
-use Rattle.hunk_words.proofs.LongLaws.{in_place}
+use Rattle.hunk_words.proofs.{PendingLaws.pending_none, LongLaws.in_place}
 use Rattle.hunk_words.proofs.pending.Pending.take_front.Goals as goal
 
 pub returns-then-piece-ge4-clause-gathers : goal.returns-then-piece-ge4-clause-gathers
