@@ -12,7 +12,7 @@ use crate::body::Body;
 use crate::entries::{EntriesIter, keep_entries};
 use crate::groups::{GroupsIter, keep_groups};
 use crate::long_reader::LongReader;
-use crate::payload::{Payload, read_counted, read_sized};
+use crate::payload::Payload;
 use crate::symbols::{SymbolsIter, keep_symbols};
 use hunk_words::{BlockFault, BlockWord, CONTENT_LIMIT, Kind};
 use std::alloc::Global;
@@ -66,7 +66,7 @@ pub(crate) fn read_body<'a>(reader: &mut LongReader<'a>, word: BlockWord) -> Bod
 {
     match word.kind() {
         kind @ (Kind::Name | Kind::Debug | Kind::Unknown(_)) => {
-            let payload = read_counted(reader);
+            let payload = reader.counted();
             match kind {
                 Kind::Name => BodyView::Name(payload),
                 Kind::Debug => BodyView::Debug(payload),
@@ -74,11 +74,11 @@ pub(crate) fn read_body<'a>(reader: &mut LongReader<'a>, word: BlockWord) -> Bod
             }
         }
         Kind::Code => {
-            let (top, payload) = read_sized(reader);
+            let (top, payload) = reader.sized();
             BodyView::Code { top, payload }
         }
         Kind::Data => {
-            let (top, payload) = read_sized(reader);
+            let (top, payload) = reader.sized();
             BodyView::Data { top, payload }
         }
         Kind::Bss => BodyView::Bss {

@@ -20,7 +20,7 @@ use crate::growing::append;
 use crate::list::{BlockList, out_of_memory};
 use crate::long_reader::LongReader;
 use crate::longs::Longs;
-use crate::payload::{Payload, print_counted, print_payload, read_counted, read_entry_name};
+use crate::payload::{Payload, print_counted, print_payload};
 use hunk_words::{BlockFault, PagePrinter, Sink};
 use std::alloc::Global;
 use std::marker::Model;
@@ -149,12 +149,12 @@ fn read_shaped<'a>(reader: &mut LongReader<'a>, shape: ExtShape) -> (u32, Longs<
     match shape {
         ExtShape::Definition => (reader.long(), Longs::none()),
         ExtShape::References => {
-            let payload = read_counted(reader);
+            let payload = reader.counted();
             (0, Longs { payload })
         }
         ExtShape::Common => {
             let size = reader.long();
-            let payload = read_counted(reader);
+            let payload = reader.counted();
             (size, Longs { payload })
         }
     }
@@ -167,7 +167,7 @@ fn read_entry<'a>(reader: &mut LongReader<'a>) -> Entry<'a>
     ensures { ReadsValue entry_cut reader.old reader.new (entry_of result) }
 {
     let word = reader.long();
-    let name = read_entry_name(reader, word);
+    let name = reader.name(word);
     match shape_of(word) {
         Some(shape) => {
             let (value, offsets) = read_shaped(reader, shape);

@@ -93,7 +93,7 @@ impl<'a> GroupsIter<'a> {
     {
         let mut count = 0u64;
         'groups: for group in self.again() {
-            count = count.saturating_add(group.offsets.len() as u64);
+            count = count.saturating_add(group.offsets.payload.byte_count() / 4);
         }
         count
     }

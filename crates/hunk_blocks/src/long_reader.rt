@@ -1,10 +1,14 @@
 //! The longwords of a slice, read from the front.
-ghost use Rattle.std.specs.Prelude.{◌≡◌, ◌<◌, ◌≤◌, [], ◌∷◌, drop, length};
+ghost use Rattle.std.specs.Prelude.{◌≡◌, ◌<◌, ◌≤◌, ◌^◌, [], ◌∷◌, drop, length};
+ghost use Rattle.hunk_words.specs.Bits.{name_longs};
 ghost use Rattle.hunk_words.specs.Longs.{longs};
-ghost use Rattle.hunk_blocks.specs.Reading.{Reads};
+ghost use Rattle.hunk_blocks.specs.Cuts.{counted_cut, sized_cut};
+ghost use Rattle.hunk_blocks.specs.Parts.{counted_text, sized_text};
+ghost use Rattle.hunk_blocks.specs.Reading.{BeginsWithSome, Reads, ReadsValue};
+ghost use Rattle.hunk_blocks.specs.Values.{IsPayload, IsSized};
 
 use crate::payload::Payload;
-use hunk_words::word_at;
+use hunk_words::{CONTENT_LIMIT, NAME_LIMIT, word_at};
 use std::marker::Model;
 
 /// The longwords of a slice, read from the front. It goes by the place alone, so that passing over a
@@ -72,5 +76,41 @@ impl<'a> LongReader<'a> {
         let word = word_at(&self.bytes[self.at..], 0);
         self.at += 4;
         word
+    }
+    /// A count, and that many longwords (The AmigaDOS Manual, `dos/doshunks.h`).
+    ///
+    /// The count of a NAME has no top byte. DEBUG and ADVISORY count with all 32 bits, and a list
+    /// of references may be empty: this project's own choice.
+    pub(crate) fn counted(&mut self) -> Payload<'a>
+        requires { BeginsWithSome (IsPayload (2 ^ 32)) counted_text self.old.rest }
+        ensures { ReadsValue counted_cut self.old self.new (longs result) }
+    {
+        let count = self.long();
+        self.payload(count)
+    }
+
+    /// A size word, and as many longwords as its low 30 bits say. The number is its top two bits.
+    ///
+    /// Source: The AmigaDOS Manual, `dos/doshunks.h`.
+    pub(crate) fn sized(&mut self) -> (u8, Payload<'a>)
+        requires { BeginsWithSome IsSized sized_text self.old.rest }
+        ensures { ReadsValue sized_cut self.old self.new (result.0, longs result.1) }
+    {
+        let size = self.long();
+        let payload = self.payload(size % CONTENT_LIMIT);
+        ((size / CONTENT_LIMIT) as u8, payload)
+    }
+
+    /// The name of an entry with this word, as many longwords as its low 24 bits say (The AmigaDOS
+    /// Manual, `dos/doshunks.h`).
+    ///
+    /// Where they are 0 in a word that is not, the name is empty: this project's own choice.
+    #[inline(always)]
+    pub(crate) fn name(&mut self, word: u32) -> Payload<'a>
+        requires { name_longs word ≤ length self.old.rest }
+        ensures read { Reads self.old self.new (longs result) }
+        ensures count { length (longs result) ≡ name_longs word }
+    {
+        self.payload(word % NAME_LIMIT)
     }
 }

@@ -14,7 +14,7 @@ ghost use Rattle.hunk_blocks.specs.Views.{symbol_of};
 use crate::growing::append;
 use crate::list::{BlockList, out_of_memory};
 use crate::long_reader::LongReader;
-use crate::payload::{Payload, print_payload, read_entry_name};
+use crate::payload::{Payload, print_payload};
 use hunk_words::{BlockFault, PagePrinter, Sink};
 use std::alloc::Global;
 use std::marker::Model;
@@ -120,7 +120,7 @@ fn read_symbol<'a>(reader: &mut LongReader<'a>) -> SymbolView<'a>
     ensures { ReadsValue symbol_cut reader.old reader.new (symbol_of result) }
 {
     let word = reader.long();
-    let name = read_entry_name(reader, word);
+    let name = reader.name(word);
     let value = reader.long();
     SymbolView { word, name, value }
 }

@@ -6,14 +6,14 @@ use Rattle.hunk_blocks.specs.BlockSteps.{begin_body}
 use Rattle.hunk_blocks.proofs.BodyReading.{body_stands, counted_stands, groups_stand, is_counted}
 use Rattle.hunk_blocks.proofs.body_view.read_body.Goals as goal
 
-pub read_counted-payload-requires : goal.read_counted-payload-requires
-read_counted-payload-requires c = let is : IsTrue (is_counted (begin_body c.kind.result)) = search rules in counted_stands c.args.word c.args.reader.now.rest c.requires c.kind.result c.kind.ensures is
+pub counted-payload-requires : goal.counted-payload-requires
+counted-payload-requires c = let is : IsTrue (is_counted (begin_body c.kind.result)) = search rules in counted_stands c.args.word c.args.reader.now.rest c.requires c.kind.result c.kind.ensures is
 
-pub read_sized-top-requires : goal.read_sized-top-requires
-read_sized-top-requires c = body_stands c.args.word c.args.reader.now.rest c.requires kinds.Code (sym c.in-Code.is ∙ c.kind.ensures)
+pub sized-top-requires : goal.sized-top-requires
+sized-top-requires c = body_stands c.args.word c.args.reader.now.rest c.requires kinds.Code (sym c.in-Code.is ∙ c.kind.ensures)
 
-pub read_sized-top-requires-in-Data : goal.read_sized-top-requires-in-Data
-read_sized-top-requires-in-Data c = body_stands c.args.word c.args.reader.now.rest c.requires kinds.Data (sym c.in-Data.is ∙ c.kind.ensures)
+pub sized-top-requires-in-Data : goal.sized-top-requires-in-Data
+sized-top-requires-in-Data c = body_stands c.args.word c.args.reader.now.rest c.requires kinds.Data (sym c.in-Data.is ∙ c.kind.ensures)
 
 pub of-requires : goal.of-requires
 of-requires c = body_stands c.args.word c.args.reader.now.rest c.requires kinds.Ext (sym c.in-Ext.is ∙ c.kind.ensures)
