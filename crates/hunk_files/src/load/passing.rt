@@ -223,19 +223,8 @@ fn behind_group(bytes: &[u8], at: usize, hunks: u32, declared: u32) -> Option<us
         return None;
     }
     let behind = first + count;
-    if is_outside(largest(bytes, first, behind), declared) {
-        return None;
-    }
-    Some(behind)
-}
-
-/// The largest of the longwords from `first` up to `end`, 0 of none.
-fn largest(bytes: &[u8], first: usize, end: usize) -> u32
-    requires { 4 * end ≤ length bytes.now }
-    ensures { (i : ℕ) → first ≤ i → i < end → slice_index (longs bytes.now) i ≤ result }
-{
     let mut largest = 0;
-    'longwords: for i in first..end {
+    'offsets: for i in first..behind {
         // Where a longword is put together from its bytes, and not read by `word_at`, the compiler
         // makes the loop four longwords wide.
         let start = 4 * i;
@@ -247,7 +236,10 @@ fn largest(bytes: &[u8], first: usize, end: usize) -> u32
         ]);
         largest = largest.max(long);
     }
-    largest
+    if is_outside(largest, declared) {
+        return None;
+    }
+    Some(behind)
 }
 
 /// The longword behind the symbols that stand from `from` on and the 0 that ends them, where they

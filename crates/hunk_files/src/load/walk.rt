@@ -1,15 +1,12 @@
 //! The walk over the longwords of a load file, from the first on: its end, or the first fault.
-ghost use Rattle.std.specs.Prelude.{◌≡◌, ◌≤◌, ◌+◌, ◌*◌, length, true, Some};
-ghost use Rattle.std.specs.Prelude.{None, IfOk, IfErr, OnOk, MatchResult};
-ghost use Rattle.hunk_words.specs.Longs.{longs};
+ghost use Rattle.std.specs.Prelude.{◌≡◌, Some, None, IfOk, IfErr, OnOk, MatchResult};
 ghost use Rattle.hunk_files.specs.Fault.{HasFault, HasLoadText};
-ghost use Rattle.hunk_files.specs.Entries.{entry_at};
-ghost use Rattle.hunk_grammar.specs.Positions.{is_between_hunks, role_at, step};
+ghost use Rattle.hunk_grammar.specs.Positions.{role_at, step};
 ghost use Rattle.hunk_grammar.specs.Roles.{refuse};
 
 use crate::load::passing::pass_over;
 use hunk_grammar::{OpenHunk, Phase, Position, TABLE_AT, by_kind, by_phase};
-use hunk_words::{BlockWord, FileFault, Reason, SizeWord, word_at};
+use hunk_words::{BlockWord, CONTENT_LIMIT, FileFault, Reason, SizeWord, word_at};
 
 /// What the table declares of the open hunk, 0 longwords before the first.
 #[derive(Clone, Copy)]
@@ -54,7 +51,14 @@ pub(crate) fn walk(bytes: &[u8]) -> Result<usize, FileFault>
         if let Position::Done = behind {
             return Ok(4 * (at + 1));
         }
-        entry = open_entry(bytes, behind, entry);
+        if behind.is_between_hunks() {
+            // The next entry of the table declares the hunk that opens here.
+            let size = word_at(bytes, entry.next);
+            entry = Entry {
+                longs: size % CONTENT_LIMIT,
+                next: entry.next + SizeWord::entry_longs(size),
+            };
+        }
         let run = behind.run();
         (at, position) = pass_over(bytes, at + 1 + run as usize, behind.pass(run), entry.longs);
     }
@@ -98,20 +102,4 @@ fn step_from(position: Position, longs: u32, word: u32) -> Result<Position, Reas
         by_kind!(BlockWord::of(word).kind(), step_at(position, longs, word)),
         at
     )
-}
-
-/// The entry of the hunk that is open at the position: where it opens, the next of the table.
-fn open_entry(bytes: &[u8], position: Position, entry: Entry) -> Entry
-    requires { is_between_hunks position ≡ true → 4 * entry.next + 4 ≤ length bytes.now }
-    ensures { result ≡ entry_at (longs bytes.now) position entry }
-{
-    if position.is_between_hunks() {
-        let word = word_at(bytes, entry.next);
-        Entry {
-            longs: SizeWord { word, extra: 0 }.longs(),
-            next: entry.next + SizeWord::entry_longs(word),
-        }
-    } else {
-        entry
-    }
 }

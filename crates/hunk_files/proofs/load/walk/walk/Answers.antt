@@ -1,5 +1,6 @@
-use Rattle.std.proofs.Common.{◌≡◌, ℕ, ◌+◌, ◌*◌, arith, sym, subst, Some, IfErr}
+use Rattle.std.proofs.Common.{◌≡◌, ℕ, ◌+◌, ◌*◌, Bool, arith, ap, ap₂, sym, subst, ◌∙◌, slice_index, if◌then◌else◌, Some, IfErr}
 use Rattle.hunk_words.specs.Longs.{longs, IsBytes}
+use Rattle.hunk_words.specs.Bits.{entry_longs, size_longs}
 use Rattle.hunk_words.specs.declared.reason.Reason.{Reason}
 use Rattle.hunk_words.specs.declared.reason.Reason.TheVariants as reasons
 use Rattle.hunk_words.proofs.LongLaws.{length-longs}
@@ -7,13 +8,14 @@ use Rattle.hunk_grammar.specs.Roles.{refuse}
 use Rattle.hunk_grammar.specs.Positions as scan
 use Rattle.hunk_grammar.specs.Positions.{role_at}
 use Rattle.hunk_grammar.specs.declared.position.Position.{Position}
-use Rattle.hunk_files.specs.Entries.{entry_at}
+use Rattle.hunk_files.specs.Entries.{entry_at, entry_behind}
 use Rattle.hunk_files.specs.Fault.{HasFault}
 use Rattle.hunk_files.specs.declared.load.walk.Entry.{Entry}
 use Rattle.hunk_files.proofs.LoadWalks.{Walks, start_walk, refused, ends, opens, passes, ends_early}
 use Rattle.hunk_files.proofs.PassedWalks.{walk_over}
 use Rattle.hunk_files.proofs.Passed.{passed_on}
 use Rattle.hunk_files.proofs.load.walk.walk.Goals as goal
+use Rattle.hunk_files.proofs.load.walk.walk.Goals.{then-is_between_hunks, else-is_between_hunks}
 
 pub walking-init : goal.walking-init
 walking-init c = start_walk c.args.bytes.now
@@ -33,13 +35,23 @@ returns-in-Done c =
     ends bytes (λ i. omega (arith, c.type_inv.bytes i)) w.at w.position w.entry w.invariant (omega (arith, length-longs bytes)) c.word_at-word.result c.word_at-word.ensures
     ok.behind ok.ensures.steps ok.ensures.passes c.in-Done.is
 
-pub open_entry-entry-requires : goal.open_entry-entry-requires
-open_entry-entry-requires c =
+pub word_at-size-requires : goal.word_at-size-requires
+word_at-size-requires c =
     let bytes = c.args.bytes.now in
     let w = c.walking in
     let ok = c.in-Ok in
     opens bytes (λ i. omega (arith, c.type_inv.bytes i)) w.at w.position w.entry w.invariant (omega (arith, length-longs bytes)) c.word_at-word.result c.word_at-word.ensures
-    ok.behind ok.ensures.steps ok.ensures.passes c.in_default.not-Done
+    ok.behind ok.ensures.steps ok.ensures.passes c.in_default.not-Done (sym c.is_between_hunks.ensures ∙ c.if-is_between_hunks.true)
+
+pub overflow_add-entry : goal.overflow_add-entry
+overflow_add-entry c =
+    let bytes = c.args.bytes.now in
+    let w = c.walking in
+    let ok = c.in-Ok in
+    let inside =
+    opens bytes (λ i. omega (arith, c.type_inv.bytes i)) w.at w.position w.entry w.invariant (omega (arith, length-longs bytes)) c.word_at-word.result c.word_at-word.ensures
+    ok.behind ok.ensures.steps ok.ensures.passes c.in_default.not-Done (sym c.is_between_hunks.ensures ∙ c.if-is_between_hunks.true) in
+    omega (arith, inside, c.entry_longs.ensures.bound)
 
 pub walking-preserved : goal.walking-preserved
 walking-preserved c =
@@ -50,12 +62,19 @@ walking-preserved c =
     let on =
     passes bytes fit w.at w.position w.entry w.invariant (omega (arith, length-longs bytes)) c.word_at-word.result c.word_at-word.ensures
     ok.behind ok.ensures.steps ok.ensures.passes c.in_default.not-Done in
-    let entry = c.open_entry-entry.result in
+    let entry = c.if-is_between_hunks.entry in
+    let opened : Bool → Entry = λ b. if b then entry_behind (slice_index (longs bytes) w.entry.next) w.entry.next else w.entry in
+    let entry_is : entry ≡ entry_at (longs bytes) ok.behind w.entry =
+    elim c.if-is_between_hunks.branch [
+      | then-is_between_hunks v ↦ v.entry-is ∙ ap₂ (λ (word longs : ℕ). record { longs = size_longs word; next = w.entry.next + longs }) v.word_at-size.ensures (v.entry_longs.ensures.value ∙ ap entry_longs v.word_at-size.ensures)
+          ∙ ap opened (sym (sym c.is_between_hunks.ensures ∙ v.if-is_between_hunks.true))
+      | else-is_between_hunks v ↦ v.entry-is ∙ ap opened (sym (sym c.is_between_hunks.ensures ∙ v.if-is_between_hunks.false))
+    ] in
     let from : w.at + (1 + c.run-run.result) ≡ w.at + 1 + c.run-run.result = omega arith in
     let P : ℕ → Type 0 = λ n. Walks bytes (w.at + (1 + n)) (scan.pass ok.behind n) (entry_at (longs bytes) ok.behind w.entry) in
     let here = subst (λ (k : ℕ). Walks bytes k c.pass.result entry) from
     (subst (λ (p : Position). Walks bytes (w.at + (1 + c.run-run.result)) p entry) (sym c.pass.ensures)
-    (subst (λ (e : Entry). Walks bytes (w.at + (1 + c.run-run.result)) (scan.pass ok.behind c.run-run.result) e) (sym c.open_entry-entry.ensures)
+    (subst (λ (e : Entry). Walks bytes (w.at + (1 + c.run-run.result)) (scan.pass ok.behind c.run-run.result) e) (sym entry_is)
     (subst P (sym c.run-run.ensures.value) on))) in
     walk_over bytes fit (w.at + 1 + c.run-run.result) c.pass.result entry c.pass_over.result.0 c.pass_over.result.1 here c.pass_over.ensures
 
@@ -68,5 +87,5 @@ returns c =
 
 pub walking-smaller : goal.walking-smaller
 walking-smaller c =
-    let on = passed_on (longs c.args.bytes.now) c.open_entry-entry.result.longs (c.walking.at + 1 + c.run-run.result) c.pass.result c.pass_over.result.0 c.pass_over.result.1 c.pass_over.ensures in
+    let on = passed_on (longs c.args.bytes.now) c.if-is_between_hunks.entry.longs (c.walking.at + 1 + c.run-run.result) c.pass.result c.pass_over.result.0 c.pass_over.result.1 c.pass_over.ensures in
     omega (arith, on, c.walking-test.true)

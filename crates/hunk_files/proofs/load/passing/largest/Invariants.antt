@@ -1,6 +1,0 @@
-use Rattle.std.proofs.Common.{ℕ, ◌<◌, ◌≤◌, slice_index}
-use Rattle.hunk_words.specs.Longs.{longs}
-use Rattle.hunk_files.proofs.load.passing.largest.Given as goal
-
-abbrev pub invariant-longwords : goal.invariant-longwords
-invariant-longwords l = (i : ℕ) → l.first ≤ i → i < l.i → slice_index (longs l.bytes) i ≤ l.largest
