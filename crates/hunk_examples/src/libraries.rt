@@ -4,7 +4,7 @@ use anyhow::{bail, ensure};
 use hunk_blocks::BodyView;
 use hunk_command_line::{Order, order};
 use hunk_commands::unhex;
-use hunk_files::{LoadHunkView, LoadView, sniff};
+use hunk_files::{BlockViews, LoadView, sniff};
 use hunk_grammar::Sniff;
 use hunk_listing::print_load_summary;
 use hunk_scatter::{Limits, Packed, load};
@@ -40,7 +40,7 @@ pub fn tour(alloc: Global, words: &[String], text: &str) -> anyhow::Result<Seen>
     let bytes = unhex(alloc, text.as_bytes())?;
     ensure!(sniff(&bytes) == Sniff::Load, "no load file");
     let (file, size) = LoadView::read(&bytes)?;
-    let code = file.iter().next().map_or(0, |hunk| code_bytes(&hunk));
+    let code = file.iter().next().map_or(0, |hunk| code_bytes(hunk.blocks));
     let mut source = FromSlice::new(&bytes);
     let image = load(alloc, &mut source, LIMITS, &Packed { start: 0 })?;
     let mut out = LongWriter::new(FromWrite::new(Vec::new(alloc)));
@@ -56,10 +56,10 @@ pub fn tour(alloc: Global, words: &[String], text: &str) -> anyhow::Result<Seen>
     })
 }
 
-/// The bytes of code that the hunk has.
-fn code_bytes(hunk: &LoadHunkView<'_>) -> u64 {
+/// The bytes of code that the blocks have.
+fn code_bytes(blocks: BlockViews<'_>) -> u64 {
     let mut code = 0u64;
-    for block in hunk.blocks() {
+    for block in blocks {
         if let BodyView::Code { top: _, payload } = block.into_body() {
             code = code.saturating_add(payload.byte_count());
         }

@@ -84,15 +84,14 @@ hunk_text h = block_texts h.blocks
 abbrev pub seen_hunks : List TableEntry → List ℕ → ℕ → Placed LoadFileValue
 seen_hunks entries bytes at = record { place = at; value = hunks_in entries (drop at bytes) }
 
-abbrev pub seen_hunk : TableEntry → List ℕ → ℕ → Placed HunkValue
-seen_hunk entry bytes at = record { place = at; value = hunk_with entry (blocks_in (drop at bytes)) }
-
-pub hunk_gives : (all : List TableEntry) (entry : TableEntry) (entries : List TableEntry) (bytes : List ℕ) (at : ℕ) (n : NextHunk all entry entries bytes at) (end : ℕ) → end ≡ at + 4 * length (block_texts n.here.blocks) →
-    GivesPart hunk_text (seen_hunks all bytes at) (Some (seen_hunk entry bytes at)) (seen_hunks entries bytes end)
-hunk_gives all entry entries bytes at n end e = (
-  (λ i. record { place = at; value = n.first end e i }),
-  e ∙ ap (λ (bs : List BlockValue). at + 4 * length (block_texts bs)) (sym (hunk_value n.here)),
-)
+pub hunk_gives : (all : List TableEntry) (entry : TableEntry) (entries : List TableEntry) (bytes : List ℕ) (at : ℕ) (n : NextHunk all entry entries bytes at)
+    (blocks : Placed (List BlockValue)) → blocks ≡ record { place = at; value = n.here.blocks } → (end : ℕ) → end ≡ at + 4 * length (block_texts n.here.blocks) →
+    GivesPart hunk_text (seen_hunks all bytes at) (Some (record { place = blocks.place; value = hunk_with entry blocks.value })) (seen_hunks entries bytes end)
+hunk_gives all entry entries bytes at n blocks same end e =
+    subst (λ (p : Placed (List BlockValue)). GivesPart hunk_text (seen_hunks all bytes at) (Some (record { place = p.place; value = hunk_with entry p.value })) (seen_hunks entries bytes end)) (sym same) (
+      (λ i. record { place = at; value = (n.first end e ∙ ap (λ (bs : List BlockValue). hunk_with entry bs ∷ hunks_in entries (drop end bytes)) (hunk_value n.here)) i }),
+      e,
+    )
 
 -- ---- all hunks of a file
 

@@ -7,9 +7,8 @@ use Rattle.hunk_files.specs.Hunks.{HunkAt, block_texts}
 use Rattle.hunk_files.specs.InPlace.{BeginsWithHunks, GivesPart, hunks_in}
 use Rattle.hunk_files.specs.Lacks.{EndsAt, EndsHunkPart, EndsLoadPart, Within}
 use Rattle.hunk_files.specs.Tables.{header_text}
-use Rattle.hunk_files.proofs.BlocksInPlace.{hunk_value}
 use Rattle.hunk_files.proofs.HunkBlocks.{some_text}
-use Rattle.hunk_files.proofs.HunksInPlace.{NextHunk, hunk_gives, hunk_text, hunks_in-nil, hunk_with, next_hunk_of, seen_hunk, seen_hunks}
+use Rattle.hunk_files.proofs.HunksInPlace.{NextHunk, hunk_gives, hunk_text, hunks_in-nil, hunk_with, next_hunk_of, seen_hunks}
 use Rattle.hunk_files.proofs.PlaceLaws.{ends_behind, ends_map, last_at}
 use Rattle.hunk_files.proofs.Taking.{Taken, all_taken, part_taken, part_within}
 
@@ -26,18 +25,14 @@ module _ {all : Placed LoadFileValue} {entries : List TableEntry} {entry : Table
   are : blocks ≡ record { place = at; value = n.here.blocks }
   are = here_are n.here
 
-  hunk_is : hunk_with entry blocks.value ≡ (seen_hunk entry bytes at).value
-  hunk_is = ap (λ (p : Placed (List BlockValue)). hunk_with entry p.value) are ∙ ap (hunk_with entry) (sym (hunk_value n.here))
+  abbrev hunk : Placed HunkValue
+  hunk = record { place = blocks.place; value = hunk_with entry blocks.value }
 
-  gives : (end : ℕ) → end ≡ blocks.place + 4 * length (block_texts blocks.value) → GivesPart hunk_text (seen_hunks entries bytes at) (Some (seen_hunk entry bytes at)) (seen_hunks left bytes end)
-  gives end e = hunk_gives entries entry left bytes at n end (e ∙ ap (λ (p : Placed (List BlockValue)). p.place + 4 * length (block_texts p.value)) are)
+  gives : (end : ℕ) → end ≡ blocks.place + 4 * length (block_texts blocks.value) → GivesPart hunk_text (seen_hunks entries bytes at) (Some hunk) (seen_hunks left bytes end)
+  gives end e = hunk_gives entries entry left bytes at n blocks are end (e ∙ ap (λ (p : Placed (List BlockValue)). p.place + 4 * length (block_texts p.value)) are)
 
   pub part_lacks : (place : ℕ) → EndsAt (EndsHunkPart blocks.value) blocks.place place → LacksHunkPart all place
-  part_lacks place e =
-      let end : ℕ = blocks.place + 4 * length (block_texts blocks.value) in
-      let there : EndsAt (EndsHunkPart blocks.value) at place = subst (λ (p : Placed (List BlockValue)). EndsAt (EndsHunkPart blocks.value) p.place place) are e in
-      part_within hunk_text all (seen_hunks entries bytes at) (seen_hunks left bytes end) done (Some (seen_hunk entry bytes at)) (seen_hunk entry bytes at) t refl (gives end refl) (λ h. EndsHunkPart h.blocks) place
-      (subst (λ (h : HunkValue). EndsAt (EndsHunkPart h.blocks) at place) hunk_is there)
+  part_lacks = part_within hunk_text all (seen_hunks entries bytes at) (seen_hunks left bytes _) done (Some hunk) hunk t refl (gives _ refl) (λ h. EndsHunkPart h.blocks)
 
   module _ (end : ℕ) (e : end ≡ blocks.place + 4 * length (block_texts blocks.value)) where
     pub hunks_behind : BeginsWithHunks left (drop end bytes)
@@ -51,8 +46,8 @@ module _ {all : Placed LoadFileValue} {entries : List TableEntry} {entry : Table
 
     pub hunk_kept : (h : HunkValue) → h ≡ hunk_with entry blocks.value → Taken hunk_text all (seen_hunks left bytes end) (done ++ h ∷ [])
     hunk_kept h same =
-        subst (λ (x : HunkValue). Taken hunk_text all (seen_hunks left bytes end) (done ++ x ∷ [])) (sym (same ∙ hunk_is))
-        (part_taken hunk_text all (seen_hunks entries bytes at) (seen_hunks left bytes end) done (Some (seen_hunk entry bytes at)) (seen_hunk entry bytes at) t refl (gives end e))
+        subst (λ (x : HunkValue). Taken hunk_text all (seen_hunks left bytes end) (done ++ x ∷ [])) (sym same)
+        (part_taken hunk_text all (seen_hunks entries bytes at) (seen_hunks left bytes end) done (Some hunk) hunk t refl (gives end e))
 
     pub hunk_lacks : (place : ℕ) → place + 4 ≡ end → LacksHunkPart all place
     hunk_lacks place p = part_lacks place (ends_map (λ n last. inl last) (last_at (block_texts blocks.value) blocks.place end place some_blocks e p))

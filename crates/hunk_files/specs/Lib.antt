@@ -13,6 +13,7 @@ pub mod Image
 pub mod InPlace
 pub mod Lacks
 pub mod LoadFile
+pub mod LoadHunks
 pub mod LoadText
 pub mod Machines
 pub mod ObjectFault

@@ -96,7 +96,7 @@ fn visit_load<T: TakesBlocks>(taker: &mut T, file: &LoadView<'_>)
     let mut hunks = file.iter();
     let mut hunk = 0;
     'visiting: while let Some(view) = hunks.next() {
-        let _end = visit_blocks(taker, 0, hunk, view.blocks());
+        let _end = visit_blocks(taker, 0, hunk, view.blocks);
         hunk += 1;
     }
 }

@@ -29,8 +29,8 @@ pub(crate) fn print_blocks<W: Sink>(page: &mut Printer<'_, W>, blocks: &mut Bloc
         let word = block.word();
         // The text has a longword for each offset, so their number fits.
         let _size = block.encoded_len();
-        match block.into_body() {
-            BodyView::Name(name) => print_name_line(page, word, &name),
+        match block.body() {
+            BodyView::Name(name) => print_name_line(page, word, name),
             BodyView::Code { payload, .. }
             | BodyView::Data { payload, .. }
             | BodyView::Debug(payload) => {
@@ -38,7 +38,7 @@ pub(crate) fn print_blocks<W: Sink>(page: &mut Printer<'_, W>, blocks: &mut Bloc
             }
             BodyView::Bss { size } => {
                 let size = SizeWord {
-                    word: size,
+                    word: *size,
                     extra: 0,
                 };
                 print_number(page, word, size.bytes(), b" bytes\n");
@@ -51,7 +51,7 @@ pub(crate) fn print_blocks<W: Sink>(page: &mut Printer<'_, W>, blocks: &mut Bloc
                 line.put(b"\n");
                 line.print(page);
             }
-            BodyView::Advisory(payload) => print_advisory(page, word, &payload),
+            BodyView::Advisory(payload) => print_advisory(page, word, payload),
         }
     }
 }
@@ -66,7 +66,7 @@ fn begin_line(word: BlockWord) -> Line
     let mut line = Line::new();
     line.put(b"  ");
     line.put(word.kind().name().unwrap_or("ADVISORY").as_bytes());
-    if word.is_advisory() {
+    if word.flags() % 2 == 1 {
         line.put(b" advisory");
     }
     put_memory_flags(&mut line, word);
@@ -80,10 +80,11 @@ fn put_memory_flags(line: &mut Line, word: BlockWord)
     ensures text { line.new ≡ line.old ++ memory_flags word }
     ensures bound { length line.new ≤ length line.old + 10 }
 {
-    if word.is_chip() {
+    let flags = word.flags();
+    if flags / 2 % 2 == 1 {
         line.put(b" chip");
     }
-    if word.is_fast() {
+    if flags / 4 == 1 {
         line.put(b" fast");
     }
 }
@@ -140,12 +141,12 @@ fn begin_advisory_line(word: BlockWord, size: u64) -> Line
 }
 
 /// The relocations of all groups.
-fn print_relocations<W: Sink>(page: &mut Printer<'_, W>, word: BlockWord, groups: GroupsIter<'_>)
-    requires { offset_count groups.value < 2 ^ 64 }
-    ensures { Prints page.old page.new (body_lines word (Reloc groups.entry.value)) }
+fn print_relocations<W: Sink>(page: &mut Printer<'_, W>, word: BlockWord, groups: &GroupsIter<'_>)
+    requires { offset_count groups.now.value < 2 ^ 64 }
+    ensures { Prints page.old page.new (body_lines word (Reloc groups.now.value)) }
 {
     print_number(page, word, groups.offset_count(), b"\n");
-    'groups: for group in groups {
+    'groups: for group in groups.again() {
         print_group(page, &group);
     }
 }
@@ -163,12 +164,12 @@ fn print_group<W: Sink>(page: &mut Printer<'_, W>, group: &Group<'_>)
     }
 }
 
-fn print_symbols<W: Sink>(page: &mut Printer<'_, W>, word: BlockWord, symbols: SymbolsIter<'_>)
-    requires { length symbols.value < 2 ^ 64 }
-    ensures { Prints page.old page.new (body_lines word (Symbol symbols.entry.value)) }
+fn print_symbols<W: Sink>(page: &mut Printer<'_, W>, word: BlockWord, symbols: &SymbolsIter<'_>)
+    requires { length symbols.now.value < 2 ^ 64 }
+    ensures { Prints page.old page.new (body_lines word (Symbol symbols.now.value)) }
 {
     print_number(page, word, symbols.again().count() as u64, b"\n");
-    'symbols: for symbol in symbols {
+    'symbols: for symbol in symbols.again() {
         print_symbol(page, &symbol);
     }
 }
@@ -184,12 +185,12 @@ fn print_symbol<W: Sink>(page: &mut Printer<'_, W>, symbol: &SymbolView<'_>)
     print_named(page, &line, &symbol.name);
 }
 
-fn print_entries<W: Sink>(page: &mut Printer<'_, W>, word: BlockWord, entries: EntriesIter<'_>)
-    requires { length entries.value < 2 ^ 64 }
-    ensures { Prints page.old page.new (body_lines word (Ext entries.entry.value)) }
+fn print_entries<W: Sink>(page: &mut Printer<'_, W>, word: BlockWord, entries: &EntriesIter<'_>)
+    requires { length entries.now.value < 2 ^ 64 }
+    ensures { Prints page.old page.new (body_lines word (Ext entries.now.value)) }
 {
     print_number(page, word, entries.again().count() as u64, b"\n");
-    'entries: for entry in entries {
+    'entries: for entry in entries.again() {
         print_entry(page, &entry);
     }
 }

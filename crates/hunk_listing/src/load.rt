@@ -1,6 +1,7 @@
 //! The lines of a load file.
-ghost use Rattle.std.specs.Prelude.{◌≡◌};
+ghost use Rattle.std.specs.Prelude.{◌≡◌, ◌<◌};
 ghost use Rattle.hunk_words.specs.Prints.{Prints};
+ghost use Rattle.hunk_files.specs.LoadHunks.{hunk_seen};
 ghost use Rattle.hunk_listing.specs.FileLines.{hunk_lines, load_head, load_listing, rest_line};
 
 use crate::block::print_blocks;
@@ -9,6 +10,7 @@ use hunk_files::{LoadHunkView, LoadView};
 use hunk_words::{Memory, Printer, Sink};
 
 /// Lists the hunks and blocks of a load file that `rest` bytes follow.
+#[tactic(auto, unfolding(crate::specs::FileLines::rest_line))]
 pub fn print_load_file<W: Sink>(page: &mut Printer<'_, W>, file: &LoadView<'_>, rest: u64)
     ensures { Prints page.old page.new (load_listing file.now rest) }
 {
@@ -16,9 +18,11 @@ pub fn print_load_file<W: Sink>(page: &mut Printer<'_, W>, file: &LoadView<'_>, 
     // The number of hunks has 32 bits, so they can be numbered.
     let _hunks = file.hunks();
     'hunks: for (number, hunk) in file.iter().enumerate() {
-        print_hunk(page, number as u64, &hunk);
+        print_hunk(page, number as u64, hunk);
     }
-    print_rest(page, rest);
+    if rest > 0 {
+        print_rest(page, rest);
+    }
 }
 
 /// Prints the line of the file: how many hunks it has, and how many bytes they declare.
@@ -38,11 +42,10 @@ pub(crate) fn print_load_head<W: Sink>(page: &mut Printer<'_, W>, file: &LoadVie
 
 /// Prints the lines of the hunk.
 #[tactic(auto, unfolding(crate::specs::FileLines::hunk_line))]
-fn print_hunk<W: Sink>(page: &mut Printer<'_, W>, number: u64, hunk: &LoadHunkView<'_>)
-    ensures { Prints page.old page.new (hunk_lines number hunk.now.value) }
+fn print_hunk<W: Sink>(page: &mut Printer<'_, W>, number: u64, mut hunk: LoadHunkView<'_>)
+    ensures { Prints page.old page.new (hunk_lines number (hunk_seen hunk.entry)) }
 {
-    let (size, mut blocks) = (hunk.size(), hunk.blocks());
-    let (bytes, memory) = (size.bytes(), size.memory());
+    let (bytes, memory) = (hunk.size.bytes(), hunk.size.memory());
     let mut line = Line::new();
     line.put(b"hunk ");
     line.put_decimal(number);
@@ -60,17 +63,15 @@ fn print_hunk<W: Sink>(page: &mut Printer<'_, W>, number: u64, hunk: &LoadHunkVi
     }
     line.put(b"\n");
     line.print(page);
-    print_blocks(page, &mut blocks);
+    print_blocks(page, &mut hunk.blocks);
 }
 
-/// Prints the line that says how many bytes follow the file, where some do.
+/// Prints the line that says how many bytes follow the file.
 #[tactic(auto, unfolding(crate::specs::FileLines::rest_line))]
 pub(crate) fn print_rest<W: Sink>(page: &mut Printer<'_, W>, rest: u64)
+    requires { 0 < rest }
     ensures { Prints page.old page.new (rest_line rest) }
 {
-    if rest == 0 {
-        return;
-    }
     let mut line = Line::new();
     line.put(b"rest ");
     line.put_decimal(rest);

@@ -15,11 +15,14 @@ use hunk_words::{Printer, Sink};
 use std::marker::Model;
 
 /// Reports a load file that `rest` bytes follow: nothing is found in one that was accepted.
+#[tactic(auto, unfolding(crate::specs::FileLines::rest_line))]
 pub fn print_load_summary<W: Sink>(page: &mut Printer<'_, W>, file: &LoadView<'_>, rest: u64)
     ensures { Prints page.old page.new (load_summary file.now rest) }
 {
     print_load_head(page, file);
-    print_rest(page, rest);
+    if rest > 0 {
+        print_rest(page, rest);
+    }
 }
 
 /// Reports what is found in an object file, each finding as soon as it is found, and answers how

@@ -2,10 +2,10 @@
 ghost use Rattle.std.specs.Prelude.{◌≡◌, map, IfErr, IfOk};
 ghost use Rattle.std.specs.Iterator.{item_count};
 ghost use Rattle.hunk_words.specs.declared.reason.Reason.TheVariants as reasons;
-ghost use Rattle.hunk_files.specs.InPlace.{GivesPart};
+ghost use Rattle.hunk_files.specs.LoadHunks.{GivesHunk};
 ghost use Rattle.hunk_files.specs.Hunks.{block_texts};
 ghost use Rattle.hunk_files.specs.Lacks.{EndsAt, EndsHunkPart, Within};
-ghost use Rattle.hunk_files.specs.Tables.{hunk_of, size_entry};
+ghost use Rattle.hunk_files.specs.Tables.{hunk_of};
 
 use crate::blocks::{BlockViews, keep_blocks};
 use crate::load::hunk::{LoadHunk, row_of};
@@ -16,56 +16,12 @@ use std::alloc::Global;
 use std::marker::Model;
 
 /// A hunk of a load file, whose blocks are read as they are asked for. It takes no memory.
-/// Contracts see its value, and the byte of the input at which its first block begins.
 #[derive(Drop)]
 pub struct LoadHunkView<'a> {
     /// What the table declares of it.
-    size: SizeWord,
-    /// The input.
-    bytes: &'a [u8],
-    /// The byte at which its first block begins.
-    start: usize,
-}
-
-impl<'a> Model for LoadHunkView<'a> {
-    ghost use Rattle.std.specs.Prelude.{drop};
-    ghost use Rattle.hunk_blocks.specs.Placed.{Placed};
-    ghost use Rattle.hunk_files.specs.LoadFile.{HunkValue};
-    ghost use Rattle.hunk_files.specs.Hunks.{HunkAt};
-    ghost use Rattle.hunk_files.specs.InPlace.{blocks_in};
-    ghost use Rattle.hunk_files.specs.Tables.{size_entry};
-
-    ghost Value = { Placed HunkValue };
-
-    ghost view = { λ s. record {
-      place = s.start;
-      value = record { entry = size_entry s.size; blocks = blocks_in (drop s.start s.bytes.now) };
-    } };
-
-    ghost invariant = { λ s. HunkAt s.bytes.now s.start };
-}
-
-impl<'a> LoadHunkView<'a> {
-    /// What the table declares of the hunk.
-    pub fn size(&self) -> SizeWord
-        ensures { size_entry result ≡ self.now.value.entry }
-    {
-        self.size
-    }
-
-    /// The byte of the input at which the hunk's first block begins.
-    pub fn place(&self) -> u64
-        ensures { result ≡ self.now.place }
-    {
-        self.start as u64
-    }
-
-    /// The hunk's blocks, up to its END.
-    pub fn blocks(&self) -> BlockViews<'a>
-        ensures { result ≡ record { place = self.now.place; value = self.now.value.blocks } }
-    {
-        BlockViews::at(self.bytes, self.start)
-    }
+    pub size: SizeWord,
+    /// Its blocks, up to its END.
+    pub blocks: BlockViews<'a>,
 }
 
 /// The hunks of a load file that are still to come, each read where it lies. It takes no memory.
@@ -137,7 +93,7 @@ impl<'a> LoadHunkViews<'a> {
 impl<'a> Iterator for LoadHunkViews<'a> {
     type Item = LoadHunkView<'a>;
 
-    ghost next_gives = { GivesPart (λ h. block_texts h.blocks) };
+    ghost next_gives = { GivesHunk };
 
     ghost remaining = { item_count (λ s. s.value) };
 
@@ -145,14 +101,10 @@ impl<'a> Iterator for LoadHunkViews<'a> {
         let Some(size) = self.table.next() else {
             return None;
         };
-        let start = self.at;
-        let mut blocks = BlockViews::at(self.bytes, start);
-        'passing: while let Some(_) = blocks.next() {}
-        self.at = blocks.at;
-        Some(LoadHunkView {
-            size,
-            bytes: self.bytes,
-            start,
-        })
+        let blocks = BlockViews::at(self.bytes, self.at);
+        let mut passed = BlockViews::at(self.bytes, self.at);
+        'passing: while let Some(_) = passed.next() {}
+        self.at = passed.at;
+        Some(LoadHunkView { size, blocks })
     }
 }

@@ -3,7 +3,7 @@
 use crate::tests::asserts::{assert_equal, assert_equal_at};
 use crate::tests::load_file;
 use hunk_blocks::Block;
-use hunk_files::{BlockViews, LoadFile, LoadHunkView, LoadView};
+use hunk_files::{BlockViews, LoadFile, LoadView};
 use hunk_words::SizeWord;
 use std::alloc::{AllocError, Global};
 use std::process::Abort;
@@ -13,8 +13,8 @@ use test_helpers::{bytes_of, examples, spelled};
 /// The size word of a hunk or the word of a block, and where the blocks of the hunk or the block begin.
 type Seen = (u64, u32);
 
-fn push_blocks(seen: &mut Vec<Seen>, hunk: &LoadHunkView) -> Result<(), AllocError> {
-    for block in hunk.blocks() {
+fn push_blocks(seen: &mut Vec<Seen>, blocks: BlockViews) -> Result<(), AllocError> {
+    for block in blocks {
         seen.push((block.place(), block.word().word()))?;
     }
     Ok(())
@@ -25,8 +25,8 @@ fn seen(alloc: Global, bytes: &[u8]) -> Result<Vec<Seen>, Fail> {
     let (file, _) = LoadView::read(bytes)?;
     let mut seen = Vec::new(alloc);
     for hunk in file.iter() {
-        seen.push((hunk.place(), hunk.size().word))?;
-        push_blocks(&mut seen, &hunk)?;
+        seen.push((hunk.blocks.place(), hunk.size.word))?;
+        push_blocks(&mut seen, hunk.blocks)?;
     }
     Ok(seen)
 }
@@ -160,9 +160,9 @@ fn count(blocks: BlockViews) -> u64 {
 fn expect_hunks(rt: &impl Abort, file: &LoadView, start: u64) {
     let mut at = start;
     for hunk in file.iter() {
-        assert_equal(rt, hunk.place(), at);
-        assert_equal(rt, hunk.size().word, 1);
-        assert_equal(rt, count(hunk.blocks()), 2);
+        assert_equal(rt, hunk.blocks.place(), at);
+        assert_equal(rt, hunk.size.word, 1);
+        assert_equal(rt, count(hunk.blocks), 2);
         at = at.saturating_add(12);
     }
 }

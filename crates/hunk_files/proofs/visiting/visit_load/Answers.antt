@@ -1,6 +1,5 @@
-use Rattle.std.proofs.Common.{◌+◌, List, length, map, ap, subst, arith}
+use Rattle.std.proofs.Common.{◌+◌, length, map, ap, arith}
 use Rattle.hunk_blocks.specs.Placed.{Placed}
-use Rattle.hunk_blocks.specs.Values.{BlockValue}
 use Rattle.hunk_files.specs.LoadFile.{LoadFileValue}
 use Rattle.hunk_files.specs.StandingBlocks.{hunk_blocks, hunks_blocks, load_blocks}
 use Rattle.hunk_files.proofs.FindingSteps.{taken_on}
@@ -16,8 +15,8 @@ visiting-preserved g c =
     let view = c.in-Some.view in
     let step = c.in-Some.ensures.steps in (
       omega (arith, c.visiting.invariant.0, ap (λ (hs : Placed LoadFileValue). length hs.value) step.0),
-      taken_on takes g.met.T.TakesBlocks.more _ _ _ (hunk_blocks 0 hunk view.place view.value.blocks) (hunks_blocks 0 (hunk + 1) new.place (map (λ h. h.blocks) new.value))
+      taken_on takes g.met.T.TakesBlocks.more _ _ _ (hunk_blocks 0 hunk view.blocks.place view.blocks.value) (hunks_blocks 0 (hunk + 1) new.place (map (λ h. h.blocks) new.value))
           (hunks_blocks 0 hunk old.place (map (λ h. h.blocks) old.value)) (load_blocks c.args.file.now)
-          (load_hunk_first hunk old new view step) c.visiting.invariant.1
-          (subst (λ (p : Placed (List BlockValue)). takes c.visiting.taker (hunk_blocks 0 hunk p.place p.value) c.visit_blocks-end.new.taker) c.blocks-in-Some.ensures c.visit_blocks-end.ensures.taken),
+          (load_hunk_first hunk old new _ step) c.visiting.invariant.1
+          c.visit_blocks-end.ensures.taken,
     )

@@ -19,23 +19,23 @@ returns-in_default-clause-steps c =
 pub at-blocks-requires : goal.at-blocks-requires
 at-blocks-requires c = (next_hunk_of c.self.inside.table (size_entry c.in-Some.size) c.next.new.self c.self.inside.bytes.now c.self.inside.at c.in-Some.ensures.steps c.self.invariant).here
 
-pub invariant_of-result : goal.invariant_of-result
-invariant_of-result c = (next_hunk_of c.self.inside.table (size_entry c.in-Some.size) c.next.new.self c.self.inside.bytes.now c.self.inside.at c.in-Some.ensures.steps c.self.invariant).here
+pub at-passed-requires : goal.at-passed-requires
+at-passed-requires c = (next_hunk_of c.self.inside.table (size_entry c.in-Some.size) c.next.new.self c.self.inside.bytes.now c.self.inside.at c.in-Some.ensures.steps c.self.invariant).here
 
 pub passing-init : goal.passing-init
 passing-init c = refl
 
 pub passing-preserved : goal.passing-preserved
-passing-preserved c = end_stays block_text c.passing.blocks c.next-in-passing.new.self c.in-Some-next.field-0 c.in-Some-next.ensures.steps ∙ c.passing.invariant
+passing-preserved c = end_stays block_text c.passing.passed c.next-in-passing.new.self c.in-Some-next.field-0 c.in-Some-next.ensures.steps ∙ c.passing.invariant
 
 pub invariant_of-self-2 : goal.invariant_of-self-2
-invariant_of-self-2 c = let n = next_hunk_of c.self.inside.table (size_entry c.in-Some.size) c.next.new.self c.self.inside.bytes.now c.self.inside.at c.in-Some.ensures.steps c.self.invariant in n.left _ (ap (λ (p : Placed _). p.place) c.blocks-2.view_is ∙ end_passed block_text c.at-blocks.result c.passing.blocks c.next-in-passing.new.self c.passing.invariant c.in_default-next.ensures.steps ∙ ap (end_of block_text) (c.at-blocks.ensures n.here))
+invariant_of-self-2 c = let n = next_hunk_of c.self.inside.table (size_entry c.in-Some.size) c.next.new.self c.self.inside.bytes.now c.self.inside.at c.in-Some.ensures.steps c.self.invariant in n.left _ (ap (λ (p : Placed _). p.place) c.passed.view_is ∙ end_passed block_text c.at-passed.result c.passing.passed c.next-in-passing.new.self c.passing.invariant c.in_default-next.ensures.steps ∙ ap (end_of block_text) (c.at-passed.ensures n.here))
 
 pub returns-clause-steps : goal.returns-clause-steps
 returns-clause-steps c =
     let n = next_hunk_of c.self.inside.table (size_entry c.in-Some.size) c.next.new.self c.self.inside.bytes.now c.self.inside.at c.in-Some.ensures.steps c.self.invariant in
-    let gives = hunk_gives c.self.inside.table (size_entry c.in-Some.size) c.next.new.self c.self.inside.bytes.now c.self.inside.at n _ (ap (λ (p : Placed _). p.place) c.blocks-2.view_is ∙ end_passed block_text c.at-blocks.result c.passing.blocks c.next-in-passing.new.self c.passing.invariant c.in_default-next.ensures.steps ∙ ap (end_of block_text) (c.at-blocks.ensures n.here)) in
+    let gives = hunk_gives c.self.inside.table (size_entry c.in-Some.size) c.next.new.self c.self.inside.bytes.now c.self.inside.at n c.at-blocks.result (c.at-blocks.ensures n.here) _ (ap (λ (p : Placed _). p.place) c.passed.view_is ∙ end_passed block_text c.at-passed.result c.passing.passed c.next-in-passing.new.self c.passing.invariant c.in_default-next.ensures.steps ∙ ap (end_of block_text) (c.at-passed.ensures n.here)) in
     (sym c.self.view_is ∙ gives.0, gives.1)
 
 pub returns-clause-goes : goal.returns-clause-goes
-returns-clause-goes c = part_less hunk_text _ (λ s. tt) c.args.self.now _ _ (returns-clause-steps c)
+returns-clause-goes c = let less = part_less hunk_text _ (λ s. tt) c.args.self.now _ _ (returns-clause-steps c) in record { on = λ h. less.on h; keeps = less.keeps; rests = λ h. tt }

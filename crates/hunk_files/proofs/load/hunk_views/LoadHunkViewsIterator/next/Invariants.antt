@@ -4,4 +4,4 @@ use Rattle.hunk_files.proofs.Taking.{end_of}
 use Rattle.hunk_files.proofs.load.hunk_views.LoadHunkViewsIterator.next.Given as goal
 
 abbrev pub invariant-passing : goal.invariant-passing
-invariant-passing l = end_of block_text l.blocks ≡ end_of block_text l.initial.blocks
+invariant-passing l = end_of block_text l.passed ≡ end_of block_text l.initial.passed
