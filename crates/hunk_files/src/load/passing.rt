@@ -6,7 +6,7 @@ ghost use Rattle.hunk_files.specs.Passing.{IsContent, IsCounted, IsGroup, IsPass
 ghost use Rattle.hunk_grammar.specs.Positions.{EndsWithin};
 
 use hunk_grammar::{OpenHunk, Phase, Position, by_kind, is_outside};
-use hunk_words::{BlockWord, NAME_LIMIT, SizeWord, word_at};
+use hunk_words::{BlockWord, CONTENT_LIMIT, NAME_LIMIT, SizeWord, word_at};
 
 /// The longword behind what is passed over at once from `at` on, in a hunk of `declared` longs, and
 /// the position there: rows of the table up to its last, or blocks, all of them whole. Nothing of it
@@ -148,8 +148,7 @@ fn behind_content(bytes: &[u8], at: usize, declared: u32) -> Option<usize>
     if at >= whole {
         return None;
     }
-    let word = word_at(bytes, at);
-    let size = SizeWord { word, extra: 0 }.longs();
+    let size = word_at(bytes, at) % CONTENT_LIMIT;
     if size > declared || size as usize > whole - at - 1 {
         return None;
     }
