@@ -1,27 +1,21 @@
 -- No longword of a load text is refused.
 use Rattle.std.proofs.Common.{◌≡◌, ◌≢◌, ℕ, ◌+◌, ◌-◌, ◌*◌, ◌^◌, ◌<◌, ◌≤◌, Bool, true, false, ◌||◌, ltb, eqb, List, [], ◌∷◌, length, map, refl, sym, ap, ap₂, ◌∙◌, arith, Some, None}
-use Rattle.std.specs.Prelude.{if◌then◌else◌, cond}
-use Rattle.std.specs.List.{flat_map, AllByRecursion}
-use Rattle.std.proofs.lemmas.Bool.{lt-ltb, le-ltb, eq-eqb, ne_eqb}
-use Rattle.std.proofs.lemmas.List.{length-map}
+use Rattle.std.specs.{Prelude.{if◌then◌else◌, cond}, List.{flat_map, AllByRecursion}}
+use Rattle.std.proofs.lemmas.{Bool.{lt-ltb, le-ltb, eq-eqb, ne_eqb}, List.length-map}
 use Rattle.hunk_words.specs.declared.reason.Reason.TheVariants as reasons
-use Rattle.hunk_words.specs.Bits.{size_longs, has_both_bits}
-use Rattle.hunk_words.specs.Longs.{IsLong, AreLongs}
+use Rattle.hunk_words.specs.{Bits.{size_longs, has_both_bits}, Longs.{IsLong, AreLongs}}
 use Rattle.hunk_blocks.specs.Values.{RelocGroup, SymbolEntry, BlockBody, BlockValue, Name, Code, Data, Bss, Reloc, Ext, Symbol, Advisory, End, FitsWord, IsPayload, IsGroup, IsSymbolEntry}
 use Rattle.hunk_blocks.specs.Parts.{Part, Part as parts, each, group_parts, symbol_parts, body_parts, block_parts}
-use Rattle.hunk_blocks.specs.declared.mode.Mode.TheVariants as modes
 use Rattle.hunk_blocks.specs.Modes.{IsOfLoadMode}
+use Rattle.hunk_blocks.specs.declared.mode.Mode.TheVariants as modes
 use Rattle.hunk_files.specs.LoadFile.{TableEntry, LoadFileValue, IsTableEntry, standing, AreInOrder, IsInside, FitsGroup, FitsHunk, IsHunkBlock, IsHunk, IsLoadFile, declared_longs}
-use Rattle.hunk_grammar.specs.Standings.{BlockStanding, Beside, Content, Relocating, Ending, first_of, is_content, refuse_standing}
-use Rattle.hunk_grammar.proofs.BlockWords.{word_split}
-use Rattle.hunk_grammar.specs.Roles.{Place, InBlock, refuse, refuse_part, Role as roles}
 use Rattle.hunk_files.specs.LoadText.{entry_labelled, header_labelled, block_labelled, blocks_labelled, hunk_labelled, table, labelled}
-use Rattle.hunk_files.proofs.FileText.{standings, entries_fit}
-use Rattle.hunk_blocks.proofs.Lists.{passes_else, passes_then, All-append}
 use Rattle.hunk_files.specs.WordsRead.{IsAccepted, AreAccepted}
-use Rattle.hunk_blocks.proofs.Admitted.{word_passes}
-use Rattle.hunk_files.proofs.HunkOrder.{standing_is}
-use Rattle.hunk_files.proofs.FileProgress.{place_in}
+use Rattle.hunk_grammar.specs.Standings.{BlockStanding, Beside, Content, Relocating, Ending, first_of, is_content, refuse_standing}
+use Rattle.hunk_grammar.specs.Roles.{Place, InBlock, refuse, refuse_part, Role as roles}
+use Rattle.hunk_grammar.proofs.BlockWords.{word_split}
+use Rattle.hunk_files.proofs.{FileText.{standings, entries_fit}, HunkOrder.standing_is, FileProgress.place_in}
+use Rattle.hunk_blocks.proofs.{Lists.{passes_else, passes_then, All-append}, Admitted.word_passes}
 
 pub All-flat_map : {A B : Type 0} (P : A → Type 0) (Q : B → Type 0) (f : A → List B) → ((x : A) → P x → AllByRecursion Q (f x)) → (xs : List A) → AllByRecursion P xs → AllByRecursion Q (flat_map f xs)
 All-flat_map P Q f each [] h = tt

@@ -1,17 +1,11 @@
 -- The text of a hunk is cut into its blocks and what stands behind it.
 use Rattle.std.proofs.Common.{◌≡◌, ℕ, Bool, true, false, zero, suc, ◌≤◌, List, [], ◌∷◌, ◌++◌, length, refl, sym, ap, ◌∙◌, append_assoc, length-append, arith}
-use Rattle.std.specs.Prelude.{if◌then◌else◌}
-use Rattle.std.specs.List.{AllByRecursion}
-use Rattle.hunk_blocks.specs.Values.{BlockValue, IsBlock}
-use Rattle.hunk_blocks.specs.Parts.{block_text}
-use Rattle.hunk_blocks.specs.Cuts.{Cut, cut_map, block_cut}
+use Rattle.std.specs.{Prelude.if◌then◌else◌, List.AllByRecursion}
+use Rattle.hunk_blocks.specs.{Values.{BlockValue, IsBlock}, Parts.block_text, Cuts.{Cut, cut_map, block_cut}}
 use Rattle.hunk_blocks.proofs.CutLaws.{cut, block_cut_is}
 use Rattle.hunk_grammar.specs.Standings.{is_ending}
-use Rattle.hunk_files.specs.LoadFile.{AreInOrder, standing}
-use Rattle.hunk_files.specs.Hunks.{block_texts}
-use Rattle.hunk_files.specs.Cuts.{blocks_cut, hunk_cut}
-use Rattle.hunk_files.proofs.FileText.{standings}
-use Rattle.hunk_files.proofs.Peel.{order_left, order_stops}
+use Rattle.hunk_files.specs.{LoadFile.{AreInOrder, standing}, Hunks.block_texts, Cuts.{blocks_cut, hunk_cut}}
+use Rattle.hunk_files.proofs.{FileText.standings, Peel.{order_left, order_stops}}
 
 -- each block has a longword
 pub few_blocks : (blocks : List BlockValue) → length blocks ≤ length (block_texts blocks)

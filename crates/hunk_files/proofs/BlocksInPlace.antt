@@ -1,25 +1,16 @@
 -- The blocks of a hunk, read where they lie.
 use Rattle.std.proofs.Common.{◌≡◌, ℕ, Bool, true, false, ◌+◌, ◌*◌, ◌<◌, ◌≤◌, List, [], ◌∷◌, ◌++◌, length, take, drop, refl, sym, ap, ap₂, subst, ◌∙◌, arith, inl, inr, Some}
-use Rattle.std.specs.List.{AllByRecursion}
-use Rattle.std.specs.Prelude.{◌⊎◌}
+use Rattle.std.specs.{List.AllByRecursion, Prelude.◌⊎◌}
 use Rattle.std.proofs.lemmas.List.{drop_all, length-drop, length-take-le}
-use Rattle.hunk_words.specs.Longs.{longs, bytes_of, AreLongs}
+use Rattle.hunk_words.specs.Longs.{longs, bytes_of, AreLongs, IsLong}
 use Rattle.hunk_words.proofs.LongLaws.{length-bytes_of, longs-bytes_of}
-use Rattle.hunk_blocks.specs.Values.{BlockValue, IsBlock}
-use Rattle.hunk_blocks.specs.Parts.{block_text}
-use Rattle.hunk_blocks.specs.Placed.{Placed}
-use Rattle.hunk_blocks.specs.Begins.{BeginsWithSomeBlock, IsFrontBlock}
-use Rattle.hunk_blocks.specs.Cuts.{Cut}
-use Rattle.hunk_blocks.proofs.BlockLongs.{block_longs}
-use Rattle.hunk_blocks.proofs.Lists.{All-append}
+use Rattle.hunk_blocks.specs.{Values.{BlockValue, IsBlock}, Parts.block_text, Placed.Placed}
+use Rattle.hunk_blocks.specs.{Begins.{BeginsWithSomeBlock, IsFrontBlock}, Cuts.Cut}
+use Rattle.hunk_blocks.proofs.{BlockLongs.block_longs, Lists.All-append}
 use Rattle.hunk_grammar.specs.Standings.{is_ending}
-use Rattle.hunk_words.specs.Longs.{IsLong}
-use Rattle.hunk_files.specs.LoadFile.{AreInOrder, standing}
-use Rattle.hunk_files.specs.Hunks.{BlockAt, HunkAt, IsRead, block_texts}
-use Rattle.hunk_files.specs.Cuts.{blocks_cut, hunk_cut}
-use Rattle.hunk_files.specs.InPlace.{BeginsWithBlocks, GivesPart, blocks_in}
-use Rattle.hunk_files.proofs.BlockCuts.{hunk_cut_is}
-use Rattle.hunk_files.proofs.FileText.{standings}
+use Rattle.hunk_files.specs.{LoadFile.{AreInOrder, standing}, Hunks.{BlockAt, HunkAt, IsRead, block_texts}}
+use Rattle.hunk_files.specs.{Cuts.{blocks_cut, hunk_cut}, InPlace.{BeginsWithBlocks, GivesPart, blocks_in}}
+use Rattle.hunk_files.proofs.{BlockCuts.hunk_cut_is, FileText.standings}
 use Rattle.hunk_files.proofs.HunkBlocks.{block_inside, block_read, some_block}
 use Rattle.hunk_files.proofs.PlaceLaws.{First, first_of, stand_behind, stand_first, text_inside}
 use Rattle.hunk_files.proofs.Peel.{order_left, order_stops}

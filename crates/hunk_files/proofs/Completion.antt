@@ -3,17 +3,14 @@ use Rattle.std.proofs.Common.{◌≡◌, ℕ, zero, suc, ◌+◌, ◌-◌, ◌*�
 use Rattle.std.specs.List.{AllByRecursion}
 use Rattle.std.proofs.lemmas.Bool.{lt-ltb, le-ltb, eq-eqb}
 use Rattle.hunk_words.specs.declared.reason.Reason.TheVariants as reasons
-use Rattle.hunk_words.specs.Bits.{kind}
-use Rattle.hunk_words.specs.Longs.{IsLong}
-use Rattle.hunk_blocks.specs.Values.{BlockBody, BlockValue, Bss, End}
-use Rattle.hunk_blocks.specs.Parts.{Part, Part as parts}
+use Rattle.hunk_words.specs.{Bits.kind, Longs.IsLong}
+use Rattle.hunk_blocks.specs.{Values.{BlockBody, BlockValue, Bss, End}, Parts.{Part, Part as parts}}
 use Rattle.hunk_blocks.specs.BlockSteps.{ForName, ForBss, Inside, AtCount, AtSize, AtTarget, InOffsets, InExtOffsets, BlockNext, Open, Whole, part_of, step_inside, Follows}
 use Rattle.hunk_blocks.proofs.BlockCompletion as inside
 use Rattle.hunk_blocks.proofs.Lists.{passes_else, passes_then}
 use Rattle.hunk_grammar.specs.Standings.{BlockStanding, Beside, Content, Relocating, Ending}
 use Rattle.hunk_grammar.specs.Roles.{Place, Role, InBlock, refuse, refuse_part}
-use Rattle.hunk_files.specs.LoadFile.{TableEntry, HunkValue, LoadFileValue, standing}
-use Rattle.hunk_files.specs.Fault.{completing}
+use Rattle.hunk_files.specs.{LoadFile.{TableEntry, HunkValue, LoadFileValue, standing}, Fault.completing}
 use Rattle.hunk_files.specs.FileSteps.{table_entry, hunk, block, HunkSoFar, Progress, AtFirst, AtResident, AtTableSize, AtFirstHunk, AtLastHunk, AtSizeWord, AtAttributes, AtBlock, InBody, Next, More, Finished, place_of, role_of, open_hunk, rows, with_block, close_by, after, step_file, Leads}
 use Rattle.hunk_files.specs.WordsRead.{Labelled, IsAccepted}
 use Rattle.hunk_files.proofs.HunkProgress.{Within, NextFits, step_fits}

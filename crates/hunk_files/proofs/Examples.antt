@@ -2,15 +2,11 @@
 use Rattle.std.specs.Prelude.{◌≡◌, ℕ, List, [], ◌∷◌, map, Option, Some, None, true, false, refl}
 use Rattle.std.proofs.Common.{arith, ◌<◌, ◌^◌}
 use Rattle.hunk_blocks.specs.Values.{IsGroup, RelocGroup, BlockBody, BlockValue, Code, Data, Bss, Reloc, End}
-use Rattle.hunk_files.specs.LoadFile.{IsLoadFile, LoadFileValue, HunkValue}
-use Rattle.hunk_words.specs.declared.reason.Reason.{Reason}
-use Rattle.hunk_words.specs.declared.reason.Reason.TheVariants as reasons
-use Rattle.hunk_words.specs.Longs.{longs, bytes_of}
-use Rattle.hunk_words.specs.Bits.{kind}
 use Rattle.hunk_blocks.specs.Parts.{Part as parts}
+use Rattle.hunk_files.specs.{LoadFile.{IsLoadFile, LoadFileValue, HunkValue}, LoadText.{text, labelled}, Image.image}
+use Rattle.hunk_words.specs.{declared.reason.Reason.Reason, Longs.{longs, bytes_of}, Bits.kind}
+use Rattle.hunk_words.specs.declared.reason.Reason.TheVariants as reasons
 use Rattle.hunk_grammar.specs.Roles.{refuse, Place, InBlock, Role as roles}
-use Rattle.hunk_files.specs.LoadText.{text, labelled}
-use Rattle.hunk_files.specs.Image.{image}
 
 block : ℕ → BlockBody → BlockValue
 block word body = record { word = word; body = body }

@@ -1,23 +1,17 @@
 -- Files by what their first longword announces.
 use Rattle.std.proofs.Common.{◌≡◌, ◌≤◌, ◌<◌, ◌≢◌, ℕ, List, [], ◌∷◌, ◌++◌, Result, Ok, Err, length, take, drop, refl, inl, inr, ap, sym, subst, ◌∙◌, arith, append_assoc, lit<}
-use Rattle.std.specs.Prelude.{IfErr}
-use Rattle.std.specs.List.{flat_map}
+use Rattle.std.specs.{Prelude.IfErr, List.flat_map}
 use Rattle.std.proofs.lemmas.List.{take-append-drop}
-use Rattle.hunk_words.specs.Longs.{IsLong, bytes_of, longs}
-use Rattle.hunk_words.specs.declared.fault.Fault.{Fault}
+use Rattle.hunk_words.specs.{Longs.{IsLong, bytes_of, longs}, declared.fault.Fault.Fault}
 use Rattle.hunk_words.specs.declared.reason.Reason.TheVariants as reasons
 use Rattle.hunk_words.proofs.LongLaws.{bytes_of-cons, longs-bytes_of}
 use Rattle.hunk_blocks.specs.Parts.{block_text}
-use Rattle.hunk_grammar.specs.declared.file_kind.Sniff.{Sniff}
+use Rattle.hunk_grammar.specs.{declared.file_kind.Sniff.Sniff, FileKind.sniffed}
 use Rattle.hunk_grammar.specs.declared.file_kind.Sniff.TheVariants as sniffs
-use Rattle.hunk_grammar.specs.FileKind.{sniffed}
-use Rattle.hunk_files.specs.LoadFile.{IsLoadFile, LoadFileValue}
-use Rattle.hunk_files.specs.LoadText.{text}
-use Rattle.hunk_files.specs.Fault.{BeginsWithLoadFile}
+use Rattle.hunk_files.specs.{LoadFile.{IsLoadFile, LoadFileValue}, LoadText.text, Fault.BeginsWithLoadFile}
 use Rattle.hunk_files.specs.ObjectFile.{ObjectFileValue, object_text}
 use Rattle.hunk_files.specs.HunkFile.{AreFile, AreObjectFile, EndsFilePart, IsFileOf, IsMemory}
-use Rattle.hunk_files.specs.Lacks.{EndsAt, EndsLoadPart, EndsObjectPart}
-use Rattle.hunk_files.specs.declared.hunk_file.HunkFile.{HunkFile}
+use Rattle.hunk_files.specs.{Lacks.{EndsAt, EndsLoadPart, EndsObjectPart}, declared.hunk_file.HunkFile.HunkFile}
 use Rattle.hunk_files.specs.declared.hunk_file.HunkFile.TheVariants as files
 use Rattle.hunk_files.proofs.TextParts.{after_first, first_split}
 

@@ -1,32 +1,28 @@
 -- What has been read of a load file is the text up to there, and it fits as long as no longword was refused.
 use Rattle.std.proofs.Common.{◌≡◌, ℕ, zero, suc, ◌+◌, ◌-◌, ◌<◌, ◌≤◌, Bool, true, false, ◌||◌, ltb, eqb, List, [], ◌∷◌, ◌++◌, length, refl, sym, ap, subst, ◌∙◌, append_assoc, append-nil, arith, Some, None}
-use Rattle.std.specs.Prelude.{IsTrue, cond}
-use Rattle.std.specs.List.{flat_map, AllByRecursion}
-use Rattle.std.proofs.lemmas.Bool.{ltb-false, eqb-true, eqb-false}
-use Rattle.std.proofs.lemmas.List.{length-map}
-use Rattle.hunk_words.specs.declared.block_word.Kind.{Kind}
-use Rattle.hunk_words.specs.declared.reason.Reason.TheVariants as reasons
-use Rattle.hunk_words.specs.Bits.{kind, is_advisory, size_longs, has_both_bits}
+use Rattle.std.proofs.Math.Bool.{or-false, or-true}
+use Rattle.std.specs.{Prelude.{IsTrue, cond}, List.{flat_map, AllByRecursion}}
+use Rattle.std.proofs.lemmas.{Bool.{ltb-false, eqb-true, eqb-false}, List.length-map}
+use Rattle.hunk_words.specs.{declared.block_word.Kind.Kind, Bits.{kind, is_advisory, size_longs, has_both_bits}}
 use Rattle.hunk_words.specs.Longs.{IsLong}
+use Rattle.hunk_words.specs.declared.reason.Reason.TheVariants as reasons
 use Rattle.hunk_blocks.specs.declared.mode.Mode.TheVariants as modes
-use Rattle.hunk_blocks.specs.Modes.{refuse_alone_word}
-use Rattle.hunk_blocks.specs.Values.{BlockBody, BlockValue, FitsWord}
+use Rattle.hunk_blocks.specs.{Modes.refuse_alone_word, Values.{BlockBody, BlockValue, FitsWord}}
 use Rattle.hunk_blocks.specs.Parts.{Part, Part as parts}
-use Rattle.hunk_files.specs.LoadFile.{TableEntry, HunkValue, IsTableEntry, standing, AreInOrder, IsHunkBlock, IsHunk, IsLoadFile}
-use Rattle.hunk_grammar.specs.Standings.{BlockStanding, Beside, Content, Relocating, Ending, is_content, is_ending, refuse_standing, standing_of_kind}
-use Rattle.hunk_grammar.proofs.BlockWords.{word_split}
-use Rattle.hunk_grammar.specs.Roles.{Place, Role, InBlock, refuse, refuse_part, refuse_kind, Role as roles}
-use Rattle.hunk_files.specs.LoadText.{entry_labelled, block_labelled, blocks_labelled, hunk_labelled, labelled, table}
 use Rattle.hunk_blocks.specs.BlockSteps.{BlockNext, Open, Whole, part_of, step_inside, begin_body}
+use Rattle.hunk_files.specs.LoadFile.{TableEntry, HunkValue, IsTableEntry, standing, AreInOrder, IsHunkBlock, IsHunk, IsLoadFile}
+use Rattle.hunk_files.specs.LoadText.{entry_labelled, block_labelled, blocks_labelled, hunk_labelled, labelled, table}
+use Rattle.hunk_files.specs.FileSteps.{table_entry, hunk, block, HunkSoFar, Progress, AtFirst, AtResident, AtTableSize, AtFirstHunk, AtLastHunk, AtSizeWord, AtAttributes, AtBlock, InBody, Next, More, Finished, place_of, role_of, open_hunk, rows, with_block, close, close_by, after, sized_row, step_file}
+use Rattle.hunk_files.specs.WordsRead.{Labelled}
+use Rattle.hunk_grammar.specs.Standings.{BlockStanding, Beside, Content, Relocating, Ending, is_content, is_ending, refuse_standing, standing_of_kind}
+use Rattle.hunk_grammar.specs.Roles.{Place, Role, InBlock, refuse, refuse_part, refuse_kind, Role as roles}
+use Rattle.hunk_grammar.proofs.BlockWords.{word_split}
 use Rattle.hunk_blocks.proofs.BlockProgress.{read_inside, read_next, step_reads, begin_reads}
+use Rattle.hunk_blocks.proofs.Lists.{All-more, map-more, flat_map-more, more_owed, passed_false, passed_true, passed_both, passes_else, passes_then}
 use Rattle.hunk_files.proofs.HunkProgress.{BodyFits, begin_fits, step_fits, alone_passes}
-use Rattle.hunk_files.proofs.HunkProgress as blocks
 use Rattle.hunk_files.proofs.FileText.{in_place, standings}
 use Rattle.hunk_files.proofs.HunkOrder.{leads_one, leads_end, end_stands, first_both, standing_is}
-use Rattle.hunk_files.specs.FileSteps.{table_entry, hunk, block, HunkSoFar, Progress, AtFirst, AtResident, AtTableSize, AtFirstHunk, AtLastHunk, AtSizeWord, AtAttributes, AtBlock, InBody, Next, More, Finished, place_of, role_of, open_hunk, rows, with_block, close, close_by, after, sized_row, step_file}
-use Rattle.hunk_blocks.proofs.Lists.{All-more, map-more, flat_map-more, more_owed, passed_false, passed_true, passed_both, passes_else, passes_then}
-use Rattle.std.proofs.Math.Bool.{or-false, or-true}
-use Rattle.hunk_files.specs.WordsRead.{Labelled}
+use Rattle.hunk_files.proofs.HunkProgress as blocks
 
 -- ---- the text so far
 

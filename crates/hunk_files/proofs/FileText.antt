@@ -1,18 +1,16 @@
 -- The text of a load file leads from the start to its value.
 use Rattle.std.proofs.Common.{◌≡◌, ℕ, Bool, true, false, ◌||◌, List, [], ◌∷◌, ◌++◌, length, map, refl, sym, ap, subst, append_assoc, append-nil}
 use Rattle.std.proofs.lemmas.List.{length-map}
-use Rattle.std.specs.Prelude.{if◌then◌else◌}
-use Rattle.std.specs.List.{flat_map, AllByRecursion}
+use Rattle.std.specs.{Prelude.if◌then◌else◌, List.{flat_map, AllByRecursion}}
 use Rattle.hunk_words.specs.Bits.{kind, has_both_bits, size_longs}
-use Rattle.hunk_blocks.specs.Values.{BlockValue}
-use Rattle.hunk_blocks.specs.Parts.{Part, body_parts}
+use Rattle.hunk_blocks.specs.{Values.BlockValue, Parts.{Part, body_parts}}
+use Rattle.hunk_blocks.specs.BlockSteps.{BlockNext, Open, Whole, step_inside, begin_body, Follows}
 use Rattle.hunk_files.specs.LoadFile.{TableEntry, HunkValue, LoadFileValue, IsTableEntry, standing, AreInOrder, IsHunkBlock, IsHunk, IsLoadFile}
+use Rattle.hunk_files.specs.LoadText.{table, entry_labelled, header_labelled, block_labelled, blocks_labelled, hunk_labelled, labelled}
+use Rattle.hunk_files.specs.FileSteps.{table_entry, hunk, HunkSoFar, AtFirst, AtSizeWord, AtBlock, Next, More, Finished, place_of, open_hunk, rows, close_by, close, after, sized_row, step_file, Leads}
 use Rattle.hunk_grammar.specs.Standings.{BlockStanding, Beside, Content, Relocating, Ending, is_content}
 use Rattle.hunk_grammar.specs.Roles.{Place, Role, InBlock, Role as roles}
-use Rattle.hunk_files.specs.LoadText.{table, entry_labelled, header_labelled, block_labelled, blocks_labelled, hunk_labelled, labelled}
-use Rattle.hunk_blocks.specs.BlockSteps.{BlockNext, Open, Whole, step_inside, begin_body, Follows}
 use Rattle.hunk_blocks.proofs.BlockText.{body_follows}
-use Rattle.hunk_files.specs.FileSteps.{table_entry, hunk, HunkSoFar, AtFirst, AtSizeWord, AtBlock, Next, More, Finished, place_of, open_hunk, rows, close_by, close, after, sized_row, step_file, Leads}
 
 pub Leads-append : (a b c : Next) (ls ms : List (Role × ℕ)) → Leads a ls b → Leads b ms c → Leads a (ls ++ ms) c
 Leads-append a b c [] ms h k = subst (λ (x : Next). Leads x ms c) (sym h) k

@@ -1,17 +1,11 @@
 -- What the hunks of a load file in memory stand for.
 use Rattle.std.proofs.Common.{◌≡◌, ℕ, zero, suc, ◌+◌, ◌*◌, ◌^◌, ◌<◌, ◌≤◌, List, [], ◌∷◌, ◌++◌, length, map, get_or, set, take, drop, refl, sym, ap, ap₂, subst, ◌∙◌, arith, Some, Option}
-use Rattle.std.specs.Prelude.{slice_get}
-use Rattle.std.specs.Option.{option_map}
-use Rattle.std.specs.List.{sum_by}
-use Rattle.std.proofs.lemmas.Option.{slice_get-map, slice_get_read}
-use Rattle.std.proofs.lemmas.List.{length-map, take_at, take_all}
+use Rattle.std.specs.{Prelude.slice_get, Option.option_map, List.sum_by}
+use Rattle.std.proofs.lemmas.{Option.{slice_get-map, slice_get_read}, List.{length-map, take_at, take_all}}
 use Rattle.std.proofs.lemmas.List.Sums.{sum_by-cons, sum_by_more}
 use Rattle.hunk_words.specs.Bits.{size_longs}
-use Rattle.hunk_files.specs.declared.load.hunk.LoadHunk.{LoadHunk}
-use Rattle.hunk_files.specs.LoadFile.{TableEntry, HunkValue, LoadFileValue}
-use Rattle.hunk_files.specs.LoadText.{table}
-use Rattle.hunk_files.specs.Image.{declared_bytes}
-use Rattle.hunk_files.specs.Strip.{strip_hunk, strip_file}
+use Rattle.hunk_files.specs.{declared.load.hunk.LoadHunk.LoadHunk, LoadFile.{TableEntry, HunkValue, LoadFileValue}}
+use Rattle.hunk_files.specs.{LoadText.table, Image.declared_bytes, Strip.{strip_hunk, strip_file}}
 use Rattle.hunk_files.specs.Tables.{row_entry, hunk_of}
 
 -- ---- one hunk

@@ -2,22 +2,17 @@
 use Rattle.std.proofs.Common.{◌≡◌, ℕ, ◌+◌, ◌-◌, ◌*◌, ◌/◌, ◌≤◌, Bool, true, false, List, [], ◌∷◌, ◌++◌, length, get_or, take, drop, refl, sym, ap, ap₂, subst, ◌∙◌, append_assoc, append-nil, length-append, take-append-drop, arith}
 use borrow.Rule.Slice.PartMut.{put_mid}
 use Rattle.std.specs.List.{flat_map, fold, AllByRecursion}
-use Rattle.std.proofs.lemmas.List.{length-drop, length-take-le, take_all}
-use Rattle.std.proofs.lemmas.List.Folds.{fold-map}
-use Rattle.std.proofs.lemmas.List.Sums.{fold-append, sum_by-cons}
-use Rattle.std.proofs.lemmas.Slice.{take-put_mid, drop-put_mid}
-use Rattle.hunk_words.specs.Bits.{size_longs}
-use Rattle.hunk_words.specs.Longs.{bytes_of}
-use Rattle.hunk_blocks.proofs.Fronts.{All-right}
-use Rattle.hunk_blocks.proofs.Lists.{flat_map-more}
+use Rattle.std.proofs.lemmas.{List.{length-drop, length-take-le, take_all}, List.Folds.fold-map}
+use Rattle.std.proofs.lemmas.{List.Sums.{fold-append, sum_by-cons}, Slice.{take-put_mid, drop-put_mid}}
+use Rattle.hunk_words.specs.{Bits.size_longs, Longs.bytes_of}
+use Rattle.hunk_blocks.proofs.{Fronts.All-right, Lists.flat_map-more}
 use Rattle.hunk_blocks.specs.Values.{BlockBody, BlockValue, RelocGroup, Code, Data, Bss, Reloc, Ext, End}
 use Rattle.hunk_grammar.specs.Standings.{is_content}
 use Rattle.hunk_files.specs.Filling.{Fits, filled_by, memory_of}
 use Rattle.hunk_files.specs.Image.{add_at, block_content, block_relocations, declared_bytes, filled, group_relocations, image, images, relocated}
 use Rattle.hunk_files.specs.LoadFile.{HunkValue, LoadFileValue, TableEntry, AreInOrder, FitsHunk, IsHunk, IsHunkBlock, declared_longs, standing}
 use Rattle.hunk_files.specs.LoadText.{table}
-use Rattle.hunk_files.proofs.FileText.{no_more, standings}
-use Rattle.hunk_files.proofs.HunkOrder.{by_standing}
+use Rattle.hunk_files.proofs.{FileText.{no_more, standings}, HunkOrder.by_standing}
 
 -- ---- the groups that are left
 

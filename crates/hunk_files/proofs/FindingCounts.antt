@@ -1,7 +1,6 @@
 -- In an object file no more is found than twice the longwords of its text.
 use Rattle.std.proofs.Common.{◌≡◌, ℕ, ◌+◌, ◌*◌, ◌≤◌, Bool, true, false, cond, List, [], ◌∷◌, length, ap, arith, length-append, Option, Some, None}
-use Rattle.std.specs.Prelude.{⊤, nat_lt}
-use Rattle.std.specs.List.{AllByRecursion, flat_map}
+use Rattle.std.specs.{Prelude.{⊤, nat_lt}, List.{AllByRecursion, flat_map}}
 use Rattle.std.proofs.lemmas.List.{length-map}
 use Rattle.hunk_words.specs.Bits.{kind}
 use Rattle.hunk_blocks.specs.declared.ext_shape.ExtShape.{ExtShape}

@@ -3,8 +3,7 @@ use Rattle.std.proofs.Common.{◌≡◌, ℕ, ◌+◌, true, false, List, [], �
 use Rattle.std.specs.List.{fold}
 use Rattle.hunk_blocks.specs.Values.{BlockBody, BlockValue, Name, Code, Data, Bss, Reloc, Ext, Symbol, Debug, Advisory, End, content_bytes}
 use Rattle.hunk_grammar.specs.Standings.{BlockStanding}
-use Rattle.hunk_files.specs.LoadFile.{standing, AreInOrder}
-use Rattle.hunk_files.specs.ObjectFile.{ObjectHunk}
+use Rattle.hunk_files.specs.{LoadFile.{standing, AreInOrder}, ObjectFile.ObjectHunk}
 use Rattle.hunk_files.specs.Findings.{content_size, hunk_bytes}
 use Rattle.hunk_files.proofs.FileText.{standings}
 

@@ -3,13 +3,9 @@ use Rattle.std.proofs.Common.{◌≡◌, ℕ, ◌+◌, ◌*◌, ◌≤◌, List,
 use Rattle.std.proofs.lemmas.List.{length-append, length-drop, length-take-le, take-append-drop, take_at}
 use Rattle.hunk_words.specs.Longs.{longs, bytes_of}
 use Rattle.hunk_words.proofs.LongLaws.{length-bytes_of, longs-bytes_of}
-use Rattle.hunk_blocks.specs.Values.{BlockValue}
-use Rattle.hunk_blocks.specs.Parts.{block_text}
-use Rattle.hunk_blocks.specs.Begins.{BeginsWithSomeBlock, IsFrontBlock}
-use Rattle.hunk_blocks.proofs.BlockLongs.{block_longs}
-use Rattle.hunk_blocks.proofs.BlockPrefix.{block_same}
-use Rattle.hunk_files.specs.ObjectFile.{IsObjectHunk}
-use Rattle.hunk_files.specs.Hunks.{BlockAt, HunkAt, IsRead, block_texts}
+use Rattle.hunk_blocks.specs.{Values.BlockValue, Parts.block_text, Begins.{BeginsWithSomeBlock, IsFrontBlock}}
+use Rattle.hunk_blocks.proofs.{BlockLongs.block_longs, BlockPrefix.block_same}
+use Rattle.hunk_files.specs.{ObjectFile.IsObjectHunk, Hunks.{BlockAt, HunkAt, IsRead, block_texts}}
 use Rattle.hunk_files.specs.Lacks.{EndsAt, EndsHunkPart}
 use Rattle.hunk_files.proofs.PlaceLaws.{ends_map, last_at, text_inside}
 

@@ -7,19 +7,14 @@ use Rattle.hunk_blocks.specs.declared.mode.Mode.TheVariants as modes
 use Rattle.hunk_blocks.specs.Values.{BlockBody, BlockValue, Bss, IsBlock}
 use Rattle.hunk_blocks.specs.Parts.{Part, Part as parts, block_parts, block_text, body_parts}
 use Rattle.hunk_blocks.specs.Faults.{Grammar, words, Expects, blocks}
-use Rattle.hunk_blocks.proofs.Admitted.{block}
 use Rattle.hunk_blocks.specs.BlockSteps.{BlockNext, Open, Whole, step_inside, begin_body, Follows}
-use Rattle.hunk_blocks.proofs.BlockText.{body_follows}
-use Rattle.hunk_blocks.proofs.BodyFaults.{end_block, end_is}
+use Rattle.hunk_blocks.proofs.{Admitted.block, BlockText.body_follows, BodyFaults.{end_block, end_is}}
 use Rattle.hunk_blocks.proofs.FaultLaws.{Embeds, expects_embedded, embeds_same, relabel, same-labels, words-relabel}
-use Rattle.hunk_blocks.proofs.Lists.{All-append}
-use Rattle.hunk_blocks.proofs.OneBlockFault.{part_not_word}
-use Rattle.hunk_files.specs.LoadFile.{standing, AreInOrder}
-use Rattle.hunk_grammar.specs.Standings.{BlockStanding, Beside, Content, Relocating, Ending, is_content, refuse_standing, standing_of_kind}
-use Rattle.hunk_files.specs.ObjectFile.{ObjectHunk}
+use Rattle.hunk_blocks.proofs.{Lists.All-append, OneBlockFault.part_not_word}
+use Rattle.hunk_files.specs.{LoadFile.{standing, AreInOrder}, ObjectFile.ObjectHunk}
 use Rattle.hunk_files.specs.ObjectFault.{WordPlace, BetweenHunks, InHunk, ObjectRole, WordAt, has_content, behind_block, object_role_at, object_block_labelled, object_blocks_labelled, refuse_object, blocks_from}
-use Rattle.hunk_files.proofs.HunkOrder.{Leads, leads_end, standing_is}
-use Rattle.hunk_files.proofs.FileText.{standings}
+use Rattle.hunk_grammar.specs.Standings.{BlockStanding, Beside, Content, Relocating, Ending, is_content, refuse_standing, standing_of_kind}
+use Rattle.hunk_files.proofs.{HunkOrder.{Leads, leads_end, standing_is}, FileText.standings}
 
 -- ---- the rest of a hunk
 

@@ -3,10 +3,8 @@ use Rattle.std.proofs.Common.{◌≡◌, ℕ, ◌+◌, ◌-◌, ◌*◌, ◌<◌
 use Rattle.std.specs.List.{flat_map}
 use Rattle.hunk_words.specs.Longs.{longs}
 use Rattle.hunk_blocks.specs.Placed.{Placed}
-use Rattle.hunk_files.specs.Hunks.{HunkAt, block_texts}
-use Rattle.hunk_files.specs.Lacks.{EndsAt, EndsHunkPart, Within}
-use Rattle.hunk_files.specs.ObjectFile.{ObjectHunk, IsObjectHunk}
-use Rattle.hunk_files.specs.ObjectViews.{HunksAt, hunk_at, hunks_at}
+use Rattle.hunk_files.specs.{Hunks.{HunkAt, block_texts}, Lacks.{EndsAt, EndsHunkPart, Within}}
+use Rattle.hunk_files.specs.{ObjectFile.{ObjectHunk, IsObjectHunk}, ObjectViews.{HunksAt, hunk_at, hunks_at}}
 use Rattle.hunk_files.specs.UnitCuts.{ends_unit}
 use Rattle.hunk_files.proofs.HunkBlocks.{hunk_ends, hunk_inside, some_text}
 use Rattle.hunk_files.proofs.ObjectViewLaws.{HunkPassed, hunk_at_is, hunk_passed, next_hunk, no_hunk}

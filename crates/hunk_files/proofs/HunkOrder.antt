@@ -1,10 +1,8 @@
 -- Where a block of a hunk may stand, behind others.
 use Rattle.std.proofs.Common.{◌≡◌, ℕ, Bool, true, false, List, [], ◌∷◌, ◌++◌, refl, sym, subst, Option, None, Some}
 use Rattle.std.specs.Prelude.{◌||◌, IsTrue}
-use Rattle.hunk_words.specs.declared.block_word.Kind.{Kind}
+use Rattle.hunk_words.specs.{declared.block_word.Kind.Kind, declared.reason.Reason.Reason, Bits.{is_relocation, kind}}
 use Rattle.hunk_words.specs.declared.block_word.Kind.TheVariants as kinds
-use Rattle.hunk_words.specs.declared.reason.Reason.{Reason}
-use Rattle.hunk_words.specs.Bits.{is_relocation, kind}
 use Rattle.hunk_blocks.specs.Values.{BlockBody, Reloc, Advisory, End, FitsWord, is_unknown}
 use Rattle.hunk_files.specs.LoadFile.{standing, AreInOrder}
 use Rattle.hunk_grammar.specs.Standings.{BlockStanding, Beside, Content, Relocating, Ending, is_content, is_ending, first_of, refuse_standing, standing_of_kind}

@@ -1,22 +1,15 @@
 -- Hunks and units of which what stays is handed over.
 use Rattle.std.proofs.Common.{◌≡◌, ℕ, ◌+◌, ◌*◌, ◌<◌, ◌≤◌, true, false, List, [], ◌∷◌, ◌++◌, length, map, drop, refl, sym, ap, subst, ◌∙◌, append-nil, length-append, arith}
-use Rattle.std.specs.Prelude.{slice_range}
-use Rattle.std.specs.List.{flat_map}
-use Rattle.std.proofs.lemmas.List.{length-drop}
-use Rattle.std.proofs.lemmas.List.Folds.{flat_map-map}
+use Rattle.std.specs.{Prelude.slice_range, List.flat_map}
+use Rattle.std.proofs.lemmas.{List.length-drop, List.Folds.flat_map-map}
 use Rattle.hunk_words.specs.Longs.{bytes_of, longs}
 use Rattle.hunk_words.proofs.LongLaws.{bytes_of-nil, length-bytes_of}
 use Rattle.hunk_files.specs.Hunks.{HunkAt, block_texts}
 use Rattle.hunk_files.specs.ObjectFile.{ObjectHunk, UnitValue, ObjectFileValue, AreObjectFile, IsObjectHunk, IsUnit, object_text, unit_text}
-use Rattle.hunk_files.specs.InPlace.{StandAt}
-use Rattle.hunk_files.specs.Ranges.{HandsOver}
-use Rattle.hunk_files.specs.Strip.{strip_blocks, strip_object, strip_unit}
-use Rattle.hunk_files.specs.UnitCuts.{ends_unit}
-use Rattle.hunk_files.specs.Units.{UnitAt}
-use Rattle.hunk_files.proofs.ObjectViewLaws.{no_hunk_in, some_hunk}
-use Rattle.hunk_files.proofs.PlaceLaws.{First, first_of, stand_first}
-use Rattle.hunk_files.proofs.RangeLaws.{Stripped, all_stripped, none_stripped, one_stripped}
-use Rattle.hunk_files.proofs.UnitCutLaws.{units_end}
+use Rattle.hunk_files.specs.{InPlace.StandAt, Ranges.HandsOver, Strip.{strip_blocks, strip_object, strip_unit}}
+use Rattle.hunk_files.specs.{UnitCuts.ends_unit, Units.UnitAt}
+use Rattle.hunk_files.proofs.{ObjectViewLaws.{no_hunk_in, some_hunk}, PlaceLaws.{First, first_of, stand_first}}
+use Rattle.hunk_files.proofs.{RangeLaws.{Stripped, all_stripped, none_stripped, one_stripped}, UnitCutLaws.units_end}
 
 not_empty : {A : Type 0} (xs : List A) → 0 < length xs → xs ≡ [] → ⊥
 not_empty xs some none = absurd (omega (arith, some, ap length none))

@@ -2,24 +2,15 @@
 use Rattle.std.proofs.Common.{◌≡◌, ℕ, ◌+◌, ◌*◌, List, [], ◌∷◌, ◌++◌, length, drop, refl, sym, ap, ap₂, subst, ◌∙◌, append_assoc, Some}
 use Rattle.std.specs.List.{AllByRecursion}
 use Rattle.std.proofs.lemmas.List.{drop-drop, drop_at}
-use Rattle.hunk_words.specs.Longs.{longs, bytes_of, AreLongs}
+use Rattle.hunk_words.specs.Longs.{longs, bytes_of, AreLongs, IsLong}
 use Rattle.hunk_words.proofs.LongLaws.{bytes_of-append, length-bytes_of, longs-bytes_of}
-use Rattle.hunk_blocks.specs.Cuts.{Cut}
-use Rattle.hunk_blocks.specs.Placed.{Placed}
-use Rattle.hunk_blocks.specs.Values.{BlockValue}
-use Rattle.hunk_files.specs.LoadFile.{TableEntry, HunkValue, LoadFileValue, IsHunk, declared_longs}
-use Rattle.hunk_files.specs.LoadText.{table}
-use Rattle.hunk_files.specs.Fault.{BeginsWithLoadFile}
-use Rattle.hunk_files.specs.Hunks.{HunkAt, block_texts}
-use Rattle.hunk_files.specs.Tables.{header_text, hunk_texts}
-use Rattle.hunk_files.specs.Cuts.{load_hunks_cut}
-use Rattle.hunk_files.specs.InPlace.{BeginsWithHunks, GivesPart, blocks_in, hunks_in}
-use Rattle.hunk_files.proofs.BlocksInPlace.{hunk_value, texts_longs}
-use Rattle.hunk_files.proofs.LoadCuts.{load_hunks_cut_is}
-use Rattle.hunk_files.proofs.Peel.{are_blocks}
+use Rattle.hunk_blocks.specs.{Cuts.Cut, Placed.Placed, Values.BlockValue}
+use Rattle.hunk_files.specs.{LoadFile.{TableEntry, HunkValue, LoadFileValue, IsHunk, declared_longs}, LoadText.table}
+use Rattle.hunk_files.specs.{Fault.BeginsWithLoadFile, Hunks.{HunkAt, block_texts}, Tables.{header_text, hunk_texts}}
+use Rattle.hunk_files.specs.{Cuts.load_hunks_cut, InPlace.{BeginsWithHunks, GivesPart, blocks_in, hunks_in}}
+use Rattle.hunk_files.proofs.{BlocksInPlace.{hunk_value, texts_longs}, LoadCuts.load_hunks_cut_is, Peel.are_blocks}
 use Rattle.hunk_files.proofs.TableReading.{hunks_follow}
 use Rattle.hunk_blocks.proofs.Lists.{All-append}
-use Rattle.hunk_words.specs.Longs.{IsLong}
 
 hunks_longs : (most : ℕ) (hs : LoadFileValue) → AllByRecursion (IsHunk most) hs → AreLongs (hunk_texts hs)
 hunks_longs most [] is = tt

@@ -2,30 +2,25 @@
 use Rattle.std.proofs.Common.{◌≡◌, ℕ, zero, suc, ◌+◌, ◌*◌, ◌≤◌, Bool, true, false, cond, List, [], ◌∷◌, ◌++◌, length, refl, sym, ap, ◌∙◌, arith, Option, None, Some}
 use Rattle.std.proofs.lemmas.List.{length-map}
 use Rattle.hunk_words.specs.declared.block_word.Kind.{Kind}
+use Rattle.hunk_words.specs.Bits.{kind, is_advisory, has_both_bits, size_longs, name_longs, entry_type}
 use Rattle.hunk_words.specs.declared.block_word.Kind.TheVariants as kinds
 use Rattle.hunk_words.specs.declared.reason.Reason.TheVariants as reasons
-use Rattle.hunk_words.specs.Bits.{kind, is_advisory, has_both_bits, size_longs, name_longs, entry_type}
 use Rattle.hunk_blocks.specs.declared.ext_shape.ExtShape.{ExtShape}
 use Rattle.hunk_blocks.specs.declared.ext_shape.ExtShape.TheVariants.{Definition, References, Common}
-use Rattle.hunk_blocks.specs.ExtKinds.{ext_shape}
-use Rattle.hunk_blocks.specs.declared.phase.Phase.{Phase}
+use Rattle.hunk_blocks.specs.{ExtKinds.ext_shape, declared.phase.Phase.Phase}
 use Rattle.hunk_blocks.specs.declared.phase.Phase.TheVariants as phases
 use Rattle.hunk_blocks.specs.PhaseSteps as inside
 use Rattle.hunk_blocks.proofs.Lists.{passed_true, passed_both}
-use Rattle.hunk_grammar.specs.declared.phase.OpenHunk.{OpenHunk}
-use Rattle.hunk_grammar.specs.declared.position.Position.{Position}
-use Rattle.hunk_grammar.specs.declared.position.Position.TheVariants as positions
-use Rattle.hunk_grammar.specs.Positions as scan
+use Rattle.hunk_grammar.specs.{declared.phase.OpenHunk.OpenHunk, declared.position.Position.Position}
 use Rattle.hunk_grammar.specs.Positions.{end_least, least_in, least_longs, role_at}
 use Rattle.hunk_grammar.specs.Roles.{Role, refuse, refuse_kind, refuse_word}
-use Rattle.hunk_files.specs.LoadFile.{LoadFileValue, IsLoadFile}
-use Rattle.hunk_files.specs.LoadText.{text}
+use Rattle.hunk_grammar.specs.declared.position.Position.TheVariants as positions
+use Rattle.hunk_grammar.specs.Positions as scan
+use Rattle.hunk_files.specs.{LoadFile.{LoadFileValue, IsLoadFile}, LoadText.text}
 use Rattle.hunk_files.specs.FileSteps.{Next, More, Finished, step_file, Leads}
-use Rattle.hunk_files.specs.ReaderPosition.{position_of, open_longs}
-use Rattle.hunk_files.specs.WordsRead.{Labelled, AreAccepted, HasRead}
+use Rattle.hunk_files.specs.{ReaderPosition.{position_of, open_longs}, WordsRead.{Labelled, AreAccepted, HasRead}}
 use Rattle.hunk_files.proofs.FileProgress.{NextFits, step_keeps, zero_or_limit}
-use Rattle.hunk_files.proofs.Positions.{refuse_same, step_position}
-use Rattle.hunk_files.proofs.Reading.{reads, rest_read, file_read}
+use Rattle.hunk_files.proofs.{Positions.{refuse_same, step_position}, Reading.{reads, rest_read, file_read}}
 
 next_least : (hunks ahead : ℕ) → 3 * ahead ≤ least_longs (scan.open_next hunks ahead)
 next_least hunks zero = omega arith

@@ -1,23 +1,15 @@
 -- The text of a load file is cut into its hunks and what stands behind it.
 use Rattle.std.proofs.Common.{◌≡◌, ℕ, zero, suc, ◌-◌, ◌<◌, ◌≤◌, Bool, true, false, List, [], ◌∷◌, ◌++◌, length, drop, get_or, refl, sym, ap, ap₂, ◌∙◌, append_assoc, length-append, arith}
-use Rattle.std.specs.Prelude.{if◌then◌else◌}
-use Rattle.std.specs.List.{flat_map, AllByRecursion}
+use Rattle.std.specs.{Prelude.if◌then◌else◌, List.{flat_map, AllByRecursion}}
 use Rattle.std.proofs.lemmas.List.{length-map, take-append-drop}
-use Rattle.hunk_words.specs.Bits.{has_both_bits, entry_longs}
-use Rattle.hunk_words.specs.Longs.{longs}
+use Rattle.hunk_words.specs.{Bits.{has_both_bits, entry_longs}, Longs.longs}
 use Rattle.hunk_blocks.specs.Cuts.{Cut, cut_map}
 use Rattle.hunk_blocks.proofs.CutLaws.{cut}
 use Rattle.hunk_files.specs.LoadFile.{TableEntry, HunkValue, LoadFileValue, IsTableEntry, IsHunk, IsLoadFile, declared_longs}
-use Rattle.hunk_files.specs.LoadText.{table, text}
-use Rattle.hunk_files.specs.Hunks.{block_texts}
-use Rattle.hunk_files.specs.Tables.{entry_text, header_text, hunk_texts}
+use Rattle.hunk_files.specs.{LoadText.{table, text}, Hunks.block_texts, Tables.{entry_text, header_text, hunk_texts}}
 use Rattle.hunk_files.specs.Cuts.{hunk_cut, row_cut, table_cut, load_hunks_cut, load_cut}
-use Rattle.hunk_files.proofs.BlockCuts.{hunk_cut_is}
-use Rattle.hunk_files.proofs.FileText.{entries_fit}
-use Rattle.hunk_files.proofs.Peel.{are_blocks}
-use Rattle.hunk_files.specs.Fault.{BeginsWithLoadFile, HasLoadText}
-use Rattle.hunk_files.specs.InPlace.{BeginsWithTable}
-use Rattle.hunk_files.proofs.Scan.{begun_longs}
+use Rattle.hunk_files.specs.{Fault.{BeginsWithLoadFile, HasLoadText}, InPlace.BeginsWithTable}
+use Rattle.hunk_files.proofs.{BlockCuts.hunk_cut_is, FileText.entries_fit, Peel.are_blocks, Scan.begun_longs}
 use Rattle.hunk_files.proofs.TableReading.{entries_are, entry_length, entry_words, size_is, text_is}
 
 -- ---- the table

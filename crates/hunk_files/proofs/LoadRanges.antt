@@ -1,26 +1,16 @@
 -- The hunks of a load file, of which what stays is handed over.
 use Rattle.std.proofs.Common.{◌≡◌, ℕ, ◌-◌, ◌*◌, List, [], ◌∷◌, ◌++◌, length, map, take, refl, sym, ap, subst, ◌∙◌, arith}
-use Rattle.std.specs.Prelude.{slice_range}
-use Rattle.std.specs.List.{flat_map}
-use Rattle.std.proofs.lemmas.List.{take_at}
-use Rattle.std.proofs.lemmas.List.Folds.{flat_map-map}
+use Rattle.std.specs.{Prelude.slice_range, List.flat_map}
+use Rattle.std.proofs.lemmas.{List.take_at, List.Folds.flat_map-map}
 use Rattle.hunk_words.specs.Longs.{bytes_of}
 use Rattle.hunk_words.proofs.LongLaws.{bytes_of-append, length-bytes_of}
 use Rattle.hunk_blocks.specs.Faults.{words}
-use Rattle.hunk_files.specs.Fault.{BeginsWithLoadFile}
-use Rattle.hunk_files.specs.Hunks.{block_texts}
+use Rattle.hunk_files.specs.{Fault.BeginsWithLoadFile, Hunks.block_texts}
 use Rattle.hunk_files.specs.LoadFile.{HunkValue, LoadFileValue, TableEntry, IsHunk, declared_longs}
-use Rattle.hunk_files.specs.LoadText.{header_labelled, text}
-use Rattle.hunk_files.specs.ObjectFile.{ObjectHunk, IsObjectHunk}
-use Rattle.hunk_files.specs.InPlace.{StandAt}
-use Rattle.hunk_files.specs.Strip.{strip_blocks, strip_file}
-use Rattle.hunk_files.specs.Tables.{header_text, hunk_texts}
-use Rattle.hunk_files.proofs.Accepted.{All-map}
-use Rattle.hunk_files.proofs.HunkRanges.{HunksStripped}
-use Rattle.hunk_files.proofs.Peel.{are_blocks}
-use Rattle.hunk_files.proofs.RangeLaws.{none_stripped}
-use Rattle.hunk_files.proofs.StripLaws.{table_kept}
-use Rattle.hunk_files.proofs.TableReading.{header_inside, header_split, hunks_follow, text_is}
+use Rattle.hunk_files.specs.{LoadText.{header_labelled, text}, ObjectFile.{ObjectHunk, IsObjectHunk}, InPlace.StandAt}
+use Rattle.hunk_files.specs.{Strip.{strip_blocks, strip_file}, Tables.{header_text, hunk_texts}}
+use Rattle.hunk_files.proofs.{Accepted.All-map, HunkRanges.HunksStripped, Peel.are_blocks, RangeLaws.none_stripped}
+use Rattle.hunk_files.proofs.{StripLaws.table_kept, TableReading.{header_inside, header_split, hunks_follow, text_is}}
 
 abbrev pub blocks_of : LoadFileValue → List ObjectHunk
 blocks_of v = map (λ h. h.blocks) v

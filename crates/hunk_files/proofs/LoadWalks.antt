@@ -3,35 +3,28 @@ use Rattle.std.proofs.Common.{◌≡◌, ℕ, zero, suc, ◌+◌, ◌-◌, ◌*�
 use Rattle.std.specs.List.{flat_map}
 use Rattle.std.proofs.lemmas.List.{length-append, length-map, length-take-le, get_or_at, map-append, take-append-drop, take_all, get_or-take}
 use Rattle.std.proofs.lemmas.List.Concat.{flat_map-append}
-use Rattle.hunk_words.specs.declared.reason.Reason.{Reason}
-use Rattle.hunk_words.specs.declared.reason.Reason.TheVariants as reasons
-use Rattle.hunk_words.specs.Longs.{IsBytes, longs, bytes_of}
+use Rattle.hunk_words.specs.{declared.reason.Reason.Reason, Longs.{IsBytes, longs, bytes_of}}
 use Rattle.hunk_words.specs.Bits.{size_longs, has_both_bits, entry_longs}
+use Rattle.hunk_words.specs.declared.reason.Reason.TheVariants as reasons
 use Rattle.hunk_words.proofs.LongLaws.{longs_fit, length-longs}
-use Rattle.hunk_blocks.specs.Values.{BlockValue}
-use Rattle.hunk_blocks.specs.Faults.{words}
+use Rattle.hunk_blocks.specs.{Values.BlockValue, Faults.words}
 use Rattle.hunk_blocks.specs.declared.phase.Phase.TheVariants as phases
 use Rattle.hunk_blocks.specs.PhaseSteps as inside
 use Rattle.hunk_blocks.proofs.Decoding.{front_bytes}
 use Rattle.hunk_blocks.proofs.KeptWalks.{OnePasses, HasRuns, StandsAt as StandsFor, Walks as WalksOf, starts, stands, word_refused, word_reads, word_passes}
 use Rattle.hunk_blocks.proofs.Lists.{flat_map-more}
-use Rattle.hunk_grammar.specs.declared.position.Position.{Position}
+use Rattle.hunk_grammar.specs.{declared.position.Position.Position, Positions.{role_at, is_between_hunks}}
+use Rattle.hunk_grammar.specs.Roles.{Role, refuse, Role as roles}
 use Rattle.hunk_grammar.specs.declared.position.Position.TheVariants as positions
 use Rattle.hunk_grammar.specs.Positions as scan
-use Rattle.hunk_grammar.specs.Positions.{role_at, is_between_hunks}
-use Rattle.hunk_grammar.specs.Roles.{Role, refuse, Role as roles}
-use Rattle.hunk_files.specs.LoadFile.{TableEntry}
-use Rattle.hunk_files.specs.LoadText.{entry_labelled, hunk_labelled, blocks_labelled, table}
-use Rattle.hunk_files.specs.Fault.{HasFault, HasLoadText, IsTruncated, load_files}
-use Rattle.hunk_files.specs.declared.load.walk.Entry.{Entry}
+use Rattle.hunk_files.specs.{LoadFile.TableEntry, LoadText.{entry_labelled, hunk_labelled, blocks_labelled, table}}
+use Rattle.hunk_files.specs.{Fault.{HasFault, HasLoadText, IsTruncated, load_files}, declared.load.walk.Entry.Entry}
 use Rattle.hunk_files.specs.Entries.{entry_behind, entry_at}
 use Rattle.hunk_files.specs.FileSteps.{HunkSoFar, Progress, AtFirst, AtBlock, InBody, Next, More, Finished, role_of, step_file}
-use Rattle.hunk_files.specs.ReaderPosition.{open_of, block_phase, position_of, open_longs, opened}
-use Rattle.hunk_files.specs.WordsRead.{Labelled}
+use Rattle.hunk_files.specs.{ReaderPosition.{open_of, block_phase, position_of, open_longs, opened}, WordsRead.Labelled}
 use Rattle.hunk_files.proofs.FileProgress.{header_so_far, open_so_far}
 use Rattle.hunk_files.proofs.Positions.{inside_open, Moves, MovesTo, refuse_same, step_position, step_moves}
-use Rattle.hunk_files.proofs.Scan.{SoFar, load_reader, keeps, truncated_of}
-use Rattle.hunk_files.proofs.TableReading.{entry_length}
+use Rattle.hunk_files.proofs.{Scan.{SoFar, load_reader, keeps, truncated_of}, TableReading.entry_length}
 
 -- the longword behind these entries
 abbrev row_behind : List TableEntry → ℕ

@@ -2,22 +2,18 @@
 use Rattle.std.proofs.Common.{◌≡◌, ℕ, [], ◌∷◌, ◌++◌, refl, sym, ap, subst, ◌∙◌, Some, None}
 use Rattle.hunk_blocks.specs.Along.{GoesAlong}
 use Rattle.hunk_blocks.proofs.Along.{Forgets, along}
-use Rattle.hunk_grammar.specs.Roles.{Role, refuse}
+use Rattle.hunk_grammar.specs.{Roles.{Role, refuse}, declared.position.Position.Position}
 use Rattle.hunk_grammar.specs.Positions as load
-use Rattle.hunk_grammar.specs.declared.position.Position.{Position}
 use Rattle.hunk_grammar.specs.declared.position.Position.TheVariants as positions
 use Rattle.hunk_files.specs.FileSteps.{Progress, AtBlock, InBody, AtFirst, Next, More, Finished, role_of, step_file, Leads}
-use Rattle.hunk_files.specs.LoadFile.{LoadFileValue, IsLoadFile}
-use Rattle.hunk_files.specs.LoadText.{labelled}
+use Rattle.hunk_files.specs.{LoadFile.{LoadFileValue, IsLoadFile}, LoadText.labelled}
 use Rattle.hunk_files.specs.Machines.{longs_of, refuse_in_load, refuse_in_object}
 use Rattle.hunk_files.specs.ObjectFault.{BeforeUnits, BetweenHunks, ObjectRole, refuse_object, units_labelled}
-use Rattle.hunk_files.specs.ObjectFile.{ObjectFileValue, IsObjectFile}
+use Rattle.hunk_files.specs.{ObjectFile.{ObjectFileValue, IsObjectFile}, ReaderPosition.{open_longs, position_of}}
+use Rattle.hunk_files.specs.WordsRead.{AreAccepted, Labelled}
 use Rattle.hunk_files.specs.ObjectSteps as object
 use Rattle.hunk_files.specs.declared.object.position.ObjectPosition.TheVariants as places
-use Rattle.hunk_files.specs.ReaderPosition.{open_longs, position_of}
-use Rattle.hunk_files.specs.WordsRead.{AreAccepted, Labelled}
-use Rattle.hunk_files.proofs.Accepted.{labelled_accepted}
-use Rattle.hunk_files.proofs.FileProgress.{Reads, read_progress, step_keeps}
+use Rattle.hunk_files.proofs.{Accepted.labelled_accepted, FileProgress.{Reads, read_progress, step_keeps}}
 use Rattle.hunk_files.proofs.FileText.{file_leads}
 use Rattle.hunk_files.proofs.ObjectWalks.{expected, position_of as object_position, step_position as object_steps}
 use Rattle.hunk_files.proofs.OneObjectFault.{ObjectState, AtWord, reader, file_leads as object_leads}

@@ -4,8 +4,8 @@ use Rattle.std.specs.List.{flat_map}
 use Rattle.hunk_words.proofs.LongLaws.{bytes_of-nil, bytes_of-append}
 use Rattle.hunk_words.specs.Bits.{size_longs}
 use Rattle.hunk_blocks.specs.Values.{RelocGroup, ExtEntry, SymbolEntry, BlockValue, End}
-use Rattle.hunk_files.specs.Image.{block_content, block_relocations, group_relocations, filled, relocated, add_at, image}
 use Rattle.hunk_blocks.specs.BlockSteps.{ForName, ForCode, ForData, Filling, Counted, SizedCode, SizedData, Inside, AtCount, AtSize, InPayload, AtGroup, InOffsets, AtEntry, InName, AtExtWord, InExtName, AtExtCount, InExtOffsets, Open, Whole, group, step_inside, fill, name_entry, name_external, BlockNext}
+use Rattle.hunk_files.specs.Image.{block_content, block_relocations, group_relocations, filled, relocated, add_at, image}
 use Rattle.hunk_files.specs.OpenSegment.{filling_bytes, bytes_in, pairs_to, pairs_in, bytes_so_far, pairs_so_far, open_pairs, segment_so_far}
 use Rattle.hunk_files.specs.FileSteps.{HunkSoFar, hunk, block}
 use Rattle.hunk_files.proofs.Shapes.{by_shape}

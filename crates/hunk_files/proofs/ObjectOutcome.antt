@@ -1,8 +1,7 @@
 -- Bytes are an object file or have a fault.
 use Rattle.std.proofs.Common.{◌≡◌, ◌≢◌, ℕ, ◌*◌, ◌<◌, List, [], ◌∷◌, ◌++◌, length, refl, sym, ap, subst, ◌∙◌, append-nil, length-append, arith, None, ◌⊎◌, inl, inr}
-use Rattle.hunk_words.specs.declared.reason.Reason.{Reason}
+use Rattle.hunk_words.specs.{declared.reason.Reason.Reason, Longs.{longs, bytes_of, IsLong, AreLongs, IsBytes}}
 use Rattle.hunk_words.specs.declared.reason.Reason.TheVariants as reasons
-use Rattle.hunk_words.specs.Longs.{longs, bytes_of, IsLong, AreLongs, IsBytes}
 use Rattle.hunk_words.proofs.LongLaws.{length-bytes_of, longs_fit, spelled}
 use Rattle.hunk_blocks.specs.Faults.{Expects, IsFront}
 use Rattle.hunk_blocks.proofs.Outcomes.{Keeps, run, leads_run, front, judged, completed}
@@ -10,8 +9,7 @@ use Rattle.hunk_files.specs.ObjectFile.{ObjectFileValue, IsObjectFile, IsNoObjec
 use Rattle.hunk_files.specs.ObjectFault.{BeforeUnits, BetweenHunks, InHunk, ObjectRole, units_labelled, refuse_object, objects, HasObjectFault}
 use Rattle.hunk_files.proofs.ObjectProgress.{SoFar, begins, expected, goes_on, never, whole_units}
 use Rattle.hunk_files.proofs.OneObjectFault.{ObjectState, AtWord, AtCount, InName, InBlock, reader, object_reads, file_leads}
-use Rattle.hunk_files.proofs.UnitFaults.{units_words}
-use Rattle.hunk_files.proofs.UnitReading.{object_longs, text_longs}
+use Rattle.hunk_files.proofs.{UnitFaults.units_words, UnitReading.{object_longs, text_longs}}
 
 unfoldable pub keeps : Keeps objects reader
 keeps = record { SoFar = SoFar; begins = begins; expects = expected; goes_on = goes_on; ends = λ s before h e. absurd (never s e) }

@@ -1,16 +1,12 @@
 -- What has been read of an object file can be completed, and goes on as long as no longword is refused.
 use Rattle.std.proofs.Common.{◌≡◌, ℕ, zero, suc, ◌+◌, ◌^◌, ◌<◌, Bool, true, false, ◌||◌, cond, eqb, ltb, List, [], ◌∷◌, ◌++◌, length, map, refl, sym, ap, subst, ◌∙◌, append_assoc, append-nil, length-append, arith, Some, None}
 use Rattle.std.specs.List.{flat_map, AllByRecursion}
-use Rattle.std.proofs.lemmas.Bool.{eqb-true, ltb-true}
-use Rattle.std.proofs.lemmas.List.{map-append}
+use Rattle.std.proofs.lemmas.{Bool.{eqb-true, ltb-true}, List.map-append}
 use Rattle.hunk_words.specs.declared.reason.Reason.TheVariants as reasons
-use Rattle.hunk_words.specs.Bits.{kind}
-use Rattle.hunk_words.specs.Longs.{IsLong, AreLongs}
+use Rattle.hunk_words.specs.{Bits.kind, Longs.{IsLong, AreLongs}}
 use Rattle.hunk_blocks.specs.declared.mode.Mode.TheVariants as modes
-use Rattle.hunk_blocks.specs.Values.{BlockValue, IsBlock, IsPayload}
-use Rattle.hunk_blocks.specs.Parts.{block_text}
-use Rattle.hunk_blocks.specs.Modes.{refuse_alone_word, refuse_inside}
-use Rattle.hunk_blocks.specs.Faults.{words, Expects, blocks}
+use Rattle.hunk_blocks.specs.{Values.{BlockValue, IsBlock, IsPayload}, Parts.block_text}
+use Rattle.hunk_blocks.specs.{Modes.{refuse_alone_word, refuse_inside}, Faults.{words, Expects, blocks}}
 use Rattle.hunk_blocks.specs.BlockSteps.{Inside, BlockNext, Open, Whole, part_of, step_inside, begin_body}
 use Rattle.hunk_blocks.proofs.Admitted.{block}
 use Rattle.hunk_blocks.proofs.BlockOutcome.{Inner, block_is, expects_inside, steps_inside, begins_inside}
@@ -18,9 +14,9 @@ use Rattle.hunk_blocks.proofs.BlockProgress.{read_inside}
 use Rattle.hunk_blocks.proofs.Lists.{All-more, All-append, flat_map-more, map-more, more_owed, passed_true}
 use Rattle.hunk_blocks.proofs.OneBlockFault.{part_not_word}
 use Rattle.hunk_files.specs.LoadFile.{standing, AreInOrder}
-use Rattle.hunk_grammar.specs.Standings.{BlockStanding, Beside, Content, Relocating, Ending, is_content, is_ending, refuse_standing, standing_of_kind, first_of}
 use Rattle.hunk_files.specs.ObjectFile.{ObjectHunk, UnitValue, ObjectFileValue, IsObjectFile, IsObjectHunk, IsUnit, unit_word, unit_header, unit_text, object_text}
 use Rattle.hunk_files.specs.ObjectFault.{WordPlace, BeforeUnits, BetweenHunks, InHunk, ObjectRole, WordAt, UnitCount, UnitName, Within, has_content, behind_block, object_role_at, refuse_unit, refuse_object_word, refuse_object, blocks_from, units_from, objects}
+use Rattle.hunk_grammar.specs.Standings.{BlockStanding, Beside, Content, Relocating, Ending, is_content, is_ending, refuse_standing, standing_of_kind, first_of}
 use Rattle.hunk_files.proofs.HunkFaults.{blocks_at, expects_block, expects_word, expects_within, expects_behind, place_behind, opened}
 use Rattle.hunk_files.proofs.HunkOrder.{Leads, first_both, leads_one, leads_more, leads_end, end_stands, standing_is}
 use Rattle.hunk_files.proofs.FileText.{standings}

@@ -1,14 +1,11 @@
 -- The reasons that an object file is refused for.
 use Rattle.std.proofs.Common.{◌≡◌, ◌≢◌, ℕ, ◌/◌, ◌^◌, Bool, true, false, cond, eqb, List, refl, sym, ap, ◌∙◌, Option, Some, None, inl, inr}
 use Rattle.std.specs.Prelude.{IsTrue, nat_lt, is_some}
-use Rattle.hunk_words.specs.Limits.{name_limit}
-use Rattle.hunk_words.specs.declared.block_word.Kind.{Kind}
-use Rattle.hunk_words.specs.declared.block_word.Kind.TheVariants as kinds
-use Rattle.hunk_words.specs.declared.reason.Reason.{Reason}
-use Rattle.hunk_words.specs.declared.reason.Reason.TheVariants as reasons
+use Rattle.hunk_words.specs.{Limits.name_limit, declared.block_word.Kind.Kind, declared.reason.Reason.Reason}
 use Rattle.hunk_words.specs.Bits.{has_both_bits, is_advisory, kind}
-use Rattle.hunk_blocks.specs.ExtKinds.{ext_kind}
-use Rattle.hunk_blocks.specs.Parts.{Part as parts}
+use Rattle.hunk_words.specs.declared.block_word.Kind.TheVariants as kinds
+use Rattle.hunk_words.specs.declared.reason.Reason.TheVariants as reasons
+use Rattle.hunk_blocks.specs.{ExtKinds.ext_kind, Parts.{Part as parts}}
 use Rattle.hunk_files.specs.ObjectFile.{is_object_refusal, unit_word}
 use Rattle.hunk_files.specs.ObjectFault.{WordPlace, BeforeUnits, BetweenHunks, InHunk, ObjectRole, WordAt, UnitCount, Within, refuse_object, refuse_object_kind, refuse_unit, HasObjectFault}
 use Rattle.hunk_files.proofs.ObjectWords.{object_other_than_memory}

@@ -4,17 +4,13 @@ use Rattle.std.proofs.lemmas.List.{take_rest}
 use Rattle.std.specs.List.{flat_map}
 use Rattle.hunk_words.specs.Longs.{longs, bytes_of}
 use Rattle.hunk_words.proofs.LongLaws.{bytes_of-nil, longs-bytes_of}
-use Rattle.hunk_blocks.specs.Cuts.{Cut}
-use Rattle.hunk_blocks.specs.Placed.{Placed}
-use Rattle.hunk_files.specs.Cuts.{hunk_cut}
-use Rattle.hunk_files.specs.Hunks.{HunkAt, block_texts}
+use Rattle.hunk_blocks.specs.{Cuts.Cut, Placed.Placed}
+use Rattle.hunk_files.specs.{Cuts.hunk_cut, Hunks.{HunkAt, block_texts}}
 use Rattle.hunk_files.specs.ObjectFile.{ObjectHunk, UnitValue, IsObjectHunk, unit_text}
 use Rattle.hunk_files.specs.ObjectViews.{HunksAt, hunk_at, hunks_at, unit_at}
 use Rattle.hunk_files.specs.UnitCuts.{ends_unit, hunks_cut, unit_cut}
-use Rattle.hunk_files.specs.InPlace.{FirstEndsAt, GivesPart, IsFirstPart, StandAt}
-use Rattle.hunk_files.specs.Units.{UnitAt}
-use Rattle.hunk_files.proofs.PlaceLaws.{stand_behind, stand_first, stand_passed}
-use Rattle.hunk_files.proofs.Taking.{first_given}
+use Rattle.hunk_files.specs.{InPlace.{FirstEndsAt, GivesPart, IsFirstPart, StandAt}, Units.UnitAt}
+use Rattle.hunk_files.proofs.{PlaceLaws.{stand_behind, stand_first, stand_passed}, Taking.first_given}
 use Rattle.hunk_files.proofs.UnitCutLaws.{hunk_goes_on, hunk_is, hunks_are, unit_is}
 use Rattle.hunk_files.proofs.UnitReading.{hunk_longs, hunks_longs, unit_longs}
 

@@ -1,29 +1,23 @@
 -- A walk over the longwords of an object file reaches its end or the first fault.
 use Rattle.std.proofs.Common.{◌≡◌, ℕ, zero, suc, ◌+◌, ◌*◌, ◌<◌, ◌≤◌, Bool, true, false, cond, eqb, List, [], ◌∷◌, ◌++◌, length, get_or, refl, sym, ap, subst, ◌∙◌, append-nil, length-append, arith, Some, None, inl, inr}
 use Rattle.std.proofs.lemmas.List.{take_all}
-use Rattle.hunk_words.specs.declared.reason.Reason.{Reason}
+use Rattle.hunk_words.specs.{declared.reason.Reason.Reason, Bits.kind, Longs.{longs, bytes_of, IsBytes}}
 use Rattle.hunk_words.specs.declared.reason.Reason.TheVariants as reasons
-use Rattle.hunk_words.specs.Bits.{kind}
-use Rattle.hunk_words.specs.Longs.{longs, bytes_of, IsBytes}
 use Rattle.hunk_words.proofs.LongLaws.{length-bytes_of, longs_fit, spelled}
 use Rattle.hunk_blocks.specs.BlockSteps.{BlockNext, Open, Whole, part_of, begin_body}
+use Rattle.hunk_blocks.specs.{PhaseSteps.{part_at, skipped, skip_all}, ReaderPhase.{phase_of, next_phase}}
 use Rattle.hunk_blocks.proofs.Outcomes.{Keeps, run, front}
-use Rattle.hunk_blocks.specs.PhaseSteps as inside
-use Rattle.hunk_blocks.specs.PhaseSteps.{part_at, skipped, skip_all}
-use Rattle.hunk_grammar.specs.Standings.{standing_of_kind}
-use Rattle.hunk_blocks.specs.ReaderPhase.{phase_of, next_phase}
 use Rattle.hunk_blocks.proofs.BlockPhases.{step_phase, begin_phase, refuse_phase, skips_inside, none_skipped}
 use Rattle.hunk_blocks.proofs.KeptWalks.{OnePasses, HasRuns, StandsAt, Walks, starts, stands, word_refused, word_passes}
-use Rattle.hunk_files.specs.declared.object.position.ObjectPosition.{ObjectPosition}
-use Rattle.hunk_files.specs.declared.object.position.ObjectPosition.TheVariants as positions
-use Rattle.hunk_files.specs.HunkFile.{AreObjectFile}
+use Rattle.hunk_blocks.specs.PhaseSteps as inside
+use Rattle.hunk_grammar.specs.Standings.{standing_of_kind}
+use Rattle.hunk_files.specs.{declared.object.position.ObjectPosition.ObjectPosition, HunkFile.AreObjectFile}
 use Rattle.hunk_files.specs.ObjectFile.{object_text, unit_word}
 use Rattle.hunk_files.specs.ObjectFault.{WordPlace, BeforeUnits, BetweenHunks, InHunk, ObjectRole, WordAt, UnitCount, UnitName, Within, refuse_object, objects, HasObjectFault}
-use Rattle.hunk_files.specs.ObjectSteps as scan
 use Rattle.hunk_files.specs.ObjectSteps.{role_at, within, place_next}
-use Rattle.hunk_files.proofs.ObjectOutcome.{keeps, leads_there}
-use Rattle.hunk_files.proofs.ObjectProgress.{whole_units}
-use Rattle.hunk_files.proofs.ObjectWords.{within_split}
+use Rattle.hunk_files.specs.declared.object.position.ObjectPosition.TheVariants as positions
+use Rattle.hunk_files.specs.ObjectSteps as scan
+use Rattle.hunk_files.proofs.{ObjectOutcome.{keeps, leads_there}, ObjectProgress.whole_units, ObjectWords.within_split}
 use Rattle.hunk_files.proofs.OneObjectFault.{ObjectState, AtWord, AtCount, InName, InBlock, in_block, behind_name, reader}
 use Rattle.hunk_files.proofs.UnitReading.{text_longs}
 

@@ -1,23 +1,19 @@
 -- The tests of an object file are those of a block that stands alone, and then that of its place in the hunk.
 use Rattle.std.proofs.Common.{◌≡◌, ℕ, ◌/◌, ◌^◌, Bool, true, false, cond, eqb, refl, ap, ◌≢◌, Option, Some, None}
-use Rattle.std.specs.Prelude.{nat_lt, is_some}
-use Rattle.std.specs.Option.{option_map}
-use Rattle.hunk_words.specs.Limits.{name_limit}
-use Rattle.hunk_words.specs.declared.block_word.Kind.{Kind}
-use Rattle.hunk_words.specs.declared.block_word.Kind.TheVariants as kinds
-use Rattle.hunk_words.specs.declared.reason.Reason.{Reason}
-use Rattle.hunk_words.specs.declared.reason.Reason.TheVariants as reasons
+use Rattle.std.specs.{Prelude.{nat_lt, is_some}, Option.option_map}
+use Rattle.hunk_words.specs.{Limits.name_limit, declared.block_word.Kind.Kind, declared.reason.Reason.Reason}
 use Rattle.hunk_words.specs.Bits.{has_both_bits, is_advisory, kind}
+use Rattle.hunk_words.specs.declared.block_word.Kind.TheVariants as kinds
+use Rattle.hunk_words.specs.declared.reason.Reason.TheVariants as reasons
 use Rattle.hunk_blocks.specs.declared.mode.Mode.TheVariants as modes
-use Rattle.hunk_blocks.specs.declared.ext_kind.ExtKind.{ExtKind}
-use Rattle.hunk_blocks.specs.ExtKinds.{ext_kind, ext_shape, shape_of_kind}
+use Rattle.hunk_blocks.specs.{declared.ext_kind.ExtKind.ExtKind, ExtKinds.{ext_kind, ext_shape, shape_of_kind}}
 use Rattle.hunk_blocks.specs.Parts.{Part, Part as parts}
 use Rattle.hunk_blocks.specs.Modes.{refuse_alone_kind, refuse_alone_word, refuse_inside, refuse_shape}
 use Rattle.hunk_blocks.proofs.Admitted.{not_for_memory, other_than_memory}
 use Rattle.hunk_grammar.specs.Standings.{first_of, standing_of_kind}
 use Rattle.hunk_files.specs.ObjectFile.{unit_word}
-pub use Rattle.hunk_files.specs.ObjectSteps.{refuse_place}
 use Rattle.hunk_files.specs.ObjectFault.{WordPlace, BeforeUnits, BetweenHunks, InHunk, ObjectRole, WordAt, UnitCount, Within, object_role_at, refuse_ext_type, refuse_object_kind, refuse_unit, refuse_object_word, refuse_object}
+pub use Rattle.hunk_files.specs.ObjectSteps.{refuse_place}
 
 -- ---- block words
 

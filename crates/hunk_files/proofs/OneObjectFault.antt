@@ -1,32 +1,24 @@
 -- Bytes have one fault as an object file, and none where they are one.
 use Rattle.std.proofs.Common.{◌≡◌, ◌≢◌, ℕ, zero, suc, ◌^◌, ◌<◌, Bool, true, false, ◌||◌, cond, eqb, ltb, List, [], ◌∷◌, ◌++◌, length, map, refl, sym, ap, subst, ◌∙◌, append-nil, arith, Option, Some, None, inl, inr}
-use Rattle.std.specs.Prelude.{◌⊎◌}
-use Rattle.std.specs.List.{flat_map, AllByRecursion}
+use Rattle.std.specs.{Prelude.◌⊎◌, List.{flat_map, AllByRecursion}}
 use Rattle.std.proofs.lemmas.Bool.{ne_eqb, lt-ltb}
-use Rattle.hunk_words.specs.declared.reason.Reason.{Reason}
+use Rattle.hunk_words.specs.{declared.reason.Reason.Reason, Bits.kind, Longs.longs}
 use Rattle.hunk_words.specs.declared.reason.Reason.TheVariants as reasons
-use Rattle.hunk_words.specs.Bits.{kind}
-use Rattle.hunk_words.specs.Longs.{longs}
 use Rattle.hunk_blocks.specs.declared.mode.Mode.TheVariants as modes
-use Rattle.hunk_blocks.specs.Values.{BlockBody, BlockValue, IsBlock}
-use Rattle.hunk_blocks.specs.Parts.{Part, body_parts}
+use Rattle.hunk_blocks.specs.{Values.{BlockBody, BlockValue, IsBlock}, Parts.{Part, body_parts}}
 use Rattle.hunk_blocks.specs.Faults.{Expects, HasRefusal, IsFront}
-use Rattle.hunk_blocks.proofs.Admitted.{word_passes}
 use Rattle.hunk_blocks.specs.BlockSteps.{Inside, BlockNext, Open, Whole, part_of, step_inside, begin_body, Follows}
-use Rattle.hunk_blocks.proofs.BlockText.{body_follows}
-use Rattle.hunk_blocks.proofs.FaultLaws.{relabel}
+use Rattle.hunk_blocks.proofs.{Admitted.word_passes, BlockText.body_follows, FaultLaws.relabel}
 use Rattle.hunk_blocks.proofs.FaultScan.{Machine, Leads, Leads-append, Passes, Reads, none_goes_on, one_fault as one_of, front_passes}
 use Rattle.hunk_blocks.proofs.Lists.{All-append, passes_then, passes_else}
 use Rattle.hunk_blocks.proofs.OneBlockFault.{PartsPass, body_passes, part_not_word}
 use Rattle.hunk_files.specs.LoadFile.{standing, AreInOrder}
-use Rattle.hunk_grammar.specs.Standings.{BlockStanding, Beside, Content, Relocating, Ending, is_content, refuse_standing, standing_of_kind, first_of}
 use Rattle.hunk_files.specs.ObjectFile.{ObjectHunk, UnitValue, ObjectFileValue, IsObjectFile, IsObjectHunk, IsUnit, IsNoObjectFile, unit_word}
 use Rattle.hunk_files.specs.ObjectFault.{WordPlace, BeforeUnits, BetweenHunks, InHunk, ObjectRole, WordAt, UnitCount, UnitName, Within, has_content, behind_block, object_role_at, object_block_labelled, object_blocks_labelled, object_hunk_labelled, unit_header_labelled, unit_labelled, units_labelled, refuse_unit, refuse_object_word, refuse_object, objects, IsTruncatedObject, HasObjectFault}
+use Rattle.hunk_grammar.specs.Standings.{BlockStanding, Beside, Content, Relocating, Ending, is_content, refuse_standing, standing_of_kind, first_of}
 pub use Rattle.hunk_files.specs.ObjectSteps.{place_next}
-use Rattle.hunk_files.proofs.HunkOrder.{standing_is}
-use Rattle.hunk_files.proofs.FileText.{standings}
-use Rattle.hunk_files.proofs.ObjectWords.{refuse_place, within_role, within_split, word_split}
-use Rattle.hunk_files.proofs.UnitFaults.{units_words}
+use Rattle.hunk_files.proofs.{HunkOrder.standing_is, FileText.standings}
+use Rattle.hunk_files.proofs.{ObjectWords.{refuse_place, within_role, within_split, word_split}, UnitFaults.units_words}
 use Rattle.hunk_files.proofs.UnitReading.{no_kind, unit_kind, text_longs}
 
 -- ---- the machine

@@ -1,8 +1,7 @@
 -- What is passed over at once goes on, or stays.
 use Rattle.std.proofs.Common.{ℕ, ◌+◌, ◌<◌, ◌≤◌, Bool, List, length, arith}
 use Rattle.hunk_grammar.specs.declared.position.Position.{Position}
-use Rattle.hunk_files.specs.Passing.{AreGroups, AreRows, AreSymbols, IsPassed, IsWholeBlock}
-use Rattle.hunk_files.specs.Passing.{no_row, one_row, no_group, one_group, no_symbol, one_symbol, content, counted, groups, symbols, nothing, passed_rows, passed_blocks}
+use Rattle.hunk_files.specs.Passing.{AreGroups, AreRows, AreSymbols, IsPassed, IsWholeBlock, no_row, one_row, no_group, one_group, no_symbol, one_symbol, content, counted, groups, symbols, nothing, passed_rows, passed_blocks}
 
 module _ (ws : List ℕ) where
   rows_on : (from count at : ℕ) → AreRows ws from count at → from ≤ at

@@ -1,25 +1,18 @@
 -- The walk over a load file goes on behind what is passed over at once.
 use Rattle.std.proofs.Common.{◌≡◌, ℕ, zero, suc, ◌+◌, ◌-◌, ◌*◌, ◌<◌, ◌≤◌, Bool, true, false, List, length, get_or, refl, sym, ap, subst, ◌∙◌, arith, Some, None, if◌then◌else◌, cond, eqb, ltb, inl, inr, ◌⊎◌}
 use Rattle.hunk_words.specs.declared.reason.Reason.TheVariants as reasons
-use Rattle.hunk_words.specs.Longs.{IsBytes, longs}
-use Rattle.hunk_words.specs.Bits.{size_longs, has_both_bits, name_longs}
-use Rattle.hunk_blocks.specs.Parts.{Part as parts}
-use Rattle.hunk_blocks.specs.PhaseSteps.{part_at}
-use Rattle.hunk_blocks.specs.declared.phase.Phase.{Phase}
+use Rattle.hunk_words.specs.{Longs.{IsBytes, longs}, Bits.{size_longs, has_both_bits, name_longs}}
+use Rattle.hunk_blocks.specs.{Parts.{Part as parts}, PhaseSteps.part_at, declared.phase.Phase.Phase}
 use Rattle.hunk_blocks.specs.declared.phase.Phase.TheVariants as phases
 use Rattle.hunk_blocks.proofs.Lists.{passes_else, passes_then}
 use Rattle.std.proofs.lemmas.Bool.{le-ltb, lt-ltb, ne_eqb}
 use Rattle.hunk_grammar.specs.declared.phase.OpenHunk as numbers
-use Rattle.hunk_grammar.specs.declared.position.Position.{Position}
+use Rattle.hunk_grammar.specs.{declared.position.Position.Position, Positions.{role_at, EndsWithin}, Roles.refuse}
 use Rattle.hunk_grammar.specs.declared.position.Position.TheVariants as positions
 use Rattle.hunk_grammar.specs.Positions as scan
-use Rattle.hunk_grammar.specs.Positions.{role_at, EndsWithin}
-use Rattle.hunk_grammar.specs.Roles.{refuse}
 use Rattle.hunk_grammar.proofs.OffsetRuns.{offset_passes}
-use Rattle.hunk_files.specs.declared.load.walk.Entry.{Entry}
-use Rattle.hunk_files.specs.Entries.{entry_at}
-use Rattle.hunk_files.specs.Passing.{AreBlocks, AreGroups, AreRows, AreSymbols, BeginsBlock, IsGroup, IsList, IsPassed, IsWholeBlock, behind_row, behind_symbol, having}
-use Rattle.hunk_files.specs.Passing.{no_row, one_row, no_group, one_group, no_symbol, one_symbol, content, counted, groups, symbols, no_block, one_block, nothing, passed_rows, passed_blocks}
+use Rattle.hunk_files.specs.{declared.load.walk.Entry.Entry, Entries.entry_at}
+use Rattle.hunk_files.specs.Passing.{AreBlocks, AreGroups, AreRows, AreSymbols, BeginsBlock, IsGroup, IsList, IsPassed, IsWholeBlock, behind_row, behind_symbol, having, no_row, one_row, no_group, one_group, no_symbol, one_symbol, content, counted, groups, symbols, no_block, one_block, nothing, passed_rows, passed_blocks}
 use Rattle.hunk_files.proofs.LoadWalks.{Walks, all_passed, none_left, passes}
 
 -- ---- a longword and its run

@@ -2,14 +2,11 @@
 use Rattle.std.proofs.Common.{◌≡◌, ℕ, Bool, true, false, ◌||◌, List, [], ◌∷◌, ◌++◌, map, refl, ap, ap₂, ◌∙◌}
 use Rattle.std.specs.List.{AllByRecursion}
 use Rattle.std.proofs.lemmas.List.{map-append}
-use Rattle.hunk_blocks.specs.Values.{BlockValue, IsBlock}
-use Rattle.hunk_blocks.specs.Parts.{Part, block_parts}
-use Rattle.hunk_blocks.specs.Faults.{words}
+use Rattle.hunk_blocks.specs.{Values.{BlockValue, IsBlock}, Parts.{Part, block_parts}, Faults.words}
 use Rattle.hunk_files.specs.LoadFile.{HunkValue, IsHunkBlock, AreInOrder, standing, declared_longs}
+use Rattle.hunk_files.specs.{LoadText.{block_labelled, blocks_labelled, hunk_labelled}, Hunks.block_texts}
 use Rattle.hunk_grammar.specs.Standings.{BlockStanding, Beside, Content, Relocating, Ending, is_content, is_ending}
 use Rattle.hunk_grammar.specs.Roles.{Place, Role, InBlock}
-use Rattle.hunk_files.specs.LoadText.{block_labelled, blocks_labelled, hunk_labelled}
-use Rattle.hunk_files.specs.Hunks.{block_texts}
 use Rattle.hunk_files.proofs.FileText.{standings}
 
 -- ---- blocks in order, up to END

@@ -4,8 +4,7 @@ use Rattle.std.specs.List.{flat_map}
 use Rattle.std.proofs.lemmas.List.{length-drop, drop-drop, drop_at}
 use Rattle.hunk_words.specs.Longs.{bytes_of}
 use Rattle.hunk_words.proofs.LongLaws.{bytes_of-append, length-bytes_of}
-use Rattle.hunk_files.specs.Lacks.{Behind, EndsAt, IsLast}
-use Rattle.hunk_files.specs.InPlace.{FirstEndsAt, StandAt}
+use Rattle.hunk_files.specs.{Lacks.{Behind, EndsAt, IsLast}, InPlace.{FirstEndsAt, StandAt}}
 
 -- Where a text stands, there is room for it.
 pub text_inside : (bytes : List ℕ) (start : ℕ) (words rest : List ℕ) → drop start bytes ≡ bytes_of words ++ rest → 1 ≤ length words → start + 4 * length words ≤ length bytes

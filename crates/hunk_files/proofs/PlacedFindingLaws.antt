@@ -3,12 +3,10 @@ use Rattle.std.proofs.Common.{◌≡◌, ℕ, ◌+◌, ◌*◌, List, [], ◌∷
 use Rattle.std.specs.List.{flat_map}
 use Rattle.std.proofs.lemmas.List.{map-append}
 use Rattle.hunk_words.specs.Bits.{kind}
-use Rattle.hunk_blocks.specs.Parts.{block_text, ext_text, group_text}
-use Rattle.hunk_blocks.specs.Placed.{GivesFirst, Placed}
+use Rattle.hunk_blocks.specs.{Parts.{block_text, ext_text, group_text}, Placed.{GivesFirst, Placed}}
 use Rattle.hunk_blocks.specs.Values.{BlockBody, BlockValue, Reloc, Ext}
 use Rattle.hunk_files.specs.Findings.{FindingValue, HunkContext, body_findings, entry_findings, findings, group_findings, hunk_bytes, hunk_findings, hunks_findings, outside, reference_width, relocation_findings, relocation_width, units_findings}
-use Rattle.hunk_files.specs.Hunks.{block_texts}
-use Rattle.hunk_files.specs.InPlace.{GivesPart}
+use Rattle.hunk_files.specs.{Hunks.block_texts, InPlace.GivesPart}
 use Rattle.hunk_files.specs.ObjectFile.{ObjectFileValue, ObjectHunk, UnitValue, unit_header, unit_text}
 use Rattle.hunk_files.specs.PlacedFindings.{PlacedFinding, block_findings_at, body_findings_at, entry_findings_at, group_findings_at, hunk_findings_at, hunks_findings_at, in_turn, offsets_findings_at, placed_findings, standing_at, unit_findings_at, units_findings_at}
 

@@ -1,16 +1,13 @@
 -- At the place of each finding stands its offset.
 use Rattle.std.proofs.Common.{◌≡◌, ℕ, ◌+◌, ◌-◌, ◌*◌, Bool, true, false, cond, List, [], ◌∷◌, ◌++◌, length, refl, sym, ap, subst, ◌∙◌, append_assoc, append-nil, length-append, Option, Some, None, arith}
-use Rattle.std.specs.Prelude.{⊤, nat_lt}
-use Rattle.std.specs.List.{AllByRecursion, flat_map}
+use Rattle.std.specs.{Prelude.{⊤, nat_lt}, List.{AllByRecursion, flat_map}}
 use Rattle.hunk_words.specs.Bits.{kind}
 use Rattle.hunk_blocks.specs.declared.ext_shape.ExtShape.{ExtShape}
 use Rattle.hunk_blocks.specs.declared.ext_shape.ExtShape.TheVariants.{Definition, References, Common}
-use Rattle.hunk_blocks.specs.Entries.{shaped_text}
-use Rattle.hunk_blocks.specs.ExtKinds.{ext_shape}
+use Rattle.hunk_blocks.specs.{Entries.shaped_text, ExtKinds.ext_shape}
 use Rattle.hunk_blocks.specs.Parts.{block_text, body_text, ext_text, group_text}
 use Rattle.hunk_blocks.specs.Values.{BlockBody, BlockValue, ExtEntry, RelocGroup, FitsShape, FitsWord, IsBlock, IsExtEntry, Reloc, Ext, ext_type}
-use Rattle.hunk_blocks.proofs.Lists.{All-append}
-use Rattle.hunk_blocks.proofs.PartTexts.{body_text_is, ext_text_is, group_text_is}
+use Rattle.hunk_blocks.proofs.{Lists.All-append, PartTexts.{body_text_is, ext_text_is, group_text_is}}
 use Rattle.hunk_files.specs.declared.object.check.FindingKind.TheVariants.{BadTarget, OutsideHunk}
 use Rattle.hunk_files.specs.Findings.{FindingValue, HunkContext, finding, hunk_bytes, outside, reference_width, relocation_findings, relocation_width}
 use Rattle.hunk_files.specs.Hunks.{block_texts}

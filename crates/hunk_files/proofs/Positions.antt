@@ -1,31 +1,24 @@
 -- What was read of a load file, in numbers alone: the position of its reader.
 use Rattle.std.proofs.Common.{◌≡◌, ◌≢◌, ℕ, zero, suc, ◌+◌, ◌/◌, ◌%◌, ◌^◌, Bool, true, false, cond, List, [], ◌∷◌, ◌++◌, length, refl, ap, ◌∙◌, arith, Option}
-use Rattle.hunk_words.specs.declared.block_word.Kind.{Kind}
+use Rattle.hunk_words.specs.{declared.block_word.Kind.Kind, Bits.{size_longs, has_both_bits, kind, entry_type}}
 use Rattle.hunk_words.specs.declared.block_word.Kind.TheVariants as kinds
-use Rattle.hunk_words.specs.Bits.{size_longs, has_both_bits, kind, entry_type}
-use Rattle.hunk_blocks.specs.Values.{SymbolEntry, ExtEntry, BlockValue}
-use Rattle.hunk_blocks.specs.Parts.{Part, Part as parts}
-use Rattle.hunk_blocks.specs.PhaseSteps.{part_at}
-use Rattle.hunk_blocks.specs.ReaderPhase.{phase_of, next_phase}
+use Rattle.hunk_blocks.specs.{Values.{SymbolEntry, ExtEntry, BlockValue}, Parts.{Part, Part as parts}}
+use Rattle.hunk_blocks.specs.{PhaseSteps.part_at, ReaderPhase.{phase_of, next_phase}}
 use Rattle.hunk_blocks.specs.BlockSteps.{ForName, ForCode, ForData, Filling, Counted, SizedCode, SizedData, Inside, AtCount, AtSize, InPayload, AtGroup, InOffsets, AtEntry, InName, AtExtWord, InExtName, AtExtCount, InExtOffsets, BlockNext, Open, Whole, begin_body, step_inside, fill, name_entry, name_external}
+use Rattle.hunk_blocks.specs.declared.phase.Phase.{Phase}
 use Rattle.hunk_blocks.proofs.BlockPhases.{IsReference, same_part, step_phase, begin_phase, phase_no_word}
 use Rattle.hunk_blocks.proofs.Lists.{map-more, more_owed}
 use Rattle.hunk_grammar.specs.declared.phase.OpenHunk as numbers
-use Rattle.hunk_blocks.specs.declared.phase.Phase.{Phase}
 use Rattle.hunk_blocks.specs.declared.phase.Phase.TheVariants as phases
-use Rattle.hunk_grammar.specs.declared.position.Position.{Position}
+use Rattle.hunk_grammar.specs.{declared.position.Position.Position, Positions.{role_at, is_between_hunks}}
+use Rattle.hunk_grammar.specs.Roles.{Place, refuse, refuse_part}
+use Rattle.hunk_grammar.specs.Standings.{BlockStanding, Beside, Content, Relocating, Ending}
 use Rattle.hunk_grammar.specs.declared.position.Position.TheVariants as positions
 use Rattle.hunk_grammar.specs.Positions as scan
-use Rattle.hunk_grammar.specs.Positions.{role_at, is_between_hunks}
-use Rattle.hunk_grammar.specs.Roles.{Place, refuse, refuse_part}
-use Rattle.hunk_files.specs.LoadFile.{TableEntry, HunkValue, standing}
-use Rattle.hunk_grammar.specs.Standings.{BlockStanding, Beside, Content, Relocating, Ending}
-use Rattle.hunk_files.specs.LoadText.{table}
+use Rattle.hunk_files.specs.{LoadFile.{TableEntry, HunkValue, standing}, LoadText.table}
 use Rattle.hunk_files.specs.ReaderPosition.{open_of, block_phase, position_of, open_longs, opened}
 use Rattle.hunk_files.specs.FileSteps.{HunkSoFar, Progress, AtFirst, AtLastHunk, AtSizeWord, AtAttributes, AtBlock, InBody, Next, More, Finished, role_of, place_of, step_file, rows, open_hunk, with_block, close_by, sized_row, after, hunk, block, table_entry}
-use Rattle.hunk_files.proofs.FileProgress.{ProgressFits}
-use Rattle.hunk_files.proofs.HunkProgress.{Within}
-use Rattle.hunk_files.proofs.Shapes.{by_shape}
+use Rattle.hunk_files.proofs.{FileProgress.ProgressFits, HunkProgress.Within, Shapes.by_shape}
 
 -- ---- refusals
 

@@ -1,21 +1,15 @@
 -- Ranges that are handed over one by one are all that stays.
 use Rattle.std.proofs.Common.{◌≡◌, ℕ, ◌+◌, ◌-◌, ◌*◌, ◌≤◌, Bool, true, false, cond, Some, None, List, [], ◌∷◌, ◌++◌, length, take, drop, refl, sym, ap, subst, ◌∙◌, append_assoc, append-nil, length-append, arith}
-use Rattle.std.specs.Prelude.{slice_range}
-use Rattle.std.specs.List.{flat_map}
 use Rattle.std.proofs.Math.Seq.{take-add}
+use Rattle.std.specs.{Prelude.slice_range, List.flat_map}
 use Rattle.std.proofs.lemmas.List.{drop-drop, take_at}
 use Rattle.hunk_words.specs.Longs.{bytes_of}
 use Rattle.hunk_words.proofs.LongLaws.{bytes_of-append, bytes_of-nil, length-bytes_of}
-use Rattle.hunk_blocks.specs.Parts.{block_text}
-use Rattle.hunk_blocks.specs.Placed.{Placed}
-use Rattle.hunk_blocks.specs.Values.{BlockValue, IsBlock}
+use Rattle.hunk_blocks.specs.{Parts.block_text, Placed.Placed, Values.{BlockValue, IsBlock}}
 use Rattle.hunk_blocks.proofs.Lists.{flat_map-more}
-use Rattle.hunk_files.specs.Hunks.{HunkAt, block_texts}
-use Rattle.hunk_files.specs.InPlace.{GivesPart, StandAt}
-use Rattle.hunk_files.specs.Ranges.{HandsOver}
+use Rattle.hunk_files.specs.{Hunks.{HunkAt, block_texts}, InPlace.{GivesPart, StandAt}, Ranges.HandsOver}
 use Rattle.hunk_files.specs.Strip.{is_kept, strip_blocks}
-use Rattle.hunk_files.proofs.HunkBlocks.{hunk_inside}
-use Rattle.hunk_files.proofs.PlaceLaws.{stand_behind, stand_first}
+use Rattle.hunk_files.proofs.{HunkBlocks.hunk_inside, PlaceLaws.{stand_behind, stand_first}}
 
 -- ---- ranges
 

@@ -1,22 +1,17 @@
 -- What a reader that takes longwords one by one has to know, in a few lemmas.
 use Rattle.std.proofs.Common.{◌≡◌, ℕ, ◌*◌, List, [], ◌∷◌, ◌++◌, length, refl, sym, ap, ap₂, subst, ◌∙◌, Some, None}
 use Rattle.std.proofs.lemmas.List.{map-append}
-use Rattle.hunk_words.specs.declared.reason.Reason.{Reason}
-use Rattle.hunk_words.specs.Longs.{longs, IsLong}
+use Rattle.hunk_words.specs.{declared.reason.Reason.Reason, Longs.{longs, IsLong}}
 use Rattle.hunk_blocks.specs.Faults.{words}
-use Rattle.hunk_files.specs.LoadFile.{LoadFileValue, IsLoadFile}
-use Rattle.hunk_grammar.specs.Roles.{Role, refuse}
-use Rattle.hunk_files.specs.LoadText.{text, labelled}
+use Rattle.hunk_files.specs.{LoadFile.{LoadFileValue, IsLoadFile}, LoadText.{text, labelled}}
 use Rattle.hunk_files.specs.Fault.{Expects, HasRefusal}
 use Rattle.hunk_files.specs.FileSteps.{Progress, AtFirst, Next, More, Finished, role_of, step_file, Leads}
-use Rattle.hunk_files.proofs.FileText.{file_leads, Leads-append}
-use Rattle.hunk_files.proofs.FileProgress.{Reads}
-use Rattle.hunk_files.proofs.Runs.{Leads-keeps, Leads-split, Leads-same}
 use Rattle.hunk_files.specs.WordsRead.{HasRead, Labelled, IsAccepted, AreAccepted}
-use Rattle.hunk_files.proofs.Accepted.{labelled_accepted}
+use Rattle.hunk_grammar.specs.Roles.{Role, refuse}
+use Rattle.hunk_files.proofs.{FileText.{file_leads, Leads-append}, FileProgress.Reads}
+use Rattle.hunk_files.proofs.{Runs.{Leads-keeps, Leads-split, Leads-same}, Accepted.labelled_accepted}
 use Rattle.hunk_files.proofs.Scan.{words_split, expects_of}
-use Rattle.hunk_blocks.proofs.Lists.{All-append}
-use Rattle.hunk_blocks.proofs.Fronts.{All-right}
+use Rattle.hunk_blocks.proofs.{Lists.All-append, Fronts.All-right}
 
 -- What was read fits, and is the text so far.
 pub reads : {ws : List ℕ} {n : Next} (h : HasRead ws n) → Reads n h.done

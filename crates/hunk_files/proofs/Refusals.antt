@@ -1,11 +1,10 @@
 -- The reasons that a longword of a load file can be refused for.
 use Rattle.std.proofs.Common.{◌≡◌, ◌≢◌, ℕ, ◌+◌, Bool, true, false, cond, List, Some, None, Option, refl, sym, subst, ◌∙◌, ◌==◌, inl, inr}
 use Rattle.std.specs.Prelude.{IfSome, IsTrue, nat_lt}
-use Rattle.hunk_words.specs.declared.block_word.Kind.{Kind}
-use Rattle.hunk_words.specs.declared.block_word.Kind.TheVariants as kinds
-use Rattle.hunk_words.specs.declared.reason.Reason.{Reason}
-use Rattle.hunk_words.specs.declared.reason.Reason.TheVariants as reasons
+use Rattle.hunk_words.specs.{declared.block_word.Kind.Kind, declared.reason.Reason.Reason}
 use Rattle.hunk_words.specs.Bits.{has_both_bits, size_longs, is_advisory, kind}
+use Rattle.hunk_words.specs.declared.block_word.Kind.TheVariants as kinds
+use Rattle.hunk_words.specs.declared.reason.Reason.TheVariants as reasons
 use Rattle.hunk_blocks.specs.Parts.{Part, Part as parts}
 use Rattle.hunk_grammar.specs.Roles.{Place, Role, Role as roles, InBlock, refuse, refuse_kind, refuse_part}
 use Rattle.hunk_files.specs.Fault.{HasRefusal, HasFault, is_word_refusal, is_load_refusal}

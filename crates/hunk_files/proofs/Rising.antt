@@ -1,11 +1,8 @@
 -- Offsets in rising order: neighbours decide which offsets are close.
 use Rattle.std.proofs.Common.{◌≡◌, ℕ, zero, suc, ◌+◌, ◌<◌, ◌≤◌, List, length, get_or, arith, ◌∙◌, subst, refl, ◌-◌, ◌⊎◌, inl, inr}
-use Rattle.std.specs.List.{Contains}
-use Rattle.std.specs.List.Sorted.{IsNonDecreasing, IsPermutation}
-use Rattle.std.proofs.lemmas.List.{get_or_default}
-use Rattle.std.proofs.lemmas.Bool.{cases_lt}
 use Rattle.std.proofs.Math.Nat.{eq-or-lt_of_le}
-use Rattle.std.proofs.lemmas.List.Elements.{Contains-get_or}
+use Rattle.std.specs.{List.Contains, List.Sorted.{IsNonDecreasing, IsPermutation}}
+use Rattle.std.proofs.lemmas.{List.get_or_default, Bool.cases_lt, List.Elements.Contains-get_or}
 use Rattle.std.proofs.lemmas.List.Sorted.{Contains-permutation, IsPermutation-sym}
 use Rattle.hunk_files.specs.Overlap.{IsClose, AreApart, IsFirstOverlap}
 

@@ -3,24 +3,18 @@ use Rattle.std.proofs.Common.{◌≡◌, ◌≢◌, ℕ, ◌*◌, List, [], ◌�
 use Rattle.std.specs.List.{AllByRecursion}
 use Rattle.std.proofs.lemmas.List.{map-append}
 use Rattle.hunk_words.specs.declared.reason.Reason.TheVariants as reasons
-use Rattle.hunk_words.specs.declared.reason.Reason.{Reason}
-use Rattle.hunk_words.specs.Longs.{longs, bytes_of, IsLong, AreLongs, IsBytes}
-use Rattle.hunk_files.specs.LoadFile.{LoadFileValue, IsLoadFile}
-use Rattle.hunk_grammar.specs.Roles.{Role, refuse}
-use Rattle.hunk_files.specs.LoadText.{text, labelled}
-use Rattle.hunk_blocks.proofs.FaultScan.{Machine, Leads as LeadsOf, Reads as ReadsOf, one_fault as one_of, front_passes, whole_passes, ends_together}
-use Rattle.hunk_blocks.proofs.Outcomes.{Keeps, run, front, judged, expected_role}
-use Rattle.hunk_blocks.specs.Faults.{IsFront, words}
+use Rattle.hunk_words.specs.{declared.reason.Reason.Reason, Longs.{longs, bytes_of, IsLong, AreLongs, IsBytes}}
+use Rattle.hunk_files.specs.{LoadFile.{LoadFileValue, IsLoadFile}, LoadText.{text, labelled}}
 use Rattle.hunk_files.specs.Fault.{Expects, HasRefusal, BeginsWithLoadFile, IsTruncated, HasFault, IsCompleted, completing, load_files}
 use Rattle.hunk_files.specs.FileSteps.{Progress, AtFirst, Next, More, Finished, role_of, step_file, Leads}
-use Rattle.hunk_files.proofs.FileText.{file_leads}
-use Rattle.hunk_files.proofs.FileProgress.{Reads, step_keeps}
-use Rattle.hunk_files.proofs.Runs.{Leads-split, Leads-keeps}
 use Rattle.hunk_files.specs.WordsRead.{Labelled, IsAccepted, AreAccepted}
-use Rattle.hunk_files.proofs.Accepted.{labelled_accepted}
-use Rattle.hunk_files.proofs.Completion.{IsOwed, completes}
+use Rattle.hunk_grammar.specs.Roles.{Role, refuse}
+use Rattle.hunk_blocks.proofs.FaultScan.{Machine, Leads as LeadsOf, Reads as ReadsOf, one_fault as one_of, front_passes, whole_passes, ends_together}
+use Rattle.hunk_blocks.proofs.{Outcomes.{Keeps, run, front, judged, expected_role}, Fronts.All-left}
+use Rattle.hunk_blocks.specs.Faults.{IsFront, words}
+use Rattle.hunk_files.proofs.{FileText.file_leads, FileProgress.{Reads, step_keeps}, Runs.{Leads-split, Leads-keeps}}
+use Rattle.hunk_files.proofs.{Accepted.labelled_accepted, Completion.{IsOwed, completes}}
 use Rattle.hunk_words.proofs.LongLaws.{longs-bytes_of, bytes_of-append, spelled, longs_fit}
-use Rattle.hunk_blocks.proofs.Fronts.{All-left}
 
 -- ---- a place in a load text
 

@@ -1,11 +1,9 @@
 -- What may stand behind the name of an EXT entry, by its type.
 use Rattle.std.proofs.Common.{ℕ, List, Option, Some, None}
 use Rattle.std.specs.Option.{option_map}
-use Rattle.hunk_blocks.specs.declared.ext_kind.ExtKind.{ExtKind}
-use Rattle.hunk_blocks.specs.declared.ext_shape.ExtShape.{ExtShape}
+use Rattle.hunk_blocks.specs.{declared.ext_kind.ExtKind.ExtKind, declared.ext_shape.ExtShape.ExtShape}
 use Rattle.hunk_blocks.specs.declared.ext_shape.ExtShape.TheVariants.{Definition, References, Common}
-use Rattle.hunk_blocks.specs.ExtKinds.{ext_kind, ext_shape, shape_of_kind}
-use Rattle.hunk_blocks.specs.Values.{ExtEntry}
+use Rattle.hunk_blocks.specs.{ExtKinds.{ext_kind, ext_shape, shape_of_kind}, Values.ExtEntry}
 use Rattle.hunk_blocks.specs.BlockSteps.{BlockNext, Open, AtExtValue, AtExtCount, AtExtSize, AtExtWord, shaped}
 
 -- A fact of each of the four holds of the one that a type leads to.

@@ -1,11 +1,7 @@
 -- Blocks that are visited one after the other, as they stand in a file.
 use Rattle.std.proofs.Common.{◌≡◌, ℕ, ◌+◌, List, [], ◌∷◌, ◌++◌, map, sym, ap, ◌∙◌, Some}
-use Rattle.hunk_blocks.specs.Parts.{block_text}
-use Rattle.hunk_blocks.specs.Placed.{Placed}
-use Rattle.hunk_blocks.specs.Values.{BlockValue}
-use Rattle.hunk_files.specs.Hunks.{block_texts}
-use Rattle.hunk_files.specs.InPlace.{GivesPart}
-use Rattle.hunk_files.specs.LoadFile.{HunkValue}
+use Rattle.hunk_blocks.specs.{Parts.block_text, Placed.Placed, Values.BlockValue}
+use Rattle.hunk_files.specs.{Hunks.block_texts, InPlace.GivesPart, LoadFile.HunkValue}
 use Rattle.hunk_files.specs.ObjectFile.{UnitValue, unit_text}
 use Rattle.hunk_files.specs.StandingBlocks.{hunk_blocks, hunks_blocks, unit_blocks, units_blocks}
 

@@ -9,10 +9,8 @@ use Rattle.hunk_files.specs.Image.{block_content, block_relocations, content, re
 use Rattle.hunk_files.specs.ObjectFile.{ObjectHunk, UnitValue, ObjectFileValue, IsObjectHunk, IsUnit, IsObjectFile}
 use Rattle.hunk_files.specs.Findings.{FindingValue, HunkContext, content_size, hunk_bytes, body_findings, hunk_findings, hunks_findings, unit_findings, units_findings, findings}
 use Rattle.hunk_files.specs.Strip.{is_kept, strip_blocks, strip_hunk, strip_file, strip_unit, strip_object}
-use Rattle.hunk_files.proofs.Accepted.{All-map}
+use Rattle.hunk_files.proofs.{Accepted.All-map, FileText.{standings, no_more}, HunkOrder.by_standing}
 use Rattle.hunk_grammar.specs.Standings.{BlockStanding, Beside}
-use Rattle.hunk_files.proofs.FileText.{standings, no_more}
-use Rattle.hunk_files.proofs.HunkOrder.{by_standing}
 
 -- ---- what the dropped blocks do not have
 

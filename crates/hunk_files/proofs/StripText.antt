@@ -3,14 +3,9 @@ use Rattle.std.proofs.Common.{ℕ, ◌≤◌, List, [], ◌∷◌, length, ap, l
 use Rattle.hunk_words.specs.Longs.{bytes_of}
 use Rattle.hunk_words.proofs.LongLaws.{length-bytes_of}
 use Rattle.hunk_blocks.specs.Faults.{words}
-use Rattle.hunk_files.specs.LoadFile.{LoadFileValue, TableEntry}
-use Rattle.hunk_files.specs.LoadText.{header_labelled, table, text}
-use Rattle.hunk_files.specs.Hunks.{block_texts}
-use Rattle.hunk_files.specs.Strip.{strip_blocks, strip_file}
-use Rattle.hunk_files.specs.Tables.{hunk_texts}
-use Rattle.hunk_files.proofs.StripLaws.{table_kept}
-use Rattle.hunk_files.proofs.TableReading.{text_is}
-use Rattle.hunk_files.proofs.StripSteps.{shorter_blocks}
+use Rattle.hunk_files.specs.{LoadFile.{LoadFileValue, TableEntry}, LoadText.{header_labelled, table, text}}
+use Rattle.hunk_files.specs.{Hunks.block_texts, Strip.{strip_blocks, strip_file}, Tables.hunk_texts}
+use Rattle.hunk_files.proofs.{StripLaws.table_kept, TableReading.text_is, StripSteps.shorter_blocks}
 
 hunks_shorter : (v : LoadFileValue) → length (hunk_texts (strip_file v)) ≤ length (hunk_texts v)
 hunks_shorter [] = omega arith

@@ -1,19 +1,15 @@
 -- Longs that lie apart: one addition after the other is one sum.
 use Rattle.std.proofs.Common.{◌≡◌, ℕ, zero, suc, ◌+◌, ◌-◌, ◌*◌, ◌%◌, ◌^◌, ◌<◌, ◌≤◌, ◌==◌, cond, if◌then◌else◌, List, [], ◌∷◌, ◌++◌, length, get_or, take, drop, replicate, refl, sym, ap, subst, ◌∙◌, arith, ◌⊎◌, inl, inr}
-use Rattle.std.specs.List.{Contains, AllByRecursion, flat_map}
-use Rattle.std.specs.Int.{w32, to_be_bytes}
-use Rattle.std.proofs.lemmas.List.{length-append, length-replicate, get_or_append_left, get_or-append_right, get_or-replicate, get_or_past, get_or-take, get_or-drop, ext_get_or, length-take, length-drop}
-use Rattle.std.proofs.lemmas.List.Sums.{sum_by-cons}
-use Rattle.std.proofs.lemmas.Nat.{be_bytes_4}
-use Rattle.std.proofs.lemmas.Bool.Decides.{nat_tests}
 use Rattle.std.proofs.Math.Nat.{mod-add-mod}
+use Rattle.std.specs.{List.{Contains, AllByRecursion, flat_map}, Int.{w32, to_be_bytes}}
+use Rattle.std.proofs.lemmas.List.{length-append, length-replicate, get_or_append_left, get_or-append_right, get_or-replicate, get_or_past, get_or-take, get_or-drop, ext_get_or, length-take, length-drop}
+use Rattle.std.proofs.lemmas.{List.Sums.sum_by-cons, Nat.be_bytes_4, Bool.Decides.nat_tests}
 use Rattle.std.proofs.lemmas.Bool.{cases_lt, cases_order}
 use Rattle.hunk_words.specs.Longs.{bytes_of, IsBytes}
 use Rattle.hunk_blocks.specs.Values.{RelocGroup, BlockBody, BlockValue, Code, Data, Reloc}
 use Rattle.hunk_files.specs.LoadFile.{HunkValue, FitsGroup, FitsHunk, IsHunk, IsHunkBlock, IsInside, declared_longs}
 use Rattle.hunk_files.specs.Image.{content, relocations, offsets, image, relocated, add_at, filled, block_content, block_relocations, group_relocations}
-use Rattle.hunk_files.specs.Overlap.{AreApart}
-use Rattle.hunk_files.specs.SumImage.{long_at, added, IsOutside, IsSum, IsSumImage}
+use Rattle.hunk_files.specs.{Overlap.AreApart, SumImage.{long_at, added, IsOutside, IsSum, IsSumImage}}
 use Rattle.hunk_files.proofs.AddAt.{added_length, added_beside, added_bytes, added_here, added_away, bytes_of_word, bytes_in_long, long_at_fits}
 use Rattle.hunk_files.proofs.Accepted.{All-map, All-flat_map}
 

@@ -2,17 +2,14 @@
 use Rattle.std.proofs.Common.{◌≡◌, ℕ, ◌+◌, ◌*◌, ◌≤◌, Bool, true, false, List, [], ◌∷◌, ◌++◌, length, get_or, drop, refl, ap, ap₂, ◌∙◌, append_assoc, arith, if◌then◌else◌}
 use Rattle.std.specs.List.{flat_map}
 use Rattle.std.proofs.lemmas.List.{length-append, map-append, drop_at}
-use Rattle.hunk_words.specs.Longs.{longs, bytes_of}
-use Rattle.hunk_words.specs.Bits.{has_both_bits}
+use Rattle.hunk_words.specs.{Longs.{longs, bytes_of}, Bits.has_both_bits}
 use Rattle.hunk_words.proofs.LongLaws.{bytes_of-append, length-bytes_of}
 use Rattle.hunk_blocks.specs.Faults.{words}
 use Rattle.hunk_files.specs.LoadFile.{TableEntry, LoadFileValue}
-use Rattle.hunk_grammar.specs.Roles.{Role, Role as roles}
 use Rattle.hunk_files.specs.LoadText.{entry_labelled, header_labelled, hunk_labelled, labelled, table, text}
-use Rattle.hunk_files.specs.Fault.{BeginsWithLoadFile}
-use Rattle.hunk_files.specs.Tables.{entry_text, header_text, hunk_texts}
-use Rattle.hunk_files.proofs.Scan.{begun_longs}
-use Rattle.hunk_files.proofs.Peel.{hunk_words}
+use Rattle.hunk_files.specs.{Fault.BeginsWithLoadFile, Tables.{entry_text, header_text, hunk_texts}}
+use Rattle.hunk_grammar.specs.Roles.{Role, Role as roles}
+use Rattle.hunk_files.proofs.{Scan.begun_longs, Peel.hunk_words}
 
 abbrev pub entries_words : List TableEntry → List ℕ
 entries_words es = words (flat_map entry_labelled es)

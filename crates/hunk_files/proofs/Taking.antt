@@ -1,13 +1,10 @@
 -- Parts that are taken one by one, as they lie in the input.
 use Rattle.std.proofs.Common.{◌≡◌, ℕ, ◌+◌, ◌*◌, List, [], ◌∷◌, ◌++◌, drop, length, refl, sym, ap, subst, ◌∙◌, append_assoc, append-nil, length-append, Option, Some, None, arith}
-use Rattle.std.specs.List.{flat_map}
-use Rattle.std.specs.Iterator.{MakesProgress, item_count}
-use Rattle.std.proofs.lemmas.Iterator.{YieldsList}
-use Rattle.std.proofs.lemmas.Iterator.Consumers.{YieldsList-from_shown}
+use Rattle.std.specs.{List.flat_map, Iterator.{MakesProgress, item_count}}
+use Rattle.std.proofs.lemmas.{Iterator.YieldsList, Iterator.Consumers.YieldsList-from_shown}
 use Rattle.hunk_blocks.specs.Placed.{Placed}
 use Rattle.hunk_blocks.proofs.Lists.{flat_map-more}
-use Rattle.hunk_files.specs.InPlace.{GivesPart, IsFirstPart}
-use Rattle.hunk_files.specs.Lacks.{EndsAt, Within}
+use Rattle.hunk_files.specs.{InPlace.{GivesPart, IsFirstPart}, Lacks.{EndsAt, Within}}
 
 -- a part given is one less to come
 pub part_less : {A : Type 0} (text : A → List ℕ) (can : Placed (List A) → Type 0) (always : (s : Placed (List A)) → can s) (s t : Placed (List A)) (part : Placed A) → GivesPart text s (Some part) t →

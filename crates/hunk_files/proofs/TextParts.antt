@@ -1,16 +1,11 @@
 -- The text of a load file in memory, in the parts that are written.
 use Rattle.std.proofs.Common.{◌≡◌, ℕ, ◌-◌, true, false, List, [], ◌∷◌, ◌++◌, length, map, refl, sym, ap, ap₂, ◌∙◌, append_assoc}
 use Rattle.std.specs.List.{flat_map}
-use Rattle.std.proofs.lemmas.List.{length-map}
-use Rattle.std.proofs.lemmas.List.Folds.{flat_map-map}
-use Rattle.hunk_words.specs.Longs.{bytes_of}
-use Rattle.hunk_words.specs.Bits.{has_both_bits}
+use Rattle.std.proofs.lemmas.{List.length-map, List.Folds.flat_map-map}
+use Rattle.hunk_words.specs.{Longs.bytes_of, Bits.has_both_bits}
 use Rattle.hunk_words.proofs.LongLaws.{bytes_of-cons, bytes_of-append}
-use Rattle.hunk_files.specs.declared.row.Row.{Row}
-use Rattle.hunk_files.specs.declared.load.hunk.LoadHunk.{LoadHunk}
-use Rattle.hunk_files.specs.LoadFile.{HunkValue, LoadFileValue}
-use Rattle.hunk_files.specs.LoadText.{table, text}
-use Rattle.hunk_files.specs.Hunks.{block_texts}
+use Rattle.hunk_files.specs.{declared.row.Row.Row, declared.load.hunk.LoadHunk.LoadHunk}
+use Rattle.hunk_files.specs.{LoadFile.{HunkValue, LoadFileValue}, LoadText.{table, text}, Hunks.block_texts}
 use Rattle.hunk_files.specs.Tables.{row_entry, hunk_of, hunk_texts, row_words, row_texts}
 use Rattle.hunk_files.proofs.TableReading.{entries_words, entries_more, entry_words, text_is}
 

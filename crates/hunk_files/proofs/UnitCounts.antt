@@ -5,8 +5,7 @@ use Rattle.hunk_words.proofs.LongLaws.{length-bytes_of}
 use Rattle.hunk_files.specs.Hunks.{block_texts}
 use Rattle.hunk_files.specs.ObjectFile.{AreObjectFile, IsObjectHunk, ObjectFileValue, ObjectHunk, object_text, unit_header, unit_text}
 use Rattle.hunk_files.specs.Units.{UnitAt}
-use Rattle.hunk_files.proofs.HunkBlocks.{some_text}
-use Rattle.hunk_files.proofs.PlaceLaws.{text_inside}
+use Rattle.hunk_files.proofs.{HunkBlocks.some_text, PlaceLaws.text_inside}
 
 hunk_texts : (hs : List ObjectHunk) → AllByRecursion IsObjectHunk hs → length hs ≤ length (flat_map block_texts hs)
 hunk_texts [] all = omega arith

@@ -2,17 +2,14 @@
 use Rattle.std.proofs.Common.{◌≡◌, ℕ, zero, suc, ◌≤◌, Bool, true, false, cond, List, [], ◌∷◌, ◌++◌, length, refl, sym, ap, ◌∙◌, append_assoc, append-nil, length-append, arith}
 use Rattle.std.specs.List.{flat_map, AllByRecursion}
 use Rattle.std.proofs.lemmas.Bool.{ne_eqb}
-use Rattle.hunk_words.specs.Bits.{kind}
-use Rattle.hunk_words.specs.Longs.{bytes_of, longs}
+use Rattle.hunk_words.specs.{Bits.kind, Longs.{bytes_of, longs}}
 use Rattle.hunk_words.proofs.LongLaws.{longs-bytes_of}
 use Rattle.hunk_blocks.specs.Cuts.{Cut, cut_map}
-use Rattle.hunk_files.specs.Cuts.{hunk_cut}
-use Rattle.hunk_files.specs.Hunks.{block_texts}
+use Rattle.hunk_files.specs.{Cuts.hunk_cut, Hunks.block_texts}
 use Rattle.hunk_files.specs.ObjectFile.{ObjectHunk, UnitValue, ObjectFileValue, IsObjectHunk, IsUnit, IsObjectFile, unit_word, unit_header, unit_text, object_text}
 use Rattle.hunk_files.specs.UnitCuts.{items_until, ends_unit, hunks_cut, unit_cut, ends_file, units_cut}
 use Rattle.hunk_blocks.proofs.CutLaws.{cut, longs_cut_is}
-use Rattle.hunk_files.proofs.BlockCuts.{hunk_cut_is}
-use Rattle.hunk_files.proofs.HunkBlocks.{some_text}
+use Rattle.hunk_files.proofs.{BlockCuts.hunk_cut_is, HunkBlocks.some_text}
 use Rattle.hunk_files.proofs.UnitReading.{no_kind, object_longs, unit_kind}
 
 pub hunk_is : (h : ObjectHunk) (rest : List ℕ) → IsObjectHunk h → hunk_cut (block_texts h ++ rest) ≡ cut h rest

@@ -1,15 +1,12 @@
 -- The faults of a unit header, of a unit and of an object file.
 use Rattle.std.proofs.Common.{◌≡◌, ℕ, ◌^◌, ◌<◌, List, [], ◌∷◌, ◌++◌, length, map, refl, sym, ap, ap₂, subst, ◌∙◌, append_assoc, append-nil, length-append, arith}
 use Rattle.std.specs.List.{flat_map, AllByRecursion}
-use Rattle.hunk_blocks.specs.Values.{IsPayload}
-use Rattle.hunk_blocks.specs.Parts.{block_text}
-use Rattle.hunk_blocks.specs.Faults.{words, Expects}
+use Rattle.hunk_blocks.specs.{Values.IsPayload, Parts.block_text, Faults.{words, Expects}}
 use Rattle.hunk_blocks.proofs.FaultLaws.{Embeds, embeds_same, expects_embedded, same-labels, words-append}
 use Rattle.hunk_blocks.proofs.Lists.{All-append, flat_map-append}
 use Rattle.hunk_files.specs.ObjectFile.{ObjectHunk, UnitValue, ObjectFileValue, IsObjectHunk, IsUnit, unit_word, unit_header, unit_text, object_text}
 use Rattle.hunk_files.specs.ObjectFault.{WordPlace, BeforeUnits, BetweenHunks, ObjectRole, WordAt, UnitCount, UnitName, unit_header_labelled, object_hunk_labelled, unit_labelled, units_labelled, blocks_from, units_from, objects}
-use Rattle.hunk_files.proofs.HunkFaults.{blocks_words}
-use Rattle.hunk_files.proofs.UnitReading.{unit}
+use Rattle.hunk_files.proofs.{HunkFaults.blocks_words, UnitReading.unit}
 
 -- ---- words
 

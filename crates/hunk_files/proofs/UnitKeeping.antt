@@ -5,12 +5,9 @@ use Rattle.hunk_blocks.specs.Placed.{Placed}
 use Rattle.hunk_files.specs.Hunks.{IsRead, block_texts}
 use Rattle.hunk_files.specs.Lacks.{EndsAt, EndsHunkPart, EndsObjectPart, EndsUnitPart, Within}
 use Rattle.hunk_files.specs.ObjectFile.{ObjectHunk, UnitValue, ObjectFileValue, IsUnit, unit_header, unit_text}
-use Rattle.hunk_files.specs.ObjectViews.{UnitsAt, hunks_at, unit_at, units_at}
-use Rattle.hunk_files.specs.Units.{UnitAt}
-use Rattle.hunk_files.proofs.PlaceLaws.{ends_behind, ends_map, last_at}
-use Rattle.hunk_files.proofs.ObjectViewLaws.{unit_at_is}
-use Rattle.hunk_files.proofs.Taking.{Taken, all_taken, part_taken, part_within}
-use Rattle.hunk_files.proofs.UnitReading.{unit, unit_inside}
+use Rattle.hunk_files.specs.{ObjectViews.{UnitsAt, hunks_at, unit_at, units_at}, Units.UnitAt}
+use Rattle.hunk_files.proofs.{PlaceLaws.{ends_behind, ends_map, last_at}, ObjectViewLaws.unit_at_is}
+use Rattle.hunk_files.proofs.{Taking.{Taken, all_taken, part_taken, part_within}, UnitReading.{unit, unit_inside}}
 use Rattle.hunk_files.proofs.UnitViewLaws.{UnitPassed, hunks_are_here, next_unit, no_unit, unit_ends, unit_passed}
 
 -- The name and the hunks of the unit that stands here.

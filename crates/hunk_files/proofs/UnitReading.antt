@@ -3,18 +3,14 @@ use Rattle.std.proofs.Common.{◌≡◌, ℕ, ◌+◌, ◌*◌, ◌^◌, ◌≤�
 use Rattle.std.specs.List.{flat_map, AllByRecursion}
 use Rattle.std.proofs.lemmas.List.{take_at, drop_at}
 use Rattle.hunk_words.specs.declared.block_word.Kind.TheVariants as kinds
-use Rattle.hunk_words.specs.Bits.{kind}
-use Rattle.hunk_words.specs.Longs.{longs, bytes_of, AreLongs, IsLong}
+use Rattle.hunk_words.specs.{Bits.kind, Longs.{longs, bytes_of, AreLongs, IsLong}}
 use Rattle.hunk_words.proofs.LongLaws.{bytes_of-append, length-bytes_of, longs-bytes_of}
-use Rattle.hunk_blocks.specs.Values.{BlockBody, Name, FitsWord, IsBlock, IsPayload}
-use Rattle.hunk_blocks.specs.Parts.{block_text}
+use Rattle.hunk_blocks.specs.{Values.{BlockBody, Name, FitsWord, IsBlock, IsPayload}, Parts.block_text}
 use Rattle.hunk_files.specs.Hunks.{block_texts}
 use Rattle.hunk_files.specs.ObjectFile.{ObjectHunk, UnitValue, ObjectFileValue, IsObjectHunk, IsUnit, unit_word, unit_header, unit_text, object_text}
 use Rattle.hunk_files.specs.Units.{UnitAt}
-use Rattle.hunk_files.proofs.PlaceLaws.{text_inside}
-use Rattle.hunk_files.proofs.Accepted.{All-flat_map}
-use Rattle.hunk_blocks.proofs.BlockLongs.{block_longs}
-use Rattle.hunk_blocks.proofs.Lists.{All-append}
+use Rattle.hunk_files.proofs.{PlaceLaws.text_inside, Accepted.All-flat_map}
+use Rattle.hunk_blocks.proofs.{BlockLongs.block_longs, Lists.All-append}
 
 -- ---- longwords
 

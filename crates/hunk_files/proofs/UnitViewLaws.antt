@@ -4,19 +4,14 @@ use Rattle.std.specs.List.{flat_map}
 use Rattle.std.proofs.lemmas.List.{length-drop, drop-drop, drop_at}
 use Rattle.hunk_words.specs.Longs.{bytes_of}
 use Rattle.hunk_words.proofs.LongLaws.{bytes_of-nil, length-bytes_of}
-use Rattle.hunk_blocks.specs.Cuts.{Cut}
+use Rattle.hunk_blocks.specs.{Cuts.Cut, Placed.Placed}
 use Rattle.hunk_files.specs.Hunks.{IsRead, block_texts}
 use Rattle.hunk_files.specs.ObjectFile.{ObjectHunk, UnitValue, ObjectFileValue, AreObjectFile, IsObjectHunk, IsUnit, object_text, unit_header, unit_text}
-use Rattle.hunk_files.specs.ObjectViews.{HunksAt, UnitsAt, hunks_at, unit_at, units_at, units_of}
-use Rattle.hunk_blocks.specs.Placed.{Placed}
-use Rattle.hunk_files.specs.UnitCuts.{units_cut}
-use Rattle.hunk_files.specs.InPlace.{FirstEndsAt, GivesPart, IsFirstPart, StandAt}
-use Rattle.hunk_files.specs.Units.{UnitAt}
+use Rattle.hunk_files.specs.{ObjectViews.{HunksAt, UnitsAt, hunks_at, unit_at, units_at, units_of}, UnitCuts.units_cut}
+use Rattle.hunk_files.specs.{InPlace.{FirstEndsAt, GivesPart, IsFirstPart, StandAt}, Units.UnitAt}
 use Rattle.hunk_files.proofs.ObjectViewLaws.{hunks_at_are, unit_at_is}
-use Rattle.hunk_files.proofs.PlaceLaws.{stand_behind, stand_first, stand_passed}
-use Rattle.hunk_files.proofs.Taking.{first_given}
-use Rattle.hunk_files.proofs.UnitCutLaws.{units_are, units_end}
-use Rattle.hunk_files.proofs.UnitReading.{header_inside, header_split, text_longs}
+use Rattle.hunk_files.proofs.{PlaceLaws.{stand_behind, stand_first, stand_passed}, Taking.first_given}
+use Rattle.hunk_files.proofs.{UnitCutLaws.{units_are, units_end}, UnitReading.{header_inside, header_split, text_longs}}
 
 -- ---- the hunks of a unit that stands here
 

@@ -1,7 +1,6 @@
 use Rattle.std.proofs.Common.{List, ap, ◌∙◌}
 use Rattle.std.proofs.lemmas.Result.{err_from_is_err_and}
-use Rattle.hunk_blocks.specs.Placed.{Placed}
-use Rattle.hunk_blocks.specs.Values.{BlockValue}
+use Rattle.hunk_blocks.specs.{Placed.Placed, Values.BlockValue}
 use Rattle.hunk_files.proofs.BlockPlaces.{block_lacks, item_lacks}
 use Rattle.hunk_files.proofs.blocks.keep_blocks.Goals as goal
 

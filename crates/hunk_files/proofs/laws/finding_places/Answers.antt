@@ -1,5 +1,4 @@
-use Rattle.hunk_files.proofs.PlacedFindingLaws.{findings_placed}
-use Rattle.hunk_files.proofs.PlacedOffsets.{findings_stand}
+use Rattle.hunk_files.proofs.{PlacedFindingLaws.findings_placed, PlacedOffsets.findings_stand}
 use Rattle.hunk_files.proofs.laws.finding_places.Goals as goal
 
 pub returns-clause-findings : goal.returns-clause-findings

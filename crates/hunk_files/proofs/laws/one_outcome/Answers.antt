@@ -1,5 +1,4 @@
-use Rattle.hunk_files.proofs.Scan.{some_outcome, not_truncated, one_fault, no_fault}
-use Rattle.hunk_files.proofs.Refusals.{refusal_of_word}
+use Rattle.hunk_files.proofs.{Scan.{some_outcome, not_truncated, one_fault, no_fault}, Refusals.refusal_of_word}
 use Rattle.hunk_files.proofs.laws.one_outcome.Goals as goal
 
 pub returns-clause-some : goal.returns-clause-some

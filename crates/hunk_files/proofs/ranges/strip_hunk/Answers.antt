@@ -1,8 +1,6 @@
 use Rattle.std.proofs.Common.{ℕ, slice_range, ap, subst, sym, ◌∙◌, arith}
 use Rattle.hunk_blocks.specs.Placed.{Placed}
-use Rattle.hunk_files.specs.Ranges.{HandsOver}
-use Rattle.hunk_files.specs.Hunks.{block_texts}
-use Rattle.hunk_files.specs.Strip.{strip_blocks}
+use Rattle.hunk_files.specs.{Ranges.HandsOver, Hunks.block_texts, Strip.strip_blocks}
 use Rattle.hunk_words.specs.Longs.{bytes_of}
 use Rattle.hunk_files.proofs.RangeLaws.{BlocksStripped, all_blocks, block_goes, block_inside, block_stays, no_block}
 use Rattle.hunk_files.proofs.ranges.strip_hunk.Goals as goal

@@ -1,9 +1,7 @@
 use Rattle.std.proofs.Common.{[], ◌∷◌, ◌∙◌}
 use Rattle.hunk_blocks.specs.Parts.{block_text}
 use Rattle.hunk_files.specs.StandingBlocks.{hunk_blocks}
-use Rattle.hunk_files.proofs.FindingSteps.{taken_on}
-use Rattle.hunk_files.proofs.Standing.{block_first}
-use Rattle.hunk_files.proofs.Taking.{end_stays}
+use Rattle.hunk_files.proofs.{FindingSteps.taken_on, Standing.block_first, Taking.end_stays}
 use Rattle.hunk_files.proofs.visiting.visit_blocks.Goals as goal
 
 pub visiting-preserved : goal.visiting-preserved

@@ -1,12 +1,8 @@
 use Rattle.std.proofs.Common.{◌+◌, List, length, Some, ap, subst, ◌∙◌, arith}
 use Rattle.hunk_blocks.specs.Placed.{Placed}
-use Rattle.hunk_files.specs.Hunks.{block_texts}
-use Rattle.hunk_files.specs.InPlace.{GivesPart}
-use Rattle.hunk_files.specs.ObjectFile.{ObjectHunk}
+use Rattle.hunk_files.specs.{Hunks.block_texts, InPlace.GivesPart, ObjectFile.ObjectHunk}
 use Rattle.hunk_files.specs.StandingBlocks.{hunk_blocks, hunks_blocks}
-use Rattle.hunk_files.proofs.FindingSteps.{taken_on}
-use Rattle.hunk_files.proofs.Standing.{hunk_first}
-use Rattle.hunk_files.proofs.Taking.{end_stays, part_passed}
+use Rattle.hunk_files.proofs.{FindingSteps.taken_on, Standing.hunk_first, Taking.{end_stays, part_passed}}
 use Rattle.hunk_files.proofs.visiting.visit_hunks.Goals as goal
 
 pub visiting-preserved : goal.visiting-preserved

@@ -1,8 +1,6 @@
 use Rattle.std.proofs.Common.{◌≡◌, ◌+◌, ◌^◌, ◌<◌, length}
-use Rattle.hunk_files.specs.Hunks.{block_texts}
-use Rattle.hunk_files.specs.StandingBlocks.{hunks_blocks}
-use Rattle.hunk_files.proofs.FindingSteps.{TakenUpTo}
-use Rattle.hunk_files.proofs.Taking.{end_of}
+use Rattle.hunk_files.specs.{Hunks.block_texts, StandingBlocks.hunks_blocks}
+use Rattle.hunk_files.proofs.{FindingSteps.TakenUpTo, Taking.end_of}
 use Rattle.hunk_files.proofs.visiting.visit_hunks.Given as goal
 
 abbrev pub invariant-visiting : goal.invariant-visiting

@@ -1,11 +1,8 @@
 use Rattle.std.proofs.Common.{◌+◌, length, Some, ap, arith}
 use Rattle.hunk_blocks.specs.Placed.{Placed}
-use Rattle.hunk_files.specs.InPlace.{GivesPart}
-use Rattle.hunk_files.specs.ObjectFile.{ObjectFileValue, unit_text}
+use Rattle.hunk_files.specs.{InPlace.GivesPart, ObjectFile.{ObjectFileValue, unit_text}}
 use Rattle.hunk_files.specs.StandingBlocks.{unit_blocks, units_blocks}
-use Rattle.hunk_files.proofs.FindingSteps.{taken_on}
-use Rattle.hunk_files.proofs.Standing.{unit_first}
-use Rattle.hunk_files.proofs.Taking.{part_passed}
+use Rattle.hunk_files.proofs.{FindingSteps.taken_on, Standing.unit_first, Taking.part_passed}
 use Rattle.hunk_files.proofs.visiting.visit_object.Goals as goal
 
 pub visiting-preserved : goal.visiting-preserved

@@ -1,14 +1,9 @@
 use Rattle.std.proofs.Common.{◌≡◌, ◌+◌, List, false, take, drop, refl, sym, ap, subst, ◌∙◌, inr, Some}
 use Rattle.hunk_grammar.specs.Standings.{is_ending}
-use Rattle.hunk_blocks.specs.declared.body_view.BodyView.{BodyView}
+use Rattle.hunk_blocks.specs.{declared.body_view.BodyView.BodyView, BodyViews.viewed, Begins.IsFrontBlock}
+use Rattle.hunk_blocks.specs.{Parts.block_text, Placed.Placed, Values.{BlockBody, BlockValue}}
 use Rattle.hunk_blocks.specs.declared.body_view.BodyView.TheVariants as bodies
-use Rattle.hunk_blocks.specs.BodyViews.{viewed}
-use Rattle.hunk_blocks.specs.Begins.{IsFrontBlock}
-use Rattle.hunk_blocks.specs.Parts.{block_text}
-use Rattle.hunk_blocks.specs.Placed.{Placed}
-use Rattle.hunk_blocks.specs.Values.{BlockBody, BlockValue}
-use Rattle.hunk_files.specs.InPlace.{GivesPart}
-use Rattle.hunk_files.specs.LoadFile.{standing}
+use Rattle.hunk_files.specs.{InPlace.GivesPart, LoadFile.standing}
 use Rattle.hunk_files.proofs.BlocksInPlace.{first_begins, gives_last, gives_next, more_begin, none_seen, seen, some_seen}
 use Rattle.hunk_files.proofs.Taking.{part_less}
 use Rattle.hunk_files.proofs.blocks.BlockViewsIterator.next.Goals as goal

@@ -1,13 +1,10 @@
 use Rattle.std.specs.Prelude.{IfErr}
 use Rattle.std.proofs.Common.{rules, ◌≢◌, ◌∙◌, refl, sym, inl, inr}
-use Rattle.std.proofs.lemmas.List.{length-drop}
-use Rattle.std.proofs.lemmas.Result.{err_from_is_err_and}
+use Rattle.std.proofs.lemmas.{List.length-drop, Result.err_from_is_err_and}
 use Rattle.hunk_words.specs.Longs.{longs}
-use Rattle.hunk_grammar.specs.declared.file_kind.Sniff.{Sniff}
-use Rattle.hunk_grammar.specs.declared.file_kind.Sniff.TheVariants.{Object}
+use Rattle.hunk_grammar.specs.{declared.file_kind.Sniff.Sniff, declared.file_kind.Sniff.TheVariants.Object}
 use Rattle.hunk_grammar.specs.FileKind.{sniffed}
-use Rattle.hunk_files.specs.Fault.{BeginsWithLoadFile}
-use Rattle.hunk_files.specs.HunkFile.{AreObjectFile, IsLoadRefusal, IsRefusal}
+use Rattle.hunk_files.specs.{Fault.BeginsWithLoadFile, HunkFile.{AreObjectFile, IsLoadRefusal, IsRefusal}}
 use Rattle.hunk_files.proofs.FileKinds.{load_of, no_load, no_object, not_object}
 use Rattle.hunk_files.proofs.file_view.FileView.read.Goals as goal
 

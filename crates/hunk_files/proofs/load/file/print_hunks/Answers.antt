@@ -1,7 +1,6 @@
 use Rattle.std.proofs.Common.{arith}
 use Rattle.hunk_blocks.proofs.ListWriting.{texts_shown}
-use Rattle.hunk_files.specs.declared.load.hunk.LoadHunk.{LoadHunk}
-use Rattle.hunk_files.specs.Hunks.{block_texts}
+use Rattle.hunk_files.specs.{declared.load.hunk.LoadHunk.LoadHunk, Hunks.block_texts}
 use Rattle.hunk_files.proofs.load.file.print_hunks.Goals as goal
 
 pub returns : goal.returns

@@ -1,7 +1,6 @@
 use Rattle.std.proofs.Common.{◌≡◌, ◌/◌, ℕ, List, length}
 use Rattle.std.specs.List.{AllByRecursion, fold}
-use Rattle.hunk_files.specs.Image.{add_at}
-use Rattle.hunk_files.specs.LoadFile.{IsInside}
+use Rattle.hunk_files.specs.{Image.add_at, LoadFile.IsInside}
 use Rattle.hunk_files.proofs.load.filling.relocate_group.Given as goal
 
 abbrev pub invariant-relocating : goal.invariant-relocating

@@ -1,9 +1,7 @@
 use Rattle.std.proofs.Common.{◌/◌, ◌∙◌, ℕ, List, length, ap, subst, sym}
 use Rattle.std.specs.List.{AllByRecursion, flat_map}
-use Rattle.hunk_blocks.specs.Values.{RelocGroup}
-use Rattle.hunk_blocks.specs.Views.{group_of}
-use Rattle.hunk_files.specs.Image.{group_relocations, relocated}
-use Rattle.hunk_files.specs.LoadFile.{FitsGroup}
+use Rattle.hunk_blocks.specs.{Values.RelocGroup, Views.group_of}
+use Rattle.hunk_files.specs.{Image.{group_relocations, relocated}, LoadFile.FitsGroup}
 use Rattle.hunk_files.proofs.FillingLaws.{group_relocated}
 use Rattle.hunk_files.proofs.load.filling.relocate_groups.Goals as goal
 

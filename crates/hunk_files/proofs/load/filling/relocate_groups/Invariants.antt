@@ -1,7 +1,6 @@
 use Rattle.std.proofs.Common.{◌≡◌, ◌/◌, length}
 use Rattle.std.specs.List.{AllByRecursion, flat_map}
-use Rattle.hunk_files.specs.Image.{group_relocations, relocated}
-use Rattle.hunk_files.specs.LoadFile.{FitsGroup}
+use Rattle.hunk_files.specs.{Image.{group_relocations, relocated}, LoadFile.FitsGroup}
 use Rattle.hunk_files.proofs.load.filling.relocate_groups.Given as goal
 
 abbrev pub invariant-relocating : goal.invariant-relocating

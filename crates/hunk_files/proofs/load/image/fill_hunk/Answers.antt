@@ -1,7 +1,6 @@
 use Rattle.std.proofs.Common.{◌+◌, ◌∷◌, drop, ap, sym, ◌∙◌}
 use Rattle.std.proofs.lemmas.List.{drop_more}
-use Rattle.hunk_blocks.specs.Values.{BlockValue}
-use Rattle.hunk_blocks.specs.Views.{body_of}
+use Rattle.hunk_blocks.specs.{Values.BlockValue, Views.body_of}
 use Rattle.hunk_files.proofs.FillingLaws.{block_filled}
 use Rattle.hunk_files.proofs.load.image.fill_hunk.Goals as goal
 

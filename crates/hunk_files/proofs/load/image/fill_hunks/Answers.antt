@@ -1,9 +1,7 @@
 use Rattle.std.proofs.Common.{◌≡◌, ◌+◌, ◌*◌, ◌<◌, ℕ, List, ◌∷◌, drop, get_or, length, map, ap, ap₂, sym, subst, ◌∙◌, arith}
 use Rattle.std.proofs.lemmas.List.{drop_more}
 use Rattle.hunk_words.specs.Bits.{size_longs}
-use Rattle.hunk_files.specs.declared.load.hunk.LoadHunk.{LoadHunk}
-use Rattle.hunk_files.specs.Filling.{Fits, memory_of}
-use Rattle.hunk_files.specs.Tables.{hunk_of}
+use Rattle.hunk_files.specs.{declared.load.hunk.LoadHunk.LoadHunk, Filling.{Fits, memory_of}, Tables.hunk_of}
 use Rattle.hunk_files.proofs.FillingLaws.{hunk_room, image_put, next_fits, part_size}
 use Rattle.hunk_files.proofs.load.image.fill_hunks.Goals as goal
 

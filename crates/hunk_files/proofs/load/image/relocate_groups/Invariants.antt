@@ -1,9 +1,7 @@
 use Rattle.std.proofs.Common.{◌≡◌, ◌/◌, length, map}
-use Rattle.std.specs.List.{AllByRecursion, flat_map}
-use Rattle.std.specs.Slice.Iter.{iter_rest}
+use Rattle.std.specs.{List.{AllByRecursion, flat_map}, Slice.Iter.iter_rest}
 use Rattle.hunk_blocks.specs.Views.{group_of}
-use Rattle.hunk_files.specs.Image.{group_relocations, relocated}
-use Rattle.hunk_files.specs.LoadFile.{FitsGroup}
+use Rattle.hunk_files.specs.{Image.{group_relocations, relocated}, LoadFile.FitsGroup}
 use Rattle.hunk_files.proofs.load.image.relocate_groups.Given as goal
 
 abbrev pub invariant-relocating : goal.invariant-relocating

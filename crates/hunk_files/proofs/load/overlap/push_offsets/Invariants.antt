@@ -1,8 +1,6 @@
 use Rattle.std.proofs.Common.{◌≡◌, ◌++◌}
-use Rattle.std.specs.List.{flat_map}
-use Rattle.std.specs.Slice.Iter.{iter_rest}
-use Rattle.hunk_blocks.specs.declared.groups.Group.{Group}
-use Rattle.hunk_blocks.specs.Views.{group_of}
+use Rattle.std.specs.{List.flat_map, Slice.Iter.iter_rest}
+use Rattle.hunk_blocks.specs.{declared.groups.Group.Group, Views.group_of}
 use Rattle.hunk_files.specs.Image.{offsets, group_relocations}
 use Rattle.hunk_files.proofs.load.overlap.push_offsets.Given as goal
 

@@ -1,6 +1,5 @@
 use Rattle.std.proofs.Common.{ℕ, suc, ◌+◌, add-one, ap, arith, subst, sym, ◌∙◌}
-use Rattle.hunk_words.specs.Bits.{entry_longs}
-use Rattle.hunk_words.specs.Longs.{longs}
+use Rattle.hunk_words.specs.{Bits.entry_longs, Longs.longs}
 use Rattle.hunk_words.proofs.LongLaws.{length-longs}
 use Rattle.hunk_files.specs.Passing.{AreRows, no_row, one_row}
 use Rattle.hunk_files.proofs.load.passing.behind_rows.Goals as goal

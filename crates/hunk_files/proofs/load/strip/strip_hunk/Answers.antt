@@ -1,9 +1,7 @@
 use Rattle.std.proofs.Common.{List, ap, rules}
 use Rattle.std.proofs.lemmas.Fn.{filter_same}
 use Rattle.hunk_blocks.specs.Values.{BlockValue}
-use Rattle.hunk_files.specs.Strip.{is_kept}
-use Rattle.hunk_files.specs.Tables.{row_entry}
-use Rattle.hunk_files.specs.FileSteps.{hunk}
+use Rattle.hunk_files.specs.{Strip.is_kept, Tables.row_entry, FileSteps.hunk}
 use Rattle.hunk_files.proofs.load.strip.strip_hunk.Goals as goal
 
 pub returns : goal.returns

@@ -1,7 +1,5 @@
 use Rattle.std.proofs.Common.{map, ap, sym, ◌∙◌, arith}
-use Rattle.hunk_files.specs.declared.load.hunk.LoadHunk.{LoadHunk}
-use Rattle.hunk_files.specs.Strip.{strip_hunk}
-use Rattle.hunk_files.specs.Tables.{hunk_of}
+use Rattle.hunk_files.specs.{declared.load.hunk.LoadHunk.LoadHunk, Strip.strip_hunk, Tables.hunk_of}
 use Rattle.hunk_files.proofs.FileViews.{stripped_more}
 use Rattle.hunk_files.proofs.load.strip.strip_hunks.Goals as goal
 

@@ -1,6 +1,5 @@
 use Rattle.std.proofs.Common.{◌≡◌, ◌++◌, map, take, drop}
-use Rattle.hunk_files.specs.Strip.{strip_file}
-use Rattle.hunk_files.specs.Tables.{hunk_of}
+use Rattle.hunk_files.specs.{Strip.strip_file, Tables.hunk_of}
 use Rattle.hunk_files.proofs.load.strip.strip_hunks.Given as goal
 
 abbrev pub invariant-hunks : goal.invariant-hunks

@@ -1,10 +1,7 @@
 use Rattle.std.proofs.Common.{◌+◌, ◌*◌, ℕ, length, subst, ◌∙◌, arith}
-use Rattle.hunk_blocks.specs.Parts.{ext_text}
-use Rattle.hunk_blocks.specs.Values.{ExtEntry}
-use Rattle.hunk_blocks.specs.Views.{entry_of}
+use Rattle.hunk_blocks.specs.{Parts.ext_text, Values.ExtEntry, Views.entry_of}
 use Rattle.hunk_files.specs.PlacedFindings.{entries_findings_at, entry_findings_at}
-use Rattle.hunk_files.proofs.FindingSteps.{taken_on}
-use Rattle.hunk_files.proofs.OffsetsWithin.{first_is, offsets_within}
+use Rattle.hunk_files.proofs.{FindingSteps.taken_on, OffsetsWithin.{first_is, offsets_within}}
 use Rattle.hunk_files.proofs.PlacedFindingLaws.{item_first}
 use Rattle.hunk_files.proofs.object.check.check_entries.Goals as goal
 

@@ -1,6 +1,5 @@
 use Rattle.std.proofs.Common.{◌+◌, ◌-◌, ◌*◌, ℕ, List, length, ap, subst, arith}
-use Rattle.hunk_files.specs.Findings.{outside}
-use Rattle.hunk_files.specs.PlacedFindings.{offsets_findings_at, standing_at}
+use Rattle.hunk_files.specs.{Findings.outside, PlacedFindings.{offsets_findings_at, standing_at}}
 use Rattle.hunk_files.proofs.FindingSteps.{taken_all, taken_on}
 use Rattle.hunk_files.proofs.object.check.check_entry.Goals as goal
 

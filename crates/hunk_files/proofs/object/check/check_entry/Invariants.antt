@@ -1,6 +1,5 @@
 use Rattle.std.proofs.Common.{◌≡◌, ◌+◌, ◌-◌, ◌*◌, length}
-use Rattle.hunk_files.specs.Findings.{outside}
-use Rattle.hunk_files.specs.PlacedFindings.{offsets_findings_at}
+use Rattle.hunk_files.specs.{Findings.outside, PlacedFindings.offsets_findings_at}
 use Rattle.hunk_files.proofs.FindingSteps.{TakenUpTo}
 use Rattle.hunk_files.proofs.object.check.check_entry.Given as goal
 

@@ -1,6 +1,5 @@
 use Rattle.std.proofs.Common.{◌+◌, ◌*◌, ◌<◌, ◌^◌, length}
-use Rattle.hunk_files.specs.Findings.{relocation_findings}
-use Rattle.hunk_files.specs.PlacedFindings.{offsets_findings_at}
+use Rattle.hunk_files.specs.{Findings.relocation_findings, PlacedFindings.offsets_findings_at}
 use Rattle.hunk_files.proofs.FindingSteps.{TakenUpTo}
 use Rattle.hunk_files.proofs.object.check.check_group.Given as goal
 

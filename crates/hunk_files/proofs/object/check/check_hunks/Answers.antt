@@ -1,12 +1,8 @@
 use Rattle.std.proofs.Common.{◌+◌, List, length, Some, ap, subst, ◌∙◌, arith}
 use Rattle.hunk_blocks.specs.Placed.{Placed}
-use Rattle.hunk_files.specs.Findings.{HunkContext, hunk_bytes}
-use Rattle.hunk_files.specs.Hunks.{block_texts}
-use Rattle.hunk_files.specs.InPlace.{GivesPart}
-use Rattle.hunk_files.specs.ObjectFile.{ObjectHunk}
-use Rattle.hunk_files.specs.PlacedFindings.{PlacedFinding, hunk_findings_at, hunks_findings_at}
-use Rattle.hunk_files.proofs.FindingSteps.{taken_on}
-use Rattle.hunk_files.proofs.PlacedFindingLaws.{hunk_first, hunk_found}
+use Rattle.hunk_files.specs.{Findings.{HunkContext, hunk_bytes}, Hunks.block_texts, InPlace.GivesPart}
+use Rattle.hunk_files.specs.{ObjectFile.ObjectHunk, PlacedFindings.{PlacedFinding, hunk_findings_at, hunks_findings_at}}
+use Rattle.hunk_files.proofs.{FindingSteps.taken_on, PlacedFindingLaws.{hunk_first, hunk_found}}
 use Rattle.hunk_files.proofs.Taking.{end_stays, part_passed}
 use Rattle.hunk_files.proofs.object.check.check_hunks.Goals as goal
 

@@ -1,7 +1,6 @@
 use Rattle.std.proofs.Common.{◌≡◌, ◌+◌, ◌*◌, ℕ, List, length, ap, ap₂, subst, ◌∙◌}
 use Rattle.std.proofs.lemmas.Iterator.Consumers.{count_from_yields_List}
-use Rattle.hunk_files.specs.Hunks.{block_texts}
-use Rattle.hunk_files.specs.ObjectFile.{ObjectHunk, unit_header}
+use Rattle.hunk_files.specs.{Hunks.block_texts, ObjectFile.{ObjectHunk, unit_header}}
 use Rattle.hunk_files.specs.PlacedFindings.{PlacedFinding, hunks_findings_at}
 use Rattle.hunk_files.proofs.Taking.{given_in_turn}
 use Rattle.hunk_files.proofs.object.check.check_unit.Goals as goal

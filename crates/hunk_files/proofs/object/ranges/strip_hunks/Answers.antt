@@ -1,8 +1,7 @@
 use Rattle.std.proofs.Common.{refl, arith}
 use Rattle.hunk_files.proofs.HunkBlocks.{hunk_inside, some_text}
 use Rattle.hunk_files.proofs.HunkRanges.{all_hunks_stripped, hunk_left, hunk_stripped, none_left, some_left}
-use Rattle.hunk_files.proofs.ObjectViewLaws.{tested}
-use Rattle.hunk_files.proofs.RangeLaws.{none_stripped}
+use Rattle.hunk_files.proofs.{ObjectViewLaws.tested, RangeLaws.none_stripped}
 use Rattle.hunk_files.proofs.object.ranges.strip_hunks.Goals as goal
 
 pub hunks-init : goal.hunks-init

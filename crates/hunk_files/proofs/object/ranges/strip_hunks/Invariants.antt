@@ -1,7 +1,6 @@
 use Rattle.std.proofs.Common.{length, ◌-◌, List}
 use Rattle.std.specs.Prelude.{slice_range}
-use Rattle.hunk_files.specs.ObjectFile.{ObjectHunk}
-use Rattle.hunk_files.specs.ObjectViews.{HunksAt}
+use Rattle.hunk_files.specs.{ObjectFile.ObjectHunk, ObjectViews.HunksAt}
 use Rattle.hunk_files.proofs.HunkRanges.{HunksStripped}
 use Rattle.hunk_files.proofs.object.ranges.strip_hunks.Given as goal
 

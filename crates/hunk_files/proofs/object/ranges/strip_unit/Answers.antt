@@ -1,15 +1,10 @@
 use Rattle.std.proofs.Common.{◌≡◌, ℕ, List, length, map, slice_range, ap, sym, subst, ◌∙◌, length-append, arith}
 use Rattle.std.specs.List.{flat_map}
 use Rattle.hunk_words.specs.Longs.{bytes_of}
-use Rattle.hunk_files.specs.Hunks.{IsRead, block_texts}
-use Rattle.hunk_files.specs.ObjectFile.{ObjectHunk, unit_header}
-use Rattle.hunk_files.specs.Ranges.{HandsOver}
-use Rattle.hunk_files.specs.Strip.{strip_blocks}
-use Rattle.hunk_files.specs.Units.{UnitAt}
-use Rattle.hunk_files.proofs.ObjectViewLaws.{hunks_at_are}
-use Rattle.hunk_files.proofs.RangeLaws.{hands_on, stays_pending}
-use Rattle.hunk_files.proofs.UnitReading.{header_split}
-use Rattle.hunk_files.proofs.UnitViewLaws.{hunks_are_here, unit_hunks}
+use Rattle.hunk_files.specs.{Hunks.{IsRead, block_texts}, ObjectFile.{ObjectHunk, unit_header}, Ranges.HandsOver}
+use Rattle.hunk_files.specs.{Strip.strip_blocks, Units.UnitAt}
+use Rattle.hunk_files.proofs.{ObjectViewLaws.hunks_at_are, RangeLaws.{hands_on, stays_pending}}
+use Rattle.hunk_files.proofs.{UnitReading.header_split, UnitViewLaws.{hunks_are_here, unit_hunks}}
 use Rattle.hunk_files.proofs.object.ranges.strip_unit.Goals as goal
 
 pub invariant_of-header : goal.invariant_of-header

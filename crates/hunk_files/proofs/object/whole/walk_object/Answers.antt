@@ -1,11 +1,10 @@
 use Rattle.std.proofs.Common.{◌≡◌, ◌≤◌, ◌*◌, Bool, true, false, ℕ, ◌+◌, length, arith, sym, subst, ◌∙◌, Some, IfErr}
-use Rattle.hunk_words.specs.Longs.{longs, IsBytes}
-use Rattle.hunk_words.specs.declared.reason.Reason.{Reason}
+use Rattle.hunk_words.specs.{Longs.{longs, IsBytes}, declared.reason.Reason.Reason}
 use Rattle.hunk_words.specs.declared.reason.Reason.TheVariants as reasons
 use Rattle.hunk_words.proofs.LongLaws.{length-longs}
 use Rattle.hunk_files.specs.ObjectFault.{HasObjectFault, refuse_object}
-use Rattle.hunk_files.specs.ObjectSteps as steps
 use Rattle.hunk_files.specs.declared.object.position.ObjectPosition.{ObjectPosition}
+use Rattle.hunk_files.specs.ObjectSteps as steps
 use Rattle.hunk_files.proofs.ObjectWalks.{ObjectWalks, start, refused, passes, ends, ends_early}
 use Rattle.hunk_files.proofs.object.whole.walk_object.Goals as goal
 use Rattle.hunk_files.proofs.object.whole.walk_object.Goals.{then-at-count-via-then-at-count, then-at-count-via-else-at-count+then-bytes-ne0, then-at-count-via-else-at-count+else-bytes-ne0+then-not-may_end}

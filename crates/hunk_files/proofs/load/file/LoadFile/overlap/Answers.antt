@@ -1,14 +1,10 @@
 use Rattle.std.proofs.Common.{◌≡◌, ℕ, ◌++◌, List, Option, Some, None, MatchOption, ap, sym, ◌∙◌, subst, rules}
-use Rattle.std.specs.List.{flat_map}
-use Rattle.std.specs.List.Sorted.{IsPermutation, IsNonDecreasing}
+use Rattle.std.specs.{List.flat_map, List.Sorted.{IsPermutation, IsNonDecreasing}}
 use Rattle.std.proofs.lemmas.List.Sorted.{IsNonDecreasingBy-from_sort}
 use Rattle.hunk_blocks.specs.Values.{BlockValue}
-use Rattle.hunk_files.specs.Image.{offsets, block_relocations}
-use Rattle.hunk_files.specs.Overlap.{IsFirstOverlap, AreApart, hunk_offsets}
+use Rattle.hunk_files.specs.{Image.{offsets, block_relocations}, Overlap.{IsFirstOverlap, AreApart, hunk_offsets}}
 use Rattle.hunk_files.specs.Tables.{hunk_of}
-use Rattle.hunk_files.proofs.FileViews.{hunk_at}
-use Rattle.hunk_files.proofs.OffsetLists.{offsets_at}
-use Rattle.hunk_files.proofs.Rising.{apart_in_order, first_in_order}
+use Rattle.hunk_files.proofs.{FileViews.hunk_at, OffsetLists.offsets_at, Rising.{apart_in_order, first_in_order}}
 use Rattle.hunk_files.proofs.load.file.LoadFile.overlap.Goals as goal
 
 pub first_close-requires : goal.first_close-requires

@@ -1,13 +1,8 @@
 use Rattle.std.proofs.Common.{◌≤◌, List, length, map, ap, sym, ◌∙◌, subst, arith}
 use Rattle.hunk_words.specs.Longs.{bytes_of}
-use Rattle.hunk_files.specs.declared.load.hunk.LoadHunk.{LoadHunk}
-use Rattle.hunk_files.specs.LoadFile.{LoadFileValue, IsLoadFile}
-use Rattle.hunk_files.specs.LoadText.{text}
-use Rattle.hunk_files.specs.Strip.{strip_file}
-use Rattle.hunk_files.specs.Tables.{hunk_of}
-use Rattle.hunk_files.proofs.StripLaws.{file_kept}
-use Rattle.hunk_files.proofs.StripText.{bytes_shorter}
-use Rattle.hunk_files.proofs.FileViews.{whole_slice}
+use Rattle.hunk_files.specs.{declared.load.hunk.LoadHunk.LoadHunk, LoadFile.{LoadFileValue, IsLoadFile}, LoadText.text}
+use Rattle.hunk_files.specs.{Strip.strip_file, Tables.hunk_of}
+use Rattle.hunk_files.proofs.{StripLaws.file_kept, StripText.bytes_shorter, FileViews.whole_slice}
 use Rattle.hunk_files.proofs.load.file.LoadFile.strip.Goals as goal
 
 pub invariant_of-result : goal.invariant_of-result

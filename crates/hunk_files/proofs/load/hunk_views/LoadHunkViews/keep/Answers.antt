@@ -1,8 +1,6 @@
 use Rattle.std.proofs.Common.{◌≡◌, ◌++◌, ◌∷◌, [], map, ◌∙◌, sym, ap, subst, rules}
-use Rattle.std.proofs.lemmas.List.{map_push}
-use Rattle.std.proofs.lemmas.Result.{err_from_is_err_and}
-use Rattle.hunk_files.specs.declared.load.hunk.LoadHunk.{LoadHunk}
-use Rattle.hunk_files.specs.Tables.{hunk_of, size_entry}
+use Rattle.std.proofs.lemmas.{List.map_push, Result.err_from_is_err_and}
+use Rattle.hunk_files.specs.{declared.load.hunk.LoadHunk.LoadHunk, Tables.{hunk_of, size_entry}}
 use Rattle.hunk_files.proofs.HunksInPlace.{hunk_text, hunk_with, next_hunk_of, seen_hunks}
 use Rattle.hunk_files.proofs.LoadKeeping.{all_kept, hunk_kept, hunk_lacks, hunks_behind, part_lacks, some_behind}
 use Rattle.hunk_files.proofs.Taking.{Taken}

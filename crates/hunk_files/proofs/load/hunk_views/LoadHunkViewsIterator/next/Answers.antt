@@ -1,9 +1,6 @@
 use Rattle.std.proofs.Common.{List, drop, refl, sym, ap, ◌∙◌}
-use Rattle.hunk_blocks.specs.Parts.{block_text}
-use Rattle.hunk_blocks.specs.Placed.{Placed}
-use Rattle.hunk_files.specs.LoadFile.{TableEntry, LoadFileValue}
-use Rattle.hunk_files.specs.Tables.{size_entry}
-use Rattle.hunk_files.specs.InPlace.{hunks_in}
+use Rattle.hunk_blocks.specs.{Parts.block_text, Placed.Placed}
+use Rattle.hunk_files.specs.{LoadFile.{TableEntry, LoadFileValue}, Tables.size_entry, InPlace.hunks_in}
 use Rattle.hunk_files.proofs.HunksInPlace.{hunk_gives, hunk_text, hunks_in-nil, next_hunk_of}
 use Rattle.hunk_files.proofs.Taking.{end_of, end_passed, end_stays, part_less}
 use Rattle.hunk_files.proofs.load.hunk_views.LoadHunkViewsIterator.next.Goals as goal

@@ -1,12 +1,8 @@
 use Rattle.std.proofs.Common.{◌≡◌, ℕ, ◌-◌, ◌*◌, List, [], ◌∷◌, length, take, drop, get_or, sym, ap, ap₂, subst, ◌∙◌, arith}
 use Rattle.std.proofs.lemmas.List.{take_rest}
-use Rattle.hunk_words.specs.Bits.{entry_longs}
-use Rattle.hunk_words.specs.Longs.{longs}
-use Rattle.hunk_words.proofs.LongLaws.{length-longs}
-use Rattle.hunk_words.proofs.PartLaws.{longs-drop}
-use Rattle.hunk_files.specs.LoadFile.{TableEntry}
-use Rattle.hunk_files.specs.InPlace.{BeginsWithTable}
-use Rattle.hunk_files.specs.Cuts.{table_cut}
+use Rattle.hunk_words.specs.{Bits.entry_longs, Longs.longs}
+use Rattle.hunk_words.proofs.{LongLaws.length-longs, PartLaws.longs-drop}
+use Rattle.hunk_files.specs.{LoadFile.TableEntry, InPlace.BeginsWithTable, Cuts.table_cut}
 use Rattle.hunk_files.proofs.LoadCuts.{next_entry, table_ends}
 use Rattle.hunk_files.proofs.load.table.TableIterIterator.next.Goals as goal
 

@@ -1,7 +1,6 @@
 use Rattle.std.proofs.Common.{List, length, ap, arith}
 use Rattle.std.specs.List.{flat_map}
-use Rattle.hunk_files.specs.LoadFile.{TableEntry}
-use Rattle.hunk_files.specs.Tables.{entry_text}
+use Rattle.hunk_files.specs.{LoadFile.TableEntry, Tables.entry_text}
 use Rattle.hunk_files.proofs.TableReading.{header_size}
 use Rattle.hunk_files.proofs.load.view.LoadView.body.Goals as goal
 

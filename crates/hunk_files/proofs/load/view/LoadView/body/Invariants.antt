@@ -1,7 +1,6 @@
 use Rattle.std.proofs.Common.{◌≡◌, ◌≤◌, ◌+◌, ◌*◌, length}
 use Rattle.std.specs.List.{flat_map}
-use Rattle.hunk_files.specs.LoadText.{table}
-use Rattle.hunk_files.specs.Tables.{entry_text}
+use Rattle.hunk_files.specs.{LoadText.table, Tables.entry_text}
 use Rattle.hunk_files.proofs.load.view.LoadView.body.Given as goal
 
 abbrev pub invariant-entries : goal.invariant-entries

@@ -1,12 +1,8 @@
 use Rattle.std.proofs.Common.{◌≡◌, ℕ, ◌+◌, ◌*◌, List, length, drop, refl, sym, ap, ap₂, subst, ◌∙◌, arith}
 use Rattle.std.specs.List.{AllByRecursion}
-use Rattle.hunk_blocks.specs.Placed.{Placed}
-use Rattle.hunk_blocks.specs.Values.{BlockValue}
-use Rattle.hunk_files.specs.Filling.{Fits, memory_of}
-use Rattle.hunk_files.specs.Hunks.{block_texts}
-use Rattle.hunk_files.specs.InPlace.{blocks_in, hunks_in}
-use Rattle.hunk_files.specs.LoadFile.{IsHunk, TableEntry}
-use Rattle.hunk_files.specs.Tables.{size_entry}
+use Rattle.hunk_blocks.specs.{Placed.Placed, Values.BlockValue}
+use Rattle.hunk_files.specs.{Filling.{Fits, memory_of}, Hunks.block_texts, InPlace.{blocks_in, hunks_in}}
+use Rattle.hunk_files.specs.{LoadFile.{IsHunk, TableEntry}, Tables.size_entry}
 use Rattle.hunk_files.proofs.BlocksInPlace.{hunk_value}
 use Rattle.hunk_files.proofs.FillingLaws.{all_put, hunk_room, image_put, next_fits, no_images, part_size}
 use Rattle.hunk_files.proofs.HunksInPlace.{all_hunks_at, hunks_begin_at, hunks_in-nil, next_hunk_of}

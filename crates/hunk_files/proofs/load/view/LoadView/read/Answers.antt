@@ -1,11 +1,8 @@
 use Rattle.std.proofs.Common.{sym, ap, subst, ◌∙◌}
 use Rattle.std.proofs.lemmas.Result.{err_from_is_err_and}
 use Rattle.hunk_words.specs.Longs.{bytes_of}
-use Rattle.hunk_files.specs.LoadFile.{LoadFileValue, IsLoadFile}
-use Rattle.hunk_files.specs.LoadText.{text}
-use Rattle.hunk_files.proofs.LoadCuts.{begins, load_value}
-use Rattle.hunk_files.proofs.Refusals.{fault_not_memory, fault_of_load}
-use Rattle.hunk_files.proofs.Scan.{no_fault}
+use Rattle.hunk_files.specs.{LoadFile.{LoadFileValue, IsLoadFile}, LoadText.text}
+use Rattle.hunk_files.proofs.{LoadCuts.{begins, load_value}, Refusals.{fault_not_memory, fault_of_load}, Scan.no_fault}
 use Rattle.hunk_files.proofs.load.view.LoadView.read.Goals as goal
 
 pub returns-in_err-size-clause-none : goal.returns-in_err-size-clause-none

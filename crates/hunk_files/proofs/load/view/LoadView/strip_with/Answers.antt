@@ -1,13 +1,9 @@
 use Rattle.std.proofs.Common.{ℕ, List, map, sym, subst, ◌∙◌, arith}
 use Rattle.std.proofs.lemmas.List.{length-map, nil_from_length}
 use Rattle.std.specs.List.{flat_map}
-use Rattle.hunk_files.specs.Hunks.{block_texts}
-use Rattle.hunk_files.specs.LoadFile.{HunkValue}
-use Rattle.hunk_files.specs.Strip.{strip_blocks}
-use Rattle.hunk_files.proofs.HunkRanges.{all_hunks_stripped, hunk_left, hunk_stripped}
-use Rattle.hunk_files.proofs.LoadCuts.{load_value}
-use Rattle.hunk_files.proofs.LoadRanges.{blocks_of, hunks_stay, stripped_text}
-use Rattle.hunk_files.proofs.RangeLaws.{all_handed}
+use Rattle.hunk_files.specs.{Hunks.block_texts, LoadFile.HunkValue, Strip.strip_blocks}
+use Rattle.hunk_files.proofs.{HunkRanges.{all_hunks_stripped, hunk_left, hunk_stripped}, LoadCuts.load_value}
+use Rattle.hunk_files.proofs.{LoadRanges.{blocks_of, hunks_stay, stripped_text}, RangeLaws.all_handed}
 use Rattle.hunk_files.proofs.load.view.LoadView.strip_with.Goals as goal
 
 pub hunks-init : goal.hunks-init

@@ -1,9 +1,7 @@
 use Rattle.std.proofs.Common.{◌≡◌, ◌+◌, ◌*◌, ℕ, List, length}
 use Rattle.std.specs.Prelude.{slice_range}
-use Rattle.hunk_files.specs.ObjectFile.{ObjectHunk}
-use Rattle.hunk_files.specs.Tables.{header_text}
-use Rattle.hunk_files.proofs.HunkRanges.{HunksStripped}
-use Rattle.hunk_files.proofs.LoadRanges.{blocks_of}
+use Rattle.hunk_files.specs.{ObjectFile.ObjectHunk, Tables.header_text}
+use Rattle.hunk_files.proofs.{HunkRanges.HunksStripped, LoadRanges.blocks_of}
 use Rattle.hunk_files.proofs.load.view.LoadView.strip_with.Given as goal
 
 abbrev pub invariant-hunks : goal.invariant-hunks

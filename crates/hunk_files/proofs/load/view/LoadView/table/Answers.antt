@@ -2,12 +2,9 @@ use Rattle.std.proofs.Common.{ℕ, List, ◌≡◌, ◌-◌, length, take, drop,
 use Rattle.std.proofs.lemmas.List.{length-map, take_rest}
 use Rattle.hunk_words.specs.Longs.{longs}
 use Rattle.hunk_words.proofs.PartLaws.{longs-drop}
-use Rattle.hunk_files.specs.LoadFile.{HunkValue, LoadFileValue}
-use Rattle.hunk_files.specs.LoadText.{table}
-use Rattle.hunk_files.specs.InPlace.{BeginsWithTable}
+use Rattle.hunk_files.specs.{LoadFile.{HunkValue, LoadFileValue}, LoadText.table, InPlace.BeginsWithTable}
 use Rattle.hunk_files.specs.Cuts.{table_cut}
-use Rattle.hunk_files.proofs.LoadCuts.{load_value, table_begins, table_value}
-use Rattle.hunk_files.proofs.TableReading.{size_is}
+use Rattle.hunk_files.proofs.{LoadCuts.{load_value, table_begins, table_value}, TableReading.size_is}
 use Rattle.hunk_files.proofs.load.view.LoadView.table.Goals as goal
 
 pub slice_bounds-result-count : goal.slice_bounds-result-count

@@ -1,6 +1,5 @@
 use Rattle.std.proofs.Common.{◌≡◌, ◌≤◌, ◌+◌, ◌*◌, ◌^◌, length}
-use Rattle.hunk_files.specs.Image.{declared_bytes}
-use Rattle.hunk_files.specs.LoadText.{table}
+use Rattle.hunk_files.specs.{Image.declared_bytes, LoadText.table}
 use Rattle.hunk_files.proofs.load.view.LoadView.total.Given as goal
 
 abbrev pub invariant-entries : goal.invariant-entries

@@ -1,8 +1,7 @@
 use Rattle.std.proofs.Common.{◌≡◌, List, ℕ}
 use Rattle.std.specs.Prelude.{Result, Ok, Err, IfErr}
-use Rattle.hunk_words.specs.declared.fault.Fault.{Fault}
+use Rattle.hunk_words.specs.{declared.fault.Fault.Fault, Longs.bytes_of}
 use Rattle.hunk_words.specs.declared.reason.Reason.TheVariants as reasons
-use Rattle.hunk_words.specs.Longs.{bytes_of}
 use Rattle.hunk_files.specs.Lacks.{EndsAt, EndsObjectPart, LacksObjectPart}
 use Rattle.hunk_files.specs.ObjectFile.{ObjectFileValue, IsObjectFile, object_text}
 use Rattle.hunk_files.proofs.object.file.ObjectFile.decode.Goals as goal

@@ -1,10 +1,8 @@
 use Rattle.std.proofs.Common.{◌≤◌, length, sym, ap, subst, ◌∙◌}
 use Rattle.hunk_words.specs.Longs.{bytes_of}
-use Rattle.hunk_files.specs.Findings.{findings}
-use Rattle.hunk_files.specs.ObjectFile.{ObjectFileValue, IsObjectFile, object_text}
+use Rattle.hunk_files.specs.{Findings.findings, ObjectFile.{ObjectFileValue, IsObjectFile, object_text}}
 use Rattle.hunk_files.specs.Strip.{strip_object}
-use Rattle.hunk_files.proofs.StripLaws.{findings_kept, object_kept}
-use Rattle.hunk_files.proofs.StripSteps.{shorter}
+use Rattle.hunk_files.proofs.{StripLaws.{findings_kept, object_kept}, StripSteps.shorter}
 use Rattle.hunk_files.proofs.object.file.ObjectFile.strip.Goals as goal
 
 pub invariant_of-self : goal.invariant_of-self

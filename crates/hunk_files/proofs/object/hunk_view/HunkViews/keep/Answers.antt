@@ -1,11 +1,8 @@
 use Rattle.std.proofs.Common.{◌≡◌, ◌∷◌, ◌++◌, [], List, ◌∙◌, refl, rules, subst, sym}
 use Rattle.std.proofs.lemmas.Result.{err_from_is_err_and}
-use Rattle.hunk_files.specs.Hunks.{block_texts}
-use Rattle.hunk_files.specs.ObjectFile.{ObjectHunk, IsObjectHunk}
-use Rattle.hunk_files.specs.ObjectViews.{hunks_at}
+use Rattle.hunk_files.specs.{Hunks.block_texts, ObjectFile.{ObjectHunk, IsObjectHunk}, ObjectViews.hunks_at}
 use Rattle.hunk_files.proofs.HunkKeeping.{all_kept, are_hunk, hunk_kept, hunk_lacks, hunks_behind, nearer, part_of_hunk, some_behind}
-use Rattle.hunk_files.proofs.ObjectViewLaws.{next_hunk, tested}
-use Rattle.hunk_files.proofs.Taking.{Taken}
+use Rattle.hunk_files.proofs.{ObjectViewLaws.{next_hunk, tested}, Taking.Taken}
 use Rattle.hunk_files.proofs.object.hunk_view.HunkViews.keep.Goals as goal
 
 pub at-views-requires : goal.at-views-requires

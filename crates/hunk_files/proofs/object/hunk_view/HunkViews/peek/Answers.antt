@@ -1,8 +1,6 @@
 use Rattle.std.proofs.Common.{List, Some, sym, ap, subst, ◌∙◌}
 use Rattle.hunk_blocks.specs.Placed.{Placed}
-use Rattle.hunk_files.specs.InPlace.{IsFirstPart}
-use Rattle.hunk_files.specs.ObjectFile.{ObjectHunk}
-use Rattle.hunk_files.specs.ObjectViews.{hunk_at}
+use Rattle.hunk_files.specs.{InPlace.IsFirstPart, ObjectFile.ObjectHunk, ObjectViews.hunk_at}
 use Rattle.hunk_files.proofs.ObjectViewLaws.{hunk_first, next_hunk, no_hunk, tested}
 use Rattle.hunk_files.proofs.object.hunk_view.HunkViews.peek.Goals as goal
 

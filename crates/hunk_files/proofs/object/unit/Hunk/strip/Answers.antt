@@ -1,7 +1,6 @@
 use Rattle.std.proofs.Common.{◌≡◌, rules, sym, subst, ap, ◌∙◌}
 use Rattle.std.proofs.lemmas.List.Elements.{filter_from_retain}
-use Rattle.hunk_files.specs.ObjectFile.{IsObjectHunk}
-use Rattle.hunk_files.specs.Strip.{is_kept, strip_blocks}
+use Rattle.hunk_files.specs.{ObjectFile.IsObjectHunk, Strip.{is_kept, strip_blocks}}
 use Rattle.hunk_files.proofs.StripSteps.{hunk_kept}
 use Rattle.hunk_files.proofs.object.unit.Hunk.strip.Goals as goal
 

@@ -1,8 +1,7 @@
 use Rattle.std.proofs.Common.{List, length, sym, ap, subst, ◌∙◌, arith}
 use Rattle.hunk_files.specs.ObjectFile.{ObjectHunk, UnitValue, IsUnit}
 use Rattle.hunk_blocks.specs.Placed.{Placed}
-use Rattle.hunk_files.proofs.ObjectViewLaws.{unit_at_is}
-use Rattle.hunk_files.proofs.UnitCounts.{fewer_hunks}
+use Rattle.hunk_files.proofs.{ObjectViewLaws.unit_at_is, UnitCounts.fewer_hunks}
 use Rattle.hunk_files.proofs.UnitViewLaws.{hunks_begin, unit_hunks, unit_hunks_are}
 use Rattle.hunk_files.proofs.object.unit_view.UnitView.hunks.Goals as goal
 

@@ -1,12 +1,10 @@
 use Rattle.std.proofs.Common.{◌≡◌, ◌∷◌, ◌++◌, [], List, arith, rules, subst, sym}
 use Rattle.std.proofs.lemmas.Result.{err_from_is_err_and}
 use Rattle.hunk_words.specs.Longs.{longs}
-use Rattle.hunk_files.specs.ObjectFile.{ObjectHunk, ObjectFileValue, IsUnit, unit_text}
-use Rattle.hunk_files.specs.ObjectViews.{units_at}
+use Rattle.hunk_files.specs.{ObjectFile.{ObjectHunk, ObjectFileValue, IsUnit, unit_text}, ObjectViews.units_at}
 use Rattle.hunk_files.proofs.Taking.{Taken}
 use Rattle.hunk_files.proofs.UnitKeeping.{are_unit, nearer, part_of_unit, some_behind, unit_kept, unit_lacks, units_behind, units_kept}
-use Rattle.hunk_files.proofs.UnitReading.{unit}
-use Rattle.hunk_files.proofs.UnitViewLaws.{next_unit, unit_hunks}
+use Rattle.hunk_files.proofs.{UnitReading.unit, UnitViewLaws.{next_unit, unit_hunks}}
 use Rattle.hunk_files.proofs.object.unit_view.UnitViews.keep.Goals as goal
 
 pub read_header-name-requires : goal.read_header-name-requires

@@ -1,6 +1,5 @@
 use Rattle.std.proofs.Common.{length, ◌-◌}
-use Rattle.hunk_files.specs.ObjectFile.{unit_text}
-use Rattle.hunk_files.specs.ObjectViews.{UnitsAt, units_at}
+use Rattle.hunk_files.specs.{ObjectFile.unit_text, ObjectViews.{UnitsAt, units_at}}
 use Rattle.hunk_files.proofs.Taking.{Taken}
 use Rattle.hunk_files.proofs.object.unit_view.UnitViews.keep.Given as goal
 

@@ -1,8 +1,6 @@
 use Rattle.std.proofs.Common.{Some, sym, ap, subst, ◌∙◌, arith}
 use Rattle.hunk_blocks.specs.Placed.{Placed}
-use Rattle.hunk_files.specs.InPlace.{IsFirstPart}
-use Rattle.hunk_files.specs.ObjectFile.{ObjectFileValue}
-use Rattle.hunk_files.specs.ObjectViews.{unit_at}
+use Rattle.hunk_files.specs.{InPlace.IsFirstPart, ObjectFile.ObjectFileValue, ObjectViews.unit_at}
 use Rattle.hunk_files.proofs.UnitViewLaws.{next_unit, no_unit, unit_first}
 use Rattle.hunk_files.proofs.object.unit_view.UnitViews.peek.Goals as goal
 

@@ -2,8 +2,7 @@ use Rattle.std.proofs.Common.{sym, ap, subst, ◌∙◌}
 use Rattle.std.proofs.lemmas.Result.{err_from_is_err_and}
 use Rattle.hunk_words.specs.Longs.{bytes_of}
 use Rattle.hunk_files.specs.ObjectFile.{IsObjectFile, ObjectFileValue, object_text}
-use Rattle.hunk_files.proofs.ObjectRefusals.{fault_other, fault_own}
-use Rattle.hunk_files.proofs.OneObjectFault.{no_object}
+use Rattle.hunk_files.proofs.{ObjectRefusals.{fault_other, fault_own}, OneObjectFault.no_object}
 use Rattle.hunk_files.proofs.UnitViewLaws.{units_of_is}
 use Rattle.hunk_files.proofs.object.view.ObjectView.read.Goals as goal
 

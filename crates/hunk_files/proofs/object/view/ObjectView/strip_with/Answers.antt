@@ -1,9 +1,7 @@
 use Rattle.std.proofs.Common.{sym, subst, ◌∙◌}
 use Rattle.hunk_words.specs.Longs.{bytes_of}
-use Rattle.hunk_files.specs.ObjectFile.{ObjectFileValue, object_text}
-use Rattle.hunk_files.specs.Strip.{strip_object}
-use Rattle.hunk_files.proofs.RangeLaws.{all_handed}
-use Rattle.hunk_files.proofs.UnitViewLaws.{units_of_is}
+use Rattle.hunk_files.specs.{ObjectFile.{ObjectFileValue, object_text}, Strip.strip_object}
+use Rattle.hunk_files.proofs.{RangeLaws.all_handed, UnitViewLaws.units_of_is}
 use Rattle.hunk_files.proofs.object.view.ObjectView.strip_with.Goals as goal
 
 pub returns : goal.returns
