@@ -9,7 +9,7 @@ use Rattle.hunk_blocks.specs.declared.mode.Mode.{Mode}
 use Rattle.hunk_blocks.specs.Values.{BlockBody, Reloc, Ext, Advisory, End, BlockValue, is_unknown, FitsWord, IsBlock}
 use Rattle.hunk_blocks.specs.Modes.{IsOfMode, refuse_alone_kind, refuse_alone_word}
 use Rattle.hunk_blocks.specs.declared.mode.Mode.TheVariants as modes
-use Rattle.hunk_blocks.proofs.Lists.{passed_both, passes_else, passes_then}
+use Rattle.hunk_blocks.proofs.Lists.{passes_else, passes_then}
 
 abbrev pub block : ℕ → BlockBody → BlockValue
 block word body = record { word = word; body = body }
@@ -51,9 +51,6 @@ of_mode modes.Object word body h ok = tt
 of_mode modes.Load word (Reloc gs) h ok = load_relocation (is_advisory word) (kind word) h.0 ok
 of_mode modes.Load word (Ext es) h ok = load_external (is_advisory word) (kind word) h.0 ok
 of_mode modes.Load word _ h ok = tt
-
-pub kind_admitted : (mode : Mode) (word : ℕ) → refuse_alone_word mode word ≡ None → (has_both_bits word ≡ false) × (refuse_alone_kind mode (is_advisory word) (kind word) ≡ None)
-kind_admitted mode word ok = passed_both (has_both_bits word) reasons.BothBits (refuse_alone_kind mode (is_advisory word) (kind word)) ok
 
 -- ---- no longword is refused as out of memory
 abbrev pub not_for_memory : Option Reason → Bool

@@ -1,14 +1,13 @@
 -- What a machine of values forgets of its state goes along the texts that the machine follows.
-use Rattle.std.proofs.Common.{◌≡◌, ℕ, List, [], ◌∷◌, sym, ap, subst, ◌∙◌, Option, Some, None}
+use Rattle.std.proofs.Common.{rules, ◌≡◌, ℕ, List, [], ◌∷◌, ap, subst, Option, Some, None}
 use Rattle.hunk_words.specs.{declared.reason.Reason.Reason, Bits.kind}
 use Rattle.hunk_blocks.specs.{declared.mode.Mode.Mode, Values.{BlockValue, IsBlock}}
 use Rattle.hunk_blocks.specs.{Parts.{Part, Part as parts, block_parts}, Faults.refuse_alone}
-use Rattle.hunk_blocks.specs.{BlockSteps.{Open, Whole, part_of}, PhaseSteps.part_at}
-use Rattle.hunk_blocks.specs.{Along.{GoesAlong, refuse_at, step_on}, ReaderPhase.phase_of}
+use Rattle.hunk_blocks.specs.{BlockSteps.{Open, Whole}, Along.{GoesAlong, refuse_at, step_on}}
 use Rattle.hunk_blocks.specs.declared.phase.Phase.TheVariants as phases
-use Rattle.hunk_blocks.proofs.BlockPhases.{phase_no_word, step_phase, begin_phase, refuse_phase}
+use Rattle.hunk_blocks.proofs.BlockPhases.{step_phase, begin_phase}
+use Rattle.hunk_blocks.proofs.OneBlockFault.{Alone, AtWord, Behind, alone, block_leads}
 use Rattle.hunk_blocks.proofs.{BlockWalks.position_of, FaultScan.{Machine, Leads}}
-use Rattle.hunk_blocks.proofs.OneBlockFault.{Alone, AtWord, Behind, alone, alone_inside, block_leads, part_not_word}
 
 module _ {State Role Pos : Type 0} (m : Machine State Role) (pos : State → Pos) (test : Role → Pos → ℕ → Option Reason) (refuse : Role → ℕ → Option Reason) (step : Pos → ℕ → Pos) where
   -- Where a role is expected, the position has its test, and steps as the machine does.
@@ -30,9 +29,7 @@ block_forgets mode = record { tests = tests; steps = steps }
   where
     tests : (s : Alone) (role : Part) (w : ℕ) → alone.expects s ≡ Some role → refuse_at mode role (position_of s) w ≡ refuse_alone mode role w
     tests AtWord role w e = let same : parts.BlockWord ≡ role = cc in ap (λ (part : Part). refuse_alone mode part w) same
-    tests (Behind (Open x)) role w e =
-        let same : part_of x ≡ role = cc in
-        alone_inside mode (part_at (phase_of x)) w (phase_no_word x) ∙ sym (refuse_phase x w) ∙ sym (alone_inside mode (part_of x) w (part_not_word x)) ∙ ap (λ (part : Part). refuse_alone mode part w) same
+    tests (Behind (Open x)) role w e = search rules
     tests (Behind (Whole b)) role w e = absurd cc
 
     steps : (s : Alone) (role : Part) (w : ℕ) → alone.expects s ≡ Some role → position_of (alone.step s w) ≡ step_on (position_of s) w

@@ -1,5 +1,5 @@
 -- Bytes begin with a block of the mode or have a fault.
-use Rattle.std.proofs.Common.{◌≡◌, ℕ, ◌*◌, List, [], ◌∷◌, ◌++◌, length, refl, sym, ap, subst, ◌∙◌, append_assoc, append-nil, Option, Some, None, ◌⊎◌, inl, inr}
+use Rattle.std.proofs.Common.{rules, ◌≡◌, ℕ, ◌*◌, List, [], ◌∷◌, ◌++◌, length, refl, sym, ap, subst, ◌∙◌, append_assoc, append-nil, Option, Some, None, ◌⊎◌, inl, inr}
 use Rattle.hunk_words.specs.{declared.reason.Reason.Reason, Bits.kind, Longs.{longs, IsLong, IsBytes}}
 use Rattle.hunk_words.specs.declared.reason.Reason.TheVariants as reasons
 use Rattle.hunk_words.proofs.LongLaws.{longs_fit}
@@ -9,12 +9,12 @@ use Rattle.hunk_blocks.specs.Modes.{IsOfMode, refuse_inside, refuse_alone_word}
 use Rattle.hunk_blocks.specs.Begins.{BeginsWithBlock, BeginsWithNoBlock}
 use Rattle.hunk_blocks.specs.Faults.{words, Expects, IsFront, refuse_alone, blocks, HasBlockFault}
 use Rattle.hunk_blocks.specs.BlockSteps.{Inside, BlockNext, Open, Whole, part_of, step_inside, begin_body, Follows}
-use Rattle.hunk_blocks.proofs.{Admitted.{block, kind_admitted, of_mode}, BlockCompletion.{completes, run_fits}}
+use Rattle.hunk_blocks.proofs.{Admitted.{block, of_mode}, BlockCompletion.{completes, run_fits}}
 use Rattle.hunk_blocks.proofs.{BlockLongs.block_longs, BlockPrefix.block_prefix}
-use Rattle.hunk_blocks.proofs.BlockProgress.{read_inside, read_next, NextFits, begin_fits, begin_reads, step_fits, step_reads}
-use Rattle.hunk_blocks.proofs.{BodyFaults.expects_word, Decoding.{front_bytes, no_block}, FaultLaws.words-append}
+use Rattle.hunk_blocks.proofs.BlockProgress.{read_inside, read_next, NextFits, step_fits, step_reads}
 use Rattle.hunk_blocks.proofs.OneBlockFault.{Alone, AtWord, Behind, alone, block_reads, alone_inside, part_not_word}
 use Rattle.hunk_blocks.proofs.Outcomes.{Keeps, run, front, judged, completed}
+use Rattle.hunk_blocks.proofs.{BodyFaults.expects_word, Decoding.{front_bytes, no_block}, FaultLaws.words-append}
 
 -- ---- what is read so far
 
@@ -32,8 +32,7 @@ module _ (mode : Mode) where
 
   -- a word and a body that fits it
   pub block_is : (word : ℕ) (b : BlockBody) → IsLong word → refuse_alone_word mode word ≡ None → FitsWord word b → IsBlock (block word b) × IsOfMode mode (block word b)
-  block_is word b l ok fits =
-      let a = kind_admitted mode word ok in (record { word = l; bits = a.0; body = fits }, of_mode mode word b fits a.1)
+  block_is word b l ok fits = search rules
 
   pub expects_inside : (x : Inside) (word : ℕ) (ws : List ℕ) → Inner mode (Open x) word ws → Expects (blocks mode) ws (part_of x)
   expects_inside x word ws h = let c = completes x in go c.parts c.body c.run (run_fits word (Open x) c.parts c.body h.inside c.go c.run)
@@ -64,13 +63,7 @@ module _ (mode : Mode) where
       }
 
   pub begins_inside : (w : ℕ) → IsLong w → refuse_alone_word mode w ≡ None → Inner mode (begin_body (kind w)) w (w ∷ [])
-  begins_inside w l ok =
-      record {
-        fits = l;
-        ok = ok;
-        inside = begin_fits mode w (kind w) refl (kind_admitted mode w ok).1;
-        words_are = ap (λ ys. w ∷ words ys) (sym (begin_reads (kind w)));
-      }
+  begins_inside w l ok = search rules
 
   unfoldable pub keeps : Keeps (blocks mode) alone
   keeps = record { SoFar = SoFar; begins = refl; expects = expected; goes_on = go; ends = ended }

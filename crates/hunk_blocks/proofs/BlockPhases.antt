@@ -1,14 +1,14 @@
 -- What was read of a block, in numbers alone: the phase of its reader.
-use Rattle.std.proofs.Common.{◌≡◌, ◌≢◌, ℕ, zero, suc, ◌+◌, ◌/◌, ◌%◌, ◌^◌, Bool, true, false, List, [], ◌∷◌, ◌++◌, length, refl, sym, ap, ◌∙◌, arith, Option, Some, None}
+use Rattle.std.proofs.Common.{rules, ◌≡◌, ◌≢◌, ℕ, zero, suc, ◌+◌, ◌/◌, ◌%◌, ◌^◌, Bool, true, false, List, [], ◌∷◌, ◌++◌, length, refl, ap, ◌∙◌, arith, Option, Some, None}
 use Rattle.hunk_words.specs.{declared.block_word.Kind.Kind, Bits.entry_type}
 use Rattle.hunk_words.specs.declared.block_word.Kind.TheVariants as kinds
 use Rattle.hunk_blocks.specs.declared.ext_shape.ExtShape.{ExtShape}
 use Rattle.hunk_blocks.specs.declared.ext_shape.ExtShape.TheVariants.{Definition, References, Common}
-use Rattle.hunk_blocks.specs.{ExtKinds.ext_shape, Values.{SymbolEntry, ExtEntry}, Parts.{Part, Part as parts}}
 use Rattle.hunk_blocks.specs.Modes.{refuse_inside}
 use Rattle.hunk_blocks.specs.BlockSteps.{Counting, ForName, ForCode, ForData, ForBss, Counted, SizedCode, SizedData, Inside, AtCount, AtSize, InPayload, AtGroup, AtTarget, InOffsets, AtEntry, InName, AtValue, AtExtWord, InExtName, AtExtValue, AtExtSize, AtExtCount, InExtOffsets, part_of, step_inside, begin_body, fill, name_entry, shaped, name_external, refer}
-use Rattle.hunk_blocks.specs.{declared.phase.Phase.Phase, PhaseSteps.{part_at, skip, skipped, skip_all}}
 use Rattle.hunk_blocks.specs.ReaderPhase.{front_phase, phase_of, next_phase}
+use Rattle.hunk_blocks.specs.{ExtKinds.ext_shape, Values.{SymbolEntry, ExtEntry}, Parts.{Part, Part as parts}}
+use Rattle.hunk_blocks.specs.{declared.phase.Phase.Phase, PhaseSteps.{part_at, skip, skipped, skip_all}}
 use Rattle.hunk_blocks.proofs.Lists.{more_owed}
 use Rattle.hunk_blocks.specs.declared.phase.Phase.TheVariants as phases
 use Rattle.hunk_blocks.specs.PhaseSteps as scan
@@ -132,13 +132,7 @@ is_block_word _ = false
 
 -- Behind a block word no phase is that of one.
 pub phase_no_word : (x : Inside) → part_at (phase_of x) ≢ parts.BlockWord
-phase_no_word x e =
-    let clash : false ≡ true = sym (inside x) ∙ same_part is_block_word refl x (λ r. refl) ∙ ap is_block_word e in
-    cc
-  where
-    inside : (y : Inside) → is_block_word (part_of y) ≡ false
-    inside (AtCount ForName) = refl
-    inside _ = refl
+phase_no_word x e = search rules
 
 -- ---- runs
 

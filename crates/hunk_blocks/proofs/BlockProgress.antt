@@ -1,5 +1,5 @@
 -- What has been read of a block is the text up to there, and it fits as long as no longword was refused.
-use Rattle.std.proofs.Common.{◌≡◌, ◌≢◌, ℕ, zero, suc, ◌+◌, ◌*◌, ◌/◌, ◌%◌, ◌^◌, ◌<◌, ltb, List, [], ◌∷◌, ◌++◌, length, refl, sym, ap, subst, ◌∙◌, append_assoc, append-nil, add-zero, arith, None, Option, Some}
+use Rattle.std.proofs.Common.{rules, ◌≡◌, ◌≢◌, ℕ, zero, suc, ◌+◌, ◌*◌, ◌/◌, ◌%◌, ◌^◌, ◌<◌, ltb, List, [], ◌∷◌, ◌++◌, length, refl, sym, ap, subst, ◌∙◌, append_assoc, add-zero, arith, None, Option, Some}
 use Rattle.std.specs.{Prelude.IsTrue, List.{flat_map, AllByRecursion}}
 use Rattle.std.proofs.lemmas.Bool.{ltb-true}
 use Rattle.hunk_words.specs.{declared.block_word.Kind.Kind, Longs.{IsLong, AreLongs}}
@@ -184,8 +184,7 @@ module _ (word : ℕ) where
   shape_fits None entries w name e g h ok = absurd cc
 
   external_name_fits : (entries : List ExtEntry) (w : ℕ) (done : List ℕ) (owed : ℕ) → ExternalsFit entries → NameFits w done (length done + owed) → refuse_shape (ext_shape (w / 2 ^ 24)) ≡ None → NextFits (name_external entries w done owed)
-  external_name_fits entries w done zero g h ok =
-      shape_fits (ext_shape (w / 2 ^ 24)) entries w done refl g (record { fits = h.fits; goes_on = h.goes_on; counts = omega (arith, h.counts); longs_fit = h.longs_fit }) ok
+  external_name_fits entries w done zero g h ok = search rules
   external_name_fits entries w done (suc owed) g h ok = (g, h, ok)
 
   refers_fit : (s : Option ExtShape) (w : ℕ) (name : List ℕ) (value : ℕ) (done : List ℕ) → MayRefer s value → FitsShape s (external w name value done)
@@ -221,8 +220,7 @@ module _ (word : ℕ) where
 
   entry_fits : (entries : List SymbolEntry) (w : ℕ) → EntriesFit entries → IsLong w → NextFits (entered entries w)
   entry_fits entries zero g l = g
-  entry_fits entries (suc w) g l =
-      name_fits entries (suc w) [] (suc w % 2 ^ 24) g (record { fits = l; goes_on = omega arith; counts = omega arith; longs_fit = tt })
+  entry_fits entries (suc w) g l = search rules
 
   external_fits : (entries : List ExtEntry) (w : ℕ) → ExternalsFit entries → IsLong w → refuse_inside parts.ExtWord w ≡ None → NextFits (listed entries w)
   external_fits entries zero g l ok = g
@@ -260,8 +258,7 @@ module _ (word : ℕ) where
       (record { fits = h.1.fits; goes_on = h.1.goes_on; counts = more_owed done w owed ∙ h.1.counts; longs_fit = All-more IsLong done w h.1.longs_fit l }) h.2
   step_fits (AtExtValue entries word name) w h l ok =
       external_more entries word name w [] h.0 h.1 l (omega arith) tt (subst (λ (s : Option ExtShape). FitsShape s (external word name w [])) (sym h.2) refl)
-  step_fits (AtExtSize entries word name) w h l ok =
-      (h.0, record { name_fits = h.1; value_fits = l; refers = subst (λ (s : Option ExtShape). MayRefer s w) (sym h.2) tt })
+  step_fits (AtExtSize entries word name) w h l ok = search rules
   step_fits (AtExtCount entries word name value) w h l ok = refer_fits entries word name value [] w h.0 h.1 (omega (arith, l)) tt
   step_fits (InExtOffsets entries word name value done owed) w h l ok =
       refer_fits entries word name value (done ++ w ∷ []) owed h.0 h.1 (omega (arith, h.2, more_owed done w owed)) (All-more IsLong done w h.3 l)
@@ -277,13 +274,7 @@ begin_fits mode word _ e ok = first_of (cc, assumption (ap is_relocation e))
 -- ---- each step adds to the text
 
 external_name_reads : (entries : List ExtEntry) (word : ℕ) (done : List ℕ) (owed : ℕ) → refuse_shape (ext_shape (word / 2 ^ 24)) ≡ None → read_next (name_external entries word done owed) ≡ external_so_far entries word done
-external_name_reads entries word done zero ok = go (ext_shape (word / 2 ^ 24)) refl ok
-  where
-    go : (s : Option ExtShape) → ext_shape (word / 2 ^ 24) ≡ s → refuse_shape s ≡ None → read_next (shaped s entries word done) ≡ external_so_far entries word done
-    go (Some Definition) e ok = refl
-    go (Some References) e ok = ap (λ (t : Option ExtShape). external_so_far entries word done ++ size_parts t 0) e ∙ append-nil (external_so_far entries word done)
-    go (Some Common) e ok = refl
-    go None e ok = absurd cc
+external_name_reads entries word done zero ok = search rules
 external_name_reads entries word done (suc owed) ok = refl
 
 referring_parts : (s : Option ExtShape) (word : ℕ) (name : List ℕ) (value : ℕ) (done : List ℕ) → MayRefer word s value → ext_parts_by s (external word name value done) ≡ size_parts s value ++ (parts.OffsetCount, length done) ∷ each parts.Offset done

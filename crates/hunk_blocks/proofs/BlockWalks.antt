@@ -1,5 +1,5 @@
 -- A walk over one block reaches its end or the first fault.
-use Rattle.std.proofs.Common.{◌≡◌, ℕ, suc, ◌+◌, ◌*◌, ◌<◌, ◌≤◌, List, ◌++◌, length, get_or, take, drop, refl, sym, ap, subst, ◌∙◌, arith, Option, Some, None, inl, inr}
+use Rattle.std.proofs.Common.{rules, ◌≡◌, ℕ, ◌+◌, ◌*◌, ◌<◌, ◌≤◌, List, ◌++◌, length, get_or, take, drop, refl, sym, ap, subst, ◌∙◌, arith, Option, Some, None, inl, inr}
 use Rattle.std.proofs.lemmas.List.{length-take-le, take-append-drop, take_all}
 use Rattle.hunk_words.specs.{declared.reason.Reason.Reason, Bits.kind, Longs.{longs, IsBytes}}
 use Rattle.hunk_words.specs.declared.reason.Reason.TheVariants as reasons
@@ -11,9 +11,8 @@ use Rattle.hunk_blocks.specs.ReaderPhase.{phase_of, next_phase}
 use Rattle.hunk_blocks.proofs.{Admitted.block, BlockOutcome.{SoFar, keeps, block_is, goes_on_none}}
 use Rattle.hunk_blocks.proofs.Decoding.{front_bytes}
 use Rattle.hunk_blocks.proofs.OneBlockFault.{Alone, AtWord, Behind, alone, part_not_word, alone_inside}
-use Rattle.hunk_blocks.proofs.Outcomes.{front}
-use Rattle.hunk_blocks.proofs.BlockPhases.{phase_no_word, step_phase, begin_phase, refuse_phase, skips_inside, none_skipped}
-use Rattle.hunk_blocks.proofs.KeptWalks.{OnePasses, HasRuns, StandsAt, Walks, starts, stands, word_refused, word_passes}
+use Rattle.hunk_blocks.proofs.{Outcomes.front, BlockPhases.{phase_no_word, step_phase, begin_phase, refuse_phase}}
+use Rattle.hunk_blocks.proofs.KeptWalks.{HasRuns, StandsAt, Walks, starts, stands, word_refused, word_passes}
 use Rattle.hunk_blocks.specs.declared.phase.Phase.TheVariants as phases
 use Rattle.hunk_blocks.specs.PhaseSteps as scan
 
@@ -23,19 +22,7 @@ position_of (Behind n) = next_phase n
 
 module _ (mode : Mode) where
   pub runs : HasRuns (blocks mode) alone (keeps mode) position_of skipped skip_all
-  runs = record { one = one; none = none }
-    where
-      one : (s : Alone) (before : List ℕ) (left w : ℕ) → (keeps mode).SoFar s before → skipped (position_of s) ≡ suc left → OnePasses (blocks mode) alone (keeps mode) position_of skipped skip_all s left w
-      one AtWord before left w h e = absurd (omega (arith, e))
-      one (Behind (Whole b)) before left w h e = absurd (omega (arith, e))
-      one (Behind (Open x)) before left w h e =
-          let o = skips_inside x left w e in
-          record { role = part_of x; expects = refl; passes = alone_inside mode (part_of x) w (part_not_word x) ∙ o.0; run_is = o.1; behind_is = o.2 }
-
-      none : (s : Alone) → skipped (position_of s) ≡ 0 → skip_all (position_of s) ≡ position_of s
-      none AtWord e = refl
-      none (Behind (Whole b)) e = refl
-      none (Behind (Open x)) e = none_skipped _ e
+  runs = search rules
 
   abbrev pub BlockWalks : List ℕ → ℕ → Option Phase → Type 0
   BlockWalks bytes at p = Walks (blocks mode) alone (keeps mode) position_of skipped skip_all (longs bytes) at p

@@ -1,7 +1,7 @@
 -- A block that may stand anywhere.
 use Rattle.std.proofs.Common.{[], refl, arith}
 use Rattle.hunk_words.specs.Bits.{kind}
-use Rattle.hunk_blocks.specs.{declared.mode.Mode.Mode, Values.{BlockValue, End, IsBlock}, Parts.{Part as parts}}
+use Rattle.hunk_blocks.specs.{declared.mode.Mode.Mode, Values.{BlockValue, End, IsBlock}, Parts.Part as parts}
 use Rattle.hunk_blocks.specs.{Modes.IsOfMode, Faults.{Expects, blocks}}
 use Rattle.hunk_blocks.specs.declared.mode.Mode.TheVariants as modes
 use Rattle.hunk_blocks.proofs.Admitted.{block}

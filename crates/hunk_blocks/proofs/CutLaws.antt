@@ -7,11 +7,11 @@ use Rattle.hunk_words.specs.Bits.{size_longs, memory_bits, size_word, name_longs
 use Rattle.hunk_words.specs.declared.block_word.Kind.TheVariants as kinds
 use Rattle.hunk_blocks.specs.declared.ext_shape.ExtShape.{ExtShape}
 use Rattle.hunk_blocks.specs.declared.ext_shape.ExtShape.TheVariants.{Definition, References, Common}
-use Rattle.hunk_blocks.specs.{ExtKinds.ext_shape, Entries.{IsShaped, shaped_text}}
 use Rattle.hunk_blocks.specs.Values.{RelocGroup, ExtEntry, SymbolEntry, BlockBody, Name, Code, Data, Bss, Reloc, Ext, Symbol, Debug, Advisory, End, BlockValue, IsSized, IsGroup, IsExtEntry, IsSymbolEntry, IsBlock, FitsWord, ext_type, is_unknown}
 use Rattle.hunk_blocks.specs.Parts.{counted_text, sized_text, group_text, ext_text, symbol_text, list_text, body_text, text_of, block_text}
-use Rattle.hunk_blocks.specs.{Reading.BeginsWithList, BlockSteps.entry}
 use Rattle.hunk_blocks.specs.Cuts.{Cut, cut_map, long_cut, longs_cut, counted_cut, sized_cut, group_cut, symbol_cut, shaped_cut, entry_cut, items_cut, list_cut, kind_cut, body_cut, block_cut}
+use Rattle.hunk_blocks.specs.{ExtKinds.ext_shape, Entries.{IsShaped, shaped_text}}
+use Rattle.hunk_blocks.specs.{Reading.BeginsWithList, BlockSteps.entry}
 use Rattle.hunk_blocks.proofs.PartTexts.{body_text_is, group_text_is, symbol_text_is, ext_text_is, fits_shaped}
 
 abbrev pub cut : {A : Type 0} → A → List ℕ → Cut A

@@ -1,5 +1,5 @@
 -- Where longwords alone determine their roles, the first that is refused is one.
-use Rattle.std.proofs.Common.{◌≡◌, ℕ, ◌+◌, ◌*◌, List, [], ◌∷◌, ◌++◌, length, refl, sym, ap, subst, ◌∙◌, arith, Option, Some, None, ◌⊎◌, inl, inr}
+use Rattle.std.proofs.Common.{rules, ◌≡◌, ℕ, ◌+◌, ◌*◌, List, [], ◌∷◌, ◌++◌, length, refl, sym, ap, subst, ◌∙◌, arith, Option, Some, None, ◌⊎◌, inl, inr}
 use Rattle.std.specs.List.{AllByRecursion}
 use Rattle.hunk_words.specs.declared.reason.Reason.{Reason}
 use Rattle.hunk_words.specs.declared.reason.Reason.TheVariants as reasons
@@ -54,10 +54,7 @@ module _ {State Role : Type 0} (m : Machine State Role) (refuse : Role → ℕ �
   scan_refused : (s t : State) (done : List (Role × ℕ)) (role : Role) (v w : ℕ) (more : List (Role × ℕ)) (after : List ℕ) (at : ℕ) (reason : Reason) → Leads m s (done ++ (role, v) ∷ more) t → Passes (done ++ (role, v) ∷ more) → refuse role w ≡ Some reason →
       first_refused s at (words done ++ w ∷ after) ≡ Some (at + 4 * length (words done), reason)
   unfolding first_refused
-  scan_refused s t [] role v w more after at reason run ok bad =
-      ap (λ (x : Option Role). by_role x w at (first_refused (m.step s w) (at + 4) after)) run.0
-      ∙ ap (λ (x : Option Reason). by_test x at (first_refused (m.step s w) (at + 4) after)) bad
-      ∙ ap (λ (n : ℕ). Some (n, reason)) (omega arith)
+  scan_refused s t [] role v w more after at reason run ok bad = search rules
   scan_refused s t (d ∷ done) role v w more after at reason run ok bad =
       passed d.0 d.1 at (m.expects s) (first_refused (m.step s d.1) (at + 4) (words done ++ w ∷ after)) run.0 ok.0
       ∙ scan_refused (m.step s d.1) t done role v w more after (at + 4) reason run.1 ok.1 bad

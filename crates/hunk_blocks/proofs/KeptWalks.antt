@@ -1,8 +1,7 @@
 -- A walk keeps a state of a machine in which the longwords up to it were read, and passes over runs at once.
 use Rattle.std.proofs.Common.{◌≡◌, ℕ, zero, suc, ◌+◌, ◌*◌, ◌<◌, ◌≤◌, List, [], ◌∷◌, ◌++◌, length, get_or, take, drop, refl, sym, ap, subst, ◌∙◌, append_assoc, append-nil, arith, Some, None, ◌⊎◌, inl, inr}
-use Rattle.std.proofs.Math.Seq.{take-add}
+use Rattle.std.proofs.{Math.Seq.take-add, lemmas.{List.Elements.All-from_recursion, Bool.cases_lt}}
 use Rattle.std.proofs.lemmas.List.{length-take-le, length-drop, take_more, drop_more, take-append-drop}
-use Rattle.std.proofs.lemmas.{List.Elements.All-from_recursion, Bool.cases_lt}
 use Rattle.hunk_words.specs.{declared.reason.Reason.Reason, Longs.{IsLong, AreLongs}}
 use Rattle.hunk_blocks.specs.Faults.{Grammar, HasRefusal}
 use Rattle.hunk_blocks.proofs.{FaultScan.Machine, Fronts.{All-left, All-right}, Outcomes.Keeps}

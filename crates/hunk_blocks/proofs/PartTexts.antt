@@ -4,9 +4,9 @@ use Rattle.std.specs.List.{flat_map}
 use Rattle.std.proofs.lemmas.List.{map-append}
 use Rattle.hunk_blocks.specs.declared.ext_shape.ExtShape.{ExtShape}
 use Rattle.hunk_blocks.specs.declared.ext_shape.ExtShape.TheVariants.{Definition, References, Common}
-use Rattle.hunk_blocks.specs.{ExtKinds.ext_shape, Entries.{IsShaped, shaped_text}}
 use Rattle.hunk_blocks.specs.Values.{RelocGroup, ExtEntry, SymbolEntry, BlockBody, Bss, Reloc, Ext, Symbol, End, IsExtEntry, FitsShape, ext_type}
 use Rattle.hunk_blocks.specs.Parts.{Part, Part as parts, each, longs_of, group_parts, ext_parts, symbol_parts, group_text, symbol_text, ext_parts_by, ext_text, list_text, body_text, text_of}
+use Rattle.hunk_blocks.specs.{ExtKinds.ext_shape, Entries.{IsShaped, shaped_text}}
 
 pub longs_of-each : (part : Part) (words : List ℕ) → longs_of (each part words) ≡ words
 longs_of-each part [] = refl
