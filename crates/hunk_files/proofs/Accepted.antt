@@ -1,9 +1,9 @@
 -- No longword of a load text is refused.
-use Rattle.std.proofs.Common.{◌≡◌, ◌≢◌, ℕ, ◌+◌, ◌-◌, ◌*◌, ◌^◌, ◌<◌, ◌≤◌, Bool, true, false, ◌||◌, ltb, eqb, List, [], ◌∷◌, length, map, refl, sym, ap, ap₂, ◌∙◌, arith, Some, None}
-use Rattle.std.specs.{Prelude.{if◌then◌else◌, cond}, List.{flat_map, AllByRecursion}}
-use Rattle.std.proofs.lemmas.{Bool.{lt-ltb, le-ltb, eq-eqb, ne_eqb}, List.length-map}
+use Rattle.std.proofs.Common.{rules, ◌≡◌, ◌≢◌, ℕ, ◌+◌, ◌-◌, ◌*◌, ◌^◌, ◌<◌, ◌≤◌, Bool, true, false, ◌||◌, ltb, eqb, List, [], ◌∷◌, length, map, refl, sym, ap, ap₂, ◌∙◌, arith, Some, None}
+use Rattle.std.specs.List.{flat_map, AllByRecursion}
+use Rattle.std.proofs.lemmas.{Bool.{lt-ltb, le-ltb, eq-eqb}, List.length-map}
 use Rattle.hunk_words.specs.declared.reason.Reason.TheVariants as reasons
-use Rattle.hunk_words.specs.{Bits.{size_longs, has_both_bits}, Longs.{IsLong, AreLongs}}
+use Rattle.hunk_words.specs.{Bits.size_longs, Longs.{IsLong, AreLongs}}
 use Rattle.hunk_blocks.specs.Values.{RelocGroup, SymbolEntry, BlockBody, BlockValue, Name, Code, Data, Bss, Reloc, Ext, Symbol, Advisory, End, FitsWord, IsPayload, IsGroup, IsSymbolEntry}
 use Rattle.hunk_blocks.specs.Parts.{Part, Part as parts, each, group_parts, symbol_parts, body_parts, block_parts}
 use Rattle.hunk_blocks.specs.Modes.{IsOfLoadMode}
@@ -64,11 +64,7 @@ module _ (p : Place) where
   some_inside (w ∷ ws) some h e = omega (arith, h.0)
 
   group_count_passes : (w : ℕ) → IsLong w → (p.longs ≡ 0 → ⊥) → PartPasses (parts.GroupCount, w)
-  group_count_passes w l h = (l, go (eqb w 0))
-    where
-      go : (b : Bool) → cond b None (cond (eqb p.longs 0) (Some reasons.NothingToRelocate) None) ≡ None
-      go true = refl
-      go false = passes_else (eqb p.longs 0) (Some reasons.NothingToRelocate) None (ne_eqb p.longs 0 h)
+  group_count_passes w l h = search rules
 
   group_passes : (g : RelocGroup) → IsGroup g → FitsGroup p.hunks p.longs g → PartsPass (group_parts g)
   group_passes g h f =
@@ -140,15 +136,10 @@ module _ (hunks longs : ℕ) where
 -- ---- the header
 
 entry_accepted : (e : TableEntry) → IsTableEntry e → AreAccepted (entry_labelled e)
-entry_accepted e h = ((h.0, refl), go (has_both_bits e.word))
-  where
-    go : (b : Bool) → AreAccepted (if b then (roles.Attributes, e.extra) ∷ [] else [])
-    go true = ((h.1, refl), tt)
-    go false = tt
+entry_accepted e h = search rules
 
 count_accepted : (n : ℕ) → 0 < n → n ≤ 65536 → refuse roles.TableSize n ≡ None
-count_accepted n some most =
-    passes_else (eqb n 0) (Some reasons.NoHunks) _ (ne_eqb n 0 (omega arith)) ∙ passes_else (ltb 65536 n) (Some reasons.TooManyHunks) None (le-ltb 65536 n most)
+count_accepted n some most = search rules
 
 pub last_accepted : (n : ℕ) → 0 < n → refuse (roles.LastHunk n) (n - 1) ≡ None
 last_accepted n some = passes_then (eqb (n - 1 + 1) n) None (Some reasons.LastHunk) (eq-eqb (n - 1 + 1) n (omega arith))

@@ -1,8 +1,8 @@
 -- What an addition at an offset does to bytes.
 use Rattle.std.proofs.Common.{◌≡◌, ℕ, suc, ◌+◌, ◌-◌, ◌%◌, ◌^◌, ◌<◌, ◌≤◌, min, List, ◌++◌, length, get_or, take, drop, refl, sym, ap, ◌∙◌, append_assoc, arith, ◌⊎◌, inl, inr}
+use Rattle.std.proofs.lemmas.{Nat.from_be_bytes-to_be_bytes_4, Bool.cases_lt}
 use Rattle.std.specs.Int.{w32, to_be_bytes, from_be_bytes}
 use Rattle.std.proofs.lemmas.List.{length-append, length-take, length-take-le, length-drop, get_or_append_left, get_or-append_right, get_or-take, get_or-drop, get_or_past, drop_at, take_at, ext_get_or}
-use Rattle.std.proofs.lemmas.{Nat.from_be_bytes-to_be_bytes_4, Bool.cases_lt}
 use Rattle.hunk_words.specs.Longs.{IsBytes}
 use Rattle.hunk_files.specs.{Image.add_at, SumImage.long_at}
 

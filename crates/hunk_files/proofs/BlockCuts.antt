@@ -1,11 +1,11 @@
 -- The text of a hunk is cut into its blocks and what stands behind it.
-use Rattle.std.proofs.Common.{◌≡◌, ℕ, Bool, true, false, zero, suc, ◌≤◌, List, [], ◌∷◌, ◌++◌, length, refl, sym, ap, ◌∙◌, append_assoc, length-append, arith}
+use Rattle.std.proofs.Common.{rules, ◌≡◌, ℕ, Bool, true, false, zero, suc, ◌≤◌, List, [], ◌∷◌, ◌++◌, length, refl, sym, ap, ◌∙◌, append_assoc, length-append, arith}
 use Rattle.std.specs.{Prelude.if◌then◌else◌, List.AllByRecursion}
 use Rattle.hunk_blocks.specs.{Values.{BlockValue, IsBlock}, Parts.block_text, Cuts.{Cut, cut_map, block_cut}}
 use Rattle.hunk_blocks.proofs.CutLaws.{cut, block_cut_is}
 use Rattle.hunk_grammar.specs.Standings.{is_ending}
 use Rattle.hunk_files.specs.{LoadFile.{AreInOrder, standing}, Hunks.block_texts, Cuts.{blocks_cut, hunk_cut}}
-use Rattle.hunk_files.proofs.{FileText.standings, Peel.{order_left, order_stops}}
+use Rattle.hunk_files.proofs.{FileText.standings, Peel.order_stops}
 
 -- each block has a longword
 pub few_blocks : (blocks : List BlockValue) → length blocks ≤ length (block_texts blocks)
@@ -28,9 +28,7 @@ blocks_cut_is (suc most) has_content (b ∷ blocks) rest is order few =
     go : (ends : Bool) → is_ending (standing b.body) ≡ ends → ((k : Bool) → AreInOrder k (standings blocks) → blocks_cut most (block_texts blocks ++ rest) ≡ cut blocks rest) →
         (if ends then cut (b ∷ []) (block_texts blocks ++ rest) else cut_map (λ xs. b ∷ xs) (blocks_cut most (block_texts blocks ++ rest))) ≡ cut (b ∷ blocks) rest
     go true e more = ap (λ (bs : List BlockValue). cut (b ∷ []) (block_texts bs ++ rest)) (order_stops has_content (standing b.body) blocks order e) ∙ ap (λ (bs : List BlockValue). cut (b ∷ bs) rest) (sym (order_stops has_content (standing b.body) blocks order e))
-    go false e more =
-        let left = order_left has_content (standing b.body) (standings blocks) order e in
-        ap (cut_map (λ xs. b ∷ xs)) (more left.0 left.1)
+    go false e more = search rules
 
 -- The like of as many as there are longwords.
 pub hunk_cut_is : (has_content : Bool) (blocks : List BlockValue) (rest : List ℕ) → AllByRecursion IsBlock blocks → AreInOrder has_content (standings blocks) → hunk_cut (block_texts blocks ++ rest) ≡ cut blocks rest

@@ -1,6 +1,6 @@
 -- Worked examples, computed.
+use Rattle.std.proofs.Common.{rules, arith, ◌<◌, ◌^◌}
 use Rattle.std.specs.Prelude.{◌≡◌, ℕ, List, [], ◌∷◌, map, Option, Some, None, true, false, refl}
-use Rattle.std.proofs.Common.{arith, ◌<◌, ◌^◌}
 use Rattle.hunk_blocks.specs.Values.{IsGroup, RelocGroup, BlockBody, BlockValue, Code, Data, Bss, Reloc, End}
 use Rattle.hunk_blocks.specs.Parts.{Part as parts}
 use Rattle.hunk_files.specs.{LoadFile.{IsLoadFile, LoadFileValue, HunkValue}, LoadText.{text, labelled}, Image.image}
@@ -151,53 +151,8 @@ one_offset target h = record { some = λ e. cc; target = h; offsets = (omega ari
 
 example1_is_load_file : IsLoadFile example1
 unfolding example1 kind
-example1_is_load_file = record {
-  some = omega arith;
-  most = omega arith;
-  each = (
-    record {
-      entry = (omega arith, omega arith, λ x. refl);
-      blocks = (
-        record { block = record { word = omega arith; bits = refl; body = (refl, omega arith, (omega arith, (omega arith, tt))) }; mode = tt; fits = omega arith },
-        (record { block = record { word = omega arith; bits = refl; body = refl }; mode = tt; fits = tt }, tt),
-      );
-      order = refl;
-    },
-    tt,
-  );
-}
+example1_is_load_file = search rules
 
 example5_is_load_file : IsLoadFile example5
 unfolding example5 kind
-example5_is_load_file = record {
-  some = omega arith;
-  most = omega arith;
-  each = (
-    record {
-      entry = (omega arith, omega arith, λ x. refl);
-      blocks = (
-        record { block = record { word = omega arith; bits = refl; body = (refl, omega arith, (omega arith, (omega arith, tt))) }; mode = tt; fits = omega arith },
-        (
-          record {
-            block = record { word = omega arith; bits = refl; body = (refl, (one_offset 0 (omega arith), (one_offset 1 (omega arith), tt))) };
-            mode = refl;
-            fits = ((omega arith, (omega arith, tt)), ((omega arith, (omega arith, tt)), tt));
-          },
-          (record { block = record { word = omega arith; bits = refl; body = refl }; mode = tt; fits = tt }, tt),
-        ),
-      );
-      order = refl;
-    },
-    (
-      record {
-        entry = (omega arith, omega arith, λ x. refl);
-        blocks = (
-          record { block = record { word = omega arith; bits = refl; body = (refl, omega arith) }; mode = tt; fits = omega arith },
-          (record { block = record { word = omega arith; bits = refl; body = refl }; mode = tt; fits = tt }, tt),
-        );
-        order = refl;
-      },
-      tt,
-    ),
-  );
-}
+example5_is_load_file = search rules

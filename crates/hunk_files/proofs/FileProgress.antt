@@ -1,27 +1,22 @@
 -- What has been read of a load file is the text up to there, and it fits as long as no longword was refused.
-use Rattle.std.proofs.Common.{◌≡◌, ℕ, zero, suc, ◌+◌, ◌-◌, ◌<◌, ◌≤◌, Bool, true, false, ◌||◌, ltb, eqb, List, [], ◌∷◌, ◌++◌, length, refl, sym, ap, subst, ◌∙◌, append_assoc, append-nil, arith, Some, None}
-use Rattle.std.proofs.Math.Bool.{or-false, or-true}
+use Rattle.std.proofs.Common.{rules, ◌≡◌, ℕ, zero, suc, ◌+◌, ◌-◌, ◌<◌, ◌≤◌, Bool, true, false, ◌||◌, eqb, List, [], ◌∷◌, ◌++◌, length, refl, sym, ap, subst, ◌∙◌, append_assoc, append-nil, arith, Some, None}
+use Rattle.std.proofs.{Math.Bool.{or-false, or-true}, lemmas.{Bool.eqb-true, List.length-map}}
 use Rattle.std.specs.{Prelude.{IsTrue, cond}, List.{flat_map, AllByRecursion}}
-use Rattle.std.proofs.lemmas.{Bool.{ltb-false, eqb-true, eqb-false}, List.length-map}
 use Rattle.hunk_words.specs.{declared.block_word.Kind.Kind, Bits.{kind, is_advisory, size_longs, has_both_bits}}
 use Rattle.hunk_words.specs.Longs.{IsLong}
 use Rattle.hunk_words.specs.declared.reason.Reason.TheVariants as reasons
-use Rattle.hunk_blocks.specs.declared.mode.Mode.TheVariants as modes
-use Rattle.hunk_blocks.specs.{Modes.refuse_alone_word, Values.{BlockBody, BlockValue, FitsWord}}
-use Rattle.hunk_blocks.specs.Parts.{Part, Part as parts}
+use Rattle.hunk_blocks.specs.{Values.{BlockBody, BlockValue, FitsWord}, Parts.{Part, Part as parts}}
 use Rattle.hunk_blocks.specs.BlockSteps.{BlockNext, Open, Whole, part_of, step_inside, begin_body}
 use Rattle.hunk_files.specs.LoadFile.{TableEntry, HunkValue, IsTableEntry, standing, AreInOrder, IsHunkBlock, IsHunk, IsLoadFile}
 use Rattle.hunk_files.specs.LoadText.{entry_labelled, block_labelled, blocks_labelled, hunk_labelled, labelled, table}
 use Rattle.hunk_files.specs.FileSteps.{table_entry, hunk, block, HunkSoFar, Progress, AtFirst, AtResident, AtTableSize, AtFirstHunk, AtLastHunk, AtSizeWord, AtAttributes, AtBlock, InBody, Next, More, Finished, place_of, role_of, open_hunk, rows, with_block, close, close_by, after, sized_row, step_file}
 use Rattle.hunk_files.specs.WordsRead.{Labelled}
-use Rattle.hunk_grammar.specs.Standings.{BlockStanding, Beside, Content, Relocating, Ending, is_content, is_ending, refuse_standing, standing_of_kind}
+use Rattle.hunk_grammar.specs.Standings.{BlockStanding, Beside, Content, Relocating, Ending, is_content, is_ending, refuse_standing}
 use Rattle.hunk_grammar.specs.Roles.{Place, Role, InBlock, refuse, refuse_part, refuse_kind, Role as roles}
-use Rattle.hunk_grammar.proofs.BlockWords.{word_split}
 use Rattle.hunk_blocks.proofs.BlockProgress.{read_inside, read_next, step_reads, begin_reads}
-use Rattle.hunk_blocks.proofs.Lists.{All-more, map-more, flat_map-more, more_owed, passed_false, passed_true, passed_both, passes_else, passes_then}
+use Rattle.hunk_blocks.proofs.Lists.{All-more, map-more, flat_map-more, more_owed, passed_true, passed_both, passes_else, passes_then}
 use Rattle.hunk_files.proofs.HunkProgress.{BodyFits, begin_fits, step_fits, alone_passes}
-use Rattle.hunk_files.proofs.FileText.{in_place, standings}
-use Rattle.hunk_files.proofs.HunkOrder.{leads_one, leads_end, end_stands, first_both, standing_is}
+use Rattle.hunk_files.proofs.{FileText.{in_place, standings}, HunkOrder.end_stands}
 use Rattle.hunk_files.proofs.HunkProgress as blocks
 
 -- ---- the text so far
@@ -134,13 +129,10 @@ open_hunk_reads hunks finished [] h = (
   where
     go : (n : ℕ) → length finished ≡ n → HunksFit n → AllByRecursion (IsHunk n) finished → IsLoadFile finished
     go n e f all = record { some = omega (arith, f.0); most = omega (arith, f.1); each = subst (λ (m : ℕ). AllByRecursion (IsHunk m) finished) (sym e) all }
-open_hunk_reads hunks finished (e ∷ ahead) h =
-    (record { front_fits = h; blocks_fit = tt; content_is = refl; in_order = λ later o. o }, append-nil (front hunks (table finished ++ e ∷ ahead) finished))
+open_hunk_reads hunks finished (e ∷ ahead) h = search rules
 
 rows_read : (hunks : ℕ) (done : List TableEntry) (owed : ℕ) → RowsFit hunks done owed → Reads (rows hunks done owed) (header_so_far hunks done)
-rows_read hunks done zero h =
-    Reads-as (open_hunk hunks [] done) (append-nil (header_so_far hunks done))
-    (open_hunk_reads hunks [] done (record { hunks_fit = h.hunks_fit; counts = omega (arith, h.counts); finished_fit = tt; ahead_fit = h.rows_fit }))
+rows_read hunks done zero h = search rules
 rows_read hunks done (suc owed) h = (h, refl)
 
 -- ---- a block that is whole
@@ -167,8 +159,7 @@ module _ (o : HunkSoFar) (h : OpenFits o) (b : BlockValue) (fits : IsHunkBlock o
   )
     where
       goes_on : (later : List BlockStanding) → AreInOrder has_content later → AreInOrder o.has_content (standing b.body ∷ later)
-      goes_on later order =
-          leads_end o.has_content (o.has_content || is_content (standing b.body)) (standing b.body ∷ []) later (leads_one o.has_content (standing b.body) ok no_end) (subst (λ (c : Bool). AreInOrder c later) e order)
+      goes_on later order = search rules
 
       in_standings : (later : List BlockStanding) → standings (o.blocks ++ b ∷ []) ++ later ≡ standings o.blocks ++ standing b.body ∷ later
       in_standings later = ap (λ (s : List BlockStanding). s ++ later) (map-more (λ (c : BlockValue). standing c.body) o.blocks b) ∙ append_assoc (standings o.blocks) (standing b.body ∷ []) later
@@ -217,9 +208,7 @@ kind_is o word k a e = subst (λ (x : Kind). refuse_kind o.has_content (is_advis
 
 -- A block whose word is not refused may stand here.
 may_stand : (o : HunkSoFar) (word : ℕ) (body : BlockBody) → IsAdmitted o word → FitsWord word body → refuse_standing o.has_content (standing body) ≡ None
-may_stand o word body a f =
-    ap (refuse_standing o.has_content) (standing_is word body f)
-    ∙ (first_both (refuse_alone_word modes.Load word) (refuse_standing o.has_content (standing_of_kind (kind word))) (sym (word_split o.has_content word) ∙ a.1)).1
+may_stand o word body a f = search rules
 
 close_reads : (o : HunkSoFar) (word : ℕ) (body : BlockBody) → OpenFits o → IsAdmitted o word → BodyFits (place_of o) word body →
     Reads (close o (block word body)) (open_so_far o ++ block_labelled (place_of o) (block word body))
@@ -261,10 +250,7 @@ attributes_read hunks done word w owed h l e k =
     (row_added hunks done (table_entry word w) owed h (l, k, λ x. absurd cc))
 
 pub zero_or_limit : (w : ℕ) → refuse roles.TableSize w ≡ None → HunksFit w
-zero_or_limit w ok =
-    let parts = passed_both (eqb w 0) reasons.NoHunks (cond (ltb 65536 w) (Some reasons.TooManyHunks) None) ok in
-    let above : w ≡ 0 → ⊥ = eqb-false w 0 parts.0 in
-    (omega arith, ltb-false 65536 w (passed_false (ltb 65536 w) reasons.TooManyHunks parts.1))
+zero_or_limit w ok = search rules
 
 first_passes : {A : Type 0} (a b c : Bool) (r s t : A) → cond a None (cond b (Some r) (cond c (Some s) (Some t))) ≡ None → a ≡ true
 first_passes true b c r s t e = refl
@@ -278,10 +264,7 @@ is_zero : {A : Type 0} (w : ℕ) (r : A) → cond (eqb w 0) None (Some r) ≡ No
 is_zero w r ok = sym (eqb-true w 0 (passed_true (eqb w 0) r ok))
 
 last_hunk_reads : (hunks w : ℕ) → HunksFit hunks → w + 1 ≡ hunks → Reads (rows hunks [] hunks) (read_progress (AtLastHunk hunks) ++ (roles.LastHunk hunks, w) ∷ [])
-last_hunk_reads hunks w h e =
-    Reads-as (rows hunks [] hunks)
-    (ap (λ (n : ℕ). read_progress (AtLastHunk hunks) ++ (roles.LastHunk hunks, n) ∷ []) (omega arith))
-    (rows_read hunks [] hunks (record { hunks_fit = h; counts = omega arith; rows_fit = tt }))
+last_hunk_reads hunks w h e = search rules
 
 -- A longword that is not refused leads on to what it adds to the text.
 pub step_keeps : (p : Progress) (w : ℕ) → ProgressFits p → IsLong w → refuse (role_of p) w ≡ None → Reads (step_file p w) (read_progress p ++ (role_of p, w) ∷ [])

@@ -1,15 +1,15 @@
 -- The text of a load file leads from the start to its value.
-use Rattle.std.proofs.Common.{◌≡◌, ℕ, Bool, true, false, ◌||◌, List, [], ◌∷◌, ◌++◌, length, map, refl, sym, ap, subst, append_assoc, append-nil}
+use Rattle.std.proofs.Common.{rules, ◌≡◌, ℕ, Bool, true, false, ◌||◌, List, [], ◌∷◌, ◌++◌, length, map, refl, sym, ap, subst, append_assoc, append-nil}
 use Rattle.std.proofs.lemmas.List.{length-map}
-use Rattle.std.specs.{Prelude.if◌then◌else◌, List.{flat_map, AllByRecursion}}
-use Rattle.hunk_words.specs.Bits.{kind, has_both_bits, size_longs}
+use Rattle.std.specs.List.{flat_map, AllByRecursion}
+use Rattle.hunk_words.specs.Bits.{kind, size_longs}
 use Rattle.hunk_blocks.specs.{Values.BlockValue, Parts.{Part, body_parts}}
 use Rattle.hunk_blocks.specs.BlockSteps.{BlockNext, Open, Whole, step_inside, begin_body, Follows}
 use Rattle.hunk_files.specs.LoadFile.{TableEntry, HunkValue, LoadFileValue, IsTableEntry, standing, AreInOrder, IsHunkBlock, IsHunk, IsLoadFile}
 use Rattle.hunk_files.specs.LoadText.{table, entry_labelled, header_labelled, block_labelled, blocks_labelled, hunk_labelled, labelled}
-use Rattle.hunk_files.specs.FileSteps.{table_entry, hunk, HunkSoFar, AtFirst, AtSizeWord, AtBlock, Next, More, Finished, place_of, open_hunk, rows, close_by, close, after, sized_row, step_file, Leads}
+use Rattle.hunk_files.specs.FileSteps.{hunk, HunkSoFar, AtFirst, AtSizeWord, AtBlock, Next, More, Finished, place_of, open_hunk, rows, close_by, close, after, step_file, Leads}
 use Rattle.hunk_grammar.specs.Standings.{BlockStanding, Beside, Content, Relocating, Ending, is_content}
-use Rattle.hunk_grammar.specs.Roles.{Place, Role, InBlock, Role as roles}
+use Rattle.hunk_grammar.specs.Roles.{Place, Role, InBlock}
 use Rattle.hunk_blocks.proofs.BlockText.{body_follows}
 
 pub Leads-append : (a b c : Next) (ls ms : List (Role × ℕ)) → Leads a ls b → Leads b ms c → Leads a (ls ++ ms) c
@@ -89,11 +89,7 @@ hunks_lead hunks finished (x ∷ more) h =
 -- ---- the table
 
 entry_leads : (hunks : ℕ) (done : List TableEntry) (e : TableEntry) (owed : ℕ) → IsTableEntry e → Leads (More (AtSizeWord hunks done owed)) (entry_labelled e) (rows hunks (done ++ e ∷ []) owed)
-entry_leads hunks done e owed h = (refl, go (has_both_bits e.word) refl)
-  where
-    go : (b : Bool) → has_both_bits e.word ≡ b → Leads (sized_row hunks done e.word owed b) (if b then (roles.Attributes, e.extra) ∷ [] else []) (rows hunks (done ++ e ∷ []) owed)
-    go true is = (refl, refl)
-    go false is = ap (λ (extra : ℕ). rows hunks (done ++ table_entry e.word extra ∷ []) owed) (sym (h.2 is))
+entry_leads hunks done e owed h = search rules
 
 pub table_leads : (hunks : ℕ) (done more : List TableEntry) → AllByRecursion IsTableEntry more → Leads (rows hunks done (length more)) (flat_map entry_labelled more) (open_hunk hunks [] (done ++ more))
 table_leads hunks done [] h = ap (λ (t : List TableEntry). open_hunk hunks [] t) (sym (append-nil done))

@@ -1,5 +1,5 @@
 -- What the hunks of a load file in memory stand for.
-use Rattle.std.proofs.Common.{◌≡◌, ℕ, zero, suc, ◌+◌, ◌*◌, ◌^◌, ◌<◌, ◌≤◌, List, [], ◌∷◌, ◌++◌, length, map, get_or, set, take, drop, refl, sym, ap, ap₂, subst, ◌∙◌, arith, Some, Option}
+use Rattle.std.proofs.Common.{rules, ◌≡◌, ℕ, zero, suc, ◌+◌, ◌*◌, ◌^◌, ◌<◌, ◌≤◌, List, [], ◌∷◌, ◌++◌, length, map, get_or, set, take, drop, refl, sym, ap, ap₂, subst, ◌∙◌, arith, Some, Option}
 use Rattle.std.specs.{Prelude.slice_get, Option.option_map, List.sum_by}
 use Rattle.std.proofs.lemmas.{Option.{slice_get-map, slice_get_read}, List.{length-map, take_at, take_all}}
 use Rattle.std.proofs.lemmas.List.Sums.{sum_by-cons, sum_by_more}
@@ -54,10 +54,7 @@ stripped_more hs vs i h x e inside is one = go hs vs i e inside is
     go [] vs i e l is = absurd (omega (arith, l))
     go (y ∷ hs) [] zero e l is = absurd cc
     go (y ∷ hs) [] (suc i) e l is = absurd cc
-    go (y ∷ hs) (v ∷ vs) zero e l is =
-        let head : hunk_of y ≡ v = cc in
-        let tail : map hunk_of hs ≡ vs = cc in
-        ap₂ (λ (a : HunkValue) (b : LoadFileValue). a ∷ b) (one ∙ ap (λ (z : LoadHunk). strip_hunk (hunk_of z)) is ∙ ap strip_hunk head) tail
+    go (y ∷ hs) (v ∷ vs) zero e l is = search rules
     go (y ∷ hs) (v ∷ vs) (suc i) e l is =
         let head : hunk_of y ≡ strip_hunk v = cc in
         let tail : map hunk_of hs ≡ strip_file (take i vs) ++ drop i vs = cc in

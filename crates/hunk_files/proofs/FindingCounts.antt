@@ -1,5 +1,5 @@
 -- In an object file no more is found than twice the longwords of its text.
-use Rattle.std.proofs.Common.{◌≡◌, ℕ, ◌+◌, ◌*◌, ◌≤◌, Bool, true, false, cond, List, [], ◌∷◌, length, ap, arith, length-append, Option, Some, None}
+use Rattle.std.proofs.Common.{rules, ◌≡◌, ℕ, ◌+◌, ◌*◌, ◌≤◌, Bool, true, false, cond, List, [], ◌∷◌, length, ap, arith, length-append, Option, Some, None}
 use Rattle.std.specs.{Prelude.{⊤, nat_lt}, List.{AllByRecursion, flat_map}}
 use Rattle.std.proofs.lemmas.List.{length-map}
 use Rattle.hunk_words.specs.Bits.{kind}
@@ -8,7 +8,7 @@ use Rattle.hunk_blocks.specs.declared.ext_shape.ExtShape.TheVariants.{Definition
 use Rattle.hunk_blocks.specs.ExtKinds.{ext_shape}
 use Rattle.hunk_blocks.specs.Parts.{EntryName, ExtWord, GroupCount, Offset, Part, block_parts, block_text, body_parts, each, ext_parts, ext_parts_by, group_parts}
 use Rattle.hunk_blocks.specs.Values.{BlockBody, BlockValue, Reloc, Ext, ExtEntry, FitsShape, FitsWord, IsBlock, IsExtEntry, RelocGroup, ext_type}
-use Rattle.hunk_files.specs.declared.object.check.FindingKind.TheVariants.{BadTarget, OutsideHunk}
+use Rattle.hunk_files.specs.declared.object.check.FindingKind.TheVariants.{OutsideHunk}
 use Rattle.hunk_files.specs.Findings.{FindingValue, HunkContext, body_findings, entry_findings, finding, findings, group_findings, hunk_bytes, hunk_findings, hunks_findings, outside, reference_width, relocation_findings, relocation_width, unit_findings, units_findings}
 use Rattle.hunk_files.specs.Hunks.{block_texts}
 use Rattle.hunk_files.specs.ObjectFile.{IsObjectFile, IsObjectHunk, IsUnit, ObjectFileValue, ObjectHunk, UnitValue, object_text, unit_header, unit_text}
@@ -33,8 +33,7 @@ outside_few : (s : HunkContext) (width offset : ℕ) → length (outside s width
 outside_few s width offset = (one_or_none (finding s OutsideHunk offset) (nat_lt s.bytes (offset + width))).0
 
 relocation_few : (s : HunkContext) (width target offset : ℕ) → length (relocation_findings s width target offset) ≤ 2
-relocation_few s width target offset =
-    omega (arith, length-append (cond (nat_lt target s.hunks) [] (finding s BadTarget offset ∷ [])) (outside s width offset), (one_or_none (finding s BadTarget offset) (nat_lt target s.hunks)).1, outside_few s width offset)
+relocation_few s width target offset = search rules
 
 group_few : (s : HunkContext) (width : ℕ) (g : RelocGroup) → length (group_findings s width g) ≤ 2 * length (group_parts g)
 group_few s width g =

@@ -1,17 +1,14 @@
 -- What has been read of a block in a hunk of a load file fits the hunk.
-use Rattle.std.proofs.Common.{◌≡◌, ℕ, zero, suc, ◌+◌, ◌*◌, ◌/◌, ◌%◌, ◌^◌, ◌<◌, ◌≤◌, ltb, eqb, List, [], ◌∷◌, ◌++◌, length, refl, sym, subst, ◌∙◌, arith, None}
+use Rattle.std.proofs.Common.{rules, ◌≡◌, ℕ, zero, suc, ◌+◌, ◌*◌, ◌/◌, ◌%◌, ◌^◌, ◌<◌, ◌≤◌, ltb, eqb, List, [], ◌∷◌, ◌++◌, length, refl, sym, subst, arith, None}
 use Rattle.std.specs.List.{AllByRecursion}
 use Rattle.std.proofs.lemmas.Bool.{ltb-true, ltb-false, eqb-false, ne_eqb}
 use Rattle.hunk_words.specs.{declared.block_word.Kind.Kind, Bits.{kind, is_advisory, size_longs}, Longs.IsLong}
 use Rattle.hunk_words.specs.declared.block_word.Kind.TheVariants as kinds
-use Rattle.hunk_blocks.specs.declared.mode.Mode.TheVariants as modes
 use Rattle.hunk_words.specs.declared.reason.Reason.TheVariants as reasons
-use Rattle.hunk_blocks.specs.{Values.{RelocGroup, SymbolEntry, BlockBody, FitsWord}, Parts.{Part as parts}}
-use Rattle.hunk_blocks.specs.Modes.{IsOfLoadMode, refuse_inside, refuse_alone_kind}
+use Rattle.hunk_blocks.specs.{Values.{RelocGroup, SymbolEntry, BlockBody, FitsWord}, Parts.Part as parts}
+use Rattle.hunk_blocks.specs.Modes.{IsOfLoadMode, refuse_inside}
 use Rattle.hunk_blocks.specs.BlockSteps.{ForName, Sizing, ForCode, ForData, ForBss, Filling, Counted, SizedCode, SizedData, Inside, AtCount, AtSize, InPayload, AtGroup, AtTarget, InOffsets, AtEntry, InName, AtValue, AtExtWord, BlockNext, Open, Whole, group, part_of, step_inside, fill, relocate, name_entry, sized_by, grouped, entered, begin_body}
-use Rattle.hunk_grammar.specs.{Roles.{Place, refuse_part, refuse_kind}, Standings.{refuse_standing, standing_of_kind}}
-use Rattle.hunk_grammar.proofs.BlockWords.{kind_split}
-use Rattle.hunk_files.proofs.HunkOrder.{first_both}
+use Rattle.hunk_grammar.specs.Roles.{Place, refuse_part, refuse_kind}
 use Rattle.hunk_files.specs.LoadFile.{FitsGroup, FitsHunk, IsInside}
 use Rattle.hunk_blocks.proofs.BlockProgress as blocks
 use Rattle.hunk_blocks.proofs.Lists.{All-more, more_owed, passed_false, passed_true}
@@ -117,12 +114,4 @@ module _ (p : Place) (word : ℕ) where
 
 -- Behind a block word that is not refused the block fits.
 pub begin_fits : (p : Place) (word : ℕ) (k : Kind) → kind word ≡ k → refuse_kind p.has_content (is_advisory word) k ≡ None → NextFits p word (begin_body k)
-begin_fits p word k e ok = both p word (begin_body k) (blocks.begin_fits modes.Load word k e alone) (within k e ok)
-  where
-    alone : refuse_alone_kind modes.Load (is_advisory word) k ≡ None
-    alone = (first_both (refuse_alone_kind modes.Load (is_advisory word) k) (refuse_standing p.has_content (standing_of_kind k)) (sym (kind_split p.has_content (is_advisory word) k) ∙ ok)).0
-
-    within : (k : Kind) → kind word ≡ k → refuse_kind p.has_content (is_advisory word) k ≡ None → NextWithin p word (begin_body k)
-    within kinds.Reloc32 e ok = (e, tt)
-    within kinds.End e ok = (tt, tt)
-    within _ e ok = first_of (cc, assumption)
+begin_fits p word k e ok = search rules

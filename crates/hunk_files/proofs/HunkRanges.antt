@@ -1,7 +1,7 @@
 -- Hunks and units of which what stays is handed over.
 use Rattle.std.proofs.Common.{◌≡◌, ℕ, ◌+◌, ◌*◌, ◌<◌, ◌≤◌, true, false, List, [], ◌∷◌, ◌++◌, length, map, drop, refl, sym, ap, subst, ◌∙◌, append-nil, length-append, arith}
-use Rattle.std.specs.{Prelude.slice_range, List.flat_map}
 use Rattle.std.proofs.lemmas.{List.length-drop, List.Folds.flat_map-map}
+use Rattle.std.specs.{Prelude.slice_range, List.flat_map}
 use Rattle.hunk_words.specs.Longs.{bytes_of, longs}
 use Rattle.hunk_words.proofs.LongLaws.{bytes_of-nil, length-bytes_of}
 use Rattle.hunk_files.specs.Hunks.{HunkAt, block_texts}

@@ -1,32 +1,21 @@
 -- The text of a load file is cut into its hunks and what stands behind it.
-use Rattle.std.proofs.Common.{◌≡◌, ℕ, zero, suc, ◌-◌, ◌<◌, ◌≤◌, Bool, true, false, List, [], ◌∷◌, ◌++◌, length, drop, get_or, refl, sym, ap, ap₂, ◌∙◌, append_assoc, length-append, arith}
-use Rattle.std.specs.{Prelude.if◌then◌else◌, List.{flat_map, AllByRecursion}}
+use Rattle.std.proofs.Common.{rules, ◌≡◌, ℕ, zero, suc, ◌-◌, ◌<◌, ◌≤◌, true, false, List, [], ◌∷◌, ◌++◌, length, drop, get_or, refl, sym, ap, ap₂, ◌∙◌, append_assoc, arith}
+use Rattle.std.specs.List.{flat_map, AllByRecursion}
 use Rattle.std.proofs.lemmas.List.{length-map, take-append-drop}
 use Rattle.hunk_words.specs.{Bits.{has_both_bits, entry_longs}, Longs.longs}
 use Rattle.hunk_blocks.specs.Cuts.{Cut, cut_map}
 use Rattle.hunk_blocks.proofs.CutLaws.{cut}
 use Rattle.hunk_files.specs.LoadFile.{TableEntry, HunkValue, LoadFileValue, IsTableEntry, IsHunk, IsLoadFile, declared_longs}
-use Rattle.hunk_files.specs.{LoadText.{table, text}, Hunks.block_texts, Tables.{entry_text, header_text, hunk_texts}}
 use Rattle.hunk_files.specs.Cuts.{hunk_cut, row_cut, table_cut, load_hunks_cut, load_cut}
+use Rattle.hunk_files.specs.{LoadText.{table, text}, Hunks.block_texts, Tables.{entry_text, header_text, hunk_texts}}
 use Rattle.hunk_files.specs.{Fault.{BeginsWithLoadFile, HasLoadText}, InPlace.BeginsWithTable}
 use Rattle.hunk_files.proofs.{BlockCuts.hunk_cut_is, FileText.entries_fit, Peel.are_blocks, Scan.begun_longs}
-use Rattle.hunk_files.proofs.TableReading.{entries_are, entry_length, entry_words, size_is, text_is}
+use Rattle.hunk_files.proofs.TableReading.{entries_are, size_is, text_is}
 
 -- ---- the table
 
--- the entry of this size word, by whether both of its memory bits are set
-abbrev row_by : ℕ → Bool → List ℕ → Cut TableEntry
-row_by word both words =
-    record { value = record { word = word; extra = if both then get_or words 1 0 else 0 }; rest = drop (if both then 2 else 1) words }
-
 row_cut_is : (e : TableEntry) (rest : List ℕ) → IsTableEntry e → row_cut (entry_text e ++ rest) ≡ cut e rest
-row_cut_is e rest is = go (has_both_bits e.word) refl
-  where
-    go : (both : Bool) → has_both_bits e.word ≡ both → row_cut (entry_text e ++ rest) ≡ cut e rest
-    go true h = ap (λ (ws : List ℕ). row_cut (ws ++ rest)) (entry_words e true h) ∙ ap (λ (b : Bool). row_by e.word b (e.word ∷ e.extra ∷ rest)) h
-    go false h =
-        ap (λ (ws : List ℕ). row_cut (ws ++ rest)) (entry_words e false h) ∙ ap (λ (b : Bool). row_by e.word b (e.word ∷ rest)) h
-        ∙ ap (λ (n : ℕ). cut (record { word = e.word; extra = n }) rest) (sym (is.2 h))
+row_cut_is e rest is = search rules
 
 pub table_cut_is : (es : List TableEntry) (rest : List ℕ) → AllByRecursion IsTableEntry es → table_cut (length es) (flat_map entry_text es ++ rest) ≡ cut es rest
 unfolding table_cut
@@ -76,21 +65,7 @@ next_entry (suc hunks) words t some = go t.value t.is t.begins
   where
     go : (es : List TableEntry) → (length es ≡ suc hunks) × AllByRecursion IsTableEntry es → words ≡ flat_map entry_text es ++ t.more → NextEntry (suc hunks) words
     go [] is e = absurd (omega (arith, is.0))
-    go (x ∷ es) is e =
-        let behind = flat_map entry_text es ++ t.more in
-        let split : words ≡ entry_text x ++ behind = e ∙ append_assoc (entry_text x) (flat_map entry_text es) t.more in
-        let row : row_cut words ≡ cut x behind = ap row_cut split ∙ row_cut_is x behind is.1.0 in
-        let rest : drop (entry_longs (get_or words 0 0)) words ≡ behind = ap (λ (c : Cut TableEntry). c.rest) row in
-        let word : get_or words 0 0 ≡ x.word = ap (λ (c : Cut TableEntry). c.value.word) row in
-        let size : length (entry_text x) ≡ entry_longs x.word = entry_length x (has_both_bits x.word) refl in
-        let whole : entry_longs (get_or words 0 0) ≤ length words = omega (arith, ap entry_longs word, size, ap length split, length-append (entry_text x) behind) in
-        record {
-          whole = whole;
-          some = omega (arith, ap length split);
-          two = λ both. let two : entry_longs (get_or words 0 0) ≡ 2 = ap {B = ℕ} (λ (b : Bool). if b then 2 else 1) both in omega (arith, whole, two);
-          first = let one : hunks ≡ suc hunks - 1 = omega arith in ap (λ (n : ℕ). (row_cut words).value ∷ (table_cut n (drop (entry_longs (get_or words 0 0)) words)).value) one;
-          left = record { value = es; is = (omega (arith, is.0), is.1.1); more = t.more; begins = rest };
-        }
+    go (x ∷ es) is e = search rules
 
 -- a table that was passed over
 pub table_ends : (words : List ℕ) → BeginsWithTable 0 words → (table_cut 0 words).value ≡ []

@@ -1,7 +1,7 @@
 -- The hunks of a load file, of which what stays is handed over.
 use Rattle.std.proofs.Common.{◌≡◌, ℕ, ◌-◌, ◌*◌, List, [], ◌∷◌, ◌++◌, length, map, take, refl, sym, ap, subst, ◌∙◌, arith}
-use Rattle.std.specs.{Prelude.slice_range, List.flat_map}
 use Rattle.std.proofs.lemmas.{List.take_at, List.Folds.flat_map-map}
+use Rattle.std.specs.{Prelude.slice_range, List.flat_map}
 use Rattle.hunk_words.specs.Longs.{bytes_of}
 use Rattle.hunk_words.proofs.LongLaws.{bytes_of-append, length-bytes_of}
 use Rattle.hunk_blocks.specs.Faults.{words}

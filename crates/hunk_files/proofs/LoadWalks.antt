@@ -1,5 +1,5 @@
 -- A walk over a load file keeps the position of what was read, and the entry of the open hunk.
-use Rattle.std.proofs.Common.{◌≡◌, ℕ, zero, suc, ◌+◌, ◌-◌, ◌*◌, ◌<◌, ◌≤◌, Bool, true, false, List, [], ◌∷◌, ◌++◌, length, get_or, take, drop, refl, sym, ap, ap₂, subst, ◌∙◌, append_assoc, arith, Option, Some, None, if◌then◌else◌, inl, inr}
+use Rattle.std.proofs.Common.{rules, ◌≡◌, ℕ, zero, suc, ◌+◌, ◌-◌, ◌*◌, ◌<◌, ◌≤◌, true, false, List, [], ◌∷◌, ◌++◌, length, get_or, take, drop, refl, sym, ap, ap₂, subst, ◌∙◌, append_assoc, arith, Option, Some, None, if◌then◌else◌, inl, inr}
 use Rattle.std.specs.List.{flat_map}
 use Rattle.std.proofs.lemmas.List.{length-append, length-map, length-take-le, get_or_at, map-append, take-append-drop, take_all, get_or-take}
 use Rattle.std.proofs.lemmas.List.Concat.{flat_map-append}
@@ -11,7 +11,7 @@ use Rattle.hunk_blocks.specs.{Values.BlockValue, Faults.words}
 use Rattle.hunk_blocks.specs.declared.phase.Phase.TheVariants as phases
 use Rattle.hunk_blocks.specs.PhaseSteps as inside
 use Rattle.hunk_blocks.proofs.Decoding.{front_bytes}
-use Rattle.hunk_blocks.proofs.KeptWalks.{OnePasses, HasRuns, StandsAt as StandsFor, Walks as WalksOf, starts, stands, word_refused, word_reads, word_passes}
+use Rattle.hunk_blocks.proofs.KeptWalks.{OnePasses, HasRuns, StandsAt as StandsFor, Walks as WalksOf, starts, word_refused, word_reads, word_passes}
 use Rattle.hunk_blocks.proofs.Lists.{flat_map-more}
 use Rattle.hunk_grammar.specs.{declared.position.Position.Position, Positions.{role_at, is_between_hunks}}
 use Rattle.hunk_grammar.specs.Roles.{Role, refuse, Role as roles}
@@ -23,7 +23,7 @@ use Rattle.hunk_files.specs.Entries.{entry_behind, entry_at}
 use Rattle.hunk_files.specs.FileSteps.{HunkSoFar, Progress, AtFirst, AtBlock, InBody, Next, More, Finished, role_of, step_file}
 use Rattle.hunk_files.specs.{ReaderPosition.{open_of, block_phase, position_of, open_longs, opened}, WordsRead.Labelled}
 use Rattle.hunk_files.proofs.FileProgress.{header_so_far, open_so_far}
-use Rattle.hunk_files.proofs.Positions.{inside_open, Moves, MovesTo, refuse_same, step_position, step_moves}
+use Rattle.hunk_files.proofs.Positions.{Moves, MovesTo, refuse_same, step_position, step_moves}
 use Rattle.hunk_files.proofs.{Scan.{SoFar, load_reader, keeps, truncated_of}, TableReading.entry_length}
 
 -- the longword behind these entries
@@ -132,11 +132,7 @@ module _ (all : List ℕ) (at : ℕ) (whole : at ≤ length all) (p : Progress) 
   -- Where a hunk opens, its entry was read, and is the next of the table.
   entry_now : (q : Progress) → SoFar (More q) (take at all) → Moves p (More q) → (is_between_hunks (position_of (More q)) ≡ true → row_of p < at) × (entry_of q ≡ entry_at all (position_of (More q)) (entry_of p))
   entry_now (AtBlock o) h m = block_entry o h o.blocks m
-  entry_now (InBody o word x) h m =
-      let in_hunk = inside_open x (open_of o) in (
-        (λ e. absurd (cc (in_hunk, e))),
-        same_entry _ _ m.0 (ap row_behind m.1) ∙ ap (λ (b : Bool). if b then entry_behind (get_or all (row_of p) 0) (row_of p) else entry_of p) (sym in_hunk),
-      )
+  entry_now (InBody o word x) h m = search rules
   entry_now _ h m = ((λ e. absurd cc), same_entry _ _ m.0 (ap row_behind m.1))
 
 -- ---- runs
@@ -224,13 +220,7 @@ record IsHere (bytes : List ℕ) (at : ℕ) (position : Position) (entry : Entry
 
 is_here : (bytes : List ℕ) (at : ℕ) (position : Position) (entry : Entry) → Walks bytes at position entry → at ≤ length (longs bytes) → IsHere bytes at position entry
 unfolding keeps
-is_here bytes at position entry h l = let s = stands load_files load_reader keeps kept_of run_of behind_run (longs bytes) at (Some (position, entry)) h l in go s.state s.so_far s.position_is
-  where
-    go : (n : Next) → SoFar n (take at (longs bytes)) → kept_of n ≡ Some (position, entry) → IsHere bytes at position entry
-    go (More p) f e =
-        let same : ◌≡◌ {A = Position × Entry} (position_of (More p), entry_of p) (position, entry) = cc in
-        record { progress = p; so_far = f; position_is = ap (λ k. k.0) same; entry_is = ap (λ k. k.1) same; whole = l }
-    go (Finished v) f e = absurd cc
+is_here bytes at position entry h l = search rules
 
 not_done : (p : Progress) → position_of (More p) ≡ positions.Done → ⊥
 not_done AtFirst e = cc

@@ -1,21 +1,21 @@
 -- The machines of positions go along the texts of files.
-use Rattle.std.proofs.Common.{◌≡◌, ℕ, [], ◌∷◌, ◌++◌, refl, sym, ap, subst, ◌∙◌, Some, None}
+use Rattle.std.proofs.Common.{rules, ◌≡◌, ℕ, [], ◌∷◌, ◌++◌, refl, sym, ap, subst, ◌∙◌, Some, None}
 use Rattle.hunk_blocks.specs.Along.{GoesAlong}
 use Rattle.hunk_blocks.proofs.Along.{Forgets, along}
 use Rattle.hunk_grammar.specs.{Roles.{Role, refuse}, declared.position.Position.Position}
 use Rattle.hunk_grammar.specs.Positions as load
 use Rattle.hunk_grammar.specs.declared.position.Position.TheVariants as positions
 use Rattle.hunk_files.specs.FileSteps.{Progress, AtBlock, InBody, AtFirst, Next, More, Finished, role_of, step_file, Leads}
-use Rattle.hunk_files.specs.{LoadFile.{LoadFileValue, IsLoadFile}, LoadText.labelled}
 use Rattle.hunk_files.specs.Machines.{longs_of, refuse_in_load, refuse_in_object}
 use Rattle.hunk_files.specs.ObjectFault.{BeforeUnits, BetweenHunks, ObjectRole, refuse_object, units_labelled}
-use Rattle.hunk_files.specs.{ObjectFile.{ObjectFileValue, IsObjectFile}, ReaderPosition.{open_longs, position_of}}
 use Rattle.hunk_files.specs.WordsRead.{AreAccepted, Labelled}
+use Rattle.hunk_files.specs.{LoadFile.{LoadFileValue, IsLoadFile}, LoadText.labelled}
+use Rattle.hunk_files.specs.{ObjectFile.{ObjectFileValue, IsObjectFile}, ReaderPosition.{open_longs, position_of}}
 use Rattle.hunk_files.specs.ObjectSteps as object
 use Rattle.hunk_files.specs.declared.object.position.ObjectPosition.TheVariants as places
 use Rattle.hunk_files.proofs.{Accepted.labelled_accepted, FileProgress.{Reads, read_progress, step_keeps}}
 use Rattle.hunk_files.proofs.FileText.{file_leads}
-use Rattle.hunk_files.proofs.ObjectWalks.{expected, position_of as object_position, step_position as object_steps}
+use Rattle.hunk_files.proofs.ObjectWalks.{position_of as object_position, step_position as object_steps}
 use Rattle.hunk_files.proofs.OneObjectFault.{ObjectState, AtWord, reader, file_leads as object_leads}
 use Rattle.hunk_files.proofs.Positions.{refuse_same, step_position}
 
@@ -47,10 +47,7 @@ object_forgets : Forgets reader object_position refuse_in_object refuse_object o
 object_forgets = record { tests = tests; steps = λ s role w e. object_steps s w }
   where
     tests : (s : ObjectState) (role : ObjectRole) (w : ℕ) → reader.expects s ≡ Some role → refuse_in_object role (object_position s) w ≡ refuse_object role w
-    tests s role w e =
-        let n = expected s w in
-        let same : n.role ≡ role = cc (n.expects, e) in
-        sym n.refuse_is ∙ ap (λ (r : ObjectRole). refuse_object r w) same
+    tests s role w e = search rules
 
 pub object_along : (o : ObjectFileValue) → IsObjectFile o → GoesAlong refuse_in_object refuse_object object.step (places.Word BeforeUnits) (units_labelled BeforeUnits o) (places.Word BetweenHunks)
 object_along o is = along reader object_position refuse_in_object refuse_object object.step object_forgets (AtWord BeforeUnits) (AtWord BetweenHunks) (units_labelled BeforeUnits o) (object_leads o is)

@@ -1,20 +1,19 @@
 -- A walk over the longwords of an object file reaches its end or the first fault.
-use Rattle.std.proofs.Common.{◌≡◌, ℕ, zero, suc, ◌+◌, ◌*◌, ◌<◌, ◌≤◌, Bool, true, false, cond, eqb, List, [], ◌∷◌, ◌++◌, length, get_or, refl, sym, ap, subst, ◌∙◌, append-nil, length-append, arith, Some, None, inl, inr}
+use Rattle.std.proofs.Common.{rules, ◌≡◌, ℕ, zero, suc, ◌+◌, ◌*◌, ◌<◌, ◌≤◌, true, List, [], ◌∷◌, ◌++◌, length, get_or, refl, sym, ap, subst, ◌∙◌, append-nil, length-append, arith, Some, None, inl, inr}
 use Rattle.std.proofs.lemmas.List.{take_all}
-use Rattle.hunk_words.specs.{declared.reason.Reason.Reason, Bits.kind, Longs.{longs, bytes_of, IsBytes}}
+use Rattle.hunk_words.specs.{declared.reason.Reason.Reason, Longs.{longs, bytes_of, IsBytes}}
 use Rattle.hunk_words.specs.declared.reason.Reason.TheVariants as reasons
 use Rattle.hunk_words.proofs.LongLaws.{length-bytes_of, longs_fit, spelled}
-use Rattle.hunk_blocks.specs.BlockSteps.{BlockNext, Open, Whole, part_of, begin_body}
+use Rattle.hunk_blocks.specs.BlockSteps.{BlockNext, Open, Whole, part_of}
 use Rattle.hunk_blocks.specs.{PhaseSteps.{part_at, skipped, skip_all}, ReaderPhase.{phase_of, next_phase}}
 use Rattle.hunk_blocks.proofs.Outcomes.{Keeps, run, front}
-use Rattle.hunk_blocks.proofs.BlockPhases.{step_phase, begin_phase, refuse_phase, skips_inside, none_skipped}
+use Rattle.hunk_blocks.proofs.BlockPhases.{step_phase, refuse_phase, skips_inside, none_skipped}
 use Rattle.hunk_blocks.proofs.KeptWalks.{OnePasses, HasRuns, StandsAt, Walks, starts, stands, word_refused, word_passes}
 use Rattle.hunk_blocks.specs.PhaseSteps as inside
-use Rattle.hunk_grammar.specs.Standings.{standing_of_kind}
 use Rattle.hunk_files.specs.{declared.object.position.ObjectPosition.ObjectPosition, HunkFile.AreObjectFile}
-use Rattle.hunk_files.specs.ObjectFile.{object_text, unit_word}
+use Rattle.hunk_files.specs.ObjectFile.{object_text}
 use Rattle.hunk_files.specs.ObjectFault.{WordPlace, BeforeUnits, BetweenHunks, InHunk, ObjectRole, WordAt, UnitCount, UnitName, Within, refuse_object, objects, HasObjectFault}
-use Rattle.hunk_files.specs.ObjectSteps.{role_at, within, place_next}
+use Rattle.hunk_files.specs.ObjectSteps.{role_at, within}
 use Rattle.hunk_files.specs.declared.object.position.ObjectPosition.TheVariants as positions
 use Rattle.hunk_files.specs.ObjectSteps as scan
 use Rattle.hunk_files.proofs.{ObjectOutcome.{keeps, leads_there}, ObjectProgress.whole_units, ObjectWords.within_split}
@@ -39,13 +38,7 @@ name_position (suc owed) = refl
 
 -- A step of the reader is a step of its position.
 pub step_position : (s : ObjectState) (w : ℕ) → position_of (reader.step s w) ≡ scan.step (position_of s) w
-step_position (AtWord place) w = go (eqb w unit_word)
-  where
-    go : (b : Bool) →
-        position_of (cond b AtCount (in_block (place_next place (standing_of_kind (kind w))) (begin_body (kind w))))
-        ≡ cond b positions.UnitCount (within (place_next place (standing_of_kind (kind w))) (inside.begin (kind w)))
-    go true = refl
-    go false = within_position (place_next place (standing_of_kind (kind w))) (begin_body (kind w)) ∙ ap (within (place_next place (standing_of_kind (kind w)))) (begin_phase (kind w))
+step_position (AtWord place) w = search rules
 step_position AtCount w = name_position w
 step_position (InName owed) w = name_position owed
 step_position (InBlock next x) w = within_position next _ ∙ ap (within next) (step_phase x w)
@@ -151,9 +144,7 @@ module _ (bytes : List ℕ) (fit : IsBytes bytes) where
   -- ---- the end
 
   between : (s : ObjectState) → position_of s ≡ positions.Word BetweenHunks → s ≡ AtWord BetweenHunks
-  between (AtWord place) e =
-      let same : place ≡ BetweenHunks = cc in
-      ap (λ (p : WordPlace). AtWord p) same
+  between (AtWord place) e = search rules
   between AtCount e = absurd cc
   between (InName owed) e = absurd cc
   between (InBlock next x) e = absurd cc

@@ -1,7 +1,7 @@
 -- The offsets of relocations.
 use Rattle.std.proofs.Common.{◌≡◌, ℕ, List, [], ◌∷◌, ◌++◌, length, map, refl, sym, ap, ◌∙◌, append_assoc, append-nil}
-use Rattle.std.specs.{Prelude.{slice_get, unwrap_or, Some, Option}, Option.option_map, List.flat_map}
 use Rattle.std.proofs.lemmas.{List.map-append, Option.slice_get-map}
+use Rattle.std.specs.{Prelude.{slice_get, unwrap_or, Some, Option}, Option.option_map, List.flat_map}
 use Rattle.hunk_blocks.specs.Values.{RelocGroup}
 use Rattle.hunk_files.specs.{LoadFile.{HunkValue, LoadFileValue}, Image.{group_relocations, relocations, offsets}}
 use Rattle.hunk_files.specs.Overlap.{hunk_offsets}

@@ -1,11 +1,11 @@
 -- The walk over a load file goes on behind what is passed over at once.
-use Rattle.std.proofs.Common.{◌≡◌, ℕ, zero, suc, ◌+◌, ◌-◌, ◌*◌, ◌<◌, ◌≤◌, Bool, true, false, List, length, get_or, refl, sym, ap, subst, ◌∙◌, arith, Some, None, if◌then◌else◌, cond, eqb, ltb, inl, inr, ◌⊎◌}
+use Rattle.std.proofs.Common.{rules, ◌≡◌, ℕ, zero, suc, ◌+◌, ◌-◌, ◌*◌, ◌<◌, ◌≤◌, Bool, true, false, List, length, get_or, refl, sym, ap, subst, arith, Some, None, if◌then◌else◌, ltb, inl, inr, ◌⊎◌}
 use Rattle.hunk_words.specs.declared.reason.Reason.TheVariants as reasons
 use Rattle.hunk_words.specs.{Longs.{IsBytes, longs}, Bits.{size_longs, has_both_bits, name_longs}}
-use Rattle.hunk_blocks.specs.{Parts.{Part as parts}, PhaseSteps.part_at, declared.phase.Phase.Phase}
+use Rattle.hunk_blocks.specs.{Parts.Part as parts, PhaseSteps.part_at, declared.phase.Phase.Phase}
 use Rattle.hunk_blocks.specs.declared.phase.Phase.TheVariants as phases
 use Rattle.hunk_blocks.proofs.Lists.{passes_else, passes_then}
-use Rattle.std.proofs.lemmas.Bool.{le-ltb, lt-ltb, ne_eqb}
+use Rattle.std.proofs.lemmas.Bool.{le-ltb, lt-ltb}
 use Rattle.hunk_grammar.specs.declared.phase.OpenHunk as numbers
 use Rattle.hunk_grammar.specs.{declared.position.Position.Position, Positions.{role_at, EndsWithin}, Roles.refuse}
 use Rattle.hunk_grammar.specs.declared.position.Position.TheVariants as positions
@@ -13,7 +13,7 @@ use Rattle.hunk_grammar.specs.Positions as scan
 use Rattle.hunk_grammar.proofs.OffsetRuns.{offset_passes}
 use Rattle.hunk_files.specs.{declared.load.walk.Entry.Entry, Entries.entry_at}
 use Rattle.hunk_files.specs.Passing.{AreBlocks, AreGroups, AreRows, AreSymbols, BeginsBlock, IsGroup, IsList, IsPassed, IsWholeBlock, behind_row, behind_symbol, having, no_row, one_row, no_group, one_group, no_symbol, one_symbol, content, counted, groups, symbols, no_block, one_block, nothing, passed_rows, passed_blocks}
-use Rattle.hunk_files.proofs.LoadWalks.{Walks, all_passed, none_left, passes}
+use Rattle.hunk_files.proofs.LoadWalks.{Walks, none_left, passes}
 
 -- ---- a longword and its run
 
@@ -68,9 +68,7 @@ module _ (bytes : List ℕ) (fit : IsBytes bytes) (entry : Entry) (o : numbers.O
 
 module _ (bytes : List ℕ) (fit : IsBytes bytes) (entry : Entry) (o : numbers.OpenHunk) where
   count_passes : (w declared : ℕ) → 0 < w → 0 < declared → refuse (role_at declared (positions.Body o phases.GroupCount)) w ≡ None
-  count_passes w declared some room =
-      passes_else (eqb w 0) None (cond (eqb declared 0) (Some reasons.NothingToRelocate) None) (ne_eqb w 0 (λ e. omega (arith, some, e)))
-      ∙ passes_else (eqb declared 0) (Some reasons.NothingToRelocate) None (ne_eqb declared 0 (λ e. omega (arith, room, e)))
+  count_passes w declared some room = search rules
 
   -- A group leads to the next.
   group_over : (at behind : ℕ) → Walks bytes at (positions.Body o phases.GroupCount) entry → IsGroup (longs bytes) o.hunks entry.longs at behind → Walks bytes behind (positions.Body o phases.GroupCount) entry
@@ -142,9 +140,7 @@ row_over bytes fit entry hunks owed at h whole = go (has_both_bits (get_or (long
         refl refl refl over
 
 rows_over : (bytes : List ℕ) → IsBytes bytes → (entry : Entry) (hunks owed at : ℕ) → Walks bytes at (positions.SizeWord hunks owed) entry → (count end : ℕ) → count ≤ owed → AreRows (longs bytes) at count end → Walks bytes end (positions.SizeWord hunks (owed - count)) entry
-rows_over bytes fit entry hunks owed at h _ _ few no_row =
-    let same : owed ≡ owed - 0 = omega arith in
-    subst (λ (k : ℕ). Walks bytes at (positions.SizeWord hunks k) entry) same h
+rows_over bytes fit entry hunks owed at h _ _ few no_row = search rules
 rows_over bytes fit entry hunks owed at h _ _ few (one_row count mid before whole) =
     let left : owed - count ≡ suc (owed - suc count) = omega (arith, few) in
     let here = rows_over bytes fit entry hunks owed at h count mid (omega (arith, few)) before in
@@ -155,16 +151,12 @@ rows_over bytes fit entry hunks owed at h _ _ few (one_row count mid before whol
 content_passes : (o : numbers.OpenHunk) (n : ℕ) →
     PassesOver (scan.owe_content o n n) n (positions.Body (having true o) phases.BlockWord)
 content_passes o zero = record { goes_on = λ e. absurd cc; run = refl; passed = refl; same = λ all entry. refl }
-content_passes o (suc n) =
-    let passed = all_passed (positions.Body o (phases.Content (suc n) n)) in
-    record { goes_on = λ e. absurd cc; run = refl; passed = passed; same = λ all entry. refl }
+content_passes o (suc n) = search rules
 
 payload_passes : (o : numbers.OpenHunk) (n : ℕ) →
     PassesOver (scan.owe_payload o n) n (positions.Body o phases.BlockWord)
 payload_passes o zero = record { goes_on = λ e. absurd cc; run = refl; passed = refl; same = λ all entry. refl }
-payload_passes o (suc n) =
-    let passed = all_passed (positions.Body o (phases.Payload n)) in
-    record { goes_on = λ e. absurd cc; run = refl; passed = passed; same = λ all entry. refl }
+payload_passes o (suc n) = search rules
 
 module _ (bytes : List ℕ) (fit : IsBytes bytes) (entry : Entry) (o : numbers.OpenHunk) where
   -- The word of a block leads to the phase behind it.

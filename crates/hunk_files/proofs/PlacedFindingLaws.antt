@@ -1,14 +1,14 @@
 -- Findings with their places: without them they are the findings, and the place is that of the offset.
-use Rattle.std.proofs.Common.{◌≡◌, ℕ, ◌+◌, ◌*◌, List, [], ◌∷◌, ◌++◌, length, map, refl, sym, ap, ap₂, ◌∙◌, Some}
+use Rattle.std.proofs.Common.{rules, ◌≡◌, ℕ, ◌+◌, ◌*◌, List, [], ◌∷◌, ◌++◌, length, map, refl, ap, ap₂, ◌∙◌, Some}
 use Rattle.std.specs.List.{flat_map}
 use Rattle.std.proofs.lemmas.List.{map-append}
 use Rattle.hunk_words.specs.Bits.{kind}
 use Rattle.hunk_blocks.specs.{Parts.{block_text, ext_text, group_text}, Placed.{GivesFirst, Placed}}
 use Rattle.hunk_blocks.specs.Values.{BlockBody, BlockValue, Reloc, Ext}
 use Rattle.hunk_files.specs.Findings.{FindingValue, HunkContext, body_findings, entry_findings, findings, group_findings, hunk_bytes, hunk_findings, hunks_findings, outside, reference_width, relocation_findings, relocation_width, units_findings}
-use Rattle.hunk_files.specs.{Hunks.block_texts, InPlace.GivesPart}
 use Rattle.hunk_files.specs.ObjectFile.{ObjectFileValue, ObjectHunk, UnitValue, unit_header, unit_text}
 use Rattle.hunk_files.specs.PlacedFindings.{PlacedFinding, block_findings_at, body_findings_at, entry_findings_at, group_findings_at, hunk_findings_at, hunks_findings_at, in_turn, offsets_findings_at, placed_findings, standing_at, unit_findings_at, units_findings_at}
+use Rattle.hunk_files.specs.{Hunks.block_texts, InPlace.GivesPart}
 
 -- ---- without places
 
@@ -66,31 +66,22 @@ findings_placed o = values_units 0 0 o
 
 pub item_first : {T A : Type 0} (view : T → A) (found : ℕ → A → List PlacedFinding) (text : A → List ℕ) (old new : Placed (List A)) (item : T) → GivesFirst view text old (Some item) new →
     in_turn found text old.place old.value ≡ found old.place (view item) ++ in_turn found text new.place new.value
-item_first {T} {A} view found text old new item gives =
-    ap (λ (xs : List A). in_turn found text old.place xs) gives.0
-    ∙ ap (λ (n : ℕ). found old.place (view item) ++ in_turn found text n new.value) (sym gives.1)
+item_first {T} {A} view found text old new item gives = search rules
 
 pub block_first : (s : HunkContext) (old new : Placed (List BlockValue)) (block : Placed BlockValue) → GivesPart block_text old (Some block) new →
     hunk_findings_at s old.place old.value ≡ block_findings_at s block.place block.value ++ hunk_findings_at s new.place new.value
-block_first s old new block gives =
-    ap (λ (p : Placed (List BlockValue)). hunk_findings_at s p.place p.value) gives.0
-    ∙ ap (λ (n : ℕ). block_findings_at s block.place block.value ++ hunk_findings_at s n new.value) (sym gives.1)
+block_first s old new block gives = search rules
 
 pub hunk_first : (unit hunks number : ℕ) (old new : Placed (List ObjectHunk)) (h : Placed ObjectHunk) → GivesPart block_texts old (Some h) new →
     hunks_findings_at unit hunks number old.place old.value
     ≡ hunk_findings_at (record { unit = unit; hunk = number; hunks = hunks; bytes = hunk_bytes h.value }) h.place h.value ++ hunks_findings_at unit hunks (number + 1) new.place new.value
-hunk_first unit hunks number old new h gives =
-    ap (λ (p : Placed (List ObjectHunk)). hunks_findings_at unit hunks number p.place p.value) gives.0
-    ∙ ap (λ (n : ℕ). hunk_findings_at (record { unit = unit; hunk = number; hunks = hunks; bytes = hunk_bytes h.value }) h.place h.value ++ hunks_findings_at unit hunks (number + 1) n new.value) (sym gives.1)
+hunk_first unit hunks number old new h gives = search rules
 
 pub unit_first : (number : ℕ) (old new : Placed (List UnitValue)) (u : Placed UnitValue) → GivesPart unit_text old (Some u) new →
     units_findings_at number old.place old.value ≡ unit_findings_at number u.place u.value ++ units_findings_at (number + 1) new.place new.value
-unit_first number old new u gives =
-    ap (λ (p : Placed (List UnitValue)). units_findings_at number p.place p.value) gives.0
-    ∙ ap (λ (n : ℕ). unit_findings_at number u.place u.value ++ units_findings_at (number + 1) n new.value) (sym gives.1)
+unit_first number old new u gives = search rules
 
 -- What is found in these blocks, which are the hunk's, with this number of bytes, is what is found in the hunk.
 pub hunk_found : (unit number hunks bytes : ℕ) (blocks h : Placed ObjectHunk) → bytes ≡ hunk_bytes h.value → blocks ≡ h →
     hunk_findings_at (record { unit = unit; hunk = number; hunks = hunks; bytes = bytes }) blocks.place blocks.value ≡ hunk_findings_at (record { unit = unit; hunk = number; hunks = hunks; bytes = hunk_bytes h.value }) h.place h.value
-hunk_found unit number hunks bytes blocks h size same =
-    ap₂ (λ (n : ℕ) (p : Placed ObjectHunk). hunk_findings_at (record { unit = unit; hunk = number; hunks = hunks; bytes = n }) p.place p.value) size same
+hunk_found unit number hunks bytes blocks h size same = search rules

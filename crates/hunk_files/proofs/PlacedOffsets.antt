@@ -1,14 +1,14 @@
 -- At the place of each finding stands its offset.
-use Rattle.std.proofs.Common.{◌≡◌, ℕ, ◌+◌, ◌-◌, ◌*◌, Bool, true, false, cond, List, [], ◌∷◌, ◌++◌, length, refl, sym, ap, subst, ◌∙◌, append_assoc, append-nil, length-append, Option, Some, None, arith}
+use Rattle.std.proofs.Common.{rules, ◌≡◌, ℕ, ◌+◌, ◌-◌, ◌*◌, Bool, true, false, cond, List, [], ◌∷◌, ◌++◌, length, refl, sym, ap, subst, ◌∙◌, append_assoc, append-nil, length-append, Option, Some, None, arith}
 use Rattle.std.specs.{Prelude.{⊤, nat_lt}, List.{AllByRecursion, flat_map}}
 use Rattle.hunk_words.specs.Bits.{kind}
 use Rattle.hunk_blocks.specs.declared.ext_shape.ExtShape.{ExtShape}
 use Rattle.hunk_blocks.specs.declared.ext_shape.ExtShape.TheVariants.{Definition, References, Common}
-use Rattle.hunk_blocks.specs.{Entries.shaped_text, ExtKinds.ext_shape}
 use Rattle.hunk_blocks.specs.Parts.{block_text, body_text, ext_text, group_text}
 use Rattle.hunk_blocks.specs.Values.{BlockBody, BlockValue, ExtEntry, RelocGroup, FitsShape, FitsWord, IsBlock, IsExtEntry, Reloc, Ext, ext_type}
+use Rattle.hunk_blocks.specs.{Entries.shaped_text, ExtKinds.ext_shape}
 use Rattle.hunk_blocks.proofs.{Lists.All-append, PartTexts.{body_text_is, ext_text_is, group_text_is}}
-use Rattle.hunk_files.specs.declared.object.check.FindingKind.TheVariants.{BadTarget, OutsideHunk}
+use Rattle.hunk_files.specs.declared.object.check.FindingKind.TheVariants.{OutsideHunk}
 use Rattle.hunk_files.specs.Findings.{FindingValue, HunkContext, finding, hunk_bytes, outside, reference_width, relocation_findings, relocation_width}
 use Rattle.hunk_files.specs.Hunks.{block_texts}
 use Rattle.hunk_files.specs.ObjectFile.{IsObjectFile, IsObjectHunk, IsUnit, ObjectFileValue, ObjectHunk, UnitValue, object_text, unit_header, unit_text}
@@ -23,17 +23,11 @@ one_has : (f : FindingValue) (offset : ℕ) → f.offset ≡ offset → (b : Boo
 one_has f offset is true = (is, tt)
 one_has f offset is false = tt
 
-other_has : (f : FindingValue) (offset : ℕ) → f.offset ≡ offset → (b : Bool) → Have offset (cond b [] (f ∷ []))
-other_has f offset is true = tt
-other_has f offset is false = (is, tt)
-
 outside_has : (s : HunkContext) (width offset : ℕ) → Have offset (outside s width offset)
 outside_has s width offset = one_has (finding s OutsideHunk offset) offset refl (nat_lt s.bytes (offset + width))
 
 relocation_has : (s : HunkContext) (width target offset : ℕ) → Have offset (relocation_findings s width target offset)
-relocation_has s width target offset =
-    All-append (λ f. f.offset ≡ offset) (cond (nat_lt target s.hunks) [] (finding s BadTarget offset ∷ [])) (outside s width offset)
-    (other_has (finding s BadTarget offset) offset refl (nat_lt target s.hunks)) (outside_has s width offset)
+relocation_has s width target offset = search rules
 
 -- ---- the offsets of an entry are its last longwords
 

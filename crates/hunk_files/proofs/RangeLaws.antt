@@ -1,5 +1,5 @@
 -- Ranges that are handed over one by one are all that stays.
-use Rattle.std.proofs.Common.{◌≡◌, ℕ, ◌+◌, ◌-◌, ◌*◌, ◌≤◌, Bool, true, false, cond, Some, None, List, [], ◌∷◌, ◌++◌, length, take, drop, refl, sym, ap, subst, ◌∙◌, append_assoc, append-nil, length-append, arith}
+use Rattle.std.proofs.Common.{rules, ◌≡◌, ℕ, ◌+◌, ◌-◌, ◌*◌, ◌≤◌, Bool, true, false, cond, Some, None, List, [], ◌∷◌, ◌++◌, length, take, drop, refl, sym, ap, subst, ◌∙◌, append_assoc, append-nil, length-append, arith}
 use Rattle.std.proofs.Math.Seq.{take-add}
 use Rattle.std.specs.{Prelude.slice_range, List.flat_map}
 use Rattle.std.proofs.lemmas.List.{drop-drop, take_at}
@@ -107,11 +107,7 @@ module _ {T A : Type 0} {takes : T → List ℕ → T → Type 0} {Is : A → Ty
 
     pub all_stripped : {left : List A} → left ≡ [] → Stripped takes Is text kept old now bytes before start all rest from at left →
         HandsOver takes old now before (slice_range bytes from at) (bytes_of (flat_map kept all)) × (at ≡ start + 4 * length (flat_map text all))
-    all_stripped e s =
-        let whole : s.done ≡ all = sym (s.split ∙ ap (λ (l : List A). s.done ++ l) e ∙ append-nil s.done) in (
-          subst (λ (xs : List A). HandsOver takes old now before (slice_range bytes from at) (bytes_of (flat_map kept xs))) whole s.hands,
-          s.place ∙ ap (λ (xs : List A). start + 4 * length (flat_map text xs)) whole,
-        )
+    all_stripped e s = search rules
 
 -- ---- the blocks of a hunk
 

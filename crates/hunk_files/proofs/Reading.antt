@@ -1,5 +1,5 @@
 -- What a reader that takes longwords one by one has to know, in a few lemmas.
-use Rattle.std.proofs.Common.{◌≡◌, ℕ, ◌*◌, List, [], ◌∷◌, ◌++◌, length, refl, sym, ap, ap₂, subst, ◌∙◌, Some, None}
+use Rattle.std.proofs.Common.{rules, ◌≡◌, ℕ, ◌*◌, List, [], ◌∷◌, ◌++◌, length, refl, sym, ap, subst, ◌∙◌, Some, None}
 use Rattle.std.proofs.lemmas.List.{map-append}
 use Rattle.hunk_words.specs.{declared.reason.Reason.Reason, Longs.{longs, IsLong}}
 use Rattle.hunk_blocks.specs.Faults.{words}
@@ -72,9 +72,7 @@ file_read v is = record { done = labelled v; run = file_leads v is; accepted = l
 
 first_passes : (p : Progress) (ls : Labelled) (v : LoadFileValue) (w : ℕ) (more : List ℕ) → Leads (More p) ls (Finished v) → AreAccepted ls → words ls ≡ w ∷ more → refuse (role_of p) w ≡ None
 first_passes p [] v w more run ok e = absurd cc
-first_passes p (l ∷ ls) v w more run ok e =
-    let same : l.1 ≡ w = cc in
-    ap₂ (λ (r : Role) (x : ℕ). refuse r x) run.0 (sym same) ∙ ok.0.1
+first_passes p (l ∷ ls) v w more run ok e = search rules
 
 -- No longword of a load text that goes on from here is refused.
 pub read_passes : (ws : List ℕ) (p : Progress) → HasRead ws (More p) → (v : LoadFileValue) → IsLoadFile v → (w : ℕ) (more : List ℕ) → text v ≡ ws ++ w ∷ more → refuse (role_of p) w ≡ None

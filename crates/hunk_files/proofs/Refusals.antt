@@ -1,5 +1,5 @@
 -- The reasons that a longword of a load file can be refused for.
-use Rattle.std.proofs.Common.{◌≡◌, ◌≢◌, ℕ, ◌+◌, Bool, true, false, cond, List, Some, None, Option, refl, sym, subst, ◌∙◌, ◌==◌, inl, inr}
+use Rattle.std.proofs.Common.{rules, ◌≡◌, ◌≢◌, ℕ, ◌+◌, Bool, true, false, cond, List, Some, None, Option, refl, sym, subst, ◌∙◌, ◌==◌, inl, inr}
 use Rattle.std.specs.Prelude.{IfSome, IsTrue, nat_lt}
 use Rattle.hunk_words.specs.{declared.block_word.Kind.Kind, declared.reason.Reason.Reason}
 use Rattle.hunk_words.specs.Bits.{has_both_bits, size_longs, is_advisory, kind}
@@ -37,13 +37,9 @@ refused_part p parts.Offset w = chosen (nat_lt _ _) (Some reasons.BadOffset) Non
 refused_part p _ w = tt
 
 refused_role : (r : Role) (w : ℕ) → AreOfWord (refuse r w)
-refused_role roles.FirstLong w =
-    chosen (w == 0x3F3) None _ tt
-    (chosen (w == 0x3E7) (Some reasons.IsObject) _ refl
-    (chosen (w == 0x3FA) (Some reasons.Library) (Some reasons.NotLoadFile) refl refl))
+refused_role roles.FirstLong w = search rules
 refused_role roles.ResidentName w = chosen (w == 0) None (Some reasons.Resident) tt refl
-refused_role roles.TableSize w =
-    chosen (w == 0) (Some reasons.NoHunks) _ refl (chosen (nat_lt 65536 w) (Some reasons.TooManyHunks) None refl tt)
+refused_role roles.TableSize w = search rules
 refused_role roles.FirstHunk w = chosen (w == 0) None (Some reasons.FirstHunk) tt refl
 refused_role (roles.LastHunk hunks) w = chosen (w + 1 == hunks) None (Some reasons.LastHunk) tt refl
 refused_role (InBlock p part) w = refused_part p part w

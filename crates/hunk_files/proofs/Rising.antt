@@ -1,8 +1,7 @@
 -- Offsets in rising order: neighbours decide which offsets are close.
-use Rattle.std.proofs.Common.{◌≡◌, ℕ, zero, suc, ◌+◌, ◌<◌, ◌≤◌, List, length, get_or, arith, ◌∙◌, subst, refl, ◌-◌, ◌⊎◌, inl, inr}
-use Rattle.std.proofs.Math.Nat.{eq-or-lt_of_le}
-use Rattle.std.specs.{List.Contains, List.Sorted.{IsNonDecreasing, IsPermutation}}
+use Rattle.std.proofs.Common.{rules, ◌≡◌, ℕ, zero, suc, ◌+◌, ◌<◌, ◌≤◌, List, length, get_or, arith, ◌∙◌, subst, refl, ◌-◌, ◌⊎◌, inl, inr}
 use Rattle.std.proofs.lemmas.{List.get_or_default, Bool.cases_lt, List.Elements.Contains-get_or}
+use Rattle.std.specs.{List.Contains, List.Sorted.{IsNonDecreasing, IsPermutation}}
 use Rattle.std.proofs.lemmas.List.Sorted.{Contains-permutation, IsPermutation-sym}
 use Rattle.hunk_files.specs.Overlap.{IsClose, AreApart, IsFirstOverlap}
 
@@ -23,11 +22,7 @@ NoneBefore xs e = (k : ℕ) → k + 1 < e → IsClose (get_or xs k 0) (get_or xs
 
 -- one place further
 step_up : (a b c : ℕ) → (a ≡ b) ⊎ (a + 4 ≤ b) → b ≤ c → (IsClose b c → ⊥) → (a ≡ c) ⊎ (a + 4 ≤ c)
-step_up a b c h m n =
-    elim h [
-      | inr far ↦ inr (omega arith)
-      | inl e ↦ elim (eq-or-lt_of_le m) [ inl same ↦ inl (e ∙ same) | inr less ↦ elim (cases_lt c (b + 4)) [ inl near ↦ absurd (n (less, near)) | inr far ↦ inr (omega arith) ] ]
-    ]
+step_up a b c h m n = search rules
 
 -- from a place on the offsets are the same for a while, and then far
 far_or_same : (xs : List ℕ) (e i n : ℕ) → IsNonDecreasing xs → NoneBefore xs e → i + n < e → i + n < length xs →

@@ -1,7 +1,7 @@
 -- Parts that are taken one by one, as they lie in the input.
-use Rattle.std.proofs.Common.{◌≡◌, ℕ, ◌+◌, ◌*◌, List, [], ◌∷◌, ◌++◌, drop, length, refl, sym, ap, subst, ◌∙◌, append_assoc, append-nil, length-append, Option, Some, None, arith}
-use Rattle.std.specs.{List.flat_map, Iterator.{MakesProgress, item_count}}
+use Rattle.std.proofs.Common.{rules, ◌≡◌, ℕ, ◌+◌, ◌*◌, List, [], ◌∷◌, ◌++◌, drop, length, refl, sym, ap, subst, ◌∙◌, append_assoc, length-append, Option, Some, None, arith}
 use Rattle.std.proofs.lemmas.{Iterator.YieldsList, Iterator.Consumers.YieldsList-from_shown}
+use Rattle.std.specs.{List.flat_map, Iterator.{MakesProgress, item_count}}
 use Rattle.hunk_blocks.specs.Placed.{Placed}
 use Rattle.hunk_blocks.proofs.Lists.{flat_map-more}
 use Rattle.hunk_files.specs.{InPlace.{GivesPart, IsFirstPart}, Lacks.{EndsAt, Within}}
@@ -38,10 +38,7 @@ end_passed text all old new same gives = ap (λ (p : Placed (List _)). p.place) 
 
 pub part_passed : {A : Type 0} (text : A → List ℕ) (old new : Placed (List A)) (part : Placed A) (end : ℕ) → IsFirstPart old (Some part) → end ≡ part.place + 4 * length (text part.value) → new ≡ record { place = end; value = drop 1 old.value } →
     GivesPart text old (Some part) new
-part_passed text old new part end first e is = (
-  first ∙ ap (λ (xs : List _). record { place = part.place; value = part.value ∷ xs }) (sym (ap (λ (p : Placed (List _)). p.value) is)),
-  ap (λ (p : Placed (List _)). p.place) is ∙ e,
-)
+part_passed text old new part end first e is = search rules
 
 -- What is given was the first.
 pub first_given : {A : Type 0} (text : A → List ℕ) (old new : Placed (List A)) (part : Placed A) → GivesPart text old (Some part) new → IsFirstPart old (Some part)
@@ -54,10 +51,7 @@ module _ {A : Type 0} (text : A → List ℕ) (all : Placed (List A)) where
     pub place : left.place ≡ all.place + 4 * length (flat_map text done)
 
   pub all_taken : (old new : Placed (List A)) (done : List A) (found : Option (Placed A)) → Taken old done → found ≡ None → GivesPart text old found new → (done ≡ all.value) × (new.place ≡ all.place + 4 * length (flat_map text all.value))
-  all_taken old new done found t same gives =
-      let g : (old.value ≡ []) × (new ≡ old) = subst (λ f. GivesPart text old f new) same gives in
-      let whole : done ≡ all.value = sym (t.split ∙ ap (λ (l : List A). done ++ l) g.0 ∙ append-nil done) in
-      (whole, ap (λ (p : Placed (List A)). p.place) g.1 ∙ t.place ∙ ap (λ (l : List A). all.place + 4 * length (flat_map text l)) whole)
+  all_taken old new done found t same gives = search rules
 
   module _ (old new : Placed (List A)) (done : List A) (found : Option (Placed A)) (part : Placed A) (t : Taken old done) (same : found ≡ Some part) (gives : GivesPart text old found new) where
     given : GivesPart text old (Some part) new

@@ -1,7 +1,7 @@
 -- The text of a load file in memory, in the parts that are written.
 use Rattle.std.proofs.Common.{◌≡◌, ℕ, ◌-◌, true, false, List, [], ◌∷◌, ◌++◌, length, map, refl, sym, ap, ap₂, ◌∙◌, append_assoc}
-use Rattle.std.specs.List.{flat_map}
 use Rattle.std.proofs.lemmas.{List.length-map, List.Folds.flat_map-map}
+use Rattle.std.specs.List.{flat_map}
 use Rattle.hunk_words.specs.{Longs.bytes_of, Bits.has_both_bits}
 use Rattle.hunk_words.proofs.LongLaws.{bytes_of-cons, bytes_of-append}
 use Rattle.hunk_files.specs.{declared.row.Row.Row, declared.load.hunk.LoadHunk.LoadHunk}
