@@ -1,27 +1,31 @@
 -- What the engine functions share: a text made of bytes and put, and a source whose bytes they are.
-use Rattle.std.proofs.Common.{◌≡◌, ◌≢◌, ◌∙◌, ℕ, List, Result, Ok, Err, inr, ap, refl, sym, subst, false, true≢false}
+use Rattle.std.proofs.Common.{◌≡◌, ◌∙◌, ℕ, List, Result, Ok, Err, inr, ap, refl, sym, subst, false, true≢false}
 use Rattle.std.specs.Prelude.{IfErr}
 use Rattle.hunk_words.specs.Carriers.{Outlet, Supply, Writing}
-use Rattle.hunk_words.specs.Longs.{longs}
 use Rattle.hunk_words.specs.Puts.{PutsText}
-use Rattle.hunk_words.specs.declared.fault.Fault.{Fault}
 use Rattle.hunk_words.specs.declared.long_writer.WriteFault.{WriteFault}
-use Rattle.hunk_words.specs.declared.reason.Reason.TheVariants.{OutOfMemory}
-use Rattle.hunk_grammar.specs.FileKind.{sniffed}
 use Rattle.hunk_commands.specs.declared.fault.RunFault.{RunFault}
 use Rattle.hunk_commands.specs.declared.fault.RunFault.TheVariants.{Write}
 use Rattle.hunk_commands.specs.Engine.{PutsOrRefuses, ReadsThenPuts}
-use Rattle.hunk_commands.specs.Faults.{refused_as}
+use Rattle.hunk_commands.specs.Faults.{IsWrite}
 use Rattle.hunk_commands.specs.Inputs.{ReadsWhole}
-use Rattle.hunk_files.specs.HunkFile.{AreFile, IsRefusal}
+use Rattle.hunk_commands.specs.Refusals.{RefusesBytes}
+use Rattle.hunk_files.specs.HunkFile.{AreFile}
 use Rattle.hunk_scatter.specs.LoadOutcomes.{GivesAtMost}
 use Rattle.hunk_commands.proofs.Consumed.{consumed_all}
-use Rattle.hunk_commands.proofs.FileLaws.{same_refusal}
 
 -- ---- a fault that is handed on
 
 pub handed : {T : Type 0} (P : RunFault → Type 0) (result : Result T RunFault) (fault : RunFault) → ((y : RunFault) × (result ≡ Err y) × (y ≡ fault)) → P fault → IfErr result P
 handed {T} P result fault p is = subst (λ (r : Result T RunFault). IfErr r P) (sym (p.1 ∙ ap Err p.2)) is
+
+-- a refusal is no fault of writing
+not_write : (fault : RunFault) (bytes : List ℕ) → RefusesBytes fault bytes → IsWrite fault → ⊥
+not_write (Write written) bytes is write = is
+not_write _ bytes is write = write
+
+no_write : (fault : RunFault) (bytes : List ℕ) (written : ℕ) → fault ≡ Write written → RefusesBytes fault bytes → ⊥
+no_write fault bytes written e is = subst (λ (f : RunFault). RefusesBytes f bytes) e is
 
 -- ---- bytes
 
@@ -30,15 +34,14 @@ module _ {W T : Type 0} (outlet : W → Outlet) (IsTextOf : T → List ℕ → T
   Comes new r = PutsOrRefuses outlet IsTextOf bytes old new r
 
   -- they are no file
-  pub refuses : (result : Result T RunFault) (refusal : Fault) → ((y : RunFault) × (result ≡ Err y) × (y ≡ refused_as refusal)) → (AreFile bytes → ⊥) → IsRefusal (sniffed (longs bytes)) bytes refusal → refusal.reason ≢ OutOfMemory →
-      PutsOrRefuses outlet IsTextOf bytes old old result
+  pub refuses : (result : Result T RunFault) (refusal : RunFault) → ((y : RunFault) × (result ≡ Err y) × (y ≡ refusal)) → (AreFile bytes → ⊥) → RefusesBytes refusal bytes → PutsOrRefuses outlet IsTextOf bytes old old result
   unfolding Comes
-  refuses result refusal p none is other =
-      subst (Comes old) (sym (p.1 ∙ ap Err (p.2 ∙ same_refusal _ bytes refusal is other))) (record {
+  refuses result refusal p none is =
+      subst (Comes old) (sym (p.1 ∙ ap Err p.2)) (record {
         done = tt;
         no_failure = tt;
-        write = λ written same. absurd cc;
-        fails = record { broken = λ written. absurd written; untouched = λ _. refl };
+        write = λ written same. absurd (no_write refusal bytes written same is);
+        fails = record { broken = λ write. absurd (not_write refusal bytes is write); untouched = λ _. refl };
         refused = λ _. is;
         succeeds = λ file. absurd (none file);
       })

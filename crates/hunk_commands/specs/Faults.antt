@@ -6,11 +6,12 @@ use Rattle.hunk_words.specs.declared.reason.Reason.{Reason}
 use Rattle.hunk_words.specs.declared.reason.Reason.TheVariants as reasons
 use Rattle.hunk_words.specs.FaultLines.{refusal_line, write_line}
 use Rattle.hunk_commands.specs.declared.fault.RunFault.{RunFault}
-use Rattle.hunk_commands.specs.declared.fault.RunFault.TheVariants.{HexText, Memory, Read, Refused, Write}
+use Rattle.hunk_commands.specs.declared.fault.RunFault.TheVariants.{HexText, Memory, Read, Refused, RefusedIn, Write}
 
 -- the exit status
 abbrev pub status_of : RunFault → ℕ
 status_of (Refused fault) = 1
+status_of (RefusedIn fault part) = 1
 status_of HexText = 1
 status_of (Read place) = 3
 status_of (Write written) = 3
@@ -19,6 +20,7 @@ status_of Memory = 4
 -- the line, without its end
 abbrev pub line_of : RunFault → List ℕ
 line_of (Refused fault) = refusal_line fault
+line_of (RefusedIn fault part) = refusal_line fault
 line_of HexText = codes "hex text refused"
 line_of (Read place) = codes "reading failed at byte " ++ decimal place
 line_of (Write written) = write_line (record { written = written })

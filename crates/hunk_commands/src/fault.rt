@@ -3,6 +3,7 @@ ghost use Rattle.std.specs.Prelude.{◌≡◌, ◌<◌, ◌≤◌, Some};
 ghost use Rattle.hunk_commands.specs.Faults.{line_of, refused_as, status_of};
 ghost use Rattle.hunk_commands.specs.declared.fault.RunFault.TheVariants.{Memory, Write};
 
+use hunk_files::Part;
 use hunk_words::{Fault, Reason, WriteFault};
 use std::alloc::{AllocError, AllocFailed};
 use std::error::Error;
@@ -16,6 +17,9 @@ pub const OUT_OF_MEMORY: &str = "out of memory\n";
 pub enum RunFault {
     /// The input is refused, at a place in bytes from its start.
     Refused(Fault),
+    /// The file that the input is to be is refused, at a place in bytes from its start, in this
+    /// part.
+    RefusedIn { fault: Fault, part: Part },
     /// Reading failed after `place` bytes of the input.
     Read { place: u64 },
     /// Writing failed after `written` bytes of the output.
@@ -34,7 +38,7 @@ impl RunFault {
         ensures bound { (0 < result) × (result ≤ 4) }
     {
         match self {
-            RunFault::Refused(_) | RunFault::HexText => 1,
+            RunFault::Refused(_) | RunFault::RefusedIn { .. } | RunFault::HexText => 1,
             RunFault::Read { .. } | RunFault::Write { .. } => 3,
             RunFault::Memory => 4,
         }
@@ -46,7 +50,9 @@ impl fmt::Display for RunFault {
 
     fn fmt<W: fmt::Write>(&self, f: &mut fmt::Formatter<W>) -> fmt::Result {
         match self {
-            RunFault::Refused(fault) => write!(f, "{fault}"),
+            RunFault::Refused(fault) | RunFault::RefusedIn { fault, part: _ } => {
+                write!(f, "{fault}")
+            }
             RunFault::Read { place } => write!(f, "reading failed at byte {place}"),
             RunFault::Write { written } => {
                 let fault = WriteFault { written: *written };

@@ -5,6 +5,7 @@
 mod fault;
 mod hex_text;
 mod input;
+mod reading;
 mod relocating;
 mod rewriting;
 mod showing;

@@ -9,6 +9,7 @@ ghost use Rattle.hunk_commands.specs.Rewritten.{IsRewritten, stripped_where};
 
 use crate::fault::RunFault;
 use crate::input::read_all;
+use crate::reading::read_file;
 use hunk_files::FileView;
 use hunk_words::{LongWriter, Printer, Sink, Source, WriteFault};
 use std::alloc::Global;
@@ -31,7 +32,8 @@ pub struct Rewritten {
 ///
 /// - `Refused` with `FileLimit`, at `file_bytes`, where that many bytes were read, before an end is
 ///   looked for.
-/// - `Refused` with the fault that `FileView::read` answers for the input, at the same place.
+/// - `RefusedIn` with the fault that `FileView::read` answers for the input, at the same place, in
+///   the part that `part_at` answers.
 /// - `Read` where the source failed, at the number of bytes read.
 /// - `Memory` where memory is refused for the bytes of the input, and never once they are read.
 /// - `Write` where the writer failed: just the first `written` bytes of all that was ever put, the
@@ -60,8 +62,8 @@ pub fn rewrite<R: Source, W: Sink>(
 ///
 /// # Errors
 ///
-/// - `Refused` with the fault that `FileView::read` answers, at the same place. Nothing was written
-///   then, and the writer is as it was.
+/// - `RefusedIn` with the fault that `FileView::read` answers, at the same place, in the part that
+///   `part_at` answers. Nothing was written then, and the writer is as it was.
 /// - `Write` where the writer failed: just the first `written` bytes of all that was ever put, the
 ///   file last, have gone out.
 pub fn rewrite_bytes<W: Sink>(
@@ -73,7 +75,7 @@ pub fn rewrite_bytes<W: Sink>(
         bytes.now w.old w.new result }
     ensures written { IfOk result (λ done. done.written ≡ saturated w.new.written) }
 {
-    let file = FileView::read(bytes)?;
+    let file = read_file(bytes)?;
     let rest = file.rest();
     put_file(w, &file, bytes, strip)?;
     Ok(Rewritten {

@@ -4,6 +4,7 @@ ghost use Rattle.hunk_commands.specs.Validated.{IsValidated};
 
 use crate::fault::RunFault;
 use crate::input::read_all;
+use crate::reading::read_file;
 use hunk_files::FileView;
 use hunk_listing::{print_load_summary, print_object_report};
 use hunk_words::{LongWriter, Printer, Sink, Source};
@@ -18,7 +19,8 @@ use std::alloc::Global;
 ///
 /// - `Refused` with `FileLimit`, at `file_bytes`, where that many bytes were read, before an end is
 ///   looked for.
-/// - `Refused` with the fault that `FileView::read` answers for the input, at the same place.
+/// - `RefusedIn` with the fault that `FileView::read` answers for the input, at the same place, in
+///   the part that `part_at` answers.
 /// - `Read` where the source failed, at the number of bytes read.
 /// - `Memory` where memory is refused for the bytes of the input, and never once they are read.
 /// - `Write` where the writer failed: just the first `written` bytes of all that was ever put, the
@@ -45,8 +47,8 @@ pub fn validate<R: Source, W: Sink>(
 ///
 /// # Errors
 ///
-/// - `Refused` with the fault that `FileView::read` answers, at the same place. Nothing was written
-///   then, and the writer is as it was.
+/// - `RefusedIn` with the fault that `FileView::read` answers, at the same place, in the part that
+///   `part_at` answers. Nothing was written then, and the writer is as it was.
 /// - `Write` where the writer failed: just the first `written` bytes of all that was ever put, the
 ///   report last, have gone out.
 #[inline(never)]
@@ -54,7 +56,7 @@ pub fn validate_bytes<W: Sink>(bytes: &[u8], w: &mut LongWriter<W>) -> Result<u6
     ensures { PutsOrRefuses W.outlet (λ count. IsValidated count bytes.now)
         bytes.now w.old w.new result }
 {
-    let file = FileView::read(bytes)?;
+    let file = read_file(bytes)?;
     let mut page = Printer::new(w);
     let count = match &file {
         FileView::Load { file, rest } => {

@@ -61,7 +61,10 @@ fn refuses(rt: HostRuntime) -> Result<(), Fail> {
     for sample in &BAD {
         let bytes = input(rt.alloc(), sample.file, sample.rest)?;
         let (place, reason) = (sample.place, sample.reason);
-        let fault = RunFault::Refused(Fault { place, reason });
+        let fault = RunFault::RefusedIn {
+            fault: Fault { place, reason },
+            part: sample.part,
+        };
         for call in [Call::Show, Call::Validate, Call::Rewrite, Call::Strip] {
             let got = made_in_hand(call, &bytes, roomy());
             expect_outcome(&rt, &got, Some(fault), &[]);

@@ -1,6 +1,7 @@
 //! The lines and statuses of faults.
 use crate::tests::asserts::{assert_equal, assert_equal_at};
 use hunk_commands::RunFault;
+use hunk_files::Part;
 use hunk_words::{Fault, Reason};
 use std::alloc::{AllocError, Global};
 use std::process::Abort;
@@ -24,6 +25,17 @@ const REFUSALS: &[(u64, Reason, &str)] = &[
 
 /// Other faults, their lines and their statuses.
 const FAULTS: &[(RunFault, &str, u8)] = &[
+    (
+        RunFault::RefusedIn {
+            fault: Fault {
+                place: 28,
+                reason: Reason::NameWord,
+            },
+            part: Part::Hunk { number: 0 },
+        },
+        "refused at byte 28: NameWord (21)",
+        1,
+    ),
     (RunFault::HexText, "hex text refused", 1),
     (RunFault::Read { place: 30 }, "reading failed at byte 30", 3),
     (

@@ -4,6 +4,7 @@ use crate::tests::asserts::assert_equal_at;
 use crate::tests::calls::{Call, LIMIT, expect_outcome, made_of, roomy};
 use crate::tests::samples::{AGAIN, Again, BAD, CHECKED, SHOWN, input};
 use hunk_commands::{Rewritten, RunFault, rewrite, validate};
+use hunk_files::Part;
 use hunk_words::{Fault, FromSlice, Reason};
 use std::alloc::Global;
 use std::process::Abort;
@@ -90,8 +91,8 @@ fn rewrites(rt: HostRuntime) -> Result<(), Fail> {
 }
 
 /// Sees that each call that reads the input whole refuses it, and writes nothing.
-fn expect_refused(rt: &impl Abort, alloc: Global, bytes: &[u8], place: u64, reason: Reason) {
-    let fault = RunFault::Refused(Fault { place, reason });
+fn expect_refused(rt: &impl Abort, alloc: Global, bytes: &[u8], fault: Fault, part: Part) {
+    let fault = RunFault::RefusedIn { fault, part };
     for call in [Call::Show, Call::Validate, Call::Rewrite] {
         let got = made_of(alloc, call, bytes, roomy());
         expect_outcome(rt, &got, Some(fault), &[]);
@@ -102,9 +103,25 @@ fn expect_refused(rt: &impl Abort, alloc: Global, bytes: &[u8], place: u64, reas
 fn refuses(rt: HostRuntime) -> Result<(), Fail> {
     for sample in &BAD {
         let bytes = input(rt.alloc(), sample.file, sample.rest)?;
-        expect_refused(&rt, rt.alloc(), &bytes, sample.place, sample.reason);
+        let (place, reason) = (sample.place, sample.reason);
+        expect_refused(
+            &rt,
+            rt.alloc(),
+            &bytes,
+            Fault { place, reason },
+            sample.part,
+        );
     }
     Ok(())
+}
+
+/// The part of example 1, of one hunk, that the byte is of: its header has 24 bytes.
+fn part_of_example(place: u64) -> Part {
+    if place < 24 {
+        Part::Header
+    } else {
+        Part::Hunk { number: 0 }
+    }
 }
 
 /// Where it is not refused it is written again as it is.
@@ -116,7 +133,8 @@ fn one_longword_changed(rt: HostRuntime) -> Result<(), Fail> {
             Some((place, reason)) => {
                 // An object file for these calls, which is refused as such: it is one of `BAD`.
                 if reason != Reason::IsObject {
-                    expect_refused(&rt, rt.alloc(), &bytes, place, reason);
+                    let part = part_of_example(place);
+                    expect_refused(&rt, rt.alloc(), &bytes, Fault { place, reason }, part);
                 }
             }
             None => {

@@ -11,7 +11,7 @@ use Rattle.hunk_commands.proofs.rewriting.rewrite_bytes.Goals as goal
 pub returns-in_err-file-clause-rewrites : goal.returns-in_err-file-clause-rewrites
 returns-in_err-file-clause-rewrites g c =
     refuses g.W.Sink.outlet (λ (done : Rewritten). IsRewritten c.args.strip done.rest c.args.bytes.now) c.args.bytes.now c.args.w.now c.from_residual.result c.in_err-file.field-0.0
-    (err_from_is_err_and c.from_residual.result c.from_residual.ensures.1) c.in_err-file.ensures.none c.in_err-file.ensures.refused c.in_err-file.ensures.memory
+    (err_from_is_err_and c.from_residual.result c.from_residual.ensures.1) c.in_err-file.ensures.none c.in_err-file.ensures.refused
 
 pub returns-in_err-put_file-clause-rewrites : goal.returns-in_err-put_file-clause-rewrites
 returns-in_err-put_file-clause-rewrites g c =

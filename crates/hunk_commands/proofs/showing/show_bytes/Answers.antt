@@ -9,7 +9,7 @@ use Rattle.hunk_commands.proofs.showing.show_bytes.Goals as goal
 pub returns-in_err-file : goal.returns-in_err-file
 returns-in_err-file g c =
     refuses g.W.Sink.outlet (λ _. IsShown c.args.bytes.now) c.args.bytes.now c.args.w.now c.from_residual.result c.in_err-file.field-0.0
-    (err_from_is_err_and c.from_residual.result c.from_residual.ensures.1) c.in_err-file.ensures.none c.in_err-file.ensures.refused c.in_err-file.ensures.memory
+    (err_from_is_err_and c.from_residual.result c.from_residual.ensures.1) c.in_err-file.ensures.none c.in_err-file.ensures.refused
 
 pub returns-in_err-printed : goal.returns-in_err-printed
 returns-in_err-printed g c =
