@@ -2,7 +2,7 @@
 use Rattle.std.proofs.Common.{rules, ◌≡◌, ℕ, ◌+◌, ◌*◌, ◌/◌, ◌^◌, ◌≤◌, ◌<◌, Bool, true, false, List, [], ◌∷◌, ◌++◌, length, map, take, drop, refl, sym, ap, ap₂, subst, ◌∙◌, append_assoc, append-nil, arith, length-append, drop_of_length-le, is_some, Option, None, Some}
 use Rattle.std.specs.List.{AllByRecursion}
 use Rattle.std.proofs.lemmas.List.{map-append, length-map, take_all, take_at, drop_at}
-use Rattle.hunk_words.specs.{declared.fault.Fault.Fault, Bits.size_longs, Longs.{bytes_of, longs, AreLongs}}
+use Rattle.hunk_words.specs.{declared.fault.Fault.Fault, Bits.size_longs, Carriers.saturated, Longs.{bytes_of, longs, AreLongs}}
 use Rattle.hunk_words.specs.PendingBytes.{pending_of}
 use Rattle.hunk_blocks.specs.{Faults.words, declared.phase.Phase.Phase}
 use Rattle.hunk_files.specs.{Fault.IsTruncated, Image.{image, images}, LoadFile.{HunkValue, LoadFileValue, IsLoadFile}}
@@ -12,7 +12,7 @@ use Rattle.hunk_files.specs.ReaderPosition.{position_of, IsBehindHeader}
 use Rattle.hunk_grammar.specs.{Roles.Role, declared.phase.OpenHunk.OpenHunk, declared.position.Position.Position}
 use Rattle.hunk_grammar.specs.Positions.{is_done, least_longs, run}
 use Rattle.hunk_scatter.specs.{LoadOutcomes.GoesPastNoFile, Owing.{BytesToCome, FileOwes, run_of}}
-use Rattle.hunk_scatter.specs.{declared.store.BodyState.BodyState, StoreContent.HasSizedImage, BodyLoaderFields.IsFed}
+use Rattle.hunk_scatter.specs.{declared.store.BodyState.BodyState, StoreContent.HasSizedImage, BodyLoaderFields.{IsFed, StandsBehind}}
 use Rattle.hunk_scatter.specs.declared.stream.Standing.{Standing}
 use Rattle.hunk_scatter.specs.LoaderValues.{IsWholeFile, IsImageOf, HasNoRefusal, segments_in}
 use Rattle.hunk_scatter.specs.{BodyReader.{sizes_of, state_of}, BodySteps.IsInStore, Rows.{words_of, bases_of}}
@@ -93,6 +93,11 @@ done_least _ e = absurd cc
 module _ (rows : List Row) (store : List ℕ) (s : Standing) (fed : List ℕ) (h : IsFed rows store s fed) where
   abbrev pending : List ℕ
   pending = pending_of s.pending
+
+  -- Numbers and a store behind more bytes.
+  pub fed_more : (store2 : List ℕ) (to : Standing) (bytes : List ℕ) → length store2 ≡ length store → to.fed ≡ saturated (length (fed ++ bytes)) →
+      StandsBehind rows store2 to.state (pending_of to.pending) (fed ++ bytes) → IsFed rows store2 to (fed ++ bytes)
+  fed_more store2 to bytes same count r = search rules
 
   pub whole_file : is_done s.state.position ≡ true → IsWholeFile rows fed
   whole_file done = let e = file_read rows store s.state pending fed h.stands done in (e.0, e.1)
@@ -189,6 +194,13 @@ module _ (rows : List Row) (store : List ℕ) (s : Standing) (fed : List ℕ) (h
   pub not_whole : is_done s.state.position ≡ false → IsWholeFile rows fed → ⊥
   not_whole more w =
       (fed_truncated more).not_whole (record { value = w.0; is_load_file = w.1.is_load_file; rest = []; split = sym w.1.bytes_are ∙ sym (append-nil (bytes_of (text w.0))) })
+
+  pub done_if_whole : IsWholeFile rows fed → is_done s.state.position ≡ true
+  done_if_whole w = go (is_done s.state.position) refl
+    where
+      go : (b : Bool) → is_done s.state.position ≡ b → is_done s.state.position ≡ true
+      go true done = done
+      go false more = absurd (not_whole more w)
 
   at_least : (n : Next) → IsBehindHeader n → state_of n ≡ s.state → least_longs (position_of n) ≡ least_longs s.state.position
   at_least (More (AtBlock o)) b e = ap (λ (x : BodyState). least_longs x.position) e

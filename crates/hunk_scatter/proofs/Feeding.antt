@@ -9,8 +9,8 @@ use Rattle.hunk_words.proofs.LongLaws.{length-bytes_of}
 use Rattle.hunk_files.specs.{Fault.IsTruncated, LoadFile.{TableEntry, LoadFileValue, IsLoadFile}, LoadText.text}
 use Rattle.hunk_files.specs.declared.row.Row.{Row}
 use Rattle.hunk_scatter.specs.HeaderBytes.{IsHeaderTable, IsHeader, header_bytes, IsHeaderFront}
-use Rattle.hunk_scatter.specs.{HeaderFaults.{CompletesRow, IsHeaderFault, IsHeaderFaultBy}, LoaderValues.IsWholeFile}
 use Rattle.hunk_scatter.specs.LoadOutcomes.{Gives, GoesPastNoHeader, GoesPastNoFile}
+use Rattle.hunk_scatter.specs.{HeaderFaults.{CompletesRow, IsHeaderFault, IsHeaderFaultBy}, LoaderValues.IsWholeFile}
 use Rattle.hunk_words.specs.declared.reason.Reason.TheVariants as reasons
 
 no_less : (m n : ℕ) → (m < n → ⊥) → n ≤ m

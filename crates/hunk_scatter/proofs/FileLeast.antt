@@ -8,9 +8,9 @@ use Rattle.hunk_grammar.specs.{Positions.{end_least, least_in, least_longs}, Rol
 use Rattle.hunk_grammar.specs.declared.phase.OpenHunk.{OpenHunk}
 use Rattle.hunk_files.specs.Fault.{completing}
 use Rattle.hunk_files.specs.FileSteps.{Progress, AtBlock, InBody, Next, More, Finished, role_of, step_file, Leads}
-use Rattle.hunk_files.specs.{LoadFile.{LoadFileValue, IsLoadFile}, LoadText.text}
 use Rattle.hunk_files.specs.ReaderPosition.{IsBehindHeader, block_phase, open_of, position_of}
 use Rattle.hunk_files.specs.WordsRead.{HasRead, Labelled}
+use Rattle.hunk_files.specs.{LoadFile.{LoadFileValue, IsLoadFile}, LoadText.text}
 use Rattle.hunk_files.proofs.{Completion.{IsOwed, completes}, FileProgress.ProgressFits, Positions.step_position}
 use Rattle.hunk_files.proofs.Reading.{read_ended, reads, step_read}
 use Rattle.hunk_scatter.proofs.Forget.{step_behind}

@@ -16,8 +16,8 @@ use Rattle.hunk_scatter.specs.HeaderLoaderFields.{adds, declares, RefusesWord, H
 use Rattle.hunk_scatter.specs.{HeaderFaults.{ExceedsBudget, IsBudgetOrMemory}, HeaderOwing.HeaderOwes}
 use Rattle.hunk_scatter.specs.{HeaderSizes.{RefusesHeader, TellsOwed}, Rows.{entries_of, row_of}}
 use Rattle.hunk_scatter.proofs.HeaderFields.{heading_new, heading_room, heading_pending, heading_word, heading_table, heading_total, heading_truncated, heading_within, heading_not_whole, heading_as}
-use Rattle.hunk_scatter.proofs.{HeaderEnds.heading_ends, HeaderOwed.owes_header}
 use Rattle.hunk_scatter.proofs.HeaderStops.{header_longs, stop_refused, stop_passes, stop_accepts}
+use Rattle.hunk_scatter.proofs.{HeaderEnds.heading_ends, HeaderOwed.owes_header}
 
 -- Longwords of a header were read up to this byte, and rows may be named that they complete.
 pub record HeaderSoFar (budget : ℕ) (bytes : List ℕ) (s : HeaderState) (at : ℕ) : Type 0 where

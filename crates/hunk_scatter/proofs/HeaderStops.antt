@@ -21,8 +21,8 @@ use Rattle.hunk_scatter.proofs.Behind.{stays_behind, table_behind, expected_pass
 use Rattle.hunk_scatter.proofs.HeaderGrows.{row_in_table, table_grows}
 use Rattle.hunk_scatter.proofs.HeaderReads.{here, read_here, position_here, refusal_is, sum_here}
 use Rattle.hunk_scatter.proofs.HeaderSteps.{IsInHeader, not_in_body, declares_some, step_adds, step_opens}
-use Rattle.hunk_scatter.proofs.{HeaderTexts.{header_read, rows_read}, ReadWords.{read_longs, accepted_longs}}
 use Rattle.hunk_scatter.proofs.Splits.{Cuts, Same, Before, Behind, cuts, fronts}
+use Rattle.hunk_scatter.proofs.{HeaderTexts.{header_read, rows_read}, ReadWords.{read_longs, accepted_longs}}
 
 -- the fault of a reason that is neither Budget nor OutOfMemory
 plain_fault : (r : Reason) (budget : ℕ) (bytes : List ℕ) (at : ℕ) → IsTrue (is_word_refusal r) → HasRefusal bytes at r → IsHeaderFaultBy r budget bytes at

@@ -14,8 +14,8 @@ use Rattle.hunk_scatter.specs.{LoaderReasons.{is_of_header, is_of_file}, HeaderB
 use Rattle.hunk_scatter.specs.HeaderFaults.{ExceedsBudget, IsOverBudget, IsHeaderFaultBy}
 use Rattle.hunk_scatter.specs.LoaderValues.{ImageValue, MayGoOnInFile, IsImageOf}
 use Rattle.hunk_scatter.specs.LoadOutcomes.{Gives, IsHeaderWithin, GoesPastNoFile, IsReadFault, StopsInHeader, StopsShort, IsBodyStop, KeepsToHeader, LoadStop, InHeader, Between, InBody, LoadEnds, Loads}
-use Rattle.hunk_scatter.specs.{Placing.{Placing, AreBases, HasBases, IsUnplacedFor}, declared.loading.Limits.Limits}
 use Rattle.hunk_scatter.specs.Rows.{entries_of, bases_of}
+use Rattle.hunk_scatter.specs.{Placing.{Placing, AreBases, HasBases, IsUnplacedFor}, declared.loading.Limits.Limits}
 use Rattle.hunk_scatter.proofs.{Faults.{refusal_more, no_refusal_on}, Feeding.fronts_of}
 use Rattle.hunk_scatter.proofs.HeaderFronts.{one_table, text_header, table_within, passes_more, passes_front, refused_front}
 use Rattle.hunk_scatter.proofs.LoadLaws.{IsSplit, split_of, stop_is}

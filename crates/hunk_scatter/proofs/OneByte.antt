@@ -6,8 +6,8 @@ use Rattle.hunk_words.specs.{declared.reason.Reason.Reason, Bits.size_longs, Lon
 use Rattle.hunk_files.specs.{Fault.HasRefusal, Image.{declared_bytes, images}, LoadFile.{TableEntry, LoadFileValue}}
 use Rattle.hunk_files.specs.LoadText.{table}
 use Rattle.hunk_files.specs.FileSteps.{HunkSoFar, Progress, AtBlock, InBody, Next, More, Finished, place_of, role_of, step_file}
-use Rattle.hunk_files.specs.{WordsRead.HasRead, declared.row.Row.Row}
 use Rattle.hunk_files.specs.ReaderPosition.{open_of, block_phase, open_table, table_of, IsBehindHeader}
+use Rattle.hunk_files.specs.{WordsRead.HasRead, declared.row.Row.Row}
 use Rattle.hunk_grammar.specs.{Roles.refuse, Positions.is_done}
 use Rattle.hunk_blocks.specs.BlockSteps.{ForName, ForCode, SizedCode, SizedData, Inside, AtCount, AtSize, InPayload, InOffsets, InExtName}
 use Rattle.hunk_blocks.specs.{ReaderPhase.phase_of, Values.BlockValue, declared.phase.Phase.Phase}
@@ -18,9 +18,9 @@ use Rattle.hunk_blocks.proofs.Lists.{All-more}
 use Rattle.hunk_grammar.specs.declared.position.Position.TheVariants as positions
 use Rattle.hunk_scatter.specs.declared.store.BodyState.{BodyState}
 use Rattle.hunk_scatter.specs.StoreContent.{StoreHolds, HasSizedImage, stored_long}
+use Rattle.hunk_scatter.specs.BodySteps.{refusal, step_body, RoomFor, IsInStore}
 use Rattle.hunk_scatter.specs.{BodyLoaderFields.{EndsWhole, StandsBehind}, LoaderValues.IsFileWithRows}
 use Rattle.hunk_scatter.specs.{Rows.{entries_of, words_of, bases_of}, BodyReader.{sizes_of, state_at, state_of}}
-use Rattle.hunk_scatter.specs.BodySteps.{refusal, step_body, RoomFor, IsInStore}
 use Rattle.hunk_scatter.proofs.ReadWords.{read_longs}
 use Rattle.hunk_scatter.proofs.Forget.{before_is, step_state, step_table, step_behind, refusal_same, sizes-at, sizes-length}
 use Rattle.hunk_scatter.proofs.Scatter.{step_holds}

@@ -2,8 +2,8 @@
 use Rattle.std.proofs.Common.{◌≡◌, ℕ, zero, suc, ◌/◌, ◌^◌, ◌≤◌, cond, List, [], ◌∷◌, ◌++◌, Option, Some, None, refl, sym, ap, ap₂, subst, ◌∙◌, arith}
 use Rattle.hunk_blocks.specs.Values.{ExtEntry, SymbolEntry, RelocGroup}
 use Rattle.hunk_blocks.specs.BlockSteps.{ForName, Filling, Counted, SizedCode, Inside, AtCount, InPayload, InOffsets, InName, InExtName, InExtOffsets, fill, relocate, name_entry, name_external, refer}
-use Rattle.hunk_blocks.specs.{Faults.words, declared.ext_shape.ExtShape.ExtShape}
 use Rattle.hunk_blocks.specs.declared.ext_shape.ExtShape.TheVariants.{Definition, References, Common}
+use Rattle.hunk_blocks.specs.{Faults.words, declared.ext_shape.ExtShape.ExtShape}
 use Rattle.hunk_blocks.specs.{ExtKinds.ext_shape, ReaderPhase.front_phase}
 use Rattle.hunk_files.specs.{LoadFile.{LoadFileValue, IsLoadFile}, LoadText.labelled}
 use Rattle.hunk_files.specs.FileSteps.{HunkSoFar, Progress, AtFirst, InBody, Next, More, Finished, role_of, after, step_file, Leads}

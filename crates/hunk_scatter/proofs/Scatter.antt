@@ -1,7 +1,7 @@
 -- Each longword keeps what the store holds.
 use Rattle.std.proofs.Common.{rules, ◌≡◌, ℕ, suc, ◌+◌, ◌-◌, ◌*◌, ◌≤◌, Bool, true, false, List, [], ◌∷◌, ◌++◌, length, get_or, replicate, refl, sym, ap, ap₂, ◌∙◌, append_assoc, append-nil, arith, length-append, ltb, None}
-use Rattle.std.specs.{List.{flat_map, AllByRecursion}, Int.{w32, to_be_bytes}}
 use Rattle.std.proofs.lemmas.{Bool.ltb-false, List.Sums.sum_by-cons, List.length-replicate}
+use Rattle.std.specs.{List.{flat_map, AllByRecursion}, Int.{w32, to_be_bytes}}
 use Rattle.hunk_words.specs.{declared.block_word.Kind.Kind, Bits.{size_longs, kind}, Longs.{bytes_of, IsLong}}
 use Rattle.hunk_words.specs.declared.block_word.Kind.TheVariants as kinds
 use Rattle.hunk_words.specs.declared.reason.Reason.TheVariants as reasons

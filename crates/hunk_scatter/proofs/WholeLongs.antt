@@ -7,8 +7,8 @@ use Rattle.hunk_files.specs.{Fault.HasRefusal, declared.row.Row.Row}
 use Rattle.hunk_grammar.specs.{Positions.{is_done, run}, declared.position.Position.Position}
 use Rattle.hunk_scatter.specs.declared.store.BodyState.{BodyState}
 use Rattle.hunk_scatter.specs.BodyLoaderFields.{ReadsOn, ReadyAt, RefusesFirstLong, StandsBehind, TakesOrRefuses}
-use Rattle.hunk_scatter.specs.{BodySteps.{refusal, step_body, pass_body, IsInStore}, Rows.{words_of, bases_of}}
 use Rattle.hunk_scatter.specs.StoreContent.{stored_long, stored_run}
+use Rattle.hunk_scatter.specs.{BodySteps.{refusal, step_body, pass_body, IsInStore}, Rows.{words_of, bases_of}}
 use Rattle.hunk_scatter.proofs.{Faults.refusal_front, OneByte.{Going, going, more_read, refused_here, stands_as}}
 use Rattle.hunk_scatter.proofs.{Refusing.refused_in_body, Runs.{read_run, take_bytes}, Staying.{stays_as, word_stays}}
 use Rattle.hunk_words.proofs.LongLaws.{in_place, length-bytes_of}
