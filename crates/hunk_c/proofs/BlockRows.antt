@@ -1,5 +1,5 @@
 -- What the caller sees of a block.
-use Rattle.std.proofs.Common.{◌≡◌, ℕ, ◌+◌, ◌*◌, List, [], ◌∷◌, length, Some, refl, ap, ap₂, ◌∙◌, arith, length-append}
+use Rattle.std.proofs.Common.{rules, ◌≡◌, ℕ, ◌+◌, ◌*◌, List, [], ◌∷◌, length, Some, refl, ap, ◌∙◌, arith, length-append}
 use Rattle.std.proofs.lemmas.{List.Sums.sum_by-cons, List.length-map}
 use Rattle.hunk_words.specs.{Carriers.saturated, Longs.bytes_of}
 use Rattle.hunk_words.proofs.LongLaws.{length-bytes_of}
@@ -34,8 +34,7 @@ payload_len block words len is size = size ∙ payload_text block.word block.bod
 
 -- two spans that end at one byte, and have as many bytes
 pub same_span : (a b : Span) → a.place + a.bytes ≡ b.place + b.bytes → a.bytes ≡ b.bytes → a ≡ b
-same_span a b end bytes =
-    ap₂ (λ (p n : ℕ). record { place = p; bytes = n }) (omega (arith, end, bytes)) bytes
+same_span a b end bytes = search rules
 
 -- ---- the rows of relocations
 

@@ -1,5 +1,5 @@
 -- Rows that are written in turn.
-use Rattle.std.proofs.Common.{◌≡◌, ℕ, zero, suc, ◌+◌, ◌≤◌, List, [], ◌∷◌, length, map, take, set, slice_get, Some, sym, ap, ap₂, subst, ◌∙◌, add-one, arith}
+use Rattle.std.proofs.Common.{rules, ◌≡◌, ℕ, zero, suc, ◌+◌, ◌≤◌, List, [], ◌∷◌, length, map, take, set, slice_get, Some, sym, ap, ap₂, subst, ◌∙◌, add-one, arith}
 use Rattle.std.proofs.lemmas.List.{take_all, length-set}
 
 module _ {Value Row : Type 0} (row_of : Value → Row) where
@@ -12,9 +12,7 @@ module _ {Value Row : Type 0} (row_of : Value → Row) where
       take (suc i) (set written i (row_of v)) ≡ map row_of (take (suc i) values)
   front_more [] written i v l is e = absurd cc
   front_more (x ∷ values) [] i v l is e = absurd (omega (arith, l))
-  front_more (x ∷ values) (y ∷ written) zero v l is e =
-      let same : x ≡ v = cc in
-      ap (λ (u : Value). row_of u ∷ []) (sym same)
+  front_more (x ∷ values) (y ∷ written) zero v l is e = search rules
   front_more (x ∷ values) (y ∷ written) (suc i) v l is e =
       let head : y ≡ row_of x = cc in
       let tail : take i written ≡ map row_of (take i values) = cc in

@@ -1,12 +1,10 @@
 -- What a load comes to, by its stages.
-use Rattle.std.proofs.Common.{◌≡◌, ℕ, ◌-◌, ◌^◌, ◌≤◌, List, ◌++◌, length, take, drop, sym, ap, ap₂, subst, ◌∙◌, arith, inl, inr}
-use Rattle.std.specs.Prelude.{IsTrue, false}
+use Rattle.std.proofs.Common.{rules, ◌≡◌, ℕ, ◌-◌, ◌^◌, ◌≤◌, List, ◌++◌, length, take, drop, sym, ap, ap₂, ◌∙◌, arith, inl, inr}
 use Rattle.std.proofs.lemmas.List.{length-map, length-take-le}
 use Rattle.hunk_words.specs.{Longs.bytes_of, declared.fault.Fault.Fault, declared.reason.Reason.Reason}
 use Rattle.hunk_words.specs.declared.reason.Reason.TheVariants as reasons
-use Rattle.hunk_files.specs.Fault.{BeginsWithLoadFile, HasFault, HasRefusal, is_word_refusal}
+use Rattle.hunk_files.specs.Fault.{BeginsWithLoadFile, HasFault, HasRefusal}
 use Rattle.hunk_files.specs.{Image.{declared_bytes, images}, LoadFile.{TableEntry, HunkValue}, LoadText.{table, text}}
-use Rattle.hunk_files.proofs.Refusals.{refusal_of_word}
 use Rattle.hunk_scatter.specs.HeaderBytes.{BeginsWithHeader}
 use Rattle.hunk_scatter.specs.HeaderSizes.{HasHeaderInFront, HasHeaderSize, RefusesHeader}
 use Rattle.hunk_scatter.specs.Placing.{Placing, HasBases, IsFirstUnplaced}
@@ -24,15 +22,12 @@ answer number hunk place count = record { number = number; hunk = hunk; place = 
 pub same_answer : (number h k p q m n : ℕ) → h ≡ k → p ≡ q → m ≡ n →
     ◌≡◌ {A = Answer} (record { number = number; hunk = h; place = p; count = m }) (record { number = number; hunk = k; place = q; count = n })
 unfolding answer
-same_answer number h k p q m n e f g =
-    ap (λ (x : ℕ). answer number x p m) e ∙ ap (λ (x : ℕ). answer number k x m) f ∙ ap (λ (x : ℕ). answer number k q x) g
+same_answer number h k p q m n e f g = search rules
 
 -- ---- refusals
 
 no_reason : (bytes : List ℕ) (at : ℕ) (reason : Reason) → HasRefusal bytes at reason → reason ≡ reasons.Budget → ⊥
-no_reason bytes at reason h e =
-    let no : IsTrue false = subst (λ (x : Reason). IsTrue (is_word_refusal x)) e (refusal_of_word bytes at reason h) in
-    absurd cc
+no_reason bytes at reason h e = search rules
 
 -- No header is in front.
 pub no_header : (base : Placing) (room : ℕ) (bytes : List ℕ) (answer : Answer) (f : Fault) → RefusesHeader (2 ^ 64 - 1) bytes f → (HasHeaderInFront bytes → f.reason ≡ reasons.Budget) → answer ≡ refused f → IsNotLoaded base room bytes answer

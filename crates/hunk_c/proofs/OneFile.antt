@@ -1,5 +1,5 @@
 -- Bytes are one file, or begin with one.
-use Rattle.std.proofs.Common.{◌≡◌, ℕ, ◌+◌, ◌<◌, ◌≤◌, List, [], ◌∷◌, ◌++◌, length, get_or, sym, ap, ap₂, ◌∙◌, append-nil, arith, length-append, inl, inr}
+use Rattle.std.proofs.Common.{rules, ◌≡◌, ℕ, ◌+◌, ◌<◌, ◌≤◌, List, [], ◌∷◌, ◌++◌, length, sym, ap, ap₂, ◌∙◌, append-nil, arith, length-append, inl, inr}
 use Rattle.std.specs.List.{flat_map}
 use Rattle.hunk_words.specs.Longs.{AreLongs, IsLong, bytes_of, longs}
 use Rattle.hunk_words.proofs.LongLaws.{longs-bytes_of}
@@ -7,9 +7,9 @@ use Rattle.hunk_blocks.specs.{Parts.block_text, Values.IsBlock}
 use Rattle.hunk_blocks.proofs.{BlockLongs.block_longs, Lists.All-append}
 use Rattle.hunk_files.specs.Fault.{BeginsWithLoadFile}
 use Rattle.hunk_files.specs.HunkFile.{AreFile, AreObjectFile, IsFileOf, bytes_behind, file_bytes, stripped}
-use Rattle.hunk_files.specs.{LoadFile.LoadFileValue, LoadText.text}
 use Rattle.hunk_files.specs.ObjectFile.{ObjectFileValue, ObjectHunk, UnitValue, IsObjectHunk, IsUnit, object_text, unit_header, unit_text}
 use Rattle.hunk_files.specs.declared.hunk_file.HunkFile.{HunkFile}
+use Rattle.hunk_files.specs.{LoadFile.LoadFileValue, LoadText.text}
 use Rattle.hunk_files.specs.declared.hunk_file.HunkFile.TheVariants as files
 use Rattle.hunk_files.proofs.{Accepted.All-flat_map, UnitCutLaws.object_value, Scan.{begun_longs, one_front}}
 use Rattle.hunk_files.proofs.{StripSteps.shorter, StripText.bytes_shorter, TableReading.text_is}
@@ -52,9 +52,7 @@ one_object bytes a b = object_value a.value b.value a.is_object_file b.is_object
 
 begins_unit : (o : ObjectFileValue) (ws : List ℕ) → 0 < length o → object_text o ≡ 0x3F3 ∷ ws → ⊥
 begins_unit [] ws some e = omega (arith, some)
-begins_unit (u ∷ o) ws some e =
-    let first : ◌≡◌ {A = ℕ} 0x3E7 0x3F3 = ap (λ (xs : List ℕ). get_or xs 0 0) e in
-    omega (arith, first)
+begins_unit (u ∷ o) ws some e = search rules
 
 not_both : (bytes : List ℕ) → BeginsWithLoadFile bytes → AreObjectFile bytes → ⊥
 not_both bytes l o =
@@ -81,8 +79,7 @@ file_size bytes (files.Load value rest) is = omega (
   ap (λ (xs : List ℕ). length xs) is.0.split,
   length-append (bytes_of (text is.0.value)) is.0.rest,
 )
-file_size bytes (files.Object value) is =
-    omega (arith, ap (λ (o : ObjectFileValue). length (bytes_of (object_text o))) is.1, ap (λ (xs : List ℕ). length xs) is.0.text_is)
+file_size bytes (files.Object value) is = search rules
 
 -- an object file is all of the bytes
 pub object_size : (bytes : List ℕ) (o : ObjectFileValue) → IsFileOf bytes (files.Object o) → length bytes ≡ length (file_bytes (files.Object o))

@@ -1,7 +1,7 @@
 -- Hunks one right after the other, by a table that is read where it lies.
-use Rattle.std.proofs.Common.{◌≡◌, ℕ, zero, suc, ◌+◌, ◌-◌, ◌*◌, ◌/◌, ◌%◌, ◌^◌, ◌<◌, ◌≤◌, Bool, true, false, List, [], ◌∷◌, ◌++◌, length, take, get_or, set, slice_get, Option, Some, None, refl, sym, ap, ap₂, subst, ◌∙◌, arith, if◌then◌else◌, ltb, inl, inr, ◌⊎◌, nat_le, nat_lt, add-one}
+use Rattle.std.proofs.Common.{rules, ◌≡◌, ℕ, zero, suc, ◌+◌, ◌-◌, ◌*◌, ◌/◌, ◌%◌, ◌^◌, ◌<◌, ◌≤◌, Bool, true, false, List, [], ◌∷◌, ◌++◌, length, take, get_or, set, slice_get, Option, Some, None, refl, sym, ap, ap₂, subst, ◌∙◌, arith, if◌then◌else◌, ltb, inl, inr, ◌⊎◌, nat_le, nat_lt, add-one}
 use Rattle.std.proofs.lemmas.{Bool.{ltb-true, ltb-false}, Bool.Decides.nat_tests}
-use Rattle.std.proofs.lemmas.List.{get_or-set_other, get_or-set_same, length-take-le}
+use Rattle.std.proofs.lemmas.List.{length-take-le}
 use Rattle.hunk_words.specs.{Bits.{entry_longs, has_both_bits, size_longs}, Longs.longs}
 use Rattle.hunk_blocks.specs.Cuts.{Cut}
 use Rattle.hunk_files.specs.{Cuts.table_cut, Image.declared_bytes, LoadFile.TableEntry}
@@ -22,9 +22,7 @@ no_entry = record { word = 0; extra = 0 }
 
 declared_next : (t : List TableEntry) (i : ℕ) (e : TableEntry) → slice_get t i ≡ Some e → declared_bytes (take (suc i) t) ≡ declared_bytes (take i t) + 4 * size_longs e.word
 declared_next [] i e is = absurd cc
-declared_next (x ∷ t) zero e is =
-    let same : x ≡ e = cc in
-    omega (arith, declared-cons x [], ap (λ (y : TableEntry). 4 * size_longs y.word) same)
+declared_next (x ∷ t) zero e is = search rules
 declared_next (x ∷ t) (suc i) e is = omega (arith, declared-cons x (take (suc i) t), declared-cons x (take i t), declared_next t i e is)
 
 -- ---- rows
@@ -139,10 +137,7 @@ module _ (bytes : List ℕ) (t : List TableEntry) (h : BeginsWithHeader bytes t)
 
       each_by : (i : ℕ) (b : Bool) → ltb i hunk ≡ b → i < hunk + 1 → start + declared_bytes (take i t) < 2 ^ 32
       each_by i true e less = s.each i (ltb-true i hunk e)
-      each_by i false e less =
-          let above : hunk ≤ i = ltb-false i hunk e in
-          let same : i ≡ hunk = omega (arith, above, less) in
-          subst (λ (k : ℕ). start + declared_bytes (take k t) < 2 ^ 32) (sym same) (omega (arith, low, s.is_row.base_is))
+      each_by i false e less = search rules
 
   pub packed_not : (2 ^ 32 ≤ base) ⊎ (2 ^ 32 < base2) → IsFirstUnplaced (packed_from start) t hunk
   packed_not why = record {
@@ -179,17 +174,7 @@ pub record NearSoFar {bytes : List ℕ} {hunks start : ℕ} {marks : List Mark} 
 -- one base more stands there
 near_more : (bases near : List ℕ) (number hunk base : ℕ) → hunk / hunks_a_mark ≡ number → length near ≡ hunks_a_mark → base ≡ get_or bases hunk 0 → AreNearTo bases number near hunk →
     AreNearTo bases number (set near (hunk % hunks_a_mark) base) (hunk + 1)
-near_more bases near number hunk base here long is are i less same = by_order (ltb i hunk) refl
-  where
-    by_order : (b : Bool) → ltb i hunk ≡ b → get_or (set near (hunk % hunks_a_mark) base) (i % hunks_a_mark) 0 ≡ get_or bases i 0
-    by_order true e =
-        let before : i < hunk = ltb-true i hunk e in
-        get_or-set_other near (hunk % hunks_a_mark) (i % hunks_a_mark) base 0 (λ k. omega (arith, before, same, here, k)) ∙ are i before same
-    by_order false e =
-        let above : hunk ≤ i = ltb-false i hunk e in
-        let last : i ≡ hunk = omega (arith, above, less) in
-        subst (λ (k : ℕ). get_or (set near (hunk % hunks_a_mark) base) (k % hunks_a_mark) 0 ≡ get_or bases k 0) (sym last)
-        (get_or-set_same near (hunk % hunks_a_mark) base 0 (omega (arith, long)) ∙ is)
+near_more bases near number hunk base here long is are i less same = search rules
 
 module _ (bytes : List ℕ) (hunks start : ℕ) (marks : List Mark) (p : ArePacked bytes hunks start marks) where
   pub has_base : (hunk : ℕ) → hunk < length (bases_in start hunks bytes) → hunk < hunks
@@ -200,10 +185,7 @@ module _ (bytes : List ℕ) (hunks start : ℕ) (marks : List Mark) (p : ArePack
     mark_inside = omega (arith, less, p.hunks_are, p.header.is_table.most, p.size)
 
     pub none_near : (near : List ℕ) (base : ℕ) → base ≡ (get_or marks number no_mark).base → NearSoFar p number near (hunks_a_mark * number) (get_or marks number no_mark).longword base
-    none_near near base e = record {
-      is_row = subst (IsRow p.header start (hunks_a_mark * number) (get_or marks number no_mark).longword) (sym e) (p.are_marks number less);
-      are_near = λ i before same. absurd (omega (arith, before, same));
-    }
+    none_near near base e = search rules
 
   module _ (number : ℕ) (near : List ℕ) (hunk at base : ℕ) (s : NearSoFar p number near hunk at base) (less : hunk < hunks) where
     inside : hunk < length p.table

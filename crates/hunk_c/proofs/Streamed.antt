@@ -1,9 +1,9 @@
 -- What a loader in numbers stands for, and what it comes to at the end.
-use Rattle.std.proofs.Common.{◌≡◌, ◌+◌, ◌-◌, ◌*◌, ◌/◌, ◌%◌, ◌<◌, ◌≤◌, ◌==◌, ℕ, zero, suc, Bool, true, false, not, List, [], ◌∷◌, length, take, Option, None, Some, ◌++◌, refl, sym, ap, subst, ◌∙◌, arith, append-nil, inr, length-append, length-take}
+use Rattle.std.proofs.Common.{rules, ◌≡◌, ◌+◌, ◌-◌, ◌*◌, ◌/◌, ◌%◌, ◌<◌, ◌≤◌, ◌==◌, ℕ, zero, suc, Bool, true, false, not, List, [], ◌∷◌, length, take, None, Some, ◌++◌, refl, sym, ap, subst, ◌∙◌, arith, append-nil, inr, length-append, length-take}
 use Rattle.hunk_words.specs.{Carriers.saturated, Longs.{bytes_of, IsBytes}, PendingBytes.pending_of}
 use Rattle.hunk_words.specs.declared.pending.Pending.{Pending}
 use Rattle.hunk_words.specs.declared.reason.Reason.TheVariants as reasons
-use Rattle.hunk_grammar.specs.{Positions.{is_done, onward, pass, behind as ended}, declared.phase.OpenHunk.OpenHunk}
+use Rattle.hunk_grammar.specs.{Positions.{is_done, pass}, declared.phase.OpenHunk.OpenHunk}
 use Rattle.hunk_grammar.specs.{declared.position.Position.Position, Roles.Place}
 use Rattle.hunk_grammar.specs.declared.position.Position.TheVariants as positions
 use Rattle.hunk_files.specs.{Fault.HasFault, FileSteps.{AtBlock, InBody, Next, More, Finished, place_of}, Image.images}
@@ -11,17 +11,17 @@ use Rattle.hunk_files.specs.{LoadFile.{LoadFileValue, IsLoadFile}, LoadText.{tab
 use Rattle.hunk_files.specs.{ReaderPosition.{IsBehindHeader, block_phase, table_of}, WordsRead.HasRead}
 use Rattle.hunk_files.specs.declared.row.Row.{Row}
 use Rattle.hunk_blocks.specs.BlockSteps.{ForName, ForCode, Counted, Inside, AtCount, AtSize, InPayload}
-use Rattle.hunk_blocks.specs.{PhaseSteps.owe_payload, ReaderPhase.phase_of, Values.BlockValue}
+use Rattle.hunk_blocks.specs.{ReaderPhase.phase_of, Values.BlockValue}
 use Rattle.hunk_blocks.specs.declared.phase.Phase.TheVariants as phases
 use Rattle.hunk_files.proofs.{FileProgress.Reads, HunkProgress.Within, Reading.{read_ended, reads}}
 use Rattle.hunk_scatter.specs.{BodyLoaderFields.{StandsBehind, EndsWhole}, BodyReader.{state_at, state_of}}
 use Rattle.hunk_scatter.specs.{LoaderValues.told_place, Rows.{bases_of, entries_of}, StoreContent.StoreHolds}
 use Rattle.hunk_scatter.specs.{Streaming.{EndsLoading, IsFed}, declared.store.BodyState.BodyState}
 use Rattle.hunk_scatter.specs.declared.stream.Standing.{Standing}
-use Rattle.hunk_scatter.proofs.{BodyFields.{done_if_whole, fed_more, in_room}, Forget.before_is, OneByte.not_done}
+use Rattle.hunk_scatter.proofs.{BodyFields.{done_if_whole, fed_more, in_room}, Forget.before_is}
 use Rattle.hunk_scatter.proofs.WholeLongs.{run_taken}
 use Rattle.hunk_c.specs.{declared.loader.Loader.Loader, Answers.done}
-use Rattle.hunk_c.specs.Streams.{IsStreamed, PassesOver, Stands, is_external, loader_position, position_in, standing_at, standing_of, stands_in_body, unused}
+use Rattle.hunk_c.specs.Streams.{IsStreamed, PassesOver, Stands, is_external, position_in, standing_at, standing_of, stands_in_body, unused}
 use Rattle.hunk_c.proofs.Loaded.{same_answer}
 
 -- ---- where a loader stands
@@ -80,9 +80,7 @@ in_payload l payload = ap (λ (n : ℕ). standing_at l (position_in (hunk_at l) 
 -- Behind longwords of a payload, as many as are owed at most.
 pass_payload : (hunk : OpenHunk) (owed n : ℕ) → 0 < n → n ≤ owed → pass (positions.Body hunk (phases.Payload owed)) n ≡ positions.Body hunk (phases.Payload (owed - n))
 pass_payload hunk owed zero some few = absurd (omega (arith, some))
-pass_payload hunk owed (suc n) some few =
-    let left : owed - n ≡ suc (owed - suc n) = omega (arith, few) in
-    ap (λ (k : ℕ). onward hunk (ended hunk (phases.Payload owed)) (owe_payload k)) left
+pass_payload hunk owed (suc n) some few = search rules
 
 none_pending : (p : Pending) → p.count ≡ 0 → pending_of p ≡ []
 none_pending p clean = ap (λ (n : ℕ). pending_of (record { count = n; first = p.first; second = p.second; third = p.third })) clean
@@ -151,17 +149,7 @@ pub record Tells (l : Loader) (at : Standing) : Type 0 where
   pub fed : at.fed ≡ l.fed
 
 pub tells : (l : Loader) (at : Standing) → standing_of l ≡ Some at → Tells l at
-tells l at e = go (loader_position l) e
-  where
-    go : (o : Option Position) → standing_at l o ≡ Some at → Tells l at
-    go None d = absurd cc
-    go (Some p) d =
-        let same = some_is _ at d in
-        record {
-          hunk = ap (λ (s : Standing). s.state.hunk) (sym same);
-          start = ap (λ (s : Standing). s.state.start) (sym same);
-          fed = ap (λ (s : Standing). s.fed) (sym same);
-        }
+tells l at e = search rules
 
 -- ---- the end
 
@@ -178,9 +166,7 @@ read_whole : (rows : List Row) (memory : List ℕ) (state : BodyState) (pending 
 read_whole rows memory state pending fed r done = go r.next r.read r.behind r.table_is r.state_is r.holds r.whole
   where
     go : (n : Next) → HasRead r.ws n → IsBehindHeader n → table_of n ≡ entries_of rows → state_of n ≡ state → StoreHolds (bases_of rows) n memory → EndsWhole n pending → IsRead rows memory fed state
-    go (More p) read b t s h w =
-        let more : is_done state.position ≡ false = ap (λ (x : BodyState). is_done x.position) (sym s) ∙ not_done p b in
-        absurd (cc (done, more))
+    go (More p) read b t s h w = search rules
     go (Finished v) read b t s h w =
         let e = read_ended r.ws v read in
         record {

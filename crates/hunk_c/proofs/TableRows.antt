@@ -1,11 +1,11 @@
 -- The rows of a table, read from the bytes that begin with its header.
-use Rattle.std.proofs.Common.{◌≡◌, ℕ, zero, suc, ◌+◌, ◌*◌, ◌<◌, ◌≤◌, Bool, true, false, List, [], ◌∷◌, ◌++◌, length, drop, get_or, Some, refl, sym, ap, subst, ◌∙◌, append_assoc, add-one, arith, if◌then◌else◌}
+use Rattle.std.proofs.Common.{rules, ◌≡◌, ℕ, zero, suc, ◌+◌, ◌*◌, ◌<◌, ◌≤◌, Bool, true, false, List, [], ◌∷◌, ◌++◌, length, drop, get_or, Some, refl, sym, ap, subst, ◌∙◌, add-one, arith, if◌then◌else◌}
 use Rattle.std.specs.List.{AllByRecursion, slice_get}
 use Rattle.std.proofs.lemmas.List.{drop-drop, get_or-drop, length-append, length-drop}
 use Rattle.hunk_words.specs.{Bits.has_both_bits, Longs.longs}
 use Rattle.hunk_words.proofs.LongLaws.{longs-bytes_of, length-longs}
 use Rattle.hunk_files.specs.LoadFile.{TableEntry, IsTableEntry}
-use Rattle.hunk_files.proofs.TableReading.{entries_words, entries_more, entry_words}
+use Rattle.hunk_files.proofs.TableReading.{entries_words}
 use Rattle.hunk_scatter.specs.HeaderBytes.{BeginsWithHeader, header_words}
 use Rattle.hunk_scatter.proofs.HeaderStops.{header_longs}
 use Rattle.hunk_c.specs.Packs.{RowStandsAt}
@@ -38,11 +38,7 @@ module _ (bytes : List ℕ) (t : List TableEntry) (h : BeginsWithHeader bytes t)
 
   here : (b : Bool) → has_both_bits e.entry.word ≡ b → drop at (longs bytes) ≡ (e.entry.word ∷ (if b then e.entry.extra ∷ [] else [])) ++ behind
   unfolding behind
-  here b both =
-      s
-      ∙ ap (λ (l : List TableEntry). entries_words l ++ longs h.rest) e.behind
-      ∙ ap (λ (l : List ℕ). l ++ longs h.rest) (entries_more e.entry (drop (suc i) t) ∙ ap (λ (l : List ℕ). l ++ entries_words (drop (suc i) t)) (entry_words e.entry b both))
-      ∙ append_assoc (e.entry.word ∷ (if b then e.entry.extra ∷ [] else [])) (entries_words (drop (suc i) t)) (longs h.rest)
+  here b both = search rules
 
   longword : (k : ℕ) → get_or (longs bytes) (at + k) 0 ≡ get_or (drop at (longs bytes)) k 0
   longword k = sym (get_or-drop at (longs bytes) k 0)

@@ -1,5 +1,5 @@
 -- What the rows of a table come to: the bytes of its header, and those that it declares.
-use Rattle.std.proofs.Common.{◌≡◌, ℕ, zero, suc, ◌+◌, ◌*◌, ◌^◌, ◌<◌, ◌≤◌, Bool, true, false, List, [], ◌∷◌, length, take, get_or, refl, sym, ap, subst, ◌∙◌, arith}
+use Rattle.std.proofs.Common.{rules, ◌≡◌, ℕ, zero, suc, ◌+◌, ◌*◌, ◌^◌, ◌<◌, ◌≤◌, Bool, true, false, List, [], ◌∷◌, length, take, get_or, refl, sym, ap, subst, ◌∙◌, arith}
 use Rattle.std.specs.{Prelude.if◌then◌else◌, List.{All, AllByRecursion, flat_map, sum_by}}
 use Rattle.std.proofs.lemmas.List.{length-append, length-map, take_all}
 use Rattle.std.proofs.lemmas.List.Elements.{All-more, All-map, recursion_from_All}
@@ -57,11 +57,7 @@ pub record AreSummed (rows : List Row) (i header bytes : ℕ) : Type 0 where
   pub bytes_room : bytes ≤ 2 ^ 32 * i
 
 entry_room : (word : ℕ) → 4 * entry_longs word ≤ 8
-entry_room word = go (has_both_bits word)
-  where
-    go : (b : Bool) → 4 * (if b then 2 else 1) ≤ 8
-    go true = omega arith
-    go false = omega arith
+entry_room word = search rules
 
 pub summed_more : (rows : List Row) (i header bytes size more : ℕ) (d r : Row) → i < length rows → r ≡ get_or rows i d → IsTableEntry (row_entry r) → size ≡ 4 * entry_longs r.word →
     more ≡ 4 * size_longs r.word → AreSummed rows i header bytes → AreSummed rows (i + 1) (header + size) (bytes + more)
