@@ -1,7 +1,6 @@
 -- Hexadecimal digits that are decoded in pieces.
 use Rattle.std.proofs.Common.{true, ◌≡◌, ℕ, ◌+◌, ◌%◌, ◌++◌, List, [], ◌∷◌, length, Option, Some, None, Result, Ok, Err, refl, sym, ap, ◌∙◌, arith, length-append}
-use Rattle.std.specs.List.{AllPass}
-use Rattle.std.specs.Result.{result_unwrap_or}
+use Rattle.std.specs.{List.AllPass, Result.result_unwrap_or}
 use Rattle.std.proofs.lemmas.List.Elements.{All-cons, All-head, All-nil, All-tail}
 use Rattle.hex.specs.Hex.{decode_of, decode_pairs, digit_or_error, hex_digit_value, is_hex_digit, pair_value, value_at, ◌>>=◌}
 use Rattle.hex.specs.declared.error.FromHexError.{FromHexError}

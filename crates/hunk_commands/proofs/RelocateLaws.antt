@@ -1,17 +1,10 @@
 -- What the fault of a load is to a run.
 use Rattle.std.proofs.Common.{◌≡◌, ◌⊎◌, ◌∙◌, ℕ, List, Result, Ok, Err, inl, inr, ap, ap₂, refl, sym, subst}
-use Rattle.hunk_words.specs.Carriers.{Outlet, Supply, Writing}
-use Rattle.hunk_words.specs.Puts.{PutsText}
-use Rattle.hunk_words.specs.declared.fault.Fault.{Fault}
-use Rattle.hunk_words.specs.declared.long_writer.WriteFault.{WriteFault}
-use Rattle.hunk_words.specs.declared.reason.Reason.{Reason}
+use Rattle.hunk_words.specs.{Carriers.{Outlet, Supply, Writing}, Puts.PutsText, declared.fault.Fault.Fault}
+use Rattle.hunk_words.specs.{declared.long_writer.WriteFault.WriteFault, declared.reason.Reason.Reason}
 use Rattle.hunk_words.specs.declared.reason.Reason.TheVariants as reasons
-use Rattle.hunk_scatter.specs.HeaderFaults.{IsOverBudget}
-use Rattle.hunk_scatter.specs.LoadOutcomes.{Loads}
-use Rattle.hunk_scatter.specs.LoaderValues.{ImageValue}
-use Rattle.hunk_scatter.specs.Placing.{packed_from}
-use Rattle.hunk_scatter.specs.Rows.{bases_of}
-use Rattle.hunk_scatter.specs.declared.loading.Limits.{Limits}
+use Rattle.hunk_scatter.specs.{HeaderFaults.IsOverBudget, LoadOutcomes.Loads, LoaderValues.ImageValue}
+use Rattle.hunk_scatter.specs.{Placing.packed_from, Rows.bases_of, declared.loading.Limits.Limits}
 use Rattle.hunk_listing.specs.SegmentLines.{segment_listing}
 use Rattle.hunk_commands.specs.declared.fault.RunFault.{RunFault}
 use Rattle.hunk_commands.specs.declared.fault.RunFault.TheVariants.{Memory, Refused, Write}

@@ -1,8 +1,7 @@
 use Rattle.std.proofs.Common.{rules, ◌+◌, ◌<◌, ◌≤◌, ◌++◌, length, take, length-append, refl, arith}
 use Rattle.std.proofs.KnownBytes.{Consumes-trans}
 use Rattle.std.proofs.lemmas.Result.{err_from_is_err_and}
-use Rattle.hunk_commands.specs.declared.fault.RunFault.TheVariants.{Memory}
-use Rattle.hunk_commands.specs.Inputs.{ReadsInVain}
+use Rattle.hunk_commands.specs.{declared.fault.RunFault.TheVariants.Memory, Inputs.ReadsInVain}
 use Rattle.hunk_commands.proofs.Engines.{handed}
 use Rattle.hunk_commands.proofs.input.read_all.Goals as goal
 use Rattle.hunk_commands.proofs.input.read_all.Goals.{then-room, else-room}

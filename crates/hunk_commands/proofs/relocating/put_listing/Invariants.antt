@@ -1,8 +1,7 @@
 use Rattle.std.proofs.Common.{◌≡◌, ◌+◌, ◌++◌, length}
 use Rattle.std.specs.Iterator.Adapters.{zip_first, zip_second}
 use Rattle.hunk_scatter.specs.Rows.{bases_of}
-use Rattle.hunk_listing.specs.FileLines.{numbered}
-use Rattle.hunk_listing.specs.SegmentLines.{segment_lines}
+use Rattle.hunk_listing.specs.{FileLines.numbered, SegmentLines.segment_lines}
 use Rattle.hunk_commands.specs.Relocating.{image_listing, segments_of}
 use Rattle.hunk_commands.proofs.relocating.put_listing.Given as goal
 

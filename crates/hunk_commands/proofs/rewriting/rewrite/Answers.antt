@@ -1,6 +1,5 @@
 use Rattle.hunk_commands.proofs.Engines.{reads_then_puts}
-use Rattle.hunk_commands.specs.Rewritten.{IsRewritten}
-use Rattle.hunk_commands.specs.declared.rewriting.Rewritten.{Rewritten}
+use Rattle.hunk_commands.specs.{Rewritten.IsRewritten, declared.rewriting.Rewritten.Rewritten}
 use Rattle.hunk_commands.proofs.rewriting.rewrite.Goals as goal
 
 pub returns-clause-rewrites : goal.returns-clause-rewrites

@@ -1,11 +1,8 @@
 use Rattle.std.proofs.Common.{ℕ, sym, subst}
 use Rattle.std.proofs.lemmas.Result.{err_from_is_err_and}
-use Rattle.hunk_files.specs.FileView.{file_of}
-use Rattle.hunk_files.specs.HunkFile.{bytes_behind, file_bytes}
-use Rattle.hunk_commands.specs.Rewritten.{IsRewritten, stripped_where}
-use Rattle.hunk_commands.specs.declared.rewriting.Rewritten.{Rewritten}
-use Rattle.hunk_commands.proofs.RewriteLaws.{rewritten}
-use Rattle.hunk_commands.proofs.Engines.{put_all, put_first, refuses}
+use Rattle.hunk_files.specs.{FileView.file_of, HunkFile.{bytes_behind, file_bytes}}
+use Rattle.hunk_commands.specs.{Rewritten.{IsRewritten, stripped_where}, declared.rewriting.Rewritten.Rewritten}
+use Rattle.hunk_commands.proofs.{RewriteLaws.rewritten, Engines.{put_all, put_first, refuses}}
 use Rattle.hunk_commands.proofs.rewriting.rewrite_bytes.Goals as goal
 
 pub returns-in_err-file-clause-rewrites : goal.returns-in_err-file-clause-rewrites

@@ -2,8 +2,7 @@ use Rattle.std.proofs.Common.{rules}
 use Rattle.std.proofs.lemmas.Result.{err_from_is_err_and}
 use Rattle.hunk_files.specs.FileView.{file_of}
 use Rattle.hunk_commands.specs.Shown.{IsShown, file_listing}
-use Rattle.hunk_commands.proofs.FileLaws.{shown_file}
-use Rattle.hunk_commands.proofs.Engines.{put_all, put_first, refuses}
+use Rattle.hunk_commands.proofs.{FileLaws.shown_file, Engines.{put_all, put_first, refuses}}
 use Rattle.hunk_commands.proofs.showing.show_bytes.Goals as goal
 
 pub returns-in_err-file : goal.returns-in_err-file

@@ -1,10 +1,8 @@
 use Rattle.std.proofs.Common.{rules, ◌≡◌, ℕ, sym, subst}
 use Rattle.std.proofs.lemmas.Result.{err_from_is_err_and}
 use Rattle.hunk_files.specs.FileView.{file_of}
-use Rattle.hunk_commands.specs.Reports.{finding_count, report}
-use Rattle.hunk_commands.specs.Validated.{IsValidated}
-use Rattle.hunk_commands.proofs.FileLaws.{validated_file}
-use Rattle.hunk_commands.proofs.Engines.{put_all, put_first, refuses}
+use Rattle.hunk_commands.specs.{Reports.{finding_count, report}, Validated.IsValidated}
+use Rattle.hunk_commands.proofs.{FileLaws.validated_file, Engines.{put_all, put_first, refuses}}
 use Rattle.hunk_commands.proofs.validating.validate_bytes.Goals as goal
 
 pub returns-in_err-file : goal.returns-in_err-file
