@@ -55,3 +55,12 @@ bogus_not_taken = refl
 bogus_fails : fault_of hunkinfo (words_read bogus) ≡ kind.UnknownArgument ∷ kind.InvalidSubcommand ∷ []
 unfolding clap_on_literals
 bogus_fails = refl
+
+-- the version is asked for by a flag, before any command
+version_asked : fault_of hunkinfo (words_read (codes "hunkinfo" ∷ codes "--version" ∷ [])) ≡ kind.DisplayVersion ∷ []
+unfolding clap_on_literals
+version_asked = refl
+
+short_version_asked : fault_of hunkinfo (words_read (codes "hunkinfo" ∷ codes "-V" ∷ [])) ≡ kind.DisplayVersion ∷ []
+unfolding clap_on_literals
+short_version_asked = refl

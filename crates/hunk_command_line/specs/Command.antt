@@ -30,9 +30,9 @@ abbrev pub rewrite_command : App
 rewrite_command = with_rule (with_rule (with_rule (new_app (codes "rewrite")) (flag (codes "strip")))
     (mandatory (new_rule (codes "IN")))) (mandatory (new_rule (codes "OUT")))
 
--- the program, of which one subcommand has to be named
+-- the program, which has a version, and of which one subcommand has to be named
 abbrev pub program : App
-program = record { top = record (new_shape (codes "hunkinfo")) { subcommand_required = true }; subs = [] }
+program = record { top = record (new_shape (codes "hunkinfo")) { has_version = true; subcommand_required = true }; subs = [] }
 
 -- the program with its subcommands
 abbrev pub hunkinfo : App

@@ -8,6 +8,10 @@ use std::error::Error;
 use std::fmt;
 use std::marker::Model;
 
+/// What is printed where the words ask for the version: the program's name and version, and the logic
+/// of the kit that it is proved with.
+pub const VERSION_LINE: &str = "hunkinfo 0.1.0 (proved with logic dac8208d650f15bf)\n";
+
 /// A file's name, as the command line has it.
 #[derive(Debug, Drop)]
 pub struct FileName {
@@ -86,10 +90,15 @@ pub enum Order {
 /// Why a command line is no order.
 #[derive(Debug, Drop)]
 pub enum OrderFault {
-    /// The words are none of the program's command lines.
-    Line,
+    /// The words are none of the program's command lines. The text says why, to a person, and ends
+    /// in a line end.
+    Line(String),
+    /// A word is not UTF-8.
+    NotText,
     /// The words ask for help, which is this text.
     Help(String),
+    /// The words ask for the version.
+    Version,
     /// Memory was refused.
     Memory,
 }
@@ -99,8 +108,9 @@ impl fmt::Display for OrderFault {
 
     fn fmt<W: fmt::Write>(&self, f: &mut fmt::Formatter<W>) -> fmt::Result {
         match self {
-            OrderFault::Line => write!(f, "command line refused"),
+            OrderFault::Line(_) | OrderFault::NotText => write!(f, "command line refused"),
             OrderFault::Help(text) => write!(f, "{text}"),
+            OrderFault::Version => write!(f, "{VERSION_LINE}"),
             OrderFault::Memory => write!(f, "out of memory"),
         }
     }

@@ -4,5 +4,5 @@
 mod asked;
 mod line;
 
-pub use crate::asked::{FileName, Order, OrderFault};
+pub use crate::asked::{FileName, Order, OrderFault, VERSION_LINE};
 pub use crate::line::order;

@@ -5,10 +5,11 @@ ghost use Rattle.clap.specs.Words.{found_of, kind_of, rows_of, subcommand_of, ta
 ghost use Rattle.clap.specs.Simple.{subcommand_rows_of};
 ghost use Rattle.hunk_command_line.specs.Command as spec;
 ghost use Rattle.hunk_command_line.specs.Asked.{AnswersOrder, FollowsClap, IsHelp, IsHelpOrMemory};
-ghost use Rattle.hunk_command_line.specs.Asked.{RefusesOrder};
-ghost use Rattle.hunk_command_line.specs.Line.{entered_order, order_of, relocate_order, rewrite_order};
-ghost use Rattle.hunk_command_line.specs.Line.{show_order, validate_order, words_read};
-ghost use Rattle.hunk_command_line.specs.declared.asked.OrderFault.TheVariants.{Memory};
+ghost use Rattle.hunk_command_line.specs.Asked.{IsLineOf, IsMemoryOr, RefusesOrder};
+ghost use Rattle.hunk_command_line.specs.FaultTexts.{unwanted_text};
+ghost use Rattle.hunk_command_line.specs.Line.{entered_order, order_of, relocate_order};
+ghost use Rattle.hunk_command_line.specs.Line.{rewrite_order, show_order, validate_order, words_read};
+ghost use Rattle.hunk_command_line.specs.declared.asked.OrderFault.TheVariants.{Memory, Version};
 
 mod command;
 mod matches;
@@ -28,6 +29,20 @@ const DEFAULT_BUDGET: u64 = 16_777_216;
 
 /// The words that stand for none.
 static STORED: [&str; 5] = ["hunkinfo", "relocate", "--hex", "--base", "00000000"];
+
+/// The fault of a word that is none of those which are wanted, told as clap tells of one.
+fn unwanted(alloc: Global, word: &str, place: &str, wanted: &str) -> OrderFault
+    ensures { IsMemoryOr (IsLineOf (unwanted_text word.now place.now wanted.now)) result }
+{
+    let text = format!(in alloc;
+        "error: invalid value '{word}' for '{place}': {wanted}\n\n\
+        For more information, try '--help'.\n"
+    );
+    match text {
+        Ok(text) => OrderFault::Line(text),
+        Err(_) => OrderFault::Memory,
+    }
+}
 
 /// `show`, by what clap has found.
 fn show_order(alloc: Global, found: &ArgMatches<'_>) -> Result<Order, OrderFault>
@@ -53,10 +68,27 @@ fn validate_order(alloc: Global, found: &ArgMatches<'_>) -> Result<Order, OrderF
 fn relocate_order(alloc: Global, found: &ArgMatches<'_>) -> Result<Order, OrderFault>
     ensures { AnswersOrder (relocate_order (rows_of (found_of found.now))) result }
 {
-    let base = text_of(found, "base").ok_or(OrderFault::Line)?;
-    let base = base_of(base).ok_or(OrderFault::Line)?;
+    let hex = text_of(found, "base").unwrap_or("");
+    let Some(base) = base_of(hex) else {
+        return Err(unwanted(
+            alloc,
+            hex,
+            "--base <HEX>",
+            "eight hexadecimal digits are wanted",
+        ));
+    };
     let budget = match text_of(found, "budget") {
-        Some(text) => budget_of(text).ok_or(OrderFault::Line)?,
+        Some(number) => {
+            let Some(budget) = budget_of(number) else {
+                return Err(unwanted(
+                    alloc,
+                    number,
+                    "--budget <N>",
+                    "a number below 2^64 is wanted",
+                ));
+            };
+            budget
+        }
         None => DEFAULT_BUDGET,
     };
     Ok(Order::Relocate {
@@ -71,8 +103,12 @@ fn relocate_order(alloc: Global, found: &ArgMatches<'_>) -> Result<Order, OrderF
 fn rewrite_order(alloc: Global, found: &ArgMatches<'_>) -> Result<Order, OrderFault>
     ensures { AnswersOrder (rewrite_order (rows_of (found_of found.now))) result }
 {
-    let input = name_of(alloc, found, "IN")?.ok_or(OrderFault::Line)?;
-    let output = name_of(alloc, found, "OUT")?.ok_or(OrderFault::Line)?;
+    let Some(input) = name_of(alloc, found, "IN")? else {
+        return Err(unwanted(alloc, "", "<IN>", "a file is wanted"));
+    };
+    let Some(output) = name_of(alloc, found, "OUT")? else {
+        return Err(unwanted(alloc, "", "<OUT>", "a file is wanted"));
+    };
     Ok(Order::Rewrite {
         strip: is_set(found, "strip"),
         input,
@@ -80,19 +116,26 @@ fn rewrite_order(alloc: Global, found: &ArgMatches<'_>) -> Result<Order, OrderFa
     })
 }
 
-/// What an error of clap means: the help that was asked for, out of memory, or no order.
+/// What an error of clap means: the help or the version that was asked for, out of memory, or no
+/// order.
 fn fault_of(alloc: Global, error: &Error) -> OrderFault
     ensures memory { kind_of error.now ≡ ErrorKind.OutOfMemory → result ≡ Memory }
     ensures asked { IsHelp result → kind_of error.now ≡ ErrorKind.DisplayHelp }
     ensures help { kind_of error.now ≡ ErrorKind.DisplayHelp → IsHelpOrMemory result }
+    ensures versioned { result ≡ Version → kind_of error.now ≡ ErrorKind.DisplayVersion }
+    ensures version { kind_of error.now ≡ ErrorKind.DisplayVersion → result ≡ Version }
 {
     match error.kind() {
         ErrorKind::DisplayHelp => match format!(in alloc; "{error}") {
             Ok(text) => OrderFault::Help(text),
             Err(_) => OrderFault::Memory,
         },
+        ErrorKind::DisplayVersion => OrderFault::Version,
         ErrorKind::OutOfMemory => OrderFault::Memory,
-        _ => OrderFault::Line,
+        _ => match format!(in alloc; "{error}") {
+            Ok(text) => OrderFault::Line(text),
+            Err(_) => OrderFault::Memory,
+        },
     }
 }
 
@@ -120,9 +163,9 @@ fn chosen_order(alloc: Global, found: &ArgMatches<'_>) -> Result<Order, OrderFau
             "validate" => validate_order(alloc, found),
             "relocate" => relocate_order(alloc, found),
             "rewrite" => rewrite_order(alloc, found),
-            _ => Err(OrderFault::Line),
+            _ => Err(unwanted(alloc, name, "<COMMAND>", "a command is wanted")),
         },
-        None => Err(OrderFault::Line),
+        None => Err(unwanted(alloc, "", "<COMMAND>", "a command is wanted")),
     }
 }
 
@@ -142,9 +185,9 @@ fn order_in<S: AsStr>(alloc: Global, words: &[S]) -> Result<Order, OrderFault>
 ///
 /// # Errors
 ///
-/// `Help` where the words ask for help; `Line` where they are none of the program's command lines,
-/// or where HEX is not eight hexadecimal digits, or N no decimal number below 2^64; `Memory` where
-/// memory is refused.
+/// `Help` and `Version` where the words ask for them; `Line` where they are none of the program's
+/// command lines, or where HEX is not eight hexadecimal digits, or N no decimal number below 2^64;
+/// `Memory` where memory is refused.
 pub fn order(alloc: Global, words: &[String]) -> Result<Order, OrderFault>
     ensures order { IfOk result (λ order. order_of (map string_bytes words.now) ≡ Some order) }
     ensures refuses { IfErr result

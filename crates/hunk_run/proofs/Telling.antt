@@ -1,6 +1,6 @@
 -- What a run lists, by what an engine function has written.
 use Rattle.std.proofs.Common.{◌≡◌, ◌<◌, ◌++◌, ◌∙◌, ℕ, Bool, true, false, List, [], Option, Some, None, length, take, inl, inr, refl, ap, sym, subst, arith, append-nil, append_assoc}
-use Rattle.std.specs.Prelude.{Result, Ok, Err, IfOk}
+use Rattle.std.specs.Prelude.{Ok}
 use Rattle.std.specs.Io.KnownBytes.{Consumes, IsAtEnd}
 use Rattle.std.proofs.lemmas.List.{take_all}
 use Rattle.hunk_words.specs.Carriers.{Outlet, Supply, Writing, saturated}
@@ -9,29 +9,24 @@ use Rattle.hunk_files.specs.LoadText.{text}
 use Rattle.hunk_scatter.specs.declared.loading.Limits.{Limits}
 use Rattle.hunk_commands.specs.Engine.{PutsAll, PutsFirst}
 use Rattle.hunk_commands.specs.Validated.{IsValidated}
-use Rattle.hunk_commands.specs.declared.rewriting.Rewritten.{Rewritten}
-use Rattle.hunk_listing.specs.RewritingLines.{left_out_line, wrote_line}
 use Rattle.hunk_commands.specs.Output.{Takes}
 use Rattle.hunk_run.specs.OutFile.{OutFile, TakesAll, TakesFirst, file_outlet}
-use Rattle.hunk_run.specs.Status.{EndsListing, EndsRewriting, PrintsFault, TellsOutcome, TellsStatus}
+use Rattle.hunk_run.specs.Status.{TellsFindings}
 use Rattle.hunk_run.specs.declared.listing.Listing.{Listing}
 use Rattle.hunk_run.specs.declared.listing.Listing.TheVariants as listings
 use Rattle.hunk_commands.specs.HexText.{SpellsHex}
-use Rattle.hunk_commands.specs.declared.fault.RunFault.{RunFault}
-use Rattle.hunk_commands.specs.declared.fault.RunFault.TheVariants.{HexText, Memory, Read, Refused, Write}
-use Rattle.hunk_commands.specs.Faults.{status_of}
 use Rattle.hunk_commands.specs.Inputs.{ReadsInput}
 use Rattle.hunk_commands.specs.Relocating.{IsListingOf, Relocates}
-use Rattle.hunk_run.specs.Runs.{IsListed, Lists, ListsSource, Rewrites, StopsReading, TellsRewriting}
+use Rattle.hunk_run.specs.Runs.{IsListed, ListsSource, StopsReading}
 
 -- a text that was put whole
 takes_whole : {W : Type 0} (outlet : W → Outlet) (old new : Writing W) (Is : List ℕ → Type 0) (all : PutsAll outlet Is old new) → Takes outlet old new all.0.text
 takes_whole outlet old new Is all = subst (λ (xs : List ℕ). Takes outlet old new xs) (take_all all.0.puts.count all.0.text (omega (arith, all.0.puts.rose, all.1))) all.0.puts.gone
 
 pub tells_report : {W : Type 0} (outlet : W → Outlet) (old new : Writing W) (count : ℕ) (before after : Supply) (most : ℕ) →
-    0 < count → ReadsInput (λ input. PutsAll outlet (IsValidated count input) old new) before after most → TellsStatus outlet old new 1
+    0 < count → ReadsInput (λ input. PutsAll outlet (IsValidated count input) old new) before after most → TellsFindings outlet old new 1
 tells_report outlet old new count before after most some all =
-    inr (inr (inr (inr (all.input, all.holds.0.text, refl, (count, some, all.holds.0.is_text), takes_whole outlet old new (IsValidated count all.input) all.holds))))
+    inr (all.input, all.holds.0.text, refl, (count, some, all.holds.0.is_text), takes_whole outlet old new (IsValidated count all.input) all.holds)
 
 -- an input that was read to its end
 pub lists_source : {W : Type 0} (outlet : W → Outlet) (old new : Writing W) (listing : Listing) (Is : List ℕ → List ℕ → Type 0)
@@ -119,66 +114,3 @@ pub takes_all : {F : Type 0} (Is : List ℕ → Type 0) (old new : Writing (OutF
     written ≡ saturated new.written → PutsAll file_outlet Is old new → TakesAll Is out kept written
 takes_all Is old new out kept written before none same told (puts, all) =
     (takes_first Is old new out kept written before none same told puts, (let count : puts.puts.count ≡ length puts.text = omega (arith, puts.puts.rose, all) in count))
-
--- what a run prints of a fault
-tells_fault : {W : Type 0} (outlet : W → Outlet) (old new : Writing W) (fault : RunFault) (status : ℕ) →
-    PrintsFault outlet old new fault status → TellsStatus outlet old new status
-tells_fault outlet old new fault status (inl (inl (is, takes))) = inr (inr (inl (fault, is, takes)))
-tells_fault outlet old new fault status (inl (inr broken)) = inr (inr (inr (inl broken)))
-tells_fault outlet old new fault status (inr (inl (is, takes))) = inr (inr (inl (Memory, is, takes)))
-tells_fault outlet old new fault status (inr (inr broken)) = inr (inr (inr (inl broken)))
-
--- a fault has no status of a run that has done what it was to do
-some_status : (fault : RunFault) → 0 < status_of fault
-some_status Memory = omega arith
-some_status HexText = omega arith
-some_status (Read place) = omega arith
-some_status (Write written) = omega arith
-some_status (Refused refusal) = omega arith
-
-not_done : {W : Type 0} (outlet : W → Outlet) (old new : Writing W) (fault : RunFault) (status : ℕ) →
-    PrintsFault outlet old new fault status → status ≡ 0 → ⊥
-not_done outlet old new fault status (inl (inl (is, takes))) zero = omega (arith, some_status fault, is, zero)
-not_done outlet old new fault status (inl (inr (is, broken))) zero = omega (arith, is, zero)
-not_done outlet old new fault status (inr (inl (is, takes))) zero = omega (arith, is, zero)
-not_done outlet old new fault status (inr (inr (is, broken))) zero = omega (arith, is, zero)
-
--- what a run has printed that was to rewrite a file
-pub tells_rewriting : {W : Type 0} (outlet : W → Outlet) (old new : Writing W) (status : ℕ) (answer : Result Rewritten RunFault) →
-    EndsRewriting outlet old new answer status → TellsStatus outlet old new status
-tells_rewriting outlet old new status (Ok done) (inl (is, takes)) = inl is
-tells_rewriting outlet old new status (Ok done) (inr broken) = inr (inr (inr (inl broken)))
-tells_rewriting outlet old new status (Err fault) prints = tells_fault outlet old new fault status prints
-
--- where the status is 0 the file is rewritten
-pub rewrites_where_done : {W : Type 0} (outlet : W → Outlet) (old new : Writing W) (status : ℕ) (strip : Bool) (answer : Result Rewritten RunFault) →
-    IfOk answer (λ done. TellsRewriting strip (wrote_line done.written ++ left_out_line done.rest)) → EndsRewriting outlet old new answer status → status ≡ 0 → Rewrites outlet old new strip
-rewrites_where_done outlet old new status strip (Ok done) tells (inl (is, takes)) zero = record { text = wrote_line done.written ++ left_out_line done.rest; tells = tells; takes = takes }
-rewrites_where_done outlet old new status strip (Ok done) tells (inr (is, broken)) zero = absurd (omega (arith, is, zero))
-rewrites_where_done outlet old new status strip (Err fault) tells prints zero = absurd (not_done outlet old new fault status prints zero)
-
--- what a run has printed that was to list an input; the output is mid behind what was listed
-module _ {W : Type 0} (outlet : W → Outlet) (old mid new : Writing W) (result : ℕ) where
-  tells_since : (fault : RunFault) → mid ≡ old → PrintsFault outlet mid new fault result → TellsStatus outlet old new result
-  tells_since fault same prints = subst (λ (w : Writing W). TellsStatus outlet w new result) same (tells_fault outlet mid new fault result prints)
-
-  pub tells_listing : (answer : Result ℕ RunFault) → TellsOutcome outlet old mid answer → EndsListing outlet mid new answer result →
-      TellsStatus outlet old new result
-  tells_listing (Ok status) outcome (is, same) =
-      subst (λ (w : Writing W). TellsStatus outlet old w result) (sym same)
-      (subst (λ (n : ℕ). TellsStatus outlet old mid n) (sym is) outcome.tells)
-  tells_listing (Err (Write written)) outcome (is, same) = inr (inr (inr (inl (is, ap (λ (w : Writing W). (outlet w.sink).failed) same ∙ outcome.fails.broken tt))))
-  tells_listing (Err Memory) outcome ends = tells_since Memory (outcome.fails.untouched (λ is. is)) ends
-  tells_listing (Err HexText) outcome ends = tells_since HexText (outcome.fails.untouched (λ is. is)) ends
-  tells_listing (Err (Read place)) outcome ends = tells_since (Read place) (outcome.fails.untouched (λ is. is)) ends
-  tells_listing (Err (Refused refusal)) outcome ends = tells_since (Refused refusal) (outcome.fails.untouched (λ is. is)) ends
-
-  -- where the status is 0 the input is listed
-  pub lists_where_done : (listing : Listing) (answer : Result ℕ RunFault) → IfOk answer (λ status. status ≡ 0 → Lists outlet old mid listing) →
-      EndsListing outlet mid new answer result → result ≡ 0 → Lists outlet old new listing
-  lists_where_done listing (Ok status) lists (is, same) zero = subst (λ (w : Writing W). Lists outlet old w listing) (sym same) (lists (sym is ∙ zero))
-  lists_where_done listing (Err (Write written)) lists (is, same) zero = absurd (omega (arith, is, zero))
-  lists_where_done listing (Err Memory) lists ends zero = absurd (not_done outlet mid new Memory result ends zero)
-  lists_where_done listing (Err HexText) lists ends zero = absurd (not_done outlet mid new HexText result ends zero)
-  lists_where_done listing (Err (Read place)) lists ends zero = absurd (not_done outlet mid new (Read place) result ends zero)
-  lists_where_done listing (Err (Refused refusal)) lists ends zero = absurd (not_done outlet mid new (Refused refusal) result ends zero)

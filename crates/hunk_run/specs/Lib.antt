@@ -1,4 +1,5 @@
 pub mod Inputs
+pub mod Notes
 pub mod OutFile
 pub mod Refusals
 pub mod Runs

@@ -1,5 +1,5 @@
 -- What a run has done: its output is a writer that is old before it and new after it.
-use Rattle.std.specs.Prelude.{◌≡◌, ◌⊎◌, ◌+◌, ◌++◌, ℕ, Bool, true, false, List, length, string_bytes}
+use Rattle.std.specs.Prelude.{◌≡◌, ◌⊎◌, ◌+◌, ◌++◌, ℕ, Bool, true, false, List, length}
 use Rattle.std.specs.Io.KnownBytes.{Consumes, IsAtEnd}
 use Rattle.hunk_words.specs.Carriers.{Outlet, Supply, Writing, saturated}
 use Rattle.hunk_words.specs.Longs.{bytes_of}
@@ -8,9 +8,7 @@ use Rattle.hunk_files.specs.LoadFile.{LoadFileValue, IsLoadFile}
 use Rattle.hunk_files.specs.LoadText.{text}
 use Rattle.hunk_command_line.specs.declared.asked.Order.{Order}
 use Rattle.hunk_command_line.specs.declared.asked.Order.TheVariants as orders
-use Rattle.hunk_command_line.specs.declared.asked.OrderFault.{OrderFault}
-use Rattle.hunk_command_line.specs.declared.asked.OrderFault.TheVariants.{Help, Line, Memory}
-use Rattle.hunk_command_line.specs.FaultTexts.{fault_text}
+use Rattle.hunk_command_line.specs.FaultTexts.{refused_line}
 use Rattle.hunk_commands.specs.declared.fault.RunFault.{RunFault}
 use Rattle.hunk_commands.specs.declared.fault.RunFault.TheVariants as faults
 use Rattle.hunk_run.specs.declared.listing.Listing.{Listing}
@@ -25,12 +23,6 @@ use Rattle.hunk_commands.specs.Rewritten.{IsRewritten}
 use Rattle.hunk_commands.specs.Validated.{IsValidated}
 use Rattle.hunk_listing.specs.RewritingLines.{left_out_line, wrote_line}
 use Rattle.hunk_run.specs.Status.{PrintsOrFails, with_newline}
-
--- what is printed where the words are no order, and the status
-abbrev pub PrintsRefusal : {W : Type 0} → (W → Outlet) → Writing W → Writing W → OrderFault → ℕ → Type 0
-PrintsRefusal outlet old new Line status = PrintsOrFails outlet old new (with_newline (fault_text Line)) 2 status
-PrintsRefusal outlet old new (Help text) status = PrintsOrFails outlet old new (string_bytes text) 0 status
-PrintsRefusal outlet old new Memory status = PrintsOrFails outlet old new (with_newline (line_of faults.Memory)) 4 status
 
 -- what is printed of an input in which nothing is amiss
 abbrev pub IsListed : Listing → List ℕ → List ℕ → Type 0
@@ -69,7 +61,7 @@ IsOrderDone outlet old new (orders.Rewrite strip input output) = Rewrites outlet
 -- the words are no order, or memory ran out; no help is printed
 abbrev pub PrintsNoHelp : {W : Type 0} → (W → Outlet) → Writing W → Writing W → ℕ → Type 0
 PrintsNoHelp outlet old new status =
-    PrintsRefusal outlet old new Line status ⊎ PrintsRefusal outlet old new Memory status
+    PrintsOrFails outlet old new (with_newline refused_line) 2 status ⊎ PrintsOrFails outlet old new (with_newline (line_of faults.Memory)) 4 status
 
 -- the bytes of the input, which what was given is, or where `hex` is set spells
 abbrev pub IsInput : Bool → List ℕ → List ℕ → Type 0

@@ -9,15 +9,16 @@ ghost use Rattle.hunk_run.specs.Status.{TellsOutcome};
 ghost use Rattle.hunk_run.specs.Refusals.{StopsListing, StopsSource};
 ghost use Rattle.hunk_run.specs.Runs.{Lists, ListsSource, ReadsNoText};
 
+use crate::heard::Heard;
 use crate::{DONE, FILE_BYTES};
 use hunk_command_line::FileName;
 use hunk_commands::{RunFault, read_hex, relocate, show, validate};
 use hunk_scatter::Limits;
-use hunk_words::{Fault, FromRead, FromSlice, LongWriter, Sink, Source};
+use hunk_words::{Fault, FromSlice, LongWriter, Sink, Source};
 use std::alloc::Global;
-use std::fs;
-use std::io::BufReader;
+use std::io::{BufReader, Read};
 use std::rt::Files;
+use std::{fs, io};
 
 /// The exit status where `validate` found something.
 const FOUND: u8 = 1;
@@ -33,9 +34,10 @@ pub(crate) enum Listing {
     Relocate { base: u32, budget: u64 },
 }
 
-/// Prints it of the file, or of standard input, and gives the exit status: 1 where something was
-/// found. A file is read through a buffer, since little may be asked for at a time; standard input
-/// is not, so that what follows stays for the next reader.
+/// Prints it of the file, or of standard input, and gives the exit status, 1 where something was
+/// found, and what the system says of an input that can't be read. A file is read through a buffer,
+/// since little may be asked for at a time; standard input is not, so that what follows stays for
+/// the next reader.
 pub(crate) fn list_file<T: Files + Input, W: Sink>(
     rt: &T,
     alloc: Global,
@@ -43,20 +45,37 @@ pub(crate) fn list_file<T: Files + Input, W: Sink>(
     file: Option<&FileName>,
     hex: bool,
     out: &mut LongWriter<W>,
-) -> Result<u8, RunFault>
-    ensures outcome { TellsOutcome W.outlet out.old out.new result }
-    ensures done { IfOk result (λ status. status ≡ 0 → Lists W.outlet out.old out.new listing) }
+) -> (Result<u8, RunFault>, Option<io::Error>)
+    ensures outcome { TellsOutcome W.outlet out.old out.new result.0 }
+    ensures done { IfOk result.0 (λ status. status ≡ 0 → Lists W.outlet out.old out.new listing) }
 {
     let Some(name) = file else {
-        return list_source(alloc, listing, &mut FromRead::new(rt.reader()), hex, out);
+        return list_reader(alloc, listing, rt.reader(), hex, out);
     };
-    let Ok(file) = fs::open(rt, name.as_str()) else {
-        return Err(RunFault::Read { place: 0 });
+    let file = match fs::open(rt, name.as_str()) {
+        Ok(file) => file,
+        Err(error) => return (Err(RunFault::Read { place: 0 }), Some(error)),
     };
-    let Ok(reader) = BufReader::new(alloc, file) else {
-        return Err(RunFault::Memory);
-    };
-    list_source(alloc, listing, &mut FromRead::new(reader), hex, out)
+    match BufReader::new(alloc, file) {
+        Ok(reader) => list_reader(alloc, listing, reader, hex, out),
+        Err(_) => (Err(RunFault::Memory), None),
+    }
+}
+
+/// The same of what the reader gives.
+fn list_reader<R: Read + Drop, W: Sink>(
+    alloc: Global,
+    listing: Listing,
+    reader: R,
+    hex: bool,
+    out: &mut LongWriter<W>,
+) -> (Result<u8, RunFault>, Option<io::Error>)
+    ensures outcome { TellsOutcome W.outlet out.old out.new result.0 }
+    ensures done { IfOk result.0 (λ status. status ≡ 0 → Lists W.outlet out.old out.new listing) }
+{
+    let mut source = Heard::new(reader);
+    let answer = list_source(alloc, listing, &mut source, hex, out);
+    (answer, source.error())
 }
 
 /// The same of the bytes of the source, or of those that its text spells.

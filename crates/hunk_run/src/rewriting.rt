@@ -10,22 +10,25 @@ ghost use Rattle.hunk_commands.specs.Rewritten.{IsRewritten};
 ghost use Rattle.hunk_commands.specs.declared.rewriting.Rewritten.{Rewritten};
 ghost use Rattle.hunk_run.specs.OutFile.{HasTaken, TakesAll, TakesFirst};
 ghost use Rattle.hunk_run.specs.Runs.{TellsRewriting};
-ghost use Rattle.hunk_run.specs.Status.{PrintsOrFails};
+ghost use Rattle.hunk_run.specs.Notes.{EndsOrFails, left_out_note, rewritten_ended};
 
+use crate::heard::Heard;
+use crate::note::{Ended, Note, output_failed};
 use crate::to_file::ToFile;
 use crate::{DONE, FILE_BYTES};
 use hunk_command_line::FileName;
 use hunk_commands::{Rewritten, RunFault, rewrite};
 use hunk_listing::print_rewriting;
-use hunk_words::{Failed, FromRead, LongWriter, PagePrinter, Sink, Source};
+use hunk_words::{Failed, LongWriter, PagePrinter, Sink, Source};
 use std::alloc::Global;
-use std::fs;
 use std::rt::Files;
+use std::{fs, io};
 
 /// Room for the two lines that say how much was written.
 const LINES: usize = 128;
 
-/// Writes the file `input` again, to `output`, and gives how much was written.
+/// Writes the file `input` again, to `output`, and gives how much was written, and what the system
+/// says of a file that can't be read or written.
 ///
 /// `output` is not touched before `input` was accepted, and keeps what was written where that
 /// succeeds.
@@ -35,16 +38,17 @@ pub(crate) fn rewrite_file<T: Files>(
     input: &FileName,
     output: &FileName,
     strip: bool,
-) -> Result<Rewritten, RunFault>
-    ensures tells { IfOk result
+) -> (Result<Rewritten, RunFault>, Option<io::Error>)
+    ensures tells { IfOk result.0
         (λ done. TellsRewriting strip (wrote_line done.written ++ left_out_line done.rest)) }
 {
-    let Ok(file) = fs::open(rt, input.as_str()) else {
-        return Err(RunFault::Read { place: 0 });
+    let mut source = match fs::open(rt, input.as_str()) {
+        Ok(file) => Heard::new(file),
+        Err(error) => return (Err(RunFault::Read { place: 0 }), Some(error)),
     };
     let out = ToFile::new(rt, output.as_str());
-    let (_out, answer) = rewrite_to(alloc, &mut FromRead::new(file), out, strip);
-    answer
+    let (out, answer) = rewrite_to(alloc, &mut source, out, strip);
+    (answer, out.error().or(source.error()))
 }
 
 /// Writes the file that the source gives again, to `out`, which is settled then, and gives `out`
@@ -101,19 +105,31 @@ fn rewrite_to<'a, R: Source, T: Files>(
     }
 }
 
-/// Prints the lines that say how much was written, and gives the status, which is 3 where that
-/// fails.
-pub(crate) fn tell<W: Sink>(done: Rewritten, out: &mut LongWriter<W>) -> u8
-    ensures bound { result ≤ 4 }
-    ensures printed { PrintsOrFails W.outlet out.old out.new
-        (wrote_line done.written ++ left_out_line done.rest) DONE result }
+/// Prints the lines that say how much of the file `input` was written, and ends the run.
+pub(crate) fn tell<W: Sink>(done: Rewritten, input: FileName, out: &mut LongWriter<W>) -> Ended
+    ensures { EndsOrFails W.outlet out.old out.new
+        (wrote_line done.written ++ left_out_line done.rest) (rewritten_ended done.rest input)
+        result }
 {
     let mut page = PagePrinter::<W, LINES>::new(out);
     print_rewriting(&mut page, done.written, done.rest);
     let result = page.flush();
     let _out = page.into_inner();
     match result {
-        Ok(()) => DONE,
-        Err(fault) => RunFault::from(fault).status(),
+        Ok(()) => Ended {
+            status: DONE,
+            note: left_out(input, done.rest),
+        },
+        Err(_) => output_failed(),
     }
+}
+
+/// What is said of a file of which so many bytes were not written.
+fn left_out(name: FileName, rest: u64) -> Option<Note>
+    ensures { result ≡ left_out_note rest name }
+{
+    if rest == 0 {
+        return None;
+    }
+    Some(Note::LeftOut { name, rest })
 }

@@ -1,5 +1,5 @@
 //! A file that is created at its first byte.
-ghost use Rattle.std.specs.Prelude.{◌≡◌, ◌≤◌, ◌↔◌, ◌||◌, [], false, length, is_err, not, IfOk, IsErrAnd};
+ghost use Rattle.std.specs.Prelude.{◌≡◌, ◌≤◌, ◌↔◌, ◌||◌, [], false, true, length, is_err, is_some, not, IfOk, IsErrAnd};
 ghost use Rattle.std.specs.Prelude.{IsTrue, None, Some};
 ghost use Rattle.std.specs.Fs.{file_type, IsFile};
 ghost use Rattle.std.specs.Io.KnownBytes.{WriteAppends};
@@ -28,11 +28,12 @@ pub(crate) struct ToFile<'a, T: Files> {
     name: &'a str,
     file: Option<T::File>,
     taken: History,
-    failed: bool,
+    error: Option<io::Error>,
     settled: bool,
 }
 
 impl<'a, T: Files> Model for ToFile<'a, T> {
+    ghost use Rattle.std.specs.Prelude.{is_some};
     ghost use Rattle.hunk_run.specs.OutFile.{HasTaken, OutFile};
 
     ghost Value = { OutFile T.File };
@@ -40,7 +41,7 @@ impl<'a, T: Files> Model for ToFile<'a, T> {
     ghost view = { λ s. record {
       file = s.file;
       taken = s.taken.bytes;
-      failed = s.failed;
+      failed = is_some s.error;
       settled = s.settled;
     } };
 
@@ -59,7 +60,7 @@ impl<'a, T: Files> ToFile<'a, T> {
             name,
             file: None,
             taken: History::new(),
-            failed: false,
+            error: None,
             settled: false,
         }
     }
@@ -77,16 +78,21 @@ impl<'a, T: Files> ToFile<'a, T> {
         ensures same { self.new.taken ≡ self.old.taken }
         ensures taken { HasTaken (λ f. T.File.contents f) self.new.file self.new.taken }
     {
-        let kept = match &self.file {
-            Some(file) => keeps_all(file.sync_all()),
-            None => true,
+        let lost = match &self.file {
+            Some(file) => loss_of(file.sync_all()),
+            None => None,
         };
-        self.settled = kept;
-        if kept {
+        self.settled = lost.is_none();
+        let Some(error) = lost else {
             return Ok(());
-        }
-        self.failed = true;
+        };
+        self.error = Some(error);
         Err(Failed)
+    }
+
+    /// The last error.
+    pub(crate) fn error(&self) -> Option<io::Error> {
+        self.error
     }
 
     /// Writes to the file, which is created first where it is not there yet.
@@ -113,12 +119,12 @@ impl<T: Files> Sink for ToFile<'_, T> {
     fn push(&mut self, bytes: &[u8]) -> Result<usize, Failed> {
         match self.write(bytes) {
             Ok(0) if !bytes.is_empty() => {
-                self.failed = true;
+                self.error = Some(io::Error::from(io::ErrorKind::WriteZero));
                 Err(Failed)
             }
             Ok(n) => Ok(n),
-            Err(_) => {
-                self.failed = true;
+            Err(error) => {
+                self.error = Some(error);
                 Err(Failed)
             }
         }
@@ -129,7 +135,10 @@ impl<T: Files> Sink for ToFile<'_, T> {
 /// printed there would take the place of what is written to it.
 fn create<T: Files>(rt: &T, name: &str) -> io::Result<T::File> {
     if is_output(rt, name) {
-        return Err(io::Error::from(io::ErrorKind::PermissionDenied));
+        return Err(io::Error::new(
+            io::ErrorKind::PermissionDenied,
+            "standard output goes there",
+        ));
     }
     fs::create(rt, name)
 }
@@ -150,16 +159,16 @@ fn is_one_file(one: &Metadata, other: &Metadata) -> bool
     one.is_file() && one.ino() > 0 && one.ino() == other.ino() && one.dev() == other.dev()
 }
 
-/// Whether a file that answers so to `sync_all` keeps all that was written, as far as it keeps
-/// anything.
-fn keeps_all(answer: io::Result<()>) -> bool
-    ensures { result ≡ false ↔ IsErrAnd answer SaysLost }
+/// What is amiss where a file that answers so to `sync_all` does not keep all that was written, as
+/// far as it keeps anything.
+fn loss_of(answer: io::Result<()>) -> Option<io::Error>
+    ensures { is_some result ≡ true ↔ IsErrAnd answer SaysLost }
 {
     match answer {
-        Ok(()) => true,
-        Err(error) => matches!(
-            error.kind(),
-            io::ErrorKind::InvalidInput | io::ErrorKind::Unsupported
-        ),
+        Ok(()) => None,
+        Err(error) => match error.kind() {
+            io::ErrorKind::InvalidInput | io::ErrorKind::Unsupported => None,
+            _ => Some(error),
+        },
     }
 }

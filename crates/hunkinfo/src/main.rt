@@ -12,16 +12,20 @@ fn words_of(rt: &HostRuntime) -> Result<Vec<String>, OrderFault> {
         Ok(words) => Ok(words.collect(rt.alloc())?),
         Err(error) => match error.kind() {
             io::ErrorKind::OutOfMemory => Err(OrderFault::Memory),
-            _ => Err(OrderFault::Line),
+            _ => Err(OrderFault::NotText),
         },
     }
 }
 
 fn main(rt: HostRuntime) -> ExitCode {
     let mut out = LongWriter::new(FromWrite::new(io::writer(&rt)));
-    let status = match words_of(&rt) {
+    let ended = match words_of(&rt) {
         Ok(words) => hunk_run::run(&rt, rt.alloc(), words.as_slice(), &mut out),
-        Err(fault) => hunk_run::refuse(&fault, &mut out),
+        Err(fault) => hunk_run::refuse(fault, &mut out),
     };
-    ExitCode::from(status)
+    if let Some(note) = &ended.note {
+        // A standard error that fails changes nothing.
+        let _ = eprint!(rt; "{note}");
+    }
+    ExitCode::from(ended.status)
 }

@@ -2,6 +2,7 @@
 mod asserts;
 mod files;
 mod made;
+mod notes;
 mod old_output;
 mod runs;
 
@@ -36,6 +37,8 @@ type Row = (&'static str, At, &'static str, u8);
 struct Outcome {
     status: u8,
     text: String,
+    // What it says on standard error.
+    said: String,
     // The name of each file that was created, a colon, and what was written to it.
     created: Vec<u8>,
 }
@@ -52,10 +55,15 @@ fn ran(alloc: Global, given: Given<'_>, room: usize, line: &str) -> Result<Outco
         created: &created,
     };
     let mut out = LongWriter::new(Kept::new(alloc, room));
-    let status = run(&made, alloc, words.as_slice(), &mut out);
+    let ended = run(&made, alloc, words.as_slice(), &mut out);
+    let said = match &ended.note {
+        Some(note) => format!(in alloc; "{note}")?,
+        None => String::new(alloc),
+    };
     Ok(Outcome {
-        status,
+        status: ended.status,
         text: String::from_utf8(out.into_inner().bytes)?,
+        said,
         created: created.into_inner(),
     })
 }

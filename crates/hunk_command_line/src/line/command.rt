@@ -4,6 +4,7 @@ ghost use Rattle.clap.specs.Words.{app_of, new_app, new_rule, rule_of, with_subc
 ghost use Rattle.clap.specs.declared.builder.command.Command.TheViews.{out-Command as fields_of};
 ghost use Rattle.hunk_command_line.specs.Command as spec;
 
+use crate::asked::VERSION_LINE;
 use clap::{Arg, ArgAction, Command};
 use std::alloc::{AllocError, Global};
 
@@ -245,7 +246,8 @@ fn rewrite<'a>(alloc: Global) -> Result<Command<'a>, AllocError>
         .arg(mandatory(output_positional(alloc)))
 }
 
-/// The program, without its subcommands yet.
+/// The program, without its subcommands yet. That it has a version makes `--version` a flag; what
+/// clap would print of it is not taken.
 fn program<'a>(alloc: Global) -> Command<'a>
     ensures app { app_of result ≡ spec.program }
     ensures not_global { (fields_of result).has_globals ≡ false }
@@ -253,6 +255,7 @@ fn program<'a>(alloc: Global) -> Command<'a>
     Command::new(alloc, "hunkinfo")
         .about("Lists, checks, relocates and rewrites AmigaDOS hunk files")
         .after_help(AFTER_HELP)
+        .version(VERSION_LINE)
         .subcommand_required(true)
 }
 

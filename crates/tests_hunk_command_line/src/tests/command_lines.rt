@@ -44,6 +44,7 @@ fn line_of(alloc: Global, asked: &Result<Order, OrderFault>) -> Result<String, A
             format!(in alloc; "rewrite {strip} {input} {output}")
         }
         Err(OrderFault::Help(_)) => format!(in alloc; "help"),
+        Err(OrderFault::Version) => format!(in alloc; "version"),
         Err(fault) => format!(in alloc; "{fault}"),
     }
 }
@@ -138,8 +139,6 @@ const REFUSED: &[&[&str]] = &[
     &["SHOW"],
     &[""],
     &["--hex"],
-    &["--version"],
-    &["-V"],
     &["show", "--version"],
     &["show", "a", "b"],
     &["show", "--strip"],
@@ -217,6 +216,59 @@ const ASKING_FOR_HELP: &[&[&str]] = &[
     &["relocate", "-h"],
     &["show", "--help", "--unknown"],
 ];
+
+const ASKING_FOR_THE_VERSION: &[&[&str]] = &[&["--version"], &["-V"], &["-V", "--unknown"]];
+
+#[test]
+fn version(rt: HostRuntime) -> Result<(), Fail> {
+    for words in ASKING_FOR_THE_VERSION {
+        expect(&rt, rt.alloc(), words, "version")?;
+    }
+    Ok(())
+}
+
+/// Words that are no order, and what is said of them.
+const SAID: &[(&[&str], &str)] = &[
+    (
+        &["show", "--unknown"],
+        "error: unexpected argument '--unknown' found\n\n  tip: to pass '--unknown' as a value, \
+        use '-- --unknown'\n\nUsage: hunkinfo show [OPTIONS] [FILE]\n\nFor more information, try \
+        '--help'.\n",
+    ),
+    (
+        &["relocate", "--base", "1000"],
+        "error: invalid value '1000' for '--base <HEX>': eight hexadecimal digits are wanted\n\n\
+        For more information, try '--help'.\n",
+    ),
+    (
+        &["relocate", "--base", "00000000", "--budget", "x"],
+        "error: invalid value 'x' for '--budget <N>': a number below 2^64 is wanted\n\nFor more \
+        information, try '--help'.\n",
+    ),
+];
+
+/// Sees that the words after the program's name are no order, and that this is said of them.
+fn expect_said(rt: &impl Abort, alloc: Global, words: &[&str], want: &str) -> Result<(), Fail> {
+    let mut all = Vec::new(alloc);
+    all.push(String::from_str(alloc, "hunkinfo")?)?;
+    for word in words {
+        all.push(String::from_str(alloc, word)?)?;
+    }
+    let got = match order(alloc, all.as_slice()) {
+        Err(OrderFault::Line(why)) => why,
+        _ => String::new(alloc),
+    };
+    assert_eq!(rt; got.as_str(), want, "at {words:?}");
+    Ok(())
+}
+
+#[test]
+fn said_of_refused_words(rt: HostRuntime) -> Result<(), Fail> {
+    for (words, want) in SAID {
+        expect_said(&rt, rt.alloc(), words, want)?;
+    }
+    Ok(())
+}
 
 #[test]
 fn help(rt: HostRuntime) -> Result<(), Fail> {

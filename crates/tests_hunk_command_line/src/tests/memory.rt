@@ -15,14 +15,16 @@ enum Answer {
     Order,
     Line,
     Help,
+    Version,
     Memory,
 }
 
 fn answer_to(alloc: Global, words: &[String]) -> Answer {
     match order(alloc, words) {
         Ok(_) => Answer::Order,
-        Err(OrderFault::Line) => Answer::Line,
+        Err(OrderFault::Line(_) | OrderFault::NotText) => Answer::Line,
         Err(OrderFault::Help(_)) => Answer::Help,
+        Err(OrderFault::Version) => Answer::Version,
         Err(OrderFault::Memory) => Answer::Memory,
     }
 }
@@ -49,6 +51,7 @@ const NO_ORDERS: &[(&[&str], Answer)] = &[
     (&["show", "--strip", "a"], Answer::Line),
     (&["relocate", "--base", "1000", "load"], Answer::Line),
     (&["rewrite", "--help"], Answer::Help),
+    (&["--version"], Answer::Version),
 ];
 
 /// Orders whose last word becomes a long one, a name that is copied into the order.

@@ -45,7 +45,7 @@ fn rewrite(rt: &HostRuntime, files: &Files) -> Result<u8, Fail> {
         words.push(String::from_str(rt.alloc(), word)?)?;
     }
     let mut out = LongWriter::new(FromWrite::new(Vec::<u8>::new(rt.alloc())));
-    Ok(run(rt, rt.alloc(), words.as_slice(), &mut out))
+    Ok(run(rt, rt.alloc(), words.as_slice(), &mut out).status)
 }
 
 /// What the files hold after `rewrite`, and its status.

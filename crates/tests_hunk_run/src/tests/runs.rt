@@ -295,7 +295,7 @@ fn writing_fails(rt: HostRuntime) -> Result<(), Fail> {
 const NO_ORDERS: &[&str] = &[
     "hunkinfo relocate --base 1000",
     "hunkinfo relocate --base 00000000 --budget x",
-    "hunkinfo --version",
+    "hunkinfo show --version",
     "hunkinfo ",
 ];
 
@@ -325,6 +325,10 @@ fn expect_help(rt: &impl Abort, alloc: Global, line: &str, parts: &[&str]) -> Re
 }
 
 const HELP: &[(&str, &[&str])] = &[
+    (
+        "hunkinfo --version",
+        &["hunkinfo 0.1.0 (proved with logic dac8208d650f15bf)\n"],
+    ),
     (
         "hunkinfo --help",
         &[

@@ -7,9 +7,9 @@ use Rattle.clap.specs.declared.error.Error.{Error}
 use Rattle.clap.specs.declared.error.kind.ErrorKind.{ErrorKind}
 use Rattle.clap.specs.declared.error.kind.ErrorKind.TheVariants as kind
 use Rattle.clap.proofs.OnLiterals.{clap_on_literals}
-use Rattle.hunk_command_line.specs.Asked.{IsHelpOrMemory}
+use Rattle.hunk_command_line.specs.Asked.{IsHelpOrMemory, IsMemoryOr}
 use Rattle.hunk_command_line.specs.declared.asked.OrderFault.{OrderFault}
-use Rattle.hunk_command_line.specs.declared.asked.OrderFault.TheVariants.{Memory}
+use Rattle.hunk_command_line.specs.declared.asked.OrderFault.TheVariants.{Memory, Version}
 use Rattle.hunk_command_line.specs.Command.{hunkinfo}
 use Rattle.hunk_command_line.proofs.line.matches_in.Goals as goal
 
@@ -17,13 +17,13 @@ pub returns-in-Err-clause-refuses : goal.returns-in-Err-clause-refuses
 returns-in-Err-clause-refuses g c = λ taken.
     c.fault_of.ensures.memory (c.in-Err.ensures.passes (ap (λ (a : App). takes a (map g.S.AsStr.text c.args.words.now)) c.in_ok-hunkinfo.ensures ∙ taken))
 
-abbrev IsDisplayHelp : ErrorKind → Type 0
-IsDisplayHelp kind.DisplayHelp = ⊤
-IsDisplayHelp _ = ⊥
+abbrev IsMemory : ErrorKind → Type 0
+IsMemory kind.OutOfMemory = ⊤
+IsMemory _ = ⊥
 
-among : (kinds : Kinds) (e : Error) → kind_of e ≡ kind.DisplayHelp → HasKind kinds e → IsAmong kind.DisplayHelp kinds
-among kinds e is (inl memory) = absurd (subst IsDisplayHelp (sym is ∙ memory) tt)
-among kinds e is (inr h) = subst (λ (k : ErrorKind). IsAmong k kinds) is h
+among : (k : ErrorKind) (kinds : Kinds) (e : Error) → ¬ IsMemory k → kind_of e ≡ k → HasKind kinds e → IsAmong k kinds
+among k kinds e other is (inl memory) = absurd (other (subst IsMemory (sym memory ∙ is) tt))
+among k kinds e other is (inr h) = subst (λ (k : ErrorKind). IsAmong k kinds) is h
 
 simple : is_simple_and_free hunkinfo ≡ true
 unfolding clap_on_literals
@@ -41,17 +41,23 @@ returns-in-Ok-clause-clap g c =
       clean = clean;
       asked = tt;
       help = λ help. absurd (no_kind (sym clean ∙ help));
+      versioned = tt;
+      version = λ version. absurd (no_kind (sym clean ∙ version));
     }
 
-only_help : (e : Error) → HasKind (kind.DisplayHelp ∷ []) e → (kind_of e ≡ kind.OutOfMemory) ⊎ (kind_of e ≡ kind.DisplayHelp)
-only_help e (inl memory) = inl memory
-only_help e (inr (inl help)) = inr help
-only_help e (inr (inr none)) = elim none [ ]
+only : (k : ErrorKind) (e : Error) → HasKind (k ∷ []) e → (kind_of e ≡ kind.OutOfMemory) ⊎ (kind_of e ≡ k)
+only k e (inl memory) = inl memory
+only k e (inr (inl is)) = inr is
+only k e (inr (inr none)) = elim none [ ]
 
-answered : (e : Error) (fault : OrderFault) → (kind_of e ≡ kind.OutOfMemory → fault ≡ Memory) → (kind_of e ≡ kind.DisplayHelp → IsHelpOrMemory fault) →
-    (kind_of e ≡ kind.OutOfMemory) ⊎ (kind_of e ≡ kind.DisplayHelp) → IsHelpOrMemory fault
-answered e fault memory help (inl is) = inr (memory is)
-answered e fault memory help (inr is) = help is
+answered : (k : ErrorKind) (e : Error) (fault : OrderFault) (Is : OrderFault → Type 0) → (kind_of e ≡ kind.OutOfMemory → fault ≡ Memory) → (kind_of e ≡ k → Is fault) →
+    (kind_of e ≡ kind.OutOfMemory) ⊎ (kind_of e ≡ k) → IsMemoryOr Is fault
+answered k e fault Is memory other (inl is) = inl (memory is)
+answered k e fault Is memory other (inr is) = inr (other is)
+
+swapped : (fault : OrderFault) → IsMemoryOr IsHelpOrMemory fault → IsHelpOrMemory fault
+swapped fault (inl memory) = inr memory
+swapped fault (inr help) = help
 
 pub returns-in-Err-clause-clap : goal.returns-in-Err-clause-clap
 returns-in-Err-clause-clap g c =
@@ -61,8 +67,13 @@ returns-in-Err-clause-clap g c =
     (c.in-Err.ensures.kinds (ap is_simple_and_free c.in_ok-hunkinfo.ensures ∙ simple)) in
     record {
       clean = tt;
-      asked = λ help. among (fault_of hunkinfo words) c.in-Err.error (c.fault_of.ensures.asked help) kinds;
+      asked = λ help. among kind.DisplayHelp (fault_of hunkinfo words) c.in-Err.error (λ no_memory. no_memory) (c.fault_of.ensures.asked help) kinds;
       help = λ help.
-          answered c.in-Err.error c.fault_of.result c.fault_of.ensures.memory c.fault_of.ensures.help
-          (only_help c.in-Err.error (subst (λ (ks : Kinds). HasKind ks c.in-Err.error) help kinds));
+          swapped c.fault_of.result
+          (answered kind.DisplayHelp c.in-Err.error c.fault_of.result IsHelpOrMemory c.fault_of.ensures.memory c.fault_of.ensures.help
+          (only kind.DisplayHelp c.in-Err.error (subst (λ (ks : Kinds). HasKind ks c.in-Err.error) help kinds)));
+      versioned = λ version. among kind.DisplayVersion (fault_of hunkinfo words) c.in-Err.error (λ no_memory. no_memory) (c.fault_of.ensures.versioned version) kinds;
+      version = λ version.
+          answered kind.DisplayVersion c.in-Err.error c.fault_of.result (λ fault. fault ≡ Version) c.fault_of.ensures.memory c.fault_of.ensures.version
+          (only kind.DisplayVersion c.in-Err.error (subst (λ (ks : Kinds). HasKind ks c.in-Err.error) version kinds));
     }

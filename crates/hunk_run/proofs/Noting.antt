@@ -1,0 +1,243 @@
+-- What a run says, by how it ends.
+use Rattle.std.proofs.Common.{◌≡◌, ◌<◌, ◌≤◌, ◌++◌, ◌∙◌, ◌⊎◌, ℕ, zero, suc, Bool, true, List, Option, Some, None, inl, inr, refl, ap, sym, subst, arith}
+use Rattle.std.specs.Prelude.{Result, Ok, Err, IfOk}
+use Rattle.std.specs.declared.io.Error.{Error}
+use Rattle.hunk_words.specs.Carriers.{Outlet, Writing}
+use Rattle.hunk_command_line.specs.Asked.{IsHelp, IsLine, RefusesOrder}
+use Rattle.hunk_command_line.specs.FaultTexts.{refused_line}
+use Rattle.hunk_command_line.specs.declared.asked.Order.{Order}
+use Rattle.hunk_command_line.specs.declared.asked.Order.TheVariants as orders
+use Rattle.hunk_command_line.specs.declared.asked.OrderFault.{OrderFault}
+use Rattle.hunk_command_line.specs.declared.asked.OrderFault.TheVariants as words
+use Rattle.hunk_commands.specs.declared.fault.RunFault.{RunFault}
+use Rattle.hunk_commands.specs.declared.fault.RunFault.TheVariants.{HexText, Memory, Read, Refused, Write}
+use Rattle.hunk_commands.specs.declared.rewriting.Rewritten.{Rewritten}
+use Rattle.hunk_commands.specs.Faults.{line_of, status_of}
+use Rattle.hunk_commands.specs.Output.{Takes}
+use Rattle.hunk_listing.specs.RewritingLines.{left_out_line, wrote_line}
+use Rattle.hunk_run.specs.declared.listing.Listing.{Listing}
+use Rattle.hunk_run.specs.declared.note.Ended.{Ended}
+use Rattle.hunk_run.specs.declared.note.Note.{Note}
+use Rattle.hunk_run.specs.declared.note.Note.TheVariants.{Fault, LeftOut, Line, NotText, Output}
+use Rattle.hunk_run.specs.Notes.{EndsByFault, EndsListing, EndsOrFails, EndsRewriting, NamesFiles, Notes, fault_ended, input_of, left_out_note, output_failed, refusal_ended, refusal_text, rewritten_ended}
+use Rattle.hunk_run.specs.Runs.{Lists, PrintsNoHelp, Rewrites, TellsRewriting}
+use Rattle.hunk_run.specs.Status.{PrintsOrFails, TellsFindings, TellsOutcome, TellsStatus, with_newline}
+
+-- what the status tells, where the note goes with it
+pub tells_noted : {W : Type 0} (outlet : W → Outlet) (old new : Writing W) (status : ℕ) (note : Option Note) →
+    Notes outlet old new status note → TellsStatus outlet old new status
+tells_noted outlet old new status None (inl done) = inl done
+tells_noted outlet old new status None (inr found) = inr (inr (inr (inr found)))
+tells_noted outlet old new status (Some (Line why)) notes = inr (inl notes)
+tells_noted outlet old new status (Some NotText) notes = inr (inl notes)
+tells_noted outlet old new status (Some (Fault fault name cause)) (is, takes) = inr (inr (inl (fault, is, takes)))
+tells_noted outlet old new status (Some Output) notes = inr (inr (inr (inl notes)))
+tells_noted outlet old new status (Some (LeftOut name rest)) notes = inl notes
+
+-- no status is above 4
+few_status : (fault : RunFault) → status_of fault ≤ 4
+few_status Memory = omega arith
+few_status HexText = omega arith
+few_status (Read place) = omega arith
+few_status (Write written) = omega arith
+few_status (Refused refusal) = omega arith
+
+pub bound_noted : {W : Type 0} (outlet : W → Outlet) (old new : Writing W) (status : ℕ) (note : Option Note) →
+    Notes outlet old new status note → status ≤ 4
+bound_noted outlet old new status None (inl done) = omega (arith, done)
+bound_noted outlet old new status None (inr (bytes, text, is, found, takes)) = omega (arith, is)
+bound_noted outlet old new status (Some (Line why)) (is, takes) = omega (arith, is)
+bound_noted outlet old new status (Some NotText) (is, takes) = omega (arith, is)
+bound_noted outlet old new status (Some (Fault fault name cause)) (is, takes) = omega (arith, few_status fault, is)
+bound_noted outlet old new status (Some Output) (is, broken) = omega (arith, is)
+bound_noted outlet old new status (Some (LeftOut name rest)) is = omega (arith, is)
+
+-- a fault has no status of a run that has done what it was to do
+some_status : (fault : RunFault) → 0 < status_of fault
+some_status Memory = omega arith
+some_status HexText = omega arith
+some_status (Read place) = omega arith
+some_status (Write written) = omega arith
+some_status (Refused refusal) = omega arith
+
+module _ {W : Type 0} (outlet : W → Outlet) (old new : Writing W) where
+  -- a text that is printed where the run ends so
+  pub notes_ended : (text : List ℕ) (ended result : Ended) → EndsOrFails outlet old new text ended result →
+      (Takes outlet old new text → Notes outlet old new ended.status ended.note) → Notes outlet old new result.status result.note
+  notes_ended text ended result (inl (is, takes)) notes = subst (λ (e : Ended). Notes outlet old new e.status e.note) (sym is) (notes takes)
+  notes_ended text ended result (inr (is, broken)) notes = subst (λ (e : Ended). Notes outlet old new e.status e.note) (sym is) (refl, broken)
+
+  pub prints_ended : (text : List ℕ) (ended result : Ended) → EndsOrFails outlet old new text ended result →
+      PrintsOrFails outlet old new text ended.status result.status
+  prints_ended text ended result (inl (is, takes)) = inl (ap (λ (e : Ended). e.status) is, takes)
+  prints_ended text ended result (inr (is, broken)) = inr (ap (λ (e : Ended). e.status) is, broken)
+
+  pub notes_fault : (fault : RunFault) (name : Option (List ℕ)) (cause : Option Error) (result : Ended) →
+      EndsByFault outlet old new fault name cause result → Notes outlet old new result.status result.note
+  notes_fault fault name cause result (inl ends) = notes_ended _ (fault_ended fault name cause) result ends (λ takes. (refl, takes))
+  notes_fault fault name cause result (inr ends) = notes_ended _ (fault_ended Memory None None) result ends (λ takes. (refl, takes))
+
+  fault_not_done : (fault : RunFault) (name : Option (List ℕ)) (cause : Option Error) (text : List ℕ) (result : Ended) →
+      EndsOrFails outlet old new text (fault_ended fault name cause) result → result.status ≡ 0 → ⊥
+  fault_not_done fault name cause text result (inl (is, takes)) none =
+      let same = ap (λ (e : Ended). e.status) is in omega (arith, some_status fault, same, none)
+  fault_not_done fault name cause text result (inr (is, broken)) none =
+      let same = ap (λ (e : Ended). e.status) is in omega (arith, same, none)
+
+  pub not_done : (fault : RunFault) (name : Option (List ℕ)) (cause : Option Error) (result : Ended) →
+      EndsByFault outlet old new fault name cause result → result.status ≡ 0 → ⊥
+  not_done fault name cause result (inl ends) none = fault_not_done fault name cause _ result ends none
+  not_done fault name cause result (inr ends) none = fault_not_done Memory None None _ result ends none
+
+  -- words that are no order
+  pub notes_refusal : (fault : OrderFault) (result : Ended) → EndsOrFails outlet old new (refusal_text fault) (refusal_ended fault) result →
+      Notes outlet old new result.status result.note
+  notes_refusal (words.Line why) result ends = notes_ended _ (refusal_ended (words.Line why)) result ends (λ takes. (refl, takes))
+  notes_refusal words.NotText result ends = notes_ended _ (refusal_ended words.NotText) result ends (λ takes. (refl, takes))
+  notes_refusal (words.Help text) result ends = notes_ended _ (refusal_ended (words.Help text)) result ends (λ takes. inl refl)
+  notes_refusal words.Version result ends = notes_ended _ (refusal_ended words.Version) result ends (λ takes. inl refl)
+  notes_refusal words.Memory result ends = notes_ended _ (refusal_ended words.Memory) result ends (λ takes. (refl, takes))
+
+  some_ended : (text : List ℕ) (ended result : Ended) → EndsOrFails outlet old new text ended result → 0 < ended.status → result.status ≡ 0 → ⊥
+  some_ended text ended result (inl (is, takes)) some none = let same = ap (λ (e : Ended). e.status) is in omega (arith, some, same, none)
+  some_ended text ended result (inr (is, broken)) some none = let same = ap (λ (e : Ended). e.status) is in omega (arith, same, none)
+
+  pub unheard : (fault : OrderFault) (result : Ended) → EndsOrFails outlet old new (refusal_text fault) (refusal_ended fault) result →
+      (IsHelp fault → ⊥) → (fault ≡ words.Version → ⊥) → result.status ≡ 0 → ⊥
+  unheard (words.Line why) result ends no_help no_version none = some_ended _ (refusal_ended (words.Line why)) result ends (omega arith) none
+  unheard words.NotText result ends no_help no_version none = some_ended _ (refusal_ended words.NotText) result ends (omega arith) none
+  unheard (words.Help text) result ends no_help no_version none = no_help tt
+  unheard words.Version result ends no_help no_version none = no_version refl
+  unheard words.Memory result ends no_help no_version none = some_ended _ (refusal_ended words.Memory) result ends (omega arith) none
+
+  -- where there is an order memory ran out
+  memory_where : (wanted : Option Order) (order : Order) (fault : OrderFault) → RefusesOrder wanted fault → wanted ≡ Some order → fault ≡ words.Memory
+  memory_where wanted order fault (inl memory) some = memory
+  memory_where wanted order fault (inr (is, none)) some = cc
+
+  pub unordered : (wanted : Option Order) (order : Order) (fault : OrderFault) (result : Ended) → RefusesOrder wanted fault → wanted ≡ Some order →
+      EndsOrFails outlet old new (refusal_text fault) (refusal_ended fault) result → result.status ≡ 0 → ⊥
+  unordered wanted order fault result refuses some ends none =
+      some_ended _ (refusal_ended words.Memory) result
+      (subst (λ (f : OrderFault). EndsOrFails outlet old new (refusal_text f) (refusal_ended f) result) (memory_where wanted order fault refuses some) ends) (omega arith) none
+
+  names_nothing : (order : Order) (text : List ℕ) (result : Ended) → EndsOrFails outlet old new text (fault_ended Memory None None) result → NamesFiles order result.note
+  names_nothing order text result (inl (is, takes)) = subst (λ (e : Ended). NamesFiles order e.note) (sym is) tt
+  names_nothing order text result (inr (is, broken)) = subst (λ (e : Ended). NamesFiles order e.note) (sym is) tt
+
+  pub unnamed : (wanted : Option Order) (order : Order) (fault : OrderFault) (result : Ended) → RefusesOrder wanted fault → wanted ≡ Some order →
+      EndsOrFails outlet old new (refusal_text fault) (refusal_ended fault) result → NamesFiles order result.note
+  unnamed wanted order fault result refuses some ends =
+      names_nothing order _ result
+      (subst (λ (f : OrderFault). EndsOrFails outlet old new (refusal_text f) (refusal_ended f) result) (memory_where wanted order fault refuses some) ends)
+
+  -- no help is printed
+  prints_line : (fault : OrderFault) (result : Ended) → IsLine fault → EndsOrFails outlet old new (refusal_text fault) (refusal_ended fault) result →
+      PrintsOrFails outlet old new (with_newline refused_line) 2 result.status
+  prints_line (words.Line why) result is ends = prints_ended _ (refusal_ended (words.Line why)) result ends
+  prints_line words.NotText result is ends = absurd is
+  prints_line (words.Help text) result is ends = absurd is
+  prints_line words.Version result is ends = absurd is
+  prints_line words.Memory result is ends = absurd is
+
+  pub prints_no_help : (wanted : Option Order) (fault : OrderFault) (result : Ended) → RefusesOrder wanted fault →
+      EndsOrFails outlet old new (refusal_text fault) (refusal_ended fault) result → PrintsNoHelp outlet old new result.status
+  prints_no_help wanted fault result (inl memory) ends =
+      inr (prints_ended _ (refusal_ended words.Memory) result
+      (subst (λ (f : OrderFault). EndsOrFails outlet old new (refusal_text f) (refusal_ended f) result) memory ends))
+  prints_no_help wanted fault result (inr (is, none)) ends = inl (prints_line fault result is ends)
+
+  -- a fault of a file of this name
+  names_ended : (order : Order) (text : List ℕ) (ended result : Ended) → EndsOrFails outlet old new text ended result → NamesFiles order ended.note →
+      NamesFiles order result.note
+  names_ended order text ended result (inl (is, takes)) names = subst (λ (e : Ended). NamesFiles order e.note) (sym is) names
+  names_ended order text ended result (inr (is, broken)) names = subst (λ (e : Ended). NamesFiles order e.note) (sym is) tt
+
+  pub names_fault : (order : Order) (fault : RunFault) (name : Option (List ℕ)) (cause : Option Error) (result : Ended) →
+      EndsByFault outlet old new fault name cause result → NamesFiles order (Some (Fault fault name cause)) → NamesFiles order result.note
+  names_fault order fault name cause result (inl ends) names = names_ended order _ (fault_ended fault name cause) result ends names
+  names_fault order fault name cause result (inr ends) names = names_nothing order _ result ends
+
+  -- a run that was to rewrite a file
+  names_left_out : (strip : Bool) (rest : ℕ) (input output : List ℕ) → NamesFiles (orders.Rewrite strip input output) (left_out_note rest input)
+  names_left_out strip zero input output = tt
+  names_left_out strip (suc more) input output = refl
+
+  pub names_rewriting : (strip : Bool) (answer : Result Rewritten RunFault) (input output : List ℕ) (cause : Option Error) (result : Ended) →
+      EndsRewriting outlet old new answer input output cause result → NamesFiles (orders.Rewrite strip input output) result.note
+  names_rewriting strip (Ok done) input output cause result ends =
+      names_ended (orders.Rewrite strip input output) _ (rewritten_ended done.rest input) result ends (names_left_out strip done.rest input output)
+  names_rewriting strip (Err (Write written)) input output cause result ends = names_fault (orders.Rewrite strip input output) (Write written) (Some output) cause result ends refl
+  names_rewriting strip (Err Memory) input output cause result ends = names_fault (orders.Rewrite strip input output) Memory (Some input) cause result ends tt
+  names_rewriting strip (Err HexText) input output cause result ends = names_fault (orders.Rewrite strip input output) HexText (Some input) cause result ends refl
+  names_rewriting strip (Err (Read place)) input output cause result ends = names_fault (orders.Rewrite strip input output) (Read place) (Some input) cause result ends refl
+  names_rewriting strip (Err (Refused refusal)) input output cause result ends = names_fault (orders.Rewrite strip input output) (Refused refusal) (Some input) cause result ends refl
+
+  notes_left_out : (rest : ℕ) (name : List ℕ) → Notes outlet old new 0 (left_out_note rest name)
+  notes_left_out zero name = inl refl
+  notes_left_out (suc more) name = refl
+
+  pub notes_rewriting : (answer : Result Rewritten RunFault) (input output : List ℕ) (cause : Option Error) (result : Ended) →
+      EndsRewriting outlet old new answer input output cause result → Notes outlet old new result.status result.note
+  notes_rewriting (Ok done) input output cause result ends =
+      notes_ended _ (rewritten_ended done.rest input) result ends (λ takes. notes_left_out done.rest input)
+  notes_rewriting (Err (Write written)) input output cause result ends = notes_fault (Write written) (Some output) cause result ends
+  notes_rewriting (Err Memory) input output cause result ends = notes_fault Memory (Some input) cause result ends
+  notes_rewriting (Err HexText) input output cause result ends = notes_fault HexText (Some input) cause result ends
+  notes_rewriting (Err (Read place)) input output cause result ends = notes_fault (Read place) (Some input) cause result ends
+  notes_rewriting (Err (Refused refusal)) input output cause result ends = notes_fault (Refused refusal) (Some input) cause result ends
+
+  -- where the status is 0 the file is rewritten
+  pub rewrites_where_done : (strip : Bool) (answer : Result Rewritten RunFault) (input output : List ℕ) (cause : Option Error) (result : Ended) →
+      IfOk answer (λ done. TellsRewriting strip (wrote_line done.written ++ left_out_line done.rest)) →
+      EndsRewriting outlet old new answer input output cause result → result.status ≡ 0 → Rewrites outlet old new strip
+  rewrites_where_done strip (Ok done) input output cause result tells (inl (is, takes)) none =
+      record { text = wrote_line done.written ++ left_out_line done.rest; tells = tells; takes = takes }
+  rewrites_where_done strip (Ok done) input output cause result tells (inr (is, broken)) none =
+      absurd (let same = ap (λ (e : Ended). e.status) is in omega (arith, same, none))
+  rewrites_where_done strip (Err (Write written)) input output cause result tells ends none = absurd (not_done (Write written) (Some output) cause result ends none)
+  rewrites_where_done strip (Err Memory) input output cause result tells ends none = absurd (not_done Memory (Some input) cause result ends none)
+  rewrites_where_done strip (Err HexText) input output cause result tells ends none = absurd (not_done HexText (Some input) cause result ends none)
+  rewrites_where_done strip (Err (Read place)) input output cause result tells ends none = absurd (not_done (Read place) (Some input) cause result ends none)
+  rewrites_where_done strip (Err (Refused refusal)) input output cause result tells ends none = absurd (not_done (Refused refusal) (Some input) cause result ends none)
+
+-- a run that was to list an input; the output is mid behind what was listed
+module _ {W : Type 0} (outlet : W → Outlet) (old mid new : Writing W) (name : Option (List ℕ)) (cause : Option Error) (result : Ended) where
+  notes_since : (fault : RunFault) → mid ≡ old → EndsByFault outlet mid new fault name cause result → Notes outlet old new result.status result.note
+  notes_since fault same ends =
+      subst (λ (w : Writing W). Notes outlet w new result.status result.note) same (notes_fault outlet mid new fault name cause result ends)
+
+  pub notes_listing : (answer : Result ℕ RunFault) → TellsOutcome outlet old mid answer → EndsListing outlet mid new answer name cause result →
+      Notes outlet old new result.status result.note
+  notes_listing (Ok status) outcome (is, same) =
+      subst (λ (e : Ended). Notes outlet old new e.status e.note) (sym is)
+      (subst (λ (w : Writing W). TellsFindings outlet old w status) (sym same) outcome.tells)
+  notes_listing (Err (Write written)) outcome (is, same) =
+      subst (λ (e : Ended). Notes outlet old new e.status e.note) (sym is)
+      (refl, ap (λ (w : Writing W). (outlet w.sink).failed) same ∙ outcome.fails.broken tt)
+  notes_listing (Err Memory) outcome ends = notes_since Memory (outcome.fails.untouched (λ is. is)) ends
+  notes_listing (Err HexText) outcome ends = notes_since HexText (outcome.fails.untouched (λ is. is)) ends
+  notes_listing (Err (Read place)) outcome ends = notes_since (Read place) (outcome.fails.untouched (λ is. is)) ends
+  notes_listing (Err (Refused refusal)) outcome ends = notes_since (Refused refusal) (outcome.fails.untouched (λ is. is)) ends
+
+  -- where the status is 0 the input is listed
+  pub lists_where_done : (listing : Listing) (answer : Result ℕ RunFault) → IfOk answer (λ status. status ≡ 0 → Lists outlet old mid listing) →
+      EndsListing outlet mid new answer name cause result → result.status ≡ 0 → Lists outlet old new listing
+  lists_where_done listing (Ok status) lists (is, same) none =
+      subst (λ (w : Writing W). Lists outlet old w listing) (sym same) (lists (sym (ap (λ (e : Ended). e.status) is) ∙ none))
+  lists_where_done listing (Err (Write written)) lists (is, same) none =
+      absurd (let status = ap (λ (e : Ended). e.status) is in omega (arith, status, none))
+  lists_where_done listing (Err Memory) lists ends none = absurd (not_done outlet mid new Memory name cause result ends none)
+  lists_where_done listing (Err HexText) lists ends none = absurd (not_done outlet mid new HexText name cause result ends none)
+  lists_where_done listing (Err (Read place)) lists ends none = absurd (not_done outlet mid new (Read place) name cause result ends none)
+  lists_where_done listing (Err (Refused refusal)) lists ends none = absurd (not_done outlet mid new (Refused refusal) name cause result ends none)
+
+  -- a fault is one of the input
+  pub names_listing : (order : Order) (answer : Result ℕ RunFault) → EndsListing outlet mid new answer name cause result → name ≡ input_of order →
+      NamesFiles order result.note
+  names_listing order (Ok status) (is, same) names = subst (λ (e : Ended). NamesFiles order e.note) (sym is) tt
+  names_listing order (Err (Write written)) (is, same) names = subst (λ (e : Ended). NamesFiles order e.note) (sym is) tt
+  names_listing order (Err Memory) ends names = names_fault outlet mid new order Memory name cause result ends tt
+  names_listing order (Err HexText) ends names = names_fault outlet mid new order HexText name cause result ends names
+  names_listing order (Err (Read place)) ends names = names_fault outlet mid new order (Read place) name cause result ends names
+  names_listing order (Err (Refused refusal)) ends names = names_fault outlet mid new order (Refused refusal) name cause result ends names

@@ -1,0 +1,146 @@
+-- What a run says on standard error, beside what its output has taken: a writer that is old before it and new after it.
+use Rattle.std.specs.Prelude.{◌≡◌, ◌⊎◌, ◌++◌, ⊤, ℕ, zero, suc, true, List, Option, Some, None, Result, Ok, Err, codes}
+use Rattle.std.specs.Fmt.{decimal}
+use Rattle.std.specs.String.{string_bytes}
+use Rattle.std.specs.declared.io.Error.{Error}
+use Rattle.hunk_words.specs.Carriers.{Outlet, Writing}
+use Rattle.hunk_words.specs.Meanings.{meaning_of}
+use Rattle.hunk_command_line.specs.declared.asked.Order.{Order}
+use Rattle.hunk_command_line.specs.declared.asked.Order.TheVariants as orders
+use Rattle.hunk_command_line.specs.declared.asked.OrderFault.{OrderFault}
+use Rattle.hunk_command_line.specs.declared.asked.OrderFault.TheVariants as words
+use Rattle.hunk_command_line.specs.FaultTexts.{fault_text, refused_line}
+use Rattle.hunk_commands.specs.declared.fault.RunFault.{RunFault}
+use Rattle.hunk_commands.specs.declared.fault.RunFault.TheVariants.{HexText, Memory, Read, Refused, Write}
+use Rattle.hunk_commands.specs.declared.rewriting.Rewritten.{Rewritten}
+use Rattle.hunk_commands.specs.Faults.{line_of, status_of}
+use Rattle.hunk_commands.specs.Output.{Takes}
+use Rattle.hunk_listing.specs.RewritingLines.{left_out_line, wrote_line}
+use Rattle.hunk_run.specs.declared.note.Ended.{Ended}
+use Rattle.hunk_run.specs.declared.note.Note.{Note}
+use Rattle.hunk_run.specs.declared.note.Note.TheVariants.{Fault, LeftOut, Line, NotText, Output}
+use Rattle.hunk_run.specs.Status.{TellsFindings, with_newline}
+
+-- ---- the texts
+
+-- the name of a file, or else that of the standard stream
+abbrev pub shown_name : Option (List ℕ) → List ℕ → List ℕ
+shown_name (Some name) stream = name
+shown_name None stream = stream
+
+-- what is said of something
+abbrev pub said : List ℕ → List ℕ → List ℕ
+said name what = codes "hunkinfo: " ++ (name ++ (codes ": " ++ (what ++ codes "\n")))
+
+-- what is said of a fault, but where the system's own words are in it
+abbrev pub fault_note : RunFault → Option (List ℕ) → Option Error → Option (List ℕ)
+fault_note Memory name cause = Some (codes "hunkinfo: out of memory\n")
+fault_note HexText name cause = Some (said (shown_name name (codes "standard input"))
+    (codes "no hexadecimal text: two digits a byte are wanted, and nothing else but spaces, tabs and line ends"))
+fault_note (Refused refusal) name cause = Some (said (shown_name name (codes "standard input")) (meaning_of refusal.reason))
+fault_note (Read place) name (Some error) = None
+fault_note (Read place) name None = Some (said (shown_name name (codes "standard input")) (codes "reading failed"))
+fault_note (Write written) name (Some error) = None
+fault_note (Write written) name None = Some (said (shown_name name (codes "standard output")) (codes "writing failed"))
+
+abbrev pub note_text : Note → Option (List ℕ)
+note_text (Line why) = Some (codes "hunkinfo: " ++ string_bytes why)
+note_text NotText = Some (codes "hunkinfo: a word of the command line is no UTF-8 text: give a file of such a name as standard input, as in hunkinfo show < FILE\n")
+note_text (Fault fault name cause) = fault_note fault name cause
+note_text Output = Some (said (codes "standard output") (codes "writing failed"))
+note_text (LeftOut name rest) = Some (codes "hunkinfo: " ++ (name ++ (codes ": left out: " ++ (decimal rest ++ codes " bytes after the load file\n"))))
+
+-- ---- which note there is
+
+-- The output has taken the line that goes with the note, and the status is the one of it. Without a note the status is 0, or findings were printed.
+abbrev pub Notes : {W : Type 0} → (W → Outlet) → Writing W → Writing W → ℕ → Option Note → Type 0
+Notes outlet old new status None = TellsFindings outlet old new status
+Notes outlet old new status (Some (Line why)) = (status ≡ 2) × Takes outlet old new (with_newline refused_line)
+Notes outlet old new status (Some NotText) = (status ≡ 2) × Takes outlet old new (with_newline refused_line)
+Notes outlet old new status (Some (Fault fault name cause)) = (status ≡ status_of fault) × Takes outlet old new (with_newline (line_of fault))
+Notes outlet old new status (Some Output) = (status ≡ 3) × ((outlet new.sink).failed ≡ true)
+Notes outlet old new status (Some (LeftOut name rest)) = status ≡ 0
+
+-- the input of an order, and its output; none is a standard stream
+abbrev pub input_of : Order → Option (List ℕ)
+input_of (orders.Show hex file) = file
+input_of (orders.Validate hex file) = file
+input_of (orders.Relocate hex base budget file) = file
+input_of (orders.Rewrite strip input output) = Some input
+
+abbrev pub output_of : Order → Option (List ℕ)
+output_of (orders.Rewrite strip input output) = Some output
+output_of _ = None
+
+-- whose name is said of a fault
+abbrev pub name_for : RunFault → Order → Option (List ℕ)
+name_for (Write written) order = output_of order
+name_for _ order = input_of order
+
+-- The note is one of the order's files, by its name.
+abbrev pub NamesFiles : Order → Option Note → Type 0
+NamesFiles order (Some (Fault Memory name cause)) = ⊤
+NamesFiles order (Some (Fault fault name cause)) = name ≡ name_for fault order
+NamesFiles order (Some (LeftOut name rest)) = Some name ≡ input_of order
+NamesFiles order (Some (Line why)) = ⊥
+NamesFiles order (Some NotText) = ⊥
+NamesFiles order _ = ⊤
+
+-- ---- how a run ends
+
+-- as when the output has failed
+abbrev pub output_failed : Ended
+output_failed = record { status = 3; note = Some Output }
+
+-- by a fault
+abbrev pub fault_ended : RunFault → Option (List ℕ) → Option Error → Ended
+fault_ended fault name cause = record { status = status_of fault; note = Some (Fault fault name cause) }
+
+-- with a file of which so many bytes were not written
+abbrev pub left_out_note : ℕ → List ℕ → Option Note
+left_out_note zero name = None
+left_out_note (suc more) name = Some (LeftOut name (suc more))
+
+abbrev pub rewritten_ended : ℕ → List ℕ → Ended
+rewritten_ended rest name = record { status = 0; note = left_out_note rest name }
+
+-- where the words are no order
+abbrev pub refusal_ended : OrderFault → Ended
+refusal_ended (words.Line why) = record { status = 2; note = Some (Line why) }
+refusal_ended words.NotText = record { status = 2; note = Some NotText }
+refusal_ended (words.Help text) = record { status = 0; note = None }
+refusal_ended words.Version = record { status = 0; note = None }
+refusal_ended words.Memory = fault_ended Memory None None
+
+-- and what is printed then
+abbrev pub refusal_text : OrderFault → List ℕ
+refusal_text (words.Line why) = with_newline refused_line
+refusal_text words.NotText = with_newline refused_line
+refusal_text (words.Help text) = string_bytes text
+refusal_text words.Version = fault_text words.Version
+refusal_text words.Memory = with_newline (line_of Memory)
+
+-- The output has taken this text, and the run ends so; or the output has failed.
+abbrev pub EndsOrFails : {W : Type 0} → (W → Outlet) → Writing W → Writing W → List ℕ → Ended → Ended → Type 0
+EndsOrFails outlet old new text ended result =
+    ((result ≡ ended) × Takes outlet old new text)
+    ⊎ ((result ≡ output_failed) × ((outlet new.sink).failed ≡ true))
+
+-- The output has taken the line of the fault, or where memory for it is refused that of memory.
+abbrev pub EndsByFault : {W : Type 0} → (W → Outlet) → Writing W → Writing W → RunFault → Option (List ℕ) → Option Error → Ended → Type 0
+EndsByFault outlet old new fault name cause result =
+    EndsOrFails outlet old new (with_newline (line_of fault)) (fault_ended fault name cause) result
+    ⊎ EndsOrFails outlet old new (with_newline (line_of Memory)) (fault_ended Memory None None) result
+
+-- how a run ends that has listed an input, or not: where the output failed nothing more is written
+abbrev pub EndsListing : {W : Type 0} → (W → Outlet) → Writing W → Writing W → Result ℕ RunFault → Option (List ℕ) → Option Error → Ended → Type 0
+EndsListing outlet old new (Ok status) name cause result = (result ≡ record { status = status; note = None }) × (new ≡ old)
+EndsListing outlet old new (Err (Write written)) name cause result = (result ≡ output_failed) × (new ≡ old)
+EndsListing outlet old new (Err fault) name cause result = EndsByFault outlet old new fault name cause result
+
+-- how a run ends that has rewritten a file, or not
+abbrev pub EndsRewriting : {W : Type 0} → (W → Outlet) → Writing W → Writing W → Result Rewritten RunFault → List ℕ → List ℕ → Option Error → Ended → Type 0
+EndsRewriting outlet old new (Ok done) input output cause result =
+    EndsOrFails outlet old new (wrote_line done.written ++ left_out_line done.rest) (rewritten_ended done.rest input) result
+EndsRewriting outlet old new (Err (Write written)) input output cause result = EndsByFault outlet old new (Write written) (Some output) cause result
+EndsRewriting outlet old new (Err fault) input output cause result = EndsByFault outlet old new fault (Some input) cause result

@@ -1,0 +1,127 @@
+//! What a run says on standard error.
+ghost use Rattle.std.specs.Prelude.{◌≡◌};
+ghost use Rattle.std.specs.Fmt.{DisplaysOnOk};
+ghost use Rattle.hunk_run.specs.Notes.{fault_note, note_text, output_failed, shown_name};
+
+use hunk_command_line::FileName;
+use hunk_commands::RunFault;
+use std::error::Error;
+use std::{fmt, io};
+
+/// What is said of a word that is not UTF-8.
+const NOT_TEXT: &str = "a word of the command line is no UTF-8 text: give a file of such a name as \
+    standard input, as in hunkinfo show < FILE";
+
+/// What is said of an input that is not the text that `--hex` reads.
+const NO_HEX_TEXT: &str = "no hexadecimal text: two digits a byte are wanted, and nothing else but \
+    spaces, tabs and line ends";
+
+/// What a run says on standard error, to a person. It is displayed with its last line end.
+#[derive(Debug, Drop)]
+pub enum Note {
+    /// The words are no order, for the reason that this text gives, which has its line end.
+    Line(String),
+    /// A word of the command line is not UTF-8.
+    NotText,
+    /// The fault that the run ended with.
+    Fault {
+        /// The fault.
+        fault: RunFault,
+        /// The input, or the output where writing failed; `None` is a standard stream.
+        name: Option<FileName>,
+        /// What the system says of it.
+        cause: Option<io::Error>,
+    },
+    /// Standard output failed.
+    Output,
+    /// What follows the load file of this name was not written.
+    LeftOut {
+        /// The name of IN.
+        name: FileName,
+        /// How many bytes follow.
+        rest: u64,
+    },
+}
+
+/// How a run ends.
+#[derive(Debug, Drop)]
+pub struct Ended {
+    /// The exit status.
+    pub status: u8,
+    /// What it says on standard error, if anything.
+    pub note: Option<Note>,
+}
+
+/// How a run ends whose standard output failed: nothing more is written to it.
+pub(crate) fn output_failed() -> Ended
+    ensures { result ≡ output_failed }
+{
+    Ended {
+        status: 3,
+        note: Some(Note::Output),
+    }
+}
+
+/// The name to show of a file, or of a standard stream.
+fn shown<'a>(name: &'a Option<FileName>, stream: &'a str) -> &'a str
+    ensures { result.now ≡ shown_name name.entry.now stream.entry.now }
+{
+    match name {
+        Some(name) => name.as_str(),
+        None => stream,
+    }
+}
+
+impl fmt::Display for Note {
+    ghost output = { λ note. note_text note };
+
+    fn fmt<W: fmt::Write>(&self, f: &mut fmt::Formatter<W>) -> fmt::Result {
+        match self {
+            Note::Line(why) => write!(f, "hunkinfo: {why}"),
+            Note::NotText => write!(f, "hunkinfo: {NOT_TEXT}\n"),
+            Note::Fault { fault, name, cause } => write_fault(f, *fault, name, cause),
+            Note::Output => write!(f, "hunkinfo: standard output: writing failed\n"),
+            Note::LeftOut { name, rest } => {
+                let name = name.as_str();
+                write!(
+                    f,
+                    "hunkinfo: {name}: left out: {rest} bytes after the load file\n"
+                )
+            }
+        }
+    }
+}
+
+/// Writes what is said of a fault.
+fn write_fault<W: fmt::Write>(
+    f: &mut fmt::Formatter<W>,
+    fault: RunFault,
+    name: &Option<FileName>,
+    cause: &Option<io::Error>,
+) -> fmt::Result
+    ensures { DisplaysOnOk W.write_str_gives f.old result
+        (fault_note fault name.entry.now cause.entry.now) f.new }
+{
+    let input = shown(name, "standard input");
+    match (fault, cause) {
+        (RunFault::Memory, _) => write!(f, "hunkinfo: out of memory\n"),
+        (RunFault::HexText, _) => write!(f, "hunkinfo: {input}: {NO_HEX_TEXT}\n"),
+        (RunFault::Refused(refusal), _) => {
+            let meaning = refusal.reason.meaning();
+            write!(f, "hunkinfo: {input}: {meaning}\n")
+        }
+        (RunFault::Read { .. }, Some(error)) => write!(f, "hunkinfo: {input}: {error}\n"),
+        (RunFault::Read { .. }, None) => write!(f, "hunkinfo: {input}: reading failed\n"),
+        (RunFault::Write { written }, Some(error)) => {
+            let output = shown(name, "standard output");
+            write!(
+                f,
+                "hunkinfo: {output}: {error}: the first {written} bytes of it are written\n"
+            )
+        }
+        (RunFault::Write { .. }, None) => {
+            let output = shown(name, "standard output");
+            write!(f, "hunkinfo: {output}: writing failed\n")
+        }
+    }
+}
