@@ -1,4 +1,4 @@
-use Rattle.std.proofs.Common.{rules, List, ℕ, Some, None, Option, codes, sym, subst}
+use Rattle.std.proofs.Common.{rules, List, ℕ, Some, Option, codes, sym, subst}
 use Rattle.std.specs.Fmt.{DisplaysOnOk}
 use Rattle.std.specs.declared.io.Error.{Error}
 use Rattle.hunk_commands.specs.declared.fault.RunFault.{RunFault}
