@@ -129,17 +129,19 @@ fn refused_parts(rt: HostRuntime) -> Result<(), Fail> {
         expect(&rt, &bytes, *place, *part);
         expect_shown(&rt, rt.alloc(), *part, shown)?;
     }
-    // Two bytes behind a whole hunk.
-    let bytes = spelled(rt.alloc(), "3E7 0 / 3EB 1 / 3F2 / 0")?;
-    expect(
-        &rt,
-        &bytes[..22],
-        20,
-        Part::Unit {
-            number: 0,
-            hunk: Some(1),
-        },
-    );
+    Ok(())
+}
+
+/// Two bytes behind a whole hunk.
+#[test]
+fn refused_behind_a_hunk(rt: HostRuntime) -> Result<(), Fail> {
+    let mut bytes = spelled(rt.alloc(), "3E7 0 / 3EB 1 / 3F2 / 0")?;
+    bytes.truncate(22);
+    let part = Part::Unit {
+        number: 0,
+        hunk: Some(1),
+    };
+    expect(&rt, &bytes, 20, part);
     Ok(())
 }
 
