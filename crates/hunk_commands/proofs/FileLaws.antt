@@ -1,11 +1,8 @@
 -- Files of the input, and what is told of them.
 use Rattle.std.proofs.Common.{ℕ, List, length, refl, inl, inr, ap, ap₂}
-use Rattle.hunk_words.specs.declared.reason.Reason.TheVariants as reasons
-use Rattle.hunk_grammar.specs.declared.file_kind.Sniff.{Sniff}
-use Rattle.hunk_grammar.specs.declared.file_kind.Sniff.TheVariants as sniffs
 use Rattle.hunk_files.specs.ObjectFile.{ObjectFileValue}
 use Rattle.hunk_files.specs.Findings.{findings}
-use Rattle.hunk_files.specs.HunkFile.{IsFileOf, IsRefusal}
+use Rattle.hunk_files.specs.HunkFile.{IsFileOf}
 use Rattle.hunk_files.specs.declared.hunk_file.HunkFile.{HunkFile}
 use Rattle.hunk_files.specs.declared.hunk_file.HunkFile.TheVariants as files
 use Rattle.hunk_listing.specs.FileLines.{load_listing, object_listing}
@@ -23,12 +20,3 @@ shown_file bytes (files.Object value) is = inr (is.0, ap object_listing is.1)
 pub validated_file : (bytes : List ℕ) (file : HunkFile) → IsFileOf bytes file → IsValidated (finding_count file) bytes (report file)
 validated_file bytes (files.Load value rest) is = inl (is.0, refl, ap₂ load_summary is.1 is.2)
 validated_file bytes (files.Object value) is = inr (is.0, ap (λ (v : ObjectFileValue). length (findings v)) is.1, ap object_report is.1)
-
--- ---- refusals
-
--- the limit of an input is no fault of its bytes
-pub no_limit : (kind : Sniff) (bytes : List ℕ) (place : ℕ) → IsRefusal kind bytes (record { place = place; reason = reasons.FileLimit }) → ⊥
-no_limit sniffs.Object bytes place is = let no = is.1 in cc
-no_limit sniffs.Load bytes place is = let no = is.1 in cc
-no_limit sniffs.Library bytes place is = let no = is.1 in cc
-no_limit sniffs.Other bytes place is = let no = is.1 in cc

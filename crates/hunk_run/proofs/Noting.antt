@@ -10,7 +10,7 @@ use Rattle.hunk_command_line.specs.declared.asked.Order.TheVariants as orders
 use Rattle.hunk_command_line.specs.declared.asked.OrderFault.{OrderFault}
 use Rattle.hunk_command_line.specs.declared.asked.OrderFault.TheVariants as words
 use Rattle.hunk_commands.specs.declared.fault.RunFault.{RunFault}
-use Rattle.hunk_commands.specs.declared.fault.RunFault.TheVariants.{HexText, Memory, Read, Refused, Write}
+use Rattle.hunk_commands.specs.declared.fault.RunFault.TheVariants.{HexText, Memory, Read, Refused, RefusedIn, Write}
 use Rattle.hunk_commands.specs.declared.rewriting.Rewritten.{Rewritten}
 use Rattle.hunk_commands.specs.Faults.{status_of}
 use Rattle.hunk_commands.specs.Output.{Takes}
@@ -41,6 +41,7 @@ few_status HexText = omega arith
 few_status (Read place) = omega arith
 few_status (Write written) = omega arith
 few_status (Refused refusal) = omega arith
+few_status (RefusedIn refusal part) = omega arith
 
 pub bound_noted : {W : Type 0} (outlet : W → Outlet) (old new : Writing W) (status : ℕ) (note : Option Note) →
     Notes outlet old new status note → status ≤ 4
@@ -59,6 +60,7 @@ some_status HexText = omega arith
 some_status (Read place) = omega arith
 some_status (Write written) = omega arith
 some_status (Refused refusal) = omega arith
+some_status (RefusedIn refusal part) = omega arith
 
 module _ {W : Type 0} (outlet : W → Outlet) (old new : Writing W) where
   -- a text that is printed where the run ends so
@@ -172,6 +174,7 @@ module _ {W : Type 0} (outlet : W → Outlet) (old new : Writing W) where
   names_rewriting strip (Err HexText) input output cause result ends = names_fault (orders.Rewrite strip input output) HexText (Some input) cause result ends refl
   names_rewriting strip (Err (Read place)) input output cause result ends = names_fault (orders.Rewrite strip input output) (Read place) (Some input) cause result ends refl
   names_rewriting strip (Err (Refused refusal)) input output cause result ends = names_fault (orders.Rewrite strip input output) (Refused refusal) (Some input) cause result ends refl
+  names_rewriting strip (Err (RefusedIn refusal part)) input output cause result ends = names_fault (orders.Rewrite strip input output) (RefusedIn refusal part) (Some input) cause result ends refl
 
   notes_left_out : (rest : ℕ) (name : List ℕ) → Notes outlet old new 0 (left_out_note rest name)
   notes_left_out zero name = inl refl
@@ -186,6 +189,7 @@ module _ {W : Type 0} (outlet : W → Outlet) (old new : Writing W) where
   notes_rewriting (Err HexText) input output cause result ends = notes_fault HexText (Some input) cause result ends
   notes_rewriting (Err (Read place)) input output cause result ends = notes_fault (Read place) (Some input) cause result ends
   notes_rewriting (Err (Refused refusal)) input output cause result ends = notes_fault (Refused refusal) (Some input) cause result ends
+  notes_rewriting (Err (RefusedIn refusal part)) input output cause result ends = notes_fault (RefusedIn refusal part) (Some input) cause result ends
 
   -- where the status is 0 the file is rewritten
   pub rewrites_where_done : (strip : Bool) (answer : Result Rewritten RunFault) (input output : List ℕ) (cause : Option Error) (result : Ended) →
@@ -200,6 +204,7 @@ module _ {W : Type 0} (outlet : W → Outlet) (old new : Writing W) where
   rewrites_where_done strip (Err HexText) input output cause result tells ends none = absurd (not_done HexText (Some input) cause result ends none)
   rewrites_where_done strip (Err (Read place)) input output cause result tells ends none = absurd (not_done (Read place) (Some input) cause result ends none)
   rewrites_where_done strip (Err (Refused refusal)) input output cause result tells ends none = absurd (not_done (Refused refusal) (Some input) cause result ends none)
+  rewrites_where_done strip (Err (RefusedIn refusal part)) input output cause result tells ends none = absurd (not_done (RefusedIn refusal part) (Some input) cause result ends none)
 
 -- a run that was to list an input; the output is mid behind what was listed
 module _ {W : Type 0} (outlet : W → Outlet) (old mid new : Writing W) (name : Option (List ℕ)) (cause : Option Error) (result : Ended) where
@@ -219,6 +224,7 @@ module _ {W : Type 0} (outlet : W → Outlet) (old mid new : Writing W) (name : 
   notes_listing (Err HexText) outcome ends = notes_since HexText (outcome.fails.untouched (λ is. is)) ends
   notes_listing (Err (Read place)) outcome ends = notes_since (Read place) (outcome.fails.untouched (λ is. is)) ends
   notes_listing (Err (Refused refusal)) outcome ends = notes_since (Refused refusal) (outcome.fails.untouched (λ is. is)) ends
+  notes_listing (Err (RefusedIn refusal part)) outcome ends = notes_since (RefusedIn refusal part) (outcome.fails.untouched (λ is. is)) ends
 
   -- where the status is 0 the input is listed
   pub lists_where_done : (listing : Listing) (answer : Result ℕ RunFault) → IfOk answer (λ status. status ≡ 0 → Lists outlet old mid listing) →
@@ -231,6 +237,7 @@ module _ {W : Type 0} (outlet : W → Outlet) (old mid new : Writing W) (name : 
   lists_where_done listing (Err HexText) lists ends none = absurd (not_done outlet mid new HexText name cause result ends none)
   lists_where_done listing (Err (Read place)) lists ends none = absurd (not_done outlet mid new (Read place) name cause result ends none)
   lists_where_done listing (Err (Refused refusal)) lists ends none = absurd (not_done outlet mid new (Refused refusal) name cause result ends none)
+  lists_where_done listing (Err (RefusedIn refusal part)) lists ends none = absurd (not_done outlet mid new (RefusedIn refusal part) name cause result ends none)
 
   -- a fault is one of the input
   pub names_listing : (order : Order) (answer : Result ℕ RunFault) → EndsListing outlet mid new answer name cause result → name ≡ input_of order →
@@ -241,3 +248,4 @@ module _ {W : Type 0} (outlet : W → Outlet) (old mid new : Writing W) (name : 
   names_listing order (Err HexText) ends names = names_fault outlet mid new order HexText name cause result ends names
   names_listing order (Err (Read place)) ends names = names_fault outlet mid new order (Read place) name cause result ends names
   names_listing order (Err (Refused refusal)) ends names = names_fault outlet mid new order (Refused refusal) name cause result ends names
+  names_listing order (Err (RefusedIn refusal part)) ends names = names_fault outlet mid new order (RefusedIn refusal part) name cause result ends names

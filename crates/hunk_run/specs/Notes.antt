@@ -4,14 +4,19 @@ use Rattle.std.specs.Fmt.{decimal}
 use Rattle.std.specs.String.{string_bytes}
 use Rattle.std.specs.declared.io.Error.{Error}
 use Rattle.hunk_words.specs.Carriers.{Outlet, Writing}
+use Rattle.hunk_words.specs.Classes.{class_of, words_of_class}
 use Rattle.hunk_words.specs.Meanings.{meaning_of}
+use Rattle.hunk_words.specs.declared.class.Class.{Class}
+use Rattle.hunk_words.specs.declared.class.Class.TheVariants as classes
+use Rattle.hunk_files.specs.FileParts.{part_line}
+use Rattle.hunk_files.specs.declared.part.Part.{Part}
 use Rattle.hunk_command_line.specs.declared.asked.Order.{Order}
 use Rattle.hunk_command_line.specs.declared.asked.Order.TheVariants as orders
 use Rattle.hunk_command_line.specs.declared.asked.OrderFault.{OrderFault}
 use Rattle.hunk_command_line.specs.declared.asked.OrderFault.TheVariants as words
 use Rattle.hunk_command_line.specs.FaultTexts.{fault_text, refused_line}
 use Rattle.hunk_commands.specs.declared.fault.RunFault.{RunFault}
-use Rattle.hunk_commands.specs.declared.fault.RunFault.TheVariants.{HexText, Memory, Read, Refused, Write}
+use Rattle.hunk_commands.specs.declared.fault.RunFault.TheVariants.{HexText, Memory, Read, Refused, RefusedIn, Write}
 use Rattle.hunk_commands.specs.declared.rewriting.Rewritten.{Rewritten}
 use Rattle.hunk_commands.specs.Faults.{line_of, status_of}
 use Rattle.hunk_commands.specs.Output.{Takes}
@@ -19,6 +24,7 @@ use Rattle.hunk_listing.specs.RewritingLines.{left_out_line, wrote_line}
 use Rattle.hunk_run.specs.declared.note.Ended.{Ended}
 use Rattle.hunk_run.specs.declared.note.Note.{Note}
 use Rattle.hunk_run.specs.declared.note.Note.TheVariants.{Fault, LeftOut, Line, NotText, Output}
+use Rattle.hunk_run.specs.declared.verdict.Verdict.{Verdict}
 use Rattle.hunk_run.specs.Status.{TellsFindings, with_newline}
 
 -- ---- the texts
@@ -32,12 +38,23 @@ shown_name None stream = stream
 abbrev pub said : List ℕ → List ℕ → List ℕ
 said name what = codes "hunkinfo: " ++ (name ++ (codes ": " ++ (what ++ codes "\n")))
 
+-- a refusal: its class, unless the file is not judged, the part of the file that it is in, where one is known, and what the reason means
+abbrev pub judged : Class → Option Part → List ℕ → List ℕ
+judged classes.NotJudged part meaning = meaning
+judged classes.NoHunkFile part meaning = words_of_class classes.NoHunkFile ++ (codes ": " ++ meaning)
+judged class None meaning = words_of_class class ++ (codes ": " ++ meaning)
+judged class (Some part) meaning = words_of_class class ++ (codes " in " ++ (part_line part ++ (codes ": " ++ meaning)))
+
+abbrev pub verdict_line : Verdict → List ℕ
+verdict_line verdict = judged (class_of verdict.refusal) verdict.part (meaning_of verdict.refusal.reason)
+
 -- what is said of a fault, but where the system's own words are in it
 abbrev pub fault_note : RunFault → Option (List ℕ) → Option Error → Option (List ℕ)
 fault_note Memory name cause = Some (codes "hunkinfo: out of memory\n")
 fault_note HexText name cause = Some (said (shown_name name (codes "standard input"))
     (codes "no hexadecimal text: two digits a byte are wanted, and nothing else but spaces, tabs and line ends"))
-fault_note (Refused refusal) name cause = Some (said (shown_name name (codes "standard input")) (meaning_of refusal.reason))
+fault_note (Refused refusal) name cause = Some (said (shown_name name (codes "standard input")) (verdict_line (record { refusal = refusal; part = None })))
+fault_note (RefusedIn refusal part) name cause = Some (said (shown_name name (codes "standard input")) (verdict_line (record { refusal = refusal; part = Some part })))
 fault_note (Read place) name (Some error) = None
 fault_note (Read place) name None = Some (said (shown_name name (codes "standard input")) (codes "reading failed"))
 fault_note (Write written) name (Some error) = None

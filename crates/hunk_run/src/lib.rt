@@ -23,6 +23,7 @@ mod listing;
 mod note;
 mod rewriting;
 mod to_file;
+mod verdict;
 
 use crate::listing::{Listing, list_file};
 use crate::note::output_failed;

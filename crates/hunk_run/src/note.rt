@@ -3,6 +3,7 @@ ghost use Rattle.std.specs.Prelude.{◌≡◌};
 ghost use Rattle.std.specs.Fmt.{DisplaysOnOk};
 ghost use Rattle.hunk_run.specs.Notes.{fault_note, note_text, output_failed, shown_name};
 
+use crate::verdict::Verdict;
 use hunk_command_line::FileName;
 use hunk_commands::RunFault;
 use std::error::Error;
@@ -107,8 +108,18 @@ fn write_fault<W: fmt::Write>(
         (RunFault::Memory, _) => write!(f, "hunkinfo: out of memory\n"),
         (RunFault::HexText, _) => write!(f, "hunkinfo: {input}: {NO_HEX_TEXT}\n"),
         (RunFault::Refused(refusal), _) => {
-            let meaning = refusal.reason.meaning();
-            write!(f, "hunkinfo: {input}: {meaning}\n")
+            let verdict = Verdict {
+                refusal,
+                part: None,
+            };
+            write!(f, "hunkinfo: {input}: {verdict}\n")
+        }
+        (RunFault::RefusedIn { fault, part }, _) => {
+            let verdict = Verdict {
+                refusal: fault,
+                part: Some(part),
+            };
+            write!(f, "hunkinfo: {input}: {verdict}\n")
         }
         (RunFault::Read { .. }, Some(error)) => write!(f, "hunkinfo: {input}: {error}\n"),
         (RunFault::Read { .. }, None) => write!(f, "hunkinfo: {input}: reading failed\n"),

@@ -9,6 +9,12 @@ use test_helpers::{examples, spelled};
 /// What stands in the file `a`, the words, the bytes that standard output takes, and what is said.
 type Row = (&'static [u8], &'static str, usize, &'static str);
 
+/// A load file of two hunks of a longword. A list of the second has the offset 1.
+const IN_HUNK_1: &[u8] = b"\0\0\x03\xF3\0\0\0\0\0\0\0\x02\0\0\0\0\0\0\0\x01\0\0\0\x01\0\0\0\x01\
+    \0\0\x03\xE9\0\0\0\x01\x4E\x75\x4E\x71\0\0\x03\xF2\
+    \0\0\x03\xEA\0\0\0\x01\0\0\0\0\
+    \0\0\x03\xEC\0\0\0\x01\0\0\0\0\0\0\0\x01\0\0\0\0\0\0\x03\xF2";
+
 const SAID: &[Row] = &[
     // Nothing where all is done.
     (OTHER, "hunkinfo show a", ANY, ""),
@@ -30,18 +36,62 @@ const SAID: &[Row] = &[
         "hunkinfo: error: invalid value '1000' for '--base <HEX>': eight hexadecimal digits are \
         wanted\n\nFor more information, try '--help'.\n",
     ),
-    // The input.
+    // The input, with its class and its part.
     (
         b"\0\0\x03\xF3",
         "hunkinfo validate a",
         ANY,
-        "hunkinfo: a: the input ends too soon, inside the file\n",
+        "hunkinfo: a: damaged in the header: the input ends too soon\n",
     ),
     (
         b"",
         "hunkinfo relocate --base 00000000",
         ANY,
-        "hunkinfo: standard input: the input ends too soon, inside the file\n",
+        "hunkinfo: standard input: no hunk file: the input ends too soon\n",
+    ),
+    (
+        b"000003F3 00000000 00000002 00000000 00000000",
+        "hunkinfo show --hex a",
+        ANY,
+        "hunkinfo: a: not supported in the header: the last hunk is not the table size less 1, as in \
+        files with overlays\n",
+    ),
+    (
+        IN_HUNK_1,
+        "hunkinfo rewrite a b",
+        ANY,
+        "hunkinfo: a: damaged in hunk 1: a relocated longword runs past the end of its hunk\n",
+    ),
+    (
+        IN_HUNK_1,
+        "hunkinfo relocate --base 00000000 a",
+        ANY,
+        "hunkinfo: a: damaged: a relocated longword runs past the end of its hunk\n",
+    ),
+    (
+        IN_HUNK_1,
+        "hunkinfo relocate --base 00000000 --budget 7 a",
+        ANY,
+        "hunkinfo: a: the hunks declare more bytes than the budget allows\n",
+    ),
+    (
+        b"000003E7 00000000 000003E9 00000000 000003EF 03000001",
+        "hunkinfo validate --hex a",
+        ANY,
+        "hunkinfo: a: damaged in unit 0 hunk 0: an EXT entry of a type that is not known\n",
+    ),
+    (
+        b"000003E7 01000000",
+        "hunkinfo show --hex a",
+        ANY,
+        "hunkinfo: a: damaged in unit 0: the top byte of the longword with the length of a name is \
+        not 0\n",
+    ),
+    (
+        b"000003E9",
+        "hunkinfo show --hex a",
+        ANY,
+        "hunkinfo: a: no hunk file: the first longword is not 3F3\n",
     ),
     (
         OTHER,

@@ -1,10 +1,9 @@
-use Rattle.std.proofs.Common.{rules, List, ℕ, Some, Option, codes, sym, subst}
+use Rattle.std.proofs.Common.{rules, List, ℕ, Some, None, Option, codes, sym, subst}
 use Rattle.std.specs.Fmt.{DisplaysOnOk}
 use Rattle.std.specs.declared.io.Error.{Error}
 use Rattle.hunk_commands.specs.declared.fault.RunFault.{RunFault}
 use Rattle.hunk_commands.specs.declared.fault.RunFault.TheVariants.{Read, Write}
-use Rattle.hunk_words.specs.Meanings.{meaning_of}
-use Rattle.hunk_run.specs.Notes.{fault_note, said}
+use Rattle.hunk_run.specs.Notes.{fault_note, said, verdict_line}
 use Rattle.hunk_run.proofs.note.write_fault.Goals as goal
 
 pub returns-in-HexText-default : goal.returns-in-HexText-default
@@ -20,11 +19,16 @@ returns-in-Refused-default g c =
     subst (λ (fault : RunFault). DisplaysOnOk g.W.Write.write_str_gives c.args.f.now c.write-in-Refused-default.result (fault_note fault c.args.name.now c.args.cause.now) c.write-in-Refused-default.new.self)
     (sym c.in-Refused-default.is-0)
     (subst (λ (input : List ℕ). DisplaysOnOk g.W.Write.write_str_gives c.args.f.now c.write-in-Refused-default.result
-    (Some (said input (meaning_of c.in-Refused-default.refusal.reason))) c.write-in-Refused-default.new.self)
-    c.shown-input.ensures
-    (subst (λ (meaning : List ℕ). DisplaysOnOk g.W.Write.write_str_gives c.args.f.now c.write-in-Refused-default.result
-    (Some (said c.shown-input.result.now meaning)) c.write-in-Refused-default.new.self)
-    c.meaning-meaning.ensures (search rules)))
+    (Some (said input (verdict_line (record { refusal = c.in-Refused-default.refusal; part = None })))) c.write-in-Refused-default.new.self)
+    c.shown-input.ensures (search rules))
+
+pub returns-in-RefusedIn-default : goal.returns-in-RefusedIn-default
+returns-in-RefusedIn-default g c =
+    subst (λ (fault : RunFault). DisplaysOnOk g.W.Write.write_str_gives c.args.f.now c.write-in-RefusedIn-default.result (fault_note fault c.args.name.now c.args.cause.now) c.write-in-RefusedIn-default.new.self)
+    (sym c.in-RefusedIn-default.is-0)
+    (subst (λ (input : List ℕ). DisplaysOnOk g.W.Write.write_str_gives c.args.f.now c.write-in-RefusedIn-default.result
+    (Some (said input (verdict_line (record { refusal = c.in-RefusedIn-default.fault-0; part = Some c.in-RefusedIn-default.part-0 })))) c.write-in-RefusedIn-default.new.self)
+    c.shown-input.ensures (search rules))
 
 pub returns-in-Read-None : goal.returns-in-Read-None
 returns-in-Read-None g c =

@@ -1,0 +1,33 @@
+//! What a run says of a refused file.
+ghost use Rattle.std.specs.Prelude.{Some};
+ghost use Rattle.hunk_run.specs.Notes.{verdict_line};
+
+use hunk_files::Part;
+use hunk_words::{Class, Fault};
+use std::fmt;
+
+/// A refusal and the part of the file that it is in, where one is known.
+///
+/// It is displayed as its class, unless the file is not judged, its part and what its reason means:
+/// `damaged in hunk 3: a relocated longword runs past the end of its hunk`.
+#[derive(Clone, Copy, Debug, PartialEq, Eq)]
+pub(crate) struct Verdict {
+    /// The refusal.
+    pub refusal: Fault,
+    /// The part of the file.
+    pub part: Option<Part>,
+}
+
+impl fmt::Display for Verdict {
+    ghost output = { λ verdict. Some (verdict_line verdict) };
+
+    fn fmt<W: fmt::Write>(&self, f: &mut fmt::Formatter<W>) -> fmt::Result {
+        let class = self.refusal.class();
+        let meaning = self.refusal.reason.meaning();
+        match (class, self.part) {
+            (Class::NotJudged, _) => write!(f, "{meaning}"),
+            (Class::NoHunkFile, _) | (_, None) => write!(f, "{class}: {meaning}"),
+            (_, Some(part)) => write!(f, "{class} in {part}: {meaning}"),
+        }
+    }
+}
