@@ -5,7 +5,7 @@
 mod fault;
 mod hex_text;
 mod input;
-mod reading;
+mod refusing;
 mod relocating;
 mod rewriting;
 mod showing;

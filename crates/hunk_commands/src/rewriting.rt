@@ -9,7 +9,7 @@ ghost use Rattle.hunk_commands.specs.Rewritten.{IsRewritten, stripped_where};
 
 use crate::fault::RunFault;
 use crate::input::read_all;
-use crate::reading::read_file;
+use crate::refusing::refused_in;
 use hunk_files::FileView;
 use hunk_words::{LongWriter, Printer, Sink, Source, WriteFault};
 use std::alloc::Global;
@@ -75,7 +75,10 @@ pub fn rewrite_bytes<W: Sink>(
         bytes.now w.old w.new result }
     ensures written { IfOk result (λ done. done.written ≡ saturated w.new.written) }
 {
-    let file = read_file(bytes)?;
+    let file = match FileView::read(bytes) {
+        Ok(file) => file,
+        Err(fault) => return Err(refused_in(bytes, fault)),
+    };
     let rest = file.rest();
     put_file(w, &file, bytes, strip)?;
     Ok(Rewritten {

@@ -4,7 +4,7 @@ ghost use Rattle.hunk_commands.specs.Shown.{IsShown};
 
 use crate::fault::RunFault;
 use crate::input::read_all;
-use crate::reading::read_file;
+use crate::refusing::refused_in;
 use hunk_files::FileView;
 use hunk_listing::{print_load_file, print_object_file};
 use hunk_words::{LongWriter, Printer, Sink, Source};
@@ -56,7 +56,10 @@ pub fn show_bytes<W: Sink>(bytes: &[u8], w: &mut LongWriter<W>) -> Result<(), Ru
     ensures { PutsOrRefuses W.outlet (λ (_ : Unit). IsShown bytes.now)
         bytes.now w.old w.new result }
 {
-    let file = read_file(bytes)?;
+    let file = match FileView::read(bytes) {
+        Ok(file) => file,
+        Err(fault) => return Err(refused_in(bytes, fault)),
+    };
     let mut page = Printer::new(w);
     match &file {
         FileView::Load { file, rest } => print_load_file(&mut page, file, *rest),

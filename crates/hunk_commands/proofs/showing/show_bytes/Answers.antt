@@ -1,26 +1,26 @@
-use Rattle.std.proofs.Common.{rules}
+use Rattle.std.proofs.Common.{rules, Err, refl}
 use Rattle.std.proofs.lemmas.Result.{err_from_is_err_and}
 use Rattle.hunk_files.specs.FileView.{file_of}
 use Rattle.hunk_commands.specs.Shown.{IsShown, file_listing}
 use Rattle.hunk_commands.proofs.{FileLaws.shown_file, Engines.{put_all, put_first, refuses}}
 use Rattle.hunk_commands.proofs.showing.show_bytes.Goals as goal
 
-pub returns-in_err-file : goal.returns-in_err-file
-returns-in_err-file g c =
-    refuses g.W.Sink.outlet (λ _. IsShown c.args.bytes.now) c.args.bytes.now c.args.w.now c.from_residual.result c.in_err-file.field-0.0
-    (err_from_is_err_and c.from_residual.result c.from_residual.ensures.1) c.in_err-file.ensures.none c.in_err-file.ensures.refused
+pub returns-in-Err : goal.returns-in-Err
+returns-in-Err g c =
+    refuses g.W.Sink.outlet (λ _. IsShown c.args.bytes.now) c.args.bytes.now c.args.w.now (Err c.refused_in.result) c.refused_in.result
+    (c.refused_in.result, refl, refl) c.in-Err.ensures.none c.refused_in.ensures
 
 pub returns-in_err-printed : goal.returns-in_err-printed
 returns-in_err-printed g c =
     let bytes = c.args.bytes.now in
-    let file = file_of c.in_ok-file.file in
+    let file = file_of c.in-Ok.file in
     put_first g.W.Sink.outlet (λ _. IsShown bytes) bytes c.args.w.now {S = Unit} _ (file_listing file) tt
-    (shown_file bytes file c.in_ok-file.ensures.file) c.from_residual-in_err-printed.result c.in_err-printed.field-0.0 (search rules)
-    (err_from_is_err_and c.from_residual-in_err-printed.result c.from_residual-in_err-printed.ensures.1)
+    (shown_file bytes file c.in-Ok.ensures.file) c.from_residual.result c.in_err-printed.field-0.0 (search rules)
+    (err_from_is_err_and c.from_residual.result c.from_residual.ensures.1)
 
 pub returns : goal.returns
 returns g c =
     let bytes = c.args.bytes.now in
-    let file = file_of c.in_ok-file.file in
+    let file = file_of c.in-Ok.file in
     put_all g.W.Sink.outlet (λ _. IsShown bytes) bytes c.args.w.now _ (file_listing file) tt
-    (shown_file bytes file c.in_ok-file.ensures.file) c.in_ok-printed.field-0 (search rules)
+    (shown_file bytes file c.in-Ok.ensures.file) c.in_ok-printed.field-0 (search rules)
