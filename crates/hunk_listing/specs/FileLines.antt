@@ -23,9 +23,12 @@ numbered lines number (x ∷ xs) = lines number x ++ numbered lines (number + 1)
 unfoldable pub load_line : ℕ → ℕ → List ℕ
 load_line hunks bytes = codes "load file " ++ decimal hunks ++ codes " hunks " ++ decimal bytes ++ codes " bytes\n"
 
--- `rest D bytes`, where bytes follow the file
+-- `rest D bytes`: how many follow the file
 unfoldable pub rest_line : ℕ → List ℕ
-rest_line rest = if rest == 0 then [] else codes "rest " ++ decimal rest ++ codes " bytes\n"
+rest_line rest = codes "rest " ++ decimal rest ++ codes " bytes\n"
+
+abbrev pub where_rest : ℕ → List ℕ
+where_rest rest = if rest == 0 then [] else rest_line rest
 
 abbrev pub memory_text : Memory → List ℕ
 memory_text memories.Any = codes "any"
@@ -47,7 +50,7 @@ load_head file = load_line (length file) (declared_bytes (table file))
 
 -- of the file and the number of bytes that follow it
 abbrev pub load_listing : LoadFileValue → ℕ → List ℕ
-load_listing file rest = load_head file ++ numbered hunk_lines 0 file ++ rest_line rest
+load_listing file rest = load_head file ++ numbered hunk_lines 0 file ++ where_rest rest
 
 -- ---- an object file
 

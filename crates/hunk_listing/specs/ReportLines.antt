@@ -8,11 +8,11 @@ use Rattle.hunk_files.specs.LoadFile.{LoadFileValue}
 use Rattle.hunk_files.specs.ObjectFile.{ObjectFileValue}
 use Rattle.hunk_files.specs.Findings.{findings}
 use Rattle.hunk_listing.specs.Printed.{hexadecimal}
-use Rattle.hunk_listing.specs.FileLines.{load_head, rest_line}
+use Rattle.hunk_listing.specs.FileLines.{load_head, where_rest}
 
 -- the first line of `show`, and its last where bytes follow the file
 abbrev pub load_summary : LoadFileValue → ℕ → List ℕ
-load_summary file rest = load_head file ++ rest_line rest
+load_summary file rest = load_head file ++ where_rest rest
 
 abbrev pub finding_name : FindingKind → List ℕ
 finding_name BadTarget = codes "BadTarget"

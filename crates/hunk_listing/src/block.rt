@@ -18,6 +18,13 @@ use hunk_blocks::{BodyView, EntriesIter, Group, GroupsIter, Payload, SymbolView,
 use hunk_files::BlockViews;
 use hunk_words::{BlockWord, Printer, Sink, SizeWord};
 
+/// The flags of a block word, as `BlockWord::flags` gives them.
+const ADVISORY: u8 = 1;
+
+const CHIP: u8 = 2;
+
+const FAST: u8 = 4;
+
 /// Prints the lines of the blocks of a hunk, which leaves none of them to come.
 #[tactic(auto, unfolding(crate::specs::BlockLines::end_line))]
 pub(crate) fn print_blocks<W: Sink>(page: &mut Printer<'_, W>, blocks: &mut BlockViews<'_>)
@@ -66,7 +73,7 @@ fn begin_line(word: BlockWord) -> Line
     let mut line = Line::new();
     line.put(b"  ");
     line.put(word.kind().name().unwrap_or("ADVISORY").as_bytes());
-    if word.flags() % 2 == 1 {
+    if word.flags() / ADVISORY % 2 == 1 {
         line.put(b" advisory");
     }
     put_memory_flags(&mut line, word);
@@ -81,10 +88,10 @@ fn put_memory_flags(line: &mut Line, word: BlockWord)
     ensures bound { length line.new ≤ length line.old + 10 }
 {
     let flags = word.flags();
-    if flags / 2 % 2 == 1 {
+    if flags / CHIP % 2 == 1 {
         line.put(b" chip");
     }
-    if flags / 4 == 1 {
+    if flags / FAST % 2 == 1 {
         line.put(b" fast");
     }
 }

@@ -1,5 +1,5 @@
 //! The lines of a load file.
-ghost use Rattle.std.specs.Prelude.{◌≡◌, ◌<◌};
+ghost use Rattle.std.specs.Prelude.{◌≡◌};
 ghost use Rattle.hunk_words.specs.Prints.{Prints};
 ghost use Rattle.hunk_files.specs.LoadHunks.{hunk_seen};
 ghost use Rattle.hunk_listing.specs.FileLines.{hunk_lines, load_head, load_listing, rest_line};
@@ -10,7 +10,6 @@ use hunk_files::{LoadHunkView, LoadView};
 use hunk_words::{Memory, Printer, Sink};
 
 /// Lists the hunks and blocks of a load file that `rest` bytes follow.
-#[tactic(auto, unfolding(crate::specs::FileLines::rest_line))]
 pub fn print_load_file<W: Sink>(page: &mut Printer<'_, W>, file: &LoadView<'_>, rest: u64)
     ensures { Prints page.old page.new (load_listing file.now rest) }
 {
@@ -69,7 +68,6 @@ fn print_hunk<W: Sink>(page: &mut Printer<'_, W>, number: u64, mut hunk: LoadHun
 /// Prints the line that says how many bytes follow the file.
 #[tactic(auto, unfolding(crate::specs::FileLines::rest_line))]
 pub(crate) fn print_rest<W: Sink>(page: &mut Printer<'_, W>, rest: u64)
-    requires { 0 < rest }
     ensures { Prints page.old page.new (rest_line rest) }
 {
     let mut line = Line::new();

@@ -15,7 +15,6 @@ use hunk_words::{Printer, Sink};
 use std::marker::Model;
 
 /// Reports a load file that `rest` bytes follow: nothing is found in one that was accepted.
-#[tactic(auto, unfolding(crate::specs::FileLines::rest_line))]
 pub fn print_load_summary<W: Sink>(page: &mut Printer<'_, W>, file: &LoadView<'_>, rest: u64)
     ensures { Prints page.old page.new (load_summary file.now rest) }
 {
