@@ -79,6 +79,16 @@ module _ {W : Type 0} (outlet : W → Outlet) (old new : Writing W) where
   notes_fault fault name cause result (inl ends) = notes_ended _ (fault_ended fault name cause) result ends (λ takes. (refl, takes))
   notes_fault fault name cause result (inr ends) = notes_ended _ (fault_ended Memory None None) result ends (λ takes. (refl, takes))
 
+  -- a fault that is none of the output
+  pub ends_listing : (fault : RunFault) (name : Option (List ℕ)) (cause : Option Error) (result : Ended) →
+      ((written : ℕ) → fault ≡ Write written → ⊥) → EndsByFault outlet old new fault name cause result → EndsListing outlet old new (Err fault) name cause result
+  ends_listing Memory name cause result other ends = ends
+  ends_listing HexText name cause result other ends = ends
+  ends_listing (Read place) name cause result other ends = ends
+  ends_listing (Refused refusal) name cause result other ends = ends
+  ends_listing (RefusedIn refusal part) name cause result other ends = ends
+  ends_listing (Write written) name cause result other ends = absurd (other written refl)
+
   fault_not_done : (fault : RunFault) (name : Option (List ℕ)) (cause : Option Error) (text : List ℕ) (result : Ended) →
       EndsOrFails outlet old new text (fault_ended fault name cause) result → result.status ≡ 0 → ⊥
   fault_not_done fault name cause text result (inl (is, takes)) none =
