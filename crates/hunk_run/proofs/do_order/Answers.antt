@@ -22,11 +22,11 @@ pub returns-clause-done : goal.returns-clause-done
 returns-clause-done g c = λ is_zero.
     let Listed : Listing → Type 0 = λ listing. Lists g.W.Sink.outlet c.args.out.now c.end_listing.new.out listing in
     let lists : Listed c.match-order.listing.0 =
-      lists_where_done g.W.Sink.outlet c.args.out.now c.list_file-answer.new.out c.end_listing.new.out c.match-order.listing.2 c.list_file-answer.result.1
-      c.end_listing.result c.match-order.listing.0 c.list_file-answer.result.0 c.list_file-answer.ensures.done c.end_listing.ensures is_zero in
+    lists_where_done g.W.Sink.outlet c.args.out.now c.list_file-answer.new.out c.end_listing.new.out c.match-order.listing.2 c.list_file-answer.result.1
+    c.end_listing.result c.match-order.listing.0 c.list_file-answer.result.0 c.list_file-answer.ensures.done c.end_listing.ensures is_zero in
     let for : (o : Order) → c.args.order ≡ o → IsOrderDone g.W.Sink.outlet c.args.out.now c.end_listing.new.out o →
-        IsOrderDone g.W.Sink.outlet c.args.out.now c.end_listing.new.out c.args.order =
-      λ o is done. subst (λ (x : Order). IsOrderDone g.W.Sink.outlet c.args.out.now c.end_listing.new.out x) (sym is) done in
+    IsOrderDone g.W.Sink.outlet c.args.out.now c.end_listing.new.out c.args.order =
+    λ o is done. subst (λ (x : Order). IsOrderDone g.W.Sink.outlet c.args.out.now c.end_listing.new.out x) (sym is) done in
     elim c.match-order.branch [
       | in-Show w ↦ for _ w.in-Show.is (subst Listed (rw w.listing-is refl) lists)
       | in-Validate w ↦ for _ w.in-Validate.is (subst Listed (rw w.listing-is refl) lists)
