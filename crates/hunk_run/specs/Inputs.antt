@@ -1,5 +1,5 @@
 -- Which input can be listed.
-use Rattle.std.specs.Prelude.{◌≡◌, ◌≤◌, ℕ, Bool, true, false, List, Some, length}
+use Rattle.std.specs.Prelude.{◌≡◌, ◌≤◌, ℕ, false, List, Some, length}
 use Rattle.hunk_words.specs.Carriers.{Supply}
 use Rattle.hunk_scatter.specs.LoadOutcomes.{HasFileWithin}
 use Rattle.hunk_scatter.specs.Placing.{packed_from}
@@ -26,8 +26,3 @@ pub record HasText (listing : Listing) (before : Supply) (most : ℕ) : Type 0 w
   pub bytes : List ℕ
   pub spells : SpellsHex text bytes
   pub has : HasListed listing (slice bytes) most
-
--- such a file, or where `hex` is set such a text
-abbrev pub HasInput : Bool → Listing → Supply → ℕ → Type 0
-HasInput true listing before most = HasText listing before most
-HasInput false listing before most = HasListed listing before most

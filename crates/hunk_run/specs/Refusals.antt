@@ -1,5 +1,5 @@
 -- Why nothing is printed of an input.
-use Rattle.std.specs.Prelude.{◌⊎◌, ◌+◌, ℕ, Bool, true, false, List}
+use Rattle.std.specs.Prelude.{◌⊎◌, ◌+◌, ℕ, List}
 use Rattle.hunk_words.specs.Carriers.{Supply}
 use Rattle.hunk_scatter.specs.LoadOutcomes.{Gives}
 use Rattle.hunk_commands.specs.declared.fault.RunFault.{RunFault}
@@ -25,6 +25,6 @@ pub record StopsSpelled (listing : Listing) (before after : Supply) (most : ℕ)
   pub rest : List ℕ
   pub stops : StopsListing listing (slice bytes) (slice rest) most fault
 
-abbrev pub StopsSource : Bool → Listing → Supply → Supply → ℕ → RunFault → Type 0
-StopsSource true listing before after most fault = ReadsNoText fault before after most ⊎ StopsSpelled listing before after most fault
-StopsSource false listing before after most fault = StopsListing listing before after most fault
+-- the text was not read, or that is so
+abbrev pub StopsText : Listing → Supply → Supply → ℕ → RunFault → Type 0
+StopsText listing before after most fault = ReadsNoText fault before after most ⊎ StopsSpelled listing before after most fault

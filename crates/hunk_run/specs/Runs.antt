@@ -1,5 +1,5 @@
 -- What a run has done: its output is a writer that is old before it and new after it.
-use Rattle.std.specs.Prelude.{◌≡◌, ◌⊎◌, ◌+◌, ◌++◌, ℕ, Bool, true, false, List, length}
+use Rattle.std.specs.Prelude.{◌≡◌, ◌⊎◌, ◌+◌, ◌++◌, ℕ, Bool, true, false, List, Option, length}
 use Rattle.std.specs.Io.KnownBytes.{Consumes, IsAtEnd}
 use Rattle.hunk_words.specs.Carriers.{Outlet, Supply, Writing, saturated}
 use Rattle.hunk_words.specs.Longs.{bytes_of}
@@ -86,6 +86,10 @@ pub record ListsSource {W : Type 0} (outlet : W → Outlet) (hex : Bool) (listin
   pub text : List ℕ
   pub is_listed : IsListed listing input text
   pub takes : Takes outlet old new text
+
+-- the same of the input that a reader gave, which had these bytes left
+abbrev pub ListsRead : {W : Type 0} → (W → Outlet) → Bool → Listing → Option (List ℕ) → Writing W → Writing W → Type 0
+ListsRead outlet hex listing left old new = (after : Supply) × ListsSource outlet hex listing (record { left = left; failed = false }) after old new
 
 -- why no bytes were read that a text of at most this many bytes spells
 abbrev pub ReadsNoText : RunFault → Supply → Supply → ℕ → Type 0

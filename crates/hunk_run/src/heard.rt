@@ -1,5 +1,5 @@
 //! A reader whose error is kept.
-ghost use Rattle.std.specs.Prelude.{is_some};
+ghost use Rattle.std.specs.Prelude.{◌≡◌, None, is_some};
 
 use hunk_words::{Failed, Source};
 use std::io;
@@ -14,7 +14,10 @@ pub(crate) struct Heard<R> {
 
 impl<R: Read> Heard<R> {
     /// A source over this reader, of which there is no error yet.
-    pub(crate) fn new(reader: R) -> Heard<R> {
+    pub(crate) fn new(reader: R) -> Heard<R>
+        ensures reader { result.reader ≡ reader }
+        ensures unfailed { result.error ≡ None }
+    {
         Heard {
             reader,
             error: None,

@@ -88,23 +88,10 @@ pub fn run<T: Files + Input, W: Sink>(
     ensures names { (order : Order) → takes hunkinfo (words_read (map string_bytes words.now)) ≡ true
         → order_of (map string_bytes words.now) ≡ Some order → NamesFiles order result.note }
 {
-    match order(alloc, words) {
-        Ok(order) => do_order(rt, alloc, order, out),
-        Err(fault) => refuse(fault, out),
-    }
-}
-
-/// Does what the order asks for, and tells how the run ends.
-fn do_order<T: Files + Input, W: Sink>(
-    rt: &T,
-    alloc: Global,
-    order: Order,
-    out: &mut LongWriter<W>,
-) -> Ended
-    ensures done { result.status ≡ 0 → IsOrderDone W.outlet out.old out.new order }
-    ensures notes { Notes W.outlet out.old out.new result.status result.note }
-    ensures names { NamesFiles order result.note }
-{
+    let order = match order(alloc, words) {
+        Ok(order) => order,
+        Err(fault) => return refuse(fault, out),
+    };
     let (listing, hex, file) = match order {
         Order::Show { hex, file } => (Listing::Show, hex, file),
         Order::Validate { hex, file } => (Listing::Validate, hex, file),

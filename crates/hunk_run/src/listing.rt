@@ -1,13 +1,13 @@
 //! The commands that print what they find in one input.
-ghost use Rattle.std.specs.Prelude.{◌≡◌, ◌+◌, IfErr, IfOk, false};
+ghost use Rattle.std.specs.Prelude.{◌≡◌, ◌+◌, IfErr, IfOk, false, true};
 ghost use Rattle.hunk_commands.specs.declared.fault.RunFault.TheVariants.{Memory};
 ghost use Rattle.hunk_commands.specs.Faults.{IsWrite};
 ghost use Rattle.hunk_commands.specs.HexText.{ReadsHex};
 ghost use Rattle.hunk_commands.specs.Inputs.{TellsReading};
-ghost use Rattle.hunk_run.specs.Inputs.{HasInput, HasListed};
+ghost use Rattle.hunk_run.specs.Inputs.{HasListed, HasText};
 ghost use Rattle.hunk_run.specs.Status.{TellsOutcome};
-ghost use Rattle.hunk_run.specs.Refusals.{StopsListing, StopsSource};
-ghost use Rattle.hunk_run.specs.Runs.{Lists, ListsSource, ReadsNoText};
+ghost use Rattle.hunk_run.specs.Refusals.{StopsListing, StopsText};
+ghost use Rattle.hunk_run.specs.Runs.{Lists, ListsRead, ListsSource, ReadsNoText};
 
 use crate::heard::Heard;
 use crate::{DONE, FILE_BYTES};
@@ -71,36 +71,37 @@ fn list_reader<R: Read + Drop, W: Sink>(
     out: &mut LongWriter<W>,
 ) -> (Result<u8, RunFault>, Option<io::Error>)
     ensures outcome { TellsOutcome W.outlet out.old out.new result.0 }
-    ensures done { IfOk result.0 (λ status. status ≡ 0 → Lists W.outlet out.old out.new listing) }
+    ensures done { IfOk result.0 (λ status. status ≡ 0
+        → ListsRead W.outlet hex listing (R.remaining reader) out.old out.new) }
 {
     let mut source = Heard::new(reader);
-    let answer = list_source(alloc, listing, &mut source, hex, out);
+    let answer = if hex {
+        list_text(alloc, listing, &mut source, out)
+    } else {
+        list_bytes(alloc, listing, &mut source, out)
+    };
     (answer, source.error())
 }
 
-/// The same of the bytes of the source, or of those that its text spells.
-fn list_source<R: Source, W: Sink>(
+/// The same of the bytes that the source's text spells.
+fn list_text<R: Source, W: Sink>(
     alloc: Global,
     listing: Listing,
     source: &mut R,
-    hex: bool,
     out: &mut LongWriter<W>,
 ) -> Result<u8, RunFault>
     ensures outcome { TellsOutcome W.outlet out.old out.new result }
     ensures done { IfOk result
         (λ status. status ≡ 0
-        → ListsSource W.outlet hex listing (R.supply source.old) (R.supply source.new)
+        → ListsSource W.outlet true listing (R.supply source.old) (R.supply source.new)
         out.old out.new) }
-    ensures succeeds { HasInput hex listing (R.supply source.old) FILE_BYTES
+    ensures succeeds { HasText listing (R.supply source.old) FILE_BYTES
         → (R.supply source.new).failed ≡ false → (W.outlet out.new.sink).failed ≡ false
         → IfErr result (λ fault. fault ≡ Memory) }
     ensures tells_read { TellsReading (R.supply source.old) (R.supply source.new) result }
     ensures stops { IfErr result (λ fault. ¬ IsWrite fault
-        → StopsSource hex listing (R.supply source.old) (R.supply source.new) FILE_BYTES fault) }
+        → StopsText listing (R.supply source.old) (R.supply source.new) FILE_BYTES fault) }
 {
-    if !hex {
-        return list_bytes(alloc, listing, source, out);
-    }
     let bytes = spelled_bytes(alloc, source)?;
     list_bytes(alloc, listing, &mut FromSlice::new(bytes.as_slice()), out)
 }

@@ -1,0 +1,61 @@
+use Rattle.std.proofs.Common.{◌≡◌, ◌∙◌, ◌+◌, ℕ, false, true, List, Option, Some, Result, Ok, Err, inr, ap, refl, subst, sym}
+use Rattle.std.specs.Prelude.{IfErr, IfOk, IfSome}
+use Rattle.std.proofs.KnownBytes.{Consumes-whole}
+use Rattle.hunk_words.specs.Carriers.{Outlet, Supply, Writing}
+use Rattle.hunk_commands.specs.Faults.{IsWrite}
+use Rattle.hunk_commands.specs.declared.fault.RunFault.{RunFault}
+use Rattle.hunk_run.specs.declared.listing.Listing.{Listing}
+use Rattle.hunk_commands.specs.HexText.{ReadsHex, SpellsHex}
+use Rattle.hunk_run.specs.Inputs.{HasListed, slice}
+use Rattle.hunk_run.specs.Refusals.{StopsListing, StopsText}
+use Rattle.hunk_run.specs.Runs.{ListsSource}
+use Rattle.hunk_run.proofs.Telling.{lists_text}
+use Rattle.hunk_run.proofs.listing.list_text.Goals as goal
+
+-- what was listed of the bytes is listed of the text that spells them
+lists_where_done : {W : Type 0} (outlet : W → Outlet) (old new : Writing W) (listing : Listing) (before after cut rest : Supply) (most : ℕ) (bytes : List ℕ)
+    (result : Result ℕ RunFault) → ReadsHex before after most bytes → cut.left ≡ Some bytes →
+    IfOk result (λ status. status ≡ 0 → ListsSource outlet false listing cut rest old new) → IfOk result (λ status. status ≡ 0 → ListsSource outlet true listing before after old new)
+lists_where_done outlet old new listing before after cut rest most bytes (Ok status) read known lists =
+    λ done. lists_text outlet old new listing before after cut rest read.input bytes read.read.given read.read.at_end read.holds known (lists done)
+lists_where_done outlet old new listing before after cut rest most bytes (Err fault) read known lists = tt
+
+pub returns-clause-done : goal.returns-clause-done
+returns-clause-done g c =
+    let bytes = c.in_ok-bytes.bytes.items in
+    let known = ap {B = Option (List ℕ)} (λ (xs : List ℕ). Some xs) (c.new.ensures ∙ c.as_slice.ensures.value) in
+    lists_where_done g.W.Sink.outlet c.args.out.now c.list_bytes.new.out c.args.listing _ _ (slice c.new.result) (slice c.list_bytes.new.source) _ bytes _
+    c.in_ok-bytes.ensures.spelled known c.list_bytes.ensures.done
+
+-- where nothing is printed of the bytes, nothing is of the text that spells them
+stops_where : (listing : Listing) (before after : Supply) (given rest bytes : List ℕ) (most : ℕ) (result : Result ℕ RunFault) →
+    ReadsHex before after (most + 1) bytes → given ≡ bytes →
+    IfErr result (λ fault. ¬ IsWrite fault → StopsListing listing (slice given) (slice rest) most fault) →
+    IfErr result (λ fault. ¬ IsWrite fault → StopsText listing before after most fault)
+stops_where listing before after given rest bytes most (Ok status) read known stops = tt
+stops_where listing before after given rest bytes most (Err fault) read known stops =
+    λ other.
+    inr (record {
+      bytes = bytes;
+      read = read;
+      rest = rest;
+      stops = subst (λ (xs : List ℕ). StopsListing listing (slice xs) (slice rest) most fault) known (stops other);
+    })
+
+pub returns-clause-stops : goal.returns-clause-stops
+returns-clause-stops g c =
+    stops_where c.args.listing _ _ c.new.result c.list_bytes.new.source c.in_ok-bytes.bytes.items _ _ c.in_ok-bytes.ensures.spelled
+    (c.new.ensures ∙ c.as_slice.ensures.value) c.list_bytes.ensures.stops
+
+-- a text that was read to its end spells no other bytes
+same_bytes : (before after : Supply) (most : ℕ) (text bytes items : List ℕ) → before.left ≡ Some text → SpellsHex text bytes → ReadsHex before after most items → bytes ≡ items
+same_bytes before after most text bytes items known spells read =
+    let whole = Consumes-whole before.left after.left read.input (λ xs. SpellsHex xs items) read.read.given read.read.at_end read.holds in
+    let also : SpellsHex text items = subst (λ (o : Option (List ℕ)). IfSome o (λ xs. SpellsHex xs items)) known whole in
+    cc
+
+pub returns-clause-succeeds : goal.returns-clause-succeeds
+returns-clause-succeeds g c = λ has sound writes.
+    let same = same_bytes _ _ _ has.text has.bytes c.in_ok-bytes.bytes.items has.left_is has.spells c.in_ok-bytes.ensures.spelled in
+    c.list_bytes.ensures.succeeds
+    (subst (λ (xs : List ℕ). HasListed c.args.listing (slice xs) 67108864) (same ∙ sym (c.new.ensures ∙ c.as_slice.ensures.value)) has.has) refl writes
