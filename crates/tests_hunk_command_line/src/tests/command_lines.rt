@@ -254,11 +254,12 @@ fn expect_said(rt: &impl Abort, alloc: Global, words: &[&str], want: &str) -> Re
     for word in words {
         all.push(String::from_str(alloc, word)?)?;
     }
-    let got = match order(alloc, all.as_slice()) {
-        Err(OrderFault::Line(why)) => why,
-        _ => String::new(alloc),
+    let answer = order(alloc, all.as_slice());
+    let said = match &answer {
+        Err(OrderFault::Line(why)) => why.as_str(),
+        _ => "",
     };
-    assert_eq!(rt; got.as_str(), want, "at {words:?}");
+    assert_eq!(rt; said, want, "at {words:?}");
     Ok(())
 }
 
