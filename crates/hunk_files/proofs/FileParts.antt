@@ -1,6 +1,6 @@
 -- The part of a file at the place where it is refused.
-use Rattle.std.proofs.Common.{◌≡◌, ◌≢◌, ℕ, ◌≤◌, ◌/◌, List, length, take, refl, arith, sym, ap, subst, ◌∙◌, ◌⊎◌, inl, inr}
-use Rattle.std.proofs.lemmas.List.{take_all}
+use Rattle.std.proofs.Common.{◌≡◌, ◌≢◌, ℕ, ◌<◌, ◌≤◌, ◌/◌, List, length, take, refl, arith, sym, ap, subst, ◌∙◌, ◌⊎◌, inl, inr}
+use Rattle.std.proofs.lemmas.{Bool.cases_lt, List.take_all}
 use Rattle.hunk_words.specs.Longs.{longs, IsBytes}
 use Rattle.hunk_words.specs.declared.fault.Fault.{Fault}
 use Rattle.hunk_words.specs.declared.reason.Reason.{Reason}
@@ -18,9 +18,11 @@ use Rattle.hunk_files.proofs.LoadParts.{refused_behind}
 use Rattle.hunk_files.proofs.UnitParts.{refused_front}
 
 -- as many longwords as there are, or as are asked for
-pub same_front : (ws : List ℕ) (count n : ℕ) → (count ≡ n) ⊎ ((count ≡ length ws) × (length ws ≤ n)) → take count ws ≡ take n ws
-same_front ws count n (inl e) = ap (λ (k : ℕ). take k ws) e
-same_front ws count n (inr h) = ap (λ (k : ℕ). take k ws) h.0 ∙ take_all (length ws) ws (omega arith) ∙ sym (take_all n ws h.1)
+pub same_front : (ws : List ℕ) (count n : ℕ) → count ≤ n → (count < n → length ws ≤ count) → take count ws ≡ take n ws
+same_front ws count n few all = elim (cases_lt count n) [
+  | inl less ↦ take_all count ws (all less) ∙ sym (take_all n ws (omega (arith, all less, few)))
+  | inr le ↦ ap (λ (k : ℕ). take k ws) (omega (arith, few, le))
+]
 
 pub in_object : (bytes : List ℕ) (place : ℕ) (reason : Reason) (part : Part) → sniffed (longs bytes) ≡ sniffs.Object → IsRefusal (sniffed (longs bytes)) bytes (fault_at place reason) →
     (IsFront objects (take (place / 4) (longs bytes)) → IsUnitPart (take (place / 4) (longs bytes)) part) → IsPartAt (sniffed (longs bytes)) bytes place part

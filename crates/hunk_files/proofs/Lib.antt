@@ -26,6 +26,7 @@ pub mod Machines
 pub mod Memory
 pub mod Positions
 mod HunkOrder
+mod ObjectGoesOn
 mod ObjectOutcome
 mod ObjectProgress
 mod ObjectRefusals

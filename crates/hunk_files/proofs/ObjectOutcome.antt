@@ -7,7 +7,7 @@ use Rattle.hunk_blocks.specs.Faults.{Expects, IsFront}
 use Rattle.hunk_blocks.proofs.Outcomes.{Keeps, run, leads_run, front, judged, completed}
 use Rattle.hunk_files.specs.ObjectFile.{ObjectFileValue, IsObjectFile, IsNoObjectFile, object_text}
 use Rattle.hunk_files.specs.ObjectFault.{BeforeUnits, BetweenHunks, InHunk, ObjectRole, units_labelled, refuse_object, objects, HasObjectFault}
-use Rattle.hunk_files.proofs.ObjectProgress.{SoFar, begins, expected, goes_on, never, whole_units}
+use Rattle.hunk_files.proofs.ObjectGoesOn.{SoFar, begins, expected, goes_on, never, whole_units}
 use Rattle.hunk_files.proofs.OneObjectFault.{ObjectState, AtWord, AtCount, InName, InBlock, reader, object_reads, file_leads}
 use Rattle.hunk_files.proofs.{UnitFaults.units_words, UnitReading.{object_longs, text_longs}}
 

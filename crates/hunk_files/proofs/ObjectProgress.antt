@@ -1,29 +1,25 @@
--- What has been read of an object file can be completed, and goes on as long as no longword is refused.
-use Rattle.std.proofs.Common.{◌≡◌, ℕ, zero, suc, ◌+◌, ◌^◌, ◌<◌, Bool, true, false, ◌||◌, cond, eqb, ltb, List, [], ◌∷◌, ◌++◌, length, map, refl, sym, ap, subst, ◌∙◌, append_assoc, append-nil, length-append, arith, Some, None}
+-- What has been read of an object file can be completed.
+use Rattle.std.proofs.Common.{◌≡◌, ℕ, zero, suc, ◌+◌, ◌^◌, ◌<◌, false, List, [], ◌∷◌, ◌++◌, length, map, refl, sym, ap, subst, ◌∙◌, append-nil, length-append, arith, None}
 use Rattle.std.specs.List.{flat_map, AllByRecursion}
-use Rattle.std.proofs.lemmas.{Bool.{eqb-true, ltb-true}, List.map-append}
-use Rattle.hunk_words.specs.declared.reason.Reason.TheVariants as reasons
+use Rattle.std.proofs.lemmas.{List.map-append}
 use Rattle.hunk_words.specs.{Bits.kind, Longs.{IsLong, AreLongs}}
 use Rattle.hunk_blocks.specs.declared.mode.Mode.TheVariants as modes
-use Rattle.hunk_blocks.specs.{Values.{BlockValue, IsBlock, IsPayload}, Parts.block_text}
-use Rattle.hunk_blocks.specs.{Modes.{refuse_alone_word, refuse_inside}, Faults.{words, Expects, blocks}}
-use Rattle.hunk_blocks.specs.BlockSteps.{Inside, BlockNext, Open, Whole, part_of, step_inside, begin_body}
-use Rattle.hunk_blocks.proofs.Admitted.{block}
-use Rattle.hunk_blocks.proofs.BlockOutcome.{Inner, block_is, expects_inside, steps_inside, begins_inside}
+use Rattle.hunk_blocks.specs.{Values.{IsBlock}, Parts.block_text}
+use Rattle.hunk_blocks.specs.{Faults.{words, Expects, blocks}}
+use Rattle.hunk_blocks.specs.BlockSteps.{Inside, Open, part_of}
+use Rattle.hunk_blocks.proofs.BlockOutcome.{Inner, expects_inside}
 use Rattle.hunk_blocks.proofs.BlockProgress.{read_inside}
-use Rattle.hunk_blocks.proofs.Lists.{All-more, All-append, flat_map-more, map-more, more_owed, passed_true}
+use Rattle.hunk_blocks.proofs.Lists.{All-append}
 use Rattle.hunk_blocks.proofs.OneBlockFault.{part_not_word}
-use Rattle.hunk_files.specs.LoadFile.{standing, AreInOrder}
-use Rattle.hunk_files.specs.ObjectFile.{ObjectHunk, UnitValue, ObjectFileValue, IsObjectFile, IsObjectHunk, IsUnit, unit_word, unit_header, unit_text, object_text}
-use Rattle.hunk_files.specs.ObjectFault.{WordPlace, BeforeUnits, BetweenHunks, InHunk, ObjectRole, WordAt, UnitCount, UnitName, Within, has_content, behind_block, object_role_at, refuse_unit, refuse_object_word, refuse_object, blocks_from, units_from, objects}
-use Rattle.hunk_grammar.specs.Standings.{BlockStanding, Beside, Content, Relocating, Ending, is_content, is_ending, refuse_standing, standing_of_kind, first_of}
-use Rattle.hunk_files.proofs.HunkFaults.{blocks_at, expects_block, expects_word, expects_within, expects_behind, place_behind, opened}
-use Rattle.hunk_files.proofs.HunkOrder.{Leads, first_both, leads_one, leads_more, leads_end, end_stands, standing_is}
+use Rattle.hunk_files.specs.ObjectFile.{ObjectHunk, UnitValue, ObjectFileValue, IsUnit, unit_word, unit_text, object_text}
+use Rattle.hunk_files.specs.ObjectFault.{WordPlace, BeforeUnits, BetweenHunks, InHunk, ObjectRole, WordAt, UnitCount, UnitName, Within, has_content, object_role_at, blocks_from, units_from, objects}
+use Rattle.hunk_grammar.specs.Standings.{BlockStanding, refuse_standing, standing_of_kind}
+use Rattle.hunk_files.proofs.HunkFaults.{blocks_at, expects_block, expects_word, expects_within, expects_behind, place_behind}
+use Rattle.hunk_files.proofs.HunkOrder.{Leads}
 use Rattle.hunk_files.proofs.FileText.{standings}
-use Rattle.hunk_files.proofs.OneObjectFault.{ObjectState, AtWord, AtCount, InName, InBlock, place_next, in_block, behind_name, reader}
-use Rattle.hunk_files.proofs.ObjectWords.{refuse_place, within_role, within_split, word_split}
-use Rattle.hunk_files.proofs.UnitFaults.{place_after, one_unit, one_is, expects_unit, expects_count, expects_hunk, expects_units}
-use Rattle.hunk_files.proofs.UnitReading.{unit}
+use Rattle.hunk_files.proofs.OneObjectFault.{ObjectState, AtWord, AtCount, InName, InBlock, place_next}
+use Rattle.hunk_files.proofs.ObjectWords.{refuse_place, within_role}
+use Rattle.hunk_files.proofs.UnitFaults.{place_after, one_unit, one_is, expects_unit, expects_hunk, expects_units}
 
 -- ---- what is read so far
 
@@ -103,7 +99,7 @@ pub record InOpen (begun whole : ℕ) (ws : List ℕ) (role : ObjectRole) : Type
   pub begun_are : begun ≡ suc (length units)
   pub whole_are : whole ≡ suc (length unit_open.hunks)
 
-in_file : (ws tail : List ℕ) (role : ObjectRole) (units : ObjectFileValue) → AllByRecursion IsUnit units → ws ≡ object_text units ++ tail → Expects (units_from (place_after units)) tail role → Expects objects ws role
+pub in_file : (ws tail : List ℕ) (role : ObjectRole) (units : ObjectFileValue) → AllByRecursion IsUnit units → ws ≡ object_text units ++ tail → Expects (units_from (place_after units)) tail role → Expects objects ws role
 in_file ws tail role units are split e = subst (λ ys. Expects objects ys role) (sym split) (expects_units units are tail role e)
 
 in_open : (place : WordPlace) (begun whole : ℕ) (ws tail : List ℕ) (role : ObjectRole) → InUnit place begun whole ws tail → Expects (blocks_from place) tail role → InOpen begun whole ws role
@@ -121,7 +117,7 @@ in_open place begun whole ws tail role h e =
       whole_are = h.whole_are;
     }
 
-open_expects : (begun whole : ℕ) (ws : List ℕ) (role : ObjectRole) → InOpen begun whole ws role → Expects objects ws role
+pub open_expects : (begun whole : ℕ) (ws : List ℕ) (role : ObjectRole) → InOpen begun whole ws role → Expects objects ws role
 open_expects begun whole ws role h =
     in_file ws (unit_text h.unit_open ++ h.front) role h.units h.are_units h.split
     (expects_hunk (place_after h.units) h.unit_open h.is_unit h.front role h.goes_on)
@@ -130,7 +126,7 @@ open_expects begun whole ws role h =
 pub word_open : (place : WordPlace) (begun whole : ℕ) (ws : List ℕ) → InUnit place begun whole ws [] → InOpen begun whole ws (WordAt place)
 word_open place begun whole ws h = in_open place begun whole ws [] (WordAt place) h (expects_block place [] (WordAt place) (expects_word place))
 
-word_expected : (place : WordPlace) (begun whole : ℕ) (ws : List ℕ) → CountedAt place begun whole ws → Expects objects ws (WordAt place)
+pub word_expected : (place : WordPlace) (begun whole : ℕ) (ws : List ℕ) → CountedAt place begun whole ws → Expects objects ws (WordAt place)
 word_expected BeforeUnits begun whole ws h = subst (λ ys. Expects objects ys (WordAt BeforeUnits)) (sym h.0) (expects_unit BeforeUnits)
 word_expected BetweenHunks begun whole ws h = open_expects begun whole ws (WordAt BetweenHunks) (word_open BetweenHunks begun whole ws h)
 word_expected (InHunk has) begun whole ws h = open_expects begun whole ws (WordAt (InHunk has)) (word_open (InHunk has) begun whole ws h)
@@ -144,7 +140,7 @@ unfolding zeros
 zeros_fit zero = (tt, refl)
 zeros_fit (suc n) = let z = zeros_fit n in ((omega arith, z.0), omega (arith, z.1))
 
-name_expected : (place : WordPlace) (count : ℕ) (name : List ℕ) (owed : ℕ) → AreLongs name → count < 2 ^ 24 → count ≡ length name + suc owed → Expects (units_from place) (unit_word ∷ count ∷ name) UnitName
+pub name_expected : (place : WordPlace) (count : ℕ) (name : List ℕ) (owed : ℕ) → AreLongs name → count < 2 ^ 24 → count ≡ length name + suc owed → Expects (units_from place) (unit_word ∷ count ∷ name) UnitName
 name_expected place count name owed fit few counts =
     let z = zeros_fit owed in
     let whole : List ℕ = name ++ 0 ∷ zeros owed in
@@ -168,7 +164,7 @@ name_expected place count name owed fit few counts =
     names [] = refl
     names (x ∷ xs) = ap (λ ys. x ∷ ys) (names xs)
 
-standing_goes : (place : WordPlace) (s : BlockStanding) → refuse_place place s ≡ None → refuse_standing (has_content place) s ≡ None
+pub standing_goes : (place : WordPlace) (s : BlockStanding) → refuse_place place s ≡ None → refuse_standing (has_content place) s ≡ None
 standing_goes BeforeUnits s ok = absurd cc
 standing_goes BetweenHunks s ok = ok
 standing_goes (InHunk has) s ok = ok
@@ -182,275 +178,3 @@ inside_open next x begun whole ws h =
     let within = subst (Expects (blocks_at h.place) (h.word ∷ before)) (within_role h.place (part_of x) (part_not_word x)) here in
     in_open h.place begun whole ws h.tail (Within (part_of x)) h.in_unit
     (expects_block h.place h.tail (Within (part_of x)) (subst (λ ys. Expects (blocks_at h.place) ys (Within (part_of x))) (sym h.inner.words_are) within))
-
--- ---- it goes on
-
--- one longword more behind the blocks
-read_more : (place : WordPlace) (begun whole : ℕ) (ws tail : List ℕ) (w : ℕ) → InUnit place begun whole ws tail → InUnit place begun whole (ws ++ w ∷ []) (tail ++ w ∷ [])
-read_more place begun whole ws tail w h =
-    record {
-      units = h.units;
-      unit_open = h.unit_open;
-      blocks = h.blocks;
-      are_units = h.are_units;
-      is_unit = h.is_unit;
-      are_blocks = h.are_blocks;
-      leads = h.leads;
-      place_is = h.place_is;
-      words_are =
-          ap (λ ys. ys ++ w ∷ []) h.words_are
-          ∙ append_assoc (object_text h.units) (unit_text h.unit_open ++ (flat_map block_text h.blocks ++ tail)) (w ∷ [])
-          ∙ ap (λ ys. object_text h.units ++ ys) (append_assoc (unit_text h.unit_open) (flat_map block_text h.blocks ++ tail) (w ∷ []) ∙ ap (λ ys. unit_text h.unit_open ++ ys) (append_assoc (flat_map block_text h.blocks) tail (w ∷ [])));
-      begun_are = h.begun_are;
-      whole_are = h.whole_are;
-    }
-
-units_more : (begun whole : ℕ) (ws tail : List ℕ) (w : ℕ) → BehindUnits begun whole ws tail → BehindUnits begun whole (ws ++ w ∷ []) (tail ++ w ∷ [])
-units_more begun whole ws tail w h =
-    record {
-      units = h.units;
-      are_units = h.are_units;
-      words_are = ap (λ ys. ys ++ w ∷ []) h.words_are ∙ append_assoc (object_text h.units) tail (w ∷ []);
-      begun_are = h.begun_are;
-      none_whole = h.none_whole;
-    }
-
--- between hunks no block is open
-none_open : (bs : ObjectHunk) → place_behind BetweenHunks bs ≡ BetweenHunks → bs ≡ []
-none_open [] e = refl
-none_open (b ∷ bs) e =
-    let o = opened BetweenHunks b bs in
-    let clash : InHunk o.0 ≡ BetweenHunks = sym o.1 ∙ e in
-    cc
-
--- Up to there it is whole units.
-units_read : (begun whole : ℕ) (ws : List ℕ) → (h : InUnit BetweenHunks begun whole ws []) → ws ≡ object_text (h.units ++ h.unit_open ∷ [])
-units_read begun whole ws h =
-    h.words_are
-    ∙ ap (λ (bs : ObjectHunk). object_text h.units ++ (unit_text h.unit_open ++ (flat_map block_text bs ++ []))) (none_open h.blocks h.place_is)
-    ∙ ap (λ ys. object_text h.units ++ ys) (append-nil (unit_text h.unit_open))
-    ∙ sym (flat_map-more unit_text h.units h.unit_open)
-
--- What was read up to there is an object file.
-pub whole_units : (begun whole : ℕ) (ws : List ℕ) → InUnit BetweenHunks begun whole ws [] → (o : ObjectFileValue) × IsObjectFile o × (ws ≡ object_text o)
-whole_units begun whole ws h = (
-  h.units ++ h.unit_open ∷ [],
-  record { some = omega (arith, length-append h.units (h.unit_open ∷ [])); units = All-more IsUnit h.units h.unit_open h.are_units h.is_unit },
-  units_read begun whole ws h,
-)
-
--- a hunk is whole
-hunk_closed : (place : WordPlace) (begun whole : ℕ) (ws : List ℕ) (b : BlockValue) → InUnit place begun whole ws (block_text b) → IsBlock b → refuse_standing (has_content place) (standing b.body) ≡ None → is_ending (standing b.body) ≡ true →
-    InUnit BetweenHunks begun (suc whole) ws []
-hunk_closed place begun whole ws b h is ok e =
-    let u : UnitValue = h.unit_open in
-    let hunk : ObjectHunk = h.blocks ++ b ∷ [] in
-    let closed : IsObjectHunk hunk =
-    record {
-      blocks = All-more IsBlock h.blocks b h.are_blocks is;
-      order = subst (AreInOrder false) (sym (map-more (λ c. standing c.body) h.blocks b)) (leads_end false (has_content place) (standings h.blocks) (standing b.body ∷ []) h.leads (end_stands (has_content place) (standing b.body) ok e));
-    } in
-    let text : unit_text (unit u.name (u.hunks ++ hunk ∷ [])) ≡ unit_text u ++ (flat_map block_text h.blocks ++ block_text b) =
-    ap (λ ys. unit_header u.name ++ ys) (flat_map-more (flat_map block_text) u.hunks hunk)
-    ∙ sym (append_assoc (unit_header u.name) (flat_map (flat_map block_text) u.hunks) (flat_map block_text hunk))
-    ∙ ap (λ ys. unit_text u ++ ys) (flat_map-more block_text h.blocks b) in
-    record {
-      units = h.units;
-      unit_open = unit u.name (u.hunks ++ hunk ∷ []);
-      blocks = [];
-      are_units = h.are_units;
-      is_unit = record { name = h.is_unit.name; hunks = All-more IsObjectHunk u.hunks hunk h.is_unit.hunks closed };
-      are_blocks = tt;
-      leads = refl;
-      place_is = refl;
-      words_are = h.words_are ∙ ap (λ ys. object_text h.units ++ ys) (sym text ∙ sym (append-nil (unit_text (unit u.name (u.hunks ++ hunk ∷ [])))));
-      begun_are = h.begun_are;
-      whole_are = omega (arith, h.whole_are, length-append u.hunks (hunk ∷ []));
-    }
-
-place_more : (place : WordPlace) (bs : ObjectHunk) (b : BlockValue) → place_behind place (bs ++ b ∷ []) ≡ behind_block (place_behind place bs) (standing b.body)
-place_more place [] b = refl
-place_more place (c ∷ bs) b = place_more (behind_block place (standing c.body)) bs b
-
--- a block is whole, and its hunk goes on
-block_closed : (place : WordPlace) (begun whole : ℕ) (ws : List ℕ) (b : BlockValue) → InUnit place begun whole ws (block_text b) → IsBlock b → refuse_standing (has_content place) (standing b.body) ≡ None → is_ending (standing b.body) ≡ false →
-    InUnit (behind_block place (standing b.body)) begun whole ws []
-block_closed place begun whole ws b h is ok e =
-    let has : Bool = has_content place in
-    record {
-      units = h.units;
-      unit_open = h.unit_open;
-      blocks = h.blocks ++ b ∷ [];
-      are_units = h.are_units;
-      is_unit = h.is_unit;
-      are_blocks = All-more IsBlock h.blocks b h.are_blocks is;
-      leads =
-          subst (λ (ss : List BlockStanding). Leads false ss (has || is_content (standing b.body))) (sym (map-more (λ c. standing c.body) h.blocks b))
-          (leads_more false has (has || is_content (standing b.body)) (standings h.blocks) (standing b.body ∷ []) h.leads (leads_one has (standing b.body) ok e));
-      place_is = place_more BetweenHunks h.blocks b ∙ ap (λ (p : WordPlace). behind_block p (standing b.body)) h.place_is;
-      words_are =
-          h.words_are
-          ∙ ap (λ ys. object_text h.units ++ (unit_text h.unit_open ++ ys)) (sym (flat_map-more block_text h.blocks b) ∙ sym (append-nil (flat_map block_text (h.blocks ++ b ∷ []))));
-      begun_are = h.begun_are;
-      whole_are = h.whole_are;
-    }
-
--- Behind a whole block the next block word is expected.
-closed : (place : WordPlace) (begun whole : ℕ) (ws : List ℕ) (b : BlockValue) → InUnit place begun whole ws (block_text b) → IsBlock b → refuse_standing (has_content place) (standing b.body) ≡ None → Reached (AtWord (place_next place (standing b.body))) begun whole ws
-closed place begun whole ws b h is ok = go (standing b.body) refl
-  where
-    go : (s : BlockStanding) → standing b.body ≡ s → Reached (AtWord (place_next place s)) begun whole ws
-    go Ending e = hunk_closed place begun whole ws b h is ok (ap is_ending e)
-    go Beside e = subst (λ (s : BlockStanding). InUnit (behind_block place s) begun whole ws []) e (block_closed place begun whole ws b h is ok (ap is_ending e))
-    go Content e = subst (λ (s : BlockStanding). InUnit (behind_block place s) begun whole ws []) e (block_closed place begun whole ws b h is ok (ap is_ending e))
-    go Relocating e = subst (λ (s : BlockStanding). InUnit (behind_block place s) begun whole ws []) e (block_closed place begun whole ws b h is ok (ap is_ending e))
-
--- A block word and what was read behind it.
-in_block_so_far : (place : WordPlace) (begun whole : ℕ) (ws tail : List ℕ) (w : ℕ) (n : BlockNext) → InUnit place begun whole ws tail → Inner modes.Object n w tail → refuse_place place (standing_of_kind (kind w)) ≡ None →
-    Reached (in_block (place_next place (standing_of_kind (kind w))) n) begun whole ws
-in_block_so_far place begun whole ws tail w (Open x) h i ok = record { place = place; word = w; tail = tail; in_unit = h; inner = i; stands = ok; next_is = refl }
-in_block_so_far place begun whole ws tail w (Whole b) h i ok =
-    let is = (block_is modes.Object w b i.fits i.ok i.inside).0 in
-    let same : standing b ≡ standing_of_kind (kind w) = standing_is w b i.inside in
-    subst (λ (s : BlockStanding). Reached (AtWord (place_next place s)) begun whole ws) same
-    (closed place begun whole ws (block w b) (subst (InUnit place begun whole ws) i.words_are h) is (ap (refuse_standing (has_content place)) same ∙ standing_goes place (standing_of_kind (kind w)) ok))
-
--- ---- each longword that is not refused
-
--- a unit begins
-unit_begins : (place : WordPlace) (begun whole : ℕ) (ws : List ℕ) (w : ℕ) → CountedAt place begun whole ws → w ≡ unit_word → refuse_unit place ≡ None → BehindUnits (suc begun) 0 (ws ++ w ∷ []) (unit_word ∷ [])
-unit_begins BeforeUnits begun whole ws w h e ok =
-    record { units = []; are_units = tt; words_are = ap (λ ys. ys ++ w ∷ []) h.0 ∙ ap (λ (v : ℕ). v ∷ []) e; begun_are = ap suc h.1; none_whole = refl }
-unit_begins BetweenHunks begun whole ws w h e ok =
-    let units : ObjectFileValue = h.units ++ h.unit_open ∷ [] in
-    record {
-      units = units;
-      are_units = All-more IsUnit h.units h.unit_open h.are_units h.is_unit;
-      words_are = ap (λ ys. ys ++ w ∷ []) (units_read begun whole ws h) ∙ ap (λ (v : ℕ). object_text units ++ v ∷ []) e;
-      begun_are = omega (arith, h.begun_are, length-append h.units (h.unit_open ∷ []));
-      none_whole = refl;
-    }
-unit_begins (InHunk has) begun whole ws w h e ok = absurd cc
-
-block_begins : (place : WordPlace) (begun whole : ℕ) (ws : List ℕ) (w : ℕ) → CountedAt place begun whole ws → IsLong w → refuse_alone_word modes.Object w ≡ None → refuse_place place (standing_of_kind (kind w)) ≡ None →
-    Reached (in_block (place_next place (standing_of_kind (kind w))) (begin_body (kind w))) begun whole (ws ++ w ∷ [])
-block_begins BeforeUnits begun whole ws w h l alone ok = absurd cc
-block_begins BetweenHunks begun whole ws w h l alone ok =
-    in_block_so_far BetweenHunks begun whole (ws ++ w ∷ []) (w ∷ []) w (begin_body (kind w)) (read_more BetweenHunks begun whole ws [] w h) (begins_inside modes.Object w l alone) ok
-block_begins (InHunk has) begun whole ws w h l alone ok =
-    in_block_so_far (InHunk has) begun whole (ws ++ w ∷ []) (w ∷ []) w (begin_body (kind w)) (read_more (InHunk has) begun whole ws [] w h) (begins_inside modes.Object w l alone) ok
-
-word_goes_on : (place : WordPlace) (begun whole : ℕ) (ws : List ℕ) (w : ℕ) → CountedAt place begun whole ws → IsLong w → refuse_object_word place w ≡ None → Reached (reader.step (AtWord place) w) begun whole (ws ++ w ∷ [])
-word_goes_on place begun whole ws w h l ok = go (eqb w unit_word) refl (sym (word_split place w) ∙ ok)
-  where
-    goes : ObjectState
-    goes = in_block (place_next place (standing_of_kind (kind w))) (begin_body (kind w))
-
-    go : (b : Bool) → eqb w unit_word ≡ b → cond b (refuse_unit place) (first_of (refuse_alone_word modes.Object w) (refuse_place place (standing_of_kind (kind w)))) ≡ None → Reached (cond b AtCount goes) begun whole (ws ++ w ∷ [])
-    go true e pass = unit_begins place begun whole ws w h (eqb-true w unit_word e) pass
-    go false e pass = let both = first_both (refuse_alone_word modes.Object w) (refuse_place place (standing_of_kind (kind w))) pass in block_begins place begun whole ws w h l both.0 both.1
-
--- behind the last longword of a name
-named : (begun whole : ℕ) (ws name : List ℕ) (count : ℕ) → BehindUnits begun whole ws (unit_word ∷ count ∷ name) → IsPayload (2 ^ 24) name → count ≡ length name → InUnit BetweenHunks begun (suc whole) ws []
-named begun whole ws name count h fits counts =
-    record {
-      units = h.units;
-      unit_open = unit name [];
-      blocks = [];
-      are_units = h.are_units;
-      is_unit = record { name = fits; hunks = tt };
-      are_blocks = tt;
-      leads = refl;
-      place_is = refl;
-      words_are =
-          h.words_are
-          ∙ ap (λ (n : ℕ). object_text h.units ++ unit_word ∷ n ∷ name) counts
-          ∙ ap (λ ys. object_text h.units ++ ys) (sym (append-nil (unit_header name)) ∙ sym (append-nil (unit_header name ++ [])));
-      begun_are = h.begun_are;
-      whole_are = ap suc h.none_whole;
-    }
-
-count_goes_on : (begun whole : ℕ) (ws : List ℕ) (w : ℕ) → BehindUnits begun whole ws (unit_word ∷ []) → w < 2 ^ 24 → Reached (behind_name w) begun whole (ws ++ w ∷ [])
-count_goes_on begun whole ws zero h few = named begun whole (ws ++ 0 ∷ []) [] 0 (units_more begun whole ws (unit_word ∷ []) 0 h) (omega arith, tt) refl
-count_goes_on begun whole ws (suc owed) h few =
-    record { name = []; count = suc owed; name_fits = tt; few = few; counts = omega arith; behind = units_more begun whole ws (unit_word ∷ []) (suc owed) h }
-
-name_goes_on : (owed begun whole : ℕ) (ws : List ℕ) (w : ℕ) → InUnitName owed begun whole ws → IsLong w → Reached (behind_name owed) begun whole (ws ++ w ∷ [])
-name_goes_on owed begun whole ws w h l = go owed h.counts
-  where
-    fit : AreLongs (h.name ++ w ∷ [])
-    fit = All-more IsLong h.name w h.name_fits l
-
-    behind : BehindUnits begun whole (ws ++ w ∷ []) (unit_word ∷ h.count ∷ (h.name ++ w ∷ []))
-    behind = units_more begun whole ws (unit_word ∷ h.count ∷ h.name) w h.behind
-
-    go : (n : ℕ) → h.count ≡ length h.name + suc n → Reached (behind_name n) begun whole (ws ++ w ∷ [])
-    go zero e =
-        let same : h.count ≡ length (h.name ++ w ∷ []) = omega (arith, e, length-append h.name (w ∷ [])) in
-        named begun whole (ws ++ w ∷ []) (h.name ++ w ∷ []) h.count behind (omega (arith, same, h.few), fit) same
-    go (suc n) e = record { name = h.name ++ w ∷ []; count = h.count; name_fits = fit; few = h.few; counts = e ∙ sym (more_owed h.name w (suc n)); behind = behind }
-
-inside_goes_on : (next : WordPlace) (x : Inside) (begun whole : ℕ) (ws : List ℕ) (w : ℕ) → InUnitBlock next x begun whole ws → IsLong w → refuse_inside (part_of x) w ≡ None → Reached (in_block next (step_inside x w)) begun whole (ws ++ w ∷ [])
-inside_goes_on next x begun whole ws w h l ok =
-    subst (λ (p : WordPlace). Reached (in_block p (step_inside x w)) begun whole (ws ++ w ∷ [])) h.next_is
-    (in_block_so_far h.place begun whole (ws ++ w ∷ []) (h.tail ++ w ∷ []) h.word (step_inside x w) (read_more h.place begun whole ws h.tail w h.in_unit) (steps_inside modes.Object x h.word h.tail w h.inner l ok) h.stands)
-
--- ---- all of it
-
--- some longword is expected everywhere
-pub never : (s : ObjectState) → reader.expects s ≡ None → ⊥
-never (AtWord place) e = cc
-never AtCount e = cc
-never (InName owed) e = cc
-never (InBlock next x) e = cc
-
--- Some object file begins so, and goes on as is expected.
-pub counted_expects : (s : ObjectState) (begun whole : ℕ) (before : List ℕ) (role : ObjectRole) → Counted s begun whole before → reader.expects s ≡ Some role → Expects objects before role
-counted_expects (AtWord place) begun whole before role h e =
-    let same : WordAt place ≡ role = cc in
-    subst (Expects objects before) same (word_expected place begun whole before h)
-counted_expects AtCount begun whole before role h e =
-    let same : UnitCount ≡ role = cc in
-    subst (Expects objects before) same (in_file before (unit_word ∷ []) UnitCount h.units h.are_units h.words_are (expects_count (place_after h.units)))
-counted_expects (InName owed) begun whole before role h e =
-    let same : UnitName ≡ role = cc in
-    let b = h.behind in
-    subst (Expects objects before) same (in_file before (unit_word ∷ h.count ∷ h.name) UnitName b.units b.are_units b.words_are (name_expected (place_after b.units) h.count h.name owed h.name_fits h.few h.counts))
-counted_expects (InBlock next x) begun whole before role h e =
-    let same : Within (part_of x) ≡ role = cc in
-    subst (Expects objects before) same (open_expects begun whole before (Within (part_of x)) (inside_open next x begun whole before h))
-
--- A longword that is not refused keeps this.
-pub counted_goes_on : (s : ObjectState) (begun whole : ℕ) (before : List ℕ) (role : ObjectRole) (w : ℕ) → Counted s begun whole before → reader.expects s ≡ Some role → IsLong w → refuse_object role w ≡ None → Reached (reader.step s w) begun whole (before ++ w ∷ [])
-counted_goes_on (AtWord place) begun whole before role w h e l ok =
-    let same : WordAt place ≡ role = cc in
-    word_goes_on place begun whole before w h l (ap (λ (r : ObjectRole). refuse_object r w) same ∙ ok)
-counted_goes_on AtCount begun whole before role w h e l ok =
-    let same : UnitCount ≡ role = cc in
-    count_goes_on begun whole before w h (ltb-true w (2 ^ 24) (passed_true (ltb w (2 ^ 24)) reasons.NameWord (ap (λ (r : ObjectRole). refuse_object r w) same ∙ ok)))
-counted_goes_on (InName owed) begun whole before role w h e l ok = name_goes_on owed begun whole before w h l
-counted_goes_on (InBlock next x) begun whole before role w h e l ok =
-    let same : Within (part_of x) ≡ role = cc in
-    inside_goes_on next x begun whole before w h l (sym (within_split (part_of x) w) ∙ ap (λ (r : ObjectRole). refuse_object r w) same ∙ ok)
-
--- ---- without the numbers
-
-abbrev pub SoFar : ObjectState → List ℕ → Type 0
-SoFar s ws = (begun : ℕ) × (whole : ℕ) × Counted s begun whole ws
-
-pub begins : SoFar (AtWord BeforeUnits) []
-begins = (0, 0, (refl, refl, refl))
-
-pub expected : (s : ObjectState) (before : List ℕ) (role : ObjectRole) → SoFar s before → reader.expects s ≡ Some role → Expects objects before role
-expected s before role h e = counted_expects s h.0 h.1 before role h.2 e
-
-counted_of : (s : ObjectState) (begun whole : ℕ) (ws : List ℕ) → Reached s begun whole ws → SoFar s ws
-counted_of (AtWord BeforeUnits) begun whole ws h = (begun, whole, h)
-counted_of (AtWord BetweenHunks) begun whole ws h = (begun, suc whole, h)
-counted_of (AtWord (InHunk has)) begun whole ws h = (begun, whole, h)
-counted_of AtCount begun whole ws h = (suc begun, 0, h)
-counted_of (InName owed) begun whole ws h = (begun, whole, h)
-counted_of (InBlock next x) begun whole ws h = (begun, whole, h)
-
-pub goes_on : (s : ObjectState) (before : List ℕ) (role : ObjectRole) (w : ℕ) → SoFar s before → reader.expects s ≡ Some role → IsLong w → refuse_object role w ≡ None → SoFar (reader.step s w) (before ++ w ∷ [])
-goes_on s before role w h e l ok = counted_of (reader.step s w) h.0 h.1 (before ++ w ∷ []) (counted_goes_on s h.0 h.1 before role w h.2 e l ok)

@@ -9,14 +9,13 @@ use Rattle.hunk_blocks.specs.{PhaseSteps.{part_at, skipped, skip_all}, ReaderPha
 use Rattle.hunk_blocks.proofs.Outcomes.{Keeps, run, front}
 use Rattle.hunk_blocks.proofs.BlockPhases.{step_phase, refuse_phase, skips_inside, none_skipped}
 use Rattle.hunk_blocks.proofs.KeptWalks.{OnePasses, HasRuns, StandsAt, Walks, starts, stands, word_refused, word_passes}
-use Rattle.hunk_blocks.specs.PhaseSteps as inside
 use Rattle.hunk_files.specs.{declared.object.position.ObjectPosition.ObjectPosition, HunkFile.AreObjectFile}
 use Rattle.hunk_files.specs.ObjectFile.{object_text}
 use Rattle.hunk_files.specs.ObjectFault.{WordPlace, BeforeUnits, BetweenHunks, InHunk, ObjectRole, WordAt, UnitCount, UnitName, Within, refuse_object, objects, HasObjectFault}
 use Rattle.hunk_files.specs.ObjectSteps.{role_at, within}
 use Rattle.hunk_files.specs.declared.object.position.ObjectPosition.TheVariants as positions
 use Rattle.hunk_files.specs.ObjectSteps as scan
-use Rattle.hunk_files.proofs.{ObjectOutcome.{keeps, leads_there}, ObjectProgress.whole_units, ObjectWords.within_split}
+use Rattle.hunk_files.proofs.{ObjectOutcome.{keeps, leads_there}, ObjectGoesOn.whole_units, ObjectWords.within_split}
 use Rattle.hunk_files.proofs.OneObjectFault.{ObjectState, AtWord, AtCount, InName, InBlock, in_block, behind_name, reader}
 use Rattle.hunk_files.proofs.UnitReading.{text_longs}
 

@@ -5,7 +5,7 @@ use Rattle.hunk_words.specs.{Limits.name_limit, declared.reason.Reason.Reason}
 use Rattle.hunk_words.specs.Bits.{kind}
 use Rattle.hunk_words.specs.declared.reason.Reason.TheVariants as reasons
 use Rattle.hunk_blocks.specs.declared.mode.Mode.TheVariants as modes
-use Rattle.hunk_blocks.specs.{declared.ext_kind.ExtKind.ExtKind, ExtKinds.{ext_kind, ext_shape}}
+use Rattle.hunk_blocks.specs.{ExtKinds.{ext_kind, ext_shape}}
 use Rattle.hunk_blocks.specs.{Parts.{Part, Part as parts}, Modes.{refuse_alone_word, refuse_inside, refuse_shape}}
 use Rattle.hunk_blocks.proofs.Admitted.{not_for_memory, other_than_memory}
 use Rattle.hunk_grammar.specs.Standings.{first_of, standing_of_kind}

@@ -23,7 +23,8 @@ use Rattle.hunk_files.specs.declared.object.position.ObjectPosition.{ObjectPosit
 use Rattle.hunk_files.specs.declared.object.position.ObjectPosition.TheVariants as positions
 use Rattle.hunk_files.specs.declared.part.Part.{Part}
 use Rattle.hunk_files.specs.declared.part.Part.TheVariants as parts
-use Rattle.hunk_files.proofs.ObjectProgress.{Counted, Reached, BehindUnits, InOpen, counted_expects, counted_goes_on, inside_open, word_open, never, zeros, zeros_fit}
+use Rattle.hunk_files.proofs.ObjectProgress.{Counted, Reached, BehindUnits, InOpen, inside_open, word_open, zeros, zeros_fit}
+use Rattle.hunk_files.proofs.ObjectGoesOn.{counted_expects, counted_goes_on, never}
 use Rattle.hunk_files.proofs.ObjectWalks.{position_of, step_position}
 use Rattle.hunk_files.proofs.OneObjectFault.{ObjectState, AtWord, AtCount, InName, InBlock, reader, object_reads}
 

@@ -51,8 +51,7 @@ pub fn part_at(bytes: &[u8], place: u64) -> Part
         IsRefusal (sniffed (longs bytes.now)) bytes.now (fault_at place reason) →
         IsPartAt (sniffed (longs bytes.now)) bytes.now place result }
 {
-    let longs = (bytes.len() / 4) as u64;
-    let count = if place / 4 < longs { place / 4 } else { longs };
+    let count = (place / 4).min((bytes.len() / 4) as u64);
     match sniff(bytes) {
         Sniff::Object => unit_before(bytes, count as usize),
         Sniff::Load | Sniff::Library | Sniff::Other => part_before(bytes, count as usize),

@@ -32,17 +32,20 @@ fn many_parts_again(rt: HostRuntime) -> Result<(), Fail> {
     Ok(())
 }
 
-/// How many bytes the load file's image has: two longwords of the first hunk, and one of each other.
+/// How many bytes the load file's image has: two longwords of the first hunk, and one of each
+/// other.
 const SIZE: usize = 262_148;
 
-/// The image with the base 1 of each hunk: that of the second is added to both longwords of the first.
+/// The image with the base 1 of each hunk: that of the second is added to both longwords of the
+/// first.
 fn image_of_many(alloc: Global) -> Result<Vec<u8>, AllocError> {
     let mut image = bytes_of(alloc, &[MANY, MANY])?;
     image.resize(SIZE, 0)?;
     Ok(image)
 }
 
-/// Sees that the load file has this image with the base 1 of each of as many hunks, and that a view of it writes the same.
+/// Sees that the load file has this image with the base 1 of each of as many hunks, and that a view
+/// of it writes the same.
 fn expect_image(
     rt: &impl Abort,
     alloc: Global,
@@ -78,7 +81,8 @@ fn many_findings(rt: HostRuntime) -> Result<(), Fail> {
     Ok(())
 }
 
-/// Sees that the file that the bytes are is written in as many bytes, stripped too: none of it can be left out.
+/// Sees that the file that the bytes are is written in as many bytes, stripped too: none of it can
+/// be left out.
 fn expect_length(rt: &impl Abort, alloc: Global, bytes: &[u8]) {
     let (again, _) = rewritten(rt, alloc, bytes, true);
     assert_equal(rt, again.len(), bytes.len());
