@@ -90,6 +90,7 @@ impl<'a> Model for EntriesIter<'a> {
 
 impl<'a> EntriesIter<'a> {
     /// The entries that come next; the reader goes on behind the zero that ends them.
+    #[inline(always)]
     pub(crate) fn of(reader: &mut LongReader<'a>) -> EntriesIter<'a>
         requires { BeginsWithList IsExtEntry ext_text reader.old.rest }
         ensures read { ReadsValue (list_cut entry_cut) reader.old reader.new result.value }
@@ -98,10 +99,7 @@ impl<'a> EntriesIter<'a> {
         let entries = EntriesIter {
             reader: reader.again(),
         };
-        'passing: while reader.peek() != 0 {
-            let _ = read_entry(reader);
-        }
-        let _ = reader.long();
+        *reader = behind_entries(reader.again());
         entries
     }
 
@@ -158,6 +156,22 @@ fn read_shaped<'a>(reader: &mut LongReader<'a>, shape: ExtShape) -> (u32, Longs<
             (size, Longs { payload })
         }
     }
+}
+
+/// The reader behind the entries that come next and the zero that ends them. It is given away, so
+/// that the reader of other blocks stays in registers.
+#[inline(never)]
+fn behind_entries<'a>(reader: LongReader<'a>) -> LongReader<'a>
+    requires { BeginsWithList IsExtEntry ext_text reader.rest }
+    ensures { ReadsValue (list_cut entry_cut) reader.entry result
+        (list_cut entry_cut reader.entry.rest).value }
+{
+    let mut reader = reader;
+    'passing: while reader.peek() != 0 {
+        let _ = read_entry(&mut reader);
+    }
+    let _ = reader.long();
+    reader
 }
 
 /// The next entry (The AmigaDOS Manual, `dos/doshunks.h`).

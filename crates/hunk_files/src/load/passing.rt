@@ -196,34 +196,32 @@ fn behind_groups(bytes: &[u8], from: usize, hunks: u32, declared: u32) -> Option
     ensures { IfSome result
         (IsList (longs bytes.now) (AreGroups (longs bytes.now) hunks declared from)) }
 {
+    let whole = bytes.len() / 4;
     let mut at = from;
-    'groups: while let Some(behind) = behind_group(bytes, at, hunks, declared) {
-        at = behind;
+    'groups: while at < whole {
+        let count = word_at(bytes, at);
+        if count == 0 {
+            return Some(at + 1);
+        }
+        at = behind_group(bytes, at, count, hunks, declared)?;
     }
-    if at >= bytes.len() / 4 || word_at(bytes, at) != 0 {
-        return None;
-    }
-    Some(at + 1)
+    None
 }
 
-/// The longword behind one such group, where one stands at `at`.
+/// The longword behind the group at `at`, which has `count` offsets, where it is such a group.
 #[inline(always)]
-fn behind_group(bytes: &[u8], at: usize, hunks: u32, declared: u32) -> Option<usize>
+fn behind_group(bytes: &[u8], at: usize, count: u32, hunks: u32, declared: u32) -> Option<usize>
+    requires inside { 4 * at + 4 ≤ length bytes.now }
+    requires count { count ≡ slice_index (longs bytes.now) at }
+    requires some { 0 < count }
     ensures { IfSome result (IsGroup (longs bytes.now) hunks declared at) }
 {
-    let whole = bytes.len() / 4;
-    // A group has three longwords at least.
-    if at >= whole.saturating_sub(2) {
+    let behind = at + 2 + count as usize;
+    if behind > bytes.len() / 4 || word_at(bytes, at + 1) >= hunks {
         return None;
     }
-    let count = word_at(bytes, at) as usize;
-    let first = at + 2;
-    if count == 0 || count > whole - first || word_at(bytes, at + 1) >= hunks {
-        return None;
-    }
-    let behind = first + count;
     let mut largest = 0;
-    'offsets: for i in first..behind {
+    'offsets: for i in at + 2..behind {
         // Where a longword is put together from its bytes, and not read by `word_at`, the compiler
         // makes the loop four longwords wide.
         let start = 4 * i;

@@ -7,7 +7,7 @@ use Rattle.hunk_files.proofs.load.passing.behind_group.Goals as goal
 pub offsets-preserved : goal.offsets-preserved
 offsets-preserved c i from less =
     let bytes = c.args.bytes.now in
-    let here : c.from_be_bytes-long.result ≡ slice_index (longs bytes) c.offsets.i = c.from_be_bytes-long.ensures ∙ word_of_bytes bytes c.offsets.i (omega (arith, c.if-count-whole.false, c.if-at-saturating_sub.false, c.saturating_sub.ensures, c.offsets-test.true)) in
+    let here : c.from_be_bytes-long.result ≡ slice_index (longs bytes) c.offsets.i = c.from_be_bytes-long.ensures ∙ word_of_bytes bytes c.offsets.i (omega (arith, c.if-behind-bytes.false, c.offsets-test.true)) in
     elim (cases_lt i c.offsets.i) [
       | inl before ↦ let old = c.offsets.invariant i from before in grind (arith, c.max-largest.ensures)
       | inr last ↦
@@ -16,16 +16,14 @@ offsets-preserved c i from less =
     ]
 
 pub returns : goal.returns
-returns c =
-    let at = c.args.at in
-    record {
-      some = omega (arith, c.if-count-eq0.false, c.word_at-count.ensures);
-      ends = ap (λ (n : ℕ). at + 2 + n) c.word_at-count.ensures;
-      whole = omega (arith, c.if-count-whole.false, c.if-at-saturating_sub.false, c.saturating_sub.ensures, length-longs c.args.bytes.now);
-      target = omega (arith, c.if-word_at-hunks.false, c.word_at.ensures);
-      inside = λ i from to. omega (
-        arith,
-        c.offsets.invariant i from (omega (arith, to, c.offsets-test.false)),
-        ltb-false (4 * c.args.declared) (c.offsets.largest + 4) (sym c.is_outside.ensures ∙ c.if-is_outside.false),
-      );
-    }
+returns c = record {
+  some = omega (arith, c.requires.some, c.requires.count);
+  ends = ap (λ (n : ℕ). c.args.at + 2 + n) c.requires.count;
+  whole = omega (arith, c.if-behind-bytes.false, length-longs c.args.bytes.now);
+  target = omega (arith, c.if-word_at-hunks.false, c.word_at.ensures);
+  inside = λ i from to. omega (
+    arith,
+    c.offsets.invariant i from (omega (arith, to, c.offsets-test.false)),
+    ltb-false (4 * c.args.declared) (c.offsets.largest + 4) (sym c.is_outside.ensures ∙ c.if-is_outside.false),
+  );
+}

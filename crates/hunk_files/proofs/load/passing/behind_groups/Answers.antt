@@ -7,13 +7,13 @@ pub groups-init : goal.groups-init
 groups-init c = no_group
 
 pub groups-preserved : goal.groups-preserved
-groups-preserved c = one_group c.groups.at c.in-Some.behind c.groups.invariant c.in-Some.ensures
+groups-preserved c = one_group c.groups.at c.in_ok-at.at c.groups.invariant c.in_ok-at.ensures
 
-pub returns : goal.returns
-returns c = record {
+pub returns-then-count-eq0 : goal.returns-then-count-eq0
+returns-then-count-eq0 c = record {
   end = c.groups.at;
   items = c.groups.invariant;
-  zero_is = sym c.word_at.ensures ∙ c.if-word_at-ne0.false;
+  zero_is = sym c.word_at-count.ensures ∙ c.if-count-eq0.true;
   ends = refl;
-  whole = omega (arith, c.if-at-bytes.false, length-longs c.args.bytes.now);
+  whole = omega (arith, c.groups-test.true, length-longs c.args.bytes.now);
 }
