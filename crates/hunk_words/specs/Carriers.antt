@@ -1,5 +1,6 @@
 -- Sources, sinks and a writer of longwords, as their callers see them.
 use Rattle.std.specs.Prelude.{ℕ, ◌-◌, ◌^◌, min, Bool, List, Option}
+use Rattle.std.specs.declared.io.Error.{Error}
 
 -- what is known of a source: the bytes that pulls will still give, where that is told, and whether one has failed
 pub record Supply : Type 0 where
@@ -11,13 +12,15 @@ pub record Outlet : Type 0 where
   pub taken : Option (List ℕ)
   pub failed : Bool
 
+-- a reader, and the last error of it
 pub record Reading (R : Type 0) : Type 0 where
   pub reader : R
-  pub failed : Bool
+  pub error : Option Error
 
+-- a writer, and the last error of it
 pub record Carrying (W : Type 0) : Type 0 where
   pub writer : W
-  pub failed : Bool
+  pub error : Option Error
 
 -- a number of bytes as a writer tells it: 2^64 - 1 where there are more, as no run can put
 abbrev pub saturated : ℕ → ℕ

@@ -1,12 +1,12 @@
 //! What bytes are pushed to.
-ghost use Rattle.std.specs.Prelude.{◌≡◌, ◌<◌, ◌≤◌, false, ◌||◌, length, is_err, IfOk};
+ghost use Rattle.std.specs.Prelude.{◌≡◌, ◌<◌, ◌≤◌, ◌||◌, None, length, is_err, is_some, IfOk};
 ghost use Rattle.std.specs.Io.KnownBytes.{WriteAppends};
 ghost use Rattle.hunk_words.specs.Carriers.{Outlet};
 
 use crate::source::Failed;
-use std::fmt;
 use std::io::Write;
 use std::marker::Model;
+use std::{fmt, io};
 
 /// What bytes are pushed to.
 ///
@@ -31,11 +31,11 @@ pub trait Sink {
 }
 
 /// A sink over any writer. Each error of the writer, and a write that takes none of a non-empty
-/// slice, is `Failed`.
+/// slice, is `Failed`, and the last one is kept.
 #[derive(Drop)]
 pub struct FromWrite<W> {
     writer: W,
-    failed: bool,
+    error: Option<io::Error>,
 }
 
 impl<W> Model for FromWrite<W> {
@@ -43,13 +43,13 @@ impl<W> Model for FromWrite<W> {
 
     ghost Value = { Carrying W };
 
-    ghost view = { λ s. record { writer = s.writer; failed = s.failed } };
+    ghost view = { λ s. record { writer = s.writer; error = s.error } };
 }
 
 impl<W> fmt::Debug for FromWrite<W> {
     fn fmt<F: fmt::Write>(&self, f: &mut fmt::Formatter<F>) -> fmt::Result {
         f.debug_struct("FromWrite")
-            .field("failed", &self.failed)
+            .field("error", &self.error)
             .finish_non_exhaustive()
     }
 }
@@ -58,35 +58,42 @@ impl<W: Write> FromWrite<W> {
     /// A sink over this writer that has not failed.
     pub fn new(writer: W) -> FromWrite<W>
         ensures holds { result.writer ≡ writer }
-        ensures fresh { result.failed ≡ false }
+        ensures fresh { result.error ≡ None }
     {
         FromWrite {
             writer,
-            failed: false,
+            error: None,
         }
+    }
+
+    /// The last error of the writer, `WriteZero` where it took none: none where no push has failed.
+    pub fn error(&self) -> Option<io::Error>
+        ensures { result ≡ self.now.error }
+    {
+        self.error
     }
 
     /// Hands the writer back, as the pushes have left it.
     pub fn into_inner(self) -> W
         ensures { result ≡ self.writer }
     {
-        let FromWrite { writer, failed: _ } = self;
+        let FromWrite { writer, error: _ } = self;
         writer
     }
 }
 
 impl<W: Write> Sink for FromWrite<W> {
-    ghost outlet = { λ s. record { taken = W.contents s.writer; failed = s.failed } };
+    ghost outlet = { λ s. record { taken = W.contents s.writer; failed = is_some s.error } };
 
     fn push(&mut self, bytes: &[u8]) -> Result<usize, Failed> {
         match self.writer.write(bytes) {
             Ok(0) if !bytes.is_empty() => {
-                self.failed = true;
+                self.error = Some(io::Error::from(io::ErrorKind::WriteZero));
                 Err(Failed)
             }
             Ok(n) => Ok(n),
-            Err(_) => {
-                self.failed = true;
+            Err(error) => {
+                self.error = Some(error);
                 Err(Failed)
             }
         }

@@ -1,13 +1,13 @@
 //! What bytes are pulled from.
-ghost use Rattle.std.specs.Prelude.{◌≡◌, false, ◌||◌, Some, codes, is_err};
+ghost use Rattle.std.specs.Prelude.{◌≡◌, false, ◌||◌, Some, None, codes, is_err, is_some};
 ghost use Rattle.std.specs.Io.KnownBytes.{ReadConsumes};
 ghost use Rattle.std.specs.Io.{ReadsAtMost};
 ghost use Rattle.hunk_words.specs.Carriers.{Supply};
 
 use std::error::Error;
-use std::fmt;
 use std::io::Read;
 use std::marker::Model;
+use std::{fmt, io};
 
 /// Says that a pull or a push failed.
 #[derive(Clone, Copy, Debug, PartialEq, Eq)]
@@ -45,11 +45,12 @@ pub trait Source {
         ensures fails { (supply self.new).failed ≡ ((supply self.old).failed || is_err result) };
 }
 
-/// A source over any reader. Each error of the reader, `Interrupted` too, is `Failed`.
+/// A source over any reader. Each error of the reader, `Interrupted` too, is `Failed`, and the last
+/// one is kept.
 #[derive(Drop)]
 pub struct FromRead<R> {
     reader: R,
-    failed: bool,
+    error: Option<io::Error>,
 }
 
 impl<R> Model for FromRead<R> {
@@ -57,13 +58,13 @@ impl<R> Model for FromRead<R> {
 
     ghost Value = { Reading R };
 
-    ghost view = { λ s. record { reader = s.reader; failed = s.failed } };
+    ghost view = { λ s. record { reader = s.reader; error = s.error } };
 }
 
 impl<R> fmt::Debug for FromRead<R> {
     fn fmt<F: fmt::Write>(&self, f: &mut fmt::Formatter<F>) -> fmt::Result {
         f.debug_struct("FromRead")
-            .field("failed", &self.failed)
+            .field("error", &self.error)
             .finish_non_exhaustive()
     }
 }
@@ -72,31 +73,38 @@ impl<R: Read> FromRead<R> {
     /// A source over this reader that has not failed.
     pub fn new(reader: R) -> FromRead<R>
         ensures holds { result.reader ≡ reader }
-        ensures fresh { result.failed ≡ false }
+        ensures fresh { result.error ≡ None }
     {
         FromRead {
             reader,
-            failed: false,
+            error: None,
         }
+    }
+
+    /// The last error of the reader: none where no pull has failed.
+    pub fn error(&self) -> Option<io::Error>
+        ensures { result ≡ self.now.error }
+    {
+        self.error
     }
 
     /// Hands the reader back, as the pulls have left it.
     pub fn into_inner(self) -> R
         ensures { result ≡ self.reader }
     {
-        let FromRead { reader, failed: _ } = self;
+        let FromRead { reader, error: _ } = self;
         reader
     }
 }
 
 impl<R: Read> Source for FromRead<R> {
-    ghost supply = { λ s. record { left = R.remaining s.reader; failed = s.failed } };
+    ghost supply = { λ s. record { left = R.remaining s.reader; failed = is_some s.error } };
 
     fn pull(&mut self, buf: &mut [u8]) -> Result<usize, Failed> {
         match self.reader.read(buf) {
             Ok(n) => Ok(n),
-            Err(_) => {
-                self.failed = true;
+            Err(error) => {
+                self.error = Some(error);
                 Err(Failed)
             }
         }
