@@ -24,6 +24,7 @@ pub mod Offsets
 pub mod OneByte
 pub mod Outcomes
 pub mod Owed
+pub mod PartLaws
 pub mod PlacingLaws
 pub mod ReadWords
 pub mod Refusing

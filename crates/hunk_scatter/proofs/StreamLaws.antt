@@ -47,7 +47,7 @@ pub strange : (rows : List Row) (store : List ℕ) (at : Standing) (piece : List
     TakesPart rows store at piece store at (Err None)
 strange rows store at piece more outside = record {
   takes = tt;
-  refuses = record { refuses = λ fed h. absurd (outside (in_room _ _ _ fed h more)); own_reasons = tt };
+  refuses = record { refuses = λ fed h. absurd (outside (in_room _ _ _ fed h more)); own_reasons = tt; same = refl };
   uncounted = refl;
 }
 

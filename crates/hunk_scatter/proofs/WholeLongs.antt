@@ -77,6 +77,7 @@ module _ (rows : List Row) (store : List ℕ) (state : BodyState) (position : Po
     refuses = record {
       refuses = λ fed r. word_refused rows store here fed (read_at rows store state position fed ready.position_is r) more piece are ready.whole_long w is first reason no-pass;
       own_reasons = refused_in_body (words_of rows) (length store) here w reason here_in no-pass;
+      same = refl;
     };
   }
 
@@ -125,14 +126,12 @@ module _ (piece rest : List ℕ) (leaves : Leaves piece rest) where
         omega (arith, leaves.0, some, inside, long),
       )
 
-  -- a refusal of the rest is one of the piece
-  pub refused_rest : (fed : List ℕ) (at : ℕ) (reason : Reason) → HasRefusal ((fed ++ take (length piece - length rest) piece) ++ rest) at reason → HasRefusal (fed ++ piece) at reason
+  -- what was taken and the rest are the piece
+  pub whole_piece : (fed : List ℕ) → (fed ++ take (length piece - length rest) piece) ++ rest ≡ fed ++ piece
   unfolding taken
-  refused_rest fed at reason h =
+  whole_piece fed =
       let front = fed ++ take taken piece in
-      let whole : front ++ rest ≡ fed ++ piece =
-      ap (λ (xs : List ℕ). front ++ xs) leaves.1 ∙ append_assoc fed (take taken piece) (drop taken piece) ∙ ap (λ (xs : List ℕ). fed ++ xs) (take-append-drop taken piece) in
-      subst (λ (bs : List ℕ). HasRefusal bs at reason) whole h
+      ap (λ (xs : List ℕ). front ++ xs) leaves.1 ∙ append_assoc fed (take taken piece) (drop taken piece) ∙ ap (λ (xs : List ℕ). fed ++ xs) (take-append-drop taken piece)
 
   -- so far it has this many bytes
   pub length_so_far : (fed : List ℕ) → length (fed ++ take (length piece - length rest) piece) ≡ length fed + (length piece - length rest)

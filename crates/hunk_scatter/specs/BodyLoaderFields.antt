@@ -18,7 +18,7 @@ use Rattle.hunk_scatter.specs.BodySteps.{IsInStore, StaysInStore}
 use Rattle.hunk_scatter.specs.Rows.{entries_of, words_of, bases_of}
 use Rattle.hunk_scatter.specs.BodyReader.{state_of}
 use Rattle.hunk_scatter.specs.LoadOutcomes.{GoesPastNoFile}
-use Rattle.hunk_scatter.specs.LoaderValues.{BodyLoaderValue, FeedsFront, IsWholeFile, IsBodyRefusal}
+use Rattle.hunk_scatter.specs.LoaderValues.{BodyLoaderValue, FeedsFront, IsWholeFile, IsHunkRefusal}
 use Rattle.hunk_words.specs.PendingBytes.{pending_of}
 use Rattle.hunk_scatter.specs.declared.stream.Standing.{Standing}
 use Rattle.hunk_files.specs.ReaderPosition.{IsBehindHeader, table_of}
@@ -81,15 +81,16 @@ pub record TakesFront (rows : List Row) (store : List ℕ) (state : BodyState) (
   pub reads : ReadsOn rows store state (take n piece) after behind
   pub stays : StaysInStore (words_of rows) (length after) behind
 
--- The piece is refused at its first longword.
-pub record RefusesFront (rows : List Row) (store : List ℕ) (state : BodyState) (piece : List ℕ) (reason : Reason) : Type 0 where
+-- The piece is refused at its first longword, and the state stays.
+pub record RefusesFront (rows : List Row) (store : List ℕ) (state : BodyState) (piece : List ℕ) (behind : BodyState) (reason : Reason) : Type 0 where
   pub refuses : RefusesFirstLong rows store state piece reason
   pub own_reasons : IsTrue (is_of_body reason)
+  pub same : behind ≡ state
 
 -- A front of the piece is taken, or the piece is refused at its first longword.
 pub record TakesOrRefuses (rows : List Row) (store : List ℕ) (state : BodyState) (piece after : List ℕ) (behind : BodyState) (result : Result ℕ Reason) : Type 0 where
   pub takes : IfOk result (TakesFront rows store state piece after behind)
-  pub refuses : IfErr result (RefusesFront rows store state piece)
+  pub refuses : IfErr result (RefusesFront rows store state piece behind)
 
 -- ---- a piece
 
@@ -102,4 +103,4 @@ pub record FeedsPiece (rows : List Row) (fed piece after : List ℕ) (n : ℕ) :
 -- The piece is consumed, or the loader keeps why it is refused.
 pub record FeedsOrRefuses (old : BodyLoaderValue) (piece : List ℕ) (new : BodyLoaderValue) (n : ℕ) : Type 0 where
   pub rows : new.rows ≡ old.rows
-  pub feeds : MatchOption new.refused (FeedsPiece new.rows old.fed piece new.fed n) (λ f. IsBodyRefusal (old.fed ++ piece) f × IsTrue (is_of_body f.reason) × (new.fed ≡ old.fed))
+  pub feeds : MatchOption new.refused (FeedsPiece new.rows old.fed piece new.fed n) (λ f. IsHunkRefusal (old.fed ++ piece) new.hunk f × IsTrue (is_of_body f.reason) × (new.fed ≡ old.fed))

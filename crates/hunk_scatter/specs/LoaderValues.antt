@@ -6,10 +6,13 @@ use Rattle.hunk_words.specs.Bits.{size_longs}
 use Rattle.hunk_words.specs.Longs.{bytes_of}
 use Rattle.hunk_words.specs.declared.fault.Fault.{Fault}
 use Rattle.hunk_words.specs.declared.reason.Reason.{Reason}
+use Rattle.hunk_grammar.specs.declared.file_kind.Sniff.TheVariants as sniffs
+use Rattle.hunk_files.specs.FileParts.{IsPartAt}
 use Rattle.hunk_files.specs.LoadFile.{TableEntry, LoadFileValue, IsLoadFile}
 use Rattle.hunk_files.specs.LoadText.{table, text}
 use Rattle.hunk_files.specs.Fault.{HasRefusal}
 use Rattle.hunk_files.specs.Image.{image}
+use Rattle.hunk_files.specs.declared.part.Part.TheVariants as parts
 use Rattle.hunk_files.specs.declared.row.Row.{Row}
 use Rattle.hunk_scatter.specs.Rows.{entries_of, bases_of}
 
@@ -24,11 +27,13 @@ pub record DeclaredValue : Type 0 where
   pub table : List TableEntry
   pub budget : ℕ
 
--- The loader of a body: the bytes that were consumed, header and body joined, the rows with their bases, and the refusal.
+-- The loader of a body: the bytes that were consumed, header and body joined, the rows with their bases, the refusal, and
+-- the number of the hunk that is read.
 pub record BodyLoaderValue : Type 0 where
   pub fed : List ℕ
   pub rows : List Row
   pub refused : Option Fault
+  pub hunk : ℕ
 
 -- An image: the rows with their bases, and the segments.
 pub record ImageValue : Type 0 where
@@ -68,6 +73,11 @@ told_place at = min at (2 ^ 64 - 4)
 -- The fault is the refusal of a longword of the bytes.
 abbrev pub IsBodyRefusal : List ℕ → Fault → Type 0
 IsBodyRefusal bytes f = (at : ℕ) × HasRefusal bytes at f.reason × (f.place ≡ told_place at)
+
+-- The fault is the refusal of a longword of this hunk.
+pub record IsHunkRefusal (bytes : List ℕ) (hunk : ℕ) (f : Fault) : Type 0 where
+  pub refusal : IsBodyRefusal bytes f
+  pub of_hunk : IsPartAt sniffs.Load bytes refusal.0 (parts.Hunk hunk)
 
 -- ---- images
 

@@ -10,7 +10,7 @@ use Rattle.hunk_grammar.specs.Positions.{is_done}
 use Rattle.hunk_scatter.specs.BodySteps.{StaysInStore}
 use Rattle.hunk_scatter.specs.HeaderBytes.{IsHeaderTable, header_bytes}
 use Rattle.hunk_scatter.specs.LoaderReasons.{is_of_body}
-use Rattle.hunk_scatter.specs.LoaderValues.{IsImageOf, HasNoRefusal, IsBodyRefusal, segments_in}
+use Rattle.hunk_scatter.specs.LoaderValues.{IsImageOf, HasNoRefusal, IsBodyRefusal, IsHunkRefusal, segments_in}
 use Rattle.hunk_scatter.specs.Owing.{FileOwes}
 use Rattle.hunk_scatter.specs.Rows.{entries_of, words_of}
 use Rattle.hunk_scatter.specs.declared.stream.Standing.{Standing}
@@ -22,6 +22,11 @@ abbrev pub StopsAt : List ℕ → Stop → Type 0
 StopsAt bytes (stops.Refused f) = IsBodyRefusal bytes f
 StopsAt bytes stops.Strange = ⊥
 
+-- It stops for that of a longword of this hunk.
+abbrev pub StopsInHunk : List ℕ → ℕ → Stop → Type 0
+StopsInHunk bytes hunk (stops.Refused f) = IsHunkRefusal bytes hunk f
+StopsInHunk bytes hunk stops.Strange = ⊥
+
 -- A refusal is for a reason of a body.
 abbrev pub StopsForBody : Stop → Type 0
 StopsForBody (stops.Refused f) = IsTrue (is_of_body f.reason)
@@ -32,10 +37,10 @@ abbrev pub TakesOn : List Row → List ℕ → List ℕ → List ℕ → Result 
 TakesOn rows store fed piece result =
     MatchResult result (λ r. IsFed rows store r.0 (fed ++ take r.1 piece)) (StopsAt (fed ++ piece))
 
--- The same, where the numbers that a loader has then are said apart.
+-- The same, where the numbers that a loader has then are said apart. Where it stops, they have the hunk.
 abbrev pub StandsOn : List Row → List ℕ → Standing → List ℕ → List ℕ → Result ℕ Stop → Type 0
 StandsOn rows store to fed piece result =
-    MatchResult result (λ n. IsFed rows store to (fed ++ take n piece)) (StopsAt (fed ++ piece))
+    MatchResult result (λ n. IsFed rows store to (fed ++ take n piece)) (StopsInHunk (fed ++ piece) to.state.hunk)
 
 -- The numbers lead out of neither the rows nor a store of this many bytes, as far as no hunk opens.
 pub record IsWithin (rows : List Row) (total : ℕ) (s : Standing) : Type 0 where
@@ -64,15 +69,16 @@ abbrev pub RefusesLong : List ℕ → List ℕ → Option Reason → Type 0
 RefusesLong fed piece (Some reason) = HasRefusal (fed ++ piece) (4 * (length fed / 4)) reason
 RefusesLong fed piece None = ⊥
 
--- No byte of the piece is taken.
-pub record RefusesPart (rows : List Row) (store : List ℕ) (at : Standing) (piece : List ℕ) (why : Option Reason) : Type 0 where
+-- No byte of the piece is taken, and the state stays.
+pub record RefusesPart (rows : List Row) (store : List ℕ) (at : Standing) (piece : List ℕ) (to : Standing) (why : Option Reason) : Type 0 where
   pub refuses : (fed : List ℕ) → StandsAfter rows store at fed → RefusesLong fed piece why
   pub own_reasons : IfSome why (λ reason. IsTrue (is_of_body reason))
+  pub same : to.state ≡ at.state
 
 -- A part of the piece is taken, or none is. The bytes are not counted.
 pub record TakesPart (rows : List Row) (store : List ℕ) (at : Standing) (piece after : List ℕ) (to : Standing) (result : Result ℕ (Option Reason)) : Type 0 where
   pub takes : IfOk result (TakesBytes rows store at piece after to)
-  pub refuses : IfErr result (RefusesPart rows store at piece)
+  pub refuses : IfErr result (RefusesPart rows store at piece to)
   pub uncounted : to.fed ≡ at.fed
 
 -- Where the rows are those of a table, its header has this many bytes, and it declares as many as there is room for: after

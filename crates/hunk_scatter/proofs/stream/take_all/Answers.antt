@@ -1,7 +1,10 @@
-use Rattle.std.proofs.Common.{◌-◌, ◌*◌, ◌/◌, ◌++◌, ◌∙◌, ℕ, List, Option, length, take, refl, ap, subst, append_assoc, arith}
+use Rattle.std.proofs.Common.{◌-◌, ◌*◌, ◌/◌, ◌++◌, ◌∙◌, ℕ, List, Option, length, take, refl, sym, ap, subst, append_assoc, arith}
 use Rattle.hunk_words.specs.declared.reason.Reason.{Reason}
-use Rattle.hunk_scatter.specs.Streaming.{RefusesLong, StandsAfter}
-use Rattle.hunk_scatter.proofs.{StreamLaws.any_count, WholeLongs.{leaves_more, length_so_far, refused_rest}}
+use Rattle.hunk_files.specs.{Fault.HasRefusal, FileParts.IsPartAt}
+use Rattle.hunk_files.specs.declared.part.Part.TheVariants as parts
+use Rattle.hunk_grammar.specs.declared.file_kind.Sniff.TheVariants as sniffs
+use Rattle.hunk_scatter.specs.{Streaming.{RefusesLong, StandsAfter}, declared.store.BodyState.BodyState}
+use Rattle.hunk_scatter.proofs.{PartLaws.hunk_next, StreamLaws.any_count, WholeLongs.{leaves_more, length_so_far, whole_piece}}
 use Rattle.hunk_scatter.proofs.stream.take_all.Goals as goal
 
 pub parts-preserved : goal.parts-preserved
@@ -31,10 +34,17 @@ returns-in-Err-Some-clause-takes c = λ fed h.
     let i = c.parts.invariant in
     let n = length c.args.piece.now - length c.parts.rest.now in
     let front = fed ++ take n c.args.piece.now in
-    let refused =
-    subst (λ (o : Option Reason). RefusesLong front c.parts.rest.now o) c.in-Err-Some.field-0-is
-    (c.in-Err-Some.ensures.refuses.refuses front (i.takes fed (any_count _ _ _ fed h))) in (
-      4 * (length front / 4),
-      refused_rest _ _ i.leaves fed _ c.in-Err-Some.reason refused,
-      omega (arith, length_so_far _ _ i.leaves fed, h.counted, i.uncounted, c.take_part.ensures.uncounted),
-    )
+    let at = 4 * (length front / 4) in
+    let stands = i.takes fed (any_count _ _ _ fed h) in
+    let refused = subst (λ (o : Option Reason). RefusesLong front c.parts.rest.now o) c.in-Err-Some.field-0-is (c.in-Err-Some.ensures.refuses.refuses front stands) in
+    let whole = whole_piece _ _ i.leaves fed in
+    record {
+      refusal = (
+        at,
+        subst (λ (bs : List ℕ). HasRefusal bs at c.in-Err-Some.reason) whole refused,
+        omega (arith, length_so_far _ _ i.leaves fed, h.counted, i.uncounted, c.take_part.ensures.uncounted),
+      );
+      of_hunk =
+          subst (λ (n : ℕ). IsPartAt sniffs.Load (fed ++ c.args.piece.now) at (parts.Hunk n)) (sym (ap (λ (s : BodyState). s.hunk) c.in-Err-Some.ensures.refuses.same))
+          (subst (λ (bs : List ℕ). IsPartAt sniffs.Load bs at (parts.Hunk c.parts.at.state.hunk)) whole (hunk_next _ _ _ _ front c.parts.rest.now stands.stands search));
+    }

@@ -29,6 +29,7 @@ returns-in-Err c =
       refuses = record {
         refuses = λ fed h. refusal_front fed c.args.piece.now 1 _ c.in-Err.reason (gathered_refused _ _ _ _ fed bytes _ h.stands four c.in-Err.reason c.in-Err.ensures.takes.refuses.refuses);
         own_reasons = c.in-Err.ensures.takes.refuses.own_reasons;
+        same = c.in-Err.ensures.takes.refuses.same;
       };
       uncounted = refl;
     }

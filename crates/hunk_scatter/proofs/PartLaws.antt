@@ -1,0 +1,53 @@
+-- The part of a load file that the next longword is of.
+use Rattle.std.proofs.Common.{◌≡◌, ℕ, ◌*◌, ◌/◌, false, List, [], ◌++◌, length, take, refl, sym, ap, ap₂, subst, ◌∙◌, append_assoc, append-nil, length-append, arith}
+use Rattle.std.proofs.Math.Seq.{take-append_seam}
+use Rattle.hunk_words.specs.Longs.{longs, bytes_of}
+use Rattle.hunk_words.proofs.LongLaws.{longs-bytes_of, length-bytes_of}
+use Rattle.hunk_grammar.specs.Positions.{is_done, is_behind_header}
+use Rattle.hunk_grammar.specs.declared.file_kind.Sniff.TheVariants as sniffs
+use Rattle.hunk_files.specs.{FileParts.{IsPartAt, part_of}, FileSteps.{Progress, AtBlock, InBody, More}}
+use Rattle.hunk_files.specs.{ReaderPosition.IsBehindHeader, WordsRead.HasRead, declared.row.Row.Row, declared.part.Part.Part}
+use Rattle.hunk_files.specs.declared.part.Part.TheVariants as parts
+use Rattle.hunk_scatter.specs.{BodyLoaderFields.StandsBehind, BodyReader.state_of, HeaderLoaderFields.HeaderReading}
+use Rattle.hunk_scatter.specs.{declared.header_state.HeaderState.HeaderState, declared.store.BodyState.BodyState}
+use Rattle.hunk_scatter.proofs.{HeaderReads.{here, read_here, in_header}, HeaderSteps.IsInHeader}
+use Rattle.hunk_scatter.proofs.{OneByte.{Going, going}, Outcomes.longs_are, ReadWords.read_longs}
+
+pub part_behind : (ws more bytes : List ℕ) (p : Progress) (at : ℕ) (part : Part) → HasRead ws (More p) → longs bytes ≡ ws ++ more → at / 4 ≡ length ws → part ≡ part_of p → IsPartAt sniffs.Load bytes at part
+part_behind ws more bytes p at part read spells count is = record {
+  progress = p;
+  read = subst (λ (xs : List ℕ). HasRead xs (More p)) (sym (ap₂ (λ (n : ℕ) (xs : List ℕ). take n xs) count spells ∙ take-append_seam ws more)) read;
+  part_is = is;
+}
+
+-- ---- the header
+
+pub part_in_header : (p : Progress) → IsInHeader p → parts.Header ≡ part_of p
+part_in_header (AtBlock o) e = absurd cc
+part_in_header (InBody o word x) e = absurd cc
+part_in_header _ e = refl
+
+pub header_next : (budget : ℕ) (rows : List Row) (s : HeaderState) (pending fed : List ℕ) → HeaderReading budget rows s pending fed → is_behind_header s.position ≡ false →
+    IsPartAt sniffs.Load fed (4 * (length fed / 4)) parts.Header
+header_next budget rows s pending fed r more =
+    let h = r.has_read in
+    part_behind r.ws [] fed (here budget rows s r.ws h more) _ parts.Header (read_here budget rows s r.ws h more) (longs_are r.ws h.next pending fed h.read r.few r.spelled ∙ sym (append-nil r.ws))
+    (omega (arith, r.few, ap length r.spelled, length-append (bytes_of r.ws) pending, length-bytes_of r.ws))
+    (part_in_header (here budget rows s r.ws h more) (in_header budget rows s r.ws h more))
+
+-- ---- a hunk
+
+part_open : (p : Progress) (state : BodyState) → IsBehindHeader (More p) → state_of (More p) ≡ state → parts.Hunk state.hunk ≡ part_of p
+part_open (AtBlock o) state b e = ap (λ (s : BodyState). parts.Hunk s.hunk) (sym e)
+part_open (InBody o word x) state b e = ap (λ (s : BodyState). parts.Hunk s.hunk) (sym e)
+part_open _ state b e = absurd cc
+
+-- Where a loader stands, the longword that the rest goes on with is of its hunk.
+pub hunk_next : (rows : List Row) (store : List ℕ) (state : BodyState) (pending fed rest : List ℕ) → StandsBehind rows store state pending fed → is_done state.position ≡ false →
+    IsPartAt sniffs.Load (fed ++ rest) (4 * (length fed / 4)) (parts.Hunk state.hunk)
+hunk_next rows store state pending fed rest r more =
+    let g : Going rows store state pending fed = going rows store state pending fed r more in
+    part_behind g.ws (longs (pending ++ rest)) (fed ++ rest) g.at _ (parts.Hunk state.hunk) g.read
+    (ap (λ (bs : List ℕ). longs (bs ++ rest)) g.spelled ∙ ap longs (append_assoc (bytes_of g.ws) pending rest) ∙ longs-bytes_of g.ws (pending ++ rest) (read_longs g.ws (More g.at) g.read))
+    (omega (arith, g.few, ap length g.spelled, length-append (bytes_of g.ws) pending, length-bytes_of g.ws))
+    (part_open g.at state g.in_body g.state_is)
