@@ -51,3 +51,8 @@ hunk_next rows store state pending fed rest r more =
     (ap (λ (bs : List ℕ). longs (bs ++ rest)) g.spelled ∙ ap longs (append_assoc (bytes_of g.ws) pending rest) ∙ longs-bytes_of g.ws (pending ++ rest) (read_longs g.ws (More g.at) g.read))
     (omega (arith, g.few, ap length g.spelled, length-append (bytes_of g.ws) pending, length-bytes_of g.ws))
     (part_open g.at state g.in_body g.state_is)
+
+pub hunk_here : (rows : List Row) (store : List ℕ) (state : BodyState) (pending fed : List ℕ) → StandsBehind rows store state pending fed → is_done state.position ≡ false →
+    IsPartAt sniffs.Load fed (4 * (length fed / 4)) (parts.Hunk state.hunk)
+hunk_here rows store state pending fed r more =
+    subst (λ (bs : List ℕ). IsPartAt sniffs.Load bs (4 * (length fed / 4)) (parts.Hunk state.hunk)) (append-nil fed) (hunk_next rows store state pending fed [] r more)

@@ -5,13 +5,16 @@ ghost use Rattle.std.specs.Prelude.{OnOk, OnErr, IsOk, IsTrue, ◌⊎◌};
 ghost use Rattle.hunk_words.specs.Carriers.{saturated};
 ghost use Rattle.hunk_words.specs.Longs.{bytes_of};
 ghost use Rattle.hunk_words.specs.declared.fault.Fault.{Fault};
+ghost use Rattle.hunk_grammar.specs.declared.file_kind.Sniff.TheVariants.{Load};
+ghost use Rattle.hunk_files.specs.declared.part.Part.TheVariants.{Hunk};
 ghost use Rattle.hunk_files.specs.Fault.{IsTruncated};
+ghost use Rattle.hunk_files.specs.FileParts.{IsPartAt};
 ghost use Rattle.hunk_files.specs.Image.{declared_bytes};
 ghost use Rattle.hunk_files.specs.LoadFile.{LoadFileValue, IsLoadFile};
 ghost use Rattle.hunk_files.specs.LoadText.{text};
 ghost use Rattle.hunk_scatter.specs.LoaderReasons.{is_of_body};
 ghost use Rattle.hunk_scatter.specs.LoaderValues.{FeedsFront, HasNoRefusal, IsImageOf, IsWholeFile};
-ghost use Rattle.hunk_scatter.specs.LoaderValues.{IsBodyRefusal, MayGoOnInFile};
+ghost use Rattle.hunk_scatter.specs.LoaderValues.{IsHunkRefusal, MayGoOnInFile};
 ghost use Rattle.hunk_scatter.specs.BodyLoaderFields.{FeedsOrRefuses};
 ghost use Rattle.hunk_scatter.specs.LoadOutcomes.{GoesPastNoFile};
 ghost use Rattle.hunk_scatter.specs.Owing.{BytesToCome, most_want};
@@ -28,7 +31,7 @@ use std::marker::Model;
 /// Takes the body of a load file, and leaves each segment in its place.
 ///
 /// Contracts see the bytes that were consumed, header and body joined, the rows with their bases,
-/// and the refusal. No call takes memory.
+/// the refusal, and the number of the hunk that is read. No call takes memory.
 #[derive(Drop)]
 pub struct BodyLoader {
     pub(crate) rows: Vec<Row>,
@@ -48,6 +51,7 @@ impl Model for BodyLoader {
       fed = s.history.bytes;
       rows = s.rows.items;
       refused = s.refused;
+      hunk = s.standing.state.hunk;
     } };
 
     ghost invariant = { λ s. BodyLoaderInvariant s.rows.items s.store.items s.standing
@@ -84,7 +88,8 @@ impl BodyLoader {
     /// Every load file with this table that begins with what was fed has at least as many bytes
     /// more. While a content, a name, a payload or a list of offsets is under way, what is still to
     /// come of it is wanted at once, up to 256 bytes. No longword that was fed is refused before
-    /// `feed` answers that; where this is not 0 and the input ends here, the input is truncated.
+    /// `feed` answers that; where this is not 0 and the input ends here, the input is truncated, in
+    /// the hunk that `hunk` answers.
     #[inline(always)]
     pub fn want(&self) -> usize
         ensures bound { result ≤ most_want }
@@ -99,6 +104,8 @@ impl BodyLoader {
         ensures wants_nothing { (f : Fault) → self.now.refused ≡ Some f → result ≡ 0 }
         ensures clean { self.now.refused ≡ None → HasNoRefusal self.now.fed }
         ensures truncated { 0 < result → IsTruncated self.now.fed (4 * (length self.now.fed / 4)) }
+        ensures next_hunk { 0 < result
+            → IsPartAt Load self.now.fed (4 * (length self.now.fed / 4)) (Hunk self.now.hunk) }
     {
         if self.refused.is_some() {
             return 0;
@@ -120,8 +127,8 @@ impl BodyLoader {
     /// the first byte of the longword that is refused, from the start of the file, or 2^64 - 4
     /// where that is more. It is never `Truncated` and never `OutOfMemory`.
     ///
-    /// Nothing is consumed then: `fed` stays as it was. Each later `feed` answers the same and
-    /// changes nothing, and `want` is 0.
+    /// Nothing is consumed then: `fed` stays as it was, and `hunk` is that of the longword. Each
+    /// later `feed` answers the same and changes nothing, and `want` is 0.
     #[inline(always)]
     pub fn feed(&mut self, piece: &[u8]) -> Result<usize, LoadFault>
         ensures rows { self.new.rows ≡ self.old.rows }
@@ -137,7 +144,7 @@ impl BodyLoader {
 
         // Refusals.
         ensures refusal { self.old.refused ≡ None
-            → IfErr result (IsBodyRefusal (self.old.fed ++ piece.now)) }
+            → IfErr result (IsHunkRefusal (self.old.fed ++ piece.now) self.new.hunk) }
         ensures accepts { self.old.refused ≡ None → MayGoOnInFile (self.old.fed ++ piece.now)
             → IsOk result }
         ensures own_reasons { IfErr result (λ f. IsTrue (is_of_body f.reason)) }
@@ -156,6 +163,14 @@ impl BodyLoader {
             Some(fault) => Err(fault),
             None => Ok(taken),
         }
+    }
+
+    /// The number of the hunk that the next longword is of, or a longword was refused in, counted
+    /// from 0. Where the file is whole, it is the number of hunks.
+    pub fn hunk(&self) -> u32
+        ensures { result ≡ self.now.hunk }
+    {
+        self.standing.state.hunk
     }
 
     /// The bytes that are held: those of the store, and 12 for each hunk.

@@ -11,7 +11,7 @@ module _ (old : BodyLoaderValue) (piece : List ℕ) (new : BodyLoaderValue) (n :
   feeds none = rw (none) at e.feeds
 
   refuses : (f : Fault) → new.refused ≡ Some f → IsBodyRefusal (old.fed ++ piece) f
-  refuses f is = (rw (is) at e.feeds).0
+  refuses f is = (rw (is) at e.feeds).0.refusal
 
 pub returns-clause-all : goal.returns-clause-all
 returns-clause-all c = elim c.match-self-2.branch [

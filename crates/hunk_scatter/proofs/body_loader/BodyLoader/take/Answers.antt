@@ -1,5 +1,5 @@
 use Rattle.std.proofs.Common.{rules, ◌++◌, ◌∙◌, ℕ, List, take, ap, sym, subst}
-use Rattle.hunk_scatter.specs.{LoadOutcomes.GoesPastNoFile, LoaderValues.{BodyLoaderValue, IsWholeFile}}
+use Rattle.hunk_scatter.specs.{LoadOutcomes.GoesPastNoFile, LoaderValues.{BodyLoaderValue, IsHunkRefusal, IsWholeFile}, Streaming.{StopsForBody, StopsInHunk}}
 use Rattle.hunk_scatter.proofs.{BodyFields.{fed_within, whole_file, written}, StreamLaws.within_store}
 use Rattle.hunk_scatter.proofs.body_loader.BodyLoader.take.Goals as goal
 
@@ -26,4 +26,20 @@ returns-in-Ok c =
         all = λ less. subst (λ (bs : List ℕ). IsWholeFile c.self.inside.rows.items bs) (sym c.and-self-inside.ensures) (whole_file _ _ _ _ k (c.in-Ok.ensures.all less));
         inside_file = subst GoesPastNoFile (sym c.and-self-inside.ensures) (fed_within _ _ _ _ k);
       });
+    }
+
+pub returns-in-Err-Refused : goal.returns-in-Err-Refused
+returns-in-Err-Refused c =
+    let none = ap (λ (l : BodyLoaderValue). l.refused) c.self.view_is ∙ c.requires in
+    let hunk = c.take_all.new.at.state.hunk in
+    let takes = rw (c.as_slice-rows.ensures.value, c.as_mut_slice-store.ensures.value) at c.in-Err-Refused.ensures.takes in
+    let k = takes c.self.inside.history.bytes (c.self.invariant.reading none) in
+    let refusal = subst (StopsInHunk (c.self.inside.history.bytes ++ c.args.piece.now) hunk) c.in-Err-Refused.field-0-is k in
+    record {
+      rows = ap (λ (l : BodyLoaderValue). l.rows) c.self.view_is;
+      feeds = (
+        subst (λ (l : BodyLoaderValue). IsHunkRefusal (l.fed ++ c.args.piece.now) hunk c.in-Err-Refused.fault) c.self.view_is refusal,
+        subst StopsForBody c.in-Err-Refused.field-0-is c.in-Err-Refused.ensures.own_reasons,
+        ap (λ (l : BodyLoaderValue). l.fed) c.self.view_is,
+      );
     }
