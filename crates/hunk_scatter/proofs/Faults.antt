@@ -44,10 +44,13 @@ no_refusal_on bytes at reason m h = go m.fits
     go (inr e) = no_fault bytes at reason (record { value = m.value; is_load_file = m.is_load_file; rest = m.more; split = e }) (inl h)
 
 -- Its place is told as it is, where the bytes are fewer than 2^64.
-pub refusal_told : (bytes : List ℕ) (f : Fault) → length bytes < 2 ^ 64 → IsBodyRefusal bytes f → HasRefusal bytes f.place f.reason
-refusal_told bytes f few (at, h, told) =
+pub told_at : (bytes : List ℕ) (f : Fault) → length bytes < 2 ^ 64 → (r : IsBodyRefusal bytes f) → r.0 ≡ f.place
+told_at bytes f few (at, h, told) =
     let inside : at < length bytes = omega (arith, h.place, ap length h.split, length-append h.before (h.word ∷ h.after), length-longs bytes) in
-    subst (λ (n : ℕ). HasRefusal bytes n f.reason) (omega (arith, few, inside, told)) h
+    omega (arith, few, inside, told)
+
+pub refusal_told : (bytes : List ℕ) (f : Fault) → length bytes < 2 ^ 64 → IsBodyRefusal bytes f → HasRefusal bytes f.place f.reason
+refusal_told bytes f few r = subst (λ (n : ℕ). HasRefusal bytes n f.reason) (told_at bytes f few r) r.1
 
 -- A refusal within the front of a piece is one of the piece.
 pub refusal_front : (fed piece : List ℕ) (n at : ℕ) (reason : Reason) → HasRefusal (fed ++ take n piece) at reason → HasRefusal (fed ++ piece) at reason

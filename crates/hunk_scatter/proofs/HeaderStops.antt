@@ -11,6 +11,9 @@ use Rattle.hunk_files.specs.{LoadText.header_labelled, FileSteps.{Progress, More
 use Rattle.hunk_files.specs.{ReaderPosition.{position_of, table_of}, WordsRead.HasRead}
 use Rattle.hunk_grammar.specs.{Roles.{Role, Role as roles, refuse}, Positions.{role_at, is_behind_header}}
 use Rattle.hunk_grammar.specs.declared.position.Position.{Position}
+use Rattle.hunk_grammar.specs.declared.file_kind.Sniff.TheVariants as sniffs
+use Rattle.hunk_files.specs.FileParts.{IsPartAt}
+use Rattle.hunk_files.specs.declared.part.Part.TheVariants as parts
 use Rattle.hunk_files.proofs.{Accepted.header_accepted, Reading.{reads, step_read, read_refused}}
 use Rattle.hunk_files.proofs.{Refusals.refusal_of_word, Scan.expects_of}
 use Rattle.hunk_scatter.specs.HeaderBytes.{IsHeaderTable, header_words, header_bytes, IsHeaderFront, MayGoOnInHeader, entries_so_far}
@@ -21,6 +24,7 @@ use Rattle.hunk_scatter.proofs.Behind.{stays_behind, table_behind, expected_pass
 use Rattle.hunk_scatter.proofs.HeaderGrows.{row_in_table, table_grows}
 use Rattle.hunk_scatter.proofs.HeaderReads.{here, read_here, position_here, refusal_is, sum_here}
 use Rattle.hunk_scatter.proofs.HeaderSteps.{IsInHeader, not_in_body, declares_some, step_adds, step_opens}
+use Rattle.hunk_scatter.proofs.PartLaws.{part_behind, part_in_header}
 use Rattle.hunk_scatter.proofs.Splits.{Cuts, Same, Before, Behind, cuts, fronts}
 use Rattle.hunk_scatter.proofs.{HeaderTexts.{header_read, rows_read}, ReadWords.{read_longs, accepted_longs}}
 
@@ -119,6 +123,12 @@ module _ (budget : ℕ) (bytes rest : List ℕ) (f : Fault) (s : HeaderStop budg
                 subst (λ (bs : List ℕ). IsHeaderFront (bs ++ rest)) (sym s.spelled)
                 (table_grows (step_file at s.word) (s.ws ++ s.word ∷ []) rest (row_in_table at s.word some) read_more opens fit fits);
           })
+
+  -- It is in the header.
+  pub stop_in_header : IsPartAt sniffs.Load (bytes ++ rest) f.place parts.Header
+  stop_in_header =
+      part_behind s.ws (s.word ∷ longs rest) (bytes ++ rest) at f.place parts.Header read_at spells (omega (arith, s.place))
+      (part_in_header at header_at)
 
   -- It ends the bytes.
   pub stop_ends : length bytes ≡ f.place + 4

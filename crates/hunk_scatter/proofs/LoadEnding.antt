@@ -13,7 +13,8 @@ use Rattle.hunk_grammar.specs.Roles.{Role as roles}
 use Rattle.hunk_scatter.specs.{LoaderReasons.{is_of_header, is_of_file}, HeaderBytes.{IsHeaderTable, header_bytes}}
 use Rattle.hunk_scatter.specs.HeaderFaults.{ExceedsBudget, IsOverBudget, IsHeaderFaultBy}
 use Rattle.hunk_scatter.specs.LoaderValues.{ImageValue, MayGoOnInFile, IsImageOf}
-use Rattle.hunk_scatter.specs.LoadOutcomes.{Gives, IsHeaderWithin, GoesPastNoFile, IsReadFault, StopsInHeader, StopsShort, IsBodyStop, KeepsToHeader, LoadStop, InHeader, Between, InBody, LoadEnds, Loads}
+use Rattle.hunk_scatter.specs.LoadOutcomes.{Gives, IsHeaderWithin, GoesPastNoFile, IsReadFault, StopsInHeader, StopsShort, IsBodyStop, KeepsToHeader, LoadStop, InHeader, Between, InBody, LoadEnds}
+use Rattle.hunk_scatter.specs.{LoadRefusals.{LoadsOrNames, NamesPart, without_part}, declared.load_refusal.LoadRefusal.LoadRefusal}
 use Rattle.hunk_scatter.specs.Rows.{entries_of, bases_of}
 use Rattle.hunk_scatter.specs.{Placing.{Placing, AreBases, HasBases, IsUnplacedFor}, declared.loading.Limits.Limits}
 use Rattle.hunk_scatter.proofs.{Faults.{refusal_more, no_refusal_on}, Feeding.fronts_of}
@@ -221,12 +222,15 @@ module _ (limits : Limits) (old now : Supply) (given : List ℕ) (gives : Gives 
   file_stop base f o (InBody t header more h e (inr s)) = short f o s
 
 -- what a load comes to, by how it ends
-pub ends_loads : (base : Placing) (limits : Limits) (old now : Supply) (given : List ℕ) (result : Result ImageValue Fault) → Gives old now limits.file_bytes given →
-    LoadEnds base limits now given result → Loads base limits old now result
-ends_loads base limits old now given (Ok placed) g h = record { given = given; gives = g; outcome = h; of_file = tt }
-ends_loads base limits old now given (Err f) g h = record {
-  given = given;
-  gives = g;
-  outcome = stop_is base limits now given f h;
-  of_file = λ input is o. file_stop limits old now given g input is base f o h;
+pub ends_loads : (base : Placing) (limits : Limits) (old now : Supply) (given : List ℕ) (result : Result ImageValue LoadRefusal) → Gives old now limits.file_bytes given →
+    LoadEnds base limits now given (without_part result) → IfErr result (NamesPart given) → LoadsOrNames base limits old now result
+ends_loads base limits old now given (Ok placed) g h n = record { loads = record { given = given; gives = g; outcome = h; of_file = tt }; names = tt }
+ends_loads base limits old now given (Err r) g h n = record {
+  loads = record {
+    given = given;
+    gives = g;
+    outcome = stop_is base limits now given r.fault h;
+    of_file = λ input is o. file_stop limits old now given g input is base r.fault o h;
+  };
+  names = n;
 }

@@ -1,13 +1,14 @@
 -- The part of a load file that the next longword is of.
-use Rattle.std.proofs.Common.{◌≡◌, ℕ, ◌*◌, ◌/◌, false, List, [], ◌++◌, length, take, refl, sym, ap, ap₂, subst, ◌∙◌, append_assoc, append-nil, length-append, arith}
+use Rattle.std.proofs.Common.{◌≡◌, ℕ, ◌*◌, ◌/◌, false, List, [], ◌++◌, length, take, refl, sym, ap, ap₂, subst, ◌∙◌, append_assoc, append-nil, length-append, arith, inl, inr}
 use Rattle.std.proofs.Math.Seq.{take-append_seam}
-use Rattle.hunk_words.specs.Longs.{longs, bytes_of}
+use Rattle.hunk_words.specs.{Carriers.Supply, Classes.class_by, Longs.{longs, bytes_of}, declared.fault.Fault.Fault}
 use Rattle.hunk_words.proofs.LongLaws.{longs-bytes_of, length-bytes_of}
 use Rattle.hunk_grammar.specs.Positions.{is_done, is_behind_header}
 use Rattle.hunk_grammar.specs.declared.file_kind.Sniff.TheVariants as sniffs
 use Rattle.hunk_files.specs.{FileParts.{IsPartAt, part_of}, FileSteps.{Progress, AtBlock, InBody, More}}
 use Rattle.hunk_files.specs.{ReaderPosition.IsBehindHeader, WordsRead.HasRead, declared.row.Row.Row, declared.part.Part.Part}
 use Rattle.hunk_files.specs.declared.part.Part.TheVariants as parts
+use Rattle.hunk_scatter.specs.{LoadOutcomes.IsReadFault, LoadRefusals.IsFaultIn}
 use Rattle.hunk_scatter.specs.{BodyLoaderFields.StandsBehind, BodyReader.state_of, HeaderLoaderFields.HeaderReading}
 use Rattle.hunk_scatter.specs.{declared.header_state.HeaderState.HeaderState, declared.store.BodyState.BodyState}
 use Rattle.hunk_scatter.proofs.{HeaderReads.{here, read_here, in_header}, HeaderSteps.IsInHeader}
@@ -56,3 +57,11 @@ pub hunk_here : (rows : List Row) (store : List ℕ) (state : BodyState) (pendin
     IsPartAt sniffs.Load fed (4 * (length fed / 4)) (parts.Hunk state.hunk)
 hunk_here rows store state pending fed r more =
     subst (λ (bs : List ℕ). IsPartAt sniffs.Load bs (4 * (length fed / 4)) (parts.Hunk state.hunk)) (append-nil fed) (hunk_next rows store state pending fed [] r more)
+
+-- ---- the end of what was read
+
+-- Of the faults of reading, what is cut short alone is one of the file, at the next longword.
+pub read_fault_in : (limit : ℕ) (now : Supply) (bytes : List ℕ) (part : Part) (f : Fault) → IsReadFault limit now (length bytes) f → IsPartAt sniffs.Load bytes (4 * (length bytes / 4)) part → IsFaultIn bytes part f
+read_fault_in limit now bytes part f (inl (e, p, c)) h = λ judged. absurd (judged (ap (class_by f.place) e))
+read_fault_in limit now bytes part f (inr (inl (e, p, x))) h = λ judged. absurd (judged (ap (class_by f.place) e))
+read_fault_in limit now bytes part f (inr (inr (e, p, a))) h = λ judged. subst (λ (n : ℕ). IsPartAt sniffs.Load bytes n part) (sym p) h

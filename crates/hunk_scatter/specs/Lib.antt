@@ -7,6 +7,7 @@ pub mod HeaderLoaderFields
 pub mod HeaderOwing
 pub mod HeaderSizes
 pub mod LoadOutcomes
+pub mod LoadRefusals
 pub mod LoaderReasons
 pub mod LoaderValues
 pub mod Owing

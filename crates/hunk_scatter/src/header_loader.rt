@@ -6,7 +6,10 @@ ghost use Rattle.hunk_words.specs.Limits.{most_hunks};
 ghost use Rattle.hunk_words.specs.PendingBytes.{pending_of};
 ghost use Rattle.hunk_words.specs.declared.fault.Fault.{Fault};
 ghost use Rattle.hunk_words.specs.declared.reason.Reason.TheVariants as reasons;
+ghost use Rattle.hunk_grammar.specs.declared.file_kind.Sniff.TheVariants.{Load};
+ghost use Rattle.hunk_files.specs.declared.part.Part.TheVariants.{Header};
 ghost use Rattle.hunk_files.specs.Fault.{IsTruncated};
+ghost use Rattle.hunk_files.specs.FileParts.{IsPartAt};
 ghost use Rattle.hunk_files.specs.Image.{declared_bytes};
 ghost use Rattle.hunk_files.specs.LoadFile.{TableEntry};
 ghost use Rattle.hunk_scatter.specs.LoaderReasons.{is_of_header};
@@ -143,6 +146,8 @@ impl HeaderLoader {
         ensures clean { self.now.refused ≡ None → HasNoRefusal self.now.fed }
         ensures truncated { self.now.refused ≡ None
             → IsTruncated self.now.fed (4 * (length self.now.fed / 4)) }
+        ensures in_header { 0 < result
+            → IsPartAt Load self.now.fed (4 * (length self.now.fed / 4)) Header }
         ensures keeps_to_budget { self.now.refused ≡ None
             → KeepsToBudget self.now.budget self.now.fed }
     {
@@ -183,6 +188,8 @@ impl HeaderLoader {
         // Refusals.
         ensures refusal { self.old.refused ≡ None
             → IfErr result (IsHeaderFault self.old.budget (self.old.fed ++ piece.now)) }
+        ensures in_header { self.old.refused ≡ None
+            → IfErr result (λ f. IsPartAt Load (self.old.fed ++ piece.now) f.place Header) }
         ensures passes_budget { self.old.refused ≡ None → (at : ℕ)
             → ExceedsBudget self.old.budget (self.old.fed ++ piece.now) at
             → IsErrAnd result (IsOverBudget at) }

@@ -5,6 +5,7 @@ ghost use Rattle.std.specs.Prelude.{IsErrAnd, MatchResult};
 ghost use Rattle.std.specs.Io.KnownBytes.{Consumes};
 ghost use Rattle.hunk_words.specs.declared.reason.Reason.TheVariants as reasons;
 ghost use Rattle.hunk_files.specs.Image.{declared_bytes};
+ghost use Rattle.hunk_files.specs.declared.part.Part.TheVariants.{Header, Hunk};
 ghost use Rattle.hunk_scatter.specs.HeaderBytes.{IsHeaderTable, header_bytes};
 ghost use Rattle.hunk_scatter.specs.HeaderFaults.{IsOverBudget};
 ghost use Rattle.hunk_scatter.specs.LoaderValues.{IsImageOf};
@@ -12,13 +13,16 @@ ghost use Rattle.hunk_scatter.specs.LoadOutcomes.{Gives, GoesPastNoFile, GoesPas
 ghost use Rattle.hunk_scatter.specs.LoadOutcomes.{HasFileWithin, IsBodyStop, IsHeaderStop};
 ghost use Rattle.hunk_scatter.specs.LoadOutcomes.{IsReadFault, Loads, PassesBudget};
 ghost use Rattle.hunk_scatter.specs.LoadOutcomes.{StopsBehindFile, StopsBehindHeader, TellsFailure};
+ghost use Rattle.hunk_scatter.specs.LoadRefusals.{IsFaultIn, LoadsOrNames, NamesPart, without_part};
 ghost use Rattle.hunk_scatter.specs.Owing.{most_want};
 
 use crate::body_loader::BodyLoader;
 use crate::declared::Declared;
 use crate::header_loader::{HeaderLoader, MOST_WANT};
 use crate::image::Image;
+use crate::load_refusal::LoadRefusal;
 use crate::placer::Placer;
+use hunk_files::Part;
 use hunk_words::{LoadFault, Reason, Source};
 use std::alloc::Global;
 
@@ -87,7 +91,7 @@ fn load_header<R: Source>(
         × MatchResult result
         (λ declared. IsHeaderTable declared.table × (given ≡ header_bytes declared.table)
         × (declared_bytes declared.table ≤ limits.budget))
-        (IsHeaderStop limits (R.supply r.new) given) }
+        (λ f. IsHeaderStop limits (R.supply r.new) given f × IsFaultIn given Header f) }
     ensures tells_read { TellsFailure (R.supply r.old) (R.supply r.new) result }
 {
     let mut loader = HeaderLoader::new(alloc, limits.budget);
@@ -105,13 +109,24 @@ fn load_header<R: Source>(
     }
 }
 
+/// The refusal for a fault at the next longword of a body.
+#[inline(never)]
+fn refused_in_hunk(loader: &BodyLoader, fault: LoadFault) -> LoadRefusal
+    ensures fault { result.fault ≡ fault }
+    ensures names { (given : List ℕ) → IsFaultIn given (Hunk loader.now.hunk) fault
+        → NamesPart given result }
+{
+    let number = u64::from(loader.hunk());
+    LoadRefusal::in_part(fault, Part::Hunk { number })
+}
+
 /// Reads the body after its header.
 fn load_body<R: Source>(
     r: &mut R,
     buf: &mut [u8],
     loader: BodyLoader,
     limit: u64,
-) -> Result<Image, LoadFault>
+) -> Result<Image, LoadRefusal>
     requires buffer { length buf.old ≡ most_want }
     requires reading { loader.refused ≡ None }
     requires below_limit { length loader.fed ≤ limit }
@@ -121,8 +136,9 @@ fn load_body<R: Source>(
         × MatchResult result
         (λ image. IsImageOf loader.rows (loader.fed ++ more) image.segments
         × (image.rows ≡ loader.rows))
-        (IsBodyStop limit (R.supply r.new) (loader.fed ++ more)) }
-    ensures tells_read { TellsFailure (R.supply r.old) (R.supply r.new) result }
+        (λ refusal. IsBodyStop limit (R.supply r.new) (loader.fed ++ more) refusal.fault
+        × NamesPart (loader.fed ++ more) refusal) }
+    ensures tells_read { TellsFailure (R.supply r.old) (R.supply r.new) (without_part result) }
 {
     let mut loader = loader;
     'reading: loop {
@@ -130,8 +146,14 @@ fn load_body<R: Source>(
         if want == 0 {
             break 'reading;
         }
-        let n = read_piece(r, buf, want, loader.fed(), limit)?;
-        loader.feed(&buf[..n])?;
+        let n = match read_piece(r, buf, want, loader.fed(), limit) {
+            Ok(n) => n,
+            Err(fault) => return Err(refused_in_hunk(&loader, fault)),
+        };
+        match loader.feed(&buf[..n]) {
+            Ok(_) => {}
+            Err(fault) => return Err(refused_in_hunk(&loader, fault)),
+        }
     }
     match loader.finish() {
         Ok(image) => Ok(image),
@@ -185,16 +207,55 @@ pub fn load<R: Source, P: Placer>(
     // A read that fails ends the load.
     ensures tells_read { TellsFailure (R.supply r.old) (R.supply r.new) result }
 {
+    match load_naming_part(alloc, r, limits, p) {
+        Ok(image) => Ok(image),
+        Err(refusal) => Err(refusal.fault),
+    }
+}
+
+/// Loads a file as `load` does, and where that refuses it names the part of the file, too.
+///
+/// # Errors
+///
+/// The fault is that of `load`. The part is the one that the longword at its place is of: for
+/// `Truncated`, the longword that would come next. There is none for `Budget`, `NoBase`,
+/// `FileLimit`, `Read` and `OutOfMemory`.
+pub fn load_naming_part<R: Source, P: Placer>(
+    alloc: Global,
+    r: &mut R,
+    limits: Limits,
+    p: &P,
+) -> Result<Image, LoadRefusal>
+    ensures loads { LoadsOrNames (P.base p.now) limits (R.supply r.old) (R.supply r.new) result }
+
+    // What is read at most.
+    ensures one_file { StopsBehindFile (R.supply r.old) (R.supply r.new) }
+    ensures header_first { StopsBehindHeader (P.base p.now) limits.budget
+        (R.supply r.old) (R.supply r.new) }
+
+    // Success, and where there is none.
+    ensures succeeds { HasFileWithin (P.base p.now) limits (R.supply r.old)
+        → (R.supply r.new).failed ≡ Bool.false
+        → IfErr (without_part result) (λ f. f.reason ≡ reasons.OutOfMemory) }
+
+    ensures over_budget { (at : ℕ) → PassesBudget limits (R.supply r.old) (R.supply r.new) at
+        → IsErrAnd (without_part result) (IsOverBudget at) }
+
+    // A read that fails ends the load.
+    ensures tells_read { TellsFailure (R.supply r.old) (R.supply r.new) (without_part result) }
+{
     let mut buf = [0u8; MOST_WANT];
-    let declared = load_header(alloc, r, buf.as_mut_slice(), limits)?;
+    let declared = match load_header(alloc, r, buf.as_mut_slice(), limits) {
+        Ok(declared) => declared,
+        Err(fault) => return Err(LoadRefusal::in_part(fault, Part::Header)),
+    };
     let place = declared.header_len();
     let loader = match declared.place(p) {
         Ok(loader) => loader,
         Err(unplaced) => {
-            return Err(LoadFault {
-                place,
-                reason: unplaced.reason,
-            });
+            let reason = unplaced.reason;
+            let fault = LoadFault { place, reason };
+            return Err(LoadRefusal::in_part(fault, Part::Header));
         }
     };
     load_body(r, buf.as_mut_slice(), loader, limits.file_bytes)

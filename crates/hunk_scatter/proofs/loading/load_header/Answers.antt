@@ -1,25 +1,32 @@
 use Rattle.std.proofs.Common.{ℕ, ◌+◌, ◌≤◌, ◌<◌, List, ◌++◌, length, take, length-take, sym, subst, refl, ◌∙◌, arith, inl, inr}
 use Rattle.std.proofs.lemmas.Result.{err_from_is_err_and}
+use Rattle.hunk_files.specs.declared.part.Part.TheVariants as parts
 use Rattle.hunk_scatter.specs.HeaderFaults.{ExceedsBudget, IsHeaderFault}
 use Rattle.hunk_scatter.specs.LoadOutcomes.{GoesPastNoHeader, IsReadFault}
 use Rattle.hunk_scatter.proofs.Feeding.{header_fed, header_within_more, gives_more, gives_none, row_begins, header_wants}
+use Rattle.hunk_scatter.proofs.PartLaws.{read_fault_in}
 use Rattle.hunk_scatter.proofs.loading.load_header.Goals as goal
 
 pub returns-in_err-n-clause-ends : goal.returns-in_err-n-clause-ends
 returns-in_err-n-clause-ends g c =
     let i = c.reading.invariant in
+    let some : 0 < c.want-want.result = omega arith in
+    let why = subst (λ (n : ℕ). IsReadFault c.args.limits.file_bytes (g.R.Source.supply c.read_piece.new.r) n c.in_err-n.field-0.0) c.fed.ensures c.in_err-n.ensures.fault in
     let p = err_from_is_err_and c.from_residual.result c.from_residual.ensures.1 in
     rw (p.1, p.2) (
       c.reading.loader.fed,
       gives_none _ _ _ _ _ i.given c.in_err-n.ensures.nothing,
       i.in_header,
-      inr (
-        record {
-          clean = c.want-want.ensures.clean i.reading;
-          truncated = c.want-want.ensures.truncated i.reading;
-          why = subst (λ (n : ℕ). IsReadFault c.args.limits.file_bytes (g.R.Source.supply c.read_piece.new.r) n c.in_err-n.field-0.0) c.fed.ensures c.in_err-n.ensures.fault;
-        },
-        λ at p. c.want-want.ensures.keeps_to_budget i.reading at (subst (λ (b : ℕ). ExceedsBudget b c.reading.loader.fed at) (sym i.budget_is) p),
+      (
+        inr (
+          record {
+            clean = c.want-want.ensures.clean i.reading;
+            truncated = c.want-want.ensures.truncated i.reading;
+            why = why;
+          },
+          λ at p. c.want-want.ensures.keeps_to_budget i.reading at (subst (λ (b : ℕ). ExceedsBudget b c.reading.loader.fed at) (sym i.budget_is) p),
+        ),
+        read_fault_in _ _ c.reading.loader.fed parts.Header _ why (c.want-want.ensures.in_header some),
       ),
     )
 
@@ -54,15 +61,18 @@ returns-in_err-feed-clause-ends g c =
       c.reading.loader.fed ++ piece,
       gives_more _ _ _ _ c.reading.loader.fed piece (c.reading.loader.fed ++ piece) i.given c.in_ok-n.ensures.piece room refl,
       header_within_more c.reading.loader.fed piece c.want-want.result c.want-want.ensures.least fits some (λ w. c.want-want.ensures.over i.reading w) i.in_header,
-      inl
-          (record {
-            fault = fault;
-            over = λ at p. c.in_err-feed.ensures.passes_budget i.reading at (subst (λ (b : ℕ). ExceedsBudget b (c.reading.loader.fed ++ piece) at) (sym i.budget_is) p);
-            own_reasons = c.in_err-feed.ensures.own_reasons;
-            begins =
-                λ e.
-                row_begins c.reading.loader.fed piece c.want-want.result c.in_err-feed.field-0.0.place c.want-want.ensures.least fits
-                (c.in_err-feed.ensures.out_of_memory i.reading e)
-                (header_wants c.in_err-feed.field-0.0 c.args.limits.budget (c.reading.loader.fed ++ piece) e fault);
-          }),
+      (
+        inl
+            (record {
+              fault = fault;
+              over = λ at p. c.in_err-feed.ensures.passes_budget i.reading at (subst (λ (b : ℕ). ExceedsBudget b (c.reading.loader.fed ++ piece) at) (sym i.budget_is) p);
+              own_reasons = c.in_err-feed.ensures.own_reasons;
+              begins =
+                  λ e.
+                  row_begins c.reading.loader.fed piece c.want-want.result c.in_err-feed.field-0.0.place c.want-want.ensures.least fits
+                  (c.in_err-feed.ensures.out_of_memory i.reading e)
+                  (header_wants c.in_err-feed.field-0.0 c.args.limits.budget (c.reading.loader.fed ++ piece) e fault);
+            }),
+        λ judged. c.in_err-feed.ensures.in_header i.reading,
+      ),
     )

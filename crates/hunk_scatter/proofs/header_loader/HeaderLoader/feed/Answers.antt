@@ -1,11 +1,14 @@
 use Rattle.std.proofs.Common.{rules, ◌≡◌, ◌<◌, ◌-◌, ◌++◌, None, drop, ◌∙◌, ℕ, List, Ok, Result, IfOk, refl, sym, ap, subst, take, length, append-nil, arith}
 use Rattle.hunk_words.specs.declared.fault.Fault.{Fault}
+use Rattle.hunk_grammar.specs.declared.file_kind.Sniff.TheVariants as sniffs
+use Rattle.hunk_files.specs.FileParts.{IsPartAt}
+use Rattle.hunk_files.specs.declared.part.Part.TheVariants as parts
 use Rattle.hunk_scatter.specs.{HeaderBytes.{IsHeader, MayGoOnInHeader}, HeaderFaults.{ExceedsBudget, IsHeaderFault}}
 use Rattle.hunk_scatter.specs.{HeaderLoaderFields.StopsInPiece, LoaderValues.HeaderLoaderValue}
 use Rattle.hunk_scatter.specs.LoadOutcomes.{GoesPastNoHeader}
 use Rattle.hunk_scatter.proofs.{Faults.{rest_within, fed_on}, HeaderEnds.heading_ends, Feeding.rest_bytes}
 use Rattle.hunk_scatter.proofs.HeaderFields.{piece_within}
-use Rattle.hunk_scatter.proofs.HeaderStops.{stop_ends, stop_fault, stop_over, stop_accepts, stops_on}
+use Rattle.hunk_scatter.proofs.HeaderStops.{stop_ends, stop_fault, stop_in_header, stop_over, stop_accepts, stops_on}
 use Rattle.hunk_scatter.proofs.header_loader.HeaderLoader.feed.Goals.{else-loop-taken-test, then-loop-taken-test+in-Ok-eq0}
 use Rattle.hunk_scatter.proofs.header_loader.HeaderLoader.feed.Goals as goal
 
@@ -35,6 +38,12 @@ returns-in-Err-clause-refusal c none =
     let s : StopsInPiece c.args.self.now.budget c.args.self.now.fed c.args.piece.now c.in-Err.fault = stops_on _ _ _ _ _ _ _ i.budget_is i.fed_is c.in-Err.ensures.feeds_or_stops.stops in
     subst (λ (bs : List ℕ). IsHeaderFault c.args.self.now.budget bs c.in-Err.fault) (sym s.2)
     (stop_fault _ s.0 s.1 c.in-Err.fault s.4 (rest_bytes c.args.self.now.fed c.args.piece.now s.0 s.1 (λ k. omega (arith, c.type_inv.piece k)) s.2 s.3))
+
+pub returns-in-Err-clause-in_header : goal.returns-in-Err-clause-in_header
+returns-in-Err-clause-in_header c none =
+    let i = c.loop-taken.invariant in
+    let s : StopsInPiece c.args.self.now.budget c.args.self.now.fed c.args.piece.now c.in-Err.fault = stops_on _ _ _ _ _ _ _ i.budget_is i.fed_is c.in-Err.ensures.feeds_or_stops.stops in
+    subst (λ (bs : List ℕ). IsPartAt sniffs.Load bs c.in-Err.fault.place parts.Header) (sym s.2) (stop_in_header _ s.0 s.1 c.in-Err.fault s.4)
 
 pub returns-in-Err-clause-passes_budget : goal.returns-in-Err-clause-passes_budget
 returns-in-Err-clause-passes_budget c none at p =

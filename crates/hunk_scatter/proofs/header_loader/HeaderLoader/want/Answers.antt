@@ -1,11 +1,14 @@
 use Rattle.std.proofs.Common.{inl, inr, ◌*◌, ◌/◌, ◌++◌, length, sym, ap, subst, ◌∙◌, arith}
-use Rattle.hunk_files.specs.Fault.{IsTruncated}
+use Rattle.hunk_grammar.specs.declared.file_kind.Sniff.TheVariants as sniffs
+use Rattle.hunk_files.specs.{Fault.IsTruncated, FileParts.IsPartAt}
+use Rattle.hunk_files.specs.declared.part.Part.TheVariants as parts
 use Rattle.hunk_scatter.specs.{HeaderBytes.IsHeader, HeaderFaults.ExceedsBudget}
 use Rattle.hunk_scatter.specs.LoaderValues.{HeaderLoaderValue, HasNoRefusal}
 use Rattle.hunk_scatter.specs.HeaderOwing.{HasRowsToCome, HasHeaderToCome}
 use Rattle.hunk_scatter.proofs.BodyFields.{none_of}
 use Rattle.hunk_scatter.proofs.HeaderFields.{heading_clean, heading_truncated, heading_within, heading_not_whole, heading_table, heading_least}
 use Rattle.hunk_scatter.proofs.HeaderOwed.{rows_to_come, header_to_come, no_rows_to_come, no_header_to_come}
+use Rattle.hunk_scatter.proofs.PartLaws.{header_next}
 use Rattle.hunk_scatter.proofs.header_loader.HeaderLoader.want.Goals as goal
 
 pub returns-then-is_behind_header-clause-clean : goal.returns-then-is_behind_header-clause-clean
@@ -78,3 +81,9 @@ returns-then-is_behind_header-clause-rows c none p t =
     let e = no_rows_to_come _ _ _ _ _ (c.self.invariant.reading (ap (λ (v : HeaderLoaderValue). v.refused) c.self.view_is ∙ none)) p (sym c.is_behind_header.ensures ∙ c.if-is_behind_header.true)
     (subst (λ (v : HeaderLoaderValue). HasRowsToCome v.fed p) (sym c.self.view_is) t) in
     inl (omega (arith, e))
+
+pub returns-clause-in_header : goal.returns-clause-in_header
+returns-clause-in_header c some =
+    let h = c.self.invariant.reading (none_of c.self.inside.refused (sym c.is_some.ensures ∙ c.if-is_some.false)) in
+    subst (λ (v : HeaderLoaderValue). IsPartAt sniffs.Load v.fed (4 * (length v.fed / 4)) parts.Header) c.self.view_is
+    (header_next _ _ _ _ _ h (sym c.is_behind_header.ensures ∙ c.if-is_behind_header.false))
