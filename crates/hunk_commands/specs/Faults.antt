@@ -1,10 +1,12 @@
 -- The status and the line of each fault.
-use Rattle.std.specs.Prelude.{ℕ, List, ◌++◌, ⊤, codes}
+use Rattle.std.specs.Prelude.{ℕ, List, ◌++◌, Option, None, Some, ⊤, codes}
 use Rattle.std.specs.Fmt.{decimal}
 use Rattle.hunk_words.specs.declared.fault.Fault.{Fault}
 use Rattle.hunk_words.specs.declared.reason.Reason.{Reason}
 use Rattle.hunk_words.specs.declared.reason.Reason.TheVariants as reasons
 use Rattle.hunk_words.specs.FaultLines.{refusal_line, write_line}
+use Rattle.hunk_files.specs.declared.part.Part.{Part}
+use Rattle.hunk_scatter.specs.declared.load_refusal.LoadRefusal.{LoadRefusal}
 use Rattle.hunk_commands.specs.declared.fault.RunFault.{RunFault}
 use Rattle.hunk_commands.specs.declared.fault.RunFault.TheVariants.{HexText, Memory, Read, Refused, RefusedIn, Write}
 
@@ -39,3 +41,11 @@ refused_for reason refusal = Refused refusal
 
 abbrev pub refused_as : Fault → RunFault
 refused_as refusal = refused_for refusal.reason refusal
+
+abbrev pub refused_by : Option Part → Fault → RunFault
+refused_by None refusal = refused_as refusal
+refused_by (Some part) refusal = RefusedIn refusal part
+
+-- What the refusal of a load is: where it names a part, so does the run.
+abbrev pub load_refused : LoadRefusal → RunFault
+load_refused refusal = refused_by refusal.part refusal.fault

@@ -2,19 +2,20 @@
 use Rattle.std.specs.Prelude.{◌≡◌, ◌≤◌, ◌++◌, ℕ, List, [], ◌∷◌, Result, IfErr, OnOk, map}
 use Rattle.hunk_words.specs.Carriers.{Outlet, Supply, Writing}
 use Rattle.hunk_words.specs.Longs.{bytes_of}
-use Rattle.hunk_words.specs.declared.fault.Fault.{Fault}
 use Rattle.hunk_files.specs.LoadFile.{LoadFileValue, IsLoadFile}
 use Rattle.hunk_files.specs.LoadText.{table, text}
 use Rattle.hunk_files.specs.Image.{declared_bytes, image}
 use Rattle.hunk_scatter.specs.LoadOutcomes.{Gives, IsFaultOf, IsLoadFault}
+use Rattle.hunk_scatter.specs.LoadRefusals.{NamesPart}
 use Rattle.hunk_scatter.specs.LoaderValues.{ImageValue}
 use Rattle.hunk_scatter.specs.Placing.{AreBases, packed_from}
 use Rattle.hunk_scatter.specs.Rows.{bases_of}
+use Rattle.hunk_scatter.specs.declared.load_refusal.LoadRefusal.{LoadRefusal}
 use Rattle.hunk_scatter.specs.declared.loading.Limits.{Limits}
 use Rattle.hunk_listing.specs.SegmentLines.{Segment, segment_listing}
 use Rattle.hunk_commands.specs.declared.fault.RunFault.{RunFault}
 use Rattle.hunk_commands.specs.Engine.{PutsAll, PutsFirst, StopsAtWrite}
-use Rattle.hunk_commands.specs.Faults.{IsWrite, refused_as}
+use Rattle.hunk_commands.specs.Faults.{IsWrite, load_refused}
 use Rattle.hunk_commands.specs.Output.{StopsOutput}
 
 -- each segment at its base
@@ -47,12 +48,13 @@ pub record IsListingOf (start budget : ℕ) (given written : List ℕ) : Type 0 
   pub is_listing : IsListingAt start budget file written
   pub given_is : given ≡ bytes_of (text file)
 
--- what the fault of a load is to a run
+-- What the refusal of a load is to a run. Where it is one of the file, it names the part, by the bytes that were given.
 pub record StopsLoading (start : ℕ) (limits : Limits) (before after : Supply) (given : List ℕ) (fault : RunFault) : Type 0 where
-  pub refusal : Fault
-  pub told : fault ≡ refused_as refusal
-  pub is_fault : IsLoadFault (packed_from start) limits after given refusal
-  pub of_file : IsFaultOf before refusal
+  pub refusal : LoadRefusal
+  pub told : fault ≡ load_refused refusal
+  pub names : NamesPart given refusal
+  pub is_fault : IsLoadFault (packed_from start) limits after given refusal.fault
+  pub of_file : IsFaultOf before refusal.fault
 
 -- What `relocate` comes to. The source has given these bytes, and no more than the limit.
 pub record Relocates {W T : Type 0} (outlet : W → Outlet) (start : ℕ) (limits : Limits) (before after : Supply)

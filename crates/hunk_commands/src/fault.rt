@@ -1,9 +1,10 @@
 //! Why a run failed: the status that it ends with and the line that it prints.
 ghost use Rattle.std.specs.Prelude.{◌≡◌, ◌<◌, ◌≤◌, Some};
-ghost use Rattle.hunk_commands.specs.Faults.{line_of, refused_as, status_of};
+ghost use Rattle.hunk_commands.specs.Faults.{line_of, load_refused, refused_as, status_of};
 ghost use Rattle.hunk_commands.specs.declared.fault.RunFault.TheVariants.{Memory, Write};
 
 use hunk_files::Part;
+use hunk_scatter::LoadRefusal;
 use hunk_words::{Fault, Reason, WriteFault};
 use std::alloc::{AllocError, AllocFailed};
 use std::error::Error;
@@ -76,6 +77,18 @@ impl From<Fault> for RunFault {
                 place: refusal.place,
             },
             _ => RunFault::Refused(refusal),
+        }
+    }
+}
+
+impl From<LoadRefusal> for RunFault {
+    ghost from_gives = { λ refusal fault. fault ≡ load_refused refusal };
+
+    fn from(refusal: LoadRefusal) -> RunFault {
+        let fault = refusal.fault;
+        match refusal.part {
+            Some(part) => RunFault::RefusedIn { fault, part },
+            None => RunFault::from(fault),
         }
     }
 }

@@ -11,7 +11,7 @@ ghost use Rattle.hunk_commands.specs.Relocating.{Relocates, image_listing};
 
 use crate::fault::RunFault;
 use hunk_listing::print_segment;
-use hunk_scatter::{Image, Limits, Packed, load};
+use hunk_scatter::{Image, Limits, Packed, load_naming_part};
 use hunk_words::{LongWriter, Printer, Sink, Source, WriteFault};
 use std::alloc::Global;
 
@@ -25,9 +25,10 @@ use std::alloc::Global;
 ///
 /// The places are in bytes from where the source stood before the call.
 ///
-/// - `Refused` as `load` refuses the file, at the same place: the first fault of the file,
-///   `Truncated`, `Budget`, `FileLimit`, or `NoBase` for the first hunk that would begin at 2^32 or
-///   end after it.
+/// - `RefusedIn` for the first fault of the file and for `Truncated`, at the same place as `load`,
+///   with the header or the hunk that the longword there is of.
+/// - `Refused` as `load` refuses the file for `Budget`, for `FileLimit`, or for `NoBase` with the
+///   first hunk that would begin at 2^32 or end after it.
 /// - `Read` where the source failed, at the number of bytes read.
 /// - `Memory` where memory is refused.
 /// - `Write` where the writer failed: just the first `written` bytes of all that was ever put, the
@@ -62,7 +63,7 @@ pub fn relocate<R: Source, W: Sink>(
     // A read that fails ends the load.
     ensures tells_read { TellsReading (R.supply r.old) (R.supply r.new) result }
 {
-    let image = load(alloc, r, limits, &Packed { start: base })?;
+    let image = load_naming_part(alloc, r, limits, &Packed { start: base })?;
     put_listing(w, &image)?;
     Ok(())
 }

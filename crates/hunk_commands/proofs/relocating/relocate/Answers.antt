@@ -1,8 +1,7 @@
-use Rattle.std.proofs.Common.{ap}
+use Rattle.std.proofs.Common.{refl}
 use Rattle.std.proofs.lemmas.Result.{err_from_is_err_and}
-use Rattle.hunk_words.specs.declared.reason.Reason.{Reason}
-use Rattle.hunk_commands.specs.Faults.{refused_for}
-use Rattle.hunk_commands.proofs.RelocateLaws.{over_of, wrote_first, wrote_all, load_stops}
+use Rattle.hunk_words.specs.declared.reason.Reason.TheVariants as reasons
+use Rattle.hunk_commands.proofs.RelocateLaws.{over_of, told_for, wrote_first, wrote_all, load_stops}
 use Rattle.hunk_commands.proofs.relocating.relocate.Goals as goal
 
 pub returns-in_err-image-clause-relocates : goal.returns-in_err-image-clause-relocates
@@ -10,17 +9,23 @@ returns-in_err-image-clause-relocates g c =
     load_stops g.W.Sink.outlet c.args.base c.args.limits _ _ c.args.w.now c.in_err-image.ensures.loads c.from_residual.result
     (err_from_is_err_and c.from_residual.result c.from_residual.ensures.1)
 
+pub returns-in_err-image-clause-succeeds : goal.returns-in_err-image-clause-succeeds
+returns-in_err-image-clause-succeeds g c = λ file reads writes.
+    let refusal = c.in_err-image.field-0.0 in
+    let p = err_from_is_err_and c.from_residual.result c.from_residual.ensures.1 in
+    let is = told_for _ refusal c.in_err-image.ensures.loads.names reasons.OutOfMemory refl (c.in_err-image.ensures.succeeds file reads) in rw (p.1, p.2) is
+
 pub returns-in_err-image-clause-over_budget : goal.returns-in_err-image-clause-over_budget
 returns-in_err-image-clause-over_budget g c = λ at passes.
     let refusal = c.in_err-image.field-0.0 in
     let p = err_from_is_err_and c.from_residual.result c.from_residual.ensures.1 in
-    let over = over_of at refusal (c.in_err-image.ensures.over_budget at passes) in rw (p.1, p.2) over
+    let over = over_of _ refusal c.in_err-image.ensures.loads.names at (c.in_err-image.ensures.over_budget at passes) in rw (p.1, p.2) over
 
 pub returns-in_err-image-clause-tells_read : goal.returns-in_err-image-clause-tells_read
 returns-in_err-image-clause-tells_read g c = λ sound failed.
     let refusal = c.in_err-image.field-0.0 in
     let p = err_from_is_err_and c.from_residual.result c.from_residual.ensures.1 in
-    let is = ap (λ (r : Reason). refused_for r refusal) (c.in_err-image.ensures.tells_read sound failed) in rw (p.1, p.2) (refusal.place, is)
+    let is = told_for _ refusal c.in_err-image.ensures.loads.names reasons.Read refl (c.in_err-image.ensures.tells_read sound failed) in rw (p.1, p.2) (refusal.fault.place, is)
 
 pub returns-in_err-put_listing-clause-relocates : goal.returns-in_err-put_listing-clause-relocates
 returns-in_err-put_listing-clause-relocates g c =
