@@ -14,13 +14,12 @@ use Rattle.hunk_commands.specs.declared.fault.RunFault.TheVariants.{HexText, Mem
 use Rattle.hunk_commands.specs.declared.rewriting.Rewritten.{Rewritten}
 use Rattle.hunk_commands.specs.Faults.{status_of}
 use Rattle.hunk_commands.specs.Output.{Takes}
-use Rattle.hunk_listing.specs.RewritingLines.{left_out_line, wrote_line}
 use Rattle.hunk_run.specs.declared.listing.Listing.{Listing}
 use Rattle.hunk_run.specs.declared.note.Ended.{Ended}
 use Rattle.hunk_run.specs.declared.note.Note.{Note}
 use Rattle.hunk_run.specs.declared.note.Note.TheVariants.{Fault, LeftOut, Line, NotText, Output}
-use Rattle.hunk_run.specs.Notes.{EndsByFault, EndsListing, EndsOrFails, EndsRewriting, NamesFiles, Notes, fault_ended, input_of, left_out_note, refusal_ended, refusal_text, rewritten_ended}
-use Rattle.hunk_run.specs.Runs.{Lists, PrintsNoHelp, Rewrites, TellsRewriting}
+use Rattle.hunk_run.specs.Notes.{EndsByFault, EndsListing, EndsOrFails, EndsRewriting, NamesFiles, Notes, SaysLeftOut, fault_ended, input_of, left_out_note, refusal_ended, refusal_text, rewritten_ended}
+use Rattle.hunk_run.specs.Runs.{Lists, PrintsNoHelp, TellsRewriting}
 use Rattle.hunk_run.specs.Status.{PrintsOrFails, TellsFindings, TellsOutcome, TellsStatus, with_newline}
 
 -- what the status tells, where the note goes with it
@@ -201,20 +200,20 @@ module _ {W : Type 0} (outlet : W → Outlet) (old new : Writing W) where
   notes_rewriting (Err (Refused refusal)) input output cause result ends = notes_fault (Refused refusal) (Some input) cause result ends
   notes_rewriting (Err (RefusedIn refusal part)) input output cause result ends = notes_fault (RefusedIn refusal part) (Some input) cause result ends
 
-  -- where the status is 0 the file is rewritten
-  pub rewrites_where_done : (strip : Bool) (answer : Result Rewritten RunFault) (input output : List ℕ) (cause : Option Error) (result : Ended) →
-      IfOk answer (λ done. TellsRewriting strip (wrote_line done.written ++ left_out_line done.rest)) →
-      EndsRewriting outlet old new answer input output cause result → result.status ≡ 0 → Rewrites outlet old new strip
-  rewrites_where_done strip (Ok done) input output cause result tells (inl (is, takes)) none =
-      record { text = wrote_line done.written ++ left_out_line done.rest; tells = tells; takes = takes }
-  rewrites_where_done strip (Ok done) input output cause result tells (inr (is, broken)) none =
+  -- where the status is 0 the file is rewritten, and what was left out is said
+  pub says_left_out : (strip : Bool) (answer : Result Rewritten RunFault) (input output : List ℕ) (cause : Option Error) (result : Ended) →
+      IfOk answer (TellsRewriting strip) → EndsRewriting outlet old new answer input output cause result → result.status ≡ 0 →
+      SaysLeftOut outlet old new (orders.Rewrite strip input output) result.note
+  says_left_out strip (Ok done) input output cause result tells (inl (is, takes)) none =
+      (record { done = done; tells = tells; takes = takes }, ap (λ (e : Ended). e.note) is)
+  says_left_out strip (Ok done) input output cause result tells (inr (is, broken)) none =
       absurd (let same = ap (λ (e : Ended). e.status) is in omega (arith, same, none))
-  rewrites_where_done strip (Err (Write written)) input output cause result tells ends none = absurd (not_done (Write written) (Some output) cause result ends none)
-  rewrites_where_done strip (Err Memory) input output cause result tells ends none = absurd (not_done Memory (Some input) cause result ends none)
-  rewrites_where_done strip (Err HexText) input output cause result tells ends none = absurd (not_done HexText (Some input) cause result ends none)
-  rewrites_where_done strip (Err (Read place)) input output cause result tells ends none = absurd (not_done (Read place) (Some input) cause result ends none)
-  rewrites_where_done strip (Err (Refused refusal)) input output cause result tells ends none = absurd (not_done (Refused refusal) (Some input) cause result ends none)
-  rewrites_where_done strip (Err (RefusedIn refusal part)) input output cause result tells ends none = absurd (not_done (RefusedIn refusal part) (Some input) cause result ends none)
+  says_left_out strip (Err (Write written)) input output cause result tells ends none = absurd (not_done (Write written) (Some output) cause result ends none)
+  says_left_out strip (Err Memory) input output cause result tells ends none = absurd (not_done Memory (Some input) cause result ends none)
+  says_left_out strip (Err HexText) input output cause result tells ends none = absurd (not_done HexText (Some input) cause result ends none)
+  says_left_out strip (Err (Read place)) input output cause result tells ends none = absurd (not_done (Read place) (Some input) cause result ends none)
+  says_left_out strip (Err (Refused refusal)) input output cause result tells ends none = absurd (not_done (Refused refusal) (Some input) cause result ends none)
+  says_left_out strip (Err (RefusedIn refusal part)) input output cause result tells ends none = absurd (not_done (RefusedIn refusal part) (Some input) cause result ends none)
 
 -- a run that was to list an input; the output is mid behind what was listed
 module _ {W : Type 0} (outlet : W → Outlet) (old mid new : Writing W) (name : Option (List ℕ)) (cause : Option Error) (result : Ended) where
@@ -236,18 +235,23 @@ module _ {W : Type 0} (outlet : W → Outlet) (old mid new : Writing W) (name : 
   notes_listing (Err (Refused refusal)) outcome ends = notes_since (Refused refusal) (outcome.fails.untouched (λ is. is)) ends
   notes_listing (Err (RefusedIn refusal part)) outcome ends = notes_since (RefusedIn refusal part) (outcome.fails.untouched (λ is. is)) ends
 
-  -- where the status is 0 the input is listed
+  -- where the status is 0 no more was printed, and nothing is said
+  pub listing_done : (answer : Result ℕ RunFault) → EndsListing outlet mid new answer name cause result → result.status ≡ 0 →
+      (answer ≡ Ok 0) × (new ≡ mid) × (result.note ≡ None)
+  listing_done (Ok status) (is, same) none = (ap Ok (sym (ap (λ (e : Ended). e.status) is) ∙ none), same, ap (λ (e : Ended). e.note) is)
+  listing_done (Err (Write written)) (is, same) none = absurd (let status = ap (λ (e : Ended). e.status) is in omega (arith, status, none))
+  listing_done (Err Memory) ends none = absurd (not_done outlet mid new Memory name cause result ends none)
+  listing_done (Err HexText) ends none = absurd (not_done outlet mid new HexText name cause result ends none)
+  listing_done (Err (Read place)) ends none = absurd (not_done outlet mid new (Read place) name cause result ends none)
+  listing_done (Err (Refused refusal)) ends none = absurd (not_done outlet mid new (Refused refusal) name cause result ends none)
+  listing_done (Err (RefusedIn refusal part)) ends none = absurd (not_done outlet mid new (RefusedIn refusal part) name cause result ends none)
+
   pub lists_where_done : (listing : Listing) (answer : Result ℕ RunFault) → IfOk answer (λ status. status ≡ 0 → Lists outlet old mid listing) →
       EndsListing outlet mid new answer name cause result → result.status ≡ 0 → Lists outlet old new listing
-  lists_where_done listing (Ok status) lists (is, same) none =
-      subst (λ (w : Writing W). Lists outlet old w listing) (sym same) (lists (sym (ap (λ (e : Ended). e.status) is) ∙ none))
-  lists_where_done listing (Err (Write written)) lists (is, same) none =
-      absurd (let status = ap (λ (e : Ended). e.status) is in omega (arith, status, none))
-  lists_where_done listing (Err Memory) lists ends none = absurd (not_done outlet mid new Memory name cause result ends none)
-  lists_where_done listing (Err HexText) lists ends none = absurd (not_done outlet mid new HexText name cause result ends none)
-  lists_where_done listing (Err (Read place)) lists ends none = absurd (not_done outlet mid new (Read place) name cause result ends none)
-  lists_where_done listing (Err (Refused refusal)) lists ends none = absurd (not_done outlet mid new (Refused refusal) name cause result ends none)
-  lists_where_done listing (Err (RefusedIn refusal part)) lists ends none = absurd (not_done outlet mid new (RefusedIn refusal part) name cause result ends none)
+  lists_where_done listing answer lists ends none =
+      let (done, same, quiet) = listing_done answer ends none in
+      subst (λ (w : Writing W). Lists outlet old w listing) (sym same)
+      (subst (λ (a : Result ℕ RunFault). IfOk a (λ status. status ≡ 0 → Lists outlet old mid listing)) done lists refl)
 
   -- a fault is one of the input
   pub names_listing : (order : Order) (answer : Result ℕ RunFault) → EndsListing outlet mid new answer name cause result → name ≡ input_of order →

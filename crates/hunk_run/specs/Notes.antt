@@ -20,11 +20,11 @@ use Rattle.hunk_commands.specs.declared.fault.RunFault.TheVariants.{HexText, Mem
 use Rattle.hunk_commands.specs.declared.rewriting.Rewritten.{Rewritten}
 use Rattle.hunk_commands.specs.Faults.{line_of, status_of}
 use Rattle.hunk_commands.specs.Output.{Takes}
-use Rattle.hunk_listing.specs.RewritingLines.{left_out_line, wrote_line}
 use Rattle.hunk_run.specs.declared.note.Ended.{Ended}
 use Rattle.hunk_run.specs.declared.note.Note.{Note}
 use Rattle.hunk_run.specs.declared.note.Note.TheVariants.{Fault, LeftOut, Line, NotText, Output}
 use Rattle.hunk_run.specs.declared.verdict.Verdict.{Verdict}
+use Rattle.hunk_run.specs.Runs.{Rewrites, rewritten_lines}
 use Rattle.hunk_run.specs.Status.{TellsFindings, with_newline}
 
 -- ---- the texts
@@ -121,6 +121,12 @@ left_out_note (suc more) name = Some (LeftOut name (suc more))
 abbrev pub rewritten_ended : ℕ → List ℕ → Ended
 rewritten_ended rest name = record { status = 0; note = left_out_note rest name }
 
+-- Of an order that is done nothing is said, but what its rewriting has left out.
+abbrev pub SaysLeftOut : {W : Type 0} → (W → Outlet) → Writing W → Writing W → Order → Option Note → Type 0
+SaysLeftOut outlet old new (orders.Rewrite strip input output) note =
+    (rewrites : Rewrites outlet old new strip) × (note ≡ left_out_note rewrites.done.rest input)
+SaysLeftOut outlet old new order note = note ≡ None
+
 -- where the words are no order
 abbrev pub refusal_ended : OrderFault → Ended
 refusal_ended (words.Line why) = record { status = 2; note = Some (Line why) }
@@ -158,6 +164,6 @@ EndsListing outlet old new (Err fault) name cause result = EndsByFault outlet ol
 -- how a run ends that has rewritten a file, or not
 abbrev pub EndsRewriting : {W : Type 0} → (W → Outlet) → Writing W → Writing W → Result Rewritten RunFault → List ℕ → List ℕ → Option Error → Ended → Type 0
 EndsRewriting outlet old new (Ok done) input output cause result =
-    EndsOrFails outlet old new (wrote_line done.written ++ left_out_line done.rest) (rewritten_ended done.rest input) result
+    EndsOrFails outlet old new (rewritten_lines done) (rewritten_ended done.rest input) result
 EndsRewriting outlet old new (Err (Write written)) input output cause result = EndsByFault outlet old new (Write written) (Some output) cause result
 EndsRewriting outlet old new (Err fault) input output cause result = EndsByFault outlet old new fault (Some input) cause result

@@ -11,6 +11,7 @@ use Rattle.hunk_command_line.specs.declared.asked.Order.TheVariants as orders
 use Rattle.hunk_command_line.specs.FaultTexts.{refused_line}
 use Rattle.hunk_commands.specs.declared.fault.RunFault.{RunFault}
 use Rattle.hunk_commands.specs.declared.fault.RunFault.TheVariants as faults
+use Rattle.hunk_commands.specs.declared.rewriting.Rewritten.{Rewritten}
 use Rattle.hunk_run.specs.declared.listing.Listing.{Listing}
 use Rattle.hunk_run.specs.declared.listing.Listing.TheVariants as listings
 use Rattle.hunk_commands.specs.Faults.{line_of}
@@ -37,19 +38,22 @@ pub record Lists {W : Type 0} (outlet : W → Outlet) (old new : Writing W) (lis
   pub is_listed : IsListed listing input text
   pub takes : Takes outlet old new text
 
--- Some input was rewritten, and the text says how many bytes were written and how many left out.
-pub record TellsRewriting (strip : Bool) (text : List ℕ) : Type 0 where
+-- Some input was rewritten, and this tells how many bytes were written and how many left out.
+pub record TellsRewriting (strip : Bool) (done : Rewritten) : Type 0 where
   pub input : List ℕ
-  pub rest : ℕ
   pub output : List ℕ
-  pub is_rewritten : IsRewritten strip rest input output
-  pub text_is : text ≡ wrote_line (saturated (length output)) ++ left_out_line rest
+  pub is_rewritten : IsRewritten strip done.rest input output
+  pub written : done.written ≡ saturated (length output)
+
+-- what is printed of it
+abbrev pub rewritten_lines : Rewritten → List ℕ
+rewritten_lines done = wrote_line done.written ++ left_out_line done.rest
 
 -- the output has taken what is printed of some rewriting, and nothing else
 pub record Rewrites {W : Type 0} (outlet : W → Outlet) (old new : Writing W) (strip : Bool) : Type 0 where
-  pub text : List ℕ
-  pub tells : TellsRewriting strip text
-  pub takes : Takes outlet old new text
+  pub done : Rewritten
+  pub tells : TellsRewriting strip done
+  pub takes : Takes outlet old new (rewritten_lines done)
 
 -- what the order asks for is done
 abbrev pub IsOrderDone : {W : Type 0} → (W → Outlet) → Writing W → Writing W → Order → Type 0

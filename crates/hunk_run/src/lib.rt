@@ -10,7 +10,7 @@ ghost use Rattle.clap.specs.declared.error.kind.ErrorKind.TheVariants.{DisplayHe
 ghost use Rattle.hunk_command_line.specs.declared.asked.Order.{Order};
 ghost use Rattle.hunk_run.specs.Status.{TellsStatus, with_newline};
 ghost use Rattle.hunk_run.specs.Notes.{EndsByFault, EndsListing, EndsOrFails, EndsRewriting};
-ghost use Rattle.hunk_run.specs.Notes.{NamesFiles, Notes, fault_ended, output_failed};
+ghost use Rattle.hunk_run.specs.Notes.{NamesFiles, Notes, SaysLeftOut, fault_ended, output_failed};
 ghost use Rattle.hunk_run.specs.Notes.{refusal_ended, refusal_text};
 ghost use Rattle.hunk_commands.specs.Faults.{line_of};
 ghost use Rattle.hunk_commands.specs.declared.fault.RunFault.TheVariants.{Memory};
@@ -87,6 +87,10 @@ pub fn run<T: Files + Input, W: Sink>(
     ensures notes { Notes W.outlet out.old out.new result.status result.note }
     ensures names { (order : Order) → takes hunkinfo (words_read (map string_bytes words.now)) ≡ true
         → order_of (map string_bytes words.now) ≡ Some order → NamesFiles order result.note }
+    ensures left_out { (order : Order)
+        → takes hunkinfo (words_read (map string_bytes words.now)) ≡ true
+        → order_of (map string_bytes words.now) ≡ Some order → result.status ≡ 0
+        → SaysLeftOut W.outlet out.old out.new order result.note }
 {
     let order = match order(alloc, words) {
         Ok(order) => order,

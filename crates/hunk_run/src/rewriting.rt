@@ -1,7 +1,6 @@
 //! The command `rewrite`, from one file to another.
 ghost use Rattle.std.specs.Prelude.{◌≡◌, ◌⊎◌, ◌≤◌, ◌++◌, ℕ, true, false};
 ghost use Rattle.std.specs.Prelude.{IfErr, IfOk, IsErrAnd, OnOk};
-ghost use Rattle.hunk_listing.specs.RewritingLines.{left_out_line, wrote_line};
 ghost use Rattle.hunk_commands.specs.declared.fault.RunFault.TheVariants.{Memory, Write};
 ghost use Rattle.hunk_commands.specs.Engine.{IsTextOfSome, ReadsNoFile};
 ghost use Rattle.hunk_commands.specs.Faults.{IsWrite};
@@ -9,7 +8,7 @@ ghost use Rattle.hunk_commands.specs.Inputs.{HasFile, ReadsInput, TellsReading};
 ghost use Rattle.hunk_commands.specs.Rewritten.{IsRewritten};
 ghost use Rattle.hunk_commands.specs.declared.rewriting.Rewritten.{Rewritten};
 ghost use Rattle.hunk_run.specs.OutFile.{HasTaken, TakesAll, TakesFirst};
-ghost use Rattle.hunk_run.specs.Runs.{TellsRewriting};
+ghost use Rattle.hunk_run.specs.Runs.{TellsRewriting, rewritten_lines};
 ghost use Rattle.hunk_run.specs.Notes.{EndsOrFails, left_out_note, rewritten_ended};
 
 use crate::heard::Heard;
@@ -39,8 +38,7 @@ pub(crate) fn rewrite_file<T: Files>(
     output: &FileName,
     strip: bool,
 ) -> (Result<Rewritten, RunFault>, Option<io::Error>)
-    ensures tells { IfOk result.0
-        (λ done. TellsRewriting strip (wrote_line done.written ++ left_out_line done.rest)) }
+    ensures tells { IfOk result.0 (TellsRewriting strip) }
 {
     let mut source = match fs::open(rt, input.as_str()) {
         Ok(file) => Heard::new(file),
@@ -107,9 +105,8 @@ fn rewrite_to<'a, R: Source, T: Files>(
 
 /// Prints the lines that say how much of the file `input` was written, and ends the run.
 pub(crate) fn tell<W: Sink>(done: Rewritten, input: FileName, out: &mut LongWriter<W>) -> Ended
-    ensures { EndsOrFails W.outlet out.old out.new
-        (wrote_line done.written ++ left_out_line done.rest) (rewritten_ended done.rest input)
-        result }
+    ensures { EndsOrFails W.outlet out.old out.new (rewritten_lines done)
+        (rewritten_ended done.rest input) result }
 {
     let mut page = PagePrinter::<W, LINES>::new(out);
     print_rewriting(&mut page, done.written, done.rest);

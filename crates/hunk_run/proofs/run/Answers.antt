@@ -1,10 +1,11 @@
 use Rattle.std.proofs.Common.{◌≡◌, refl, sym, subst}
 use Rattle.hunk_command_line.specs.declared.asked.Order.{Order}
-use Rattle.hunk_run.specs.Notes.{NamesFiles, Notes, input_of}
+use Rattle.hunk_command_line.specs.declared.asked.Order.TheVariants.{Rewrite}
+use Rattle.hunk_run.specs.Notes.{NamesFiles, Notes, SaysLeftOut, input_of}
 use Rattle.hunk_run.specs.Runs.{IsOrderDone, Lists}
 use Rattle.hunk_run.specs.declared.listing.Listing.{Listing}
-use Rattle.hunk_run.proofs.Noting.{bound_noted, lists_where_done, names_listing, names_rewriting, notes_listing, notes_refusal, notes_rewriting}
-use Rattle.hunk_run.proofs.Noting.{prints_no_help, rewrites_where_done, tells_noted, unheard, unnamed, unordered}
+use Rattle.hunk_run.proofs.Noting.{bound_noted, listing_done, lists_where_done, names_listing, names_rewriting, notes_listing, notes_refusal, notes_rewriting}
+use Rattle.hunk_run.proofs.Noting.{prints_no_help, says_left_out, tells_noted, unheard, unnamed, unordered}
 use Rattle.hunk_run.proofs.run.Given.{Over}
 use Rattle.hunk_run.proofs.run.Goals.{in-Show, in-Validate, in-Relocate}
 use Rattle.hunk_run.proofs.run.Goals as goal
@@ -45,6 +46,20 @@ module _ (g : Over) (c : goal.After-end_listing g) where
         | in-Relocate w ↦ for _ w.in-Relocate.is (rw w.listing-is refl)
       ]
 
+  quiet : c.end_listing.result.status ≡ 0 → SaysLeftOut g.W.Sink.outlet c.args.out.now c.end_listing.new.out c.in-Ok.order c.end_listing.result.note
+  quiet is_zero =
+      let (done, same, unsaid) =
+      listing_done g.W.Sink.outlet c.list_file-answer.new.out c.list_file-answer.new.out c.end_listing.new.out c.match-order-2.listing.2 c.list_file-answer.result.1
+      c.end_listing.result c.list_file-answer.result.0 c.end_listing.ensures is_zero in
+      let for : (o : Order) → c.in-Ok.order ≡ o → SaysLeftOut g.W.Sink.outlet c.args.out.now c.end_listing.new.out o c.end_listing.result.note →
+      SaysLeftOut g.W.Sink.outlet c.args.out.now c.end_listing.new.out c.in-Ok.order c.end_listing.result.note =
+      λ o is says. subst (λ (x : Order). SaysLeftOut g.W.Sink.outlet c.args.out.now c.end_listing.new.out x c.end_listing.result.note) (sym is) says in
+      elim c.match-order-2.branch [
+        | in-Show w ↦ for _ w.in-Show.is unsaid
+        | in-Validate w ↦ for _ w.in-Validate.is unsaid
+        | in-Relocate w ↦ for _ w.in-Relocate.is unsaid
+      ]
+
 pub returns-clause-bound : goal.returns-clause-bound
 returns-clause-bound g c = bound_noted g.W.Sink.outlet c.args.out.now c.end_listing.new.out _ _ (noted g c)
 
@@ -67,14 +82,22 @@ returns-clause-names g c = λ order takes is.
     let same : c.in-Ok.order ≡ order = (let asked = c.in-Ok.ensures.order in cc) in
     subst (λ (x : Order). NamesFiles x c.end_listing.result.note) same (named g c)
 
+pub returns-clause-left_out : goal.returns-clause-left_out
+returns-clause-left_out g c = λ order takes is zero.
+    let same : c.in-Ok.order ≡ order = (let asked = c.in-Ok.ensures.order in cc) in
+    subst (λ (x : Order). SaysLeftOut g.W.Sink.outlet c.args.out.now c.end_listing.new.out x c.end_listing.result.note) same (quiet g c zero)
+
 -- the file is rewritten, as the order asks
 
 module _ (g : Over) (c : goal.After-end_rewriting g) where
+  says : c.end_rewriting.result.status ≡ 0 →
+      SaysLeftOut g.W.Sink.outlet c.args.out.now c.end_rewriting.new.out (Rewrite c.in-Rewrite.strip c.in-Rewrite.input c.in-Rewrite.output) c.end_rewriting.result.note
+  says is_zero =
+      says_left_out g.W.Sink.outlet c.args.out.now c.end_rewriting.new.out c.in-Rewrite.strip c.rewrite_file-answer.result.0 c.in-Rewrite.input c.in-Rewrite.output
+      c.rewrite_file-answer.result.1 c.end_rewriting.result c.rewrite_file-answer.ensures.tells c.end_rewriting.ensures is_zero
+
   rewritten : c.end_rewriting.result.status ≡ 0 → IsOrderDone g.W.Sink.outlet c.args.out.now c.end_rewriting.new.out c.in-Ok.order
-  rewritten is_zero =
-      subst (λ (x : Order). IsOrderDone g.W.Sink.outlet c.args.out.now c.end_rewriting.new.out x) (sym c.in-Rewrite.is)
-      (rewrites_where_done g.W.Sink.outlet c.args.out.now c.end_rewriting.new.out c.in-Rewrite.strip c.rewrite_file-answer.result.0 c.in-Rewrite.input c.in-Rewrite.output
-      c.rewrite_file-answer.result.1 c.end_rewriting.result c.rewrite_file-answer.ensures.tells c.end_rewriting.ensures is_zero)
+  rewritten is_zero = subst (λ (x : Order). IsOrderDone g.W.Sink.outlet c.args.out.now c.end_rewriting.new.out x) (sym c.in-Rewrite.is) (says is_zero).0
 
   rewriting_noted : Notes g.W.Sink.outlet c.args.out.now c.end_rewriting.new.out c.end_rewriting.result.status c.end_rewriting.result.note
   rewriting_noted =
@@ -109,6 +132,11 @@ returns-in-Rewrite-clause-names g c = λ order takes is.
     let same : c.in-Ok.order ≡ order = (let asked = c.in-Ok.ensures.order in cc) in
     subst (λ (x : Order). NamesFiles x c.end_rewriting.result.note) same (rewriting_named g c)
 
+pub returns-in-Rewrite-clause-left_out : goal.returns-in-Rewrite-clause-left_out
+returns-in-Rewrite-clause-left_out g c = λ order takes is zero.
+    let same : Rewrite c.in-Rewrite.strip c.in-Rewrite.input c.in-Rewrite.output ≡ order = (let asked = c.in-Ok.ensures.order in let branch = c.in-Rewrite.is in cc) in
+    subst (λ (x : Order). SaysLeftOut g.W.Sink.outlet c.args.out.now c.end_rewriting.new.out x c.end_rewriting.result.note) same (says g c zero)
+
 -- they are none
 
 pub returns-in-Err-clause-bound : goal.returns-in-Err-clause-bound
@@ -138,3 +166,7 @@ returns-in-Err-clause-notes g c = notes_refusal g.W.Sink.outlet c.args.out.now c
 pub returns-in-Err-clause-names : goal.returns-in-Err-clause-names
 returns-in-Err-clause-names g c = λ order takes is.
     unnamed g.W.Sink.outlet c.args.out.now c.refuse.new.out _ order c.in-Err.fault c.refuse.result (c.in-Err.ensures.refuses takes) is c.refuse.ensures
+
+pub returns-in-Err-clause-left_out : goal.returns-in-Err-clause-left_out
+returns-in-Err-clause-left_out g c = λ order takes is zero.
+    absurd (unordered g.W.Sink.outlet c.args.out.now c.refuse.new.out _ order c.in-Err.fault c.refuse.result (c.in-Err.ensures.refuses takes) is c.refuse.ensures zero)
