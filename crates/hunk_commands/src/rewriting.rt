@@ -19,6 +19,8 @@ use std::alloc::Global;
 pub struct Rewritten {
     /// The number of bytes that were written, or 2^64 - 1 where these are more.
     pub written: u64,
+    /// The number of bytes that the file has as it was read, with the blocks that were left out.
+    pub read: u64,
     /// The number of bytes that follow the load file, which were left out.
     pub rest: u64,
 }
@@ -48,7 +50,7 @@ pub fn rewrite<R: Source, W: Sink>(
     file_bytes: u64,
     strip: bool,
 ) -> Result<Rewritten, RunFault>
-    ensures rewrites { ReadsThenPuts W.outlet (λ done. IsRewritten strip done.rest)
+    ensures rewrites { ReadsThenPuts W.outlet (IsRewritten strip)
         (R.supply r.old) (R.supply r.new) file_bytes w.old w.new result }
     ensures written { IfOk result (λ done. done.written ≡ saturated w.new.written) }
 {
@@ -71,7 +73,7 @@ pub fn rewrite_bytes<W: Sink>(
     w: &mut LongWriter<W>,
     strip: bool,
 ) -> Result<Rewritten, RunFault>
-    ensures rewrites { PutsOrRefuses W.outlet (λ done. IsRewritten strip done.rest bytes.now)
+    ensures rewrites { PutsOrRefuses W.outlet (λ done. IsRewritten strip done bytes.now)
         bytes.now w.old w.new result }
     ensures written { IfOk result (λ done. done.written ≡ saturated w.new.written) }
 {
@@ -83,6 +85,7 @@ pub fn rewrite_bytes<W: Sink>(
     put_file(w, &file, bytes, strip)?;
     Ok(Rewritten {
         written: w.written(),
+        read: bytes.len() as u64 - rest,
         rest,
     })
 }

@@ -1,5 +1,5 @@
 -- What a run says, by how it ends.
-use Rattle.std.proofs.Common.{◌≡◌, ◌<◌, ◌≤◌, ◌++◌, ◌∙◌, ℕ, zero, suc, Bool, List, Option, Some, None, inl, inr, refl, ap, sym, subst, arith}
+use Rattle.std.proofs.Common.{◌≡◌, ◌<◌, ◌≤◌, ◌-◌, ◌∙◌, ℕ, zero, suc, Bool, List, Option, Some, None, inl, inr, refl, ap, sym, subst, arith}
 use Rattle.std.specs.Prelude.{Result, Ok, Err, IfOk}
 use Rattle.std.specs.declared.io.Error.{Error}
 use Rattle.hunk_words.specs.Carriers.{Outlet, Writing}
@@ -31,7 +31,7 @@ tells_noted outlet old new status (Some (Line why)) notes = inr (inl notes)
 tells_noted outlet old new status (Some NotText) notes = inr (inl notes)
 tells_noted outlet old new status (Some (Fault fault name cause)) (is, takes) = inr (inr (inl (fault, is, takes)))
 tells_noted outlet old new status (Some Output) notes = inr (inr (inr (inl notes)))
-tells_noted outlet old new status (Some (LeftOut name rest)) notes = inl notes
+tells_noted outlet old new status (Some (LeftOut name stripped rest)) notes = inl notes
 
 -- no status is above 4
 few_status : (fault : RunFault) → status_of fault ≤ 4
@@ -50,7 +50,7 @@ bound_noted outlet old new status (Some (Line why)) (is, takes) = omega (arith, 
 bound_noted outlet old new status (Some NotText) (is, takes) = omega (arith, is)
 bound_noted outlet old new status (Some (Fault fault name cause)) (is, takes) = omega (arith, few_status fault, is)
 bound_noted outlet old new status (Some Output) (is, broken) = omega (arith, is)
-bound_noted outlet old new status (Some (LeftOut name rest)) is = omega (arith, is)
+bound_noted outlet old new status (Some (LeftOut name stripped rest)) is = omega (arith, is)
 
 -- a fault has no status of a run that has done what it was to do
 some_status : (fault : RunFault) → 0 < status_of fault
@@ -170,14 +170,15 @@ module _ {W : Type 0} (outlet : W → Outlet) (old new : Writing W) where
   names_fault order fault name cause result (inr ends) names = names_nothing order _ result ends
 
   -- a run that was to rewrite a file
-  names_left_out : (strip : Bool) (rest : ℕ) (input output : List ℕ) → NamesFiles (orders.Rewrite strip input output) (left_out_note rest input)
-  names_left_out strip zero input output = tt
-  names_left_out strip (suc more) input output = refl
+  names_left_out : (strip : Bool) (stripped rest : ℕ) (input output : List ℕ) → NamesFiles (orders.Rewrite strip input output) (left_out_note stripped rest input)
+  names_left_out strip zero zero input output = tt
+  names_left_out strip zero (suc more) input output = refl
+  names_left_out strip (suc more) rest input output = refl
 
   pub names_rewriting : (strip : Bool) (answer : Result Rewritten RunFault) (input output : List ℕ) (cause : Option Error) (result : Ended) →
       EndsRewriting outlet old new answer input output cause result → NamesFiles (orders.Rewrite strip input output) result.note
   names_rewriting strip (Ok done) input output cause result ends =
-      names_ended (orders.Rewrite strip input output) _ (rewritten_ended done.rest input) result ends (names_left_out strip done.rest input output)
+      names_ended (orders.Rewrite strip input output) _ (rewritten_ended done input) result ends (names_left_out strip (done.read - done.written) done.rest input output)
   names_rewriting strip (Err (Write written)) input output cause result ends = names_fault (orders.Rewrite strip input output) (Write written) (Some output) cause result ends refl
   names_rewriting strip (Err Memory) input output cause result ends = names_fault (orders.Rewrite strip input output) Memory (Some input) cause result ends tt
   names_rewriting strip (Err HexText) input output cause result ends = names_fault (orders.Rewrite strip input output) HexText (Some input) cause result ends refl
@@ -185,14 +186,15 @@ module _ {W : Type 0} (outlet : W → Outlet) (old new : Writing W) where
   names_rewriting strip (Err (Refused refusal)) input output cause result ends = names_fault (orders.Rewrite strip input output) (Refused refusal) (Some input) cause result ends refl
   names_rewriting strip (Err (RefusedIn refusal part)) input output cause result ends = names_fault (orders.Rewrite strip input output) (RefusedIn refusal part) (Some input) cause result ends refl
 
-  notes_left_out : (rest : ℕ) (name : List ℕ) → Notes outlet old new 0 (left_out_note rest name)
-  notes_left_out zero name = inl refl
-  notes_left_out (suc more) name = refl
+  notes_left_out : (stripped rest : ℕ) (name : List ℕ) → Notes outlet old new 0 (left_out_note stripped rest name)
+  notes_left_out zero zero name = inl refl
+  notes_left_out zero (suc more) name = refl
+  notes_left_out (suc more) rest name = refl
 
   pub notes_rewriting : (answer : Result Rewritten RunFault) (input output : List ℕ) (cause : Option Error) (result : Ended) →
       EndsRewriting outlet old new answer input output cause result → Notes outlet old new result.status result.note
   notes_rewriting (Ok done) input output cause result ends =
-      notes_ended _ (rewritten_ended done.rest input) result ends (λ takes. notes_left_out done.rest input)
+      notes_ended _ (rewritten_ended done input) result ends (λ takes. notes_left_out (done.read - done.written) done.rest input)
   notes_rewriting (Err (Write written)) input output cause result ends = notes_fault (Write written) (Some output) cause result ends
   notes_rewriting (Err Memory) input output cause result ends = notes_fault Memory (Some input) cause result ends
   notes_rewriting (Err HexText) input output cause result ends = notes_fault HexText (Some input) cause result ends

@@ -1,5 +1,5 @@
 -- What a run says on standard error, beside what its output has taken: a writer that is old before it and new after it.
-use Rattle.std.specs.Prelude.{◌≡◌, ◌⊎◌, ◌++◌, ⊤, ℕ, zero, suc, true, List, Option, Some, None, Result, Ok, Err, codes}
+use Rattle.std.specs.Prelude.{◌≡◌, ◌⊎◌, ◌-◌, ◌++◌, ⊤, ℕ, zero, true, List, Option, Some, None, Result, Ok, Err, codes}
 use Rattle.std.specs.Fmt.{decimal}
 use Rattle.std.specs.String.{string_bytes}
 use Rattle.std.specs.declared.io.Error.{Error}
@@ -60,12 +60,18 @@ fault_note (Read place) name None = Some (said (shown_name name (codes "standard
 fault_note (Write written) name (Some error) = None
 fault_note (Write written) name None = Some (said (shown_name name (codes "standard output")) (codes "writing failed"))
 
+-- what was left out of a file: blocks, what follows it, or both, with the line's end
+abbrev pub left_out_parts : ℕ → ℕ → List ℕ
+left_out_parts zero rest = decimal rest ++ codes " bytes after the load file\n"
+left_out_parts stripped zero = decimal stripped ++ codes " bytes of NAME, SYMBOL, DEBUG and ADVISORY blocks\n"
+left_out_parts stripped rest = decimal stripped ++ (codes " bytes of NAME, SYMBOL, DEBUG and ADVISORY blocks, " ++ (decimal rest ++ codes " bytes after the load file\n"))
+
 abbrev pub note_text : Note → Option (List ℕ)
 note_text (Line why) = Some (codes "hunkinfo: " ++ string_bytes why)
 note_text NotText = Some (codes "hunkinfo: a word of the command line is no UTF-8 text: give a file of such a name as standard input, as in hunkinfo show < FILE\n")
 note_text (Fault fault name cause) = fault_note fault name cause
 note_text Output = Some (said (codes "standard output") (codes "writing failed"))
-note_text (LeftOut name rest) = Some (codes "hunkinfo: " ++ (name ++ (codes ": left out: " ++ (decimal rest ++ codes " bytes after the load file\n"))))
+note_text (LeftOut name stripped rest) = Some (codes "hunkinfo: " ++ (name ++ (codes ": left out: " ++ left_out_parts stripped rest)))
 
 -- ---- which note there is
 
@@ -76,7 +82,7 @@ Notes outlet old new status (Some (Line why)) = (status ≡ 2) × Takes outlet o
 Notes outlet old new status (Some NotText) = (status ≡ 2) × Takes outlet old new (with_newline refused_line)
 Notes outlet old new status (Some (Fault fault name cause)) = (status ≡ status_of fault) × Takes outlet old new (with_newline (line_of fault))
 Notes outlet old new status (Some Output) = (status ≡ 3) × ((outlet new.sink).failed ≡ true)
-Notes outlet old new status (Some (LeftOut name rest)) = status ≡ 0
+Notes outlet old new status (Some (LeftOut name stripped rest)) = status ≡ 0
 
 -- the input of an order, and its output; none is a standard stream
 abbrev pub input_of : Order → Option (List ℕ)
@@ -98,7 +104,7 @@ name_for _ order = input_of order
 abbrev pub NamesFiles : Order → Option Note → Type 0
 NamesFiles order (Some (Fault Memory name cause)) = ⊤
 NamesFiles order (Some (Fault fault name cause)) = name ≡ name_for fault order
-NamesFiles order (Some (LeftOut name rest)) = Some name ≡ input_of order
+NamesFiles order (Some (LeftOut name stripped rest)) = Some name ≡ input_of order
 NamesFiles order (Some (Line why)) = ⊥
 NamesFiles order (Some NotText) = ⊥
 NamesFiles order _ = ⊤
@@ -113,18 +119,20 @@ output_failed = record { status = 3; note = Some Output }
 abbrev pub fault_ended : RunFault → Option (List ℕ) → Option Error → Ended
 fault_ended fault name cause = record { status = status_of fault; note = Some (Fault fault name cause) }
 
--- with a file of which so many bytes were not written
-abbrev pub left_out_note : ℕ → List ℕ → Option Note
-left_out_note zero name = None
-left_out_note (suc more) name = Some (LeftOut name (suc more))
+-- with a file of whose blocks, and of what follows it, so many bytes were not written
+abbrev pub left_out_note : ℕ → ℕ → List ℕ → Option Note
+left_out_note zero zero name = None
+left_out_note stripped rest name = Some (LeftOut name stripped rest)
 
-abbrev pub rewritten_ended : ℕ → List ℕ → Ended
-rewritten_ended rest name = record { status = 0; note = left_out_note rest name }
+-- with what a rewriting did to the file of this name
+abbrev pub rewritten_ended : Rewritten → List ℕ → Ended
+rewritten_ended done name = record { status = 0; note = left_out_note (done.read - done.written) done.rest name }
 
 -- Of an order that is done nothing is said, but what its rewriting has left out.
 abbrev pub SaysLeftOut : {W : Type 0} → (W → Outlet) → Writing W → Writing W → Order → Option Note → Type 0
 SaysLeftOut outlet old new (orders.Rewrite strip input output) note =
-    (rewrites : Rewrites outlet old new strip) × (note ≡ left_out_note rewrites.done.rest input)
+    (rewrites : Rewrites outlet old new strip)
+    × (note ≡ left_out_note (rewrites.done.read - rewrites.done.written) rewrites.done.rest input)
 SaysLeftOut outlet old new order note = note ≡ None
 
 -- where the words are no order
@@ -164,6 +172,6 @@ EndsListing outlet old new (Err fault) name cause result = EndsByFault outlet ol
 -- how a run ends that has rewritten a file, or not
 abbrev pub EndsRewriting : {W : Type 0} → (W → Outlet) → Writing W → Writing W → Result Rewritten RunFault → List ℕ → List ℕ → Option Error → Ended → Type 0
 EndsRewriting outlet old new (Ok done) input output cause result =
-    EndsOrFails outlet old new (rewritten_lines done) (rewritten_ended done.rest input) result
+    EndsOrFails outlet old new (rewritten_lines done) (rewritten_ended done input) result
 EndsRewriting outlet old new (Err (Write written)) input output cause result = EndsByFault outlet old new (Write written) (Some output) cause result
 EndsRewriting outlet old new (Err fault) input output cause result = EndsByFault outlet old new fault (Some input) cause result

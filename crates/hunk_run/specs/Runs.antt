@@ -38,11 +38,11 @@ pub record Lists {W : Type 0} (outlet : W → Outlet) (old new : Writing W) (lis
   pub is_listed : IsListed listing input text
   pub takes : Takes outlet old new text
 
--- Some input was rewritten, and this tells how many bytes were written and how many left out.
+-- Some input was rewritten, and this tells how many bytes were written, how many the file has and how many follow it.
 pub record TellsRewriting (strip : Bool) (done : Rewritten) : Type 0 where
   pub input : List ℕ
   pub output : List ℕ
-  pub is_rewritten : IsRewritten strip done.rest input output
+  pub is_rewritten : IsRewritten strip done input output
   pub written : done.written ≡ saturated (length output)
 
 -- what is printed of it

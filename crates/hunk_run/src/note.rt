@@ -2,6 +2,7 @@
 ghost use Rattle.std.specs.Prelude.{◌≡◌};
 ghost use Rattle.std.specs.Fmt.{DisplaysOnOk};
 ghost use Rattle.hunk_run.specs.Notes.{fault_note, note_text, output_failed, shown_name};
+ghost use Rattle.hunk_run.specs.declared.note.Note.TheVariants.{LeftOut};
 
 use crate::verdict::Verdict;
 use hunk_command_line::FileName;
@@ -16,6 +17,12 @@ const NOT_TEXT: &str = "a word of the command line is no UTF-8 text: give a file
 /// What is said of an input that is not the text that `--hex` reads.
 const NO_HEX_TEXT: &str = "no hexadecimal text: two digits a byte are wanted, and nothing else but \
     spaces, tabs and line ends";
+
+/// What is said of the bytes that `--strip` left out.
+const OF_BLOCKS: &str = "bytes of NAME, SYMBOL, DEBUG and ADVISORY blocks";
+
+/// What is said of the bytes behind a load file.
+const BEHIND: &str = "bytes after the load file";
 
 /// What a run says on standard error, to a person. It is displayed with its last line end.
 #[derive(Debug, Drop)]
@@ -35,11 +42,13 @@ pub enum Note {
     },
     /// Standard output failed.
     Output,
-    /// What follows the load file of this name was not written.
+    /// Not all of the file of this name was written.
     LeftOut {
         /// The name of IN.
         name: FileName,
-        /// How many bytes follow.
+        /// How many bytes its blocks have that were left out.
+        stripped: u64,
+        /// How many bytes follow the load file.
         rest: u64,
     },
 }
@@ -82,15 +91,36 @@ impl fmt::Display for Note {
             Note::NotText => write!(f, "hunkinfo: {NOT_TEXT}\n"),
             Note::Fault { fault, name, cause } => write_fault(f, *fault, name, cause),
             Note::Output => write!(f, "hunkinfo: standard output: writing failed\n"),
-            Note::LeftOut { name, rest } => {
-                let name = name.as_str();
-                write!(
-                    f,
-                    "hunkinfo: {name}: left out: {rest} bytes after the load file\n"
-                )
-            }
+            Note::LeftOut {
+                name,
+                stripped,
+                rest,
+            } => write_left_out(f, name, *stripped, *rest),
         }
     }
+}
+
+/// Writes how many bytes of a file were left out.
+fn write_left_out<W: fmt::Write>(
+    f: &mut fmt::Formatter<W>,
+    name: &FileName,
+    stripped: u64,
+    rest: u64,
+) -> fmt::Result
+    ensures { DisplaysOnOk W.write_str_gives f.old result
+        (note_text (LeftOut name.now stripped rest)) f.new }
+{
+    let name = name.as_str();
+    if stripped == 0 {
+        return write!(f, "hunkinfo: {name}: left out: {rest} {BEHIND}\n");
+    }
+    if rest == 0 {
+        return write!(f, "hunkinfo: {name}: left out: {stripped} {OF_BLOCKS}\n");
+    }
+    write!(
+        f,
+        "hunkinfo: {name}: left out: {stripped} {OF_BLOCKS}, {rest} {BEHIND}\n"
+    )
 }
 
 /// Writes what is said of a fault.

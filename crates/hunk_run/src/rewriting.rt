@@ -1,5 +1,5 @@
 //! The command `rewrite`, from one file to another.
-ghost use Rattle.std.specs.Prelude.{◌≡◌, ◌⊎◌, ◌≤◌, ◌++◌, ℕ, true, false};
+ghost use Rattle.std.specs.Prelude.{◌≡◌, ◌⊎◌, ◌≤◌, ◌-◌, ℕ, true, false};
 ghost use Rattle.std.specs.Prelude.{IfErr, IfOk, IsErrAnd, OnOk};
 ghost use Rattle.hunk_commands.specs.declared.fault.RunFault.TheVariants.{Memory, Write};
 ghost use Rattle.hunk_commands.specs.Engine.{IsTextOfSome, ReadsNoFile};
@@ -65,14 +65,14 @@ fn rewrite_to<'a, R: Source, T: Files>(
     // What OUT has taken: all of the file, or after a fault of writing the first bytes of it, and
     // after another one nothing.
     ensures rewrites { IfOk result.1 (λ done. ReadsInput
-        (λ input. TakesAll (IsRewritten strip done.rest input) out.entry result.0 done.written)
+        (λ input. TakesAll (IsRewritten strip done input) out.entry result.0 done.written)
         (R.supply source.old) (R.supply source.new) FILE_BYTES) }
     ensures kept { OnOk result.1
         (HasTaken (λ f. T.File.contents f) result.0.file result.0.taken) }
     ensures settled { OnOk result.1 (result.0.settled ≡ true) }
     ensures write { IfErr result.1 (λ fault. (written : ℕ) → fault ≡ Write written → ReadsInput
         (λ input. TakesFirst
-        (IsTextOfSome (λ (done : Rewritten). IsRewritten strip done.rest input))
+        (IsTextOfSome (λ (done : Rewritten). IsRewritten strip done input))
         out.entry result.0 written)
         (R.supply source.old) (R.supply source.new) FILE_BYTES) }
     ensures untouched { IfErr result.1 (λ fault. ¬ IsWrite fault → result.0 ≡ out.entry) }
@@ -106,7 +106,7 @@ fn rewrite_to<'a, R: Source, T: Files>(
 /// Prints the lines that say how much of the file `input` was written, and ends the run.
 pub(crate) fn tell<W: Sink>(done: Rewritten, input: FileName, out: &mut LongWriter<W>) -> Ended
     ensures { EndsOrFails W.outlet out.old out.new (rewritten_lines done)
-        (rewritten_ended done.rest input) result }
+        (rewritten_ended done input) result }
 {
     let mut page = PagePrinter::<W, LINES>::new(out);
     print_rewriting(&mut page, done.written, done.rest);
@@ -115,18 +115,24 @@ pub(crate) fn tell<W: Sink>(done: Rewritten, input: FileName, out: &mut LongWrit
     match result {
         Ok(()) => Ended {
             status: DONE,
-            note: left_out(input, done.rest),
+            note: left_out(input, done),
         },
         Err(_) => output_failed(),
     }
 }
 
-/// What is said of a file of which so many bytes were not written.
-fn left_out(name: FileName, rest: u64) -> Option<Note>
-    ensures { result ≡ left_out_note rest name }
+/// What is said of the bytes of a file that were not written.
+fn left_out(name: FileName, done: Rewritten) -> Option<Note>
+    ensures { result ≡ left_out_note (done.read - done.written) done.rest name }
 {
-    if rest == 0 {
-        return None;
+    let stripped = done.read.saturating_sub(done.written);
+    let rest = done.rest;
+    match (stripped, rest) {
+        (0, 0) => None,
+        _ => Some(Note::LeftOut {
+            name,
+            stripped,
+            rest,
+        }),
     }
-    Some(Note::LeftOut { name, rest })
 }

@@ -1,4 +1,4 @@
-use Rattle.std.proofs.Common.{◌≡◌, ℕ, Err, Result, subst, sym, rules}
+use Rattle.std.proofs.Common.{◌≡◌, ℕ, Result, subst, sym, rules}
 use Rattle.hunk_commands.specs.declared.fault.RunFault.{RunFault}
 use Rattle.hunk_commands.specs.declared.fault.RunFault.TheVariants.{Write}
 use Rattle.hunk_run.specs.Notes.{EndsListing}

@@ -73,7 +73,8 @@ fn refuses(rt: HostRuntime) -> Result<(), Fail> {
     Ok(())
 }
 
-/// Example 29 has two findings, and seven bytes follow the file of example 10.
+/// Example 29 has two findings, seven bytes follow the file of example 10, and the symbol of example
+/// 18 takes 20 bytes.
 #[test]
 fn answers(rt: HostRuntime) -> Result<(), Fail> {
     let bytes = spelled(rt.alloc(), examples::TWO_FINDINGS)?;
@@ -81,9 +82,17 @@ fn answers(rt: HostRuntime) -> Result<(), Fail> {
     let bytes = input(rt.alloc(), examples::ONE_HUNK, 7)?;
     let done = Rewritten {
         written: 40,
+        read: 40,
         rest: 7,
     };
     assert_equal(&rt, rewrite_bytes(&bytes, &mut wide(), false), Ok(done));
     assert_equal(&rt, rewrite_bytes(&bytes, &mut wide(), true), Ok(done));
+    let bytes = spelled(rt.alloc(), examples::WITH_A_SYMBOL)?;
+    let stripped = Rewritten {
+        written: 40,
+        read: 60,
+        rest: 0,
+    };
+    assert_equal(&rt, rewrite_bytes(&bytes, &mut wide(), true), Ok(stripped));
     Ok(())
 }

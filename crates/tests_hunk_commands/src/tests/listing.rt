@@ -59,10 +59,11 @@ fn rewritten(alloc: Global, bytes: &[u8], strip: bool) -> Result<Rewritten, RunF
     rewrite(alloc, &mut FromSlice::new(bytes), &mut wide(), LIMIT, strip)
 }
 
-/// Sees that `rewrite` makes this of the bytes, and tells of as many that follow.
+/// Sees that `rewrite` makes this of the bytes, and tells how many it read and how many follow.
 fn expect_rewritten(rt: &(impl Abort + AllocGlobal), sample: &Again, bytes: &[u8], want: &[u8]) {
     let done = Rewritten {
         written: want.len() as u64,
+        read: (bytes.len() - bytes.len().min(sample.rest)) as u64,
         rest: sample.rest as u64,
     };
     let got = rewritten(rt.alloc(), bytes, sample.strip);

@@ -166,22 +166,49 @@ fn says(rt: HostRuntime) -> Result<(), Fail> {
     Ok(())
 }
 
+/// What the file `a` is, how many bytes follow it, the words and what is said.
+type LeftOut = (&'static str, usize, &'static str, &'static str);
+
+const LEFT_OUT: &[LeftOut] = &[
+    (examples::WITH_A_SYMBOL, 0, "hunkinfo rewrite a b", ""),
+    (examples::ONE_HUNK, 0, "hunkinfo rewrite --strip a b", ""),
+    (
+        examples::WITH_A_SYMBOL,
+        7,
+        "hunkinfo rewrite a b",
+        "hunkinfo: a: left out: 7 bytes after the load file\n",
+    ),
+    // The SYMBOL block is of five longwords.
+    (
+        examples::WITH_A_SYMBOL,
+        0,
+        "hunkinfo rewrite --strip a b",
+        "hunkinfo: a: left out: 20 bytes of NAME, SYMBOL, DEBUG and ADVISORY blocks\n",
+    ),
+    (
+        examples::WITH_A_SYMBOL,
+        7,
+        "hunkinfo rewrite --strip a b",
+        "hunkinfo: a: left out: 20 bytes of NAME, SYMBOL, DEBUG and ADVISORY blocks, 7 bytes after \
+        the load file\n",
+    ),
+    // The name of a unit is no block: it stays.
+    (examples::OBJECT, 0, "hunkinfo rewrite --strip a b", ""),
+];
+
 #[test]
 fn says_what_is_left_out(rt: HostRuntime) -> Result<(), Fail> {
-    let mut file = spelled(rt.alloc(), examples::ONE_HUNK)?;
-    file.extend_from_slice(&[0; 7])?;
-    let files = [("a", file.as_slice())];
-    let given = Given {
-        input: b"",
-        files: files.as_slice(),
-        fails: false,
-    };
-    let ran = ran(rt.alloc(), given, ANY, "hunkinfo rewrite a b")?;
-    assert_equal_at(
-        &rt,
-        ran.said.as_str(),
-        "hunkinfo: a: left out: 7 bytes after the load file\n",
-        "",
-    );
+    for (example, rest, line, want) in LEFT_OUT {
+        let mut file = spelled(rt.alloc(), example)?;
+        file.extend_from_slice(&[0; 7][..7.min(*rest)])?;
+        let files = [("a", file.as_slice())];
+        let given = Given {
+            input: b"",
+            files: files.as_slice(),
+            fails: false,
+        };
+        let ran = ran(rt.alloc(), given, ANY, line)?;
+        assert_equal_at(&rt, ran.said.as_str(), *want, line);
+    }
     Ok(())
 }

@@ -10,6 +10,6 @@ returns-in-Ok-sync-clause-rewrites g c =
     record {
       input = all.input;
       read = all.read;
-      holds = takes_all (IsRewritten c.args.strip c.in-Ok.done.rest all.input) c.new-writer.result c.rewrite-answer.new.w c.args.out c.sync.new.self _ c.new-writer.ensures.holds c.new-writer.ensures.unwritten
+      holds = takes_all (IsRewritten c.args.strip c.in-Ok.done all.input) c.new-writer.result c.rewrite-answer.new.w c.args.out c.sync.new.self _ c.new-writer.ensures.holds c.new-writer.ensures.unwritten
           (c.sync.ensures.same ∙ ap (λ (o : OutFile _). o.taken) c.into_inner-out.ensures) c.in-Ok.ensures.written all.holds;
     }
