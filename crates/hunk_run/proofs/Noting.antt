@@ -1,5 +1,5 @@
 -- What a run says, by how it ends.
-use Rattle.std.proofs.Common.{◌≡◌, ◌<◌, ◌≤◌, ◌-◌, ◌∙◌, ℕ, zero, suc, Bool, List, Option, Some, None, inl, inr, refl, ap, sym, subst, arith}
+use Rattle.std.proofs.Common.{◌≡◌, ◌<◌, ◌≤◌, ◌-◌, ◌∙◌, ℕ, zero, suc, Bool, false, List, Option, Some, None, inl, inr, refl, ap, sym, subst, arith}
 use Rattle.std.specs.Prelude.{Result, Ok, Err, IfOk}
 use Rattle.std.specs.declared.io.Error.{Error}
 use Rattle.hunk_words.specs.Carriers.{Outlet, Writing}
@@ -18,7 +18,7 @@ use Rattle.hunk_run.specs.declared.listing.Listing.{Listing}
 use Rattle.hunk_run.specs.declared.note.Ended.{Ended}
 use Rattle.hunk_run.specs.declared.note.Note.{Note}
 use Rattle.hunk_run.specs.declared.note.Note.TheVariants.{Fault, LeftOut, Line, NotText, Output}
-use Rattle.hunk_run.specs.Notes.{EndsByFault, EndsListing, EndsOrFails, EndsRewriting, NamesFiles, Notes, SaysLeftOut, fault_ended, input_of, left_out_note, refusal_ended, refusal_text, rewritten_ended}
+use Rattle.hunk_run.specs.Notes.{EndsByFault, EndsListing, EndsOrFails, EndsRewriting, NamesFiles, Notes, SaysLeftOut, fault_ended, input_of, output_of, left_out_note, refusal_ended, refusal_text, rewritten_ended}
 use Rattle.hunk_run.specs.Runs.{Lists, PrintsNoHelp, TellsRewriting}
 use Rattle.hunk_run.specs.Status.{PrintsOrFails, TellsFindings, TellsOutcome, TellsStatus, with_newline}
 
@@ -29,7 +29,7 @@ tells_noted outlet old new status None (inl done) = inl done
 tells_noted outlet old new status None (inr found) = inr (inr (inr (inr found)))
 tells_noted outlet old new status (Some (Line why)) notes = inr (inl notes)
 tells_noted outlet old new status (Some NotText) notes = inr (inl notes)
-tells_noted outlet old new status (Some (Fault fault name cause)) (is, takes) = inr (inr (inl (fault, is, takes)))
+tells_noted outlet old new status (Some (Fault fault name cause untouched)) (is, takes) = inr (inr (inl (fault, is, takes)))
 tells_noted outlet old new status (Some Output) notes = inr (inr (inr (inl notes)))
 tells_noted outlet old new status (Some (LeftOut name stripped rest)) notes = inl notes
 
@@ -48,7 +48,7 @@ bound_noted outlet old new status None (inl done) = omega (arith, done)
 bound_noted outlet old new status None (inr (bytes, text, is, found, takes)) = omega (arith, is)
 bound_noted outlet old new status (Some (Line why)) (is, takes) = omega (arith, is)
 bound_noted outlet old new status (Some NotText) (is, takes) = omega (arith, is)
-bound_noted outlet old new status (Some (Fault fault name cause)) (is, takes) = omega (arith, few_status fault, is)
+bound_noted outlet old new status (Some (Fault fault name cause untouched)) (is, takes) = omega (arith, few_status fault, is)
 bound_noted outlet old new status (Some Output) (is, broken) = omega (arith, is)
 bound_noted outlet old new status (Some (LeftOut name stripped rest)) is = omega (arith, is)
 
@@ -73,14 +73,14 @@ module _ {W : Type 0} (outlet : W → Outlet) (old new : Writing W) where
   prints_ended text ended result (inl (is, takes)) = inl (ap (λ (e : Ended). e.status) is, takes)
   prints_ended text ended result (inr (is, broken)) = inr (ap (λ (e : Ended). e.status) is, broken)
 
-  pub notes_fault : (fault : RunFault) (name : Option (List ℕ)) (cause : Option Error) (result : Ended) →
-      EndsByFault outlet old new fault name cause result → Notes outlet old new result.status result.note
-  notes_fault fault name cause result (inl ends) = notes_ended _ (fault_ended fault name cause) result ends (λ takes. (refl, takes))
-  notes_fault fault name cause result (inr ends) = notes_ended _ (fault_ended Memory None None) result ends (λ takes. (refl, takes))
+  pub notes_fault : (fault : RunFault) (name : Option (List ℕ)) (cause : Option Error) (untouched : Option (List ℕ)) (result : Ended) →
+      EndsByFault outlet old new fault name cause untouched result → Notes outlet old new result.status result.note
+  notes_fault fault name cause untouched result (inl ends) = notes_ended _ (fault_ended fault name cause untouched) result ends (λ takes. (refl, takes))
+  notes_fault fault name cause untouched result (inr ends) = notes_ended _ (fault_ended Memory None None None) result ends (λ takes. (refl, takes))
 
   -- a fault that is none of the output
   pub ends_listing : (fault : RunFault) (name : Option (List ℕ)) (cause : Option Error) (result : Ended) →
-      ((written : ℕ) → fault ≡ Write written → ⊥) → EndsByFault outlet old new fault name cause result → EndsListing outlet old new (Err fault) name cause result
+      ((written : ℕ) → fault ≡ Write written → ⊥) → EndsByFault outlet old new fault name cause None result → EndsListing outlet old new (Err fault) name cause result
   ends_listing Memory name cause result other ends = ends
   ends_listing HexText name cause result other ends = ends
   ends_listing (Read place) name cause result other ends = ends
@@ -88,17 +88,17 @@ module _ {W : Type 0} (outlet : W → Outlet) (old new : Writing W) where
   ends_listing (RefusedIn refusal part) name cause result other ends = ends
   ends_listing (Write written) name cause result other ends = absurd (other written refl)
 
-  fault_not_done : (fault : RunFault) (name : Option (List ℕ)) (cause : Option Error) (text : List ℕ) (result : Ended) →
-      EndsOrFails outlet old new text (fault_ended fault name cause) result → result.status ≡ 0 → ⊥
-  fault_not_done fault name cause text result (inl (is, takes)) none =
+  fault_not_done : (fault : RunFault) (name : Option (List ℕ)) (cause : Option Error) (untouched : Option (List ℕ)) (text : List ℕ) (result : Ended) →
+      EndsOrFails outlet old new text (fault_ended fault name cause untouched) result → result.status ≡ 0 → ⊥
+  fault_not_done fault name cause untouched text result (inl (is, takes)) none =
       let same = ap (λ (e : Ended). e.status) is in omega (arith, some_status fault, same, none)
-  fault_not_done fault name cause text result (inr (is, broken)) none =
+  fault_not_done fault name cause untouched text result (inr (is, broken)) none =
       let same = ap (λ (e : Ended). e.status) is in omega (arith, same, none)
 
-  pub not_done : (fault : RunFault) (name : Option (List ℕ)) (cause : Option Error) (result : Ended) →
-      EndsByFault outlet old new fault name cause result → result.status ≡ 0 → ⊥
-  not_done fault name cause result (inl ends) none = fault_not_done fault name cause _ result ends none
-  not_done fault name cause result (inr ends) none = fault_not_done Memory None None _ result ends none
+  pub not_done : (fault : RunFault) (name : Option (List ℕ)) (cause : Option Error) (untouched : Option (List ℕ)) (result : Ended) →
+      EndsByFault outlet old new fault name cause untouched result → result.status ≡ 0 → ⊥
+  not_done fault name cause untouched result (inl ends) none = fault_not_done fault name cause untouched _ result ends none
+  not_done fault name cause untouched result (inr ends) none = fault_not_done Memory None None None _ result ends none
 
   -- words that are no order
   pub notes_refusal : (fault : OrderFault) (result : Ended) → EndsOrFails outlet old new (refusal_text fault) (refusal_ended fault) result →
@@ -132,7 +132,7 @@ module _ {W : Type 0} (outlet : W → Outlet) (old new : Writing W) where
       some_ended _ (refusal_ended words.Memory) result
       (subst (λ (f : OrderFault). EndsOrFails outlet old new (refusal_text f) (refusal_ended f) result) (memory_where wanted order fault refuses some) ends) (omega arith) none
 
-  names_nothing : (order : Order) (text : List ℕ) (result : Ended) → EndsOrFails outlet old new text (fault_ended Memory None None) result → NamesFiles order result.note
+  names_nothing : (order : Order) (text : List ℕ) (result : Ended) → EndsOrFails outlet old new text (fault_ended Memory None None None) result → NamesFiles order result.note
   names_nothing order text result (inl (is, takes)) = subst (λ (e : Ended). NamesFiles order e.note) (sym is) tt
   names_nothing order text result (inr (is, broken)) = subst (λ (e : Ended). NamesFiles order e.note) (sym is) tt
 
@@ -164,10 +164,10 @@ module _ {W : Type 0} (outlet : W → Outlet) (old new : Writing W) where
   names_ended order text ended result (inl (is, takes)) names = subst (λ (e : Ended). NamesFiles order e.note) (sym is) names
   names_ended order text ended result (inr (is, broken)) names = subst (λ (e : Ended). NamesFiles order e.note) (sym is) tt
 
-  pub names_fault : (order : Order) (fault : RunFault) (name : Option (List ℕ)) (cause : Option Error) (result : Ended) →
-      EndsByFault outlet old new fault name cause result → NamesFiles order (Some (Fault fault name cause)) → NamesFiles order result.note
-  names_fault order fault name cause result (inl ends) names = names_ended order _ (fault_ended fault name cause) result ends names
-  names_fault order fault name cause result (inr ends) names = names_nothing order _ result ends
+  pub names_fault : (order : Order) (fault : RunFault) (name : Option (List ℕ)) (cause : Option Error) (untouched : Option (List ℕ)) (result : Ended) →
+      EndsByFault outlet old new fault name cause untouched result → NamesFiles order (Some (Fault fault name cause untouched)) → NamesFiles order result.note
+  names_fault order fault name cause untouched result (inl ends) names = names_ended order _ (fault_ended fault name cause untouched) result ends names
+  names_fault order fault name cause untouched result (inr ends) names = names_nothing order _ result ends
 
   -- a run that was to rewrite a file
   names_left_out : (strip : Bool) (stripped rest : ℕ) (input output : List ℕ) → NamesFiles (orders.Rewrite strip input output) (left_out_note stripped rest input)
@@ -175,16 +175,25 @@ module _ {W : Type 0} (outlet : W → Outlet) (old new : Writing W) where
   names_left_out strip zero (suc more) input output = refl
   names_left_out strip (suc more) rest input output = refl
 
+  -- a fault of it: whose name is said, and which file was not touched
+  rewriting_fault : (strip : Bool) (fault : RunFault) (input output : List ℕ) (cause : Option Error) (result : Ended) →
+      EndsRewriting outlet old new (Err fault) input output cause result →
+      (name : Option (List ℕ)) × (untouched : Option (List ℕ)) × EndsByFault outlet old new fault name cause untouched result
+      × NamesFiles (orders.Rewrite strip input output) (Some (Fault fault name cause untouched))
+  rewriting_fault strip (Write written) input output cause result ends = (Some output, None, ends, (refl, refl))
+  rewriting_fault strip Memory input output cause result ends = (Some input, Some output, ends, refl)
+  rewriting_fault strip HexText input output cause result ends = (Some input, Some output, ends, (refl, refl))
+  rewriting_fault strip (Read place) input output cause result ends = (Some input, Some output, ends, (refl, refl))
+  rewriting_fault strip (Refused refusal) input output cause result ends = (Some input, Some output, ends, (refl, refl))
+  rewriting_fault strip (RefusedIn refusal part) input output cause result ends = (Some input, Some output, ends, (refl, refl))
+
   pub names_rewriting : (strip : Bool) (answer : Result Rewritten RunFault) (input output : List ℕ) (cause : Option Error) (result : Ended) →
       EndsRewriting outlet old new answer input output cause result → NamesFiles (orders.Rewrite strip input output) result.note
   names_rewriting strip (Ok done) input output cause result ends =
       names_ended (orders.Rewrite strip input output) _ (rewritten_ended done input) result ends (names_left_out strip (done.read - done.written) done.rest input output)
-  names_rewriting strip (Err (Write written)) input output cause result ends = names_fault (orders.Rewrite strip input output) (Write written) (Some output) cause result ends refl
-  names_rewriting strip (Err Memory) input output cause result ends = names_fault (orders.Rewrite strip input output) Memory (Some input) cause result ends tt
-  names_rewriting strip (Err HexText) input output cause result ends = names_fault (orders.Rewrite strip input output) HexText (Some input) cause result ends refl
-  names_rewriting strip (Err (Read place)) input output cause result ends = names_fault (orders.Rewrite strip input output) (Read place) (Some input) cause result ends refl
-  names_rewriting strip (Err (Refused refusal)) input output cause result ends = names_fault (orders.Rewrite strip input output) (Refused refusal) (Some input) cause result ends refl
-  names_rewriting strip (Err (RefusedIn refusal part)) input output cause result ends = names_fault (orders.Rewrite strip input output) (RefusedIn refusal part) (Some input) cause result ends refl
+  names_rewriting strip (Err fault) input output cause result ends =
+      let (name, untouched, by, names) = rewriting_fault strip fault input output cause result ends in
+      names_fault (orders.Rewrite strip input output) fault name cause untouched result by names
 
   notes_left_out : (stripped rest : ℕ) (name : List ℕ) → Notes outlet old new 0 (left_out_note stripped rest name)
   notes_left_out zero zero name = inl refl
@@ -195,12 +204,8 @@ module _ {W : Type 0} (outlet : W → Outlet) (old new : Writing W) where
       EndsRewriting outlet old new answer input output cause result → Notes outlet old new result.status result.note
   notes_rewriting (Ok done) input output cause result ends =
       notes_ended _ (rewritten_ended done input) result ends (λ takes. notes_left_out (done.read - done.written) done.rest input)
-  notes_rewriting (Err (Write written)) input output cause result ends = notes_fault (Write written) (Some output) cause result ends
-  notes_rewriting (Err Memory) input output cause result ends = notes_fault Memory (Some input) cause result ends
-  notes_rewriting (Err HexText) input output cause result ends = notes_fault HexText (Some input) cause result ends
-  notes_rewriting (Err (Read place)) input output cause result ends = notes_fault (Read place) (Some input) cause result ends
-  notes_rewriting (Err (Refused refusal)) input output cause result ends = notes_fault (Refused refusal) (Some input) cause result ends
-  notes_rewriting (Err (RefusedIn refusal part)) input output cause result ends = notes_fault (RefusedIn refusal part) (Some input) cause result ends
+  notes_rewriting (Err fault) input output cause result ends =
+      let (name, untouched, by, names) = rewriting_fault false fault input output cause result ends in notes_fault fault name cause untouched result by
 
   -- where the status is 0 the file is rewritten, and what was left out is said
   pub says_left_out : (strip : Bool) (answer : Result Rewritten RunFault) (input output : List ℕ) (cause : Option Error) (result : Ended) →
@@ -210,18 +215,14 @@ module _ {W : Type 0} (outlet : W → Outlet) (old new : Writing W) where
       (record { done = done; tells = tells; takes = takes }, ap (λ (e : Ended). e.note) is)
   says_left_out strip (Ok done) input output cause result tells (inr (is, broken)) none =
       absurd (let same = ap (λ (e : Ended). e.status) is in omega (arith, same, none))
-  says_left_out strip (Err (Write written)) input output cause result tells ends none = absurd (not_done (Write written) (Some output) cause result ends none)
-  says_left_out strip (Err Memory) input output cause result tells ends none = absurd (not_done Memory (Some input) cause result ends none)
-  says_left_out strip (Err HexText) input output cause result tells ends none = absurd (not_done HexText (Some input) cause result ends none)
-  says_left_out strip (Err (Read place)) input output cause result tells ends none = absurd (not_done (Read place) (Some input) cause result ends none)
-  says_left_out strip (Err (Refused refusal)) input output cause result tells ends none = absurd (not_done (Refused refusal) (Some input) cause result ends none)
-  says_left_out strip (Err (RefusedIn refusal part)) input output cause result tells ends none = absurd (not_done (RefusedIn refusal part) (Some input) cause result ends none)
+  says_left_out strip (Err fault) input output cause result tells ends none =
+      let (name, untouched, by, names) = rewriting_fault strip fault input output cause result ends in absurd (not_done fault name cause untouched result by none)
 
 -- a run that was to list an input; the output is mid behind what was listed
 module _ {W : Type 0} (outlet : W → Outlet) (old mid new : Writing W) (name : Option (List ℕ)) (cause : Option Error) (result : Ended) where
-  notes_since : (fault : RunFault) → mid ≡ old → EndsByFault outlet mid new fault name cause result → Notes outlet old new result.status result.note
+  notes_since : (fault : RunFault) → mid ≡ old → EndsByFault outlet mid new fault name cause None result → Notes outlet old new result.status result.note
   notes_since fault same ends =
-      subst (λ (w : Writing W). Notes outlet w new result.status result.note) same (notes_fault outlet mid new fault name cause result ends)
+      subst (λ (w : Writing W). Notes outlet w new result.status result.note) same (notes_fault outlet mid new fault name cause None result ends)
 
   pub notes_listing : (answer : Result ℕ RunFault) → TellsOutcome outlet old mid answer → EndsListing outlet mid new answer name cause result →
       Notes outlet old new result.status result.note
@@ -242,11 +243,11 @@ module _ {W : Type 0} (outlet : W → Outlet) (old mid new : Writing W) (name : 
       (answer ≡ Ok 0) × (new ≡ mid) × (result.note ≡ None)
   listing_done (Ok status) (is, same) none = (ap Ok (sym (ap (λ (e : Ended). e.status) is) ∙ none), same, ap (λ (e : Ended). e.note) is)
   listing_done (Err (Write written)) (is, same) none = absurd (let status = ap (λ (e : Ended). e.status) is in omega (arith, status, none))
-  listing_done (Err Memory) ends none = absurd (not_done outlet mid new Memory name cause result ends none)
-  listing_done (Err HexText) ends none = absurd (not_done outlet mid new HexText name cause result ends none)
-  listing_done (Err (Read place)) ends none = absurd (not_done outlet mid new (Read place) name cause result ends none)
-  listing_done (Err (Refused refusal)) ends none = absurd (not_done outlet mid new (Refused refusal) name cause result ends none)
-  listing_done (Err (RefusedIn refusal part)) ends none = absurd (not_done outlet mid new (RefusedIn refusal part) name cause result ends none)
+  listing_done (Err Memory) ends none = absurd (not_done outlet mid new Memory name cause None result ends none)
+  listing_done (Err HexText) ends none = absurd (not_done outlet mid new HexText name cause None result ends none)
+  listing_done (Err (Read place)) ends none = absurd (not_done outlet mid new (Read place) name cause None result ends none)
+  listing_done (Err (Refused refusal)) ends none = absurd (not_done outlet mid new (Refused refusal) name cause None result ends none)
+  listing_done (Err (RefusedIn refusal part)) ends none = absurd (not_done outlet mid new (RefusedIn refusal part) name cause None result ends none)
 
   pub lists_where_done : (listing : Listing) (answer : Result ℕ RunFault) → IfOk answer (λ status. status ≡ 0 → Lists outlet old mid listing) →
       EndsListing outlet mid new answer name cause result → result.status ≡ 0 → Lists outlet old new listing
@@ -257,11 +258,11 @@ module _ {W : Type 0} (outlet : W → Outlet) (old mid new : Writing W) (name : 
 
   -- a fault is one of the input
   pub names_listing : (order : Order) (answer : Result ℕ RunFault) → EndsListing outlet mid new answer name cause result → name ≡ input_of order →
-      NamesFiles order result.note
-  names_listing order (Ok status) (is, same) names = subst (λ (e : Ended). NamesFiles order e.note) (sym is) tt
-  names_listing order (Err (Write written)) (is, same) names = subst (λ (e : Ended). NamesFiles order e.note) (sym is) tt
-  names_listing order (Err Memory) ends names = names_fault outlet mid new order Memory name cause result ends tt
-  names_listing order (Err HexText) ends names = names_fault outlet mid new order HexText name cause result ends names
-  names_listing order (Err (Read place)) ends names = names_fault outlet mid new order (Read place) name cause result ends names
-  names_listing order (Err (Refused refusal)) ends names = names_fault outlet mid new order (Refused refusal) name cause result ends names
-  names_listing order (Err (RefusedIn refusal part)) ends names = names_fault outlet mid new order (RefusedIn refusal part) name cause result ends names
+      output_of order ≡ None → NamesFiles order result.note
+  names_listing order (Ok status) (is, same) names none = subst (λ (e : Ended). NamesFiles order e.note) (sym is) tt
+  names_listing order (Err (Write written)) (is, same) names none = subst (λ (e : Ended). NamesFiles order e.note) (sym is) tt
+  names_listing order (Err Memory) ends names none = names_fault outlet mid new order Memory name cause None result ends tt
+  names_listing order (Err HexText) ends names none = names_fault outlet mid new order HexText name cause None result ends (names, sym none)
+  names_listing order (Err (Read place)) ends names none = names_fault outlet mid new order (Read place) name cause None result ends (names, sym none)
+  names_listing order (Err (Refused refusal)) ends names none = names_fault outlet mid new order (Refused refusal) name cause None result ends (names, sym none)
+  names_listing order (Err (RefusedIn refusal part)) ends names none = names_fault outlet mid new order (RefusedIn refusal part) name cause None result ends (names, sym none)

@@ -1,5 +1,5 @@
 -- What a run says on standard error, beside what its output has taken: a writer that is old before it and new after it.
-use Rattle.std.specs.Prelude.{◌≡◌, ◌⊎◌, ◌-◌, ◌++◌, ⊤, ℕ, zero, true, List, Option, Some, None, Result, Ok, Err, codes}
+use Rattle.std.specs.Prelude.{◌≡◌, ◌⊎◌, ◌-◌, ◌++◌, ⊤, ℕ, zero, true, List, [], Option, Some, None, Result, Ok, Err, IfSome, codes}
 use Rattle.std.specs.Fmt.{decimal}
 use Rattle.std.specs.String.{string_bytes}
 use Rattle.std.specs.declared.io.Error.{Error}
@@ -38,6 +38,14 @@ shown_name None stream = stream
 abbrev pub said : List ℕ → List ℕ → List ℕ
 said name what = codes "hunkinfo: " ++ (name ++ (codes ": " ++ (what ++ codes "\n")))
 
+-- the same, with a file that was left as it was, if there is one
+abbrev pub untouched_end : Option (List ℕ) → List ℕ
+untouched_end None = []
+untouched_end (Some name) = codes "; " ++ (name ++ codes " was not touched")
+
+abbrev pub said_with : Option (List ℕ) → List ℕ → List ℕ → List ℕ
+said_with untouched name what = codes "hunkinfo: " ++ (name ++ (codes ": " ++ (what ++ (untouched_end untouched ++ codes "\n"))))
+
 -- a refusal: its class, unless the file is not judged, the part of the file that it is in, where one is known, and what the reason means
 abbrev pub judged : Class → Option Part → List ℕ → List ℕ
 judged classes.NotJudged part meaning = meaning
@@ -49,16 +57,18 @@ abbrev pub verdict_line : Verdict → List ℕ
 verdict_line verdict = judged (class_of verdict.refusal) verdict.part (meaning_of verdict.refusal.reason)
 
 -- what is said of a fault, but where the system's own words are in it
-abbrev pub fault_note : RunFault → Option (List ℕ) → Option Error → Option (List ℕ)
-fault_note Memory name cause = Some (codes "hunkinfo: out of memory\n")
-fault_note HexText name cause = Some (said (shown_name name (codes "standard input"))
+abbrev pub fault_note : RunFault → Option (List ℕ) → Option Error → Option (List ℕ) → Option (List ℕ)
+fault_note Memory name cause untouched = Some (codes "hunkinfo: out of memory" ++ (untouched_end untouched ++ codes "\n"))
+fault_note HexText name cause untouched = Some (said_with untouched (shown_name name (codes "standard input"))
     (codes "no hexadecimal text: two digits a byte are wanted, and nothing else but spaces, tabs and line ends"))
-fault_note (Refused refusal) name cause = Some (said (shown_name name (codes "standard input")) (verdict_line (record { refusal = refusal; part = None })))
-fault_note (RefusedIn refusal part) name cause = Some (said (shown_name name (codes "standard input")) (verdict_line (record { refusal = refusal; part = Some part })))
-fault_note (Read place) name (Some error) = None
-fault_note (Read place) name None = Some (said (shown_name name (codes "standard input")) (codes "reading failed"))
-fault_note (Write written) name (Some error) = None
-fault_note (Write written) name None = Some (said (shown_name name (codes "standard output")) (codes "writing failed"))
+fault_note (Refused refusal) name cause untouched = Some (said_with untouched (shown_name name (codes "standard input"))
+    (verdict_line (record { refusal = refusal; part = None })))
+fault_note (RefusedIn refusal part) name cause untouched = Some (said_with untouched (shown_name name (codes "standard input"))
+    (verdict_line (record { refusal = refusal; part = Some part })))
+fault_note (Read place) name (Some error) untouched = None
+fault_note (Read place) name None untouched = Some (said_with untouched (shown_name name (codes "standard input")) (codes "reading failed"))
+fault_note (Write written) name (Some error) untouched = None
+fault_note (Write written) name None untouched = Some (said (shown_name name (codes "standard output")) (codes "writing failed"))
 
 -- what was left out of a file: blocks, what follows it, or both, with the line's end
 abbrev pub left_out_parts : ℕ → ℕ → List ℕ
@@ -69,7 +79,7 @@ left_out_parts stripped rest = decimal stripped ++ (codes " bytes of NAME, SYMBO
 abbrev pub note_text : Note → Option (List ℕ)
 note_text (Line why) = Some (codes "hunkinfo: " ++ string_bytes why)
 note_text NotText = Some (codes "hunkinfo: a word of the command line is no UTF-8 text: give a file of such a name as standard input, as in hunkinfo show < FILE\n")
-note_text (Fault fault name cause) = fault_note fault name cause
+note_text (Fault fault name cause untouched) = fault_note fault name cause untouched
 note_text Output = Some (said (codes "standard output") (codes "writing failed"))
 note_text (LeftOut name stripped rest) = Some (codes "hunkinfo: " ++ (name ++ (codes ": left out: " ++ left_out_parts stripped rest)))
 
@@ -80,7 +90,7 @@ abbrev pub Notes : {W : Type 0} → (W → Outlet) → Writing W → Writing W �
 Notes outlet old new status None = TellsFindings outlet old new status
 Notes outlet old new status (Some (Line why)) = (status ≡ 2) × Takes outlet old new (with_newline refused_line)
 Notes outlet old new status (Some NotText) = (status ≡ 2) × Takes outlet old new (with_newline refused_line)
-Notes outlet old new status (Some (Fault fault name cause)) = (status ≡ status_of fault) × Takes outlet old new (with_newline (line_of fault))
+Notes outlet old new status (Some (Fault fault name cause untouched)) = (status ≡ status_of fault) × Takes outlet old new (with_newline (line_of fault))
 Notes outlet old new status (Some Output) = (status ≡ 3) × ((outlet new.sink).failed ≡ true)
 Notes outlet old new status (Some (LeftOut name stripped rest)) = status ≡ 0
 
@@ -100,10 +110,15 @@ abbrev pub name_for : RunFault → Order → Option (List ℕ)
 name_for (Write written) order = output_of order
 name_for _ order = input_of order
 
+-- the file of an order that is not touched before such a fault
+abbrev pub untouched_by : RunFault → Order → Option (List ℕ)
+untouched_by (Write written) order = None
+untouched_by _ order = output_of order
+
 -- The note is one of the order's files, by its name.
 abbrev pub NamesFiles : Order → Option Note → Type 0
-NamesFiles order (Some (Fault Memory name cause)) = ⊤
-NamesFiles order (Some (Fault fault name cause)) = name ≡ name_for fault order
+NamesFiles order (Some (Fault Memory name cause untouched)) = IfSome untouched (λ file. Some file ≡ output_of order)
+NamesFiles order (Some (Fault fault name cause untouched)) = (name ≡ name_for fault order) × (untouched ≡ untouched_by fault order)
 NamesFiles order (Some (LeftOut name stripped rest)) = Some name ≡ input_of order
 NamesFiles order (Some (Line why)) = ⊥
 NamesFiles order (Some NotText) = ⊥
@@ -116,8 +131,8 @@ abbrev pub output_failed : Ended
 output_failed = record { status = 3; note = Some Output }
 
 -- by a fault
-abbrev pub fault_ended : RunFault → Option (List ℕ) → Option Error → Ended
-fault_ended fault name cause = record { status = status_of fault; note = Some (Fault fault name cause) }
+abbrev pub fault_ended : RunFault → Option (List ℕ) → Option Error → Option (List ℕ) → Ended
+fault_ended fault name cause untouched = record { status = status_of fault; note = Some (Fault fault name cause untouched) }
 
 -- with a file of whose blocks, and of what follows it, so many bytes were not written
 abbrev pub left_out_note : ℕ → ℕ → List ℕ → Option Note
@@ -141,7 +156,7 @@ refusal_ended (words.Line why) = record { status = 2; note = Some (Line why) }
 refusal_ended words.NotText = record { status = 2; note = Some NotText }
 refusal_ended (words.Help text) = record { status = 0; note = None }
 refusal_ended words.Version = record { status = 0; note = None }
-refusal_ended words.Memory = fault_ended Memory None None
+refusal_ended words.Memory = fault_ended Memory None None None
 
 -- and what is printed then
 abbrev pub refusal_text : OrderFault → List ℕ
@@ -158,20 +173,20 @@ EndsOrFails outlet old new text ended result =
     ⊎ ((result ≡ output_failed) × ((outlet new.sink).failed ≡ true))
 
 -- The output has taken the line of the fault, or where memory for it is refused that of memory.
-abbrev pub EndsByFault : {W : Type 0} → (W → Outlet) → Writing W → Writing W → RunFault → Option (List ℕ) → Option Error → Ended → Type 0
-EndsByFault outlet old new fault name cause result =
-    EndsOrFails outlet old new (with_newline (line_of fault)) (fault_ended fault name cause) result
-    ⊎ EndsOrFails outlet old new (with_newline (line_of Memory)) (fault_ended Memory None None) result
+abbrev pub EndsByFault : {W : Type 0} → (W → Outlet) → Writing W → Writing W → RunFault → Option (List ℕ) → Option Error → Option (List ℕ) → Ended → Type 0
+EndsByFault outlet old new fault name cause untouched result =
+    EndsOrFails outlet old new (with_newline (line_of fault)) (fault_ended fault name cause untouched) result
+    ⊎ EndsOrFails outlet old new (with_newline (line_of Memory)) (fault_ended Memory None None None) result
 
 -- how a run ends that has listed an input, or not: where the output failed nothing more is written
 abbrev pub EndsListing : {W : Type 0} → (W → Outlet) → Writing W → Writing W → Result ℕ RunFault → Option (List ℕ) → Option Error → Ended → Type 0
 EndsListing outlet old new (Ok status) name cause result = (result ≡ record { status = status; note = None }) × (new ≡ old)
 EndsListing outlet old new (Err (Write written)) name cause result = (result ≡ output_failed) × (new ≡ old)
-EndsListing outlet old new (Err fault) name cause result = EndsByFault outlet old new fault name cause result
+EndsListing outlet old new (Err fault) name cause result = EndsByFault outlet old new fault name cause None result
 
 -- how a run ends that has rewritten a file, or not
 abbrev pub EndsRewriting : {W : Type 0} → (W → Outlet) → Writing W → Writing W → Result Rewritten RunFault → List ℕ → List ℕ → Option Error → Ended → Type 0
 EndsRewriting outlet old new (Ok done) input output cause result =
     EndsOrFails outlet old new (rewritten_lines done) (rewritten_ended done input) result
-EndsRewriting outlet old new (Err (Write written)) input output cause result = EndsByFault outlet old new (Write written) (Some output) cause result
-EndsRewriting outlet old new (Err fault) input output cause result = EndsByFault outlet old new fault (Some input) cause result
+EndsRewriting outlet old new (Err (Write written)) input output cause result = EndsByFault outlet old new (Write written) (Some output) cause None result
+EndsRewriting outlet old new (Err fault) input output cause result = EndsByFault outlet old new fault (Some input) cause (Some output) result

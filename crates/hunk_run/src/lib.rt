@@ -145,7 +145,7 @@ fn end_listing<W: Sink>(
     match answer {
         Ok(status) => Ended { status, note: None },
         Err(RunFault::Write { .. }) => output_failed(),
-        Err(fault) => report(alloc, fault, name, cause, out),
+        Err(fault) => report(alloc, fault, name, cause, None, out),
     }
 }
 
@@ -162,8 +162,10 @@ fn end_rewriting<W: Sink>(
     let (input, output) = names;
     match answer {
         Ok(done) => tell(done, input, out),
-        Err(fault @ RunFault::Write { .. }) => report(alloc, fault, Some(output), cause, out),
-        Err(fault) => report(alloc, fault, Some(input), cause, out),
+        Err(fault @ RunFault::Write { .. }) => {
+            report(alloc, fault, Some(output), cause, None, out)
+        }
+        Err(fault) => report(alloc, fault, Some(input), cause, Some(output), out),
     }
 }
 
@@ -173,13 +175,19 @@ fn report<W: Sink>(
     fault: RunFault,
     name: Option<FileName>,
     cause: Option<io::Error>,
+    untouched: Option<FileName>,
     out: &mut LongWriter<W>,
 ) -> Ended
-    ensures { EndsByFault W.outlet out.old out.new fault name cause result }
+    ensures { EndsByFault W.outlet out.old out.new fault name cause untouched result }
 {
     match format!(in alloc; "{fault}\n") {
         Ok(line) => {
-            let note = Note::Fault { fault, name, cause };
+            let note = Note::Fault {
+                fault,
+                name,
+                cause,
+                untouched,
+            };
             print(line.as_str(), fault.status(), Some(note), out)
         }
         Err(_) => report_memory(out),
@@ -189,12 +197,13 @@ fn report<W: Sink>(
 /// Prints the line of memory, and ends the run.
 fn report_memory<W: Sink>(out: &mut LongWriter<W>) -> Ended
     ensures { EndsOrFails W.outlet out.old out.new (with_newline (line_of Memory))
-        (fault_ended Memory None None) result }
+        (fault_ended Memory None None None) result }
 {
     let note = Note::Fault {
         fault: RunFault::Memory,
         name: None,
         cause: None,
+        untouched: None,
     };
     print(OUT_OF_MEMORY, RunFault::Memory.status(), Some(note), out)
 }

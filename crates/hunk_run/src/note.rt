@@ -1,7 +1,8 @@
 //! What a run says on standard error.
-ghost use Rattle.std.specs.Prelude.{◌≡◌};
+ghost use Rattle.std.specs.Prelude.{◌≡◌, Some};
 ghost use Rattle.std.specs.Fmt.{DisplaysOnOk};
 ghost use Rattle.hunk_run.specs.Notes.{fault_note, note_text, output_failed, shown_name};
+ghost use Rattle.hunk_run.specs.Notes.{untouched_end};
 ghost use Rattle.hunk_run.specs.declared.note.Note.TheVariants.{LeftOut};
 
 use crate::verdict::Verdict;
@@ -39,6 +40,8 @@ pub enum Note {
         name: Option<FileName>,
         /// What the system says of it.
         cause: Option<io::Error>,
+        /// OUT of `rewrite`, where nothing of it was touched.
+        untouched: Option<FileName>,
     },
     /// Standard output failed.
     Output,
@@ -89,13 +92,39 @@ impl fmt::Display for Note {
         match self {
             Note::Line(why) => write!(f, "hunkinfo: {why}"),
             Note::NotText => write!(f, "hunkinfo: {NOT_TEXT}\n"),
-            Note::Fault { fault, name, cause } => write_fault(f, *fault, name, cause),
+            Note::Fault {
+                fault,
+                name,
+                cause,
+                untouched,
+            } => write_fault(f, *fault, name, cause, untouched),
             Note::Output => write!(f, "hunkinfo: standard output: writing failed\n"),
             Note::LeftOut {
                 name,
                 stripped,
                 rest,
             } => write_left_out(f, name, *stripped, *rest),
+        }
+    }
+}
+
+/// A file that was left as it was, if there is one. It is displayed as the end of what is said of a
+/// fault: `; b was not touched`.
+#[derive(Clone, Copy)]
+struct Untouched<'a> {
+    file: &'a Option<FileName>,
+}
+
+impl fmt::Display for Untouched<'_> {
+    ghost output = { λ end. Some (untouched_end end.file.now) };
+
+    fn fmt<W: fmt::Write>(&self, f: &mut fmt::Formatter<W>) -> fmt::Result {
+        match self.file {
+            Some(name) => {
+                let name = name.as_str();
+                write!(f, "; {name} was not touched")
+            }
+            None => Ok(()),
         }
     }
 }
@@ -129,30 +158,32 @@ fn write_fault<W: fmt::Write>(
     fault: RunFault,
     name: &Option<FileName>,
     cause: &Option<io::Error>,
+    untouched: &Option<FileName>,
 ) -> fmt::Result
     ensures { DisplaysOnOk W.write_str_gives f.old result
-        (fault_note fault name.entry.now cause.entry.now) f.new }
+        (fault_note fault name.entry.now cause.entry.now untouched.entry.now) f.new }
 {
     let input = shown(name, "standard input");
+    let end = Untouched { file: untouched };
     match (fault, cause) {
-        (RunFault::Memory, _) => write!(f, "hunkinfo: out of memory\n"),
-        (RunFault::HexText, _) => write!(f, "hunkinfo: {input}: {NO_HEX_TEXT}\n"),
+        (RunFault::Memory, _) => write!(f, "hunkinfo: out of memory{end}\n"),
+        (RunFault::HexText, _) => write!(f, "hunkinfo: {input}: {NO_HEX_TEXT}{end}\n"),
         (RunFault::Refused(refusal), _) => {
             let verdict = Verdict {
                 refusal,
                 part: None,
             };
-            write!(f, "hunkinfo: {input}: {verdict}\n")
+            write!(f, "hunkinfo: {input}: {verdict}{end}\n")
         }
         (RunFault::RefusedIn { fault, part }, _) => {
             let verdict = Verdict {
                 refusal: fault,
                 part: Some(part),
             };
-            write!(f, "hunkinfo: {input}: {verdict}\n")
+            write!(f, "hunkinfo: {input}: {verdict}{end}\n")
         }
-        (RunFault::Read { .. }, Some(error)) => write!(f, "hunkinfo: {input}: {error}\n"),
-        (RunFault::Read { .. }, None) => write!(f, "hunkinfo: {input}: reading failed\n"),
+        (RunFault::Read { .. }, Some(error)) => write!(f, "hunkinfo: {input}: {error}{end}\n"),
+        (RunFault::Read { .. }, None) => write!(f, "hunkinfo: {input}: reading failed{end}\n"),
         (RunFault::Write { written }, Some(error)) => {
             let output = shown(name, "standard output");
             write!(

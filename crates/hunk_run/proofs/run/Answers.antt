@@ -1,7 +1,7 @@
-use Rattle.std.proofs.Common.{◌≡◌, refl, sym, subst}
+use Rattle.std.proofs.Common.{◌≡◌, None, refl, sym, subst}
 use Rattle.hunk_command_line.specs.declared.asked.Order.{Order}
 use Rattle.hunk_command_line.specs.declared.asked.Order.TheVariants.{Rewrite}
-use Rattle.hunk_run.specs.Notes.{NamesFiles, Notes, SaysLeftOut, input_of}
+use Rattle.hunk_run.specs.Notes.{NamesFiles, Notes, SaysLeftOut, input_of, output_of}
 use Rattle.hunk_run.specs.Runs.{IsOrderDone, Lists}
 use Rattle.hunk_run.specs.declared.listing.Listing.{Listing}
 use Rattle.hunk_run.proofs.Noting.{bound_noted, listing_done, lists_where_done, names_listing, names_rewriting, notes_listing, notes_refusal, notes_rewriting}
@@ -35,15 +35,15 @@ module _ (g : Over) (c : goal.After-end_listing g) where
 
   named : NamesFiles c.in-Ok.order c.end_listing.result.note
   named =
-      let for : (o : Order) → c.in-Ok.order ≡ o → c.match-order-2.listing.2 ≡ input_of o → NamesFiles c.in-Ok.order c.end_listing.result.note =
-      λ o is same.
+      let for : (o : Order) → c.in-Ok.order ≡ o → c.match-order-2.listing.2 ≡ input_of o → output_of o ≡ None → NamesFiles c.in-Ok.order c.end_listing.result.note =
+      λ o is same none.
       subst (λ (x : Order). NamesFiles x c.end_listing.result.note) (sym is)
       (names_listing g.W.Sink.outlet c.args.out.now c.list_file-answer.new.out c.end_listing.new.out c.match-order-2.listing.2 c.list_file-answer.result.1 c.end_listing.result
-      o c.list_file-answer.result.0 c.end_listing.ensures same) in
+      o c.list_file-answer.result.0 c.end_listing.ensures same none) in
       elim c.match-order-2.branch [
-        | in-Show w ↦ for _ w.in-Show.is (rw w.listing-is refl)
-        | in-Validate w ↦ for _ w.in-Validate.is (rw w.listing-is refl)
-        | in-Relocate w ↦ for _ w.in-Relocate.is (rw w.listing-is refl)
+        | in-Show w ↦ for _ w.in-Show.is (rw w.listing-is refl) refl
+        | in-Validate w ↦ for _ w.in-Validate.is (rw w.listing-is refl) refl
+        | in-Relocate w ↦ for _ w.in-Relocate.is (rw w.listing-is refl) refl
       ]
 
   quiet : c.end_listing.result.status ≡ 0 → SaysLeftOut g.W.Sink.outlet c.args.out.now c.end_listing.new.out c.in-Ok.order c.end_listing.result.note

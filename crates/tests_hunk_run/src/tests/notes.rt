@@ -60,7 +60,8 @@ const SAID: &[Row] = &[
         IN_HUNK_1,
         "hunkinfo rewrite a b",
         ANY,
-        "hunkinfo: a: damaged in hunk 1: a relocated longword runs past the end of its hunk\n",
+        "hunkinfo: a: damaged in hunk 1: a relocated longword runs past the end of its hunk; b was \
+        not touched\n",
     ),
     (
         IN_HUNK_1,
@@ -129,7 +130,7 @@ const SAID: &[Row] = &[
         OTHER,
         "hunkinfo rewrite missing b",
         ANY,
-        "hunkinfo: missing: unsupported\n",
+        "hunkinfo: missing: unsupported; b was not touched\n",
     ),
     (
         OTHER,
