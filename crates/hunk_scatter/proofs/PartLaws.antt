@@ -1,13 +1,16 @@
 -- The part of a load file that the next longword is of.
-use Rattle.std.proofs.Common.{◌≡◌, ℕ, ◌*◌, ◌/◌, false, List, [], ◌++◌, length, take, refl, sym, ap, ap₂, subst, ◌∙◌, append_assoc, append-nil, length-append, arith, inl, inr}
+use Rattle.std.proofs.Common.{rules, ◌≡◌, ℕ, ◌*◌, ◌/◌, true, false, List, [], ◌++◌, length, take, refl, sym, ap, ap₂, subst, ◌∙◌, append_assoc, append-nil, length-append, arith, inl, inr}
 use Rattle.std.proofs.Math.Seq.{take-append_seam}
+use Rattle.std.proofs.lemmas.List.{length-map}
 use Rattle.hunk_words.specs.{Carriers.Supply, Classes.class_by, Longs.{longs, bytes_of}, declared.fault.Fault.Fault}
 use Rattle.hunk_words.proofs.LongLaws.{longs-bytes_of, length-bytes_of}
 use Rattle.hunk_grammar.specs.Positions.{is_done, is_behind_header}
 use Rattle.hunk_grammar.specs.declared.file_kind.Sniff.TheVariants as sniffs
-use Rattle.hunk_files.specs.{FileParts.{IsPartAt, part_of}, FileSteps.{Progress, AtBlock, InBody, More}}
-use Rattle.hunk_files.specs.{ReaderPosition.IsBehindHeader, WordsRead.HasRead, declared.row.Row.Row, declared.part.Part.Part}
+use Rattle.hunk_files.specs.{FileParts.{IsPartAt, part_of}, FileSteps.{Progress, AtBlock, InBody, Next, More, Finished}}
+use Rattle.hunk_files.specs.{LoadFile.HunkValue, Tables.row_entry}
+use Rattle.hunk_files.specs.{ReaderPosition.{IsBehindHeader, table_of}, WordsRead.HasRead, declared.row.Row.Row, declared.part.Part.Part}
 use Rattle.hunk_files.specs.declared.part.Part.TheVariants as parts
+use Rattle.hunk_scatter.specs.Rows.{entries_of}
 use Rattle.hunk_scatter.specs.{LoadOutcomes.IsReadFault, LoadRefusals.IsFaultIn}
 use Rattle.hunk_scatter.specs.{BodyLoaderFields.StandsBehind, BodyReader.state_of, HeaderLoaderFields.HeaderReading}
 use Rattle.hunk_scatter.specs.{declared.header_state.HeaderState.HeaderState, declared.store.BodyState.BodyState}
@@ -57,6 +60,15 @@ pub hunk_here : (rows : List Row) (store : List ℕ) (state : BodyState) (pendin
     IsPartAt sniffs.Load fed (4 * (length fed / 4)) (parts.Hunk state.hunk)
 hunk_here rows store state pending fed r more =
     subst (λ (bs : List ℕ). IsPartAt sniffs.Load bs (4 * (length fed / 4)) (parts.Hunk state.hunk)) (append-nil fed) (hunk_next rows store state pending fed [] r more)
+
+-- Behind the last hunk it is their number.
+pub hunks_behind : (rows : List Row) (store : List ℕ) (state : BodyState) (pending fed : List ℕ) → StandsBehind rows store state pending fed → is_done state.position ≡ true → state.hunk ≡ length rows
+hunks_behind rows store state pending fed r done = go r.next r.behind r.table_is r.state_is
+  where
+    go : (n : Next) → IsBehindHeader n → table_of n ≡ entries_of rows → state_of n ≡ state → state.hunk ≡ length rows
+    go (More p) b t e = search rules
+    go (Finished v) b t e =
+        ap (λ (s : BodyState). s.hunk) (sym e) ∙ sym (length-map v (λ (h : HunkValue). h.entry)) ∙ ap length t ∙ length-map rows row_entry
 
 -- ---- the end of what was read
 

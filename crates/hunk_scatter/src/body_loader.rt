@@ -168,7 +168,9 @@ impl BodyLoader {
     /// The number of the hunk that the next longword is of, or a longword was refused in, counted
     /// from 0. Where the file is whole, it is the number of hunks.
     pub fn hunk(&self) -> u32
-        ensures { result ≡ self.now.hunk }
+        ensures value { result ≡ self.now.hunk }
+        ensures whole { self.now.refused ≡ None → IsWholeFile self.now.rows self.now.fed
+            → result ≡ length self.now.rows }
     {
         self.standing.state.hunk
     }

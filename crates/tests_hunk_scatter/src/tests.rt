@@ -11,6 +11,7 @@ mod large;
 mod limits;
 mod loads;
 mod memory;
+mod parts;
 mod streams;
 
 use hunk_files::Row;

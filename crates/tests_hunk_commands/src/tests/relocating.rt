@@ -3,6 +3,7 @@
 use crate::tests::asserts::assert_equal;
 use crate::tests::calls::{Outcome, expect_outcome, roomy};
 use hunk_commands::{RunFault, relocate};
+use hunk_files::Part;
 use hunk_scatter::Limits;
 use hunk_words::{Fault, FromRead, FromSlice, FromWrite, LongWriter, Reason, Source};
 use std::alloc::Global;
@@ -70,6 +71,23 @@ fn expect_refused(
 
 fn refused(place: u64, reason: Reason) -> RunFault {
     RunFault::Refused(Fault { place, reason })
+}
+
+/// Sees that it refuses a file of one hunk, whose header has 24 bytes, in the part where the place is.
+fn expect_refused_in(
+    rt: &(impl Abort + AllocGlobal),
+    bytes: &[u8],
+    place: u64,
+    reason: Reason,
+) {
+    let fault = Fault { place, reason };
+    let part = if place < 24 {
+        Part::Header
+    } else {
+        Part::Hunk { number: 0 }
+    };
+    let refused = RunFault::RefusedIn { fault, part };
+    expect(rt, bytes, (LIMITS, BASE), Some(refused), "");
 }
 
 #[test]
@@ -148,7 +166,7 @@ fn cut_short(rt: HostRuntime) -> Result<(), Fail> {
     assert!(rt; bytes.len() == 40);
     for n in 0..40usize {
         let place = 4 * (n as u64 / 4);
-        expect_refused(&rt, &bytes[..n], BASE, place, Reason::Truncated);
+        expect_refused_in(&rt, &bytes[..n], place, Reason::Truncated);
     }
     Ok(())
 }
@@ -159,9 +177,47 @@ fn one_longword_changed(rt: HostRuntime) -> Result<(), Fail> {
     for (byte, word, fault) in CHANGES {
         let bytes = changed(rt.alloc(), *byte, *word)?;
         match *fault {
-            Some((place, reason)) => expect_refused(&rt, &bytes, BASE, place, reason),
+            Some((place, reason)) => expect_refused_in(&rt, &bytes, place, reason),
             None => expect_printed(&rt, &bytes, BASE, PRINTED),
         }
+    }
+    Ok(())
+}
+
+/// Files that are refused behind whole hunks, and where: by a target that is no hunk, by the second offset of a group,
+/// and by an END before a content.
+const BEHIND_HUNKS: &[(&str, u64, Reason, u64)] = &[
+    (
+        "3F3 0 3 0 2 1 1 1 / 3E9 1 0 / 3F2 / 3EB 1 / 3F2 / 3EA 1 7 / 3EC 1 3",
+        80,
+        Reason::BadTarget,
+        2,
+    ),
+    (
+        "3F3 0 2 0 1 0 1 / 3EB 0 / 3F2 / 3E9 1 0 / 3EC 2 0 0 1",
+        68,
+        Reason::BadOffset,
+        1,
+    ),
+    (
+        "3F3 0 2 0 1 1 1 / 3EB 1 / 3F2 / 3F2",
+        40,
+        Reason::NoContent,
+        1,
+    ),
+];
+
+#[test]
+fn names_the_hunk(rt: HostRuntime) -> Result<(), Fail> {
+    for (text, place, reason, number) in BEHIND_HUNKS {
+        let bytes = spelled(rt.alloc(), text)?;
+        let fault = Fault {
+            place: *place,
+            reason: *reason,
+        };
+        let part = Part::Hunk { number: *number };
+        let refused = RunFault::RefusedIn { fault, part };
+        expect(&rt, &bytes, (LIMITS, BASE), Some(refused), "");
     }
     Ok(())
 }

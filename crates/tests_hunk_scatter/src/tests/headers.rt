@@ -302,7 +302,17 @@ fn debug_texts(rt: HostRuntime) -> Result<(), Fail> {
 
 /// A loader of the body after the header of example 1.
 pub(super) fn body(rt: &impl Abort, alloc: Global) -> Result<BodyLoader, Fail> {
-    let declared = declared(rt, alloc, ONE_HUNK, 24)?;
+    body_of(rt, alloc, ONE_HUNK, 24)
+}
+
+/// A loader of the body after the header, of this many bytes, of a file.
+pub(super) fn body_of(
+    rt: &impl Abort,
+    alloc: Global,
+    file: &str,
+    header: usize,
+) -> Result<BodyLoader, Fail> {
+    let declared = declared(rt, alloc, file, header)?;
     match declared.place(&Packed { start: 0x21000 }) {
         Ok(loader) => Ok(loader),
         Err(unplaced) => panic!(rt; "{:?}", unplaced.reason),

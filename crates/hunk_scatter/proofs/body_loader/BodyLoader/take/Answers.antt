@@ -40,6 +40,6 @@ returns-in-Err-Refused c =
       feeds = (
         subst (λ (l : BodyLoaderValue). IsHunkRefusal (l.fed ++ c.args.piece.now) hunk c.in-Err-Refused.fault) c.self.view_is refusal,
         subst StopsForBody c.in-Err-Refused.field-0-is c.in-Err-Refused.ensures.own_reasons,
-        ap (λ (l : BodyLoaderValue). l.fed) c.self.view_is,
+        search rules,
       );
     }
