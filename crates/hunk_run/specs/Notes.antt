@@ -34,17 +34,14 @@ abbrev pub shown_name : Option (List ℕ) → List ℕ → List ℕ
 shown_name (Some name) stream = name
 shown_name None stream = stream
 
--- what is said of something
-abbrev pub said : List ℕ → List ℕ → List ℕ
-said name what = codes "hunkinfo: " ++ (name ++ (codes ": " ++ (what ++ codes "\n")))
-
--- the same, with a file that was left as it was, if there is one
+-- a file that was left as it was, if there is one
 abbrev pub untouched_end : Option (List ℕ) → List ℕ
 untouched_end None = []
 untouched_end (Some name) = codes "; " ++ (name ++ codes " was not touched")
 
-abbrev pub said_with : Option (List ℕ) → List ℕ → List ℕ → List ℕ
-said_with untouched name what = codes "hunkinfo: " ++ (name ++ (codes ": " ++ (what ++ (untouched_end untouched ++ codes "\n"))))
+-- what is said of something, and of such a file
+abbrev pub said : List ℕ → List ℕ → Option (List ℕ) → List ℕ
+said name what untouched = codes "hunkinfo: " ++ (name ++ (codes ": " ++ (what ++ (untouched_end untouched ++ codes "\n"))))
 
 -- a refusal: its class, unless the file is not judged, the part of the file that it is in, where one is known, and what the reason means
 abbrev pub judged : Class → Option Part → List ℕ → List ℕ
@@ -59,16 +56,16 @@ verdict_line verdict = judged (class_of verdict.refusal) verdict.part (meaning_o
 -- what is said of a fault, but where the system's own words are in it
 abbrev pub fault_note : RunFault → Option (List ℕ) → Option Error → Option (List ℕ) → Option (List ℕ)
 fault_note Memory name cause untouched = Some (codes "hunkinfo: out of memory" ++ (untouched_end untouched ++ codes "\n"))
-fault_note HexText name cause untouched = Some (said_with untouched (shown_name name (codes "standard input"))
-    (codes "no hexadecimal text: two digits a byte are wanted, and nothing else but spaces, tabs and line ends"))
-fault_note (Refused refusal) name cause untouched = Some (said_with untouched (shown_name name (codes "standard input"))
-    (verdict_line (record { refusal = refusal; part = None })))
-fault_note (RefusedIn refusal part) name cause untouched = Some (said_with untouched (shown_name name (codes "standard input"))
-    (verdict_line (record { refusal = refusal; part = Some part })))
+fault_note HexText name cause untouched = Some (said (shown_name name (codes "standard input"))
+    (codes "no hexadecimal text: two digits a byte are wanted, and nothing else but spaces, tabs and line ends") untouched)
+fault_note (Refused refusal) name cause untouched =
+    Some (said (shown_name name (codes "standard input")) (verdict_line (record { refusal = refusal; part = None })) untouched)
+fault_note (RefusedIn refusal part) name cause untouched =
+    Some (said (shown_name name (codes "standard input")) (verdict_line (record { refusal = refusal; part = Some part })) untouched)
 fault_note (Read place) name (Some error) untouched = None
-fault_note (Read place) name None untouched = Some (said_with untouched (shown_name name (codes "standard input")) (codes "reading failed"))
+fault_note (Read place) name None untouched = Some (said (shown_name name (codes "standard input")) (codes "reading failed") untouched)
 fault_note (Write written) name (Some error) untouched = None
-fault_note (Write written) name None untouched = Some (said (shown_name name (codes "standard output")) (codes "writing failed"))
+fault_note (Write written) name None untouched = Some (said (shown_name name (codes "standard output")) (codes "writing failed") None)
 
 -- what was left out of a file: blocks, what follows it, or both, with the line's end
 abbrev pub left_out_parts : ℕ → ℕ → List ℕ
@@ -80,7 +77,7 @@ abbrev pub note_text : Note → Option (List ℕ)
 note_text (Line why) = Some (codes "hunkinfo: " ++ string_bytes why)
 note_text NotText = Some (codes "hunkinfo: a word of the command line is no UTF-8 text: give a file of such a name as standard input, as in hunkinfo show < FILE\n")
 note_text (Fault fault name cause untouched) = fault_note fault name cause untouched
-note_text Output = Some (said (codes "standard output") (codes "writing failed"))
+note_text Output = Some (said (codes "standard output") (codes "writing failed") None)
 note_text (LeftOut name stripped rest) = Some (codes "hunkinfo: " ++ (name ++ (codes ": left out: " ++ left_out_parts stripped rest)))
 
 -- ---- which note there is
