@@ -30,7 +30,7 @@ tells_noted outlet old new status None (inr found) = inr (inr (inr (inr found)))
 tells_noted outlet old new status (Some (Line why)) notes = inr (inl notes)
 tells_noted outlet old new status (Some NotText) notes = inr (inl notes)
 tells_noted outlet old new status (Some (Fault fault name cause untouched)) (is, takes) = inr (inr (inl (fault, is, takes)))
-tells_noted outlet old new status (Some Output) notes = inr (inr (inr (inl notes)))
+tells_noted outlet old new status (Some (Output cause)) notes = inr (inr (inr (inl notes)))
 tells_noted outlet old new status (Some (LeftOut name stripped rest)) notes = inl notes
 
 -- no status is above 4
@@ -49,7 +49,7 @@ bound_noted outlet old new status None (inr (bytes, text, is, found, takes)) = o
 bound_noted outlet old new status (Some (Line why)) (is, takes) = omega (arith, is)
 bound_noted outlet old new status (Some NotText) (is, takes) = omega (arith, is)
 bound_noted outlet old new status (Some (Fault fault name cause untouched)) (is, takes) = omega (arith, few_status fault, is)
-bound_noted outlet old new status (Some Output) (is, broken) = omega (arith, is)
+bound_noted outlet old new status (Some (Output cause)) (is, broken) = omega (arith, is)
 bound_noted outlet old new status (Some (LeftOut name stripped rest)) is = omega (arith, is)
 
 -- a fault has no status of a run that has done what it was to do

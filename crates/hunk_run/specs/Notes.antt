@@ -77,7 +77,8 @@ abbrev pub note_text : Note → Option (List ℕ)
 note_text (Line why) = Some (codes "hunkinfo: " ++ string_bytes why)
 note_text NotText = Some (codes "hunkinfo: a word of the command line is no UTF-8 text: give a file of such a name as standard input, as in hunkinfo show < FILE\n")
 note_text (Fault fault name cause untouched) = fault_note fault name cause untouched
-note_text Output = Some (said (codes "standard output") (codes "writing failed") None)
+note_text (Output (Some error)) = None
+note_text (Output None) = Some (said (codes "standard output") (codes "writing failed") None)
 note_text (LeftOut name stripped rest) = Some (codes "hunkinfo: " ++ (name ++ (codes ": left out: " ++ left_out_parts stripped rest)))
 
 -- ---- which note there is
@@ -88,7 +89,7 @@ Notes outlet old new status None = TellsFindings outlet old new status
 Notes outlet old new status (Some (Line why)) = (status ≡ 2) × Takes outlet old new (with_newline refused_line)
 Notes outlet old new status (Some NotText) = (status ≡ 2) × Takes outlet old new (with_newline refused_line)
 Notes outlet old new status (Some (Fault fault name cause untouched)) = (status ≡ status_of fault) × Takes outlet old new (with_newline (line_of fault))
-Notes outlet old new status (Some Output) = (status ≡ 3) × ((outlet new.sink).failed ≡ true)
+Notes outlet old new status (Some (Output cause)) = (status ≡ 3) × ((outlet new.sink).failed ≡ true)
 Notes outlet old new status (Some (LeftOut name stripped rest)) = status ≡ 0
 
 -- the input of an order, and its output; none is a standard stream
@@ -125,7 +126,15 @@ NamesFiles order _ = ⊤
 
 -- as when the output has failed
 abbrev pub output_failed : Ended
-output_failed = record { status = 3; note = Some Output }
+output_failed = record { status = 3; note = Some (Output None) }
+
+-- the same, and where the output has failed, what the system says of it
+abbrev pub note_with : Option Error → Option Note → Option Note
+note_with cause (Some (Output before)) = Some (Output cause)
+note_with cause note = note
+
+abbrev pub ended_with : Option Error → Ended → Ended
+ended_with cause ended = record { status = ended.status; note = note_with cause ended.note }
 
 -- by a fault
 abbrev pub fault_ended : RunFault → Option (List ℕ) → Option Error → Option (List ℕ) → Ended

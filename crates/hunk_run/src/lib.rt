@@ -18,7 +18,6 @@ ghost use Rattle.hunk_command_line.specs.Command.{hunkinfo};
 ghost use Rattle.hunk_command_line.specs.Line.{order_of, words_read};
 ghost use Rattle.hunk_run.specs.Runs.{IsOrderDone, PrintsNoHelp};
 
-mod heard;
 mod listing;
 mod note;
 mod rewriting;

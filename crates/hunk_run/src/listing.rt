@@ -9,12 +9,11 @@ ghost use Rattle.hunk_run.specs.Status.{TellsOutcome};
 ghost use Rattle.hunk_run.specs.Refusals.{StopsListing, StopsText};
 ghost use Rattle.hunk_run.specs.Runs.{Lists, ListsRead, ListsSource, ReadsNoText};
 
-use crate::heard::Heard;
 use crate::{DONE, FILE_BYTES};
 use hunk_command_line::FileName;
 use hunk_commands::{RunFault, read_hex, relocate, show, validate};
 use hunk_scatter::Limits;
-use hunk_words::{Fault, FromSlice, LongWriter, Sink, Source};
+use hunk_words::{Fault, FromRead, FromSlice, LongWriter, Sink, Source};
 use std::alloc::Global;
 use std::io::{BufReader, Read};
 use std::rt::Files;
@@ -74,7 +73,7 @@ fn list_reader<R: Read + Drop, W: Sink>(
     ensures done { IfOk result.0 (λ status. status ≡ 0
         → ListsRead W.outlet hex listing (R.remaining reader) out.old out.new) }
 {
-    let mut source = Heard::new(reader);
+    let mut source = FromRead::new(reader);
     let answer = if hex {
         list_text(alloc, listing, &mut source, out)
     } else {

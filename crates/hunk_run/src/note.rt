@@ -2,7 +2,7 @@
 ghost use Rattle.std.specs.Prelude.{◌≡◌, Some};
 ghost use Rattle.std.specs.Fmt.{DisplaysOnOk};
 ghost use Rattle.hunk_run.specs.Notes.{fault_note, note_text, output_failed, shown_name};
-ghost use Rattle.hunk_run.specs.Notes.{untouched_end};
+ghost use Rattle.hunk_run.specs.Notes.{ended_with, untouched_end};
 ghost use Rattle.hunk_run.specs.declared.note.Note.TheVariants.{LeftOut};
 
 use crate::verdict::Verdict;
@@ -44,7 +44,10 @@ pub enum Note {
         untouched: Option<FileName>,
     },
     /// Standard output failed.
-    Output,
+    Output {
+        /// What the system says of it.
+        cause: Option<io::Error>,
+    },
     /// Not all of the file of this name was written.
     LeftOut {
         /// The name of IN.
@@ -71,7 +74,21 @@ pub(crate) fn output_failed() -> Ended
 {
     Ended {
         status: 3,
-        note: Some(Note::Output),
+        note: Some(Note::Output { cause: None }),
+    }
+}
+
+impl Ended {
+    /// The same, and where standard output failed, what the system says of it.
+    pub fn with_cause(self, cause: Option<io::Error>) -> Ended
+        ensures { result ≡ ended_with cause self }
+    {
+        let Ended { status, note } = self;
+        let note = match note {
+            Some(Note::Output { cause: _ }) => Some(Note::Output { cause }),
+            other => other,
+        };
+        Ended { status, note }
     }
 }
 
@@ -98,7 +115,12 @@ impl fmt::Display for Note {
                 cause,
                 untouched,
             } => write_fault(f, *fault, name, cause, untouched),
-            Note::Output => write!(f, "hunkinfo: standard output: writing failed\n"),
+            Note::Output { cause: Some(error) } => {
+                write!(f, "hunkinfo: standard output: {error}\n")
+            }
+            Note::Output { cause: None } => {
+                write!(f, "hunkinfo: standard output: writing failed\n")
+            }
             Note::LeftOut {
                 name,
                 stripped,

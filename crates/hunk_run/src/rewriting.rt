@@ -11,14 +11,13 @@ ghost use Rattle.hunk_run.specs.OutFile.{HasTaken, TakesAll, TakesFirst};
 ghost use Rattle.hunk_run.specs.Runs.{TellsRewriting, rewritten_lines};
 ghost use Rattle.hunk_run.specs.Notes.{EndsOrFails, left_out_note, rewritten_ended};
 
-use crate::heard::Heard;
 use crate::note::{Ended, Note, output_failed};
 use crate::to_file::ToFile;
 use crate::{DONE, FILE_BYTES};
 use hunk_command_line::FileName;
 use hunk_commands::{Rewritten, RunFault, rewrite};
 use hunk_listing::print_rewriting;
-use hunk_words::{Failed, LongWriter, PagePrinter, Sink, Source};
+use hunk_words::{Failed, FromRead, LongWriter, PagePrinter, Sink, Source};
 use std::alloc::Global;
 use std::rt::Files;
 use std::{fs, io};
@@ -41,7 +40,7 @@ pub(crate) fn rewrite_file<T: Files>(
     ensures tells { IfOk result.0 (TellsRewriting strip) }
 {
     let mut source = match fs::open(rt, input.as_str()) {
-        Ok(file) => Heard::new(file),
+        Ok(file) => FromRead::new(file),
         Err(error) => return (Err(RunFault::Read { place: 0 }), Some(error)),
     };
     let out = ToFile::new(rt, output.as_str());

@@ -2,6 +2,9 @@
 use crate::tests::asserts::assert_equal_at;
 use crate::tests::made::Given;
 use crate::tests::{ANY, OTHER, ran};
+use hunk_run::{Ended, Note};
+use std::alloc::Global;
+use std::io;
 use std::process::Abort;
 use std::test::Fail;
 use test_helpers::{examples, spelled};
@@ -211,5 +214,39 @@ fn says_what_is_left_out(rt: HostRuntime) -> Result<(), Fail> {
         let ran = ran(rt.alloc(), given, ANY, line)?;
         assert_equal_at(&rt, ran.said.as_str(), *want, line);
     }
+    Ok(())
+}
+
+/// What is said at the end of a run whose status is 3, where the system says of standard output that
+/// a quota was exceeded.
+fn said_with_quota(alloc: Global, note: Note) -> Result<String, Fail> {
+    let ended = Ended {
+        status: 3,
+        note: Some(note),
+    };
+    let quota = io::Error::from(io::ErrorKind::QuotaExceeded);
+    match &ended.with_cause(Some(quota)).note {
+        Some(note) => Ok(format!(in alloc; "{note}")?),
+        None => Ok(String::new(alloc)),
+    }
+}
+
+#[test]
+fn says_why_the_output_failed(rt: HostRuntime) -> Result<(), Fail> {
+    let said = said_with_quota(rt.alloc(), Note::Output { cause: None })?;
+    assert_equal_at(
+        &rt,
+        said.as_str(),
+        "hunkinfo: standard output: quota exceeded\n",
+        "an output that failed",
+    );
+    let said = said_with_quota(rt.alloc(), Note::NotText)?;
+    assert_equal_at(
+        &rt,
+        said.as_str(),
+        "hunkinfo: a word of the command line is no UTF-8 text: give a file of such a name as standard \
+        input, as in hunkinfo show < FILE\n",
+        "another end",
+    );
     Ok(())
 }
