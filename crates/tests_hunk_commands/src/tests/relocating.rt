@@ -74,12 +74,7 @@ fn refused(place: u64, reason: Reason) -> RunFault {
 }
 
 /// Sees that it refuses a file of one hunk, whose header has 24 bytes, in the part where the place is.
-fn expect_refused_in(
-    rt: &(impl Abort + AllocGlobal),
-    bytes: &[u8],
-    place: u64,
-    reason: Reason,
-) {
+fn expect_refused_in(rt: &(impl Abort + AllocGlobal), bytes: &[u8], place: u64, reason: Reason) {
     let fault = Fault { place, reason };
     let part = if place < 24 {
         Part::Header
