@@ -70,7 +70,7 @@ const SAID: &[Row] = &[
         IN_HUNK_1,
         "hunkinfo relocate --base 00000000 a",
         ANY,
-        "hunkinfo: a: damaged: a relocated longword runs past the end of its hunk\n",
+        "hunkinfo: a: damaged in hunk 1: a relocated longword runs past the end of its hunk\n",
     ),
     (
         IN_HUNK_1,
