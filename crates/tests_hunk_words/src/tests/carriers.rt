@@ -78,6 +78,14 @@ impl Write for Stumbles {
     }
 }
 
+/// The kind of the error, if there is one.
+fn kind_of(error: Option<io::Error>) -> Option<io::ErrorKind> {
+    match error {
+        Some(error) => Some(error.kind()),
+        None => None,
+    }
+}
+
 #[test]
 fn a_push_writes_once(rt: HostRuntime) -> Result<(), Fail> {
     let mut sink = FromWrite::new(Stumbles { writes: 0 });
@@ -95,10 +103,23 @@ fn a_push_writes_once(rt: HostRuntime) -> Result<(), Fail> {
 fn nothing_is_tried_again(rt: HostRuntime) -> Result<(), Fail> {
     let mut buf = [0u8; 3];
     let mut source = FromRead::new(Interrupted::new(b"abc".as_slice(), 0));
+    assert_equal(&rt, kind_of(source.error()), None);
     assert_equal(&rt, source.pull(&mut buf), Err(Failed));
+    assert_equal(
+        &rt,
+        kind_of(source.error()),
+        Some(io::ErrorKind::Interrupted),
+    );
     for takes_none in [false, true] {
         let mut sink = FromWrite::new(Once::of(takes_none));
+        assert_equal(&rt, kind_of(sink.error()), None);
         assert_equal(&rt, sink.push(b"ab".as_slice()), Err(Failed));
+        let kind = if takes_none {
+            io::ErrorKind::WriteZero
+        } else {
+            io::ErrorKind::Interrupted
+        };
+        assert_equal(&rt, kind_of(sink.error()), Some(kind));
     }
     let mut out = LongWriter::new(Once::of(false));
     assert_equal(
