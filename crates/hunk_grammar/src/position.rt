@@ -156,26 +156,26 @@ impl Position {
                 owed,
             } => u64::from(owed) + 1,
             Position::Body(hunk, phase) => {
-                // An END is to come, and before it a block of content with its size.
-                let end = 3 - 2 * u64::from(hunk.has_content);
                 let hunks = 3 * u64::from(hunk.ahead);
+                // An END is to come, and before it a block of content with its size.
+                let blocks = 3 - 2 * u64::from(hunk.has_content) + hunks;
                 match phase {
-                    Phase::FirstBlock | Phase::BlockWord => end + hunks,
+                    Phase::FirstBlock | Phase::BlockWord => blocks,
                     Phase::NameCount
                     | Phase::LongCount
                     | Phase::GroupCount
                     | Phase::EntryWord
-                    | Phase::ExtWord => 1 + end + hunks,
-                    Phase::ContentSize | Phase::BssSize => 2 + hunks,
+                    | Phase::ExtWord => blocks + 1,
+                    Phase::ContentSize | Phase::BssSize => hunks + 2,
                     Phase::Content { longs: _, owed } => u64::from(owed) + 2 + hunks,
-                    Phase::Payload { owed } => u64::from(owed) + 1 + end + hunks,
+                    Phase::Payload { owed } => u64::from(owed) + 1 + blocks,
                     Phase::Offset { target: _, owed }
                     | Phase::Symbol { owed }
-                    | Phase::ExtRest { owed } => u64::from(owed) + 2 + end + hunks,
+                    | Phase::ExtRest { owed } => u64::from(owed) + 2 + blocks,
                     Phase::Target { owed } | Phase::ExtFront { owed } => {
-                        u64::from(owed) + 3 + end + hunks
+                        u64::from(owed) + 3 + blocks
                     }
-                    Phase::ExtCount => 2 + end + hunks,
+                    Phase::ExtCount => blocks + 2,
                 }
             }
             Position::Done => 0,

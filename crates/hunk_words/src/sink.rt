@@ -1,5 +1,5 @@
 //! What bytes are pushed to.
-ghost use Rattle.std.specs.Prelude.{◌≡◌, ◌<◌, ◌≤◌, ◌||◌, None, length, is_err, is_some, IfOk};
+ghost use Rattle.std.specs.Prelude.{◌≡◌, ◌<◌, ◌≤◌, ◌||◌, None, Some, length, is_err, is_some, IfOk};
 ghost use Rattle.std.specs.Io.KnownBytes.{WriteAppends};
 ghost use Rattle.hunk_words.specs.Carriers.{Outlet};
 
@@ -73,6 +73,15 @@ impl<W: Write> FromWrite<W> {
         self.error
     }
 
+    /// Keeps the error of a push.
+    #[inline(never)]
+    fn keep(&mut self, error: io::Error) -> Failed
+        ensures { self.new ≡ record { writer = self.old.writer; error = Some error } }
+    {
+        self.error = Some(error);
+        Failed
+    }
+
     /// Hands the writer back, as the pushes have left it.
     pub fn into_inner(self) -> W
         ensures { result ≡ self.writer }
@@ -88,14 +97,10 @@ impl<W: Write> Sink for FromWrite<W> {
     fn push(&mut self, bytes: &[u8]) -> Result<usize, Failed> {
         match self.writer.write(bytes) {
             Ok(0) if !bytes.is_empty() => {
-                self.error = Some(io::Error::from(io::ErrorKind::WriteZero));
-                Err(Failed)
+                Err(self.keep(io::Error::from(io::ErrorKind::WriteZero)))
             }
             Ok(n) => Ok(n),
-            Err(error) => {
-                self.error = Some(error);
-                Err(Failed)
-            }
+            Err(error) => Err(self.keep(error)),
         }
     }
 }

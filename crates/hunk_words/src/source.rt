@@ -88,6 +88,15 @@ impl<R: Read> FromRead<R> {
         self.error
     }
 
+    /// Keeps the error of a pull.
+    #[inline(never)]
+    fn keep(&mut self, error: io::Error) -> Failed
+        ensures { self.new ≡ record { reader = self.old.reader; error = Some error } }
+    {
+        self.error = Some(error);
+        Failed
+    }
+
     /// Hands the reader back, as the pulls have left it.
     pub fn into_inner(self) -> R
         ensures { result ≡ self.reader }
@@ -103,10 +112,7 @@ impl<R: Read> Source for FromRead<R> {
     fn pull(&mut self, buf: &mut [u8]) -> Result<usize, Failed> {
         match self.reader.read(buf) {
             Ok(n) => Ok(n),
-            Err(error) => {
-                self.error = Some(error);
-                Err(Failed)
-            }
+            Err(error) => Err(self.keep(error)),
         }
     }
 }
