@@ -81,6 +81,11 @@ note_text (Output (Some error)) = None
 note_text (Output None) = Some (said (codes "standard output") (codes "writing failed") None)
 note_text (LeftOut name stripped rest) = Some (codes "hunkinfo: " ++ (name ++ (codes ": left out: " ++ left_out_parts stripped rest)))
 
+-- the same, and where the output has failed, with what the system says of it
+abbrev pub note_with : Option Error → Note → Note
+note_with cause (Output before) = Output cause
+note_with cause note = note
+
 -- ---- which note there is
 
 -- The output has taken the line that goes with the note, and the status is the one of it. Without a note the status is 0, or findings were printed.
@@ -127,14 +132,6 @@ NamesFiles order _ = ⊤
 -- as when the output has failed
 abbrev pub output_failed : Ended
 output_failed = record { status = 3; note = Some (Output None) }
-
--- the same, and where the output has failed, what the system says of it
-abbrev pub note_with : Option Error → Option Note → Option Note
-note_with cause (Some (Output before)) = Some (Output cause)
-note_with cause note = note
-
-abbrev pub ended_with : Option Error → Ended → Ended
-ended_with cause ended = record { status = ended.status; note = note_with cause ended.note }
 
 -- by a fault
 abbrev pub fault_ended : RunFault → Option (List ℕ) → Option Error → Option (List ℕ) → Ended

@@ -79,7 +79,11 @@ fn list_reader<R: Read + Drop, W: Sink>(
     } else {
         list_bytes(alloc, listing, &mut source, out)
     };
-    (answer, source.error())
+    let cause = match answer {
+        Ok(_) => None,
+        Err(_) => source.error(),
+    };
+    (answer, cause)
 }
 
 /// The same of the bytes that the source's text spells.

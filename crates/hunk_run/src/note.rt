@@ -2,7 +2,7 @@
 ghost use Rattle.std.specs.Prelude.{◌≡◌, Some};
 ghost use Rattle.std.specs.Fmt.{DisplaysOnOk};
 ghost use Rattle.hunk_run.specs.Notes.{fault_note, note_text, output_failed, shown_name};
-ghost use Rattle.hunk_run.specs.Notes.{ended_with, untouched_end};
+ghost use Rattle.hunk_run.specs.Notes.{note_with, untouched_end};
 ghost use Rattle.hunk_run.specs.declared.note.Note.TheVariants.{LeftOut};
 
 use crate::verdict::Verdict;
@@ -78,17 +78,15 @@ pub(crate) fn output_failed() -> Ended
     }
 }
 
-impl Ended {
-    /// The same, and where standard output failed, what the system says of it.
-    pub fn with_cause(self, cause: Option<io::Error>) -> Ended
-        ensures { result ≡ ended_with cause self }
+impl Note {
+    /// The same, and where standard output failed, with what the system says of it.
+    pub fn with_cause(self, cause: Option<io::Error>) -> Note
+        ensures { result ≡ note_with cause self }
     {
-        let Ended { status, note } = self;
-        let note = match note {
-            Some(Note::Output { cause: _ }) => Some(Note::Output { cause }),
+        match self {
+            Note::Output { cause: _ } => Note::Output { cause },
             other => other,
-        };
-        Ended { status, note }
+        }
     }
 }
 

@@ -23,8 +23,8 @@ fn main(rt: HostRuntime) -> ExitCode {
         Ok(words) => hunk_run::run(&rt, rt.alloc(), words.as_slice(), &mut out),
         Err(fault) => hunk_run::refuse(fault, &mut out),
     };
-    let ended = ended.with_cause(out.into_inner().error());
-    if let Some(note) = &ended.note {
+    if let Some(note) = ended.note {
+        let note = note.with_cause(out.into_inner().error());
         // A standard error that fails changes nothing.
         let _ = eprint!(rt; "{note}");
     }

@@ -2,7 +2,7 @@
 use crate::tests::asserts::assert_equal_at;
 use crate::tests::made::Given;
 use crate::tests::{ANY, OTHER, ran};
-use hunk_run::{Ended, Note};
+use hunk_run::Note;
 use std::alloc::Global;
 use std::io;
 use std::process::Abort;
@@ -217,18 +217,11 @@ fn says_what_is_left_out(rt: HostRuntime) -> Result<(), Fail> {
     Ok(())
 }
 
-/// What is said at the end of a run whose status is 3, where the system says of standard output that
-/// a quota was exceeded.
+/// What is said, where the system says of standard output that a quota was exceeded.
 fn said_with_quota(alloc: Global, note: Note) -> Result<String, Fail> {
-    let ended = Ended {
-        status: 3,
-        note: Some(note),
-    };
     let quota = io::Error::from(io::ErrorKind::QuotaExceeded);
-    match &ended.with_cause(Some(quota)).note {
-        Some(note) => Ok(format!(in alloc; "{note}")?),
-        None => Ok(String::new(alloc)),
-    }
+    let note = note.with_cause(Some(quota));
+    Ok(format!(in alloc; "{note}")?)
 }
 
 #[test]
@@ -246,7 +239,7 @@ fn says_why_the_output_failed(rt: HostRuntime) -> Result<(), Fail> {
         said.as_str(),
         "hunkinfo: a word of the command line is no UTF-8 text: give a file of such a name as standard \
         input, as in hunkinfo show < FILE\n",
-        "another end",
+        "another note",
     );
     Ok(())
 }
