@@ -2,6 +2,7 @@
 #![tactic(auto)]
 
 use hunk_command_line::OrderFault;
+use hunk_run::Ended;
 use hunk_words::{FromWrite, LongWriter};
 use std::process::ExitCode;
 use std::{env, io};
@@ -19,14 +20,15 @@ fn words_of(rt: &HostRuntime) -> Result<Vec<String>, OrderFault> {
 
 fn main(rt: HostRuntime) -> ExitCode {
     let mut out = LongWriter::new(FromWrite::new(io::writer(&rt)));
-    let ended = match words_of(&rt) {
+    let Ended { status, note } = match words_of(&rt) {
         Ok(words) => hunk_run::run(&rt, rt.alloc(), words.as_slice(), &mut out),
         Err(fault) => hunk_run::refuse(fault, &mut out),
     };
-    if let Some(note) = ended.note {
-        let note = note.with_cause(out.into_inner().error());
-        // A standard error that fails changes nothing.
-        let _ = eprint!(rt; "{note}");
-    }
-    ExitCode::from(ended.status)
+    let Some(note) = note else {
+        return ExitCode::from(status);
+    };
+    let note = note.with_cause(out.into_inner().error());
+    // A standard error that fails changes nothing.
+    let _ = eprint!(rt; "{note}");
+    ExitCode::from(status)
 }
