@@ -203,23 +203,33 @@ struct hunk_place {
     uint32_t base;  /* the address of its first byte */
 };
 
-/* Where a loader stands: 96 bytes, which a program just stores. Any numbers are safe here: zero
- * bytes are answered by HUNK_STRANGE, and so are those with which a call would leave the places or
- * the memory. Other numbers that no loader can have may go undetected. */
+/* Where a loader stands: 96 bytes, which a program just stores. Any numbers are safe here. Where
+ * one of them is not as it says beside it, each call answers HUNK_STRANGE, as it does to zero
+ * bytes. So does hunk_feed where they do not fit its places and its memory. Other numbers that no
+ * loader can have may go undetected. */
 struct hunk_loader {
-    uint64_t start;        /* the byte of the memory where the open hunk begins */
-    uint64_t fed;          /* the bytes of header and body that were taken */
-    uint64_t place;        /* after a refusal, its byte */
-    uint32_t refused;      /* the number of its reason; 0 where there was none */
-    uint32_t refused_hunk; /* the hunk of its answer */
+    uint64_t start;        /* the byte of the memory where the open hunk begins, a multiple of 4;
+                            * after the last, the bytes of all */
+    uint64_t fed;          /* the bytes of header and body that were taken, 2^64 - 1 at most; where
+                            * they are fewer, their remainder by 4 is pending. 20 at least, and 4
+                            * for each hunk of the file; after the last, 16 for each */
+    uint64_t place;        /* after a refusal, its byte, a multiple of 4; else 0 */
+    uint32_t refused;      /* the number of its reason, HUNK_LIBRARY, or HUNK_BOTH_BITS to
+                            * HUNK_BAD_OFFSET; 0 where there was none */
+    uint32_t refused_hunk; /* the hunk of its answer: 0 */
     uint32_t hunk;         /* how many hunks are complete: the open one's number, from 0 */
-    uint32_t hunks;        /* the hunks of the file; 0 after the last */
-    uint32_t ahead;        /* the hunks after the open one */
-    uint32_t has_content;  /* 1 where the open hunk has its content, else 0 */
+    uint32_t hunks;        /* the hunks of the file, 65,536 at most: hunk + 1 + ahead; 0 after the
+                            * last, where hunk has them */
+    uint32_t ahead;        /* the hunks after the open one; 0 after the last */
+    uint32_t has_content;  /* 1 where the open hunk has its content, as in phases 9 to 11; else 0,
+                            * as in phases 1 and 5 to 7, and after the last */
     uint32_t phase;        /* what the next longword is for, 1 to 13; 14 after the last */
-    uint32_t part;         /* the longwords of a content; the target of offsets */
-    uint32_t owed;         /* how many longwords of its kind follow the next */
-    uint8_t pending;       /* the bytes of the next longword that have come, 0 to 3 */
+    uint32_t part;         /* the longwords of a content, below 2^30, in phase 7; the target of
+                            * offsets, a hunk of the file, in phase 11; else 0 */
+    uint32_t owed;         /* how many longwords of its kind follow the next: fewer than part in
+                            * phase 7, fewer than 2^24 in phase 13, any in 8, 10 and 11; else 0 */
+    uint8_t pending;       /* the bytes of the next longword that have come, 0 to 3; 0 after the
+                            * last */
     uint8_t first;         /* and which */
     uint8_t second;
     uint8_t third;
@@ -258,7 +268,9 @@ struct hunk_answer hunk_begin(struct hunk_loader *loader, const struct hunk_plac
  *               bytes of header and body so far, 2^64 - 1 at most; hunk: the hunks that are whole.
  *               The memory is as the longwords so far leave it.
  * HUNK_STRANGE  the loader's numbers are none that a loader with these places and this memory may
- *               have. hunk, place and count are 0. The loader is as it was; the memory may not be.
+ *               have: they are not as it says beside them, the places are not as many as hunks, or
+ *               the open hunk, or one that the piece opens, does not lie in the memory. hunk, place
+ *               and count are 0. The loader is as it was; the memory may not be.
  * Else the first fault of the file, HUNK_LIBRARY, or HUNK_BOTH_BITS to HUNK_BAD_OFFSET; place: the
  * byte of the longword that is refused, from the start of the file, or 2^64 - 4 where that is more.
  * The contents of the memory are then unspecified. Each later call with this loader answers the

@@ -1,11 +1,9 @@
 /* Load files piece by piece: streams BASE FILE.. feeds each in pieces of several lengths, and compares
- * with hunk_load; then it hands in loaders of any numbers, with memory between two pages that fault.
- * Status 1 where an answer, or what it leaves in the caller's memory, is not what hunk.h says. */
+ * with hunk_load. Status 1 where an answer, or what it leaves in the caller's memory, is not what hunk.h says. */
 #include "guarded.h"
 
 #define BUDGET (UINT64_C(1) << 24)
 #define MOST_HUNKS 65536
-#define LOADERS 2000000
 
 static struct guarded file_bytes = {1 << 20, NULL};
 static struct guarded row_room = {MOST_HUNKS * sizeof(struct hunk_row), NULL};
@@ -218,119 +216,6 @@ static void streamed(const struct streamed *f, size_t most)
     expect(same(behind, none), f->name, "behind the end of a stream");
 }
 
-static uint64_t any(void)
-{
-    static uint64_t seed = 88172645463325252u;
-    seed ^= seed << 13;
-    seed ^= seed >> 7;
-    seed ^= seed << 17;
-    return seed;
-}
-
-/* Small numbers, those next to the largest, and any. */
-static uint64_t number(void)
-{
-    switch (any() % 4) {
-    case 0:
-        return any() % 16;
-    case 1:
-        return any() % 256;
-    case 2:
-        return UINT64_MAX - any() % 64;
-    default:
-        return any();
-    }
-}
-
-static void put_numbers(struct hunk_loader *l)
-{
-    l->start = any() % 2 ? 4 * (any() % 32) : number();
-    l->fed = number();
-    l->place = number();
-    l->refused = any() % 8 ? 0 : (uint32_t)number();
-    l->refused_hunk = (uint32_t)number();
-    l->hunk = (uint32_t)(any() % 8 ? any() % 4 : number());
-    l->hunks = (uint32_t)(any() % 2 ? any() % 4 : number());
-    l->ahead = (uint32_t)(any() % 2 ? any() % 4 : number());
-    l->has_content = (uint32_t)(any() % 8 ? any() % 2 : number());
-    l->phase = (uint32_t)(any() % 16 ? any() % 16 : number());
-    l->part = (uint32_t)number();
-    l->owed = (uint32_t)number();
-    l->pending = (uint8_t)(any() % 8 ? any() % 4 : any());
-    l->first = (uint8_t)(any() % 4 ? 0 : any());
-    l->second = (uint8_t)(any() % 4 ? 0 : any());
-    l->third = (uint8_t)(any() % 4 ? 0 : any());
-    for (size_t i = 0; i < 4; i++)
-        l->reserved[i] = any() % 2 ? 0 : number();
-}
-
-/* A loader of any numbers is fed: how it answers, and that a fault stays. */
-static uint32_t fed_any(uint8_t *memory, size_t len)
-{
-    struct hunk_loader *l = marked(&loader_room, sizeof *l);
-    size_t hunks = any() % 4, size = any() % 13;
-    struct hunk_place *places = marked(&place_room, hunks * sizeof *places);
-    uint8_t *piece = marked(&piece_room, size);
-    for (size_t h = 0; h < hunks; h++) {
-        struct hunk_place place = {(uint32_t)(any() % 8 ? any() % 16 : number()), 0, 0};
-        places[h] = place;
-    }
-    for (size_t i = 0; i < size; i++)
-        piece[i] = any() % 4 ? 0 : (uint8_t)any();
-    put_numbers(l);
-    struct hunk_loader old = *l;
-    struct hunk_answer a = hunk_feed(l, places, hunks, memory, len, piece, size);
-    struct hunk_loader new = *l;
-    struct hunk_answer end = hunk_end(l);
-    memset(l->reserved, MARK, sizeof l->reserved);
-    expect(same(hunk_end(l), end), "any numbers", "the end whatever is reserved");
-    *l = new;
-    struct hunk_answer want = hunk_want(l);
-    if (new.refused == 0 && end.number != HUNK_STRANGE)
-        expect(want.number == HUNK_OK && want.place == new.fed && want.hunk == new.hunk,
-               "any numbers", "where more is wanted");
-    else
-        expect(same(want, end), "any numbers", "what is wanted at the end");
-    expect(memcmp(l, &new, sizeof new) == 0, "any numbers", "no number is changed");
-    if (a.number == HUNK_STRANGE) {
-        struct hunk_answer strange = {HUNK_STRANGE, 0, 0, 0};
-        expect(same(a, strange), "any numbers", "the answer to strange ones");
-        expect(memcmp(&old, &new, sizeof old) == 0, "any numbers", "strange ones are kept");
-    } else if (a.number == HUNK_OK) {
-        expect(a.count <= size && a.place == new.fed, "any numbers", "what was taken");
-        expect(is_unused(&new), "any numbers", "what is reserved");
-        expect(end.number == HUNK_OK || end.number == HUNK_TRUNCATED, "any numbers", "the end");
-        expect((want.count == 0) == (end.number == HUNK_OK), "any numbers", "more is wanted");
-    } else {
-        struct hunk_answer again = hunk_feed(l, places, hunks, memory, len, piece, size);
-        expect(same(a, again) && same(a, end), "any numbers", "the same fault again");
-        expect(memcmp(l, &new, sizeof new) == 0, "any numbers", "the loader after a fault");
-    }
-    return a.number;
-}
-
-/* Loaders of any numbers, with memory at either end of what lies between two pages that fault. */
-static int any_numbers(void)
-{
-    static uint32_t counts[HUNK_STRANGE + 1];
-    uint8_t *at = mmap(NULL, 3 * PAGE, PROT_NONE, MAP_PRIVATE | MAP_ANONYMOUS, -1, 0);
-    if (at == MAP_FAILED || mprotect(at + PAGE, PAGE, PROT_READ | PROT_WRITE) != 0)
-        return 0;
-    for (long i = 0; i < LOADERS; i++) {
-        size_t len = any() % 129;
-        uint32_t told = fed_any(at + PAGE + (any() % 2 ? 0 : PAGE - len), len);
-        if (told > HUNK_STRANGE)
-            expect(0, "any numbers", "a number that no call answers");
-        else
-            counts[told]++;
-    }
-    /* All three kinds have to be among them. */
-    expect(counts[HUNK_OK] > LOADERS / 100, "any numbers", "some are taken");
-    expect(counts[HUNK_STRANGE] > LOADERS / 100, "any numbers", "some are strange");
-    expect(counts[HUNK_BAD_OFFSET] > 100, "any numbers", "some refuse an offset");
-    return 1;
-}
-
 int main(int argc, char **argv)
 {
     static const size_t lengths[] = {1, 4, 13, 40, 121, 364};
@@ -354,5 +239,5 @@ int main(int argc, char **argv)
         fed_as_wanted(&f);
     }
     expect(whole > 100 && cut > 100 && faults > 100, "files", "whole, cut and refused ones");
-    return !any_numbers() || failures > 0;
+    return failures > 0;
 }

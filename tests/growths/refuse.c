@@ -1,7 +1,8 @@
 /*
  * Refuses a program its memory: the growth whose number REFUSE gives, counted from 1. Where COUNT names a file, the
- * number of growths and of the bytes that were asked for is written to it at the end. A reallocation that fits in what
- * was given is no growth. Made for the GNU C library, by `cc -shared -fPIC`, and put before a program by LD_PRELOAD.
+ * number of growths, the bytes that were asked for, and those of the largest growth are written to it at the end. A
+ * reallocation that fits in what was given is no growth. Made for the GNU C library, by `cc -shared -fPIC`, and put before
+ * a program by LD_PRELOAD.
  */
 #define _GNU_SOURCE
 #include <dlfcn.h>
@@ -14,7 +15,7 @@
 
 static void *(*give)(size_t);
 static void *(*give_again)(void *, size_t);
-static long count, bytes, refused;
+static long count, bytes, largest, refused;
 
 static void begin(void)
 {
@@ -33,6 +34,8 @@ static int is_refused(size_t size)
     begin();
     count++;
     bytes += size;
+    if (largest < (long)size)
+        largest = size;
     if (count != refused)
         return 0;
     errno = ENOMEM;
@@ -54,13 +57,13 @@ void *realloc(void *old, size_t size)
 
 __attribute__((destructor)) static void end(void)
 {
-    char text[48];
+    char text[64];
     const char *path = getenv("COUNT");
     int length, file;
 
     if (!path)
         return;
-    length = snprintf(text, sizeof text, "%ld %ld\n", count, bytes);
+    length = snprintf(text, sizeof text, "%ld %ld %ld\n", count, bytes, largest);
     file = open(path, O_WRONLY | O_CREAT | O_TRUNC, 0666);
     if (file < 0 || write(file, text, length) != length)
         _exit(99);

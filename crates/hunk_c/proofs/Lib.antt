@@ -1,8 +1,12 @@
+pub mod AnsweredNumbers
 pub mod Checked
 pub mod Filling
 pub mod Loaded
+pub mod MayStand
+pub mod Numbers
 pub mod OneFile
 pub mod Packing
+pub mod Passing
 pub mod Streamed
 pub mod Succeeding
 pub mod TableRows

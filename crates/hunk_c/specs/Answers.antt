@@ -1,9 +1,10 @@
 -- What calls answer.
-use Rattle.std.specs.Prelude.{ℕ}
+use Rattle.std.specs.Prelude.{ℕ, Bool, ◌||◌, ◌==◌}
 use Rattle.hunk_words.specs.Reasons.{number_of}
 use Rattle.hunk_words.specs.declared.fault.Fault.{Fault}
 use Rattle.hunk_words.specs.declared.reason.Reason.{Reason}
 use Rattle.hunk_words.specs.declared.reason.Reason.TheVariants as reasons
+use Rattle.hunk_scatter.specs.LoaderReasons.{between}
 use Rattle.hunk_c.specs.declared.answer.Answer.{Answer}
 
 -- the hunk that a reason names; 0 of most
@@ -32,16 +33,18 @@ done hunks place count = record { number = 0; hunk = hunks; place = place; count
 
 -- ---- the numbers of a loader
 
--- the largest number of a reason
-abbrev pub last_reason : ℕ
-last_reason = 31
-
 -- the number that says that they are none that it may have
 abbrev pub strange_number : ℕ
 strange_number = 33
 
 abbrev pub strange : Answer
 strange = record { number = strange_number; hunk = 0; place = 0; count = 0 }
+
+-- ---- all numbers
+
+-- those that calls answer: 0, those of reasons but Advisory, FileLimit, Read and OutOfMemory, NoRoom and Strange
+abbrev pub is_answered : ℕ → Bool
+is_answered n = between 0 9 n || between 11 27 n || n == 29 || n == no_room_number || n == strange_number
 
 -- ---- the interface
 

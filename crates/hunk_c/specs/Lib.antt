@@ -6,6 +6,7 @@ pub mod Counting
 pub mod Entries
 pub mod Files
 pub mod Listing
+pub mod Loaders
 pub mod Loads
 pub mod Names
 pub mod Packs

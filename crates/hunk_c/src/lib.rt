@@ -10,6 +10,7 @@ mod blocks;
 mod check;
 mod entries;
 mod file;
+mod laws;
 mod load;
 mod loader;
 mod name;
@@ -30,6 +31,10 @@ pub use crate::answer::Answer;
 pub use crate::blocks::{BlockRow, hunk_blocks};
 pub use crate::check::{FindingRow, hunk_check};
 pub use crate::entries::{EntryRow, hunk_entries};
+pub use crate::laws::{
+    answered_numbers, answered_numbers_of_items, longest_words, room_for_stripped,
+    strange_after_no_begin,
+};
 pub use crate::load::{hunk_load, hunk_load_packed};
 pub use crate::loader::Loader;
 pub use crate::reason::{hunk_reason, hunk_reason_text};

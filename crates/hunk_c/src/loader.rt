@@ -1,14 +1,26 @@
 //! A loader in numbers, which its caller keeps.
-ghost use Rattle.std.specs.Prelude.{◌≡◌, true, false, Some, IfSome, MatchOption};
-ghost use Rattle.hunk_grammar.specs.Positions.{is_done};
-ghost use Rattle.hunk_c.specs.Streams.{PassesOver, TellsAgain, is_external, loader_position, phase_in};
-ghost use Rattle.hunk_c.specs.Streams.{position_in, refusing, standing_of, stands_in_body, unused};
-ghost use Rattle.hunk_c.specs.Streams.{whole};
+ghost use Rattle.std.specs.Prelude.{◌≡◌, ◌+◌, ◌≤◌, false, true, ℕ, List, IfErr, IfOk};
+ghost use Rattle.std.specs.Prelude.{MatchOption};
+ghost use Rattle.hunk_words.specs.declared.fault.Fault.{Fault};
+ghost use Rattle.hunk_grammar.specs.declared.position.Position.{Position};
+ghost use Rattle.hunk_grammar.specs.declared.position.Position.TheVariants as positions;
+ghost use Rattle.hunk_files.specs.declared.row.Row.{Row};
+ghost use Rattle.hunk_scatter.specs.Streaming.{IsFed};
+ghost use Rattle.hunk_scatter.specs.declared.stream.Standing.{Standing};
+ghost use Rattle.hunk_c.specs.Loaders.{CountsBytes, MayHavePosition, MayHaveStood, OwesByPhase};
+ghost use Rattle.hunk_c.specs.Streams.{PassesOver};
+ghost use Rattle.hunk_c.specs.Loaders.{StandsAt, TellsAgain, TellsFault, TellsNone};
+ghost use Rattle.hunk_c.specs.Loaders.{hunk_of};
+ghost use Rattle.hunk_c.specs.Loaders.{least_file, loader_at, loader_position};
+ghost use Rattle.hunk_c.specs.Loaders.{open_hunk, phase_in};
+ghost use Rattle.hunk_c.specs.Loaders.{phase_numbers, position_numbers, refusing, standing_in};
+ghost use Rattle.hunk_c.specs.Loaders.{unrefused, unused, whole};
 
 use crate::answer::{Answer, refused, strange};
+use hunk_files::Row;
 use hunk_grammar::{OpenHunk, Phase, Position};
 use hunk_scatter::stream::{BodyState, Pending, Standing};
-use hunk_words::Fault;
+use hunk_words::{CONTENT_LIMIT, Fault, MOST_HUNKS, NAME_LIMIT, Reason};
 
 /// Where a loader stands between two pieces: 96 bytes, with no padding.
 ///
@@ -83,16 +95,11 @@ const PAYLOAD: u32 = 8;
 /// The phase of a loader whose file is whole.
 const WHOLE: u32 = 14;
 
-/// The number of the last reason.
-const LAST_REASON: u32 = 31;
-
 impl Loader {
     /// The numbers of where a loader stands.
+    #[inline(always)]
     pub(crate) fn of(at: Standing) -> Loader
-        ensures standing { stands_in_body at.state.position ≡ true → standing_of result ≡ Some at }
-        ensures ends { is_done at.state.position ≡ true → result.phase ≡ whole }
-        ensures unrefused { result.refused ≡ 0 }
-        ensures reserved { result.reserved ≡ unused }
+        ensures { result ≡ loader_at at }
     {
         let (hunk, phase, part, owed) = numbers_of(at.state.position);
         Loader {
@@ -104,7 +111,7 @@ impl Loader {
             hunk: at.state.hunk,
             hunks: hunk.hunks,
             ahead: hunk.ahead,
-            has_content: if hunk.has_content { 1 } else { 0 },
+            has_content: u32::from(hunk.has_content),
             phase,
             part,
             owed,
@@ -130,51 +137,119 @@ impl Loader {
         }
     }
 
-    /// The answer of an earlier refusal; none where no longword was refused.
-    pub(crate) fn refusal(&self) -> Option<Answer>
-        ensures { MatchOption result (self.now.refused ≡ 0) (TellsAgain self.now) }
+    /// Where the loader stands.
+    ///
+    /// # Errors
+    ///
+    /// What each call answers to it: the refusal again, where it has refused a longword; `STRANGE`
+    /// where no loader has these numbers.
+    pub(crate) fn standing(&self) -> Result<Standing, Answer>
+        ensures stands { IfOk result (StandsAt self.now) }
+        ensures tells { IfErr result (TellsAgain self.now) }
     {
-        if self.refused == 0 {
-            return None;
+        let Some(position) = self.position() else {
+            return Err(strange());
+        };
+        if !self.has_stood() {
+            return Err(strange());
         }
-        if self.refused > LAST_REASON {
-            return Some(strange());
+        if self.is_clean() {
+            return Ok(self.standing_at(position));
         }
-        Some(Answer {
-            number: self.refused,
-            hunk: self.refused_hunk,
-            place: self.place,
-            count: 0,
-        })
+        match self.fault() {
+            Some(fault) => Err(refused(fault)),
+            None => Err(strange()),
+        }
     }
 
-    /// The loader behind the piece, where that is longwords of a payload, and more of it is to come:
-    /// no test looks at them. `None` where it is anything else.
+    /// Passes over the piece, where that is longwords of a payload, and more of it is to come: no
+    /// test looks at them. Whether it did; it does not where no loader stands so.
     #[inline(always)]
-    pub(crate) fn pass_payload(&self, piece: &[u8]) -> Option<Loader>
-        ensures { IfSome result (λ to. PassesOver self.now to piece.now) }
+    pub(crate) fn pass_payload(&mut self, rows: &[Row], total: usize, piece: &[u8]) -> bool
+        ensures passes { result ≡ true → PassesOver rows.now total self.old piece.now self.new }
+        ensures stays { result ≡ false → self.new ≡ self.old }
     {
         if self.phase != PAYLOAD || self.pending > 0 || piece.len() % 4 > 0 {
-            return None;
+            return false;
         }
         let longs = piece.len() / 4;
         if longs == 0 || longs > self.owed as usize {
-            return None;
+            return false;
         }
-        Some(Loader {
-            fed: self.fed.saturating_add(piece.len() as u64),
-            owed: self.owed - longs as u32,
-            reserved: UNUSED,
-            ..*self
-        })
+        if !self.is_clean() || !self.counts_bytes() || !self.may_be_open() {
+            return false;
+        }
+        let phase = Phase::Payload { owed: self.owed };
+        let position = Position::Body(self.open_hunk(), phase);
+        if !self.standing_at(position).fits(rows, total) {
+            return false;
+        }
+        self.fed = self.fed.saturating_add(piece.len() as u64);
+        self.owed -= longs as u32;
+        self.reserved = UNUSED;
+        true
     }
 
-    /// Where the loader stands; `None` where its numbers give no position.
-    pub(crate) fn standing(&self) -> Option<Standing>
-        ensures { result ≡ standing_of self.now }
+    /// Takes a byte that completes no longword. Whether it did; it does not where the piece is
+    /// anything else, or no loader with these rows and this memory stands so.
+    #[inline(always)]
+    pub(crate) fn pass_byte(&mut self, rows: &[Row], total: usize, piece: &[u8]) -> bool
+        ensures passes { result ≡ true → PassesOver rows.now total self.old piece.now self.new }
+        ensures stays { result ≡ false → self.new ≡ self.old }
     {
-        let position = self.position()?;
-        Some(Standing {
+        if piece.len() != 1 || self.pending > 2 || self.phase == WHOLE {
+            return false;
+        }
+        if !self.is_clean() || !self.has_stood() {
+            return false;
+        }
+        let Some(position) = self.position() else {
+            return false;
+        };
+        let at = self.standing_at(position);
+        if !at.fits(rows, total) {
+            return false;
+        }
+        let (pending, _) = at.pending.take(piece[0]);
+        self.fed = self.fed.saturating_add(1);
+        self.pending = pending.count;
+        self.first = pending.first;
+        self.second = pending.second;
+        self.third = pending.third;
+        self.reserved = UNUSED;
+        true
+    }
+
+    /// Whether the numbers tell no refusal.
+    #[inline(always)]
+    fn is_clean(&self) -> bool
+        ensures sound { result ≡ true → TellsNone self.now }
+        ensures complete { TellsNone self.now → result ≡ true }
+    {
+        self.place == 0 && self.refused == 0 && self.refused_hunk == 0
+    }
+
+    /// Whether a loader may stand so, or have stood so before a refusal.
+    #[inline(never)]
+    fn has_stood(&self) -> bool
+        ensures sound { result ≡ true → MayHaveStood self.now }
+        ensures complete { MayHaveStood self.now → result ≡ true }
+    {
+        if !self.counts_bytes() {
+            return false;
+        }
+        if self.phase == WHOLE {
+            return self.may_be_whole();
+        }
+        self.may_be_open()
+    }
+
+    /// Where the loader stands at this position, by its other numbers.
+    #[inline(always)]
+    fn standing_at(&self, position: Position) -> Standing
+        ensures { result ≡ standing_in self.now position }
+    {
+        Standing {
             state: BodyState {
                 start: self.start,
                 hunk: self.hunk,
@@ -187,28 +262,152 @@ impl Loader {
                 second: self.second,
                 third: self.third,
             },
+        }
+    }
+
+    /// The refusal that the numbers tell; `None` where they tell none of a longword of a body.
+    fn fault(&self) -> Option<Fault>
+        ensures { MatchOption result ((fault : Fault) → TellsFault self.now fault → ⊥)
+            (TellsFault self.now) }
+    {
+        let is_of_body = match self.refused {
+            3 | 9 | 11..=24 => true,
+            _ => false,
+        };
+        if !is_of_body || self.refused_hunk > 0 || self.place % 4 > 0 {
+            return None;
+        }
+        let reason = Reason::from_number(self.refused)?;
+        Some(Fault {
+            place: self.place,
+            reason,
         })
     }
 
-    /// What the next longword is for.
+    /// Whether bytes are pending as they were fed, after whole longwords.
+    #[inline(always)]
+    fn counts_bytes(&self) -> bool
+        ensures sound { result ≡ true → CountsBytes self.now.start self.now.fed self.now.pending }
+        ensures complete { CountsBytes self.now.start self.now.fed self.now.pending
+            → result ≡ true }
+    {
+        if self.start % 4 > 0 {
+            return false;
+        }
+        if self.fed % 4 == u64::from(self.pending) {
+            return true;
+        }
+        self.fed == u64::MAX && self.pending < 4
+    }
+
+    /// What the next longword is for, as the number of the phase tells it.
+    #[inline(always)]
     fn position(&self) -> Option<Position>
         ensures { result ≡ loader_position self.now }
     {
         if self.phase == WHOLE {
             return Some(Position::Done);
         }
-        let hunk = OpenHunk {
+        let phase = phase_in(self.phase, self.part, self.owed)?;
+        Some(Position::Body(self.open_hunk(), phase))
+    }
+
+    /// Whether a loader may have these numbers where the file is whole.
+    #[inline(always)]
+    fn may_be_whole(&self) -> bool
+        requires { self.now.phase ≡ whole }
+        ensures sound { result ≡ true → MayHavePosition self.now positions.Done }
+        ensures complete { MayHavePosition self.now positions.Done → result ≡ true }
+    {
+        let is_closed = self.hunks == 0 && self.ahead == 0 && self.has_content == 0;
+        let owes_none = self.part == 0 && self.owed == 0 && self.pending == 0;
+        if !is_closed || !owes_none || self.hunk == 0 || self.hunk > MOST_HUNKS {
+            return false;
+        }
+        least_file(self.hunk) <= self.fed
+    }
+
+    /// The hunk that is open.
+    #[inline(always)]
+    fn open_hunk(&self) -> OpenHunk
+        ensures { result ≡ open_hunk self.now }
+    {
+        OpenHunk {
             hunks: self.hunks,
             ahead: self.ahead,
             has_content: self.has_content == 1,
-        };
-        let phase = phase_in(self.phase, self.part, self.owed)?;
-        Some(Position::Body(hunk, phase))
+        }
+    }
+
+    /// Whether a loader may have these numbers where a hunk is open.
+    #[inline(always)]
+    fn may_be_open(&self) -> bool
+        ensures sound { result ≡ true → MatchOption (phase_in self.now.phase self.now.part
+            self.now.owed) ⊥ (λ phase. MayHavePosition self.now (positions.Body (open_hunk self.now)
+            phase)) }
+        ensures complete { MatchOption (phase_in self.now.phase self.now.part self.now.owed) ⊥
+            (λ phase. MayHavePosition self.now (positions.Body (open_hunk self.now) phase))
+            → result ≡ true }
+    {
+        if self.has_content > 1 || self.hunks > MOST_HUNKS {
+            return false;
+        }
+        if u64::from(self.hunk) + 1 + u64::from(self.ahead) != u64::from(self.hunks) {
+            return false;
+        }
+        4 * (5 + u64::from(self.hunks)) <= self.fed && self.may_owe()
+    }
+
+    /// Whether so much may be owed at this phase.
+    #[inline(always)]
+    fn may_owe(&self) -> bool
+        ensures sound { result ≡ true → OwesByPhase self.now }
+        ensures complete { OwesByPhase self.now → result ≡ true }
+    {
+        let owes_none = self.part == 0 && self.owed == 0;
+        match self.phase {
+            1 => owes_none && self.has_content != 1,
+            2 => owes_none,
+            3 => owes_none,
+            4 => owes_none,
+            5 => owes_none && self.has_content != 1,
+            6 => owes_none && self.has_content != 1,
+            7 => self.has_content != 1 && self.owed < self.part && self.part < CONTENT_LIMIT,
+            8 => self.part == 0,
+            9 => owes_none && self.has_content == 1,
+            10 => self.part == 0 && self.has_content == 1,
+            11 => self.part < self.hunks && self.has_content == 1,
+            12 => owes_none,
+            13 => self.part == 0 && self.owed < NAME_LIMIT,
+            _ => false,
+        }
+    }
+}
+
+/// The bytes of the least file of so many hunks: five longwords, and four for each.
+#[inline(always)]
+fn least_file(hunks: u32) -> u64
+    ensures { result ≡ least_file hunks }
+{
+    4 * (5 + 4 * u64::from(hunks))
+}
+
+/// Whether the file would end in fewer bytes than one of as many hunks has, so that no loader
+/// stands so.
+#[inline(always)]
+pub(crate) fn ends_early(at: &Standing) -> bool
+    ensures { result ≡ true
+        → (rows : List Row) (memory fed : List ℕ) → IsFed rows memory at.now fed → ⊥ }
+{
+    match at.state.position {
+        Position::Done => at.fed < least_file(at.state.hunk),
+        _ => false,
     }
 }
 
 /// The phase of a number, with the longwords of a content or the target of offsets, and what is
 /// owed.
+#[inline(always)]
 fn phase_in(number: u32, part: u32, owed: u32) -> Option<Phase>
     ensures { result ≡ phase_in number part owed }
 {
@@ -232,8 +431,9 @@ fn phase_in(number: u32, part: u32, owed: u32) -> Option<Phase>
 
 /// The number of a phase, with the longwords of a content or the target of offsets, and what is
 /// owed.
+#[inline(always)]
 fn phase_numbers(phase: Phase) -> (u32, u32, u32)
-    ensures { is_external phase ≡ false → phase_in result.0 result.1 result.2 ≡ Some phase }
+    ensures { result ≡ phase_numbers phase }
 {
     match phase {
         Phase::FirstBlock => (1, 0, 0),
@@ -258,10 +458,12 @@ fn phase_numbers(phase: Phase) -> (u32, u32, u32)
 
 /// The open hunk, and the numbers of its phase. In a header and in EXT, where no loader of a body
 /// stands, the number is that of no phase.
+#[inline(always)]
 fn numbers_of(position: Position) -> (OpenHunk, u32, u32, u32)
-    ensures standing { stands_in_body position ≡ true
-        → position_in result.0 result.1 result.2 result.3 ≡ Some position }
-    ensures ends { is_done position ≡ true → result.1 ≡ whole }
+    ensures hunk { result.0 ≡ hunk_of position }
+    ensures phase { result.1 ≡ (position_numbers position).0 }
+    ensures part { result.2 ≡ (position_numbers position).1 }
+    ensures owed { result.3 ≡ (position_numbers position).2 }
 {
     let none = OpenHunk {
         hunks: 0,

@@ -1,19 +1,17 @@
 //! The references of a file's EXT entries.
 ghost use Rattle.std.specs.Prelude.{◌≡◌, ◌+◌, ◌-◌, ◌*◌, ◌≤◌, ℕ, length};
-ghost use Rattle.std.proofs.Common.{◌∙◌, refl};
 ghost use Rattle.std.specs.List.{AllByRecursion};
 ghost use Rattle.hunk_words.specs.Carriers.{saturated};
 ghost use Rattle.hunk_blocks.specs.Values.{IsExtEntry};
 ghost use Rattle.hunk_c.specs.Listing.{item_rows};
-ghost use Rattle.hunk_c.specs.References.{TakesNumbered, entries_references, long_text};
-ghost use Rattle.hunk_c.specs.References.{numbered_more, numbered_none, reference_row};
-ghost use Rattle.hunk_c.specs.References.{references_in};
+ghost use Rattle.hunk_c.specs.References.{body_entries, body_references, entries_references};
+ghost use Rattle.hunk_c.specs.References.{long_text, reference_row, references_in};
 ghost use Rattle.hunk_c.specs.Rows.{Tabulates, TabulatesWhatFits};
 
 use crate::answer::Answer;
 use crate::rows::{Table, TakesRows, tabulate};
 use hunk_blocks::{BlockView, BodyView, EntriesIter, Longs};
-use hunk_files::{FileView, TakesBlocks, reference_width};
+use hunk_files::{FileView, Item, reference_width};
 
 /// An offset that refers to what an EXT entry names: 32 bytes, with no padding.
 #[repr(C)]
@@ -59,39 +57,31 @@ impl Table for ReferenceTable {
     ghost rows = { references_in };
 
     fn list_file<T: TakesRows<ReferenceRow>>(&self, file: &FileView<'_>, taker: &mut T) {
-        let mut references = References { taker, number: 0 };
-        file.visit(&mut references);
-    }
-}
-
-/// Hands over the row of each reference of the blocks that it takes.
-#[derive(Drop)]
-struct References<'t, T> {
-    taker: &'t mut T,
-    /// The number of the next entry, up to 2 ^ 64 - 1.
-    number: u64,
-}
-
-impl<T: TakesRows<ReferenceRow>> TakesBlocks for References<'_, T> {
-    ghost takes = { λ a blocks b. (b.taker.ghost_name ≡ a.taker.ghost_name)
-        × TakesNumbered T.takes a.taker.now a.number blocks b.taker.now b.number };
-
-    ghost none = { λ s. (refl, numbered_none T.takes T.none s.taker.now s.number) };
-
-    ghost more = { λ a b c xs ys first next. (
-      next.0 ∙ first.0,
-      numbered_more T.takes T.more a.taker.now b.taker.now c.taker.now a.number b.number c.number
-          xs ys first.1 next.1,
-    ) };
-
-    fn take(&mut self, _unit: u64, _hunk: u64, block: BlockView<'_>) {
-        if let BodyView::Ext(entries) = block.into_body() {
-            self.number = list_entries(self.taker, self.number, entries);
+        // The number of the next entry, up to 2 ^ 64 - 1.
+        let mut number = 0;
+        'listing: for item in file.items() {
+            if let Item::Block { view, .. } = item {
+                number = list_block(taker, number, view);
+            }
         }
     }
 }
 
-/// Hands over the row of each reference of a block whose first entry has this number, and gives the
+/// Hands over the row of each reference of a block, whose first entry has this number, and gives the
+/// number of the next one.
+fn list_block<T: TakesRows<ReferenceRow>>(taker: &mut T, first: u64, block: BlockView<'_>) -> u64
+    ensures taken { (n : ℕ) → first ≡ saturated n → T.takes taker.old
+        (body_references n block.entry.place block.entry.value.body) taker.new }
+    ensures next { (n : ℕ) → first ≡ saturated n
+        → result ≡ saturated (n + body_entries block.entry.value.body) }
+{
+    match block.into_body() {
+        BodyView::Ext(entries) => list_entries(taker, first, entries),
+        _ => first,
+    }
+}
+
+/// Hands over the row of each reference of entries, the first of which has this number, and gives the
 /// number of the next one.
 fn list_entries<T: TakesRows<ReferenceRow>>(
     taker: &mut T,

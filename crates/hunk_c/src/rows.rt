@@ -1,20 +1,18 @@
 //! Rows of what stands in a file, which the caller has room for.
 ghost use Rattle.std.specs.Prelude.{◌≡◌, ◌<◌, ◌^◌, ◌++◌, ◌∷◌, List, [], length};
-ghost use Rattle.std.specs.List.{flat_map};
 ghost use Rattle.std.proofs.Common.{◌∙◌, refl};
 ghost use Rattle.hunk_words.specs.Carriers.{saturated};
 ghost use Rattle.hunk_files.specs.FileView.{file_of};
 ghost use Rattle.hunk_files.specs.StandingBlocks.{StandingBlock};
 ghost use Rattle.hunk_files.specs.declared.hunk_file.HunkFile.{HunkFile};
 ghost use Rattle.hunk_c.specs.Counting.{Counts, counts_none, counts_more};
-ghost use Rattle.hunk_c.specs.Listing.{flat_more};
 ghost use Rattle.hunk_c.specs.Rows.{Tabulates, TabulatesWhatFits, rows_in};
 ghost use Rattle.hunk_c.specs.Taking.{Fills, fills_none, fills_more};
 
 use crate::answer::{Answer, done, no_room, refused};
 use crate::file::hunks_in;
 use hunk_blocks::BlockView;
-use hunk_files::{FileView, TakesBlocks};
+use hunk_files::{FileView, Item};
 
 /// Takes rows one by one, and refuses none.
 ///
@@ -71,34 +69,11 @@ impl<B: BlockTable> Table for ByBlock<B> {
     ghost rows = { rows_in B.rows };
 
     fn list_file<T: TakesRows<B::Row>>(&self, file: &FileView<'_>, taker: &mut T) {
-        let mut rows = BlockRows {
-            table: &self.0,
-            taker,
-        };
-        file.visit(&mut rows);
-    }
-}
-
-/// Hands over the rows of the blocks that it takes.
-#[derive(Drop)]
-struct BlockRows<'b, 't, B, T> {
-    table: &'b B,
-    taker: &'t mut T,
-}
-
-impl<B: BlockTable, T: TakesRows<B::Row>> TakesBlocks for BlockRows<'_, '_, B, T> {
-    ghost takes = { λ a blocks b. (b.taker.ghost_name ≡ a.taker.ghost_name)
-        × T.takes a.taker.now (flat_map B.rows blocks) b.taker.now };
-
-    ghost none = { λ s. (refl, T.none s.taker.now) };
-
-    ghost more = { λ a b c xs ys first next. (
-      next.0 ∙ first.0,
-      flat_more B.rows T.takes T.more a.taker.now b.taker.now c.taker.now xs ys first.1 next.1,
-    ) };
-
-    fn take(&mut self, unit: u64, hunk: u64, block: BlockView<'_>) {
-        self.table.list(unit, hunk, block, self.taker);
+        'listing: for item in file.items() {
+            if let Item::Block { unit, hunk, view } = item {
+                self.0.list(unit, hunk, view, taker);
+            }
+        }
     }
 }
 

@@ -5,7 +5,7 @@
 ghost use Rattle.hunk_c.specs.Streams.{Begins, Ends, Feeds, Wants};
 
 use crate::answer::{Answer, done, no_room, refused, strange};
-use crate::loader::{Loader, NO_LOADER};
+use crate::loader::{Loader, NO_LOADER, ends_early};
 use crate::places::table_sizes;
 use hunk_files::Row;
 use hunk_scatter::stream::{Stop, begin, take_piece};
@@ -67,18 +67,22 @@ pub extern "C" fn hunk_feed(
 ) -> Answer
     ensures { Feeds rows.now loader.old loader.new memory.old memory.new piece.now result }
 {
-    if let Some(answer) = loader.refusal() {
-        return answer;
-    }
-    if let Some(to) = loader.pass_payload(piece) {
-        *loader = to;
+    let total = memory.len();
+    if loader.pass_payload(rows, total, piece) {
         return done(loader.hunk, loader.fed, piece.len() as u64);
     }
-    let Some(at) = loader.standing() else {
-        return strange();
+    if loader.pass_byte(rows, total, piece) {
+        return done(loader.hunk, loader.fed, piece.len() as u64);
+    }
+    let at = match loader.standing() {
+        Ok(at) => at,
+        Err(answer) => return answer,
     };
     match take_piece(memory, rows, at, piece) {
         Ok((to, taken)) => {
+            if ends_early(&to) {
+                return strange();
+            }
             *loader = Loader::of(to);
             done(loader.hunk, loader.fed, taken as u64)
         }
@@ -102,11 +106,9 @@ pub extern "C" fn hunk_feed(
 pub extern "C" fn hunk_end(loader: &Loader) -> Answer
     ensures { Ends loader.now result }
 {
-    if let Some(answer) = loader.refusal() {
-        return answer;
-    }
-    let Some(here) = loader.standing() else {
-        return strange();
+    let here = match loader.standing() {
+        Ok(here) => here,
+        Err(answer) => return answer,
     };
     if here.is_whole() {
         return done(loader.hunk, loader.fed, loader.start);
@@ -130,11 +132,9 @@ pub extern "C" fn hunk_end(loader: &Loader) -> Answer
 pub extern "C" fn hunk_want(loader: &Loader) -> Answer
     ensures { Wants loader.now result }
 {
-    if let Some(answer) = loader.refusal() {
-        return answer;
-    }
-    let Some(here) = loader.standing() else {
-        return strange();
+    let here = match loader.standing() {
+        Ok(here) => here,
+        Err(answer) => return answer,
     };
     done(loader.hunk, loader.fed, here.want())
 }

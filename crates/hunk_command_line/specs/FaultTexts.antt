@@ -1,6 +1,8 @@
 -- What the faults of command lines are shown as.
-use Rattle.std.specs.Prelude.{ℕ, List, ◌++◌, codes}
+use Rattle.std.specs.Prelude.{ℕ, Bool, true, false, List, ◌++◌, Result, Ok, Err, String, codes}
 use Rattle.std.specs.String.{string_bytes}
+use Rattle.std.specs.declared.alloc.AllocError.{AllocError}
+use Rattle.std.specs.declared.alloc.Global.{Global}
 use Rattle.hunk_command_line.specs.declared.asked.OrderFault.{OrderFault}
 use Rattle.hunk_command_line.specs.declared.asked.OrderFault.TheVariants.{Help, Line, Memory, NotText, Version}
 
@@ -15,6 +17,12 @@ fault_text NotText = refused_line
 fault_text (Help text) = string_bytes text
 fault_text Version = codes "hunkinfo 0.1.0 (proved with logic dac8208d650f15bf)\n"
 fault_text Memory = codes "out of memory"
+
+-- The fault that a text tells of, which there was memory for or not: a help that was asked for, or why there is no order.
+abbrev pub told_fault : Result (String Global) AllocError → Bool → OrderFault
+told_fault (Ok text) true = Help text
+told_fault (Ok text) false = Line text
+told_fault (Err error) is_help = Memory
 
 -- why a word is none of those that are wanted in its place, as clap says it
 abbrev pub unwanted_text : List ℕ → List ℕ → List ℕ → List ℕ

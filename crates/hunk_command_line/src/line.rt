@@ -6,7 +6,7 @@ ghost use Rattle.clap.specs.Simple.{subcommand_rows_of};
 ghost use Rattle.hunk_command_line.specs.Command as spec;
 ghost use Rattle.hunk_command_line.specs.Asked.{AnswersOrder, FollowsClap, IsHelp, IsHelpOrMemory};
 ghost use Rattle.hunk_command_line.specs.Asked.{IsLineOf, IsMemoryOr, RefusesOrder};
-ghost use Rattle.hunk_command_line.specs.FaultTexts.{unwanted_text};
+ghost use Rattle.hunk_command_line.specs.FaultTexts.{told_fault, unwanted_text};
 ghost use Rattle.hunk_command_line.specs.Line.{entered_order, order_of, relocate_order};
 ghost use Rattle.hunk_command_line.specs.Line.{rewrite_order, show_order, validate_order, words_read};
 ghost use Rattle.hunk_command_line.specs.declared.asked.OrderFault.TheVariants.{Memory, Version};
@@ -21,7 +21,7 @@ use clap::{ArgMatches, Error};
 use command::hunkinfo;
 use matches::{is_set, name_of, text_of};
 use numbers::{base_of, budget_of};
-use std::alloc::Global;
+use std::alloc::{AllocError, Global};
 use std::convert::AsStr;
 
 /// The segment bytes that `relocate` may hold where the command line does not say.
@@ -38,7 +38,16 @@ fn unwanted(alloc: Global, word: &str, place: &str, wanted: &str) -> OrderFault
         "error: invalid value '{word}' for '{place}': {wanted}\n\n\
         For more information, try '--help'.\n"
     );
+    told(text, false)
+}
+
+/// The fault that this text tells of: a help that was asked for, or why there is no order. Memory
+/// is wanting where there was none for the text, and nowhere else.
+fn told(text: Result<String, AllocError>, is_help: bool) -> OrderFault
+    ensures { result ≡ told_fault text is_help }
+{
     match text {
+        Ok(text) if is_help => OrderFault::Help(text),
         Ok(text) => OrderFault::Line(text),
         Err(_) => OrderFault::Memory,
     }
@@ -126,16 +135,10 @@ fn fault_of(alloc: Global, error: &Error) -> OrderFault
     ensures version { kind_of error.now ≡ ErrorKind.DisplayVersion → result ≡ Version }
 {
     match error.kind() {
-        ErrorKind::DisplayHelp => match format!(in alloc; "{error}") {
-            Ok(text) => OrderFault::Help(text),
-            Err(_) => OrderFault::Memory,
-        },
+        ErrorKind::DisplayHelp => told(format!(in alloc; "{error}"), true),
         ErrorKind::DisplayVersion => OrderFault::Version,
         ErrorKind::OutOfMemory => OrderFault::Memory,
-        _ => match format!(in alloc; "{error}") {
-            Ok(text) => OrderFault::Line(text),
-            Err(_) => OrderFault::Memory,
-        },
+        _ => told(format!(in alloc; "{error}"), false),
     }
 }
 

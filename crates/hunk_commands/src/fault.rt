@@ -1,17 +1,17 @@
 //! Why a run failed: the status that it ends with and the line that it prints.
-ghost use Rattle.std.specs.Prelude.{◌≡◌, ◌<◌, ◌≤◌, Some};
+ghost use Rattle.std.specs.Prelude.{◌≡◌, ◌<◌, ◌≤◌, ◌++◌, Some, codes, decimal};
+ghost use Rattle.hunk_words.specs.FaultLines.{hunk_suffix, reason_line, refusal_line};
+ghost use Rattle.hunk_words.specs.Prints.{Prints};
 ghost use Rattle.hunk_commands.specs.Faults.{line_of, load_refused, refused_as, status_of};
 ghost use Rattle.hunk_commands.specs.declared.fault.RunFault.TheVariants.{Memory, Write};
 
 use hunk_files::Part;
 use hunk_scatter::LoadRefusal;
-use hunk_words::{Fault, Reason, WriteFault};
+use hunk_words::{Fault, PagePrinter, Reason, Sink, WriteFault};
+use itoa::Buffer;
 use std::alloc::{AllocError, AllocFailed};
 use std::error::Error;
 use std::fmt;
-
-/// The line of `Memory`, which is printed where there is no memory for another one.
-pub const OUT_OF_MEMORY: &str = "out of memory\n";
 
 /// Why a run failed. It is displayed as the line that the program prints, without its end.
 #[derive(Clone, Copy, Debug, PartialEq, Eq)]
@@ -44,6 +44,64 @@ impl RunFault {
             RunFault::Memory => 4,
         }
     }
+
+    /// Prints its line with the end. It takes no memory, so none can be wanting for it.
+    pub fn print<W: Sink, const ROOM: usize>(&self, page: &mut PagePrinter<'_, W, ROOM>)
+        ensures { Prints page.old page.new (line_of self.now ++ codes "\n") }
+    {
+        match self {
+            RunFault::Refused(fault) | RunFault::RefusedIn { fault, part: _ } => {
+                print_refusal(page, *fault);
+            }
+            RunFault::Read { place } => print_number(page, "reading failed at byte ", *place, ""),
+            RunFault::Write { written } => {
+                print_number(page, "writing failed after ", *written, " bytes");
+            }
+            RunFault::Memory => page.print(b"out of memory"),
+            RunFault::HexText => page.print(b"hex text refused"),
+        }
+        page.print(b"\n");
+    }
+}
+
+/// Prints the line of a refusal, without its end.
+fn print_refusal<W: Sink, const ROOM: usize>(page: &mut PagePrinter<'_, W, ROOM>, refusal: Fault)
+    ensures { Prints page.old page.new (refusal_line refusal) }
+{
+    print_number(page, "refused at byte ", refusal.place, ": ");
+    print_reason(page, refusal.reason);
+}
+
+/// Prints the name and the number of a reason.
+fn print_reason<W: Sink, const ROOM: usize>(page: &mut PagePrinter<'_, W, ROOM>, reason: Reason)
+    ensures { Prints page.old page.new (reason_line reason) }
+{
+    page.print(reason.name().as_bytes());
+    print_number(page, " (", u64::from(reason.number()), ")");
+    print_hunk(page, reason);
+}
+
+/// Prints the hunk that has no base, where that is the reason.
+fn print_hunk<W: Sink, const ROOM: usize>(page: &mut PagePrinter<'_, W, ROOM>, reason: Reason)
+    ensures { Prints page.old page.new (hunk_suffix reason) }
+{
+    if let Reason::NoBase(hunk) = reason {
+        print_number(page, " hunk ", u64::from(hunk), "");
+    }
+}
+
+/// Prints a number in decimal between two texts.
+fn print_number<W: Sink, const ROOM: usize>(
+    page: &mut PagePrinter<'_, W, ROOM>,
+    front: &str,
+    number: u64,
+    end: &str,
+)
+    ensures { Prints page.old page.new (front.now ++ decimal number ++ end.now) }
+{
+    page.print(front.as_bytes());
+    page.print(Buffer::new().format(number).as_bytes());
+    page.print(end.as_bytes());
 }
 
 impl fmt::Display for RunFault {

@@ -11,7 +11,7 @@ mod rewriting;
 mod showing;
 mod validating;
 
-pub use crate::fault::{OUT_OF_MEMORY, RunFault};
+pub use crate::fault::RunFault;
 pub use crate::hex_text::{read_hex, unhex};
 pub use crate::relocating::relocate;
 pub use crate::rewriting::{Rewritten, rewrite, rewrite_bytes};

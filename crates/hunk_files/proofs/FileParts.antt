@@ -8,14 +8,14 @@ use Rattle.hunk_blocks.specs.Faults.{IsFront}
 use Rattle.hunk_grammar.specs.FileKind.{sniffed}
 use Rattle.hunk_grammar.specs.declared.file_kind.Sniff.{Sniff}
 use Rattle.hunk_grammar.specs.declared.file_kind.Sniff.TheVariants as sniffs
-use Rattle.hunk_files.specs.FileParts.{IsLoadPart, IsPartAt, IsPartBehind, IsUnitPart, fault_at, part_of}
-use Rattle.hunk_files.specs.FileSteps.{Progress, More}
+use Rattle.hunk_files.specs.FileParts.{IsLoadPart, IsPartAt, IsPartBehind, IsUnitPart, fault_at}
 use Rattle.hunk_files.specs.HunkFile.{IsLoadRefusal, IsRefusal}
 use Rattle.hunk_files.specs.ObjectFault.{objects}
-use Rattle.hunk_files.specs.WordsRead.{HasRead}
 use Rattle.hunk_files.specs.declared.part.Part.{Part}
-use Rattle.hunk_files.proofs.LoadParts.{refused_behind}
+use Rattle.hunk_files.proofs.{LoadParts.{part_of, refused_behind}, TextPlaces.read_part}
 use Rattle.hunk_files.proofs.UnitParts.{refused_front}
+use Rattle.hunk_files.proofs.OneUnitPart as units
+use Rattle.hunk_files.proofs.TextPlaces as hunks
 
 -- as many longwords as there are, or as are asked for
 pub same_front : (ws : List ℕ) (count n : ℕ) → count ≤ n → (count < n → length ws ≤ count) → take count ws ≡ take n ws
@@ -48,8 +48,17 @@ load_behind sniffs.Library before part not h = h
 load_behind sniffs.Other before part not h = h
 
 pub in_load : (bytes : List ℕ) → IsBytes bytes → (place : ℕ) (reason : Reason) (part : Part) → sniffed (longs bytes) ≢ sniffs.Object → IsRefusal (sniffed (longs bytes)) bytes (fault_at place reason) →
-    ((p : Progress) → HasRead (take (place / 4) (longs bytes)) (More p) → part ≡ part_of p) → IsPartAt (sniffed (longs bytes)) bytes place part
+    ((there : Part) → IsLoadPart (take (place / 4) (longs bytes)) there → part ≡ there) → IsPartAt (sniffed (longs bytes)) bytes place part
 in_load bytes fit place reason part kind h is =
+    let before : List ℕ = take (place / 4) (longs bytes) in
     let fault = load_refusal (sniffed (longs bytes)) bytes (fault_at place reason) kind h in
     let read = refused_behind bytes fit place reason fault.0 in
-    load_behind (sniffed (longs bytes)) (take (place / 4) (longs bytes)) part kind (record { progress = read.0; read = read.1; part_is = is read.0 read.1 })
+    let there = read_part before read.0 read.1 in
+    load_behind (sniffed (longs bytes)) before part kind (subst (IsLoadPart before) (sym (is (part_of read.0) there)) there)
+
+-- The place names one part alone.
+pub one_part : (kind : Sniff) (bytes : List ℕ) (place : ℕ) (a b : Part) → IsPartAt kind bytes place a → IsPartAt kind bytes place b → a ≡ b
+one_part sniffs.Object bytes place a b = units.one_part (take (place / 4) (longs bytes)) a b
+one_part sniffs.Load bytes place a b = hunks.one_part (take (place / 4) (longs bytes)) a b
+one_part sniffs.Library bytes place a b = hunks.one_part (take (place / 4) (longs bytes)) a b
+one_part sniffs.Other bytes place a b = hunks.one_part (take (place / 4) (longs bytes)) a b

@@ -78,13 +78,13 @@ module _ (hunks : ℕ) (finished : List HunkValue) (entry : TableEntry) (ahead :
       (block_leads hunks (size_longs entry.word) (at done has_content) b h.0)
       (block_closed (standing b.body) has_content done b more o (λ has other order. blocks_lead more h.1 has other order))
 
-pub hunks_lead : (hunks : ℕ) (finished more : List HunkValue) → AllByRecursion (IsHunk hunks) more →
-    Leads (open_hunk hunks finished (table more)) (flat_map (hunk_labelled hunks) more) (Finished (finished ++ more))
-hunks_lead hunks finished [] h = ap (λ (v : LoadFileValue). Finished v) (sym (append-nil finished))
-hunks_lead hunks finished (x ∷ more) h =
-    Leads-append (open_hunk hunks finished (table (x ∷ more))) (open_hunk hunks (finished ++ x ∷ []) (table more)) _ (hunk_labelled hunks x) _
-    (blocks_lead hunks finished x.entry (table more) x.blocks h.0.blocks false [] h.0.order)
-    (subst (λ (v : LoadFileValue). Leads (open_hunk hunks (finished ++ x ∷ []) (table more)) (flat_map (hunk_labelled hunks) more) (Finished v)) (append_assoc finished (x ∷ []) more) (hunks_lead hunks (finished ++ x ∷ []) more h.1))
+pub hunks_lead : (hunks : ℕ) (finished more : List HunkValue) (ahead : List TableEntry) → AllByRecursion (IsHunk hunks) more →
+    Leads (open_hunk hunks finished (table more ++ ahead)) (flat_map (hunk_labelled hunks) more) (open_hunk hunks (finished ++ more) ahead)
+hunks_lead hunks finished [] ahead h = ap (λ (v : LoadFileValue). open_hunk hunks v ahead) (sym (append-nil finished))
+hunks_lead hunks finished (x ∷ more) ahead h =
+    Leads-append (open_hunk hunks finished (table (x ∷ more) ++ ahead)) (open_hunk hunks (finished ++ x ∷ []) (table more ++ ahead)) _ (hunk_labelled hunks x) _
+    (blocks_lead hunks finished x.entry (table more ++ ahead) x.blocks h.0.blocks false [] h.0.order)
+    (subst (λ (v : LoadFileValue). Leads (open_hunk hunks (finished ++ x ∷ []) (table more ++ ahead)) (flat_map (hunk_labelled hunks) more) (open_hunk hunks v ahead)) (append_assoc finished (x ∷ []) more) (hunks_lead hunks (finished ++ x ∷ []) more ahead h.1))
 
 -- ---- the table
 
@@ -105,10 +105,13 @@ pub entries_fit : (hunks : ℕ) (hs : List HunkValue) → AllByRecursion (IsHunk
 entries_fit hunks [] h = tt
 entries_fit hunks (x ∷ hs) h = (h.0.entry, entries_fit hunks hs h.1)
 
+-- The header of a load file leads to its first hunk.
+pub table_read : (v : LoadFileValue) → IsLoadFile v → Leads (More AtFirst) (header_labelled (table v)) (open_hunk (length v) [] (table v))
+table_read v h = subst (λ (n : ℕ). Leads (More AtFirst) (header_labelled (table v)) (open_hunk n [] (table v))) (length-map v (λ h. h.entry)) (header_leads (table v) (entries_fit (length v) v h.each))
+
 -- The text of a load file leads from the start to its value, each longword by its role.
 pub file_leads : (v : LoadFileValue) → IsLoadFile v → Leads (More AtFirst) (labelled v) (Finished v)
 unfolding labelled
 file_leads v h =
-    Leads-append (More AtFirst) (open_hunk (length v) [] (table v)) _ (header_labelled (table v)) _
-    (subst (λ (n : ℕ). Leads (More AtFirst) (header_labelled (table v)) (open_hunk n [] (table v))) (length-map v (λ h. h.entry)) (header_leads (table v) (entries_fit (length v) v h.each)))
-    (hunks_lead (length v) [] v h.each)
+    Leads-append (More AtFirst) (open_hunk (length v) [] (table v)) _ (header_labelled (table v)) _ (table_read v h)
+    (subst (λ (t : List TableEntry). Leads (open_hunk (length v) [] t) (flat_map (hunk_labelled (length v)) v) (Finished v)) (append-nil (table v)) (hunks_lead (length v) [] v [] h.each))

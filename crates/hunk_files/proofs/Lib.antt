@@ -5,6 +5,7 @@ pub mod BlocksInPlace
 pub mod BlockPlaces
 pub mod Completion
 mod Examples
+mod FileItems
 mod FileKinds
 mod FileParts
 pub mod FileProgress
@@ -15,23 +16,29 @@ pub mod FindingCounts
 pub mod FindingSteps
 pub mod HunkProgress
 mod HunkFaults
-mod HunkRanges
 pub mod HunkBlocks
 pub mod HunksInPlace
+pub mod ItemBlocks
+mod ItemLaws
+mod ItemStart
 pub mod Least
 pub mod LoadCuts
 pub mod LoadKeeping
-mod LoadParts
+pub mod LoadParts
+pub mod LoadPlaces
+mod LoadRuns
 pub mod Machines
 pub mod Memory
 pub mod Positions
 mod HunkOrder
 mod ObjectGoesOn
 mod ObjectOutcome
+mod ObjectPlaces
 mod ObjectProgress
-mod ObjectRefusals
+pub mod ObjectRefusals
 mod ObjectWalks
 mod ObjectWords
+pub mod OpenedHunks
 mod LoadRanges
 mod LoadWalks
 pub mod OffsetLists
@@ -40,13 +47,14 @@ mod Passed
 mod PassedWalks
 pub mod Peel
 mod RangeLaws
+pub mod ReadFiles
 pub mod Reading
 pub mod Refusals
 pub mod Rising
 pub mod Runs
 pub mod Scan
 pub mod Shapes
-pub mod Standing
+mod SpelledText
 pub mod StripLaws
 pub mod StripSteps
 pub mod StripText
@@ -54,6 +62,7 @@ pub mod Summed
 pub mod TableReading
 pub mod Taking
 pub mod TextParts
+pub mod TextPlaces
 pub mod UnitCutLaws
 pub mod PlaceLaws
 pub mod PlacedFindingLaws
@@ -66,4 +75,5 @@ mod UnitViewLaws
 mod UnitCounts
 mod UnitFaults
 mod OneObjectFault
+mod OneUnitPart
 mod UnitReading

@@ -1,6 +1,6 @@
 -- The part of a load file behind longwords that were read.
-use Rattle.std.proofs.Common.{◌≡◌, ℕ, ◌+◌, ◌-◌, ◌/◌, List, [], ◌∷◌, ◌++◌, length, take, refl, sym, ap, ap₂, subst, ◌∙◌, append-nil, arith, inl, inr}
-use Rattle.std.proofs.lemmas.List.{take_all}
+use Rattle.std.proofs.Common.{◌≡◌, ℕ, zero, suc, ◌+◌, ◌-◌, ◌/◌, List, [], ◌∷◌, ◌++◌, length, take, refl, sym, ap, ap₂, subst, ◌∙◌, append-nil, length-append, arith, inl, inr}
+use Rattle.std.proofs.lemmas.List.{length-map, take_all}
 use Rattle.std.proofs.Math.Seq.{take-append_seam}
 use Rattle.hunk_words.specs.Longs.{longs, IsBytes}
 use Rattle.hunk_words.specs.declared.reason.Reason.{Reason}
@@ -12,10 +12,11 @@ use Rattle.hunk_grammar.specs.declared.position.Position.{Position}
 use Rattle.hunk_grammar.specs.declared.position.Position.TheVariants as positions
 use Rattle.hunk_grammar.specs.Positions as scan
 use Rattle.hunk_files.specs.Fault.{Expects, HasFault, IsTruncated}
-use Rattle.hunk_files.specs.FileParts.{part_of}
-use Rattle.hunk_files.specs.FileSteps.{Progress, AtFirst, AtBlock, InBody, Next, More, Finished, step_file, Leads}
-use Rattle.hunk_files.specs.LoadText.{labelled, text}
-use Rattle.hunk_files.specs.ReaderPosition.{position_of}
+use Rattle.hunk_files.specs.FileSteps.{HunkSoFar, Progress, AtFirst, AtBlock, InBody, Next, More, Finished, step_file, Leads}
+use Rattle.hunk_files.specs.LoadFile.{HunkValue}
+use Rattle.hunk_files.specs.Machines.{leads_to}
+use Rattle.hunk_files.specs.LoadText.{labelled, table, text}
+use Rattle.hunk_files.specs.ReaderPosition.{opened, position_of}
 use Rattle.hunk_files.specs.WordsRead.{HasRead, Labelled, AreAccepted}
 use Rattle.hunk_files.specs.declared.part.Part.{Part}
 use Rattle.hunk_files.specs.declared.part.Part.TheVariants as parts
@@ -24,10 +25,8 @@ use Rattle.hunk_files.proofs.Positions.{step_position}
 use Rattle.hunk_files.proofs.Reading.{reads}
 use Rattle.hunk_files.proofs.Scan.{begins_with, expected_place, words_split}
 
--- the position behind longwords
 abbrev pub stepped : Position → List ℕ → Position
-stepped p [] = p
-stepped p (w ∷ ws) = stepped (scan.step p w) ws
+stepped p ws = leads_to scan.step p ws
 
 pub stepped_more : (p : Position) (ws : List ℕ) (w : ℕ) → stepped p (ws ++ w ∷ []) ≡ scan.step (stepped p ws) w
 stepped_more p [] w = refl
@@ -46,6 +45,25 @@ pub read_stepped : (ws : List ℕ) (n : Next) → HasRead ws n → position_of n
 read_stepped ws n h = follows (More AtFirst) n h.done tt h.accepted h.run ∙ ap (stepped positions.FirstLong) h.all
 
 -- ---- the part
+
+-- the next longword is of the header, or of the hunk behind those that are whole
+abbrev pub part_of : Progress → Part
+part_of (AtBlock o) = parts.Hunk (length o.finished)
+part_of (InBody o word x) = parts.Hunk (length o.finished)
+part_of _ = parts.Header
+
+-- where so many hunks were opened
+abbrev pub part_opened : ℕ → Part
+part_opened zero = parts.Header
+part_opened (suc whole) = parts.Hunk whole
+
+open_part : (o : HunkSoFar) → parts.Hunk (length o.finished) ≡ part_opened (length (table o.finished ++ o.entry ∷ []))
+open_part o = let count : suc (length o.finished) ≡ length (table o.finished ++ o.entry ∷ []) = omega (arith, length-append (table o.finished) (o.entry ∷ []), length-map o.finished (λ (h : HunkValue). h.entry)) in ap part_opened count
+
+pub opened_part : (p : Progress) → part_of p ≡ part_opened (length (opened p))
+opened_part (AtBlock o) = open_part o
+opened_part (InBody o word x) = open_part o
+opened_part _ = refl
 
 abbrev pub part_in : Position → Part
 part_in (positions.Body o phase) = parts.Hunk (o.hunks - (o.ahead + 1))

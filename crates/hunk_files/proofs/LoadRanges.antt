@@ -1,4 +1,4 @@
--- The hunks of a load file, of which what stays is handed over.
+-- The hunks of a load file, and the text that stays of it.
 use Rattle.std.proofs.Common.{◌≡◌, ℕ, ◌-◌, ◌*◌, List, [], ◌∷◌, ◌++◌, length, map, take, refl, sym, ap, subst, ◌∙◌, arith}
 use Rattle.std.proofs.lemmas.{List.take_at, List.Folds.flat_map-map}
 use Rattle.std.specs.{Prelude.slice_range, List.flat_map}
@@ -9,7 +9,7 @@ use Rattle.hunk_files.specs.{Fault.BeginsWithLoadFile, Hunks.block_texts}
 use Rattle.hunk_files.specs.LoadFile.{HunkValue, LoadFileValue, TableEntry, IsHunk, declared_longs}
 use Rattle.hunk_files.specs.{LoadText.{header_labelled, text}, ObjectFile.{ObjectHunk, IsObjectHunk}, InPlace.StandAt}
 use Rattle.hunk_files.specs.{Strip.{strip_blocks, strip_file}, Tables.{header_text, hunk_texts}}
-use Rattle.hunk_files.proofs.{Accepted.All-map, HunkRanges.HunksStripped, Peel.are_blocks, RangeLaws.none_stripped}
+use Rattle.hunk_files.proofs.{Accepted.All-map, Peel.are_blocks}
 use Rattle.hunk_files.proofs.{StripLaws.table_kept, TableReading.{header_inside, header_split, hunks_follow, text_is}}
 
 abbrev pub blocks_of : LoadFileValue → List ObjectHunk
@@ -23,7 +23,7 @@ pub are_hunk : (most : ℕ) (h : HunkValue) → IsHunk most h → IsObjectHunk h
 are_hunk most h is = record { blocks = are_blocks most (declared_longs h) h.blocks is.blocks; order = is.order }
 
 module _ (bytes : List ℕ) (file : BeginsWithLoadFile bytes) where
-  hunks_stand : StandAt IsObjectHunk block_texts bytes (4 * length (header_text file.value)) (blocks_of file.value) file.rest
+  pub hunks_stand : StandAt IsObjectHunk block_texts bytes (4 * length (header_text file.value)) (blocks_of file.value) file.rest
   hunks_stand =
       record {
         each = All-map (IsHunk (length file.value)) IsObjectHunk (λ h. h.blocks) (are_hunk (length file.value)) file.value file.is_load_file.each;
@@ -39,15 +39,6 @@ module _ (bytes : List ℕ) (file : BeginsWithLoadFile bytes) where
       ∙ take_at (bytes_of (header_text file.value)) (bytes_of (hunk_texts file.value) ++ file.rest) size (length-bytes_of (header_text file.value))
 
   module _ (v : LoadFileValue) (same : v ≡ file.value) where
-    -- All hunks of the file are left.
-    pub hunks_stay : {T : Type 0} {takes : T → List ℕ → T → Type 0} → ((s : T) → takes s [] s) → (old : T) (from to : ℕ) → from ≡ 0 → to ≡ 4 * length (header_text v) →
-        HunksStripped takes old old bytes (slice_range bytes 0 (4 * length (header_text v))) (4 * length (header_text v)) (blocks_of v) file.rest from to (blocks_of v)
-    hunks_stay {T} {takes} none old from to begin end =
-        let Left : LoadFileValue → ℕ → ℕ → Type 0 =
-        λ w f n. HunksStripped takes old old bytes (slice_range bytes 0 (4 * length (header_text w))) (4 * length (header_text w)) (blocks_of w) file.rest f n (blocks_of w) in
-        subst (λ (f : ℕ). Left v f to) (sym begin) (subst (Left v 0) (sym end)
-        (subst (λ (w : LoadFileValue). Left w 0 (4 * length (header_text w))) (sym same) (none_stripped none 0 refl hunks_stand)))
-
     -- the header, and then what stays of the hunks
     pub stripped_text : slice_range bytes 0 (4 * length (header_text v)) ++ bytes_of (flat_map block_texts (map strip_blocks (blocks_of v))) ≡ bytes_of (text (strip_file v))
     stripped_text =

@@ -148,16 +148,16 @@ stays p (More (AtBlock o)) m b = ap (λ (e : Entry). Some (position_of (More (At
 stays p (More q) m b = ap (λ (e : Entry). Some (position_of (More q), e)) (same_entry _ _ m.0 (ap row_behind m.1))
 
 -- One longword of a run, of which this number is left, where the open hunk declares this number of longs.
-record OneSkipped (p : Position) (declared left w : ℕ) : Type 0 where
-  passes : refuse (role_at declared p) w ≡ None
-  stays_open : is_between_hunks (scan.step p w) ≡ false
-  run_is : scan.run (scan.step p w) ≡ left
-  behind_is : passed (scan.step p w) ≡ passed p
+pub record OneSkipped (p : Position) (declared left w : ℕ) : Type 0 where
+  pub passes : refuse (role_at declared p) w ≡ None
+  pub stays_open : is_between_hunks (scan.step p w) ≡ false
+  pub run_is : scan.run (scan.step p w) ≡ left
+  pub behind_is : passed (scan.step p w) ≡ passed p
 
 pub none_left : (n : ℕ) → n - n ≡ 0
 none_left n = omega arith
 
-one_skipped : (p : Position) (declared left w : ℕ) → scan.run p ≡ suc left → OneSkipped p declared left w
+pub one_skipped : (p : Position) (declared left w : ℕ) → scan.run p ≡ suc left → OneSkipped p declared left w
 one_skipped (positions.Body o (phases.Content all zero)) declared left w e = record { passes = refl; stays_open = refl; run_is = omega (arith, e); behind_is = refl }
 one_skipped (positions.Body o (phases.Content all (suc owed))) declared left w e = record { passes = refl; stays_open = refl; run_is = omega (arith, e); behind_is = refl }
 one_skipped (positions.Body o (phases.Payload zero)) declared left w e = record { passes = refl; stays_open = refl; run_is = omega (arith, e); behind_is = refl }

@@ -65,13 +65,16 @@ body_leads place next (Open x) (p ∷ ps) b h =
     (ap (λ (r : ObjectRole). Some r) (sym (within_role place (part_of x) (part_not_word x)) ∙ ap (object_role_at place) h.0), body_leads place next (step_inside x p.1) ps b h.1)
 body_leads place next (Whole c) (p ∷ ps) b h = absurd h
 
+-- The word of a block leads into it.
+pub word_steps : (place : WordPlace) (b : BlockValue) → IsBlock b → step (AtWord place) b.word ≡ in_block (place_next place (standing b.body)) (begin_body (kind b.word))
+word_steps place b is =
+    passes_else (eqb b.word unit_word) AtCount _ (ne_eqb b.word unit_word (no_unit_word b is))
+    ∙ ap (λ (s : BlockStanding). in_block (place_next place s) (begin_body (kind b.word))) (sym (standing_is b.word b.body is.body))
+
 block_leads : (place : WordPlace) (b : BlockValue) → IsBlock b → Leads reader (AtWord place) (object_block_labelled place b) (AtWord (place_next place (standing b.body)))
 block_leads place b is =
     let next : WordPlace = place_next place (standing b.body) in
-    let goes : step (AtWord place) b.word ≡ in_block next (begin_body (kind b.word)) =
-    passes_else (eqb b.word unit_word) AtCount _ (ne_eqb b.word unit_word (no_unit_word b is))
-    ∙ ap (λ (s : BlockStanding). in_block (place_next place s) (begin_body (kind b.word))) (sym (standing_is b.word b.body is.body)) in
-    (refl, subst (λ (s : ObjectState). Leads reader s (relabel (object_role_at place) (body_parts b.body)) (AtWord next)) (sym goes) (body_leads place next (begin_body (kind b.word)) (body_parts b.body) b.body (body_follows b.word b.body is.body)))
+    (refl, subst (λ (s : ObjectState). Leads reader s (relabel (object_role_at place) (body_parts b.body)) (AtWord next)) (sym (word_steps place b is)) (body_leads place next (begin_body (kind b.word)) (body_parts b.body) b.body (body_follows b.word b.body is.body)))
 
 parts_pass : (place : WordPlace) (ps : List (Part × ℕ)) → PartsPass ps → Passes reader refuse_object (relabel (object_role_at place) ps)
 parts_pass place [] h = tt
@@ -91,7 +94,7 @@ block_passes place b is ok = (word_goes place b is ok, parts_pass place (body_pa
 -- ---- hunks
 
 -- a place in a unit
-abbrev IsInUnit : WordPlace → Type 0
+abbrev pub IsInUnit : WordPlace → Type 0
 IsInUnit BeforeUnits = ⊥
 IsInUnit BetweenHunks = Unit {0}
 IsInUnit (InHunk has) = Unit {0}
@@ -106,7 +109,7 @@ pub record Next (place : WordPlace) (s : BlockStanding) (bs : ObjectHunk) : Type
   pub stands : refuse_standing (has_content place) s ≡ None
   pub goes : ((bs ≡ []) × (place_next place s ≡ BetweenHunks)) ⊎ ((place_next place s ≡ behind_block place s) × AreInOrder (has_content place || is_content s) (standings bs))
 
-order_next : (place : WordPlace) (s : BlockStanding) (bs : ObjectHunk) → AreInOrder (has_content place) (s ∷ standings bs) → Next place s bs
+pub order_next : (place : WordPlace) (s : BlockStanding) (bs : ObjectHunk) → AreInOrder (has_content place) (s ∷ standings bs) → Next place s bs
 order_next place s bs h = go (has_content place) s h refl
   where
     none : (cs : ObjectHunk) → standings cs ≡ [] → cs ≡ []

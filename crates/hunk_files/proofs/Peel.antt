@@ -35,11 +35,11 @@ are_blocks hunks longs (b ∷ ys) h = (h.0.block, are_blocks hunks longs ys h.1)
 
 -- ---- their words
 
-placed_words : (p : Place) (ps : List (Part × ℕ)) → words (map (λ x. (InBlock p x.0, x.1)) ps) ≡ map (λ x. x.1) ps
+pub placed_words : (p : Place) (ps : List (Part × ℕ)) → words (map (λ x. (InBlock p x.0, x.1)) ps) ≡ map (λ x. x.1) ps
 placed_words p [] = refl
 placed_words p (x ∷ ps) = ap (λ (ws : List ℕ). x.1 ∷ ws) (placed_words p ps)
 
-blocks_words : (hunks longs : ℕ) (c : Bool) (ys : List BlockValue) → words (blocks_labelled hunks longs c ys) ≡ block_texts ys
+pub blocks_words : (hunks longs : ℕ) (c : Bool) (ys : List BlockValue) → words (blocks_labelled hunks longs c ys) ≡ block_texts ys
 blocks_words hunks longs c [] = refl
 blocks_words hunks longs c (b ∷ ys) =
     let p : Place = record { hunks = hunks; longs = longs; has_content = c } in

@@ -22,7 +22,7 @@ use Rattle.hunk_files.proofs.{FileProgress.ProgressFits, HunkProgress.Within, Sh
 
 -- ---- refusals
 
-no_reference : (p : Place) (word : ℕ) (x : Inside) → Within p word x → IsReference x → ⊥
+pub no_reference : (p : Place) (word : ℕ) (x : Inside) → Within p word x → IsReference x → ⊥
 no_reference p word (InExtOffsets es w name value done owed) h r = absurd h
 no_reference p word _ h r = absurd r
 

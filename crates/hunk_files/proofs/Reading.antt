@@ -11,7 +11,7 @@ use Rattle.hunk_grammar.specs.Roles.{Role, refuse}
 use Rattle.hunk_files.proofs.{FileText.{file_leads, Leads-append}, FileProgress.Reads}
 use Rattle.hunk_files.proofs.{Runs.{Leads-keeps, Leads-split, Leads-same}, Accepted.labelled_accepted}
 use Rattle.hunk_files.proofs.Scan.{words_split, expects_of}
-use Rattle.hunk_blocks.proofs.{Lists.All-append, Fronts.All-right}
+use Rattle.hunk_blocks.proofs.{Lists.All-append, Fronts.{All-left, All-right}}
 
 -- What was read fits, and is the text so far.
 pub reads : {ws : List ℕ} {n : Next} (h : HasRead ws n) → Reads n h.done
@@ -65,6 +65,13 @@ module _ (ws : List ℕ) (n : Next) (h : HasRead ws n) (all : List ℕ) (last : 
         All-right IsAccepted s.front s.back (subst AreAccepted s.split k.accepted),
         s.back_words,
       )
+
+-- A front of what was read was read.
+pub front_read : (ws more : List ℕ) (last : Next) → HasRead (ws ++ more) last → (n : Next) × HasRead ws n
+front_read ws more last h =
+    let s = words_split h.done ws more h.all in
+    let cut = Leads-split (More AtFirst) last s.front s.back (subst (λ (ls : Labelled). Leads (More AtFirst) ls last) s.split h.run) in
+    (cut.0, record { done = s.front; run = cut.1; accepted = All-left IsAccepted s.front s.back (subst AreAccepted s.split h.accepted); all = s.front_words })
 
 -- A load text is read to its end.
 pub file_read : (v : LoadFileValue) → IsLoadFile v → HasRead (text v) (Finished v)

@@ -14,7 +14,7 @@ use Rattle.hunk_files.proofs.{Scan.begun_longs, Peel.hunk_words}
 abbrev pub entries_words : List TableEntry → List ℕ
 entries_words es = words (flat_map entry_labelled es)
 
-all_words : (hunks : ℕ) (v : LoadFileValue) → words (flat_map (hunk_labelled hunks) v) ≡ hunk_texts v
+pub all_words : (hunks : ℕ) (v : LoadFileValue) → words (flat_map (hunk_labelled hunks) v) ≡ hunk_texts v
 all_words hunks [] = refl
 all_words hunks (x ∷ v) = map-append (λ (y : Role × ℕ). y.1) (hunk_labelled hunks x) (flat_map (hunk_labelled hunks) v) ∙ ap₂ (λ (xs ys : List ℕ). xs ++ ys) (hunk_words hunks x) (all_words hunks v)
 

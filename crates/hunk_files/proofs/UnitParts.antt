@@ -30,7 +30,7 @@ use Rattle.hunk_files.proofs.OneObjectFault.{ObjectState, AtWord, AtCount, InNam
 
 -- ---- units and whole parts, along the longwords
 
-abbrev State : Type 0
+abbrev pub State : Type 0
 State = ObjectState × (ℕ × ℕ)
 
 abbrev pub reach : ObjectState → ℕ × ℕ → State

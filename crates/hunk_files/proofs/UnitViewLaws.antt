@@ -138,5 +138,5 @@ module _ (bytes : List ℕ) (file : AreObjectFile bytes) where
   pub units_of_is : units_of bytes ≡ file.value
   units_of_is = ap (λ (c : Cut ObjectFileValue). c.value) (ap units_cut (text_longs bytes file.value file.is_object_file.units file.text_is) ∙ units_are file.value file.is_object_file.units)
 
-  pub units_at_start : UnitsAt bytes 0
+  unfoldable pub units_at_start : UnitsAt bytes 0
   units_at_start = record { units = file.value; stand = record { each = file.is_object_file.units; inside = omega arith; text_is = file.text_is ∙ sym (append-nil (bytes_of (object_text file.value))) } }

@@ -1,5 +1,5 @@
 -- The part of a file that a longword is of, by the longwords before it.
-use Rattle.std.specs.Prelude.{◌≡◌, ℕ, ◌<◌, ◌/◌, List, [], ◌++◌, length, take, Some, None, codes}
+use Rattle.std.specs.Prelude.{◌≡◌, ℕ, ◌<◌, ◌/◌, List, [], ◌∷◌, ◌++◌, length, take, Some, None, codes}
 use Rattle.std.specs.Fmt.{decimal}
 use Rattle.std.specs.List.{AllByRecursion}
 use Rattle.hunk_words.specs.Limits.{name_limit}
@@ -10,26 +10,41 @@ use Rattle.hunk_blocks.specs.Faults.{Expects}
 use Rattle.hunk_blocks.specs.Values.{IsPayload}
 use Rattle.hunk_grammar.specs.declared.file_kind.Sniff.{Sniff}
 use Rattle.hunk_grammar.specs.declared.file_kind.Sniff.TheVariants as sniffs
-use Rattle.hunk_files.specs.FileSteps.{Progress, AtBlock, InBody, More}
+use Rattle.hunk_files.specs.Hunks.{block_texts}
+use Rattle.hunk_files.specs.LoadFile.{HunkValue, LoadFileValue, IsLoadFile}
 use Rattle.hunk_files.specs.ObjectFault.{ObjectRole, BetweenHunks, blocks_from}
 use Rattle.hunk_files.specs.ObjectFile.{UnitValue, ObjectFileValue, IsUnit, unit_header, unit_text, object_text}
-use Rattle.hunk_files.specs.WordsRead.{HasRead}
+use Rattle.hunk_files.specs.Tables.{header_text, hunk_texts}
 use Rattle.hunk_files.specs.declared.part.Part.{Part}
 use Rattle.hunk_files.specs.declared.part.Part.TheVariants as parts
 
 -- ---- load files
 
--- the next longword is of the header, or of the hunk behind those that are whole
-abbrev pub part_of : Progress → Part
-part_of (AtBlock o) = parts.Hunk (length o.finished)
-part_of (InBody o word x) = parts.Hunk (length o.finished)
-part_of _ = parts.Header
+-- Of a load file its header, but not all of it.
+pub record IsInLoadHeader (before : List ℕ) : Type 0 where
+  pub value : LoadFileValue
+  pub is_load_file : IsLoadFile value
+  pub next : ℕ
+  pub more : List ℕ
+  pub split : header_text value ≡ before ++ next ∷ more
 
--- These longwords were read, none was refused, and the next is of this part.
-pub record IsLoadPart (before : List ℕ) (part : Part) : Type 0 where
-  pub progress : Progress
-  pub read : HasRead before (More progress)
-  pub part_is : part ≡ part_of progress
+-- Of a load file its header and its first hunks, so many, and a front of the next that goes on.
+pub record IsInLoadHunk (before : List ℕ) (hunk : ℕ) : Type 0 where
+  pub whole : List HunkValue
+  pub hunk_open : HunkValue
+  pub ahead : List HunkValue
+  pub front : List ℕ
+  pub next : ℕ
+  pub more : List ℕ
+  pub is_load_file : IsLoadFile (whole ++ hunk_open ∷ ahead)
+  pub split : before ≡ header_text (whole ++ hunk_open ∷ ahead) ++ (hunk_texts whole ++ front)
+  pub goes_on : block_texts hunk_open.blocks ≡ front ++ next ∷ more
+  pub hunk_is : hunk ≡ length whole
+
+-- These longwords are of a load file, and the next is of this part.
+pub data IsLoadPart (before : List ℕ) : Part → Type 0 where
+  of_header : IsInLoadHeader before → IsLoadPart before parts.Header
+  of_hunk : (hunk : ℕ) → IsInLoadHunk before hunk → IsLoadPart before (parts.Hunk hunk)
 
 -- ---- object files
 

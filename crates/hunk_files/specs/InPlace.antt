@@ -10,6 +10,7 @@ use Rattle.hunk_files.specs.LoadText.{table}
 use Rattle.hunk_files.specs.Tables.{entry_text, hunk_texts}
 use Rattle.hunk_files.specs.Hunks.{block_texts}
 use Rattle.hunk_files.specs.Cuts.{hunk_cut, load_hunks_cut}
+use Rattle.hunk_files.specs.Fault.{BeginsWithLoadFile}
 
 -- Of parts that are still to come the first was given, where one was left, with the byte of the input at which its text
 -- begins; behind it the next begins.
@@ -55,6 +56,11 @@ abbrev pub blocks_in : List ℕ → List BlockValue
 blocks_in bytes = (hunk_cut (longs bytes)).value
 
 -- ---- load files
+
+-- All of the bytes are a load file.
+pub record AreLoadFile (bytes : List ℕ) : Type 0 where
+  pub file : BeginsWithLoadFile bytes
+  pub ends : file.rest ≡ []
 
 -- The longwords begin with this number of entries of a table.
 abbrev pub BeginsWithTable : ℕ → List ℕ → Type 0

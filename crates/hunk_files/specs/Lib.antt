@@ -11,6 +11,8 @@ pub mod HunkFile
 pub mod Hunks
 pub mod Image
 pub mod InPlace
+pub mod Items
+pub mod ItemViews
 pub mod Lacks
 pub mod LoadFile
 pub mod LoadHunks
@@ -24,7 +26,7 @@ pub mod OpenSegment
 pub mod Overlap
 pub mod Passing
 pub mod PlacedFindings
-pub mod Ranges
+pub mod ReadFiles
 pub mod ReaderPosition
 pub mod StandingBlocks
 pub mod Strip

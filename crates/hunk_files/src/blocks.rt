@@ -1,5 +1,5 @@
 //! The blocks of a hunk, of files of both kinds, read where they lie.
-ghost use Rattle.std.specs.Prelude.{◌≡◌, ◌+◌, ◌*◌, IfErr, IfOk, length};
+ghost use Rattle.std.specs.Prelude.{◌≡◌, ◌+◌, ◌*◌, [], IfErr, IfOk, length};
 ghost use Rattle.std.specs.Iterator.{item_count};
 ghost use Rattle.hunk_words.specs.declared.reason.Reason.TheVariants as reasons;
 ghost use Rattle.hunk_words.specs.Longs.{bytes_of};
@@ -50,6 +50,16 @@ impl<'a> BlockViews<'a> {
             result ≡ record { place = start; value = hunk.blocks } }
     {
         BlockViews { bytes, at: start }
+    }
+
+    /// No blocks, at this byte.
+    pub(crate) fn none(start: usize) -> BlockViews<'a>
+        ensures { result ≡ record { place = start; value = [] } }
+    {
+        BlockViews {
+            bytes: &[],
+            at: start,
+        }
     }
 
     /// The byte of the input at which the next block begins, or behind END the byte at which the

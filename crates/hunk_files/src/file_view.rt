@@ -8,8 +8,10 @@ ghost use Rattle.hunk_files.specs.HunkFile.{AreFile, IsFileOf, IsRefusal};
 ghost use Rattle.hunk_files.specs.HunkFile.{EndsFilePart, bytes_behind};
 ghost use Rattle.hunk_files.specs.HunkFile.{file_bytes, stripped};
 ghost use Rattle.hunk_files.specs.Lacks.{EndsAt};
+ghost use Rattle.hunk_files.specs.StandingBlocks.{file_items};
 
 use crate::hunk_file::HunkFile;
+use crate::items::Items;
 use crate::load::LoadView;
 use crate::object::ObjectView;
 use crate::ranges::TakesBytes;
@@ -75,6 +77,16 @@ impl<'a> FileView<'a> {
         match self {
             FileView::Load { file, rest: _ } => file.strip_with(taker),
             FileView::Object(file) => file.strip_with(taker),
+        }
+    }
+
+    /// What stands in the file, in file order. It takes no memory.
+    pub fn items(&self) -> Items<'a>
+        ensures { result ≡ file_items (file_of self.now) }
+    {
+        match self {
+            FileView::Load { file, rest: _ } => file.items(),
+            FileView::Object(file) => file.items(),
         }
     }
 

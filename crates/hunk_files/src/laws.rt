@@ -1,5 +1,6 @@
 //! Laws over the definitions alone: each function does nothing, and its contract is the law.
-ghost use Rattle.std.specs.Prelude.{◌≡◌, ℕ, List, [], ◌∷◌, ◌++◌, map, IsTrue, Some, None, ◌⊎◌};
+ghost use Rattle.std.specs.Prelude.{◌≡◌, ◌≤◌, ℕ, List, [], ◌∷◌, ◌++◌, length, map, true, IsTrue};
+ghost use Rattle.std.specs.Prelude.{Some, None, ◌⊎◌, ◌↔◌};
 ghost use Rattle.std.specs.List.{AllByRecursion};
 ghost use Rattle.hunk_words.specs.Longs.{IsLong, IsBytes, longs, bytes_of};
 ghost use Rattle.hunk_words.specs.declared.reason.Reason.{Reason};
@@ -14,15 +15,27 @@ ghost use Rattle.hunk_files.specs.SumImage.{IsSumImage};
 ghost use Rattle.hunk_files.specs.ObjectFile.{ObjectFileValue, IsNoObjectFile, IsObjectFile, object_text};
 ghost use Rattle.hunk_files.specs.ObjectFault.{HasObjectFault, IsTruncatedObject, ObjectRole, objects, refuse_object};
 ghost use Rattle.hunk_blocks.specs.Faults.{Expects as ExpectsOf, HasRefusal as RefusalOf, IsFront};
+ghost use Rattle.hunk_blocks.specs.Faults.{words};
 ghost use Rattle.hunk_files.specs.Findings.{findings};
 ghost use Rattle.hunk_files.specs.PlacedFindings.{StandsInPlace, placed_findings};
 ghost use Rattle.hunk_files.specs.Strip.{strip_file, strip_object};
 ghost use Rattle.hunk_blocks.specs.Along.{GoesAlong};
+ghost use Rattle.hunk_files.specs.Machines.{EndsHunk, is_free, is_free_in_object, leading};
+ghost use Rattle.hunk_files.specs.Machines.{leads_to, load_at, object_at};
 ghost use Rattle.hunk_files.specs.Machines.{refuse_in_load, refuse_in_object};
+ghost use Rattle.hunk_files.specs.Tables.{header_text};
+ghost use Rattle.hunk_files.specs.FileParts.{IsPartAt};
+ghost use Rattle.hunk_files.specs.FileSteps.{Finished, More, Next, Progress, role_of};
+ghost use Rattle.hunk_files.specs.ReadFiles.{IsOf, words_of};
+ghost use Rattle.hunk_files.specs.WordsRead.{HasRead};
 ghost use Rattle.hunk_files.specs.ObjectFault.{BeforeUnits, BetweenHunks, units_labelled};
 ghost use Rattle.hunk_files.specs.ObjectSteps as object;
+ghost use Rattle.hunk_files.specs.declared.object.position.ObjectPosition.{ObjectPosition};
 ghost use Rattle.hunk_files.specs.declared.object.position.ObjectPosition.TheVariants as places;
+ghost use Rattle.hunk_files.specs.declared.part.Part.{Part};
 ghost use Rattle.hunk_grammar.specs.Positions as load;
+ghost use Rattle.hunk_grammar.specs.declared.file_kind.Sniff.{Sniff};
+ghost use Rattle.hunk_grammar.specs.declared.position.Position.{Position};
 ghost use Rattle.hunk_grammar.specs.declared.position.Position.TheVariants as positions;
 
 /// No load text is a proper prefix of another, one text has one value, and the longwords before a
@@ -134,4 +147,61 @@ pub fn machines()
     ensures object { (o : ObjectFileValue) → IsObjectFile o →
         GoesAlong refuse_in_object refuse_object object.step
         (places.Word BeforeUnits) (units_labelled BeforeUnits o) (places.Word BetweenHunks) }
+{}
+
+/// A place is in one part of a file alone.
+pub fn one_part()
+    ensures { (kind : Sniff) (bytes : List ℕ) (place : ℕ) (a b : Part) →
+        IsPartAt kind bytes place a → IsPartAt kind bytes place b → a ≡ b }
+{}
+
+/// What a reader of load files has read is known by the texts alone. All is read just where it is
+/// the text of a load file, and some of one just where a load text begins so and goes on. What is
+/// told of it spells the longwords, and is in each file that goes on from there.
+pub fn words_read()
+    ensures whole { (ws : List ℕ) (v : LoadFileValue) →
+        HasRead ws (Finished v) ↔ (IsLoadFile v × (text v ≡ ws)) }
+    ensures some { (ws : List ℕ) (role : Role) → Expects ws role →
+        (p : Progress) × HasRead ws (More p) }
+    ensures goes_on { (ws : List ℕ) (p : Progress) → HasRead ws (More p) → Expects ws (role_of p) }
+    ensures one { (ws : List ℕ) (n m : Next) → HasRead ws n → HasRead ws m → n ≡ m }
+    ensures spells { (ws : List ℕ) (p : Progress) → HasRead ws (More p) → words_of p ≡ ws }
+    ensures tells { (ws more : List ℕ) (p : Progress) (v : LoadFileValue) → HasRead ws (More p) →
+        IsLoadFile v → text v ≡ ws ++ more → IsOf v p }
+{}
+
+/// After longwords of a load file, their position says where the file ends, where its header does,
+/// and where a hunk does, so that the next opens or the file is whole.
+pub fn load_places()
+    ensures end { (v : LoadFileValue) (ws more : List ℕ) → IsLoadFile v → text v ≡ ws ++ more →
+        load.is_done (load_at ws) ≡ true ↔ (more ≡ []) }
+    ensures header { (v : LoadFileValue) (ws more : List ℕ) → IsLoadFile v → text v ≡ ws ++ more →
+        load.is_behind_header (load_at ws) ≡ true
+        ↔ ((rest : List ℕ) × (ws ≡ header_text v ++ rest)) }
+    ensures hunks { (v : LoadFileValue) (ws more : List ℕ) → IsLoadFile v → text v ≡ ws ++ more →
+        load.is_between_hunks (load_at ws) ≡ true ↔ EndsHunk v ws }
+{}
+
+/// The run of a position is the longwords that come next and may be any: those of a payload, and of
+/// a name and the value after it. Whatever they are, `pass` says where they lead.
+pub fn load_runs()
+    ensures run { (v : LoadFileValue) (done more : List (Role × ℕ)) → IsLoadFile v →
+        labelled v ≡ done ++ more → load.run (load_at (words done)) ≡ leading is_free more }
+    ensures free { (role : Role) (word : ℕ) → is_free role ≡ true → refuse role word ≡ None }
+    ensures pass { (p : Position) (ws : List ℕ) → length ws ≤ load.run p →
+        leads_to load.step p ws ≡ load.pass p (length ws) }
+{}
+
+/// The like of an object file, which may end where its longwords so far are one.
+pub fn object_places()
+    ensures end { (o : ObjectFileValue) (ws more : List ℕ) → IsObjectFile o →
+        object_text o ≡ ws ++ more → object.may_end (object_at ws) ≡ true
+        ↔ ((u : ObjectFileValue) × IsObjectFile u × (object_text u ≡ ws)) }
+    ensures run { (o : ObjectFileValue) (done more : List (ObjectRole × ℕ)) → IsObjectFile o →
+        units_labelled BeforeUnits o ≡ done ++ more →
+        object.run (object_at (words done)) ≡ leading is_free_in_object more }
+    ensures free { (role : ObjectRole) (word : ℕ) → is_free_in_object role ≡ true →
+        refuse_object role word ≡ None }
+    ensures behind { (p : ObjectPosition) (ws : List ℕ) → length ws ≡ object.run p →
+        leads_to object.step p ws ≡ object.behind p }
 {}

@@ -5,6 +5,7 @@ mod bases;
 mod blocks;
 mod file_view;
 mod hunk_file;
+mod items;
 pub mod laws;
 mod load;
 mod object;
@@ -13,12 +14,12 @@ mod part;
 mod place;
 mod ranges;
 mod row;
-mod visiting;
 
 pub use crate::bases::Bases;
 pub use crate::blocks::BlockViews;
 pub use crate::file_view::{FileView, sniff};
 pub use crate::hunk_file::HunkFile;
+pub use crate::items::{Item, Items};
 pub use crate::load::{ImageFault, LoadFile, LoadHunkView, LoadHunkViews, LoadView, TableIter};
 pub use crate::object::{
     Finding, FindingKind, Findings, Hunk, HunkView, HunkViews, ObjectFile, ObjectView,
@@ -28,5 +29,4 @@ pub use crate::object::{
 pub use crate::part::{Part, part_at};
 pub use crate::ranges::TakesBytes;
 pub use crate::row::Row;
-pub use crate::visiting::TakesBlocks;
 pub use hunk_grammar::Sniff;

@@ -1,14 +1,13 @@
 //! The ranges of the input that a stripped file keeps.
-ghost use Rattle.std.specs.Prelude.{◌≡◌, ◌+◌, ◌*◌, ◌≤◌, ℕ, List, [], ◌++◌, length, slice_range};
+ghost use Rattle.std.specs.Prelude.{◌≡◌, ◌≤◌, ℕ, List, [], ◌++◌, length, slice_range};
 ghost use Rattle.std.proofs.Common.{◌∙◌, ap, append-nil, append_assoc, refl, sym};
 ghost use Rattle.hunk_words.specs.Longs.{bytes_of};
 ghost use Rattle.hunk_words.specs.Prints.{Prints};
-ghost use Rattle.hunk_files.specs.Hunks.{HunkAt, block_texts};
-ghost use Rattle.hunk_files.specs.Ranges.{HandsOver};
-ghost use Rattle.hunk_files.specs.Strip.{strip_blocks};
+ghost use Rattle.std.specs.List.{flat_map};
+ghost use Rattle.hunk_files.specs.Items.{ItemsStand};
+ghost use Rattle.hunk_files.specs.ItemViews.{kept_text};
 
-use crate::blocks::BlockViews;
-use crate::order::stays;
+use crate::items::Items;
 use hunk_words::{Printer, Sink};
 
 /// Takes bytes range by range, and refuses none: what goes wrong with one is kept for the end.
@@ -43,25 +42,6 @@ impl<W: Sink> TakesBytes for Printer<'_, W> {
     }
 }
 
-/// A range of the input that stays and was not handed over yet: it begins behind the last block
-/// that was dropped, and goes as far as the input was read.
-#[derive(Clone, Copy, Debug)]
-pub(crate) struct Pending {
-    pub(crate) from: usize,
-    pub(crate) to: usize,
-    ghost ordered: { from ≤ to },
-}
-
-impl Pending {
-    /// The first bytes of the input, up to this one.
-    pub(crate) fn front(to: usize) -> Pending
-        ensures from { result.from ≡ 0 }
-        ensures to { result.to ≡ to }
-    {
-        Pending { from: 0, to }
-    }
-}
-
 /// Hands over the bytes from the one place to the other, unless there are none.
 #[inline(always)]
 pub(crate) fn hand_over<T: TakesBytes>(taker: &mut T, bytes: &[u8], from: usize, end: usize)
@@ -74,26 +54,20 @@ pub(crate) fn hand_over<T: TakesBytes>(taker: &mut T, bytes: &[u8], from: usize,
     }
 }
 
-/// Reads the hunk that stands behind the pending range, and hands over what stays of both, up to the
-/// range that is pending behind it.
-pub(crate) fn strip_hunk<T: TakesBytes>(taker: &mut T, bytes: &[u8], pending: Pending) -> Pending
-    requires { HunkAt bytes.now pending.to }
-    ensures text { (hunk : HunkAt bytes.now pending.to) → HandsOver T.takes taker.old taker.new
-        (slice_range bytes.now pending.from pending.to) (slice_range bytes.now result.from result.to)
-        (bytes_of (block_texts (strip_blocks hunk.blocks))) }
-    ensures end { (hunk : HunkAt bytes.now pending.to) →
-        result.to ≡ pending.to + 4 * length (block_texts hunk.blocks) }
+/// Hands over the bytes before the items, and what stays of these, in ranges that are each as long as
+/// they can be.
+pub(crate) fn strip_items<T: TakesBytes>(taker: &mut T, bytes: &[u8], mut items: Items<'_>)
+    requires { ItemsStand bytes.now items }
+    ensures { T.takes taker.old (slice_range bytes.now 0 items.entry.place
+        ++ bytes_of (flat_map kept_text items.entry.value)) taker.new }
 {
-    let mut from = pending.from;
-    let mut blocks = BlockViews::at(bytes, pending.to);
-    'stripping: while let Some(block) = blocks.next() {
-        if !stays(&block) {
-            hand_over(taker, bytes, from, block.place() as usize);
-            from = blocks.at;
+    // What stays and was not handed over yet begins behind the last item that was dropped.
+    let mut from = 0;
+    'stripping: while let Some(item) = items.next() {
+        if !item.stays() {
+            hand_over(taker, bytes, from, item.place() as usize);
+            from = items.place() as usize;
         }
     }
-    Pending {
-        from,
-        to: blocks.at,
-    }
+    hand_over(taker, bytes, from, items.place() as usize);
 }

@@ -1,2 +1,3 @@
 mod Noting
+mod Stopping
 mod Telling

@@ -14,12 +14,13 @@ use Rattle.hunk_commands.specs.declared.fault.RunFault.TheVariants.{HexText, Mem
 use Rattle.hunk_commands.specs.declared.rewriting.Rewritten.{Rewritten}
 use Rattle.hunk_commands.specs.Faults.{status_of}
 use Rattle.hunk_commands.specs.Output.{Takes}
-use Rattle.hunk_run.specs.declared.listing.Listing.{Listing}
 use Rattle.hunk_run.specs.declared.note.Ended.{Ended}
 use Rattle.hunk_run.specs.declared.note.Note.{Note}
 use Rattle.hunk_run.specs.declared.note.Note.TheVariants.{Fault, LeftOut, Line, NotText, Output}
-use Rattle.hunk_run.specs.Notes.{EndsByFault, EndsListing, EndsOrFails, EndsRewriting, NamesFiles, Notes, SaysLeftOut, fault_ended, input_of, output_of, left_out_note, refusal_ended, refusal_text, rewritten_ended}
-use Rattle.hunk_run.specs.Runs.{Lists, PrintsNoHelp, TellsRewriting}
+use Rattle.hunk_run.specs.Notes.{EndsByFault, EndsListing, EndsOrFails, EndsRewriting, NamesFiles, Notes, fault_ended, input_of, output_of, left_out_note, refusal_ended, refusal_text, rewritten_ended}
+use Rattle.hunk_run.specs.Orders.{RewritesInput, RewritesTo, SaysLeftOut}
+use Rattle.hunk_run.specs.Stores.{MadeFile}
+use Rattle.hunk_run.specs.Runs.{PrintsNoHelp}
 use Rattle.hunk_run.specs.Status.{PrintsOrFails, TellsFindings, TellsOutcome, TellsStatus, with_newline}
 
 -- what the status tells, where the note goes with it
@@ -75,8 +76,7 @@ module _ {W : Type 0} (outlet : W → Outlet) (old new : Writing W) where
 
   pub notes_fault : (fault : RunFault) (name : Option (List ℕ)) (cause : Option Error) (untouched : Option (List ℕ)) (result : Ended) →
       EndsByFault outlet old new fault name cause untouched result → Notes outlet old new result.status result.note
-  notes_fault fault name cause untouched result (inl ends) = notes_ended _ (fault_ended fault name cause untouched) result ends (λ takes. (refl, takes))
-  notes_fault fault name cause untouched result (inr ends) = notes_ended _ (fault_ended Memory None None None) result ends (λ takes. (refl, takes))
+  notes_fault fault name cause untouched result ends = notes_ended _ (fault_ended fault name cause untouched) result ends (λ takes. (refl, takes))
 
   -- a fault that is none of the output
   pub ends_listing : (fault : RunFault) (name : Option (List ℕ)) (cause : Option Error) (result : Ended) →
@@ -88,17 +88,12 @@ module _ {W : Type 0} (outlet : W → Outlet) (old new : Writing W) where
   ends_listing (RefusedIn refusal part) name cause result other ends = ends
   ends_listing (Write written) name cause result other ends = absurd (other written refl)
 
-  fault_not_done : (fault : RunFault) (name : Option (List ℕ)) (cause : Option Error) (untouched : Option (List ℕ)) (text : List ℕ) (result : Ended) →
-      EndsOrFails outlet old new text (fault_ended fault name cause untouched) result → result.status ≡ 0 → ⊥
-  fault_not_done fault name cause untouched text result (inl (is, takes)) none =
-      let same = ap (λ (e : Ended). e.status) is in omega (arith, some_status fault, same, none)
-  fault_not_done fault name cause untouched text result (inr (is, broken)) none =
-      let same = ap (λ (e : Ended). e.status) is in omega (arith, same, none)
-
   pub not_done : (fault : RunFault) (name : Option (List ℕ)) (cause : Option Error) (untouched : Option (List ℕ)) (result : Ended) →
       EndsByFault outlet old new fault name cause untouched result → result.status ≡ 0 → ⊥
-  not_done fault name cause untouched result (inl ends) none = fault_not_done fault name cause untouched _ result ends none
-  not_done fault name cause untouched result (inr ends) none = fault_not_done Memory None None None _ result ends none
+  not_done fault name cause untouched result (inl (is, takes)) none =
+      let same = ap (λ (e : Ended). e.status) is in omega (arith, some_status fault, same, none)
+  not_done fault name cause untouched result (inr (is, broken)) none =
+      let same = ap (λ (e : Ended). e.status) is in omega (arith, same, none)
 
   -- words that are no order
   pub notes_refusal : (fault : OrderFault) (result : Ended) → EndsOrFails outlet old new (refusal_text fault) (refusal_ended fault) result →
@@ -132,15 +127,17 @@ module _ {W : Type 0} (outlet : W → Outlet) (old new : Writing W) where
       some_ended _ (refusal_ended words.Memory) result
       (subst (λ (f : OrderFault). EndsOrFails outlet old new (refusal_text f) (refusal_ended f) result) (memory_where wanted order fault refuses some) ends) (omega arith) none
 
-  names_nothing : (order : Order) (text : List ℕ) (result : Ended) → EndsOrFails outlet old new text (fault_ended Memory None None None) result → NamesFiles order result.note
-  names_nothing order text result (inl (is, takes)) = subst (λ (e : Ended). NamesFiles order e.note) (sym is) tt
-  names_nothing order text result (inr (is, broken)) = subst (λ (e : Ended). NamesFiles order e.note) (sym is) tt
+  pub noted_ended : (Holds : Option Note → Type 0) (text : List ℕ) (ended result : Ended) → EndsOrFails outlet old new text ended result →
+      Holds ended.note → Holds (Some (Output None)) → Holds result.note
+  noted_ended Holds text ended result (inl (is, takes)) holds failed = subst (λ (e : Ended). Holds e.note) (sym is) holds
+  noted_ended Holds text ended result (inr (is, broken)) holds failed = subst (λ (e : Ended). Holds e.note) (sym is) failed
 
-  pub unnamed : (wanted : Option Order) (order : Order) (fault : OrderFault) (result : Ended) → RefusesOrder wanted fault → wanted ≡ Some order →
-      EndsOrFails outlet old new (refusal_text fault) (refusal_ended fault) result → NamesFiles order result.note
-  unnamed wanted order fault result refuses some ends =
-      names_nothing order _ result
-      (subst (λ (f : OrderFault). EndsOrFails outlet old new (refusal_text f) (refusal_ended f) result) (memory_where wanted order fault refuses some) ends)
+  pub noted_memory : (Holds : Option Note → Type 0) (wanted : Option Order) (order : Order) (fault : OrderFault) (result : Ended) → RefusesOrder wanted fault →
+      wanted ≡ Some order → EndsOrFails outlet old new (refusal_text fault) (refusal_ended fault) result →
+      Holds (Some (Fault Memory None None None)) → Holds (Some (Output None)) → Holds result.note
+  noted_memory Holds wanted order fault result refuses some ends memory failed =
+      noted_ended Holds _ (refusal_ended words.Memory) result
+      (subst (λ (f : OrderFault). EndsOrFails outlet old new (refusal_text f) (refusal_ended f) result) (memory_where wanted order fault refuses some) ends) memory failed
 
   -- no help is printed
   prints_line : (fault : OrderFault) (result : Ended) → IsLine fault → EndsOrFails outlet old new (refusal_text fault) (refusal_ended fault) result →
@@ -159,15 +156,9 @@ module _ {W : Type 0} (outlet : W → Outlet) (old new : Writing W) where
   prints_no_help wanted fault result (inr (is, none)) ends = inl (prints_line fault result is ends)
 
   -- a fault of a file of this name
-  names_ended : (order : Order) (text : List ℕ) (ended result : Ended) → EndsOrFails outlet old new text ended result → NamesFiles order ended.note →
-      NamesFiles order result.note
-  names_ended order text ended result (inl (is, takes)) names = subst (λ (e : Ended). NamesFiles order e.note) (sym is) names
-  names_ended order text ended result (inr (is, broken)) names = subst (λ (e : Ended). NamesFiles order e.note) (sym is) tt
-
   pub names_fault : (order : Order) (fault : RunFault) (name : Option (List ℕ)) (cause : Option Error) (untouched : Option (List ℕ)) (result : Ended) →
       EndsByFault outlet old new fault name cause untouched result → NamesFiles order (Some (Fault fault name cause untouched)) → NamesFiles order result.note
-  names_fault order fault name cause untouched result (inl ends) names = names_ended order _ (fault_ended fault name cause untouched) result ends names
-  names_fault order fault name cause untouched result (inr ends) names = names_nothing order _ result ends
+  names_fault order fault name cause untouched result ends names = noted_ended (NamesFiles order) _ (fault_ended fault name cause untouched) result ends names tt
 
   -- a run that was to rewrite a file
   names_left_out : (strip : Bool) (stripped rest : ℕ) (input output : List ℕ) → NamesFiles (orders.Rewrite strip input output) (left_out_note stripped rest input)
@@ -176,7 +167,7 @@ module _ {W : Type 0} (outlet : W → Outlet) (old new : Writing W) where
   names_left_out strip (suc more) rest input output = refl
 
   -- a fault of it: whose name is said, and which file was not touched
-  rewriting_fault : (strip : Bool) (fault : RunFault) (input output : List ℕ) (cause : Option Error) (result : Ended) →
+  pub rewriting_fault : (strip : Bool) (fault : RunFault) (input output : List ℕ) (cause : Option Error) (result : Ended) →
       EndsRewriting outlet old new (Err fault) input output cause result →
       (name : Option (List ℕ)) × (untouched : Option (List ℕ)) × EndsByFault outlet old new fault name cause untouched result
       × NamesFiles (orders.Rewrite strip input output) (Some (Fault fault name cause untouched))
@@ -190,7 +181,8 @@ module _ {W : Type 0} (outlet : W → Outlet) (old new : Writing W) where
   pub names_rewriting : (strip : Bool) (answer : Result Rewritten RunFault) (input output : List ℕ) (cause : Option Error) (result : Ended) →
       EndsRewriting outlet old new answer input output cause result → NamesFiles (orders.Rewrite strip input output) result.note
   names_rewriting strip (Ok done) input output cause result ends =
-      names_ended (orders.Rewrite strip input output) _ (rewritten_ended done input) result ends (names_left_out strip (done.read - done.written) done.rest input output)
+      noted_ended (NamesFiles (orders.Rewrite strip input output)) _ (rewritten_ended done input) result ends
+      (names_left_out strip (done.read - done.written) done.rest input output) tt
   names_rewriting strip (Err fault) input output cause result ends =
       let (name, untouched, by, names) = rewriting_fault strip fault input output cause result ends in
       names_fault (orders.Rewrite strip input output) fault name cause untouched result by names
@@ -208,14 +200,15 @@ module _ {W : Type 0} (outlet : W → Outlet) (old new : Writing W) where
       let (name, untouched, by, names) = rewriting_fault false fault input output cause result ends in notes_fault fault name cause untouched result by
 
   -- where the status is 0 the file is rewritten, and what was left out is said
-  pub says_left_out : (strip : Bool) (answer : Result Rewritten RunFault) (input output : List ℕ) (cause : Option Error) (result : Ended) →
-      IfOk answer (TellsRewriting strip) → EndsRewriting outlet old new answer input output cause result → result.status ≡ 0 →
-      SaysLeftOut outlet old new (orders.Rewrite strip input output) result.note
-  says_left_out strip (Ok done) input output cause result tells (inl (is, takes)) none =
-      (record { done = done; tells = tells; takes = takes }, ap (λ (e : Ended). e.note) is)
-  says_left_out strip (Ok done) input output cause result tells (inr (is, broken)) none =
+  pub says_left_out : (first made : Option MadeFile) (most : ℕ) (known : Option (List ℕ)) (strip : Bool) (answer : Result Rewritten RunFault) (input output : List ℕ)
+      (cause : Option Error) (result : Ended) → IfOk answer (λ done. RewritesInput known (RewritesTo first made output strip done) most) →
+      EndsRewriting outlet old new answer input output cause result → result.status ≡ 0 →
+      SaysLeftOut outlet old new first made most known (orders.Rewrite strip input output) result.note
+  says_left_out first made most known strip (Ok done) input output cause result rewrites (inl (is, takes)) none =
+      (record { done = done; rewrites = rewrites; takes = takes }, ap (λ (e : Ended). e.note) is)
+  says_left_out first made most known strip (Ok done) input output cause result rewrites (inr (is, broken)) none =
       absurd (let same = ap (λ (e : Ended). e.status) is in omega (arith, same, none))
-  says_left_out strip (Err fault) input output cause result tells ends none =
+  says_left_out first made most known strip (Err fault) input output cause result rewrites ends none =
       let (name, untouched, by, names) = rewriting_fault strip fault input output cause result ends in absurd (not_done fault name cause untouched result by none)
 
 -- a run that was to list an input; the output is mid behind what was listed
@@ -249,12 +242,11 @@ module _ {W : Type 0} (outlet : W → Outlet) (old mid new : Writing W) (name : 
   listing_done (Err (Refused refusal)) ends none = absurd (not_done outlet mid new (Refused refusal) name cause None result ends none)
   listing_done (Err (RefusedIn refusal part)) ends none = absurd (not_done outlet mid new (RefusedIn refusal part) name cause None result ends none)
 
-  pub lists_where_done : (listing : Listing) (answer : Result ℕ RunFault) → IfOk answer (λ status. status ≡ 0 → Lists outlet old mid listing) →
-      EndsListing outlet mid new answer name cause result → result.status ≡ 0 → Lists outlet old new listing
-  lists_where_done listing answer lists ends none =
+  pub done_where : (Done : Writing W → Type 0) (answer : Result ℕ RunFault) → IfOk answer (λ status. status ≡ 0 → Done mid) →
+      EndsListing outlet mid new answer name cause result → result.status ≡ 0 → Done new
+  done_where Done answer is ends none =
       let (done, same, quiet) = listing_done answer ends none in
-      subst (λ (w : Writing W). Lists outlet old w listing) (sym same)
-      (subst (λ (a : Result ℕ RunFault). IfOk a (λ status. status ≡ 0 → Lists outlet old mid listing)) done lists refl)
+      subst Done (sym same) (subst (λ (a : Result ℕ RunFault). IfOk a (λ status. status ≡ 0 → Done mid)) done is refl)
 
   -- a fault is one of the input
   pub names_listing : (order : Order) (answer : Result ℕ RunFault) → EndsListing outlet mid new answer name cause result → name ≡ input_of order →

@@ -1,4 +1,4 @@
--- What a run lists, by what an engine function has written.
+-- What a run lists or rewrites, by what an engine function has written.
 use Rattle.std.proofs.Common.{◌≡◌, ◌<◌, ◌++◌, ◌∙◌, ℕ, Bool, true, false, List, [], Option, Some, None, length, take, inr, refl, ap, sym, subst, arith, append-nil, append_assoc}
 use Rattle.std.specs.Prelude.{Ok}
 use Rattle.std.specs.Io.KnownBytes.{Consumes, IsAtEnd}
@@ -10,7 +10,11 @@ use Rattle.hunk_scatter.specs.declared.loading.Limits.{Limits}
 use Rattle.hunk_commands.specs.Engine.{PutsAll, PutsFirst}
 use Rattle.hunk_commands.specs.Validated.{IsValidated}
 use Rattle.hunk_commands.specs.Output.{Takes}
-use Rattle.hunk_run.specs.OutFile.{OutFile, TakesAll, TakesFirst, file_outlet}
+use Rattle.hunk_run.specs.OutFile.{OutFile, file_outlet}
+use Rattle.hunk_run.specs.Orders.{RewritesTo}
+use Rattle.hunk_run.specs.Stores.{MadeFile, MakesAtMost, MakesFirst, MakesWhole}
+use Rattle.hunk_commands.specs.Rewritten.{IsRewritten}
+use Rattle.hunk_commands.specs.declared.rewriting.Rewritten.{Rewritten}
 use Rattle.hunk_run.specs.Status.{TellsFindings}
 use Rattle.hunk_run.specs.declared.listing.Listing.{Listing}
 use Rattle.hunk_run.specs.declared.listing.Listing.TheVariants as listings
@@ -97,20 +101,42 @@ lists_text outlet old new listing before after cut rest given bytes consumed at_
   takes = lists.takes;
 }
 
--- what OUT has taken of a text that was put
-abbrev pub takes_first : {F : Type 0} (Is : List ℕ → Type 0) (old new : Writing (OutFile F)) (out kept : OutFile F) (written : ℕ) → old.sink ≡ out → old.written ≡ 0 → kept.taken ≡ new.sink.taken →
-    written ≡ saturated new.written → PutsFirst file_outlet Is old new → TakesFirst Is out kept written
-takes_first {F} Is old new out kept written before none same told puts = record {
-  text = puts.text;
-  is_text = puts.is_text;
-  count = puts.puts.count;
-  fits = puts.puts.fits;
-  taken = same ∙ puts.puts.gone ∙ ap (λ (o : OutFile F). o.taken ++ take puts.puts.count puts.text) before;
-  told = told ∙ ap saturated (let all : new.written ≡ puts.puts.count = omega (arith, puts.puts.rose, none) in all);
-}
+-- ---- OUT, of which nothing was pushed at first; `kept` is the file as it is in the end
 
--- it has taken all of one that was put whole
-pub takes_all : {F : Type 0} (Is : List ℕ → Type 0) (old new : Writing (OutFile F)) (out kept : OutFile F) (written : ℕ) → old.sink ≡ out → old.written ≡ 0 → kept.taken ≡ new.sink.taken →
-    written ≡ saturated new.written → PutsAll file_outlet Is old new → TakesAll Is out kept written
-takes_all Is old new out kept written before none same told (puts, all) =
-    (takes_first Is old new out kept written before none same told puts, (let count : puts.puts.count ≡ length puts.text = omega (arith, puts.puts.rose, all) in count))
+module _ (old new : Writing OutFile) (kept : OutFile) (first outset made : Option MadeFile) (name output : List ℕ) (written : ℕ)
+    (empty : old.sink.taken ≡ []) (unwritten : old.written ≡ 0) (same : kept.taken ≡ new.sink.taken) (told : written ≡ saturated new.written)
+    (is_first : first ≡ outset) (is_name : output ≡ name) (is_made : made ≡ kept.made) where
+  -- what is known of the file is known of what the store has made
+  of_store : (Holds : Option MadeFile → Option MadeFile → List ℕ → List ℕ → Type 0) (text : List ℕ) → kept.taken ≡ text → Holds outset kept.made name kept.taken →
+      Holds first made output text
+  of_store Holds text taken holds =
+      subst (λ (o : Option MadeFile). Holds o made output text) (sym is_first)
+      (subst (λ (o : Option MadeFile). Holds outset o output text) (sym is_made)
+      (subst (λ (xs : List ℕ). Holds outset kept.made xs text) (sym is_name)
+      (subst (λ (xs : List ℕ). Holds outset kept.made name xs) taken holds)))
+
+  taken_of : (Is : List ℕ → Type 0) (puts : PutsFirst file_outlet Is old new) → kept.taken ≡ take puts.puts.count puts.text
+  taken_of Is puts = same ∙ puts.puts.gone ∙ ap (λ (xs : List ℕ). xs ++ take puts.puts.count puts.text) empty
+
+  -- it has taken the first bytes of a text
+  pub makes_first : (Is : List ℕ → Type 0) → MakesAtMost outset kept.made name kept.taken → PutsFirst file_outlet Is old new → MakesFirst Is first made output written
+  makes_first Is makes puts = record {
+    text = puts.text;
+    is_text = puts.is_text;
+    count = puts.puts.count;
+    fits = puts.puts.fits;
+    makes = of_store MakesAtMost (take puts.puts.count puts.text) (taken_of Is puts) makes;
+    told = told ∙ ap saturated (let all : new.written ≡ puts.puts.count = omega (arith, puts.puts.rose, unwritten) in all);
+  }
+
+  -- it has taken all of what a rewriting writes
+  pub rewrites_to : (strip : Bool) (done : Rewritten) (input : List ℕ) → done.written ≡ written → MakesWhole outset kept.made name kept.taken →
+      PutsAll file_outlet (IsRewritten strip done input) old new → RewritesTo first made output strip done input
+  rewrites_to strip done input count makes (puts, all) =
+      let whole : puts.puts.count ≡ length puts.text = omega (arith, puts.puts.rose, all) in
+      record {
+        text = puts.text;
+        is_rewritten = puts.is_text;
+        told = count ∙ told ∙ ap saturated (let bytes : new.written ≡ length puts.text = omega (arith, all, unwritten) in bytes);
+        makes = of_store MakesWhole puts.text (taken_of (IsRewritten strip done input) puts ∙ take_all puts.puts.count puts.text (omega (arith, whole))) makes;
+      }

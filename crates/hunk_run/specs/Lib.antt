@@ -1,7 +1,10 @@
+pub mod Hosts
 pub mod Inputs
 pub mod Notes
+pub mod Orders
 pub mod OutFile
 pub mod Refusals
 pub mod Runs
 pub mod Settling
 pub mod Status
+pub mod Stores

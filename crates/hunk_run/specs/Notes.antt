@@ -24,7 +24,7 @@ use Rattle.hunk_run.specs.declared.note.Ended.{Ended}
 use Rattle.hunk_run.specs.declared.note.Note.{Note}
 use Rattle.hunk_run.specs.declared.note.Note.TheVariants.{Fault, LeftOut, Line, NotText, Output}
 use Rattle.hunk_run.specs.declared.verdict.Verdict.{Verdict}
-use Rattle.hunk_run.specs.Runs.{Rewrites, rewritten_lines}
+use Rattle.hunk_run.specs.Runs.{rewritten_lines}
 use Rattle.hunk_run.specs.Status.{TellsFindings, with_newline}
 
 -- ---- the texts
@@ -146,13 +146,6 @@ left_out_note stripped rest name = Some (LeftOut name stripped rest)
 abbrev pub rewritten_ended : Rewritten → List ℕ → Ended
 rewritten_ended done name = record { status = 0; note = left_out_note (done.read - done.written) done.rest name }
 
--- Of an order that is done nothing is said, but what its rewriting has left out.
-abbrev pub SaysLeftOut : {W : Type 0} → (W → Outlet) → Writing W → Writing W → Order → Option Note → Type 0
-SaysLeftOut outlet old new (orders.Rewrite strip input output) note =
-    (rewrites : Rewrites outlet old new strip)
-    × (note ≡ left_out_note (rewrites.done.read - rewrites.done.written) rewrites.done.rest input)
-SaysLeftOut outlet old new order note = note ≡ None
-
 -- where the words are no order
 abbrev pub refusal_ended : OrderFault → Ended
 refusal_ended (words.Line why) = record { status = 2; note = Some (Line why) }
@@ -175,11 +168,10 @@ EndsOrFails outlet old new text ended result =
     ((result ≡ ended) × Takes outlet old new text)
     ⊎ ((result ≡ output_failed) × ((outlet new.sink).failed ≡ true))
 
--- The output has taken the line of the fault, or where memory for it is refused that of memory.
+-- The output has taken the line of the fault.
 abbrev pub EndsByFault : {W : Type 0} → (W → Outlet) → Writing W → Writing W → RunFault → Option (List ℕ) → Option Error → Option (List ℕ) → Ended → Type 0
 EndsByFault outlet old new fault name cause untouched result =
     EndsOrFails outlet old new (with_newline (line_of fault)) (fault_ended fault name cause untouched) result
-    ⊎ EndsOrFails outlet old new (with_newline (line_of Memory)) (fault_ended Memory None None None) result
 
 -- how a run ends that has listed an input, or not: where the output failed nothing more is written
 abbrev pub EndsListing : {W : Type 0} → (W → Outlet) → Writing W → Writing W → Result ℕ RunFault → Option (List ℕ) → Option Error → Ended → Type 0

@@ -1,33 +1,19 @@
 -- The file that a rewriting goes to.
-use Rattle.std.specs.Prelude.{◌≡◌, ◌≤◌, ◌++◌, ℕ, Bool, List, [], Option, Some, None, length, take}
-use Rattle.std.specs.Io.KnownBytes.{Appends}
-use Rattle.hunk_words.specs.Carriers.{Outlet, saturated}
+use Rattle.std.specs.Prelude.{◌≡◌, ℕ, Bool, true, false, List, [], Option, Some}
+use Rattle.hunk_words.specs.Carriers.{Outlet}
+use Rattle.hunk_run.specs.Stores.{MadeFile, MakesFile}
 
--- the file, once it is created, what was pushed to it, whether a push or the settling has failed, and whether it keeps all
-pub record OutFile (F : Type 0) : Type 0 where
-  pub file : Option F
+-- the file that its store has made, what was pushed to it, and whether a push or the settling has failed
+pub record OutFile : Type 0 where
+  pub made : Option MadeFile
   pub taken : List ℕ
   pub failed : Bool
-  pub settled : Bool
 
 -- the file as a sink
-abbrev pub file_outlet : {F : Type 0} → OutFile F → Outlet
+abbrev pub file_outlet : OutFile → Outlet
 file_outlet out = record { taken = Some out.taken; failed = out.failed }
 
--- the file has taken these bytes since it was created; where it is not yet, there are none
-abbrev pub HasTaken : {F : Type 0} → (F → Option (List ℕ)) → Option F → List ℕ → Type 0
-HasTaken contents None bytes = bytes ≡ []
-HasTaken {F} contents (Some file) bytes = (created : F) × Appends (contents created) (contents file) bytes
-
--- The file has taken as many of the first bytes of such a text as this tells.
-pub record TakesFirst {F : Type 0} (IsText : List ℕ → Type 0) (old new : OutFile F) (written : ℕ) : Type 0 where
-  pub text : List ℕ
-  pub is_text : IsText text
-  pub count : ℕ
-  pub fits : count ≤ length text
-  pub taken : new.taken ≡ old.taken ++ take count text
-  pub told : written ≡ saturated count
-
--- it has taken all of it
-abbrev pub TakesAll : {F : Type 0} → (List ℕ → Type 0) → OutFile F → OutFile F → ℕ → Type 0
-TakesAll IsText old new written = (takes : TakesFirst IsText old new written) × (takes.count ≡ length takes.text)
+-- what the store has made for it so far: nothing, or the file, which has taken what was pushed
+abbrev pub IsMade : Bool → Option MadeFile → Option MadeFile → List ℕ → List ℕ → Type 0
+IsMade false first now name taken = (now ≡ first) × (taken ≡ [])
+IsMade true first now name taken = MakesFile first now name taken

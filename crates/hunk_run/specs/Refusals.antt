@@ -1,15 +1,18 @@
--- Why nothing is printed of an input.
-use Rattle.std.specs.Prelude.{◌⊎◌, ◌+◌, ℕ, List}
+-- Why nothing is printed or written of an input.
+use Rattle.std.specs.Prelude.{◌≡◌, ◌⊎◌, ◌+◌, ℕ, Bool, true, false, List, Option}
 use Rattle.hunk_words.specs.Carriers.{Supply}
 use Rattle.hunk_scatter.specs.LoadOutcomes.{Gives}
 use Rattle.hunk_commands.specs.declared.fault.RunFault.{RunFault}
+use Rattle.hunk_commands.specs.declared.fault.RunFault.TheVariants.{Memory, Read}
 use Rattle.hunk_run.specs.declared.listing.Listing.{Listing}
 use Rattle.hunk_run.specs.declared.listing.Listing.TheVariants as listings
 use Rattle.hunk_commands.specs.Engine.{ReadsNoFile}
+use Rattle.hunk_commands.specs.Faults.{IsWrite}
 use Rattle.hunk_commands.specs.HexText.{ReadsHex}
 use Rattle.hunk_commands.specs.Relocating.{StopsLoading}
-use Rattle.hunk_run.specs.Inputs.{slice}
+use Rattle.hunk_run.specs.Inputs.{slice, unread}
 use Rattle.hunk_run.specs.Runs.{ReadsNoText}
+use Rattle.hunk_run.specs.Stores.{Leaves}
 
 -- it was not read, or its bytes are refused, of which at most this many are read
 abbrev pub StopsListing : Listing → Supply → Supply → ℕ → RunFault → Type 0
@@ -28,3 +31,28 @@ pub record StopsSpelled (listing : Listing) (before after : Supply) (most : ℕ)
 -- the text was not read, or that is so
 abbrev pub StopsText : Listing → Supply → Supply → ℕ → RunFault → Type 0
 StopsText listing before after most fault = ReadsNoText fault before after most ⊎ StopsSpelled listing before after most fault
+
+-- of its bytes, or where `hex` is set of its text
+abbrev pub StopsSource : Bool → Listing → Supply → Supply → ℕ → RunFault → Type 0
+StopsSource true listing before after most fault = StopsText listing before after most fault
+StopsSource false listing before after most fault = StopsListing listing before after most fault
+
+-- This holds of a reader with these bytes left, and of what it has come to.
+abbrev pub FromReader : Option (List ℕ) → (Supply → Supply → Type 0) → Type 0
+FromReader left Holds = (after : Supply) × Holds (unread left) after
+
+-- and of one with these bytes left, where they are known
+abbrev pub FromInput : Option (List ℕ) → (Supply → Supply → Type 0) → Type 0
+FromInput known Holds = (left : Option (List ℕ)) × Leaves known left × FromReader left Holds
+
+-- There was no memory, or the input could not be opened, or it stops so.
+abbrev pub StopsInput : Option (List ℕ) → (Supply → Supply → RunFault → Type 0) → RunFault → Type 0
+StopsInput known Stops fault = (fault ≡ Memory) ⊎ (fault ≡ Read 0) ⊎ FromInput known (λ before after. Stops before after fault)
+
+-- The fault is one of reading.
+abbrev pub IsRead : RunFault → Type 0
+IsRead fault = (place : ℕ) × (fault ≡ Read place)
+
+-- It is one of reading or writing.
+abbrev pub IsOfSystem : RunFault → Type 0
+IsOfSystem fault = IsRead fault ⊎ IsWrite fault

@@ -1,13 +1,11 @@
 -- What a run has done: its output is a writer that is old before it and new after it.
-use Rattle.std.specs.Prelude.{◌≡◌, ◌⊎◌, ◌+◌, ◌++◌, ℕ, Bool, true, false, List, Option, length}
+use Rattle.std.specs.Prelude.{◌≡◌, ◌⊎◌, ◌+◌, ◌++◌, ℕ, Bool, true, false, List, Option}
 use Rattle.std.specs.Io.KnownBytes.{Consumes, IsAtEnd}
-use Rattle.hunk_words.specs.Carriers.{Outlet, Supply, Writing, saturated}
+use Rattle.hunk_words.specs.Carriers.{Outlet, Supply, Writing}
 use Rattle.hunk_words.specs.Longs.{bytes_of}
 use Rattle.hunk_words.specs.declared.reason.Reason.TheVariants as reasons
 use Rattle.hunk_files.specs.LoadFile.{LoadFileValue, IsLoadFile}
 use Rattle.hunk_files.specs.LoadText.{text}
-use Rattle.hunk_command_line.specs.declared.asked.Order.{Order}
-use Rattle.hunk_command_line.specs.declared.asked.Order.TheVariants as orders
 use Rattle.hunk_command_line.specs.FaultTexts.{refused_line}
 use Rattle.hunk_commands.specs.declared.fault.RunFault.{RunFault}
 use Rattle.hunk_commands.specs.declared.fault.RunFault.TheVariants as faults
@@ -20,10 +18,11 @@ use Rattle.hunk_commands.specs.Inputs.{Gave}
 use Rattle.hunk_commands.specs.Shown.{IsShown}
 use Rattle.hunk_commands.specs.Output.{Takes}
 use Rattle.hunk_commands.specs.Relocating.{IsRelocated}
-use Rattle.hunk_commands.specs.Rewritten.{IsRewritten}
 use Rattle.hunk_commands.specs.Validated.{IsValidated}
 use Rattle.hunk_listing.specs.RewritingLines.{left_out_line, wrote_line}
+use Rattle.hunk_run.specs.Inputs.{unread}
 use Rattle.hunk_run.specs.Status.{PrintsOrFails, with_newline}
+use Rattle.hunk_run.specs.Stores.{Leaves}
 
 -- what is printed of an input in which nothing is amiss
 abbrev pub IsListed : Listing → List ℕ → List ℕ → Type 0
@@ -31,36 +30,9 @@ IsListed listings.Show input text = IsShown input text
 IsListed listings.Validate input text = IsValidated 0 input text
 IsListed (listings.Relocate base budget) input text = IsRelocated base budget input text
 
--- the output has taken what is printed of some input, and nothing else
-pub record Lists {W : Type 0} (outlet : W → Outlet) (old new : Writing W) (listing : Listing) : Type 0 where
-  pub input : List ℕ
-  pub text : List ℕ
-  pub is_listed : IsListed listing input text
-  pub takes : Takes outlet old new text
-
--- Some input was rewritten, and this tells how many bytes were written, how many the file has and how many follow it.
-pub record TellsRewriting (strip : Bool) (done : Rewritten) : Type 0 where
-  pub input : List ℕ
-  pub output : List ℕ
-  pub is_rewritten : IsRewritten strip done input output
-  pub written : done.written ≡ saturated (length output)
-
--- what is printed of it
+-- what is printed of a rewriting
 abbrev pub rewritten_lines : Rewritten → List ℕ
 rewritten_lines done = wrote_line done.written ++ left_out_line done.rest
-
--- the output has taken what is printed of some rewriting, and nothing else
-pub record Rewrites {W : Type 0} (outlet : W → Outlet) (old new : Writing W) (strip : Bool) : Type 0 where
-  pub done : Rewritten
-  pub tells : TellsRewriting strip done
-  pub takes : Takes outlet old new (rewritten_lines done)
-
--- what the order asks for is done
-abbrev pub IsOrderDone : {W : Type 0} → (W → Outlet) → Writing W → Writing W → Order → Type 0
-IsOrderDone outlet old new (orders.Show hex file) = Lists outlet old new listings.Show
-IsOrderDone outlet old new (orders.Validate hex file) = Lists outlet old new listings.Validate
-IsOrderDone outlet old new (orders.Relocate hex base budget file) = Lists outlet old new (listings.Relocate base budget)
-IsOrderDone outlet old new (orders.Rewrite strip input output) = Rewrites outlet old new strip
 
 -- the words are no order, or memory ran out; no help is printed
 abbrev pub PrintsNoHelp : {W : Type 0} → (W → Outlet) → Writing W → Writing W → ℕ → Type 0
@@ -93,7 +65,11 @@ pub record ListsSource {W : Type 0} (outlet : W → Outlet) (hex : Bool) (listin
 
 -- the same of the input that a reader gave, which had these bytes left
 abbrev pub ListsRead : {W : Type 0} → (W → Outlet) → Bool → Listing → Option (List ℕ) → Writing W → Writing W → Type 0
-ListsRead outlet hex listing left old new = (after : Supply) × ListsSource outlet hex listing (record { left = left; failed = false }) after old new
+ListsRead outlet hex listing left old new = (after : Supply) × ListsSource outlet hex listing (unread left) after old new
+
+-- the same of an input of which these bytes are known
+abbrev pub ListsInput : {W : Type 0} → (W → Outlet) → Bool → Listing → Option (List ℕ) → Writing W → Writing W → Type 0
+ListsInput outlet hex listing known old new = (left : Option (List ℕ)) × Leaves known left × ListsRead outlet hex listing left old new
 
 -- why no bytes were read that a text of at most this many bytes spells
 abbrev pub ReadsNoText : RunFault → Supply → Supply → ℕ → Type 0

@@ -1,39 +1,42 @@
 //! A run of the program hunkinfo: the words are read, what they ask for is done, and one text is printed, once.
 #![tactic(auto)]
 
-ghost use Rattle.std.specs.Prelude.{◌≡◌, ◌≤◌, map, true, Some, None};
+ghost use Rattle.std.specs.Prelude.{◌≡◌, ◌≤◌, map, false, true, Some, None};
 ghost use Rattle.std.specs.String.{string_bytes};
 ghost use Rattle.clap.specs.Words.{takes};
 ghost use Rattle.clap.specs.Kinds.{IsAmong};
 ghost use Rattle.clap.specs.Faults.{fault_of};
 ghost use Rattle.clap.specs.declared.error.kind.ErrorKind.TheVariants.{DisplayHelp, DisplayVersion};
 ghost use Rattle.hunk_command_line.specs.declared.asked.Order.{Order};
-ghost use Rattle.hunk_run.specs.Status.{TellsStatus, with_newline};
+ghost use Rattle.hunk_run.specs.Status.{TellsStatus};
 ghost use Rattle.hunk_run.specs.Notes.{EndsByFault, EndsListing, EndsOrFails, EndsRewriting};
-ghost use Rattle.hunk_run.specs.Notes.{NamesFiles, Notes, SaysLeftOut, fault_ended, output_failed};
-ghost use Rattle.hunk_run.specs.Notes.{refusal_ended, refusal_text};
-ghost use Rattle.hunk_commands.specs.Faults.{line_of};
-ghost use Rattle.hunk_commands.specs.declared.fault.RunFault.TheVariants.{Memory};
+ghost use Rattle.hunk_run.specs.Notes.{NamesFiles, Notes, input_of, refusal_ended, refusal_text};
+ghost use Rattle.hunk_run.specs.Orders.{HasOrdered, IsOrderDone, LacksMemory, MakesOut};
+ghost use Rattle.hunk_run.specs.Orders.{SaysLeftOut, TellsFault};
 ghost use Rattle.hunk_command_line.specs.Command.{hunkinfo};
 ghost use Rattle.hunk_command_line.specs.Line.{order_of, words_read};
-ghost use Rattle.hunk_run.specs.Runs.{IsOrderDone, PrintsNoHelp};
+ghost use Rattle.hunk_run.specs.Runs.{PrintsNoHelp};
+ghost use Rattle.hunk_run.specs.Stores.{bytes_of_input};
 
+mod host;
 mod listing;
 mod note;
 mod rewriting;
+mod store;
 mod to_file;
 mod verdict;
 
+pub use crate::host::Host;
 use crate::listing::{Listing, list_file};
 use crate::note::output_failed;
 pub use crate::note::{Ended, Note};
 use crate::rewriting::{rewrite_file, tell};
+pub use crate::store::Store;
 use hunk_command_line::{FileName, Order, OrderFault, VERSION_LINE, order};
-use hunk_commands::{OUT_OF_MEMORY, Rewritten, RunFault};
-use hunk_words::{LongWriter, Sink};
+use hunk_commands::{Rewritten, RunFault};
+use hunk_words::{LongWriter, PagePrinter, Sink};
 use std::alloc::Global;
 use std::io;
-use std::rt::Files;
 
 /// The most bytes that are read of an input, and the most that hexadecimal text may have.
 const FILE_BYTES: u64 = 67_108_864;
@@ -43,6 +46,9 @@ const DONE: u8 = 0;
 
 /// The exit status where the command line is refused.
 const LINE_REFUSED: u8 = 2;
+
+/// Room for the one or two lines that a run prints in the place of a listing.
+const LINES: usize = 128;
 
 /// What is printed where the words are no order.
 const REFUSED_LINE: &str = "command line refused\n";
@@ -55,45 +61,63 @@ const REFUSED_LINE: &str = "command line refused\n";
 /// failed; 4 where memory was refused. Where `out` fails, nothing more is written. A note is there
 /// where the status is not 0, unless `out` has taken findings, and where `rewrite` left something
 /// out.
-pub fn run<T: Files + Input, W: Sink>(
-    rt: &T,
+pub fn run<S: Store, W: Sink>(
+    store: S,
     alloc: Global,
     words: &[String],
     out: &mut LongWriter<W>,
-) -> Ended
-    ensures bound { result.status ≤ 4 }
-    ensures tells { TellsStatus W.outlet out.old out.new result.status }
+) -> (Ended, S)
+    ensures bound { result.0.status ≤ 4 }
+    ensures tells { TellsStatus W.outlet out.old out.new result.0.status }
 
     // Where clap takes the words: they are an order, which is done where the status is 0, or they
     // are refused.
     ensures done { (order : Order) → takes hunkinfo (words_read (map string_bytes words.now)) ≡ true
-        → order_of (map string_bytes words.now) ≡ Some order → result.status ≡ 0
-        → IsOrderDone W.outlet out.old out.new order }
+        → order_of (map string_bytes words.now) ≡ Some order → result.0.status ≡ 0
+        → IsOrderDone W.outlet out.old out.new (S.made store) (S.made result.1) FILE_BYTES
+        (bytes_of_input (S.holdings store) (S.made store) (input_of order)) order }
     ensures refused { takes hunkinfo (words_read (map string_bytes words.now)) ≡ true
         → order_of (map string_bytes words.now) ≡ None
-        → PrintsNoHelp W.outlet out.old out.new result.status }
+        → PrintsNoHelp W.outlet out.old out.new result.0.status }
 
     // Where neither help nor the version is asked for, the status is 0 only where the words are an
     // order, and it is done.
     ensures heard { (IsAmong DisplayHelp
         (fault_of hunkinfo (words_read (map string_bytes words.now))) → ⊥)
         → (IsAmong DisplayVersion
-        (fault_of hunkinfo (words_read (map string_bytes words.now))) → ⊥) → result.status ≡ 0
+        (fault_of hunkinfo (words_read (map string_bytes words.now))) → ⊥)
+        → result.0.status ≡ 0
         → (order : Order) × (order_of (map string_bytes words.now) ≡ Some order)
-        × IsOrderDone W.outlet out.old out.new order }
+        × IsOrderDone W.outlet out.old out.new (S.made store) (S.made result.1) FILE_BYTES
+        (bytes_of_input (S.holdings store) (S.made store) (input_of order)) order }
+
+    // What becomes of the files.
+    ensures makes { MakesOut (S.made store) (S.made result.1)
+        (order_of (map string_bytes words.now)) }
+    ensures holds { S.holdings result.1 ≡ S.holdings store }
 
     // What is said on standard error, and of which file.
-    ensures notes { Notes W.outlet out.old out.new result.status result.note }
+    ensures notes { Notes W.outlet out.old out.new result.0.status result.0.note }
     ensures names { (order : Order) → takes hunkinfo (words_read (map string_bytes words.now)) ≡ true
-        → order_of (map string_bytes words.now) ≡ Some order → NamesFiles order result.note }
+        → order_of (map string_bytes words.now) ≡ Some order → NamesFiles order result.0.note }
+    ensures stops { (order : Order) → takes hunkinfo (words_read (map string_bytes words.now)) ≡ true
+        → order_of (map string_bytes words.now) ≡ Some order
+        → TellsFault (S.made store) (S.made result.1) FILE_BYTES
+        (bytes_of_input (S.holdings store) (S.made store) (input_of order)) order result.0.note }
+    ensures succeeds { (order : Order)
+        → takes hunkinfo (words_read (map string_bytes words.now)) ≡ true
+        → order_of (map string_bytes words.now) ≡ Some order → HasOrdered FILE_BYTES
+        (bytes_of_input (S.holdings store) (S.made store) (input_of order)) order
+        → (W.outlet out.old.sink).failed ≡ false → LacksMemory result.0.note }
     ensures left_out { (order : Order)
         → takes hunkinfo (words_read (map string_bytes words.now)) ≡ true
-        → order_of (map string_bytes words.now) ≡ Some order → result.status ≡ 0
-        → SaysLeftOut W.outlet out.old out.new order result.note }
+        → order_of (map string_bytes words.now) ≡ Some order → result.0.status ≡ 0
+        → SaysLeftOut W.outlet out.old out.new (S.made store) (S.made result.1) FILE_BYTES
+        (bytes_of_input (S.holdings store) (S.made store) (input_of order)) order result.0.note }
 {
     let order = match order(alloc, words) {
         Ok(order) => order,
-        Err(fault) => return refuse(fault, out),
+        Err(fault) => return (refuse(fault, out), store),
     };
     let (listing, hex, file) = match order {
         Order::Show { hex, file } => (Listing::Show, hex, file),
@@ -109,12 +133,12 @@ pub fn run<T: Files + Input, W: Sink>(
             input,
             output,
         } => {
-            let (answer, cause) = rewrite_file(rt, alloc, &input, &output, strip);
-            return end_rewriting(alloc, answer, (input, output), cause, out);
+            let (store, answer, cause) = rewrite_file(store, alloc, &input, &output, strip);
+            return (end_rewriting(answer, (input, output), cause, out), store);
         }
     };
-    let (answer, cause) = list_file(rt, alloc, listing, file.as_ref(), hex, out);
-    end_listing(alloc, answer, file, cause, out)
+    let (answer, cause) = list_file(&store, alloc, listing, &file, hex, out);
+    (end_listing(answer, file, cause, out), store)
 }
 
 /// Prints why there is no order, and tells how the run ends.
@@ -127,13 +151,12 @@ pub fn refuse<W: Sink>(fault: OrderFault, out: &mut LongWriter<W>) -> Ended
         OrderFault::NotText => print(REFUSED_LINE, LINE_REFUSED, Some(Note::NotText), out),
         OrderFault::Help(text) => print(text.as_str(), DONE, None, out),
         OrderFault::Version => print(VERSION_LINE, DONE, None, out),
-        OrderFault::Memory => report_memory(out),
+        OrderFault::Memory => report(RunFault::Memory, None, None, None, out),
     }
 }
 
 /// Ends the run that was to list the input of this name.
 fn end_listing<W: Sink>(
-    alloc: Global,
     answer: Result<u8, RunFault>,
     name: Option<FileName>,
     cause: Option<io::Error>,
@@ -144,13 +167,12 @@ fn end_listing<W: Sink>(
     match answer {
         Ok(status) => Ended { status, note: None },
         Err(RunFault::Write { .. }) => output_failed(),
-        Err(fault) => report(alloc, fault, name, cause, None, out),
+        Err(fault) => report(fault, name, cause, None, out),
     }
 }
 
 /// Ends the run that was to rewrite a file: these are the names of IN and OUT.
 fn end_rewriting<W: Sink>(
-    alloc: Global,
     answer: Result<Rewritten, RunFault>,
     names: (FileName, FileName),
     cause: Option<io::Error>,
@@ -161,16 +183,13 @@ fn end_rewriting<W: Sink>(
     let (input, output) = names;
     match answer {
         Ok(done) => tell(done, input, out),
-        Err(fault @ RunFault::Write { .. }) => {
-            report(alloc, fault, Some(output), cause, None, out)
-        }
-        Err(fault) => report(alloc, fault, Some(input), cause, Some(output), out),
+        Err(fault @ RunFault::Write { .. }) => report(fault, Some(output), cause, None, out),
+        Err(fault) => report(fault, Some(input), cause, Some(output), out),
     }
 }
 
-/// Prints the fault's line, or that of memory where there is none for it, and ends the run.
+/// Prints the fault's line, for which no memory is needed, and ends the run.
 fn report<W: Sink>(
-    alloc: Global,
     fault: RunFault,
     name: Option<FileName>,
     cause: Option<io::Error>,
@@ -179,32 +198,23 @@ fn report<W: Sink>(
 ) -> Ended
     ensures { EndsByFault W.outlet out.old out.new fault name cause untouched result }
 {
-    match format!(in alloc; "{fault}\n") {
-        Ok(line) => {
-            let note = Note::Fault {
-                fault,
-                name,
-                cause,
-                untouched,
-            };
-            print(line.as_str(), fault.status(), Some(note), out)
-        }
-        Err(_) => report_memory(out),
-    }
-}
-
-/// Prints the line of memory, and ends the run.
-fn report_memory<W: Sink>(out: &mut LongWriter<W>) -> Ended
-    ensures { EndsOrFails W.outlet out.old out.new (with_newline (line_of Memory))
-        (fault_ended Memory None None None) result }
-{
+    let mut page = PagePrinter::<W, LINES>::new(out);
+    fault.print(&mut page);
+    let result = page.flush();
+    let _out = page.into_inner();
     let note = Note::Fault {
-        fault: RunFault::Memory,
-        name: None,
-        cause: None,
-        untouched: None,
+        fault,
+        name,
+        cause,
+        untouched,
     };
-    print(OUT_OF_MEMORY, RunFault::Memory.status(), Some(note), out)
+    match result {
+        Ok(()) => Ended {
+            status: fault.status(),
+            note: Some(note),
+        },
+        Err(_) => output_failed(),
+    }
 }
 
 /// Prints the text, and ends the run with this status and note.

@@ -1,23 +1,25 @@
 //! The commands that print what they find in one input.
-ghost use Rattle.std.specs.Prelude.{◌≡◌, ◌+◌, IfErr, IfOk, false, true};
+ghost use Rattle.std.specs.Prelude.{◌≡◌, ◌↔◌, ◌+◌, IfErr, IfOk, IsErrAnd, None, Option, Some, false, is_some, true};
 ghost use Rattle.hunk_commands.specs.declared.fault.RunFault.TheVariants.{Memory};
 ghost use Rattle.hunk_commands.specs.Faults.{IsWrite};
 ghost use Rattle.hunk_commands.specs.HexText.{ReadsHex};
 ghost use Rattle.hunk_commands.specs.Inputs.{TellsReading};
-ghost use Rattle.hunk_run.specs.Inputs.{HasListed, HasText};
+ghost use Rattle.hunk_run.specs.Inputs.{HasInput, HasListed, HasText, unread};
 ghost use Rattle.hunk_run.specs.Status.{TellsOutcome};
-ghost use Rattle.hunk_run.specs.Refusals.{StopsListing, StopsText};
-ghost use Rattle.hunk_run.specs.Runs.{Lists, ListsRead, ListsSource, ReadsNoText};
+ghost use Rattle.hunk_run.specs.Refusals.{FromReader, IsRead, StopsInput, StopsListing};
+ghost use Rattle.hunk_run.specs.Refusals.{StopsSource, StopsText};
+ghost use Rattle.hunk_run.specs.Runs.{ListsInput, ListsRead, ListsSource, ReadsNoText};
+ghost use Rattle.hunk_run.specs.Stores.{bytes_of_input};
 
+use crate::store::Store;
 use crate::{DONE, FILE_BYTES};
 use hunk_command_line::FileName;
 use hunk_commands::{RunFault, read_hex, relocate, show, validate};
 use hunk_scatter::Limits;
 use hunk_words::{Fault, FromRead, FromSlice, LongWriter, Sink, Source};
 use std::alloc::Global;
+use std::io;
 use std::io::{BufReader, Read};
-use std::rt::Files;
-use std::{fs, io};
 
 /// The exit status where `validate` found something.
 const FOUND: u8 = 1;
@@ -37,21 +39,30 @@ pub(crate) enum Listing {
 /// found, and what the system says of an input that can't be read. A file is read through a buffer,
 /// since little may be asked for at a time; standard input is not, so that what follows stays for
 /// the next reader.
-pub(crate) fn list_file<T: Files + Input, W: Sink>(
-    rt: &T,
+pub(crate) fn list_file<S: Store, W: Sink>(
+    store: &S,
     alloc: Global,
     listing: Listing,
-    file: Option<&FileName>,
+    file: &Option<FileName>,
     hex: bool,
     out: &mut LongWriter<W>,
 ) -> (Result<u8, RunFault>, Option<io::Error>)
     ensures outcome { TellsOutcome W.outlet out.old out.new result.0 }
-    ensures done { IfOk result.0 (λ status. status ≡ 0 → Lists W.outlet out.old out.new listing) }
+    ensures done { IfOk result.0 (λ status. status ≡ 0 → ListsInput W.outlet hex listing
+        (bytes_of_input (S.holdings store.now) (S.made store.now) file.now) out.old out.new) }
+    ensures stops { IfErr result.0 (λ fault. ¬ IsWrite fault → StopsInput
+        (bytes_of_input (S.holdings store.now) (S.made store.now) file.now)
+        (λ before after. StopsSource hex listing before after FILE_BYTES) fault) }
+    ensures cause { is_some result.1 ≡ true ↔ IsErrAnd result.0 IsRead }
+    ensures succeeds { HasInput hex listing
+        (unread (bytes_of_input (S.holdings store.now) (S.made store.now) file.now)) FILE_BYTES
+        → result.1 ≡ None → (W.outlet out.new.sink).failed ≡ false
+        → IfErr result.0 (λ fault. fault ≡ Memory) }
 {
     let Some(name) = file else {
-        return list_reader(alloc, listing, rt.reader(), hex, out);
+        return list_reader(alloc, listing, store.input(), hex, out);
     };
-    let file = match fs::open(rt, name.as_str()) {
+    let file = match store.open(name.as_str()) {
         Ok(file) => file,
         Err(error) => return (Err(RunFault::Read { place: 0 }), Some(error)),
     };
@@ -72,18 +83,48 @@ fn list_reader<R: Read + Drop, W: Sink>(
     ensures outcome { TellsOutcome W.outlet out.old out.new result.0 }
     ensures done { IfOk result.0 (λ status. status ≡ 0
         → ListsRead W.outlet hex listing (R.remaining reader) out.old out.new) }
+    ensures succeeds { HasInput hex listing (unread (R.remaining reader)) FILE_BYTES
+        → result.1 ≡ None → (W.outlet out.new.sink).failed ≡ false
+        → IfErr result.0 (λ fault. fault ≡ Memory) }
+    ensures stops { IfErr result.0 (λ fault. ¬ IsWrite fault
+        → FromReader (R.remaining reader)
+        (λ before after. StopsSource hex listing before after FILE_BYTES fault)) }
+    ensures cause { is_some result.1 ≡ true ↔ IsErrAnd result.0 IsRead }
 {
     let mut source = FromRead::new(reader);
-    let answer = if hex {
-        list_text(alloc, listing, &mut source, out)
-    } else {
-        list_bytes(alloc, listing, &mut source, out)
-    };
+    let answer = list_source(alloc, listing, &mut source, hex, out);
     let cause = match answer {
         Ok(_) => None,
         Err(_) => source.error(),
     };
     (answer, cause)
+}
+
+/// The same of the bytes that the source has, or where `hex` is set of those that its text spells.
+fn list_source<R: Source, W: Sink>(
+    alloc: Global,
+    listing: Listing,
+    source: &mut R,
+    hex: bool,
+    out: &mut LongWriter<W>,
+) -> Result<u8, RunFault>
+    ensures outcome { TellsOutcome W.outlet out.old out.new result }
+    ensures done { IfOk result
+        (λ status. status ≡ 0
+        → ListsSource W.outlet hex listing (R.supply source.old) (R.supply source.new)
+        out.old out.new) }
+    ensures succeeds { HasInput hex listing (R.supply source.old) FILE_BYTES
+        → (R.supply source.new).failed ≡ false → (W.outlet out.new.sink).failed ≡ false
+        → IfErr result (λ fault. fault ≡ Memory) }
+    ensures tells_read { TellsReading (R.supply source.old) (R.supply source.new) result }
+    ensures stops { IfErr result (λ fault. ¬ IsWrite fault → StopsSource hex listing
+        (R.supply source.old) (R.supply source.new) FILE_BYTES fault) }
+{
+    if hex {
+        list_text(alloc, listing, source, out)
+    } else {
+        list_bytes(alloc, listing, source, out)
+    }
 }
 
 /// The same of the bytes that the source's text spells.

@@ -1,103 +1,129 @@
 //! The command `rewrite`, from one file to another.
-ghost use Rattle.std.specs.Prelude.{◌≡◌, ◌⊎◌, ◌≤◌, ◌-◌, ℕ, true, false};
-ghost use Rattle.std.specs.Prelude.{IfErr, IfOk, IsErrAnd, OnOk};
+ghost use Rattle.std.specs.Prelude.{◌≡◌, ◌↔◌, ◌-◌, ℕ, false, is_some, true};
+ghost use Rattle.std.specs.Prelude.{IfErr, IfOk, IsErrAnd, None, Some};
 ghost use Rattle.hunk_commands.specs.declared.fault.RunFault.TheVariants.{Memory, Write};
-ghost use Rattle.hunk_commands.specs.Engine.{IsTextOfSome, ReadsNoFile};
+ghost use Rattle.hunk_commands.specs.Engine.{ReadsNoFile};
 ghost use Rattle.hunk_commands.specs.Faults.{IsWrite};
 ghost use Rattle.hunk_commands.specs.Inputs.{HasFile, ReadsInput, TellsReading};
-ghost use Rattle.hunk_commands.specs.Rewritten.{IsRewritten};
-ghost use Rattle.hunk_commands.specs.declared.rewriting.Rewritten.{Rewritten};
-ghost use Rattle.hunk_run.specs.OutFile.{HasTaken, TakesAll, TakesFirst};
-ghost use Rattle.hunk_run.specs.Runs.{TellsRewriting, rewritten_lines};
+ghost use Rattle.hunk_run.specs.Inputs.{unread};
 ghost use Rattle.hunk_run.specs.Notes.{EndsOrFails, left_out_note, rewritten_ended};
+ghost use Rattle.hunk_run.specs.Orders.{RewritesFirst, RewritesInput, RewritesTo};
+ghost use Rattle.hunk_run.specs.Refusals.{IsOfSystem, StopsInput};
+ghost use Rattle.hunk_run.specs.Runs.{rewritten_lines};
+ghost use Rattle.hunk_run.specs.Stores.{bytes_of_input};
 
 use crate::note::{Ended, Note, output_failed};
-use crate::to_file::ToFile;
-use crate::{DONE, FILE_BYTES};
+use crate::store::Store;
+use crate::to_file::{Outset, ToFile};
+use crate::{DONE, FILE_BYTES, LINES};
 use hunk_command_line::FileName;
 use hunk_commands::{Rewritten, RunFault, rewrite};
 use hunk_listing::print_rewriting;
 use hunk_words::{Failed, FromRead, LongWriter, PagePrinter, Sink, Source};
 use std::alloc::Global;
-use std::rt::Files;
-use std::{fs, io};
-
-/// Room for the two lines that say how much was written.
-const LINES: usize = 128;
+use std::io;
+use std::marker::Brand;
 
 /// Writes the file `input` again, to `output`, and gives how much was written, and what the system
-/// says of a file that can't be read or written.
+/// says of a file that can't be read or written. The store is given back.
 ///
 /// `output` is not touched before `input` was accepted, and keeps what was written where that
 /// succeeds.
-pub(crate) fn rewrite_file<T: Files>(
-    rt: &T,
+pub(crate) fn rewrite_file<S: Store>(
+    store: S,
     alloc: Global,
     input: &FileName,
     output: &FileName,
     strip: bool,
-) -> (Result<Rewritten, RunFault>, Option<io::Error>)
-    ensures tells { IfOk result.0 (TellsRewriting strip) }
+) -> (S, Result<Rewritten, RunFault>, Option<io::Error>)
+    // What OUT has taken: all of the file, or after a fault of writing the first bytes of it, and
+    // after another one nothing.
+    ensures rewrites { IfOk result.1 (λ done. RewritesInput
+        (bytes_of_input (S.holdings store) (S.made store) (Some input.now))
+        (RewritesTo (S.made store) (S.made result.0) output.now strip done) FILE_BYTES) }
+    ensures write { IfErr result.1 (λ fault. (written : ℕ) → fault ≡ Write written → RewritesInput
+        (bytes_of_input (S.holdings store) (S.made store) (Some input.now))
+        (RewritesFirst (S.made store) (S.made result.0) output.now strip written) FILE_BYTES) }
+    ensures untouched { IfErr result.1 (λ fault. ¬ IsWrite fault
+        → S.made result.0 ≡ S.made store) }
+    ensures holds { S.holdings result.0 ≡ S.holdings store }
+
+    // What was read, of whose failure the system tells, and when a file is written.
+    ensures stops { IfErr result.1 (λ fault. ¬ IsWrite fault → StopsInput
+        (bytes_of_input (S.holdings store) (S.made store) (Some input.now))
+        (λ before after. ReadsNoFile before after FILE_BYTES) fault) }
+    ensures cause { is_some result.2 ≡ true ↔ IsErrAnd result.1 IsOfSystem }
+    ensures succeeds { HasFile
+        (unread (bytes_of_input (S.holdings store) (S.made store) (Some input.now))) FILE_BYTES
+        → result.2 ≡ None → IfErr result.1 (λ fault. fault ≡ Memory) }
 {
-    let mut source = match fs::open(rt, input.as_str()) {
+    let mut source = match store.open(input.as_str()) {
         Ok(file) => FromRead::new(file),
-        Err(error) => return (Err(RunFault::Read { place: 0 }), Some(error)),
+        Err(error) => return (store, Err(RunFault::Read { place: 0 }), Some(error)),
     };
-    let out = ToFile::new(rt, output.as_str());
-    let (out, answer) = rewrite_to(alloc, &mut source, out, strip);
-    (answer, out.error().or(source.error()))
+    let (store, answer, error) = rewrite_to::<S, FromRead<S::File>, Brand>(
+        store,
+        alloc,
+        &mut source,
+        output,
+        strip,
+    );
+    (store, answer, error.or(source.error()))
 }
 
-/// Writes the file that the source gives again, to `out`, which is settled then, and gives `out`
-/// back.
+/// Writes the file that the source gives again, to `output`, which is settled then. The store is
+/// given back, and the last error of writing.
 ///
 /// # Errors
 ///
-/// Those of `rewrite`; and where all was written and `out` does not keep it, a fault of writing
+/// Those of `rewrite`; and where all was written and `output` does not keep it, a fault of writing
 /// after as many bytes.
-fn rewrite_to<'a, R: Source, T: Files>(
+fn rewrite_to<S: Store, R: Source, K: Outset>(
+    store: S,
     alloc: Global,
     source: &mut R,
-    out: ToFile<'a, T>,
+    output: &FileName,
     strip: bool,
-) -> (ToFile<'a, T>, Result<Rewritten, RunFault>)
-    // What OUT has taken: all of the file, or after a fault of writing the first bytes of it, and
-    // after another one nothing.
+) -> (S, Result<Rewritten, RunFault>, Option<io::Error>)
+    // It only names what is there.
+    requires { (S.holdings store ≡ K.holdings) × (S.made store ≡ K.made)
+        × (output.now ≡ K.name) }
     ensures rewrites { IfOk result.1 (λ done. ReadsInput
-        (λ input. TakesAll (IsRewritten strip done input) out.entry result.0 done.written)
+        (RewritesTo (S.made store) (S.made result.0) output.now strip done)
         (R.supply source.old) (R.supply source.new) FILE_BYTES) }
-    ensures kept { OnOk result.1
-        (HasTaken (λ f. T.File.contents f) result.0.file result.0.taken) }
-    ensures settled { OnOk result.1 (result.0.settled ≡ true) }
     ensures write { IfErr result.1 (λ fault. (written : ℕ) → fault ≡ Write written → ReadsInput
-        (λ input. TakesFirst
-        (IsTextOfSome (λ (done : Rewritten). IsRewritten strip done input))
-        out.entry result.0 written)
+        (RewritesFirst (S.made store) (S.made result.0) output.now strip written)
         (R.supply source.old) (R.supply source.new) FILE_BYTES) }
-    ensures untouched { IfErr result.1 (λ fault. ¬ IsWrite fault → result.0 ≡ out.entry) }
-    ensures tells_write { out.entry.failed ≡ false → result.0.failed ≡ true
-        → IsErrAnd result.1 IsWrite }
+    ensures untouched { IfErr result.1 (λ fault. ¬ IsWrite fault
+        → S.made result.0 ≡ S.made store) }
+    ensures holds { S.holdings result.0 ≡ S.holdings store }
+    ensures error { is_some result.2 ≡ true ↔ IsErrAnd result.1 IsWrite }
 
     // What was read, and when a file is written.
     ensures succeeds { HasFile (R.supply source.old) FILE_BYTES
-        → (R.supply source.new).failed ≡ false → out.entry.failed ≡ false
-        → IfErr result.1 (λ fault. (fault ≡ Memory) ⊎ IsWrite fault) }
+        → (R.supply source.new).failed ≡ false → result.2 ≡ None
+        → IfErr result.1 (λ fault. fault ≡ Memory) }
     ensures tells_read { TellsReading (R.supply source.old) (R.supply source.new) result.1 }
     ensures stops { IfErr result.1 (λ fault. ¬ IsWrite fault
         → ReadsNoFile (R.supply source.old) (R.supply source.new) FILE_BYTES fault) }
 {
-    let mut writer = LongWriter::new(out);
+    let mut writer = LongWriter::new(ToFile::<S, K>::new(store, output));
     let answer = rewrite(alloc, source, &mut writer, FILE_BYTES, strip);
     let mut out = writer.into_inner();
     let done = match answer {
         Ok(done) => done,
-        Err(fault) => return (out, Err(fault)),
+        Err(fault) => {
+            let (store, error) = out.finish();
+            return (store, Err(fault), error);
+        }
     };
-    match out.sync() {
-        Ok(()) => (out, Ok(done)),
+    let kept = out.sync();
+    let (store, error) = out.finish();
+    match kept {
+        Ok(()) => (store, Ok(done), error),
         Err(Failed) => {
             let written = done.written;
-            (out, Err(RunFault::Write { written }))
+            (store, Err(RunFault::Write { written }), error)
         }
     }
 }

@@ -1,119 +1,157 @@
-//! A file that is created at its first byte.
-ghost use Rattle.std.specs.Prelude.{◌≡◌, ◌≤◌, ◌↔◌, ◌||◌, [], false, true, length, is_err, is_some, not, IfOk, IsErrAnd};
-ghost use Rattle.std.specs.Prelude.{IsTrue, None, Some};
-ghost use Rattle.std.specs.Fs.{file_type, IsFile};
+//! A file that is made at its first byte.
+ghost use Rattle.std.specs.Prelude.{◌≡◌, ◌≤◌, ◌↔◌, ◌||◌, [], ℕ, List, None, Option, Some, false};
+ghost use Rattle.std.specs.Prelude.{IfOk, IsErrAnd, OnOk, is_err, is_some, length, true};
 ghost use Rattle.std.specs.Io.KnownBytes.{WriteAppends};
-ghost use Rattle.hunk_run.specs.OutFile.{HasTaken, file_outlet};
+ghost use Rattle.hunk_run.specs.OutFile.{file_outlet};
 ghost use Rattle.hunk_run.specs.Settling.{SaysLost};
+ghost use Rattle.hunk_run.specs.Stores.{Holdings, MadeFile, MakesAtMost, MakesFile, MakesWhole};
 
+use crate::store::Store;
+use hunk_command_line::FileName;
 use hunk_words::{Failed, History, Sink};
-use std::fs::{Metadata, OpenFile};
-use std::io::Write;
-use std::marker::Model;
-use std::os::unix::fs::MetadataExt;
-use std::rt::Files;
-use std::{fs, io};
+use std::io;
+use std::marker::{Brand, Model, PhantomData};
 
-/// The name by which the system tells of the file that standard output is.
-const OUTPUT: &str = "/dev/stdout";
+/// What there was before a file was made, and its name, for clauses alone.
+pub(crate) trait Outset {
+    ghost holdings: { Holdings };
 
-/// A sink that creates its file, or empties it where it is there, at its first `push`.
+    ghost made: { Option MadeFile };
+
+    ghost name: { List ℕ };
+}
+
+impl Outset for Brand {
+    ghost holdings = { record { content = λ _. None; input = None } };
+
+    ghost made = { None };
+
+    ghost name = { [] };
+}
+
+/// A sink that makes its file in a store, at its first `push`.
 ///
-/// An error of creating or writing, and a write that takes none of a non-empty slice, is `Failed`;
-/// so is a file that standard output is too. What was pushed is settled once the file has answered
-/// for it: `sync`.
-#[derive(Drop)]
-pub(crate) struct ToFile<'a, T: Files> {
-    rt: &'a T,
-    name: &'a str,
-    file: Option<T::File>,
+/// An error of making or writing, and a write that takes none of a non-empty slice, is `Failed`.
+/// What was pushed is settled once the file has answered for it: `sync`.
+pub(crate) struct ToFile<'a, S: Store, K: Outset> {
+    store: S,
+    name: &'a FileName,
+    is_made: bool,
     taken: History,
     error: Option<io::Error>,
-    settled: bool,
+    outset: PhantomData<K>,
 }
 
-impl<'a, T: Files> Model for ToFile<'a, T> {
-    ghost use Rattle.std.specs.Prelude.{is_some};
-    ghost use Rattle.hunk_run.specs.OutFile.{HasTaken, OutFile};
+impl<'a, S: Store, K: Outset> Model for ToFile<'a, S, K> {
+    ghost use Rattle.std.specs.Prelude.{◌≡◌, is_some};
+    ghost use Rattle.hunk_run.specs.OutFile.{IsMade, OutFile};
 
-    ghost Value = { OutFile T.File };
+    ghost Value = { OutFile };
 
     ghost view = { λ s. record {
-      file = s.file;
+      made = S.made s.store;
       taken = s.taken.bytes;
       failed = is_some s.error;
-      settled = s.settled;
     } };
 
-    ghost invariant = { λ s. HasTaken (λ f. T.File.contents f) s.file s.taken.bytes };
+    ghost invariant = { λ s. (s.name.now ≡ K.name) × (S.holdings s.store ≡ K.holdings)
+        × IsMade s.is_made K.made (S.made s.store) K.name s.taken.bytes };
 }
 
-impl<'a, T: Files> ToFile<'a, T> {
-    /// A sink to the file of this name, which is not touched yet.
-    pub(crate) fn new(rt: &'a T, name: &'a str) -> ToFile<'a, T>
-        ensures untouched { result.file ≡ None }
+impl<'a, S: Store, K: Outset> ToFile<'a, S, K> {
+    /// A sink to the file of this name, of which nothing is touched yet.
+    pub(crate) fn new(store: S, name: &'a FileName) -> ToFile<'a, S, K>
+        requires { (name.now ≡ K.name) × (S.holdings store ≡ K.holdings) × (S.made store ≡ K.made) }
         ensures empty { result.taken ≡ [] }
         ensures sound { result.failed ≡ false }
+        ensures untouched { result.made ≡ K.made }
     {
         ToFile {
-            rt,
+            store,
             name,
-            file: None,
+            is_made: false,
             taken: History::new(),
             error: None,
-            settled: false,
+            outset: PhantomData,
         }
     }
 
+    /// Makes the file where it is not made yet.
+    fn make(&mut self) -> io::Result<()>
+        ensures same { (self.new.taken ≡ self.old.taken) × (self.new.failed ≡ self.old.failed) }
+        ensures made { OnOk result (MakesFile K.made self.new.made K.name self.new.taken) }
+    {
+        if !self.is_made {
+            self.store.create(self.name.as_str())?;
+            self.is_made = true;
+        }
+        Ok(())
+    }
+
+    /// Writes to the file, which is made first where it is not there yet.
+    fn write(&mut self, bytes: &[u8]) -> io::Result<usize>
+        ensures inside { IfOk result (λ n. n ≤ length bytes.now) }
+        ensures same { self.new.failed ≡ self.old.failed }
+        ensures bytes { WriteAppends (Some self.old.taken) (Some self.new.taken) result bytes.now }
+    {
+        self.make()?;
+        let count = self.store.write(bytes)?;
+        self.taken = self.taken.and(&bytes[..count]);
+        Ok(count)
+    }
+
     /// Has the file keep all that was pushed, and waits until it does. A pipe or a terminal has
-    /// nothing to keep, which is no failure; nor is it where nothing was pushed.
+    /// nothing to keep, which is no failure. Where nothing was pushed the file is empty.
     ///
     /// # Errors
     ///
     /// `Failed` where some of what was pushed is lost, as where a full disk or a quota is reported
     /// late.
     pub(crate) fn sync(&mut self) -> Result<(), Failed>
-        ensures settled { self.new.settled ≡ not (is_err result) }
+        ensures settled { OnOk result (MakesWhole K.made self.new.made K.name self.new.taken) }
         ensures failed { self.new.failed ≡ (self.old.failed || is_err result) }
         ensures same { self.new.taken ≡ self.old.taken }
-        ensures taken { HasTaken (λ f. T.File.contents f) self.new.file self.new.taken }
     {
-        let lost = match &self.file {
-            Some(file) => loss_of(file.sync_all()),
-            None => None,
-        };
-        self.settled = lost.is_none();
-        let Some(error) = lost else {
-            return Ok(());
-        };
-        self.error = Some(error);
-        Err(Failed)
-    }
-
-    /// The last error.
-    pub(crate) fn error(&self) -> Option<io::Error> {
-        self.error
-    }
-
-    /// Writes to the file, which is created first where it is not there yet.
-    fn write(&mut self, bytes: &[u8]) -> io::Result<usize>
-        ensures inside { IfOk result (λ n. n ≤ length bytes.now) }
-        ensures same { self.new.failed ≡ self.old.failed }
-        ensures bytes { WriteAppends (Some self.old.taken) (Some self.new.taken) result bytes.now }
-    {
-        if self.file.is_none() {
-            self.file = Some(create(self.rt, self.name)?);
+        match self.loss() {
+            None => Ok(()),
+            Some(error) => {
+                self.error = Some(error);
+                Err(Failed)
+            }
         }
-        let Some(file) = &mut self.file else {
-            return Ok(0);
-        };
-        let count = file.write(bytes)?;
-        self.taken = self.taken.and(&bytes[..count]);
-        Ok(count)
+    }
+
+    /// What is amiss, if anything, where the file is asked to keep all that was pushed.
+    fn loss(&mut self) -> Option<io::Error>
+        ensures settled { result ≡ None → MakesWhole K.made self.new.made K.name self.new.taken }
+        ensures same { (self.new.taken ≡ self.old.taken) × (self.new.failed ≡ self.old.failed) }
+    {
+        match self.make() {
+            Ok(()) => loss_of(self.store.keep()),
+            Err(error) => Some(error),
+        }
+    }
+
+    /// Hands back the store, and the last error.
+    pub(crate) fn finish(self) -> (S, Option<io::Error>)
+        ensures holdings { S.holdings result.0 ≡ K.holdings }
+        ensures made { S.made result.0 ≡ self.entry.made }
+        ensures makes { MakesAtMost K.made self.entry.made K.name self.entry.taken }
+        ensures error { is_some result.1 ≡ self.entry.failed }
+    {
+        let ToFile {
+            store,
+            name: _,
+            is_made: _,
+            taken: _,
+            error,
+            outset: _,
+        } = self;
+        (store, error)
     }
 }
 
-impl<T: Files> Sink for ToFile<'_, T> {
+impl<S: Store, K: Outset> Sink for ToFile<'_, S, K> {
     ghost outlet = { λ s. file_outlet s };
 
     fn push(&mut self, bytes: &[u8]) -> Result<usize, Failed> {
@@ -131,36 +169,8 @@ impl<T: Files> Sink for ToFile<'_, T> {
     }
 }
 
-/// Creates the file of this name, or empties it, but for the one that standard output is: what is
-/// printed there would take the place of what is written to it.
-fn create<T: Files>(rt: &T, name: &str) -> io::Result<T::File> {
-    if is_output(rt, name) {
-        return Err(io::Error::new(
-            io::ErrorKind::PermissionDenied,
-            "standard output goes there",
-        ));
-    }
-    fs::create(rt, name)
-}
-
-/// Whether the file of this name is the regular file that standard output is. Where the system
-/// does not tell of both, it is not.
-fn is_output<T: Files>(rt: &T, name: &str) -> bool {
-    match (fs::metadata(rt, name), fs::metadata(rt, OUTPUT)) {
-        (Ok(file), Ok(output)) => is_one_file(&file, &output),
-        _ => false,
-    }
-}
-
-/// Whether these are of one regular file, which has a number above 0 on its device.
-fn is_one_file(one: &Metadata, other: &Metadata) -> bool
-    ensures { IsTrue result → IsFile (file_type one.now) }
-{
-    one.is_file() && one.ino() > 0 && one.ino() == other.ino() && one.dev() == other.dev()
-}
-
-/// What is amiss where a file that answers so to `sync_all` does not keep all that was written, as
-/// far as it keeps anything.
+/// What is amiss where a file that answers so does not keep all that was written, as far as it
+/// keeps anything.
 fn loss_of(answer: io::Result<()>) -> Option<io::Error>
     ensures { is_some result ≡ true ↔ IsErrAnd answer SaysLost }
 {

@@ -143,16 +143,22 @@ module _ (rows : List Row) (store : List ℕ) (s : Standing) (fed : List ℕ) (h
     here : least_longs (position_of (More gone.at)) ≡ least_longs s.state.position
     here = sym (state_position gone.at gone.in_body) ∙ ap (λ (x : BodyState). least_longs x.position) gone.state_is
 
+    whole_here : (v : LoadFileValue) (rest : List ℕ) → bytes_of (text v) ≡ fed ++ rest → bytes_of (text v) ≡ bytes_of gone.ws ++ (pending ++ rest)
+    whole_here v rest e = e ∙ ap (λ (xs : List ℕ). xs ++ rest) gone.spelled ∙ append_assoc (bytes_of gone.ws) pending rest
+
+    -- A load text that begins with what was fed begins with what was read.
+    pub text_here : (v : LoadFileValue) (rest : List ℕ) → IsLoadFile v → bytes_of (text v) ≡ fed ++ rest → text v ≡ gone.ws ++ longs (pending ++ rest)
+    text_here v rest is e =
+        sym (append-nil (text v))
+        ∙ sym (longs-bytes_of (text v) [] (text_longs v is))
+        ∙ ap longs (append-nil (bytes_of (text v)) ∙ whole_here v rest e)
+        ∙ longs-bytes_of gone.ws (pending ++ rest) (read_longs gone.ws (More gone.at) gone.read)
+
     -- No load text that begins with what was fed ends in fewer bytes.
     pub owes_bytes : (v : LoadFileValue) (rest : List ℕ) → IsLoadFile v → bytes_of (text v) ≡ fed ++ rest → 4 * least_longs s.state.position ≤ length pending + length rest
     owes_bytes v rest is e =
-        let whole : bytes_of (text v) ≡ bytes_of gone.ws ++ (pending ++ rest) =
-        e ∙ ap (λ (xs : List ℕ). xs ++ rest) gone.spelled ∙ append_assoc (bytes_of gone.ws) pending rest in
-        let d : text v ≡ gone.ws ++ longs (pending ++ rest) =
-        sym (append-nil (text v))
-        ∙ sym (longs-bytes_of (text v) [] (text_longs v is))
-        ∙ ap longs (append-nil (bytes_of (text v)) ∙ whole)
-        ∙ longs-bytes_of gone.ws (pending ++ rest) (read_longs gone.ws (More gone.at) gone.read) in
+        let whole = whole_here v rest e in
+        let d = text_here v rest is e in
         let owed : least_longs (position_of (More gone.at)) ≤ length (longs (pending ++ rest)) = owes_least gone.ws (More gone.at) gone.read v is (longs (pending ++ rest)) d in
         let bytes : 4 * length (longs (pending ++ rest)) ≡ length pending + length rest =
         omega (arith, ap length d, ap length whole, length-append gone.ws (longs (pending ++ rest)), length-bytes_of (text v), length-bytes_of gone.ws, length-append (bytes_of gone.ws) (pending ++ rest), length-append pending rest) in

@@ -18,6 +18,7 @@ pub mod HeaderSteps
 pub mod HeaderStops
 pub mod HeaderTexts
 pub mod Joining
+pub mod LeastLaws
 pub mod LoadEnding
 pub mod LoadLaws
 pub mod Offsets
@@ -30,6 +31,7 @@ pub mod ReadWords
 pub mod Refusing
 pub mod Runs
 pub mod Scatter
+pub mod SoFarLaws
 pub mod Splice
 pub mod Splits
 pub mod Starting

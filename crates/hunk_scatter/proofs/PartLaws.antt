@@ -6,10 +6,11 @@ use Rattle.hunk_words.specs.{Carriers.Supply, Classes.class_by, Longs.{longs, by
 use Rattle.hunk_words.proofs.LongLaws.{longs-bytes_of, length-bytes_of}
 use Rattle.hunk_grammar.specs.Positions.{is_done, is_behind_header}
 use Rattle.hunk_grammar.specs.declared.file_kind.Sniff.TheVariants as sniffs
-use Rattle.hunk_files.specs.{FileParts.{IsPartAt, part_of}, FileSteps.{Progress, AtBlock, InBody, Next, More, Finished}}
+use Rattle.hunk_files.specs.{FileParts.{IsLoadPart, IsPartAt}, FileSteps.{Progress, AtBlock, InBody, Next, More, Finished}}
 use Rattle.hunk_files.specs.{LoadFile.HunkValue, Tables.row_entry}
 use Rattle.hunk_files.specs.{ReaderPosition.{IsBehindHeader, table_of}, WordsRead.HasRead, declared.row.Row.Row, declared.part.Part.Part}
 use Rattle.hunk_files.specs.declared.part.Part.TheVariants as parts
+use Rattle.hunk_files.proofs.{LoadParts.part_of, TextPlaces.read_part}
 use Rattle.hunk_scatter.specs.Rows.{entries_of}
 use Rattle.hunk_scatter.specs.{LoadOutcomes.IsReadFault, LoadRefusals.IsFaultIn}
 use Rattle.hunk_scatter.specs.{BodyLoaderFields.StandsBehind, BodyReader.state_of, HeaderLoaderFields.HeaderReading}
@@ -18,11 +19,9 @@ use Rattle.hunk_scatter.proofs.{HeaderReads.{here, read_here, in_header}, Header
 use Rattle.hunk_scatter.proofs.{OneByte.{Going, going}, Outcomes.longs_are, ReadWords.read_longs}
 
 pub part_behind : (ws more bytes : List ℕ) (p : Progress) (at : ℕ) (part : Part) → HasRead ws (More p) → longs bytes ≡ ws ++ more → at / 4 ≡ length ws → part ≡ part_of p → IsPartAt sniffs.Load bytes at part
-part_behind ws more bytes p at part read spells count is = record {
-  progress = p;
-  read = subst (λ (xs : List ℕ). HasRead xs (More p)) (sym (ap₂ (λ (n : ℕ) (xs : List ℕ). take n xs) count spells ∙ take-append_seam ws more)) read;
-  part_is = is;
-}
+part_behind ws more bytes p at part read spells count is =
+    let before : ws ≡ take (at / 4) (longs bytes) = sym (ap₂ (λ (n : ℕ) (xs : List ℕ). take n xs) count spells ∙ take-append_seam ws more) in
+    subst (λ (xs : List ℕ). IsLoadPart xs part) before (subst (IsLoadPart ws) (sym is) (read_part ws p read))
 
 -- ---- the header
 

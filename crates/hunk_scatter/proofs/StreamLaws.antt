@@ -1,15 +1,20 @@
 -- A loader of numbers.
-use Rattle.std.proofs.Common.{rules, ◌≡◌, ℕ, ◌-◌, ◌*◌, ◌≤◌, ◌<◌, Bool, true, false, List, [], ◌∷◌, ◌++◌, length, get_or, take, refl, sym, arith, Err, None}
+use Rattle.std.proofs.Common.{rules, ◌≡◌, ℕ, ◌-◌, ◌*◌, ◌≤◌, ◌<◌, Bool, true, false, List, [], ◌∷◌, ◌++◌, length, get_or, take, refl, sym, ap, ◌∙◌, arith, length-append, Err, None}
+use Rattle.std.proofs.lemmas.List.{length-map}
 use Rattle.hunk_files.specs.declared.row.Row.{Row}
 use Rattle.hunk_words.specs.{declared.pending.Pending.Pending, PendingBytes.pending_of}
 use Rattle.hunk_grammar.specs.{declared.phase.OpenHunk.OpenHunk, declared.position.Position.Position}
 use Rattle.hunk_grammar.specs.Positions.{is_done, is_behind_header, is_between_hunks, least_longs}
 use Rattle.hunk_blocks.specs.declared.phase.Phase.{Phase}
 use Rattle.hunk_grammar.specs.declared.position.Position.TheVariants as positions
-use Rattle.hunk_scatter.specs.{BodySteps.IsInStore, Owing.FileOwes, Rows.words_of, declared.store.BodyState.BodyState}
+use Rattle.hunk_scatter.specs.{BodyReader.state_of, BodySteps.{IsInStore, targets_at}, Owing.FileOwes, Rows.{entries_of, words_of}, declared.store.BodyState.BodyState}
 use Rattle.hunk_scatter.specs.{declared.stream.Standing.Standing, BodyLoaderFields.StandsBehind}
-use Rattle.hunk_scatter.specs.Streaming.{IsFed, IsWithin, EndsLoading, StandsAfter, TakesPart}
-use Rattle.hunk_scatter.proofs.BodyFields.{in_room, image_of, fed_clean, fed_truncated, owes_file}
+use Rattle.hunk_scatter.specs.Streaming.{FitsStore, IsFed, IsWithin, EndsLoading, StandsAfter, TakesPart}
+use Rattle.hunk_scatter.proofs.{BodyFields.{gone, in_room, image_of, fed_clean, fed_truncated, owes_file}, Forget.before_is}
+use Rattle.hunk_files.proofs.{FileProgress.{OpenFits, ProgressFits}, Reading.reads}
+use Rattle.hunk_files.specs.{Image.declared_bytes, LoadFile.HunkValue, LoadText.table, Tables.row_entry}
+use Rattle.hunk_files.specs.FileSteps.{HunkSoFar, Progress, AtBlock, InBody, Next, More, Finished}
+use Rattle.hunk_files.specs.ReaderPosition.{IsBehindHeader, open_table, table_of}
 use Rattle.hunk_words.proofs.PendingLaws.{pending_few}
 
 -- Behind the header the file is whole, or a hunk is open.
@@ -30,6 +35,41 @@ open_unless_done _ f = refl
 
 pub within_store : (rows : List Row) (store : List ℕ) (s : Standing) (fed : List ℕ) → IsFed rows store s fed → IsWithin rows (length store) s
 within_store rows store s fed h = record { few = pending_few s.pending h.stands.few; in_store = λ e. in_room rows store s fed h (going_on s.state.position e) }
+
+table_hunks : (rows : List Row) (o : HunkSoFar) → OpenFits o → open_table o ≡ entries_of rows → o.hunks ≡ length rows
+table_hunks rows o f t =
+    omega (arith, f.front_fits.counts, ap length t, length-append (table o.finished) (o.entry ∷ o.ahead), length-map o.finished (λ (x : HunkValue). x.entry), length-map rows row_entry)
+
+-- Its rows are the hunks of the file.
+open_hunks : (rows : List Row) (p : Progress) (state : BodyState) → IsBehindHeader (More p) → ProgressFits p → table_of (More p) ≡ entries_of rows → state_of (More p) ≡ state → targets_at state.position ≡ length rows
+open_hunks rows (AtBlock o) state b f t e = ap (λ (s : BodyState). targets_at s.position) (sym e) ∙ table_hunks rows o f t
+open_hunks rows (InBody o word x) state b f t e = ap (λ (s : BodyState). targets_at s.position) (sym e) ∙ table_hunks rows o f.0 t
+open_hunks rows _ state b f t e = absurd cc
+
+-- Whole, they are all of the store.
+whole_hunks : (rows : List Row) (store : List ℕ) (s : Standing) (fed : List ℕ) → IsFed rows store s fed → is_done s.state.position ≡ true → (s.state.hunk ≡ length rows) × (s.state.start ≡ length store)
+whole_hunks rows store s fed h done = let r = h.stands in go r.next r.behind r.table_is r.state_is
+  where
+    go : (n : Next) → IsBehindHeader n → table_of n ≡ entries_of rows → state_of n ≡ s.state → (s.state.hunk ≡ length rows) × (s.state.start ≡ length store)
+    go (More (AtBlock o)) b t e = absurd (cc (done, ap (λ (x : BodyState). is_done x.position) e))
+    go (More (InBody o word x)) b t e = absurd (cc (done, ap (λ (x : BodyState). is_done x.position) e))
+    go (Finished v) b t e = (
+      omega (arith, ap (λ (x : BodyState). x.hunk) e, ap length t, length-map v (λ (x : HunkValue). x.entry), length-map rows row_entry),
+      omega (arith, ap (λ (x : BodyState). x.start) e, ap declared_bytes t, before_is v, h.size),
+    )
+    go _ b t e = absurd cc
+
+pub fits_store : (rows : List Row) (store : List ℕ) (s : Standing) (fed : List ℕ) → IsFed rows store s fed → FitsStore rows (length store) s
+fits_store rows store s fed h = record {
+  few = pending_few s.pending h.stands.few;
+  in_store = λ more. in_room rows store s fed h more;
+  hunks = λ more. let g = gone rows store s fed h more in open_hunks rows g.at s.state g.in_body (reads g.read).0 g.table_is g.state_is;
+  whole = λ done. whole_hunks rows store s fed h done;
+}
+
+-- As far as no hunk opens, they lead out of nothing.
+pub within_fits : (rows : List Row) (total : ℕ) (s : Standing) → FitsStore rows total s → IsWithin rows total s
+within_fits rows total s h = record { few = h.few; in_store = λ e. h.in_store (going_on s.state.position e) }
 
 -- ---- steps
 

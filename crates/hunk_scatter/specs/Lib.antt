@@ -13,6 +13,7 @@ pub mod LoaderValues
 pub mod Owing
 pub mod Placing
 pub mod Rows
+pub mod SoFar
 pub mod StoreContent
 pub mod StopLine
 pub mod Streaming

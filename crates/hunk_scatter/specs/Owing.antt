@@ -1,10 +1,11 @@
 -- What is still to come of a content, a name, a payload or a list of offsets, and of a file.
-use Rattle.std.specs.Prelude.{◌≡◌, ℕ, suc, ◌+◌, ◌*◌, ◌%◌, ◌<◌, ◌≤◌, Bool, true, false, List, [], ◌∷◌, ◌++◌, length, if◌then◌else◌}
+use Rattle.std.specs.Prelude.{◌≡◌, ℕ, ◌+◌, ◌*◌, ◌%◌, ◌<◌, ◌≤◌, Bool, true, false, List, ◌++◌, length}
 use Rattle.hunk_words.specs.Longs.{bytes_of, longs}
 use Rattle.hunk_blocks.specs.Parts.{Part as parts}
 use Rattle.hunk_blocks.specs.Faults.{words}
 use Rattle.hunk_files.specs.LoadFile.{LoadFileValue, IsLoadFile}
 use Rattle.hunk_files.specs.LoadText.{labelled, text}
+use Rattle.hunk_files.specs.Machines.{leading}
 use Rattle.hunk_grammar.specs.Roles.{Role, InBlock}
 
 -- the most bytes that a loader wants at a time
@@ -20,8 +21,7 @@ is_in_run _ = false
 
 -- this many of them come next
 abbrev pub run_of : List (Role × ℕ) → ℕ
-run_of [] = 0
-run_of (l ∷ ls) = if is_in_run l.0 then suc (run_of ls) else 0
+run_of ls = leading is_in_run ls
 
 -- A load text begins with the bytes, and this many bytes of a content, a name, a payload or a list of offsets are to come
 -- in it.

@@ -1,5 +1,5 @@
 -- A loader in memory that is its caller's: rows, a store, and numbers.
-use Rattle.std.specs.Prelude.{◌≡◌, ℕ, ◌*◌, ◌/◌, ◌<◌, ◌≤◌, Bool, true, false, List, ◌++◌, length, take, Option, None, Some, IfSome, Result, MatchResult, IfOk, IfErr, IsTrue, ⊤}
+use Rattle.std.specs.Prelude.{◌≡◌, ℕ, ◌*◌, ◌/◌, ◌%◌, ◌<◌, ◌≤◌, Bool, true, false, List, ◌++◌, length, take, Option, None, Some, IfSome, Result, Ok, Err, MatchResult, IfOk, IfErr, IsTrue, ⊤}
 use Rattle.hunk_words.specs.Carriers.{saturated}
 use Rattle.hunk_words.specs.declared.reason.Reason.{Reason}
 use Rattle.hunk_files.specs.Fault.{HasRefusal, IsTruncated}
@@ -7,7 +7,7 @@ use Rattle.hunk_files.specs.Image.{declared_bytes}
 use Rattle.hunk_files.specs.declared.row.Row.{Row}
 pub use Rattle.hunk_scatter.specs.BodyLoaderFields.{IsFed}
 use Rattle.hunk_grammar.specs.Positions.{is_done}
-use Rattle.hunk_scatter.specs.BodySteps.{StaysInStore}
+use Rattle.hunk_scatter.specs.BodySteps.{IsInStore, StaysInStore, targets_at}
 use Rattle.hunk_scatter.specs.HeaderBytes.{IsHeaderTable, header_bytes}
 use Rattle.hunk_scatter.specs.LoaderReasons.{is_of_body}
 use Rattle.hunk_scatter.specs.LoaderValues.{IsImageOf, HasNoRefusal, IsBodyRefusal, IsHunkRefusal, segments_in}
@@ -32,6 +32,17 @@ abbrev pub StopsForBody : Stop → Type 0
 StopsForBody (stops.Refused f) = IsTrue (is_of_body f.reason)
 StopsForBody stops.Strange = ⊤
 
+-- A refusal is at the first byte of a longword.
+abbrev pub StopsAtLong : Stop → Type 0
+StopsAtLong (stops.Refused f) = f.place % 4 ≡ 0
+StopsAtLong stops.Strange = ⊤
+
+-- This holds, unless the numbers do not fit.
+abbrev pub UnlessStrange : Result (Standing × ℕ) Stop → Type 0 → Type 0
+UnlessStrange (Ok r) holds = holds
+UnlessStrange (Err (stops.Refused f)) holds = holds
+UnlessStrange (Err stops.Strange) holds = ⊤
+
 -- Of a piece after these bytes a first part was taken: after both a loader stands so, with this store. Or it stops.
 abbrev pub TakesOn : List Row → List ℕ → List ℕ → List ℕ → Result (Standing × ℕ) Stop → Type 0
 TakesOn rows store fed piece result =
@@ -46,6 +57,14 @@ StandsOn rows store to fed piece result =
 pub record IsWithin (rows : List Row) (total : ℕ) (s : Standing) : Type 0 where
   pub few : s.pending.count < 4
   pub in_store : StaysInStore (words_of rows) total s.state
+
+-- So a loader with these rows and a store of this many bytes may stand: the rows are the hunks of the file, and the open
+-- one lies in the store; or the file is whole, and the store ends where it does.
+pub record FitsStore (rows : List Row) (total : ℕ) (s : Standing) : Type 0 where
+  pub few : s.pending.count < 4
+  pub in_store : is_done s.state.position ≡ false → IsInStore (words_of rows) total s.state
+  pub hunks : is_done s.state.position ≡ false → targets_at s.state.position ≡ length rows
+  pub whole : is_done s.state.position ≡ true → (s.state.hunk ≡ length rows) × (s.state.start ≡ total)
 
 -- The numbers lead out of nothing, the file is not whole, and there is a byte to take.
 pub record MayTake (rows : List Row) (total : ℕ) (at : Standing) (piece : List ℕ) : Type 0 where

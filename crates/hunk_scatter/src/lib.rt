@@ -7,6 +7,7 @@ mod declared;
 mod header_loader;
 mod header_state;
 mod image;
+pub mod laws;
 mod load_refusal;
 mod loading;
 mod placer;

@@ -10,9 +10,9 @@ ghost use Rattle.hunk_words.specs.Carriers.{saturated};
 ghost use Rattle.hunk_words.specs.PendingBytes.{pending_of};
 ghost use Rattle.hunk_grammar.specs.Positions.{is_done, open_next};
 ghost use Rattle.hunk_scatter.specs.StopLine.{stop_line};
-ghost use Rattle.hunk_scatter.specs.Streaming.{BeginsLoading, EndsLoading, IsFed, IsWithin};
-ghost use Rattle.hunk_scatter.specs.Streaming.{MayTake, StandsOn, StillOwes, StopsForBody, TakesOn};
-ghost use Rattle.hunk_scatter.specs.Streaming.{TakesPart};
+ghost use Rattle.hunk_scatter.specs.Streaming.{BeginsLoading, EndsLoading, FitsStore, IsFed};
+ghost use Rattle.hunk_scatter.specs.Streaming.{IsWithin, MayTake, StandsOn, StillOwes, StopsAtLong};
+ghost use Rattle.hunk_scatter.specs.Streaming.{StopsForBody, TakesOn, TakesPart, UnlessStrange};
 
 pub use crate::header_state::{HeaderSize, NoHeader, header_size};
 pub use crate::store::BodyState;
@@ -100,20 +100,27 @@ impl Standing {
         (4 * longs).saturating_sub(u64::from(self.pending.count))
     }
 
-    /// Whether the numbers lead out of neither the rows nor a store of `total` bytes, as far as no
-    /// hunk opens.
-    fn is_within(self, rows: &[Row], total: usize) -> bool
-        ensures sound { result ≡ true → IsWithin rows.now total self }
-        ensures complete { (store fed : List ℕ) → IsFed rows.now store self fed
+    /// Whether a loader with these rows and a store of `total` bytes may stand so, as far as the
+    /// open hunk tells it: the sizes of the hunks before it are not summed up.
+    #[inline(always)]
+    pub fn fits(&self, rows: &[Row], total: usize) -> bool
+        ensures sound { result ≡ true → FitsStore rows.now total self.now }
+        ensures complete { (store fed : List ℕ) → IsFed rows.now store self.now fed
             → length store ≡ total → result ≡ true }
     {
         if self.pending.count > 3 {
             return false;
         }
-        if self.state.position.is_between_hunks() {
-            return true;
+        let hunks = rows.len();
+        match self.state.position {
+            Position::Body(hunk, _) => {
+                hunk.hunks as usize == hunks && self.state.is_in_store(rows, total)
+            }
+            Position::Done => {
+                self.state.hunk as usize == hunks && self.state.start == total as u64
+            }
+            _ => false,
         }
-        self.state.is_in_store(rows, total)
     }
 }
 
@@ -182,6 +189,8 @@ pub(crate) fn take_all(
     ensures takes { (fed : List ℕ) → IsFed rows.now store.old at.old fed
         → StandsOn rows.now store.new at.new fed piece.now result }
     ensures own_reasons { IfErr result StopsForBody }
+    ensures whole_longs { IfErr result StopsAtLong }
+    ensures counted { IfOk result (λ n. at.new.fed ≡ saturated (at.old.fed + n)) }
     ensures uncounted { OnErr result (at.new.fed ≡ at.old.fed) }
 {
     let mut rest = piece;
@@ -214,8 +223,8 @@ pub(crate) fn take_all(
 /// - `Refused` where a longword is refused. Where the numbers are a loader's, it is the first
 ///   fault of all that was fed, this piece included, at the first byte of its longword, from the
 ///   start of the file, or at 2^64 - 4 where that is more.
-/// - `Strange` where the numbers are found to be no loader's, since they lead out of the rows or
-///   the store. The numbers of a loader are never answered so.
+/// - `Strange` where the numbers do not fit the rows and the store, be it before the piece or
+///   after longwords of it. The numbers of a loader are never answered so.
 ///
 /// What the store has after an `Err` is not said.
 pub fn take_piece(
@@ -229,16 +238,28 @@ pub fn take_piece(
         (λ r. r.1 < length piece.now → is_done r.0.state.position ≡ true) }
     ensures takes { (fed : List ℕ) → IsFed rows.now store.old at fed
         → TakesOn rows.now store.new fed piece.now result }
+    ensures counted { IfOk result (λ r. r.0.fed ≡ saturated (at.fed + r.1)) }
+
+    // The numbers, whatever they are.
+    ensures fits { UnlessStrange result (FitsStore rows.now (length store.old) at) }
+    ensures fits_still { IfOk result (λ r. FitsStore rows.now (length store.new) r.0) }
+
+    // Refusals.
     ensures own_reasons { IfErr result StopsForBody }
+    ensures whole_longs { IfErr result StopsAtLong }
 {
-    if !at.is_within(rows, store.len()) {
+    if !at.fits(rows, store.len()) {
         return Err(Stop::Strange);
     }
     let mut to = at;
-    match take_all(store, rows, &mut to, piece) {
-        Ok(taken) => Ok((to, taken)),
-        Err(stop) => Err(stop),
+    let taken = match take_all(store, rows, &mut to, piece) {
+        Ok(taken) => taken,
+        Err(stop) => return Err(stop),
+    };
+    if !to.fits(rows, store.len()) {
+        return Err(Stop::Strange);
     }
+    Ok((to, taken))
 }
 
 /// The number of rows, or 0 where no table has as many.

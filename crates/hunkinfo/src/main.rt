@@ -2,7 +2,7 @@
 #![tactic(auto)]
 
 use hunk_command_line::OrderFault;
-use hunk_run::Ended;
+use hunk_run::{Ended, Host};
 use hunk_words::{FromWrite, LongWriter};
 use std::process::ExitCode;
 use std::{env, io};
@@ -21,7 +21,11 @@ fn words_of(rt: &HostRuntime) -> Result<Vec<String>, OrderFault> {
 fn main(rt: HostRuntime) -> ExitCode {
     let mut out = LongWriter::new(FromWrite::new(io::writer(&rt)));
     let Ended { status, note } = match words_of(&rt) {
-        Ok(words) => hunk_run::run(&rt, rt.alloc(), words.as_slice(), &mut out),
+        Ok(words) => {
+            let store = Host::new(&rt);
+            let (ended, _store) = hunk_run::run(store, rt.alloc(), words.as_slice(), &mut out);
+            ended
+        }
         Err(fault) => hunk_run::refuse(fault, &mut out),
     };
     let Some(note) = note else {

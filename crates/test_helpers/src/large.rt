@@ -4,7 +4,7 @@ use crate::bytes_of;
 use std::alloc::{AllocError, Global};
 
 /// How many of each part the files have.
-pub const MANY: u32 = 5_000;
+pub const MANY: u32 = 70_000;
 
 /// The hunks of the load file: the most that one may have.
 pub const HUNKS: u32 = 65_536;

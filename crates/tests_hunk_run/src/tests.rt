@@ -2,13 +2,15 @@
 mod asserts;
 mod files;
 mod made;
+mod memory_store;
 mod notes;
 mod old_output;
 mod runs;
+mod stores;
 
 use crate::tests::asserts::assert_equal_at;
 use crate::tests::made::{Given, Kept, Made};
-use hunk_run::run;
+use hunk_run::{Host, run};
 use hunk_words::LongWriter;
 use std::alloc::Global;
 use std::cell::RefCell;
@@ -55,7 +57,7 @@ fn ran(alloc: Global, given: Given<'_>, room: usize, line: &str) -> Result<Outco
         created: &created,
     };
     let mut out = LongWriter::new(Kept::new(alloc, room));
-    let ended = run(&made, alloc, words.as_slice(), &mut out);
+    let (ended, _store) = run(Host::new(&made), alloc, words.as_slice(), &mut out);
     let said = match &ended.note {
         Some(note) => format!(in alloc; "{note}")?,
         None => String::new(alloc),

@@ -1,6 +1,7 @@
 //! What no clause says: images and faults from outside by readers of all kinds, the number of reads,
 //! and refused memory.
 
+mod asks;
 mod asserts;
 mod bodies;
 mod growths;

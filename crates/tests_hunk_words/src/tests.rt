@@ -4,4 +4,5 @@ mod asserts;
 mod carriers;
 mod fields;
 mod printing;
+mod sizes;
 mod writing;

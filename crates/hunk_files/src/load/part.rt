@@ -1,19 +1,17 @@
 //! The part of a load file that a longword is of.
 ghost use Rattle.std.specs.Prelude.{◌≡◌, ◌≤◌, ◌*◌, take, length};
 ghost use Rattle.hunk_words.specs.Longs.{longs};
-ghost use Rattle.hunk_files.specs.FileParts.{part_of};
-ghost use Rattle.hunk_files.specs.FileSteps.{Progress, More};
-ghost use Rattle.hunk_files.specs.WordsRead.{HasRead};
+ghost use Rattle.hunk_files.specs.FileParts.{IsLoadPart};
 
 use crate::part::Part;
 use hunk_grammar::Position;
 use hunk_words::word_at;
 
-/// The part that the longword behind the first `count` is of, where none of these is refused.
+/// The part that the longword behind the first `count` is of, where a load file begins with these,
+/// and goes on.
 pub(crate) fn part_before(bytes: &[u8], count: usize) -> Part
     requires { 4 * count ≤ length bytes.now }
-    ensures { (p : Progress) → HasRead (take count (longs bytes.now)) (More p) →
-        result ≡ part_of p }
+    ensures { (part : Part) → IsLoadPart (take count (longs bytes.now)) part → result ≡ part }
 {
     let mut position = Position::FirstLong;
     let mut at = 0;

@@ -4,7 +4,7 @@ ghost use Rattle.hunk_files.specs.LoadText.{text};
 ghost use Rattle.hunk_files.specs.Strip.{strip_file};
 
 use crate::load::view::LoadView;
-use crate::ranges::{Pending, TakesBytes, hand_over, strip_hunk};
+use crate::ranges::{TakesBytes, strip_items};
 
 impl LoadView<'_> {
     /// Hands over the text of the file without the blocks that `HunkFile::strip` drops, in ranges
@@ -12,11 +12,6 @@ impl LoadView<'_> {
     pub fn strip_with<T: TakesBytes>(&self, taker: &mut T)
         ensures { T.takes taker.old (bytes_of (text (strip_file self.now))) taker.new }
     {
-        let bytes = self.bytes;
-        let mut pending = Pending::front(self.body());
-        'hunks: for _ in 0..self.hunks() {
-            pending = strip_hunk(taker, bytes, pending);
-        }
-        hand_over(taker, bytes, pending.from, pending.to);
+        strip_items(taker, self.bytes, self.items());
     }
 }

@@ -6,9 +6,11 @@ ghost use Rattle.hunk_files.specs.LoadFile.{IsLoadFile};
 ghost use Rattle.hunk_files.specs.Image.{declared_bytes};
 ghost use Rattle.hunk_files.specs.LoadText.{table, text};
 ghost use Rattle.hunk_files.specs.Fault.{BeginsWithLoadFile, HasFault, is_load_refusal};
+ghost use Rattle.hunk_files.specs.Items.{load_items};
 ghost use Rattle.hunk_files.specs.Lacks.{EndsAt, EndsLoadPart};
 ghost use Rattle.hunk_files.specs.Tables.{header_text};
 
+use crate::items::Items;
 use crate::load::file::LoadFile;
 use crate::load::hunk_views::LoadHunkViews;
 use crate::load::table::TableIter;
@@ -22,7 +24,7 @@ use std::marker::Model;
 /// takes no memory. Contracts see it as its load-file value.
 #[derive(Drop)]
 pub struct LoadView<'a> {
-    /// The input, which begins with the file.
+    /// The input, up to the end of the file.
     pub(super) bytes: &'a [u8],
 }
 
@@ -30,13 +32,13 @@ impl<'a> Model for LoadView<'a> {
     ghost use Rattle.hunk_words.specs.Longs.{longs};
     ghost use Rattle.hunk_files.specs.LoadFile.{LoadFileValue};
     ghost use Rattle.hunk_files.specs.Cuts.{load_cut};
-    ghost use Rattle.hunk_files.specs.Fault.{BeginsWithLoadFile};
+    ghost use Rattle.hunk_files.specs.InPlace.{AreLoadFile};
 
     ghost Value = { LoadFileValue };
 
     ghost view = { λ s. (load_cut (longs s.bytes.now)).value };
 
-    ghost invariant = { λ s. BeginsWithLoadFile s.bytes.now };
+    ghost invariant = { λ s. AreLoadFile s.bytes.now };
 }
 
 impl<'a> LoadView<'a> {
@@ -57,7 +59,8 @@ impl<'a> LoadView<'a> {
         ensures own_reasons { IfErr result (λ fault. IsTrue (is_load_refusal fault.reason)) }
     {
         let size = walk(bytes)?;
-        Ok((LoadView { bytes }, size))
+        let file = &bytes[..size];
+        Ok((LoadView { bytes: file }, size))
     }
 
     /// The number of hunks, from 1 to 65,536, `MOST_HUNKS`.
@@ -90,6 +93,13 @@ impl<'a> LoadView<'a> {
             bytes: self.bytes,
             at: self.body(),
         }
+    }
+
+    /// What stands in the file: each hunk, and its blocks.
+    pub fn items(&self) -> Items<'a>
+        ensures { result ≡ load_items self.now }
+    {
+        Items::at(self.bytes, self.body())
     }
 
     /// The byte behind the table, at which the blocks of the first hunk begin.

@@ -20,7 +20,7 @@ use std::marker::Model;
 
 /// The name in the header of the unit that stands at `start`, and the byte behind the header (The
 /// AmigaDOS Manual, `dos/doshunks.h`).
-pub(super) fn read_header(bytes: &[u8], start: usize) -> (Payload<'_>, usize)
+pub(crate) fn read_header(bytes: &[u8], start: usize) -> (Payload<'_>, usize)
     requires { UnitAt bytes.now start }
     ensures { (here : UnitAt bytes.entry.now start) →
         IsRead unit_header here.unit.name start (longs result.0) result.1 }

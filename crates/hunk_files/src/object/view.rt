@@ -5,8 +5,10 @@ ghost use Rattle.hunk_words.specs.declared.reason.Reason.TheVariants as reasons;
 ghost use Rattle.hunk_files.specs.ObjectFile.{IsNoObjectFile, IsObjectFile, is_object_refusal};
 ghost use Rattle.hunk_files.specs.ObjectFile.{object_text};
 ghost use Rattle.hunk_files.specs.ObjectFault.{HasObjectFault};
+ghost use Rattle.hunk_files.specs.Items.{object_items};
 ghost use Rattle.hunk_files.specs.Lacks.{EndsAt, EndsObjectPart};
 
+use crate::items::Items;
 use crate::object::file::ObjectFile;
 use crate::object::unit_view::UnitViews;
 use crate::object::whole::walk_object;
@@ -62,6 +64,13 @@ impl<'a> ObjectView<'a> {
         ensures file { IsObjectFile self.now }
     {
         UnitViews::at(self.bytes, 0)
+    }
+
+    /// What stands in the file: each unit, its hunks, and their blocks.
+    pub fn items(&self) -> Items<'a>
+        ensures { result ≡ object_items self.now }
+    {
+        Items::at(self.bytes, 0)
     }
 
     /// The file with its units in a list.

@@ -1,5 +1,5 @@
 //! Which words are which orders.
-use hunk_command_line::{FileName, Order, OrderFault, order};
+use hunk_command_line::{FileName, Order, OrderFault, VERSION_LINE, order};
 use std::alloc::{AllocError, Global};
 use std::process::Abort;
 use std::test::Fail;
@@ -276,5 +276,25 @@ fn help(rt: HostRuntime) -> Result<(), Fail> {
     for words in ASKING_FOR_HELP {
         expect(&rt, rt.alloc(), words, "help")?;
     }
+    Ok(())
+}
+
+fn shown(alloc: Global, fault: &OrderFault) -> Result<String, AllocError> {
+    format!(in alloc; "{fault}")
+}
+
+#[test]
+fn faults_are_shown(rt: HostRuntime) -> Result<(), Fail> {
+    let alloc = rt.alloc();
+    let help = OrderFault::Help(String::from_str(alloc, "a help\n")?);
+    assert_eq!(rt; shown(alloc, &help)?.as_str(), "a help\n");
+    let line = OrderFault::Line(String::new(alloc));
+    assert_eq!(rt; shown(alloc, &line)?.as_str(), REFUSED_LINE);
+    assert_eq!(rt; shown(alloc, &OrderFault::NotText)?.as_str(), REFUSED_LINE);
+    assert_eq!(rt; shown(alloc, &OrderFault::Version)?.as_str(), VERSION_LINE);
+    assert_eq!(rt;
+        shown(alloc, &OrderFault::Memory)?.as_str(),
+        "out of memory"
+    );
     Ok(())
 }

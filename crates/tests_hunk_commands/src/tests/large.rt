@@ -40,13 +40,13 @@ const LOAD_LINES: &[Lines] = &[
         "load file 65536 hunks 262148 bytes\nhunk 0 8 bytes any\n  BSS 8 bytes\n",
         "",
     ),
-    (0, 5_000, "  DEBUG 0 bytes\n", ""),
-    (0, 1, "  RELOC32 5000\n", ""),
-    (0, 5_000, "    1 0x00000000\n", ""),
-    (0, 1, "  RELOC32 5000\n", ""),
-    (0, 5_000, "    1 0x00000004\n", ""),
-    (0, 1, "  SYMBOL 5000\n", ""),
-    (0, 5_000, "    0x00000007 s\n", ""),
+    (0, 70_000, "  DEBUG 0 bytes\n", ""),
+    (0, 1, "  RELOC32 70000\n", ""),
+    (0, 70_000, "    1 0x00000000\n", ""),
+    (0, 1, "  RELOC32 70000\n", ""),
+    (0, 70_000, "    1 0x00000004\n", ""),
+    (0, 1, "  SYMBOL 70000\n", ""),
+    (0, 70_000, "    0x00000007 s\n", ""),
     (0, 1, "  END\n", ""),
     (1, 65_536, "hunk ", " 4 bytes any\n  BSS 4 bytes\n  END\n"),
 ];
@@ -56,23 +56,23 @@ const OBJECT_LINES: &[Lines] = &[
     (
         0,
         1,
-        "object file 5000 units\nunit 0 \nhunk 0 8 bytes\n  BSS 8 bytes\n",
+        "object file 70000 units\nunit 0 \nhunk 0 8 bytes\n  BSS 8 bytes\n",
         "",
     ),
-    (0, 5_000, "  DEBUG 0 bytes\n", ""),
-    (0, 1, "  RELOC32 5000\n", ""),
-    (0, 5_000, "    1 0x00000000\n", ""),
-    (0, 1, "  RELOC32 5000\n", ""),
-    (0, 5_000, "    1 0x00000004\n", ""),
-    (0, 1, "  EXT 5001\n", ""),
-    (0, 5_000, "    DEF 0x00000007 d\n", ""),
-    (0, 1, "    REF32 5000 \n", ""),
-    (0, 5_000, "      0x00000005\n", ""),
-    (0, 1, "  SYMBOL 5000\n", ""),
-    (0, 5_000, "    0x00000007 s\n", ""),
+    (0, 70_000, "  DEBUG 0 bytes\n", ""),
+    (0, 1, "  RELOC32 70000\n", ""),
+    (0, 70_000, "    1 0x00000000\n", ""),
+    (0, 1, "  RELOC32 70000\n", ""),
+    (0, 70_000, "    1 0x00000004\n", ""),
+    (0, 1, "  EXT 70001\n", ""),
+    (0, 70_000, "    DEF 0x00000007 d\n", ""),
+    (0, 1, "    REF32 70000 \n", ""),
+    (0, 70_000, "      0x00000005\n", ""),
+    (0, 1, "  SYMBOL 70000\n", ""),
+    (0, 70_000, "    0x00000007 s\n", ""),
     (0, 1, "  END\n", ""),
-    (1, 5_000, "hunk ", " 4 bytes\n  BSS 4 bytes\n  END\n"),
-    (1, 5_000, "unit ", " \n"),
+    (1, 70_000, "hunk ", " 4 bytes\n  BSS 4 bytes\n  END\n"),
+    (1, 70_000, "unit ", " \n"),
 ];
 
 /// What `validate` prints of them.
@@ -81,11 +81,11 @@ const LOAD_REPORT: &[Lines] = &[(0, 1, "load file 65536 hunks 262148 bytes\n", "
 const OBJECT_REPORT: &[Lines] = &[
     (
         0,
-        5_000,
+        70_000,
         "unit 0 hunk 0 offset 0x00000005 OutsideHunk\n",
         "",
     ),
-    (0, 1, "object file 5000 units 5000 findings\n", ""),
+    (0, 1, "object file 70000 units 70000 findings\n", ""),
 ];
 
 /// Appends the text for this number.
@@ -156,8 +156,8 @@ fn many_parts(rt: HostRuntime) -> Result<(), Fail> {
     Ok(())
 }
 
-/// The base of the second hunk, 0x21008, is added 5,000 times to each longword of the first.
-const FIRST_HUNK: &str = "hunk 0 base 0x00021000 8 bytes\n  28491c4028491c40\n";
+/// The base of the second hunk, 0x21008, is added 70,000 times to each longword of the first.
+const FIRST_HUNK: &str = "hunk 0 base 0x00021000 8 bytes\n  33ff8b8033ff8b80\n";
 
 #[test]
 fn many_hunks(rt: HostRuntime) -> Result<(), Fail> {

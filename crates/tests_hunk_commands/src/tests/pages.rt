@@ -10,17 +10,19 @@ use std::process::Abort;
 use std::test::Fail;
 use test_helpers::bytes_of;
 
-/// Takes all, and keeps how much was first written at once.
+/// Takes all, and keeps how much was first written at once, and in how many writes all was.
 #[derive(Drop)]
 struct First {
     count: usize,
+    writes: usize,
 }
 
 impl Write for First {
     fn write(&mut self, bytes: &[u8]) -> io::Result<usize> {
-        if self.count == 0 {
+        if self.writes == 0 {
             self.count = bytes.len();
         }
+        self.writes = self.writes.wrapping_add(1);
         Ok(bytes.len())
     }
 
@@ -40,12 +42,21 @@ fn file(alloc: Global, count: u32) -> Result<Vec<u8>, AllocError> {
     Ok(bytes)
 }
 
-/// How many bytes `show` writes of these bytes, and how many of them first.
-fn sizes(alloc: Global, bytes: &[u8]) -> Result<(u64, usize), RunFault> {
-    let mut out = LongWriter::new(FromWrite::new(First { count: 0 }));
+/// How many bytes `show` writes of these bytes, how many of them first, and in how many writes all.
+fn sizes(alloc: Global, bytes: &[u8]) -> Result<(u64, usize, usize), RunFault> {
+    let mut out = LongWriter::new(FromWrite::new(First {
+        count: 0,
+        writes: 0,
+    }));
     show(alloc, &mut FromSlice::new(bytes), &mut out, 100_000)?;
-    Ok((out.written(), out.into_inner().into_inner().count))
+    let size = out.written();
+    let First { count, writes } = out.into_inner().into_inner();
+    Ok((size, count, writes))
 }
+
+/// The lines before and behind those of 8,000 relocations, which have 17 bytes each.
+const OTHERS: &str =
+    "load file 1 hunks 4 bytes\nhunk 0 4 bytes any\n  CODE 4 bytes\n  RELOC32 8000\n  END\n";
 
 /// What `show` answers of these bytes, to a writer that takes as many as there is room and then
 /// none, and how many it wrote.
@@ -74,7 +85,9 @@ fn expect_front(
 #[test]
 fn stops_where_a_page_ends(rt: HostRuntime) -> Result<(), Fail> {
     let bytes = file(rt.alloc(), 8_000)?;
-    let (size, page) = sizes(rt.alloc(), &bytes)?;
+    let (size, page, writes) = sizes(rt.alloc(), &bytes)?;
+    // More than a page of 81,920 bytes, and less than two.
+    assert_equal(&rt, (size, writes), (OTHERS.len() as u64 + 17 * 8_000, 2));
     let mut whole = vec![in rt.alloc(); 0u8; size as usize]?;
     assert_equal(
         &rt,

@@ -2,6 +2,7 @@
 use crate::tests::asserts::assert_equal_at;
 use crate::tests::made::Given;
 use crate::tests::{ANY, OTHER, ran};
+use hunk_commands::RunFault;
 use hunk_run::Note;
 use std::alloc::Global;
 use std::io;
@@ -213,6 +214,43 @@ fn says_what_is_left_out(rt: HostRuntime) -> Result<(), Fail> {
         };
         let ran = ran(rt.alloc(), given, ANY, line)?;
         assert_equal_at(&rt, ran.said.as_str(), *want, line);
+    }
+    Ok(())
+}
+
+/// Faults of the standard streams, of which the system says nothing, and what is said of them.
+const OF_FAULTS: &[(RunFault, &str)] = &[
+    (RunFault::Memory, "hunkinfo: out of memory\n"),
+    (
+        RunFault::HexText,
+        "hunkinfo: standard input: no hexadecimal text: two digits a byte are wanted, and nothing \
+        else but spaces, tabs and line ends\n",
+    ),
+    (
+        RunFault::Read { place: 3 },
+        "hunkinfo: standard input: reading failed\n",
+    ),
+    (
+        RunFault::Write { written: 6 },
+        "hunkinfo: standard output: writing failed\n",
+    ),
+];
+
+fn said_of(alloc: Global, fault: RunFault) -> Result<String, Fail> {
+    let note = Note::Fault {
+        fault,
+        name: None,
+        cause: None,
+        untouched: None,
+    };
+    Ok(format!(in alloc; "{note}")?)
+}
+
+#[test]
+fn says_each_fault(rt: HostRuntime) -> Result<(), Fail> {
+    for (fault, want) in OF_FAULTS {
+        let said = said_of(rt.alloc(), *fault)?;
+        assert_equal_at(&rt, said.as_str(), *want, fault);
     }
     Ok(())
 }

@@ -1,7 +1,7 @@
 //! What becomes of an OUT that is there, with files.
 
 use crate::tests::asserts::assert_equal;
-use hunk_run::run;
+use hunk_run::{Host, run};
 use hunk_words::{FromWrite, LongWriter};
 use std::fs;
 use std::process::Abort;
@@ -45,7 +45,8 @@ fn rewrite(rt: &HostRuntime, files: &Files) -> Result<u8, Fail> {
         words.push(String::from_str(rt.alloc(), word)?)?;
     }
     let mut out = LongWriter::new(FromWrite::new(Vec::<u8>::new(rt.alloc())));
-    Ok(run(rt, rt.alloc(), words.as_slice(), &mut out).status)
+    let (ended, _store) = run(Host::new(rt), rt.alloc(), words.as_slice(), &mut out);
+    Ok(ended.status)
 }
 
 /// What the files hold after `rewrite`, and its status.

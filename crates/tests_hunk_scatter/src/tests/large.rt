@@ -25,8 +25,8 @@ const LARGE_HUNK: usize = LARGE - 36;
 /// The first hunk lies at 0x21000, and has 8 bytes; each other has 4.
 const START: u32 = 0x21000;
 
-/// Each longword of the first hunk: to it the base of the second, 0x21008, was added 5,000 times.
-const ADDED: u32 = 675_880_000;
+/// Each longword of the first hunk: to it the base of the second, 0x21008, was added 70,000 times, and passed 2^32.
+const ADDED: u32 = 872_385_408;
 
 /// Loads the file by a reader of this many bytes a read, which gives all of them.
 fn image_of(rt: &impl Abort, alloc: Global, bytes: &[u8], most: usize) -> Image {

@@ -1,8 +1,8 @@
 //! A text that is longer than its page, to writers that stop after each number of bytes.
-ghost use Rattle.std.specs.Prelude.{◌≤◌};
+ghost use Rattle.std.specs.Prelude.{◌≤◌, None, false};
 
 use crate::tests::asserts::assert_equal;
-use hunk_words::{FromWrite, LongWriter, PagePrinter, Sink, WriteFault};
+use hunk_words::{Failed, FromWrite, LongWriter, PagePrinter, Printer, Sink, WriteFault};
 use std::process::Abort;
 use std::test::Fail;
 use test_helpers::Narrow;
@@ -96,6 +96,53 @@ fn stops_after_each_byte(rt: HostRuntime) -> Result<(), Fail> {
                 takes_none_after(&rt, wide, cut, room);
             }
         }
+    }
+    Ok(())
+}
+
+/// Takes all, and counts the pushes and the bytes of the last one.
+#[derive(Debug, PartialEq, Drop)]
+struct Pushed {
+    times: usize,
+    last: usize,
+}
+
+impl Sink for Pushed {
+    ghost outlet = { λ _. record { taken = None; failed = false } };
+
+    fn push(&mut self, bytes: &[u8]) -> Result<usize, Failed> {
+        self.times = self.times.wrapping_add(1);
+        self.last = bytes.len();
+        Ok(bytes.len())
+    }
+}
+
+/// How a text of this many bytes goes out that is printed byte by byte.
+fn pushes_of(count: usize) -> Pushed {
+    let mut out = LongWriter::new(Pushed { times: 0, last: 0 });
+    let mut page = Printer::new(&mut out);
+    for _ in 0..count {
+        page.print(b"x");
+    }
+    let _answer = page.flush();
+    let _out = page.into_inner();
+    out.into_inner()
+}
+
+/// Numbers of bytes, and in how many pushes they go out: each but the last is a page of 81,920 bytes.
+const PAGES: &[(usize, usize, usize)] = &[
+    (1, 1, 1),
+    (81_920, 1, 81_920),
+    (81_921, 2, 1),
+    (245_760, 3, 81_920),
+    (300_000, 4, 54_240),
+];
+
+#[test]
+fn goes_out_by_pages(rt: HostRuntime) -> Result<(), Fail> {
+    for (count, times, last) in PAGES {
+        let (times, last) = (*times, *last);
+        assert_equal(&rt, pushes_of(*count), Pushed { times, last });
     }
     Ok(())
 }

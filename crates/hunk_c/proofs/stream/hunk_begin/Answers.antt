@@ -1,7 +1,8 @@
 use Rattle.std.proofs.Common.{◌≡◌, ℕ, length, refl, ap, subst, ◌∙◌, arith}
 use Rattle.hunk_scatter.specs.{HeaderBytes.header_bytes, Rows.entries_of}
+use Rattle.hunk_c.specs.declared.loader.Loader.{Loader}
 use Rattle.hunk_c.specs.{Answers.done, Streams.{HasBegun, LacksRoom, HasSizes}}
-use Rattle.hunk_c.proofs.{Loaded.same_answer, Streamed.behind}
+use Rattle.hunk_c.proofs.{Loaded.same_answer, Streamed.stands_so}
 use Rattle.hunk_c.proofs.stream.hunk_begin.Goals as goal
 
 pub returns-then-room-bytes : goal.returns-then-room-bytes
@@ -18,12 +19,5 @@ returns c =
     let sizes : HasSizes table c.args.header (length c.args.memory.now) =
     subst (HasSizes table c.args.header) room (subst (λ (n : ℕ). HasSizes table n c.in-Some.bytes) same c.in-Some.ensures) in
     let f = c.begin.ensures.begins sizes.is_table (omega (arith, sizes.header_is)) sizes.bytes_are in
-    HasBegun sizes
-    (record {
-      unrefused = c.of.ensures.unrefused;
-      at = c.begin.result;
-      numbers = c.of.ensures.standing (behind c.args.rows.now c.begin.new.store c.begin.result (header_bytes table) f);
-      is_fed = f;
-    })
-    c.begin.ensures.zero c.of.ensures.reserved
+    HasBegun sizes (stands_so _ _ _ _ _ c.of.ensures f) c.begin.ensures.zero (ap (λ (l : Loader). l.reserved) c.of.ensures)
     (c.done.ensures ∙ ap (done (length c.args.rows.now) c.args.header) room)

@@ -2,10 +2,9 @@ use Rattle.std.proofs.Common.{◌≡◌, ◌/◌, sym, subst, ◌∙◌, arith}
 use Rattle.hunk_words.specs.Longs.{longs}
 use Rattle.hunk_words.proofs.LongLaws.{length-longs}
 use Rattle.hunk_blocks.specs.Faults.{IsFront}
-use Rattle.hunk_files.specs.FileParts.{IsUnitPart, part_of}
-use Rattle.hunk_files.specs.FileSteps.{Progress, More}
+use Rattle.hunk_files.specs.FileParts.{IsLoadPart, IsUnitPart}
 use Rattle.hunk_files.specs.ObjectFault.{objects}
-use Rattle.hunk_files.specs.WordsRead.{HasRead}
+use Rattle.hunk_files.specs.declared.part.Part.{Part}
 use Rattle.hunk_files.proofs.FileParts.{same_front, in_object, in_load, not_object}
 use Rattle.hunk_files.proofs.part.part_at.Goals as goal
 
@@ -20,4 +19,4 @@ returns-in-Load c reason h =
     let bytes = c.args.bytes.now in
     let same = same_front (longs bytes) c.min-count.result (c.args.place / 4) (omega (arith, c.min-count.ensures)) (λ less. omega (arith, less, c.min-count.ensures, length-longs bytes)) in
     in_load bytes (λ i. omega (arith, c.type_inv.bytes i)) c.args.place reason c.part_before.result (λ e. not_object c.sniff.result c.in-Load.is (c.sniff.ensures ∙ e)) h
-    (subst (λ ws. (p : Progress) → HasRead ws (More p) → c.part_before.result ≡ part_of p) same c.part_before.ensures)
+    (subst (λ ws. (there : Part) → IsLoadPart ws there → c.part_before.result ≡ there) same c.part_before.ensures)

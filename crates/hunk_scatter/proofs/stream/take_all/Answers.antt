@@ -2,6 +2,7 @@ use Rattle.std.proofs.Common.{◌-◌, ◌*◌, ◌/◌, ◌++◌, ◌∙◌, �
 use Rattle.hunk_words.specs.declared.reason.Reason.{Reason}
 use Rattle.hunk_files.specs.{Fault.HasRefusal, FileParts.IsPartAt}
 use Rattle.hunk_files.specs.declared.part.Part.TheVariants as parts
+use Rattle.hunk_grammar.specs.Positions.{is_done}
 use Rattle.hunk_grammar.specs.declared.file_kind.Sniff.TheVariants as sniffs
 use Rattle.hunk_scatter.specs.{Streaming.{RefusesLong, StandsAfter}, declared.store.BodyState.BodyState}
 use Rattle.hunk_scatter.proofs.{PartLaws.hunk_next, StreamLaws.any_count, WholeLongs.{leaves_more, length_so_far, whole_piece}}
@@ -46,5 +47,5 @@ returns-in-Err-Some-clause-takes c = λ fed h.
       );
       of_hunk =
           subst (λ (n : ℕ). IsPartAt sniffs.Load (fed ++ c.args.piece.now) at (parts.Hunk n)) (sym (ap (λ (s : BodyState). s.hunk) c.in-Err-Some.ensures.refuses.same))
-          (subst (λ (bs : List ℕ). IsPartAt sniffs.Load bs at (parts.Hunk c.parts.at.state.hunk)) whole (hunk_next _ _ _ _ front c.parts.rest.now stands.stands search));
+          (subst (λ (bs : List ℕ). IsPartAt sniffs.Load bs at (parts.Hunk c.parts.at.state.hunk)) whole (hunk_next _ _ _ _ front c.parts.rest.now stands.stands (ap is_done c.in-Body.is)));
     }

@@ -12,14 +12,14 @@ use Rattle.hunk_files.proofs.load.view.LoadView.fill_images.Goals as goal
 pub filling-init : goal.filling-init
 filling-init g c =
     let bytes = c.self.inside.bytes.now in
-    let same = sym (load_value bytes c.self.invariant) ∙ c.self.view_is in
+    let same = sym (load_value bytes c.self.invariant.file) ∙ c.self.view_is in
     let entries = c.into_iter-size-iterator.ensures.into_iter_gives ∙ c.table-size-items.ensures.value in
     record {
       stays = refl;
-      begins = hunks_begin_at bytes c.self.invariant c.args.self.now same c.into_iter-size-iterator.result c.body-at.result entries c.body-at.ensures;
+      begins = hunks_begin_at bytes c.self.invariant.file c.args.self.now same c.into_iter-size-iterator.result c.body-at.result entries c.body-at.ensures;
       left =
           no_images (g.B.Bases.bases c.args.bases.now) c.args.self.now _ c.args.memory.now
-          (all_hunks_at bytes c.self.invariant c.args.self.now same c.into_iter-size-iterator.result c.body-at.result entries c.body-at.ensures) c.requires.room;
+          (all_hunks_at bytes c.self.invariant.file c.args.self.now same c.into_iter-size-iterator.result c.body-at.result entries c.body-at.ensures) c.requires.room;
     }
 
 pub at-blocks-requires : goal.at-blocks-requires

@@ -1,8 +1,8 @@
-use Rattle.std.proofs.Common.{sym, ap, subst, ◌∙◌}
+use Rattle.std.proofs.Common.{ℕ, List, [], take, refl, sym, ap, subst, ◌∙◌, append-nil}
 use Rattle.std.proofs.lemmas.Result.{err_from_is_err_and}
 use Rattle.hunk_words.specs.Longs.{bytes_of}
-use Rattle.hunk_files.specs.{LoadFile.{LoadFileValue, IsLoadFile}, LoadText.text}
-use Rattle.hunk_files.proofs.{LoadCuts.{begins, load_value}, Refusals.{fault_not_memory, fault_of_load}, Scan.no_fault}
+use Rattle.hunk_files.specs.{Fault.HasLoadText, InPlace.AreLoadFile, LoadFile.{LoadFileValue, IsLoadFile}, LoadText.text}
+use Rattle.hunk_files.proofs.{LoadCuts.load_value, Refusals.{fault_not_memory, fault_of_load}, Scan.no_fault}
 use Rattle.hunk_files.proofs.load.view.LoadView.read.Goals as goal
 
 pub returns-in_err-size-clause-none : goal.returns-in_err-size-clause-none
@@ -20,15 +20,20 @@ returns-in_err-size-clause-own_reasons c =
     let p = err_from_is_err_and c.from_residual.result c.from_residual.ensures.1 in
     rw (p.1, p.2) (fault_of_load c.args.bytes.now c.in_err-size.field-0.0.place c.in_err-size.field-0.0.reason c.in_err-size.ensures)
 
+-- The bytes up to the end of the file are the file.
+whole : (bytes : List ℕ) (size : ℕ) → HasLoadText bytes size → AreLoadFile (take size bytes)
+whole bytes size h = record { file = record { value = h.value; is_load_file = h.is_load_file; rest = []; split = h.text_is ∙ sym (append-nil (bytes_of (text h.value))) }; ends = refl }
+
 pub invariant_of-result : goal.invariant_of-result
-invariant_of-result c = begins c.args.bytes.now c.in_ok-size.size c.in_ok-size.ensures
+invariant_of-result c = whole c.args.bytes.now c.in_ok-size.size c.in_ok-size.ensures
 
 pub returns-clause-valid : goal.returns-clause-valid
 returns-clause-valid c =
-    let file = begins c.args.bytes.now c.in_ok-size.size c.in_ok-size.ensures in
-    subst IsLoadFile (sym (load_value c.args.bytes.now file)) file.is_load_file
+    let file = (whole c.args.bytes.now c.in_ok-size.size c.in_ok-size.ensures).file in
+    subst IsLoadFile (sym (load_value (take c.in_ok-size.size c.args.bytes.now) file)) file.is_load_file
 
 pub returns-clause-text : goal.returns-clause-text
+unfolding whole
 returns-clause-text c =
-    let file = begins c.args.bytes.now c.in_ok-size.size c.in_ok-size.ensures in
-    c.in_ok-size.ensures.text_is ∙ ap (λ (v : LoadFileValue). bytes_of (text v)) (sym (load_value c.args.bytes.now file))
+    let file = (whole c.args.bytes.now c.in_ok-size.size c.in_ok-size.ensures).file in
+    c.in_ok-size.ensures.text_is ∙ ap (λ (v : LoadFileValue). bytes_of (text v)) (sym (load_value (take c.in_ok-size.size c.args.bytes.now) file))

@@ -1,0 +1,228 @@
+-- What calls answer, over all of them.
+use Rattle.std.proofs.Common.{rules, ◌≡◌, ◌≤◌, ℕ, List, length, IsTrue, true, ap, refl, sym, subst, ◌∙◌, arith, inl, inr}
+use Rattle.hunk_words.specs.{Longs.longs, Meanings.meaning_of, Reasons.{name_of, number_of}}
+use Rattle.hunk_words.specs.declared.fault.Fault.{Fault}
+use Rattle.hunk_words.specs.declared.reason.Reason.{Reason}
+use Rattle.hunk_words.specs.declared.reason.Reason.TheVariants as reasons
+use Rattle.hunk_files.specs.Fault.{HasFault, is_word_refusal}
+use Rattle.hunk_files.specs.HunkFile.{IsFileOf, IsRefusal, file_bytes}
+use Rattle.hunk_files.specs.ObjectFile.{is_object_refusal}
+use Rattle.hunk_files.specs.ObjectFault.{HasObjectFault}
+use Rattle.hunk_files.specs.declared.hunk_file.HunkFile.{HunkFile}
+use Rattle.hunk_files.specs.declared.row.Row.{Row}
+use Rattle.hunk_files.proofs.{ObjectRefusals.{fault_other, fault_own}, Refusals.refusal_of_word}
+use Rattle.hunk_grammar.specs.declared.file_kind.Sniff.{Sniff}
+use Rattle.hunk_grammar.specs.declared.file_kind.Sniff.TheVariants as sniffs
+use Rattle.hunk_grammar.specs.declared.position.Position.{Position}
+use Rattle.hunk_grammar.specs.declared.position.Position.TheVariants as positions
+use Rattle.hunk_scatter.specs.declared.stream.Standing.{Standing}
+use Rattle.hunk_scatter.specs.{HeaderSizes.RefusesHeader, LoaderReasons.is_of_body, Placing.Placing}
+use Rattle.hunk_c.specs.Answers.{is_answered, strange}
+use Rattle.hunk_c.specs.Checks as checks
+use Rattle.hunk_c.specs.Checks.{Checks}
+use Rattle.hunk_c.specs.Loaders.{StandsAt, TellsAgain, TellsRefusal, TellsStrange, MayStand, MayStandAt, no_loader, loader_at, unrefused}
+use Rattle.hunk_c.specs.Loads as loads
+use Rattle.hunk_c.specs.Loads.{Loads, IsNotLoaded}
+use Rattle.hunk_c.specs.Names.{IsMeaningOf, IsNameOf, Means, Names, PutsText, HasText, HasNoText, OfReason, OfNoRoom, OfStrange, OfNone, MeansReason, MeansNoRoom, MeansStrange, MeansNothing}
+use Rattle.hunk_c.specs.Rows as lists
+use Rattle.hunk_c.specs.Rows.{Tabulates}
+use Rattle.hunk_c.specs.Streams.{Begins, HasBegun, LacksRoom, FitsNot, Ends, IsWhole, IsCutShort, HasNoEnd, Feeds, HasTaken, HasRefused, HadRefused, IsStrange, Wants, HasWant, HasNoWant}
+use Rattle.hunk_c.specs.Strips as strips
+use Rattle.hunk_c.specs.Strips.{Strips}
+use Rattle.hunk_c.specs.Tables as tables
+use Rattle.hunk_c.specs.Tables.{Tables}
+use Rattle.hunk_c.specs.declared.answer.Answer.{Answer}
+use Rattle.hunk_c.specs.declared.check.FindingRow.{FindingRow}
+use Rattle.hunk_c.specs.declared.loader.Loader.{Loader}
+use Rattle.hunk_c.specs.declared.table.TableRow.{TableRow}
+
+abbrev Told : Answer → Type 0
+Told a = IsTrue (is_answered a.number)
+
+told_by : (a b : Answer) → a ≡ b → Told b → Told a
+told_by a b e h = subst Told (sym e) h
+
+-- ---- reasons
+
+of_word : (r : Reason) → IsTrue (is_word_refusal r) → IsTrue (is_answered (number_of r))
+of_word reasons.Advisory h = absurd cc
+of_word reasons.ExtKind h = absurd cc
+of_word reasons.Truncated h = absurd cc
+of_word reasons.Budget h = absurd cc
+of_word reasons.FileLimit h = absurd cc
+of_word (reasons.NoBase hunk) h = absurd cc
+of_word reasons.Read h = absurd cc
+of_word reasons.OutOfMemory h = absurd cc
+of_word _ h = refl
+
+of_object : (r : Reason) → IsTrue (is_object_refusal r) → (r ≡ reasons.OutOfMemory → ⊥) → IsTrue (is_answered (number_of r))
+of_object reasons.OutOfMemory h other = absurd (other refl)
+of_object reasons.Library h other = refl
+of_object reasons.BothBits h other = refl
+of_object reasons.Overlay h other = refl
+of_object reasons.Break h other = refl
+of_object reasons.ShortReloc h other = refl
+of_object reasons.Misplaced h other = refl
+of_object reasons.UnknownBlock h other = refl
+of_object reasons.SecondContent h other = refl
+of_object reasons.BeforeContent h other = refl
+of_object reasons.NoContent h other = refl
+of_object reasons.NameWord h other = refl
+of_object reasons.ExtKind h other = refl
+of_object reasons.Truncated h other = refl
+of_object _ h other = absurd cc
+
+of_body : (r : Reason) → IsTrue (is_of_body r) → IsTrue (is_answered (number_of r))
+of_body reasons.Library h = refl
+of_body reasons.BothBits h = refl
+of_body reasons.Overlay h = refl
+of_body reasons.Break h = refl
+of_body reasons.ShortReloc h = refl
+of_body reasons.NotInLoadFile h = refl
+of_body reasons.Misplaced h = refl
+of_body reasons.UnknownBlock h = refl
+of_body reasons.SecondContent h = refl
+of_body reasons.BeforeContent h = refl
+of_body reasons.NoContent h = refl
+of_body reasons.ContentTooLong h = refl
+of_body reasons.NameWord h = refl
+of_body reasons.NothingToRelocate h = refl
+of_body reasons.BadTarget h = refl
+of_body reasons.BadOffset h = refl
+of_body _ h = absurd cc
+
+of_load : (bytes : List ℕ) (at : ℕ) (r : Reason) → HasFault bytes at r → IsTrue (is_answered (number_of r))
+of_load bytes at r (inl h) = of_word r (refusal_of_word bytes at r h)
+of_load bytes at r (inr h) = subst (λ (x : Reason). IsTrue (is_answered (number_of x))) (sym h.0) refl
+
+of_refusal : (kind : Sniff) (bytes : List ℕ) (f : Fault) → IsRefusal kind bytes f → IsTrue (is_answered (number_of f.reason))
+of_refusal sniffs.Object bytes f h = of_object f.reason h.1 (fault_other bytes f.place f.reason h.0)
+of_refusal _ bytes f h = of_load bytes f.place f.reason h.0
+
+of_header : (budget : ℕ) (bytes : List ℕ) (f : Fault) → RefusesHeader budget bytes f → IsTrue (is_answered (number_of f.reason))
+of_header budget bytes f (inl h) = of_word f.reason (refusal_of_word bytes f.place f.reason h)
+of_header budget bytes f (inr (inl h)) = subst (λ (x : Reason). IsTrue (is_answered (number_of x))) (sym h.0) refl
+of_header budget bytes f (inr (inr h)) = subst (λ (x : Reason). IsTrue (is_answered (number_of x))) (sym h.0) refl
+
+-- ---- calls
+
+pub table_told : (budget : ℕ) (bytes : List ℕ) (old new : List TableRow) (a : Answer) → Tables budget bytes old new a → Told a
+table_told budget bytes old new a (tables.HasTable t h b l n e) = told_by a _ e refl
+table_told budget bytes old new a (tables.HasNoRows t h b l n e) = told_by a _ e refl
+table_told budget bytes old new a (tables.HasNoTable f owed h k o n e) = told_by a _ e (of_header budget bytes f h)
+
+not_loaded : (base : Placing) (room : ℕ) (bytes : List ℕ) (a : Answer) → IsNotLoaded base room bytes a → Told a
+not_loaded base room bytes a (loads.HasNoFile f h k e) = told_by a _ e (of_load bytes f.place f.reason h)
+not_loaded base room bytes a (loads.HasNoRoom t h l e) = told_by a _ e refl
+not_loaded base room bytes a (loads.HasNoBase t hunk h l u e) = told_by a _ e refl
+
+pub load_told : (base : Placing) (bytes old new : List ℕ) (a : Answer) → Loads base bytes old new a → Told a
+load_told base bytes old new a (inl h) = told_by a _ h.answer_is refl
+load_told base bytes old new a (inr h) = not_loaded base (length old) bytes a h.0
+
+pub begin_told : (rows : List Row) (header : ℕ) (new : Loader) (memory after : List ℕ) (a : Answer) → Begins rows header new memory after a → Told a
+begin_told rows header new memory after a (HasBegun s h z r e) = told_by a _ e refl
+begin_told rows header new memory after a (LacksRoom bytes s l n m e) = told_by a _ e refl
+begin_told rows header new memory after a (FitsNot s n m e) = told_by a _ e refl
+
+again_told : (l : Loader) (a : Answer) → TellsAgain l a → Told a
+again_told l a (TellsRefusal at f h e) = told_by a _ e (of_body f.reason h.tells.own_reason)
+again_told l a (TellsStrange h e) = told_by a _ e refl
+
+pub feed_told : (rows : List Row) (old new : Loader) (memory after piece : List ℕ) (a : Answer) → Feeds rows old new memory after piece a → Told a
+feed_told rows old new memory after piece a (HasTaken n h e) = told_by a _ e refl
+feed_told rows old new memory after piece a (HasRefused f h n e) = told_by a _ e (of_body f.reason h.own_reason)
+feed_told rows old new memory after piece a (HadRefused h n m) = again_told old a h
+feed_told rows old new memory after piece a (IsStrange h n e) = told_by a _ e refl
+
+pub end_told : (l : Loader) (a : Answer) → Ends l a → Told a
+end_told l a (IsWhole at h e w) = told_by a _ e refl
+end_told l a (IsCutShort at h w e) = told_by a _ e refl
+end_told l a (HasNoEnd h) = again_told l a h
+
+pub want_told : (l : Loader) (a : Answer) → Wants l a → Told a
+want_told l a (HasWant at owed h w e) = told_by a _ e refl
+want_told l a (HasNoWant h) = again_told l a h
+
+pub check_told : (bytes : List ℕ) (old new : List FindingRow) (a : Answer) → Checks bytes old new a → Told a
+check_told bytes old new a (checks.HasFindings file is fits n e) = told_by a _ e refl
+check_told bytes old new a (checks.HasNoRows file is less n e) = told_by a _ e refl
+check_told bytes old new a (checks.HasNoFile f h n e) = told_by a _ e (of_refusal _ bytes f h.0)
+
+pub list_told : {A : Type 0} (rows : HunkFile → List A) (bytes : List ℕ) (old new : List A) (a : Answer) → Tabulates rows bytes old new a → Told a
+list_told rows bytes old new a (lists.HasRows file is fits n e) = told_by a _ e refl
+list_told rows bytes old new a (lists.HasNoRoom file is less n e) = told_by a _ e refl
+list_told rows bytes old new a (lists.HasNoFile f h n e) = told_by a _ e (of_refusal _ bytes f h.0)
+
+pub strip_told : (bytes old new : List ℕ) (a : Answer) → Strips bytes old new a → Told a
+strip_told bytes old new a (strips.HasStripped file is fits n e) = told_by a _ e refl
+strip_told bytes old new a (strips.HasNoText file is less n e) = told_by a _ e refl
+strip_told bytes old new a (strips.HasNoFile f h n e) = told_by a _ e (of_refusal _ bytes f h.0)
+
+pub words_told : (words old new : List ℕ) (a : Answer) → PutsText words old new a → Told a
+words_told words old new a (HasText fits n e) = told_by a _ e refl
+words_told words old new a (HasNoText less n e) = told_by a _ e refl
+
+-- ---- words
+
+words_counted : (words old new : List ℕ) (a : Answer) → PutsText words old new a → a.count ≡ length words
+words_counted words old new a (HasText fits n e) = ap (λ (x : Answer). x.count) e
+words_counted words old new a (HasNoText less n e) = ap (λ (x : Answer). x.count) e
+
+short_name : (r : Reason) → length (name_of r) ≤ 17
+short_name reasons.NotLoadFile = omega arith
+short_name _ = omega arith
+
+pub name_short : (number : ℕ) (name : List ℕ) → IsNameOf number name → length name ≤ 17
+name_short number name (OfReason r n e) = omega (arith, ap (λ (xs : List ℕ). length xs) e, short_name r)
+name_short number name (OfNoRoom n e) = omega (arith, ap (λ (xs : List ℕ). length xs) e)
+name_short number name (OfStrange n e) = omega (arith, ap (λ (xs : List ℕ). length xs) e)
+name_short number name (OfNone n e) = omega (arith, ap (λ (xs : List ℕ). length xs) e)
+
+short_meaning : (r : Reason) → length (meaning_of r) ≤ 75
+short_meaning reasons.NotLoadFile = omega arith
+short_meaning _ = omega arith
+
+pub meaning_short : (number : ℕ) (words : List ℕ) → IsMeaningOf number words → length words ≤ 75
+meaning_short number words (MeansReason r n e) = omega (arith, ap (λ (xs : List ℕ). length xs) e, short_meaning r)
+meaning_short number words (MeansNoRoom n e) = omega (arith, ap (λ (xs : List ℕ). length xs) e)
+meaning_short number words (MeansStrange n e) = omega (arith, ap (λ (xs : List ℕ). length xs) e)
+meaning_short number words (MeansNothing n e) = omega (arith, ap (λ (xs : List ℕ). length xs) e)
+
+pub names_short : (number : ℕ) (old new : List ℕ) (a : Answer) → Names number old new a → a.count ≤ 17
+names_short number old new a h = omega (arith, words_counted h.0 old new a h.2, name_short number h.0 h.1)
+
+pub meanings_short : (number : ℕ) (old new : List ℕ) (a : Answer) → Means number old new a → a.count ≤ 75
+meanings_short number old new a h = omega (arith, words_counted h.0 old new a h.2, meaning_short number h.0 h.1)
+
+-- ---- no loader
+
+none_standing : (at : Standing) → unrefused no_loader ≡ loader_at at → MayStand at → ⊥
+none_standing at e m = go at.state.position m.position
+  where
+    none : at.fed ≡ 0
+    none = sym (ap (λ (x : Loader). x.fed) e)
+
+    go : (p : Position) → MayStandAt at.state.hunk at.fed p → ⊥
+    go (positions.Body o phase) h = omega (arith, h.1, none)
+    go positions.Done h = omega (arith, h.2, none)
+    go _ h = absurd h
+
+again_strange : (a : Answer) → TellsAgain no_loader a → a ≡ strange
+again_strange a (TellsRefusal at f h e) = absurd (none_standing at h.numbers h.may_stand)
+again_strange a (TellsStrange h e) = e
+
+pub feed_strange : (rows : List Row) (new : Loader) (memory after piece : List ℕ) (a : Answer) → Feeds rows no_loader new memory after piece a → a ≡ strange
+feed_strange rows new memory after piece a (HasTaken n h e) = absurd (none_standing h.from h.stood.numbers h.stood.may_stand)
+feed_strange rows new memory after piece a (HasRefused f h n e) = absurd (none_standing h.from h.stood.numbers h.stood.may_stand)
+feed_strange rows new memory after piece a (HadRefused h n m) = again_strange a h
+feed_strange rows new memory after piece a (IsStrange h n e) = e
+
+pub end_strange : (a : Answer) → Ends no_loader a → a ≡ strange
+end_strange a (IsWhole at h e w) = absurd (none_standing at h.numbers h.may_stand)
+end_strange a (IsCutShort at h w e) = absurd (none_standing at h.numbers h.may_stand)
+end_strange a (HasNoEnd h) = again_strange a h
+
+pub want_strange : (a : Answer) → Wants no_loader a → a ≡ strange
+want_strange a (HasWant at owed h w e) = absurd (none_standing at h.numbers h.may_stand)
+want_strange a (HasNoWant h) = again_strange a h

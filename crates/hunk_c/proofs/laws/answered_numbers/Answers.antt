@@ -1,0 +1,16 @@
+use Rattle.hunk_c.proofs.AnsweredNumbers.{begin_told, check_told, end_told, feed_told, load_told, strip_told, table_told, want_told, words_told}
+use Rattle.hunk_c.proofs.laws.answered_numbers.Goals as goal
+
+pub returns : goal.returns
+returns c = record {
+  table = table_told;
+  load = load_told;
+  begin = begin_told;
+  feed = feed_told;
+  end = end_told;
+  want = want_told;
+  check = check_told;
+  strip = strip_told;
+  name = λ number old new answer h. words_told h.0 old new answer h.2;
+  meaning = λ number old new answer h. words_told h.0 old new answer h.2;
+}

@@ -1,0 +1,74 @@
+//! Laws over what calls answer: each function does nothing, and its contract is the law.
+ghost use Rattle.std.specs.Prelude.{◌≡◌, ◌≤◌, ℕ, List, IsTrue, length};
+ghost use Rattle.hunk_files.specs.HunkFile.{IsFileOf, file_bytes};
+ghost use Rattle.hunk_files.specs.declared.hunk_file.HunkFile.{HunkFile};
+ghost use Rattle.hunk_files.specs.declared.row.Row.{Row};
+ghost use Rattle.hunk_scatter.specs.Placing.{Placing};
+ghost use Rattle.hunk_c.specs.Answers.{is_answered, strange};
+ghost use Rattle.hunk_c.specs.Checks.{Checks};
+ghost use Rattle.hunk_c.specs.Loaders.{no_loader};
+ghost use Rattle.hunk_c.specs.Loads.{Loads};
+ghost use Rattle.hunk_c.specs.Names.{Means, Names};
+ghost use Rattle.hunk_c.specs.Rows.{Tabulates};
+ghost use Rattle.hunk_c.specs.Streams.{Begins, Ends, Feeds, Wants};
+ghost use Rattle.hunk_c.specs.Strips.{Strips};
+ghost use Rattle.hunk_c.specs.Tables.{Tables};
+ghost use Rattle.hunk_c.specs.declared.answer.Answer.{Answer};
+ghost use Rattle.hunk_c.specs.declared.check.FindingRow.{FindingRow};
+ghost use Rattle.hunk_c.specs.declared.loader.Loader.{Loader};
+ghost use Rattle.hunk_c.specs.declared.table.TableRow.{TableRow};
+
+/// No call answers the number of Advisory, FileLimit, Read or OutOfMemory.
+pub fn answered_numbers()
+    ensures table { (budget : ℕ) (bytes : List ℕ) (old new : List TableRow) (answer : Answer)
+        → Tables budget bytes old new answer → IsTrue (is_answered answer.number) }
+    ensures load { (base : Placing) (bytes old new : List ℕ) (answer : Answer)
+        → Loads base bytes old new answer → IsTrue (is_answered answer.number) }
+    ensures begin { (rows : List Row) (header : ℕ) (new : Loader) (memory after : List ℕ)
+        (answer : Answer) → Begins rows header new memory after answer
+        → IsTrue (is_answered answer.number) }
+    ensures feed { (rows : List Row) (old new : Loader) (memory after piece : List ℕ)
+        (answer : Answer) → Feeds rows old new memory after piece answer
+        → IsTrue (is_answered answer.number) }
+    ensures end { (l : Loader) (answer : Answer) → Ends l answer
+        → IsTrue (is_answered answer.number) }
+    ensures want { (l : Loader) (answer : Answer) → Wants l answer
+        → IsTrue (is_answered answer.number) }
+    ensures check { (bytes : List ℕ) (old new : List FindingRow) (answer : Answer)
+        → Checks bytes old new answer → IsTrue (is_answered answer.number) }
+    ensures strip { (bytes old new : List ℕ) (answer : Answer) → Strips bytes old new answer
+        → IsTrue (is_answered answer.number) }
+    ensures name { (number : ℕ) (old new : List ℕ) (answer : Answer)
+        → Names number old new answer → IsTrue (is_answered answer.number) }
+    ensures meaning { (number : ℕ) (old new : List ℕ) (answer : Answer)
+        → Means number old new answer → IsTrue (is_answered answer.number) }
+{}
+
+/// Nor does a call that writes a row for each item.
+pub fn answered_numbers_of_items<T>()
+    ensures { (rows : HunkFile → List T) (bytes : List ℕ) (old new : List T) (answer : Answer)
+        → Tabulates rows bytes old new answer → IsTrue (is_answered answer.number) }
+{}
+
+/// As many bytes as a file has are room for what is left of it.
+pub fn room_for_stripped()
+    ensures { (bytes old new : List ℕ) (answer : Answer) → Strips bytes old new answer
+        → (file : HunkFile) → IsFileOf bytes file → length (file_bytes file) ≤ length old
+        → answer.number ≡ 0 }
+{}
+
+/// The longest name of a number, and the longest sentence of what one means.
+pub fn longest_words()
+    ensures names { (number : ℕ) (old new : List ℕ) (answer : Answer)
+        → Names number old new answer → answer.count ≤ 17 }
+    ensures meanings { (number : ℕ) (old new : List ℕ) (answer : Answer)
+        → Means number old new answer → answer.count ≤ 75 }
+{}
+
+/// What a begin leaves where it does not succeed, each call answers by Strange.
+pub fn strange_after_no_begin()
+    ensures feed { (rows : List Row) (new : Loader) (memory after piece : List ℕ) (answer : Answer)
+        → Feeds rows no_loader new memory after piece answer → answer ≡ strange }
+    ensures end { (answer : Answer) → Ends no_loader answer → answer ≡ strange }
+    ensures want { (answer : Answer) → Wants no_loader answer → answer ≡ strange }
+{}

@@ -1,0 +1,14 @@
+use Rattle.hunk_files.proofs.ObjectPlaces.{behind_is, end_tells, free_passes, run_is}
+use Rattle.hunk_files.proofs.laws.object_places.Goals as goal
+
+pub returns-clause-end : goal.returns-clause-end
+returns-clause-end c = end_tells
+
+pub returns-clause-run : goal.returns-clause-run
+returns-clause-run c o done more is = run_is o is done more
+
+pub returns-clause-free : goal.returns-clause-free
+returns-clause-free c = free_passes
+
+pub returns-clause-behind : goal.returns-clause-behind
+returns-clause-behind c = behind_is

@@ -1,0 +1,5 @@
+use Rattle.hunk_files.proofs.FileParts.{one_part}
+use Rattle.hunk_files.proofs.laws.one_part.Goals as goal
+
+pub returns : goal.returns
+returns c = one_part

@@ -1,0 +1,163 @@
+-- Which fault a run tells of, and which file it makes.
+use Rattle.std.proofs.Common.{◌≡◌, ◌∙◌, ◌⊎◌, ◌-◌, ℕ, zero, suc, Bool, false, true, List, Option, Some, None, inl, inr, ap, refl, subst, sym}
+use Rattle.std.specs.Prelude.{◌↔◌, Result, Ok, Err, IfErr, IfOk, IsErrAnd, is_some}
+use Rattle.std.specs.declared.io.Error.{Error}
+use Rattle.hunk_words.specs.Carriers.{Outlet, Writing}
+use Rattle.hunk_command_line.specs.declared.asked.Order.{Order}
+use Rattle.hunk_command_line.specs.declared.asked.Order.TheVariants as orders
+use Rattle.hunk_commands.specs.Faults.{IsWrite}
+use Rattle.hunk_commands.specs.Output.{StopsOutput}
+use Rattle.hunk_commands.specs.declared.fault.RunFault.{RunFault}
+use Rattle.hunk_commands.specs.declared.fault.RunFault.TheVariants.{HexText, Memory, Read, Refused, RefusedIn, Write}
+use Rattle.hunk_commands.specs.declared.rewriting.Rewritten.{Rewritten}
+use Rattle.hunk_run.specs.Notes.{EndsByFault, EndsListing, EndsRewriting, fault_ended, left_out_note, rewritten_ended}
+use Rattle.hunk_run.specs.Orders.{LacksMemory, MakesOut, RewritesFirst, RewritesInput, RewritesTo, StopsOrder, TellsFault}
+use Rattle.hunk_run.specs.Refusals.{IsOfSystem, IsRead}
+use Rattle.hunk_run.specs.Stores.{MadeFile, MakesAtMost, MakesFile}
+use Rattle.hunk_run.specs.declared.note.Ended.{Ended}
+use Rattle.hunk_run.specs.declared.note.Note.TheVariants.{Fault}
+use Rattle.hunk_run.specs.Status.{TellsOutcome}
+use Rattle.hunk_run.proofs.Noting.{noted_ended, rewriting_fault}
+
+module _ (first made : Option MadeFile) (most : ℕ) (known : Option (List ℕ)) where
+  -- memory may always run out
+  memory_stops : (order : Order) → StopsOrder most known order Memory
+  memory_stops (orders.Show hex file) = inl refl
+  memory_stops (orders.Validate hex file) = inl refl
+  memory_stops (orders.Relocate hex base budget file) = inl refl
+  memory_stops (orders.Rewrite strip input output) = inl refl
+
+  pub memory_told : (order : Order) → made ≡ first → TellsFault first made most known order (Some (Fault Memory None None None))
+  memory_told order same = (memory_stops order, (λ some. cc, λ read. cc), same)
+
+  -- a fault that is none of writing
+  told : (order : Order) (fault : RunFault) (name : Option (List ℕ)) (cause : Option Error) (untouched : Option (List ℕ)) → ¬ IsWrite fault →
+      StopsOrder most known order fault → is_some cause ≡ true ↔ IsRead fault → made ≡ first → TellsFault first made most known order (Some (Fault fault name cause untouched))
+  told order Memory name cause untouched other stops reads same = (stops, reads, same)
+  told order HexText name cause untouched other stops reads same = (stops, reads, same)
+  told order (Read place) name cause untouched other stops reads same = (stops, reads, same)
+  told order (Refused refusal) name cause untouched other stops reads same = (stops, reads, same)
+  told order (RefusedIn refusal part) name cause untouched other stops reads same = (stops, reads, same)
+  told order (Write written) name cause untouched other stops reads same = absurd (other tt)
+
+  module _ {W : Type 0} (outlet : W → Outlet) (old new : Writing W) (order : Order) (cause : Option Error) (result : Ended) where
+    abbrev pub Tells : Type 0
+    Tells = TellsFault first made most known order result.note
+
+    tells : (fault : RunFault) (name untouched : Option (List ℕ)) → ¬ IsWrite fault → EndsByFault outlet old new fault name cause untouched result →
+        StopsOrder most known order fault → is_some cause ≡ true ↔ IsRead fault → made ≡ first → Tells
+    tells fault name untouched other ends stops reads same =
+        noted_ended outlet old new (TellsFault first made most known order) _ (fault_ended fault name cause untouched) result ends
+        (told order fault name cause untouched other stops reads same) tt
+
+    pub tells_listing : (answer : Result ℕ RunFault) (name : Option (List ℕ)) → EndsListing outlet old new answer name cause result →
+        IfErr answer (λ fault. ¬ IsWrite fault → StopsOrder most known order fault) → is_some cause ≡ true ↔ IsErrAnd answer IsRead → made ≡ first → Tells
+    tells_listing (Ok status) name (is, kept) stops reads same = subst (λ (e : Ended). TellsFault first made most known order e.note) (sym is) tt
+    tells_listing (Err (Write written)) name (is, kept) stops reads same = subst (λ (e : Ended). TellsFault first made most known order e.note) (sym is) tt
+    tells_listing (Err Memory) name ends stops reads same = tells Memory name None (λ is. is) ends (stops (λ is. is)) reads same
+    tells_listing (Err HexText) name ends stops reads same = tells HexText name None (λ is. is) ends (stops (λ is. is)) reads same
+    tells_listing (Err (Read place)) name ends stops reads same = tells (Read place) name None (λ is. is) ends (stops (λ is. is)) reads same
+    tells_listing (Err (Refused refusal)) name ends stops reads same = tells (Refused refusal) name None (λ is. is) ends (stops (λ is. is)) reads same
+    tells_listing (Err (RefusedIn refusal part)) name ends stops reads same = tells (RefusedIn refusal part) name None (λ is. is) ends (stops (λ is. is)) reads same
+
+  -- a rewriting
+  module _ {W : Type 0} (outlet : W → Outlet) (old new : Writing W) (strip : Bool) (input output : List ℕ) (cause : Option Error) (result : Ended) where
+    left_out_told : (stripped rest : ℕ) → TellsFault first made most known (orders.Rewrite strip input output) (left_out_note stripped rest input)
+    left_out_told zero zero = tt
+    left_out_told zero (suc more) = tt
+    left_out_told (suc more) rest = tt
+
+    read_alone : (fault : RunFault) → ¬ IsWrite fault → is_some cause ≡ true ↔ IsOfSystem fault → is_some cause ≡ true ↔ IsRead fault
+    read_alone fault other of_system = (λ some. elim (of_system.0 some) [ inl read ↦ read | inr write ↦ absurd (other write) ], λ read. of_system.1 (inl read))
+
+    by_other : (fault : RunFault) → ¬ IsWrite fault → EndsByFault outlet old new fault (Some input) cause (Some output) result →
+        (¬ IsWrite fault → made ≡ first) → (¬ IsWrite fault → StopsOrder most known (orders.Rewrite strip input output) fault) → is_some cause ≡ true ↔ IsOfSystem fault →
+        TellsFault first made most known (orders.Rewrite strip input output) result.note
+    by_other fault other ends same stops of_system =
+        tells outlet old new (orders.Rewrite strip input output) cause result fault (Some input) (Some output) other ends (stops other) (read_alone fault other of_system) (same other)
+
+    pub tells_rewriting : (answer : Result Rewritten RunFault) → EndsRewriting outlet old new answer input output cause result →
+        IfErr answer (λ fault. (written : ℕ) → fault ≡ Write written → RewritesInput known (RewritesFirst first made output strip written) most) →
+        IfErr answer (λ fault. ¬ IsWrite fault → made ≡ first) →
+        IfErr answer (λ fault. ¬ IsWrite fault → StopsOrder most known (orders.Rewrite strip input output) fault) →
+        is_some cause ≡ true ↔ IsErrAnd answer IsOfSystem → TellsFault first made most known (orders.Rewrite strip input output) result.note
+    tells_rewriting (Ok done) ends writes same stops of_system =
+        noted_ended outlet old new (TellsFault first made most known (orders.Rewrite strip input output)) _ (rewritten_ended done input) result ends
+        (left_out_told (done.read - done.written) done.rest) tt
+    tells_rewriting (Err (Write written)) ends writes same stops of_system =
+        noted_ended outlet old new (TellsFault first made most known (orders.Rewrite strip input output)) _ (fault_ended (Write written) (Some output) cause None) result ends
+        (writes written refl, of_system.1 (inr tt)) tt
+    tells_rewriting (Err Memory) ends writes same stops of_system = by_other Memory (λ is. is) ends same stops of_system
+    tells_rewriting (Err HexText) ends writes same stops of_system = by_other HexText (λ is. is) ends same stops of_system
+    tells_rewriting (Err (Read place)) ends writes same stops of_system = by_other (Read place) (λ is. is) ends same stops of_system
+    tells_rewriting (Err (Refused refusal)) ends writes same stops of_system = by_other (Refused refusal) (λ is. is) ends same stops of_system
+    tells_rewriting (Err (RefusedIn refusal part)) ends writes same stops of_system = by_other (RefusedIn refusal part) (λ is. is) ends same stops of_system
+
+-- the file that a rewriting makes
+module _ (first made : Option MadeFile) (most : ℕ) (known : Option (List ℕ)) (strip : Bool) (output : List ℕ) where
+  abbrev pub Out : Type 0
+  Out = (made ≡ first) ⊎ ((taken : List ℕ) × MakesFile first made output taken)
+
+  at_most : (taken : List ℕ) → MakesAtMost first made output taken → Out
+  at_most taken (inl (same, empty)) = inl same
+  at_most taken (inr makes) = inr (taken, makes)
+
+  made_by : (answer : Result Rewritten RunFault) → IfOk answer (λ done. RewritesInput known (RewritesTo first made output strip done) most) →
+      IfErr answer (λ fault. (written : ℕ) → fault ≡ Write written → RewritesInput known (RewritesFirst first made output strip written) most) →
+      IfErr answer (λ fault. ¬ IsWrite fault → made ≡ first) → Out
+  made_by (Ok done) (left, leaves, (after, reads)) writes same = inr (reads.holds.text, reads.holds.makes.makes)
+  made_by (Err (Write written)) rewrites writes same = let (left, leaves, (after, reads)) = writes written refl in at_most _ reads.holds.makes
+  made_by (Err Memory) rewrites writes same = inl (same (λ is. is))
+  made_by (Err HexText) rewrites writes same = inl (same (λ is. is))
+  made_by (Err (Read place)) rewrites writes same = inl (same (λ is. is))
+  made_by (Err (Refused refusal)) rewrites writes same = inl (same (λ is. is))
+  made_by (Err (RefusedIn refusal part)) rewrites writes same = inl (same (λ is. is))
+
+  pub makes_out : (wanted : Option Order) (input : List ℕ) (answer : Result Rewritten RunFault) → wanted ≡ Some (orders.Rewrite strip input output) →
+      IfOk answer (λ done. RewritesInput known (RewritesTo first made output strip done) most) →
+      IfErr answer (λ fault. (written : ℕ) → fault ≡ Write written → RewritesInput known (RewritesFirst first made output strip written) most) →
+      IfErr answer (λ fault. ¬ IsWrite fault → made ≡ first) → MakesOut first made wanted
+  makes_out wanted input answer is rewrites writes same =
+      elim (made_by answer rewrites writes same) [
+        | inl none ↦ inl none
+        | inr it ↦ inr (orders.Rewrite strip input output, output, it.0, is, refl, it.1)
+      ]
+
+-- ---- where nothing fails
+
+lacks : (fault : RunFault) (name : Option (List ℕ)) (cause : Option Error) (untouched : Option (List ℕ)) → (cause ≡ None → fault ≡ Memory) →
+    LacksMemory (Some (Fault fault name cause untouched))
+lacks fault name (Some error) untouched memory = tt
+lacks fault name None untouched memory = memory refl
+
+module _ {W : Type 0} (outlet : W → Outlet) (old mid new : Writing W) (cause : Option Error) (result : Ended) (sound : (outlet old.sink).failed ≡ false) where
+  -- the output is mid behind what was listed
+  lacks_since : (fault : RunFault) (name : Option (List ℕ)) → ¬ IsWrite fault → StopsOutput outlet old mid fault →
+      (cause ≡ None → (outlet mid.sink).failed ≡ false → fault ≡ Memory) → EndsByFault outlet mid new fault name cause None result → LacksMemory result.note
+  lacks_since fault name other stops memory ends =
+      noted_ended outlet mid new LacksMemory _ (fault_ended fault name cause None) result ends
+      (lacks fault name cause None (λ none. memory none (ap (λ (w : Writing W). (outlet w.sink).failed) (stops.untouched other) ∙ sound))) tt
+
+  pub lacks_listing : (answer : Result ℕ RunFault) (name : Option (List ℕ)) → TellsOutcome outlet old mid answer →
+      (cause ≡ None → (outlet mid.sink).failed ≡ false → IfErr answer (λ fault. fault ≡ Memory)) → EndsListing outlet mid new answer name cause result → LacksMemory result.note
+  lacks_listing (Ok status) name outcome memory (is, kept) = subst (λ (e : Ended). LacksMemory e.note) (sym is) tt
+  lacks_listing (Err (Write written)) name outcome memory (is, kept) = subst (λ (e : Ended). LacksMemory e.note) (sym is) tt
+  lacks_listing (Err Memory) name outcome memory ends = lacks_since Memory name (λ is. is) outcome.fails memory ends
+  lacks_listing (Err HexText) name outcome memory ends = lacks_since HexText name (λ is. is) outcome.fails memory ends
+  lacks_listing (Err (Read place)) name outcome memory ends = lacks_since (Read place) name (λ is. is) outcome.fails memory ends
+  lacks_listing (Err (Refused refusal)) name outcome memory ends = lacks_since (Refused refusal) name (λ is. is) outcome.fails memory ends
+  lacks_listing (Err (RefusedIn refusal part)) name outcome memory ends = lacks_since (RefusedIn refusal part) name (λ is. is) outcome.fails memory ends
+
+module _ {W : Type 0} (outlet : W → Outlet) (old new : Writing W) (input output : List ℕ) (cause : Option Error) (result : Ended) where
+  lacks_left_out : (stripped rest : ℕ) → LacksMemory (left_out_note stripped rest input)
+  lacks_left_out zero zero = tt
+  lacks_left_out zero (suc more) = tt
+  lacks_left_out (suc more) rest = tt
+
+  pub lacks_rewriting : (answer : Result Rewritten RunFault) → (cause ≡ None → IfErr answer (λ fault. fault ≡ Memory)) →
+      EndsRewriting outlet old new answer input output cause result → LacksMemory result.note
+  lacks_rewriting (Ok done) memory ends =
+      noted_ended outlet old new LacksMemory _ (rewritten_ended done input) result ends (lacks_left_out (done.read - done.written) done.rest) tt
+  lacks_rewriting (Err fault) memory ends =
+      let (name, untouched, by, names) = rewriting_fault outlet old new true fault input output cause result ends in
+      noted_ended outlet old new LacksMemory _ (fault_ended fault name cause untouched) result by (lacks fault name cause untouched memory) tt

@@ -1,0 +1,126 @@
+//! Files in memory, as a store of which all is known.
+ghost use Rattle.std.specs.Prelude.{◌≡◌, ◌≤◌, ◌++◌, IfOk, None, OnErr, length, take};
+
+use hunk_run::Store;
+use std::alloc::Global;
+use std::io;
+use std::marker::Model;
+
+/// A file that is there.
+#[derive(Clone, Copy)]
+pub(super) struct Held<'a> {
+    pub name: &'a str,
+    pub bytes: &'a [u8],
+}
+
+/// The file that is made. Contracts see its name, what it has taken and its answer.
+#[derive(Drop)]
+pub(super) struct Taking {
+    pub name: String,
+    pub taken: Vec<u8>,
+    pub answer: Option<io::Result<()>>,
+}
+
+impl Model for Taking {
+    ghost use Rattle.std.specs.String.{string_bytes};
+    ghost use Rattle.hunk_run.specs.Stores.{MadeFile};
+
+    ghost Value = { MadeFile };
+
+    ghost view = { λ s. record {
+      name = string_bytes s.name;
+      taken = s.taken.items;
+      answer = s.answer;
+    } };
+}
+
+impl Taking {
+    /// Takes at most 7 of the bytes.
+    fn take(&mut self, bytes: &[u8]) -> io::Result<usize>
+        ensures inside { IfOk result (λ n. n ≤ length bytes.now) }
+        ensures takes { IfOk result (λ n. self.new ≡ record {
+          name = self.old.name;
+          taken = self.old.taken ++ take n bytes.now;
+          answer = None;
+        }) }
+        ensures fails { OnErr result (self.new ≡ self.old) }
+    {
+        let count = bytes.len().min(7);
+        if self.taken.extend_from_slice(&bytes[..count]).is_err() {
+            return Err(io::Error::from(io::ErrorKind::OutOfMemory));
+        }
+        self.answer = None;
+        Ok(count)
+    }
+}
+
+/// Two files and standard input, and a file that is made.
+#[derive(Drop)]
+pub(super) struct MemoryStore<'a> {
+    pub alloc: Global,
+    pub first: Held<'a>,
+    pub second: Held<'a>,
+    pub input: &'a [u8],
+    pub made: Option<Taking>,
+}
+
+impl<'a> Store for MemoryStore<'a> {
+    type File = &'a [u8];
+
+    type Input = &'a [u8];
+
+    ghost use Rattle.std.specs.Prelude.{None, Some, if◌then◌else◌};
+    ghost use Rattle.std.specs.Str.{bytes_eq};
+
+    ghost holdings = { λ s. record {
+      content = λ name. if bytes_eq s.first.name.now name then Some s.first.bytes.now
+          else (if bytes_eq s.second.name.now name then Some s.second.bytes.now else None);
+      input = Some s.input.now;
+    } };
+
+    ghost made = { λ s. s.made };
+
+    fn open(&self, name: &str) -> io::Result<&'a [u8]> {
+        if self.first.name == name {
+            return Ok(self.first.bytes);
+        }
+        if self.second.name == name {
+            return Ok(self.second.bytes);
+        }
+        Err(io::Error::from(io::ErrorKind::NotFound))
+    }
+
+    fn input(&self) -> &'a [u8] {
+        self.input
+    }
+
+    fn create(&mut self, name: &str) -> io::Result<()> {
+        if self.made.is_some() {
+            return Err(io::Error::from(io::ErrorKind::AlreadyExists));
+        }
+        let Ok(name) = String::from_str(self.alloc, name) else {
+            return Err(io::Error::from(io::ErrorKind::OutOfMemory));
+        };
+        self.made = Some(Taking {
+            name,
+            taken: Vec::new(self.alloc),
+            answer: None,
+        });
+        Ok(())
+    }
+
+    fn write(&mut self, bytes: &[u8]) -> io::Result<usize> {
+        let Some(file) = &mut self.made else {
+            return Err(io::Error::from(io::ErrorKind::NotFound));
+        };
+        file.take(bytes)
+    }
+
+    fn keep(&mut self) -> io::Result<()> {
+        let Some(file) = &mut self.made else {
+            return Err(io::Error::from(io::ErrorKind::NotFound));
+        };
+        file.answer = Some(Ok(()));
+        Ok(())
+    }
+}
