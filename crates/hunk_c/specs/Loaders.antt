@@ -114,14 +114,14 @@ pub record HasNumbers (l : Loader) (p : Position) : Type 0 where
 abbrev pub HasPhase : Loader → Phase → Type 0
 HasPhase l p = (l.phase ≡ (phase_numbers p).0) × (l.part ≡ (phase_numbers p).1) × (l.owed ≡ (phase_numbers p).2)
 
--- with a refusal, and otherwise as it was, but for the room to grow
-abbrev pub refusing : Loader → Fault → Loader
-refusing l f = record {
+-- with these numbers of a refusal, and otherwise as it was, but for the room to grow, which is not read
+abbrev pub with_refusal : Loader → ℕ → ℕ → ℕ → Loader
+with_refusal l at number in_hunk = record {
   start = l.start;
   fed = l.fed;
-  place = f.place;
-  refused = number_of f.reason;
-  refused_hunk = refused_hunk f.reason;
+  place = at;
+  refused = number;
+  refused_hunk = in_hunk;
   hunk = l.hunk;
   hunks = l.hunks;
   ahead = l.ahead;
@@ -136,27 +136,12 @@ refusing l f = record {
   reserved = unused;
 }
 
--- as it was before its refusal; the room to grow is not read
+abbrev pub refusing : Loader → Fault → Loader
+refusing l f = with_refusal l f.place (number_of f.reason) (refused_hunk f.reason)
+
+-- as it was before its refusal
 abbrev pub unrefused : Loader → Loader
-unrefused l = record {
-  start = l.start;
-  fed = l.fed;
-  place = 0;
-  refused = 0;
-  refused_hunk = 0;
-  hunk = l.hunk;
-  hunks = l.hunks;
-  ahead = l.ahead;
-  has_content = l.has_content;
-  phase = l.phase;
-  part = l.part;
-  owed = l.owed;
-  pending = l.pending;
-  first = l.first;
-  second = l.second;
-  third = l.third;
-  reserved = unused;
-}
+unrefused l = with_refusal l 0 0 0
 
 -- the numbers of no loader: no longword is for the phase 0
 abbrev pub no_loader : Loader
