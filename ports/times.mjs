@@ -1,7 +1,7 @@
-// node times.mjs MODULE.wasm FILE..: processor milliseconds that the calls of web/hunk.js take on each file, the least of
+// node times.mjs MODULE.wasm FILE..: processor milliseconds that the calls of hunk.js take on each file, the least of
 // five. Each call copies the file into the module's memory, which is counted.
 import { readFileSync } from "node:fs";
-import { Hunk, HunkError } from "../web/hunk.js";
+import { Hunk, HunkError } from "../bindings/javascript/hunk.js";
 
 const BASE = 0x21000;
 const BUDGET = 2 ** 30;

@@ -1,4 +1,4 @@
-"""binding.py VECTORS..: holds examples/python/hunk.py and hunk_stream.py to the conformance suite, vectors/load.tsv and
+"""binding.py VECTORS..: holds bindings/python/hunk.py and hunk_stream.py to the conformance suite, vectors/load.tsv and
 vectors/objects.tsv. Prints each row with another answer, and ends with status 1 where there is one.
 
 binding.py --show FILE..: prints what stands in the files by hunk.py in the words of `hunkinfo show`, after `== FILE` for each.
@@ -9,7 +9,7 @@ import itertools
 import pathlib
 import sys
 
-sys.path.insert(0, str(pathlib.Path(__file__).resolve().parents[2] / "examples/python"))
+sys.path.insert(0, str(pathlib.Path(__file__).resolve().parents[2] / "bindings/python"))
 import hunk
 import hunk_stream
 

@@ -1,10 +1,10 @@
-//! binding LOAD OBJECTS: holds examples/rust/hunk.rs to the conformance suite, vectors/load.tsv and vectors/objects.tsv. Prints
+//! binding LOAD OBJECTS: holds bindings/rust/hunk.rs to the conformance suite, vectors/load.tsv and vectors/objects.tsv. Prints
 //! each row with another answer, and ends with status 1 where there is one.
 //!
 //! binding --show FILE..: prints what stands in the files by hunk.rs in the words of `hunkinfo show`, after `== FILE` for each.
 //! It ends with status 1 where something does not stand at the place that its row has.
 
-#[path = "../../examples/rust/hunk.rs"]
+#[path = "../../bindings/rust/hunk.rs"]
 mod hunk;
 
 use hunk::{Block, Entry, EntryKind, Error, Fault, File, Finding, Hunk, Kind, Memory, Reference, Relocation, Symbol, BUDGET};

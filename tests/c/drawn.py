@@ -1,5 +1,5 @@
-"""drawn.py SUM OBJECT: holds what examples/python/map.py draws, and listing.py prints where Capstone is there, to what is known of
-two files: examples/c/sum.hex as bytes, and the row two-findings of vectors/objects.tsv.
+"""drawn.py SUM OBJECT: holds what map.py of bindings/python/examples draws, and listing.py prints where Capstone is there, to what is
+known of two files: bindings/c/examples/sum.hex as bytes, and the row two-findings of vectors/objects.tsv.
 
 Prints what is not as it must be, and then ends with status 1."""
 
@@ -10,7 +10,7 @@ import sys
 import tempfile
 import xml.etree.ElementTree
 
-EXAMPLES = pathlib.Path(__file__).resolve().parents[2] / "examples/python"
+EXAMPLES = pathlib.Path(__file__).resolve().parents[2] / "bindings/python/examples"
 
 # What sum.s has: offset, instruction, and what its long points to.
 CODE = [

@@ -1,7 +1,7 @@
 // Each answer of a module on files, and all that it writes, as dump.c prints them of the library:
 // node dump.mjs MODULE.wasm < NAMES, of files in this folder.
 import { readFileSync } from "node:fs";
-import { Hunk, HunkError, nameOf } from "../../web/hunk.js";
+import { Hunk, HunkError, nameOf } from "../../bindings/javascript/hunk.js";
 
 const BUDGET = 1 << 20;
 const BASE = 0xfffff000;

@@ -1,7 +1,7 @@
 // Holds a module to the rows of the conformance suite, and to what vectors/every prints:
 // node vectors.mjs MODULE.wasm LOAD.tsv OBJECTS.tsv EVERY. Prints what differs, and then how many answers were compared.
 import { readFileSync } from "node:fs";
-import { Hunk, HunkError } from "../../web/hunk.js";
+import { Hunk, HunkError } from "../../bindings/javascript/hunk.js";
 
 const BUDGET = 1 << 20;
 const BUDGET_NUMBER = 27;

@@ -1,6 +1,6 @@
 // What the library says of a file.
 
-import { HunkError } from "../hunk.js";
+import { HunkError } from "../../bindings/javascript/hunk.js";
 
 /** The most bytes of memory, blocks and other items that are shown of a file. */
 const MOST_MEMORY = 1 << 28;

@@ -1,6 +1,6 @@
 // The lists of a file: a tab for each that has something to show.
 
-import { nameOf } from "../hunk.js";
+import { nameOf } from "../../bindings/javascript/hunk.js";
 import { Grid } from "./grid.js";
 import * as names from "./names.js";
 

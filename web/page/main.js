@@ -1,6 +1,6 @@
 // The page: what is dropped, picked or linked is shown.
 
-import { Hunk } from "../hunk.js";
+import { Hunk } from "../../bindings/javascript/hunk.js";
 import { droppedFiles, pickedFiles } from "./dropped.js";
 import { Examined } from "./file.js";
 import { HexView } from "./hexview.js";

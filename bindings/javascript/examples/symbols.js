@@ -1,6 +1,6 @@
-// node example.js MODULE.wasm FILE: the symbols of a file, and the hunks of a load file at the address 0x21000.
+// node symbols.js MODULE.wasm FILE: the symbols of a file, and the hunks of a load file at the address 0x21000.
 import { readFileSync } from "node:fs";
-import { Hunk, HunkError, nameOf } from "./hunk.js";
+import { Hunk, HunkError, nameOf } from "../hunk.js";
 
 const [module, path] = process.argv.slice(2);
 const hunk = await Hunk.open(readFileSync(module));

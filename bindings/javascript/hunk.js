@@ -1,4 +1,4 @@
-// Hunk files of AmigaDOS in JavaScript: the calls of include/hunk.h over a module that ports/build makes.
+// Hunk files of AmigaDOS in JavaScript: the calls of hunk.h over a module that ports/build makes.
 //
 //     import { Hunk } from "./hunk.js";
 //     const hunk = await Hunk.open(fetch("hunk.wasm"));

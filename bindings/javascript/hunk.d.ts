@@ -1,4 +1,4 @@
-/** Hunk files of AmigaDOS: the calls of include/hunk.h, which says what each answers when. Counts, and places in a file,
+/** Hunk files of AmigaDOS: the calls of hunk.h, which says what each answers when. Counts, and places in a file,
  * are numbers, and exact up to 2^53. All of them count from 0. */
 
 export const ABI: number;

@@ -1,9 +1,9 @@
 #!/bin/sh
-# [DESTDIR=..] [PREFIX=..] [TARGET=..] ./install.sh [uninstall]: puts the program, the C library with its header, the manual page, two pages
-# and the lines for `file` where a distribution has them, below PREFIX (/usr/local), all of that below DESTDIR where one is given; or
-# takes them away, with the folders that it made, where these are empty then. They are what `rt run` in crates/hunkinfo and `rt lib`
-# in crates/hunk_c have built, or where TARGET is aarch64-unknown-linux-gnu what `ports/build` has for it; PROGRAM and LIBRARY name
-# others. It needs a C compiler for that machine (CC, with options or without), for libhunk.so.
+# [DESTDIR=..] [PREFIX=..] [TARGET=..] packaging/install.sh [uninstall]: puts the program, the C library with its header, the manual
+# page, two pages and the lines for `file` where a distribution has them, below PREFIX (/usr/local), all of that below DESTDIR where
+# one is given; or takes them away, with the folders that it made, where these are empty then. They are what `rt run` in
+# crates/hunkinfo and `rt lib` in crates/hunk_c have built, or where TARGET is aarch64-unknown-linux-gnu what `ports/build` has for
+# it; PROGRAM and LIBRARY name others. It needs a C compiler for that machine (CC, with options or without), for libhunk.so.
 set -eu
 umask 022
 lack() {
@@ -19,18 +19,18 @@ absolute() {
 }
 case $#:${1:-} in
   0: | 1:uninstall) ;;
-  *) lack 'usage: [DESTDIR=..] [PREFIX=..] [TARGET=..] ./install.sh [uninstall]' 2 ;;
+  *) lack 'usage: [DESTDIR=..] [PREFIX=..] [TARGET=..] packaging/install.sh [uninstall]' 2 ;;
 esac
 PREFIX=$(absolute "${PREFIX:-/usr/local}")
 DESTDIR=${DESTDIR:+$(absolute "$DESTDIR")}
 LIBRARY=${LIBRARY:+$(absolute "$LIBRARY")}
 PROGRAM=${PROGRAM:+$(absolute "$PROGRAM")}
-cd "$(dirname "$(realpath "$0")")"
+cd "$(dirname "$(realpath "$0")")/.."
 to=$DESTDIR$PREFIX
 # The shared library has the number of its interface in its name, and is a file with its version in that.
 version=$(cat VERSION)
-abi=$(sed -n 's/^#define HUNK_ABI \(UINT32_C(\)\{0,1\}\([0-9][0-9]*\).*/\2/p' include/hunk.h)
-[ "$abi" ] || lack 'include/hunk.h does not say its HUNK_ABI'
+abi=$(sed -n 's/^#define HUNK_ABI \(UINT32_C(\)\{0,1\}\([0-9][0-9]*\).*/\2/p' bindings/c/hunk.h)
+[ "$abi" ] || lack 'bindings/c/hunk.h does not say its HUNK_ABI'
 soname=libhunk.so.$abi
 shared=libhunk.so.$version
 files="bin/hunkinfo include/hunk.h lib/libhunk.a lib/$shared lib/$soname lib/libhunk.so lib/pkgconfig/hunk.pc
@@ -108,7 +108,7 @@ done
 [ ! -f "$record" ] || made="$made$(cat "$record")"
 echo "$made" > "$record"
 install -m 755 "$PROGRAM" "$to/bin/hunkinfo"
-install -m 644 include/hunk.h "$to/include/hunk.h"
+install -m 644 bindings/c/hunk.h "$to/include/hunk.h"
 install -m 644 "$LIBRARY" "$to/lib/libhunk.a"
 install -m 755 "$work/$shared" "$to/lib/$shared"
 ln -sf "$shared" "$to/lib/$soname"

@@ -1,5 +1,5 @@
 // Opens the page in a browser, gives it files, and holds what it shows to what the program prints:
-// node selftest.js BROWSER PAGE PROGRAM EVERY ONE_OF PICTURES WORK. EVERY is what vectors/every has printed, of which one of
+// node selftest.mjs BROWSER PAGE PROGRAM EVERY ONE_OF PICTURES WORK. EVERY is what vectors/every has printed, of which one of
 // ONE_OF inputs is dropped; pictures go into the folder PICTURES, and files into WORK.
 
 import { execFileSync } from "node:child_process";
@@ -8,7 +8,7 @@ import { createServer } from "node:http";
 import { pathToFileURL } from "node:url";
 
 const [browserName, pagePath, program, everyPath, oneOf, pictures, work] = process.argv.slice(2);
-const { Chromium, Firefox } = { ...(await import("./chromium.js")), ...(await import("./firefox.js")) };
+const { Chromium, Firefox } = { ...(await import("./chromium.mjs")), ...(await import("./firefox.mjs")) };
 const url = pathToFileURL(pagePath).href;
 const root = new URL("../../", import.meta.url).pathname;
 const BASE = "00021000";
@@ -278,7 +278,7 @@ async function takePictures(page) {
   const take = async (name) => writeFileSync(`${pictures}/${browserName}-${name}.png`, await browser.picture());
   mkdirSync(pictures, { recursive: true });
   await browser.size(1280, 900);
-  await page.open(`#hex=${readFileSync(`${root}examples/c/sum.hex`, "utf8").replace(/\s/g, "")}`);
+  await page.open(`#hex=${readFileSync(`${root}bindings/c/examples/sum.hex`, "utf8").replace(/\s/g, "")}`);
   await take("load");
   await browser.size(1120, 700);
   await take("page");
