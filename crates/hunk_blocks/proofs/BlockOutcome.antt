@@ -9,7 +9,7 @@ use Rattle.hunk_blocks.specs.Modes.{IsOfMode, refuse_inside, refuse_alone_word}
 use Rattle.hunk_blocks.specs.Begins.{BeginsWithBlock, BeginsWithNoBlock}
 use Rattle.hunk_blocks.specs.Faults.{words, Expects, IsFront, refuse_alone, blocks, HasBlockFault}
 use Rattle.hunk_blocks.specs.BlockSteps.{Inside, BlockNext, Open, Whole, part_of, step_inside, begin_body, Follows}
-use Rattle.hunk_blocks.proofs.{Admitted.{block, of_mode}, BlockCompletion.{completes, run_fits}}
+use Rattle.hunk_blocks.proofs.{Admitted.{block}, BlockCompletion.{completes, run_fits}}
 use Rattle.hunk_blocks.proofs.{BlockLongs.block_longs, BlockPrefix.block_prefix}
 use Rattle.hunk_blocks.proofs.BlockProgress.{read_inside, read_next, NextFits, step_fits, step_reads}
 use Rattle.hunk_blocks.proofs.OneBlockFault.{Alone, AtWord, Behind, alone, block_reads, alone_inside, part_not_word}

@@ -1,5 +1,5 @@
 -- What was read of a block, in numbers alone: the phase of its reader.
-use Rattle.std.proofs.Common.{rules, ◌≡◌, ◌≢◌, ℕ, zero, suc, ◌+◌, ◌/◌, ◌%◌, ◌^◌, Bool, true, false, List, [], ◌∷◌, ◌++◌, length, refl, ap, ◌∙◌, arith, Option, Some, None}
+use Rattle.std.proofs.Common.{rules, ◌≡◌, ◌≢◌, ℕ, zero, suc, ◌+◌, ◌/◌, ◌%◌, ◌^◌, List, [], ◌∷◌, ◌++◌, length, refl, ap, ◌∙◌, arith, Option, Some, None}
 use Rattle.hunk_words.specs.{declared.block_word.Kind.Kind, Bits.entry_type}
 use Rattle.hunk_words.specs.declared.block_word.Kind.TheVariants as kinds
 use Rattle.hunk_blocks.specs.declared.ext_shape.ExtShape.{ExtShape}
@@ -125,10 +125,6 @@ same_part test value _ offset = refl
 -- The phase determines the refusal.
 pub refuse_phase : (x : Inside) (w : ℕ) → refuse_inside (part_of x) w ≡ refuse_inside (part_at (phase_of x)) w
 refuse_phase x w = same_part (λ (part : Part). refuse_inside part w) refl x (λ r. refl)
-
-abbrev is_block_word : Part → Bool
-is_block_word parts.BlockWord = true
-is_block_word _ = false
 
 -- Behind a block word no phase is that of one.
 pub phase_no_word : (x : Inside) → part_at (phase_of x) ≢ parts.BlockWord

@@ -1,19 +1,17 @@
 -- What has been read of a block is the text up to there, and it fits as long as no longword was refused.
-use Rattle.std.proofs.Common.{rules, ◌≡◌, ◌≢◌, ℕ, zero, suc, ◌+◌, ◌*◌, ◌/◌, ◌%◌, ◌^◌, ◌<◌, ltb, List, [], ◌∷◌, ◌++◌, length, refl, sym, ap, subst, ◌∙◌, append_assoc, add-zero, arith, None, Option, Some}
+use Rattle.std.proofs.Common.{rules, ◌≡◌, ◌≢◌, ℕ, zero, suc, ◌+◌, ◌*◌, ◌/◌, ◌%◌, ◌^◌, ◌<◌, List, [], ◌∷◌, ◌++◌, length, refl, sym, ap, subst, ◌∙◌, append_assoc, add-zero, arith, None, Option, Some}
 use Rattle.std.specs.{Prelude.IsTrue, List.{flat_map, AllByRecursion}}
-use Rattle.std.proofs.lemmas.Bool.{ltb-true}
 use Rattle.hunk_words.specs.{declared.block_word.Kind.Kind, Longs.{IsLong, AreLongs}}
-use Rattle.hunk_words.specs.Bits.{is_relocation, kind, is_advisory}
+use Rattle.hunk_words.specs.Bits.{is_relocation, kind}
 use Rattle.hunk_words.specs.declared.block_word.Kind.TheVariants as kinds
-use Rattle.hunk_blocks.specs.{declared.mode.Mode.Mode, declared.ext_shape.ExtShape.ExtShape}
+use Rattle.hunk_blocks.specs.{declared.ext_shape.ExtShape.ExtShape}
 use Rattle.hunk_blocks.specs.declared.ext_shape.ExtShape.TheVariants.{Definition, References, Common}
 use Rattle.hunk_blocks.specs.ExtKinds.{ext_shape}
-use Rattle.hunk_blocks.specs.Values.{RelocGroup, ExtEntry, SymbolEntry, FitsShape, FitsWord, IsPayload, IsGroup, IsExtEntry, IsSymbolEntry, is_unknown}
+use Rattle.hunk_blocks.specs.Values.{RelocGroup, ExtEntry, SymbolEntry, FitsShape, FitsWord, IsPayload, IsGroup, IsExtEntry, IsSymbolEntry}
 use Rattle.hunk_blocks.specs.Parts.{Part, Part as parts, each, group_parts, ext_parts, ext_parts_by, symbol_parts, body_parts}
-use Rattle.hunk_blocks.specs.Modes.{refuse_inside, refuse_shape, refuse_alone_kind}
-use Rattle.hunk_blocks.specs.BlockSteps.{Counting, ForName, Sizing, ForCode, ForData, ForBss, Filling, Counted, SizedCode, SizedData, Inside, AtCount, AtSize, InPayload, AtGroup, AtTarget, InOffsets, AtEntry, InName, AtValue, AtExtWord, InExtName, AtExtValue, AtExtSize, AtExtCount, InExtOffsets, BlockNext, Open, Whole, group, entry, external, count_part, part_of, counted_body, step_inside, fill, relocate, name_entry, sized_by, grouped, entered, shaped, name_external, refer, listed, begin_body}
-use Rattle.hunk_words.specs.declared.reason.Reason.TheVariants as reasons
-use Rattle.hunk_blocks.proofs.Lists.{All-more, map-more, flat_map-more, more_owed, more-not-nil, passed_true}
+use Rattle.hunk_blocks.specs.Modes.{refuse_inside, refuse_shape}
+use Rattle.hunk_blocks.specs.BlockSteps.{Counting, ForName, Sizing, ForCode, ForData, ForBss, Filling, Counted, SizedCode, SizedData, Inside, AtCount, AtSize, InPayload, AtGroup, AtTarget, InOffsets, AtEntry, InName, AtValue, AtExtWord, InExtName, AtExtValue, AtExtSize, AtExtCount, InExtOffsets, BlockNext, Open, Whole, group, entry, external, count_part, part_of, counted_body, step_inside, fill, relocate, name_entry, sized_by, grouped, entered, name_external, refer, listed, begin_body}
+use Rattle.hunk_blocks.proofs.Lists.{All-more, map-more, flat_map-more, more_owed, more-not-nil}
 
 -- ---- the text so far
 
@@ -84,9 +82,6 @@ sized_reads ForData w = fill_reads (SizedData (w / 2 ^ 30)) [] (w % 2 ^ 30) ∙ 
 sized_reads ForBss w = refl
 
 -- ---- what fits so far
-
-positive : (n : ℕ) → (n ≡ 0 → ⊥) → 0 < n
-positive n h = omega arith
 
 module _ (word : ℕ) where
   -- Each payload of this length fits.
@@ -176,13 +171,6 @@ module _ (word : ℕ) where
   name_fits entries w done zero g h = (g, record { fits = h.fits; goes_on = h.goes_on; counts = omega (arith, h.counts); longs_fit = h.longs_fit })
   name_fits entries w done (suc owed) g h = (g, h)
 
-  -- a name is whole, and the type is one that is accepted
-  shape_fits : (s : Option ExtShape) (entries : List ExtEntry) (w : ℕ) (name : List ℕ) → IsShape w s → ExternalsFit entries → NameFits w name (length name) → refuse_shape s ≡ None → NextFits (shaped s entries w name)
-  shape_fits (Some Definition) entries w name e g h ok = (g, h, e)
-  shape_fits (Some References) entries w name e g h ok = (g, record { name_fits = h; value_fits = omega arith; refers = subst (λ (s : Option ExtShape). MayRefer s 0) (sym e) refl })
-  shape_fits (Some Common) entries w name e g h ok = (g, h, e)
-  shape_fits None entries w name e g h ok = absurd cc
-
   external_name_fits : (entries : List ExtEntry) (w : ℕ) (done : List ℕ) (owed : ℕ) → ExternalsFit entries → NameFits w done (length done + owed) → refuse_shape (ext_shape (w / 2 ^ 24)) ≡ None → NextFits (name_external entries w done owed)
   external_name_fits entries w done zero g h ok = search rules
   external_name_fits entries w done (suc owed) g h ok = (g, h, ok)
@@ -262,14 +250,6 @@ module _ (word : ℕ) where
   step_fits (AtExtCount entries word name value) w h l ok = refer_fits entries word name value [] w h.0 h.1 (omega (arith, l)) tt
   step_fits (InExtOffsets entries word name value done owed) w h l ok =
       refer_fits entries word name value (done ++ w ∷ []) owed h.0 h.1 (omega (arith, h.2, more_owed done w owed)) (All-more IsLong done w h.3 l)
-
--- Behind a block word that is not refused the block fits.
-pub begin_fits : (mode : Mode) (word : ℕ) (k : Kind) → kind word ≡ k → refuse_alone_kind mode (is_advisory word) k ≡ None → NextFits word (begin_body k)
-begin_fits mode word kinds.Name e ok = λ ws h passes. (e, (ltb-true (length ws) (2 ^ 24) (passed_true (ltb (length ws) (2 ^ 24)) reasons.NameWord passes), h.1))
-begin_fits mode word kinds.Ext e ok = (e, tt)
-begin_fits mode word kinds.Symbol e ok = (e, tt)
-begin_fits mode word (kinds.Unknown n) e ok = λ ws h passes. (ap is_unknown e, passed_true (is_advisory word) reasons.UnknownBlock ok, h)
-begin_fits mode word _ e ok = first_of (cc, assumption (ap is_relocation e))
 
 -- ---- each step adds to the text
 

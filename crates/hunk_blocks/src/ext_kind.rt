@@ -1,5 +1,5 @@
 //! The types of EXT entries.
-ghost use Rattle.std.specs.Prelude.{◌≡◌, ◌<◌, ◌≤◌, IfSome, length};
+ghost use Rattle.std.specs.Prelude.{◌≡◌, ◌≤◌, IfSome, length};
 ghost use Rattle.hunk_words.specs.Bits.{entry_type};
 ghost use Rattle.hunk_blocks.specs.ExtKinds.{ext_code, ext_kind, ext_name, ext_shape, ext_width, shape_of_kind};
 

@@ -1,18 +1,19 @@
 -- What has been read of a load file is the text up to there, and it fits as long as no longword was refused.
 use Rattle.std.proofs.Common.{rules, ◌≡◌, ℕ, zero, suc, ◌+◌, ◌-◌, ◌<◌, ◌≤◌, Bool, true, false, ◌||◌, eqb, List, [], ◌∷◌, ◌++◌, length, refl, sym, ap, subst, ◌∙◌, append_assoc, append-nil, arith, Some, None}
-use Rattle.std.proofs.{Math.Bool.{or-false, or-true}, lemmas.{Bool.eqb-true, List.length-map}}
+use Rattle.std.proofs.lemmas.Grind.{common_steps}
+use Rattle.std.proofs.{Math.Bool.{or-false, or-true}, lemmas.{Bool.eqb-true}}
 use Rattle.std.specs.{Prelude.{IsTrue, cond}, List.{flat_map, AllByRecursion}}
 use Rattle.hunk_words.specs.{declared.block_word.Kind.Kind, Bits.{kind, is_advisory, size_longs, has_both_bits}}
 use Rattle.hunk_words.specs.Longs.{IsLong}
 use Rattle.hunk_words.specs.declared.reason.Reason.TheVariants as reasons
-use Rattle.hunk_blocks.specs.{Values.{BlockBody, BlockValue, FitsWord}, Parts.{Part, Part as parts}}
-use Rattle.hunk_blocks.specs.BlockSteps.{BlockNext, Open, Whole, part_of, step_inside, begin_body}
+use Rattle.hunk_blocks.specs.{Values.{BlockBody, BlockValue, FitsWord}, Parts.{Part as parts}}
+use Rattle.hunk_blocks.specs.BlockSteps.{BlockNext, Open, Whole}
 use Rattle.hunk_files.specs.LoadFile.{TableEntry, HunkValue, IsTableEntry, standing, AreInOrder, IsHunkBlock, IsHunk, IsLoadFile}
 use Rattle.hunk_files.specs.LoadText.{entry_labelled, block_labelled, blocks_labelled, hunk_labelled, labelled, table}
-use Rattle.hunk_files.specs.FileSteps.{table_entry, hunk, block, HunkSoFar, Progress, AtFirst, AtResident, AtTableSize, AtFirstHunk, AtLastHunk, AtSizeWord, AtAttributes, AtBlock, InBody, Next, More, Finished, place_of, role_of, open_hunk, rows, with_block, close, close_by, after, sized_row, step_file}
+use Rattle.hunk_files.specs.FileSteps.{table_entry, hunk, block, HunkSoFar, Progress, AtFirst, AtResident, AtTableSize, AtFirstHunk, AtLastHunk, AtSizeWord, AtAttributes, AtBlock, InBody, Next, More, Finished, place_of, role_of, open_hunk, rows, with_block, close, after, sized_row, step_file}
 use Rattle.hunk_files.specs.WordsRead.{Labelled}
-use Rattle.hunk_grammar.specs.Standings.{BlockStanding, Beside, Content, Relocating, Ending, is_content, is_ending, refuse_standing}
-use Rattle.hunk_grammar.specs.Roles.{Place, Role, InBlock, refuse, refuse_part, refuse_kind, Role as roles}
+use Rattle.hunk_grammar.specs.Standings.{BlockStanding, is_content, is_ending, refuse_standing}
+use Rattle.hunk_grammar.specs.Roles.{Place, Role, refuse, refuse_part, refuse_kind, Role as roles}
 use Rattle.hunk_blocks.proofs.BlockProgress.{read_inside, read_next, step_reads, begin_reads}
 use Rattle.hunk_blocks.proofs.Lists.{All-more, map-more, flat_map-more, more_owed, passed_true, passed_both, passes_else, passes_then}
 use Rattle.hunk_files.proofs.HunkProgress.{BodyFits, begin_fits, step_fits, alone_passes}
@@ -117,18 +118,10 @@ Reads-as n e h = (h.0, h.1 ∙ e)
 
 finished_reads : (hunks : ℕ) (finished : List HunkValue) → length finished ≡ hunks → labelled finished ≡ front hunks (table finished) finished
 unfolding labelled
-finished_reads hunks finished e =
-    ap (λ (n : ℕ). header_so_far n (table finished) ++ flat_map (hunk_labelled (length finished)) finished) (length-map finished (λ h. h.entry))
-    ∙ ap (λ (n : ℕ). front n (table finished) finished) e
+finished_reads hunks finished e = grind (arith, common_steps)
 
 open_hunk_reads : (hunks : ℕ) (finished : List HunkValue) (ahead : List TableEntry) → FrontFits hunks finished ahead → Reads (open_hunk hunks finished ahead) (front hunks (table finished ++ ahead) finished)
-open_hunk_reads hunks finished [] h = (
-  go hunks (omega (arith, h.counts)) h.hunks_fit h.finished_fit,
-  finished_reads hunks finished (omega (arith, h.counts)) ∙ ap (λ (t : List TableEntry). front hunks t finished) (sym (append-nil (table finished))),
-)
-  where
-    go : (n : ℕ) → length finished ≡ n → HunksFit n → AllByRecursion (IsHunk n) finished → IsLoadFile finished
-    go n e f all = record { some = omega (arith, f.0); most = omega (arith, f.1); each = subst (λ (m : ℕ). AllByRecursion (IsHunk m) finished) (sym e) all }
+open_hunk_reads hunks finished [] h = search (rules, finished_reads, front, append-nil, HunksFit)
 open_hunk_reads hunks finished (e ∷ ahead) h = search rules
 
 rows_read : (hunks : ℕ) (done : List TableEntry) (owed : ℕ) → RowsFit hunks done owed → Reads (rows hunks done owed) (header_so_far hunks done)
@@ -140,29 +133,12 @@ rows_read hunks done (suc owed) h = (h, refl)
 -- the blocks with one more
 module _ (o : HunkSoFar) (h : OpenFits o) (b : BlockValue) (fits : IsHunkBlock o.hunks (size_longs o.entry.word) b) where
   one_more_reads : blocks_labelled o.hunks (size_longs o.entry.word) false (o.blocks ++ b ∷ []) ≡ blocks_labelled o.hunks (size_longs o.entry.word) false o.blocks ++ block_labelled (place_of o) b
-  one_more_reads =
-      blocks-more o.hunks (size_longs o.entry.word) false o.blocks b
-      ∙ ap (λ (c : Bool). blocks_labelled o.hunks (size_longs o.entry.word) false o.blocks ++ block_labelled (place_in o.hunks (size_longs o.entry.word) c) b) (sym h.content_is)
+  one_more_reads = search (rules, blocks-more, place_in)
 
   still_open : (has_content : Bool) → has_content ≡ o.has_content || is_content (standing b.body) →
       refuse_standing o.has_content (standing b.body) ≡ None → is_ending (standing b.body) ≡ false →
       Reads (More (AtBlock (with_block o b has_content))) (open_so_far o ++ block_labelled (place_of o) b)
-  still_open has_content e ok no_end = (
-    record {
-      front_fits = h.front_fits;
-      blocks_fit = All-more (IsHunkBlock o.hunks (size_longs o.entry.word)) o.blocks b h.blocks_fit fits;
-      content_is = e ∙ ap (λ (c : Bool). c || is_content (standing b.body)) h.content_is ∙ sym (content_in-more false o.blocks b);
-      in_order = λ later order. subst (λ (s : List BlockStanding). AreInOrder false s) (sym (in_standings later)) (h.in_order (standing b.body ∷ later) (goes_on later order));
-    },
-    ap (λ (l : Labelled). front o.hunks (table o.finished ++ o.entry ∷ o.ahead) o.finished ++ l) one_more_reads
-        ∙ sym (append_assoc (front o.hunks (table o.finished ++ o.entry ∷ o.ahead) o.finished) (blocks_labelled o.hunks (size_longs o.entry.word) false o.blocks) (block_labelled (place_of o) b)),
-  )
-    where
-      goes_on : (later : List BlockStanding) → AreInOrder has_content later → AreInOrder o.has_content (standing b.body ∷ later)
-      goes_on later order = search rules
-
-      in_standings : (later : List BlockStanding) → standings (o.blocks ++ b ∷ []) ++ later ≡ standings o.blocks ++ standing b.body ∷ later
-      in_standings later = ap (λ (s : List BlockStanding). s ++ later) (map-more (λ (c : BlockValue). standing c.body) o.blocks b) ∙ append_assoc (standings o.blocks) (standing b.body ∷ []) later
+  still_open has_content e ok no_end = grind (arith, common_steps, content_in-more, front, one_more_reads, append_assoc, standings, map-more)
 
   now_whole : AreInOrder o.has_content (standing b.body ∷ []) →
       Reads (open_hunk o.hunks (o.finished ++ hunk o.entry (o.blocks ++ b ∷ []) ∷ []) o.ahead) (open_so_far o ++ block_labelled (place_of o) b)
@@ -212,13 +188,7 @@ may_stand o word body a f = search rules
 
 close_reads : (o : HunkSoFar) (word : ℕ) (body : BlockBody) → OpenFits o → IsAdmitted o word → BodyFits (place_of o) word body →
     Reads (close o (block word body)) (open_so_far o ++ block_labelled (place_of o) (block word body))
-close_reads o word body h a f = closed (standing body) refl
-  where
-    closed : (s : BlockStanding) → standing body ≡ s → Reads (close_by o (block word body) s) (open_so_far o ++ block_labelled (place_of o) (block word body))
-    closed Beside e = still_open o h (block word body) (block_fits o word body a f) o.has_content (rw e (sym (or-false o.has_content))) (may_stand o word body a f.fits_word) (ap is_ending e)
-    closed Relocating e = still_open o h (block word body) (block_fits o word body a f) o.has_content (rw e (sym (or-false o.has_content))) (may_stand o word body a f.fits_word) (ap is_ending e)
-    closed Content e = still_open o h (block word body) (block_fits o word body a f) true (rw e (sym (or-true o.has_content))) (may_stand o word body a f.fits_word) (ap is_ending e)
-    closed Ending e = now_whole o h (block word body) (block_fits o word body a f) (end_stands o.has_content (standing body) (may_stand o word body a f.fits_word) (ap is_ending e))
+close_reads o word body h a f = search (rules, Reads, open_so_far, still_open, block_fits, or-false, may_stand, or-true, now_whole, end_stands)
 
 after_reads : (o : HunkSoFar) (word : ℕ) (n : BlockNext) → OpenFits o → IsAdmitted o word → blocks.NextFits (place_of o) word n →
     Reads (after o word n) (open_so_far o ++ in_place (place_of o) ((parts.BlockWord, word) ∷ read_next n))
@@ -228,26 +198,16 @@ after_reads o word (Whole body) h a f = close_reads o word body h a f
 -- ---- every step
 
 row_added : (hunks : ℕ) (done : List TableEntry) (e : TableEntry) (owed : ℕ) → RowsFit hunks done (suc owed) → IsTableEntry e → Reads (rows hunks (done ++ e ∷ []) owed) (header_so_far hunks done ++ entry_labelled e)
-row_added hunks done e owed h fits =
-    Reads-as (rows hunks (done ++ e ∷ []) owed)
-    (ap (λ (l : Labelled). (roles.FirstLong, 0x3F3) ∷ (roles.ResidentName, 0) ∷ (roles.TableSize, hunks) ∷ (roles.FirstHunk, 0) ∷ (roles.LastHunk hunks, hunks - 1) ∷ l) (flat_map-more entry_labelled done e))
-    (rows_read hunks (done ++ e ∷ []) owed (record { hunks_fit = h.hunks_fit; counts = more_owed done e owed ∙ h.counts; rows_fit = All-more IsTableEntry done e h.rows_fit fits }))
+row_added hunks done e owed h fits = grind (arith, common_steps, Reads-as, flat_map-more, rows_read, more_owed)
 
 size_word_reads : (hunks : ℕ) (done : List TableEntry) (w owed : ℕ) (b : Bool) → has_both_bits w ≡ b → RowsFit hunks done (suc owed) → IsLong w →
     Reads (sized_row hunks done w owed b) (header_so_far hunks done ++ (roles.SizeWord, w) ∷ [])
 size_word_reads hunks done w owed true e h l = ((h, l, e), refl)
-size_word_reads hunks done w owed false e h l =
-    Reads-as (rows hunks (done ++ table_entry w 0 ∷ []) owed)
-    (ap (λ (m : Labelled). header_so_far hunks done ++ (roles.SizeWord, w) ∷ m) (passes_else (has_both_bits w) ((roles.Attributes, 0) ∷ []) [] e))
-    (row_added hunks done (table_entry w 0) owed h (l, omega arith, λ x. refl))
+size_word_reads hunks done w owed false e h l = search (rules, Reads-as, header_so_far, passes_else, row_added)
 
 attributes_read : (hunks : ℕ) (done : List TableEntry) (word w owed : ℕ) → RowsFit hunks done (suc owed) → IsLong word → has_both_bits word ≡ true → IsLong w →
     Reads (rows hunks (done ++ table_entry word w ∷ []) owed) ((header_so_far hunks done ++ (roles.SizeWord, word) ∷ []) ++ (roles.Attributes, w) ∷ [])
-attributes_read hunks done word w owed h l e k =
-    Reads-as (rows hunks (done ++ table_entry word w ∷ []) owed)
-    (ap (λ (m : Labelled). header_so_far hunks done ++ (roles.SizeWord, word) ∷ m) (passes_then (has_both_bits word) ((roles.Attributes, w) ∷ []) [] e)
-    ∙ sym (append_assoc (header_so_far hunks done) ((roles.SizeWord, word) ∷ []) ((roles.Attributes, w) ∷ [])))
-    (row_added hunks done (table_entry word w) owed h (l, k, λ x. absurd cc))
+attributes_read hunks done word w owed h l e k = search (rules, Reads-as, header_so_far, passes_then, append_assoc, row_added)
 
 pub zero_or_limit : (w : ℕ) → refuse roles.TableSize w ≡ None → HunksFit w
 zero_or_limit w ok = search rules
@@ -275,12 +235,5 @@ step_keeps (AtFirstHunk hunks) w h l ok = (h, ap (λ (n : ℕ). read_progress (A
 step_keeps (AtLastHunk hunks) w h l ok = last_hunk_reads hunks w h (eqb-true (w + 1) hunks (passed_true (eqb (w + 1) hunks) reasons.LastHunk ok))
 step_keeps (AtSizeWord hunks done owed) w h l ok = size_word_reads hunks done w owed (has_both_bits w) refl h l
 step_keeps (AtAttributes hunks done word owed) w h l ok = attributes_read hunks done word w owed h.0 h.1 h.2 l
-step_keeps (AtBlock o) w h l ok =
-    Reads-as (after o w (begin_body (kind w))) (ap (λ (ps : List (Part × ℕ)). open_so_far o ++ in_place (place_of o) ((parts.BlockWord, w) ∷ ps)) (begin_reads (kind w)))
-    (after_reads o w (begin_body (kind w)) h (l, ok) (begin_fits (place_of o) w (kind w) refl (kind_admitted o w (l, ok)).1))
-step_keeps (InBody o word x) w h l ok =
-    Reads-as (after o word (step_inside x w))
-    (ap (λ (ps : List (Part × ℕ)). open_so_far o ++ in_place (place_of o) ((parts.BlockWord, word) ∷ ps)) (step_reads word x w h.2.0 (alone_passes (place_of o) word x w h.2.1 ok))
-    ∙ ap (λ (ls : Labelled). open_so_far o ++ (InBlock (place_of o) parts.BlockWord, word) ∷ ls) (map-more (λ (y : Part × ℕ). (InBlock (place_of o) y.0, y.1)) (read_inside x) (part_of x, w))
-    ∙ sym (append_assoc (open_so_far o) (in_place (place_of o) ((parts.BlockWord, word) ∷ read_inside x)) ((InBlock (place_of o) (part_of x), w) ∷ [])))
-    (after_reads o word (step_inside x w) h.0 h.1 (step_fits (place_of o) word x w h.2 l ok))
+step_keeps (AtBlock o) w h l ok = search (rules, Reads-as, open_so_far, in_place, begin_reads, after_reads, begin_fits, kind_admitted)
+step_keeps (InBody o word x) w h l ok = search (rules, Reads-as, open_so_far, in_place, step_reads, alone_passes, map-more, read_inside, append_assoc, after_reads, step_fits)

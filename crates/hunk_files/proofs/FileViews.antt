@@ -1,11 +1,10 @@
 -- What the hunks of a load file in memory stand for.
 use Rattle.std.proofs.Common.{rules, ◌≡◌, ℕ, zero, suc, ◌+◌, ◌*◌, ◌^◌, ◌<◌, ◌≤◌, List, [], ◌∷◌, ◌++◌, length, map, get_or, set, take, drop, refl, sym, ap, ap₂, subst, ◌∙◌, arith, Some, Option}
 use Rattle.std.specs.{Prelude.slice_get, Option.option_map, List.sum_by}
-use Rattle.std.proofs.lemmas.{Option.{slice_get-map, slice_get_read}, List.{length-map, take_at, take_all}}
-use Rattle.std.proofs.lemmas.List.Sums.{sum_by-cons, sum_by_more}
+use Rattle.std.proofs.lemmas.{Option.{slice_get-map, slice_get_read}, List.{length-map, take_at}}
 use Rattle.hunk_words.specs.Bits.{size_longs}
-use Rattle.hunk_files.specs.{declared.load.hunk.LoadHunk.LoadHunk, LoadFile.{TableEntry, HunkValue, LoadFileValue}}
-use Rattle.hunk_files.specs.{LoadText.table, Image.declared_bytes, Strip.{strip_hunk, strip_file}}
+use Rattle.hunk_files.specs.{declared.load.hunk.LoadHunk.LoadHunk, LoadFile.{HunkValue, LoadFileValue}}
+use Rattle.hunk_files.specs.{LoadText.table, Strip.{strip_hunk, strip_file}}
 use Rattle.hunk_files.specs.Tables.{row_entry, hunk_of}
 
 -- ---- one hunk
@@ -29,20 +28,6 @@ hunk_bytes h = 4 * size_longs h.row.word
 pub record SumSoFar (hs : List LoadHunk) (i sum : ℕ) : Type 0 where
   pub value : sum ≡ sum_by hunk_bytes (take i hs)
   pub bound : sum ≤ i * 2 ^ 32
-
-pub no_sum : (hs : List LoadHunk) → SumSoFar hs 0 0
-no_sum hs = record { value = refl; bound = omega arith }
-
-pub sum_more : (hs : List LoadHunk) (i sum : ℕ) (h : LoadHunk) → SumSoFar hs i sum → i < length hs → h ≡ get_or hs i h → SumSoFar hs (i + 1) (sum + hunk_bytes h)
-sum_more hs i sum h s inside is = record { value = omega (arith, s.value, sum_by_more hunk_bytes hs i h inside, ap hunk_bytes is); bound = omega (arith, s.bound) }
-
-declared-map : (hs : List LoadHunk) → declared_bytes (table (map hunk_of hs)) ≡ sum_by hunk_bytes hs
-declared-map [] = refl
-declared-map (h ∷ hs) =
-    sum_by-cons (λ (e : TableEntry). 4 * size_longs e.word) (row_entry h.row) (table (map hunk_of hs)) ∙ ap (λ (n : ℕ). hunk_bytes h + n) (declared-map hs) ∙ sym (sum_by-cons hunk_bytes h hs)
-
-pub sum_whole : (hs : List LoadHunk) (v : LoadFileValue) (i sum : ℕ) → map hunk_of hs ≡ v → SumSoFar hs i sum → length hs ≤ i → sum ≡ declared_bytes (table v)
-sum_whole hs v i sum view s all = s.value ∙ ap (sum_by hunk_bytes) (take_all i hs all) ∙ sym (declared-map hs) ∙ ap (λ (w : LoadFileValue). declared_bytes (table w)) view
 
 -- ---- stripped one after the other
 

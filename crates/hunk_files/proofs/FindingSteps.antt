@@ -1,5 +1,5 @@
 -- Findings that are looked for one by one.
-use Rattle.std.proofs.Common.{◌≡◌, ℕ, ◌+◌, true, false, List, [], ◌∷◌, ◌++◌, refl, sym, ap, subst, ◌∙◌, append_assoc, append-nil, Option, Some, unwrap_or, arith}
+use Rattle.std.proofs.Common.{◌≡◌, ℕ, ◌+◌, true, false, List, [], ◌∷◌, ◌++◌, refl, sym, ap, subst, ◌∙◌, append_assoc, Option, Some, unwrap_or, arith}
 use Rattle.std.specs.List.{fold}
 use Rattle.hunk_blocks.specs.Values.{BlockBody, BlockValue, Name, Code, Data, Bss, Reloc, Ext, Symbol, Debug, Advisory, End, content_bytes}
 use Rattle.hunk_grammar.specs.Standings.{BlockStanding}
@@ -12,9 +12,6 @@ use Rattle.hunk_files.proofs.FileText.{standings}
 -- some were taken, and with the rest they are all
 abbrev pub TakenUpTo : {S X : Type 0} → (S → List X → S → Type 0) → S → S → List X → List X → Type 0
 TakenUpTo {X = X} Takes a b rest all = (done : List X) × Takes a done b × (done ++ rest ≡ all)
-
-pub taken_all : {S X : Type 0} (Takes : S → List X → S → Type 0) (a b : S) (left all : List X) → left ≡ [] → TakenUpTo Takes a b left all → Takes a all b
-taken_all {X = X} Takes a b left all e t = subst (λ (xs : List X). Takes a xs b) (sym (append-nil t.0) ∙ ap (λ (xs : List X). t.0 ++ xs) (sym e) ∙ t.2) t.1
 
 module _ {S X : Type 0} (Takes : S → List X → S → Type 0) (more : (a b c : S) (xs ys : List X) → Takes a xs b → Takes b ys c → Takes a (xs ++ ys) c) where
   pub taken_on : (a b c : S) (here rest left all : List X) → left ≡ here ++ rest → TakenUpTo Takes a b left all → Takes b here c → TakenUpTo Takes a c rest all

@@ -1,7 +1,8 @@
 -- A walk over a load file keeps the position of what was read, and the entry of the open hunk.
 use Rattle.std.proofs.Common.{rules, ◌≡◌, ℕ, zero, suc, ◌+◌, ◌-◌, ◌*◌, ◌<◌, ◌≤◌, true, false, List, [], ◌∷◌, ◌++◌, length, get_or, take, drop, refl, sym, ap, ap₂, subst, ◌∙◌, append_assoc, arith, Option, Some, None, if◌then◌else◌, inl, inr}
+use Rattle.std.proofs.lemmas.Grind.{common_steps}
 use Rattle.std.specs.List.{flat_map}
-use Rattle.std.proofs.lemmas.List.{length-append, length-map, length-take-le, get_or_at, map-append, take-append-drop, take_all, get_or-take}
+use Rattle.std.proofs.lemmas.List.{length-map, length-take-le, get_or_at, map-append, take-append-drop, take_all, get_or-take}
 use Rattle.std.proofs.lemmas.List.Concat.{flat_map-append}
 use Rattle.hunk_words.specs.{declared.reason.Reason.Reason, Longs.{IsBytes, longs, bytes_of}}
 use Rattle.hunk_words.specs.Bits.{size_longs, has_both_bits, entry_longs}
@@ -12,7 +13,6 @@ use Rattle.hunk_blocks.specs.declared.phase.Phase.TheVariants as phases
 use Rattle.hunk_blocks.specs.PhaseSteps as inside
 use Rattle.hunk_blocks.proofs.Decoding.{front_bytes}
 use Rattle.hunk_blocks.proofs.KeptWalks.{OnePasses, HasRuns, StandsAt as StandsFor, Walks as WalksOf, starts, word_refused, word_reads, word_passes}
-use Rattle.hunk_blocks.proofs.Lists.{flat_map-more}
 use Rattle.hunk_grammar.specs.{declared.position.Position.Position, Positions.{role_at, is_between_hunks}}
 use Rattle.hunk_grammar.specs.Roles.{Role, refuse, Role as roles}
 use Rattle.hunk_grammar.specs.declared.position.Position.TheVariants as positions
@@ -24,7 +24,7 @@ use Rattle.hunk_files.specs.FileSteps.{HunkSoFar, Progress, AtFirst, AtBlock, In
 use Rattle.hunk_files.specs.{ReaderPosition.{open_of, block_phase, position_of, open_longs, opened}, WordsRead.Labelled}
 use Rattle.hunk_files.proofs.FileProgress.{header_so_far, open_so_far}
 use Rattle.hunk_files.proofs.Positions.{Moves, MovesTo, refuse_same, step_position, step_moves}
-use Rattle.hunk_files.proofs.{Scan.{SoFar, load_reader, keeps, truncated_of}, TableReading.entry_length}
+use Rattle.hunk_files.proofs.{Scan.{SoFar, load_reader, keeps, truncated_of}}
 
 -- the longword behind these entries
 abbrev row_behind : List TableEntry → ℕ
@@ -84,28 +84,13 @@ module _ (ws : List ℕ) (o : HunkSoFar) (h : SoFar (More (AtBlock o)) ws) where
   read_split = sym h.2 ∙ ap words (sym h.1.1 ∙ (entry_split o).1) ∙ map-append (λ (x : Role × ℕ). x.1) (header_so_far o.hunks (table o.finished)) ((roles.SizeWord, o.entry.word) ∷ (entry_split o).0)
 
   row_inside : row_behind (table o.finished) < length ws
-  row_inside =
-      omega (
-        arith,
-        ap length read_split,
-        length-append (words (header_so_far o.hunks (table o.finished))) (o.entry.word ∷ words (entry_split o).0),
-        behind_length,
-      )
+  row_inside = grind (arith, common_steps)
 
   row_word : get_or ws (row_behind (table o.finished)) 0 ≡ o.entry.word
-  row_word =
-      ap (λ (l : List ℕ). get_or l (row_behind (table o.finished)) 0) read_split
-      ∙ get_or_at (words (header_so_far o.hunks (table o.finished))) o.entry.word (words (entry_split o).0) 0 (row_behind (table o.finished)) behind_length
+  row_word = simp (get_or, row_behind, read_split, get_or_at, header_so_far, entry_split, behind_length)
 
 row_after : (es : List TableEntry) (e : TableEntry) → row_behind (es ++ e ∷ []) ≡ row_behind es + entry_longs e.word
-row_after es e =
-    omega (
-      arith,
-      ap length (flat_map-more entry_labelled es e),
-      length-append (flat_map entry_labelled es) (entry_labelled e),
-      length-map (entry_labelled e) (λ (x : Role × ℕ). x.1),
-      entry_length e (has_both_bits e.word) refl,
-    )
+row_after es e = grind (arith, common_steps)
 
 -- ---- one more longword
 

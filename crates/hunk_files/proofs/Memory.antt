@@ -3,11 +3,11 @@ use Rattle.std.proofs.Common.{◌≡◌, ℕ, zero, suc, ◌*◌, ◌/◌, ◌%�
 use Rattle.std.specs.List.{flat_map}
 use Rattle.hunk_words.proofs.LongLaws.{bytes_of-nil, bytes_of-append}
 use Rattle.hunk_words.specs.Bits.{size_longs}
-use Rattle.hunk_blocks.specs.Values.{RelocGroup, ExtEntry, SymbolEntry, BlockValue, End}
-use Rattle.hunk_blocks.specs.BlockSteps.{ForName, ForCode, ForData, Filling, Counted, SizedCode, SizedData, Inside, AtCount, AtSize, InPayload, AtGroup, InOffsets, AtEntry, InName, AtExtWord, InExtName, AtExtCount, InExtOffsets, Open, Whole, group, step_inside, fill, name_entry, name_external, BlockNext}
-use Rattle.hunk_files.specs.Image.{block_content, block_relocations, group_relocations, filled, relocated, add_at, image}
+use Rattle.hunk_blocks.specs.Values.{RelocGroup, ExtEntry, SymbolEntry, BlockValue}
+use Rattle.hunk_blocks.specs.BlockSteps.{ForName, ForCode, ForData, Filling, Counted, SizedCode, SizedData, Inside, AtCount, AtSize, InPayload, AtGroup, InOffsets, AtEntry, InName, AtExtWord, InExtName, AtExtCount, InExtOffsets, Open, group, step_inside, fill, name_entry, name_external, BlockNext}
+use Rattle.hunk_files.specs.Image.{block_content, block_relocations, group_relocations, filled, relocated, add_at}
 use Rattle.hunk_files.specs.OpenSegment.{filling_bytes, bytes_in, pairs_to, pairs_in, bytes_so_far, pairs_so_far, open_pairs, segment_so_far}
-use Rattle.hunk_files.specs.FileSteps.{HunkSoFar, hunk, block}
+use Rattle.hunk_files.specs.FileSteps.{HunkSoFar}
 use Rattle.hunk_files.proofs.Shapes.{by_shape}
 use Rattle.hunk_blocks.proofs.Lists.{map-more, flat_map-more}
 use Rattle.std.proofs.lemmas.List.Sums.{fold-append}
@@ -87,10 +87,3 @@ offset_adds bases o groups target done owed w =
   where
     x : Inside
     x = InOffsets groups target done owed
-
--- The memory of a hunk that ends here is its image.
-pub end_is_image : (bases : List ℕ) (o : HunkSoFar) (word : ℕ) → image bases (hunk o.entry (o.blocks ++ block word End ∷ [])) ≡ segment_so_far bases o (Whole End)
-end_is_image bases o word =
-    ap₂ (λ (bs : List ℕ) (ps : List (ℕ × ℕ)). relocated bases (filled (4 * size_longs o.entry.word) bs) ps)
-    (flat_map-more (λ (b : BlockValue). block_content b.body) o.blocks (block word End))
-    (flat_map-more (λ (b : BlockValue). block_relocations b.body) o.blocks (block word End))

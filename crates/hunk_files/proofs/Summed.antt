@@ -1,8 +1,9 @@
 -- Longs that lie apart: one addition after the other is one sum.
 use Rattle.std.proofs.Common.{◌≡◌, ℕ, zero, suc, ◌+◌, ◌-◌, ◌*◌, ◌%◌, ◌^◌, ◌<◌, ◌≤◌, ◌==◌, cond, if◌then◌else◌, List, [], ◌∷◌, ◌++◌, length, get_or, take, drop, replicate, refl, sym, ap, subst, ◌∙◌, arith, ◌⊎◌, inl, inr}
+use Rattle.std.proofs.lemmas.Grind.{common_steps}
 use Rattle.std.proofs.{Math.Nat.mod-add-mod, lemmas.{List.Sums.sum_by-cons, Nat.be_bytes_4, Bool.Decides.nat_tests}}
 use Rattle.std.specs.{List.{Contains, AllByRecursion, flat_map}, Int.{w32, to_be_bytes}}
-use Rattle.std.proofs.lemmas.List.{length-append, length-replicate, get_or_append_left, get_or-append_right, get_or-replicate, get_or_past, get_or-take, get_or-drop, ext_get_or, length-take, length-drop}
+use Rattle.std.proofs.lemmas.List.{length-append, length-replicate, get_or-replicate, get_or_past, get_or-take, get_or-drop, ext_get_or, length-take, length-drop}
 use Rattle.std.proofs.lemmas.Bool.{cases_lt, cases_order}
 use Rattle.hunk_words.specs.Longs.{bytes_of, IsBytes}
 use Rattle.hunk_blocks.specs.Values.{RelocGroup, BlockBody, BlockValue, Code, Data, Reloc}
@@ -151,11 +152,7 @@ one_sum bases s pairs a b h x y =
 -- ---- of a hunk
 
 bytes_append : (s t : List ℕ) → IsBytes s → IsBytes t → IsBytes (s ++ t)
-bytes_append s t a b i =
-    elim (cases_lt i (length s)) [
-      | inl less ↦ omega (arith, get_or_append_left s t 0 i less, a i)
-      | inr more ↦ omega (arith, get_or-append_right s t (length s) i 0 refl more, b (i - length s))
-    ]
+bytes_append s t a b i = grind (arith, common_steps)
 
 no_bytes : IsBytes []
 no_bytes i = omega arith

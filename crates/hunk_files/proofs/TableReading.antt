@@ -26,10 +26,6 @@ pub entry_words : (e : TableEntry) (b : Bool) → has_both_bits e.word ≡ b →
 entry_words e true h = ap (λ (c : Bool). words ((roles.SizeWord, e.word) ∷ (if c then (roles.Attributes, e.extra) ∷ [] else []))) h
 entry_words e false h = ap (λ (c : Bool). words ((roles.SizeWord, e.word) ∷ (if c then (roles.Attributes, e.extra) ∷ [] else []))) h
 
-pub entry_length : (e : TableEntry) (b : Bool) → has_both_bits e.word ≡ b → length (words (entry_labelled e)) ≡ (if b then 2 else 1)
-entry_length e true h = ap length (entry_words e true h)
-entry_length e false h = ap length (entry_words e false h)
-
 pub entries_more : (e : TableEntry) (es : List TableEntry) → entries_words (e ∷ es) ≡ words (entry_labelled e) ++ entries_words es
 entries_more e es = map-append (λ (x : Role × ℕ). x.1) (entry_labelled e) (flat_map entry_labelled es)
 

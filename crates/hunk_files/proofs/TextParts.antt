@@ -1,5 +1,5 @@
 -- The text of a load file in memory, in the parts that are written.
-use Rattle.std.proofs.Common.{◌≡◌, ℕ, ◌-◌, true, false, List, [], ◌∷◌, ◌++◌, length, map, refl, sym, ap, ap₂, ◌∙◌, append_assoc}
+use Rattle.std.proofs.Common.{◌≡◌, ℕ, ◌-◌, true, List, [], ◌∷◌, ◌++◌, length, map, refl, sym, ap, ap₂, ◌∙◌, append_assoc}
 use Rattle.std.proofs.lemmas.{List.length-map, List.Folds.flat_map-map}
 use Rattle.std.specs.List.{flat_map}
 use Rattle.hunk_words.specs.{Longs.bytes_of, Bits.has_both_bits}
@@ -13,9 +13,6 @@ use Rattle.hunk_files.proofs.TableReading.{entries_words, entries_more, entry_wo
 
 pub row_two : (r : Row) → has_both_bits r.word ≡ true → bytes_of (row_words r) ≡ bytes_of (r.word ∷ []) ++ bytes_of (r.extra ∷ [])
 row_two r e = ap bytes_of (entry_words (row_entry r) true e) ∙ bytes_of-cons r.word (r.extra ∷ [])
-
-pub row_one : (r : Row) → has_both_bits r.word ≡ false → bytes_of (row_words r) ≡ bytes_of (r.word ∷ [])
-row_one r e = ap bytes_of (entry_words (row_entry r) false e)
 
 -- ---- the file
 

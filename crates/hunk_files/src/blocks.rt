@@ -98,6 +98,7 @@ impl<'a> Iterator for BlockViews<'a> {
 /// # Errors
 ///
 /// `OutOfMemory` at the last longword of the group, entry or block for which no memory was found.
+#[tactic(auto, using(crate::proofs::BlockPlaces::item_lacks))]
 pub(crate) fn keep_blocks<'a>(
     alloc: Global,
     blocks: &mut BlockViews<'a>,

@@ -40,6 +40,7 @@ ghost use Rattle.hunk_grammar.specs.declared.position.Position.TheVariants as po
 
 /// No load text is a proper prefix of another, one text has one value, and the longwords before a
 /// place determine its role.
+#[tactic(auto, using(crate::proofs::Scan::one_value))]
 pub fn load_prefix()
     ensures one_value { (a b : LoadFileValue) (more : List ℕ) → IsLoadFile a → IsLoadFile b →
         text a ++ more ≡ text b → (a ≡ b) × (more ≡ []) }
@@ -55,6 +56,7 @@ pub fn complete()
 {}
 
 /// No longword of a load text is refused.
+#[tactic(auto, using(crate::proofs::Scan::none_refused))]
 pub fn no_refusal()
     ensures { (v : LoadFileValue) → IsLoadFile v →
         AllByRecursion (λ l. refuse l.0 l.1 ≡ None) (labelled v) }
@@ -62,6 +64,7 @@ pub fn no_refusal()
 
 /// Of every list of bytes just one of three holds: it begins with a load text, a longword of it is
 /// refused, or it ends too soon. The fault is one, and the first.
+#[tactic(auto, using(crate::proofs::Scan::some_outcome))]
 pub fn one_outcome()
     ensures some { (bytes : List ℕ) → IsBytes bytes →
         BeginsWithLoadFile bytes ⊎ ((at : ℕ) × (reason : Reason) × HasFault bytes at reason) }
@@ -89,6 +92,7 @@ pub fn sum_image()
 
 /// What is stripped is a load file with the same table, content and relocations, and so with the
 /// same memory wherever the hunks lie.
+#[tactic(auto, using(crate::proofs::StripLaws::file_kept, crate::proofs::StripLaws::table_kept, crate::proofs::StripLaws::contents_kept, crate::proofs::StripLaws::all_relocations_kept, crate::proofs::StripLaws::images_kept))]
 pub fn strip_image()
     ensures valid { (v : LoadFileValue) → IsLoadFile v → IsLoadFile (strip_file v) }
     ensures table { (v : LoadFileValue) → table (strip_file v) ≡ table v }
@@ -99,18 +103,21 @@ pub fn strip_image()
 {}
 
 /// One object text has one value.
+#[tactic(auto, using(crate::proofs::UnitCutLaws::object_value))]
 pub fn object_value()
     ensures { (a b : ObjectFileValue) → IsObjectFile a → IsObjectFile b →
         object_text a ≡ object_text b → a ≡ b }
 {}
 
 /// What is stripped is an object file with the same findings.
+#[tactic(auto, using(crate::proofs::StripLaws::findings_kept))]
 pub fn strip_findings()
     ensures valid { (o : ObjectFileValue) → IsObjectFile o → IsObjectFile (strip_object o) }
     ensures findings { (o : ObjectFileValue) → findings (strip_object o) ≡ findings o }
 {}
 
 /// Without their places, placed findings are the findings; at the place of each stands its offset.
+#[tactic(auto, using(crate::proofs::PlacedFindingLaws::findings_placed, crate::proofs::PlacedOffsets::findings_stand))]
 pub fn finding_places()
     ensures findings { (o : ObjectFileValue) → map (λ f. f.value) (placed_findings o) ≡ findings o }
     ensures offsets { (o : ObjectFileValue) → IsObjectFile o →
@@ -120,6 +127,7 @@ pub fn finding_places()
 /// Of every list of bytes just one of three holds: it is the text of an object file, all of it, a
 /// longword of it is refused, or it ends too soon. The fault is one, and the first. A longword that
 /// is not refused goes on to an object file, and one that is refused to none.
+#[tactic(auto, using(crate::proofs::ObjectOutcome::some_outcome))]
 pub fn object_fault()
     ensures some { (bytes : List ℕ) → IsBytes bytes →
         ((o : ObjectFileValue) × IsObjectFile o × (bytes ≡ bytes_of (object_text o)))
@@ -141,6 +149,7 @@ pub fn object_fault()
 
 /// The machines of positions are those of the formats: along the text of each file the test is that
 /// of each longword's role, the steps lead on, and the end is where a file may end.
+#[tactic(auto, using(crate::proofs::Machines::load_along, crate::proofs::Machines::object_along))]
 pub fn machines()
     ensures load { (v : LoadFileValue) → IsLoadFile v →
         GoesAlong refuse_in_load refuse load.step positions.FirstLong (labelled v) positions.Done }

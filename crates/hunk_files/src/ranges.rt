@@ -1,5 +1,5 @@
 //! The ranges of the input that a stripped file keeps.
-ghost use Rattle.std.specs.Prelude.{◌≡◌, ◌≤◌, ℕ, List, [], ◌++◌, length, slice_range};
+ghost use Rattle.std.specs.Prelude.{◌≤◌, ℕ, List, [], ◌++◌, length, slice_range};
 ghost use Rattle.std.proofs.Common.{◌∙◌, ap, append-nil, append_assoc, refl, sym};
 ghost use Rattle.hunk_words.specs.Longs.{bytes_of};
 ghost use Rattle.hunk_words.specs.Prints.{Prints};

@@ -1,5 +1,5 @@
 //! The tests of the longwords of a load file.
-ghost use Rattle.std.specs.Prelude.{◌≡◌, ◌+◌, ◌*◌, nat_lt, Some, None, if◌then◌else◌};
+ghost use Rattle.std.specs.Prelude.{◌≡◌, ◌+◌, ◌*◌, nat_lt, Some, None};
 ghost use Rattle.hunk_grammar.specs.Roles.{refuse};
 ghost use Rattle.hunk_grammar.specs.Positions.{role_at};
 ghost use Rattle.hunk_grammar.specs.Standings.{refuse_standing, standing_of_kind};

@@ -1,7 +1,8 @@
 -- What is known where a loader of a body stands after bytes.
-use Rattle.std.proofs.Common.{rules, ◌≡◌, ℕ, ◌+◌, ◌*◌, ◌/◌, ◌^◌, ◌≤◌, ◌<◌, Bool, true, false, List, [], ◌∷◌, ◌++◌, length, map, take, drop, refl, sym, ap, ap₂, subst, ◌∙◌, append_assoc, append-nil, arith, length-append, drop_of_length-le, is_some, Option, None, Some}
+use Rattle.std.proofs.Common.{rules, ◌≡◌, ℕ, ◌+◌, ◌*◌, ◌/◌, ◌^◌, ◌≤◌, ◌<◌, Bool, true, false, List, [], ◌∷◌, ◌++◌, length, map, take, drop, refl, sym, ap, ap₂, subst, ◌∙◌, append_assoc, append-nil, arith, length-append, is_some, Option, None, Some}
+use Rattle.std.proofs.lemmas.Grind.{common_steps}
 use Rattle.std.specs.List.{AllByRecursion}
-use Rattle.std.proofs.lemmas.List.{map-append, length-map, take_all, take_at, drop_at}
+use Rattle.std.proofs.lemmas.List.{map-append, length-map, take_at, drop_at}
 use Rattle.hunk_words.specs.{declared.fault.Fault.Fault, Bits.size_longs, Carriers.saturated, Longs.{bytes_of, longs, AreLongs}}
 use Rattle.hunk_words.specs.PendingBytes.{pending_of}
 use Rattle.hunk_blocks.specs.{Faults.words, declared.phase.Phase.Phase}
@@ -30,8 +31,7 @@ few_words rows total s h = omega (arith, h.hunks, length-map rows (λ (r : Row).
 
 -- a Vec whose elements were written through a slice
 pub written : {A : Type 0} (items new : List A) (len : ℕ) → len ≡ length items → length new ≡ length items → take len (new ++ drop (length new) items) ≡ new
-written {A} items new len e d =
-    ap (λ (xs : List A). take len (new ++ xs)) (drop_of_length-le items (omega arith)) ∙ ap (λ (xs : List A). take len xs) (append-nil new) ∙ take_all len new (omega arith)
+written {A} items new len e d = grind (arith, common_steps)
 
 pub none_of : (o : Option Fault) → is_some o ≡ false → o ≡ None
 none_of None e = refl
@@ -202,11 +202,7 @@ module _ (rows : List Row) (store : List ℕ) (s : Standing) (fed : List ℕ) (h
       (fed_truncated more).not_whole (record { value = w.0; is_load_file = w.1.is_load_file; rest = []; split = sym w.1.bytes_are ∙ sym (append-nil (bytes_of (text w.0))) })
 
   pub done_if_whole : IsWholeFile rows fed → is_done s.state.position ≡ true
-  done_if_whole w = go (is_done s.state.position) refl
-    where
-      go : (b : Bool) → is_done s.state.position ≡ b → is_done s.state.position ≡ true
-      go true done = done
-      go false more = absurd (not_whole more w)
+  done_if_whole w = search (rules, not_whole)
 
   at_least : (n : Next) → IsBehindHeader n → state_of n ≡ s.state → least_longs (position_of n) ≡ least_longs s.state.position
   at_least (More (AtBlock o)) b e = ap (λ (x : BodyState). least_longs x.position) e

@@ -58,11 +58,6 @@ refusal_front fed piece n at reason h =
     subst (λ (bs : List ℕ). HasRefusal bs at reason) (append_assoc fed (take n piece) (drop n piece) ∙ ap (λ (xs : List ℕ). fed ++ xs) (take-append-drop n piece))
     (refusal_more (fed ++ take n piece) (drop n piece) at reason h)
 
--- So much of a piece, and all its rest.
-pub fed_rest : (fed piece front : List ℕ) (n : ℕ) → front ≡ fed ++ take n piece → front ++ take (length piece - n) (drop n piece) ≡ fed ++ piece
-fed_rest fed piece front n e =
-    ap₂ (λ (bs rest : List ℕ). bs ++ rest) e (take_rest piece n) ∙ append_assoc fed (take n piece) (drop n piece) ∙ ap (λ (xs : List ℕ). fed ++ xs) (take-append-drop n piece)
-
 -- So much of a piece, and so much of its rest.
 pub fed_on : (fed piece front after : List ℕ) (n m : ℕ) → front ≡ fed ++ take n piece → after ≡ front ++ take m (take (length piece - n) (drop n piece)) → after ≡ fed ++ take (n + m) piece
 fed_on fed piece front after n m e d =

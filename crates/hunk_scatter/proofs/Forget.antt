@@ -43,9 +43,6 @@ last_bytes es e = omega (arith, sum_by-append, sum_by-cons)
 
 -- from the open hunk
 module _ (o : HunkSoFar) where
-  here : Position → BodyState
-  here position = state_at o.finished position
-
   declared : longs_at (sizes_of (open_table o)) (length o.finished) ≡ size_longs o.entry.word
   declared = ap size_longs (sizes-at o.finished o.entry o.ahead)
 

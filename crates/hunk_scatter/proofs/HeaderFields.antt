@@ -1,12 +1,13 @@
 -- What the fields of the loader of a header keep, and what they tell.
 use Rattle.std.proofs.Common.{rules, ◌≡◌, ℕ, ◌+◌, ◌-◌, ◌*◌, ◌/◌, ◌^◌, ◌<◌, ◌≤◌, Bool, true, false, List, [], ◌∷◌, ◌++◌, length, map, refl, sym, ap, subst, ◌∙◌, append_assoc, append-nil, arith, length-append, Option, Some, None, Ok, ◌⊎◌, inl, inr, ltb, take, drop, length-drop, take-append-drop}
+use Rattle.std.proofs.lemmas.Grind.{common_steps}
 use Rattle.std.proofs.lemmas.{Bool.{ltb-true, ltb-false}, List.{length-map, take_all}}
 use Rattle.hunk_words.specs.{Longs.{longs, bytes_of, IsLong}, declared.fault.Fault.Fault, declared.reason.Reason.Reason}
-use Rattle.hunk_words.proofs.GatherLaws.{gathers-word, gathers-none}
+use Rattle.hunk_words.proofs.GatherLaws.{gathers-word}
 use Rattle.hunk_words.proofs.LongLaws.{bytes_of-nil, longs-bytes_of, length-bytes_of, longs-few, length-longs}
 use Rattle.hunk_files.specs.{declared.row.Row.Row, Fault.{IsTruncated, Expects}, Image.declared_bytes}
 use Rattle.hunk_files.specs.LoadFile.{TableEntry}
-use Rattle.hunk_files.specs.FileSteps.{Progress, AtFirst, AtAttributes, More, Finished, open_hunk, Next}
+use Rattle.hunk_files.specs.FileSteps.{Progress, AtAttributes, More, Finished, open_hunk, Next}
 use Rattle.hunk_files.specs.{ReaderPosition.table_of, WordsRead.HasRead, Tables.row_entry}
 use Rattle.hunk_grammar.specs.{Roles.{refuse, Role as roles}, Positions.{role_at, step, is_behind_header, least_longs}}
 use Rattle.hunk_files.proofs.Reading.{start_read, one_place}
@@ -53,9 +54,7 @@ module _ (budget : ℕ) (rows : List Row) (s : HeaderState) (pending fed : List 
       read_truncated r.ws g.0 pending fed g.1 r.few r.spelled
 
   pub heading_within : (at : ℕ) → ExceedsBudget budget fed at → ⊥
-  heading_within at p =
-      let le = r.has_read.none_passes p.before p.after p.word (sym words_are ∙ p.split) p.expects in
-      omega (arith, le, p.passes)
+  heading_within at p = search (rules, words_are)
 
   pub heading_rows : length rows ≡ length (entries_so_far (longs fed))
   heading_rows =
@@ -67,8 +66,7 @@ module _ (budget : ℕ) (rows : List Row) (s : HeaderState) (pending fed : List 
   heading_few few = omega (arith, heading_rows, entries_most (drop 5 (longs fed)), length-drop 5 (longs fed), length-longs fed)
 
   pub heading_room : length rows ≤ 65536 → s.total + 2 ^ 32 < 2 ^ 64
-  heading_room few =
-      omega (arith, r.has_read.total_is, total_limit r.has_read.next, ap declared_bytes r.has_read.table_is, declared_limit (entries_of rows), length-map rows row_entry)
+  heading_room few = search (rules, total_limit, declared_limit, length-map)
 
   -- where the header is whole
   whole_next : is_behind_header s.position ≡ true → r.has_read.next ≡ open_hunk (length (entries_of rows)) [] (entries_of rows)
@@ -122,14 +120,10 @@ module _ (budget : ℕ) (rows : List Row) (s : HeaderState) (pending : List ℕ)
   heading_unrefused = ap (λ (v : HeaderLoaderValue). v.refused) view ∙ reading
 
   pub heading_seen_whole : is_behind_header s.position ≡ true → IsHeader self.fed
-  heading_seen_whole done =
-      let t = heading_table budget rows s pending fed (h.reading heading_unrefused) done in
-      subst (λ (v : HeaderLoaderValue). IsHeader v.fed) view (_, t.0, t.1)
+  heading_seen_whole done = search (rules, heading_table, heading_unrefused)
 
   pub heading_seen_not_whole : is_behind_header s.position ≡ false → IsHeader self.fed → ⊥
-  heading_seen_not_whole more w =
-      heading_not_whole budget rows s pending fed (h.reading heading_unrefused) more
-      (subst (λ (v : HeaderLoaderValue). IsHeader v.fed) (sym view) w)
+  heading_seen_not_whole more w = search (rules, heading_not_whole, heading_unrefused)
 
 -- Bytes are taken where the header is not whole.
 pub heading_feeds : (old new : HeaderLoaderValue) (piece : List ℕ) (n : ℕ) → new.budget ≡ old.budget → FeedsFront old.fed piece new.fed n → new.refused ≡ None → (IsHeader old.fed → ⊥) →
@@ -176,34 +170,7 @@ heading_as budget rows rows2 s s2 pending pending2 count refused fed fed2 e p t 
 
 -- a loader that nothing was fed to
 pub heading_new : (budget : ℕ) → HeaderLoaderInvariant budget [] (record { position = positions.FirstLong; total = 0 }) [] 0 None []
-heading_new budget = record {
-  counted = refl;
-  few_rows = omega arith;
-  reading =
-      λ e. record {
-        ws = [];
-        spelled = sym bytes_of-nil ∙ sym (append-nil (bytes_of []));
-        few = omega arith;
-        whole = λ done. absurd cc;
-        has_read = record {
-          next = More AtFirst;
-          read = start_read;
-          opens_first = λ done. absurd cc;
-          position_is = refl;
-          table_is = refl;
-          unplaced = refl;
-          total_is = refl;
-          within = omega arith;
-          none_passes = λ before after word d x. absurd (empty before word after d);
-        };
-      };
-  own_reasons = λ f e. absurd cc;
-  cleared = λ f e. absurd cc;
-}
-  where
-    empty : (before : List ℕ) (word : ℕ) (after : List ℕ) → [] ≡ before ++ word ∷ after → ⊥
-    empty [] word after d = cc
-    empty (b ∷ before) word after d = cc
+heading_new budget = search (rules, bytes_of-nil, append-nil, start_read)
 
 module _ (budget : ℕ) (rows : List Row) (s : HeaderState) (pending : List ℕ) (count : ℕ) (refused : Option Fault) (fed : List ℕ)
     (h : HeaderLoaderInvariant budget rows s pending count refused fed) (none : refused ≡ None) (more : is_behind_header s.position ≡ false) where
@@ -212,20 +179,7 @@ module _ (budget : ℕ) (rows : List Row) (s : HeaderState) (pending : List ℕ)
 
   -- Bytes that complete no longword.
   pub heading_pending : (bytes after : List ℕ) (n : ℕ) → length bytes ≡ n → after ≡ pending ++ bytes → length after < 4 → HeaderLoaderInvariant budget rows s after (count + n) refused (fed ++ bytes)
-  heading_pending bytes after n long e few = record {
-    counted = omega (arith, h.counted, long, length-append fed bytes);
-    few_rows = h.few_rows;
-    reading =
-        λ x. record {
-          ws = now.ws;
-          spelled = gathers-none fed pending bytes after now.ws now.spelled e;
-          few = few;
-          whole = λ done. let clash : true ≡ false = sym done ∙ more in absurd cc;
-          has_read = now.has_read;
-        };
-    own_reasons = h.own_reasons;
-    cleared = h.cleared;
-  }
+  heading_pending bytes after n long e few = grind (arith, common_steps)
 
   module _ (bytes : List ℕ) (n : ℕ) (long : length bytes ≡ n) (w : ℕ) (is : IsLong w) (gathers : pending ++ bytes ≡ bytes_of (w ∷ [])) where
     spells : fed ++ bytes ≡ bytes_of (now.ws ++ w ∷ [])
@@ -290,14 +244,4 @@ module _ (budget : ℕ) (rows : List Row) (s : HeaderState) (pending : List ℕ)
 -- A header that is whole is that of the table.
 pub table_declared : (budget : ℕ) (rows : List Row) (s : HeaderState) (pending : List ℕ) (count : ℕ) (refused : Option Fault) (fed : List ℕ) →
     HeaderLoaderInvariant budget rows s pending count refused fed → refused ≡ None → is_behind_header s.position ≡ true → DeclaredInvariant rows s.total budget count fed
-table_declared budget rows s pending count refused fed h none done =
-    let r = h.reading none in
-    let t = heading_table budget rows s pending fed r done in
-    record {
-      is_table = t.0;
-      unplaced = r.has_read.unplaced;
-      total_is = heading_total budget rows s pending fed r done;
-      within = r.has_read.within;
-      counted = h.counted;
-      header = t.1;
-    }
+table_declared budget rows s pending count refused fed h none done = search (rules, heading_table, heading_total)

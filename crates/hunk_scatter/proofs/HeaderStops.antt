@@ -1,5 +1,6 @@
 -- What stops the loader of a header is the fault of the bytes, the budget, or that memory ran out.
 use Rattle.std.proofs.Common.{◌≡◌, true, false, ℕ, ◌+◌, ◌-◌, ◌*◌, ◌<◌, List, [], ◌∷◌, ◌++◌, length, take, drop, sym, ap, subst, ◌∙◌, append_assoc, append-nil, arith, length-append, Some, None, ◌⊎◌, inl, inr}
+use Rattle.std.proofs.lemmas.Grind.{common_steps}
 use Rattle.std.specs.Prelude.{IsTrue}
 use Rattle.hunk_words.specs.{Bits.size_longs, Longs.{longs, IsLong, AreLongs, IsBytes}, declared.fault.Fault.Fault}
 use Rattle.hunk_words.specs.declared.reason.Reason.{Reason}
@@ -19,7 +20,6 @@ use Rattle.hunk_files.proofs.{Refusals.refusal_of_word, Scan.expects_of}
 use Rattle.hunk_scatter.specs.HeaderBytes.{IsHeaderTable, header_words, header_bytes, IsHeaderFront, MayGoOnInHeader, entries_so_far}
 use Rattle.hunk_scatter.specs.HeaderFaults.{ExceedsBudget, IsOverBudget, IsBudgetOrMemory, IsHeaderFaultBy, IsHeaderFault}
 use Rattle.hunk_scatter.specs.HeaderLoaderFields.{adds, declares, StopsFor, HeaderStop, StopsInPiece}
-use Rattle.hunk_scatter.proofs.Faults.{fed_rest}
 use Rattle.hunk_scatter.proofs.Behind.{stays_behind, table_behind, expected_passes, header_passes, role_here}
 use Rattle.hunk_scatter.proofs.HeaderGrows.{row_in_table, table_grows}
 use Rattle.hunk_scatter.proofs.HeaderReads.{here, read_here, position_here, refusal_is, sum_here}
@@ -43,10 +43,7 @@ module _ (budget : ℕ) (bytes rest : List ℕ) (f : Fault) (s : HeaderStop budg
 
   -- the longwords of all the bytes
   spells : longs (bytes ++ rest) ≡ s.ws ++ s.word ∷ longs rest
-  spells =
-      ap (λ (bs : List ℕ). longs (bs ++ rest)) s.spelled
-      ∙ longs-bytes_of (s.ws ++ s.word ∷ []) rest before_longs
-      ∙ append_assoc s.ws (s.word ∷ []) (longs rest)
+  spells = grind (arith, common_steps, longs-bytes_of, before_longs, append_assoc)
 
   at : Progress
   at = here budget s.rows s.state s.ws s.has_read s.goes_on
@@ -71,11 +68,7 @@ module _ (budget : ℕ) (bytes rest : List ℕ) (f : Fault) (s : HeaderStop budg
 
   -- a size word is expected where bytes are declared
   expects_size : budget < s.state.total + declares s.state.position s.word → Expects s.ws roles.SizeWord
-  expects_size passes =
-      subst (Expects s.ws)
-      (declares_some at s.word s.state.total budget s.has_read.within
-      (subst (λ (p : Position). budget < s.state.total + declares p s.word) (sym position_at) passes))
-      expects_here
+  expects_size passes = grind (arith, common_steps, declares_some, at, position_at, expects_here)
 
   pub stop_refused : refuse (role_at 0 s.state.position) s.word ≡ Some f.reason → HasRefusal (bytes ++ rest) f.place f.reason
   stop_refused e =
@@ -203,10 +196,4 @@ module _ (budget : ℕ) (bytes rest : List ℕ) (f : Fault) (s : HeaderStop budg
 -- A stop in the rest of a piece is one in the piece.
 pub stops_on : (budget same : ℕ) (fed piece front : List ℕ) (n : ℕ) (f : Fault) → same ≡ budget → front ≡ fed ++ take n piece →
     StopsInPiece same front (take (length piece - n) (drop n piece)) f → StopsInPiece budget fed piece f
-stops_on budget same fed piece front n f budget_is front_is s = (
-  s.0,
-  s.1,
-  sym (fed_rest fed piece front n front_is) ∙ s.2,
-  omega (arith, ap length front_is, length-append fed (take n piece), s.3),
-  subst (λ (m : ℕ). HeaderStop m s.0 f) budget_is s.4,
-)
+stops_on budget same fed piece front n f budget_is front_is s = grind (arith, common_steps)

@@ -39,9 +39,7 @@ ends_body base limits now t header more rows (Ok placed) h e b (image, same) = s
 ends_body base limits now t header more rows (Err f) h e b stop = InBody t header more h refl stop
 
 pub body_keeps : (base : Placing) (budget : ℕ) (t : List TableEntry) (header more : List ℕ) → IsHeaderWithin budget header t → HasBases base t → KeepsToHeader base budget (header ++ more)
-body_keeps base budget t header more h b u m is e =
-    let same : t ≡ u = one_table t u more m h.is_table is (ap (λ (xs : List ℕ). xs ++ more) (sym h.header) ∙ e) in
-    inr (subst (λ (x : List TableEntry). (declared_bytes x ≤ budget) × HasBases base x) same (h.within, b))
+body_keeps base budget t header more h b u m is e = search (rules, one_table)
 
 -- ---- success
 

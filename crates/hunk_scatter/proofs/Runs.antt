@@ -1,5 +1,6 @@
 -- Longwords of a content, a payload, a name or a list of offsets at once.
-use Rattle.std.proofs.Common.{rules, ◌≡◌, ℕ, zero, suc, ◌+◌, ◌-◌, ◌*◌, ◌/◌, ◌%◌, ◌<◌, ◌≤◌, false, get_or, None, List, [], ◌∷◌, ◌++◌, length, take, drop, refl, sym, ap, ap₂, subst, ◌∙◌, append_assoc, append-nil, arith, length-append, length-take}
+use Rattle.std.proofs.Common.{rules, ◌≡◌, ℕ, zero, suc, ◌+◌, ◌-◌, ◌*◌, ◌/◌, ◌%◌, ◌<◌, ◌≤◌, false, get_or, None, List, [], ◌∷◌, ◌++◌, length, take, drop, refl, sym, ap, subst, ◌∙◌, append_assoc, append-nil, arith, length-append, length-take}
+use Rattle.std.proofs.lemmas.Grind.{common_steps}
 use Rattle.std.proofs.Math.Seq.{drop-append-add}
 use Rattle.std.specs.{Int.{w32, to_be_bytes}, List.AllByRecursion}
 use Rattle.std.proofs.lemmas.List.{take_at, drop-drop, take-append-drop}
@@ -21,30 +22,15 @@ use Rattle.hunk_scatter.proofs.{OneByte.{going, more_read}, Splice.length-put}
 -- ---- the store
 
 put_none : (bytes : List ℕ) (at : ℕ) → bytes ≡ put_slice bytes at []
-put_none bytes at =
-    let e : at ≡ at + 0 = omega arith in
-    sym (take-append-drop at bytes) ∙ ap₂ (λ (xs : List ℕ) (n : ℕ). xs ++ drop n bytes) (sym (append-nil (take at bytes))) e
+put_none bytes at = grind (arith, common_steps)
 
 put_more : (bytes : List ℕ) (at : ℕ) (four xs : List ℕ) → length four ≡ 4 → at + 4 ≤ length bytes → put_slice (put_at bytes at four) (at + 4) xs ≡ put_slice bytes at (four ++ xs)
-put_more bytes at four xs l fits =
-    let front : List ℕ = take at bytes ++ four in
-    let long : length front ≡ at + 4 = omega (arith, l, length-append (take at bytes) four, length-take at bytes) in
-    let rest : drop (at + 4 + length xs) (front ++ drop (at + 4) bytes) ≡ drop (at + length (four ++ xs)) bytes =
-    ap (λ (n : ℕ). drop (n + length xs) (front ++ drop (at + 4) bytes)) (sym long)
-    ∙ drop-append-add front (drop (at + 4) bytes) (length xs)
-    ∙ drop-drop (length xs) (at + 4) bytes
-    ∙ (let e : at + 4 + length xs ≡ at + length (four ++ xs) = omega (arith, l, length-append four xs) in ap (λ (n : ℕ). drop n bytes) e) in
-    ap₂ (λ (ys zs : List ℕ). (ys ++ xs) ++ zs) (take_at front (drop (at + 4) bytes) (at + 4) long) rest
-    ∙ ap (λ (ys : List ℕ). ys ++ drop (at + length (four ++ xs)) bytes) (append_assoc (take at bytes) four xs)
+put_more bytes at four xs l fits = search (rules, length-append, length-take, drop-append-add, drop-drop, take_at, append_assoc)
 
 -- a content goes on behind its next longword
 put_long : (store : List ℕ) (at next w : ℕ) (ws : List ℕ) → next ≡ at + 4 → at + 4 ≤ length store →
     put_slice (put_at store at (to_be_bytes w32 w)) next (bytes_of ws) ≡ put_slice store at (bytes_of (w ∷ ws))
-put_long store at next w ws e fits =
-    let four : List ℕ = to_be_bytes w32 w in
-    ap (λ (n : ℕ). put_slice (put_at store at four) n (bytes_of ws)) e
-    ∙ put_more store at four (bytes_of ws) refl fits
-    ∙ ap (λ (xs : List ℕ). put_slice store at xs) (ap (λ (xs : List ℕ). xs ++ bytes_of ws) (sym (bytes_of-one w)) ∙ sym (bytes_of-cons w ws))
+put_long store at next w ws e fits = search (rules, put_more, bytes_of-one, bytes_of-cons)
 
 -- ---- the state
 
@@ -63,9 +49,7 @@ module _ (rows : List Row) (hunk start : ℕ) where
   read_none store s fed r = subst (λ (bs : List ℕ). StandsBehind rows store s [] bs) (sym (append-nil fed) ∙ ap (λ (xs : List ℕ). fed ++ xs) (sym bytes_of-nil)) r
 
   read_more : (store : List ℕ) (s : BodyState) (fed : List ℕ) (w : ℕ) (ws : List ℕ) → Read rows store s (fed ++ bytes_of (w ∷ [])) ws → Read rows store s fed (w ∷ ws)
-  read_more store s fed w ws r =
-      subst (λ (bs : List ℕ). StandsBehind rows store s [] bs)
-      (append_assoc fed (bytes_of (w ∷ [])) (bytes_of ws) ∙ ap (λ (xs : List ℕ). fed ++ xs) (sym (bytes_of-cons w ws))) r
+  read_more store s fed w ws r = search (rules, append_assoc, bytes_of-cons)
 
   module _ (Good : ℕ → Type 0) (Room : ℕ → List ℕ → Type 0) (pos : ℕ → Position) (made : ℕ → List ℕ → List ℕ → List ℕ) where
     -- Longwords of a list, by the number that is owed: each that is good leads to one fewer, and this many make this of the store.
@@ -96,21 +80,7 @@ module _ (rows : List Row) (hunk start : ℕ) where
   content_owing : (o : OpenHunk) (all : ℕ) →
       Owing IsLong (λ n store. (n ≤ all) × (start + 4 * all ≤ length store)) (owe_content o all)
       (λ n ws store. put_slice store (start + 4 * (all - n)) (bytes_of ws))
-  content_owing o all = record {
-    goes_on = λ n. refl;
-    passes = λ n w l. refl;
-    moves = moves;
-    room = λ n w store h.
-        (omega (arith, h.0), omega (arith, h.1, length-put store (start + 4 * (all - n - 1)) (to_be_bytes w32 w) refl (omega (arith, h.0, h.1))));
-    none = λ n store. ap (λ (xs : List ℕ). put_slice store (start + 4 * (all - n)) xs) bytes_of-nil ∙ sym (put_none store (start + 4 * (all - n)));
-    more = λ n w ws store h.
-        put_long store (start + 4 * (all - n - 1)) (start + 4 * (all - n)) w ws (omega (arith, h.0)) (omega (arith, h.0, h.1))
-        ∙ ap (λ (k : ℕ). put_slice store (start + 4 * k) (bytes_of (w ∷ ws))) (omega arith);
-  }
-    where
-      moves : (n w : ℕ) → step_body (words_of rows) (at (owe_content o all (suc n))) w ≡ at (owe_content o all n)
-      moves zero w = refl
-      moves (suc n) w = refl
+  content_owing o all = search (rules, length-put, bytes_of-nil, put_none, put_long, at)
 
   payload_owing : (o : OpenHunk) → Owing IsLong (λ n store. Unit {0}) (owe_payload o) (λ n ws store. store)
   payload_owing o = search rules

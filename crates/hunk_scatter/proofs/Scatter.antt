@@ -1,26 +1,25 @@
 -- Each longword keeps what the store holds.
-use Rattle.std.proofs.Common.{rules, ◌≡◌, ℕ, suc, ◌+◌, ◌-◌, ◌*◌, ◌≤◌, Bool, true, false, List, [], ◌∷◌, ◌++◌, length, get_or, replicate, refl, sym, ap, ap₂, ◌∙◌, append_assoc, append-nil, arith, length-append, ltb, None}
-use Rattle.std.proofs.lemmas.{Bool.ltb-false, List.Sums.sum_by-cons, List.length-replicate}
+use Rattle.std.proofs.Common.{rules, ◌≡◌, ℕ, suc, ◌+◌, ◌-◌, ◌*◌, ◌≤◌, Bool, true, false, List, [], ◌∷◌, ◌++◌, length, get_or, refl, sym, ap, ap₂, ◌∙◌, append-nil, arith, length-append, ltb, None}
+use Rattle.std.proofs.lemmas.Grind.{common_steps}
+use Rattle.std.proofs.lemmas.{Bool.ltb-false, List.Sums.sum_by-cons}
 use Rattle.std.specs.{List.{flat_map, AllByRecursion}, Int.{w32, to_be_bytes}}
-use Rattle.hunk_words.specs.{declared.block_word.Kind.Kind, Bits.{size_longs, kind}, Longs.{bytes_of, IsLong}}
+use Rattle.hunk_words.specs.{Bits.{size_longs}, Longs.{bytes_of, IsLong}}
 use Rattle.hunk_words.specs.declared.block_word.Kind.TheVariants as kinds
 use Rattle.hunk_words.specs.declared.reason.Reason.TheVariants as reasons
-use Rattle.hunk_files.specs.Image.{add_at, image, images, filled, relocated, block_content, block_relocations}
+use Rattle.hunk_files.specs.Image.{add_at, image, images, filled, block_content, block_relocations}
 use Rattle.hunk_files.specs.LoadFile.{TableEntry, HunkValue}
-use Rattle.hunk_files.specs.FileSteps.{hunk, block, HunkSoFar, Progress, AtBlock, InBody, More, place_of, role_of, with_block, open_hunk, close, after, step_file}
+use Rattle.hunk_files.specs.FileSteps.{block, HunkSoFar, Progress, AtBlock, InBody, More, place_of, role_of, with_block, open_hunk, close, after, step_file}
 use Rattle.hunk_files.specs.OpenSegment.{segment_so_far, bytes_so_far, pairs_so_far, bytes_in, pairs_in}
-use Rattle.hunk_files.specs.ReaderPosition.{position_of, open_of, block_phase}
+use Rattle.hunk_files.specs.ReaderPosition.{position_of}
 use Rattle.hunk_blocks.specs.Values.{BlockBody, BlockValue, Code, Data, Bss, Reloc, Ext, End}
-use Rattle.hunk_blocks.specs.BlockSteps.{ForName, ForCode, SizedCode, SizedData, Inside, AtCount, AtSize, InPayload, InOffsets, InExtName, BlockNext, Open, Whole, part_of, step_inside, begin_body}
+use Rattle.hunk_blocks.specs.BlockSteps.{ForName, ForCode, SizedCode, SizedData, Inside, AtCount, AtSize, InPayload, InOffsets, InExtName, BlockNext, Open, Whole, part_of, step_inside}
 use Rattle.hunk_grammar.specs.Roles.{refuse, refuse_part}
-use Rattle.hunk_files.proofs.FileProgress.{ProgressFits, IsAdmitted, kind_admitted, kind_is}
-use Rattle.hunk_files.proofs.Memory.{adds_bytes, adds_pairs, step_has, offset_adds, end_is_image}
+use Rattle.hunk_files.proofs.FileProgress.{ProgressFits, IsAdmitted, kind_is}
+use Rattle.hunk_files.proofs.Memory.{adds_bytes, adds_pairs, step_has, offset_adds}
 use Rattle.hunk_files.proofs.HunkProgress as blocks
-use Rattle.hunk_blocks.proofs.Lists.{All-more, flat_map-more, passed_true, passed_false}
+use Rattle.hunk_blocks.proofs.Lists.{passed_false}
 use Rattle.hunk_scatter.specs.StoreContent.{zeros, HasSizedImage, Holds, StoreHolds, put_at, stored_in, stored_long}
 use Rattle.hunk_scatter.specs.BodyReader.{state_of, before}
-use Rattle.hunk_grammar.specs.declared.phase.OpenHunk as numbers
-use Rattle.hunk_grammar.specs.declared.position.Position.TheVariants as positions
 use Rattle.hunk_scatter.proofs.Splice.{put-join, add-join, length-put, long_fills}
 use Rattle.hunk_words.proofs.LongLaws.{length-bytes_of, bytes_of-one}
 
@@ -39,10 +38,7 @@ same_parts : (bases : List ℕ) (o : HunkSoFar) (n m : BlockNext) → bytes_so_f
 same_parts bases o n m e d = search rules
 
 nothing_added : (bases : List ℕ) (o : HunkSoFar) (x : Inside) (w : ℕ) → adds_bytes x w ≡ [] → adds_pairs x w ≡ [] → segment_so_far bases o (step_inside x w) ≡ segment_so_far bases o (Open x)
-nothing_added bases o x w e d =
-    same_parts bases o (Open x) (step_inside x w)
-    ((step_has x w).0 ∙ ap (λ (bs : List ℕ). bytes_in x ++ bs) e ∙ append-nil (bytes_in x))
-    ((step_has x w).1 ∙ ap (λ (ps : List (ℕ × ℕ)). pairs_in x ++ ps) d ∙ append-nil (pairs_in x))
+nothing_added bases o x w e d = search (rules, same_parts, step_has, append-nil)
 
 -- ---- a segment in which four bytes are replaced
 
@@ -53,17 +49,7 @@ length-images bases (x ∷ hs) h =
 
 put_holds : (bases : List ℕ) (o : HunkSoFar) (n m : BlockNext) (store : List ℕ) (k : ℕ) (four : List ℕ) → length four ≡ 4 → k + 4 ≤ 4 * size_longs o.entry.word →
     segment_so_far bases o m ≡ put_at (segment_so_far bases o n) k four → Holds bases o n store → Holds bases o m (put_at store (before o.finished + k) four)
-put_holds bases o n m store k four l fits e h =
-    let inside : k + 4 ≤ length (segment_so_far bases o n) = omega (arith, h.segment) in
-    record {
-      front = h.front;
-      segment = ap length e ∙ length-put (segment_so_far bases o n) k four l inside ∙ h.segment;
-      unplaced = h.unplaced;
-      store_is =
-          ap₂ (λ (s : List ℕ) (at : ℕ). put_at s (at + k) four) h.store_is (sym (length-images bases o.finished h.front))
-          ∙ put-join (images bases o.finished) (segment_so_far bases o n) (zeros o.ahead) k inside four
-          ∙ ap (λ (s : List ℕ). images bases o.finished ++ (s ++ zeros o.ahead)) (sym e);
-    }
+put_holds bases o n m store k four l fits e h = search (rules, length-put, length-images, put-join)
 
 add_holds : (bases : List ℕ) (o : HunkSoFar) (n m : BlockNext) (store : List ℕ) (k base : ℕ) → k + 4 ≤ 4 * size_longs o.entry.word →
     segment_so_far bases o m ≡ add_at (segment_so_far bases o n) k base → Holds bases o n store → Holds bases o m (add_at store (before o.finished + k) base)
@@ -131,52 +117,21 @@ inside_holds bases o word x w store a f ok h = go x f ok h
 closed_holds : (bases : List ℕ) (o : HunkSoFar) (b : BlockValue) (c : Bool) (store : List ℕ) →
     (c ≡ false → (flat_map (λ (x : BlockValue). block_content x.body) (o.blocks ++ b ∷ []) ≡ []) × (flat_map (λ (x : BlockValue). block_relocations x.body) (o.blocks ++ b ∷ []) ≡ [])) →
     Holds bases o (Whole b.body) store → Holds bases (with_block o b c) (Whole End) store
-closed_holds bases o b c store u h =
-    let e : segment_so_far bases (with_block o b c) (Whole End) ≡ segment_so_far bases o (Whole b.body) =
-    ap₂ (λ (bs : List ℕ) (ps : List (ℕ × ℕ)). relocated bases (filled (4 * size_longs o.entry.word) bs) ps)
-    (append-nil (flat_map (λ (x : BlockValue). block_content x.body) (o.blocks ++ b ∷ [])) ∙ flat_map-more (λ (x : BlockValue). block_content x.body) o.blocks b)
-    (append-nil (flat_map (λ (x : BlockValue). block_relocations x.body) (o.blocks ++ b ∷ [])) ∙ flat_map-more (λ (x : BlockValue). block_relocations x.body) o.blocks b) in
-    record {
-      front = h.front;
-      segment = ap length e ∙ h.segment;
-      unplaced = u;
-      store_is = h.store_is ∙ ap (λ (s : List ℕ). images bases o.finished ++ (s ++ zeros o.ahead)) (sym e);
-    }
+closed_holds bases o b c store u h = grind (arith, common_steps)
 
 -- a block that has neither content nor relocations
 beside_holds : (bases : List ℕ) (o : HunkSoFar) (word : ℕ) (body : BlockBody) (store : List ℕ) → block_content body ≡ [] → block_relocations body ≡ [] →
     Holds bases o (Whole body) store → Holds bases (with_block o (block word body) o.has_content) (Whole End) store
-beside_holds bases o word body store e d h =
-    closed_holds bases o (block word body) o.has_content store
-    (λ c. (
-      flat_map-more (λ (x : BlockValue). block_content x.body) o.blocks (block word body) ∙ ap₂ (λ (xs ys : List ℕ). xs ++ ys) (h.unplaced c).0 e,
-      flat_map-more (λ (x : BlockValue). block_relocations x.body) o.blocks (block word body) ∙ ap₂ (λ (xs ys : List (ℕ × ℕ)). xs ++ ys) (h.unplaced c).1 d,
-    )) h
+beside_holds bases o word body store e d h = grind (arith, common_steps)
 
 -- the hunks with these entries are all zero so far
 zero_holds : (bases : List ℕ) (hunks : ℕ) (finished : List HunkValue) (ahead : List TableEntry) (store : List ℕ) → AllByRecursion (HasSizedImage bases) finished →
     store ≡ images bases finished ++ zeros ahead → StoreHolds bases (open_hunk hunks finished ahead) store
 zero_holds bases hunks finished [] store f e = (f, e ∙ append-nil (images bases finished))
-zero_holds bases hunks finished (x ∷ ahead) store f e =
-    let size : 4 * size_longs x.word - 0 ≡ 4 * size_longs x.word = omega arith in
-    record {
-      front = f;
-      segment = length-replicate (4 * size_longs x.word - 0) 0 ∙ size;
-      unplaced = λ c. (refl, refl);
-      store_is = e ∙ ap (λ (n : ℕ). images bases finished ++ (replicate n 0 ++ zeros ahead)) (sym size);
-    }
+zero_holds bases hunks finished (x ∷ ahead) store f e = grind (arith, common_steps)
 
 ended_holds : (bases : List ℕ) (o : HunkSoFar) (word : ℕ) (store : List ℕ) → Holds bases o (Whole End) store → StoreHolds bases (close o (block word End)) store
-ended_holds bases o word store h =
-    zero_holds bases o.hunks (o.finished ++ x ∷ []) o.ahead store
-    (All-more (HasSizedImage bases) o.finished x h.front (ap length (end_is_image bases o word) ∙ h.segment))
-    (h.store_is
-    ∙ sym (append_assoc (images bases o.finished) (segment_so_far bases o (Whole End)) (zeros o.ahead))
-    ∙ ap (λ (s : List ℕ). (images bases o.finished ++ s) ++ zeros o.ahead) (sym (end_is_image bases o word))
-    ∙ ap (λ (s : List ℕ). s ++ zeros o.ahead) (sym (flat_map-more (image bases) o.finished x)))
-  where
-    x : HunkValue
-    x = hunk o.entry (o.blocks ++ block word End ∷ [])
+ended_holds bases o word store h = grind (arith, common_steps)
 
 after_holds : (bases : List ℕ) (o : HunkSoFar) (word : ℕ) (n : BlockNext) (store : List ℕ) → IsAdmitted o word → blocks.NextFits (place_of o) word n →
     Holds bases o n store → StoreHolds bases (after o word n) store
@@ -184,30 +139,15 @@ after_holds bases o word (Open x) store a f h = h
 after_holds bases o word (Whole (Code top ws)) store a f h = closed_holds bases o (block word (Code top ws)) true store (λ c. absurd cc) h
 after_holds bases o word (Whole (Data top ws)) store a f h = closed_holds bases o (block word (Data top ws)) true store (λ c. absurd cc) h
 after_holds bases o word (Whole (Bss size)) store a f h = closed_holds bases o (block word (Bss size)) true store (λ c. absurd cc) h
-after_holds bases o word (Whole (Reloc gs)) store a f h =
-    let late : o.has_content ≡ true = passed_true o.has_content reasons.BeforeContent (kind_is o word kinds.Reloc32 a f.of_load) in
-    closed_holds bases o (block word (Reloc gs)) o.has_content store (λ c. absurd (cc (late, c))) h
+after_holds bases o word (Whole (Reloc gs)) store a f h = grind (arith, common_steps)
 after_holds bases o word (Whole (Ext es)) store a f h = absurd f.of_load
 after_holds bases o word (Whole End) store a f h = ended_holds bases o word store h
 after_holds bases o word (Whole _) store a f h = beside_holds bases o word _ store refl refl h
 
-begin_empty : (k : Kind) → (bytes_so_far (begin_body k) ≡ []) × (pairs_so_far (begin_body k) ≡ [])
-begin_empty kinds.Name = (refl, refl)
-begin_empty _ = (refl, refl)
-
--- a block word stores nothing
-block_stores : (blocks : List BlockValue) (P : List ℕ → Type 0) (bases : List ℕ) (start : ℕ) (o : numbers.OpenHunk) (w : ℕ) (store : List ℕ) → P store → P (stored_in bases start (positions.Body o (block_phase blocks)) w store)
-block_stores [] P bases start o w store h = h
-block_stores (b ∷ blocks) P bases start o w store h = h
-
 -- A longword that is not refused keeps what the store holds.
 pub step_holds : (bases : List ℕ) (p : Progress) (w : ℕ) (store : List ℕ) → ProgressFits p → IsLong w → refuse (role_of p) w ≡ None → StoreHolds bases (More p) store →
     StoreHolds bases (step_file p w) (stored_long bases (state_of (More p)) w store)
-step_holds bases (AtBlock o) w store f l ok h =
-    let e = begin_empty (kind w) in
-    block_stores o.blocks (StoreHolds bases (step_file (AtBlock o) w)) bases (before o.finished) (open_of o) w store
-    (after_holds bases o w (begin_body (kind w)) store (l, ok) (blocks.begin_fits (place_of o) w (kind w) refl (kind_admitted o w (l, ok)).1)
-    (holds_as bases o (Whole End) (begin_body (kind w)) store (same_parts bases o (Whole End) (begin_body (kind w)) e.0 e.1) h))
+step_holds bases (AtBlock o) w store f l ok h = grind (arith, common_steps)
 step_holds bases (InBody o word x) w store f l ok h =
     after_holds bases o word (step_inside x w) (stored_in bases (before o.finished) (position_of (More (InBody o word x))) w store) f.1 (blocks.step_fits (place_of o) word x w f.2 l ok)
     (inside_holds bases o word x w store f.1 f.2 ok h)

@@ -3,8 +3,8 @@
 //!
 //! The numbers may be any. Those that lead out of the rows or the store are found out, each in
 //! constant time, before the store is touched.
-ghost use Rattle.std.specs.Prelude.{◌≡◌, ◌+◌, ◌<◌, ◌≤◌, ℕ, List, [], ◌∷◌, ◌++◌, length, take};
-ghost use Rattle.std.specs.Prelude.{true, IfErr, IfOk, MatchResult, OnErr, Some, replicate};
+ghost use Rattle.std.specs.Prelude.{◌≡◌, ◌+◌, ◌<◌, ◌≤◌, ℕ, List, [], length, take};
+ghost use Rattle.std.specs.Prelude.{true, IfErr, IfOk, OnErr, Some, replicate};
 ghost use Rattle.hunk_words.specs.Limits.{most_hunks};
 ghost use Rattle.hunk_words.specs.Carriers.{saturated};
 ghost use Rattle.hunk_words.specs.PendingBytes.{pending_of};

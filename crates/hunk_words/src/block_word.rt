@@ -1,5 +1,5 @@
 //! Block words.
-ghost use Rattle.std.specs.Prelude.{◌≡◌, ◌^◌, ◌<◌, ◌≤◌, IfSome, length};
+ghost use Rattle.std.specs.Prelude.{◌≡◌, ◌<◌, ◌≤◌, IfSome, length};
 ghost use Rattle.std.specs.Option.{option_copied};
 ghost use Rattle.hunk_words.specs.Bits.{flags, has_both_bits, is_advisory, is_chip, is_fast};
 ghost use Rattle.hunk_words.specs.Bits.{is_relocation, kind};

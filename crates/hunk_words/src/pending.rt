@@ -1,5 +1,5 @@
 //! The bytes of a longword in progress, in numbers alone.
-ghost use Rattle.std.specs.Prelude.{◌≡◌, ◌<◌, ◌≤◌, [], ◌∷◌, ◌++◌, length, take};
+ghost use Rattle.std.specs.Prelude.{◌<◌, ◌≤◌, [], ◌∷◌, ◌++◌, length, take};
 ghost use Rattle.hunk_words.specs.Longs.{Gathers};
 ghost use Rattle.hunk_words.specs.PendingBytes.{pending_of};
 

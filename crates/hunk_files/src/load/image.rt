@@ -78,6 +78,7 @@ fn fill_hunks(memory: &mut [u8], hunks: &[LoadHunk<'_>], bases: &[u32])
 }
 
 /// Writes the memory of a hunk that has these blocks.
+#[tactic(auto, using(std::proofs::lemmas::List::drop_more, crate::proofs::FillingLaws::block_filled))]
 fn fill_hunk(memory: &mut [u8], blocks: &[Block<'_>], bases: &[u32])
     requires { Fits (length bases.now) (length memory.old) blocks.now }
     ensures { memory.new ≡ memory_of bases.now (length memory.old) blocks.now }

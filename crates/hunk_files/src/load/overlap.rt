@@ -2,7 +2,7 @@
 ghost use Rattle.std.specs.Prelude.{◌≡◌, ◌<◌, ◌++◌, IfOk, OnOk, MatchOption, length, map};
 ghost use Rattle.std.specs.List.{flat_map};
 ghost use Rattle.std.specs.List.Sorted.{IsNonDecreasing};
-ghost use Rattle.hunk_blocks.specs.Views.{body_of, group_of};
+ghost use Rattle.hunk_blocks.specs.Views.{group_of};
 ghost use Rattle.hunk_files.specs.Image.{block_relocations, group_relocations, offsets};
 ghost use Rattle.hunk_files.specs.Overlap.{AreApart, IsFirstOverlap, hunk_offsets};
 
@@ -34,6 +34,7 @@ impl LoadFile<'_> {
 }
 
 /// The first two neighbours among rising offsets that are 1 to 3 apart.
+#[tactic(auto, using(crate::proofs::Rising::first_is))]
 fn first_close(rising: &[u32]) -> Option<(u32, u32)>
     requires { IsNonDecreasing rising.now }
     ensures { MatchOption result (AreApart rising.now)

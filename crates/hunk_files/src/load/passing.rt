@@ -1,9 +1,8 @@
 //! Parts of a load file that are passed over at once.
-ghost use Rattle.std.specs.Prelude.{◌≡◌, ◌≤◌, ◌<◌, ◌+◌, ◌*◌, ℕ, IfSome, length, slice_index};
+ghost use Rattle.std.specs.Prelude.{◌≡◌, ◌≤◌, ◌<◌, ◌+◌, ◌*◌, IfSome, length, slice_index};
 ghost use Rattle.hunk_words.specs.Longs.{longs};
 ghost use Rattle.hunk_files.specs.Passing.{AreBlocks, AreGroups, AreRows, AreSymbols, IsList};
 ghost use Rattle.hunk_files.specs.Passing.{IsContent, IsCounted, IsGroup, IsPassed, IsWholeBlock};
-ghost use Rattle.hunk_grammar.specs.Positions.{EndsWithin};
 
 use hunk_grammar::{OpenHunk, Phase, Position, by_kind, is_outside};
 use hunk_words::{BlockWord, CONTENT_LIMIT, NAME_LIMIT, SizeWord, word_at};
@@ -51,6 +50,7 @@ pub(super) fn pass_over(
 /// that may be refused in a hunk of `declared` longs of a file of `hunks` hunks; and whether the
 /// content block of the hunk came up to there, as `has_content` says of `from`.
 #[inline(never)]
+#[tactic(auto, using(crate::proofs::Passed::block_on))]
 fn behind_blocks(
     bytes: &[u8],
     from: usize,

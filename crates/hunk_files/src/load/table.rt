@@ -1,5 +1,4 @@
 //! The table of a load file's header, read where it lies.
-ghost use Rattle.std.specs.Prelude.{◌≡◌};
 ghost use Rattle.std.specs.Iterator.{YieldsFirstBy, item_count};
 ghost use Rattle.hunk_files.specs.Tables.{size_entry};
 
@@ -41,6 +40,7 @@ impl Iterator for TableIter<'_> {
     ghost remaining = { item_count (λ entries. entries) };
 
     #[inline(always)]
+    #[tactic(auto, using(crate::proofs::LoadCuts::next_entry, crate::proofs::LoadCuts::table_ends))]
     fn next(&mut self) -> Option<SizeWord> {
         if self.left == 0 {
             return None;

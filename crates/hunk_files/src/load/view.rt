@@ -48,6 +48,7 @@ impl<'a> LoadView<'a> {
     /// # Errors
     ///
     /// As `LoadFile::decode`, but never `OutOfMemory`.
+    #[tactic(auto, using(std::proofs::lemmas::Result::err_from_is_err_and, crate::proofs::Refusals::fault_not_memory, crate::proofs::Refusals::fault_of_load, crate::proofs::Scan::no_fault))]
     pub fn read(bytes: &'a [u8]) -> Result<(LoadView<'a>, usize), FileFault>
         ensures valid { IfOk result (λ r. IsLoadFile r.0) }
         ensures text { IfOk result (λ r. take r.1 bytes.entry.now ≡ bytes_of (text r.0)) }
@@ -103,6 +104,7 @@ impl<'a> LoadView<'a> {
     }
 
     /// The byte behind the table, at which the blocks of the first hunk begin.
+    #[tactic(auto, using(crate::proofs::TableReading::header_size))]
     pub(super) fn body(&self) -> usize
         ensures { result ≡ 4 * length (header_text self.now) }
     {
@@ -130,6 +132,7 @@ impl<'a> LoadView<'a> {
     /// # Errors
     ///
     /// `OutOfMemory` at the last longword of the part of a hunk for which no memory was found.
+    #[tactic(auto, using(crate::proofs::LoadKeeping::load_lacks))]
     pub(crate) fn keep(self, alloc: Global) -> Result<LoadFile<'a>, FileFault>
         ensures kept { IfOk result (λ file. file ≡ self.entry) }
         ensures memory { IfErr result (λ fault. fault.reason ≡ reasons.OutOfMemory) }

@@ -123,6 +123,7 @@ impl<'a> HunkViews<'a> {
     }
 
     /// The next hunk, which stays to come.
+    #[tactic(auto, using(crate::proofs::ObjectViewLaws::hunk_first, crate::proofs::ObjectViewLaws::next_hunk, crate::proofs::ObjectViewLaws::no_hunk, crate::proofs::ObjectViewLaws::tested))]
     pub fn peek(&self) -> Option<HunkView<'a>>
         ensures { IsFirstPart self.now result }
     {

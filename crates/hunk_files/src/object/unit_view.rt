@@ -5,7 +5,7 @@ ghost use Rattle.hunk_words.specs.Longs.{longs};
 ghost use Rattle.hunk_words.specs.declared.reason.Reason.TheVariants as reasons;
 ghost use Rattle.hunk_files.specs.InPlace.{FirstEndsAt, GivesPart, IsFirstPart};
 ghost use Rattle.hunk_files.specs.Lacks.{EndsAt, EndsObjectPart};
-ghost use Rattle.hunk_files.specs.Hunks.{IsRead, block_texts};
+ghost use Rattle.hunk_files.specs.Hunks.{IsRead};
 ghost use Rattle.hunk_files.specs.ObjectFile.{IsUnit, unit_header, unit_text};
 ghost use Rattle.hunk_files.specs.ObjectViews.{UnitsAt, units_at};
 ghost use Rattle.hunk_files.specs.Units.{UnitAt};
@@ -20,6 +20,7 @@ use std::marker::Model;
 
 /// The name in the header of the unit that stands at `start`, and the byte behind the header (The
 /// AmigaDOS Manual, `dos/doshunks.h`).
+#[tactic(auto, using(std::proofs::lemmas::List::take_rest, crate::proofs::UnitReading::count_is, crate::proofs::UnitReading::name_is))]
 pub(crate) fn read_header(bytes: &[u8], start: usize) -> (Payload<'_>, usize)
     requires { UnitAt bytes.now start }
     ensures { (here : UnitAt bytes.entry.now start) →
@@ -137,6 +138,7 @@ impl<'a> UnitViews<'a> {
     }
 
     /// The next unit, which stays to come.
+    #[tactic(auto, using(crate::proofs::UnitViewLaws::next_unit, crate::proofs::UnitViewLaws::no_unit, crate::proofs::UnitViewLaws::unit_first))]
     pub fn peek(&self) -> Option<UnitView<'a>>
         ensures { IsFirstPart self.now result }
     {

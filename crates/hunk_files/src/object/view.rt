@@ -42,6 +42,7 @@ impl<'a> ObjectView<'a> {
     /// # Errors
     ///
     /// The first fault of the bytes, as of `ObjectFile::decode`.
+    #[tactic(auto, using(crate::proofs::ObjectRefusals::fault_other, crate::proofs::ObjectRefusals::fault_own, crate::proofs::OneObjectFault::no_object))]
     pub fn read(bytes: &'a [u8]) -> Result<ObjectView<'a>, FileFault>
         ensures file { IfOk result (λ o. IsObjectFile o) }
         ensures text { IfOk result (λ o. bytes.entry.now ≡ bytes_of (object_text o)) }

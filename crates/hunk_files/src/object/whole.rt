@@ -1,5 +1,5 @@
 //! The walk over the longwords of an object file, from the first to the last.
-ghost use Rattle.std.specs.Prelude.{◌≡◌, MatchResult};
+ghost use Rattle.std.specs.Prelude.{MatchResult};
 ghost use Rattle.hunk_files.specs.HunkFile.{AreObjectFile};
 ghost use Rattle.hunk_files.specs.ObjectFault.{HasObjectFault};
 
@@ -15,6 +15,7 @@ use hunk_words::{FileFault, Reason, word_at};
 ///
 /// The first fault of the bytes, at the first byte of its longword, from the start of the input;
 /// `Truncated` at 4 times the number of whole longwords.
+#[tactic(auto, using(crate::proofs::ObjectWalks::start))]
 pub fn walk_object(bytes: &[u8]) -> Result<(), FileFault>
     ensures { MatchResult result (λ _. AreObjectFile bytes.now)
         (λ fault. HasObjectFault bytes.now fault.place fault.reason) }

@@ -1,9 +1,6 @@
-use Rattle.hunk_files.proofs.ObjectOutcome.{some_outcome, word_goes_on}
+use Rattle.hunk_files.proofs.ObjectOutcome.{word_goes_on}
 use Rattle.hunk_files.proofs.OneObjectFault.{one_fault, no_object, no_object_goes_on, not_truncated}
 use Rattle.hunk_files.proofs.laws.object_fault.Goals as goal
-
-pub returns-clause-some : goal.returns-clause-some
-returns-clause-some c = some_outcome
 
 pub returns-clause-one : goal.returns-clause-one
 returns-clause-one c = one_fault

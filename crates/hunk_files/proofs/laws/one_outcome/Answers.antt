@@ -1,8 +1,5 @@
-use Rattle.hunk_files.proofs.{Scan.{some_outcome, not_truncated, one_fault, no_fault}, Refusals.refusal_of_word}
+use Rattle.hunk_files.proofs.{Scan.{not_truncated, one_fault, no_fault}, Refusals.refusal_of_word}
 use Rattle.hunk_files.proofs.laws.one_outcome.Goals as goal
-
-pub returns-clause-some : goal.returns-clause-some
-returns-clause-some c = some_outcome
 
 pub returns-clause-one : goal.returns-clause-one
 returns-clause-one c bytes fit = one_fault bytes

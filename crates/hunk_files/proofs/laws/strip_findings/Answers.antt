@@ -1,8 +1,5 @@
-use Rattle.hunk_files.proofs.StripLaws.{object_kept, findings_kept}
+use Rattle.hunk_files.proofs.StripLaws.{object_kept}
 use Rattle.hunk_files.proofs.laws.strip_findings.Goals as goal
 
 pub returns-clause-valid : goal.returns-clause-valid
 returns-clause-valid c = object_kept
-
-pub returns-clause-findings : goal.returns-clause-findings
-returns-clause-findings c = findings_kept

@@ -1,6 +1,6 @@
-use Rattle.std.proofs.Common.{◌+◌, ◌-◌, ◌*◌, ℕ, List, length, ap, subst, arith}
+use Rattle.std.proofs.Common.{◌+◌, ◌-◌, ◌*◌, ℕ, List, length, ap, arith}
 use Rattle.hunk_files.specs.{Findings.outside, PlacedFindings.{offsets_findings_at, standing_at}}
-use Rattle.hunk_files.proofs.FindingSteps.{taken_all, taken_on}
+use Rattle.hunk_files.proofs.FindingSteps.{taken_on}
 use Rattle.hunk_files.proofs.object.check.check_entry.Goals as goal
 
 pub checking-preserved : goal.checking-preserved
@@ -15,12 +15,3 @@ checking-preserved g c =
       taken_on g.T.TakesPlacedFindings.takes g.met.T.TakesPlacedFindings.more _ _ _ (standing_at place (found c.in-Some.offset)) (left (place + 4) new) (left place old)
           (left (c.args.end - 4 * length c.args.entry.now.offsets) c.args.entry.now.offsets) (ap (λ (os : List ℕ). left place os) steps) c.checking.invariant.1 c.check_offset.ensures,
     )
-
-pub returns : goal.returns
-returns g c =
-    let left = λ (width : ℕ). offsets_findings_at (outside c.args.spot width) in
-    let all = λ (width : ℕ). left width (c.args.end - 4 * length c.args.entry.now.offsets) c.args.entry.now.offsets in
-    let width = c.reference_width-width.result in
-    let taken = taken_all g.T.TakesPlacedFindings.takes c.args.taker.now c.checking.taker (left width c.checking.place c.checking.offset-iterator) (all width)
-    (ap (λ (os : List ℕ). left width c.checking.place os) c.in-None.ensures.steps.0) c.checking.invariant.1 in
-    subst (λ (n : ℕ). g.T.TakesPlacedFindings.takes c.args.taker.now (all n) c.checking.taker) c.reference_width-width.ensures.value taken

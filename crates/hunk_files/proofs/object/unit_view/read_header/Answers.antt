@@ -1,7 +1,7 @@
-use Rattle.std.proofs.Common.{◌≡◌, ◌+◌, ◌*◌, ◌-◌, List, ℕ, length, drop, take, get_or, ap, ◌∙◌, arith}
+use Rattle.std.proofs.Common.{◌≡◌, ◌-◌, List, ℕ, length, drop, take, get_or, ap, ◌∙◌, arith}
 use Rattle.std.proofs.lemmas.List.{take_rest, length-drop}
 use Rattle.hunk_words.specs.Longs.{longs}
-use Rattle.hunk_files.proofs.UnitReading.{count_is, header_inside, name_is}
+use Rattle.hunk_files.proofs.UnitReading.{count_is, header_inside}
 use Rattle.hunk_files.proofs.object.unit_view.read_header.Goals as goal
 
 pub slice_bounds-unit-count : goal.slice_bounds-unit-count
@@ -32,14 +32,4 @@ overflow_add-result c =
       arith,
       header_inside c.args.bytes.now c.args.start c.requires,
       count c.args.bytes.now c.args.start c.word_at.result c.word_at.ensures ∙ count_is c.args.bytes.now c.args.start c.requires,
-    )
-
-pub returns : goal.returns
-returns c here =
-    let bytes = c.args.bytes.now in
-    let start = c.args.start in
-    let size : c.word_at.result ≡ length here.unit.name = count bytes start c.word_at.result c.word_at.ensures ∙ count_is bytes start here in
-    let n : ℕ = 8 + 4 * c.word_at.result - 8 in (
-      ap longs c.of.ensures ∙ ap (λ (rest : List ℕ). longs (take n (drop 8 rest))) (take_rest bytes start) ∙ name_is bytes start here n (omega (arith, size)),
-      omega (arith, size),
     )

@@ -5,12 +5,9 @@ use Rattle.hunk_words.proofs.LongLaws.{length-longs}
 use Rattle.hunk_files.specs.ObjectFault.{HasObjectFault, refuse_object}
 use Rattle.hunk_files.specs.declared.object.position.ObjectPosition.{ObjectPosition}
 use Rattle.hunk_files.specs.ObjectSteps as steps
-use Rattle.hunk_files.proofs.ObjectWalks.{ObjectWalks, start, refused, passes, ends, ends_early}
+use Rattle.hunk_files.proofs.ObjectWalks.{ObjectWalks, refused, passes, ends, ends_early}
 use Rattle.hunk_files.proofs.object.whole.walk_object.Goals as goal
 use Rattle.hunk_files.proofs.object.whole.walk_object.Goals.{then-at-count-via-then-at-count, then-at-count-via-else-at-count+then-bytes-ne0, then-at-count-via-else-at-count+else-bytes-ne0+then-not-may_end}
-
-pub walking-init : goal.walking-init
-walking-init c = start c.args.bytes.now (λ i. omega (arith, c.type_inv.bytes i))
 
 pub returns-in-Err : goal.returns-in-Err
 returns-in-Err c =

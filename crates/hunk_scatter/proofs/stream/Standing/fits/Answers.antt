@@ -1,5 +1,5 @@
-use Rattle.std.proofs.Common.{◌≡◌, ℕ, false, ap, subst, sym, ◌∙◌, arith}
-use Rattle.hunk_grammar.specs.{Positions.is_done, declared.position.Position.Position}
+use Rattle.std.proofs.Common.{◌≡◌, ℕ, false, ap, subst, arith}
+use Rattle.hunk_grammar.specs.{Positions.is_done}
 use Rattle.hunk_scatter.specs.{BodySteps.targets_at, Streaming.FitsStore}
 use Rattle.hunk_scatter.proofs.StreamLaws.{fits_store}
 use Rattle.hunk_scatter.proofs.stream.Standing.fits.Goals as goal

@@ -1,8 +1,8 @@
-use Rattle.std.proofs.Common.{List, drop, refl, sym, ap, ◌∙◌}
+use Rattle.std.proofs.Common.{List, drop, sym, ap, ◌∙◌}
 use Rattle.hunk_blocks.specs.{Parts.block_text, Placed.Placed}
 use Rattle.hunk_files.specs.{LoadFile.{TableEntry, LoadFileValue}, Tables.size_entry, InPlace.hunks_in}
 use Rattle.hunk_files.proofs.HunksInPlace.{hunk_gives, hunk_text, hunks_in-nil, next_hunk_of}
-use Rattle.hunk_files.proofs.Taking.{end_of, end_passed, end_stays, part_less}
+use Rattle.hunk_files.proofs.Taking.{end_of, end_passed, part_less}
 use Rattle.hunk_files.proofs.load.hunk_views.LoadHunkViewsIterator.next.Goals as goal
 
 pub returns-in_default-clause-steps : goal.returns-in_default-clause-steps
@@ -18,12 +18,6 @@ at-blocks-requires c = (next_hunk_of c.self.inside.table (size_entry c.in-Some.s
 
 pub at-passed-requires : goal.at-passed-requires
 at-passed-requires c = (next_hunk_of c.self.inside.table (size_entry c.in-Some.size) c.next.new.self c.self.inside.bytes.now c.self.inside.at c.in-Some.ensures.steps c.self.invariant).here
-
-pub passing-init : goal.passing-init
-passing-init c = refl
-
-pub passing-preserved : goal.passing-preserved
-passing-preserved c = end_stays block_text c.passing.passed c.next-in-passing.new.self c.in-Some-next.field-0 c.in-Some-next.ensures.steps ∙ c.passing.invariant
 
 pub invariant_of-self-2 : goal.invariant_of-self-2
 invariant_of-self-2 c = let n = next_hunk_of c.self.inside.table (size_entry c.in-Some.size) c.next.new.self c.self.inside.bytes.now c.self.inside.at c.in-Some.ensures.steps c.self.invariant in n.left _ (ap (λ (p : Placed _). p.place) c.passed.view_is ∙ end_passed block_text c.at-passed.result c.passing.passed c.next-in-passing.new.self c.passing.invariant c.in_default-next.ensures.steps ∙ ap (end_of block_text) (c.at-passed.ensures n.here))

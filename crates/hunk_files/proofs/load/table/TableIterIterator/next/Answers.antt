@@ -1,38 +1,10 @@
-use Rattle.std.proofs.Common.{◌≡◌, ℕ, ◌-◌, ◌*◌, List, [], ◌∷◌, length, take, drop, get_or, sym, ap, ap₂, subst, ◌∙◌, arith}
+use Rattle.std.proofs.Common.{◌≡◌, ℕ, ◌-◌, ◌*◌, List, ◌∷◌, length, take, drop, get_or, sym, ap, ap₂, subst, ◌∙◌, arith}
 use Rattle.std.proofs.lemmas.List.{take_rest}
 use Rattle.hunk_words.specs.{Bits.entry_longs, Longs.longs}
-use Rattle.hunk_words.proofs.{LongLaws.length-longs, PartLaws.longs-drop}
+use Rattle.hunk_words.proofs.PartLaws.{longs-drop}
 use Rattle.hunk_files.specs.{LoadFile.TableEntry, InPlace.BeginsWithTable, Cuts.table_cut}
-use Rattle.hunk_files.proofs.LoadCuts.{next_entry, table_ends}
+use Rattle.hunk_files.proofs.LoadCuts.{next_entry}
 use Rattle.hunk_files.proofs.load.table.TableIterIterator.next.Goals as goal
-
-pub returns-then-self-eq0-clause-steps : goal.returns-then-self-eq0-clause-steps
-returns-then-self-eq0-clause-steps c =
-    let words = longs c.self.inside.rest.now in
-    let P : ℕ → Type 0 = λ n. BeginsWithTable n words in
-    let none : c.args.self.now ≡ [] =
-    sym c.self.view_is ∙ ap (λ (n : ℕ). (table_cut n words).value) c.if-self-eq0.true ∙ table_ends words (subst P c.if-self-eq0.true c.self.invariant) in
-    (none, none)
-
-pub at-size-requires-clause-word : goal.at-size-requires-clause-word
-at-size-requires-clause-word c =
-    let n = next_entry c.self.inside.left (longs c.self.inside.rest.now) c.self.invariant (omega arith) in
-    omega (arith, n.some, length-longs c.self.inside.rest.now)
-
-pub at-size-requires-clause-extra : goal.at-size-requires-clause-extra
-at-size-requires-clause-extra c both =
-    let n = next_entry c.self.inside.left (longs c.self.inside.rest.now) c.self.invariant (omega arith) in
-    omega (arith, n.two both, length-longs c.self.inside.rest.now)
-
-pub slice_bounds-self-count : goal.slice_bounds-self-count
-slice_bounds-self-count c =
-    let n = next_entry c.self.inside.left (longs c.self.inside.rest.now) c.self.invariant (omega arith) in
-    omega (arith, n.whole, c.entry_longs.ensures.value, ap entry_longs c.at-size.ensures.word, length-longs c.self.inside.rest.now)
-
-pub slice_bounds-self-start : goal.slice_bounds-self-start
-slice_bounds-self-start c =
-    let n = next_entry c.self.inside.left (longs c.self.inside.rest.now) c.self.invariant (omega arith) in
-    omega (arith, n.whole, c.entry_longs.ensures.value, ap entry_longs c.at-size.ensures.word, length-longs c.self.inside.rest.now)
 
 -- the longwords behind the entry
 behind : (bytes : List ℕ) (word n : ℕ) → n ≡ entry_longs word → word ≡ get_or (longs bytes) 0 0 → longs (take (length bytes - 4 * n) (drop (4 * n) bytes)) ≡ drop (entry_longs (get_or (longs bytes) 0 0)) (longs bytes)

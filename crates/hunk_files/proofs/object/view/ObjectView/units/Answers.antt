@@ -2,11 +2,8 @@ use Rattle.std.proofs.Common.{length, ap, sym, subst, ◌∙◌, arith}
 use Rattle.hunk_words.proofs.LongLaws.{length-bytes_of}
 use Rattle.hunk_blocks.specs.Placed.{Placed}
 use Rattle.hunk_files.specs.ObjectFile.{IsObjectFile, ObjectFileValue, object_text}
-use Rattle.hunk_files.proofs.{UnitCounts.fewer_units, UnitViewLaws.{units_at_start, units_of_is}}
+use Rattle.hunk_files.proofs.{UnitCounts.fewer_units, UnitViewLaws.{units_of_is}}
 use Rattle.hunk_files.proofs.object.view.ObjectView.units.Goals as goal
-
-pub at-requires : goal.at-requires
-at-requires c = units_at_start c.self.inside.bytes.now c.self.invariant
 
 pub returns-clause-file : goal.returns-clause-file
 returns-clause-file c =
