@@ -21,29 +21,6 @@ entry_at hs v i h view inside is = slice_get-map (λ (x : HunkValue). x.entry) v
 pub blocks_at : (hs : List LoadHunk) (v : LoadFileValue) (i : ℕ) (h : LoadHunk) → map hunk_of hs ≡ v → i < length v → h ≡ get_or hs i h → slice_get (map (λ h. h.blocks) v) i ≡ Some h.blocks.items
 blocks_at hs v i h view inside is = slice_get-map (λ (x : HunkValue). x.blocks) v i ∙ ap (λ (o : Option HunkValue). option_map (λ x. x.blocks) o) (hunk_at hs v i h view inside is)
 
--- ---- the sum of the declared bytes
-
-abbrev hunk_bytes : LoadHunk → ℕ
-hunk_bytes h = 4 * size_longs h.row.word
-
-pub record SumSoFar (hs : List LoadHunk) (i sum : ℕ) : Type 0 where
-  pub value : sum ≡ sum_by hunk_bytes (take i hs)
-  pub bound : sum ≤ i * 2 ^ 32
-
-pub no_sum : (hs : List LoadHunk) → SumSoFar hs 0 0
-no_sum hs = record { value = refl; bound = omega arith }
-
-pub sum_more : (hs : List LoadHunk) (i sum : ℕ) (h : LoadHunk) → SumSoFar hs i sum → i < length hs → h ≡ get_or hs i h → SumSoFar hs (i + 1) (sum + hunk_bytes h)
-sum_more hs i sum h s inside is = record { value = omega (arith, s.value, sum_by_more hunk_bytes hs i h inside, ap hunk_bytes is); bound = omega (arith, s.bound) }
-
-declared-map : (hs : List LoadHunk) → declared_bytes (table (map hunk_of hs)) ≡ sum_by hunk_bytes hs
-declared-map [] = refl
-declared-map (h ∷ hs) =
-    sum_by-cons (λ (e : TableEntry). 4 * size_longs e.word) (row_entry h.row) (table (map hunk_of hs)) ∙ ap (λ (n : ℕ). hunk_bytes h + n) (declared-map hs) ∙ sym (sum_by-cons hunk_bytes h hs)
-
-pub sum_whole : (hs : List LoadHunk) (v : LoadFileValue) (i sum : ℕ) → map hunk_of hs ≡ v → SumSoFar hs i sum → length hs ≤ i → sum ≡ declared_bytes (table v)
-sum_whole hs v i sum view s all = s.value ∙ ap (sum_by hunk_bytes) (take_all i hs all) ∙ sym (declared-map hs) ∙ ap (λ (w : LoadFileValue). declared_bytes (table w)) view
-
 -- ---- stripped one after the other
 
 pub stripped_more : (hs : List LoadHunk) (vs : LoadFileValue) (i : ℕ) (h x : LoadHunk) → map hunk_of hs ≡ strip_file (take i vs) ++ drop i vs → i < length hs → h ≡ get_or hs i h → hunk_of x ≡ strip_hunk (hunk_of h) →

@@ -18,9 +18,9 @@ impl<'a> LoadFile<'a> {
         ensures value { result ≡ strip_file self.entry }
         ensures shorter { length (bytes_of (text result)) ≤ length (bytes_of (text self.entry)) }
     {
-        let mut hunks = self.hunks;
+        let LoadFile { mut hunks, view } = self;
         strip_hunks(&mut hunks);
-        LoadFile { hunks }
+        LoadFile { hunks, view }
     }
 }
 
