@@ -13,7 +13,7 @@ use Rattle.hunk_scatter.specs.{BodyLoaderFields.StandsBehind, BodySteps.IsInStor
 use Rattle.hunk_scatter.specs.declared.stream.Standing.{Standing}
 use Rattle.hunk_scatter.proofs.{BodyFields.{fed_more, gone, in_room}, OneByte.more_pending, WholeLongs.run_taken}
 use Rattle.hunk_c.specs.declared.loader.Loader.{Loader}
-use Rattle.hunk_c.specs.Loaders.{MayHavePosition, Stands, StandsAt, loader_at, open_hunk, phase_in, standing_in, unrefused, unused}
+use Rattle.hunk_c.specs.Loaders.{MayHavePosition, Stands, StandsAt, loader_at, open_hunk, pending_in, phase_in, refusal_in, standing_in, unrefused, unused, with_numbers}
 use Rattle.hunk_c.specs.Streams.{PassesOver, TakesPiece}
 use Rattle.hunk_c.proofs.Streamed.{stands_at, stands_so}
 
@@ -22,25 +22,7 @@ abbrev with_pending : Standing → ℕ → Pending → Standing
 with_pending at fed pending = record { state = at.state; fed = fed; pending = pending }
 
 abbrev pub loader_with : Loader → ℕ → Pending → Loader
-loader_with l fed pending = record {
-  start = l.start;
-  fed = fed;
-  place = l.place;
-  refused = l.refused;
-  refused_hunk = l.refused_hunk;
-  hunk = l.hunk;
-  hunks = l.hunks;
-  ahead = l.ahead;
-  has_content = l.has_content;
-  phase = l.phase;
-  part = l.part;
-  owed = l.owed;
-  pending = pending.count;
-  first = pending.first;
-  second = pending.second;
-  third = pending.third;
-  reserved = unused;
-}
+loader_with l fed pending = with_numbers l fed l.owed pending (refusal_in l)
 
 with_is : (l : Loader) (at : Standing) (fed : ℕ) (pending : Pending) → StandsAt l at → loader_with l fed pending ≡ loader_at (with_pending at fed pending)
 with_is l at fed pending s = λ i. record {
@@ -116,7 +98,7 @@ abbrev pub payload_at : Loader → ℕ → ℕ → Standing
 payload_at l fed owed = record {
   state = record { start = l.start; hunk = l.hunk; position = positions.Body (open_hunk l) (phases.Payload owed) };
   fed = fed;
-  pending = record { count = l.pending; first = l.first; second = l.second; third = l.third };
+  pending = pending_in l;
 }
 
 -- At the phase of a payload a loader stands so.
@@ -125,25 +107,7 @@ payload_stands l payload h = subst (λ (o : Option Phase). MatchOption o ⊥ (λ
 
 -- The loader after such a piece.
 abbrev pub after_payload : Loader → ℕ → Loader
-after_payload l n = record {
-  start = l.start;
-  fed = saturated (l.fed + n);
-  place = l.place;
-  refused = l.refused;
-  refused_hunk = l.refused_hunk;
-  hunk = l.hunk;
-  hunks = l.hunks;
-  ahead = l.ahead;
-  has_content = l.has_content;
-  phase = l.phase;
-  part = l.part;
-  owed = l.owed - n / 4;
-  pending = l.pending;
-  first = l.first;
-  second = l.second;
-  third = l.third;
-  reserved = unused;
-}
+after_payload l n = with_numbers l (saturated (l.fed + n)) (l.owed - n / 4) (pending_in l) (refusal_in l)
 
 module _ (rows : List Row) (total : ℕ) (l : Loader) (piece : List ℕ) (s : StandsAt l (payload_at l l.fed l.owed)) (f : FitsStore rows total (payload_at l l.fed l.owed))
     (clean : l.pending ≡ 0) (are : IsBytes piece) (fours : length piece % 4 ≡ 0) (some : 0 < length piece) (few : length piece / 4 ≤ l.owed) where

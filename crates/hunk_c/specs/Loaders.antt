@@ -3,6 +3,7 @@ use Rattle.std.specs.Prelude.{◌≡◌, ◌⊎◌, ℕ, ◌+◌, ◌-◌, ◌*�
 use Rattle.hunk_words.specs.Limits.{content_limit, most_hunks, name_limit}
 use Rattle.hunk_words.specs.Reasons.{number_of}
 use Rattle.hunk_words.specs.declared.fault.Fault.{Fault}
+use Rattle.hunk_words.specs.declared.pending.Pending.{Pending}
 use Rattle.hunk_grammar.specs.declared.phase.OpenHunk.{OpenHunk}
 use Rattle.hunk_blocks.specs.declared.phase.Phase.{Phase}
 use Rattle.hunk_blocks.specs.declared.phase.Phase.TheVariants as phases
@@ -114,34 +115,42 @@ pub record HasNumbers (l : Loader) (p : Position) : Type 0 where
 abbrev pub HasPhase : Loader → Phase → Type 0
 HasPhase l p = (l.phase ≡ (phase_numbers p).0) × (l.part ≡ (phase_numbers p).1) × (l.owed ≡ (phase_numbers p).2)
 
--- with these numbers of a refusal, and otherwise as it was, but for the room to grow, which is not read
-abbrev pub with_refusal : Loader → ℕ → ℕ → ℕ → Loader
-with_refusal l at number in_hunk = record {
+-- Its longword that is not whole, and its refusal, in numbers.
+abbrev pub pending_in : Loader → Pending
+pending_in l = record { count = l.pending; first = l.first; second = l.second; third = l.third }
+
+abbrev pub refusal_in : Loader → ℕ × ℕ × ℕ
+refusal_in l = (l.place, l.refused, l.refused_hunk)
+
+-- With these numbers, and otherwise as it was, but for the room to grow, which is not read.
+abbrev pub with_numbers : Loader → ℕ → ℕ → Pending → ℕ × ℕ × ℕ → Loader
+with_numbers l fed owed pending refusal = record {
   start = l.start;
-  fed = l.fed;
-  place = at;
-  refused = number;
-  refused_hunk = in_hunk;
+  fed = fed;
+  place = refusal.0;
+  refused = refusal.1;
+  refused_hunk = refusal.2;
   hunk = l.hunk;
   hunks = l.hunks;
   ahead = l.ahead;
   has_content = l.has_content;
   phase = l.phase;
   part = l.part;
-  owed = l.owed;
-  pending = l.pending;
-  first = l.first;
-  second = l.second;
-  third = l.third;
+  owed = owed;
+  pending = pending.count;
+  first = pending.first;
+  second = pending.second;
+  third = pending.third;
   reserved = unused;
 }
 
+-- with a refusal
 abbrev pub refusing : Loader → Fault → Loader
-refusing l f = with_refusal l f.place (number_of f.reason) (refused_hunk f.reason)
+refusing l f = with_numbers l l.fed l.owed (pending_in l) (f.place, number_of f.reason, refused_hunk f.reason)
 
 -- as it was before its refusal
 abbrev pub unrefused : Loader → Loader
-unrefused l = with_refusal l 0 0 0
+unrefused l = with_numbers l l.fed l.owed (pending_in l) (0, 0, 0)
 
 -- the numbers of no loader: no longword is for the phase 0
 abbrev pub no_loader : Loader
@@ -182,7 +191,7 @@ abbrev pub standing_in : Loader → Position → Standing
 standing_in l position = record {
   state = record { start = l.start; hunk = l.hunk; position = position };
   fed = l.fed;
-  pending = record { count = l.pending; first = l.first; second = l.second; third = l.third };
+  pending = pending_in l;
 }
 
 -- ---- where one may stand, whatever its places and its memory

@@ -1,9 +1,8 @@
 //! A curator's survey of a collection of files.
 
-use hunk_blocks::{Block, Body};
+use hunk_blocks::{BlockView, BodyView};
 use hunk_commands::unhex;
-use hunk_files::{HunkFile, LoadFile};
-use hunk_words::Reason;
+use hunk_files::{FileView, Item, Items, ObjectFile};
 use std::alloc::{AllocGlobal, Global};
 use std::fs;
 use std::rt::Files;
@@ -71,39 +70,37 @@ pub fn survey(alloc: Global, texts: &[&str]) -> anyhow::Result<Collection> {
 
 /// Adds a file.
 fn add_file(alloc: Global, found: &mut Collection, bytes: &[u8]) -> anyhow::Result<()> {
-    match HunkFile::decode(alloc, bytes) {
-        Ok(HunkFile::Load { file, rest: _ }) => {
+    match FileView::read(bytes) {
+        Ok(FileView::Load { file, rest: _ }) => {
             found.programs = found.programs.saturating_add(1);
             found.segment_bytes = found.segment_bytes.saturating_add(file.total());
-            found.symbols = found.symbols.saturating_add(count_symbols(&file));
+            found.symbols = found.symbols.saturating_add(count_symbols(file.items()));
         }
-        Ok(HunkFile::Object(file)) => {
-            let findings = file.check(alloc)?;
+        Ok(FileView::Object(_)) => {
+            let findings = ObjectFile::decode(alloc, bytes)?.check(alloc)?;
             found.objects = found.objects.saturating_add(1);
             found.findings = found.findings.saturating_add(findings.len() as u64);
         }
-        Err(fault) if fault.reason == Reason::OutOfMemory => return Err(fault.into()),
         Err(_) => found.refused = found.refused.saturating_add(1),
     }
     Ok(())
 }
 
-/// How many symbols the file has.
-fn count_symbols(file: &LoadFile<'_>) -> u64 {
+/// How many symbols are among the items.
+fn count_symbols(items: Items<'_>) -> u64 {
     let mut count = 0u64;
-    for i in 0..file.hunks() {
-        count = count.saturating_add(count_in(file.hunk(i)));
+    for item in items {
+        if let Item::Block { view, .. } = item {
+            count = count.saturating_add(count_in(view));
+        }
     }
     count
 }
 
-/// How many symbols the blocks have.
-fn count_in(blocks: &[Block<'_>]) -> u64 {
-    let mut count = 0u64;
-    for block in blocks {
-        if let Body::Symbol(symbols) = block.body() {
-            count = count.saturating_add(symbols.len() as u64);
-        }
+/// How many symbols the block has.
+fn count_in(block: BlockView<'_>) -> u64 {
+    match block.into_body() {
+        BodyView::Symbol(symbols) => symbols.count() as u64,
+        _ => 0,
     }
-    count
 }

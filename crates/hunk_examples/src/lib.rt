@@ -18,7 +18,7 @@ pub use crate::collection::{Collection, survey, survey_folder};
 pub use crate::emulator::load_program;
 pub use crate::libraries::{Seen, tour};
 pub use crate::pieces::load_pieces;
-pub use crate::program::{show_file, strip_file};
+pub use crate::program::{show_file, strip};
 pub use crate::rom::place_in_rom;
 pub use crate::symbols::{Symbol, list_symbols};
 pub use crate::upload::has_header;

@@ -1,7 +1,8 @@
 //! What the program does, in a program of one's own.
 
-use hunk_commands::{rewrite, show};
-use hunk_words::{FromRead, FromWrite, LongWriter};
+use hunk_commands::show;
+use hunk_files::FileView;
+use hunk_words::{FromRead, FromWrite, LongWriter, Printer};
 use std::alloc::Global;
 use std::io::Read;
 
@@ -19,14 +20,16 @@ pub fn show_file<R: Read + Drop>(alloc: Global, file: R) -> anyhow::Result<Vec<u
     Ok(out.into_inner().into_inner())
 }
 
-/// The bytes that `hunkinfo rewrite --strip` writes of a file: the same without names, symbols and
-/// debug data.
+/// What `hunkinfo rewrite --strip` writes of a file: the same without names, symbols and debug data.
 ///
 /// # Errors
 ///
-/// Reading failed, the file is refused, or memory ran out.
-pub fn strip_file<R: Read + Drop>(alloc: Global, file: R) -> anyhow::Result<Vec<u8>> {
+/// The file is refused, with the place and the reason, or memory ran out.
+pub fn strip(alloc: Global, bytes: &[u8]) -> anyhow::Result<Vec<u8>> {
+    let file = FileView::read(bytes)?;
     let mut out = LongWriter::new(FromWrite::new(Vec::new(alloc)));
-    rewrite(alloc, &mut FromRead::new(file), &mut out, FILE_BYTES, true)?;
+    let mut page: Printer<'_, FromWrite<Vec<u8>>> = Printer::new(&mut out);
+    file.strip_with(&mut page);
+    page.flush()?;
     Ok(out.into_inner().into_inner())
 }

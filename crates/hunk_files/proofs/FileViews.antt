@@ -20,15 +20,6 @@ entry_at hs v i h view inside is = slice_get-map (λ (x : HunkValue). x.entry) v
 pub blocks_at : (hs : List LoadHunk) (v : LoadFileValue) (i : ℕ) (h : LoadHunk) → map hunk_of hs ≡ v → i < length v → h ≡ get_or hs i h → slice_get (map (λ h. h.blocks) v) i ≡ Some h.blocks.items
 blocks_at hs v i h view inside is = slice_get-map (λ (x : HunkValue). x.blocks) v i ∙ ap (λ (o : Option HunkValue). option_map (λ x. x.blocks) o) (hunk_at hs v i h view inside is)
 
--- ---- the sum of the declared bytes
-
-abbrev hunk_bytes : LoadHunk → ℕ
-hunk_bytes h = 4 * size_longs h.row.word
-
-pub record SumSoFar (hs : List LoadHunk) (i sum : ℕ) : Type 0 where
-  pub value : sum ≡ sum_by hunk_bytes (take i hs)
-  pub bound : sum ≤ i * 2 ^ 32
-
 -- ---- stripped one after the other
 
 pub stripped_more : (hs : List LoadHunk) (vs : LoadFileValue) (i : ℕ) (h x : LoadHunk) → map hunk_of hs ≡ strip_file (take i vs) ++ drop i vs → i < length hs → h ≡ get_or hs i h → hunk_of x ≡ strip_hunk (hunk_of h) →

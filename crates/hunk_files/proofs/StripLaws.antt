@@ -5,7 +5,7 @@ use Rattle.std.specs.List.{flat_map, fold, AllByRecursion}
 use Rattle.hunk_blocks.specs.Values.{BlockBody, BlockValue, Code, Reloc, IsBlock}
 use Rattle.hunk_files.specs.LoadFile.{HunkValue, LoadFileValue, standing, AreInOrder, IsHunkBlock, IsHunk, IsLoadFile, declared_longs}
 use Rattle.hunk_files.specs.LoadText.{table}
-use Rattle.hunk_files.specs.Image.{block_content, block_relocations, content, relocations, filled, image, relocated}
+use Rattle.hunk_files.specs.Image.{HasMemoryOf, block_content, block_relocations, content, relocations, filled, image, images, relocated}
 use Rattle.hunk_files.specs.ObjectFile.{ObjectHunk, UnitValue, ObjectFileValue, IsObjectHunk, IsUnit, IsObjectFile}
 use Rattle.hunk_files.specs.Findings.{FindingValue, HunkContext, content_size, hunk_bytes, body_findings, hunk_findings, hunks_findings, unit_findings, units_findings, findings}
 use Rattle.hunk_files.specs.Strip.{is_kept, strip_blocks, strip_hunk, strip_file, strip_unit, strip_object}
@@ -72,6 +72,13 @@ contents_kept v = each_kept content content_kept v
 
 pub all_relocations_kept : (v : LoadFileValue) → map relocations (strip_file v) ≡ map relocations v
 all_relocations_kept v = each_kept relocations relocations_kept v
+
+pub memory_kept : (v w : LoadFileValue) → HasMemoryOf v w → HasMemoryOf (strip_file v) w
+memory_kept v w h = record { table = table_kept v ∙ h.table; images = λ bases. same bases v ∙ h.images bases }
+  where
+    same : (bases : List ℕ) (v : LoadFileValue) → images bases (strip_file v) ≡ images bases v
+    same bases [] = refl
+    same bases (h ∷ v) = ap₂ (λ (xs ys : List ℕ). xs ++ ys) (image_kept bases h) (same bases v)
 
 pub images_kept : (v : LoadFileValue) (bases : List ℕ) → map (image bases) (strip_file v) ≡ map (image bases) v
 images_kept v bases = each_kept (image bases) (image_kept bases) v

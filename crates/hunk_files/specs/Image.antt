@@ -1,5 +1,5 @@
 -- What a load file says of memory: declared bytes, content, relocations and image.
-use Rattle.std.specs.Prelude.{ℕ, ◌+◌, ◌-◌, ◌*◌, ◌%◌, ◌^◌, List, [], ◌++◌, length, map, take, drop, get_or, replicate}
+use Rattle.std.specs.Prelude.{◌≡◌, ℕ, ◌+◌, ◌-◌, ◌*◌, ◌%◌, ◌^◌, List, [], ◌++◌, length, map, take, drop, get_or, replicate}
 use Rattle.std.specs.List.{flat_map, fold, sum_by}
 use Rattle.std.specs.Int.{w32, to_be_bytes, from_be_bytes}
 use Rattle.hunk_words.specs.Longs.{bytes_of}
@@ -56,3 +56,8 @@ image bases h = relocated bases (content h) (relocations h)
 -- The memory of all hunks, one after the other.
 abbrev pub images : List ℕ → LoadFileValue → List ℕ
 images bases v = flat_map (image bases) v
+
+-- They declare the same, and have the same memory at all bases.
+pub record HasMemoryOf (v w : LoadFileValue) : Type 0 where
+  pub table : map (λ h. h.entry) v ≡ map (λ h. h.entry) w
+  pub images : (bases : List ℕ) → images bases v ≡ images bases w

@@ -28,10 +28,13 @@ use std::marker::Model;
 #[derive(Debug, Drop)]
 pub struct LoadFile<'a> {
     pub(super) hunks: Vec<LoadHunk<'a>>,
+    /// The file that was read, whose memory is the same: stripping leaves alone what is loaded.
+    pub(super) view: LoadView<'a>,
 }
 
 impl<'a> Model for LoadFile<'a> {
     ghost use Rattle.std.specs.Prelude.{map};
+    ghost use Rattle.hunk_files.specs.Image.{HasMemoryOf};
     ghost use Rattle.hunk_files.specs.LoadFile.{LoadFileValue, IsLoadFile};
     ghost use Rattle.hunk_files.specs.Tables.{hunk_of};
 
@@ -39,7 +42,8 @@ impl<'a> Model for LoadFile<'a> {
 
     ghost view = { λ s. map hunk_of s.hunks.items };
 
-    ghost invariant = { λ s. IsLoadFile (map hunk_of s.hunks.items) };
+    ghost invariant = { λ s. IsLoadFile (map hunk_of s.hunks.items)
+        × HasMemoryOf (map hunk_of s.hunks.items) s.view };
 }
 
 impl<'a> LoadFile<'a> {
@@ -109,11 +113,7 @@ impl<'a> LoadFile<'a> {
         ensures value { result ≡ declared_bytes (table self.now) }
         ensures bound { result ≤ 2 ^ 48 }
     {
-        let mut sum = 0;
-        'hunks: for hunk in &self.hunks {
-            sum += hunk.row.size().bytes();
-        }
-        sum
+        self.view.total()
     }
 
     /// Prints the file's text.

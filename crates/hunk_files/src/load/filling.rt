@@ -71,7 +71,7 @@ fn fill_block<B: Bases>(memory: &mut [u8], body: BodyView<'_>, bases: &mut B)
 }
 
 /// Writes the content to the front of the memory, and zero bytes behind it.
-pub(super) fn put_content(memory: &mut [u8], payload: &Payload<'_>)
+fn put_content(memory: &mut [u8], payload: &Payload<'_>)
     requires { length (longs payload.now) ≤ length memory.old / 4 }
     ensures { memory.new ≡ filled (length memory.old) (bytes_of (longs payload.now)) }
 {
@@ -95,7 +95,7 @@ fn relocate_groups<B: Bases>(memory: &mut [u8], groups: GroupsIter<'_>, bases: &
 }
 
 /// Adds the base at each of the group's offsets.
-pub(super) fn relocate_group(memory: &mut [u8], group: &Group<'_>, base: u32)
+fn relocate_group(memory: &mut [u8], group: &Group<'_>, base: u32)
     requires { AllByRecursion (IsInside (length memory.old / 4)) group.now.offsets }
     ensures { memory.new ≡ fold (λ bytes offset. add_at bytes offset base) memory.old
         group.now.offsets }

@@ -22,7 +22,7 @@ use std::marker::Model;
 
 /// A load file of the input, made by `read` alone, whose hunks are read as they are asked for. It
 /// takes no memory. Contracts see it as its load-file value.
-#[derive(Drop)]
+#[derive(Debug, Drop)]
 pub struct LoadView<'a> {
     /// The input, up to the end of the file.
     pub(super) bytes: &'a [u8],
@@ -139,6 +139,6 @@ impl<'a> LoadView<'a> {
         ensures place { IfErr result (λ fault. EndsAt (EndsLoadPart self.entry) 0 fault.place) }
     {
         let hunks = self.iter().keep(alloc)?;
-        Ok(LoadFile { hunks })
+        Ok(LoadFile { hunks, view: self })
     }
 }
