@@ -14,7 +14,7 @@ impl<'a> LoadFile<'a> {
     /// image at all bases.
     ///
     /// It takes no memory.
-    #[tactic(auto, using(crate::proofs::StripLaws::file_kept, crate::proofs::StripLaws::memory_kept, crate::proofs::StripText::bytes_shorter, crate::proofs::FileViews::whole_slice))]
+    #[tactic(auto, using(crate::proofs::StripText::bytes_shorter, crate::proofs::FileViews::whole_slice))]
     pub fn strip(self) -> LoadFile<'a>
         ensures value { result ≡ strip_file self.entry }
         ensures shorter { length (bytes_of (text result)) ≤ length (bytes_of (text self.entry)) }
