@@ -48,6 +48,6 @@ is_answered n = between 0 9 n || between 11 27 n || n == 29 || n == no_room_numb
 
 -- ---- the interface
 
--- the number of the interface of include/hunk.h, HUNK_ABI there
+-- the number of the interface of bindings/c/hunk.h, HUNK_ABI there
 abbrev pub interface_number : ℕ
 interface_number = 1

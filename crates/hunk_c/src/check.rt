@@ -136,7 +136,7 @@ fn finding_row(place: u64, finding: &Finding) -> FindingRow
     }
 }
 
-/// The number of a finding in `include/hunk.h`.
+/// The number of a finding in `bindings/c/hunk.h`.
 fn kind_number(kind: FindingKind) -> u32
     ensures { result ≡ kind_number kind }
 {

@@ -1,4 +1,4 @@
-//! Hunk files for programs in C: `include/hunk.h` declares what is exported here.
+//! Hunk files for programs in C: `bindings/c/hunk.h` declares what is exported here.
 //!
 //! Each export is a thin layer over a library of this repository. It takes no memory, keeps nothing
 //! between two calls, hands out no pointer, and tests every number that it is given.
