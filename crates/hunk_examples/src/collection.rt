@@ -99,8 +99,11 @@ fn count_symbols(items: Items<'_>) -> u64 {
 
 /// How many symbols the block has.
 fn count_in(block: BlockView<'_>) -> u64 {
-    match block.into_body() {
-        BodyView::Symbol(symbols) => symbols.count() as u64,
-        _ => 0,
+    let mut count = 0u64;
+    if let BodyView::Symbol(symbols) = block.into_body() {
+        for _symbol in symbols {
+            count = count.saturating_add(1);
+        }
     }
+    count
 }
