@@ -1,16 +1,15 @@
 -- What calls answer, over all of them.
-use Rattle.std.proofs.Common.{rules, ◌≡◌, ◌≤◌, ℕ, List, length, IsTrue, true, ap, refl, sym, subst, ◌∙◌, arith, inl, inr}
-use Rattle.hunk_words.specs.{Longs.longs, Meanings.meaning_of, Reasons.{name_of, number_of}}
+use Rattle.std.proofs.Common.{◌≡◌, ◌≤◌, ℕ, List, length, IsTrue, ap, refl, sym, subst, arith, inl, inr}
+use Rattle.hunk_words.specs.{Meanings.meaning_of, Reasons.{name_of, number_of}}
 use Rattle.hunk_words.specs.declared.fault.Fault.{Fault}
 use Rattle.hunk_words.specs.declared.reason.Reason.{Reason}
 use Rattle.hunk_words.specs.declared.reason.Reason.TheVariants as reasons
 use Rattle.hunk_files.specs.Fault.{HasFault, is_word_refusal}
-use Rattle.hunk_files.specs.HunkFile.{IsFileOf, IsRefusal, file_bytes}
+use Rattle.hunk_files.specs.HunkFile.{IsRefusal}
 use Rattle.hunk_files.specs.ObjectFile.{is_object_refusal}
-use Rattle.hunk_files.specs.ObjectFault.{HasObjectFault}
 use Rattle.hunk_files.specs.declared.hunk_file.HunkFile.{HunkFile}
 use Rattle.hunk_files.specs.declared.row.Row.{Row}
-use Rattle.hunk_files.proofs.{ObjectRefusals.{fault_other, fault_own}, Refusals.refusal_of_word}
+use Rattle.hunk_files.proofs.{ObjectRefusals.fault_other, Refusals.refusal_of_word}
 use Rattle.hunk_grammar.specs.declared.file_kind.Sniff.{Sniff}
 use Rattle.hunk_grammar.specs.declared.file_kind.Sniff.TheVariants as sniffs
 use Rattle.hunk_grammar.specs.declared.position.Position.{Position}
@@ -20,7 +19,7 @@ use Rattle.hunk_scatter.specs.{HeaderSizes.RefusesHeader, LoaderReasons.is_of_bo
 use Rattle.hunk_c.specs.Answers.{is_answered, strange}
 use Rattle.hunk_c.specs.Checks as checks
 use Rattle.hunk_c.specs.Checks.{Checks}
-use Rattle.hunk_c.specs.Loaders.{StandsAt, TellsAgain, TellsRefusal, TellsStrange, MayStand, MayStandAt, no_loader, loader_at, unrefused}
+use Rattle.hunk_c.specs.Loaders.{TellsAgain, TellsRefusal, TellsStrange, MayStand, MayStandAt, no_loader, loader_at, unrefused}
 use Rattle.hunk_c.specs.Loads as loads
 use Rattle.hunk_c.specs.Loads.{Loads, IsNotLoaded}
 use Rattle.hunk_c.specs.Names.{IsMeaningOf, IsNameOf, Means, Names, PutsText, HasText, HasNoText, OfReason, OfNoRoom, OfStrange, OfNone, MeansReason, MeansNoRoom, MeansStrange, MeansNothing}

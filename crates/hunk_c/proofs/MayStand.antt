@@ -1,27 +1,25 @@
 -- Each loader that stands after bytes may stand so by its numbers.
-use Rattle.std.proofs.Common.{◌≡◌, ℕ, zero, suc, ◌+◌, ◌-◌, ◌*◌, ◌%◌, ◌^◌, ◌<◌, ◌≤◌, ltb, Bool, true, false, ◌||◌, List, [], ◌∷◌, ◌++◌, length, map, replicate, refl, sym, ap, subst, ◌∙◌, arith, inl, inr, ◌⊎◌, Option, None, Some, if◌then◌else◌, length-append}
+use Rattle.std.proofs.Common.{◌≡◌, ℕ, ◌+◌, ◌-◌, ◌*◌, ◌%◌, ◌^◌, ◌<◌, ◌≤◌, ltb, Bool, true, false, ◌||◌, List, [], ◌∷◌, ◌++◌, length, map, refl, sym, ap, subst, arith, inl, inr, ◌⊎◌, None, Some, if◌then◌else◌, length-append}
 use Rattle.std.specs.List.{AllByRecursion, flat_map}
 use Rattle.std.proofs.lemmas.Bool.{ltb-true, ltb-false}
-use Rattle.std.proofs.lemmas.List.{length-map, length-replicate}
+use Rattle.std.proofs.lemmas.List.{length-map}
 use Rattle.std.proofs.lemmas.List.Sums.{sum_by-cons}
-use Rattle.hunk_words.specs.{Bits.{is_advisory, kind, size_longs}, Carriers.saturated, Longs.{AreLongs, bytes_of}, PendingBytes.pending_of}
+use Rattle.hunk_words.specs.{Bits.{is_advisory, kind, size_longs}, Carriers.saturated, Longs.bytes_of, PendingBytes.pending_of}
 use Rattle.hunk_words.specs.declared.reason.Reason.TheVariants as reasons
-use Rattle.hunk_words.specs.declared.{block_word.Kind.Kind, pending.Pending.Pending}
+use Rattle.hunk_words.specs.declared.{pending.Pending.Pending}
 use Rattle.hunk_words.specs.declared.block_word.Kind.TheVariants as kinds
 use Rattle.hunk_words.proofs.{LongLaws.length-bytes_of, PendingLaws.pending_few}
-use Rattle.hunk_blocks.specs.Values.{BlockBody, BlockValue, Code, Data, Bss, FitsWord}
-use Rattle.hunk_blocks.specs.BlockSteps.{Counting, ForName, ForDebug, ForAdvisory, ForCode, ForData, ForBss, Counted, SizedCode, SizedData, Inside, AtCount, AtSize, InPayload, AtGroup, AtTarget, InOffsets, AtEntry, InName, AtValue, counted_body}
-use Rattle.hunk_blocks.specs.{Parts.{block_parts, Part as parts}, ReaderPhase.phase_of}
-use Rattle.hunk_blocks.specs.declared.phase.Phase.{Phase}
-use Rattle.hunk_blocks.specs.declared.phase.Phase.TheVariants as phases
-use Rattle.hunk_grammar.specs.{Positions.is_done, declared.phase.OpenHunk.OpenHunk, Roles.{Place, Role, refuse_kind}, Standings.{BlockStanding, Beside, Content, Relocating, Ending, is_content}}
+use Rattle.hunk_blocks.specs.Values.{BlockBody, BlockValue, Code, Data, Bss}
+use Rattle.hunk_blocks.specs.BlockSteps.{ForName, ForCode, ForData, ForBss, Counted, SizedCode, SizedData, Inside, AtCount, AtSize, InPayload, AtGroup, AtTarget, InOffsets, AtEntry, InName, AtValue}
+use Rattle.hunk_blocks.specs.{Parts.Part as parts, ReaderPhase.phase_of}
+use Rattle.hunk_grammar.specs.{Positions.is_done, Roles.{Place, Role, refuse_kind}, Standings.{BlockStanding, Beside, Content, Relocating, Ending, is_content}}
 use Rattle.hunk_files.specs.{LoadFile.{TableEntry, HunkValue, IsHunk, AreInOrder, standing}, LoadText.{block_labelled, blocks_labelled, entry_labelled, hunk_labelled, labelled, table}}
 use Rattle.hunk_files.specs.FileSteps.{HunkSoFar, Next, More, Finished, AtBlock, InBody, place_of}
-use Rattle.hunk_files.specs.{ReaderPosition.{IsBehindHeader, block_phase, open_of}, WordsRead.HasRead}
+use Rattle.hunk_files.specs.{ReaderPosition.{IsBehindHeader, block_phase, open_of}}
 use Rattle.hunk_files.specs.declared.row.Row.{Row}
-use Rattle.hunk_blocks.proofs.BlockProgress.{FillFits, read_inside}
+use Rattle.hunk_blocks.proofs.BlockProgress.{read_inside}
 use Rattle.hunk_files.proofs.FileProgress.{IsAdmitted, OpenFits, Reads, content_in, header_so_far, kind_is, open_so_far, read}
-use Rattle.hunk_files.proofs.{FileText.in_place, HunkProgress.{Fits, Within}, Reading.reads}
+use Rattle.hunk_files.proofs.{FileText.in_place, HunkProgress.Fits, Reading.reads}
 use Rattle.hunk_scatter.specs.{BodyLoaderFields.EndsWhole, BodyReader.{before, state_of}, Streaming.IsFed, declared.store.BodyState.BodyState}
 use Rattle.hunk_scatter.specs.declared.stream.Standing.{Standing}
 use Rattle.hunk_c.specs.Loaders.{MayOwe, MayStand, MayStandAt}

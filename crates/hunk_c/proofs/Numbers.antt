@@ -1,5 +1,5 @@
 -- The numbers of a loader tell where it stands.
-use Rattle.std.proofs.Common.{◌≡◌, ◌==◌, ℕ, Bool, true, false, Option, Some, None, refl, sym, ap, ap₂, subst, ◌∙◌, if◌then◌else◌, MatchOption}
+use Rattle.std.proofs.Common.{◌≡◌, ◌==◌, ℕ, Bool, true, false, Option, Some, refl, sym, ap, ap₂, subst, ◌∙◌, if◌then◌else◌, MatchOption}
 use Rattle.hunk_blocks.specs.declared.phase.Phase.{Phase}
 use Rattle.hunk_blocks.specs.declared.phase.Phase.TheVariants as phases
 use Rattle.hunk_grammar.specs.{declared.phase.OpenHunk.OpenHunk, declared.position.Position.Position}
@@ -8,7 +8,7 @@ use Rattle.hunk_grammar.specs.Positions.{is_done}
 use Rattle.hunk_scatter.specs.declared.stream.Standing.{Standing}
 use Rattle.hunk_scatter.proofs.StreamLaws.{open_unless_done}
 use Rattle.hunk_c.specs.declared.loader.Loader.{Loader}
-use Rattle.hunk_c.specs.Loaders.{CountsBytes, HasNumbers, MayHavePosition, MayHaveStood, MayOwe, MayStand, MayStandAt, StandsAt, TellsNone, bit, body_in, hunk_of, loader_at, loader_position, open_hunk, phase_in, phase_numbers, position_numbers, standing_in, unrefused, unused, whole}
+use Rattle.hunk_c.specs.Loaders.{CountsBytes, HasNumbers, MayHavePosition, MayHaveStood, MayOwe, MayStand, MayStandAt, StandsAt, TellsNone, bit, body_in, hunk_of, loader_at, loader_position, phase_in, phase_numbers, position_numbers, standing_in, unrefused, unused, whole}
 
 bit_again : (b : Bool) → (bit b == 1) ≡ b
 bit_again true = refl

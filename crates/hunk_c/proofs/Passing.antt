@@ -1,5 +1,5 @@
 -- A loader that passes over a piece.
-use Rattle.std.proofs.Common.{rules, ◌≡◌, ◌+◌, ◌-◌, ◌*◌, ◌/◌, ◌%◌, ◌<◌, ◌≤◌, ◌==◌, ℕ, zero, suc, true, false, List, [], ◌∷◌, ◌++◌, length, take, refl, sym, ap, subst, ◌∙◌, arith, length-append, length-take, get_or, Option, None, Some, MatchOption}
+use Rattle.std.proofs.Common.{rules, ◌≡◌, ◌+◌, ◌-◌, ◌/◌, ◌%◌, ◌<◌, ◌≤◌, ℕ, zero, suc, false, List, [], ◌∷◌, ◌++◌, length, take, refl, sym, ap, subst, ◌∙◌, arith, length-append, length-take, get_or, Option, None, Some, MatchOption}
 use Rattle.std.proofs.lemmas.List.{take_all}
 use Rattle.hunk_words.specs.{Carriers.saturated, Longs.{Gathers, IsBytes}, PendingBytes.pending_of}
 use Rattle.hunk_words.specs.declared.pending.Pending.{Pending}
@@ -9,12 +9,12 @@ use Rattle.hunk_blocks.specs.declared.phase.Phase.TheVariants as phases
 use Rattle.hunk_grammar.specs.{Positions.{is_done, pass}, declared.phase.OpenHunk.OpenHunk, declared.position.Position.Position}
 use Rattle.hunk_grammar.specs.declared.position.Position.TheVariants as positions
 use Rattle.hunk_files.specs.declared.row.Row.{Row}
-use Rattle.hunk_scatter.specs.{BodyLoaderFields.StandsBehind, BodySteps.IsInStore, Rows.words_of, Streaming.{FitsStore, IsFed}, declared.store.BodyState.BodyState}
+use Rattle.hunk_scatter.specs.{BodyLoaderFields.StandsBehind, Streaming.{FitsStore, IsFed}}
 use Rattle.hunk_scatter.specs.declared.stream.Standing.{Standing}
 use Rattle.hunk_scatter.proofs.{BodyFields.{fed_more, gone, in_room}, OneByte.more_pending, WholeLongs.run_taken}
 use Rattle.hunk_c.specs.declared.loader.Loader.{Loader}
-use Rattle.hunk_c.specs.Loaders.{MayHavePosition, Stands, StandsAt, loader_at, open_hunk, pending_in, phase_in, refusal_in, standing_in, unrefused, unused, with_numbers}
-use Rattle.hunk_c.specs.Streams.{PassesOver, TakesPiece}
+use Rattle.hunk_c.specs.Loaders.{MayHavePosition, Stands, StandsAt, loader_at, open_hunk, pending_in, phase_in, refusal_in, unused, with_numbers}
+use Rattle.hunk_c.specs.Streams.{PassesOver}
 use Rattle.hunk_c.proofs.Streamed.{stands_at, stands_so}
 
 -- with more bytes, and these of the next longword

@@ -1,5 +1,5 @@
 -- The numbers of a loader that a C program keeps: how they say where it stands, and which of them none has.
-use Rattle.std.specs.Prelude.{◌≡◌, ◌⊎◌, ℕ, ◌+◌, ◌-◌, ◌*◌, ◌%◌, ◌^◌, ◌<◌, ◌≤◌, ◌==◌, List, [], ◌∷◌, ◌++◌, if◌then◌else◌, Bool, true, false, not, Option, Some, None, IsTrue, MatchOption}
+use Rattle.std.specs.Prelude.{◌≡◌, ◌⊎◌, ℕ, ◌+◌, ◌-◌, ◌*◌, ◌%◌, ◌^◌, ◌<◌, ◌≤◌, ◌==◌, List, [], ◌∷◌, ◌++◌, if◌then◌else◌, Bool, true, false, Option, Some, None, IsTrue, MatchOption}
 use Rattle.hunk_words.specs.Limits.{content_limit, most_hunks, name_limit}
 use Rattle.hunk_words.specs.Reasons.{number_of}
 use Rattle.hunk_words.specs.declared.fault.Fault.{Fault}

@@ -1,5 +1,5 @@
 //! A loader in numbers, which its caller keeps.
-ghost use Rattle.std.specs.Prelude.{◌≡◌, ◌+◌, ◌≤◌, false, true, ℕ, List, IfErr, IfOk};
+ghost use Rattle.std.specs.Prelude.{◌≡◌, ◌+◌, false, true, ℕ, List, IfErr, IfOk};
 ghost use Rattle.std.specs.Prelude.{MatchOption};
 ghost use Rattle.hunk_words.specs.declared.fault.Fault.{Fault};
 ghost use Rattle.hunk_grammar.specs.declared.position.Position.{Position};
@@ -14,7 +14,7 @@ ghost use Rattle.hunk_c.specs.Loaders.{hunk_of};
 ghost use Rattle.hunk_c.specs.Loaders.{least_file, loader_at, loader_position};
 ghost use Rattle.hunk_c.specs.Loaders.{open_hunk, phase_in};
 ghost use Rattle.hunk_c.specs.Loaders.{phase_numbers, position_numbers, refusing, standing_in};
-ghost use Rattle.hunk_c.specs.Loaders.{unrefused, unused, whole};
+ghost use Rattle.hunk_c.specs.Loaders.{whole};
 
 use crate::answer::{Answer, refused, strange};
 use hunk_files::Row;

@@ -1,15 +1,12 @@
 -- What the readers of HEX and N rest on.
-use Rattle.std.proofs.Common.{◌≡◌, ◌==◌, ◌&&◌, ◌<◌, ◌∙◌, ◌^◌, ℕ, Bool, List, [], ◌∷◌, length, slice_index, cond, true, false, nat_lt, arith, Result, Ok, Err, Some, None, ap, sym, subst, refl, true≢false, eqb-true, ne_eqb, ◌≤◌}
+use Rattle.std.proofs.Common.{◌≡◌, ◌==◌, ◌&&◌, ◌<◌, ◌∙◌, ◌^◌, ℕ, Bool, List, [], ◌∷◌, length, slice_index, true, false, nat_lt, arith, Result, Ok, Err, Some, None, ap, sym, subst, refl}
 use Rattle.std.specs.Result.{result_ok}
 use Rattle.std.specs.Str.Parse.{AllDigits, IsNumeral, ParsesUnsigned, digits_value, without_leading_plus}
 use Rattle.std.specs.Char.{digit_value}
-use Rattle.std.proofs.lemmas.Bool.{lt-ltb, ltb-true, le-ltb}
+use Rattle.std.proofs.lemmas.Bool.{lt-ltb, ltb-true}
 use Rattle.std.proofs.lemmas.Int.Digits.{digits_value-lt}
 use Rattle.clap.proofs.WalkLemmas.{both}
 use Rattle.hunk_command_line.specs.Line.{are_digits, base_spelled, budget_spelled}
-
-not_below : (a b : ℕ) → b ≤ a → nat_lt a b ≡ false
-not_below a b h = le-ltb a b h
 
 no_plus : (bs : List ℕ) → (slice_index bs 0 == 43) ≡ false → without_leading_plus bs ≡ bs
 no_plus bs e = rw e refl
@@ -37,31 +34,6 @@ base_read bs (Err e) plain len parses = go (are_digits 16 bs) refl
     go true t =
         let all = digits_from 16 bs t in
         absurd (parses (subst (λ (ds : List ℕ). IsNumeral 16 ds × (digits_value 16 ds < 2 ^ 32)) (sym (no_plus bs plain)) ((omega arith, all), eight_fit bs len all)))
-
--- a plus is no digit
-plus_is_none : (radix : ℕ) (bs : List ℕ) → radix ≤ 16 → (slice_index bs 0 == 43) ≡ true → are_digits radix bs ≡ false
-plus_is_none radix [] small e = absurd (true≢false (sym e))
-plus_is_none radix (c ∷ cs) small e =
-    let is : c ≡ 43 = eqb-true c 43 e in
-    let value : digit_value c ≡ digit_value 43 = ap digit_value is in
-    rw (not_below (digit_value c) radix (rw value (omega arith))) refl
-
-pub base_plus : (bs : List ℕ) → (slice_index bs 0 == 43) ≡ true → None ≡ base_spelled bs
-base_plus bs e = go (length bs == 8)
-  where
-    go : (b : Bool) → None ≡ cond (b && are_digits 16 bs) (Some (digits_value 16 bs)) None
-    go false = refl
-    go true = rw (plus_is_none 16 bs (omega arith) e) refl
-
-pub base_long : (bs : List ℕ) → ¬ (length bs ≡ 8) → None ≡ base_spelled bs
-base_long bs ne = rw (ne_eqb (length bs) 8 ne) refl
-
-pub budget_plus : (bs : List ℕ) → (slice_index bs 0 == 43) ≡ true → None ≡ budget_spelled bs
-budget_plus bs e = go (nat_lt 0 (length bs)) (nat_lt (digits_value 10 bs) (2 ^ 64))
-  where
-    go : (b c : Bool) → None ≡ cond (b && are_digits 10 bs && c) (Some (digits_value 10 bs)) None
-    go false c = refl
-    go true c = rw (plus_is_none 10 bs (omega arith) e) refl
 
 pub budget_read : {E : Type 0} (bs : List ℕ) (r : Result ℕ E) → (slice_index bs 0 == 43) ≡ false → ParsesUnsigned 64 10 bs r → result_ok r ≡ budget_spelled bs
 budget_read bs (Ok n) plain parses =

@@ -1,8 +1,7 @@
 -- What the hunks of a load file in memory stand for.
-use Rattle.std.proofs.Common.{rules, ◌≡◌, ℕ, zero, suc, ◌+◌, ◌*◌, ◌^◌, ◌<◌, ◌≤◌, List, [], ◌∷◌, ◌++◌, length, map, get_or, set, take, drop, refl, sym, ap, ap₂, subst, ◌∙◌, arith, Some, Option}
-use Rattle.std.specs.{Prelude.slice_get, Option.option_map, List.sum_by}
+use Rattle.std.proofs.Common.{rules, ◌≡◌, ℕ, zero, suc, ◌+◌, ◌<◌, List, [], ◌∷◌, ◌++◌, length, map, get_or, set, take, drop, refl, sym, ap, ap₂, subst, ◌∙◌, arith, Some, Option}
+use Rattle.std.specs.{Prelude.slice_get, Option.option_map}
 use Rattle.std.proofs.lemmas.{Option.{slice_get-map, slice_get_read}, List.{length-map, take_at}}
-use Rattle.hunk_words.specs.Bits.{size_longs}
 use Rattle.hunk_files.specs.{declared.load.hunk.LoadHunk.LoadHunk, LoadFile.{HunkValue, LoadFileValue}}
 use Rattle.hunk_files.specs.{LoadText.table, Strip.{strip_hunk, strip_file}}
 use Rattle.hunk_files.specs.Tables.{row_entry, hunk_of}

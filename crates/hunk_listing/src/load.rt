@@ -1,5 +1,4 @@
 //! The lines of a load file.
-ghost use Rattle.std.specs.Prelude.{◌≡◌};
 ghost use Rattle.hunk_words.specs.Prints.{Prints};
 ghost use Rattle.hunk_files.specs.LoadHunks.{hunk_seen};
 ghost use Rattle.hunk_listing.specs.FileLines.{hunk_lines, load_head, load_listing, rest_line};

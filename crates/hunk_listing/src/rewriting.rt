@@ -1,5 +1,5 @@
 //! The lines on a rewriting.
-ghost use Rattle.std.specs.Prelude.{◌≡◌, ◌++◌};
+ghost use Rattle.std.specs.Prelude.{◌++◌};
 ghost use Rattle.hunk_words.specs.Prints.{Prints};
 ghost use Rattle.hunk_listing.specs.RewritingLines.{left_out_line, wrote_line};
 

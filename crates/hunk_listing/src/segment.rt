@@ -1,5 +1,5 @@
 //! The lines that `relocate` prints of its segments.
-ghost use Rattle.std.specs.Prelude.{◌≡◌, ◌≤◌, length};
+ghost use Rattle.std.specs.Prelude.{◌≤◌, length};
 ghost use Rattle.hunk_words.specs.Prints.{Prints};
 ghost use Rattle.hunk_listing.specs.SegmentLines.{dump_row, segment_lines};
 

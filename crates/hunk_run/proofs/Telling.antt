@@ -1,5 +1,5 @@
 -- What a run lists or rewrites, by what an engine function has written.
-use Rattle.std.proofs.Common.{◌≡◌, ◌<◌, ◌++◌, ◌∙◌, ℕ, Bool, true, false, List, [], Option, Some, None, length, take, inr, refl, ap, sym, subst, arith, append-nil, append_assoc}
+use Rattle.std.proofs.Common.{◌≡◌, ◌++◌, ◌∙◌, ℕ, Bool, true, false, List, [], Option, Some, None, length, take, refl, ap, sym, subst, arith, append-nil, append_assoc}
 use Rattle.std.specs.Prelude.{Ok}
 use Rattle.std.specs.Io.KnownBytes.{Consumes, IsAtEnd}
 use Rattle.std.proofs.lemmas.List.{take_all}
@@ -8,14 +8,12 @@ use Rattle.hunk_words.specs.Longs.{bytes_of}
 use Rattle.hunk_files.specs.LoadText.{text}
 use Rattle.hunk_scatter.specs.declared.loading.Limits.{Limits}
 use Rattle.hunk_commands.specs.Engine.{PutsAll, PutsFirst}
-use Rattle.hunk_commands.specs.Validated.{IsValidated}
 use Rattle.hunk_commands.specs.Output.{Takes}
 use Rattle.hunk_run.specs.OutFile.{OutFile, file_outlet}
 use Rattle.hunk_run.specs.Orders.{RewritesTo}
 use Rattle.hunk_run.specs.Stores.{MadeFile, MakesAtMost, MakesFirst, MakesWhole}
 use Rattle.hunk_commands.specs.Rewritten.{IsRewritten}
 use Rattle.hunk_commands.specs.declared.rewriting.Rewritten.{Rewritten}
-use Rattle.hunk_run.specs.Status.{TellsFindings}
 use Rattle.hunk_run.specs.declared.listing.Listing.{Listing}
 use Rattle.hunk_run.specs.declared.listing.Listing.TheVariants as listings
 use Rattle.hunk_commands.specs.HexText.{SpellsHex}
@@ -26,11 +24,6 @@ use Rattle.hunk_run.specs.Runs.{IsListed, ListsSource, StopsReading}
 -- a text that was put whole
 takes_whole : {W : Type 0} (outlet : W → Outlet) (old new : Writing W) (Is : List ℕ → Type 0) (all : PutsAll outlet Is old new) → Takes outlet old new all.0.text
 takes_whole outlet old new Is all = subst (λ (xs : List ℕ). Takes outlet old new xs) (take_all all.0.puts.count all.0.text (omega (arith, all.0.puts.rose, all.1))) all.0.puts.gone
-
-pub tells_report : {W : Type 0} (outlet : W → Outlet) (old new : Writing W) (count : ℕ) (before after : Supply) (most : ℕ) →
-    0 < count → ReadsInput (λ input. PutsAll outlet (IsValidated count input) old new) before after most → TellsFindings outlet old new 1
-tells_report outlet old new count before after most some all =
-    inr (all.input, all.holds.0.text, refl, (count, some, all.holds.0.is_text), takes_whole outlet old new (IsValidated count all.input) all.holds)
 
 -- an input that was read to its end
 pub lists_source : {W : Type 0} (outlet : W → Outlet) (old new : Writing W) (listing : Listing) (Is : List ℕ → List ℕ → Type 0)

@@ -1,5 +1,5 @@
 //! A runtime and a sink that are made up.
-ghost use Rattle.std.specs.Prelude.{◌≡◌, ◌≤◌, None, length, IsErr};
+ghost use Rattle.std.specs.Prelude.{None, IsErr};
 
 use hunk_words::{Failed, Sink};
 use std::alloc::{Allocator, Global};

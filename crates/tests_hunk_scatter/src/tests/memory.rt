@@ -1,5 +1,5 @@
 //! Loads while growths are refused.
-ghost use Rattle.std.specs.Prelude.{Option, slice_get};
+ghost use Rattle.std.specs.Prelude.{slice_get};
 
 use crate::tests::asserts::{assert_equal, assert_equal_at};
 use crate::tests::headers::{came_back, declared, fed};

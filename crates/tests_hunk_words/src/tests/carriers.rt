@@ -1,5 +1,5 @@
 //! Sources and sinks over readers and writers, and over references to them.
-ghost use Rattle.std.specs.Prelude.{IsErr, None};
+ghost use Rattle.std.specs.Prelude.{None};
 
 use crate::tests::asserts::assert_equal;
 use hunk_words::{Failed, FromRead, FromSlice, FromWrite, LongWriter, Sink, Source, WriteFault};

@@ -1,5 +1,5 @@
 use Rattle.std.proofs.Common.{◌≡◌, ℕ, length, refl, ap, subst, ◌∙◌, arith}
-use Rattle.hunk_scatter.specs.{HeaderBytes.header_bytes, Rows.entries_of}
+use Rattle.hunk_scatter.specs.{Rows.entries_of}
 use Rattle.hunk_c.specs.declared.loader.Loader.{Loader}
 use Rattle.hunk_c.specs.{Answers.done, Streams.{HasBegun, LacksRoom, HasSizes}}
 use Rattle.hunk_c.proofs.{Loaded.same_answer, Streamed.stands_so}

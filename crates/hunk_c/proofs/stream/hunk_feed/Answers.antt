@@ -1,5 +1,4 @@
-use Rattle.std.proofs.Common.{◌≡◌, ◌++◌, length, refl, sym, ap, subst, ◌∙◌, arith, Err}
-use Rattle.hunk_words.specs.declared.fault.Fault.{Fault}
+use Rattle.std.proofs.Common.{◌++◌, length, refl, ap, subst, ◌∙◌, arith, Err}
 use Rattle.hunk_scatter.specs.{Streaming.{FitsStore, StopsAt, StopsForBody, StopsAtLong, UnlessStrange}, declared.stream.Stop.Stop}
 use Rattle.hunk_c.specs.declared.loader.Loader.{Loader}
 use Rattle.hunk_c.specs.Loaders.{StandsAt, TellsAgain, refusing}

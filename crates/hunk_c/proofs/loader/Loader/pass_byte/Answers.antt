@@ -1,4 +1,4 @@
-use Rattle.std.proofs.Common.{◌≡◌, ◌++◌, ◌∷◌, [], ◌<◌, ◌∙◌, ℕ, List, None, Some, length, get_or, ap, refl, sym, subst, arith, length-append}
+use Rattle.std.proofs.Common.{◌≡◌, ◌++◌, ◌∷◌, [], ◌<◌, ℕ, List, None, Some, length, get_or, sym, subst, arith, length-append}
 use Rattle.hunk_words.specs.{Longs.Gathers, PendingBytes.pending_of}
 use Rattle.hunk_words.proofs.PendingLaws.{few_pending}
 use Rattle.hunk_scatter.specs.{Streaming.FitsStore, declared.stream.Standing.Standing}

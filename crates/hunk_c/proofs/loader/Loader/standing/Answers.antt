@@ -1,8 +1,7 @@
-use Rattle.std.proofs.Common.{◌≡◌, ◌∙◌, Option, MatchOption, sym, subst}
+use Rattle.std.proofs.Common.{◌∙◌, Option, MatchOption, sym, subst}
 use Rattle.hunk_grammar.specs.declared.position.Position.{Position}
-use Rattle.hunk_scatter.specs.declared.stream.Standing.{Standing}
 use Rattle.hunk_c.specs.declared.loader.Loader.{Loader}
-use Rattle.hunk_c.specs.Loaders.{IsNoLoader, MayHavePosition, MayHaveStood, TellsRefusal, TellsStrange, loader_at, standing_in, unrefused}
+use Rattle.hunk_c.specs.Loaders.{IsNoLoader, MayHavePosition, MayHaveStood, TellsRefusal, TellsStrange, standing_in}
 use Rattle.hunk_c.proofs.{MayStand.may_stand, Numbers.{may_stand_by, numbers_are, stands_again, stood_at}}
 use Rattle.hunk_c.proofs.loader.Loader.standing.Goals as goal
 
