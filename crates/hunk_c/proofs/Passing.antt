@@ -1,5 +1,5 @@
 -- A loader that passes over a piece.
-use Rattle.std.proofs.Common.{rules, ◌≡◌, ◌+◌, ◌-◌, ◌/◌, ◌%◌, ◌<◌, ◌≤◌, ℕ, zero, suc, false, List, [], ◌∷◌, ◌++◌, length, take, refl, sym, ap, subst, ◌∙◌, arith, length-append, length-take, get_or, Option, None, Some, MatchOption}
+use Rattle.std.proofs.Common.{rules, ◌≡◌, ◌+◌, ◌-◌, ◌/◌, ◌%◌, ◌<◌, ◌≤◌, ℕ, zero, suc, true, false, List, [], ◌∷◌, ◌++◌, length, take, refl, sym, ap, subst, ◌∙◌, arith, length-append, length-take, get_or, Option, None, Some, MatchOption, true≢false}
 use Rattle.std.proofs.lemmas.List.{take_all}
 use Rattle.hunk_words.specs.{Carriers.saturated, Longs.{Gathers, IsBytes}, PendingBytes.pending_of}
 use Rattle.hunk_words.specs.declared.pending.Pending.{Pending}
@@ -72,6 +72,7 @@ module _ (rows : List Row) (total : ℕ) (l : Loader) (at : Standing) (piece : L
         counted = refl;
         inside = omega arith;
         all = λ less. absurd (omega (arith, less));
+        not_early = λ done. absurd (true≢false (sym done ∙ more));
         takes = λ fed h.
             subst (λ (xs : List ℕ). Stands rows (loader_with l (saturated (at.fed + length piece)) pending) memory (fed ++ xs)) (sym (take_all (length piece) piece (omega arith)))
             (stands_so rows _ to memory (fed ++ piece) numbers (fed_bytes memory fed (stands_at rows l memory fed at s h)));
@@ -172,5 +173,6 @@ module _ (rows : List Row) (total : ℕ) (l : Loader) (piece : List ℕ) (s : St
     counted = refl;
     inside = omega arith;
     all = λ less. absurd (omega (arith, less));
+    not_early = λ done. absurd cc;
     takes = λ fed h. stands_so rows (after_payload l (length piece)) to memory (fed ++ take (length piece) piece) payload_is (payload_fed memory fed h);
   }

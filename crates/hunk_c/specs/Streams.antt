@@ -20,7 +20,7 @@ use Rattle.hunk_scatter.specs.declared.stream.Standing.{Standing}
 use Rattle.hunk_c.specs.declared.answer.Answer.{Answer}
 use Rattle.hunk_c.specs.declared.loader.Loader.{Loader}
 use Rattle.hunk_c.specs.Answers.{done, no_room, refused, strange}
-use Rattle.hunk_c.specs.Loaders.{Stands, StandsAt, TellsAgain, loader_at, no_loader, refusing, unused}
+use Rattle.hunk_c.specs.Loaders.{Stands, StandsAt, TellsAgain, least_file, loader_at, no_loader, refusing, unused}
 
 -- ---- the begin
 
@@ -56,6 +56,7 @@ pub record TakesPiece (rows : List Row) (old new : Loader) (memory after piece :
   pub counted : to.fed ≡ saturated (from.fed + count)
   pub inside : count ≤ length piece
   pub all : count < length piece → is_done to.state.position ≡ true
+  pub not_early : is_done to.state.position ≡ true → least_file to.state.hunk ≤ to.fed
   pub takes : (fed : List ℕ) → Stands rows old memory fed → Stands rows new after (fed ++ take count piece)
 
 -- All of it is taken, and the memory stays as it was.

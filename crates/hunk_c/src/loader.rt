@@ -1,7 +1,8 @@
 //! A loader in numbers, which its caller keeps.
-ghost use Rattle.std.specs.Prelude.{◌≡◌, ◌+◌, false, true, ℕ, List, IfErr, IfOk};
+ghost use Rattle.std.specs.Prelude.{◌≡◌, ◌+◌, ◌≤◌, false, true, ℕ, List, IfErr, IfOk};
 ghost use Rattle.std.specs.Prelude.{MatchOption};
 ghost use Rattle.hunk_words.specs.declared.fault.Fault.{Fault};
+ghost use Rattle.hunk_grammar.specs.Positions.{is_done};
 ghost use Rattle.hunk_grammar.specs.declared.position.Position.{Position};
 ghost use Rattle.hunk_grammar.specs.declared.position.Position.TheVariants as positions;
 ghost use Rattle.hunk_files.specs.declared.row.Row.{Row};
@@ -396,8 +397,10 @@ fn least_file(hunks: u32) -> u64
 /// stands so.
 #[inline(always)]
 pub(crate) fn ends_early(at: &Standing) -> bool
-    ensures { result ≡ true
+    ensures nowhere { result ≡ true
         → (rows : List Row) (memory fed : List ℕ) → IsFed rows memory at.now fed → ⊥ }
+    ensures late { result ≡ false → is_done at.now.state.position ≡ true
+        → least_file at.now.state.hunk ≤ at.now.fed }
 {
     match at.state.position {
         Position::Done => at.fed < least_file(at.state.hunk),

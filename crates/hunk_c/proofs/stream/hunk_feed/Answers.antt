@@ -40,6 +40,7 @@ returns-else-ends_early c =
       counted = e.counted;
       inside = e.inside;
       all = e.all;
+      not_early = c.ends_early.ensures.late c.if-ends_early.false;
       takes = λ fed h.
           stands_so _ _ _ _ _ c.of.ensures (e.takes fed (stands_at c.args.rows.now c.args.loader.now c.args.memory.now fed c.in-Ok.at stood h));
     })
@@ -51,7 +52,7 @@ returns-then-ends_early c =
     let stood = subst (λ (l : Loader). StandsAt l c.in-Ok.at) same c.in-Ok.ensures.stands in
     IsStrange
     (λ fed h.
-    c.ends_early.ensures c.if-ends_early.true c.args.rows.now _ _
+    c.ends_early.ensures.nowhere c.if-ends_early.true c.args.rows.now _ _
     (c.in-Ok-take_piece.ensures.takes fed (stands_at c.args.rows.now c.args.loader.now c.args.memory.now fed c.in-Ok.at stood h)))
     same c.strange.ensures
 
