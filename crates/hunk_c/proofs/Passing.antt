@@ -1,5 +1,5 @@
 -- A loader that passes over a piece.
-use Rattle.std.proofs.Common.{rules, ◌≡◌, ◌+◌, ◌-◌, ◌/◌, ◌%◌, ◌<◌, ◌≤◌, ℕ, zero, suc, true, false, List, [], ◌∷◌, ◌++◌, length, take, refl, sym, ap, subst, ◌∙◌, arith, length-append, length-take, get_or, Option, None, Some, MatchOption, true≢false}
+use Rattle.std.proofs.Common.{rules, ◌≡◌, ◌+◌, ◌-◌, ◌/◌, ◌%◌, ◌<◌, ◌≤◌, ℕ, zero, suc, false, List, [], ◌∷◌, ◌++◌, length, take, refl, sym, ap, subst, ◌∙◌, arith, length-append, length-take, get_or, Option, None, Some, MatchOption, true≢false}
 use Rattle.std.proofs.lemmas.List.{take_all}
 use Rattle.hunk_words.specs.{Carriers.saturated, Longs.{Gathers, IsBytes}, PendingBytes.pending_of}
 use Rattle.hunk_words.specs.declared.pending.Pending.{Pending}
