@@ -2,6 +2,7 @@
 //! take their time and fail where they are told to, and memory taken, so that growths are refused.
 #![tactic(auto)]
 
+mod asserts;
 mod changes;
 pub mod examples;
 mod granting;
@@ -10,6 +11,7 @@ pub mod large;
 mod sources;
 mod writers;
 
+pub use crate::asserts::{assert_equal, assert_equal_at};
 pub use crate::changes::{
     CHANGES, Change, before_end, changed, changed_in, ends_within_debug, with_long,
 };

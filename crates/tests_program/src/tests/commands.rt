@@ -1,0 +1,14 @@
+//! Tests of what no clause says.
+mod bytes;
+mod calls;
+mod faults;
+mod hex_text;
+mod large;
+mod listing;
+mod listing_ends;
+mod memory;
+mod pages;
+mod reading;
+mod relocating;
+mod samples;
+mod writing;
