@@ -11,7 +11,6 @@ pub mod large;
 mod sources;
 mod writers;
 
-pub use crate::asserts::{assert_equal, assert_equal_at};
 pub use crate::changes::{
     CHANGES, Change, before_end, changed, changed_in, ends_within_debug, with_long,
 };

@@ -1,13 +1,14 @@
 //! The answers of the suite, and what the loader and the decoder of whole files have to agree in.
 
+mod asserts;
 mod changes;
 mod cuts;
 mod objects;
 mod readings;
 mod whole;
 
+use crate::tests::asserts::assert_equal;
 use std::process::Abort;
-use test_helpers::assert_equal;
 
 /// Sees that a row of the suite has this text, which has two digits for each of the bytes.
 fn expect_text(rt: &impl Abort, row: &str, text: &str, bytes: &[u8]) {

@@ -1,5 +1,6 @@
 //! What no clause says of the libraries.
 
+mod asserts;
 mod blocks;
 mod files;
 mod grammar;

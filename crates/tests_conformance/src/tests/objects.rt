@@ -1,5 +1,6 @@
 //! Each object file, and each front of it that is one, checked and written again.
 
+use crate::tests::asserts::{assert_equal, assert_equal_at};
 use crate::tests::expect_text;
 use hunk_files::{ObjectFile, walk_object};
 use hunk_vectors::{OBJECT_TEXTS, OBJECTS, ObjectVector, ObjectWant, object_bytes};
@@ -7,7 +8,6 @@ use hunk_words::{FromWrite, LongWriter};
 use std::alloc::Global;
 use std::process::Abort;
 use std::test::Fail;
-use test_helpers::{assert_equal, assert_equal_at};
 
 fn answer(alloc: Global, bytes: &[u8]) -> Result<ObjectWant, Fail> {
     match ObjectFile::decode(alloc, bytes) {

@@ -1,5 +1,6 @@
 //! A load by a reader of two pieces, beside the decoder of whole files.
 
+use crate::tests::asserts::assert_equal_at;
 use hunk_files::LoadFile;
 use hunk_scatter::{Image, Limits, Packed, load};
 use hunk_words::{LoadFault, Reason, SizeWord, word_at};
@@ -7,7 +8,7 @@ use std::alloc::{AllocError, Global};
 use std::process::Abort;
 use std::test::Fail;
 use test_helpers::examples::{ONE_HUNK, WITH_ATTRIBUTES};
-use test_helpers::{Fed, assert_equal_at, spelled};
+use test_helpers::{Fed, spelled};
 
 /// The bytes that the suite's loads may declare.
 const BUDGET: u64 = 1_000;

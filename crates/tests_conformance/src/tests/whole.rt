@@ -1,5 +1,6 @@
 //! Each load file whole, and what each is to be answered with.
 
+use crate::tests::asserts::{assert_equal, assert_equal_at};
 use crate::tests::expect_text;
 use crate::tests::readings::agrees;
 use hunk_files::LoadFile;
@@ -7,7 +8,6 @@ use hunk_vectors::{LOAD_TEXTS, VECTORS, Vector, Want, bytes};
 use std::alloc::Global;
 use std::process::Abort;
 use std::test::Fail;
-use test_helpers::{assert_equal, assert_equal_at};
 
 /// What the decoder of whole files answers.
 fn answer(alloc: Global, bytes: &[u8]) -> Want {

@@ -1,9 +1,10 @@
 //! Load files by their longwords, one after the other.
 
+use crate::tests::asserts::assert_equal;
 use hunk_grammar::{Phase, Position, refuse_place};
 use hunk_words::{Kind, Reason, word_at};
 use std::test::Fail;
-use test_helpers::{assert_equal, changed_in, examples, spelled};
+use test_helpers::{changed_in, examples, spelled};
 
 /// Where the longwords lead, or at which byte one is refused first and why. Each hunk declares this
 /// many longs.

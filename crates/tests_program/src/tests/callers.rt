@@ -4,6 +4,7 @@ mod folder;
 mod suite;
 mod tour;
 
+use crate::tests::asserts::assert_equal;
 use hunk_command_line::{Order, OrderFault, order};
 use hunk_examples::{
     Symbol, describe, has_header, list_symbols, load_pieces, load_program, place_in_rom, show_file,
@@ -14,7 +15,7 @@ use hunk_words::{FromWrite, Reason};
 use std::alloc::{AllocError, Global};
 use std::process::Abort;
 use std::test::Fail;
-use test_helpers::{assert_equal, examples, spelled};
+use test_helpers::{examples, spelled};
 
 /// The words of a command line.
 fn words(alloc: Global, line: &[&str]) -> Result<Vec<String>, AllocError> {

@@ -7,6 +7,7 @@ mod old_output;
 mod runs;
 mod stores;
 
+use crate::tests::asserts::assert_equal_at;
 use crate::tests::runs::made::{Given, Kept, Made};
 use hunk_run::{Host, run};
 use hunk_words::LongWriter;
@@ -14,7 +15,6 @@ use std::alloc::Global;
 use std::cell::RefCell;
 use std::process::Abort;
 use std::test::Fail;
-use test_helpers::assert_equal_at;
 
 const ANY: usize = usize::MAX;
 

@@ -1,12 +1,13 @@
 //! How many bytes a block has, or where it is refused and why.
 
+use crate::tests::asserts::assert_equal_at;
 use crate::tests::blocks::{Row, answer, wanted};
 use hunk_blocks::{Mode, walk_block};
 use hunk_words::{BlockFault, Reason};
 use std::alloc::{AllocError, Global};
 use std::process::Abort;
 use std::test::Fail;
-use test_helpers::{assert_equal_at, bytes_of, examples, spelled};
+use test_helpers::{bytes_of, examples, spelled};
 
 /// Sees that each block is answered in this mode as its row says, walked over and decoded.
 fn expect(rt: &impl Abort, alloc: Global, rows: &[Row], mode: Mode) -> Result<(), Fail> {

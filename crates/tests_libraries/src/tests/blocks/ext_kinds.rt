@@ -1,11 +1,12 @@
 //! The types of EXT entries: their numbers, names, shapes and widths.
 
+use crate::tests::asserts::{assert_equal, assert_equal_at};
 use hunk_blocks::{Block, Body, Entries, ExtKind, ExtShape, Mode};
 use hunk_words::BlockFault;
 use std::alloc::{AllocError, Global};
 use std::process::Abort;
 use std::test::Fail;
-use test_helpers::{assert_equal, assert_equal_at, spelled};
+use test_helpers::spelled;
 
 /// Each type with its number, its name, what stands behind the name of an entry, and the width of its
 /// references.

@@ -1,11 +1,12 @@
 //! Each growth of a block's list refused in turn: at the first item, and at the fifth.
 
+use crate::tests::asserts::assert_equal;
 use hunk_blocks::{Block, Mode};
 use hunk_words::{BlockFault, Reason};
 use std::alloc::{AllocError, Global};
 use std::process::Abort;
 use std::test::Fail;
-use test_helpers::{answers_growth_by_growth, assert_equal, memory_ends, spelled};
+use test_helpers::{answers_growth_by_growth, memory_ends, spelled};
 
 /// Five definitions, references and common symbols.
 const ENTRIES: &str = "3EF / 1000001 5F610000 7 / 81000001 5F620000 2 0 4 / 82000000 8 1 0 / \

@@ -1,12 +1,13 @@
 //! Blocks while no growth is granted.
 
+use crate::tests::asserts::assert_equal_at;
 use crate::tests::blocks::{Row, answer, wanted};
 use hunk_blocks::Mode;
 use hunk_words::{BlockFault, Reason};
 use std::alloc::{AllocError, Global};
 use std::process::Abort;
 use std::test::Fail;
-use test_helpers::{all_memory, assert_equal_at, memory_ends, spelled};
+use test_helpers::{all_memory, memory_ends, spelled};
 
 /// What is answered for the block with the first growth refused.
 fn starved(alloc: Global, text: &str, mode: Mode) -> Result<Result<usize, BlockFault>, AllocError> {

@@ -1,10 +1,11 @@
 //! What a block that was read tells.
 
+use crate::tests::asserts::{assert_equal, assert_equal_at};
 use hunk_blocks::{Block, Body, Entries, Entry, Group, Groups, Longs, Mode, Payload, Symbols};
 use std::alloc::{AllocError, Global};
 use std::process::Abort;
 use std::test::Fail;
-use test_helpers::{assert_equal, assert_equal_at, examples, spelled};
+use test_helpers::{examples, spelled};
 
 /// A block word, its flags, the top three bits, and which body stands behind it.
 type Front = (u32, u8, Behind);

@@ -1,6 +1,7 @@
 //! Blocks that are read where they lie: their items, and the bytes at which these begin.
 ghost use Rattle.std.specs.Prelude.{◌≤◌, length};
 
+use crate::tests::asserts::{assert_equal, assert_equal_at};
 use crate::tests::blocks::texts::TEXTS;
 use crate::tests::blocks::writing::written_of;
 use hunk_blocks::{
@@ -11,7 +12,7 @@ use std::alloc::{AllocError, Global};
 use std::process::Abort;
 use std::test::Fail;
 use test_helpers::large::{ENTRIES, GROUPS, MANY, OFFSETS, Run, SYMBOLS, bytes_of_runs};
-use test_helpers::{assert_equal, assert_equal_at, spelled};
+use test_helpers::spelled;
 
 /// What stands before the block in each input: two longwords, of which none is 0.
 const FRONT: &str = "1 1";

@@ -1,12 +1,13 @@
 //! Texts that are written again, whole and to sinks that stop.
 
+use crate::tests::asserts::assert_equal;
 use crate::tests::blocks::texts::TEXTS;
 use hunk_blocks::{Block, Mode};
 use hunk_words::{BlockFault, FromWrite, LongWriter, Reason, WriteFault};
 use std::alloc::Global;
 use std::process::Abort;
 use std::test::Fail;
-use test_helpers::{Narrow, WIDTH, assert_equal, spelled};
+use test_helpers::{Narrow, WIDTH, spelled};
 
 /// Sees that each part of the text is cut short.
 fn expect_cut_short(rt: &impl Abort, alloc: Global, bytes: &[u8]) {

@@ -1,5 +1,6 @@
 //! Each growth of each call refused in turn, on files of several hunks and units.
 
+use crate::tests::asserts::{assert_equal, assert_equal_at};
 use crate::tests::files::{either_file, image, load_file, object_file, overlap, stripped};
 use hunk_files::{HunkFile, ImageFault, LoadFile, ObjectFile};
 use hunk_words::{FileFault, Reason};
@@ -7,8 +8,7 @@ use std::alloc::{AllocError, Global};
 use std::process::Abort;
 use std::test::Fail;
 use test_helpers::{
-    Narrow, all_but, answers_growth_by_growth, assert_equal, assert_equal_at, examples,
-    memory_ends, spelled, wide,
+    Narrow, all_but, answers_growth_by_growth, examples, memory_ends, spelled, wide,
 };
 
 /// `OutOfMemory` at these places, and then no fault.

@@ -1,14 +1,12 @@
 //! The memory of load files, and the offsets whose longs overlap.
 
+use crate::tests::asserts::{assert_equal, assert_equal_at};
 use crate::tests::files::{filled, image, load_file, overlap};
 use hunk_files::ImageFault;
 use std::alloc::{AllocError, Global};
 use std::process::Abort;
 use std::test::Fail;
-use test_helpers::{
-    CHANGES, assert_equal, assert_equal_at, before_end, bytes_of, changed, ends_within_debug,
-    examples, spelled,
-};
+use test_helpers::{CHANGES, before_end, bytes_of, changed, ends_within_debug, examples, spelled};
 
 /// The image at these bases of the load file that the bytes are.
 pub(super) fn image_of(

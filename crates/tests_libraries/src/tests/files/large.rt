@@ -1,5 +1,6 @@
 //! Files with many of each part, and large ones: no call gives up on them.
 
+use crate::tests::asserts::assert_equal;
 use crate::tests::files::hunk_file::{expect, rewritten};
 use crate::tests::files::images::{image_of, overlap_of};
 use crate::tests::files::object_findings::checked;
@@ -12,7 +13,7 @@ use test_helpers::large::{
     HUNKS, LARGE, LOAD_FILE, MANY, OBJECT_FILE, Run, SHORT_OF_64_MIB, STRIPPED_LOAD_FILE,
     STRIPPED_OBJECT_FILE, bytes_of_runs, large_load_file, large_object_file,
 };
-use test_helpers::{assert_equal, bytes_of, spelled};
+use test_helpers::{bytes_of, spelled};
 
 /// Files of many parts, and what stripping leaves of them.
 const FILES: &[(&[&[Run]], &[&[Run]])] = &[

@@ -1,13 +1,12 @@
 //! Each growth of `LoadFile::decode` refused in turn, with the place of the refusal.
 
+use crate::tests::asserts::assert_equal;
 use crate::tests::files::growths::wanted;
 use crate::tests::files::load_fault;
 use std::alloc::Global;
 use std::process::Abort;
 use std::test::Fail;
-use test_helpers::{
-    answers_growth_by_growth, answers_one_by_one, assert_equal, examples, memory_ends, spelled,
-};
+use test_helpers::{answers_growth_by_growth, answers_one_by_one, examples, memory_ends, spelled};
 
 /// Where memory is asked for in `FOUR_HUNKS`: for the first hunk's blocks at the last longword of its first, for groups
 /// and symbols at the offset and the value that end the first of them; for the hunks at the END of the first; and for

@@ -1,5 +1,6 @@
 //! Load files that are read where they lie: the same table, hunks and blocks, and where they begin.
 
+use crate::tests::asserts::{assert_equal, assert_equal_at};
 use crate::tests::files::load_file;
 use hunk_blocks::Block;
 use hunk_files::{BlockViews, LoadFile, LoadView};
@@ -7,7 +8,7 @@ use hunk_words::SizeWord;
 use std::alloc::{AllocError, Global};
 use std::process::Abort;
 use std::test::Fail;
-use test_helpers::{assert_equal, assert_equal_at, bytes_of, examples, spelled};
+use test_helpers::{bytes_of, examples, spelled};
 
 /// The size word of a hunk or the word of a block, and where the blocks of the hunk or the block begin.
 type Seen = (u64, u32);

@@ -1,12 +1,13 @@
 //! Load files while no growth is granted.
 
+use crate::tests::asserts::{assert_equal, assert_equal_at};
 use crate::tests::files::{image, load_file, object_fault, overlap};
 use hunk_files::{ImageFault, LoadFile};
 use hunk_words::{FileFault, Reason};
 use std::alloc::{AllocError, Global};
 use std::process::Abort;
 use std::test::Fail;
-use test_helpers::{all_memory, assert_equal, assert_equal_at, examples, memory_ends, spelled};
+use test_helpers::{all_memory, examples, memory_ends, spelled};
 
 /// How many bytes `LoadFile::decode` consumes.
 fn consumed(alloc: Global, bytes: &[u8]) -> Result<usize, FileFault> {

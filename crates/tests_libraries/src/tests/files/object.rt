@@ -1,11 +1,12 @@
 //! Which object files are read, and where the others are refused and why.
 
+use crate::tests::asserts::{assert_equal, assert_equal_at};
 use hunk_files::ObjectFile;
 use hunk_words::{FileFault, Reason};
 use std::alloc::{AllocError, Global};
 use std::process::Abort;
 use std::test::Fail;
-use test_helpers::{assert_equal, assert_equal_at, bytes_of, examples, spelled};
+use test_helpers::{bytes_of, examples, spelled};
 
 /// How many units, hunks and blocks a file has, or why it is refused.
 type Answer = Result<(usize, usize, usize), FileFault>;

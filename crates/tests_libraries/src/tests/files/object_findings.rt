@@ -1,11 +1,12 @@
 //! What `check` finds.
 
+use crate::tests::asserts::{assert_equal, assert_equal_at};
 use crate::tests::files::object_file;
 use hunk_files::{Finding, FindingKind, Findings};
 use std::alloc::{AllocError, Global};
 use std::process::Abort;
 use std::test::Fail;
-use test_helpers::{assert_equal, assert_equal_at, bytes_of, examples, spelled};
+use test_helpers::{bytes_of, examples, spelled};
 
 /// A finding in the first hunk of the first unit.
 fn found(fault: FindingKind, offset: u32) -> Finding {

@@ -1,13 +1,12 @@
 //! Each growth of `ObjectFile::decode` refused in turn, with the place of the refusal.
 
+use crate::tests::asserts::assert_equal;
 use crate::tests::files::growths::wanted;
 use crate::tests::files::object_fault;
 use std::alloc::Global;
 use std::process::Abort;
 use std::test::Fail;
-use test_helpers::{
-    answers_growth_by_growth, answers_one_by_one, assert_equal, examples, memory_ends, spelled,
-};
+use test_helpers::{answers_growth_by_growth, answers_one_by_one, examples, memory_ends, spelled};
 
 /// Where memory is asked for in `TWO_UNITS`: for each hunk's blocks at its first, for groups, entries and symbols,
 /// for each unit's hunks at the END of its first, and for the units behind the first.

@@ -1,12 +1,13 @@
 //! Every refusal of docs/FORMAT.md at every place of a file of two units, three hunks and an EXT block.
 
+use crate::tests::asserts::assert_equal_at;
 use crate::tests::files::object_fault;
 use hunk_files::ObjectFile;
 use hunk_words::{FileFault, Reason};
 use std::alloc::{AllocError, Global};
 use std::process::Abort;
 use std::test::Fail;
-use test_helpers::{assert_equal_at, changed_in, spelled};
+use test_helpers::{changed_in, spelled};
 
 /// The first unit has two hunks, the second, without a name, one.
 const FILE: &str = "3E7 1 61000000 / \

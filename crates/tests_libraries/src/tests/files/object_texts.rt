@@ -1,5 +1,6 @@
 //! Object files that are written again, whole and stripped.
 
+use crate::tests::asserts::assert_equal;
 use crate::tests::files::object_file;
 use hunk_blocks::Body;
 use hunk_files::ObjectFile;
@@ -7,7 +8,7 @@ use hunk_words::{FromWrite, LongWriter};
 use std::alloc::Global;
 use std::process::Abort;
 use std::test::Fail;
-use test_helpers::{assert_equal, examples, spelled};
+use test_helpers::{examples, spelled};
 
 /// Each text with what is left of it by `strip`.
 pub(super) const TEXTS: &[(&str, &str)] = &[

@@ -1,12 +1,13 @@
 //! Object files that are read where they lie: the same units, hunks and blocks, and where they begin.
 
+use crate::tests::asserts::{assert_equal, assert_equal_at};
 use crate::tests::files::object::units;
 use crate::tests::files::object_texts::TEXTS;
 use hunk_files::{Hunk, HunkView, ObjectFile, ObjectView, Unit, UnitView, UnitViews};
 use std::alloc::{AllocError, Global};
 use std::process::Abort;
 use std::test::Fail;
-use test_helpers::{assert_equal, assert_equal_at, bytes_of, spelled};
+use test_helpers::{bytes_of, spelled};
 
 /// A block word, or what begins with it, and where it stands.
 type Seen = (u64, u32);

@@ -1,11 +1,12 @@
 //! In which part of a file it is refused, by hand, and what the part is shown as.
 
+use crate::tests::asserts::{assert_equal, assert_equal_at};
 use hunk_files::{FileView, Part, part_at};
 use std::alloc::Global;
 use std::process::Abort;
 use std::test::Fail;
 use test_helpers::large::{Run, bytes_of_runs};
-use test_helpers::{assert_equal, assert_equal_at, spelled};
+use test_helpers::spelled;
 
 /// Inputs that are refused: the place, the part, and what it is shown as.
 const REFUSED: &[(&str, u64, Part, &str)] = &[

@@ -1,11 +1,12 @@
 //! What stays of a file without what strip drops: its bytes, in as few ranges as there can be.
 
+use crate::tests::asserts::assert_equal;
 use crate::tests::files::object_texts::TEXTS;
 use hunk_files::{FileView, TakesBytes};
 use std::alloc::Global;
 use std::process::Abort;
 use std::test::Fail;
-use test_helpers::{assert_equal, examples, spelled};
+use test_helpers::{examples, spelled};
 
 /// The bytes that were taken, and how long each range was.
 #[derive(Drop)]

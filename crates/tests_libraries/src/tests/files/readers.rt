@@ -1,12 +1,13 @@
 //! What the readers of a load file tell.
 
+use crate::tests::asserts::{assert_equal, assert_equal_at};
 use crate::tests::files::load_file;
 use hunk_files::{LoadFile, Row, Sniff, sniff};
 use hunk_words::{BlockWord, Memory};
 use std::alloc::{AllocError, Global};
 use std::process::Abort;
 use std::test::Fail;
-use test_helpers::{assert_equal, assert_equal_at, examples, spelled};
+use test_helpers::{examples, spelled};
 
 /// The memory and the bytes that the table has for a hunk, how many blocks it has, and the word of the first.
 type Told = (Memory, u64, usize, Option<BlockWord>);

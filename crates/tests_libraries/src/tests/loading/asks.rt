@@ -2,6 +2,7 @@
 ghost use Rattle.std.specs.Prelude.{◌≡◌, ◌≤◌, None, length};
 ghost use Rattle.hunk_scatter.specs.Placing.{packed_from};
 
+use crate::tests::asserts::{assert_equal, assert_equal_at};
 use crate::tests::loading::headers::fed;
 use crate::tests::loading::loads::START;
 use crate::tests::loading::{load_fault, loaded};
@@ -13,7 +14,7 @@ use std::cell::Cell;
 use std::process::Abort;
 use std::test::Fail;
 use test_helpers::examples::{ENDING_IN_ZEROS, ONE_HUNK, TWO_HUNKS, WITH_A_SYMBOL};
-use test_helpers::{assert_equal, assert_equal_at, bytes_of, spelled};
+use test_helpers::{bytes_of, spelled};
 
 /// Limits that no file of these tests meets.
 const LIMITS: Limits = Limits {

@@ -1,5 +1,6 @@
 //! Loads and loaders of headers while each growth that they ask for is refused in turn.
 
+use crate::tests::asserts::assert_equal_at;
 use crate::tests::loading::headers::fed;
 use crate::tests::loading::loads::START;
 use crate::tests::loading::{AMPLE, loaded};
@@ -7,7 +8,7 @@ use hunk_words::{LoadFault, Reason};
 use std::alloc::Global;
 use std::process::Abort;
 use std::test::Fail;
-use test_helpers::{Fed, Then, answers_growth_by_growth, assert_equal_at, memory_ends, spelled};
+use test_helpers::{Fed, Then, answers_growth_by_growth, memory_ends, spelled};
 
 /// What a load of the bytes comes to, by hunks from 0x21000 on, but for what is wanted of it, an image or a fault:
 /// its fault, or none where it has another image.

@@ -1,5 +1,6 @@
 //! The size of a header, read in place.
 
+use crate::tests::asserts::{assert_equal, assert_equal_at};
 use crate::tests::loading::cut_at;
 use crate::tests::loading::headers::ANSWERS;
 use hunk_scatter::stream::{HeaderSize, NoHeader, header_size};
@@ -7,7 +8,7 @@ use hunk_words::{LoadFault, Reason};
 use std::process::Abort;
 use std::test::Fail;
 use test_helpers::examples::{FIVE_HUNKS, ONE_HUNK, TWO_HUNKS, WITH_ATTRIBUTES};
-use test_helpers::{assert_equal, assert_equal_at, spelled};
+use test_helpers::spelled;
 
 /// From so many longwords on, the least header that begins with them has so many bytes.
 type Least = &'static [(usize, usize)];

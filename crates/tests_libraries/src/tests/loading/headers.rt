@@ -1,5 +1,6 @@
 //! Headers, tables and placing by themselves.
 
+use crate::tests::asserts::{assert_equal, assert_equal_at};
 use hunk_files::Row;
 use hunk_scatter::{BodyLoader, Declared, HeaderLoader, Listed, Packed, Placer, Unplaced};
 use hunk_words::{LoadFault, Memory, Reason};
@@ -10,7 +11,7 @@ use test_helpers::examples::{
     ENDING_IN_ZEROS, LARGEST_HUNK, NO_HUNKS, ONE_HUNK, TOO_MANY_HUNKS, TWO_HUNKS, WITH_ATTRIBUTES,
     WRONG_LAST_HUNK,
 };
-use test_helpers::{assert_equal, assert_equal_at, spelled};
+use test_helpers::spelled;
 
 /// A loader that was fed a header, and what it answered.
 pub(super) fn fed(

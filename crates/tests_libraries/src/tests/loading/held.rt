@@ -1,15 +1,14 @@
 //! What loaders hold, by what the allocator still gives beside them.
 ghost use Rattle.std.specs.Prelude.{None, false};
 
+use crate::tests::asserts::{assert_equal, assert_equal_at};
 use crate::tests::loading::{headers, loaded};
 use hunk_scatter::{BodyLoader, Declared, HeaderLoader, Image, Limits, Packed};
 use hunk_words::{Failed, LoadFault, Reason, Source};
 use std::alloc::{AllocError, Global};
 use std::process::Abort;
 use std::test::Fail;
-use test_helpers::{
-    assert_equal, assert_equal_at, bytes_of, largest_piece, left_beside, memory_ends, spelled,
-};
+use test_helpers::{bytes_of, largest_piece, left_beside, memory_ends, spelled};
 
 /// The hunks of a header of `header`.
 const HUNKS: u32 = 65;

@@ -1,5 +1,6 @@
 //! Files with many hunks and relocations, and large stores: no loader gives up on them.
 
+use crate::tests::asserts::assert_equal;
 use crate::tests::loading::{cut_at, loaded, piece_taken};
 use hunk_files::Row;
 use hunk_scatter::stream::begin;
@@ -11,7 +12,7 @@ use std::test::Fail;
 use test_helpers::large::{
     HUNKS, LARGE, LOAD_FILE, SHORT_OF_16_MIB, SHORT_OF_64_MIB, bytes_of_runs, large_load_file,
 };
-use test_helpers::{Fed, Then, assert_equal, spelled};
+use test_helpers::{Fed, Then, spelled};
 
 const LIMITS: Limits = Limits {
     budget: 1 << 26,

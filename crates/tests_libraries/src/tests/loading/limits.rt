@@ -1,5 +1,6 @@
 //! What a load reads and holds at most.
 
+use crate::tests::asserts::assert_equal;
 use crate::tests::loading::loads::{START, Want, comes};
 use crate::tests::loading::{AMPLE, cut_at, load_fault};
 use hunk_scatter::{Limits, Listed};
@@ -8,7 +9,7 @@ use std::alloc::Global;
 use std::process::Abort;
 use std::test::Fail;
 use test_helpers::examples::{ENDING_IN_ZEROS, ONE_HUNK, TWO_HUNKS};
-use test_helpers::{FailsOnce, Fed, Interrupted, Then, assert_equal, spelled};
+use test_helpers::{FailsOnce, Fed, Interrupted, Then, spelled};
 
 /// Examples 7 and 22: the text and the bytes of its front, the budget and the number of bytes that may be
 /// read, and what comes.

@@ -1,6 +1,7 @@
 //! Loads while growths are refused.
 ghost use Rattle.std.specs.Prelude.{Option, slice_get};
 
+use crate::tests::asserts::{assert_equal, assert_equal_at};
 use crate::tests::loading::headers::{came_back, declared, fed};
 use crate::tests::loading::{AMPLE, load_fault, loaded};
 use hunk_files::Row;
@@ -11,9 +12,7 @@ use std::cell::Cell;
 use std::process::Abort;
 use std::test::Fail;
 use test_helpers::examples::{MOST_HUNKS, TWO_HUNKS};
-use test_helpers::{
-    Fed, Then, all_but, all_memory, assert_equal, assert_equal_at, before_end, memory_ends, spelled,
-};
+use test_helpers::{Fed, Then, all_but, all_memory, before_end, memory_ends, spelled};
 
 /// The bytes of the first growth of a table's rows: room for four of them.
 const ROWS: usize = 48;

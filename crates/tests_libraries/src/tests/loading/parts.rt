@@ -1,5 +1,6 @@
 //! In which part of a file a load refuses it, by hand.
 
+use crate::tests::asserts::assert_equal_at;
 use crate::tests::loading::loads::START;
 use crate::tests::loading::{AMPLE, cut_at};
 use hunk_files::Part;
@@ -9,7 +10,7 @@ use std::alloc::Global;
 use std::process::Abort;
 use std::test::Fail;
 use test_helpers::examples::TWO_HUNKS;
-use test_helpers::{Fed, Then, assert_equal_at, spelled};
+use test_helpers::{Fed, Then, spelled};
 
 /// A place, a reason and a part.
 type Refused = (u64, Reason, Option<Part>);

@@ -1,5 +1,6 @@
 //! A loader in memory that is its caller's: pieces cut at each byte, a refusal, and numbers of no loader.
 
+use crate::tests::asserts::assert_equal;
 use crate::tests::loading::{cut_at, piece_taken};
 use hunk_files::Row;
 use hunk_scatter::stream::{Standing, Stop, begin};
@@ -11,7 +12,7 @@ use test_helpers::examples::{
     ENDING_EARLY, ONE_HUNK, OVERLAPPING, OVERLAPPING_FROM_BEHIND, RELOCATED, RELOCATED_BY_NO_HUNK,
     RELOCATED_PAST_ITS_END, TWO_BASES, TWO_HUNKS, WITH_ATTRIBUTES,
 };
-use test_helpers::{assert_equal, spelled};
+use test_helpers::spelled;
 
 /// The size word, the attributes and the base of each hunk.
 type Table<'a> = &'a [(u32, u32, u32)];

@@ -1,11 +1,12 @@
 //! Sources and sinks over readers and writers, and over references to them.
 ghost use Rattle.std.specs.Prelude.{IsErr, None};
 
+use crate::tests::asserts::assert_equal;
 use hunk_words::{Failed, FromRead, FromSlice, FromWrite, LongWriter, Sink, Source, WriteFault};
 use std::io;
 use std::io::Write;
 use std::test::Fail;
-use test_helpers::{Interrupted, Narrow, assert_equal};
+use test_helpers::{Interrupted, Narrow};
 
 /// A writer and a sink that fail once, or take none once, and then go on.
 #[derive(Drop)]

@@ -1,11 +1,11 @@
 //! Fields of longwords, by values from the table of block types and the examples of size words.
 
+use crate::tests::asserts::assert_equal;
 use hunk_words::{
     Assembler, BlockWord, Class, Failed, Fault, Kind, Memory, Reason, SizeWord, WriteFault, word_at,
 };
 use std::alloc::AllocError;
 use std::test::Fail;
-use test_helpers::assert_equal;
 
 #[test]
 fn size_words(rt: HostRuntime) -> Result<(), Fail> {

@@ -1,10 +1,11 @@
 //! A text that is longer than its page, to writers that stop after each number of bytes.
 ghost use Rattle.std.specs.Prelude.{◌≤◌, None, false};
 
+use crate::tests::asserts::assert_equal;
 use hunk_words::{Failed, FromWrite, LongWriter, PagePrinter, Printer, Sink, WriteFault};
 use std::process::Abort;
 use std::test::Fail;
-use test_helpers::{Narrow, assert_equal};
+use test_helpers::Narrow;
 
 /// Two pages of 8 bytes or one of 16, and three bytes more.
 const TEXT: &[u8] = b"0123456789abcdefghi";

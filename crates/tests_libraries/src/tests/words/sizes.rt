@@ -1,10 +1,10 @@
 //! Pulls and pushes of all sizes, of a reader and a writer that never fail: no size is refused.
 
+use crate::tests::asserts::assert_equal;
 use hunk_words::{Failed, FromRead, FromWrite, Sink, Source};
 use std::io;
 use std::process::Abort;
 use std::test::Fail;
-use test_helpers::assert_equal;
 
 /// A MiB.
 const MOST: usize = 1 << 20;

@@ -1,10 +1,11 @@
 //! Puts to a writer that takes a few bytes at a time and then fails, and to a `Vec`.
 ghost use Rattle.std.specs.Prelude.{◌≤◌};
 
+use crate::tests::asserts::assert_equal;
 use hunk_words::{FromWrite, LongWriter, WriteFault};
 use std::process::Abort;
 use std::test::Fail;
-use test_helpers::{Narrow, assert_equal};
+use test_helpers::Narrow;
 
 /// Three longwords.
 const TEXT: &[u8; 12] = &[0, 0, 3, 0xF3, 0, 0, 0, 0, 0, 0, 0, 1];

@@ -1,10 +1,11 @@
 //! A survey of a folder, with files.
 
+use crate::tests::asserts::assert_equal;
 use hunk_examples::{Collection, survey_folder};
 use std::fs;
 use std::process::Abort;
 use std::test::Fail;
-use test_helpers::{assert_equal, examples, spelled};
+use test_helpers::{examples, spelled};
 
 /// Makes the first folder of `hunk-callers-test-0` and so on that is not there yet.
 fn make_folder(rt: &HostRuntime) -> Result<String, Fail> {

@@ -1,5 +1,6 @@
 //! The conformance suite beside the examples of test_helpers, and its bytes while memory is refused.
 
+use crate::tests::asserts::{assert_equal, assert_equal_at};
 use crate::tests::callers::load_files;
 use hunk_commands::unhex;
 use hunk_vectors::{LOAD_TEXTS, OBJECT_TEXTS, Want, bytes, object_bytes};
@@ -7,8 +8,8 @@ use std::alloc::{AllocError, Global};
 use std::process::Abort;
 use std::test::Fail;
 use test_helpers::{
-    CHANGES, Change, answers_growth_by_growth, assert_equal, assert_equal_at, changed,
-    ends_within_debug, examples, memory_ends, spelled,
+    CHANGES, Change, answers_growth_by_growth, changed, ends_within_debug, examples, memory_ends,
+    spelled,
 };
 
 /// The load files of the suite as the examples spell them, each by its place in `LOAD_TEXTS`; that of example 9 has no

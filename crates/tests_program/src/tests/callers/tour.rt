@@ -1,11 +1,11 @@
 //! A little of each library, on the suite.
 
+use crate::tests::asserts::{assert_equal, assert_equal_at};
 use crate::tests::callers::{load_files, words};
 use hunk_examples::{Seen, tour};
 use hunk_vectors::{Vector, Want};
 use std::alloc::Global;
 use std::test::Fail;
-use test_helpers::{assert_equal, assert_equal_at};
 
 /// What a tour has seen of the load file that the text spells, by a command line of these words.
 fn toured(alloc: Global, line: &[&str], text: &str) -> anyhow::Result<Seen> {

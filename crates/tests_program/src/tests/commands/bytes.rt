@@ -1,6 +1,7 @@
 //! The commands over bytes in hand.
 ghost use Rattle.std.specs.Prelude.{◌≡◌};
 
+use crate::tests::asserts::assert_equal;
 use crate::tests::commands::calls::{
     CASES, Call, Outcome, expect_outcome, input_and_output, roomy,
 };
@@ -9,7 +10,7 @@ use hunk_commands::{Rewritten, RunFault, rewrite_bytes, show_bytes, validate_byt
 use hunk_words::{Fault, FromWrite, LongWriter};
 use std::process::Abort;
 use std::test::Fail;
-use test_helpers::{Narrow, assert_equal, examples, spelled, wide};
+use test_helpers::{Narrow, examples, spelled, wide};
 
 /// The fault of a call on these bytes.
 fn fault_of(call: Call, bytes: &[u8], out: &mut LongWriter<FromWrite<Narrow>>) -> Option<RunFault>

@@ -1,6 +1,7 @@
 //! The commands on files of both kinds, by any source and to a writer that may fail.
 ghost use Rattle.std.specs.Prelude.{◌≡◌};
 
+use crate::tests::asserts::assert_equal;
 use crate::tests::commands::relocating::{BASE, LIMITS};
 use hunk_commands::{RunFault, relocate, rewrite, show, validate};
 use hunk_scatter::Limits;
@@ -8,7 +9,7 @@ use hunk_words::{FromSlice, FromWrite, LongWriter, Sink, Source};
 use std::alloc::{AllocError, Global};
 use std::io::Write;
 use std::process::Abort;
-use test_helpers::{Narrow, WIDTH, assert_equal, examples, spelled};
+use test_helpers::{Narrow, WIDTH, examples, spelled};
 
 /// More than any of the files has.
 pub(super) const LIMIT: u64 = 100_000;

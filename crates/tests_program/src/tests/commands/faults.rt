@@ -1,11 +1,11 @@
 //! The lines and statuses of faults.
+use crate::tests::asserts::{assert_equal, assert_equal_at};
 use hunk_commands::RunFault;
 use hunk_files::Part;
 use hunk_words::{Fault, Reason};
 use std::alloc::{AllocError, Global};
 use std::process::Abort;
 use std::test::Fail;
-use test_helpers::{assert_equal, assert_equal_at};
 
 /// The places and reasons of refusals, and their lines.
 const REFUSALS: &[(u64, Reason, &str)] = &[

@@ -1,12 +1,11 @@
 //! Which bytes a hexadecimal text spells.
+use crate::tests::asserts::{assert_equal, assert_equal_at};
 use hunk_commands::{RunFault, read_hex, unhex};
 use hunk_words::{Fault, Reason};
 use std::alloc::Global;
 use std::process::Abort;
 use std::test::Fail;
-use test_helpers::{
-    Fed, Then, answers_growth_by_growth, assert_equal, assert_equal_at, memory_ends,
-};
+use test_helpers::{Fed, Then, answers_growth_by_growth, memory_ends};
 
 /// Texts, and the bytes that they spell.
 const SPELLED: &[(&str, &[u8])] = &[

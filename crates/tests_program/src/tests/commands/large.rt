@@ -1,5 +1,6 @@
 //! The commands on files with many of each part, and on large ones: none gives up.
 
+use crate::tests::asserts::assert_equal_at;
 use crate::tests::commands::calls::{Call, called};
 use crate::tests::commands::relocating::BASE;
 use hunk_scatter::Limits;
@@ -12,7 +13,7 @@ use test_helpers::large::{
     HUNKS, LARGE, LOAD_FILE, OBJECT_FILE, Run, SHORT_OF_16_MIB, STRIPPED_LOAD_FILE,
     STRIPPED_OBJECT_FILE, bytes_of_runs, large_load_file, large_object_file,
 };
-use test_helpers::{assert_equal_at, spelled};
+use test_helpers::spelled;
 
 /// The limits of the program.
 const LIMITS: Limits = Limits {

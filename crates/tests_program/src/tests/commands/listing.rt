@@ -1,5 +1,6 @@
 //! What `show`, `validate` and `rewrite` make of the sample files.
 
+use crate::tests::asserts::assert_equal_at;
 use crate::tests::commands::calls::{Call, LIMIT, expect_outcome, made_of, roomy};
 use crate::tests::commands::samples::{AGAIN, Again, BAD, CHECKED, SHOWN, input};
 use hunk_commands::{Rewritten, RunFault, rewrite, validate};
@@ -8,7 +9,7 @@ use hunk_words::{Fault, FromSlice, Reason};
 use std::alloc::Global;
 use std::process::Abort;
 use std::test::Fail;
-use test_helpers::{CHANGES, assert_equal_at, changed, spelled, wide};
+use test_helpers::{CHANGES, changed, spelled, wide};
 
 /// Sees that the call is done with the bytes of this sample, and writes just the output.
 fn expect_done(

@@ -1,12 +1,13 @@
 //! The commands over input that is longer than they may read.
 
+use crate::tests::asserts::{assert_equal, assert_equal_at};
 use crate::tests::commands::calls::{Call, LIMIT, Outcome, expect_outcome, made_within, roomy};
 use hunk_commands::RunFault;
 use hunk_words::{Fault, Reason};
 use std::alloc::{AllocError, Global};
 use std::process::Abort;
 use std::test::Fail;
-use test_helpers::{Fed, Then, assert_equal, assert_equal_at, before_end, examples, spelled};
+use test_helpers::{Fed, Then, before_end, examples, spelled};
 
 /// Those that look for the end of the input, and those that end with the file.
 const WHOLE: &[Call] = &[Call::Show, Call::Validate, Call::Rewrite, Call::Strip];

@@ -1,13 +1,12 @@
 //! The engine functions with each of their growths refused in turn.
 
+use crate::tests::asserts::{assert_equal, assert_equal_at};
 use crate::tests::commands::calls::{Call, Case, Outcome, input_and_output, made_of, roomy};
 use hunk_commands::RunFault;
 use std::alloc::Global;
 use std::process::Abort;
 use std::test::Fail;
-use test_helpers::{
-    answers_growth_by_growth, assert_equal, assert_equal_at, examples, memory_ends,
-};
+use test_helpers::{answers_growth_by_growth, examples, memory_ends};
 
 const SHOWS: &[Case] = &[
     Case {

@@ -1,5 +1,6 @@
 //! A listing of more than a page, to writers that stop where its pages end.
 
+use crate::tests::asserts::assert_equal;
 use hunk_commands::{RunFault, show};
 use hunk_words::{FromSlice, FromWrite, LongWriter};
 use std::alloc::{AllocError, Global};
@@ -7,7 +8,7 @@ use std::io;
 use std::io::Write;
 use std::process::Abort;
 use std::test::Fail;
-use test_helpers::{assert_equal, bytes_of};
+use test_helpers::bytes_of;
 
 /// Takes all, and keeps how much was first written at once, and in how many writes all was.
 #[derive(Drop)]

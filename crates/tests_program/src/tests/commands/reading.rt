@@ -1,5 +1,6 @@
 //! Sources that fail at each read in turn, and then would go on.
 
+use crate::tests::asserts::assert_equal;
 use crate::tests::commands::calls::{
     CASES, Call, Outcome, expect_outcome, input_and_output, made, roomy,
 };
@@ -8,7 +9,7 @@ use hunk_words::FromRead;
 use std::alloc::Global;
 use std::process::Abort;
 use std::test::Fail;
-use test_helpers::{FailsOnce, Interrupted, assert_equal};
+use test_helpers::{FailsOnce, Interrupted};
 
 /// Sees that the call failed reading after this many bytes, and wrote nothing.
 fn expect_unread(rt: &impl Abort, got: &Outcome, place: usize) {

@@ -1,5 +1,6 @@
 //! What `relocate` prints and refuses, by the examples.
 
+use crate::tests::asserts::assert_equal;
 use crate::tests::commands::calls::{Outcome, expect_outcome, roomy};
 use hunk_commands::{RunFault, relocate};
 use hunk_files::Part;
@@ -8,7 +9,7 @@ use hunk_words::{Fault, FromRead, FromSlice, FromWrite, LongWriter, Reason, Sour
 use std::alloc::Global;
 use std::process::Abort;
 use std::test::Fail;
-use test_helpers::{CHANGES, Fed, Narrow, Then, WIDTH, assert_equal, changed, examples, spelled};
+use test_helpers::{CHANGES, Fed, Narrow, Then, WIDTH, changed, examples, spelled};
 
 /// What `relocate` prints of example 1 at `BASE`.
 const PRINTED: &str = "hunk 0 base 0x00021000 4 bytes\n  4e754e71\n";

@@ -1,11 +1,12 @@
 //! Writers that take this many bytes, and then fail or take none.
 
+use crate::tests::asserts::assert_equal;
 use crate::tests::commands::calls::{CASES, Call, Case, expect_outcome, input_and_output, made_of};
 use hunk_commands::RunFault;
 use std::alloc::{AllocError, Global};
 use std::process::Abort;
 use std::test::Fail;
-use test_helpers::{Narrow, assert_equal};
+use test_helpers::Narrow;
 
 /// Sees that just the first `room` bytes of the output go to a writer that takes no more, and at most
 /// `step` at a time.

@@ -1,10 +1,11 @@
 //! Which files are read and written, and what is printed of them.
+use crate::tests::asserts::assert_equal_at;
 use crate::tests::runs::made::Given;
 use crate::tests::runs::{ANY, At, OTHER, Row, expect, expect_of, ran};
 use std::alloc::Global;
 use std::process::Abort;
 use std::test::Fail;
-use test_helpers::{assert_equal_at, examples, spelled};
+use test_helpers::{examples, spelled};
 
 const LISTING: &str = "load file 1 hunks 4 bytes\nhunk 0 4 bytes any\n  CODE 4 bytes\n  END\n";
 

@@ -1,4 +1,5 @@
 //! What runs say on standard error.
+use crate::tests::asserts::assert_equal_at;
 use crate::tests::runs::made::Given;
 use crate::tests::runs::{ANY, OTHER, ran};
 use hunk_commands::RunFault;
@@ -7,7 +8,7 @@ use std::alloc::Global;
 use std::io;
 use std::process::Abort;
 use std::test::Fail;
-use test_helpers::{assert_equal_at, examples, spelled};
+use test_helpers::{examples, spelled};
 
 /// What stands in the file `a`, the words, the bytes that standard output takes, and what is said.
 type Row = (&'static [u8], &'static str, usize, &'static str);

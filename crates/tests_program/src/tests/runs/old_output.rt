@@ -1,11 +1,12 @@
 //! What becomes of an OUT that is there, with files.
 
+use crate::tests::asserts::assert_equal;
 use hunk_run::{Host, run};
 use hunk_words::{FromWrite, LongWriter};
 use std::fs;
 use std::process::Abort;
 use std::test::Fail;
-use test_helpers::{assert_equal, examples, spelled};
+use test_helpers::{examples, spelled};
 
 const OLD: &[u8] = b"an old file that is longer than the one that takes its place";
 

@@ -1,10 +1,11 @@
 //! What runs print, and the statuses that they end with.
+use crate::tests::asserts::assert_equal_at;
 use crate::tests::runs::made::Given;
 use crate::tests::runs::{ANY, At, OTHER, Row, expect, expect_of, ran};
 use std::alloc::Global;
 use std::process::Abort;
 use std::test::Fail;
-use test_helpers::{assert_equal_at, examples, spelled};
+use test_helpers::{examples, spelled};
 
 const ONE_HUNK_AT_0: &str = "hunk 0 base 0x00000000 4 bytes\n  4e754e71\n";
 

@@ -1,4 +1,5 @@
 //! Each command over files in memory: which of them it reads, and which it makes.
+use crate::tests::asserts::assert_equal_at;
 use crate::tests::runs::made::Kept;
 use crate::tests::runs::memory_store::{Held, MemoryStore};
 use crate::tests::runs::{ANY, OTHER};
@@ -7,7 +8,7 @@ use hunk_words::LongWriter;
 use std::alloc::Global;
 use std::process::Abort;
 use std::test::Fail;
-use test_helpers::{assert_equal_at, examples, spelled};
+use test_helpers::{examples, spelled};
 
 /// What came of a run.
 #[derive(Drop)]
