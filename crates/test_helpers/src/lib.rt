@@ -2,7 +2,6 @@
 //! take their time and fail where they are told to, and memory taken, so that growths are refused.
 #![tactic(auto)]
 
-mod asserts;
 mod changes;
 pub mod examples;
 mod granting;

@@ -1,7 +1,7 @@
-//! What no clause says: generic types at concrete ones, and a sink that stops.
+//! Longwords and their fields, texts of faults, and what bytes come from and go to.
 
 mod carriers;
+mod faults;
 mod fields;
 mod printing;
 mod sizes;
-mod writing;

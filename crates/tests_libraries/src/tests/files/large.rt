@@ -1,11 +1,10 @@
 //! Files with many of each part, and large ones: no call gives up on them.
 
 use crate::tests::asserts::assert_equal;
-use crate::tests::files::hunk_file::{expect, rewritten};
-use crate::tests::files::images::{image_of, overlap_of};
-use crate::tests::files::object_findings::checked;
-use crate::tests::files::object_refusals::units_in;
-use crate::tests::files::{answers, filled};
+use crate::tests::files::texts::{expect, of_either};
+use crate::tests::load_files::images::{self, image_of, overlap_of};
+use crate::tests::object_files::findings::checked;
+use crate::tests::{load_files, object_files};
 use std::alloc::{AllocError, Global};
 use std::process::Abort;
 use std::test::Fail;
@@ -26,8 +25,7 @@ fn many_parts_again(rt: HostRuntime) -> Result<(), Fail> {
     let alloc = rt.alloc();
     for (whole, left) in FILES {
         let bytes = bytes_of_runs(alloc, whole)?;
-        expect(&rt, alloc, (&bytes, false), &bytes, 0);
-        expect(&rt, alloc, (&bytes, true), &bytes_of_runs(alloc, left)?, 0);
+        expect(&rt, alloc, &bytes, (&bytes, &bytes_of_runs(alloc, left)?))?;
     }
     Ok(())
 }
@@ -44,48 +42,35 @@ fn image_of_many(alloc: Global) -> Result<Vec<u8>, AllocError> {
     Ok(image)
 }
 
-/// Sees that the load file has this image with the base 1 of each of as many hunks, and that a view
-/// of it writes the same.
-fn expect_image(
-    rt: &impl Abort,
-    alloc: Global,
-    (bytes, count): (&[u8], usize),
-    want: &[u8],
-) -> Result<(), AllocError> {
-    let bases = vec![in alloc; 1u32; count]?;
-    let image = image_of(rt, alloc, bytes, &bases).expect(rt, "no image");
-    assert!(rt; image.as_slice() == want);
-    let memory = filled(rt, alloc, bytes, &bases)?;
-    assert!(rt; memory.as_slice() == want);
-    Ok(())
-}
-
 /// Many offsets are looked at for an overlap, of which there is none, and many bases are added.
 #[test]
 fn many_relocations(rt: HostRuntime) -> Result<(), Fail> {
     let alloc = rt.alloc();
     let bytes = bytes_of_runs(alloc, LOAD_FILE)?;
     let counts = (HUNKS, SIZE as u64, bytes.len());
-    answers::expect(&rt, alloc, &bytes, Ok(counts));
+    load_files::answers::expect(&rt, alloc, &bytes, Ok(counts));
     assert_equal(&rt, overlap_of(&rt, alloc, &bytes)?, None);
-    expect_image(&rt, alloc, (&bytes, HUNKS as usize), &image_of_many(alloc)?)?;
+    let bases = vec![in alloc; 1u32; HUNKS as usize]?;
+    images::expect(&rt, alloc, &bytes, &bases, &image_of_many(alloc)?)?;
     Ok(())
 }
 
+/// Each hunk has a content and END, the first many blocks, two of relocations, one of symbols and one of external
+/// symbols.
 #[test]
 fn many_findings(rt: HostRuntime) -> Result<(), Fail> {
-    let alloc = rt.alloc();
+    let (alloc, many) = (rt.alloc(), MANY as usize);
     let bytes = bytes_of_runs(alloc, OBJECT_FILE)?;
-    assert_equal(&rt, units_in(alloc, &bytes), Ok(MANY as usize));
-    assert_equal(&rt, checked(&rt, alloc, &bytes).len(), MANY as usize);
+    let counts = (many, many, 3 * many + 4);
+    object_files::answers::expect(&rt, alloc, &bytes, Ok(counts));
+    assert_equal(&rt, checked(&rt, alloc, &bytes).len(), many);
     Ok(())
 }
 
 /// Sees that the file that the bytes are is written in as many bytes, stripped too: none of it can
 /// be left out.
 fn expect_length(rt: &impl Abort, alloc: Global, bytes: &[u8]) {
-    let (again, _) = rewritten(rt, alloc, bytes, true);
-    assert_equal(rt, again.len(), bytes.len());
+    assert_equal(rt, of_either(rt, alloc, bytes, true).len(), bytes.len());
 }
 
 #[test]

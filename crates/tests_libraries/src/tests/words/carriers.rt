@@ -156,6 +156,34 @@ fn pushes(rt: HostRuntime) -> Result<(), Fail> {
     Ok(())
 }
 
+/// Longwords and bytes to a list; then to a writer that takes three bytes, where each later put is answered as the one
+/// that failed.
+#[test]
+fn puts(rt: HostRuntime) -> Result<(), Fail> {
+    let mut out = LongWriter::new(FromWrite::new(Vec::<u8>::new(rt.alloc())));
+    assert_equal(
+        &rt,
+        (out.put_long(0x3E9), out.put_bytes(b"xy")),
+        (Ok(()), Ok(())),
+    );
+    assert_equal(&rt, out.written(), 6);
+    let bytes = out.into_inner().into_inner();
+    assert_equal(&rt, bytes.as_slice(), [0, 0, 3, 0xE9, 120, 121].as_slice());
+    let mut out = LongWriter::new(FromWrite::new(Narrow::new(3, 2, false)));
+    let fault = Err(WriteFault { written: 3 });
+    assert_equal(
+        &rt,
+        (out.put_long(0x3E9), out.put_bytes(b"x")),
+        (fault, fault),
+    );
+    assert_equal(
+        &rt,
+        out.into_inner().into_inner().taken(),
+        [0, 0, 3].as_slice(),
+    );
+    Ok(())
+}
+
 #[test]
 fn every_error_is_failed(rt: HostRuntime) -> Result<(), Fail> {
     let mut buf = [0u8; 3];

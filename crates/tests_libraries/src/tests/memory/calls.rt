@@ -1,7 +1,7 @@
 //! Each growth of each call refused in turn, on files of several hunks and units.
 
 use crate::tests::asserts::{assert_equal, assert_equal_at};
-use crate::tests::files::{either_file, image, load_file, object_file, overlap, stripped};
+use crate::tests::decoding::{either_file, image, load_file, object_file, overlap, stripped};
 use hunk_files::{HunkFile, ImageFault, LoadFile, ObjectFile};
 use hunk_words::{FileFault, Reason};
 use std::alloc::{AllocError, Global};

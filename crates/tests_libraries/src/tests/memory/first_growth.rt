@@ -1,7 +1,7 @@
 //! Load files while no growth is granted.
 
 use crate::tests::asserts::{assert_equal, assert_equal_at};
-use crate::tests::files::{image, load_file, object_fault, overlap};
+use crate::tests::decoding::{image, load_file, object_fault, overlap};
 use hunk_files::{ImageFault, LoadFile};
 use hunk_words::{FileFault, Reason};
 use std::alloc::{AllocError, Global};

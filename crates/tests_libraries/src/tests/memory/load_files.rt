@@ -1,8 +1,8 @@
 //! Each growth of `LoadFile::decode` refused in turn, with the place of the refusal.
 
 use crate::tests::asserts::assert_equal;
-use crate::tests::files::growths::wanted;
-use crate::tests::files::load_fault;
+use crate::tests::decoding::load_fault;
+use crate::tests::memory::calls::wanted;
 use std::alloc::Global;
 use std::process::Abort;
 use std::test::Fail;
