@@ -7,51 +7,18 @@ use hunk_scatter::stream::{HeaderSize, NoHeader, header_size};
 use hunk_words::{LoadFault, Reason};
 use std::process::Abort;
 use std::test::Fail;
-use test_helpers::examples::{FIVE_HUNKS, ONE_HUNK, TWO_HUNKS, WITH_ATTRIBUTES};
+use test_helpers::examples::{FIVE_HUNKS, ONE_HUNK, WITH_ATTRIBUTES};
 use test_helpers::spelled;
 
 /// From so many longwords on, the least header that begins with them has so many bytes.
 type Least = &'static [(usize, usize)];
 
-/// Files, the size of their headers, and of the least that begin so. The last hunk of each has bytes,
-/// and no attributes.
-const SIZES: &[(&str, HeaderSize, Least)] = &[
-    (
-        ONE_HUNK,
-        HeaderSize {
-            hunks: 1,
-            bytes: 24,
-            declared: 4,
-        },
-        &[(0, 24)],
-    ),
-    (
-        TWO_HUNKS,
-        HeaderSize {
-            hunks: 2,
-            bytes: 28,
-            declared: 12,
-        },
-        &[(0, 24), (3, 28)],
-    ),
-    (
-        WITH_ATTRIBUTES,
-        HeaderSize {
-            hunks: 2,
-            bytes: 32,
-            declared: 12,
-        },
-        &[(0, 24), (3, 28), (6, 32)],
-    ),
-    (
-        FIVE_HUNKS,
-        HeaderSize {
-            hunks: 5,
-            bytes: 44,
-            declared: 16,
-        },
-        &[(0, 24), (3, 40), (7, 44)],
-    ),
+/// Files, the number of their hunks, the bytes of their headers and those that they declare, and of the least that
+/// begin so. The last hunk of each has bytes, and no attributes.
+const SIZES: &[(&str, (u32, u64, u64), Least)] = &[
+    (ONE_HUNK, (1, 24, 4), &[(0, 24)]),
+    (WITH_ATTRIBUTES, (2, 32, 12), &[(0, 24), (3, 28), (6, 32)]),
+    (FIVE_HUNKS, (5, 44, 16), &[(0, 24), (3, 40), (7, 44)]),
 ];
 
 /// How many bytes the least header has that begins with so many.
@@ -99,9 +66,14 @@ fn expect_size(rt: &impl Abort, file: &[u8], want: HeaderSize, least: Least) {
 
 #[test]
 fn sizes(rt: HostRuntime) -> Result<(), Fail> {
-    for (text, want, least) in SIZES {
+    for (text, (hunks, bytes, declared), least) in SIZES {
         let file = spelled(rt.alloc(), text)?;
-        expect_size(&rt, file.as_slice(), *want, *least);
+        let want = HeaderSize {
+            hunks: *hunks,
+            bytes: *bytes,
+            declared: *declared,
+        };
+        expect_size(&rt, file.as_slice(), want, *least);
     }
     Ok(())
 }

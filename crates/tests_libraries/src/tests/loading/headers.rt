@@ -2,7 +2,7 @@
 
 use crate::tests::asserts::{assert_equal, assert_equal_at};
 use hunk_files::Row;
-use hunk_scatter::{BodyLoader, Declared, HeaderLoader, Listed, Packed, Placer, Unplaced};
+use hunk_scatter::{BodyLoader, Declared, HeaderLoader, Listed, Packed, Unplaced};
 use hunk_words::{LoadFault, Memory, Reason};
 use std::alloc::Global;
 use std::process::Abort;
@@ -54,122 +54,6 @@ pub(super) fn declared(
         Ok(declared) => Ok(declared),
         Err(_) => panic!(rt; "no table"),
     }
-}
-
-/// The number of hunks and the bytes that they declare, or why the header is refused, where a first
-/// piece of it has this many bytes, and each further one this many at most.
-fn in_pieces(
-    rt: &impl Abort,
-    alloc: Global,
-    bytes: &[u8],
-    budget: u64,
-    first: usize,
-    most: usize,
-) -> Result<(u32, u64), (u64, Reason)> {
-    let mut loader = HeaderLoader::new(alloc, budget);
-    let mut rest = bytes;
-    let mut size = first;
-    for _ in 0..bytes.len() {
-        let (piece, behind) = rest.split_at(size.min(rest.len()));
-        if let Err(fault) = loader.feed(piece) {
-            return Err((fault.place, fault.reason));
-        }
-        rest = behind;
-        size = most;
-    }
-    match loader.declared() {
-        Ok(declared) => Ok((declared.hunks(), declared.total())),
-        Err(_) => panic!(rt; "not whole"),
-    }
-}
-
-const IN_PIECES: &[(&str, u64, Result<(u32, u64), (u64, Reason)>)] = &[
-    (WITH_ATTRIBUTES, 1_000, Ok((2, 12))),
-    (ENDING_IN_ZEROS, 20, Ok((2, 20))),
-    (ENDING_IN_ZEROS, 19, Err((24, Reason::Budget))),
-    ("3F3 0 2 0 0 1 1", 1_000, Err((16, Reason::LastHunk))),
-];
-
-/// The bytes cut at each byte and in pieces of 1, 3 and 256 bytes: the same comes as of one piece.
-fn expect_in_pieces(
-    rt: &impl Abort,
-    alloc: Global,
-    bytes: &[u8],
-    budget: u64,
-    want: &Result<(u32, u64), (u64, Reason)>,
-) {
-    for most in [1, 3, 256] {
-        let got = in_pieces(rt, alloc, bytes, budget, most, most);
-        assert_equal_at(rt, got, *want, most);
-    }
-    for cut in 1..bytes.len() {
-        let got = in_pieces(rt, alloc, bytes, budget, cut, 256);
-        assert_equal_at(rt, got, *want, cut);
-    }
-}
-
-/// Examples 7 and 8, and the header of example 16 with rows after it.
-#[test]
-fn headers_in_pieces(rt: HostRuntime) -> Result<(), Fail> {
-    for (text, budget, want) in IN_PIECES {
-        let bytes = spelled(rt.alloc(), text)?;
-        expect_in_pieces(&rt, rt.alloc(), bytes.as_slice(), *budget, want);
-    }
-    Ok(())
-}
-
-const WANTS: &[usize] = &[
-    24, 23, 22, 21, 20, 19, 18, 17, 16, 15, 14, 13, // 3F3 0 3
-    20, 19, 18, 17, 16, 15, 14, 13, // 0 2
-    12, 11, 10, 9, // 1
-    8, 7, 6, 5, 8, 7, 6, 5, // C0000002 10004
-    4, 3, 2, 1, // 1
-];
-
-/// Feeds the bytes one by one, and sees what is wanted before each.
-fn expect_wants(rt: &impl Abort, loader: &mut HeaderLoader, bytes: &[u8], wants: &[usize]) {
-    assert_equal(rt, bytes.len(), wants.len());
-    for (byte, want) in bytes.iter().zip(wants) {
-        assert_equal(rt, loader.want(), *want);
-        assert_equal(rt, loader.feed(&[*byte]), Ok(1));
-    }
-}
-
-/// Three hunks, the second with attributes, byte by byte: until their number is known the shortest header
-/// has six longwords, and then each row that is owed has one. What follows the header is not taken.
-#[test]
-fn wants_what_rows_still_have(rt: HostRuntime) -> Result<(), Fail> {
-    let bytes = spelled(rt.alloc(), "3F3 0 3 0 2 1 C0000002 10004 1")?;
-    let mut loader = HeaderLoader::new(rt.alloc(), 1_000);
-    expect_wants(&rt, &mut loader, bytes.as_slice(), WANTS);
-    assert_equal(&rt, loader.want(), 0);
-    assert_equal(&rt, loader.feed(b"follows"), Ok(0));
-    assert!(rt; loader.declared().is_ok());
-    Ok(())
-}
-
-/// What is wanted after each piece of a header of 65 hunks.
-const OF_65_HUNKS: &[(&str, usize)] = &[
-    ("3F3 0", 16),
-    ("41", 256),
-    ("0 40", 256),
-    ("1", 256),
-    ("1", 252),
-    ("1 1 1", 240),
-];
-
-/// No more than 256 bytes are wanted, until 64 rows are owed.
-#[test]
-fn wants_at_most_a_buffer(rt: HostRuntime) -> Result<(), Fail> {
-    let mut loader = HeaderLoader::new(rt.alloc(), 1_000);
-    for (text, want) in OF_65_HUNKS {
-        let piece = spelled(rt.alloc(), text)?;
-        assert_equal(&rt, loader.feed(piece.as_slice()), Ok(piece.len()));
-        assert_equal_at(&rt, loader.want(), *want, text);
-    }
-    assert_equal(&rt, loader.feed([0].as_slice()), Ok(1));
-    assert_equal(&rt, loader.want(), 239);
-    Ok(())
 }
 
 /// Examples 7, 16 and 17: the bytes that are declared, or the place and the reason.
@@ -241,34 +125,15 @@ fn placing(rt: HostRuntime) -> Result<(), Fail> {
     Ok(())
 }
 
-/// The base of a hunk of a table, where the hunks lie one after another.
-fn packed_base(
-    rt: &impl Abort,
-    declared: &Declared,
-    start: u32,
-    i: u32,
-    before: u64,
-) -> Option<u32> {
-    assert!(rt; i < declared.hunks());
-    Packed { start }.base(i, &declared.row(i), before)
-}
-
 /// Example 28: hunks of 8 and 4 bytes that end at 2^32, and the same with no room for the second.
 #[test]
 fn packing(rt: HostRuntime) -> Result<(), Fail> {
-    let declared = declared(&rt, rt.alloc(), TWO_HUNKS, 28)?;
-    let rows = [
-        (0xFFFF_FFF4, 0, 0, Some(0xFFFF_FFF4)),
-        (0xFFFF_FFF4, 1, 8, Some(0xFFFF_FFFC)),
-        (0xFFFF_FFF8, 0, 0, Some(0xFFFF_FFF8)),
-        (0xFFFF_FFF8, 1, 8, None),
-    ];
-    for (start, i, before, want) in rows {
-        assert_equal(&rt, packed_base(&rt, &declared, start, i, before), want);
-    }
+    let start = 0xFFFF_FFF4;
+    let placed = declared(&rt, rt.alloc(), TWO_HUNKS, 28)?.place(&Packed { start });
+    assert!(rt; placed.is_ok());
     let start = 0xFFFF_FFF8;
-    let unplaced = declared.place(&Packed { start }).err();
-    came_back(&rt, unplaced.as_ref(), Reason::NoBase(1));
+    let placed = declared(&rt, rt.alloc(), TWO_HUNKS, 28)?.place(&Packed { start });
+    came_back(&rt, placed.err().as_ref(), Reason::NoBase(1));
     Ok(())
 }
 
@@ -335,14 +200,13 @@ fn held(rt: HostRuntime) -> Result<(), Fail> {
 fn stays_refused(rt: HostRuntime) -> Result<(), Fail> {
     let bytes = spelled(rt.alloc(), ONE_HUNK)?;
     let mut loader = HeaderLoader::new(rt.alloc(), 3);
-    let fault = LoadFault {
-        place: 20,
-        reason: Reason::Budget,
-    };
-    for _ in 0..2u8 {
-        let fed = loader.feed(bytes.as_slice());
-        assert_equal(&rt, fed, Err(fault));
-    }
+    let (place, reason) = (20, Reason::Budget);
+    let fault = Err(LoadFault { place, reason });
+    assert_equal(
+        &rt,
+        (loader.feed(&bytes), loader.feed(&bytes)),
+        (fault, fault),
+    );
     assert_equal(&rt, (loader.want(), loader.held()), (0, 0));
     assert!(rt; loader.declared().is_err());
     Ok(())

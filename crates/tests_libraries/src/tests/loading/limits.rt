@@ -4,76 +4,35 @@ use crate::tests::asserts::assert_equal;
 use crate::tests::loading::loads::{START, Want, comes};
 use crate::tests::loading::{AMPLE, cut_at, load_fault};
 use hunk_scatter::{Limits, Listed};
-use hunk_words::{FromRead, LoadFault, Reason};
+use hunk_words::{LoadFault, Reason};
 use std::alloc::Global;
 use std::process::Abort;
 use std::test::Fail;
 use test_helpers::examples::{ENDING_IN_ZEROS, ONE_HUNK, TWO_HUNKS};
-use test_helpers::{FailsOnce, Fed, Interrupted, Then, spelled};
+use test_helpers::{FailsOnce, Fed, Then, spelled};
 
-/// Examples 7 and 22: the text and the bytes of its front, the budget and the number of bytes that may be
-/// read, and what comes.
-const LIMITED: &[(&str, usize, u64, u64, Want<'static>, &str)] = &[
+/// Examples 7 and 22: the budget and the number of bytes that may be read, and what comes.
+const LIMITED: &[(&str, u64, u64, Want<'static>)] = &[
+    (ENDING_IN_ZEROS, 19, 100_000, Err((24, Reason::Budget))),
     (
         ENDING_IN_ZEROS,
-        56,
-        19,
-        100_000,
-        Err((24, Reason::Budget)),
-        "example 7, 19",
-    ),
-    (
-        ENDING_IN_ZEROS,
-        56,
         20,
         100_000,
         Ok(("4E754E71 0 0 0 0", &[0x21000, 0x21008])),
-        "example 7, 20",
     ),
-    (
-        ONE_HUNK,
-        40,
-        4,
-        39,
-        Err((39, Reason::FileLimit)),
-        "example 22, 39",
-    ),
-    (
-        ONE_HUNK,
-        40,
-        4,
-        40,
-        Ok(("4E754E71", &[0x21000])),
-        "example 22, 40",
-    ),
-    (
-        ONE_HUNK,
-        40,
-        4,
-        0,
-        Err((0, Reason::FileLimit)),
-        "example 22, 0",
-    ),
-    (
-        ONE_HUNK,
-        39,
-        4,
-        39,
-        Err((39, Reason::FileLimit)),
-        "example 22, all of 39",
-    ),
+    (ONE_HUNK, 4, 39, Err((39, Reason::FileLimit))),
+    (ONE_HUNK, 4, 40, Ok(("4E754E71", &[0x21000]))),
+    (ONE_HUNK, 4, 0, Err((0, Reason::FileLimit))),
 ];
 
 #[test]
 fn limits(rt: HostRuntime) -> Result<(), Fail> {
-    for (text, count, budget, file_bytes, want, example) in LIMITED {
+    for (text, budget, file_bytes, want) in LIMITED {
         let limits = Limits {
             budget: *budget,
             file_bytes: *file_bytes,
         };
-        let bytes = spelled(rt.alloc(), text)?;
-        let (front, _) = cut_at(bytes.as_slice(), *count);
-        comes(&rt, rt.alloc(), front, limits, &START, want, example)?;
+        comes(&rt, rt.alloc(), text, limits, &START, want)?;
     }
     Ok(())
 }
@@ -179,18 +138,6 @@ fn reads_nothing_again(rt: HostRuntime) -> Result<(), Fail> {
         } else {
             assert_equal(&rt, fault, failed_at(fails_at));
         }
-    }
-    Ok(())
-}
-
-/// A read that is interrupted is a read that failed, wherever it comes, though the next one would go on.
-#[test]
-fn interrupted(rt: HostRuntime) -> Result<(), Fail> {
-    let bytes = spelled(rt.alloc(), ONE_HUNK)?;
-    for place in 0..bytes.len() {
-        let mut source = FromRead::new(Interrupted::new(bytes.as_slice(), place));
-        let fault = load_fault(rt.alloc(), &mut source, AMPLE, &START);
-        assert_equal(&rt, fault, failed_at(place));
     }
     Ok(())
 }

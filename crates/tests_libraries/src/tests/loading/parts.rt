@@ -64,14 +64,7 @@ fn part_of(hunk: Option<u64>) -> Part {
 /// of two hunks, whose first has no longword, by the second offset of a group; and in the third of three, by a target.
 const REFUSED: &[(&str, u64, Reason, Option<u64>)] = &[
     ("3F4", 0, Reason::NotLoadFile, None),
-    ("3F3 0 2 0 2", 16, Reason::LastHunk, None),
     ("3F3 0 1 0 0 1 / 3F2", 24, Reason::NoContent, Some(0)),
-    (
-        "3F3 0 2 0 1 1 1 / 3EB 1 / 3F2 / 3F2",
-        40,
-        Reason::NoContent,
-        Some(1),
-    ),
     (
         "3F3 0 2 0 1 0 1 / 3EB 0 / 3F2 / 3E9 1 0 / 3EC 2 0 0 1",
         68,
@@ -95,63 +88,37 @@ fn refused_parts(rt: HostRuntime) -> Result<(), Fail> {
     Ok(())
 }
 
-/// Example 2 has 28 bytes of header, then 40 of its first hunk, and 16 of its second.
-fn hunk_of_two(place: u64) -> Option<u64> {
-    if place < 28 {
-        None
-    } else if place < 68 {
-        Some(0)
-    } else {
-        Some(1)
-    }
-}
-
-/// The first n bytes of example 2.
-#[test]
-fn cut_short(rt: HostRuntime) -> Result<(), Fail> {
-    let bytes = spelled(rt.alloc(), TWO_HUNKS)?;
-    assert!(rt; bytes.len() == 84);
-    for n in 0..84usize {
-        let place = 4 * (n as u64 / 4);
-        let part = part_of(hunk_of_two(place));
-        expect_refused(&rt, &bytes[..n], (place, Reason::Truncated, Some(part)));
-    }
-    Ok(())
-}
-
 /// What is refused of example 2 without a look at its longwords: it declares 12 bytes, 8 of them in its first hunk.
 #[test]
 fn not_judged(rt: HostRuntime) -> Result<(), Fail> {
     let bytes = spelled(rt.alloc(), TWO_HUNKS)?;
     let tight = Limits { budget: 8, ..AMPLE };
-    expect(
-        &rt,
-        &mut Fed::new(&bytes, 256, Then::Ends),
-        tight,
-        &START,
-        (24, Reason::Budget, None),
-    );
+    let mut source = Fed::new(&bytes, 256, Then::Ends);
+    expect(&rt, &mut source, tight, &START, (24, Reason::Budget, None));
+    let file_bytes = 30;
     let short = Limits {
-        file_bytes: 30,
+        file_bytes,
         ..AMPLE
     };
+    let mut source = Fed::new(&bytes, 256, Then::Ends);
     expect(
         &rt,
-        &mut Fed::new(&bytes, 256, Then::Ends),
+        &mut source,
         short,
         &START,
         (30, Reason::FileLimit, None),
     );
     let high = Packed { start: 0xFFFF_FFF8 };
+    let mut source = Fed::new(&bytes, 256, Then::Ends);
     expect(
         &rt,
-        &mut Fed::new(&bytes, 256, Then::Ends),
+        &mut source,
         AMPLE,
         &high,
         (28, Reason::NoBase(1), None),
     );
-    let (front, _) = cut_at(bytes.as_slice(), 30);
-    let mut fails = Fed::new(front, 256, Then::Fails);
-    expect(&rt, &mut fails, AMPLE, &START, (30, Reason::Read, None));
+    let (front, _) = cut_at(&bytes, 30);
+    let mut source = Fed::new(front, 256, Then::Fails);
+    expect(&rt, &mut source, AMPLE, &START, (30, Reason::Read, None));
     Ok(())
 }

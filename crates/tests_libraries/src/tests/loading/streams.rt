@@ -9,28 +9,22 @@ use std::alloc::{AllocError, Global};
 use std::process::Abort;
 use std::test::Fail;
 use test_helpers::examples::{
-    ENDING_EARLY, ONE_HUNK, OVERLAPPING, OVERLAPPING_FROM_BEHIND, RELOCATED, RELOCATED_BY_NO_HUNK,
-    RELOCATED_PAST_ITS_END, TWO_BASES, TWO_HUNKS, WITH_ATTRIBUTES,
+    ENDING_EARLY, RELOCATED_BY_NO_HUNK, RELOCATED_PAST_ITS_END, TWO_HUNKS, WITH_ATTRIBUTES,
 };
 use test_helpers::spelled;
 
 /// The size word, the attributes and the base of each hunk.
 type Table<'a> = &'a [(u32, u32, u32)];
 
-/// Files with the bytes of their headers, their tables, and the longwords that the store comes to.
+/// Examples 2, 4 and 8, with the bytes of their headers, their tables, and the longwords that the store comes to.
 const FILES: &[(&str, usize, Table<'static>, &str)] = &[
-    (ONE_HUNK, 24, &[(1, 0, 0x21000)], "4E754E71"),
     (
         TWO_HUNKS,
         28,
         &[(2, 0, 0x10000), (1, 0, 0x20000)],
         "4EF90002 00044E71 12345678",
     ),
-    (RELOCATED, 24, &[(1, 0, 0x1000)], "FFC"),
     (ENDING_EARLY, 24, &[(3, 0, 0x21000)], "4E754E71 0 0"),
-    (TWO_BASES, 28, &[(1, 0, 0x100), (1, 0, 0x200)], "310 0"),
-    (OVERLAPPING, 24, &[(2, 0, 1)], "10001 0"),
-    (OVERLAPPING_FROM_BEHIND, 24, &[(2, 0, 1)], "1 0"),
     (
         WITH_ATTRIBUTES,
         32,
@@ -84,11 +78,16 @@ fn expect_store(rt: &impl Abort, file: &File, cut: usize, store: &mut [u8], want
     let (_, body) = cut_at(file.bytes.as_slice(), file.header);
     let (front, rest) = cut_at(body, cut);
     let first = begin(store, rows, file.header as u64);
-    assert!(rt; !first.is_whole());
+    // An empty BSS block and END of each hunk.
+    assert_equal(
+        rt,
+        (first.is_whole(), first.want()),
+        (false, 12 * rows.len() as u64),
+    );
     let second = takes(rt, store, rows, first, front);
     assert_equal(rt, second.is_whole(), rest.is_empty());
     let third = takes(rt, store, rows, second, rest);
-    assert!(rt; third.is_whole());
+    assert_equal(rt, (third.is_whole(), third.want()), (true, 0));
     assert_equal(rt, third.fed, file.bytes.len() as u64);
     // Nothing is taken of what follows the file.
     assert_equal(
@@ -113,28 +112,6 @@ fn whole_in_two_pieces(rt: HostRuntime) -> Result<(), Fail> {
             expect_store(&rt, &file, cut, store.as_mut_slice(), want.as_slice());
         }
     }
-    Ok(())
-}
-
-/// How many bytes example 2 still has at least, after its header and each longword behind that.
-const WANTS: &[u64] = &[24, 20, 24, 20, 16, 20, 28, 24, 20, 16, 12, 8, 8, 4, 0];
-
-/// What is wanted of a file that comes byte by byte.
-#[test]
-fn wants(rt: HostRuntime) -> Result<(), Fail> {
-    let table = [(2, 0, 0x10000), (1, 0, 0x20000)];
-    let file = file_of(rt.alloc(), TWO_HUNKS, 28, table.as_slice())?;
-    let (mut store, rows) = ([0; 12], file.rows.as_slice());
-    let mut at = begin(store.as_mut_slice(), rows, 28);
-    let (_, body) = cut_at(file.bytes.as_slice(), file.header);
-    for (fed, byte) in body.iter().enumerate() {
-        if let Some(want) = WANTS.get(fed / 4) {
-            assert_equal(&rt, at.want(), want.saturating_sub(fed as u64 % 4));
-        }
-        at = takes(&rt, store.as_mut_slice(), rows, at, [*byte].as_slice());
-    }
-    assert_equal(&rt, body.len(), 56);
-    assert_equal(&rt, at.want(), 0);
     Ok(())
 }
 
