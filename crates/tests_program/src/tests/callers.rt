@@ -5,6 +5,7 @@ mod suite;
 mod tour;
 
 use crate::tests::asserts::assert_equal;
+use crate::tests::line::line_of;
 use hunk_command_line::{Order, OrderFault, order};
 use hunk_examples::{
     Symbol, describe, has_header, list_symbols, load_pieces, load_program, place_in_rom, show_file,
@@ -16,15 +17,6 @@ use std::alloc::{AllocError, Global};
 use std::process::Abort;
 use std::test::Fail;
 use test_helpers::{examples, spelled};
-
-/// The words of a command line.
-fn words(alloc: Global, line: &[&str]) -> Result<Vec<String>, AllocError> {
-    let mut words = Vec::new(alloc);
-    for word in line {
-        words.push(String::from_str(alloc, word)?)?;
-    }
-    Ok(words)
-}
 
 /// The load files of the suite.
 fn load_files() -> &'static [Vector] {
@@ -231,7 +223,7 @@ fn asks_to_show(alloc: Global, words: &[String]) -> Result<bool, OrderFault> {
 /// The words of a command line, and what the program prints for them.
 #[test]
 fn shows_what_the_words_ask_for(rt: HostRuntime) -> Result<(), Fail> {
-    let line = words(rt.alloc(), &["hunkinfo", "show"])?;
+    let line = line_of(rt.alloc(), &["show"])?;
     assert!(rt; asks_to_show(rt.alloc(), &line)?);
     let file = spelled(rt.alloc(), examples::ONE_HUNK)?;
     let text = show_file(rt.alloc(), file.as_slice())?;

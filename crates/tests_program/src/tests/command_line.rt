@@ -1,3 +1,4 @@
-//! Tests of what no clause says.
+//! Which words are which orders, and what is said of the others.
+
 mod command_lines;
 mod memory;

@@ -1,4 +1,5 @@
-//! Tests of what no clause says.
+//! The commands, by any source and any sink.
+
 mod bytes;
 mod calls;
 mod faults;

@@ -1,13 +1,17 @@
-//! Tests of what no clause says.
-mod files;
+//! Runs of the program: what they print and say, and which files they read and make.
+
+mod failures;
 mod made;
 mod memory_store;
 mod notes;
 mod old_output;
-mod runs;
+mod orders;
+mod printed;
+mod rewriting;
 mod stores;
 
 use crate::tests::asserts::assert_equal_at;
+use crate::tests::line::split;
 use crate::tests::runs::made::{Given, Kept, Made};
 use hunk_run::{Host, run};
 use hunk_words::LongWriter;
@@ -46,10 +50,7 @@ struct Outcome {
 
 /// Runs these words, apart by spaces, with a standard output that takes `room` bytes.
 fn ran(alloc: Global, given: Given<'_>, room: usize, line: &str) -> Result<Outcome, Fail> {
-    let mut words = Vec::new(alloc);
-    for word in line.split(' ') {
-        words.push(String::from_str(alloc, word)?)?;
-    }
+    let words = split(alloc, line)?;
     let created = RefCell::new(Vec::new(alloc));
     let made = Made {
         given,

@@ -1,4 +1,6 @@
 //! Which words are which orders.
+use crate::tests::asserts::{assert_equal, assert_equal_at};
+use crate::tests::line::line_of;
 use hunk_command_line::{FileName, Order, OrderFault, VERSION_LINE, order};
 use std::alloc::{AllocError, Global};
 use std::process::Abort;
@@ -12,7 +14,7 @@ fn name_of(name: &Option<FileName>) -> &str {
 }
 
 /// The order as a line of text.
-fn line_of(alloc: Global, asked: &Result<Order, OrderFault>) -> Result<String, AllocError> {
+fn text_of(alloc: Global, asked: &Result<Order, OrderFault>) -> Result<String, AllocError> {
     match asked {
         Ok(Order::Show { hex, file }) => {
             let file = name_of(file);
@@ -51,23 +53,18 @@ fn line_of(alloc: Global, asked: &Result<Order, OrderFault>) -> Result<String, A
 
 /// The order that these words are, as a line of text.
 fn told(alloc: Global, words: &[String]) -> Result<String, AllocError> {
-    line_of(alloc, &order(alloc, words))
+    text_of(alloc, &order(alloc, words))
 }
 
 /// The same of these words after the program's name.
 fn asked(alloc: Global, words: &[&str]) -> Result<String, AllocError> {
-    let mut all = Vec::new(alloc);
-    all.push(String::from_str(alloc, "hunkinfo")?)?;
-    for word in words {
-        all.push(String::from_str(alloc, word)?)?;
-    }
-    told(alloc, all.as_slice())
+    told(alloc, &line_of(alloc, words)?)
 }
 
 /// Tells whether the words after the program's name are this order.
 fn expect(rt: &impl Abort, alloc: Global, words: &[&str], want: &str) -> Result<(), Fail> {
     let got = asked(alloc, words)?;
-    assert_eq!(rt; got.as_str(), want, "at {words:?}");
+    assert_equal_at(rt, got.as_str(), want, words);
     Ok(())
 }
 
@@ -125,10 +122,8 @@ fn orders(rt: HostRuntime) -> Result<(), Fail> {
 #[test]
 fn no_word_at_all(rt: HostRuntime) -> Result<(), Fail> {
     let got = told(rt.alloc(), &[])?;
-    assert_eq!(rt;
-        got.as_str(),
-        "relocate true 00000000 16777216 (standard input)"
-    );
+    let want = "relocate true 00000000 16777216 (standard input)";
+    assert_equal(&rt, got.as_str(), want);
     Ok(())
 }
 
@@ -207,22 +202,24 @@ fn refused_budgets(rt: HostRuntime) -> Result<(), Fail> {
     Ok(())
 }
 
-const ASKING_FOR_HELP: &[&[&str]] = &[
-    &["help"],
-    &["--help"],
-    &["-h"],
-    &["help", "relocate"],
-    &["rewrite", "--help"],
-    &["relocate", "-h"],
-    &["show", "--help", "--unknown"],
+/// Words that ask for help or for the version.
+const ASKING: &[(&[&str], &str)] = &[
+    (&["help"], "help"),
+    (&["--help"], "help"),
+    (&["-h"], "help"),
+    (&["help", "relocate"], "help"),
+    (&["rewrite", "--help"], "help"),
+    (&["relocate", "-h"], "help"),
+    (&["show", "--help", "--unknown"], "help"),
+    (&["--version"], "version"),
+    (&["-V"], "version"),
+    (&["-V", "--unknown"], "version"),
 ];
 
-const ASKING_FOR_THE_VERSION: &[&[&str]] = &[&["--version"], &["-V"], &["-V", "--unknown"]];
-
 #[test]
-fn version(rt: HostRuntime) -> Result<(), Fail> {
-    for words in ASKING_FOR_THE_VERSION {
-        expect(&rt, rt.alloc(), words, "version")?;
+fn asking(rt: HostRuntime) -> Result<(), Fail> {
+    for (words, want) in ASKING {
+        expect(&rt, rt.alloc(), words, want)?;
     }
     Ok(())
 }
@@ -249,17 +246,13 @@ const SAID: &[(&[&str], &str)] = &[
 
 /// Sees that the words after the program's name are no order, and that this is said of them.
 fn expect_said(rt: &impl Abort, alloc: Global, words: &[&str], want: &str) -> Result<(), Fail> {
-    let mut all = Vec::new(alloc);
-    all.push(String::from_str(alloc, "hunkinfo")?)?;
-    for word in words {
-        all.push(String::from_str(alloc, word)?)?;
-    }
-    let answer = order(alloc, all.as_slice());
+    let line = line_of(alloc, words)?;
+    let answer = order(alloc, &line);
     let said = match &answer {
         Err(OrderFault::Line(why)) => why.as_str(),
         _ => "",
     };
-    assert_eq!(rt; said, want, "at {words:?}");
+    assert_equal_at(rt, said, want, words);
     Ok(())
 }
 
@@ -267,14 +260,6 @@ fn expect_said(rt: &impl Abort, alloc: Global, words: &[&str], want: &str) -> Re
 fn said_of_refused_words(rt: HostRuntime) -> Result<(), Fail> {
     for (words, want) in SAID {
         expect_said(&rt, rt.alloc(), words, want)?;
-    }
-    Ok(())
-}
-
-#[test]
-fn help(rt: HostRuntime) -> Result<(), Fail> {
-    for words in ASKING_FOR_HELP {
-        expect(&rt, rt.alloc(), words, "help")?;
     }
     Ok(())
 }
@@ -287,14 +272,23 @@ fn shown(alloc: Global, fault: &OrderFault) -> Result<String, AllocError> {
 fn faults_are_shown(rt: HostRuntime) -> Result<(), Fail> {
     let alloc = rt.alloc();
     let help = OrderFault::Help(String::from_str(alloc, "a help\n")?);
-    assert_eq!(rt; shown(alloc, &help)?.as_str(), "a help\n");
+    assert_equal(&rt, shown(alloc, &help)?.as_str(), "a help\n");
     let line = OrderFault::Line(String::new(alloc));
-    assert_eq!(rt; shown(alloc, &line)?.as_str(), REFUSED_LINE);
-    assert_eq!(rt; shown(alloc, &OrderFault::NotText)?.as_str(), REFUSED_LINE);
-    assert_eq!(rt; shown(alloc, &OrderFault::Version)?.as_str(), VERSION_LINE);
-    assert_eq!(rt;
+    assert_equal(&rt, shown(alloc, &line)?.as_str(), REFUSED_LINE);
+    assert_equal(
+        &rt,
+        shown(alloc, &OrderFault::NotText)?.as_str(),
+        REFUSED_LINE,
+    );
+    assert_equal(
+        &rt,
+        shown(alloc, &OrderFault::Version)?.as_str(),
+        VERSION_LINE,
+    );
+    assert_equal(
+        &rt,
         shown(alloc, &OrderFault::Memory)?.as_str(),
-        "out of memory"
+        "out of memory",
     );
     Ok(())
 }

@@ -3,6 +3,8 @@
 //! Each of the first eleven growths, by which clap's command is built, is the first that is refused in turn. Most later
 //! ones fit into what was given back by then: that they are refused, too, is tried on the built program, by
 //! `tests/growths/run`.
+use crate::tests::asserts::assert_equal_at;
+use crate::tests::line::line_of;
 use hunk_command_line::{OrderFault, order};
 use std::alloc::{AllocError, Global};
 use std::process::Abort;
@@ -66,12 +68,9 @@ const LONG_NAMES: &[(&[&str], Answer)] = &[
 /// How many bytes are added to it.
 const ADDED: usize = 22_000;
 
-fn line_of(alloc: Global, words: &[&str], added: usize) -> Result<Vec<String>, AllocError> {
-    let mut line = Vec::new(alloc);
-    line.push(String::from_str(alloc, "hunkinfo")?)?;
-    for word in words {
-        line.push(String::from_str(alloc, word)?)?;
-    }
+/// The command line of these words, with so many bytes behind the last.
+fn long_line(alloc: Global, words: &[&str], added: usize) -> Result<Vec<String>, AllocError> {
+    let mut line = line_of(alloc, words)?;
     if let Some(last) = line.last_mut() {
         for _ in 0..added {
             last.push('a')?;
@@ -88,13 +87,13 @@ fn expect(
     added: usize,
 ) -> Result<(), Fail> {
     for (words, wanted) in cases {
-        let line = line_of(alloc, words, added)?;
+        let line = long_line(alloc, words, added)?;
         let answers = answers_growth_by_growth(
             alloc,
             || unwanted(alloc, line.as_slice(), *wanted),
         )?;
         let want = [Some(Answer::Memory), None];
-        assert_eq!(rt; answers.as_slice(), want.as_slice(), "{words:?}");
+        assert_equal_at(rt, answers.as_slice(), want.as_slice(), words);
     }
     Ok(())
 }

@@ -50,9 +50,9 @@ fn expect_written(rt: &impl Abort, call: Call, bytes: &[u8], output: &[u8]) {
 #[test]
 fn writes(rt: HostRuntime) -> Result<(), Fail> {
     for case in CASES {
-        if case.call != Call::Relocate {
+        if case.0 != Call::Relocate {
             let (bytes, output) = input_and_output(rt.alloc(), case)?;
-            expect_written(&rt, case.call, &bytes, &output);
+            expect_written(&rt, case.0, &bytes, &output);
         }
     }
     Ok(())
@@ -60,13 +60,11 @@ fn writes(rt: HostRuntime) -> Result<(), Fail> {
 
 #[test]
 fn refuses(rt: HostRuntime) -> Result<(), Fail> {
-    for sample in &BAD {
-        let bytes = input(rt.alloc(), sample.file, sample.rest)?;
-        let (place, reason) = (sample.place, sample.reason);
-        let fault = RunFault::RefusedIn {
-            fault: Fault { place, reason },
-            part: sample.part,
-        };
+    for (file, rest, place, reason, part) in BAD {
+        let bytes = input(rt.alloc(), file, *rest)?;
+        let (place, reason, part) = (*place, *reason, *part);
+        let fault = Fault { place, reason };
+        let fault = RunFault::RefusedIn { fault, part };
         for call in [Call::Show, Call::Validate, Call::Rewrite, Call::Strip] {
             let got = made_in_hand(call, &bytes, roomy());
             expect_outcome(&rt, &got, Some(fault), &[]);

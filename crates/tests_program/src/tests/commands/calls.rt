@@ -24,58 +24,50 @@ pub(super) enum Call {
 }
 
 /// A command, the file that it reads, and what it writes: text, or the longwords of a rewritten file.
-pub(super) struct Case {
-    pub call: Call,
-    pub file: &'static str,
-    pub output: &'static str,
-}
+pub(super) type Case = (Call, &'static str, &'static str);
 
 /// Calls on example 8, a load file, and on example 29, an object file in which two things are found; and a strip of
 /// example 18, a load file with a symbol.
 pub(super) const CASES: &[Case] = &[
-    Case {
-        call: Call::Show,
-        file: examples::WITH_ATTRIBUTES,
-        output: "load file 2 hunks 12 bytes\nhunk 0 8 bytes attributes 0x00010004\n  CODE 8 bytes\n  END\n\
+    (
+        Call::Show,
+        examples::WITH_ATTRIBUTES,
+        "load file 2 hunks 12 bytes\nhunk 0 8 bytes attributes 0x00010004\n  CODE 8 bytes\n  END\n\
             hunk 1 4 bytes any\n  BSS 4 bytes\n  END\n",
-    },
-    Case {
-        call: Call::Show,
-        file: examples::TWO_FINDINGS,
-        output: "object file 1 units\nunit 0 \nhunk 0 4 bytes\n  CODE 4 bytes\n  RELOC32 1\n    1 0x00000002\n\
+    ),
+    (
+        Call::Show,
+        examples::TWO_FINDINGS,
+        "object file 1 units\nunit 0 \nhunk 0 4 bytes\n  CODE 4 bytes\n  RELOC32 1\n    1 0x00000002\n\
             \x20 END\n",
-    },
-    Case {
-        call: Call::Validate,
-        file: examples::WITH_ATTRIBUTES,
-        output: "load file 2 hunks 12 bytes\n",
-    },
-    Case {
-        call: Call::Validate,
-        file: examples::TWO_FINDINGS,
-        output: "unit 0 hunk 0 offset 0x00000002 BadTarget\nunit 0 hunk 0 offset 0x00000002 OutsideHunk\n\
+    ),
+    (
+        Call::Validate,
+        examples::WITH_ATTRIBUTES,
+        "load file 2 hunks 12 bytes\n",
+    ),
+    (
+        Call::Validate,
+        examples::TWO_FINDINGS,
+        "unit 0 hunk 0 offset 0x00000002 BadTarget\nunit 0 hunk 0 offset 0x00000002 OutsideHunk\n\
             object file 1 units 2 findings\n",
-    },
-    Case {
-        call: Call::Rewrite,
-        file: examples::WITH_ATTRIBUTES,
-        output: examples::WITH_ATTRIBUTES,
-    },
-    Case {
-        call: Call::Rewrite,
-        file: examples::TWO_FINDINGS,
-        output: examples::TWO_FINDINGS,
-    },
-    Case {
-        call: Call::Strip,
-        file: examples::WITH_A_SYMBOL,
-        output: examples::ONE_HUNK,
-    },
-    Case {
-        call: Call::Relocate,
-        file: examples::WITH_ATTRIBUTES,
-        output: "hunk 0 base 0x00021000 8 bytes\n  4e714e714e754e71\nhunk 1 base 0x00021008 4 bytes\n  00000000\n",
-    },
+    ),
+    (
+        Call::Rewrite,
+        examples::WITH_ATTRIBUTES,
+        examples::WITH_ATTRIBUTES,
+    ),
+    (
+        Call::Rewrite,
+        examples::TWO_FINDINGS,
+        examples::TWO_FINDINGS,
+    ),
+    (Call::Strip, examples::WITH_A_SYMBOL, examples::ONE_HUNK),
+    (
+        Call::Relocate,
+        examples::WITH_ATTRIBUTES,
+        "hunk 0 base 0x00021000 8 bytes\n  4e714e714e754e71\nhunk 1 base 0x00021008 4 bytes\n  00000000\n",
+    ),
 ];
 
 /// The fault of a call on what the source gives.
@@ -174,12 +166,10 @@ pub(super) fn input_and_output(
     alloc: Global,
     case: &Case,
 ) -> Result<(Vec<u8>, Vec<u8>), AllocError> {
-    let input = spelled(alloc, case.file)?;
-    if matches!(case.call, Call::Rewrite | Call::Strip) {
-        let output = spelled(alloc, case.output)?;
-        return Ok((input, output));
+    let (call, file, output) = *case;
+    let input = spelled(alloc, file)?;
+    if matches!(call, Call::Rewrite | Call::Strip) {
+        return Ok((input, spelled(alloc, output)?));
     }
-    let mut output = Vec::new(alloc);
-    output.extend_from_slice(case.output.as_bytes())?;
-    Ok((input, output))
+    Ok((input, Vec::from_slice(alloc, output.as_bytes())?))
 }

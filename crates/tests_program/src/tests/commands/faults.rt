@@ -7,31 +7,27 @@ use std::alloc::{AllocError, Global};
 use std::process::Abort;
 use std::test::Fail;
 
-/// The places and reasons of refusals, and their lines.
-const REFUSALS: &[(u64, Reason, &str)] = &[
-    (0, Reason::Truncated, "refused at byte 0: Truncated (26)"),
-    (20, Reason::Budget, "refused at byte 20: Budget (27)"),
-    (
-        24,
-        Reason::NoBase(0),
-        "refused at byte 24: NoBase (29) hunk 0",
-    ),
-    (
-        18_446_744_073_709_551_615,
-        Reason::NoBase(65_535),
-        "refused at byte 18446744073709551615: NoBase (29) hunk 65535",
-    ),
-];
+const AT_28: Fault = Fault {
+    place: 28,
+    reason: Reason::NameWord,
+};
 
-/// Other faults, their lines and their statuses.
+const AT_THE_END: Fault = Fault {
+    place: 18_446_744_073_709_551_615,
+    reason: Reason::NoBase(65_535),
+};
+
+/// Faults, their lines and their statuses.
 const FAULTS: &[(RunFault, &str, u8)] = &[
     (
+        RunFault::Refused(AT_THE_END),
+        "refused at byte 18446744073709551615: NoBase (29) hunk 65535",
+        1,
+    ),
+    (
         RunFault::RefusedIn {
-            fault: Fault {
-                place: 28,
-                reason: Reason::NameWord,
-            },
-            part: Part::Hunk { number: 0 },
+            fault: AT_28,
+            part: Part::Header,
         },
         "refused at byte 28: NameWord (21)",
         1,
@@ -62,11 +58,6 @@ fn expect_line(
 
 #[test]
 fn lines_and_statuses(rt: HostRuntime) -> Result<(), Fail> {
-    for (place, reason, line) in REFUSALS {
-        let (place, reason) = (*place, *reason);
-        let fault = RunFault::Refused(Fault { place, reason });
-        expect_line(&rt, rt.alloc(), fault, line, 1)?;
-    }
     for (fault, line, status) in FAULTS {
         expect_line(&rt, rt.alloc(), *fault, line, *status)?;
     }

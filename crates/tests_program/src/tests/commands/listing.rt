@@ -2,14 +2,14 @@
 
 use crate::tests::asserts::assert_equal_at;
 use crate::tests::commands::calls::{Call, LIMIT, expect_outcome, made_of, roomy};
-use crate::tests::commands::samples::{AGAIN, Again, BAD, CHECKED, SHOWN, input};
+use crate::tests::commands::samples::{AGAIN, BAD, CHECKED, SHOWN, input};
 use hunk_commands::{Rewritten, RunFault, rewrite, validate};
 use hunk_files::Part;
-use hunk_words::{Fault, FromSlice, Reason};
+use hunk_words::{Fault, FromSlice};
 use std::alloc::Global;
 use std::process::Abort;
 use std::test::Fail;
-use test_helpers::{CHANGES, changed, spelled, wide};
+use test_helpers::{spelled, wide};
 
 /// Sees that the call is done with the bytes of this sample, and writes just the output.
 fn expect_done(
@@ -24,16 +24,11 @@ fn expect_done(
     assert_equal_at(rt, got.narrow.taken(), output, name);
 }
 
-/// The same where the output is text.
-fn expect_text(rt: &(impl Abort + AllocGlobal), call: Call, name: &str, bytes: &[u8], text: &str) {
-    expect_done(rt, call, name, bytes, text.as_bytes());
-}
-
 #[test]
 fn shows(rt: HostRuntime) -> Result<(), Fail> {
-    for sample in &SHOWN {
-        let bytes = input(rt.alloc(), sample.file, sample.rest)?;
-        expect_text(&rt, Call::Show, sample.name, &bytes, sample.text);
+    for (file, rest, text) in SHOWN {
+        let bytes = input(rt.alloc(), file, *rest)?;
+        expect_done(&rt, Call::Show, file, &bytes, text.as_bytes());
     }
     Ok(())
 }
@@ -45,11 +40,10 @@ fn count_findings(alloc: Global, bytes: &[u8]) -> Result<u64, RunFault> {
 
 #[test]
 fn validates(rt: HostRuntime) -> Result<(), Fail> {
-    for sample in &CHECKED {
-        let bytes = input(rt.alloc(), sample.file, sample.rest)?;
-        let count = count_findings(rt.alloc(), &bytes);
-        assert_equal_at(&rt, count, Ok(sample.count), sample.name);
-        expect_text(&rt, Call::Validate, sample.name, &bytes, sample.text);
+    for (file, rest, text, count) in CHECKED {
+        let bytes = input(rt.alloc(), file, *rest)?;
+        assert_equal_at(&rt, count_findings(rt.alloc(), &bytes), Ok(*count), file);
+        expect_done(&rt, Call::Validate, file, &bytes, text.as_bytes());
     }
     Ok(())
 }
@@ -60,33 +54,28 @@ fn rewritten(alloc: Global, bytes: &[u8], strip: bool) -> Result<Rewritten, RunF
 }
 
 /// Sees that `rewrite` makes this of the bytes, and tells how many it read and how many follow.
-fn expect_rewritten(rt: &(impl Abort + AllocGlobal), sample: &Again, bytes: &[u8], want: &[u8]) {
+fn expect_rewritten(
+    rt: &(impl Abort + AllocGlobal),
+    (file, rest, strip): (&str, usize, bool),
+    want: &[u8],
+) -> Result<(), Fail> {
+    let bytes = input(rt.alloc(), file, rest)?;
     let done = Rewritten {
         written: want.len() as u64,
-        read: (bytes.len() - bytes.len().min(sample.rest)) as u64,
-        rest: sample.rest as u64,
+        read: bytes.len().saturating_sub(rest) as u64,
+        rest: rest as u64,
     };
-    let got = rewritten(rt.alloc(), bytes, sample.strip);
-    assert_equal_at(rt, got, Ok(done), sample.name);
-    let call = if sample.strip {
-        Call::Strip
-    } else {
-        Call::Rewrite
-    };
-    expect_done(rt, call, sample.name, bytes, want);
+    assert_equal_at(rt, rewritten(rt.alloc(), &bytes, strip), Ok(done), file);
+    let call = if strip { Call::Strip } else { Call::Rewrite };
+    expect_done(rt, call, file, &bytes, want);
+    Ok(())
 }
 
 #[test]
 fn rewrites(rt: HostRuntime) -> Result<(), Fail> {
-    for sample in &AGAIN {
-        let bytes = input(rt.alloc(), sample.file, sample.rest)?;
-        let made = if sample.made.is_empty() {
-            sample.file
-        } else {
-            sample.made
-        };
+    for (file, rest, strip, made) in AGAIN {
         let want = spelled(rt.alloc(), made)?;
-        expect_rewritten(&rt, sample, &bytes, &want);
+        expect_rewritten(&rt, (file, *rest, *strip), &want)?;
     }
     Ok(())
 }
@@ -102,47 +91,10 @@ fn expect_refused(rt: &impl Abort, alloc: Global, bytes: &[u8], fault: Fault, pa
 
 #[test]
 fn refuses(rt: HostRuntime) -> Result<(), Fail> {
-    for sample in &BAD {
-        let bytes = input(rt.alloc(), sample.file, sample.rest)?;
-        let (place, reason) = (sample.place, sample.reason);
-        expect_refused(
-            &rt,
-            rt.alloc(),
-            &bytes,
-            Fault { place, reason },
-            sample.part,
-        );
-    }
-    Ok(())
-}
-
-/// The part of example 1, of one hunk, that the byte is of: its header has 24 bytes.
-fn part_of_example(place: u64) -> Part {
-    if place < 24 {
-        Part::Header
-    } else {
-        Part::Hunk { number: 0 }
-    }
-}
-
-/// Where it is not refused it is written again as it is.
-#[test]
-fn one_longword_changed(rt: HostRuntime) -> Result<(), Fail> {
-    for (byte, word, fault) in CHANGES {
-        let bytes = changed(rt.alloc(), *byte, *word)?;
-        match *fault {
-            Some((place, reason)) => {
-                // An object file for these calls, which is refused as such: it is one of `BAD`.
-                if reason != Reason::IsObject {
-                    let part = part_of_example(place);
-                    expect_refused(&rt, rt.alloc(), &bytes, Fault { place, reason }, part);
-                }
-            }
-            None => {
-                let got = made_of(rt.alloc(), Call::Rewrite, &bytes, roomy());
-                expect_outcome(&rt, &got, None, &bytes);
-            }
-        }
+    for (file, rest, place, reason, part) in BAD {
+        let bytes = input(rt.alloc(), file, *rest)?;
+        let (place, reason) = (*place, *reason);
+        expect_refused(&rt, rt.alloc(), &bytes, Fault { place, reason }, *part);
     }
     Ok(())
 }

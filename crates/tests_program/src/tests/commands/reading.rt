@@ -50,13 +50,7 @@ fn one_read_fails(
 fn each_read_fails(rt: HostRuntime) -> Result<(), Fail> {
     for case in CASES {
         let (input, output) = input_and_output(rt.alloc(), case)?;
-        one_read_fails(
-            &rt,
-            rt.alloc(),
-            case.call,
-            input.as_slice(),
-            output.as_slice(),
-        )?;
+        one_read_fails(&rt, rt.alloc(), case.0, input.as_slice(), output.as_slice())?;
     }
     Ok(())
 }
@@ -68,7 +62,7 @@ fn a_read_is_interrupted(rt: HostRuntime) -> Result<(), Fail> {
         let (input, _) = input_and_output(rt.alloc(), case)?;
         for place in [0, 1, 30] {
             let mut source = FromRead::new(Interrupted::new(input.as_slice(), place));
-            let got = made(rt.alloc(), case.call, &mut source, roomy());
+            let got = made(rt.alloc(), case.0, &mut source, roomy());
             expect_unread(&rt, &got, place);
         }
     }

@@ -33,13 +33,6 @@ const SAID: &[Row] = &[
         "hunkinfo: error: unexpected argument 'b' found\n\nUsage: hunkinfo show [OPTIONS] [FILE]\n\n\
         For more information, try '--help'.\n",
     ),
-    (
-        b"",
-        "hunkinfo relocate --base 1000",
-        ANY,
-        "hunkinfo: error: invalid value '1000' for '--base <HEX>': eight hexadecimal digits are \
-        wanted\n\nFor more information, try '--help'.\n",
-    ),
     // The input, with its class and its part.
     (
         b"\0\0\x03\xF3",
@@ -69,12 +62,6 @@ const SAID: &[Row] = &[
     ),
     (
         IN_HUNK_1,
-        "hunkinfo relocate --base 00000000 a",
-        ANY,
-        "hunkinfo: a: damaged in hunk 1: a relocated longword runs past the end of its hunk\n",
-    ),
-    (
-        IN_HUNK_1,
         "hunkinfo relocate --base 00000000 --budget 7 a",
         ANY,
         "hunkinfo: a: the hunks declare more bytes than the budget allows\n",
@@ -84,13 +71,6 @@ const SAID: &[Row] = &[
         "hunkinfo validate --hex a",
         ANY,
         "hunkinfo: a: damaged in unit 0 hunk 0: an EXT entry of a type that is not known\n",
-    ),
-    (
-        b"000003E7 01000000",
-        "hunkinfo show --hex a",
-        ANY,
-        "hunkinfo: a: damaged in unit 0: the top byte of the longword with the length of a name is \
-        not 0\n",
     ),
     (
         b"000003E9",
@@ -120,18 +100,6 @@ const SAID: &[Row] = &[
     ),
     (
         OTHER,
-        "hunkinfo show missing",
-        3,
-        "hunkinfo: standard output: writing failed\n",
-    ),
-    (
-        OTHER,
-        "hunkinfo rewrite a b",
-        3,
-        "hunkinfo: standard output: writing failed\n",
-    ),
-    (
-        OTHER,
         "hunkinfo rewrite missing b",
         ANY,
         "hunkinfo: missing: unsupported; b was not touched\n",
@@ -147,12 +115,6 @@ const SAID: &[Row] = &[
         "hunkinfo rewrite a lost",
         ANY,
         "hunkinfo: lost: quota exceeded: the first 44 bytes of it are written\n",
-    ),
-    (
-        OTHER,
-        "hunkinfo rewrite a denied",
-        ANY,
-        "hunkinfo: denied: unsupported: the first 0 bytes of it are written\n",
     ),
 ];
 

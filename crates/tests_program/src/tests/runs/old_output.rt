@@ -1,6 +1,7 @@
 //! What becomes of an OUT that is there, with files.
 
 use crate::tests::asserts::assert_equal;
+use crate::tests::line::line_of;
 use hunk_run::{Host, run};
 use hunk_words::{FromWrite, LongWriter};
 use std::fs;
@@ -40,10 +41,7 @@ impl Files {
 
 /// The status of `rewrite` from the input to the output.
 fn rewrite(rt: &HostRuntime, files: &Files) -> Result<u8, Fail> {
-    let mut words = Vec::new(rt.alloc());
-    for word in ["hunkinfo", "rewrite", &files.input, &files.output] {
-        words.push(String::from_str(rt.alloc(), word)?)?;
-    }
+    let words = line_of(rt.alloc(), &["rewrite", &files.input, &files.output])?;
     let mut out = LongWriter::new(FromWrite::new(Vec::<u8>::new(rt.alloc())));
     let (ended, _store) = run(Host::new(rt), rt.alloc(), words.as_slice(), &mut out);
     Ok(ended.status)

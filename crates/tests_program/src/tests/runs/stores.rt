@@ -1,5 +1,6 @@
 //! Each command over files in memory: which of them it reads, and which it makes.
 use crate::tests::asserts::assert_equal_at;
+use crate::tests::line::split;
 use crate::tests::runs::made::Kept;
 use crate::tests::runs::memory_store::{Held, MemoryStore};
 use crate::tests::runs::{ANY, OTHER};
@@ -22,10 +23,7 @@ struct Outcome {
 /// Runs these words, apart by spaces, where the file `a` and standard input have these bytes and
 /// the file `b` those of `OTHER`.
 fn ran<'x>(alloc: Global, line: &str, file: &'x [u8], input: &'x [u8]) -> Result<Outcome, Fail> {
-    let mut words = Vec::new(alloc);
-    for word in line.split(' ') {
-        words.push(String::from_str(alloc, word)?)?;
-    }
+    let words = split(alloc, line)?;
     let store = MemoryStore {
         alloc,
         first: Held {
@@ -59,11 +57,6 @@ type Row = (&'static str, &'static str, u8);
 
 /// Over example 1 in the file `a`, and no hunk file at standard input.
 const OF_FILES: &[Row] = &[
-    (
-        "hunkinfo show a",
-        "load file 1 hunks 4 bytes\nhunk 0 4 bytes any\n  CODE 4 bytes\n  END\n",
-        0,
-    ),
     ("hunkinfo validate a", "load file 1 hunks 4 bytes\n", 0),
     ("hunkinfo validate b", "load file 1 hunks 8 bytes\n", 0),
     (
@@ -71,11 +64,7 @@ const OF_FILES: &[Row] = &[
         "hunk 0 base 0x00001000 4 bytes\n  4e754e71\n",
         0,
     ),
-    (
-        "hunkinfo validate",
-        "refused at byte 0: NotLoadFile (1)\n",
-        1,
-    ),
+    ("hunkinfo show", "refused at byte 0: NotLoadFile (1)\n", 1),
     ("hunkinfo validate missing", "reading failed at byte 0\n", 3),
 ];
 
@@ -113,30 +102,10 @@ fn makes_the_file_of_its_name(rt: HostRuntime) -> Result<(), Fail> {
     let alloc = rt.alloc();
     let file = spelled(alloc, examples::WITH_A_SYMBOL)?;
     let stripped = spelled(alloc, examples::ONE_HUNK)?;
-    let whole = "wrote 60 bytes\n";
-    expect_made(
-        &rt,
-        alloc,
-        "hunkinfo rewrite a c",
-        &file,
-        (whole, "c:", &file),
-    )?;
-    expect_made(
-        &rt,
-        alloc,
-        "hunkinfo rewrite a b",
-        &file,
-        (whole, "b:", &file),
-    )?;
-    let short = "wrote 40 bytes\n";
-    let line = "hunkinfo rewrite --strip a c";
-    expect_made(&rt, alloc, line, &file, (short, "c:", &stripped))?;
-    let refused = "refused at byte 4: Truncated (26)\n";
-    expect_made(
-        &rt,
-        alloc,
-        "hunkinfo rewrite a c",
-        b"\0\0\x03\xF3",
-        (refused, "", b""),
-    )
+    let want = ("wrote 60 bytes\n", "b:", file.as_slice());
+    expect_made(&rt, alloc, "hunkinfo rewrite a b", &file, want)?;
+    let want = ("wrote 40 bytes\n", "c:", stripped.as_slice());
+    expect_made(&rt, alloc, "hunkinfo rewrite --strip a c", &file, want)?;
+    let want = ("refused at byte 4: Truncated (26)\n", "", b"".as_slice());
+    expect_made(&rt, alloc, "hunkinfo rewrite a c", b"\0\0\x03\xF3", want)
 }

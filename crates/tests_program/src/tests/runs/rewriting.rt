@@ -1,133 +1,11 @@
-//! Which files are read and written, and what is printed of them.
+//! What rewritings print and write, and which files they make.
 use crate::tests::asserts::assert_equal_at;
 use crate::tests::runs::made::Given;
-use crate::tests::runs::{ANY, At, OTHER, Row, expect, expect_of, ran};
+use crate::tests::runs::{ANY, OTHER, expect_of, ran};
 use std::alloc::Global;
 use std::process::Abort;
 use std::test::Fail;
 use test_helpers::{examples, spelled};
-
-const LISTING: &str = "load file 1 hunks 4 bytes\nhunk 0 4 bytes any\n  CODE 4 bytes\n  END\n";
-
-const ONE_HUNK: &[Row] = &[
-    ("hunkinfo show", At::Input, LISTING, 0),
-    ("hunkinfo show a", At::File, LISTING, 0),
-    (
-        "hunkinfo validate",
-        At::Input,
-        "load file 1 hunks 4 bytes\n",
-        0,
-    ),
-    (
-        "hunkinfo validate a",
-        At::File,
-        "load file 1 hunks 4 bytes\n",
-        0,
-    ),
-    ("hunkinfo show --hex", At::Input, "hex text refused\n", 1),
-    (
-        "hunkinfo validate --hex a",
-        At::File,
-        "hex text refused\n",
-        1,
-    ),
-    (
-        "hunkinfo show missing",
-        At::File,
-        "reading failed at byte 0\n",
-        3,
-    ),
-];
-
-/// The same of the text that spells it.
-const ONE_HUNK_IN_TEXT: &[Row] = &[
-    ("hunkinfo show --hex", At::Input, LISTING, 0),
-    ("hunkinfo show --hex a", At::File, LISTING, 0),
-    (
-        "hunkinfo validate --hex",
-        At::Input,
-        "load file 1 hunks 4 bytes\n",
-        0,
-    ),
-    (
-        "hunkinfo validate --hex a",
-        At::File,
-        "load file 1 hunks 4 bytes\n",
-        0,
-    ),
-    (
-        "hunkinfo show",
-        At::Input,
-        "refused at byte 0: NotLoadFile (1)\n",
-        1,
-    ),
-    (
-        "hunkinfo validate a",
-        At::File,
-        "refused at byte 0: NotLoadFile (1)\n",
-        1,
-    ),
-];
-
-const FINDINGS: &str = "unit 0 hunk 0 offset 0x00000002 BadTarget\n\
-    unit 0 hunk 0 offset 0x00000002 OutsideHunk\nobject file 1 units 2 findings\n";
-
-const AMISS: &[Row] = &[
-    ("hunkinfo validate", At::Input, FINDINGS, 1),
-    ("hunkinfo validate a", At::File, FINDINGS, 1),
-];
-
-const NOTHING: &[Row] = &[
-    (
-        "hunkinfo show a",
-        At::File,
-        "refused at byte 0: Truncated (26)\n",
-        1,
-    ),
-    (
-        "hunkinfo validate",
-        At::Input,
-        "refused at byte 0: Truncated (26)\n",
-        1,
-    ),
-];
-
-/// Example 10: what follows a file is told, and is no fault.
-const FOLLOWED: &[Row] = &[
-    (
-        "hunkinfo validate",
-        At::Input,
-        "load file 1 hunks 4 bytes\nrest 7 bytes\n",
-        0,
-    ),
-    (
-        "hunkinfo validate a",
-        At::File,
-        "load file 1 hunks 4 bytes\nrest 7 bytes\n",
-        0,
-    ),
-];
-
-/// Sees each row for a run over these bytes.
-fn expect_each(rt: &impl Abort, alloc: Global, bytes: &[u8], rows: &[Row]) -> Result<(), Fail> {
-    for row in rows {
-        expect(rt, alloc, bytes, row)?;
-    }
-    Ok(())
-}
-
-#[test]
-fn lists(rt: HostRuntime) -> Result<(), Fail> {
-    let alloc = rt.alloc();
-    let mut file = spelled(alloc, examples::ONE_HUNK)?;
-    expect_each(&rt, alloc, &file, ONE_HUNK)?;
-    let text = hex::encode(alloc, file.as_slice())?;
-    expect_each(&rt, alloc, text.as_bytes(), ONE_HUNK_IN_TEXT)?;
-    expect_each(&rt, alloc, b"", NOTHING)?;
-    expect_each(&rt, alloc, &spelled(alloc, examples::TWO_FINDINGS)?, AMISS)?;
-    file.extend_from_slice(&[0; 7])?;
-    expect_each(&rt, alloc, &file, FOLLOWED)
-}
 
 /// The words of a rewriting, what it prints and its status, the name of OUT with a colon, and how
 /// many bytes are written to it.
@@ -136,13 +14,6 @@ type Rewriting = (&'static str, &'static str, u8, &'static str, usize);
 /// What becomes of example 18, from the file `a`.
 const REWRITTEN: &[Rewriting] = &[
     ("hunkinfo rewrite a b", "wrote 60 bytes\n", 0, "b:", 60),
-    (
-        "hunkinfo rewrite a other",
-        "wrote 60 bytes\n",
-        0,
-        "other:",
-        60,
-    ),
     (
         "hunkinfo rewrite a full",
         "writing failed after 6 bytes\n",
@@ -176,10 +47,10 @@ const REWRITTEN: &[Rewriting] = &[
 /// The same with `--strip`, which leaves example 1.
 const STRIPPED: &[Rewriting] = &[
     (
-        "hunkinfo rewrite --strip a b",
+        "hunkinfo rewrite --strip a other",
         "wrote 40 bytes\n",
         0,
-        "b:",
+        "other:",
         40,
     ),
     (
