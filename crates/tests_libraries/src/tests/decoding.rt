@@ -1,7 +1,7 @@
 //! Calls whose contracts say much, as functions without one: what calls these has a short proof.
 
 use hunk_blocks::{Block, Mode};
-use hunk_files::{HunkFile, ImageFault, LoadFile, LoadView, ObjectFile};
+use hunk_files::{BlockViews, HunkFile, ImageFault, LoadFile, LoadView, ObjectFile};
 use hunk_words::FileFault;
 use std::alloc::{AllocError, Global};
 use std::process::Abort;
@@ -62,4 +62,13 @@ pub(super) fn either_file<'a>(rt: &impl Abort, alloc: Global, bytes: &'a [u8]) -
 /// The file as `strip` leaves it.
 pub(super) fn stripped(file: HunkFile<'_>) -> HunkFile<'_> {
     file.strip()
+}
+
+/// How many blocks come.
+pub(super) fn count_blocks(blocks: BlockViews) -> usize {
+    let mut count = 0usize;
+    for _ in blocks {
+        count = count.saturating_add(1);
+    }
+    count
 }

@@ -33,7 +33,11 @@ fn put_longs(told: &mut Vec<u64>, longs: &Longs<'_>) -> Result<(), AllocError> {
 
 fn put_group(told: &mut Vec<u64>, group: &Group<'_>) -> Result<(), AllocError> {
     told.push(u64::from(group.target))?;
-    put_longs(told, &group.offsets)
+    told.push(group.offsets.len() as u64)?;
+    for offset in &group.offsets {
+        told.push(u64::from(offset))?;
+    }
+    Ok(())
 }
 
 fn put_symbol(told: &mut Vec<u64>, symbol: &SymbolView<'_>) -> Result<(), AllocError> {
@@ -68,8 +72,8 @@ fn told_by(alloc: Global, body: &Body<'_>) -> Result<Vec<u64>, AllocError> {
             }
         }
         Body::Symbol(symbols) => {
-            for symbol in symbols {
-                put_symbol(&mut told, symbol)?;
+            for i in 0..symbols.len() {
+                put_symbol(&mut told, symbols.at(i))?;
             }
         }
         Body::Ext(entries) => {
@@ -264,6 +268,11 @@ fn told(rt: HostRuntime) -> Result<(), Fail> {
         expect_view(&rt, alloc, &bytes, row)?;
     }
     Ok(())
+}
+
+#[test]
+fn of_a_payload(rt: HostRuntime) {
+    assert_equal(&rt, Payload::of(b"name").bytes(), b"name".as_slice());
 }
 
 /// Blocks of many parts, and how many items each has, with the zero that ends them.

@@ -112,7 +112,11 @@ fn names_of_units(rt: HostRuntime) -> Result<(), Fail> {
 
 /// How many items stand in the file with many parts.
 fn count(bytes: &[u8]) -> Result<usize, Fail> {
-    Ok(FileView::read(bytes)?.items().count())
+    let mut count = 0usize;
+    for _ in FileView::read(bytes)?.items() {
+        count = count.saturating_add(1);
+    }
+    Ok(count)
 }
 
 /// A content and END of each hunk, and in the first the blocks that are many, relocations twice, and symbols, with

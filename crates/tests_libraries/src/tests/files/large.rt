@@ -1,7 +1,8 @@
 //! Files with many of each part, and large ones: no call gives up on them.
 
 use crate::tests::asserts::assert_equal;
-use crate::tests::files::texts::{expect, of_either};
+use crate::tests::files::ranges::taken;
+use crate::tests::files::texts::of_either;
 use crate::tests::load_files::images::{self, image_of, overlap_of};
 use crate::tests::object_files::findings::checked;
 use crate::tests::{load_files, object_files};
@@ -24,8 +25,10 @@ const FILES: &[(&[&[Run]], &[&[Run]])] = &[
 fn many_parts_again(rt: HostRuntime) -> Result<(), Fail> {
     let alloc = rt.alloc();
     for (whole, left) in FILES {
-        let bytes = bytes_of_runs(alloc, whole)?;
-        expect(&rt, alloc, &bytes, (&bytes, &bytes_of_runs(alloc, left)?))?;
+        let (bytes, left) = (bytes_of_runs(alloc, whole)?, bytes_of_runs(alloc, left)?);
+        assert!(rt; of_either(&rt, alloc, &bytes, false) == bytes);
+        assert!(rt; of_either(&rt, alloc, &bytes, true) == left);
+        assert!(rt; taken(alloc, &bytes)?.bytes == left);
     }
     Ok(())
 }

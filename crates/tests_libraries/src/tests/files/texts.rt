@@ -36,7 +36,7 @@ pub(super) fn of_either(rt: &impl Abort, alloc: Global, bytes: &[u8], strip: boo
 }
 
 /// Sees that this is written of the file that the bytes begin with, and this of it once it was stripped.
-pub(super) fn expect(
+fn expect(
     rt: &impl Abort,
     alloc: Global,
     bytes: &[u8],

@@ -1,7 +1,7 @@
 //! The table, hunks and blocks of load files, and of views where these begin.
 
 use crate::tests::asserts::assert_equal;
-use crate::tests::decoding::{load_file, load_view};
+use crate::tests::decoding::{count_blocks, load_file, load_view};
 use hunk_files::{BlockViews, LoadFile, LoadView, Row};
 use hunk_words::Memory;
 use std::alloc::{AllocError, Global};
@@ -105,7 +105,7 @@ fn expect_hunks(rt: &impl Abort, file: &LoadView, start: u64) {
     let mut at = start;
     for hunk in file.iter() {
         assert_equal(rt, (hunk.blocks.place(), hunk.size.word), (at, 1));
-        assert_equal(rt, hunk.blocks.count(), 2);
+        assert_equal(rt, count_blocks(hunk.blocks), 2);
         at = at.saturating_add(12);
     }
 }

@@ -1,7 +1,7 @@
 //! Which object files are read, and where the others are refused and why: in lists, and where they lie.
 
 use crate::tests::asserts::{assert_equal, assert_equal_at};
-use crate::tests::decoding::object_fault;
+use crate::tests::decoding::{count_blocks, object_fault};
 use hunk_files::{ObjectFile, ObjectView, UnitView};
 use hunk_words::{FileFault, Reason};
 use std::alloc::Global;
@@ -27,7 +27,7 @@ fn decoded(alloc: Global, bytes: &[u8]) -> Answer {
 fn blocks_in(unit: &UnitView) -> usize {
     let mut blocks = 0usize;
     for hunk in unit.hunks() {
-        blocks = blocks.saturating_add(hunk.blocks().count());
+        blocks = blocks.saturating_add(count_blocks(hunk.blocks()));
     }
     blocks
 }

@@ -7,7 +7,7 @@ use hunk_files::{
     relocation_width,
 };
 use hunk_words::Kind;
-use std::alloc::{AllocError, Global};
+use std::alloc::Global;
 use std::process::Abort;
 use std::test::Fail;
 use test_helpers::{examples, spelled};
@@ -72,13 +72,15 @@ pub(in crate::tests) fn checked(rt: &impl Abort, alloc: Global, bytes: &[u8]) ->
         .expect(rt, "no memory")
 }
 
-/// What is kept, one after the other.
-fn kept(rt: &impl Abort, alloc: Global, bytes: &[u8]) -> Result<Vec<Finding>, AllocError> {
+/// What is kept, by its place and one after the other.
+fn kept(rt: &impl Abort, alloc: Global, bytes: &[u8]) -> Result<Vec<Finding>, Fail> {
     let findings = checked(rt, alloc, bytes);
     let mut found = Vec::new(alloc);
-    for finding in &findings {
-        found.push(*finding)?;
+    for i in 0..findings.len() {
+        found.push(*findings.at(i))?;
     }
+    let in_turn: Vec<Finding> = findings.iter().copied().collect(alloc)?;
+    assert_equal(rt, in_turn.as_slice(), found.as_slice());
     Ok(found)
 }
 

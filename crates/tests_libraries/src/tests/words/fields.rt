@@ -20,7 +20,14 @@ fn size_words(rt: HostRuntime) {
             extra: *extra,
         };
         assert_equal_at(&rt, (size.bytes(), size.memory()), (*bytes, *memory), word);
-        assert_equal_at(&rt, SizeWord::has_extra(*word), *word == 0xC000_0002, word);
+        let has_extra = *word == 0xC000_0002;
+        assert_equal_at(&rt, SizeWord::has_extra(*word), has_extra, word);
+        assert_equal_at(
+            &rt,
+            SizeWord::entry_longs(*word),
+            1 + usize::from(has_extra),
+            word,
+        );
     }
 }
 

@@ -56,7 +56,7 @@ fn refused(place: u64, reason: Reason) -> RunFault {
     RunFault::Refused(Fault { place, reason })
 }
 
-/// Files, bases, and what is printed of them: examples 4, 28, 32 and 8, and hunks of no row, of a whole one, and of two.
+/// Files, bases, and what is printed: examples 4, 28, 32 and 8, and hunks of no row, of a whole one, and of two.
 const PRINTS: &[(&str, u32, &str)] = &[
     (
         examples::ENDING_EARLY,
