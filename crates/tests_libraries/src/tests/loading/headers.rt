@@ -194,20 +194,3 @@ fn held(rt: HostRuntime) -> Result<(), Fail> {
     assert!(rt; loader.finish().is_err());
     Ok(())
 }
-
-/// A loader that has refused answers the same again, and takes nothing.
-#[test]
-fn stays_refused(rt: HostRuntime) -> Result<(), Fail> {
-    let bytes = spelled(rt.alloc(), ONE_HUNK)?;
-    let mut loader = HeaderLoader::new(rt.alloc(), 3);
-    let (place, reason) = (20, Reason::Budget);
-    let fault = Err(LoadFault { place, reason });
-    assert_equal(
-        &rt,
-        (loader.feed(&bytes), loader.feed(&bytes)),
-        (fault, fault),
-    );
-    assert_equal(&rt, (loader.want(), loader.held()), (0, 0));
-    assert!(rt; loader.declared().is_err());
-    Ok(())
-}

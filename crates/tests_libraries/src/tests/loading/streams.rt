@@ -173,22 +173,3 @@ fn strange_numbers(rt: HostRuntime) -> Result<(), Fail> {
     expect_strange(&rt, rows.as_slice(), &mut store[..7], first);
     Ok(())
 }
-
-/// Numbers that count 2^64 - 4 bytes before the body of example 11: the count stops at 2^64 - 1, and a place
-/// at the last longword below 2^64.
-#[test]
-fn counts_no_further(rt: HostRuntime) -> Result<(), Fail> {
-    let table = [(2, 0, 0x1000)];
-    let file = file_of(rt.alloc(), RELOCATED_PAST_ITS_END, 24, table.as_slice())?;
-    let (_, body) = cut_at(file.bytes.as_slice(), file.header);
-    let (front, rest) = cut_at(body, 4);
-    let (mut store, rows) = ([0; 8], file.rows.as_slice());
-    let mut first = begin(store.as_mut_slice(), rows, 24);
-    first.fed = u64::MAX - 3;
-    let second = takes(&rt, store.as_mut_slice(), rows, first, front);
-    assert_equal(&rt, second.fed, u64::MAX);
-    let (place, reason) = (u64::MAX - 3, Reason::BadOffset);
-    let stop = piece_taken(store.as_mut_slice(), rows, second, rest);
-    assert_equal(&rt, stop, Err(Stop::Refused(LoadFault { place, reason })));
-    Ok(())
-}
