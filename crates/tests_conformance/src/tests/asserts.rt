@@ -4,12 +4,12 @@ use std::fmt::Debug;
 use std::process::Abort;
 
 /// Aborts with both values where they differ.
-pub(super) fn assert_equal<T: PartialEq + Debug + Drop>(rt: &impl Abort, got: T, want: T) {
+pub(crate) fn assert_equal<T: PartialEq + Debug + Drop>(rt: &impl Abort, got: T, want: T) {
     assert_eq!(rt; got, want);
 }
 
 /// The same, which also prints what they were tried at.
-pub(super) fn assert_equal_at<T: PartialEq + Debug + Drop, C: Debug + Drop>(
+pub(crate) fn assert_equal_at<T: PartialEq + Debug + Drop, C: Debug + Drop>(
     rt: &impl Abort,
     got: T,
     want: T,

@@ -1,3 +1,0 @@
-//! Tests of what no clause says.
-mod command_lines;
-mod memory;

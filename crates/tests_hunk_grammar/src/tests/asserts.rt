@@ -1,9 +1,0 @@
-//! Assertions that are functions: what calls them has no branch for each, and so a shorter proof.
-
-use std::fmt::Debug;
-use std::process::Abort;
-
-/// Aborts with both values where they differ.
-pub(super) fn assert_equal<T: PartialEq + Debug + Drop>(rt: &impl Abort, got: T, want: T) {
-    assert_eq!(rt; got, want);
-}

@@ -1,0 +1,70 @@
+//! Each growth of `LoadFile::decode` refused in turn, with the place of the refusal.
+
+use crate::tests::asserts::assert_equal;
+use crate::tests::decoding::load_fault;
+use crate::tests::memory::calls::wanted;
+use std::alloc::Global;
+use std::process::Abort;
+use std::test::Fail;
+use test_helpers::{answers_growth_by_growth, answers_one_by_one, examples, memory_ends, spelled};
+
+/// Where memory is asked for in `FOUR_HUNKS`: for the first hunk's blocks at the last longword of its first, for groups
+/// and symbols at the offset and the value that end the first of them; for the hunks at the END of the first; and for
+/// each further hunk's blocks at the last longword of its first.
+const OF_FOUR_HUNKS: &[u64] = &[52, 68, 88, 96, 104, 120, 132];
+
+/// One hunk of six blocks, the fifth at 56.
+const SIX_BLOCKS: &str = "3F3 0 1 0 0 1 / 3EB 1 / 3F1 0 / 3F1 0 / 3F1 0 / 3F1 0 / 3F2";
+
+/// The list of blocks grows once more at the last longword of the fifth, and the hunk comes at END.
+const OF_SIX_BLOCKS: &[u64] = &[28, 60, 64];
+
+/// Sees that memory is refused at these places in turn, and that the file is read then.
+fn expect(rt: &impl Abort, alloc: Global, text: &str, places: &[u64]) -> Result<(), Fail> {
+    let bytes = spelled(alloc, text)?;
+    let answers = answers_growth_by_growth(alloc, || load_fault(alloc, &bytes))?;
+    assert_equal(rt, answers, wanted(alloc, places)?);
+    Ok(())
+}
+
+#[test]
+fn of_four_hunks(rt: HostRuntime) -> Result<(), Fail> {
+    if !memory_ends(&rt)? {
+        return Ok(());
+    }
+    expect(&rt, rt.alloc(), examples::FOUR_HUNKS, OF_FOUR_HUNKS)
+}
+
+#[test]
+fn of_six_blocks(rt: HostRuntime) -> Result<(), Fail> {
+    if !memory_ends(&rt)? {
+        return Ok(());
+    }
+    expect(&rt, rt.alloc(), SIX_BLOCKS, OF_SIX_BLOCKS)
+}
+
+/// Five hunks, at 44, 112, 160, 184 and 204: the first with a NAME block and two groups of relocations, the second
+/// with two symbols, the third with its DEBUG block first, the fourth with relocations of no group, the last of six
+/// blocks.
+const FIVE: &str = "3F3 0 5 0 4 2 C0000001 10004 0 1 1 / \
+    3E8 1 2E740000 / 3E9 2 4EF90000 44E71 / 3EC 2 4 0 2 1 0 4 0 / 3F2 / \
+    3EA 1 12345678 / 3F0 1 5F6D0000 0 1 5F6E0000 4 0 / 3F2 / \
+    3F1 1 3F2 / 3EB 0 / 3F2 / 3EB 1 / 3EC 0 / 3F2 / \
+    3EB 1 / 3F1 0 / 3F1 0 / 3F1 0 / 3F1 0 / 3F2";
+
+/// Each hunk's blocks at the last longword of the first, and the last hunk's again at that of the fifth; groups and
+/// symbols at the last longword of the first; and the hunks at the first END and again at the fifth.
+const OF_FIVE: &[u64] = &[52, 88, 108, 120, 136, 168, 188, 208, 240, 244];
+
+/// A list that grows gives back the memory that it had, so each growth has a piece of its own here.
+#[test]
+fn of_five_hunks(rt: HostRuntime) -> Result<(), Fail> {
+    if !memory_ends(&rt)? {
+        return Ok(());
+    }
+    let alloc = rt.alloc();
+    let bytes = spelled(alloc, FIVE)?;
+    let answers = answers_one_by_one(alloc, || load_fault(alloc, &bytes))?;
+    assert_equal(&rt, answers, wanted(alloc, OF_FIVE)?);
+    Ok(())
+}

@@ -1,0 +1,87 @@
+//! A text that is longer than its page.
+ghost use Rattle.std.specs.Prelude.{None, false};
+
+use crate::tests::asserts::assert_equal;
+use hunk_words::{Failed, FromWrite, LongWriter, PagePrinter, Printer, Sink, WriteFault};
+use std::test::Fail;
+use test_helpers::Narrow;
+
+/// Two pages of 8 bytes, and three bytes more.
+const TEXT: &[u8] = b"0123456789abcdefghi";
+
+/// Prints the text through a page of 8 bytes, in two pieces.
+fn print_text<W: Sink>(out: &mut LongWriter<W>) -> Result<(), WriteFault> {
+    let mut page: PagePrinter<'_, W, 8> = PagePrinter::new(out);
+    page.print(&TEXT[..5]);
+    page.print(&TEXT[5..]);
+    page.flush()
+}
+
+/// To a writer that takes so many bytes, five at most at a time, and then fails: within a page, at the end of one, in
+/// the last, and not at all.
+#[test]
+fn stops_where_the_writer_fails(rt: HostRuntime) {
+    for room in [3, 8, 18, 19] {
+        let mut out = LongWriter::new(FromWrite::new(Narrow::new(room, 5, false)));
+        let answer = print_text(&mut out);
+        let written = out.written();
+        let want = if room < TEXT.len() {
+            Err(WriteFault { written })
+        } else {
+            Ok(())
+        };
+        assert_equal(&rt, (answer, written), (want, room as u64));
+        assert_equal(
+            &rt,
+            Some(out.into_inner().into_inner().taken()),
+            TEXT.get(..room),
+        );
+    }
+}
+
+/// Takes all, and counts the pushes and the bytes of the last one.
+#[derive(Debug, PartialEq, Drop)]
+struct Pushed {
+    times: usize,
+    last: usize,
+}
+
+impl Sink for Pushed {
+    ghost outlet = { λ _. record { taken = None; failed = false } };
+
+    fn push(&mut self, bytes: &[u8]) -> Result<usize, Failed> {
+        self.times = self.times.wrapping_add(1);
+        self.last = bytes.len();
+        Ok(bytes.len())
+    }
+}
+
+/// How a text of this many bytes goes out that is printed byte by byte.
+fn pushes_of(count: usize) -> Pushed {
+    let mut out = LongWriter::new(Pushed { times: 0, last: 0 });
+    let mut page = Printer::new(&mut out);
+    for _ in 0..count {
+        page.print(b"x");
+    }
+    let _answer = page.flush();
+    let _out = page.into_inner();
+    out.into_inner()
+}
+
+/// Numbers of bytes, and in how many pushes they go out: each but the last is a page of 81,920 bytes.
+const PAGES: &[(usize, usize, usize)] = &[
+    (1, 1, 1),
+    (81_920, 1, 81_920),
+    (81_921, 2, 1),
+    (245_760, 3, 81_920),
+    (300_000, 4, 54_240),
+];
+
+#[test]
+fn goes_out_by_pages(rt: HostRuntime) -> Result<(), Fail> {
+    for (count, times, last) in PAGES {
+        let (times, last) = (*times, *last);
+        assert_equal(&rt, pushes_of(*count), Pushed { times, last });
+    }
+    Ok(())
+}

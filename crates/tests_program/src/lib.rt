@@ -1,0 +1,5 @@
+//! Tests of hunk_commands, hunk_command_line, hunk_run and hunk_examples, by their public calls.
+#![tactic(auto)]
+
+#[cfg(test)]
+mod tests;

@@ -1,0 +1,8 @@
+//! What no clause says of the program, and the callers that the pages show.
+
+mod asserts;
+mod callers;
+mod command_line;
+mod commands;
+mod line;
+mod runs;
