@@ -9,7 +9,7 @@ use crate::tests::line::line_of;
 use hunk_command_line::{Order, OrderFault, order};
 use hunk_examples::{
     Symbol, describe, has_header, list_symbols, load_pieces, load_program, place_in_rom, show_file,
-    strip_file, survey, write_program,
+    strip, survey, write_program,
 };
 use hunk_vectors::{OBJECTS, ObjectVector, ObjectWant, VECTORS, Vector, Want};
 use hunk_words::{FromWrite, Reason};
@@ -69,16 +69,35 @@ fn describes_files(rt: HostRuntime) -> Result<(), Fail> {
     Ok(())
 }
 
+/// A load file, and an object file whose second unit has it in its second hunk, with their symbol.
+const SYMBOLS: &[(&str, Symbol<'static>)] = &[
+    (
+        examples::WITH_A_SYMBOL,
+        Symbol {
+            unit: 0,
+            hunk: 0,
+            name: b"_m\0\0",
+            value: 0,
+        },
+    ),
+    (
+        "3E7 0 / 3EB 0 / 3F2 / 3E7 0 / 3EB 1 / 3F2 / 3E9 1 0 / 3F0 1 62000000 4 0 / 3F2",
+        Symbol {
+            unit: 1,
+            hunk: 1,
+            name: b"b\0\0\0",
+            value: 4,
+        },
+    ),
+];
+
 #[test]
 fn lists_symbols(rt: HostRuntime) -> Result<(), Fail> {
-    let file = spelled(rt.alloc(), examples::WITH_A_SYMBOL)?;
-    let found = list_symbols(rt.alloc(), file.as_slice())?;
-    let want = Symbol {
-        hunk: 0,
-        name: b"_m\0\0",
-        value: 0,
-    };
-    assert_equal(&rt, found.as_slice(), [want].as_slice());
+    for (text, want) in SYMBOLS {
+        let file = spelled(rt.alloc(), text)?;
+        let found = list_symbols(rt.alloc(), file.as_slice())?;
+        assert_equal(&rt, found.as_slice(), [*want].as_slice());
+    }
     Ok(())
 }
 
@@ -109,7 +128,7 @@ fn places_in_a_rom(rt: HostRuntime) -> Result<(), Fail> {
 #[test]
 fn strips_a_file(rt: HostRuntime) -> Result<(), Fail> {
     let file = spelled(rt.alloc(), examples::WITH_A_SYMBOL)?;
-    let stripped = strip_file(rt.alloc(), file.as_slice())?;
+    let stripped = strip(rt.alloc(), file.as_slice())?;
     let want = spelled(rt.alloc(), examples::ONE_HUNK)?;
     assert_equal(&rt, stripped.as_slice(), want.as_slice());
     Ok(())
