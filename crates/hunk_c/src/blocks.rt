@@ -9,9 +9,10 @@ ghost use Rattle.hunk_c.specs.Rows.{Tabulates, TabulatesWhatFits};
 
 use crate::answer::Answer;
 use crate::entries::list_entries;
-use crate::rows::{BlockTable, ByBlock, RowCount, TakesRows, tabulate};
+use crate::rows::{BlockTable, ByBlock, RowCount, tabulate};
 use crate::symbols::list_symbols;
 use hunk_blocks::{BlockView, BodyView, Payload};
+use hunk_files::Takes;
 
 /// A block, and where it stands: 80 bytes, with no padding.
 #[repr(C)]
@@ -68,7 +69,7 @@ impl BlockTable for BlockListing {
 
     ghost rows = { block_rows };
 
-    fn list<T: TakesRows<BlockRow>>(
+    fn list<T: Takes<BlockRow>>(
         &self,
         unit: u64,
         hunk: u64,

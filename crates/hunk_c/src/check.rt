@@ -8,8 +8,8 @@ ghost use Rattle.hunk_files.specs.declared.hunk_file.HunkFile.TheVariants as fil
 ghost use Rattle.hunk_c.specs.Checks.{Checks, ChecksWhatFits, finding_row, kind_number};
 
 use crate::answer::{Answer, done, no_room, refused};
-use crate::rows::{RowCount, RowFiller, TakesRows};
-use hunk_files::{FileView, Finding, FindingKind, ObjectView, TakesPlacedFindings};
+use crate::rows::{RowCount, RowFiller};
+use hunk_files::{FileView, FindingKind, ObjectView, PlacedFinding, Takes};
 
 /// What is wrong with an offset, and where it stands: 40 bytes, with no padding.
 #[repr(C)]
@@ -91,7 +91,7 @@ fn put_rows(file: &ObjectView<'_>, rows: &mut [FindingRow])
 }
 
 /// Hands over the row of each finding.
-fn list_findings<T: TakesRows<FindingRow>>(file: &ObjectView<'_>, taker: &mut T)
+fn list_findings<T: Takes<FindingRow>>(file: &ObjectView<'_>, taker: &mut T)
     ensures taken { T.takes taker.old (map finding_row (placed_findings file.now)) taker.new }
     ensures few { length (placed_findings file.now) < 2 ^ 64 }
 {
@@ -105,7 +105,7 @@ struct FindingRows<'t, T> {
     taker: &'t mut T,
 }
 
-impl<T: TakesRows<FindingRow>> TakesPlacedFindings for FindingRows<'_, T> {
+impl<T: Takes<FindingRow>> Takes<PlacedFinding> for FindingRows<'_, T> {
     ghost takes = { λ a found b. (b.taker.ghost_name ≡ a.taker.ghost_name)
         × T.takes a.taker.now (map finding_row found) b.taker.now };
 
@@ -117,17 +117,18 @@ impl<T: TakesRows<FindingRow>> TakesPlacedFindings for FindingRows<'_, T> {
           first.1 next.1,
     ) };
 
-    fn take(&mut self, place: u64, finding: Finding) {
-        self.taker.take(finding_row(place, &finding));
+    fn take(&mut self, item: PlacedFinding) {
+        self.taker.take(finding_row(&item));
     }
 }
 
-/// What callers see of a finding of the offset at this byte.
-fn finding_row(place: u64, finding: &Finding) -> FindingRow
-    ensures { result ≡ finding_row (record { place = place; value = finding.now }) }
+/// What callers see of a finding.
+fn finding_row(found: &PlacedFinding) -> FindingRow
+    ensures { result ≡ finding_row found.now }
 {
+    let finding = &found.value;
     FindingRow {
-        place,
+        place: found.place,
         unit: finding.unit,
         hunk: finding.hunk,
         offset: finding.offset,

@@ -8,8 +8,9 @@ ghost use Rattle.hunk_c.specs.Entries.{block_rows, entries_in, entry_row};
 
 use crate::answer::Answer;
 use crate::name::text_length;
-use crate::rows::{BlockTable, ByBlock, TakesRows, tabulate};
+use crate::rows::{BlockTable, ByBlock, tabulate};
 use hunk_blocks::{BlockView, BodyView, EntriesIter, Entry};
+use hunk_files::Takes;
 use hunk_words::NAME_LIMIT;
 
 /// An entry of an EXT block, and where it stands: 64 bytes, with no padding.
@@ -62,7 +63,7 @@ impl BlockTable for EntryTable {
 
     ghost rows = { block_rows };
 
-    fn list<T: TakesRows<EntryRow>>(
+    fn list<T: Takes<EntryRow>>(
         &self,
         unit: u64,
         hunk: u64,
@@ -76,7 +77,7 @@ impl BlockTable for EntryTable {
 }
 
 /// Hands over the row of each entry of a block.
-pub(crate) fn list_entries<T: TakesRows<EntryRow>>(
+pub(crate) fn list_entries<T: Takes<EntryRow>>(
     taker: &mut T,
     unit: u64,
     hunk: u64,

@@ -9,9 +9,9 @@ ghost use Rattle.hunk_c.specs.References.{long_text, reference_row, references_i
 ghost use Rattle.hunk_c.specs.Rows.{Tabulates, TabulatesWhatFits};
 
 use crate::answer::Answer;
-use crate::rows::{Table, TakesRows, tabulate};
+use crate::rows::{Table, tabulate};
 use hunk_blocks::{BlockView, BodyView, EntriesIter, Longs};
-use hunk_files::{FileView, Item, reference_width};
+use hunk_files::{FileView, Item, Takes, reference_width};
 
 /// An offset that refers to what an EXT entry names: 32 bytes, with no padding.
 #[repr(C)]
@@ -56,7 +56,7 @@ impl Table for ReferenceTable {
 
     ghost rows = { references_in };
 
-    fn list_file<T: TakesRows<ReferenceRow>>(&self, file: &FileView<'_>, taker: &mut T) {
+    fn list_file<T: Takes<ReferenceRow>>(&self, file: &FileView<'_>, taker: &mut T) {
         // The number of the next entry, up to 2 ^ 64 - 1.
         let mut number = 0;
         'listing: for item in file.items() {
@@ -69,7 +69,7 @@ impl Table for ReferenceTable {
 
 /// Hands over the row of each reference of a block, whose first entry has this number, and gives the
 /// number of the next one.
-fn list_block<T: TakesRows<ReferenceRow>>(taker: &mut T, first: u64, block: BlockView<'_>) -> u64
+fn list_block<T: Takes<ReferenceRow>>(taker: &mut T, first: u64, block: BlockView<'_>) -> u64
     ensures taken { (n : ℕ) → first ≡ saturated n → T.takes taker.old
         (body_references n block.entry.place block.entry.value.body) taker.new }
     ensures next { (n : ℕ) → first ≡ saturated n
@@ -83,7 +83,7 @@ fn list_block<T: TakesRows<ReferenceRow>>(taker: &mut T, first: u64, block: Bloc
 
 /// Hands over the row of each reference of entries, the first of which has this number, and gives the
 /// number of the next one.
-fn list_entries<T: TakesRows<ReferenceRow>>(
+fn list_entries<T: Takes<ReferenceRow>>(
     taker: &mut T,
     first: u64,
     mut entries: EntriesIter<'_>,
@@ -109,7 +109,7 @@ fn list_entries<T: TakesRows<ReferenceRow>>(
 }
 
 /// Hands over the row of each of these offsets, which end at this byte of the file.
-fn list_references<T: TakesRows<ReferenceRow>>(
+fn list_references<T: Takes<ReferenceRow>>(
     taker: &mut T,
     entry: u64,
     width: u32,

@@ -5,9 +5,9 @@ ghost use Rattle.hunk_c.specs.Relocations.{relocation_row, relocations_in};
 ghost use Rattle.hunk_c.specs.Rows.{Tabulates, TabulatesWhatFits};
 
 use crate::answer::Answer;
-use crate::rows::{BlockTable, ByBlock, TakesRows, tabulate};
+use crate::rows::{BlockTable, ByBlock, tabulate};
 use hunk_blocks::{BlockView, BodyView, GroupsIter, Longs};
-use hunk_files::relocation_width;
+use hunk_files::{Takes, relocation_width};
 use hunk_words::BlockWord;
 
 /// An offset that is relocated, and where it stands: 48 bytes, with no padding.
@@ -59,7 +59,7 @@ impl BlockTable for RelocationTable {
 
     ghost rows = { block_rows };
 
-    fn list<T: TakesRows<RelocationRow>>(
+    fn list<T: Takes<RelocationRow>>(
         &self,
         unit: u64,
         hunk: u64,
@@ -97,7 +97,7 @@ impl Relocated {
 }
 
 /// Hands over the row of each offset of a block.
-fn list_groups<T: TakesRows<RelocationRow>>(
+fn list_groups<T: Takes<RelocationRow>>(
     taker: &mut T,
     relocated: Relocated,
     mut groups: GroupsIter<'_>,
@@ -114,7 +114,7 @@ fn list_groups<T: TakesRows<RelocationRow>>(
 }
 
 /// Hands over the row of each offset of a group, from this byte of the file on.
-fn list_offsets<T: TakesRows<RelocationRow>>(
+fn list_offsets<T: Takes<RelocationRow>>(
     taker: &mut T,
     relocated: Relocated,
     target: u32,

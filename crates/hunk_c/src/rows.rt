@@ -1,5 +1,5 @@
 //! Rows of what stands in a file, which the caller has room for.
-ghost use Rattle.std.specs.Prelude.{◌≡◌, ◌<◌, ◌^◌, ◌++◌, ◌∷◌, List, [], length};
+ghost use Rattle.std.specs.Prelude.{◌≡◌, ◌<◌, ◌^◌, List, length};
 ghost use Rattle.std.proofs.Common.{◌∙◌, refl};
 ghost use Rattle.hunk_words.specs.Carriers.{saturated};
 ghost use Rattle.hunk_files.specs.FileView.{file_of};
@@ -12,23 +12,7 @@ ghost use Rattle.hunk_c.specs.Taking.{Fills, fills_none, fills_more};
 use crate::answer::{Answer, done, no_room, refused};
 use crate::file::hunks_in;
 use hunk_blocks::BlockView;
-use hunk_files::{FileView, Item};
-
-/// Takes rows one by one, and refuses none.
-///
-/// `takes` says that just these rows were taken, in this order, from the one state to the other.
-pub(crate) trait TakesRows<R> {
-    ghost takes: { Self → List R → Self → Type 0 };
-
-    /// Takes this row, behind those that were taken before.
-    fn take(&mut self, row: R)
-        ensures { takes self.old (row ∷ []) self.new };
-
-    ghost none: { (s : Self) → takes s [] s };
-
-    ghost more: { (a b c : Self) (xs ys : List R) → takes a xs b → takes b ys c
-        → takes a (xs ++ ys) c };
-}
+use hunk_files::{FileView, Item, Takes};
 
 /// What stands in a file, as rows.
 pub(crate) trait Table {
@@ -37,7 +21,7 @@ pub(crate) trait Table {
     ghost rows: { HunkFile → List Self.Row };
 
     /// Hands over a row for each thing, in file order.
-    fn list_file<T: TakesRows<Self::Row>>(&self, file: &FileView<'_>, taker: &mut T)
+    fn list_file<T: Takes<Self::Row>>(&self, file: &FileView<'_>, taker: &mut T)
         ensures { T.takes taker.old (rows (file_of file.now)) taker.new };
 }
 
@@ -48,7 +32,7 @@ pub(crate) trait BlockTable {
     ghost rows: { StandingBlock → List Self.Row };
 
     /// Hands over a row for each thing in this block of a hunk of a unit.
-    fn list<T: TakesRows<Self::Row>>(
+    fn list<T: Takes<Self::Row>>(
         &self,
         unit: u64,
         hunk: u64,
@@ -68,7 +52,7 @@ impl<B: BlockTable> Table for ByBlock<B> {
 
     ghost rows = { rows_in B.rows };
 
-    fn list_file<T: TakesRows<B::Row>>(&self, file: &FileView<'_>, taker: &mut T) {
+    fn list_file<T: Takes<B::Row>>(&self, file: &FileView<'_>, taker: &mut T) {
         'listing: for item in file.items() {
             if let Item::Block { unit, hunk, view } = item {
                 self.0.list(unit, hunk, view, taker);
@@ -83,14 +67,14 @@ pub(crate) struct RowCount {
     pub(crate) count: u64,
 }
 
-impl<R: Drop> TakesRows<R> for RowCount {
+impl<R: Drop> Takes<R> for RowCount {
     ghost takes = { λ a xs b. Counts a.count xs b.count };
 
     ghost none = { λ s. counts_none R s.count };
 
     ghost more = { λ a b c xs ys. counts_more a.count b.count c.count xs ys };
 
-    fn take(&mut self, _row: R) {
+    fn take(&mut self, _item: R) {
         self.count = self.count.saturating_add(1);
     }
 }
@@ -103,7 +87,7 @@ pub(crate) struct RowFiller<'r, R> {
     pub(crate) at: usize,
 }
 
-impl<R: Copy + Drop> TakesRows<R> for RowFiller<'_, R> {
+impl<R: Copy + Drop> Takes<R> for RowFiller<'_, R> {
     ghost takes = { λ a xs b. (b.rows.ghost_name ≡ a.rows.ghost_name)
         × Fills a.rows.now a.at xs b.rows.now b.at };
 
@@ -114,9 +98,9 @@ impl<R: Copy + Drop> TakesRows<R> for RowFiller<'_, R> {
       fills_more a.rows.now b.rows.now c.rows.now a.at b.at c.at xs ys first.1 next.1,
     ) };
 
-    fn take(&mut self, row: R) {
+    fn take(&mut self, item: R) {
         if self.at < self.rows.len() {
-            self.rows[self.at] = row;
+            self.rows[self.at] = item;
             self.at += 1;
         }
     }

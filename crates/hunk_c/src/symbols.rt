@@ -8,8 +8,9 @@ ghost use Rattle.hunk_c.specs.Symbols.{block_rows, symbol_row, symbols_in};
 
 use crate::answer::Answer;
 use crate::name::text_length;
-use crate::rows::{BlockTable, ByBlock, TakesRows, tabulate};
+use crate::rows::{BlockTable, ByBlock, tabulate};
 use hunk_blocks::{BlockView, BodyView, SymbolView, SymbolsIter};
+use hunk_files::Takes;
 
 /// A symbol, and where it stands: 48 bytes, with no padding.
 #[repr(C)]
@@ -58,7 +59,7 @@ impl BlockTable for SymbolTable {
 
     ghost rows = { block_rows };
 
-    fn list<T: TakesRows<SymbolRow>>(
+    fn list<T: Takes<SymbolRow>>(
         &self,
         unit: u64,
         hunk: u64,
@@ -72,7 +73,7 @@ impl BlockTable for SymbolTable {
 }
 
 /// Hands over the row of each symbol of a block.
-pub(crate) fn list_symbols<T: TakesRows<SymbolRow>>(
+pub(crate) fn list_symbols<T: Takes<SymbolRow>>(
     taker: &mut T,
     unit: u64,
     hunk: u64,

@@ -7,8 +7,8 @@ ghost use Rattle.hunk_c.specs.Units.{unit_row, units_in};
 
 use crate::answer::Answer;
 use crate::name::text_length;
-use crate::rows::{Table, TakesRows, tabulate};
-use hunk_files::{FileView, UnitView, UnitViews};
+use crate::rows::{Table, tabulate};
+use hunk_files::{FileView, Takes, UnitView, UnitViews};
 
 /// A unit of an object file: 40 bytes, with no padding.
 #[repr(C)]
@@ -52,7 +52,7 @@ impl Table for UnitTable {
 
     ghost rows = { units_in };
 
-    fn list_file<T: TakesRows<UnitRow>>(&self, file: &FileView<'_>, taker: &mut T) {
+    fn list_file<T: Takes<UnitRow>>(&self, file: &FileView<'_>, taker: &mut T) {
         if let FileView::Object(file) = file {
             list_units(taker, file.units());
         }
@@ -60,7 +60,7 @@ impl Table for UnitTable {
 }
 
 /// Hands over the row of each unit.
-fn list_units<T: TakesRows<UnitRow>>(taker: &mut T, mut units: UnitViews<'_>)
+fn list_units<T: Takes<UnitRow>>(taker: &mut T, mut units: UnitViews<'_>)
     ensures { T.takes taker.old
         (item_rows unit_row unit_text units.entry.place units.entry.value) taker.new }
 {

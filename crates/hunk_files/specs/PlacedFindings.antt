@@ -2,16 +2,16 @@
 use Rattle.std.specs.Prelude.{◌≡◌, ℕ, ◌+◌, ◌-◌, ◌*◌, List, [], ◌∷◌, ◌++◌, length, map}
 use Rattle.hunk_words.specs.Bits.{kind}
 use Rattle.hunk_blocks.specs.Parts.{block_text, ext_text, group_text}
-use Rattle.hunk_blocks.specs.Placed.{Placed}
 use Rattle.hunk_blocks.specs.Values.{BlockBody, BlockValue, ExtEntry, RelocGroup, Reloc, Ext}
 use Rattle.hunk_files.specs.Findings.{FindingValue, HunkContext, hunk_bytes, outside}
 use Rattle.hunk_files.specs.Findings.{reference_width, relocation_findings, relocation_width}
 use Rattle.hunk_files.specs.Hunks.{block_texts}
 use Rattle.hunk_files.specs.ObjectFile.{ObjectFileValue, ObjectHunk, UnitValue}
 use Rattle.hunk_files.specs.ObjectFile.{unit_header, unit_text}
+use Rattle.hunk_files.specs.declared.object.check.PlacedFinding as placed
 
 abbrev pub PlacedFinding : Type 0
-PlacedFinding = Placed FindingValue
+PlacedFinding = placed.PlacedFinding
 
 -- those of an offset that stands at this byte
 abbrev pub standing_at : ℕ → List FindingValue → List PlacedFinding

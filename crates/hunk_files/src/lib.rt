@@ -14,6 +14,7 @@ mod part;
 mod place;
 mod ranges;
 mod row;
+mod takes;
 
 pub use crate::bases::Bases;
 pub use crate::blocks::BlockViews;
@@ -23,10 +24,11 @@ pub use crate::items::{Item, Items};
 pub use crate::load::{ImageFault, LoadFile, LoadHunkView, LoadHunkViews, LoadView, TableIter};
 pub use crate::object::{
     Finding, FindingKind, Findings, Hunk, HunkView, HunkViews, ObjectFile, ObjectView,
-    TakesFindings, TakesPlacedFindings, Unit, UnitView, UnitViews, reference_width,
+    PlacedFinding, Unit, UnitView, UnitViews, reference_width,
     relocation_width, walk_object,
 };
 pub use crate::part::{Part, part_at};
 pub use crate::ranges::TakesBytes;
 pub use crate::row::Row;
+pub use crate::takes::Takes;
 pub use hunk_grammar::Sniff;

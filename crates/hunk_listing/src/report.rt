@@ -10,7 +10,7 @@ ghost use Rattle.hunk_listing.specs.Reporting.{Reports, reports_none, reports_mo
 
 use crate::line::Line;
 use crate::load::{print_load_head, print_rest};
-use hunk_files::{Finding, FindingKind, LoadView, ObjectView, TakesFindings};
+use hunk_files::{Finding, FindingKind, LoadView, ObjectView, Takes};
 use hunk_words::{Printer, Sink};
 use std::marker::Model;
 
@@ -52,7 +52,7 @@ struct FindingLines<'p, 'a, W: Sink> {
     count: u64,
 }
 
-impl<W: Sink> TakesFindings for FindingLines<'_, '_, W> {
+impl<W: Sink> Takes<Finding> for FindingLines<'_, '_, W> {
     ghost takes = { λ a xs b. (b.page.ghost_name ≡ a.page.ghost_name)
         × Reports a.page.now b.page.now a.count b.count xs };
 
@@ -64,8 +64,8 @@ impl<W: Sink> TakesFindings for FindingLines<'_, '_, W> {
     ) };
 
     #[inline(always)]
-    fn take(&mut self, finding: Finding) {
-        self.line.print(self.page, finding);
+    fn take(&mut self, item: Finding) {
+        self.line.print(self.page, item);
         self.count = self.count.wrapping_add(1);
     }
 }

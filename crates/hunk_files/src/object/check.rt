@@ -1,8 +1,10 @@
 //! What is wrong with the offsets of an object file, found by one walk.
-ghost use Rattle.std.specs.Prelude.{◌≡◌, ◌+◌, ◌*◌, ◌^◌, ◌<◌, ◌≤◌, length};
+ghost use Rattle.std.specs.Prelude.{◌≡◌, ◌+◌, ◌*◌, ◌^◌, ◌<◌, ◌≤◌, length, map};
+ghost use Rattle.std.proofs.Common.{◌∙◌, refl};
 ghost use Rattle.std.specs.List.{AllByRecursion, flat_map};
 ghost use Rattle.hunk_blocks.specs.Values.{IsExtEntry};
 ghost use Rattle.hunk_blocks.specs.Views.{entry_of, group_of};
+ghost use Rattle.hunk_files.specs.Collecting.{mapped_more};
 ghost use Rattle.hunk_files.specs.Findings.{finding, findings, hunk_bytes, outside, reference_width};
 ghost use Rattle.hunk_files.specs.Findings.{relocation_findings, relocation_width};
 ghost use Rattle.hunk_files.specs.Hunks.{block_texts};
@@ -15,9 +17,9 @@ ghost use Rattle.hunk_files.specs.PlacedFindings.{unit_findings_at};
 
 use crate::blocks::BlockViews;
 use crate::object::hunk_view::HunkViews;
-use crate::object::taker::{TakesFindings, TakesPlacedFindings, WithoutPlaces};
 use crate::object::unit_view::UnitView;
 use crate::object::view::ObjectView;
+use crate::takes::Takes;
 use hunk_blocks::{BlockView, BodyView, EntriesIter, Entry, Group, GroupsIter};
 use hunk_words::Kind;
 
@@ -41,6 +43,39 @@ pub struct Finding {
     pub fault: FindingKind,
     /// The offset, in bytes from the start of the hunk.
     pub offset: u32,
+}
+
+/// A finding, and where its offset stands in the file.
+#[derive(Clone, Copy, Debug, PartialEq, Eq)]
+pub struct PlacedFinding {
+    /// The byte of the file at which the offset stands.
+    pub place: u64,
+    /// The finding.
+    pub value: Finding,
+}
+
+/// Hands over the findings that it takes, without their places.
+#[derive(Drop)]
+struct WithoutPlaces<'t, T> {
+    taker: &'t mut T,
+}
+
+impl<T: Takes<Finding>> Takes<PlacedFinding> for WithoutPlaces<'_, T> {
+    ghost takes = { λ a placed b. (b.taker.ghost_name ≡ a.taker.ghost_name)
+        × T.takes a.taker.now (map (λ f. f.value) placed) b.taker.now };
+
+    ghost none = { λ s. (refl, T.none s.taker.now) };
+
+    ghost more = { λ a b c xs ys first next. (
+      next.0 ∙ first.0,
+      mapped_more (λ f. f.value) T.takes T.more a.taker.now b.taker.now c.taker.now xs ys
+          first.1 next.1,
+    ) };
+
+    #[inline(always)]
+    fn take(&mut self, item: PlacedFinding) {
+        self.taker.take(item.value);
+    }
 }
 
 /// Where offsets stand: the unit and the hunk, how many hunks the unit has, and how many bytes the
@@ -103,7 +138,7 @@ pub(super) fn hunk_bytes(blocks: BlockViews<'_>) -> u64
 }
 
 /// Hands over what is wrong with an offset of this width that stands at this byte.
-fn check_offset<T: TakesPlacedFindings>(
+fn check_offset<T: Takes<PlacedFinding>>(
     taker: &mut T,
     spot: HunkContext,
     width: u64,
@@ -114,12 +149,13 @@ fn check_offset<T: TakesPlacedFindings>(
     ensures { T.takes taker.old (standing_at place (outside spot width offset)) taker.new }
 {
     if u64::from(offset) + width > spot.bytes {
-        taker.take(place, spot.finding(FindingKind::OutsideHunk, offset));
+        let value = spot.finding(FindingKind::OutsideHunk, offset);
+        taker.take(PlacedFinding { place, value });
     }
 }
 
 /// Hands over what is wrong with an offset of this width that is relocated to this target.
-fn check_relocation<T: TakesPlacedFindings>(
+fn check_relocation<T: Takes<PlacedFinding>>(
     taker: &mut T,
     spot: HunkContext,
     width: u64,
@@ -132,13 +168,14 @@ fn check_relocation<T: TakesPlacedFindings>(
         (standing_at place (relocation_findings spot width target offset)) taker.new }
 {
     if u64::from(target) >= spot.hunks {
-        taker.take(place, spot.finding(FindingKind::BadTarget, offset));
+        let value = spot.finding(FindingKind::BadTarget, offset);
+        taker.take(PlacedFinding { place, value });
     }
     check_offset(taker, spot, width, place, offset);
 }
 
 /// Hands over what is wrong with the offsets of a group that begins at this byte.
-fn check_group<T: TakesPlacedFindings>(
+fn check_group<T: Takes<PlacedFinding>>(
     taker: &mut T,
     spot: HunkContext,
     width: u64,
@@ -157,7 +194,7 @@ fn check_group<T: TakesPlacedFindings>(
     }
 }
 
-fn check_groups<T: TakesPlacedFindings>(
+fn check_groups<T: Takes<PlacedFinding>>(
     taker: &mut T,
     spot: HunkContext,
     width: u64,
@@ -176,7 +213,7 @@ fn check_groups<T: TakesPlacedFindings>(
 }
 
 /// Hands over what is wrong with the offsets of an entry that ends at this byte.
-fn check_entry<T: TakesPlacedFindings>(
+fn check_entry<T: Takes<PlacedFinding>>(
     taker: &mut T,
     spot: HunkContext,
     end: u64,
@@ -193,7 +230,7 @@ fn check_entry<T: TakesPlacedFindings>(
     }
 }
 
-fn check_entries<T: TakesPlacedFindings>(
+fn check_entries<T: Takes<PlacedFinding>>(
     taker: &mut T,
     spot: HunkContext,
     mut entries: EntriesIter<'_>,
@@ -207,7 +244,7 @@ fn check_entries<T: TakesPlacedFindings>(
     }
 }
 
-fn check_block<T: TakesPlacedFindings>(taker: &mut T, spot: HunkContext, block: BlockView<'_>)
+fn check_block<T: Takes<PlacedFinding>>(taker: &mut T, spot: HunkContext, block: BlockView<'_>)
     ensures { T.takes taker.old
         (block_findings_at spot block.entry.place block.entry.value) taker.new }
 {
@@ -222,7 +259,7 @@ fn check_block<T: TakesPlacedFindings>(taker: &mut T, spot: HunkContext, block: 
 }
 
 /// Answers the byte behind the blocks.
-fn check_blocks<T: TakesPlacedFindings>(
+fn check_blocks<T: Takes<PlacedFinding>>(
     taker: &mut T,
     spot: HunkContext,
     mut blocks: BlockViews<'_>,
@@ -239,7 +276,7 @@ fn check_blocks<T: TakesPlacedFindings>(
 }
 
 /// Answers the byte behind the hunks.
-fn check_hunks<T: TakesPlacedFindings>(
+fn check_hunks<T: Takes<PlacedFinding>>(
     taker: &mut T,
     number: u64,
     count: u64,
@@ -267,7 +304,7 @@ fn check_hunks<T: TakesPlacedFindings>(
 }
 
 /// Answers the byte behind the unit.
-fn check_unit<T: TakesPlacedFindings>(taker: &mut T, number: u64, unit: &UnitView<'_>) -> u64
+fn check_unit<T: Takes<PlacedFinding>>(taker: &mut T, number: u64, unit: &UnitView<'_>) -> u64
     ensures taken { T.takes taker.old
         (unit_findings_at number unit.now.place unit.now.value) taker.new }
     ensures end { result ≡ unit.now.place + 4 * length (unit_text unit.now.value) }
@@ -284,7 +321,7 @@ impl ObjectView<'_> {
     /// the unit's number of hunks, then `OutsideHunk` where the bytes that are relocated or refer
     /// go past the end of the hunk. Answers how many units there are.
     #[tactic(auto, using(crate::proofs::PlacedFindingLaws::findings_placed))]
-    pub fn check_with<T: TakesFindings>(&self, taker: &mut T) -> u64
+    pub fn check_with<T: Takes<Finding>>(&self, taker: &mut T) -> u64
         ensures taken { T.takes taker.old (findings self.now) taker.new }
         ensures few { length (findings self.now) < 2 ^ 64 }
         ensures units { result ≡ length self.now }
@@ -294,7 +331,7 @@ impl ObjectView<'_> {
     }
 
     /// Hands over the same findings, each with the byte of the file at which its offset stands.
-    pub fn check_in_place<T: TakesPlacedFindings>(&self, taker: &mut T) -> u64
+    pub fn check_in_place<T: Takes<PlacedFinding>>(&self, taker: &mut T) -> u64
         ensures taken { T.takes taker.old (placed_findings self.now) taker.new }
         ensures few { length (placed_findings self.now) < 2 ^ 64 }
         ensures units { result ≡ length self.now }

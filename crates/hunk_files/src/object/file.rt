@@ -9,9 +9,10 @@ ghost use Rattle.hunk_files.specs.ObjectFault.{HasObjectFault};
 ghost use Rattle.hunk_files.specs.Lacks.{LacksObjectPart};
 ghost use Rattle.hunk_files.specs.Findings.{findings};
 
-use crate::object::taker::TakesFindings;
 use crate::object::unit::{Unit, print_unit};
 use crate::object::view::ObjectView;
+use crate::object::check::Finding;
+use crate::takes::Takes;
 use hunk_words::{FileFault, LongWriter, Printer, Sink, WriteFault};
 use std::alloc::Global;
 use std::marker::Model;
@@ -89,7 +90,7 @@ impl<'a> ObjectFile<'a> {
 
     /// Hands over what is wrong with the offsets of all relocations and external references, as
     /// `ObjectView::check_with` does. It takes no memory.
-    pub fn check_with<T: TakesFindings>(&self, taker: &mut T)
+    pub fn check_with<T: Takes<Finding>>(&self, taker: &mut T)
         ensures taken { T.takes taker.old (findings self.now) taker.new }
         ensures few { length (findings self.now) < 2 ^ 64 }
     {

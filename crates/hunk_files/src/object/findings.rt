@@ -6,7 +6,7 @@ ghost use Rattle.hunk_files.specs.Collecting.{Keeps, keeps_none, keeps_more};
 
 use crate::object::check::Finding;
 use crate::object::file::ObjectFile;
-use crate::object::taker::TakesFindings;
+use crate::takes::Takes;
 use std::alloc::{AllocError, Global};
 use std::marker::Model;
 use std::slice;
@@ -76,7 +76,7 @@ struct Collector {
     lost: bool,
 }
 
-impl TakesFindings for Collector {
+impl Takes<Finding> for Collector {
     ghost takes = { λ a xs b. Keeps a.lost a.found.items xs b.lost b.found.items };
 
     ghost none = { λ s. keeps_none s.lost s.found.items };
@@ -84,9 +84,9 @@ impl TakesFindings for Collector {
     ghost more = { λ a b c xs ys. keeps_more a.lost b.lost c.lost
         a.found.items b.found.items c.found.items xs ys };
 
-    fn take(&mut self, finding: Finding) {
+    fn take(&mut self, item: Finding) {
         if !self.lost {
-            self.lost = self.found.push(finding).is_err();
+            self.lost = self.found.push(item).is_err();
         }
     }
 }

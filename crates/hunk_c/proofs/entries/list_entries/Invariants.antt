@@ -8,7 +8,7 @@ abbrev pub invariant-listing : goal.invariant-listing
 invariant-listing g l =
     let left = item_rows (entry_row l.unit l.hunk) ext_text in
     (l.place ≡ l.entries.place)
-    × TakenUpTo g.T.TakesRows.takes l.fn.taker l.taker (left l.entries.place l.entries.value) (left l.fn.entries.place l.fn.entries.value)
+    × TakenUpTo g.T.Takes.takes l.fn.taker l.taker (left l.entries.place l.entries.value) (left l.fn.entries.place l.fn.entries.value)
 
 abbrev pub decreases-listing : goal.decreases-listing
 decreases-listing g l = length l.entries.value

@@ -34,8 +34,8 @@ listing-preserved g c =
             so.0 + 1,
             omega (arith, c.saturating_add-number.ensures, so.1),
             omega (arith, so.2, ap (λ (es : List ExtEntry). length es) steps.0),
-            taken_on g.T.TakesRows.takes g.met.T.TakesRows.more _ _ _ (entry_references so.0 end entry) (entries_references (so.0 + 1) new.place new.value)
+            taken_on g.T.Takes.takes g.met.T.Takes.more _ _ _ (entry_references so.0 end entry) (entries_references (so.0 + 1) new.place new.value)
                 (entries_references so.0 old.place old.value) (entries_references n c.args.entries.place c.args.entries.value) first so.3
-                (subst (λ (xs : List ReferenceRow). g.T.TakesRows.takes c.listing.taker xs c.list_references.new.taker) rows c.list_references.ensures),
+                (subst (λ (xs : List ReferenceRow). g.T.Takes.takes c.listing.taker xs c.list_references.new.taker) rows c.list_references.ensures),
           ),
     )

@@ -10,7 +10,7 @@ abbrev pub invariant-listing : goal.invariant-listing
 invariant-listing g l = AllByRecursion IsExtEntry l.entries.value × ((n : ℕ) → l.fn.first ≡ saturated n →
     (k : ℕ) × (l.number ≡ saturated k)
     × (k + length l.entries.value ≡ n + length l.fn.entries.value)
-    × TakenUpTo g.T.TakesRows.takes l.fn.taker l.taker (entries_references k l.entries.place l.entries.value) (entries_references n l.fn.entries.place l.fn.entries.value))
+    × TakenUpTo g.T.Takes.takes l.fn.taker l.taker (entries_references k l.entries.place l.entries.value) (entries_references n l.fn.entries.place l.fn.entries.value))
 
 abbrev pub decreases-listing : goal.decreases-listing
 decreases-listing g l = length l.entries.value

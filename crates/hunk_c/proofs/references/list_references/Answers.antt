@@ -12,6 +12,6 @@ listing-preserved g c =
     let new = c.next.new.self in
     let steps = c.in-Some.ensures.steps in (
       omega (arith, c.listing.invariant.0, ap (λ (os : List ℕ). length os) steps),
-      taken_on g.T.TakesRows.takes g.met.T.TakesRows.more _ _ _ (row place c.in-Some.offset ∷ []) (left (place + 4) new) (left place old)
+      taken_on g.T.Takes.takes g.met.T.Takes.more _ _ _ (row place c.in-Some.offset ∷ []) (left (place + 4) new) (left place old)
           (left (c.args.end - 4 * length c.args.offsets.now) c.args.offsets.now) (ap (λ (os : List ℕ). left place os) steps) c.listing.invariant.1 c.take.ensures,
     )

@@ -7,4 +7,4 @@ abbrev pub invariant-listing : goal.invariant-listing
 invariant-listing g l =
     let left = item_rows (reference_row l.entry l.width) long_text in
     (l.place + 4 * length l.offset-iterator ≡ l.fn.end)
-    × TakenUpTo g.T.TakesRows.takes l.fn.taker l.taker (left l.place l.offset-iterator) (left (l.fn.end - 4 * length l.fn.offsets) l.fn.offsets)
+    × TakenUpTo g.T.Takes.takes l.fn.taker l.taker (left l.place l.offset-iterator) (left (l.fn.end - 4 * length l.fn.offsets) l.fn.offsets)

@@ -16,7 +16,7 @@ listing-preserved g c =
     ap (λ (gs : List RelocGroup). left old.place gs) steps.0
     ∙ ap (λ (n : ℕ). offset_rows r group.target (old.place + 8) group.offsets ++ left n new.value) (sym steps.1) in (
       c.place-behind.ensures,
-      taken_on g.T.TakesRows.takes g.met.T.TakesRows.more _ _ _ (offset_rows r group.target (old.place + 8) group.offsets) (left new.place new.value) (left old.place old.value)
+      taken_on g.T.Takes.takes g.met.T.Takes.more _ _ _ (offset_rows r group.target (old.place + 8) group.offsets) (left new.place new.value) (left old.place old.value)
           (left c.args.groups.place c.args.groups.value) first c.listing.invariant.1
-          (subst (λ (n : ℕ). g.T.TakesRows.takes c.listing.taker (offset_rows r group.target (n + 8) group.offsets) c.list_offsets.new.taker) c.listing.invariant.0 c.list_offsets.ensures),
+          (subst (λ (n : ℕ). g.T.Takes.takes c.listing.taker (offset_rows r group.target (n + 8) group.offsets) c.list_offsets.new.taker) c.listing.invariant.0 c.list_offsets.ensures),
     )

@@ -6,7 +6,7 @@ use Rattle.hunk_c.proofs.relocations.list_groups.Given as goal
 abbrev pub invariant-listing : goal.invariant-listing
 invariant-listing g l =
     (l.place ≡ l.groups.place)
-    × TakenUpTo g.T.TakesRows.takes l.fn.taker l.taker (group_rows l.relocated l.groups.place l.groups.value) (group_rows l.relocated l.fn.groups.place l.fn.groups.value)
+    × TakenUpTo g.T.Takes.takes l.fn.taker l.taker (group_rows l.relocated l.groups.place l.groups.value) (group_rows l.relocated l.fn.groups.place l.fn.groups.value)
 
 abbrev pub decreases-listing : goal.decreases-listing
 decreases-listing g l = length l.groups.value

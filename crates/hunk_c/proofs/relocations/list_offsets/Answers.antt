@@ -12,6 +12,6 @@ listing-preserved g c =
     let steps = c.in-Some.ensures.steps in
     let first = ap (λ (os : List ℕ). left place os) steps ∙ ap (λ (r : RelocationRow). r ∷ left (place + 4) new) (sym c.relocation_row.ensures) in (
       omega (arith, c.listing.invariant.0, ap (λ (os : List ℕ). length os) steps),
-      taken_on g.T.TakesRows.takes g.met.T.TakesRows.more _ _ _ (c.relocation_row.result ∷ []) (left (place + 4) new) (left place old)
+      taken_on g.T.Takes.takes g.met.T.Takes.more _ _ _ (c.relocation_row.result ∷ []) (left (place + 4) new) (left place old)
           (left c.args.start c.args.offsets.now) first c.listing.invariant.1 c.take.ensures,
     )

@@ -6,4 +6,4 @@ use Rattle.hunk_c.proofs.relocations.list_offsets.Given as goal
 abbrev pub invariant-listing : goal.invariant-listing
 invariant-listing g l =
     (l.place + 4 * length l.offset-iterator < 2 ^ 64)
-    × TakenUpTo g.T.TakesRows.takes l.fn.taker l.taker (offset_rows l.relocated l.target l.place l.offset-iterator) (offset_rows l.relocated l.target l.fn.start l.fn.offsets)
+    × TakenUpTo g.T.Takes.takes l.fn.taker l.taker (offset_rows l.relocated l.target l.place l.offset-iterator) (offset_rows l.relocated l.target l.fn.start l.fn.offsets)

@@ -8,7 +8,7 @@ abbrev pub invariant-listing : goal.invariant-listing
 invariant-listing g l =
     let left = item_rows (symbol_row l.unit l.hunk) symbol_text in
     (l.place ≡ l.symbols.place)
-    × TakenUpTo g.T.TakesRows.takes l.fn.taker l.taker (left l.symbols.place l.symbols.value) (left l.fn.symbols.place l.fn.symbols.value)
+    × TakenUpTo g.T.Takes.takes l.fn.taker l.taker (left l.symbols.place l.symbols.value) (left l.fn.symbols.place l.fn.symbols.value)
 
 abbrev pub decreases-listing : goal.decreases-listing
 decreases-listing g l = length l.symbols.value

@@ -16,7 +16,7 @@ listing-preserved g c =
     let here : unit.place ≡ old.place = sym (ap (λ (p : Placed ObjectFileValue). p.place) steps.0) in
     let gives : GivesFirst (λ (p : Placed UnitValue). p.value) unit_text old (Some unit) new =
     (ap (λ (p : Placed ObjectFileValue). p.value) steps.0, steps.1 ∙ ap (λ (n : ℕ). n + 4 * length (unit_text unit.value)) here) in
-    taken_on g.T.TakesRows.takes g.met.T.TakesRows.more _ _ _ (c.unit_row.result ∷ []) (left new.place new.value) (left old.place old.value)
+    taken_on g.T.Takes.takes g.met.T.Takes.more _ _ _ (c.unit_row.result ∷ []) (left new.place new.value) (left old.place old.value)
     (left c.args.units.place c.args.units.value)
     (item_first (λ (p : Placed UnitValue). p.value) unit_row unit_text old new unit c.unit_row.result gives (c.unit_row.ensures ∙ ap (λ (n : ℕ). unit_row n unit.value) here))
     c.listing.invariant c.take.ensures

@@ -3,8 +3,7 @@
 use crate::tests::asserts::{assert_equal, assert_equal_at};
 use crate::tests::decoding::object_file;
 use hunk_files::{
-    Finding, FindingKind, Findings, ObjectView, TakesFindings, TakesPlacedFindings,
-    relocation_width,
+    Finding, FindingKind, Findings, ObjectView, PlacedFinding, Takes, relocation_width,
 };
 use hunk_words::Kind;
 use std::alloc::Global;
@@ -19,28 +18,28 @@ struct Taken {
     places: Vec<u64>,
 }
 
-impl TakesFindings for Taken {
+impl Takes<Finding> for Taken {
     ghost takes = { λ a xs b. Unit {0} };
 
     ghost none = { λ s. tt };
 
     ghost more = { λ a b c xs ys first next. tt };
 
-    fn take(&mut self, finding: Finding) {
-        let _ = self.findings.push(finding);
+    fn take(&mut self, item: Finding) {
+        let _ = self.findings.push(item);
     }
 }
 
-impl TakesPlacedFindings for Taken {
+impl Takes<PlacedFinding> for Taken {
     ghost takes = { λ a xs b. Unit {0} };
 
     ghost none = { λ s. tt };
 
     ghost more = { λ a b c xs ys first next. tt };
 
-    fn take(&mut self, place: u64, finding: Finding) {
-        let _ = self.findings.push(finding);
-        let _ = self.places.push(place);
+    fn take(&mut self, item: PlacedFinding) {
+        let _ = self.findings.push(item.value);
+        let _ = self.places.push(item.place);
     }
 }
 

@@ -16,6 +16,6 @@ listing-preserved-in-Block g c =
     let first = block_given old new b.unit b.hunk b.view (subst (λ (item : Item). GivesItem old (Some item) new) b.is c.in-Some.ensures.steps) in (
       n + body_entries body,
       c.list_block-number.ensures.next n is,
-      taken_on g.T.TakesRows.takes g.met.T.TakesRows.more _ _ _ (body_references n b.view.place body) (blocks_references (n + body_entries body) (items_blocks new.place new.value))
+      taken_on g.T.Takes.takes g.met.T.Takes.more _ _ _ (body_references n b.view.place body) (blocks_references (n + body_entries body) (items_blocks new.place new.value))
           (blocks_references n (items_blocks old.place old.value)) (references_in (file_of c.args.file.now)) (ap (blocks_references n) first) c.listing.invariant.2 (c.list_block-number.ensures.taken n is),
     )

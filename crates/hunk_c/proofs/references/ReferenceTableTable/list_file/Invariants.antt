@@ -8,4 +8,4 @@ use Rattle.hunk_c.proofs.references.ReferenceTableTable.list_file.Given as goal
 abbrev pub invariant-listing : goal.invariant-listing
 invariant-listing g l =
     (n : ℕ) × (l.number ≡ saturated n)
-    × TakenUpTo g.T.TakesRows.takes l.fn.taker l.taker (blocks_references n (items_blocks l.item-iterator.place l.item-iterator.value)) (references_in (file_of l.fn.file))
+    × TakenUpTo g.T.Takes.takes l.fn.taker l.taker (blocks_references n (items_blocks l.item-iterator.place l.item-iterator.value)) (references_in (file_of l.fn.file))

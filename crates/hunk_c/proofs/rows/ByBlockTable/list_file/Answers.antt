@@ -13,5 +13,5 @@ listing-preserved-in-Block g c =
     let new = c.next.new.self in
     let b = c.in-Block in
     let first = block_given old new b.unit b.hunk b.view (subst (λ (item : Item). GivesItem old (Some item) new) b.is c.in-Some.ensures.steps) in
-    taken_on g.T.TakesRows.takes g.met.T.TakesRows.more _ _ _ (rows (record { unit = b.unit; hunk = b.hunk; block = b.view })) (flat_map rows (items_blocks new.place new.value))
+    taken_on g.T.Takes.takes g.met.T.Takes.more _ _ _ (rows (record { unit = b.unit; hunk = b.hunk; block = b.view })) (flat_map rows (items_blocks new.place new.value))
     (flat_map rows (items_blocks old.place old.value)) (rows_in rows (file_of c.args.file.now)) (ap (λ (bs : List StandingBlock). flat_map rows bs) first) c.listing.invariant c.list.ensures

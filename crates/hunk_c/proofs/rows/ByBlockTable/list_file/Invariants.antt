@@ -6,4 +6,4 @@ use Rattle.hunk_c.proofs.rows.ByBlockTable.list_file.Given as goal
 
 abbrev pub invariant-listing : goal.invariant-listing
 invariant-listing g l =
-    TakenUpTo g.T.TakesRows.takes l.fn.taker l.taker (flat_map g.B.BlockTable.rows (items_blocks l.item-iterator.place l.item-iterator.value)) (rows_in g.B.BlockTable.rows (file_of l.fn.file))
+    TakenUpTo g.T.Takes.takes l.fn.taker l.taker (flat_map g.B.BlockTable.rows (items_blocks l.item-iterator.place l.item-iterator.value)) (rows_in g.B.BlockTable.rows (file_of l.fn.file))

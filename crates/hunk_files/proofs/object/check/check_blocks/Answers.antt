@@ -11,7 +11,7 @@ checking-preserved g c =
     let new = c.next.new.self in
     let block = c.in-Some.block in (
       end_stays block_text old new block c.in-Some.ensures.steps ∙ c.checking.invariant.0,
-      taken_on g.T.TakesPlacedFindings.takes g.met.T.TakesPlacedFindings.more _ _ _ (block_findings_at c.args.spot block.place block.value)
+      taken_on g.T.Takes.takes g.met.T.Takes.more _ _ _ (block_findings_at c.args.spot block.place block.value)
           (left new.place new.value) (left old.place old.value) (left c.args.blocks.place c.args.blocks.value)
           (block_first c.args.spot old new block c.in-Some.ensures.steps) c.checking.invariant.1 c.check_block.ensures,
     )

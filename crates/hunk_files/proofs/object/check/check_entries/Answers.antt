@@ -21,8 +21,8 @@ checking-preserved g c =
     let steps = c.in-Some.ensures.steps in
     let end = old.place + 4 * length (ext_text entry) in (
       (first_is _ _ entry steps.0 c.checking.invariant.0).1,
-      taken_on g.T.TakesPlacedFindings.takes g.met.T.TakesPlacedFindings.more _ _ _ (found end entry) (left new.place new.value) (left old.place old.value)
+      taken_on g.T.Takes.takes g.met.T.Takes.more _ _ _ (found end entry) (left new.place new.value) (left old.place old.value)
           (left c.args.entries.place c.args.entries.value)
           (item_first entry_of (λ (place : ℕ) (e : ExtEntry). found (place + 4 * length (ext_text e)) e) ext_text old new c.in-Some.entry steps) c.checking.invariant.1
-          (subst (λ (n : ℕ). g.T.TakesPlacedFindings.takes c.checking.taker (found n entry) c.check_entry.new.taker) (c.place.ensures ∙ steps.1) c.check_entry.ensures),
+          (subst (λ (n : ℕ). g.T.Takes.takes c.checking.taker (found n entry) c.check_entry.new.taker) (c.place.ensures ∙ steps.1) c.check_entry.ensures),
     )

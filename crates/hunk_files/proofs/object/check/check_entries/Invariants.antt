@@ -9,7 +9,7 @@ abbrev pub invariant-checking : goal.invariant-checking
 invariant-checking g l =
     let left = entries_findings_at l.spot in
     AllByRecursion IsExtEntry l.entries.value
-    × TakenUpTo g.T.TakesPlacedFindings.takes l.fn.taker l.taker (left l.entries.place l.entries.value) (left l.fn.entries.place l.fn.entries.value)
+    × TakenUpTo g.T.Takes.takes l.fn.taker l.taker (left l.entries.place l.entries.value) (left l.fn.entries.place l.fn.entries.value)
 
 abbrev pub decreases-checking : goal.decreases-checking
 decreases-checking g l = length l.entries.value

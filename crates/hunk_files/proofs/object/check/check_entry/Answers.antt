@@ -12,6 +12,6 @@ checking-preserved g c =
     let new = c.next.new.self in
     let steps = c.in-Some.ensures.steps in (
       omega (arith, c.checking.invariant.0, ap (λ (os : List ℕ). length os) steps),
-      taken_on g.T.TakesPlacedFindings.takes g.met.T.TakesPlacedFindings.more _ _ _ (standing_at place (found c.in-Some.offset)) (left (place + 4) new) (left place old)
+      taken_on g.T.Takes.takes g.met.T.Takes.more _ _ _ (standing_at place (found c.in-Some.offset)) (left (place + 4) new) (left place old)
           (left (c.args.end - 4 * length c.args.entry.now.offsets) c.args.entry.now.offsets) (ap (λ (os : List ℕ). left place os) steps) c.checking.invariant.1 c.check_offset.ensures,
     )

@@ -7,4 +7,4 @@ abbrev pub invariant-checking : goal.invariant-checking
 invariant-checking g l =
     let left = offsets_findings_at (outside l.spot l.width) in
     (l.place + 4 * length l.offset-iterator ≡ l.fn.end)
-    × TakenUpTo g.T.TakesPlacedFindings.takes l.fn.taker l.taker (left l.place l.offset-iterator) (left (l.fn.end - 4 * length l.fn.entry.offsets) l.fn.entry.offsets)
+    × TakenUpTo g.T.Takes.takes l.fn.taker l.taker (left l.place l.offset-iterator) (left (l.fn.end - 4 * length l.fn.entry.offsets) l.fn.entry.offsets)

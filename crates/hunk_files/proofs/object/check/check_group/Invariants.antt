@@ -7,4 +7,4 @@ abbrev pub invariant-checking : goal.invariant-checking
 invariant-checking g l =
     let left = offsets_findings_at (relocation_findings l.spot l.width l.group.target) in
     (l.place + 4 * length l.offset-iterator < 2 ^ 64)
-    × TakenUpTo g.T.TakesPlacedFindings.takes l.fn.taker l.taker (left l.place l.offset-iterator) (left (l.fn.start + 8) l.fn.group.offsets)
+    × TakenUpTo g.T.Takes.takes l.fn.taker l.taker (left l.place l.offset-iterator) (left (l.fn.start + 8) l.fn.group.offsets)

@@ -8,7 +8,7 @@ use Rattle.hunk_files.proofs.object.check.check_hunks.Goals as goal
 
 pub checking-preserved : goal.checking-preserved
 checking-preserved g c =
-    let takes = g.T.TakesPlacedFindings.takes in
+    let takes = g.T.Takes.takes in
     let old = c.checking.hunks in
     let new = c.pass.new.self in
     let number = c.args.number in
@@ -23,7 +23,7 @@ checking-preserved g c =
     let found = hunk_found number hunk count c.content_bytes.result c.blocks-in-Some.result view c.content_bytes.ensures blocks in (
       omega (arith, c.checking.invariant.0, ap (λ (hs : Placed (List ObjectHunk)). length hs.value) step.0),
       end_stays block_texts old new view step ∙ c.checking.invariant.1,
-      taken_on takes g.met.T.TakesPlacedFindings.more _ _ _ (hunk_findings_at spot view.place view.value) (hunks_findings_at number count (hunk + 1) new.place new.value)
+      taken_on takes g.met.T.Takes.more _ _ _ (hunk_findings_at spot view.place view.value) (hunks_findings_at number count (hunk + 1) new.place new.value)
           (hunks_findings_at number count hunk old.place old.value) (hunks_findings_at number count 0 c.args.hunks.place c.args.hunks.value)
           (hunk_first number count hunk old new view step) c.checking.invariant.2
           (subst (λ (xs : List PlacedFinding). takes c.checking.taker xs c.check_blocks-end.new.taker) found c.check_blocks-end.ensures.taken),

@@ -16,4 +16,4 @@ returns-clause-taken g c =
     let same : found c.count-count.result c.hunks-2.result.place c.hunks-2.result.value ≡ found (length unit.value.hunks) start unit.value.hunks =
     ap₂ (λ (n p : ℕ). found n p c.hunks-2.result.value) count c.hunks-2.ensures.place
     ∙ ap (λ (hs : List ObjectHunk). found (length unit.value.hunks) start hs) c.hunks-2.ensures.value in
-    subst (λ (xs : List PlacedFinding). g.T.TakesPlacedFindings.takes c.args.taker.now xs c.check_hunks.new.taker) same c.check_hunks.ensures.taken
+    subst (λ (xs : List PlacedFinding). g.T.Takes.takes c.args.taker.now xs c.check_hunks.new.taker) same c.check_hunks.ensures.taken

@@ -15,7 +15,7 @@ checking-preserved g c =
     let unit = c.in-Some.unit in
     let step : GivesPart unit_text old (Some unit) new = part_passed unit_text old new unit c.check_unit-end.result c.in-Some.ensures c.check_unit-end.ensures.end c.pass.ensures in (
       omega (arith, c.checking.invariant.0, ap (λ (us : Placed ObjectFileValue). length us.value) step.0),
-      taken_on g.T.TakesPlacedFindings.takes g.met.T.TakesPlacedFindings.more _ _ _ (unit_findings_at number unit.place unit.value) (units_findings_at (number + 1) new.place new.value)
+      taken_on g.T.Takes.takes g.met.T.Takes.more _ _ _ (unit_findings_at number unit.place unit.value) (units_findings_at (number + 1) new.place new.value)
           (units_findings_at number old.place old.value) (placed_findings c.args.self.now)
           (unit_first number old new unit step) c.checking.invariant.1 c.check_unit-end.ensures.taken,
     )
