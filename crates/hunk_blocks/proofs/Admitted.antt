@@ -38,20 +38,6 @@ word_passes mode b h m = passes_else (has_both_bits b.word) (Some reasons.BothBi
 
 -- ---- what is accepted is of the mode
 
-load_relocation : (advisory : Bool) (k : Kind) → IsTrue (is_relocation k) → refuse_alone_kind modes.Load advisory k ≡ None → k ≡ kinds.Reloc32
-load_relocation advisory kinds.Reloc32 h ok = refl
-load_relocation advisory _ h ok = absurd cc
-
-load_external : (advisory : Bool) (k : Kind) → k ≡ kinds.Ext → refuse_alone_kind modes.Load advisory k ≡ None → ⊥
-load_external advisory kinds.Ext h ok = cc
-load_external advisory _ h ok = cc
-
-pub of_mode : (mode : Mode) (word : ℕ) (body : BlockBody) → FitsWord word body → refuse_alone_kind mode (is_advisory word) (kind word) ≡ None → IsOfMode mode (block word body)
-of_mode modes.Object word body h ok = tt
-of_mode modes.Load word (Reloc gs) h ok = load_relocation (is_advisory word) (kind word) h.0 ok
-of_mode modes.Load word (Ext es) h ok = load_external (is_advisory word) (kind word) h.0 ok
-of_mode modes.Load word _ h ok = tt
-
 -- ---- no longword is refused as out of memory
 abbrev pub not_for_memory : Option Reason → Bool
 not_for_memory (Some reasons.OutOfMemory) = false

@@ -1,7 +1,6 @@
 -- Reading the groups or entries of a block one after another, up to the zero that ends them.
 use Rattle.std.proofs.Common.{◌≡◌, ◌≢◌, ℕ, ◌+◌, ◌-◌, ◌*◌, ◌<◌, List, [], ◌∷◌, ◌++◌, length, map, refl, sym, ap, ap₂, subst, ◌∙◌, append_assoc, length-append, Option, Some, None, arith}
 use Rattle.std.specs.{List.flat_map, Iterator.{MakesProgress, item_count}, Prelude.{Result, Ok, Err, IfErr, IsErrAnd}}
-use Rattle.hunk_words.specs.declared.fault.Fault.{Fault}
 use Rattle.hunk_blocks.specs.{Cuts.{Cut, cut_map, list_cut}, Placed.{Placed, GivesFirst, EndsItemAt}}
 use Rattle.hunk_blocks.specs.Reading.{Unread, Reads, ReadsValue, BeginsWithSome, BeginsWithList}
 use Rattle.hunk_blocks.proofs.CutLaws.{AreCut, GoesOn, cut, list_cut_ends, list_goes_on}
@@ -113,8 +112,3 @@ if_err (Err e) P h = h e
 pub if_err_and : {T E : Type 0} (r : Result T E) (Q P : E → Type 0) → IsErrAnd r Q → ((e : E) → Q e → P e) → IfErr r P
 if_err_and (Ok x) Q P q h = tt
 if_err_and (Err e) Q P q h = h e q
-
--- of a refusal that is passed on, what holds of its place
-pub err_at : {T : Type 0} (r : Result T Fault) (fault : Fault) (P : ℕ → Type 0) → IsErrAnd r (λ e. e ≡ fault) → P fault.place → IfErr r (λ e. P e.place)
-err_at (Ok x) fault P same h = tt
-err_at (Err e) fault P same h = subst (λ (f : Fault). P f.place) (sym same) h

@@ -120,6 +120,7 @@ impl<'a> Block<'a> {
     ///
     /// `OutOfMemory` at the longword that completes the group or entry for which no memory was
     /// found, from the start of the input.
+    #[tactic(auto, using(crate::proofs::BodyReading::lacks_item))]
     pub fn keep(alloc: Global, view: BlockView<'a>) -> Result<Block<'a>, BlockFault>
         ensures block { IfOk result (λ block. block ≡ view.entry.value) }
         ensures memory { IfErr result (λ fault. fault.reason ≡ reasons.OutOfMemory) }

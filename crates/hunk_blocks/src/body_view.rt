@@ -58,6 +58,7 @@ impl BodyView<'_> {
 }
 
 /// What follows a block word, of which the reader goes on behind the block.
+#[tactic(auto, using(crate::proofs::BodyReading::counted_stands))]
 #[inline(always)]
 pub(crate) fn read_body<'a>(reader: &mut LongReader<'a>, word: BlockWord) -> BodyView<'a>
     requires { BeginsWithSome (FitsWord word) body_text reader.old.rest }

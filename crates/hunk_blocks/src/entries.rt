@@ -129,6 +129,7 @@ impl<'a> Iterator for EntriesIter<'a> {
 
     ghost remaining = { item_count (λ s. s.value) };
 
+    #[tactic(auto, using(crate::proofs::CutLaws::entries_are_cut, crate::proofs::ListReading::item_there))]
     #[inline(always)]
     fn next(&mut self) -> Option<Entry<'a>> {
         if self.reader.peek() == 0 {
@@ -160,6 +161,7 @@ fn read_shaped<'a>(reader: &mut LongReader<'a>, shape: ExtShape) -> (u32, Longs<
 
 /// The reader behind the entries that come next and the zero that ends them. It is given away, so
 /// that the reader of other blocks stays in registers.
+#[tactic(auto, using(crate::proofs::CutLaws::entries_are_cut, crate::proofs::ListReading::item_there))]
 #[inline(never)]
 fn behind_entries<'a>(reader: LongReader<'a>) -> LongReader<'a>
     requires { BeginsWithList IsExtEntry ext_text reader.rest }

@@ -64,6 +64,7 @@ impl<'a> Model for GroupsIter<'a> {
 
 impl<'a> GroupsIter<'a> {
     /// The groups that come next; the reader goes on behind the count 0 that ends them.
+    #[tactic(auto, using(crate::proofs::CutLaws::groups_are_cut, crate::proofs::ListReading::item_there))]
     pub(crate) fn of(reader: &mut LongReader<'a>) -> GroupsIter<'a>
         requires { BeginsWithList IsGroup group_text reader.old.rest }
         ensures read { ReadsValue (list_cut group_cut) reader.old reader.new result.value }
@@ -116,6 +117,7 @@ impl<'a> Iterator for GroupsIter<'a> {
 
     ghost remaining = { item_count (λ s. s.value) };
 
+    #[tactic(auto, using(crate::proofs::CutLaws::groups_are_cut, crate::proofs::ListReading::item_there))]
     #[inline(always)]
     fn next(&mut self) -> Option<Group<'a>> {
         if self.reader.peek() == 0 {

@@ -15,6 +15,7 @@ ghost use Rattle.hunk_blocks.specs.declared.phase.Phase.TheVariants as phases;
 ///
 /// So what was written is read again, whatever follows it, and what was read is written again byte
 /// for byte. It holds of the blocks of both modes.
+#[tactic(auto, using(crate::proofs::BlockPrefix::block_prefix))]
 pub fn block_prefix()
     ensures { (a b : BlockValue) (more : List ℕ) → IsBlock a → IsBlock b →
         block_text a ++ more ≡ block_text b → (a ≡ b) × (more ≡ []) }
@@ -23,6 +24,7 @@ pub fn block_prefix()
 /// Of every list of bytes just one of three holds: it begins with a block of the mode, a longword
 /// of it is refused, or it ends too soon. The fault is one, and the first. A longword that is not
 /// refused goes on to a block, and one that is refused to none.
+#[tactic(auto, using(crate::proofs::BlockOutcome::word_goes_on, crate::proofs::OneBlockFault::no_block_goes_on))]
 pub fn block_fault()
     ensures some { (mode : Mode) (bytes : List ℕ) → IsBytes bytes →
         ((b : BlockValue) × (size : ℕ) × BeginsWithBlock mode bytes b size)

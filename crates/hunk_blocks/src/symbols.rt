@@ -63,6 +63,7 @@ impl<'a> Model for SymbolsIter<'a> {
 
 impl<'a> SymbolsIter<'a> {
     /// The entries that come next; the reader goes on behind the zero that ends them.
+    #[tactic(auto, using(crate::proofs::CutLaws::symbols_are_cut, crate::proofs::ListReading::item_there))]
     pub(crate) fn of(reader: &mut LongReader<'a>) -> SymbolsIter<'a>
         requires { BeginsWithList IsSymbolEntry symbol_text reader.old.rest }
         ensures read { ReadsValue (list_cut symbol_cut) reader.old reader.new result.value }
@@ -104,6 +105,7 @@ impl<'a> Iterator for SymbolsIter<'a> {
 
     ghost remaining = { item_count (λ s. s.value) };
 
+    #[tactic(auto, using(crate::proofs::CutLaws::symbols_are_cut, crate::proofs::ListReading::item_there))]
     #[inline(always)]
     fn next(&mut self) -> Option<SymbolView<'a>> {
         if self.reader.peek() == 0 {

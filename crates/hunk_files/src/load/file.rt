@@ -91,7 +91,6 @@ impl<'a> LoadFile<'a> {
     }
 
     /// What the table declares of hunk `i`, counted from 0.
-    #[tactic(auto, using(crate::proofs::FileViews::entry_at))]
     pub fn table(&self, i: u32) -> SizeWord
         requires { i < length self.now }
         ensures { slice_get (table self.now) i ≡ Some (size_entry result) }
@@ -100,7 +99,6 @@ impl<'a> LoadFile<'a> {
     }
 
     /// The blocks of hunk `i`, counted from 0, up to its END.
-    #[tactic(auto, using(crate::proofs::FileViews::blocks_at))]
     pub fn hunk(&self, i: u32) -> &[Block<'a>]
         requires { i < length self.now }
         ensures { slice_get (map (λ h. h.blocks) self.now) i ≡ Some result.now }

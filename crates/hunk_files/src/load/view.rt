@@ -48,7 +48,6 @@ impl<'a> LoadView<'a> {
     /// # Errors
     ///
     /// As `LoadFile::decode`, but never `OutOfMemory`.
-    #[tactic(auto, using(std::proofs::lemmas::Result::err_from_is_err_and, crate::proofs::Refusals::fault_not_memory, crate::proofs::Refusals::fault_of_load, crate::proofs::Scan::no_fault))]
     pub fn read(bytes: &'a [u8]) -> Result<(LoadView<'a>, usize), FileFault>
         ensures valid { IfOk result (λ r. IsLoadFile r.0) }
         ensures text { IfOk result (λ r. take r.1 bytes.entry.now ≡ bytes_of (text r.0)) }

@@ -26,7 +26,6 @@ pub(crate) struct Entry {
 ///
 /// The first fault of the bytes, at the first byte of its longword, from the start of the input;
 /// `Truncated` at 4 times the number of whole longwords.
-#[tactic(auto, using(crate::proofs::LoadWalks::start_walk, crate::proofs::Passed::passed_on))]
 pub(crate) fn walk(bytes: &[u8]) -> Result<usize, FileFault>
     ensures { MatchResult result (λ size. HasLoadText bytes.now size)
         (λ fault. HasFault bytes.now fault.place fault.reason) }

@@ -2,12 +2,8 @@ use Rattle.std.proofs.Common.{rules, ◌∙◌, sym}
 use Rattle.std.specs.Prelude.{IsTrue}
 use Rattle.hunk_words.specs.declared.block_word.Kind.TheVariants as kinds
 use Rattle.hunk_words.specs.Bits.{is_relocation}
-use Rattle.hunk_blocks.specs.BlockSteps.{begin_body}
-use Rattle.hunk_blocks.proofs.BodyReading.{body_stands, counted_stands, groups_stand, is_counted}
+use Rattle.hunk_blocks.proofs.BodyReading.{body_stands, groups_stand}
 use Rattle.hunk_blocks.proofs.body_view.read_body.Goals as goal
-
-pub counted-payload-requires : goal.counted-payload-requires
-counted-payload-requires c = let is : IsTrue (is_counted (begin_body c.kind.result)) = search rules in counted_stands c.args.word c.args.reader.now.rest c.requires c.kind.result c.kind.ensures is
 
 pub sized-top-requires : goal.sized-top-requires
 sized-top-requires c = body_stands c.args.word c.args.reader.now.rest c.requires kinds.Code (sym c.in-Code.is ∙ c.kind.ensures)

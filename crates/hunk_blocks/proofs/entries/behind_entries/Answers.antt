@@ -1,10 +1,7 @@
 use Rattle.std.proofs.Common.{refl}
 use Rattle.hunk_blocks.specs.Views.{entry_of}
-use Rattle.hunk_blocks.proofs.{CutLaws.entries_are_cut, ListReading.{item_first, item_passed, item_there, list_passed}}
+use Rattle.hunk_blocks.proofs.{CutLaws.entries_are_cut, ListReading.{item_first, item_passed, list_passed}}
 use Rattle.hunk_blocks.proofs.entries.behind_entries.Goals as goal
-
-pub read_entry-requires : goal.read_entry-requires
-read_entry-requires c = item_there entries_are_cut c.passing.reader c.peek.result _ c.passing.invariant.left c.peek.ensures c.passing-test.true
 
 pub passing-preserved : goal.passing-preserved
 passing-preserved c =

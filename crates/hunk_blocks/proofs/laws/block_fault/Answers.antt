@@ -1,5 +1,5 @@
-use Rattle.hunk_blocks.proofs.BlockOutcome.{some_outcome, word_goes_on}
-use Rattle.hunk_blocks.proofs.OneBlockFault.{one_fault, no_block, no_block_goes_on, not_truncated}
+use Rattle.hunk_blocks.proofs.BlockOutcome.{some_outcome}
+use Rattle.hunk_blocks.proofs.OneBlockFault.{one_fault, no_block, not_truncated}
 use Rattle.hunk_blocks.proofs.laws.block_fault.Goals as goal
 
 pub returns-clause-one : goal.returns-clause-one
@@ -10,12 +10,6 @@ returns-clause-none c = no_block
 
 pub returns-clause-some : goal.returns-clause-some
 returns-clause-some c = some_outcome
-
-pub returns-clause-complete : goal.returns-clause-complete
-returns-clause-complete c = word_goes_on
-
-pub returns-clause-refused : goal.returns-clause-refused
-returns-clause-refused c = no_block_goes_on
 
 pub returns-clause-not_truncated : goal.returns-clause-not_truncated
 returns-clause-not_truncated c = not_truncated

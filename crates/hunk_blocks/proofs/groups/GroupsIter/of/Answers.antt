@@ -1,9 +1,6 @@
 use Rattle.hunk_blocks.specs.Views.{group_of}
-use Rattle.hunk_blocks.proofs.{CutLaws.groups_are_cut, ListReading.{item_first, item_passed, item_there, list_passed}}
+use Rattle.hunk_blocks.proofs.{CutLaws.groups_are_cut, ListReading.{item_passed, list_passed}}
 use Rattle.hunk_blocks.proofs.groups.GroupsIter.of.Goals as goal
-
-pub read_group-requires : goal.read_group-requires
-read_group-requires c = item_there groups_are_cut c.passing.reader c.peek.result _ c.passing.invariant.left c.peek.ensures c.passing-test.true
 
 pub passing-preserved : goal.passing-preserved
 passing-preserved c =
@@ -12,7 +9,3 @@ passing-preserved c =
 pub returns-clause-read : goal.returns-clause-read
 returns-clause-read c =
     list_passed groups_are_cut c.args.reader.now c.passing.reader c.long.new.self c.peek.result _ c.passing.invariant c.peek.ensures c.passing-test.false c.long.result c.long.ensures c.again.result c.again.ensures
-
-pub passing-smaller : goal.passing-smaller
-passing-smaller c =
-    (item_first groups_are_cut c.passing.reader c.peek.result _ c.passing.invariant.left c.peek.ensures c.passing-test.true c.read_group.new.reader (group_of c.read_group.result) c.read_group.ensures).fewer

@@ -1,9 +1,6 @@
 use Rattle.hunk_blocks.specs.Views.{symbol_of}
-use Rattle.hunk_blocks.proofs.{CutLaws.symbols_are_cut, ListReading.{item_first, item_passed, item_there, list_passed}}
+use Rattle.hunk_blocks.proofs.{CutLaws.symbols_are_cut, ListReading.{item_first, item_passed, list_passed}}
 use Rattle.hunk_blocks.proofs.symbols.SymbolsIter.of.Goals as goal
-
-pub read_symbol-requires : goal.read_symbol-requires
-read_symbol-requires c = item_there symbols_are_cut c.passing.reader c.peek.result _ c.passing.invariant.left c.peek.ensures c.passing-test.true
 
 pub passing-preserved : goal.passing-preserved
 passing-preserved c =

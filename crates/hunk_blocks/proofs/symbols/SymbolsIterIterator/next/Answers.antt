@@ -1,13 +1,10 @@
 use Rattle.hunk_blocks.specs.{Parts.symbol_text, Views.symbol_of}
 use Rattle.hunk_blocks.proofs.CutLaws.{symbols_are_cut}
-use Rattle.hunk_blocks.proofs.ListReading.{first_given, item_first, item_less, item_there, none_given}
+use Rattle.hunk_blocks.proofs.ListReading.{first_given, item_first, item_less, none_given}
 use Rattle.hunk_blocks.proofs.symbols.SymbolsIterIterator.next.Goals as goal
 
 pub returns-then-peek-eq0-clause-steps : goal.returns-then-peek-eq0-clause-steps
 returns-then-peek-eq0-clause-steps c = none_given symbols_are_cut symbol_of c.self.inside.reader c.args.self.now c.self.view_is c.self.invariant c.peek.result _ c.peek.ensures c.if-peek-eq0.true
-
-pub read_symbol-requires : goal.read_symbol-requires
-read_symbol-requires c = item_there symbols_are_cut c.self.inside.reader c.peek.result _ c.self.invariant c.peek.ensures c.if-peek-eq0.false
 
 pub invariant_of-self : goal.invariant_of-self
 invariant_of-self c = (item_first symbols_are_cut c.self.inside.reader c.peek.result _ c.self.invariant c.peek.ensures c.if-peek-eq0.false c.read_symbol.new.reader (symbol_of c.read_symbol.result) c.read_symbol.ensures).left

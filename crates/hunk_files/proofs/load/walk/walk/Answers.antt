@@ -11,10 +11,14 @@ use Rattle.hunk_grammar.specs.declared.position.Position.{Position}
 use Rattle.hunk_files.specs.Entries.{entry_at, entry_behind}
 use Rattle.hunk_files.specs.Fault.{HasFault}
 use Rattle.hunk_files.specs.declared.load.walk.Entry.{Entry}
-use Rattle.hunk_files.proofs.LoadWalks.{Walks, refused, ends, opens, passes, ends_early}
+use Rattle.hunk_files.proofs.LoadWalks.{Walks, start_walk, refused, ends, opens, passes, ends_early}
 use Rattle.hunk_files.proofs.PassedWalks.{walk_over}
+use Rattle.hunk_files.proofs.Passed.{passed_on}
 use Rattle.hunk_files.proofs.load.walk.walk.Goals as goal
 use Rattle.hunk_files.proofs.load.walk.walk.Goals.{then-is_between_hunks, else-is_between_hunks}
+
+pub walking-init : goal.walking-init
+walking-init c = start_walk c.args.bytes.now
 
 pub returns-in-Err : goal.returns-in-Err
 returns-in-Err c =
@@ -80,3 +84,8 @@ returns c =
     let w = c.walking in
     let P : ℕ → Type 0 = λ n. HasFault bytes (4 * n) reasons.Truncated in
     subst P (length-longs bytes) (ends_early bytes w.at w.position w.entry w.invariant (omega (arith, length-longs bytes)))
+
+pub walking-smaller : goal.walking-smaller
+walking-smaller c =
+    let on = passed_on (longs c.args.bytes.now) c.if-is_between_hunks.entry.longs (c.walking.at + 1 + c.run-run.result) c.pass.result c.pass_over.result.0 c.pass_over.result.1 c.pass_over.ensures in
+    omega (arith, on, c.walking-test.true)
