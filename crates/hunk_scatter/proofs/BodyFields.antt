@@ -1,8 +1,8 @@
 -- What is known where a loader of a body stands after bytes.
-use Rattle.std.proofs.Common.{rules, ◌≡◌, ℕ, ◌+◌, ◌*◌, ◌/◌, ◌^◌, ◌≤◌, ◌<◌, Bool, true, false, List, [], ◌∷◌, ◌++◌, length, map, take, drop, refl, sym, ap, ap₂, subst, ◌∙◌, append_assoc, append-nil, arith, length-append, is_some, Option, None, Some}
+use Rattle.std.proofs.Common.{rules, ◌≡◌, ℕ, ◌+◌, ◌*◌, ◌/◌, ◌≤◌, ◌<◌, Bool, true, false, List, [], ◌∷◌, ◌++◌, length, map, take, drop, refl, sym, ap, ap₂, subst, ◌∙◌, append_assoc, append-nil, arith, length-append, is_some, Option, None, Some}
 use Rattle.std.proofs.lemmas.Grind.{common_steps}
 use Rattle.std.specs.List.{AllByRecursion}
-use Rattle.std.proofs.lemmas.List.{map-append, length-map, take_at, drop_at}
+use Rattle.std.proofs.lemmas.List.{map-append, take_at, drop_at}
 use Rattle.hunk_words.specs.{declared.fault.Fault.Fault, Bits.size_longs, Carriers.saturated, Longs.{bytes_of, longs, AreLongs}}
 use Rattle.hunk_words.specs.PendingBytes.{pending_of}
 use Rattle.hunk_blocks.specs.{Faults.words, declared.phase.Phase.Phase}
@@ -25,9 +25,6 @@ use Rattle.hunk_files.proofs.{Least.owes_least, Reading.{rest_read, file_read as
 use Rattle.hunk_grammar.specs.declared.position.Position.TheVariants as positions
 
 -- ---- words
-
-pub few_words : (rows : List Row) (total : ℕ) (s : BodyState) → IsInStore (words_of rows) total s → length rows < 2 ^ 32
-few_words rows total s h = omega (arith, h.hunks, length-map rows (λ (r : Row). r.word))
 
 -- a Vec whose elements were written through a slice
 pub written : {A : Type 0} (items new : List A) (len : ℕ) → len ≡ length items → length new ≡ length items → take len (new ++ drop (length new) items) ≡ new

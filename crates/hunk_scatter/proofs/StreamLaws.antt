@@ -3,9 +3,8 @@ use Rattle.std.proofs.Common.{rules, ◌≡◌, ℕ, ◌-◌, ◌*◌, ◌≤◌
 use Rattle.std.proofs.lemmas.List.{length-map}
 use Rattle.hunk_files.specs.declared.row.Row.{Row}
 use Rattle.hunk_words.specs.{declared.pending.Pending.Pending, PendingBytes.pending_of}
-use Rattle.hunk_grammar.specs.{declared.phase.OpenHunk.OpenHunk, declared.position.Position.Position}
-use Rattle.hunk_grammar.specs.Positions.{is_done, is_behind_header, is_between_hunks, least_longs}
-use Rattle.hunk_blocks.specs.declared.phase.Phase.{Phase}
+use Rattle.hunk_grammar.specs.{declared.position.Position.Position}
+use Rattle.hunk_grammar.specs.Positions.{is_done, is_between_hunks, least_longs}
 use Rattle.hunk_grammar.specs.declared.position.Position.TheVariants as positions
 use Rattle.hunk_scatter.specs.{BodyReader.state_of, BodySteps.{IsInStore, targets_at}, Owing.FileOwes, Rows.{entries_of, words_of}, declared.store.BodyState.BodyState}
 use Rattle.hunk_scatter.specs.{declared.stream.Standing.Standing, BodyLoaderFields.StandsBehind}
@@ -16,12 +15,6 @@ use Rattle.hunk_files.specs.{Image.declared_bytes, LoadFile.HunkValue, LoadText.
 use Rattle.hunk_files.specs.FileSteps.{HunkSoFar, Progress, AtBlock, InBody, Next, More, Finished}
 use Rattle.hunk_files.specs.ReaderPosition.{IsBehindHeader, open_table, table_of}
 use Rattle.hunk_words.proofs.PendingLaws.{pending_few}
-
--- Behind the header the file is whole, or a hunk is open.
-pub done_or_open : (p : Position) → is_behind_header p ≡ true → ((hunk : OpenHunk) (phase : Phase) → p ≡ positions.Body hunk phase → ⊥) → is_done p ≡ true
-done_or_open (positions.Body hunk phase) b closed = absurd (closed hunk phase refl)
-done_or_open positions.Done b closed = refl
-done_or_open _ b closed = absurd cc
 
 pub going_on : (p : Position) → is_between_hunks p ≡ false → is_done p ≡ false
 going_on positions.Done e = absurd cc
@@ -66,10 +59,6 @@ fits_store rows store s fed h = record {
   hunks = λ more. let g = gone rows store s fed h more in open_hunks rows g.at s.state g.in_body (reads g.read).0 g.table_is g.state_is;
   whole = λ done. whole_hunks rows store s fed h done;
 }
-
--- As far as no hunk opens, they lead out of nothing.
-pub within_fits : (rows : List Row) (total : ℕ) (s : Standing) → FitsStore rows total s → IsWithin rows total s
-within_fits rows total s h = record { few = h.few; in_store = λ e. h.in_store (going_on s.state.position e) }
 
 -- ---- steps
 

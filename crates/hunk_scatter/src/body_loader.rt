@@ -90,6 +90,7 @@ impl BodyLoader {
     /// come of it is wanted at once, up to 256 bytes. No longword that was fed is refused before
     /// `feed` answers that; where this is not 0 and the input ends here, the input is truncated, in
     /// the hunk that `hunk` answers.
+    #[tactic(auto, using(crate::proofs::BodyFields::fed_truncated, crate::proofs::BodyFields::not_whole, crate::proofs::PartLaws::hunk_here))]
     #[inline(always)]
     pub fn want(&self) -> usize
         ensures bound { result ≤ most_want }
@@ -167,6 +168,7 @@ impl BodyLoader {
 
     /// The number of the hunk that the next longword is of, or a longword was refused in, counted
     /// from 0. Where the file is whole, it is the number of hunks.
+    #[tactic(auto, using(crate::proofs::BodyFields::done_if_whole, crate::proofs::PartLaws::hunks_behind))]
     pub fn hunk(&self) -> u32
         ensures value { result ≡ self.now.hunk }
         ensures whole { self.now.refused ≡ None → IsWholeFile self.now.rows self.now.fed

@@ -90,6 +90,7 @@ fn place_rows<P: Placer>(rows: &mut [Row], placer: &P) -> Result<(), u32>
 }
 
 /// Makes each row's base 0 again.
+#[tactic(auto, using(crate::proofs::PlacingLaws::unplaced_next))]
 fn clear_bases(rows: &mut [Row])
     ensures { rows.new ≡ map row_of (entries_of rows.old) }
 {

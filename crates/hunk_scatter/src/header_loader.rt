@@ -68,6 +68,7 @@ impl Model for HeaderLoader {
 impl HeaderLoader {
     /// A loader that nothing was fed to. All hunks together may declare `budget` bytes. It takes no
     /// memory.
+    #[tactic(auto, using(crate::proofs::HeaderFields::heading_new))]
     pub fn new(alloc: Global, budget: u64) -> HeaderLoader
         ensures fed { result.fed ≡ [] }
         ensures budget { result.budget ≡ budget }
@@ -229,6 +230,7 @@ impl HeaderLoader {
     }
 
     /// The bytes that are held: 12 for each row that is whole in what was fed, none after an error.
+    #[tactic(auto, using(crate::proofs::HeaderFields::heading_rows))]
     pub fn held(&self) -> u64
         ensures exact { self.now.refused ≡ None
             → result ≡ 12 * length (entries_so_far (longs self.now.fed)) }
@@ -250,6 +252,7 @@ impl HeaderLoader {
     /// # Errors
     ///
     /// The loader as it was, where the header is not whole or a piece was refused.
+    #[tactic(auto, using(crate::proofs::HeaderFields::heading_not_whole))]
     pub fn declared(self) -> Result<Declared, HeaderLoader>
         ensures table { IfOk result
             (λ d. IsHeaderTable d.table × (self.fed ≡ header_bytes d.table)) }

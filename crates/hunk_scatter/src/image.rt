@@ -59,6 +59,7 @@ fn start_of(rows: &[Row]) -> u64
 }
 
 /// The index of an image: where every 2,048th segment begins. It is made in one pass.
+#[tactic(auto, using(crate::proofs::DeclaredBytes::declared_front, crate::proofs::DeclaredBytes::table_fits))]
 pub(crate) fn starts_of(rows: &[Row]) -> [u64; STARTS]
     requires { length rows.now ≤ most_hunks }
     ensures { AreStarts rows.now result }
@@ -78,6 +79,7 @@ pub(crate) fn starts_of(rows: &[Row]) -> [u64; STARTS]
 }
 
 /// The bytes of a hunk in the store.
+#[tactic(auto, using(crate::proofs::DeclaredBytes::declared_front, crate::proofs::DeclaredBytes::segment_within, crate::proofs::DeclaredBytes::start_at))]
 fn segment_of<'a>(rows: &[Row], starts: &[u64], store: &'a [u8], i: usize) -> &'a [u8]
     requires hunk { i < length rows.now }
     requires few { length rows.now ≤ most_hunks }

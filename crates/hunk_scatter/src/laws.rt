@@ -20,6 +20,7 @@ ghost use Rattle.hunk_scatter.specs.declared.stream.Standing.{Standing};
 
 /// No text that goes on from a position has fewer longwords to come than it says, and one has no
 /// more: in the header up to the header's end, after it up to the file's.
+#[tactic(auto, using(crate::proofs::LeastLaws::file_least, crate::proofs::LeastLaws::file_reached, crate::proofs::LeastLaws::header_least_is, crate::proofs::LeastLaws::header_reached))]
 pub fn least_longs()
     ensures file { (v : LoadFileValue) (ws more : List ℕ) → IsLoadFile v → text v ≡ ws ++ more →
         least_longs (load_at ws) ≤ length more }

@@ -115,7 +115,6 @@ fn store_word(store: &mut [u8], rows: &[Row], state: BodyState, word: u32)
 /// Takes the longword at the front of the piece, this one, and gives its number of bytes, or answers
 /// why it is refused. The state stands at this position; where the caller knows it, nothing is
 /// compiled of what is done at others.
-#[tactic(auto, using(crate::proofs::BodyFields::few_words))]
 #[inline(always)]
 pub(crate) fn take_word(
     store: &mut [u8],
@@ -169,6 +168,7 @@ fn take_run(store: &mut [u8], rows: &[Row], state: BodyState, bytes: &[u8]) -> B
 
 /// Adds to the longwords at the offsets, `most` of them at most, up to the first that passes the
 /// end of a hunk of `declared` longwords, and gives their number.
+#[tactic(auto, using(crate::proofs::Offsets::adds_more, crate::proofs::Offsets::inside_more))]
 #[inline(never)]
 fn add_all(
     store: &mut [u8],

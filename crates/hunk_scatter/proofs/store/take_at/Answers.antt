@@ -3,9 +3,6 @@ use Rattle.hunk_scatter.proofs.{Runs.read_offsets, OneByte.stands_as, Staying.{o
 use Rattle.hunk_scatter.proofs.WholeLongs.{room_at, read_at, run_taken}
 use Rattle.hunk_scatter.proofs.store.take_at.Goals as goal
 
-pub take_run-requires-clause-in_store : goal.take_run-requires-clause-in_store
-take_run-requires-clause-in_store c = room_at _ _ _ _ c.requires.position_is c.requires.in_store
-
 pub returns-then-run-gt0 : goal.returns-then-run-gt0
 returns-then-run-gt0 c =
     let some : 0 < c.min-count.result = omega (arith, c.min-count.ensures, c.requires.whole_long, c.if-run-gt0.true) in
@@ -25,9 +22,6 @@ returns-then-run-gt0 c =
       refuses = tt;
     }
 
-pub take_offsets-requires : goal.take_offsets-requires
-take_offsets-requires c = room_at _ _ _ _ c.requires.position_is c.requires.in_store
-
 pub returns-in-Some : goal.returns-in-Some
 returns-in-Some c = record {
   takes = record {
@@ -41,9 +35,3 @@ returns-in-Some c = record {
   };
   refuses = tt;
 }
-
-pub take_word-requires-clause-ready : goal.take_word-requires-clause-ready
-take_word-requires-clause-ready c = rw c.in-None.ensures.stores_nothing c.requires
-
-pub returns-in-None : goal.returns-in-None
-returns-in-None c = rw c.in-None.ensures.stores_nothing at c.take_word.ensures.takes

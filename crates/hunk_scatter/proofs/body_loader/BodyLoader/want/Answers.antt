@@ -1,11 +1,7 @@
-use Rattle.std.proofs.Common.{inl, inr, ◌*◌, ◌/◌, ◌++◌, length, sym, ap, subst, ◌∙◌, arith}
-use Rattle.hunk_files.specs.{Fault.IsTruncated, FileParts.IsPartAt}
-use Rattle.hunk_files.specs.declared.part.Part.TheVariants as parts
-use Rattle.hunk_grammar.specs.declared.file_kind.Sniff.TheVariants as sniffs
+use Rattle.std.proofs.Common.{inl, inr, ◌++◌, sym, ap, subst, ◌∙◌, arith}
 use Rattle.hunk_grammar.specs.Positions.{is_done, least_longs}
 use Rattle.hunk_scatter.specs.{LoaderValues.{BodyLoaderValue, IsWholeFile, HasNoRefusal}, Owing.BytesToCome}
-use Rattle.hunk_scatter.proofs.BodyFields.{done_unless_open, fed_clean, fed_truncated, none_of, none_to_come, not_whole, owes_bytes, to_come_owed, whole_file}
-use Rattle.hunk_scatter.proofs.PartLaws.{hunk_here}
+use Rattle.hunk_scatter.proofs.BodyFields.{done_unless_open, fed_clean, none_of, none_to_come, owes_bytes, to_come_owed, whole_file}
 use Rattle.hunk_scatter.proofs.body_loader.BodyLoader.want.Goals as goal
 
 pub returns-in_default-clause-to_come : goal.returns-in_default-clause-to_come
@@ -39,22 +35,7 @@ returns-clause-to_come c none p t =
       | inr most ↦ inr most
     ]
 
-pub returns-clause-over : goal.returns-clause-over
-returns-clause-over c none w =
-    let h = c.self.invariant.reading (none_of c.self.inside.refused (sym c.is_some.ensures ∙ c.if-is_some.false)) in
-    absurd (not_whole _ _ _ _ h (ap is_done c.in-Body.is) (subst (λ (l : BodyLoaderValue). IsWholeFile l.rows l.fed) (sym c.self.view_is) w))
-
 pub returns-clause-clean : goal.returns-clause-clean
 returns-clause-clean c none =
     let h = c.self.invariant.reading (none_of c.self.inside.refused (sym c.is_some.ensures ∙ c.if-is_some.false)) in
     subst (λ (l : BodyLoaderValue). HasNoRefusal l.fed) c.self.view_is (fed_clean _ _ _ _ h)
-
-pub returns-clause-next_hunk : goal.returns-clause-next_hunk
-returns-clause-next_hunk c some =
-    let h = c.self.invariant.reading (none_of c.self.inside.refused (sym c.is_some.ensures ∙ c.if-is_some.false)) in
-    subst (λ (l : BodyLoaderValue). IsPartAt sniffs.Load l.fed (4 * (length l.fed / 4)) (parts.Hunk l.hunk)) c.self.view_is (hunk_here _ _ _ _ _ h.stands (ap is_done c.in-Body.is))
-
-pub returns-clause-truncated : goal.returns-clause-truncated
-returns-clause-truncated c some =
-    let h = c.self.invariant.reading (none_of c.self.inside.refused (sym c.is_some.ensures ∙ c.if-is_some.false)) in
-    subst (λ (l : BodyLoaderValue). IsTruncated l.fed (4 * (length l.fed / 4))) c.self.view_is (fed_truncated _ _ _ _ h (ap is_done c.in-Body.is))

@@ -1,14 +1,9 @@
 use Rattle.std.proofs.Common.{◌≡◌, List, sym, ap, subst, ◌∙◌}
-use Rattle.hunk_scatter.specs.{HeaderBytes.{IsHeader, IsHeaderTable, header_bytes}, LoaderValues.HeaderLoaderValue}
+use Rattle.hunk_scatter.specs.{HeaderBytes.{IsHeaderTable, header_bytes}, LoaderValues.HeaderLoaderValue}
 use Rattle.hunk_scatter.specs.{HeaderLoaderFields.DeclaredInvariant, Rows.entries_of}
-use Rattle.hunk_scatter.proofs.{HeaderFields.{heading_not_whole, table_declared}, BodyFields.none_of}
+use Rattle.hunk_scatter.proofs.{HeaderFields.{table_declared}, BodyFields.none_of}
 use Rattle.hunk_files.specs.declared.row.Row.{Row}
 use Rattle.hunk_scatter.proofs.header_loader.HeaderLoader.declared.Goals as goal
-
-pub returns-then-not-is_behind_header-clause-finishes : goal.returns-then-not-is_behind_header-clause-finishes
-returns-then-not-is_behind_header-clause-finishes c none w =
-    absurd (heading_not_whole _ _ _ _ _ (c.self.invariant.reading (ap (λ (v : HeaderLoaderValue). v.refused) c.self.view_is ∙ none)) (sym c.is_behind_header.ensures ∙ c.if-not-is_behind_header.true)
-    (subst (λ (v : HeaderLoaderValue). IsHeader v.fed) (sym c.self.view_is) w))
 
 pub invariant_of-result : goal.invariant_of-result
 invariant_of-result c =
